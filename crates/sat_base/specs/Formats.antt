@@ -1,0 +1,43 @@
+-- Formats: which bytes spell which value.
+use Rattle.std.specs.Prelude.{◌≡◌, ℕ, List, [], ◌∷◌, ◌++◌, length}
+
+-- the bytes that spell a value
+abbrev pub Format : Type 0 → Type 1
+Format A = A → List ℕ → Type 0
+
+-- the bytes begin a text
+abbrev pub Open : {A : Type 0} → Format A → List ℕ → Type 0
+Open {A} F bytes = (x : A) × (more : List ℕ) × F x (bytes ++ more)
+
+-- the bytes begin a text that goes on
+abbrev pub Live : {A : Type 0} → Format A → List ℕ → Type 0
+Live {A} F bytes = (x : A) × (b : ℕ) × (more : List ℕ) × F x (bytes ++ b ∷ more)
+
+-- the first byte after which no text can follow
+pub record Spoilt {A : Type 0} (F : Format A) (bytes : List ℕ) : Type 0 where
+  pub front : List ℕ
+  pub byte : ℕ
+  pub behind : List ℕ
+  pub whole : bytes ≡ front ++ byte ∷ behind
+  pub live : Live F front
+  pub shut : Open F (front ++ byte ∷ []) → ⊥
+
+-- one format, and then another that may depend on the first value
+abbrev pub Then : {A B : Type 0} → Format A → (A → Format B) → Format (A × B)
+Then {A} {B} F G x bytes = (a : List ℕ) × (b : List ℕ) × F x.0 a × G x.0 x.1 b × (bytes ≡ a ++ b)
+
+-- items, one after another
+abbrev pub Items : {A : Type 0} → Format A → Format (List A)
+Items {A} F [] bytes = bytes ≡ []
+Items {A} F (x ∷ xs) bytes = (a : List ℕ) × (b : List ℕ) × F x a × Items F xs b × (bytes ≡ a ++ b)
+
+abbrev pub Times : {A : Type 0} → Format A → ℕ → Format (List A)
+Times {A} F n xs bytes = (length xs ≡ n) × Items F xs bytes
+
+-- a count, and then so many items
+abbrev pub ListOf : {A : Type 0} → Format ℕ → Format A → Format (List A)
+ListOf {A} C F xs bytes = (a : List ℕ) × (b : List ℕ) × C (length xs) a × Items F xs b × (bytes ≡ a ++ b)
+
+-- no text begins another, and each text has one value
+abbrev pub OneForm : {A : Type 0} → Format A → Type 0
+OneForm {A} F = (x y : A) (a b s t : List ℕ) → F x a → F y b → a ++ s ≡ b ++ t → (a ≡ b) × (x ≡ y)

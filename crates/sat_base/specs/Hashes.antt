@@ -1,0 +1,10 @@
+-- The hashes by which a proof step names clauses.
+use Rattle.std.specs.Prelude.{ℕ, ◌+◌, ◌*◌, ◌%◌, ◌^◌, List, [], ◌∷◌, bit_xor}
+
+abbrev pub literal_hash : ℕ → ℕ
+literal_hash l = (l + 1) * 0x9E3779B97F4A7C15 % 2 ^ 64
+
+-- the exclusive or of the literals' hashes, 0 for none
+abbrev pub hash_of : List ℕ → ℕ
+hash_of [] = 0
+hash_of (l ∷ ls) = bit_xor (literal_hash l) (hash_of ls)

@@ -1,0 +1,11 @@
+pub mod Literals
+pub mod Clauses
+pub mod Numerals
+pub mod Hashes
+pub mod Script
+pub mod Judge
+pub mod Steps
+pub mod StepViews
+pub mod Formats
+pub mod Numbers
+pub mod StepText

@@ -1,0 +1,36 @@
+-- The commands of a script. Numbers are of any size.
+use Rattle.std.specs.Prelude.{ℕ, ◌+◌, ◌*◌, ◌<◌, ◌≡◌, ◌⊎◌, Bool, List, [], ◌∷◌, map, if◌then◌else◌}
+
+-- a name, counted from 1, and a sign
+pub record Literal : Type 0 where
+  pub name : ℕ
+  pub positive : Bool
+
+pub data Command : Type 0 where
+  Clause : List Literal → Command
+  Ask : List Literal → Command
+  Hide : List ℕ → Command
+  Witness : List ℕ → Command
+  Sample : List ℕ → Command
+
+-- how a text ends
+pub data Ending : Type 0 where
+  Clean : Ending
+  Malformed : Ending
+
+abbrev pub names_of : List Literal → List ℕ
+names_of = map (λ l. l.name)
+
+abbrev pub Among : {A : Type 0} → A → List A → Type 0
+Among x [] = ⊥
+Among x (y ∷ ys) = (x ≡ y) ⊎ Among x ys
+
+-- by name, and of one name the positive one first
+abbrev pub place : Literal → ℕ
+place l = 2 * l.name + (if l.positive then 0 else 1)
+
+-- in this order, without repeats
+abbrev pub InOrder : List Literal → Type 0
+InOrder [] = Unit {0}
+InOrder (l ∷ []) = Unit {0}
+InOrder (l ∷ k ∷ ls) = (place l < place k) × InOrder (k ∷ ls)

@@ -1,0 +1,29 @@
+//! The hashes by which a proof step names clauses.
+ghost use Rattle.std.specs.Prelude.{◌≡◌};
+ghost use Rattle.sat_base.specs.Hashes.{literal_hash, hash_of};
+
+use crate::Lit;
+
+/// The exclusive or of the hashes of a clause's literals, whatever their order.
+pub type ClauseHash = u64;
+
+const MULTIPLIER: u64 = 0x9e37_79b9_7f4a_7c15;
+
+/// The hash of a literal: its code plus one, times a constant, modulo 2^64.
+pub fn lit_hash(lit: Lit) -> ClauseHash
+    ensures { result ≡ literal_hash lit }
+{
+    (lit.code() as u64 + 1).wrapping_mul(MULTIPLIER)
+}
+
+#[tactic(auto, using(crate::proofs::HashLemmas::hash_next))]
+/// The hash of a clause: the exclusive or of its literals' hashes, 0 for none.
+pub fn clause_hash(lits: &[Lit]) -> ClauseHash
+    ensures { result ≡ hash_of lits.now }
+{
+    let mut hash = 0;
+    for lit in lits {
+        hash ^= lit_hash(*lit);
+    }
+    hash
+}

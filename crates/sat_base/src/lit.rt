@@ -1,0 +1,153 @@
+//! Literals.
+ghost use Rattle.std.specs.Prelude.{ℕ, ◌≡◌, ◌*◌, ◌<◌, not, true, false, MatchOption};
+ghost use Rattle.sat_base.specs.Literals.{coded, largest, variable, is_positive, negated, negated_if};
+ghost use Rattle.sat_base.specs.Numerals.{IsNoNumeral, numeral};
+
+use crate::Var;
+use std::marker::Model;
+use std::ops::{BitXor, Not};
+
+/// A variable or its negation, which contracts see as its code: twice the variable's index, plus one if negative.
+/// Literals are ordered by their codes.
+#[derive(Clone, Copy, Debug, PartialEq, Eq, PartialOrd, Ord, Hash)]
+pub struct Lit {
+    code: u32,
+}
+
+impl Model for Lit {
+    ghost use Rattle.std.specs.Prelude.{ℕ, ◌<◌, ◌*◌};
+    ghost use Rattle.sat_base.specs.Literals.{largest};
+
+    ghost Value = { ℕ };
+
+    ghost view = { λ l. l.code };
+
+    ghost inverse = { λ n. record { code = n } };
+
+    ghost invariant = { λ l. l.code < 2 * largest };
+}
+
+impl Lit {
+    /// The literal of a variable that is positive where asked.
+    pub fn from_var(var: Var, positive: bool) -> Lit
+        ensures { result ≡ coded var positive }
+    {
+        Lit::from_index(var.index(), positive)
+    }
+
+    pub fn positive(var: Var) -> Lit
+        ensures { result ≡ coded var true }
+    {
+        Lit::from_var(var, true)
+    }
+
+    pub fn negative(var: Var) -> Lit
+        ensures { result ≡ coded var false }
+    {
+        Lit::from_var(var, false)
+    }
+
+    /// The literal of the variable with this index that is positive where asked.
+    pub fn from_index(index: usize, positive: bool) -> Lit
+        requires { index < largest }
+        ensures { result ≡ coded index positive }
+    {
+        let sign = if positive { 0 } else { 1 };
+        Lit {
+            code: 2 * index as u32 + sign,
+        }
+    }
+
+    /// The literal with this code.
+    pub fn from_code(code: usize) -> Lit
+        requires { code < 2 * largest }
+        ensures { result ≡ code }
+    {
+        Lit { code: code as u32 }
+    }
+
+    /// The literal that DIMACS writes as this number: that of the variable with its absolute value, negative where the number is.
+    /// `None` for 0, and for numbers whose absolute value is above 2^28.
+    pub fn from_dimacs(number: i64) -> Option<Lit>
+        ensures { MatchOption result (IsNoNumeral number) (λ l. number ≡ numeral l) }
+    {
+        let var = Var::from_dimacs(number.checked_abs()?)?;
+        Some(var.lit(number > 0))
+    }
+
+    /// The number that DIMACS writes for the literal.
+    pub fn to_dimacs(self) -> i64
+        ensures { result ≡ numeral self }
+    {
+        let number = self.var().to_dimacs();
+        if self.is_positive() { number } else { -number }
+    }
+
+    pub fn var(self) -> Var
+        ensures { result ≡ variable self }
+    {
+        Var::from_index(self.index())
+    }
+
+    /// The index of the variable.
+    pub fn index(self) -> usize
+        ensures value { result ≡ variable self }
+        ensures bound { result < largest }
+    {
+        (self.code / 2) as usize
+    }
+
+    /// Twice the variable's index, plus one if the literal is negative.
+    pub fn code(self) -> usize
+        ensures value { result ≡ self }
+        ensures bound { result < 2 * largest }
+    {
+        self.code as usize
+    }
+
+    pub fn is_positive(self) -> bool
+        ensures { result ≡ is_positive self }
+    {
+        self.code % 2 == 0
+    }
+
+    pub fn is_negative(self) -> bool
+        ensures { result ≡ not (is_positive self) }
+    {
+        !self.is_positive()
+    }
+
+    /// The literal of the same sign of the variable that `f` gives.
+    pub fn map_var<F: FnOnce(Var) -> Var>(self, f: F) -> Lit
+        requires { F.pre f (variable self) }
+        ensures { (v : ℕ) × F.post f (variable self) v × (result ≡ coded v (is_positive self)) }
+    {
+        f(self.var()).lit(self.is_positive())
+    }
+}
+
+impl Not for Lit {
+    type Output = Lit;
+
+    ghost use Rattle.sat_base.specs.Literals.{negated};
+
+    ghost not_gives = { λ l r. r ≡ negated l };
+
+    fn not(self) -> Lit {
+        self ^ true
+    }
+}
+
+impl BitXor<bool> for Lit {
+    type Output = Lit;
+
+    ghost use Rattle.sat_base.specs.Literals.{negated_if};
+
+    ghost bitxor_gives = { λ l negate r. r ≡ negated_if negate l };
+
+    fn bitxor(self, negate: bool) -> Lit {
+        Lit {
+            code: self.code ^ u32::from(negate),
+        }
+    }
+}

@@ -1,0 +1,92 @@
+//! Variables.
+ghost use Rattle.std.specs.Prelude.{◌≡◌, ◌+◌, ◌<◌, true, false, MatchOption, pos};
+ghost use Rattle.sat_base.specs.Literals.{coded, largest};
+ghost use Rattle.sat_base.specs.Numerals.{IsNoVariable};
+
+use crate::Lit;
+use std::marker::Model;
+
+/// A variable, which contracts see as its index. Indices go from 0 to 2^28 - 1.
+#[derive(Clone, Copy, Debug, PartialEq, Eq, PartialOrd, Ord, Hash)]
+pub struct Var {
+    index: u32,
+}
+
+impl Model for Var {
+    ghost use Rattle.std.specs.Prelude.{ℕ, ◌<◌};
+    ghost use Rattle.sat_base.specs.Literals.{largest};
+
+    ghost Value = { ℕ };
+
+    ghost view = { λ v. v.index };
+
+    ghost inverse = { λ n. record { index = n } };
+
+    ghost invariant = { λ v. v.index < largest };
+}
+
+impl Var {
+    /// The variable with this index.
+    pub fn from_index(index: usize) -> Var
+        requires { index < largest }
+        ensures { result ≡ index }
+    {
+        Var {
+            index: index as u32,
+        }
+    }
+
+    /// The index, from 0.
+    pub fn index(self) -> usize
+        ensures value { result ≡ self }
+        ensures bound { result < largest }
+    {
+        self.index as usize
+    }
+
+    /// The variable with this number, as DIMACS counts them, from 1. `None` for numbers below 1 and above 2^28.
+    pub fn from_dimacs(number: i64) -> Option<Var>
+        ensures { MatchOption result (IsNoVariable number) (λ v. number ≡ pos (v + 1)) }
+    {
+        if number < 1 || number > 1 << 28 {
+            return None;
+        }
+        Some(Var {
+            index: (number - 1) as u32,
+        })
+    }
+
+    /// The number of the variable, as DIMACS counts them, from 1.
+    pub fn to_dimacs(self) -> i64
+        ensures value { result ≡ pos (self + 1) }
+        ensures bound { self < largest }
+    {
+        self.index as i64 + 1
+    }
+
+    /// The literal of the variable that is positive where asked.
+    pub fn lit(self, positive: bool) -> Lit
+        ensures { result ≡ coded self positive }
+    {
+        Lit::from_var(self, positive)
+    }
+
+    pub fn positive(self) -> Lit
+        ensures { result ≡ coded self true }
+    {
+        self.lit(true)
+    }
+
+    pub fn negative(self) -> Lit
+        ensures { result ≡ coded self false }
+    {
+        self.lit(false)
+    }
+
+    /// How many variables there are at most, which is the largest number of one in DIMACS too.
+    pub const fn max_count() -> usize
+        ensures { result ≡ largest }
+    {
+        1 << 28
+    }
+}
