@@ -1,1 +1,3 @@
 pub mod HashLemmas
+pub mod Makers
+pub mod Known

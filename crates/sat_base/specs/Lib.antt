@@ -9,3 +9,4 @@ pub mod StepViews
 pub mod Formats
 pub mod Numbers
 pub mod StepText
+pub mod Device

@@ -6,9 +6,14 @@ use crate::{ClauseHash, Lit, Var};
 #[derive(Clone, Copy, Debug)]
 pub enum ProofStep<'a> {
     /// A variable gets a name of the user's, or loses the one that it had.
-    UserVarName { global: Var, user: Option<Var> },
+    UserVarName {
+        global: Var,
+        user: Option<Var>,
+    },
     /// A clause of the formula.
-    AddClause { clause: &'a [Lit] },
+    AddClause {
+        clause: &'a [Lit],
+    },
     /// A clause that follows by propagation from those with these hashes.
     AtClause {
         redundant: bool,
@@ -16,9 +21,13 @@ pub enum ProofStep<'a> {
         propagation_hashes: &'a [ClauseHash],
     },
     /// A valuation that satisfies the formula.
-    Model { assignment: &'a [Lit] },
+    Model {
+        assignment: &'a [Lit],
+    },
     /// What is assumed from here on.
-    Assumptions { assumptions: &'a [Lit] },
+    Assumptions {
+        assumptions: &'a [Lit],
+    },
     /// The end of the proof.
     End,
 }

@@ -1,0 +1,3 @@
+pub mod Propagation
+pub mod Stored
+pub mod Accepts

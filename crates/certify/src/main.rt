@@ -1,0 +1,4 @@
+//! Answers scripts of clauses and asks, with a certificate that is checked.
+#![tactic(auto)]
+
+fn main() {}

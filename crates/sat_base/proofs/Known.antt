@@ -1,0 +1,44 @@
+-- Known bytes that grow, and that are consumed, piece by piece.
+use Rattle.std.proofs.Common.{◌≡◌, ℕ, ◌+◌, ◌-◌, List, [], ◌∷◌, ◌++◌, length, take, drop, ◌≤◌, nat_eq, nat_lt, ◌&&◌, if◌then◌else◌, length-drop, Option, Some, None, append_assoc, refl, sym, ap, subst, ◌∙◌, arith}
+use Rattle.std.proofs.lemmas.List.{append-nil, take_all}
+use Rattle.std.proofs.lemmas.Grind.{common_steps}
+use Rattle.std.proofs.Math.Seq.{take-add}
+use Rattle.std.specs.Io.KnownBytes.{Appends, Consumes, Keeps, IsAtEnd}
+
+pub appends_none : (a : Option (List ℕ)) → Appends a a []
+appends_none None = tt
+appends_none (Some xs) = sym (append-nil xs)
+
+pub appends_more : (a b c : Option (List ℕ)) (xs ys : List ℕ) → Appends a b xs → Appends b c ys → Appends a c (xs ++ ys)
+appends_more None b c xs ys h k = tt
+appends_more (Some s) None c xs ys h k = absurd h
+appends_more (Some s) (Some t) None xs ys h k = absurd k
+appends_more (Some s) (Some t) (Some u) xs ys h k = k ∙ ap (λ (z : List ℕ). z ++ ys) h ∙ append_assoc s xs ys
+
+pub consumes_none : (a : Option (List ℕ)) → Consumes a a []
+consumes_none None = tt
+consumes_none (Some xs) = refl
+
+pub consumes_more : (a b c : Option (List ℕ)) (xs ys : List ℕ) → Consumes a b xs → Consumes b c ys → Consumes a c (xs ++ ys)
+consumes_more None b c xs ys h k = tt
+consumes_more (Some s) None c xs ys h k = absurd h
+consumes_more (Some s) (Some t) None xs ys h k = absurd k
+consumes_more (Some s) (Some t) (Some u) xs ys h k = h ∙ ap (λ (z : List ℕ). xs ++ z) k ∙ sym (append_assoc xs ys u)
+
+-- what stands from a place on
+pub rest_is : (xs : List ℕ) (i : ℕ) → take (length xs - i) (drop i xs) ≡ drop i xs
+rest_is xs i = take_all (length xs - i) (drop i xs) (omega (arith, length-drop i xs))
+
+-- a write of the next part of a piece
+pub appends_next : (a b c : Option (List ℕ)) (piece : List ℕ) (i n : ℕ) → Appends a b (take i piece) → Appends b c (take n (take (length piece - i) (drop i piece))) → Appends a c (take (i + n) piece)
+appends_next a b c piece i n h k =
+    let e : take i piece ++ take n (take (length piece - i) (drop i piece)) ≡ take (i + n) piece = ap (λ (z : List ℕ). take i piece ++ take n z) (rest_is piece i) ∙ sym (take-add i n piece) in
+    subst (Appends a c) e (appends_more a b c (take i piece) (take n (take (length piece - i) (drop i piece))) h k)
+
+-- it stays within the piece
+pub within_next : (piece : List ℕ) (i n : ℕ) → i ≤ length piece → n ≤ length (take (length piece - i) (drop i piece)) → i + n ≤ length piece
+within_next piece i n h k = let e = ap length (rest_is piece i) in omega (arith, length-drop i piece)
+
+-- a write that took something is none that failed
+pub took_some : (n rest old new : ℕ) → new ≡ (if nat_eq n 0 && nat_lt 0 rest then old + 1 else old) → (n ≡ 0 → ⊥) → new ≡ old
+took_some n rest old new h k = grind (arith, common_steps)

@@ -1,0 +1,36 @@
+//! What contracts alone see of a device's calls. It takes no memory, and its functions do nothing at run time.
+ghost use Rattle.std.specs.Prelude.{◌≡◌, ◌+◌, ℕ};
+ghost use Rattle.std.specs.Borrow.{ftrue};
+
+use std::marker::Model;
+
+/// How many calls there were, and how many of them failed. The counts have no largest value.
+#[derive(Drop)]
+pub(crate) struct Tally {
+    pub ghost calls: { ℕ },
+    pub ghost failures: { ℕ },
+}
+
+impl Model for Tally {
+    ghost also_owns = { λ _. ftrue };
+}
+
+impl Tally {
+    pub(crate) fn new() -> Tally
+        ensures { (result.calls ≡ 0) × (result.failures ≡ 0) }
+    {
+        Tally {}
+    }
+
+    pub(crate) fn and_success(&self) -> Tally
+        ensures { (result.calls ≡ self.now.calls + 1) × (result.failures ≡ self.now.failures) }
+    {
+        Tally {}
+    }
+
+    pub(crate) fn and_failure(&self) -> Tally
+        ensures { (result.calls ≡ self.now.calls + 1) × (result.failures ≡ self.now.failures + 1) }
+    {
+        Tally {}
+    }
+}

@@ -1,0 +1,52 @@
+//! Reading a reader to its end.
+ghost use Rattle.std.specs.Prelude.{◌≡◌, ◌+◌, ◌<◌, ◌⊎◌, IfOk, OnOk, IsErrOf};
+ghost use Rattle.std.specs.Io.KnownBytes.{Consumes, IsAtEnd};
+ghost use Rattle.sat_base.specs.Device.{most_reads};
+
+use crate::CountedRead;
+use std::alloc::{AllocError, Global};
+use thiserror::Error;
+
+/// A reader is read at most so often.
+pub(crate) const MAX_READS: u64 = 1 << 48;
+
+/// Why a reader wasn't read to its end.
+#[derive(Clone, Copy, Debug, Drop, PartialEq, Eq, Error)]
+pub enum ReadError {
+    /// A read failed, or there were 2^48 of them.
+    #[error("a read failed")]
+    Failed,
+    #[error("out of memory")]
+    OutOfMemory,
+}
+
+impl From<AllocError> for ReadError {
+    ghost use Rattle.std.specs.Prelude.{◌≡◌};
+    ghost use Rattle.sat_base.specs.declared.whole.ReadError.TheVariants.{OutOfMemory};
+
+    ghost from_gives = { λ _ e. e ≡ OutOfMemory };
+
+    fn from(_e: AllocError) -> ReadError {
+        ReadError::OutOfMemory
+    }
+}
+
+/// Reads to the end, in pieces of at most 4,096 bytes, and gives all bytes. The first failed read ends it.
+pub fn read_whole<R: CountedRead>(alloc: Global, reader: &mut R) -> Result<Vec<u8>, ReadError>
+    ensures bytes { IfOk result (λ v. Consumes (R.remaining reader.old) (R.remaining reader.new) v.items) }
+    ensures end { OnOk result (IsAtEnd (R.remaining reader.new)) }
+    ensures kept { OnOk result (R.failures reader.new ≡ R.failures reader.old) }
+    ensures failed { IsErrOf result ReadError.Failed → (R.failures reader.old < R.failures reader.new) ⊎ (R.calls reader.new ≡ R.calls reader.old + most_reads) }
+    ensures memory { IsErrOf result ReadError.OutOfMemory → R.failures reader.new ≡ R.failures reader.old }
+{
+    let mut whole = Vec::new(alloc);
+    let mut piece = [0; 4096];
+    for _ in 0..MAX_READS {
+        match reader.read_counted(&mut piece) {
+            Ok(0) => return Ok(whole),
+            Ok(count) => whole.extend_from_slice(&piece[..count])?,
+            Err(_) => return Err(ReadError::Failed),
+        }
+    }
+    Err(ReadError::Failed)
+}
