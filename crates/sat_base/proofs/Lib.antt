@@ -1,3 +1,10 @@
 pub mod HashLemmas
 pub mod Makers
 pub mod Known
+pub mod Spots
+pub mod Words
+pub mod Places
+pub mod TextRuns
+pub mod ChunkLemmas
+pub mod Spellings
+pub mod RowsRead

@@ -1,5 +1,6 @@
--- The commands of a script. Numbers are of any size.
-use Rattle.std.specs.Prelude.{ℕ, ◌+◌, ◌*◌, ◌<◌, ◌≡◌, ◌⊎◌, Bool, List, [], ◌∷◌, map, if◌then◌else◌}
+-- The commands of a script, and the texts that spell them. Numbers are of any size.
+use Rattle.std.specs.Prelude.{ℕ, ◌+◌, ◌*◌, ◌<◌, ◌≡◌, ◌⊎◌, Bool, not, List, [], ◌∷◌, ◌++◌, map, nat_eq, if◌then◌else◌}
+use Rattle.sat_base.specs.Text.{Token, Number, Letter, Wrong, tokens}
 
 -- a name, counted from 1, and a sign
 pub record Literal : Type 0 where
@@ -34,3 +35,73 @@ abbrev pub InOrder : List Literal → Type 0
 InOrder [] = Unit {0}
 InOrder (l ∷ []) = Unit {0}
 InOrder (l ∷ k ∷ ls) = (place l < place k) × InOrder (k ∷ ls)
+
+-- what is in hand between two tokens: nothing, literals of a clause, at least one, or those of an ask
+pub data Hand : Type 0 where
+  Nothing : Hand
+  InClause : List Literal → Hand
+  InAsk : List Literal → Hand
+
+-- what a token makes of it: it goes on, it ends as a command, or the text is malformed
+pub data Turn : Type 0 where
+  GoesOn : Hand → Turn
+  Ends : Command → Turn
+  Fails : Turn
+
+-- the command that a zero ends; a zero alone is the clause of no literals
+abbrev pub command_in : Hand → Command
+command_in Nothing = Clause []
+command_in (InClause ls) = Clause ls
+command_in (InAsk ls) = Ask ls
+
+-- a literal begins a clause or stands in one; an ask has none
+abbrev pub with_literal : Hand → Literal → Turn
+with_literal Nothing l = GoesOn (InClause (l ∷ []))
+with_literal (InClause ls) l = GoesOn (InClause (ls ++ l ∷ []))
+with_literal (InAsk ls) l = Fails
+
+-- `a` begins an ask; other letters, and letters at another place, are malformed
+abbrev pub with_letter : Hand → ℕ → Turn
+with_letter Nothing b = if nat_eq b 97 then GoesOn (InAsk []) else Fails
+with_letter hand b = Fails
+
+abbrev pub turn : Hand → Token → Turn
+turn hand (Number negative value) =
+    if nat_eq value 0 then Ends (command_in hand) else with_literal hand (record { name = value; positive = not negative })
+turn hand (Letter b) = with_letter hand b
+turn hand Wrong = Fails
+
+-- the commands of a text, and its end
+abbrev pub Reading : Type 0
+Reading = List Command × Ending
+
+abbrev pub onto_commands : List Command → Reading → Reading
+onto_commands commands reading = (commands ++ reading.0, reading.1)
+
+-- an end inside a clause or behind `a` is malformed
+abbrev pub at_end : Hand → Ending
+at_end Nothing = Clean
+at_end hand = Malformed
+
+-- a turn, and then what more says; malformed text ends the reading
+abbrev pub behind_turn : Turn → (Hand → Reading) → Reading
+behind_turn (GoesOn hand) more = more hand
+behind_turn (Ends command) more = onto_commands (command ∷ []) (more Nothing)
+behind_turn Fails more = ([], Malformed)
+
+-- the commands that the tokens spell, behind what is in hand
+unfoldable pub commands_of : Hand → List Token → Reading
+commands_of hand [] = ([], at_end hand)
+commands_of hand (t ∷ ts) = behind_turn (turn hand t) (λ h. commands_of h ts)
+
+-- the tokens without their lines
+abbrev pub spoken : List (ℕ × Token) → List Token
+spoken ts = map (λ t. t.1) ts
+
+-- what a text means
+unfoldable pub reading : List ℕ → Reading
+reading text = commands_of Nothing (spoken (tokens text))
+
+-- the text has these commands, and ends so
+abbrev pub IsScript : List ℕ → List Command → Ending → Type 0
+IsScript text commands end = reading text ≡ (commands, end)

@@ -5,11 +5,13 @@ pub mod counted;
 pub mod device;
 pub mod error;
 pub mod hash;
+pub mod law_text;
 pub mod lit;
 pub mod step;
 mod tally;
 #[cfg(test)]
 mod tests;
+pub mod text;
 pub mod var;
 pub mod whole;
 
@@ -19,5 +21,6 @@ pub use error::StepError;
 pub use hash::{ClauseHash, clause_hash, lit_hash};
 pub use lit::Lit;
 pub use step::ProofStep;
+pub use text::{Token, Tokenizer};
 pub use var::Var;
 pub use whole::{ReadError, read_whole};

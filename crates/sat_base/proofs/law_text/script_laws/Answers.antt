@@ -1,0 +1,6 @@
+use Rattle.sat_base.proofs.Spellings.{one_reading, clean_if_spelled}
+use Rattle.sat_base.proofs.RowsRead.{read_rows, malformed_rows}
+use Rattle.sat_base.proofs.law_text.script_laws.Goals as goal
+
+pub returns : goal.returns
+returns c = record { one = one_reading; spelled = clean_if_spelled; read = read_rows; malformed = malformed_rows }

@@ -1,0 +1,5 @@
+use Rattle.sat_base.proofs.TextRuns.{ended}
+use Rattle.sat_base.proofs.text.Tokenizer.finish.Goals as goal
+
+pub returns : goal.returns
+returns c = ended c.args.self.now c.token_in.result c.token_in.ensures

@@ -1,0 +1,5 @@
+use Rattle.sat_base.proofs.TextRuns.{stands_first}
+use Rattle.sat_base.proofs.text.Tokenizer.new.Goals as goal
+
+pub returns : goal.returns
+returns c = stands_first

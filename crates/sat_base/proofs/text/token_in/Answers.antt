@@ -1,0 +1,23 @@
+use Rattle.std.proofs.Common.{◌≡◌, ◌<◌, true, false, arith, Bool}
+use Rattle.sat_base.proofs.Places.{says_minus, says_bad, says_letter, says_zero, says_number}
+use Rattle.sat_base.proofs.text.token_in.Goals as goal
+use Rattle.sat_base.proofs.text.token_in.Goals.{else-negative-via-then-negative+else-value-eq0, else-negative-via-else-negative}
+
+pub returns-in-Minus : goal.returns-in-Minus
+returns-in-Minus c = rw c.in-Minus.is says_minus
+
+pub returns-in-Bad : goal.returns-in-Bad
+returns-in-Bad c = rw c.in-Bad.is says_bad
+
+pub returns-in-Letter : goal.returns-in-Letter
+returns-in-Letter c = rw c.in-Letter.is (says_letter c.in-Letter.byte)
+
+pub returns-then-value-eq0 : goal.returns-then-value-eq0
+returns-then-value-eq0 c = rw (c.in-Digits.is, c.if-negative.true) (says_zero c.in-Digits.value c.if-value-eq0.true)
+
+pub returns-else-negative : goal.returns-else-negative
+returns-else-negative c =
+    elim c.else-negative.branch [
+      | else-negative-via-then-negative+else-value-eq0 w ↦ rw c.in-Digits.is (says_number c.in-Digits.negative c.in-Digits.value (λ e. omega arith))
+      | else-negative-via-else-negative w ↦ rw c.in-Digits.is (says_number c.in-Digits.negative c.in-Digits.value (λ e. absurd (let f = w.if-negative.false in cc)))
+    ]

@@ -1,0 +1,13 @@
+//! Laws of what a text means, for proofs alone.
+ghost use Rattle.sat_base.specs.Spelling.{OneReading, CleanIfSpelled};
+ghost use Rattle.sat_base.specs.ScriptRows.{ReadRows, MalformedRows};
+
+/// Each script has one list of commands and one end, and it reads cleanly as commands exactly if its words spell them, one
+/// command after another. It does nothing.
+pub fn script_laws()
+    ensures one { OneReading }
+    ensures spelled { CleanIfSpelled }
+    // Texts, and what they mean.
+    ensures read { ReadRows }
+    ensures malformed { MalformedRows }
+{}
