@@ -1,0 +1,17 @@
+pub mod Values
+pub mod Bridge
+pub mod Matching
+pub mod Scripts
+pub mod Plain
+pub mod Texts
+pub mod Residual
+pub mod Kept
+pub mod Soundness
+pub mod Meaning
+pub mod Sound
+pub mod Rows
+pub mod Taken
+pub mod Fitting
+pub mod Excused
+pub mod Left
+pub mod Asking

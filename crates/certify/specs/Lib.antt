@@ -1,3 +1,12 @@
 pub mod Propagation
 pub mod Stored
 pub mod Accepts
+pub mod Answers
+pub mod Right
+pub mod Fold
+pub mod Checking
+pub mod TheChecking
+pub mod Matches
+pub mod Left
+pub mod Laws
+pub mod Rows

@@ -1,0 +1,5 @@
+use Rattle.certify.proofs.Texts.{ask_leaves}
+use Rattle.certify.proofs.laws.ask_binds_nothing.Goals as goal
+
+pub returns : goal.returns
+returns c = ask_leaves

@@ -1,0 +1,5 @@
+use Rattle.certify.proofs.Sound.{the_checking_sound}
+use Rattle.certify.proofs.laws.checking_is_sound.Goals as goal
+
+pub returns : goal.returns
+returns c = the_checking_sound

@@ -1,0 +1,10 @@
+use Rattle.certify.specs.TheChecking.{the_checking}
+use Rattle.certify.proofs.Scripts.{matching_right}
+use Rattle.certify.proofs.Sound.{the_checking_sound}
+use Rattle.certify.proofs.laws.matching_is_right.Goals as goal
+
+pub returns-clause-steps : goal.returns-clause-steps
+returns-clause-steps c = matching_right the_checking the_checking_sound
+
+pub returns-clause-texts : goal.returns-clause-texts
+returns-clause-texts c = λ reading script answers certificate m. (m.outcomes, m.answered, matching_right the_checking the_checking_sound (reading script).0 m.outcomes m.steps m.match)

@@ -1,0 +1,82 @@
+-- What is answered, and the answers' text.
+use Rattle.std.specs.Prelude.{ℕ, ◌+◌, Option, Some, None, List, [], ◌∷◌, ◌++◌, decimal, if◌then◌else◌}
+use Rattle.sat_base.specs.Script.{Literal, Command, Ask, Ending, Clean, Malformed}
+use Rattle.sat_base.specs.Judge.{Judge, Refusal, PastLimit, WitnessName, refusal_of, after_command, start}
+
+-- one for each accepted ask
+pub data Outcome : Type 0 where
+  Sat : List Literal → Outcome  -- with a model's line
+  Unsat : List Literal → Outcome  -- with a core
+  Unknown : Outcome
+
+-- a sign and a number
+abbrev pub word_of : Literal → List ℕ
+word_of l = (if l.positive then [] else 45 ∷ []) ++ decimal l.name
+
+-- each literal and a space, then `0` and LF
+abbrev pub literals_text : List Literal → List ℕ
+literals_text [] = 48 ∷ 10 ∷ []
+literals_text (l ∷ ls) = word_of l ++ (32 ∷ literals_text ls)
+
+-- `s SATISFIABLE`, `s UNSATISFIABLE`, `s UNKNOWN`, each with LF
+abbrev pub s_satisfiable : List ℕ
+s_satisfiable = 115 ∷ 32 ∷ 83 ∷ 65 ∷ 84 ∷ 73 ∷ 83 ∷ 70 ∷ 73 ∷ 65 ∷ 66 ∷ 76 ∷ 69 ∷ 10 ∷ []
+
+abbrev pub s_unsatisfiable : List ℕ
+s_unsatisfiable = 115 ∷ 32 ∷ 85 ∷ 78 ∷ 83 ∷ 65 ∷ 84 ∷ 73 ∷ 83 ∷ 70 ∷ 73 ∷ 65 ∷ 66 ∷ 76 ∷ 69 ∷ 10 ∷ []
+
+abbrev pub s_unknown : List ℕ
+s_unknown = 115 ∷ 32 ∷ 85 ∷ 78 ∷ 75 ∷ 78 ∷ 79 ∷ 87 ∷ 78 ∷ 10 ∷ []
+
+-- `v LITS 0` and `f LITS 0`, each with LF
+abbrev pub v_line : List Literal → List ℕ
+v_line line = 118 ∷ 32 ∷ literals_text line
+
+abbrev pub f_line : List Literal → List ℕ
+f_line core = 102 ∷ 32 ∷ literals_text core
+
+-- the lines of one outcome
+abbrev pub outcome_text : Outcome → List ℕ
+outcome_text (Sat line) = s_satisfiable ++ v_line line
+outcome_text (Unsat core) = s_unsatisfiable ++ f_line core
+outcome_text Unknown = s_unknown
+
+-- `witness V` or `limit`, with LF
+abbrev pub refusal_text : Refusal → List ℕ
+refusal_text PastLimit = 108 ∷ 105 ∷ 109 ∷ 105 ∷ 116 ∷ 10 ∷ []
+refusal_text (WitnessName name) = 119 ∷ 105 ∷ 116 ∷ 110 ∷ 101 ∷ 115 ∷ 115 ∷ 32 ∷ decimal name ++ 10 ∷ []
+
+-- `c refused K ` and why
+abbrev pub refused_line : ℕ → Refusal → List ℕ
+refused_line k refusal = 99 ∷ 32 ∷ 114 ∷ 101 ∷ 102 ∷ 117 ∷ 115 ∷ 101 ∷ 100 ∷ 32 ∷ decimal k ++ 32 ∷ refusal_text refusal
+
+-- `c malformed K`, with LF
+abbrev pub malformed_line : ℕ → List ℕ
+malformed_line k = 99 ∷ 32 ∷ 109 ∷ 97 ∷ 108 ∷ 102 ∷ 111 ∷ 114 ∷ 109 ∷ 101 ∷ 100 ∷ 32 ∷ decimal k ++ 10 ∷ []
+
+-- the last line, where the script's text is malformed at command k
+abbrev pub ending_text : ℕ → Ending → List ℕ
+ending_text k Clean = []
+ending_text k Malformed = malformed_line k
+
+-- what command k adds to the answers; the first outcome is that of the next accepted ask
+abbrev pub piece : ℕ → Option Refusal → Command → List Outcome → List ℕ
+piece k (Some refusal) command outcomes = refused_line k refusal
+piece k None (Ask ls) (o ∷ os) = outcome_text o
+piece k None command outcomes = []
+
+-- the outcomes for the commands behind this one
+abbrev pub outcomes_left : Option Refusal → Command → List Outcome → List Outcome
+outcomes_left None (Ask ls) (o ∷ os) = os
+outcomes_left refusal command outcomes = outcomes
+
+-- the answers to commands from number k on
+abbrev pub answers_from : ℕ → Judge → List Command → Ending → List Outcome → List ℕ
+answers_from k j [] ending outcomes = ending_text k ending
+answers_from k j (command ∷ commands) ending outcomes =
+    piece k (refusal_of j command) command outcomes
+    ++ answers_from (k + 1) (after_command command j) commands ending (outcomes_left (refusal_of j command) command outcomes)
+
+-- the answers to a script
+abbrev pub answers_text : List Command → Ending → List Outcome → List ℕ
+answers_text = answers_from 1 start

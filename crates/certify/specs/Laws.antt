@@ -1,0 +1,73 @@
+-- What holds of the definitions.
+use Rattle.std.specs.Prelude.{ℕ, ◌+◌, ◌≤◌, ◌<◌, length, ◌≡◌, ◌↔◌, true, false, List, [], ◌∷◌}
+use Rattle.std.specs.List.{AllByRecursion}
+use Rattle.sat_base.specs.Literals.{largest}
+use Rattle.sat_base.specs.Clauses.{Valuation, EachHolds}
+use Rattle.sat_base.specs.Script.{Literal, Command, Ask, Ending, Among}
+use Rattle.sat_base.specs.Judge.{Judge, Named, IsRightModel, IsRightCore, with_clause, accepted, accepted_of, after_script, start}
+use Rattle.sat_base.specs.Steps.{Step}
+use Rattle.certify.specs.Answers.{Outcome, Sat, Unsat, Unknown, answers_text}
+use Rattle.certify.specs.Right.{AnswersAreRight}
+use Rattle.certify.specs.Matches.{OneEach, StepsMatch, Matches}
+use Rattle.certify.specs.TheChecking.{the_checking}
+
+-- no ask has both a right model and a right core
+abbrev pub NotBoth : Type 0
+NotBoth = (j : Judge) (ask line core : List Literal) → IsRightModel j ask line → IsRightCore j ask core → ⊥
+
+-- a literal more that is there already changes nothing
+abbrev pub RepeatChangesNothing : Type 0
+RepeatChangesNothing = (j : Judge) (l : Literal) (ls : List Literal) (a : Valuation) → Among l ls → EachHolds a (with_clause (l ∷ ls) j).clauses ↔ EachHolds a (with_clause ls j).clauses
+
+-- nor does a clause with both signs of a name
+abbrev pub TautologyChangesNothing : Type 0
+TautologyChangesNothing =
+    (j : Judge) (name : ℕ) (ls : List Literal) (a : Valuation)
+    → Among (record { name = name; positive = true }) ls → Among (record { name = name; positive = false }) ls
+    → EachHolds a (with_clause ls j).clauses ↔ EachHolds a j.clauses
+
+-- an ask leaves the clauses as they were
+abbrev pub AskBindsNothing : Type 0
+AskBindsNothing = (j : Judge) (ls : List Literal) → (accepted (Ask ls) j).clauses ≡ j.clauses
+
+-- no name past the limit
+abbrev pub Prints : Outcome → Type 0
+Prints (Sat line) = AllByRecursion (λ l. l.name ≤ largest) line
+Prints (Unsat core) = AllByRecursion (λ l. l.name ≤ largest) core
+Prints Unknown = Unit {0}
+
+-- different outcomes give different texts
+abbrev pub TextsTellOutcomes : Type 0
+TextsTellOutcomes =
+    (commands : List Command) (ending : Ending) (vs ws : List Outcome)
+    → OneEach (accepted_of start commands) vs → OneEach (accepted_of start commands) ws
+    → AllByRecursion Prints vs → AllByRecursion Prints ws
+    → answers_text commands ending vs ≡ answers_text commands ending ws
+    → vs ≡ ws
+
+-- each name once, increasing
+abbrev pub NamesIncrease : List Named → Type 0
+NamesIncrease [] = Unit {0}
+NamesIncrease (n ∷ ns) = AllByRecursion (λ m. n.name < m.name) ns × NamesIncrease ns
+
+pub record IsKept (j : Judge) : Type 0 where
+  pub limit : j.first_unused ≤ largest + 1
+  pub order : NamesIncrease j.in_use
+  pub used : AllByRecursion (λ n. n.name < j.first_unused) j.in_use
+  pub given : AllByRecursion (λ n. n.identity < j.next_identity) j.in_use
+  pub modes : length j.modes ≡ j.next_identity
+
+-- after every script names increase, are below the first never used and within the limit, and each identity has a mode
+abbrev pub JudgeIsKept : Type 0
+JudgeIsKept = (commands : List Command) → IsKept (after_script commands start)
+
+-- steps that the list checker accepts and that match show right outcomes
+abbrev pub MatchingIsRight : Type 0
+MatchingIsRight = (commands : List Command) (outcomes : List Outcome) (steps : List Step) → StepsMatch the_checking commands outcomes steps → AnswersAreRight commands outcomes
+
+-- the same of three texts, however a script is read: the answers are the text of right outcomes
+abbrev pub TextsThatMatchAreRight : Type 0
+TextsThatMatchAreRight =
+    (reading : List ℕ → List Command × Ending) (script answers certificate : List ℕ)
+    → Matches the_checking reading script answers certificate
+    → (outcomes : List Outcome) × (answers ≡ answers_text (reading script).0 (reading script).1 outcomes) × AnswersAreRight (reading script).0 outcomes

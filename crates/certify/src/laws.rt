@@ -1,0 +1,77 @@
+//! What holds of the answers, of matching and of the list checker: each law is the contract of a function that does nothing.
+ghost use Rattle.certify.specs.Laws.{AskBindsNothing, JudgeIsKept, MatchingIsRight, NotBoth, RepeatChangesNothing, TautologyChangesNothing, TextsTellOutcomes, TextsThatMatchAreRight};
+ghost use Rattle.certify.specs.Checking.{IsSound};
+ghost use Rattle.certify.specs.TheChecking.{the_checking};
+ghost use Rattle.certify.specs.Rows.{AnswersTwice, AskAloneText, ClauseAndAskExpected, ClauseAndAskRight, ClauseAndAskSteps, ClauseAndAskText, EmptyText, EndAlone, HiddenAndBackExpected, HiddenAndBackState, HiddenAtOnceState, LeftmostRefuses, MalformedText, NameOnOldVariable, NoAnswers, TwoUnitsRight, TwoUnitsSteps, WitnessRefusedText, WitnessRefusesAsk};
+
+/// Where script, answers and certificate match, the answers are right: by steps and outcomes, and by the three texts.
+pub fn matching_is_right()
+    ensures steps { MatchingIsRight }
+    ensures texts { TextsThatMatchAreRight }
+{}
+
+/// What the list checker accepts means what matching takes it to mean.
+pub fn checking_is_sound()
+    ensures { IsSound the_checking }
+{}
+
+/// No ask has both a right model and a right core.
+pub fn not_both()
+    ensures { NotBoth }
+{}
+
+/// Neither a literal's repetition nor a tautology changes which valuations satisfy the clauses.
+pub fn clauses_as_sets()
+    ensures repeat { RepeatChangesNothing }
+    ensures tautology { TautologyChangesNothing }
+{}
+
+/// The literals of an ask bind no later one.
+pub fn ask_binds_nothing()
+    ensures { AskBindsNothing }
+{}
+
+/// After every script, names in use increase and stay within the limit, and each identity has a mode.
+pub fn judge_is_kept()
+    ensures { JudgeIsKept }
+{}
+
+/// Different outcomes give different texts.
+pub fn texts_tell_outcomes()
+    ensures { TextsTellOutcomes }
+{}
+
+/// Worked rows of texts: what is answered, refused and malformed.
+pub fn rows_of_text()
+    ensures empty { EmptyText }
+    ensures ask_alone { AskAloneText }
+    ensures clause_and_ask { ClauseAndAskText }
+    ensures witness { WitnessRefusedText }
+    ensures leftmost { LeftmostRefuses }
+    ensures ask { WitnessRefusesAsk }
+    ensures malformed { MalformedText }
+{}
+
+/// Worked rows of names: identities, and the steps that are expected.
+pub fn rows_of_names()
+    ensures hidden { HiddenAtOnceState }
+    ensures back { HiddenAndBackState }
+    ensures back_expected { HiddenAndBackExpected }
+    ensures expected { ClauseAndAskExpected }
+{}
+
+/// Worked rows that match, and their answers are right.
+pub fn rows_that_match()
+    ensures model { ClauseAndAskRight }
+    ensures model_steps { ClauseAndAskSteps }
+    ensures core { TwoUnitsRight }
+    ensures core_steps { TwoUnitsSteps }
+{}
+
+/// Worked rows that don't match: a name put again on its old variable, a certificate of `End` alone, answers that are missing, and answers that stand twice.
+pub fn rows_that_fail()
+    ensures old_variable { NameOnOldVariable }
+    ensures end_alone { EndAlone }
+    ensures missing { NoAnswers }
+    ensures extra { AnswersTwice }
+{}
