@@ -15,3 +15,16 @@ pub mod Fitting
 pub mod Excused
 pub mod Left
 pub mod Asking
+pub mod AnswerKinds
+pub mod AnswerLemmas
+pub mod AnswerLines
+pub mod AnswerOrder
+pub mod CheckerCanonical
+pub mod CheckerSteps
+pub mod ClauseLemmas
+pub mod Denied
+pub mod Greedy
+pub mod CheckerKeeping
+pub mod CheckerMarks
+pub mod CheckerModels
+pub mod WalkLemmas

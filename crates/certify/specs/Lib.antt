@@ -10,3 +10,11 @@ pub mod Matches
 pub mod Left
 pub mod Laws
 pub mod Rows
+pub mod AnswerForms
+pub mod AnswerReading
+pub mod CheckerView
+pub mod ClausesView
+pub mod Look
+pub mod Marks
+pub mod ModelView
+pub mod Walk

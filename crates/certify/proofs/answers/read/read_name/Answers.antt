@@ -1,0 +1,23 @@
+use Rattle.std.proofs.Common.{ℕ, ◌≡◌, ◌≢◌, ◌<◌, ◌≤◌, ◌⊎◌, inl, inr, ◌++◌, ◌∷◌, [], ◌+◌, length, drop, get_or, suc, sym, ◌∙◌, ap, arith}
+use Rattle.std.proofs.Math.Seq.{drop-cons}
+use Rattle.std.proofs.lemmas.List.{drop_all}
+use Rattle.certify.specs.AnswerReading.{NoName, digits_so_far}
+use Rattle.certify.proofs.AnswerLemmas.{no_name_so, no_name_end}
+use Rattle.certify.proofs.answers.read.read_name.Goals as goal
+
+at_zero : (b name : ℕ) → ((b ≡ 32) × (name ≤ 0)) ⊎ (b ≢ 32) → b ≡ 32 → name ≡ 0
+at_zero b name (inl h) e = omega arith
+at_zero b name (inr h) e = absurd (h e)
+
+pub returns-in_err-name : goal.returns-in_err-name
+returns-in_err-name c =
+    let inside : c.loop-i.i < length c.args.bytes.now = omega arith in
+    let e : c.args.bytes.now ≡ digits_so_far c.loop-i.name ++ (get_or c.args.bytes.now c.loop-i.i 0 ∷ drop (suc c.loop-i.i) c.args.bytes.now)
+    = c.loop-i.invariant.1 ∙ ap (λ r. digits_so_far c.loop-i.name ++ r) (drop-cons c.args.bytes.now c.loop-i.i 0 inside) in
+    let none : NoName c.args.bytes.now = no_name_so c.loop-i.name (get_or c.args.bytes.now c.loop-i.i 0) c.args.bytes.now (drop (suc c.loop-i.i) c.args.bytes.now) c.loop-i.invariant.0 (at_zero (get_or c.args.bytes.now c.loop-i.i 0) c.loop-i.name c.else-byte-eq32.either) c.in_err-name.ensures e in
+    rw c.from_residual.ensures none
+
+pub returns : goal.returns
+returns c =
+    let e : drop c.loop-i.i c.args.bytes.now ≡ [] = drop_all c.loop-i.i c.args.bytes.now (omega arith) in
+    no_name_end c.loop-i.name c.args.bytes.now c.loop-i.invariant.0 (c.loop-i.invariant.1 ∙ ap (λ r. digits_so_far c.loop-i.name ++ r) e)

@@ -1,0 +1,8 @@
+use Rattle.std.proofs.Common.{◌≡◌, List, ℕ, get_or, [], ◌-◌, take, drop, subst, sym}
+use Rattle.certify.specs.Walk.{all_literals}
+use Rattle.certify.proofs.ClauseLemmas.{literals_read}
+use Rattle.certify.proofs.checker.clauses.ClauseList.literals.Goals as goal
+
+pub returns : goal.returns
+returns c =
+    rw c.deref.ensures.value (literals_read c.self.inside.literals.items c.self.inside.entries.items c.args.self.now c.args.place c.index-entry.result.now c.self.view_is c.requires c.index-entry.ensures)

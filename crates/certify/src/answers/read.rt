@@ -1,0 +1,208 @@
+//! Reads answers, line by line, from the front of their bytes. What isn't in form to the byte is refused:
+//! single spaces, no leading zeros, each line ended by LF, names from 1 to 2^28 in their order.
+ghost use Rattle.std.specs.Prelude.{◌≡◌, ◌++◌, ◌∷◌, [], ◌+◌, ◌*◌, ◌<◌, ◌≤◌, decimal, map, MatchBool, MatchOption, MatchResult, List, ℕ};
+ghost use Rattle.certify.specs.Answers.{literals_text, outcome_text, word_of};
+ghost use Rattle.certify.specs.AnswerForms.{HaveNames, IsInForm, IsName, IsOrdered, named_literal, named_literals};
+ghost use Rattle.certify.specs.AnswerReading.{NoDigit, NoName, NoLiteral, NoLiterals, NoKind, NoLine, NoOutcome, HasLine, IsHead, digits_so_far, first_line, outcome_of, second_line, place_in};
+ghost use Rattle.sat_base.specs.Literals.{largest};
+
+use sat_base::{Lit, Var};
+use std::alloc::AllocFailed;
+
+/// What an answer says of its ask.
+#[derive(Clone, Copy, Debug, Drop, PartialEq, Eq)]
+pub enum AnswerKind {
+    /// With the line of a model.
+    Sat,
+    /// With the line of a core.
+    Unsat,
+    Unknown,
+}
+
+/// Why no answer was read.
+#[derive(Clone, Copy, Debug, Drop, PartialEq, Eq)]
+pub enum AnswerFault {
+    /// The bytes are over where a line is due.
+    Missing,
+    /// The bytes aren't the line that is due, in form.
+    Text,
+    OutOfMemory,
+}
+
+impl<T: Drop> From<AllocFailed<T>> for AnswerFault {
+    ghost use Rattle.std.specs.Prelude.{◌≡◌};
+    ghost use Rattle.certify.specs.declared.answers.read.AnswerFault.TheVariants.{OutOfMemory};
+
+    ghost from_gives = { λ _ e. e ≡ OutOfMemory };
+
+    fn from(_e: AllocFailed<T>) -> AnswerFault {
+        AnswerFault::OutOfMemory
+    }
+}
+
+/// What is behind the text, where the bytes begin with it.
+pub fn take_text<'a>(bytes: &'a [u8], text: &[u8]) -> Option<&'a [u8]>
+    ensures { MatchOption result ((tail : List ℕ) → bytes.now ≡ text.now ++ tail → ⊥) (λ rest. bytes.now ≡ text.now ++ rest.now) }
+{
+    bytes.strip_prefix(text)
+}
+
+/// The name with one more digit, or the first digit where it is still 0.
+/// `None` for another byte, a leading zero, and a name past the limit.
+fn with_digit(name: usize, byte: u8) -> Option<usize>
+    requires { name ≤ largest }
+    ensures { MatchOption result (NoDigit name byte) (λ more. IsName more × (decimal more ≡ digits_so_far name ++ byte ∷ [])) }
+{
+    if byte < b'0' || byte > b'9' {
+        return None;
+    }
+    let more = 10 * name + (byte - b'0') as usize;
+    if more == 0 || more > Var::max_count() {
+        return None;
+    }
+    Some(more)
+}
+
+/// The name in front of a space, and what is behind the space.
+fn read_name(bytes: &[u8]) -> Option<(usize, &[u8])>
+    ensures { MatchOption result (NoName bytes.now) (λ x. IsName x.0 × (bytes.now ≡ decimal x.0 ++ (32 ∷ x.1.now))) }
+{
+    let mut name = 0;
+    for i in 0..bytes.len() {
+        let byte = bytes[i];
+        if byte == b' ' && name > 0 {
+            return Some((name, &bytes[i + 1..]));
+        }
+        name = with_digit(name, byte)?;
+    }
+    None
+}
+
+/// The literal in front of a space, and what is behind the space.
+fn read_literal(bytes: &[u8]) -> Option<(Lit, &[u8])>
+    ensures { MatchOption result (NoLiteral bytes.now) (λ x. IsName (named_literal x.0).name × (bytes.now ≡ word_of (named_literal x.0) ++ (32 ∷ x.1.now))) }
+{
+    match take_text(bytes, b"-") {
+        Some(behind) => {
+            let (name, rest) = read_name(behind)?;
+            Some((Lit::from_index(name - 1, false), rest))
+        }
+        None => {
+            let (name, rest) = read_name(bytes)?;
+            Some((Lit::from_index(name - 1, true), rest))
+        }
+    }
+}
+
+/// Reads literals in any order up to `0` and LF, leaves them in the line, and answers what is behind them.
+fn read_literals<'a>(bytes: &'a [u8], line: &mut Vec<Lit>) -> Result<&'a [u8], AnswerFault>
+    ensures { MatchResult result (λ rest. HaveNames (named_literals line.new.items) × (bytes.now ≡ literals_text (named_literals line.new.items) ++ rest.now)) (NoLiterals bytes.now) }
+{
+    line.clear();
+    let mut rest = bytes;
+    while let Some(found) = read_literal(rest) {
+        let (lit, behind) = found;
+        line.push(lit)?;
+        rest = behind;
+    }
+    take_text(rest, b"0\n").ok_or(AnswerFault::Text)
+}
+
+/// Where the literal stands in a line of this kind.
+fn place_in(kind: AnswerKind, lit: Lit) -> usize
+    ensures value { result ≡ place_in kind lit }
+    ensures bound { result < 2 * largest }
+{
+    match kind {
+        AnswerKind::Sat => lit.index(),
+        _ => lit.code(),
+    }
+}
+
+/// Are the literals in the order of a line of this kind, each place taken once?
+fn is_ordered(kind: AnswerKind, line: &[Lit]) -> bool
+    requires { HasLine kind }
+    ensures { MatchBool result (IsOrdered (outcome_of kind (named_literals line.now))) (IsOrdered (outcome_of kind (named_literals line.now)) → ⊥) }
+{
+    let mut least = 0;
+    for lit in line {
+        let place = place_in(kind, *lit);
+        if place < least {
+            return false;
+        }
+        least = place + 1;
+    }
+    true
+}
+
+/// Reads the first line of an answer, and answers its kind and what is behind the line.
+pub fn read_kind(bytes: &[u8]) -> Result<(AnswerKind, &[u8]), AnswerFault>
+    ensures { MatchResult result (λ x. bytes.now ≡ first_line x.0 ++ x.1.now) (NoKind bytes.now) }
+{
+    if bytes.is_empty() {
+        return Err(AnswerFault::Missing);
+    }
+    if let Some(rest) = take_text(bytes, b"s SATISFIABLE\n") {
+        return Ok((AnswerKind::Sat, rest));
+    }
+    if let Some(rest) = take_text(bytes, b"s UNSATISFIABLE\n") {
+        return Ok((AnswerKind::Unsat, rest));
+    }
+    match take_text(bytes, b"s UNKNOWN\n") {
+        Some(rest) => Ok((AnswerKind::Unknown, rest)),
+        None => Err(AnswerFault::Text),
+    }
+}
+
+/// Reads the line that begins with this text, for an answer of this kind.
+fn read_list<'a>(
+    kind: AnswerKind,
+    head: &[u8],
+    bytes: &'a [u8],
+    line: &mut Vec<Lit>,
+) -> Result<&'a [u8], AnswerFault>
+    requires { IsHead kind head.now }
+    ensures { MatchResult result (λ rest. IsInForm (outcome_of kind (named_literals line.new.items)) × (bytes.now ≡ second_line (outcome_of kind (named_literals line.new.items)) ++ rest.now)) (NoLine kind bytes.now) }
+{
+    if bytes.is_empty() {
+        return Err(AnswerFault::Missing);
+    }
+    let behind = take_text(bytes, head).ok_or(AnswerFault::Text)?;
+    let rest = read_literals(behind, line)?;
+    if is_ordered(kind, line) {
+        Ok(rest)
+    } else {
+        Err(AnswerFault::Text)
+    }
+}
+
+/// Reads the second line of an answer of this kind, leaves its literals in `line`, and answers what is behind it.
+/// An unknown answer has no second line: nothing is read, and `line` is left empty.
+pub fn read_line<'a>(
+    kind: AnswerKind,
+    bytes: &'a [u8],
+    line: &mut Vec<Lit>,
+) -> Result<&'a [u8], AnswerFault>
+    ensures { MatchResult result (λ rest. IsInForm (outcome_of kind (named_literals line.new.items)) × (bytes.now ≡ second_line (outcome_of kind (named_literals line.new.items)) ++ rest.now)) (NoLine kind bytes.now) }
+{
+    match kind {
+        AnswerKind::Sat => read_list(kind, b"v ", bytes, line),
+        AnswerKind::Unsat => read_list(kind, b"f ", bytes, line),
+        AnswerKind::Unknown => {
+            line.clear();
+            Ok(bytes)
+        }
+    }
+}
+
+/// Reads an answer, leaves the literals of its `v` or `f` line in `line`, and answers its kind and what is behind it.
+pub fn read_outcome<'a>(
+    bytes: &'a [u8],
+    line: &mut Vec<Lit>,
+) -> Result<(AnswerKind, &'a [u8]), AnswerFault>
+    ensures { MatchResult result (λ x. IsInForm (outcome_of x.0 (named_literals line.new.items)) × (bytes.now ≡ outcome_text (outcome_of x.0 (named_literals line.new.items)) ++ x.1.now)) (NoOutcome bytes.now) }
+{
+    let (kind, behind) = read_kind(bytes)?;
+    let rest = read_line(kind, behind, line)?;
+    Ok((kind, rest))
+}

@@ -1,0 +1,83 @@
+//! Writes answers, line by line, behind the bytes of a buffer.
+//! A name is written as its number, which is one more than the index of its variable.
+ghost use Rattle.std.specs.Prelude.{◌≡◌, ◌++◌, ◌∷◌, [], decimal, OnOk, map};
+ghost use Rattle.certify.specs.Answers.{Sat, Unsat, Unknown, literals_text, malformed_line, outcome_text, refused_line, word_of};
+ghost use Rattle.certify.specs.AnswerForms.{named_literal, named_literals};
+ghost use Rattle.sat_base.specs.Judge.{PastLimit};
+
+use sat_base::Lit;
+use std::alloc::AllocError;
+
+/// Appends the number in decimal.
+fn push_number(out: &mut Vec<u8>, number: u64) -> Result<(), AllocError>
+    ensures { OnOk result (out.new.items ≡ out.old.items ++ decimal number) }
+{
+    if number > 9 {
+        push_number(out, number / 10)?;
+    }
+    out.push(b'0' + (number % 10) as u8)?;
+    Ok(())
+}
+
+/// Appends the literal as DIMACS writes it.
+pub fn push_literal(out: &mut Vec<u8>, lit: Lit) -> Result<(), AllocError>
+    ensures { OnOk result (out.new.items ≡ out.old.items ++ word_of (named_literal lit)) }
+{
+    if lit.is_negative() {
+        out.push(b'-')?;
+    }
+    push_number(out, lit.index() as u64 + 1)
+}
+
+/// Appends each literal and a space, then `0` and LF.
+fn push_literals(out: &mut Vec<u8>, lits: &[Lit]) -> Result<(), AllocError>
+    ensures { OnOk result (out.new.items ≡ out.old.items ++ literals_text (named_literals lits.now)) }
+{
+    for lit in lits {
+        push_literal(out, *lit)?;
+        out.push(b' ')?;
+    }
+    out.extend_from_slice(b"0\n")
+}
+
+/// Appends `s SATISFIABLE` and the line of a model.
+pub fn push_sat(out: &mut Vec<u8>, line: &[Lit]) -> Result<(), AllocError>
+    ensures { OnOk result (out.new.items ≡ out.old.items ++ outcome_text (Sat (named_literals line.now))) }
+{
+    out.extend_from_slice(b"s SATISFIABLE\nv ")?;
+    push_literals(out, line)
+}
+
+/// Appends `s UNSATISFIABLE` and the line of a core.
+pub fn push_unsat(out: &mut Vec<u8>, core: &[Lit]) -> Result<(), AllocError>
+    ensures { OnOk result (out.new.items ≡ out.old.items ++ outcome_text (Unsat (named_literals core.now))) }
+{
+    out.extend_from_slice(b"s UNSATISFIABLE\nf ")?;
+    push_literals(out, core)
+}
+
+/// Appends `s UNKNOWN`.
+pub fn push_unknown(out: &mut Vec<u8>) -> Result<(), AllocError>
+    ensures { OnOk result (out.new.items ≡ out.old.items ++ outcome_text Unknown) }
+{
+    out.extend_from_slice(b"s UNKNOWN\n")
+}
+
+/// Appends the line that refuses the command of this number, which has a name past the limit.
+pub fn push_refused_limit(out: &mut Vec<u8>, command: u64) -> Result<(), AllocError>
+    ensures { OnOk result (out.new.items ≡ out.old.items ++ refused_line command PastLimit) }
+{
+    out.extend_from_slice(b"c refused ")?;
+    push_number(out, command)?;
+    out.extend_from_slice(b" limit\n")
+}
+
+/// Appends the last line of the answers to a text that is malformed where the command of this number would stand.
+pub fn push_malformed(out: &mut Vec<u8>, command: u64) -> Result<(), AllocError>
+    ensures { OnOk result (out.new.items ≡ out.old.items ++ malformed_line command) }
+{
+    out.extend_from_slice(b"c malformed ")?;
+    push_number(out, command)?;
+    out.push(b'\n')?;
+    Ok(())
+}
