@@ -8,3 +8,6 @@ pub mod TextRuns
 pub mod ChunkLemmas
 pub mod Spellings
 pub mod RowsRead
+pub mod Formats
+pub mod Numbers
+pub mod Writes

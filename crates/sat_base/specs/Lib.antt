@@ -16,3 +16,4 @@ pub mod Spelling
 pub mod ScriptRows
 pub mod Judge
 pub mod Device
+pub mod Writing

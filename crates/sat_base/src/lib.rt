@@ -7,7 +7,9 @@ pub mod error;
 pub mod hash;
 pub mod law_text;
 pub mod lit;
+mod pending;
 pub mod step;
+mod step_writer;
 mod tally;
 #[cfg(test)]
 mod tests;
@@ -21,6 +23,7 @@ pub use error::StepError;
 pub use hash::{ClauseHash, clause_hash, lit_hash};
 pub use lit::Lit;
 pub use step::ProofStep;
+pub use step_writer::write_step;
 pub use text::{Token, Tokenizer};
 pub use var::Var;
 pub use whole::{ReadError, read_whole};
