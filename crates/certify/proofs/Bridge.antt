@@ -10,39 +10,10 @@ use Rattle.sat_base.specs.Steps.{Step, UserVarName, AddClause, DeleteVar}
 use Rattle.certify.specs.Fold.{Holds}
 use Rattle.certify.specs.Checking.{is_variable, variable_of, Checking, Accepted, IsSound}
 use Rattle.certify.specs.Matches.{Spells, EachSpelt, SameSet}
+use Rattle.certify.specs.Bridge.{Live, Agrees, Apart, Meant, IsBridge}
 use Rattle.certify.proofs.Values.{coded_half, literal_same, among_true, some_true, some_mapped, among_mapped, all_at, all_map, updated, Below, updated_clauses, placed_found, removed_found, removed_gone}
 
--- live proof variables with their identities
-abbrev pub Live : Type 0
-Live = List (ℕ × ℕ)
-
-abbrev pub Agrees : Live → Valuation → Valuation → Type 0
-Agrees live a b = AllByRecursion (λ p. a p.0 ≡ b p.1) live
-
--- each proof variable once
-abbrev pub Apart : Live → Type 0
-Apart [] = Unit {0}
-Apart (p ∷ ps) = AllByRecursion (λ q. q.0 ≡ p.0 → ⊥) ps × Apart ps
-
--- some valuation of identities agrees with it and satisfies the accepted clauses
-abbrev pub Meant : Judge → Live → Valuation → Type 0
-Meant j live a = (b : Valuation) × Agrees live a b × EachHolds b j.clauses
-
-pub record Bridge (k : Checking) (j : Judge) (earlier : List Step) (live : Live) : Type 0 where
-  pub accepted : Accepted k earlier
-  pub once : Apart live
-  pub known : AllByRecursion (λ p. k.knows earlier p.0 ≡ true) live
-  pub below : AllByRecursion (λ p. p.1 < j.next_identity) live
-  pub clauses_below : AllByRecursion (Below j.next_identity) j.clauses
-  -- a name's variable is live, with the name's identity
-  pub named : (name v : ℕ) → variable_of earlier name ≡ Some v → (i : ℕ) × (identity_of j name ≡ Some i) × Among (v, i) live
-  -- each name in use has one
-  pub in_use : (name i : ℕ) → identity_of j name ≡ Some i → (v : ℕ) × (variable_of earlier name ≡ Some v) × Among (v, i) live
-  pub distinct : (m n v : ℕ) → variable_of earlier m ≡ Some v → variable_of earlier n ≡ Some v → m ≡ n
-  pub to : (a : Valuation) → Holds earlier a → Meant j live a
-  pub back : (a : Valuation) → Meant j live a → Holds earlier a
-
-pub begun : (k : Checking) → Bridge k start [] []
+pub begun : (k : Checking) → IsBridge k start [] []
 begun k = record {
   accepted = tt;
   once = tt;
@@ -57,7 +28,7 @@ begun k = record {
 }
 
 -- a literal's identity
-module _ (k : Checking) (j : Judge) (earlier : List Step) (live : Live) (bridge : Bridge k j earlier live) (a b : Valuation) (agrees : Agrees live a b) where
+module _ (k : Checking) (j : Judge) (earlier : List Step) (live : Live) (bridge : IsBridge k j earlier live) (a b : Valuation) (agrees : Agrees live a b) where
   pub value : (l : Literal) (code : ℕ) → Spells (variable_of earlier) l code → literal_true a code ≡ literal_true b (over j l)
   value l code s =
       let p = bridge.named l.name s.variable s.named in
@@ -166,12 +137,12 @@ either v a b (p ∷ ps) once h = go (eqb p.0 v) refl (either v a b ps once.1) h
     go false e ih x = elim (ih x.1) [ inl y ↦ inl (x.0, y) | inr y ↦ inr (elsewhere v a p.0 (eqb-false p.0 v e) ∙ x.0, y) ]
 
 -- Each kind of step.
-module _ (k : Checking) (sound : IsSound k) (j : Judge) (earlier : List Step) (live : Live) (bridge : Bridge k j earlier live) where
+module _ (k : Checking) (sound : IsSound k) (j : Judge) (earlier : List Step) (live : Live) (bridge : IsBridge k j earlier live) where
   -- all that is live stays known
   still_known : (step : Step) → k.Accepts earlier step → ((v : ℕ) → step ≡ DeleteVar v → ⊥) → AllByRecursion (λ p. k.knows (step ∷ earlier) p.0 ≡ true) live
   still_known step acc keeps = all_map (λ p. k.knows earlier p.0 ≡ true) (λ p. k.knows (step ∷ earlier) p.0 ≡ true) live (λ p h. elim (sound.keeps earlier step p.0 acc h) [ inl t ↦ t | inr e ↦ absurd (keeps p.0 e) ]) bridge.known
 
-  pub nothing_new : (step : Step) → k.Accepts earlier step → ((v : ℕ) → step ≡ DeleteVar v → ⊥) → ((name : ℕ) → variable_of (step ∷ earlier) name ≡ variable_of earlier name) → ((a : Valuation) → Holds (step ∷ earlier) a → Holds earlier a) → ((a : Valuation) → Holds earlier a → Holds (step ∷ earlier) a) → Bridge k j (step ∷ earlier) live
+  pub nothing_new : (step : Step) → k.Accepts earlier step → ((v : ℕ) → step ≡ DeleteVar v → ⊥) → ((name : ℕ) → variable_of (step ∷ earlier) name ≡ variable_of earlier name) → ((a : Valuation) → Holds (step ∷ earlier) a → Holds earlier a) → ((a : Valuation) → Holds earlier a → Holds (step ∷ earlier) a) → IsBridge k j (step ∷ earlier) live
   nothing_new step acc keeps names less more = record {
     accepted = (bridge.accepted, acc);
     once = bridge.once;
@@ -185,7 +156,7 @@ module _ (k : Checking) (sound : IsSound k) (j : Judge) (earlier : List Step) (l
     back = λ a h. more a (bridge.back a h);
   }
 
-  pub added : (ls : List Literal) (c : List ℕ) → k.Accepts earlier (AddClause c) → SameSet (variable_of earlier) ls c → Bridge k (with_clause ls j) (AddClause c ∷ earlier) live
+  pub added : (ls : List Literal) (c : List ℕ) → k.Accepts earlier (AddClause c) → SameSet (variable_of earlier) ls c → IsBridge k (with_clause ls j) (AddClause c ∷ earlier) live
   added ls c acc same = record {
     accepted = (bridge.accepted, acc);
     once = bridge.once;
@@ -210,7 +181,7 @@ module _ (k : Checking) (sound : IsSound k) (j : Judge) (earlier : List Step) (l
               let e : over j l / 2 ≡ p.0 = ap (λ x. coded (or_zero x) l.positive / 2) p.1 ∙ coded_half p.0 l.positive in
               rw e h
 
-  pub named_new : (name v index : ℕ) → index + 1 ≡ name → k.knows earlier v ≡ false → k.Accepts earlier (UserVarName v (Some index)) → Bridge k (with_name name j) (UserVarName v (Some index) ∷ earlier) ((v, j.next_identity) ∷ live)
+  pub named_new : (name v index : ℕ) → index + 1 ≡ name → k.knows earlier v ≡ false → k.Accepts earlier (UserVarName v (Some index)) → IsBridge k (with_name name j) (UserVarName v (Some index) ∷ earlier) ((v, j.next_identity) ∷ live)
   named_new name v index is unknown acc = record {
     accepted = (bridge.accepted, acc);
     once = (all_map (λ p. k.knows earlier p.0 ≡ true) (λ q. q.0 ≡ v → ⊥) live (λ p h e. both_ways (k.knows earlier v) unknown (ap (k.knows earlier) (sym e) ∙ h)) bridge.known, bridge.once);
@@ -267,7 +238,7 @@ module _ (k : Checking) (sound : IsSound k) (j : Judge) (earlier : List Step) (l
           both [] x y = tt
           both (p ∷ ps) x y = (let e : eqb p.1 j.next_identity ≡ false = ne_eqb p.1 j.next_identity (λ z. let lt = y.0 in omega arith) in rw e x.0, both ps x.1 y.1)
 
-  pub unnamed : (name v : ℕ) → variable_of earlier name ≡ Some v → k.Accepts earlier (UserVarName v None) → Bridge k (without_name name j) (UserVarName v None ∷ earlier) live
+  pub unnamed : (name v : ℕ) → variable_of earlier name ≡ Some v → k.Accepts earlier (UserVarName v None) → IsBridge k (without_name name j) (UserVarName v None ∷ earlier) live
   unnamed name v at acc = record {
     accepted = (bridge.accepted, acc);
     once = bridge.once;
@@ -305,7 +276,7 @@ module _ (k : Checking) (sound : IsSound k) (j : Judge) (earlier : List Step) (l
           let x : eqb p.0 v ≡ false = ne_eqb p.0 v (λ y. differs (bridge.distinct m name v (p.1 ∙ ap Some y) at)) in
           (p.0, ap (λ o. cond (is_variable v o) None o) p.1 ∙ ap (λ b. cond b None (Some p.0)) x, p.2)
 
-  pub deleted : (v : ℕ) → k.Accepts earlier (DeleteVar v) → Bridge k j (DeleteVar v ∷ earlier) (without v live)
+  pub deleted : (v : ℕ) → k.Accepts earlier (DeleteVar v) → IsBridge k j (DeleteVar v ∷ earlier) (without v live)
   deleted v acc = record {
     accepted = (bridge.accepted, acc);
     once = apart_without v live bridge.once;

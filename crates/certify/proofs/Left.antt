@@ -1,5 +1,6 @@
 -- What is left to be matched, command by command and step by step.
 use Rattle.std.proofs.Common.{ℕ, ◌+◌, ◌≡◌, ◌↔◌, Bool, true, false, List, [], ◌∷◌, ◌++◌, Option, Some, None, refl, sym, ◌∙◌, ap, subst, append_assoc}
+use Rattle.std.proofs.lemmas.List.{append_cancel_left}
 use Rattle.std.specs.List.{AllByRecursion}
 use Rattle.sat_base.specs.Formats.{OneForm}
 use Rattle.sat_base.specs.Script.{Literal, Command, Clause, Ask, Hide, Witness, Sample, Ending, Clean, Malformed, names_of}
@@ -31,6 +32,14 @@ module _ (k : Checking) (j : Judge) (n : ℕ) (earlier : List Step) (ending : En
     (λ l. (answers_from (n + 1) j cs ending l.outcomes, rw e at l.answered, record { outcomes = l.outcomes; answered = refl; one_each = rw e at l.one_each; in_form = l.in_form; certified = rw e at l.certified })),
     (λ p. let l = p.2 in record { outcomes = l.outcomes; answered = rw e (p.1 ∙ ap (λ t. refused_line n refusal ++ t) l.answered); one_each = rw e l.one_each; in_form = l.in_form; certified = rw e l.certified }),
   )
+
+  -- where that line stands, it's passed
+  pub left_refused_there : (c : Command) (cs : List Command) (refusal : Refusal) (tail : List ℕ) → refusal_of j c ≡ Some refusal → answers ≡ refused_line n refusal ++ tail → Left k j n earlier [] (c ∷ cs) ending answers certificate ↔ Left k j (n + 1) earlier [] cs ending tail certificate
+  left_refused_there c cs refusal tail e a =
+      let r = left_refused c cs refusal e in (
+        (λ l. let p = r.0 l in subst (λ t. Left k j (n + 1) earlier [] cs ending t certificate) (append_cancel_left (refused_line n refusal) p.0 tail (sym p.1 ∙ a)) p.2),
+        (λ l. r.1 (tail, a, l)),
+      )
 
   -- an accepted clause has its steps pending
   pub left_clause : (ls : List Literal) (cs : List Command) → refusal_of j (Clause ls) ≡ None → Left k j n earlier [] (Clause ls ∷ cs) ending answers certificate ↔ Left k (accepted (Clause ls) j) (n + 1) earlier (bringing (names_of ls) j ++ (Adds ls ∷ [])) cs ending answers certificate

@@ -28,3 +28,13 @@ pub mod CheckerKeeping
 pub mod CheckerMarks
 pub mod CheckerModels
 pub mod WalkLemmas
+pub mod Canonical
+pub mod Codes
+pub mod SearchAsking
+pub mod SearchDecisions
+pub mod SearchKeeping
+pub mod SearchPieces
+pub mod SearchScan
+pub mod SearchSolving
+pub mod SearchValues
+pub mod Takes

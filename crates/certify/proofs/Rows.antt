@@ -1,18 +1,21 @@
 -- Worked rows, by computing.
-use Rattle.std.proofs.Common.{ℕ, ◌≤◌, ◌≡◌, Bool, true, false, not, ◌||◌, cond, eqb, List, [], ◌∷◌, ◌++◌, refl, sym, ◌∙◌, ap, arith, inl, inr}
+use Rattle.std.proofs.Common.{ℕ, ◌+◌, ◌*◌, ◌≤◌, ◌<◌, ◌≡◌, Bool, true, false, not, ◌||◌, cond, eqb, Some, List, [], ◌∷◌, ◌++◌, length, refl, sym, ◌∙◌, ap, arith, inl, inr}
 use Rattle.std.proofs.lemmas.Bool.{true≢false}
 use Rattle.std.specs.Fmt.{digits}
 use Rattle.std.specs.List.{AllByRecursion}
 use Rattle.sat_base.specs.Literals.{largest}
 use Rattle.sat_base.specs.Script.{Literal, Clean, names_of}
-use Rattle.sat_base.specs.Steps.{Step, End}
+use Rattle.sat_base.specs.Formats.{Items}
+use Rattle.sat_base.specs.Numbers.{IsNumber, IsBelow}
+use Rattle.sat_base.specs.Steps.{Step, UserVarName, AddClause, Model, Assumptions, End}
+use Rattle.sat_base.specs.StepText.{AreLiterals, SpellsStep, SpellsSteps}
 use Rattle.certify.specs.Stored.{is_known}
 use Rattle.certify.specs.Accepts.{stored_after}
 use Rattle.certify.specs.Answers.{Outcome, Sat, Unsat, Unknown, answers_text, outcome_text}
 use Rattle.certify.specs.Checking.{Checking}
 use Rattle.certify.specs.Matches.{Fits, NewName, met, cut, ordered, new_name, adds, opens, shows, closes, finish, OneEach, StepsMatch}
 use Rattle.certify.specs.TheChecking.{the_checking}
-use Rattle.certify.specs.Rows.{AskAloneText, clause_and_ask, clause_and_ask_text, ClauseAndAskText, ClauseAndAskExpected, ClauseAndAskRight, ClauseAndAskSteps, TwoUnitsRight, TwoUnitsSteps, HiddenAndBackState, HiddenAndBackExpected, HiddenAtOnceState, WitnessRefusedText, LeftmostRefuses, WitnessRefusesAsk, MalformedText, EmptyText, NameOnOldVariable, EndAlone, NoAnswers, AnswersTwice, pos, neg}
+use Rattle.certify.specs.Rows.{AskAloneText, clause_and_ask, clause_and_ask_text, ClauseAndAskText, ClauseAndAskExpected, ClauseAndAskRight, ClauseAndAskSteps, ClauseAndAskMatches, TwoUnitsRight, TwoUnitsSteps, TwoUnitsMatches, EmptyMatches, HiddenAndBackState, HiddenAndBackExpected, HiddenAtOnceState, WitnessRefusedText, LeftmostRefuses, WitnessRefusesAsk, MalformedText, EmptyText, NameOnOldVariable, EndAlone, NoAnswers, AnswersTwice, pos, neg}
 use Rattle.certify.proofs.Residual.{taken, skipped, fits_new}
 use Rattle.certify.proofs.Scripts.{matching_right}
 use Rattle.certify.proofs.Sound.{the_checking_sound}
@@ -54,6 +57,62 @@ clause_and_ask_steps = record {
       (ordered refl closes tt (ordered refl finish tt (met refl)))))));
 }
 
+-- small numbers are bytes
+small : (n : ℕ) → n < 128 → IsNumber n (n ∷ [])
+small n h = (h, refl)
+
+name_spelt : (v : ℕ) → v < 127 → SpellsStep (UserVarName v (Some v)) (2 ∷ v ∷ (v + 1) ∷ [])
+name_spelt v h = (v ∷ (v + 1) ∷ [], refl, (v ∷ [], (v + 1) ∷ [], (small v (omega arith), omega arith), (small (v + 1) (omega arith), omega arith), refl))
+
+items_spelt : (ls : List ℕ) → AllByRecursion (λ l. l < 128) ls → Items (IsBelow (2 * largest)) ls ls
+items_spelt [] h = refl
+items_spelt (l ∷ ls) h = let x = h.0 in (l ∷ [], ls, (small l x, omega arith), items_spelt ls h.1, refl)
+
+literals_spelt : (ls : List ℕ) → AllByRecursion (λ l. l < 128) ls → length ls < 128 → AreLiterals ls (length ls ∷ ls)
+literals_spelt ls h n = (length ls ∷ [], ls, (small (length ls) n, omega arith), items_spelt ls h, refl)
+
+clause_spelt : (c : List ℕ) → AllByRecursion (λ l. l < 128) c → length c < 128 → SpellsStep (AddClause c) (5 ∷ length c ∷ c)
+clause_spelt c h n = (length c ∷ c, refl, literals_spelt c h n)
+
+model_spelt : (c : List ℕ) → AllByRecursion (λ l. l < 128) c → length c < 128 → SpellsStep (Model c) (10 ∷ length c ∷ c)
+model_spelt c h n = (length c ∷ c, refl, literals_spelt c h n)
+
+assumed_spelt : (c : List ℕ) → AllByRecursion (λ l. l < 128) c → length c < 128 → SpellsStep (Assumptions c) (11 ∷ length c ∷ c)
+assumed_spelt c h n = (length c ∷ c, refl, literals_spelt c h n)
+
+end_spelt : SpellsSteps (End ∷ []) (13 ∷ [])
+end_spelt = (13 ∷ [], [], ([], refl, refl), refl, refl)
+
+pub clause_and_ask_matches : ClauseAndAskMatches
+clause_and_ask_matches rest = record {
+  outcomes = Sat (neg 1 ∷ pos 2 ∷ []) ∷ [];
+  steps = UserVarName 0 (Some 0) ∷ UserVarName 1 (Some 1) ∷ AddClause (0 ∷ 2 ∷ []) ∷ Assumptions [] ∷ Model (1 ∷ 2 ∷ []) ∷ Assumptions [] ∷ End ∷ [];
+  text = 2 ∷ 0 ∷ 1 ∷ 2 ∷ 1 ∷ 2 ∷ 5 ∷ 2 ∷ 0 ∷ 2 ∷ 11 ∷ 0 ∷ 10 ∷ 2 ∷ 1 ∷ 2 ∷ 11 ∷ 0 ∷ 13 ∷ [];
+  rest = rest;
+  answered = sym clause_and_ask_says;
+  begins = refl;
+  spelt = (
+    2 ∷ 0 ∷ 1 ∷ [],
+    _,
+    name_spelt 0 (omega arith),
+    (
+      2 ∷ 1 ∷ 2 ∷ [],
+      _,
+      name_spelt 1 (omega arith),
+      (
+        5 ∷ 2 ∷ 0 ∷ 2 ∷ [],
+        _,
+        clause_spelt (0 ∷ 2 ∷ []) (omega arith, (omega arith, tt)) (omega arith),
+        (11 ∷ 0 ∷ [], _, assumed_spelt [] tt (omega arith), (10 ∷ 2 ∷ 1 ∷ 2 ∷ [], _, model_spelt (1 ∷ 2 ∷ []) (omega arith, (omega arith, tt)) (omega arith), (11 ∷ 0 ∷ [], _, assumed_spelt [] tt (omega arith), end_spelt, refl), refl), refl),
+        refl,
+      ),
+      refl,
+    ),
+    refl,
+  );
+  match = clause_and_ask_steps;
+}
+
 pub two_units_right : TwoUnitsRight
 two_units_right = (record { order = tt; among = tt; none = λ a t h. no (a 0) h.0 h.1.0 }, tt)
   where
@@ -69,6 +128,30 @@ two_units_steps = record {
       (ordered refl (adds (((0, record { variable = 0; named = refl; is = refl }, inl refl), tt), ((pos 1, record { variable = 0; named = refl; is = refl }, inl refl), tt))) tt
       (ordered refl (adds (((1, record { variable = 0; named = refl; is = refl }, inl refl), tt), ((neg 1, record { variable = 0; named = refl; is = refl }, inl refl), tt))) tt
       (cut refl (refl, (refl, (tt, (tt, tt)))))));
+}
+
+pub two_units_matches : TwoUnitsMatches
+two_units_matches rest = record {
+  outcomes = Unsat [] ∷ [];
+  steps = UserVarName 0 (Some 0) ∷ AddClause (0 ∷ []) ∷ AddClause (1 ∷ []) ∷ [];
+  text = 2 ∷ 0 ∷ 1 ∷ 5 ∷ 1 ∷ 0 ∷ 5 ∷ 1 ∷ 1 ∷ [];
+  rest = rest;
+  answered = refl;
+  begins = refl;
+  spelt = (2 ∷ 0 ∷ 1 ∷ [], _, name_spelt 0 (omega arith), (5 ∷ 1 ∷ 0 ∷ [], _, clause_spelt (0 ∷ []) (omega arith, tt) (omega arith), (5 ∷ 1 ∷ 1 ∷ [], [], clause_spelt (1 ∷ []) (omega arith, tt) (omega arith), refl, refl), refl), refl);
+  match = two_units_steps;
+}
+
+pub empty_matches : EmptyMatches
+empty_matches rest = record {
+  outcomes = [];
+  steps = End ∷ [];
+  text = 13 ∷ [];
+  rest = rest;
+  answered = refl;
+  begins = refl;
+  spelt = end_spelt;
+  match = record { one_each = tt; in_form = tt; meets = ordered refl finish tt (met refl) };
 }
 
 pub hidden_and_back_state : HiddenAndBackState

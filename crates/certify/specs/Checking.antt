@@ -6,6 +6,7 @@ use Rattle.sat_base.specs.Script.{Among}
 use Rattle.sat_base.specs.Steps.{Step, UserVarName, DeleteVar, AddClause, Model, Assumptions, FailedAssumptions, End}
 use Rattle.certify.specs.Fold.{Holds}
 
+-- is it this variable?
 abbrev pub is_variable : ℕ → Option ℕ → Bool
 is_variable v None = false
 is_variable v (Some w) = w == v

@@ -1,5 +1,5 @@
 -- What is still to be matched from some place on: what a loop that confirms keeps true.
-use Rattle.std.specs.Prelude.{ℕ, ◌≡◌, List, [], ◌∷◌, ◌++◌}
+use Rattle.std.specs.Prelude.{ℕ, ◌≡◌, ◌↔◌, List, [], ◌∷◌, ◌++◌}
 use Rattle.std.specs.List.{AllByRecursion}
 use Rattle.sat_base.specs.Script.{Literal, Command, Ask, Ending}
 use Rattle.sat_base.specs.Judge.{Judge, accepted_of}
@@ -17,6 +17,18 @@ pub record CertificateMeets (k : Checking) (earlier : List Step) (es : List Expe
   pub begins : certificate ≡ text ++ rest
   pub spelt : SpellsSteps steps text
   pub meets : Meets k earlier steps es
+
+-- The next steps of the certificate meet what is expected here, and lead to that place: whatever is expected behind, it's met from here as from there.
+abbrev pub Takes : Checking → List Expected → List Step → List ℕ → List Step → List ℕ → Type 0
+Takes k es earlier certificate later rest = (fs : List Expected) → CertificateMeets k earlier (es ++ fs) certificate ↔ CertificateMeets k later fs rest
+
+-- they don't, whatever is expected behind
+abbrev pub Never : Checking → List Expected → List Step → List ℕ → Type 0
+Never k es earlier certificate = (fs : List Expected) → CertificateMeets k earlier (es ++ fs) certificate → ⊥
+
+-- they lead to that place while something is still expected
+abbrev pub Skips : Checking → List Step → List ℕ → List Step → List ℕ → Type 0
+Skips k earlier certificate later rest = (e : Expected) (es : List Expected) → CertificateMeets k earlier (e ∷ es) certificate ↔ CertificateMeets k later (e ∷ es) rest
 
 -- Command n comes next, in this state of the judge; what is pending belongs to the commands before it.
 pub record Left (k : Checking) (j : Judge) (n : ℕ) (earlier : List Step) (pending : List Expected) (commands : List Command) (ending : Ending) (answers certificate : List ℕ) : Type 0 where

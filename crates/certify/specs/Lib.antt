@@ -18,3 +18,12 @@ pub mod Look
 pub mod Marks
 pub mod ModelView
 pub mod Walk
+pub mod Bridge
+pub mod Codes
+pub mod Cuts
+pub mod Held
+pub mod Kept
+pub mod Search
+pub mod SearchSays
+pub mod Solved
+pub mod SolverView

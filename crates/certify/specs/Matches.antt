@@ -25,10 +25,12 @@ abbrev pub bringing : List ℕ → Judge → List Expected
 bringing [] j = []
 bringing (name ∷ names) j = map NewName (new_names name j) ++ bringing names (bring_in name j)
 
+-- for names that are hidden
 abbrev pub hiding : List ℕ → Judge → List Expected
 hiding [] j = []
 hiding (name ∷ names) j = map NewName (new_names name j) ++ (NoName name ∷ hiding names (without_name name (bring_in name j)))
 
+-- for names whose mode is set
 abbrev pub setting : Mode → List ℕ → Judge → List Expected
 setting mode [] j = []
 setting mode (name ∷ names) j = map NewName (new_names name j) ++ setting mode names (with_mode mode name (bring_in name j))

@@ -10,6 +10,7 @@ use Rattle.certify.specs.Right.{AnswersAreRight}
 use Rattle.certify.specs.Matches.{expected, NewName, NoName, Adds, Opens, Shows, Closes, Finish, StepsMatch, MatchesCommands}
 use Rattle.certify.specs.TheChecking.{the_checking}
 
+-- the positive literal of a name, and the negative one
 abbrev pub pos : ℕ → Literal
 pos n = record { name = n; positive = true }
 
@@ -77,6 +78,7 @@ WitnessRefusedText = answers_text (Witness (1 ∷ []) ∷ Clause (pos 1 ∷ []) 
     ≡ 99 ∷ 32 ∷ 114 ∷ 101 ∷ 102 ∷ 117 ∷ 115 ∷ 101 ∷ 100 ∷ 32 ∷ 50 ∷ 32 ∷ 119 ∷ 105 ∷ 116 ∷ 110 ∷ 101 ∷ 115 ∷ 115 ∷ 32 ∷ 49 ∷ 10
     ∷ 115 ∷ 32 ∷ 83 ∷ 65 ∷ 84 ∷ 73 ∷ 83 ∷ 70 ∷ 73 ∷ 65 ∷ 66 ∷ 76 ∷ 69 ∷ 10 ∷ 118 ∷ 32 ∷ 45 ∷ 49 ∷ 32 ∷ 48 ∷ 10 ∷ []
 
+-- the leftmost literal decides why
 abbrev pub LeftmostRefuses : Type 0
 LeftmostRefuses = refusal_of (after_script (Witness (1 ∷ []) ∷ []) start) (Clause (pos 268435457 ∷ pos 1 ∷ [])) ≡ Some PastLimit
 
@@ -99,6 +101,19 @@ ClauseAndAskSteps = StepsMatch the_checking clause_and_ask (Sat (neg 1 ∷ pos 2
 -- the second clause records unsat, and the steps end there
 abbrev pub TwoUnitsSteps : Type 0
 TwoUnitsSteps = StepsMatch the_checking two_units (Unsat [] ∷ []) (UserVarName 0 (Some 0) ∷ AddClause (0 ∷ []) ∷ AddClause (1 ∷ []) ∷ [])
+
+-- The same as bytes: name steps, clause, assumptions, model, assumptions, end. What stands behind is of no matter.
+abbrev pub ClauseAndAskMatches : Type 0
+ClauseAndAskMatches = (rest : List ℕ)
+    → MatchesCommands the_checking clause_and_ask Clean clause_and_ask_text (2 ∷ 0 ∷ 1 ∷ 2 ∷ 1 ∷ 2 ∷ 5 ∷ 2 ∷ 0 ∷ 2 ∷ 11 ∷ 0 ∷ 10 ∷ 2 ∷ 1 ∷ 2 ∷ 11 ∷ 0 ∷ 13 ∷ rest)
+
+abbrev pub TwoUnitsMatches : Type 0
+TwoUnitsMatches = (rest : List ℕ)
+    → MatchesCommands the_checking two_units Clean (115 ∷ 32 ∷ 85 ∷ 78 ∷ 83 ∷ 65 ∷ 84 ∷ 73 ∷ 83 ∷ 70 ∷ 73 ∷ 65 ∷ 66 ∷ 76 ∷ 69 ∷ 10 ∷ 102 ∷ 32 ∷ 48 ∷ 10 ∷ []) (2 ∷ 0 ∷ 1 ∷ 5 ∷ 1 ∷ 0 ∷ 5 ∷ 1 ∷ 1 ∷ rest)
+
+-- an empty script matches no answers and `End`
+abbrev pub EmptyMatches : Type 0
+EmptyMatches = (rest : List ℕ) → MatchesCommands the_checking [] Clean [] (13 ∷ rest)
 
 -- Where the hidden name comes back on its old variable, nothing matches: whatever is answered, and whatever a checker that knows named variables accepts.
 abbrev pub NameOnOldVariable : Type 0

@@ -1,8 +1,8 @@
 //! What holds of the answers, of matching and of the list checker: each law is the contract of a function that does nothing.
-ghost use Rattle.certify.specs.Laws.{AskBindsNothing, JudgeIsKept, MatchingIsRight, NotBoth, RepeatChangesNothing, TautologyChangesNothing, TextsTellOutcomes, TextsThatMatchAreRight};
+ghost use Rattle.certify.specs.Laws.{AskBindsNothing, GivenIdentitiesSuffice, JudgeIsKept, MatchingIsRight, NotBoth, RepeatChangesNothing, TautologyChangesNothing, TextsTellOutcomes, TextsThatMatchAreRight};
 ghost use Rattle.certify.specs.Checking.{IsSound};
 ghost use Rattle.certify.specs.TheChecking.{the_checking};
-ghost use Rattle.certify.specs.Rows.{AnswersTwice, AskAloneText, ClauseAndAskExpected, ClauseAndAskRight, ClauseAndAskSteps, ClauseAndAskText, EmptyText, EndAlone, HiddenAndBackExpected, HiddenAndBackState, HiddenAtOnceState, LeftmostRefuses, MalformedText, NameOnOldVariable, NoAnswers, TwoUnitsRight, TwoUnitsSteps, WitnessRefusedText, WitnessRefusesAsk};
+ghost use Rattle.certify.specs.Rows.{AnswersTwice, AskAloneText, ClauseAndAskExpected, ClauseAndAskMatches, ClauseAndAskRight, ClauseAndAskSteps, ClauseAndAskText, EmptyMatches, EmptyText, EndAlone, HiddenAndBackExpected, HiddenAndBackState, HiddenAtOnceState, LeftmostRefuses, MalformedText, NameOnOldVariable, NoAnswers, TwoUnitsMatches, TwoUnitsRight, TwoUnitsSteps, WitnessRefusedText, WitnessRefusesAsk};
 
 /// Where script, answers and certificate match, the answers are right: by steps and outcomes, and by the three texts.
 pub fn matching_is_right()
@@ -60,8 +60,16 @@ pub fn rows_of_names()
     ensures expected { ClauseAndAskExpected }
 {}
 
-/// Worked rows that match, and their answers are right.
+/// Identities that aren't given out are of no matter to the clauses and the names in use.
+pub fn given_identities_suffice()
+    ensures { GivenIdentitiesSuffice }
+{}
+
+/// Worked rows that match, by steps and by bytes, and their answers are right.
 pub fn rows_that_match()
+    ensures empty { EmptyMatches }
+    ensures model_bytes { ClauseAndAskMatches }
+    ensures core_bytes { TwoUnitsMatches }
     ensures model { ClauseAndAskRight }
     ensures model_steps { ClauseAndAskSteps }
     ensures core { TwoUnitsRight }

@@ -4,5 +4,6 @@
 pub mod answers;
 pub mod checker;
 pub mod laws;
+mod search;
 
 fn main() {}

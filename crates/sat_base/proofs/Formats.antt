@@ -86,4 +86,3 @@ to_items F n x t h = (ap suc h.3.0, (h.0, h.1, h.2, h.3.1, h.4))
 pub from_items : {A : Type 0} (F : Format A) (n : ℕ) (xs : List A) (t : List ℕ) → Times F (suc n) xs t → (x : A × List A) × Then F (λ _. Times F n) x t
 from_items F n [] t h = absurd (omega (arith, h.0))
 from_items F n (x ∷ xs) t h = ((x, xs), (h.1.0, h.1.1, h.1.2, (omega (arith, h.0), h.1.3), h.1.4))
-

@@ -11,3 +11,6 @@ pub mod RowsRead
 pub mod Formats
 pub mod Numbers
 pub mod Writes
+pub mod FormatReads
+pub mod ReadLemmas
+pub mod StepReads

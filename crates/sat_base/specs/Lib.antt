@@ -17,3 +17,6 @@ pub mod ScriptRows
 pub mod Judge
 pub mod Device
 pub mod Writing
+pub mod Kinds
+pub mod Reading
+pub mod StepReading

@@ -92,10 +92,9 @@ impl<D: Write> CountedWrite for Counted<D> {
 
     fn flush_counted(&mut self) -> io::Result<()> {
         let result = self.device.flush();
-        self.tally = if result.is_ok() {
-            self.tally.and_success()
-        } else {
-            self.tally.and_failure()
+        self.tally = match &result {
+            Ok(()) => self.tally.and_success(),
+            Err(_) => self.tally.and_failure(),
         };
         result
     }

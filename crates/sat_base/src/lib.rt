@@ -1,14 +1,22 @@
 //! Literals, hashes, texts of clauses and scripts, proof steps and their bytes.
 #![tactic(auto)]
 
+mod ahead;
 pub mod counted;
 pub mod device;
 pub mod error;
 pub mod hash;
+mod kind;
+pub mod law;
 pub mod law_text;
+mod lists;
 pub mod lit;
 mod pending;
+mod read_lists;
+mod read_number;
+mod read_step;
 pub mod step;
+pub mod step_reader;
 mod step_writer;
 mod tally;
 #[cfg(test)]
@@ -23,6 +31,7 @@ pub use error::StepError;
 pub use hash::{ClauseHash, clause_hash, lit_hash};
 pub use lit::Lit;
 pub use step::ProofStep;
+pub use step_reader::StepReader;
 pub use step_writer::write_step;
 pub use text::{Token, Tokenizer};
 pub use var::Var;

@@ -151,3 +151,6 @@ impl BitXor<bool> for Lit {
         }
     }
 }
+
+#[cfg(test)]
+mod tests;

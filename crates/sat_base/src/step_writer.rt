@@ -56,7 +56,11 @@ fn put_variable<W: CountedWrite>(writer: &mut W, pending: &mut Pending, var: Var
     put_number(writer, pending, var.index() as u64)
 }
 
-fn put_optional<W: CountedWrite>(writer: &mut W, pending: &mut Pending, var: Option<Var>) -> io::Result<()>
+fn put_optional<W: CountedWrite>(
+    writer: &mut W,
+    pending: &mut Pending,
+    var: Option<Var>,
+) -> io::Result<()>
     ensures { Writes IsOptionalVariable var result (with_pending W.contents W.failures writer.old pending.old) (with_pending W.contents W.failures writer.new pending.new) }
 {
     match var {
@@ -75,7 +79,11 @@ fn put_flag<W: CountedWrite>(writer: &mut W, pending: &mut Pending, flag: bool) 
     }
 }
 
-fn put_literals<W: CountedWrite>(writer: &mut W, pending: &mut Pending, lits: &[Lit]) -> io::Result<()>
+fn put_literals<W: CountedWrite>(
+    writer: &mut W,
+    pending: &mut Pending,
+    lits: &[Lit],
+) -> io::Result<()>
     ensures { Writes AreLiterals lits.now result (with_pending W.contents W.failures writer.old pending.old) (with_pending W.contents W.failures writer.new pending.new) }
 {
     put_number(writer, pending, lits.len() as u64)?;
@@ -85,7 +93,11 @@ fn put_literals<W: CountedWrite>(writer: &mut W, pending: &mut Pending, lits: &[
     Ok(())
 }
 
-fn put_hashes<W: CountedWrite>(writer: &mut W, pending: &mut Pending, hashes: &[ClauseHash]) -> io::Result<()>
+fn put_hashes<W: CountedWrite>(
+    writer: &mut W,
+    pending: &mut Pending,
+    hashes: &[ClauseHash],
+) -> io::Result<()>
     ensures { Writes AreHashes hashes.now result (with_pending W.contents W.failures writer.old pending.old) (with_pending W.contents W.failures writer.new pending.new) }
 {
     put_number(writer, pending, hashes.len() as u64)?;
@@ -109,7 +121,11 @@ fn tag(step: &ProofStep<'_>) -> u8
 }
 
 /// Lets what stands behind the tag wait.
-fn put_fields<W: CountedWrite>(writer: &mut W, pending: &mut Pending, step: &ProofStep<'_>) -> io::Result<()>
+fn put_fields<W: CountedWrite>(
+    writer: &mut W,
+    pending: &mut Pending,
+    step: &ProofStep<'_>,
+) -> io::Result<()>
     ensures { Writes SpellsFields (step_of step.now) result (with_pending W.contents W.failures writer.old pending.old) (with_pending W.contents W.failures writer.new pending.new) }
 {
     match *step {

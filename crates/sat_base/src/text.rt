@@ -37,7 +37,7 @@ enum Place {
 ///
 /// Blanks are space, tab, CR and LF, and a word is a longest run of other bytes. A line ends at LF. A line whose first byte
 /// that is no blank is `c` is a comment.
-#[derive(Clone, Copy, Debug, Drop)]
+#[derive(Debug, Drop)]
 pub struct Tokenizer {
     place: Place,
     /// The lines that have ended, held at 2^64-1.
@@ -214,3 +214,6 @@ impl Tokenizer {
         }
     }
 }
+
+#[cfg(test)]
+mod tests;

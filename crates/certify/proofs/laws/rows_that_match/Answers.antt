@@ -12,3 +12,12 @@ returns-clause-core c = rows.two_units_right
 
 pub returns-clause-core_steps : goal.returns-clause-core_steps
 returns-clause-core_steps c = rows.two_units_steps
+
+pub returns-clause-empty : goal.returns-clause-empty
+returns-clause-empty c = rows.empty_matches
+
+pub returns-clause-model_bytes : goal.returns-clause-model_bytes
+returns-clause-model_bytes c = rows.clause_and_ask_matches
+
+pub returns-clause-core_bytes : goal.returns-clause-core_bytes
+returns-clause-core_bytes c = rows.two_units_matches

@@ -1,0 +1,5 @@
+use Rattle.certify.proofs.Kept.{given_suffice}
+use Rattle.certify.proofs.laws.given_identities_suffice.Goals as goal
+
+pub returns : goal.returns
+returns c = given_suffice

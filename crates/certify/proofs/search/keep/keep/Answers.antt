@@ -1,0 +1,32 @@
+use Rattle.std.proofs.Common.{◌≡◌, ◌<◌, ◌∙◌, ◌++◌, ◌∷◌, [], true, Some, length, set, get_or, sym, ap, subst, arith}
+use Rattle.std.proofs.lemmas.Bool.Decides.{nat_tests}
+use Rattle.std.proofs.lemmas.List.{get_or_read}
+use Rattle.sat_base.specs.Literals.{is_positive, variable}
+use Rattle.certify.specs.Search.{value_of, is_false}
+use Rattle.certify.specs.Kept.{UnitsFollow}
+use Rattle.certify.proofs.SearchKeeping.{keeps_contradiction, units_set}
+use Rattle.certify.proofs.search.keep.keep.Goals as goal
+
+pub returns-then-is_false-clause-keeps : goal.returns-then-is_false-clause-keeps
+returns-then-is_false-clause-keeps c =
+    let clause = c.args.clause.now in
+    let l = c.index-clause-0.result in
+    let one : length clause ≡ 1 = grind (arith, nat_tests) in
+    let inside : 0 < length clause = omega arith in
+    let first = get_or_read clause 0 l inside c.index-clause-0.is 0 in
+    let denied : is_false (value_of c.args.units.now l) ≡ true = cc in
+    keeps_contradiction c.args.clauses.now c.args.units.now clause l c.requires.units_follow one first denied
+
+pub returns-clause-units_follow : goal.returns-clause-units_follow
+returns-clause-units_follow c =
+    let clause = c.args.clause.now in
+    let old = c.args.clauses.now in
+    let units = c.args.units.now in
+    let l = c.index-clause-0.result in
+    let one : length clause ≡ 1 = grind (arith, nat_tests) in
+    let inside : 0 < length clause = omega arith in
+    let first = get_or_read clause 0 l inside c.index-clause-0.is 0 in
+    let follow = units_set old units clause l c.requires.units_follow one first in
+    let pushed : c.push-2.new.self ≡ old ++ clause ∷ [] = c.in_ok-push-2.ensures.ok in
+    let written : set units c.index.result (Some c.is_positive.result) ≡ set units (variable l) (Some (is_positive l)) = cc (c.index.ensures.value, c.is_positive.ensures) in
+    subst (λ us. UnitsFollow c.push-2.new.self us) (sym written) (subst (λ cs. UnitsFollow cs (set units (variable l) (Some (is_positive l)))) (sym pushed) follow)

@@ -1,0 +1,5 @@
+use Rattle.certify.proofs.SearchScan.{Scanned}
+use Rattle.certify.proofs.search.propagate.scan.Given as goal
+
+abbrev pub invariant-loop-place : goal.invariant-loop-place
+invariant-loop-place l = Scanned l.clauses l.fn.values l.values l.place l.assigned

@@ -1,0 +1,6 @@
+use Rattle.sat_base.specs.Writing.{written_by}
+use Rattle.certify.proofs.SearchAsking.{one_derived}
+use Rattle.certify.proofs.search.solve.write_learned.Goals as goal
+
+pub returns-in-Ok : goal.returns-in-Ok
+returns-in-Ok g c = one_derived c.learned.result.now c.hashes.result.now (written_by g.W.Write.contents g.W.CountedWrite.failures c.args.proof.now) (written_by g.W.Write.contents g.W.CountedWrite.failures c.write_step.new.writer) c.in-Ok.ensures

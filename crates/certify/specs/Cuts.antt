@@ -1,0 +1,12 @@
+-- A list cut into pieces.
+use Rattle.std.specs.Prelude.{ℕ, ◌≡◌, ◌≤◌, List, [], ◌∷◌, length, slice_range}
+
+-- the pieces that end at these places, the first of which begins here
+abbrev pub pieces : {A : Type 0} → ℕ → List ℕ → List A → List (List A)
+pieces from [] xs = []
+pieces from (end ∷ ends) xs = slice_range xs from end ∷ pieces end ends xs
+
+-- the places ascend, and the last is the list's end
+abbrev pub AreEnds : {A : Type 0} → ℕ → List ℕ → List A → Type 0
+AreEnds from [] xs = length xs ≡ from
+AreEnds from (end ∷ ends) xs = (from ≤ end) × AreEnds end ends xs

@@ -1,0 +1,64 @@
+-- What a search under a budget answers, and what it writes.
+use Rattle.std.specs.Prelude.{ℕ, ◌≡◌, ◌+◌, ◌-◌, ◌^◌, ◌<◌, ◌≤◌, ◌⊎◌, Bool, true, false, Option, List, length, Result, Ok, Err}
+use Rattle.std.specs.List.{AllByRecursion}
+use Rattle.std.specs.Io.KnownBytes.{Appends}
+use Rattle.sat_base.specs.Clauses.{Valuation}
+use Rattle.sat_base.specs.Steps.{Step, AtClause}
+use Rattle.sat_base.specs.StepText.{SpellsSteps}
+use Rattle.sat_base.specs.Writing.{Written}
+use Rattle.certify.specs.declared.search.solve.Answer.{Answer}
+use Rattle.certify.specs.declared.search.solve.Answer.TheVariants.{Sat, Unsat, Unknown}
+use Rattle.certify.specs.declared.search.solve.SolveFault.{SolveFault}
+use Rattle.certify.specs.declared.search.solve.SolveFault.TheVariants.{Write, OutOfMemory}
+use Rattle.certify.specs.Held.{Held, HoldsIn, HoldsSame, HasModel}
+
+-- no valuation satisfies what the solver holds
+pub record NothingHolds (s : Held) : Type 0 where
+  pub none : (a : Valuation) → HoldsIn s a → ⊥
+
+-- an answer is right, and unknown only where the rounds are spent
+abbrev pub IsRightAnswer : Answer → ℕ → ℕ → Held → Held → Type 0
+IsRightAnswer Sat spent budget old new = HasModel new
+IsRightAnswer Unsat spent budget old new = NothingHolds old × (new.unsat ≡ true)
+IsRightAnswer Unknown spent budget old new = (new.unsat ≡ false) × ((spent ≡ budget) ⊎ (new.rounds ≡ 2 ^ 64 - 1))
+
+-- where the clauses are known to be unsatisfiable, the answer is that, without a round
+abbrev pub IsKnownAnswer : Answer → ℕ → Type 0
+IsKnownAnswer Sat spent = ⊥
+IsKnownAnswer Unsat spent = spent ≡ 0
+IsKnownAnswer Unknown spent = ⊥
+
+-- what an ask of so many rounds leaves
+pub record Solves (answer : Answer) (spent budget : ℕ) (old new : Held) : Type 0 where
+  pub right : IsRightAnswer answer spent budget old new
+  pub known : old.unsat ≡ true → IsKnownAnswer answer spent
+  pub same : HoldsSame old new
+  pub var_count : new.var_count ≡ old.var_count
+  pub rounds : new.rounds ≡ old.rounds + spent
+  pub within : spent ≤ budget
+
+-- the step of a derived clause that isn't redundant
+abbrev pub IsDerived : Step → Type 0
+IsDerived (AtClause false clause hashes) = Unit {0}
+IsDerived step = ⊥
+
+-- so many derived clauses were written
+pub record WritesDerived (count : ℕ) (old new : Written) : Type 0 where
+  pub steps : List Step
+  pub many : length steps ≡ count
+  pub derived : AllByRecursion IsDerived steps
+  pub text : List ℕ
+  pub spells : SpellsSteps steps text
+  pub bytes : Appends old.contents new.contents text
+  pub failures : new.failures ≡ old.failures
+
+-- a round that ends in a model writes nothing
+abbrev pub conflicts : Answer → ℕ → ℕ
+conflicts Sat spent = spent - 1
+conflicts Unsat spent = spent
+conflicts Unknown spent = spent
+
+-- a fault of writing comes where a write failed, and no other
+abbrev pub IsTrueFault : SolveFault → Written → Written → Type 0
+IsTrueFault Write old new = old.failures < new.failures
+IsTrueFault OutOfMemory old new = new.failures ≡ old.failures

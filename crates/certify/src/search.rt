@@ -1,0 +1,175 @@
+//! A simple solver: it propagates by scanning all clauses, decides the lowest open variable as false, and after a
+//! conflict keeps the clause of all negated decisions.
+ghost use Rattle.std.specs.Prelude.{◌≡◌, ◌+◌, ◌-◌, ◌^◌, ◌<◌, ◌≤◌, Bool, not, true, false, length, slice_index_or, IfOk, OnOk, OnErr, None};
+ghost use Rattle.sat_base.specs.Literals.{largest};
+ghost use Rattle.certify.specs.Search.{IsBounded};
+ghost use Rattle.certify.specs.Kept.{IsNormalOf};
+ghost use Rattle.certify.specs.Held.{fresh, with_variable, TakesClause, RoundSays};
+
+mod clause_list;
+mod keep;
+mod look;
+mod propagate;
+mod solve;
+#[cfg(test)]
+mod tests;
+
+use crate::search::clause_list::ClauseList;
+use crate::search::keep::{keep, normalize};
+use crate::search::propagate::{RoundEnd, reset, search};
+use sat_base::{ClauseHash, Lit, Var};
+use std::alloc::{AllocError, Global};
+use std::marker::Model;
+
+/// Clauses, and a search for a model of them.
+#[derive(Drop)]
+pub(crate) struct Solver {
+    clauses: ClauseList,
+    unsat: bool,
+    /// The values that clauses of one literal give.
+    units: Vec<Option<bool>>,
+    values: Vec<Option<bool>>,
+    rounds: u64,
+    written: Vec<Lit>,
+    learned: Vec<Lit>,
+    hashes: Vec<ClauseHash>,
+}
+
+impl Model for Solver {
+    ghost use Rattle.certify.specs.Held.{Held};
+
+    ghost Value = { Held };
+
+    ghost use Rattle.certify.specs.SolverView.{held_of, IsSolver};
+
+    ghost view = { held_of };
+
+    ghost invariant = { IsSolver };
+}
+
+#[tactic(auto, using(crate::proofs::SearchSolving::solving))]
+impl Solver {
+    pub(crate) fn new(alloc: Global) -> Solver
+        ensures { result ≡ fresh }
+    {
+        Solver {
+            clauses: ClauseList::new(alloc),
+            unsat: false,
+            units: Vec::new(alloc),
+            values: Vec::new(alloc),
+            rounds: 0,
+            written: Vec::new(alloc),
+            learned: Vec::new(alloc),
+            hashes: Vec::new(alloc),
+        }
+    }
+
+    /// How many variables there are.
+    pub(crate) fn var_count(&self) -> usize
+        ensures { result ≡ self.now.var_count }
+    {
+        self.values.len()
+    }
+
+    /// Whether the clauses alone are known to be unsatisfiable.
+    pub(crate) fn unsat(&self) -> bool
+        ensures { result ≡ self.now.unsat }
+    {
+        self.unsat
+    }
+
+    /// The rounds of all asks so far.
+    pub(crate) fn rounds(&self) -> u64
+        ensures { result ≡ self.now.rounds }
+    {
+        self.rounds
+    }
+
+    /// The clause last added, by increasing code and without repeats.
+    pub(crate) fn written(&self) -> &[Lit]
+        ensures { result.now ≡ self.now.written }
+    {
+        &self.written
+    }
+
+    /// The clause that the last round learned.
+    pub(crate) fn learned(&self) -> &[Lit]
+        ensures { result.now ≡ self.now.learned }
+    {
+        &self.learned
+    }
+
+    /// The hashes of the clauses that the learned one follows from.
+    pub(crate) fn hashes(&self) -> &[ClauseHash]
+        ensures { result.now ≡ self.now.hashes }
+    {
+        &self.hashes
+    }
+
+    /// The value of a variable in the last round.
+    pub(crate) fn value(&self, var: Var) -> Option<bool>
+        requires { var < length self.now.values }
+        ensures { result ≡ slice_index_or self.now.values var None }
+    {
+        self.values[var.index()]
+    }
+
+    /// The next variable.
+    pub(crate) fn add_var(&mut self) -> Result<Var, AllocError>
+        requires { self.old.var_count < largest }
+        ensures var { IfOk result (λ var. var ≡ self.old.var_count) }
+        ensures ok { OnOk result (self.new ≡ with_variable self.old) }
+        ensures err { OnErr result (self.new ≡ self.old) }
+    {
+        let index = self.values.len();
+        self.units.reserve(1)?;
+        self.values.push(None)?;
+        self.units.push(None)?;
+        Ok(Var::from_index(index))
+    }
+
+    /// Adds a clause. The answer is whether it is a step of the proof: whether the clauses before it weren't yet known to
+    /// be unsatisfiable.
+    pub(crate) fn add_clause(&mut self, lits: &[Lit]) -> Result<bool, AllocError>
+        requires { IsBounded self.old.var_count lits.now }
+        ensures step { IfOk result (λ step. step ≡ not self.old.unsat) }
+        ensures written { self.old.unsat ≡ false → OnOk result (IsNormalOf lits.now self.new.written) }
+        ensures takes { OnOk result (TakesClause self.old self.new lits.now) }
+        ensures var_count { self.new.var_count ≡ self.old.var_count }
+        ensures rounds { self.new.rounds ≡ self.old.rounds }
+    {
+        if self.unsat {
+            return Ok(false);
+        }
+        normalize(&mut self.written, lits)?;
+        self.unsat = keep(&mut self.clauses, &mut self.units, &self.written)?;
+        Ok(true)
+    }
+
+    /// One round of search, which ends in a conflict, whose clause is kept, or in a model.
+    pub(crate) fn round(&mut self) -> Result<RoundEnd, AllocError>
+        requires going { self.old.unsat ≡ false }
+        requires room { self.old.rounds < 2 ^ 64 - 1 }
+        ensures says { IfOk result (λ end. RoundSays end self.old self.new) }
+        ensures rounds { OnOk result (self.new.rounds ≡ self.old.rounds + 1) }
+        ensures var_count { self.new.var_count ≡ self.old.var_count }
+    {
+        self.learned.clear();
+        self.hashes.clear();
+        reset(&mut self.values);
+        let end = search(
+            &self.clauses,
+            &mut self.values,
+            &mut self.learned,
+            &mut self.hashes,
+        )?;
+        self.rounds += 1;
+        match end {
+            RoundEnd::Model => Ok(RoundEnd::Model),
+            RoundEnd::Conflict => {
+                self.unsat = keep(&mut self.clauses, &mut self.units, &self.learned)?;
+                Ok(RoundEnd::Conflict)
+            }
+        }
+    }
+}

@@ -1,0 +1,84 @@
+//! Rounds of search up to an answer.
+ghost use Rattle.std.specs.Prelude.{◌≡◌, MatchResult, IfOk};
+ghost use Rattle.sat_base.specs.Writing.{written_by};
+ghost use Rattle.certify.specs.Solved.{Solves, WritesDerived, conflicts, IsTrueFault};
+
+use crate::search::Solver;
+use crate::search::propagate::RoundEnd;
+use sat_base::{CountedWrite, ProofStep, write_step};
+use std::alloc::AllocError;
+
+/// What an ask is answered.
+#[derive(Clone, Copy, Debug, Drop, PartialEq, Eq)]
+pub(crate) enum Answer {
+    Sat,
+    Unsat,
+    /// The rounds are spent.
+    Unknown,
+}
+
+/// Why an ask isn't answered. The solver isn't used any more.
+#[derive(Clone, Copy, Debug, Drop, PartialEq, Eq)]
+pub(crate) enum SolveFault {
+    Write,
+    OutOfMemory,
+}
+
+impl From<AllocError> for SolveFault {
+    ghost use Rattle.std.specs.Prelude.{◌≡◌};
+    ghost use Rattle.certify.specs.declared.search.solve.SolveFault.TheVariants.{OutOfMemory};
+
+    ghost from_gives = { λ _ e. e ≡ OutOfMemory };
+
+    fn from(_e: AllocError) -> SolveFault {
+        SolveFault::OutOfMemory
+    }
+}
+
+/// Writes the step of the clause last learned.
+#[tactic(auto, using(crate::proofs::SearchAsking::writing))]
+fn write_learned<W: CountedWrite>(solver: &Solver, proof: &mut W) -> Result<(), SolveFault>
+    ensures { MatchResult result
+        (λ _. WritesDerived 1 (written_by W.contents W.failures proof.old) (written_by W.contents W.failures proof.new))
+        (λ fault. IsTrueFault fault (written_by W.contents W.failures proof.old) (written_by W.contents W.failures proof.new)) }
+{
+    let step = ProofStep::AtClause {
+        redundant: false,
+        clause: solver.learned(),
+        propagation_hashes: solver.hashes(),
+    };
+    match write_step(proof, &step) {
+        Ok(()) => Ok(()),
+        Err(_) => Err(SolveFault::Write),
+    }
+}
+
+/// Searches until there is an answer, for at most `budget` rounds, and writes a step for each clause learned. Beside the
+/// answer comes the number of rounds.
+#[tactic(auto, using(crate::proofs::SearchAsking::asking))]
+pub(crate) fn solve<W: CountedWrite>(
+    solver: &mut Solver,
+    budget: u64,
+    proof: &mut W,
+) -> Result<(Answer, u64), SolveFault>
+    ensures answers { IfOk result (λ r. Solves r.0 r.1 budget solver.old solver.new) }
+    ensures writes { MatchResult result
+        (λ r. WritesDerived (conflicts r.0 r.1) (written_by W.contents W.failures proof.old) (written_by W.contents W.failures proof.new))
+        (λ fault. IsTrueFault fault (written_by W.contents W.failures proof.old) (written_by W.contents W.failures proof.new)) }
+{
+    let mut spent = 0;
+    while !solver.unsat() {
+        if spent == budget {
+            return Ok((Answer::Unknown, spent));
+        }
+        if solver.rounds() == u64::MAX {
+            return Ok((Answer::Unknown, spent));
+        }
+        match solver.round()? {
+            RoundEnd::Model => return Ok((Answer::Sat, spent + 1)),
+            RoundEnd::Conflict => write_learned(solver, proof)?,
+        }
+        spent += 1;
+    }
+    Ok((Answer::Unsat, spent))
+}

@@ -1,0 +1,5 @@
+use Rattle.sat_base.proofs.StepReads.{one_step}
+use Rattle.sat_base.proofs.law.steps_have_one_form.Goals as goal
+
+pub returns : goal.returns
+returns c = one_step

@@ -1,0 +1,25 @@
+use Rattle.std.proofs.Common.{List, ℕ, ◌^◌, Result, subst}
+use Rattle.std.proofs.lemmas.Result.{err_from_is_err_and}
+use Rattle.sat_base.specs.declared.error.StepError.{StepError}
+use Rattle.sat_base.specs.Formats.{Then}
+use Rattle.sat_base.specs.Numbers.{IsBelow}
+use Rattle.sat_base.specs.StepText.{AreLiterals, AreHashes}
+use Rattle.sat_base.specs.Reading.{source_of, Reads, giving}
+use Rattle.sat_base.proofs.FormatReads.{first_fails, second_gives, pair_giving}
+use Rattle.sat_base.proofs.StepReads.{one_literals, some_list}
+use Rattle.sat_base.proofs.read_lists.both_lists.Goals as goal
+
+pub returns-in_err-literals : goal.returns-in_err-literals
+returns-in_err-literals g c =
+    let S = source_of g.R.Read.remaining g.R.CountedRead.failures g.R.CountedRead.calls in
+    let p = err_from_is_err_and c.from_residual.result c.from_residual.ensures.1 in
+    rw (p.1, p.2) (first_fails AreLiterals (λ _. AreHashes) one_literals (λ _. some_list (IsBelow (2 ^ 64))) c.in_err-literals.field-0.0 (S c.args.reader.now c.args.ahead.now) (S c.literals.new.reader c.literals.new.ahead) c.in_err-literals.ensures)
+
+pub returns : goal.returns
+returns g c =
+    let S = source_of g.R.Read.remaining g.R.CountedRead.failures g.R.CountedRead.calls in
+    let lits = c.literals.new.lits.items in
+    let hs = c.hashes.new.hashes.items in
+    let k = c.in_ok-literals.ensures in
+    subst (λ (z : Result (List ℕ × List ℕ) StepError). Reads (Then AreLiterals (λ _. AreHashes)) z (S c.args.reader.now c.args.ahead.now) (S c.hashes.new.reader c.hashes.new.ahead)) (pair_giving lits hs c.hashes.result)
+    (second_gives AreLiterals (λ _. AreHashes) one_literals lits k.0 (S c.args.reader.now c.args.ahead.now) (S c.literals.new.reader c.literals.new.ahead) (S c.hashes.new.reader c.hashes.new.ahead) k.2 k.1 (giving hs c.hashes.result) c.hashes.ensures)

@@ -1,0 +1,20 @@
+use Rattle.std.proofs.Common.{rules}
+use Rattle.sat_base.specs.Reading.{source_of, valued}
+use Rattle.sat_base.specs.Kinds.{step_with}
+use Rattle.sat_base.proofs.StepReads.{some_byte, unknown_tag, answers_behind}
+use Rattle.sat_base.proofs.read_step.read_step.Goals as goal
+
+pub returns-then-not-is_tag : goal.returns-then-not-is_tag
+returns-then-not-is_tag g c =
+    let S = source_of g.R.Read.remaining g.R.CountedRead.failures g.R.CountedRead.calls in
+    let t = c.in-Some.tag in
+    let p = some_byte t c.in_ok-next_byte.field-0 (S c.args.reader.now c.args.ahead.now) (S c.next_byte.new.reader c.next_byte.new.ahead) c.in-Some.is c.in_ok-next_byte.ensures in
+    unknown_tag t (S c.args.reader.now c.args.ahead.now) (S c.next_byte.new.reader c.next_byte.new.ahead) (search rules) p
+
+pub returns-else-not-is_tag : goal.returns-else-not-is_tag
+returns-else-not-is_tag g c =
+    let S = source_of g.R.Read.remaining g.R.CountedRead.failures g.R.CountedRead.calls in
+    let t = c.in-Some.tag in
+    let p = some_byte t c.in_ok-next_byte.field-0 (S c.args.reader.now c.args.ahead.now) (S c.next_byte.new.reader c.next_byte.new.ahead) c.in-Some.is c.in_ok-next_byte.ensures in
+    let lists = c.fields.new.lists in
+    answers_behind t (S c.args.reader.now c.args.ahead.now) (S c.next_byte.new.reader c.next_byte.new.ahead) (S c.fields.new.reader c.fields.new.ahead) (valued (λ k. step_with k lists.literals.items lists.hashes.items) c.fields.result) p c.fields.ensures

@@ -1,0 +1,30 @@
+//! Bytes read ahead of need.
+ghost use Rattle.std.specs.Prelude.{◌≡◌, ◌≤◌};
+
+/// How many bytes a reader is asked for at most.
+pub(crate) const PIECE: usize = 4096;
+
+/// The last piece read, of which the bytes from `at` to `end` are still to be taken.
+#[derive(Drop)]
+pub(crate) struct Ahead {
+    pub(crate) piece: [u8; PIECE],
+    pub(crate) at: usize,
+    pub(crate) end: usize,
+    /// The reads so far, at most 2^48.
+    pub(crate) reads: u64,
+    pub(crate) ghost within: { end ≤ 4096 },
+}
+
+impl Ahead {
+    pub(crate) fn new() -> Ahead
+        ensures end { result.end ≡ 0 }
+        ensures reads { result.reads ≡ 0 }
+    {
+        Ahead {
+            piece: [0; PIECE],
+            at: 0,
+            end: 0,
+            reads: 0,
+        }
+    }
+}

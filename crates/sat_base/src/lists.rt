@@ -1,0 +1,46 @@
+//! The lists of the step in hand, whose room is used again.
+ghost use Rattle.std.specs.Prelude.{◌≡◌};
+ghost use Rattle.sat_base.specs.StepViews.{step_of};
+ghost use Rattle.sat_base.specs.Kinds.{step_with};
+
+use crate::kind::Kind;
+use crate::{ClauseHash, Lit, ProofStep};
+use std::alloc::Global;
+
+#[derive(Drop)]
+pub(crate) struct Lists {
+    pub(crate) literals: Vec<Lit>,
+    pub(crate) hashes: Vec<ClauseHash>,
+}
+
+impl Lists {
+    pub(crate) fn new(alloc: Global) -> Lists {
+        Lists {
+            literals: Vec::new(alloc),
+            hashes: Vec::new(alloc),
+        }
+    }
+
+    /// The step of this kind that has these lists.
+    pub(crate) fn step(&self, kind: Kind) -> ProofStep<'_>
+        ensures { step_of result ≡ step_with kind self.now.literals.items self.now.hashes.items }
+    {
+        let literals = self.literals.as_slice();
+        match kind {
+            Kind::UserVarName { global, user } => ProofStep::UserVarName { global, user },
+            Kind::AddClause => ProofStep::AddClause { clause: literals },
+            Kind::AtClause { redundant } => ProofStep::AtClause {
+                redundant,
+                clause: literals,
+                propagation_hashes: self.hashes.as_slice(),
+            },
+            Kind::Model => ProofStep::Model {
+                assignment: literals,
+            },
+            Kind::Assumptions => ProofStep::Assumptions {
+                assumptions: literals,
+            },
+            Kind::End => ProofStep::End,
+        }
+    }
+}

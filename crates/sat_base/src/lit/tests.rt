@@ -1,0 +1,70 @@
+//! Outside values, and each call once.
+use crate::{Lit, Var, clause_hash, lit_hash};
+use std::test::*;
+
+#[test]
+fn numbers_of_variables(rt: HostRuntime) {
+    assert_eq!(rt; Var::from_dimacs(1).map(|v| v.index()), Some(0));
+    assert_eq!(rt;
+        Var::from_dimacs(268_435_456).map(|v| v.index()),
+        Some(268_435_455)
+    );
+    for number in [0, -1, 268_435_457, i64::MAX, i64::MIN] {
+        assert!(rt; Var::from_dimacs(number).is_none(), "{number}");
+    }
+    assert_eq!(rt; Var::from_index(6).to_dimacs(), 7);
+    assert_eq!(rt; Var::max_count(), 268_435_456);
+}
+
+#[test]
+fn numbers_of_literals(rt: HostRuntime) {
+    for (number, code) in [
+        (1, 0),
+        (-1, 1),
+        (2, 2),
+        (-2, 3),
+        (-268_435_456, 536_870_911),
+    ] {
+        assert_eq!(rt;
+            Lit::from_dimacs(number).map(|l| l.code()),
+            Some(code),
+            "{number}"
+        );
+        assert_eq!(rt; Lit::from_code(code).to_dimacs(), number);
+    }
+    for number in [0, 268_435_457, -268_435_457, i64::MAX, i64::MIN] {
+        assert!(rt; Lit::from_dimacs(number).is_none(), "{number}");
+    }
+}
+
+#[test]
+fn literals(rt: HostRuntime) {
+    let var = Var::from_index(4);
+    let lit = Lit::from_var(var, false);
+    assert_eq!(rt; lit, var.negative());
+    assert_eq!(rt; lit, Lit::negative(var));
+    assert_eq!(rt; !lit, Lit::positive(var));
+    assert_eq!(rt; !lit, var.positive());
+    assert_eq!(rt; lit ^ true, var.lit(true));
+    assert_eq!(rt; lit ^ false, Lit::from_index(4, false));
+    assert_eq!(rt; lit.var(), var);
+    assert_eq!(rt; lit.index(), 4);
+    assert!(rt; lit.is_negative());
+    assert!(rt; !lit.is_positive());
+    assert_eq!(rt;
+        lit.map_var(|v| Var::from_index(v.index() / 2)),
+        Lit::from_index(2, false)
+    );
+    assert!(rt; var.positive() < lit);
+    assert!(rt; lit < Var::from_index(5).positive());
+}
+
+#[test]
+fn hashes(rt: HostRuntime) {
+    let one = Var::from_index(0).positive();
+    let two = Var::from_index(1).positive();
+    assert_eq!(rt; lit_hash(one), 0x9e37_79b9_7f4a_7c15);
+    assert_eq!(rt; clause_hash(&[one, two]), 0x4491_1495_0295_082a);
+    assert_eq!(rt; clause_hash(&[two, one]), 0x4491_1495_0295_082a);
+    assert_eq!(rt; clause_hash(&[]), 0);
+}
