@@ -38,3 +38,7 @@ pub mod SearchScan
 pub mod SearchSolving
 pub mod SearchValues
 pub mod Takes
+pub mod Held
+pub mod HeldReading
+pub mod Parts
+pub mod Reading

@@ -1,17 +1,16 @@
 -- Rounds of an ask, and the steps that it writes.
-use Rattle.std.proofs.Common.{ℕ, zero, suc, ◌≡◌, ◌≢◌, ◌+◌, ◌-◌, ◌^◌, ◌<◌, ◌≤◌, ◌⊎◌, inl, inr, Bool, true, false, Option, Some, None, List, [], ◌∷◌, ◌++◌, length, refl, sym, ◌∙◌, ap, subst, arith, append_assoc}
+use Rattle.std.proofs.Common.{ℕ, ◌≡◌, ◌≢◌, ◌+◌, ◌-◌, ◌^◌, ◌≤◌, ◌⊎◌, true, false, Option, Some, None, List, [], ◌∷◌, ◌++◌, refl, sym, ◌∙◌, ap, subst, arith, append_assoc}
 use Rattle.std.specs.List.{AllByRecursion}
 use Rattle.std.specs.Io.KnownBytes.{Appends}
 use Rattle.std.proofs.lemmas.Bool.{false≢true}
 use Rattle.std.proofs.lemmas.List.{append-nil, length-append}
-use Rattle.sat_base.specs.Formats.{Format, Items}
 use Rattle.sat_base.specs.Steps.{Step, AtClause}
 use Rattle.sat_base.specs.StepText.{SpellsStep, SpellsSteps}
 use Rattle.sat_base.specs.Writing.{Written}
 use Rattle.certify.specs.declared.search.propagate.RoundEnd.TheVariants.{Conflict, Model}
 use Rattle.certify.specs.declared.search.solve.Answer.TheVariants.{Sat, Unsat, Unknown}
-use Rattle.certify.specs.Held.{Held, HoldsIn, HoldsSame, HasModel, RoundSays}
-use Rattle.certify.specs.Solved.{NothingHolds, Solves, IsDerived, WritesDerived, conflicts}
+use Rattle.certify.specs.Held.{Held, HoldsSame, RoundSays}
+use Rattle.certify.specs.Solved.{Solves, IsDerived, WritesDerived}
 
 appends_nothing : (a : Option (List ℕ)) → Appends a a []
 appends_nothing None = tt

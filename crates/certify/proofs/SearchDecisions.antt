@@ -1,12 +1,12 @@
 -- Decisions, and how a round ends.
-use Rattle.std.proofs.Common.{ℕ, zero, suc, ◌≡◌, ◌+◌, ◌*◌, ◌/◌, ◌%◌, ◌<◌, ◌≤◌, Bool, true, false, not, cond, ◌||◌, eqb, Option, Some, None, List, [], ◌∷◌, ◌++◌, length, get_or, set, refl, sym, ◌∙◌, ap, subst, arith}
+use Rattle.std.proofs.Common.{ℕ, ◌≡◌, ◌+◌, ◌*◌, ◌%◌, ◌<◌, Bool, true, false, not, cond, ◌||◌, Option, Some, None, List, [], ◌∷◌, ◌++◌, length, get_or, set, refl, sym, ◌∙◌, ap, subst, arith}
 use Rattle.std.specs.List.{All}
-use Rattle.std.proofs.lemmas.Bool.{false≢true, or_parts, or_left, eq-eqb, not-true, cases_Bool, false_from_ne_true, true_from_ne_false}
+use Rattle.std.proofs.lemmas.Bool.{false≢true, or_parts, or_left, eq-eqb, true_from_ne_false}
 use Rattle.std.proofs.lemmas.List.Elements.{recursion_from_All, All-filter, All-head, All-push, All-nil, filter_passes}
 use Rattle.sat_base.specs.Literals.{variable, is_positive, coded}
 use Rattle.sat_base.specs.Clauses.{Valuation, literal_true, clause_true, EachHolds}
-use Rattle.certify.specs.declared.search.look.Look.TheVariants.{Falsified, Opens, Rests}
-use Rattle.certify.specs.Search.{signed, value_of, is_false, is_open, is_true, open_count, not_false, opens_if, verdict, verdict_of, IsBounded, AreBounded, Agrees, Follows, Refutes, IsSettled, valuation_of, AllOpen, AllAssigned, IsLowestOpen, FollowsDenied, Implies}
+use Rattle.certify.specs.declared.search.look.Look.TheVariants.{Rests}
+use Rattle.certify.specs.Search.{signed, value_of, is_false, is_open, is_true, open_count, not_false, verdict, verdict_of, IsBounded, AreBounded, Agrees, Follows, Refutes, IsSettled, valuation_of, AllOpen, AllAssigned, IsLowestOpen, FollowsDenied, Implies}
 use Rattle.certify.proofs.SearchValues.{clause_left, Agrees-set, open_count-set}
 
 pub denied_start : (clauses : List (List ℕ)) (denied : List ℕ) (values : List (Option Bool)) → AllOpen values → FollowsDenied clauses denied values

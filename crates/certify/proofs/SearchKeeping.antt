@@ -1,16 +1,16 @@
 -- Keeping a clause.
-use Rattle.std.proofs.Common.{ℕ, zero, suc, ◌≡◌, ◌≢◌, ◌+◌, ◌-◌, ◌*◌, ◌/◌, ◌%◌, ◌<◌, ◌≤◌, Bool, true, false, not, cond, ◌||◌, eqb, Option, Some, None, List, [], ◌∷◌, ◌++◌, length, get_or, set, refl, sym, ◌∙◌, ap, subst, arith, IsTrue}
-use Rattle.std.specs.List.{All, Contains, dedup}
+use Rattle.std.proofs.Common.{ℕ, zero, suc, ◌≡◌, ◌≢◌, ◌%◌, ◌<◌, Bool, true, false, not, cond, eqb, Option, Some, List, [], ◌∷◌, ◌++◌, length, get_or, set, refl, sym, ◌∙◌, ap, subst, arith}
+use Rattle.std.specs.List.{dedup}
 use Rattle.std.specs.List.Sorted.{IsPermutation, IsSorted}
 use Rattle.std.specs.Ordering.{nat_cmp}
 use Rattle.std.proofs.lemmas.List.Sorted.{Contains-permutation, IsPermutation-sym}
 use Rattle.std.proofs.lemmas.List.Kept.{Contains-dedup_nat, Contains-from_dedup}
 use Rattle.std.proofs.lemmas.Map.Keys.{IsStrictlyIncreasing-dedup}
 use Rattle.std.proofs.lemmas.Bool.{false≢true, or_left, or_right, eq-eqb, ne_eqb, eqb-true, eqb-false}
-use Rattle.std.proofs.lemmas.List.Elements.{All-from_recursion, recursion_from_All, All-push, All-append, All-nil, All-cons}
+use Rattle.std.proofs.lemmas.List.Elements.{All-push}
 use Rattle.sat_base.specs.Literals.{variable, is_positive, negated}
 use Rattle.sat_base.specs.Clauses.{Valuation, literal_true, clause_true, EachHolds}
-use Rattle.certify.specs.Search.{value_of, is_false, IsBounded, AreBounded, Agrees}
+use Rattle.certify.specs.Search.{value_of, is_false, IsBounded, AreBounded}
 use Rattle.certify.specs.Kept.{IsNormalOf, IsTautology, UnitsFollow, Keeps}
 use Rattle.certify.proofs.SearchValues.{Agrees-set, literal_false, sign_from_true, or_false}
 

@@ -1,14 +1,11 @@
 -- Scans over the clauses.
-use Rattle.std.proofs.Common.{ℕ, zero, suc, ◌≡◌, ◌+◌, ◌<◌, ◌≤◌, Bool, true, false, Option, Some, None, List, [], ◌∷◌, length, get_or, set, take, refl, sym, ◌∙◌, ap, subst, arith, MatchBool}
-use Rattle.std.specs.List.{All}
+use Rattle.std.proofs.Common.{ℕ, ◌≡◌, ◌+◌, ◌<◌, ◌≤◌, Bool, true, false, Option, List, [], length, get_or, take, refl, sym, subst, arith, MatchBool}
 use Rattle.std.proofs.lemmas.List.{take_all}
 use Rattle.std.proofs.lemmas.List.Elements.{All-more, All-nil}
-use Rattle.sat_base.specs.Literals.{variable, is_positive}
 use Rattle.certify.specs.declared.search.look.Look.TheVariants.{Falsified, Opens, Rests}
-use Rattle.certify.specs.declared.search.propagate.Met.{Met}
 use Rattle.certify.specs.declared.search.propagate.Met.TheVariants.{Conflict, Assigned, Nothing}
-use Rattle.certify.specs.Search.{open_count, verdict, IsBounded, AreBounded, Follows, Refutes, IsSettled}
-use Rattle.certify.specs.SearchSays.{MetSays, ScanSays}
+use Rattle.certify.specs.Search.{open_count, verdict, AreBounded, Follows, Refutes, IsSettled}
+use Rattle.certify.specs.SearchSays.{MetSays}
 use Rattle.certify.proofs.SearchValues.{Refutes-falsified, Follows-opened, Follows-itself, Follows-further, opened_fewer}
 
 -- what is known of a scan that has come to this place

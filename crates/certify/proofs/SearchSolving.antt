@@ -1,14 +1,14 @@
 -- The solver's calls.
-use Rattle.std.proofs.Common.{ℕ, zero, suc, ◌≡◌, ◌≢◌, ◌+◌, ◌<◌, ◌≤◌, Bool, true, false, Option, Some, None, List, [], ◌∷◌, ◌++◌, length, get_or, refl, sym, ◌∙◌, ap, subst, arith, ◌⊎◌, inl, inr}
-use Rattle.std.specs.List.{All, Contains}
-use Rattle.std.proofs.lemmas.Bool.{cases_lt, or_cases, false≢true}
-use Rattle.std.proofs.lemmas.List.{get_or_append_left, get_or_past, get_or-append_right, get_or_default}
+use Rattle.std.proofs.Common.{ℕ, zero, suc, ◌≡◌, ◌<◌, ◌≤◌, Bool, true, false, Option, Some, None, List, [], ◌∷◌, ◌++◌, length, get_or, refl, sym, ◌∙◌, ap, subst, arith, inl, inr}
+use Rattle.std.specs.List.{Contains}
+use Rattle.std.proofs.lemmas.Bool.{or_cases, false≢true}
+use Rattle.std.proofs.lemmas.List.{get_or_default}
 use Rattle.std.proofs.lemmas.List.Elements.{All-weaker, All-nil, All-contains, Contains-get_or}
 use Rattle.sat_base.specs.Literals.{variable}
 use Rattle.sat_base.specs.Clauses.{Valuation, literal_true, clause_true, EachHolds}
-use Rattle.certify.specs.Search.{IsBounded, AreBounded, Agrees, Implies, AllAssigned, valuation_of}
+use Rattle.certify.specs.Search.{IsBounded, AreBounded, Implies, AllAssigned, valuation_of}
 use Rattle.certify.specs.Kept.{IsNormalOf, UnitsFollow, Keeps}
-use Rattle.certify.specs.Held.{Held, HoldsIn, TakesClause, HoldsSame, HasModel}
+use Rattle.certify.specs.Held.{Held, TakesClause, HoldsSame, HasModel}
 use Rattle.certify.proofs.SearchKeeping.{true_at}
 
 pub none_follow : (clauses : List (List ℕ)) (units : List (Option Bool)) → units ≡ [] → UnitsFollow clauses units

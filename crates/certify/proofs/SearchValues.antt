@@ -1,15 +1,14 @@
 -- Values, and the valuations that agree with them.
-use Rattle.std.proofs.Common.{ℕ, zero, suc, ◌≡◌, ◌≢◌, ◌+◌, ◌*◌, ◌/◌, ◌%◌, ◌<◌, ◌≤◌, Bool, true, false, not, cond, ◌||◌, eqb, Option, Some, None, List, [], ◌∷◌, ◌++◌, length, get_or, set, take, refl, sym, ◌∙◌, ap, subst, arith, ◌⊎◌, inl, inr}
-use Rattle.std.specs.List.{All, AllByRecursion}
-use Rattle.std.proofs.lemmas.Bool.{false≢true, true≢false, cases_eq, cases_lt, eq-eqb, or_parts, cases_Bool, cond-true}
+use Rattle.std.proofs.Common.{ℕ, ◌≡◌, ◌<◌, ◌≤◌, Bool, true, false, not, cond, ◌||◌, Option, Some, None, List, [], ◌∷◌, length, get_or, set, refl, sym, ◌∙◌, ap, subst, arith, inl, inr}
+use Rattle.std.specs.List.{All}
+use Rattle.std.proofs.lemmas.Bool.{false≢true, cases_eq, cases_lt}
 use Rattle.std.proofs.lemmas.List.{get_or-set_same, get_or-set_other, set_past}
 use Rattle.std.proofs.lemmas.List.Sums.{sum_by-set}
-use Rattle.std.proofs.lemmas.List.Elements.{All-from_recursion, recursion_from_All, All-filter, All-head}
+use Rattle.std.proofs.lemmas.List.Elements.{All-from_recursion, All-filter, All-head}
 use Rattle.sat_base.specs.Literals.{variable, is_positive}
 use Rattle.sat_base.specs.Clauses.{Valuation, literal_true, clause_true, EachHolds}
-use Rattle.certify.specs.declared.search.look.Look.{Look}
-use Rattle.certify.specs.declared.search.look.Look.TheVariants.{Falsified, Opens, Rests}
-use Rattle.certify.specs.Search.{signed, value_of, is_false, is_open, is_true, open_count, not_false, opens_if, verdict, verdict_of, IsBounded, AreBounded, Agrees, Follows, Refutes, IsSettled, valuation_of, AllOpen, AllAssigned, FollowsDenied, Implies}
+use Rattle.certify.specs.declared.search.look.Look.TheVariants.{Falsified, Opens}
+use Rattle.certify.specs.Search.{signed, value_of, is_false, is_open, open_count, not_false, opens_if, verdict, verdict_of, IsBounded, Agrees, Follows, Refutes}
 
 false_by_sign : (o : Option Bool) (p t : Bool) → ((b : Bool) → o ≡ Some b → t ≡ b) → is_false (signed p o) ≡ true → cond p t (not t) ≡ false
 false_by_sign None p t h e = absurd (false≢true e)

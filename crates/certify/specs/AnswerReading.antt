@@ -27,6 +27,7 @@ second_line (Sat line) = v_line line
 second_line (Unsat core) = f_line core
 second_line Unknown = []
 
+-- is there one?
 abbrev pub HasLine : AnswerKind → Type 0
 HasLine kind.Unknown = ⊥
 HasLine k = Unit {0}

@@ -1,5 +1,5 @@
 -- How a clause is written and kept.
-use Rattle.std.specs.Prelude.{ℕ, ◌≡◌, Bool, true, false, Option, List, IsTrue}
+use Rattle.std.specs.Prelude.{ℕ, ◌≡◌, Bool, true, false, Option, List}
 use Rattle.std.specs.List.{Contains}
 use Rattle.std.specs.List.Sorted.{IsStrictlyIncreasing}
 use Rattle.sat_base.specs.Clauses.{Valuation, clause_true, EachHolds}

@@ -3,7 +3,7 @@ use Rattle.std.specs.Prelude.{ℕ, ◌+◌, ◌≤◌, ◌<◌, length, ◌≡�
 use Rattle.std.specs.List.{AllByRecursion}
 use Rattle.sat_base.specs.Literals.{largest, variable}
 use Rattle.sat_base.specs.Clauses.{Valuation, literal_true, EachHolds}
-use Rattle.sat_base.specs.Script.{Literal, Command, Ask, Ending, Among}
+use Rattle.sat_base.specs.Script.{Literal, Command, Ask, Ending, Among, names_of}
 use Rattle.sat_base.specs.Judge.{Judge, Named, IsRightModel, IsRightCore, with_clause, accepted, accepted_of, after_script, start, identity_of, over}
 use Rattle.sat_base.specs.Steps.{Step}
 use Rattle.certify.specs.Answers.{Outcome, Sat, Unsat, Unknown, answers_text}
@@ -15,11 +15,14 @@ use Rattle.certify.specs.TheChecking.{the_checking}
 abbrev pub NotBoth : Type 0
 NotBoth = (j : Judge) (ask line core : List Literal) → IsRightModel j ask line → IsRightCore j ask core → ⊥
 
--- a literal more that is there already changes nothing
+-- clauses of the same literals, in whatever order and however often, hold under the same valuations
 abbrev pub RepeatChangesNothing : Type 0
-RepeatChangesNothing = (j : Judge) (l : Literal) (ls : List Literal) (a : Valuation) → Among l ls → EachHolds a (with_clause (l ∷ ls) j).clauses ↔ EachHolds a (with_clause ls j).clauses
+RepeatChangesNothing =
+    (j : Judge) (ls ks : List Literal) (a : Valuation)
+    → AllByRecursion (λ l. Among l ks) ls → AllByRecursion (λ l. Among l ls) ks
+    → EachHolds a (with_clause ls j).clauses ↔ EachHolds a (with_clause ks j).clauses
 
--- nor does a clause with both signs of a name
+-- a clause with both signs of a name changes nothing
 abbrev pub TautologyChangesNothing : Type 0
 TautologyChangesNothing =
     (j : Judge) (name : ℕ) (ls : List Literal) (a : Valuation)
@@ -29,6 +32,10 @@ TautologyChangesNothing =
 -- an ask leaves the clauses as they were
 abbrev pub AskBindsNothing : Type 0
 AskBindsNothing = (j : Judge) (ls : List Literal) → (accepted (Ask ls) j).clauses ≡ j.clauses
+
+-- of an ask, only the names that it brings in count for what comes behind it
+abbrev pub AskLeavesNames : Type 0
+AskLeavesNames = (j : Judge) (ls ks : List Literal) → names_of ls ≡ names_of ks → accepted (Ask ls) j ≡ accepted (Ask ks) j
 
 -- no name past the limit
 abbrev pub Prints : Outcome → Type 0

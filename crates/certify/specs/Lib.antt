@@ -27,3 +27,6 @@ pub mod Search
 pub mod SearchSays
 pub mod Solved
 pub mod SolverView
+pub mod Holding
+pub mod ScriptParts
+pub mod ScriptReading

@@ -1,5 +1,5 @@
 -- What the answers of a search say.
-use Rattle.std.specs.Prelude.{ℕ, ◌≡◌, ◌<◌, Bool, true, false, Option, Some, List, length, slice_set}
+use Rattle.std.specs.Prelude.{ℕ, ◌≡◌, ◌<◌, Bool, true, false, Option, Some, List, slice_set}
 use Rattle.sat_base.specs.Literals.{variable, is_positive}
 use Rattle.sat_base.specs.Clauses.{EachHolds}
 use Rattle.certify.specs.declared.search.look.Look.TheVariants.{Falsified, Opens, Rests}
@@ -7,7 +7,7 @@ use Rattle.certify.specs.declared.search.propagate.Met.{Met}
 use Rattle.certify.specs.declared.search.propagate.Met.TheVariants.{Conflict, Assigned, Nothing}
 use Rattle.certify.specs.declared.search.propagate.RoundEnd.{RoundEnd}
 use Rattle.certify.specs.declared.search.propagate.RoundEnd.TheVariants as end
-use Rattle.certify.specs.Search.{verdict, open_count, Refutes, IsSettled, Implies, IsBounded, AllAssigned, valuation_of}
+use Rattle.certify.specs.Search.{verdict, open_count, Refutes, IsSettled, Implies, AllAssigned, valuation_of}
 
 -- how a clause was met
 abbrev pub MetSays : Met → List ℕ → List (Option Bool) → List (Option Bool) → Type 0

@@ -1,5 +1,5 @@
 -- The solver's parts.
-use Rattle.std.specs.Prelude.{ℕ, ◌≡◌, ◌≤◌, length}
+use Rattle.std.specs.Prelude.{◌≡◌, ◌≤◌, length}
 use Rattle.sat_base.specs.Literals.{largest}
 use Rattle.certify.specs.declared.search.Solver.TheInside.{Inside}
 use Rattle.certify.specs.Held.{Held}

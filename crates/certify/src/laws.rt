@@ -1,5 +1,5 @@
 //! What holds of the answers, of matching and of the list checker: each law is the contract of a function that does nothing.
-ghost use Rattle.certify.specs.Laws.{AskBindsNothing, GivenIdentitiesSuffice, JudgeIsKept, MatchingIsRight, NotBoth, RepeatChangesNothing, TautologyChangesNothing, TextsTellOutcomes, TextsThatMatchAreRight};
+ghost use Rattle.certify.specs.Laws.{AskBindsNothing, AskLeavesNames, GivenIdentitiesSuffice, JudgeIsKept, MatchingIsRight, NotBoth, RepeatChangesNothing, TautologyChangesNothing, TextsTellOutcomes, TextsThatMatchAreRight};
 ghost use Rattle.certify.specs.Checking.{IsSound};
 ghost use Rattle.certify.specs.TheChecking.{the_checking};
 ghost use Rattle.certify.specs.Rows.{AnswersTwice, AskAloneText, ClauseAndAskExpected, ClauseAndAskMatches, ClauseAndAskRight, ClauseAndAskSteps, ClauseAndAskText, EmptyMatches, EmptyText, EndAlone, HiddenAndBackExpected, HiddenAndBackState, HiddenAtOnceState, LeftmostRefuses, MalformedText, NameOnOldVariable, NoAnswers, TwoUnitsMatches, TwoUnitsRight, TwoUnitsSteps, WitnessRefusedText, WitnessRefusesAsk};
@@ -26,9 +26,10 @@ pub fn clauses_as_sets()
     ensures tautology { TautologyChangesNothing }
 {}
 
-/// The literals of an ask bind no later one.
+/// The literals of an ask bind no later one: only the names that they brought in stay.
 pub fn ask_binds_nothing()
-    ensures { AskBindsNothing }
+    ensures clauses { AskBindsNothing }
+    ensures names { AskLeavesNames }
 {}
 
 /// After every script, names in use increase and stay within the limit, and each identity has a mode.

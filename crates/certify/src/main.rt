@@ -3,7 +3,9 @@
 
 pub mod answers;
 pub mod checker;
+pub mod law_script;
 pub mod laws;
+pub mod script;
 mod search;
 
 fn main() {}

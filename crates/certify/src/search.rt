@@ -10,7 +10,7 @@ mod clause_list;
 mod keep;
 mod look;
 mod propagate;
-mod solve;
+pub(crate) mod solve;
 #[cfg(test)]
 mod tests;
 
@@ -108,7 +108,7 @@ impl Solver {
 
     /// The value of a variable in the last round.
     pub(crate) fn value(&self, var: Var) -> Option<bool>
-        requires { var < length self.now.values }
+        requires { var < self.now.var_count }
         ensures { result ≡ slice_index_or self.now.values var None }
     {
         self.values[var.index()]

@@ -210,3 +210,15 @@ one_step x y a b s t h k e =
     let g : tag_of x ≡ tag_of y = cc in
     let p = fields_one x y h.0 k.0 s t g h.2 k.2 (let q : h.0 ++ s ≡ k.0 ++ t = cc in q) in
     (h.1 ∙ ap (λ (z : List ℕ). tag_of x ∷ z) p.0 ∙ ap (λ (n : ℕ). n ∷ k.0) g ∙ sym k.1, p.1)
+
+-- a text of steps is one list of steps
+pub one_reading : (xs ys : List Step) (text : List ℕ) → SpellsSteps xs text → SpellsSteps ys text → xs ≡ ys
+one_reading [] [] text h k = refl
+one_reading [] (y ∷ ys) text h k = let e : [] ≡ tag_of y ∷ (k.2.0 ++ k.1) = sym h ∙ k.4 ∙ ap (λ (z : List ℕ). z ++ k.1) k.2.1 in cc
+one_reading (x ∷ xs) [] text h k = let e : [] ≡ tag_of x ∷ (h.2.0 ++ h.1) = sym k ∙ h.4 ∙ ap (λ (z : List ℕ). z ++ h.1) h.2.1 in cc
+one_reading (x ∷ xs) (y ∷ ys) text h k =
+    let u : h.0 ++ h.1 ≡ k.0 ++ k.1 = sym h.4 ∙ k.4 in
+    let p = one_step x y h.0 k.0 h.1 k.1 h.2 k.2 u in
+    let v : h.1 ≡ k.1 = cancel h.0 h.1 k.1 (u ∙ ap (λ (z : List ℕ). z ++ k.1) (sym p.0)) in
+    let q = one_reading xs ys h.1 h.3 (subst (SpellsSteps ys) (sym v) k.3) in
+    ap (λ (z : Step). z ∷ xs) p.1 ∙ ap (λ (z : List Step). y ∷ z) q

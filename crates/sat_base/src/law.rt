@@ -1,8 +1,15 @@
 //! Laws of the steps' bytes.
 ghost use Rattle.sat_base.specs.Formats.{OneForm};
-ghost use Rattle.sat_base.specs.StepText.{SpellsStep};
+ghost use Rattle.std.specs.Prelude.{◌≡◌, ℕ, List};
+ghost use Rattle.sat_base.specs.Steps.{Step};
+ghost use Rattle.sat_base.specs.StepText.{SpellsStep, SpellsSteps};
 
-/// No step's text begins another's, and no text has two steps. So a text of steps is read in one way, whatever follows.
+/// No step's text begins another's, and no text has two steps.
 pub fn steps_have_one_form()
     ensures { OneForm SpellsStep }
+{}
+
+/// A text of steps is that of one list of steps.
+pub fn texts_are_read_one_way()
+    ensures { (xs ys : List Step) (text : List ℕ) → SpellsSteps xs text → SpellsSteps ys text → xs ≡ ys }
 {}

@@ -1,6 +1,6 @@
 //! Reads answers, line by line, from the front of their bytes. What isn't in form to the byte is refused:
 //! single spaces, no leading zeros, each line ended by LF, names from 1 to 2^28 in their order.
-ghost use Rattle.std.specs.Prelude.{◌≡◌, ◌++◌, ◌∷◌, [], ◌+◌, ◌*◌, ◌<◌, ◌≤◌, decimal, map, MatchBool, MatchOption, MatchResult, List, ℕ};
+ghost use Rattle.std.specs.Prelude.{◌≡◌, ◌++◌, ◌∷◌, [], ◌*◌, ◌<◌, ◌≤◌, decimal, MatchBool, MatchOption, MatchResult, List, ℕ};
 ghost use Rattle.certify.specs.Answers.{literals_text, outcome_text, word_of};
 ghost use Rattle.certify.specs.AnswerForms.{HaveNames, IsInForm, IsName, IsOrdered, named_literal, named_literals};
 ghost use Rattle.certify.specs.AnswerReading.{NoDigit, NoName, NoLiteral, NoLiterals, NoKind, NoLine, NoOutcome, HasLine, IsHead, digits_so_far, first_line, outcome_of, second_line, place_in};
@@ -8,6 +8,7 @@ ghost use Rattle.sat_base.specs.Literals.{largest};
 
 use sat_base::{Lit, Var};
 use std::alloc::AllocFailed;
+use thiserror::Error;
 
 /// What an answer says of its ask.
 #[derive(Clone, Copy, Debug, Drop, PartialEq, Eq)]
@@ -20,12 +21,15 @@ pub enum AnswerKind {
 }
 
 /// Why no answer was read.
-#[derive(Clone, Copy, Debug, Drop, PartialEq, Eq)]
+#[derive(Clone, Copy, Debug, Drop, PartialEq, Eq, Error)]
 pub enum AnswerFault {
     /// The bytes are over where a line is due.
+    #[error("a line of the answers is missing")]
     Missing,
-    /// The bytes aren't the line that is due, in form.
+    /// The bytes aren't a line of an answer, in form.
+    #[error("the answers have a line that isn't in form")]
     Text,
+    #[error("out of memory")]
     OutOfMemory,
 }
 
@@ -177,7 +181,7 @@ fn read_list<'a>(
 }
 
 /// Reads the second line of an answer of this kind, leaves its literals in `line`, and answers what is behind it.
-/// An unknown answer has no second line: nothing is read, and `line` is left empty.
+/// An unknown answer has no second line: nothing is read, and `line` is left empty. After a fault `line` may hold anything.
 pub fn read_line<'a>(
     kind: AnswerKind,
     bytes: &'a [u8],
@@ -196,6 +200,7 @@ pub fn read_line<'a>(
 }
 
 /// Reads an answer, leaves the literals of its `v` or `f` line in `line`, and answers its kind and what is behind it.
+/// The memory of `line` is used again from answer to answer. After a fault it may hold anything.
 pub fn read_outcome<'a>(
     bytes: &'a [u8],
     line: &mut Vec<Lit>,

@@ -1,6 +1,6 @@
 //! Writes answers, line by line, behind the bytes of a buffer.
 //! A name is written as its number, which is one more than the index of its variable.
-ghost use Rattle.std.specs.Prelude.{◌≡◌, ◌++◌, ◌∷◌, [], decimal, OnOk, map};
+ghost use Rattle.std.specs.Prelude.{◌≡◌, ◌++◌, decimal, OnOk};
 ghost use Rattle.certify.specs.Answers.{Sat, Unsat, Unknown, literals_text, malformed_line, outcome_text, refused_line, word_of};
 ghost use Rattle.certify.specs.AnswerForms.{named_literal, named_literals};
 ghost use Rattle.sat_base.specs.Judge.{PastLimit};

@@ -1,5 +1,4 @@
-use Rattle.std.proofs.Common.{◌≡◌, ◌∙◌, refl, sym, ap, subst}
-use Rattle.certify.specs.declared.search.propagate.RoundEnd.TheVariants.{Conflict}
+use Rattle.std.proofs.Common.{◌∙◌, refl, ap, subst}
 use Rattle.certify.specs.Held.{Held}
 use Rattle.certify.specs.SolverView.{held_of}
 use Rattle.certify.specs.SearchSays.{EndSays}

@@ -1,4 +1,4 @@
-use Rattle.std.proofs.Common.{◌≡◌, ◌<◌, List, [], length, get_or, subst, arith}
+use Rattle.std.proofs.Common.{◌≡◌, ◌<◌, length, subst, arith}
 use Rattle.certify.specs.Search.{AreBounded}
 use Rattle.certify.proofs.SearchScan.{scan_assigned, scan_nothing, scan_conflict}
 use Rattle.certify.proofs.search.propagate.scan.Goals as goal

@@ -1,0 +1,21 @@
+use Rattle.std.proofs.Common.{◌≡◌, ◌+◌, ◌∙◌, ◌++◌, List, [], ℕ, Bool, false, subst, take, drop, get_or, arith}
+use Rattle.sat_base.specs.Script.{Reading, reading}
+use Rattle.certify.specs.Holding.{held_reading}
+use Rattle.certify.specs.ScriptReading.{TakesByte, Means}
+use Rattle.certify.proofs.Reading.{reached_stop, reached_end, split_at, if_ok}
+use Rattle.certify.proofs.script.reader.parse.Goals as goal
+
+pub returns-then-not-branch : goal.returns-then-not-branch
+returns-then-not-branch c =
+    let i = c.loop-byte.byte-index in
+    let xs = c.args.text.now in
+    let old = c.loop-byte.parser in
+    let new = c.push.new.self in
+    let t : TakesByte false old (get_or xs i 0) new = subst (λ (b : Bool). TakesByte b old (get_or xs i 0) new) c.if-not-branch.true c.in_ok-push.ensures in
+    c.into_script.ensures ∙ reached_stop (take i xs) (get_or xs i 0) (drop (i + 1) xs) xs old new (split_at xs i (omega arith)) c.loop-byte.invariant t
+
+pub returns : goal.returns
+returns c =
+    let i = c.loop-byte.byte-index in
+    let xs = c.args.text.now in
+    if_ok c.finish.result _ _ (λ (s : Reading) (h : (before : List ℕ → Reading) → Means c.loop-byte.parser before → s ≡ before []). h (λ rest. held_reading (reading (take i xs ++ rest))) c.loop-byte.invariant ∙ reached_end xs i (omega arith)) c.finish.ensures

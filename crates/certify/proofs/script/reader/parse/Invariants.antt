@@ -1,0 +1,6 @@
+use Rattle.std.proofs.Common.{take}
+use Rattle.certify.proofs.Reading.{Reached}
+use Rattle.certify.proofs.script.reader.parse.Given as goal
+
+abbrev pub invariant-loop-byte : goal.invariant-loop-byte
+invariant-loop-byte l = Reached (take l.byte-index l.text) l.parser

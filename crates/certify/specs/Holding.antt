@@ -1,0 +1,29 @@
+-- Names that are held at one above the largest, which no command with a larger one notices.
+use Rattle.std.specs.Prelude.{ℕ, ◌+◌, ◌≡◌, min, None, List, map}
+use Rattle.sat_base.specs.Literals.{largest}
+use Rattle.sat_base.specs.Script.{Literal, Command, Clause, Ask, Hide, Witness, Sample, Reading}
+use Rattle.sat_base.specs.Judge.{Judge, refusal_of, accepted_of, after_command, after_script}
+
+abbrev pub held_name : ℕ → ℕ
+held_name name = min name (largest + 1)
+
+abbrev pub held_literal : Literal → Literal
+held_literal l = record { name = held_name l.name; positive = l.positive }
+
+abbrev pub held_command : Command → Command
+held_command (Clause ls) = Clause (map held_literal ls)
+held_command (Ask ls) = Ask (map held_literal ls)
+held_command (Hide names) = Hide (map held_name names)
+held_command (Witness names) = Witness (map held_name names)
+held_command (Sample names) = Sample (map held_name names)
+
+abbrev pub held_reading : Reading → Reading
+held_reading reading = (map held_command reading.0, reading.1)
+
+-- why a command is refused, which commands are accepted, and what they leave, all stay as they are
+pub record HoldingIsFree : Type 0 where
+  pub refusals : (j : Judge) (c : Command) → refusal_of j (held_command c) ≡ refusal_of j c
+  pub unheld : (j : Judge) (c : Command) → refusal_of j c ≡ None → held_command c ≡ c
+  pub states : (j : Judge) (c : Command) → after_command (held_command c) j ≡ after_command c j
+  pub scripts : (j : Judge) (cs : List Command) → after_script (map held_command cs) j ≡ after_script cs j
+  pub acceptance : (j : Judge) (cs : List Command) → accepted_of j (map held_command cs) ≡ accepted_of j cs

@@ -1,0 +1,82 @@
+-- How a reader of scripts stands in a text, and what a token or a byte makes of it.
+use Rattle.std.specs.Prelude.{◌≡◌, ℕ, Bool, true, false, List, [], ◌∷◌, ◌++◌, map, length}
+use Rattle.certify.specs.declared.script.reader.Hand.{Hand as CodeHand}
+use Rattle.certify.specs.declared.script.reader.Hand.TheVariants as at
+use Rattle.certify.specs.declared.script.reader.Commands.{Commands}
+use Rattle.certify.specs.declared.script.reader.Parser.{Parser}
+use Rattle.certify.specs.ScriptParts.{commands_in, literals_behind, AreParts}
+use Rattle.certify.specs.Holding.{held_name}
+use Rattle.sat_base.specs.declared.text.Token.{Token as CodeToken}
+use Rattle.sat_base.specs.declared.text.Token.TheVariants as code
+use Rattle.sat_base.specs.Text.{Token, Number, Letter, Wrong, Scan}
+use Rattle.sat_base.specs.Tokenizing.{Stands}
+use Rattle.sat_base.specs.Chunks.{Follows}
+use Rattle.sat_base.specs.Script.{Literal, Command, Malformed, Hand, Nothing, InClause, InAsk, Turn, GoesOn, Fails, command_in, Reading, onto_commands, commands_of, spoken}
+
+-- a token with its name held
+abbrev pub held_token : Token → Token
+held_token (Number negative value) = Number negative (held_name value)
+held_token (Letter b) = Letter b
+held_token Wrong = Wrong
+
+-- so is a token of the code
+abbrev pub token_of : CodeToken → Token
+token_of (code.Number negative value) = Number negative (held_name value)
+token_of (code.Letter b) = Letter b
+token_of code.Wrong = Wrong
+
+abbrev pub hand_of : CodeHand → List Literal → Hand
+hand_of at.Nothing ls = Nothing
+hand_of at.Clause ls = InClause ls
+hand_of at.Ask ls = InAsk ls
+
+-- the commands that were read
+abbrev pub commands_read : Commands → List Command
+commands_read commands = commands_in 0 commands.parts.items commands.literals.items
+
+-- the literals behind them
+abbrev pub literals_left : Commands → List Literal
+literals_left commands = literals_behind 0 commands.parts.items commands.literals.items
+
+-- what is in hand
+abbrev pub hand_in : Commands → Hand
+hand_in commands = hand_of commands.hand (literals_left commands)
+
+-- the parts fit the literals, and with nothing in hand none is left
+pub record AreCommands (commands : Commands) : Type 0 where
+  pub parts : AreParts 0 commands.parts.items (length commands.literals.items)
+  pub nothing : commands.hand ≡ at.Nothing → literals_left commands ≡ []
+
+-- A literal or a letter leaves the commands as they are; it goes on with what is then in hand, or may not stand there.
+abbrev pub Turns : Bool → Turn → Commands → Commands → Type 0
+Turns true t old new = AreCommands new × (commands_read new ≡ commands_read old) × (t ≡ GoesOn (hand_in new))
+Turns false t old new = AreCommands new × (commands_read new ≡ commands_read old) × (t ≡ Fails)
+
+-- the command in hand is read
+abbrev pub EndsCommand : Commands → Commands → Type 0
+EndsCommand old new = AreCommands new × (commands_read new ≡ commands_read old ++ command_in (hand_in old) ∷ []) × (hand_in new ≡ Nothing)
+
+-- what is read where these tokens are to come
+abbrev pub meaning : Commands → List Token → Reading
+meaning commands ts = onto_commands (commands_read commands) (commands_of (hand_in commands) ts)
+
+-- what a token leaves: what it and any others mean is what the others then mean, or the text is malformed
+abbrev pub TakesToken : Bool → Commands → Token → Commands → Type 0
+TakesToken true old t new = AreCommands new × ((ts : List Token) → meaning old (t ∷ ts) ≡ meaning new ts)
+TakesToken false old t new = AreCommands new × ((ts : List Token) → meaning old (t ∷ ts) ≡ (commands_read new, Malformed))
+
+abbrev pub held_tokens : Scan → List Token
+held_tokens left = map held_token (spoken left.tokens)
+
+-- the parser stands at a place of a text: `reading_of` says what the text means, whatever bytes come
+pub record Means (parser : Parser) (reading_of : List ℕ → Reading) : Type 0 where
+  pub commands : AreCommands parser.commands
+  pub left_of : List ℕ → Scan
+  pub stands : Stands parser.tokenizer left_of
+  pub reads : (rest : List ℕ) → reading_of rest ≡ meaning parser.commands (held_tokens (left_of rest))
+
+-- what a byte leaves
+abbrev pub TakesByte : Bool → Parser → ℕ → Parser → Type 0
+TakesByte true old byte new = Follows Means old (byte ∷ []) new
+TakesByte false old byte new = AreCommands new.commands
+    × ((before : List ℕ → Reading) → Means old before → (rest : List ℕ) → before (byte ∷ rest) ≡ (commands_read new.commands, Malformed))

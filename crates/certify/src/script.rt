@@ -1,0 +1,136 @@
+//! Scripts: the commands of a text.
+ghost use Rattle.std.specs.Prelude.{◌≡◌, ◌<◌, ◌↔◌, IsTrue, [], length, slice_get, vec_len};
+ghost use Rattle.sat_base.specs.Script.{Malformed};
+ghost use Rattle.certify.specs.ScriptParts.{commands_in, end_of, AreParts, start_of, shown};
+
+mod reader;
+#[cfg(test)]
+mod tests;
+
+pub use reader::read_script;
+use std::marker::Model;
+
+/// A name, counted from 1, and a sign. Names past 2^28 are held at 2^28+1.
+#[derive(Clone, Copy, Debug, PartialEq, Eq)]
+pub struct Literal {
+    pub name: u32,
+    pub positive: bool,
+}
+
+impl Model for Literal {
+    ghost use Rattle.sat_base.specs.Script.{Literal as Spelled};
+
+    ghost Value = { Spelled };
+
+    ghost view = { λ l. record { name = l.name; positive = l.positive } };
+
+    ghost inverse = { λ l. record { name = l.name; positive = l.positive } };
+}
+
+#[derive(Clone, Copy, Debug)]
+enum Kind {
+    Clause,
+    Ask,
+}
+
+/// A command's kind, and where its literals end. They begin where those of the command before it end.
+#[derive(Clone, Copy, Debug)]
+struct Part {
+    kind: Kind,
+    end: usize,
+}
+
+/// A command, with its literals lent.
+#[derive(Clone, Copy, Debug)]
+pub enum Command<'a> {
+    /// The literals are a clause; without one it is false.
+    Clause(&'a [Literal]),
+    /// The clauses so far are asked, under these literals.
+    Ask(&'a [Literal]),
+}
+
+/// The commands of a text and its end, which contracts see as these two.
+#[derive(Drop)]
+pub struct Script {
+    literals: Vec<Literal>,
+    parts: Vec<Part>,
+    malformed: bool,
+}
+
+impl Model for Script {
+    ghost use Rattle.sat_base.specs.Script.{Reading};
+
+    ghost Value = { Reading };
+
+    ghost use Rattle.std.specs.Prelude.{length};
+    ghost use Rattle.certify.specs.ScriptParts.{commands_in, end_of, AreParts};
+
+    ghost view = { λ s. (commands_in 0 s.parts.items s.literals.items, end_of s.malformed) };
+
+    ghost invariant = { λ s. AreParts 0 s.parts.items (length s.literals.items) };
+}
+
+impl Script {
+    /// The script of these commands.
+    fn new(literals: Vec<Literal>, parts: Vec<Part>, malformed: bool) -> Script
+        requires { AreParts 0 parts.items (vec_len literals) }
+        ensures { result ≡ (commands_in 0 parts.items literals.items, end_of malformed) }
+    {
+        Script {
+            literals,
+            parts,
+            malformed,
+        }
+    }
+
+    /// How many commands there are.
+    pub fn len(&self) -> usize
+        ensures { result ≡ length self.now.0 }
+    {
+        self.parts.len()
+    }
+
+    pub fn is_empty(&self) -> bool
+        ensures { IsTrue result ↔ (self.now.0 ≡ []) }
+    {
+        self.parts.is_empty()
+    }
+
+    /// The command at this index, from 0.
+    pub fn command(&self, index: usize) -> Command<'_>
+        requires { index < length self.now.0 }
+        ensures { slice_get self.now.0 index ≡ Some (shown result) }
+    {
+        command_at(&self.literals, &self.parts, index)
+    }
+
+    /// Whether the text is malformed behind these commands.
+    pub fn is_malformed(&self) -> bool
+        ensures { IsTrue result ↔ (self.now.1 ≡ Malformed) }
+    {
+        self.malformed
+    }
+}
+
+/// Where the literals of a part begin.
+fn start_of(parts: &[Part], index: usize) -> usize
+    requires { index < length parts.now }
+    ensures { result ≡ start_of 0 parts.now index }
+{
+    if index == 0 { 0 } else { parts[index - 1].end }
+}
+
+/// The command of a part.
+fn command_at<'a>(literals: &'a [Literal], parts: &[Part], index: usize) -> Command<'a>
+    requires index { index < length parts.now }
+    requires parts { AreParts 0 parts.now (length literals.now) }
+    ensures { slice_get (commands_in 0 parts.now literals.now) index ≡ Some (shown result) }
+{
+    let start = start_of(parts, index);
+    let end = parts[index].end;
+    let literals = &literals[start..end];
+    match parts[index].kind {
+        Kind::Clause => Command::Clause(literals),
+        Kind::Ask => Command::Ask(literals),
+    }
+}

@@ -1,0 +1,216 @@
+//! Reading scripts.
+ghost use Rattle.std.specs.Prelude.{◌≡◌, ◌+◌, ◌<◌, ◌⊎◌, ℕ, List, [], IfOk, OnOk, IfSome, IsErrOf};
+ghost use Rattle.std.specs.Io.KnownBytes.{IsAtEnd};
+ghost use Rattle.sat_base.specs.Device.{most_reads};
+ghost use Rattle.sat_base.specs.Text.{Token as SpelledToken};
+ghost use Rattle.sat_base.specs.Script.{Literal as Spelled, Reading, Nothing, command_in, with_literal, with_letter, at_end, commands_of, reading};
+ghost use Rattle.certify.specs.Holding.{held_reading};
+ghost use Rattle.certify.specs.ScriptParts.{command_of, end_of};
+ghost use Rattle.certify.specs.ScriptReading.{token_of, hand_of, commands_read, hand_in, AreCommands, Turns, EndsCommand, meaning, TakesToken, Means, TakesByte};
+
+use super::{Kind, Literal, Part, Script};
+use sat_base::{CountedRead, ReadError, Token, Tokenizer, read_whole};
+use std::alloc::{AllocError, Global};
+
+/// The largest name.
+const LARGEST: u64 = 1 << 28;
+
+/// What is in hand between two words.
+#[derive(Clone, Copy, Debug)]
+enum Hand {
+    Nothing,
+    Clause,
+    Ask,
+}
+
+/// The commands that were read, and behind their literals those in hand.
+#[derive(Drop)]
+struct Commands {
+    literals: Vec<Literal>,
+    parts: Vec<Part>,
+    hand: Hand,
+}
+
+/// A reader of a script that is fed byte by byte.
+#[derive(Drop)]
+struct Parser {
+    tokenizer: Tokenizer,
+    commands: Commands,
+}
+
+/// The kind of the command in hand, where a zero ends it.
+fn kind_of(hand: Hand) -> Kind
+    ensures { (ls : List Spelled) → (hand ≡ Hand.Nothing → ls ≡ []) → command_of result ls ≡ command_in (hand_of hand ls) }
+{
+    match hand {
+        Hand::Nothing => Kind::Clause,
+        Hand::Clause => Kind::Clause,
+        Hand::Ask => Kind::Ask,
+    }
+}
+
+impl Commands {
+    fn new(alloc: Global) -> Commands
+        ensures commands { AreCommands result }
+        ensures none { (ts : List SpelledToken) → meaning result ts ≡ commands_of Nothing ts }
+    {
+        Commands {
+            literals: Vec::new(alloc),
+            parts: Vec::new(alloc),
+            hand: Hand::Nothing,
+        }
+    }
+
+    /// A zero.
+    fn end_command(&mut self) -> Result<(), AllocError>
+        requires { AreCommands self.old }
+        ensures { OnOk result (EndsCommand self.old self.new) }
+    {
+        let kind = kind_of(self.hand);
+        let end = self.literals.len();
+        self.parts.push(Part { kind, end })?;
+        self.hand = Hand::Nothing;
+        Ok(())
+    }
+
+    /// A literal. Says whether it may stand there.
+    fn add_literal(&mut self, literal: Literal) -> Result<bool, AllocError>
+        requires { AreCommands self.old }
+        ensures { IfOk result (λ goes. Turns goes (with_literal (hand_in self.old) literal) self.old self.new) }
+    {
+        match self.hand {
+            Hand::Ask => Ok(false),
+            _ => {
+                self.literals.push(literal)?;
+                self.hand = Hand::Clause;
+                Ok(true)
+            }
+        }
+    }
+
+    /// A letter. Says whether it may stand there.
+    fn begin(&mut self, letter: u8) -> bool
+        requires { AreCommands self.old }
+        ensures { Turns result (with_letter (hand_in self.old) letter) self.old self.new }
+    {
+        match self.hand {
+            Hand::Nothing => {
+                if letter != b'a' {
+                    return false;
+                }
+                self.hand = Hand::Ask;
+                true
+            }
+            _ => false,
+        }
+    }
+
+    /// The next token. Says whether it may stand there.
+    fn take(&mut self, token: Token) -> Result<bool, AllocError>
+        requires { AreCommands self.old }
+        ensures { IfOk result (λ goes. TakesToken goes self.old (token_of token) self.new) }
+    {
+        match token {
+            Token::Number { negative, value } => {
+                if value == 0 {
+                    self.end_command()?;
+                    return Ok(true);
+                }
+                self.add_literal(Literal {
+                    name: value.min(LARGEST + 1) as u32,
+                    positive: !negative,
+                })
+            }
+            Token::Letter(byte) => Ok(self.begin(byte)),
+            Token::Wrong => Ok(false),
+        }
+    }
+
+    fn is_inside(&self) -> bool
+        ensures { end_of result ≡ at_end (hand_in self.now) }
+    {
+        !matches!(self.hand, Hand::Nothing)
+    }
+
+    fn into_script(self, malformed: bool) -> Script
+        requires { AreCommands self }
+        ensures { result ≡ (commands_read self, end_of malformed) }
+    {
+        Script::new(self.literals, self.parts, malformed)
+    }
+
+    /// The text ends here.
+    fn finish(self) -> Script
+        requires { AreCommands self }
+        ensures { result ≡ meaning self [] }
+    {
+        let malformed = self.is_inside();
+        self.into_script(malformed)
+    }
+}
+
+impl Parser {
+    fn new(alloc: Global) -> Parser
+        ensures { Means result (λ text. held_reading (reading text)) }
+    {
+        Parser {
+            tokenizer: Tokenizer::new(),
+            commands: Commands::new(alloc),
+        }
+    }
+
+    /// The next byte. Says whether the text goes on; it ends where it is malformed.
+    fn push(&mut self, byte: u8) -> Result<bool, AllocError>
+        requires { AreCommands self.old.commands }
+        ensures { IfOk result (λ goes. TakesByte goes self.old byte self.new) }
+    {
+        match self.tokenizer.push(byte) {
+            None => Ok(true),
+            Some(token) => self.commands.take(token),
+        }
+    }
+
+    /// The text ends here.
+    fn finish(mut self) -> Result<Script, AllocError>
+        requires { AreCommands self.commands }
+        ensures { IfOk result
+            (λ script. (before : List ℕ → Reading) → Means self before → script ≡ before []) }
+    {
+        match self.tokenizer.finish() {
+            None => Ok(self.commands.finish()),
+            Some(token) => {
+                if !self.commands.take(token)? {
+                    return Ok(self.commands.into_script(true));
+                }
+                Ok(self.commands.finish())
+            }
+        }
+    }
+}
+
+/// The script that a text spells.
+pub(crate) fn parse(alloc: Global, text: &[u8]) -> Result<Script, AllocError>
+    ensures { IfOk result (λ script. script ≡ held_reading (reading text.now)) }
+{
+    let mut parser = Parser::new(alloc);
+    for byte in text {
+        if !parser.push(*byte)? {
+            return Ok(parser.commands.into_script(true));
+        }
+    }
+    parser.finish()
+}
+
+/// Reads a script to the end of its text.
+pub fn read_script<R: CountedRead>(alloc: Global, reader: &mut R) -> Result<Script, ReadError>
+    // Where the reader tells its bytes, the script is what they spell, with names past 2^28 held at 2^28+1.
+    ensures script { IfSome (R.remaining reader.old) (λ text. IfOk result (λ script. script ≡ held_reading (reading text))) }
+    ensures end { OnOk result (IsAtEnd (R.remaining reader.new)) }
+    ensures kept { OnOk result (R.failures reader.new ≡ R.failures reader.old) }
+    ensures failed { IsErrOf result ReadError.Failed
+        → (R.failures reader.old < R.failures reader.new) ⊎ (R.calls reader.new ≡ R.calls reader.old + most_reads) }
+    ensures memory { IsErrOf result ReadError.OutOfMemory → R.failures reader.new ≡ R.failures reader.old }
+{
+    let text = read_whole(alloc, reader)?;
+    Ok(parse(alloc, &text)?)
+}

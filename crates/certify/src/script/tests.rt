@@ -1,0 +1,70 @@
+use super::{Command, Literal, read_script};
+use sat_base::Counted;
+use std::test::*;
+
+fn are(literals: &[Literal], numbers: &[i64]) -> bool {
+    if literals.len() != numbers.len() {
+        return false;
+    }
+    for (literal, number) in literals.iter().zip(numbers) {
+        let name = i64::from(literal.name);
+        if *number != (if literal.positive { name } else { -name }) {
+            return false;
+        }
+    }
+    true
+}
+
+/// Each row is a text, the literals of its commands, whether they are asks, and whether it is malformed behind them.
+#[test]
+fn reads_scripts(rt: HostRuntime) {
+    let rows: [(&[u8], &[(&[i64], bool)], bool); 16] = [
+        (b"", &[], false),
+        (b"1 2 0\na 0\n", &[(&[1, 2], false), (&[], true)], false),
+        (b"1\nc x\n -2 0\n", &[(&[1, -2], false)], false),
+        (b"c x\n1 c\n", &[], true),
+        (b"-0 0", &[], true),
+        (b"+1 0", &[], true),
+        (b"1 a 0", &[], true),
+        (b"b 0", &[], true),
+        (b"a 1 0", &[], true),
+        (b"1 2", &[], true),
+        (b"1 0 a", &[(&[1], false)], true),
+        (b"0", &[(&[], false)], false),
+        (b"007 0", &[(&[7], false)], false),
+        (b"p cnf 1 1\n1 0\n", &[], true),
+        (
+            b"268435456 0 268435457 -99999999999999999999 0",
+            &[(&[268435456], false), (&[268435457, -268435457], false)],
+            false,
+        ),
+        (
+            b"1 0 a 0 a 0 2",
+            &[(&[1], false), (&[], true), (&[], true)],
+            true,
+        ),
+    ];
+    for (text, commands, malformed) in rows {
+        let mut reader = Counted::new(text);
+        match read_script(rt.alloc(), &mut reader) {
+            Ok(script) => {
+                assert!(rt; script.len() == commands.len());
+                assert!(rt; script.is_empty() == commands.is_empty());
+                assert!(rt; script.is_malformed() == malformed);
+                for index in 0..script.len() {
+                    let (numbers, is_ask) = commands[index];
+                    match script.command(index) {
+                        Command::Clause(literals) => assert!(rt; !is_ask && are(literals, numbers)),
+                        Command::Ask(literals) => assert!(rt; is_ask && are(literals, numbers)),
+                    }
+                }
+            }
+            Err(_) => assert!(rt; false),
+        }
+    }
+}
+
+#[test]
+fn laws_are_proved(_rt: HostRuntime) {
+    crate::law_script::holding_laws();
+}
