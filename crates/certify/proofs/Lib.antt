@@ -42,3 +42,11 @@ pub mod Held
 pub mod HeldReading
 pub mod Parts
 pub mod Reading
+pub mod Finishing
+pub mod NameLists
+pub mod PlainState
+pub mod Reaching
+pub mod Simple
+pub mod Solved
+pub mod SolverHolds
+pub mod Writing

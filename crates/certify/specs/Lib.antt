@@ -30,3 +30,5 @@ pub mod SolverView
 pub mod Holding
 pub mod ScriptParts
 pub mod ScriptReading
+pub mod Run
+pub mod Running

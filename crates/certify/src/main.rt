@@ -3,9 +3,13 @@
 
 pub mod answers;
 pub mod checker;
+pub mod fault;
 pub mod law_script;
 pub mod laws;
+pub mod names;
+pub mod run;
 pub mod script;
 mod search;
+pub mod summary;
 
 fn main() {}

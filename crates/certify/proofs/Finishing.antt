@@ -1,0 +1,138 @@
+-- What a run has done once all commands are taken.
+use Rattle.std.proofs.Common.{ℕ, ◌+◌, ◌≡◌, cond, Result, Ok, Err, IfOk, IfSome, List, [], ◌∷◌, ◌++◌, map, length, Option, Some, None, is_some, refl, sym, ◌∙◌, ap, subst, arith, append-nil}
+use Rattle.std.proofs.Math.Seq.{drop-length}
+use Rattle.std.proofs.KnownBytes.{Appends-nil, Appends-trans}
+use Rattle.std.proofs.lemmas.List.{length-map}
+use Rattle.std.specs.Io.KnownBytes.{Appends}
+use Rattle.sat_base.specs.Script.{Command, Ending, Clean, Malformed, Reading, reading}
+use Rattle.sat_base.specs.Judge.{Judge, Refusal, refusal_of, after_command, accepted_of, start}
+use Rattle.sat_base.specs.Steps.{Step, End}
+use Rattle.sat_base.specs.StepText.{SpellsSteps}
+use Rattle.certify.specs.declared.fault.RunFault.{RunFault}
+use Rattle.certify.specs.declared.run.session.Session.{Session}
+use Rattle.certify.specs.declared.summary.Summary.{Summary}
+use Rattle.certify.specs.Answers.{Outcome, piece, outcomes_left, refused_line, answers_from, ending_text}
+use Rattle.certify.specs.Right.{AreRight}
+use Rattle.certify.specs.Held.{fresh}
+use Rattle.certify.specs.Holding.{held_command, held_reading}
+use Rattle.certify.specs.Run.{RunOf, Finished, refused_count, malformed_at}
+use Rattle.certify.specs.Running.{Plain, Reached, TookAll, Wrote, WroteStep, Finishes, malformed_text}
+use Rattle.certify.proofs.Held.{refusal_of-held, unheld, after_command-held, accepted_of-held}
+use Rattle.certify.proofs.PlainState.{start_plain}
+use Rattle.certify.proofs.Simple.{held_good}
+use Rattle.certify.proofs.Writing.{wrote_last}
+
+pub took_none : (script : Reading) (budget : ℕ) (s : Session) (a : Option (List ℕ)) → s.names ≡ 0 → s.solver ≡ fresh → s.refused ≡ 0 → s.asks.items ≡ [] → TookAll script budget 0 s a a
+took_none script budget s a names solver refused asks = record {
+  answered = [];
+  appended = Appends-nil a;
+  reached = λ simple. record {
+    judge = start;
+    done = [];
+    plain = subst (Plain start) (sym names) start_plain;
+    clauses = λ a. rw solver ((λ h. tt), (λ h. (refl, tt)));
+    right = λ rest x. x;
+    text = λ rest. refl;
+    refused = omega arith;
+    kinds = rw asks refl;
+    spent = rw asks tt;
+    counted = rw (solver, asks) refl;
+  };
+}
+
+ending_malformed : (number : ℕ) (ending : Ending) → ending_text number ending ≡ malformed_text (malformed_at number ending)
+ending_malformed number Clean = refl
+ending_malformed number Malformed = refl
+
+run_reached : (script : List Command) (ending : Ending) (budget number : ℕ) (s : Session) (summary : Summary) (answered certified : List ℕ) (steps : List Step)
+    → Reached script ending budget [] number s answered → number ≡ length script + 1 → SpellsSteps (steps ++ End ∷ []) certified
+    → summary.commands ≡ length script → summary.refused ≡ s.refused → summary.malformed ≡ malformed_at (length script + 1) ending → summary.asks ≡ s.asks
+    → RunOf script ending budget summary (answered ++ malformed_text summary.malformed) certified
+run_reached script ending budget number s summary answered certified steps r n spelt commands refused malformed asks =
+    let P : List Outcome → Type 0 = AreRight start (accepted_of start script) in
+    record {
+      outcomes = r.done;
+      right = subst P (append-nil r.done) (r.right [] tt);
+      answers = ap (λ m. answered ++ malformed_text m) (malformed ∙ ap (λ k. malformed_at k ending) (sym n)) ∙ ap (λ t. answered ++ t) (sym (ending_malformed number ending)) ∙ sym (r.text []) ∙ ap (answers_from 1 start script ending) (append-nil r.done);
+      steps = steps;
+      certificate = spelt;
+      commands = commands;
+      refused = omega (arith, refused, r.refused);
+      malformed = malformed;
+      kinds = rw asks r.kinds;
+      spent = rw asks r.spent;
+    }
+
+-- after the last command
+pub finishes : (script : Reading) (budget : ℕ) (s : Session) (summary : Summary) (a b d p q t : Option (List ℕ))
+    → TookAll script budget (length script.0) s a b → Appends b d (malformed_text summary.malformed) → Wrote p q → WroteStep End q t
+    → summary.commands ≡ length script.0 → summary.refused ≡ s.refused → summary.malformed ≡ malformed_at (length script.0 + 1) script.1 → summary.asks ≡ s.asks
+    → Finishes script budget summary a d p t
+finishes script budget s summary a b d p q t took last wrote ended commands refused malformed asks =
+    let w = wrote_last wrote ended in
+    let P : List Command → Type 0 = λ cs. Reached script.0 script.1 budget cs (length script.0 + 1) s took.answered in
+    record {
+      answered = took.answered ++ malformed_text summary.malformed;
+      answers = Appends-trans a b d took.answered (malformed_text summary.malformed) took.appended last;
+      certified = w.0;
+      certificate = w.2;
+      run = λ simple. run_reached script.0 script.1 budget (length script.0 + 1) s summary took.answered w.0 wrote.steps (subst P (drop-length script.0) (took.reached simple)) refl w.1 commands refused malformed asks;
+    }
+
+-- names that are held change none of it
+answers_at : (k : ℕ) (j : Judge) (c : Command) (cs : List Command) (ending : Ending) (os : List Outcome) (o : Option Refusal) → refusal_of j c ≡ o
+    → ((m : ℕ) (i : Judge) (ps : List Outcome) → answers_from m i (map held_command cs) ending ps ≡ answers_from m i cs ending ps)
+    → answers_from k j (held_command c ∷ map held_command cs) ending os ≡ answers_from k j (c ∷ cs) ending os
+answers_at k j c cs ending os None e ih =
+    ap (λ (d : Command). answers_from k j (d ∷ map held_command cs) ending os) (unheld j c e)
+    ∙ ap (λ t. piece k (refusal_of j c) c os ++ t) (ih (k + 1) (after_command c j) (outcomes_left (refusal_of j c) c os))
+answers_at k j c cs ending os (Some r) e ih = rw (refusal_of-held j c, e) (ap (λ t. refused_line k r ++ t) (ih (k + 1) j os))
+
+answers_held : (cs : List Command) (k : ℕ) (j : Judge) (ending : Ending) (os : List Outcome) → answers_from k j (map held_command cs) ending os ≡ answers_from k j cs ending os
+answers_held [] k j ending os = refl
+answers_held (c ∷ cs) k j ending os = answers_at k j c cs ending os (refusal_of j c) refl (λ m i ps. answers_held cs m i ending ps)
+
+abbrev counts_one : Option Refusal → ℕ
+counts_one o = cond (is_some o) 1 0
+
+count_held : (cs : List Command) (j : Judge) → refused_count j (map held_command cs) ≡ refused_count j cs
+count_held [] j = refl
+count_held (c ∷ cs) j =
+    ap (λ (o : Option Refusal). counts_one o + refused_count (after_command (held_command c) j) (map held_command cs)) (refusal_of-held j c)
+    ∙ ap (λ (i : Judge). counts_one (refusal_of j c) + refused_count i (map held_command cs)) (after_command-held j c)
+    ∙ ap (λ n. counts_one (refusal_of j c) + n) (count_held cs (after_command c j))
+
+run_held : (cs : List Command) (ending : Ending) (budget : ℕ) (summary : Summary) (answered certified : List ℕ) → RunOf (map held_command cs) ending budget summary answered certified → RunOf cs ending budget summary answered certified
+run_held cs ending budget summary answered certified r =
+    let P : List Command → Type 0 = λ cs. AreRight start cs r.outcomes in
+    let n : length (map held_command cs) ≡ length cs = length-map cs held_command in
+    record {
+      outcomes = r.outcomes;
+      right = subst P (accepted_of-held start cs) r.right;
+      answers = r.answers ∙ answers_held cs 1 start ending r.outcomes;
+      steps = r.steps;
+      certificate = r.certificate;
+      commands = r.commands ∙ n;
+      refused = r.refused ∙ count_held cs start;
+      malformed = r.malformed ∙ ap (λ k. malformed_at (k + 1) ending) n;
+      kinds = r.kinds;
+      spent = r.spent;
+    }
+
+pub finished : (text : List ℕ) (script : Reading) (budget : ℕ) (summary : Summary) (a b p q : Option (List ℕ)) → script ≡ held_reading (reading text) → Finishes script budget summary a b p q → Finished text budget summary a b p q
+finished text script budget summary a b p q e f =
+    let P : Reading → Type 0 = λ s. Finishes s budget summary a b p q in
+    let h = subst P e f in
+    record {
+      answered = h.answered;
+      answers = h.answers;
+      certified = h.certified;
+      certificate = h.certificate;
+      run = run_held (reading text).0 (reading text).1 budget summary h.answered h.certified (h.run (held_good text));
+    }
+
+pub finished_if : (known : Option (List ℕ)) (r : Result Summary RunFault) (script : Reading) (budget : ℕ) (a b p q : Option (List ℕ)) → IfSome known (λ text. script ≡ held_reading (reading text))
+    → IfOk r (λ summary. Finishes script budget summary a b p q) → IfSome known (λ text. IfOk r (λ summary. Finished text budget summary a b p q))
+finished_if None r script budget a b p q e f = tt
+finished_if (Some text) (Ok summary) script budget a b p q e f = finished text script budget summary a b p q e f
+finished_if (Some text) (Err x) script budget a b p q e f = tt

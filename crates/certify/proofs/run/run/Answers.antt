@@ -1,0 +1,7 @@
+use Rattle.certify.proofs.Finishing.{finished_if}
+use Rattle.certify.proofs.run.run.Goals as goal
+
+pub returns-clause-finished : goal.returns-clause-finished
+returns-clause-finished g c =
+    finished_if (g.S.Read.remaining c.args.script.now) c.answer.result c.in_ok-commands.commands c.args.budget (g.A.Write.contents c.args.answers.now) (g.A.Write.contents c.answer.new.answers) (g.C.Write.contents c.args.certificate.now) (g.C.Write.contents c.answer.new.certificate)
+    c.in_ok-commands.ensures.script c.answer.ensures.finishes

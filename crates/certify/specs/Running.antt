@@ -1,0 +1,177 @@
+-- How a run stands among the commands of a script of clauses and asks.
+use Rattle.std.specs.Prelude.{ℕ, zero, suc, ◌+◌, ◌-◌, ◌<◌, ◌≡◌, ◌↔◌, max, Bool, true, ◌&&◌, Option, Some, None, Result, MatchResult, List, [], ◌∷◌, ◌++◌, map, drop, nat_le}
+use Rattle.std.specs.List.{AllByRecursion}
+use Rattle.std.specs.Io.KnownBytes.{Appends}
+use Rattle.sat_base.specs.Literals.{coded, largest, variable}
+use Rattle.sat_base.specs.Clauses.{Valuation, EachTrue, EachHolds}
+use Rattle.sat_base.specs.Script.{Literal, Command, Clause, Ask, Ending, names_of, Reading}
+use Rattle.sat_base.specs.Judge.{Judge, Named, Mode, Sampled, names_from, accepted_of, start}
+use Rattle.sat_base.specs.Steps.{Step, End}
+use Rattle.sat_base.specs.StepText.{SpellsStep, SpellsSteps}
+use Rattle.certify.specs.Answers.{Outcome, Sat, Unsat, Unknown, answers_from, malformed_line}
+use Rattle.certify.specs.AnswerForms.{named_literals}
+use Rattle.certify.specs.Right.{AreRight}
+use Rattle.certify.specs.Run.{HasCause, refused_count, kind_of, AreSpent, IsSpent, RunOf}
+use Rattle.certify.specs.Held.{Held, HoldsIn, HoldsSame, TakesClause}
+use Rattle.certify.specs.declared.fault.RunFault.{RunFault}
+use Rattle.certify.specs.declared.run.session.Session.{Session}
+use Rattle.certify.specs.declared.summary.Answer.{Answer}
+use Rattle.certify.specs.declared.summary.Answer.TheVariants as kind
+use Rattle.certify.specs.declared.summary.AskReport.{AskReport}
+use Rattle.certify.specs.declared.summary.Summary.{Summary}
+
+-- some steps were written
+pub record Wrote (old new : Option (List ℕ)) : Type 0 where
+  pub steps : List Step
+  pub text : List ℕ
+  pub spelt : SpellsSteps steps text
+  pub appended : Appends old new text
+
+-- one step was written
+pub record WroteStep (step : Step) (old new : Option (List ℕ)) : Type 0 where
+  pub text : List ℕ
+  pub spelt : SpellsStep step text
+  pub appended : Appends old new text
+
+-- where a part writes to the certificate alone: `Ok` says that some steps were written and no call failed
+abbrev pub WritesSteps : {T : Type 0} → Result T RunFault → Option (List ℕ) → Option (List ℕ) → ℕ → ℕ → Type 0
+WritesSteps r old new failed_old failed_new = MatchResult r (λ _. Wrote old new × (failed_new ≡ failed_old)) (λ e. HasCause e ⊥ ⊥ (failed_old < failed_new) ⊥)
+
+abbrev pub WritesStep : {T : Type 0} → Result T RunFault → Step → Option (List ℕ) → Option (List ℕ) → ℕ → ℕ → Type 0
+WritesStep r step old new failed_old failed_new =
+    MatchResult r (λ _. WroteStep step old new × (failed_new ≡ failed_old)) (λ e. HasCause e ⊥ ⊥ (failed_old < failed_new) ⊥)
+
+-- where a part writes these bytes to the answers alone
+abbrev pub WritesAnswer : {T : Type 0} → Result T RunFault → List ℕ → Option (List ℕ) → Option (List ℕ) → ℕ → ℕ → Type 0
+WritesAnswer r text old new failed_old failed_new = MatchResult r (λ _. Appends old new text × (failed_new ≡ failed_old)) (λ e. HasCause e ⊥ (failed_old < failed_new) ⊥ ⊥)
+
+-- the literal over variables, name k being that of variable k - 1
+abbrev pub code_of : Literal → ℕ
+code_of l = coded (l.name - 1) l.positive
+
+-- the names 1 to n, each with the identity below it
+abbrev pub first_names : ℕ → List Named
+first_names zero = []
+first_names (suc n) = first_names n ++ record { name = n + 1; identity = n } ∷ []
+
+abbrev pub all_sampled : ℕ → List Mode
+all_sampled zero = []
+all_sampled (suc n) = all_sampled n ++ Sampled ∷ []
+
+-- the names in use are 1 to n, none was ever hidden, and each is of mode sample
+pub record Plain (j : Judge) (n : ℕ) : Type 0 where
+  pub first_unused : j.first_unused ≡ n + 1
+  pub in_use : j.in_use ≡ first_names n
+  pub modes : j.modes ≡ all_sampled n
+  pub next_identity : j.next_identity ≡ n
+
+-- how many names are in use once these came in as well
+abbrev pub raised : ℕ → List ℕ → ℕ
+raised n [] = n
+raised n (name ∷ names) = raised (max n name) names
+
+-- each name is that of a variable
+abbrev pub are_within : List ℕ → Bool
+are_within [] = true
+are_within (name ∷ names) = (nat_le 1 name && nat_le name largest) && are_within names
+
+-- the commands that a script has for now: clauses over names from 1 on, and asks without literals
+abbrev pub IsSimple : Command → Type 0
+IsSimple (Clause ls) = AllByRecursion (λ name. 0 < name) (names_of ls)
+IsSimple (Ask ls) = ls ≡ []
+IsSimple command = ⊥
+
+-- what an answer says of a solver's clauses: a literal for each variable, in order, by which they can all hold; that they can't; or nothing
+abbrev pub IsTrueOf : Held → List ℕ → Answer → Type 0
+IsTrueOf solver line kind.Sat = (map variable line ≡ names_from solver.var_count 0) × (a : Valuation) × EachTrue a line × HoldsIn solver a
+IsTrueOf solver line kind.Unsat = (a : Valuation) → HoldsIn solver a → ⊥
+IsTrueOf solver line kind.Unknown = Unit {0}
+
+-- the outcome, with a model's line where there is one
+abbrev pub outcome_of : Answer → List ℕ → Outcome
+outcome_of kind.Sat line = Sat (named_literals line)
+outcome_of kind.Unsat line = Unsat []
+outcome_of kind.Unknown line = Unknown
+
+-- the line of a malformed text
+abbrev pub malformed_text : Option ℕ → List ℕ
+malformed_text None = []
+malformed_text (Some number) = malformed_line number
+
+abbrev pub steps_of : List AskReport → ℕ
+steps_of [] = 0
+steps_of (r ∷ rs) = r.steps + steps_of rs
+
+-- These commands are left of a script, from this number on, and this was answered to the others.
+pub record Reached (script : List Command) (ending : Ending) (budget : ℕ) (left : List Command) (number : ℕ) (s : Session) (answered : List ℕ) : Type 0 where
+  pub judge : Judge
+  pub done : List Outcome
+  pub plain : Plain judge s.names
+  pub clauses : (a : Valuation) → HoldsIn s.solver a ↔ EachHolds a judge.clauses
+  -- whatever is answered to the commands that are left
+  pub right : (rest : List Outcome) → AreRight judge (accepted_of judge left) rest → AreRight start (accepted_of start script) (done ++ rest)
+  pub text : (rest : List Outcome) → answers_from 1 start script ending (done ++ rest) ≡ answered ++ answers_from number judge left ending rest
+  pub refused : refused_count start script ≡ s.refused + refused_count judge left
+  pub kinds : map (λ r. r.answer) s.asks.items ≡ map kind_of done
+  pub spent : AreSpent budget 0 s.asks.items
+  pub counted : s.solver.rounds ≡ steps_of s.asks.items
+
+-- what an ask left
+pub record Asked (budget : ℕ) (old new : Session) (report : AskReport) : Type 0 where
+  pub truth : IsTrueOf new.solver new.lits.items report.answer
+  pub spent : IsSpent budget old.solver.rounds report
+  pub same : HoldsSame old.solver new.solver
+  pub variables : new.solver.var_count ≡ old.solver.var_count
+  pub rounds : new.solver.rounds ≡ old.solver.rounds + report.steps
+  pub names : new.names ≡ old.names
+  pub refused : new.refused ≡ old.refused
+  pub asks : new.asks.items ≡ old.asks.items ++ report ∷ []
+
+-- what a clause left
+pub record Added (ls : List Literal) (old new : Session) : Type 0 where
+  pub clauses : TakesClause old.solver new.solver (map code_of ls)
+  pub variables : new.solver.var_count ≡ new.names
+  pub rounds : new.solver.rounds ≡ old.solver.rounds
+  pub names : new.names ≡ raised old.names (names_of ls)
+  pub refused : new.refused ≡ old.refused
+  pub asks : new.asks ≡ old.asks
+
+-- what a refused command left
+pub record Refused (old new : Session) : Type 0 where
+  pub solver : new.solver ≡ old.solver
+  pub names : new.names ≡ old.names
+  pub refused : new.refused ≡ old.refused + 1
+  pub asks : new.asks ≡ old.asks
+
+-- what was answered to a command of this number, and that it brings a run on
+pub record Took (command : Command) (number budget : ℕ) (old new : Session) (answers_old answers_new : Option (List ℕ)) : Type 0 where
+  pub piece : List ℕ
+  pub appended : Appends answers_old answers_new piece
+  pub reached : IsSimple command → (script : List Command) (ending : Ending) (left : List Command) (answered : List ℕ) → old.solver.var_count ≡ old.names
+      → Reached script ending budget (command ∷ left) number old answered → Reached script ending budget left (number + 1) new (answered ++ piece)
+
+-- so many commands of a script were taken
+pub record TookAll (script : Reading) (budget place : ℕ) (s : Session) (answers_old answers_new : Option (List ℕ)) : Type 0 where
+  pub answered : List ℕ
+  pub appended : Appends answers_old answers_new answered
+  pub reached : AllByRecursion IsSimple script.0 → Reached script.0 script.1 budget (drop place script.0) (place + 1) s answered
+
+-- where a part writes to both, `Ok` says that no call failed
+abbrev pub WritesBoth : {T : Type 0} → Result T RunFault → Option (List ℕ) → Option (List ℕ) → ℕ → ℕ → ℕ → ℕ → Type 0
+WritesBoth r certificate_old certificate_new answers_failed_old answers_failed_new certificate_failed_old certificate_failed_new =
+    MatchResult r (λ _. Wrote certificate_old certificate_new × (answers_failed_new ≡ answers_failed_old) × (certificate_failed_new ≡ certificate_failed_old))
+    (λ e. HasCause e ⊥ (answers_failed_old < answers_failed_new) (certificate_failed_old < certificate_failed_new) ⊥)
+
+-- where a part ends both texts
+abbrev pub Ends : {T : Type 0} → Result T RunFault → List ℕ → Option (List ℕ) → Option (List ℕ) → Option (List ℕ) → Option (List ℕ) → ℕ → ℕ → ℕ → ℕ → Type 0
+Ends r last answers_old answers_new certificate_old certificate_new answers_failed_old answers_failed_new certificate_failed_old certificate_failed_new =
+    MatchResult r (λ _. Appends answers_old answers_new last × (answers_failed_new ≡ answers_failed_old) × WroteStep End certificate_old certificate_new × (certificate_failed_new ≡ certificate_failed_old))
+    (λ e. HasCause e ⊥ (answers_failed_old < answers_failed_new) (certificate_failed_old < certificate_failed_new) ⊥)
+
+-- what was written to a whole script, where its commands are those that a script has for now
+pub record Finishes (script : Reading) (budget : ℕ) (summary : Summary) (answers_old answers_new certificate_old certificate_new : Option (List ℕ)) : Type 0 where
+  pub answered : List ℕ
+  pub answers : Appends answers_old answers_new answered
+  pub certified : List ℕ
+  pub certificate : Appends certificate_old certificate_new certified
+  pub run : AllByRecursion IsSimple script.0 → RunOf script.0 script.1 budget summary answered certified

@@ -1,0 +1,90 @@
+//! Answers a script, with a certificate.
+ghost use Rattle.std.specs.Prelude.{◌≡◌, ◌+◌, ◌-◌, ◌^◌, ◌≤◌, ◌<◌, ◌⊎◌, length, IfOk, OnOk, IfErr, IfSome, MatchResult};
+ghost use Rattle.sat_base.specs.Device.{most_reads};
+ghost use Rattle.sat_base.specs.Script.{reading};
+ghost use Rattle.certify.specs.Holding.{held_reading};
+ghost use Rattle.certify.specs.Run.{Finished, HasCause};
+ghost use Rattle.certify.specs.Running.{Finishes};
+
+mod ask;
+mod clause;
+mod finish;
+mod lits;
+mod names_in;
+mod session;
+mod solving;
+mod taking;
+#[cfg(test)]
+mod tests;
+
+use crate::fault::RunFault;
+use crate::run::finish::{finish, malformed_number};
+use crate::run::session::Session;
+use crate::run::taking::take_all;
+use crate::script::{Script, read_script};
+use crate::summary::Summary;
+use sat_base::{CountedRead, CountedWrite, ReadError};
+use std::alloc::Global;
+
+/// Reads the script.
+fn load<S: CountedRead>(alloc: Global, script: &mut S) -> Result<Script, RunFault>
+    ensures script { IfSome (S.remaining script.old) (λ text. IfOk result (λ s. s ≡ held_reading (reading text))) }
+    ensures failures { MatchResult result (λ _. S.failures script.new ≡ S.failures script.old)
+        (λ e. HasCause e ((S.failures script.old < S.failures script.new) ⊎ (S.calls script.new ≡ S.calls script.old + most_reads)) ⊥ ⊥ ⊥) }
+{
+    match read_script(alloc, script) {
+        Ok(script) => Ok(script),
+        Err(ReadError::Failed) => Err(RunFault::ScriptRead),
+        Err(ReadError::OutOfMemory) => Err(RunFault::OutOfMemory),
+    }
+}
+
+/// Answers the commands of a script.
+fn answer<A: CountedWrite, C: CountedWrite>(
+    alloc: Global,
+    script: &Script,
+    answers: &mut A,
+    certificate: &mut C,
+    budget: u64,
+) -> Result<Summary, RunFault>
+    ensures finishes { IfOk result (λ summary. Finishes script.now budget summary (A.contents answers.old) (A.contents answers.new) (C.contents certificate.old) (C.contents certificate.new)) }
+    ensures failures { MatchResult result (λ _. (A.failures answers.new ≡ A.failures answers.old) × (C.failures certificate.new ≡ C.failures certificate.old))
+        (λ e. HasCause e ⊥ (A.failures answers.old < A.failures answers.new) (C.failures certificate.old < C.failures certificate.new) (2 ^ 64 - 1 ≤ length script.now.0)) }
+{
+    let mut session = Session::new(alloc);
+    take_all(&mut session, script, answers, certificate, budget)?;
+    let malformed = malformed_number(script)?;
+    finish(&mut session.text, malformed, answers, certificate)?;
+    Ok(Summary {
+        commands: script.len() as u64,
+        refused: session.refused,
+        malformed,
+        asks: session.asks,
+    })
+}
+
+/// Answers each ask of a script, with at most `budget` steps of search for each, and writes the answers and a certificate
+/// behind what the writers hold.
+///
+/// The script is read to its end first. Both writers are flushed before a summary is answered.
+pub fn run<S: CountedRead, A: CountedWrite, C: CountedWrite>(
+    alloc: Global,
+    script: &mut S,
+    answers: &mut A,
+    certificate: &mut C,
+    budget: u64,
+) -> Result<Summary, RunFault>
+    // Where the reader tells its bytes, a finished run has written the answers to them.
+    ensures finished { IfSome (S.remaining script.old)
+        (λ text. IfOk result (λ summary. Finished text budget summary (A.contents answers.old) (A.contents answers.new) (C.contents certificate.old) (C.contents certificate.new))) }
+    ensures kept { OnOk result ((S.failures script.new ≡ S.failures script.old) × (A.failures answers.new ≡ A.failures answers.old) × (C.failures certificate.new ≡ C.failures certificate.old)) }
+    // A fault is answered only where it happened.
+    ensures fault { IfErr result (λ e. HasCause e
+        ((S.failures script.old < S.failures script.new) ⊎ (S.calls script.new ≡ S.calls script.old + most_reads))
+        (A.failures answers.old < A.failures answers.new)
+        (C.failures certificate.old < C.failures certificate.new)
+        (IfSome (S.remaining script.old) (λ text. 2 ^ 64 - 1 ≤ length (reading text).0))) }
+{
+    let commands = load(alloc, script)?;
+    answer(alloc, &commands, answers, certificate, budget)
+}

@@ -1,0 +1,95 @@
+//! Searches for the answer of an ask.
+ghost use Rattle.std.specs.Prelude.{◌≡◌, ◌+◌, ◌<◌, ◌≤◌, IfOk, OnOk, slice_index_or, None};
+ghost use Rattle.sat_base.specs.Literals.{coded, largest};
+ghost use Rattle.certify.specs.Held.{HasModel, HoldsSame};
+ghost use Rattle.certify.specs.Run.{IsSpent};
+ghost use Rattle.certify.specs.Running.{WritesSteps, IsTrueOf};
+ghost use Rattle.certify.specs.Search.{is_true};
+ghost use Rattle.certify.specs.Solved.{Solves};
+
+use crate::fault::RunFault;
+use crate::search::Solver;
+use crate::search::solve::{Answer as Found, SolveFault, solve};
+use crate::summary::{Answer, AskReport};
+use sat_base::{CountedWrite, Lit, Var};
+use std::alloc::AllocError;
+
+/// The literal of a variable that is true in the solver's model.
+fn true_lit(solver: &Solver, var: Var) -> Lit
+    requires { var < solver.now.var_count }
+    ensures { result ≡ coded var (is_true (slice_index_or solver.now.values var None)) }
+{
+    match solver.value(var) {
+        Some(value) => var.lit(value),
+        None => var.negative(),
+    }
+}
+
+/// Fills the list with the solver's model, a literal for each variable in order.
+fn fill_model(lits: &mut Vec<Lit>, solver: &Solver, count: usize) -> Result<(), AllocError>
+    requires count { solver.now.var_count ≡ count }
+    requires bound { count ≤ largest }
+    requires model { HasModel solver.now }
+    ensures { OnOk result (IsTrueOf solver.now lits.new.items Answer.Sat) }
+{
+    lits.clear();
+    for index in 0..count {
+        lits.push(true_lit(solver, Var::from_index(index)))?;
+    }
+    Ok(())
+}
+
+/// Searches, with at most so many steps.
+#[tactic(auto, using(crate::proofs::Solved::finding))]
+fn find<C: CountedWrite>(
+    solver: &mut Solver,
+    budget: u64,
+    certificate: &mut C,
+) -> Result<(Found, u64), RunFault>
+    ensures answers { IfOk result (λ r. Solves r.0 r.1 budget solver.old solver.new) }
+    ensures certificate { WritesSteps result (C.contents certificate.old) (C.contents certificate.new) (C.failures certificate.old) (C.failures certificate.new) }
+{
+    match solve(solver, budget, certificate) {
+        Ok(found) => Ok(found),
+        Err(SolveFault::Write) => Err(RunFault::CertificateWrite),
+        Err(SolveFault::OutOfMemory) => Err(RunFault::OutOfMemory),
+    }
+}
+
+/// Searches for an answer, with at most so many steps, and lists the model where there is one.
+#[tactic(auto, using(crate::proofs::Solved::reporting))]
+pub(crate) fn solve_ask<C: CountedWrite>(
+    solver: &mut Solver,
+    count: usize,
+    budget: u64,
+    model: &mut Vec<Lit>,
+    certificate: &mut C,
+) -> Result<AskReport, RunFault>
+    requires count { solver.old.var_count ≡ count }
+    requires bound { count ≤ largest }
+    ensures same { OnOk result (HoldsSame solver.old solver.new) }
+    ensures variables { OnOk result (solver.new.var_count ≡ solver.old.var_count) }
+    ensures answer { IfOk result (λ report. IsTrueOf solver.new model.new.items report.answer) }
+    ensures spent { IfOk result (λ report. IsSpent budget solver.old.rounds report) }
+    ensures rounds { IfOk result (λ report. solver.new.rounds ≡ solver.old.rounds + report.steps) }
+    ensures certificate { WritesSteps result (C.contents certificate.old) (C.contents certificate.new) (C.failures certificate.old) (C.failures certificate.new) }
+{
+    let (found, steps) = find(solver, budget, certificate)?;
+    match found {
+        Found::Sat => {
+            fill_model(model, solver, count)?;
+            Ok(AskReport {
+                answer: Answer::Sat,
+                steps,
+            })
+        }
+        Found::Unsat => Ok(AskReport {
+            answer: Answer::Unsat,
+            steps,
+        }),
+        Found::Unknown => Ok(AskReport {
+            answer: Answer::Unknown,
+            steps,
+        }),
+    }
+}

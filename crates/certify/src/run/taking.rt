@@ -1,0 +1,87 @@
+//! Takes the commands of a script.
+ghost use Rattle.std.specs.Prelude.{◌≡◌, ◌+◌, ◌<◌, ◌≤◌, OnOk, length};
+ghost use Rattle.sat_base.specs.Judge.{PastLimit};
+ghost use Rattle.certify.specs.Answers.{refused_line};
+ghost use Rattle.certify.specs.ScriptParts.{shown};
+ghost use Rattle.certify.specs.Running.{WritesAnswer, WritesBoth, Refused, Took, TookAll};
+
+use super::ask::{answer_ask, write_answer};
+use super::clause::take_clause;
+use super::lits::are_within;
+use super::session::Session;
+use crate::answers::write::push_refused_limit;
+use crate::fault::RunFault;
+use crate::script::{Command, Script};
+use sat_base::CountedWrite;
+
+/// Refuses the command of this number, which has a name past the limit.
+fn refuse<A: CountedWrite>(
+    session: &mut Session,
+    answers: &mut A,
+    number: u64,
+) -> Result<(), RunFault>
+    requires { session.old.refused < number }
+    ensures left { OnOk result (Refused session.old session.new) }
+    ensures answers { WritesAnswer result (refused_line number PastLimit) (A.contents answers.old) (A.contents answers.new) (A.failures answers.old) (A.failures answers.new) }
+{
+    session.refused += 1;
+    session.text.clear();
+    push_refused_limit(&mut session.text, number)?;
+    write_answer(answers, &session.text)
+}
+
+/// Takes the command of this number, counted from 1.
+fn take_command<A: CountedWrite, C: CountedWrite>(
+    session: &mut Session,
+    answers: &mut A,
+    certificate: &mut C,
+    command: Command<'_>,
+    number: u64,
+    budget: u64,
+) -> Result<(), RunFault>
+    requires same { session.old.solver.var_count ≡ session.old.names }
+    requires refused { session.old.refused < number }
+    ensures same { OnOk result (session.new.solver.var_count ≡ session.new.names) }
+    ensures refused { OnOk result (session.new.refused ≤ number) }
+    ensures took { OnOk result (Took (shown command.entry) number budget session.old session.new (A.contents answers.old) (A.contents answers.new)) }
+    ensures written { WritesBoth result (C.contents certificate.old) (C.contents certificate.new) (A.failures answers.old) (A.failures answers.new) (C.failures certificate.old) (C.failures certificate.new) }
+{
+    match command {
+        Command::Clause(literals) => {
+            if !are_within(literals) {
+                return refuse(session, answers, number);
+            }
+            take_clause(session, certificate, literals)
+        }
+        // An ask has no literals.
+        Command::Ask(_) => answer_ask(session, answers, certificate, budget),
+    }
+}
+
+/// Takes all commands in turn.
+pub(crate) fn take_all<A: CountedWrite, C: CountedWrite>(
+    session: &mut Session,
+    script: &Script,
+    answers: &mut A,
+    certificate: &mut C,
+    budget: u64,
+) -> Result<(), RunFault>
+    requires same { session.old.solver.var_count ≡ session.old.names }
+    requires refused { session.old.refused ≡ 0 }
+    requires first { TookAll script.now budget 0 session.old (A.contents answers.old) (A.contents answers.old) }
+    ensures took { OnOk result (TookAll script.now budget (length script.now.0) session.new (A.contents answers.old) (A.contents answers.new)) }
+    ensures written { WritesBoth result (C.contents certificate.old) (C.contents certificate.new) (A.failures answers.old) (A.failures answers.new) (C.failures certificate.old) (C.failures certificate.new) }
+{
+    for place in 0..script.len() {
+        let command = script.command(place);
+        take_command(
+            session,
+            answers,
+            certificate,
+            command,
+            place as u64 + 1,
+            budget,
+        )?;
+    }
+    Ok(())
+}

@@ -1,0 +1,120 @@
+use super::run;
+use crate::fault::RunFault;
+use crate::summary::{Answer, Summary};
+use sat_base::Counted;
+use std::test::Fail;
+
+/// What a run says and writes.
+#[derive(Drop)]
+struct Written {
+    summary: Summary,
+    answers: Vec<u8>,
+    certificate: Vec<u8>,
+}
+
+fn outputs(rt: &HostRuntime, text: &[u8], budget: u64) -> Result<Written, Fail> {
+    let mut script = Counted::new(text);
+    let mut answers = Counted::new(Vec::new(rt.alloc()));
+    let mut certificate = Counted::new(Vec::new(rt.alloc()));
+    let summary = run(
+        rt.alloc(),
+        &mut script,
+        &mut answers,
+        &mut certificate,
+        budget,
+    )?;
+    Ok(Written {
+        summary,
+        answers: answers.into_inner(),
+        certificate: certificate.into_inner(),
+    })
+}
+
+/// Each row is a text, a budget, and the answers.
+#[test]
+fn answers_scripts(rt: HostRuntime) -> Result<(), Fail> {
+    let rows: [(&[u8], u64, &[u8]); 19] = [
+        (b"", 1 << 20, b""),
+        (b"a 0\n", 1 << 20, b"s SATISFIABLE\nv 0\n"),
+        (b"3 0\na 0\n", 1 << 20, b"s SATISFIABLE\nv -1 -2 3 0\n"),
+        (b"1 2 0\na 0\n", 1 << 20, b"s SATISFIABLE\nv -1 2 0\n"),
+        (b"1 -1 0\na 0\n", 1 << 20, b"s SATISFIABLE\nv -1 0\n"),
+        (b"1 0\n-1 0\na 0\n", 1 << 20, b"s UNSATISFIABLE\nf 0\n"),
+        (b"0\na 0\n", 1 << 20, b"s UNSATISFIABLE\nf 0\n"),
+        (b"1 0\n-1 0\na 0\n", 0, b"s UNSATISFIABLE\nf 0\n"),
+        (b"0\na 0\n", 0, b"s UNSATISFIABLE\nf 0\n"),
+        (b"1 0\na 0\n", 0, b"s UNKNOWN\n"),
+        (b"268435457 0\n", 1 << 20, b"c refused 1 limit\n"),
+        (
+            b"1 0\n268435457 0\na 0\n",
+            1 << 20,
+            b"c refused 2 limit\ns SATISFIABLE\nv 1 0\n",
+        ),
+        (b"1 2", 1 << 20, b"c malformed 1\n"),
+        (b"-0 0\n", 1 << 20, b"c malformed 1\n"),
+        (b"+1 0\n", 1 << 20, b"c malformed 1\n"),
+        (b"1 a 0\n", 1 << 20, b"c malformed 1\n"),
+        (b"b 0\n", 1 << 20, b"c malformed 1\n"),
+        (b"a 1 0\n", 1 << 20, b"c malformed 1\n"),
+        (
+            b"1 0\na 0\nx",
+            1 << 20,
+            b"s SATISFIABLE\nv 1 0\nc malformed 3\n",
+        ),
+    ];
+    for (text, budget, answers) in rows {
+        let written = outputs(&rt, text, budget)?;
+        assert_eq!(rt; written.answers.as_slice(), answers);
+    }
+    Ok(())
+}
+
+#[test]
+fn writes_certificates(rt: HostRuntime) -> Result<(), Fail> {
+    let rows: [(&[u8], &[u8]); 2] = [
+        (b"", b"\x0d"),
+        (
+            b"1 2 0\na 0\n",
+            b"\x02\x00\x01\x02\x01\x02\x05\x02\x00\x02\x0b\x00\x0a\x02\x01\x02\x0b\x00\x0d",
+        ),
+    ];
+    for (text, certificate) in rows {
+        let written = outputs(&rt, text, 1 << 20)?;
+        assert_eq!(rt; written.certificate.as_slice(), certificate);
+    }
+    Ok(())
+}
+
+#[test]
+fn sums_up(rt: HostRuntime) -> Result<(), Fail> {
+    let text = b"1 2 0 1 -2 0 -1 2 0 -1 -2 0 268435457 0 a 0 a 0 x";
+    let summary = outputs(&rt, text, 1 << 20)?.summary;
+    assert_eq!(rt; summary.commands, 7);
+    assert_eq!(rt; summary.refused, 1);
+    assert_eq!(rt; summary.malformed, Some(8));
+    assert_eq!(rt; summary.asks.len(), 2);
+    assert_eq!(rt; summary.asks[0].answer, Answer::Unsat);
+    assert_eq!(rt; summary.asks[0].steps, 2);
+    assert_eq!(rt; summary.asks[1].answer, Answer::Unsat);
+    assert_eq!(rt; summary.asks[1].steps, 0);
+    Ok(())
+}
+
+/// Each writer is too short by a byte.
+#[test]
+fn faults_are_told(rt: HostRuntime) -> Result<(), Fail> {
+    let mut short = [0; 17];
+    let mut script = Counted::new(b"a 0\n".as_slice());
+    let mut answers = Counted::new(short.as_mut_slice());
+    let mut certificate = Counted::new(Vec::new(rt.alloc()));
+    let fault = run(rt.alloc(), &mut script, &mut answers, &mut certificate, 1).err();
+    assert_eq!(rt; fault, Some(RunFault::AnswersWrite));
+
+    let mut short = [0; 6];
+    let mut script = Counted::new(b"a 0\n".as_slice());
+    let mut answers = Counted::new(Vec::new(rt.alloc()));
+    let mut certificate = Counted::new(short.as_mut_slice());
+    let fault = run(rt.alloc(), &mut script, &mut answers, &mut certificate, 1).err();
+    assert_eq!(rt; fault, Some(RunFault::CertificateWrite));
+    Ok(())
+}
