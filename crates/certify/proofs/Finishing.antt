@@ -88,7 +88,7 @@ answers_at k j c cs ending os None e ih =
     ∙ ap (λ t. piece k (refusal_of j c) c os ++ t) (ih (k + 1) (after_command c j) (outcomes_left (refusal_of j c) c os))
 answers_at k j c cs ending os (Some r) e ih = rw (refusal_of-held j c, e) (ap (λ t. refused_line k r ++ t) (ih (k + 1) j os))
 
-answers_held : (cs : List Command) (k : ℕ) (j : Judge) (ending : Ending) (os : List Outcome) → answers_from k j (map held_command cs) ending os ≡ answers_from k j cs ending os
+pub answers_held : (cs : List Command) (k : ℕ) (j : Judge) (ending : Ending) (os : List Outcome) → answers_from k j (map held_command cs) ending os ≡ answers_from k j cs ending os
 answers_held [] k j ending os = refl
 answers_held (c ∷ cs) k j ending os = answers_at k j c cs ending os (refusal_of j c) refl (λ m i ps. answers_held cs m i ending ps)
 

@@ -32,3 +32,11 @@ pub mod ScriptParts
 pub mod ScriptReading
 pub mod Run
 pub mod Running
+pub mod Confirmed
+pub mod Confirming
+pub mod Decides
+pub mod HeldStep
+pub mod Sessions
+pub mod Spelling
+pub mod Standing
+pub mod SourceReading

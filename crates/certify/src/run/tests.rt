@@ -2,7 +2,63 @@ use super::run;
 use crate::fault::RunFault;
 use crate::summary::{Answer, Summary};
 use sat_base::Counted;
+use std::io;
+use std::io::{ErrorKind, Read, Write};
 use std::test::Fail;
+
+/// A device whose calls give and take what they are asked to. One fails, counted from 1.
+#[derive(Drop)]
+struct FailsAt<'a> {
+    text: &'a [u8],
+    calls: u64,
+    failing: u64,
+}
+
+impl FailsAt<'_> {
+    fn call(&mut self) -> io::Result<()> {
+        self.calls = self.calls.saturating_add(1);
+        if self.calls == self.failing {
+            return Err(io::Error::from(ErrorKind::Interrupted));
+        }
+        Ok(())
+    }
+}
+
+impl Read for FailsAt<'_> {
+    fn read(&mut self, buf: &mut [u8]) -> io::Result<usize> {
+        self.call()?;
+        if buf.is_empty() {
+            return Ok(0);
+        }
+        match self.text.split_first() {
+            Some((byte, rest)) => {
+                buf[0] = *byte;
+                self.text = rest;
+                Ok(1)
+            }
+            None => Ok(0),
+        }
+    }
+}
+
+impl Write for FailsAt<'_> {
+    fn write(&mut self, piece: &[u8]) -> io::Result<usize> {
+        self.call()?;
+        Ok(piece.len())
+    }
+
+    fn flush(&mut self) -> io::Result<()> {
+        self.call()
+    }
+}
+
+fn fails_at(text: &[u8], failing: u64) -> Counted<FailsAt<'_>> {
+    Counted::new(FailsAt {
+        text,
+        calls: 0,
+        failing,
+    })
+}
 
 /// What a run says and writes.
 #[derive(Drop)]
@@ -116,5 +172,32 @@ fn faults_are_told(rt: HostRuntime) -> Result<(), Fail> {
     let mut certificate = Counted::new(short.as_mut_slice());
     let fault = run(rt.alloc(), &mut script, &mut answers, &mut certificate, 1).err();
     assert_eq!(rt; fault, Some(RunFault::CertificateWrite));
+    Ok(())
+}
+
+/// Each call of a device fails in turn, the flushes too, and gives that text's fault.
+#[test]
+fn each_call_fails_in_turn(rt: HostRuntime) -> Result<(), Fail> {
+    let rows = [
+        (1..6, 0..1, 0..1, RunFault::ScriptRead),
+        (0..1, 1..3, 0..1, RunFault::AnswersWrite),
+        (0..1, 0..1, 1..6, RunFault::CertificateWrite),
+    ];
+    for (reads, answered, certified, fault) in rows {
+        for read in reads {
+            for answer in answered.start..answered.end {
+                for step in certified.start..certified.end {
+                    let said = run(
+                        rt.alloc(),
+                        &mut fails_at(b"a 0\n", read),
+                        &mut fails_at(b"", answer),
+                        &mut fails_at(b"", step),
+                        1,
+                    );
+                    assert_eq!(rt; said.err(), Some(fault));
+                }
+            }
+        }
+    }
     Ok(())
 }

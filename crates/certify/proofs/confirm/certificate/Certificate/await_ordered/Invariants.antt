@@ -1,0 +1,11 @@
+use Rattle.std.proofs.Common.{List, length}
+use Rattle.sat_base.specs.Judge.{Judge}
+use Rattle.sat_base.specs.Steps.{Step}
+use Rattle.certify.specs.Standing.{Stands, Passed, bytes_of}
+use Rattle.certify.proofs.confirm.certificate.Certificate.await_ordered.Given as goal
+
+abbrev pub invariant-loop-awaited : goal.invariant-loop-awaited
+invariant-loop-awaited l = (j : Judge) (earlier : List Step) → Stands l.initial.self j earlier → Passed l.initial.self j earlier l.self
+
+abbrev pub decreases-loop-awaited : goal.decreases-loop-awaited
+decreases-loop-awaited l = length (bytes_of l.self)

@@ -1,0 +1,10 @@
+use Rattle.std.proofs.Common.{take, None}
+use Rattle.sat_base.specs.Script.{names_of}
+use Rattle.sat_base.specs.Judge.{Judge, bring_all}
+use Rattle.certify.specs.AnswerForms.{HaveNames}
+use Rattle.certify.specs.Matches.{bringing}
+use Rattle.certify.specs.Standing.{Goes}
+use Rattle.certify.proofs.confirm.certificate.Certificate.bring_in.Given as goal
+
+abbrev pub invariant-loop-literal : goal.invariant-loop-literal
+invariant-loop-literal l = (j : Judge) → HaveNames l.literals → Goes l.fn.self l.self j (bringing (names_of (take l.literal-index l.literals)) j) (bring_all (names_of (take l.literal-index l.literals)) j) None

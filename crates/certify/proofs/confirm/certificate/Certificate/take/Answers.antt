@@ -1,0 +1,6 @@
+use Rattle.std.proofs.Common.{true, refl}
+use Rattle.certify.proofs.Stepping.{fed_step, right}
+use Rattle.certify.proofs.confirm.certificate.Certificate.take.Goals as goal
+
+pub returns-then-branch : goal.returns-then-branch
+returns-then-branch c = fed_step c.args.self.now (record c.args.self.now { checker = c.step-2.new.self }) (right _ _ _ _ _ true c.step.ensures c.if-branch.true c.in_ok-step.ensures) refl refl

@@ -1,0 +1,5 @@
+use Rattle.certify.proofs.Sets.{among_answer}
+use Rattle.certify.proofs.confirm.sets.are_among.Goals as goal
+
+pub returns : goal.returns
+returns c = among_answer c.mark.new.marks c.args.literals.now c.args.others.now c.all_marked.result c.in_ok-mark.ensures c.all_marked.ensures

@@ -1,0 +1,18 @@
+use Rattle.std.proofs.Common.{List, ℕ}
+use Rattle.std.specs.Bool.{MatchBool}
+use Rattle.certify.specs.Confirming.{variable_in}
+use Rattle.certify.specs.Matches.{EachSpelt, SameSet}
+use Rattle.certify.specs.Spelling.{AllAmong, AreSpelt}
+use Rattle.certify.proofs.Sets.{set_answer, unspelt_each}
+use Rattle.certify.proofs.Stepping.{ok_so}
+use Rattle.certify.proofs.confirm.spell.are_spelt_by.Goals as goal
+
+pub returns-then-branch : goal.returns-then-branch
+returns-then-branch c =
+    let P = AllAmong c.deref.result.now c.args.codes.now × AllAmong c.args.codes.now c.deref.result.now in
+    let Q = SameSet (variable_in c.args.variables.now) c.args.literals.now c.args.codes.now in
+    ok_so c.are_same.result (λ b. MatchBool b P (P → ⊥)) (λ b. MatchBool b Q (Q → ⊥))
+    (λ b m. set_answer (variable_in c.args.variables.now) c.args.literals.now c.spell.new.spelt.items c.deref.result.now c.args.codes.now c.in_ok-spell.field-0 b ((codes : List ℕ) → EachSpelt (variable_in c.args.variables.now) c.args.literals.now codes → ⊥) c.if-branch.true c.in_ok-spell.ensures c.deref.ensures.value m) c.are_same.ensures
+
+pub returns-else-branch : goal.returns-else-branch
+returns-else-branch c = λ s. unspelt_each (variable_in c.args.variables.now) c.args.literals.now c.args.codes.now c.in_ok-spell.field-0 (AreSpelt (variable_in c.args.variables.now) c.args.literals.now c.spell.new.spelt.items) c.if-branch.false c.in_ok-spell.ensures s.0

@@ -1,0 +1,12 @@
+use Rattle.std.proofs.Common.{◌≡◌, Some, sym, ◌∙◌, ap, subst}
+use Rattle.sat_base.specs.Literals.{coded}
+use Rattle.sat_base.specs.Script.{Literal}
+use Rattle.certify.specs.Confirming.{variable_in}
+use Rattle.certify.proofs.Sets.{spelt_loop}
+use Rattle.certify.proofs.confirm.spell.spell.Goals as goal
+
+pub loop-literal-preserved : goal.loop-literal-preserved
+loop-literal-preserved c =
+    spelt_loop (variable_in c.args.variables.now) c.args.literals.now c.loop-literal.spelt.items c.push.new.self.items c.loop-literal.literal-index c.literal-item.result c.in-Some.variable c.lit.result c.loop-literal-test.true c.literal-item.is c.loop-literal.invariant c.in_ok-push.ensures.items
+    (subst (λ (x : Literal). variable_in c.args.variables.now x.name ≡ Some c.in-Some.variable) c.literal.view_is (sym c.variable_of.ensures ∙ c.in-Some.is))
+    (c.lit.ensures ∙ ap (λ (x : Literal). coded c.in-Some.variable x.positive) c.literal.view_is)

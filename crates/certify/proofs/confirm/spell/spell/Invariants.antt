@@ -1,0 +1,7 @@
+use Rattle.std.proofs.Common.{take}
+use Rattle.certify.specs.Confirming.{variable_in}
+use Rattle.certify.specs.Spelling.{AreSpelt}
+use Rattle.certify.proofs.confirm.spell.spell.Given as goal
+
+abbrev pub invariant-loop-literal : goal.invariant-loop-literal
+invariant-loop-literal l = AreSpelt (variable_in l.variables) (take l.literal-index l.literals) l.spelt.items

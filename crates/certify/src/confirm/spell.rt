@@ -1,0 +1,123 @@
+//! Literals of names, as literals of their variables.
+ghost use Rattle.std.specs.Prelude.{ℕ, ◌≡◌, ◌+◌, List, [], length, map, IfOk};
+ghost use Rattle.std.specs.Bool.{MatchBool};
+ghost use Rattle.std.specs.List.{AllByRecursion};
+ghost use Rattle.sat_base.specs.Script.{Among, names_of};
+ghost use Rattle.sat_base.specs.Judge.{names_from};
+ghost use Rattle.certify.specs.Confirming.{variable_in};
+ghost use Rattle.certify.specs.Matches.{EachSpelt, SameSet};
+ghost use Rattle.certify.specs.Spelling.{AreSpelt};
+
+use crate::checker::assigned::Assigned;
+use crate::confirm::sets::{are_among, are_same};
+use crate::script::Literal;
+use sat_base::{Lit, Var};
+use std::alloc::AllocError;
+
+/// The variable of a name, of variables by name from name 1 on.
+fn variable_of(variables: &[Var], name: u32) -> Option<Var>
+    ensures { result ≡ variable_in variables.now name }
+{
+    if name == 0 {
+        return None;
+    }
+    variables.get(name as usize - 1).copied()
+}
+
+/// Spells the literals by the names' variables. The answer is whether each name has one.
+fn spell(variables: &[Var], literals: &[Literal], spelt: &mut Vec<Lit>) -> Result<bool, AllocError>
+    ensures { IfOk result (λ yes. MatchBool yes (AreSpelt (variable_in variables.now) literals.now spelt.new.items) ((codes : List ℕ) → EachSpelt (variable_in variables.now) literals.now codes → ⊥)) }
+{
+    spelt.clear();
+    for literal in literals {
+        let Some(variable) = variable_of(variables, literal.name) else {
+            return Ok(false);
+        };
+        spelt.push(variable.lit(literal.positive))?;
+    }
+    Ok(true)
+}
+
+/// Whether all of the literals stand among the codes.
+pub(crate) fn are_spelt_in(
+    variables: &[Var],
+    literals: &[Literal],
+    codes: &[Lit],
+    spelt: &mut Vec<Lit>,
+    marks: &mut Assigned,
+) -> Result<bool, AllocError>
+    ensures { IfOk result (λ yes. MatchBool yes (EachSpelt (variable_in variables.now) literals.now codes.now) (EachSpelt (variable_in variables.now) literals.now codes.now → ⊥)) }
+{
+    if spell(variables, literals, spelt)? {
+        are_among(marks, spelt, codes)
+    } else {
+        Ok(false)
+    }
+}
+
+/// Whether the literals and the codes are the same sets.
+pub(crate) fn are_spelt_by(
+    variables: &[Var],
+    literals: &[Literal],
+    codes: &[Lit],
+    spelt: &mut Vec<Lit>,
+    marks: &mut Assigned,
+) -> Result<bool, AllocError>
+    ensures { IfOk result (λ yes. MatchBool yes (SameSet (variable_in variables.now) literals.now codes.now) (SameSet (variable_in variables.now) literals.now codes.now → ⊥)) }
+{
+    if spell(variables, literals, spelt)? {
+        are_same(marks, spelt, codes)
+    } else {
+        Ok(false)
+    }
+}
+
+/// Whether the literals are those of so many names, in order.
+fn lists_all(line: &[Literal], count: usize) -> bool
+    ensures { MatchBool result (names_of line.now ≡ names_from count 1) (names_of line.now ≡ names_from count 1 → ⊥) }
+{
+    for i in 0..line.len() {
+        let literal = line[i];
+        if literal.name as usize != i + 1 {
+            return false;
+        }
+    }
+    line.len() == count
+}
+
+/// Whether a line of all names has the literal.
+fn has(line: &[Literal], literal: Literal) -> bool
+    ensures { names_of line.now ≡ names_from (length line.now) 1 → MatchBool result (Among literal line.now) (Among literal line.now → ⊥) }
+{
+    if literal.name == 0 {
+        return false;
+    }
+    if literal.name as usize > line.len() {
+        return false;
+    }
+    let named = line[literal.name as usize - 1];
+    named.positive == literal.positive
+}
+
+/// Whether a line of all names has each of the literals.
+fn has_all(line: &[Literal], literals: &[Literal]) -> bool
+    ensures { names_of line.now ≡ names_from (length line.now) 1 → MatchBool result (AllByRecursion (λ l. Among l line.now) literals.now) (AllByRecursion (λ l. Among l line.now) literals.now → ⊥) }
+{
+    for literal in literals {
+        if !has(line, *literal) {
+            return false;
+        }
+    }
+    true
+}
+
+/// Whether the literals are those of so many names, in order, and the ask's are among them.
+pub(crate) fn is_line(line: &[Literal], ask: &[Literal], count: usize) -> bool
+    ensures { MatchBool result ((names_of line.now ≡ names_from count 1) × AllByRecursion (λ l. Among l line.now) ask.now) ((names_of line.now ≡ names_from count 1) × AllByRecursion (λ l. Among l line.now) ask.now → ⊥) }
+{
+    if lists_all(line, count) {
+        has_all(line, ask)
+    } else {
+        false
+    }
+}

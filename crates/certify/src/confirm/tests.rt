@@ -1,0 +1,228 @@
+//! Verdicts of worked texts, each whole and read by one byte.
+
+use crate::confirm::confirm;
+use crate::run::run;
+use crate::verdict::{ConfirmFault, Verdict, Why};
+use sat_base::Counted;
+use std::io;
+use std::io::{ErrorKind, Read};
+use std::process::Abort;
+use std::test::Fail;
+
+const ROW: &[u8] = b"1 2 0\na 0\n";
+
+const ROW_ANSWERS: &[u8] = b"s SATISFIABLE\nv -1 2 0\n";
+
+const ROW_STEPS: &[u8] = &[
+    0x02, 0x00, 0x01, 0x02, 0x01, 0x02, 0x05, 0x02, 0x00, 0x02, 0x0b, 0x00, 0x0a, 0x02, 0x01, 0x02,
+    0x0b, 0x00, 0x0d,
+];
+
+/// A text that is given byte by byte. One call fails, counted from 1; none where that is 0.
+#[derive(Drop)]
+struct ByOne<'a> {
+    text: &'a [u8],
+    calls: u64,
+    failing: u64,
+}
+
+impl Read for ByOne<'_> {
+    fn read(&mut self, buf: &mut [u8]) -> io::Result<usize> {
+        self.calls = self.calls.saturating_add(1);
+        if self.calls == self.failing {
+            return Err(io::Error::from(ErrorKind::Interrupted));
+        }
+        if buf.is_empty() {
+            return Ok(0);
+        }
+        match self.text.split_first() {
+            Some((byte, rest)) => {
+                buf[0] = *byte;
+                self.text = rest;
+                Ok(1)
+            }
+            None => Ok(0),
+        }
+    }
+}
+
+fn by_one(text: &[u8], failing: u64) -> Counted<ByOne<'_>> {
+    Counted::new(ByOne {
+        text,
+        calls: 0,
+        failing,
+    })
+}
+
+/// What is said of the texts whole, which is also what is said of them read by one byte.
+fn verdict<R: Abort + AllocGlobal>(
+    rt: &R,
+    script: &[u8],
+    answers: &[u8],
+    certificate: &[u8],
+) -> Result<Verdict, Fail> {
+    let whole = confirm(
+        rt.alloc(),
+        &mut Counted::new(script),
+        &mut Counted::new(answers),
+        &mut Counted::new(certificate),
+    )?;
+    let cut = confirm(
+        rt.alloc(),
+        &mut by_one(script, 0),
+        &mut by_one(answers, 0),
+        &mut by_one(certificate, 0),
+    )?;
+    assert_eq!(rt; whole, cut);
+    Ok(whole)
+}
+
+fn no(ask: u64, why: Why) -> Verdict {
+    Verdict::No { ask, why }
+}
+
+#[test]
+fn contradicting_units(rt: HostRuntime) -> Result<(), Fail> {
+    let script = b"1 0\n-1 0\na 0\n";
+    let answers = b"s UNSATISFIABLE\nf 0\n";
+    assert_eq!(rt;
+        verdict(&rt, script, answers, &[0x0d])?,
+        no(1, Why::StepOutOfPlace)
+    );
+    assert_eq!(rt;
+        verdict(&rt, script, answers, &[])?,
+        no(1, Why::CertificateEnds)
+    );
+    assert_eq!(rt;
+        verdict(&rt, script, answers, &[2, 0, 1, 5, 1, 0, 5, 1, 1])?,
+        Verdict::Yes
+    );
+    Ok(())
+}
+
+#[test]
+fn a_model(rt: HostRuntime) -> Result<(), Fail> {
+    assert_eq!(rt; verdict(&rt, ROW, ROW_ANSWERS, ROW_STEPS)?, Verdict::Yes);
+    assert_eq!(rt;
+        verdict(&rt, ROW, b"", ROW_STEPS)?,
+        no(1, Why::AnswerMissing)
+    );
+    assert_eq!(rt;
+        verdict(&rt, ROW, b"s SATISFIABLE\nv 1 2 0\n", ROW_STEPS)?,
+        no(1, Why::AnswerDiffers)
+    );
+    assert_eq!(rt;
+        verdict(&rt, ROW, b"s SATISFIABLE\nv -1  2 0\n", ROW_STEPS)?,
+        no(1, Why::AnswerText)
+    );
+    let twice = b"s SATISFIABLE\nv -1 2 0\ns SATISFIABLE\nv -1 2 0\n";
+    assert_eq!(rt;
+        verdict(&rt, ROW, twice, ROW_STEPS)?,
+        no(2, Why::AnswerExtra)
+    );
+    Ok(())
+}
+
+#[test]
+fn changed_steps(rt: HostRuntime) -> Result<(), Fail> {
+    let clause = [2, 0, 1, 2, 1, 2, 5, 2, 0, 3, 11, 0, 10, 2, 1, 2, 11, 0, 13];
+    assert_eq!(rt;
+        verdict(&rt, ROW, ROW_ANSWERS, &clause)?,
+        no(1, Why::ClauseDiffers)
+    );
+    let name = [2, 0, 2, 2, 1, 2, 5, 2, 0, 2, 11, 0, 10, 2, 1, 2, 11, 0, 13];
+    assert_eq!(rt;
+        verdict(&rt, ROW, ROW_ANSWERS, &name)?,
+        no(1, Why::NameDiffers)
+    );
+    let known = [2, 0, 1, 2, 0, 2, 5, 2, 0, 2, 11, 0, 10, 2, 1, 2, 11, 0, 13];
+    assert_eq!(rt;
+        verdict(&rt, ROW, ROW_ANSWERS, &known)?,
+        no(1, Why::NameNotFresh)
+    );
+    let behind = [
+        2, 0, 1, 2, 1, 2, 5, 2, 0, 2, 11, 0, 10, 2, 1, 2, 11, 0, 13, 255, 7,
+    ];
+    assert_eq!(rt; verdict(&rt, ROW, ROW_ANSWERS, &behind)?, Verdict::Yes);
+    Ok(())
+}
+
+#[test]
+fn refused_and_malformed(rt: HostRuntime) -> Result<(), Fail> {
+    assert_eq!(rt; verdict(&rt, b"", b"", &[13])?, Verdict::Yes);
+    assert_eq!(rt;
+        verdict(&rt, b"268435457 0\n", b"c refused 1 limit\n", &[13])?,
+        Verdict::Yes
+    );
+    assert_eq!(rt;
+        verdict(&rt, b"1 2", b"c malformed 1\n", &[13])?,
+        Verdict::Yes
+    );
+    assert_eq!(rt;
+        verdict(&rt, b"1 2", b"", &[13])?,
+        no(1, Why::AnswerMissing)
+    );
+    Ok(())
+}
+
+#[test]
+fn what_a_run_wrote(rt: HostRuntime) -> Result<(), Fail> {
+    let rows: [(&[u8], u64); 18] = [
+        (b"", 1 << 20),
+        (b"a 0\n", 1 << 20),
+        (b"3 0\na 0\n", 1 << 20),
+        (ROW, 1 << 20),
+        (b"1 0\n-1 0\na 0\n", 1 << 20),
+        (b"1 0\n-1 0\na 0\n", 0),
+        (b"0\na 0\n", 1 << 20),
+        (b"0\na 0\n", 0),
+        (b"1 2 0\n1 -2 0\n-1 2 0\n-1 -2 0\na 0\n", 1 << 20),
+        (b"1 -1 0\na 0\n", 1 << 20),
+        (b"1 0\na 0\n", 0),
+        (b"268435457 0\n", 1 << 20),
+        (b"1 2", 1 << 20),
+        (b"-0 0\n", 1 << 20),
+        (b"+1 0\n", 1 << 20),
+        (b"1 a 0\n", 1 << 20),
+        (b"b 0\n", 1 << 20),
+        (b"a 1 0\n", 1 << 20),
+    ];
+    for (script, budget) in rows {
+        let mut answers = Counted::new(Vec::new(rt.alloc()));
+        let mut certificate = Counted::new(Vec::new(rt.alloc()));
+        let mut text = by_one(script, 0);
+        run(
+            rt.alloc(),
+            &mut text,
+            &mut answers,
+            &mut certificate,
+            budget,
+        )?;
+        let answers = answers.into_inner();
+        let certificate = certificate.into_inner();
+        assert_eq!(rt; verdict(&rt, script, &answers, &certificate)?, Verdict::Yes);
+    }
+    Ok(())
+}
+
+/// Each read in turn fails, and gives its text's fault.
+#[test]
+fn failing_reads(rt: HostRuntime) -> Result<(), Fail> {
+    for failing in 1..12 {
+        let faults = [
+            (failing, 0, 0, ConfirmFault::ScriptRead),
+            (0, failing, 0, ConfirmFault::AnswersRead),
+            (0, 0, failing, ConfirmFault::CertificateRead),
+        ];
+        for (script, answers, certificate, fault) in faults {
+            let said = confirm(
+                rt.alloc(),
+                &mut by_one(ROW, script),
+                &mut by_one(ROW_ANSWERS, answers),
+                &mut by_one(ROW_STEPS, certificate),
+            );
+            assert_eq!(rt; said, Err(fault));
+        }
+    }
+    Ok(())
+}
