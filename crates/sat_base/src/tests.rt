@@ -140,38 +140,41 @@ fn a_failed_read_is_not_tried_again(rt: HostRuntime) {
     assert_eq!(rt; reader.into_inner().calls, 3);
 }
 
+/// Tests whether a step that was written is read again, whole and by one byte.
+fn is_read_again(alloc: Global, step: &ProofStep<'_>) -> Result<bool, Fail> {
+    let text = written(alloc, step)?;
+    let mut whole = Counted::new(text.as_slice());
+    let again = read_again(alloc, &mut whole)?;
+    let mut pieces = by_one(text.as_slice(), 0);
+    let cut = read_again(alloc, &mut pieces)?;
+    Ok(again.as_slice() == text.as_slice() && cut.as_slice() == text.as_slice())
+}
+
 #[test]
 fn steps_are_read_again(rt: HostRuntime) -> Result<(), Fail> {
-    let lits = [Lit::from_index(0, true), Lit::from_index(268435455, false)];
+    let last = Var::from_index(268435455);
+    let lits = [Lit::from_index(0, true), last.negative()];
     let hashes = [0, 230, 18446744073709551615];
-    let steps = [
-        ProofStep::UserVarName {
-            global: Var::from_index(268435455),
-            user: Some(Var::from_index(268435455)),
-        },
-        ProofStep::UserVarName {
-            global: Var::from_index(0),
-            user: None,
-        },
-        ProofStep::AddClause { clause: &lits },
-        ProofStep::AtClause {
-            redundant: true,
-            clause: &lits,
-            propagation_hashes: &hashes,
-        },
-        ProofStep::Model { assignment: &lits },
-        ProofStep::Assumptions { assumptions: &[] },
-        ProofStep::End,
-    ];
-    for step in steps {
-        let text = written(rt.alloc(), &step)?;
-        let mut whole = Counted::new(text.as_slice());
-        let again = read_again(rt.alloc(), &mut whole)?;
-        assert_eq!(rt; again.as_slice(), text.as_slice());
-        let mut pieces = by_one(text.as_slice(), 0);
-        let again = read_again(rt.alloc(), &mut pieces)?;
-        assert_eq!(rt; again.as_slice(), text.as_slice());
-    }
+    let named = ProofStep::UserVarName {
+        global: last,
+        user: Some(last),
+    };
+    assert!(rt; is_read_again(rt.alloc(), &named)?);
+    let unnamed = ProofStep::UserVarName {
+        global: Var::from_index(0),
+        user: None,
+    };
+    assert!(rt; is_read_again(rt.alloc(), &unnamed)?);
+    assert!(rt; is_read_again(rt.alloc(), &ProofStep::AddClause { clause: &lits })?);
+    let derived = ProofStep::AtClause {
+        redundant: true,
+        clause: &lits,
+        propagation_hashes: &hashes,
+    };
+    assert!(rt; is_read_again(rt.alloc(), &derived)?);
+    assert!(rt; is_read_again(rt.alloc(), &ProofStep::Model { assignment: &lits })?);
+    assert!(rt; is_read_again(rt.alloc(), &ProofStep::Assumptions { assumptions: &lits })?);
+    assert!(rt; is_read_again(rt.alloc(), &ProofStep::End)?);
     Ok(())
 }
 
