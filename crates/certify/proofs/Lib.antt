@@ -13,6 +13,7 @@ pub mod Rows
 pub mod Taken
 pub mod Fitting
 pub mod Certified
+pub mod CertifiedRows
 pub mod Excused
 pub mod Left
 pub mod Asking

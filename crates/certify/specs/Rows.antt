@@ -8,6 +8,7 @@ use Rattle.certify.specs.Accepts.{stored_after}
 use Rattle.certify.specs.Answers.{Outcome, Sat, Unsat, answers_text}
 use Rattle.certify.specs.Right.{AnswersAreRight}
 use Rattle.certify.specs.Matches.{expected, NewName, NoName, Adds, Opens, Shows, Closes, Finish, StepsMatch, MatchesCommands}
+use Rattle.certify.specs.Certified.{Certifies}
 use Rattle.certify.specs.TheChecking.{the_checking}
 
 -- the positive literal of a name, and the negative one
@@ -133,3 +134,28 @@ NoAnswers = (certificate : List ℕ) → MatchesCommands the_checking clause_and
 -- nor the right answers twice
 abbrev pub AnswersTwice : Type 0
 AnswersTwice = (certificate : List ℕ) → MatchesCommands the_checking clause_and_ask Clean (clause_and_ask_text ++ clause_and_ask_text) certificate → ⊥
+
+-- Steps that a run may write. A clause and an ask:
+abbrev pub ClauseAndAskCertified : Type 0
+ClauseAndAskCertified = Certifies the_checking [] (UserVarName 0 (Some 0) ∷ UserVarName 1 (Some 1) ∷ AddClause (0 ∷ 2 ∷ []) ∷ Assumptions [] ∷ Model (1 ∷ 2 ∷ []) ∷ Assumptions [] ∷ End ∷ []) (expected start clause_and_ask (Sat (neg 1 ∷ pos 2 ∷ []) ∷ []))
+
+-- `1 0`, `-1 0`, `2 0`, `a 0`: the third clause and the core are left out, the name isn't
+abbrev pub LeftOutCertified : Type 0
+LeftOutCertified = Certifies the_checking [] (UserVarName 0 (Some 0) ∷ AddClause (0 ∷ []) ∷ AddClause (1 ∷ []) ∷ UserVarName 1 (Some 1) ∷ Assumptions [] ∷ Assumptions [] ∷ End ∷ [])
+    (expected start (Clause (pos 1 ∷ []) ∷ Clause (neg 1 ∷ []) ∷ Clause (pos 2 ∷ []) ∷ Ask [] ∷ []) (Unsat [] ∷ []))
+
+-- Steps that it may not: `1 0`, `a 0` with `End` alone
+abbrev pub EndAloneUncertified : Type 0
+EndAloneUncertified = (outcomes : List Outcome) → Certifies the_checking [] (End ∷ []) (expected start (Clause (pos 1 ∷ []) ∷ Ask [] ∷ []) outcomes) → ⊥
+
+-- `1 0` without its clause
+abbrev pub ClauseUncertified : Type 0
+ClauseUncertified = Certifies the_checking [] (UserVarName 0 (Some 0) ∷ End ∷ []) (expected start (Clause (pos 1 ∷ []) ∷ []) []) → ⊥
+
+-- `a 0`, satisfiable, without its model
+abbrev pub ModelUncertified : Type 0
+ModelUncertified = Certifies the_checking [] (Assumptions [] ∷ Assumptions [] ∷ End ∷ []) (expected start (Ask [] ∷ []) (Sat [] ∷ [])) → ⊥
+
+-- an empty script with a step behind `End`
+abbrev pub BehindEndUncertified : Type 0
+BehindEndUncertified = (step : Step) → Certifies the_checking [] (End ∷ step ∷ []) (expected start [] []) → ⊥

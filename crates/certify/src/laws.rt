@@ -2,7 +2,7 @@
 ghost use Rattle.certify.specs.Laws.{AskBindsNothing, AskLeavesNames, GivenIdentitiesSuffice, JudgeIsKept, MatchingIsRight, NotBoth, RepeatChangesNothing, TautologyChangesNothing, TextsTellOutcomes, TextsThatMatchAreRight};
 ghost use Rattle.certify.specs.Checking.{IsSound};
 ghost use Rattle.certify.specs.TheChecking.{the_checking};
-ghost use Rattle.certify.specs.Rows.{AnswersTwice, AskAloneText, ClauseAndAskExpected, ClauseAndAskMatches, ClauseAndAskRight, ClauseAndAskSteps, ClauseAndAskText, EmptyMatches, EmptyText, EndAlone, HiddenAndBackExpected, HiddenAndBackState, HiddenAtOnceState, LeftmostRefuses, MalformedText, NameOnOldVariable, NoAnswers, TwoUnitsMatches, TwoUnitsRight, TwoUnitsSteps, WitnessRefusedText, WitnessRefusesAsk};
+ghost use Rattle.certify.specs.Rows.{AnswersTwice, AskAloneText, BehindEndUncertified, ClauseAndAskCertified, ClauseAndAskExpected, ClauseAndAskMatches, ClauseAndAskRight, ClauseAndAskSteps, ClauseAndAskText, ClauseUncertified, EmptyMatches, EmptyText, EndAlone, EndAloneUncertified, HiddenAndBackExpected, HiddenAndBackState, HiddenAtOnceState, LeftOutCertified, LeftmostRefuses, MalformedText, ModelUncertified, NameOnOldVariable, NoAnswers, TwoUnitsMatches, TwoUnitsRight, TwoUnitsSteps, WitnessRefusedText, WitnessRefusesAsk};
 
 /// Where script, answers and certificate match, the answers are right: by steps and outcomes, and by the three texts.
 pub fn matching_is_right()
@@ -83,4 +83,14 @@ pub fn rows_that_fail()
     ensures end_alone { EndAlone }
     ensures missing { NoAnswers }
     ensures extra { AnswersTwice }
+{}
+
+/// Worked rows of a run's certificate: steps that it may have, and such that leave out what is needed, or have more behind `End`.
+pub fn rows_of_certificates()
+    ensures model { ClauseAndAskCertified }
+    ensures left_out { LeftOutCertified }
+    ensures end_alone { EndAloneUncertified }
+    ensures clause_needed { ClauseUncertified }
+    ensures model_needed { ModelUncertified }
+    ensures behind_end { BehindEndUncertified }
 {}

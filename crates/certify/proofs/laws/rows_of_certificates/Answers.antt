@@ -1,0 +1,20 @@
+use Rattle.certify.proofs.CertifiedRows as rows
+use Rattle.certify.proofs.laws.rows_of_certificates.Goals as goal
+
+pub returns-clause-model : goal.returns-clause-model
+returns-clause-model c = rows.clause_and_ask
+
+pub returns-clause-left_out : goal.returns-clause-left_out
+returns-clause-left_out c = rows.left_out_row
+
+pub returns-clause-end_alone : goal.returns-clause-end_alone
+returns-clause-end_alone c = rows.end_alone
+
+pub returns-clause-clause_needed : goal.returns-clause-clause_needed
+returns-clause-clause_needed c = rows.clause_needed
+
+pub returns-clause-model_needed : goal.returns-clause-model_needed
+returns-clause-model_needed c = rows.model_needed
+
+pub returns-clause-behind_end : goal.returns-clause-behind_end
+returns-clause-behind_end c = rows.behind_end
