@@ -1,12 +1,13 @@
 //! Writing proof steps.
 ghost use Rattle.std.specs.Prelude.{[], ◌∷◌, ◌≡◌, ◌<◌, OnOk};
+ghost use Rattle.sat_base.specs.Formats.{Both};
 ghost use Rattle.sat_base.specs.Numbers.{IsNumber};
-ghost use Rattle.sat_base.specs.StepText.{IsVariable, IsOptionalVariable, IsFlag, AreLiterals, AreHashes, tag_of, SpellsFields, SpellsStep};
-ghost use Rattle.sat_base.specs.StepViews.{step_of};
+ghost use Rattle.sat_base.specs.StepText.{IsVariable, IsOptionalVariable, IsLiteral, IsHash, IsFlag, IsWidth, IsDeletion, AreLiterals, AreHashes, AreUnits, tag_of, SpellsFields, SpellsStep};
+ghost use Rattle.sat_base.specs.StepViews.{deletion_of, step_of};
 ghost use Rattle.sat_base.specs.Writing.{Writes, Plainly, written_by, with_pending};
 
 use crate::pending::{Pending, ROOM};
-use crate::{ClauseHash, CountedWrite, Lit, ProofStep, Var};
+use crate::{ClauseHash, CountedWrite, DeleteClauseProof, HashBits, Lit, ProofStep, Var};
 use std::io;
 
 /// Writes out what waits.
@@ -107,15 +108,134 @@ fn put_hashes<W: CountedWrite>(
     Ok(())
 }
 
+fn put_width<W: CountedWrite>(
+    writer: &mut W,
+    pending: &mut Pending,
+    bits: HashBits,
+) -> io::Result<()>
+    ensures { Writes IsWidth bits result (with_pending W.contents W.failures writer.old pending.old) (with_pending W.contents W.failures writer.new pending.new) }
+{
+    put_number(writer, pending, bits.get() as u64)
+}
+
+fn put_proof<W: CountedWrite>(
+    writer: &mut W,
+    pending: &mut Pending,
+    proof: DeleteClauseProof,
+) -> io::Result<()>
+    ensures { Writes IsDeletion (deletion_of proof) result (with_pending W.contents W.failures writer.old pending.old) (with_pending W.contents W.failures writer.new pending.new) }
+{
+    match proof {
+        DeleteClauseProof::Redundant => put_number(writer, pending, 0),
+        DeleteClauseProof::Simplified => put_number(writer, pending, 1),
+        DeleteClauseProof::Satisfied => put_number(writer, pending, 2),
+    }
+}
+
+fn put_unit<W: CountedWrite>(
+    writer: &mut W,
+    pending: &mut Pending,
+    unit: (Lit, ClauseHash),
+) -> io::Result<()>
+    ensures { Writes (Both IsLiteral IsHash) unit result (with_pending W.contents W.failures writer.old pending.old) (with_pending W.contents W.failures writer.new pending.new) }
+{
+    let (lit, hash) = unit;
+    put_number(writer, pending, lit.code() as u64)?;
+    put_number(writer, pending, hash)
+}
+
+fn put_units<W: CountedWrite>(
+    writer: &mut W,
+    pending: &mut Pending,
+    units: &[(Lit, ClauseHash)],
+) -> io::Result<()>
+    ensures { Writes AreUnits units.now result (with_pending W.contents W.failures writer.old pending.old) (with_pending W.contents W.failures writer.new pending.new) }
+{
+    put_number(writer, pending, units.len() as u64)?;
+    for unit in units {
+        put_unit(writer, pending, *unit)?;
+    }
+    Ok(())
+}
+
+/// Lets a variable wait, and one that may be none.
+fn put_variables<W: CountedWrite>(
+    writer: &mut W,
+    pending: &mut Pending,
+    first: Var,
+    second: Option<Var>,
+) -> io::Result<()>
+    ensures { Writes (Both IsVariable IsOptionalVariable) (first, second) result (with_pending W.contents W.failures writer.old pending.old) (with_pending W.contents W.failures writer.new pending.new) }
+{
+    put_variable(writer, pending, first)?;
+    put_optional(writer, pending, second)
+}
+
+fn put_mode<W: CountedWrite>(
+    writer: &mut W,
+    pending: &mut Pending,
+    var: Var,
+    sample: bool,
+) -> io::Result<()>
+    ensures { Writes (Both IsVariable IsFlag) (var, sample) result (with_pending W.contents W.failures writer.old pending.old) (with_pending W.contents W.failures writer.new pending.new) }
+{
+    put_variable(writer, pending, var)?;
+    put_flag(writer, pending, sample)
+}
+
+fn put_lists<W: CountedWrite>(
+    writer: &mut W,
+    pending: &mut Pending,
+    lits: &[Lit],
+    hashes: &[ClauseHash],
+) -> io::Result<()>
+    ensures { Writes (Both AreLiterals AreHashes) (lits.now, hashes.now) result (with_pending W.contents W.failures writer.old pending.old) (with_pending W.contents W.failures writer.new pending.new) }
+{
+    put_literals(writer, pending, lits)?;
+    put_hashes(writer, pending, hashes)
+}
+
+fn put_derived<W: CountedWrite>(
+    writer: &mut W,
+    pending: &mut Pending,
+    redundant: bool,
+    clause: &[Lit],
+    hashes: &[ClauseHash],
+) -> io::Result<()>
+    ensures { Writes (Both IsFlag (Both AreLiterals AreHashes)) (redundant, (clause.now, hashes.now)) result (with_pending W.contents W.failures writer.old pending.old) (with_pending W.contents W.failures writer.new pending.new) }
+{
+    put_flag(writer, pending, redundant)?;
+    put_lists(writer, pending, clause, hashes)
+}
+
+fn put_deletion<W: CountedWrite>(
+    writer: &mut W,
+    pending: &mut Pending,
+    clause: &[Lit],
+    proof: DeleteClauseProof,
+) -> io::Result<()>
+    ensures { Writes (Both AreLiterals IsDeletion) (clause.now, deletion_of proof) result (with_pending W.contents W.failures writer.old pending.old) (with_pending W.contents W.failures writer.new pending.new) }
+{
+    put_literals(writer, pending, clause)?;
+    put_proof(writer, pending, proof)
+}
+
 fn tag(step: &ProofStep<'_>) -> u8
     ensures { result ≡ tag_of (step_of step.now) }
 {
     match *step {
+        ProofStep::SolverVarName { .. } => 1,
         ProofStep::UserVarName { .. } => 2,
+        ProofStep::DeleteVar { .. } => 3,
+        ProofStep::ChangeSamplingMode { .. } => 4,
         ProofStep::AddClause { .. } => 5,
         ProofStep::AtClause { .. } => 6,
+        ProofStep::UnitClauses { .. } => 7,
+        ProofStep::DeleteClause { .. } => 8,
+        ProofStep::ChangeHashBits { .. } => 9,
         ProofStep::Model { .. } => 10,
         ProofStep::Assumptions { .. } => 11,
+        ProofStep::FailedAssumptions { .. } => 12,
         ProofStep::End => 13,
     }
 }
@@ -129,22 +249,27 @@ fn put_fields<W: CountedWrite>(
     ensures { Writes SpellsFields (step_of step.now) result (with_pending W.contents W.failures writer.old pending.old) (with_pending W.contents W.failures writer.new pending.new) }
 {
     match *step {
-        ProofStep::UserVarName { global, user } => {
-            put_variable(writer, pending, global)?;
-            put_optional(writer, pending, user)
+        ProofStep::SolverVarName { global, solver } => {
+            put_variables(writer, pending, global, solver)
         }
+        ProofStep::UserVarName { global, user } => put_variables(writer, pending, global, user),
+        ProofStep::DeleteVar { var } => put_variable(writer, pending, var),
+        ProofStep::ChangeSamplingMode { var, sample } => put_mode(writer, pending, var, sample),
         ProofStep::AddClause { clause } => put_literals(writer, pending, clause),
         ProofStep::AtClause {
             redundant,
             clause,
             propagation_hashes,
-        } => {
-            put_flag(writer, pending, redundant)?;
-            put_literals(writer, pending, clause)?;
-            put_hashes(writer, pending, propagation_hashes)
-        }
+        } => put_derived(writer, pending, redundant, clause, propagation_hashes),
+        ProofStep::UnitClauses { units } => put_units(writer, pending, units),
+        ProofStep::DeleteClause { clause, proof } => put_deletion(writer, pending, clause, proof),
+        ProofStep::ChangeHashBits { bits } => put_width(writer, pending, bits),
         ProofStep::Model { assignment } => put_literals(writer, pending, assignment),
         ProofStep::Assumptions { assumptions } => put_literals(writer, pending, assumptions),
+        ProofStep::FailedAssumptions {
+            failed_core,
+            propagation_hashes,
+        } => put_lists(writer, pending, failed_core, propagation_hashes),
         ProofStep::End => Ok(()),
     }
 }
