@@ -117,6 +117,10 @@ pub pair_giving : {A B : Type 0} (x : A) (y : B) (r : Result (Unit {0}) StepErro
 pair_giving x y (Ok u) = refl
 pair_giving x y (Err e) = refl
 
+pub pair_valued : {A B C : Type 0} (x : A) (f : B → C) (r : Result B StepError) → valued {A = C} {B = A × C} (λ z. (x, z)) (valued f r) ≡ valued {A = B} {B = A × C} (λ z. (x, f z)) r
+pair_valued x f (Ok z) = refl
+pair_valued x f (Err e) = refl
+
 -- an error of a part, at a tag that a test has told
 pub stops_at : {X B : Type 0} (F : ℕ → Format B) (t tag : ℕ) (f : X → B) (r : Result X StepError) (d e : StepError) (old new : Source) → r ≡ Err d → d ≡ e → tag ≡ t → Reads (F t) (Err e) old new → Reads (F tag) (valued f r) old new
 stops_at {X} {B} F t tag f r d e old new p q k h =

@@ -80,6 +80,22 @@ fn put_flag<W: CountedWrite>(writer: &mut W, pending: &mut Pending, flag: bool) 
     }
 }
 
+fn put_literal<W: CountedWrite>(writer: &mut W, pending: &mut Pending, lit: Lit) -> io::Result<()>
+    ensures { Writes IsLiteral lit result (with_pending W.contents W.failures writer.old pending.old) (with_pending W.contents W.failures writer.new pending.new) }
+{
+    put_number(writer, pending, lit.code() as u64)
+}
+
+fn put_hash<W: CountedWrite>(
+    writer: &mut W,
+    pending: &mut Pending,
+    hash: ClauseHash,
+) -> io::Result<()>
+    ensures { Writes IsHash hash result (with_pending W.contents W.failures writer.old pending.old) (with_pending W.contents W.failures writer.new pending.new) }
+{
+    put_number(writer, pending, hash)
+}
+
 fn put_literals<W: CountedWrite>(
     writer: &mut W,
     pending: &mut Pending,
@@ -89,7 +105,7 @@ fn put_literals<W: CountedWrite>(
 {
     put_number(writer, pending, lits.len() as u64)?;
     for lit in lits {
-        put_number(writer, pending, lit.code() as u64)?;
+        put_literal(writer, pending, *lit)?;
     }
     Ok(())
 }
@@ -103,7 +119,7 @@ fn put_hashes<W: CountedWrite>(
 {
     put_number(writer, pending, hashes.len() as u64)?;
     for hash in hashes {
-        put_number(writer, pending, *hash)?;
+        put_hash(writer, pending, *hash)?;
     }
     Ok(())
 }
@@ -140,8 +156,8 @@ fn put_unit<W: CountedWrite>(
     ensures { Writes (Both IsLiteral IsHash) unit result (with_pending W.contents W.failures writer.old pending.old) (with_pending W.contents W.failures writer.new pending.new) }
 {
     let (lit, hash) = unit;
-    put_number(writer, pending, lit.code() as u64)?;
-    put_number(writer, pending, hash)
+    put_literal(writer, pending, lit)?;
+    put_hash(writer, pending, hash)
 }
 
 fn put_units<W: CountedWrite>(

@@ -1,7 +1,7 @@
 use Rattle.std.proofs.lemmas.Result.{err_from_is_err_and}
 use Rattle.sat_base.specs.Reading.{source_of}
 use Rattle.sat_base.proofs.StepReads.{optional_fails}
-use Rattle.sat_base.proofs.read_step.optional.Goals as goal
+use Rattle.sat_base.proofs.read_step.values.optional.Goals as goal
 
 pub returns-in_err-above : goal.returns-in_err-above
 returns-in_err-above g c =

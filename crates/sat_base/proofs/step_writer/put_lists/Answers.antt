@@ -1,0 +1,8 @@
+use Rattle.sat_base.specs.Formats.{Both}
+use Rattle.sat_base.specs.StepText.{IsVariable, IsOptionalVariable, IsLiteral, IsHash, IsFlag, IsDeletion, AreLiterals, AreHashes}
+use Rattle.sat_base.specs.StepViews.{deletion_of}
+use Rattle.sat_base.proofs.Writes.{one_then_other}
+use Rattle.sat_base.proofs.step_writer.put_lists.Goals as goal
+
+pub returns : goal.returns
+returns g c = one_then_other AreLiterals AreHashes c.args.lits.now c.args.hashes.now _ _ _ c.put_hashes.result c.in_ok-put_literals.ensures c.put_hashes.ensures

@@ -1,0 +1,8 @@
+use Rattle.sat_base.specs.Formats.{Both}
+use Rattle.sat_base.specs.StepText.{IsVariable, IsOptionalVariable, IsLiteral, IsHash, IsFlag, IsDeletion, AreLiterals, AreHashes}
+use Rattle.sat_base.specs.StepViews.{deletion_of}
+use Rattle.sat_base.proofs.Writes.{one_then_other}
+use Rattle.sat_base.proofs.step_writer.put_unit.Goals as goal
+
+pub returns : goal.returns
+returns g c = one_then_other IsLiteral IsHash c.args.unit.0 c.args.unit.1 _ _ _ c.put_hash.result c.in_ok-put_literal.ensures c.put_hash.ensures
