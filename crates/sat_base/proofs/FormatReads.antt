@@ -1,9 +1,9 @@
 -- Readers of formats that are made of others.
-use Rattle.std.proofs.Common.{◌≡◌, ℕ, ◌+◌, ◌^◌, ◌<◌, zero, suc, List, [], ◌∷◌, ◌++◌, length, Result, Ok, Err, append_assoc, refl, sym, ap, subst, ◌∙◌, arith}
+use Rattle.std.proofs.Common.{◌≡◌, ℕ, suc, List, [], ◌∷◌, ◌++◌, length, Result, Ok, Err, append_assoc, refl, sym, ap, subst}
 use Rattle.std.proofs.lemmas.List.{append-nil}
 use Rattle.sat_base.specs.declared.error.StepError.{StepError}
 use Rattle.sat_base.specs.declared.error.StepError.TheVariants as errors
-use Rattle.sat_base.specs.Formats.{Format, Open, Live, Then, Items, Times, ListOf, OneForm}
+use Rattle.sat_base.specs.Formats.{Format, Then, Times, ListOf, OneForm}
 use Rattle.sat_base.specs.Reading.{Source, Passes, Reads, giving, valued}
 use Rattle.sat_base.proofs.Formats.{HasText, live_first, shut_first, live_second, shut_second, Times_text, to_items, from_items}
 use Rattle.sat_base.proofs.ReadLemmas.{passes_none, passes_more, faults_later}

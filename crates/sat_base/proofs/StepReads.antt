@@ -1,18 +1,17 @@
 -- Steps, and the values that they are made of.
-use Rattle.std.proofs.Common.{◌≡◌, ℕ, ◌+◌, ◌*◌, ◌^◌, ◌<◌, zero, suc, Bool, true, false, Option, Some, None, List, [], ◌∷◌, ◌++◌, length, Result, Ok, Err, append_assoc, refl, sym, ap, subst, ◌∙◌, arith}
-use Rattle.std.proofs.lemmas.Grind.{common_steps}
+use Rattle.std.proofs.Common.{◌≡◌, ℕ, ◌+◌, ◌*◌, ◌^◌, zero, suc, Bool, true, false, Option, Some, None, List, [], ◌∷◌, ◌++◌, length, Result, Ok, Err, append_assoc, refl, sym, ap, subst, ◌∙◌, arith}
 use Rattle.sat_base.specs.declared.error.StepError.{StepError}
 use Rattle.sat_base.specs.declared.error.StepError.TheVariants as errors
-use Rattle.sat_base.specs.Formats.{Format, Open, Live, Both, Items, ListOf, OneForm}
+use Rattle.sat_base.specs.Formats.{Format, Both, Items, ListOf, OneForm}
 use Rattle.sat_base.specs.Literals.{largest}
-use Rattle.sat_base.specs.Numbers.{IsNumber, IsBelow}
+use Rattle.sat_base.specs.Numbers.{IsBelow}
 use Rattle.sat_base.specs.Steps.{Deletion, Redundant, Simplified, Satisfied, Step, SolverVarName, UserVarName, DeleteVar, ChangeSamplingMode, AddClause, AtClause, UnitClauses, DeleteClause, ChangeHashBits, Model, Assumptions, FailedAssumptions, End}
 use Rattle.sat_base.specs.StepText.{IsVariable, IsOptionalVariable, IsLiteral, IsHash, IsFlag, IsWidth, IsDeletion, AreLiterals, AreHashes, AreUnits, tag_of, SpellsFields, SpellsStep, SpellsSteps}
 use Rattle.sat_base.specs.Kinds.{is_tag}
-use Rattle.sat_base.specs.Reading.{Source, Passes, Reads, Answers, Behind, NextByte, valued}
+use Rattle.sat_base.specs.Reading.{Source, Passes, Reads, Answers, Behind, NextByte}
 use Rattle.sat_base.proofs.Formats.{HasText, cancel, one_then}
-use Rattle.sat_base.proofs.Numbers.{one_number, one_below, some_below}
-use Rattle.sat_base.proofs.ReadLemmas.{passes_more, passes_none, faults_later, ends_there}
+use Rattle.sat_base.proofs.Numbers.{one_below, some_below}
+use Rattle.sat_base.proofs.ReadLemmas.{passes_more, faults_later}
 use Rattle.sat_base.proofs.FormatReads.{reads_as}
 use Rattle.sat_base.proofs.TagForms.{form_one, solver_form, user_form, variable_form, mode_form, clause_form, at_form, units_form, deletion_form, width_form, model_form, assumptions_form, failed_form}
 

@@ -1,9 +1,9 @@
 -- What stands behind each tag. A further tag wants its `.._back` and `.._form`, and a line in `behind_one` and in `known` of `StepReads`.
-use Rattle.std.proofs.Common.{◌≡◌, ℕ, Bool, Option, List, [], Result, Ok, Err, refl, sym, ap, subst, ◌∙◌, arith}
+use Rattle.std.proofs.Common.{◌≡◌, ℕ, Bool, Option, List, [], Result, Ok, Err, refl, sym, ap, ◌∙◌, arith}
 use Rattle.sat_base.specs.declared.error.StepError.{StepError}
 use Rattle.sat_base.specs.Formats.{Format, Both, OneForm}
 use Rattle.sat_base.specs.Steps.{Deletion, Step, SolverVarName, UserVarName, DeleteVar, ChangeSamplingMode, AddClause, AtClause, UnitClauses, DeleteClause, ChangeHashBits, Model, Assumptions, FailedAssumptions, End}
-use Rattle.sat_base.specs.StepText.{IsVariable, IsOptionalVariable, IsFlag, IsWidth, IsDeletion, AreLiterals, AreHashes, AreUnits, tag_of}
+use Rattle.sat_base.specs.StepText.{IsVariable, IsOptionalVariable, IsFlag, IsWidth, IsDeletion, AreLiterals, AreHashes, AreUnits}
 use Rattle.sat_base.specs.Reading.{Source, Reads, Behind, valued}
 use Rattle.sat_base.proofs.ReadLemmas.{passes_none}
 use Rattle.sat_base.proofs.FormatReads.{reads_as, stops_at}

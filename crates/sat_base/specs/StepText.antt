@@ -1,5 +1,5 @@
 -- The bytes of a proof step: a tag, and then its fields.
-use Rattle.std.specs.Prelude.{◌≡◌, ℕ, ◌+◌, ◌*◌, ◌^◌, Bool, true, false, Option, Some, None, List, [], ◌∷◌, ◌++◌}
+use Rattle.std.specs.Prelude.{◌≡◌, ℕ, ◌+◌, ◌*◌, ◌^◌, Bool, true, false, Option, Some, None, List, [], ◌∷◌}
 use Rattle.sat_base.specs.Formats.{Format, Both, Items, ListOf}
 use Rattle.sat_base.specs.Literals.{largest}
 use Rattle.sat_base.specs.Numbers.{IsBelow}

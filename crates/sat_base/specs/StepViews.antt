@@ -1,5 +1,4 @@
 -- What a proof step of the code says.
-use Rattle.std.specs.Prelude.{ℕ, Option, List}
 use Rattle.sat_base.specs.declared.step.DeleteClauseProof.{DeleteClauseProof}
 use Rattle.sat_base.specs.declared.step.DeleteClauseProof.TheVariants as proofs
 use Rattle.sat_base.specs.declared.step.ProofStep.{ProofStep}

@@ -1,7 +1,5 @@
-use Rattle.std.proofs.Common.{◌-◌, ◌*◌, ◌^◌}
-use Rattle.sat_base.specs.Literals.{largest}
-use Rattle.sat_base.specs.Formats.{Both}
-use Rattle.sat_base.specs.StepText.{IsLiteral, IsHash}
+use Rattle.std.proofs.Common.{◌-◌}
+use Rattle.sat_base.specs.StepText.{IsHash}
 use Rattle.sat_base.specs.Reading.{source_of}
 use Rattle.sat_base.proofs.FormatReads.{Counted}
 use Rattle.sat_base.proofs.read_lists.hash_items.Given as goal

@@ -1,5 +1,4 @@
-use Rattle.std.proofs.Common.{◌-◌, ◌*◌, ◌^◌}
-use Rattle.sat_base.specs.Literals.{largest}
+use Rattle.std.proofs.Common.{◌-◌}
 use Rattle.sat_base.specs.Formats.{Both}
 use Rattle.sat_base.specs.StepText.{IsLiteral, IsHash}
 use Rattle.sat_base.specs.Reading.{source_of}

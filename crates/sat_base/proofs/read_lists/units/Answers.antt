@@ -1,11 +1,10 @@
-use Rattle.std.proofs.Common.{◌*◌, ◌^◌, arith}
+use Rattle.std.proofs.Common.{◌^◌}
 use Rattle.std.proofs.lemmas.Result.{err_from_is_err_and}
-use Rattle.sat_base.specs.Literals.{largest}
 use Rattle.sat_base.specs.Numbers.{IsBelow}
 use Rattle.sat_base.specs.Formats.{Both}
 use Rattle.sat_base.specs.StepText.{IsLiteral, IsHash}
 use Rattle.sat_base.specs.Reading.{source_of, giving}
-use Rattle.sat_base.proofs.Numbers.{one_below, some_below}
+use Rattle.sat_base.proofs.Numbers.{one_below}
 use Rattle.sat_base.proofs.StepReads.{some_unit}
 use Rattle.sat_base.proofs.FormatReads.{list_fails, list_gives}
 use Rattle.sat_base.proofs.read_lists.units.Goals as goal

@@ -1,6 +1,5 @@
 use Rattle.std.proofs.Common.{refl}
-use Rattle.sat_base.specs.Formats.{Both}
-use Rattle.sat_base.specs.StepText.{IsLiteral, IsHash}
+use Rattle.sat_base.specs.StepText.{IsHash}
 use Rattle.sat_base.proofs.Writes.{list_more}
 use Rattle.sat_base.proofs.step_writer.put_hashes.Goals as goal
 

@@ -1,5 +1,4 @@
-use Rattle.sat_base.specs.Formats.{Both}
-use Rattle.sat_base.specs.StepText.{IsLiteral, IsHash}
+use Rattle.sat_base.specs.StepText.{IsHash}
 use Rattle.sat_base.specs.Writing.{with_pending}
 use Rattle.sat_base.proofs.Writes.{ListPut}
 use Rattle.sat_base.proofs.step_writer.put_hashes.Given as goal

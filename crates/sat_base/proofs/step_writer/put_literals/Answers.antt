@@ -1,6 +1,4 @@
-use Rattle.std.proofs.Common.{refl}
-use Rattle.sat_base.specs.Formats.{Both}
-use Rattle.sat_base.specs.StepText.{IsLiteral, IsHash}
+use Rattle.sat_base.specs.StepText.{IsLiteral}
 use Rattle.sat_base.proofs.Writes.{list_more}
 use Rattle.sat_base.proofs.step_writer.put_literals.Goals as goal
 

@@ -1,6 +1,4 @@
-use Rattle.sat_base.specs.Formats.{Both}
-use Rattle.sat_base.specs.StepText.{IsVariable, IsOptionalVariable, IsLiteral, IsHash, IsFlag, IsDeletion, AreLiterals, AreHashes}
-use Rattle.sat_base.specs.StepViews.{deletion_of}
+use Rattle.sat_base.specs.StepText.{IsVariable, IsOptionalVariable}
 use Rattle.sat_base.proofs.Writes.{one_then_other}
 use Rattle.sat_base.proofs.step_writer.put_variables.Goals as goal
 

@@ -1,13 +1,11 @@
-use Rattle.std.proofs.Common.{Ok, Err, ◌*◌, ◌^◌, arith}
+use Rattle.std.proofs.Common.{Ok, Err}
 use Rattle.std.proofs.lemmas.Result.{err_from_is_err_and}
 use Rattle.sat_base.specs.Literals.{largest}
-use Rattle.sat_base.specs.Numbers.{IsBelow}
-use Rattle.sat_base.specs.Formats.{Both}
-use Rattle.sat_base.specs.StepText.{IsVariable, IsOptionalVariable, IsLiteral, IsHash, IsFlag, IsDeletion, AreLiterals, AreHashes}
+use Rattle.sat_base.specs.StepText.{IsVariable, IsOptionalVariable}
 use Rattle.sat_base.specs.Reading.{source_of}
-use Rattle.sat_base.proofs.Numbers.{one_below, some_below}
+use Rattle.sat_base.proofs.Numbers.{one_below}
 use Rattle.sat_base.proofs.FormatReads.{first_fails, second_gives}
-use Rattle.sat_base.proofs.StepReads.{one_flag, one_literals, some_optional, some_flag, some_deletion, some_lists}
+use Rattle.sat_base.proofs.StepReads.{some_optional}
 use Rattle.sat_base.proofs.read_step.groups.variables.Goals as goal
 
 pub returns-in_err-first : goal.returns-in_err-first
