@@ -11,7 +11,7 @@ use crate::read_step::values::{deletion, flag, optional, variable};
 use crate::{CountedRead, DeleteClauseProof, StepError, Var};
 
 /// Reads a variable, and then one that may be none.
-pub(crate) fn variables<R: CountedRead>(
+pub(super) fn variables<R: CountedRead>(
     reader: &mut R,
     ahead: &mut Ahead,
 ) -> Result<(Var, Option<Var>), StepError>
@@ -22,7 +22,7 @@ pub(crate) fn variables<R: CountedRead>(
     Ok((first, second))
 }
 
-pub(crate) fn variable_and_flag<R: CountedRead>(
+pub(super) fn variable_and_flag<R: CountedRead>(
     reader: &mut R,
     ahead: &mut Ahead,
 ) -> Result<(Var, bool), StepError>
@@ -33,7 +33,7 @@ pub(crate) fn variable_and_flag<R: CountedRead>(
     Ok((var, flag))
 }
 
-pub(crate) fn flag_and_lists<R: CountedRead>(
+pub(super) fn flag_and_lists<R: CountedRead>(
     reader: &mut R,
     ahead: &mut Ahead,
     lists: &mut Lists,
@@ -45,7 +45,7 @@ pub(crate) fn flag_and_lists<R: CountedRead>(
     Ok(flag)
 }
 
-pub(crate) fn clause_and_deletion<R: CountedRead>(
+pub(super) fn clause_and_deletion<R: CountedRead>(
     reader: &mut R,
     ahead: &mut Ahead,
     lists: &mut Lists,

@@ -12,7 +12,7 @@ use crate::read_step::values::{variable, width};
 use crate::{CountedRead, StepError};
 
 /// Reads what stands behind the tag of a step without lists.
-pub(crate) fn plain_fields<R: CountedRead>(
+pub(super) fn plain_fields<R: CountedRead>(
     reader: &mut R,
     ahead: &mut Ahead,
     tag: u8,
@@ -42,7 +42,7 @@ pub(crate) fn plain_fields<R: CountedRead>(
 }
 
 /// Reads what stands behind the tag of a step with lists.
-pub(crate) fn list_fields<R: CountedRead>(
+pub(super) fn list_fields<R: CountedRead>(
     reader: &mut R,
     ahead: &mut Ahead,
     lists: &mut Lists,

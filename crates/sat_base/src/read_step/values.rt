@@ -13,14 +13,14 @@ const VARIABLES: u128 = 1 << 28;
 /// Widths are below it.
 const WIDTHS: u128 = 65;
 
-pub(crate) fn variable<R: CountedRead>(reader: &mut R, ahead: &mut Ahead) -> Result<Var, StepError>
+pub(super) fn variable<R: CountedRead>(reader: &mut R, ahead: &mut Ahead) -> Result<Var, StepError>
     ensures { Reads IsVariable result (source_of R.remaining R.failures R.calls reader.old ahead.old) (source_of R.remaining R.failures R.calls reader.new ahead.new) }
 {
     let index = number(reader, ahead, VARIABLES)?;
     Ok(Var::from_index(index as usize))
 }
 
-pub(crate) fn optional<R: CountedRead>(
+pub(super) fn optional<R: CountedRead>(
     reader: &mut R,
     ahead: &mut Ahead,
 ) -> Result<Option<Var>, StepError>
@@ -33,7 +33,7 @@ pub(crate) fn optional<R: CountedRead>(
     Ok(Some(Var::from_index((above - 1) as usize)))
 }
 
-pub(crate) fn flag<R: CountedRead>(reader: &mut R, ahead: &mut Ahead) -> Result<bool, StepError>
+pub(super) fn flag<R: CountedRead>(reader: &mut R, ahead: &mut Ahead) -> Result<bool, StepError>
     ensures { Reads IsFlag result (source_of R.remaining R.failures R.calls reader.old ahead.old) (source_of R.remaining R.failures R.calls reader.new ahead.new) }
 {
     let bit = number(reader, ahead, 2)?;
@@ -43,7 +43,7 @@ pub(crate) fn flag<R: CountedRead>(reader: &mut R, ahead: &mut Ahead) -> Result<
     Ok(true)
 }
 
-pub(crate) fn width<R: CountedRead>(
+pub(super) fn width<R: CountedRead>(
     reader: &mut R,
     ahead: &mut Ahead,
 ) -> Result<HashBits, StepError>
@@ -53,7 +53,7 @@ pub(crate) fn width<R: CountedRead>(
     Ok(HashBits::of_width(bits as u32))
 }
 
-pub(crate) fn deletion<R: CountedRead>(
+pub(super) fn deletion<R: CountedRead>(
     reader: &mut R,
     ahead: &mut Ahead,
 ) -> Result<DeleteClauseProof, StepError>
