@@ -7,15 +7,15 @@ use std::marker::Model;
 /// Why a clause may be deleted.
 #[derive(Clone, Copy, Debug, Drop, PartialEq, Eq)]
 pub enum DeleteClauseProof {
-    /// The clause is redundant, and no longer needed.
+    /// A redundant clause is no longer needed.
     Redundant,
-    /// A clause that implies it stands in its place.
+    /// A stronger clause stands in its place.
     Simplified,
-    /// A literal of it is a unit.
+    /// A unit satisfies it.
     Satisfied,
 }
 
-/// To how many bits hashes are shortened, from 0 to 64. Contracts see the number.
+/// How many bits of a hash count, from 0 to 64. Contracts see the number.
 #[derive(Clone, Copy, Debug, PartialEq, Eq)]
 pub struct HashBits {
     bits: u32,
@@ -73,11 +73,11 @@ pub enum ProofStep<'a> {
         global: Var,
         user: Option<Var>,
     },
-    /// A variable that no clause has is forgotten.
+    /// A hidden variable that stands in no clause is forgotten.
     DeleteVar {
         var: Var,
     },
-    /// A variable is one of those sampled, or one of those that only bear witness.
+    /// A variable is sampled from here on, or a witness where `sample` is false.
     ChangeSamplingMode {
         var: Var,
         sample: bool,
@@ -92,7 +92,7 @@ pub enum ProofStep<'a> {
         clause: &'a [Lit],
         propagation_hashes: &'a [ClauseHash],
     },
-    /// Literals, each of which follows by propagation from the clause with its hash and the units before it.
+    /// Unit clauses in the order in which they were found, each with the hash of the clause that became unit.
     UnitClauses {
         units: &'a [(Lit, ClauseHash)],
     },
@@ -101,7 +101,7 @@ pub enum ProofStep<'a> {
         clause: &'a [Lit],
         proof: DeleteClauseProof,
     },
-    /// Hashes have this many bits from here on.
+    /// So many bits of a hash count from here on.
     ChangeHashBits {
         bits: HashBits,
     },
@@ -113,7 +113,7 @@ pub enum ProofStep<'a> {
     Assumptions {
         assumptions: &'a [Lit],
     },
-    /// Assumptions that fail together, as follows by propagation from the clauses with these hashes.
+    /// Assumptions that can't hold together, which follows by propagation from the clauses with these hashes.
     FailedAssumptions {
         failed_core: &'a [Lit],
         propagation_hashes: &'a [ClauseHash],
