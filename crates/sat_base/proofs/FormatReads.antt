@@ -1,9 +1,9 @@
 -- Readers of formats that are made of others.
-use Rattle.std.proofs.Common.{◌≡◌, ℕ, ◌+◌, ◌^◌, ◌<◌, zero, suc, List, [], ◌∷◌, ◌++◌, length, Result, Ok, Err, append_assoc, refl, sym, ap, subst, ◌∙◌, arith}
+use Rattle.std.proofs.Common.{◌≡◌, ℕ, suc, List, [], ◌∷◌, ◌++◌, length, Result, Ok, Err, append_assoc, refl, sym, ap, subst}
 use Rattle.std.proofs.lemmas.List.{append-nil}
 use Rattle.sat_base.specs.declared.error.StepError.{StepError}
 use Rattle.sat_base.specs.declared.error.StepError.TheVariants as errors
-use Rattle.sat_base.specs.Formats.{Format, Open, Live, Then, Items, Times, ListOf, OneForm}
+use Rattle.sat_base.specs.Formats.{Format, Then, Times, ListOf, OneForm}
 use Rattle.sat_base.specs.Reading.{Source, Passes, Reads, giving, valued}
 use Rattle.sat_base.proofs.Formats.{HasText, live_first, shut_first, live_second, shut_second, Times_text, to_items, from_items}
 use Rattle.sat_base.proofs.ReadLemmas.{passes_none, passes_more, faults_later}
@@ -116,6 +116,10 @@ list_gives {A} C F one n old mid new c r h =
 pub pair_giving : {A B : Type 0} (x : A) (y : B) (r : Result (Unit {0}) StepError) → valued {A = B} {B = A × B} (λ z. (x, z)) (giving y r) ≡ giving {A = A × B} (x, y) r
 pair_giving x y (Ok u) = refl
 pair_giving x y (Err e) = refl
+
+pub pair_valued : {A B C : Type 0} (x : A) (f : B → C) (r : Result B StepError) → valued {A = C} {B = A × C} (λ z. (x, z)) (valued f r) ≡ valued {A = B} {B = A × C} (λ z. (x, f z)) r
+pair_valued x f (Ok z) = refl
+pair_valued x f (Err e) = refl
 
 -- an error of a part, at a tag that a test has told
 pub stops_at : {X B : Type 0} (F : ℕ → Format B) (t tag : ℕ) (f : X → B) (r : Result X StepError) (d e : StepError) (old new : Source) → r ≡ Err d → d ≡ e → tag ≡ t → Reads (F t) (Err e) old new → Reads (F tag) (valued f r) old new

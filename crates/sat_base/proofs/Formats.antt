@@ -1,7 +1,7 @@
 -- Formats that are made of others: which bytes begin a text, and after which none can follow.
-use Rattle.std.proofs.Common.{◌≡◌, ℕ, ◌+◌, zero, suc, List, [], ◌∷◌, ◌++◌, length, length-append, ◌⊎◌, inl, inr, append_assoc, refl, sym, ap, subst, ◌∙◌, arith}
+use Rattle.std.proofs.Common.{◌≡◌, ℕ, zero, suc, List, [], ◌∷◌, ◌++◌, length, length-append, ◌⊎◌, inl, inr, append_assoc, refl, sym, ap, subst, ◌∙◌, arith}
 use Rattle.std.proofs.lemmas.List.{append-nil}
-use Rattle.sat_base.specs.Formats.{Format, Open, Live, Then, Items, Times, ListOf, OneForm}
+use Rattle.sat_base.specs.Formats.{Format, Open, Live, Then, Times, OneForm}
 
 -- some value has a text
 abbrev pub HasText : {A : Type 0} → Format A → Type 0

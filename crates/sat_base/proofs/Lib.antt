@@ -13,4 +13,5 @@ pub mod Numbers
 pub mod Writes
 pub mod FormatReads
 pub mod ReadLemmas
+pub mod TagForms
 pub mod StepReads

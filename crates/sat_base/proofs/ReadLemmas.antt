@@ -1,14 +1,13 @@
 -- Reading, step by step.
-use Rattle.std.proofs.Common.{◌≡◌, ℕ, ◌+◌, ◌*◌, ◌-◌, ◌<◌, ◌≤◌, ◌^◌, zero, suc, List, [], ◌∷◌, ◌++◌, length, ◌⊎◌, inl, inr, Option, Some, None, Result, Ok, Err, append_assoc, refl, sym, ap, subst, ◌∙◌, arith}
+use Rattle.std.proofs.Common.{◌≡◌, ℕ, ◌+◌, ◌*◌, ◌-◌, ◌<◌, ◌≤◌, List, [], ◌∷◌, ◌++◌, ◌⊎◌, inl, inr, Ok, Err, refl, sym, subst, ◌∙◌, arith}
 use Rattle.std.proofs.lemmas.List.{append-nil}
-use Rattle.std.specs.Io.KnownBytes.{Consumes, IsAtEnd, prepend_known}
+use Rattle.std.specs.Io.KnownBytes.{IsAtEnd}
 use Rattle.sat_base.specs.declared.error.StepError.{StepError}
 use Rattle.sat_base.specs.declared.error.StepError.TheVariants as errors
-use Rattle.sat_base.specs.Formats.{Format, Open, Live, Then, Items, Times, ListOf, OneForm}
-use Rattle.sat_base.specs.Numbers.{IsNumber, IsBelow}
+use Rattle.sat_base.specs.Formats.{Open}
+use Rattle.sat_base.specs.Numbers.{IsBelow}
 use Rattle.sat_base.specs.Reading.{Source, Passes, Faults, ByteWithin, Reads}
 use Rattle.sat_base.proofs.Known.{consumes_none, consumes_more}
-use Rattle.sat_base.proofs.Formats.{HasText, live_first, shut_first, live_second, shut_second, Times_text, to_items, from_items}
 use Rattle.sat_base.proofs.Numbers.{Front, front_none, front_more, live, last_read, shut_zero, shut_large, shut_on}
 
 -- TAKEN BYTES

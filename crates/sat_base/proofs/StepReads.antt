@@ -1,19 +1,19 @@
--- What stands behind each tag. A further tag wants its `.._back` and `.._read`, a line in `no_step`, and two in `fields_one`.
-use Rattle.std.proofs.Common.{◌≡◌, ℕ, ◌+◌, ◌*◌, ◌^◌, ◌<◌, zero, suc, Bool, true, false, Option, Some, None, List, [], ◌∷◌, ◌++◌, length, Result, Ok, Err, append_assoc, refl, sym, ap, subst, ◌∙◌, arith}
-use Rattle.std.proofs.lemmas.Grind.{common_steps}
+-- Steps, and the values that they are made of.
+use Rattle.std.proofs.Common.{◌≡◌, ℕ, ◌+◌, ◌*◌, ◌^◌, zero, suc, Bool, true, false, Option, Some, None, List, [], ◌∷◌, ◌++◌, length, Result, Ok, Err, append_assoc, refl, sym, ap, subst, ◌∙◌, arith}
 use Rattle.sat_base.specs.declared.error.StepError.{StepError}
 use Rattle.sat_base.specs.declared.error.StepError.TheVariants as errors
-use Rattle.sat_base.specs.Formats.{Format, Open, Live, Then, Items, ListOf, OneForm}
+use Rattle.sat_base.specs.Formats.{Format, Both, Items, ListOf, OneForm}
 use Rattle.sat_base.specs.Literals.{largest}
-use Rattle.sat_base.specs.Numbers.{IsNumber, IsBelow}
-use Rattle.sat_base.specs.Steps.{Step, UserVarName, AddClause, AtClause, Model, Assumptions, End}
-use Rattle.sat_base.specs.StepText.{IsVariable, IsOptionalVariable, IsFlag, AreLiterals, AreHashes, tag_of, SpellsFields, SpellsStep, SpellsSteps}
+use Rattle.sat_base.specs.Numbers.{IsBelow}
+use Rattle.sat_base.specs.Steps.{Deletion, Redundant, Simplified, Satisfied, Step, SolverVarName, UserVarName, DeleteVar, ChangeSamplingMode, AddClause, AtClause, UnitClauses, DeleteClause, ChangeHashBits, Model, Assumptions, FailedAssumptions, End}
+use Rattle.sat_base.specs.StepText.{IsVariable, IsOptionalVariable, IsLiteral, IsHash, IsFlag, IsWidth, IsDeletion, AreLiterals, AreHashes, AreUnits, tag_of, SpellsFields, SpellsStep, SpellsSteps}
 use Rattle.sat_base.specs.Kinds.{is_tag}
-use Rattle.sat_base.specs.Reading.{Source, Passes, Reads, Answers, Behind, NextByte, valued}
+use Rattle.sat_base.specs.Reading.{Source, Passes, Reads, Answers, Behind, NextByte}
 use Rattle.sat_base.proofs.Formats.{HasText, cancel, one_then}
-use Rattle.sat_base.proofs.Numbers.{one_number, one_below, some_below}
-use Rattle.sat_base.proofs.ReadLemmas.{passes_more, passes_none, faults_later, ends_there}
+use Rattle.sat_base.proofs.Numbers.{one_below, some_below}
+use Rattle.sat_base.proofs.ReadLemmas.{passes_more, faults_later}
 use Rattle.sat_base.proofs.FormatReads.{reads_as}
+use Rattle.sat_base.proofs.TagForms.{form_one, solver_form, user_form, variable_form, mode_form, clause_form, at_form, units_form, deletion_form, width_form, model_form, assumptions_form, failed_form}
 
 -- ONE FORM
 pub one_items : {A : Type 0} (F : Format A) → OneForm F → (xs ys : List A) (a b s t : List ℕ) → Items F xs a → Items F ys b → length xs ≡ length ys → a ++ s ≡ b ++ t → (a ≡ b) × (xs ≡ ys)
@@ -36,10 +36,19 @@ one_list C F count one xs ys a b s t h k e =
     (h.4 ∙ ap (λ (z : List ℕ). z ++ h.1) p.0 ∙ ap (λ (z : List ℕ). k.0 ++ z) q.0 ∙ sym k.4, q.1)
 
 pub one_literals : OneForm AreLiterals
-one_literals = one_list (IsBelow (2 ^ 64)) (IsBelow (2 * largest)) (one_below (2 ^ 64)) (one_below (2 * largest))
+one_literals = one_list (IsBelow (2 ^ 64)) IsLiteral (one_below (2 ^ 64)) (one_below (2 * largest))
 
 pub one_hashes : OneForm AreHashes
-one_hashes = one_list (IsBelow (2 ^ 64)) (IsBelow (2 ^ 64)) (one_below (2 ^ 64)) (one_below (2 ^ 64))
+one_hashes = one_list (IsBelow (2 ^ 64)) IsHash (one_below (2 ^ 64)) (one_below (2 ^ 64))
+
+pub one_both : {A B : Type 0} (F : Format A) (G : Format B) → OneForm F → OneForm G → OneForm (Both F G)
+one_both F G one two = one_then F (λ _. G) one (λ _. two)
+
+pub one_unit : OneForm (Both IsLiteral IsHash)
+one_unit = one_both IsLiteral IsHash (one_below (2 * largest)) (one_below (2 ^ 64))
+
+pub one_units : OneForm AreUnits
+one_units = one_list (IsBelow (2 ^ 64)) (Both IsLiteral IsHash) (one_below (2 ^ 64)) one_unit
 
 pub one_optional : OneForm IsOptionalVariable
 one_optional None None a b s t h k e = ((one_below (largest + 1) 0 0 a b s t h k e).0, refl)
@@ -53,6 +62,30 @@ one_flag false true a b s t h k e = let p = one_below 2 0 1 a b s t h k e in abs
 one_flag true false a b s t h k e = let p = one_below 2 1 0 a b s t h k e in absurd (omega (arith, p.1))
 one_flag true true a b s t h k e = ((one_below 2 1 1 a b s t h k e).0, refl)
 
+-- the number of a deletion proof
+abbrev pub deletion_code : Deletion → ℕ
+deletion_code Redundant = 0
+deletion_code Simplified = 1
+deletion_code Satisfied = 2
+
+deletion_below : (d : Deletion) (t : List ℕ) → IsDeletion d t → IsBelow 3 (deletion_code d) t
+deletion_below Redundant t h = h
+deletion_below Simplified t h = h
+deletion_below Satisfied t h = h
+
+abbrev deletion_at : ℕ → Deletion
+deletion_at zero = Redundant
+deletion_at (suc zero) = Simplified
+deletion_at (suc (suc n)) = Satisfied
+
+deletion_is : (d : Deletion) → deletion_at (deletion_code d) ≡ d
+deletion_is Redundant = refl
+deletion_is Simplified = refl
+deletion_is Satisfied = refl
+
+pub one_deletion : OneForm IsDeletion
+one_deletion x y a b s t h k e = let p = one_below 3 (deletion_code x) (deletion_code y) a b s t (deletion_below x a h) (deletion_below y b k) e in (p.0, sym (deletion_is x) ∙ ap deletion_at p.1 ∙ deletion_is y)
+
 -- SOME TEXT
 pub some_list : {A : Type 0} (F : Format A) → HasText (ListOf (IsBelow (2 ^ 64)) F)
 some_list F = ([], 0 ∷ [], (0 ∷ [], [], ((omega arith, refl), omega arith), refl, refl))
@@ -60,10 +93,22 @@ some_list F = ([], 0 ∷ [], (0 ∷ [], [], ((omega arith, refl), omega arith), 
 pub some_optional : HasText IsOptionalVariable
 some_optional = (None, 0 ∷ [], ((omega arith, refl), omega arith))
 
-pub some_lists : HasText (Then AreLiterals (λ _. AreHashes))
-some_lists = let t = some_list (IsBelow (2 * largest)) in let u = some_list (IsBelow (2 ^ 64)) in ((t.0, u.0), t.1 ++ u.1, (t.1, u.1, t.2, u.2, refl))
+pub some_flag : HasText IsFlag
+some_flag = (false, 0 ∷ [], ((omega arith, refl), omega arith))
 
--- OPTIONAL VARIABLES AND FLAGS
+pub some_deletion : HasText IsDeletion
+some_deletion = (Redundant, 0 ∷ [], ((omega arith, refl), omega arith))
+
+pub some_both : {A B : Type 0} (F : Format A) (G : Format B) → HasText F → HasText G → HasText (Both F G)
+some_both F G t u = ((t.0, u.0), t.1 ++ u.1, (t.1, u.1, t.2, u.2, refl))
+
+pub some_unit : HasText (Both IsLiteral IsHash)
+some_unit = some_both IsLiteral IsHash (some_below (2 * largest) (omega arith)) (some_below (2 ^ 64) (omega arith))
+
+pub some_lists : HasText (Both AreLiterals AreHashes)
+some_lists = some_both AreLiterals AreHashes (some_list IsLiteral) (some_list IsHash)
+
+-- OPTIONAL VARIABLES, FLAGS AND DELETION PROOFS
 abbrev optional_at : ℕ → Option ℕ
 optional_at zero = None
 optional_at (suc n) = Some n
@@ -106,50 +151,16 @@ flag_false n old new e h = (h.0, h.1, subst (λ (k : ℕ). IsBelow 2 k h.0) e h.
 pub flag_true : (n : ℕ) (old new : Source) → (n ≡ 0 → ⊥) → Reads (IsBelow 2) (Ok n) old new → Reads IsFlag (Ok true) old new
 flag_true n old new e h = let d : n ≡ 1 = omega (arith, h.2.1) in (h.0, h.1, subst (λ (k : ℕ). IsBelow 2 k h.0) d h.2)
 
--- FIELDS
-pub user_back : (s : Step) (b : List ℕ) → Behind 2 s b → (x : ℕ × Option ℕ) × Then IsVariable (λ _. IsOptionalVariable) x b
-user_back (UserVarName v u) b h = ((v, u), h.1)
-user_back _ b h = absurd (omega (arith, h.0))
+deletion_to : (n : ℕ) (t : List ℕ) → IsBelow 3 n t → IsDeletion (deletion_at n) t
+deletion_to zero t h = h
+deletion_to (suc zero) t h = h
+deletion_to (suc (suc n)) t h = let e : suc (suc n) ≡ 2 = omega (arith, h.1) in subst (λ (k : ℕ). IsBelow 3 k t) e h
 
-pub clause_back : (s : Step) (b : List ℕ) → Behind 5 s b → (x : List ℕ) × AreLiterals x b
-clause_back (AddClause c) b h = (c, h.1)
-clause_back _ b h = absurd (omega (arith, h.0))
+deletion_back : (d : Deletion) (t : List ℕ) → IsDeletion d t → (n : ℕ) × IsBelow 3 n t
+deletion_back d t h = (deletion_code d, deletion_below d t h)
 
-abbrev pub AtFields : Format (Bool × (List ℕ × List ℕ))
-AtFields = Then IsFlag (λ _. Then AreLiterals (λ _. AreHashes))
-
-pub at_to : (x : Bool × (List ℕ × List ℕ)) (b : List ℕ) → AtFields x b → Behind 6 (AtClause x.0 x.1.0 x.1.1) b
-at_to x b h = (refl, (h.0, h.3.0, h.3.1, h.2, h.3.2, h.3.3, h.4 ∙ ap (λ (z : List ℕ). h.0 ++ z) h.3.4))
-
-pub at_back : (s : Step) (b : List ℕ) → Behind 6 s b → (x : Bool × (List ℕ × List ℕ)) × AtFields x b
-at_back (AtClause f c hs) b h = ((f, (c, hs)), (h.1.0, h.1.1 ++ h.1.2, h.1.3, (h.1.1, h.1.2, h.1.4, h.1.5, refl), h.1.6))
-at_back _ b h = absurd (omega (arith, h.0))
-
-pub model_back : (s : Step) (b : List ℕ) → Behind 10 s b → (x : List ℕ) × AreLiterals x b
-model_back (Model c) b h = (c, h.1)
-model_back _ b h = absurd (omega (arith, h.0))
-
-pub assumptions_back : (s : Step) (b : List ℕ) → Behind 11 s b → (x : List ℕ) × AreLiterals x b
-assumptions_back (Assumptions c) b h = (c, h.1)
-assumptions_back _ b h = absurd (omega (arith, h.0))
-
-pub user_read : (r : Result (ℕ × Option ℕ) StepError) (old new : Source) → Reads (Then IsVariable (λ _. IsOptionalVariable)) r old new → Reads (Behind 2) (valued (λ x. UserVarName x.0 x.1) r) old new
-user_read r old new h = reads_as (Then IsVariable (λ _. IsOptionalVariable)) (Behind 2) (λ x. UserVarName x.0 x.1) (λ x b k. (refl, k)) user_back r old new h
-
-pub clause_read : (r : Result (List ℕ) StepError) (old new : Source) → Reads AreLiterals r old new → Reads (Behind 5) (valued AddClause r) old new
-clause_read r old new h = reads_as AreLiterals (Behind 5) AddClause (λ x b k. (refl, k)) clause_back r old new h
-
-pub at_read : (r : Result (Bool × (List ℕ × List ℕ)) StepError) (old new : Source) → Reads AtFields r old new → Reads (Behind 6) (valued (λ x. AtClause x.0 x.1.0 x.1.1) r) old new
-at_read r old new h = reads_as AtFields (Behind 6) (λ x. AtClause x.0 x.1.0 x.1.1) at_to at_back r old new h
-
-pub model_read : (r : Result (List ℕ) StepError) (old new : Source) → Reads AreLiterals r old new → Reads (Behind 10) (valued Model r) old new
-model_read r old new h = reads_as AreLiterals (Behind 10) Model (λ x b k. (refl, k)) model_back r old new h
-
-pub assumptions_read : (r : Result (List ℕ) StepError) (old new : Source) → Reads AreLiterals r old new → Reads (Behind 11) (valued Assumptions r) old new
-assumptions_read r old new h = reads_as AreLiterals (Behind 11) Assumptions (λ x b k. (refl, k)) assumptions_back r old new h
-
-pub end_read : (tag : ℕ) (s : Source) → 13 ≡ tag → Reads (Behind tag) (Ok End) s s
-end_read tag s e = ([], passes_none s, (e, refl))
+pub deletion_fails : (e : StepError) (old new : Source) → Reads (IsBelow 3) (Err e) old new → Reads IsDeletion (Err e) old new
+deletion_fails e old new h = reads_as (IsBelow 3) IsDeletion deletion_at deletion_to deletion_back (Err e) old new h
 
 -- THE TAG AND THE FIELDS
 spelled : (tag : ℕ) (step : Step) (b : List ℕ) → Behind tag step b → SpellsStep step (tag ∷ b)
@@ -172,37 +183,56 @@ pub some_byte : (byte : ℕ) (o : Option ℕ) (old new : Source) → o ≡ Some 
 some_byte byte o old new e h = subst (λ (z : Option ℕ). NextByte (Ok z) old new) e h
 
 -- an unknown tag
+known : (step : Step) → is_tag (tag_of step) ≡ true
+known (SolverVarName v u) = refl
+known (UserVarName v u) = refl
+known (DeleteVar v) = refl
+known (ChangeSamplingMode v f) = refl
+known (AddClause c) = refl
+known (AtClause f c hs) = refl
+known (UnitClauses us) = refl
+known (DeleteClause c d) = refl
+known (ChangeHashBits n) = refl
+known (Model c) = refl
+known (Assumptions c) = refl
+known (FailedAssumptions c hs) = refl
+known End = refl
+
 no_step : (step : Step) (tag : ℕ) (b : List ℕ) → is_tag tag ≡ false → Behind tag step b → ⊥
-no_step (UserVarName v u) tag b n h = let e : is_tag 2 ≡ false = subst (λ (k : ℕ). is_tag k ≡ false) (sym h.0) n in cc
-no_step (AddClause c) tag b n h = let e : is_tag 5 ≡ false = subst (λ (k : ℕ). is_tag k ≡ false) (sym h.0) n in cc
-no_step (AtClause f c hs) tag b n h = let e : is_tag 6 ≡ false = subst (λ (k : ℕ). is_tag k ≡ false) (sym h.0) n in cc
-no_step (Model c) tag b n h = let e : is_tag 10 ≡ false = subst (λ (k : ℕ). is_tag k ≡ false) (sym h.0) n in cc
-no_step (Assumptions c) tag b n h = let e : is_tag 11 ≡ false = subst (λ (k : ℕ). is_tag k ≡ false) (sym h.0) n in cc
-no_step End tag b n h = let e : is_tag 13 ≡ false = subst (λ (k : ℕ). is_tag k ≡ false) (sym h.0) n in cc
-no_step _ tag b n h = h.1
+no_step step tag b n h = let e : is_tag tag ≡ true = ap is_tag (sym h.0) ∙ known step in cc
 
 pub unknown_tag : (tag : ℕ) (old new : Source) → is_tag tag ≡ false → Passes old new (tag ∷ []) → Answers (Err errors.BadByte) old new
 unknown_tag tag old new n p = ([], tag, p, (End, 13, [], ([], refl, refl)), λ o. no_step o.0 tag o.1 n (behind tag o.0 o.1 o.2))
 
 -- no step's text begins another's, and no text has two steps
+one_variables : OneForm (Both IsVariable IsOptionalVariable)
+one_variables = one_both IsVariable IsOptionalVariable (one_below largest) one_optional
+
+one_lists : OneForm (Both AreLiterals AreHashes)
+one_lists = one_both AreLiterals AreHashes one_literals one_hashes
+
+end_one : (x y : Step) (a b : List ℕ) → Behind 13 x a → Behind 13 y b → (a ≡ b) × (x ≡ y)
+end_one End End a b h k = (h.1 ∙ sym k.1, refl)
+end_one End _ a b h k = absurd (omega (arith, k.0))
+end_one _ y a b h k = absurd (omega (arith, h.0))
+
+behind_one : (step : Step) → OneForm (Behind (tag_of step))
+behind_one (SolverVarName v u) = form_one 1 (Both IsVariable IsOptionalVariable) (λ x. SolverVarName x.0 x.1) solver_form one_variables
+behind_one (UserVarName v u) = form_one 2 (Both IsVariable IsOptionalVariable) (λ x. UserVarName x.0 x.1) user_form one_variables
+behind_one (DeleteVar v) = form_one 3 IsVariable DeleteVar variable_form (one_below largest)
+behind_one (ChangeSamplingMode v f) = form_one 4 (Both IsVariable IsFlag) (λ x. ChangeSamplingMode x.0 x.1) mode_form (one_both IsVariable IsFlag (one_below largest) one_flag)
+behind_one (AddClause c) = form_one 5 AreLiterals AddClause clause_form one_literals
+behind_one (AtClause f c hs) = form_one 6 (Both IsFlag (Both AreLiterals AreHashes)) (λ x. AtClause x.0 x.1.0 x.1.1) at_form (one_both IsFlag (Both AreLiterals AreHashes) one_flag one_lists)
+behind_one (UnitClauses us) = form_one 7 AreUnits UnitClauses units_form one_units
+behind_one (DeleteClause c d) = form_one 8 (Both AreLiterals IsDeletion) (λ x. DeleteClause x.0 x.1) deletion_form (one_both AreLiterals IsDeletion one_literals one_deletion)
+behind_one (ChangeHashBits n) = form_one 9 IsWidth ChangeHashBits width_form (one_below 65)
+behind_one (Model c) = form_one 10 AreLiterals Model model_form one_literals
+behind_one (Assumptions c) = form_one 11 AreLiterals Assumptions assumptions_form one_literals
+behind_one (FailedAssumptions c hs) = form_one 12 (Both AreLiterals AreHashes) (λ x. FailedAssumptions x.0 x.1) failed_form one_lists
+behind_one End = λ x y a b s t h k e. end_one x y a b h k
+
 fields_one : (x y : Step) (a b s t : List ℕ) → tag_of x ≡ tag_of y → SpellsFields x a → SpellsFields y b → a ++ s ≡ b ++ t → (a ≡ b) × (x ≡ y)
-unfolding at_back
-fields_one (UserVarName v o) (UserVarName w p) a b s t g h k e =
-    let q = one_then IsVariable (λ _. IsOptionalVariable) (one_below largest) (λ x. one_optional) (v, o) (w, p) a b s t h k e in (q.0, ap (λ (z : ℕ × Option ℕ). UserVarName z.0 z.1) q.1)
-fields_one (AddClause c) (AddClause d) a b s t g h k e = let p = one_literals c d a b s t h k e in (p.0, ap AddClause p.1)
-fields_one (AtClause f c x) (AtClause g d y) a b s t i h k e =
-    let q = one_then IsFlag (λ _. Then AreLiterals (λ _. AreHashes)) one_flag (λ _. one_then AreLiterals (λ _. AreHashes) one_literals (λ _. one_hashes)) (f, (c, x)) (g, (d, y)) a b s t (at_back (AtClause f c x) a (refl, h)).1 (at_back (AtClause g d y) b (refl, k)).1 e in
-    (q.0, ap (λ (z : Bool × (List ℕ × List ℕ)). AtClause z.0 z.1.0 z.1.1) q.1)
-fields_one (Model c) (Model d) a b s t g h k e = let p = one_literals c d a b s t h k e in (p.0, ap Model p.1)
-fields_one (Assumptions c) (Assumptions d) a b s t g h k e = let p = one_literals c d a b s t h k e in (p.0, ap Assumptions p.1)
-fields_one End End a b s t g h k e = (h ∙ sym k, refl)
-fields_one (UserVarName v o) _ a b s t g h k e = absurd (omega (arith, g))
-fields_one (AddClause c) _ a b s t g h k e = absurd (omega (arith, g))
-fields_one (AtClause f c x) _ a b s t g h k e = absurd (omega (arith, g))
-fields_one (Model c) _ a b s t g h k e = absurd (omega (arith, g))
-fields_one (Assumptions c) _ a b s t g h k e = absurd (omega (arith, g))
-fields_one End _ a b s t g h k e = absurd (omega (arith, g))
-fields_one _ y a b s t g h k e = absurd h
+fields_one x y a b s t g h k e = behind_one x x y a b s t (refl, h) (sym g, k) e
 
 pub one_step : OneForm SpellsStep
 one_step x y a b s t h k e =

@@ -2,7 +2,7 @@
 use Rattle.std.proofs.Common.{◌≡◌, ℕ, ◌+◌, ◌*◌, ◌-◌, ◌<◌, ◌≤◌, List, [], ◌∷◌, ◌++◌, length, take, get_or, ◌^◌, ◌⊎◌, inl, inr, Option, Some, None, Result, Ok, Err, append_assoc, refl, sym, ap, subst, ◌∙◌, arith}
 use Rattle.std.proofs.lemmas.List.{append-nil, take_more, take_all}
 use Rattle.std.specs.Io.KnownBytes.{Appends, append_known}
-use Rattle.sat_base.specs.Formats.{Format, Items, ListOf}
+use Rattle.sat_base.specs.Formats.{Format, Both, Items, ListOf}
 use Rattle.sat_base.specs.Numbers.{IsNumber, IsBelow}
 use Rattle.sat_base.specs.Steps.{Step}
 use Rattle.sat_base.specs.StepText.{tag_of, SpellsFields, SpellsStep}
@@ -69,38 +69,37 @@ pub both : {A B C E : Type 0} (F : Format A) (G : Format B) (K : Format C) (x : 
 both F G K x y z old mid new (Ok u) k p w = (p.0 ++ w.0, k p.0 w.0 p.1 w.1, appends_more old.contents mid.contents new.contents p.0 w.0 p.2 w.2, w.3 ∙ p.3)
 both F G K x y z old mid new (Err e) k p w = omega (arith, p.3, w)
 
+pub one_then_other : {A B E : Type 0} (F : Format A) (G : Format B) (x : A) (y : B) (old mid new : Written) (r : Result (Unit {0}) E) → Part F x old mid → Writes G y r mid new → Writes (Both F G) (x, y) r old new
+one_then_other F G x y old mid new r p w = both F G (Both F G) x y (x, y) old mid new r (λ a b h k. (a, b, h, k, refl)) p w
+
 -- A LIST: its count, and the items before a place
-pub record ListPut (limit : ℕ) (xs : List ℕ) (i : ℕ) (old new : Written) : Type 0 where
+pub record ListPut {A : Type 0} (F : Format A) (xs : List A) (i : ℕ) (old new : Written) : Type 0 where
   pub count : List ℕ
   pub items : List ℕ
   pub counted : IsBelow (2 ^ 64) (length xs) count
-  pub put : Items (IsBelow limit) (take i xs) items
+  pub put : Items F (take i xs) items
   pub bytes : Appends old.contents new.contents (count ++ items)
   pub failures : new.failures ≡ old.failures
 
-pub items_one : (F : Format ℕ) (xs : List ℕ) (x : ℕ) (a b : List ℕ) → Items F xs a → F x b → Items F (xs ++ x ∷ []) (a ++ b)
+pub items_one : {A : Type 0} (F : Format A) (xs : List A) (x : A) (a b : List ℕ) → Items F xs a → F x b → Items F (xs ++ x ∷ []) (a ++ b)
 items_one F [] x a b h k = (b, [], k, refl, ap (λ (z : List ℕ). z ++ b) h ∙ sym (append-nil b))
 items_one F (y ∷ xs) x a b h k = (h.0, h.1 ++ b, h.2, items_one F xs x h.1 b h.3 k, ap (λ (z : List ℕ). z ++ b) h.4 ∙ append_assoc h.0 h.1 b)
 
-pub list_none : (limit : ℕ) (xs : List ℕ) (old new : Written) → length xs < 2 ^ 64 → Part IsNumber (length xs) old new → ListPut limit xs 0 old new
-list_none limit xs old new h p = record { count = p.0; items = []; counted = (p.1, h); put = refl; bytes = subst (Appends old.contents new.contents) (sym (append-nil p.0)) p.2; failures = p.3 }
+pub list_none : {A : Type 0} (F : Format A) (xs : List A) (old new : Written) → length xs < 2 ^ 64 → Part IsNumber (length xs) old new → ListPut F xs 0 old new
+list_none F xs old new h p = record { count = p.0; items = []; counted = (p.1, h); put = refl; bytes = subst (Appends old.contents new.contents) (sym (append-nil p.0)) p.2; failures = p.3 }
 
-pub list_more : (limit : ℕ) (xs : List ℕ) (i x d : ℕ) (old mid new : Written) → i < length xs → x ≡ get_or xs i d → x < limit → ListPut limit xs i old mid → Part IsNumber x mid new → ListPut limit xs (i + 1) old new
-list_more limit xs i x d old mid new h e l g p = record {
+pub list_more : {A : Type 0} (F : Format A) (xs : List A) (i : ℕ) (x d : A) (old mid new : Written) → i < length xs → x ≡ get_or xs i d → ListPut F xs i old mid → Part F x mid new → ListPut F xs (i + 1) old new
+list_more {A} F xs i x d old mid new h e g p = record {
   count = g.count;
   items = g.items ++ p.0;
   counted = g.counted;
-  put = subst (λ (z : List ℕ). Items (IsBelow limit) z (g.items ++ p.0)) (ap (λ (n : ℕ). take i xs ++ n ∷ []) e ∙ sym (take_more xs i d h)) (items_one (IsBelow limit) (take i xs) x g.items p.0 g.put (p.1, l));
+  put = subst (λ (z : List A). Items F z (g.items ++ p.0)) (ap (λ (n : A). take i xs ++ n ∷ []) e ∙ sym (take_more xs i d h)) (items_one F (take i xs) x g.items p.0 g.put p.1);
   bytes = subst (Appends old.contents new.contents) (append_assoc g.count g.items p.0) (appends_more old.contents mid.contents new.contents (g.count ++ g.items) p.0 g.bytes p.2);
   failures = p.3 ∙ g.failures;
 }
 
-pub list_all : (limit : ℕ) (xs : List ℕ) (i : ℕ) (old new : Written) → length xs ≤ i → ListPut limit xs i old new → Part (ListOf (IsBelow (2 ^ 64)) (IsBelow limit)) xs old new
-list_all limit xs i old new h g = (g.count ++ g.items, (g.count, g.items, g.counted, subst (λ (z : List ℕ). Items (IsBelow limit) z g.items) (take_all i xs h) g.put, refl), g.bytes, g.failures)
-
-pub three : {A B C D E : Type 0} (F : Format A) (G : Format B) (H : Format C) (K : Format D) (x : A) (y : B) (w : C) (z : D) (old one two new : Written) (r : Result (Unit {0}) E) → ((a b c : List ℕ) → F x a → G y b → H w c → K z (a ++ (b ++ c))) → Part F x old one → Part G y one two → Writes H w r two new → Writes K z r old new
-three F G H K x y w z old one two new (Ok u) k p q s = (p.0 ++ (q.0 ++ s.0), k p.0 q.0 s.0 p.1 q.1 s.1, appends_more old.contents one.contents new.contents p.0 (q.0 ++ s.0) p.2 (appends_more one.contents two.contents new.contents q.0 s.0 q.2 s.2), s.3 ∙ q.3 ∙ p.3)
-three F G H K x y w z old one two new (Err e) k p q s = omega (arith, p.3, q.3, s)
+pub list_all : {A : Type 0} (F : Format A) (xs : List A) (i : ℕ) (old new : Written) → length xs ≤ i → ListPut F xs i old new → Part (ListOf (IsBelow (2 ^ 64)) F) xs old new
+list_all {A} F xs i old new h g = (g.count ++ g.items, (g.count, g.items, g.counted, subst (λ (z : List A). Items F z g.items) (take_all i xs h) g.put, refl), g.bytes, g.failures)
 
 -- A STEP
 pub tagged : (step : Step) (byte : ℕ) (old mid new : Written) → byte ≡ tag_of step → Part Plainly (byte ∷ []) old mid → Part SpellsFields step mid new → Part SpellsStep step old new

@@ -26,6 +26,10 @@ pub record Spoilt {A : Type 0} (F : Format A) (bytes : List ℕ) : Type 0 where
 abbrev pub Then : {A B : Type 0} → Format A → (A → Format B) → Format (A × B)
 Then {A} {B} F G x bytes = (a : List ℕ) × (b : List ℕ) × F x.0 a × G x.0 x.1 b × (bytes ≡ a ++ b)
 
+-- one format, and then another
+abbrev pub Both : {A B : Type 0} → Format A → Format B → Format (A × B)
+Both F G = Then F (λ _. G)
+
 -- items, one after another
 abbrev pub Items : {A : Type 0} → Format A → Format (List A)
 Items {A} F [] bytes = bytes ≡ []

@@ -26,7 +26,7 @@ reader_name s = s.reader.ghost_name
 
 -- the step that was read last
 abbrev pub step_in : {R : Type 0} → StepReader R Buffers → Step
-step_in s = step_with s.buffers.kind s.buffers.lists.literals.items s.buffers.lists.hashes.items
+step_in s = step_with s.buffers.kind s.buffers.lists.literals.items s.buffers.lists.hashes.items s.buffers.lists.units.items
 
 abbrev pub is_stop : StepError → Bool
 is_stop errors.Ends = false

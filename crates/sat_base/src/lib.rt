@@ -30,7 +30,7 @@ pub use device::{CountedRead, CountedWrite};
 pub use error::StepError;
 pub use hash::{ClauseHash, clause_hash, lit_hash};
 pub use lit::Lit;
-pub use step::ProofStep;
+pub use step::{DeleteClauseProof, HashBits, ProofStep};
 pub use step_reader::StepReader;
 pub use step_writer::write_step;
 pub use text::{Token, Tokenizer};

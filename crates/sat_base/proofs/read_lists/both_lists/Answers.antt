@@ -1,7 +1,7 @@
 use Rattle.std.proofs.Common.{List, ℕ, ◌^◌, Result, subst}
 use Rattle.std.proofs.lemmas.Result.{err_from_is_err_and}
 use Rattle.sat_base.specs.declared.error.StepError.{StepError}
-use Rattle.sat_base.specs.Formats.{Then}
+use Rattle.sat_base.specs.Formats.{Both}
 use Rattle.sat_base.specs.Numbers.{IsBelow}
 use Rattle.sat_base.specs.StepText.{AreLiterals, AreHashes}
 use Rattle.sat_base.specs.Reading.{source_of, Reads, giving}
@@ -21,5 +21,5 @@ returns g c =
     let lits = c.literals.new.lits.items in
     let hs = c.hashes.new.hashes.items in
     let k = c.in_ok-literals.ensures in
-    subst (λ (z : Result (List ℕ × List ℕ) StepError). Reads (Then AreLiterals (λ _. AreHashes)) z (S c.args.reader.now c.args.ahead.now) (S c.hashes.new.reader c.hashes.new.ahead)) (pair_giving lits hs c.hashes.result)
+    subst (λ (z : Result (List ℕ × List ℕ) StepError). Reads (Both AreLiterals AreHashes) z (S c.args.reader.now c.args.ahead.now) (S c.hashes.new.reader c.hashes.new.ahead)) (pair_giving lits hs c.hashes.result)
     (second_gives AreLiterals (λ _. AreHashes) one_literals lits k.0 (S c.args.reader.now c.args.ahead.now) (S c.literals.new.reader c.literals.new.ahead) (S c.hashes.new.reader c.hashes.new.ahead) k.2 k.1 (giving hs c.hashes.result) c.hashes.ensures)

@@ -1,6 +1,5 @@
-use Rattle.std.proofs.Common.{◌*◌, ◌^◌, arith}
+use Rattle.std.proofs.Common.{◌^◌, arith}
 use Rattle.std.proofs.lemmas.Result.{err_from_is_err_and}
-use Rattle.sat_base.specs.Literals.{largest}
 use Rattle.sat_base.specs.Numbers.{IsBelow}
 use Rattle.sat_base.specs.Reading.{source_of, giving}
 use Rattle.sat_base.proofs.Numbers.{one_below, some_below}

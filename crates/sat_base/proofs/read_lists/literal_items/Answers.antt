@@ -1,30 +1,30 @@
-use Rattle.std.proofs.Common.{ℕ, ◌+◌, ◌-◌, ◌*◌, ◌^◌, Ok, subst, sym, arith}
+use Rattle.std.proofs.Common.{◌+◌, ◌-◌, ◌*◌, arith}
 use Rattle.std.proofs.lemmas.Result.{err_from_is_err_and}
 use Rattle.sat_base.specs.Literals.{largest}
-use Rattle.sat_base.specs.Numbers.{IsBelow}
-use Rattle.sat_base.specs.Reading.{source_of, Reads}
+use Rattle.sat_base.specs.Reading.{source_of}
+use Rattle.sat_base.specs.StepText.{IsLiteral}
 use Rattle.sat_base.proofs.Numbers.{one_below, some_below}
 use Rattle.sat_base.proofs.FormatReads.{counted_more, counted_fails, counted_no_room, counted_all}
 use Rattle.sat_base.proofs.read_lists.literal_items.Goals as goal
 
-pub returns-in_err-code : goal.returns-in_err-code
-returns-in_err-code g c =
+pub returns-in_err-lit : goal.returns-in_err-lit
+returns-in_err-lit g c =
     let S = source_of g.R.Read.remaining g.R.CountedRead.failures g.R.CountedRead.calls in
     let p = err_from_is_err_and c.from_residual.result c.from_residual.ensures.1 in
-    rw (p.1, p.2) (counted_fails (IsBelow (2 * largest)) (one_below (2 * largest)) (some_below (2 * largest) (omega arith)) c.args.count (c.args.count - c.loop.counter) (c.args.count - (c.loop.counter + 1)) c.loop.lits.items (S c.args.reader.now c.args.ahead.now) (S c.loop.reader c.loop.ahead) (S c.number.new.reader c.number.new.ahead) c.in_err-code.field-0.0 (omega arith) c.in_err-code.ensures c.loop.invariant)
+    rw (p.1, p.2) (counted_fails IsLiteral (one_below (2 * largest)) (some_below (2 * largest) (omega arith)) c.args.count (c.args.count - c.loop.counter) (c.args.count - (c.loop.counter + 1)) c.loop.lits.items (S c.args.reader.now c.args.ahead.now) (S c.loop.reader c.loop.ahead) (S c.literal.new.reader c.literal.new.ahead) c.in_err-lit.field-0.0 (omega arith) c.in_err-lit.ensures c.loop.invariant)
 
 pub returns-in_err-push : goal.returns-in_err-push
 returns-in_err-push g c =
     let S = source_of g.R.Read.remaining g.R.CountedRead.failures g.R.CountedRead.calls in
     let p = err_from_is_err_and c.from_residual-in_err-push.result c.from_residual-in_err-push.ensures.1 in
-    rw (p.1, p.2) (counted_no_room (IsBelow (2 * largest)) c.args.count (c.args.count - c.loop.counter) c.loop.lits.items c.in_ok-code.code (S c.args.reader.now c.args.ahead.now) (S c.loop.reader c.loop.ahead) (S c.number.new.reader c.number.new.ahead) c.in_ok-code.ensures c.loop.invariant)
+    rw (p.1, p.2) (counted_no_room IsLiteral c.args.count (c.args.count - c.loop.counter) c.loop.lits.items c.in_ok-lit.lit (S c.args.reader.now c.args.ahead.now) (S c.loop.reader c.loop.ahead) (S c.literal.new.reader c.literal.new.ahead) c.in_ok-lit.ensures c.loop.invariant)
 
 pub loop-preserved : goal.loop-preserved
 loop-preserved g c =
     let S = source_of g.R.Read.remaining g.R.CountedRead.failures g.R.CountedRead.calls in
-    rw c.in_ok-push.ensures.items (counted_more (IsBelow (2 * largest)) (one_below (2 * largest)) c.args.count (c.args.count - c.loop.counter) (c.args.count - (c.loop.counter + 1)) c.loop.lits.items c.from_code.result (S c.args.reader.now c.args.ahead.now) (S c.loop.reader c.loop.ahead) (S c.number.new.reader c.number.new.ahead) (omega arith) (subst (λ (n : ℕ). Reads (IsBelow (2 * largest)) (Ok n) (S c.loop.reader c.loop.ahead) (S c.number.new.reader c.number.new.ahead)) (sym c.from_code.ensures) c.in_ok-code.ensures) c.loop.invariant)
+    rw c.in_ok-push.ensures.items (counted_more IsLiteral (one_below (2 * largest)) c.args.count (c.args.count - c.loop.counter) (c.args.count - (c.loop.counter + 1)) c.loop.lits.items c.in_ok-lit.lit (S c.args.reader.now c.args.ahead.now) (S c.loop.reader c.loop.ahead) (S c.literal.new.reader c.literal.new.ahead) (omega arith) c.in_ok-lit.ensures c.loop.invariant)
 
 pub returns : goal.returns
 returns g c =
     let S = source_of g.R.Read.remaining g.R.CountedRead.failures g.R.CountedRead.calls in
-    counted_all (IsBelow (2 * largest)) c.args.count (c.args.count - c.loop.counter) c.loop.lits.items (S c.args.reader.now c.args.ahead.now) (S c.loop.reader c.loop.ahead) (omega arith) c.loop.invariant
+    counted_all IsLiteral c.args.count (c.args.count - c.loop.counter) c.loop.lits.items (S c.args.reader.now c.args.ahead.now) (S c.loop.reader c.loop.ahead) (omega arith) c.loop.invariant

@@ -1,9 +1,8 @@
-use Rattle.std.proofs.Common.{◌-◌, ◌*◌, ◌^◌}
-use Rattle.sat_base.specs.Literals.{largest}
-use Rattle.sat_base.specs.Numbers.{IsBelow}
+use Rattle.std.proofs.Common.{◌-◌}
+use Rattle.sat_base.specs.StepText.{IsLiteral}
 use Rattle.sat_base.specs.Reading.{source_of}
 use Rattle.sat_base.proofs.FormatReads.{Counted}
 use Rattle.sat_base.proofs.read_lists.literal_items.Given as goal
 
 abbrev pub invariant-loop : goal.invariant-loop
-invariant-loop g l = Counted (IsBelow (2 * largest)) l.count (l.count - l.counter) l.lits.items (source_of g.R.Read.remaining g.R.CountedRead.failures g.R.CountedRead.calls l.fn.reader l.fn.ahead) (source_of g.R.Read.remaining g.R.CountedRead.failures g.R.CountedRead.calls l.reader l.ahead)
+invariant-loop g l = Counted IsLiteral l.count (l.count - l.counter) l.lits.items (source_of g.R.Read.remaining g.R.CountedRead.failures g.R.CountedRead.calls l.fn.reader l.fn.ahead) (source_of g.R.Read.remaining g.R.CountedRead.failures g.R.CountedRead.calls l.reader l.ahead)

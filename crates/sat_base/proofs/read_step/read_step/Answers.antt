@@ -17,4 +17,4 @@ returns-else-not-is_tag g c =
     let t = c.in-Some.tag in
     let p = some_byte t c.in_ok-next_byte.field-0 (S c.args.reader.now c.args.ahead.now) (S c.next_byte.new.reader c.next_byte.new.ahead) c.in-Some.is c.in_ok-next_byte.ensures in
     let lists = c.fields.new.lists in
-    answers_behind t (S c.args.reader.now c.args.ahead.now) (S c.next_byte.new.reader c.next_byte.new.ahead) (S c.fields.new.reader c.fields.new.ahead) (valued (λ k. step_with k lists.literals.items lists.hashes.items) c.fields.result) p c.fields.ensures
+    answers_behind t (S c.args.reader.now c.args.ahead.now) (S c.next_byte.new.reader c.next_byte.new.ahead) (S c.fields.new.reader c.fields.new.ahead) (valued (λ k. step_with k lists.literals.items lists.hashes.items lists.units.items) c.fields.result) p c.fields.ensures

@@ -1,8 +1,0 @@
-use Rattle.std.proofs.Common.{◌*◌, ◌^◌}
-use Rattle.sat_base.specs.Literals.{largest}
-use Rattle.sat_base.specs.Writing.{with_pending}
-use Rattle.sat_base.proofs.Writes.{ListPut}
-use Rattle.sat_base.proofs.step_writer.put_literals.Given as goal
-
-abbrev pub invariant-loop-lit : goal.invariant-loop-lit
-invariant-loop-lit g l = ListPut (2 * largest) l.lits l.lit-index (with_pending g.W.Write.contents g.W.CountedWrite.failures l.fn.writer l.fn.pending) (with_pending g.W.Write.contents g.W.CountedWrite.failures l.writer l.pending)
