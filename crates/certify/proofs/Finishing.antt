@@ -14,18 +14,24 @@ use Rattle.certify.specs.declared.summary.Summary.{Summary}
 use Rattle.certify.specs.Answers.{Outcome, piece, outcomes_left, refused_line, answers_from, ending_text}
 use Rattle.certify.specs.Right.{AreRight}
 use Rattle.certify.specs.Held.{fresh}
+use Rattle.certify.specs.TheChecking.{the_checking}
+use Rattle.certify.specs.Matches.{expected, finish}
+use Rattle.certify.specs.Certified.{Certifies, complete, ordered}
 use Rattle.certify.specs.Holding.{held_command, held_reading}
 use Rattle.certify.specs.Run.{RunOf, Finished, refused_count, malformed_at}
-use Rattle.certify.specs.Running.{Plain, Reached, TookAll, Wrote, WroteStep, Finishes, malformed_text}
+use Rattle.certify.specs.Running.{Plain, Reached, TookAll, WroteStep, Finishes, malformed_text}
 use Rattle.certify.proofs.Held.{refusal_of-held, unheld, after_command-held, accepted_of-held}
+use Rattle.certify.proofs.Certified.{told_start}
 use Rattle.certify.proofs.PlainState.{start_plain}
 use Rattle.certify.proofs.Simple.{held_good}
-use Rattle.certify.proofs.Writing.{wrote_last}
+use Rattle.certify.proofs.Writing.{wrote_none, wrote_step, wrote_then}
 
-pub took_none : (script : Reading) (budget : ℕ) (s : Session) (a : Option (List ℕ)) → s.names ≡ 0 → s.solver ≡ fresh → s.refused ≡ 0 → s.asks.items ≡ [] → TookAll script budget 0 s a a
-took_none script budget s a names solver refused asks = record {
+pub took_none : (script : Reading) (budget : ℕ) (s : Session) (a p : Option (List ℕ)) → s.names ≡ 0 → s.solver ≡ fresh → s.refused ≡ 0 → s.asks.items ≡ [] → TookAll script budget 0 s a a p p
+took_none script budget s a p names solver refused asks = record {
   answered = [];
   appended = Appends-nil a;
+  steps = [];
+  wrote = wrote_none p;
   reached = λ simple. record {
     judge = start;
     done = [];
@@ -37,6 +43,9 @@ took_none script budget s a names solver refused asks = record {
     kinds = rw asks refl;
     spent = rw asks tt;
     counted = rw (solver, asks) refl;
+    earlier = [];
+    told = rw names (told_start s.solver (λ a. rw solver (refl, tt)));
+    certifies = λ rest more c. c;
   };
 }
 
@@ -45,7 +54,7 @@ ending_malformed number Clean = refl
 ending_malformed number Malformed = refl
 
 run_reached : (script : List Command) (ending : Ending) (budget number : ℕ) (s : Session) (summary : Summary) (answered certified : List ℕ) (steps : List Step)
-    → Reached script ending budget [] number s answered → number ≡ length script + 1 → SpellsSteps (steps ++ End ∷ []) certified
+    → Reached script ending budget [] number s answered steps → number ≡ length script + 1 → SpellsSteps (steps ++ End ∷ []) certified
     → summary.commands ≡ length script → summary.refused ≡ s.refused → summary.malformed ≡ malformed_at (length script + 1) ending → summary.asks ≡ s.asks
     → RunOf script ending budget summary (answered ++ malformed_text summary.malformed) certified
 run_reached script ending budget number s summary answered certified steps r n spelt commands refused malformed asks =
@@ -54,8 +63,9 @@ run_reached script ending budget number s summary answered certified steps r n s
       outcomes = r.done;
       right = subst P (append-nil r.done) (r.right [] tt);
       answers = ap (λ m. answered ++ malformed_text m) (malformed ∙ ap (λ k. malformed_at k ending) (sym n)) ∙ ap (λ t. answered ++ t) (sym (ending_malformed number ending)) ∙ sym (r.text []) ∙ ap (answers_from 1 start script ending) (append-nil r.done);
-      steps = steps;
+      steps = steps ++ End ∷ [];
       certificate = spelt;
+      certifies = subst (λ os. Certifies the_checking [] (steps ++ End ∷ []) (expected start (accepted_of start script) os)) (append-nil r.done) (r.certifies [] (End ∷ []) (ordered finish complete));
       commands = commands;
       refused = omega (arith, refused, r.refused);
       malformed = malformed;
@@ -65,18 +75,18 @@ run_reached script ending budget number s summary answered certified steps r n s
 
 -- after the last command
 pub finishes : (script : Reading) (budget : ℕ) (s : Session) (summary : Summary) (a b d p q t : Option (List ℕ))
-    → TookAll script budget (length script.0) s a b → Appends b d (malformed_text summary.malformed) → Wrote p q → WroteStep End q t
+    → TookAll script budget (length script.0) s a b p q → Appends b d (malformed_text summary.malformed) → WroteStep End q t
     → summary.commands ≡ length script.0 → summary.refused ≡ s.refused → summary.malformed ≡ malformed_at (length script.0 + 1) script.1 → summary.asks ≡ s.asks
     → Finishes script budget summary a d p t
-finishes script budget s summary a b d p q t took last wrote ended commands refused malformed asks =
-    let w = wrote_last wrote ended in
-    let P : List Command → Type 0 = λ cs. Reached script.0 script.1 budget cs (length script.0 + 1) s took.answered in
+finishes script budget s summary a b d p q t took last ended commands refused malformed asks =
+    let w = wrote_then took.wrote (wrote_step ended) in
+    let P : List Command → Type 0 = λ cs. Reached script.0 script.1 budget cs (length script.0 + 1) s took.answered took.steps in
     record {
       answered = took.answered ++ malformed_text summary.malformed;
       answers = Appends-trans a b d took.answered (malformed_text summary.malformed) took.appended last;
-      certified = w.0;
-      certificate = w.2;
-      run = λ simple. run_reached script.0 script.1 budget (length script.0 + 1) s summary took.answered w.0 wrote.steps (subst P (drop-length script.0) (took.reached simple)) refl w.1 commands refused malformed asks;
+      certified = w.text;
+      certificate = w.appended;
+      run = λ simple. run_reached script.0 script.1 budget (length script.0 + 1) s summary took.answered w.text took.steps (subst P (drop-length script.0) (took.reached simple)) refl w.spelt commands refused malformed asks;
     }
 
 -- names that are held change none of it
@@ -112,6 +122,7 @@ run_held cs ending budget summary answered certified r =
       answers = r.answers ∙ answers_held cs 1 start ending r.outcomes;
       steps = r.steps;
       certificate = r.certificate;
+      certifies = subst (λ cs. Certifies the_checking [] r.steps (expected start cs r.outcomes)) (accepted_of-held start cs) r.certifies;
       commands = r.commands ∙ n;
       refused = r.refused ∙ count_held cs start;
       malformed = r.malformed ∙ ap (λ k. malformed_at (k + 1) ending) n;

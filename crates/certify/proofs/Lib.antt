@@ -12,6 +12,7 @@ pub mod Sound
 pub mod Rows
 pub mod Taken
 pub mod Fitting
+pub mod Certified
 pub mod Excused
 pub mod Left
 pub mod Asking

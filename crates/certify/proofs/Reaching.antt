@@ -19,7 +19,14 @@ use Rattle.certify.specs.AnswerForms.{named_literal, named_literals}
 use Rattle.certify.specs.Right.{IsRight, AreRight}
 use Rattle.certify.specs.Run.{refused_count, kind_of, IsSpent, AreSpent}
 use Rattle.certify.specs.Held.{Held, HoldsIn, TakesClause}
-use Rattle.certify.specs.Running.{Plain, Reached, Refused, Added, Asked, Took, TookAll, IsSimple, IsTrueOf, WritesAnswer, are_within, code_of, outcome_of, raised, steps_of}
+use Rattle.certify.specs.Running.{Plain, Reached, Refused, Added, Asked, Took, TookAll, Told, IsSimple, IsTrueOf, WritesAnswer, WritesSteps, WritesClause, WroteClause, WroteAsk, are_within, code_of, naming, outcome_of, raised, steps_of}
+use Rattle.sat_base.specs.Steps.{Step, Assumptions}
+use Rattle.certify.specs.TheChecking.{the_checking}
+use Rattle.certify.specs.Matches.{Adds, Opens, Closes, bringing, expected, showing}
+use Rattle.certify.specs.Certified.{Certifies}
+use Rattle.certify.specs.Solved.{IsDerived}
+use Rattle.certify.proofs.Certified.{Brings, brings_nothing, brings_added, brings_ask, ask_steps, code_back, further}
+use Rattle.certify.proofs.Writing.{wrote_none, wrote_then}
 use Rattle.certify.proofs.PlainState.{over_plain, bring_all_plain, refused_plain, in_use_plain}
 use Rattle.certify.proofs.NameLists.{within_first, raised_least}
 
@@ -45,10 +52,10 @@ answers_clause k j ls cs ending os e = rw e refl
 count_clause : (j : Judge) (ls : List Literal) (cs : List Command) → refused_literal j (names_of ls) ≡ None → refused_count j (Clause ls ∷ cs) ≡ 0 + refused_count (accepted (Clause ls) j) cs
 count_clause j ls cs e = rw e refl
 
-pub reached_refused : (script : List Command) (ending : Ending) (budget : ℕ) (left : List Command) (number : ℕ) (old new : Session) (answered : List ℕ) (ls : List Literal)
+pub reached_refused : (script : List Command) (ending : Ending) (budget : ℕ) (left : List Command) (number : ℕ) (old new : Session) (answered : List ℕ) (before : List Step) (ls : List Literal)
     → IsSimple (Clause ls) → are_within (names_of ls) ≡ false → Refused old new
-    → Reached script ending budget (Clause ls ∷ left) number old answered → Reached script ending budget left (number + 1) new (answered ++ refused_line number PastLimit)
-reached_refused script ending budget left number old new answered ls simple w h r =
+    → Reached script ending budget (Clause ls ∷ left) number old answered before → Reached script ending budget left (number + 1) new (answered ++ refused_line number PastLimit) (before ++ [])
+reached_refused script ending budget left number old new answered before ls simple w h r =
     let e : refused_literal r.judge (names_of ls) ≡ Some PastLimit = refused_plain (names_of ls) r.judge old.names r.plain simple ∙ ap (λ b. cond b None (Some PastLimit)) w in
     let n = count_refused r.judge ls left e in
     let P : List Command → List Outcome → Type 0 = AreRight r.judge in
@@ -63,6 +70,9 @@ reached_refused script ending budget left number old new answered ls simple w h 
       kinds = rw h.asks r.kinds;
       spent = rw h.asks r.spent;
       counted = rw (h.solver, h.asks) r.counted;
+      earlier = (brings_nothing r.told).later;
+      told = rw (h.solver, h.names) (brings_nothing r.told).told;
+      certifies = λ rest. further before (r.certifies rest) (brings_nothing r.told) (ap (λ cs. expected r.judge cs rest) (accepted_refused r.judge ls left e));
     }
 
 over_all : (b : Judge) (most n : ℕ) (ls : List Literal) → Plain b most → raised n (names_of ls) ≤ most → are_within (names_of ls) ≡ true → map (over b) ls ≡ map code_of ls
@@ -75,16 +85,19 @@ over_all b most n (l ∷ ls) p h w =
 plain_clause : (j : Judge) (n : ℕ) (ls : List Literal) → Plain j n → Plain (with_clause ls j) n
 plain_clause j n ls p = record { first_unused = p.first_unused; in_use = p.in_use; modes = p.modes; next_identity = p.next_identity }
 
-pub reached_clause : (script : List Command) (ending : Ending) (budget : ℕ) (left : List Command) (number : ℕ) (old new : Session) (answered : List ℕ) (ls : List Literal)
-    → IsSimple (Clause ls) → are_within (names_of ls) ≡ true → Added ls old new
-    → Reached script ending budget (Clause ls ∷ left) number old answered → Reached script ending budget left (number + 1) new (answered ++ [])
-reached_clause script ending budget left number old new answered ls simple w h r =
+pub reached_clause : (script : List Command) (ending : Ending) (budget : ℕ) (left : List Command) (number : ℕ) (old new : Session) (answered : List ℕ) (before steps : List Step) (ls : List Literal)
+    → IsSimple (Clause ls) → are_within (names_of ls) ≡ true → Added ls old new → WritesClause old.solver (map code_of ls) steps
+    → Reached script ending budget (Clause ls ∷ left) number old answered before → Reached script ending budget left (number + 1) new (answered ++ []) (before ++ (naming (new.names - old.names) old.names ++ steps))
+reached_clause script ending budget left number old new answered before steps ls simple w h wrote r =
     let e : refused_literal r.judge (names_of ls) ≡ None = refused_plain (names_of ls) r.judge old.names r.plain simple ∙ ap (λ b. cond b None (Some PastLimit)) w in
     let n = count_clause r.judge ls left e in
     let b = bring_all (names_of ls) r.judge in
     let p = bring_all_plain (names_of ls) r.judge old.names r.plain simple in
     let codes = over_all b (raised old.names (names_of ls)) old.names ls p.0 (omega arith) w in
     let P : List Command → List Outcome → Type 0 = AreRight r.judge in
+    let brought = brings_added old.names r.earlier old.solver new.solver r.judge ls steps r.plain simple w wrote h.clauses r.told in
+    let all : Brings r.earlier (naming (new.names - old.names) old.names ++ steps) (bringing (names_of ls) r.judge ++ Adds ls ∷ []) new.names new.solver =
+    subst (λ m. Brings r.earlier (naming (m - old.names) old.names ++ steps) (bringing (names_of ls) r.judge ++ Adds ls ∷ []) m new.solver) (sym h.names) brought in
     record {
       judge = with_clause ls b;
       done = r.done;
@@ -100,6 +113,11 @@ reached_clause script ending budget left number old new answered ls simple w h r
       kinds = rw h.asks r.kinds;
       spent = rw h.asks r.spent;
       counted = rw h.asks (h.rounds ∙ r.counted);
+      earlier = all.later;
+      told = all.told;
+      certifies = λ rest. further before (r.certifies rest) all
+          (ap (λ cs. expected r.judge cs rest) (accepted_clause r.judge ls left e)
+          ∙ sym (append_assoc (bringing (names_of ls) r.judge) (Adds ls ∷ []) (expected (with_clause ls b) (accepted_of (with_clause ls b) left) rest)));
     }
 
 -- the names of a model's line
@@ -111,13 +129,6 @@ line_names (l ∷ ls) (suc n) k e =
     let hd : variable l ≡ k = cc in
     let tl : map variable ls ≡ names_from n (k + 1) = cc in
     ap (λ v. (v + 1) ∷ names_of (named_literals ls)) hd ∙ ap (λ xs. (k + 1) ∷ xs) (line_names ls n (k + 1) tl)
-
-code_back : (l : ℕ) → code_of (named_literal l) ≡ l
-code_back l = go (eqb (l % 2) 0) refl
-  where
-    go : (b : Bool) → eqb (l % 2) 0 ≡ b → coded (l / 2 + 1 - 1) b ≡ l
-    go true e = let z : l % 2 ≡ 0 = grind (arith, nat_tests) in omega arith
-    go false e = let z : 0 < l % 2 = grind (arith, nat_tests) in omega arith
 
 line_over : (j : Judge) (n : ℕ) → Plain j n → (line : List ℕ) (m k : ℕ) → map variable line ≡ names_from m k → k + m ≤ n → map (over j) (named_literals line) ≡ line
 line_over j n p [] m k e h = refl
@@ -157,16 +168,18 @@ spent_push budget before (x ∷ xs) r h s =
     let e : before + (x.steps + steps_of xs) ≡ before + x.steps + steps_of xs = omega arith in
     (h.0, spent_push budget (before + x.steps) xs r h.1 (subst (λ m. IsSpent budget m r) e s))
 
-pub reached_ask : (script : List Command) (ending : Ending) (budget : ℕ) (left : List Command) (number : ℕ) (old new : Session) (answered : List ℕ) (report : AskReport)
-    → old.solver.var_count ≡ old.names → Asked budget old new report
-    → Reached script ending budget (Ask [] ∷ left) number old answered → Reached script ending budget left (number + 1) new (answered ++ outcome_text (outcome_of report.answer new.lits.items))
-reached_ask script ending budget left number old new answered report same h r =
+pub reached_ask : (script : List Command) (ending : Ending) (budget : ℕ) (left : List Command) (number : ℕ) (old new : Session) (answered : List ℕ) (before derived : List Step) (report : AskReport)
+    → old.solver.var_count ≡ old.names → Asked budget old new report → AllByRecursion (IsDerived old.solver.var_count) derived
+    → Reached script ending budget (Ask [] ∷ left) number old answered before
+    → Reached script ending budget left (number + 1) new (answered ++ outcome_text (outcome_of report.answer new.lits.items)) (before ++ ask_steps derived report.answer new.lits.items)
+reached_ask script ending budget left number old new answered before derived report same h are_derived r =
     let o = outcome_of report.answer new.lits.items in
     let onwards = λ (a : Valuation) (u : HoldsIn new.solver a). (r.clauses a).0 (h.same.back a u) in
     let back = λ (a : Valuation) (u : EachHolds a r.judge.clauses). h.same.onwards a ((r.clauses a).1 u) in
     let is_right : IsRight r.judge [] o = right_of r.judge old.names new.solver new.lits.items report.answer r.plain (h.variables ∙ same) onwards back h.truth in
     let P : List Outcome → Type 0 = AreRight start (accepted_of start script) in
     let z : steps_of old.asks.items ≡ 0 + steps_of old.asks.items = omega arith in
+    let brought = brings_ask old.names r.earlier old.solver new.solver r.judge derived new.lits.items report.answer (h.variables ∙ same) h.same.onwards (subst (λ n. AllByRecursion (IsDerived n) derived) same are_derived) h.truth is_right r.told in
     let spelt : IsSpent budget (0 + steps_of old.asks.items) report = subst (λ m. IsSpent budget m report) (r.counted ∙ z) h.spent in
     record {
       judge = r.judge;
@@ -180,36 +193,48 @@ reached_ask script ending budget left number old new answered report same h r =
           ∙ ap (λ ks. ks ++ report.answer ∷ []) r.kinds ∙ ap (λ k. map kind_of r.done ++ k ∷ []) (sym (kind_of_outcome report.answer new.lits.items)) ∙ sym (map-append kind_of r.done (o ∷ []));
       spent = rw h.asks (spent_push budget 0 old.asks.items report r.spent spelt);
       counted = h.rounds ∙ ap (λ m. m + report.steps) r.counted ∙ sym (steps_push old.asks.items report) ∙ sym (ap steps_of h.asks);
+      earlier = brought.later;
+      told = subst (λ n. Told brought.later n new.solver) (sym h.names) brought.told;
+      certifies = λ rest more c.
+          subst (λ os. Certifies the_checking [] ((before ++ ask_steps derived report.answer new.lits.items) ++ more) (expected start (accepted_of start script) os)) (sym (append_assoc r.done (o ∷ []) rest))
+          (further before (r.certifies (o ∷ rest)) brought (ap (λ es. Opens [] o ∷ es) (sym (append_assoc (showing r.judge [] o) (Closes ∷ []) (expected r.judge (accepted_of r.judge left) rest)))) more c);
     }
 
-pub took_refused : (r : Result (Unit {0}) RunFault) (ls : List Literal) (number budget : ℕ) (old new : Session) (a b : Option (List ℕ)) (before after : ℕ)
-    → are_within (names_of ls) ≡ false → OnOk r (Refused old new) → WritesAnswer r (refused_line number PastLimit) a b before after → OnOk r (Took (Clause ls) number budget old new a b)
-took_refused (Ok x) ls number budget old new a b before after w h t = record {
+pub took_refused : (r : Result (Unit {0}) RunFault) (ls : List Literal) (number budget : ℕ) (old new : Session) (a b p : Option (List ℕ)) (before after : ℕ)
+    → are_within (names_of ls) ≡ false → OnOk r (Refused old new) → WritesAnswer r (refused_line number PastLimit) a b before after → OnOk r (Took (Clause ls) number budget old new a b p p)
+took_refused (Ok x) ls number budget old new a b p before after w h t = record {
   piece = refused_line number PastLimit;
   appended = t.0;
-  reached = λ simple script ending left answered same r. reached_refused script ending budget left number old new answered ls simple w h r;
+  steps = [];
+  wrote = wrote_none p;
+  reached = λ simple script ending left answered written same r. reached_refused script ending budget left number old new answered written ls simple w h r;
 }
-took_refused (Err x) ls number budget old new a b before after w h t = tt
+took_refused (Err x) ls number budget old new a b p before after w h t = tt
 
-pub took_clause : (r : Result (Unit {0}) RunFault) (ls : List Literal) (number budget : ℕ) (old new : Session) (a : Option (List ℕ))
-    → are_within (names_of ls) ≡ true → OnOk r (Added ls old new) → OnOk r (Took (Clause ls) number budget old new a a)
-took_clause (Ok x) ls number budget old new a w h = record {
+pub took_clause : (r : Result (Unit {0}) RunFault) (ls : List Literal) (number budget : ℕ) (old new : Session) (a p q : Option (List ℕ)) (before after : ℕ)
+    → are_within (names_of ls) ≡ true → OnOk r (Added ls old new) → WritesSteps r (λ _. WroteClause (new.names - old.names) old.names old.solver (map code_of ls) p q) before after → OnOk r (Took (Clause ls) number budget old new a a p q)
+took_clause (Ok x) ls number budget old new a p q before after w h t = record {
   piece = [];
   appended = Appends-nil a;
-  reached = λ simple script ending left answered same r. reached_clause script ending budget left number old new answered ls simple w h r;
+  steps = naming (new.names - old.names) old.names ++ t.0.steps;
+  wrote = t.0.wrote;
+  reached = λ simple script ending left answered written same r. reached_clause script ending budget left number old new answered written t.0.steps ls simple w h t.0.clause r;
 }
-took_clause (Err x) ls number budget old new a w h = tt
+took_clause (Err x) ls number budget old new a p q before after w h t = tt
 
-pub took_ask : (r : Result (Unit {0}) RunFault) (ls : List Literal) (number budget : ℕ) (old new : Session) (a b : Option (List ℕ))
-    → OnOk r ((report : AskReport) × Asked budget old new report × Appends a b (outcome_text (outcome_of report.answer new.lits.items))) → OnOk r (Took (Ask ls) number budget old new a b)
-took_ask (Ok x) ls number budget old new a b h = record {
+pub took_ask : (r : Result (Unit {0}) RunFault) (ls : List Literal) (number budget : ℕ) (old new : Session) (a b p q : Option (List ℕ))
+    → OnOk r ((report : AskReport) × Asked budget old new report × Appends a b (outcome_text (outcome_of report.answer new.lits.items)) × WroteAsk old.solver.var_count report.answer new.lits.items (Assumptions [] ∷ []) p q)
+    → OnOk r (Took (Ask ls) number budget old new a b p q)
+took_ask (Ok x) ls number budget old new a b p q h = record {
   piece = outcome_text (outcome_of h.0.answer new.lits.items);
   appended = h.2;
-  reached = λ simple script ending left answered same r.
-      let P : List Literal → Type 0 = λ ks. Reached script ending budget (Ask ks ∷ left) number old answered in
-      reached_ask script ending budget left number old new answered h.0 same h.1 (subst P simple r);
+  steps = ask_steps h.3.derived h.0.answer new.lits.items;
+  wrote = h.3.wrote;
+  reached = λ simple script ending left answered written same r.
+      let P : List Literal → Type 0 = λ ks. Reached script ending budget (Ask ks ∷ left) number old answered written in
+      reached_ask script ending budget left number old new answered written h.3.derived h.0 same h.1 h.3.are_derived (subst P simple r);
 }
-took_ask (Err x) ls number budget old new a b h = tt
+took_ask (Err x) ls number budget old new a b p q h = tt
 
 drop_at : (cs : List Command) (i : ℕ) (c : Command) → slice_get cs i ≡ Some c → drop i cs ≡ c ∷ drop (i + 1) cs
 drop_at [] i c e = absurd (cc)
@@ -221,19 +246,21 @@ simple_at [] i c e h = absurd (cc)
 simple_at (x ∷ xs) zero c e h = let s : x ≡ c = cc in subst IsSimple s h.0
 simple_at (x ∷ xs) (suc i) c e h = simple_at xs i c e h.1
 
-pub took_next : {script : Reading} {budget place number : ℕ} {old new : Session} {a b d : Option (List ℕ)} {command : Command}
-    → TookAll script budget place old a b → number ≡ place + 1 → slice_get script.0 place ≡ Some command → old.solver.var_count ≡ old.names
-    → Took command number budget old new b d → TookAll script budget (place + 1) new a d
-took_next {script} {budget} {place} {number} {old} {new} {a} {b} {d} {command} t n e same k =
-    let P : List Command → ℕ → List ℕ → Type 0 = λ cs m answered. Reached script.0 script.1 budget cs m old answered in
-    let Q : ℕ → Type 0 = λ m. Reached script.0 script.1 budget (drop (place + 1) script.0) (m + 1) new (t.answered ++ k.piece) in
+pub took_next : {script : Reading} {budget place number : ℕ} {old new : Session} {a b d p q t : Option (List ℕ)} {command : Command}
+    → TookAll script budget place old a b p q → number ≡ place + 1 → slice_get script.0 place ≡ Some command → old.solver.var_count ≡ old.names
+    → Took command number budget old new b d q t → TookAll script budget (place + 1) new a d p t
+took_next {script} {budget} {place} {number} {old} {new} {a} {b} {d} {p} {q} {t} {command} all n e same k =
+    let P : List Command → ℕ → Type 0 = λ cs m. Reached script.0 script.1 budget cs m old all.answered all.steps in
+    let Q : ℕ → Type 0 = λ m. Reached script.0 script.1 budget (drop (place + 1) script.0) (m + 1) new (all.answered ++ k.piece) (all.steps ++ k.steps) in
     record {
-      answered = t.answered ++ k.piece;
-      appended = Appends-trans a b d t.answered k.piece t.appended k.appended;
+      answered = all.answered ++ k.piece;
+      appended = Appends-trans a b d all.answered k.piece all.appended k.appended;
+      steps = all.steps ++ k.steps;
+      wrote = wrote_then all.wrote k.wrote;
       reached = λ simple.
-          let here = subst (λ cs. P cs (place + 1) t.answered) (drop_at script.0 place command e) (t.reached simple) in
-          let at = subst (λ m. P (command ∷ drop (place + 1) script.0) m t.answered) (sym n) here in
-          subst Q n (k.reached (simple_at script.0 place command e simple) script.0 script.1 (drop (place + 1) script.0) t.answered same at);
+          let here = subst (λ cs. P cs (place + 1)) (drop_at script.0 place command e) (all.reached simple) in
+          let at = subst (λ m. P (command ∷ drop (place + 1) script.0) m) (sym n) here in
+          subst Q n (k.reached (simple_at script.0 place command e simple) script.0 script.1 (drop (place + 1) script.0) all.answered all.steps same at);
     }
 
 pub added : (r : Result (Unit {0}) RunFault) (ls : List Literal) (old new : Session) → OnOk r (new.names ≡ raised old.names (names_of ls)) → OnOk r (new.solver.var_count ≡ new.names) → OnOk r (TakesClause old.solver new.solver (map code_of ls))

@@ -1,5 +1,5 @@
 -- Rounds of an ask, and the steps that it writes.
-use Rattle.std.proofs.Common.{ℕ, ◌≡◌, ◌≢◌, ◌+◌, ◌-◌, ◌^◌, ◌≤◌, ◌⊎◌, true, false, Option, Some, None, List, [], ◌∷◌, ◌++◌, refl, sym, ◌∙◌, ap, subst, arith, append_assoc}
+use Rattle.std.proofs.Common.{ℕ, ◌≡◌, ◌≢◌, ◌+◌, ◌-◌, ◌^◌, ◌<◌, ◌≤◌, ◌⊎◌, inl, inr, true, false, Option, Some, None, List, [], ◌∷◌, ◌++◌, refl, sym, ◌∙◌, ap, subst, arith, append_assoc}
 use Rattle.std.specs.List.{AllByRecursion}
 use Rattle.std.specs.Io.KnownBytes.{Appends}
 use Rattle.std.proofs.lemmas.Bool.{false≢true}
@@ -10,6 +10,8 @@ use Rattle.sat_base.specs.Writing.{Written}
 use Rattle.certify.specs.declared.search.propagate.RoundEnd.TheVariants.{Conflict, Model}
 use Rattle.certify.specs.declared.search.solve.Answer.TheVariants.{Sat, Unsat, Unknown}
 use Rattle.certify.specs.Held.{Held, HoldsSame, RoundSays}
+use Rattle.certify.specs.Run.{steps_left}
+use Rattle.certify.specs.Search.{IsBounded}
 use Rattle.certify.specs.Solved.{Solves, IsDerived, WritesDerived}
 
 appends_nothing : (a : Option (List ℕ)) → Appends a a []
@@ -26,29 +28,29 @@ items_both : (xs ys : List Step) (s t : List ℕ) → SpellsSteps xs s → Spell
 items_both [] ys s t h k = subst (λ w. SpellsSteps ys (w ++ t)) (sym h) k
 items_both (x ∷ xs) ys s t (a, b, one, more, e) k = (a, b ++ t, one, items_both xs ys b t more k, ap (λ w. w ++ t) e ∙ append_assoc a b t)
 
-derived_both : (xs ys : List Step) → AllByRecursion IsDerived xs → AllByRecursion IsDerived ys → AllByRecursion IsDerived (xs ++ ys)
-derived_both [] ys h k = k
-derived_both (x ∷ xs) ys h k = (h.0, derived_both xs ys h.1 k)
+derived_both : (n : ℕ) (xs ys : List Step) → AllByRecursion (IsDerived n) xs → AllByRecursion (IsDerived n) ys → AllByRecursion (IsDerived n) (xs ++ ys)
+derived_both n [] ys h k = k
+derived_both n (x ∷ xs) ys h k = (h.0, derived_both n xs ys h.1 k)
 
-pub none_derived : (w : Written) → WritesDerived 0 w w
-none_derived w = record { steps = []; many = refl; derived = tt; text = []; spells = refl; bytes = appends_nothing w.contents; failures = refl }
+pub none_derived : (n : ℕ) (w : Written) → WritesDerived n 0 w w
+none_derived n w = record { steps = []; many = refl; derived = tt; text = []; spells = refl; bytes = appends_nothing w.contents; failures = refl }
 
-pub one_derived : (clause hashes : List ℕ) (old new : Written) → (text : List ℕ) × SpellsStep (AtClause false clause hashes) text × Appends old.contents new.contents text × (new.failures ≡ old.failures) → WritesDerived 1 old new
-one_derived clause hashes old new (text, spells, bytes, failures) = record {
+pub one_derived : (n : ℕ) (clause hashes : List ℕ) (old new : Written) → IsBounded n clause → (text : List ℕ) × SpellsStep (AtClause false clause hashes) text × Appends old.contents new.contents text × (new.failures ≡ old.failures) → WritesDerived n 1 old new
+one_derived n clause hashes old new bounded (text, spells, bytes, failures) = record {
   steps = AtClause false clause hashes ∷ [];
   many = refl;
-  derived = (tt, tt);
+  derived = ((clause, hashes, refl, bounded), tt);
   text = text;
   spells = (text, [], spells, refl, sym (append-nil text));
   bytes = bytes;
   failures = failures;
 }
 
-more_derived : (n : ℕ) (a b c : Written) → WritesDerived n a b → WritesDerived 1 b c → WritesDerived (n + 1) a c
-more_derived n a b c x y = record {
+more_derived : (n count : ℕ) (a b c : Written) → WritesDerived n count a b → WritesDerived n 1 b c → WritesDerived n (count + 1) a c
+more_derived n count a b c x y = record {
   steps = x.steps ++ y.steps;
   many = length-append x.steps y.steps ∙ (let p = x.many in let q = y.many in omega arith);
-  derived = derived_both x.steps y.steps x.derived y.derived;
+  derived = derived_both n x.steps y.steps x.derived y.derived;
   text = x.text ++ y.text;
   spells = items_both x.steps y.steps x.text y.text x.spells y.spells;
   bytes = appends_both a.contents b.contents c.contents x.text y.text x.bytes y.bytes;
@@ -61,8 +63,8 @@ pub record Asking (spent budget : ℕ) (old now : Held) (before after : Written)
   pub known : old.unsat ≡ true → (spent ≡ 0) × (now.unsat ≡ true)
   pub var_count : now.var_count ≡ old.var_count
   pub rounds : now.rounds ≡ old.rounds + spent
-  pub within : spent ≤ budget
-  pub written : WritesDerived spent before after
+  pub within : spent ≤ steps_left budget old.rounds
+  pub written : WritesDerived old.var_count spent before after
 
 pub asking_start : (budget : ℕ) (s : Held) (w : Written) → Asking 0 budget s s w w
 asking_start budget s w = record {
@@ -71,7 +73,7 @@ asking_start budget s w = record {
   var_count = refl;
   rounds = omega arith;
   within = omega arith;
-  written = none_derived w;
+  written = none_derived s.var_count w;
 }
 
 same_further : (x y z : Held) → HoldsSame x y → HoldsSame y z → HoldsSame x z
@@ -82,8 +84,8 @@ module _ (spent budget : ℕ) (old now : Held) (before after : Written) (asking 
   not_known going was = absurd (false≢true (sym going ∙ (asking.known was).1))
 
   pub asking_unknown : now.unsat ≡ false → (spent ≡ budget) ⊎ (now.rounds ≡ 2 ^ 64 - 1) → Solves Unknown spent budget old now
-  asking_unknown going over = record {
-    right = (going, over);
+  asking_unknown going over = let was = asking.rounds in let below = asking.within in record {
+    right = (going, elim over [ inl e ↦ omega arith | inr e ↦ omega arith ]);
     known = λ was. not_known going was;
     same = asking.same;
     var_count = asking.var_count;
@@ -101,8 +103,8 @@ module _ (spent budget : ℕ) (old now : Held) (before after : Written) (asking 
     within = asking.within;
   }
 
-  pub asking_sat : (new : Held) → now.unsat ≡ false → spent ≢ budget → RoundSays Model now new → new.rounds ≡ now.rounds + 1 → new.var_count ≡ now.var_count → Solves Sat (spent + 1) budget old new
-  asking_sat new going room says rounds var_count = let was = asking.rounds in let below = asking.within in record {
+  pub asking_sat : (new : Held) → now.unsat ≡ false → spent ≢ budget → now.rounds < 2 ^ 64 - 1 → RoundSays Model now new → new.rounds ≡ now.rounds + 1 → new.var_count ≡ now.var_count → Solves Sat (spent + 1) budget old new
+  asking_sat new going room count says rounds var_count = let was = asking.rounds in let below = asking.within in record {
     right = says.1;
     known = λ was. not_known going was;
     same = same_further old now new asking.same says.0;
@@ -111,14 +113,14 @@ module _ (spent budget : ℕ) (old now : Held) (before after : Written) (asking 
     within = omega arith;
   }
 
-  pub asking_more : (new : Held) (later : Written) → now.unsat ≡ false → spent ≢ budget → RoundSays Conflict now new → new.rounds ≡ now.rounds + 1 → new.var_count ≡ now.var_count → WritesDerived 1 after later → Asking (spent + 1) budget old new before later
-  asking_more new later going room says rounds var_count wrote = let was = asking.rounds in let below = asking.within in record {
+  pub asking_more : (new : Held) (later : Written) → now.unsat ≡ false → spent ≢ budget → now.rounds < 2 ^ 64 - 1 → RoundSays Conflict now new → new.rounds ≡ now.rounds + 1 → new.var_count ≡ now.var_count → WritesDerived old.var_count 1 after later → Asking (spent + 1) budget old new before later
+  asking_more new later going room count says rounds var_count wrote = let was = asking.rounds in let below = asking.within in record {
     same = same_further old now new asking.same says.0;
     known = λ was. not_known going was;
     var_count = var_count ∙ asking.var_count;
     rounds = omega arith;
     within = omega arith;
-    written = more_derived spent before after later asking.written wrote;
+    written = more_derived old.var_count spent before after later asking.written wrote;
   }
 
 pub ruleset writing = (one_derived)

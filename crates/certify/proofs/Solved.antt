@@ -12,12 +12,12 @@ use Rattle.certify.specs.Held.{Held, HasModel}
 use Rattle.certify.specs.Search.{is_true, valuation_of}
 use Rattle.certify.specs.Solved.{Solves, WritesDerived}
 use Rattle.certify.specs.Run.{IsSpent}
-use Rattle.certify.specs.Running.{Wrote, IsTrueOf}
+use Rattle.certify.specs.Running.{WroteDerived, IsTrueOf}
 use Rattle.certify.proofs.NameLists.{variable_coded}
 use Rattle.certify.proofs.PlainState.{names_push}
 
-pub wrote_derived : (count : ℕ) (old new : Written) → WritesDerived count old new → Wrote old.contents new.contents
-wrote_derived count old new w = record { steps = w.steps; text = w.text; spelt = w.spells; appended = w.bytes }
+pub wrote_derived : (n count : ℕ) (old new : Written) → WritesDerived n count old new → WroteDerived n old.contents new.contents
+wrote_derived n count old new w = record { derived = w.steps; are_derived = w.derived; wrote = record { text = w.text; spelt = w.spells; appended = w.bytes } }
 
 pub ruleset finding = (wrote_derived)
 
@@ -55,12 +55,8 @@ spent_sat steps budget old new h = record { within = h.within; unknown = λ e. a
 pub spent_unsat : (steps budget : ℕ) (old new : Held) → Solves found.Unsat steps budget old new → IsSpent budget old.rounds (record { answer = kind.Unsat; steps = steps })
 spent_unsat steps budget old new h = record { within = h.within; unknown = λ e. absurd (cc) }
 
-unknown_spent : (steps budget : ℕ) (old new : Held) → new.rounds ≡ old.rounds + steps → (steps ≡ budget) ⊎ (new.rounds ≡ 2 ^ 64 - 1) → (steps ≡ budget) ⊎ (old.rounds + steps ≡ 2 ^ 64 - 1)
-unknown_spent steps budget old new e (inl h) = inl h
-unknown_spent steps budget old new e (inr h) = inr (sym e ∙ h)
-
 pub spent_unknown : (steps budget : ℕ) (old new : Held) → Solves found.Unknown steps budget old new → IsSpent budget old.rounds (record { answer = kind.Unknown; steps = steps })
-spent_unknown steps budget old new h = record { within = h.within; unknown = λ e. unknown_spent steps budget old new h.rounds h.right.1 }
+spent_unknown steps budget old new h = record { within = h.within; unknown = λ e. h.right.1 }
 
 pub true_unsat : (steps budget : ℕ) (old new : Held) (line : List ℕ) → Solves found.Unsat steps budget old new → IsTrueOf new line kind.Unsat
 true_unsat steps budget old new line h = λ a u. h.right.0.none a (h.same.back a u)

@@ -118,7 +118,7 @@ any_behind : (test : ℕ → Bool) (xs ys : List ℕ) → list_any test ys ≡ t
 any_behind test [] ys e = e
 any_behind test (x ∷ xs) ys e = or_right (test x) (list_any test (xs ++ ys)) (any_behind test xs ys e)
 
-stored_knows : (r : Bool) (c : List ℕ) (f : Stored) → (with_stored r c f).known ≡ f.known
+pub stored_knows : (r : Bool) (c : List ℕ) (f : Stored) → (with_stored r c f).known ≡ f.known
 stored_knows r c f = go (is_tautology c) (canonical c)
   where
     unit_knows : (l : ℕ) (b d : Bool) → (cond b f (cond d (record f { unsat = true }) (record f { units = f.units ++ l ∷ [] }))).known ≡ f.known

@@ -7,6 +7,7 @@ pub mod Fold
 pub mod Checking
 pub mod TheChecking
 pub mod Matches
+pub mod Certified
 pub mod Left
 pub mod Laws
 pub mod Rows

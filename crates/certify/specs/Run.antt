@@ -1,12 +1,15 @@
 -- What a finished run has done, and why one wasn't finished.
-use Rattle.std.specs.Prelude.{ℕ, ◌+◌, ◌-◌, ◌^◌, ◌≡◌, ◌≤◌, ◌⊎◌, Option, Some, None, is_some, List, [], ◌∷◌, ◌++◌, map, length, if◌then◌else◌}
+use Rattle.std.specs.Prelude.{ℕ, ◌+◌, ◌-◌, ◌^◌, ◌≡◌, ◌≤◌, min, Option, Some, None, is_some, List, [], ◌∷◌, map, length, if◌then◌else◌}
 use Rattle.std.specs.Io.KnownBytes.{Appends}
 use Rattle.sat_base.specs.Script.{Command, Ending, Clean, Malformed, reading}
-use Rattle.sat_base.specs.Judge.{Judge, refusal_of, after_command, start}
-use Rattle.sat_base.specs.Steps.{Step, End}
+use Rattle.sat_base.specs.Judge.{Judge, refusal_of, after_command, accepted_of, start}
+use Rattle.sat_base.specs.Steps.{Step}
 use Rattle.sat_base.specs.StepText.{SpellsSteps}
 use Rattle.certify.specs.Answers.{Outcome, Sat, Unsat, Unknown, answers_text}
 use Rattle.certify.specs.Right.{AnswersAreRight}
+use Rattle.certify.specs.TheChecking.{the_checking}
+use Rattle.certify.specs.Matches.{expected}
+use Rattle.certify.specs.Certified.{Certifies}
 use Rattle.certify.specs.declared.fault.RunFault.{RunFault}
 use Rattle.certify.specs.declared.fault.RunFault.TheVariants as fault
 use Rattle.certify.specs.declared.summary.Answer.{Answer}
@@ -43,11 +46,14 @@ kind_of Unknown = kind.Unknown
 abbrev pub largest_count : ℕ
 largest_count = 2 ^ 64 - 1
 
--- An ask takes no more steps than the budget, and has no answer only where it took all of them or the count of the steps of all asks
--- so far, its own among them, is at its end.
+-- the smaller of the budget and of what is left of the count of the steps of all asks
+abbrev pub steps_left : ℕ → ℕ → ℕ
+steps_left budget before = min budget (largest_count - before)
+
+-- An ask takes no more steps than are left, and has no answer only where it took all of them.
 pub record IsSpent (budget before : ℕ) (report : AskReport) : Type 0 where
-  pub within : report.steps ≤ budget
-  pub unknown : report.answer ≡ kind.Unknown → (report.steps ≡ budget) ⊎ (before + report.steps ≡ largest_count)
+  pub within : report.steps ≤ steps_left budget before
+  pub unknown : report.answer ≡ kind.Unknown → report.steps ≡ steps_left budget before
 
 -- each ask's steps, the earlier ones having taken these before
 abbrev pub AreSpent : ℕ → ℕ → List AskReport → Type 0
@@ -60,9 +66,10 @@ pub record RunOf (script : List Command) (ending : Ending) (budget : ℕ) (summa
   pub outcomes : List Outcome
   pub right : AnswersAreRight script outcomes
   pub answers : answered ≡ answers_text script ending outcomes
-  -- some steps, and then the end
+  -- the certificate spells steps that are, in order, those of the accepted commands and of these outcomes
   pub steps : List Step
-  pub certificate : SpellsSteps (steps ++ End ∷ []) certified
+  pub certificate : SpellsSteps steps certified
+  pub certifies : Certifies the_checking [] steps (expected start (accepted_of start script) outcomes)
   pub commands : summary.commands ≡ length script
   pub refused : summary.refused ≡ refused_count start script
   pub malformed : summary.malformed ≡ malformed_at (length script + 1) ending

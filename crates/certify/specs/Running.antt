@@ -1,17 +1,24 @@
 -- How a run stands among the commands of a script of clauses and asks.
-use Rattle.std.specs.Prelude.{ℕ, zero, suc, ◌+◌, ◌-◌, ◌<◌, ◌≡◌, ◌↔◌, max, Bool, true, ◌&&◌, Option, Some, None, Result, MatchResult, List, [], ◌∷◌, ◌++◌, map, drop, nat_le}
+use Rattle.std.specs.Prelude.{ℕ, zero, suc, ◌+◌, ◌-◌, ◌<◌, ◌≤◌, ◌≡◌, ◌↔◌, max, Bool, true, false, ◌&&◌, Option, Some, None, Result, MatchResult, List, [], ◌∷◌, ◌++◌, map, drop, nat_le}
 use Rattle.std.specs.List.{AllByRecursion}
 use Rattle.std.specs.Io.KnownBytes.{Appends}
 use Rattle.sat_base.specs.Literals.{coded, largest, variable}
 use Rattle.sat_base.specs.Clauses.{Valuation, EachTrue, EachHolds}
 use Rattle.sat_base.specs.Script.{Literal, Command, Clause, Ask, Ending, names_of, Reading}
 use Rattle.sat_base.specs.Judge.{Judge, Named, Mode, Sampled, names_from, accepted_of, start}
-use Rattle.sat_base.specs.Steps.{Step, End}
+use Rattle.sat_base.specs.Steps.{Step, UserVarName, AddClause, Model, Assumptions, End}
 use Rattle.sat_base.specs.StepText.{SpellsStep, SpellsSteps}
 use Rattle.certify.specs.Answers.{Outcome, Sat, Unsat, Unknown, answers_from, malformed_line}
 use Rattle.certify.specs.AnswerForms.{named_literals}
 use Rattle.certify.specs.Right.{AreRight}
 use Rattle.certify.specs.Run.{HasCause, refused_count, kind_of, AreSpent, IsSpent, RunOf}
+use Rattle.certify.specs.Fold.{Holds}
+use Rattle.certify.specs.Checking.{variable_of}
+use Rattle.certify.specs.TheChecking.{the_checking}
+use Rattle.certify.specs.Matches.{expected}
+use Rattle.certify.specs.Certified.{Certifies}
+use Rattle.certify.specs.Kept.{IsNormalOf}
+use Rattle.certify.specs.Solved.{NothingHolds, IsDerived}
 use Rattle.certify.specs.Held.{Held, HoldsIn, HoldsSame, TakesClause}
 use Rattle.certify.specs.declared.fault.RunFault.{RunFault}
 use Rattle.certify.specs.declared.run.session.Session.{Session}
@@ -20,9 +27,8 @@ use Rattle.certify.specs.declared.summary.Answer.TheVariants as kind
 use Rattle.certify.specs.declared.summary.AskReport.{AskReport}
 use Rattle.certify.specs.declared.summary.Summary.{Summary}
 
--- some steps were written
-pub record Wrote (old new : Option (List ℕ)) : Type 0 where
-  pub steps : List Step
+-- these steps were written
+pub record Wrote (steps : List Step) (old new : Option (List ℕ)) : Type 0 where
   pub text : List ℕ
   pub spelt : SpellsSteps steps text
   pub appended : Appends old new text
@@ -33,9 +39,9 @@ pub record WroteStep (step : Step) (old new : Option (List ℕ)) : Type 0 where
   pub spelt : SpellsStep step text
   pub appended : Appends old new text
 
--- where a part writes to the certificate alone: `Ok` says that some steps were written and no call failed
-abbrev pub WritesSteps : {T : Type 0} → Result T RunFault → Option (List ℕ) → Option (List ℕ) → ℕ → ℕ → Type 0
-WritesSteps r old new failed_old failed_new = MatchResult r (λ _. Wrote old new × (failed_new ≡ failed_old)) (λ e. HasCause e ⊥ ⊥ (failed_old < failed_new) ⊥)
+-- where a part writes to the certificate alone: `Ok` says what it wrote and that no call failed
+abbrev pub WritesSteps : {T : Type 0} → Result T RunFault → (T → Type 0) → ℕ → ℕ → Type 0
+WritesSteps r wrote failed_old failed_new = MatchResult r (λ x. wrote x × (failed_new ≡ failed_old)) (λ e. HasCause e ⊥ ⊥ (failed_old < failed_new) ⊥)
 
 abbrev pub WritesStep : {T : Type 0} → Result T RunFault → Step → Option (List ℕ) → Option (List ℕ) → ℕ → ℕ → Type 0
 WritesStep r step old new failed_old failed_new =
@@ -93,6 +99,47 @@ outcome_of kind.Sat line = Sat (named_literals line)
 outcome_of kind.Unsat line = Unsat []
 outcome_of kind.Unknown line = Unknown
 
+-- so many names from this variable on are brought in, each the one above its variable
+abbrev pub naming : ℕ → ℕ → List Step
+naming zero v = []
+naming (suc count) v = UserVarName v (Some v) ∷ naming count (v + 1)
+
+-- a clause's step, or none where nothing satisfies what the solver holds
+pub data WritesClause (solver : Held) (clause : List ℕ) : List Step → Type 0 where
+  unwritten : NothingHolds solver → WritesClause solver clause []
+  written : {normal : List ℕ} → IsNormalOf clause normal → WritesClause solver clause (AddClause normal ∷ [])
+
+-- a clause's names were brought in, and it was written or left out
+pub record WroteClause (count v : ℕ) (solver : Held) (literals : List ℕ) (old new : Option (List ℕ)) : Type 0 where
+  pub steps : List Step
+  pub clause : WritesClause solver literals steps
+  pub wrote : Wrote (naming count v ++ steps) old new
+
+-- the step that shows an answer, where there is one
+abbrev pub shown_by : Answer → List ℕ → List Step
+shown_by kind.Sat line = Model line ∷ []
+shown_by kind.Unsat line = []
+shown_by kind.Unknown line = []
+
+-- derived clauses over so many variables were written
+pub record WroteDerived (n : ℕ) (old new : Option (List ℕ)) : Type 0 where
+  pub derived : List Step
+  pub are_derived : AllByRecursion (IsDerived n) derived
+  pub wrote : Wrote derived old new
+
+-- an ask was opened, and its answer derived and shown, and then these steps came
+pub record WroteAsk (n : ℕ) (answer : Answer) (line : List ℕ) (last : List Step) (old new : Option (List ℕ)) : Type 0 where
+  pub derived : List Step
+  pub are_derived : AllByRecursion (IsDerived n) derived
+  pub wrote : Wrote (Assumptions [] ∷ (derived ++ (shown_by answer line ++ last))) old new
+
+-- What the steps so far tell, the newest of which stands first: names 1 to n are those of the variables below n, no other variable
+-- is known, and what satisfies their clauses satisfies what the solver holds.
+pub record Told (earlier : List Step) (n : ℕ) (solver : Held) : Type 0 where
+  pub named : (name : ℕ) → 0 < name → name ≤ n → variable_of earlier name ≡ Some (name - 1)
+  pub unknown : (v : ℕ) → n ≤ v → the_checking.knows earlier v ≡ false
+  pub holds : (a : Valuation) → Holds earlier a → HoldsIn solver a
+
 -- the line of a malformed text
 abbrev pub malformed_text : Option ℕ → List ℕ
 malformed_text None = []
@@ -102,8 +149,8 @@ abbrev pub steps_of : List AskReport → ℕ
 steps_of [] = 0
 steps_of (r ∷ rs) = r.steps + steps_of rs
 
--- These commands are left of a script, from this number on, and this was answered to the others.
-pub record Reached (script : List Command) (ending : Ending) (budget : ℕ) (left : List Command) (number : ℕ) (s : Session) (answered : List ℕ) : Type 0 where
+-- These commands are left of a script, from this number on, and this was answered to the others, and these steps written.
+pub record Reached (script : List Command) (ending : Ending) (budget : ℕ) (left : List Command) (number : ℕ) (s : Session) (answered : List ℕ) (written : List Step) : Type 0 where
   pub judge : Judge
   pub done : List Outcome
   pub plain : Plain judge s.names
@@ -115,6 +162,11 @@ pub record Reached (script : List Command) (ending : Ending) (budget : ℕ) (lef
   pub kinds : map (λ r. r.answer) s.asks.items ≡ map kind_of done
   pub spent : AreSpent budget 0 s.asks.items
   pub counted : s.solver.rounds ≡ steps_of s.asks.items
+  pub earlier : List Step
+  pub told : Told earlier s.names s.solver
+  -- whatever is written for them
+  pub certifies : (rest : List Outcome) (more : List Step) → Certifies the_checking earlier more (expected judge (accepted_of judge left) rest)
+      → Certifies the_checking [] (written ++ more) (expected start (accepted_of start script) (done ++ rest))
 
 -- what an ask left
 pub record Asked (budget : ℕ) (old new : Session) (report : AskReport) : Type 0 where
@@ -144,22 +196,26 @@ pub record Refused (old new : Session) : Type 0 where
   pub asks : new.asks ≡ old.asks
 
 -- what was answered to a command of this number, and that it brings a run on
-pub record Took (command : Command) (number budget : ℕ) (old new : Session) (answers_old answers_new : Option (List ℕ)) : Type 0 where
+pub record Took (command : Command) (number budget : ℕ) (old new : Session) (answers_old answers_new certificate_old certificate_new : Option (List ℕ)) : Type 0 where
   pub piece : List ℕ
   pub appended : Appends answers_old answers_new piece
-  pub reached : IsSimple command → (script : List Command) (ending : Ending) (left : List Command) (answered : List ℕ) → old.solver.var_count ≡ old.names
-      → Reached script ending budget (command ∷ left) number old answered → Reached script ending budget left (number + 1) new (answered ++ piece)
+  pub steps : List Step
+  pub wrote : Wrote steps certificate_old certificate_new
+  pub reached : IsSimple command → (script : List Command) (ending : Ending) (left : List Command) (answered : List ℕ) (written : List Step) → old.solver.var_count ≡ old.names
+      → Reached script ending budget (command ∷ left) number old answered written → Reached script ending budget left (number + 1) new (answered ++ piece) (written ++ steps)
 
 -- so many commands of a script were taken
-pub record TookAll (script : Reading) (budget place : ℕ) (s : Session) (answers_old answers_new : Option (List ℕ)) : Type 0 where
+pub record TookAll (script : Reading) (budget place : ℕ) (s : Session) (answers_old answers_new certificate_old certificate_new : Option (List ℕ)) : Type 0 where
   pub answered : List ℕ
   pub appended : Appends answers_old answers_new answered
-  pub reached : AllByRecursion IsSimple script.0 → Reached script.0 script.1 budget (drop place script.0) (place + 1) s answered
+  pub steps : List Step
+  pub wrote : Wrote steps certificate_old certificate_new
+  pub reached : AllByRecursion IsSimple script.0 → Reached script.0 script.1 budget (drop place script.0) (place + 1) s answered steps
 
 -- where a part writes to both, `Ok` says that no call failed
-abbrev pub WritesBoth : {T : Type 0} → Result T RunFault → Option (List ℕ) → Option (List ℕ) → ℕ → ℕ → ℕ → ℕ → Type 0
-WritesBoth r certificate_old certificate_new answers_failed_old answers_failed_new certificate_failed_old certificate_failed_new =
-    MatchResult r (λ _. Wrote certificate_old certificate_new × (answers_failed_new ≡ answers_failed_old) × (certificate_failed_new ≡ certificate_failed_old))
+abbrev pub WritesBoth : {T : Type 0} → Result T RunFault → ℕ → ℕ → ℕ → ℕ → Type 0
+WritesBoth r answers_failed_old answers_failed_new certificate_failed_old certificate_failed_new =
+    MatchResult r (λ _. (answers_failed_new ≡ answers_failed_old) × (certificate_failed_new ≡ certificate_failed_old))
     (λ e. HasCause e ⊥ (answers_failed_old < answers_failed_new) (certificate_failed_old < certificate_failed_new) ⊥)
 
 -- where a part ends both texts

@@ -1,5 +1,5 @@
 -- What a search under a budget answers, and what it writes.
-use Rattle.std.specs.Prelude.{ℕ, ◌≡◌, ◌+◌, ◌-◌, ◌^◌, ◌<◌, ◌≤◌, ◌⊎◌, true, false, List, length}
+use Rattle.std.specs.Prelude.{ℕ, ◌≡◌, ◌+◌, ◌-◌, ◌<◌, ◌≤◌, true, false, List, length}
 use Rattle.std.specs.List.{AllByRecursion}
 use Rattle.std.specs.Io.KnownBytes.{Appends}
 use Rattle.sat_base.specs.Clauses.{Valuation}
@@ -11,16 +11,18 @@ use Rattle.certify.specs.declared.search.solve.Answer.TheVariants.{Sat, Unsat, U
 use Rattle.certify.specs.declared.search.solve.SolveFault.{SolveFault}
 use Rattle.certify.specs.declared.search.solve.SolveFault.TheVariants.{Write, OutOfMemory}
 use Rattle.certify.specs.Held.{Held, HoldsIn, HoldsSame, HasModel}
+use Rattle.certify.specs.Run.{steps_left}
+use Rattle.certify.specs.Search.{IsBounded}
 
 -- no valuation satisfies what the solver holds
 pub record NothingHolds (s : Held) : Type 0 where
   pub none : (a : Valuation) → HoldsIn s a → ⊥
 
--- an answer is right, and unknown only where the rounds are spent
+-- an answer is right, and unknown only where the rounds that were left are spent
 abbrev pub IsRightAnswer : Answer → ℕ → ℕ → Held → Held → Type 0
 IsRightAnswer Sat spent budget old new = HasModel new
 IsRightAnswer Unsat spent budget old new = NothingHolds old × (new.unsat ≡ true)
-IsRightAnswer Unknown spent budget old new = (new.unsat ≡ false) × ((spent ≡ budget) ⊎ (new.rounds ≡ 2 ^ 64 - 1))
+IsRightAnswer Unknown spent budget old new = (new.unsat ≡ false) × (spent ≡ steps_left budget old.rounds)
 
 -- where the clauses are known to be unsatisfiable, the answer is that, without a round
 abbrev pub IsKnownAnswer : Answer → ℕ → Type 0
@@ -35,18 +37,17 @@ pub record Solves (answer : Answer) (spent budget : ℕ) (old new : Held) : Type
   pub same : HoldsSame old new
   pub var_count : new.var_count ≡ old.var_count
   pub rounds : new.rounds ≡ old.rounds + spent
-  pub within : spent ≤ budget
+  pub within : spent ≤ steps_left budget old.rounds
 
--- the step of a derived clause that isn't redundant
-abbrev pub IsDerived : Step → Type 0
-IsDerived (AtClause false clause hashes) = Unit {0}
-IsDerived step = ⊥
+-- the step of a derived clause that isn't redundant, whose variables are below this number
+abbrev pub IsDerived : ℕ → Step → Type 0
+IsDerived n step = (clause : List ℕ) × (hashes : List ℕ) × (step ≡ AtClause false clause hashes) × IsBounded n clause
 
--- so many derived clauses were written
-pub record WritesDerived (count : ℕ) (old new : Written) : Type 0 where
+-- so many derived clauses over these variables were written
+pub record WritesDerived (n count : ℕ) (old new : Written) : Type 0 where
   pub steps : List Step
   pub many : length steps ≡ count
-  pub derived : AllByRecursion IsDerived steps
+  pub derived : AllByRecursion (IsDerived n) steps
   pub text : List ℕ
   pub spells : SpellsSteps steps text
   pub bytes : Appends old.contents new.contents text

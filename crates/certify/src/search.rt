@@ -151,6 +151,7 @@ impl Solver {
         requires going { self.old.unsat ≡ false }
         requires room { self.old.rounds < 2 ^ 64 - 1 }
         ensures says { IfOk result (λ end. RoundSays end self.old self.new) }
+        ensures learned { OnOk result (IsBounded self.new.var_count self.new.learned) }
         ensures rounds { OnOk result (self.new.rounds ≡ self.old.rounds + 1) }
         ensures var_count { self.new.var_count ≡ self.old.var_count }
     {

@@ -1,10 +1,11 @@
 //! Answers an ask.
-ghost use Rattle.std.specs.Prelude.{◌≡◌, ◌+◌, IfOk, OnOk};
+ghost use Rattle.std.specs.Prelude.{◌≡◌, ◌+◌, [], ◌∷◌, IfOk, OnOk};
 ghost use Rattle.std.specs.Io.KnownBytes.{Appends};
+ghost use Rattle.sat_base.specs.Steps.{Assumptions};
 ghost use Rattle.certify.specs.Answers.{outcome_text};
 ghost use Rattle.certify.specs.Held.{HoldsSame};
 ghost use Rattle.certify.specs.Run.{IsSpent};
-ghost use Rattle.certify.specs.Running.{WritesSteps, WritesAnswer, WritesBoth, IsTrueOf, Asked, outcome_of};
+ghost use Rattle.certify.specs.Running.{Wrote, WroteAsk, WritesSteps, WritesAnswer, WritesBoth, IsTrueOf, Asked, outcome_of, shown_by};
 
 use super::names_in::record_step;
 use super::session::Session;
@@ -32,7 +33,7 @@ fn show<C: CountedWrite>(
     certificate: &mut C,
 ) -> Result<(), RunFault>
     ensures text { OnOk result (text.new.items ≡ outcome_text (outcome_of answer model.now)) }
-    ensures certificate { WritesSteps result (C.contents certificate.old) (C.contents certificate.new) (C.failures certificate.old) (C.failures certificate.new) }
+    ensures certificate { WritesSteps result (λ _. Wrote (shown_by answer model.now) (C.contents certificate.old) (C.contents certificate.new)) (C.failures certificate.old) (C.failures certificate.new) }
 {
     text.clear();
     match answer {
@@ -62,7 +63,7 @@ fn ask<C: CountedWrite>(
     ensures text { IfOk result (λ report. session.new.text.items ≡ outcome_text (outcome_of report.answer session.new.lits.items)) }
     ensures spent { IfOk result (λ report. IsSpent budget session.old.solver.rounds report) }
     ensures rounds { IfOk result (λ report. session.new.solver.rounds ≡ session.old.solver.rounds + report.steps) }
-    ensures certificate { WritesSteps result (C.contents certificate.old) (C.contents certificate.new) (C.failures certificate.old) (C.failures certificate.new) }
+    ensures certificate { WritesSteps result (λ report. WroteAsk session.old.solver.var_count report.answer session.new.lits.items [] (C.contents certificate.old) (C.contents certificate.new)) (C.failures certificate.old) (C.failures certificate.new) }
 {
     record_step(certificate, &ProofStep::Assumptions { assumptions: &[] })?;
     let count = session.names.count();
@@ -86,8 +87,9 @@ pub(crate) fn answer_ask<A: CountedWrite, C: CountedWrite>(
 ) -> Result<(), RunFault>
     requires { session.old.solver.var_count ≡ session.old.names }
     ensures asked { OnOk result ((report : AskReport) × Asked budget session.old session.new report
-        × Appends (A.contents answers.old) (A.contents answers.new) (outcome_text (outcome_of report.answer session.new.lits.items))) }
-    ensures written { WritesBoth result (C.contents certificate.old) (C.contents certificate.new) (A.failures answers.old) (A.failures answers.new) (C.failures certificate.old) (C.failures certificate.new) }
+        × Appends (A.contents answers.old) (A.contents answers.new) (outcome_text (outcome_of report.answer session.new.lits.items))
+        × WroteAsk session.old.solver.var_count report.answer session.new.lits.items (Assumptions [] ∷ []) (C.contents certificate.old) (C.contents certificate.new)) }
+    ensures written { WritesBoth result (A.failures answers.old) (A.failures answers.new) (C.failures certificate.old) (C.failures certificate.new) }
 {
     let report = ask(session, certificate, budget)?;
     write_answer(answers, &session.text)?;

@@ -1,8 +1,8 @@
 //! Takes a clause of a script.
-ghost use Rattle.std.specs.Prelude.{◌≡◌, true, map, OnOk};
+ghost use Rattle.std.specs.Prelude.{◌≡◌, ◌-◌, true, map, OnOk};
 ghost use Rattle.sat_base.specs.Script.{names_of};
 ghost use Rattle.certify.specs.Held.{TakesClause};
-ghost use Rattle.certify.specs.Running.{WritesSteps, are_within, code_of, raised};
+ghost use Rattle.certify.specs.Running.{WritesSteps, WroteClause, are_within, code_of, raised};
 
 use super::lits::fill;
 use super::names_in::{bring_all, record_step};
@@ -25,7 +25,7 @@ pub(crate) fn take_clause<C: CountedWrite>(
     ensures refused { session.new.refused ≡ session.old.refused }
     ensures asks { session.new.asks ≡ session.old.asks }
     ensures rounds { OnOk result (session.new.solver.rounds ≡ session.old.solver.rounds) }
-    ensures certificate { WritesSteps result (C.contents certificate.old) (C.contents certificate.new) (C.failures certificate.old) (C.failures certificate.new) }
+    ensures certificate { WritesSteps result (λ _. WroteClause (session.new.names - session.old.names) session.old.names session.old.solver (map code_of literals.now) (C.contents certificate.old) (C.contents certificate.new)) (C.failures certificate.old) (C.failures certificate.new) }
 {
     bring_all(
         &mut session.names,

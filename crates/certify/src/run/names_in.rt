@@ -1,10 +1,10 @@
 //! Brings names into a solver and its certificate.
-ghost use Rattle.std.specs.Prelude.{◌≡◌, ◌+◌, ◌<◌, ◌≤◌, ◌↔◌, max, true, OnOk, ℕ};
+ghost use Rattle.std.specs.Prelude.{◌≡◌, ◌+◌, ◌-◌, ◌<◌, ◌≤◌, ◌↔◌, max, true, OnOk, ℕ};
 ghost use Rattle.sat_base.specs.Clauses.{Valuation};
 ghost use Rattle.sat_base.specs.Literals.{largest};
 ghost use Rattle.sat_base.specs.StepViews.{step_of};
 ghost use Rattle.certify.specs.Held.{HoldsSame};
-ghost use Rattle.certify.specs.Running.{WritesStep, WritesSteps, are_within, raised};
+ghost use Rattle.certify.specs.Running.{Wrote, WritesStep, WritesSteps, are_within, naming, raised};
 ghost use Rattle.sat_base.specs.Script.{names_of};
 
 use crate::fault::RunFault;
@@ -38,7 +38,7 @@ fn add_name<C: CountedWrite>(
     ensures variables { OnOk result (solver.new.var_count ≡ names.new) }
     ensures clauses { OnOk result (HoldsSame solver.old solver.new) }
     ensures rounds { OnOk result (solver.new.rounds ≡ solver.old.rounds) }
-    ensures certificate { WritesSteps result (C.contents certificate.old) (C.contents certificate.new) (C.failures certificate.old) (C.failures certificate.new) }
+    ensures certificate { WritesSteps result (λ _. Wrote (naming 1 names.old) (C.contents certificate.old) (C.contents certificate.new)) (C.failures certificate.old) (C.failures certificate.new) }
 {
     let var = names.add();
     record_step(
@@ -65,7 +65,7 @@ fn bring_in<C: CountedWrite>(
     ensures variables { OnOk result (solver.new.var_count ≡ names.new) }
     ensures clauses { OnOk result (HoldsSame solver.old solver.new) }
     ensures rounds { OnOk result (solver.new.rounds ≡ solver.old.rounds) }
-    ensures certificate { WritesSteps result (C.contents certificate.old) (C.contents certificate.new) (C.failures certificate.old) (C.failures certificate.new) }
+    ensures certificate { WritesSteps result (λ _. Wrote (naming (names.new - names.old) names.old) (C.contents certificate.old) (C.contents certificate.new)) (C.failures certificate.old) (C.failures certificate.new) }
 {
     for _ in names.count()..name as usize {
         add_name(names, solver, certificate)?;
@@ -86,7 +86,7 @@ pub(crate) fn bring_all<C: CountedWrite>(
     ensures variables { OnOk result (solver.new.var_count ≡ names.new) }
     ensures clauses { OnOk result (HoldsSame solver.old solver.new) }
     ensures rounds { OnOk result (solver.new.rounds ≡ solver.old.rounds) }
-    ensures certificate { WritesSteps result (C.contents certificate.old) (C.contents certificate.new) (C.failures certificate.old) (C.failures certificate.new) }
+    ensures certificate { WritesSteps result (λ _. Wrote (naming (names.new - names.old) names.old) (C.contents certificate.old) (C.contents certificate.new)) (C.failures certificate.old) (C.failures certificate.new) }
 {
     for literal in literals {
         bring_in(names, solver, certificate, literal.name)?;

@@ -3,7 +3,7 @@ ghost use Rattle.std.specs.Prelude.{◌≡◌, ◌+◌, ◌<◌, ◌≤◌, IfOk
 ghost use Rattle.sat_base.specs.Literals.{coded, largest};
 ghost use Rattle.certify.specs.Held.{HasModel, HoldsSame};
 ghost use Rattle.certify.specs.Run.{IsSpent};
-ghost use Rattle.certify.specs.Running.{WritesSteps, IsTrueOf};
+ghost use Rattle.certify.specs.Running.{WritesSteps, WroteDerived, IsTrueOf};
 ghost use Rattle.certify.specs.Search.{is_true};
 ghost use Rattle.certify.specs.Solved.{Solves};
 
@@ -47,7 +47,7 @@ fn find<C: CountedWrite>(
     certificate: &mut C,
 ) -> Result<(Found, u64), RunFault>
     ensures answers { IfOk result (λ r. Solves r.0 r.1 budget solver.old solver.new) }
-    ensures certificate { WritesSteps result (C.contents certificate.old) (C.contents certificate.new) (C.failures certificate.old) (C.failures certificate.new) }
+    ensures certificate { WritesSteps result (λ _. WroteDerived solver.old.var_count (C.contents certificate.old) (C.contents certificate.new)) (C.failures certificate.old) (C.failures certificate.new) }
 {
     match solve(solver, budget, certificate) {
         Ok(found) => Ok(found),
@@ -72,7 +72,7 @@ pub(crate) fn solve_ask<C: CountedWrite>(
     ensures answer { IfOk result (λ report. IsTrueOf solver.new model.new.items report.answer) }
     ensures spent { IfOk result (λ report. IsSpent budget solver.old.rounds report) }
     ensures rounds { IfOk result (λ report. solver.new.rounds ≡ solver.old.rounds + report.steps) }
-    ensures certificate { WritesSteps result (C.contents certificate.old) (C.contents certificate.new) (C.failures certificate.old) (C.failures certificate.new) }
+    ensures certificate { WritesSteps result (λ _. WroteDerived solver.old.var_count (C.contents certificate.old) (C.contents certificate.new)) (C.failures certificate.old) (C.failures certificate.new) }
 {
     let (found, steps) = find(solver, budget, certificate)?;
     match found {

@@ -43,8 +43,8 @@ fn take_command<A: CountedWrite, C: CountedWrite>(
     requires refused { session.old.refused < number }
     ensures same { OnOk result (session.new.solver.var_count ≡ session.new.names) }
     ensures refused { OnOk result (session.new.refused ≤ number) }
-    ensures took { OnOk result (Took (shown command.entry) number budget session.old session.new (A.contents answers.old) (A.contents answers.new)) }
-    ensures written { WritesBoth result (C.contents certificate.old) (C.contents certificate.new) (A.failures answers.old) (A.failures answers.new) (C.failures certificate.old) (C.failures certificate.new) }
+    ensures took { OnOk result (Took (shown command.entry) number budget session.old session.new (A.contents answers.old) (A.contents answers.new) (C.contents certificate.old) (C.contents certificate.new)) }
+    ensures written { WritesBoth result (A.failures answers.old) (A.failures answers.new) (C.failures certificate.old) (C.failures certificate.new) }
 {
     match command {
         Command::Clause(literals) => {
@@ -68,9 +68,9 @@ pub(crate) fn take_all<A: CountedWrite, C: CountedWrite>(
 ) -> Result<(), RunFault>
     requires same { session.old.solver.var_count ≡ session.old.names }
     requires refused { session.old.refused ≡ 0 }
-    requires first { TookAll script.now budget 0 session.old (A.contents answers.old) (A.contents answers.old) }
-    ensures took { OnOk result (TookAll script.now budget (length script.now.0) session.new (A.contents answers.old) (A.contents answers.new)) }
-    ensures written { WritesBoth result (C.contents certificate.old) (C.contents certificate.new) (A.failures answers.old) (A.failures answers.new) (C.failures certificate.old) (C.failures certificate.new) }
+    requires first { TookAll script.now budget 0 session.old (A.contents answers.old) (A.contents answers.old) (C.contents certificate.old) (C.contents certificate.old) }
+    ensures took { OnOk result (TookAll script.now budget (length script.now.0) session.new (A.contents answers.old) (A.contents answers.new) (C.contents certificate.old) (C.contents certificate.new)) }
+    ensures written { WritesBoth result (A.failures answers.old) (A.failures answers.new) (C.failures certificate.old) (C.failures certificate.new) }
 {
     for place in 0..script.len() {
         let command = script.command(place);

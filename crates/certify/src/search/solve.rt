@@ -1,6 +1,7 @@
 //! Rounds of search up to an answer.
 ghost use Rattle.std.specs.Prelude.{◌≡◌, MatchResult, IfOk};
 ghost use Rattle.sat_base.specs.Writing.{written_by};
+ghost use Rattle.certify.specs.Search.{IsBounded};
 ghost use Rattle.certify.specs.Solved.{Solves, WritesDerived, conflicts, IsTrueFault};
 
 use crate::search::Solver;
@@ -38,8 +39,9 @@ impl From<AllocError> for SolveFault {
 /// Writes the step of the clause last learned.
 #[tactic(auto, using(crate::proofs::SearchAsking::writing))]
 fn write_learned<W: CountedWrite>(solver: &Solver, proof: &mut W) -> Result<(), SolveFault>
+    requires { IsBounded solver.now.var_count solver.now.learned }
     ensures { MatchResult result
-        (λ _. WritesDerived 1 (written_by W.contents W.failures proof.old) (written_by W.contents W.failures proof.new))
+        (λ _. WritesDerived solver.now.var_count 1 (written_by W.contents W.failures proof.old) (written_by W.contents W.failures proof.new))
         (λ fault. IsTrueFault fault (written_by W.contents W.failures proof.old) (written_by W.contents W.failures proof.new)) }
 {
     let step = ProofStep::AtClause {
@@ -63,7 +65,7 @@ pub(crate) fn solve<W: CountedWrite>(
 ) -> Result<(Answer, u64), SolveFault>
     ensures answers { IfOk result (λ r. Solves r.0 r.1 budget solver.old solver.new) }
     ensures writes { MatchResult result
-        (λ r. WritesDerived (conflicts r.0 r.1) (written_by W.contents W.failures proof.old) (written_by W.contents W.failures proof.new))
+        (λ r. WritesDerived solver.old.var_count (conflicts r.0 r.1) (written_by W.contents W.failures proof.old) (written_by W.contents W.failures proof.new))
         (λ fault. IsTrueFault fault (written_by W.contents W.failures proof.old) (written_by W.contents W.failures proof.new)) }
 {
     let mut spent = 0;

@@ -1,9 +1,10 @@
-use Rattle.std.proofs.Common.{◌∙◌}
-use Rattle.certify.proofs.Writing.{wrote_step, wrote_then}
+use Rattle.std.proofs.Common.{◌∙◌, ap}
+use Rattle.certify.specs.Running.{shown_by}
+use Rattle.certify.proofs.Writing.{wrote_as, wrote_ask}
 use Rattle.certify.proofs.run.ask.ask.Goals as goal
 
 pub returns-clause-certificate : goal.returns-clause-certificate
 returns-clause-certificate g c = (
-  wrote_then (wrote_then (wrote_step c.in_ok-record_step.ensures.0) c.in_ok-report.ensures.certificate.0) c.in_ok-show.ensures.certificate.0,
+  wrote_ask c.in_ok-record_step.ensures.0 c.in_ok-report.ensures.certificate.0 (wrote_as (ap (shown_by c.in_ok-report.report.answer) c.deref.ensures.value) c.in_ok-show.ensures.certificate.0),
   c.in_ok-show.ensures.certificate.1 ∙ c.in_ok-report.ensures.certificate.1 ∙ c.in_ok-record_step.ensures.1,
 )

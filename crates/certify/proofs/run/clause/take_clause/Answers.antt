@@ -1,9 +1,11 @@
-use Rattle.std.proofs.Common.{◌≡◌, ◌∙◌, map}
+use Rattle.std.proofs.Common.{◌≡◌, ◌∙◌, map, true, false, arith, rules}
+use Rattle.std.proofs.lemmas.Grind.{common_steps}
+use Rattle.certify.specs.Kept.{IsNormalOf}
 use Rattle.sat_base.specs.Script.{names_of}
 use Rattle.certify.specs.Running.{code_of, raised}
 use Rattle.certify.proofs.SolverHolds.{takes_then}
 use Rattle.certify.proofs.NameLists.{codes_bounded}
-use Rattle.certify.proofs.Writing.{wrote_then, wrote_step}
+use Rattle.certify.proofs.Writing.{wrote_clause, left_clause}
 use Rattle.certify.proofs.run.clause.take_clause.Goals as goal
 
 pub add_clause-requires : goal.add_clause-requires
@@ -19,7 +21,17 @@ returns-in_ok-record_step-clause-clauses g c =
 
 pub returns-in_ok-record_step-clause-certificate : goal.returns-in_ok-record_step-clause-certificate
 returns-in_ok-record_step-clause-certificate g c =
-    (wrote_then c.in_ok-bring_all.ensures.certificate.0 (wrote_step c.in_ok-record_step.ensures.0), c.in_ok-record_step.ensures.1 ∙ c.in_ok-bring_all.ensures.certificate.1)
+    let lits : c.deref.result.now ≡ map code_of c.args.literals.now = c.deref.ensures.value ∙ c.in_ok-fill.ensures in
+    let going : c.bring_all.new.solver.unsat ≡ false = first_of (grind (arith, common_steps), search rules) in
+    let normal : IsNormalOf (map code_of c.args.literals.now) c.add_clause.new.self.written = rw lits at (c.in_ok-add_clause.ensures.written going) in (
+      wrote_clause c.in_ok-bring_all.ensures.clauses normal c.in_ok-bring_all.ensures.certificate.0 (rw c.written.ensures at c.in_ok-record_step.ensures.0),
+      c.in_ok-record_step.ensures.1 ∙ c.in_ok-bring_all.ensures.certificate.1,
+    )
+
+pub returns-else-branch-clause-certificate : goal.returns-else-branch-clause-certificate
+returns-else-branch-clause-certificate g c =
+    let done : c.bring_all.new.solver.unsat ≡ true = first_of (grind (arith, common_steps), search rules) in
+    (left_clause c.in_ok-bring_all.ensures.clauses done c.in_ok-bring_all.ensures.certificate.0, c.in_ok-bring_all.ensures.certificate.1)
 
 pub returns-else-branch-clause-clauses : goal.returns-else-branch-clause-clauses
 returns-else-branch-clause-clauses g c =

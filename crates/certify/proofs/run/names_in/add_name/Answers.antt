@@ -1,9 +1,11 @@
+use Rattle.std.proofs.Common.{ℕ, List, [], ◌∷◌, Some, ap}
+use Rattle.sat_base.specs.Steps.{UserVarName}
 use Rattle.certify.proofs.SolverHolds.{same_variable}
-use Rattle.certify.proofs.Writing.{wrote_step}
+use Rattle.certify.proofs.Writing.{wrote_as, wrote_step}
 use Rattle.certify.proofs.run.names_in.add_name.Goals as goal
 
 pub returns-clause-certificate : goal.returns-clause-certificate
-returns-clause-certificate g c = (wrote_step c.in_ok-record_step.ensures.0, c.in_ok-record_step.ensures.1)
+returns-clause-certificate g c = (wrote_as (ap (λ (v : ℕ). UserVarName v (Some v) ∷ []) c.add-var.ensures.value) (wrote_step c.in_ok-record_step.ensures.0), c.in_ok-record_step.ensures.1)
 
 pub returns-clause-clauses : goal.returns-clause-clauses
 returns-clause-clauses g c = rw c.in_ok-add_var.ensures.ok (same_variable c.args.solver.now)

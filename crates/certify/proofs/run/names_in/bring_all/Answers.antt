@@ -3,7 +3,7 @@ use Rattle.std.proofs.Math.ListN.{drop_of_length-le}
 use Rattle.sat_base.specs.Script.{names_of}
 use Rattle.certify.specs.Running.{raised}
 use Rattle.certify.proofs.SolverHolds.{same_then}
-use Rattle.certify.proofs.Writing.{wrote_then}
+use Rattle.certify.proofs.Writing.{wrote_names}
 use Rattle.certify.proofs.NameLists.{within_at, raised_next}
 use Rattle.certify.proofs.run.names_in.bring_all.Goals as goal
 
@@ -15,10 +15,11 @@ loop-literal-preserved g c =
     let named : c.bring_in.new.names ≡ max c.loop-literal.names l.name = c.in_ok-bring_in.ensures.names ∙ ap (λ m. max c.loop-literal.names m.name) c.literal.view_is in
     record {
       names = ap (λ n. raised n (names_of (drop (i + 1) ls))) named ∙ sym (raised_next c.loop-literal.names ls i l c.loop-literal-test.true c.literal-item.is) ∙ c.loop-literal.invariant.names;
+      least = omega (arith, named, c.loop-literal.invariant.least);
       within = (within_at ls i l c.loop-literal-test.true c.literal-item.is c.loop-literal.invariant.within).others;
       variables = c.in_ok-bring_in.ensures.variables;
       clauses = same_then c.loop-literal.invariant.clauses c.in_ok-bring_in.ensures.clauses;
-      wrote = wrote_then c.loop-literal.invariant.wrote c.in_ok-bring_in.ensures.certificate.0;
+      wrote = wrote_names c.loop-literal.invariant.least (omega (arith, named)) c.loop-literal.invariant.wrote c.in_ok-bring_in.ensures.certificate.0;
       rounds = c.in_ok-bring_in.ensures.rounds ∙ c.loop-literal.invariant.rounds;
       failures = c.in_ok-bring_in.ensures.certificate.1 ∙ c.loop-literal.invariant.failures;
     }

@@ -1,15 +1,16 @@
 use Rattle.std.proofs.Common.{arith, ◌∙◌}
 use Rattle.certify.proofs.SolverHolds.{same_then}
-use Rattle.certify.proofs.Writing.{wrote_then}
+use Rattle.certify.proofs.Writing.{wrote_name}
 use Rattle.certify.proofs.run.names_in.bring_in.Goals as goal
 
 pub loop-preserved : goal.loop-preserved
 loop-preserved g c = record {
   names = omega (arith, c.in_ok-add_name.ensures.names, c.loop.invariant.names);
+  least = omega (arith, c.in_ok-add_name.ensures.names, c.loop.invariant.least);
   most = let t = c.loop-test.true in omega (arith, c.in_ok-add_name.ensures.names, c.loop.invariant.names);
   variables = c.in_ok-add_name.ensures.variables;
   clauses = same_then c.loop.invariant.clauses c.in_ok-add_name.ensures.clauses;
-  wrote = wrote_then c.loop.invariant.wrote c.in_ok-add_name.ensures.certificate.0;
+  wrote = wrote_name c.loop.invariant.least c.in_ok-add_name.ensures.names c.loop.invariant.wrote c.in_ok-add_name.ensures.certificate.0;
   rounds = c.in_ok-add_name.ensures.rounds ∙ c.loop.invariant.rounds;
   failures = c.in_ok-add_name.ensures.certificate.1 ∙ c.loop.invariant.failures;
 }

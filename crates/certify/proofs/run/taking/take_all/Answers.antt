@@ -1,5 +1,4 @@
 use Rattle.std.proofs.Common.{◌∙◌, refl}
-use Rattle.certify.proofs.Writing.{wrote_then}
 use Rattle.certify.proofs.Reaching.{took_next}
 use Rattle.certify.proofs.run.taking.take_all.Goals as goal
 
@@ -8,7 +7,6 @@ loop-place-preserved g c = record {
   same = c.in_ok-take_command.ensures.same;
   refused = c.in_ok-take_command.ensures.refused;
   took = took_next c.loop-place.invariant.took refl c.command-command.ensures c.loop-place.invariant.same c.in_ok-take_command.ensures.took;
-  wrote = wrote_then c.loop-place.invariant.wrote c.in_ok-take_command.ensures.written.0;
-  answers_failures = c.in_ok-take_command.ensures.written.1 ∙ c.loop-place.invariant.answers_failures;
-  certificate_failures = c.in_ok-take_command.ensures.written.2 ∙ c.loop-place.invariant.certificate_failures;
+  answers_failures = c.in_ok-take_command.ensures.written.0 ∙ c.loop-place.invariant.answers_failures;
+  certificate_failures = c.in_ok-take_command.ensures.written.1 ∙ c.loop-place.invariant.certificate_failures;
 }

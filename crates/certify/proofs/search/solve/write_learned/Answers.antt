@@ -1,6 +1,10 @@
+use Rattle.std.proofs.Common.{subst, sym}
 use Rattle.sat_base.specs.Writing.{written_by}
+use Rattle.certify.specs.Search.{IsBounded}
 use Rattle.certify.proofs.SearchAsking.{one_derived}
 use Rattle.certify.proofs.search.solve.write_learned.Goals as goal
 
 pub returns-in-Ok : goal.returns-in-Ok
-returns-in-Ok g c = one_derived c.learned.result.now c.hashes.result.now (written_by g.W.Write.contents g.W.CountedWrite.failures c.args.proof.now) (written_by g.W.Write.contents g.W.CountedWrite.failures c.write_step.new.writer) c.in-Ok.ensures
+returns-in-Ok g c =
+    let bounded = subst (IsBounded c.args.solver.now.var_count) (sym c.learned.ensures) c.requires in
+    one_derived c.args.solver.now.var_count c.learned.result.now c.hashes.result.now (written_by g.W.Write.contents g.W.CountedWrite.failures c.args.proof.now) (written_by g.W.Write.contents g.W.CountedWrite.failures c.write_step.new.writer) bounded c.in-Ok.ensures
