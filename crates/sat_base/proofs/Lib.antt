@@ -1,4 +1,5 @@
 pub mod HashLemmas
+pub mod FlatLemmas
 pub mod Makers
 pub mod Known
 pub mod Spots

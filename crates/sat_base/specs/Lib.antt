@@ -1,6 +1,8 @@
 pub mod Literals
 pub mod Clauses
 pub mod Numerals
+pub mod Formulas
+pub mod Flat
 pub mod Hashes
 pub mod Steps
 pub mod StepViews
