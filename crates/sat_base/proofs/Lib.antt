@@ -12,6 +12,7 @@ pub mod RowsRead
 pub mod Formats
 pub mod Numbers
 pub mod Writes
+pub mod TextWrites
 pub mod FormatReads
 pub mod ReadLemmas
 pub mod StepReads

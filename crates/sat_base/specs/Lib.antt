@@ -3,6 +3,7 @@ pub mod Clauses
 pub mod Numerals
 pub mod Formulas
 pub mod Flat
+pub mod DimacsText
 pub mod Hashes
 pub mod Steps
 pub mod StepViews

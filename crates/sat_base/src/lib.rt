@@ -4,6 +4,7 @@
 mod ahead;
 pub mod counted;
 pub mod device;
+pub mod dimacs_writer;
 pub mod error;
 pub mod extend;
 pub mod formula;
@@ -14,6 +15,7 @@ pub mod law_text;
 mod lists;
 pub mod lit;
 mod pending;
+mod putting;
 mod read_lists;
 mod read_number;
 mod read_step;
@@ -29,6 +31,7 @@ pub mod whole;
 
 pub use counted::Counted;
 pub use device::{CountedRead, CountedWrite};
+pub use dimacs_writer::write_dimacs;
 pub use error::StepError;
 pub use extend::ExtendFormula;
 pub use formula::CnfFormula;

@@ -1,43 +1,14 @@
 //! Writing proof steps.
-ghost use Rattle.std.specs.Prelude.{[], ◌∷◌, ◌≡◌, ◌<◌, OnOk};
+ghost use Rattle.std.specs.Prelude.{◌≡◌};
 ghost use Rattle.sat_base.specs.Numbers.{IsNumber};
 ghost use Rattle.sat_base.specs.StepText.{IsVariable, IsOptionalVariable, IsFlag, AreLiterals, AreHashes, tag_of, SpellsFields, SpellsStep};
 ghost use Rattle.sat_base.specs.StepViews.{step_of};
-ghost use Rattle.sat_base.specs.Writing.{Writes, Plainly, written_by, with_pending};
+ghost use Rattle.sat_base.specs.Writing.{Writes, written_by, with_pending};
 
-use crate::pending::{Pending, ROOM};
+use crate::pending::Pending;
+use crate::putting::{put, write_out};
 use crate::{ClauseHash, CountedWrite, Lit, ProofStep, Var};
 use std::io;
-
-/// Writes out what waits.
-fn write_out<W: CountedWrite>(writer: &mut W, pending: &mut Pending) -> io::Result<()>
-    ensures kept { Writes Plainly [] result (with_pending W.contents W.failures writer.old pending.old) (with_pending W.contents W.failures writer.new pending.new) }
-    ensures none { pending.new.len ≡ 0 }
-{
-    let len = pending.len;
-    pending.len = 0;
-    writer.write_all_counted(&pending.bytes[..len])
-}
-
-fn make_room<W: CountedWrite>(writer: &mut W, pending: &mut Pending) -> io::Result<()>
-    ensures kept { Writes Plainly [] result (with_pending W.contents W.failures writer.old pending.old) (with_pending W.contents W.failures writer.new pending.new) }
-    ensures room { OnOk result (pending.new.len < 4096) }
-{
-    if pending.len < ROOM {
-        return Ok(());
-    }
-    write_out(writer, pending)
-}
-
-/// Lets a byte wait. What waits is written out first where there is no room.
-fn put<W: CountedWrite>(writer: &mut W, pending: &mut Pending, byte: u8) -> io::Result<()>
-    ensures { Writes Plainly (byte ∷ []) result (with_pending W.contents W.failures writer.old pending.old) (with_pending W.contents W.failures writer.new pending.new) }
-{
-    make_room(writer, pending)?;
-    pending.bytes[pending.len] = byte;
-    pending.len += 1;
-    Ok(())
-}
 
 fn put_number<W: CountedWrite>(writer: &mut W, pending: &mut Pending, number: u64) -> io::Result<()>
     ensures { Writes IsNumber number result (with_pending W.contents W.failures writer.old pending.old) (with_pending W.contents W.failures writer.new pending.new) }
