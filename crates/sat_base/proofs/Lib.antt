@@ -1,4 +1,5 @@
 pub mod HashLemmas
+pub mod FlatLemmas
 pub mod Makers
 pub mod Known
 pub mod Headers
@@ -14,6 +15,7 @@ pub mod RowsRead
 pub mod Formats
 pub mod Numbers
 pub mod Writes
+pub mod TextWrites
 pub mod FormatReads
 pub mod ReadLemmas
 pub mod TagForms

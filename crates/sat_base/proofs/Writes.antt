@@ -116,7 +116,7 @@ known_none (Some s) n xs e = ap Some (ap (λ (k : ℕ). s ++ take k xs) e ∙ ap
 abbrev pub writing : Option (List ℕ) → ℕ → Written
 writing a f = record { contents = a; failures = f }
 
-none_waits : (a : Option (List ℕ)) (f n : ℕ) (xs : List ℕ) → n ≡ 0 → writing (append_known a (take n xs)) f ≡ writing a f
+pub none_waits : (a : Option (List ℕ)) (f n : ℕ) (xs : List ℕ) → n ≡ 0 → writing (append_known a (take n xs)) f ≡ writing a f
 none_waits a f n xs e = ap (λ (c : Option (List ℕ)). writing c f) (known_none a n xs e)
 
 pub emptied : {E : Type 0} (step : Step) (a b : Option (List ℕ)) (f h n m : ℕ) (xs ys : List ℕ) (r : Result (Unit {0}) E) → n ≡ 0 → m ≡ 0 → Writes SpellsStep step r (writing (append_known a (take n xs)) f) (writing (append_known b (take m ys)) h) → Writes SpellsStep step r (writing a f) (writing b h)

@@ -1,6 +1,9 @@
 pub mod Literals
 pub mod Clauses
 pub mod Numerals
+pub mod Formulas
+pub mod Flat
+pub mod DimacsText
 pub mod Hashes
 pub mod Steps
 pub mod StepViews
@@ -21,4 +24,3 @@ pub mod Kinds
 pub mod Reading
 pub mod StepReading
 pub mod Dimacs
-pub mod Formulas

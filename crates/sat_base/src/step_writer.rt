@@ -4,12 +4,12 @@ ghost use Rattle.sat_base.specs.StepText.{tag_of, SpellsFields, SpellsStep};
 ghost use Rattle.sat_base.specs.StepViews.{step_of};
 ghost use Rattle.sat_base.specs.Writing.{Writes, written_by, with_pending};
 
-mod bytes;
 mod groups;
+mod number;
 mod values;
 
 use crate::pending::Pending;
-use crate::step_writer::bytes::{put, write_out};
+use crate::putting::{put, write_out};
 use crate::step_writer::groups::{
     put_deletion, put_derived, put_lists, put_literals, put_mode, put_units, put_variables,
 };

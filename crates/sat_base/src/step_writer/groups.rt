@@ -5,7 +5,7 @@ ghost use Rattle.sat_base.specs.StepViews.{deletion_of};
 ghost use Rattle.sat_base.specs.Writing.{Writes, with_pending};
 
 use crate::pending::Pending;
-use crate::step_writer::bytes::put_number;
+use crate::step_writer::number::put_number;
 use crate::step_writer::values::{
     put_flag, put_hash, put_literal, put_optional, put_proof, put_variable,
 };

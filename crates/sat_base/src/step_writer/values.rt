@@ -4,7 +4,7 @@ ghost use Rattle.sat_base.specs.StepViews.{deletion_of};
 ghost use Rattle.sat_base.specs.Writing.{Writes, with_pending};
 
 use crate::pending::Pending;
-use crate::step_writer::bytes::put_number;
+use crate::step_writer::number::put_number;
 use crate::{ClauseHash, CountedWrite, DeleteClauseProof, HashBits, Lit, Var};
 use std::io;
 

@@ -1,6 +1,5 @@
-//! Bytes that wait for the writer.
+//! Writing in pieces: bytes wait until there is no room for more, or nothing more comes.
 ghost use Rattle.std.specs.Prelude.{[], ◌∷◌, ◌≡◌, ◌<◌, OnOk};
-ghost use Rattle.sat_base.specs.Numbers.{IsNumber};
 ghost use Rattle.sat_base.specs.Writing.{Writes, Plainly, with_pending};
 
 use crate::CountedWrite;
@@ -8,7 +7,7 @@ use crate::pending::{Pending, ROOM};
 use std::io;
 
 /// Writes out what waits.
-pub(super) fn write_out<W: CountedWrite>(writer: &mut W, pending: &mut Pending) -> io::Result<()>
+pub(crate) fn write_out<W: CountedWrite>(writer: &mut W, pending: &mut Pending) -> io::Result<()>
     ensures kept { Writes Plainly [] result (with_pending W.contents W.failures writer.old pending.old) (with_pending W.contents W.failures writer.new pending.new) }
     ensures none { pending.new.len ≡ 0 }
 {
@@ -28,7 +27,7 @@ fn make_room<W: CountedWrite>(writer: &mut W, pending: &mut Pending) -> io::Resu
 }
 
 /// Lets a byte wait. What waits is written out first where there is no room.
-pub(super) fn put<W: CountedWrite>(
+pub(crate) fn put<W: CountedWrite>(
     writer: &mut W,
     pending: &mut Pending,
     byte: u8,
@@ -41,17 +40,16 @@ pub(super) fn put<W: CountedWrite>(
     Ok(())
 }
 
-pub(super) fn put_number<W: CountedWrite>(
+/// Lets each byte wait.
+pub(crate) fn put_all<W: CountedWrite>(
     writer: &mut W,
     pending: &mut Pending,
-    number: u64,
+    bytes: &[u8],
 ) -> io::Result<()>
-    ensures { Writes IsNumber number result (with_pending W.contents W.failures writer.old pending.old) (with_pending W.contents W.failures writer.new pending.new) }
+    ensures { Writes Plainly bytes.now result (with_pending W.contents W.failures writer.old pending.old) (with_pending W.contents W.failures writer.new pending.new) }
 {
-    let mut rest = number;
-    while rest >= 128 {
-        put(writer, pending, (rest % 128) as u8 + 128)?;
-        rest /= 128;
+    for byte in bytes {
+        put(writer, pending, *byte)?;
     }
-    put(writer, pending, rest as u8)
+    Ok(())
 }

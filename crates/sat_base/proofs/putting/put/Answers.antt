@@ -1,8 +1,8 @@
 use Rattle.std.proofs.Common.{refl, subst, arith, add-one}
 use Rattle.std.proofs.Math.Seq.{take-suc-set}
-use Rattle.std.specs.Io.KnownBytes.{Appends}
+use Rattle.std.specs.Io.KnownBytes.{Appends, append_known}
 use Rattle.sat_base.proofs.Writes.{one_more}
-use Rattle.sat_base.proofs.step_writer.bytes.put.Goals as goal
+use Rattle.sat_base.proofs.putting.put.Goals as goal
 
 pub returns : goal.returns
 returns g c =

@@ -1,6 +1,6 @@
 use Rattle.sat_base.specs.Writing.{with_pending}
 use Rattle.sat_base.proofs.Writes.{GroupsPut}
-use Rattle.sat_base.proofs.step_writer.bytes.put_number.Given as goal
+use Rattle.sat_base.proofs.step_writer.number.put_number.Given as goal
 
 abbrev pub invariant-loop-rest : goal.invariant-loop-rest
 invariant-loop-rest g l = GroupsPut l.number l.rest (with_pending g.W.Write.contents g.W.CountedWrite.failures l.fn.writer l.fn.pending) (with_pending g.W.Write.contents g.W.CountedWrite.failures l.writer l.pending)

@@ -1,6 +1,6 @@
 use Rattle.std.proofs.Common.{◌/◌, ◌%◌, arith}
 use Rattle.sat_base.proofs.Writes.{groups_none, groups_more, groups_all}
-use Rattle.sat_base.proofs.step_writer.bytes.put_number.Goals as goal
+use Rattle.sat_base.proofs.step_writer.number.put_number.Goals as goal
 
 pub loop-rest-init : goal.loop-rest-init
 loop-rest-init g c = groups_none c.args.number _

@@ -1,0 +1,5 @@
+use Rattle.sat_base.proofs.FlatLemmas.{clauses_in_order}
+use Rattle.sat_base.proofs.formula.CnfFormula.iter.Goals as goal
+
+pub returns-clause-runs : goal.returns-clause-runs
+returns-clause-runs c = clauses_in_order

@@ -1,0 +1,142 @@
+//! Formulas in conjunctive normal form.
+ghost use Rattle.std.specs.Prelude.{◌≡◌, ◌≤◌, ◌<◌, [], length, ℕ, List, IsTrue, ◌↔◌};
+ghost use Rattle.std.specs.Map.Iter.{ShowsInOrder, deref};
+ghost use Rattle.sat_base.specs.Literals.{largest};
+ghost use Rattle.sat_base.specs.Formulas.{no_formula, vars_in, with_count, with_clause, with_variable};
+ghost use Rattle.sat_base.specs.declared.formula.error.FormulaError.TheVariants.{OutOfMemory, VariableLimit};
+
+pub mod error;
+mod flat;
+pub mod iter;
+
+use self::error::FormulaError;
+use self::flat::FlatClauses;
+use self::iter::CnfFormulaIter;
+use crate::extend::ExtendFormula;
+use crate::{Lit, Var};
+use std::alloc::Global;
+use std::marker::Model;
+
+/// Clauses in the order in which they were added, and a number of variables, which is at most 2^28.
+#[derive(Debug, Drop)]
+pub struct CnfFormula {
+    var_count: usize,
+    clauses: FlatClauses,
+}
+
+impl Model for CnfFormula {
+    ghost use Rattle.std.specs.Prelude.{◌≤◌};
+    ghost use Rattle.sat_base.specs.Literals.{largest};
+    ghost use Rattle.sat_base.specs.Formulas.{Formula, vars_of};
+
+    ghost Value = { Formula };
+
+    ghost view = { λ f. record { var_count = f.var_count; clauses = f.clauses } };
+
+    ghost invariant = { λ f. (vars_of f.clauses ≤ f.var_count) × (f.var_count ≤ largest) };
+}
+
+impl CnfFormula {
+    /// No clauses and no variables. Takes no memory.
+    pub fn new(alloc: Global) -> CnfFormula
+        ensures { result ≡ no_formula }
+    {
+        CnfFormula {
+            var_count: 0,
+            clauses: FlatClauses::new(alloc),
+        }
+    }
+
+    /// The variables of the formula are those whose index is below this.
+    pub fn var_count(&self) -> usize
+        ensures count { result ≡ self.now.var_count }
+        ensures bound { result ≤ largest }
+    {
+        self.var_count
+    }
+
+    /// Raises the number of variables to this count. A lower count changes nothing.
+    pub fn set_var_count(&mut self, count: usize)
+        requires { count ≤ largest }
+        ensures { self.new ≡ with_count count self.old }
+    {
+        self.var_count = self.var_count.max(count);
+    }
+
+    /// The number of clauses.
+    pub fn len(&self) -> usize
+        ensures { result ≡ length self.now.clauses }
+    {
+        self.clauses.len()
+    }
+
+    /// Whether there is no clause.
+    pub fn is_empty(&self) -> bool
+        ensures { IsTrue result ↔ self.now.clauses ≡ [] }
+    {
+        self.len() == 0
+    }
+
+    /// The clauses, in order.
+    pub fn iter(&self) -> CnfFormulaIter<'_>
+        ensures rest { result ≡ self.now.clauses }
+        ensures runs { ShowsInOrder (deref {X = List ℕ}) }
+    {
+        self.clauses.iter()
+    }
+}
+
+/// One more than the index of the highest variable of these literals, or 0.
+#[tactic(auto, using(crate::proofs::FlatLemmas::vars_next))]
+fn vars_in(lits: &[Lit]) -> usize
+    ensures count { result ≡ vars_in lits.now }
+    ensures bound { result ≤ largest }
+{
+    let mut count = 0;
+    for lit in lits {
+        count = count.max(lit.index() + 1);
+    }
+    count
+}
+
+impl ExtendFormula for CnfFormula {
+    type Error = FormulaError;
+
+    ghost adds = { λ f clause g. g ≡ with_clause clause f };
+
+    ghost refuses_clause = { λ f clause e g. (e ≡ OutOfMemory) × (g ≡ f) };
+
+    ghost makes = { λ f v g. (v ≡ f.var_count) × (v < largest) × (g ≡ with_variable f) };
+
+    ghost refuses_variable = { λ f e g. (e ≡ VariableLimit) × (f.var_count ≡ largest) × (g ≡ f) };
+
+    fn add_clause(&mut self, lits: &[Lit]) -> Result<(), FormulaError> {
+        self.clauses.push(lits)?;
+        self.var_count = self.var_count.max(vars_in(lits));
+        Ok(())
+    }
+
+    fn new_var(&mut self) -> Result<Var, FormulaError> {
+        if self.var_count >= Var::max_count() {
+            return Err(FormulaError::VariableLimit);
+        }
+        let var = Var::from_index(self.var_count);
+        self.var_count += 1;
+        Ok(var)
+    }
+}
+
+impl<'a> IntoIterator for &'a CnfFormula {
+    type Item = &'a [Lit];
+
+    type IntoIter = CnfFormulaIter<'a>;
+
+    ghost into_iter_gives = { λ f r. (r ≡ f.now.clauses) × ShowsInOrder (deref {X = List ℕ}) };
+
+    fn into_iter(self) -> CnfFormulaIter<'a> {
+        self.iter()
+    }
+}
+
+#[cfg(test)]
+mod tests;

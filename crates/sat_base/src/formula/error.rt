@@ -1,0 +1,36 @@
+//! What can go wrong as a formula grows.
+
+use std::alloc::{AllocError, AllocFailed};
+use thiserror::Error;
+
+/// Why a formula took no clause, or gave no variable.
+#[derive(Clone, Copy, Debug, Drop, PartialEq, Eq, Error)]
+pub enum FormulaError {
+    /// All 2^28 variables are in use.
+    #[error("no variable is left")]
+    VariableLimit,
+    #[error("out of memory")]
+    OutOfMemory,
+}
+
+impl From<AllocError> for FormulaError {
+    ghost use Rattle.std.specs.Prelude.{◌≡◌};
+    ghost use Rattle.sat_base.specs.declared.formula.error.FormulaError.TheVariants.{OutOfMemory};
+
+    ghost from_gives = { λ _ e. e ≡ OutOfMemory };
+
+    fn from(_e: AllocError) -> FormulaError {
+        FormulaError::OutOfMemory
+    }
+}
+
+impl<T: Drop> From<AllocFailed<T>> for FormulaError {
+    ghost use Rattle.std.specs.Prelude.{◌≡◌};
+    ghost use Rattle.sat_base.specs.declared.formula.error.FormulaError.TheVariants.{OutOfMemory};
+
+    ghost from_gives = { λ _ e. e ≡ OutOfMemory };
+
+    fn from(_e: AllocFailed<T>) -> FormulaError {
+        FormulaError::OutOfMemory
+    }
+}
