@@ -16,6 +16,7 @@ pub mod Formats
 pub mod Numbers
 pub mod Writes
 pub mod TextWrites
+pub mod DimacsReads
 pub mod FormatReads
 pub mod ReadLemmas
 pub mod TagForms

@@ -54,9 +54,9 @@ literal_more ls i x d text h e k =
     let more = clause_line (drop (i + 1) ls) in
     append_assoc (text ++ number_text x) (32 ∷ []) more ∙ append_assoc text (number_text x) (32 ∷ more)
     ∙ ap (λ (t : List ℕ). text ++ t)
-      (ap (λ (y : ℕ). number_text y ++ 32 ∷ more) e
-      ∙ ap (λ (j : ℕ). number_text (get_or ls i d) ++ 32 ∷ clause_line (drop j ls)) n
-      ∙ sym (ap clause_line (drop-cons ls i d h)))
+    (ap (λ (y : ℕ). number_text y ++ 32 ∷ more) e
+    ∙ ap (λ (j : ℕ). number_text (get_or ls i d) ++ 32 ∷ clause_line (drop j ls)) n
+    ∙ sym (ap clause_line (drop-cons ls i d h)))
     ∙ k
 
 pub same_text : {E : Type 0} (a b : List ℕ) (old new : Written) (r : Result (Unit {0}) E) → a ≡ b → Writes Plainly a r old new → Writes Plainly b r old new

@@ -24,3 +24,4 @@ pub mod Kinds
 pub mod Reading
 pub mod StepReading
 pub mod Dimacs
+pub mod WrittenDimacs

@@ -2,7 +2,7 @@
 ghost use Rattle.std.specs.Prelude.{◌≡◌, ◌≤◌, ◌<◌, [], length, ℕ, List, IsTrue, ◌↔◌};
 ghost use Rattle.std.specs.Map.Iter.{ShowsInOrder, deref};
 ghost use Rattle.sat_base.specs.Literals.{largest};
-ghost use Rattle.sat_base.specs.Formulas.{no_formula, vars_in, with_count, with_clause, with_variable};
+ghost use Rattle.sat_base.specs.Formulas.{no_formula, vars_in, vars_of, with_count, with_clause, with_variable};
 ghost use Rattle.sat_base.specs.declared.formula.error.FormulaError.TheVariants.{OutOfMemory, VariableLimit};
 
 pub mod error;
@@ -50,6 +50,7 @@ impl CnfFormula {
     /// The variables of the formula are those whose index is below this.
     pub fn var_count(&self) -> usize
         ensures count { result ≡ self.now.var_count }
+        ensures covers { vars_of self.now.clauses ≤ self.now.var_count }
         ensures bound { result ≤ largest }
     {
         self.var_count

@@ -1,0 +1,5 @@
+use Rattle.sat_base.proofs.DimacsReads.{written_is_read}
+use Rattle.sat_base.proofs.law_dimacs.written_dimacs_is_read.Goals as goal
+
+pub returns : goal.returns
+returns c = written_is_read
