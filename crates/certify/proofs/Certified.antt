@@ -1,21 +1,19 @@
 -- What each piece of a run's certificate brings in.
-use Rattle.std.proofs.Common.{ℕ, zero, suc, ◌+◌, ◌-◌, ◌/◌, ◌%◌, ◌<◌, ◌≤◌, ◌≡◌, Bool, true, false, cond, eqb, ltb, max, List, [], ◌∷◌, ◌++◌, length, map, Option, Some, None, is_some, refl, sym, ◌∙◌, ap, subst, arith, inl, inr, append_assoc}
+use Rattle.std.proofs.Common.{ℕ, zero, suc, ◌+◌, ◌-◌, ◌/◌, ◌%◌, ◌<◌, ◌≤◌, ◌≡◌, Bool, true, false, cond, eqb, ltb, max, List, [], ◌∷◌, ◌++◌, map, Some, is_some, refl, sym, ◌∙◌, ap, subst, arith, inl, inr, append_assoc}
 use Rattle.std.proofs.lemmas.Bool.{ltb-true, ltb-false, eqb-true, eqb-false, ne_eqb}
 use Rattle.std.proofs.lemmas.Bool.Decides.{nat_tests}
 use Rattle.std.proofs.lemmas.List.{map-append}
 use Rattle.std.proofs.lemmas.List.Elements.{recursion_from_All}
-use Rattle.std.specs.List.{AllByRecursion, Contains, list_any}
+use Rattle.std.specs.List.{AllByRecursion, list_any}
 use Rattle.sat_base.specs.Literals.{coded, variable}
 use Rattle.sat_base.specs.Clauses.{Valuation, clause_true}
 use Rattle.sat_base.specs.Script.{Literal, Among, names_of}
-use Rattle.sat_base.specs.Judge.{Judge, names_from, new_names, bring_in, identity_of, start}
+use Rattle.sat_base.specs.Judge.{Judge, names_from, new_names, bring_in, identity_of}
 use Rattle.sat_base.specs.Steps.{Step, UserVarName, AddClause, AtClause, Model, Assumptions}
-use Rattle.certify.specs.Fold.{Holds}
 use Rattle.certify.specs.Stored.{Stored, with_stored, with_literals_known, is_known}
 use Rattle.certify.specs.Accepts.{stored_after}
 use Rattle.certify.specs.Checking.{variable_of}
 use Rattle.certify.specs.TheChecking.{the_checking}
-use Rattle.certify.specs.Answers.{Outcome}
 use Rattle.certify.specs.AnswerForms.{named_literal, named_literals}
 use Rattle.certify.specs.Right.{IsRight}
 use Rattle.certify.specs.Matches.{Expected, NewName, Adds, Opens, Shows, Fails, Closes, bringing, showing, Spells, SameSet, EachSpelt, new_name, adds, opens, shows, closes}

@@ -2,7 +2,6 @@ use Rattle.std.proofs.Common.{◌≡◌, ◌∙◌, ◌++◌, ◌∷◌, [], ap,
 use Rattle.std.specs.Io.KnownBytes.{Appends}
 use Rattle.certify.specs.Answers.{outcome_text}
 use Rattle.certify.specs.Running.{outcome_of}
-use Rattle.certify.specs.declared.summary.AskReport.{AskReport}
 use Rattle.certify.proofs.Writing.{wrote_asked}
 use Rattle.certify.proofs.run.ask.answer_ask.Goals as goal
 

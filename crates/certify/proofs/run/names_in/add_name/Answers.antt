@@ -1,4 +1,4 @@
-use Rattle.std.proofs.Common.{ℕ, List, [], ◌∷◌, Some, ap}
+use Rattle.std.proofs.Common.{ℕ, [], ◌∷◌, Some, ap}
 use Rattle.sat_base.specs.Steps.{UserVarName}
 use Rattle.certify.proofs.SolverHolds.{same_variable}
 use Rattle.certify.proofs.Writing.{wrote_as, wrote_step}
