@@ -8,7 +8,7 @@ use Rattle.sat_base.specs.Judge.{start, accepted_of}
 use Rattle.certify.specs.Answers.{answers_text}
 use Rattle.certify.specs.Confirmed.{IsExact, IsSoundYes, GaveRightAnswers}
 use Rattle.certify.specs.Decides.{Decides}
-use Rattle.certify.specs.Holding.{held_command, held_reading}
+use Rattle.certify.specs.Holding.{held_command, HeldScript, held_script}
 use Rattle.certify.specs.Matches.{MatchesCommands, Matches, OneEach, Meets, expected}
 use Rattle.certify.specs.Running.{IsSimple}
 use Rattle.certify.specs.Sessions.{CountFromOne}
@@ -37,7 +37,7 @@ all_count : (cs : List Command) → AllByRecursion IsSimple cs → AllByRecursio
 all_count [] h = tt
 all_count (c ∷ cs) h = (simple_counts c h.0, all_count cs h.1)
 
-read_counts : (text : List ℕ) → AllByRecursion CountFromOne (held_reading (reading text)).0
+read_counts : (text : List ℕ) → AllByRecursion CountFromOne (held_script text).0
 read_counts text = all_count (map held_command (reading text).0) (held_good text)
 
 -- names that are held change nothing of matching
@@ -73,13 +73,13 @@ to_held cs e a c m = record {
   };
 }
 
-decided : (v : Verdict) (text a c : List ℕ) → Decides v (held_reading (reading text)) a c → (v ≡ Yes) ↔ Matches the_checking reading text a c
+decided : (v : Verdict) (text a c : List ℕ) → Decides v (held_script text) a c → (v ≡ Yes) ↔ Matches the_checking reading text a c
 decided Yes text a c d = ((λ e. from_held (reading text).0 (reading text).1 a c d), (λ m. refl))
 decided (No ask why) text a c d = ((λ e. absurd (cc)), (λ m. absurd (d (to_held (reading text).0 (reading text).1 a c m))))
 
-decided_of : (v : Verdict) (script : Reading) (text a c : List ℕ) → script ≡ held_reading (reading text) → (AllByRecursion CountFromOne script.0 → Decides v script a c) → (v ≡ Yes) ↔ Matches the_checking reading text a c
+decided_of : (v : Verdict) (script : HeldScript) (text a c : List ℕ) → script ≡ held_script text → (AllByRecursion CountFromOne script.0 → Decides v script a c) → (v ≡ Yes) ↔ Matches the_checking reading text a c
 decided_of v script text a c e d =
-    let P : Reading → Type 0 = λ s. AllByRecursion CountFromOne s.0 → Decides v s a c in
+    let P : HeldScript → Type 0 = λ s. AllByRecursion CountFromOne s.0 → Decides v s a c in
     decided v text a c (subst P e d (read_counts text))
 
 -- bytes that are told and were given up to the end are all of them
@@ -87,8 +87,8 @@ whole : (told : List ℕ) (new : Option (List ℕ)) (given : List ℕ) → Consu
 whole told None given c e = absurd c
 whole told (Some left) given c e = c ∙ ap (λ t. given ++ t) e ∙ append-nil given
 
-pub exact : (v : Verdict) (known a a' c c' : Option (List ℕ)) (script : Reading) (given bytes : List ℕ)
-    → IfSome known (λ text. script ≡ held_reading (reading text)) → Consumes a a' given → IsAtEnd a' → Consumes c c' bytes → IsAtEnd c'
+pub exact : (v : Verdict) (known a a' c c' : Option (List ℕ)) (script : HeldScript) (given bytes : List ℕ)
+    → IfSome known (λ text. script ≡ held_script text) → Consumes a a' given → IsAtEnd a' → Consumes c c' bytes → IsAtEnd c'
     → (AllByRecursion CountFromOne script.0 → Decides v script given bytes) → IsExact v known a c
 exact v None a a' c c' script given bytes s ga ea gc ec d = tt
 exact v (Some text) None a' c c' script given bytes s ga ea gc ec d = tt
@@ -97,8 +97,8 @@ exact v (Some text) (Some x) a' (Some y) c' script given bytes s ga ea gc ec d =
     subst (λ t. (v ≡ Yes) ↔ Matches the_checking reading text t y) (sym (whole x a' given ga ea))
     (subst (λ t. (v ≡ Yes) ↔ Matches the_checking reading text given t) (sym (whole y c' bytes gc ec)) (decided_of v script text given bytes s d))
 
-pub sound : (v : Verdict) (known a a' : Option (List ℕ)) (script : Reading) (given bytes : List ℕ)
-    → IfSome known (λ text. script ≡ held_reading (reading text)) → Consumes a a' given → IsAtEnd a'
+pub sound : (v : Verdict) (known a a' : Option (List ℕ)) (script : HeldScript) (given bytes : List ℕ)
+    → IfSome known (λ text. script ≡ held_script text) → Consumes a a' given → IsAtEnd a'
     → (AllByRecursion CountFromOne script.0 → Decides v script given bytes) → IsSoundYes v known a a'
 sound v None a a' script given bytes s ga ea d = tt
 sound v (Some text) a a' script given bytes s ga ea d = λ yes.
@@ -113,9 +113,9 @@ sound v (Some text) a a' script given bytes s ga ea d = λ yes.
     }
 
 -- the commands that are held are as many
-pub counted : (known : Option (List ℕ)) (script : Reading) → IfSome known (λ text. script ≡ held_reading (reading text)) → 2 ^ 64 - 1 ≤ length script.0 → IfSome known (λ text. 2 ^ 64 - 1 ≤ length (reading text).0)
+pub counted : (known : Option (List ℕ)) (script : HeldScript) → IfSome known (λ text. script ≡ held_script text) → 2 ^ 64 - 1 ≤ length script.0 → IfSome known (λ text. 2 ^ 64 - 1 ≤ length (reading text).0)
 counted None script s h = tt
 counted (Some text) script s h =
-    let e : length script.0 ≡ length (map held_command (reading text).0) = ap (λ (r : Reading). length r.0) s in
+    let e : length script.0 ≡ length (map held_command (reading text).0) = ap (λ (r : HeldScript). length r.0) s in
     let f : length (map held_command (reading text).0) ≡ length (reading text).0 = length-map (reading text).0 held_command in
     omega (arith, e, f)

@@ -1,10 +1,10 @@
 -- What a run has done once all commands are taken.
-use Rattle.std.proofs.Common.{ℕ, ◌+◌, ◌≡◌, cond, Result, Ok, Err, IfOk, IfSome, List, [], ◌∷◌, ◌++◌, map, length, Option, Some, None, is_some, refl, sym, ◌∙◌, ap, subst, arith, append-nil}
+use Rattle.std.proofs.Common.{ℕ, ◌+◌, ◌-◌, ◌^◌, ◌≤◌, ◌≡◌, cond, Result, Ok, Err, IfOk, IfSome, List, [], ◌∷◌, ◌++◌, map, length, Option, Some, None, is_some, refl, sym, ◌∙◌, ap, subst, arith, append-nil}
 use Rattle.std.proofs.Math.Seq.{drop-length}
 use Rattle.std.proofs.KnownBytes.{Appends-nil, Appends-trans}
 use Rattle.std.proofs.lemmas.List.{length-map}
 use Rattle.std.specs.Io.KnownBytes.{Appends}
-use Rattle.sat_base.specs.Script.{Command, Ending, Clean, Malformed, Reading, reading}
+use Rattle.sat_base.specs.Script.{Command, Ending, Clean, Malformed, written, reading}
 use Rattle.sat_base.specs.Judge.{Judge, Refusal, refusal_of, after_command, accepted_of, start}
 use Rattle.sat_base.specs.Steps.{Step, End}
 use Rattle.sat_base.specs.StepText.{SpellsSteps}
@@ -17,16 +17,19 @@ use Rattle.certify.specs.Held.{fresh}
 use Rattle.certify.specs.TheChecking.{the_checking}
 use Rattle.certify.specs.Matches.{expected, finish}
 use Rattle.certify.specs.Certified.{Certifies, complete, ordered}
-use Rattle.certify.specs.Holding.{held_command, held_reading}
-use Rattle.certify.specs.Run.{RunOf, Finished, refused_count, malformed_at}
+use Rattle.certify.specs.Holding.{held_command, HeldScript, held_script}
+use Rattle.std.specs.Prelude.{MatchResult, IfErr}
+use Rattle.certify.specs.declared.fault.RunFault.TheVariants as fault
+use Rattle.certify.specs.Run.{HasCause, RunOf, Finished, refused_count, malformed_at}
 use Rattle.certify.specs.Running.{Plain, Reached, TookAll, WroteStep, Finishes, malformed_text}
 use Rattle.certify.proofs.Held.{refusal_of-held, unheld, after_command-held, accepted_of-held}
 use Rattle.certify.proofs.Certified.{told_start}
 use Rattle.certify.proofs.PlainState.{start_plain}
 use Rattle.certify.proofs.Simple.{held_good}
+use Rattle.certify.proofs.HeldReading.{malformed_count}
 use Rattle.certify.proofs.Writing.{wrote_none, wrote_step, wrote_then}
 
-pub took_none : (script : Reading) (budget : ℕ) (s : Session) (a p : Option (List ℕ)) → s.names ≡ 0 → s.solver ≡ fresh → s.refused ≡ 0 → s.asks.items ≡ [] → TookAll script budget 0 s a a p p
+pub took_none : (script : HeldScript) (budget : ℕ) (s : Session) (a p : Option (List ℕ)) → s.names ≡ 0 → s.solver ≡ fresh → s.refused ≡ 0 → s.asks.items ≡ [] → TookAll script budget 0 s a a p p
 took_none script budget s a p names solver refused asks = record {
   answered = [];
   appended = Appends-nil a;
@@ -53,11 +56,11 @@ ending_malformed : (number : ℕ) (ending : Ending) → ending_text number endin
 ending_malformed number Clean = refl
 ending_malformed number Malformed = refl
 
-run_reached : (script : List Command) (ending : Ending) (budget number : ℕ) (s : Session) (summary : Summary) (answered certified : List ℕ) (steps : List Step)
+run_reached : (script : List Command) (ending : Ending) (count budget number : ℕ) (s : Session) (summary : Summary) (answered certified : List ℕ) (steps : List Step)
     → Reached script ending budget [] number s answered steps → number ≡ length script + 1 → SpellsSteps (steps ++ End ∷ []) certified
-    → summary.commands ≡ length script → summary.refused ≡ s.refused → summary.malformed ≡ malformed_at (length script + 1) ending → summary.asks ≡ s.asks
-    → RunOf script ending budget summary (answered ++ malformed_text summary.malformed) certified
-run_reached script ending budget number s summary answered certified steps r n spelt commands refused malformed asks =
+    → summary.commands ≡ count → summary.refused ≡ s.refused → summary.malformed ≡ malformed_at (length script + 1) ending → summary.asks ≡ s.asks
+    → RunOf script ending count budget summary (answered ++ malformed_text summary.malformed) certified
+run_reached script ending count budget number s summary answered certified steps r n spelt commands refused malformed asks =
     let P : List Outcome → Type 0 = AreRight start (accepted_of start script) in
     record {
       outcomes = r.done;
@@ -74,9 +77,9 @@ run_reached script ending budget number s summary answered certified steps r n s
     }
 
 -- after the last command
-pub finishes : (script : Reading) (budget : ℕ) (s : Session) (summary : Summary) (a b d p q t : Option (List ℕ))
+pub finishes : (script : HeldScript) (budget : ℕ) (s : Session) (summary : Summary) (a b d p q t : Option (List ℕ))
     → TookAll script budget (length script.0) s a b p q → Appends b d (malformed_text summary.malformed) → WroteStep End q t
-    → summary.commands ≡ length script.0 → summary.refused ≡ s.refused → summary.malformed ≡ malformed_at (length script.0 + 1) script.1 → summary.asks ≡ s.asks
+    → summary.commands ≡ script.2 → summary.refused ≡ s.refused → summary.malformed ≡ malformed_at (length script.0 + 1) script.1 → summary.asks ≡ s.asks
     → Finishes script budget summary a d p t
 finishes script budget s summary a b d p q t took last ended commands refused malformed asks =
     let w = wrote_then took.wrote (wrote_step ended) in
@@ -86,7 +89,7 @@ finishes script budget s summary a b d p q t took last ended commands refused ma
       answers = Appends-trans a b d took.answered (malformed_text summary.malformed) took.appended last;
       certified = w.text;
       certificate = w.appended;
-      run = λ simple. run_reached script.0 script.1 budget (length script.0 + 1) s summary took.answered w.text took.steps (subst P (drop-length script.0) (took.reached simple)) refl w.spelt commands refused malformed asks;
+      run = λ simple. run_reached script.0 script.1 script.2 budget (length script.0 + 1) s summary took.answered w.text took.steps (subst P (drop-length script.0) (took.reached simple)) refl w.spelt commands refused malformed asks;
     }
 
 -- names that are held change none of it
@@ -112,8 +115,8 @@ count_held (c ∷ cs) j =
     ∙ ap (λ (i : Judge). counts_one (refusal_of j c) + refused_count i (map held_command cs)) (after_command-held j c)
     ∙ ap (λ n. counts_one (refusal_of j c) + n) (count_held cs (after_command c j))
 
-run_held : (cs : List Command) (ending : Ending) (budget : ℕ) (summary : Summary) (answered certified : List ℕ) → RunOf (map held_command cs) ending budget summary answered certified → RunOf cs ending budget summary answered certified
-run_held cs ending budget summary answered certified r =
+run_held : (cs : List Command) (ending : Ending) (count budget : ℕ) (summary : Summary) (answered certified : List ℕ) → RunOf (map held_command cs) ending count budget summary answered certified → RunOf cs ending count budget summary answered certified
+run_held cs ending count budget summary answered certified r =
     let P : List Command → Type 0 = λ cs. AreRight start cs r.outcomes in
     let n : length (map held_command cs) ≡ length cs = length-map cs held_command in
     record {
@@ -123,27 +126,54 @@ run_held cs ending budget summary answered certified r =
       steps = r.steps;
       certificate = r.certificate;
       certifies = subst (λ cs. Certifies the_checking [] r.steps (expected start cs r.outcomes)) (accepted_of-held start cs) r.certifies;
-      commands = r.commands ∙ n;
+      commands = r.commands;
       refused = r.refused ∙ count_held cs start;
       malformed = r.malformed ∙ ap (λ k. malformed_at (k + 1) ending) n;
       kinds = r.kinds;
       spent = r.spent;
     }
 
-pub finished : (text : List ℕ) (script : Reading) (budget : ℕ) (summary : Summary) (a b p q : Option (List ℕ)) → script ≡ held_reading (reading text) → Finishes script budget summary a b p q → Finished text budget summary a b p q
+pub finished : (text : List ℕ) (script : HeldScript) (budget : ℕ) (summary : Summary) (a b p q : Option (List ℕ)) → script ≡ held_script text → Finishes script budget summary a b p q → Finished text budget summary a b p q
 finished text script budget summary a b p q e f =
-    let P : Reading → Type 0 = λ s. Finishes s budget summary a b p q in
+    let P : HeldScript → Type 0 = λ s. Finishes s budget summary a b p q in
     let h = subst P e f in
     record {
       answered = h.answered;
       answers = h.answers;
       certified = h.certified;
       certificate = h.certificate;
-      run = run_held (reading text).0 (reading text).1 budget summary h.answered h.certified (h.run (held_good text));
+      run = run_held (reading text).0 (reading text).1 (length (written text).0) budget summary h.answered h.certified (h.run (held_good text));
     }
 
-pub finished_if : (known : Option (List ℕ)) (r : Result Summary RunFault) (script : Reading) (budget : ℕ) (a b p q : Option (List ℕ)) → IfSome known (λ text. script ≡ held_reading (reading text))
+pub finished_if : (known : Option (List ℕ)) (r : Result Summary RunFault) (script : HeldScript) (budget : ℕ) (a b p q : Option (List ℕ)) → IfSome known (λ text. script ≡ held_script text)
     → IfOk r (λ summary. Finishes script budget summary a b p q) → IfSome known (λ text. IfOk r (λ summary. Finished text budget summary a b p q))
 finished_if None r script budget a b p q e f = tt
 finished_if (Some text) (Ok summary) script budget a b p q e f = finished text script budget summary a b p q e f
 finished_if (Some text) (Err x) script budget a b p q e f = tt
+
+-- a malformed text has as many commands as it means
+abbrev TooMany : HeldScript → Type 0
+TooMany script = (script.1 ≡ Malformed) × (2 ^ 64 - 1 ≤ length script.0)
+
+too_many : (text : List ℕ) (script : HeldScript) → script ≡ held_script text → TooMany script → 2 ^ 64 - 1 ≤ length (written text).0
+too_many text script e h =
+    let m : TooMany (held_script text) = rw e at h in
+    omega (arith, m.1, length-map (reading text).0 held_command, malformed_count text m.0)
+
+pub too_many_if : (known : Option (List ℕ)) (script : HeldScript) → IfSome known (λ text. script ≡ held_script text) → TooMany script → IfSome known (λ text. 2 ^ 64 - 1 ≤ length (written text).0)
+too_many_if None script e h = tt
+too_many_if (Some text) script e h = too_many text script e h
+
+-- the cause of a fault behind the script
+cause_behind : (e : RunFault) (script answers certificate many more : Type 0) → (many → more) → HasCause e ⊥ answers certificate many → HasCause e script answers certificate more
+cause_behind fault.ScriptRead script answers certificate many more f h = absurd h
+cause_behind fault.AnswersWrite script answers certificate many more f h = h
+cause_behind fault.CertificateWrite script answers certificate many more f h = h
+cause_behind fault.OutOfMemory script answers certificate many more f h = h
+cause_behind fault.StoreFull script answers certificate many more f h = h
+cause_behind fault.CounterEnd script answers certificate many more f h = f h
+
+pub run_fault : (r : Result Summary RunFault) (ok : Summary → Type 0) (script answers certificate many more : Type 0) → (many → more)
+    → MatchResult r ok (λ e. HasCause e ⊥ answers certificate many) → IfErr r (λ e. HasCause e script answers certificate more)
+run_fault (Ok x) ok script answers certificate many more f h = tt
+run_fault (Err e) ok script answers certificate many more f h = cause_behind e script answers certificate many more f h

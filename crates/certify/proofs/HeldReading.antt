@@ -1,12 +1,15 @@
 -- Reading held names is reading names and holding them.
 use Rattle.std.proofs.Common.{◌≡◌, ℕ, List, [], ◌∷◌, ◌++◌, Bool, true, false, map, refl, sym, ap, ◌∙◌, arith}
-use Rattle.std.specs.Prelude.{nat_eq, not, if◌then◌else◌}
+use Rattle.std.specs.Prelude.{nat_eq, not, is_some, ◌&&◌, if◌then◌else◌}
+use Rattle.std.proofs.Common.{cond, length, ◌⊎◌, inl, inr}
+use Rattle.std.proofs.lemmas.List.{length-map}
 use Rattle.std.proofs.lemmas.Bool.Decides.{nat_tests}
-use Rattle.sat_base.specs.Text.{Token, Number, Letter, Wrong, scan, tokens}
+use Rattle.sat_base.specs.Text.{Token, Number, Letter, Header, Wrong, header_first, header_from, header_of, scan, tokens}
 use Rattle.sat_base.specs.Tokenizing as base
-use Rattle.sat_base.specs.Script.{Literal, Hand, Nothing, InClause, InAsk, Turn, GoesOn, Ends, Fails, command_in, with_literal, with_letter, turn, Reading, onto_commands, at_end, behind_turn, commands_of, spoken, reading}
-use Rattle.certify.specs.Holding.{held_name, held_literal, held_command, held_reading}
-use Rattle.certify.specs.ScriptReading.{held_token, token_of, held_tokens}
+use Rattle.sat_base.specs.Script.{Literal, Command, Clause, Ask, Hide, Witness, Sample, Ending, Clean, Malformed, Hand, Nothing, InClause, InAsk, Turn, GoesOn, Ends, Fails, command_in, with_literal, with_letter, turn, Reading, onto_commands, at_end, behind_turn, commands_of, spoken, has_ask, is_clean, written, reading}
+use Rattle.certify.specs.Holding.{held_name, held_literal, held_command, held_reading, HeldScript, held_script}
+use Rattle.certify.specs.ScriptReading.{held_token, token_of, any_header, asked_if, held_tokens}
+use Rattle.sat_base.proofs.HeaderFirst.{IsWord, AreWords, AreScript, text_is}
 
 pub commands_of_cons : (h : Hand) (t : Token) (ts : List Token) → commands_of h (t ∷ ts) ≡ behind_turn (turn h t) (λ k. commands_of k ts)
 unfolding commands_of
@@ -60,6 +63,7 @@ number_at h false l = with_literal-held h l
 turn-held : (h : Hand) (t : Token) → turn (held_hand h) (held_token t) ≡ held_turn (turn h t)
 turn-held h (Number negative value) = rw (zero-held value) (number_at h (nat_eq value 0) (record { name = value; positive = not negative }))
 turn-held h (Letter b) = with_letter-held h b
+turn-held h (Header v c) = refl
 turn-held h Wrong = refl
 
 behind-held : (t : Turn) (f g : Hand → Reading) → ((h : Hand) → f (held_hand h) ≡ held_reading (g h)) → behind_turn (held_turn t) f ≡ held_reading (behind_turn t g)
@@ -80,16 +84,94 @@ commands_of-held (t ∷ ts) h =
     ∙ behind-held (turn h t) (λ d. commands_of d (map held_token ts)) (λ d. commands_of d ts) (commands_of-held ts)
     ∙ ap held_reading (sym (commands_of_cons h t ts))
 
-reading_is : (text : List ℕ) → reading text ≡ commands_of Nothing (spoken (tokens text))
+-- AN ASK AT THE END
+words_none : (ts : List Token) → AreWords ts → any_header (map held_token ts) ≡ false
+words_none [] w = refl
+words_none (Number negative value ∷ ts) w = words_none ts w.1
+words_none (Letter b ∷ ts) w = words_none ts w.1
+words_none (Header v c ∷ ts) w = absurd w.0
+words_none (Wrong ∷ ts) w = words_none ts w.1
+
+word_none : (t : Token) → IsWord t → is_some (header_from t) ≡ false
+word_none (Number negative value) w = refl
+word_none (Letter b) w = refl
+word_none (Header v c) w = absurd w
+word_none Wrong w = refl
+
+first_none : (ts : List (ℕ × Token)) → AreWords (spoken ts) → is_some (header_first ts) ≡ false
+first_none [] w = refl
+first_none (t ∷ ts) w = word_none t.1 w.0
+
+abbrev first_of : List Token → Token
+first_of [] = Wrong
+first_of (t ∷ ts) = t
+
+first_header : (ts : List (ℕ × Token)) (v c : ℕ) (rest : List Token) → spoken ts ≡ Header v c ∷ rest → is_some (header_first ts) ≡ true
+first_header [] v c rest e = absurd (cc)
+first_header (t ∷ ts) v c rest e = let h : t.1 ≡ Header v c = ap first_of e in rw h refl
+
+-- a text's header is the only one of its tokens
+headed_by : (ts : List (ℕ × Token)) → AreScript (spoken ts) → any_header (map held_token (spoken ts)) ≡ is_some (header_first ts)
+headed_by ts (inl w) = words_none (spoken ts) w ∙ sym (first_none ts w)
+headed_by ts (inr (v, c, rest, w, e)) = ap (λ (us : List Token). any_header (map held_token us)) e ∙ sym (first_header ts v c rest e)
+
+has_ask-held : (cs : List Command) → has_ask (map held_command cs) ≡ has_ask cs
+has_ask-held [] = refl
+has_ask-held (Clause ls ∷ cs) = has_ask-held cs
+has_ask-held (Ask ls ∷ cs) = refl
+has_ask-held (Hide names ∷ cs) = has_ask-held cs
+has_ask-held (Witness names ∷ cs) = has_ask-held cs
+has_ask-held (Sample names ∷ cs) = has_ask-held cs
+
+ask-held : (cs : List Command) → map held_command (cs ++ Ask [] ∷ []) ≡ map held_command cs ++ Ask [] ∷ []
+ask-held [] = refl
+ask-held (c ∷ cs) = ap (λ (ds : List Command). held_command c ∷ ds) (ask-held cs)
+
+abbrev scripted : Reading → ℕ → HeldScript
+scripted r count = ((held_reading r).0, (held_reading r).1, count)
+
+asked-held : (b : Bool) (w : Reading)
+    → scripted (cond b (w.0 ++ Ask [] ∷ [], Clean) w) (length w.0) ≡ cond b (map held_command w.0 ++ Ask [] ∷ [], Clean, length (map held_command w.0)) (map held_command w.0, w.1, length (map held_command w.0))
+asked-held true w = rw (ask-held w.0, length-map w.0 held_command) refl
+asked-held false w = rw (length-map w.0 held_command) refl
+
+reading_is : (text : List ℕ) → reading text ≡ cond (is_some (header_of text) && (is_clean (written text).1 && not (has_ask (written text).0))) ((written text).0 ++ Ask [] ∷ [], Clean) (written text)
 unfolding reading
 reading_is text = refl
 
+written_is : (text : List ℕ) → written text ≡ commands_of Nothing (spoken (tokens text))
+unfolding written
+written_is text = refl
+
+written-held : (text : List ℕ) → held_reading (written text) ≡ commands_of Nothing (held_tokens (scan text))
+written-held text = ap held_reading (written_is text) ∙ sym (commands_of-held (spoken (tokens text)) Nothing)
+
+script_is : (text : List ℕ) → held_script text ≡ asked_if (is_some (header_of text)) (held_reading (written text))
+script_is text =
+    let w = written text in
+    let headed = is_some (header_of text) in
+    ap (λ (r : Reading). scripted r (length w.0)) (reading_is text)
+    ∙ asked-held (headed && (is_clean w.1 && not (has_ask w.0))) w
+    ∙ ap (λ (ask : Bool). cond (headed && (is_clean w.1 && not ask)) (map held_command w.0 ++ Ask [] ∷ [], Clean, length (map held_command w.0)) (map held_command w.0, w.1, length (map held_command w.0))) (sym (has_ask-held w.0))
+
 -- the text's tokens with their names held
-pub reading-held : (text : List ℕ) → held_reading (reading text) ≡ commands_of Nothing (held_tokens (scan text))
-reading-held text = ap held_reading (reading_is text) ∙ sym (commands_of-held (spoken (tokens text)) Nothing)
+pub reading-held : (text : List ℕ) → held_script text ≡ asked_if (any_header (held_tokens (scan text))) (commands_of Nothing (held_tokens (scan text)))
+reading-held text =
+    script_is text
+    ∙ ap (λ (b : Bool). asked_if b (held_reading (written text))) (sym (headed_by (tokens text) (text_is text)))
+    ∙ ap (asked_if (any_header (held_tokens (scan text)))) (written-held text)
+
+counted_if : (b : Bool) (w r : Reading) → r ≡ cond b (w.0 ++ Ask [] ∷ [], Clean) w → r.1 ≡ Malformed → length r.0 ≡ length w.0
+counted_if true w r e m = absurd (let f : Clean ≡ Malformed = sym (ap (λ (r : Reading). r.1) e) ∙ m in cc)
+counted_if false w r e m = ap (λ (r : Reading). length r.0) e
+
+-- where a text is malformed its commands are those that stand in it
+pub malformed_count : (text : List ℕ) → (reading text).1 ≡ Malformed → length (reading text).0 ≡ length (written text).0
+malformed_count text m = counted_if (is_some (header_of text) && (is_clean (written text).1 && not (has_ask (written text).0))) (written text) (reading text) (reading_is text) m
 
 -- a value that is held at 2^64-1, and then as a name
 pub token_of-held : (t : Token) → token_of (base.held_token t) ≡ held_token t
 token_of-held (Number negative value) = let e : held_name (base.held value) ≡ held_name value = omega arith in ap (Number negative) e
 token_of-held (Letter b) = refl
+token_of-held (Header v c) = refl
 token_of-held Wrong = refl

@@ -1,13 +1,14 @@
 -- Literals cut into commands.
-use Rattle.std.proofs.Common.{◌≡◌, ℕ, zero, suc, ◌-◌, ◌<◌, ◌≤◌, List, [], ◌∷◌, ◌++◌, length, get_or, take, drop, Some, refl, sym, ap, ◌∙◌, arith}
-use Rattle.std.specs.Prelude.{slice_get, slice_range, IsTrue, ◌==◌}
+use Rattle.std.proofs.Common.{◌≡◌, Bool, true, false, ℕ, zero, suc, ◌-◌, ◌<◌, ◌≤◌, List, [], ◌∷◌, ◌++◌, length, get_or, take, drop, Some, refl, sym, ap, ◌∙◌, arith}
+use Rattle.std.specs.Prelude.{slice_get, slice_range, IsTrue, ◌==◌, ◌||◌}
 use Rattle.std.proofs.lemmas.Bool.Decides.{nat_tests}
 use Rattle.std.proofs.lemmas.List.{take-append-le, drop-append-le, length-drop, drop_all, take_all}
 use Rattle.std.proofs.lemmas.Option.{slice_get-get_or}
 use Rattle.certify.specs.declared.script.Kind.{Kind}
 use Rattle.certify.specs.declared.script.Part.{Part}
-use Rattle.sat_base.specs.Script.{Literal, Command}
-use Rattle.certify.specs.ScriptParts.{command_of, commands_in, start_of, literals_behind, AreParts}
+use Rattle.sat_base.specs.Script.{Literal, Command, has_ask}
+use Rattle.certify.specs.ScriptParts.{command_of, commands_in, start_of, literals_behind, AreParts, is_ask, any_ask}
+use Rattle.certify.specs.declared.script.Kind.TheVariants as kind
 
 pub length-commands_in : (s : ℕ) (ps : List Part) (ls : List Literal) → length (commands_in s ps ls) ≡ length ps
 length-commands_in s [] ls = refl
@@ -96,3 +97,12 @@ part_at ps ls i d s k l e f = command_at ps ls i d l ∙ rw (e, f) refl
 pub none_in : (n : ℕ) (ps : List Part) (cs : List Command) (ls : List Literal) → n ≡ length ps → commands_in 0 ps ls ≡ cs → (IsTrue (n == 0) → cs ≡ []) × (cs ≡ [] → IsTrue (n == 0))
 none_in n [] cs ls e f = (λ _. sym f, λ _. rw e refl)
 none_in n (p ∷ ps) cs ls e f = (λ h. absurd (let k : n ≡ 0 = grind (arith, nat_tests) in omega (arith, k)), λ h. absurd (let k = f ∙ h in cc))
+
+-- asks among the parts
+pub has_ask-commands_in : (s : ℕ) (ps : List Part) (ls : List Literal) → has_ask (commands_in s ps ls) ≡ any_ask ps
+has_ask-commands_in s [] ls = refl
+has_ask-commands_in s (p ∷ ps) ls = first p.kind (slice_range ls s p.end) (has_ask-commands_in p.end ps ls)
+  where
+    first : (k : Kind) (ks : List Literal) → has_ask (commands_in p.end ps ls) ≡ any_ask ps → has_ask (command_of k ks ∷ commands_in p.end ps ls) ≡ (is_ask k || any_ask ps)
+    first kind.Clause ks h = h
+    first kind.Ask ks h = refl

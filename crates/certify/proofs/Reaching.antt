@@ -6,7 +6,7 @@ use Rattle.std.specs.List.{AllByRecursion, slice_get}
 use Rattle.std.specs.Io.KnownBytes.{Appends}
 use Rattle.sat_base.specs.Literals.{variable}
 use Rattle.sat_base.specs.Clauses.{Valuation, clause_true, EachTrue, EachHolds}
-use Rattle.sat_base.specs.Script.{Literal, Command, Clause, Ask, Ending, Reading, names_of}
+use Rattle.sat_base.specs.Script.{Literal, Command, Clause, Ask, Ending, names_of}
 use Rattle.sat_base.specs.Judge.{Judge, PastLimit, bring_all, with_clause, over, accepted, accepted_of, refused_literal, names_from, start}
 use Rattle.certify.specs.declared.fault.RunFault.{RunFault}
 use Rattle.certify.specs.declared.run.session.Session.{Session}
@@ -18,6 +18,7 @@ use Rattle.certify.specs.AnswerForms.{named_literal, named_literals}
 use Rattle.certify.specs.Right.{IsRight, AreRight}
 use Rattle.certify.specs.Run.{refused_count, kind_of, IsSpent, AreSpent}
 use Rattle.certify.specs.Held.{Held, HoldsIn, TakesClause}
+use Rattle.certify.specs.Holding.{HeldScript}
 use Rattle.certify.specs.Running.{Plain, Reached, Refused, Added, Asked, Took, TookAll, Told, IsSimple, IsTrueOf, WritesAnswer, WritesSteps, WritesClause, WroteClause, WroteAsk, are_within, code_of, naming, outcome_of, raised, steps_of}
 use Rattle.sat_base.specs.Steps.{Step, Assumptions}
 use Rattle.certify.specs.TheChecking.{the_checking}
@@ -245,7 +246,7 @@ simple_at [] i c e h = absurd (cc)
 simple_at (x ∷ xs) zero c e h = let s : x ≡ c = cc in subst IsSimple s h.0
 simple_at (x ∷ xs) (suc i) c e h = simple_at xs i c e h.1
 
-pub took_next : {script : Reading} {budget place number : ℕ} {old new : Session} {a b d p q t : Option (List ℕ)} {command : Command}
+pub took_next : {script : HeldScript} {budget place number : ℕ} {old new : Session} {a b d p q t : Option (List ℕ)} {command : Command}
     → TookAll script budget place old a b p q → number ≡ place + 1 → slice_get script.0 place ≡ Some command → old.solver.var_count ≡ old.names
     → Took command number budget old new b d q t → TookAll script budget (place + 1) new a d p t
 took_next {script} {budget} {place} {number} {old} {new} {a} {b} {d} {p} {q} {t} {command} all n e same k =

@@ -2,8 +2,8 @@
 use Rattle.std.proofs.Common.{ℕ, ◌<◌, ◌≡◌, Bool, true, false, not, cond, eqb, List, [], ◌∷◌, ◌++◌, map, refl, ap, arith}
 use Rattle.std.proofs.lemmas.Bool.{eqb-false}
 use Rattle.std.specs.List.{AllByRecursion}
-use Rattle.sat_base.specs.Text.{Token, Number, Letter, Wrong, tokens}
-use Rattle.sat_base.specs.Script.{Literal, Command, Clause, Ask, Hide, Witness, Sample, names_of, Hand, Nothing, InClause, InAsk, Turn, GoesOn, Ends, Fails, command_in, with_literal, with_letter, turn, Reading, behind_turn, commands_of, spoken, reading}
+use Rattle.sat_base.specs.Text.{Token, Number, Letter, Header, Wrong, tokens, header_of}
+use Rattle.sat_base.specs.Script.{Literal, Command, Clause, Ask, Hide, Witness, Sample, names_of, Hand, Nothing, InClause, InAsk, Turn, GoesOn, Ends, Fails, command_in, with_literal, with_letter, turn, Reading, behind_turn, commands_of, spoken, Clean, is_asked_at_end, written, reading}
 use Rattle.certify.specs.Holding.{held_literal, held_command}
 use Rattle.certify.specs.Running.{IsSimple}
 
@@ -50,6 +50,7 @@ turn_good hand (Number negative value) h = go (eqb value 0) refl
     go true e = command_good hand h
     go false e = literal_good hand (record { name = value; positive = not negative }) h (omega (arith, eqb-false value 0 e))
 turn_good hand (Letter b) h = letter_good hand b
+turn_good hand (Header v c) h = h
 turn_good hand Wrong h = tt
 
 behind_good : (t : Turn) (more : Hand → Reading) → IsGoodTurn t → ((hand : Hand) → IsGood hand → AllByRecursion IsSimple (more hand).0) → AllByRecursion IsSimple (behind_turn t more).0
@@ -62,9 +63,22 @@ unfolding commands_of
 commands_good [] hand h = tt
 commands_good (t ∷ ts) hand h = behind_good (turn hand t) (λ k. commands_of k ts) (turn_good hand t h) (λ k g. commands_good ts k g)
 
+written_good : (text : List ℕ) → AllByRecursion IsSimple (written text).0
+unfolding written
+written_good text = commands_good (spoken (tokens text)) Nothing tt
+
+-- so is an ask at the end
+asked_good : (cs : List Command) → AllByRecursion IsSimple cs → AllByRecursion IsSimple (cs ++ Ask [] ∷ [])
+asked_good [] h = (refl, tt)
+asked_good (c ∷ cs) h = (h.0, asked_good cs h.1)
+
+good_if : (b : Bool) (w : Reading) → AllByRecursion IsSimple w.0 → AllByRecursion IsSimple (cond b (w.0 ++ Ask [] ∷ [], Clean) w).0
+good_if true w h = asked_good w.0 h
+good_if false w h = h
+
 reading_good : (text : List ℕ) → AllByRecursion IsSimple (reading text).0
 unfolding reading
-reading_good text = commands_good (spoken (tokens text)) Nothing tt
+reading_good text = good_if (is_asked_at_end text) (written text) (written_good text)
 
 held_positive : (ls : List Literal) → Positive ls → Positive (map held_literal ls)
 held_positive [] h = tt

@@ -1,12 +1,12 @@
 -- What a verdict says of a script, its answers and a certificate.
 use Rattle.std.specs.Prelude.{ℕ, List}
-use Rattle.sat_base.specs.Script.{Reading}
+use Rattle.certify.specs.Holding.{HeldScript}
 use Rattle.certify.specs.Matches.{MatchesCommands}
 use Rattle.certify.specs.TheChecking.{the_checking}
 use Rattle.certify.specs.declared.verdict.Verdict.{Verdict}
 use Rattle.certify.specs.declared.verdict.Verdict.TheVariants.{Yes, No}
 
 -- yes where they match, and no where they don't
-abbrev pub Decides : Verdict → Reading → List ℕ → List ℕ → Type 0
+abbrev pub Decides : Verdict → HeldScript → List ℕ → List ℕ → Type 0
 Decides Yes script answers certificate = MatchesCommands the_checking script.0 script.1 answers certificate
 Decides (No ask why) script answers certificate = MatchesCommands the_checking script.0 script.1 answers certificate → ⊥

@@ -1,7 +1,7 @@
 -- Names that are held at one above the largest, which no command with a larger one notices.
-use Rattle.std.specs.Prelude.{ℕ, ◌+◌, ◌≡◌, min, None, List, map}
+use Rattle.std.specs.Prelude.{ℕ, ◌+◌, ◌≡◌, min, None, List, map, length}
 use Rattle.sat_base.specs.Literals.{largest}
-use Rattle.sat_base.specs.Script.{Literal, Command, Clause, Ask, Hide, Witness, Sample, Reading}
+use Rattle.sat_base.specs.Script.{Literal, Command, Clause, Ask, Hide, Witness, Sample, Ending, Reading, written, reading}
 use Rattle.sat_base.specs.Judge.{Judge, refusal_of, accepted_of, after_command, after_script}
 
 abbrev pub held_name : ℕ → ℕ
@@ -19,6 +19,14 @@ held_command (Sample names) = Sample (map held_name names)
 
 abbrev pub held_reading : Reading → Reading
 held_reading reading = (map held_command reading.0, reading.1)
+
+-- a script's commands and its end, and how many of the commands stand in the text
+abbrev pub HeldScript : Type 0
+HeldScript = List Command × Ending × ℕ
+
+-- the script of a text; an ask at its end doesn't stand there
+abbrev pub held_script : List ℕ → HeldScript
+held_script text = ((held_reading (reading text)).0, (held_reading (reading text)).1, length (written text).0)
 
 -- why a command is refused, which commands are accepted, and what they leave, all stay as they are
 pub record HoldingIsFree : Type 0 where

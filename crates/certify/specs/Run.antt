@@ -1,7 +1,7 @@
 -- What a finished run has done, and why one wasn't finished.
 use Rattle.std.specs.Prelude.{ℕ, ◌+◌, ◌-◌, ◌^◌, ◌≡◌, ◌≤◌, min, Option, Some, None, is_some, List, [], ◌∷◌, map, length, if◌then◌else◌}
 use Rattle.std.specs.Io.KnownBytes.{Appends}
-use Rattle.sat_base.specs.Script.{Command, Ending, Clean, Malformed, reading}
+use Rattle.sat_base.specs.Script.{Command, Ending, Clean, Malformed, written, reading}
 use Rattle.sat_base.specs.Judge.{Judge, refusal_of, after_command, accepted_of, start}
 use Rattle.sat_base.specs.Steps.{Step}
 use Rattle.sat_base.specs.StepText.{SpellsSteps}
@@ -60,8 +60,8 @@ abbrev pub AreSpent : ℕ → ℕ → List AskReport → Type 0
 AreSpent budget before [] = Unit {0}
 AreSpent budget before (report ∷ reports) = IsSpent budget before report × AreSpent budget (before + report.steps) reports
 
--- What a finished run wrote and says of a script's commands.
-pub record RunOf (script : List Command) (ending : Ending) (budget : ℕ) (summary : Summary) (answered certified : List ℕ) : Type 0 where
+-- What a finished run wrote and says of a script's commands, of which so many stand in the text.
+pub record RunOf (script : List Command) (ending : Ending) (count budget : ℕ) (summary : Summary) (answered certified : List ℕ) : Type 0 where
   -- one outcome for each accepted ask, each right, and their text
   pub outcomes : List Outcome
   pub right : AnswersAreRight script outcomes
@@ -70,7 +70,7 @@ pub record RunOf (script : List Command) (ending : Ending) (budget : ℕ) (summa
   pub steps : List Step
   pub certificate : SpellsSteps steps certified
   pub certifies : Certifies the_checking [] steps (expected start (accepted_of start script) outcomes)
-  pub commands : summary.commands ≡ length script
+  pub commands : summary.commands ≡ count
   pub refused : summary.refused ≡ refused_count start script
   pub malformed : summary.malformed ≡ malformed_at (length script + 1) ending
   -- one report for each outcome, of its kind
@@ -83,4 +83,4 @@ pub record Finished (text : List ℕ) (budget : ℕ) (summary : Summary) (answer
   pub answers : Appends answers_old answers_new answered
   pub certified : List ℕ
   pub certificate : Appends certificate_old certificate_new certified
-  pub run : RunOf (reading text).0 (reading text).1 budget summary answered certified
+  pub run : RunOf (reading text).0 (reading text).1 (length (written text).0) budget summary answered certified

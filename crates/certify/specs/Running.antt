@@ -4,7 +4,7 @@ use Rattle.std.specs.List.{AllByRecursion}
 use Rattle.std.specs.Io.KnownBytes.{Appends}
 use Rattle.sat_base.specs.Literals.{coded, largest, variable}
 use Rattle.sat_base.specs.Clauses.{Valuation, EachTrue, EachHolds}
-use Rattle.sat_base.specs.Script.{Literal, Command, Clause, Ask, Ending, names_of, Reading}
+use Rattle.sat_base.specs.Script.{Literal, Command, Clause, Ask, Ending, names_of}
 use Rattle.sat_base.specs.Judge.{Judge, Named, Mode, Sampled, names_from, accepted_of, start}
 use Rattle.sat_base.specs.Steps.{Step, UserVarName, AddClause, Model, Assumptions, End}
 use Rattle.sat_base.specs.StepText.{SpellsStep, SpellsSteps}
@@ -19,6 +19,7 @@ use Rattle.certify.specs.Matches.{expected}
 use Rattle.certify.specs.Certified.{Certifies}
 use Rattle.certify.specs.Kept.{IsNormalOf}
 use Rattle.certify.specs.Solved.{NothingHolds, IsDerived}
+use Rattle.certify.specs.Holding.{HeldScript}
 use Rattle.certify.specs.Held.{Held, HoldsIn, HoldsSame, TakesClause}
 use Rattle.certify.specs.declared.fault.RunFault.{RunFault}
 use Rattle.certify.specs.declared.run.session.Session.{Session}
@@ -205,7 +206,7 @@ pub record Took (command : Command) (number budget : ℕ) (old new : Session) (a
       → Reached script ending budget (command ∷ left) number old answered written → Reached script ending budget left (number + 1) new (answered ++ piece) (written ++ steps)
 
 -- so many commands of a script were taken
-pub record TookAll (script : Reading) (budget place : ℕ) (s : Session) (answers_old answers_new certificate_old certificate_new : Option (List ℕ)) : Type 0 where
+pub record TookAll (script : HeldScript) (budget place : ℕ) (s : Session) (answers_old answers_new certificate_old certificate_new : Option (List ℕ)) : Type 0 where
   pub answered : List ℕ
   pub appended : Appends answers_old answers_new answered
   pub steps : List Step
@@ -225,9 +226,9 @@ Ends r last answers_old answers_new certificate_old certificate_new answers_fail
     (λ e. HasCause e ⊥ (answers_failed_old < answers_failed_new) (certificate_failed_old < certificate_failed_new) ⊥)
 
 -- what was written to a whole script, where its commands are those that a script has for now
-pub record Finishes (script : Reading) (budget : ℕ) (summary : Summary) (answers_old answers_new certificate_old certificate_new : Option (List ℕ)) : Type 0 where
+pub record Finishes (script : HeldScript) (budget : ℕ) (summary : Summary) (answers_old answers_new certificate_old certificate_new : Option (List ℕ)) : Type 0 where
   pub answered : List ℕ
   pub answers : Appends answers_old answers_new answered
   pub certified : List ℕ
   pub certificate : Appends certificate_old certificate_new certified
-  pub run : AllByRecursion IsSimple script.0 → RunOf script.0 script.1 budget summary answered certified
+  pub run : AllByRecursion IsSimple script.0 → RunOf script.0 script.1 script.2 budget summary answered certified

@@ -1,5 +1,5 @@
 -- A script's literals one after another, cut into commands.
-use Rattle.std.specs.Prelude.{ℕ, zero, suc, ◌≤◌, Bool, true, false, List, [], ◌∷◌, slice_range, drop}
+use Rattle.std.specs.Prelude.{ℕ, zero, suc, ◌≤◌, Bool, true, false, ◌||◌, List, [], ◌∷◌, slice_range, drop}
 use Rattle.certify.specs.declared.script.Kind.{Kind}
 use Rattle.certify.specs.declared.script.Kind.TheVariants as kind
 use Rattle.certify.specs.declared.script.Part.{Part}
@@ -31,6 +31,15 @@ literals_behind start (p ∷ ps) ls = literals_behind p.end ps ls
 abbrev pub AreParts : ℕ → List Part → ℕ → Type 0
 AreParts start [] count = start ≤ count
 AreParts start (p ∷ ps) count = (start ≤ p.end) × AreParts p.end ps count
+
+-- one of the parts is an ask
+abbrev pub is_ask : Kind → Bool
+is_ask kind.Clause = false
+is_ask kind.Ask = true
+
+abbrev pub any_ask : List Part → Bool
+any_ask [] = false
+any_ask (p ∷ ps) = is_ask p.kind || any_ask ps
 
 abbrev pub end_of : Bool → Ending
 end_of false = Clean

@@ -1,28 +1,30 @@
 -- How a reader of scripts stands in a text, and what a token or a byte makes of it.
-use Rattle.std.specs.Prelude.{◌≡◌, ℕ, Bool, true, false, List, [], ◌∷◌, ◌++◌, map, length}
+use Rattle.std.specs.Prelude.{◌≡◌, ℕ, Bool, true, false, not, ◌&&◌, ◌||◌, List, [], ◌∷◌, ◌++◌, map, length, if◌then◌else◌}
 use Rattle.certify.specs.declared.script.reader.Hand.{Hand as CodeHand}
 use Rattle.certify.specs.declared.script.reader.Hand.TheVariants as at
 use Rattle.certify.specs.declared.script.reader.Commands.{Commands}
 use Rattle.certify.specs.declared.script.reader.Parser.{Parser}
 use Rattle.certify.specs.ScriptParts.{commands_in, literals_behind, AreParts}
-use Rattle.certify.specs.Holding.{held_name}
+use Rattle.certify.specs.Holding.{held_name, HeldScript}
 use Rattle.sat_base.specs.declared.text.Token.{Token as CodeToken}
 use Rattle.sat_base.specs.declared.text.Token.TheVariants as code
-use Rattle.sat_base.specs.Text.{Token, Number, Letter, Wrong, Scan}
+use Rattle.sat_base.specs.Text.{Token, Number, Letter, Header, Wrong, Scan}
 use Rattle.sat_base.specs.Tokenizing.{Stands}
 use Rattle.sat_base.specs.Chunks.{Follows}
-use Rattle.sat_base.specs.Script.{Literal, Command, Malformed, Hand, Nothing, InClause, InAsk, Turn, GoesOn, Fails, command_in, Reading, onto_commands, commands_of, spoken}
+use Rattle.sat_base.specs.Script.{Literal, Command, Ask, Clean, Malformed, Hand, Nothing, InClause, InAsk, Turn, GoesOn, Fails, command_in, Reading, onto_commands, commands_of, spoken, has_ask, is_clean}
 
--- a token with its name held
+-- a token with its name held; a header's numbers are compared with nothing
 abbrev pub held_token : Token → Token
 held_token (Number negative value) = Number negative (held_name value)
 held_token (Letter b) = Letter b
+held_token (Header v c) = Header 0 0
 held_token Wrong = Wrong
 
 -- so is a token of the code
 abbrev pub token_of : CodeToken → Token
 token_of (code.Number negative value) = Number negative (held_name value)
 token_of (code.Letter b) = Letter b
+token_of (code.Header v c) = Header 0 0
 token_of code.Wrong = Wrong
 
 abbrev pub hand_of : CodeHand → List Literal → Hand
@@ -49,34 +51,53 @@ pub record AreCommands (commands : Commands) : Type 0 where
 
 -- A literal or a letter leaves the commands as they are; it goes on with what is then in hand, or may not stand there.
 abbrev pub Turns : Bool → Turn → Commands → Commands → Type 0
-Turns true t old new = AreCommands new × (commands_read new ≡ commands_read old) × (t ≡ GoesOn (hand_in new))
-Turns false t old new = AreCommands new × (commands_read new ≡ commands_read old) × (t ≡ Fails)
+Turns true t old new = AreCommands new × (commands_read new ≡ commands_read old) × (new.headed ≡ old.headed) × (t ≡ GoesOn (hand_in new))
+Turns false t old new = AreCommands new × (commands_read new ≡ commands_read old) × (new.headed ≡ old.headed) × (t ≡ Fails)
 
 -- the command in hand is read
 abbrev pub EndsCommand : Commands → Commands → Type 0
-EndsCommand old new = AreCommands new × (commands_read new ≡ commands_read old ++ command_in (hand_in old) ∷ []) × (hand_in new ≡ Nothing)
+EndsCommand old new = AreCommands new × (commands_read new ≡ commands_read old ++ command_in (hand_in old) ∷ []) × (new.headed ≡ old.headed) × (hand_in new ≡ Nothing)
+
+abbrev pub is_header : Token → Bool
+is_header (Number negative value) = false
+is_header (Letter b) = false
+is_header (Header v c) = true
+is_header Wrong = false
+
+abbrev pub any_header : List Token → Bool
+any_header [] = false
+any_header (t ∷ ts) = is_header t || any_header ts
+
+-- with a header, a clean end and no ask, these commands are asked once at the end
+abbrev pub asked_if : Bool → Reading → HeldScript
+asked_if headed r =
+    if headed && (is_clean r.1 && not (has_ask r.0)) then (r.0 ++ Ask [] ∷ [], Clean, length r.0) else (r.0, r.1, length r.0)
 
 -- what is read where these tokens are to come
-abbrev pub meaning : Commands → List Token → Reading
-meaning commands ts = onto_commands (commands_read commands) (commands_of (hand_in commands) ts)
+abbrev pub meaning : Commands → List Token → HeldScript
+meaning commands ts = asked_if (commands.headed || any_header ts) (onto_commands (commands_read commands) (commands_of (hand_in commands) ts))
+
+-- what is read of a malformed text
+abbrev pub malformed_behind : Commands → HeldScript
+malformed_behind commands = (commands_read commands, Malformed, length (commands_read commands))
 
 -- what a token leaves: what it and any others mean is what the others then mean, or the text is malformed
 abbrev pub TakesToken : Bool → Commands → Token → Commands → Type 0
 TakesToken true old t new = AreCommands new × ((ts : List Token) → meaning old (t ∷ ts) ≡ meaning new ts)
-TakesToken false old t new = AreCommands new × ((ts : List Token) → meaning old (t ∷ ts) ≡ (commands_read new, Malformed))
+TakesToken false old t new = AreCommands new × ((ts : List Token) → meaning old (t ∷ ts) ≡ malformed_behind new)
 
 abbrev pub held_tokens : Scan → List Token
 held_tokens left = map held_token (spoken left.tokens)
 
--- the parser stands at a place of a text: `reading_of` says what the text means, whatever bytes come
-pub record Means (parser : Parser) (reading_of : List ℕ → Reading) : Type 0 where
+-- the parser stands at a place of a text: `script_of` says what the text means, whatever bytes come
+pub record Means (parser : Parser) (script_of : List ℕ → HeldScript) : Type 0 where
   pub commands : AreCommands parser.commands
   pub left_of : List ℕ → Scan
   pub stands : Stands parser.tokenizer left_of
-  pub reads : (rest : List ℕ) → reading_of rest ≡ meaning parser.commands (held_tokens (left_of rest))
+  pub reads : (rest : List ℕ) → script_of rest ≡ meaning parser.commands (held_tokens (left_of rest))
 
 -- what a byte leaves
 abbrev pub TakesByte : Bool → Parser → ℕ → Parser → Type 0
 TakesByte true old byte new = Follows Means old (byte ∷ []) new
 TakesByte false old byte new = AreCommands new.commands
-    × ((before : List ℕ → Reading) → Means old before → (rest : List ℕ) → before (byte ∷ rest) ≡ (commands_read new.commands, Malformed))
+    × ((before : List ℕ → HeldScript) → Means old before → (rest : List ℕ) → before (byte ∷ rest) ≡ malformed_behind new.commands)

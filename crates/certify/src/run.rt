@@ -1,8 +1,8 @@
 //! Answers a script, with a certificate.
 ghost use Rattle.std.specs.Prelude.{◌≡◌, ◌+◌, ◌-◌, ◌^◌, ◌≤◌, ◌<◌, ◌⊎◌, length, IfOk, OnOk, IfErr, IfSome, MatchResult};
 ghost use Rattle.sat_base.specs.Device.{most_reads};
-ghost use Rattle.sat_base.specs.Script.{reading};
-ghost use Rattle.certify.specs.Holding.{held_reading};
+ghost use Rattle.sat_base.specs.Script.{written, Malformed};
+ghost use Rattle.certify.specs.Holding.{held_script};
 ghost use Rattle.certify.specs.Run.{Finished, HasCause};
 ghost use Rattle.certify.specs.Running.{Finishes};
 
@@ -28,7 +28,7 @@ use std::alloc::Global;
 
 /// Reads the script.
 fn load<S: CountedRead>(alloc: Global, script: &mut S) -> Result<Script, RunFault>
-    ensures script { IfSome (S.remaining script.old) (λ text. IfOk result (λ s. s ≡ held_reading (reading text))) }
+    ensures script { IfSome (S.remaining script.old) (λ text. IfOk result (λ s. s ≡ held_script text)) }
     ensures failures { MatchResult result (λ _. S.failures script.new ≡ S.failures script.old)
         (λ e. HasCause e ((S.failures script.old < S.failures script.new) ⊎ (S.calls script.new ≡ S.calls script.old + most_reads)) ⊥ ⊥ ⊥) }
 {
@@ -49,14 +49,14 @@ fn answer<A: CountedWrite, C: CountedWrite>(
 ) -> Result<Summary, RunFault>
     ensures finishes { IfOk result (λ summary. Finishes script.now budget summary (A.contents answers.old) (A.contents answers.new) (C.contents certificate.old) (C.contents certificate.new)) }
     ensures failures { MatchResult result (λ _. (A.failures answers.new ≡ A.failures answers.old) × (C.failures certificate.new ≡ C.failures certificate.old))
-        (λ e. HasCause e ⊥ (A.failures answers.old < A.failures answers.new) (C.failures certificate.old < C.failures certificate.new) (2 ^ 64 - 1 ≤ length script.now.0)) }
+        (λ e. HasCause e ⊥ (A.failures answers.old < A.failures answers.new) (C.failures certificate.old < C.failures certificate.new) ((script.now.1 ≡ Malformed) × (2 ^ 64 - 1 ≤ length script.now.0))) }
 {
     let mut session = Session::new(alloc);
     take_all(&mut session, script, answers, certificate, budget)?;
     let malformed = malformed_number(script)?;
     finish(&mut session.text, malformed, answers, certificate)?;
     Ok(Summary {
-        commands: script.len() as u64,
+        commands: script.command_count() as u64,
         refused: session.refused,
         malformed,
         asks: session.asks,
@@ -83,7 +83,7 @@ pub fn run<S: CountedRead, A: CountedWrite, C: CountedWrite>(
         ((S.failures script.old < S.failures script.new) ⊎ (S.calls script.new ≡ S.calls script.old + most_reads))
         (A.failures answers.old < A.failures answers.new)
         (C.failures certificate.old < C.failures certificate.new)
-        (IfSome (S.remaining script.old) (λ text. 2 ^ 64 - 1 ≤ length (reading text).0))) }
+        (IfSome (S.remaining script.old) (λ text. 2 ^ 64 - 1 ≤ length (written text).0))) }
 {
     let commands = load(alloc, script)?;
     answer(alloc, &commands, answers, certificate, budget)

@@ -1,7 +1,7 @@
 //! Scripts: the commands of a text.
 ghost use Rattle.std.specs.Prelude.{◌≡◌, ◌<◌, ◌↔◌, IsTrue, [], length, slice_get, vec_len};
 ghost use Rattle.sat_base.specs.Script.{Malformed};
-ghost use Rattle.certify.specs.ScriptParts.{commands_in, end_of, AreParts, start_of, shown};
+ghost use Rattle.certify.specs.ScriptParts.{commands_in, end_of, AreParts, start_of, is_ask, any_ask, shown};
 
 mod reader;
 #[cfg(test)]
@@ -49,41 +49,56 @@ pub enum Command<'a> {
     Ask(&'a [Literal]),
 }
 
-/// The commands of a text and its end, which contracts see as these two.
+/// The commands of a text and its end. Where the text is asked at its end, that ask is the last command. Contracts see these two,
+/// and how many of the commands stand in the text.
 #[derive(Drop)]
 pub struct Script {
     literals: Vec<Literal>,
     parts: Vec<Part>,
     malformed: bool,
+    command_count: usize,
 }
 
 impl Model for Script {
-    ghost use Rattle.sat_base.specs.Script.{Reading};
+    ghost use Rattle.certify.specs.Holding.{HeldScript};
 
-    ghost Value = { Reading };
+    ghost Value = { HeldScript };
 
     ghost use Rattle.std.specs.Prelude.{length};
     ghost use Rattle.certify.specs.ScriptParts.{commands_in, end_of, AreParts};
 
-    ghost view = { λ s. (commands_in 0 s.parts.items s.literals.items, end_of s.malformed) };
+    ghost view = { λ s. (commands_in 0 s.parts.items s.literals.items, end_of s.malformed, s.command_count) };
 
     ghost invariant = { λ s. AreParts 0 s.parts.items (length s.literals.items) };
 }
 
 impl Script {
-    /// The script of these commands.
-    fn new(literals: Vec<Literal>, parts: Vec<Part>, malformed: bool) -> Script
+    /// The script of these commands, of which so many stand in the text.
+    fn new(
+        literals: Vec<Literal>,
+        parts: Vec<Part>,
+        malformed: bool,
+        command_count: usize,
+    ) -> Script
         requires { AreParts 0 parts.items (vec_len literals) }
-        ensures { result ≡ (commands_in 0 parts.items literals.items, end_of malformed) }
+        ensures { result ≡ (commands_in 0 parts.items literals.items, end_of malformed, command_count) }
     {
         Script {
             literals,
             parts,
             malformed,
+            command_count,
         }
     }
 
-    /// How many commands there are.
+    /// How many commands stand in the text.
+    pub fn command_count(&self) -> usize
+        ensures { result ≡ self.now.2 }
+    {
+        self.command_count
+    }
+
+    /// How many commands there are, with the ask at the end of the text, where it is asked there.
     pub fn len(&self) -> usize
         ensures { result ≡ length self.now.0 }
     {
@@ -110,6 +125,27 @@ impl Script {
     {
         self.malformed
     }
+}
+
+fn is_ask(kind: Kind) -> bool
+    ensures { result ≡ is_ask kind }
+{
+    match kind {
+        Kind::Clause => false,
+        Kind::Ask => true,
+    }
+}
+
+/// Whether one of the parts is an ask.
+fn any_ask(parts: &[Part]) -> bool
+    ensures { result ≡ any_ask parts.now }
+{
+    for part in parts {
+        if is_ask(part.kind) {
+            return true;
+        }
+    }
+    false
 }
 
 /// Where the literals of a part begin.

@@ -165,9 +165,32 @@ fn refused_and_malformed(rt: HostRuntime) -> Result<(), Fail> {
     Ok(())
 }
 
+/// A header asks once at the end, and a text that ends at `%` is as one that ends there.
+#[test]
+fn asked_at_the_end(rt: HostRuntime) -> Result<(), Fail> {
+    let texts: [&[u8]; 4] = [
+        b"p cnf 2 1\n1 2 0\n%\n0\n",
+        b"c x\n p\tcnf 007 1 \r\n1 2 0",
+        b"p cnf 2 1\n1 2 0\na 0\n",
+        b"1 2 0\na 0\n%\n1 0\n",
+    ];
+    for text in texts {
+        assert_eq!(rt; verdict(&rt, text, ROW_ANSWERS, ROW_STEPS)?, Verdict::Yes);
+    }
+    assert_eq!(rt;
+        verdict(&rt, b"1 2 0\n", ROW_ANSWERS, ROW_STEPS)?,
+        no(1, Why::AnswerText)
+    );
+    assert_eq!(rt;
+        verdict(&rt, b"p cnf 2 1\n1 2 0\n", b"", ROW_STEPS)?,
+        no(1, Why::AnswerMissing)
+    );
+    Ok(())
+}
+
 #[test]
 fn what_a_run_wrote(rt: HostRuntime) -> Result<(), Fail> {
-    let rows: [(&[u8], u64); 18] = [
+    let rows: [(&[u8], u64); 24] = [
         (b"", 1 << 20),
         (b"a 0\n", 1 << 20),
         (b"3 0\na 0\n", 1 << 20),
@@ -186,6 +209,12 @@ fn what_a_run_wrote(rt: HostRuntime) -> Result<(), Fail> {
         (b"1 a 0\n", 1 << 20),
         (b"b 0\n", 1 << 20),
         (b"a 1 0\n", 1 << 20),
+        (b"p cnf 2 1\n1 2 0\n%\n0\n", 1 << 20),
+        (b"p cnf 0 0\n", 1 << 20),
+        (b"p cnf 1 1\n1 0\na 0\n", 1 << 20),
+        (b"p cnf 1 1\n268435457 0\n", 1 << 20),
+        (b"p cnf 1 0\na 268435457 0\n", 1 << 20),
+        (b"1 0\n%\na 0\n", 1 << 20),
     ];
     for (script, budget) in rows {
         let mut answers = Counted::new(Vec::new(rt.alloc()));

@@ -35,6 +35,17 @@ fn answers_and_confirms(rt: HostRuntime) -> Result<(), Fail> {
         ("1 0\n-1 0\na 0\n", "s UNSATISFIABLE\nf 0\nc confirmed\n", 0),
         ("268435457 0\n", "c refused 1 limit\nc confirmed\n", 0),
         ("1 2", "c malformed 1\nc confirmed\n", 1),
+        (
+            "p cnf 2 1\n1 2 0\n%\n0\n",
+            "s SATISFIABLE\nv -1 2 0\nc confirmed\n",
+            0,
+        ),
+        ("p cnf 0 0\n", "s SATISFIABLE\nv 0\nc confirmed\n", 0),
+        (
+            "p cnf 1 0\na 268435457 0\n",
+            "c malformed 1\nc confirmed\n",
+            1,
+        ),
     ];
     for (script, want, code) in rows {
         let (status, output, errors) = printed(&rt, script)?;

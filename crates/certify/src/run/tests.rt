@@ -89,7 +89,7 @@ fn outputs(rt: &HostRuntime, text: &[u8], budget: u64) -> Result<Written, Fail> 
 /// Each row is a text, a budget, and the answers.
 #[test]
 fn answers_scripts(rt: HostRuntime) -> Result<(), Fail> {
-    let rows: [(&[u8], u64, &[u8]); 19] = [
+    let rows: [(&[u8], u64, &[u8]); 27] = [
         (b"", 1 << 20, b""),
         (b"a 0\n", 1 << 20, b"s SATISFIABLE\nv 0\n"),
         (b"3 0\na 0\n", 1 << 20, b"s SATISFIABLE\nv -1 -2 3 0\n"),
@@ -117,10 +117,36 @@ fn answers_scripts(rt: HostRuntime) -> Result<(), Fail> {
             1 << 20,
             b"s SATISFIABLE\nv 1 0\nc malformed 3\n",
         ),
+        (
+            b"p cnf 2 1\n1 2 0\n%\n0\n",
+            1 << 20,
+            b"s SATISFIABLE\nv -1 2 0\n",
+        ),
+        (b"p cnf 0 0\n", 1 << 20, b"s SATISFIABLE\nv 0\n"),
+        (b"p cnf 1 1\n1 0\na 0\n", 1 << 20, b"s SATISFIABLE\nv 1 0\n"),
+        (b"p cnf 1 1\n1 0\n", 0, b"s UNKNOWN\n"),
+        (
+            b"p cnf 1 1\n268435457 0\n",
+            1 << 20,
+            b"c refused 1 limit\ns SATISFIABLE\nv 0\n",
+        ),
+        (b"p cnf 1 1\n1", 1 << 20, b"c malformed 1\n"),
+        (b"p cnf 1 0\na 268435457 0\n", 1 << 20, b"c malformed 1\n"),
+        (b"1 0\n%\na 0\n", 1 << 20, b""),
     ];
     for (text, budget, answers) in rows {
         let written = outputs(&rt, text, budget)?;
         assert_eq!(rt; written.answers.as_slice(), answers);
+        let mut by_one = Counted::new(Vec::new(rt.alloc()));
+        let mut certificate = Counted::new(Vec::new(rt.alloc()));
+        run(
+            rt.alloc(),
+            &mut fails_at(text, 0),
+            &mut by_one,
+            &mut certificate,
+            budget,
+        )?;
+        assert_eq!(rt; by_one.into_inner().as_slice(), answers);
     }
     Ok(())
 }
@@ -153,6 +179,27 @@ fn sums_up(rt: HostRuntime) -> Result<(), Fail> {
     assert_eq!(rt; summary.asks[0].steps, 2);
     assert_eq!(rt; summary.asks[1].answer, Answer::Unsat);
     assert_eq!(rt; summary.asks[1].steps, 0);
+    Ok(())
+}
+
+/// The ask at the end of a text is reported, and is no command of it.
+#[test]
+fn sums_up_an_ask_at_the_end(rt: HostRuntime) -> Result<(), Fail> {
+    let rows: [(&[u8], u64, u64); 5] = [
+        (b"p cnf 2 1\n1 2 0\n%\n0\n", 1, 0),
+        (b"p cnf 0 0", 0, 0),
+        (b"p cnf 1 1\n268435457 0\n", 1, 1),
+        (b"p cnf 1 1\n1 0\na 0\n", 2, 0),
+        (b"1 0\na 0\n%", 2, 0),
+    ];
+    for (text, commands, refused) in rows {
+        let summary = outputs(&rt, text, 1 << 20)?.summary;
+        assert_eq!(rt; summary.commands, commands);
+        assert_eq!(rt; summary.refused, refused);
+        assert_eq!(rt; summary.malformed, None);
+        assert_eq!(rt; summary.asks.len(), 1);
+        assert_eq!(rt; summary.asks[0].answer, Answer::Sat);
+    }
     Ok(())
 }
 

@@ -1,14 +1,14 @@
 //! Reading scripts.
-ghost use Rattle.std.specs.Prelude.{◌≡◌, ◌+◌, ◌<◌, ◌⊎◌, ℕ, List, [], IfOk, OnOk, IfSome, IsErrOf};
+ghost use Rattle.std.specs.Prelude.{◌≡◌, ◌+◌, ◌<◌, ◌⊎◌, ◌++◌, ◌∷◌, ◌&&◌, not, length, ℕ, List, [], IfOk, OnOk, IfSome, IsErrOf};
 ghost use Rattle.std.specs.Io.KnownBytes.{IsAtEnd};
 ghost use Rattle.sat_base.specs.Device.{most_reads};
 ghost use Rattle.sat_base.specs.Text.{Token as SpelledToken};
-ghost use Rattle.sat_base.specs.Script.{Literal as Spelled, Reading, Nothing, command_in, with_literal, with_letter, at_end, commands_of, reading};
-ghost use Rattle.certify.specs.Holding.{held_reading};
+ghost use Rattle.sat_base.specs.Script.{Literal as Spelled, Ask, Clean, Nothing, command_in, with_literal, with_letter, at_end, commands_of, has_ask};
+ghost use Rattle.certify.specs.Holding.{HeldScript, held_script};
 ghost use Rattle.certify.specs.ScriptParts.{command_of, end_of};
-ghost use Rattle.certify.specs.ScriptReading.{token_of, hand_of, commands_read, hand_in, AreCommands, Turns, EndsCommand, meaning, TakesToken, Means, TakesByte};
+ghost use Rattle.certify.specs.ScriptReading.{token_of, hand_of, commands_read, hand_in, AreCommands, Turns, EndsCommand, any_header, asked_if, meaning, malformed_behind, TakesToken, Means, TakesByte};
 
-use super::{Kind, Literal, Part, Script};
+use super::{Kind, Literal, Part, Script, any_ask};
 use sat_base::{CountedRead, ReadError, Token, Tokenizer, read_whole};
 use std::alloc::{AllocError, Global};
 
@@ -29,6 +29,8 @@ struct Commands {
     literals: Vec<Literal>,
     parts: Vec<Part>,
     hand: Hand,
+    /// Whether a header came.
+    headed: bool,
 }
 
 /// A reader of a script that is fed byte by byte.
@@ -52,12 +54,13 @@ fn kind_of(hand: Hand) -> Kind
 impl Commands {
     fn new(alloc: Global) -> Commands
         ensures commands { AreCommands result }
-        ensures none { (ts : List SpelledToken) → meaning result ts ≡ commands_of Nothing ts }
+        ensures none { (ts : List SpelledToken) → meaning result ts ≡ asked_if (any_header ts) (commands_of Nothing ts) }
     {
         Commands {
             literals: Vec::new(alloc),
             parts: Vec::new(alloc),
             hand: Hand::Nothing,
+            headed: false,
         }
     }
 
@@ -122,6 +125,10 @@ impl Commands {
                 })
             }
             Token::Letter(byte) => Ok(self.begin(byte)),
+            Token::Header { .. } => {
+                self.headed = true;
+                Ok(true)
+            }
             Token::Wrong => Ok(false),
         }
     }
@@ -132,26 +139,55 @@ impl Commands {
         !matches!(self.hand, Hand::Nothing)
     }
 
+    /// Whether commands that end here are asked then.
+    fn is_unasked(&self) -> bool
+        ensures { result ≡ (self.now.headed && not (has_ask (commands_read self.now))) }
+    {
+        self.headed && !any_ask(&self.parts)
+    }
+
+    /// The commands without an ask at the end.
     fn into_script(self, malformed: bool) -> Script
         requires { AreCommands self }
-        ensures { result ≡ (commands_read self, end_of malformed) }
+        ensures { result ≡ (commands_read self, end_of malformed, length (commands_read self)) }
     {
-        Script::new(self.literals, self.parts, malformed)
+        let command_count = self.parts.len();
+        Script::new(self.literals, self.parts, malformed, command_count)
+    }
+
+    /// The commands, and an ask at the end.
+    fn into_asked(mut self) -> Result<Script, AllocError>
+        requires commands { AreCommands self }
+        requires nothing { hand_in self ≡ Nothing }
+        ensures { IfOk result (λ script. script ≡ (commands_read self ++ Ask [] ∷ [], Clean, length (commands_read self))) }
+    {
+        let command_count = self.parts.len();
+        let end = self.literals.len();
+        self.parts.push(Part {
+            kind: Kind::Ask,
+            end,
+        })?;
+        Ok(Script::new(self.literals, self.parts, false, command_count))
     }
 
     /// The text ends here.
-    fn finish(self) -> Script
+    fn finish(self) -> Result<Script, AllocError>
         requires { AreCommands self }
-        ensures { result ≡ meaning self [] }
+        ensures { IfOk result (λ script. script ≡ meaning self []) }
     {
-        let malformed = self.is_inside();
-        self.into_script(malformed)
+        if self.is_inside() {
+            return Ok(self.into_script(true));
+        }
+        if self.is_unasked() {
+            return self.into_asked();
+        }
+        Ok(self.into_script(false))
     }
 }
 
 impl Parser {
     fn new(alloc: Global) -> Parser
-        ensures { Means result (λ text. held_reading (reading text)) }
+        ensures { Means result held_script }
     {
         Parser {
             tokenizer: Tokenizer::new(),
@@ -174,15 +210,15 @@ impl Parser {
     fn finish(mut self) -> Result<Script, AllocError>
         requires { AreCommands self.commands }
         ensures { IfOk result
-            (λ script. (before : List ℕ → Reading) → Means self before → script ≡ before []) }
+            (λ script. (before : List ℕ → HeldScript) → Means self before → script ≡ before []) }
     {
         match self.tokenizer.finish() {
-            None => Ok(self.commands.finish()),
+            None => self.commands.finish(),
             Some(token) => {
                 if !self.commands.take(token)? {
                     return Ok(self.commands.into_script(true));
                 }
-                Ok(self.commands.finish())
+                self.commands.finish()
             }
         }
     }
@@ -190,7 +226,7 @@ impl Parser {
 
 /// The script that a text spells.
 pub(crate) fn parse(alloc: Global, text: &[u8]) -> Result<Script, AllocError>
-    ensures { IfOk result (λ script. script ≡ held_reading (reading text.now)) }
+    ensures { IfOk result (λ script. script ≡ held_script text.now) }
 {
     let mut parser = Parser::new(alloc);
     for byte in text {
@@ -204,7 +240,7 @@ pub(crate) fn parse(alloc: Global, text: &[u8]) -> Result<Script, AllocError>
 /// Reads a script to the end of its text.
 pub fn read_script<R: CountedRead>(alloc: Global, reader: &mut R) -> Result<Script, ReadError>
     // Where the reader tells its bytes, the script is what they spell, with names past 2^28 held at 2^28+1.
-    ensures script { IfSome (R.remaining reader.old) (λ text. IfOk result (λ script. script ≡ held_reading (reading text))) }
+    ensures script { IfSome (R.remaining reader.old) (λ text. IfOk result (λ script. script ≡ held_script text)) }
     ensures end { OnOk result (IsAtEnd (R.remaining reader.new)) }
     ensures kept { OnOk result (R.failures reader.new ≡ R.failures reader.old) }
     ensures failed { IsErrOf result ReadError.Failed

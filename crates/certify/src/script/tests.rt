@@ -15,40 +15,57 @@ fn are(literals: &[Literal], numbers: &[i64]) -> bool {
     true
 }
 
-/// Each row is a text, the literals of its commands, whether they are asks, and whether it is malformed behind them.
+/// Each row is a text, the literals of its commands, whether they are asks, whether it is malformed behind them, and how many of
+/// them stand in it.
 #[test]
 fn reads_scripts(rt: HostRuntime) {
-    let rows: [(&[u8], &[(&[i64], bool)], bool); 16] = [
-        (b"", &[], false),
-        (b"1 2 0\na 0\n", &[(&[1, 2], false), (&[], true)], false),
-        (b"1\nc x\n -2 0\n", &[(&[1, -2], false)], false),
-        (b"c x\n1 c\n", &[], true),
-        (b"-0 0", &[], true),
-        (b"+1 0", &[], true),
-        (b"1 a 0", &[], true),
-        (b"b 0", &[], true),
-        (b"a 1 0", &[], true),
-        (b"1 2", &[], true),
-        (b"1 0 a", &[(&[1], false)], true),
-        (b"0", &[(&[], false)], false),
-        (b"007 0", &[(&[7], false)], false),
-        (b"p cnf 1 1\n1 0\n", &[], true),
+    let rows: [(&[u8], &[(&[i64], bool)], bool, usize); 24] = [
+        (b"", &[], false, 0),
+        (b"1 2 0\na 0\n", &[(&[1, 2], false), (&[], true)], false, 2),
+        (b"1\nc x\n -2 0\n", &[(&[1, -2], false)], false, 1),
+        (b"c x\n1 c\n", &[], true, 0),
+        (b"-0 0", &[], true, 0),
+        (b"+1 0", &[], true, 0),
+        (b"1 a 0", &[], true, 0),
+        (b"b 0", &[], true, 0),
+        (b"a 1 0", &[], true, 0),
+        (b"1 2", &[], true, 0),
+        (b"1 0 a", &[(&[1], false)], true, 1),
+        (b"0", &[(&[], false)], false, 1),
+        (b"007 0", &[(&[7], false)], false, 1),
         (
             b"268435456 0 268435457 -99999999999999999999 0",
             &[(&[268435456], false), (&[268435457, -268435457], false)],
             false,
+            2,
         ),
         (
             b"1 0 a 0 a 0 2",
             &[(&[1], false), (&[], true), (&[], true)],
             true,
+            3,
         ),
+        (b"p cnf 1 1\n1 0\n", &[(&[1], false), (&[], true)], false, 1),
+        (
+            b"p cnf 1 1\n1 0\n%\n+1",
+            &[(&[1], false), (&[], true)],
+            false,
+            1,
+        ),
+        (b"p cnf 1 1", &[(&[], true)], false, 0),
+        (b"p cnf 1 1\na 0\n", &[(&[], true)], false, 1),
+        (b"p cnf 1 1\n1", &[], true, 0),
+        (b"p cnf 1\n1 0", &[], true, 0),
+        (b"1 0\np cnf 1 1\n", &[(&[1], false)], true, 1),
+        (b"1 0\n%\n0\n", &[(&[1], false)], false, 1),
+        (b"1\n%\n0\n", &[], true, 0),
     ];
-    for (text, commands, malformed) in rows {
+    for (text, commands, malformed, written) in rows {
         let mut reader = Counted::new(text);
         match read_script(rt.alloc(), &mut reader) {
             Ok(script) => {
                 assert!(rt; script.len() == commands.len());
+                assert!(rt; script.command_count() == written);
                 assert!(rt; script.is_empty() == commands.is_empty());
                 assert!(rt; script.is_malformed() == malformed);
                 for index in 0..script.len() {

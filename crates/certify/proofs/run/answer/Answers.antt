@@ -10,7 +10,7 @@ take_all-requires-clause-first g c =
 pub returns-clause-finishes : goal.returns-clause-finishes
 returns-clause-finishes g c =
     let e = c.in_ok-finish.ensures in
-    finishes c.args.script.now c.args.budget c.take_all.new.session (record { commands = c.len.result; refused = c.take_all.new.session.refused; malformed = c.in_ok-malformed.malformed; asks = c.take_all.new.session.asks })
+    finishes c.args.script.now c.args.budget c.take_all.new.session (record { commands = c.command_count.result; refused = c.take_all.new.session.refused; malformed = c.in_ok-malformed.malformed; asks = c.take_all.new.session.asks })
     (g.A.Write.contents c.args.answers.now) (g.A.Write.contents c.take_all.new.answers) (g.A.Write.contents c.finish.new.answers)
     (g.C.Write.contents c.args.certificate.now) (g.C.Write.contents c.take_all.new.certificate) (g.C.Write.contents c.finish.new.certificate)
-    c.in_ok-take_all.ensures.took e.0 e.2 c.len.ensures refl c.in_ok-malformed.ensures refl
+    c.in_ok-take_all.ensures.took e.0 e.2 c.command_count.ensures refl c.in_ok-malformed.ensures refl

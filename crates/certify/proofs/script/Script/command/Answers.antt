@@ -1,6 +1,6 @@
 use Rattle.std.proofs.Common.{length, ap, sym, ◌∙◌, arith}
 use Rattle.std.specs.Prelude.{slice_get}
-use Rattle.sat_base.specs.Script.{Reading}
+use Rattle.certify.specs.Holding.{HeldScript}
 use Rattle.certify.proofs.Parts.{length-commands_in}
 use Rattle.certify.proofs.script.Script.command.Goals as goal
 
@@ -8,7 +8,7 @@ pub command_at-requires-clause-index : goal.command_at-requires-clause-index
 command_at-requires-clause-index c =
     let s = c.self.inside in
     let parts = length-commands_in 0 s.parts.items s.literals.items in
-    let view = ap (λ (r : Reading). length r.0) c.self.view_is in
+    let view = ap (λ (r : HeldScript). length r.0) c.self.view_is in
     rw c.deref-2.ensures.value (omega (arith, parts, view))
 
 pub command_at-requires-clause-parts : goal.command_at-requires-clause-parts
@@ -16,4 +16,4 @@ command_at-requires-clause-parts c = rw (c.deref-2.ensures.value, c.deref.ensure
 
 pub returns : goal.returns
 returns c =
-    ap (λ (r : Reading). slice_get r.0 c.args.index) (sym c.self.view_is) ∙ rw (c.deref-2.ensures.value, c.deref.ensures.value) at c.command_at.ensures
+    ap (λ (r : HeldScript). slice_get r.0 c.args.index) (sym c.self.view_is) ∙ rw (c.deref-2.ensures.value, c.deref.ensures.value) at c.command_at.ensures

@@ -7,5 +7,5 @@ use Rattle.certify.proofs.script.reader.Commands.add_literal.Goals as goal
 pub returns-in_ok-push-in_default : goal.returns-in_ok-push-in_default
 returns-in_ok-push-in_default c =
     let old = c.args.self.now in
-    let new : Commands = record { literals = c.push.new.self; parts = old.parts; hand = at.Clause } in
-    added old new c.args.literal c.requires c.in_default.not-Ask refl refl c.in_ok-push-in_default.ensures.items
+    let new : Commands = record { literals = c.push.new.self; parts = old.parts; hand = at.Clause; headed = old.headed } in
+    added old new c.args.literal c.requires c.in_default.not-Ask refl refl refl c.in_ok-push-in_default.ensures.items
