@@ -2,11 +2,14 @@ pub mod HashLemmas
 pub mod FlatLemmas
 pub mod Makers
 pub mod Known
+pub mod Headers
 pub mod Spots
 pub mod Words
 pub mod Places
+pub mod HeaderPlaces
 pub mod TextRuns
 pub mod ChunkLemmas
+pub mod HeaderFirst
 pub mod Spellings
 pub mod RowsRead
 pub mod Formats

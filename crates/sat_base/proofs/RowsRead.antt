@@ -1,11 +1,11 @@
 -- The worked rows, computed.
 use Rattle.std.proofs.Common.{refl}
-use Rattle.sat_base.specs.Text.{lines, words, begins_with, words_of, digits, token, scan}
-use Rattle.sat_base.specs.Script.{commands_of, reading}
+use Rattle.sat_base.specs.Text.{lines, words, begins_with, tokens_of, digits, token, scan}
+use Rattle.sat_base.specs.Script.{commands_of, written, reading}
 use Rattle.sat_base.specs.ScriptRows.{ReadRows, MalformedRows}
 
 pub read_rows : ReadRows
-unfolding lines words begins_with words_of digits token scan commands_of reading
+unfolding lines words begins_with tokens_of digits token scan commands_of written reading
 read_rows = record {
   empty = refl;
   clause_and_ask = refl;
@@ -16,10 +16,18 @@ read_rows = record {
   zero_alone = refl;
   leading_zeros = refl;
   past_the_limit = refl;
+  header = refl;
+  header_and_percent = refl;
+  header_and_ask = refl;
+  header_behind_comment = refl;
+  long_number = refl;
+  percent = refl;
+  percent_and_more = refl;
+  percent_alone = refl;
 }
 
 pub malformed_rows : MalformedRows
-unfolding lines words begins_with words_of digits token scan commands_of reading
+unfolding lines words begins_with tokens_of digits token scan commands_of written reading
 malformed_rows = record {
   comment_behind_word = refl;
   minus_zero = refl;
@@ -31,8 +39,22 @@ malformed_rows = record {
   other_letter = refl;
   ask_with_literals = refl;
   two_letters = refl;
-  header = refl;
-  percent = refl;
+  one_number = refl;
+  three_numbers = refl;
+  other_format = refl;
+  plus_in_header = refl;
+  minus_in_header = refl;
+  no_blank_behind_p = refl;
+  header_cut = refl;
+  two_headers = refl;
+  header_behind_clause = refl;
+  header_in_clause = refl;
+  header_inside_a_line = refl;
+  header_and_cut = refl;
+  header_and_wrong = refl;
+  percent_in_clause = refl;
+  percent_inside_a_line = refl;
+  percent_behind_a = refl;
   cut_in_clause = refl;
   cut_behind_a = refl;
 }

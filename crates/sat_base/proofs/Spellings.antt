@@ -1,11 +1,13 @@
 -- A text reads cleanly exactly if its tokens spell the commands.
 use Rattle.std.proofs.Common.{◌≡◌, ℕ, ◌<◌, List, [], ◌∷◌, ◌++◌, Bool, true, false, map, refl, sym, ap, ◌∙◌, append_assoc, subst, arith}
-use Rattle.std.specs.Prelude.{nat_eq, not}
+use Rattle.std.specs.Prelude.{nat_eq, not, ◌&&◌, ◌↔◌, is_some, if◌then◌else◌, drop}
+use Rattle.std.proofs.Common.{inl, inr}
 use Rattle.std.proofs.lemmas.List.{append-nil}
 use Rattle.std.proofs.lemmas.Bool.Decides.{nat_tests}
-use Rattle.sat_base.specs.Text.{Token, Number, Letter, Wrong, tokens}
-use Rattle.sat_base.specs.Script.{Literal, Command, Clause, Ask, Hide, Witness, Sample, Ending, Clean, Malformed, Hand, Nothing, InClause, InAsk, Turn, GoesOn, Ends, Fails, command_in, with_literal, with_letter, turn, Reading, onto_commands, at_end, behind_turn, commands_of, spoken, reading, IsScript}
-use Rattle.sat_base.specs.Spelling.{number_of, AreNamed, IsZero, SpellsCommand, SpellsCommands, OneReading, CleanIfSpelled}
+use Rattle.sat_base.specs.Text.{Token, Number, Letter, Header, Wrong, tokens, header_from, header_first, header_of}
+use Rattle.sat_base.specs.Script.{Literal, Command, Clause, Ask, Hide, Witness, Sample, Ending, Clean, Malformed, Hand, Nothing, InClause, InAsk, Turn, GoesOn, Ends, command_in, with_literal, with_letter, turn, Reading, onto_commands, at_end, behind_turn, commands_of, spoken, has_ask, is_clean, written, reading}
+use Rattle.sat_base.specs.Spelling.{number_of, AreNamed, IsZero, SpellsCommand, SpellsCommands, asked, SpellsScript, OneReading, CleanIfSpelled}
+use Rattle.sat_base.proofs.HeaderFirst.{IsWord, AreWords, AreScript, text_is}
 
 commands_of_nil : (h : Hand) → commands_of h [] ≡ ([], at_end h)
 unfolding commands_of
@@ -37,6 +39,7 @@ turn_number h l n = let e : nat_eq l.name 0 ≡ false = grind (arith, nat_tests)
 turn_zero : (h : Hand) (t : Token) → IsZero t → turn h t ≡ Ends (command_in h)
 turn_zero h (Number negative value) z = rw z refl
 turn_zero h (Letter b) z = absurd z
+turn_zero h (Header v c) z = absurd z
 turn_zero h Wrong z = absurd z
 
 -- SPELLED, AND SO READ
@@ -170,21 +173,109 @@ letter_left Nothing b ts cs false a ih f = malformed cs (rw a at f)
 letter_left (InClause done) b ts cs is_a a ih f = malformed cs f
 letter_left (InAsk done) b ts cs is_a a ih f = malformed cs f
 
-token_left : (h : Hand) (t : Token) (ts : List Token) (cs : List Command) → AllSpelled ts → behind_turn (turn h t) (λ k. commands_of k ts) ≡ (cs, Clean) → SpellsFrom h cs (t ∷ ts)
-token_left h (Number negative value) ts cs ih f = number_left h negative value ts cs (nat_eq value 0) refl ih f
-token_left h (Letter b) ts cs ih f = letter_left h b ts cs (nat_eq b 97) refl ih f
-token_left h Wrong ts cs ih f = malformed cs f
+token_left : (h : Hand) (t : Token) (ts : List Token) (cs : List Command) → IsWord t → AllSpelled ts → behind_turn (turn h t) (λ k. commands_of k ts) ≡ (cs, Clean) → SpellsFrom h cs (t ∷ ts)
+token_left h (Number negative value) ts cs w ih f = number_left h negative value ts cs (nat_eq value 0) refl ih f
+token_left h (Letter b) ts cs w ih f = letter_left h b ts cs (nat_eq b 97) refl ih f
+token_left h (Header v c) ts cs w ih f = absurd w
+token_left h Wrong ts cs w ih f = malformed cs f
 
-spelled_from : (ts : List Token) → AllSpelled ts
-spelled_from [] h cs e = none_left h cs (sym (commands_of_nil h) ∙ e)
-spelled_from (t ∷ ts) h cs e = token_left h t ts cs (spelled_from ts) (sym (commands_of_cons h t ts) ∙ e)
+spelled_from : (ts : List Token) → AreWords ts → AllSpelled ts
+spelled_from [] w h cs e = none_left h cs (sym (commands_of_nil h) ∙ e)
+spelled_from (t ∷ ts) w h cs e = token_left h t ts cs w.0 (spelled_from ts w.1) (sym (commands_of_cons h t ts) ∙ e)
 
-pub reading_is : (text : List ℕ) → reading text ≡ commands_of Nothing (spoken (tokens text))
+-- WITH A HEADER
+written_is : (text : List ℕ) → written text ≡ commands_of Nothing (spoken (tokens text))
+unfolding written
+written_is text = refl
+
+-- what the commands that stand in a text, with a header or not, are read as
+abbrev read_as : Bool → Reading → Reading
+read_as headed w = if headed && (is_clean w.1 && not (has_ask w.0)) then (w.0 ++ Ask [] ∷ [], Clean) else w
+
+reading_is : (text : List ℕ) → reading text ≡ read_as (is_some (header_of text)) (written text)
 unfolding reading
 reading_is text = refl
+
+abbrev headed : List Token → Bool
+headed [] = false
+headed (t ∷ ts) = is_some (header_from t)
+
+headed_is : (ts : List (ℕ × Token)) → is_some (header_first ts) ≡ headed (spoken ts)
+headed_is [] = refl
+headed_is (t ∷ ts) = refl
+
+pub reading_of : (text : List ℕ) → reading text ≡ read_as (headed (spoken (tokens text))) (commands_of Nothing (spoken (tokens text)))
+reading_of text = reading_is text ∙ ap (λ (b : Bool). read_as b (written text)) (headed_is (tokens text)) ∙ ap (read_as (headed (spoken (tokens text)))) (written_is text)
+
+no_header : (ts : List Token) → AreWords ts → headed ts ≡ false
+no_header [] w = refl
+no_header (Number negative value ∷ ts) w = refl
+no_header (Letter b ∷ ts) w = refl
+no_header (Header v c ∷ ts) w = absurd w.0
+no_header (Wrong ∷ ts) w = refl
+
+-- commands are spelled without one
+abbrev first_of : List Token → Token
+first_of [] = Wrong
+first_of (t ∷ ts) = t
+
+none_headed : {A : Type 0} (cs : List Command) (v c : ℕ) (ts : List Token) → SpellsCommands cs (Header v c ∷ ts) → A
+none_headed [] v c ts s = absurd (cc)
+none_headed (Clause [] ∷ cs) v c ts s = let last = s.2.0 in let e : Header v c ≡ last = ap (λ (us : List Token). first_of us) (s.4 ∙ ap (λ (us : List Token). us ++ s.1) s.2.3) in absurd (subst IsZero (sym e) s.2.1)
+none_headed (Clause (l ∷ ls) ∷ cs) v c ts s = let e : Header v c ≡ number_of l = ap first_of (s.4 ∙ ap (λ (us : List Token). us ++ s.1) s.2.3) in absurd (cc)
+none_headed (Ask [] ∷ cs) v c ts s = let e : Header v c ≡ Letter 97 = ap first_of (s.4 ∙ ap (λ (us : List Token). us ++ s.1) s.2.2) in absurd (cc)
+none_headed (Ask (l ∷ ls) ∷ cs) v c ts s = absurd s.2
+none_headed (Hide names ∷ cs) v c ts s = absurd s.2
+none_headed (Witness names ∷ cs) v c ts s = absurd s.2
+none_headed (Sample names ∷ cs) v c ts s = absurd s.2
+
+spelled_commands : (ts : List Token) (cs : List Command) → AreWords ts → SpellsScript cs ts → commands_of Nothing ts ≡ (cs, Clean)
+spelled_commands ts cs w (inl s) = reads_spelled cs ts s
+spelled_commands ts cs w (inr (v, c, rest, spelled, e, s, f)) = absurd (let h : AreWords (Header v c ∷ rest) = rw e at w in h.0)
+
+headless : (ts : List Token) (cs : List Command) → AreWords ts → read_as (headed ts) (commands_of Nothing ts) ≡ (cs, Clean) ↔ SpellsScript cs ts
+headless ts cs w =
+    let none = no_header ts w in (
+      λ e. inl (spelled_from ts w Nothing cs (sym (ap (λ (b : Bool). read_as b (commands_of Nothing ts)) none) ∙ e)),
+      λ s. ap (λ (b : Bool). read_as b (commands_of Nothing ts)) none ∙ spelled_commands ts cs w s,
+    )
+
+-- behind a header
+-- a clean end, with an ask or none
+asked_if_none : (w : List Command) (ask : Bool) (cs : List Command) → has_ask w ≡ ask → read_as true (w, Clean) ≡ (cs, Clean) → cs ≡ asked w
+asked_if_none w true cs a h = rw a (sym (ap (λ (r : Reading). r.0) (rw a at h)))
+asked_if_none w false cs a h = rw a (sym (ap (λ (r : Reading). r.0) (rw a at h)))
+
+asked_is : (w : List Command) (end : Ending) (cs : List Command) → read_as true (w, end) ≡ (cs, Clean) → (end ≡ Clean) × (cs ≡ asked w)
+asked_is w Malformed cs h = let f : Malformed ≡ Clean = ap (λ (r : Reading). r.1) h in absurd (cc)
+asked_is w Clean cs h = (refl, asked_if_none w (has_ask w) cs refl h)
+
+asks : (cs : List Command) (ask : Bool) → has_ask cs ≡ ask → read_as true (cs, Clean) ≡ (asked cs, Clean)
+asks cs true a = rw a refl
+asks cs false a = rw a refl
+
+asked_if : (v c : ℕ) (ts : List Token) (cs : List Command) → SpellsScript cs (Header v c ∷ ts) → read_as true (commands_of Nothing ts) ≡ (cs, Clean)
+asked_if v c ts cs (inl s) = none_headed cs v c ts s
+asked_if v c ts cs (inr (u, d, rest, spelled, e, s, f)) =
+    let same : ts ≡ rest = ap (drop 1) e in
+    ap (λ (us : List Token). read_as true (commands_of Nothing us)) same ∙ ap (read_as true) (reads_spelled spelled rest s) ∙ asks spelled (has_ask spelled) refl ∙ ap (λ (ds : List Command). (ds, Clean)) (sym f)
+
+headed_script : (v c : ℕ) (ts : List Token) (cs : List Command) → AreWords ts → read_as true (commands_of Nothing (Header v c ∷ ts)) ≡ (cs, Clean) ↔ SpellsScript cs (Header v c ∷ ts)
+headed_script v c ts cs w =
+    let goes_on : commands_of Nothing (Header v c ∷ ts) ≡ commands_of Nothing ts = commands_of_cons Nothing (Header v c) ts in
+    let r = commands_of Nothing ts in (
+      λ e. let h = asked_is r.0 r.1 cs (sym (ap (read_as true) goes_on) ∙ e) in inr (v, c, ts, r.0, refl, spelled_from ts w Nothing r.0 (ap (λ (d : Ending). (r.0, d)) h.0), h.1),
+      λ s. ap (read_as true) goes_on ∙ asked_if v c ts cs s,
+    )
+
+script_if : (ts : List Token) (cs : List Command) → AreScript ts → read_as (headed ts) (commands_of Nothing ts) ≡ (cs, Clean) ↔ SpellsScript cs ts
+script_if ts cs (inl w) = headless ts cs w
+script_if ts cs (inr (v, c, rest, w, e)) = rw e (headed_script v c rest cs w)
 
 pub one_reading : OneReading
 one_reading text cs ds d e a b = let same : (cs, d) ≡ (ds, e) = sym a ∙ b in (ap (λ (r : Reading). r.0) same, ap (λ (r : Reading). r.1) same)
 
 pub clean_if_spelled : CleanIfSpelled
-clean_if_spelled text cs = (λ e. spelled_from (spoken (tokens text)) Nothing cs (sym (reading_is text) ∙ e), λ s. reading_is text ∙ reads_spelled cs (spoken (tokens text)) s)
+clean_if_spelled text cs =
+    let h = script_if (spoken (tokens text)) cs (text_is text) in
+    (λ e. h.0 (sym (reading_of text) ∙ e), λ s. reading_of text ∙ h.1 s)

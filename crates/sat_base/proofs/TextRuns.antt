@@ -1,85 +1,153 @@
 -- What a tokenizer makes of bytes.
-use Rattle.std.proofs.Common.{◌≡◌, ℕ, ◌+◌, ◌-◌, ◌^◌, List, [], ◌∷◌, ◌++◌, true, false, min, Option, Some, None, refl, sym, ap, ◌∙◌, append_assoc}
+use Rattle.std.proofs.Common.{◌≡◌, ℕ, ◌+◌, ◌-◌, ◌^◌, ◌⊎◌, inl, inr, List, [], ◌∷◌, Bool, true, false, min, Option, Some, None, refl, sym, ap, ◌∙◌}
 use Rattle.std.specs.Prelude.{nat_eq}
 use Rattle.sat_base.specs.declared.text.Place.{Place}
 use Rattle.sat_base.specs.declared.text.Place.TheVariants as at
+use Rattle.sat_base.specs.declared.text.header.HeaderPlace.TheVariants as header
 use Rattle.sat_base.specs.declared.text.Token.{Token as CodeToken}
 use Rattle.sat_base.specs.declared.text.Tokenizer.{Tokenizer}
 use Rattle.sat_base.specs.Text.{is_blank, Token, Scan, scan}
-use Rattle.sat_base.specs.Spot.{Spot, Fresh, IsSpot, left, in_hand, behind_blank, line_at, onto}
-use Rattle.sat_base.specs.Tokenizing.{held, held_token, InHand, spot_of, Moves, after_blank, Says, Stands, Gives, Takes, GivesLast}
-use Rattle.sat_base.proofs.Spots.{start, LF_left, blank_left, end_left, last_left_end}
-use Rattle.sat_base.proofs.Places.{IsSpot_of, no_word, spot-after_blank, line-Fresh, line-other, line-in_hand, line-behind_blank, held_next}
+use Rattle.sat_base.specs.Spot.{Stage, Begun, Named, Format, Vars, Both, stage_end, Spot, Fresh, Leading, Comment, Between, Within, HeaderBetween, HeaderWithin, Spoilt, Over, left, in_hand, behind_LF, lines_behind, behind_blank, ended_by_blank, line_at, onto}
+use Rattle.sat_base.specs.Tokenizing.{held, IsAt, Moves, may_come, Given, Says, SaysAtBlank, LeadsBehind, Stands, Gives, Takes, IsQuiet, IsOfHeader, Quiet, GivesLast}
+use Rattle.sat_base.proofs.Spots.{start, LF_left, blank_left, end_left, last_left_end, over_more}
+use Rattle.sat_base.proofs.Places.{IsSpot_of, line-Fresh, line-other, line-in_hand, line-behind_blank, below, held_next}
 
 abbrev standing : Place → ℕ → Tokenizer
 standing place lines = record { place = place; lines = lines }
 
-pub stands_first : Stands (standing at.Fresh 0) scan
+pub stands_first : Stands (standing (at.Fresh true) 0) scan
 unfolding Stands
-stands_first = (0, [], 0, tt, refl, start)
+stands_first = (Fresh true, 0, refl, refl, start)
 
--- what the word in hand gives goes before what is left
-gives : (given : Option CodeToken) (p : Place) (x : ℕ) (w : List ℕ) (n b : ℕ) (before after : List ℕ → Scan) → Says given p x w → (after []).last ≡ n + 1
-    → ((rest : List ℕ) → before (b ∷ rest) ≡ onto (in_hand (spot_of p x w) n) (after rest)) → Gives given b before after
-gives None p x w n b before after s l h = λ rest. h rest ∙ ap (λ (ts : List (ℕ × Token)). onto ts (after rest)) (s n)
-gives (Some t) p x w n b before after s l h =
+-- what is given goes before what is left
+gives : (given : Option CodeToken) (tokens : ℕ → List (ℕ × Token)) (n b : ℕ) (before after : List ℕ → Scan) → Given given tokens → (after []).last ≡ n + 1
+    → ((rest : List ℕ) → before (b ∷ rest) ≡ onto (tokens n) (after rest)) → Gives given b before after
+gives None tokens n b before after s l h = λ rest. h rest ∙ ap (λ (ts : List (ℕ × Token)). onto ts (after rest)) (s n)
+gives (Some t) tokens n b before after s l h =
     (s.0, s.1, λ rest. h rest ∙ ap (λ (ts : List (ℕ × Token)). onto ts (after rest)) (s.2 n) ∙ ap (λ (k : ℕ). onto ((k, s.0) ∷ []) (after rest)) (sym l))
 
 pub takes_byte : (old : Tokenizer) (b : ℕ) (place : Place) → Moves old.place b place → Takes old b None (standing place old.lines)
 unfolding Stands
-takes_byte old b place m before s =
-    let h = m s.0 s.1 s.3 in
-    (left (spot_of place h.0 h.1) s.2, (h.0, h.1, s.2, h.2, s.4, λ rest. refl), λ rest. s.5 (b ∷ rest) ∙ h.3 s.2 rest)
+takes_byte old b place m before (spot, n, i, h, e) =
+    let k = m spot i in
+    (left k.0 n, (k.0, n, k.1, h, λ rest. refl), λ rest. e (b ∷ rest) ∙ k.2 n rest)
 
-pub takes_LF : (old : Tokenizer) (given : Option CodeToken) (k : ℕ) → ((x : ℕ) (w : List ℕ) → InHand old.place x w → Says given old.place x w) → k ≡ min (old.lines + 1) (2 ^ 64 - 1)
-    → Takes old 10 given (standing at.Fresh k)
+-- LF
+fresh_below : (p : Place) (spot : Spot) → (p ≡ at.Over → ⊥) → IsAt p spot → behind_LF spot ≡ Fresh (may_come p)
+fresh_below p spot h i = below p h spot i
+
+lines_below : (spot : Spot) (n : ℕ) (may : Bool) → behind_LF spot ≡ Fresh may → lines_behind spot n ≡ n + 1
+lines_below (Fresh m) n may e = refl
+lines_below (Leading m) n may e = refl
+lines_below (Comment m) n may e = refl
+lines_below Between n may e = refl
+lines_below (Within x w) n may e = refl
+lines_below (HeaderBetween s) n may e = refl
+lines_below (HeaderWithin s x w) n may e = refl
+lines_below Spoilt n may e = refl
+lines_below Over n may e = absurd (cc)
+
+pub takes_LF : (old : Tokenizer) (given : Option CodeToken) (k : ℕ) → (old.place ≡ at.Over → ⊥) → Says given old.place → k ≡ min (old.lines + 1) (2 ^ 64 - 1)
+    → Takes old 10 given (standing (at.Fresh (may_come old.place)) k)
 unfolding Stands
-takes_LF old given k says e before s =
-    let n = s.2 in (
-      left Fresh (n + 1),
-      (0, [], n + 1, tt, held_next old.lines n k s.4 e, λ rest. refl),
-      gives given old.place s.0 s.1 n 10 before (left Fresh (n + 1)) (says s.0 s.1 s.3) (last_left_end Fresh (n + 1) tt)
-          (λ rest. s.5 (10 ∷ rest) ∙ LF_left (spot_of old.place s.0 s.1) n rest (IsSpot_of old.place s.0 s.1 s.3)),
+takes_LF old given k h says e before (spot, n, i, l, f) =
+    let may = may_come old.place in
+    let fresh = fresh_below old.place spot h i in
+    let more = lines_below spot n may fresh in
+    let after = left (Fresh may) (n + 1) in (
+      after,
+      (Fresh may, n + 1, refl, held_next old.lines n k l e, λ rest. refl),
+      gives given (in_hand spot) n 10 before after (says spot i) (last_left_end (Fresh may) (n + 1) tt)
+          (λ rest. f (10 ∷ rest) ∙ LF_left spot n rest (IsSpot_of old.place spot i) ∙ ap (λ (s : Spot). onto (in_hand spot n) (left s (lines_behind spot n) rest)) fresh ∙ ap (λ (m : ℕ). onto (in_hand spot n) (left (Fresh may) m rest)) more),
     )
 
-pub takes_blank : (old : Tokenizer) (b : ℕ) (given : Option CodeToken) → ((x : ℕ) (w : List ℕ) → InHand old.place x w → Says given old.place x w) → nat_eq b 10 ≡ false → is_blank b ≡ true
-    → Takes old b given (standing (after_blank old.place) old.lines)
+-- nothing goes on behind `%`
+pub over_LF : (old : Tokenizer) → old.place ≡ at.Over → Takes old 10 None old
 unfolding Stands
-takes_blank old b given says e f before s =
-    let n = s.2 in
-    let p = old.place in
-    let spot = spot_of p s.0 s.1 in
-    let good = IsSpot_of p s.0 s.1 s.3 in
-    let next = spot_of (after_blank p) 0 [] in
-    let same = spot-after_blank p s.0 s.1 in
-    let last : (left next n []).last ≡ n + 1 = last_left_end next n (IsSpot_of (after_blank p) 0 [] (no_word p)) ∙ ap (λ (t : Spot). line_at t n) same ∙ line-behind_blank spot n in (
+over_LF old e before (spot, n, i, l, f) =
+    let j : spot ≡ Over = rw e at i in
+    (left spot n, (spot, n, i, l, λ rest. refl), λ rest. f (10 ∷ rest) ∙ ap (λ (s : Spot). left s n (10 ∷ rest)) j ∙ over_more n 10 rest ∙ ap (λ (s : Spot). left s n rest) (sym j))
+
+pub takes_blank : (old : Tokenizer) (b : ℕ) (given : Option CodeToken) (place : Place) → SaysAtBlank given old.place → LeadsBehind old.place place → nat_eq b 10 ≡ false → is_blank b ≡ true
+    → Takes old b given (standing place old.lines)
+unfolding Stands
+takes_blank old b given place says leads e f before (spot, n, i, l, h) =
+    let next = behind_blank spot in
+    let good = IsSpot_of old.place spot i in
+    let last : (left next n []).last ≡ n + 1 = last_left_end next n (IsSpot_of place next (leads spot i)) ∙ line-behind_blank spot n in (
       left next n,
-      (0, [], n, no_word p, s.4, λ rest. refl),
-      gives given p s.0 s.1 n b before (left next n) (says s.0 s.1 s.3) last
-          (λ rest. s.5 (b ∷ rest) ∙ blank_left spot n b rest good e f ∙ ap (λ (t : Spot). onto (in_hand spot n) (left t n rest)) (sym same)),
+      (next, n, leads spot i, l, λ rest. refl),
+      gives given (ended_by_blank spot) n b before (left next n) (says spot i) last (λ rest. h (b ∷ rest) ∙ blank_left spot n b rest good e f),
     )
 
-gives_last : (given : Option CodeToken) (p : Place) (x : ℕ) (w : List ℕ) (n : ℕ) (rest : Scan) → Says given p x w → rest ≡ record { tokens = in_hand (spot_of p x w) n; last = line_at (spot_of p x w) n }
-    → GivesLast given rest
-gives_last None p x w n rest s h = ap (λ (r : Scan). r.tokens) h ∙ s n
-gives_last (Some t) p x w n rest s h =
-    let last : rest.last ≡ n + 1 = ap (λ (r : Scan). r.last) h ∙ line-in_hand (spot_of p x w) n (n + 1, s.0) (s.2 n) in
+-- NO WORD IS IN HAND
+-- what is left where the text ends
+left_in_hand : (machine : Tokenizer) (spot : Spot) (n : ℕ) (before : List ℕ → Scan) → IsAt machine.place spot → ((rest : List ℕ) → before rest ≡ left spot n rest)
+    → (before []).tokens ≡ in_hand spot n
+left_in_hand machine spot n before i e = ap (λ (s : Scan). s.tokens) (e [] ∙ end_left spot n (IsSpot_of machine.place spot i))
+
+pub none_fresh : (machine : Tokenizer) (may : Bool) → machine.place ≡ at.Fresh may → (before : List ℕ → Scan) → Stands machine before → (before []).tokens ≡ []
+unfolding Stands
+none_fresh machine may e before (spot, n, i, l, f) =
+    let j : spot ≡ Fresh may = rw e at i in
+    left_in_hand machine spot n before i f ∙ ap (λ (s : Spot). in_hand s n) j
+
+pub none_over : (machine : Tokenizer) → machine.place ≡ at.Over → (before : List ℕ → Scan) → Stands machine before → (before []).tokens ≡ []
+unfolding Stands
+none_over machine e before (spot, n, i, l, f) =
+    let j : spot ≡ Over = rw e at i in
+    left_in_hand machine spot n before i f ∙ ap (λ (s : Spot). in_hand s n) j
+
+abbrev QuietTokens : List (ℕ × Token) → Type 0
+QuietTokens ts = (ts ≡ []) ⊎ ((line : ℕ) × (t : Token) × IsOfHeader t × (ts ≡ (line, t) ∷ []))
+
+of_header : (s : Stage) → IsOfHeader (stage_end s)
+of_header Begun = tt
+of_header Named = tt
+of_header Format = tt
+of_header (Vars v) = tt
+of_header (Both v c) = tt
+
+quiet_at : (p : Place) (spot : Spot) (n : ℕ) → IsQuiet p → IsAt p spot → QuietTokens (in_hand spot n)
+quiet_at (at.Leading may) spot n q e = rw e (inl refl)
+quiet_at (at.Comment may) spot n q e = rw e (inl refl)
+quiet_at at.Between spot n q e = rw e (inl refl)
+quiet_at (at.Header (header.Between ended)) spot n q (s, h, e) = rw e (inr (n + 1, stage_end s, of_header s, refl))
+quiet_at at.Over spot n q e = rw e (inl refl)
+quiet_at (at.Fresh may) spot n q e = absurd q
+quiet_at at.Minus spot n q e = absurd q
+quiet_at (at.Digits negative value) spot n q e = absurd q
+quiet_at (at.Letter b) spot n q e = absurd q
+quiet_at at.Bad spot n q e = absurd q
+quiet_at (at.Header header.P) spot n q e = absurd q
+quiet_at (at.Header header.C) spot n q e = absurd q
+quiet_at (at.Header header.Cn) spot n q e = absurd q
+quiet_at (at.Header header.Cnf) spot n q e = absurd q
+quiet_at (at.Header (header.Vars value)) spot n q e = absurd q
+quiet_at (at.Header (header.Clauses vars value)) spot n q e = absurd q
+quiet_at at.Spoilt spot n q e = absurd q
+
+pub quiet_behind : (machine : Tokenizer) → IsQuiet machine.place → (before : List ℕ → Scan) → Stands machine before → Quiet (before [])
+unfolding Stands
+quiet_behind machine q before (spot, n, i, l, f) = rw (left_in_hand machine spot n before i f) (quiet_at machine.place spot n q i)
+
+gives_last : (given : Option CodeToken) (spot : Spot) (n : ℕ) (rest : Scan) → Given given (in_hand spot) → rest ≡ record { tokens = in_hand spot n; last = line_at spot n } → GivesLast given rest
+gives_last None spot n rest s h = ap (λ (r : Scan). r.tokens) h ∙ s n
+gives_last (Some t) spot n rest s h =
+    let last : rest.last ≡ n + 1 = ap (λ (r : Scan). r.last) h ∙ line-in_hand spot n (n + 1, s.0) (s.2 n) in
     (s.0, s.1, ap (λ (r : Scan). r.tokens) h ∙ s.2 n ∙ ap (λ (k : ℕ). (k, s.0) ∷ []) (sym last))
 
-pub ended : (machine : Tokenizer) (given : Option CodeToken) → ((x : ℕ) (w : List ℕ) → InHand machine.place x w → Says given machine.place x w)
-    → (before : List ℕ → Scan) → Stands machine before → GivesLast given (before [])
+pub ended : (machine : Tokenizer) (given : Option CodeToken) → Says given machine.place → (before : List ℕ → Scan) → Stands machine before → GivesLast given (before [])
 unfolding Stands
-ended machine given says before s =
-    gives_last given machine.place s.0 s.1 s.2 (before []) (says s.0 s.1 s.3) (s.5 [] ∙ end_left (spot_of machine.place s.0 s.1) s.2 (IsSpot_of machine.place s.0 s.1 s.3))
+ended machine given says before (spot, n, i, l, f) = gives_last given spot n (before []) (says spot i) (f [] ∙ end_left spot n (IsSpot_of machine.place spot i))
 
-line_is : (machine : Tokenizer) (before : List ℕ → Scan) (x : ℕ) (w : List ℕ) (n : ℕ) → InHand machine.place x w → ((rest : List ℕ) → before rest ≡ left (spot_of machine.place x w) n rest)
-    → (before []).last ≡ line_at (spot_of machine.place x w) n
-line_is machine before x w n i h = ap (λ (r : Scan). r.last) (h []) ∙ last_left_end (spot_of machine.place x w) n (IsSpot_of machine.place x w i)
+line_is : (machine : Tokenizer) (before : List ℕ → Scan) (spot : Spot) (n : ℕ) → IsAt machine.place spot → ((rest : List ℕ) → before rest ≡ left spot n rest) → (before []).last ≡ line_at spot n
+line_is machine before spot n i h = ap (λ (r : Scan). r.last) (h []) ∙ last_left_end spot n (IsSpot_of machine.place spot i)
 
-pub line_fresh : (machine : Tokenizer) → machine.place ≡ at.Fresh → (before : List ℕ → Scan) → Stands machine before → machine.lines ≡ held (before []).last
+pub line_fresh : (machine : Tokenizer) (may : Bool) → machine.place ≡ at.Fresh may → (before : List ℕ → Scan) → Stands machine before → machine.lines ≡ held (before []).last
 unfolding Stands
-line_fresh machine e before s = s.4 ∙ ap held (sym (line_is machine before s.0 s.1 s.2 s.3 s.5 ∙ line-Fresh machine.place s.0 s.1 s.2 e))
+line_fresh machine may e before (spot, n, i, l, f) = l ∙ ap held (sym (line_is machine before spot n i f ∙ line-Fresh machine.place may spot n e i))
 
-pub line_other : (machine : Tokenizer) (k : ℕ) → (machine.place ≡ at.Fresh → ⊥) → k ≡ min (machine.lines + 1) (2 ^ 64 - 1) → (before : List ℕ → Scan) → Stands machine before → k ≡ held (before []).last
+pub line_other : (machine : Tokenizer) (k : ℕ) → ((may : Bool) → machine.place ≡ at.Fresh may → ⊥) → k ≡ min (machine.lines + 1) (2 ^ 64 - 1) → (before : List ℕ → Scan) → Stands machine before → k ≡ held (before []).last
 unfolding Stands
-line_other machine k o e before s = held_next machine.lines s.2 k s.4 e ∙ ap held (sym (line_is machine before s.0 s.1 s.2 s.3 s.5 ∙ line-other machine.place s.0 s.1 s.2 o))
+line_other machine k o e before (spot, n, i, l, f) = held_next machine.lines n k l e ∙ ap held (sym (line_is machine before spot n i f ∙ line-other machine.place spot n o i))

@@ -2,14 +2,14 @@
 use Rattle.std.proofs.Common.{◌≡◌, ℕ, ◌+◌, ◌*◌, ◌-◌, ◌<◌, List, [], ◌∷◌, ◌++◌, Bool, true, false, cond, eqb, Option, Some, None, refl, sym, ap, subst, ◌∙◌, append_assoc, arith}
 use Rattle.std.proofs.lemmas.List.{append-nil}
 use Rattle.std.proofs.lemmas.Bool.Decides.{nat_tests}
-use Rattle.sat_base.specs.Text.{is_blank, is_digit, is_letter, digits, plain, minus, behind_minus, alone, token, Token, Number, Letter, Wrong}
+use Rattle.sat_base.specs.Text.{is_digit, is_letter, digits, plain, minus, behind_minus, alone, token, Number, Letter, Wrong}
 use Rattle.sat_base.specs.Tokenizing.{SpellsHeld, BeginsWrong, grown}
 
 digits_cons : (n d : ℕ) (ds : List ℕ) → is_digit d ≡ true → digits n (d ∷ ds) ≡ digits (10 * n + (d - 48)) ds
 unfolding digits
 digits_cons n d ds e = rw e refl
 
-digits_stop : (n d : ℕ) (ds : List ℕ) → is_digit d ≡ false → digits n (d ∷ ds) ≡ None
+pub digits_stop : (n d : ℕ) (ds : List ℕ) → is_digit d ≡ false → digits n (d ∷ ds) ≡ None
 unfolding digits
 digits_stop n d ds e = rw e refl
 
@@ -40,6 +40,9 @@ digits_wrong n m d [] more h e = digits_stop n d more e
 digits_wrong n m d (x ∷ ds) more h e =
     let f = front_digit n m x ds h in
     digits_cons n x (ds ++ d ∷ more) f ∙ digits_wrong (10 * n + (x - 48)) m d ds more (sym (digits_cons n x ds f) ∙ h) e
+
+pub digits_wrong_in : (m d : ℕ) (ds more : List ℕ) → digits 0 ds ≡ Some m → is_digit d ≡ false → digits 0 ((ds ++ d ∷ []) ++ more) ≡ None
+digits_wrong_in m d ds more h e = ap (digits 0) (append_assoc ds (d ∷ []) more) ∙ digits_wrong 0 m d ds more h e
 
 -- a digit alone
 pub SpellsHeld_one : (d : ℕ) → is_digit d ≡ true → d < 256 → SpellsHeld (d ∷ []) (d - 48)

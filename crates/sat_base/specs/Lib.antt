@@ -22,3 +22,5 @@ pub mod Writing
 pub mod Kinds
 pub mod Reading
 pub mod StepReading
+pub mod Dimacs
+pub mod Formulas

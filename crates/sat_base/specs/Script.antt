@@ -1,6 +1,6 @@
 -- The commands of a script, and the texts that spell them. Numbers are of any size.
-use Rattle.std.specs.Prelude.{ℕ, ◌+◌, ◌*◌, ◌<◌, ◌≡◌, ◌⊎◌, Bool, not, List, [], ◌∷◌, ◌++◌, map, nat_eq, if◌then◌else◌}
-use Rattle.sat_base.specs.Text.{Token, Number, Letter, Wrong, tokens}
+use Rattle.std.specs.Prelude.{ℕ, ◌+◌, ◌*◌, ◌<◌, ◌≡◌, ◌⊎◌, Bool, true, false, not, ◌&&◌, List, [], ◌∷◌, ◌++◌, map, nat_eq, is_some, if◌then◌else◌}
+use Rattle.sat_base.specs.Text.{Token, Number, Letter, Header, Wrong, tokens, header_of}
 
 -- a name, counted from 1, and a sign
 pub record Literal : Type 0 where
@@ -69,6 +69,7 @@ abbrev pub turn : Hand → Token → Turn
 turn hand (Number negative value) =
     if nat_eq value 0 then Ends (command_in hand) else with_literal hand (record { name = value; positive = not negative })
 turn hand (Letter b) = with_letter hand b
+turn hand (Header v c) = GoesOn hand
 turn hand Wrong = Fails
 
 -- the commands of a text, and its end
@@ -98,9 +99,26 @@ commands_of hand (t ∷ ts) = behind_turn (turn hand t) (λ h. commands_of h ts)
 abbrev pub spoken : List (ℕ × Token) → List Token
 spoken ts = map (λ t. t.1) ts
 
--- what a text means
+abbrev pub has_ask : List Command → Bool
+has_ask [] = false
+has_ask (Ask ls ∷ commands) = true
+has_ask (command ∷ commands) = has_ask commands
+
+abbrev pub is_clean : Ending → Bool
+is_clean Clean = true
+is_clean Malformed = false
+
+-- the commands that stand in a text, which are counted, and its end
+unfoldable pub written : List ℕ → Reading
+written text = commands_of Nothing (spoken (tokens text))
+
+-- a text with a header, a clean end and no ask, refused or not, is asked once at its end
+abbrev pub is_asked_at_end : List ℕ → Bool
+is_asked_at_end text = is_some (header_of text) && (is_clean (written text).1 && not (has_ask (written text).0))
+
+-- what a text means: its commands, and where it is asked at its end, an ask under no literals
 unfoldable pub reading : List ℕ → Reading
-reading text = commands_of Nothing (spoken (tokens text))
+reading text = if is_asked_at_end text then ((written text).0 ++ Ask [] ∷ [], Clean) else written text
 
 -- the text has these commands, and ends so
 abbrev pub IsScript : List ℕ → List Command → Ending → Type 0

@@ -1,8 +1,8 @@
 -- How the commands of a script are spelled, which says again what a text means.
-use Rattle.std.specs.Prelude.{◌≡◌, ℕ, ◌<◌, ◌↔◌, List, [], ◌∷◌, ◌++◌, map, not}
+use Rattle.std.specs.Prelude.{◌≡◌, ℕ, ◌<◌, ◌↔◌, ◌⊎◌, List, [], ◌∷◌, ◌++◌, map, not, if◌then◌else◌}
 use Rattle.std.specs.List.{AllByRecursion}
-use Rattle.sat_base.specs.Text.{Token, Number, Letter, Wrong, tokens}
-use Rattle.sat_base.specs.Script.{Literal, Command, Clause, Ask, Hide, Witness, Sample, Ending, Clean, IsScript, spoken}
+use Rattle.sat_base.specs.Text.{Token, Number, Letter, Header, Wrong, tokens}
+use Rattle.sat_base.specs.Script.{Literal, Command, Clause, Ask, Hide, Witness, Sample, Ending, Clean, has_ask, IsScript, spoken}
 
 -- the number of a literal, negative if the literal is
 abbrev pub number_of : Literal → Token
@@ -16,6 +16,7 @@ AreNamed ls = AllByRecursion (λ l. 0 < l.name) ls
 abbrev pub IsZero : Token → Type 0
 IsZero (Number negative value) = value ≡ 0
 IsZero (Letter b) = ⊥
+IsZero (Header v c) = ⊥
 IsZero Wrong = ⊥
 
 -- a clause is its literals and a zero, and an ask is `a` and a zero
@@ -32,10 +33,20 @@ abbrev pub SpellsCommands : List Command → List Token → Type 0
 SpellsCommands [] ts = ts ≡ []
 SpellsCommands (c ∷ cs) ts = (front : List Token) × (rest : List Token) × SpellsCommand c front × SpellsCommands cs rest × (ts ≡ front ++ rest)
 
+-- one ask more, under no literals, where there is none
+abbrev pub asked : List Command → List Command
+asked cs = if has_ask cs then cs else cs ++ Ask [] ∷ []
+
+-- A script is commands. A header may stand before them, and is asked then where they don't ask.
+abbrev pub SpellsScript : List Command → List Token → Type 0
+SpellsScript cs ts = SpellsCommands cs ts
+    ⊎ ((vars : ℕ) × (clauses : ℕ) × (rest : List Token) × (spelled : List Command)
+    × (ts ≡ Header vars clauses ∷ rest) × SpellsCommands spelled rest × (cs ≡ asked spelled))
+
 -- each text has one list of commands, and one end
 abbrev pub OneReading : Type 0
 OneReading = (text : List ℕ) (cs ds : List Command) (d e : Ending) → IsScript text cs d → IsScript text ds e → (cs ≡ ds) × (d ≡ e)
 
--- a text reads cleanly as these commands exactly if its tokens spell them
+-- a text reads cleanly as these commands exactly if its tokens spell a script of them
 abbrev pub CleanIfSpelled : Type 0
-CleanIfSpelled = (text : List ℕ) (cs : List Command) → IsScript text cs Clean ↔ SpellsCommands cs (spoken (tokens text))
+CleanIfSpelled = (text : List ℕ) (cs : List Command) → IsScript text cs Clean ↔ SpellsScript cs (spoken (tokens text))

@@ -1,5 +1,5 @@
--- What a text says: its lines, the words of those that are no comments, and what each word says.
-use Rattle.std.specs.Prelude.{ℕ, ◌+◌, ◌*◌, ◌-◌, List, [], ◌∷◌, ◌++◌, Bool, true, false, not, if◌then◌else◌, ◌||◌, ◌&&◌, nat_eq, nat_lt, Option, Some, None, map}
+-- What a text says: its lines, and what the words of those that are no comments say.
+use Rattle.std.specs.Prelude.{ℕ, ◌+◌, ◌*◌, ◌-◌, List, [], ◌∷◌, ◌++◌, Bool, true, false, not, if◌then◌else◌, ◌||◌, ◌&&◌, nat_eq, nat_lt, Option, Some, None, map, codes}
 
 -- space, tab, CR and LF
 abbrev pub is_blank : ℕ → Bool
@@ -38,29 +38,12 @@ unfoldable pub begins_with : ℕ → List ℕ → Bool
 begins_with c [] = false
 begins_with c (b ∷ bs) = if is_blank b then begins_with c bs else nat_eq b c
 
--- a word, behind the number of its line
-abbrev pub Word : Type 0
-Word = ℕ × List ℕ
-
-abbrev pub on_line : ℕ → List (List ℕ) → List Word
-on_line n ws = map (λ w. (n, w)) ws
-
--- the words of lines that n others precede; a line that begins with `c` is a comment and has none
-unfoldable pub words_of : ℕ → List (List ℕ) → List Word
-words_of n [] = []
-words_of n (line ∷ lines) =
-    if begins_with 99 line then words_of (n + 1) lines else on_line (n + 1) (words line) ++ words_of (n + 1) lines
-
--- the number of the last of lines that n others precede, which is that of the last byte; 0 for no line at all
-unfoldable pub last_line : ℕ → List (List ℕ) → ℕ
-last_line n [] = n
-last_line n (line ∷ lines) = last_line (n + 1) lines
-
--- what a word says
+-- what a word says, or a header line
 pub data Token : Type 0 where
   Number : Bool → ℕ → Token  -- whether it is negative, and its value, of any size
   Letter : ℕ → Token  -- a word of one ASCII letter
-  Wrong : Token  -- every other word
+  Header : ℕ → ℕ → Token  -- a line `p cnf V C`, with its two numbers, of any size
+  Wrong : Token  -- every other word, and every other line that begins with `p`
 
 -- the number that digits spell, behind those that spell n
 unfoldable pub digits : ℕ → List ℕ → Option ℕ
@@ -92,8 +75,51 @@ unfoldable pub token : List ℕ → Token
 token [] = Wrong
 token (b ∷ bs) = if nat_eq b 45 then behind_minus bs else (if is_letter b then alone b bs else plain (digits 0 (b ∷ bs)))
 
-abbrev pub tokens_of : List Word → List (ℕ × Token)
-tokens_of ws = map (λ w. (w.0, token w.1)) ws
+-- the same bytes
+abbrev pub same_bytes : List ℕ → List ℕ → Bool
+same_bytes [] [] = true
+same_bytes [] (c ∷ cs) = false
+same_bytes (b ∷ bs) [] = false
+same_bytes (b ∷ bs) (c ∷ cs) = nat_eq b c && same_bytes bs cs
+
+-- a header has two numbers
+abbrev pub with_numbers : Option ℕ → Option ℕ → Token
+with_numbers None clauses = Wrong
+with_numbers (Some v) None = Wrong
+with_numbers (Some v) (Some c) = Header v c
+
+-- what the words of a line that begins with `p` say: they are `p`, `cnf` and two words of digits, and nothing more
+abbrev pub header_in : List (List ℕ) → Token
+header_in (p ∷ cnf ∷ v ∷ c ∷ []) = if same_bytes p (codes "p") && same_bytes cnf (codes "cnf") then with_numbers (digits 0 v) (digits 0 c) else Wrong
+header_in ws = Wrong
+
+-- such a line where a header may stand, or not
+abbrev pub header_if : Bool → List ℕ → Token
+header_if may line = if may then header_in (words line) else Wrong
+
+-- what a word of a line says, behind the number of the line
+abbrev pub on_line : ℕ → List (List ℕ) → List (ℕ × Token)
+on_line n ws = map (λ w. (n, token w)) ws
+
+-- there is none
+abbrev pub is_none : List (List ℕ) → Bool
+is_none [] = true
+is_none (w ∷ ws) = false
+
+-- The tokens of lines that n others precede. A line that begins with `%` ends the text, one that begins with `c` is a comment, and
+-- one that begins with `p` is a header, which may stand once, before the first word of other lines.
+unfoldable pub tokens_of : Bool → ℕ → List (List ℕ) → List (ℕ × Token)
+tokens_of may n [] = []
+tokens_of may n (line ∷ lines) =
+    if begins_with 37 line then []
+    else (if begins_with 99 line then tokens_of may (n + 1) lines
+    else (if begins_with 112 line then (n + 1, header_if may line) ∷ tokens_of false (n + 1) lines
+    else on_line (n + 1) (words line) ++ tokens_of (may && is_none (words line)) (n + 1) lines))
+
+-- the number of the last of lines that n others precede, which is that of the last byte or of the line that begins with `%`; 0 for no line at all
+unfoldable pub last_line : ℕ → List (List ℕ) → ℕ
+last_line n [] = n
+last_line n (line ∷ lines) = if begins_with 37 line then n + 1 else last_line (n + 1) lines
 
 -- the tokens of a text, and the number of its last line
 pub record Scan : Type 0 where
@@ -101,8 +127,23 @@ pub record Scan : Type 0 where
   pub last : ℕ
 
 unfoldable pub scan : List ℕ → Scan
-scan text = record { tokens = tokens_of (words_of 0 (lines text)); last = last_line 0 (lines text) }
+scan text = record { tokens = tokens_of true 0 (lines text); last = last_line 0 (lines text) }
 
 -- the tokens of a text, in order, each behind the number of its line, from 1
 abbrev pub tokens : List ℕ → List (ℕ × Token)
 tokens text = (scan text).tokens
+
+-- the numbers of a header
+abbrev pub header_from : Token → Option (ℕ × ℕ)
+header_from (Header v c) = Some (v, c)
+header_from (Number negative value) = None
+header_from (Letter b) = None
+header_from Wrong = None
+
+-- the numbers of the header, which stands first where there is one
+abbrev pub header_first : List (ℕ × Token) → Option (ℕ × ℕ)
+header_first [] = None
+header_first (t ∷ ts) = header_from t.1
+
+abbrev pub header_of : List ℕ → Option (ℕ × ℕ)
+header_of text = header_first (scan text).tokens

@@ -1,27 +1,34 @@
 //! The words of a text, from its bytes. Formulas and scripts are both made of them.
-ghost use Rattle.std.specs.Prelude.{◌≡◌, ◌+◌, ◌*◌, ◌-◌, ◌<◌, ℕ, List, [], ◌∷◌, true, false};
+ghost use Rattle.std.specs.Prelude.{◌≡◌, ◌+◌, ◌*◌, ◌-◌, ◌<◌, ℕ, List, [], ◌∷◌, true, false, None, Some};
 ghost use Rattle.sat_base.specs.Text.{is_blank, is_digit, is_letter, Scan, scan};
-ghost use Rattle.sat_base.specs.Tokenizing.{grown, held, after_blank, Began, Moves, InHand, Says, Stands, Takes, GivesLast};
+ghost use Rattle.sat_base.specs.Tokenizing.{grown, held, may_come, Began, Moves, Says, SaysAtBlank, LeadsBehind, IsQuiet, Stands, Takes, Quiet, GivesLast};
 
-/// What a word says.
+mod header;
+
+use header::{HeaderPlace, Stage, ended_in, next_in_header};
+
+/// What a word says, or a header line.
 #[derive(Clone, Copy, Debug, Drop, PartialEq, Eq)]
 pub enum Token {
     /// An optional `-` and digits. The value is held at 2^64-1. A number of value 0 is not negative.
     Number { negative: bool, value: u64 },
     /// A word of one ASCII letter.
     Letter(u8),
-    /// Every other word, as `-0`, `+1` and `x1`.
+    /// A line `p cnf VARS CLAUSES`, where one may stand. Both numbers are held at 2^64-1, and compared with nothing.
+    Header { vars: u64, clauses: u64 },
+    /// Every other word, as `-0`, `+1` and `x1`, and every other line that begins with `p`.
     Wrong,
 }
 
-/// Where a tokenizer is in the text.
+/// Where a tokenizer is in the text. A flag says whether a header may still come; where there is none, none may.
 #[derive(Clone, Copy, Debug, Drop)]
 enum Place {
     /// At the start of a line.
-    Fresh,
+    Fresh(bool),
     /// Behind blanks at the start of a line.
-    Leading,
-    Comment,
+    Leading(bool),
+    /// In a comment, or behind the wrong word of a header line.
+    Comment(bool),
     Between,
     /// Behind a minus sign.
     Minus,
@@ -31,12 +38,19 @@ enum Place {
     Letter(u8),
     /// In a word that is wrong.
     Bad,
+    /// In a header line.
+    Header(HeaderPlace),
+    /// In a word of a header line that may not stand there.
+    Spoilt,
+    /// Behind the `%` that ends the text.
+    Over,
 }
 
 /// Takes the bytes of a text one by one, and gives its tokens. It holds no bytes.
 ///
 /// Blanks are space, tab, CR and LF, and a word is a longest run of other bytes. A line ends at LF. A line whose first byte
-/// that is no blank is `c` is a comment.
+/// that is no blank is `c` is a comment, one whose first is `%` ends the text, and one whose first is `p` is a header line, which
+/// gives one token. A header may stand once, before the first word of other lines.
 #[derive(Debug, Drop)]
 pub struct Tokenizer {
     place: Place,
@@ -89,54 +103,95 @@ fn word_begun(byte: u8) -> Place
     }
 }
 
+/// The place behind the first byte of a line that is no blank.
+fn line_begun(may: bool, byte: u8) -> Place
+    requires { is_blank byte ≡ false }
+    ensures { Moves (Place.Leading may) byte result }
+{
+    if byte == b'c' {
+        return Place::Comment(may);
+    }
+    if byte == b'%' {
+        return Place::Over;
+    }
+    if byte != b'p' {
+        return word_begun(byte);
+    }
+    if may {
+        Place::Header(HeaderPlace::P)
+    } else {
+        Place::Spoilt
+    }
+}
+
+/// The place behind digits and this byte.
+fn number_goes_on(negative: bool, value: u64, byte: u8) -> Place
+    requires { is_blank byte ≡ false }
+    ensures { Moves (Place.Digits negative value) byte result }
+{
+    if is_digit(byte) {
+        Place::Digits {
+            negative,
+            value: grown(value, byte),
+        }
+    } else {
+        Place::Bad
+    }
+}
+
+/// The place behind a minus sign and this byte.
+fn number_begun(byte: u8) -> Place
+    requires { is_blank byte ≡ false }
+    ensures { Moves Place.Minus byte result }
+{
+    if is_digit(byte) {
+        Place::Digits {
+            negative: true,
+            value: (byte - 48) as u64,
+        }
+    } else {
+        Place::Bad
+    }
+}
+
 /// The place behind a byte that is no blank.
 fn next(place: Place, byte: u8) -> Place
     requires { is_blank byte ≡ false }
     ensures { Moves place byte result }
 {
     match place {
-        Place::Fresh | Place::Leading => {
-            if byte == b'c' {
-                Place::Comment
-            } else {
-                word_begun(byte)
-            }
-        }
+        Place::Digits { negative, value } => number_goes_on(negative, value, byte),
         Place::Between => word_begun(byte),
-        Place::Minus => {
-            if is_digit(byte) {
-                Place::Digits {
-                    negative: true,
-                    value: (byte - 48) as u64,
-                }
-            } else {
-                Place::Bad
-            }
-        }
-        Place::Digits { negative, value } => {
-            if is_digit(byte) {
-                Place::Digits {
-                    negative,
-                    value: grown(value, byte),
-                }
-            } else {
-                Place::Bad
-            }
-        }
-        Place::Comment => Place::Comment,
+        Place::Minus => number_begun(byte),
+        Place::Fresh(may) => line_begun(may, byte),
+        Place::Leading(may) => line_begun(may, byte),
+        Place::Comment(may) => Place::Comment(may),
         Place::Letter(_) => Place::Bad,
         Place::Bad => Place::Bad,
+        Place::Header(header) => match next_in_header(header, byte) {
+            Some(header) => Place::Header(header),
+            None => Place::Spoilt,
+        },
+        Place::Spoilt => Place::Spoilt,
+        Place::Over => Place::Over,
     }
 }
 
-/// What the word in hand says, if there is one.
+/// What a header line says that ends here.
+fn header_token(place: HeaderPlace) -> Token
+    ensures { Says (Some result) (Place.Header place) }
+{
+    match ended_in(place) {
+        Some(Stage::Both { vars, clauses }) => Token::Header { vars, clauses },
+        _ => Token::Wrong,
+    }
+}
+
+/// What the word or the header line in hand says where the line ends, if there is one.
 fn token_in(place: Place) -> Option<Token>
-    ensures { (x : ℕ) (w : List ℕ) → InHand place x w → Says result place x w }
+    ensures { Says result place }
 {
     match place {
-        Place::Minus => Some(Token::Wrong),
-        Place::Bad => Some(Token::Wrong),
-        Place::Letter(byte) => Some(Token::Letter(byte)),
         Place::Digits { negative, value } => {
             if negative && value == 0 {
                 Some(Token::Wrong)
@@ -144,26 +199,64 @@ fn token_in(place: Place) -> Option<Token>
                 Some(Token::Number { negative, value })
             }
         }
-        Place::Fresh => None,
-        Place::Leading => None,
-        Place::Comment => None,
+        Place::Minus => Some(Token::Wrong),
+        Place::Bad => Some(Token::Wrong),
+        Place::Spoilt => Some(Token::Wrong),
+        Place::Letter(byte) => Some(Token::Letter(byte)),
+        Place::Header(header) => Some(header_token(header)),
+        Place::Fresh(_) => None,
+        Place::Leading(_) => None,
+        Place::Comment(_) => None,
         Place::Between => None,
+        Place::Over => None,
+    }
+}
+
+/// What a blank ends that ends no line, if it ends something.
+fn token_at_blank(place: Place) -> Option<Token>
+    ensures { SaysAtBlank result place }
+{
+    match place {
+        Place::Header(header) => match ended_in(header) {
+            Some(_) => None,
+            None => Some(Token::Wrong),
+        },
+        _ => token_in(place),
     }
 }
 
 /// The place behind a blank that ends no line.
 fn after_blank(place: Place) -> Place
-    ensures { result ≡ after_blank place }
+    ensures leads { LeadsBehind place result }
+    ensures quiet { IsQuiet result }
 {
     match place {
-        Place::Fresh => Place::Leading,
-        Place::Leading => Place::Leading,
-        Place::Comment => Place::Comment,
-        Place::Minus => Place::Between,
         Place::Digits { .. } => Place::Between,
+        Place::Between => Place::Between,
+        Place::Minus => Place::Between,
         Place::Letter(_) => Place::Between,
         Place::Bad => Place::Between,
-        Place::Between => Place::Between,
+        Place::Fresh(may) => Place::Leading(may),
+        Place::Leading(may) => Place::Leading(may),
+        Place::Comment(may) => Place::Comment(may),
+        Place::Header(header) => match ended_in(header) {
+            Some(ended) => Place::Header(HeaderPlace::Between(ended)),
+            None => Place::Comment(false),
+        },
+        Place::Spoilt => Place::Comment(false),
+        Place::Over => Place::Over,
+    }
+}
+
+/// Whether a header may come on the lines below.
+fn may_come(place: Place) -> bool
+    ensures { result ≡ may_come place }
+{
+    match place {
+        Place::Fresh(may) => may,
+        Place::Leading(may) => may,
+        Place::Comment(may) => may,
+        _ => false,
     }
 }
 
@@ -173,25 +266,43 @@ impl Tokenizer {
         ensures { Stands result scan }
     {
         Tokenizer {
-            place: Place::Fresh,
+            place: Place::Fresh(true),
             lines: 0,
         }
     }
 
-    /// Takes the next byte, and gives the token that it ended, if it ended one.
+    /// LF.
+    fn end_line(&mut self) -> Option<Token>
+        ensures takes { Takes self.old 10 result self.new }
+        ensures ended { (after : List ℕ → Scan) → Stands self.new after → (after []).tokens ≡ [] }
+    {
+        if let Place::Over = self.place {
+            return None;
+        }
+        let token = token_in(self.place);
+        self.place = Place::Fresh(may_come(self.place));
+        self.lines = self.lines.saturating_add(1);
+        token
+    }
+
+    /// Takes the next byte, and gives the token that it ended, if it ended one. A header is ended by its LF, a wrong word in a
+    /// header line by the blank behind it. Behind the `%` that ends the text no byte gives a token.
     pub fn push(&mut self, byte: u8) -> Option<Token>
-        ensures { Takes self.old byte result self.new }
+        ensures takes { Takes self.old byte result self.new }
+        // Only a blank ends a word,
+        ensures inside { is_blank byte ≡ false → result ≡ None }
+        // and behind it none is in hand, nor a header line behind LF.
+        ensures quiet { is_blank byte ≡ true → (after : List ℕ → Scan) → Stands self.new after → Quiet (after []) }
+        ensures ended { byte ≡ 10 → (after : List ℕ → Scan) → Stands self.new after → (after []).tokens ≡ [] }
     {
         if !is_blank(byte) {
             self.place = next(self.place, byte);
             return None;
         }
-        let token = token_in(self.place);
         if byte == b'\n' {
-            self.place = Place::Fresh;
-            self.lines = self.lines.saturating_add(1);
-            return token;
+            return self.end_line();
         }
+        let token = token_at_blank(self.place);
         self.place = after_blank(self.place);
         token
     }
@@ -203,13 +314,13 @@ impl Tokenizer {
         token_in(self.place)
     }
 
-    /// The line of the last byte, from 1, held at 2^64-1; 0 before the first byte. It is the line of the token that this byte
-    /// ended, and where the text ends here, of the one in hand.
+    /// The line of the last byte, from 1, held at 2^64-1; 0 before the first byte. Where a `%` has ended the text it is the line of
+    /// that. It is the line of the token that this byte ended, and where the text ends here, of the one in hand.
     pub fn line(&self) -> u64
         ensures { (before : List ℕ → Scan) → Stands self.now before → result ≡ held (before []).last }
     {
         match self.place {
-            Place::Fresh => self.lines,
+            Place::Fresh(_) => self.lines,
             _ => self.lines.saturating_add(1),
         }
     }

@@ -1,0 +1,15 @@
+use Rattle.std.proofs.Common.{refl}
+use Rattle.sat_base.proofs.TextRuns.{takes_LF, over_LF, none_fresh, none_over}
+use Rattle.sat_base.proofs.text.Tokenizer.end_line.Goals as goal
+
+pub returns-in-Over-clause-takes : goal.returns-in-Over-clause-takes
+returns-in-Over-clause-takes c = over_LF c.args.self.now c.in-Over.is
+
+pub returns-in-Over-clause-ended : goal.returns-in-Over-clause-ended
+returns-in-Over-clause-ended c = none_over c.args.self.now c.in-Over.is
+
+pub returns : goal.returns
+returns c = rw c.may_come.ensures (record {
+  takes = takes_LF c.args.self.now c.token_in-token.result c.saturating_add-self.result c.in_default.not-Over c.token_in-token.ensures c.saturating_add-self.ensures;
+  ended = none_fresh _ _ refl;
+})

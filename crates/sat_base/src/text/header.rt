@@ -1,0 +1,134 @@
+//! The places in a header line, `p cnf` and two numbers.
+ghost use Rattle.std.specs.Prelude.{◌≡◌, false};
+ghost use Rattle.sat_base.specs.Text.{is_blank};
+ghost use Rattle.sat_base.specs.Spot.{Spot};
+ghost use Rattle.sat_base.specs.Tokenizing.{BeganHeader, MovesHeader, IsAtHeader, IsStageIf, ended_stage};
+
+use super::{grown, is_digit};
+
+/// The words of the line that have ended. Numbers are held at 2^64-1.
+#[derive(Clone, Copy, Debug, Drop)]
+pub(crate) enum Stage {
+    /// `p`.
+    Named,
+    /// `p cnf`.
+    Format,
+    /// `p cnf` and the number of variables.
+    Vars(u64),
+    /// `p cnf` and both numbers.
+    Both { vars: u64, clauses: u64 },
+}
+
+/// Where a tokenizer is in the line. Numbers are held at 2^64-1.
+#[derive(Clone, Copy, Debug, Drop)]
+pub(crate) enum HeaderPlace {
+    /// Behind the blanks that ended these words.
+    Between(Stage),
+    /// Behind `p`.
+    P,
+    /// Behind the `c` of `cnf`.
+    C,
+    /// Behind the `cn` of `cnf`.
+    Cn,
+    /// Behind `cnf`.
+    Cnf,
+    /// In the number of variables.
+    Vars(u64),
+    /// In the number of clauses.
+    Clauses { vars: u64, value: u64 },
+}
+
+/// The place in a word that begins with this byte, behind these words, if it may stand there.
+fn begun(ended: Stage, byte: u8) -> Option<HeaderPlace>
+    requires { is_blank byte ≡ false }
+    ensures { BeganHeader ended byte result }
+{
+    match ended {
+        Stage::Named => {
+            if byte == b'c' {
+                Some(HeaderPlace::C)
+            } else {
+                None
+            }
+        }
+        Stage::Format => {
+            if is_digit(byte) {
+                Some(HeaderPlace::Vars((byte - 48) as u64))
+            } else {
+                None
+            }
+        }
+        Stage::Vars(vars) => {
+            if is_digit(byte) {
+                Some(HeaderPlace::Clauses {
+                    vars,
+                    value: (byte - 48) as u64,
+                })
+            } else {
+                None
+            }
+        }
+        Stage::Both { .. } => None,
+    }
+}
+
+/// The place behind a byte that is no blank, if the word in hand may then stand there.
+pub(crate) fn next_in_header(place: HeaderPlace, byte: u8) -> Option<HeaderPlace>
+    requires { is_blank byte ≡ false }
+    ensures { MovesHeader place byte result }
+{
+    match place {
+        HeaderPlace::Between(ended) => begun(ended, byte),
+        HeaderPlace::C => {
+            if byte == b'n' {
+                Some(HeaderPlace::Cn)
+            } else {
+                None
+            }
+        }
+        HeaderPlace::Cn => {
+            if byte == b'f' {
+                Some(HeaderPlace::Cnf)
+            } else {
+                None
+            }
+        }
+        HeaderPlace::Vars(value) => {
+            if is_digit(byte) {
+                Some(HeaderPlace::Vars(grown(value, byte)))
+            } else {
+                None
+            }
+        }
+        HeaderPlace::Clauses { vars, value } => {
+            if is_digit(byte) {
+                Some(HeaderPlace::Clauses {
+                    vars,
+                    value: grown(value, byte),
+                })
+            } else {
+                None
+            }
+        }
+        HeaderPlace::P => None,
+        HeaderPlace::Cnf => None,
+    }
+}
+
+/// The words that have ended where the one in hand does, if it may then stand there.
+pub(crate) fn ended_in(place: HeaderPlace) -> Option<Stage>
+    ensures { (spot : Spot) → IsAtHeader place spot → IsStageIf result (ended_stage spot) }
+{
+    match place {
+        HeaderPlace::Between(ended) => Some(ended),
+        HeaderPlace::P => Some(Stage::Named),
+        HeaderPlace::C => None,
+        HeaderPlace::Cn => None,
+        HeaderPlace::Cnf => Some(Stage::Format),
+        HeaderPlace::Vars(value) => Some(Stage::Vars(value)),
+        HeaderPlace::Clauses { vars, value } => Some(Stage::Both {
+            vars,
+            clauses: value,
+        }),
+    }
+}
