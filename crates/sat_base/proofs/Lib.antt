@@ -18,3 +18,7 @@ pub mod Writes
 pub mod FormatReads
 pub mod ReadLemmas
 pub mod StepReads
+pub mod Collected
+pub mod PlainTokens
+pub mod Feeding
+pub mod Parsed

@@ -23,4 +23,6 @@ pub mod Kinds
 pub mod Reading
 pub mod StepReading
 pub mod Dimacs
-pub mod Formulas
+pub mod Parsing
+pub mod Collecting
+pub mod Standing

@@ -4,6 +4,7 @@
 mod ahead;
 pub mod counted;
 pub mod device;
+pub mod dimacs;
 pub mod error;
 pub mod extend;
 pub mod formula;
@@ -29,6 +30,8 @@ pub mod whole;
 
 pub use counted::Counted;
 pub use device::{CountedRead, CountedWrite};
+pub use dimacs::DimacsParser;
+pub use dimacs::error::{DimacsError, IncrementalError};
 pub use error::StepError;
 pub use extend::ExtendFormula;
 pub use formula::CnfFormula;
