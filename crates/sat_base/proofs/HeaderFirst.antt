@@ -38,7 +38,7 @@ alone_word : (b : ℕ) (bs : List ℕ) → IsWord (alone b bs)
 alone_word b [] = tt
 alone_word b (c ∷ bs) = tt
 
-word_token : (w : List ℕ) → IsWord (token w)
+pub word_token : (w : List ℕ) → IsWord (token w)
 unfolding token
 word_token [] = tt
 word_token (b ∷ bs) = either (nat_eq b 45) _ _ (behind_minus_word bs) (either (is_letter b) _ _ (alone_word b bs) (plain_word (digits 0 (b ∷ bs))))

@@ -21,3 +21,7 @@ pub mod FormatReads
 pub mod ReadLemmas
 pub mod TagForms
 pub mod StepReads
+pub mod Collected
+pub mod PlainTokens
+pub mod Feeding
+pub mod Parsed

@@ -25,3 +25,6 @@ pub mod Reading
 pub mod StepReading
 pub mod Dimacs
 pub mod WrittenDimacs
+pub mod Parsing
+pub mod Collecting
+pub mod Standing

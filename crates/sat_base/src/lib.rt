@@ -4,6 +4,7 @@
 mod ahead;
 pub mod counted;
 pub mod device;
+pub mod dimacs;
 pub mod dimacs_writer;
 pub mod error;
 pub mod extend;
@@ -32,6 +33,8 @@ pub mod whole;
 
 pub use counted::Counted;
 pub use device::{CountedRead, CountedWrite};
+pub use dimacs::DimacsParser;
+pub use dimacs::error::{DimacsError, IncrementalError};
 pub use dimacs_writer::write_dimacs;
 pub use error::StepError;
 pub use extend::ExtendFormula;

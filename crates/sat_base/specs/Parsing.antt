@@ -1,0 +1,121 @@
+-- What a parser of formulas' texts makes of the bytes that it is fed.
+use Rattle.std.specs.Prelude.{◌≡◌, ℕ, length, nat_eq, List, [], ◌∷◌, ◌++◌, Bool, true, false, ◌||◌, Option, None, Some, Result, Ok, Err, if◌then◌else◌}
+use Rattle.sat_base.specs.Text.{Token, tokens, header_of}
+use Rattle.sat_base.specs.Tokenizing.{held}
+use Rattle.sat_base.specs.Formulas.{Formula, vars_of}
+use Rattle.sat_base.specs.Dimacs.{Dimacs, Ending, Clean, Malformed, Limit, Hand, Turn, GoesOn, Ends, Fails, turn, dimacs, settled, IsDimacs}
+use Rattle.sat_base.specs.declared.dimacs.error.DimacsError.{DimacsError}
+use Rattle.sat_base.specs.declared.dimacs.error.DimacsError.TheVariants as errors
+
+-- what a caller knows of a parser
+pub record Progress : Type 0 where
+  pub fed : List ℕ  -- the bytes that were taken
+  pub taken : List (List ℕ)  -- the clauses that were handed over
+  pub stopped : Bool  -- nothing more is taken
+  pub ended : Bool  -- the text is over: it was said to be, or has a fault
+
+abbrev pub no_progress : Progress
+no_progress = record { fed = []; taken = []; stopped = false; ended = false }
+
+-- with more bytes taken
+abbrev pub with_fed : List ℕ → Progress → Progress
+with_fed bytes p = record p { fed = p.fed ++ bytes }
+
+-- stopped for want of memory
+abbrev pub cut_short : Progress → Progress
+cut_short p = record p { stopped = true }
+
+-- stopped since the text is over
+abbrev pub at_its_end : Progress → Progress
+at_its_end p = record p { stopped = true; ended = true }
+
+-- the bytes whose words have ended: up to the last blank, or all where the text is over
+abbrev pub words_read : Progress → List ℕ
+words_read p = if p.ended then p.fed else settled p.fed
+
+-- the clauses read
+abbrev pub clauses_read : Progress → List (List ℕ)
+clauses_read p = (dimacs (words_read p)).clauses
+
+-- with all clauses read handed over
+abbrev pub all_taken : Progress → Progress
+all_taken p = record p { taken = clauses_read p }
+
+abbrev pub has_LF : List ℕ → Bool
+has_LF [] = false
+has_LF (b ∷ bs) = nat_eq b 10 || has_LF bs
+
+-- a text up to its last LF
+abbrev pub whole_lines : List ℕ → List ℕ
+whole_lines [] = []
+whole_lines (b ∷ bs) = if has_LF (b ∷ bs) then b ∷ whole_lines bs else []
+
+-- the bytes whose lines have ended, or all where the text is over
+abbrev pub lines_read : Progress → List ℕ
+lines_read p = if p.ended then p.fed else whole_lines p.fed
+
+-- the numbers of a header, held
+abbrev pub held_numbers : Option (ℕ × ℕ) → Option (ℕ × ℕ)
+held_numbers None = None
+held_numbers (Some h) = Some (held h.0, held h.1)
+
+-- however the text goes on, it has the clauses read and ends so
+abbrev pub EndsAt : Ending → Progress → Type 0
+EndsAt ending p = (rest : List ℕ) → dimacs (p.fed ++ rest) ≡ record { clauses = clauses_read p; ending = ending }
+
+-- a turn that is no fault, and then more that is none
+abbrev pub unless_fault : Turn → (Hand → Type 0) → Type 0
+unless_fault (GoesOn hand) more = more hand
+unless_fault (Ends clause) more = more None
+unless_fault (Fails ending) more = ⊥
+
+-- no token is at fault, behind what is in hand
+abbrev pub NoFault : Hand → List (ℕ × Token) → Type 0
+NoFault hand [] = Unit {0}
+NoFault hand (t ∷ ts) = unless_fault (turn hand t.0 t.1) (λ h. NoFault h ts)
+
+-- no line that has ended has a fault
+abbrev pub IsSound : Progress → Type 0
+IsSound p = NoFault None (tokens (whole_lines p.fed))
+
+-- a front of the piece was taken, up to and with a fault
+pub record Faults (ending : Ending) (piece : List ℕ) (old new : Progress) : Type 0 where
+  pub front : List ℕ
+  pub behind : List ℕ
+  pub whole : piece ≡ front ++ behind
+  pub progress : new ≡ at_its_end (with_fed front old)
+  pub ends : EndsAt ending new
+
+-- a front of the piece was taken, and there was no memory for the next byte
+pub record FallsShort (piece : List ℕ) (old new : Progress) : Type 0 where
+  pub front : List ℕ
+  pub behind : List ℕ
+  pub whole : piece ≡ front ++ behind
+  pub progress : new ≡ cut_short (with_fed front old)
+
+-- what a piece is answered by
+abbrev pub Feeds : Result (Unit {0}) DimacsError → List ℕ → Progress → Progress → Type 0
+Feeds (Ok u) piece old new = (old.stopped ≡ false) × (new ≡ with_fed piece old)
+Feeds (Err (errors.Malformed line)) piece old new = (old.stopped ≡ false) × (n : ℕ) × (line ≡ held n) × Faults (Malformed n) piece old new
+Feeds (Err (errors.Limit line)) piece old new = (old.stopped ≡ false) × (n : ℕ) × (line ≡ held n) × Faults (Limit n) piece old new
+Feeds (Err errors.OutOfMemory) piece old new = (old.stopped ≡ false) × FallsShort piece old new
+Feeds (Err errors.HasFailed) piece old new = (old.stopped ≡ true) × (new ≡ old)
+Feeds (Err errors.Read) piece old new = ⊥
+
+-- what the end of the text is answered by
+abbrev pub Finishes : Result (Unit {0}) DimacsError → Progress → Progress → Type 0
+Finishes (Ok u) old new = (old.stopped ≡ false) × (new ≡ at_its_end old) × ((dimacs old.fed).ending ≡ Clean)
+Finishes (Err (errors.Malformed line)) old new = (old.stopped ≡ false) × (new ≡ at_its_end old) × (n : ℕ) × (line ≡ held n) × ((dimacs old.fed).ending ≡ Malformed n)
+Finishes (Err (errors.Limit line)) old new = (old.stopped ≡ false) × (new ≡ at_its_end old) × (n : ℕ) × (line ≡ held n) × ((dimacs old.fed).ending ≡ Limit n)
+Finishes (Err errors.OutOfMemory) old new = (old.stopped ≡ false) × (new ≡ cut_short old)
+Finishes (Err errors.HasFailed) old new = (old.stopped ≡ true) × (new ≡ old)
+Finishes (Err errors.Read) old new = ⊥
+
+-- what a whole text is answered by
+abbrev pub Parses : Result Formula DimacsError → List ℕ → Type 0
+Parses (Ok f) text = IsDimacs text f.clauses Clean × (f.var_count ≡ vars_of f.clauses)
+Parses (Err (errors.Malformed line)) text = (n : ℕ) × (line ≡ held n) × ((dimacs text).ending ≡ Malformed n)
+Parses (Err (errors.Limit line)) text = (n : ℕ) × (line ≡ held n) × ((dimacs text).ending ≡ Limit n)
+Parses (Err errors.OutOfMemory) text = Unit {0}
+Parses (Err errors.Read) text = Unit {0}
+Parses (Err errors.HasFailed) text = ⊥

@@ -1,0 +1,127 @@
+//! Formulas' texts, read in any pieces.
+ghost use Rattle.std.specs.Prelude.{◌≡◌, ◌≤◌, ◌<◌, ◌+◌, ◌++◌, ◌⊎◌, length, OnOk, IfSome, IsErrOf};
+ghost use Rattle.std.specs.Io.KnownBytes.{IsAtEnd};
+ghost use Rattle.sat_base.specs.Device.{most_reads};
+ghost use Rattle.sat_base.specs.Literals.{largest};
+ghost use Rattle.sat_base.specs.Text.{header_of};
+ghost use Rattle.sat_base.specs.Tokenizing.{held};
+ghost use Rattle.sat_base.specs.Formulas.{vars_of};
+ghost use Rattle.sat_base.specs.Parsing.{no_progress, clauses_read, lines_read, held_numbers, all_taken, Feeds, IsSound, Finishes, Parses};
+
+mod clauses;
+pub mod error;
+mod history;
+mod parser;
+
+use self::error::DimacsError;
+use self::parser::Parser;
+use crate::whole::MAX_READS;
+use crate::{CnfFormula, CountedRead};
+use std::alloc::Global;
+use std::marker::Model;
+
+/// A parser of DIMACS CNF, which is fed a formula's text in any pieces. It looks at each byte once, and keeps of the text the
+/// clauses that wait to be taken, the one in hand, and the header.
+///
+/// Contracts see the bytes that were taken, the clauses that were handed over, and whether it stopped. It stops at a fault of
+/// the text, for want of memory, and where the text is said to be over; what it has read can be taken then, too.
+#[derive(Drop)]
+pub struct DimacsParser {
+    parser: Parser,
+}
+
+impl Model for DimacsParser {
+    ghost use Rattle.sat_base.specs.Parsing.{Progress};
+
+    ghost Value = { Progress };
+
+    ghost use Rattle.sat_base.specs.Standing.{IsParser, progress_of};
+
+    ghost view = { λ d. progress_of d.parser };
+
+    ghost invariant = { λ d. IsParser d.parser };
+}
+
+impl DimacsParser {
+    /// Nothing is fed. Takes no memory.
+    pub fn new(alloc: Global) -> DimacsParser
+        ensures { result ≡ no_progress }
+    {
+        DimacsParser {
+            parser: Parser::new(alloc),
+        }
+    }
+
+    /// Takes the next bytes of the text. An `Err` says that it stopped: at a fault, whose line is then that of the wrong word,
+    /// of the number past 2^28, or for want of memory.
+    pub fn feed(&mut self, piece: &[u8]) -> Result<(), DimacsError>
+        ensures answer { Feeds result piece.now self.old self.new }
+        // No fault is held back at the end of its line.
+        ensures sound { OnOk result (IsSound self.new) }
+    {
+        self.parser.feed(piece)
+    }
+
+    /// The text is over. Where it ends inside a clause, that is malformed on the last line.
+    pub fn finish(&mut self) -> Result<(), DimacsError>
+        ensures { Finishes result self.old self.new }
+    {
+        self.parser.finish()
+    }
+
+    /// The clauses read since they were last taken, with `var_count` variables. Takes no memory.
+    pub fn take_formula(&mut self) -> CnfFormula
+        ensures progress { self.new ≡ all_taken self.old }
+        ensures clauses { clauses_read self.old ≡ self.old.taken ++ result.clauses }
+        ensures count { result.var_count ≡ vars_of (clauses_read self.old) }
+    {
+        self.parser.take_formula()
+    }
+
+    /// The highest number of a variable in a clause that was read to its end, over the whole text, or 0.
+    pub fn var_count(&self) -> usize
+        ensures count { result ≡ vars_of (clauses_read self.now) }
+        ensures bound { result ≤ largest }
+    {
+        self.parser.clauses.formula.var_count()
+    }
+
+    /// How many clauses were read to their end, over the whole text, held at 2^64-1.
+    pub fn clause_count(&self) -> u64
+        ensures { result ≡ held (length (clauses_read self.now)) }
+    {
+        self.parser.clauses.count
+    }
+
+    /// The numbers of the header, if there is one: of variables and of clauses, each held at 2^64-1. Nothing is compared with
+    /// them.
+    pub fn header(&self) -> Option<(u64, u64)>
+        ensures { result ≡ held_numbers (header_of (lines_read self.now)) }
+    {
+        self.parser.clauses.header
+    }
+
+    /// Reads a formula to the end of its text.
+    pub fn parse<R: CountedRead>(alloc: Global, reader: &mut R) -> Result<CnfFormula, DimacsError>
+        // Where the reader tells its bytes, the formula and the faults are those of the text.
+        ensures parsed { IfSome (R.remaining reader.old) (Parses result) }
+        ensures end { OnOk result (IsAtEnd (R.remaining reader.new)) }
+        ensures kept { OnOk result (R.failures reader.new ≡ R.failures reader.old) }
+        ensures read { IsErrOf result DimacsError.Read
+            → (R.failures reader.old < R.failures reader.new) ⊎ (R.calls reader.new ≡ R.calls reader.old + most_reads) }
+    {
+        let mut parser = DimacsParser::new(alloc);
+        let mut piece = [0; 4096];
+        for _ in 0..MAX_READS {
+            match reader.read_counted(&mut piece) {
+                Ok(0) => {
+                    parser.finish()?;
+                    return Ok(parser.take_formula());
+                }
+                Ok(count) => parser.feed(&piece[..count])?,
+                Err(_) => return Err(DimacsError::Read),
+            }
+        }
+        Err(DimacsError::Read)
+    }
+}

@@ -1,0 +1,124 @@
+//! Clauses from tokens.
+ghost use Rattle.std.specs.Prelude.{◌≡◌, None, MatchResult};
+ghost use Rattle.sat_base.specs.Formulas.{no_formula, with_count};
+ghost use Rattle.sat_base.specs.Dimacs.{Ends, literals_in};
+ghost use Rattle.sat_base.specs.declared.dimacs.clauses.Refusal.TheVariants.{OutOfMemory};
+ghost use Rattle.sat_base.specs.Collecting.{token_of, hand_in, AllStay, Turns, Collects, IsInside};
+
+use crate::{CnfFormula, ExtendFormula, FormulaError, Lit, Token};
+use std::alloc::{AllocFailed, Global};
+use std::mem;
+
+/// The largest number of a variable.
+const LARGEST: u64 = 1 << 28;
+
+/// Why a token wasn't taken.
+#[derive(Clone, Copy, Debug, Drop, PartialEq, Eq)]
+pub(crate) enum Refusal {
+    Malformed,
+    Limit,
+    OutOfMemory,
+}
+
+impl From<FormulaError> for Refusal {
+    ghost use Rattle.std.specs.Prelude.{◌≡◌};
+    ghost use Rattle.sat_base.specs.declared.dimacs.clauses.Refusal.TheVariants.{OutOfMemory};
+
+    ghost from_gives = { λ _ e. e ≡ OutOfMemory };
+
+    fn from(_e: FormulaError) -> Refusal {
+        Refusal::OutOfMemory
+    }
+}
+
+impl<T: Drop> From<AllocFailed<T>> for Refusal {
+    ghost use Rattle.std.specs.Prelude.{◌≡◌};
+    ghost use Rattle.sat_base.specs.declared.dimacs.clauses.Refusal.TheVariants.{OutOfMemory};
+
+    ghost from_gives = { λ _ e. e ≡ OutOfMemory };
+
+    fn from(_e: AllocFailed<T>) -> Refusal {
+        Refusal::OutOfMemory
+    }
+}
+
+/// The header and the clauses that were read, and the literals of the one in hand.
+#[derive(Debug, Drop)]
+pub(crate) struct Clauses {
+    /// The clauses that wait to be handed over, with the number of variables of all that were read.
+    pub(crate) formula: CnfFormula,
+    pub(crate) hand: Vec<Lit>,
+    /// How many clauses were read, held at 2^64-1.
+    pub(crate) count: u64,
+    /// The header's numbers, held at 2^64-1.
+    pub(crate) header: Option<(u64, u64)>,
+}
+
+impl Clauses {
+    pub(crate) fn new(alloc: Global) -> Clauses
+        ensures formula { result.formula ≡ no_formula }
+        ensures hand { hand_in result ≡ None }
+        ensures count { result.count ≡ 0 }
+        ensures header { result.header ≡ None }
+    {
+        Clauses {
+            formula: CnfFormula::new(alloc),
+            hand: Vec::new(alloc),
+            count: 0,
+            header: None,
+        }
+    }
+
+    /// A zero.
+    fn end_clause(&mut self) -> Result<(), Refusal>
+        ensures { MatchResult result (λ _. Turns (Ends (literals_in (hand_in self.old))) self.old self.new × (self.new.header ≡ self.old.header))
+            (λ e. (e ≡ OutOfMemory) × AllStay self.old self.new) }
+    {
+        self.formula.add_clause(&self.hand)?;
+        self.hand.clear();
+        self.count = self.count.saturating_add(1);
+        Ok(())
+    }
+
+    /// The next token.
+    pub(crate) fn take(&mut self, token: Token) -> Result<(), Refusal>
+        ensures { Collects result self.old (token_of token) self.new }
+    {
+        match token {
+            Token::Number { negative, value } => {
+                if value == 0 {
+                    return self.end_clause();
+                }
+                if value > LARGEST {
+                    return Err(Refusal::Limit);
+                }
+                self.hand
+                    .push(Lit::from_index((value - 1) as usize, !negative))?;
+                Ok(())
+            }
+            Token::Header { vars, clauses } => {
+                self.header = Some((vars, clauses));
+                Ok(())
+            }
+            Token::Letter(_) => Err(Refusal::Malformed),
+            Token::Wrong => Err(Refusal::Malformed),
+        }
+    }
+
+    /// Whether a clause has begun.
+    pub(crate) fn is_inside(&self) -> bool
+        ensures { IsInside result (hand_in self.now) }
+    {
+        !self.hand.is_empty()
+    }
+
+    /// The clauses that wait. The next ones wait in a formula that has as many variables already.
+    pub(crate) fn take_formula(&mut self, alloc: Global) -> CnfFormula
+        ensures formula { result ≡ self.old.formula }
+        ensures rest { self.new ≡ record self.old { formula = with_count self.old.formula.var_count no_formula } }
+    {
+        let mut next = CnfFormula::new(alloc);
+        next.set_var_count(self.formula.var_count());
+        mem::replace(&mut self.formula, next)
+    }
+}

@@ -1,0 +1,53 @@
+//! What can go wrong with a formula's text.
+
+use std::alloc::{AllocError, AllocFailed};
+use thiserror::Error;
+
+/// Why a formula's text wasn't read. Lines count from 1, and are held at 2^64-1.
+#[derive(Clone, Copy, Debug, Drop, PartialEq, Eq, Error)]
+pub enum DimacsError {
+    /// A word on this line is wrong, or the text ends inside a clause, and this is its last line.
+    #[error("line {line} is malformed")]
+    Malformed { line: u64 },
+    /// A number on this line is above 2^28.
+    #[error("a number on line {line} is past the limit")]
+    Limit { line: u64 },
+    /// The reader failed, or was read 2^48 times.
+    #[error("the formula can't be read")]
+    Read,
+    #[error("out of memory")]
+    OutOfMemory,
+    /// The parser was at its end before.
+    #[error("the parser has failed or finished before")]
+    HasFailed,
+}
+
+impl From<AllocError> for DimacsError {
+    ghost use Rattle.std.specs.Prelude.{◌≡◌};
+    ghost use Rattle.sat_base.specs.declared.dimacs.error.DimacsError.TheVariants.{OutOfMemory};
+
+    ghost from_gives = { λ _ e. e ≡ OutOfMemory };
+
+    fn from(_e: AllocError) -> DimacsError {
+        DimacsError::OutOfMemory
+    }
+}
+
+impl<T: Drop> From<AllocFailed<T>> for DimacsError {
+    ghost use Rattle.std.specs.Prelude.{◌≡◌};
+    ghost use Rattle.sat_base.specs.declared.dimacs.error.DimacsError.TheVariants.{OutOfMemory};
+
+    ghost from_gives = { λ _ e. e ≡ OutOfMemory };
+
+    fn from(_e: AllocFailed<T>) -> DimacsError {
+        DimacsError::OutOfMemory
+    }
+}
+
+/// Why reading in parts stopped.
+#[derive(Clone, Copy, Debug, Drop, PartialEq, Eq)]
+pub enum IncrementalError<E> {
+    Dimacs(DimacsError),
+    /// The caller's closure refused.
+    Caller(E),
+}

@@ -1,0 +1,37 @@
+//! What contracts alone see of a parser's calls. It takes no memory, and its functions do nothing at run time.
+ghost use Rattle.std.specs.Prelude.{◌≡◌, ◌++◌, ◌∷◌, [], ℕ, List};
+ghost use Rattle.std.specs.Borrow.{ftrue};
+
+use crate::CnfFormula;
+use std::marker::Model;
+
+/// The bytes that were taken, and the clauses that were handed over.
+#[derive(Drop)]
+pub(crate) struct History {
+    pub ghost fed: { List ℕ },
+    pub ghost taken: { List (List ℕ) },
+}
+
+impl Model for History {
+    ghost also_owns = { λ _. ftrue };
+}
+
+impl History {
+    pub(crate) fn new() -> History
+        ensures { (result.fed ≡ []) × (result.taken ≡ []) }
+    {
+        History {}
+    }
+
+    pub(crate) fn and_byte(&self, byte: u8) -> History
+        ensures { (result.fed ≡ self.now.fed ++ byte ∷ []) × (result.taken ≡ self.now.taken) }
+    {
+        History {}
+    }
+
+    pub(crate) fn and_clauses(&self, formula: &CnfFormula) -> History
+        ensures { (result.fed ≡ self.now.fed) × (result.taken ≡ self.now.taken ++ formula.now.clauses) }
+    {
+        History {}
+    }
+}

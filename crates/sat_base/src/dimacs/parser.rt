@@ -1,0 +1,156 @@
+//! A parser that says whether it stopped.
+ghost use Rattle.std.specs.Prelude.{◌≡◌, ◌++◌, ◌∷◌, [], true, false, OnOk};
+ghost use Rattle.sat_base.specs.Formulas.{vars_of};
+ghost use Rattle.sat_base.specs.Parsing.{Feeds, Finishes, IsSound, no_progress, all_taken, clauses_read};
+ghost use Rattle.sat_base.specs.Standing.{IsParser, progress_of, EndsClean};
+
+use super::clauses::{Clauses, Refusal};
+use super::error::DimacsError;
+use super::history::History;
+use crate::{CnfFormula, Tokenizer};
+use std::alloc::Global;
+
+#[derive(Drop)]
+pub(crate) struct Parser {
+    pub(crate) alloc: Global,
+    pub(crate) tokenizer: Tokenizer,
+    pub(crate) clauses: Clauses,
+    pub(crate) history: History,
+    /// Nothing more is taken.
+    pub(crate) stopped: bool,
+    /// The text is over.
+    pub(crate) ended: bool,
+}
+
+impl Parser {
+    pub(crate) fn new(alloc: Global) -> Parser
+        ensures parser { IsParser result }
+        ensures progress { progress_of result ≡ no_progress }
+    {
+        Parser {
+            alloc,
+            tokenizer: Tokenizer::new(),
+            clauses: Clauses::new(alloc),
+            history: History::new(),
+            stopped: false,
+            ended: false,
+        }
+    }
+
+    /// The next byte.
+    fn push(&mut self, byte: u8) -> Result<(), DimacsError>
+        requires parser { IsParser self.old }
+        requires open { self.old.stopped ≡ false }
+        ensures parser { IsParser self.new }
+        ensures answer { Feeds result (byte ∷ []) (progress_of self.old) (progress_of self.new) }
+    {
+        let Some(token) = self.tokenizer.push(byte) else {
+            self.history = self.history.and_byte(byte);
+            return Ok(());
+        };
+        match self.clauses.take(token) {
+            Ok(()) => {
+                self.history = self.history.and_byte(byte);
+                Ok(())
+            }
+            Err(Refusal::Malformed) => {
+                self.history = self.history.and_byte(byte);
+                self.stopped = true;
+                self.ended = true;
+                Err(DimacsError::Malformed {
+                    line: self.tokenizer.line(),
+                })
+            }
+            Err(Refusal::Limit) => {
+                self.history = self.history.and_byte(byte);
+                self.stopped = true;
+                self.ended = true;
+                Err(DimacsError::Limit {
+                    line: self.tokenizer.line(),
+                })
+            }
+            Err(Refusal::OutOfMemory) => {
+                self.stopped = true;
+                Err(DimacsError::OutOfMemory)
+            }
+        }
+    }
+
+    /// The next bytes.
+    pub(crate) fn feed(&mut self, piece: &[u8]) -> Result<(), DimacsError>
+        requires { IsParser self.old }
+        ensures parser { IsParser self.new }
+        ensures answer { Feeds result piece.now (progress_of self.old) (progress_of self.new) }
+        ensures sound { OnOk result (IsSound (progress_of self.new)) }
+    {
+        if self.stopped {
+            return Err(DimacsError::HasFailed);
+        }
+        for byte in piece {
+            self.push(*byte)?;
+        }
+        Ok(())
+    }
+
+    /// The text is over, with no word in hand.
+    fn end(&mut self) -> Result<(), DimacsError>
+        ensures parser { self.new ≡ record self.old { stopped = true; ended = true } }
+        ensures answer { EndsClean result self.old }
+    {
+        self.stopped = true;
+        self.ended = true;
+        if self.clauses.is_inside() {
+            return Err(DimacsError::Malformed {
+                line: self.tokenizer.line(),
+            });
+        }
+        Ok(())
+    }
+
+    /// The text is over.
+    pub(crate) fn finish(&mut self) -> Result<(), DimacsError>
+        requires { IsParser self.old }
+        ensures parser { IsParser self.new }
+        ensures answer { Finishes result (progress_of self.old) (progress_of self.new) }
+    {
+        if self.stopped {
+            return Err(DimacsError::HasFailed);
+        }
+        let Some(token) = self.tokenizer.finish() else {
+            return self.end();
+        };
+        match self.clauses.take(token) {
+            Ok(()) => self.end(),
+            Err(Refusal::Malformed) => {
+                self.stopped = true;
+                self.ended = true;
+                Err(DimacsError::Malformed {
+                    line: self.tokenizer.line(),
+                })
+            }
+            Err(Refusal::Limit) => {
+                self.stopped = true;
+                self.ended = true;
+                Err(DimacsError::Limit {
+                    line: self.tokenizer.line(),
+                })
+            }
+            Err(Refusal::OutOfMemory) => {
+                self.stopped = true;
+                Err(DimacsError::OutOfMemory)
+            }
+        }
+    }
+
+    /// The clauses read and not yet handed over.
+    pub(crate) fn take_formula(&mut self) -> CnfFormula
+        requires { IsParser self.old }
+        ensures parser { IsParser self.new }
+        ensures progress { progress_of self.new ≡ all_taken (progress_of self.old) }
+        ensures clauses { clauses_read (progress_of self.old) ≡ self.old.history.taken ++ result.clauses }
+        ensures count { result.var_count ≡ vars_of (clauses_read (progress_of self.old)) }
+    {
+        self.history = self.history.and_clauses(&self.clauses.formula);
+        self.clauses.take_formula(self.alloc)
+    }
+}
