@@ -8,9 +8,10 @@ use Rattle.std.specs.Char.{digit_value}
 use Rattle.std.specs.List.{AllByRecursion}
 use Rattle.sat_base.specs.Literals.{largest}
 use Rattle.sat_base.specs.Script.{Literal}
-use Rattle.certify.specs.Answers.{word_of, literals_text}
+use Rattle.certify.specs.Answers.{word_of}
 use Rattle.certify.specs.AnswerForms.{IsName, HaveNames}
 use Rattle.certify.specs.AnswerReading.{digits_so_far, NoDigit, NoName, NoLiteral}
+use Rattle.certify.proofs.Texts.{Plain, plain_digits, small, numeral}
 
 -- the last digit, behind nothing or behind the others
 pub one_digit : (n : ℕ) (xs : List ℕ) → n ≤ 9 → xs ++ ((48 + n % 10) ∷ []) ≡ xs ++ decimal n
@@ -19,14 +20,8 @@ one_digit n xs h = let e : n % 10 ≡ n = omega arith in let small : n < 10 = om
 pub last_digit : (n : ℕ) (xs : List ℕ) → 9 < n → n < 2 ^ 64 → (xs ++ decimal (n / 10)) ++ ((48 + n % 10) ∷ []) ≡ xs ++ decimal n
 last_digit n xs h fits = let more : 10 ≤ n = omega arith in rw (decimal_step n more fits) (append_assoc xs (decimal (n / 10)) ((48 + n % 10) ∷ []))
 
-small : (n : ℕ) → n ≤ largest → n < 2 ^ 64
-small n h = omega arith
-
 digits : (n : ℕ) → n ≤ largest → AllDigits 10 (decimal n)
-digits n h = (decimal_is_IsNumeral n (small n h)).0.1
-
-value : (n : ℕ) → n ≤ largest → digits_value 10 (decimal n) ≡ n
-value n h = (decimal_is_IsNumeral n (small n h)).1
+digits n h = (numeral n h).0
 
 digit_behind : (ds : List ℕ) (b : ℕ) (more : List ℕ) → AllDigits 10 (ds ++ (b ∷ more)) → (48 ≤ b) × (b ≤ 57)
 digit_behind [] b more d = digit_from_value b d.0
@@ -75,24 +70,9 @@ past_limit name b h low high past n more k e =
     let i : n ≤ largest = k.1 in
     omega arith
 
--- neither a space nor LF
-abbrev pub Plain : List ℕ → Type 0
-Plain = AllByRecursion (λ c. (c ≡ 32 → ⊥) × (c ≡ 10 → ⊥))
-
-plain_digits : (ds : List ℕ) → AllDigits 10 ds → Plain ds
-plain_digits [] d = tt
-plain_digits (c ∷ cs) d = let r = digit_from_value c d.0 in (((λ e. omega arith), (λ e. omega arith)), plain_digits cs d.1)
-
 plain_so_far : (name : ℕ) → name ≤ largest → Plain (digits_so_far name)
 plain_so_far zero h = tt
 plain_so_far (suc name) h = plain_digits (decimal (suc name)) (digits (suc name) h)
-
-pub plain_word : (l : Literal) → IsName l.name → Plain (word_of l)
-plain_word l h = go l.positive
-  where
-    go : (b : Bool) → Plain (cond b [] (45 ∷ []) ++ decimal l.name)
-    go true = plain_digits (decimal l.name) (digits l.name h.1)
-    go false = (((λ e. omega arith), (λ e. omega arith)), plain_digits (decimal l.name) (digits l.name h.1))
 
 -- a word before a space, and another text without a space
 no_space : (ds es y : List ℕ) → Plain ds → ds ≡ es ++ (32 ∷ y) → ⊥
@@ -159,21 +139,3 @@ no_positive bytes sign none l tail h f = go l.positive l.name h f
     go : (s : Bool) (n : ℕ) → IsName n → bytes ≡ (cond s [] (45 ∷ []) ++ decimal n) ++ (32 ∷ tail) → ⊥
     go true n h f = none n tail h f
     go false n h f = sign (decimal n ++ (32 ∷ tail)) f
-
-same_number : (m n : ℕ) → m ≤ largest → n ≤ largest → decimal m ≡ decimal n → m ≡ n
-same_number m n h k e = decimal_injective m n (small m h) (small n k) e
-
-sign_first : (n : ℕ) (ds : List ℕ) → n ≤ largest → decimal n ≡ 45 ∷ ds → ⊥
-sign_first n ds h e = go (subst (AllDigits 10) e (digits n h)).0
-  where
-    go : digit_value 45 < 10 → ⊥
-    go h = omega arith
-
-pub same_word : (l m : Literal) → IsName l.name → IsName m.name → word_of l ≡ word_of m → l ≡ m
-same_word l m h k e = go l.positive m.positive l.name m.name h k e
-  where
-    go : (s t : Bool) (x y : ℕ) → IsName x → IsName y → cond s [] (45 ∷ []) ++ decimal x ≡ cond t [] (45 ∷ []) ++ decimal y → (let z : Literal = record { name = x; positive = s } in z) ≡ record { name = y; positive = t }
-    go true true x y h k e = ap (λ n. record { name = n; positive = true }) (same_number x y h.1 k.1 e)
-    go true false x y h k e = absurd (sign_first x (decimal y) h.1 e)
-    go false true x y h k e = absurd (sign_first y (decimal x) k.1 (sym e))
-    go false false x y h k e = ap (λ n. record { name = n; positive = false }) (same_number x y h.1 k.1 (let r : decimal x ≡ decimal y = cc in r))

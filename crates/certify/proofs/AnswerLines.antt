@@ -8,41 +8,15 @@ use Rattle.certify.specs.Answers.{literals_text, word_of}
 use Rattle.certify.specs.AnswerForms.{HaveNames, IsName, named_literal, named_literals}
 use Rattle.certify.specs.AnswerReading.{NoLiteral, NoLiterals}
 use Rattle.certify.specs.declared.answers.read.AnswerFault.TheVariants.{Text}
-use Rattle.certify.proofs.AnswerLemmas.{Plain, plain_word, same_word}
+use Rattle.certify.proofs.Texts.{plain_word, at_space, not_end, same_literals as literals_told}
 
--- two words before spaces
-at_space : (ds es x y : List ℕ) → Plain ds → Plain es → ds ++ (32 ∷ x) ≡ es ++ (32 ∷ y) → (ds ≡ es) × (x ≡ y)
-at_space [] [] x y p q e = (refl, cc)
-at_space [] (c ∷ cs) x y p q e = absurd (q.0.0 (let r : c ≡ 32 = cc in r))
-at_space (d ∷ ds) [] x y p q e = absurd (p.0.0 (let r : d ≡ 32 = cc in r))
-at_space (d ∷ ds) (c ∷ cs) x y p q e =
-    let h : d ≡ c = cc in
-    let t : ds ++ (32 ∷ x) ≡ cs ++ (32 ∷ y) = cc in
-    let r = at_space ds cs x y p.1 q.1 t in
-    (pair d c ds cs h r.0, r.1)
-  where
-    pair : (d c : ℕ) (ds cs : List ℕ) → d ≡ c → ds ≡ cs → (d ∷ ds) ≡ (c ∷ cs)
-    pair d c ds cs h t = cc
-
--- `0` and LF are no word before a space
-not_end : (ds x y : List ℕ) → Plain ds → 48 ∷ 10 ∷ x ≡ ds ++ (32 ∷ y) → ⊥
-not_end [] x y p e = let r : ◌≡◌ {A = ℕ} 48 32 = cc in omega arith
-not_end (d ∷ []) x y p e = let r : ◌≡◌ {A = ℕ} 10 32 = cc in omega arith
-not_end (d ∷ c ∷ ds) x y p e = p.1.0.1 (let r : c ≡ 10 = cc in r)
+within_limit : (ls : List Literal) → HaveNames ls → AllByRecursion (λ l. l.name ≤ largest) ls
+within_limit [] h = tt
+within_limit (l ∷ ls) h = (h.0.1, within_limit ls h.1)
 
 -- a line's text tells its literals
 pub same_literals : (ls ks : List Literal) (x y : List ℕ) → HaveNames ls → HaveNames ks → literals_text ls ++ x ≡ literals_text ks ++ y → (ls ≡ ks) × (x ≡ y)
-same_literals [] [] x y h k e = (refl, cc)
-same_literals [] (m ∷ ks) x y h k e = absurd (not_end (word_of m) x (literals_text ks ++ y) (plain_word m k.0) (e ∙ append_assoc (word_of m) (32 ∷ literals_text ks) y))
-same_literals (l ∷ ls) [] x y h k e = absurd (not_end (word_of l) y (literals_text ls ++ x) (plain_word l h.0) (sym e ∙ append_assoc (word_of l) (32 ∷ literals_text ls) x))
-same_literals (l ∷ ls) (m ∷ ks) x y h k e =
-    let p = at_space (word_of l) (word_of m) (literals_text ls ++ x) (literals_text ks ++ y) (plain_word l h.0) (plain_word m k.0)
-    (sym (append_assoc (word_of l) (32 ∷ literals_text ls) x) ∙ e ∙ append_assoc (word_of m) (32 ∷ literals_text ks) y) in
-    let r = same_literals ls ks x y h.1 k.1 p.1 in
-    (pair l m ls ks (same_word l m h.0 k.0 p.0) r.0, r.1)
-  where
-    pair : (l m : Literal) (ls ks : List Literal) → l ≡ m → ls ≡ ks → (l ∷ ls) ≡ (m ∷ ks)
-    pair l m ls ks h t = cc
+same_literals ls ks x y h k e = literals_told ls ks x y (within_limit ls h) (within_limit ks k) e
 
 -- The line's literals have been read and the rest of the bytes is left. Any line that begins the bytes goes on in the rest, and the other way round.
 pub record Read (bytes line rest : List ℕ) : Type 0 where
@@ -62,9 +36,9 @@ have_names_snoc [] l h k = (k, tt)
 have_names_snoc (m ∷ ls) l h k = (h.0, have_names_snoc ls l h.1 k)
 
 behind_word : (m : Literal) (more : List Literal) (behind tail : List ℕ) → IsName m.name → HaveNames more → word_of m ++ (32 ∷ behind) ≡ literals_text more ++ tail → (left : List Literal) × (HaveNames left × (behind ≡ literals_text left ++ tail))
-behind_word m [] behind tail h k e = absurd (not_end (word_of m) tail behind (plain_word m h) (sym e))
+behind_word m [] behind tail h k e = absurd (not_end (word_of m) tail behind (plain_word m h.1) (sym e))
 behind_word m (l ∷ ls) behind tail h k e =
-    let p = at_space (word_of m) (word_of l) behind (literals_text ls ++ tail) (plain_word m h) (plain_word l k.0) (e ∙ append_assoc (word_of l) (32 ∷ literals_text ls) tail) in
+    let p = at_space (word_of m) (word_of l) behind (literals_text ls ++ tail) (plain_word m h.1) (plain_word l k.0.1) (e ∙ append_assoc (word_of l) (32 ∷ literals_text ls) tail) in
     (ls, (k.1, p.1))
 
 pub one_read : (bytes line rest behind : List ℕ) (l : ℕ) → Read bytes line rest → IsName (named_literal l).name → rest ≡ word_of (named_literal l) ++ (32 ∷ behind) → Read bytes (line ++ (l ∷ [])) behind

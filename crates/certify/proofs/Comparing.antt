@@ -4,11 +4,11 @@ use Rattle.std.specs.Bool.{MatchBool}
 use Rattle.std.specs.List.{AllByRecursion}
 use Rattle.sat_base.specs.Script.{Literal, Among, names_of}
 use Rattle.sat_base.specs.Judge.{Judge, names_from}
-use Rattle.sat_base.specs.Steps.{Step, AddClause, Assumptions, Model}
+use Rattle.sat_base.specs.Steps.{Step, AddClause, Assumptions, Model, FailedAssumptions}
 use Rattle.certify.specs.Accepts.{stored_after}
 use Rattle.certify.specs.Answers.{Outcome}
 use Rattle.certify.specs.Checking.{variable_of}
-use Rattle.certify.specs.Matches.{Expected, Adds, Opens, Shows, Fits, adds, opens, shows, SameSet, EachSpelt}
+use Rattle.certify.specs.Matches.{Expected, Adds, Opens, Shows, Fails, Fits, adds, opens, shows, fails, SameSet, EachSpelt}
 use Rattle.certify.specs.TheChecking.{the_checking}
 use Rattle.certify.specs.Confirming.{variable_in}
 use Rattle.certify.specs.Standing.{Stands, FitsHeld}
@@ -20,6 +20,9 @@ adds_same earlier ls c (adds same) = same
 
 opens_same : (earlier : List Step) (ls : List Literal) (o : Outcome) (c : List ℕ) → Fits the_checking earlier (Opens ls o) (Assumptions c) → SameSet (variable_of earlier) ls c
 opens_same earlier ls o c (opens same) = same
+
+fails_same : (earlier : List Step) (ask core : List Literal) (c hashes : List ℕ) → Fits the_checking earlier (Fails ask core) (FailedAssumptions c hashes) → SameSet (variable_of earlier) core c
+fails_same earlier ask core c hashes (fails same) = same
 
 shows_all : (earlier : List Step) (names : List ℕ) (ask line : List Literal) (c : List ℕ) → Fits the_checking earlier (Shows names ask line) (Model c) → (names_of line ≡ names) × EachSpelt (variable_of earlier) line c × AllByRecursion (λ l. Among l line) ask
 shows_all earlier names ask line c (shows n s a) = (n, s, a)
@@ -45,6 +48,15 @@ module _ (new : Certificate) (vs codes : List ℕ) (x : Step) (v : vs ≡ new.va
   opens_unfit ls b why e t m o j earlier s u f =
       subst (λ w. MatchBool w (SameSet (variable_in vs) ls codes) (SameSet (variable_in vs) ls codes → ⊥)) t m
       (subst (λ g. SameSet g ls codes) (names_are j earlier s) (opens_same earlier ls o codes (subst (λ y. Fits the_checking earlier (Opens ls o) y) (sym held ∙ e) f)))
+
+  pub fails_fit : (core : List Literal) (hashes : List ℕ) (b : Bool) → x ≡ FailedAssumptions codes hashes → b ≡ true → MatchBool b (SameSet (variable_in vs) core codes) (SameSet (variable_in vs) core codes → ⊥) → (ask : List Literal) → FitsHeld new (λ _. Fails ask core) None
+  fails_fit core hashes b e t m ask j earlier s u =
+      subst (λ y. Fits the_checking earlier (Fails ask core) y) (sym e ∙ held) (fails (subst (λ f. SameSet f core codes) (sym (names_are j earlier s)) (subst (λ w. MatchBool w (SameSet (variable_in vs) core codes) (SameSet (variable_in vs) core codes → ⊥)) t m)))
+
+  pub fails_unfit : (core : List Literal) (hashes : List ℕ) (b : Bool) (why : Why) → x ≡ FailedAssumptions codes hashes → b ≡ false → MatchBool b (SameSet (variable_in vs) core codes) (SameSet (variable_in vs) core codes → ⊥) → (ask : List Literal) → FitsHeld new (λ _. Fails ask core) (Some why)
+  fails_unfit core hashes b why e t m ask j earlier s u f =
+      subst (λ w. MatchBool w (SameSet (variable_in vs) core codes) (SameSet (variable_in vs) core codes → ⊥)) t m
+      (subst (λ g. SameSet g core codes) (names_are j earlier s) (fails_same earlier ask core codes hashes (subst (λ y. Fits the_checking earlier (Fails ask core) y) (sym held ∙ e) f)))
 
   in_use_are : (j : Judge) (earlier : List Step) → Stands new j earlier → (stored_after earlier).unsat ≡ false → map (λ n. n.name) j.in_use ≡ names_from (length new.variables.items) 1
   in_use_are j earlier s u = let c = s.counted u in s.plain.used ∙ ap (λ n. names_from n 1) (let e : j.first_unused - 1 ≡ length new.variables.items = omega arith in e)

@@ -5,20 +5,13 @@ use Rattle.sat_base.specs.Formats.{Format, Open, Live, Then, Items, Times, ListO
 use Rattle.sat_base.proofs.Formats.{cancel, shut_first}
 use Rattle.certify.specs.declared.confirm.source.stop.Stop.{Stop}
 use Rattle.certify.specs.declared.confirm.source.stop.Stop.TheVariants as stop
-use Rattle.certify.specs.SourceReading.{Begins, BeginsNo, Takes, leaving}
+use Rattle.certify.specs.SourceReading.{Begins, BeginsNo, Stops, Takes, valued}
 
 -- where one format has no text at the front, neither has another
-pub stops : {A B : Type 0} (F : Format A) (G : Format B) (bytes more : List ℕ) (e : Stop) → (BeginsNo F bytes → BeginsNo G more) → Takes F (Err e) bytes → Takes G (Err e) more
+pub stops : {A B : Type 0} (F : Format A) (G : Format B) (bytes more : List ℕ) (e : Stop) → (BeginsNo F bytes → BeginsNo G more) → Stops F e bytes → Stops G e more
 stops F G bytes more stop.Ends f h = f h
 stops F G bytes more stop.Refused f h = f h
 stops F G bytes more stop.OutOfMemory f h = tt
-
--- a text of one value is one of another
-pub takes_as : {A B S : Type 0} (F : Format A) (G : Format B) (x : A) (y : B) (bytes : List ℕ) → ((t : List ℕ) → F x t → G y t) → (BeginsNo F bytes → BeginsNo G bytes) → (now : S → List ℕ) (r : Result S Stop) → Takes F (leaving x now r) bytes → Takes G (leaving y now r) bytes
-takes_as F G x y bytes to f now (Ok rest) h = (h.0, to h.0 h.1, h.2)
-takes_as F G x y bytes to f now (Err stop.Ends) h = f h
-takes_as F G x y bytes to f now (Err stop.Refused) h = f h
-takes_as F G x y bytes to f now (Err stop.OutOfMemory) h = tt
 
 -- THE FIRST PART, AND THE SECOND
 pub no_first : {A B : Type 0} (F : Format A) (G : A → Format B) (bytes : List ℕ) → BeginsNo F bytes → BeginsNo (Then F G) bytes
@@ -33,6 +26,16 @@ no_second {A} {B} F G one x bytes behind f never y text rest e h =
 
 pub both : {A B : Type 0} (F : Format A) (G : A → Format B) (x : A) (y : B) (bytes behind rest : List ℕ) → Begins F x behind bytes → Begins (G x) y rest behind → Begins (Then F G) (x, y) rest bytes
 both F G x y bytes behind rest f g = (f.0 ++ g.0, (f.0, g.0, f.1, g.1, refl), f.2 ∙ ap (λ (z : List ℕ). f.0 ++ z) g.2 ∙ sym (append_assoc f.0 g.0 rest))
+
+pub first_fails : {A B : Type 0} (F : Format A) (G : A → Format B) (e : Stop) (bytes : List ℕ) → Stops F e bytes → Stops (Then F G) e bytes
+first_fails F G e bytes h = stops F (Then F G) bytes bytes e (no_first F G bytes) h
+
+pub second_fails : {A B : Type 0} (F : Format A) (G : A → Format B) → OneForm F → (x : A) (e : Stop) (bytes behind : List ℕ) → Begins F x behind bytes → Stops (G x) e behind → Stops (Then F G) e bytes
+second_fails F G one x e bytes behind f h = stops (G x) (Then F G) behind bytes e (no_second F G one x bytes behind f) h
+
+pub second_gives : {A B C : Type 0} (F : Format A) (G : A → Format B) → OneForm F → (x : A) (g : C → B) (bytes behind rest : List ℕ) → Begins F x behind bytes → (r : Result C Stop) → Takes (G x) (valued g r) behind rest → Takes (Then F G) (valued (λ y. (x, g y)) r) bytes rest
+second_gives F G one x g bytes behind rest f (Ok y) h = both F G x (g y) bytes behind rest f h
+second_gives F G one x g bytes behind rest f (Err e) h = second_fails F G one x e bytes behind f h
 
 -- ITEMS
 pub no_more : {A : Type 0} (F : Format A) → OneForm F → (xs ys : List A) (front text rest t : List ℕ) → Items F xs front → BeginsNo F rest → Items F ys text → length xs < length ys → front ++ rest ≡ text ++ t → ⊥
@@ -71,6 +74,9 @@ counted_more F done xs x rest behind bytes f c = record {
 pub counted_no : {A : Type 0} (F : Format A) → OneForm F → (count done : ℕ) (xs : List A) (rest bytes : List ℕ) → done < count → Counted F done xs rest bytes → BeginsNo F rest → BeginsNo (Times F count) bytes
 counted_no F one count done xs rest bytes l c never ys text t e h = no_more F one xs ys c.front text rest t c.items never h.1 (omega (arith, l, c.size, h.0)) (sym c.whole ∙ e)
 
+pub counted_fails : {A : Type 0} (F : Format A) → OneForm F → (count done : ℕ) (xs : List A) (e : Stop) (rest bytes : List ℕ) → done < count → Counted F done xs rest bytes → Stops F e rest → Stops (Times F count) e bytes
+counted_fails F one count done xs e rest bytes l c h = stops F (Times F count) rest bytes e (counted_no F one count done xs rest bytes l c) h
+
 pub counted_all : {A : Type 0} (F : Format A) (count done : ℕ) (xs : List A) (rest bytes : List ℕ) → done ≡ count → Counted F done xs rest bytes → Begins (Times F count) xs rest bytes
 counted_all F count done xs rest bytes e c = (c.front, (c.size ∙ e, c.items), c.whole)
 
@@ -85,11 +91,12 @@ no_items C F one n bytes behind f never xs text rest e h =
     let v : behind ≡ h.1 ++ rest = cancel f.0 behind (h.1 ++ rest) (u ∙ ap (λ (z : List ℕ). z ++ (h.1 ++ rest)) (sym s.0)) in
     never xs h.1 rest v (sym s.1, h.3)
 
-pub list_takes : {A : Type 0} (C : Format ℕ) (F : Format A) → OneForm C → (n : ℕ) (bytes behind : List ℕ) → Begins C n behind bytes → (r : Result (List A × List ℕ) Stop) → Takes (Times F n) r behind → Takes (ListOf C F) r bytes
-list_takes C F one n bytes behind f (Ok x) h = (f.0 ++ h.0, (f.0, h.0, subst (λ (k : ℕ). C k f.0) (sym h.1.0) f.1, h.1.1, refl), f.2 ∙ ap (λ (z : List ℕ). f.0 ++ z) h.2 ∙ sym (append_assoc f.0 h.0 x.1))
-list_takes C F one n bytes behind f (Err stop.Ends) h = no_items C F one n bytes behind f h
-list_takes C F one n bytes behind f (Err stop.Refused) h = no_items C F one n bytes behind f h
-list_takes C F one n bytes behind f (Err stop.OutOfMemory) h = tt
+pub list_fails : {A : Type 0} (C : Format ℕ) (F : Format A) (e : Stop) (bytes : List ℕ) → Stops C e bytes → Stops (ListOf C F) e bytes
+list_fails C F e bytes h = stops C (ListOf C F) bytes bytes e (no_count C F bytes) h
+
+pub list_gives : {A : Type 0} (C : Format ℕ) (F : Format A) → OneForm C → (n : ℕ) (bytes behind rest : List ℕ) → Begins C n behind bytes → (r : Result (List A) Stop) → Takes (Times F n) r behind rest → Takes (ListOf C F) r bytes rest
+list_gives C F one n bytes behind rest f (Ok x) h = (f.0 ++ h.0, (f.0, h.0, subst (λ (k : ℕ). C k f.0) (sym h.1.0) f.1, h.1.1, refl), f.2 ∙ ap (λ (z : List ℕ). f.0 ++ z) h.2 ∙ sym (append_assoc f.0 h.0 rest))
+list_gives C F one n bytes behind rest f (Err e) h = stops (Times F n) (ListOf C F) behind bytes e (no_items C F one n bytes behind f) h
 
 -- BYTES THAT END WITHIN A TEXT, AND A BYTE AFTER WHICH NONE CAN FOLLOW
 long : (text rest : List ℕ) (b : ℕ) (more : List ℕ) → text ≡ (text ++ rest) ++ b ∷ more → ⊥

@@ -187,12 +187,3 @@ module _ (e : Judge → Expected) (old mid : Certificate) (a : Awaited) (given :
       let taken = t.1 j h.later h.stands h.open_yet (nameless h.later (e j) mid.source.step less fits) in
       record { later = mid.source.step ∷ h.later; stands = taken.1; leads = subst (λ rest. Leads earlier (bytes_of old) (e j ∷ []) (mid.source.step ∷ h.later) rest) (sym t.0) (leads_step (e j) h.offers fits taken.0) }
   take_goes j new fit (Some why) is e2 f t less = λ earlier s. let h = subst (Awaits old mid) is given j earlier s in bars_refused (e j) h.offers (t j h.later h.stands)
-
--- a failed core is accepted of no step yet
-failed_refused : (earlier : List Step) (ask core : List Literal) (step : Step) → Fits the_checking earlier (Fails ask core) step → Accepts (stored_after earlier) step → ⊥
-failed_refused earlier ask core step (fails same) a = a
-
-pub core_goes : (ask core : List Literal) (old mid new : Certificate) (a : Awaited) (given : Awaits old mid a) (j next : Judge) (why : Why) → a ≡ awaited.Step → Goes old new j (Fails ask core ∷ []) next (Some why)
-core_goes ask core old mid new a given j next why is earlier s =
-    let h = subst (Awaits old mid) is given j earlier s in
-    record { none = λ es m. let t = h.offers.on (Fails ask core) es m in failed_refused h.later ask core mid.source.step t.0 t.1 }

@@ -13,10 +13,10 @@ use Rattle.certify.specs.Matches.{OneEach}
 use Rattle.certify.specs.Laws.{Prints, TextsTellOutcomes, AskBindsNothing}
 
 -- neither a space nor LF
-abbrev Plain : List ℕ → Type 0
+abbrev pub Plain : List ℕ → Type 0
 Plain = AllByRecursion (λ c. (c ≡ 32 → ⊥) × (c ≡ 10 → ⊥))
 
-plain_digits : (ds : List ℕ) → AllDigits 10 ds → Plain ds
+pub plain_digits : (ds : List ℕ) → AllDigits 10 ds → Plain ds
 plain_digits [] d = tt
 plain_digits (c ∷ cs) d = (((λ e. space (subst (λ c. digit_value c < 10) e d.0)), (λ e. line (subst (λ c. digit_value c < 10) e d.0))), plain_digits cs d.1)
   where
@@ -27,7 +27,7 @@ plain_digits (c ∷ cs) d = (((λ e. space (subst (λ c. digit_value c < 10) e d
     line h = omega arith
 
 -- two words before spaces
-at_space : (ds es x y : List ℕ) → Plain ds → Plain es → ds ++ (32 ∷ x) ≡ es ++ (32 ∷ y) → (ds ≡ es) × (x ≡ y)
+pub at_space : (ds es x y : List ℕ) → Plain ds → Plain es → ds ++ (32 ∷ x) ≡ es ++ (32 ∷ y) → (ds ≡ es) × (x ≡ y)
 at_space [] [] x y p q e = (refl, cc)
 at_space [] (c ∷ cs) x y p q e = absurd (q.0.0 (let r : c ≡ 32 = cc in r))
 at_space (d ∷ ds) [] x y p q e = absurd (p.0.0 (let r : d ≡ 32 = cc in r))
@@ -41,18 +41,18 @@ at_space (d ∷ ds) (c ∷ cs) x y p q e =
     pair d c ds cs h t = cc
 
 -- `0` and LF are no word before a space
-not_end : (ds x y : List ℕ) → Plain ds → 48 ∷ 10 ∷ x ≡ ds ++ (32 ∷ y) → ⊥
+pub not_end : (ds x y : List ℕ) → Plain ds → 48 ∷ 10 ∷ x ≡ ds ++ (32 ∷ y) → ⊥
 not_end [] x y p e = let r : ◌≡◌ {A = ℕ} 48 32 = cc in omega arith
 not_end (d ∷ []) x y p e = let r : ◌≡◌ {A = ℕ} 10 32 = cc in omega arith
 not_end (d ∷ c ∷ ds) x y p e = p.1.0.1 (let r : c ≡ 10 = cc in r)
 
-small : (n : ℕ) → n ≤ largest → n < 2 ^ 64
+pub small : (n : ℕ) → n ≤ largest → n < 2 ^ 64
 small n h = omega arith
 
-numeral : (n : ℕ) → n ≤ largest → AllDigits 10 (decimal n) × (digits_value 10 (decimal n) ≡ n)
+pub numeral : (n : ℕ) → n ≤ largest → AllDigits 10 (decimal n) × (digits_value 10 (decimal n) ≡ n)
 numeral n h = let p = decimal_is_IsNumeral n (small n h) in (p.0.1, p.1)
 
-plain_word : (l : Literal) → l.name ≤ largest → Plain (word_of l)
+pub plain_word : (l : Literal) → l.name ≤ largest → Plain (word_of l)
 plain_word l h = go l.positive
   where
     go : (b : Bool) → Plain (cond b [] (45 ∷ []) ++ decimal l.name)
@@ -77,7 +77,7 @@ same_word l m h k e = go l.positive m.positive l.name m.name h k e
     go false true x y h k e = absurd (no_minus y (decimal x) k (sym e))
     go false false x y h k e = ap (λ n. record { name = n; positive = false }) (same_number x y h k (let r : decimal x ≡ decimal y = cc in r))
 
-same_literals : (ls ks : List Literal) (x y : List ℕ) → AllByRecursion (λ l. l.name ≤ largest) ls → AllByRecursion (λ l. l.name ≤ largest) ks → literals_text ls ++ x ≡ literals_text ks ++ y → (ls ≡ ks) × (x ≡ y)
+pub same_literals : (ls ks : List Literal) (x y : List ℕ) → AllByRecursion (λ l. l.name ≤ largest) ls → AllByRecursion (λ l. l.name ≤ largest) ks → literals_text ls ++ x ≡ literals_text ks ++ y → (ls ≡ ks) × (x ≡ y)
 same_literals [] [] x y h k e = (refl, cc)
 same_literals [] (m ∷ ks) x y h k e = absurd (not_end (word_of m) x (literals_text ks ++ y) (plain_word m k.0) (e ∙ append_assoc (word_of m) (32 ∷ literals_text ks) y))
 same_literals (l ∷ ls) [] x y h k e = absurd (not_end (word_of l) y (literals_text ls ++ x) (plain_word l h.0) (sym e ∙ append_assoc (word_of l) (32 ∷ literals_text ls) x))

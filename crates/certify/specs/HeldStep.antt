@@ -1,19 +1,27 @@
 -- The step that a buffer holds, and where a certificate was read to.
 use Rattle.std.specs.Prelude.{ℕ, ◌≡◌, ◌<◌, Bool, Option, Some, None, List, ◌++◌, length}
-use Rattle.sat_base.specs.Steps.{Step, UserVarName, AddClause, AtClause, Model, Assumptions, End}
+use Rattle.sat_base.specs.Steps.{Step, SolverVarName, UserVarName, DeleteVar, ChangeSamplingMode, AddClause, AtClause, UnitClauses, DeleteClause, ChangeHashBits, Model, Assumptions, FailedAssumptions, End}
 use Rattle.sat_base.specs.StepText.{SpellsStep}
-use Rattle.certify.specs.declared.confirm.source.Kind.{Kind}
-use Rattle.certify.specs.declared.confirm.source.Kind.TheVariants as kind
+use Rattle.sat_base.specs.StepViews.{deletion_of}
+use Rattle.certify.specs.declared.confirm.source.kind.Kind.{Kind}
+use Rattle.certify.specs.declared.confirm.source.kind.Kind.TheVariants as kind
 use Rattle.certify.specs.declared.verdict.Why.{Why}
 
--- a step of this kind, with these literals and hashes
-abbrev pub step_in : Kind → List ℕ → List ℕ → Step
-step_in (kind.UserVarName global user) literals hashes = UserVarName global user
-step_in kind.AddClause literals hashes = AddClause literals
-step_in (kind.AtClause redundant) literals hashes = AtClause redundant literals hashes
-step_in kind.Model literals hashes = Model literals
-step_in kind.Assumptions literals hashes = Assumptions literals
-step_in kind.End literals hashes = End
+-- the step of this kind, with these literals, hashes and units
+abbrev pub step_in : Kind → List ℕ → List ℕ → List (ℕ × ℕ) → Step
+step_in (kind.SolverVarName global solver) literals hashes units = SolverVarName global solver
+step_in (kind.UserVarName global user) literals hashes units = UserVarName global user
+step_in (kind.DeleteVar var) literals hashes units = DeleteVar var
+step_in (kind.ChangeSamplingMode var sample) literals hashes units = ChangeSamplingMode var sample
+step_in kind.AddClause literals hashes units = AddClause literals
+step_in (kind.AtClause redundant) literals hashes units = AtClause redundant literals hashes
+step_in kind.UnitClauses literals hashes units = UnitClauses units
+step_in (kind.DeleteClause proof) literals hashes units = DeleteClause literals (deletion_of proof)
+step_in (kind.ChangeHashBits bits) literals hashes units = ChangeHashBits bits
+step_in kind.Model literals hashes units = Model literals
+step_in kind.Assumptions literals hashes units = Assumptions literals
+step_in kind.FailedAssumptions literals hashes units = FailedAssumptions literals hashes
+step_in kind.End literals hashes units = End
 
 -- where a certificate was read to: the step that was read last, and the bytes behind it
 pub record Place : Type 0 where

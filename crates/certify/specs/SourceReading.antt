@@ -12,19 +12,21 @@ Begins F x rest bytes = (text : List ℕ) × F x text × (bytes ≡ text ++ rest
 abbrev pub BeginsNo : {A : Type 0} → Format A → List ℕ → Type 0
 BeginsNo {A} F bytes = (x : A) (text rest : List ℕ) → bytes ≡ text ++ rest → F x text → ⊥
 
--- a value and the bytes behind its text, or there is none
-abbrev pub Takes : {A : Type 0} → Format A → Result (A × List ℕ) Stop → List ℕ → Type 0
-Takes F (Ok x) bytes = Begins F x.0 x.1 bytes
-Takes F (Err stop.Ends) bytes = BeginsNo F bytes
-Takes F (Err stop.Refused) bytes = BeginsNo F bytes
-Takes F (Err stop.OutOfMemory) bytes = Unit {0}
+-- why no value was read
+abbrev pub Stops : {A : Type 0} → Format A → Stop → List ℕ → Type 0
+Stops F stop.Ends bytes = BeginsNo F bytes
+Stops F stop.Refused bytes = BeginsNo F bytes
+Stops F stop.OutOfMemory bytes = Unit {0}
 
--- what a reader of slices returned
-abbrev pub seen : {X A S : Type 0} → (X → A) → (S → List ℕ) → Result (X × S) Stop → Result (A × List ℕ) Stop
-seen view bytes (Ok x) = Ok (view x.0, bytes x.1)
-seen view bytes (Err e) = Err e
+-- a value's text was taken, or there is none
+abbrev pub Takes : {A : Type 0} → Format A → Result A Stop → List ℕ → List ℕ → Type 0
+Takes F (Ok x) old new = Begins F x new old
+Takes F (Err e) old new = Stops F e old
 
--- what one returned that leaves the value elsewhere
-abbrev pub leaving : {A S : Type 0} → A → (S → List ℕ) → Result S Stop → Result (A × List ℕ) Stop
-leaving x bytes (Ok rest) = Ok (x, bytes rest)
-leaving x bytes (Err e) = Err e
+abbrev pub valued : {A B : Type 0} → (A → B) → Result A Stop → Result B Stop
+valued f (Ok x) = Ok (f x)
+valued f (Err e) = Err e
+
+-- what was read, where the value was put elsewhere
+abbrev pub giving : {A : Type 0} → A → Result (Unit {0}) Stop → Result A Stop
+giving x r = valued (λ _. x) r

@@ -1,5 +1,5 @@
 //! A simple checker of proof steps, which keeps its clauses in one list. It deletes nothing, and to find the clauses of a
-//! hash it goes through the list.
+//! hash it goes through the list. It knows six kinds of step, and refuses the others.
 ghost use Rattle.std.specs.Prelude.{◌≡◌, ◌↔◌, IsTrue, IfOk, OnOk};
 ghost use Rattle.sat_base.specs.Steps.{UserVarName, AddClause, AtClause, Model};
 ghost use Rattle.sat_base.specs.StepViews.{step_of};
@@ -83,6 +83,13 @@ impl Checker {
                 Ok(true)
             }
             ProofStep::End => Ok(true),
+            ProofStep::SolverVarName { .. }
+            | ProofStep::DeleteVar { .. }
+            | ProofStep::ChangeSamplingMode { .. }
+            | ProofStep::UnitClauses { .. }
+            | ProofStep::DeleteClause { .. }
+            | ProofStep::ChangeHashBits { .. }
+            | ProofStep::FailedAssumptions { .. } => Ok(false),
         }
     }
 

@@ -1,7 +1,7 @@
 //! Steps that the checker accepts, and steps that it refuses.
 
 use super::*;
-use sat_base::clause_hash;
+use sat_base::{DeleteClauseProof, HashBits, clause_hash};
 use std::test::Fail;
 
 /// Literals by the numbers that DIMACS writes for them.
@@ -145,5 +145,34 @@ fn stores_no_tautology(rt: HostRuntime) -> Result<(), Fail> {
     add(&mut checker, alloc, &[2, 1, 2, -1])?;
     add(&mut checker, alloc, &[1, -2])?;
     assert!(rt; !derive(&mut checker, alloc, &[1], &[&[1, -1, 2], &[1, 2], &[1, -2]])?);
+    Ok(())
+}
+
+#[test]
+fn refuses_kinds_that_it_does_not_know(rt: HostRuntime) -> Result<(), Fail> {
+    let alloc = rt.alloc();
+    let mut checker = Checker::new(alloc);
+    add(&mut checker, alloc, &[1, 2])?;
+    let clause = literals(alloc, &[1, 2])?;
+    let var = Var::from_dimacs(1).ok_or("no variable")?;
+    let bits = HashBits::new(64).ok_or("no width")?;
+    let global = var;
+    let solver = None;
+    assert!(rt; !checker.step(&ProofStep::SolverVarName { global, solver })?);
+    assert!(rt; !checker.step(&ProofStep::DeleteVar { var })?);
+    let sample = true;
+    assert!(rt; !checker.step(&ProofStep::ChangeSamplingMode { var, sample })?);
+    assert!(rt; !checker.step(&ProofStep::UnitClauses { units: &[] })?);
+    let deletion = ProofStep::DeleteClause {
+        clause: &clause,
+        proof: DeleteClauseProof::Redundant,
+    };
+    assert!(rt; !checker.step(&deletion)?);
+    assert!(rt; !checker.step(&ProofStep::ChangeHashBits { bits })?);
+    let core = ProofStep::FailedAssumptions {
+        failed_core: &clause,
+        propagation_hashes: &[],
+    };
+    assert!(rt; !checker.step(&core)?);
     Ok(())
 }

@@ -41,7 +41,15 @@ pub(crate) enum Awaited {
 fn is_ordered(step: &ProofStep<'_>) -> bool
     ensures { result ≡ is_ordered_step (step_of step.now) }
 {
-    !matches!(step, ProofStep::AtClause { .. })
+    matches!(
+        step,
+        ProofStep::UserVarName { .. }
+            | ProofStep::AddClause { .. }
+            | ProofStep::Model { .. }
+            | ProofStep::Assumptions { .. }
+            | ProofStep::FailedAssumptions { .. }
+            | ProofStep::End
+    )
 }
 
 impl<'c> Certificate<'c> {
@@ -294,21 +302,44 @@ impl<'c> Certificate<'c> {
         self.take()
     }
 
-    /// Expects that this core fails. No step that can be read says so yet: it fails where `unsat` is recorded and the core is empty.
+    fn fails(&mut self, core: &[Literal]) -> Result<Option<Why>, AllocError>
+        ensures fits { IfOk result (λ why. (ask : List Spelled) → FitsHeld self.new (λ _. Fails ask core.now) why) }
+        ensures stays { Stays self.old self.new }
+    {
+        let ProofStep::FailedAssumptions { failed_core, .. } = self.source.step() else {
+            return Ok(Some(Why::StepOutOfPlace));
+        };
+        if are_spelt_by(
+            &self.variables,
+            core,
+            failed_core,
+            &mut self.spelt,
+            &mut self.marks,
+        )? {
+            Ok(None)
+        } else {
+            Ok(Some(Why::AnswerDiffers))
+        }
+    }
+
+    /// Expects that this core fails. Where `unsat` is recorded only the empty one does.
     pub fn expect_core(&mut self, core: &[Literal]) -> Result<Option<Why>, AllocError>
         ensures { IfOk result (λ why. (j : Judge) (ask : List Spelled) → Goes self.old self.new j (Fails ask core.now ∷ []) j why) }
     {
         match self.await_ordered()? {
             Awaited::Cut => {
                 if core.is_empty() {
-                    Ok(None)
-                } else {
-                    Ok(Some(Why::AnswerDiffers))
+                    return Ok(None);
                 }
+                return Ok(Some(Why::AnswerDiffers));
             }
-            Awaited::No(why) => Ok(Some(why)),
-            Awaited::Step => Ok(Some(Why::StepOutOfPlace)),
+            Awaited::No(why) => return Ok(Some(why)),
+            Awaited::Step => {}
         }
+        if let Some(why) = self.fails(core)? {
+            return Ok(Some(why));
+        }
+        self.take()
     }
 
     fn closes(&self) -> Option<Why>

@@ -3,37 +3,35 @@ ghost use Rattle.std.specs.Prelude.{◌≡◌, IfOk};
 ghost use Rattle.sat_base.specs.StepViews.{step_of};
 ghost use Rattle.certify.specs.HeldStep.{ReadsNext};
 
+mod buffers;
+mod cursor;
 mod fields;
+mod groups;
+mod kind;
 mod lists;
 mod numbers;
 mod stop;
+#[cfg(test)]
+mod tests;
+mod values;
 
 use crate::verdict::Why;
-use fields::fields;
-use sat_base::{ClauseHash, Lit, ProofStep, Var};
+use buffers::Buffers;
+use cursor::Cursor;
+use fields::{fields, is_tag};
+use kind::Kind;
+use sat_base::ProofStep;
 use std::alloc::{AllocError, Global};
 use std::marker::Model;
 use stop::Stop;
-
-/// What a step says besides its literals and hashes.
-#[derive(Clone, Copy, Debug)]
-pub(crate) enum Kind {
-    UserVarName { global: Var, user: Option<Var> },
-    AddClause,
-    AtClause { redundant: bool },
-    Model,
-    Assumptions,
-    End,
-}
 
 /// A certificate's bytes, with the step that was read last in buffers that are used again.
 /// Contracts see that step and the bytes behind it.
 #[derive(Drop)]
 pub(crate) struct Source<'c> {
-    rest: &'c [u8],
+    cursor: Cursor<'c>,
     kind: Kind,
-    literals: Vec<Lit>,
-    hashes: Vec<ClauseHash>,
+    buffers: Buffers,
 }
 
 impl<'c> Model for Source<'c> {
@@ -41,7 +39,7 @@ impl<'c> Model for Source<'c> {
 
     ghost Value = { Place };
 
-    ghost view = { λ s. record { step = step_in s.kind s.literals.items s.hashes.items; rest = s.rest.now } };
+    ghost view = { λ s. record { step = step_in s.kind s.buffers.literals.items s.buffers.hashes.items s.buffers.units.items; rest = s.cursor } };
 }
 
 impl<'c> Source<'c> {
@@ -49,10 +47,9 @@ impl<'c> Source<'c> {
         ensures { result.rest ≡ certificate.now }
     {
         Source {
-            rest: certificate,
+            cursor: Cursor::new(certificate),
             kind: Kind::End,
-            literals: Vec::new(alloc),
-            hashes: Vec::new(alloc),
+            buffers: Buffers::new(alloc),
         }
     }
 
@@ -60,42 +57,22 @@ impl<'c> Source<'c> {
     pub fn step(&self) -> ProofStep<'_>
         ensures { step_of result ≡ self.now.step }
     {
-        match self.kind {
-            Kind::UserVarName { global, user } => ProofStep::UserVarName { global, user },
-            Kind::AddClause => ProofStep::AddClause {
-                clause: &self.literals,
-            },
-            Kind::AtClause { redundant } => ProofStep::AtClause {
-                redundant,
-                clause: &self.literals,
-                propagation_hashes: &self.hashes,
-            },
-            Kind::Model => ProofStep::Model {
-                assignment: &self.literals,
-            },
-            Kind::Assumptions => ProofStep::Assumptions {
-                assumptions: &self.literals,
-            },
-            Kind::End => ProofStep::End,
-        }
+        self.buffers.step(self.kind)
     }
 
     /// Reads the next step. The answer is why there is none.
     pub fn read(&mut self) -> Result<Option<Why>, AllocError>
         ensures { IfOk result (λ fault. ReadsNext fault self.old self.new) }
     {
-        let Some((tag, behind)) = self.rest.split_first() else {
+        let Some(tag) = self.cursor.byte() else {
             return Ok(Some(Why::CertificateEnds));
         };
-        match fields(
-            *tag,
-            behind,
-            &mut self.kind,
-            &mut self.literals,
-            &mut self.hashes,
-        ) {
-            Ok(rest) => {
-                self.rest = rest;
+        if !is_tag(tag) {
+            return Ok(Some(Why::StepRefused));
+        }
+        match fields(tag, &mut self.cursor, &mut self.buffers) {
+            Ok(kind) => {
+                self.kind = kind;
                 Ok(None)
             }
             Err(Stop::Ends) => Ok(Some(Why::CertificateEnds)),

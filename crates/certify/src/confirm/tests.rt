@@ -4,6 +4,7 @@ use crate::confirm::confirm;
 use crate::run::run;
 use crate::verdict::{ConfirmFault, Verdict, Why};
 use sat_base::Counted;
+use std::alloc::Global;
 use std::io;
 use std::io::{ErrorKind, Read};
 use std::process::Abort;
@@ -144,6 +145,85 @@ fn changed_steps(rt: HostRuntime) -> Result<(), Fail> {
         2, 0, 1, 2, 1, 2, 5, 2, 0, 2, 11, 0, 10, 2, 1, 2, 11, 0, 13, 255, 7,
     ];
     assert_eq!(rt; verdict(&rt, ROW, ROW_ANSWERS, &behind)?, Verdict::Yes);
+    Ok(())
+}
+
+/// The row's certificate with a step before the clause.
+fn with_step(alloc: Global, step: &[u8]) -> Result<Vec<u8>, Fail> {
+    let mut text = Vec::new(alloc);
+    text.extend_from_slice(&ROW_STEPS[..6])?;
+    text.extend_from_slice(step)?;
+    text.extend_from_slice(&ROW_STEPS[6..])?;
+    Ok(text)
+}
+
+#[test]
+fn other_kinds_of_step(rt: HostRuntime) -> Result<(), Fail> {
+    let refused: [&[u8]; 6] = [
+        &[1, 0, 1],
+        &[3, 0],
+        &[4, 0, 1],
+        &[7, 1, 0, 9],
+        &[8, 2, 0, 2, 1],
+        &[9, 64],
+    ];
+    for step in refused {
+        let certificate = with_step(rt.alloc(), step)?;
+        assert_eq!(rt;
+            verdict(&rt, ROW, ROW_ANSWERS, &certificate)?,
+            no(1, Why::StepRefused)
+        );
+        assert_eq!(rt;
+            verdict(&rt, ROW, ROW_ANSWERS, &certificate[..7])?,
+            no(1, Why::CertificateEnds)
+        );
+    }
+    let core = with_step(rt.alloc(), &[12, 0, 0])?;
+    assert_eq!(rt;
+        verdict(&rt, ROW, ROW_ANSWERS, &core)?,
+        no(1, Why::StepOutOfPlace)
+    );
+    let derived = with_step(rt.alloc(), &[6, 1, 2, 0, 1, 0])?;
+    assert_eq!(rt; verdict(&rt, ROW, ROW_ANSWERS, &derived)?, Verdict::Yes);
+    Ok(())
+}
+
+/// What is said of an answer with a core, where the certificate goes on so behind the ask's assumptions.
+fn core_verdict<R: Abort + AllocGlobal>(
+    rt: &R,
+    answers: &[u8],
+    behind: &[u8],
+) -> Result<Verdict, Fail> {
+    let mut certificate = Vec::new(rt.alloc());
+    certificate.extend_from_slice(&ROW_STEPS[..12])?;
+    certificate.extend_from_slice(behind)?;
+    verdict(rt, ROW, answers, &certificate)
+}
+
+#[test]
+fn a_core_that_is_shown(rt: HostRuntime) -> Result<(), Fail> {
+    let empty: [(&[u8], Why); 6] = [
+        (&[12, 0, 0], Why::StepRefused),
+        (&[12, 1, 0, 0], Why::AnswerDiffers),
+        (&[13], Why::StepOutOfPlace),
+        (&[11, 0], Why::StepOutOfPlace),
+        (&[0], Why::StepRefused),
+        (&[], Why::CertificateEnds),
+    ];
+    for (behind, why) in empty {
+        let said = core_verdict(&rt, b"s UNSATISFIABLE\nf 0\n", behind)?;
+        assert_eq!(rt; said, no(1, why));
+    }
+    let one: [(&[u8], Why); 4] = [
+        (&[12, 1, 3, 0], Why::StepRefused),
+        (&[12, 2, 3, 3, 1, 7], Why::StepRefused),
+        (&[12, 1, 0, 0], Why::AnswerDiffers),
+        (&[12, 0, 0], Why::AnswerDiffers),
+    ];
+    for (behind, why) in one {
+        let said = core_verdict(&rt, b"s UNSATISFIABLE\nf -2 0\n", behind)?;
+        assert_eq!(rt; said, no(1, why));
+    }
     Ok(())
 }
 

@@ -1,75 +1,95 @@
-//! A step's fields at the front of bytes that are held.
-ghost use Rattle.std.specs.Prelude.{◌≡◌, List, ℕ};
-ghost use Rattle.sat_base.specs.Formats.{Then};
+//! A step's fields.
+ghost use Rattle.std.specs.Prelude.{◌≡◌, List, ℕ, IsTrue, false};
+ghost use Rattle.sat_base.specs.Kinds.{is_tag, has_lists};
 ghost use Rattle.sat_base.specs.Reading.{Behind};
-ghost use Rattle.sat_base.specs.StepText.{IsFlag, AreLiterals, AreHashes};
 ghost use Rattle.certify.specs.HeldStep.{step_in};
-ghost use Rattle.certify.specs.SourceReading.{Takes, seen, leaving};
+ghost use Rattle.certify.specs.SourceReading.{Takes, valued};
 
-use super::Kind;
-use super::lists::{hashes, literals};
-use super::numbers::{flag, number, optional};
+use super::buffers::Buffers;
+use super::cursor::Cursor;
+use super::groups::{clause_and_deletion, flag_and_lists, variable_and_flag, variables};
+use super::kind::Kind;
+use super::lists::{both_lists, literals, units};
 use super::stop::Stop;
-use sat_base::{ClauseHash, Lit, Var};
+use super::values::{variable, width};
 
-/// The indices of variables are below it.
-const VARIABLES: u128 = 1 << 28;
-
-/// Reads a variable, and the one that names it.
-fn user_name<'b>(bytes: &'b [u8], kind: &mut Kind) -> Result<&'b [u8], Stop>
-    ensures { (lits names : List ℕ) → Takes (Behind 2) (leaving (step_in kind.new lits names) (λ s. s.now) result) bytes.now }
+/// Takes what stands behind the tag of a step without lists.
+fn plain_fields(tag: u8, cursor: &mut Cursor<'_>) -> Result<Kind, Stop>
+    requires known { IsTrue (is_tag tag) }
+    requires plain { has_lists tag ≡ false }
+    ensures { (literals hashes : List ℕ) (units : List (ℕ × ℕ)) → Takes (Behind tag) (valued (λ k. step_in k literals hashes units) result) cursor.old cursor.new }
 {
-    let (index, behind) = number(bytes, VARIABLES)?;
-    let (above, rest) = number(behind, VARIABLES + 1)?;
-    *kind = Kind::UserVarName {
-        global: Var::from_index(index as usize),
-        user: optional(above),
-    };
-    Ok(rest)
-}
-
-fn flag_and_lists<'b>(
-    bytes: &'b [u8],
-    lits: &mut Vec<Lit>,
-    names: &mut Vec<ClauseHash>,
-) -> Result<(bool, &'b [u8]), Stop>
-    ensures { Takes (Then IsFlag (λ _. Then AreLiterals (λ _. AreHashes))) (seen (λ f. (f, (lits.new.items, names.new.items))) (λ s. s.now) result) bytes.now }
-{
-    let (redundant, behind_flag) = flag(bytes)?;
-    let behind_lits = literals(behind_flag, lits)?;
-    let rest = hashes(behind_lits, names)?;
-    Ok((redundant, rest))
-}
-
-/// Reads what stands behind a tag.
-pub(crate) fn fields<'b>(
-    tag: u8,
-    bytes: &'b [u8],
-    kind: &mut Kind,
-    lits: &mut Vec<Lit>,
-    names: &mut Vec<ClauseHash>,
-) -> Result<&'b [u8], Stop>
-    ensures { Takes (Behind tag) (leaving (step_in kind.new lits.new.items names.new.items) (λ s. s.now) result) bytes.now }
-{
-    if tag == 2 {
-        user_name(bytes, kind)
-    } else if tag == 5 {
-        *kind = Kind::AddClause;
-        literals(bytes, lits)
-    } else if tag == 6 {
-        let (redundant, rest) = flag_and_lists(bytes, lits, names)?;
-        *kind = Kind::AtClause { redundant };
-        Ok(rest)
-    } else if tag == 10 {
-        *kind = Kind::Model;
-        literals(bytes, lits)
-    } else if tag == 11 {
-        *kind = Kind::Assumptions;
-        literals(bytes, lits)
-    } else if tag == 13 {
-        *kind = Kind::End;
-        Ok(bytes)
+    if tag == 1 {
+        let (global, solver) = variables(cursor)?;
+        Ok(Kind::SolverVarName { global, solver })
+    } else if tag == 2 {
+        let (global, user) = variables(cursor)?;
+        Ok(Kind::UserVarName { global, user })
+    } else if tag == 3 {
+        let var = variable(cursor)?;
+        Ok(Kind::DeleteVar { var })
+    } else if tag == 4 {
+        let (var, sample) = variable_and_flag(cursor)?;
+        Ok(Kind::ChangeSamplingMode { var, sample })
+    } else if tag == 9 {
+        let bits = width(cursor)?;
+        Ok(Kind::ChangeHashBits { bits })
     } else {
-        Err(Stop::Refused)
+        Ok(Kind::End)
+    }
+}
+
+/// Takes what stands behind the tag of a step with lists.
+fn list_fields(tag: u8, cursor: &mut Cursor<'_>, buffers: &mut Buffers) -> Result<Kind, Stop>
+    requires { IsTrue (has_lists tag) }
+    ensures { Takes (Behind tag) (valued (λ k. step_in k buffers.new.literals.items buffers.new.hashes.items buffers.new.units.items) result) cursor.old cursor.new }
+{
+    if tag == 5 {
+        literals(cursor, &mut buffers.literals)?;
+        Ok(Kind::AddClause)
+    } else if tag == 6 {
+        let redundant = flag_and_lists(cursor, buffers)?;
+        Ok(Kind::AtClause { redundant })
+    } else if tag == 7 {
+        units(cursor, &mut buffers.units)?;
+        Ok(Kind::UnitClauses)
+    } else if tag == 8 {
+        let proof = clause_and_deletion(cursor, buffers)?;
+        Ok(Kind::DeleteClause { proof })
+    } else if tag == 10 {
+        literals(cursor, &mut buffers.literals)?;
+        Ok(Kind::Model)
+    } else if tag == 11 {
+        literals(cursor, &mut buffers.literals)?;
+        Ok(Kind::Assumptions)
+    } else {
+        both_lists(cursor, buffers)?;
+        Ok(Kind::FailedAssumptions)
+    }
+}
+
+/// Tests whether a step has this tag.
+pub(crate) fn is_tag(tag: u8) -> bool
+    ensures { result ≡ is_tag tag }
+{
+    0 < tag && tag < 14
+}
+
+/// Tests whether steps with this tag have lists.
+fn has_lists(tag: u8) -> bool
+    ensures { result ≡ has_lists tag }
+{
+    tag == 5 || tag == 6 || tag == 7 || tag == 8 || tag == 10 || tag == 11 || tag == 12
+}
+
+/// Takes what stands behind a tag.
+pub(crate) fn fields(tag: u8, cursor: &mut Cursor<'_>, buffers: &mut Buffers) -> Result<Kind, Stop>
+    requires { IsTrue (is_tag tag) }
+    ensures { Takes (Behind tag) (valued (λ k. step_in k buffers.new.literals.items buffers.new.hashes.items buffers.new.units.items) result) cursor.old cursor.new }
+{
+    if has_lists(tag) {
+        list_fields(tag, cursor, buffers)
+    } else {
+        plain_fields(tag, cursor)
     }
 }

@@ -1,12 +1,11 @@
-//! Lists at the front of bytes that are held: their count, and then each item.
-ghost use Rattle.std.specs.Prelude.{◌≡◌, ◌^◌, ◌*◌, [], ℕ, List};
-ghost use Rattle.sat_base.specs.Formats.{Times};
-ghost use Rattle.sat_base.specs.Literals.{largest};
-ghost use Rattle.sat_base.specs.Numbers.{IsBelow};
-ghost use Rattle.sat_base.specs.StepText.{AreLiterals, AreHashes};
-ghost use Rattle.certify.specs.SourceReading.{Takes, leaving};
+//! Lists of literals, of hashes and of units: their count, and then each item.
+ghost use Rattle.std.specs.Prelude.{◌≡◌, []};
+ghost use Rattle.sat_base.specs.Formats.{Times, Both};
+ghost use Rattle.sat_base.specs.StepText.{IsLiteral, IsHash, AreLiterals, AreHashes, AreUnits};
+ghost use Rattle.certify.specs.SourceReading.{Takes, giving};
 
-use super::numbers::number;
+use super::buffers::Buffers;
+use super::cursor::Cursor;
 use super::stop::Stop;
 use sat_base::{ClauseHash, Lit};
 
@@ -16,50 +15,89 @@ const CODES: u128 = 1 << 29;
 /// Counts and hashes are below it.
 const WORDS: u128 = 1 << 64;
 
-fn literal_items<'b>(count: u64, bytes: &'b [u8], lits: &mut Vec<Lit>) -> Result<&'b [u8], Stop>
+fn literal(cursor: &mut Cursor<'_>) -> Result<Lit, Stop>
+    ensures { Takes IsLiteral result cursor.old cursor.new }
+{
+    let code = cursor.number(CODES)?;
+    Ok(Lit::from_code(code as usize))
+}
+
+fn literal_items(cursor: &mut Cursor<'_>, count: u64, lits: &mut Vec<Lit>) -> Result<(), Stop>
     requires { lits.old.items ≡ [] }
-    ensures { Takes (Times (IsBelow (2 * largest)) count) (leaving lits.new.items (λ s. s.now) result) bytes.now }
+    ensures { Takes (Times IsLiteral count) (giving lits.new.items result) cursor.old cursor.new }
 {
-    let mut rest = bytes;
     for _ in 0..count {
-        let (code, behind) = number(rest, CODES)?;
-        lits.push(Lit::from_code(code as usize))?;
-        rest = behind;
+        let lit = literal(cursor)?;
+        lits.push(lit)?;
     }
-    Ok(rest)
+    Ok(())
 }
 
-fn hash_items<'b>(
-    count: u64,
-    bytes: &'b [u8],
-    hashes: &mut Vec<ClauseHash>,
-) -> Result<&'b [u8], Stop>
+fn hash_items(cursor: &mut Cursor<'_>, count: u64, hashes: &mut Vec<ClauseHash>) -> Result<(), Stop>
     requires { hashes.old.items ≡ [] }
-    ensures { Takes (Times (IsBelow (2 ^ 64)) count) (leaving hashes.new.items (λ s. s.now) result) bytes.now }
+    ensures { Takes (Times IsHash count) (giving hashes.new.items result) cursor.old cursor.new }
 {
-    let mut rest = bytes;
     for _ in 0..count {
-        let (hash, behind) = number(rest, WORDS)?;
+        let hash = cursor.number(WORDS)?;
         hashes.push(hash)?;
-        rest = behind;
     }
-    Ok(rest)
+    Ok(())
 }
 
-/// Reads a list of literals in place of those that are there.
-pub(crate) fn literals<'b>(bytes: &'b [u8], lits: &mut Vec<Lit>) -> Result<&'b [u8], Stop>
-    ensures { Takes AreLiterals (leaving lits.new.items (λ s. s.now) result) bytes.now }
+fn unit(cursor: &mut Cursor<'_>) -> Result<(Lit, ClauseHash), Stop>
+    ensures { Takes (Both IsLiteral IsHash) result cursor.old cursor.new }
+{
+    let lit = literal(cursor)?;
+    let hash = cursor.number(WORDS)?;
+    Ok((lit, hash))
+}
+
+fn unit_items(
+    cursor: &mut Cursor<'_>,
+    count: u64,
+    units: &mut Vec<(Lit, ClauseHash)>,
+) -> Result<(), Stop>
+    requires { units.old.items ≡ [] }
+    ensures { Takes (Times (Both IsLiteral IsHash) count) (giving units.new.items result) cursor.old cursor.new }
+{
+    for _ in 0..count {
+        let unit = unit(cursor)?;
+        units.push(unit)?;
+    }
+    Ok(())
+}
+
+/// Takes a list of literals, in place of those that are there.
+pub(crate) fn literals(cursor: &mut Cursor<'_>, lits: &mut Vec<Lit>) -> Result<(), Stop>
+    ensures { Takes AreLiterals (giving lits.new.items result) cursor.old cursor.new }
 {
     lits.clear();
-    let (count, rest) = number(bytes, WORDS)?;
-    literal_items(count, rest, lits)
+    let count = cursor.number(WORDS)?;
+    literal_items(cursor, count, lits)
 }
 
-/// Reads a list of hashes in place of those that are there.
-pub(crate) fn hashes<'b>(bytes: &'b [u8], hashes: &mut Vec<ClauseHash>) -> Result<&'b [u8], Stop>
-    ensures { Takes AreHashes (leaving hashes.new.items (λ s. s.now) result) bytes.now }
+/// Takes a list of hashes, in place of those that are there.
+pub(crate) fn hashes(cursor: &mut Cursor<'_>, hashes: &mut Vec<ClauseHash>) -> Result<(), Stop>
+    ensures { Takes AreHashes (giving hashes.new.items result) cursor.old cursor.new }
 {
     hashes.clear();
-    let (count, rest) = number(bytes, WORDS)?;
-    hash_items(count, rest, hashes)
+    let count = cursor.number(WORDS)?;
+    hash_items(cursor, count, hashes)
+}
+
+/// Takes a list of units, in place of those that are there.
+pub(crate) fn units(cursor: &mut Cursor<'_>, units: &mut Vec<(Lit, ClauseHash)>) -> Result<(), Stop>
+    ensures { Takes AreUnits (giving units.new.items result) cursor.old cursor.new }
+{
+    units.clear();
+    let count = cursor.number(WORDS)?;
+    unit_items(cursor, count, units)
+}
+
+/// Takes a list of literals, and then one of hashes.
+pub(crate) fn both_lists(cursor: &mut Cursor<'_>, buffers: &mut Buffers) -> Result<(), Stop>
+    ensures { Takes (Both AreLiterals AreHashes) (giving (buffers.new.literals.items, buffers.new.hashes.items) result) cursor.old cursor.new }
+{
+    literals(cursor, &mut buffers.literals)?;
+    hashes(cursor, &mut buffers.hashes)
 }

@@ -4,4 +4,4 @@ use Rattle.certify.proofs.SourceSteps.{reads_step}
 use Rattle.certify.proofs.confirm.source.Source.read.Goals as goal
 
 pub returns-in-Ok : goal.returns-in-Ok
-returns-in-Ok c = reads_step c.args.self.now _ c.in-Some.tag.now c.in-Some.behind.now (ap (λ (p : Place). p.rest) (sym c.self.view_is) ∙ c.in-Some.ensures.cases.0) c.in-Ok.ensures
+returns-in-Ok c = reads_step c.args.self.now _ c.in-Some.tag c.byte.new.self (ap (λ (p : Place). p.rest) (sym c.self.view_is) ∙ c.in-Some.ensures) c.in-Ok.ensures

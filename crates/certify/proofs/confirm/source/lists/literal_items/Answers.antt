@@ -1,20 +1,20 @@
-use Rattle.std.proofs.Common.{ℕ, ◌*◌, ◌^◌, subst, sym, arith}
+use Rattle.std.proofs.Common.{◌*◌, ◌^◌, arith}
 use Rattle.std.proofs.lemmas.Result.{err_from_is_err_and}
-use Rattle.sat_base.specs.Formats.{Times}
+use Rattle.sat_base.specs.Formats.{Both}
 use Rattle.sat_base.specs.Literals.{largest}
-use Rattle.sat_base.specs.Numbers.{IsBelow}
+use Rattle.sat_base.specs.StepText.{IsLiteral, IsHash}
 use Rattle.sat_base.proofs.Numbers.{one_below}
-use Rattle.certify.specs.SourceReading.{Begins}
-use Rattle.certify.proofs.SourceFormats.{stops, counted_none, counted_more, counted_no, counted_all}
+use Rattle.sat_base.proofs.StepReads.{one_unit}
+use Rattle.certify.proofs.SourceFormats.{counted_none, counted_more, counted_fails, counted_all}
 use Rattle.certify.proofs.confirm.source.lists.literal_items.Goals as goal
 
 pub loop-init : goal.loop-init
-loop-init c = counted_none (IsBelow (2 * largest)) c.args.lits.now.items c.args.bytes.now c.requires
+loop-init c = counted_none IsLiteral c.args.lits.now.items c.args.cursor.now c.requires
 
-pub returns-in_err-code : goal.returns-in_err-code
-returns-in_err-code c =
+pub returns-in_err-lit : goal.returns-in_err-lit
+returns-in_err-lit c =
     let p = err_from_is_err_and c.from_residual.result c.from_residual.ensures.1 in
-    rw (p.1, p.2) (stops (IsBelow (2 * largest)) (Times (IsBelow (2 * largest)) c.args.count) c.loop.rest.now c.args.bytes.now c.in_err-code.field-0.0 (counted_no (IsBelow (2 * largest)) (one_below (2 * largest)) c.args.count c.loop.counter c.loop.lits.items c.loop.rest.now c.args.bytes.now c.loop-test.true c.loop.invariant) c.in_err-code.ensures)
+    rw (p.1, p.2) (counted_fails IsLiteral (one_below (2 * largest)) c.args.count c.loop.counter c.loop.lits.items c.in_err-lit.field-0.0 c.loop.cursor c.args.cursor.now c.loop-test.true c.loop.invariant c.in_err-lit.ensures)
 
 pub returns-in_err-push : goal.returns-in_err-push
 returns-in_err-push c =
@@ -22,7 +22,7 @@ returns-in_err-push c =
     rw (p.1, p.2) tt
 
 pub loop-preserved : goal.loop-preserved
-loop-preserved c = rw c.in_ok-push.ensures.items (counted_more (IsBelow (2 * largest)) c.loop.counter c.loop.lits.items c.from_code.result c.loop.rest.now c.in_ok-code.behind.now c.args.bytes.now (subst (λ (n : ℕ). Begins (IsBelow (2 * largest)) n c.in_ok-code.behind.now c.loop.rest.now) (sym c.from_code.ensures) c.in_ok-code.ensures) c.loop.invariant)
+loop-preserved c = rw c.in_ok-push.ensures.items (counted_more IsLiteral c.loop.counter c.loop.lits.items c.in_ok-lit.lit c.loop.cursor c.literal.new.cursor c.args.cursor.now c.in_ok-lit.ensures c.loop.invariant)
 
 pub returns : goal.returns
-returns c = counted_all (IsBelow (2 * largest)) c.args.count c.loop.counter c.loop.lits.items c.loop.rest.now c.args.bytes.now (omega arith) c.loop.invariant
+returns c = counted_all IsLiteral c.args.count c.loop.counter c.loop.lits.items c.loop.cursor c.args.cursor.now (omega arith) c.loop.invariant

@@ -1,0 +1,18 @@
+use Rattle.std.proofs.Common.{◌*◌, ◌^◌}
+use Rattle.std.proofs.lemmas.Result.{err_from_is_err_and}
+use Rattle.sat_base.specs.Formats.{Both}
+use Rattle.sat_base.specs.Literals.{largest}
+use Rattle.sat_base.specs.StepText.{IsVariable, IsOptionalVariable, IsLiteral, IsHash, IsFlag, IsDeletion, AreLiterals, AreHashes}
+use Rattle.sat_base.specs.StepViews.{deletion_of}
+use Rattle.sat_base.proofs.Numbers.{one_below}
+use Rattle.sat_base.proofs.StepReads.{one_flag, one_literals}
+use Rattle.certify.proofs.SourceFormats.{first_fails, second_fails, second_gives, both}
+use Rattle.certify.proofs.confirm.source.groups.clause_and_deletion.Goals as goal
+
+pub returns-in_err-literals : goal.returns-in_err-literals
+returns-in_err-literals c =
+    let p = err_from_is_err_and c.from_residual.result c.from_residual.ensures.1 in
+    rw (p.1, p.2) (first_fails AreLiterals (λ _. IsDeletion) c.in_err-literals.field-0.0 c.args.cursor.now c.in_err-literals.ensures)
+
+pub returns : goal.returns
+returns c = second_gives AreLiterals (λ _. IsDeletion) one_literals c.literals.new.lits.items deletion_of c.args.cursor.now c.literals.new.cursor c.deletion.new.cursor c.in_ok-literals.ensures c.deletion.result c.deletion.ensures

@@ -1,0 +1,23 @@
+use Rattle.std.proofs.Common.{◌*◌, ◌^◌}
+use Rattle.std.proofs.lemmas.Result.{err_from_is_err_and}
+use Rattle.sat_base.specs.Formats.{Both}
+use Rattle.sat_base.specs.Literals.{largest}
+use Rattle.sat_base.specs.StepText.{IsVariable, IsOptionalVariable, IsLiteral, IsHash, IsFlag, IsDeletion, AreLiterals, AreHashes}
+use Rattle.sat_base.specs.StepViews.{deletion_of}
+use Rattle.sat_base.proofs.Numbers.{one_below}
+use Rattle.sat_base.proofs.StepReads.{one_flag, one_literals}
+use Rattle.certify.proofs.SourceFormats.{first_fails, second_fails, second_gives, both}
+use Rattle.certify.proofs.confirm.source.groups.variables.Goals as goal
+
+pub returns-in_err-first : goal.returns-in_err-first
+returns-in_err-first c =
+    let p = err_from_is_err_and c.from_residual.result c.from_residual.ensures.1 in
+    rw (p.1, p.2) (first_fails IsVariable (λ _. IsOptionalVariable) c.in_err-first.field-0.0 c.args.cursor.now c.in_err-first.ensures)
+
+pub returns-in_err-second : goal.returns-in_err-second
+returns-in_err-second c =
+    let p = err_from_is_err_and c.from_residual-in_err-second.result c.from_residual-in_err-second.ensures.1 in
+    rw (p.1, p.2) (second_fails IsVariable (λ _. IsOptionalVariable) (one_below largest) c.in_ok-first.first c.in_err-second.field-0.0 c.args.cursor.now c.variable.new.cursor c.in_ok-first.ensures c.in_err-second.ensures)
+
+pub returns : goal.returns
+returns c = both IsVariable (λ _. IsOptionalVariable) c.in_ok-first.first c.in_ok-second.second c.args.cursor.now c.variable.new.cursor c.optional.new.cursor c.in_ok-first.ensures c.in_ok-second.ensures

@@ -1,0 +1,47 @@
+//! The fields of steps that have several.
+ghost use Rattle.sat_base.specs.Formats.{Both};
+ghost use Rattle.sat_base.specs.StepText.{IsVariable, IsOptionalVariable, IsFlag, IsDeletion, AreLiterals, AreHashes};
+ghost use Rattle.sat_base.specs.StepViews.{deletion_of};
+ghost use Rattle.certify.specs.SourceReading.{Takes, valued};
+
+use super::buffers::Buffers;
+use super::cursor::Cursor;
+use super::lists::{both_lists, literals};
+use super::stop::Stop;
+use super::values::{deletion, flag, optional, variable};
+use sat_base::{DeleteClauseProof, Var};
+
+/// Takes a variable, and then one that may be none.
+pub(crate) fn variables(cursor: &mut Cursor<'_>) -> Result<(Var, Option<Var>), Stop>
+    ensures { Takes (Both IsVariable IsOptionalVariable) result cursor.old cursor.new }
+{
+    let first = variable(cursor)?;
+    let second = optional(cursor)?;
+    Ok((first, second))
+}
+
+pub(crate) fn variable_and_flag(cursor: &mut Cursor<'_>) -> Result<(Var, bool), Stop>
+    ensures { Takes (Both IsVariable IsFlag) result cursor.old cursor.new }
+{
+    let var = variable(cursor)?;
+    let flag = flag(cursor)?;
+    Ok((var, flag))
+}
+
+pub(crate) fn flag_and_lists(cursor: &mut Cursor<'_>, buffers: &mut Buffers) -> Result<bool, Stop>
+    ensures { Takes (Both IsFlag (Both AreLiterals AreHashes)) (valued (λ f. (f, (buffers.new.literals.items, buffers.new.hashes.items))) result) cursor.old cursor.new }
+{
+    let flag = flag(cursor)?;
+    both_lists(cursor, buffers)?;
+    Ok(flag)
+}
+
+pub(crate) fn clause_and_deletion(
+    cursor: &mut Cursor<'_>,
+    buffers: &mut Buffers,
+) -> Result<DeleteClauseProof, Stop>
+    ensures { Takes (Both AreLiterals IsDeletion) (valued (λ p. (buffers.new.literals.items, deletion_of p)) result) cursor.old cursor.new }
+{
+    literals(cursor, &mut buffers.literals)?;
+    deletion(cursor)
+}

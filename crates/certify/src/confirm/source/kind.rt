@@ -1,0 +1,21 @@
+//! Proof steps without their lists.
+
+use sat_base::{DeleteClauseProof, HashBits, Var};
+
+/// Which step it is, and what it has beside its lists.
+#[derive(Clone, Copy, Debug)]
+pub(crate) enum Kind {
+    SolverVarName { global: Var, solver: Option<Var> },
+    UserVarName { global: Var, user: Option<Var> },
+    DeleteVar { var: Var },
+    ChangeSamplingMode { var: Var, sample: bool },
+    AddClause,
+    AtClause { redundant: bool },
+    UnitClauses,
+    DeleteClause { proof: DeleteClauseProof },
+    ChangeHashBits { bits: HashBits },
+    Model,
+    Assumptions,
+    FailedAssumptions,
+    End,
+}
