@@ -26,3 +26,4 @@ pub mod Dimacs
 pub mod Parsing
 pub mod Collecting
 pub mod Standing
+pub mod DimacsRows

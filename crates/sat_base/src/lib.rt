@@ -11,6 +11,7 @@ pub mod formula;
 pub mod hash;
 mod kind;
 pub mod law;
+pub mod law_dimacs;
 pub mod law_text;
 mod lists;
 pub mod lit;
