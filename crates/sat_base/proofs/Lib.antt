@@ -25,3 +25,4 @@ pub mod Collected
 pub mod PlainTokens
 pub mod Feeding
 pub mod Parsed
+pub mod DimacsRead

@@ -28,3 +28,4 @@ pub mod WrittenDimacs
 pub mod Parsing
 pub mod Collecting
 pub mod Standing
+pub mod DimacsRows

@@ -125,3 +125,6 @@ impl DimacsParser {
         Err(DimacsError::Read)
     }
 }
+
+#[cfg(test)]
+mod tests;

@@ -1,8 +1,18 @@
-//! A law of what is written as DIMACS CNF, for proofs alone.
+//! Laws of formulas' texts, for proofs alone.
+ghost use Rattle.sat_base.specs.DimacsRows.{CleanRows, FaultRows, HeaderRows, PartRows};
 ghost use Rattle.sat_base.specs.WrittenDimacs.{WrittenIsRead};
 
 /// The text that is written of a formula is read as that formula: its clauses in order, a clean end, and a header with the number
 /// of variables and that of clauses. It does nothing.
 pub fn written_dimacs_is_read()
     ensures { WrittenIsRead }
+{}
+
+/// Texts, and what they say. It does nothing.
+pub fn dimacs_rows()
+    ensures clean { CleanRows }
+    ensures faults { FaultRows }
+    ensures headers { HeaderRows }
+    // A text up to its last blank, and up to its last LF.
+    ensures parts { PartRows }
 {}

@@ -1,5 +1,7 @@
 //! A parser that says whether it stopped.
-ghost use Rattle.std.specs.Prelude.{◌≡◌, ◌++◌, ◌∷◌, [], true, false, OnOk};
+ghost use Rattle.std.specs.Prelude.{◌≡◌, ◌++◌, ◌∷◌, [], ℕ, List, true, false, OnOk};
+ghost use Rattle.sat_base.specs.Text.{Scan};
+ghost use Rattle.sat_base.specs.Tokenizing.{held, Stands};
 ghost use Rattle.sat_base.specs.Formulas.{vars_of};
 ghost use Rattle.sat_base.specs.Parsing.{Feeds, Finishes, IsSound, no_progress, all_taken, clauses_read};
 ghost use Rattle.sat_base.specs.Standing.{IsParser, progress_of, EndsClean};
@@ -37,6 +39,13 @@ impl Parser {
         }
     }
 
+    /// The line of the last byte.
+    fn line(&self) -> u64
+        ensures { (before : List ℕ → Scan) → Stands self.now.tokenizer before → result ≡ held (before []).last }
+    {
+        self.tokenizer.line()
+    }
+
     /// The next byte.
     fn push(&mut self, byte: u8) -> Result<(), DimacsError>
         requires parser { IsParser self.old }
@@ -58,7 +67,7 @@ impl Parser {
                 self.stopped = true;
                 self.ended = true;
                 Err(DimacsError::Malformed {
-                    line: self.tokenizer.line(),
+                    line: self.line(),
                 })
             }
             Err(Refusal::Limit) => {
@@ -66,7 +75,7 @@ impl Parser {
                 self.stopped = true;
                 self.ended = true;
                 Err(DimacsError::Limit {
-                    line: self.tokenizer.line(),
+                    line: self.line(),
                 })
             }
             Err(Refusal::OutOfMemory) => {
@@ -101,7 +110,7 @@ impl Parser {
         self.ended = true;
         if self.clauses.is_inside() {
             return Err(DimacsError::Malformed {
-                line: self.tokenizer.line(),
+                line: self.line(),
             });
         }
         Ok(())
@@ -125,14 +134,14 @@ impl Parser {
                 self.stopped = true;
                 self.ended = true;
                 Err(DimacsError::Malformed {
-                    line: self.tokenizer.line(),
+                    line: self.line(),
                 })
             }
             Err(Refusal::Limit) => {
                 self.stopped = true;
                 self.ended = true;
                 Err(DimacsError::Limit {
-                    line: self.tokenizer.line(),
+                    line: self.line(),
                 })
             }
             Err(Refusal::OutOfMemory) => {
