@@ -1,11 +1,10 @@
 -- What each command brings a run to.
-use Rattle.std.proofs.Common.{ℕ, zero, suc, ◌+◌, ◌-◌, ◌/◌, ◌%◌, ◌<◌, ◌≤◌, ◌≡◌, Bool, true, false, cond, eqb, List, [], ◌∷◌, ◌++◌, map, drop, Option, Some, None, Result, Ok, Err, OnOk, refl, sym, ◌∙◌, ap, subst, arith, append_assoc, append-nil, max}
+use Rattle.std.proofs.Common.{ℕ, zero, suc, ◌+◌, ◌-◌, ◌≤◌, ◌≡◌, true, false, cond, List, [], ◌∷◌, ◌++◌, map, drop, Option, Some, None, Result, Ok, Err, OnOk, refl, sym, ◌∙◌, ap, subst, arith, append_assoc, append-nil, max}
 use Rattle.std.proofs.KnownBytes.{Appends-nil, Appends-trans}
 use Rattle.std.proofs.lemmas.List.{map-append}
-use Rattle.std.proofs.lemmas.Bool.Decides.{nat_tests}
 use Rattle.std.specs.List.{AllByRecursion, slice_get}
 use Rattle.std.specs.Io.KnownBytes.{Appends}
-use Rattle.sat_base.specs.Literals.{coded, variable}
+use Rattle.sat_base.specs.Literals.{variable}
 use Rattle.sat_base.specs.Clauses.{Valuation, clause_true, EachTrue, EachHolds}
 use Rattle.sat_base.specs.Script.{Literal, Command, Clause, Ask, Ending, names_of}
 use Rattle.sat_base.specs.Judge.{Judge, PastLimit, bring_all, with_clause, over, accepted, accepted_of, refused_literal, names_from, start}
