@@ -1,12 +1,11 @@
 -- From what is decided of a script whose names are held, to what is said of the texts that were read.
-use Rattle.std.proofs.Common.{ℕ, ◌+◌, ◌-◌, ◌^◌, ◌<◌, ◌≤◌, ◌≡◌, ◌↔◌, List, [], ◌∷◌, ◌++◌, map, length, Option, Some, None, IfSome, refl, sym, ◌∙◌, ap, subst, arith, append-nil}
+use Rattle.std.proofs.Common.{ℕ, ◌-◌, ◌^◌, ◌<◌, ◌≤◌, ◌≡◌, ◌↔◌, List, [], ◌∷◌, ◌++◌, map, length, Option, Some, None, IfSome, refl, sym, ◌∙◌, ap, subst, arith, append-nil}
 use Rattle.std.proofs.lemmas.List.{length-map}
 use Rattle.std.specs.Io.KnownBytes.{Consumes, IsAtEnd}
 use Rattle.std.specs.List.{AllByRecursion}
-use Rattle.sat_base.specs.Script.{Literal, Command, Clause, Ask, Hide, Witness, Sample, Ending, names_of, Reading, reading}
-use Rattle.sat_base.specs.Judge.{start, accepted_of}
-use Rattle.certify.specs.Answers.{answers_text}
-use Rattle.certify.specs.Confirmed.{IsExact, IsSoundYes, GaveRightAnswers}
+use Rattle.sat_base.specs.Script.{Literal, Command, Clause, Ask, Hide, Witness, Sample, Ending, names_of, reading}
+use Rattle.sat_base.specs.Judge.{start}
+use Rattle.certify.specs.Confirmed.{IsExact, IsSoundYes}
 use Rattle.certify.specs.Decides.{Decides}
 use Rattle.certify.specs.Holding.{held_command, HeldScript, held_script}
 use Rattle.certify.specs.Matches.{MatchesCommands, Matches, OneEach, Meets, expected}

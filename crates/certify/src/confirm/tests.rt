@@ -259,7 +259,7 @@ fn asked_at_the_end(rt: HostRuntime) -> Result<(), Fail> {
     }
     assert_eq!(rt;
         verdict(&rt, b"1 2 0\n", ROW_ANSWERS, ROW_STEPS)?,
-        no(1, Why::AnswerText)
+        no(1, Why::StepOutOfPlace)
     );
     assert_eq!(rt;
         verdict(&rt, b"p cnf 2 1\n1 2 0\n", b"", ROW_STEPS)?,

@@ -1,4 +1,4 @@
-use Rattle.std.proofs.Common.{◌≡◌, ◌∙◌, Bool, true, false, refl, ap, sym}
+use Rattle.std.proofs.Common.{◌≡◌, ◌∙◌, true, false, ap, sym}
 use Rattle.sat_base.specs.Script.{Clean, Malformed, at_end}
 use Rattle.certify.specs.ScriptParts.{end_of}
 use Rattle.certify.specs.ScriptReading.{hand_in}

@@ -3,7 +3,7 @@ use Rattle.std.specs.Vec.{vec_len}
 use Rattle.sat_base.specs.Script.{Command, Ask, Clean}
 use Rattle.certify.specs.declared.script.Kind.TheVariants as kind
 use Rattle.certify.specs.declared.script.Part.{Part}
-use Rattle.certify.specs.ScriptParts.{AreParts, commands_in}
+use Rattle.certify.specs.ScriptParts.{commands_in}
 use Rattle.certify.specs.ScriptReading.{commands_read}
 use Rattle.certify.proofs.Parts.{length-commands_in, AreParts-part, AreParts-more}
 use Rattle.certify.proofs.Reading.{asked_parts}

@@ -1,5 +1,4 @@
 use Rattle.std.proofs.Common.{◌≡◌, ◌∙◌, ℕ, length, ap, arith}
-use Rattle.certify.specs.Holding.{HeldScript}
 use Rattle.certify.specs.ScriptParts.{end_of}
 use Rattle.certify.specs.ScriptReading.{commands_read}
 use Rattle.certify.proofs.Parts.{length-commands_in}

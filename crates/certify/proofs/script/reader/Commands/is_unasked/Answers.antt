@@ -1,5 +1,5 @@
-use Rattle.std.proofs.Common.{◌≡◌, ◌∙◌, Bool, true, refl, ap, sym}
-use Rattle.std.specs.Prelude.{◌&&◌, not}
+use Rattle.std.proofs.Common.{◌≡◌, ◌∙◌, ap, sym}
+use Rattle.std.specs.Prelude.{not}
 use Rattle.sat_base.specs.Script.{has_ask}
 use Rattle.certify.specs.ScriptParts.{any_ask}
 use Rattle.certify.specs.ScriptReading.{commands_read}
