@@ -168,13 +168,14 @@ fn other_kinds_of_step(rt: HostRuntime) -> Result<(), Fail> {
         &[9, 64],
     ];
     for step in refused {
-        let certificate = with_step(rt.alloc(), step)?;
+        let mut certificate = with_step(rt.alloc(), step)?;
         assert_eq!(rt;
             verdict(&rt, ROW, ROW_ANSWERS, &certificate)?,
             no(1, Why::StepRefused)
         );
+        certificate.truncate(7);
         assert_eq!(rt;
-            verdict(&rt, ROW, ROW_ANSWERS, &certificate[..7])?,
+            verdict(&rt, ROW, ROW_ANSWERS, &certificate)?,
             no(1, Why::CertificateEnds)
         );
     }
