@@ -66,17 +66,13 @@ impl Parser {
                 self.history = self.history.and_byte(byte);
                 self.stopped = true;
                 self.ended = true;
-                Err(DimacsError::Malformed {
-                    line: self.line(),
-                })
+                Err(DimacsError::Malformed { line: self.line() })
             }
             Err(Refusal::Limit) => {
                 self.history = self.history.and_byte(byte);
                 self.stopped = true;
                 self.ended = true;
-                Err(DimacsError::Limit {
-                    line: self.line(),
-                })
+                Err(DimacsError::Limit { line: self.line() })
             }
             Err(Refusal::OutOfMemory) => {
                 self.stopped = true;
@@ -109,9 +105,7 @@ impl Parser {
         self.stopped = true;
         self.ended = true;
         if self.clauses.is_inside() {
-            return Err(DimacsError::Malformed {
-                line: self.line(),
-            });
+            return Err(DimacsError::Malformed { line: self.line() });
         }
         Ok(())
     }
@@ -133,16 +127,12 @@ impl Parser {
             Err(Refusal::Malformed) => {
                 self.stopped = true;
                 self.ended = true;
-                Err(DimacsError::Malformed {
-                    line: self.line(),
-                })
+                Err(DimacsError::Malformed { line: self.line() })
             }
             Err(Refusal::Limit) => {
                 self.stopped = true;
                 self.ended = true;
-                Err(DimacsError::Limit {
-                    line: self.line(),
-                })
+                Err(DimacsError::Limit { line: self.line() })
             }
             Err(Refusal::OutOfMemory) => {
                 self.stopped = true;

@@ -1,4 +1,6 @@
 //! Rows of texts, whole and in pieces of one byte, and what goes on after a fault.
+ghost use Rattle.std.specs.Prelude.{◌<◌};
+
 use crate::{CnfFormula, Counted, DimacsError, DimacsParser};
 use std::alloc::Global;
 use std::test::*;
