@@ -1,12 +1,14 @@
 -- What a parser answers of a reader's text.
-use Rattle.std.proofs.Common.{◌≡◌, ℕ, List, [], ◌∷◌, ◌++◌, Bool, true, false, Option, Some, None, Result, Ok, Err, refl, sym, ap, subst, ◌∙◌, append_assoc}
+use Rattle.std.proofs.Common.{◌≡◌, ℕ, List, [], ◌∷◌, ◌++◌, Bool, true, false, Option, Some, None, Result, Ok, Err, refl, sym, ap, subst, ◌∙◌, append_assoc, take}
 use Rattle.std.specs.Prelude.{IfSome}
-use Rattle.std.specs.Io.KnownBytes.{Consumes}
+use Rattle.std.specs.List.{FoldsTo}
+use Rattle.std.proofs.lemmas.List.{append-nil}
+use Rattle.std.specs.Io.KnownBytes.{Consumes, IsAtEnd}
 use Rattle.sat_base.specs.declared.dimacs.error.DimacsError.{DimacsError}
 use Rattle.sat_base.specs.declared.dimacs.error.DimacsError.TheVariants as errors
 use Rattle.sat_base.specs.Formulas.{Formula}
-use Rattle.sat_base.specs.Dimacs.{Ending, Malformed, Limit, Dimacs, dimacs}
-use Rattle.sat_base.specs.Parsing.{Progress, no_progress, with_fed, at_its_end, Faults, Feeds, Parses}
+use Rattle.sat_base.specs.Dimacs.{Ending, Malformed, Limit, Clean, Dimacs, dimacs}
+use Rattle.sat_base.specs.Parsing.{Progress, no_progress, with_fed, at_its_end, Faults, Feeds, Finishes, Parses}
 use Rattle.sat_base.proofs.Known.{consumes_more}
 
 consumed_some : (a b : Option (List ℕ)) (xs : List ℕ) (P : List ℕ → Type 0) → Consumes a b xs → ((rest : List ℕ) → P (xs ++ rest)) → IfSome a P
@@ -15,21 +17,72 @@ consumed_some (Some s) None xs P h p = absurd h
 consumed_some (Some s) (Some t) xs P h p = subst P (sym h) (p t)
 
 -- the text has the ending of its fault
-fault_ends : (ending : Ending) (fed piece : List ℕ) (p q : Progress) → p ≡ with_fed fed no_progress → Faults ending piece p q → (rest : List ℕ) → (dimacs ((fed ++ piece) ++ rest)).ending ≡ ending
+fault_ends : (ending : Ending) (fed piece : List ℕ) (p q : Progress) → p.fed ≡ fed → Faults ending piece p q → (rest : List ℕ) → (dimacs ((fed ++ piece) ++ rest)).ending ≡ ending
 fault_ends ending fed piece p q e f rest =
-    let is : q.fed ≡ fed ++ f.front = ap (λ (k : Progress). k.fed) f.progress ∙ ap (λ (k : Progress). k.fed ++ f.front) e in
+    let is : q.fed ≡ fed ++ f.front = ap (λ (k : Progress). k.fed) f.progress ∙ ap (λ (k : List ℕ). k ++ f.front) e in
     let text : (fed ++ piece) ++ rest ≡ q.fed ++ (f.behind ++ rest) =
     ap (λ (xs : List ℕ). (fed ++ xs) ++ rest) f.whole ∙ ap (λ (xs : List ℕ). xs ++ rest) (sym (append_assoc fed f.front f.behind)) ∙ append_assoc (fed ++ f.front) f.behind rest
     ∙ ap (λ (xs : List ℕ). xs ++ (f.behind ++ rest)) (sym is) in
     ap (λ (k : List ℕ). (dimacs k).ending) text ∙ ap (λ (d : Dimacs). d.ending) (f.ends (f.behind ++ rest))
 
-stops_on : (e : DimacsError) (fed piece : List ℕ) (p q : Progress) → p ≡ with_fed fed no_progress → Feeds (Err e) piece p q → (rest : List ℕ) → Parses (Err e) ((fed ++ piece) ++ rest)
-stops_on (errors.Malformed line) fed piece p q e f rest = (f.1, f.2, fault_ends (Malformed f.1) fed piece p q e f.3 rest)
-stops_on (errors.Limit line) fed piece p q e f rest = (f.1, f.2, fault_ends (Limit f.1) fed piece p q e f.3 rest)
-stops_on errors.Read fed piece p q e f rest = tt
-stops_on errors.OutOfMemory fed piece p q e f rest = tt
-stops_on errors.HasFailed fed piece p q e f rest = absurd (let g : ◌≡◌ {A = Bool} true false = sym f.0 ∙ ap (λ (k : Progress). k.stopped) e in cc)
+stops_on : (e : DimacsError) (fed piece : List ℕ) (p q : Progress) → p.fed ≡ fed → p.stopped ≡ false → Feeds (Err e) piece p q → (rest : List ℕ) → Parses (Err e) ((fed ++ piece) ++ rest)
+stops_on (errors.Malformed line) fed piece p q e s f rest = (f.1, f.2, fault_ends (Malformed f.1) fed piece p q e f.3 rest)
+stops_on (errors.Limit line) fed piece p q e s f rest = (f.1, f.2, fault_ends (Limit f.1) fed piece p q e f.3 rest)
+stops_on errors.Read fed piece p q e s f rest = tt
+stops_on errors.OutOfMemory fed piece p q e s f rest = tt
+stops_on errors.HasFailed fed piece p q e s f rest = absurd (let g : ◌≡◌ {A = Bool} true false = sym f.0 ∙ s in cc)
 
 pub parse_stops : (a b c : Option (List ℕ)) (e : DimacsError) (fed piece : List ℕ) (p q : Progress) → p ≡ with_fed fed no_progress → Feeds (Err e) piece p q → Consumes a b fed → Consumes b c piece
     → IfSome a (Parses (Err e))
-parse_stops a b c e fed piece p q is f h k = consumed_some a c (fed ++ piece) (Parses (Err e)) (consumes_more a b c fed piece h k) (stops_on e fed piece p q is f)
+parse_stops a b c e fed piece p q is f h k = consumed_some a c (fed ++ piece) (Parses (Err e)) (consumes_more a b c fed piece h k) (stops_on e fed piece p q (ap (λ (k : Progress). k.fed) is) (ap (λ (k : Progress). k.stopped) is) f)
+
+-- where the end of the text was read, it is the bytes taken
+read_whole : (a b c : Option (List ℕ)) (fed : List ℕ) (P : List ℕ → Type 0) → Consumes a b fed → Consumes b c [] → IsAtEnd c → P fed → IfSome a P
+read_whole None b c fed P h k e p = tt
+read_whole (Some s) None c fed P h k e p = absurd h
+read_whole (Some s) (Some t) None fed P h k e p = absurd k
+read_whole (Some s) (Some t) (Some u) fed P h k e p = subst P (sym (h ∙ ap (λ (z : List ℕ). fed ++ z) (k ∙ e) ∙ append-nil fed)) p
+
+pub took_none : (b c : Option (List ℕ)) (n : ℕ) (buf : List ℕ) → n ≡ 0 → Consumes b c (take n buf) → Consumes b c []
+took_none b c n buf e h = subst (λ (k : ℕ). Consumes b c (take k buf)) e h
+
+-- what a parser is where its clauses may have been handed over
+abbrev pub Stands : List ℕ → Progress → Type 0
+Stands fed p = p ≡ record (with_fed fed no_progress) { taken = p.taken }
+
+pub feeding_stops : (a b c : Option (List ℕ)) (K : Type 0) (e : DimacsError) (fed piece : List ℕ) (p q : Progress) → (K → Stands fed p) → Feeds (Err e) piece p q → Consumes a b fed → Consumes b c piece
+    → IfSome a (λ text. K → Parses (Err e) text)
+feeding_stops a b c K e fed piece p q is f h k = consumed_some a c (fed ++ piece) (λ (text : List ℕ). K → Parses (Err e) text) (consumes_more a b c fed piece h k) (λ rest met.
+    stops_on e fed piece p q (ap (λ (k : Progress). k.fed) (is met)) (ap (λ (k : Progress). k.stopped) (is met)) f rest)
+
+ends_by : (e : DimacsError) (fed : List ℕ) (p q : Progress) → Stands fed p → Finishes (Err e) p q → Parses (Err e) fed
+ends_by (errors.Malformed line) fed p q is f = (f.2, f.3, ap (λ (k : Progress). (dimacs k.fed).ending) (sym is) ∙ f.4)
+ends_by (errors.Limit line) fed p q is f = (f.2, f.3, ap (λ (k : Progress). (dimacs k.fed).ending) (sym is) ∙ f.4)
+ends_by errors.Read fed p q is f = tt
+ends_by errors.OutOfMemory fed p q is f = tt
+ends_by errors.HasFailed fed p q is f = absurd (let g : ◌≡◌ {A = Bool} true false = sym f.0 ∙ ap (λ (k : Progress). k.stopped) is in cc)
+
+pub finishing_stops : (a b c : Option (List ℕ)) (K : Type 0) (e : DimacsError) (fed : List ℕ) (p q : Progress) → (K → Stands fed p) → Finishes (Err e) p q → Consumes a b fed → Consumes b c [] → IsAtEnd c
+    → IfSome a (λ text. K → Parses (Err e) text)
+finishing_stops a b c K e fed p q is f h k end = read_whole a b c fed (λ (text : List ℕ). K → Parses (Err e) text) h k end (λ met. ends_by e fed p q (is met) f)
+
+-- the end, and then what a call that keeps the text leaves
+abbrev pub Ended : List ℕ → Progress → Type 0
+Ended text p = (p.fed ≡ text) × (p.stopped ≡ true) × (p.ended ≡ true) × ((dimacs text).ending ≡ Clean)
+
+pub finishes_clean : (a b c : Option (List ℕ)) (K : Type 0) (fed : List ℕ) (p q r : Progress) → (K → Stands fed p) → (K → r ≡ record q { taken = r.taken }) → (q ≡ at_its_end p) × ((dimacs p.fed).ending ≡ Clean)
+    → Consumes a b fed → Consumes b c [] → IsAtEnd c → IfSome a (λ text. K → Ended text r)
+finishes_clean a b c K fed p q r is kept f h k end = read_whole a b c fed (λ (text : List ℕ). K → Ended text r) h k end (λ met.
+    let e : r ≡ record (at_its_end p) { taken = r.taken } = kept met ∙ ap (λ (z : Progress). record z { taken = r.taken }) f.0 in
+    let fed_is : p.fed ≡ fed = ap (λ (z : Progress). z.fed) (is met) in
+    (ap (λ (z : Progress). z.fed) e ∙ fed_is, ap (λ (z : Progress). z.stopped) e, ap (λ (z : Progress). z.ended) e, ap (λ (z : List ℕ). (dimacs z).ending) (sym fed_is) ∙ f.1))
+
+-- a piece is taken, and then a call keeps the text
+pub fed_and_kept : (fed piece : List ℕ) (p q r : Progress) → Stands fed p → q ≡ with_fed piece p → r ≡ record q { taken = r.taken } → Stands (fed ++ piece) r
+fed_and_kept fed piece p q r is f kept =
+    kept ∙ ap (λ (z : Progress). record z { taken = r.taken }) f ∙ ap (λ (z : Progress). record (with_fed piece z) { taken = r.taken }) is
+
+-- one step more
+pub folds_more : {P A : Type 0} (R : P → A → P → Type 0) (p q r : P) (xs : List A) (x : A) → FoldsTo R p xs q → R q x r → FoldsTo R p (xs ++ (x ∷ [])) r
+folds_more R p q r [] x h k = (r, subst (λ z. R z x r) (sym h) k, refl)
+folds_more R p q r (y ∷ ys) x h k = (h.0, h.1, folds_more R h.0 q r ys x h.2 k)

@@ -1,10 +1,14 @@
 -- What a parser of formulas' texts makes of the bytes that it is fed.
-use Rattle.std.specs.Prelude.{◌≡◌, ℕ, length, nat_eq, List, [], ◌∷◌, ◌++◌, Bool, true, false, ◌||◌, Option, None, Some, Result, Ok, Err, if◌then◌else◌}
+use Rattle.std.specs.Borrow.{MutBor}
+use Rattle.std.specs.List.{FoldsTo}
+use Rattle.std.specs.Prelude.{◌≡◌, ◌⊎◌, ℕ, length, nat_eq, List, [], ◌∷◌, ◌++◌, Bool, true, false, ◌||◌, Option, None, Some, Result, Ok, Err, if◌then◌else◌}
 use Rattle.sat_base.specs.Text.{Token, tokens, header_of}
 use Rattle.sat_base.specs.Tokenizing.{held}
 use Rattle.sat_base.specs.Formulas.{Formula, vars_of}
 use Rattle.sat_base.specs.Dimacs.{Dimacs, Ending, Clean, Malformed, Limit, Hand, Turn, GoesOn, Ends, Fails, turn, dimacs, settled, IsDimacs}
 use Rattle.sat_base.specs.declared.dimacs.error.DimacsError.{DimacsError}
+use Rattle.sat_base.specs.declared.dimacs.error.IncrementalError.{IncrementalError}
+use Rattle.sat_base.specs.declared.dimacs.error.IncrementalError.TheVariants as parts
 use Rattle.sat_base.specs.declared.dimacs.error.DimacsError.TheVariants as errors
 
 -- what a caller knows of a parser
@@ -119,3 +123,39 @@ Parses (Err (errors.Limit line)) text = (n : ℕ) × (line ≡ held n) × ((dima
 Parses (Err errors.OutOfMemory) text = Unit {0}
 Parses (Err errors.Read) text = Unit {0}
 Parses (Err errors.HasFailed) text = ⊥
+
+-- the calls of a closure that is lent a parser
+abbrev pub Calls : Type 0 → Type 0 → Type 1
+Calls F E = F → MutBor Progress → Result (Unit {0}) E → MutBor Progress → F → Type 0
+
+-- each call leaves the bytes taken and where the parser stands, as `take_formula` does
+abbrev pub KeepsText : {F E : Type 0} → Calls F E → Type 0
+KeepsText {F} {E} calls = (f g : F) (p q : MutBor Progress) (answer : Result (Unit {0}) E) → calls f p answer q g → q.now ≡ record p.now { taken = q.now.taken }
+
+-- what a whole text is answered by where a caller sees each piece's clauses
+abbrev pub ParsesInParts : {E : Type 0} → Result Progress (IncrementalError E) → List ℕ → Type 0
+ParsesInParts (Ok p) text = (p.fed ≡ text) × (p.stopped ≡ true) × (p.ended ≡ true) × ((dimacs text).ending ≡ Clean)
+ParsesInParts (Err (parts.Dimacs e)) text = Parses (Err e) text
+ParsesInParts (Err (parts.Caller e)) text = Unit {0}
+
+-- the closure has the parser, and answers; both may change
+abbrev pub Visits : {F E : Type 0} → Calls F E → F × Progress → Result (Unit {0}) E → F × Progress → Type 0
+Visits calls s answer t = (p : MutBor Progress) × (q : MutBor Progress) × (p.now ≡ s.1) × (q.now ≡ t.1) × calls s.0 p answer q t.0
+
+-- a piece is taken, and then the closure has the parser
+abbrev pub FeedsAndVisits : {F E : Type 0} → Calls F E → F × Progress → List ℕ → F × Progress → Type 0
+FeedsAndVisits calls s piece t = (fed : Progress) × Feeds (Ok tt) piece s.1 fed × Visits calls (s.0, fed) (Ok tt) t
+
+-- an answer to a piece, or to the end
+abbrev pub Answers : Result (Unit {0}) DimacsError → Progress → Progress → Type 0
+Answers answer old new = ((piece : List ℕ) × Feeds answer piece old new) ⊎ Finishes answer old new
+
+-- what comes behind the pieces that were taken and seen: the closure has the parser once more, unless a read has failed
+abbrev pub EndsVisits : {F E : Type 0} → Calls F E → Result Progress (IncrementalError E) → F × Progress → Type 0
+EndsVisits {F} calls (Ok p) s = (mid : Progress) × (f : F) × Finishes (Ok tt) s.1 mid × Visits calls (s.0, mid) (Ok tt) (f, p)
+EndsVisits {F} calls (Err (parts.Dimacs e)) s = (e ≡ errors.Read) ⊎ ((mid : Progress) × (t : F × Progress) × Answers (Err e) s.1 mid × Visits calls (s.0, mid) (Ok tt) t)
+EndsVisits {F} calls (Err (parts.Caller e)) s = (answer : Result (Unit {0}) DimacsError) × (mid : Progress) × (t : F × Progress) × Answers answer s.1 mid × Visits calls (s.0, mid) (Err e) t
+
+-- the closure had the parser after each piece, and after the end
+abbrev pub VisitsAll : {F E : Type 0} → Calls F E → F → Result Progress (IncrementalError E) → Type 0
+VisitsAll {F} calls f result = (pieces : List (List ℕ)) × (s : F × Progress) × FoldsTo (FeedsAndVisits calls) (f, no_progress) pieces s × EndsVisits calls result s

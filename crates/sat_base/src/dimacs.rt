@@ -6,14 +6,14 @@ ghost use Rattle.sat_base.specs.Literals.{largest};
 ghost use Rattle.sat_base.specs.Text.{header_of};
 ghost use Rattle.sat_base.specs.Tokenizing.{held};
 ghost use Rattle.sat_base.specs.Formulas.{vars_of};
-ghost use Rattle.sat_base.specs.Parsing.{no_progress, clauses_read, lines_read, held_numbers, all_taken, Feeds, IsSound, Finishes, Parses};
+ghost use Rattle.sat_base.specs.Parsing.{no_progress, clauses_read, lines_read, held_numbers, all_taken, Feeds, IsSound, Finishes, Parses, KeepsText, ParsesInParts, VisitsAll};
 
 mod clauses;
 pub mod error;
 mod history;
 mod parser;
 
-use self::error::DimacsError;
+use self::error::{DimacsError, IncrementalError};
 use self::parser::Parser;
 use crate::whole::MAX_READS;
 use crate::{CnfFormula, CountedRead};
@@ -123,6 +123,52 @@ impl DimacsParser {
             }
         }
         Err(DimacsError::Read)
+    }
+
+    /// Reads a formula to the end of its text, and calls the closure with the parser after each piece, also before a fault of the
+    /// text is answered, and after the end. What the closure doesn't take waits in the parser that is returned.
+    pub fn parse_incremental<R: CountedRead, E: Drop, F: FnMut(&mut DimacsParser) -> Result<(), E>>(
+        alloc: Global,
+        reader: &mut R,
+        mut closure: F,
+    ) -> Result<DimacsParser, IncrementalError<E>>
+        requires { F.IsAlwaysCallable closure }
+        // Where the reader tells its bytes, and the closure does no more than take clauses, the faults are those of the text, and
+        // so are the clauses that were taken and those that wait, by what `take_formula` ensures.
+        ensures parsed { IfSome (R.remaining reader.old) (λ text. KeepsText (λ f p r q g. F.step f p r q g) → ParsesInParts result text) }
+        ensures visited { VisitsAll (λ f p r q g. F.step f p r q g) closure result }
+        ensures end { OnOk result (IsAtEnd (R.remaining reader.new)) }
+        ensures kept { OnOk result (R.failures reader.new ≡ R.failures reader.old) }
+        ensures read { IsErrOf result (IncrementalError.Dimacs DimacsError.Read)
+            → (R.failures reader.old < R.failures reader.new) ⊎ (R.calls reader.new ≡ R.calls reader.old + most_reads) }
+    {
+        let mut parser = DimacsParser::new(alloc);
+        let mut piece = [0; 4096];
+        for _ in 0..MAX_READS {
+            match reader.read_counted(&mut piece) {
+                Ok(0) => {
+                    let answer = parser.finish();
+                    if let Err(e) = closure(&mut parser) {
+                        return Err(IncrementalError::Caller(e));
+                    }
+                    if let Err(e) = answer {
+                        return Err(IncrementalError::Dimacs(e));
+                    }
+                    return Ok(parser);
+                }
+                Ok(count) => {
+                    let answer = parser.feed(&piece[..count]);
+                    if let Err(e) = closure(&mut parser) {
+                        return Err(IncrementalError::Caller(e));
+                    }
+                    if let Err(e) = answer {
+                        return Err(IncrementalError::Dimacs(e));
+                    }
+                }
+                Err(_) => return Err(IncrementalError::Dimacs(DimacsError::Read)),
+            }
+        }
+        Err(IncrementalError::Dimacs(DimacsError::Read))
     }
 }
 

@@ -1,7 +1,8 @@
 //! Rows of texts, whole and in pieces of one byte, and what goes on after a fault.
 ghost use Rattle.std.specs.Prelude.{◌<◌};
 
-use crate::{CnfFormula, Counted, DimacsError, DimacsParser};
+use crate::tests::by_one;
+use crate::{CnfFormula, Counted, DimacsError, DimacsParser, IncrementalError};
 use std::alloc::Global;
 use std::test::*;
 
@@ -92,6 +93,115 @@ fn a_reader_is_read_to_its_end(rt: HostRuntime) -> Result<(), Fail> {
     let cut: &[u8] = b"1 0\n2 x";
     let answer = DimacsParser::parse(rt.alloc(), &mut Counted::new(cut));
     assert!(rt; answer.err() == Some(MALFORMED));
+    Ok(())
+}
+
+#[test]
+fn each_read_may_fail(rt: HostRuntime) -> Result<(), Fail> {
+    let text: &[u8] = b"1 -3 0\n2 0\n";
+    for failing in 1..13 {
+        let answer = DimacsParser::parse(rt.alloc(), &mut by_one(text, failing));
+        assert!(rt; answer.err() == Some(DimacsError::Read));
+    }
+    assert!(rt; DimacsParser::parse(rt.alloc(), &mut by_one(text, 13))?.len() == 2);
+    Ok(())
+}
+
+/// What a closure saw: the numbers of the clauses that it took, and how often it was called.
+#[derive(Drop)]
+struct Seen {
+    numbers: Vec<i64>,
+    calls: u64,
+}
+
+/// A caller's refusal, of the call of this number.
+#[derive(Clone, Copy, Debug, Drop, PartialEq, Eq)]
+struct Refused(u64);
+
+/// Takes what waits, but refuses one call, counted from 1.
+fn look(seen: &mut Seen, parser: &mut DimacsParser, refused: u64) -> Result<(), Refused> {
+    seen.calls = seen.calls.saturating_add(1);
+    if seen.calls == refused {
+        return Err(Refused(refused));
+    }
+    for clause in &parser.take_formula() {
+        for lit in clause {
+            seen.numbers.push(lit.to_dimacs()).map_err(|_| Refused(0))?;
+        }
+        seen.numbers.push(0).map_err(|_| Refused(0))?;
+    }
+    Ok(())
+}
+
+/// Reads a text byte by byte, of which one read fails and one call of the closure refuses, both counted from 1.
+fn read_in_parts(
+    alloc: Global,
+    text: &[u8],
+    failing: u64,
+    refused: u64,
+) -> (Seen, Result<DimacsParser, IncrementalError<Refused>>) {
+    let mut seen = Seen {
+        numbers: Vec::new(alloc),
+        calls: 0,
+    };
+    let answer = DimacsParser::parse_incremental(alloc, &mut by_one(text, failing), |parser| {
+        look(&mut seen, parser, refused)
+    });
+    (seen, answer)
+}
+
+#[test]
+fn a_caller_sees_each_piece(rt: HostRuntime) -> Result<(), Fail> {
+    let text: &[u8] = b"p cnf 3 2\n1 -3 0\n2 0\n";
+    let (seen, answer) = read_in_parts(rt.alloc(), text, 0, 0);
+    assert!(rt; seen.numbers.as_slice() == [1, -3, 0, 2, 0].as_slice());
+    assert!(rt; seen.calls == 22);
+    let Ok(mut parser) = answer else {
+        return Err(Fail::new("a good text is refused"));
+    };
+    assert!(rt; parser.header() == Some((3, 2)));
+    assert!(rt; parser.clause_count() == 2);
+    assert!(rt; parser.take_formula().is_empty());
+    assert!(rt; parser.finish() == Err(DimacsError::HasFailed));
+    Ok(())
+}
+
+#[test]
+fn a_caller_sees_the_clauses_before_a_fault(rt: HostRuntime) -> Result<(), Fail> {
+    let rows: [(&[u8], DimacsError, &[i64], u64); 4] = [
+        (b"1 2\n-0 0\n", MALFORMED, &[], 7),
+        (
+            b"1 0\n268435457 0\n",
+            DimacsError::Limit { line: 2 },
+            &[1, 0],
+            14,
+        ),
+        (b"1\n%\n", MALFORMED, &[], 5),
+        (b"1 0\n2", MALFORMED, &[1, 0], 6),
+    ];
+    for (text, fault, clauses, calls) in rows {
+        let (seen, answer) = read_in_parts(rt.alloc(), text, 0, 0);
+        assert!(rt; answer.err() == Some(IncrementalError::Dimacs(fault)));
+        assert!(rt; seen.numbers.as_slice() == clauses);
+        assert!(rt; seen.calls == calls);
+    }
+    Ok(())
+}
+
+#[test]
+fn a_caller_may_refuse_and_a_read_may_fail(rt: HostRuntime) -> Result<(), Fail> {
+    let text: &[u8] = b"1 0\n2 0\n";
+    for number in 1..10 {
+        let (seen, answer) = read_in_parts(rt.alloc(), text, 0, number);
+        assert!(rt; answer.err() == Some(IncrementalError::Caller(Refused(number))));
+        assert!(rt; seen.calls == number);
+        let (seen, answer) = read_in_parts(rt.alloc(), text, number, 0);
+        assert!(rt; answer.err() == Some(IncrementalError::Dimacs(DimacsError::Read)));
+        assert!(rt; seen.calls < number);
+    }
+    let (seen, answer) = read_in_parts(rt.alloc(), text, 10, 10);
+    assert!(rt; answer.is_ok());
+    assert!(rt; seen.calls == 9);
     Ok(())
 }
 
