@@ -1,14 +1,17 @@
 -- What a parser answers of a reader's text.
-use Rattle.std.proofs.Common.{◌≡◌, ℕ, List, [], ◌∷◌, ◌++◌, Bool, true, false, Option, Some, None, Result, Ok, Err, refl, sym, ap, subst, ◌∙◌, append_assoc, take}
+use Rattle.std.proofs.Common.{◌≡◌, ℕ, List, [], ◌∷◌, ◌++◌, Bool, true, false, Option, Some, None, Result, Ok, Err, refl, sym, ap, subst, ◌∙◌, append_assoc, take, length, ◌<◌, ◌≤◌, arith, if◌then◌else◌}
 use Rattle.std.specs.Prelude.{IfSome}
-use Rattle.std.specs.List.{FoldsTo}
-use Rattle.std.proofs.lemmas.List.{append-nil}
-use Rattle.std.specs.Io.KnownBytes.{Consumes, IsAtEnd}
+use Rattle.std.specs.List.{FoldsTo, concat}
+use Rattle.std.proofs.lemmas.List.{append-nil, length-take-le}
+use Rattle.std.proofs.lemmas.List.Folds.{concat-append}
+use Rattle.std.specs.Borrow.{MutBor}
+use Rattle.std.specs.Io.KnownBytes.{Consumes, Keeps, IsAtEnd}
 use Rattle.sat_base.specs.declared.dimacs.error.DimacsError.{DimacsError}
 use Rattle.sat_base.specs.declared.dimacs.error.DimacsError.TheVariants as errors
 use Rattle.sat_base.specs.Formulas.{Formula}
-use Rattle.sat_base.specs.Dimacs.{Ending, Malformed, Limit, Clean, Dimacs, dimacs}
-use Rattle.sat_base.specs.Parsing.{Progress, no_progress, with_fed, at_its_end, Faults, Feeds, Finishes, Parses}
+use Rattle.sat_base.specs.Dimacs.{Ending, Malformed, Limit, Clean, Dimacs, dimacs, settled}
+use Rattle.sat_base.specs.Parsing.{Progress, no_progress, with_fed, at_its_end, Faults, Feeds, Finishes, Parses, Calls, KeepsText, clauses_read}
+use Rattle.sat_base.specs.Tokenizing.{held}
 use Rattle.sat_base.proofs.Known.{consumes_more}
 
 consumed_some : (a b : Option (List ℕ)) (xs : List ℕ) (P : List ℕ → Type 0) → Consumes a b xs → ((rest : List ℕ) → P (xs ++ rest)) → IfSome a P
@@ -77,12 +80,49 @@ finishes_clean a b c K fed p q r is kept f h k end = read_whole a b c fed (λ (t
     let fed_is : p.fed ≡ fed = ap (λ (z : Progress). z.fed) (is met) in
     (ap (λ (z : Progress). z.fed) e ∙ fed_is, ap (λ (z : Progress). z.stopped) e, ap (λ (z : Progress). z.ended) e, ap (λ (z : List ℕ). (dimacs z).ending) (sym fed_is) ∙ f.1))
 
+-- a closure each of whose calls leaves all but the clauses taken
+pub keeps_always : {F E : Type 0} (calls : Calls F E) → ((f g : F) (p q : MutBor Progress) (answer : Result (Unit {0}) E) → calls f p answer q g → q.now ≡ record p.now { taken = q.now.taken }) → (f : F) → KeepsText calls f
+keeps_always calls k f [] = tt
+keeps_always calls k f (p ∷ ps) = λ answer q g h. (k f g p q answer h, keeps_always calls k g ps)
+
+-- what a call leaves of a closure that keeps the text, and of the parser
+pub keeps_next : {F E : Type 0} (calls : Calls F E) (f g : F) (p q : MutBor Progress) (answer : Result (Unit {0}) E) → KeepsText calls f → calls f p answer q g → KeepsText calls g × (q.now ≡ record p.now { taken = q.now.taken })
+keeps_next calls f g p q answer k h = ((λ ps. (k (p ∷ ps) answer q g h).1), (k (p ∷ []) answer q g h).0)
+
+joined_more : (pieces : List (List ℕ)) (piece : List ℕ) → concat pieces ++ piece ≡ concat (pieces ++ (piece ∷ []))
+joined_more pieces piece = ap (λ (z : List ℕ). concat pieces ++ z) (sym (append-nil piece)) ∙ sym (concat-append pieces (piece ∷ []))
+
+pub consumed_more : (a b c : Option (List ℕ)) (pieces : List (List ℕ)) (piece : List ℕ) → Consumes a b (concat pieces) → Consumes b c piece → Consumes a c (concat (pieces ++ (piece ∷ [])))
+consumed_more a b c pieces piece h k = subst (Consumes a c) (joined_more pieces piece) (consumes_more a b c (concat pieces) piece h k)
+
 -- a piece is taken, and then a call keeps the text
-pub fed_and_kept : (fed piece : List ℕ) (p q r : Progress) → Stands fed p → q ≡ with_fed piece p → r ≡ record q { taken = r.taken } → Stands (fed ++ piece) r
-fed_and_kept fed piece p q r is f kept =
+pub fed_and_kept : (pieces : List (List ℕ)) (piece : List ℕ) (p q r : Progress) → Stands (concat pieces) p → q ≡ with_fed piece p → r ≡ record q { taken = r.taken } → Stands (concat (pieces ++ (piece ∷ []))) r
+fed_and_kept pieces piece p q r is f kept =
     kept ∙ ap (λ (z : Progress). record z { taken = r.taken }) f ∙ ap (λ (z : Progress). record (with_fed piece z) { taken = r.taken }) is
+    ∙ ap (λ (z : List ℕ). record (with_fed z no_progress) { taken = r.taken }) (joined_more pieces piece)
+
+-- nothing was given
+pub consumed_kept : (a b c : Option (List ℕ)) (xs : List ℕ) → Consumes a b xs → Keeps b c → Consumes a c (xs ++ [])
+consumed_kept None b c xs h k = tt
+consumed_kept (Some s) None c xs h k = absurd h
+consumed_kept (Some s) (Some t) None xs h k = absurd k
+consumed_kept (Some s) (Some t) (Some u) xs h k = h ∙ ap (λ (z : List ℕ). z ++ t) (sym (append-nil xs)) ∙ ap (λ (z : List ℕ). (xs ++ []) ++ z) (sym k)
+
+pub consumed_alone : (a b : Option (List ℕ)) (xs : List ℕ) → Consumes a b xs → Consumes a b (xs ++ [])
+consumed_alone a b xs h = subst (Consumes a b) (sym (append-nil xs)) h
+
+pub piece_given : (n : ℕ) (buf : List ℕ) → n ≤ length buf → 0 < n → 0 < length (take n buf)
+piece_given n buf h k = let e = length-take-le n buf h in omega arith
 
 -- one step more
 pub folds_more : {P A : Type 0} (R : P → A → P → Type 0) (p q r : P) (xs : List A) (x : A) → FoldsTo R p xs q → R q x r → FoldsTo R p (xs ++ (x ∷ [])) r
 folds_more R p q r [] x h k = (r, subst (λ z. R z x r) (sym h) k, refl)
 folds_more R p q r (y ∷ ys) x h k = (h.0, h.1, folds_more R h.0 q r ys x h.2 k)
+
+-- the clauses counted of a text that was read in parts
+pub counted_of : (a : Option (List ℕ)) (K : Type 0) (p : Progress) (count : ℕ) → IfSome a (λ text. K → (p.fed ≡ text) × (p.stopped ≡ true) × (p.ended ≡ true) × ((dimacs text).ending ≡ Clean)) → K → count ≡ held (length (clauses_read p))
+    → IfSome a (λ text. count ≡ held (length (dimacs text).clauses))
+counted_of None K p count h k e = tt
+counted_of (Some text) K p count h k e =
+    let r = h k in
+    e ∙ ap (λ (b : Bool). held (length (dimacs (if b then p.fed else settled p.fed)).clauses)) r.2 ∙ ap (λ (z : List ℕ). held (length (dimacs z).clauses)) r.0

@@ -1,7 +1,8 @@
 -- What a parser of formulas' texts makes of the bytes that it is fed.
 use Rattle.std.specs.Borrow.{MutBor}
-use Rattle.std.specs.List.{FoldsTo}
-use Rattle.std.specs.Prelude.{◌≡◌, ◌⊎◌, ℕ, length, nat_eq, List, [], ◌∷◌, ◌++◌, Bool, true, false, ◌||◌, Option, None, Some, Result, Ok, Err, if◌then◌else◌}
+use Rattle.std.specs.List.{FoldsTo, concat}
+use Rattle.std.specs.Io.KnownBytes.{Consumes, IsAtEnd}
+use Rattle.std.specs.Prelude.{◌≡◌, ◌<◌, ◌⊎◌, ℕ, length, nat_eq, List, [], ◌∷◌, ◌++◌, Bool, true, false, ◌||◌, Option, None, Some, Result, Ok, Err, if◌then◌else◌}
 use Rattle.sat_base.specs.Text.{Token, tokens, header_of}
 use Rattle.sat_base.specs.Tokenizing.{held}
 use Rattle.sat_base.specs.Formulas.{Formula, vars_of}
@@ -128,9 +129,14 @@ Parses (Err errors.HasFailed) text = ⊥
 abbrev pub Calls : Type 0 → Type 0 → Type 1
 Calls F E = F → MutBor Progress → Result (Unit {0}) E → MutBor Progress → F → Type 0
 
--- each call leaves the bytes taken and where the parser stands, as `take_formula` does
-abbrev pub KeepsText : {F E : Type 0} → Calls F E → Type 0
-KeepsText {F} {E} calls = (f g : F) (p q : MutBor Progress) (answer : Result (Unit {0}) E) → calls f p answer q g → q.now ≡ record p.now { taken = q.now.taken }
+-- calls with these parsers, one after another, leave all but the clauses taken
+abbrev pub KeepsEach : {F E : Type 0} → Calls F E → F → List (MutBor Progress) → Type 0
+KeepsEach calls f [] = Unit {0}
+KeepsEach {F} {E} calls f (p ∷ ps) = (answer : Result (Unit {0}) E) (q : MutBor Progress) (g : F) → calls f p answer q g → (q.now ≡ record p.now { taken = q.now.taken }) × KeepsEach calls g ps
+
+-- each call of the closure, now and later, leaves all but the clauses taken, as `take_formula` does
+abbrev pub KeepsText : {F E : Type 0} → Calls F E → F → Type 0
+KeepsText calls f = (ps : List (MutBor Progress)) → KeepsEach calls f ps
 
 -- what a whole text is answered by where a caller sees each piece's clauses
 abbrev pub ParsesInParts : {E : Type 0} → Result Progress (IncrementalError E) → List ℕ → Type 0
@@ -144,18 +150,18 @@ Visits calls s answer t = (p : MutBor Progress) × (q : MutBor Progress) × (p.n
 
 -- a piece is taken, and then the closure has the parser
 abbrev pub FeedsAndVisits : {F E : Type 0} → Calls F E → F × Progress → List ℕ → F × Progress → Type 0
-FeedsAndVisits calls s piece t = (fed : Progress) × Feeds (Ok tt) piece s.1 fed × Visits calls (s.0, fed) (Ok tt) t
+FeedsAndVisits calls s piece t = (0 < length piece) × (fed : Progress) × Feeds (Ok tt) piece s.1 fed × IsSound fed × Visits calls (s.0, fed) (Ok tt) t
 
--- an answer to a piece, or to the end
-abbrev pub Answers : Result (Unit {0}) DimacsError → Progress → Progress → Type 0
-Answers answer old new = ((piece : List ℕ) × Feeds answer piece old new) ⊎ Finishes answer old new
+-- an answer to a last piece, or to the end of the reader's bytes
+abbrev pub Answers : Result (Unit {0}) DimacsError → List ℕ → Option (List ℕ) → Progress → Progress → Type 0
+Answers answer piece rest old new = ((0 < length piece) × Feeds answer piece old new) ⊎ ((piece ≡ []) × IsAtEnd rest × Finishes answer old new)
 
 -- what comes behind the pieces that were taken and seen: the closure has the parser once more, unless a read has failed
-abbrev pub EndsVisits : {F E : Type 0} → Calls F E → Result Progress (IncrementalError E) → F × Progress → Type 0
-EndsVisits {F} calls (Ok p) s = (mid : Progress) × (f : F) × Finishes (Ok tt) s.1 mid × Visits calls (s.0, mid) (Ok tt) (f, p)
-EndsVisits {F} calls (Err (parts.Dimacs e)) s = (e ≡ errors.Read) ⊎ ((mid : Progress) × (t : F × Progress) × Answers (Err e) s.1 mid × Visits calls (s.0, mid) (Ok tt) t)
-EndsVisits {F} calls (Err (parts.Caller e)) s = (answer : Result (Unit {0}) DimacsError) × (mid : Progress) × (t : F × Progress) × Answers answer s.1 mid × Visits calls (s.0, mid) (Err e) t
+abbrev pub LastVisit : {F E : Type 0} → Calls F E → List ℕ → Option (List ℕ) → Result Progress (IncrementalError E) → F × Progress → Type 0
+LastVisit {F} calls piece rest (Ok p) s = (piece ≡ []) × (mid : Progress) × (f : F) × Finishes (Ok tt) s.1 mid × Visits calls (s.0, mid) (Ok tt) (f, p)
+LastVisit {F} calls piece rest (Err (parts.Dimacs e)) s = ((e ≡ errors.Read) × (piece ≡ [])) ⊎ ((mid : Progress) × (t : F × Progress) × Answers (Err e) piece rest s.1 mid × Visits calls (s.0, mid) (Ok tt) t)
+LastVisit {F} calls piece rest (Err (parts.Caller e)) s = (answer : Result (Unit {0}) DimacsError) × (mid : Progress) × (t : F × Progress) × Answers answer piece rest s.1 mid × Visits calls (s.0, mid) (Err e) t
 
--- the closure had the parser after each piece, and after the end
-abbrev pub VisitsAll : {F E : Type 0} → Calls F E → F → Result Progress (IncrementalError E) → Type 0
-VisitsAll {F} calls f result = (pieces : List (List ℕ)) × (s : F × Progress) × FoldsTo (FeedsAndVisits calls) (f, no_progress) pieces s × EndsVisits calls result s
+-- the closure had the parser after each piece that the reader gave, and after the end
+abbrev pub VisitsAll : {F E : Type 0} → Calls F E → F → Option (List ℕ) → Option (List ℕ) → Result Progress (IncrementalError E) → Type 0
+VisitsAll {F} calls f bytes rest result = (pieces : List (List ℕ)) × (last : List ℕ) × (s : F × Progress) × FoldsTo (FeedsAndVisits calls) (f, no_progress) pieces s × LastVisit calls last rest result s × Consumes bytes rest (concat pieces ++ last)

@@ -125,18 +125,20 @@ impl DimacsParser {
         Err(DimacsError::Read)
     }
 
-    /// Reads a formula to the end of its text, and calls the closure with the parser after each piece, also before a fault of the
-    /// text is answered, and after the end. What the closure doesn't take waits in the parser that is returned.
+    /// Reads a formula to the end of its text, and lends the parser to the closure after each piece, also where that was at fault
+    /// or there was no memory for it, and after the end, but not after a failed read. The closure's refusal is answered at once,
+    /// also in place of a fault. What a closure that only takes clauses has left waits in the parser.
     pub fn parse_incremental<R: CountedRead, E: Drop, F: FnMut(&mut DimacsParser) -> Result<(), E>>(
         alloc: Global,
         reader: &mut R,
         mut closure: F,
     ) -> Result<DimacsParser, IncrementalError<E>>
         requires { F.IsAlwaysCallable closure }
-        // Where the reader tells its bytes, and the closure does no more than take clauses, the faults are those of the text, and
-        // so are the clauses that were taken and those that wait, by what `take_formula` ensures.
-        ensures parsed { IfSome (R.remaining reader.old) (λ text. KeepsText (λ f p r q g. F.step f p r q g) → ParsesInParts result text) }
-        ensures visited { VisitsAll (λ f p r q g. F.step f p r q g) closure result }
+        // Where the reader tells its bytes, and no call does more than take clauses, the answer is the text's. The clauses taken
+        // and those that wait are then the text's, too, by what `take_formula` ensures.
+        ensures parsed { IfSome (R.remaining reader.old) (λ text. KeepsText (λ f p r q g. F.step f p r q g) closure → ParsesInParts result text) }
+        // Whatever the closure does, it had the parser after each piece that the reader gave.
+        ensures visited { VisitsAll (λ f p r q g. F.step f p r q g) closure (R.remaining reader.old) (R.remaining reader.new) result }
         ensures end { OnOk result (IsAtEnd (R.remaining reader.new)) }
         ensures kept { OnOk result (R.failures reader.new ≡ R.failures reader.old) }
         ensures read { IsErrOf result (IncrementalError.Dimacs DimacsError.Read)

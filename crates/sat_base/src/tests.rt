@@ -47,6 +47,23 @@ impl Write for Full {
     }
 }
 
+/// A writer that counts its flushes.
+#[derive(Drop)]
+struct Flushed {
+    flushes: u64,
+}
+
+impl Write for Flushed {
+    fn write(&mut self, piece: &[u8]) -> io::Result<usize> {
+        Ok(piece.len())
+    }
+
+    fn flush(&mut self) -> io::Result<()> {
+        self.flushes = self.flushes.saturating_add(1);
+        Ok(())
+    }
+}
+
 pub(crate) fn by_one(text: &[u8], failing: u64) -> Counted<ByOne<'_>> {
     Counted::new(ByOne {
         text,
@@ -72,5 +89,21 @@ fn devices_pass_on_what_they_are_given(rt: HostRuntime) -> Result<(), Fail> {
         read_whole(rt.alloc(), &mut reader).err(),
         Some(ReadError::Failed)
     );
+    Ok(())
+}
+
+#[test]
+fn calls_by_the_standard_traits_reach_the_device(rt: HostRuntime) -> Result<(), Fail> {
+    let mut writer = Counted::new(Vec::new(rt.alloc()));
+    assert_eq!(rt; writer.write(b"abc")?, 3);
+    assert_eq!(rt; writer.into_inner().as_slice(), b"abc".as_slice());
+    let mut writer = Counted::new(Flushed { flushes: 0 });
+    writer.flush()?;
+    writer.flush_counted()?;
+    assert_eq!(rt; writer.into_inner().flushes, 2);
+    let mut reader = by_one(b"ab", 0);
+    let mut piece = [0; 4];
+    assert_eq!(rt; reader.read(&mut piece)?, 1);
+    assert_eq!(rt; piece[0], b'a');
     Ok(())
 }

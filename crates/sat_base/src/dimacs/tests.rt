@@ -1,8 +1,10 @@
 //! Rows of texts, whole and in pieces of one byte, and what goes on after a fault.
-ghost use Rattle.std.specs.Prelude.{◌<◌};
+ghost use Rattle.std.specs.Prelude.{◌≡◌, ◌<◌, IfSome, IfOk, length};
+ghost use Rattle.sat_base.specs.Tokenizing.{held};
+ghost use Rattle.sat_base.specs.Dimacs.{dimacs};
 
 use crate::tests::by_one;
-use crate::{CnfFormula, Counted, DimacsError, DimacsParser, IncrementalError};
+use crate::{CnfFormula, Counted, CountedRead, DimacsError, DimacsParser, IncrementalError};
 use std::alloc::Global;
 use std::test::*;
 
@@ -197,11 +199,35 @@ fn a_caller_may_refuse_and_a_read_may_fail(rt: HostRuntime) -> Result<(), Fail> 
         assert!(rt; seen.calls == number);
         let (seen, answer) = read_in_parts(rt.alloc(), text, number, 0);
         assert!(rt; answer.err() == Some(IncrementalError::Dimacs(DimacsError::Read)));
-        assert!(rt; seen.calls < number);
+        assert!(rt; seen.calls == number - 1);
     }
+    let (seen, answer) = read_in_parts(rt.alloc(), b"1 2\n-0 0\n", 0, 7);
+    assert!(rt; answer.err() == Some(IncrementalError::Caller(Refused(7))));
+    assert!(rt; seen.calls == 7);
     let (seen, answer) = read_in_parts(rt.alloc(), text, 10, 10);
     assert!(rt; answer.is_ok());
     assert!(rt; seen.calls == 9);
+    Ok(())
+}
+
+/// How many clauses a text has, which are let go as they come.
+fn count_in_parts<R: CountedRead>(
+    alloc: Global,
+    reader: &mut R,
+) -> Result<u64, IncrementalError<DimacsError>>
+    ensures { IfSome (R.remaining reader.old) (λ text. IfOk result (λ count. count ≡ held (length (dimacs text).clauses))) }
+{
+    let parser = DimacsParser::parse_incremental(alloc, reader, |parser| {
+        parser.take_formula();
+        Ok(())
+    })?;
+    Ok(parser.clause_count())
+}
+
+#[test]
+fn clauses_are_counted_in_parts(rt: HostRuntime) -> Result<(), Fail> {
+    let answer = count_in_parts(rt.alloc(), &mut by_one(b"p cnf 2 2\n1 0 2 0\n", 0));
+    assert!(rt; answer == Ok(2));
     Ok(())
 }
 

@@ -1,46 +1,48 @@
 use Rattle.std.proofs.Common.{[], ◌∷◌, ◌++◌, inl, inr, refl, take, rules, of_calls, arith}
-use Rattle.sat_base.specs.Parsing.{KeepsText, FeedsAndVisits}
+use Rattle.std.specs.List.{concat}
+use Rattle.sat_base.specs.Parsing.{Calls, KeepsText, FeedsAndVisits}
 use Rattle.sat_base.proofs.Known.{consumes_more}
-use Rattle.sat_base.proofs.Parsed.{folds_more, took_none, feeding_stops, finishing_stops, finishes_clean, fed_and_kept}
+use Rattle.sat_base.proofs.Parsed.{folds_more, keeps_next, consumed_more, consumed_kept, consumed_alone, piece_given, took_none, feeding_stops, finishing_stops, finishes_clean, fed_and_kept}
 use Rattle.sat_base.proofs.dimacs.DimacsParser.parse_incremental.Given as given
 use Rattle.sat_base.proofs.dimacs.DimacsParser.parse_incremental.Goals as goal
 
-abbrev Kept : given.Over → Type 0
-Kept g = KeepsText (λ f p r q h. goal.F-step g f p r q h)
+abbrev calls_of : (g : given.Over) → Calls g.row.F.Denot g.row.E.Denot
+calls_of g = λ f p r q h. goal.F-step g f p r q h
 
 pub returns-in-Ok-eq0-clause-parsed : goal.returns-in-Ok-eq0-clause-parsed
 returns-in-Ok-eq0-clause-parsed g c =
-    let b = c.loop.invariant.bytes in
-    finishes_clean (g.R.Read.remaining c.args.reader.now) (g.R.Read.remaining c.loop.reader) (g.R.Read.remaining c.read_counted.new.self) (Kept g) b.0 c.loop.parser c.finish-answer.new.self c.closure.new.arg2
-    b.1 (λ k. k _ _ _ _ _ c.closure.ensures) (c.in_default-answer.ensures.1, c.in_default-answer.ensures.2) b.2 (took_none (g.R.Read.remaining c.loop.reader) (g.R.Read.remaining c.read_counted.new.self) c.in-Ok-eq0.field-0 c.read_counted.new.buf (search rules) c.in-Ok-eq0.ensures.bytes.0)
+    let v = c.loop.invariant.visited in
+    finishes_clean (g.R.Read.remaining c.args.reader.now) (g.R.Read.remaining c.loop.reader) (g.R.Read.remaining c.read_counted.new.self) (KeepsText (calls_of g) c.args.closure) (concat v.0) c.loop.parser c.finish-answer.new.self
+    c.closure.new.arg2 (λ k. (v.3 k).1) (λ k. (keeps_next (calls_of g) _ _ _ _ _ (v.3 k).0 c.closure.ensures).1) (c.in_default-answer.ensures.1, c.in_default-answer.ensures.2) v.2
+    (took_none (g.R.Read.remaining c.loop.reader) (g.R.Read.remaining c.read_counted.new.self) c.in-Ok-eq0.field-0 c.read_counted.new.buf (search rules) c.in-Ok-eq0.ensures.bytes.0)
     (c.in-Ok-eq0.ensures.bytes.1 (search rules) (omega arith))
 
 pub returns-in-Err-answer-clause-parsed : goal.returns-in-Err-answer-clause-parsed
 returns-in-Err-answer-clause-parsed g c =
-    let b = c.loop.invariant.bytes in
-    finishing_stops (g.R.Read.remaining c.args.reader.now) (g.R.Read.remaining c.loop.reader) (g.R.Read.remaining c.read_counted.new.self) (Kept g) c.in-Err-answer.e b.0 c.loop.parser c.finish-answer.new.self
-    b.1 c.in-Err-answer.ensures b.2 (took_none (g.R.Read.remaining c.loop.reader) (g.R.Read.remaining c.read_counted.new.self) c.in-Ok-eq0.field-0 c.read_counted.new.buf (search rules) c.in-Ok-eq0.ensures.bytes.0)
+    let v = c.loop.invariant.visited in
+    finishing_stops (g.R.Read.remaining c.args.reader.now) (g.R.Read.remaining c.loop.reader) (g.R.Read.remaining c.read_counted.new.self) (KeepsText (calls_of g) c.args.closure) c.in-Err-answer.e (concat v.0) c.loop.parser
+    c.finish-answer.new.self (λ k. (v.3 k).1) c.in-Err-answer.ensures v.2
+    (took_none (g.R.Read.remaining c.loop.reader) (g.R.Read.remaining c.read_counted.new.self) c.in-Ok-eq0.field-0 c.read_counted.new.buf (search rules) c.in-Ok-eq0.ensures.bytes.0)
     (c.in-Ok-eq0.ensures.bytes.1 (search rules) (omega arith))
 
 pub returns-in-Err-answer-2-clause-parsed : goal.returns-in-Err-answer-2-clause-parsed
 returns-in-Err-answer-2-clause-parsed g c =
-    let b = c.loop.invariant.bytes in
-    feeding_stops (g.R.Read.remaining c.args.reader.now) (g.R.Read.remaining c.loop.reader) (g.R.Read.remaining c.read_counted.new.self) (Kept g) c.in-Err-answer-2.e b.0 (take c.in-Ok.count c.read_counted.new.buf)
-    c.loop.parser c.feed-answer.new.self b.1 c.in-Err-answer-2.ensures.answer b.2 c.in-Ok.ensures.bytes.0
+    let v = c.loop.invariant.visited in
+    feeding_stops (g.R.Read.remaining c.args.reader.now) (g.R.Read.remaining c.loop.reader) (g.R.Read.remaining c.read_counted.new.self) (KeepsText (calls_of g) c.args.closure) c.in-Err-answer-2.e (concat v.0)
+    (take c.in-Ok.count c.read_counted.new.buf) c.loop.parser c.feed-answer.new.self (λ k. (v.3 k).1) c.in-Err-answer-2.ensures.answer v.2 c.in-Ok.ensures.bytes.0
 
 pub loop-preserved : goal.loop-preserved
 loop-preserved g c =
-    let b = c.loop.invariant.bytes in
     let v = c.loop.invariant.visited in
     let piece = take c.in-Ok.count c.read_counted.new.buf in
     record {
       always = search of_calls;
-      bytes = (
-        b.0 ++ piece,
-        (λ k. fed_and_kept b.0 piece c.loop.parser c.feed-answer.new.self c.closure-in-Ok.new.arg2 (b.1 k) c.in_default-answer-2.ensures.answer.1 (k _ _ _ _ _ c.closure-in-Ok.ensures)),
-        consumes_more (g.R.Read.remaining c.args.reader.now) (g.R.Read.remaining c.loop.reader) (g.R.Read.remaining c.read_counted.new.self) b.0 piece b.2 c.in-Ok.ensures.bytes.0,
+      visited = (
+        v.0 ++ (piece ∷ []),
+        folds_more (FeedsAndVisits (calls_of g)) _ _ _ v.0 piece v.1 (piece_given c.in-Ok.count c.read_counted.new.buf (search rules) (search rules), c.feed-answer.new.self, c.in_default-answer-2.ensures.answer, c.in_default-answer-2.ensures.sound, (_, _, refl, refl, c.in_default-closure.ensures)),
+        consumed_more (g.R.Read.remaining c.args.reader.now) (g.R.Read.remaining c.loop.reader) (g.R.Read.remaining c.read_counted.new.self) v.0 piece v.2 c.in-Ok.ensures.bytes.0,
+        (λ k. let n = keeps_next (calls_of g) _ _ _ _ _ (v.3 k).0 c.closure-in-Ok.ensures in (n.0, fed_and_kept v.0 piece c.loop.parser c.feed-answer.new.self c.closure-in-Ok.new.arg2 (v.3 k).1 c.in_default-answer-2.ensures.answer.1 n.1)),
       );
-      visited = (v.0 ++ (piece ∷ []), folds_more (FeedsAndVisits (λ f p r q h. goal.F-step g f p r q h)) _ _ _ v.0 piece v.1 (c.feed-answer.new.self, c.in_default-answer-2.ensures.answer, (_, _, refl, refl, c.in_default-closure.ensures)));
       failures = search rules;
       calls = search rules;
     }
@@ -48,30 +50,69 @@ loop-preserved g c =
 pub returns-in-Err-closure-clause-visited : goal.returns-in-Err-closure-clause-visited
 returns-in-Err-closure-clause-visited g c =
     let v = c.loop.invariant.visited in
-    (v.0, _, v.1, (c.finish-answer.result, c.finish-answer.new.self, _, inr c.finish-answer.ensures, (_, _, refl, refl, c.in-Err-closure.ensures)))
+    let none = took_none (g.R.Read.remaining c.loop.reader) (g.R.Read.remaining c.read_counted.new.self) c.in-Ok-eq0.field-0 c.read_counted.new.buf (search rules) c.in-Ok-eq0.ensures.bytes.0 in (
+      v.0,
+      [],
+      _,
+      v.1,
+      (c.finish-answer.result, c.finish-answer.new.self, _, inr (refl, c.in-Ok-eq0.ensures.bytes.1 (search rules) (omega arith), c.finish-answer.ensures), (_, _, refl, refl, c.in-Err-closure.ensures)),
+      consumes_more (g.R.Read.remaining c.args.reader.now) (g.R.Read.remaining c.loop.reader) (g.R.Read.remaining c.read_counted.new.self) (concat v.0) [] v.2 none,
+    )
 
 pub returns-in-Err-answer-clause-visited : goal.returns-in-Err-answer-clause-visited
 returns-in-Err-answer-clause-visited g c =
     let v = c.loop.invariant.visited in
-    (v.0, _, v.1, inr (c.finish-answer.new.self, _, inr c.in-Err-answer.ensures, (_, _, refl, refl, c.in_default.ensures)))
+    let none = took_none (g.R.Read.remaining c.loop.reader) (g.R.Read.remaining c.read_counted.new.self) c.in-Ok-eq0.field-0 c.read_counted.new.buf (search rules) c.in-Ok-eq0.ensures.bytes.0 in (
+      v.0,
+      [],
+      _,
+      v.1,
+      inr (c.finish-answer.new.self, _, inr (refl, c.in-Ok-eq0.ensures.bytes.1 (search rules) (omega arith), c.in-Err-answer.ensures), (_, _, refl, refl, c.in_default.ensures)),
+      consumes_more (g.R.Read.remaining c.args.reader.now) (g.R.Read.remaining c.loop.reader) (g.R.Read.remaining c.read_counted.new.self) (concat v.0) [] v.2 none,
+    )
 
 pub returns-in-Ok-eq0-clause-visited : goal.returns-in-Ok-eq0-clause-visited
 returns-in-Ok-eq0-clause-visited g c =
     let v = c.loop.invariant.visited in
-    (v.0, _, v.1, (c.finish-answer.new.self, _, c.in_default-answer.ensures, (_, _, refl, refl, c.in_default.ensures)))
+    let none = took_none (g.R.Read.remaining c.loop.reader) (g.R.Read.remaining c.read_counted.new.self) c.in-Ok-eq0.field-0 c.read_counted.new.buf (search rules) c.in-Ok-eq0.ensures.bytes.0 in (
+      v.0,
+      [],
+      _,
+      v.1,
+      (refl, c.finish-answer.new.self, _, c.in_default-answer.ensures, (_, _, refl, refl, c.in_default.ensures)),
+      consumes_more (g.R.Read.remaining c.args.reader.now) (g.R.Read.remaining c.loop.reader) (g.R.Read.remaining c.read_counted.new.self) (concat v.0) [] v.2 none,
+    )
 
 pub returns-in-Err-closure-2-clause-visited : goal.returns-in-Err-closure-2-clause-visited
 returns-in-Err-closure-2-clause-visited g c =
     let v = c.loop.invariant.visited in
-    (v.0, _, v.1, (c.feed-answer.result, c.feed-answer.new.self, _, inl (take c.in-Ok.count c.read_counted.new.buf, c.feed-answer.ensures.answer), (_, _, refl, refl, c.in-Err-closure-2.ensures)))
+    let piece = take c.in-Ok.count c.read_counted.new.buf in (
+      v.0,
+      piece,
+      _,
+      v.1,
+      (c.feed-answer.result, c.feed-answer.new.self, _, inl (piece_given c.in-Ok.count c.read_counted.new.buf (search rules) (search rules), c.feed-answer.ensures.answer), (_, _, refl, refl, c.in-Err-closure-2.ensures)),
+      consumes_more (g.R.Read.remaining c.args.reader.now) (g.R.Read.remaining c.loop.reader) (g.R.Read.remaining c.read_counted.new.self) (concat v.0) piece v.2 c.in-Ok.ensures.bytes.0,
+    )
 
 pub returns-in-Err-answer-2-clause-visited : goal.returns-in-Err-answer-2-clause-visited
 returns-in-Err-answer-2-clause-visited g c =
     let v = c.loop.invariant.visited in
-    (v.0, _, v.1, inr (c.feed-answer.new.self, _, inl (take c.in-Ok.count c.read_counted.new.buf, c.in-Err-answer-2.ensures.answer), (_, _, refl, refl, c.in_default-closure.ensures)))
+    let piece = take c.in-Ok.count c.read_counted.new.buf in (
+      v.0,
+      piece,
+      _,
+      v.1,
+      inr (c.feed-answer.new.self, _, inl (piece_given c.in-Ok.count c.read_counted.new.buf (search rules) (search rules), c.in-Err-answer-2.ensures.answer), (_, _, refl, refl, c.in_default-closure.ensures)),
+      consumes_more (g.R.Read.remaining c.args.reader.now) (g.R.Read.remaining c.loop.reader) (g.R.Read.remaining c.read_counted.new.self) (concat v.0) piece v.2 c.in-Ok.ensures.bytes.0,
+    )
 
 pub returns-in-Err-clause-visited : goal.returns-in-Err-clause-visited
-returns-in-Err-clause-visited g c = let v = c.loop.invariant.visited in (v.0, _, v.1, inl refl)
+returns-in-Err-clause-visited g c =
+    let v = c.loop.invariant.visited in
+    (v.0, [], _, v.1, inl (refl, refl), consumed_kept (g.R.Read.remaining c.args.reader.now) (g.R.Read.remaining c.loop.reader) (g.R.Read.remaining c.read_counted.new.self) (concat v.0) v.2 c.in-Err.ensures.bytes)
 
 pub returns-clause-visited : goal.returns-clause-visited
-returns-clause-visited g c = let v = c.loop.invariant.visited in (v.0, _, v.1, inl refl)
+returns-clause-visited g c =
+    let v = c.loop.invariant.visited in
+    (v.0, [], _, v.1, inl (refl, refl), consumed_alone (g.R.Read.remaining c.args.reader.now) (g.R.Read.remaining c.loop.reader) (concat v.0) v.2)

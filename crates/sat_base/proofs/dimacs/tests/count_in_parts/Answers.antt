@@ -1,0 +1,10 @@
+use Rattle.std.proofs.Common.{rules, ◌≡◌, length, List, ℕ, ap, ◌∙◌, Option, Some, None}
+use Rattle.std.specs.Prelude.{IfSome}
+use Rattle.sat_base.specs.Tokenizing.{held}
+use Rattle.sat_base.specs.Dimacs.{dimacs}
+use Rattle.sat_base.specs.Parsing.{clauses_read}
+use Rattle.sat_base.proofs.Parsed.{keeps_always, counted_of}
+use Rattle.sat_base.proofs.dimacs.tests.count_in_parts.Goals as goal
+
+pub returns : goal.returns
+returns g c = counted_of (g.R.Read.remaining c.args.reader.now) _ c.in_ok-parser.parser c.clause_count.result c.in_ok-parser.ensures.parsed (keeps_always _ (λ f h p q answer e. search rules) _) c.clause_count.ensures
