@@ -1,5 +1,5 @@
 -- Texts that are taken in pieces.
-use Rattle.std.proofs.Common.{◌≡◌, ℕ, List, [], ◌++◌, refl, ap, ◌∙◌, append_assoc}
+use Rattle.std.proofs.Common.{ℕ, List, [], ◌++◌, refl, ap, ◌∙◌, append_assoc}
 use Rattle.sat_base.specs.Chunks.{Follows}
 
 pub follows_none : {S R : Type 0} (Means : S → (List ℕ → R) → Type 0) (a : S) → Follows Means a [] a

@@ -1,5 +1,5 @@
 -- What tokens make of a formula's clauses, one after another.
-use Rattle.std.proofs.Common.{◌≡◌, ℕ, ◌+◌, ◌-◌, ◌<◌, List, [], ◌∷◌, ◌++◌, Bool, true, false, Option, Some, None, refl, sym, ap, subst, inl, inr, ◌⊎◌, ◌∙◌, append_assoc, arith}
+use Rattle.std.proofs.Common.{◌≡◌, ℕ, ◌-◌, List, [], ◌∷◌, ◌++◌, Bool, true, false, Some, None, refl, sym, ap, subst, inl, inr, ◌∙◌, append_assoc, arith}
 use Rattle.std.proofs.lemmas.List.{append-nil}
 use Rattle.std.proofs.lemmas.Bool.Decides.{nat_tests}
 use Rattle.std.specs.Prelude.{nat_eq, nat_lt, not, ◌||◌, if◌then◌else◌}
@@ -7,7 +7,7 @@ use Rattle.sat_base.specs.Literals.{coded, largest}
 use Rattle.sat_base.specs.Text.{is_blank, Token, Number, Letter, Header, Wrong, Scan, scan}
 use Rattle.sat_base.specs.Spot.{onto}
 use Rattle.sat_base.specs.Tokenizing.{held, held_token, IsOfHeader, Quiet}
-use Rattle.sat_base.specs.Dimacs.{Hand, Turn, GoesOn, Ends, Fails, Ending, Limit, Dimacs, literals_in, with_number, turn, at_end, behind_turn, clauses_of, dimacs_of, dimacs, has_blank, settled}
+use Rattle.sat_base.specs.Dimacs.{Hand, Turn, GoesOn, Ends, Fails, Ending, Limit, Dimacs, literals_in, turn, at_end, behind_turn, clauses_of, dimacs_of, dimacs, has_blank, settled}
 use Rattle.sat_base.specs.Collecting.{token_of}
 use Rattle.sat_base.specs.Parsing.{has_LF, whole_lines, NoFault, unless_fault}
 use Rattle.sat_base.specs.Standing.{onto_clauses, Turned}

@@ -1,14 +1,14 @@
 -- What is written as DIMACS CNF is read again.
-use Rattle.std.proofs.Common.{◌≡◌, ℕ, ◌+◌, ◌*◌, ◌-◌, ◌/◌, ◌%◌, ◌^◌, ◌<◌, ◌≤◌, List, [], ◌∷◌, ◌++◌, length, max, Bool, true, false, cond, Option, Some, None, decimal, codes, refl, sym, ap, ap₂, subst, ◌∙◌, append_assoc, arith}
-use Rattle.std.specs.Prelude.{nat_eq, nat_lt, not, ◌&&◌, ◌==◌}
+use Rattle.std.proofs.Common.{◌≡◌, ℕ, ◌+◌, ◌*◌, ◌-◌, ◌/◌, ◌%◌, ◌^◌, ◌<◌, ◌≤◌, List, [], ◌∷◌, ◌++◌, length, Bool, true, false, cond, Some, None, decimal, codes, refl, sym, ap, ap₂, ◌∙◌, append_assoc, arith}
+use Rattle.std.specs.Prelude.{nat_eq, nat_lt, not, ◌&&◌}
 use Rattle.std.specs.List.{AllByRecursion}
 use Rattle.std.proofs.lemmas.List.{append-nil}
 use Rattle.std.proofs.lemmas.Bool.Decides.{nat_tests}
 use Rattle.std.proofs.lemmas.Fmt.{decimal_by_steps}
 use Rattle.sat_base.specs.Literals.{variable, is_positive, coded, largest}
-use Rattle.sat_base.specs.Formulas.{Formula, vars_in, vars_of}
-use Rattle.sat_base.specs.Text.{is_blank, is_digit, is_letter, onto_first, lines, goes_on, words, begins_with, Token, Number, Letter, Header, Wrong, digits, minus, token, header_in, with_numbers, header_if, on_line, is_none, tokens_of, last_line, Scan, scan, header_first, header_of}
-use Rattle.sat_base.specs.Dimacs.{Ending, Clean, Malformed, Limit, Dimacs, Hand, Turn, GoesOn, Ends, Fails, literals_in, with_number, turn, at_end, behind_turn, clauses_of, dimacs_of, dimacs, IsDimacs}
+use Rattle.sat_base.specs.Formulas.{vars_in, vars_of}
+use Rattle.sat_base.specs.Text.{is_blank, is_digit, onto_first, lines, goes_on, words, begins_with, Token, Number, Header, digits, minus, token, header_in, with_numbers, header_if, on_line, is_none, tokens_of, last_line, scan, header_first}
+use Rattle.sat_base.specs.Dimacs.{Clean, Dimacs, Hand, Turn, GoesOn, Ends, literals_in, turn, at_end, behind_turn, clauses_of, dimacs}
 use Rattle.sat_base.specs.DimacsText.{number_text, clause_line, clause_lines, header_line, dimacs_text}
 use Rattle.sat_base.specs.WrittenDimacs.{WrittenIsRead}
 use Rattle.sat_base.proofs.Words.{word_plain, word_minus, no_minus_digit, no_letter_digit}

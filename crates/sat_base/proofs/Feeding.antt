@@ -1,9 +1,9 @@
 -- What a parser of formulas' texts makes of bytes.
-use Rattle.std.proofs.Common.{◌≡◌, ℕ, ◌+◌, ◌-◌, ◌^◌, ◌<◌, ◌≤◌, max, min, length, List, [], ◌∷◌, ◌++◌, Bool, true, false, Option, Some, None, Result, Ok, Err, refl, sym, ap, subst, inl, inr, ◌∙◌, append_assoc, length-append, take, drop, get_or, arith}
+use Rattle.std.proofs.Common.{◌≡◌, ℕ, ◌+◌, ◌<◌, max, length, List, [], ◌∷◌, ◌++◌, Bool, true, false, Option, Some, None, Result, Ok, Err, refl, sym, ap, subst, inl, inr, ◌∙◌, append_assoc, length-append, take, drop, get_or, arith}
 use Rattle.std.proofs.lemmas.Grind.{common_steps}
 use Rattle.std.proofs.lemmas.List.{append-nil}
 use Rattle.std.proofs.lemmas.Bool.Decides.{nat_tests}
-use Rattle.std.specs.Prelude.{nat_eq, ◌⊎◌, if◌then◌else◌}
+use Rattle.std.specs.Prelude.{nat_eq, ◌⊎◌}
 use Rattle.sat_base.specs.declared.dimacs.error.DimacsError.{DimacsError}
 use Rattle.sat_base.specs.declared.dimacs.error.DimacsError.TheVariants as errors
 use Rattle.sat_base.specs.declared.dimacs.parser.Parser.{Parser}
@@ -15,7 +15,7 @@ use Rattle.sat_base.specs.Text.{is_blank, Token, Number, Letter, Header, Wrong, 
 use Rattle.sat_base.specs.Spot.{onto}
 use Rattle.sat_base.specs.Tokenizing.{held, held_token, Stands, Takes, GivesLast, Quiet}
 use Rattle.sat_base.specs.Formulas.{Formula, no_formula, vars_in, vars_of}
-use Rattle.sat_base.specs.Dimacs.{Hand, Turn, GoesOn, Ends, Fails, Ending, Clean, Malformed, Limit, Dimacs, turn, at_end, clauses_of, dimacs_of, dimacs, settled}
+use Rattle.sat_base.specs.Dimacs.{Hand, Turn, GoesOn, Ends, Fails, Ending, Clean, Malformed, Limit, Dimacs, turn, at_end, clauses_of, dimacs, settled}
 use Rattle.sat_base.specs.Collecting.{token_of, hand_in, header_behind, Stay, AllStay, Turns}
 use Rattle.sat_base.specs.Parsing.{Progress, NoFault, Faults, Feeds, Finishes, with_fed, cut_short, at_its_end, clauses_read, lines_read, whole_lines, held_numbers}
 use Rattle.sat_base.specs.Standing.{progress_of, all_in, onto_clauses, Turned, Goes, IsParser, EndsClean}
@@ -23,7 +23,7 @@ use Rattle.sat_base.proofs.FlatLemmas.{vars_of_more}
 use Rattle.sat_base.specs.Script.{spoken}
 use Rattle.sat_base.proofs.HeaderFirst.{AreWords, AreScript, text_is}
 use Rattle.sat_base.proofs.PlainTokens.{no_header, plain_given}
-use Rattle.sat_base.proofs.Collected.{settled_blank, settled_inside, whole_LF, whole_inside, turn-held, clauses_of_nil, turned_first, turned_goes, turned_ends, fails_there, scans_next, dimacs_is, dimacs_says, settled_clauses}
+use Rattle.sat_base.proofs.Collected.{settled_blank, settled_inside, whole_LF, whole_inside, turn-held, clauses_of_nil, turned_first, turned_goes, turned_ends, fails_there, scans_next, dimacs_is, settled_clauses}
 
 -- THE CLAUSES
 one_more : (taken cs ds : List (List ℕ)) (c : List ℕ) → ds ≡ cs ++ c ∷ [] → (taken ++ cs) ++ c ∷ [] ≡ taken ++ ds

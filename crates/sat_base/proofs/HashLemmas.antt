@@ -1,5 +1,5 @@
 -- Hashes of clauses, literal by literal.
-use Rattle.std.proofs.Common.{◌≡◌, ℕ, ◌+◌, ◌<◌, length, drop, get_or, ◌∷◌, List, refl, sym, ◌∙◌, ap, suc, arith}
+use Rattle.std.proofs.Common.{◌≡◌, ℕ, ◌+◌, ◌<◌, length, drop, get_or, List, sym, suc, arith}
 use Rattle.std.proofs.Math.Seq.{drop-cons}
 use Rattle.std.specs.Int.Bits.{bit_xor, xor_assoc}
 use Rattle.sat_base.specs.Hashes.{literal_hash, hash_of}

@@ -2,7 +2,6 @@
 use Rattle.std.proofs.Common.{List, [], ◌∷◌, refl}
 use seplogic.Ra.Ura.{Ura}
 use mir.Val.{Val, vstruct, vnil}
-use base.Fml.{ftrue}
 use types.Logic.{Logic}
 use types.Kit.{Goal, Step, step, Item, ‵, ◌$◌, feq_i, fjoin, fpack}
 use denote.RattleType.{RattleType, Valss}

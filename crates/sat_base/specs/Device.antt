@@ -1,5 +1,5 @@
 -- How the calls of a device count as failed.
-use Rattle.std.specs.Prelude.{◌≡◌, ℕ, ◌+◌, ◌<◌, ◌^◌, ◌⊎◌, List, length, Result, MatchResult, if◌then◌else◌, ◌&&◌, nat_eq, nat_lt}
+use Rattle.std.specs.Prelude.{◌≡◌, ℕ, ◌+◌, ◌<◌, ◌^◌, List, length, Result, MatchResult, if◌then◌else◌, ◌&&◌, nat_eq, nat_lt}
 use Rattle.sat_base.specs.declared.counted.Counted.{Counted}
 
 -- each `Err` is one failed call

@@ -1,5 +1,5 @@
 -- The clauses of a formula's text, as DIMACS CNF has them.
-use Rattle.std.specs.Prelude.{ℕ, ◌+◌, ◌-◌, ◌≡◌, Bool, true, false, not, ◌||◌, List, [], ◌∷◌, ◌++◌, Option, None, Some, nat_eq, nat_lt, if◌then◌else◌}
+use Rattle.std.specs.Prelude.{ℕ, ◌-◌, ◌≡◌, Bool, false, not, ◌||◌, List, [], ◌∷◌, ◌++◌, Option, None, Some, nat_eq, nat_lt, if◌then◌else◌}
 use Rattle.sat_base.specs.Literals.{coded, largest}
 use Rattle.sat_base.specs.Text.{Token, Number, Letter, Header, Wrong, Scan, scan, is_blank}
 

@@ -1,5 +1,5 @@
 -- Formulas' texts, and what they say.
-use Rattle.std.specs.Prelude.{◌≡◌, ℕ, ◌-◌, List, [], ◌∷◌, true, false, Option, None, Some, codes}
+use Rattle.std.specs.Prelude.{◌≡◌, ℕ, ◌-◌, List, [], ◌∷◌, true, false, None, Some, codes}
 use Rattle.sat_base.specs.Literals.{coded}
 use Rattle.sat_base.specs.Text.{header_of}
 use Rattle.sat_base.specs.Dimacs.{Clean, Malformed, Limit, settled, IsDimacs}

@@ -1,5 +1,5 @@
 -- Clauses in flat storage: their literals one after another, and where each clause ends.
-use Rattle.std.specs.Prelude.{ℕ, ◌+◌, ◌-◌, ◌≤◌, ◌≡◌, List, [], ◌∷◌, take, drop}
+use Rattle.std.specs.Prelude.{ℕ, ◌-◌, ◌≤◌, ◌≡◌, List, [], ◌∷◌, take, drop}
 
 -- the clauses that lie in literals which so many others precede
 abbrev pub clauses_in : ℕ → List ℕ → List ℕ → List (List ℕ)

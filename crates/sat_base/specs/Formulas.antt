@@ -1,5 +1,5 @@
 -- Formulas: clauses in the order in which they were added, over codes of literals, and a number of variables.
-use Rattle.std.specs.Prelude.{ℕ, ◌+◌, ◌≡◌, max, List, [], ◌∷◌, ◌++◌}
+use Rattle.std.specs.Prelude.{ℕ, ◌+◌, max, List, [], ◌∷◌, ◌++◌}
 use Rattle.sat_base.specs.Literals.{variable}
 
 pub record Formula : Type 0 where

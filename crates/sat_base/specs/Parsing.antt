@@ -3,10 +3,10 @@ use Rattle.std.specs.Borrow.{MutBor}
 use Rattle.std.specs.List.{FoldsTo, concat}
 use Rattle.std.specs.Io.KnownBytes.{Consumes, IsAtEnd}
 use Rattle.std.specs.Prelude.{◌≡◌, ◌<◌, ◌⊎◌, ℕ, length, nat_eq, List, [], ◌∷◌, ◌++◌, Bool, true, false, ◌||◌, Option, None, Some, Result, Ok, Err, if◌then◌else◌}
-use Rattle.sat_base.specs.Text.{Token, tokens, header_of}
+use Rattle.sat_base.specs.Text.{Token, tokens}
 use Rattle.sat_base.specs.Tokenizing.{held}
 use Rattle.sat_base.specs.Formulas.{Formula, vars_of}
-use Rattle.sat_base.specs.Dimacs.{Dimacs, Ending, Clean, Malformed, Limit, Hand, Turn, GoesOn, Ends, Fails, turn, dimacs, settled, IsDimacs}
+use Rattle.sat_base.specs.Dimacs.{Ending, Clean, Malformed, Limit, Hand, Turn, GoesOn, Ends, Fails, turn, dimacs, settled, IsDimacs}
 use Rattle.sat_base.specs.declared.dimacs.error.DimacsError.{DimacsError}
 use Rattle.sat_base.specs.declared.dimacs.error.IncrementalError.{IncrementalError}
 use Rattle.sat_base.specs.declared.dimacs.error.IncrementalError.TheVariants as parts

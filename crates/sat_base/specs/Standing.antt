@@ -1,5 +1,5 @@
 -- How a parser stands in a formula's text.
-use Rattle.std.specs.Prelude.{◌≡◌, ℕ, length, List, [], ◌∷◌, ◌++◌, false, None, Some, Result, Ok, Err}
+use Rattle.std.specs.Prelude.{◌≡◌, ℕ, length, List, [], ◌++◌, false, None, Some, Result, Ok, Err}
 use Rattle.sat_base.specs.declared.dimacs.parser.Parser.{Parser}
 use Rattle.sat_base.specs.declared.dimacs.error.DimacsError.{DimacsError}
 use Rattle.sat_base.specs.declared.dimacs.error.DimacsError.TheVariants as errors

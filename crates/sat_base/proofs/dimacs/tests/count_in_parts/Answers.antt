@@ -1,8 +1,4 @@
-use Rattle.std.proofs.Common.{rules, ◌≡◌, length, List, ℕ, ap, ◌∙◌, Option, Some, None}
-use Rattle.std.specs.Prelude.{IfSome}
-use Rattle.sat_base.specs.Tokenizing.{held}
-use Rattle.sat_base.specs.Dimacs.{dimacs}
-use Rattle.sat_base.specs.Parsing.{clauses_read}
+use Rattle.std.proofs.Common.{rules}
 use Rattle.sat_base.proofs.Parsed.{keeps_always, counted_of}
 use Rattle.sat_base.proofs.dimacs.tests.count_in_parts.Goals as goal
 

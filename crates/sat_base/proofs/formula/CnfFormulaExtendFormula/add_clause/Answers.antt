@@ -1,4 +1,4 @@
-use Rattle.std.proofs.Common.{ap, ◌≤◌, arith}
+use Rattle.std.proofs.Common.{ap, arith}
 use Rattle.sat_base.specs.Formulas.{vars_of}
 use Rattle.sat_base.proofs.FlatLemmas.{vars_of_more}
 use Rattle.sat_base.proofs.formula.CnfFormulaExtendFormula.add_clause.Goals as goal

@@ -1,7 +1,7 @@
 -- `new` makes a history of nothing.
 use Rattle.std.proofs.Common.{[], ◌∷◌, refl}
 use Rattle.std.proofs.raw_atomic.Walks.{proved}
-use types.Kit.{‵, raw, ◌$◌, ◌∵◌, !, qed, done, move, drop, fjoin, suffices}
+use types.Kit.{‵, raw, ◌$◌, ◌∵◌, !, qed, done, drop, fjoin, suffices}
 use types.Part.{agg}
 use types.Run.{enter, returns, no_more}
 use types.ByLocal.{alloc_all, pass_all, free_all, look_at, sets}

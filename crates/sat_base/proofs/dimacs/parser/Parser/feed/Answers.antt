@@ -1,4 +1,4 @@
-use Rattle.std.proofs.Common.{◌≡◌, ◌+◌, ◌∷◌, [], take, drop, get_or, arith}
+use Rattle.std.proofs.Common.{◌+◌, ◌∷◌, [], take, drop, get_or, arith}
 use Rattle.std.proofs.lemmas.Result.{err_from_is_err_and}
 use Rattle.sat_base.specs.Standing.{progress_of}
 use Rattle.sat_base.proofs.Feeding.{feeds_err, split_at}

@@ -1,4 +1,4 @@
-use Rattle.std.proofs.Common.{◌≡◌, ◌+◌, ◌≤◌, ◌++◌, ◌∷◌, [], length, List, ℕ, sym, ap, ap₂, subst, ◌∙◌, arith, length-append}
+use Rattle.std.proofs.Common.{◌≡◌, ◌+◌, ◌≤◌, ◌++◌, ◌∷◌, [], length, List, ℕ, ap, ap₂, subst, ◌∙◌, arith, length-append}
 use Rattle.sat_base.specs.Flat.{InOrder, clauses_in}
 use Rattle.sat_base.proofs.FlatLemmas.{push_in_order, push_clauses}
 use Rattle.sat_base.proofs.formula.flat.FlatClauses.push.Goals as goal
