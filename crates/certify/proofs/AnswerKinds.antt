@@ -1,9 +1,9 @@
 -- The lines of an answer of some kind.
-use Rattle.std.proofs.Common.{ℕ, ◌≡◌, ◌≢◌, ◌⊎◌, inl, inr, ◌∷◌, ◌++◌, [], List, append_assoc, append-nil, refl, sym, ◌∙◌, ap, subst, arith}
+use Rattle.std.proofs.Common.{ℕ, ◌≡◌, ◌≢◌, inl, inr, ◌++◌, [], List, append_assoc, refl, sym, ◌∙◌, ap, subst, arith}
 use Rattle.std.proofs.lemmas.List.{append_cancel_left}
 use Rattle.sat_base.specs.Script.{Literal}
 use Rattle.certify.specs.Answers.{Outcome, Sat, Unsat, Unknown, s_satisfiable, s_unsatisfiable, s_unknown, literals_text, outcome_text}
-use Rattle.certify.specs.AnswerForms.{HaveNames, IsInForm, IsOrdered, literals_of, named_literals}
+use Rattle.certify.specs.AnswerForms.{HaveNames, IsInForm, IsOrdered, literals_of}
 use Rattle.certify.specs.AnswerReading.{NoKind, NoLiterals, NoLine, NoOutcome, HasLine, IsHead, IsCutShort, BeginsNoOutcome, first_line, outcome_of, second_line}
 use Rattle.certify.specs.declared.answers.read.AnswerKind.{AnswerKind}
 use Rattle.certify.specs.declared.answers.read.AnswerKind.TheVariants as kind

@@ -1,15 +1,11 @@
 -- Names, digit by digit, and literals as words in front of a space.
-use Rattle.std.proofs.Common.{ℕ, zero, suc, ◌+◌, ◌-◌, ◌*◌, ◌/◌, ◌%◌, ◌^◌, ◌<◌, ◌≤◌, ◌≡◌, ◌≢◌, ◌⊎◌, inl, inr, Bool, true, false, cond, ◌∷◌, ◌++◌, [], List, length, take, get_or, decimal, append-nil, refl, sym, ◌∙◌, ap, subst, arith, append_assoc}
-use Rattle.std.proofs.lemmas.Fmt.{decimal_digit, decimal_step, decimal_is_IsNumeral, first_decimal, decimal_nonempty, decimal_injective}
+use Rattle.std.proofs.Common.{ℕ, zero, suc, ◌+◌, ◌-◌, ◌*◌, ◌/◌, ◌%◌, ◌^◌, ◌<◌, ◌≤◌, ◌≡◌, Bool, true, false, cond, ◌∷◌, ◌++◌, [], List, length, take, get_or, decimal, append-nil, refl, sym, ◌∙◌, ap, subst, arith, append_assoc}
+use Rattle.std.proofs.lemmas.Fmt.{decimal_digit, decimal_step, decimal_is_IsNumeral, first_decimal, decimal_nonempty}
 use Rattle.std.proofs.lemmas.Str.Parse.{digit_from_value, digits_value-take-le}
 use Rattle.std.proofs.Math.Seq.{take-append_seam}
 use Rattle.std.specs.Str.Parse.{AllDigits, digits_value}
-use Rattle.std.specs.Char.{digit_value}
-use Rattle.std.specs.List.{AllByRecursion}
 use Rattle.sat_base.specs.Literals.{largest}
-use Rattle.sat_base.specs.Script.{Literal}
-use Rattle.certify.specs.Answers.{word_of}
-use Rattle.certify.specs.AnswerForms.{IsName, HaveNames}
+use Rattle.certify.specs.AnswerForms.{IsName}
 use Rattle.certify.specs.AnswerReading.{digits_so_far, NoDigit, NoName, NoLiteral}
 use Rattle.certify.proofs.Texts.{Plain, plain_digits, small, numeral}
 

@@ -1,5 +1,5 @@
 -- An ask, from its names to its end.
-use Rattle.std.proofs.Common.{ℕ, append_assoc, zero, suc, ◌+◌, ◌-◌, ◌≤◌, ◌<◌, ◌≡◌, true, false, List, [], ◌∷◌, ◌++◌, map, Option, Some, None, refl, sym, ◌∙◌, ap, subst, arith}
+use Rattle.std.proofs.Common.{ℕ, append_assoc, zero, suc, ◌+◌, ◌-◌, ◌≤◌, ◌≡◌, true, List, [], ◌∷◌, ◌++◌, map, None, sym, ◌∙◌, subst, arith}
 use Rattle.std.specs.List.{AllByRecursion}
 use Rattle.sat_base.specs.Literals.{largest}
 use Rattle.sat_base.specs.Script.{Literal, Command, Ask, Ending, names_of}
@@ -9,9 +9,7 @@ use Rattle.certify.specs.Accepts.{stored_after}
 use Rattle.certify.specs.Answers.{Outcome, Sat, Unsat, Unknown, outcome_text}
 use Rattle.certify.specs.AnswerForms.{HaveNames, IsIncreasing, IsInForm}
 use Rattle.certify.specs.Laws.{Prints}
-use Rattle.certify.specs.Left.{Asking}
-use Rattle.certify.specs.Matches.{Expected, Opens, Shows, Fails, Closes, bringing, showing, expected, InForm}
-use Rattle.certify.specs.TheChecking.{the_checking}
+use Rattle.certify.specs.Matches.{Expected, Opens, Closes, bringing, showing, expected, InForm}
 use Rattle.certify.specs.Confirming.{Met, Leads, Bars, IsPlain}
 use Rattle.certify.proofs.LeftLaws.{Rest, ask_on, ask_back, left_on, left_back, left_barred, met_shows, met_fails}
 use Rattle.certify.proofs.Texts.{same_outcome}

@@ -1,15 +1,14 @@
 -- The assumptions of an ask.
-use Rattle.std.proofs.Common.{ℕ, ◌≡◌, true, false, List, [], ◌∷◌, Option, Some, None, refl, sym, ◌∙◌, subst}
+use Rattle.std.proofs.Common.{◌≡◌, List, [], ◌∷◌, Option, Some, None, refl, sym, ◌∙◌, subst}
 use Rattle.std.proofs.lemmas.Bool.{true≢false}
 use Rattle.sat_base.specs.Script.{Literal}
-use Rattle.sat_base.specs.Judge.{Judge}
 use Rattle.sat_base.specs.Steps.{Step}
 use Rattle.certify.specs.Accepts.{stored_after}
 use Rattle.certify.specs.Answers.{Outcome, Unknown}
-use Rattle.certify.specs.Matches.{Expected, Opens, Fits, opens}
+use Rattle.certify.specs.Matches.{Opens, Fits, opens}
 use Rattle.certify.specs.TheChecking.{the_checking}
 use Rattle.certify.specs.Confirming.{Leads}
-use Rattle.certify.specs.Standing.{Stands, Awaits, FitsHeld, Takes, Asks, bytes_of}
+use Rattle.certify.specs.Standing.{Awaits, FitsHeld, Takes, Asks, bytes_of}
 use Rattle.certify.specs.declared.verdict.Why.{Why}
 use Rattle.certify.specs.declared.confirm.certificate.Certificate.{Certificate}
 use Rattle.certify.specs.declared.confirm.certificate.Awaited.{Awaited}

@@ -3,14 +3,14 @@ use Rattle.std.proofs.Common.{ℕ, ◌+◌, ◌/◌, ◌<◌, ◌≡◌, Bool, t
 use Rattle.std.proofs.lemmas.Bool.{both_ways, eqb-true, eqb-false, eq-eqb, ne_eqb}
 use Rattle.std.specs.List.{AllByRecursion}
 use Rattle.sat_base.specs.Literals.{coded}
-use Rattle.sat_base.specs.Clauses.{Valuation, literal_true, clause_true, flipped, EachTrue, EachHolds}
+use Rattle.sat_base.specs.Clauses.{Valuation, literal_true, clause_true, flipped, EachTrue}
 use Rattle.sat_base.specs.Script.{Literal, Among}
 use Rattle.sat_base.specs.Judge.{Judge, Named, identity_in, identity_of, or_zero, over, with_name, without_name, with_clause, start}
 use Rattle.sat_base.specs.Steps.{Step, UserVarName, AddClause, DeleteVar}
 use Rattle.certify.specs.Fold.{Holds}
-use Rattle.certify.specs.Checking.{is_variable, variable_of, Checking, Accepted, IsSound}
+use Rattle.certify.specs.Checking.{is_variable, variable_of, Checking, IsSound}
 use Rattle.certify.specs.Matches.{Spells, EachSpelt, SameSet}
-use Rattle.certify.specs.Bridge.{Live, Agrees, Apart, Meant, IsBridge}
+use Rattle.certify.specs.Bridge.{Live, Agrees, Apart, IsBridge}
 use Rattle.certify.proofs.Values.{coded_half, literal_same, among_true, some_true, some_mapped, among_mapped, all_at, all_map, updated, Below, updated_clauses, placed_found, removed_found, removed_gone}
 
 pub begun : (k : Checking) → IsBridge k start [] []

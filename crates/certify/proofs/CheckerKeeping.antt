@@ -1,12 +1,12 @@
 -- What the checker keeps, part by part.
-use Rattle.std.proofs.Common.{ℕ, zero, suc, ◌+◌, ◌<◌, ◌≤◌, ◌≡◌, ◌≢◌, ◌==◌, Bool, true, false, not, ◌||◌, cond, eqb, List, [], ◌∷◌, ◌++◌, length, get_or, map, reverse, refl, sym, ◌∙◌, ap, subst, arith, ◌⊎◌, inl, inr, ◌↔◌}
-use Rattle.std.proofs.lemmas.Bool.{or_cases, or_left, or_right, both_ways, true≢false}
+use Rattle.std.proofs.Common.{ℕ, ◌≡◌, ◌≢◌, ◌==◌, Bool, true, false, ◌||◌, eqb, List, [], ◌∷◌, ◌++◌, length, get_or, map, reverse, refl, sym, ◌∙◌, ap, subst, arith, ◌⊎◌, inl, inr, ◌↔◌}
+use Rattle.std.proofs.lemmas.Bool.{both_ways}
 use Rattle.std.proofs.lemmas.List.{reverse-append, get_or_read}
 use Rattle.std.proofs.lemmas.List.Folds.{list_any-append}
 use Rattle.std.specs.List.{AllByRecursion, list_any}
-use Rattle.sat_base.specs.Literals.{negated, variable}
-use Rattle.certify.specs.Propagation.{is_among, IsFalsified, IsUnit, RunsToConflict, LeadToConflict, Passes, tautology, unit_true, conflict, is_tautology}
-use Rattle.certify.specs.Stored.{Stored, StoredClause, canonical, with_unit, with_canonical, with_stored, with_clause, with_literals_known, is_known}
+use Rattle.sat_base.specs.Literals.{negated}
+use Rattle.certify.specs.Propagation.{is_among, IsFalsified, RunsToConflict, Passes, tautology, unit_true, conflict, is_tautology}
+use Rattle.certify.specs.Stored.{Stored, StoredClause, canonical, with_unit, with_canonical, with_stored, with_clause}
 use Rattle.certify.specs.Walk.{all_literals, of_hash}
 use Rattle.certify.specs.Marks.{IsIncreasing}
 use Rattle.certify.specs.CheckerView.{Keeps}

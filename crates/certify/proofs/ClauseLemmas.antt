@@ -1,5 +1,5 @@
 -- Entries of the list of clauses and the clauses that they mean.
-use Rattle.std.proofs.Common.{ℕ, zero, suc, ◌+◌, ◌-◌, ◌<◌, ◌≤◌, ◌≡◌, Bool, true, false, not, ◌||◌, cond, List, [], ◌∷◌, ◌++◌, length, take, drop, get_or, map, refl, sym, ◌∙◌, ap, subst, arith, eqb, length-append, length-drop, slice_range, slice_set}
+use Rattle.std.proofs.Common.{ℕ, zero, suc, ◌-◌, ◌<◌, ◌≤◌, ◌≡◌, Bool, true, false, not, ◌||◌, cond, List, [], ◌∷◌, ◌++◌, length, take, drop, get_or, map, refl, sym, ◌∙◌, ap, subst, arith, length-append, length-drop, slice_range, slice_set}
 use Rattle.std.proofs.lemmas.List.{get_or-map, length-map, take-append-le, drop-append-le, map-set, map-append}
 use Rattle.std.proofs.Math.Seq.{drop-append_seam, take-length}
 use Rattle.std.proofs.lemmas.Bool.{false_from_ne_true}
@@ -10,7 +10,7 @@ use Rattle.sat_base.specs.Hashes.{hash_of}
 use Rattle.certify.specs.Marks.{IsIncreasing}
 use Rattle.certify.specs.Stored.{StoredClause, same_literals, with_clause}
 use Rattle.certify.specs.Walk.{all_literals, all_flags}
-use Rattle.certify.specs.ClausesView.{clause_at, IsEntry, fresh, kept, is_same_at, IsFirstSame}
+use Rattle.certify.specs.ClausesView.{clause_at, IsEntry, fresh, kept, is_same_at}
 use Rattle.certify.specs.declared.checker.clauses.Entry.{Entry}
 
 -- a clause that is read is the model's

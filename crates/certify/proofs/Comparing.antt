@@ -1,5 +1,5 @@
 -- What a held step says, compared with what is expected.
-use Rattle.std.proofs.Common.{ℕ, ◌+◌, ◌-◌, ◌≡◌, Bool, true, false, List, [], ◌∷◌, length, map, Option, Some, None, refl, sym, ◌∙◌, ap, subst, arith}
+use Rattle.std.proofs.Common.{ℕ, ◌-◌, ◌≡◌, Bool, true, false, List, length, map, Some, None, sym, ◌∙◌, ap, subst, arith}
 use Rattle.std.specs.Bool.{MatchBool}
 use Rattle.std.specs.List.{AllByRecursion}
 use Rattle.sat_base.specs.Script.{Literal, Among, names_of}
@@ -8,7 +8,7 @@ use Rattle.sat_base.specs.Steps.{Step, AddClause, Assumptions, Model, FailedAssu
 use Rattle.certify.specs.Accepts.{stored_after}
 use Rattle.certify.specs.Answers.{Outcome}
 use Rattle.certify.specs.Checking.{variable_of}
-use Rattle.certify.specs.Matches.{Expected, Adds, Opens, Shows, Fails, Fits, adds, opens, shows, fails, SameSet, EachSpelt}
+use Rattle.certify.specs.Matches.{Adds, Opens, Shows, Fails, Fits, adds, opens, shows, fails, SameSet, EachSpelt}
 use Rattle.certify.specs.TheChecking.{the_checking}
 use Rattle.certify.specs.Confirming.{variable_in}
 use Rattle.certify.specs.Standing.{Stands, FitsHeld}

@@ -1,17 +1,16 @@
 -- The end of a script, and the way from its beginning.
-use Rattle.std.proofs.Common.{ℕ, IsTrue, rules, zero, suc, ◌+◌, ◌<◌, ◌≤◌, ◌≡◌, ◌↔◌, Bool, true, false, List, [], ◌∷◌, ◌++◌, length, drop, Option, Some, None, refl, sym, ◌∙◌, ap, subst, arith}
-use Rattle.std.proofs.lemmas.Bool.{true≢false}
+use Rattle.std.proofs.Common.{ℕ, IsTrue, rules, zero, suc, ◌+◌, ◌≤◌, ◌≡◌, ◌↔◌, Bool, true, false, List, [], ◌∷◌, ◌++◌, length, drop, Option, Some, None, refl, sym, ◌∙◌, ap, subst, arith}
 use Rattle.std.proofs.lemmas.List.{append-nil, append_cancel_left, drop_all}
 use Rattle.std.specs.List.{AllByRecursion, slice_get}
 use Rattle.sat_base.specs.Judge.{Judge, after_command, start}
 use Rattle.sat_base.specs.Script.{Command, Ending, Clean, Malformed}
 use Rattle.sat_base.specs.Steps.{Step}
 use Rattle.certify.specs.Accepts.{stored_after}
-use Rattle.certify.specs.Answers.{malformed_line, ending_text}
-use Rattle.certify.specs.Confirming.{Met, Bars, Leads}
+use Rattle.certify.specs.Answers.{malformed_line}
+use Rattle.certify.specs.Confirming.{Met}
 use Rattle.certify.specs.Matches.{Finish, MatchesCommands, met}
 use Rattle.certify.specs.ScriptParts.{end_of}
-use Rattle.certify.specs.Sessions.{TakesLine, ToConfirm, CountFromOne, Confirmed, ConfirmsCommand, ConfirmsEnd}
+use Rattle.certify.specs.Sessions.{TakesLine, ToConfirm, CountFromOne, ConfirmsCommand, ConfirmsEnd}
 use Rattle.certify.specs.Standing.{Stands, Goes, bytes_of}
 use Rattle.certify.specs.TheChecking.{the_checking}
 use Rattle.certify.specs.declared.verdict.Why.{Why}

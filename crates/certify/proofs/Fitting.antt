@@ -1,11 +1,11 @@
 -- What each expected step has to be.
-use Rattle.std.proofs.Common.{ℕ, ◌+◌, ◌≡◌, ◌↔◌, Bool, false, List, [], ◌∷◌, Option, Some, None, refl, subst, sym}
+use Rattle.std.proofs.Common.{ℕ, ◌+◌, ◌≡◌, ◌↔◌, false, List, [], Some, None, refl, subst, sym}
 use Rattle.std.specs.List.{AllByRecursion}
 use Rattle.sat_base.specs.Script.{Literal, names_of, Among}
 use Rattle.sat_base.specs.Steps.{Step, UserVarName, AddClause, Model, Assumptions, FailedAssumptions, End}
 use Rattle.certify.specs.Answers.{Outcome}
 use Rattle.certify.specs.Checking.{Checking, variable_of}
-use Rattle.certify.specs.Matches.{Expected, NewName, NoName, Adds, Opens, Shows, Fails, Closes, Finish, EachSpelt, SameSet, Fits, new_name, no_name, adds, opens, shows, fails, closes, finish}
+use Rattle.certify.specs.Matches.{NewName, NoName, Adds, Opens, Shows, Fails, Closes, Finish, EachSpelt, SameSet, Fits, new_name, no_name, adds, opens, shows, fails, closes, finish}
 
 module _ (k : Checking) (earlier : List Step) where
   to_new_name : {name : ℕ} {step : Step} → Fits k earlier (NewName name) step → (v : ℕ) × (index : ℕ) × (step ≡ UserVarName v (Some index)) × (index + 1 ≡ name) × (k.knows earlier v ≡ false)

@@ -1,5 +1,5 @@
 -- How places of a certificate lead from one to another.
-use Rattle.std.proofs.Common.{ℕ, ◌≡◌, Bool, true, false, List, [], ◌∷◌, ◌++◌, refl, sym, ◌∙◌, ap, subst, append_assoc}
+use Rattle.std.proofs.Common.{ℕ, ◌≡◌, true, false, List, [], ◌∷◌, ◌++◌, refl, sym, ◌∙◌, ap, subst, append_assoc}
 use Rattle.std.proofs.lemmas.Bool.{true≢false}
 use Rattle.std.proofs.lemmas.List.{append_cancel_left}
 use Rattle.std.specs.List.{AllByRecursion}
@@ -9,7 +9,6 @@ use Rattle.sat_base.specs.StepText.{SpellsStep, SpellsSteps}
 use Rattle.certify.specs.Accepts.{Accepts, stored_after}
 use Rattle.certify.specs.Checking.{is_ordered}
 use Rattle.certify.specs.Matches.{Expected, Fits, Meets, Excused, met, cut, other, ordered}
-use Rattle.certify.specs.Left.{CertificateMeets}
 use Rattle.certify.specs.TheChecking.{the_checking}
 use Rattle.certify.specs.Confirming.{Met, Leads, Bars, Skips, Stops, Offers}
 use Rattle.certify.proofs.Residual.{taken, skipped}

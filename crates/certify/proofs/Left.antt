@@ -1,16 +1,16 @@
 -- What is left to be matched, command by command and step by step.
-use Rattle.std.proofs.Common.{ℕ, ◌+◌, ◌≡◌, ◌↔◌, Bool, true, false, List, [], ◌∷◌, ◌++◌, Option, Some, None, refl, sym, ◌∙◌, ap, subst, append_assoc}
+use Rattle.std.proofs.Common.{ℕ, ◌+◌, ◌≡◌, ◌↔◌, true, false, List, [], ◌∷◌, ◌++◌, Some, None, refl, sym, ◌∙◌, ap, subst, append_assoc}
 use Rattle.std.proofs.lemmas.List.{append_cancel_left}
 use Rattle.std.specs.List.{AllByRecursion}
 use Rattle.sat_base.specs.Formats.{OneForm}
-use Rattle.sat_base.specs.Script.{Literal, Command, Clause, Ask, Hide, Witness, Sample, Ending, Clean, Malformed, names_of}
+use Rattle.sat_base.specs.Script.{Literal, Command, Clause, Hide, Witness, Sample, Ending, names_of}
 use Rattle.sat_base.specs.Judge.{Judge, Sampled, Witnessed, Refusal, refusal_of, accepted, accepted_of, start}
 use Rattle.sat_base.specs.Steps.{Step}
 use Rattle.sat_base.specs.StepText.{SpellsStep}
-use Rattle.certify.specs.Answers.{Outcome, Sat, Unsat, Unknown, outcome_text, refused_line, ending_text, answers_from, piece, outcomes_left}
+use Rattle.certify.specs.Answers.{Outcome, refused_line, ending_text, answers_from}
 use Rattle.certify.specs.Checking.{Checking, is_ordered}
-use Rattle.certify.specs.Matches.{Expected, Adds, Opens, Closes, Finish, bringing, hiding, setting, showing, expected, OneEach, InForm, Excused, Fits, MatchesCommands}
-use Rattle.certify.specs.Left.{CertificateMeets, Left, Asking, Answering, each_unsat, answers_unsat}
+use Rattle.certify.specs.Matches.{Expected, Adds, Finish, bringing, hiding, setting, expected, Excused, Fits, MatchesCommands}
+use Rattle.certify.specs.Left.{CertificateMeets, Left, each_unsat, answers_unsat}
 use Rattle.certify.proofs.Taken.{NoStep, meets_cut, meets_no_step, meets_ordered, meets_other}
 use Rattle.certify.proofs.Excused.{unsat_each, excused_expected, excused_both}
 

@@ -1,20 +1,14 @@
 -- What is left, command by command.
-use Rattle.std.proofs.Common.{ℕ, ◌+◌, ◌-◌, ◌≤◌, ◌<◌, ◌≡◌, ◌↔◌, true, false, List, [], ◌∷◌, ◌++◌, map, Option, Some, None, refl, sym, ◌∙◌, ap, subst, append_assoc, suc, zero, arith}
-use Rattle.std.proofs.lemmas.Bool.{true≢false}
-use Rattle.std.proofs.lemmas.List.{append_cancel_left, append-nil}
+use Rattle.std.proofs.Common.{ℕ, ◌+◌, ◌≡◌, ◌↔◌, List, [], ◌∷◌, ◌++◌, Some, None, refl, sym, ◌∙◌, ap, subst, append_assoc}
 use Rattle.std.specs.List.{AllByRecursion}
-use Rattle.sat_base.specs.Literals.{largest}
-use Rattle.sat_base.specs.Script.{Literal, Command, Clause, Ask, Hide, Witness, Sample, Ending, names_of}
-use Rattle.sat_base.specs.Judge.{Judge, Refusal, accepted, accepted_of, names_from, refusal_of, start}
+use Rattle.sat_base.specs.Script.{Literal, Command, Clause, Ask, Ending, names_of}
+use Rattle.sat_base.specs.Judge.{Judge, Refusal, accepted, accepted_of, refusal_of, start}
 use Rattle.sat_base.specs.Steps.{Step}
-use Rattle.certify.specs.Answers.{Outcome, Sat, Unsat, Unknown, answers_from, refused_line, outcome_text, outcomes_left, piece, ending_text}
-use Rattle.certify.specs.Accepts.{Accepts, stored_after}
-use Rattle.certify.specs.Checking.{Checking, is_ordered}
-use Rattle.certify.specs.Matches.{Expected, Adds, Opens, Shows, Fails, Closes, Finish, bringing, showing, expected, OneEach, InForm, Excused, Meets, Fits, met, cut, other, ordered, shows, fails, StepsMatch, MatchesCommands}
-use Rattle.certify.specs.Left.{Left, Asking, Answering, CertificateMeets}
+use Rattle.certify.specs.Answers.{Outcome, answers_from, refused_line, outcome_text, outcomes_left, piece, ending_text}
+use Rattle.certify.specs.Matches.{Expected, Adds, Opens, Shows, Fails, Closes, Finish, bringing, showing, expected, OneEach, InForm, Meets, cut, other, ordered, shows, fails, MatchesCommands}
+use Rattle.certify.specs.Left.{Left, Asking}
 use Rattle.certify.specs.TheChecking.{the_checking}
-use Rattle.certify.specs.Confirming.{Met, Leads, Bars, IsPlain}
-use Rattle.certify.proofs.Leads.{when_cut, cut_met}
+use Rattle.certify.specs.Confirming.{Met, Leads, Bars}
 
 -- what is left of the commands from number n on
 abbrev pub Rest : Judge → ℕ → List Step → List Expected → List Command → Ending → List ℕ → List ℕ → Type 0

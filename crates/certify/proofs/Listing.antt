@@ -1,13 +1,12 @@
 -- Lines that list all names, and names past the limit.
-use Rattle.std.proofs.Common.{ℕ, zero, suc, ◌+◌, ◌-◌, ◌≤◌, ◌<◌, ◌≡◌, ◌⊎◌, inl, inr, Bool, true, false, cond, eqb, ltb, List, [], ◌∷◌, ◌++◌, length, map, take, drop, get_or, Option, Some, None, refl, sym, ◌∙◌, ap, subst, arith}
+use Rattle.std.proofs.Common.{ℕ, zero, suc, ◌+◌, ◌-◌, ◌≤◌, ◌<◌, ◌≡◌, inl, inr, Bool, true, false, cond, eqb, ltb, List, [], ◌∷◌, ◌++◌, length, take, drop, get_or, Some, None, refl, sym, ◌∙◌, ap, subst, arith}
 use Rattle.std.proofs.lemmas.Bool.{true≢false, eqb-true, eqb-false}
 use Rattle.std.proofs.lemmas.List.{take_more, take_all, drop_more, take-append-drop, get_or_default, map-append}
 use Rattle.std.specs.Bool.{MatchBool}
-use Rattle.std.specs.List.{AllByRecursion}
 use mathlib.Core.Bool.{beq}
 use Rattle.sat_base.specs.Literals.{largest}
 use Rattle.sat_base.specs.Script.{Literal, Among, names_of}
-use Rattle.sat_base.specs.Judge.{names_from, refused_name, Refusal, PastLimit}
+use Rattle.sat_base.specs.Judge.{names_from, refused_name, PastLimit}
 use Rattle.certify.proofs.PlainJudge.{from_more}
 
 pub names_at : (line : List Literal) (count first i : ℕ) (d : Literal) → names_of line ≡ names_from count first → i < length line → (get_or line i d).name ≡ first + i

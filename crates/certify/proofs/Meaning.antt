@@ -1,14 +1,14 @@
 -- What is stored means what the steps mean.
-use Rattle.std.proofs.Common.{ℕ, ◌/◌, ◌≡◌, Bool, true, false, not, ◌||◌, cond, eqb, ltb, List, [], ◌∷◌, ◌++◌, map, Option, Some, None, refl, sym, ◌∙◌, ap, subst, arith, ◌⊎◌, inl, inr}
-use Rattle.std.proofs.lemmas.Bool.{cases_Bool, or_cases, or_left, or_right, or_parts, both_ways, true≢false, eqb-true, eqb-false}
+use Rattle.std.proofs.Common.{ℕ, ◌≡◌, Bool, true, false, not, ◌||◌, cond, eqb, ltb, List, [], ◌∷◌, ◌++◌, map, Some, None, refl, sym, ◌∙◌, ap, subst, arith, ◌⊎◌, inl, inr}
+use Rattle.std.proofs.lemmas.Bool.{cases_Bool, or_cases, or_left, or_right, or_parts, both_ways, true≢false, eqb-true}
 use Rattle.std.proofs.lemmas.Bool.Decides.{Decides-eqb}
 use Rattle.std.proofs.lemmas.Slice.Eq.{slice_eq-Decides}
 use Rattle.std.specs.List.{AllByRecursion}
-use Rattle.sat_base.specs.Literals.{variable, negated}
+use Rattle.sat_base.specs.Literals.{negated}
 use Rattle.sat_base.specs.Clauses.{Valuation, literal_true, clause_true}
 use Rattle.sat_base.specs.Steps.{Step, SolverVarName, UserVarName, DeleteVar, ChangeSamplingMode, AddClause, AtClause, UnitClauses, DeleteClause, ChangeHashBits, Model, Assumptions, FailedAssumptions, End}
 use Rattle.certify.specs.Propagation.{is_among, is_tautology, Passes}
-use Rattle.certify.specs.Stored.{Stored, StoredClause, Satisfies, same_literals, with_literal, canonical, with_clause, with_unit, with_canonical, with_stored, with_known, with_literals_known, bucket}
+use Rattle.certify.specs.Stored.{Stored, StoredClause, Satisfies, same_literals, with_literal, canonical, with_clause, with_canonical, with_stored, with_literals_known, bucket}
 use Rattle.certify.specs.Accepts.{after, stored_after}
 use Rattle.certify.specs.Fold.{Holds}
 use Rattle.certify.specs.Checking.{Accepted}

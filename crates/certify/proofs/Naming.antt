@@ -1,5 +1,5 @@
 -- How names come in.
-use Rattle.std.proofs.Common.{ℕ, zero, suc, ◌+◌, ◌-◌, ◌≤◌, ◌<◌, ◌≡◌, Bool, true, false, cond, eqb, max, List, [], ◌∷◌, ◌++◌, length, map, take, drop, get_or, Option, Some, None, Result, Ok, Err, refl, sym, ◌∙◌, ap, subst, arith, append_assoc}
+use Rattle.std.proofs.Common.{ℕ, zero, suc, ◌+◌, ◌-◌, ◌≤◌, ◌<◌, ◌≡◌, Bool, true, false, cond, eqb, List, [], ◌∷◌, ◌++◌, length, map, take, drop, get_or, Option, Some, None, Result, Ok, Err, refl, sym, ◌∙◌, ap, subst, arith}
 use Rattle.std.proofs.lemmas.Bool.{true≢false, eqb-true, eqb-false, ne_eqb}
 use Rattle.std.proofs.lemmas.List.{length_push, map-append, take_more, take-append-drop, append-nil}
 use Rattle.std.specs.List.{AllByRecursion, slice_get}
@@ -8,15 +8,14 @@ use Rattle.sat_base.specs.Literals.{largest}
 use Rattle.sat_base.specs.Script.{Literal, names_of}
 use Rattle.sat_base.specs.Judge.{Judge, names_from, new_names, with_name, with_names, bring_in, bring_all}
 use Rattle.sat_base.specs.Steps.{Step, UserVarName}
-use Rattle.certify.specs.Accepts.{Accepts, stored_after}
+use Rattle.certify.specs.Accepts.{stored_after}
 use Rattle.certify.specs.AnswerForms.{IsName, HaveNames}
 use Rattle.certify.specs.Checking.{variable_of}
-use Rattle.certify.specs.Matches.{Expected, NewName, Fits, Excused, new_name, bringing}
+use Rattle.certify.specs.Matches.{NewName, Fits, Excused, new_name, bringing}
 use Rattle.certify.specs.TheChecking.{the_checking}
 use Rattle.certify.specs.CheckerView.{Keeps, AnswersRightly}
-use Rattle.certify.specs.Confirming.{Leads, Bars, IsPlain, variable_in}
+use Rattle.certify.specs.Confirming.{Leads, Bars, variable_in}
 use Rattle.certify.specs.Standing.{Stands, Onward, Goes, Awaits, NamesNext, Puts, bytes_of}
-use Rattle.certify.specs.Stored.{is_known}
 use Rattle.certify.specs.declared.verdict.Why.{Why}
 use Rattle.certify.specs.declared.confirm.certificate.Certificate.{Certificate}
 use Rattle.certify.specs.declared.confirm.certificate.Awaited.{Awaited}

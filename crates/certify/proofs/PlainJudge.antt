@@ -1,11 +1,11 @@
 -- A judge before whom nothing was hidden and no mode was set.
 use Rattle.std.proofs.Common.{ℕ, zero, suc, ◌+◌, ◌-◌, ◌≤◌, ◌<◌, ◌≡◌, Bool, true, false, cond, eqb, ltb, max, List, [], ◌∷◌, ◌++◌, map, Option, Some, None, is_some, refl, sym, ◌∙◌, ap, subst, arith, append_assoc, get_or}
-use Rattle.std.proofs.lemmas.Bool.{ltb-true, ltb-false, eqb-false, ne_eqb, eqb-true}
+use Rattle.std.proofs.lemmas.Bool.{ltb-true, eqb-false}
 use Rattle.std.specs.List.{AllByRecursion}
 use Rattle.sat_base.specs.Literals.{largest}
-use Rattle.sat_base.specs.Script.{Literal, Command, Clause, Ask, names_of}
-use Rattle.sat_base.specs.Judge.{Judge, Named, Mode, Sampled, Witnessed, identity_in, identity_of, placed, with_name, with_names, names_from, new_names, bring_in, bring_all, with_clause, accepted, Refusal, PastLimit, WitnessName, is_witness, refused_literal, refused_name, has_witness, refusal_of, start}
-use Rattle.certify.specs.Matches.{Expected, NewName, bringing}
+use Rattle.sat_base.specs.Script.{Literal}
+use Rattle.sat_base.specs.Judge.{Judge, Named, Mode, Sampled, identity_in, identity_of, placed, with_name, with_names, names_from, new_names, bring_in, bring_all, with_clause, is_witness, refused_literal, refused_name, has_witness, start}
+use Rattle.certify.specs.Matches.{NewName, bringing}
 use Rattle.certify.specs.Confirming.{IsPlain}
 
 abbrev name_in : Named → ℕ

@@ -1,25 +1,25 @@
 -- Commands, confirmed one after another.
-use Rattle.std.proofs.Common.{ℕ, zero, suc, ◌+◌, ◌≤◌, ◌<◌, ◌≡◌, Bool, true, false, cond, ltb, List, [], ◌∷◌, ◌++◌, map, Option, Some, None, Result, Ok, Err, refl, sym, ◌∙◌, ap, subst, arith, is_some}
+use Rattle.std.proofs.Common.{ℕ, ◌+◌, ◌≤◌, ◌≡◌, Bool, true, false, cond, ltb, List, [], ◌∷◌, ◌++◌, Option, Some, None, refl, sym, ◌∙◌, ap, subst}
 use Rattle.std.proofs.lemmas.Bool.{ltb-false}
 use Rattle.std.proofs.lemmas.List.{append_cancel_left}
 use Rattle.std.specs.List.{AllByRecursion}
 use Rattle.sat_base.specs.Literals.{largest}
 use Rattle.sat_base.specs.Script.{Literal, Command, Clause, Ask, Ending, names_of}
-use Rattle.sat_base.specs.Judge.{Judge, Refusal, PastLimit, refused_name, refused_literal, refusal_of, accepted, after_command, bring_all, with_clause}
+use Rattle.sat_base.specs.Judge.{Judge, Refusal, PastLimit, refused_name, refused_literal, refusal_of, accepted, after_command, bring_all}
 use Rattle.sat_base.specs.Steps.{Step}
 use Rattle.certify.specs.Accepts.{stored_after}
-use Rattle.certify.specs.Answers.{Outcome, Unsat, outcome_text, refused_line, ending_text}
+use Rattle.certify.specs.Answers.{Outcome, Unsat, outcome_text, refused_line}
 use Rattle.certify.specs.AnswerForms.{HaveNames, IsInForm}
 use Rattle.certify.specs.CheckerView.{Keeps}
-use Rattle.certify.specs.Confirming.{IsPlain, Leads}
-use Rattle.certify.specs.Matches.{Adds, Closes, Finish, bringing, showing}
-use Rattle.certify.specs.Sessions.{TakesLine, ToConfirm, CountFromOne, Confirmed, ConfirmsCommand, ConfirmsEnd}
+use Rattle.certify.specs.Confirming.{IsPlain}
+use Rattle.certify.specs.Matches.{Adds, Closes, bringing, showing}
+use Rattle.certify.specs.Sessions.{TakesLine, ToConfirm, CountFromOne, Confirmed, ConfirmsCommand}
 use Rattle.certify.specs.Standing.{Stands, Onward, Goes, Asked, Asks, bytes_of}
 use Rattle.certify.specs.Stored.{Stored}
 use Rattle.certify.specs.declared.verdict.Why.{Why}
 use Rattle.certify.specs.declared.confirm.certificate.Certificate.{Certificate}
 use Rattle.certify.specs.declared.confirm.session.Session.{Session}
-use Rattle.certify.proofs.LeftLaws.{Rest, refused_on, refused_back, clause_pending, left_on, left_back, left_barred, end_on, end_back}
+use Rattle.certify.proofs.LeftLaws.{Rest, refused_on, refused_back, clause_pending, left_on, left_back, left_barred}
 use Rattle.certify.proofs.PlainJudge.{plain_refused, plain_clause}
 use Rattle.certify.proofs.AskLaws.{ask_unnamed, ask_unopened, ask_unread, answered_on, answered_back}
 

@@ -1,5 +1,5 @@
 -- Formats that are made of others, read from the front of bytes.
-use Rattle.std.proofs.Common.{◌≡◌, ℕ, ◌+◌, ◌<◌, zero, suc, Bool, Option, List, [], ◌∷◌, ◌++◌, length, length-append, Result, Ok, Err, append_assoc, refl, sym, ap, subst, ◌∙◌, arith}
+use Rattle.std.proofs.Common.{◌≡◌, ℕ, ◌+◌, ◌<◌, List, [], ◌∷◌, ◌++◌, length, length-append, Result, Ok, Err, append_assoc, refl, sym, ap, subst, ◌∙◌, arith}
 use Rattle.std.proofs.lemmas.List.{append-nil}
 use Rattle.sat_base.specs.Formats.{Format, Open, Live, Then, Items, Times, ListOf, OneForm}
 use Rattle.sat_base.proofs.Formats.{cancel, shut_first}

@@ -1,20 +1,18 @@
 -- How the certificate goes on.
-use Rattle.std.proofs.Common.{ℕ, suc, ◌+◌, ◌<◌, ◌≡◌, Bool, true, false, List, [], ◌∷◌, ◌++◌, length, eqb, Result, Ok, Err, IfOk, Option, Some, None, refl, sym, ◌∙◌, ap, subst, arith, length-append}
+use Rattle.std.proofs.Common.{ℕ, ◌+◌, ◌<◌, ◌≡◌, Bool, true, false, List, [], ◌∷◌, ◌++◌, length, eqb, Result, Ok, Err, IfOk, Option, Some, None, refl, sym, ◌∙◌, ap, subst, arith, length-append}
 use Rattle.std.proofs.lemmas.Bool.{true≢false, ne_eqb}
-use Rattle.std.specs.Bool.{MatchBool}
-use Rattle.sat_base.specs.Script.{Literal}
 use Rattle.sat_base.specs.Judge.{Judge}
 use Rattle.sat_base.specs.Steps.{Step, SolverVarName, UserVarName, DeleteVar, ChangeSamplingMode, AddClause, AtClause, UnitClauses, DeleteClause, ChangeHashBits, Model, Assumptions, FailedAssumptions, End}
 use Rattle.certify.specs.Stored.{Stored}
 use Rattle.sat_base.specs.StepText.{SpellsStep}
-use Rattle.certify.specs.Accepts.{Accepts, stored_after}
+use Rattle.certify.specs.Accepts.{stored_after}
 use Rattle.certify.specs.Checking.{is_ordered, variable_of}
-use Rattle.certify.specs.Matches.{Expected, NewName, NoName, Fails, Excused, Fits, new_name, no_name, adds, opens, shows, fails, closes, finish}
+use Rattle.certify.specs.Matches.{Expected, NewName, NoName, Excused, Fits, new_name, no_name, adds, opens, shows, fails, closes, finish}
 use Rattle.certify.specs.TheChecking.{the_checking}
 use Rattle.certify.specs.CheckerView.{Keeps, AnswersRightly}
-use Rattle.certify.specs.Confirming.{Leads, Bars, Skips, Stops, Offers, variable_in}
-use Rattle.certify.specs.HeldStep.{Place, ReadsStep, ReadsNext, BeginsNoStep}
-use Rattle.certify.specs.Standing.{Stands, Stays, Onward, Goes, Held, Closed, Passed, Awaits, Advances, FitsHeld, Takes, Asked, Asks, bytes_of}
+use Rattle.certify.specs.Confirming.{Leads, Offers, variable_in}
+use Rattle.certify.specs.HeldStep.{Place, ReadsStep, ReadsNext}
+use Rattle.certify.specs.Standing.{Stands, Stays, Goes, Passed, Awaits, Advances, FitsHeld, Takes, bytes_of}
 use Rattle.certify.specs.declared.checker.Checker.{Checker}
 use Rattle.certify.specs.declared.verdict.Why.{Why}
 use Rattle.certify.specs.declared.confirm.certificate.Certificate.{Certificate}

@@ -1,9 +1,9 @@
 -- The next step of a certificate, and what is left behind it.
-use Rattle.std.proofs.Common.{ℕ, ◌+◌, ◌≡◌, ◌↔◌, Bool, true, false, List, [], ◌∷◌, ◌++◌, length, suc, refl, sym, ◌∙◌, ap, subst, arith, append_assoc, length-append, ◌⊎◌, inl, inr}
+use Rattle.std.proofs.Common.{ℕ, ◌≡◌, ◌↔◌, Bool, true, false, List, [], ◌∷◌, ◌++◌, length, suc, refl, sym, ◌∙◌, ap, subst, arith, append_assoc, length-append, ◌⊎◌, inl, inr}
 use Rattle.std.proofs.lemmas.Bool.{both_ways}
 use Rattle.std.proofs.lemmas.List.{append_cancel_left, append-nil}
 use Rattle.std.specs.List.{AllByRecursion}
-use Rattle.sat_base.specs.Formats.{OneForm, Live, Open, Spoilt}
+use Rattle.sat_base.specs.Formats.{OneForm, Live, Spoilt}
 use Rattle.sat_base.specs.Steps.{Step}
 use Rattle.sat_base.specs.StepText.{SpellsStep, SpellsSteps}
 use Rattle.certify.specs.Checking.{Checking, is_ordered}

@@ -1,5 +1,5 @@
 -- How what is taken of a certificate composes, and what it leaves.
-use Rattle.std.proofs.Common.{ℕ, ◌≡◌, ◌↔◌, Bool, true, false, List, [], ◌∷◌, ◌++◌, refl, sym, ◌∙◌, ap, subst, append_assoc}
+use Rattle.std.proofs.Common.{ℕ, ◌≡◌, ◌↔◌, Bool, true, false, List, [], ◌∷◌, ◌++◌, refl, sym, subst, append_assoc}
 use Rattle.std.specs.List.{AllByRecursion}
 use Rattle.sat_base.specs.Formats.{OneForm}
 use Rattle.sat_base.specs.Script.{Literal, Command, Ending}

@@ -1,5 +1,5 @@
 -- Which steps the list checker accepts, and what they leave. It knows six kinds of step and refuses the others.
-use Rattle.std.specs.Prelude.{ℕ, ◌≡◌, ◌⊎◌, Bool, true, false, Option, Some, None, List, [], ◌∷◌, map, if◌then◌else◌}
+use Rattle.std.specs.Prelude.{ℕ, ◌≡◌, ◌⊎◌, true, false, Some, List, [], ◌∷◌, map, if◌then◌else◌}
 use Rattle.std.specs.List.{list_any, AllByRecursion}
 use Rattle.sat_base.specs.Literals.{variable, negated}
 use Rattle.sat_base.specs.Steps.{Step, UserVarName, AddClause, AtClause, Model, Assumptions, End}

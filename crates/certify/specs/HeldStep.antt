@@ -1,5 +1,5 @@
 -- The step that a buffer holds, and where a certificate was read to.
-use Rattle.std.specs.Prelude.{ℕ, ◌≡◌, ◌<◌, Bool, Option, Some, None, List, ◌++◌, length}
+use Rattle.std.specs.Prelude.{ℕ, ◌≡◌, Option, Some, None, List, ◌++◌}
 use Rattle.sat_base.specs.Steps.{Step, SolverVarName, UserVarName, DeleteVar, ChangeSamplingMode, AddClause, AtClause, UnitClauses, DeleteClause, ChangeHashBits, Model, Assumptions, FailedAssumptions, End}
 use Rattle.sat_base.specs.StepText.{SpellsStep}
 use Rattle.sat_base.specs.StepViews.{deletion_of}

@@ -4,8 +4,8 @@ use Rattle.std.specs.List.{AllByRecursion}
 use Rattle.sat_base.specs.Script.{Literal, Command, Clause, Ask, Ending}
 use Rattle.sat_base.specs.Judge.{Judge, after_command}
 use Rattle.sat_base.specs.Steps.{Step}
-use Rattle.certify.specs.Answers.{Outcome, Unsat, outcome_text, ending_text}
-use Rattle.certify.specs.AnswerForms.{IsInForm, HaveNames}
+use Rattle.certify.specs.Answers.{Outcome, Unsat, outcome_text}
+use Rattle.certify.specs.AnswerForms.{IsInForm}
 use Rattle.certify.specs.AnswerReading.{outcome_of}
 use Rattle.certify.specs.CheckerView.{Keeps}
 use Rattle.certify.specs.Left.{Left}

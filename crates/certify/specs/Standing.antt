@@ -1,5 +1,5 @@
 -- Where confirming stands in the certificate, and what each of its steps makes of that.
-use Rattle.std.specs.Prelude.{ℕ, ◌+◌, ◌<◌, ◌≤◌, ◌≡◌, Bool, true, false, Result, Ok, Err, Option, Some, None, List, [], ◌∷◌, ◌++◌, length, map}
+use Rattle.std.specs.Prelude.{ℕ, ◌+◌, ◌<◌, ◌≤◌, ◌≡◌, true, false, Result, Ok, Err, Option, Some, None, List, [], ◌∷◌, length}
 use Rattle.sat_base.specs.Literals.{largest}
 use Rattle.sat_base.specs.Script.{Literal}
 use Rattle.sat_base.specs.Judge.{Judge, with_name}

@@ -100,6 +100,7 @@ fn finds_models(rt: HostRuntime) -> Result<(), Fail> {
         [-1, -2, -3].as_slice()
     );
     let mut solver = solver_of(&rt, 1, &[&[1, -1]])?;
+    assert_eq!(rt; solver.clauses.len(), 0);
     assert_eq!(rt; model(&rt, &mut solver)?.as_slice(), [-1].as_slice());
     Ok(())
 }

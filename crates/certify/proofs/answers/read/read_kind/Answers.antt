@@ -1,4 +1,4 @@
-use Rattle.std.proofs.Common.{ℕ, ◌≡◌, ◌≢◌, [], ◌++◌, List, length, ap, arith}
+use Rattle.std.proofs.Common.{ℕ, ◌≡◌, ◌++◌, List, length, ap, arith}
 use Rattle.std.proofs.lemmas.Grind.{common_steps}
 use Rattle.certify.specs.Answers.{s_satisfiable, s_unsatisfiable, s_unknown}
 use Rattle.certify.specs.AnswerReading.{first_line}

@@ -7,7 +7,7 @@ use Rattle.certify.specs.AnswerReading.{IsHead, NoLine, outcome_of}
 use Rattle.certify.specs.declared.answers.read.AnswerKind.{AnswerKind}
 use Rattle.certify.specs.declared.answers.read.AnswerFault.{AnswerFault}
 use Rattle.certify.specs.declared.answers.read.AnswerFault.TheVariants.{Text}
-use Rattle.certify.proofs.AnswerKinds.{line_read, no_head, no_list, no_order}
+use Rattle.certify.proofs.AnswerKinds.{no_head, no_order}
 use Rattle.certify.proofs.answers.read.read_list.Goals as goal
 
 -- what was found of the line's head

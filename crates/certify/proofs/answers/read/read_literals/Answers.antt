@@ -1,9 +1,8 @@
-use Rattle.std.proofs.Common.{ℕ, ◌≡◌, ◌++◌, ◌∷◌, [], List, Option, Some, None, Result, Ok, Err, Bor, MatchOption, MatchResult, sym, subst, ap}
+use Rattle.std.proofs.Common.{ℕ, ◌≡◌, ◌++◌, ◌∷◌, List, Option, Some, None, Bor, MatchOption, MatchResult, sym, subst}
 use Rattle.std.specs.Option.{ok_or}
 use Rattle.certify.specs.Answers.{literals_text}
 use Rattle.certify.specs.AnswerForms.{HaveNames, named_literals}
 use Rattle.certify.specs.AnswerReading.{NoLiteral, NoLiterals}
-use Rattle.certify.specs.declared.answers.read.AnswerFault.{AnswerFault}
 use Rattle.certify.specs.declared.answers.read.AnswerFault.TheVariants.{Text}
 use Rattle.certify.proofs.AnswerLines.{Read, one_read, all_read, not_read}
 use Rattle.certify.proofs.answers.read.read_literals.Goals as goal

@@ -1,4 +1,3 @@
-use Rattle.std.proofs.Common.{◌≡◌}
 use Rattle.std.proofs.lemmas.Result.{err_from_is_err_and}
 use Rattle.certify.proofs.AnswerKinds.{no_kind, no_line}
 use Rattle.certify.proofs.answers.read.read_outcome.Goals as goal

@@ -1,4 +1,4 @@
-use Rattle.std.proofs.Common.{◌≡◌, ◌≢◌, ◌+◌, ◌≤◌, [], drop}
+use Rattle.std.proofs.Common.{◌≡◌, ◌≢◌, [], drop}
 use Rattle.std.specs.Bool.{MatchBool}
 use Rattle.certify.specs.Walk.{all_literals, of_hash}
 use Rattle.certify.specs.Look.{Extends}

@@ -1,4 +1,4 @@
-use Rattle.std.proofs.Common.{◌≡◌, ◌+◌, ◌*◌, ◌≤◌, drop, map}
+use Rattle.std.proofs.Common.{◌≡◌, drop, map}
 use Rattle.certify.specs.Walk.{all_literals, of_hash}
 use Rattle.certify.specs.Look.{Extends}
 use Rattle.certify.specs.Walk.{walk_buckets}

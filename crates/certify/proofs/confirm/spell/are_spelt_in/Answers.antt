@@ -1,7 +1,7 @@
 use Rattle.std.proofs.Common.{List, ℕ}
 use Rattle.std.specs.Bool.{MatchBool}
 use Rattle.certify.specs.Confirming.{variable_in}
-use Rattle.certify.specs.Matches.{EachSpelt, SameSet}
+use Rattle.certify.specs.Matches.{EachSpelt}
 use Rattle.certify.specs.Spelling.{AllAmong, AreSpelt}
 use Rattle.certify.proofs.Sets.{each_answer, unspelt_each}
 use Rattle.certify.proofs.Stepping.{ok_so}

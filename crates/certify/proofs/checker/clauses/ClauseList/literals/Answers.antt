@@ -1,5 +1,3 @@
-use Rattle.std.proofs.Common.{◌≡◌, List, ℕ, get_or, [], ◌-◌, take, drop, subst, sym}
-use Rattle.certify.specs.Walk.{all_literals}
 use Rattle.certify.proofs.ClauseLemmas.{literals_read}
 use Rattle.certify.proofs.checker.clauses.ClauseList.literals.Goals as goal
 

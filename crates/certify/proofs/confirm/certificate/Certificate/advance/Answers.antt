@@ -1,4 +1,4 @@
-use Rattle.std.proofs.Common.{◌≡◌, true, false, refl, sym, ◌∙◌, ap, subst}
+use Rattle.std.proofs.Common.{true, false, refl, sym, ◌∙◌, ap, subst}
 use Rattle.certify.specs.Checking.{is_ordered}
 use Rattle.certify.specs.declared.verdict.Why.TheVariants.{StepRefused}
 use Rattle.certify.specs.HeldStep.{ReadsNext}

@@ -1,4 +1,4 @@
-use Rattle.std.proofs.Common.{◌≡◌, [], refl, sym, ◌∙◌, ap, subst}
+use Rattle.std.proofs.Common.{sym, ◌∙◌, ap, subst}
 use Rattle.sat_base.specs.StepViews.{step_of}
 use Rattle.sat_base.specs.Steps.{Assumptions}
 use Rattle.certify.specs.Matches.{Closes, Fits, closes}

@@ -1,4 +1,4 @@
-use Rattle.std.proofs.Common.{◌∷◌, [], map, refl}
+use Rattle.std.proofs.Common.{◌∷◌, [], refl}
 use Rattle.sat_base.specs.Judge.{Judge}
 use Rattle.certify.specs.Matches.{Adds}
 use Rattle.certify.specs.Standing.{Goes, Takes}

@@ -1,4 +1,4 @@
-use Rattle.std.proofs.Common.{ℕ, Some, None, subst}
+use Rattle.std.proofs.Common.{subst}
 use Rattle.sat_base.specs.Script.{Ask}
 use Rattle.sat_base.specs.Judge.{Judge}
 use Rattle.certify.specs.AnswerReading.{outcome_of}

@@ -1,12 +1,8 @@
-use Rattle.std.proofs.Common.{◌*◌, ◌^◌}
 use Rattle.std.proofs.lemmas.Result.{err_from_is_err_and}
-use Rattle.sat_base.specs.Formats.{Both}
 use Rattle.sat_base.specs.Literals.{largest}
-use Rattle.sat_base.specs.StepText.{IsVariable, IsOptionalVariable, IsLiteral, IsHash, IsFlag, IsDeletion, AreLiterals, AreHashes}
-use Rattle.sat_base.specs.StepViews.{deletion_of}
+use Rattle.sat_base.specs.StepText.{IsVariable, IsFlag}
 use Rattle.sat_base.proofs.Numbers.{one_below}
-use Rattle.sat_base.proofs.StepReads.{one_flag, one_literals}
-use Rattle.certify.proofs.SourceFormats.{first_fails, second_fails, second_gives, both}
+use Rattle.certify.proofs.SourceFormats.{first_fails, second_fails, both}
 use Rattle.certify.proofs.confirm.source.groups.variable_and_flag.Goals as goal
 
 pub returns-in_err-var : goal.returns-in_err-var

@@ -1,8 +1,7 @@
-use Rattle.std.proofs.Common.{◌*◌, ◌^◌}
+use Rattle.std.proofs.Common.{◌^◌}
 use Rattle.std.proofs.lemmas.Result.{err_from_is_err_and}
-use Rattle.sat_base.specs.Formats.{Both}
 use Rattle.sat_base.specs.Numbers.{IsBelow}
-use Rattle.sat_base.specs.StepText.{IsLiteral, IsHash}
+use Rattle.sat_base.specs.StepText.{IsHash}
 use Rattle.sat_base.proofs.Numbers.{one_below}
 use Rattle.certify.specs.SourceReading.{giving}
 use Rattle.certify.proofs.SourceFormats.{list_fails, list_gives}

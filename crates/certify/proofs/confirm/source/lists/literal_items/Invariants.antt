@@ -1,6 +1,4 @@
-use Rattle.std.proofs.Common.{◌*◌, ◌^◌}
-use Rattle.sat_base.specs.Formats.{Both}
-use Rattle.sat_base.specs.StepText.{IsLiteral, IsHash}
+use Rattle.sat_base.specs.StepText.{IsLiteral}
 use Rattle.certify.proofs.SourceFormats.{Counted}
 use Rattle.certify.proofs.confirm.source.lists.literal_items.Given as goal
 

@@ -1,4 +1,3 @@
-use Rattle.std.proofs.Common.{◌*◌, ◌^◌}
 use Rattle.sat_base.specs.Formats.{Both}
 use Rattle.sat_base.specs.StepText.{IsLiteral, IsHash}
 use Rattle.certify.proofs.SourceFormats.{Counted}

@@ -1,4 +1,4 @@
-use Rattle.std.proofs.Common.{arith, refl}
+use Rattle.std.proofs.Common.{arith}
 use Rattle.std.proofs.lemmas.Grind.{common_steps}
 use Rattle.certify.proofs.SourceNumbers.{zero_at, large_at, on_at, read_at, more_at, cut_at}
 use Rattle.certify.proofs.confirm.source.numbers.number.Goals as goal
