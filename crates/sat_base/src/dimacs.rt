@@ -106,9 +106,12 @@ impl DimacsParser {
         // Where the reader tells its bytes, the formula and the faults are those of the text.
         ensures parsed { IfSome (R.remaining reader.old) (Parses result) }
         ensures end { OnOk result (IsAtEnd (R.remaining reader.new)) }
-        ensures kept { OnOk result (R.failures reader.new ≡ R.failures reader.old) }
+        // A read has failed only where the answer is that, and none is tried again.
+        ensures kept { IsErrOf result DimacsError.Read ⊎ (R.failures reader.new ≡ R.failures reader.old) }
         ensures read { IsErrOf result DimacsError.Read
-            → (R.failures reader.old < R.failures reader.new) ⊎ (R.calls reader.new ≡ R.calls reader.old + most_reads) }
+            → (R.failures reader.new ≡ R.failures reader.old + 1) ⊎ (R.calls reader.new ≡ R.calls reader.old + most_reads) }
+        ensures reads { R.calls reader.new ≤ R.calls reader.old + most_reads }
+        ensures fresh { IsErrOf result DimacsError.HasFailed → ⊥ }
     {
         let mut parser = DimacsParser::new(alloc);
         let mut piece = [0; 4096];
@@ -140,9 +143,11 @@ impl DimacsParser {
         // Whatever the closure does, it had the parser after each piece that the reader gave.
         ensures visited { VisitsAll (λ f p r q g. F.step f p r q g) closure (R.remaining reader.old) (R.remaining reader.new) result }
         ensures end { OnOk result (IsAtEnd (R.remaining reader.new)) }
-        ensures kept { OnOk result (R.failures reader.new ≡ R.failures reader.old) }
+        // A read has failed only where the answer is that, and none is tried again.
+        ensures kept { IsErrOf result (IncrementalError.Dimacs DimacsError.Read) ⊎ (R.failures reader.new ≡ R.failures reader.old) }
         ensures read { IsErrOf result (IncrementalError.Dimacs DimacsError.Read)
-            → (R.failures reader.old < R.failures reader.new) ⊎ (R.calls reader.new ≡ R.calls reader.old + most_reads) }
+            → (R.failures reader.new ≡ R.failures reader.old + 1) ⊎ (R.calls reader.new ≡ R.calls reader.old + most_reads) }
+        ensures reads { R.calls reader.new ≤ R.calls reader.old + most_reads }
     {
         let mut parser = DimacsParser::new(alloc);
         let mut piece = [0; 4096];
