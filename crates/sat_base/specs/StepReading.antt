@@ -1,9 +1,10 @@
 -- What a reader of steps does.
-use Rattle.std.specs.Prelude.{◌≡◌, ℕ, Bool, true, false, List, [], Option, Result, Ok, Err}
+use Rattle.std.specs.Prelude.{◌≡◌, ◌≤◌, ℕ, Bool, true, false, List, [], Option, Result, Ok, Err}
 use Rattle.sat_base.specs.declared.step_reader.StepReader.{StepReader}
 use Rattle.sat_base.specs.declared.step_reader.Buffers.{Buffers}
 use Rattle.sat_base.specs.declared.error.StepError.{StepError}
 use Rattle.sat_base.specs.declared.error.StepError.TheVariants as errors
+use Rattle.sat_base.specs.Device.{most_reads}
 use Rattle.sat_base.specs.Reading.{Source, Passes, Answers, source_of}
 use Rattle.sat_base.specs.Steps.{Step}
 use Rattle.sat_base.specs.Kinds.{step_with}
@@ -70,3 +71,4 @@ pub record Next {R : Type 0} (remaining : R → Option (List ℕ)) (failures cal
   pub answer : Answered result (source remaining failures calls old) (source remaining failures calls new)
   pub was : has_failed old ≡ repeated result
   pub is : has_failed new ≡ stopped result
+  pub bound : (source remaining failures calls new).reads ≤ most_reads

@@ -1,5 +1,6 @@
 //! Bytes read ahead of need.
 ghost use Rattle.std.specs.Prelude.{◌≡◌, ◌≤◌};
+ghost use Rattle.sat_base.specs.Device.{most_reads};
 
 /// How many bytes a reader is asked for at most.
 pub(crate) const PIECE: usize = 4096;
@@ -10,9 +11,10 @@ pub(crate) struct Ahead {
     pub(crate) piece: [u8; PIECE],
     pub(crate) at: usize,
     pub(crate) end: usize,
-    /// The reads so far, at most 2^48.
+    /// The reads so far.
     pub(crate) reads: u64,
     pub(crate) ghost within: { end ≤ 4096 },
+    pub(crate) ghost bounded: { reads ≤ most_reads },
 }
 
 impl Ahead {
