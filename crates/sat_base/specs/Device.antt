@@ -10,9 +10,9 @@ CountsErr r old new = MatchResult r (λ _. new ≡ old) (λ _. new ≡ old + 1)
 abbrev pub CountsWrite : {E : Type 0} → Result ℕ E → List ℕ → ℕ → ℕ → Type 0
 CountsWrite r piece old new = MatchResult r (λ n. new ≡ (if nat_eq n 0 && nat_lt 0 (length piece) then old + 1 else old)) (λ _. new ≡ old + 1)
 
--- of calls that end with the first failed one: `Ok` keeps the count, and an `Err` raises it
+-- of calls that end with the first failed one: `Ok` keeps the count, and an `Err` is that one
 abbrev pub RaisesOnErr : {T E : Type 0} → Result T E → ℕ → ℕ → Type 0
-RaisesOnErr r old new = MatchResult r (λ _. new ≡ old) (λ _. old < new)
+RaisesOnErr r old new = MatchResult r (λ _. new ≡ old) (λ _. new ≡ old + 1)
 
 -- a reader is read at most so often
 abbrev pub most_reads : ℕ
