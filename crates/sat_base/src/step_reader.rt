@@ -92,7 +92,7 @@ impl<'r, R: CountedRead> StepReader<'r, R, Buffers> {
         }
     }
 
-    /// The step that was read last.
+    /// The step that `advance` has read, after an `Ok`. After an error it says nothing.
     pub fn step(&self) -> ProofStep<'_>
         ensures { step_of result ≡ step_in self.now }
     {
