@@ -1,6 +1,7 @@
 //! Devices.
 
 use crate::{Counted, CountedRead, CountedWrite, ReadError, read_whole};
+use std::alloc::Global;
 use std::io;
 use std::io::{ErrorKind, Read, Write};
 use std::test::Fail;
@@ -30,6 +31,29 @@ impl Read for ByOne<'_> {
             }
             None => Ok(0),
         }
+    }
+}
+
+/// A writer that takes at most this many bytes of a piece; one call fails, counted from 1.
+#[derive(Drop)]
+pub(crate) struct ByFew {
+    pub(crate) taken: Vec<u8>,
+    pub(crate) calls: u64,
+    most: usize,
+    failing: u64,
+}
+
+impl Write for ByFew {
+    fn write(&mut self, piece: &[u8]) -> io::Result<usize> {
+        self.calls = self.calls.saturating_add(1);
+        if self.calls == self.failing {
+            return Err(io::Error::from(ErrorKind::Interrupted));
+        }
+        self.taken.write(&piece[..piece.len().min(self.most)])
+    }
+
+    fn flush(&mut self) -> io::Result<()> {
+        Ok(())
     }
 }
 
@@ -72,6 +96,15 @@ pub(crate) fn by_one(text: &[u8], failing: u64) -> Counted<ByOne<'_>> {
     })
 }
 
+pub(crate) fn by_few(alloc: Global, most: usize, failing: u64) -> Counted<ByFew> {
+    Counted::new(ByFew {
+        taken: Vec::new(alloc),
+        calls: 0,
+        most,
+        failing,
+    })
+}
+
 #[test]
 fn devices_pass_on_what_they_are_given(rt: HostRuntime) -> Result<(), Fail> {
     let mut writer = Counted::new(Vec::new(rt.alloc()));
@@ -84,11 +117,23 @@ fn devices_pass_on_what_they_are_given(rt: HostRuntime) -> Result<(), Fail> {
     let mut reader = by_one(text.as_slice(), 0);
     let whole = read_whole(rt.alloc(), &mut reader)?;
     assert_eq!(rt; whole.as_slice(), b"abc".as_slice());
-    let mut reader = by_one(text.as_slice(), 2);
-    assert_eq!(rt;
-        read_whole(rt.alloc(), &mut reader).err(),
-        Some(ReadError::Failed)
-    );
+    Ok(())
+}
+
+#[test]
+fn each_read_of_a_whole_text_may_fail(rt: HostRuntime) -> Result<(), Fail> {
+    for failing in 1..5 {
+        let mut reader = by_one(b"abc", failing);
+        assert_eq!(rt;
+            read_whole(rt.alloc(), &mut reader).err(),
+            Some(ReadError::Failed)
+        );
+        assert_eq!(rt; reader.into_inner().calls, failing);
+    }
+    let mut reader = by_one(b"abc", 5);
+    let whole = read_whole(rt.alloc(), &mut reader)?;
+    assert_eq!(rt; whole.as_slice(), b"abc".as_slice());
+    assert_eq!(rt; reader.into_inner().calls, 4);
     Ok(())
 }
 

@@ -4,7 +4,10 @@ ghost use Rattle.sat_base.specs.Tokenizing.{held};
 ghost use Rattle.sat_base.specs.Dimacs.{dimacs};
 
 use crate::tests::by_one;
-use crate::{CnfFormula, Counted, CountedRead, DimacsError, DimacsParser, IncrementalError};
+use crate::{
+    CnfFormula, Counted, CountedRead, DimacsError, DimacsParser, ExtendFormula, IncrementalError,
+    Lit, write_dimacs,
+};
 use std::alloc::Global;
 use std::test::*;
 
@@ -32,27 +35,42 @@ fn numbers(alloc: Global, formula: &CnfFormula) -> Result<Vec<i64>, Fail> {
     Ok(all)
 }
 
+/// A text, the answer, the numbers of its clauses, its header, and its highest variable.
+type Row<'a> = (
+    &'a [u8],
+    Result<(), DimacsError>,
+    &'a [i64],
+    Option<(u64, u64)>,
+    usize,
+);
+
 #[test]
 fn texts_say_clauses_and_faults(rt: HostRuntime) -> Result<(), Fail> {
-    let rows: [(&[u8], Result<(), DimacsError>, &[i64]); 9] = [
-        (b"", Ok(()), &[]),
-        (b"p cnf 2 1\n1 -2 0\n", Ok(()), &[1, -2, 0]),
-        (b"1\nc 3\n\t-2\r\n0 3 0", Ok(()), &[1, -2, 0, 3, 0]),
-        (b"0 0\n%\n0\n", Ok(()), &[0, 0]),
-        (b"1 2\n-0 0\n", Err(MALFORMED), &[]),
+    let rows: [Row; 11] = [
+        (b"", Ok(()), &[], None, 0),
+        (b"p cnf 2 1\n1 -2 0\n", Ok(()), &[1, -2, 0], Some((2, 1)), 2),
+        (b"p cnf 9 5\n-4 0\n", Ok(()), &[-4, 0], Some((9, 5)), 4),
+        (b"1\nc 3\n\t-2\r\n0 3 0", Ok(()), &[1, -2, 0, 3, 0], None, 3),
+        (b"0 0\n%\n0\n", Ok(()), &[0, 0], None, 0),
+        (b"1 2\n-0 0\n", Err(MALFORMED), &[], None, 0),
         (
             b"1 0\n268435457 0\n",
             Err(DimacsError::Limit { line: 2 }),
             &[1, 0],
+            None,
+            1,
         ),
-        (b"1\n%\n", Err(MALFORMED), &[]),
-        (b"1 0\n2", Err(MALFORMED), &[1, 0]),
-        (b"1 0\np cnf 1 1\n", Err(MALFORMED), &[1, 0]),
+        (b"1\n%\n", Err(MALFORMED), &[], None, 0),
+        (b"1 0\n2", Err(MALFORMED), &[1, 0], None, 1),
+        (b"1 0\np cnf 1 1\n", Err(MALFORMED), &[1, 0], None, 1),
+        (b"p cnf 7 1\n3 x", Err(MALFORMED), &[], Some((7, 1)), 0),
     ];
-    for (text, answer, clauses) in rows {
+    for (text, answer, clauses, header, var_count) in rows {
         for piece in [1, 3, 100] {
             let mut parser = DimacsParser::new(rt.alloc());
             assert!(rt; read(&mut parser, text, piece) == answer);
+            assert!(rt; parser.header() == header);
+            assert!(rt; parser.var_count() == var_count);
             let formula = parser.take_formula();
             assert!(rt; numbers(rt.alloc(), &formula)?.as_slice() == clauses);
             assert!(rt; parser.clause_count() == formula.len() as u64);
@@ -135,6 +153,22 @@ fn look(seen: &mut Seen, parser: &mut DimacsParser, refused: u64) -> Result<(), 
     Ok(())
 }
 
+/// Reads a text, of which one call of the closure refuses, counted from 1.
+fn read_and_look<R: CountedRead>(
+    alloc: Global,
+    reader: &mut R,
+    refused: u64,
+) -> (Seen, Result<DimacsParser, IncrementalError<Refused>>) {
+    let mut seen = Seen {
+        numbers: Vec::new(alloc),
+        calls: 0,
+    };
+    let answer = DimacsParser::parse_incremental(alloc, reader, |parser| {
+        look(&mut seen, parser, refused)
+    });
+    (seen, answer)
+}
+
 /// Reads a text byte by byte, of which one read fails and one call of the closure refuses, both counted from 1.
 fn read_in_parts(
     alloc: Global,
@@ -142,14 +176,7 @@ fn read_in_parts(
     failing: u64,
     refused: u64,
 ) -> (Seen, Result<DimacsParser, IncrementalError<Refused>>) {
-    let mut seen = Seen {
-        numbers: Vec::new(alloc),
-        calls: 0,
-    };
-    let answer = DimacsParser::parse_incremental(alloc, &mut by_one(text, failing), |parser| {
-        look(&mut seen, parser, refused)
-    });
-    (seen, answer)
+    read_and_look(alloc, &mut by_one(text, failing), refused)
 }
 
 #[test]
@@ -165,6 +192,32 @@ fn a_caller_sees_each_piece(rt: HostRuntime) -> Result<(), Fail> {
     assert!(rt; parser.clause_count() == 2);
     assert!(rt; parser.take_formula().is_empty());
     assert!(rt; parser.finish() == Err(DimacsError::HasFailed));
+    Ok(())
+}
+
+#[test]
+fn a_caller_sees_each_clause_of_a_long_text(rt: HostRuntime) -> Result<(), Fail> {
+    let mut formula = CnfFormula::new(rt.alloc());
+    for index in 0..1000 {
+        formula.add_clause(&[Lit::from_index(index, true), Lit::from_index(1, false)])?;
+    }
+    let mut writer = Counted::new(Vec::new(rt.alloc()));
+    write_dimacs(&mut writer, &formula)?;
+    let text = writer.into_inner();
+    assert!(rt; text.len() == 8_909);
+    let whole = DimacsParser::parse(rt.alloc(), &mut Counted::new(text.as_slice()))?;
+    let clauses = numbers(rt.alloc(), &whole)?;
+    assert!(rt; clauses.len() == 3_000);
+    let (seen, answer) = read_and_look(rt.alloc(), &mut Counted::new(text.as_slice()), 0);
+    assert!(rt; seen.numbers.as_slice() == clauses.as_slice());
+    assert!(rt; seen.calls == 4);
+    let Ok(mut parser) = answer else {
+        return Err(Fail::new("a good text is refused"));
+    };
+    assert!(rt; parser.header() == Some((1_000, 1_000)));
+    assert!(rt; parser.clause_count() == 1_000);
+    assert!(rt; parser.var_count() == whole.var_count());
+    assert!(rt; parser.take_formula().is_empty());
     Ok(())
 }
 
@@ -208,6 +261,20 @@ fn a_caller_may_refuse_and_a_read_may_fail(rt: HostRuntime) -> Result<(), Fail> 
     assert!(rt; answer.is_ok());
     assert!(rt; seen.calls == 9);
     Ok(())
+}
+
+/// How many clauses a formula's text has.
+fn clause_count<R: CountedRead>(alloc: Global, reader: &mut R) -> Result<usize, DimacsError>
+    ensures { IfSome (R.remaining reader.old) (λ text. IfOk result (λ count. count ≡ length (dimacs text).clauses)) }
+{
+    let formula = DimacsParser::parse(alloc, reader)?;
+    Ok(formula.len())
+}
+
+#[test]
+fn clauses_are_counted(rt: HostRuntime) {
+    let answer = clause_count(rt.alloc(), &mut by_one(b"p cnf 2 2\n1 0 2 0\n", 0));
+    assert!(rt; answer == Ok(2));
 }
 
 /// How many clauses a text has, which are let go as they come.

@@ -1,6 +1,6 @@
 //! Steps that are written and read again.
 
-use crate::tests::by_one;
+use crate::tests::{by_few, by_one};
 use crate::{
     Counted, CountedRead, DeleteClauseProof, HashBits, Lit, ProofStep, StepError, StepReader, Var,
     write_step,
@@ -150,13 +150,16 @@ fn other_steps_have_these_bytes(rt: HostRuntime) -> Result<(), Fail> {
     Ok(())
 }
 
-/// Reads steps and writes them again, up to the first error.
-fn all_again<R: CountedRead>(alloc: Global, reader: &mut R) -> Result<(Vec<u8>, StepError), Fail> {
+/// Reads steps and writes them again, up to the first error, and gives the error of the call behind that, too.
+fn all_again<R: CountedRead>(
+    alloc: Global,
+    reader: &mut R,
+) -> Result<(Vec<u8>, StepError, Option<StepError>), Fail> {
     let mut writer = Counted::new(Vec::new(alloc));
     let mut steps = StepReader::new(alloc, reader);
     for _ in 0..100 {
         if let Err(error) = steps.advance() {
-            return Ok((writer.into_inner(), error));
+            return Ok((writer.into_inner(), error, steps.advance().err()));
         }
         write_step(&mut writer, &steps.step())?;
     }
@@ -169,11 +172,44 @@ fn the_room_of_lists_is_used_again(rt: HostRuntime) -> Result<(), Fail> {
         7, 2, 0, 0x44, 3, 1, 12, 1, 3, 1, 9, 7, 1, 5, 0, 5, 0, 7, 0, 6, 0, 0, 2, 3, 4, 13,
     ];
     let mut whole = Counted::new(text);
-    let (again, error) = all_again(rt.alloc(), &mut whole)?;
+    let (again, error, next) = all_again(rt.alloc(), &mut whole)?;
     assert_eq!(rt; again.as_slice(), text);
-    assert_eq!(rt; error, StepError::Ends);
+    assert_eq!(rt; (error, next), (StepError::Ends, Some(StepError::Ends)));
     let mut pieces = by_one(text, 0);
-    let (again, error) = all_again(rt.alloc(), &mut pieces)?;
+    let (again, error, next) = all_again(rt.alloc(), &mut pieces)?;
+    assert_eq!(rt; again.as_slice(), text);
+    assert_eq!(rt; (error, next), (StepError::Ends, Some(StepError::Ends)));
+    Ok(())
+}
+
+#[test]
+fn each_read_of_steps_may_fail(rt: HostRuntime) -> Result<(), Fail> {
+    let text: &[u8] = &[5, 2, 0, 3, 12, 1, 3, 2, 0xe6, 1, 9, 1, 0x80, 1, 0, 13];
+    // Where the steps end.
+    let ends = [4, 11, 15, 16];
+    for failing in 1..18 {
+        let mut pieces = by_one(text, failing);
+        let (again, error, next) = all_again(rt.alloc(), &mut pieces)?;
+        assert_eq!(rt;
+            (error, next),
+            (StepError::Read, Some(StepError::HasFailed)),
+            "{failing}"
+        );
+        assert_eq!(rt; pieces.into_inner().calls, failing);
+        let mut whole = 0;
+        for end in ends {
+            if end < failing {
+                whole = end;
+            }
+        }
+        assert_eq!(rt;
+            Some(again.as_slice()),
+            text.get(..whole as usize),
+            "{failing}"
+        );
+    }
+    let mut pieces = by_one(text, 18);
+    let (again, error, _) = all_again(rt.alloc(), &mut pieces)?;
     assert_eq!(rt; again.as_slice(), text);
     assert_eq!(rt; error, StepError::Ends);
     Ok(())
@@ -326,5 +362,51 @@ fn a_long_step_is_read_again(rt: HostRuntime) -> Result<(), Fail> {
     let mut reader = Counted::new(text.as_slice());
     let again = read_again(rt.alloc(), &mut reader)?;
     assert_eq!(rt; again.as_slice(), text.as_slice());
+    Ok(())
+}
+
+/// Tests whether a step is written whole to a writer that takes so many bytes a call, and is an error where one of the calls fails.
+fn is_taken_by_few(alloc: Global, step: &ProofStep<'_>, most: usize) -> Result<bool, Fail> {
+    let text = written(alloc, step)?;
+    let mut writer = by_few(alloc, most, 0);
+    write_step(&mut writer, step)?;
+    let device = writer.into_inner();
+    if device.taken.as_slice() != text.as_slice() {
+        return Ok(false);
+    }
+    for failing in 1..=device.calls {
+        let mut writer = by_few(alloc, most, failing);
+        let answer = write_step(&mut writer, step);
+        let device = writer.into_inner();
+        let begun = text.as_slice().get(..device.taken.len()) == Some(device.taken.as_slice());
+        if answer.is_ok() || device.calls != failing || !begun {
+            return Ok(false);
+        }
+    }
+    Ok(true)
+}
+
+#[test]
+fn each_write_of_a_step_may_fail(rt: HostRuntime) -> Result<(), Fail> {
+    let clause = [Lit::from_index(0, true), Lit::from_index(1, false)];
+    let short = ProofStep::AtClause {
+        redundant: true,
+        clause: &clause,
+        propagation_hashes: &[0, 230],
+    };
+    assert!(rt; is_taken_by_few(rt.alloc(), &short, 1)?);
+    assert!(rt; is_taken_by_few(rt.alloc(), &short, 4)?);
+    let mut lits = Vec::new(rt.alloc());
+    for index in 0..3000 {
+        lits.push(Lit::from_index(index, true))?;
+    }
+    let long = ProofStep::AddClause {
+        clause: lits.as_slice(),
+    };
+    assert_eq!(rt; written(rt.alloc(), &long)?.len(), 5939);
+    assert!(rt; is_taken_by_few(rt.alloc(), &long, 7)?);
+    let mut full = by_few(rt.alloc(), 0, 0);
+    assert!(rt; write_step(&mut full, &long).is_err());
+    assert_eq!(rt; full.into_inner().calls, 1);
     Ok(())
 }
