@@ -1,5 +1,5 @@
 //! Reading a reader to its end.
-ghost use Rattle.std.specs.Prelude.{◌≡◌, ◌+◌, ◌<◌, ◌⊎◌, IfOk, OnOk, IsErrOf};
+ghost use Rattle.std.specs.Prelude.{◌≡◌, ◌+◌, ◌≤◌, ◌<◌, ◌⊎◌, IfOk, OnOk, IsErrOf};
 ghost use Rattle.std.specs.Io.KnownBytes.{Consumes, IsAtEnd};
 ghost use Rattle.sat_base.specs.Device.{most_reads};
 
@@ -38,6 +38,7 @@ pub fn read_whole<R: CountedRead>(alloc: Global, reader: &mut R) -> Result<Vec<u
     ensures kept { OnOk result (R.failures reader.new ≡ R.failures reader.old) }
     ensures failed { IsErrOf result ReadError.Failed → (R.failures reader.old < R.failures reader.new) ⊎ (R.calls reader.new ≡ R.calls reader.old + most_reads) }
     ensures memory { IsErrOf result ReadError.OutOfMemory → R.failures reader.new ≡ R.failures reader.old }
+    ensures reads { R.calls reader.new ≤ R.calls reader.old + most_reads }
 {
     let mut whole = Vec::new(alloc);
     let mut piece = [0; 4096];
