@@ -1,5 +1,5 @@
 //! Reading scripts.
-ghost use Rattle.std.specs.Prelude.{◌≡◌, ◌+◌, ◌<◌, ◌⊎◌, ◌++◌, ◌∷◌, ◌&&◌, not, length, ℕ, List, [], IfOk, OnOk, IfSome, IsErrOf};
+ghost use Rattle.std.specs.Prelude.{◌≡◌, ◌+◌, ◌≤◌, ◌<◌, ◌⊎◌, ◌++◌, ◌∷◌, ◌&&◌, not, length, ℕ, List, [], IfOk, OnOk, IfSome, IsErrOf};
 ghost use Rattle.std.specs.Io.KnownBytes.{IsAtEnd};
 ghost use Rattle.sat_base.specs.Device.{most_reads};
 ghost use Rattle.sat_base.specs.Text.{Token as SpelledToken};
@@ -246,6 +246,7 @@ pub fn read_script<R: CountedRead>(alloc: Global, reader: &mut R) -> Result<Scri
     ensures failed { IsErrOf result ReadError.Failed
         → (R.failures reader.old < R.failures reader.new) ⊎ (R.calls reader.new ≡ R.calls reader.old + most_reads) }
     ensures memory { IsErrOf result ReadError.OutOfMemory → R.failures reader.new ≡ R.failures reader.old }
+    ensures reads { R.calls reader.new ≤ R.calls reader.old + most_reads }
 {
     let text = read_whole(alloc, reader)?;
     Ok(parse(alloc, &text)?)
