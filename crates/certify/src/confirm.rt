@@ -1,5 +1,5 @@
 //! Confirms that script, answers and certificate belong together.
-ghost use Rattle.std.specs.Prelude.{◌≡◌, ◌+◌, ◌-◌, ◌^◌, ◌≤◌, ◌<◌, ◌⊎◌, length, IfOk, IfSome, IsErrOf};
+ghost use Rattle.std.specs.Prelude.{◌≡◌, ◌+◌, ◌-◌, ◌^◌, ◌≤◌, ◌<◌, ◌⊎◌, length, IfOk, OnOk, IfSome, IsErrOf};
 ghost use Rattle.std.specs.List.{AllByRecursion};
 ghost use Rattle.sat_base.specs.Device.{most_reads};
 ghost use Rattle.sat_base.specs.Script.{reading};
@@ -76,6 +76,9 @@ pub fn confirm<S: CountedRead, A: CountedRead, C: CountedRead>(
     ensures answers_read { IsErrOf result ConfirmFault.AnswersRead → (A.failures answers.old < A.failures answers.new) ⊎ (A.calls answers.new ≡ A.calls answers.old + most_reads) }
     ensures certificate_read { IsErrOf result ConfirmFault.CertificateRead → (C.failures certificate.old < C.failures certificate.new) ⊎ (C.calls certificate.new ≡ C.calls certificate.old + most_reads) }
     ensures counter_end { IsErrOf result ConfirmFault.CounterEnd → IfSome (S.remaining script.old) (λ text. 2 ^ 64 - 1 ≤ length (reading text).0) }
+
+    // Neither yes nor no comes after a failed read.
+    ensures kept { OnOk result ((S.failures script.new ≡ S.failures script.old) × (A.failures answers.new ≡ A.failures answers.old) × (C.failures certificate.new ≡ C.failures certificate.old)) }
 {
     let script = match read_script(alloc, script) {
         Ok(script) => script,
