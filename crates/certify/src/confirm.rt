@@ -79,6 +79,8 @@ pub fn confirm<S: CountedRead, A: CountedRead, C: CountedRead>(
 
     // Neither yes nor no comes after a failed read.
     ensures kept { OnOk result ((S.failures script.new ≡ S.failures script.old) × (A.failures answers.new ≡ A.failures answers.old) × (C.failures certificate.new ≡ C.failures certificate.old)) }
+    // Each is read at most 2^48 times.
+    ensures reads { (S.calls script.new ≤ S.calls script.old + most_reads) × (A.calls answers.new ≤ A.calls answers.old + most_reads) × (C.calls certificate.new ≤ C.calls certificate.old + most_reads) }
 {
     let script = match read_script(alloc, script) {
         Ok(script) => script,

@@ -31,6 +31,7 @@ fn load<S: CountedRead>(alloc: Global, script: &mut S) -> Result<Script, RunFaul
     ensures script { IfSome (S.remaining script.old) (λ text. IfOk result (λ s. s ≡ held_script text)) }
     ensures failures { MatchResult result (λ _. S.failures script.new ≡ S.failures script.old)
         (λ e. HasCause e ((S.failures script.old < S.failures script.new) ⊎ (S.calls script.new ≡ S.calls script.old + most_reads)) ⊥ ⊥ ⊥) }
+    ensures reads { S.calls script.new ≤ S.calls script.old + most_reads }
 {
     match read_script(alloc, script) {
         Ok(script) => Ok(script),
@@ -84,6 +85,8 @@ pub fn run<S: CountedRead, A: CountedWrite, C: CountedWrite>(
         (A.failures answers.old < A.failures answers.new)
         (C.failures certificate.old < C.failures certificate.new)
         (IfSome (S.remaining script.old) (λ text. 2 ^ 64 - 1 ≤ length (written text).0))) }
+    // The script is read at most 2^48 times.
+    ensures reads { S.calls script.new ≤ S.calls script.old + most_reads }
 {
     let commands = load(alloc, script)?;
     answer(alloc, &commands, answers, certificate, budget)
