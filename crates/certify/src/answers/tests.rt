@@ -160,3 +160,20 @@ fn other_lines_are_written(rt: HostRuntime) -> Result<(), Fail> {
     assert_eq!(rt; out.as_slice(), text);
     Ok(())
 }
+
+#[test]
+fn faults_have_words(rt: HostRuntime) -> Result<(), Fail> {
+    let rows = [
+        (AnswerFault::Missing, "a line of the answers is missing"),
+        (
+            AnswerFault::Text,
+            "the answers have a line that isn't in form",
+        ),
+        (AnswerFault::OutOfMemory, "out of memory"),
+    ];
+    for (fault, words) in rows {
+        let text = format!(in rt.alloc(); "{fault}")?;
+        assert_eq!(rt; text.as_str(), words);
+    }
+    Ok(())
+}

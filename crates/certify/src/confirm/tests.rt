@@ -12,6 +12,8 @@ use std::test::Fail;
 
 const ROW: &[u8] = b"1 2 0\na 0\n";
 
+const SIXTH: &[u8] = b"1 2 0\n1 -2 0\n-1 2 0\n-1 -2 0\na 0\n";
+
 const ROW_ANSWERS: &[u8] = b"s SATISFIABLE\nv -1 2 0\n";
 
 const ROW_STEPS: &[u8] = &[
@@ -280,7 +282,7 @@ fn what_a_run_wrote(rt: HostRuntime) -> Result<(), Fail> {
         (b"1 0\n-1 0\na 0\n", 0),
         (b"0\na 0\n", 1 << 20),
         (b"0\na 0\n", 0),
-        (b"1 2 0\n1 -2 0\n-1 2 0\n-1 -2 0\na 0\n", 1 << 20),
+        (SIXTH, 1 << 20),
         (b"1 -1 0\na 0\n", 1 << 20),
         (b"1 0\na 0\n", 0),
         (b"268435457 0\n", 1 << 20),
@@ -315,24 +317,97 @@ fn what_a_run_wrote(rt: HostRuntime) -> Result<(), Fail> {
     Ok(())
 }
 
-/// Each read in turn fails, and gives its text's fault.
+/// What is said where one read of each reader fails; none where that is 0.
+fn said_at<R: Abort + AllocGlobal>(
+    rt: &R,
+    texts: (&[u8], &[u8], &[u8]),
+    failing: (u64, u64, u64),
+) -> Result<Verdict, ConfirmFault> {
+    confirm(
+        rt.alloc(),
+        &mut by_one(texts.0, failing.0),
+        &mut by_one(texts.1, failing.1),
+        &mut by_one(texts.2, failing.2),
+    )
+}
+
+/// Each read in turn fails, the one that finds the end too, and gives its text's fault. There is no further read.
 #[test]
 fn failing_reads(rt: HostRuntime) -> Result<(), Fail> {
-    for failing in 1..12 {
-        let faults = [
-            (failing, 0, 0, ConfirmFault::ScriptRead),
-            (0, failing, 0, ConfirmFault::AnswersRead),
-            (0, 0, failing, ConfirmFault::CertificateRead),
-        ];
-        for (script, answers, certificate, fault) in faults {
-            let said = confirm(
-                rt.alloc(),
-                &mut by_one(ROW, script),
-                &mut by_one(ROW_ANSWERS, answers),
-                &mut by_one(ROW_STEPS, certificate),
-            );
-            assert_eq!(rt; said, Err(fault));
+    for script in [ROW, SIXTH] {
+        let mut answers = Counted::new(Vec::new(rt.alloc()));
+        let mut certificate = Counted::new(Vec::new(rt.alloc()));
+        run(
+            rt.alloc(),
+            &mut by_one(script, 0),
+            &mut answers,
+            &mut certificate,
+            1 << 20,
+        )?;
+        let answers = answers.into_inner();
+        let certificate = certificate.into_inner();
+        let texts = (script, answers.as_slice(), certificate.as_slice());
+        let reads = (
+            (script.len() as u64).saturating_add(1),
+            (answers.len() as u64).saturating_add(1),
+            (certificate.len() as u64).saturating_add(1),
+        );
+        for before in 0..reads.0 {
+            let said = said_at(&rt, texts, (before.saturating_add(1), 0, 0));
+            assert_eq!(rt; said, Err(ConfirmFault::ScriptRead));
         }
+        for before in 0..reads.1 {
+            let said = said_at(&rt, texts, (0, before.saturating_add(1), 0));
+            assert_eq!(rt; said, Err(ConfirmFault::AnswersRead));
+        }
+        for before in 0..reads.2 {
+            let said = said_at(&rt, texts, (0, 0, before.saturating_add(1)));
+            assert_eq!(rt; said, Err(ConfirmFault::CertificateRead));
+        }
+        let behind = (
+            reads.0.saturating_add(1),
+            reads.1.saturating_add(1),
+            reads.2.saturating_add(1),
+        );
+        assert_eq!(rt; said_at(&rt, texts, behind), Ok(Verdict::Yes));
+    }
+    Ok(())
+}
+
+#[test]
+fn words_of_a_no(rt: HostRuntime) -> Result<(), Fail> {
+    let rows = [
+        (Why::AnswerMissing, "AnswerMissing"),
+        (Why::AnswerExtra, "AnswerExtra"),
+        (Why::AnswerText, "AnswerText"),
+        (Why::ClauseDiffers, "ClauseDiffers"),
+        (Why::NameDiffers, "NameDiffers"),
+        (Why::NameNotFresh, "NameNotFresh"),
+        (Why::AskDiffers, "AskDiffers"),
+        (Why::AnswerDiffers, "AnswerDiffers"),
+        (Why::StepRefused, "StepRefused"),
+        (Why::CertificateEnds, "CertificateEnds"),
+        (Why::StepOutOfPlace, "StepOutOfPlace"),
+    ];
+    for (why, words) in rows {
+        let text = format!(in rt.alloc(); "{why}")?;
+        assert_eq!(rt; text.as_str(), words);
+    }
+    Ok(())
+}
+
+#[test]
+fn words_of_a_fault(rt: HostRuntime) -> Result<(), Fail> {
+    let rows = [
+        (ConfirmFault::ScriptRead, "ScriptRead"),
+        (ConfirmFault::AnswersRead, "AnswersRead"),
+        (ConfirmFault::CertificateRead, "CertificateRead"),
+        (ConfirmFault::OutOfMemory, "OutOfMemory"),
+        (ConfirmFault::CounterEnd, "CounterEnd"),
+    ];
+    for (fault, words) in rows {
+        let text = format!(in rt.alloc(); "{fault}")?;
+        assert_eq!(rt; text.as_str(), words);
     }
     Ok(())
 }

@@ -4,7 +4,12 @@ use crate::summary::{Answer, Summary};
 use sat_base::Counted;
 use std::io;
 use std::io::{ErrorKind, Read, Write};
+use std::process::Abort;
 use std::test::Fail;
+
+const FOURTH: &[u8] = b"1 2 0\na 0\n";
+
+const SIXTH: &[u8] = b"1 2 0\n1 -2 0\n-1 2 0\n-1 -2 0\na 0\n";
 
 /// A device whose calls give and take what they are asked to. One fails, counted from 1.
 #[derive(Drop)]
@@ -89,11 +94,12 @@ fn outputs(rt: &HostRuntime, text: &[u8], budget: u64) -> Result<Written, Fail> 
 /// Each row is a text, a budget, and the answers.
 #[test]
 fn answers_scripts(rt: HostRuntime) -> Result<(), Fail> {
-    let rows: [(&[u8], u64, &[u8]); 27] = [
+    let rows: [(&[u8], u64, &[u8]); 28] = [
         (b"", 1 << 20, b""),
         (b"a 0\n", 1 << 20, b"s SATISFIABLE\nv 0\n"),
         (b"3 0\na 0\n", 1 << 20, b"s SATISFIABLE\nv -1 -2 3 0\n"),
-        (b"1 2 0\na 0\n", 1 << 20, b"s SATISFIABLE\nv -1 2 0\n"),
+        (FOURTH, 1 << 20, b"s SATISFIABLE\nv -1 2 0\n"),
+        (SIXTH, 1 << 20, b"s UNSATISFIABLE\nf 0\n"),
         (b"1 -1 0\na 0\n", 1 << 20, b"s SATISFIABLE\nv -1 0\n"),
         (b"1 0\n-1 0\na 0\n", 1 << 20, b"s UNSATISFIABLE\nf 0\n"),
         (b"0\na 0\n", 1 << 20, b"s UNSATISFIABLE\nf 0\n"),
@@ -179,6 +185,12 @@ fn sums_up(rt: HostRuntime) -> Result<(), Fail> {
     assert_eq!(rt; summary.asks[0].steps, 2);
     assert_eq!(rt; summary.asks[1].answer, Answer::Unsat);
     assert_eq!(rt; summary.asks[1].steps, 0);
+
+    let summary = outputs(&rt, SIXTH, 1 << 20)?.summary;
+    assert_eq!(rt; summary.commands, 5);
+    assert_eq!(rt; summary.asks.len(), 1);
+    assert_eq!(rt; summary.asks[0].answer, Answer::Unsat);
+    assert_eq!(rt; summary.asks[0].steps, 2);
     Ok(())
 }
 
@@ -222,29 +234,78 @@ fn faults_are_told(rt: HostRuntime) -> Result<(), Fail> {
     Ok(())
 }
 
-/// Each call of a device fails in turn, the flushes too, and gives that text's fault.
+/// The fault of a run in which one call of each device fails; none where that is 0.
+fn fault_at<R: Abort + AllocGlobal>(
+    rt: &R,
+    text: &[u8],
+    read: u64,
+    answer: u64,
+    step: u64,
+) -> Option<RunFault> {
+    run(
+        rt.alloc(),
+        &mut fails_at(text, read),
+        &mut fails_at(b"", answer),
+        &mut fails_at(b"", step),
+        1 << 20,
+    )
+    .err()
+}
+
+/// Each call of a device fails in turn, the flushes too, and gives that text's fault. Each row has the calls of a run.
 #[test]
 fn each_call_fails_in_turn(rt: HostRuntime) -> Result<(), Fail> {
-    let rows = [
-        (1..6, 0..1, 0..1, RunFault::ScriptRead),
-        (0..1, 1..3, 0..1, RunFault::AnswersWrite),
-        (0..1, 0..1, 1..6, RunFault::CertificateWrite),
+    let rows: [(&[u8], u64, u64, u64); 3] = [
+        (b"a 0\n", 5, 2, 5),
+        (FOURTH, 11, 2, 8),
+        (SIXTH, 33, 2, 12),
     ];
-    for (reads, answered, certified, fault) in rows {
-        for read in reads {
-            for answer in answered.start..answered.end {
-                for step in certified.start..certified.end {
-                    let said = run(
-                        rt.alloc(),
-                        &mut fails_at(b"a 0\n", read),
-                        &mut fails_at(b"", answer),
-                        &mut fails_at(b"", step),
-                        1,
-                    );
-                    assert_eq!(rt; said.err(), Some(fault));
-                }
-            }
+    for (text, reads, answered, certified) in rows {
+        let mut script = fails_at(text, 0);
+        let mut answers = fails_at(b"", 0);
+        let mut certificate = fails_at(b"", 0);
+        run(
+            rt.alloc(),
+            &mut script,
+            &mut answers,
+            &mut certificate,
+            1 << 20,
+        )?;
+        assert_eq!(rt; script.into_inner().calls, reads);
+        assert_eq!(rt; answers.into_inner().calls, answered);
+        assert_eq!(rt; certificate.into_inner().calls, certified);
+        for before in 0..reads {
+            let fault = fault_at(&rt, text, before.saturating_add(1), 0, 0);
+            assert_eq!(rt; fault, Some(RunFault::ScriptRead));
         }
+        for before in 0..answered {
+            let fault = fault_at(&rt, text, 0, before.saturating_add(1), 0);
+            assert_eq!(rt; fault, Some(RunFault::AnswersWrite));
+        }
+        for before in 0..certified {
+            let fault = fault_at(&rt, text, 0, 0, before.saturating_add(1));
+            assert_eq!(rt; fault, Some(RunFault::CertificateWrite));
+        }
+    }
+    Ok(())
+}
+
+#[test]
+fn faults_have_words(rt: HostRuntime) -> Result<(), Fail> {
+    let rows = [
+        (RunFault::ScriptRead, "the script can't be read"),
+        (RunFault::AnswersWrite, "the answers can't be written"),
+        (
+            RunFault::CertificateWrite,
+            "the certificate can't be written",
+        ),
+        (RunFault::OutOfMemory, "out of memory"),
+        (RunFault::StoreFull, "the store of clauses is full"),
+        (RunFault::CounterEnd, "a counter is at its end"),
+    ];
+    for (fault, words) in rows {
+        let text = format!(in rt.alloc(); "{fault}")?;
+        assert_eq!(rt; text.as_str(), words);
     }
     Ok(())
 }
