@@ -3,20 +3,22 @@ use Rattle.std.proofs.Common.{◌≡◌, ℕ, ◌+◌, ◌<◌, max, length, Lis
 use Rattle.std.proofs.lemmas.Grind.{common_steps}
 use Rattle.std.proofs.lemmas.List.{append-nil}
 use Rattle.std.proofs.lemmas.Bool.Decides.{nat_tests}
-use Rattle.std.specs.Prelude.{nat_eq, ◌⊎◌}
+use Rattle.std.specs.Prelude.{nat_eq, nat_lt, not, ◌&&◌, ◌-◌, ◌⊎◌}
+use Rattle.sat_base.specs.Literals.{coded, largest}
 use Rattle.sat_base.specs.declared.dimacs.error.DimacsError.{DimacsError}
 use Rattle.sat_base.specs.declared.dimacs.error.DimacsError.TheVariants as errors
 use Rattle.sat_base.specs.declared.dimacs.parser.Parser.{Parser}
 use Rattle.sat_base.specs.declared.dimacs.clauses.Clauses.{Clauses}
 use Rattle.sat_base.specs.declared.dimacs.history.History.{History}
 use Rattle.sat_base.specs.declared.text.Token.{Token as CodeToken}
+use Rattle.sat_base.specs.declared.text.Token.TheVariants as code
 use Rattle.sat_base.specs.declared.text.Tokenizer.{Tokenizer}
 use Rattle.sat_base.specs.Text.{is_blank, Token, Number, Letter, Header, Wrong, Scan, lines, tokens_of, last_line, scan, header_from, header_first, header_of}
 use Rattle.sat_base.specs.Spot.{onto}
 use Rattle.sat_base.specs.Tokenizing.{held, held_token, Stands, Takes, GivesLast, Quiet}
 use Rattle.sat_base.specs.Formulas.{Formula, no_formula, vars_in, vars_of}
-use Rattle.sat_base.specs.Dimacs.{Hand, Turn, GoesOn, Ends, Fails, Ending, Clean, Malformed, Limit, Dimacs, turn, at_end, clauses_of, dimacs, settled}
-use Rattle.sat_base.specs.Collecting.{token_of, hand_in, header_behind, Stay, AllStay, Turns}
+use Rattle.sat_base.specs.Dimacs.{Hand, Turn, GoesOn, Ends, Fails, Ending, Clean, Malformed, Limit, Dimacs, literals_in, turn, at_end, clauses_of, dimacs, settled}
+use Rattle.sat_base.specs.Collecting.{token_of, hand_in, header_behind, is_literal, NeedsRoom, Stay, AllStay, Turns}
 use Rattle.sat_base.specs.Parsing.{Progress, NoFault, Faults, Feeds, Finishes, with_fed, cut_short, at_its_end, clauses_read, lines_read, whole_lines, held_numbers}
 use Rattle.sat_base.specs.Standing.{progress_of, all_in, onto_clauses, Turned, Goes, IsParser, EndsClean}
 use Rattle.sat_base.proofs.FlatLemmas.{vars_of_more}
@@ -517,6 +519,65 @@ finish_fails old p i o t ending line h gives stay f l =
       parser = over_parser (at_end_of p) (ending n) (header_first g.before) refl refl (ap dimacs fed ∙ says) counts (stay.1 ∙ header_before old i g) heads;
       answer = (o, ended_progress old p h, n, l g.left_of g.stands, ap (λ (d : Dimacs). d.ending) says);
     }
+
+literal_turn : (negative : Bool) (value : ℕ) (e z : Bool) → nat_eq value 0 ≡ e → nat_lt largest value ≡ z → (not e && not z) ≡ true → (hand : Hand) (n : ℕ) → (ls : List ℕ) × (turn hand n (Number negative value) ≡ GoesOn (Some ls))
+literal_turn negative value false false p q h hand n = (literals_in hand ++ coded (value - 1) (not negative) ∷ [], rw (p, q) refl)
+literal_turn negative value true z p q h hand n = absurd (let g : ◌≡◌ {A = Bool} false true = h in cc)
+literal_turn negative value false true p q h hand n = absurd (let g : ◌≡◌ {A = Bool} false true = h in cc)
+
+-- a literal goes on with a clause, or begins one, and is no header
+pub literal_goes : (t : CodeToken) → is_literal (token_of t) ≡ true → ((hand : Hand) (n : ℕ) → (ls : List ℕ) × (turn hand n (token_of t) ≡ GoesOn (Some ls))) × ((h : Option (ℕ × ℕ)) → h ≡ header_behind (token_of t) h)
+literal_goes (code.Number negative value) e = (literal_turn negative value (nat_eq value 0) (nat_lt largest value) refl refl e, (λ h. refl))
+literal_goes (code.Letter b) e = absurd (let g : ◌≡◌ {A = Bool} false true = e in cc)
+literal_goes (code.Header v c) e = absurd (let g : ◌≡◌ {A = Bool} false true = e in cc)
+literal_goes code.Wrong e = absurd (let g : ◌≡◌ {A = Bool} false true = e in cc)
+
+-- the text is over behind a literal
+pub finish_inside : (old : Parser) (i : IsParser old) (o : old.stopped ≡ false) (t : CodeToken) (line : ℕ) → ((left_of : List ℕ → Scan) → Stands old.tokenizer left_of → GivesLast (Some t) (left_of [])) → is_literal (token_of t) ≡ true
+    → ((before : List ℕ → Scan) → Stands old.tokenizer before → line ≡ held (before []).last) → FaultAtEnd Malformed line old (at_end_of old)
+finish_inside old i o t line gives lit l =
+    let g = i.goes o in
+    let q = gives g.left_of g.stands in
+    let n = (g.left_of []).last in
+    let x : ℕ × Token = (n, q.0) in
+    let goes = literal_goes t lit in
+    let s = goes.0 (hand_in old.clauses) n in
+    let e : turn (hand_in old.clauses) n q.0 ≡ GoesOn (Some s.0) = sym (turn_of old.clauses n t q.0 q.1) ∙ s.1 in
+    let m : Turned (g.before ++ x ∷ []) (all_in old) (Some s.0) = turned_goes g.before (all_in old) (hand_in old.clauses) n q.0 g.turned (Some s.0) e in
+    let says : dimacs old.history.fed ≡ record { clauses = all_in old; ending = Malformed n } =
+    dimacs_is old.history.fed g.before (g.left_of []) (scan_whole old g)
+    ∙ ap (λ (ts : List (ℕ × Token)). clauses_of None n (g.before ++ ts)) q.2
+    ∙ ap (clauses_of None n) (sym (append-nil (g.before ++ x ∷ [])))
+    ∙ m.says n []
+    ∙ ap (onto_clauses (all_in old)) (clauses_of_nil (Some s.0) n)
+    ∙ ap (λ (cs : List (List ℕ)). record { clauses = cs; ending = Malformed n }) (append-nil (all_in old)) in
+    let heads : header_of old.history.fed ≡ header_first (g.before ++ x ∷ []) =
+    ap (λ (k : Scan). header_first k.tokens) (scan_whole old g) ∙ ap (λ (ts : List (ℕ × Token)). header_first (g.before ++ ts)) q.2 in
+    let header : old.clauses.header ≡ held_numbers (header_first (g.before ++ x ∷ [])) =
+    goes.1 old.clauses.header ∙ ap (λ (u : CodeToken). header_behind (token_of u) old.clauses.header) q.1
+    ∙ header_next g.before n q.0 old.clauses.header (last_first old g q.0 n q.2) (header_before old i g) in
+    record {
+      parser = over_parser (at_end_of old) (Malformed n) (header_first (g.before ++ x ∷ [])) refl refl says (i.count, i.vars) header heads;
+      answer = (o, ended_progress old old refl, n, l g.left_of g.stands, ap (λ (d : Dimacs). d.ending) says);
+    }
+
+-- there was no memory for the clause that the text's end ends
+pub finish_short : (old : Parser) (i : IsParser old) (o : old.stopped ≡ false) (t : CodeToken) → ((left_of : List ℕ → Scan) → Stands old.tokenizer left_of → GivesLast (Some t) (left_of [])) → is_literal (token_of t) ≡ false → NeedsRoom (token_of t)
+    → (dimacs old.history.fed).ending ≡ Clean
+finish_short old i o t gives lit (inl is) = absurd (let g : ◌≡◌ {A = Bool} true false = sym is ∙ lit in cc)
+finish_short old i o t gives lit (inr ends) =
+    let g = i.goes o in
+    let q = gives g.left_of g.stands in
+    let n = (g.left_of []).last in
+    let x : ℕ × Token = (n, q.0) in
+    let c = literals_in (hand_in old.clauses) in
+    let e : turn (hand_in old.clauses) n q.0 ≡ Ends c = sym (turn_of old.clauses n t q.0 q.1) ∙ ends (hand_in old.clauses) n in
+    let m : Turned (g.before ++ x ∷ []) (all_in old ++ c ∷ []) None = turned_ends g.before (all_in old) (hand_in old.clauses) n q.0 g.turned c e in
+    ap (λ (d : Dimacs). d.ending) (dimacs_is old.history.fed g.before (g.left_of []) (scan_whole old g)
+    ∙ ap (λ (ts : List (ℕ × Token)). clauses_of None n (g.before ++ ts)) q.2
+    ∙ ap (clauses_of None n) (sym (append-nil (g.before ++ x ∷ [])))
+    ∙ m.says n []
+    ∙ ap (onto_clauses (all_in old ++ c ∷ [])) (clauses_of_nil None n))
 
 -- THE START
 pub first_parser : (p : Parser) → p.history.fed ≡ [] → p.history.taken ≡ [] → p.clauses.formula ≡ no_formula → hand_in p.clauses ≡ None → p.clauses.count ≡ 0 → p.clauses.header ≡ None → p.ended ≡ false → Stands p.tokenizer scan

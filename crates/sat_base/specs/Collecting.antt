@@ -1,5 +1,5 @@
 -- How the clauses of a formula are collected from tokens.
-use Rattle.std.specs.Prelude.{◌≡◌, ℕ, ◌+◌, Bool, true, false, List, [], ◌∷◌, Option, None, Some, Result, Ok, Err}
+use Rattle.std.specs.Prelude.{◌≡◌, ℕ, ◌+◌, ◌⊎◌, Bool, true, false, not, ◌&&◌, nat_eq, nat_lt, List, [], ◌∷◌, Option, None, Some, Result, Ok, Err}
 use Rattle.sat_base.specs.declared.dimacs.clauses.Clauses.{Clauses}
 use Rattle.sat_base.specs.declared.dimacs.clauses.Refusal.{Refusal}
 use Rattle.sat_base.specs.declared.dimacs.clauses.Refusal.TheVariants as refusal
@@ -8,7 +8,8 @@ use Rattle.sat_base.specs.declared.text.Token.TheVariants as code
 use Rattle.sat_base.specs.Text.{Token, Number, Letter, Header, Wrong}
 use Rattle.sat_base.specs.Tokenizing.{held}
 use Rattle.sat_base.specs.Formulas.{with_clause}
-use Rattle.sat_base.specs.Dimacs.{Malformed, Limit, Hand, Turn, GoesOn, Ends, Fails, turn}
+use Rattle.sat_base.specs.Dimacs.{Malformed, Limit, Hand, Turn, GoesOn, Ends, Fails, literals_in, turn}
+use Rattle.sat_base.specs.Literals.{largest}
 
 -- a token as the code has it, with its value as it was held
 abbrev pub token_of : CodeToken → Token
@@ -47,12 +48,23 @@ Turns (GoesOn hand) old new = Stay old new × (hand_in new ≡ hand)
 Turns (Ends clause) old new = (new.formula ≡ with_clause clause old.formula) × (new.count ≡ held (old.count + 1)) × (hand_in new ≡ None)
 Turns (Fails ending) old new = ⊥
 
+-- a number that is a literal
+abbrev pub is_literal : Token → Bool
+is_literal (Number negative value) = not (nat_eq value 0) && not (nat_lt largest value)
+is_literal (Letter b) = false
+is_literal (Header v c) = false
+is_literal Wrong = false
+
+-- memory is taken for literals and for clauses
+abbrev pub NeedsRoom : Token → Type 0
+NeedsRoom t = (is_literal t ≡ true) ⊎ ((hand : Hand) (n : ℕ) → turn hand n t ≡ Ends (literals_in hand))
+
 -- what a token is answered by, on whichever line it stands
 abbrev pub Collects : Result (Unit {0}) Refusal → Clauses → Token → Clauses → Type 0
 Collects (Ok u) old t new = ((n : ℕ) → Turns (turn (hand_in old) n t) old new) × (new.header ≡ header_behind t old.header)
 Collects (Err refusal.Malformed) old t new = AllStay old new × ((n : ℕ) → turn (hand_in old) n t ≡ Fails (Malformed n))
 Collects (Err refusal.Limit) old t new = AllStay old new × ((n : ℕ) → turn (hand_in old) n t ≡ Fails (Limit n))
-Collects (Err refusal.OutOfMemory) old t new = AllStay old new
+Collects (Err refusal.OutOfMemory) old t new = AllStay old new × NeedsRoom t
 
 -- whether a clause has begun
 abbrev pub IsInside : Bool → Hand → Type 0

@@ -112,7 +112,7 @@ abbrev pub Finishes : Result (Unit {0}) DimacsError → Progress → Progress �
 Finishes (Ok u) old new = (old.stopped ≡ false) × (new ≡ at_its_end old) × ((dimacs old.fed).ending ≡ Clean)
 Finishes (Err (errors.Malformed line)) old new = (old.stopped ≡ false) × (new ≡ at_its_end old) × (n : ℕ) × (line ≡ held n) × ((dimacs old.fed).ending ≡ Malformed n)
 Finishes (Err (errors.Limit line)) old new = (old.stopped ≡ false) × (new ≡ at_its_end old) × (n : ℕ) × (line ≡ held n) × ((dimacs old.fed).ending ≡ Limit n)
-Finishes (Err errors.OutOfMemory) old new = (old.stopped ≡ false) × (new ≡ cut_short old)
+Finishes (Err errors.OutOfMemory) old new = (old.stopped ≡ false) × (new ≡ cut_short old) × ((dimacs old.fed).ending ≡ Clean)
 Finishes (Err errors.HasFailed) old new = (old.stopped ≡ true) × (new ≡ old)
 Finishes (Err errors.Read) old new = ⊥
 

@@ -62,7 +62,8 @@ impl DimacsParser {
         self.parser.feed(piece)
     }
 
-    /// The text is over. Where it ends inside a clause, that is malformed on the last line.
+    /// The text is over. Where it ends inside a clause, that is malformed on the last line, whatever memory there is: it is asked
+    /// for only by a last clause that ends there.
     pub fn finish(&mut self) -> Result<(), DimacsError>
         ensures { Finishes result self.old self.new }
     {

@@ -3,7 +3,7 @@ ghost use Rattle.std.specs.Prelude.{◌≡◌, None, MatchResult};
 ghost use Rattle.sat_base.specs.Formulas.{no_formula, with_count};
 ghost use Rattle.sat_base.specs.Dimacs.{Ends, literals_in};
 ghost use Rattle.sat_base.specs.declared.dimacs.clauses.Refusal.TheVariants.{OutOfMemory};
-ghost use Rattle.sat_base.specs.Collecting.{token_of, hand_in, AllStay, Turns, Collects, IsInside};
+ghost use Rattle.sat_base.specs.Collecting.{token_of, hand_in, is_literal, AllStay, Turns, Collects, IsInside};
 
 use crate::{CnfFormula, ExtendFormula, FormulaError, Lit, Token};
 use std::alloc::{AllocFailed, Global};
@@ -52,6 +52,16 @@ pub(crate) struct Clauses {
     pub(crate) count: u64,
     /// The header's numbers, held at 2^64-1.
     pub(crate) header: Option<(u64, u64)>,
+}
+
+/// Whether a token is a literal.
+pub(crate) fn is_literal(token: Token) -> bool
+    ensures { result ≡ is_literal (token_of token) }
+{
+    match token {
+        Token::Number { value, .. } => value != 0 && value <= LARGEST,
+        _ => false,
+    }
 }
 
 impl Clauses {

@@ -6,7 +6,7 @@ ghost use Rattle.sat_base.specs.Formulas.{vars_of};
 ghost use Rattle.sat_base.specs.Parsing.{Feeds, Finishes, IsSound, no_progress, all_taken, clauses_read};
 ghost use Rattle.sat_base.specs.Standing.{IsParser, progress_of, EndsClean};
 
-use super::clauses::{Clauses, Refusal};
+use super::clauses::{Clauses, Refusal, is_literal};
 use super::error::DimacsError;
 use super::history::History;
 use crate::{CnfFormula, Tokenizer};
@@ -122,6 +122,12 @@ impl Parser {
         let Some(token) = self.tokenizer.finish() else {
             return self.end();
         };
+        // Behind a literal the text ends inside a clause, whatever memory there is.
+        if is_literal(token) {
+            self.stopped = true;
+            self.ended = true;
+            return Err(DimacsError::Malformed { line: self.line() });
+        }
         match self.clauses.take(token) {
             Ok(()) => self.end(),
             Err(Refusal::Malformed) => {
