@@ -1,6 +1,7 @@
 //! What can go wrong with a formula's text.
 
 use std::alloc::{AllocError, AllocFailed};
+use std::fmt::Display;
 use thiserror::Error;
 
 /// Why a formula's text wasn't read. Lines count from 1, and are held at 2^64-1.
@@ -45,9 +46,12 @@ impl<T: Drop> From<AllocFailed<T>> for DimacsError {
 }
 
 /// Why reading in parts stopped.
-#[derive(Clone, Copy, Debug, Drop, PartialEq, Eq)]
+#[derive(Clone, Copy, Debug, Drop, PartialEq, Eq, Error)]
+#[error_bound(E: Display)]
 pub enum IncrementalError<E> {
+    #[error("{0}")]
     Dimacs(DimacsError),
     /// The caller's closure refused.
+    #[error("{0}")]
     Caller(E),
 }

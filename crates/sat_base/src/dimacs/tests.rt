@@ -299,6 +299,33 @@ fn clauses_are_counted_in_parts(rt: HostRuntime) -> Result<(), Fail> {
 }
 
 #[test]
+fn errors_are_printed(rt: HostRuntime) -> Result<(), Fail> {
+    let rows: [(IncrementalError<DimacsError>, &str); 5] = [
+        (IncrementalError::Dimacs(MALFORMED), "line 2 is malformed"),
+        (
+            IncrementalError::Dimacs(DimacsError::Limit { line: 3 }),
+            "a number on line 3 is past the limit",
+        ),
+        (
+            IncrementalError::Dimacs(DimacsError::Read),
+            "the formula can't be read",
+        ),
+        (
+            IncrementalError::Caller(DimacsError::OutOfMemory),
+            "out of memory",
+        ),
+        (
+            IncrementalError::Caller(DimacsError::HasFailed),
+            "the parser has failed or finished before",
+        ),
+    ];
+    for (error, text) in rows {
+        assert_eq!(rt; format!(in rt.alloc(); "{error}")?.as_str(), text);
+    }
+    Ok(())
+}
+
+#[test]
 fn laws_are_proved(_rt: HostRuntime) {
     crate::law_dimacs::dimacs_rows();
 }
