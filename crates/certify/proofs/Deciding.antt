@@ -96,15 +96,16 @@ exact v (Some text) (Some x) a' (Some y) c' script given bytes s ga ea gc ec d =
     subst (λ t. (v ≡ Yes) ↔ Matches the_checking reading text t y) (sym (whole x a' given ga ea))
     (subst (λ t. (v ≡ Yes) ↔ Matches the_checking reading text given t) (sym (whole y c' bytes gc ec)) (decided_of v script text given bytes s d))
 
-pub sound : (v : Verdict) (known a a' : Option (List ℕ)) (script : HeldScript) (given bytes : List ℕ)
-    → IfSome known (λ text. script ≡ held_script text) → Consumes a a' given → IsAtEnd a'
-    → (AllByRecursion CountFromOne script.0 → Decides v script given bytes) → IsSoundYes v known a a'
-sound v None a a' script given bytes s ga ea d = tt
-sound v (Some text) a a' script given bytes s ga ea d = λ yes.
+pub sound : (v : Verdict) (known a a' : Option (List ℕ)) (before after : List ℕ) (script : HeldScript) (given bytes : List ℕ)
+    → IfSome known (λ text. script ≡ held_script text) → after ≡ before ++ given → Consumes a a' given → IsAtEnd a'
+    → (AllByRecursion CountFromOne script.0 → Decides v script given bytes) → IsSoundYes v known before after a a'
+sound v None a a' before after script given bytes s gave ga ea d = tt
+sound v (Some text) a a' before after script given bytes s gave ga ea d = λ yes.
     let m : Matches the_checking reading text given bytes = (decided_of v script text given bytes s d).0 yes in
     record {
-      given = given;
-      gave = ga;
+      answers = given;
+      gave = gave;
+      told = ga;
       whole = ea;
       outcomes = m.outcomes;
       answered = m.answered;

@@ -68,8 +68,8 @@ pub fn confirm<S: CountedRead, A: CountedRead, C: CountedRead>(
 ) -> Result<Verdict, ConfirmFault>
     // Where the three readers tell their bytes, yes means that these match, and that these match means yes.
     ensures exact { IfOk result (λ v. IsExact v (S.remaining script.old) (A.remaining answers.old) (C.remaining certificate.old)) }
-    // A yes means right answers, whatever answers and certificate are.
-    ensures sound { IfOk result (λ v. IsSoundYes v (S.remaining script.old) (A.remaining answers.old) (A.remaining answers.new)) }
+    // A yes means that the answers that were given are right, whatever they and the certificate are, and told or not.
+    ensures sound { IfOk result (λ v. IsSoundYes v (S.remaining script.old) (A.given answers.old) (A.given answers.new) (A.remaining answers.old) (A.remaining answers.new)) }
 
     // A fault is answered only where it happened.
     ensures script_read { IsErrOf result ConfirmFault.ScriptRead → (S.failures script.old < S.failures script.new) ⊎ (S.calls script.new ≡ S.calls script.old + most_reads) }

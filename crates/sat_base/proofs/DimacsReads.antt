@@ -222,11 +222,11 @@ tokens_clause n ls rest w =
     ∙ ap (λ (ws : List (List ℕ)). on_line (n + 1) ws ++ tokens_of false (n + 1) (lines rest)) (words_clause ls w)
 
 -- CLAUSES OF TOKENS
-clauses_nil : (hand : Hand) (last : ℕ) → clauses_of hand last [] ≡ record { clauses = []; ending = at_end hand last }
+pub clauses_nil : (hand : Hand) (last : ℕ) → clauses_of hand last [] ≡ record { clauses = []; ending = at_end hand last }
 unfolding clauses_of
 clauses_nil hand last = refl
 
-clauses_cons : (hand : Hand) (last : ℕ) (t : ℕ × Token) (ts : List (ℕ × Token)) → clauses_of hand last (t ∷ ts) ≡ behind_turn (turn hand t.0 t.1) (λ h. clauses_of h last ts)
+pub clauses_cons : (hand : Hand) (last : ℕ) (t : ℕ × Token) (ts : List (ℕ × Token)) → clauses_of hand last (t ∷ ts) ≡ behind_turn (turn hand t.0 t.1) (λ h. clauses_of h last ts)
 unfolding clauses_of
 clauses_cons hand last t ts = refl
 
@@ -234,7 +234,7 @@ clauses_cons hand last t ts = refl
 abbrev ended : List ℕ → Dimacs → Dimacs
 ended clause more = record { clauses = clause ∷ more.clauses; ending = more.ending }
 
-coded_back : (l : ℕ) → coded (variable l + 1 - 1) (not (not (is_positive l))) ≡ l
+pub coded_back : (l : ℕ) → coded (variable l + 1 - 1) (not (not (is_positive l))) ≡ l
 coded_back l = go (is_positive l) refl
   where
     go : (b : Bool) → is_positive l ≡ b → coded (variable l + 1 - 1) (not (not b)) ≡ l

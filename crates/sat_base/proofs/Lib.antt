@@ -26,3 +26,4 @@ pub mod PlainTokens
 pub mod Feeding
 pub mod Parsed
 pub mod DimacsRead
+pub mod DimacsSpellings

@@ -29,3 +29,4 @@ pub mod Parsing
 pub mod Collecting
 pub mod Standing
 pub mod DimacsRows
+pub mod DimacsSpelling

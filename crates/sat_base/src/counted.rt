@@ -1,13 +1,13 @@
 //! Devices that count their failures.
-ghost use Rattle.std.specs.Prelude.{◌≡◌, ℕ};
-ghost use Rattle.sat_base.specs.Device.{device_of, calls_of, failures_of};
+ghost use Rattle.std.specs.Prelude.{◌≡◌, ℕ, []};
+ghost use Rattle.sat_base.specs.Device.{device_of, calls_of, failures_of, given_of};
 
 use crate::device::{CountedRead, CountedWrite};
 use crate::tally::Tally;
 use std::io;
 use std::io::{Read, Write};
 
-/// Any reader or writer, with a count of its calls and of those that failed, which contracts alone see.
+/// Any reader or writer, with a count of its calls and of those that failed, and with the bytes read, which contracts alone see.
 #[derive(Drop)]
 pub struct Counted<D> {
     device: D,
@@ -19,6 +19,7 @@ impl<D> Counted<D> {
         ensures device { device_of result ≡ device }
         ensures calls { calls_of result ≡ 0 }
         ensures failures { failures_of result ≡ 0 }
+        ensures given { given_of result ≡ [] }
     {
         Counted {
             device,
@@ -50,12 +51,13 @@ impl<D: Read> CountedRead for Counted<D> {
 
     ghost failures = { λ c. failures_of c };
 
+    ghost given = { λ c. given_of c };
+
     fn read_counted(&mut self, buf: &mut [u8]) -> io::Result<usize> {
         let result = self.device.read(buf);
-        self.tally = if result.is_ok() {
-            self.tally.and_success()
-        } else {
-            self.tally.and_failure()
+        self.tally = match &result {
+            Ok(count) => self.tally.and_read(&buf[..*count]),
+            Err(_) => self.tally.and_failure(),
         };
         result
     }
@@ -92,9 +94,10 @@ impl<D: Write> CountedWrite for Counted<D> {
 
     fn flush_counted(&mut self) -> io::Result<()> {
         let result = self.device.flush();
-        self.tally = match &result {
-            Ok(()) => self.tally.and_success(),
-            Err(_) => self.tally.and_failure(),
+        self.tally = if result.is_ok() {
+            self.tally.and_success()
+        } else {
+            self.tally.and_failure()
         };
         result
     }

@@ -1,22 +1,25 @@
 //! Readers and writers whose contracts see how often a call has failed.
-ghost use Rattle.std.specs.Prelude.{◌≡◌, ◌+◌, ℕ, OnOk};
+ghost use Rattle.std.specs.Prelude.{◌≡◌, ◌+◌, ℕ, List, OnOk};
 ghost use Rattle.std.specs.Io.{ReadsAtMost, WritesAtMost};
 ghost use Rattle.std.specs.Io.KnownBytes.{ReadConsumes, WriteAppends, Appends, Keeps};
-ghost use Rattle.sat_base.specs.Device.{CountsErr, CountsWrite, RaisesOnErr};
+ghost use Rattle.sat_base.specs.Device.{CountsErr, CountsWrite, Gives, RaisesOnErr};
 
 use std::io;
 use std::io::{ErrorKind, Read, Write};
 
-/// A reader that says how often it was read, and how often that failed.
+/// A reader that says how often it was read, how often that failed, and which bytes it gave.
 pub trait CountedRead: Read {
     ghost calls: { Self → ℕ };
 
     ghost failures: { Self → ℕ };
 
+    ghost given: { Self → List ℕ };
+
     /// One read. An `Err` is a failed call, an interrupted one too, and isn't tried again.
     fn read_counted(&mut self, buf: &mut [u8]) -> io::Result<usize>
         ensures bound { ReadsAtMost result buf.new }
         ensures bytes { ReadConsumes (Self.remaining self.old) (Self.remaining self.new) result buf.new }
+        ensures given { Gives result buf.new (given self.old) (given self.new) }
         ensures calls { calls self.new ≡ calls self.old + 1 }
         ensures failures { CountsErr result (failures self.old) (failures self.new) };
 }

@@ -1,6 +1,14 @@
 //! Laws of formulas' texts, for proofs alone.
 ghost use Rattle.sat_base.specs.DimacsRows.{CleanRows, FaultRows, HeaderRows, PartRows};
+ghost use Rattle.sat_base.specs.DimacsSpelling.{OneFormula, CleanIfSpelled};
 ghost use Rattle.sat_base.specs.WrittenDimacs.{WrittenIsRead};
+
+/// Each text has one list of clauses and one end, and it reads cleanly as clauses exactly if its words spell them, one clause after
+/// another, behind a header or none. It does nothing.
+pub fn dimacs_laws()
+    ensures one { OneFormula }
+    ensures spelled { CleanIfSpelled }
+{}
 
 /// The text that is written of a formula is read as that formula: its clauses in order, a clean end, and a header with the number
 /// of variables and that of clauses. It does nothing.

@@ -1,14 +1,15 @@
 //! What contracts alone see of a device's calls. It takes no memory, and its functions do nothing at run time.
-ghost use Rattle.std.specs.Prelude.{◌≡◌, ◌+◌, ℕ};
+ghost use Rattle.std.specs.Prelude.{◌≡◌, ◌+◌, ◌++◌, ℕ, List, []};
 ghost use Rattle.std.specs.Borrow.{ftrue};
 
 use std::marker::Model;
 
-/// How many calls there were, and how many of them failed. The counts have no largest value.
+/// How many calls there were, how many of them failed, and the bytes that were read. The counts have no largest value.
 #[derive(Drop)]
 pub(crate) struct Tally {
     pub ghost calls: { ℕ },
     pub ghost failures: { ℕ },
+    pub ghost given: { List ℕ },
 }
 
 impl Model for Tally {
@@ -17,19 +18,25 @@ impl Model for Tally {
 
 impl Tally {
     pub(crate) fn new() -> Tally
-        ensures { (result.calls ≡ 0) × (result.failures ≡ 0) }
+        ensures { (result.calls ≡ 0) × (result.failures ≡ 0) × (result.given ≡ []) }
     {
         Tally {}
     }
 
     pub(crate) fn and_success(&self) -> Tally
-        ensures { (result.calls ≡ self.now.calls + 1) × (result.failures ≡ self.now.failures) }
+        ensures { (result.calls ≡ self.now.calls + 1) × (result.failures ≡ self.now.failures) × (result.given ≡ self.now.given) }
     {
         Tally {}
     }
 
     pub(crate) fn and_failure(&self) -> Tally
-        ensures { (result.calls ≡ self.now.calls + 1) × (result.failures ≡ self.now.failures + 1) }
+        ensures { (result.calls ≡ self.now.calls + 1) × (result.failures ≡ self.now.failures + 1) × (result.given ≡ self.now.given) }
+    {
+        Tally {}
+    }
+
+    pub(crate) fn and_read(&self, _bytes: &[u8]) -> Tally
+        ensures { (result.calls ≡ self.now.calls + 1) × (result.failures ≡ self.now.failures) × (result.given ≡ self.now.given ++ _bytes.now) }
     {
         Tally {}
     }

@@ -1,5 +1,5 @@
 //! Reading a reader to its end.
-ghost use Rattle.std.specs.Prelude.{◌≡◌, ◌+◌, ◌≤◌, ◌<◌, ◌⊎◌, IfOk, OnOk, IsErrOf};
+ghost use Rattle.std.specs.Prelude.{◌≡◌, ◌+◌, ◌++◌, ◌≤◌, ◌<◌, ◌⊎◌, IfOk, OnOk, IsErrOf};
 ghost use Rattle.std.specs.Io.KnownBytes.{Consumes, IsAtEnd};
 ghost use Rattle.sat_base.specs.Device.{most_reads};
 
@@ -34,6 +34,7 @@ impl From<AllocError> for ReadError {
 /// Reads to the end, in pieces of at most 4,096 bytes, and gives all bytes. The first failed read ends it.
 pub fn read_whole<R: CountedRead>(alloc: Global, reader: &mut R) -> Result<Vec<u8>, ReadError>
     ensures bytes { IfOk result (λ v. Consumes (R.remaining reader.old) (R.remaining reader.new) v.items) }
+    ensures given { IfOk result (λ v. R.given reader.new ≡ R.given reader.old ++ v.items) }
     ensures end { OnOk result (IsAtEnd (R.remaining reader.new)) }
     ensures kept { OnOk result (R.failures reader.new ≡ R.failures reader.old) }
     ensures failed { IsErrOf result ReadError.Failed → (R.failures reader.old < R.failures reader.new) ⊎ (R.calls reader.new ≡ R.calls reader.old + most_reads) }

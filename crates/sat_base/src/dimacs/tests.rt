@@ -327,5 +327,6 @@ fn errors_are_printed(rt: HostRuntime) -> Result<(), Fail> {
 
 #[test]
 fn laws_are_proved(_rt: HostRuntime) {
+    crate::law_dimacs::dimacs_laws();
     crate::law_dimacs::dimacs_rows();
 }
