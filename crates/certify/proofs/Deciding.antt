@@ -1,13 +1,12 @@
 -- From what is decided of a script whose names are held, to what is said of the texts that were read.
-use Rattle.std.proofs.Common.{ℕ, ◌-◌, ◌^◌, ◌<◌, ◌≤◌, ◌≡◌, ◌↔◌, List, [], ◌∷◌, ◌++◌, map, length, Option, Some, None, IfSome, refl, sym, ◌∙◌, ap, subst, arith, append-nil}
+use Rattle.std.proofs.Common.{ℕ, ◌<◌, ◌≤◌, ◌≡◌, ◌↔◌, List, [], ◌∷◌, map, length, refl, sym, ◌∙◌, ap, subst, arith}
 use Rattle.std.proofs.lemmas.List.{length-map}
-use Rattle.std.specs.Io.KnownBytes.{Consumes, IsAtEnd}
 use Rattle.std.specs.List.{AllByRecursion}
 use Rattle.sat_base.specs.Script.{Literal, Command, Clause, Ask, Hide, Witness, Sample, Ending, names_of, reading}
 use Rattle.sat_base.specs.Judge.{start}
-use Rattle.certify.specs.Confirmed.{IsExact, IsSoundYes}
+use Rattle.certify.specs.Confirmed.{IsExact, GaveRightAnswers, HasCommands}
 use Rattle.certify.specs.Decides.{Decides}
-use Rattle.certify.specs.Holding.{held_command, HeldScript, held_script}
+use Rattle.certify.specs.Holding.{held_command, HeldScript, held_script, IsHeldOf}
 use Rattle.certify.specs.Matches.{MatchesCommands, Matches, OneEach, Meets, expected}
 use Rattle.certify.specs.Running.{IsSimple}
 use Rattle.certify.specs.Sessions.{CountFromOne}
@@ -81,41 +80,35 @@ decided_of v script text a c e d =
     let P : HeldScript → Type 0 = λ s. AllByRecursion CountFromOne s.0 → Decides v s a c in
     decided v text a c (subst P e d (read_counts text))
 
--- bytes that are told and were given up to the end are all of them
-whole : (told : List ℕ) (new : Option (List ℕ)) (given : List ℕ) → Consumes (Some told) new given → IsAtEnd new → told ≡ given
-whole told None given c e = absurd c
-whole told (Some left) given c e = c ∙ ap (λ t. given ++ t) e ∙ append-nil given
+pub exact : (v : Verdict) (IsScript AreAnswers IsCertificate : List ℕ → Type 0) (script : HeldScript) (a c : List ℕ) → IsHeldOf IsScript script → AreAnswers a → IsCertificate c
+    → (AllByRecursion CountFromOne script.0 → Decides v script a c) → IsExact v IsScript AreAnswers IsCertificate
+exact v IsScript AreAnswers IsCertificate script a c s ga gc d = record {
+  script = s.0;
+  answers = a;
+  certificate = c;
+  script_given = s.1;
+  answers_given = ga;
+  certificate_given = gc;
+  yes = decided_of v script s.0 a c s.2 d;
+}
 
-pub exact : (v : Verdict) (known a a' c c' : Option (List ℕ)) (script : HeldScript) (given bytes : List ℕ)
-    → IfSome known (λ text. script ≡ held_script text) → Consumes a a' given → IsAtEnd a' → Consumes c c' bytes → IsAtEnd c'
-    → (AllByRecursion CountFromOne script.0 → Decides v script given bytes) → IsExact v known a c
-exact v None a a' c c' script given bytes s ga ea gc ec d = tt
-exact v (Some text) None a' c c' script given bytes s ga ea gc ec d = tt
-exact v (Some text) (Some x) a' None c' script given bytes s ga ea gc ec d = tt
-exact v (Some text) (Some x) a' (Some y) c' script given bytes s ga ea gc ec d =
-    subst (λ t. (v ≡ Yes) ↔ Matches the_checking reading text t y) (sym (whole x a' given ga ea))
-    (subst (λ t. (v ≡ Yes) ↔ Matches the_checking reading text given t) (sym (whole y c' bytes gc ec)) (decided_of v script text given bytes s d))
-
-pub sound : (v : Verdict) (known a a' : Option (List ℕ)) (before after : List ℕ) (script : HeldScript) (given bytes : List ℕ)
-    → IfSome known (λ text. script ≡ held_script text) → after ≡ before ++ given → Consumes a a' given → IsAtEnd a'
-    → (AllByRecursion CountFromOne script.0 → Decides v script given bytes) → IsSoundYes v known before after a a'
-sound v None a a' before after script given bytes s gave ga ea d = tt
-sound v (Some text) a a' before after script given bytes s gave ga ea d = λ yes.
-    let m : Matches the_checking reading text given bytes = (decided_of v script text given bytes s d).0 yes in
+pub sound : (v : Verdict) (IsScript AreAnswers : List ℕ → Type 0) (script : HeldScript) (a c : List ℕ) → IsHeldOf IsScript script → AreAnswers a
+    → (AllByRecursion CountFromOne script.0 → Decides v script a c) → v ≡ Yes → GaveRightAnswers IsScript AreAnswers
+sound v IsScript AreAnswers script a c s ga d said =
+    let m : Matches the_checking reading s.0 a c = (decided_of v script s.0 a c s.2 d).0 said in
     record {
-      answers = given;
-      gave = gave;
-      told = ga;
-      whole = ea;
+      script = s.0;
+      answers = a;
+      script_given = s.1;
+      answers_given = ga;
       outcomes = m.outcomes;
       answered = m.answered;
-      right = matching_right the_checking the_checking_sound (reading text).0 m.outcomes m.steps m.match;
+      right = matching_right the_checking the_checking_sound (reading s.0).0 m.outcomes m.steps m.match;
     }
 
 -- the commands that are held are as many
-pub counted : (known : Option (List ℕ)) (script : HeldScript) → IfSome known (λ text. script ≡ held_script text) → 2 ^ 64 - 1 ≤ length script.0 → IfSome known (λ text. 2 ^ 64 - 1 ≤ length (reading text).0)
-counted None script s h = tt
-counted (Some text) script s h =
-    let e : length script.0 ≡ length (map held_command (reading text).0) = ap (λ (r : HeldScript). length r.0) s in
-    let f : length (map held_command (reading text).0) ≡ length (reading text).0 = length-map (reading text).0 held_command in
-    omega (arith, e, f)
+pub counted : (IsScript : List ℕ → Type 0) (script : HeldScript) (count : ℕ) → IsHeldOf IsScript script → count ≤ length script.0 → HasCommands IsScript count
+counted IsScript script count s h =
+    let e : length script.0 ≡ length (map held_command (reading s.0).0) = ap (λ (r : HeldScript). length r.0) s.2 in
+    let f : length (map held_command (reading s.0).0) ≡ length (reading s.0).0 = length-map (reading s.0).0 held_command in
+    (s.0, s.1, omega (arith, e, f))

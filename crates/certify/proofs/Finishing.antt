@@ -1,5 +1,5 @@
 -- What a run has done once all commands are taken.
-use Rattle.std.proofs.Common.{ℕ, ◌+◌, ◌-◌, ◌^◌, ◌≤◌, ◌≡◌, cond, Result, Ok, Err, IfOk, IfSome, List, [], ◌∷◌, ◌++◌, map, length, Option, Some, None, is_some, refl, sym, ◌∙◌, ap, subst, arith, append-nil}
+use Rattle.std.proofs.Common.{ℕ, ◌+◌, ◌-◌, ◌^◌, ◌≤◌, ◌≡◌, cond, Result, Ok, Err, IfOk, List, [], ◌∷◌, ◌++◌, map, length, Option, Some, None, is_some, refl, sym, ◌∙◌, ap, subst, arith, append-nil}
 use Rattle.std.proofs.Math.Seq.{drop-length}
 use Rattle.std.proofs.KnownBytes.{Appends-nil, Appends-trans}
 use Rattle.std.proofs.lemmas.List.{length-map}
@@ -17,10 +17,10 @@ use Rattle.certify.specs.Held.{fresh}
 use Rattle.certify.specs.TheChecking.{the_checking}
 use Rattle.certify.specs.Matches.{expected, finish}
 use Rattle.certify.specs.Certified.{Certifies, complete, ordered}
-use Rattle.certify.specs.Holding.{held_command, HeldScript, held_script}
+use Rattle.certify.specs.Holding.{held_command, HeldScript, held_script, IsHeldOf}
 use Rattle.std.specs.Prelude.{MatchResult, IfErr}
 use Rattle.certify.specs.declared.fault.RunFault.TheVariants as fault
-use Rattle.certify.specs.Run.{HasCause, RunOf, Finished, refused_count, malformed_at}
+use Rattle.certify.specs.Run.{HasCause, RunOf, Finished, FinishesText, HasTooMany, refused_count, malformed_at}
 use Rattle.certify.specs.Running.{Plain, Reached, TookAll, WroteStep, Finishes, malformed_text}
 use Rattle.certify.proofs.Held.{refusal_of-held, unheld, after_command-held, accepted_of-held}
 use Rattle.certify.proofs.Certified.{told_start}
@@ -145,11 +145,10 @@ finished text script budget summary a b p q e f =
       run = run_held (reading text).0 (reading text).1 (length (written text).0) budget summary h.answered h.certified (h.run (held_good text));
     }
 
-pub finished_if : (known : Option (List ℕ)) (r : Result Summary RunFault) (script : HeldScript) (budget : ℕ) (a b p q : Option (List ℕ)) → IfSome known (λ text. script ≡ held_script text)
-    → IfOk r (λ summary. Finishes script budget summary a b p q) → IfSome known (λ text. IfOk r (λ summary. Finished text budget summary a b p q))
-finished_if None r script budget a b p q e f = tt
-finished_if (Some text) (Ok summary) script budget a b p q e f = finished text script budget summary a b p q e f
-finished_if (Some text) (Err x) script budget a b p q e f = tt
+pub finished_if : (IsText : List ℕ → Type 0) (r : Result Summary RunFault) (script : HeldScript) (budget : ℕ) (a b p q : Option (List ℕ)) → IsHeldOf IsText script
+    → IfOk r (λ summary. Finishes script budget summary a b p q) → IfOk r (λ summary. FinishesText IsText budget summary a b p q)
+finished_if IsText (Ok summary) script budget a b p q e f = (e.0, e.1, finished e.0 script budget summary a b p q e.2 f)
+finished_if IsText (Err x) script budget a b p q e f = tt
 
 -- a malformed text has as many commands as it means
 abbrev TooMany : HeldScript → Type 0
@@ -160,9 +159,8 @@ too_many text script e h =
     let m : TooMany (held_script text) = rw e at h in
     omega (arith, m.1, length-map (reading text).0 held_command, malformed_count text m.0)
 
-pub too_many_if : (known : Option (List ℕ)) (script : HeldScript) → IfSome known (λ text. script ≡ held_script text) → TooMany script → IfSome known (λ text. 2 ^ 64 - 1 ≤ length (written text).0)
-too_many_if None script e h = tt
-too_many_if (Some text) script e h = too_many text script e h
+pub too_many_if : (IsText : List ℕ → Type 0) (script : HeldScript) → IsHeldOf IsText script → TooMany script → HasTooMany IsText
+too_many_if IsText script e h = (e.0, e.1, too_many e.0 script e.2 h)
 
 -- the cause of a fault behind the script
 cause_behind : (e : RunFault) (script answers certificate many more : Type 0) → (many → more) → HasCause e ⊥ answers certificate many → HasCause e script answers certificate more

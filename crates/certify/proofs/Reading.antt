@@ -1,8 +1,7 @@
 -- What a reader of scripts makes of tokens and bytes.
-use Rattle.std.proofs.Common.{◌≡◌, ℕ, ◌+◌, ◌<◌, ◌≤◌, List, [], ◌∷◌, ◌++◌, Bool, true, false, length, get_or, take, drop, map, Option, Some, None, Result, Ok, Err, refl, sym, ap, subst, ◌∙◌, append_assoc, arith}
-use Rattle.std.specs.Prelude.{nat_eq, not, ◌&&◌, ◌||◌, IfOk, IfSome}
+use Rattle.std.proofs.Common.{◌≡◌, ℕ, ◌+◌, ◌<◌, ◌≤◌, List, [], ◌∷◌, ◌++◌, Bool, true, false, length, get_or, take, drop, map, Some, None, Result, Ok, Err, refl, sym, ap, subst, ◌∙◌, append_assoc, arith}
+use Rattle.std.specs.Prelude.{nat_eq, not, ◌&&◌, ◌||◌, IfOk}
 use Rattle.std.proofs.Common.{cond}
-use Rattle.std.specs.Io.KnownBytes.{Consumes, IsAtEnd}
 use Rattle.std.proofs.lemmas.List.{append-nil, length-append, take_all}
 use Rattle.std.proofs.lemmas.Grind.{common_steps}
 use Rattle.std.proofs.lemmas.Bool.Decides.{nat_tests}
@@ -251,10 +250,3 @@ split_at xs i h = grind (arith, common_steps)
 
 pub reached_end : (xs : List ℕ) (i : ℕ) → length xs ≤ i → held_script (take i xs ++ []) ≡ held_script xs
 reached_end xs i h = ap held_script (append-nil (take i xs) ∙ take_all i xs h)
-
--- all that a reader had was read
-pub script_read : (a b : Option (List ℕ)) (xs : List ℕ) (s : HeldScript) → Consumes a b xs → IsAtEnd b → s ≡ held_script xs → IfSome a (λ text. s ≡ held_script text)
-script_read None b xs s h e p = tt
-script_read (Some t) None xs s h e p = absurd h
-script_read (Some t) (Some u) xs s h e p =
-    p ∙ ap held_script (sym (h ∙ ap (λ (z : List ℕ). xs ++ z) e ∙ append-nil xs))

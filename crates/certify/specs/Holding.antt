@@ -28,6 +28,10 @@ HeldScript = List Command × Ending × ℕ
 abbrev pub held_script : List ℕ → HeldScript
 held_script text = ((held_reading (reading text)).0, (held_reading (reading text)).1, length (written text).0)
 
+-- of a text of which this is said, it is the script
+abbrev pub IsHeldOf : (List ℕ → Type 0) → HeldScript → Type 0
+IsHeldOf IsText script = (text : List ℕ) × IsText text × (script ≡ held_script text)
+
 -- why a command is refused, which commands are accepted, and what they leave, all stay as they are
 pub record HoldingIsFree : Type 0 where
   pub refusals : (j : Judge) (c : Command) → refusal_of j (held_command c) ≡ refusal_of j c

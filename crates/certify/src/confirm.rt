@@ -1,9 +1,8 @@
 //! Confirms that script, answers and certificate belong together.
-ghost use Rattle.std.specs.Prelude.{◌≡◌, ◌+◌, ◌-◌, ◌^◌, ◌≤◌, ◌<◌, ◌⊎◌, length, IfOk, OnOk, IfSome, IsErrOf};
+ghost use Rattle.std.specs.Prelude.{◌≡◌, ◌+◌, ◌-◌, ◌^◌, ◌≤◌, ◌<◌, ◌⊎◌, length, IfOk, IsErrOf};
 ghost use Rattle.std.specs.List.{AllByRecursion};
-ghost use Rattle.sat_base.specs.Device.{most_reads};
-ghost use Rattle.sat_base.specs.Script.{reading};
-ghost use Rattle.certify.specs.Confirmed.{IsExact, IsSoundYes};
+ghost use Rattle.sat_base.specs.Device.{most_reads, GaveAll};
+ghost use Rattle.certify.specs.Confirmed.{IsExact, GaveRightAnswers, HasCommands};
 ghost use Rattle.certify.specs.Decides.{Decides};
 ghost use Rattle.certify.specs.Sessions.{CountFromOne, ConfirmsEnd};
 
@@ -66,19 +65,23 @@ pub fn confirm<S: CountedRead, A: CountedRead, C: CountedRead>(
     answers: &mut A,
     certificate: &mut C,
 ) -> Result<Verdict, ConfirmFault>
-    // Where the three readers tell their bytes, yes means that these match, and that these match means yes.
-    ensures exact { IfOk result (λ v. IsExact v (S.remaining script.old) (A.remaining answers.old) (C.remaining certificate.old)) }
-    // A yes means that the answers that were given are right, whatever they and the certificate are, and told or not.
-    ensures sound { IfOk result (λ v. IsSoundYes v (S.remaining script.old) (A.given answers.old) (A.given answers.new) (A.remaining answers.old) (A.remaining answers.new)) }
+    // Yes means that the texts that the three readers gave, to their ends, match, and that these match means yes.
+    ensures exact { IfOk result (λ v. IsExact v (GaveAll S.given S.ended S.remaining script.old script.new)
+        (GaveAll A.given A.ended A.remaining answers.old answers.new) (GaveAll C.given C.ended C.remaining certificate.old certificate.new)) }
+    // A yes means right answers, whatever answers and certificate are.
+    ensures sound { IfOk result (λ v. v ≡ Verdict.Yes
+        → GaveRightAnswers (GaveAll S.given S.ended S.remaining script.old script.new) (GaveAll A.given A.ended A.remaining answers.old answers.new)) }
 
-    // A fault is answered only where it happened.
-    ensures script_read { IsErrOf result ConfirmFault.ScriptRead → (S.failures script.old < S.failures script.new) ⊎ (S.calls script.new ≡ S.calls script.old + most_reads) }
-    ensures answers_read { IsErrOf result ConfirmFault.AnswersRead → (A.failures answers.old < A.failures answers.new) ⊎ (A.calls answers.new ≡ A.calls answers.old + most_reads) }
-    ensures certificate_read { IsErrOf result ConfirmFault.CertificateRead → (C.failures certificate.old < C.failures certificate.new) ⊎ (C.calls certificate.new ≡ C.calls certificate.old + most_reads) }
-    ensures counter_end { IsErrOf result ConfirmFault.CounterEnd → IfSome (S.remaining script.old) (λ text. 2 ^ 64 - 1 ≤ length (reading text).0) }
+    // A fault is answered only where it happened, and none of them is tried again.
+    ensures script_read { IsErrOf result ConfirmFault.ScriptRead → (S.failures script.new ≡ S.failures script.old + 1) ⊎ (S.calls script.new ≡ S.calls script.old + most_reads) }
+    ensures answers_read { IsErrOf result ConfirmFault.AnswersRead → (A.failures answers.new ≡ A.failures answers.old + 1) ⊎ (A.calls answers.new ≡ A.calls answers.old + most_reads) }
+    ensures certificate_read { IsErrOf result ConfirmFault.CertificateRead → (C.failures certificate.new ≡ C.failures certificate.old + 1) ⊎ (C.calls certificate.new ≡ C.calls certificate.old + most_reads) }
+    ensures counter_end { IsErrOf result ConfirmFault.CounterEnd → HasCommands (GaveAll S.given S.ended S.remaining script.old script.new) (2 ^ 64 - 1) }
 
-    // Neither yes nor no comes after a failed read.
-    ensures kept { OnOk result ((S.failures script.new ≡ S.failures script.old) × (A.failures answers.new ≡ A.failures answers.old) × (C.failures certificate.new ≡ C.failures certificate.old)) }
+    // A read of a text has failed only where the answer is that text's fault: neither yes nor no comes after one.
+    ensures kept_script { IsErrOf result ConfirmFault.ScriptRead ⊎ (S.failures script.new ≡ S.failures script.old) }
+    ensures kept_answers { IsErrOf result ConfirmFault.AnswersRead ⊎ (A.failures answers.new ≡ A.failures answers.old) }
+    ensures kept_certificate { IsErrOf result ConfirmFault.CertificateRead ⊎ (C.failures certificate.new ≡ C.failures certificate.old) }
     // Each is read at most 2^48 times.
     ensures reads { (S.calls script.new ≤ S.calls script.old + most_reads) × (A.calls answers.new ≤ A.calls answers.old + most_reads) × (C.calls certificate.new ≤ C.calls certificate.old + most_reads) }
 {

@@ -1,9 +1,9 @@
 //! Answers a script, with a certificate.
-ghost use Rattle.std.specs.Prelude.{◌≡◌, ◌+◌, ◌-◌, ◌^◌, ◌≤◌, ◌<◌, ◌⊎◌, length, IfOk, OnOk, IfErr, IfSome, MatchResult};
-ghost use Rattle.sat_base.specs.Device.{most_reads};
-ghost use Rattle.sat_base.specs.Script.{written, Malformed};
-ghost use Rattle.certify.specs.Holding.{held_script};
-ghost use Rattle.certify.specs.Run.{Finished, HasCause};
+ghost use Rattle.std.specs.Prelude.{◌≡◌, ◌+◌, ◌-◌, ◌^◌, ◌≤◌, ◌<◌, ◌⊎◌, length, IfOk, OnOk, IfErr, IsErrOf, MatchResult};
+ghost use Rattle.sat_base.specs.Device.{most_reads, GaveAll};
+ghost use Rattle.sat_base.specs.Script.{Malformed};
+ghost use Rattle.certify.specs.Holding.{IsHeldOf};
+ghost use Rattle.certify.specs.Run.{FinishesText, HasCause, HasTooMany};
 ghost use Rattle.certify.specs.Running.{Finishes};
 
 mod ask;
@@ -28,9 +28,10 @@ use std::alloc::Global;
 
 /// Reads the script.
 fn load<S: CountedRead>(alloc: Global, script: &mut S) -> Result<Script, RunFault>
-    ensures script { IfSome (S.remaining script.old) (λ text. IfOk result (λ s. s ≡ held_script text)) }
+    ensures script { IfOk result (λ s. IsHeldOf (GaveAll S.given S.ended S.remaining script.old script.new) s) }
     ensures failures { MatchResult result (λ _. S.failures script.new ≡ S.failures script.old)
         (λ e. HasCause e ((S.failures script.old < S.failures script.new) ⊎ (S.calls script.new ≡ S.calls script.old + most_reads)) ⊥ ⊥ ⊥) }
+    ensures kept { IsErrOf result RunFault.ScriptRead ⊎ (S.failures script.new ≡ S.failures script.old) }
     ensures reads { S.calls script.new ≤ S.calls script.old + most_reads }
 {
     match read_script(alloc, script) {
@@ -75,17 +76,18 @@ pub fn run<S: CountedRead, A: CountedWrite, C: CountedWrite>(
     certificate: &mut C,
     budget: u64,
 ) -> Result<Summary, RunFault>
-    // Where the reader tells its bytes, a finished run has written the answers to them.
-    ensures finished { IfSome (S.remaining script.old)
-        (λ text. IfOk result (λ summary. Finished text budget summary (A.contents answers.old) (A.contents answers.new) (C.contents certificate.old) (C.contents certificate.new))) }
+    // A finished run has written the answers to the text that the reader gave, to its end.
+    ensures finished { IfOk result (λ summary. FinishesText (GaveAll S.given S.ended S.remaining script.old script.new) budget summary
+        (A.contents answers.old) (A.contents answers.new) (C.contents certificate.old) (C.contents certificate.new)) }
     ensures kept { OnOk result ((S.failures script.new ≡ S.failures script.old) × (A.failures answers.new ≡ A.failures answers.old) × (C.failures certificate.new ≡ C.failures certificate.old)) }
     // A fault is answered only where it happened.
     ensures fault { IfErr result (λ e. HasCause e
         ((S.failures script.old < S.failures script.new) ⊎ (S.calls script.new ≡ S.calls script.old + most_reads))
         (A.failures answers.old < A.failures answers.new)
         (C.failures certificate.old < C.failures certificate.new)
-        (IfSome (S.remaining script.old) (λ text. 2 ^ 64 - 1 ≤ length (written text).0))) }
-    // The script is read at most 2^48 times.
+        (HasTooMany (GaveAll S.given S.ended S.remaining script.old script.new))) }
+    // A read of the script has failed only where the answer is that. It is read at most 2^48 times.
+    ensures kept_script { IsErrOf result RunFault.ScriptRead ⊎ (S.failures script.new ≡ S.failures script.old) }
     ensures reads { S.calls script.new ≤ S.calls script.old + most_reads }
 {
     let commands = load(alloc, script)?;

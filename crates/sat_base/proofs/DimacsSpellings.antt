@@ -283,7 +283,10 @@ unfolding dimacs
 dimacs_is text = refl
 
 pub one_formula : OneFormula
-one_formula text cs ds d e a b = let same = sym a ∙ b in (ap (λ (r : Dimacs). r.clauses) same, ap (λ (r : Dimacs). r.ending) same)
+one_formula = record {
+  some = λ text. ((dimacs text).clauses, (dimacs text).ending, refl);
+  one = λ text cs ds d e a b. let same = sym a ∙ b in (ap (λ (r : Dimacs). r.clauses) same, ap (λ (r : Dimacs). r.ending) same);
+}
 
 pub clean_if_spelled : CleanIfSpelled
 clean_if_spelled text cs =

@@ -273,7 +273,10 @@ script_if ts cs (inl w) = headless ts cs w
 script_if ts cs (inr (v, c, rest, w, e)) = rw e (headed_script v c rest cs w)
 
 pub one_reading : OneReading
-one_reading text cs ds d e a b = let same : (cs, d) ≡ (ds, e) = sym a ∙ b in (ap (λ (r : Reading). r.0) same, ap (λ (r : Reading). r.1) same)
+one_reading = record {
+  some = λ text. ((reading text).0, (reading text).1, refl);
+  one = λ text cs ds d e a b. let same : (cs, d) ≡ (ds, e) = sym a ∙ b in (ap (λ (r : Reading). r.0) same, ap (λ (r : Reading). r.1) same);
+}
 
 pub clean_if_spelled : CleanIfSpelled
 clean_if_spelled text cs =

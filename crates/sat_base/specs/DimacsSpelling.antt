@@ -1,4 +1,4 @@
--- How the clauses of a formula are spelled, which says again what its text means.
+-- How the clauses of a formula are spelled, which says again when a text reads cleanly.
 use Rattle.std.specs.Prelude.{◌≡◌, ℕ, ◌+◌, ◌<◌, ◌↔◌, ◌⊎◌, List, [], ◌∷◌, ◌++◌, map, not}
 use Rattle.std.specs.List.{AllByRecursion}
 use Rattle.sat_base.specs.Literals.{largest, variable, is_positive}
@@ -11,7 +11,7 @@ use Rattle.sat_base.specs.Spelling.{IsZero}
 abbrev pub number_of : ℕ → Token
 number_of l = Number (not (is_positive l)) (variable l + 1)
 
--- none is past the limit
+-- their numbers are at most 2^28
 abbrev pub AreWithin : List ℕ → Type 0
 AreWithin ls = AllByRecursion (λ l. variable l < largest) ls
 
@@ -29,8 +29,9 @@ abbrev pub SpellsFormula : List (List ℕ) → List Token → Type 0
 SpellsFormula cs ts = SpellsClauses cs ts ⊎ ((vars : ℕ) × (clauses : ℕ) × (rest : List Token) × (ts ≡ Header vars clauses ∷ rest) × SpellsClauses cs rest)
 
 -- each text has one list of clauses, and one end
-abbrev pub OneFormula : Type 0
-OneFormula = (text : List ℕ) (cs ds : List (List ℕ)) (d e : Ending) → IsDimacs text cs d → IsDimacs text ds e → (cs ≡ ds) × (d ≡ e)
+pub record OneFormula : Type 0 where
+  pub some : (text : List ℕ) → (cs : List (List ℕ)) × (end : Ending) × IsDimacs text cs end
+  pub one : (text : List ℕ) (cs ds : List (List ℕ)) (d e : Ending) → IsDimacs text cs d → IsDimacs text ds e → (cs ≡ ds) × (d ≡ e)
 
 -- a text reads cleanly as these clauses exactly if its tokens spell a formula of them
 abbrev pub CleanIfSpelled : Type 0

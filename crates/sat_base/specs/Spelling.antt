@@ -1,4 +1,4 @@
--- How the commands of a script are spelled, which says again what a text means.
+-- How the commands of a script are spelled, which says again when a text reads cleanly.
 use Rattle.std.specs.Prelude.{◌≡◌, ℕ, ◌<◌, ◌↔◌, ◌⊎◌, List, [], ◌∷◌, ◌++◌, map, not, if◌then◌else◌}
 use Rattle.std.specs.List.{AllByRecursion}
 use Rattle.sat_base.specs.Text.{Token, Number, Letter, Header, Wrong, tokens}
@@ -12,7 +12,7 @@ number_of l = Number (not l.positive) l.name
 abbrev pub AreNamed : List Literal → Type 0
 AreNamed ls = AllByRecursion (λ l. 0 < l.name) ls
 
--- a zero ends a clause or command
+-- a zero ends a clause or command (no text has the token of a negative one)
 abbrev pub IsZero : Token → Type 0
 IsZero (Number negative value) = value ≡ 0
 IsZero (Letter b) = ⊥
@@ -44,8 +44,9 @@ SpellsScript cs ts = SpellsCommands cs ts
     × (ts ≡ Header vars clauses ∷ rest) × SpellsCommands spelled rest × (cs ≡ asked spelled))
 
 -- each text has one list of commands, and one end
-abbrev pub OneReading : Type 0
-OneReading = (text : List ℕ) (cs ds : List Command) (d e : Ending) → IsScript text cs d → IsScript text ds e → (cs ≡ ds) × (d ≡ e)
+pub record OneReading : Type 0 where
+  pub some : (text : List ℕ) → (cs : List Command) × (end : Ending) × IsScript text cs end
+  pub one : (text : List ℕ) (cs ds : List Command) (d e : Ending) → IsScript text cs d → IsScript text ds e → (cs ≡ ds) × (d ≡ e)
 
 -- a text reads cleanly as these commands exactly if its tokens spell a script of them
 abbrev pub CleanIfSpelled : Type 0

@@ -1,6 +1,6 @@
 //! Devices that count their failures.
-ghost use Rattle.std.specs.Prelude.{◌≡◌, ℕ, []};
-ghost use Rattle.sat_base.specs.Device.{device_of, calls_of, failures_of, given_of};
+ghost use Rattle.std.specs.Prelude.{◌≡◌, ℕ, false, []};
+ghost use Rattle.sat_base.specs.Device.{device_of, calls_of, failures_of, given_of, ended_of};
 
 use crate::device::{CountedRead, CountedWrite};
 use crate::tally::Tally;
@@ -20,6 +20,7 @@ impl<D> Counted<D> {
         ensures calls { calls_of result ≡ 0 }
         ensures failures { failures_of result ≡ 0 }
         ensures given { given_of result ≡ [] }
+        ensures ended { ended_of result ≡ false }
     {
         Counted {
             device,
@@ -53,9 +54,12 @@ impl<D: Read> CountedRead for Counted<D> {
 
     ghost given = { λ c. given_of c };
 
+    ghost ended = { λ c. ended_of c };
+
     fn read_counted(&mut self, buf: &mut [u8]) -> io::Result<usize> {
         let result = self.device.read(buf);
         self.tally = match &result {
+            Ok(0) if !buf.is_empty() => self.tally.and_end(),
             Ok(count) => self.tally.and_read(&buf[..*count]),
             Err(_) => self.tally.and_failure(),
         };

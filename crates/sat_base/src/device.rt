@@ -1,13 +1,14 @@
 //! Readers and writers whose contracts see how often a call has failed.
-ghost use Rattle.std.specs.Prelude.{◌≡◌, ◌+◌, ℕ, List, OnOk};
+ghost use Rattle.std.specs.Prelude.{◌≡◌, ◌+◌, ℕ, Bool, List, OnOk};
 ghost use Rattle.std.specs.Io.{ReadsAtMost, WritesAtMost};
 ghost use Rattle.std.specs.Io.KnownBytes.{ReadConsumes, WriteAppends, Appends, Keeps};
-ghost use Rattle.sat_base.specs.Device.{CountsErr, CountsWrite, Gives, RaisesOnErr};
+ghost use Rattle.sat_base.specs.Device.{CountsErr, CountsWrite, EndsIfNone, Gives, RaisesOnErr};
 
 use std::io;
 use std::io::{ErrorKind, Read, Write};
 
-/// A reader that says how often it was read, how often that failed, and which bytes it gave.
+/// A reader that says how often it was read, how often that failed, which bytes it gave, and whether the last read found it at its
+/// end.
 pub trait CountedRead: Read {
     ghost calls: { Self → ℕ };
 
@@ -15,11 +16,14 @@ pub trait CountedRead: Read {
 
     ghost given: { Self → List ℕ };
 
+    ghost ended: { Self → Bool };
+
     /// One read. An `Err` is a failed call, an interrupted one too, and isn't tried again.
     fn read_counted(&mut self, buf: &mut [u8]) -> io::Result<usize>
         ensures bound { ReadsAtMost result buf.new }
         ensures bytes { ReadConsumes (Self.remaining self.old) (Self.remaining self.new) result buf.new }
         ensures given { Gives result buf.new (given self.old) (given self.new) }
+        ensures ended { EndsIfNone result buf.new (ended self.new) }
         ensures calls { calls self.new ≡ calls self.old + 1 }
         ensures failures { CountsErr result (failures self.old) (failures self.new) };
 }

@@ -3,8 +3,8 @@ ghost use Rattle.sat_base.specs.DimacsRows.{CleanRows, FaultRows, HeaderRows, Pa
 ghost use Rattle.sat_base.specs.DimacsSpelling.{OneFormula, CleanIfSpelled};
 ghost use Rattle.sat_base.specs.WrittenDimacs.{WrittenIsRead};
 
-/// Each text has one list of clauses and one end, and it reads cleanly as clauses exactly if its words spell them, one clause after
-/// another, behind a header or none. It does nothing.
+/// Each text has one list of clauses and one end, and it reads cleanly as clauses exactly if its words outside comments and
+/// before a `%` line spell them, one clause after another, behind a header or none. It does nothing.
 pub fn dimacs_laws()
     ensures one { OneFormula }
     ensures spelled { CleanIfSpelled }

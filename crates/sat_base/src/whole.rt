@@ -1,7 +1,6 @@
 //! Reading a reader to its end.
-ghost use Rattle.std.specs.Prelude.{◌≡◌, ◌+◌, ◌++◌, ◌≤◌, ◌<◌, ◌⊎◌, IfOk, OnOk, IsErrOf};
-ghost use Rattle.std.specs.Io.KnownBytes.{Consumes, IsAtEnd};
-ghost use Rattle.sat_base.specs.Device.{most_reads};
+ghost use Rattle.std.specs.Prelude.{◌≡◌, ◌+◌, ◌≤◌, ◌⊎◌, IfOk, OnOk, IsErrOf};
+ghost use Rattle.sat_base.specs.Device.{most_reads, GaveAll};
 
 use crate::CountedRead;
 use std::alloc::{AllocError, Global};
@@ -33,11 +32,10 @@ impl From<AllocError> for ReadError {
 
 /// Reads to the end, in pieces of at most 4,096 bytes, and gives all bytes. The first failed read ends it.
 pub fn read_whole<R: CountedRead>(alloc: Global, reader: &mut R) -> Result<Vec<u8>, ReadError>
-    ensures bytes { IfOk result (λ v. Consumes (R.remaining reader.old) (R.remaining reader.new) v.items) }
-    ensures given { IfOk result (λ v. R.given reader.new ≡ R.given reader.old ++ v.items) }
-    ensures end { OnOk result (IsAtEnd (R.remaining reader.new)) }
+    ensures gave { IfOk result (λ v. GaveAll R.given R.ended R.remaining reader.old reader.new v.items) }
     ensures kept { OnOk result (R.failures reader.new ≡ R.failures reader.old) }
-    ensures failed { IsErrOf result ReadError.Failed → (R.failures reader.old < R.failures reader.new) ⊎ (R.calls reader.new ≡ R.calls reader.old + most_reads) }
+    // None is tried again.
+    ensures failed { IsErrOf result ReadError.Failed → (R.failures reader.new ≡ R.failures reader.old + 1) ⊎ ((R.failures reader.new ≡ R.failures reader.old) × (R.calls reader.new ≡ R.calls reader.old + most_reads)) }
     ensures memory { IsErrOf result ReadError.OutOfMemory → R.failures reader.new ≡ R.failures reader.old }
     ensures reads { R.calls reader.new ≤ R.calls reader.old + most_reads }
 {

@@ -1,10 +1,9 @@
 //! Reading scripts.
-ghost use Rattle.std.specs.Prelude.{◌≡◌, ◌+◌, ◌≤◌, ◌<◌, ◌⊎◌, ◌++◌, ◌∷◌, ◌&&◌, not, length, ℕ, List, [], IfOk, OnOk, IfSome, IsErrOf};
-ghost use Rattle.std.specs.Io.KnownBytes.{IsAtEnd};
-ghost use Rattle.sat_base.specs.Device.{most_reads};
+ghost use Rattle.std.specs.Prelude.{◌≡◌, ◌+◌, ◌≤◌, ◌<◌, ◌⊎◌, ◌++◌, ◌∷◌, ◌&&◌, not, length, ℕ, List, [], IfOk, OnOk, IsErrOf};
+ghost use Rattle.sat_base.specs.Device.{most_reads, GaveAll};
 ghost use Rattle.sat_base.specs.Text.{Token as SpelledToken};
 ghost use Rattle.sat_base.specs.Script.{Literal as Spelled, Ask, Clean, Nothing, command_in, with_literal, with_letter, at_end, commands_of, has_ask};
-ghost use Rattle.certify.specs.Holding.{HeldScript, held_script};
+ghost use Rattle.certify.specs.Holding.{HeldScript, held_script, IsHeldOf};
 ghost use Rattle.certify.specs.ScriptParts.{command_of, end_of};
 ghost use Rattle.certify.specs.ScriptReading.{token_of, hand_of, commands_read, hand_in, AreCommands, Turns, EndsCommand, any_header, asked_if, meaning, malformed_behind, TakesToken, Means, TakesByte};
 
@@ -239,12 +238,12 @@ pub(crate) fn parse(alloc: Global, text: &[u8]) -> Result<Script, AllocError>
 
 /// Reads a script to the end of its text.
 pub fn read_script<R: CountedRead>(alloc: Global, reader: &mut R) -> Result<Script, ReadError>
-    // Where the reader tells its bytes, the script is what they spell, with names past 2^28 held at 2^28+1.
-    ensures script { IfSome (R.remaining reader.old) (λ text. IfOk result (λ script. script ≡ held_script text)) }
-    ensures end { OnOk result (IsAtEnd (R.remaining reader.new)) }
+    // The script is what the bytes that were given spell, with names past 2^28 held at 2^28+1.
+    ensures script { IfOk result (λ script. IsHeldOf (GaveAll R.given R.ended R.remaining reader.old reader.new) script) }
     ensures kept { OnOk result (R.failures reader.new ≡ R.failures reader.old) }
+    // None is tried again.
     ensures failed { IsErrOf result ReadError.Failed
-        → (R.failures reader.old < R.failures reader.new) ⊎ (R.calls reader.new ≡ R.calls reader.old + most_reads) }
+        → (R.failures reader.new ≡ R.failures reader.old + 1) ⊎ ((R.failures reader.new ≡ R.failures reader.old) × (R.calls reader.new ≡ R.calls reader.old + most_reads)) }
     ensures memory { IsErrOf result ReadError.OutOfMemory → R.failures reader.new ≡ R.failures reader.old }
     ensures reads { R.calls reader.new ≤ R.calls reader.old + most_reads }
 {

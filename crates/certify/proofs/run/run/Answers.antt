@@ -1,11 +1,12 @@
+use Rattle.sat_base.specs.Device.{GaveAll}
 use Rattle.certify.proofs.Finishing.{finished_if, too_many_if, run_fault}
 use Rattle.certify.proofs.run.run.Goals as goal
 
 pub returns-clause-finished : goal.returns-clause-finished
 returns-clause-finished g c =
-    finished_if (g.S.Read.remaining c.args.script.now) c.answer.result c.in_ok-commands.commands c.args.budget (g.A.Write.contents c.args.answers.now) (g.A.Write.contents c.answer.new.answers) (g.C.Write.contents c.args.certificate.now) (g.C.Write.contents c.answer.new.certificate)
+    finished_if (GaveAll g.S.CountedRead.given g.S.CountedRead.ended g.S.Read.remaining c.args.script.now c.load.new.script) c.answer.result c.in_ok-commands.commands c.args.budget (g.A.Write.contents c.args.answers.now) (g.A.Write.contents c.answer.new.answers) (g.C.Write.contents c.args.certificate.now) (g.C.Write.contents c.answer.new.certificate)
     c.in_ok-commands.ensures.script c.answer.ensures.finishes
 
 pub returns-clause-fault : goal.returns-clause-fault
 returns-clause-fault g c =
-    run_fault c.answer.result _ _ _ _ _ _ (too_many_if (g.S.Read.remaining c.args.script.now) c.in_ok-commands.commands c.in_ok-commands.ensures.script) c.answer.ensures.failures
+    run_fault c.answer.result _ _ _ _ _ _ (too_many_if (GaveAll g.S.CountedRead.given g.S.CountedRead.ended g.S.Read.remaining c.args.script.now c.load.new.script) c.in_ok-commands.commands c.in_ok-commands.ensures.script) c.answer.ensures.failures

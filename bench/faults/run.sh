@@ -1,0 +1,158 @@
+#!/usr/bin/env bash
+# Refuses each allocation in turn, and looks at what is answered: bench/faults/run.sh
+#
+# First for calls.rt.txt, a program over sat_base: the call whose allocation is refused has to say that it is out of memory, what it leaves
+# behind has to be what its documentation says, and all other lines have to be those of a run with all memory. Then for certify, on two
+# scripts: it has to end with `certify: OutOfMemory` and status 3, and what it printed by then has to be the beginning of what it prints
+# with all memory. A line says for each N which call was out of memory. It isn't part of the gate, and takes some minutes.
+#
+# `rt try --fail-alloc N` refuses the Nth allocation. Since a build takes longer than a run, one build serves for each N: it always
+# refuses the same allocation, the `most`th, and the program first makes as many of no use as the first byte of its standard input
+# says, most - N. The last allocation and the one behind it are then refused without that, too, in the program as it stands.
+set -euo pipefail
+here=$(cd "$(dirname "$0")" && pwd)
+top=$(cd "$here/../.." && pwd)
+work=$(mktemp -d)
+trap 'rm -rf "$work"' EXIT
+most=100
+
+# A repository of three crates: ours, and the program over sat_base.
+mkdir -p "$work/repo/crates/calls/src"
+cp -r "$top/crates/sat_base" "$top/crates/certify" "$work/repo/crates/"
+cp "$top/HANDLES" "$work/repo/"
+printf 'sat_base: thiserror\ncertify: sat_base thiserror\ncalls: sat_base\n' > "$work/repo/crates.txt"
+git init -q "$work/repo"
+cp "$here/calls.rt.txt" "$work/repo/crates/calls/src/main.rt"
+
+# The texts on standard input: none, and two scripts.
+mkdir -p "$work/texts/calls" "$work/texts/certify"
+printf '' > "$work/texts/calls/none"
+printf '1 2 0\na 0\n' > "$work/texts/certify/sat"
+printf '1 2 0\n1 -2 0\n-1 2 0\n-1 -2 0\na 0\n' > "$work/texts/certify/unsat"
+
+fail() {
+    echo "$*" >&2
+    exit 1
+}
+
+# A text behind the byte that asks for this many allocations.
+behind() { # TEXT COUNT
+    printf "\\$(printf %03o "$2")"
+    cat "$1"
+}
+
+# Builds a crate and runs it on each file of a folder. What a run printed is then in OUT/NAME.out, its errors in OUT/NAME.err, and its
+# last line in OUT/NAME.end. No run may fault, hang, or differ between the two ways in which it is run.
+run() { # CRATE FOLDER OUT [FLAG..]
+    local crate=$1 folder=$2 out=$3 text
+    shift 3
+    mkdir -p "$out"
+    (cd "$work/repo/crates/$crate" && rt try "$@" --cases "$folder" > "$out.out" 2> "$out.err") || {
+        cat "$out.err" >&2
+        fail "$crate: a run faults"
+    }
+    for text in "$folder"/*; do
+        : > "$out/${text##*/}.out"
+        : > "$out/${text##*/}.err"
+    done
+    awk -v out="$out/" '/^== / { close(file); file = out $2 ".out"; next } { print > file }' "$out.out"
+    awk -v out="$out/" '/^allocations: / { next } !/^case=/ { lines = lines $0 "\n"; next }
+        /^case=/ { name = substr($1, 6); printf "%s", lines > (out name ".err"); close(out name ".err"); lines = ""
+            print $2, $3 > (out name ".end"); close(out name ".end") }' <(sed '$d' "$out.err")
+}
+
+# Runs a crate on each of its texts with each allocation refused: the Nth run on TEXT is TEXT-N.
+sweep() { # CRATE
+    local text n
+    mkdir -p "$work/$1-cases"
+    for text in "$work/texts/$1"/*; do
+        for n in $(seq "$most"); do
+            behind "$text" $((most - n)) > "$work/$1-cases/${text##*/}-$n"
+        done
+    done
+    run "$1" "$work/$1-cases" "$work/$1-runs" --fail-alloc "$most"
+}
+
+# Runs a crate on its texts with the Nth allocation refused. All has to be as in the sweep.
+directly() { # CRATE FOLDER N
+    local text part
+    run "$1" "$2" "$work/$1-$3" --fail-alloc "$3"
+    for text in "$work/texts/$1"/*; do
+        for part in out err end; do
+            cmp "$work/$1-$3/${text##*/}.$part" "$work/$1-runs/${text##*/}-$3.$part" || fail "$1: another run where $3 is refused"
+        done
+    done
+    echo "$1, as it stands, with allocation $3 refused: the same"
+}
+
+# A run of calls.rt.txt beside the one with all memory. Prints which call was out of memory, or nothing where none was.
+beside='
+    function bad(why) { print FILENAME ", line " FNR ", " why ": " $0 > "/dev/stderr"; failed = 1; exit 1 }
+    { at = index($0, ":"); name = substr($0, 1, at - 1); value = substr($0, at + 1) }
+    FNR == NR { all[FNR] = $0; told[name] = value; count = FNR; next }
+    !/^refused / { if ($0 != all[++line]) bad("another line"); now[name] = value; if (call) done = 1; next }
+    { sub(/^refused /, "", name) }
+    done { bad("a second refusal") }
+    !call { if (value != " out of memory") bad("another error"); call = name; next }
+    name == "iter" { if (value != now[name]) bad("a formula that changed"); next }
+    name ~ /, then (feed|finish|advance)$/ { if (value != " Err(HasFailed)") bad("no failure"); next }
+    name ~ /, then (take_formula|kept|read)$/ {
+        if (length(value) >= length(told[name]) || substr(told[name], 1, length(value)) != value) bad("no beginning")
+        next
+    }
+    { bad("an unknown line") }
+    END { if (!failed && line != count) { print FILENAME ", lines are missing" > "/dev/stderr"; failed = 1 }
+        if (failed) exit 1
+        print call }
+'
+
+mkdir "$work/calls-plain"
+behind "$work/texts/calls/none" 0 > "$work/calls-plain/none"
+run calls "$work/calls-plain" "$work/calls-all"
+sweep calls
+count=0
+for n in $(seq "$most"); do
+    it=$work/calls-runs/none-$n
+    [ "$(cat "$it.end")" = "run=ended status=0" ] || fail "calls $n: $(cat "$it.end")"
+    [ ! -s "$it.err" ] || fail "calls $n: $(cat "$it.err")"
+    call=$(awk "$beside" "$work/calls-all/none.out" "$it.out")
+    [ -n "$call" ] || continue
+    [ $((count += 1)) = "$n" ] || fail "calls $n: refused behind one that was not"
+    echo "$n: $call"
+done | tee "$work/calls.txt"
+count=$(wc -l < "$work/calls.txt")
+[ "$count" -lt "$most" ] || fail "calls: more than $most allocations"
+directly calls "$work/calls-plain" "$count"
+directly calls "$work/calls-plain" $((count + 1))
+echo "calls: $count allocations"
+sed 's/^[0-9]*: //' "$work/calls.txt" | sort | uniq -c
+
+run certify "$work/texts/certify" "$work/certify-all"
+main=$work/repo/crates/certify/src/main.rt
+cp "$main" "$work/main.rt"
+sed 's/^fn main(.*{$/&\n    spend(\&rt);/' "$work/main.rt" > "$main"
+sed -n '/^fn spend(/,/^}/p' "$here/calls.rt.txt" >> "$main"
+sweep certify
+cp "$work/main.rt" "$main"
+for text in sat unsat; do
+    all=$work/certify-all/$text
+    [ "$(cat "$all.end")" = "run=ended status=0" ] || fail "certify $text: $(cat "$all.end")"
+    count=0
+    for n in $(seq "$most"); do
+        it=$work/certify-runs/$text-$n
+        if cmp -s "$it.out" "$all.out" && cmp -s "$it.err" "$all.err" && cmp -s "$it.end" "$all.end"; then
+            continue
+        fi
+        [ "$(cat "$it.end")" = "run=ended status=3" ] || fail "certify $text $n: $(cat "$it.end")"
+        [ "$(cat "$it.err")" = "certify: OutOfMemory" ] || fail "certify $text $n: $(cat "$it.err")"
+        cmp -s "$it.out" <(head -c "$(wc -c < "$it.out")" "$all.out") || fail "certify $text $n: $(cat "$it.out")"
+        ! grep -q '^c ' "$it.out" || fail "certify $text $n: $(cat "$it.out")"
+        [ $((count += 1)) = "$n" ] || fail "certify $text $n: refused behind one that was not"
+        echo "$n: certify $text, behind $(wc -l < "$it.out") lines"
+    done | tee "$work/$text.txt"
+    count=$(wc -l < "$work/$text.txt")
+    [ "$count" -lt "$most" ] || fail "certify $text: more than $most allocations"
+    directly certify "$work/texts/certify" "$count"
+    directly certify "$work/texts/certify" $((count + 1))
+    echo "certify $text: $count allocations"
+done
