@@ -19,12 +19,12 @@ use Rattle.sat_base.specs.Tokenizing.{held, held_token, Stands, Takes, GivesLast
 use Rattle.sat_base.specs.Formulas.{Formula, no_formula, vars_in, vars_of}
 use Rattle.sat_base.specs.Dimacs.{Hand, Turn, GoesOn, Ends, Fails, Ending, Clean, Malformed, Limit, Dimacs, literals_in, turn, at_end, clauses_of, dimacs, settled}
 use Rattle.sat_base.specs.Collecting.{token_of, hand_in, header_behind, is_literal, NeedsRoom, Stay, AllStay, Turns}
-use Rattle.sat_base.specs.Parsing.{Progress, NoFault, Faults, Feeds, Finishes, with_fed, cut_short, at_its_end, clauses_read, lines_read, whole_lines, held_numbers}
+use Rattle.sat_base.specs.Parsing.{Progress, NoFault, GoesWell, Faults, Feeds, Finishes, with_fed, cut_short, at_its_end, clauses_read, lines_read, whole_lines, held_numbers}
 use Rattle.sat_base.specs.Standing.{progress_of, all_in, onto_clauses, Turned, Goes, IsParser, EndsClean}
 use Rattle.sat_base.proofs.FlatLemmas.{vars_of_more}
 use Rattle.sat_base.specs.Script.{spoken}
 use Rattle.sat_base.proofs.HeaderFirst.{AreWords, AreScript, text_is}
-use Rattle.sat_base.proofs.PlainTokens.{no_header, plain_given}
+use Rattle.sat_base.proofs.PlainTokens.{no_header, plain_given, alone_given}
 use Rattle.sat_base.proofs.Collected.{settled_blank, settled_inside, whole_LF, whole_inside, turn-held, clauses_of_nil, turned_first, turned_goes, turned_ends, fails_there, scans_next, dimacs_is, settled_clauses}
 
 -- THE CLAUSES
@@ -386,9 +386,11 @@ feeds_err errors.OutOfMemory xs ys zs all p q r a o e f = (
   o,
   record {
     front = xs ++ f.1.front;
+    byte = f.1.byte;
     behind = f.1.behind ++ zs;
-    whole = stops_more xs ys zs all f.1.front f.1.behind a f.1.whole;
+    whole = stops_more xs ys zs all f.1.front (f.1.byte ∷ f.1.behind) a f.1.whole;
     progress = f.1.progress ∙ ap cut_short (fed_more xs f.1.front (xs ++ f.1.front) p q (with_fed f.1.front q) refl e refl);
+    well = subst (λ (text : List ℕ). GoesWell text f.1.byte) (ap (λ (bytes : List ℕ). bytes ++ f.1.front) (ap (λ (k : Progress). k.fed) e) ∙ append_assoc p.fed xs f.1.front) f.1.well;
   },
 )
 feeds_err errors.HasFailed xs ys zs all p q r a o e f = absurd (let g : ◌≡◌ {A = Bool} true false = sym f.0 ∙ still_open xs p q e ∙ o in cc)
@@ -578,6 +580,33 @@ finish_short old i o t gives lit (inr ends) =
     ∙ ap (clauses_of None n) (sym (append-nil (g.before ++ x ∷ [])))
     ∙ m.says n []
     ∙ ap (onto_clauses (all_in old ++ c ∷ [])) (clauses_of_nil None n))
+
+-- there was no memory for the word that a byte ends
+no_fault_of : (hand : Hand) (n : ℕ) (t : Token) → ((ls : List ℕ) × (turn hand n t ≡ GoesOn (Some ls))) ⊎ (turn hand n t ≡ Ends (literals_in hand)) → NoFault hand ((n, t) ∷ [])
+no_fault_of hand n t (inl (ls, e)) = rw e tt
+no_fault_of hand n t (inr e) = rw e tt
+
+room_turn : (hand : Hand) (n : ℕ) (t : CodeToken) → NeedsRoom (token_of t) → ((ls : List ℕ) × (turn hand n (token_of t) ≡ GoesOn (Some ls))) ⊎ (turn hand n (token_of t) ≡ Ends (literals_in hand))
+room_turn hand n t (inl is) = inl ((literal_goes t is).0 hand n)
+room_turn hand n t (inr ends) = inr (ends hand n)
+
+pub push_short : (old new : Parser) (b : ℕ) (t : CodeToken) → IsParser old → old.stopped ≡ false → Pushed old.tokenizer new.tokenizer b (Some t) → ByteTaken old new b → NeedsRoom (token_of t) → GoesWell old.history.fed b
+push_short old new b t i o p y r =
+    let g = i.goes o in
+    let v = gave old new g b t p y in
+    let n = (v.after []).last in
+    let x : ℕ × Token = (n, v.given) in
+    let blank : is_blank b ≡ true = not_false (is_blank b) v.blank in
+    let none : (is_LF : Bool) → nat_eq b 10 ≡ is_LF → (v.after []).tokens ≡ [] = λ is_LF. elim is_LF as (λ (k : Bool). nat_eq b 10 ≡ k → (v.after []).tokens ≡ []) [
+      | true ↦ λ e. let l : b ≡ 10 = grind (arith, nat_tests) in v.stepped.ended l
+      | false ↦ λ e. alone_given old.tokenizer b n v.given g.left_of v.after g.stands e blank v.stepped.gives
+    ] in
+    let text : (scan (old.history.fed ++ b ∷ [])).tokens ≡ g.before ++ x ∷ [] =
+    ap (λ (bytes : List ℕ). (scan bytes).tokens) (sym y.fed) ∙ ap (λ (k : Scan). k.tokens) (step_scan old new g b (x ∷ []) v.after v.stepped)
+    ∙ ap (λ (ts : List (ℕ × Token)). (g.before ++ x ∷ []) ++ ts) (none (nat_eq b 10) refl) ∙ append-nil (g.before ++ x ∷ []) in
+    let here : NoFault (hand_in old.clauses) (x ∷ []) = no_fault_of (hand_in old.clauses) n v.given
+    (subst (λ (k : Turn). ((ls : List ℕ) × (k ≡ GoesOn (Some ls))) ⊎ (k ≡ Ends (literals_in (hand_in old.clauses)))) (turn_of old.clauses n t v.given v.held) (room_turn (hand_in old.clauses) n t r)) in
+    (blank, subst (NoFault None) (sym text) (g.turned.sound (x ∷ []) here))
 
 -- THE START
 pub first_parser : (p : Parser) → p.history.fed ≡ [] → p.history.taken ≡ [] → p.clauses.formula ≡ no_formula → hand_in p.clauses ≡ None → p.clauses.count ≡ 0 → p.clauses.header ≡ None → p.ended ≡ false → Stands p.tokenizer scan

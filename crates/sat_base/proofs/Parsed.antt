@@ -1,5 +1,5 @@
 -- What a parser answers of a reader's text.
-use Rattle.std.proofs.Common.{◌≡◌, ℕ, List, [], ◌∷◌, ◌++◌, Bool, true, false, Option, Some, None, Result, Err, refl, sym, ap, subst, ◌∙◌, append_assoc, take, length, ◌<◌, ◌≤◌, arith, if◌then◌else◌}
+use Rattle.std.proofs.Common.{◌≡◌, ℕ, List, [], ◌∷◌, ◌++◌, Bool, true, false, Option, Some, None, Result, Err, refl, sym, ap, subst, inl, inr, ◌∙◌, append_assoc, take, length, ◌<◌, ◌≤◌, arith, if◌then◌else◌}
 use Rattle.std.specs.Prelude.{IfSome}
 use Rattle.std.specs.List.{FoldsTo, concat}
 use Rattle.std.proofs.lemmas.List.{append-nil, length-take-le}
@@ -9,7 +9,7 @@ use Rattle.std.specs.Io.KnownBytes.{Consumes, Keeps, IsAtEnd}
 use Rattle.sat_base.specs.declared.dimacs.error.DimacsError.{DimacsError}
 use Rattle.sat_base.specs.declared.dimacs.error.DimacsError.TheVariants as errors
 use Rattle.sat_base.specs.Dimacs.{Ending, Malformed, Limit, Clean, Dimacs, dimacs, settled}
-use Rattle.sat_base.specs.Parsing.{Progress, no_progress, with_fed, at_its_end, Faults, Feeds, Finishes, Parses, Calls, KeepsText, clauses_read}
+use Rattle.sat_base.specs.Parsing.{Progress, no_progress, with_fed, at_its_end, Faults, FallsShort, GoesWell, Feeds, Finishes, Parses, Calls, KeepsText, clauses_read}
 use Rattle.sat_base.specs.Tokenizing.{held}
 use Rattle.sat_base.proofs.Known.{consumes_more}
 
@@ -27,11 +27,23 @@ fault_ends ending fed piece p q e f rest =
     ∙ ap (λ (xs : List ℕ). xs ++ (f.behind ++ rest)) (sym is) in
     ap (λ (k : List ℕ). (dimacs k).ending) text ∙ ap (λ (d : Dimacs). d.ending) (f.ends (f.behind ++ rest))
 
+-- there was no memory within it
+short_on : (fed piece : List ℕ) (p q : Progress) → p.fed ≡ fed → FallsShort piece p q → (rest : List ℕ)
+    → (front : List ℕ) × (byte : ℕ) × (behind : List ℕ) × ((fed ++ piece) ++ rest ≡ front ++ byte ∷ behind) × GoesWell front byte
+short_on fed piece p q e f rest = (
+  fed ++ f.front,
+  f.byte,
+  f.behind ++ rest,
+  append_assoc fed piece rest ∙ ap (λ (xs : List ℕ). fed ++ (xs ++ rest)) f.whole ∙ ap (λ (xs : List ℕ). fed ++ xs) (append_assoc f.front (f.byte ∷ f.behind) rest)
+      ∙ sym (append_assoc fed f.front (f.byte ∷ (f.behind ++ rest))),
+  subst (λ (xs : List ℕ). GoesWell (xs ++ f.front) f.byte) e f.well,
+)
+
 stops_on : (e : DimacsError) (fed piece : List ℕ) (p q : Progress) → p.fed ≡ fed → p.stopped ≡ false → Feeds (Err e) piece p q → (rest : List ℕ) → Parses (Err e) ((fed ++ piece) ++ rest)
 stops_on (errors.Malformed line) fed piece p q e s f rest = (f.1, f.2, fault_ends (Malformed f.1) fed piece p q e f.3 rest)
 stops_on (errors.Limit line) fed piece p q e s f rest = (f.1, f.2, fault_ends (Limit f.1) fed piece p q e f.3 rest)
 stops_on errors.Read fed piece p q e s f rest = tt
-stops_on errors.OutOfMemory fed piece p q e s f rest = tt
+stops_on errors.OutOfMemory fed piece p q e s f rest = inl (short_on fed piece p q e f.1 rest)
 stops_on errors.HasFailed fed piece p q e s f rest = absurd (let g : ◌≡◌ {A = Bool} true false = sym f.0 ∙ s in cc)
 
 pub parse_stops : (a b c : Option (List ℕ)) (e : DimacsError) (fed piece : List ℕ) (p q : Progress) → p ≡ with_fed fed no_progress → Feeds (Err e) piece p q → Consumes a b fed → Consumes b c piece
@@ -61,7 +73,7 @@ ends_by : (e : DimacsError) (fed : List ℕ) (p q : Progress) → Stands fed p �
 ends_by (errors.Malformed line) fed p q is f = (f.2, f.3, ap (λ (k : Progress). (dimacs k.fed).ending) (sym is) ∙ f.4)
 ends_by (errors.Limit line) fed p q is f = (f.2, f.3, ap (λ (k : Progress). (dimacs k.fed).ending) (sym is) ∙ f.4)
 ends_by errors.Read fed p q is f = tt
-ends_by errors.OutOfMemory fed p q is f = tt
+ends_by errors.OutOfMemory fed p q is f = inr (ap (λ (k : Progress). (dimacs k.fed).ending) (sym is) ∙ f.2)
 ends_by errors.HasFailed fed p q is f = absurd (let g : ◌≡◌ {A = Bool} true false = sym f.0 ∙ ap (λ (k : Progress). k.stopped) is in cc)
 
 pub finishing_stops : (a b c : Option (List ℕ)) (K : Type 0) (e : DimacsError) (fed : List ℕ) (p q : Progress) → (K → Stands fed p) → Finishes (Err e) p q → Consumes a b fed → Consumes b c [] → IsAtEnd c

@@ -73,3 +73,36 @@ pub plain_given : (machine : Tokenizer) (b l : ℕ) (t : Token) (left_of after :
 unfolding Stands
 plain_given machine b l t left_of after s e f h =
     blank_gives s.0 s.1 l t after (λ rest. ap (λ (k : Scan). k.tokens) (sym (blank_left s.0 s.1 b rest (IsSpot_of machine.place s.0 s.2) e f) ∙ sym (s.4 (b ∷ rest)) ∙ h rest))
+
+-- A blank that ends a word leaves none.
+abbrev tail_of : List (ℕ × Token) → List (ℕ × Token)
+tail_of [] = []
+tail_of (x ∷ xs) = xs
+
+-- what is left at a spot where the text ends
+left_at : (spot : Spot) (n : ℕ) → IsSpot spot → (left spot n []).tokens ≡ in_hand spot n
+left_at spot n i = ap (λ (k : Scan). k.tokens) (end_left spot n i)
+
+none_then : (spot : Spot) (n l : ℕ) (t : Token) (ts : List (ℕ × Token)) → IsSpot spot → in_hand spot n ≡ [] → (left spot n []).tokens ≡ (l, t) ∷ ts → ts ≡ []
+none_then spot n l t ts i h e = cons_not_nil (l, t) ts (ts ≡ []) (sym (left_at spot n i ∙ h) ∙ e)
+
+word_then : (o : Option Stage) (n l : ℕ) (t : Token) (ts : List (ℕ × Token)) → spoils o n ++ (left (behind_header_word o) n []).tokens ≡ (l, t) ∷ ts → ts ≡ []
+word_then None n l t ts e = sym (ap tail_of e) ∙ left_at (Comment false) n tt
+word_then (Some s) n l t ts e = sym (ap tail_of (sym (left_at (HeaderBetween s) n tt) ∙ e))
+
+blank_then : (spot : Spot) (n l : ℕ) (t : Token) (ts : List (ℕ × Token)) → ended_by_blank spot n ++ (left (behind_blank spot) n []).tokens ≡ (l, t) ∷ ts → ts ≡ []
+blank_then (Fresh may) n l t ts e = none_then (Leading may) n l t ts tt refl e
+blank_then (Leading may) n l t ts e = none_then (Leading may) n l t ts tt refl e
+blank_then (Comment may) n l t ts e = none_then (Comment may) n l t ts tt refl e
+blank_then Between n l t ts e = none_then Between n l t ts tt refl e
+blank_then (Within x w) n l t ts e = sym (ap tail_of e) ∙ left_at Between n tt
+blank_then (HeaderBetween s) n l t ts e = sym (ap tail_of (sym (left_at (HeaderBetween s) n tt) ∙ e))
+blank_then (HeaderWithin s x w) n l t ts e = word_then (stage_behind s (x ∷ w)) n l t ts e
+blank_then Spoilt n l t ts e = sym (ap tail_of e) ∙ left_at (Comment false) n tt
+blank_then Over n l t ts e = none_then Over n l t ts tt refl e
+
+pub alone_given : (machine : Tokenizer) (b l : ℕ) (t : Token) (left_of after : List ℕ → Scan) → Stands machine left_of → nat_eq b 10 ≡ false → is_blank b ≡ true
+    → ((rest : List ℕ) → left_of (b ∷ rest) ≡ onto ((l, t) ∷ []) (after rest)) → (after []).tokens ≡ []
+unfolding Stands
+alone_given machine b l t left_of after s e f h =
+    blank_then s.0 s.1 l t (after []).tokens (ap (λ (k : Scan). k.tokens) (sym (blank_left s.0 s.1 b [] (IsSpot_of machine.place s.0 s.2) e f) ∙ sym (s.4 (b ∷ [])) ∙ h []))

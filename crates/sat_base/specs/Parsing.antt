@@ -3,7 +3,7 @@ use Rattle.std.specs.Borrow.{MutBor}
 use Rattle.std.specs.List.{FoldsTo, concat}
 use Rattle.std.specs.Io.KnownBytes.{Consumes, IsAtEnd}
 use Rattle.std.specs.Prelude.{◌≡◌, ◌<◌, ◌⊎◌, ℕ, length, nat_eq, List, [], ◌∷◌, ◌++◌, Bool, true, false, ◌||◌, Option, None, Some, Result, Ok, Err, if◌then◌else◌}
-use Rattle.sat_base.specs.Text.{Token, tokens}
+use Rattle.sat_base.specs.Text.{is_blank, Token, tokens}
 use Rattle.sat_base.specs.Tokenizing.{held}
 use Rattle.sat_base.specs.Formulas.{Formula, vars_of}
 use Rattle.sat_base.specs.Dimacs.{Ending, Clean, Malformed, Limit, Hand, Turn, GoesOn, Ends, Fails, turn, dimacs, settled, IsDimacs}
@@ -91,12 +91,18 @@ pub record Faults (ending : Ending) (piece : List ℕ) (old new : Progress) : Ty
   pub progress : new ≡ at_its_end (with_fed front old)
   pub ends : EndsAt ending new
 
--- a front of the piece was taken, and there was no memory for the next byte
+-- behind this text the byte ends a word, and up to there none is at fault
+abbrev pub GoesWell : List ℕ → ℕ → Type 0
+GoesWell text byte = (is_blank byte ≡ true) × NoFault None (tokens (text ++ byte ∷ []))
+
+-- a front of the piece was taken, and there was no memory for the word that the next byte ends
 pub record FallsShort (piece : List ℕ) (old new : Progress) : Type 0 where
   pub front : List ℕ
+  pub byte : ℕ
   pub behind : List ℕ
-  pub whole : piece ≡ front ++ behind
+  pub whole : piece ≡ front ++ byte ∷ behind
   pub progress : new ≡ cut_short (with_fed front old)
+  pub well : GoesWell (old.fed ++ front) byte
 
 -- what a piece is answered by
 abbrev pub Feeds : Result (Unit {0}) DimacsError → List ℕ → Progress → Progress → Type 0
@@ -116,12 +122,16 @@ Finishes (Err errors.OutOfMemory) old new = (old.stopped ≡ false) × (new ≡ 
 Finishes (Err errors.HasFailed) old new = (old.stopped ≡ true) × (new ≡ old)
 Finishes (Err errors.Read) old new = ⊥
 
+-- there was no memory for a word of the text up to which none is at fault, or for the last one of a text that ends cleanly
+abbrev pub ParsesShort : List ℕ → Type 0
+ParsesShort text = ((front : List ℕ) × (byte : ℕ) × (behind : List ℕ) × (text ≡ front ++ byte ∷ behind) × GoesWell front byte) ⊎ ((dimacs text).ending ≡ Clean)
+
 -- what a whole text is answered by
 abbrev pub Parses : Result Formula DimacsError → List ℕ → Type 0
 Parses (Ok f) text = IsDimacs text f.clauses Clean × (f.var_count ≡ vars_of f.clauses)
 Parses (Err (errors.Malformed line)) text = (n : ℕ) × (line ≡ held n) × ((dimacs text).ending ≡ Malformed n)
 Parses (Err (errors.Limit line)) text = (n : ℕ) × (line ≡ held n) × ((dimacs text).ending ≡ Limit n)
-Parses (Err errors.OutOfMemory) text = Unit {0}
+Parses (Err errors.OutOfMemory) text = ParsesShort text
 Parses (Err errors.Read) text = Unit {0}
 Parses (Err errors.HasFailed) text = ⊥
 

@@ -1,8 +1,12 @@
-use Rattle.std.proofs.Common.{None, Some, Err, refl, true}
+use Rattle.std.proofs.Common.{ℕ, List, [], ◌∷◌, ◌++◌, None, Some, Err, refl, sym, ap, subst, true}
+use Rattle.std.proofs.lemmas.List.{append-nil}
 use Rattle.sat_base.specs.declared.dimacs.clauses.Refusal.TheVariants as refusal
+use Rattle.sat_base.specs.declared.dimacs.parser.Parser.{Parser}
 use Rattle.sat_base.specs.Collecting.{Collects, token_of}
+use Rattle.sat_base.specs.Parsing.{GoesWell, cut_short}
+use Rattle.sat_base.specs.Standing.{progress_of}
 use Rattle.sat_base.specs.Dimacs.{Malformed, Limit}
-use Rattle.sat_base.proofs.Feeding.{pushed, push_none, push_some, FaultAt, push_fails}
+use Rattle.sat_base.proofs.Feeding.{pushed, push_none, push_some, push_short, fed_none, FaultAt, push_fails}
 use Rattle.sat_base.proofs.dimacs.parser.Parser.push.Goals as goal
 
 pub returns-in_default-clause-parser : goal.returns-in_default-clause-parser
@@ -42,3 +46,21 @@ returns-in-Err-Limit-clause-parser c = (at_limit c).parser
 
 pub returns-in-Err-Limit-clause-answer : goal.returns-in-Err-Limit-clause-answer
 returns-in-Err-Limit-clause-answer c = let f = at_limit c in (c.requires.open, f.n, f.shown, f.faults)
+
+pub returns-in-Err-OutOfMemory-clause-answer : goal.returns-in-Err-OutOfMemory-clause-answer
+returns-in-Err-OutOfMemory-clause-answer c =
+    let old = c.args.self.now in
+    let p = pushed old.tokenizer c.push.new.self c.args.byte (Some c.in-Some.token) c.in-Some.ensures.takes c.in-Some.ensures.inside c.in-Some.ensures.quiet c.in-Some.ensures.ended in
+    let e : Collects (Err refusal.OutOfMemory) old.clauses (token_of c.in-Some.token) c.take.new.self = rw c.in-Err-OutOfMemory.field-0-is at c.in-Err-OutOfMemory.ensures in
+    let taken : Parser = record old { tokenizer = c.push.new.self; history = record { fed = old.history.fed ++ c.args.byte ∷ []; taken = old.history.taken } } in (
+      c.requires.open,
+      record {
+        front = [];
+        byte = c.args.byte;
+        behind = [];
+        whole = refl;
+        progress = ap cut_short (fed_none (progress_of old));
+        well = subst (λ (text : List ℕ). GoesWell text c.args.byte) (sym (append-nil old.history.fed))
+            (push_short old taken c.args.byte c.in-Some.token c.requires.parser c.requires.open p (record { fed = refl; taken = refl }) e.1);
+      },
+    )
