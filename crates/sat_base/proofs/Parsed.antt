@@ -39,7 +39,7 @@ short_on fed piece p q e f rest = (
   subst (λ (xs : List ℕ). GoesWell (xs ++ f.front) f.byte) e f.well,
 )
 
-stops_on : (e : DimacsError) (fed piece : List ℕ) (p q : Progress) → p.fed ≡ fed → p.stopped ≡ false → Feeds (Err e) piece p q → (rest : List ℕ) → Parses (Err e) ((fed ++ piece) ++ rest)
+pub stops_on : (e : DimacsError) (fed piece : List ℕ) (p q : Progress) → p.fed ≡ fed → p.stopped ≡ false → Feeds (Err e) piece p q → (rest : List ℕ) → Parses (Err e) ((fed ++ piece) ++ rest)
 stops_on (errors.Malformed line) fed piece p q e s f rest = (f.1, f.2, fault_ends (Malformed f.1) fed piece p q e f.3 rest)
 stops_on (errors.Limit line) fed piece p q e s f rest = (f.1, f.2, fault_ends (Limit f.1) fed piece p q e f.3 rest)
 stops_on errors.Read fed piece p q e s f rest = tt
@@ -64,12 +64,22 @@ took_none b c n buf e h = subst (λ (k : ℕ). Consumes b c (take k buf)) e h
 abbrev pub Stands : List ℕ → Progress → Type 0
 Stands fed p = p ≡ record (with_fed fed no_progress) { taken = p.taken }
 
+pub stands_of : (fed : List ℕ) (p : Progress) → p ≡ with_fed fed no_progress → Stands fed p
+stands_of fed p e = e ∙ ap (λ (t : List (List ℕ)). record (with_fed fed no_progress) { taken = t }) (sym (ap (λ (k : Progress). k.taken) e))
+
+-- nothing more was taken of a reader
+pub consumed_still : (a b c : Option (List ℕ)) (xs : List ℕ) → Consumes a b xs → Keeps b c → Consumes a c xs
+consumed_still None b c xs h k = tt
+consumed_still (Some s) None c xs h k = absurd h
+consumed_still (Some s) (Some t) None xs h k = absurd k
+consumed_still (Some s) (Some t) (Some u) xs h k = h ∙ ap (λ (z : List ℕ). xs ++ z) (sym k)
+
 pub feeding_stops : (a b c : Option (List ℕ)) (K : Type 0) (e : DimacsError) (fed piece : List ℕ) (p q : Progress) → (K → Stands fed p) → Feeds (Err e) piece p q → Consumes a b fed → Consumes b c piece
     → IfSome a (λ text. K → Parses (Err e) text)
 feeding_stops a b c K e fed piece p q is f h k = consumed_some a c (fed ++ piece) (λ (text : List ℕ). K → Parses (Err e) text) (consumes_more a b c fed piece h k) (λ rest met.
     stops_on e fed piece p q (ap (λ (k : Progress). k.fed) (is met)) (ap (λ (k : Progress). k.stopped) (is met)) f rest)
 
-ends_by : (e : DimacsError) (fed : List ℕ) (p q : Progress) → Stands fed p → Finishes (Err e) p q → Parses (Err e) fed
+pub ends_by : (e : DimacsError) (fed : List ℕ) (p q : Progress) → Stands fed p → Finishes (Err e) p q → Parses (Err e) fed
 ends_by (errors.Malformed line) fed p q is f = (f.2, f.3, ap (λ (k : Progress). (dimacs k.fed).ending) (sym is) ∙ f.4)
 ends_by (errors.Limit line) fed p q is f = (f.2, f.3, ap (λ (k : Progress). (dimacs k.fed).ending) (sym is) ∙ f.4)
 ends_by errors.Read fed p q is f = tt

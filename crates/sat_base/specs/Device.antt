@@ -26,6 +26,11 @@ pub record GaveAll {R : Type 0} (given : R → List ℕ) (ended : R → Bool) (r
   pub told : Consumes (remaining old) (remaining new) text
   pub over : IsAtEnd (remaining new)
 
+-- or a front of it
+pub record GaveFront {R : Type 0} (given : R → List ℕ) (remaining : R → Option (List ℕ)) (old new : R) (text : List ℕ) : Type 0 where
+  pub gave : given new ≡ given old ++ text
+  pub told : Consumes (remaining old) (remaining new) text
+
 -- of calls that end with the first failed one: `Ok` keeps the count, and an `Err` is that one
 abbrev pub RaisesOnErr : {T E : Type 0} → Result T E → ℕ → ℕ → Type 0
 RaisesOnErr r old new = MatchResult r (λ _. new ≡ old) (λ _. new ≡ old + 1)

@@ -135,6 +135,11 @@ Parses (Err errors.OutOfMemory) text = ParsesShort text
 Parses (Err errors.Read) text = Unit {0}
 Parses (Err errors.HasFailed) text = ⊥
 
+-- what a text that was given is answered by: it is all, or a front, whatever would follow
+abbrev pub ParsesGiven : (List ℕ → Type 0) → (List ℕ → Type 0) → Result Formula DimacsError → Type 0
+ParsesGiven IsAll IsFront (Ok f) = (text : List ℕ) × IsAll text × Parses (Ok f) text
+ParsesGiven IsAll IsFront (Err e) = ((text : List ℕ) × IsAll text × Parses (Err e) text) ⊎ ((text : List ℕ) × IsFront text × ((rest : List ℕ) → Parses (Err e) (text ++ rest)))
+
 -- the calls of a closure that is lent a parser
 abbrev pub Calls : Type 0 → Type 0 → Type 1
 Calls F E = F → MutBor Progress → Result (Unit {0}) E → MutBor Progress → F → Type 0

@@ -1,12 +1,12 @@
 //! Formulas' texts, read in any pieces.
 ghost use Rattle.std.specs.Prelude.{◌≡◌, ◌≤◌, ◌<◌, ◌+◌, ◌++◌, ◌⊎◌, length, OnOk, IfSome, IsErrOf};
 ghost use Rattle.std.specs.Io.KnownBytes.{IsAtEnd};
-ghost use Rattle.sat_base.specs.Device.{most_reads};
+ghost use Rattle.sat_base.specs.Device.{most_reads, GaveAll, GaveFront};
 ghost use Rattle.sat_base.specs.Literals.{largest};
 ghost use Rattle.sat_base.specs.Text.{header_of};
 ghost use Rattle.sat_base.specs.Tokenizing.{held};
 ghost use Rattle.sat_base.specs.Formulas.{vars_of};
-ghost use Rattle.sat_base.specs.Parsing.{no_progress, clauses_read, lines_read, held_numbers, all_taken, Feeds, IsSound, Finishes, Parses, KeepsText, ParsesInParts, VisitsAll};
+ghost use Rattle.sat_base.specs.Parsing.{no_progress, clauses_read, lines_read, held_numbers, all_taken, Feeds, IsSound, Finishes, Parses, ParsesGiven, KeepsText, ParsesInParts, VisitsAll};
 
 mod clauses;
 pub mod error;
@@ -104,7 +104,9 @@ impl DimacsParser {
 
     /// Reads a formula to the end of its text.
     pub fn parse<R: CountedRead>(alloc: Global, reader: &mut R) -> Result<CnfFormula, DimacsError>
-        // Where the reader tells its bytes, the formula and the faults are those of the text.
+        // The formula and the faults are those of the text that was given, to its end or to the fault,
+        ensures given { ParsesGiven (GaveAll R.given R.ended R.remaining reader.old reader.new) (GaveFront R.given R.remaining reader.old reader.new) result }
+        // and where the reader tells its bytes, of all that there are.
         ensures parsed { IfSome (R.remaining reader.old) (Parses result) }
         ensures end { OnOk result (IsAtEnd (R.remaining reader.new)) }
         // A read has failed only where the answer is that, and none is tried again.
