@@ -10,6 +10,7 @@ use Rattle.sat_base.specs.declared.dimacs.error.DimacsError.{DimacsError}
 use Rattle.sat_base.specs.declared.dimacs.error.DimacsError.TheVariants as errors
 use Rattle.sat_base.specs.Dimacs.{Ending, Malformed, Limit, Clean, Dimacs, dimacs, settled}
 use Rattle.sat_base.specs.Parsing.{Progress, no_progress, with_fed, at_its_end, Faults, FallsShort, GoesWell, Feeds, Finishes, Parses, Calls, KeepsText, clauses_read}
+use Rattle.sat_base.specs.Device.{GaveFront}
 use Rattle.sat_base.specs.Tokenizing.{held}
 use Rattle.sat_base.proofs.Known.{consumes_more}
 
@@ -131,6 +132,30 @@ consumed_kept (Some s) (Some t) (Some u) xs h k = h ∙ ap (λ (z : List ℕ). z
 
 pub consumed_alone : (a b : Option (List ℕ)) (xs : List ℕ) → Consumes a b xs → Consumes a b (xs ++ [])
 consumed_alone a b xs h = subst (Consumes a b) (sym (append-nil xs)) h
+
+-- a piece more was given, or none
+pub front_more : {R : Type 0} (given : R → List ℕ) (remaining : R → Option (List ℕ)) (old mid new : R) (pieces : List (List ℕ)) (piece : List ℕ) → GaveFront given remaining old mid (concat pieces)
+    → given new ≡ given mid ++ piece → Consumes (remaining mid) (remaining new) piece → GaveFront given remaining old new (concat pieces ++ piece)
+front_more given remaining old mid new pieces piece f e h = record {
+  gave = e ∙ ap (λ (xs : List ℕ). xs ++ piece) f.gave ∙ append_assoc (given old) (concat pieces) piece;
+  told = consumes_more (remaining old) (remaining mid) (remaining new) (concat pieces) piece f.told h;
+}
+
+pub front_joined : {R : Type 0} (given : R → List ℕ) (remaining : R → Option (List ℕ)) (old new : R) (pieces : List (List ℕ)) (piece : List ℕ) → GaveFront given remaining old new (concat pieces ++ piece)
+    → GaveFront given remaining old new (concat (pieces ++ (piece ∷ [])))
+front_joined given remaining old new pieces piece f = subst (GaveFront given remaining old new) (joined_more pieces piece) f
+
+pub front_still : {R : Type 0} (given : R → List ℕ) (remaining : R → Option (List ℕ)) (old mid new : R) (pieces : List (List ℕ)) → GaveFront given remaining old mid (concat pieces)
+    → given new ≡ given mid → Keeps (remaining mid) (remaining new) → GaveFront given remaining old new (concat pieces ++ [])
+front_still given remaining old mid new pieces f e h =
+    subst (GaveFront given remaining old new) (sym (append-nil (concat pieces)))
+    (record { gave = e ∙ f.gave; told = consumed_still (remaining old) (remaining mid) (remaining new) (concat pieces) f.told h })
+
+pub front_alone : {R : Type 0} (given : R → List ℕ) (remaining : R → Option (List ℕ)) (old new : R) (pieces : List (List ℕ)) → GaveFront given remaining old new (concat pieces) → GaveFront given remaining old new (concat pieces ++ [])
+front_alone given remaining old new pieces f = subst (GaveFront given remaining old new) (sym (append-nil (concat pieces))) f
+
+pub took_nothing : (a b : List ℕ) (n : ℕ) (buf : List ℕ) → n ≡ 0 → b ≡ a ++ take n buf → b ≡ a ++ []
+took_nothing a b n buf e h = subst (λ (k : ℕ). b ≡ a ++ take k buf) e h
 
 pub piece_given : (n : ℕ) (buf : List ℕ) → n ≤ length buf → 0 < n → 0 < length (take n buf)
 piece_given n buf h k = let e = length-take-le n buf h in omega arith

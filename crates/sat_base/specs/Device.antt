@@ -31,6 +31,11 @@ pub record GaveFront {R : Type 0} (given : R → List ℕ) (remaining : R → Op
   pub gave : given new ≡ given old ++ text
   pub told : Consumes (remaining old) (remaining new) text
 
+-- and is at its end now
+pub record IsOver {R : Type 0} (ended : R → Bool) (remaining : R → Option (List ℕ)) (r : R) : Type 0 where
+  pub ends : ended r ≡ true
+  pub over : IsAtEnd (remaining r)
+
 -- of calls that end with the first failed one: `Ok` keeps the count, and an `Err` is that one
 abbrev pub RaisesOnErr : {T E : Type 0} → Result T E → ℕ → ℕ → Type 0
 RaisesOnErr r old new = MatchResult r (λ _. new ≡ old) (λ _. new ≡ old + 1)

@@ -1,7 +1,6 @@
 -- What a parser of formulas' texts makes of the bytes that it is fed.
 use Rattle.std.specs.Borrow.{MutBor}
 use Rattle.std.specs.List.{FoldsTo, concat}
-use Rattle.std.specs.Io.KnownBytes.{Consumes, IsAtEnd}
 use Rattle.std.specs.Prelude.{◌≡◌, ◌<◌, ◌⊎◌, ℕ, length, nat_eq, List, [], ◌∷◌, ◌++◌, Bool, true, false, ◌||◌, Option, None, Some, Result, Ok, Err, if◌then◌else◌}
 use Rattle.sat_base.specs.Text.{is_blank, Token, tokens}
 use Rattle.sat_base.specs.Tokenizing.{held}
@@ -167,16 +166,16 @@ Visits calls s answer t = (p : MutBor Progress) × (q : MutBor Progress) × (p.n
 abbrev pub FeedsAndVisits : {F E : Type 0} → Calls F E → F × Progress → List ℕ → F × Progress → Type 0
 FeedsAndVisits calls s piece t = (0 < length piece) × (fed : Progress) × Feeds (Ok tt) piece s.1 fed × IsSound fed × Visits calls (s.0, fed) (Ok tt) t
 
--- an answer to a last piece, or to the end of the reader's bytes
-abbrev pub Answers : Result (Unit {0}) DimacsError → List ℕ → Option (List ℕ) → Progress → Progress → Type 0
-Answers answer piece rest old new = ((0 < length piece) × Feeds answer piece old new) ⊎ ((piece ≡ []) × IsAtEnd rest × Finishes answer old new)
+-- an answer to a last piece, or to the end of what the reader gave
+abbrev pub Answers : Result (Unit {0}) DimacsError → List ℕ → Type 0 → Progress → Progress → Type 0
+Answers answer piece AtEnd old new = ((0 < length piece) × Feeds answer piece old new) ⊎ ((piece ≡ []) × AtEnd × Finishes answer old new)
 
 -- what comes behind the pieces that were taken and seen: the closure has the parser once more, unless a read has failed
-abbrev pub LastVisit : {F E : Type 0} → Calls F E → List ℕ → Option (List ℕ) → Result Progress (IncrementalError E) → F × Progress → Type 0
-LastVisit {F} calls piece rest (Ok p) s = (piece ≡ []) × (mid : Progress) × (f : F) × Finishes (Ok tt) s.1 mid × Visits calls (s.0, mid) (Ok tt) (f, p)
-LastVisit {F} calls piece rest (Err (parts.Dimacs e)) s = ((e ≡ errors.Read) × (piece ≡ [])) ⊎ ((mid : Progress) × (t : F × Progress) × Answers (Err e) piece rest s.1 mid × Visits calls (s.0, mid) (Ok tt) t)
-LastVisit {F} calls piece rest (Err (parts.Caller e)) s = (answer : Result (Unit {0}) DimacsError) × (mid : Progress) × (t : F × Progress) × Answers answer piece rest s.1 mid × Visits calls (s.0, mid) (Err e) t
+abbrev pub LastVisit : {F E : Type 0} → Calls F E → List ℕ → Type 0 → Result Progress (IncrementalError E) → F × Progress → Type 0
+LastVisit {F} calls piece AtEnd (Ok p) s = (piece ≡ []) × AtEnd × (mid : Progress) × (f : F) × Finishes (Ok tt) s.1 mid × Visits calls (s.0, mid) (Ok tt) (f, p)
+LastVisit {F} calls piece AtEnd (Err (parts.Dimacs e)) s = ((e ≡ errors.Read) × (piece ≡ [])) ⊎ ((mid : Progress) × (t : F × Progress) × Answers (Err e) piece AtEnd s.1 mid × Visits calls (s.0, mid) (Ok tt) t)
+LastVisit {F} calls piece AtEnd (Err (parts.Caller e)) s = (answer : Result (Unit {0}) DimacsError) × (mid : Progress) × (t : F × Progress) × Answers answer piece AtEnd s.1 mid × Visits calls (s.0, mid) (Err e) t
 
--- the closure had the parser after each piece that the reader gave, and after the end
-abbrev pub VisitsAll : {F E : Type 0} → Calls F E → F → Option (List ℕ) → Option (List ℕ) → Result Progress (IncrementalError E) → Type 0
-VisitsAll {F} calls f bytes rest result = (pieces : List (List ℕ)) × (last : List ℕ) × (s : F × Progress) × FoldsTo (FeedsAndVisits calls) (f, no_progress) pieces s × LastVisit calls last rest result s × Consumes bytes rest (concat pieces ++ last)
+-- the closure had the parser after each piece that the reader gave, and after the end; that the pieces were given is handed in, and that the reader is at its end
+abbrev pub VisitsAll : {F E : Type 0} → Calls F E → F → (List ℕ → Type 0) → Type 0 → Result Progress (IncrementalError E) → Type 0
+VisitsAll {F} calls f IsFront AtEnd result = (pieces : List (List ℕ)) × (last : List ℕ) × (s : F × Progress) × FoldsTo (FeedsAndVisits calls) (f, no_progress) pieces s × LastVisit calls last AtEnd result s × IsFront (concat pieces ++ last)

@@ -1,7 +1,7 @@
 //! Formulas' texts, read in any pieces.
 ghost use Rattle.std.specs.Prelude.{◌≡◌, ◌≤◌, ◌<◌, ◌+◌, ◌++◌, ◌⊎◌, length, OnOk, IfSome, IsErrOf};
 ghost use Rattle.std.specs.Io.KnownBytes.{IsAtEnd};
-ghost use Rattle.sat_base.specs.Device.{most_reads, GaveAll, GaveFront};
+ghost use Rattle.sat_base.specs.Device.{most_reads, GaveAll, GaveFront, IsOver};
 ghost use Rattle.sat_base.specs.Literals.{largest};
 ghost use Rattle.sat_base.specs.Text.{header_of};
 ghost use Rattle.sat_base.specs.Tokenizing.{held};
@@ -144,7 +144,7 @@ impl DimacsParser {
         // and those that wait are then the text's, too, by what `take_formula` ensures.
         ensures parsed { IfSome (R.remaining reader.old) (λ text. KeepsText (λ f p r q g. F.step f p r q g) closure → ParsesInParts result text) }
         // Whatever the closure does, it had the parser after each piece that the reader gave.
-        ensures visited { VisitsAll (λ f p r q g. F.step f p r q g) closure (R.remaining reader.old) (R.remaining reader.new) result }
+        ensures visited { VisitsAll (λ f p r q g. F.step f p r q g) closure (GaveFront R.given R.remaining reader.old reader.new) (IsOver R.ended R.remaining reader.new) result }
         ensures end { OnOk result (IsAtEnd (R.remaining reader.new)) }
         // A read has failed only where the answer is that, and none is tried again.
         ensures kept { IsErrOf result (IncrementalError.Dimacs DimacsError.Read) ⊎ (R.failures reader.new ≡ R.failures reader.old) }

@@ -1,7 +1,7 @@
 use Rattle.std.proofs.Common.{◌≡◌, ◌+◌, List, ℕ}
 use Rattle.std.specs.List.{FoldsTo, concat}
-use Rattle.std.specs.Io.KnownBytes.{Consumes}
 use denote.Param.Always.{always_mut}
+use Rattle.sat_base.specs.Device.{GaveFront}
 use Rattle.sat_base.specs.Parsing.{no_progress, KeepsText, FeedsAndVisits}
 use Rattle.sat_base.proofs.Parsed.{Stands}
 use Rattle.sat_base.proofs.dimacs.DimacsParser.parse_incremental.Given as goal
@@ -10,7 +10,7 @@ abbrev pub invariant-loop : goal.invariant-loop
 invariant-loop g l = record {
   always : always_mut g.F.FnMut l.initial.closure → always_mut g.F.FnMut l.closure;
   visited : (pieces : List (List ℕ)) × FoldsTo (FeedsAndVisits (λ f p r q h. goal.F-step g f p r q h)) (l.initial.closure, no_progress) pieces (l.closure, l.parser)
-      × Consumes (g.R.Read.remaining l.fn.reader) (g.R.Read.remaining l.reader) (concat pieces)
+      × GaveFront g.R.CountedRead.given g.R.Read.remaining l.fn.reader l.reader (concat pieces)
       × (KeepsText (λ f p r q h. goal.F-step g f p r q h) l.initial.closure → KeepsText (λ f p r q h. goal.F-step g f p r q h) l.closure × Stands (concat pieces) l.parser);
   failures : g.R.CountedRead.failures l.reader ≡ g.R.CountedRead.failures l.fn.reader;
   calls : g.R.CountedRead.calls l.reader ≡ g.R.CountedRead.calls l.fn.reader + l.counter;
