@@ -10,7 +10,7 @@ use Rattle.sat_base.specs.declared.dimacs.error.DimacsError.{DimacsError}
 use Rattle.sat_base.specs.declared.dimacs.error.DimacsError.TheVariants as errors
 use Rattle.sat_base.specs.Dimacs.{Ending, Malformed, Limit, Clean, Dimacs, dimacs, settled}
 use Rattle.sat_base.specs.Parsing.{Progress, no_progress, with_fed, at_its_end, Faults, FallsShort, GoesWell, Feeds, Finishes, Parses, Calls, KeepsText, clauses_read}
-use Rattle.sat_base.specs.Device.{GaveFront}
+use Rattle.sat_base.specs.Device.{GaveAll, GaveFront, IsOver}
 use Rattle.sat_base.specs.Tokenizing.{held}
 use Rattle.sat_base.proofs.Known.{consumes_more}
 
@@ -153,6 +153,16 @@ front_still given remaining old mid new pieces f e h =
 
 pub front_alone : {R : Type 0} (given : R → List ℕ) (remaining : R → Option (List ℕ)) (old new : R) (pieces : List (List ℕ)) → GaveFront given remaining old new (concat pieces) → GaveFront given remaining old new (concat pieces ++ [])
 front_alone given remaining old new pieces f = subst (GaveFront given remaining old new) (sym (append-nil (concat pieces))) f
+
+-- the reader is at its end behind these pieces
+pub all_given : {R : Type 0} (given : R → List ℕ) (ended : R → Bool) (remaining : R → Option (List ℕ)) (old new : R) (pieces : List (List ℕ)) → GaveFront given remaining old new (concat pieces ++ []) → IsOver ended remaining new
+    → GaveAll given ended remaining old new (concat pieces)
+all_given given ended remaining old new pieces f o =
+    let g : GaveFront given remaining old new (concat pieces) = subst (GaveFront given remaining old new) (append-nil (concat pieces)) f in
+    record { gave = g.gave; ends = o.ends; told = g.told; over = o.over }
+
+pub parts_clean : (K : Type 0) (fed : List ℕ) (p q r : Progress) → (K → Stands fed p) → (K → r ≡ record q { taken = r.taken }) → (q ≡ at_its_end p) × ((dimacs p.fed).ending ≡ Clean) → K → Ended fed r
+parts_clean K fed p q r is kept f = finishes_clean (Some fed) (Some []) (Some []) K fed p q r is kept f (sym (append-nil fed)) refl refl
 
 pub took_nothing : (a b : List ℕ) (n : ℕ) (buf : List ℕ) → n ≡ 0 → b ≡ a ++ take n buf → b ≡ a ++ []
 took_nothing a b n buf e h = subst (λ (k : ℕ). b ≡ a ++ take k buf) e h

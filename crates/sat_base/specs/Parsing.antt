@@ -134,10 +134,14 @@ Parses (Err errors.OutOfMemory) text = ParsesShort text
 Parses (Err errors.Read) text = Unit {0}
 Parses (Err errors.HasFailed) text = ⊥
 
--- what a text that was given is answered by: it is all, or a front, whatever would follow
+-- a text that was given is at fault: it is all, or a front, whatever would follow
+abbrev pub FaultGiven : (List ℕ → Type 0) → (List ℕ → Type 0) → DimacsError → Type 0
+FaultGiven IsAll IsFront e = ((text : List ℕ) × IsAll text × Parses (Err e) text) ⊎ ((text : List ℕ) × IsFront text × ((rest : List ℕ) → Parses (Err e) (text ++ rest)))
+
+-- what a text that was given is answered by
 abbrev pub ParsesGiven : (List ℕ → Type 0) → (List ℕ → Type 0) → Result Formula DimacsError → Type 0
 ParsesGiven IsAll IsFront (Ok f) = (text : List ℕ) × IsAll text × Parses (Ok f) text
-ParsesGiven IsAll IsFront (Err e) = ((text : List ℕ) × IsAll text × Parses (Err e) text) ⊎ ((text : List ℕ) × IsFront text × ((rest : List ℕ) → Parses (Err e) (text ++ rest)))
+ParsesGiven IsAll IsFront (Err e) = FaultGiven IsAll IsFront e
 
 -- the calls of a closure that is lent a parser
 abbrev pub Calls : Type 0 → Type 0 → Type 1
@@ -152,11 +156,21 @@ KeepsEach {F} {E} calls f (p ∷ ps) = (answer : Result (Unit {0}) E) (q : MutBo
 abbrev pub KeepsText : {F E : Type 0} → Calls F E → F → Type 0
 KeepsText calls f = (ps : List (MutBor Progress)) → KeepsEach calls f ps
 
+-- the parser has read a text that ends cleanly
+abbrev pub HasRead : Progress → List ℕ → Type 0
+HasRead p text = (p.fed ≡ text) × (p.stopped ≡ true) × (p.ended ≡ true) × ((dimacs text).ending ≡ Clean)
+
 -- what a whole text is answered by where a caller sees each piece's clauses
 abbrev pub ParsesInParts : {E : Type 0} → Result Progress (IncrementalError E) → List ℕ → Type 0
-ParsesInParts (Ok p) text = (p.fed ≡ text) × (p.stopped ≡ true) × (p.ended ≡ true) × ((dimacs text).ending ≡ Clean)
+ParsesInParts (Ok p) text = HasRead p text
 ParsesInParts (Err (parts.Dimacs e)) text = Parses (Err e) text
 ParsesInParts (Err (parts.Caller e)) text = Unit {0}
+
+-- and where the text was given
+abbrev pub ParsesPartsGiven : {E : Type 0} → (List ℕ → Type 0) → (List ℕ → Type 0) → Result Progress (IncrementalError E) → Type 0
+ParsesPartsGiven IsAll IsFront (Ok p) = (text : List ℕ) × IsAll text × HasRead p text
+ParsesPartsGiven IsAll IsFront (Err (parts.Dimacs e)) = FaultGiven IsAll IsFront e
+ParsesPartsGiven IsAll IsFront (Err (parts.Caller e)) = Unit {0}
 
 -- the closure has the parser, and answers; both may change
 abbrev pub Visits : {F E : Type 0} → Calls F E → F × Progress → Result (Unit {0}) E → F × Progress → Type 0

@@ -6,7 +6,7 @@ ghost use Rattle.sat_base.specs.Literals.{largest};
 ghost use Rattle.sat_base.specs.Text.{header_of};
 ghost use Rattle.sat_base.specs.Tokenizing.{held};
 ghost use Rattle.sat_base.specs.Formulas.{vars_of};
-ghost use Rattle.sat_base.specs.Parsing.{no_progress, clauses_read, lines_read, held_numbers, all_taken, Feeds, IsSound, Finishes, Parses, ParsesGiven, KeepsText, ParsesInParts, VisitsAll};
+ghost use Rattle.sat_base.specs.Parsing.{no_progress, clauses_read, lines_read, held_numbers, all_taken, Feeds, IsSound, Finishes, Parses, ParsesGiven, KeepsText, ParsesInParts, ParsesPartsGiven, VisitsAll};
 
 mod clauses;
 pub mod error;
@@ -140,8 +140,11 @@ impl DimacsParser {
         mut closure: F,
     ) -> Result<DimacsParser, IncrementalError<E>>
         requires { F.IsAlwaysCallable closure }
-        // Where the reader tells its bytes, and no call does more than take clauses, the answer is the text's. The clauses taken
-        // and those that wait are then the text's, too, by what `take_formula` ensures.
+        // Where no call does more than take clauses, the answer is that of the text that was given, to its end or to the fault,
+        ensures given { KeepsText (λ f p r q g. F.step f p r q g) closure
+            → ParsesPartsGiven (GaveAll R.given R.ended R.remaining reader.old reader.new) (GaveFront R.given R.remaining reader.old reader.new) result }
+        // and where the reader tells its bytes, of all that there are. The clauses taken and those that wait are then the text's,
+        // too, by what `take_formula` ensures.
         ensures parsed { IfSome (R.remaining reader.old) (λ text. KeepsText (λ f p r q g. F.step f p r q g) closure → ParsesInParts result text) }
         // Whatever the closure does, it had the parser after each piece that the reader gave.
         ensures visited { VisitsAll (λ f p r q g. F.step f p r q g) closure (GaveFront R.given R.remaining reader.old reader.new) (IsOver R.ended R.remaining reader.new) result }
