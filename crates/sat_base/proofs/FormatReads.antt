@@ -3,16 +3,24 @@ use Rattle.std.proofs.Common.{◌≡◌, ℕ, suc, List, [], ◌∷◌, ◌++◌
 use Rattle.std.proofs.lemmas.List.{append-nil}
 use Rattle.sat_base.specs.declared.error.StepError.{StepError}
 use Rattle.sat_base.specs.declared.error.StepError.TheVariants as errors
-use Rattle.sat_base.specs.Formats.{Format, Then, Times, ListOf, OneForm}
+use Rattle.sat_base.specs.Formats.{Format, Open, Then, Times, ListOf, OneForm}
 use Rattle.sat_base.specs.Reading.{Source, Passes, Reads, giving, valued}
 use Rattle.sat_base.proofs.Formats.{HasText, live_first, shut_first, live_second, shut_second, Times_text, to_items, from_items}
 use Rattle.sat_base.proofs.ReadLemmas.{passes_none, passes_more, faults_later}
+
+open_first : {A B : Type 0} (F : Format A) (G : A → Format B) (front : List ℕ) → ((x : A) → HasText (G x)) → Open F front → Open (Then F G) front
+open_first F G front some o =
+    let t = some o.0 in
+    ((o.0, t.0), o.1 ++ t.1, (front ++ o.1, t.1, o.2, t.2, sym (append_assoc front o.1 t.1)))
+
+open_second : {A B : Type 0} (F : Format A) (G : A → Format B) (x : A) (a front : List ℕ) → F x a → Open (G x) front → Open (Then F G) (a ++ front)
+open_second F G x a front f o = ((x, o.0), o.1, (a, front ++ o.1, f, o.2, append_assoc a front o.1))
 
 pub first_fails : {A B : Type 0} (F : Format A) (G : A → Format B) → OneForm F → ((x : A) → HasText (G x)) → (e : StepError) (old new : Source) → Reads F (Err e) old new → Reads (Then F G) (Err e) old new
 first_fails F G one some errors.Cut old new r = (r.0, r.1, live_first F G r.0 some r.2, r.3)
 first_fails F G one some errors.BadByte old new r = (r.0, r.1, r.2, live_first F G r.0 some r.3, shut_first F G one r.0 r.1 r.3 r.4)
 first_fails F G one some errors.Read old new r = r
-first_fails F G one some errors.OutOfMemory old new r = r
+first_fails F G one some errors.OutOfMemory old new r = (r.0, r.1, open_first F G r.0 some r.2)
 first_fails F G one some errors.Ends old new r = absurd r
 first_fails F G one some errors.HasFailed old new r = absurd r
 
@@ -21,7 +29,7 @@ second_gives F G one x a old mid new f p (Ok y) r = (a ++ r.0, passes_more old m
 second_gives F G one x a old mid new f p (Err errors.Cut) r = (a ++ r.0, passes_more old mid new a r.0 p r.1, live_second F G x a r.0 f r.2, r.3)
 second_gives F G one x a old mid new f p (Err errors.BadByte) r = (a ++ r.0, r.1, subst (Passes old new) (sym (append_assoc a r.0 (r.1 ∷ []))) (passes_more old mid new a (r.0 ++ r.1 ∷ []) p r.2), live_second F G x a r.0 f r.3, shut_second F G one x a r.0 r.1 f r.4)
 second_gives F G one x a old mid new f p (Err errors.Read) r = faults_later old mid new a p r
-second_gives F G one x a old mid new f p (Err errors.OutOfMemory) r = (a ++ r.0, passes_more old mid new a r.0 p r.1)
+second_gives F G one x a old mid new f p (Err errors.OutOfMemory) r = (a ++ r.0, passes_more old mid new a r.0 p r.1, open_second F G x a r.0 f r.2)
 second_gives F G one x a old mid new f p (Err errors.Ends) r = absurd r
 second_gives F G one x a old mid new f p (Err errors.HasFailed) r = absurd r
 
@@ -31,13 +39,9 @@ reads_as H K f to back (Ok x) old new r = (r.0, r.1, to x r.0 r.2)
 reads_as H K f to back (Err errors.Cut) old new r = (r.0, r.1, (f r.2.0, r.2.1, r.2.2, to r.2.0 (r.0 ++ r.2.1 ∷ r.2.2) r.2.3), r.3)
 reads_as H K f to back (Err errors.BadByte) old new r = (r.0, r.1, r.2, (f r.3.0, r.3.1, r.3.2, to r.3.0 (r.0 ++ r.3.1 ∷ r.3.2) r.3.3), λ o. let h = back o.0 ((r.0 ++ r.1 ∷ []) ++ o.1) o.2 in r.4 (h.0, o.1, h.1))
 reads_as H K f to back (Err errors.Read) old new r = r
-reads_as H K f to back (Err errors.OutOfMemory) old new r = r
+reads_as H K f to back (Err errors.OutOfMemory) old new r = (r.0, r.1, (f r.2.0, r.2.1, to r.2.0 (r.0 ++ r.2.1) r.2.2))
 reads_as H K f to back (Err errors.Ends) old new r = absurd r
 reads_as H K f to back (Err errors.HasFailed) old new r = absurd r
-
--- a value that was read, and then no room for it
-pub no_room : {A B : Type 0} (F : Format A) (G : Format B) (x : A) (old new : Source) → Reads F (Ok x) old new → Reads G (Err errors.OutOfMemory) old new
-no_room F G x old new r = (r.0, r.1)
 
 -- ITEMS
 abbrev pub with_front : {A : Type 0} → List A → Result (List A) StepError → Result (List A) StepError
@@ -82,8 +86,9 @@ counted_more {A} F one count left more xs x old mid later e i c = record {
 pub counted_fails : {A : Type 0} (F : Format A) → OneForm F → HasText F → (count left more : ℕ) (xs : List A) (old mid new : Source) (e : StepError) → left ≡ suc more → Reads F (Err e) mid new → Counted F count left xs old mid → Reads (Times F count) (Err e) old new
 counted_fails F one some count left more xs old mid new e is i c = c.rests (Err e) new (subst (λ (n : ℕ). Reads (Times F n) (Err e) mid new) (sym is) (item_fails F one some more e mid new i))
 
-pub counted_no_room : {A : Type 0} (F : Format A) (count left : ℕ) (xs : List A) (x : A) (old mid new : Source) → Reads F (Ok x) mid new → Counted F count left xs old mid → Reads (Times F count) (Err errors.OutOfMemory) old new
-counted_no_room F count left xs x old mid new i c = c.rests (Err errors.OutOfMemory) new (i.0, i.1)
+-- an item that was read, and then no room for it: some text has it there, and so many more behind it
+pub counted_no_room : {A : Type 0} (F : Format A) → OneForm F → HasText F → (count left more : ℕ) (xs : List A) (x : A) (old mid new : Source) → left ≡ suc more → Reads F (Ok x) mid new → Counted F count left xs old mid → Reads (Times F count) (Err errors.OutOfMemory) old new
+counted_no_room F one some count left more xs x old mid new is i c = (counted_more F one count left more xs x old mid new is i c).rests (Err errors.OutOfMemory) new ([], passes_none new, Times_text F some more)
 
 pub counted_all : {A : Type 0} (F : Format A) (count left : ℕ) (xs : List A) (old mid : Source) → left ≡ 0 → Counted F count left xs old mid → Reads (Times F count) (Ok xs) old mid
 counted_all {A} F count left xs old mid e c =

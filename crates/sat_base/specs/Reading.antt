@@ -55,13 +55,13 @@ ByteWithin (Err errors.Cut) old new = Passes old new [] × IsAtEnd new.to_come
 ByteWithin (Err errors.Read) old new = Faults old new
 ByteWithin (Err e) old new = ⊥
 
--- A value's text was taken; or the front of one, and the bytes are over; or such a front and a byte after which no text can follow.
+-- A value's text was taken; or the front of one, and the bytes are over; or such a front and a byte after which no text can follow. Want of memory comes where the bytes so far are the front of a text, or all of it.
 abbrev pub Reads : {A : Type 0} → Format A → Result A StepError → Source → Source → Type 0
 Reads F (Ok x) old new = (text : List ℕ) × Passes old new text × F x text
 Reads F (Err errors.Cut) old new = (text : List ℕ) × Passes old new text × Live F text × IsAtEnd new.to_come
 Reads F (Err errors.BadByte) old new = (front : List ℕ) × (byte : ℕ) × Passes old new (front ++ byte ∷ []) × Live F front × (Open F (front ++ byte ∷ []) → ⊥)
 Reads F (Err errors.Read) old new = Faults old new
-Reads F (Err errors.OutOfMemory) old new = (text : List ℕ) × Passes old new text
+Reads F (Err errors.OutOfMemory) old new = (text : List ℕ) × Passes old new text × Open F text
 Reads F (Err errors.Ends) old new = ⊥
 Reads F (Err errors.HasFailed) old new = ⊥
 
@@ -78,12 +78,12 @@ valued f (Err e) = Err e
 abbrev pub Behind : ℕ → Format Step
 Behind tag step bytes = (tag_of step ≡ tag) × SpellsFields step bytes
 
--- The answers of a reader of steps: as for any format, and `Ends` where the bytes are over between steps, so that `Cut` is one within a step.
+-- The answers of a reader of steps: as for any format, and `Ends` where the bytes are over between steps, so that `Cut` is one within a step. Want of memory comes within a step or at its end: the bytes so far are the front of its text, or all of it.
 abbrev pub Answers : Result Step StepError → Source → Source → Type 0
 Answers (Ok step) old new = (text : List ℕ) × Passes old new text × SpellsStep step text
 Answers (Err errors.Ends) old new = Passes old new [] × IsAtEnd new.to_come
 Answers (Err errors.Cut) old new = (tag : ℕ) × (more : List ℕ) × Passes old new (tag ∷ more) × Live SpellsStep (tag ∷ more) × IsAtEnd new.to_come
 Answers (Err errors.BadByte) old new = (front : List ℕ) × (byte : ℕ) × Passes old new (front ++ byte ∷ []) × Live SpellsStep front × (Open SpellsStep (front ++ byte ∷ []) → ⊥)
 Answers (Err errors.Read) old new = Faults old new
-Answers (Err errors.OutOfMemory) old new = (text : List ℕ) × Passes old new text
+Answers (Err errors.OutOfMemory) old new = (tag : ℕ) × (more : List ℕ) × Passes old new (tag ∷ more) × Open SpellsStep (tag ∷ more)
 Answers (Err errors.HasFailed) old new = ⊥

@@ -16,7 +16,7 @@ pub returns-in_err-push : goal.returns-in_err-push
 returns-in_err-push g c =
     let S = source_of g.R.Read.remaining g.R.CountedRead.failures g.R.CountedRead.calls in
     let p = err_from_is_err_and c.from_residual-in_err-push.result c.from_residual-in_err-push.ensures.1 in
-    rw (p.1, p.2) (counted_no_room IsHash c.args.count (c.args.count - c.loop.counter) c.loop.hashes.items c.in_ok-hash.hash (S c.args.reader.now c.args.ahead.now) (S c.loop.reader c.loop.ahead) (S c.number.new.reader c.number.new.ahead) c.in_ok-hash.ensures c.loop.invariant)
+    rw (p.1, p.2) (counted_no_room IsHash (one_below (2 ^ 64)) (some_below (2 ^ 64) (omega arith)) c.args.count (c.args.count - c.loop.counter) (c.args.count - (c.loop.counter + 1)) c.loop.hashes.items c.in_ok-hash.hash (S c.args.reader.now c.args.ahead.now) (S c.loop.reader c.loop.ahead) (S c.number.new.reader c.number.new.ahead) (omega arith) c.in_ok-hash.ensures c.loop.invariant)
 
 pub loop-preserved : goal.loop-preserved
 loop-preserved g c =
