@@ -1,21 +1,34 @@
 -- Reading, step by step.
-use Rattle.std.proofs.Common.{◌≡◌, ℕ, ◌+◌, ◌*◌, ◌-◌, ◌<◌, ◌≤◌, List, [], ◌∷◌, ◌++◌, ◌⊎◌, inl, inr, Ok, Err, refl, sym, subst, ◌∙◌, arith}
+use Rattle.std.proofs.Common.{◌≡◌, ℕ, ◌+◌, ◌*◌, ◌-◌, ◌<◌, ◌≤◌, List, [], ◌∷◌, ◌++◌, ◌⊎◌, inl, inr, Ok, Err, refl, sym, subst, ap, append_assoc, ◌∙◌, arith}
 use Rattle.std.proofs.lemmas.List.{append-nil}
-use Rattle.std.specs.Io.KnownBytes.{IsAtEnd}
 use Rattle.sat_base.specs.declared.error.StepError.{StepError}
 use Rattle.sat_base.specs.declared.error.StepError.TheVariants as errors
 use Rattle.sat_base.specs.Formats.{Open}
 use Rattle.sat_base.specs.Numbers.{IsBelow}
-use Rattle.sat_base.specs.Reading.{Source, Passes, Faults, ByteWithin, Reads}
+use Rattle.sat_base.specs.Reading.{Source, Passes, AllTaken, Faults, ByteWithin, Reads}
 use Rattle.sat_base.proofs.Known.{consumes_none, consumes_more}
 use Rattle.sat_base.proofs.Numbers.{Front, front_none, front_more, live, last_read, shut_zero, shut_large, shut_on}
 
 -- TAKEN BYTES
 pub passes_none : (s : Source) → Passes s s []
-passes_none s = record { bytes = consumes_none s.to_come; failures = refl; calls = refl }
+passes_none s = record {
+  fresh = [];
+  gave = sym (append-nil s.given);
+  flows = append-nil s.waiting;
+  bytes = consumes_none s.to_come;
+  failures = refl;
+  calls = refl;
+}
+
+-- what was given and what was taken, over two turns
+flows_more : (a b c fs gs xs ys : List ℕ) → a ++ fs ≡ xs ++ b → b ++ gs ≡ ys ++ c → a ++ (fs ++ gs) ≡ (xs ++ ys) ++ c
+flows_more a b c fs gs xs ys h k = sym (append_assoc a fs gs) ∙ ap (λ (z : List ℕ). z ++ gs) h ∙ append_assoc xs b gs ∙ ap (λ (z : List ℕ). xs ++ z) k ∙ sym (append_assoc xs ys c)
 
 pub passes_more : (old mid new : Source) (xs ys : List ℕ) → Passes old mid xs → Passes mid new ys → Passes old new (xs ++ ys)
 passes_more old mid new xs ys p q = record {
+  fresh = p.fresh ++ q.fresh;
+  gave = q.gave ∙ ap (λ (z : List ℕ). z ++ q.fresh) p.gave ∙ append_assoc old.given p.fresh q.fresh;
+  flows = flows_more old.waiting mid.waiting new.waiting p.fresh q.fresh xs ys p.flows q.flows;
   bytes = consumes_more old.to_come mid.to_come new.to_come xs ys p.bytes q.bytes;
   failures = q.failures ∙ p.failures;
   calls = omega (arith, p.calls, q.calls);
@@ -45,7 +58,7 @@ groups_none limit s h = record { text = []; passes = passes_none s; front = fron
 pub place_some : (limit value place : ℕ) (old new : Source) → Groups limit value place old new → 0 < place
 place_some limit value place old new g = elim g.begun [ inl h ↦ omega (arith, h.2) | inr h ↦ omega (arith, h.1) ]
 
-groups_cut : (limit value place : ℕ) (old mid new : Source) → Groups limit value place old mid → Passes mid new [] × IsAtEnd new.to_come → Reads (IsBelow limit) (Err errors.Cut) old new
+groups_cut : (limit value place : ℕ) (old mid new : Source) → Groups limit value place old mid → Passes mid new [] × AllTaken new → Reads (IsBelow limit) (Err errors.Cut) old new
 groups_cut limit value place old mid new g h = (g.text, ends_there old mid new g.text g.passes h.0, live limit g.text value place g.front g.small, h.1)
 
 pub groups_stop : (limit value place : ℕ) (old mid new : Source) (e : StepError) → Groups limit value place old mid → ByteWithin (Err e) mid new → Reads (IsBelow limit) (Err e) old new

@@ -10,12 +10,12 @@ use Rattle.sat_base.specs.Steps.{Step}
 use Rattle.sat_base.specs.Kinds.{step_with}
 
 -- its reader, with what was read ahead
-abbrev pub source : {R : Type 0} → (R → Option (List ℕ)) → (R → ℕ) → (R → ℕ) → StepReader R Buffers → Source
-source remaining failures calls s = source_of remaining failures calls s.reader.now s.buffers.ahead
+abbrev pub source : {R : Type 0} → (R → Option (List ℕ)) → (R → List ℕ) → (R → Bool) → (R → ℕ) → (R → ℕ) → StepReader R Buffers → Source
+source remaining given ended failures calls s = source_of remaining given ended failures calls s.reader.now s.buffers.ahead
 
--- a reader that has these bytes, failures and calls, before the first read
-abbrev pub unread : Option (List ℕ) → ℕ → ℕ → Source
-unread bytes failures calls = record { to_come = bytes; failures = failures; calls = calls; reads = 0 }
+-- a reader that has and has given these bytes, with these failures and calls, before the first read
+abbrev pub unread : Option (List ℕ) → List ℕ → Bool → ℕ → ℕ → Source
+unread bytes given ended failures calls = record { to_come = bytes; given = given; waiting = []; ended = ended; failures = failures; calls = calls; reads = 0 }
 
 -- whether it answers nothing else any more
 abbrev pub has_failed : {R : Type 0} → StepReader R Buffers → Bool
@@ -66,9 +66,9 @@ Answered (Err errors.OutOfMemory) old new = Answers (Err errors.OutOfMemory) old
 Answered (Err errors.HasFailed) old new = Passes old new []
 
 -- A call of `advance`. `HasFailed` comes exactly where an earlier answer stopped it.
-pub record Next {R : Type 0} (remaining : R → Option (List ℕ)) (failures calls : R → ℕ) (old new : StepReader R Buffers) (result : Result Step StepError) : Type 0 where
+pub record Next {R : Type 0} (remaining : R → Option (List ℕ)) (given : R → List ℕ) (ended : R → Bool) (failures calls : R → ℕ) (old new : StepReader R Buffers) (result : Result Step StepError) : Type 0 where
   pub same : reader_name new ≡ reader_name old
-  pub answer : Answered result (source remaining failures calls old) (source remaining failures calls new)
+  pub answer : Answered result (source remaining given ended failures calls old) (source remaining given ended failures calls new)
   pub was : has_failed old ≡ repeated result
   pub is : has_failed new ≡ stopped result
-  pub bound : (source remaining failures calls new).reads ≤ most_reads
+  pub bound : (source remaining given ended failures calls new).reads ≤ most_reads

@@ -6,14 +6,14 @@ use Rattle.sat_base.proofs.read_step.read_step.Goals as goal
 
 pub returns-then-not-is_tag : goal.returns-then-not-is_tag
 returns-then-not-is_tag g c =
-    let S = source_of g.R.Read.remaining g.R.CountedRead.failures g.R.CountedRead.calls in
+    let S = source_of g.R.Read.remaining g.R.CountedRead.given g.R.CountedRead.ended g.R.CountedRead.failures g.R.CountedRead.calls in
     let t = c.in-Some.tag in
     let p = some_byte t c.in_ok-next_byte.field-0 (S c.args.reader.now c.args.ahead.now) (S c.next_byte.new.reader c.next_byte.new.ahead) c.in-Some.is c.in_ok-next_byte.ensures in
     unknown_tag t (S c.args.reader.now c.args.ahead.now) (S c.next_byte.new.reader c.next_byte.new.ahead) (search rules) p
 
 pub returns-else-not-is_tag : goal.returns-else-not-is_tag
 returns-else-not-is_tag g c =
-    let S = source_of g.R.Read.remaining g.R.CountedRead.failures g.R.CountedRead.calls in
+    let S = source_of g.R.Read.remaining g.R.CountedRead.given g.R.CountedRead.ended g.R.CountedRead.failures g.R.CountedRead.calls in
     let t = c.in-Some.tag in
     let p = some_byte t c.in_ok-next_byte.field-0 (S c.args.reader.now c.args.ahead.now) (S c.next_byte.new.reader c.next_byte.new.ahead) c.in-Some.is c.in_ok-next_byte.ensures in
     let lists = c.fields.new.lists in
