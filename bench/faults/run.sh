@@ -42,7 +42,7 @@ behind() { # TEXT COUNT
 }
 
 # Builds a crate and runs it on each file of a folder. What a run printed is then in OUT/NAME.out, its errors in OUT/NAME.err, and its
-# last line in OUT/NAME.end. No run may fault, hang, or differ between the two ways in which it is run.
+# last line in OUT/NAME.end. No run may fault, hang, or differ between the interpreter and the compiled program.
 run() { # CRATE FOLDER OUT [FLAG..]
     local crate=$1 folder=$2 out=$3 text
     shift 3

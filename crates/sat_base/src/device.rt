@@ -1,4 +1,4 @@
-//! Readers and writers whose contracts see how often a call has failed.
+//! Readers and writers whose contracts see how often a call has failed, and which bytes a reader gave.
 ghost use Rattle.std.specs.Prelude.{◌≡◌, ◌+◌, ℕ, Bool, List, OnOk};
 ghost use Rattle.std.specs.Io.{ReadsAtMost, WritesAtMost};
 ghost use Rattle.std.specs.Io.KnownBytes.{ReadConsumes, WriteAppends, Appends, Keeps};

@@ -4,8 +4,8 @@ ghost use Rattle.std.specs.Borrow.{ftrue};
 
 use std::marker::Model;
 
-/// How many calls there were, how many of them failed, the bytes that were read, and whether the last read found none. The counts
-/// have no largest value.
+/// How many calls there were, how many of them failed, the bytes that were read, and whether the last read found the end. The
+/// counts have no largest value.
 #[derive(Drop)]
 pub(crate) struct Tally {
     pub ghost calls: { ℕ },

@@ -141,8 +141,12 @@ returns-in-Err-answer-2-clause-given g c k =
     let v = c.loop.invariant.visited in
     let piece = take c.in-Ok.count c.read_counted.new.buf in
     let is = (v.3 k).1 in
-    inr (concat v.0 ++ piece, front_more g.R.CountedRead.given g.R.Read.remaining c.args.reader.now c.loop.reader c.read_counted.new.self v.0 piece v.2 c.in-Ok.ensures.given c.in-Ok.ensures.bytes.0, λ rest.
-    stops_on c.in-Err-answer-2.e (concat v.0) piece c.loop.parser c.feed-answer.new.self (ap (λ (z : Progress). z.fed) is) (ap (λ (z : Progress). z.stopped) is) c.in-Err-answer-2.ensures.answer rest)
+    inr (
+      concat v.0 ++ piece,
+      front_more g.R.CountedRead.given g.R.Read.remaining c.args.reader.now c.loop.reader c.read_counted.new.self v.0 piece v.2 c.in-Ok.ensures.given c.in-Ok.ensures.bytes.0,
+      λ rest.
+          stops_on c.in-Err-answer-2.e (concat v.0) piece c.loop.parser c.feed-answer.new.self (ap (λ (z : Progress). z.fed) is) (ap (λ (z : Progress). z.stopped) is) c.in-Err-answer-2.ensures.answer rest,
+    )
 
 pub returns-in-Err-clause-given : goal.returns-in-Err-clause-given
 returns-in-Err-clause-given g c k =
