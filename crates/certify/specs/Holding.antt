@@ -28,7 +28,7 @@ HeldScript = List Command × Ending × ℕ
 abbrev pub held_script : List ℕ → HeldScript
 held_script text = ((held_reading (reading text)).0, (held_reading (reading text)).1, length (written text).0)
 
--- of a text of which this is said, it is the script
+-- there is a text that is the one in question, and this is its script
 abbrev pub IsHeldOf : (List ℕ → Type 0) → HeldScript → Type 0
 IsHeldOf IsText script = (text : List ℕ) × IsText text × (script ≡ held_script text)
 

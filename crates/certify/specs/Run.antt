@@ -85,11 +85,11 @@ pub record Finished (text : List ℕ) (budget : ℕ) (summary : Summary) (answer
   pub certificate : Appends certificate_old certificate_new certified
   pub run : RunOf (reading text).0 (reading text).1 (length (written text).0) budget summary answered certified
 
--- of a text of which this is said, it did so
+-- the same where the text is known by what is said of it, as that a reader gave it
 abbrev pub FinishesText : (List ℕ → Type 0) → ℕ → Summary → Option (List ℕ) → Option (List ℕ) → Option (List ℕ) → Option (List ℕ) → Type 0
 FinishesText IsText budget summary answers_old answers_new certificate_old certificate_new =
     (text : List ℕ) × IsText text × Finished text budget summary answers_old answers_new certificate_old certificate_new
 
--- the text of which this is said has more commands than can be counted
+-- a text of which this is said has more commands than can be counted
 abbrev pub HasTooMany : (List ℕ → Type 0) → Type 0
 HasTooMany IsText = (text : List ℕ) × IsText text × (2 ^ 64 - 1 ≤ length (written text).0)

@@ -72,7 +72,7 @@ pub fn confirm<S: CountedRead, A: CountedRead, C: CountedRead>(
     ensures sound { IfOk result (λ v. v ≡ Verdict.Yes
         → GaveRightAnswers (GaveAll S.given S.ended S.remaining script.old script.new) (GaveAll A.given A.ended A.remaining answers.old answers.new)) }
 
-    // A fault is answered only where it happened, and none of them is tried again.
+    // A fault is answered only where it happened: exactly one read failed, or there were 2^48 of them.
     ensures script_read { IsErrOf result ConfirmFault.ScriptRead → (S.failures script.new ≡ S.failures script.old + 1) ⊎ (S.calls script.new ≡ S.calls script.old + most_reads) }
     ensures answers_read { IsErrOf result ConfirmFault.AnswersRead → (A.failures answers.new ≡ A.failures answers.old + 1) ⊎ (A.calls answers.new ≡ A.calls answers.old + most_reads) }
     ensures certificate_read { IsErrOf result ConfirmFault.CertificateRead → (C.failures certificate.new ≡ C.failures certificate.old + 1) ⊎ (C.calls certificate.new ≡ C.calls certificate.old + most_reads) }

@@ -90,11 +90,11 @@ pub record Faults (ending : Ending) (piece : List ℕ) (old new : Progress) : Ty
   pub progress : new ≡ at_its_end (with_fed front old)
   pub ends : EndsAt ending new
 
--- behind this text the byte ends a word, and up to there none is at fault
+-- behind this text the byte is a blank, so that no word is in hand, and up to there none is at fault
 abbrev pub GoesWell : List ℕ → ℕ → Type 0
 GoesWell text byte = (is_blank byte ≡ true) × NoFault None (tokens (text ++ byte ∷ []))
 
--- a front of the piece was taken, and there was no memory for the word that the next byte ends
+-- a front of the piece was taken, and there was no memory at the next byte
 pub record FallsShort (piece : List ℕ) (old new : Progress) : Type 0 where
   pub front : List ℕ
   pub byte : ℕ
@@ -121,7 +121,7 @@ Finishes (Err errors.OutOfMemory) old new = (old.stopped ≡ false) × (new ≡ 
 Finishes (Err errors.HasFailed) old new = (old.stopped ≡ true) × (new ≡ old)
 Finishes (Err errors.Read) old new = ⊥
 
--- there was no memory for a word of the text up to which none is at fault, or for the last one of a text that ends cleanly
+-- there was no memory at a blank of the text up to which no word is at fault, or at the end of a text that ends cleanly
 abbrev pub ParsesShort : List ℕ → Type 0
 ParsesShort text = ((front : List ℕ) × (byte : ℕ) × (behind : List ℕ) × (text ≡ front ++ byte ∷ behind) × GoesWell front byte) ⊎ ((dimacs text).ending ≡ Clean)
 
