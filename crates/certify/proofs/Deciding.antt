@@ -1,10 +1,9 @@
 -- From what is decided of a script whose names are held, to what is said of the texts that were read.
-use Rattle.std.proofs.Common.{ℕ, ◌<◌, ◌≤◌, ◌≡◌, ◌↔◌, List, [], ◌∷◌, map, length, refl, sym, ◌∙◌, ap, subst, arith}
-use Rattle.std.proofs.lemmas.List.{length-map}
+use Rattle.std.proofs.Common.{ℕ, ◌<◌, ◌≤◌, ◌≡◌, ◌↔◌, List, [], ◌∷◌, map, refl, sym, ◌∙◌, subst, arith}
 use Rattle.std.specs.List.{AllByRecursion}
 use Rattle.sat_base.specs.Script.{Literal, Command, Clause, Ask, Hide, Witness, Sample, Ending, names_of, reading}
 use Rattle.sat_base.specs.Judge.{start}
-use Rattle.certify.specs.Confirmed.{IsExact, GaveRightAnswers, HasCommands}
+use Rattle.certify.specs.Confirmed.{IsExact, GaveRightAnswers}
 use Rattle.certify.specs.Decides.{Decides}
 use Rattle.certify.specs.Holding.{held_command, HeldScript, held_script, IsHeldOf}
 use Rattle.certify.specs.Matches.{MatchesCommands, Matches, OneEach, Meets, expected}
@@ -105,10 +104,3 @@ sound v IsScript AreAnswers script a c s ga d said =
       answered = m.answered;
       right = matching_right the_checking the_checking_sound (reading s.0).0 m.outcomes m.steps m.match;
     }
-
--- the commands that are held are as many
-pub counted : (IsScript : List ℕ → Type 0) (script : HeldScript) (count : ℕ) → IsHeldOf IsScript script → count ≤ length script.0 → HasCommands IsScript count
-counted IsScript script count s h =
-    let e : length script.0 ≡ length (map held_command (reading s.0).0) = ap (λ (r : HeldScript). length r.0) s.2 in
-    let f : length (map held_command (reading s.0).0) ≡ length (reading s.0).0 = length-map (reading s.0).0 held_command in
-    (s.0, s.1, omega (arith, e, f))

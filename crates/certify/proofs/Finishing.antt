@@ -17,16 +17,16 @@ use Rattle.certify.specs.Held.{fresh}
 use Rattle.certify.specs.TheChecking.{the_checking}
 use Rattle.certify.specs.Matches.{expected, finish}
 use Rattle.certify.specs.Certified.{Certifies, complete, ordered}
-use Rattle.certify.specs.Holding.{held_command, HeldScript, held_script, IsHeldOf}
+use Rattle.certify.specs.Holding.{held_command, HeldScript, held_script, IsHeldOf, HasCommands}
 use Rattle.std.specs.Prelude.{MatchResult, IfErr}
 use Rattle.certify.specs.declared.fault.RunFault.TheVariants as fault
-use Rattle.certify.specs.Run.{HasCause, RunOf, Finished, FinishesText, HasTooMany, refused_count, malformed_at}
+use Rattle.certify.specs.Run.{HasCause, RunOf, Finished, FinishesText, refused_count, malformed_at}
 use Rattle.certify.specs.Running.{Plain, Reached, TookAll, WroteStep, Finishes, malformed_text}
 use Rattle.certify.proofs.Held.{refusal_of-held, unheld, after_command-held, accepted_of-held}
 use Rattle.certify.proofs.Certified.{told_start}
 use Rattle.certify.proofs.PlainState.{start_plain}
 use Rattle.certify.proofs.Simple.{held_good}
-use Rattle.certify.proofs.HeldReading.{malformed_count}
+use Rattle.certify.proofs.HeldReading.{counted}
 use Rattle.certify.proofs.Writing.{wrote_none, wrote_step, wrote_then}
 
 pub took_none : (script : HeldScript) (budget : ℕ) (s : Session) (a p : Option (List ℕ)) → s.names ≡ 0 → s.solver ≡ fresh → s.refused ≡ 0 → s.asks.items ≡ [] → TookAll script budget 0 s a a p p
@@ -150,17 +150,8 @@ pub finished_if : (IsText : List ℕ → Type 0) (r : Result Summary RunFault) (
 finished_if IsText (Ok summary) script budget a b p q e f = (e.0, e.1, finished e.0 script budget summary a b p q e.2 f)
 finished_if IsText (Err x) script budget a b p q e f = tt
 
--- a malformed text has as many commands as it means
-abbrev TooMany : HeldScript → Type 0
-TooMany script = (script.1 ≡ Malformed) × (2 ^ 64 - 1 ≤ length script.0)
-
-too_many : (text : List ℕ) (script : HeldScript) → script ≡ held_script text → TooMany script → 2 ^ 64 - 1 ≤ length (written text).0
-too_many text script e h =
-    let m : TooMany (held_script text) = rw e at h in
-    omega (arith, m.1, length-map (reading text).0 held_command, malformed_count text m.0)
-
-pub too_many_if : (IsText : List ℕ → Type 0) (script : HeldScript) → IsHeldOf IsText script → TooMany script → HasTooMany IsText
-too_many_if IsText script e h = (e.0, e.1, too_many e.0 script e.2 h)
+pub too_many : (IsText : List ℕ → Type 0) (script : HeldScript) → IsHeldOf IsText script → (script.1 ≡ Malformed) × (2 ^ 64 - 1 ≤ length script.0) → HasCommands IsText (2 ^ 64 - 1)
+too_many IsText script e h = counted IsText script (2 ^ 64 - 1) e h.1
 
 -- the cause of a fault behind the script
 cause_behind : (e : RunFault) (script answers certificate many more : Type 0) → (many → more) → HasCause e ⊥ answers certificate many → HasCause e script answers certificate more

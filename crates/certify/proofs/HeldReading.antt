@@ -1,13 +1,13 @@
 -- Reading held names is reading names and holding them.
-use Rattle.std.proofs.Common.{◌≡◌, ℕ, List, [], ◌∷◌, ◌++◌, Bool, true, false, map, refl, sym, ap, ◌∙◌, arith}
+use Rattle.std.proofs.Common.{◌≡◌, ◌≤◌, ℕ, List, [], ◌∷◌, ◌++◌, Bool, true, false, map, refl, sym, ap, ◌∙◌, arith}
 use Rattle.std.specs.Prelude.{nat_eq, not, is_some, ◌&&◌, if◌then◌else◌}
 use Rattle.std.proofs.Common.{cond, length, inl, inr}
 use Rattle.std.proofs.lemmas.List.{length-map}
 use Rattle.std.proofs.lemmas.Bool.Decides.{nat_tests}
 use Rattle.sat_base.specs.Text.{Token, Number, Letter, Header, Wrong, header_first, header_from, header_of, scan, tokens}
 use Rattle.sat_base.specs.Tokenizing as base
-use Rattle.sat_base.specs.Script.{Literal, Command, Clause, Ask, Hide, Witness, Sample, Clean, Malformed, Hand, Nothing, InClause, InAsk, Turn, GoesOn, Ends, Fails, command_in, with_literal, with_letter, turn, Reading, onto_commands, at_end, behind_turn, commands_of, spoken, has_ask, is_clean, written, reading}
-use Rattle.certify.specs.Holding.{held_name, held_literal, held_command, held_reading, HeldScript, held_script}
+use Rattle.sat_base.specs.Script.{Literal, Command, Clause, Ask, Hide, Witness, Sample, Clean, Hand, Nothing, InClause, InAsk, Turn, GoesOn, Ends, Fails, command_in, with_literal, with_letter, turn, Reading, onto_commands, at_end, behind_turn, commands_of, spoken, has_ask, is_clean, written, reading}
+use Rattle.certify.specs.Holding.{held_name, held_literal, held_command, held_reading, HeldScript, held_script, IsHeldOf, HasCommands}
 use Rattle.certify.specs.ScriptReading.{held_token, token_of, any_header, asked_if, held_tokens}
 use Rattle.sat_base.proofs.HeaderFirst.{IsWord, AreWords, AreScript, text_is}
 
@@ -161,13 +161,12 @@ reading-held text =
     ∙ ap (λ (b : Bool). asked_if b (held_reading (written text))) (sym (headed_by (tokens text) (text_is text)))
     ∙ ap (asked_if (any_header (held_tokens (scan text)))) (written-held text)
 
-counted_if : (b : Bool) (w r : Reading) → r ≡ cond b (w.0 ++ Ask [] ∷ [], Clean) w → r.1 ≡ Malformed → length r.0 ≡ length w.0
-counted_if true w r e m = absurd (let f : Clean ≡ Malformed = sym (ap (λ (r : Reading). r.1) e) ∙ m in cc)
-counted_if false w r e m = ap (λ (r : Reading). length r.0) e
-
--- where a text is malformed its commands are those that stand in it
-pub malformed_count : (text : List ℕ) → (reading text).1 ≡ Malformed → length (reading text).0 ≡ length (written text).0
-malformed_count text m = counted_if (is_some (header_of text) && (is_clean (written text).1 && not (has_ask (written text).0))) (written text) (reading text) (reading_is text) m
+-- the commands that are held are as many
+pub counted : (IsText : List ℕ → Type 0) (script : HeldScript) (count : ℕ) → IsHeldOf IsText script → count ≤ length script.0 → HasCommands IsText count
+counted IsText script count s h =
+    let e : length script.0 ≡ length (map held_command (reading s.0).0) = ap (λ (r : HeldScript). length r.0) s.2 in
+    let f : length (map held_command (reading s.0).0) ≡ length (reading s.0).0 = length-map (reading s.0).0 held_command in
+    (s.0, s.1, omega (arith, e, f))
 
 -- a value that is held at 2^64-1, and then as a name
 pub token_of-held : (t : Token) → token_of (base.held_token t) ≡ held_token t

@@ -1,5 +1,5 @@
 -- What a verdict promises of the texts that three readers gave. What says that a reader gave a text is handed in.
-use Rattle.std.specs.Prelude.{ℕ, ◌≡◌, ◌≤◌, ◌↔◌, List, length}
+use Rattle.std.specs.Prelude.{ℕ, ◌≡◌, ◌↔◌, List}
 use Rattle.sat_base.specs.Script.{reading}
 use Rattle.certify.specs.Answers.{Outcome, answers_text}
 use Rattle.certify.specs.Matches.{Matches}
@@ -27,7 +27,3 @@ pub record GaveRightAnswers (IsScript AreAnswers : List ℕ → Type 0) : Type 0
   pub outcomes : List Outcome
   pub answered : answers ≡ answers_text (reading script).0 (reading script).1 outcomes
   pub right : AnswersAreRight (reading script).0 outcomes
-
--- a script of so many commands was given
-abbrev pub HasCommands : (List ℕ → Type 0) → ℕ → Type 0
-HasCommands IsScript count = (script : List ℕ) × IsScript script × (count ≤ length (reading script).0)

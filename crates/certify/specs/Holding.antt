@@ -1,5 +1,5 @@
 -- Names that are held at one above the largest, which no command with a larger one notices.
-use Rattle.std.specs.Prelude.{ℕ, ◌+◌, ◌≡◌, min, None, List, map, length}
+use Rattle.std.specs.Prelude.{ℕ, ◌+◌, ◌≡◌, ◌≤◌, min, None, List, map, length}
 use Rattle.sat_base.specs.Literals.{largest}
 use Rattle.sat_base.specs.Script.{Literal, Command, Clause, Ask, Hide, Witness, Sample, Ending, Reading, written, reading}
 use Rattle.sat_base.specs.Judge.{Judge, refusal_of, accepted_of, after_command, after_script}
@@ -31,6 +31,10 @@ held_script text = ((held_reading (reading text)).0, (held_reading (reading text
 -- there is a text that is the one in question, and this is its script
 abbrev pub IsHeldOf : (List ℕ → Type 0) → HeldScript → Type 0
 IsHeldOf IsText script = (text : List ℕ) × IsText text × (script ≡ held_script text)
+
+-- the text in question has so many commands
+abbrev pub HasCommands : (List ℕ → Type 0) → ℕ → Type 0
+HasCommands IsText count = (text : List ℕ) × IsText text × (count ≤ length (reading text).0)
 
 -- why a command is refused, which commands are accepted, and what they leave, all stay as they are
 pub record HoldingIsFree : Type 0 where

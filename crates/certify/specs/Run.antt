@@ -89,7 +89,3 @@ pub record Finished (text : List ℕ) (budget : ℕ) (summary : Summary) (answer
 abbrev pub FinishesText : (List ℕ → Type 0) → ℕ → Summary → Option (List ℕ) → Option (List ℕ) → Option (List ℕ) → Option (List ℕ) → Type 0
 FinishesText IsText budget summary answers_old answers_new certificate_old certificate_new =
     (text : List ℕ) × IsText text × Finished text budget summary answers_old answers_new certificate_old certificate_new
-
--- a text of which this is said has more commands than can be counted
-abbrev pub HasTooMany : (List ℕ → Type 0) → Type 0
-HasTooMany IsText = (text : List ℕ) × IsText text × (2 ^ 64 - 1 ≤ length (written text).0)

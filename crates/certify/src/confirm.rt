@@ -2,8 +2,9 @@
 ghost use Rattle.std.specs.Prelude.{◌≡◌, ◌+◌, ◌-◌, ◌^◌, ◌≤◌, ◌<◌, ◌⊎◌, length, IfOk, IsErrOf};
 ghost use Rattle.std.specs.List.{AllByRecursion};
 ghost use Rattle.sat_base.specs.Device.{most_reads, GaveAll};
-ghost use Rattle.certify.specs.Confirmed.{IsExact, GaveRightAnswers, HasCommands};
+ghost use Rattle.certify.specs.Confirmed.{IsExact, GaveRightAnswers};
 ghost use Rattle.certify.specs.Decides.{Decides};
+ghost use Rattle.certify.specs.Holding.{HasCommands};
 ghost use Rattle.certify.specs.Sessions.{CountFromOne, ConfirmsEnd};
 
 pub(crate) mod certificate;

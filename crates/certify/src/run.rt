@@ -2,8 +2,8 @@
 ghost use Rattle.std.specs.Prelude.{◌≡◌, ◌+◌, ◌-◌, ◌^◌, ◌≤◌, ◌<◌, ◌⊎◌, length, IfOk, OnOk, IfErr, IsErrOf, MatchResult};
 ghost use Rattle.sat_base.specs.Device.{most_reads, GaveAll};
 ghost use Rattle.sat_base.specs.Script.{Malformed};
-ghost use Rattle.certify.specs.Holding.{IsHeldOf};
-ghost use Rattle.certify.specs.Run.{FinishesText, HasCause, HasTooMany};
+ghost use Rattle.certify.specs.Holding.{IsHeldOf, HasCommands};
+ghost use Rattle.certify.specs.Run.{FinishesText, HasCause};
 ghost use Rattle.certify.specs.Running.{Finishes};
 
 mod ask;
@@ -85,7 +85,7 @@ pub fn run<S: CountedRead, A: CountedWrite, C: CountedWrite>(
         ((S.failures script.old < S.failures script.new) ⊎ (S.calls script.new ≡ S.calls script.old + most_reads))
         (A.failures answers.old < A.failures answers.new)
         (C.failures certificate.old < C.failures certificate.new)
-        (HasTooMany (GaveAll S.given S.ended S.remaining script.old script.new))) }
+        (HasCommands (GaveAll S.given S.ended S.remaining script.old script.new) (2 ^ 64 - 1))) }
     // A read of the script has failed only where the answer is that. It is read at most 2^48 times.
     ensures kept_script { IsErrOf result RunFault.ScriptRead ⊎ (S.failures script.new ≡ S.failures script.old) }
     ensures reads { S.calls script.new ≤ S.calls script.old + most_reads }

@@ -1,7 +1,7 @@
 -- What a parser of formulas' texts makes of bytes.
 use Rattle.std.proofs.Common.{◌≡◌, ℕ, ◌+◌, ◌<◌, max, length, List, [], ◌∷◌, ◌++◌, Bool, true, false, Option, Some, None, Result, Ok, Err, refl, sym, ap, subst, inl, inr, ◌∙◌, append_assoc, length-append, take, drop, get_or, arith}
 use Rattle.std.proofs.lemmas.Grind.{common_steps}
-use Rattle.std.proofs.lemmas.List.{append-nil}
+use Rattle.std.proofs.lemmas.List.{append-nil, length_push, get_or_push}
 use Rattle.std.proofs.lemmas.Bool.Decides.{nat_tests}
 use Rattle.std.specs.Prelude.{nat_eq, nat_lt, not, ◌&&◌, ◌-◌, ◌⊎◌}
 use Rattle.sat_base.specs.Literals.{coded, largest}
@@ -15,16 +15,16 @@ use Rattle.sat_base.specs.declared.text.Token.TheVariants as code
 use Rattle.sat_base.specs.declared.text.Tokenizer.{Tokenizer}
 use Rattle.sat_base.specs.Text.{is_blank, Token, Number, Letter, Header, Wrong, Scan, lines, tokens_of, last_line, scan, header_from, header_first, header_of}
 use Rattle.sat_base.specs.Spot.{onto}
-use Rattle.sat_base.specs.Tokenizing.{held, held_token, Stands, Takes, GivesLast, Quiet}
+use Rattle.sat_base.specs.Tokenizing.{held, held_token, Stands, Takes, GivesLast, IsOfHeader, Quiet}
 use Rattle.sat_base.specs.Formulas.{Formula, no_formula, vars_in, vars_of}
 use Rattle.sat_base.specs.Dimacs.{Hand, Turn, GoesOn, Ends, Fails, Ending, Clean, Malformed, Limit, Dimacs, literals_in, turn, at_end, clauses_of, dimacs, settled}
 use Rattle.sat_base.specs.Collecting.{token_of, hand_in, header_behind, is_literal, NeedsRoom, Stay, AllStay, Turns}
-use Rattle.sat_base.specs.Parsing.{Progress, NoFault, GoesWell, Faults, Feeds, Finishes, with_fed, cut_short, at_its_end, clauses_read, lines_read, whole_lines, held_numbers}
+use Rattle.sat_base.specs.Parsing.{Progress, NoFault, GoesWell, Faults, Feeds, Finishes, with_fed, cut_short, at_its_end, clauses_read, lines_read, whole_lines, held_numbers, last_byte}
 use Rattle.sat_base.specs.Standing.{progress_of, all_in, onto_clauses, Turned, Goes, IsParser, EndsClean}
 use Rattle.sat_base.proofs.FlatLemmas.{vars_of_more}
 use Rattle.sat_base.specs.Script.{spoken}
 use Rattle.sat_base.proofs.HeaderFirst.{AreWords, AreScript, text_is}
-use Rattle.sat_base.proofs.PlainTokens.{no_header, plain_given, alone_given}
+use Rattle.sat_base.proofs.PlainTokens.{no_header, plain_given, alone_given, quiet_given}
 use Rattle.sat_base.proofs.Collected.{settled_blank, settled_inside, whole_LF, whole_inside, turn-held, clauses_of_nil, turned_first, turned_goes, turned_ends, fails_there, scans_next, dimacs_is, settled_clauses}
 
 -- THE CLAUSES
@@ -101,6 +101,10 @@ module _ (old new : Parser) (g : Goes old) (b : ℕ) (xs : List (ℕ × Token)) 
       subst (NoFault None) (sym (ap (λ (text : List ℕ). (scan text).tokens) (whole_now n) ∙ whole_tokens n)) here
   step_sound m false e = subst (λ (text : List ℕ). NoFault None (scan text).tokens) (sym (whole_still e)) g.sound
 
+  step_last : last_byte new.history.fed ≡ b
+  step_last =
+      ap last_byte s.fed ∙ get_or_push old.history.fed b 10 (length (old.history.fed ++ b ∷ []) - 1) (omega (arith, length_push old.history.fed b))
+
   pub step_goes : new.ended ≡ false → Stands new.tokenizer after → Turned (g.before ++ xs) (all_in new) (hand_in new.clauses) → Goes new
   step_goes e st m = record {
     ended = e;
@@ -111,6 +115,7 @@ module _ (old new : Parser) (g : Goes old) (b : ℕ) (xs : List (ℕ × Token)) 
     turned = m;
     heads = step_heads (nat_eq b 10) refl;
     sound = step_sound m (nat_eq b 10) refl;
+    quiet = λ k. s.quiet (ap is_blank (sym step_last) ∙ k);
   }
 
   pub step_settled : (old_clauses : (dimacs (settled old.history.fed)).clauses ≡ all_in old) → (is_blank b ≡ false → all_in new ≡ all_in old) → Turned (g.before ++ xs) (all_in new) (hand_in new.clauses)
@@ -590,6 +595,20 @@ room_turn : (hand : Hand) (n : ℕ) (t : CodeToken) → NeedsRoom (token_of t) �
 room_turn hand n t (inl is) = inl ((literal_goes t is).0 hand n)
 room_turn hand n t (inr ends) = inr (ends hand n)
 
+-- memory is taken for numbers alone
+number_of : (given : Token) → NeedsRoom (token_of (held_token given)) → (negative : Bool) × (value : ℕ) × (given ≡ Number negative value)
+number_of (Number negative value) r = (negative, value, refl)
+number_of (Letter b) (inl is) = absurd (let e : ◌≡◌ {A = Bool} false true = is in cc)
+number_of (Letter b) (inr ends) = absurd (let e : ◌≡◌ {A = Turn} (Fails (Malformed 0)) (Ends []) = ends None 0 in cc)
+number_of (Header v c) (inl is) = absurd (let e : ◌≡◌ {A = Bool} false true = is in cc)
+number_of (Header v c) (inr ends) = absurd (let e : ◌≡◌ {A = Turn} (GoesOn None) (Ends []) = ends None 0 in cc)
+number_of Wrong (inl is) = absurd (let e : ◌≡◌ {A = Bool} false true = is in cc)
+number_of Wrong (inr ends) = absurd (let e : ◌≡◌ {A = Turn} (Fails (Malformed 0)) (Ends []) = ends None 0 in cc)
+
+true_not : (b : Bool) → (b ≡ true → ⊥) → b ≡ false
+true_not true h = absurd (h refl)
+true_not false h = refl
+
 pub push_short : (old new : Parser) (b : ℕ) (t : CodeToken) → IsParser old → old.stopped ≡ false → Pushed old.tokenizer new.tokenizer b (Some t) → ByteTaken old new b → NeedsRoom (token_of t) → GoesWell old.history.fed b
 push_short old new b t i o p y r =
     let g = i.goes o in
@@ -606,7 +625,18 @@ push_short old new b t i o p y r =
     ∙ ap (λ (ts : List (ℕ × Token)). (g.before ++ x ∷ []) ++ ts) (none (nat_eq b 10) refl) ∙ append-nil (g.before ++ x ∷ []) in
     let here : NoFault (hand_in old.clauses) (x ∷ []) = no_fault_of (hand_in old.clauses) n v.given
     (subst (λ (k : Turn). ((ls : List ℕ) × (k ≡ GoesOn (Some ls))) ⊎ (k ≡ Ends (literals_in (hand_in old.clauses)))) (turn_of old.clauses n t v.given v.held) (room_turn (hand_in old.clauses) n t r)) in
-    (blank, subst (NoFault None) (sym text) (g.turned.sound (x ∷ []) here))
+    let k = number_of v.given (subst (λ (u : CodeToken). NeedsRoom (token_of u)) v.held r) in
+    let whole : scan (old.history.fed ++ b ∷ []) ≡ onto (g.before ++ x ∷ []) (v.after []) = ap scan (sym y.fed) ∙ step_scan old new g b (x ∷ []) v.after v.stepped in
+    let header : IsOfHeader v.given → ⊥ = λ h. subst IsOfHeader k.2 h in
+    record {
+      blank = blank;
+      in_word = true_not (is_blank (last_byte old.history.fed)) (λ e. header (quiet_given old.tokenizer b n v.given g.left_of v.after g.stands (g.quiet e) blank v.stepped.gives));
+      before = g.before;
+      negative = k.0;
+      value = k.1;
+      number = text ∙ ap (λ (u : Token). g.before ++ (n, u) ∷ []) k.2 ∙ ap (λ (m : ℕ). g.before ++ (m, Number k.0 k.1) ∷ []) (sym (ap (λ (z : Scan). z.last) whole));
+      sound = subst (NoFault None) (sym text) (g.turned.sound (x ∷ []) here);
+    }
 
 -- THE START
 pub first_parser : (p : Parser) → p.history.fed ≡ [] → p.history.taken ≡ [] → p.clauses.formula ≡ no_formula → hand_in p.clauses ≡ None → p.clauses.count ≡ 0 → p.clauses.header ≡ None → p.ended ≡ false → Stands p.tokenizer scan
@@ -628,5 +658,6 @@ first_parser p f t m h c e o s =
         turned = rw (none, h) turned_first;
         heads = rw f refl;
         sound = rw f tt;
+        quiet = λ _. inl refl;
       };
     }

@@ -114,24 +114,11 @@ keeps_next calls f g p q answer k h = ((λ ps. (k (p ∷ ps) answer q g h).1), (
 joined_more : (pieces : List (List ℕ)) (piece : List ℕ) → concat pieces ++ piece ≡ concat (pieces ++ (piece ∷ []))
 joined_more pieces piece = ap (λ (z : List ℕ). concat pieces ++ z) (sym (append-nil piece)) ∙ sym (concat-append pieces (piece ∷ []))
 
-pub consumed_more : (a b c : Option (List ℕ)) (pieces : List (List ℕ)) (piece : List ℕ) → Consumes a b (concat pieces) → Consumes b c piece → Consumes a c (concat (pieces ++ (piece ∷ [])))
-consumed_more a b c pieces piece h k = subst (Consumes a c) (joined_more pieces piece) (consumes_more a b c (concat pieces) piece h k)
-
 -- a piece is taken, and then a call keeps the text
 pub fed_and_kept : (pieces : List (List ℕ)) (piece : List ℕ) (p q r : Progress) → Stands (concat pieces) p → q ≡ with_fed piece p → r ≡ record q { taken = r.taken } → Stands (concat (pieces ++ (piece ∷ []))) r
 fed_and_kept pieces piece p q r is f kept =
     kept ∙ ap (λ (z : Progress). record z { taken = r.taken }) f ∙ ap (λ (z : Progress). record (with_fed piece z) { taken = r.taken }) is
     ∙ ap (λ (z : List ℕ). record (with_fed z no_progress) { taken = r.taken }) (joined_more pieces piece)
-
--- nothing was given
-pub consumed_kept : (a b c : Option (List ℕ)) (xs : List ℕ) → Consumes a b xs → Keeps b c → Consumes a c (xs ++ [])
-consumed_kept None b c xs h k = tt
-consumed_kept (Some s) None c xs h k = absurd h
-consumed_kept (Some s) (Some t) None xs h k = absurd k
-consumed_kept (Some s) (Some t) (Some u) xs h k = h ∙ ap (λ (z : List ℕ). z ++ t) (sym (append-nil xs)) ∙ ap (λ (z : List ℕ). (xs ++ []) ++ z) (sym k)
-
-pub consumed_alone : (a b : Option (List ℕ)) (xs : List ℕ) → Consumes a b xs → Consumes a b (xs ++ [])
-consumed_alone a b xs h = subst (Consumes a b) (sym (append-nil xs)) h
 
 -- a piece more was given, or none
 pub front_more : {R : Type 0} (given : R → List ℕ) (remaining : R → Option (List ℕ)) (old mid new : R) (pieces : List (List ℕ)) (piece : List ℕ) → GaveFront given remaining old mid (concat pieces)

@@ -1,13 +1,15 @@
 -- Only where a line ends is a header read.
-use Rattle.std.proofs.Common.{◌≡◌, ℕ, ◌+◌, List, [], ◌∷◌, ◌++◌, true, false, Option, Some, None, refl, sym, ap, ◌∙◌}
+use Rattle.std.proofs.Common.{◌≡◌, ℕ, ◌+◌, List, [], ◌∷◌, ◌++◌, Bool, true, false, Option, Some, None, refl, sym, ap, subst, inl, inr, ◌∙◌, arith}
+use Rattle.std.proofs.lemmas.Bool.Decides.{nat_tests}
 use Rattle.std.specs.Prelude.{nat_eq}
 use Rattle.sat_base.specs.declared.text.Tokenizer.{Tokenizer}
 use Rattle.sat_base.specs.Text.{is_blank, digits, Token, Number, Letter, Header, Wrong, token, Scan, header_from}
-use Rattle.sat_base.specs.Spot.{Stage, Begun, Named, Format, Vars, Both, stage_behind, Spot, Fresh, Leading, Comment, Between, Within, HeaderBetween, HeaderWithin, Spoilt, Over, IsSpot, left, in_hand, spoils, behind_header_word, ended_by_blank, behind_blank, onto}
-use Rattle.sat_base.specs.Tokenizing.{BeginsSpoilt, Stands}
+use Rattle.sat_base.specs.Spot.{Stage, Begun, Named, Format, Vars, Both, stage_behind, stage_end, Spot, Fresh, Leading, Comment, Between, Within, HeaderBetween, HeaderWithin, Spoilt, Over, IsSpot, left, in_hand, spoils, behind_header_word, ended_by_blank, behind_blank, behind_LF, lines_behind, onto}
+use Rattle.sat_base.specs.Tokenizing.{BeginsSpoilt, Stands, IsOfHeader, Quiet}
 use Rattle.sat_base.proofs.HeaderFirst.{IsWord, word_token}
-use Rattle.sat_base.proofs.Spots.{blank_left, end_left, header_between_word, header_spoilt}
+use Rattle.sat_base.proofs.Spots.{LF_left, blank_left, end_left, header_between_word, header_spoilt}
 use Rattle.sat_base.proofs.Places.{IsSpot_of}
+use Rattle.sat_base.proofs.TextRuns.{of_header, QuietTokens}
 
 pub no_header : (t : Token) → IsWord t → header_from t ≡ None
 no_header (Number negative value) h = refl
@@ -106,3 +108,71 @@ pub alone_given : (machine : Tokenizer) (b l : ℕ) (t : Token) (left_of after :
 unfolding Stands
 alone_given machine b l t left_of after s e f h =
     blank_then s.0 s.1 l t (after []).tokens (ap (λ (k : Scan). k.tokens) (sym (blank_left s.0 s.1 b [] (IsSpot_of machine.place s.0 s.2) e f) ∙ sym (s.4 (b ∷ [])) ∙ h []))
+
+-- Where no word is in hand, a blank ends none.
+first_of : (l m : ℕ) (t u : Token) (ts us : List (ℕ × Token)) → IsOfHeader t → ◌≡◌ {A = List (ℕ × Token)} ((l, t) ∷ ts) ((m, u) ∷ us) → IsOfHeader u
+first_of l m t u ts us h e = subst IsOfHeader (first_token l m t u ts us e) h
+
+quiet_first : (xs ys : List (ℕ × Token)) (l : ℕ) (t : Token) (ts : List (ℕ × Token)) → QuietTokens xs → ys ≡ [] → xs ++ ys ≡ (l, t) ∷ ts → IsOfHeader t
+quiet_first xs ys l t ts (inl q) h e = cons_not_nil (l, t) ts (IsOfHeader t) (rw (q, h) at e)
+quiet_first xs ys l t ts (inr (m, u, i, q)) h e = first_of m l u t [] ts i (rw (q, h) at e)
+
+word_quiet : (o : Option Stage) (n l : ℕ) (t : Token) (ts : List (ℕ × Token)) → spoils o n ++ in_hand (behind_header_word o) n ≡ (l, t) ∷ ts → IsOfHeader t
+word_quiet None n l t ts e = first_of (n + 1) l Wrong t [] ts tt e
+word_quiet (Some s) n l t ts e = first_of (n + 1) l (stage_end s) t [] ts (of_header s) e
+
+blank_quiet : (spot : Spot) (n l : ℕ) (t : Token) (ts : List (ℕ × Token)) → QuietTokens (in_hand spot n) → ended_by_blank spot n ++ in_hand (behind_blank spot) n ≡ (l, t) ∷ ts → IsOfHeader t
+blank_quiet (Fresh may) n l t ts q e = cons_not_nil (l, t) ts (IsOfHeader t) e
+blank_quiet (Leading may) n l t ts q e = cons_not_nil (l, t) ts (IsOfHeader t) e
+blank_quiet (Comment may) n l t ts q e = cons_not_nil (l, t) ts (IsOfHeader t) e
+blank_quiet Between n l t ts q e = cons_not_nil (l, t) ts (IsOfHeader t) e
+blank_quiet (Within x w) n l t ts q e = quiet_first ((n + 1, token (x ∷ w)) ∷ []) [] l t ts q refl e
+blank_quiet (HeaderBetween s) n l t ts q e = first_of (n + 1) l (stage_end s) t [] ts (of_header s) e
+blank_quiet (HeaderWithin s x w) n l t ts q e = word_quiet (stage_behind s (x ∷ w)) n l t ts e
+blank_quiet Spoilt n l t ts q e = first_of (n + 1) l Wrong t [] ts tt e
+blank_quiet Over n l t ts q e = cons_not_nil (l, t) ts (IsOfHeader t) e
+
+below_quiet : (spot : Spot) (n : ℕ) → (left (behind_LF spot) (lines_behind spot n) []).tokens ≡ []
+below_quiet Over n = left_at Over n tt
+below_quiet (Fresh may) n = left_at (Fresh may) (n + 1) tt
+below_quiet (Leading may) n = left_at (Fresh may) (n + 1) tt
+below_quiet (Comment may) n = left_at (Fresh may) (n + 1) tt
+below_quiet Between n = left_at (Fresh false) (n + 1) tt
+below_quiet (Within x w) n = left_at (Fresh false) (n + 1) tt
+below_quiet (HeaderBetween s) n = left_at (Fresh false) (n + 1) tt
+below_quiet (HeaderWithin s x w) n = left_at (Fresh false) (n + 1) tt
+below_quiet Spoilt n = left_at (Fresh false) (n + 1) tt
+
+IsSpot_word : (o : Option Stage) → IsSpot (behind_header_word o)
+IsSpot_word None = tt
+IsSpot_word (Some s) = tt
+
+IsSpot_behind : (spot : Spot) → IsSpot (behind_blank spot)
+IsSpot_behind (Fresh may) = tt
+IsSpot_behind (Leading may) = tt
+IsSpot_behind (Comment may) = tt
+IsSpot_behind Between = tt
+IsSpot_behind (Within x w) = tt
+IsSpot_behind (HeaderBetween s) = tt
+IsSpot_behind (HeaderWithin s x w) = IsSpot_word (stage_behind s (x ∷ w))
+IsSpot_behind Spoilt = tt
+IsSpot_behind Over = tt
+
+quiet_blank : (spot : Spot) (n b l : ℕ) (t : Token) (ts : List (ℕ × Token)) → IsSpot spot → QuietTokens (in_hand spot n) → is_blank b ≡ true → (is_LF : Bool) → nat_eq b 10 ≡ is_LF
+    → (left spot n (b ∷ [])).tokens ≡ (l, t) ∷ ts → IsOfHeader t
+quiet_blank spot n b l t ts i q k true m e =
+    let ten : b ≡ 10 = grind (arith, nat_tests) in
+    quiet_first (in_hand spot n) (left (behind_LF spot) (lines_behind spot n) []).tokens l t ts q (below_quiet spot n)
+    (sym (ap (λ (c : ℕ). (left spot n (c ∷ [])).tokens) ten ∙ ap (λ (s : Scan). s.tokens) (LF_left spot n [] i)) ∙ e)
+quiet_blank spot n b l t ts i q k false m e =
+    blank_quiet spot n l t ts q
+    (ap (λ (us : List (ℕ × Token)). ended_by_blank spot n ++ us) (sym (left_at (behind_blank spot) n (IsSpot_behind spot)))
+    ∙ sym (ap (λ (s : Scan). s.tokens) (blank_left spot n b [] i m k)) ∙ e)
+
+pub quiet_given : (machine : Tokenizer) (b l : ℕ) (t : Token) (left_of after : List ℕ → Scan) → Stands machine left_of → Quiet (left_of []) → is_blank b ≡ true
+    → ((rest : List ℕ) → left_of (b ∷ rest) ≡ onto ((l, t) ∷ []) (after rest)) → IsOfHeader t
+unfolding Stands
+quiet_given machine b l t left_of after s q k h =
+    let i = IsSpot_of machine.place s.0 s.2 in
+    let none : (left_of []).tokens ≡ in_hand s.0 s.1 = ap (λ (r : Scan). r.tokens) (s.4 []) ∙ left_at s.0 s.1 i in
+    quiet_blank s.0 s.1 b l t (after []).tokens i (subst QuietTokens none q) k (nat_eq b 10) refl (ap (λ (r : Scan). r.tokens) (sym (s.4 (b ∷ [])) ∙ h []))

@@ -98,10 +98,10 @@ none_over machine e before (spot, n, i, l, f) =
     let j : spot ≡ Over = rw e at i in
     left_in_hand machine spot n before i f ∙ ap (λ (s : Spot). in_hand s n) j
 
-abbrev QuietTokens : List (ℕ × Token) → Type 0
+abbrev pub QuietTokens : List (ℕ × Token) → Type 0
 QuietTokens ts = (ts ≡ []) ⊎ ((line : ℕ) × (t : Token) × IsOfHeader t × (ts ≡ (line, t) ∷ []))
 
-of_header : (s : Stage) → IsOfHeader (stage_end s)
+pub of_header : (s : Stage) → IsOfHeader (stage_end s)
 of_header Begun = tt
 of_header Named = tt
 of_header Format = tt

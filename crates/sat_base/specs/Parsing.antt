@@ -1,8 +1,8 @@
 -- What a parser of formulas' texts makes of the bytes that it is fed.
 use Rattle.std.specs.Borrow.{MutBor}
 use Rattle.std.specs.List.{FoldsTo, concat}
-use Rattle.std.specs.Prelude.{◌≡◌, ◌<◌, ◌⊎◌, ℕ, length, nat_eq, List, [], ◌∷◌, ◌++◌, Bool, true, false, ◌||◌, Option, None, Some, Result, Ok, Err, if◌then◌else◌}
-use Rattle.sat_base.specs.Text.{is_blank, Token, tokens}
+use Rattle.std.specs.Prelude.{◌≡◌, ◌<◌, ◌⊎◌, ◌-◌, ℕ, length, get_or, nat_eq, List, [], ◌∷◌, ◌++◌, Bool, true, false, ◌||◌, Option, None, Some, Result, Ok, Err, if◌then◌else◌}
+use Rattle.sat_base.specs.Text.{is_blank, Token, Number, scan, tokens}
 use Rattle.sat_base.specs.Tokenizing.{held}
 use Rattle.sat_base.specs.Formulas.{Formula, vars_of}
 use Rattle.sat_base.specs.Dimacs.{Ending, Clean, Malformed, Limit, Hand, Turn, GoesOn, Ends, Fails, turn, dimacs, settled, IsDimacs}
@@ -90,9 +90,19 @@ pub record Faults (ending : Ending) (piece : List ℕ) (old new : Progress) : Ty
   pub progress : new ≡ at_its_end (with_fed front old)
   pub ends : EndsAt ending new
 
--- behind this text the byte is a blank, so that no word is in hand, and up to there none is at fault
-abbrev pub GoesWell : List ℕ → ℕ → Type 0
-GoesWell text byte = (is_blank byte ≡ true) × NoFault None (tokens (text ++ byte ∷ []))
+-- the last byte of a text, LF where there is none
+abbrev pub last_byte : List ℕ → ℕ
+last_byte text = get_or text (length text - 1) 10
+
+-- behind this text the byte is a blank that ends a number, and up to there no word is at fault
+pub record GoesWell (text : List ℕ) (byte : ℕ) : Type 0 where
+  pub blank : is_blank byte ≡ true
+  pub in_word : is_blank (last_byte text) ≡ false
+  pub before : List (ℕ × Token)
+  pub negative : Bool
+  pub value : ℕ
+  pub number : tokens (text ++ byte ∷ []) ≡ before ++ ((scan (text ++ byte ∷ [])).last, Number negative value) ∷ []
+  pub sound : NoFault None (tokens (text ++ byte ∷ []))
 
 -- a front of the piece was taken, and there was no memory at the next byte
 pub record FallsShort (piece : List ℕ) (old new : Progress) : Type 0 where
@@ -121,7 +131,7 @@ Finishes (Err errors.OutOfMemory) old new = (old.stopped ≡ false) × (new ≡ 
 Finishes (Err errors.HasFailed) old new = (old.stopped ≡ true) × (new ≡ old)
 Finishes (Err errors.Read) old new = ⊥
 
--- there was no memory at a blank of the text up to which no word is at fault, or at the end of a text that ends cleanly
+-- there was no memory where a number of the text ends and no word up to there is at fault, or at the end of a text that ends cleanly
 abbrev pub ParsesShort : List ℕ → Type 0
 ParsesShort text = ((front : List ℕ) × (byte : ℕ) × (behind : List ℕ) × (text ≡ front ++ byte ∷ behind) × GoesWell front byte) ⊎ ((dimacs text).ending ≡ Clean)
 

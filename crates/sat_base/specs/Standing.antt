@@ -1,15 +1,15 @@
 -- How a parser stands in a formula's text.
-use Rattle.std.specs.Prelude.{◌≡◌, ℕ, length, List, [], ◌++◌, false, None, Some, Result, Ok, Err}
+use Rattle.std.specs.Prelude.{◌≡◌, ℕ, length, List, [], ◌++◌, true, false, None, Some, Result, Ok, Err}
 use Rattle.sat_base.specs.declared.dimacs.parser.Parser.{Parser}
 use Rattle.sat_base.specs.declared.dimacs.error.DimacsError.{DimacsError}
 use Rattle.sat_base.specs.declared.dimacs.error.DimacsError.TheVariants as errors
-use Rattle.sat_base.specs.Text.{Token, Scan, scan, header_first, header_of}
+use Rattle.sat_base.specs.Text.{is_blank, Token, Scan, scan, header_first, header_of}
 use Rattle.sat_base.specs.Spot.{onto}
-use Rattle.sat_base.specs.Tokenizing.{held, Stands}
+use Rattle.sat_base.specs.Tokenizing.{held, Stands, Quiet}
 use Rattle.sat_base.specs.Formulas.{vars_of}
 use Rattle.sat_base.specs.Dimacs.{Hand, Dimacs, clauses_of}
 use Rattle.sat_base.specs.Collecting.{hand_in}
-use Rattle.sat_base.specs.Parsing.{Progress, NoFault, clauses_read, lines_read, whole_lines, held_numbers}
+use Rattle.sat_base.specs.Parsing.{Progress, NoFault, clauses_read, lines_read, whole_lines, held_numbers, last_byte}
 
 abbrev pub progress_of : Parser → Progress
 progress_of p = record { fed = p.history.fed; taken = p.history.taken; stopped = p.stopped; ended = p.ended }
@@ -37,6 +37,7 @@ pub record Goes (p : Parser) : Type 0 where
   pub turned : Turned before (all_in p) (hand_in p.clauses)
   pub heads : header_of (whole_lines p.history.fed) ≡ header_first before
   pub sound : NoFault None (scan (whole_lines p.history.fed)).tokens
+  pub quiet : is_blank (last_byte p.history.fed) ≡ true → Quiet (left_of [])
 
 -- what is so of every parser
 pub record IsParser (p : Parser) : Type 0 where

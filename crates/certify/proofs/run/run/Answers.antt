@@ -1,5 +1,5 @@
 use Rattle.sat_base.specs.Device.{GaveAll}
-use Rattle.certify.proofs.Finishing.{finished_if, too_many_if, run_fault}
+use Rattle.certify.proofs.Finishing.{finished_if, too_many, run_fault}
 use Rattle.certify.proofs.run.run.Goals as goal
 
 pub returns-clause-finished : goal.returns-clause-finished
@@ -9,4 +9,4 @@ returns-clause-finished g c =
 
 pub returns-clause-fault : goal.returns-clause-fault
 returns-clause-fault g c =
-    run_fault c.answer.result _ _ _ _ _ _ (too_many_if (GaveAll g.S.CountedRead.given g.S.CountedRead.ended g.S.Read.remaining c.args.script.now c.load.new.script) c.in_ok-commands.commands c.in_ok-commands.ensures.script) c.answer.ensures.failures
+    run_fault c.answer.result _ _ _ _ _ _ (too_many (GaveAll g.S.CountedRead.given g.S.CountedRead.ended g.S.Read.remaining c.args.script.now c.load.new.script) c.in_ok-commands.commands c.in_ok-commands.ensures.script) c.answer.ensures.failures
