@@ -1,7 +1,7 @@
 //! Confirms that script, answers and certificate belong together.
 ghost use Rattle.std.specs.Prelude.{◌≡◌, ◌+◌, ◌-◌, ◌^◌, ◌≤◌, ◌<◌, ◌⊎◌, length, IfOk, IsErrOf};
 ghost use Rattle.std.specs.List.{AllByRecursion};
-ghost use Rattle.sat_base.specs.Device.{most_reads, GaveAll};
+ghost use Rattle.sat_base.specs.Device.{most_reads, ReadFails, GaveAll};
 ghost use Rattle.certify.specs.Confirmed.{IsExact, GaveRightAnswers};
 ghost use Rattle.certify.specs.Decides.{Decides};
 ghost use Rattle.certify.specs.Holding.{HasCommands};
@@ -74,9 +74,9 @@ pub fn confirm<S: CountedRead, A: CountedRead, C: CountedRead>(
         → GaveRightAnswers (GaveAll S.given S.ended S.remaining script.old script.new) (GaveAll A.given A.ended A.remaining answers.old answers.new)) }
 
     // A fault is answered only where it happened: exactly one read failed, or there were 2^48 of them.
-    ensures script_read { IsErrOf result ConfirmFault.ScriptRead → (S.failures script.new ≡ S.failures script.old + 1) ⊎ (S.calls script.new ≡ S.calls script.old + most_reads) }
-    ensures answers_read { IsErrOf result ConfirmFault.AnswersRead → (A.failures answers.new ≡ A.failures answers.old + 1) ⊎ (A.calls answers.new ≡ A.calls answers.old + most_reads) }
-    ensures certificate_read { IsErrOf result ConfirmFault.CertificateRead → (C.failures certificate.new ≡ C.failures certificate.old + 1) ⊎ (C.calls certificate.new ≡ C.calls certificate.old + most_reads) }
+    ensures script_read { IsErrOf result ConfirmFault.ScriptRead → ReadFails S.failures S.calls script.old script.new }
+    ensures answers_read { IsErrOf result ConfirmFault.AnswersRead → ReadFails A.failures A.calls answers.old answers.new }
+    ensures certificate_read { IsErrOf result ConfirmFault.CertificateRead → ReadFails C.failures C.calls certificate.old certificate.new }
     ensures counter_end { IsErrOf result ConfirmFault.CounterEnd → HasCommands (GaveAll S.given S.ended S.remaining script.old script.new) (2 ^ 64 - 1) }
 
     // A read of a text has failed only where the answer is that text's fault: neither yes nor no comes after one.

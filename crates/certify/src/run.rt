@@ -1,6 +1,6 @@
 //! Answers a script, with a certificate.
 ghost use Rattle.std.specs.Prelude.{◌≡◌, ◌+◌, ◌-◌, ◌^◌, ◌≤◌, ◌<◌, ◌⊎◌, length, IfOk, OnOk, IfErr, IsErrOf, MatchResult};
-ghost use Rattle.sat_base.specs.Device.{most_reads, GaveAll};
+ghost use Rattle.sat_base.specs.Device.{most_reads, ReadFails, GaveAll};
 ghost use Rattle.sat_base.specs.Script.{Malformed};
 ghost use Rattle.certify.specs.Holding.{IsHeldOf, HasCommands};
 ghost use Rattle.certify.specs.Run.{FinishesText, HasCause};
@@ -30,7 +30,7 @@ use std::alloc::Global;
 fn load<S: CountedRead>(alloc: Global, script: &mut S) -> Result<Script, RunFault>
     ensures script { IfOk result (λ s. IsHeldOf (GaveAll S.given S.ended S.remaining script.old script.new) s) }
     ensures failures { MatchResult result (λ _. S.failures script.new ≡ S.failures script.old)
-        (λ e. HasCause e ((S.failures script.old < S.failures script.new) ⊎ (S.calls script.new ≡ S.calls script.old + most_reads)) ⊥ ⊥ ⊥) }
+        (λ e. HasCause e (ReadFails S.failures S.calls script.old script.new) ⊥ ⊥ ⊥) }
     ensures kept { IsErrOf result RunFault.ScriptRead ⊎ (S.failures script.new ≡ S.failures script.old) }
     ensures reads { S.calls script.new ≤ S.calls script.old + most_reads }
 {
@@ -82,7 +82,7 @@ pub fn run<S: CountedRead, A: CountedWrite, C: CountedWrite>(
     ensures kept { OnOk result ((S.failures script.new ≡ S.failures script.old) × (A.failures answers.new ≡ A.failures answers.old) × (C.failures certificate.new ≡ C.failures certificate.old)) }
     // A fault is answered only where it happened.
     ensures fault { IfErr result (λ e. HasCause e
-        ((S.failures script.old < S.failures script.new) ⊎ (S.calls script.new ≡ S.calls script.old + most_reads))
+        (ReadFails S.failures S.calls script.old script.new)
         (A.failures answers.old < A.failures answers.new)
         (C.failures certificate.old < C.failures certificate.new)
         (HasCommands (GaveAll S.given S.ended S.remaining script.old script.new) (2 ^ 64 - 1))) }

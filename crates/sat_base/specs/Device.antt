@@ -1,5 +1,5 @@
 -- What contracts see of the calls of a device: which failed, and which bytes were given.
-use Rattle.std.specs.Prelude.{Bool, true, false, Option, ◌≡◌, ℕ, ◌+◌, ◌^◌, List, length, ◌++◌, take, Result, MatchResult, if◌then◌else◌, ◌&&◌, nat_eq, nat_lt}
+use Rattle.std.specs.Prelude.{Bool, true, false, Option, ◌≡◌, ℕ, ◌+◌, ◌^◌, ◌⊎◌, List, length, ◌++◌, take, Result, MatchResult, if◌then◌else◌, ◌&&◌, nat_eq, nat_lt}
 use Rattle.std.specs.Io.KnownBytes.{Consumes, IsAtEnd}
 use Rattle.sat_base.specs.declared.counted.Counted.{Counted}
 
@@ -43,6 +43,10 @@ RaisesOnErr r old new = MatchResult r (λ _. new ≡ old) (λ _. new ≡ old + 1
 -- a reader is read at most so often
 abbrev pub most_reads : ℕ
 most_reads = 2 ^ 48
+
+-- why a text couldn't be read: one read failed, which was the last, or so many were made and none did
+abbrev pub ReadFails : {R : Type 0} → (R → ℕ) → (R → ℕ) → R → R → Type 0
+ReadFails failures calls old new = (failures new ≡ failures old + 1) ⊎ ((failures new ≡ failures old) × (calls new ≡ calls old + most_reads))
 
 -- the device inside
 abbrev pub device_of : {D : Type 0} → Counted D → D

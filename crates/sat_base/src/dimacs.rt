@@ -1,7 +1,7 @@
 //! Formulas' texts, read in any pieces.
 ghost use Rattle.std.specs.Prelude.{◌≡◌, ◌≤◌, ◌<◌, ◌+◌, ◌++◌, ◌⊎◌, length, OnOk, IfSome, IsErrOf};
 ghost use Rattle.std.specs.Io.KnownBytes.{IsAtEnd};
-ghost use Rattle.sat_base.specs.Device.{most_reads, GaveAll, GaveFront, IsOver};
+ghost use Rattle.sat_base.specs.Device.{most_reads, ReadFails, GaveAll, GaveFront, IsOver};
 ghost use Rattle.sat_base.specs.Literals.{largest};
 ghost use Rattle.sat_base.specs.Text.{header_of};
 ghost use Rattle.sat_base.specs.Tokenizing.{held};
@@ -112,7 +112,7 @@ impl DimacsParser {
         // A read has failed only where the answer is that, and none is tried again.
         ensures kept { IsErrOf result DimacsError.Read ⊎ (R.failures reader.new ≡ R.failures reader.old) }
         ensures read { IsErrOf result DimacsError.Read
-            → (R.failures reader.new ≡ R.failures reader.old + 1) ⊎ (R.calls reader.new ≡ R.calls reader.old + most_reads) }
+            → ReadFails R.failures R.calls reader.old reader.new }
         ensures reads { R.calls reader.new ≤ R.calls reader.old + most_reads }
         ensures fresh { IsErrOf result DimacsError.HasFailed → ⊥ }
     {
@@ -152,7 +152,7 @@ impl DimacsParser {
         // A read has failed only where the answer is that, and none is tried again.
         ensures kept { IsErrOf result (IncrementalError.Dimacs DimacsError.Read) ⊎ (R.failures reader.new ≡ R.failures reader.old) }
         ensures read { IsErrOf result (IncrementalError.Dimacs DimacsError.Read)
-            → (R.failures reader.new ≡ R.failures reader.old + 1) ⊎ (R.calls reader.new ≡ R.calls reader.old + most_reads) }
+            → ReadFails R.failures R.calls reader.old reader.new }
         ensures reads { R.calls reader.new ≤ R.calls reader.old + most_reads }
     {
         let mut parser = DimacsParser::new(alloc);

@@ -1,6 +1,6 @@
 //! Reading a reader to its end.
 ghost use Rattle.std.specs.Prelude.{◌≡◌, ◌+◌, ◌≤◌, ◌⊎◌, IfOk, OnOk, IsErrOf};
-ghost use Rattle.sat_base.specs.Device.{most_reads, GaveAll};
+ghost use Rattle.sat_base.specs.Device.{most_reads, ReadFails, GaveAll};
 
 use crate::CountedRead;
 use std::alloc::{AllocError, Global};
@@ -35,7 +35,7 @@ pub fn read_whole<R: CountedRead>(alloc: Global, reader: &mut R) -> Result<Vec<u
     ensures gave { IfOk result (λ v. GaveAll R.given R.ended R.remaining reader.old reader.new v.items) }
     ensures kept { OnOk result (R.failures reader.new ≡ R.failures reader.old) }
     // None is tried again.
-    ensures failed { IsErrOf result ReadError.Failed → (R.failures reader.new ≡ R.failures reader.old + 1) ⊎ ((R.failures reader.new ≡ R.failures reader.old) × (R.calls reader.new ≡ R.calls reader.old + most_reads)) }
+    ensures failed { IsErrOf result ReadError.Failed → ReadFails R.failures R.calls reader.old reader.new }
     ensures memory { IsErrOf result ReadError.OutOfMemory → R.failures reader.new ≡ R.failures reader.old }
     ensures reads { R.calls reader.new ≤ R.calls reader.old + most_reads }
 {

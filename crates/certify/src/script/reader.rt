@@ -1,6 +1,6 @@
 //! Reading scripts.
 ghost use Rattle.std.specs.Prelude.{◌≡◌, ◌+◌, ◌≤◌, ◌<◌, ◌⊎◌, ◌++◌, ◌∷◌, ◌&&◌, not, length, ℕ, List, [], IfOk, OnOk, IsErrOf};
-ghost use Rattle.sat_base.specs.Device.{most_reads, GaveAll};
+ghost use Rattle.sat_base.specs.Device.{most_reads, ReadFails, GaveAll};
 ghost use Rattle.sat_base.specs.Text.{Token as SpelledToken};
 ghost use Rattle.sat_base.specs.Script.{Literal as Spelled, Ask, Clean, Nothing, command_in, with_literal, with_letter, at_end, commands_of, has_ask};
 ghost use Rattle.certify.specs.Holding.{HeldScript, held_script, IsHeldOf};
@@ -243,7 +243,7 @@ pub fn read_script<R: CountedRead>(alloc: Global, reader: &mut R) -> Result<Scri
     ensures kept { OnOk result (R.failures reader.new ≡ R.failures reader.old) }
     // None is tried again.
     ensures failed { IsErrOf result ReadError.Failed
-        → (R.failures reader.new ≡ R.failures reader.old + 1) ⊎ ((R.failures reader.new ≡ R.failures reader.old) × (R.calls reader.new ≡ R.calls reader.old + most_reads)) }
+        → ReadFails R.failures R.calls reader.old reader.new }
     ensures memory { IsErrOf result ReadError.OutOfMemory → R.failures reader.new ≡ R.failures reader.old }
     ensures reads { R.calls reader.new ≤ R.calls reader.old + most_reads }
 {
