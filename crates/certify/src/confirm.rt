@@ -73,7 +73,7 @@ pub fn confirm<S: CountedRead, A: CountedRead, C: CountedRead>(
     ensures sound { IfOk result (λ v. v ≡ Verdict.Yes
         → GaveRightAnswers (GaveAll S.given S.ended S.remaining script.old script.new) (GaveAll A.given A.ended A.remaining answers.old answers.new)) }
 
-    // A fault is answered only where it happened: exactly one read failed, or there were 2^48 of them.
+    // A fault is answered only where it happened: exactly one read failed, or there were 2^48 of which none did.
     ensures script_read { IsErrOf result ConfirmFault.ScriptRead → ReadFails S.failures S.calls script.old script.new }
     ensures answers_read { IsErrOf result ConfirmFault.AnswersRead → ReadFails A.failures A.calls answers.old answers.new }
     ensures certificate_read { IsErrOf result ConfirmFault.CertificateRead → ReadFails C.failures C.calls certificate.old certificate.new }

@@ -36,8 +36,7 @@ passes_more old mid new xs ys p q = record {
 
 pub faults_later : (old mid new : Source) (xs : List ℕ) → Passes old mid xs → Faults mid new → Faults old new
 faults_later old mid new xs p f = record {
-  cause = elim f.cause [ inl h ↦ inl (omega (arith, p.failures)) | inr h ↦ inr h ];
-  failures = omega (arith, p.failures, f.failures);
+  cause = elim f.cause [ inl h ↦ inl (h ∙ ap (λ (n : ℕ). n + 1) p.failures) | inr h ↦ inr (h.0 ∙ p.failures, h.1) ];
   calls = omega (arith, p.calls, f.calls);
 }
 

@@ -49,10 +49,9 @@ pub record AllTaken (s : Source) : Type 0 where
   pub waiting : s.waiting ≡ []
   pub over : IsAtEnd s.to_come
 
--- a read failed, or there were 2^48 of them
+-- one read failed, which was the last, or there were 2^48 of them and none did
 pub record Faults (old new : Source) : Type 0 where
-  pub cause : (old.failures < new.failures) ⊎ (most_reads ≤ new.reads)
-  pub failures : old.failures ≤ new.failures
+  pub cause : (new.failures ≡ old.failures + 1) ⊎ ((new.failures ≡ old.failures) × (most_reads ≤ new.reads))
   pub calls : new.calls + old.reads ≡ old.calls + new.reads
 
 -- another piece was read, of so many bytes: none only at the end
