@@ -26,6 +26,8 @@ fault_rows = record {
   inside_a_clause = refl;
   inside_a_clause_at_percent = refl;
   letter = refl;
+  vertical_tab = refl;
+  form_feed = refl;
   late_header = refl;
   first_fault = refl;
 }

@@ -32,6 +32,8 @@ pub record FaultRows : Type 0 where
   pub inside_a_clause : IsDimacs (codes "1 0\n\n2\n") ((plus 1 ∷ []) ∷ []) (Malformed 3)
   pub inside_a_clause_at_percent : IsDimacs (codes "1\n%\n") [] (Malformed 2)
   pub letter : IsDimacs (codes "a 0") [] (Malformed 1)
+  pub vertical_tab : IsDimacs (49 ∷ 11 ∷ 48 ∷ []) [] (Malformed 1)
+  pub form_feed : IsDimacs (49 ∷ 32 ∷ 48 ∷ 12 ∷ []) [] (Malformed 1)
   pub late_header : IsDimacs (codes "1 0\np cnf 1 1\n") ((plus 1 ∷ []) ∷ []) (Malformed 2)
   pub first_fault : IsDimacs (codes "268435457 x\n") [] (Limit 1)
 

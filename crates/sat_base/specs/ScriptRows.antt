@@ -36,6 +36,8 @@ pub record MalformedRows : Type 0 where
   pub digits_and_more : IsScript (codes "1x 0") [] Malformed
   pub letter_in_clause : IsScript (codes "1 a 0") [] Malformed
   pub other_letter : IsScript (codes "b 0") [] Malformed
+  pub vertical_tab : IsScript (49 ∷ 11 ∷ 48 ∷ []) [] Malformed
+  pub form_feed : IsScript (49 ∷ 32 ∷ 48 ∷ 12 ∷ []) [] Malformed
   pub ask_with_literals : IsScript (codes "a 1 0") [] Malformed
   pub two_letters : IsScript (codes "aa 0") [] Malformed
   pub one_number : IsScript (codes "p cnf 1\n") [] Malformed
