@@ -1,5 +1,5 @@
 -- What a run has done once all commands are taken.
-use Rattle.std.proofs.Common.{ℕ, ◌+◌, ◌-◌, ◌^◌, ◌≤◌, ◌≡◌, cond, Result, Ok, Err, IfOk, List, [], ◌∷◌, ◌++◌, map, length, Option, Some, None, is_some, refl, sym, ◌∙◌, ap, subst, arith, append-nil}
+use Rattle.std.proofs.Common.{ℕ, ◌+◌, ◌-◌, ◌^◌, ◌≤◌, ◌≡◌, cond, Result, Ok, Err, IfOk, List, [], ◌∷◌, ◌++◌, map, length, Option, Some, None, is_some, inl, inr, refl, sym, ◌∙◌, ap, subst, arith, append-nil}
 use Rattle.std.proofs.Math.Seq.{drop-length}
 use Rattle.std.proofs.KnownBytes.{Appends-nil, Appends-trans}
 use Rattle.std.proofs.lemmas.List.{length-map}
@@ -17,11 +17,11 @@ use Rattle.certify.specs.Held.{fresh}
 use Rattle.certify.specs.TheChecking.{the_checking}
 use Rattle.certify.specs.Matches.{expected, finish}
 use Rattle.certify.specs.Certified.{Certifies, complete, ordered}
-use Rattle.certify.specs.Holding.{held_command, HeldScript, held_script, IsHeldOf, HasCommands}
-use Rattle.std.specs.Prelude.{MatchResult, IfErr}
+use Rattle.certify.specs.Holding.{held_command, HeldScript, held_script, IsHeldOf, IsMalformedBehind}
+use Rattle.std.specs.Prelude.{MatchResult, IfErr, IsErrOf, ◌⊎◌}
 use Rattle.certify.specs.declared.fault.RunFault.TheVariants as fault
 use Rattle.certify.specs.Run.{HasCause, RunOf, Finished, FinishesText, refused_count, malformed_at}
-use Rattle.certify.specs.Running.{Plain, Reached, TookAll, WroteStep, Finishes, malformed_text}
+use Rattle.certify.specs.Running.{Plain, Reached, TookAll, WroteStep, Finishes, FailsOnce, malformed_text}
 use Rattle.certify.proofs.Held.{refusal_of-held, unheld, after_command-held, accepted_of-held}
 use Rattle.certify.proofs.Certified.{told_start}
 use Rattle.certify.proofs.PlainState.{start_plain}
@@ -150,19 +150,44 @@ pub finished_if : (IsText : List ℕ → Type 0) (r : Result Summary RunFault) (
 finished_if IsText (Ok summary) script budget a b p q e f = (e.0, e.1, finished e.0 script budget summary a b p q e.2 f)
 finished_if IsText (Err x) script budget a b p q e f = tt
 
-pub too_many : (IsText : List ℕ → Type 0) (script : HeldScript) → IsHeldOf IsText script → (script.1 ≡ Malformed) × (2 ^ 64 - 1 ≤ length script.0) → HasCommands IsText (2 ^ 64 - 1)
-too_many IsText script e h = counted IsText script (2 ^ 64 - 1) e h.1
+pub too_many : (IsText : List ℕ → Type 0) (script : HeldScript) → IsHeldOf IsText script → (script.1 ≡ Malformed) × (2 ^ 64 - 1 ≤ length script.0) → IsMalformedBehind IsText (2 ^ 64 - 1)
+too_many IsText script e h =
+    let m : (reading e.0).1 ≡ Malformed = sym (ap (λ (s : HeldScript). s.1) e.2) ∙ h.0 in
+    counted (λ text. IsText text × ((reading text).1 ≡ Malformed)) script (2 ^ 64 - 1) (e.0, (e.1, m), e.2) h.1
 
 -- the cause of a fault behind the script
-cause_behind : (e : RunFault) (script answers certificate many more : Type 0) → (many → more) → HasCause e ⊥ answers certificate many → HasCause e script answers certificate more
-cause_behind fault.ScriptRead script answers certificate many more f h = absurd h
-cause_behind fault.AnswersWrite script answers certificate many more f h = h
-cause_behind fault.CertificateWrite script answers certificate many more f h = h
-cause_behind fault.OutOfMemory script answers certificate many more f h = h
-cause_behind fault.StoreFull script answers certificate many more f h = h
-cause_behind fault.CounterEnd script answers certificate many more f h = f h
+once_behind : (e : RunFault) (script many more : Type 0) (a a' c c' : ℕ) → (many → more) → FailsOnce e many a a' c c'
+    → HasCause e script (a' ≡ a + 1) (c' ≡ c + 1) more ((a' ≡ a) × (c' ≡ c))
+once_behind fault.ScriptRead script many more a a' c c' f h = absurd h
+once_behind fault.AnswersWrite script many more a a' c c' f h = h.0
+once_behind fault.CertificateWrite script many more a a' c c' f h = h.0
+once_behind fault.OutOfMemory script many more a a' c c' f h = h
+once_behind fault.StoreFull script many more a a' c c' f h = absurd h
+once_behind fault.CounterEnd script many more a a' c c' f h = f h.0
 
-pub run_fault : (r : Result Summary RunFault) (ok : Summary → Type 0) (script answers certificate many more : Type 0) → (many → more)
-    → MatchResult r ok (λ e. HasCause e ⊥ answers certificate many) → IfErr r (λ e. HasCause e script answers certificate more)
-run_fault (Ok x) ok script answers certificate many more f h = tt
-run_fault (Err e) ok script answers certificate many more f h = cause_behind e script answers certificate many more f h
+pub run_fault : (r : Result Summary RunFault) (ok : Summary → Type 0) (script many more : Type 0) (a a' c c' : ℕ) → (many → more)
+    → MatchResult r ok (λ e. FailsOnce e many a a' c c') → IfErr r (λ e. HasCause e script (a' ≡ a + 1) (c' ≡ c + 1) more ((a' ≡ a) × (c' ≡ c)))
+run_fault (Ok x) ok script many more a a' c c' f h = tt
+run_fault (Err e) ok script many more a a' c c' f h = once_behind e script many more a a' c c' f h
+
+-- no call of a writer failed where its fault isn't the answer
+abbrev Same : ℕ → ℕ → ℕ → ℕ → Summary → Type 0
+Same a a' c c' summary = (a' ≡ a) × (c' ≡ c)
+
+pub kept_answers : (r : Result Summary RunFault) (many : Type 0) (a a' c c' : ℕ) → MatchResult r (Same a a' c c') (λ e. FailsOnce e many a a' c c') → IsErrOf r fault.AnswersWrite ⊎ (a' ≡ a)
+kept_answers (Ok x) many a a' c c' h = inr h.0
+kept_answers (Err fault.ScriptRead) many a a' c c' h = absurd h
+kept_answers (Err fault.AnswersWrite) many a a' c c' h = inl refl
+kept_answers (Err fault.CertificateWrite) many a a' c c' h = inr h.1
+kept_answers (Err fault.OutOfMemory) many a a' c c' h = inr h.0
+kept_answers (Err fault.StoreFull) many a a' c c' h = absurd h
+kept_answers (Err fault.CounterEnd) many a a' c c' h = inr h.1
+
+pub kept_certificate : (r : Result Summary RunFault) (many : Type 0) (a a' c c' : ℕ) → MatchResult r (Same a a' c c') (λ e. FailsOnce e many a a' c c') → IsErrOf r fault.CertificateWrite ⊎ (c' ≡ c)
+kept_certificate (Ok x) many a a' c c' h = inr h.1
+kept_certificate (Err fault.ScriptRead) many a a' c c' h = absurd h
+kept_certificate (Err fault.AnswersWrite) many a a' c c' h = inr h.1
+kept_certificate (Err fault.CertificateWrite) many a a' c c' h = inl refl
+kept_certificate (Err fault.OutOfMemory) many a a' c c' h = inr h.1
+kept_certificate (Err fault.StoreFull) many a a' c c' h = absurd h
+kept_certificate (Err fault.CounterEnd) many a a' c c' h = inr h.2

@@ -1,7 +1,7 @@
 -- Names that are held at one above the largest, which no command with a larger one notices.
 use Rattle.std.specs.Prelude.{ℕ, ◌+◌, ◌≡◌, ◌≤◌, min, None, List, map, length}
 use Rattle.sat_base.specs.Literals.{largest}
-use Rattle.sat_base.specs.Script.{Literal, Command, Clause, Ask, Hide, Witness, Sample, Ending, Reading, written, reading}
+use Rattle.sat_base.specs.Script.{Literal, Command, Clause, Ask, Hide, Witness, Sample, Ending, Malformed, Reading, written, reading}
 use Rattle.sat_base.specs.Judge.{Judge, refusal_of, accepted_of, after_command, after_script}
 
 abbrev pub held_name : ℕ → ℕ
@@ -35,6 +35,10 @@ IsHeldOf IsText script = (text : List ℕ) × IsText text × (script ≡ held_sc
 -- the text in question has so many commands
 abbrev pub HasCommands : (List ℕ → Type 0) → ℕ → Type 0
 HasCommands IsText count = (text : List ℕ) × IsText text × (count ≤ length (reading text).0)
+
+-- it is malformed behind so many commands
+abbrev pub IsMalformedBehind : (List ℕ → Type 0) → ℕ → Type 0
+IsMalformedBehind IsText = HasCommands (λ text. IsText text × ((reading text).1 ≡ Malformed))
 
 -- why a command is refused, which commands are accepted, and what they leave, all stay as they are
 pub record HoldingIsFree : Type 0 where

@@ -17,15 +17,15 @@ use Rattle.certify.specs.declared.summary.Answer.TheVariants as kind
 use Rattle.certify.specs.declared.summary.AskReport.{AskReport}
 use Rattle.certify.specs.declared.summary.Summary.{Summary}
 
--- what each fault says, where reading the script failed, writing the answers, and writing the certificate, and where the commands
--- can't be counted: want of memory can't be seen, and no store was full
-abbrev pub HasCause : RunFault → Type 0 → Type 0 → Type 0 → Type 0 → Type 0
-HasCause fault.ScriptRead script answers certificate many = script
-HasCause fault.AnswersWrite script answers certificate many = answers
-HasCause fault.CertificateWrite script answers certificate many = certificate
-HasCause fault.OutOfMemory script answers certificate many = Unit {0}
-HasCause fault.StoreFull script answers certificate many = ⊥
-HasCause fault.CounterEnd script answers certificate many = many
+-- What each fault says, where reading the script failed, writing the answers, and writing the certificate, where the commands
+-- can't be counted, and where memory was wanted. No store was full.
+abbrev pub HasCause : RunFault → Type 0 → Type 0 → Type 0 → Type 0 → Type 0 → Type 0
+HasCause fault.ScriptRead script answers certificate many memory = script
+HasCause fault.AnswersWrite script answers certificate many memory = answers
+HasCause fault.CertificateWrite script answers certificate many memory = certificate
+HasCause fault.OutOfMemory script answers certificate many memory = memory
+HasCause fault.StoreFull script answers certificate many memory = ⊥
+HasCause fault.CounterEnd script answers certificate many memory = many
 
 -- how many commands are refused
 abbrev pub refused_count : Judge → List Command → ℕ

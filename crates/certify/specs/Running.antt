@@ -42,15 +42,15 @@ pub record WroteStep (step : Step) (old new : Option (List ℕ)) : Type 0 where
 
 -- where a part writes to the certificate alone: `Ok` says what it wrote and that no call failed
 abbrev pub WritesSteps : {T : Type 0} → Result T RunFault → (T → Type 0) → ℕ → ℕ → Type 0
-WritesSteps r wrote failed_old failed_new = MatchResult r (λ x. wrote x × (failed_new ≡ failed_old)) (λ e. HasCause e ⊥ ⊥ (failed_old < failed_new) ⊥)
+WritesSteps r wrote failed_old failed_new = MatchResult r (λ x. wrote x × (failed_new ≡ failed_old)) (λ e. HasCause e ⊥ ⊥ (failed_new ≡ failed_old + 1) ⊥ (failed_new ≡ failed_old))
 
 abbrev pub WritesStep : {T : Type 0} → Result T RunFault → Step → Option (List ℕ) → Option (List ℕ) → ℕ → ℕ → Type 0
 WritesStep r step old new failed_old failed_new =
-    MatchResult r (λ _. WroteStep step old new × (failed_new ≡ failed_old)) (λ e. HasCause e ⊥ ⊥ (failed_old < failed_new) ⊥)
+    MatchResult r (λ _. WroteStep step old new × (failed_new ≡ failed_old)) (λ e. HasCause e ⊥ ⊥ (failed_new ≡ failed_old + 1) ⊥ (failed_new ≡ failed_old))
 
 -- where a part writes these bytes to the answers alone
 abbrev pub WritesAnswer : {T : Type 0} → Result T RunFault → List ℕ → Option (List ℕ) → Option (List ℕ) → ℕ → ℕ → Type 0
-WritesAnswer r text old new failed_old failed_new = MatchResult r (λ _. Appends old new text × (failed_new ≡ failed_old)) (λ e. HasCause e ⊥ (failed_old < failed_new) ⊥ ⊥)
+WritesAnswer r text old new failed_old failed_new = MatchResult r (λ _. Appends old new text × (failed_new ≡ failed_old)) (λ e. HasCause e ⊥ (failed_new ≡ failed_old + 1) ⊥ ⊥ (failed_new ≡ failed_old))
 
 -- the literal over variables, name k being that of variable k - 1
 abbrev pub code_of : Literal → ℕ
@@ -213,17 +213,25 @@ pub record TookAll (script : HeldScript) (budget place : ℕ) (s : Session) (ans
   pub wrote : Wrote steps certificate_old certificate_new
   pub reached : AllByRecursion IsSimple script.0 → Reached script.0 script.1 budget (drop place script.0) (place + 1) s answered steps
 
+-- where a part writes to both, a fault says that one call failed, of its device, and want of memory that none did
+abbrev pub FailsOnce : RunFault → Type 0 → ℕ → ℕ → ℕ → ℕ → Type 0
+FailsOnce e many answers_old answers_new certificate_old certificate_new = HasCause e ⊥
+    ((answers_new ≡ answers_old + 1) × (certificate_new ≡ certificate_old))
+    ((certificate_new ≡ certificate_old + 1) × (answers_new ≡ answers_old))
+    (many × (answers_new ≡ answers_old) × (certificate_new ≡ certificate_old))
+    ((answers_new ≡ answers_old) × (certificate_new ≡ certificate_old))
+
 -- where a part writes to both, `Ok` says that no call failed
 abbrev pub WritesBoth : {T : Type 0} → Result T RunFault → ℕ → ℕ → ℕ → ℕ → Type 0
 WritesBoth r answers_failed_old answers_failed_new certificate_failed_old certificate_failed_new =
     MatchResult r (λ _. (answers_failed_new ≡ answers_failed_old) × (certificate_failed_new ≡ certificate_failed_old))
-    (λ e. HasCause e ⊥ (answers_failed_old < answers_failed_new) (certificate_failed_old < certificate_failed_new) ⊥)
+    (λ e. FailsOnce e ⊥ answers_failed_old answers_failed_new certificate_failed_old certificate_failed_new)
 
 -- where a part ends both texts
 abbrev pub Ends : {T : Type 0} → Result T RunFault → List ℕ → Option (List ℕ) → Option (List ℕ) → Option (List ℕ) → Option (List ℕ) → ℕ → ℕ → ℕ → ℕ → Type 0
 Ends r last answers_old answers_new certificate_old certificate_new answers_failed_old answers_failed_new certificate_failed_old certificate_failed_new =
     MatchResult r (λ _. Appends answers_old answers_new last × (answers_failed_new ≡ answers_failed_old) × WroteStep End certificate_old certificate_new × (certificate_failed_new ≡ certificate_failed_old))
-    (λ e. HasCause e ⊥ (answers_failed_old < answers_failed_new) (certificate_failed_old < certificate_failed_new) ⊥)
+    (λ e. FailsOnce e ⊥ answers_failed_old answers_failed_new certificate_failed_old certificate_failed_new)
 
 -- what was written to a whole script, where its commands are those that a script has for now
 pub record Finishes (script : HeldScript) (budget : ℕ) (summary : Summary) (answers_old answers_new certificate_old certificate_new : Option (List ℕ)) : Type 0 where

@@ -61,5 +61,5 @@ conflicts Unknown spent = spent
 
 -- a fault of writing comes where a write failed, and no other
 abbrev pub IsTrueFault : SolveFault → Written → Written → Type 0
-IsTrueFault Write old new = old.failures < new.failures
+IsTrueFault Write old new = new.failures ≡ old.failures + 1
 IsTrueFault OutOfMemory old new = new.failures ≡ old.failures

@@ -2,9 +2,9 @@
 ghost use Rattle.std.specs.Prelude.{◌≡◌, ◌+◌, ◌-◌, ◌^◌, ◌≤◌, ◌<◌, ◌⊎◌, length, IfOk, OnOk, IfErr, IsErrOf, MatchResult};
 ghost use Rattle.sat_base.specs.Device.{most_reads, ReadFails, GaveAll};
 ghost use Rattle.sat_base.specs.Script.{Malformed};
-ghost use Rattle.certify.specs.Holding.{IsHeldOf, HasCommands};
+ghost use Rattle.certify.specs.Holding.{IsHeldOf, IsMalformedBehind};
 ghost use Rattle.certify.specs.Run.{FinishesText, HasCause};
-ghost use Rattle.certify.specs.Running.{Finishes};
+ghost use Rattle.certify.specs.Running.{Finishes, FailsOnce};
 
 mod ask;
 mod clause;
@@ -30,7 +30,7 @@ use std::alloc::Global;
 fn load<S: CountedRead>(alloc: Global, script: &mut S) -> Result<Script, RunFault>
     ensures script { IfOk result (λ s. IsHeldOf (GaveAll S.given S.ended S.remaining script.old script.new) s) }
     ensures failures { MatchResult result (λ _. S.failures script.new ≡ S.failures script.old)
-        (λ e. HasCause e (ReadFails S.failures S.calls script.old script.new) ⊥ ⊥ ⊥) }
+        (λ e. HasCause e (ReadFails S.failures S.calls script.old script.new) ⊥ ⊥ ⊥ (S.failures script.new ≡ S.failures script.old)) }
     ensures kept { IsErrOf result RunFault.ScriptRead ⊎ (S.failures script.new ≡ S.failures script.old) }
     ensures reads { S.calls script.new ≤ S.calls script.old + most_reads }
 {
@@ -51,7 +51,7 @@ fn answer<A: CountedWrite, C: CountedWrite>(
 ) -> Result<Summary, RunFault>
     ensures finishes { IfOk result (λ summary. Finishes script.now budget summary (A.contents answers.old) (A.contents answers.new) (C.contents certificate.old) (C.contents certificate.new)) }
     ensures failures { MatchResult result (λ _. (A.failures answers.new ≡ A.failures answers.old) × (C.failures certificate.new ≡ C.failures certificate.old))
-        (λ e. HasCause e ⊥ (A.failures answers.old < A.failures answers.new) (C.failures certificate.old < C.failures certificate.new) ((script.now.1 ≡ Malformed) × (2 ^ 64 - 1 ≤ length script.now.0))) }
+        (λ e. FailsOnce e ((script.now.1 ≡ Malformed) × (2 ^ 64 - 1 ≤ length script.now.0)) (A.failures answers.old) (A.failures answers.new) (C.failures certificate.old) (C.failures certificate.new)) }
 {
     let mut session = Session::new(alloc);
     take_all(&mut session, script, answers, certificate, budget)?;
@@ -80,14 +80,18 @@ pub fn run<S: CountedRead, A: CountedWrite, C: CountedWrite>(
     ensures finished { IfOk result (λ summary. FinishesText (GaveAll S.given S.ended S.remaining script.old script.new) budget summary
         (A.contents answers.old) (A.contents answers.new) (C.contents certificate.old) (C.contents certificate.new)) }
     ensures kept { OnOk result ((S.failures script.new ≡ S.failures script.old) × (A.failures answers.new ≡ A.failures answers.old) × (C.failures certificate.new ≡ C.failures certificate.old)) }
-    // A fault is answered only where it happened.
+    // A fault is answered only where it happened: of a device's calls exactly one failed.
     ensures fault { IfErr result (λ e. HasCause e
         (ReadFails S.failures S.calls script.old script.new)
-        (A.failures answers.old < A.failures answers.new)
-        (C.failures certificate.old < C.failures certificate.new)
-        (HasCommands (GaveAll S.given S.ended S.remaining script.old script.new) (2 ^ 64 - 1))) }
-    // A read of the script has failed only where the answer is that. It is read at most 2^48 times.
+        (A.failures answers.new ≡ A.failures answers.old + 1)
+        (C.failures certificate.new ≡ C.failures certificate.old + 1)
+        (IsMalformedBehind (GaveAll S.given S.ended S.remaining script.old script.new) (2 ^ 64 - 1))
+        ((A.failures answers.new ≡ A.failures answers.old) × (C.failures certificate.new ≡ C.failures certificate.old))) }
+    // A call of a device has failed only where the answer is that.
     ensures kept_script { IsErrOf result RunFault.ScriptRead ⊎ (S.failures script.new ≡ S.failures script.old) }
+    ensures kept_answers { IsErrOf result RunFault.AnswersWrite ⊎ (A.failures answers.new ≡ A.failures answers.old) }
+    ensures kept_certificate { IsErrOf result RunFault.CertificateWrite ⊎ (C.failures certificate.new ≡ C.failures certificate.old) }
+    // The script is read at most 2^48 times.
     ensures reads { S.calls script.new ≤ S.calls script.old + most_reads }
 {
     let commands = load(alloc, script)?;

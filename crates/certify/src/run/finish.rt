@@ -14,7 +14,7 @@ use sat_base::{CountedWrite, ProofStep};
 
 /// The number that the command would have had at which the text is malformed, counted from 1.
 pub(crate) fn malformed_number(script: &Script) -> Result<Option<u64>, RunFault>
-    ensures { MatchResult result (λ number. number ≡ malformed_at (length script.now.0 + 1) script.now.1) (λ e. HasCause e ⊥ ⊥ ⊥ ((script.now.1 ≡ Malformed) × (2 ^ 64 - 1 ≤ length script.now.0))) }
+    ensures { MatchResult result (λ number. number ≡ malformed_at (length script.now.0 + 1) script.now.1) (λ e. HasCause e ⊥ ⊥ ⊥ ((script.now.1 ≡ Malformed) × (2 ^ 64 - 1 ≤ length script.now.0)) ⊥) }
 {
     if !script.is_malformed() {
         return Ok(None);
