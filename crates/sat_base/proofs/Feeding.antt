@@ -19,12 +19,12 @@ use Rattle.sat_base.specs.Tokenizing.{held, held_token, Stands, Takes, GivesLast
 use Rattle.sat_base.specs.Formulas.{Formula, no_formula, vars_in, vars_of}
 use Rattle.sat_base.specs.Dimacs.{Hand, Turn, GoesOn, Ends, Fails, Ending, Clean, Malformed, Limit, Dimacs, literals_in, turn, at_end, clauses_of, dimacs, settled}
 use Rattle.sat_base.specs.Collecting.{token_of, hand_in, header_behind, is_literal, NeedsRoom, Stay, AllStay, Turns}
-use Rattle.sat_base.specs.Parsing.{Progress, NoFault, GoesWell, Faults, Feeds, Finishes, with_fed, cut_short, at_its_end, clauses_read, lines_read, whole_lines, held_numbers, last_byte}
+use Rattle.sat_base.specs.Parsing.{Progress, NoFault, GoesWell, EndsWell, Faults, Feeds, Finishes, with_fed, cut_short, at_its_end, clauses_read, lines_read, whole_lines, held_numbers, last_byte}
 use Rattle.sat_base.specs.Standing.{progress_of, all_in, onto_clauses, Turned, Goes, IsParser, EndsClean}
 use Rattle.sat_base.proofs.FlatLemmas.{vars_of_more}
 use Rattle.sat_base.specs.Script.{spoken}
 use Rattle.sat_base.proofs.HeaderFirst.{AreWords, AreScript, text_is}
-use Rattle.sat_base.proofs.PlainTokens.{no_header, plain_given, alone_given, quiet_given}
+use Rattle.sat_base.proofs.PlainTokens.{no_header, first_token, plain_given, alone_given, quiet_given}
 use Rattle.sat_base.proofs.Collected.{settled_blank, settled_inside, whole_LF, whole_inside, turn-held, clauses_of_nil, turned_first, turned_goes, turned_ends, fails_there, scans_next, dimacs_is, settled_clauses}
 
 -- THE CLAUSES
@@ -568,33 +568,6 @@ finish_inside old i o t line gives lit l =
       answer = (o, ended_progress old old refl, n, l g.left_of g.stands, ap (λ (d : Dimacs). d.ending) says);
     }
 
--- there was no memory for the clause that the text's end ends
-pub finish_short : (old : Parser) (i : IsParser old) (o : old.stopped ≡ false) (t : CodeToken) → ((left_of : List ℕ → Scan) → Stands old.tokenizer left_of → GivesLast (Some t) (left_of [])) → is_literal (token_of t) ≡ false → NeedsRoom (token_of t)
-    → (dimacs old.history.fed).ending ≡ Clean
-finish_short old i o t gives lit (inl is) = absurd (let g : ◌≡◌ {A = Bool} true false = sym is ∙ lit in cc)
-finish_short old i o t gives lit (inr ends) =
-    let g = i.goes o in
-    let q = gives g.left_of g.stands in
-    let n = (g.left_of []).last in
-    let x : ℕ × Token = (n, q.0) in
-    let c = literals_in (hand_in old.clauses) in
-    let e : turn (hand_in old.clauses) n q.0 ≡ Ends c = sym (turn_of old.clauses n t q.0 q.1) ∙ ends (hand_in old.clauses) n in
-    let m : Turned (g.before ++ x ∷ []) (all_in old ++ c ∷ []) None = turned_ends g.before (all_in old) (hand_in old.clauses) n q.0 g.turned c e in
-    ap (λ (d : Dimacs). d.ending) (dimacs_is old.history.fed g.before (g.left_of []) (scan_whole old g)
-    ∙ ap (λ (ts : List (ℕ × Token)). clauses_of None n (g.before ++ ts)) q.2
-    ∙ ap (clauses_of None n) (sym (append-nil (g.before ++ x ∷ [])))
-    ∙ m.says n []
-    ∙ ap (onto_clauses (all_in old ++ c ∷ [])) (clauses_of_nil None n))
-
--- there was no memory for the word that a byte ends
-no_fault_of : (hand : Hand) (n : ℕ) (t : Token) → ((ls : List ℕ) × (turn hand n t ≡ GoesOn (Some ls))) ⊎ (turn hand n t ≡ Ends (literals_in hand)) → NoFault hand ((n, t) ∷ [])
-no_fault_of hand n t (inl (ls, e)) = rw e tt
-no_fault_of hand n t (inr e) = rw e tt
-
-room_turn : (hand : Hand) (n : ℕ) (t : CodeToken) → NeedsRoom (token_of t) → ((ls : List ℕ) × (turn hand n (token_of t) ≡ GoesOn (Some ls))) ⊎ (turn hand n (token_of t) ≡ Ends (literals_in hand))
-room_turn hand n t (inl is) = inl ((literal_goes t is).0 hand n)
-room_turn hand n t (inr ends) = inr (ends hand n)
-
 -- memory is taken for numbers alone
 number_of : (given : Token) → NeedsRoom (token_of (held_token given)) → (negative : Bool) × (value : ℕ) × (given ≡ Number negative value)
 number_of (Number negative value) r = (negative, value, refl)
@@ -608,6 +581,50 @@ number_of Wrong (inr ends) = absurd (let e : ◌≡◌ {A = Turn} (Fails (Malfor
 true_not : (b : Bool) → (b ≡ true → ⊥) → b ≡ false
 true_not true h = absurd (h refl)
 true_not false h = refl
+
+-- there was no memory for the clause that the text's end ends
+pub finish_short : (old : Parser) (i : IsParser old) (o : old.stopped ≡ false) (t : CodeToken) → ((left_of : List ℕ → Scan) → Stands old.tokenizer left_of → GivesLast (Some t) (left_of [])) → is_literal (token_of t) ≡ false → NeedsRoom (token_of t)
+    → EndsWell old.history.fed
+finish_short old i o t gives lit (inl is) = absurd (let g : ◌≡◌ {A = Bool} true false = sym is ∙ lit in cc)
+finish_short old i o t gives lit (inr ends) =
+    let g = i.goes o in
+    let q = gives g.left_of g.stands in
+    let n = (g.left_of []).last in
+    let x : ℕ × Token = (n, q.0) in
+    let c = literals_in (hand_in old.clauses) in
+    let e : turn (hand_in old.clauses) n q.0 ≡ Ends c = sym (turn_of old.clauses n t q.0 q.1) ∙ ends (hand_in old.clauses) n in
+    let m : Turned (g.before ++ x ∷ []) (all_in old ++ c ∷ []) None = turned_ends g.before (all_in old) (hand_in old.clauses) n q.0 g.turned c e in
+    let k = number_of q.0 (subst (λ (u : CodeToken). NeedsRoom (token_of u)) q.1 (inr ends)) in
+    let word : Quiet (g.left_of []) → ⊥ = λ h. elim h [
+      | inl none ↦ (let z : ◌≡◌ {A = List (ℕ × Token)} [] (x ∷ []) = sym none ∙ q.2 in cc)
+      | inr other ↦ (let z : x ∷ [] ≡ (other.0, other.1) ∷ [] = sym q.2 ∙ other.3 in subst IsOfHeader (sym (first_token n other.0 q.0 other.1 [] [] z) ∙ k.2) other.2)
+    ] in
+    let clean : (dimacs old.history.fed).ending ≡ Clean =
+    ap (λ (d : Dimacs). d.ending) (dimacs_is old.history.fed g.before (g.left_of []) (scan_whole old g)
+    ∙ ap (λ (ts : List (ℕ × Token)). clauses_of None n (g.before ++ ts)) q.2
+    ∙ ap (clauses_of None n) (sym (append-nil (g.before ++ x ∷ [])))
+    ∙ m.says n []
+    ∙ ap (onto_clauses (all_in old ++ c ∷ [])) (clauses_of_nil None n)) in
+    record {
+      number = record {
+        in_word = true_not (is_blank (last_byte old.history.fed)) (λ b. word (g.quiet b));
+        before = g.before;
+        negative = k.0;
+        value = k.1;
+        number = ap (λ (z : Scan). z.tokens) (scan_whole old g) ∙ ap (λ (ts : List (ℕ × Token)). g.before ++ ts) q.2 ∙ ap (λ (u : Token). g.before ++ (n, u) ∷ []) k.2
+            ∙ ap (λ (m : ℕ). g.before ++ (m, Number k.0 k.1) ∷ []) (sym (ap (λ (z : Scan). z.last) (scan_whole old g)));
+      };
+      clean = clean;
+    }
+
+-- there was no memory for the word that a byte ends
+no_fault_of : (hand : Hand) (n : ℕ) (t : Token) → ((ls : List ℕ) × (turn hand n t ≡ GoesOn (Some ls))) ⊎ (turn hand n t ≡ Ends (literals_in hand)) → NoFault hand ((n, t) ∷ [])
+no_fault_of hand n t (inl (ls, e)) = rw e tt
+no_fault_of hand n t (inr e) = rw e tt
+
+room_turn : (hand : Hand) (n : ℕ) (t : CodeToken) → NeedsRoom (token_of t) → ((ls : List ℕ) × (turn hand n (token_of t) ≡ GoesOn (Some ls))) ⊎ (turn hand n (token_of t) ≡ Ends (literals_in hand))
+room_turn hand n t (inl is) = inl ((literal_goes t is).0 hand n)
+room_turn hand n t (inr ends) = inr (ends hand n)
 
 pub push_short : (old new : Parser) (b : ℕ) (t : CodeToken) → IsParser old → old.stopped ≡ false → Pushed old.tokenizer new.tokenizer b (Some t) → ByteTaken old new b → NeedsRoom (token_of t) → GoesWell old.history.fed b
 push_short old new b t i o p y r =
@@ -630,11 +647,13 @@ push_short old new b t i o p y r =
     let header : IsOfHeader v.given → ⊥ = λ h. subst IsOfHeader k.2 h in
     record {
       blank = blank;
-      in_word = true_not (is_blank (last_byte old.history.fed)) (λ e. header (quiet_given old.tokenizer b n v.given g.left_of v.after g.stands (g.quiet e) blank v.stepped.gives));
-      before = g.before;
-      negative = k.0;
-      value = k.1;
-      number = text ∙ ap (λ (u : Token). g.before ++ (n, u) ∷ []) k.2 ∙ ap (λ (m : ℕ). g.before ++ (m, Number k.0 k.1) ∷ []) (sym (ap (λ (z : Scan). z.last) whole));
+      number = record {
+        in_word = true_not (is_blank (last_byte old.history.fed)) (λ e. header (quiet_given old.tokenizer b n v.given g.left_of v.after g.stands (g.quiet e) blank v.stepped.gives));
+        before = g.before;
+        negative = k.0;
+        value = k.1;
+        number = text ∙ ap (λ (u : Token). g.before ++ (n, u) ∷ []) k.2 ∙ ap (λ (m : ℕ). g.before ++ (m, Number k.0 k.1) ∷ []) (sym (ap (λ (z : Scan). z.last) whole));
+      };
       sound = subst (NoFault None) (sym text) (g.turned.sound (x ∷ []) here);
     }
 

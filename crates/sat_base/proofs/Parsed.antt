@@ -9,7 +9,7 @@ use Rattle.std.specs.Io.KnownBytes.{Consumes, Keeps, IsAtEnd}
 use Rattle.sat_base.specs.declared.dimacs.error.DimacsError.{DimacsError}
 use Rattle.sat_base.specs.declared.dimacs.error.DimacsError.TheVariants as errors
 use Rattle.sat_base.specs.Dimacs.{Ending, Malformed, Limit, Clean, Dimacs, dimacs, settled}
-use Rattle.sat_base.specs.Parsing.{Progress, no_progress, with_fed, at_its_end, Faults, FallsShort, GoesWell, Feeds, Finishes, Parses, Calls, KeepsText, clauses_read}
+use Rattle.sat_base.specs.Parsing.{Progress, no_progress, with_fed, at_its_end, Faults, FallsShort, GoesWell, EndsWell, Feeds, Finishes, Parses, Calls, KeepsText, clauses_read}
 use Rattle.sat_base.specs.Device.{GaveAll, GaveFront, IsOver}
 use Rattle.sat_base.specs.Tokenizing.{held}
 use Rattle.sat_base.proofs.Known.{consumes_more}
@@ -84,7 +84,7 @@ pub ends_by : (e : DimacsError) (fed : List ℕ) (p q : Progress) → Stands fed
 ends_by (errors.Malformed line) fed p q is f = (f.2, f.3, ap (λ (k : Progress). (dimacs k.fed).ending) (sym is) ∙ f.4)
 ends_by (errors.Limit line) fed p q is f = (f.2, f.3, ap (λ (k : Progress). (dimacs k.fed).ending) (sym is) ∙ f.4)
 ends_by errors.Read fed p q is f = tt
-ends_by errors.OutOfMemory fed p q is f = inr (ap (λ (k : Progress). (dimacs k.fed).ending) (sym is) ∙ f.2)
+ends_by errors.OutOfMemory fed p q is f = inr (subst EndsWell (ap (λ (k : Progress). k.fed) is) f.2)
 ends_by errors.HasFailed fed p q is f = absurd (let g : ◌≡◌ {A = Bool} true false = sym f.0 ∙ ap (λ (k : Progress). k.stopped) is in cc)
 
 pub finishing_stops : (a b c : Option (List ℕ)) (K : Type 0) (e : DimacsError) (fed : List ℕ) (p q : Progress) → (K → Stands fed p) → Finishes (Err e) p q → Consumes a b fed → Consumes b c [] → IsAtEnd c

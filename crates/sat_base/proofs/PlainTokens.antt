@@ -21,7 +21,7 @@ abbrev token_first : List (ℕ × Token) → Token → Token
 token_first [] t = t
 token_first (x ∷ xs) t = x.1
 
-first_token : (l m : ℕ) (t u : Token) (ts us : List (ℕ × Token)) → ◌≡◌ {A = List (ℕ × Token)} ((l, t) ∷ ts) ((m, u) ∷ us) → t ≡ u
+pub first_token : (l m : ℕ) (t u : Token) (ts us : List (ℕ × Token)) → ◌≡◌ {A = List (ℕ × Token)} ((l, t) ∷ ts) ((m, u) ∷ us) → t ≡ u
 first_token l m t u ts us e = ap (λ (vs : List (ℕ × Token)). token_first vs t) e
 
 cons_not_nil : (x : ℕ × Token) (xs : List (ℕ × Token)) (A : Type 0) → ◌≡◌ {A = List (ℕ × Token)} [] (x ∷ xs) → A

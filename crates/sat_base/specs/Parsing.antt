@@ -94,15 +94,24 @@ pub record Faults (ending : Ending) (piece : List ℕ) (old new : Progress) : Ty
 abbrev pub last_byte : List ℕ → ℕ
 last_byte text = get_or text (length text - 1) 10
 
--- behind this text the byte is a blank that ends a number, and up to there no word is at fault
-pub record GoesWell (text : List ℕ) (byte : ℕ) : Type 0 where
-  pub blank : is_blank byte ≡ true
+-- the last word of the whole text is a number, and this text ends with the last byte of it
+pub record EndsNumber (text whole : List ℕ) : Type 0 where
   pub in_word : is_blank (last_byte text) ≡ false
   pub before : List (ℕ × Token)
   pub negative : Bool
   pub value : ℕ
-  pub number : tokens (text ++ byte ∷ []) ≡ before ++ ((scan (text ++ byte ∷ [])).last, Number negative value) ∷ []
+  pub number : tokens whole ≡ before ++ ((scan whole).last, Number negative value) ∷ []
+
+-- behind this text the byte is a blank that ends a number, and up to there no word is at fault
+pub record GoesWell (text : List ℕ) (byte : ℕ) : Type 0 where
+  pub blank : is_blank byte ≡ true
+  pub number : EndsNumber text (text ++ byte ∷ [])
   pub sound : NoFault None (tokens (text ++ byte ∷ []))
+
+-- the text ends cleanly, with a number, which is then a zero
+pub record EndsWell (text : List ℕ) : Type 0 where
+  pub number : EndsNumber text text
+  pub clean : (dimacs text).ending ≡ Clean
 
 -- a front of the piece was taken, and there was no memory at the next byte
 pub record FallsShort (piece : List ℕ) (old new : Progress) : Type 0 where
@@ -127,13 +136,13 @@ abbrev pub Finishes : Result (Unit {0}) DimacsError → Progress → Progress �
 Finishes (Ok u) old new = (old.stopped ≡ false) × (new ≡ at_its_end old) × ((dimacs old.fed).ending ≡ Clean)
 Finishes (Err (errors.Malformed line)) old new = (old.stopped ≡ false) × (new ≡ at_its_end old) × (n : ℕ) × (line ≡ held n) × ((dimacs old.fed).ending ≡ Malformed n)
 Finishes (Err (errors.Limit line)) old new = (old.stopped ≡ false) × (new ≡ at_its_end old) × (n : ℕ) × (line ≡ held n) × ((dimacs old.fed).ending ≡ Limit n)
-Finishes (Err errors.OutOfMemory) old new = (old.stopped ≡ false) × (new ≡ cut_short old) × ((dimacs old.fed).ending ≡ Clean)
+Finishes (Err errors.OutOfMemory) old new = (old.stopped ≡ false) × (new ≡ cut_short old) × EndsWell old.fed
 Finishes (Err errors.HasFailed) old new = (old.stopped ≡ true) × (new ≡ old)
 Finishes (Err errors.Read) old new = ⊥
 
--- there was no memory where a number of the text ends and no word up to there is at fault, or at the end of a text that ends cleanly
+-- there was no memory where a number of the text ends and no word up to there is at fault
 abbrev pub ParsesShort : List ℕ → Type 0
-ParsesShort text = ((front : List ℕ) × (byte : ℕ) × (behind : List ℕ) × (text ≡ front ++ byte ∷ behind) × GoesWell front byte) ⊎ ((dimacs text).ending ≡ Clean)
+ParsesShort text = ((front : List ℕ) × (byte : ℕ) × (behind : List ℕ) × (text ≡ front ++ byte ∷ behind) × GoesWell front byte) ⊎ EndsWell text
 
 -- what a whole text is answered by
 abbrev pub Parses : Result Formula DimacsError → List ℕ → Type 0
