@@ -42,7 +42,8 @@ pub trait CountedWrite: Write {
         ensures bytes { Keeps (Self.contents self.old) (Self.contents self.new) }
         ensures failures { CountsErr result (failures self.old) (failures self.new) };
 
-    /// Writes the whole piece, in as many writes as that takes. The first failed one ends it.
+    /// Writes the whole piece, in as many writes as that takes. The first failed one ends it; a front of the piece may then have
+    /// been written.
     fn write_all_counted(&mut self, piece: &[u8]) -> io::Result<()>
         ensures bytes { OnOk result (Appends (Self.contents self.old) (Self.contents self.new) piece.now) }
         ensures failures { RaisesOnErr result (failures self.old) (failures self.new) }

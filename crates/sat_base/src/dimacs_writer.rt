@@ -75,7 +75,8 @@ fn put_header<W: CountedWrite>(
 }
 
 /// Writes the formula as DIMACS CNF has it: a line `p cnf V C` with the number of variables and that of clauses, then a line for
-/// each clause, its numbers and `0`. Takes no memory: it writes in pieces of 4,096 bytes.
+/// each clause, its numbers and `0`. Takes no memory: it writes in pieces of 4,096 bytes. After an error a front of the text may
+/// have been written.
 pub fn write_dimacs<W: CountedWrite>(writer: &mut W, formula: &CnfFormula) -> io::Result<()>
     ensures { Writes Plainly (dimacs_text formula.now) result (written_by W.contents W.failures writer.old) (written_by W.contents W.failures writer.new) }
 {

@@ -71,7 +71,8 @@ fn put_fields<W: CountedWrite>(
     }
 }
 
-/// Writes a step's bytes, taking no memory: in pieces of 4,096 bytes, so that most steps are one write.
+/// Writes a step's bytes, taking no memory: in pieces of 4,096 bytes, so that most steps are one write. After an error a front of
+/// them may have been written.
 pub fn write_step<W: CountedWrite>(writer: &mut W, step: &ProofStep<'_>) -> io::Result<()>
     ensures { Writes SpellsStep (step_of step.now) result (written_by W.contents W.failures writer.old) (written_by W.contents W.failures writer.new) }
 {

@@ -30,7 +30,8 @@ impl From<AllocError> for ReadError {
     }
 }
 
-/// Reads to the end, in pieces of at most 4,096 bytes, and gives all bytes. The first failed read ends it.
+/// Reads to the end, in pieces of at most 4,096 bytes, and gives all bytes. The first failed read ends it. After an error what was
+/// read is gone.
 pub fn read_whole<R: CountedRead>(alloc: Global, reader: &mut R) -> Result<Vec<u8>, ReadError>
     ensures gave { IfOk result (λ v. GaveAll R.given R.ended R.remaining reader.old reader.new v.items) }
     ensures kept { OnOk result (R.failures reader.new ≡ R.failures reader.old) }
