@@ -64,7 +64,7 @@ pub enum ConfirmFault {
     CertificateRead,
     #[error("OutOfMemory")]
     OutOfMemory,
-    /// A command's number is past 2^64-1. A text that is held whole has fewer commands.
+    /// The script has 2^64-1 commands or more, with the ask at its end. A text that is held whole has fewer.
     #[error("CounterEnd")]
     CounterEnd,
 }

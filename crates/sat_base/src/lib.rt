@@ -13,6 +13,7 @@ pub mod hash;
 mod kind;
 pub mod law;
 pub mod law_dimacs;
+pub mod law_lit;
 pub mod law_text;
 mod lists;
 pub mod lit;

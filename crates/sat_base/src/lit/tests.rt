@@ -1,5 +1,8 @@
 //! Outside values, and each call once.
+use crate::law_lit::{order_of_literals, order_of_variables};
 use crate::{Lit, Var, clause_hash, lit_hash};
+use std::cmp::Ordering;
+use std::hash::{DefaultHasher, Hash, Hasher};
 use std::test::*;
 
 #[test]
@@ -57,6 +60,33 @@ fn literals(rt: HostRuntime) {
     );
     assert!(rt; var.positive() < lit);
     assert!(rt; lit < Var::from_index(5).positive());
+}
+
+fn hash_of<T: Hash>(value: &T) -> u64 {
+    let mut hasher = DefaultHasher::new();
+    value.hash(&mut hasher);
+    hasher.finish()
+}
+
+#[test]
+fn order_and_hash(rt: HostRuntime) {
+    let var = Var::from_index(4);
+    let next = Var::from_index(5);
+    assert_eq!(rt; order_of_variables(var, next), Ordering::Less);
+    assert_eq!(rt;
+        order_of_literals(var.positive(), var.negative()),
+        Ordering::Less
+    );
+    assert_eq!(rt;
+        order_of_literals(var.negative(), next.positive()),
+        Ordering::Less
+    );
+    assert_eq!(rt;
+        order_of_literals(!var.positive(), var.negative()),
+        Ordering::Equal
+    );
+    assert_eq!(rt; hash_of(&Lit::from_code(9).var()), hash_of(&var));
+    assert_eq!(rt; hash_of(&!var.positive()), hash_of(&var.negative()));
 }
 
 #[test]
