@@ -66,6 +66,20 @@ NoLiterals bytes Missing = ⊥
 NoLiterals bytes Text = (ls : List Literal) (tail : List ℕ) → HaveNames ls → bytes ≡ literals_text ls ++ tail → ⊥
 NoLiterals bytes OutOfMemory = Unit {0}
 
+-- the bytes begin with this text, but for the `0` and LF at its end
+abbrev pub BeginWithWordsOf : List ℕ → List ℕ → Type 0
+BeginWithWordsOf text bytes = (front : List ℕ) × (tail : List ℕ) × ((text ≡ front ++ (48 ∷ 10 ∷ [])) × (bytes ≡ front ++ tail))
+
+-- memory is wanted for a literal that was read: with it and those before it the line is in form so far
+abbrev pub WantsRoom : AnswerKind → (List Literal → List ℕ) → List ℕ → Type 0
+WantsRoom k text bytes = HasLine k × ((ls : List Literal) × (l : Literal) × (IsInForm (outcome_of k (ls ++ (l ∷ []))) × BeginWithWordsOf (text (ls ++ (l ∷ []))) bytes))
+
+-- why no literals of a line of this kind are read
+abbrev pub NoList : AnswerKind → List ℕ → AnswerFault → Type 0
+NoList k bytes Missing = ⊥
+NoList k bytes Text = (ls : List Literal) (tail : List ℕ) → IsInForm (outcome_of k ls) → bytes ≡ literals_text ls ++ tail → ⊥
+NoList k bytes OutOfMemory = WantsRoom k literals_text bytes
+
 -- why no first line is read
 abbrev pub NoKind : List ℕ → AnswerFault → Type 0
 NoKind bytes Missing = bytes ≡ []

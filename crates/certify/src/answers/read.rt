@@ -1,9 +1,9 @@
 //! Reads answers, line by line, from the front of their bytes. What isn't in form to the byte is refused:
 //! single spaces, no leading zeros, each line ended by LF, names from 1 to 2^28 in their order.
-ghost use Rattle.std.specs.Prelude.{◌≡◌, ◌++◌, ◌∷◌, [], ◌*◌, ◌<◌, ◌≤◌, decimal, MatchBool, MatchOption, MatchResult, List, ℕ};
+ghost use Rattle.std.specs.Prelude.{◌≡◌, ◌++◌, ◌∷◌, [], ◌*◌, ◌<◌, ◌≤◌, decimal, MatchOption, MatchResult, List, ℕ};
 ghost use Rattle.certify.specs.Answers.{literals_text, outcome_text, word_of};
-ghost use Rattle.certify.specs.AnswerForms.{HaveNames, IsInForm, IsName, IsOrdered, named_literal, named_literals};
-ghost use Rattle.certify.specs.AnswerReading.{NoDigit, NoName, NoLiteral, NoLiterals, NoKind, NoLine, NoOutcome, HasLine, IsHead, digits_so_far, first_line, outcome_of, second_line, place_in};
+ghost use Rattle.certify.specs.AnswerForms.{IsInForm, IsName, named_literal, named_literals};
+ghost use Rattle.certify.specs.AnswerReading.{NoDigit, NoName, NoLiteral, NoList, NoKind, NoLine, NoOutcome, HasLine, IsHead, digits_so_far, first_line, outcome_of, second_line, place_in};
 ghost use Rattle.sat_base.specs.Literals.{largest};
 
 use sat_base::{Lit, Var};
@@ -98,20 +98,6 @@ fn read_literal(bytes: &[u8]) -> Option<(Lit, &[u8])>
     }
 }
 
-/// Reads literals in any order up to `0` and LF, leaves them in the line, and answers what is behind them.
-fn read_literals<'a>(bytes: &'a [u8], line: &mut Vec<Lit>) -> Result<&'a [u8], AnswerFault>
-    ensures { MatchResult result (λ rest. HaveNames (named_literals line.new.items) × (bytes.now ≡ literals_text (named_literals line.new.items) ++ rest.now)) (NoLiterals bytes.now) }
-{
-    line.clear();
-    let mut rest = bytes;
-    while let Some(found) = read_literal(rest) {
-        let (lit, behind) = found;
-        line.push(lit)?;
-        rest = behind;
-    }
-    take_text(rest, b"0\n").ok_or(AnswerFault::Text)
-}
-
 /// Where the literal stands in a line of this kind.
 fn place_in(kind: AnswerKind, lit: Lit) -> usize
     ensures value { result ≡ place_in kind lit }
@@ -123,20 +109,30 @@ fn place_in(kind: AnswerKind, lit: Lit) -> usize
     }
 }
 
-/// Are the literals in the order of a line of this kind, each place taken once?
-fn is_ordered(kind: AnswerKind, line: &[Lit]) -> bool
+/// Reads the literals of a line of this kind up to `0` and LF, leaves them in the line, and answers what is behind them.
+/// A literal out of its order is refused before memory is asked for it.
+fn read_literals<'a>(
+    kind: AnswerKind,
+    bytes: &'a [u8],
+    line: &mut Vec<Lit>,
+) -> Result<&'a [u8], AnswerFault>
     requires { HasLine kind }
-    ensures { MatchBool result (IsOrdered (outcome_of kind (named_literals line.now))) (IsOrdered (outcome_of kind (named_literals line.now)) → ⊥) }
+    ensures { MatchResult result (λ rest. IsInForm (outcome_of kind (named_literals line.new.items)) × (bytes.now ≡ literals_text (named_literals line.new.items) ++ rest.now)) (NoList kind bytes.now) }
 {
+    line.clear();
+    let mut rest = bytes;
     let mut least = 0;
-    for lit in line {
-        let place = place_in(kind, *lit);
+    while let Some(found) = read_literal(rest) {
+        let (lit, behind) = found;
+        let place = place_in(kind, lit);
         if place < least {
-            return false;
+            return Err(AnswerFault::Text);
         }
+        line.push(lit)?;
         least = place + 1;
+        rest = behind;
     }
-    true
+    take_text(rest, b"0\n").ok_or(AnswerFault::Text)
 }
 
 /// Reads the first line of an answer, and answers its kind and what is behind the line.
@@ -172,12 +168,7 @@ fn read_list<'a>(
         return Err(AnswerFault::Missing);
     }
     let behind = take_text(bytes, head).ok_or(AnswerFault::Text)?;
-    let rest = read_literals(behind, line)?;
-    if is_ordered(kind, line) {
-        Ok(rest)
-    } else {
-        Err(AnswerFault::Text)
-    }
+    read_literals(kind, behind, line)
 }
 
 /// Reads the second line of an answer of this kind, leaves its literals in `line`, and answers what is behind it.

@@ -2,12 +2,11 @@ use Rattle.std.proofs.Common.{ℕ, ◌≡◌, ◌≢◌, ◌++◌, [], List, Opt
 use Rattle.std.proofs.lemmas.Grind.{common_steps}
 use Rattle.std.proofs.lemmas.Result.{err_from_is_err_and}
 use Rattle.std.specs.Option.{ok_or}
-use Rattle.certify.specs.AnswerForms.{IsOrdered, named_literals}
-use Rattle.certify.specs.AnswerReading.{IsHead, NoLine, outcome_of}
+use Rattle.certify.specs.AnswerReading.{IsHead, NoLine}
 use Rattle.certify.specs.declared.answers.read.AnswerKind.{AnswerKind}
 use Rattle.certify.specs.declared.answers.read.AnswerFault.{AnswerFault}
 use Rattle.certify.specs.declared.answers.read.AnswerFault.TheVariants.{Text}
-use Rattle.certify.proofs.AnswerKinds.{no_head, no_order}
+use Rattle.certify.proofs.AnswerKinds.{no_head}
 use Rattle.certify.proofs.answers.read.read_list.Goals as goal
 
 -- what was found of the line's head
@@ -26,10 +25,3 @@ returns-in_err-behind c =
     let some : c.args.bytes.now ≢ [] = λ e. absurd (grind (arith, common_steps, c.is_empty.ensures, c.if-is_empty.false, ap length e)) in
     let p = err_from_is_err_and c.from_residual.result c.from_residual.ensures.1 in
     rw (p.1, p.2) (without c.args.kind c.args.head.now c.args.bytes.now c.take_text.result c.in_err-behind.field-0.0 c.requires some c.take_text.ensures c.in_err-behind.ensures.value)
-
-pub returns-else-is_ordered : goal.returns-else-is_ordered
-returns-else-is_ordered c =
-    let some : c.args.bytes.now ≢ [] = λ e. absurd (grind (arith, common_steps, c.is_empty.ensures, c.if-is_empty.false, ap length e)) in
-    let e = within c.args.head.now c.args.bytes.now c.take_text.result c.in_ok-behind.behind c.take_text.ensures c.in_ok-behind.ensures.value in
-    no_order c.args.kind c.args.head.now c.args.bytes.now c.in_ok-behind.behind.now c.in_ok-rest.rest.now (named_literals c.read_literals.new.line.items) c.requires some e c.in_ok-rest.ensures.0 c.in_ok-rest.ensures.1
-    (subst (λ ls. IsOrdered (outcome_of c.args.kind (named_literals ls)) → ⊥) c.deref.ensures.value c.if-is_ordered.ensures)
