@@ -1,15 +1,14 @@
 -- The lines of an answer of some kind.
-use Rattle.std.proofs.Common.{ℕ, ◌≡◌, ◌≢◌, inl, inr, ◌++◌, [], List, append_assoc, refl, sym, ◌∙◌, ap, subst, arith}
+use Rattle.std.proofs.Common.{ℕ, ◌≡◌, ◌≢◌, inl, inr, ◌++◌, ◌∷◌, [], List, append_assoc, refl, sym, ◌∙◌, ap, subst, arith}
 use Rattle.std.proofs.lemmas.List.{append_cancel_left}
 use Rattle.sat_base.specs.Script.{Literal}
 use Rattle.certify.specs.Answers.{Outcome, Sat, Unsat, Unknown, s_satisfiable, s_unsatisfiable, s_unknown, literals_text, outcome_text}
-use Rattle.certify.specs.AnswerForms.{HaveNames, IsInForm, IsOrdered, literals_of}
+use Rattle.certify.specs.AnswerForms.{IsInForm, literals_of}
 use Rattle.certify.specs.AnswerReading.{NoKind, NoLiterals, NoLine, NoOutcome, HasLine, IsHead, IsCutShort, BeginsNoOutcome, first_line, outcome_of, second_line}
 use Rattle.certify.specs.declared.answers.read.AnswerKind.{AnswerKind}
 use Rattle.certify.specs.declared.answers.read.AnswerKind.TheVariants as kind
 use Rattle.certify.specs.declared.answers.read.AnswerFault.{AnswerFault}
 use Rattle.certify.specs.declared.answers.read.AnswerFault.TheVariants.{Missing, Text, OutOfMemory}
-use Rattle.certify.proofs.AnswerLines.{same_literals}
 
 pub has_line : (k : AnswerKind) (head : List ℕ) → IsHead k head → HasLine k
 has_line kind.Sat head h = tt
@@ -31,37 +30,29 @@ line_behind : (k : AnswerKind) (head bytes : List ℕ) (ls : List Literal) (tail
 line_behind k head bytes ls tail h e = e ∙ ap (λ t. t ++ tail) (line_text k head ls h) ∙ append_assoc head (literals_text ls) tail
 
 -- the line has been read
-pub line_read : (k : AnswerKind) (head bytes behind : List ℕ) (ls : List Literal) (tail : List ℕ) → IsHead k head → bytes ≡ head ++ behind → HaveNames ls → behind ≡ literals_text ls ++ tail → IsOrdered (outcome_of k ls)
-    → IsInForm (outcome_of k ls) × (bytes ≡ second_line (outcome_of k ls) ++ tail)
-line_read k head bytes behind ls tail h e n f o = (
-  (subst HaveNames (sym (line_literals k ls (has_line k head h))) n, o),
-  e ∙ ap (λ t. head ++ t) f ∙ sym (append_assoc head (literals_text ls) tail) ∙ ap (λ t. t ++ tail) (sym (line_text k head ls h)),
-)
+pub line_read : (k : AnswerKind) (head bytes behind : List ℕ) (ls : List Literal) (tail : List ℕ) → IsHead k head → bytes ≡ head ++ behind → behind ≡ literals_text ls ++ tail → bytes ≡ second_line (outcome_of k ls) ++ tail
+line_read k head bytes behind ls tail h e f = e ∙ ap (λ t. head ++ t) f ∙ sym (append_assoc head (literals_text ls) tail) ∙ ap (λ t. t ++ tail) (sym (line_text k head ls h))
 
 -- it doesn't begin as it has to
 pub no_head : (k : AnswerKind) (head bytes : List ℕ) → IsHead k head → bytes ≢ [] → ((tail : List ℕ) → bytes ≡ head ++ tail → ⊥) → NoLine k bytes Text
 no_head k head bytes h some none = (some, λ ls tail o e. none (literals_text ls ++ tail) (line_behind k head bytes ls tail h e))
 
 -- no list of literals is behind its head
-pub no_list : (k : AnswerKind) (head bytes behind : List ℕ) (fault : AnswerFault) → IsHead k head → bytes ≢ [] → bytes ≡ head ++ behind → NoLiterals behind fault → NoLine k bytes fault
+pub no_list : (k : AnswerKind) (head bytes behind : List ℕ) (fault : AnswerFault) → IsHead k head → bytes ≢ [] → bytes ≡ head ++ behind → NoLiterals k behind fault → NoLine k bytes fault
 no_list k head bytes behind Missing h some e none = absurd none
 no_list k head bytes behind Text h some e none = (
   some,
-  λ ls tail o f. none ls tail (subst HaveNames (line_literals k ls (has_line k head h)) o.0)
-      (append_cancel_left head behind (literals_text ls ++ tail) (sym e ∙ line_behind k head bytes ls tail h f)),
+  λ ls tail o f. none ls tail o (append_cancel_left head behind (literals_text ls ++ tail) (sym e ∙ line_behind k head bytes ls tail h f)),
 )
-no_list k head bytes behind OutOfMemory h some e none = tt
-
--- its literals aren't in their order
-pub no_order : (k : AnswerKind) (head bytes behind rest : List ℕ) (ls : List Literal) → IsHead k head → bytes ≢ [] → bytes ≡ head ++ behind → HaveNames ls → behind ≡ literals_text ls ++ rest → (IsOrdered (outcome_of k ls) → ⊥) → NoLine k bytes Text
-no_order k head bytes behind rest ls h some e n f none = (
-  some,
-  λ ks tail o g.
-      let r : behind ≡ literals_text ks ++ tail = append_cancel_left head behind (literals_text ks ++ tail) (sym e ∙ line_behind k head bytes ks tail h g) in
-      let m : HaveNames ks = subst HaveNames (line_literals k ks (has_line k head h)) o.0 in
-      let s = (same_literals ls ks rest tail n m (sym f ∙ r)).0 in
-      none (subst (λ t. IsOrdered (outcome_of k t)) (sym s) o.1),
-)
+no_list k head bytes behind OutOfMemory h some e none =
+    let ls : List Literal = none.1.0 in
+    let l : Literal = none.1.1 in
+    let front : List ℕ = none.1.2.1.0 in
+    let tail : List ℕ = none.1.2.1.1 in
+    let t : second_line (outcome_of k (ls ++ (l ∷ []))) ≡ (head ++ front) ++ (48 ∷ 10 ∷ [])
+    = line_text k head (ls ++ (l ∷ [])) h ∙ ap (λ x. head ++ x) none.1.2.1.2.0 ∙ sym (append_assoc head front (48 ∷ 10 ∷ [])) in
+    let b : bytes ≡ (head ++ front) ++ tail = e ∙ ap (λ x. head ++ x) none.1.2.1.2.1 ∙ sym (append_assoc head front tail) in
+    (none.0, (ls, l, (none.1.2.0, (head ++ front, tail, (t, b)))))
 
 -- the first line tells the kind
 of_kind : (k : AnswerKind) (o : Outcome) (x y : List ℕ) → first_line k ++ x ≡ outcome_text o ++ y → (ls : List Literal) × ((o ≡ outcome_of k ls) × (x ≡ second_line o ++ y))
@@ -99,7 +90,7 @@ no_kind bytes Text none = (cut, λ o tail h f. none.1 (kind_text o).0 (second_li
     cut (inl e) = none.0 e
     cut (inr (inl e)) = none.1 kind.Sat [] e
     cut (inr (inr e)) = none.1 kind.Unsat [] e
-no_kind bytes OutOfMemory none = tt
+no_kind bytes OutOfMemory none = absurd none
 
 -- a first line without its second
 pub no_line : (k : AnswerKind) (bytes behind : List ℕ) (fault : AnswerFault) → bytes ≡ first_line k ++ behind → NoLine k behind fault → NoOutcome bytes fault
@@ -136,4 +127,4 @@ no_line k bytes behind Text e none = (
     cut kind.Unknown some e (inl f) = let r : first_line kind.Unknown ++ behind ≡ [] = sym e ∙ f in cc
     cut kind.Unknown some e (inr (inl f)) = let g : s_unknown ++ behind ≡ s_satisfiable = sym e ∙ f in let r : ◌≡◌ {A = ℕ} 85 83 = cc in omega arith
     cut kind.Unknown some e (inr (inr f)) = let g : s_unknown ++ behind ≡ s_unsatisfiable = sym e ∙ f in let r : ◌≡◌ {A = ℕ} 75 83 = cc in omega arith
-no_line k bytes behind OutOfMemory e none = tt
+no_line k bytes behind OutOfMemory e none = (k, behind, (e, none))

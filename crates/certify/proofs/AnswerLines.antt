@@ -6,8 +6,7 @@ use Rattle.sat_base.specs.Literals.{largest}
 use Rattle.sat_base.specs.Script.{Literal}
 use Rattle.certify.specs.Answers.{literals_text, word_of}
 use Rattle.certify.specs.AnswerForms.{HaveNames, IsName, named_literal, named_literals}
-use Rattle.certify.specs.AnswerReading.{NoLiteral, NoLiterals}
-use Rattle.certify.specs.declared.answers.read.AnswerFault.TheVariants.{Text}
+use Rattle.certify.specs.AnswerReading.{NoLiteral}
 use Rattle.certify.proofs.Texts.{plain_word, at_space, not_end, same_literals as literals_told}
 
 within_limit : (ls : List Literal) → HaveNames ls → AllByRecursion (λ l. l.name ≤ largest) ls
@@ -58,7 +57,7 @@ pub all_read : (bytes line rest tail : List ℕ) → Read bytes line rest → re
 all_read bytes line rest tail r e = (r.names, r.back [] tail e ∙ ap (λ t. literals_text t ++ tail) (append-nil (named_literals line)))
 
 -- where neither a literal nor the end comes
-pub not_read : (bytes line rest : List ℕ) → Read bytes line rest → NoLiteral rest → ((tail : List ℕ) → rest ≡ 48 ∷ 10 ∷ tail → ⊥) → NoLiterals bytes Text
+pub not_read : (bytes line rest : List ℕ) → Read bytes line rest → NoLiteral rest → ((tail : List ℕ) → rest ≡ 48 ∷ 10 ∷ tail → ⊥) → (ls : List Literal) (tail : List ℕ) → HaveNames ls → bytes ≡ literals_text ls ++ tail → ⊥
 not_read bytes line rest r none end ls tail h e = let more = r.forth ls tail h e in go more.0 more.1.0 more.1.1
   where
     go : (more : List Literal) → HaveNames more → rest ≡ literals_text more ++ tail → ⊥

@@ -3,7 +3,7 @@ use Rattle.std.specs.Prelude.{ℕ, zero, suc, ◌≡◌, ◌≢◌, ◌⊎◌, L
 use Rattle.sat_base.specs.Literals.{variable}
 use Rattle.sat_base.specs.Script.{Literal}
 use Rattle.certify.specs.Answers.{Outcome, Sat, Unsat, Unknown, s_satisfiable, s_unsatisfiable, s_unknown, v_line, f_line, word_of, literals_text, outcome_text}
-use Rattle.certify.specs.AnswerForms.{IsName, HaveNames, IsInForm}
+use Rattle.certify.specs.AnswerForms.{IsName, IsInForm}
 use Rattle.certify.specs.declared.answers.read.AnswerKind.{AnswerKind}
 use Rattle.certify.specs.declared.answers.read.AnswerKind.TheVariants as kind
 use Rattle.certify.specs.declared.answers.read.AnswerFault.{AnswerFault}
@@ -60,12 +60,6 @@ NoName bytes = (n : ℕ) (tail : List ℕ) → IsName n → bytes ≡ decimal n 
 abbrev pub NoLiteral : List ℕ → Type 0
 NoLiteral bytes = (l : Literal) (tail : List ℕ) → IsName l.name → bytes ≡ word_of l ++ (32 ∷ tail) → ⊥
 
--- why no list of literals is read
-abbrev pub NoLiterals : List ℕ → AnswerFault → Type 0
-NoLiterals bytes Missing = ⊥
-NoLiterals bytes Text = (ls : List Literal) (tail : List ℕ) → HaveNames ls → bytes ≡ literals_text ls ++ tail → ⊥
-NoLiterals bytes OutOfMemory = Unit {0}
-
 -- the bytes begin with this text, but for the `0` and LF at its end
 abbrev pub BeginWithWordsOf : List ℕ → List ℕ → Type 0
 BeginWithWordsOf text bytes = (front : List ℕ) × (tail : List ℕ) × ((text ≡ front ++ (48 ∷ 10 ∷ [])) × (bytes ≡ front ++ tail))
@@ -75,10 +69,10 @@ abbrev pub WantsRoom : AnswerKind → (List Literal → List ℕ) → List ℕ �
 WantsRoom k text bytes = HasLine k × ((ls : List Literal) × (l : Literal) × (IsInForm (outcome_of k (ls ++ (l ∷ []))) × BeginWithWordsOf (text (ls ++ (l ∷ []))) bytes))
 
 -- why no literals of a line of this kind are read
-abbrev pub NoList : AnswerKind → List ℕ → AnswerFault → Type 0
-NoList k bytes Missing = ⊥
-NoList k bytes Text = (ls : List Literal) (tail : List ℕ) → IsInForm (outcome_of k ls) → bytes ≡ literals_text ls ++ tail → ⊥
-NoList k bytes OutOfMemory = WantsRoom k literals_text bytes
+abbrev pub NoLiterals : AnswerKind → List ℕ → AnswerFault → Type 0
+NoLiterals k bytes Missing = ⊥
+NoLiterals k bytes Text = (ls : List Literal) (tail : List ℕ) → IsInForm (outcome_of k ls) → bytes ≡ literals_text ls ++ tail → ⊥
+NoLiterals k bytes OutOfMemory = WantsRoom k literals_text bytes
 
 -- why no first line is read
 abbrev pub NoKind : List ℕ → AnswerFault → Type 0
@@ -90,7 +84,7 @@ NoKind bytes OutOfMemory = ⊥
 abbrev pub NoLine : AnswerKind → List ℕ → AnswerFault → Type 0
 NoLine k bytes Missing = HasLine k × (bytes ≡ [])
 NoLine k bytes Text = (bytes ≢ []) × ((ls : List Literal) (tail : List ℕ) → IsInForm (outcome_of k ls) → bytes ≡ second_line (outcome_of k ls) ++ tail → ⊥)
-NoLine k bytes OutOfMemory = Unit {0}
+NoLine k bytes OutOfMemory = WantsRoom k (λ ls. second_line (outcome_of k ls)) bytes
 
 -- the bytes are over where a line of an answer is due
 abbrev pub IsCutShort : List ℕ → Type 0
@@ -104,4 +98,4 @@ BeginsNoOutcome bytes = (o : Outcome) (tail : List ℕ) → IsInForm o → bytes
 abbrev pub NoOutcome : List ℕ → AnswerFault → Type 0
 NoOutcome bytes Missing = IsCutShort bytes × BeginsNoOutcome bytes
 NoOutcome bytes Text = (IsCutShort bytes → ⊥) × BeginsNoOutcome bytes
-NoOutcome bytes OutOfMemory = Unit {0}
+NoOutcome bytes OutOfMemory = (k : AnswerKind) × (rest : List ℕ) × ((bytes ≡ first_line k ++ rest) × NoLine k rest OutOfMemory)

@@ -3,7 +3,7 @@
 ghost use Rattle.std.specs.Prelude.{◌≡◌, ◌++◌, ◌∷◌, [], ◌*◌, ◌<◌, ◌≤◌, decimal, MatchOption, MatchResult, List, ℕ};
 ghost use Rattle.certify.specs.Answers.{literals_text, outcome_text, word_of};
 ghost use Rattle.certify.specs.AnswerForms.{IsInForm, IsName, named_literal, named_literals};
-ghost use Rattle.certify.specs.AnswerReading.{NoDigit, NoName, NoLiteral, NoList, NoKind, NoLine, NoOutcome, HasLine, IsHead, digits_so_far, first_line, outcome_of, second_line, place_in};
+ghost use Rattle.certify.specs.AnswerReading.{NoDigit, NoName, NoLiteral, NoLiterals, NoKind, NoLine, NoOutcome, HasLine, IsHead, digits_so_far, first_line, outcome_of, second_line, place_in};
 ghost use Rattle.sat_base.specs.Literals.{largest};
 
 use sat_base::{Lit, Var};
@@ -117,7 +117,7 @@ fn read_literals<'a>(
     line: &mut Vec<Lit>,
 ) -> Result<&'a [u8], AnswerFault>
     requires { HasLine kind }
-    ensures { MatchResult result (λ rest. IsInForm (outcome_of kind (named_literals line.new.items)) × (bytes.now ≡ literals_text (named_literals line.new.items) ++ rest.now)) (NoList kind bytes.now) }
+    ensures { MatchResult result (λ rest. IsInForm (outcome_of kind (named_literals line.new.items)) × (bytes.now ≡ literals_text (named_literals line.new.items) ++ rest.now)) (NoLiterals kind bytes.now) }
 {
     line.clear();
     let mut rest = bytes;

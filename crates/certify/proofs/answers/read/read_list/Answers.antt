@@ -1,12 +1,15 @@
-use Rattle.std.proofs.Common.{ℕ, ◌≡◌, ◌≢◌, ◌++◌, [], List, Option, Some, None, Result, Ok, Err, Bor, MatchOption, length, ap, sym, subst, ◌∙◌, arith}
+use Rattle.std.proofs.Common.{ℕ, ◌≡◌, ◌≢◌, ◌++◌, [], List, Option, Some, None, Result, Ok, Err, Bor, MatchOption, MatchResult, length, ap, sym, subst, ◌∙◌, arith}
 use Rattle.std.proofs.lemmas.Grind.{common_steps}
 use Rattle.std.proofs.lemmas.Result.{err_from_is_err_and}
 use Rattle.std.specs.Option.{ok_or}
-use Rattle.certify.specs.AnswerReading.{IsHead, NoLine}
+use Rattle.sat_base.specs.Script.{Literal}
+use Rattle.certify.specs.Answers.{literals_text}
+use Rattle.certify.specs.AnswerForms.{IsInForm, named_literals}
+use Rattle.certify.specs.AnswerReading.{IsHead, NoLine, NoLiterals, outcome_of, second_line}
 use Rattle.certify.specs.declared.answers.read.AnswerKind.{AnswerKind}
 use Rattle.certify.specs.declared.answers.read.AnswerFault.{AnswerFault}
 use Rattle.certify.specs.declared.answers.read.AnswerFault.TheVariants.{Text}
-use Rattle.certify.proofs.AnswerKinds.{no_head}
+use Rattle.certify.proofs.AnswerKinds.{line_read, no_head, no_list}
 use Rattle.certify.proofs.answers.read.read_list.Goals as goal
 
 -- what was found of the line's head
@@ -20,8 +23,21 @@ within : (head bytes : List ℕ) (r : Option (Bor (List ℕ))) (behind : Bor (Li
 within head bytes None behind found e = absurd cc
 within head bytes (Some x) behind found e = let f : x ≡ behind = cc in found ∙ ap (λ b. head ++ b.now) f
 
+-- what was read behind it
+listed : (k : AnswerKind) (head bytes behind : List ℕ) (ls : List Literal) (r : Result (Bor (List ℕ)) AnswerFault) → IsHead k head → bytes ≢ [] → bytes ≡ head ++ behind
+    → MatchResult r (λ rest. IsInForm (outcome_of k ls) × (behind ≡ literals_text ls ++ rest.now)) (NoLiterals k behind)
+    → MatchResult r (λ rest. IsInForm (outcome_of k ls) × (bytes ≡ second_line (outcome_of k ls) ++ rest.now)) (NoLine k bytes)
+listed k head bytes behind ls (Ok rest) h some e r = (r.0, line_read k head bytes behind ls rest.now h e r.1)
+listed k head bytes behind ls (Err fault) h some e r = no_list k head bytes behind fault h some e r
+
 pub returns-in_err-behind : goal.returns-in_err-behind
 returns-in_err-behind c =
     let some : c.args.bytes.now ≢ [] = λ e. absurd (grind (arith, common_steps, c.is_empty.ensures, c.if-is_empty.false, ap length e)) in
     let p = err_from_is_err_and c.from_residual.result c.from_residual.ensures.1 in
     rw (p.1, p.2) (without c.args.kind c.args.head.now c.args.bytes.now c.take_text.result c.in_err-behind.field-0.0 c.requires some c.take_text.ensures c.in_err-behind.ensures.value)
+
+pub returns : goal.returns
+returns c =
+    let some : c.args.bytes.now ≢ [] = λ e. absurd (grind (arith, common_steps, c.is_empty.ensures, c.if-is_empty.false, ap length e)) in
+    let e = within c.args.head.now c.args.bytes.now c.take_text.result c.in_ok-behind.behind c.take_text.ensures c.in_ok-behind.ensures.value in
+    listed c.args.kind c.args.head.now c.args.bytes.now c.in_ok-behind.behind.now (named_literals c.read_literals.new.line.items) c.read_literals.result c.requires some e c.read_literals.ensures

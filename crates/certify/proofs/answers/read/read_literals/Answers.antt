@@ -5,7 +5,7 @@ use Rattle.std.specs.Option.{ok_or}
 use Rattle.sat_base.specs.Script.{Literal, names_of, InOrder}
 use Rattle.certify.specs.Answers.{literals_text, word_of}
 use Rattle.certify.specs.AnswerForms.{HaveNames, IsIncreasing, IsInForm, IsName, IsOrdered, named_literal, named_literals}
-use Rattle.certify.specs.AnswerReading.{HasLine, NoLiteral, NoList, outcome_of, place_in}
+use Rattle.certify.specs.AnswerReading.{HasLine, NoLiteral, NoLiterals, outcome_of, place_in}
 use Rattle.certify.specs.declared.answers.read.AnswerKind.{AnswerKind}
 use Rattle.certify.specs.declared.answers.read.AnswerKind.TheVariants as kind
 use Rattle.certify.specs.declared.answers.read.AnswerFault.TheVariants.{Text, OutOfMemory}
@@ -84,7 +84,7 @@ begun k bytes line rest ls tail d r o e =
 
 -- a place below the least one
 out_of_order : (k : AnswerKind) (bytes line rest behind : List ℕ) (l least : ℕ) → HasLine k → ReadInOrder k bytes line rest least → IsName (named_literal l).name → rest ≡ word_of (named_literal l) ++ (32 ∷ behind) → place_in k l < least
-    → NoList k bytes Text
+    → NoLiterals k bytes Text
 out_of_order k bytes line rest behind l least d r n e low ls tail o f =
     let b = begun k bytes (line ++ (l ∷ [])) behind ls tail d (one_read bytes line rest behind l r.read n e) o f in
     let s : IsOrdered (outcome_of k (named_literals (line ++ (l ∷ [])))) = ordered_front k (named_literals (line ++ (l ∷ []))) b.0 (subst (λ t. IsOrdered (outcome_of k t)) b.1 o.1) in
@@ -94,7 +94,7 @@ out_of_order k bytes line rest behind l least d r n e low ls tail o f =
 
 -- memory is wanted for a literal in its order
 no_room : (k : AnswerKind) (bytes line rest behind : List ℕ) (l least : ℕ) → HasLine k → ReadInOrder k bytes line rest least → IsName (named_literal l).name → rest ≡ word_of (named_literal l) ++ (32 ∷ behind) → least ≤ place_in k l
-    → NoList k bytes OutOfMemory
+    → NoLiterals k bytes OutOfMemory
 no_room k bytes line rest behind l least d r n e h =
     let s = one_in_order k bytes line rest behind l least r n e h in
     let t : named_literals (line ++ (l ∷ [])) ≡ named_literals line ++ (named_literal l ∷ []) = map-append named_literal line (l ∷ []) in
@@ -104,7 +104,7 @@ no_room k bytes line rest behind l least d r n e h =
 
 ended : (k : AnswerKind) (bytes line rest : List ℕ) (least : ℕ) → HasLine k → ReadInOrder k bytes line rest least → NoLiteral rest → (r : Option (Bor (List ℕ)))
     → MatchOption r ((tail : List ℕ) → rest ≡ 48 ∷ 10 ∷ tail → ⊥) (λ x. rest ≡ 48 ∷ 10 ∷ x.now)
-    → MatchResult (ok_or r Text) (λ x. IsInForm (outcome_of k (named_literals line)) × (bytes ≡ literals_text (named_literals line) ++ x.now)) (NoList k bytes)
+    → MatchResult (ok_or r Text) (λ x. IsInForm (outcome_of k (named_literals line)) × (bytes ≡ literals_text (named_literals line) ++ x.now)) (NoLiterals k bytes)
 ended k bytes line rest least d i none None h = λ ls tail o e. not_read bytes line rest i.read none h ls tail (subst HaveNames (line_literals k ls d) o.0) e
 ended k bytes line rest least d i none (Some x) h = (in_form k bytes line rest least d i, (all_read bytes line rest x.now i.read h).1)
 
