@@ -80,7 +80,7 @@ pub fn run<S: CountedRead, A: CountedWrite, C: CountedWrite>(
     ensures finished { IfOk result (λ summary. FinishesText (GaveAll S.given S.ended S.remaining script.old script.new) budget summary
         (A.contents answers.old) (A.contents answers.new) (C.contents certificate.old) (C.contents certificate.new)) }
     ensures kept { OnOk result ((S.failures script.new ≡ S.failures script.old) × (A.failures answers.new ≡ A.failures answers.old) × (C.failures certificate.new ≡ C.failures certificate.old)) }
-    // A fault is answered only where it happened: of a device's calls exactly one failed.
+    // A fault is answered only where it happened: exactly one call of the device failed, or there were 2^48 reads and none did.
     ensures fault { IfErr result (λ e. HasCause e
         (ReadFails S.failures S.calls script.old script.new)
         (A.failures answers.new ≡ A.failures answers.old + 1)
