@@ -1,7 +1,7 @@
 -- The lines of an answer of some kind.
 use Rattle.std.proofs.Common.{ℕ, ◌≡◌, ◌≢◌, inl, inr, ◌++◌, ◌∷◌, [], List, append_assoc, refl, sym, ◌∙◌, ap, subst, arith}
 use Rattle.std.proofs.lemmas.List.{append_cancel_left}
-use Rattle.sat_base.specs.Script.{Literal}
+use Rattle.sat_base.specs.script.Script.{Literal}
 use Rattle.certify.specs.Answers.{Outcome, Sat, Unsat, Unknown, s_satisfiable, s_unsatisfiable, s_unknown, literals_text, outcome_text}
 use Rattle.certify.specs.AnswerForms.{IsInForm, literals_of}
 use Rattle.certify.specs.AnswerReading.{NoKind, NoLiterals, NoLine, NoOutcome, HasLine, IsHead, IsCutShort, BeginsNoOutcome, first_line, outcome_of, second_line}

@@ -4,7 +4,7 @@ use Rattle.std.proofs.lemmas.Fmt.{decimal_digit, decimal_step, decimal_is_IsNume
 use Rattle.std.proofs.lemmas.Str.Parse.{digit_from_value, digits_value-take-le}
 use Rattle.std.proofs.Math.Seq.{take-append_seam}
 use Rattle.std.specs.Str.Parse.{AllDigits, digits_value}
-use Rattle.sat_base.specs.Literals.{largest}
+use Rattle.sat_base.specs.values.Literals.{largest}
 use Rattle.certify.specs.AnswerForms.{IsName}
 use Rattle.certify.specs.AnswerReading.{digits_so_far, NoDigit, NoName, NoLiteral}
 use Rattle.certify.proofs.Texts.{Plain, plain_digits, small, numeral}

@@ -2,8 +2,8 @@
 use Rattle.std.proofs.Common.{ℕ, ◌<◌, ◌≤◌, ◌≡◌, ◌∷◌, ◌++◌, [], List, length, length-append, append-nil, append_assoc, sym, ◌∙◌, ap, subst, arith}
 use Rattle.std.proofs.lemmas.List.{map-append}
 use Rattle.std.specs.List.{AllByRecursion}
-use Rattle.sat_base.specs.Literals.{largest}
-use Rattle.sat_base.specs.Script.{Literal}
+use Rattle.sat_base.specs.values.Literals.{largest}
+use Rattle.sat_base.specs.script.Script.{Literal}
 use Rattle.certify.specs.Answers.{literals_text, word_of}
 use Rattle.certify.specs.AnswerForms.{HaveNames, IsName, named_literal, named_literals}
 use Rattle.certify.specs.AnswerReading.{NoLiteral}

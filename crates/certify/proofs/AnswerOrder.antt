@@ -1,8 +1,8 @@
 -- Places that rise are the order of a line.
 use Rattle.std.proofs.Common.{ℕ, ◌+◌, ◌<◌, ◌≤◌, ◌≡◌, ◌∷◌, [], List, map, arith}
 use Rattle.std.proofs.lemmas.Bool.Decides.{nat_tests}
-use Rattle.sat_base.specs.Literals.{variable}
-use Rattle.sat_base.specs.Script.{names_of, place, InOrder}
+use Rattle.sat_base.specs.values.Literals.{variable}
+use Rattle.sat_base.specs.script.Script.{names_of, place, InOrder}
 use Rattle.certify.specs.AnswerForms.{IsIncreasing, IsOrdered, named_literal, named_literals}
 use Rattle.certify.specs.AnswerReading.{HasLine, outcome_of, place_in}
 use Rattle.certify.specs.declared.answers.read.AnswerKind.{AnswerKind}

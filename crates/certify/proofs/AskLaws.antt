@@ -1,10 +1,10 @@
 -- An ask, from its names to its end.
 use Rattle.std.proofs.Common.{ℕ, append_assoc, zero, suc, ◌+◌, ◌-◌, ◌≤◌, ◌≡◌, true, List, [], ◌∷◌, ◌++◌, map, None, sym, ◌∙◌, subst, arith}
 use Rattle.std.specs.List.{AllByRecursion}
-use Rattle.sat_base.specs.Literals.{largest}
-use Rattle.sat_base.specs.Script.{Literal, Command, Ask, Ending, names_of}
-use Rattle.sat_base.specs.Judge.{Judge, accepted, accepted_of, names_from, refusal_of}
-use Rattle.sat_base.specs.Steps.{Step}
+use Rattle.sat_base.specs.values.Literals.{largest}
+use Rattle.sat_base.specs.script.Script.{Literal, Command, Ask, Ending, names_of}
+use Rattle.sat_base.specs.script.Judge.{Judge, accepted, accepted_of, names_from, refusal_of}
+use Rattle.sat_base.specs.steps.Steps.{Step}
 use Rattle.certify.specs.Accepts.{stored_after}
 use Rattle.certify.specs.Answers.{Outcome, Sat, Unsat, Unknown, outcome_text}
 use Rattle.certify.specs.AnswerForms.{HaveNames, IsIncreasing, IsInForm}

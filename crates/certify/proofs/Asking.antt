@@ -1,12 +1,12 @@
 -- What is left of an ask: its names, its assumptions, and then its answer.
 use Rattle.std.proofs.Common.{ℕ, ◌+◌, ◌≤◌, ◌<◌, ◌≡◌, ◌↔◌, true, false, List, [], ◌∷◌, ◌++◌, map, Some, None, refl, sym, ◌∙◌, ap, subst, arith, append_assoc}
 use Rattle.std.specs.List.{AllByRecursion}
-use Rattle.sat_base.specs.Formats.{OneForm}
-use Rattle.sat_base.specs.Literals.{largest}
-use Rattle.sat_base.specs.Script.{Literal, Command, Clause, Ask, Hide, Witness, Sample, Ending, names_of}
-use Rattle.sat_base.specs.Judge.{Judge, Named, Refusal, refusal_of, accepted, accepted_of}
-use Rattle.sat_base.specs.Steps.{Step, Assumptions}
-use Rattle.sat_base.specs.StepText.{SpellsStep}
+use Rattle.sat_base.specs.steps.Formats.{OneForm}
+use Rattle.sat_base.specs.values.Literals.{largest}
+use Rattle.sat_base.specs.script.Script.{Literal, Command, Clause, Ask, Hide, Witness, Sample, Ending, names_of}
+use Rattle.sat_base.specs.script.Judge.{Judge, Named, Refusal, refusal_of, accepted, accepted_of}
+use Rattle.sat_base.specs.steps.Steps.{Step, Assumptions}
+use Rattle.sat_base.specs.steps.StepText.{SpellsStep}
 use Rattle.certify.specs.Answers.{Outcome, Sat, Unsat, Unknown, outcome_text, refused_line, answers_from, piece, outcomes_left}
 use Rattle.certify.specs.Checking.{Checking, variable_of, is_ordered}
 use Rattle.certify.specs.Matches.{Expected, Opens, Shows, Fails, Closes, bringing, showing, expected, OneEach, InForm, Excused, SameSet, Fits, shows, fails, Meets, cut, other, ordered}

@@ -1,8 +1,8 @@
 -- The assumptions of an ask.
 use Rattle.std.proofs.Common.{◌≡◌, List, [], ◌∷◌, Option, Some, None, refl, sym, ◌∙◌, subst}
 use Rattle.std.proofs.lemmas.Bool.{true≢false}
-use Rattle.sat_base.specs.Script.{Literal}
-use Rattle.sat_base.specs.Steps.{Step}
+use Rattle.sat_base.specs.script.Script.{Literal}
+use Rattle.sat_base.specs.steps.Steps.{Step}
 use Rattle.certify.specs.Accepts.{stored_after}
 use Rattle.certify.specs.Answers.{Outcome, Unknown}
 use Rattle.certify.specs.Matches.{Opens, Fits, opens}

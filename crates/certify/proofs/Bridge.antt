@@ -2,11 +2,11 @@
 use Rattle.std.proofs.Common.{ℕ, ◌+◌, ◌/◌, ◌<◌, ◌≡◌, Bool, true, false, not, cond, eqb, List, [], ◌∷◌, map, filter, Option, Some, None, refl, sym, ◌∙◌, ap, subst, arith, ◌⊎◌, inl, inr}
 use Rattle.std.proofs.lemmas.Bool.{both_ways, eqb-true, eqb-false, eq-eqb, ne_eqb}
 use Rattle.std.specs.List.{AllByRecursion}
-use Rattle.sat_base.specs.Literals.{coded}
-use Rattle.sat_base.specs.Clauses.{Valuation, literal_true, clause_true, flipped, EachTrue}
-use Rattle.sat_base.specs.Script.{Literal, Among}
-use Rattle.sat_base.specs.Judge.{Judge, Named, identity_in, identity_of, or_zero, over, with_name, without_name, with_clause, start}
-use Rattle.sat_base.specs.Steps.{Step, UserVarName, AddClause, DeleteVar}
+use Rattle.sat_base.specs.values.Literals.{coded}
+use Rattle.sat_base.specs.values.Clauses.{Valuation, literal_true, clause_true, flipped, EachTrue}
+use Rattle.sat_base.specs.script.Script.{Literal, Among}
+use Rattle.sat_base.specs.script.Judge.{Judge, Named, identity_in, identity_of, or_zero, over, with_name, without_name, with_clause, start}
+use Rattle.sat_base.specs.steps.Steps.{Step, UserVarName, AddClause, DeleteVar}
 use Rattle.certify.specs.Fold.{Holds}
 use Rattle.certify.specs.Checking.{is_variable, variable_of, Checking, IsSound}
 use Rattle.certify.specs.Matches.{Spells, EachSpelt, SameSet}

@@ -2,7 +2,7 @@
 use Rattle.std.proofs.Common.{ℕ, ◌≡◌, ◌↔◌, Bool, true, false, eqb, List, [], ◌∷◌, refl, sym, ◌∙◌, ap, subst, inl, inr}
 use Rattle.std.proofs.lemmas.Bool.{or_cases, or_left, or_right, true≢false, eqb-true, eq-eqb}
 use Rattle.std.specs.List.{AllByRecursion}
-use Rattle.sat_base.specs.Script.{Among}
+use Rattle.sat_base.specs.script.Script.{Among}
 use Rattle.certify.specs.Propagation.{is_among}
 use Rattle.certify.specs.Stored.{canonical}
 use Rattle.certify.proofs.CheckerCanonical.{canonical_among, canonical_increasing, same_increasing}

@@ -5,11 +5,11 @@ use Rattle.std.proofs.lemmas.Bool.Decides.{nat_tests}
 use Rattle.std.proofs.lemmas.List.{map-append}
 use Rattle.std.proofs.lemmas.List.Elements.{recursion_from_All}
 use Rattle.std.specs.List.{AllByRecursion, list_any}
-use Rattle.sat_base.specs.Literals.{coded, variable}
-use Rattle.sat_base.specs.Clauses.{Valuation, clause_true}
-use Rattle.sat_base.specs.Script.{Literal, Among, names_of}
-use Rattle.sat_base.specs.Judge.{Judge, names_from, new_names, bring_in, identity_of}
-use Rattle.sat_base.specs.Steps.{Step, UserVarName, AddClause, AtClause, Model, Assumptions}
+use Rattle.sat_base.specs.values.Literals.{coded, variable}
+use Rattle.sat_base.specs.values.Clauses.{Valuation, clause_true}
+use Rattle.sat_base.specs.script.Script.{Literal, Among, names_of}
+use Rattle.sat_base.specs.script.Judge.{Judge, names_from, new_names, bring_in, identity_of}
+use Rattle.sat_base.specs.steps.Steps.{Step, UserVarName, AddClause, AtClause, Model, Assumptions}
 use Rattle.certify.specs.Stored.{Stored, with_stored, with_literals_known, is_known}
 use Rattle.certify.specs.Accepts.{stored_after}
 use Rattle.certify.specs.Checking.{variable_of}

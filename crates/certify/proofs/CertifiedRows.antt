@@ -1,7 +1,7 @@
 -- Worked rows of the steps that a run may write.
 use Rattle.std.proofs.Common.{Bool, true, false, not, ◌||◌, ◌≡◌, List, [], ◌∷◌, Some, refl, sym, inl, inr}
 use Rattle.std.proofs.lemmas.Bool.{true≢false}
-use Rattle.sat_base.specs.Steps.{Step, UserVarName, Assumptions, End}
+use Rattle.sat_base.specs.steps.Steps.{Step, UserVarName, Assumptions, End}
 use Rattle.certify.specs.Matches.{Expected, NewName, Adds, Shows, Closes, Finish, new_name, adds, opens, shows, closes, finish}
 use Rattle.certify.specs.Certified.{Certifies, complete, left_out, other, ordered}
 use Rattle.certify.specs.TheChecking.{the_checking}

@@ -4,7 +4,7 @@ use Rattle.std.proofs.lemmas.Bool.{both_ways}
 use Rattle.std.proofs.lemmas.List.{reverse-append, get_or_read}
 use Rattle.std.proofs.lemmas.List.Folds.{list_any-append}
 use Rattle.std.specs.List.{AllByRecursion, list_any}
-use Rattle.sat_base.specs.Literals.{negated}
+use Rattle.sat_base.specs.values.Literals.{negated}
 use Rattle.certify.specs.Propagation.{is_among, IsFalsified, RunsToConflict, Passes, tautology, unit_true, conflict, is_tautology}
 use Rattle.certify.specs.Stored.{Stored, StoredClause, canonical, with_unit, with_canonical, with_stored, with_clause}
 use Rattle.certify.specs.Walk.{all_literals, of_hash}

@@ -4,7 +4,7 @@ use Rattle.std.proofs.lemmas.Bool.{or_cases, or_left, or_right, both_ways, eqb-t
 use Rattle.std.proofs.lemmas.List.{drop_more, get_or-map, reverse-reverse, get_or_read}
 use Rattle.std.specs.List.{AllByRecursion, list_any}
 use Rattle.std.specs.Bool.{MatchBool}
-use Rattle.sat_base.specs.Literals.{negated, variable}
+use Rattle.sat_base.specs.values.Literals.{negated, variable}
 use Rattle.certify.specs.Propagation.{is_among}
 use Rattle.certify.specs.Stored.{Stored, StoredClause}
 use Rattle.certify.specs.Accepts.{VariablesApart, FitsModel}

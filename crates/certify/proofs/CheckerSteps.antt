@@ -1,6 +1,6 @@
 -- What the checker's answers say of all steps so far, the newest standing first.
 use Rattle.std.proofs.Common.{true, false, List, ◌∷◌}
-use Rattle.sat_base.specs.Steps.{Step}
+use Rattle.sat_base.specs.steps.Steps.{Step}
 use Rattle.certify.specs.Accepts.{AcceptsAll, stored_after}
 use Rattle.certify.specs.CheckerView.{Keeps, AnswersRightly}
 use Rattle.certify.specs.declared.checker.Checker.{Checker}

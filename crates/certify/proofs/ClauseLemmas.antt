@@ -6,7 +6,7 @@ use Rattle.std.proofs.lemmas.Bool.{false_from_ne_true}
 use Rattle.std.proofs.lemmas.List.Elements.{All-push}
 use Rattle.std.specs.List.{All, AllByRecursion}
 use Rattle.std.specs.Cmp.Lexicographic.{same_text}
-use Rattle.sat_base.specs.Hashes.{hash_of}
+use Rattle.sat_base.specs.values.Hashes.{hash_of}
 use Rattle.certify.specs.Marks.{IsIncreasing}
 use Rattle.certify.specs.Stored.{StoredClause, same_literals, with_clause}
 use Rattle.certify.specs.Walk.{all_literals, all_flags}

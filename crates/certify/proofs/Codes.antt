@@ -1,12 +1,12 @@
 -- Literals that a certificate spells, by their codes.
 use Rattle.std.proofs.Common.{ℕ, ◌+◌, ◌≡◌, ◌↔◌, Bool, true, false, cond, eqb, List, [], ◌∷◌, ◌++◌, Option, Some, None, refl, sym, ◌∙◌, ap, subst, inl, inr}
 use Rattle.std.specs.List.{AllByRecursion}
-use Rattle.sat_base.specs.Literals.{coded}
-use Rattle.sat_base.specs.Script.{Literal, Among}
-use Rattle.sat_base.specs.Steps.{Step, SolverVarName, UserVarName, DeleteVar, ChangeSamplingMode, AddClause, AtClause, UnitClauses, DeleteClause, ChangeHashBits, Model, Assumptions, FailedAssumptions, End}
+use Rattle.sat_base.specs.values.Literals.{coded}
+use Rattle.sat_base.specs.script.Script.{Literal, Among}
+use Rattle.sat_base.specs.steps.Steps.{Step, SolverVarName, UserVarName, DeleteVar, ChangeSamplingMode, AddClause, AtClause, UnitClauses, DeleteClause, ChangeHashBits, Model, Assumptions, FailedAssumptions, End}
 use Rattle.certify.specs.Stored.{Stored, canonical, with_canonical, with_stored, with_literals_known}
 use Rattle.certify.specs.Propagation.{is_among, is_tautology}
-use Rattle.sat_base.specs.Literals.{negated}
+use Rattle.sat_base.specs.values.Literals.{negated}
 use Rattle.certify.specs.Accepts.{AcceptsAll, stored_after}
 use Rattle.certify.specs.Checking.{Accepted, variable_of}
 use Rattle.certify.specs.Codes.{code_before, codes_of}

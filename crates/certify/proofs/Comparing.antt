@@ -2,9 +2,9 @@
 use Rattle.std.proofs.Common.{ℕ, ◌-◌, ◌≡◌, Bool, true, false, List, length, map, Some, None, sym, ◌∙◌, ap, subst, arith}
 use Rattle.std.specs.Bool.{MatchBool}
 use Rattle.std.specs.List.{AllByRecursion}
-use Rattle.sat_base.specs.Script.{Literal, Among, names_of}
-use Rattle.sat_base.specs.Judge.{Judge, names_from}
-use Rattle.sat_base.specs.Steps.{Step, AddClause, Assumptions, Model, FailedAssumptions}
+use Rattle.sat_base.specs.script.Script.{Literal, Among, names_of}
+use Rattle.sat_base.specs.script.Judge.{Judge, names_from}
+use Rattle.sat_base.specs.steps.Steps.{Step, AddClause, Assumptions, Model, FailedAssumptions}
 use Rattle.certify.specs.Accepts.{stored_after}
 use Rattle.certify.specs.Answers.{Outcome}
 use Rattle.certify.specs.Checking.{variable_of}

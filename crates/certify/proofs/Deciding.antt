@@ -1,8 +1,8 @@
 -- From what is decided of a script whose names are held, to what is said of the texts that were read.
 use Rattle.std.proofs.Common.{ℕ, ◌<◌, ◌≤◌, ◌≡◌, ◌↔◌, List, [], ◌∷◌, map, refl, sym, ◌∙◌, subst, arith}
 use Rattle.std.specs.List.{AllByRecursion}
-use Rattle.sat_base.specs.Script.{Literal, Command, Clause, Ask, Hide, Witness, Sample, Ending, names_of, reading}
-use Rattle.sat_base.specs.Judge.{start}
+use Rattle.sat_base.specs.script.Script.{Literal, Command, Clause, Ask, Hide, Witness, Sample, Ending, names_of, reading}
+use Rattle.sat_base.specs.script.Judge.{start}
 use Rattle.certify.specs.Confirmed.{IsExact, GaveRightAnswers}
 use Rattle.certify.specs.Decides.{Decides}
 use Rattle.certify.specs.Holding.{held_command, HeldScript, held_script, IsHeldOf}

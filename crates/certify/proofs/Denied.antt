@@ -2,10 +2,10 @@
 use Rattle.std.proofs.Common.{ℕ, ◌<◌, length, drop, get_or, ◌≡◌, Bool, true, false, cond, eqb, List, [], ◌∷◌, ◌++◌, map, refl, sym, ◌∙◌, subst, Some, None, ◌⊎◌, ◌↔◌, inl, inr, ◌+◌}
 use Rattle.std.proofs.lemmas.Bool.{or_cases, or_left, or_right, or_from, both_ways, eqb-true, eq-eqb, true≢false, false_from_ne_true}
 use Rattle.std.specs.List.{AllByRecursion, list_any}
-use Rattle.sat_base.specs.Literals.{negated}
+use Rattle.sat_base.specs.values.Literals.{negated}
 use Rattle.certify.specs.Marks.{NoRepeats}
 use Rattle.certify.specs.Propagation.{is_among}
-use Rattle.sat_base.specs.Hashes.{hash_of}
+use Rattle.sat_base.specs.values.Hashes.{hash_of}
 use Rattle.certify.specs.Propagation.{Passes, tautology, unit_true, conflict, is_tautology}
 use Rattle.certify.specs.Walk.{denied, walk_buckets, of_hash}
 use Rattle.std.proofs.lemmas.List.{drop_more}

@@ -2,9 +2,9 @@
 use Rattle.std.proofs.Common.{ℕ, IsTrue, rules, zero, suc, ◌+◌, ◌≤◌, ◌≡◌, ◌↔◌, Bool, true, false, List, [], ◌∷◌, ◌++◌, length, drop, Option, Some, None, refl, sym, ◌∙◌, ap, subst, arith}
 use Rattle.std.proofs.lemmas.List.{append-nil, append_cancel_left, drop_all}
 use Rattle.std.specs.List.{AllByRecursion, slice_get}
-use Rattle.sat_base.specs.Judge.{Judge, after_command, start}
-use Rattle.sat_base.specs.Script.{Command, Ending, Clean, Malformed}
-use Rattle.sat_base.specs.Steps.{Step}
+use Rattle.sat_base.specs.script.Judge.{Judge, after_command, start}
+use Rattle.sat_base.specs.script.Script.{Command, Ending, Clean, Malformed}
+use Rattle.sat_base.specs.steps.Steps.{Step}
 use Rattle.certify.specs.Accepts.{stored_after}
 use Rattle.certify.specs.Answers.{malformed_line}
 use Rattle.certify.specs.Confirming.{Met}

@@ -1,8 +1,8 @@
 -- Once unsat is recorded, just one list of outcomes is excused.
 use Rattle.std.proofs.Common.{ℕ, ◌≡◌, ◌↔◌, List, [], ◌∷◌, ◌++◌, map, refl, sym, subst, append_assoc}
 use Rattle.std.specs.List.{AllByRecursion}
-use Rattle.sat_base.specs.Script.{Command, Clause, Ask, Hide, Witness, Sample, names_of}
-use Rattle.sat_base.specs.Judge.{Judge, Mode, Sampled, Witnessed, accepted, new_names, bring_in, without_name, with_mode}
+use Rattle.sat_base.specs.script.Script.{Command, Clause, Ask, Hide, Witness, Sample, names_of}
+use Rattle.sat_base.specs.script.Judge.{Judge, Mode, Sampled, Witnessed, accepted, new_names, bring_in, without_name, with_mode}
 use Rattle.certify.specs.Answers.{Outcome, Sat, Unsat, Unknown}
 use Rattle.certify.specs.Matches.{Expected, NewName, NoName, Adds, Opens, Closes, bringing, hiding, setting, showing, expected, OneEach, InForm, Excused}
 use Rattle.certify.specs.Left.{each_unsat}

@@ -4,10 +4,10 @@ use Rattle.std.proofs.Math.Seq.{drop-length}
 use Rattle.std.proofs.KnownBytes.{Appends-nil, Appends-trans}
 use Rattle.std.proofs.lemmas.List.{length-map}
 use Rattle.std.specs.Io.KnownBytes.{Appends}
-use Rattle.sat_base.specs.Script.{Command, Ending, Clean, Malformed, written, reading}
-use Rattle.sat_base.specs.Judge.{Judge, Refusal, refusal_of, after_command, accepted_of, start}
-use Rattle.sat_base.specs.Steps.{Step, End}
-use Rattle.sat_base.specs.StepText.{SpellsSteps}
+use Rattle.sat_base.specs.script.Script.{Command, Ending, Clean, Malformed, written, reading}
+use Rattle.sat_base.specs.script.Judge.{Judge, Refusal, refusal_of, after_command, accepted_of, start}
+use Rattle.sat_base.specs.steps.Steps.{Step, End}
+use Rattle.sat_base.specs.steps.StepText.{SpellsSteps}
 use Rattle.certify.specs.declared.fault.RunFault.{RunFault}
 use Rattle.certify.specs.declared.run.session.Session.{Session}
 use Rattle.certify.specs.declared.summary.Summary.{Summary}

@@ -1,8 +1,8 @@
 -- What each expected step has to be.
 use Rattle.std.proofs.Common.{ℕ, ◌+◌, ◌≡◌, ◌↔◌, false, List, [], Some, None, refl, subst, sym}
 use Rattle.std.specs.List.{AllByRecursion}
-use Rattle.sat_base.specs.Script.{Literal, names_of, Among}
-use Rattle.sat_base.specs.Steps.{Step, UserVarName, AddClause, Model, Assumptions, FailedAssumptions, End}
+use Rattle.sat_base.specs.script.Script.{Literal, names_of, Among}
+use Rattle.sat_base.specs.steps.Steps.{Step, UserVarName, AddClause, Model, Assumptions, FailedAssumptions, End}
 use Rattle.certify.specs.Answers.{Outcome}
 use Rattle.certify.specs.Checking.{Checking, variable_of}
 use Rattle.certify.specs.Matches.{NewName, NoName, Adds, Opens, Shows, Fails, Closes, Finish, EachSpelt, SameSet, Fits, new_name, no_name, adds, opens, shows, fails, closes, finish}

@@ -2,9 +2,9 @@
 use Rattle.std.proofs.Common.{◌≡◌, ℕ, List, [], ◌∷◌, Bool, true, false, map, Option, Some, None, refl, ap, ◌∙◌, arith}
 use Rattle.std.specs.Prelude.{nat_lt, if◌then◌else◌}
 use Rattle.std.proofs.lemmas.Bool.Decides.{nat_tests}
-use Rattle.sat_base.specs.Literals.{largest}
-use Rattle.sat_base.specs.Script.{Literal, Command, Clause, Ask, Hide, Witness, Sample, names_of}
-use Rattle.sat_base.specs.Judge.{Judge, Refusal, PastLimit, WitnessName, has_witness, identity_of, refused_literal, refused_name, refusal_of, accepted, accepted_of, after_command, after_script}
+use Rattle.sat_base.specs.values.Literals.{largest}
+use Rattle.sat_base.specs.script.Script.{Literal, Command, Clause, Ask, Hide, Witness, Sample, names_of}
+use Rattle.sat_base.specs.script.Judge.{Judge, Refusal, PastLimit, WitnessName, has_witness, identity_of, refused_literal, refused_name, refusal_of, accepted, accepted_of, after_command, after_script}
 use Rattle.certify.specs.Holding.{held_name, held_literal, held_command, HoldingIsFree}
 
 past : (name : ℕ) → nat_lt largest (held_name name) ≡ nat_lt largest name

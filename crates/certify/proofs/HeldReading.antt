@@ -4,12 +4,12 @@ use Rattle.std.specs.Prelude.{nat_eq, not, is_some, ◌&&◌, if◌then◌else�
 use Rattle.std.proofs.Common.{cond, length, inl, inr}
 use Rattle.std.proofs.lemmas.List.{length-map}
 use Rattle.std.proofs.lemmas.Bool.Decides.{nat_tests}
-use Rattle.sat_base.specs.Text.{Token, Number, Letter, Header, Wrong, header_first, header_from, header_of, scan, tokens}
-use Rattle.sat_base.specs.Tokenizing as base
-use Rattle.sat_base.specs.Script.{Literal, Command, Clause, Ask, Hide, Witness, Sample, Clean, Hand, Nothing, InClause, InAsk, Turn, GoesOn, Ends, Fails, command_in, with_literal, with_letter, turn, Reading, onto_commands, at_end, behind_turn, commands_of, spoken, has_ask, is_clean, written, reading}
+use Rattle.sat_base.specs.text.Text.{Token, Number, Letter, Header, Wrong, header_first, header_from, header_of, scan, tokens}
+use Rattle.sat_base.specs.text.Tokenizing as base
+use Rattle.sat_base.specs.script.Script.{Literal, Command, Clause, Ask, Hide, Witness, Sample, Clean, Hand, Nothing, InClause, InAsk, Turn, GoesOn, Ends, Fails, command_in, with_literal, with_letter, turn, Reading, onto_commands, at_end, behind_turn, commands_of, spoken, has_ask, is_clean, written, reading}
 use Rattle.certify.specs.Holding.{held_name, held_literal, held_command, held_reading, HeldScript, held_script, IsHeldOf, HasCommands}
 use Rattle.certify.specs.ScriptReading.{held_token, token_of, any_header, asked_if, held_tokens}
-use Rattle.sat_base.proofs.HeaderFirst.{IsWord, AreWords, AreScript, text_is}
+use Rattle.sat_base.proofs.lemmas.text.HeaderFirst.{IsWord, AreWords, AreScript, text_is}
 
 pub commands_of_cons : (h : Hand) (t : Token) (ts : List Token) → commands_of h (t ∷ ts) ≡ behind_turn (turn h t) (λ k. commands_of k ts)
 unfolding commands_of

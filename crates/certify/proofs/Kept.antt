@@ -3,10 +3,10 @@ use Rattle.std.proofs.Common.{ℕ, zero, suc, ◌+◌, ◌-◌, ◌≤◌, ◌<�
 use Rattle.std.proofs.Math.ListN.{length-set}
 use Rattle.std.proofs.lemmas.Bool.{ltb-true, ltb-false, eqb-false, ne_eqb}
 use Rattle.std.specs.List.{AllByRecursion}
-use Rattle.sat_base.specs.Literals.{largest, variable, coded}
-use Rattle.sat_base.specs.Clauses.{Valuation, literal_true, clause_true, EachHolds}
-use Rattle.sat_base.specs.Script.{Literal, Command, Clause, Ask, Hide, Witness, Sample, names_of}
-use Rattle.sat_base.specs.Judge.{Judge, Named, Mode, Sampled, Witnessed, identity_in, identity_of, placed, or_zero, with_name, with_names, names_from, new_names, over, bring_in, bring_all, without_name, with_mode, hide_all, set_all, accepted, Refusal, PastLimit, WitnessName, refused_literal, refused_name, has_witness, refusal_of, after_command, after_script, start}
+use Rattle.sat_base.specs.values.Literals.{largest, variable, coded}
+use Rattle.sat_base.specs.values.Clauses.{Valuation, literal_true, clause_true, EachHolds}
+use Rattle.sat_base.specs.script.Script.{Literal, Command, Clause, Ask, Hide, Witness, Sample, names_of}
+use Rattle.sat_base.specs.script.Judge.{Judge, Named, Mode, Sampled, Witnessed, identity_in, identity_of, placed, or_zero, with_name, with_names, names_from, new_names, over, bring_in, bring_all, without_name, with_mode, hide_all, set_all, accepted, Refusal, PastLimit, WitnessName, refused_literal, refused_name, has_witness, refusal_of, after_command, after_script, start}
 use Rattle.certify.specs.Laws.{NamesIncrease, IsKept, JudgeIsKept, only_below, GivenIdentitiesSuffice}
 use Rattle.certify.proofs.Values.{all_map, coded_half}
 

@@ -3,9 +3,9 @@ use Rattle.std.proofs.Common.{ℕ, ◌≡◌, true, false, List, [], ◌∷◌, 
 use Rattle.std.proofs.lemmas.Bool.{true≢false}
 use Rattle.std.proofs.lemmas.List.{append_cancel_left}
 use Rattle.std.specs.List.{AllByRecursion}
-use Rattle.sat_base.specs.Formats.{OneForm}
-use Rattle.sat_base.specs.Steps.{Step}
-use Rattle.sat_base.specs.StepText.{SpellsStep, SpellsSteps}
+use Rattle.sat_base.specs.steps.Formats.{OneForm}
+use Rattle.sat_base.specs.steps.Steps.{Step}
+use Rattle.sat_base.specs.steps.StepText.{SpellsStep, SpellsSteps}
 use Rattle.certify.specs.Accepts.{Accepts, stored_after}
 use Rattle.certify.specs.Checking.{is_ordered}
 use Rattle.certify.specs.Matches.{Expected, Fits, Meets, Excused, met, cut, other, ordered}

@@ -2,11 +2,11 @@
 use Rattle.std.proofs.Common.{ℕ, ◌+◌, ◌≡◌, ◌↔◌, true, false, List, [], ◌∷◌, ◌++◌, Some, None, refl, sym, ◌∙◌, ap, subst, append_assoc}
 use Rattle.std.proofs.lemmas.List.{append_cancel_left}
 use Rattle.std.specs.List.{AllByRecursion}
-use Rattle.sat_base.specs.Formats.{OneForm}
-use Rattle.sat_base.specs.Script.{Literal, Command, Clause, Hide, Witness, Sample, Ending, names_of}
-use Rattle.sat_base.specs.Judge.{Judge, Sampled, Witnessed, Refusal, refusal_of, accepted, accepted_of, start}
-use Rattle.sat_base.specs.Steps.{Step}
-use Rattle.sat_base.specs.StepText.{SpellsStep}
+use Rattle.sat_base.specs.steps.Formats.{OneForm}
+use Rattle.sat_base.specs.script.Script.{Literal, Command, Clause, Hide, Witness, Sample, Ending, names_of}
+use Rattle.sat_base.specs.script.Judge.{Judge, Sampled, Witnessed, Refusal, refusal_of, accepted, accepted_of, start}
+use Rattle.sat_base.specs.steps.Steps.{Step}
+use Rattle.sat_base.specs.steps.StepText.{SpellsStep}
 use Rattle.certify.specs.Answers.{Outcome, refused_line, ending_text, answers_from}
 use Rattle.certify.specs.Checking.{Checking, is_ordered}
 use Rattle.certify.specs.Matches.{Expected, Adds, Finish, bringing, hiding, setting, expected, Excused, Fits, MatchesCommands}

@@ -1,9 +1,9 @@
 -- What is left, command by command.
 use Rattle.std.proofs.Common.{ℕ, ◌+◌, ◌≡◌, ◌↔◌, List, [], ◌∷◌, ◌++◌, Some, None, refl, sym, ◌∙◌, ap, subst, append_assoc}
 use Rattle.std.specs.List.{AllByRecursion}
-use Rattle.sat_base.specs.Script.{Literal, Command, Clause, Ask, Ending, names_of}
-use Rattle.sat_base.specs.Judge.{Judge, Refusal, accepted, accepted_of, refusal_of, start}
-use Rattle.sat_base.specs.Steps.{Step}
+use Rattle.sat_base.specs.script.Script.{Literal, Command, Clause, Ask, Ending, names_of}
+use Rattle.sat_base.specs.script.Judge.{Judge, Refusal, accepted, accepted_of, refusal_of, start}
+use Rattle.sat_base.specs.steps.Steps.{Step}
 use Rattle.certify.specs.Answers.{Outcome, answers_from, refused_line, outcome_text, outcomes_left, piece, ending_text}
 use Rattle.certify.specs.Matches.{Expected, Adds, Opens, Shows, Fails, Closes, Finish, bringing, showing, expected, OneEach, InForm, Meets, cut, other, ordered, shows, fails, MatchesCommands}
 use Rattle.certify.specs.Left.{Left, Asking}

@@ -4,9 +4,9 @@ use Rattle.std.proofs.lemmas.Bool.{true≢false, eqb-true, eqb-false}
 use Rattle.std.proofs.lemmas.List.{take_more, take_all, drop_more, take-append-drop, get_or_default, map-append}
 use Rattle.std.specs.Bool.{MatchBool}
 use mathlib.Core.Bool.{beq}
-use Rattle.sat_base.specs.Literals.{largest}
-use Rattle.sat_base.specs.Script.{Literal, Among, names_of}
-use Rattle.sat_base.specs.Judge.{names_from, refused_name, PastLimit}
+use Rattle.sat_base.specs.values.Literals.{largest}
+use Rattle.sat_base.specs.script.Script.{Literal, Among, names_of}
+use Rattle.sat_base.specs.script.Judge.{names_from, refused_name, PastLimit}
 use Rattle.certify.proofs.PlainJudge.{from_more}
 
 pub names_at : (line : List Literal) (count first i : ℕ) (d : Literal) → names_of line ≡ names_from count first → i < length line → (get_or line i d).name ≡ first + i

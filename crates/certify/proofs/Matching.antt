@@ -2,10 +2,10 @@
 use Rattle.std.proofs.Common.{ℕ, ◌≡◌, Bool, true, false, List, [], ◌∷◌, map, Option, Some, None, refl, sym, ◌∙◌, ap, subst}
 use Rattle.std.proofs.lemmas.Bool.{true≢false}
 use Rattle.std.specs.List.{AllByRecursion}
-use Rattle.sat_base.specs.Clauses.{Valuation, literal_true, EachTrue, EachHolds}
-use Rattle.sat_base.specs.Script.{Literal, names_of, Among}
-use Rattle.sat_base.specs.Judge.{Judge, over, with_name, without_name, with_clause, IsRightModel}
-use Rattle.sat_base.specs.Steps.{Step, SolverVarName, UserVarName, DeleteVar, ChangeSamplingMode, AddClause, AtClause, UnitClauses, DeleteClause, ChangeHashBits, Model, Assumptions, FailedAssumptions, End}
+use Rattle.sat_base.specs.values.Clauses.{Valuation, literal_true, EachTrue, EachHolds}
+use Rattle.sat_base.specs.script.Script.{Literal, names_of, Among}
+use Rattle.sat_base.specs.script.Judge.{Judge, over, with_name, without_name, with_clause, IsRightModel}
+use Rattle.sat_base.specs.steps.Steps.{Step, SolverVarName, UserVarName, DeleteVar, ChangeSamplingMode, AddClause, AtClause, UnitClauses, DeleteClause, ChangeHashBits, Model, Assumptions, FailedAssumptions, End}
 use Rattle.certify.specs.Checking.{variable_of, assumed, is_ordered, Checking, IsSound}
 use Rattle.certify.specs.Matches.{Expected, NewName, NoName, Adds, Opens, Shows, Fails, Closes, Finish, Spells, EachSpelt, SameSet, new_name, no_name, adds, opens, shows, fails, closes, finish, Excused, Meets, met, cut, other, ordered}
 use Rattle.certify.specs.Bridge.{Live, IsBridge}

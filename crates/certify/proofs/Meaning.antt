@@ -4,9 +4,9 @@ use Rattle.std.proofs.lemmas.Bool.{cases_Bool, or_cases, or_left, or_right, or_p
 use Rattle.std.proofs.lemmas.Bool.Decides.{Decides-eqb}
 use Rattle.std.proofs.lemmas.Slice.Eq.{slice_eq-Decides}
 use Rattle.std.specs.List.{AllByRecursion}
-use Rattle.sat_base.specs.Literals.{negated}
-use Rattle.sat_base.specs.Clauses.{Valuation, literal_true, clause_true}
-use Rattle.sat_base.specs.Steps.{Step, SolverVarName, UserVarName, DeleteVar, ChangeSamplingMode, AddClause, AtClause, UnitClauses, DeleteClause, ChangeHashBits, Model, Assumptions, FailedAssumptions, End}
+use Rattle.sat_base.specs.values.Literals.{negated}
+use Rattle.sat_base.specs.values.Clauses.{Valuation, literal_true, clause_true}
+use Rattle.sat_base.specs.steps.Steps.{Step, SolverVarName, UserVarName, DeleteVar, ChangeSamplingMode, AddClause, AtClause, UnitClauses, DeleteClause, ChangeHashBits, Model, Assumptions, FailedAssumptions, End}
 use Rattle.certify.specs.Propagation.{is_among, is_tautology, Passes}
 use Rattle.certify.specs.Stored.{Stored, StoredClause, Satisfies, same_literals, with_literal, canonical, with_clause, with_canonical, with_stored, with_literals_known, bucket}
 use Rattle.certify.specs.Accepts.{after, stored_after}

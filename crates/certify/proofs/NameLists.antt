@@ -2,9 +2,9 @@
 use Rattle.std.proofs.Common.{ℕ, ◌+◌, ◌<◌, ◌≤◌, ◌≡◌, Bool, true, false, leb, ◌&&◌, List, [], ◌∷◌, length, drop, get_or, map, max, zero, ◌-◌, refl, sym, ◌∙◌, ap, arith, suc}
 use Rattle.std.proofs.Math.Seq.{drop-cons}
 use Rattle.std.proofs.lemmas.Bool.Decides.{nat_tests}
-use Rattle.sat_base.specs.Literals.{largest, variable, coded}
+use Rattle.sat_base.specs.values.Literals.{largest, variable, coded}
 use Rattle.certify.specs.Search.{IsBounded}
-use Rattle.sat_base.specs.Script.{Literal, names_of}
+use Rattle.sat_base.specs.script.Script.{Literal, names_of}
 use Rattle.certify.specs.Running.{raised, are_within, code_of}
 
 pub next_literal : (ls : List Literal) (i : ℕ) (l : Literal) → i < length ls → l ≡ get_or ls i l → drop i ls ≡ l ∷ drop (i + 1) ls

@@ -4,10 +4,10 @@ use Rattle.std.proofs.lemmas.Bool.{true≢false, eqb-true, eqb-false, ne_eqb}
 use Rattle.std.proofs.lemmas.List.{length_push, map-append, take_more, take-append-drop, append-nil}
 use Rattle.std.specs.List.{AllByRecursion, slice_get}
 use mathlib.Core.Path.{fun_ext}
-use Rattle.sat_base.specs.Literals.{largest}
-use Rattle.sat_base.specs.Script.{Literal, names_of}
-use Rattle.sat_base.specs.Judge.{Judge, names_from, new_names, with_name, with_names, bring_in, bring_all}
-use Rattle.sat_base.specs.Steps.{Step, UserVarName}
+use Rattle.sat_base.specs.values.Literals.{largest}
+use Rattle.sat_base.specs.script.Script.{Literal, names_of}
+use Rattle.sat_base.specs.script.Judge.{Judge, names_from, new_names, with_name, with_names, bring_in, bring_all}
+use Rattle.sat_base.specs.steps.Steps.{Step, UserVarName}
 use Rattle.certify.specs.Accepts.{stored_after}
 use Rattle.certify.specs.AnswerForms.{IsName, HaveNames}
 use Rattle.certify.specs.Checking.{variable_of}

@@ -1,7 +1,7 @@
 -- No step's text begins another's.
-use Rattle.sat_base.specs.Formats.{OneForm}
-use Rattle.sat_base.specs.StepText.{SpellsStep}
-use Rattle.sat_base.proofs.StepReads as reads
+use Rattle.sat_base.specs.steps.Formats.{OneForm}
+use Rattle.sat_base.specs.steps.StepText.{SpellsStep}
+use Rattle.sat_base.proofs.lemmas.steps.StepReads as reads
 
 pub one_step : OneForm SpellsStep
 one_step = reads.one_step

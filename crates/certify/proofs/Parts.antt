@@ -6,7 +6,7 @@ use Rattle.std.proofs.lemmas.List.{take-append-le, drop-append-le, length-drop, 
 use Rattle.std.proofs.lemmas.Option.{slice_get-get_or}
 use Rattle.certify.specs.declared.script.Kind.{Kind}
 use Rattle.certify.specs.declared.script.Part.{Part}
-use Rattle.sat_base.specs.Script.{Literal, Command, has_ask}
+use Rattle.sat_base.specs.script.Script.{Literal, Command, has_ask}
 use Rattle.certify.specs.ScriptParts.{command_of, commands_in, start_of, literals_behind, AreParts, is_ask, any_ask}
 use Rattle.certify.specs.declared.script.Kind.TheVariants as kind
 

@@ -2,10 +2,10 @@
 use Rattle.std.proofs.Common.{ℕ, List, ◌≡◌, true, false, not, map, ◌∙◌, ap, ◌⊎◌, inl, inr}
 use Rattle.std.proofs.lemmas.Bool.{cases_Bool}
 use Rattle.std.specs.List.{AllByRecursion}
-use Rattle.sat_base.specs.Literals.{coded}
-use Rattle.sat_base.specs.Clauses.{Valuation, literal_true, clause_true}
-use Rattle.sat_base.specs.Script.{Literal, Among}
-use Rattle.sat_base.specs.Judge.{Judge, or_zero, identity_of, over, bring_all}
+use Rattle.sat_base.specs.values.Literals.{coded}
+use Rattle.sat_base.specs.values.Clauses.{Valuation, literal_true, clause_true}
+use Rattle.sat_base.specs.script.Script.{Literal, Among}
+use Rattle.sat_base.specs.script.Judge.{Judge, or_zero, identity_of, over, bring_all}
 use Rattle.certify.specs.Laws.{NotBoth, RepeatChangesNothing, TautologyChangesNothing, AskLeavesNames}
 use Rattle.certify.proofs.Values.{literal_coded, among_true, among_mapped, some_mapped, all_at, all_map, true_mapped, mapped_true}
 

@@ -2,9 +2,9 @@
 use Rattle.std.proofs.Common.{ℕ, zero, suc, ◌+◌, ◌-◌, ◌≤◌, ◌<◌, ◌≡◌, Bool, true, false, cond, eqb, ltb, max, List, [], ◌∷◌, ◌++◌, map, Option, Some, None, is_some, refl, sym, ◌∙◌, ap, subst, arith, append_assoc, get_or}
 use Rattle.std.proofs.lemmas.Bool.{ltb-true, eqb-false}
 use Rattle.std.specs.List.{AllByRecursion}
-use Rattle.sat_base.specs.Literals.{largest}
-use Rattle.sat_base.specs.Script.{Literal}
-use Rattle.sat_base.specs.Judge.{Judge, Named, Mode, Sampled, identity_in, identity_of, placed, with_name, with_names, names_from, new_names, bring_in, bring_all, with_clause, is_witness, refused_literal, refused_name, has_witness, start}
+use Rattle.sat_base.specs.values.Literals.{largest}
+use Rattle.sat_base.specs.script.Script.{Literal}
+use Rattle.sat_base.specs.script.Judge.{Judge, Named, Mode, Sampled, identity_in, identity_of, placed, with_name, with_names, names_from, new_names, bring_in, bring_all, with_clause, is_witness, refused_literal, refused_name, has_witness, start}
 use Rattle.certify.specs.Matches.{NewName, bringing}
 use Rattle.certify.specs.Confirming.{IsPlain}
 

@@ -4,9 +4,9 @@ use Rattle.std.proofs.lemmas.Bool.{ltb-true, ltb-false, eqb-false, ne_eqb}
 use Rattle.std.proofs.lemmas.Bool.Decides.{nat_tests}
 use Rattle.std.proofs.lemmas.List.{map-append}
 use Rattle.std.specs.List.{AllByRecursion}
-use Rattle.sat_base.specs.Literals.{largest}
-use Rattle.sat_base.specs.Script.{Literal}
-use Rattle.sat_base.specs.Judge.{Judge, Named, Mode, Sampled, Refusal, PastLimit, is_witness, has_witness, identity_in, identity_of, placed, with_name, with_names, names_from, bring_in, bring_all, over, refused_literal, start}
+use Rattle.sat_base.specs.values.Literals.{largest}
+use Rattle.sat_base.specs.script.Script.{Literal}
+use Rattle.sat_base.specs.script.Judge.{Judge, Named, Mode, Sampled, Refusal, PastLimit, is_witness, has_witness, identity_in, identity_of, placed, with_name, with_names, names_from, bring_in, bring_all, over, refused_literal, start}
 use Rattle.certify.specs.Running.{Plain, first_names, all_sampled, raised, are_within, code_of}
 
 -- the names of a list are below this one

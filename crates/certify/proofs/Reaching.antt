@@ -4,10 +4,10 @@ use Rattle.std.proofs.KnownBytes.{Appends-nil, Appends-trans}
 use Rattle.std.proofs.lemmas.List.{map-append}
 use Rattle.std.specs.List.{AllByRecursion, slice_get}
 use Rattle.std.specs.Io.KnownBytes.{Appends}
-use Rattle.sat_base.specs.Literals.{variable}
-use Rattle.sat_base.specs.Clauses.{Valuation, clause_true, EachTrue, EachHolds}
-use Rattle.sat_base.specs.Script.{Literal, Command, Clause, Ask, Ending, names_of}
-use Rattle.sat_base.specs.Judge.{Judge, PastLimit, bring_all, with_clause, over, accepted, accepted_of, refused_literal, names_from, start}
+use Rattle.sat_base.specs.values.Literals.{variable}
+use Rattle.sat_base.specs.values.Clauses.{Valuation, clause_true, EachTrue, EachHolds}
+use Rattle.sat_base.specs.script.Script.{Literal, Command, Clause, Ask, Ending, names_of}
+use Rattle.sat_base.specs.script.Judge.{Judge, PastLimit, bring_all, with_clause, over, accepted, accepted_of, refused_literal, names_from, start}
 use Rattle.certify.specs.declared.fault.RunFault.{RunFault}
 use Rattle.certify.specs.declared.run.session.Session.{Session}
 use Rattle.certify.specs.declared.summary.Answer.{Answer}
@@ -20,7 +20,7 @@ use Rattle.certify.specs.Run.{refused_count, kind_of, IsSpent, AreSpent}
 use Rattle.certify.specs.Held.{Held, HoldsIn, TakesClause}
 use Rattle.certify.specs.Holding.{HeldScript}
 use Rattle.certify.specs.Running.{Plain, Reached, Refused, Added, Asked, Took, TookAll, Told, IsSimple, IsTrueOf, WritesAnswer, WritesSteps, WritesClause, WroteClause, WroteAsk, are_within, code_of, naming, outcome_of, raised, steps_of}
-use Rattle.sat_base.specs.Steps.{Step, Assumptions}
+use Rattle.sat_base.specs.steps.Steps.{Step, Assumptions}
 use Rattle.certify.specs.TheChecking.{the_checking}
 use Rattle.certify.specs.Matches.{Adds, Opens, Closes, bringing, expected, showing}
 use Rattle.certify.specs.Certified.{Certifies}

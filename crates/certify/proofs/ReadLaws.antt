@@ -1,7 +1,7 @@
 -- Where no answer is read, none stands.
 use Rattle.std.proofs.Common.{ℕ, ◌≡◌, List, [], ◌++◌, refl, sym, ◌∙◌, ap, subst, append_assoc, arith}
 use Rattle.std.proofs.lemmas.List.{append_cancel_left}
-use Rattle.sat_base.specs.Script.{Literal}
+use Rattle.sat_base.specs.script.Script.{Literal}
 use Rattle.certify.specs.Answers.{Outcome, Sat, Unsat, Unknown, outcome_text, s_satisfiable, s_unsatisfiable, s_unknown, v_line, f_line}
 use Rattle.certify.specs.AnswerForms.{IsInForm}
 use Rattle.certify.specs.AnswerReading.{HasLine, NoKind, NoLine, first_line, second_line, outcome_of}

@@ -7,9 +7,9 @@ use Rattle.std.proofs.lemmas.Grind.{common_steps}
 use Rattle.std.proofs.lemmas.Bool.Decides.{nat_tests}
 use Rattle.sat_base.specs.declared.text.Token.{Token as CodeToken}
 use Rattle.sat_base.specs.declared.text.Tokenizer.{Tokenizer}
-use Rattle.sat_base.specs.Text.{Token, Number, Header, Wrong, Scan, scan}
-use Rattle.sat_base.specs.Tokenizing.{Takes, Stands, GivesLast}
-use Rattle.sat_base.specs.Script.{Literal, Command, Ask, Ending, Clean, Malformed, Hand, Nothing, InClause, InAsk, Turn, GoesOn, Ends, Fails, command_in, with_literal, turn, Reading, onto_commands, at_end, behind_turn, commands_of, has_ask}
+use Rattle.sat_base.specs.text.Text.{Token, Number, Header, Wrong, Scan, scan}
+use Rattle.sat_base.specs.text.Tokenizing.{Takes, Stands, GivesLast}
+use Rattle.sat_base.specs.script.Script.{Literal, Command, Ask, Ending, Clean, Malformed, Hand, Nothing, InClause, InAsk, Turn, GoesOn, Ends, Fails, command_in, with_literal, turn, Reading, onto_commands, at_end, behind_turn, commands_of, has_ask}
 use Rattle.certify.specs.declared.script.Kind.{Kind}
 use Rattle.certify.specs.declared.script.Kind.TheVariants as kind
 use Rattle.certify.specs.declared.script.Part.{Part}

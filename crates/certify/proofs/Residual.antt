@@ -1,7 +1,7 @@
 -- What the next step has to be: each way to meet what is expected, taken apart.
 use Rattle.std.proofs.Common.{ℕ, ◌+◌, ◌≡◌, true, false, List, ◌∷◌, Some, refl, sym, ◌∙◌}
 use Rattle.std.proofs.lemmas.Bool.{true≢false}
-use Rattle.sat_base.specs.Steps.{Step, UserVarName}
+use Rattle.sat_base.specs.steps.Steps.{Step, UserVarName}
 use Rattle.certify.specs.Checking.{Checking, is_ordered}
 use Rattle.certify.specs.Matches.{Expected, NewName, Fits, new_name, no_name, adds, opens, shows, fails, closes, finish, Meets, other, ordered}
 

@@ -3,12 +3,12 @@ use Rattle.std.proofs.Common.{ℕ, ◌+◌, ◌*◌, ◌≤◌, ◌<◌, ◌≡�
 use Rattle.std.proofs.lemmas.Bool.{true≢false}
 use Rattle.std.specs.Fmt.{digits}
 use Rattle.std.specs.List.{AllByRecursion}
-use Rattle.sat_base.specs.Literals.{largest}
-use Rattle.sat_base.specs.Script.{Literal, Clean, names_of}
-use Rattle.sat_base.specs.Formats.{Items}
-use Rattle.sat_base.specs.Numbers.{IsNumber, IsBelow}
-use Rattle.sat_base.specs.Steps.{Step, UserVarName, AddClause, Model, Assumptions, End}
-use Rattle.sat_base.specs.StepText.{AreLiterals, SpellsStep, SpellsSteps}
+use Rattle.sat_base.specs.values.Literals.{largest}
+use Rattle.sat_base.specs.script.Script.{Literal, Clean, names_of}
+use Rattle.sat_base.specs.steps.Formats.{Items}
+use Rattle.sat_base.specs.steps.Numbers.{IsNumber, IsBelow}
+use Rattle.sat_base.specs.steps.Steps.{Step, UserVarName, AddClause, Model, Assumptions, End}
+use Rattle.sat_base.specs.steps.StepText.{AreLiterals, SpellsStep, SpellsSteps}
 use Rattle.certify.specs.Stored.{is_known}
 use Rattle.certify.specs.Accepts.{stored_after}
 use Rattle.certify.specs.Answers.{Outcome, Sat, Unsat, Unknown, answers_text, outcome_text}

@@ -1,9 +1,9 @@
 -- From what is expected back to the commands and their outcomes.
 use Rattle.std.proofs.Common.{ℕ, List, [], ◌∷◌, ◌++◌, map, Option, Some, None, refl, subst, append_assoc}
 use Rattle.std.specs.List.{AllByRecursion}
-use Rattle.sat_base.specs.Script.{Literal, Command, Clause, Ask, Hide, Witness, Sample, names_of}
-use Rattle.sat_base.specs.Judge.{Judge, Mode, Sampled, Witnessed, with_name, with_names, new_names, bring_in, bring_all, without_name, with_mode, with_clause, hide_all, set_all, accepted, accepted_of, start}
-use Rattle.sat_base.specs.Steps.{Step}
+use Rattle.sat_base.specs.script.Script.{Literal, Command, Clause, Ask, Hide, Witness, Sample, names_of}
+use Rattle.sat_base.specs.script.Judge.{Judge, Mode, Sampled, Witnessed, with_name, with_names, new_names, bring_in, bring_all, without_name, with_mode, with_clause, hide_all, set_all, accepted, accepted_of, start}
+use Rattle.sat_base.specs.steps.Steps.{Step}
 use Rattle.certify.specs.Answers.{Outcome, Sat, Unsat, Unknown}
 use Rattle.certify.specs.Right.{IsRight, AreRight, AnswersAreRight}
 use Rattle.certify.specs.Checking.{Checking, IsSound}

@@ -4,9 +4,9 @@ use Rattle.std.specs.List.{AllByRecursion}
 use Rattle.std.specs.Io.KnownBytes.{Appends}
 use Rattle.std.proofs.lemmas.Bool.{false≢true}
 use Rattle.std.proofs.lemmas.List.{append-nil, length-append}
-use Rattle.sat_base.specs.Steps.{Step, AtClause}
-use Rattle.sat_base.specs.StepText.{SpellsStep, SpellsSteps}
-use Rattle.sat_base.specs.Writing.{Written}
+use Rattle.sat_base.specs.steps.Steps.{Step, AtClause}
+use Rattle.sat_base.specs.steps.StepText.{SpellsStep, SpellsSteps}
+use Rattle.sat_base.specs.device.Writing.{Written}
 use Rattle.certify.specs.declared.search.propagate.RoundEnd.TheVariants.{Conflict, Model}
 use Rattle.certify.specs.declared.search.solve.Answer.TheVariants.{Sat, Unsat, Unknown}
 use Rattle.certify.specs.Held.{Held, HoldsSame, RoundSays}

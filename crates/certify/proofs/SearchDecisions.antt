@@ -3,8 +3,8 @@ use Rattle.std.proofs.Common.{ℕ, ◌≡◌, ◌+◌, ◌*◌, ◌%◌, ◌<◌
 use Rattle.std.specs.List.{All}
 use Rattle.std.proofs.lemmas.Bool.{false≢true, or_parts, or_left, eq-eqb, true_from_ne_false}
 use Rattle.std.proofs.lemmas.List.Elements.{recursion_from_All, All-filter, All-head, All-push, All-nil, filter_passes}
-use Rattle.sat_base.specs.Literals.{variable, is_positive, coded}
-use Rattle.sat_base.specs.Clauses.{Valuation, literal_true, clause_true, EachHolds}
+use Rattle.sat_base.specs.values.Literals.{variable, is_positive, coded}
+use Rattle.sat_base.specs.values.Clauses.{Valuation, literal_true, clause_true, EachHolds}
 use Rattle.certify.specs.declared.search.look.Look.TheVariants.{Rests}
 use Rattle.certify.specs.Search.{signed, value_of, is_false, is_open, is_true, open_count, not_false, verdict, verdict_of, IsBounded, AreBounded, Agrees, Follows, Refutes, IsSettled, valuation_of, AllOpen, AllAssigned, IsLowestOpen, FollowsDenied, Implies}
 use Rattle.certify.proofs.SearchValues.{clause_left, Agrees-set, open_count-set}

@@ -8,8 +8,8 @@ use Rattle.std.proofs.lemmas.List.Kept.{Contains-dedup_nat, Contains-from_dedup}
 use Rattle.std.proofs.lemmas.Map.Keys.{IsStrictlyIncreasing-dedup}
 use Rattle.std.proofs.lemmas.Bool.{false≢true, or_left, or_right, eq-eqb, ne_eqb, eqb-true, eqb-false}
 use Rattle.std.proofs.lemmas.List.Elements.{All-push}
-use Rattle.sat_base.specs.Literals.{variable, is_positive, negated}
-use Rattle.sat_base.specs.Clauses.{Valuation, literal_true, clause_true, EachHolds}
+use Rattle.sat_base.specs.values.Literals.{variable, is_positive, negated}
+use Rattle.sat_base.specs.values.Clauses.{Valuation, literal_true, clause_true, EachHolds}
 use Rattle.certify.specs.Search.{value_of, is_false, IsBounded, AreBounded}
 use Rattle.certify.specs.Kept.{IsNormalOf, IsTautology, UnitsFollow, Keeps}
 use Rattle.certify.proofs.SearchValues.{Agrees-set, literal_false, sign_from_true, or_false}

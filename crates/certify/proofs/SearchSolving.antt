@@ -4,8 +4,8 @@ use Rattle.std.specs.List.{Contains}
 use Rattle.std.proofs.lemmas.Bool.{or_cases, false≢true}
 use Rattle.std.proofs.lemmas.List.{get_or_default}
 use Rattle.std.proofs.lemmas.List.Elements.{All-weaker, All-nil, All-contains, Contains-get_or}
-use Rattle.sat_base.specs.Literals.{variable}
-use Rattle.sat_base.specs.Clauses.{Valuation, literal_true, clause_true, EachHolds}
+use Rattle.sat_base.specs.values.Literals.{variable}
+use Rattle.sat_base.specs.values.Clauses.{Valuation, literal_true, clause_true, EachHolds}
 use Rattle.certify.specs.Search.{IsBounded, AreBounded, Implies, AllAssigned, valuation_of}
 use Rattle.certify.specs.Kept.{IsNormalOf, UnitsFollow, Keeps}
 use Rattle.certify.specs.Held.{Held, TakesClause, HoldsSame, HasModel}

@@ -5,8 +5,8 @@ use Rattle.std.proofs.lemmas.Bool.{false≢true, cases_eq, cases_lt}
 use Rattle.std.proofs.lemmas.List.{get_or-set_same, get_or-set_other, set_past}
 use Rattle.std.proofs.lemmas.List.Sums.{sum_by-set}
 use Rattle.std.proofs.lemmas.List.Elements.{All-from_recursion, All-filter, All-head}
-use Rattle.sat_base.specs.Literals.{variable, is_positive}
-use Rattle.sat_base.specs.Clauses.{Valuation, literal_true, clause_true, EachHolds}
+use Rattle.sat_base.specs.values.Literals.{variable, is_positive}
+use Rattle.sat_base.specs.values.Clauses.{Valuation, literal_true, clause_true, EachHolds}
 use Rattle.certify.specs.declared.search.look.Look.TheVariants.{Falsified, Opens}
 use Rattle.certify.specs.Search.{signed, value_of, is_false, is_open, open_count, not_false, opens_if, verdict, verdict_of, IsBounded, Agrees, Follows, Refutes}
 

@@ -3,10 +3,10 @@ use Rattle.std.proofs.Common.{ℕ, ◌+◌, ◌≤◌, ◌≡◌, Bool, true, fa
 use Rattle.std.proofs.lemmas.Bool.{ltb-false}
 use Rattle.std.proofs.lemmas.List.{append_cancel_left}
 use Rattle.std.specs.List.{AllByRecursion}
-use Rattle.sat_base.specs.Literals.{largest}
-use Rattle.sat_base.specs.Script.{Literal, Command, Clause, Ask, Ending, names_of}
-use Rattle.sat_base.specs.Judge.{Judge, Refusal, PastLimit, refused_name, refused_literal, refusal_of, accepted, after_command, bring_all}
-use Rattle.sat_base.specs.Steps.{Step}
+use Rattle.sat_base.specs.values.Literals.{largest}
+use Rattle.sat_base.specs.script.Script.{Literal, Command, Clause, Ask, Ending, names_of}
+use Rattle.sat_base.specs.script.Judge.{Judge, Refusal, PastLimit, refused_name, refused_literal, refusal_of, accepted, after_command, bring_all}
+use Rattle.sat_base.specs.steps.Steps.{Step}
 use Rattle.certify.specs.Accepts.{stored_after}
 use Rattle.certify.specs.Answers.{Outcome, Unsat, outcome_text, refused_line}
 use Rattle.certify.specs.AnswerForms.{HaveNames, IsInForm}

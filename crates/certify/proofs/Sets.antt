@@ -4,8 +4,8 @@ use Rattle.std.proofs.lemmas.Bool.{true≢false, eqb-true, or_cases}
 use Rattle.std.proofs.lemmas.List.{take_more}
 use Rattle.std.specs.Bool.{MatchBool}
 use Rattle.std.specs.List.{AllByRecursion}
-use Rattle.sat_base.specs.Literals.{coded}
-use Rattle.sat_base.specs.Script.{Literal, Among}
+use Rattle.sat_base.specs.values.Literals.{coded}
+use Rattle.sat_base.specs.script.Script.{Literal, Among}
 use Rattle.certify.specs.Propagation.{is_among}
 use Rattle.certify.specs.Matches.{Spells, EachSpelt, SameSet}
 use Rattle.certify.specs.Spelling.{AllAmong, SameMembers, AreSpelt}

@@ -2,8 +2,8 @@
 use Rattle.std.proofs.Common.{ℕ, ◌<◌, ◌≡◌, Bool, true, false, not, cond, eqb, List, [], ◌∷◌, ◌++◌, map, refl, ap, arith}
 use Rattle.std.proofs.lemmas.Bool.{eqb-false}
 use Rattle.std.specs.List.{AllByRecursion}
-use Rattle.sat_base.specs.Text.{Token, Number, Letter, Header, Wrong, tokens}
-use Rattle.sat_base.specs.Script.{Literal, Command, Clause, Ask, Hide, Witness, Sample, names_of, Hand, Nothing, InClause, InAsk, Turn, GoesOn, Ends, Fails, command_in, with_literal, with_letter, turn, Reading, behind_turn, commands_of, spoken, Clean, is_asked_at_end, written, reading}
+use Rattle.sat_base.specs.text.Text.{Token, Number, Letter, Header, Wrong, tokens}
+use Rattle.sat_base.specs.script.Script.{Literal, Command, Clause, Ask, Hide, Witness, Sample, names_of, Hand, Nothing, InClause, InAsk, Turn, GoesOn, Ends, Fails, command_in, with_literal, with_letter, turn, Reading, behind_turn, commands_of, spoken, Clean, is_asked_at_end, written, reading}
 use Rattle.certify.specs.Holding.{held_literal, held_command}
 use Rattle.certify.specs.Running.{IsSimple}
 

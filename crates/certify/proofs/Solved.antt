@@ -2,10 +2,10 @@
 use Rattle.std.proofs.Common.{ℕ, suc, ◌+◌, ◌*◌, ◌%◌, ◌≡◌, Bool, true, false, not, cond, List, [], ◌∷◌, ◌++◌, map, Option, None, refl, sym, ◌∙◌, ap, arith}
 use Rattle.std.specs.List.{slice_index_or}
 use Rattle.std.proofs.lemmas.List.{map-append}
-use Rattle.sat_base.specs.Literals.{coded, variable, is_positive}
-use Rattle.sat_base.specs.Clauses.{Valuation, EachTrue, literal_true}
-use Rattle.sat_base.specs.Judge.{names_from}
-use Rattle.sat_base.specs.Writing.{Written}
+use Rattle.sat_base.specs.values.Literals.{coded, variable, is_positive}
+use Rattle.sat_base.specs.values.Clauses.{Valuation, EachTrue, literal_true}
+use Rattle.sat_base.specs.script.Judge.{names_from}
+use Rattle.sat_base.specs.device.Writing.{Written}
 use Rattle.certify.specs.declared.search.solve.Answer.TheVariants as found
 use Rattle.certify.specs.declared.summary.Answer.TheVariants as kind
 use Rattle.certify.specs.Held.{Held, HasModel}

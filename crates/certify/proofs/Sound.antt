@@ -2,9 +2,9 @@
 use Rattle.std.proofs.Common.{ℕ, ◌*◌, ◌/◌, ◌%◌, ◌≡◌, Bool, true, false, not, ◌||◌, cond, eqb, List, [], ◌∷◌, ◌++◌, map, Some, None, refl, sym, ◌∙◌, ap, subst, arith, ◌⊎◌, inl, inr}
 use Rattle.std.proofs.lemmas.Bool.{or_cases, or_left, or_right, both_ways, true≢false, false_from_ne_true, eqb-true, eqb-false, eq-eqb}
 use Rattle.std.specs.List.{AllByRecursion, list_any}
-use Rattle.sat_base.specs.Literals.{negated, variable}
-use Rattle.sat_base.specs.Clauses.{Valuation, literal_true, clause_true, EachTrue}
-use Rattle.sat_base.specs.Steps.{Step, SolverVarName, UserVarName, DeleteVar, ChangeSamplingMode, AddClause, AtClause, UnitClauses, DeleteClause, ChangeHashBits, Model, Assumptions, FailedAssumptions, End}
+use Rattle.sat_base.specs.values.Literals.{negated, variable}
+use Rattle.sat_base.specs.values.Clauses.{Valuation, literal_true, clause_true, EachTrue}
+use Rattle.sat_base.specs.steps.Steps.{Step, SolverVarName, UserVarName, DeleteVar, ChangeSamplingMode, AddClause, AtClause, UnitClauses, DeleteClause, ChangeHashBits, Model, Assumptions, FailedAssumptions, End}
 use Rattle.certify.specs.Propagation.{is_among, is_tautology}
 use Rattle.certify.specs.Stored.{Stored, StoredClause, Satisfies, canonical, with_canonical, with_stored, with_literals_known, is_known}
 use Rattle.certify.specs.Accepts.{Accepts, FitsModel, VariablesApart, after, stored_after}

@@ -2,9 +2,9 @@
 use Rattle.std.proofs.Common.{ℕ, ◌-◌, ◌/◌, ◌%◌, ◌≡◌, Bool, true, false, not, cond, eqb, List, [], ◌∷◌, ◌++◌, map, filter, refl, sym, ◌∙◌, subst, arith, ◌⊎◌, inl, inr}
 use Rattle.std.proofs.lemmas.Bool.{cases_Bool, cases_eq, or_parts, or_cases, or_left, or_right, both_ways, eqb-true, true≢false}
 use Rattle.std.specs.List.{AllByRecursion, list_any}
-use Rattle.sat_base.specs.Literals.{negated}
-use Rattle.sat_base.specs.Clauses.{Valuation, literal_true, clause_true}
-use Rattle.sat_base.specs.Hashes.{hash_of}
+use Rattle.sat_base.specs.values.Literals.{negated}
+use Rattle.sat_base.specs.values.Clauses.{Valuation, literal_true, clause_true}
+use Rattle.sat_base.specs.values.Hashes.{hash_of}
 use Rattle.certify.specs.Propagation.{is_among, is_tautology, IsFalsified, RunsToConflict, IsSubsequence, joined, Passes, tautology, unit_true, conflict}
 use Rattle.certify.specs.Stored.{Stored, bucket}
 

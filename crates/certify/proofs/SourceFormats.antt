@@ -1,8 +1,8 @@
 -- Formats that are made of others, read from the front of bytes.
 use Rattle.std.proofs.Common.{◌≡◌, ℕ, ◌+◌, ◌<◌, List, [], ◌∷◌, ◌++◌, length, length-append, Result, Ok, Err, append_assoc, refl, sym, ap, subst, ◌∙◌, arith}
 use Rattle.std.proofs.lemmas.List.{append-nil}
-use Rattle.sat_base.specs.Formats.{Format, Open, Live, Then, Items, Times, ListOf, OneForm}
-use Rattle.sat_base.proofs.Formats.{cancel, shut_first}
+use Rattle.sat_base.specs.steps.Formats.{Format, Open, Live, Then, Items, Times, ListOf, OneForm}
+use Rattle.sat_base.proofs.lemmas.steps.Formats.{cancel, shut_first}
 use Rattle.certify.specs.declared.confirm.source.stop.Stop.{Stop}
 use Rattle.certify.specs.declared.confirm.source.stop.Stop.TheVariants as stop
 use Rattle.certify.specs.SourceReading.{Begins, BeginsNo, Stops, Takes, valued}

@@ -3,9 +3,9 @@ use Rattle.std.proofs.Common.{◌≡◌, ℕ, ◌+◌, ◌*◌, ◌-◌, ◌<◌
 use Rattle.std.proofs.Math.Seq.{split_at}
 use Rattle.std.proofs.lemmas.List.{take_more, take_all}
 use Rattle.std.proofs.lemmas.Grind.{common_steps}
-use Rattle.sat_base.specs.Formats.{Live, Open}
-use Rattle.sat_base.specs.Numbers.{IsBelow}
-use Rattle.sat_base.proofs.Numbers.{Front, front_more, live, last_read, shut_zero, shut_large, shut_on, one_below}
+use Rattle.sat_base.specs.steps.Formats.{Live, Open}
+use Rattle.sat_base.specs.steps.Numbers.{IsBelow}
+use Rattle.sat_base.proofs.lemmas.steps.Numbers.{Front, front_more, live, last_read, shut_zero, shut_large, shut_on, one_below}
 use Rattle.certify.specs.SourceReading.{Begins, BeginsNo}
 use Rattle.certify.proofs.SourceFormats.{no_whole, no_way}
 

@@ -1,13 +1,13 @@
 -- What stands behind each tag, read from the front of bytes.
 use Rattle.std.proofs.Common.{◌≡◌, ℕ, ◌+◌, true, false, Some, None, List, [], ◌∷◌, ◌++◌, Result, Err, refl, sym, ap, subst, ◌∙◌}
-use Rattle.sat_base.specs.Formats.{Format}
-use Rattle.sat_base.specs.Kinds.{is_tag}
-use Rattle.sat_base.specs.Literals.{largest}
-use Rattle.sat_base.specs.Numbers.{IsBelow}
-use Rattle.sat_base.specs.Reading.{Behind}
-use Rattle.sat_base.specs.StepText.{IsOptionalVariable, IsFlag, IsDeletion, tag_of, SpellsStep}
-use Rattle.sat_base.specs.Steps.{Redundant, Simplified, Satisfied, Step, SolverVarName, UserVarName, DeleteVar, ChangeSamplingMode, AddClause, AtClause, UnitClauses, DeleteClause, ChangeHashBits, Model, Assumptions, FailedAssumptions, End}
-use Rattle.sat_base.proofs.TagForms.{TagForm}
+use Rattle.sat_base.specs.steps.Formats.{Format}
+use Rattle.sat_base.specs.steps.Kinds.{is_tag}
+use Rattle.sat_base.specs.values.Literals.{largest}
+use Rattle.sat_base.specs.steps.Numbers.{IsBelow}
+use Rattle.sat_base.specs.device.Reading.{Behind}
+use Rattle.sat_base.specs.steps.StepText.{IsOptionalVariable, IsFlag, IsDeletion, tag_of, SpellsStep}
+use Rattle.sat_base.specs.steps.Steps.{Redundant, Simplified, Satisfied, Step, SolverVarName, UserVarName, DeleteVar, ChangeSamplingMode, AddClause, AtClause, UnitClauses, DeleteClause, ChangeHashBits, Model, Assumptions, FailedAssumptions, End}
+use Rattle.sat_base.proofs.lemmas.steps.TagForms.{TagForm}
 use Rattle.certify.specs.declared.confirm.source.stop.Stop.{Stop}
 use Rattle.certify.specs.HeldStep.{Place, ReadsStep, BeginsNoStep}
 use Rattle.certify.specs.SourceReading.{Begins, BeginsNo, Stops, Takes, valued}

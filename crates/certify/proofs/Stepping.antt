@@ -1,10 +1,10 @@
 -- How the certificate goes on.
 use Rattle.std.proofs.Common.{ℕ, ◌+◌, ◌<◌, ◌≡◌, Bool, true, false, List, [], ◌∷◌, ◌++◌, length, eqb, Result, Ok, Err, IfOk, Option, Some, None, refl, sym, ◌∙◌, ap, subst, arith, length-append}
 use Rattle.std.proofs.lemmas.Bool.{true≢false, ne_eqb}
-use Rattle.sat_base.specs.Judge.{Judge}
-use Rattle.sat_base.specs.Steps.{Step, SolverVarName, UserVarName, DeleteVar, ChangeSamplingMode, AddClause, AtClause, UnitClauses, DeleteClause, ChangeHashBits, Model, Assumptions, FailedAssumptions, End}
+use Rattle.sat_base.specs.script.Judge.{Judge}
+use Rattle.sat_base.specs.steps.Steps.{Step, SolverVarName, UserVarName, DeleteVar, ChangeSamplingMode, AddClause, AtClause, UnitClauses, DeleteClause, ChangeHashBits, Model, Assumptions, FailedAssumptions, End}
 use Rattle.certify.specs.Stored.{Stored}
-use Rattle.sat_base.specs.StepText.{SpellsStep}
+use Rattle.sat_base.specs.steps.StepText.{SpellsStep}
 use Rattle.certify.specs.Accepts.{stored_after}
 use Rattle.certify.specs.Checking.{is_ordered, variable_of}
 use Rattle.certify.specs.Matches.{Expected, NewName, NoName, Excused, Fits, new_name, no_name, adds, opens, shows, fails, closes, finish}

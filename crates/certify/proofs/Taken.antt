@@ -3,9 +3,9 @@ use Rattle.std.proofs.Common.{ℕ, ◌≡◌, ◌↔◌, Bool, true, false, List
 use Rattle.std.proofs.lemmas.Bool.{both_ways}
 use Rattle.std.proofs.lemmas.List.{append_cancel_left, append-nil}
 use Rattle.std.specs.List.{AllByRecursion}
-use Rattle.sat_base.specs.Formats.{OneForm, Live, Spoilt}
-use Rattle.sat_base.specs.Steps.{Step}
-use Rattle.sat_base.specs.StepText.{SpellsStep, SpellsSteps}
+use Rattle.sat_base.specs.steps.Formats.{OneForm, Live, Spoilt}
+use Rattle.sat_base.specs.steps.Steps.{Step}
+use Rattle.sat_base.specs.steps.StepText.{SpellsStep, SpellsSteps}
 use Rattle.certify.specs.Checking.{Checking, is_ordered}
 use Rattle.certify.specs.Matches.{Expected, Fits, Excused, Meets, met, cut, other, ordered}
 use Rattle.certify.specs.Left.{CertificateMeets}

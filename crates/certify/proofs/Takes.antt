@@ -1,11 +1,11 @@
 -- How what is taken of a certificate composes, and what it leaves.
 use Rattle.std.proofs.Common.{ℕ, ◌≡◌, ◌↔◌, Bool, true, false, List, [], ◌∷◌, ◌++◌, refl, sym, subst, append_assoc}
 use Rattle.std.specs.List.{AllByRecursion}
-use Rattle.sat_base.specs.Formats.{OneForm}
-use Rattle.sat_base.specs.Script.{Literal, Command, Ending}
-use Rattle.sat_base.specs.Judge.{Judge, accepted_of}
-use Rattle.sat_base.specs.Steps.{Step}
-use Rattle.sat_base.specs.StepText.{SpellsStep}
+use Rattle.sat_base.specs.steps.Formats.{OneForm}
+use Rattle.sat_base.specs.script.Script.{Literal, Command, Ending}
+use Rattle.sat_base.specs.script.Judge.{Judge, accepted_of}
+use Rattle.sat_base.specs.steps.Steps.{Step}
+use Rattle.sat_base.specs.steps.StepText.{SpellsStep}
 use Rattle.certify.specs.Answers.{Outcome, ending_text}
 use Rattle.certify.specs.Checking.{Checking, is_ordered}
 use Rattle.certify.specs.Matches.{Expected, Opens, Closes, Finish, showing, expected, Excused, Fits}

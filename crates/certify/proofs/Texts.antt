@@ -5,9 +5,9 @@ use Rattle.std.proofs.lemmas.Fmt.{decimal_is_IsNumeral}
 use Rattle.std.specs.Str.Parse.{AllDigits, digits_value}
 use Rattle.std.specs.Char.{digit_value}
 use Rattle.std.specs.List.{AllByRecursion}
-use Rattle.sat_base.specs.Literals.{largest}
-use Rattle.sat_base.specs.Script.{Literal, Command, Clause, Ask, Hide, Witness, Sample, Ending, names_of}
-use Rattle.sat_base.specs.Judge.{Judge, Refusal, refusal_of, accepted, accepted_of, start, with_names, new_names, bring_in, bring_all, with_name}
+use Rattle.sat_base.specs.values.Literals.{largest}
+use Rattle.sat_base.specs.script.Script.{Literal, Command, Clause, Ask, Hide, Witness, Sample, Ending, names_of}
+use Rattle.sat_base.specs.script.Judge.{Judge, Refusal, refusal_of, accepted, accepted_of, start, with_names, new_names, bring_in, bring_all, with_name}
 use Rattle.certify.specs.Answers.{Outcome, Sat, Unsat, Unknown, word_of, literals_text, outcome_text, answers_from, piece, outcomes_left}
 use Rattle.certify.specs.Matches.{OneEach}
 use Rattle.certify.specs.Laws.{Prints, TextsTellOutcomes, AskBindsNothing}

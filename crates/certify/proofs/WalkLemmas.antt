@@ -3,7 +3,7 @@ use Rattle.std.proofs.Common.{ℕ, suc, ◌+◌, ◌-◌, ◌<◌, ◌≤◌, �
 use Rattle.std.proofs.lemmas.Bool.{eq-eqb, ne_eqb}
 use Rattle.std.proofs.lemmas.List.{drop_more, drop-drop}
 use Rattle.certify.specs.Propagation.{is_among}
-use Rattle.sat_base.specs.Hashes.{hash_of}
+use Rattle.sat_base.specs.values.Hashes.{hash_of}
 use Rattle.certify.specs.Look.{Extends}
 use Rattle.certify.specs.Walk.{opens, rests, verdict, verdict_of_open, not_false, walk, walk_on, and_then, walk_buckets, if_conflict, of_hash}
 

@@ -2,9 +2,9 @@
 use Rattle.std.proofs.Common.{ℕ, zero, suc, ◌+◌, ◌-◌, ◌≤◌, ◌≡◌, true, List, [], ◌∷◌, ◌++◌, Option, Some, refl, sym, ◌∙◌, ap, subst, arith, append_assoc, append-nil}
 use Rattle.std.proofs.lemmas.Bool.{both_ways}
 use Rattle.std.proofs.KnownBytes.{Appends-nil, Appends-trans}
-use Rattle.sat_base.specs.Formats.{Format, Items}
-use Rattle.sat_base.specs.Steps.{Step, UserVarName, AddClause, Assumptions}
-use Rattle.sat_base.specs.StepText.{SpellsStep}
+use Rattle.sat_base.specs.steps.Formats.{Format, Items}
+use Rattle.sat_base.specs.steps.Steps.{Step, UserVarName, AddClause, Assumptions}
+use Rattle.sat_base.specs.steps.StepText.{SpellsStep}
 use Rattle.certify.specs.Running.{Wrote, WroteStep, WroteDerived, WroteAsk, WroteClause, written, unwritten, naming, shown_by}
 use Rattle.certify.specs.Held.{Held, HoldsSame}
 use Rattle.certify.specs.Kept.{IsNormalOf}

@@ -1,8 +1,8 @@
 -- Which steps the list checker accepts, and what they leave. It knows six kinds of step and refuses the others.
 use Rattle.std.specs.Prelude.{ℕ, ◌≡◌, ◌⊎◌, true, false, Some, List, [], ◌∷◌, map, if◌then◌else◌}
 use Rattle.std.specs.List.{list_any, AllByRecursion}
-use Rattle.sat_base.specs.Literals.{variable, negated}
-use Rattle.sat_base.specs.Steps.{Step, UserVarName, AddClause, AtClause, Model, Assumptions, End}
+use Rattle.sat_base.specs.values.Literals.{variable, negated}
+use Rattle.sat_base.specs.steps.Steps.{Step, UserVarName, AddClause, AtClause, Model, Assumptions, End}
 use Rattle.certify.specs.Propagation.{is_among, Passes}
 use Rattle.certify.specs.Stored.{Stored, nothing_stored, bucket, is_known, is_name_taken, with_known, with_literals_known, with_stored}
 

@@ -1,8 +1,8 @@
 -- How literals stand for named ones, and which outcomes an answer may print.
 use Rattle.std.specs.Prelude.{ℕ, ◌+◌, ◌<◌, ◌≤◌, List, [], ◌∷◌, map}
 use Rattle.std.specs.List.{AllByRecursion}
-use Rattle.sat_base.specs.Literals.{largest, variable, is_positive}
-use Rattle.sat_base.specs.Script.{Literal, names_of, InOrder}
+use Rattle.sat_base.specs.values.Literals.{largest, variable, is_positive}
+use Rattle.sat_base.specs.script.Script.{Literal, names_of, InOrder}
 use Rattle.certify.specs.Answers.{Outcome, Sat, Unsat, Unknown}
 
 -- the literal under the name that is the number of its variable, counted from 1

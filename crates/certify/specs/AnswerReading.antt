@@ -1,7 +1,7 @@
 -- What the bytes are where an answer is read, and where none is.
 use Rattle.std.specs.Prelude.{ℕ, zero, suc, ◌≡◌, ◌≢◌, ◌⊎◌, List, [], ◌∷◌, ◌++◌, decimal}
-use Rattle.sat_base.specs.Literals.{variable}
-use Rattle.sat_base.specs.Script.{Literal}
+use Rattle.sat_base.specs.values.Literals.{variable}
+use Rattle.sat_base.specs.script.Script.{Literal}
 use Rattle.certify.specs.Answers.{Outcome, Sat, Unsat, Unknown, s_satisfiable, s_unsatisfiable, s_unknown, v_line, f_line, word_of, literals_text, outcome_text}
 use Rattle.certify.specs.AnswerForms.{IsName, IsInForm}
 use Rattle.certify.specs.declared.answers.read.AnswerKind.{AnswerKind}

@@ -1,7 +1,7 @@
 -- What is answered, and the answers' text.
 use Rattle.std.specs.Prelude.{ℕ, ◌+◌, Option, Some, None, List, [], ◌∷◌, ◌++◌, decimal, if◌then◌else◌}
-use Rattle.sat_base.specs.Script.{Literal, Command, Ask, Ending, Clean, Malformed}
-use Rattle.sat_base.specs.Judge.{Judge, Refusal, PastLimit, WitnessName, refusal_of, after_command, start}
+use Rattle.sat_base.specs.script.Script.{Literal, Command, Ask, Ending, Clean, Malformed}
+use Rattle.sat_base.specs.script.Judge.{Judge, Refusal, PastLimit, WitnessName, refusal_of, after_command, start}
 
 -- one for each accepted ask
 pub data Outcome : Type 0 where

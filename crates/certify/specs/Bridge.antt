@@ -1,11 +1,11 @@
 -- The bridge between the variables of a certificate and the judge's identities.
 use Rattle.std.specs.Prelude.{ℕ, ◌<◌, ◌≡◌, true, Some, List, [], ◌∷◌}
 use Rattle.std.specs.List.{AllByRecursion}
-use Rattle.sat_base.specs.Literals.{variable}
-use Rattle.sat_base.specs.Clauses.{Valuation, EachHolds}
-use Rattle.sat_base.specs.Script.{Among}
-use Rattle.sat_base.specs.Judge.{Judge, identity_of}
-use Rattle.sat_base.specs.Steps.{Step}
+use Rattle.sat_base.specs.values.Literals.{variable}
+use Rattle.sat_base.specs.values.Clauses.{Valuation, EachHolds}
+use Rattle.sat_base.specs.script.Script.{Among}
+use Rattle.sat_base.specs.script.Judge.{Judge, identity_of}
+use Rattle.sat_base.specs.steps.Steps.{Step}
 use Rattle.certify.specs.Fold.{Holds}
 use Rattle.certify.specs.Checking.{variable_of, Checking, Accepted}
 

@@ -1,7 +1,7 @@
 -- Which steps a run writes into its certificate.
 use Rattle.std.specs.Prelude.{◌≡◌, false, List, [], ◌∷◌}
-use Rattle.sat_base.specs.Clauses.{Valuation}
-use Rattle.sat_base.specs.Steps.{Step}
+use Rattle.sat_base.specs.values.Clauses.{Valuation}
+use Rattle.sat_base.specs.steps.Steps.{Step}
 use Rattle.certify.specs.Fold.{Holds}
 use Rattle.certify.specs.Checking.{Checking, is_ordered}
 use Rattle.certify.specs.Matches.{Expected, Adds, Fails, Fits}

@@ -1,7 +1,7 @@
 -- What the list checker keeps of the definition's state, and when its answer to a step is right.
 use Rattle.std.specs.Prelude.{ℕ, ◌≡◌, Bool, reverse}
 use Rattle.std.specs.Bool.{MatchBool}
-use Rattle.sat_base.specs.Steps.{Step}
+use Rattle.sat_base.specs.steps.Steps.{Step}
 use Rattle.certify.specs.Marks.{is_marked}
 use Rattle.certify.specs.Stored.{Stored, is_known, is_name_taken}
 use Rattle.certify.specs.Accepts.{Accepts, after}

@@ -1,9 +1,9 @@
 -- What matching sees of a checker. Lists of steps have the newest first.
 use Rattle.std.specs.Prelude.{ℕ, ◌+◌, ◌==◌, ◌≡◌, ◌⊎◌, Bool, true, false, Option, Some, None, List, [], ◌∷◌, if◌then◌else◌}
 use Rattle.std.specs.List.{AllByRecursion}
-use Rattle.sat_base.specs.Clauses.{Valuation, EachTrue}
-use Rattle.sat_base.specs.Script.{Among}
-use Rattle.sat_base.specs.Steps.{Step, UserVarName, DeleteVar, AddClause, Model, Assumptions, FailedAssumptions, End}
+use Rattle.sat_base.specs.values.Clauses.{Valuation, EachTrue}
+use Rattle.sat_base.specs.script.Script.{Among}
+use Rattle.sat_base.specs.steps.Steps.{Step, UserVarName, DeleteVar, AddClause, Model, Assumptions, FailedAssumptions, End}
 use Rattle.certify.specs.Fold.{Holds}
 
 -- is it this variable?

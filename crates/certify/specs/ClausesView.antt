@@ -1,6 +1,6 @@
 -- What an entry of the checker's list says of the buffer of literals, and what the list's functions leave.
 use Rattle.std.specs.Prelude.{ℕ, ◌≡◌, ◌≤◌, ◌<◌, Bool, true, false, not, ◌||◌, Option, None, Some, List, [], length, slice_range, slice_index_or, slice_set}
-use Rattle.sat_base.specs.Hashes.{hash_of}
+use Rattle.sat_base.specs.values.Hashes.{hash_of}
 use Rattle.certify.specs.Marks.{IsIncreasing}
 use Rattle.certify.specs.Stored.{StoredClause, same_literals}
 use Rattle.certify.specs.Walk.{all_literals, all_flags}

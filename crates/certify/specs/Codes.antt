@@ -1,7 +1,7 @@
 -- The codes that stand for literals of a script.
 use Rattle.std.specs.Prelude.{ℕ, Option, Some, None, List, [], ◌∷◌}
-use Rattle.sat_base.specs.Literals.{coded}
-use Rattle.sat_base.specs.Script.{Literal}
+use Rattle.sat_base.specs.values.Literals.{coded}
+use Rattle.sat_base.specs.script.Script.{Literal}
 
 abbrev pub code_before : Literal → Option ℕ → Option (List ℕ) → Option (List ℕ)
 code_before l (Some v) (Some codes) = Some (coded v l.positive ∷ codes)

@@ -1,6 +1,6 @@
 -- What a verdict promises of the texts that three readers gave. What says that a reader gave a text is handed in.
 use Rattle.std.specs.Prelude.{ℕ, ◌≡◌, ◌↔◌, List}
-use Rattle.sat_base.specs.Script.{reading}
+use Rattle.sat_base.specs.script.Script.{reading}
 use Rattle.certify.specs.Answers.{Outcome, answers_text}
 use Rattle.certify.specs.Matches.{Matches}
 use Rattle.certify.specs.Right.{AnswersAreRight}

@@ -1,9 +1,9 @@
 -- What confirming knows as it goes along a certificate.
 use Rattle.std.specs.Prelude.{ℕ, zero, suc, ◌+◌, ◌-◌, ◌≤◌, ◌≡◌, Option, None, List, ◌∷◌, ◌++◌, map, slice_get}
 use Rattle.std.specs.List.{AllByRecursion}
-use Rattle.sat_base.specs.Literals.{largest}
-use Rattle.sat_base.specs.Judge.{Judge, Sampled, names_from}
-use Rattle.sat_base.specs.Steps.{Step}
+use Rattle.sat_base.specs.values.Literals.{largest}
+use Rattle.sat_base.specs.script.Judge.{Judge, Sampled, names_from}
+use Rattle.sat_base.specs.steps.Steps.{Step}
 use Rattle.certify.specs.Accepts.{Accepts, stored_after}
 use Rattle.certify.specs.Matches.{Expected, Fits}
 use Rattle.certify.specs.Left.{CertificateMeets}

@@ -1,7 +1,7 @@
 -- What the steps of a certificate mean. Lists of steps have the newest first.
 use Rattle.std.specs.Prelude.{◌≡◌, ◌⊎◌, true, List, [], ◌∷◌}
-use Rattle.sat_base.specs.Clauses.{Valuation, clause_true, flipped}
-use Rattle.sat_base.specs.Steps.{Step, AddClause, DeleteVar}
+use Rattle.sat_base.specs.values.Clauses.{Valuation, clause_true, flipped}
+use Rattle.sat_base.specs.steps.Steps.{Step, AddClause, DeleteVar}
 
 -- the valuations that the steps leave
 abbrev pub Holds : List Step → Valuation → Type 0

@@ -1,6 +1,6 @@
 -- What the solver holds, and what its calls do to it.
 use Rattle.std.specs.Prelude.{ℕ, ◌≡◌, ◌+◌, Bool, true, false, Option, None, List, [], ◌∷◌, ◌++◌, length}
-use Rattle.sat_base.specs.Clauses.{Valuation, clause_true, EachHolds}
+use Rattle.sat_base.specs.values.Clauses.{Valuation, clause_true, EachHolds}
 use Rattle.certify.specs.declared.search.propagate.RoundEnd.{RoundEnd}
 use Rattle.certify.specs.declared.search.propagate.RoundEnd.TheVariants.{Conflict, Model}
 use Rattle.certify.specs.Search.{Implies, AllAssigned, valuation_of}

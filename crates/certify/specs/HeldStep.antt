@@ -1,8 +1,8 @@
 -- The step that a buffer holds, and where a certificate was read to.
 use Rattle.std.specs.Prelude.{ℕ, ◌≡◌, Option, Some, None, List, ◌++◌}
-use Rattle.sat_base.specs.Steps.{Step, SolverVarName, UserVarName, DeleteVar, ChangeSamplingMode, AddClause, AtClause, UnitClauses, DeleteClause, ChangeHashBits, Model, Assumptions, FailedAssumptions, End}
-use Rattle.sat_base.specs.StepText.{SpellsStep}
-use Rattle.sat_base.specs.StepViews.{deletion_of}
+use Rattle.sat_base.specs.steps.Steps.{Step, SolverVarName, UserVarName, DeleteVar, ChangeSamplingMode, AddClause, AtClause, UnitClauses, DeleteClause, ChangeHashBits, Model, Assumptions, FailedAssumptions, End}
+use Rattle.sat_base.specs.steps.StepText.{SpellsStep}
+use Rattle.sat_base.specs.steps.StepViews.{deletion_of}
 use Rattle.certify.specs.declared.confirm.source.kind.Kind.{Kind}
 use Rattle.certify.specs.declared.confirm.source.kind.Kind.TheVariants as kind
 use Rattle.certify.specs.declared.verdict.Why.{Why}

@@ -1,8 +1,8 @@
 -- Names that are held at one above the largest, which no command with a larger one notices.
 use Rattle.std.specs.Prelude.{ℕ, ◌+◌, ◌≡◌, ◌≤◌, min, None, List, map, length}
-use Rattle.sat_base.specs.Literals.{largest}
-use Rattle.sat_base.specs.Script.{Literal, Command, Clause, Ask, Hide, Witness, Sample, Ending, Malformed, Reading, written, reading}
-use Rattle.sat_base.specs.Judge.{Judge, refusal_of, accepted_of, after_command, after_script}
+use Rattle.sat_base.specs.values.Literals.{largest}
+use Rattle.sat_base.specs.script.Script.{Literal, Command, Clause, Ask, Hide, Witness, Sample, Ending, Malformed, Reading, written, reading}
+use Rattle.sat_base.specs.script.Judge.{Judge, refusal_of, accepted_of, after_command, after_script}
 
 abbrev pub held_name : ℕ → ℕ
 held_name name = min name (largest + 1)

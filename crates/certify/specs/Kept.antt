@@ -2,7 +2,7 @@
 use Rattle.std.specs.Prelude.{ℕ, ◌≡◌, Bool, true, false, Option, List}
 use Rattle.std.specs.List.{Contains}
 use Rattle.std.specs.List.Sorted.{IsStrictlyIncreasing}
-use Rattle.sat_base.specs.Clauses.{Valuation, clause_true, EachHolds}
+use Rattle.sat_base.specs.values.Clauses.{Valuation, clause_true, EachHolds}
 use Rattle.certify.specs.Search.{Agrees}
 
 -- the clause has these literals, by increasing code, without repeats

@@ -1,11 +1,11 @@
 -- What holds of the definitions.
 use Rattle.std.specs.Prelude.{ℕ, ◌+◌, ◌≤◌, ◌<◌, length, ◌≡◌, ◌↔◌, true, false, Some, nat_lt, if◌then◌else◌, List, [], ◌∷◌}
 use Rattle.std.specs.List.{AllByRecursion}
-use Rattle.sat_base.specs.Literals.{largest, variable}
-use Rattle.sat_base.specs.Clauses.{Valuation, literal_true, EachHolds}
-use Rattle.sat_base.specs.Script.{Literal, Command, Ask, Ending, Among, names_of}
-use Rattle.sat_base.specs.Judge.{Judge, Named, IsRightModel, IsRightCore, with_clause, accepted, accepted_of, after_script, start, identity_of, over}
-use Rattle.sat_base.specs.Steps.{Step}
+use Rattle.sat_base.specs.values.Literals.{largest, variable}
+use Rattle.sat_base.specs.values.Clauses.{Valuation, literal_true, EachHolds}
+use Rattle.sat_base.specs.script.Script.{Literal, Command, Ask, Ending, Among, names_of}
+use Rattle.sat_base.specs.script.Judge.{Judge, Named, IsRightModel, IsRightCore, with_clause, accepted, accepted_of, after_script, start, identity_of, over}
+use Rattle.sat_base.specs.steps.Steps.{Step}
 use Rattle.certify.specs.Answers.{Outcome, Sat, Unsat, Unknown, answers_text}
 use Rattle.certify.specs.Right.{AnswersAreRight}
 use Rattle.certify.specs.Matches.{OneEach, StepsMatch, Matches}

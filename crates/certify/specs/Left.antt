@@ -1,10 +1,10 @@
 -- What is still to be matched from some place on: what a loop that confirms keeps true.
 use Rattle.std.specs.Prelude.{ℕ, ◌≡◌, ◌↔◌, List, [], ◌∷◌, ◌++◌}
 use Rattle.std.specs.List.{AllByRecursion}
-use Rattle.sat_base.specs.Script.{Literal, Command, Ask, Ending}
-use Rattle.sat_base.specs.Judge.{Judge, accepted_of}
-use Rattle.sat_base.specs.Steps.{Step}
-use Rattle.sat_base.specs.StepText.{SpellsSteps}
+use Rattle.sat_base.specs.script.Script.{Literal, Command, Ask, Ending}
+use Rattle.sat_base.specs.script.Judge.{Judge, accepted_of}
+use Rattle.sat_base.specs.steps.Steps.{Step}
+use Rattle.sat_base.specs.steps.StepText.{SpellsSteps}
 use Rattle.certify.specs.Answers.{Outcome, Unsat, outcome_text, answers_from}
 use Rattle.certify.specs.Checking.{Checking}
 use Rattle.certify.specs.Matches.{Expected, Opens, Closes, showing, expected, OneEach, InForm, Meets}

@@ -1,11 +1,11 @@
 -- When script, answers and certificate belong together.
 use Rattle.std.specs.Prelude.{ℕ, ◌+◌, ◌≡◌, true, false, Option, Some, None, List, [], ◌∷◌, ◌++◌, map}
 use Rattle.std.specs.List.{AllByRecursion}
-use Rattle.sat_base.specs.Literals.{coded}
-use Rattle.sat_base.specs.Script.{Literal, Command, Clause, Ask, Hide, Witness, Sample, Ending, names_of, Among, InOrder}
-use Rattle.sat_base.specs.Judge.{Judge, Mode, Sampled, Witnessed, start, accepted_of, new_names, bring_in, without_name, with_mode, accepted}
-use Rattle.sat_base.specs.Steps.{Step, UserVarName, AddClause, Model, Assumptions, FailedAssumptions, End}
-use Rattle.sat_base.specs.StepText.{SpellsSteps}
+use Rattle.sat_base.specs.values.Literals.{coded}
+use Rattle.sat_base.specs.script.Script.{Literal, Command, Clause, Ask, Hide, Witness, Sample, Ending, names_of, Among, InOrder}
+use Rattle.sat_base.specs.script.Judge.{Judge, Mode, Sampled, Witnessed, start, accepted_of, new_names, bring_in, without_name, with_mode, accepted}
+use Rattle.sat_base.specs.steps.Steps.{Step, UserVarName, AddClause, Model, Assumptions, FailedAssumptions, End}
+use Rattle.sat_base.specs.steps.StepText.{SpellsSteps}
 use Rattle.certify.specs.Answers.{Outcome, Sat, Unsat, Unknown, answers_text}
 use Rattle.certify.specs.Checking.{Checking, variable_of, is_ordered}
 

@@ -1,7 +1,7 @@
 -- What a list of literals says of units and clauses, as tests.
 use Rattle.std.specs.Prelude.{ℕ, Bool, true, not, ◌||◌, ◌&&◌, List, [], ◌∷◌}
 use Rattle.std.specs.List.{list_any}
-use Rattle.sat_base.specs.Literals.{negated}
+use Rattle.sat_base.specs.values.Literals.{negated}
 use Rattle.certify.specs.Propagation.{is_among}
 use Rattle.certify.specs.Stored.{StoredClause}
 

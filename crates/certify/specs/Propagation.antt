@@ -1,7 +1,7 @@
 -- When clauses are unit in turn, the last falsified, and when a derived clause passes the check.
 use Rattle.std.specs.Prelude.{ℕ, ◌==◌, ◌≡◌, ◌≢◌, ◌⊎◌, Bool, true, false, ◌||◌, List, [], ◌∷◌, ◌++◌, map}
 use Rattle.std.specs.List.{AllByRecursion, list_any}
-use Rattle.sat_base.specs.Literals.{negated}
+use Rattle.sat_base.specs.values.Literals.{negated}
 
 -- is the literal one of these?
 abbrev pub is_among : List ℕ → ℕ → Bool

@@ -1,7 +1,7 @@
 -- When answers are right, over all valuations. No trail, hash or step stands in it.
 use Rattle.std.specs.Prelude.{List, [], ◌∷◌}
-use Rattle.sat_base.specs.Script.{Literal, Command, Clause, Ask, Hide, Witness, Sample}
-use Rattle.sat_base.specs.Judge.{Judge, IsRightModel, IsRightCore, accepted, start, accepted_of}
+use Rattle.sat_base.specs.script.Script.{Literal, Command, Clause, Ask, Hide, Witness, Sample}
+use Rattle.sat_base.specs.script.Judge.{Judge, IsRightModel, IsRightCore, accepted, start, accepted_of}
 use Rattle.certify.specs.Answers.{Outcome, Sat, Unsat, Unknown}
 
 -- of an ask, j being the state after its names came in

@@ -1,8 +1,8 @@
 -- Worked rows: scripts of a few commands, and what is answered.
 use Rattle.std.specs.Prelude.{ℕ, ◌≡◌, Bool, true, false, Some, None, List, [], ◌∷◌, ◌++◌}
-use Rattle.sat_base.specs.Script.{Literal, Command, Clause, Ask, Hide, Witness, Clean, Malformed}
-use Rattle.sat_base.specs.Judge.{Sampled, start, after_script, refusal_of, PastLimit, WitnessName}
-use Rattle.sat_base.specs.Steps.{Step, UserVarName, ChangeSamplingMode, AddClause, Model, Assumptions, End}
+use Rattle.sat_base.specs.script.Script.{Literal, Command, Clause, Ask, Hide, Witness, Clean, Malformed}
+use Rattle.sat_base.specs.script.Judge.{Sampled, start, after_script, refusal_of, PastLimit, WitnessName}
+use Rattle.sat_base.specs.steps.Steps.{Step, UserVarName, ChangeSamplingMode, AddClause, Model, Assumptions, End}
 use Rattle.certify.specs.Stored.{is_known}
 use Rattle.certify.specs.Accepts.{stored_after}
 use Rattle.certify.specs.Answers.{Outcome, Sat, Unsat, answers_text}

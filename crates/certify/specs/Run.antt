@@ -1,10 +1,10 @@
 -- What a finished run has done, and why one wasn't finished.
 use Rattle.std.specs.Prelude.{ℕ, ◌+◌, ◌-◌, ◌^◌, ◌≡◌, ◌≤◌, min, Option, Some, None, is_some, List, [], ◌∷◌, map, length, if◌then◌else◌}
 use Rattle.std.specs.Io.KnownBytes.{Appends}
-use Rattle.sat_base.specs.Script.{Command, Ending, Clean, Malformed, written, reading}
-use Rattle.sat_base.specs.Judge.{Judge, refusal_of, after_command, accepted_of, start}
-use Rattle.sat_base.specs.Steps.{Step}
-use Rattle.sat_base.specs.StepText.{SpellsSteps}
+use Rattle.sat_base.specs.script.Script.{Command, Ending, Clean, Malformed, written, reading}
+use Rattle.sat_base.specs.script.Judge.{Judge, refusal_of, after_command, accepted_of, start}
+use Rattle.sat_base.specs.steps.Steps.{Step}
+use Rattle.sat_base.specs.steps.StepText.{SpellsSteps}
 use Rattle.certify.specs.Answers.{Outcome, Sat, Unsat, Unknown, answers_text}
 use Rattle.certify.specs.Right.{AnswersAreRight}
 use Rattle.certify.specs.TheChecking.{the_checking}

@@ -2,12 +2,12 @@
 use Rattle.std.specs.Prelude.{ℕ, zero, suc, ◌+◌, ◌-◌, ◌<◌, ◌≤◌, ◌≡◌, ◌↔◌, max, Bool, true, false, ◌&&◌, Option, Some, None, Result, MatchResult, List, [], ◌∷◌, ◌++◌, map, drop, nat_le}
 use Rattle.std.specs.List.{AllByRecursion}
 use Rattle.std.specs.Io.KnownBytes.{Appends}
-use Rattle.sat_base.specs.Literals.{coded, largest, variable}
-use Rattle.sat_base.specs.Clauses.{Valuation, EachTrue, EachHolds}
-use Rattle.sat_base.specs.Script.{Literal, Command, Clause, Ask, Ending, names_of}
-use Rattle.sat_base.specs.Judge.{Judge, Named, Mode, Sampled, names_from, accepted_of, start}
-use Rattle.sat_base.specs.Steps.{Step, UserVarName, AddClause, Model, Assumptions, End}
-use Rattle.sat_base.specs.StepText.{SpellsStep, SpellsSteps}
+use Rattle.sat_base.specs.values.Literals.{coded, largest, variable}
+use Rattle.sat_base.specs.values.Clauses.{Valuation, EachTrue, EachHolds}
+use Rattle.sat_base.specs.script.Script.{Literal, Command, Clause, Ask, Ending, names_of}
+use Rattle.sat_base.specs.script.Judge.{Judge, Named, Mode, Sampled, names_from, accepted_of, start}
+use Rattle.sat_base.specs.steps.Steps.{Step, UserVarName, AddClause, Model, Assumptions, End}
+use Rattle.sat_base.specs.steps.StepText.{SpellsStep, SpellsSteps}
 use Rattle.certify.specs.Answers.{Outcome, Sat, Unsat, Unknown, answers_from, malformed_line}
 use Rattle.certify.specs.AnswerForms.{named_literals}
 use Rattle.certify.specs.Right.{AreRight}

@@ -5,7 +5,7 @@ use Rattle.certify.specs.declared.script.Kind.TheVariants as kind
 use Rattle.certify.specs.declared.script.Part.{Part}
 use Rattle.certify.specs.declared.script.Command.{Command as CodeCommand}
 use Rattle.certify.specs.declared.script.Command.TheVariants as code
-use Rattle.sat_base.specs.Script.{Literal, Command, Clause, Ask, Ending, Clean, Malformed}
+use Rattle.sat_base.specs.script.Script.{Literal, Command, Clause, Ask, Ending, Clean, Malformed}
 
 abbrev pub command_of : Kind → List Literal → Command
 command_of kind.Clause ls = Clause ls

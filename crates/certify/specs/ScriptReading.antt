@@ -8,10 +8,10 @@ use Rattle.certify.specs.ScriptParts.{commands_in, literals_behind, AreParts}
 use Rattle.certify.specs.Holding.{held_name, HeldScript}
 use Rattle.sat_base.specs.declared.text.Token.{Token as CodeToken}
 use Rattle.sat_base.specs.declared.text.Token.TheVariants as code
-use Rattle.sat_base.specs.Text.{Token, Number, Letter, Header, Wrong, Scan}
-use Rattle.sat_base.specs.Tokenizing.{Stands}
-use Rattle.sat_base.specs.Chunks.{Follows}
-use Rattle.sat_base.specs.Script.{Literal, Command, Ask, Clean, Malformed, Hand, Nothing, InClause, InAsk, Turn, GoesOn, Fails, command_in, Reading, onto_commands, commands_of, spoken, has_ask, is_clean}
+use Rattle.sat_base.specs.text.Text.{Token, Number, Letter, Header, Wrong, Scan}
+use Rattle.sat_base.specs.text.Tokenizing.{Stands}
+use Rattle.sat_base.specs.text.Chunks.{Follows}
+use Rattle.sat_base.specs.script.Script.{Literal, Command, Ask, Clean, Malformed, Hand, Nothing, InClause, InAsk, Turn, GoesOn, Fails, command_in, Reading, onto_commands, commands_of, spoken, has_ask, is_clean}
 
 -- a token with its name held; a header's numbers are compared with nothing
 abbrev pub held_token : Token → Token

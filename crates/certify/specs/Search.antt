@@ -1,8 +1,8 @@
 -- What a search over clauses knows. The value of a variable is None while it is open.
 use Rattle.std.specs.Prelude.{ℕ, ◌≡◌, ◌<◌, Bool, true, false, not, Option, None, Some, List, [], ◌∷◌, length, slice_index_or, count_by, if◌then◌else◌}
 use Rattle.std.specs.List.{filter, All}
-use Rattle.sat_base.specs.Literals.{variable, is_positive}
-use Rattle.sat_base.specs.Clauses.{Valuation, clause_true, EachHolds}
+use Rattle.sat_base.specs.values.Literals.{variable, is_positive}
+use Rattle.sat_base.specs.values.Clauses.{Valuation, clause_true, EachHolds}
 use Rattle.certify.specs.declared.search.look.Look.{Look}
 use Rattle.certify.specs.declared.search.look.Look.TheVariants.{Falsified, Opens, Rests}
 

@@ -1,7 +1,7 @@
 -- What the answers of a search say.
 use Rattle.std.specs.Prelude.{ℕ, ◌≡◌, ◌<◌, Bool, true, false, Option, Some, List, slice_set}
-use Rattle.sat_base.specs.Literals.{variable, is_positive}
-use Rattle.sat_base.specs.Clauses.{EachHolds}
+use Rattle.sat_base.specs.values.Literals.{variable, is_positive}
+use Rattle.sat_base.specs.values.Clauses.{EachHolds}
 use Rattle.certify.specs.declared.search.look.Look.TheVariants.{Falsified, Opens, Rests}
 use Rattle.certify.specs.declared.search.propagate.Met.{Met}
 use Rattle.certify.specs.declared.search.propagate.Met.TheVariants.{Conflict, Assigned, Nothing}

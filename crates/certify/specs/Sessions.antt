@@ -1,9 +1,9 @@
 -- What each part of a session makes of the answers and the certificate that are left.
 use Rattle.std.specs.Prelude.{ℕ, ◌+◌, ◌≤◌, ◌≡◌, true, Option, Some, None, Result, Ok, Err, List, [], ◌∷◌, ◌++◌}
 use Rattle.std.specs.List.{AllByRecursion}
-use Rattle.sat_base.specs.Script.{Literal, Command, Clause, Ask, Ending}
-use Rattle.sat_base.specs.Judge.{Judge, after_command}
-use Rattle.sat_base.specs.Steps.{Step}
+use Rattle.sat_base.specs.script.Script.{Literal, Command, Clause, Ask, Ending}
+use Rattle.sat_base.specs.script.Judge.{Judge, after_command}
+use Rattle.sat_base.specs.steps.Steps.{Step}
 use Rattle.certify.specs.Answers.{Outcome, Unsat, outcome_text}
 use Rattle.certify.specs.AnswerForms.{IsInForm}
 use Rattle.certify.specs.AnswerReading.{outcome_of}

@@ -2,10 +2,10 @@
 use Rattle.std.specs.Prelude.{ℕ, ◌≡◌, ◌+◌, ◌-◌, ◌<◌, ◌≤◌, true, false, List, length}
 use Rattle.std.specs.List.{AllByRecursion}
 use Rattle.std.specs.Io.KnownBytes.{Appends}
-use Rattle.sat_base.specs.Clauses.{Valuation}
-use Rattle.sat_base.specs.Steps.{Step, AtClause}
-use Rattle.sat_base.specs.StepText.{SpellsSteps}
-use Rattle.sat_base.specs.Writing.{Written}
+use Rattle.sat_base.specs.values.Clauses.{Valuation}
+use Rattle.sat_base.specs.steps.Steps.{Step, AtClause}
+use Rattle.sat_base.specs.steps.StepText.{SpellsSteps}
+use Rattle.sat_base.specs.device.Writing.{Written}
 use Rattle.certify.specs.declared.search.solve.Answer.{Answer}
 use Rattle.certify.specs.declared.search.solve.Answer.TheVariants.{Sat, Unsat, Unknown}
 use Rattle.certify.specs.declared.search.solve.SolveFault.{SolveFault}

@@ -1,6 +1,6 @@
 -- The solver's parts.
 use Rattle.std.specs.Prelude.{◌≡◌, ◌≤◌, length}
-use Rattle.sat_base.specs.Literals.{largest}
+use Rattle.sat_base.specs.values.Literals.{largest}
 use Rattle.certify.specs.declared.search.Solver.TheInside.{Inside}
 use Rattle.certify.specs.Held.{Held}
 use Rattle.certify.specs.Kept.{UnitsFollow}

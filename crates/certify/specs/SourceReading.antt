@@ -1,6 +1,6 @@
 -- What is read from the front of bytes that are held.
 use Rattle.std.specs.Prelude.{◌≡◌, ℕ, List, ◌++◌, Result, Ok, Err}
-use Rattle.sat_base.specs.Formats.{Format}
+use Rattle.sat_base.specs.steps.Formats.{Format}
 use Rattle.certify.specs.declared.confirm.source.stop.Stop.{Stop}
 use Rattle.certify.specs.declared.confirm.source.stop.Stop.TheVariants as stop
 

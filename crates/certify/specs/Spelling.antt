@@ -1,7 +1,7 @@
 -- Names' literals as literals of their variables.
 use Rattle.std.specs.Prelude.{ℕ, ◌≡◌, Option, List, [], ◌∷◌}
 use Rattle.std.specs.List.{AllByRecursion}
-use Rattle.sat_base.specs.Script.{Literal, Among}
+use Rattle.sat_base.specs.script.Script.{Literal, Among}
 use Rattle.certify.specs.Propagation.{is_among}
 use Rattle.certify.specs.Matches.{Spells}
 

@@ -1,9 +1,9 @@
 -- Where confirming stands in the certificate, and what each of its steps makes of that.
 use Rattle.std.specs.Prelude.{ℕ, ◌+◌, ◌<◌, ◌≤◌, ◌≡◌, true, false, Result, Ok, Err, Option, Some, None, List, [], ◌∷◌, length}
-use Rattle.sat_base.specs.Literals.{largest}
-use Rattle.sat_base.specs.Script.{Literal}
-use Rattle.sat_base.specs.Judge.{Judge, with_name}
-use Rattle.sat_base.specs.Steps.{Step, UserVarName}
+use Rattle.sat_base.specs.values.Literals.{largest}
+use Rattle.sat_base.specs.script.Script.{Literal}
+use Rattle.sat_base.specs.script.Judge.{Judge, with_name}
+use Rattle.sat_base.specs.steps.Steps.{Step, UserVarName}
 use Rattle.certify.specs.Stored.{is_known}
 use Rattle.certify.specs.Answers.{Outcome, Unsat}
 use Rattle.certify.specs.Accepts.{Accepts, stored_after}

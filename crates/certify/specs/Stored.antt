@@ -2,9 +2,9 @@
 use Rattle.std.specs.Prelude.{ℕ, ◌==◌, ◌≡◌, ◌⊎◌, Bool, true, false, not, ◌||◌, List, [], ◌∷◌, ◌++◌, map, filter, nat_eq, nat_lt, if◌then◌else◌}
 use Rattle.std.specs.List.{list_any, AllByRecursion}
 use Rattle.std.specs.Cmp.Lexicographic.{pointwise}
-use Rattle.sat_base.specs.Literals.{variable, negated}
-use Rattle.sat_base.specs.Clauses.{Valuation, literal_true, clause_true}
-use Rattle.sat_base.specs.Hashes.{hash_of}
+use Rattle.sat_base.specs.values.Literals.{variable, negated}
+use Rattle.sat_base.specs.values.Clauses.{Valuation, literal_true, clause_true}
+use Rattle.sat_base.specs.values.Hashes.{hash_of}
 use Rattle.certify.specs.Propagation.{is_among, is_tautology}
 
 -- a clause of two literals or more, sorted and without repeats

@@ -1,7 +1,7 @@
 -- What a greedy walk over clauses does. The rule itself is in Propagation.
 use Rattle.std.specs.Prelude.{ℕ, ◌==◌, Bool, true, false, not, List, [], ◌∷◌, Option, None, Some, map, filter, if◌then◌else◌}
-use Rattle.sat_base.specs.Literals.{negated}
-use Rattle.sat_base.specs.Hashes.{hash_of}
+use Rattle.sat_base.specs.values.Literals.{negated}
+use Rattle.sat_base.specs.values.Hashes.{hash_of}
 use Rattle.certify.specs.Propagation.{is_among}
 use Rattle.certify.specs.Stored.{StoredClause}
 

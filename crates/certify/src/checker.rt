@@ -1,8 +1,8 @@
 //! A simple checker of proof steps, which keeps its clauses in one list. It deletes nothing, and to find the clauses of a
 //! hash it goes through the list. It knows six kinds of step, and refuses the others.
 ghost use Rattle.std.specs.Prelude.{◌≡◌, ◌↔◌, IsTrue, IfOk, OnOk};
-ghost use Rattle.sat_base.specs.Steps.{UserVarName, AddClause, AtClause, Model};
-ghost use Rattle.sat_base.specs.StepViews.{step_of};
+ghost use Rattle.sat_base.specs.steps.Steps.{UserVarName, AddClause, AtClause, Model};
+ghost use Rattle.sat_base.specs.steps.StepViews.{step_of};
 ghost use Rattle.certify.specs.Stored.{Stored, nothing_stored, is_known, with_unit, with_stored, with_literals_known};
 ghost use Rattle.certify.specs.Accepts.{FitsModel};
 ghost use Rattle.certify.specs.CheckerView.{Keeps, AnswersRightly};

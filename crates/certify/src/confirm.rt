@@ -1,7 +1,7 @@
 //! Confirms that script, answers and certificate belong together.
 ghost use Rattle.std.specs.Prelude.{◌≡◌, ◌+◌, ◌-◌, ◌^◌, ◌≤◌, ◌<◌, ◌⊎◌, length, IfOk, IsErrOf};
 ghost use Rattle.std.specs.List.{AllByRecursion};
-ghost use Rattle.sat_base.specs.Device.{most_reads, ReadFails, GaveAll};
+ghost use Rattle.sat_base.specs.device.Device.{most_reads, ReadFails, GaveAll};
 ghost use Rattle.certify.specs.Confirmed.{IsExact, GaveRightAnswers};
 ghost use Rattle.certify.specs.Decides.{Decides};
 ghost use Rattle.certify.specs.Holding.{HasCommands};

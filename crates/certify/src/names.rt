@@ -1,6 +1,6 @@
 //! The names of a script that are in use.
 ghost use Rattle.std.specs.Prelude.{◌≡◌, ◌+◌, ◌<◌, ◌≤◌, ℕ};
-ghost use Rattle.sat_base.specs.Literals.{largest};
+ghost use Rattle.sat_base.specs.values.Literals.{largest};
 
 use sat_base::Var;
 use std::marker::Model;
@@ -13,7 +13,7 @@ pub struct Names {
 
 impl Model for Names {
     ghost use Rattle.std.specs.Prelude.{ℕ, ◌≤◌};
-    ghost use Rattle.sat_base.specs.Literals.{largest};
+    ghost use Rattle.sat_base.specs.values.Literals.{largest};
 
     ghost Value = { ℕ };
 

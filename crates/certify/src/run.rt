@@ -1,7 +1,7 @@
 //! Answers a script, with a certificate.
 ghost use Rattle.std.specs.Prelude.{◌≡◌, ◌+◌, ◌-◌, ◌^◌, ◌≤◌, ◌<◌, ◌⊎◌, length, IfOk, OnOk, IfErr, IsErrOf, MatchResult};
-ghost use Rattle.sat_base.specs.Device.{most_reads, ReadFails, GaveAll};
-ghost use Rattle.sat_base.specs.Script.{Malformed};
+ghost use Rattle.sat_base.specs.device.Device.{most_reads, ReadFails, GaveAll};
+ghost use Rattle.sat_base.specs.script.Script.{Malformed};
 ghost use Rattle.certify.specs.Holding.{IsHeldOf, IsMalformedBehind};
 ghost use Rattle.certify.specs.Run.{FinishesText, HasCause};
 ghost use Rattle.certify.specs.Running.{Finishes, FailsOnce};

@@ -1,6 +1,6 @@
 //! Scripts: the commands of a text.
 ghost use Rattle.std.specs.Prelude.{◌≡◌, ◌<◌, ◌↔◌, IsTrue, [], length, slice_get, vec_len};
-ghost use Rattle.sat_base.specs.Script.{Malformed};
+ghost use Rattle.sat_base.specs.script.Script.{Malformed};
 ghost use Rattle.certify.specs.ScriptParts.{commands_in, end_of, AreParts, start_of, is_ask, any_ask, shown};
 
 mod reader;
@@ -18,7 +18,7 @@ pub struct Literal {
 }
 
 impl Model for Literal {
-    ghost use Rattle.sat_base.specs.Script.{Literal as Spelled};
+    ghost use Rattle.sat_base.specs.script.Script.{Literal as Spelled};
 
     ghost Value = { Spelled };
 

@@ -1,7 +1,7 @@
 //! A simple solver: it propagates by scanning all clauses, decides the lowest open variable as false, and after a
 //! conflict keeps the clause of all negated decisions.
 ghost use Rattle.std.specs.Prelude.{◌≡◌, ◌+◌, ◌-◌, ◌^◌, ◌<◌, ◌≤◌, Bool, not, true, false, length, slice_index_or, IfOk, OnOk, OnErr, None};
-ghost use Rattle.sat_base.specs.Literals.{largest};
+ghost use Rattle.sat_base.specs.values.Literals.{largest};
 ghost use Rattle.certify.specs.Search.{IsBounded};
 ghost use Rattle.certify.specs.Kept.{IsNormalOf};
 ghost use Rattle.certify.specs.Held.{fresh, with_variable, TakesClause, RoundSays};

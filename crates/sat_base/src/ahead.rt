@@ -1,6 +1,6 @@
 //! Bytes read ahead of need.
 ghost use Rattle.std.specs.Prelude.{◌≡◌, ◌≤◌};
-ghost use Rattle.sat_base.specs.Device.{most_reads};
+ghost use Rattle.sat_base.specs.device.Device.{most_reads};
 
 /// How many bytes a reader is asked for at most.
 pub(crate) const PIECE: usize = 4096;

@@ -1,6 +1,6 @@
 //! Devices that count their failures.
 ghost use Rattle.std.specs.Prelude.{◌≡◌, ℕ, false, []};
-ghost use Rattle.sat_base.specs.Device.{device_of, calls_of, failures_of, given_of, ended_of};
+ghost use Rattle.sat_base.specs.device.Device.{device_of, calls_of, failures_of, given_of, ended_of};
 
 use crate::device::{CountedRead, CountedWrite};
 use crate::tally::Tally;

@@ -2,7 +2,7 @@
 ghost use Rattle.std.specs.Prelude.{◌≡◌, ◌+◌, ℕ, Bool, List, OnOk};
 ghost use Rattle.std.specs.Io.{ReadsAtMost, WritesAtMost};
 ghost use Rattle.std.specs.Io.KnownBytes.{ReadConsumes, WriteAppends, Appends, Keeps};
-ghost use Rattle.sat_base.specs.Device.{CountsErr, CountsWrite, EndsIfNone, Gives, RaisesOnErr};
+ghost use Rattle.sat_base.specs.device.Device.{CountsErr, CountsWrite, EndsIfNone, Gives, RaisesOnErr};
 
 use std::io;
 use std::io::{ErrorKind, Read, Write};

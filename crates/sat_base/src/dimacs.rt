@@ -1,12 +1,12 @@
 //! Formulas' texts, read in any pieces.
 ghost use Rattle.std.specs.Prelude.{◌≡◌, ◌≤◌, ◌<◌, ◌+◌, ◌++◌, ◌⊎◌, length, OnOk, IfSome, IsErrOf};
 ghost use Rattle.std.specs.Io.KnownBytes.{IsAtEnd};
-ghost use Rattle.sat_base.specs.Device.{most_reads, ReadFails, GaveAll, GaveFront, IsOver};
-ghost use Rattle.sat_base.specs.Literals.{largest};
-ghost use Rattle.sat_base.specs.Text.{header_of};
-ghost use Rattle.sat_base.specs.Tokenizing.{held};
-ghost use Rattle.sat_base.specs.Formulas.{vars_of};
-ghost use Rattle.sat_base.specs.Parsing.{no_progress, clauses_read, lines_read, held_numbers, all_taken, Feeds, IsSound, Finishes, Parses, ParsesGiven, KeepsText, ParsesInParts, ParsesPartsGiven, VisitsAll};
+ghost use Rattle.sat_base.specs.device.Device.{most_reads, ReadFails, GaveAll, GaveFront, IsOver};
+ghost use Rattle.sat_base.specs.values.Literals.{largest};
+ghost use Rattle.sat_base.specs.text.Text.{header_of};
+ghost use Rattle.sat_base.specs.text.Tokenizing.{held};
+ghost use Rattle.sat_base.specs.values.Formulas.{vars_of};
+ghost use Rattle.sat_base.specs.dimacs.Parsing.{no_progress, clauses_read, lines_read, held_numbers, all_taken, Feeds, IsSound, Finishes, Parses, ParsesGiven, KeepsText, ParsesInParts, ParsesPartsGiven, VisitsAll};
 
 mod clauses;
 pub mod error;
@@ -31,11 +31,11 @@ pub struct DimacsParser {
 }
 
 impl Model for DimacsParser {
-    ghost use Rattle.sat_base.specs.Parsing.{Progress};
+    ghost use Rattle.sat_base.specs.dimacs.Parsing.{Progress};
 
     ghost Value = { Progress };
 
-    ghost use Rattle.sat_base.specs.Standing.{IsParser, progress_of};
+    ghost use Rattle.sat_base.specs.dimacs.ParserPlaces.{IsParser, progress_of};
 
     ghost view = { λ d. progress_of d.parser };
 

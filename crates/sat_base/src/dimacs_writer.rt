@@ -1,7 +1,7 @@
 //! Writing formulas as DIMACS CNF.
 ghost use Rattle.std.specs.Prelude.{◌≡◌, decimal, length};
-ghost use Rattle.sat_base.specs.DimacsText.{clause_line, clause_lines, dimacs_text, header_line, number_text};
-ghost use Rattle.sat_base.specs.Writing.{Writes, Plainly, written_by, with_pending};
+ghost use Rattle.sat_base.specs.dimacs.DimacsText.{clause_line, clause_lines, dimacs_text, header_line, number_text};
+ghost use Rattle.sat_base.specs.device.Writing.{Writes, Plainly, written_by, with_pending};
 
 use crate::pending::Pending;
 use crate::putting::{put, put_all, write_out};

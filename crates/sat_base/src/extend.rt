@@ -1,6 +1,6 @@
 //! What takes clauses and gives variables.
 ghost use Rattle.std.specs.Prelude.{◌≡◌, ℕ, List, true, MatchResult};
-ghost use Rattle.sat_base.specs.Literals.{coded};
+ghost use Rattle.sat_base.specs.values.Literals.{coded};
 
 use crate::{Lit, Var};
 

@@ -1,8 +1,8 @@
 //! Formulas in conjunctive normal form.
 ghost use Rattle.std.specs.Prelude.{◌≡◌, ◌≤◌, ◌<◌, [], length, ℕ, List, IsTrue, ◌↔◌};
 ghost use Rattle.std.specs.Map.Iter.{ShowsInOrder, deref};
-ghost use Rattle.sat_base.specs.Literals.{largest};
-ghost use Rattle.sat_base.specs.Formulas.{no_formula, vars_in, vars_of, with_count, with_clause, with_variable};
+ghost use Rattle.sat_base.specs.values.Literals.{largest};
+ghost use Rattle.sat_base.specs.values.Formulas.{no_formula, vars_in, vars_of, with_count, with_clause, with_variable};
 ghost use Rattle.sat_base.specs.declared.formula.error.FormulaError.TheVariants.{OutOfMemory, VariableLimit};
 
 pub mod error;
@@ -26,8 +26,8 @@ pub struct CnfFormula {
 
 impl Model for CnfFormula {
     ghost use Rattle.std.specs.Prelude.{◌≤◌};
-    ghost use Rattle.sat_base.specs.Literals.{largest};
-    ghost use Rattle.sat_base.specs.Formulas.{Formula, vars_of};
+    ghost use Rattle.sat_base.specs.values.Literals.{largest};
+    ghost use Rattle.sat_base.specs.values.Formulas.{Formula, vars_of};
 
     ghost Value = { Formula };
 
@@ -88,7 +88,7 @@ impl CnfFormula {
 }
 
 /// One more than the index of the highest variable of these literals, or 0.
-#[tactic(auto, using(crate::proofs::FlatLemmas::vars_next))]
+#[tactic(auto, using(crate::proofs::lemmas::values::FlatLemmas::vars_next))]
 fn vars_in(lits: &[Lit]) -> usize
     ensures count { result ≡ vars_in lits.now }
     ensures bound { result ≤ largest }

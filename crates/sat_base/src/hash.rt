@@ -1,6 +1,6 @@
 //! The hashes by which a proof step names clauses.
 ghost use Rattle.std.specs.Prelude.{◌≡◌};
-ghost use Rattle.sat_base.specs.Hashes.{literal_hash, hash_of};
+ghost use Rattle.sat_base.specs.values.Hashes.{literal_hash, hash_of};
 
 use crate::Lit;
 
@@ -16,7 +16,7 @@ pub fn lit_hash(lit: Lit) -> ClauseHash
     (lit.code() as u64 + 1).wrapping_mul(MULTIPLIER)
 }
 
-#[tactic(auto, using(crate::proofs::HashLemmas::hash_next))]
+#[tactic(auto, using(crate::proofs::lemmas::values::HashLemmas::hash_next))]
 /// The hash of a clause: the exclusive or of its literals' hashes, 0 for none.
 pub fn clause_hash(lits: &[Lit]) -> ClauseHash
     ensures { result ≡ hash_of lits.now }

@@ -1,8 +1,8 @@
 //! Laws of the steps' bytes.
-ghost use Rattle.sat_base.specs.Formats.{OneForm};
+ghost use Rattle.sat_base.specs.steps.Formats.{OneForm};
 ghost use Rattle.std.specs.Prelude.{◌≡◌, ℕ, List};
-ghost use Rattle.sat_base.specs.Steps.{Step};
-ghost use Rattle.sat_base.specs.StepText.{SpellsStep, SpellsSteps};
+ghost use Rattle.sat_base.specs.steps.Steps.{Step};
+ghost use Rattle.sat_base.specs.steps.StepText.{SpellsStep, SpellsSteps};
 
 /// No step's text begins another's, and no text has two steps.
 pub fn steps_have_one_form()

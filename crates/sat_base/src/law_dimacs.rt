@@ -1,7 +1,7 @@
 //! Laws of formulas' texts, for proofs alone.
-ghost use Rattle.sat_base.specs.DimacsRows.{CleanRows, FaultRows, HeaderRows, PartRows};
-ghost use Rattle.sat_base.specs.DimacsSpelling.{OneFormula, CleanIfSpelled};
-ghost use Rattle.sat_base.specs.WrittenDimacs.{WrittenIsRead};
+ghost use Rattle.sat_base.specs.dimacs.DimacsRows.{CleanRows, FaultRows, HeaderRows, PartRows};
+ghost use Rattle.sat_base.specs.dimacs.DimacsSpelling.{OneFormula, CleanIfSpelled};
+ghost use Rattle.sat_base.specs.dimacs.WrittenDimacs.{WrittenIsRead};
 
 /// Each text has one list of clauses and one end, and it reads cleanly as clauses exactly if its words outside comments and
 /// before a `%` line spell them, one clause after another, behind a header or none. It does nothing.

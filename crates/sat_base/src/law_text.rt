@@ -1,6 +1,6 @@
 //! Laws of what a text means, for proofs alone.
-ghost use Rattle.sat_base.specs.Spelling.{OneReading, CleanIfSpelled};
-ghost use Rattle.sat_base.specs.ScriptRows.{ReadRows, MalformedRows};
+ghost use Rattle.sat_base.specs.script.ScriptSpelling.{OneReading, CleanIfSpelled};
+ghost use Rattle.sat_base.specs.script.ScriptRows.{ReadRows, MalformedRows};
 
 /// Each script has one list of commands and one end, and it reads cleanly as commands exactly if its words spell them, one
 /// command after another. It does nothing.

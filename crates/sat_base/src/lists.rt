@@ -1,7 +1,7 @@
 //! The lists of the step in hand, whose room is used again.
 ghost use Rattle.std.specs.Prelude.{◌≡◌};
-ghost use Rattle.sat_base.specs.StepViews.{step_of};
-ghost use Rattle.sat_base.specs.Kinds.{step_with};
+ghost use Rattle.sat_base.specs.steps.StepViews.{step_of};
+ghost use Rattle.sat_base.specs.steps.Kinds.{step_with};
 
 use crate::kind::Kind;
 use crate::{ClauseHash, Lit, ProofStep};

@@ -1,7 +1,7 @@
 //! Literals.
 ghost use Rattle.std.specs.Prelude.{ℕ, ◌≡◌, ◌*◌, ◌<◌, not, true, false, MatchOption};
-ghost use Rattle.sat_base.specs.Literals.{coded, largest, variable, is_positive, negated, negated_if};
-ghost use Rattle.sat_base.specs.Numerals.{IsNoNumeral, numeral};
+ghost use Rattle.sat_base.specs.values.Literals.{coded, largest, variable, is_positive, negated, negated_if};
+ghost use Rattle.sat_base.specs.values.Numerals.{IsNoNumeral, numeral};
 
 use crate::Var;
 use std::marker::Model;
@@ -16,7 +16,7 @@ pub struct Lit {
 
 impl Model for Lit {
     ghost use Rattle.std.specs.Prelude.{ℕ, ◌<◌, ◌*◌};
-    ghost use Rattle.sat_base.specs.Literals.{largest};
+    ghost use Rattle.sat_base.specs.values.Literals.{largest};
 
     ghost Value = { ℕ };
 
@@ -129,7 +129,7 @@ impl Lit {
 impl Not for Lit {
     type Output = Lit;
 
-    ghost use Rattle.sat_base.specs.Literals.{negated};
+    ghost use Rattle.sat_base.specs.values.Literals.{negated};
 
     ghost not_gives = { λ l r. r ≡ negated l };
 
@@ -141,7 +141,7 @@ impl Not for Lit {
 impl BitXor<bool> for Lit {
     type Output = Lit;
 
-    ghost use Rattle.sat_base.specs.Literals.{negated_if};
+    ghost use Rattle.sat_base.specs.values.Literals.{negated_if};
 
     ghost bitxor_gives = { λ l negate r. r ≡ negated_if negate l };
 

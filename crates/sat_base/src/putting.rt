@@ -1,6 +1,6 @@
 //! Writing in pieces: bytes wait until there is no room for more, or nothing more comes.
 ghost use Rattle.std.specs.Prelude.{[], ◌∷◌, ◌≡◌, ◌<◌, OnOk};
-ghost use Rattle.sat_base.specs.Writing.{Writes, Plainly, with_pending};
+ghost use Rattle.sat_base.specs.device.Writing.{Writes, Plainly, with_pending};
 
 use crate::CountedWrite;
 use crate::pending::{Pending, ROOM};

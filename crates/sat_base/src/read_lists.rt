@@ -1,8 +1,8 @@
 //! Reading lists of literals, of hashes and of units.
 ghost use Rattle.std.specs.Prelude.{[], ◌≡◌};
-ghost use Rattle.sat_base.specs.Formats.{Times, Both};
-ghost use Rattle.sat_base.specs.StepText.{IsLiteral, IsHash, AreLiterals, AreHashes, AreUnits};
-ghost use Rattle.sat_base.specs.Reading.{source_of, Reads, giving};
+ghost use Rattle.sat_base.specs.steps.Formats.{Times, Both};
+ghost use Rattle.sat_base.specs.steps.StepText.{IsLiteral, IsHash, AreLiterals, AreHashes, AreUnits};
+ghost use Rattle.sat_base.specs.device.Reading.{source_of, Reads, giving};
 
 use crate::ahead::Ahead;
 use crate::lists::Lists;

@@ -1,7 +1,7 @@
 //! Reading numbers, byte by byte.
 ghost use Rattle.std.specs.Prelude.{[], ◌∷◌, ◌≡◌, ◌<◌, ◌≤◌, ◌^◌, OnOk};
-ghost use Rattle.sat_base.specs.Numbers.{IsBelow};
-ghost use Rattle.sat_base.specs.Reading.{waiting, source_of, Refills, NextByte, ByteWithin, Reads};
+ghost use Rattle.sat_base.specs.steps.Numbers.{IsBelow};
+ghost use Rattle.sat_base.specs.device.Reading.{waiting, source_of, Refills, NextByte, ByteWithin, Reads};
 
 use crate::ahead::Ahead;
 use crate::whole::MAX_READS;

@@ -1,7 +1,7 @@
 //! Reading a proof step: its tag, and then its fields.
 ghost use Rattle.std.specs.Prelude.{◌≡◌, IsTrue};
-ghost use Rattle.sat_base.specs.Kinds.{step_with, is_tag, has_lists};
-ghost use Rattle.sat_base.specs.Reading.{source_of, Reads, Answers, Behind, valued};
+ghost use Rattle.sat_base.specs.steps.Kinds.{step_with, is_tag, has_lists};
+ghost use Rattle.sat_base.specs.device.Reading.{source_of, Reads, Answers, Behind, valued};
 
 mod groups;
 mod tagged;

@@ -1,8 +1,8 @@
 //! A reader of proof steps.
 ghost use Rattle.std.specs.Prelude.{◌≡◌, false};
-ghost use Rattle.sat_base.specs.StepViews.{step_of};
-ghost use Rattle.sat_base.specs.Reading.{giving};
-ghost use Rattle.sat_base.specs.StepReading.{source, unread, has_failed, reader_name, step_in, is_stop, Next};
+ghost use Rattle.sat_base.specs.steps.StepViews.{step_of};
+ghost use Rattle.sat_base.specs.device.Reading.{giving};
+ghost use Rattle.sat_base.specs.steps.StepReading.{source, unread, has_failed, reader_name, step_in, is_stop, Next};
 
 use crate::ahead::Ahead;
 use crate::kind::Kind;

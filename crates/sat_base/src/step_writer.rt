@@ -1,8 +1,8 @@
 //! Writing proof steps.
 ghost use Rattle.std.specs.Prelude.{◌≡◌};
-ghost use Rattle.sat_base.specs.StepText.{tag_of, SpellsFields, SpellsStep};
-ghost use Rattle.sat_base.specs.StepViews.{step_of};
-ghost use Rattle.sat_base.specs.Writing.{Writes, written_by, with_pending};
+ghost use Rattle.sat_base.specs.steps.StepText.{tag_of, SpellsFields, SpellsStep};
+ghost use Rattle.sat_base.specs.steps.StepViews.{step_of};
+ghost use Rattle.sat_base.specs.device.Writing.{Writes, written_by, with_pending};
 
 mod groups;
 mod number;

@@ -1,7 +1,7 @@
 //! The words of a text, from its bytes. Formulas and scripts are both made of them.
 ghost use Rattle.std.specs.Prelude.{◌≡◌, ◌+◌, ◌*◌, ◌-◌, ◌<◌, ℕ, List, [], ◌∷◌, true, false, None, Some};
-ghost use Rattle.sat_base.specs.Text.{is_blank, is_digit, is_letter, Scan, scan};
-ghost use Rattle.sat_base.specs.Tokenizing.{grown, held, may_come, Began, Moves, Says, SaysAtBlank, LeadsBehind, IsQuiet, Stands, Takes, Quiet, GivesLast};
+ghost use Rattle.sat_base.specs.text.Text.{is_blank, is_digit, is_letter, Scan, scan};
+ghost use Rattle.sat_base.specs.text.Tokenizing.{grown, held, may_come, Began, Moves, Says, SaysAtBlank, LeadsBehind, IsQuiet, Stands, Takes, Quiet, GivesLast};
 
 mod header;
 

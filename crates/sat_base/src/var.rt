@@ -1,7 +1,7 @@
 //! Variables.
 ghost use Rattle.std.specs.Prelude.{◌≡◌, ◌+◌, ◌<◌, true, false, MatchOption, pos};
-ghost use Rattle.sat_base.specs.Literals.{coded, largest};
-ghost use Rattle.sat_base.specs.Numerals.{IsNoVariable};
+ghost use Rattle.sat_base.specs.values.Literals.{coded, largest};
+ghost use Rattle.sat_base.specs.values.Numerals.{IsNoVariable};
 
 use crate::Lit;
 use std::marker::Model;
@@ -14,7 +14,7 @@ pub struct Var {
 
 impl Model for Var {
     ghost use Rattle.std.specs.Prelude.{ℕ, ◌<◌};
-    ghost use Rattle.sat_base.specs.Literals.{largest};
+    ghost use Rattle.sat_base.specs.values.Literals.{largest};
 
     ghost Value = { ℕ };
 

@@ -1,6 +1,6 @@
 //! Reading a reader to its end.
 ghost use Rattle.std.specs.Prelude.{◌≡◌, ◌+◌, ◌≤◌, ◌⊎◌, IfOk, OnOk, IsErrOf};
-ghost use Rattle.sat_base.specs.Device.{most_reads, ReadFails, GaveAll};
+ghost use Rattle.sat_base.specs.device.Device.{most_reads, ReadFails, GaveAll};
 
 use crate::CountedRead;
 use std::alloc::{AllocError, Global};

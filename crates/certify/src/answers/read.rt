@@ -4,7 +4,7 @@ ghost use Rattle.std.specs.Prelude.{◌≡◌, ◌++◌, ◌∷◌, [], ◌*◌,
 ghost use Rattle.certify.specs.Answers.{literals_text, outcome_text, word_of};
 ghost use Rattle.certify.specs.AnswerForms.{IsInForm, IsName, named_literal, named_literals};
 ghost use Rattle.certify.specs.AnswerReading.{NoDigit, NoName, NoLiteral, NoLiterals, NoKind, NoLine, NoOutcome, HasLine, IsHead, digits_so_far, first_line, outcome_of, second_line, place_in};
-ghost use Rattle.sat_base.specs.Literals.{largest};
+ghost use Rattle.sat_base.specs.values.Literals.{largest};
 
 use sat_base::{Lit, Var};
 use std::alloc::AllocFailed;

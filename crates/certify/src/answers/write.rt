@@ -3,7 +3,7 @@
 ghost use Rattle.std.specs.Prelude.{◌≡◌, ◌++◌, decimal, OnOk};
 ghost use Rattle.certify.specs.Answers.{Sat, Unsat, Unknown, literals_text, malformed_line, outcome_text, refused_line, word_of};
 ghost use Rattle.certify.specs.AnswerForms.{named_literal, named_literals};
-ghost use Rattle.sat_base.specs.Judge.{PastLimit};
+ghost use Rattle.sat_base.specs.script.Judge.{PastLimit};
 
 use sat_base::Lit;
 use std::alloc::AllocError;

@@ -1,7 +1,7 @@
 //! The stored clauses, one after another.
 ghost use Rattle.std.specs.Prelude.{◌≡◌, ◌+◌, ◌-◌, ◌<◌, ◌≤◌, ◌∷◌, [], ◌++◌, List, not, length, slice_index_or, OnOk, false};
 ghost use Rattle.std.specs.List.{AllByRecursion};
-ghost use Rattle.sat_base.specs.Hashes.{hash_of};
+ghost use Rattle.sat_base.specs.values.Hashes.{hash_of};
 ghost use Rattle.certify.specs.Marks.{IsIncreasing};
 ghost use Rattle.certify.specs.Walk.{all_literals, all_flags};
 ghost use Rattle.certify.specs.ClausesView.{IsFirstSame, kept, fresh};

@@ -1,7 +1,7 @@
 //! Sets of indices.
 ghost use Rattle.std.specs.Prelude.{ℕ, ◌≡◌, ◌<◌, ◌==◌, ◌||◌, [], map, IfOk, OnOk};
 ghost use Rattle.std.specs.List.{list_any};
-ghost use Rattle.sat_base.specs.Literals.{largest, variable};
+ghost use Rattle.sat_base.specs.values.Literals.{largest, variable};
 ghost use Rattle.certify.specs.Marks.{is_marked};
 
 use sat_base::Lit;

@@ -2,7 +2,7 @@
 ghost use Rattle.std.specs.Prelude.{ℕ, ◌≡◌, [], IfOk, reverse};
 ghost use Rattle.std.specs.Bool.{MatchBool};
 ghost use Rattle.std.specs.List.{list_any};
-ghost use Rattle.sat_base.specs.Literals.{negated};
+ghost use Rattle.sat_base.specs.values.Literals.{negated};
 ghost use Rattle.certify.specs.Propagation.{is_among};
 ghost use Rattle.certify.specs.Accepts.{VariablesApart};
 ghost use Rattle.certify.specs.ModelView.{is_contradicted, are_all_true};

@@ -1,7 +1,7 @@
 //! A certificate as far as its steps were accepted.
 ghost use Rattle.std.specs.Prelude.{◌≡◌, ◌≤◌, List, [], ◌∷◌, map, Ok, IfOk};
-ghost use Rattle.sat_base.specs.Literals.{largest};
-ghost use Rattle.sat_base.specs.StepViews.{step_of};
+ghost use Rattle.sat_base.specs.values.Literals.{largest};
+ghost use Rattle.sat_base.specs.steps.StepViews.{step_of};
 ghost use Rattle.certify.specs.Checking.{is_ordered as is_ordered_step};
 
 use crate::checker::Checker;
@@ -53,8 +53,8 @@ fn is_ordered(step: &ProofStep<'_>) -> bool
 }
 
 impl<'c> Certificate<'c> {
-    ghost use Rattle.sat_base.specs.Judge.{Judge, start, bring_in, bring_all, new_names, with_name};
-    ghost use Rattle.sat_base.specs.Script.{Literal as Spelled, names_of};
+    ghost use Rattle.sat_base.specs.script.Judge.{Judge, start, bring_in, bring_all, new_names, with_name};
+    ghost use Rattle.sat_base.specs.script.Script.{Literal as Spelled, names_of};
     ghost use Rattle.certify.specs.Answers.{Outcome};
     ghost use Rattle.certify.specs.AnswerForms.{IsName, HaveNames};
     ghost use Rattle.certify.specs.Matches.{NewName, Adds, Opens, Shows, Fails, Closes, Finish, bringing};

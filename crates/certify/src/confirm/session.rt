@@ -1,8 +1,8 @@
 //! Goes through the commands of a script, with its answers and its certificate.
 ghost use Rattle.std.specs.Prelude.{ℕ, ◌≡◌, ◌+◌, ◌++◌, List, [], ◌∷◌, Some, None, MatchOption, IfOk, OnOk};
 ghost use Rattle.std.specs.Bool.{MatchBool};
-ghost use Rattle.sat_base.specs.Script.{names_of};
-ghost use Rattle.sat_base.specs.Judge.{Judge, PastLimit, refused_name};
+ghost use Rattle.sat_base.specs.script.Script.{names_of};
+ghost use Rattle.sat_base.specs.script.Judge.{Judge, PastLimit, refused_name};
 ghost use Rattle.certify.specs.Answers.{refused_line, malformed_line};
 ghost use Rattle.certify.specs.AnswerForms.{named_literals};
 
@@ -67,8 +67,8 @@ fn unread(fault: AnswerFault) -> Result<Why, AllocError>
 }
 
 impl<'a> Session<'a> {
-    ghost use Rattle.sat_base.specs.Judge.{start};
-    ghost use Rattle.sat_base.specs.Script.{Clause, Ask, Clean, Malformed};
+    ghost use Rattle.sat_base.specs.script.Judge.{start};
+    ghost use Rattle.sat_base.specs.script.Script.{Clause, Ask, Clean, Malformed};
     ghost use Rattle.certify.specs.ScriptParts.{end_of, shown};
     ghost use Rattle.certify.specs.Standing.{Stands, bytes_of};
     ghost use Rattle.certify.specs.Sessions.{TakesLine, ReadsAnswer, ShowsOutcome, ConfirmsCommand, ConfirmsEnd};

@@ -1,6 +1,6 @@
 //! The steps of a certificate, one at a time.
 ghost use Rattle.std.specs.Prelude.{◌≡◌, IfOk};
-ghost use Rattle.sat_base.specs.StepViews.{step_of};
+ghost use Rattle.sat_base.specs.steps.StepViews.{step_of};
 ghost use Rattle.certify.specs.HeldStep.{ReadsNext};
 
 mod buffers;

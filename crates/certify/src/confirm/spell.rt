@@ -2,8 +2,8 @@
 ghost use Rattle.std.specs.Prelude.{ℕ, ◌≡◌, ◌+◌, List, [], length, map, IfOk};
 ghost use Rattle.std.specs.Bool.{MatchBool};
 ghost use Rattle.std.specs.List.{AllByRecursion};
-ghost use Rattle.sat_base.specs.Script.{Among, names_of};
-ghost use Rattle.sat_base.specs.Judge.{names_from};
+ghost use Rattle.sat_base.specs.script.Script.{Among, names_of};
+ghost use Rattle.sat_base.specs.script.Judge.{names_from};
 ghost use Rattle.certify.specs.Confirming.{variable_in};
 ghost use Rattle.certify.specs.Matches.{EachSpelt, SameSet};
 ghost use Rattle.certify.specs.Spelling.{AreSpelt};

@@ -1,7 +1,7 @@
 //! Answers an ask.
 ghost use Rattle.std.specs.Prelude.{◌≡◌, ◌+◌, [], ◌∷◌, IfOk, OnOk};
 ghost use Rattle.std.specs.Io.KnownBytes.{Appends};
-ghost use Rattle.sat_base.specs.Steps.{Assumptions};
+ghost use Rattle.sat_base.specs.steps.Steps.{Assumptions};
 ghost use Rattle.certify.specs.Answers.{outcome_text};
 ghost use Rattle.certify.specs.Held.{HoldsSame};
 ghost use Rattle.certify.specs.Run.{IsSpent};

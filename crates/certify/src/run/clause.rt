@@ -1,6 +1,6 @@
 //! Takes a clause of a script.
 ghost use Rattle.std.specs.Prelude.{◌≡◌, ◌-◌, true, map, OnOk};
-ghost use Rattle.sat_base.specs.Script.{names_of};
+ghost use Rattle.sat_base.specs.script.Script.{names_of};
 ghost use Rattle.certify.specs.Held.{TakesClause};
 ghost use Rattle.certify.specs.Running.{WritesSteps, WroteClause, are_within, code_of, raised};
 

@@ -1,7 +1,7 @@
 //! Ends a run's answers and its certificate.
 ghost use Rattle.std.specs.Prelude.{◌≡◌, ◌+◌, ◌-◌, ◌^◌, ◌≤◌, ◌<◌, [], length, MatchResult};
-ghost use Rattle.sat_base.specs.Script.{Malformed};
-ghost use Rattle.sat_base.specs.Steps.{End};
+ghost use Rattle.sat_base.specs.script.Script.{Malformed};
+ghost use Rattle.sat_base.specs.steps.Steps.{End};
 ghost use Rattle.certify.specs.Run.{HasCause, malformed_at};
 ghost use Rattle.certify.specs.Running.{WritesAnswer, WritesStep, Ends, malformed_text};
 

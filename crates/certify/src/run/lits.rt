@@ -1,6 +1,6 @@
 //! The literals of a clause.
 ghost use Rattle.std.specs.Prelude.{◌≡◌, ◌<◌, ◌≤◌, true, map, OnOk};
-ghost use Rattle.sat_base.specs.Script.{names_of};
+ghost use Rattle.sat_base.specs.script.Script.{names_of};
 ghost use Rattle.certify.specs.Running.{are_within, code_of};
 
 use crate::script::Literal;

@@ -1,11 +1,11 @@
 //! Brings names into a solver and its certificate.
 ghost use Rattle.std.specs.Prelude.{◌≡◌, ◌+◌, ◌-◌, ◌<◌, ◌≤◌, ◌↔◌, max, true, OnOk, ℕ};
-ghost use Rattle.sat_base.specs.Clauses.{Valuation};
-ghost use Rattle.sat_base.specs.Literals.{largest};
-ghost use Rattle.sat_base.specs.StepViews.{step_of};
+ghost use Rattle.sat_base.specs.values.Clauses.{Valuation};
+ghost use Rattle.sat_base.specs.values.Literals.{largest};
+ghost use Rattle.sat_base.specs.steps.StepViews.{step_of};
 ghost use Rattle.certify.specs.Held.{HoldsSame};
 ghost use Rattle.certify.specs.Running.{Wrote, WritesStep, WritesSteps, are_within, naming, raised};
-ghost use Rattle.sat_base.specs.Script.{names_of};
+ghost use Rattle.sat_base.specs.script.Script.{names_of};
 
 use crate::fault::RunFault;
 use crate::names::Names;

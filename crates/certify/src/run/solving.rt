@@ -1,6 +1,6 @@
 //! Searches for the answer of an ask.
 ghost use Rattle.std.specs.Prelude.{◌≡◌, ◌+◌, ◌<◌, ◌≤◌, IfOk, OnOk, slice_index_or, None};
-ghost use Rattle.sat_base.specs.Literals.{coded, largest};
+ghost use Rattle.sat_base.specs.values.Literals.{coded, largest};
 ghost use Rattle.certify.specs.Held.{HasModel, HoldsSame};
 ghost use Rattle.certify.specs.Run.{IsSpent};
 ghost use Rattle.certify.specs.Running.{WritesSteps, WroteDerived, IsTrueOf};

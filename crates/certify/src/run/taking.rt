@@ -1,6 +1,6 @@
 //! Takes the commands of a script.
 ghost use Rattle.std.specs.Prelude.{◌≡◌, ◌+◌, ◌<◌, ◌≤◌, OnOk, length};
-ghost use Rattle.sat_base.specs.Judge.{PastLimit};
+ghost use Rattle.sat_base.specs.script.Judge.{PastLimit};
 ghost use Rattle.certify.specs.Answers.{refused_line};
 ghost use Rattle.certify.specs.ScriptParts.{shown};
 ghost use Rattle.certify.specs.Running.{WritesAnswer, WritesBoth, Refused, Took, TookAll};

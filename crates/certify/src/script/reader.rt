@@ -1,8 +1,8 @@
 //! Reading scripts.
 ghost use Rattle.std.specs.Prelude.{◌≡◌, ◌+◌, ◌≤◌, ◌<◌, ◌⊎◌, ◌++◌, ◌∷◌, ◌&&◌, not, length, ℕ, List, [], IfOk, OnOk, IsErrOf};
-ghost use Rattle.sat_base.specs.Device.{most_reads, ReadFails, GaveAll};
-ghost use Rattle.sat_base.specs.Text.{Token as SpelledToken};
-ghost use Rattle.sat_base.specs.Script.{Literal as Spelled, Ask, Clean, Nothing, command_in, with_literal, with_letter, at_end, commands_of, has_ask};
+ghost use Rattle.sat_base.specs.device.Device.{most_reads, ReadFails, GaveAll};
+ghost use Rattle.sat_base.specs.text.Text.{Token as SpelledToken};
+ghost use Rattle.sat_base.specs.script.Script.{Literal as Spelled, Ask, Clean, Nothing, command_in, with_literal, with_letter, at_end, commands_of, has_ask};
 ghost use Rattle.certify.specs.Holding.{HeldScript, held_script, IsHeldOf};
 ghost use Rattle.certify.specs.ScriptParts.{command_of, end_of};
 ghost use Rattle.certify.specs.ScriptReading.{token_of, hand_of, commands_read, hand_in, AreCommands, Turns, EndsCommand, any_header, asked_if, meaning, malformed_behind, TakesToken, Means, TakesByte};

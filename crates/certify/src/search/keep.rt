@@ -1,7 +1,7 @@
 //! How clauses are written and kept.
 ghost use Rattle.std.specs.Prelude.{◌≡◌, ◌<◌, ◌≤◌, [], length, vec_len, IfOk, OnOk, OnErr, IsTrue};
 ghost use Rattle.std.specs.List.Sorted.{IsStrictlyIncreasing};
-ghost use Rattle.sat_base.specs.Literals.{variable};
+ghost use Rattle.sat_base.specs.values.Literals.{variable};
 ghost use Rattle.certify.specs.Search.{IsBounded, AreBounded};
 ghost use Rattle.certify.specs.Kept.{IsNormalOf, IsTautology, UnitsFollow, Keeps};
 

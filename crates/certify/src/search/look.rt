@@ -1,6 +1,6 @@
 //! What a clause says under the values so far.
 ghost use Rattle.std.specs.Prelude.{◌≡◌, ◌<◌, ◌≤◌, length, slice_index_or, None, Some, MatchOption};
-ghost use Rattle.sat_base.specs.Literals.{variable};
+ghost use Rattle.sat_base.specs.values.Literals.{variable};
 ghost use Rattle.certify.specs.Search.{value_of, is_false, is_open, verdict, IsBounded};
 
 use sat_base::Lit;

@@ -1,6 +1,6 @@
 //! Propagation by scanning all clauses, and the decisions of one round.
 ghost use Rattle.std.specs.Prelude.{◌≡◌, ◌<◌, ◌≤◌, [], length, slice_set, IfOk, OnErr, MatchOption, None, Some};
-ghost use Rattle.sat_base.specs.Literals.{variable, is_positive, largest};
+ghost use Rattle.sat_base.specs.values.Literals.{variable, is_positive, largest};
 ghost use Rattle.certify.specs.Search.{open_count, AreBounded, IsBounded, Follows, AllOpen, AllAssigned, IsLowestOpen};
 ghost use Rattle.certify.specs.SearchSays.{MetSays, ScanSays, PropagateSays, EndSays};
 

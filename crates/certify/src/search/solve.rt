@@ -1,6 +1,6 @@
 //! Rounds of search up to an answer.
 ghost use Rattle.std.specs.Prelude.{◌≡◌, MatchResult, IfOk};
-ghost use Rattle.sat_base.specs.Writing.{written_by};
+ghost use Rattle.sat_base.specs.device.Writing.{written_by};
 ghost use Rattle.certify.specs.Search.{IsBounded};
 ghost use Rattle.certify.specs.Solved.{Solves, WritesDerived, conflicts, IsTrueFault};
 

@@ -1,9 +1,9 @@
 //! Clauses from tokens.
 ghost use Rattle.std.specs.Prelude.{◌≡◌, None, MatchResult};
-ghost use Rattle.sat_base.specs.Formulas.{no_formula, with_count};
-ghost use Rattle.sat_base.specs.Dimacs.{Ends, literals_in};
+ghost use Rattle.sat_base.specs.values.Formulas.{no_formula, with_count};
+ghost use Rattle.sat_base.specs.dimacs.Dimacs.{Ends, literals_in};
 ghost use Rattle.sat_base.specs.declared.dimacs.clauses.Refusal.TheVariants.{OutOfMemory};
-ghost use Rattle.sat_base.specs.Collecting.{token_of, hand_in, is_literal, AllStay, Turns, Collects, IsInside};
+ghost use Rattle.sat_base.specs.dimacs.Collecting.{token_of, hand_in, is_literal, AllStay, Turns, Collects, IsInside};
 
 use crate::{CnfFormula, ExtendFormula, FormulaError, Lit, Token};
 use std::alloc::{AllocFailed, Global};

@@ -1,10 +1,10 @@
 //! A parser that says whether it stopped.
 ghost use Rattle.std.specs.Prelude.{◌≡◌, ◌++◌, ◌∷◌, [], ℕ, List, true, false, OnOk};
-ghost use Rattle.sat_base.specs.Text.{Scan};
-ghost use Rattle.sat_base.specs.Tokenizing.{held, Stands};
-ghost use Rattle.sat_base.specs.Formulas.{vars_of};
-ghost use Rattle.sat_base.specs.Parsing.{Feeds, Finishes, IsSound, no_progress, all_taken, clauses_read};
-ghost use Rattle.sat_base.specs.Standing.{IsParser, progress_of, EndsClean};
+ghost use Rattle.sat_base.specs.text.Text.{Scan};
+ghost use Rattle.sat_base.specs.text.Tokenizing.{held, Stands};
+ghost use Rattle.sat_base.specs.values.Formulas.{vars_of};
+ghost use Rattle.sat_base.specs.dimacs.Parsing.{Feeds, Finishes, IsSound, no_progress, all_taken, clauses_read};
+ghost use Rattle.sat_base.specs.dimacs.ParserPlaces.{IsParser, progress_of, EndsClean};
 
 use super::clauses::{Clauses, Refusal, is_literal};
 use super::error::DimacsError;

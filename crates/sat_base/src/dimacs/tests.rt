@@ -1,7 +1,7 @@
 //! Rows of texts, whole and in pieces of one byte, and what goes on after a fault.
 ghost use Rattle.std.specs.Prelude.{◌≡◌, ◌<◌, IfSome, IfOk, length};
-ghost use Rattle.sat_base.specs.Tokenizing.{held};
-ghost use Rattle.sat_base.specs.Dimacs.{dimacs};
+ghost use Rattle.sat_base.specs.text.Tokenizing.{held};
+ghost use Rattle.sat_base.specs.dimacs.Dimacs.{dimacs};
 
 use crate::tests::by_one;
 use crate::{

@@ -16,7 +16,7 @@ pub(crate) struct FlatClauses {
 
 impl Model for FlatClauses {
     ghost use Rattle.std.specs.Prelude.{ℕ, List, length};
-    ghost use Rattle.sat_base.specs.Flat.{clauses_in, InOrder};
+    ghost use Rattle.sat_base.specs.values.Flat.{clauses_in, InOrder};
 
     ghost Value = { List (List ℕ) };
 

@@ -2,7 +2,7 @@
 ghost use Rattle.std.specs.Prelude.{◌≡◌, length};
 ghost use Rattle.std.specs.Iterator.{at_most};
 ghost use Rattle.std.specs.Map.Iter.{TakesFirst, deref};
-ghost use Rattle.sat_base.specs.Flat.{clauses_in, InOrder};
+ghost use Rattle.sat_base.specs.values.Flat.{clauses_in, InOrder};
 
 use crate::Lit;
 use std::iter::FusedIterator;
@@ -18,7 +18,7 @@ pub struct CnfFormulaIter<'a> {
 
 impl<'a> Model for CnfFormulaIter<'a> {
     ghost use Rattle.std.specs.Prelude.{ℕ, ◌+◌, List, length};
-    ghost use Rattle.sat_base.specs.Flat.{clauses_in, InOrder};
+    ghost use Rattle.sat_base.specs.values.Flat.{clauses_in, InOrder};
 
     ghost Value = { List (List ℕ) };
 

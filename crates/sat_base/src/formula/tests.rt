@@ -1,6 +1,6 @@
 //! Each call once, what stands after a refusal, and a caller that knows the trait alone.
 ghost use Rattle.std.specs.Prelude.{◌≡◌, ◌∷◌, [], ℕ, true, OnOk};
-ghost use Rattle.sat_base.specs.Literals.{coded};
+ghost use Rattle.sat_base.specs.values.Literals.{coded};
 
 use crate::{CnfFormula, ExtendFormula, FormulaError, Lit, Var};
 use std::alloc::Global;

@@ -1,8 +1,8 @@
 //! Reading the fields of steps that have several.
-ghost use Rattle.sat_base.specs.Formats.{Both};
-ghost use Rattle.sat_base.specs.StepText.{IsVariable, IsOptionalVariable, IsFlag, IsDeletion, AreLiterals, AreHashes};
-ghost use Rattle.sat_base.specs.StepViews.{deletion_of};
-ghost use Rattle.sat_base.specs.Reading.{source_of, Reads, valued};
+ghost use Rattle.sat_base.specs.steps.Formats.{Both};
+ghost use Rattle.sat_base.specs.steps.StepText.{IsVariable, IsOptionalVariable, IsFlag, IsDeletion, AreLiterals, AreHashes};
+ghost use Rattle.sat_base.specs.steps.StepViews.{deletion_of};
+ghost use Rattle.sat_base.specs.device.Reading.{source_of, Reads, valued};
 
 use crate::ahead::Ahead;
 use crate::lists::Lists;

@@ -1,7 +1,7 @@
 //! Reading what stands behind each tag.
 ghost use Rattle.std.specs.Prelude.{ℕ, List, ◌≡◌, IsTrue, false};
-ghost use Rattle.sat_base.specs.Kinds.{step_with, is_tag, has_lists};
-ghost use Rattle.sat_base.specs.Reading.{source_of, Reads, Behind, valued};
+ghost use Rattle.sat_base.specs.steps.Kinds.{step_with, is_tag, has_lists};
+ghost use Rattle.sat_base.specs.device.Reading.{source_of, Reads, Behind, valued};
 
 use crate::ahead::Ahead;
 use crate::kind::Kind;

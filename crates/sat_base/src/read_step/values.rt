@@ -1,7 +1,7 @@
 //! Reading the fields of steps that are one number.
-ghost use Rattle.sat_base.specs.StepText.{IsVariable, IsOptionalVariable, IsFlag, IsWidth, IsDeletion};
-ghost use Rattle.sat_base.specs.StepViews.{deletion_of};
-ghost use Rattle.sat_base.specs.Reading.{source_of, Reads, valued};
+ghost use Rattle.sat_base.specs.steps.StepText.{IsVariable, IsOptionalVariable, IsFlag, IsWidth, IsDeletion};
+ghost use Rattle.sat_base.specs.steps.StepViews.{deletion_of};
+ghost use Rattle.sat_base.specs.device.Reading.{source_of, Reads, valued};
 
 use crate::ahead::Ahead;
 use crate::read_number::number;

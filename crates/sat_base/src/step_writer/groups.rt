@@ -1,8 +1,8 @@
 //! Writing lists, and the fields of steps that have several.
-ghost use Rattle.sat_base.specs.Formats.{Both};
-ghost use Rattle.sat_base.specs.StepText.{IsVariable, IsOptionalVariable, IsLiteral, IsHash, IsFlag, IsDeletion, AreLiterals, AreHashes, AreUnits};
-ghost use Rattle.sat_base.specs.StepViews.{deletion_of};
-ghost use Rattle.sat_base.specs.Writing.{Writes, with_pending};
+ghost use Rattle.sat_base.specs.steps.Formats.{Both};
+ghost use Rattle.sat_base.specs.steps.StepText.{IsVariable, IsOptionalVariable, IsLiteral, IsHash, IsFlag, IsDeletion, AreLiterals, AreHashes, AreUnits};
+ghost use Rattle.sat_base.specs.steps.StepViews.{deletion_of};
+ghost use Rattle.sat_base.specs.device.Writing.{Writes, with_pending};
 
 use crate::pending::Pending;
 use crate::step_writer::number::put_number;

@@ -1,6 +1,6 @@
 //! Writing a number's bytes.
-ghost use Rattle.sat_base.specs.Numbers.{IsNumber};
-ghost use Rattle.sat_base.specs.Writing.{Writes, with_pending};
+ghost use Rattle.sat_base.specs.steps.Numbers.{IsNumber};
+ghost use Rattle.sat_base.specs.device.Writing.{Writes, with_pending};
 
 use crate::CountedWrite;
 use crate::pending::Pending;

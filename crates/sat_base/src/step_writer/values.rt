@@ -1,7 +1,7 @@
 //! Writing the fields of steps that are one number.
-ghost use Rattle.sat_base.specs.StepText.{IsVariable, IsOptionalVariable, IsLiteral, IsHash, IsFlag, IsWidth, IsDeletion};
-ghost use Rattle.sat_base.specs.StepViews.{deletion_of};
-ghost use Rattle.sat_base.specs.Writing.{Writes, with_pending};
+ghost use Rattle.sat_base.specs.steps.StepText.{IsVariable, IsOptionalVariable, IsLiteral, IsHash, IsFlag, IsWidth, IsDeletion};
+ghost use Rattle.sat_base.specs.steps.StepViews.{deletion_of};
+ghost use Rattle.sat_base.specs.device.Writing.{Writes, with_pending};
 
 use crate::pending::Pending;
 use crate::step_writer::number::put_number;

@@ -1,8 +1,8 @@
 //! The places in a header line, `p cnf` and two numbers.
 ghost use Rattle.std.specs.Prelude.{◌≡◌, false};
-ghost use Rattle.sat_base.specs.Text.{is_blank};
-ghost use Rattle.sat_base.specs.Spot.{Spot};
-ghost use Rattle.sat_base.specs.Tokenizing.{BeganHeader, MovesHeader, IsAtHeader, IsStageIf, ended_stage};
+ghost use Rattle.sat_base.specs.text.Text.{is_blank};
+ghost use Rattle.sat_base.specs.text.Spot.{Spot};
+ghost use Rattle.sat_base.specs.text.Tokenizing.{BeganHeader, MovesHeader, IsAtHeader, IsStageIf, ended_stage};
 
 use super::{grown, is_digit};
 

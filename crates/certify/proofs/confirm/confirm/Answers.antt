@@ -1,4 +1,4 @@
-use Rattle.sat_base.specs.Device.{GaveAll}
+use Rattle.sat_base.specs.device.Device.{GaveAll}
 use Rattle.certify.proofs.Deciding.{exact, sound}
 use Rattle.certify.proofs.confirm.confirm.Goals as goal
 

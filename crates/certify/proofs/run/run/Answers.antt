@@ -1,4 +1,4 @@
-use Rattle.sat_base.specs.Device.{GaveAll}
+use Rattle.sat_base.specs.device.Device.{GaveAll}
 use Rattle.certify.proofs.Finishing.{finished_if, too_many, run_fault, kept_answers, kept_certificate}
 use Rattle.certify.proofs.run.run.Goals as goal
 

@@ -1,6 +1,6 @@
 //! The lists of the step in hand, whose room is used again.
 ghost use Rattle.std.specs.Prelude.{◌≡◌};
-ghost use Rattle.sat_base.specs.StepViews.{step_of};
+ghost use Rattle.sat_base.specs.steps.StepViews.{step_of};
 ghost use Rattle.certify.specs.HeldStep.{step_in};
 
 use crate::confirm::source::kind::Kind;

@@ -1,6 +1,6 @@
 //! Bytes that are held, and read from the front.
 ghost use Rattle.std.specs.Prelude.{◌≡◌, ◌∷◌, ◌^◌, ◌<◌, ◌≤◌, [], MatchOption};
-ghost use Rattle.sat_base.specs.Numbers.{IsBelow};
+ghost use Rattle.sat_base.specs.steps.Numbers.{IsBelow};
 ghost use Rattle.certify.specs.SourceReading.{Takes};
 
 use super::numbers::number;

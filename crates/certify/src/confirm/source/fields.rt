@@ -1,7 +1,7 @@
 //! A step's fields.
 ghost use Rattle.std.specs.Prelude.{◌≡◌, List, ℕ, IsTrue, false};
-ghost use Rattle.sat_base.specs.Kinds.{is_tag, has_lists};
-ghost use Rattle.sat_base.specs.Reading.{Behind};
+ghost use Rattle.sat_base.specs.steps.Kinds.{is_tag, has_lists};
+ghost use Rattle.sat_base.specs.device.Reading.{Behind};
 ghost use Rattle.certify.specs.HeldStep.{step_in};
 ghost use Rattle.certify.specs.SourceReading.{Takes, valued};
 

@@ -1,7 +1,7 @@
 //! The fields of steps that have several.
-ghost use Rattle.sat_base.specs.Formats.{Both};
-ghost use Rattle.sat_base.specs.StepText.{IsVariable, IsOptionalVariable, IsFlag, IsDeletion, AreLiterals, AreHashes};
-ghost use Rattle.sat_base.specs.StepViews.{deletion_of};
+ghost use Rattle.sat_base.specs.steps.Formats.{Both};
+ghost use Rattle.sat_base.specs.steps.StepText.{IsVariable, IsOptionalVariable, IsFlag, IsDeletion, AreLiterals, AreHashes};
+ghost use Rattle.sat_base.specs.steps.StepViews.{deletion_of};
 ghost use Rattle.certify.specs.SourceReading.{Takes, valued};
 
 use super::buffers::Buffers;

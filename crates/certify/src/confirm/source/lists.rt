@@ -1,7 +1,7 @@
 //! Lists of literals, of hashes and of units: their count, and then each item.
 ghost use Rattle.std.specs.Prelude.{◌≡◌, []};
-ghost use Rattle.sat_base.specs.Formats.{Times, Both};
-ghost use Rattle.sat_base.specs.StepText.{IsLiteral, IsHash, AreLiterals, AreHashes, AreUnits};
+ghost use Rattle.sat_base.specs.steps.Formats.{Times, Both};
+ghost use Rattle.sat_base.specs.steps.StepText.{IsLiteral, IsHash, AreLiterals, AreHashes, AreUnits};
 ghost use Rattle.certify.specs.SourceReading.{Takes, giving};
 
 use super::buffers::Buffers;

@@ -1,6 +1,6 @@
 //! Numbers at the front of bytes that are held.
 ghost use Rattle.std.specs.Prelude.{◌^◌, ◌<◌, ◌≤◌, MatchResult};
-ghost use Rattle.sat_base.specs.Numbers.{IsBelow};
+ghost use Rattle.sat_base.specs.steps.Numbers.{IsBelow};
 ghost use Rattle.certify.specs.SourceReading.{Begins, Stops};
 
 use super::stop::Stop;

@@ -1,6 +1,6 @@
 //! Fields that are one number.
-ghost use Rattle.sat_base.specs.StepText.{IsVariable, IsOptionalVariable, IsFlag, IsWidth, IsDeletion};
-ghost use Rattle.sat_base.specs.StepViews.{deletion_of};
+ghost use Rattle.sat_base.specs.steps.StepText.{IsVariable, IsOptionalVariable, IsFlag, IsWidth, IsDeletion};
+ghost use Rattle.sat_base.specs.steps.StepViews.{deletion_of};
 ghost use Rattle.certify.specs.SourceReading.{Takes, valued};
 
 use super::cursor::Cursor;

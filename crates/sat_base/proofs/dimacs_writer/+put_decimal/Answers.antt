@@ -1,6 +1,6 @@
 use Rattle.std.proofs.Common.{decimal, ◌+◌, ◌/◌, ◌%◌, ◌∷◌, [], arith}
-use Rattle.sat_base.specs.Writing.{with_pending}
-use Rattle.sat_base.proofs.TextWrites.{put_one, put_rest, same_text, one_digit, last_digit}
+use Rattle.sat_base.specs.device.Writing.{with_pending}
+use Rattle.sat_base.proofs.lemmas.dimacs.TextWrites.{put_one, put_rest, same_text, one_digit, last_digit}
 use Rattle.sat_base.proofs.dimacs_writer.+put_decimal.Goals as goal
 
 pub returns-then-number-lt10 : goal.returns-then-number-lt10

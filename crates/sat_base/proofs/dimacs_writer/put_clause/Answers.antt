@@ -1,5 +1,5 @@
-use Rattle.sat_base.specs.Writing.{with_pending}
-use Rattle.sat_base.proofs.TextWrites.{lits_more, lits_all}
+use Rattle.sat_base.specs.device.Writing.{with_pending}
+use Rattle.sat_base.proofs.lemmas.dimacs.TextWrites.{lits_more, lits_all}
 use Rattle.sat_base.proofs.dimacs_writer.put_clause.Goals as goal
 
 pub loop-lit-preserved : goal.loop-lit-preserved

@@ -1,5 +1,5 @@
-use Rattle.sat_base.specs.Writing.{with_pending}
-use Rattle.sat_base.proofs.TextWrites.{LitsPut}
+use Rattle.sat_base.specs.device.Writing.{with_pending}
+use Rattle.sat_base.proofs.lemmas.dimacs.TextWrites.{LitsPut}
 use Rattle.sat_base.proofs.dimacs_writer.put_clause.Given as goal
 
 abbrev pub invariant-loop-lit : goal.invariant-loop-lit

@@ -1,5 +1,5 @@
-use Rattle.sat_base.specs.Writing.{with_pending}
-use Rattle.sat_base.proofs.TextWrites.{clauses_more}
+use Rattle.sat_base.specs.device.Writing.{with_pending}
+use Rattle.sat_base.proofs.lemmas.dimacs.TextWrites.{clauses_more}
 use Rattle.sat_base.proofs.dimacs_writer.put_clauses.Goals as goal
 
 pub loop-clause-preserved : goal.loop-clause-preserved

@@ -1,5 +1,5 @@
-use Rattle.sat_base.specs.Writing.{with_pending}
-use Rattle.sat_base.proofs.TextWrites.{ClausesPut}
+use Rattle.sat_base.specs.device.Writing.{with_pending}
+use Rattle.sat_base.proofs.lemmas.dimacs.TextWrites.{ClausesPut}
 use Rattle.sat_base.proofs.dimacs_writer.put_clauses.Given as goal
 
 abbrev pub invariant-loop-clause : goal.invariant-loop-clause

@@ -1,7 +1,7 @@
 use Rattle.std.proofs.Common.{length, refl}
-use Rattle.sat_base.specs.Writing.{with_pending}
-use Rattle.sat_base.specs.DimacsText.{header_line, clause_lines, dimacs_text}
-use Rattle.sat_base.proofs.TextWrites.{two_out, emptied_text}
+use Rattle.sat_base.specs.device.Writing.{with_pending}
+use Rattle.sat_base.specs.dimacs.DimacsText.{header_line, clause_lines, dimacs_text}
+use Rattle.sat_base.proofs.lemmas.dimacs.TextWrites.{two_out, emptied_text}
 use Rattle.sat_base.proofs.dimacs_writer.write_dimacs.Goals as goal
 
 pub returns : goal.returns

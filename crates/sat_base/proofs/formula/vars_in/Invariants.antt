@@ -1,6 +1,6 @@
 use Rattle.std.proofs.Common.{◌≡◌, ◌≤◌, drop, max}
-use Rattle.sat_base.specs.Literals.{largest}
-use Rattle.sat_base.specs.Formulas.{vars_in}
+use Rattle.sat_base.specs.values.Literals.{largest}
+use Rattle.sat_base.specs.values.Formulas.{vars_in}
 use Rattle.sat_base.proofs.formula.vars_in.Given as goal
 
 abbrev pub invariant-loop-lit : goal.invariant-loop-lit

@@ -1,6 +1,6 @@
 use Rattle.std.proofs.Common.{◌≡◌, drop}
 use Rattle.std.specs.Int.Bits.{bit_xor}
-use Rattle.sat_base.specs.Hashes.{hash_of}
+use Rattle.sat_base.specs.values.Hashes.{hash_of}
 use Rattle.sat_base.proofs.hash.clause_hash.Given as goal
 
 abbrev pub invariant-loop-lit : goal.invariant-loop-lit

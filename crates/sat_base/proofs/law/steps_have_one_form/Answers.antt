@@ -1,4 +1,4 @@
-use Rattle.sat_base.proofs.StepReads.{one_step}
+use Rattle.sat_base.proofs.lemmas.steps.StepReads.{one_step}
 use Rattle.sat_base.proofs.law.steps_have_one_form.Goals as goal
 
 pub returns : goal.returns

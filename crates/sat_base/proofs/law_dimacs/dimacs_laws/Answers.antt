@@ -1,4 +1,4 @@
-use Rattle.sat_base.proofs.DimacsSpellings.{one_formula, clean_if_spelled}
+use Rattle.sat_base.proofs.lemmas.dimacs.DimacsSpellings.{one_formula, clean_if_spelled}
 use Rattle.sat_base.proofs.law_dimacs.dimacs_laws.Goals as goal
 
 pub returns : goal.returns

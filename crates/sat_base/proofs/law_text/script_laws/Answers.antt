@@ -1,5 +1,5 @@
-use Rattle.sat_base.proofs.Spellings.{one_reading, clean_if_spelled}
-use Rattle.sat_base.proofs.RowsRead.{read_rows, malformed_rows}
+use Rattle.sat_base.proofs.lemmas.script.ScriptSpellings.{one_reading, clean_if_spelled}
+use Rattle.sat_base.proofs.lemmas.script.ScriptRowsComputed.{read_rows, malformed_rows}
 use Rattle.sat_base.proofs.law_text.script_laws.Goals as goal
 
 pub returns : goal.returns

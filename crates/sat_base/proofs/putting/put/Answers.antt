@@ -1,7 +1,7 @@
 use Rattle.std.proofs.Common.{refl, subst, arith, add-one}
 use Rattle.std.proofs.Math.Seq.{take-suc-set}
 use Rattle.std.specs.Io.KnownBytes.{Appends}
-use Rattle.sat_base.proofs.Writes.{one_more}
+use Rattle.sat_base.proofs.lemmas.device.Writes.{one_more}
 use Rattle.sat_base.proofs.putting.put.Goals as goal
 
 pub returns : goal.returns

@@ -1,5 +1,5 @@
 use Rattle.std.proofs.Common.{refl}
-use Rattle.sat_base.proofs.TextWrites.{byte_more}
+use Rattle.sat_base.proofs.lemmas.dimacs.TextWrites.{byte_more}
 use Rattle.sat_base.proofs.putting.put_all.Goals as goal
 
 pub loop-byte-preserved : goal.loop-byte-preserved

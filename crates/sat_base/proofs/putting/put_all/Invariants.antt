@@ -1,6 +1,6 @@
 use Rattle.std.proofs.Common.{take}
-use Rattle.sat_base.specs.Writing.{with_pending}
-use Rattle.sat_base.proofs.TextWrites.{HasPut}
+use Rattle.sat_base.specs.device.Writing.{with_pending}
+use Rattle.sat_base.proofs.lemmas.dimacs.TextWrites.{HasPut}
 use Rattle.sat_base.proofs.putting.put_all.Given as goal
 
 abbrev pub invariant-loop-byte : goal.invariant-loop-byte

@@ -1,12 +1,12 @@
 use Rattle.std.proofs.Common.{List, ℕ, ◌^◌, Result, subst}
 use Rattle.std.proofs.lemmas.Result.{err_from_is_err_and}
 use Rattle.sat_base.specs.declared.error.StepError.{StepError}
-use Rattle.sat_base.specs.Formats.{Both}
-use Rattle.sat_base.specs.Numbers.{IsBelow}
-use Rattle.sat_base.specs.StepText.{AreLiterals, AreHashes}
-use Rattle.sat_base.specs.Reading.{source_of, Reads, giving}
-use Rattle.sat_base.proofs.FormatReads.{first_fails, second_gives, pair_giving}
-use Rattle.sat_base.proofs.StepReads.{one_literals, some_list}
+use Rattle.sat_base.specs.steps.Formats.{Both}
+use Rattle.sat_base.specs.steps.Numbers.{IsBelow}
+use Rattle.sat_base.specs.steps.StepText.{AreLiterals, AreHashes}
+use Rattle.sat_base.specs.device.Reading.{source_of, Reads, giving}
+use Rattle.sat_base.proofs.lemmas.steps.FormatReads.{first_fails, second_gives, pair_giving}
+use Rattle.sat_base.proofs.lemmas.steps.StepReads.{one_literals, some_list}
 use Rattle.sat_base.proofs.read_lists.both_lists.Goals as goal
 
 pub returns-in_err-literals : goal.returns-in_err-literals

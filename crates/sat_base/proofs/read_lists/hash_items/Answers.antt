@@ -1,9 +1,9 @@
 use Rattle.std.proofs.Common.{◌+◌, ◌-◌, ◌^◌, arith}
 use Rattle.std.proofs.lemmas.Result.{err_from_is_err_and}
-use Rattle.sat_base.specs.Reading.{source_of}
-use Rattle.sat_base.specs.StepText.{IsHash}
-use Rattle.sat_base.proofs.Numbers.{one_below, some_below}
-use Rattle.sat_base.proofs.FormatReads.{counted_more, counted_fails, counted_no_room, counted_all}
+use Rattle.sat_base.specs.device.Reading.{source_of}
+use Rattle.sat_base.specs.steps.StepText.{IsHash}
+use Rattle.sat_base.proofs.lemmas.steps.Numbers.{one_below, some_below}
+use Rattle.sat_base.proofs.lemmas.steps.FormatReads.{counted_more, counted_fails, counted_no_room, counted_all}
 use Rattle.sat_base.proofs.read_lists.hash_items.Goals as goal
 
 pub returns-in_err-hash : goal.returns-in_err-hash

@@ -1,7 +1,7 @@
 use Rattle.std.proofs.Common.{◌-◌}
-use Rattle.sat_base.specs.StepText.{IsHash}
-use Rattle.sat_base.specs.Reading.{source_of}
-use Rattle.sat_base.proofs.FormatReads.{Counted}
+use Rattle.sat_base.specs.steps.StepText.{IsHash}
+use Rattle.sat_base.specs.device.Reading.{source_of}
+use Rattle.sat_base.proofs.lemmas.steps.FormatReads.{Counted}
 use Rattle.sat_base.proofs.read_lists.hash_items.Given as goal
 
 abbrev pub invariant-loop : goal.invariant-loop

@@ -1,9 +1,9 @@
 use Rattle.std.proofs.Common.{◌^◌, arith}
 use Rattle.std.proofs.lemmas.Result.{err_from_is_err_and}
-use Rattle.sat_base.specs.Numbers.{IsBelow}
-use Rattle.sat_base.specs.Reading.{source_of, giving}
-use Rattle.sat_base.proofs.Numbers.{one_below, some_below}
-use Rattle.sat_base.proofs.FormatReads.{list_fails, list_gives}
+use Rattle.sat_base.specs.steps.Numbers.{IsBelow}
+use Rattle.sat_base.specs.device.Reading.{source_of, giving}
+use Rattle.sat_base.proofs.lemmas.steps.Numbers.{one_below, some_below}
+use Rattle.sat_base.proofs.lemmas.steps.FormatReads.{list_fails, list_gives}
 use Rattle.sat_base.proofs.read_lists.hashes.Goals as goal
 
 pub returns-in_err-count : goal.returns-in_err-count

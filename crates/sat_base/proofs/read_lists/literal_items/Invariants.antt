@@ -1,7 +1,7 @@
 use Rattle.std.proofs.Common.{◌-◌}
-use Rattle.sat_base.specs.StepText.{IsLiteral}
-use Rattle.sat_base.specs.Reading.{source_of}
-use Rattle.sat_base.proofs.FormatReads.{Counted}
+use Rattle.sat_base.specs.steps.StepText.{IsLiteral}
+use Rattle.sat_base.specs.device.Reading.{source_of}
+use Rattle.sat_base.proofs.lemmas.steps.FormatReads.{Counted}
 use Rattle.sat_base.proofs.read_lists.literal_items.Given as goal
 
 abbrev pub invariant-loop : goal.invariant-loop

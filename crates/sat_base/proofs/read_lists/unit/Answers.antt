@@ -1,10 +1,10 @@
 use Rattle.std.proofs.Common.{Ok, Err, ◌*◌, ◌^◌, arith}
 use Rattle.std.proofs.lemmas.Result.{err_from_is_err_and}
-use Rattle.sat_base.specs.Literals.{largest}
-use Rattle.sat_base.specs.StepText.{IsLiteral, IsHash}
-use Rattle.sat_base.specs.Reading.{source_of}
-use Rattle.sat_base.proofs.Numbers.{one_below, some_below}
-use Rattle.sat_base.proofs.FormatReads.{first_fails, second_gives}
+use Rattle.sat_base.specs.values.Literals.{largest}
+use Rattle.sat_base.specs.steps.StepText.{IsLiteral, IsHash}
+use Rattle.sat_base.specs.device.Reading.{source_of}
+use Rattle.sat_base.proofs.lemmas.steps.Numbers.{one_below, some_below}
+use Rattle.sat_base.proofs.lemmas.steps.FormatReads.{first_fails, second_gives}
 use Rattle.sat_base.proofs.read_lists.unit.Goals as goal
 
 pub returns-in_err-lit : goal.returns-in_err-lit

@@ -1,10 +1,10 @@
 use Rattle.std.proofs.Common.{◌+◌, ◌-◌, arith}
 use Rattle.std.proofs.lemmas.Result.{err_from_is_err_and}
-use Rattle.sat_base.specs.Reading.{source_of}
-use Rattle.sat_base.specs.Formats.{Both}
-use Rattle.sat_base.specs.StepText.{IsLiteral, IsHash}
-use Rattle.sat_base.proofs.StepReads.{one_unit, some_unit}
-use Rattle.sat_base.proofs.FormatReads.{counted_more, counted_fails, counted_no_room, counted_all}
+use Rattle.sat_base.specs.device.Reading.{source_of}
+use Rattle.sat_base.specs.steps.Formats.{Both}
+use Rattle.sat_base.specs.steps.StepText.{IsLiteral, IsHash}
+use Rattle.sat_base.proofs.lemmas.steps.StepReads.{one_unit, some_unit}
+use Rattle.sat_base.proofs.lemmas.steps.FormatReads.{counted_more, counted_fails, counted_no_room, counted_all}
 use Rattle.sat_base.proofs.read_lists.unit_items.Goals as goal
 
 pub returns-in_err-unit : goal.returns-in_err-unit

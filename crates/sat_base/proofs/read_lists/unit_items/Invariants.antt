@@ -1,8 +1,8 @@
 use Rattle.std.proofs.Common.{◌-◌}
-use Rattle.sat_base.specs.Formats.{Both}
-use Rattle.sat_base.specs.StepText.{IsLiteral, IsHash}
-use Rattle.sat_base.specs.Reading.{source_of}
-use Rattle.sat_base.proofs.FormatReads.{Counted}
+use Rattle.sat_base.specs.steps.Formats.{Both}
+use Rattle.sat_base.specs.steps.StepText.{IsLiteral, IsHash}
+use Rattle.sat_base.specs.device.Reading.{source_of}
+use Rattle.sat_base.proofs.lemmas.steps.FormatReads.{Counted}
 use Rattle.sat_base.proofs.read_lists.unit_items.Given as goal
 
 abbrev pub invariant-loop : goal.invariant-loop

@@ -1,6 +1,6 @@
 use Rattle.std.proofs.Common.{arith}
 use Rattle.std.proofs.lemmas.Result.{err_from_is_err_and}
-use Rattle.sat_base.proofs.ReadLemmas.{groups_none, groups_stop, groups_zero, groups_zero_bad, groups_last, groups_large, groups_on, groups_more}
+use Rattle.sat_base.proofs.lemmas.device.ReadLemmas.{groups_none, groups_stop, groups_zero, groups_zero_bad, groups_last, groups_large, groups_on, groups_more}
 use Rattle.sat_base.proofs.read_number.number.Goals as goal
 
 pub loop-byte-init : goal.loop-byte-init

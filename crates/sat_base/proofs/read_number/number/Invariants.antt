@@ -1,6 +1,6 @@
 use Rattle.std.proofs.Common.{◌-◌}
-use Rattle.sat_base.specs.Reading.{source_of}
-use Rattle.sat_base.proofs.ReadLemmas.{Groups}
+use Rattle.sat_base.specs.device.Reading.{source_of}
+use Rattle.sat_base.proofs.lemmas.device.ReadLemmas.{Groups}
 use Rattle.sat_base.proofs.read_number.number.Given as goal
 
 abbrev pub invariant-loop-byte : goal.invariant-loop-byte

@@ -1,7 +1,7 @@
 use Rattle.std.proofs.Common.{rules}
-use Rattle.sat_base.specs.Reading.{source_of, valued}
-use Rattle.sat_base.specs.Kinds.{step_with}
-use Rattle.sat_base.proofs.StepReads.{some_byte, unknown_tag, answers_behind}
+use Rattle.sat_base.specs.device.Reading.{source_of, valued}
+use Rattle.sat_base.specs.steps.Kinds.{step_with}
+use Rattle.sat_base.proofs.lemmas.steps.StepReads.{some_byte, unknown_tag, answers_behind}
 use Rattle.sat_base.proofs.read_step.read_step.Goals as goal
 
 pub returns-then-not-is_tag : goal.returns-then-not-is_tag

@@ -1,6 +1,6 @@
-use Rattle.sat_base.specs.StepViews.{step_of}
-use Rattle.sat_base.specs.Writing.{with_pending}
-use Rattle.sat_base.proofs.Writes.{tagged, all_out, emptied}
+use Rattle.sat_base.specs.steps.StepViews.{step_of}
+use Rattle.sat_base.specs.device.Writing.{with_pending}
+use Rattle.sat_base.proofs.lemmas.device.Writes.{tagged, all_out, emptied}
 use Rattle.sat_base.proofs.step_writer.write_step.Goals as goal
 
 pub returns : goal.returns

@@ -1,4 +1,4 @@
-use Rattle.sat_base.proofs.HeaderPlaces.{says_header}
+use Rattle.sat_base.proofs.lemmas.text.HeaderPlaces.{says_header}
 use Rattle.sat_base.proofs.text.header_token.Goals as goal
 
 pub returns-in-Some-Both : goal.returns-in-Some-Both

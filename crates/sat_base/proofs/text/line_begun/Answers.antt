@@ -1,6 +1,6 @@
 use Rattle.std.proofs.Common.{arith}
 use Rattle.std.proofs.lemmas.Bool.Decides.{nat_tests}
-use Rattle.sat_base.proofs.Places.{moves_comment, moves_end, moves_header, moves_late_header, moves_word}
+use Rattle.sat_base.proofs.lemmas.text.Places.{moves_comment, moves_end, moves_header, moves_late_header, moves_word}
 use Rattle.sat_base.proofs.text.line_begun.Goals as goal
 
 pub returns-then-byte-eq99 : goal.returns-then-byte-eq99

@@ -1,4 +1,4 @@
-use Rattle.sat_base.proofs.Places.{moves_fresh, moves_between, moves_in_comment, moves_letter, moves_bad, moves_spoilt, moves_over}
+use Rattle.sat_base.proofs.lemmas.text.Places.{moves_fresh, moves_between, moves_in_comment, moves_letter, moves_bad, moves_spoilt, moves_over}
 use Rattle.sat_base.proofs.text.next.Goals as goal
 
 pub returns-in-Between : goal.returns-in-Between

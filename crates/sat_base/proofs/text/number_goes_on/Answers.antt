@@ -1,4 +1,4 @@
-use Rattle.sat_base.proofs.Places.{moves_digit, moves_digits_bad}
+use Rattle.sat_base.proofs.lemmas.text.Places.{moves_digit, moves_digits_bad}
 use Rattle.sat_base.proofs.text.number_goes_on.Goals as goal
 
 pub returns-then-is_digit : goal.returns-then-is_digit

@@ -1,5 +1,5 @@
 use Rattle.std.proofs.Common.{arith}
-use Rattle.sat_base.proofs.Places.{says_minus, says_bad, says_letter, says_zero, says_number}
+use Rattle.sat_base.proofs.lemmas.text.Places.{says_minus, says_bad, says_letter, says_zero, says_number}
 use Rattle.sat_base.proofs.text.token_in.Goals as goal
 use Rattle.sat_base.proofs.text.token_in.Goals.{else-negative-via-then-negative+else-value-eq0, else-negative-via-else-negative}
 

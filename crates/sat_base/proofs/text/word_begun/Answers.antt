@@ -1,5 +1,5 @@
 use Rattle.std.proofs.Common.{refl, []}
-use Rattle.sat_base.proofs.Words.{SpellsHeld_one, no_minus_digit, no_letter_digit, BeginsWrong_first}
+use Rattle.sat_base.proofs.lemmas.text.Words.{SpellsHeld_one, no_minus_digit, no_letter_digit, BeginsWrong_first}
 use Rattle.sat_base.proofs.text.word_begun.Goals as goal
 
 pub returns-then-is_digit : goal.returns-then-is_digit

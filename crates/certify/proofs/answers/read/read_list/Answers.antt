@@ -2,7 +2,7 @@ use Rattle.std.proofs.Common.{ℕ, ◌≡◌, ◌≢◌, ◌++◌, [], List, Opt
 use Rattle.std.proofs.lemmas.Grind.{common_steps}
 use Rattle.std.proofs.lemmas.Result.{err_from_is_err_and}
 use Rattle.std.specs.Option.{ok_or}
-use Rattle.sat_base.specs.Script.{Literal}
+use Rattle.sat_base.specs.script.Script.{Literal}
 use Rattle.certify.specs.Answers.{literals_text}
 use Rattle.certify.specs.AnswerForms.{IsInForm, named_literals}
 use Rattle.certify.specs.AnswerReading.{IsHead, NoLine, NoLiterals, outcome_of, second_line}

@@ -2,7 +2,7 @@ use Rattle.std.proofs.Common.{ℕ, ◌+◌, ◌<◌, ◌≤◌, ◌≡◌, ◌++
 use Rattle.std.proofs.lemmas.List.{map-append}
 use Rattle.std.proofs.lemmas.Result.{err_from_is_err_and}
 use Rattle.std.specs.Option.{ok_or}
-use Rattle.sat_base.specs.Script.{Literal, names_of, InOrder}
+use Rattle.sat_base.specs.script.Script.{Literal, names_of, InOrder}
 use Rattle.certify.specs.Answers.{literals_text, word_of}
 use Rattle.certify.specs.AnswerForms.{HaveNames, IsIncreasing, IsInForm, IsName, IsOrdered, named_literal, named_literals}
 use Rattle.certify.specs.AnswerReading.{HasLine, NoLiteral, NoLiterals, outcome_of, place_in}

@@ -1,5 +1,5 @@
 use Rattle.std.proofs.Common.{ℕ, List, [], ◌∷◌, ◌≡◌, ◌++◌, ◌↔◌, length, map}
-use Rattle.sat_base.specs.Script.{Literal}
+use Rattle.sat_base.specs.script.Script.{Literal}
 use Rattle.certify.specs.Answers.{word_of}
 use Rattle.certify.specs.AnswerForms.{named_literals}
 use Rattle.certify.specs.AnswerReading.{place_in}

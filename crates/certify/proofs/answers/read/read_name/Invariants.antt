@@ -1,5 +1,5 @@
 use Rattle.std.proofs.Common.{◌≡◌, ◌≤◌, ◌++◌, drop}
-use Rattle.sat_base.specs.Literals.{largest}
+use Rattle.sat_base.specs.values.Literals.{largest}
 use Rattle.certify.specs.AnswerReading.{digits_so_far}
 use Rattle.certify.proofs.answers.read.read_name.Given as goal
 

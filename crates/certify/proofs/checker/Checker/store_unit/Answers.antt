@@ -1,5 +1,5 @@
 use Rattle.std.proofs.Common.{ap, ◌∙◌, refl, true, false}
-use Rattle.sat_base.specs.Literals.{negated}
+use Rattle.sat_base.specs.values.Literals.{negated}
 use Rattle.certify.specs.Propagation.{is_among}
 use Rattle.certify.proofs.CheckerKeeping.{keeps_by, units_has, units_more, unit_had, unit_clash, unit_new}
 use Rattle.certify.proofs.checker.Checker.store_unit.Goals as goal

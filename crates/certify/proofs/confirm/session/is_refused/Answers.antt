@@ -1,6 +1,6 @@
 use Rattle.std.proofs.Common.{◌≤◌, ◌<◌, ◌∙◌, get_or, ap, arith}
-use Rattle.sat_base.specs.Literals.{largest}
-use Rattle.sat_base.specs.Script.{Literal}
+use Rattle.sat_base.specs.values.Literals.{largest}
+use Rattle.sat_base.specs.script.Script.{Literal}
 use Rattle.certify.proofs.Listing.{past_limit, within_limit}
 use Rattle.certify.proofs.confirm.session.is_refused.Goals as goal
 

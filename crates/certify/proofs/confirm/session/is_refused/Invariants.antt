@@ -1,6 +1,6 @@
 use Rattle.std.proofs.Common.{take, None, ◌≡◌}
-use Rattle.sat_base.specs.Script.{names_of}
-use Rattle.sat_base.specs.Judge.{refused_name}
+use Rattle.sat_base.specs.script.Script.{names_of}
+use Rattle.sat_base.specs.script.Judge.{refused_name}
 use Rattle.certify.proofs.confirm.session.is_refused.Given as goal
 
 abbrev pub invariant-loop-literal : goal.invariant-loop-literal

@@ -1,7 +1,7 @@
 use Rattle.std.proofs.Common.{◌≡◌, ◌≤◌, ◌<◌, ◌-◌, length, get_or, sym, ◌∙◌, ap, subst, arith}
 use Rattle.std.specs.Bool.{MatchBool}
 use mathlib.Core.Bool.{beq}
-use Rattle.sat_base.specs.Script.{Literal, Among}
+use Rattle.sat_base.specs.script.Script.{Literal, Among}
 use Rattle.certify.proofs.Listing.{has_zero, has_past, has_answer}
 use Rattle.certify.proofs.confirm.spell.has.Goals as goal
 

@@ -1,7 +1,7 @@
 use Rattle.std.proofs.Common.{take, length, ◌≡◌}
 use Rattle.std.specs.List.{AllByRecursion}
-use Rattle.sat_base.specs.Script.{Among, names_of}
-use Rattle.sat_base.specs.Judge.{names_from}
+use Rattle.sat_base.specs.script.Script.{Among, names_of}
+use Rattle.sat_base.specs.script.Judge.{names_from}
 use Rattle.certify.proofs.confirm.spell.has_all.Given as goal
 
 abbrev pub invariant-loop-literal : goal.invariant-loop-literal

@@ -1,8 +1,8 @@
 use Rattle.std.proofs.Common.{◌≡◌, subst}
 use Rattle.std.specs.Bool.{MatchBool}
 use Rattle.std.specs.List.{AllByRecursion}
-use Rattle.sat_base.specs.Script.{Among, names_of}
-use Rattle.sat_base.specs.Judge.{names_from}
+use Rattle.sat_base.specs.script.Script.{Among, names_of}
+use Rattle.sat_base.specs.script.Judge.{names_from}
 use Rattle.certify.proofs.Sets.{both_so, first_not}
 use Rattle.certify.proofs.Listing.{all_named}
 use Rattle.certify.proofs.confirm.spell.is_line.Goals as goal

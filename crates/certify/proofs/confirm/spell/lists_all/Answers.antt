@@ -1,5 +1,5 @@
 use Rattle.std.proofs.Common.{eqb, length, refl, sym, ◌∙◌, ap}
-use Rattle.sat_base.specs.Script.{Literal}
+use Rattle.sat_base.specs.script.Script.{Literal}
 use Rattle.certify.proofs.Listing.{lists_not, lists_more, lists_end}
 use Rattle.certify.proofs.confirm.spell.lists_all.Goals as goal
 

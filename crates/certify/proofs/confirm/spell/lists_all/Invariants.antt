@@ -1,6 +1,6 @@
 use Rattle.std.proofs.Common.{take, ◌≡◌}
-use Rattle.sat_base.specs.Script.{names_of}
-use Rattle.sat_base.specs.Judge.{names_from}
+use Rattle.sat_base.specs.script.Script.{names_of}
+use Rattle.sat_base.specs.script.Judge.{names_from}
 use Rattle.certify.proofs.confirm.spell.lists_all.Given as goal
 
 abbrev pub invariant-loop-i : goal.invariant-loop-i

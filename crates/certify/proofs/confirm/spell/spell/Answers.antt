@@ -1,6 +1,6 @@
 use Rattle.std.proofs.Common.{◌≡◌, Some, sym, ◌∙◌, ap, subst}
-use Rattle.sat_base.specs.Literals.{coded}
-use Rattle.sat_base.specs.Script.{Literal}
+use Rattle.sat_base.specs.values.Literals.{coded}
+use Rattle.sat_base.specs.script.Script.{Literal}
 use Rattle.certify.specs.Confirming.{variable_in}
 use Rattle.certify.proofs.Sets.{spelt_loop}
 use Rattle.certify.proofs.confirm.spell.spell.Goals as goal

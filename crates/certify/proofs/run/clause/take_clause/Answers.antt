@@ -1,7 +1,7 @@
 use Rattle.std.proofs.Common.{◌≡◌, ◌∙◌, map, true, false, arith, rules}
 use Rattle.std.proofs.lemmas.Grind.{common_steps}
 use Rattle.certify.specs.Kept.{IsNormalOf}
-use Rattle.sat_base.specs.Script.{names_of}
+use Rattle.sat_base.specs.script.Script.{names_of}
 use Rattle.certify.specs.Running.{code_of, raised}
 use Rattle.certify.proofs.SolverHolds.{takes_then}
 use Rattle.certify.proofs.NameLists.{codes_bounded}

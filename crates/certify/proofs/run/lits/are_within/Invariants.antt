@@ -1,5 +1,5 @@
 use Rattle.std.proofs.Common.{◌≡◌, drop}
-use Rattle.sat_base.specs.Script.{names_of}
+use Rattle.sat_base.specs.script.Script.{names_of}
 use Rattle.certify.specs.Running.{are_within}
 use Rattle.certify.proofs.run.lits.are_within.Given as goal
 

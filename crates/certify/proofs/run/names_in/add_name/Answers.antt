@@ -1,5 +1,5 @@
 use Rattle.std.proofs.Common.{ℕ, [], ◌∷◌, Some, ap}
-use Rattle.sat_base.specs.Steps.{UserVarName}
+use Rattle.sat_base.specs.steps.Steps.{UserVarName}
 use Rattle.certify.proofs.SolverHolds.{same_variable}
 use Rattle.certify.proofs.Writing.{wrote_as, wrote_step}
 use Rattle.certify.proofs.run.names_in.add_name.Goals as goal

@@ -1,6 +1,6 @@
 use Rattle.std.proofs.Common.{◌≡◌, sym, ap, ◌∙◌, ◌+◌, max, arith, [], drop}
 use Rattle.std.proofs.Math.ListN.{drop_of_length-le}
-use Rattle.sat_base.specs.Script.{names_of}
+use Rattle.sat_base.specs.script.Script.{names_of}
 use Rattle.certify.specs.Running.{raised}
 use Rattle.certify.proofs.SolverHolds.{same_then}
 use Rattle.certify.proofs.Writing.{wrote_names}

@@ -1,5 +1,5 @@
 use Rattle.std.proofs.Common.{◌≡◌, ◌≤◌, ◌-◌, drop, true}
-use Rattle.sat_base.specs.Script.{names_of}
+use Rattle.sat_base.specs.script.Script.{names_of}
 use Rattle.certify.specs.Held.{HoldsSame}
 use Rattle.certify.specs.Running.{Wrote, naming, raised, are_within}
 use Rattle.certify.proofs.run.names_in.bring_all.Given as goal

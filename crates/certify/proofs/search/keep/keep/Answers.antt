@@ -1,7 +1,7 @@
 use Rattle.std.proofs.Common.{◌≡◌, ◌<◌, ◌++◌, ◌∷◌, [], true, Some, length, set, sym, subst, arith}
 use Rattle.std.proofs.lemmas.Bool.Decides.{nat_tests}
 use Rattle.std.proofs.lemmas.List.{get_or_read}
-use Rattle.sat_base.specs.Literals.{is_positive, variable}
+use Rattle.sat_base.specs.values.Literals.{is_positive, variable}
 use Rattle.certify.specs.Search.{value_of, is_false}
 use Rattle.certify.specs.Kept.{UnitsFollow}
 use Rattle.certify.proofs.SearchKeeping.{keeps_contradiction, units_set}

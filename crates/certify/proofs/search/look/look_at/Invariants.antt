@@ -1,6 +1,6 @@
 use Rattle.std.proofs.Common.{◌≡◌, ◌<◌, ◌++◌, drop, length}
 use Rattle.std.specs.Option.{option_to_list, IfSome}
-use Rattle.sat_base.specs.Literals.{variable}
+use Rattle.sat_base.specs.values.Literals.{variable}
 use Rattle.certify.specs.Search.{not_false}
 use Rattle.certify.proofs.search.look.look_at.Given as goal
 

@@ -1,6 +1,6 @@
 use Rattle.std.proofs.Common.{◌≡◌, ◌<◌, ◌++◌, ◌∷◌, [], true, false, Some, length, set, subst, sym, arith}
 use Rattle.std.proofs.lemmas.List.{length-set}
-use Rattle.sat_base.specs.Literals.{coded}
+use Rattle.sat_base.specs.values.Literals.{coded}
 use Rattle.certify.specs.Search.{FollowsDenied, IsBounded, IsLowestOpen}
 use Rattle.certify.proofs.SearchDecisions.{denied_further, denied_decided, bounded_decided}
 use Rattle.certify.proofs.search.propagate.search.Goals as goal

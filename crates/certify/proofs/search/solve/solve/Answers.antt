@@ -1,7 +1,7 @@
 use Rattle.std.proofs.Common.{◌≡◌, ◌≢◌, ◌<◌, ◌-◌, ◌^◌, ◌∙◌, true, false, subst, arith, rules}
 use Rattle.std.proofs.lemmas.Bool.{not-true, not-false}
 use Rattle.std.proofs.lemmas.Bool.Decides.{nat_tests}
-use Rattle.sat_base.specs.Writing.{written_by}
+use Rattle.sat_base.specs.device.Writing.{written_by}
 use Rattle.certify.specs.Held.{RoundSays}
 use Rattle.certify.specs.Solved.{WritesDerived}
 use Rattle.certify.proofs.SearchAsking.{asking_unsat, asking_sat, asking_more}

@@ -1,5 +1,5 @@
 use Rattle.std.proofs.Common.{◌-◌}
-use Rattle.sat_base.specs.Writing.{written_by}
+use Rattle.sat_base.specs.device.Writing.{written_by}
 use Rattle.certify.proofs.SearchAsking.{Asking}
 use Rattle.certify.proofs.search.solve.solve.Given as goal
 

@@ -1,5 +1,5 @@
 use Rattle.std.proofs.Common.{subst, sym}
-use Rattle.sat_base.specs.Writing.{written_by}
+use Rattle.sat_base.specs.device.Writing.{written_by}
 use Rattle.certify.specs.Search.{IsBounded}
 use Rattle.certify.proofs.SearchAsking.{one_derived}
 use Rattle.certify.proofs.search.solve.write_learned.Goals as goal

@@ -1,5 +1,5 @@
 use Rattle.std.proofs.Common.{◌∙◌}
-use Rattle.sat_base.proofs.Known.{appends_next, within_next, took_some}
+use Rattle.sat_base.proofs.lemmas.device.Known.{appends_next, within_next, took_some}
 use Rattle.sat_base.proofs.device.CountedWrite.write_all_counted.Goals as goal
 
 pub loop-written-preserved : goal.loop-written-preserved

@@ -1,9 +1,9 @@
 use Rattle.std.proofs.Common.{ℕ, List, ◌++◌, inl, inr, ap, ◌∙◌, append_assoc, take, rules}
 use Rattle.std.proofs.lemmas.Result.{err_from_is_err_and}
-use Rattle.sat_base.specs.Device.{GaveAll}
-use Rattle.sat_base.specs.Parsing.{Progress}
-use Rattle.sat_base.proofs.Known.{consumes_more}
-use Rattle.sat_base.proofs.Parsed.{parse_stops, stops_on, ends_by, stands_of, consumed_still}
+use Rattle.sat_base.specs.device.Device.{GaveAll}
+use Rattle.sat_base.specs.dimacs.Parsing.{Progress}
+use Rattle.sat_base.proofs.lemmas.device.Known.{consumes_more}
+use Rattle.sat_base.proofs.lemmas.dimacs.Parsed.{parse_stops, stops_on, ends_by, stands_of, consumed_still}
 use Rattle.sat_base.proofs.dimacs.DimacsParser.parse.Goals as goal
 
 pub returns-in_err-feed-in-Ok-clause-parsed : goal.returns-in_err-feed-in-Ok-clause-parsed

@@ -1,6 +1,6 @@
 use Rattle.std.proofs.Common.{◌≡◌, ◌+◌, ◌++◌, List, ℕ}
 use Rattle.std.specs.Io.KnownBytes.{Consumes}
-use Rattle.sat_base.specs.Parsing.{no_progress, with_fed}
+use Rattle.sat_base.specs.dimacs.Parsing.{no_progress, with_fed}
 use Rattle.sat_base.proofs.dimacs.DimacsParser.parse.Given as goal
 
 abbrev pub invariant-loop : goal.invariant-loop

@@ -1,8 +1,8 @@
 use Rattle.std.proofs.Common.{[], ◌∷◌, ◌++◌, inl, inr, refl, ap, take, rules, of_calls, arith}
 use Rattle.std.specs.List.{concat}
-use Rattle.sat_base.specs.Device.{IsOver}
-use Rattle.sat_base.specs.Parsing.{Progress, Calls, KeepsText, FeedsAndVisits}
-use Rattle.sat_base.proofs.Parsed.{folds_more, keeps_next, front_more, front_joined, front_still, front_alone, took_nothing, all_given, parts_clean, stops_on, ends_by, piece_given, took_none, feeding_stops, finishing_stops, finishes_clean, fed_and_kept}
+use Rattle.sat_base.specs.device.Device.{IsOver}
+use Rattle.sat_base.specs.dimacs.Parsing.{Progress, Calls, KeepsText, FeedsAndVisits}
+use Rattle.sat_base.proofs.lemmas.dimacs.Parsed.{folds_more, keeps_next, front_more, front_joined, front_still, front_alone, took_nothing, all_given, parts_clean, stops_on, ends_by, piece_given, took_none, feeding_stops, finishing_stops, finishes_clean, fed_and_kept}
 use Rattle.sat_base.proofs.dimacs.DimacsParser.parse_incremental.Given as given
 use Rattle.sat_base.proofs.dimacs.DimacsParser.parse_incremental.Goals as goal
 

@@ -1,9 +1,9 @@
 use Rattle.std.proofs.Common.{◌≡◌, ◌+◌, List, ℕ}
 use Rattle.std.specs.List.{FoldsTo, concat}
 use denote.Param.Always.{always_mut}
-use Rattle.sat_base.specs.Device.{GaveFront}
-use Rattle.sat_base.specs.Parsing.{no_progress, KeepsText, FeedsAndVisits}
-use Rattle.sat_base.proofs.Parsed.{Stands}
+use Rattle.sat_base.specs.device.Device.{GaveFront}
+use Rattle.sat_base.specs.dimacs.Parsing.{no_progress, KeepsText, FeedsAndVisits}
+use Rattle.sat_base.proofs.lemmas.dimacs.Parsed.{Stands}
 use Rattle.sat_base.proofs.dimacs.DimacsParser.parse_incremental.Given as goal
 
 abbrev pub invariant-loop : goal.invariant-loop

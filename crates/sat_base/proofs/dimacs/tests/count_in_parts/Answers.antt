@@ -1,5 +1,5 @@
 use Rattle.std.proofs.Common.{rules}
-use Rattle.sat_base.proofs.Parsed.{keeps_always, counted_of}
+use Rattle.sat_base.proofs.lemmas.dimacs.Parsed.{keeps_always, counted_of}
 use Rattle.sat_base.proofs.dimacs.tests.count_in_parts.Goals as goal
 
 pub returns : goal.returns

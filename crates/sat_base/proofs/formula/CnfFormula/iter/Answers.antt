@@ -1,4 +1,4 @@
-use Rattle.sat_base.proofs.FlatLemmas.{clauses_in_order}
+use Rattle.sat_base.proofs.lemmas.values.FlatLemmas.{clauses_in_order}
 use Rattle.sat_base.proofs.formula.CnfFormula.iter.Goals as goal
 
 pub returns-clause-runs : goal.returns-clause-runs

@@ -1,6 +1,6 @@
 use Rattle.std.proofs.Common.{ap, arith}
-use Rattle.sat_base.specs.Formulas.{vars_of}
-use Rattle.sat_base.proofs.FlatLemmas.{vars_of_more}
+use Rattle.sat_base.specs.values.Formulas.{vars_of}
+use Rattle.sat_base.proofs.lemmas.values.FlatLemmas.{vars_of_more}
 use Rattle.sat_base.proofs.formula.CnfFormulaExtendFormula.add_clause.Goals as goal
 
 pub invariant_of-self-2 : goal.invariant_of-self-2

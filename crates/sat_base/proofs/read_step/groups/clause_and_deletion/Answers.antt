@@ -1,13 +1,13 @@
 use Rattle.std.proofs.Common.{List, ℕ, Result, subst}
 use Rattle.std.proofs.lemmas.Result.{err_from_is_err_and}
 use Rattle.sat_base.specs.declared.error.StepError.{StepError}
-use Rattle.sat_base.specs.Formats.{Both}
-use Rattle.sat_base.specs.Steps.{Deletion}
-use Rattle.sat_base.specs.StepViews.{deletion_of}
-use Rattle.sat_base.specs.StepText.{IsDeletion, AreLiterals}
-use Rattle.sat_base.specs.Reading.{source_of, Reads, valued}
-use Rattle.sat_base.proofs.FormatReads.{first_fails, second_gives, pair_valued}
-use Rattle.sat_base.proofs.StepReads.{one_literals, some_deletion}
+use Rattle.sat_base.specs.steps.Formats.{Both}
+use Rattle.sat_base.specs.steps.Steps.{Deletion}
+use Rattle.sat_base.specs.steps.StepViews.{deletion_of}
+use Rattle.sat_base.specs.steps.StepText.{IsDeletion, AreLiterals}
+use Rattle.sat_base.specs.device.Reading.{source_of, Reads, valued}
+use Rattle.sat_base.proofs.lemmas.steps.FormatReads.{first_fails, second_gives, pair_valued}
+use Rattle.sat_base.proofs.lemmas.steps.StepReads.{one_literals, some_deletion}
 use Rattle.sat_base.proofs.read_step.groups.clause_and_deletion.Goals as goal
 
 pub returns-in_err-literals : goal.returns-in_err-literals

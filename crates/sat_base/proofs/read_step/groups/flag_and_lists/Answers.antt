@@ -1,10 +1,10 @@
 use Rattle.std.proofs.Common.{Ok, Err}
 use Rattle.std.proofs.lemmas.Result.{err_from_is_err_and}
-use Rattle.sat_base.specs.Formats.{Both}
-use Rattle.sat_base.specs.StepText.{IsFlag, AreLiterals, AreHashes}
-use Rattle.sat_base.specs.Reading.{source_of}
-use Rattle.sat_base.proofs.FormatReads.{first_fails, second_gives}
-use Rattle.sat_base.proofs.StepReads.{one_flag, some_lists}
+use Rattle.sat_base.specs.steps.Formats.{Both}
+use Rattle.sat_base.specs.steps.StepText.{IsFlag, AreLiterals, AreHashes}
+use Rattle.sat_base.specs.device.Reading.{source_of}
+use Rattle.sat_base.proofs.lemmas.steps.FormatReads.{first_fails, second_gives}
+use Rattle.sat_base.proofs.lemmas.steps.StepReads.{one_flag, some_lists}
 use Rattle.sat_base.proofs.read_step.groups.flag_and_lists.Goals as goal
 
 pub returns-in_err-flag : goal.returns-in_err-flag

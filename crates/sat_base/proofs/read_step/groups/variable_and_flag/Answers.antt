@@ -1,11 +1,11 @@
 use Rattle.std.proofs.Common.{Ok, Err}
 use Rattle.std.proofs.lemmas.Result.{err_from_is_err_and}
-use Rattle.sat_base.specs.Literals.{largest}
-use Rattle.sat_base.specs.StepText.{IsVariable, IsFlag}
-use Rattle.sat_base.specs.Reading.{source_of}
-use Rattle.sat_base.proofs.Numbers.{one_below}
-use Rattle.sat_base.proofs.FormatReads.{first_fails, second_gives}
-use Rattle.sat_base.proofs.StepReads.{some_flag}
+use Rattle.sat_base.specs.values.Literals.{largest}
+use Rattle.sat_base.specs.steps.StepText.{IsVariable, IsFlag}
+use Rattle.sat_base.specs.device.Reading.{source_of}
+use Rattle.sat_base.proofs.lemmas.steps.Numbers.{one_below}
+use Rattle.sat_base.proofs.lemmas.steps.FormatReads.{first_fails, second_gives}
+use Rattle.sat_base.proofs.lemmas.steps.StepReads.{some_flag}
 use Rattle.sat_base.proofs.read_step.groups.variable_and_flag.Goals as goal
 
 pub returns-in_err-var : goal.returns-in_err-var

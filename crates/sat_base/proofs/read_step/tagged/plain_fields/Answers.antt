@@ -1,6 +1,6 @@
 use Rattle.std.proofs.lemmas.Result.{err_from_is_err_and}
-use Rattle.sat_base.specs.Reading.{source_of}
-use Rattle.sat_base.proofs.TagForms.{stops_behind, solver_form, user_form, variable_form, mode_form, width_form}
+use Rattle.sat_base.specs.device.Reading.{source_of}
+use Rattle.sat_base.proofs.lemmas.steps.TagForms.{stops_behind, solver_form, user_form, variable_form, mode_form, width_form}
 use Rattle.sat_base.proofs.read_step.tagged.plain_fields.Goals as goal
 
 pub returns-in_err-global : goal.returns-in_err-global

@@ -1,6 +1,6 @@
 use Rattle.std.proofs.lemmas.Result.{err_from_is_err_and}
-use Rattle.sat_base.specs.Reading.{source_of}
-use Rattle.sat_base.proofs.StepReads.{deletion_fails}
+use Rattle.sat_base.specs.device.Reading.{source_of}
+use Rattle.sat_base.proofs.lemmas.steps.StepReads.{deletion_fails}
 use Rattle.sat_base.proofs.read_step.values.deletion.Goals as goal
 
 pub returns-in_err-code : goal.returns-in_err-code

@@ -1,6 +1,6 @@
-use Rattle.sat_base.specs.StepText.{IsDeletion, AreLiterals}
-use Rattle.sat_base.specs.StepViews.{deletion_of}
-use Rattle.sat_base.proofs.Writes.{one_then_other}
+use Rattle.sat_base.specs.steps.StepText.{IsDeletion, AreLiterals}
+use Rattle.sat_base.specs.steps.StepViews.{deletion_of}
+use Rattle.sat_base.proofs.lemmas.device.Writes.{one_then_other}
 use Rattle.sat_base.proofs.step_writer.groups.put_deletion.Goals as goal
 
 pub returns : goal.returns

@@ -1,6 +1,6 @@
-use Rattle.sat_base.specs.Formats.{Both}
-use Rattle.sat_base.specs.StepText.{IsFlag, AreLiterals, AreHashes}
-use Rattle.sat_base.proofs.Writes.{one_then_other}
+use Rattle.sat_base.specs.steps.Formats.{Both}
+use Rattle.sat_base.specs.steps.StepText.{IsFlag, AreLiterals, AreHashes}
+use Rattle.sat_base.proofs.lemmas.device.Writes.{one_then_other}
 use Rattle.sat_base.proofs.step_writer.groups.put_derived.Goals as goal
 
 pub returns : goal.returns

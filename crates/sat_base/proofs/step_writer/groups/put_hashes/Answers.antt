@@ -1,6 +1,6 @@
 use Rattle.std.proofs.Common.{refl}
-use Rattle.sat_base.specs.StepText.{IsHash}
-use Rattle.sat_base.proofs.Writes.{list_more}
+use Rattle.sat_base.specs.steps.StepText.{IsHash}
+use Rattle.sat_base.proofs.lemmas.device.Writes.{list_more}
 use Rattle.sat_base.proofs.step_writer.groups.put_hashes.Goals as goal
 
 pub loop-hash-preserved : goal.loop-hash-preserved

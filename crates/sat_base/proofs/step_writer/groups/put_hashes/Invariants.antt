@@ -1,6 +1,6 @@
-use Rattle.sat_base.specs.StepText.{IsHash}
-use Rattle.sat_base.specs.Writing.{with_pending}
-use Rattle.sat_base.proofs.Writes.{ListPut}
+use Rattle.sat_base.specs.steps.StepText.{IsHash}
+use Rattle.sat_base.specs.device.Writing.{with_pending}
+use Rattle.sat_base.proofs.lemmas.device.Writes.{ListPut}
 use Rattle.sat_base.proofs.step_writer.groups.put_hashes.Given as goal
 
 abbrev pub invariant-loop-hash : goal.invariant-loop-hash

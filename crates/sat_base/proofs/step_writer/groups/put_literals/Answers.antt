@@ -1,5 +1,5 @@
-use Rattle.sat_base.specs.StepText.{IsLiteral}
-use Rattle.sat_base.proofs.Writes.{list_more}
+use Rattle.sat_base.specs.steps.StepText.{IsLiteral}
+use Rattle.sat_base.proofs.lemmas.device.Writes.{list_more}
 use Rattle.sat_base.proofs.step_writer.groups.put_literals.Goals as goal
 
 pub loop-lit-preserved : goal.loop-lit-preserved

@@ -1,6 +1,6 @@
-use Rattle.sat_base.specs.StepText.{IsLiteral}
-use Rattle.sat_base.specs.Writing.{with_pending}
-use Rattle.sat_base.proofs.Writes.{ListPut}
+use Rattle.sat_base.specs.steps.StepText.{IsLiteral}
+use Rattle.sat_base.specs.device.Writing.{with_pending}
+use Rattle.sat_base.proofs.lemmas.device.Writes.{ListPut}
 use Rattle.sat_base.proofs.step_writer.groups.put_literals.Given as goal
 
 abbrev pub invariant-loop-lit : goal.invariant-loop-lit

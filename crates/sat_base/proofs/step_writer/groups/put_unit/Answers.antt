@@ -1,5 +1,5 @@
-use Rattle.sat_base.specs.StepText.{IsLiteral, IsHash}
-use Rattle.sat_base.proofs.Writes.{one_then_other}
+use Rattle.sat_base.specs.steps.StepText.{IsLiteral, IsHash}
+use Rattle.sat_base.proofs.lemmas.device.Writes.{one_then_other}
 use Rattle.sat_base.proofs.step_writer.groups.put_unit.Goals as goal
 
 pub returns : goal.returns

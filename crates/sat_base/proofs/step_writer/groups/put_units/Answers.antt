@@ -1,6 +1,6 @@
-use Rattle.sat_base.specs.Formats.{Both}
-use Rattle.sat_base.specs.StepText.{IsLiteral, IsHash}
-use Rattle.sat_base.proofs.Writes.{list_more}
+use Rattle.sat_base.specs.steps.Formats.{Both}
+use Rattle.sat_base.specs.steps.StepText.{IsLiteral, IsHash}
+use Rattle.sat_base.proofs.lemmas.device.Writes.{list_more}
 use Rattle.sat_base.proofs.step_writer.groups.put_units.Goals as goal
 
 pub loop-unit-preserved : goal.loop-unit-preserved

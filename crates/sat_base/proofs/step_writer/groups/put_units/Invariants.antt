@@ -1,7 +1,7 @@
-use Rattle.sat_base.specs.Formats.{Both}
-use Rattle.sat_base.specs.StepText.{IsLiteral, IsHash}
-use Rattle.sat_base.specs.Writing.{with_pending}
-use Rattle.sat_base.proofs.Writes.{ListPut}
+use Rattle.sat_base.specs.steps.Formats.{Both}
+use Rattle.sat_base.specs.steps.StepText.{IsLiteral, IsHash}
+use Rattle.sat_base.specs.device.Writing.{with_pending}
+use Rattle.sat_base.proofs.lemmas.device.Writes.{ListPut}
 use Rattle.sat_base.proofs.step_writer.groups.put_units.Given as goal
 
 abbrev pub invariant-loop-unit : goal.invariant-loop-unit

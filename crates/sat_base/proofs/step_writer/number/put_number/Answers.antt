@@ -1,5 +1,5 @@
 use Rattle.std.proofs.Common.{◌/◌, ◌%◌, arith}
-use Rattle.sat_base.proofs.Writes.{groups_none, groups_more, groups_all}
+use Rattle.sat_base.proofs.lemmas.device.Writes.{groups_none, groups_more, groups_all}
 use Rattle.sat_base.proofs.step_writer.number.put_number.Goals as goal
 
 pub loop-rest-init : goal.loop-rest-init

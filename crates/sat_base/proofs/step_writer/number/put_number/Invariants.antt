@@ -1,5 +1,5 @@
-use Rattle.sat_base.specs.Writing.{with_pending}
-use Rattle.sat_base.proofs.Writes.{GroupsPut}
+use Rattle.sat_base.specs.device.Writing.{with_pending}
+use Rattle.sat_base.proofs.lemmas.device.Writes.{GroupsPut}
 use Rattle.sat_base.proofs.step_writer.number.put_number.Given as goal
 
 abbrev pub invariant-loop-rest : goal.invariant-loop-rest

@@ -15,7 +15,7 @@ use denote.Signature.{plain, types_at}
 use denote.Steps.{nothing}
 use denote.Triple.Entry.{alive}
 use denote.Triple.Walked.{Stays, walk_of, says, stay_dropped, Goes-dropped, ends_at}
-use Rattle.sat_base.proofs.Makers.{no_bytes, makes_empty}
+use Rattle.sat_base.proofs.lemmas.device.Makers.{no_bytes, makes_empty}
 use Rattle.sat_base.specs.contracts.tally.Tally as tally
 use Rattle.sat_base.specs.contracts.tally.Tally.and_failure as f
 use Rattle.sat_base.proofs.tally.Tally.and_failure.Statement.{statement}

@@ -16,7 +16,7 @@ use denote.Slice.{shr_slice_vals, shr_slice_Tells}
 use denote.Steps.{nothing}
 use denote.Triple.Entry.{alive}
 use denote.Triple.Walked.{Stays, walk_of, says, stay_dropped, Goes-dropped, ends_at}
-use Rattle.sat_base.proofs.Makers.{no_bytes, makes_empty}
+use Rattle.sat_base.proofs.lemmas.device.Makers.{no_bytes, makes_empty}
 use Rattle.sat_base.specs.contracts.tally.Tally as tally
 use Rattle.sat_base.specs.contracts.tally.Tally.and_read as f
 use Rattle.sat_base.proofs.tally.Tally.and_read.Statement.{statement}

@@ -1,5 +1,5 @@
 use Rattle.std.proofs.Common.{refl}
-use Rattle.sat_base.proofs.TextRuns.{takes_LF, over_LF, none_fresh, none_over}
+use Rattle.sat_base.proofs.lemmas.text.TextRuns.{takes_LF, over_LF, none_fresh, none_over}
 use Rattle.sat_base.proofs.text.Tokenizer.end_line.Goals as goal
 
 pub returns-in-Over-clause-takes : goal.returns-in-Over-clause-takes

@@ -1,4 +1,4 @@
-use Rattle.sat_base.proofs.TextRuns.{ended}
+use Rattle.sat_base.proofs.lemmas.text.TextRuns.{ended}
 use Rattle.sat_base.proofs.text.Tokenizer.finish.Goals as goal
 
 pub returns : goal.returns

@@ -1,4 +1,4 @@
-use Rattle.sat_base.proofs.TextRuns.{line_fresh, line_other}
+use Rattle.sat_base.proofs.lemmas.text.TextRuns.{line_fresh, line_other}
 use Rattle.sat_base.proofs.text.Tokenizer.line.Goals as goal
 
 pub returns-in-Fresh : goal.returns-in-Fresh

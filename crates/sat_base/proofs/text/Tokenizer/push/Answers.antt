@@ -1,7 +1,7 @@
 use Rattle.std.proofs.Common.{◌≡◌, false, arith}
 use Rattle.std.specs.Prelude.{nat_eq}
 use Rattle.std.proofs.lemmas.Bool.Decides.{nat_tests}
-use Rattle.sat_base.proofs.TextRuns.{takes_byte, takes_blank, quiet_behind}
+use Rattle.sat_base.proofs.lemmas.text.TextRuns.{takes_byte, takes_blank, quiet_behind}
 use Rattle.sat_base.proofs.text.Tokenizer.push.Goals as goal
 
 pub returns-then-not-is_blank-clause-takes : goal.returns-then-not-is_blank-clause-takes

@@ -1,6 +1,6 @@
 use Rattle.std.proofs.Common.{arith}
 use Rattle.std.proofs.lemmas.Bool.Decides.{nat_tests}
-use Rattle.sat_base.proofs.HeaderPlaces.{begun_c, begun_no_c, begun_vars, begun_no_vars, begun_clauses, begun_no_clauses, begun_behind_both}
+use Rattle.sat_base.proofs.lemmas.text.HeaderPlaces.{begun_c, begun_no_c, begun_vars, begun_no_vars, begun_clauses, begun_no_clauses, begun_behind_both}
 use Rattle.sat_base.proofs.text.header.begun.Goals as goal
 
 pub returns-then-byte-eq99 : goal.returns-then-byte-eq99

@@ -1,4 +1,4 @@
-use Rattle.sat_base.proofs.HeaderPlaces.{ended_vars, ended_clauses}
+use Rattle.sat_base.proofs.lemmas.text.HeaderPlaces.{ended_vars, ended_clauses}
 use Rattle.sat_base.proofs.text.header.ended_in.Goals as goal
 
 pub returns-in-Vars : goal.returns-in-Vars

@@ -1,6 +1,6 @@
 use Rattle.std.proofs.Common.{arith}
 use Rattle.std.proofs.lemmas.Bool.Decides.{nat_tests}
-use Rattle.sat_base.proofs.HeaderPlaces.{between_moves, c_n, c_no_n, cn_f, cn_no_f, p_more, cnf_more, vars_digit, vars_no_digit, clauses_digit, clauses_no_digit}
+use Rattle.sat_base.proofs.lemmas.text.HeaderPlaces.{between_moves, c_n, c_no_n, cn_f, cn_no_f, p_more, cnf_more, vars_digit, vars_no_digit, clauses_digit, clauses_no_digit}
 use Rattle.sat_base.proofs.text.header.next_in_header.Goals as goal
 
 pub returns-in-Between : goal.returns-in-Between

@@ -1,6 +1,6 @@
 use Rattle.std.proofs.Common.{ℕ, ◌≡◌, ◌==◌, ◌||◌, drop, map}
 use Rattle.std.specs.List.{list_any}
-use Rattle.sat_base.specs.Literals.{variable}
+use Rattle.sat_base.specs.values.Literals.{variable}
 use Rattle.certify.specs.Marks.{is_marked}
 use Rattle.certify.proofs.checker.mark_set.MarkSet.insert_variables.Given as goal
 

@@ -1,6 +1,6 @@
 use Rattle.std.proofs.Common.{List, length}
-use Rattle.sat_base.specs.Judge.{Judge}
-use Rattle.sat_base.specs.Steps.{Step}
+use Rattle.sat_base.specs.script.Judge.{Judge}
+use Rattle.sat_base.specs.steps.Steps.{Step}
 use Rattle.certify.specs.Standing.{Stands, Passed, bytes_of}
 use Rattle.certify.proofs.confirm.certificate.Certificate.await_ordered.Given as goal
 

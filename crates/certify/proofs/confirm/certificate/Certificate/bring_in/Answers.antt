@@ -1,6 +1,6 @@
 use Rattle.std.proofs.Common.{◌≡◌, ◌∙◌, map, get_or, ap, subst}
-use Rattle.sat_base.specs.Script.{Literal}
-use Rattle.sat_base.specs.Judge.{Judge, new_names, bring_in}
+use Rattle.sat_base.specs.script.Script.{Literal}
+use Rattle.sat_base.specs.script.Judge.{Judge, new_names, bring_in}
 use Rattle.certify.specs.AnswerForms.{IsName}
 use Rattle.certify.specs.Matches.{NewName}
 use Rattle.certify.specs.Standing.{Goes}

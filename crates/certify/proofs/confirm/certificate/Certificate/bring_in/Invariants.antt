@@ -1,6 +1,6 @@
 use Rattle.std.proofs.Common.{take, None}
-use Rattle.sat_base.specs.Script.{names_of}
-use Rattle.sat_base.specs.Judge.{Judge, bring_all}
+use Rattle.sat_base.specs.script.Script.{names_of}
+use Rattle.sat_base.specs.script.Judge.{Judge, bring_all}
 use Rattle.certify.specs.AnswerForms.{HaveNames}
 use Rattle.certify.specs.Matches.{bringing}
 use Rattle.certify.specs.Standing.{Goes}

@@ -1,5 +1,5 @@
 use Rattle.std.proofs.Common.{◌∷◌, [], refl}
-use Rattle.sat_base.specs.Judge.{Judge}
+use Rattle.sat_base.specs.script.Judge.{Judge}
 use Rattle.certify.specs.Matches.{Closes}
 use Rattle.certify.specs.Standing.{Goes, Takes}
 use Rattle.certify.proofs.Stepping.{cut_goes, none_goes, unfit_goes, take_goes, ok_so}

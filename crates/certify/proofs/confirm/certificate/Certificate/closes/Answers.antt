@@ -1,6 +1,6 @@
 use Rattle.std.proofs.Common.{sym, ◌∙◌, ap, subst}
-use Rattle.sat_base.specs.StepViews.{step_of}
-use Rattle.sat_base.specs.Steps.{Assumptions}
+use Rattle.sat_base.specs.steps.StepViews.{step_of}
+use Rattle.sat_base.specs.steps.Steps.{Assumptions}
 use Rattle.certify.specs.Matches.{Closes, Fits, closes}
 use Rattle.certify.specs.TheChecking.{the_checking}
 use Rattle.certify.proofs.Stepping.{nothing_in}

@@ -1,5 +1,5 @@
 use Rattle.std.proofs.Common.{◌∷◌, [], refl}
-use Rattle.sat_base.specs.Judge.{Judge}
+use Rattle.sat_base.specs.script.Judge.{Judge}
 use Rattle.certify.specs.Matches.{Adds}
 use Rattle.certify.specs.Standing.{Goes, Takes}
 use Rattle.certify.specs.declared.confirm.certificate.Awaited.TheVariants as awaited

@@ -1,6 +1,6 @@
 use Rattle.std.proofs.Common.{List, ◌∷◌, [], refl}
-use Rattle.sat_base.specs.Judge.{Judge}
-use Rattle.sat_base.specs.Script.{Literal}
+use Rattle.sat_base.specs.script.Judge.{Judge}
+use Rattle.sat_base.specs.script.Script.{Literal}
 use Rattle.certify.specs.Matches.{Fails}
 use Rattle.certify.specs.Standing.{Goes, Takes}
 use Rattle.certify.specs.declared.verdict.Why.TheVariants.{AnswerDiffers}

@@ -1,6 +1,6 @@
 use Rattle.std.proofs.Common.{◌≤◌, ◌∷◌, [], Ok}
-use Rattle.sat_base.specs.Literals.{largest}
-use Rattle.sat_base.specs.Judge.{Judge, with_name}
+use Rattle.sat_base.specs.values.Literals.{largest}
+use Rattle.sat_base.specs.script.Judge.{Judge, with_name}
 use Rattle.certify.specs.Matches.{NewName}
 use Rattle.certify.specs.Standing.{Goes, NamesNext, Puts}
 use Rattle.certify.proofs.Stepping.{none_goes, ok_so}

@@ -1,5 +1,5 @@
 use Rattle.std.proofs.Common.{sym, ◌∙◌, ap, subst}
-use Rattle.sat_base.specs.StepViews.{step_of}
+use Rattle.sat_base.specs.steps.StepViews.{step_of}
 use Rattle.certify.specs.Matches.{Finish, Fits, finish}
 use Rattle.certify.specs.TheChecking.{the_checking}
 use Rattle.certify.proofs.confirm.certificate.Certificate.finishes.Goals as goal

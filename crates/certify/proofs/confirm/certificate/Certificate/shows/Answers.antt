@@ -1,9 +1,9 @@
 use Rattle.std.proofs.Common.{◌≡◌, length, refl, ap, subst, arith}
 use Rattle.std.specs.Bool.{MatchBool}
 use Rattle.std.specs.List.{AllByRecursion}
-use Rattle.sat_base.specs.Script.{Among, names_of}
-use Rattle.sat_base.specs.Judge.{names_from}
-use Rattle.sat_base.specs.StepViews.{step_of}
+use Rattle.sat_base.specs.script.Script.{Among, names_of}
+use Rattle.sat_base.specs.script.Judge.{names_from}
+use Rattle.sat_base.specs.steps.StepViews.{step_of}
 use Rattle.certify.specs.declared.verdict.Why.TheVariants.{AnswerDiffers}
 use Rattle.certify.proofs.Comparing.{shows_fit, shows_unfit, shows_unlisted}
 use Rattle.certify.proofs.confirm.certificate.Certificate.shows.Goals as goal

@@ -1,7 +1,7 @@
 use Rattle.std.proofs.Common.{ℕ, ◌≡◌, Some, None, subst}
 use Rattle.std.specs.Bool.{MatchBool}
-use Rattle.sat_base.specs.Script.{Clause, names_of}
-use Rattle.sat_base.specs.Judge.{PastLimit, refused_name}
+use Rattle.sat_base.specs.script.Script.{Clause, names_of}
+use Rattle.sat_base.specs.script.Judge.{PastLimit, refused_name}
 use Rattle.certify.specs.Answers.{refused_line}
 use Rattle.certify.specs.Sessions.{TakesLine, ConfirmsCommand}
 use Rattle.certify.proofs.Stepping.{ok_so}

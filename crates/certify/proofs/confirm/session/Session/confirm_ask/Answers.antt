@@ -1,6 +1,6 @@
 use Rattle.std.proofs.Common.{subst}
-use Rattle.sat_base.specs.Script.{Ask}
-use Rattle.sat_base.specs.Judge.{Judge}
+use Rattle.sat_base.specs.script.Script.{Ask}
+use Rattle.sat_base.specs.script.Judge.{Judge}
 use Rattle.certify.specs.AnswerReading.{outcome_of}
 use Rattle.certify.specs.Matches.{showing}
 use Rattle.certify.specs.Sessions.{ReadsAnswer, ConfirmsCommand}

@@ -1,6 +1,6 @@
 use Rattle.std.proofs.Common.{ℕ, ◌∷◌, [], refl}
-use Rattle.sat_base.specs.Script.{Clause}
-use Rattle.sat_base.specs.Judge.{Judge}
+use Rattle.sat_base.specs.script.Script.{Clause}
+use Rattle.sat_base.specs.script.Judge.{Judge}
 use Rattle.certify.specs.Matches.{Adds}
 use Rattle.certify.specs.Sessions.{ConfirmsCommand}
 use Rattle.certify.specs.Standing.{Goes}

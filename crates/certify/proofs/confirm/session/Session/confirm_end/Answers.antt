@@ -1,5 +1,5 @@
 use Rattle.std.proofs.Common.{ℕ, IfOk, sym, subst}
-use Rattle.sat_base.specs.Script.{Clean}
+use Rattle.sat_base.specs.script.Script.{Clean}
 use Rattle.certify.specs.ScriptParts.{end_of}
 use Rattle.certify.specs.Sessions.{ConfirmsEnd}
 use Rattle.certify.proofs.Stepping.{ok_so}

@@ -1,5 +1,5 @@
 use Rattle.std.proofs.Common.{ℕ}
-use Rattle.sat_base.specs.Script.{Clean, Malformed}
+use Rattle.sat_base.specs.script.Script.{Clean, Malformed}
 use Rattle.certify.specs.Sessions.{ConfirmsEnd}
 use Rattle.certify.proofs.Stepping.{ok_so}
 use Rattle.certify.proofs.EndLaws.{malformed_barred, malformed_then}

@@ -1,5 +1,5 @@
 use Rattle.std.proofs.Common.{◌++◌, refl, ◌∙◌, ap}
-use Rattle.sat_base.specs.Judge.{PastLimit}
+use Rattle.sat_base.specs.script.Judge.{PastLimit}
 use Rattle.certify.specs.Answers.{refused_line}
 use Rattle.certify.proofs.SessionLaws.{line_taken}
 use Rattle.certify.proofs.confirm.session.Session.refuse.Goals as goal

@@ -1,5 +1,5 @@
 use Rattle.std.proofs.lemmas.Result.{err_from_is_err_and}
-use Rattle.sat_base.proofs.TagForms.{solver_form, user_form, variable_form, mode_form, width_form}
+use Rattle.sat_base.proofs.lemmas.steps.TagForms.{solver_form, user_form, variable_form, mode_form, width_form}
 use Rattle.certify.proofs.SourceSteps.{stops_behind}
 use Rattle.certify.proofs.confirm.source.fields.plain_fields.Goals as goal
 

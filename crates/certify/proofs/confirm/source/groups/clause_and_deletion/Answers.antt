@@ -1,7 +1,7 @@
 use Rattle.std.proofs.lemmas.Result.{err_from_is_err_and}
-use Rattle.sat_base.specs.StepText.{IsDeletion, AreLiterals}
-use Rattle.sat_base.specs.StepViews.{deletion_of}
-use Rattle.sat_base.proofs.StepReads.{one_literals}
+use Rattle.sat_base.specs.steps.StepText.{IsDeletion, AreLiterals}
+use Rattle.sat_base.specs.steps.StepViews.{deletion_of}
+use Rattle.sat_base.proofs.lemmas.steps.StepReads.{one_literals}
 use Rattle.certify.proofs.SourceFormats.{first_fails, second_gives}
 use Rattle.certify.proofs.confirm.source.groups.clause_and_deletion.Goals as goal
 

@@ -1,7 +1,7 @@
 use Rattle.std.proofs.lemmas.Result.{err_from_is_err_and}
-use Rattle.sat_base.specs.Formats.{Both}
-use Rattle.sat_base.specs.StepText.{IsFlag, AreLiterals, AreHashes}
-use Rattle.sat_base.proofs.StepReads.{one_flag}
+use Rattle.sat_base.specs.steps.Formats.{Both}
+use Rattle.sat_base.specs.steps.StepText.{IsFlag, AreLiterals, AreHashes}
+use Rattle.sat_base.proofs.lemmas.steps.StepReads.{one_flag}
 use Rattle.certify.proofs.SourceFormats.{first_fails, second_fails, both}
 use Rattle.certify.proofs.confirm.source.groups.flag_and_lists.Goals as goal
 

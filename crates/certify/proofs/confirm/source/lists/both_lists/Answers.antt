@@ -1,6 +1,6 @@
 use Rattle.std.proofs.lemmas.Result.{err_from_is_err_and}
-use Rattle.sat_base.specs.StepText.{AreLiterals, AreHashes}
-use Rattle.sat_base.proofs.StepReads.{one_literals}
+use Rattle.sat_base.specs.steps.StepText.{AreLiterals, AreHashes}
+use Rattle.sat_base.proofs.lemmas.steps.StepReads.{one_literals}
 use Rattle.certify.proofs.SourceFormats.{first_fails, second_gives}
 use Rattle.certify.proofs.confirm.source.lists.both_lists.Goals as goal
 

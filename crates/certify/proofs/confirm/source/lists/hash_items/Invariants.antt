@@ -1,4 +1,4 @@
-use Rattle.sat_base.specs.StepText.{IsHash}
+use Rattle.sat_base.specs.steps.StepText.{IsHash}
 use Rattle.certify.proofs.SourceFormats.{Counted}
 use Rattle.certify.proofs.confirm.source.lists.hash_items.Given as goal
 

@@ -1,4 +1,4 @@
-use Rattle.sat_base.specs.StepText.{IsLiteral}
+use Rattle.sat_base.specs.steps.StepText.{IsLiteral}
 use Rattle.certify.proofs.SourceFormats.{Counted}
 use Rattle.certify.proofs.confirm.source.lists.literal_items.Given as goal
 

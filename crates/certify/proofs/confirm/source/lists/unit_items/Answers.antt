@@ -1,8 +1,8 @@
 use Rattle.std.proofs.Common.{arith}
 use Rattle.std.proofs.lemmas.Result.{err_from_is_err_and}
-use Rattle.sat_base.specs.Formats.{Both}
-use Rattle.sat_base.specs.StepText.{IsLiteral, IsHash}
-use Rattle.sat_base.proofs.StepReads.{one_unit}
+use Rattle.sat_base.specs.steps.Formats.{Both}
+use Rattle.sat_base.specs.steps.StepText.{IsLiteral, IsHash}
+use Rattle.sat_base.proofs.lemmas.steps.StepReads.{one_unit}
 use Rattle.certify.proofs.SourceFormats.{counted_none, counted_more, counted_fails, counted_all}
 use Rattle.certify.proofs.confirm.source.lists.unit_items.Goals as goal
 

@@ -1,5 +1,5 @@
-use Rattle.sat_base.specs.Formats.{Both}
-use Rattle.sat_base.specs.StepText.{IsLiteral, IsHash}
+use Rattle.sat_base.specs.steps.Formats.{Both}
+use Rattle.sat_base.specs.steps.StepText.{IsLiteral, IsHash}
 use Rattle.certify.proofs.SourceFormats.{Counted}
 use Rattle.certify.proofs.confirm.source.lists.unit_items.Given as goal
 

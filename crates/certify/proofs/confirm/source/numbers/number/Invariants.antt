@@ -1,5 +1,5 @@
 use Rattle.std.proofs.Common.{◌+◌, ◌<◌, take}
-use Rattle.sat_base.proofs.Numbers.{Front}
+use Rattle.sat_base.proofs.lemmas.steps.Numbers.{Front}
 use Rattle.certify.proofs.confirm.source.numbers.number.Given as goal
 
 abbrev pub invariant-loop-i : goal.invariant-loop-i

@@ -1,5 +1,5 @@
 use Rattle.std.proofs.Common.{◌≡◌, ◌∙◌, true, false, ap, sym}
-use Rattle.sat_base.specs.Script.{Clean, Malformed, at_end}
+use Rattle.sat_base.specs.script.Script.{Clean, Malformed, at_end}
 use Rattle.certify.specs.ScriptParts.{end_of}
 use Rattle.certify.specs.ScriptReading.{hand_in}
 use Rattle.certify.proofs.Reading.{ends_inside, ends_clean, clean_hand, if_ok}

@@ -1,6 +1,6 @@
 use Rattle.std.proofs.Common.{◌≡◌, ◌≤◌, ◌++◌, ◌∷◌, ◌∙◌, List, [], ℕ, length, refl, ap, arith}
 use Rattle.std.specs.Vec.{vec_len}
-use Rattle.sat_base.specs.Script.{Command, Ask, Clean}
+use Rattle.sat_base.specs.script.Script.{Command, Ask, Clean}
 use Rattle.certify.specs.declared.script.Kind.TheVariants as kind
 use Rattle.certify.specs.declared.script.Part.{Part}
 use Rattle.certify.specs.ScriptParts.{commands_in}

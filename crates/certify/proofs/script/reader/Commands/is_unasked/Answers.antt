@@ -1,6 +1,6 @@
 use Rattle.std.proofs.Common.{◌≡◌, ◌∙◌, ap, sym}
 use Rattle.std.specs.Prelude.{not}
-use Rattle.sat_base.specs.Script.{has_ask}
+use Rattle.sat_base.specs.script.Script.{has_ask}
 use Rattle.certify.specs.ScriptParts.{any_ask}
 use Rattle.certify.specs.ScriptReading.{commands_read}
 use Rattle.certify.proofs.Parts.{has_ask-commands_in}

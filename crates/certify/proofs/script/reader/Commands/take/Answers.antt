@@ -1,7 +1,7 @@
 use Rattle.std.proofs.Common.{◌≡◌, ◌<◌, refl, arith}
 use Rattle.std.specs.Prelude.{not}
-use Rattle.sat_base.specs.Text.{Token, Number, Letter}
-use Rattle.sat_base.specs.Script.{Literal, turn, with_literal}
+use Rattle.sat_base.specs.text.Text.{Token, Number, Letter}
+use Rattle.sat_base.specs.script.Script.{Literal, turn, with_literal}
 use Rattle.certify.specs.Holding.{held_name}
 use Rattle.certify.specs.ScriptReading.{hand_in, Turns, TakesToken}
 use Rattle.certify.proofs.Reading.{turn_taken, end_taken, wrong_taken, header_taken, turn_zero, turn_literal, literal_taken, if_ok}

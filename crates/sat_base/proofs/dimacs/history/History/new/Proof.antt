@@ -9,7 +9,7 @@ use base.Fml.{ftrue}
 use denote.Steps.{nothing}
 use denote.Triple.Entry.{on_entry}
 use denote.Triple.Walked.{Stays, walk_of, says, ends_at}
-use Rattle.sat_base.proofs.Makers.{no_bytes, makes_empty}
+use Rattle.sat_base.proofs.lemmas.device.Makers.{no_bytes, makes_empty}
 use Rattle.sat_base.specs.contracts.dimacs.history.History as history
 use Rattle.sat_base.specs.contracts.dimacs.history.History.new as f
 use Rattle.sat_base.proofs.dimacs.history.History.new.Statement.{statement}

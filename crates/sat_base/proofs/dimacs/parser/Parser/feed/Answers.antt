@@ -1,7 +1,7 @@
 use Rattle.std.proofs.Common.{◌+◌, ◌∷◌, [], take, drop, get_or, arith}
 use Rattle.std.proofs.lemmas.Result.{err_from_is_err_and}
-use Rattle.sat_base.specs.Standing.{progress_of}
-use Rattle.sat_base.proofs.Feeding.{feeds_err, split_at}
+use Rattle.sat_base.specs.dimacs.ParserPlaces.{progress_of}
+use Rattle.sat_base.proofs.lemmas.dimacs.Feeding.{feeds_err, split_at}
 use Rattle.sat_base.proofs.dimacs.parser.Parser.feed.Goals as goal
 
 pub returns-in_err-push-clause-answer : goal.returns-in_err-push-clause-answer

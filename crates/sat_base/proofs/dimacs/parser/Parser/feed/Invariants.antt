@@ -1,6 +1,6 @@
 use Rattle.std.proofs.Common.{◌≡◌, false, take}
-use Rattle.sat_base.specs.Parsing.{with_fed}
-use Rattle.sat_base.specs.Standing.{IsParser, progress_of}
+use Rattle.sat_base.specs.dimacs.Parsing.{with_fed}
+use Rattle.sat_base.specs.dimacs.ParserPlaces.{IsParser, progress_of}
 use Rattle.sat_base.proofs.dimacs.parser.Parser.feed.Given as goal
 
 abbrev pub invariant-loop-byte : goal.invariant-loop-byte

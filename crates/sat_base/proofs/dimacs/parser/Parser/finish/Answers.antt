@@ -1,11 +1,11 @@
 use Rattle.std.proofs.Common.{Err, refl, sym, subst, ◌∙◌}
 use Rattle.sat_base.specs.declared.dimacs.parser.Parser.{Parser}
 use Rattle.sat_base.specs.declared.dimacs.clauses.Refusal.TheVariants as refusal
-use Rattle.sat_base.specs.Collecting.{Collects, token_of}
-use Rattle.sat_base.specs.Dimacs.{Malformed, Limit}
-use Rattle.sat_base.specs.Parsing.{Finishes}
-use Rattle.sat_base.specs.Standing.{IsParser, progress_of}
-use Rattle.sat_base.proofs.Feeding.{at_end_of, read_none, read_some, finish_parser, finish_answer, FaultAtEnd, finish_fails, finish_inside, finish_short}
+use Rattle.sat_base.specs.dimacs.Collecting.{Collects, token_of}
+use Rattle.sat_base.specs.dimacs.Dimacs.{Malformed, Limit}
+use Rattle.sat_base.specs.dimacs.Parsing.{Finishes}
+use Rattle.sat_base.specs.dimacs.ParserPlaces.{IsParser, progress_of}
+use Rattle.sat_base.proofs.lemmas.dimacs.Feeding.{at_end_of, read_none, read_some, finish_parser, finish_answer, FaultAtEnd, finish_fails, finish_inside, finish_short}
 use Rattle.sat_base.proofs.dimacs.parser.Parser.finish.Goals as goal
 
 pub returns-in_default-clause-parser : goal.returns-in_default-clause-parser

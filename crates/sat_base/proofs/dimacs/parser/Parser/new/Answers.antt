@@ -1,5 +1,5 @@
 use Rattle.std.proofs.Common.{refl}
-use Rattle.sat_base.proofs.Feeding.{first_parser}
+use Rattle.sat_base.proofs.lemmas.dimacs.Feeding.{first_parser}
 use Rattle.sat_base.proofs.dimacs.parser.Parser.new.Goals as goal
 
 pub returns-clause-parser : goal.returns-clause-parser

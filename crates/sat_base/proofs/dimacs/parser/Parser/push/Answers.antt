@@ -2,11 +2,11 @@ use Rattle.std.proofs.Common.{ℕ, List, [], ◌∷◌, ◌++◌, None, Some, Er
 use Rattle.std.proofs.lemmas.List.{append-nil}
 use Rattle.sat_base.specs.declared.dimacs.clauses.Refusal.TheVariants as refusal
 use Rattle.sat_base.specs.declared.dimacs.parser.Parser.{Parser}
-use Rattle.sat_base.specs.Collecting.{Collects, token_of}
-use Rattle.sat_base.specs.Parsing.{GoesWell, cut_short}
-use Rattle.sat_base.specs.Standing.{progress_of}
-use Rattle.sat_base.specs.Dimacs.{Malformed, Limit}
-use Rattle.sat_base.proofs.Feeding.{pushed, push_none, push_some, push_short, fed_none, FaultAt, push_fails}
+use Rattle.sat_base.specs.dimacs.Collecting.{Collects, token_of}
+use Rattle.sat_base.specs.dimacs.Parsing.{GoesWell, cut_short}
+use Rattle.sat_base.specs.dimacs.ParserPlaces.{progress_of}
+use Rattle.sat_base.specs.dimacs.Dimacs.{Malformed, Limit}
+use Rattle.sat_base.proofs.lemmas.dimacs.Feeding.{pushed, push_none, push_some, push_short, fed_none, FaultAt, push_fails}
 use Rattle.sat_base.proofs.dimacs.parser.Parser.push.Goals as goal
 
 pub returns-in_default-clause-parser : goal.returns-in_default-clause-parser

@@ -1,5 +1,5 @@
 use Rattle.std.proofs.Common.{ap, length, arith}
-use Rattle.sat_base.proofs.FlatLemmas.{ends_count}
+use Rattle.sat_base.proofs.lemmas.values.FlatLemmas.{ends_count}
 use Rattle.sat_base.proofs.formula.flat.FlatClauses.len.Goals as goal
 
 pub returns : goal.returns

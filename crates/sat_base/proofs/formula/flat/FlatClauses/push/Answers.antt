@@ -1,6 +1,6 @@
 use Rattle.std.proofs.Common.{◌≡◌, ◌+◌, ◌≤◌, ◌++◌, ◌∷◌, [], length, List, ℕ, ap, ap₂, subst, ◌∙◌, arith, length-append}
-use Rattle.sat_base.specs.Flat.{InOrder, clauses_in}
-use Rattle.sat_base.proofs.FlatLemmas.{push_in_order, push_clauses}
+use Rattle.sat_base.specs.values.Flat.{InOrder, clauses_in}
+use Rattle.sat_base.proofs.lemmas.values.FlatLemmas.{push_in_order, push_clauses}
 use Rattle.sat_base.proofs.formula.flat.FlatClauses.push.Goals as goal
 
 pub invariant_of-self-2 : goal.invariant_of-self-2

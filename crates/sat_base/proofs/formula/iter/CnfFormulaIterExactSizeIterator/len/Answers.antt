@@ -1,5 +1,5 @@
 use Rattle.std.proofs.Common.{sym, ap, ◌∙◌, length}
-use Rattle.sat_base.proofs.FlatLemmas.{ends_count}
+use Rattle.sat_base.proofs.lemmas.values.FlatLemmas.{ends_count}
 use Rattle.sat_base.proofs.formula.iter.CnfFormulaIterExactSizeIterator.len.Goals as goal
 
 pub returns-clause-value : goal.returns-clause-value

@@ -1,6 +1,6 @@
 use Rattle.std.proofs.Common.{◌+◌, ℕ, List, length, subst}
-use Rattle.sat_base.specs.Flat.{InOrder}
-use Rattle.sat_base.proofs.FlatLemmas.{first_within}
+use Rattle.sat_base.specs.values.Flat.{InOrder}
+use Rattle.sat_base.proofs.lemmas.values.FlatLemmas.{first_within}
 use Rattle.sat_base.proofs.formula.iter.CnfFormulaIterIterator.next.Goals as goal
 
 pub split_at-requires : goal.split_at-requires

@@ -1,0 +1,4 @@
+pub mod Makers
+pub mod Known
+pub mod Writes
+pub mod ReadLemmas

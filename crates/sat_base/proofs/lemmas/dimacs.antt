@@ -1,0 +1,7 @@
+pub mod TextWrites
+pub mod WrittenIsRead
+pub mod Collected
+pub mod Feeding
+pub mod Parsed
+pub mod DimacsRowsComputed
+pub mod DimacsSpellings

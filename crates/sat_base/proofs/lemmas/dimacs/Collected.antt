@@ -1,0 +1,144 @@
+-- What tokens make of a formula's clauses, one after another.
+use Rattle.std.proofs.Common.{◌≡◌, ℕ, ◌-◌, List, [], ◌∷◌, ◌++◌, Bool, true, false, Some, None, refl, sym, ap, subst, inl, inr, ◌∙◌, append_assoc, arith}
+use Rattle.std.proofs.lemmas.List.{append-nil}
+use Rattle.std.proofs.lemmas.Bool.Decides.{nat_tests}
+use Rattle.std.specs.Prelude.{nat_eq, nat_lt, not, ◌||◌, if◌then◌else◌}
+use Rattle.sat_base.specs.values.Literals.{coded, largest}
+use Rattle.sat_base.specs.text.Text.{is_blank, Token, Number, Letter, Header, Wrong, Scan, scan}
+use Rattle.sat_base.specs.text.Spot.{onto}
+use Rattle.sat_base.specs.text.Tokenizing.{held, held_token, IsOfHeader, Quiet}
+use Rattle.sat_base.specs.dimacs.Dimacs.{Hand, Turn, GoesOn, Ends, Fails, Ending, Limit, Dimacs, literals_in, turn, at_end, behind_turn, clauses_of, dimacs_of, dimacs, has_blank, settled}
+use Rattle.sat_base.specs.dimacs.Collecting.{token_of}
+use Rattle.sat_base.specs.dimacs.Parsing.{has_LF, whole_lines, NoFault, unless_fault}
+use Rattle.sat_base.specs.dimacs.ParserPlaces.{onto_clauses, Turned}
+
+-- TEXTS
+has_blank-behind : (text : List ℕ) (b : ℕ) → is_blank b ≡ true → has_blank (text ++ b ∷ []) ≡ true
+has_blank-behind [] b e = rw e refl
+has_blank-behind (x ∷ xs) b e = rw (has_blank-behind xs b e) (or_true (is_blank x))
+  where
+    or_true : (c : Bool) → (c || true) ≡ true
+    or_true true = refl
+    or_true false = refl
+
+pub settled_blank : (text : List ℕ) (b : ℕ) → is_blank b ≡ true → settled (text ++ b ∷ []) ≡ text ++ b ∷ []
+settled_blank [] b e = rw e refl
+settled_blank (x ∷ xs) b e = rw (has_blank-behind (x ∷ xs) b e) (ap (λ (ys : List ℕ). x ∷ ys) (settled_blank xs b e))
+
+has_blank-inside : (text : List ℕ) (b : ℕ) → is_blank b ≡ false → has_blank (text ++ b ∷ []) ≡ has_blank text
+has_blank-inside [] b e = rw e refl
+has_blank-inside (x ∷ xs) b e = ap (λ (c : Bool). is_blank x || c) (has_blank-inside xs b e)
+
+pub settled_inside : (text : List ℕ) (b : ℕ) → is_blank b ≡ false → settled (text ++ b ∷ []) ≡ settled text
+settled_inside [] b e = rw e refl
+settled_inside (x ∷ xs) b e = rw (has_blank-inside (x ∷ xs) b e, settled_inside xs b e) refl
+
+has_LF-behind : (text : List ℕ) (b : ℕ) → nat_eq b 10 ≡ true → has_LF (text ++ b ∷ []) ≡ true
+has_LF-behind [] b e = rw e refl
+has_LF-behind (x ∷ xs) b e = rw (has_LF-behind xs b e) (or_true (nat_eq x 10))
+  where
+    or_true : (c : Bool) → (c || true) ≡ true
+    or_true true = refl
+    or_true false = refl
+
+pub whole_LF : (text : List ℕ) (b : ℕ) → nat_eq b 10 ≡ true → whole_lines (text ++ b ∷ []) ≡ text ++ b ∷ []
+whole_LF [] b e = rw e refl
+whole_LF (x ∷ xs) b e = rw (has_LF-behind (x ∷ xs) b e) (ap (λ (ys : List ℕ). x ∷ ys) (whole_LF xs b e))
+
+has_LF-inside : (text : List ℕ) (b : ℕ) → nat_eq b 10 ≡ false → has_LF (text ++ b ∷ []) ≡ has_LF text
+has_LF-inside [] b e = rw e refl
+has_LF-inside (x ∷ xs) b e = ap (λ (c : Bool). nat_eq x 10 || c) (has_LF-inside xs b e)
+
+pub whole_inside : (text : List ℕ) (b : ℕ) → nat_eq b 10 ≡ false → whole_lines (text ++ b ∷ []) ≡ whole_lines text
+whole_inside [] b e = rw e refl
+whole_inside (x ∷ xs) b e = rw (has_LF-inside (x ∷ xs) b e, whole_inside xs b e) refl
+
+-- TOKENS
+pub clauses_of_cons : (h : Hand) (last : ℕ) (t : ℕ × Token) (ts : List (ℕ × Token)) → clauses_of h last (t ∷ ts) ≡ behind_turn (turn h t.0 t.1) (λ k. clauses_of k last ts)
+unfolding clauses_of
+clauses_of_cons h last t ts = refl
+
+pub clauses_of_nil : (h : Hand) (last : ℕ) → clauses_of h last [] ≡ record { clauses = []; ending = at_end h last }
+unfolding clauses_of
+clauses_of_nil h last = refl
+
+number_at : (zero past : Bool) (h : Hand) (line a b : ℕ) (s : Bool) → (past ≡ false → a ≡ b)
+    → (if zero then Ends (literals_in h) else (if past then Fails (Limit line) else GoesOn (Some (literals_in h ++ coded (a - 1) s ∷ []))))
+    ≡ (if zero then Ends (literals_in h) else (if past then Fails (Limit line) else GoesOn (Some (literals_in h ++ coded (b - 1) s ∷ []))))
+number_at true past h line a b s e = refl
+number_at false true h line a b s e = refl
+number_at false false h line a b s e = ap (λ (k : ℕ). GoesOn (Some (literals_in h ++ coded (k - 1) s ∷ []))) (e refl)
+
+-- a value that was held says the same
+pub turn-held : (h : Hand) (line : ℕ) (t : Token) → turn h line (token_of (held_token t)) ≡ turn h line t
+turn-held h line (Number negative value) =
+    let zero : nat_eq (held value) 0 ≡ nat_eq value 0 = grind (arith, nat_tests) in
+    let past : nat_lt largest (held value) ≡ nat_lt largest value = grind (arith, nat_tests) in
+    rw (zero, past) (number_at (nat_eq value 0) (nat_lt largest value) h line (held value) value (not negative) (λ e. let small : nat_lt largest value ≡ false = e in grind (arith, nat_tests)))
+turn-held h line (Letter b) = refl
+turn-held h line (Header v c) = refl
+turn-held h line Wrong = refl
+
+onto-onto : (a b : List (List ℕ)) (d : Dimacs) → onto_clauses a (onto_clauses b d) ≡ onto_clauses (a ++ b) d
+onto-onto a b d = ap (λ (cs : List (List ℕ)). record { clauses = cs; ending = d.ending }) (sym (append_assoc a b d.clauses))
+
+pub turned_first : Turned [] [] None
+turned_first = record { says = λ last ts. refl; sound = λ ts h. h }
+
+-- one token more
+module _ (before : List (ℕ × Token)) (all : List (List ℕ)) (hand : Hand) (n : ℕ) (t : Token) (m : Turned before all hand) where
+  pub says_next : (k : Turn) → turn hand n t ≡ k → (last : ℕ) (ts : List (ℕ × Token))
+      → clauses_of None last ((before ++ (n, t) ∷ []) ++ ts) ≡ onto_clauses all (behind_turn k (λ h. clauses_of h last ts))
+  says_next k e last ts =
+      ap (clauses_of None last) (append_assoc before ((n, t) ∷ []) ts) ∙ m.says last ((n, t) ∷ ts)
+      ∙ ap (onto_clauses all) (clauses_of_cons hand last (n, t) ts ∙ ap (λ (j : Turn). behind_turn j (λ h. clauses_of h last ts)) e)
+
+  sound_next : (k : Turn) → turn hand n t ≡ k → (ts : List (ℕ × Token)) → unless_fault k (λ h. NoFault h ts) → NoFault None ((before ++ (n, t) ∷ []) ++ ts)
+  sound_next k e ts h =
+      let here : NoFault hand ((n, t) ∷ ts) = subst (λ (j : Turn). unless_fault j (λ g. NoFault g ts)) (sym e) h in
+      subst (NoFault None) (sym (append_assoc before ((n, t) ∷ []) ts)) (m.sound ((n, t) ∷ ts) here)
+
+  pub turned_goes : (h : Hand) → turn hand n t ≡ GoesOn h → Turned (before ++ (n, t) ∷ []) all h
+  turned_goes h e = record { says = says_next (GoesOn h) e; sound = sound_next (GoesOn h) e }
+
+  pub turned_ends : (c : List ℕ) → turn hand n t ≡ Ends c → Turned (before ++ (n, t) ∷ []) (all ++ c ∷ []) None
+  turned_ends c e = record {
+    says = λ last ts. says_next (Ends c) e last ts ∙ onto-onto all (c ∷ []) (clauses_of None last ts);
+    sound = sound_next (Ends c) e;
+  }
+
+  pub fails_there : (ending : Ending) → turn hand n t ≡ Fails ending → (last : ℕ) (ts : List (ℕ × Token))
+      → clauses_of None last ((before ++ (n, t) ∷ []) ++ ts) ≡ record { clauses = all; ending = ending }
+  fails_there ending e last ts =
+      says_next (Fails ending) e last ts ∙ ap (λ (cs : List (List ℕ)). record { clauses = cs; ending = ending }) (append-nil all)
+
+-- SCANS
+pub scans_next : (fed : List ℕ) (b : ℕ) (before xs : List (ℕ × Token)) (left_of after : List ℕ → Scan) → ((rest : List ℕ) → scan (fed ++ rest) ≡ onto before (left_of rest))
+    → ((rest : List ℕ) → left_of (b ∷ rest) ≡ onto xs (after rest)) → (rest : List ℕ) → scan ((fed ++ b ∷ []) ++ rest) ≡ onto (before ++ xs) (after rest)
+scans_next fed b before xs left_of after h k rest =
+    ap scan (append_assoc fed (b ∷ []) rest) ∙ h (b ∷ rest) ∙ ap (onto before) (k rest)
+    ∙ ap (λ (ts : List (ℕ × Token)). record { tokens = ts; last = (after rest).last }) (sym (append_assoc before xs (after rest).tokens))
+
+pub dimacs_is : (text : List ℕ) (before : List (ℕ × Token)) (s : Scan) → scan text ≡ onto before s → dimacs text ≡ clauses_of None s.last (before ++ s.tokens)
+unfolding dimacs
+dimacs_is text before s e = ap (dimacs_of None) e
+
+pub dimacs_says : (text : List ℕ) (before : List (ℕ × Token)) (all : List (List ℕ)) (hand : Hand) (s : Scan) → scan text ≡ onto before s → Turned before all hand
+    → dimacs text ≡ onto_clauses all (dimacs_of hand s)
+dimacs_says text before all hand s e m = dimacs_is text before s e ∙ m.says s.last s.tokens
+
+header_clauses : (hand : Hand) (last line : ℕ) (t : Token) → IsOfHeader t → (clauses_of hand last ((line, t) ∷ [])).clauses ≡ []
+header_clauses hand last line (Number negative value) h = absurd h
+header_clauses hand last line (Letter b) h = absurd h
+header_clauses hand last line (Header v c) h = ap (λ (d : Dimacs). d.clauses) (clauses_of_cons hand last (line, Header v c) [] ∙ clauses_of_nil hand last)
+header_clauses hand last line Wrong h = ap (λ (d : Dimacs). d.clauses) (clauses_of_cons hand last (line, Wrong) [])
+
+-- where no more than an unread header is to come, so are no clauses
+pub quiet_clauses : (hand : Hand) (s : Scan) → Quiet s → (dimacs_of hand s).clauses ≡ []
+quiet_clauses hand s (inl e) = ap (λ (ts : List (ℕ × Token)). (clauses_of hand s.last ts).clauses) e ∙ ap (λ (d : Dimacs). d.clauses) (clauses_of_nil hand s.last)
+quiet_clauses hand s (inr q) = ap (λ (ts : List (ℕ × Token)). (clauses_of hand s.last ts).clauses) q.3 ∙ header_clauses hand s.last q.0 q.1 q.2
+
+pub settled_clauses : (text : List ℕ) (before : List (ℕ × Token)) (all : List (List ℕ)) (hand : Hand) (s : Scan) → scan text ≡ onto before s → Turned before all hand → Quiet s
+    → (dimacs text).clauses ≡ all
+settled_clauses text before all hand s e m q =
+    ap (λ (d : Dimacs). d.clauses) (dimacs_says text before all hand s e m) ∙ ap (λ (cs : List (List ℕ)). all ++ cs) (quiet_clauses hand s q) ∙ append-nil all

@@ -1,0 +1,2 @@
+pub mod ScriptSpellings
+pub mod ScriptRowsComputed

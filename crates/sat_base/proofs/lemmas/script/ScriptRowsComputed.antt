@@ -1,0 +1,62 @@
+-- The worked rows, computed.
+use Rattle.std.proofs.Common.{refl}
+use Rattle.sat_base.specs.text.Text.{lines, words, begins_with, tokens_of, digits, token, scan}
+use Rattle.sat_base.specs.script.Script.{commands_of, written, reading}
+use Rattle.sat_base.specs.script.ScriptRows.{ReadRows, MalformedRows}
+
+pub read_rows : ReadRows
+unfolding lines words begins_with tokens_of digits token scan commands_of written reading
+read_rows = record {
+  empty = refl;
+  clause_and_ask = refl;
+  no_last_LF = refl;
+  two_on_a_line = refl;
+  comment_inside = refl;
+  comment_behind_blanks = refl;
+  zero_alone = refl;
+  leading_zeros = refl;
+  past_the_limit = refl;
+  header = refl;
+  header_and_percent = refl;
+  header_and_ask = refl;
+  header_behind_comment = refl;
+  long_number = refl;
+  percent = refl;
+  percent_and_more = refl;
+  percent_alone = refl;
+}
+
+pub malformed_rows : MalformedRows
+unfolding lines words begins_with tokens_of digits token scan commands_of written reading
+malformed_rows = record {
+  comment_behind_word = refl;
+  minus_zero = refl;
+  minus_zeros = refl;
+  plus_sign = refl;
+  minus_alone = refl;
+  digits_and_more = refl;
+  letter_in_clause = refl;
+  other_letter = refl;
+  vertical_tab = refl;
+  form_feed = refl;
+  ask_with_literals = refl;
+  two_letters = refl;
+  one_number = refl;
+  three_numbers = refl;
+  other_format = refl;
+  plus_in_header = refl;
+  minus_in_header = refl;
+  no_blank_behind_p = refl;
+  header_cut = refl;
+  two_headers = refl;
+  header_behind_clause = refl;
+  header_in_clause = refl;
+  header_inside_a_line = refl;
+  header_and_cut = refl;
+  header_and_wrong = refl;
+  percent_in_clause = refl;
+  percent_inside_a_line = refl;
+  percent_behind_a = refl;
+  cut_in_clause = refl;
+  cut_behind_a = refl;
+}

@@ -1,0 +1,133 @@
+-- Readers of formats that are made of others.
+use Rattle.std.proofs.Common.{◌≡◌, ℕ, suc, List, [], ◌∷◌, ◌++◌, length, Result, Ok, Err, append_assoc, refl, sym, ap, subst}
+use Rattle.std.proofs.lemmas.List.{append-nil}
+use Rattle.sat_base.specs.declared.error.StepError.{StepError}
+use Rattle.sat_base.specs.declared.error.StepError.TheVariants as errors
+use Rattle.sat_base.specs.steps.Formats.{Format, Open, Then, Times, ListOf, OneForm}
+use Rattle.sat_base.specs.device.Reading.{Source, Passes, Reads, giving, valued}
+use Rattle.sat_base.proofs.lemmas.steps.Formats.{HasText, live_first, shut_first, live_second, shut_second, Times_text, to_items, from_items}
+use Rattle.sat_base.proofs.lemmas.device.ReadLemmas.{passes_none, passes_more, faults_later}
+
+open_first : {A B : Type 0} (F : Format A) (G : A → Format B) (front : List ℕ) → ((x : A) → HasText (G x)) → Open F front → Open (Then F G) front
+open_first F G front some o =
+    let t = some o.0 in
+    ((o.0, t.0), o.1 ++ t.1, (front ++ o.1, t.1, o.2, t.2, sym (append_assoc front o.1 t.1)))
+
+open_second : {A B : Type 0} (F : Format A) (G : A → Format B) (x : A) (a front : List ℕ) → F x a → Open (G x) front → Open (Then F G) (a ++ front)
+open_second F G x a front f o = ((x, o.0), o.1, (a, front ++ o.1, f, o.2, append_assoc a front o.1))
+
+pub first_fails : {A B : Type 0} (F : Format A) (G : A → Format B) → OneForm F → ((x : A) → HasText (G x)) → (e : StepError) (old new : Source) → Reads F (Err e) old new → Reads (Then F G) (Err e) old new
+first_fails F G one some errors.Cut old new r = (r.0, r.1, live_first F G r.0 some r.2, r.3)
+first_fails F G one some errors.BadByte old new r = (r.0, r.1, r.2, live_first F G r.0 some r.3, shut_first F G one r.0 r.1 r.3 r.4)
+first_fails F G one some errors.Read old new r = r
+first_fails F G one some errors.OutOfMemory old new r = (r.0, r.1, open_first F G r.0 some r.2)
+first_fails F G one some errors.Ends old new r = absurd r
+first_fails F G one some errors.HasFailed old new r = absurd r
+
+pub second_gives : {A B : Type 0} (F : Format A) (G : A → Format B) → OneForm F → (x : A) (a : List ℕ) (old mid new : Source) → F x a → Passes old mid a → (r : Result B StepError) → Reads (G x) r mid new → Reads (Then F G) (valued (λ y. (x, y)) r) old new
+second_gives F G one x a old mid new f p (Ok y) r = (a ++ r.0, passes_more old mid new a r.0 p r.1, (a, r.0, f, r.2, refl))
+second_gives F G one x a old mid new f p (Err errors.Cut) r = (a ++ r.0, passes_more old mid new a r.0 p r.1, live_second F G x a r.0 f r.2, r.3)
+second_gives F G one x a old mid new f p (Err errors.BadByte) r = (a ++ r.0, r.1, subst (Passes old new) (sym (append_assoc a r.0 (r.1 ∷ []))) (passes_more old mid new a (r.0 ++ r.1 ∷ []) p r.2), live_second F G x a r.0 f r.3, shut_second F G one x a r.0 r.1 f r.4)
+second_gives F G one x a old mid new f p (Err errors.Read) r = faults_later old mid new a p r
+second_gives F G one x a old mid new f p (Err errors.OutOfMemory) r = (a ++ r.0, passes_more old mid new a r.0 p r.1, open_second F G x a r.0 f r.2)
+second_gives F G one x a old mid new f p (Err errors.Ends) r = absurd r
+second_gives F G one x a old mid new f p (Err errors.HasFailed) r = absurd r
+
+-- a reader of a format is one of another whose texts are the same, under values that are made of the first's
+pub reads_as : {A B : Type 0} (H : Format A) (K : Format B) (f : A → B) → ((x : A) (t : List ℕ) → H x t → K (f x) t) → ((y : B) (t : List ℕ) → K y t → (x : A) × H x t) → (r : Result A StepError) (old new : Source) → Reads H r old new → Reads K (valued f r) old new
+reads_as H K f to back (Ok x) old new r = (r.0, r.1, to x r.0 r.2)
+reads_as H K f to back (Err errors.Cut) old new r = (r.0, r.1, (f r.2.0, r.2.1, r.2.2, to r.2.0 (r.0 ++ r.2.1 ∷ r.2.2) r.2.3), r.3)
+reads_as H K f to back (Err errors.BadByte) old new r = (r.0, r.1, r.2, (f r.3.0, r.3.1, r.3.2, to r.3.0 (r.0 ++ r.3.1 ∷ r.3.2) r.3.3), λ o. let h = back o.0 ((r.0 ++ r.1 ∷ []) ++ o.1) o.2 in r.4 (h.0, o.1, h.1))
+reads_as H K f to back (Err errors.Read) old new r = r
+reads_as H K f to back (Err errors.OutOfMemory) old new r = (r.0, r.1, (f r.2.0, r.2.1, to r.2.0 (r.0 ++ r.2.1) r.2.2))
+reads_as H K f to back (Err errors.Ends) old new r = absurd r
+reads_as H K f to back (Err errors.HasFailed) old new r = absurd r
+
+-- ITEMS
+abbrev pub with_front : {A : Type 0} → List A → Result (List A) StepError → Result (List A) StepError
+with_front xs (Ok ys) = Ok (xs ++ ys)
+with_front xs (Err e) = Err e
+
+item_fails : {A : Type 0} (F : Format A) → OneForm F → HasText F → (n : ℕ) (e : StepError) (old new : Source) → Reads F (Err e) old new → Reads (Times F (suc n)) (Err e) old new
+item_fails F one some n e old new r =
+    reads_as (Then F (λ _. Times F n)) (Times F (suc n)) (λ x. x.0 ∷ x.1) (to_items F n) (from_items F n) (Err e) old new (first_fails F (λ _. Times F n) one (λ x. Times_text F some n) e old new r)
+
+consed : {A : Type 0} (x : A) (r : Result (List A) StepError) → valued {A = A × List A} (λ y. y.0 ∷ y.1) (valued (λ y. (x, y)) r) ≡ with_front (x ∷ []) r
+consed x (Ok y) = refl
+consed x (Err e) = refl
+
+item_read : {A : Type 0} (F : Format A) → OneForm F → (n : ℕ) (x : A) (old mid new : Source) → Reads F (Ok x) old mid → (r : Result (List A) StepError) → Reads (Times F n) r mid new → Reads (Times F (suc n)) (with_front (x ∷ []) r) old new
+item_read {A} F one n x old mid new i r h =
+    subst (λ (z : Result (List A) StepError). Reads (Times F (suc n)) z old new) (consed x r)
+    (reads_as (Then F (λ _. Times F n)) (Times F (suc n)) (λ y. y.0 ∷ y.1) (to_items F n) (from_items F n) (valued (λ y. (x, y)) r) old new (second_gives F (λ _. Times F n) one x i.0 old mid new i.2 i.1 r h))
+
+-- A LOOP OVER A COUNT: whatever is read of the rest, behind what is read already, is read of all
+pub record Counted {A : Type 0} (F : Format A) (count left : ℕ) (xs : List A) (old mid : Source) : Type 0 where
+  pub rests : (r : Result (List A) StepError) (new : Source) → Reads (Times F left) r mid new → Reads (Times F count) (with_front xs r) old new
+
+front_none : {A : Type 0} (r : Result (List A) StepError) → r ≡ with_front [] r
+front_none (Ok x) = refl
+front_none (Err e) = refl
+
+pub counted_start : {A : Type 0} (F : Format A) (count left : ℕ) (xs : List A) (old : Source) → left ≡ count → xs ≡ [] → Counted F count left xs old old
+counted_start {A} F count left xs old e d = record {
+  rests = λ r new h. subst (λ (z : List A). Reads (Times F count) (with_front z r) old new) (sym d) (subst (λ (z : Result (List A) StepError). Reads (Times F count) z old new) (front_none r) (subst (λ (n : ℕ). Reads (Times F n) r old new) e h));
+}
+
+front_cons : {A : Type 0} (xs : List A) (x : A) (r : Result (List A) StepError) → with_front xs (with_front (x ∷ []) r) ≡ with_front (xs ++ x ∷ []) r
+front_cons xs x (Ok y) = ap (λ zs. Ok zs) (sym (append_assoc xs (x ∷ []) y))
+front_cons xs x (Err e) = refl
+
+pub counted_more : {A : Type 0} (F : Format A) → OneForm F → (count left more : ℕ) (xs : List A) (x : A) (old mid later : Source) → left ≡ suc more → Reads F (Ok x) mid later → Counted F count left xs old mid → Counted F count more (xs ++ x ∷ []) old later
+counted_more {A} F one count left more xs x old mid later e i c = record {
+  rests = λ r new h. subst (λ (z : Result (List A) StepError). Reads (Times F count) z old new) (front_cons xs x r) (c.rests (with_front (x ∷ []) r) new (subst (λ (n : ℕ). Reads (Times F n) (with_front (x ∷ []) r) mid new) (sym e) (item_read F one more x mid later new i r h)));
+}
+
+pub counted_fails : {A : Type 0} (F : Format A) → OneForm F → HasText F → (count left more : ℕ) (xs : List A) (old mid new : Source) (e : StepError) → left ≡ suc more → Reads F (Err e) mid new → Counted F count left xs old mid → Reads (Times F count) (Err e) old new
+counted_fails F one some count left more xs old mid new e is i c = c.rests (Err e) new (subst (λ (n : ℕ). Reads (Times F n) (Err e) mid new) (sym is) (item_fails F one some more e mid new i))
+
+-- an item that was read, and then no room for it: some text has it there, and so many more behind it
+pub counted_no_room : {A : Type 0} (F : Format A) → OneForm F → HasText F → (count left more : ℕ) (xs : List A) (x : A) (old mid new : Source) → left ≡ suc more → Reads F (Ok x) mid new → Counted F count left xs old mid → Reads (Times F count) (Err errors.OutOfMemory) old new
+counted_no_room F one some count left more xs x old mid new is i c = (counted_more F one count left more xs x old mid new is i c).rests (Err errors.OutOfMemory) new ([], passes_none new, Times_text F some more)
+
+pub counted_all : {A : Type 0} (F : Format A) (count left : ℕ) (xs : List A) (old mid : Source) → left ≡ 0 → Counted F count left xs old mid → Reads (Times F count) (Ok xs) old mid
+counted_all {A} F count left xs old mid e c =
+    subst (λ (zs : List A). Reads (Times F count) (Ok zs) old mid) (append-nil xs) (c.rests (Ok []) mid (subst (λ (n : ℕ). Reads (Times F n) (Ok []) mid mid) (sym e) ([], passes_none mid, (refl, refl))))
+
+-- A LIST: a count, and then so many items
+to_list : {A : Type 0} (C : Format ℕ) (F : Format A) (x : ℕ × List A) (t : List ℕ) → Then C (Times F) x t → ListOf C F x.1 t
+to_list C F x t h = (h.0, h.1, subst (λ (n : ℕ). C n h.0) (sym h.3.0) h.2, h.3.1, h.4)
+
+from_list : {A : Type 0} (C : Format ℕ) (F : Format A) (xs : List A) (t : List ℕ) → ListOf C F xs t → (x : ℕ × List A) × Then C (Times F) x t
+from_list C F xs t h = ((length xs, xs), (h.0, h.1, h.2, (refl, h.3), h.4))
+
+abbrev second : {A B : Type 0} → A × B → B
+second x = x.1
+
+twice : {A : Type 0} (n : ℕ) (r : Result (List A) StepError) → valued second (valued (λ y. (n, y)) r) ≡ r
+twice n (Ok x) = refl
+twice n (Err e) = refl
+
+pub list_fails : {A : Type 0} (C : Format ℕ) (F : Format A) → OneForm C → HasText F → (e : StepError) (old new : Source) → Reads C (Err e) old new → Reads (ListOf C F) (Err e) old new
+list_fails C F one some e old new r =
+    reads_as (Then C (Times F)) (ListOf C F) (λ x. x.1) (to_list C F) (from_list C F) (Err e) old new (first_fails C (Times F) one (λ n. Times_text F some n) e old new r)
+
+pub list_gives : {A : Type 0} (C : Format ℕ) (F : Format A) → OneForm C → (n : ℕ) (old mid new : Source) → Reads C (Ok n) old mid → (r : Result (List A) StepError) → Reads (Times F n) r mid new → Reads (ListOf C F) r old new
+list_gives {A} C F one n old mid new c r h =
+    subst (λ (z : Result (List A) StepError). Reads (ListOf C F) z old new) (twice n r)
+    (reads_as (Then C (Times F)) (ListOf C F) second (to_list C F) (from_list C F) (valued (λ y. (n, y)) r) old new (second_gives C (Times F) one n c.0 old mid new c.2 c.1 r h))
+
+-- a second value that was put elsewhere
+pub pair_giving : {A B : Type 0} (x : A) (y : B) (r : Result (Unit {0}) StepError) → valued {A = B} {B = A × B} (λ z. (x, z)) (giving y r) ≡ giving {A = A × B} (x, y) r
+pair_giving x y (Ok u) = refl
+pair_giving x y (Err e) = refl
+
+pub pair_valued : {A B C : Type 0} (x : A) (f : B → C) (r : Result B StepError) → valued {A = C} {B = A × C} (λ z. (x, z)) (valued f r) ≡ valued {A = B} {B = A × C} (λ z. (x, f z)) r
+pair_valued x f (Ok z) = refl
+pair_valued x f (Err e) = refl
+
+-- an error of a part, at a tag that a test has told
+pub stops_at : {X B : Type 0} (F : ℕ → Format B) (t tag : ℕ) (f : X → B) (r : Result X StepError) (d e : StepError) (old new : Source) → r ≡ Err d → d ≡ e → tag ≡ t → Reads (F t) (Err e) old new → Reads (F tag) (valued f r) old new
+stops_at {X} {B} F t tag f r d e old new p q k h =
+    subst (λ (z : Result X StepError). Reads (F tag) (valued f z) old new) (sym p)
+    (subst (λ (z : StepError). Reads (F tag) (Err z) old new) (sym q) (subst (λ (n : ℕ). Reads (F n) (Err e) old new) (sym k) h))

@@ -1,0 +1,9 @@
+pub mod Headers
+pub mod Spots
+pub mod Words
+pub mod Places
+pub mod HeaderPlaces
+pub mod TextRuns
+pub mod ChunkLemmas
+pub mod HeaderFirst
+pub mod PlainTokens

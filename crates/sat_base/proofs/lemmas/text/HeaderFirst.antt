@@ -1,0 +1,98 @@
+-- Of a text's tokens only the first may be a header.
+use Rattle.std.proofs.Common.{◌≡◌, ℕ, ◌+◌, List, [], ◌∷◌, ◌++◌, Bool, true, false, cond, Option, Some, None, refl, sym, subst, ◌⊎◌, inl, inr}
+use Rattle.std.specs.Prelude.{nat_eq, ◌&&◌}
+use Rattle.sat_base.specs.text.Text.{words, begins_with, is_letter, digits, plain, minus, behind_minus, alone, token, header_if, is_none, on_line, Token, Number, Letter, Header, Wrong, tokens_of, lines, scan, tokens}
+use Rattle.sat_base.specs.script.Script.{spoken}
+
+-- no header
+abbrev pub IsWord : Token → Type 0
+IsWord (Number negative value) = Unit {0}
+IsWord (Letter b) = Unit {0}
+IsWord (Header v c) = ⊥
+IsWord Wrong = Unit {0}
+
+abbrev pub AreWords : List Token → Type 0
+AreWords [] = Unit {0}
+AreWords (t ∷ ts) = IsWord t × AreWords ts
+
+abbrev pub AreScript : List Token → Type 0
+AreScript ts = AreWords ts ⊎ ((v : ℕ) × (c : ℕ) × (rest : List Token) × AreWords rest × (ts ≡ Header v c ∷ rest))
+
+either : (b : Bool) (t u : Token) → IsWord t → IsWord u → IsWord (cond b t u)
+either true t u h k = h
+either false t u h k = k
+
+minus_word : (o : Option ℕ) → IsWord (minus o)
+minus_word None = tt
+minus_word (Some n) = either (nat_eq n 0) Wrong (Number true n) tt tt
+
+behind_minus_word : (w : List ℕ) → IsWord (behind_minus w)
+behind_minus_word [] = tt
+behind_minus_word (b ∷ bs) = minus_word (digits 0 (b ∷ bs))
+
+plain_word : (o : Option ℕ) → IsWord (plain o)
+plain_word None = tt
+plain_word (Some n) = tt
+
+alone_word : (b : ℕ) (bs : List ℕ) → IsWord (alone b bs)
+alone_word b [] = tt
+alone_word b (c ∷ bs) = tt
+
+pub word_token : (w : List ℕ) → IsWord (token w)
+unfolding token
+word_token [] = tt
+word_token (b ∷ bs) = either (nat_eq b 45) _ _ (behind_minus_word bs) (either (is_letter b) _ _ (alone_word b bs) (plain_word (digits 0 (b ∷ bs))))
+
+line_words : (n : ℕ) (ws : List (List ℕ)) (more : List (ℕ × Token)) → AreWords (spoken more) → AreWords (spoken (on_line n ws ++ more))
+line_words n [] more h = h
+line_words n (w ∷ ws) more h = (word_token w, line_words n ws more h)
+
+-- LINES
+of_none : (may : Bool) (n : ℕ) → tokens_of may n [] ≡ []
+unfolding tokens_of
+of_none may n = refl
+
+of_line : (may : Bool) (n : ℕ) (line : List ℕ) (lines : List (List ℕ)) → tokens_of may n (line ∷ lines)
+    ≡ cond (begins_with 37 line) []
+    (cond (begins_with 99 line) (tokens_of may (n + 1) lines)
+    (cond (begins_with 112 line) ((n + 1, header_if may line) ∷ tokens_of false (n + 1) lines)
+    (on_line (n + 1) (words line) ++ tokens_of (may && is_none (words line)) (n + 1) lines)))
+unfolding tokens_of
+of_line may n line lines = refl
+
+chosen : (P : List (ℕ × Token) → Type 0) (ends comments heads : Bool) (none later headed worded : List (ℕ × Token)) → P none → P later → P headed → P worded
+    → P (cond ends none (cond comments later (cond heads headed worded)))
+chosen P true comments heads none later headed worded a b c d = a
+chosen P false true heads none later headed worded a b c d = b
+chosen P false false true none later headed worded a b c d = c
+chosen P false false false none later headed worded a b c d = d
+
+-- where none may come
+late : (n : ℕ) (ls : List (List ℕ)) → AreWords (spoken (tokens_of false n ls))
+late n [] = rw (of_none false n) tt
+late n (line ∷ ls) =
+    let rest = late (n + 1) ls in
+    subst (λ (ts : List (ℕ × Token)). AreWords (spoken ts)) (sym (of_line false n line ls))
+    (chosen (λ ts. AreWords (spoken ts)) (begins_with 37 line) (begins_with 99 line) (begins_with 112 line) _ _ _ _ tt rest (tt, rest) (line_words (n + 1) (words line) _ rest))
+
+behind_header : (t : Token) (ts : List Token) → AreWords ts → AreScript (t ∷ ts)
+behind_header (Number negative value) ts h = inl (tt, h)
+behind_header (Letter b) ts h = inl (tt, h)
+behind_header (Header v c) ts h = inr (v, c, ts, h, refl)
+behind_header Wrong ts h = inl (tt, h)
+
+behind_words : (n : ℕ) (ws : List (List ℕ)) (ls : List (List ℕ)) → AreScript (spoken (tokens_of true n ls)) → AreScript (spoken (on_line n ws ++ tokens_of (is_none ws) n ls))
+behind_words n [] ls h = h
+behind_words n (w ∷ ws) ls h = inl (line_words n (w ∷ ws) _ (late n ls))
+
+-- where one may
+early : (n : ℕ) (ls : List (List ℕ)) → AreScript (spoken (tokens_of true n ls))
+early n [] = rw (of_none true n) (inl tt)
+early n (line ∷ ls) =
+    let rest = early (n + 1) ls in
+    subst (λ (ts : List (ℕ × Token)). AreScript (spoken ts)) (sym (of_line true n line ls))
+    (chosen (λ ts. AreScript (spoken ts)) (begins_with 37 line) (begins_with 99 line) (begins_with 112 line) _ _ _ _ (inl tt) rest (behind_header _ _ (late (n + 1) ls)) (behind_words (n + 1) (words line) ls rest))
+
+pub text_is : (text : List ℕ) → AreScript (spoken (tokens text))
+unfolding scan
+text_is text = early 0 (lines text)

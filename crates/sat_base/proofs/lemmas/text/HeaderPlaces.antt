@@ -1,0 +1,184 @@
+-- What a tokenizer's places in header lines stand for, step by step.
+use Rattle.std.proofs.Common.{◌≡◌, ℕ, ◌+◌, ◌-◌, ◌<◌, List, [], ◌∷◌, ◌++◌, true, false, Option, Some, None, refl, ap, ◌∙◌}
+use Rattle.std.specs.Prelude.{nat_eq}
+use Rattle.sat_base.specs.declared.text.Place.{Place}
+use Rattle.sat_base.specs.declared.text.Place.TheVariants as at
+use Rattle.sat_base.specs.declared.text.header.HeaderPlace.{HeaderPlace}
+use Rattle.sat_base.specs.declared.text.header.HeaderPlace.TheVariants as header
+use Rattle.sat_base.specs.declared.text.header.Stage.{Stage as CodeStage}
+use Rattle.sat_base.specs.declared.text.header.Stage.TheVariants as stage
+use Rattle.sat_base.specs.declared.text.Token.{Token as CodeToken}
+use Rattle.sat_base.specs.declared.text.Token.TheVariants as code
+use Rattle.sat_base.specs.text.Text.{is_blank, is_digit, digits, same_bytes, Token, Header, Wrong}
+use Rattle.sat_base.specs.text.Spot.{Stage, Begun, Named, Format, Vars, Both, with_value, stage_end, behind_word, Spot, HeaderWithin, Spoilt, Solid, in_hand, behind_header_word, spoils, ended_by_blank}
+use Rattle.sat_base.specs.text.Tokenizing.{held_token, BeginsSpoilt, IsStage, IsAtHeader, Leads, Moves, MovesHeader, BeganHeader, grown, Given, Says, SaysAtBlank, ended_stage, IsStageIf, LeadsBehind}
+use Rattle.sat_base.proofs.lemmas.text.Spots.{Solid-more, header_between_word, header_within_more, header_spoilt}
+use Rattle.sat_base.proofs.lemmas.text.Words.{SpellsHeld_one, SpellsHeld_more, digits_stop, digits_wrong_in}
+use Rattle.sat_base.proofs.lemmas.text.Places.{no_LF, behind_word_in_header}
+
+-- a byte that is no digit leaves no number
+spoilt_number : (d : ℕ) (w : List ℕ) → is_digit d ≡ false → (s : ℕ → Stage) → (more : List ℕ) → with_value s (digits 0 ((d ∷ w) ++ more)) ≡ None
+spoilt_number d w e s more = ap (with_value s) (digits_stop 0 d (w ++ more) e)
+
+other_first : (a b : ℕ) (bs cs : List ℕ) → nat_eq a b ≡ false → same_bytes (a ∷ bs) (b ∷ cs) ≡ false
+other_first a b bs cs e = rw e refl
+
+-- WORDS BEGIN
+pub begun_c : BeganHeader stage.Named 99 (Some header.C)
+begun_c s e = rw e refl
+
+pub begun_no_c : (b : ℕ) → nat_eq b 99 ≡ false → BeganHeader stage.Named b None
+begun_no_c b f s e more = rw (e, f) refl
+
+pub begun_vars : (b : ℕ) → is_blank b ≡ false → is_digit b ≡ true → b < 256 → BeganHeader stage.Format b (Some (header.Vars (b - 48)))
+begun_vars b f d small s e = rw e (b, [], (f, tt), SpellsHeld_one b d small, refl)
+
+pub begun_no_vars : (b : ℕ) → is_digit b ≡ false → BeganHeader stage.Format b None
+begun_no_vars b d s e more = rw e (spoilt_number b [] d Vars more)
+
+pub begun_clauses : (vars b : ℕ) → is_blank b ≡ false → is_digit b ≡ true → b < 256 → BeganHeader (stage.Vars vars) b (Some (header.Clauses vars (b - 48)))
+begun_clauses vars b f d small s (v, h, e) = rw e (v, b, [], h, (f, tt), SpellsHeld_one b d small, refl)
+
+pub begun_no_clauses : (vars b : ℕ) → is_digit b ≡ false → BeganHeader (stage.Vars vars) b None
+begun_no_clauses vars b d s (v, h, e) more = rw e (spoilt_number b [] d (Both v) more)
+
+pub begun_behind_both : (vars clauses b : ℕ) → BeganHeader (stage.Both vars clauses) b None
+begun_behind_both vars clauses b s (v, c, h, k, e) more = rw e refl
+
+-- WORDS GO ON
+-- a byte that begins a word
+pub between_moves : (ended : CodeStage) (b : ℕ) (o : Option HeaderPlace) → is_blank b ≡ false → BeganHeader ended b o → MovesHeader (header.Between ended) b o
+between_moves ended b None f began = λ spot i.
+    let s = i.0 in
+    let h = i.1 in
+    rw i.2 (λ n rest. header_between_word s n b rest (no_LF b f) ∙ header_spoilt s b [] n rest (f, tt) (began s h))
+between_moves ended b (Some place) f began = λ spot i.
+    let s = i.0 in
+    let h = i.1 in
+    rw i.2 (HeaderWithin s b [], began s h, λ n rest. header_between_word s n b rest (no_LF b f))
+
+-- a byte that spoils the word
+spoilt_by : (s : Stage) (x : ℕ) (w : List ℕ) (b : ℕ) → Solid (x ∷ w) → is_blank b ≡ false → BeginsSpoilt s ((x ∷ w) ++ b ∷ []) → Leads (HeaderWithin s x w) b Spoilt
+spoilt_by s x w b solid f h n rest = header_within_more s x w n b rest (no_LF b f) ∙ header_spoilt s x (w ++ b ∷ []) n rest (Solid-more (x ∷ w) b solid f) h
+
+goes_on_within : (s : Stage) (x : ℕ) (w : List ℕ) (b : ℕ) → is_blank b ≡ false → Leads (HeaderWithin s x w) b (HeaderWithin s x (w ++ b ∷ []))
+goes_on_within s x w b f n rest = header_within_more s x w n b rest (no_LF b f)
+
+pub c_n : MovesHeader header.C 110 (Some header.Cn)
+c_n spot e = rw e (HeaderWithin Named 99 (110 ∷ []), refl, goes_on_within Named 99 [] 110 refl)
+
+pub c_no_n : (b : ℕ) → is_blank b ≡ false → nat_eq b 110 ≡ false → MovesHeader header.C b None
+c_no_n b f g spot e = rw e (spoilt_by Named 99 [] b (refl, tt) f (λ more. rw g refl))
+
+pub cn_f : MovesHeader header.Cn 102 (Some header.Cnf)
+cn_f spot e = rw e (HeaderWithin Named 99 (110 ∷ 102 ∷ []), refl, goes_on_within Named 99 (110 ∷ []) 102 refl)
+
+pub cn_no_f : (b : ℕ) → is_blank b ≡ false → nat_eq b 102 ≡ false → MovesHeader header.Cn b None
+cn_no_f b f g spot e = rw e (spoilt_by Named 99 (110 ∷ []) b (refl, (refl, tt)) f (λ more. rw g refl))
+
+pub p_more : (b : ℕ) → is_blank b ≡ false → MovesHeader header.P b None
+p_more b f spot e = rw e (spoilt_by Begun 112 [] b (refl, tt) f (λ more. refl))
+
+pub cnf_more : (b : ℕ) → is_blank b ≡ false → MovesHeader header.Cnf b None
+cnf_more b f spot e = rw e (spoilt_by Named 99 (110 ∷ 102 ∷ []) b (refl, (refl, (refl, tt))) f (λ more. refl))
+
+pub vars_digit : (value b : ℕ) → is_blank b ≡ false → is_digit b ≡ true → MovesHeader (header.Vars value) b (Some (header.Vars (grown value b)))
+vars_digit value b f d spot (x, w, s, h, e) =
+    rw e (HeaderWithin Format x (w ++ b ∷ []), (x, w ++ b ∷ [], Solid-more (x ∷ w) b s f, SpellsHeld_more (x ∷ w) value b h d, refl), goes_on_within Format x w b f)
+
+pub vars_no_digit : (value b : ℕ) → is_blank b ≡ false → is_digit b ≡ false → MovesHeader (header.Vars value) b None
+vars_no_digit value b f d spot (x, w, s, (m, h, k), e) =
+    rw e (spoilt_by Format x w b s f (λ more. ap (with_value Vars) (digits_wrong_in m b (x ∷ w) more h d)))
+
+pub clauses_digit : (vars value b : ℕ) → is_blank b ≡ false → is_digit b ≡ true → MovesHeader (header.Clauses vars value) b (Some (header.Clauses vars (grown value b)))
+clauses_digit vars value b f d spot (v, x, w, k, s, h, e) =
+    rw e (HeaderWithin (Vars v) x (w ++ b ∷ []), (v, x, w ++ b ∷ [], k, Solid-more (x ∷ w) b s f, SpellsHeld_more (x ∷ w) value b h d, refl), goes_on_within (Vars v) x w b f)
+
+pub clauses_no_digit : (vars value b : ℕ) → is_blank b ≡ false → is_digit b ≡ false → MovesHeader (header.Clauses vars value) b None
+clauses_no_digit vars value b f d spot (v, x, w, k, s, (m, h, j), e) =
+    rw e (spoilt_by (Vars v) x w b s f (λ more. ap (with_value (Both v)) (digits_wrong_in m b (x ∷ w) more h d)))
+
+pub header_moves : (old : HeaderPlace) (b : ℕ) (new : HeaderPlace) → MovesHeader old b (Some new) → Moves (at.Header old) b (at.Header new)
+header_moves old b new m = m
+
+pub header_spoils : (old : HeaderPlace) (b : ℕ) → MovesHeader old b None → Moves (at.Header old) b at.Spoilt
+header_spoils old b m spot i = (Spoilt, refl, m spot i)
+
+-- WORDS END
+pub ended_vars : (value : ℕ) (spot : Spot) → IsAtHeader (header.Vars value) spot → IsStageIf (Some (stage.Vars value)) (ended_stage spot)
+ended_vars value spot (x, w, s, (m, h, k), e) = rw e (Vars m, (m, k, refl), ap (with_value Vars) h)
+
+pub ended_clauses : (vars value : ℕ) (spot : Spot) → IsAtHeader (header.Clauses vars value) spot → IsStageIf (Some (stage.Both vars value)) (ended_stage spot)
+ended_clauses vars value spot (v, x, w, k, s, (m, h, j), e) = rw e (Both v m, (v, m, k, j, refl), ap (with_value (Both v)) h)
+
+abbrev EndsAs : HeaderPlace → Option CodeStage → Type 0
+EndsAs place o = (spot : Spot) → IsAtHeader place spot → IsStageIf o (ended_stage spot)
+
+-- where the line ends
+in_hand_is : (p : HeaderPlace) (spot : Spot) (n : ℕ) → IsAtHeader p spot → in_hand spot n ≡ (n + 1, behind_word (ended_stage spot) stage_end) ∷ []
+in_hand_is (header.Between ended) spot n (s, h, e) = rw e refl
+in_hand_is header.P spot n e = rw e refl
+in_hand_is header.C spot n e = rw e refl
+in_hand_is header.Cn spot n e = rw e refl
+in_hand_is header.Cnf spot n e = rw e refl
+in_hand_is (header.Vars value) spot n (x, w, s, h, e) = rw e refl
+in_hand_is (header.Clauses vars value) spot n (v, x, w, k, s, h, e) = rw e refl
+
+given_at_end : (p : HeaderPlace) (spot : Spot) (t : Token) (given : CodeToken) → IsAtHeader p spot → given ≡ held_token t → behind_word (ended_stage spot) stage_end ≡ t → Given (Some given) (in_hand spot)
+given_at_end p spot t given i h e = (t, h, λ n. in_hand_is p spot n i ∙ ap (λ (u : Token). (n + 1, u) ∷ []) e)
+
+pub says_header : (p : HeaderPlace) (vars clauses : ℕ) → EndsAs p (Some (stage.Both vars clauses)) → Says (Some (code.Header vars clauses)) (at.Header p)
+says_header p vars clauses ends spot i =
+    let h = ends spot i in
+    let both = h.1 in
+    given_at_end p spot (Header both.0 both.1) (code.Header vars clauses) i (rw (both.2, both.3) refl)
+    (ap (λ (o : Option Stage). behind_word o stage_end) h.2 ∙ ap stage_end both.4)
+
+wrong_end : (ended : CodeStage) (s : Stage) → ((vars clauses : ℕ) → ended ≡ stage.Both vars clauses → ⊥) → IsStage ended s → stage_end s ≡ Wrong
+wrong_end stage.Named s n e = rw e refl
+wrong_end stage.Format s n e = rw e refl
+wrong_end (stage.Vars vars) s n (v, h, e) = rw e refl
+wrong_end (stage.Both vars clauses) s n h = absurd (n vars clauses refl)
+
+pub says_no_header : (p : HeaderPlace) (o : Option CodeStage) → ((vars clauses : ℕ) → o ≡ Some (stage.Both vars clauses) → ⊥) → EndsAs p o → Says (Some code.Wrong) (at.Header p)
+says_no_header p None n ends spot i = given_at_end p spot Wrong code.Wrong i refl (ap (λ (o : Option Stage). behind_word o stage_end) (ends spot i))
+says_no_header p (Some ended) n ends spot i =
+    let h = ends spot i in
+    given_at_end p spot Wrong code.Wrong i refl (ap (λ (o : Option Stage). behind_word o stage_end) h.2 ∙ wrong_end ended h.0 (λ v c e. n v c (ap Some e)) h.1)
+
+-- at a blank
+at_blank_is : (p : HeaderPlace) (spot : Spot) (n : ℕ) → IsAtHeader p spot → ended_by_blank spot n ≡ spoils (ended_stage spot) n
+at_blank_is (header.Between ended) spot n (s, h, e) = rw e refl
+at_blank_is header.P spot n e = rw e refl
+at_blank_is header.C spot n e = rw e refl
+at_blank_is header.Cn spot n e = rw e refl
+at_blank_is header.Cnf spot n e = rw e refl
+at_blank_is (header.Vars value) spot n (x, w, s, h, e) = rw e refl
+at_blank_is (header.Clauses vars value) spot n (v, x, w, k, s, h, e) = rw e refl
+
+pub blank_spoils : (p : HeaderPlace) → EndsAs p None → SaysAtBlank (Some code.Wrong) (at.Header p)
+blank_spoils p ends spot i = (Wrong, refl, λ n. at_blank_is p spot n i ∙ ap (λ (o : Option Stage). spoils o n) (ends spot i))
+
+pub blank_goes_on : (p : HeaderPlace) (ended : CodeStage) → EndsAs p (Some ended) → SaysAtBlank None (at.Header p)
+blank_goes_on p ended ends spot i n = at_blank_is p spot n i ∙ ap (λ (o : Option Stage). spoils o n) (ends spot i).2
+
+pub behind_spoilt : (p : HeaderPlace) → EndsAs p None → LeadsBehind (at.Header p) (at.Comment false)
+behind_spoilt p ends spot i = behind_word_in_header p spot i ∙ ap behind_header_word (ends spot i)
+
+pub behind_ended : (p : HeaderPlace) (ended : CodeStage) → EndsAs p (Some ended) → LeadsBehind (at.Header p) (at.Header (header.Between ended))
+behind_ended p ended ends spot i = let h = ends spot i in (h.0, h.1, behind_word_in_header p spot i ∙ ap behind_header_word h.2)
+
+-- elsewhere a blank ends what LF does
+pub other_blank : (p : Place) (given : Option CodeToken) → ((place : HeaderPlace) → p ≡ at.Header place → ⊥) → Says given p → SaysAtBlank given p
+other_blank (at.Fresh may) given h says spot e = rw e (let k = says spot e in rw e at k)
+other_blank (at.Leading may) given h says spot e = rw e (let k = says spot e in rw e at k)
+other_blank (at.Comment may) given h says spot e = rw e (let k = says spot e in rw e at k)
+other_blank at.Between given h says spot e = rw e (let k = says spot e in rw e at k)
+other_blank at.Minus given h says spot e = rw e (let k = says spot e in rw e at k)
+other_blank (at.Digits false value) given h says spot i = let k = says spot i in let e = i.6 in rw e (rw e at k)
+other_blank (at.Digits true value) given h says spot i = let k = says spot i in let e = i.4 in rw e (rw e at k)
+other_blank (at.Letter b) given h says spot i = let k = says spot i in let e = i.1 in rw e (rw e at k)
+other_blank at.Bad given h says spot i = let k = says spot i in let e = i.4 in rw e (rw e at k)
+other_blank (at.Header place) given h says spot i = absurd (h place refl)
+other_blank at.Spoilt given h says spot e = rw e (let k = says spot e in rw e at k)
+other_blank at.Over given h says spot e = rw e (let k = says spot e in rw e at k)

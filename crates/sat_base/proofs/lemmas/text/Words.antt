@@ -1,0 +1,124 @@
+-- What the bytes of a word in hand say.
+use Rattle.std.proofs.Common.{◌≡◌, ℕ, ◌+◌, ◌*◌, ◌-◌, ◌<◌, List, [], ◌∷◌, ◌++◌, Bool, true, false, cond, eqb, Option, Some, None, refl, sym, ap, subst, ◌∙◌, append_assoc, arith}
+use Rattle.std.proofs.lemmas.List.{append-nil}
+use Rattle.std.proofs.lemmas.Bool.Decides.{nat_tests}
+use Rattle.sat_base.specs.text.Text.{is_digit, is_letter, digits, plain, minus, behind_minus, alone, token, Number, Letter, Wrong}
+use Rattle.sat_base.specs.text.Tokenizing.{SpellsHeld, BeginsWrong, grown}
+
+digits_cons : (n d : ℕ) (ds : List ℕ) → is_digit d ≡ true → digits n (d ∷ ds) ≡ digits (10 * n + (d - 48)) ds
+unfolding digits
+digits_cons n d ds e = rw e refl
+
+pub digits_stop : (n d : ℕ) (ds : List ℕ) → is_digit d ≡ false → digits n (d ∷ ds) ≡ None
+unfolding digits
+digits_stop n d ds e = rw e refl
+
+digits_nil : (n : ℕ) → digits n [] ≡ Some n
+unfolding digits
+digits_nil n = refl
+
+guarded : {A : Type 0} (b : Bool) (o : Option A) (m : A) → cond b o None ≡ Some m → b ≡ true
+guarded true o m h = refl
+guarded false o m h = absurd cc
+
+front_digit : (n m x : ℕ) (ds : List ℕ) → digits n (x ∷ ds) ≡ Some m → is_digit x ≡ true
+unfolding digits
+front_digit n m x ds h = guarded (is_digit x) (digits (10 * n + (x - 48)) ds) m h
+
+-- a digit more
+digits_more : (n m d : ℕ) (ds : List ℕ) → digits n ds ≡ Some m → is_digit d ≡ true → digits n (ds ++ d ∷ []) ≡ Some (10 * m + (d - 48))
+digits_more n m d [] h e =
+    let same : n ≡ m = let k : Some n ≡ Some m = sym (digits_nil n) ∙ h in cc in
+    digits_cons n d [] e ∙ digits_nil (10 * n + (d - 48)) ∙ ap (λ (k : ℕ). Some (10 * k + (d - 48))) same
+digits_more n m d (x ∷ ds) h e =
+    let f = front_digit n m x ds h in
+    digits_cons n x (ds ++ d ∷ []) f ∙ digits_more (10 * n + (x - 48)) m d ds (sym (digits_cons n x ds f) ∙ h) e
+
+-- a byte that is no digit
+digits_wrong : (n m d : ℕ) (ds more : List ℕ) → digits n ds ≡ Some m → is_digit d ≡ false → digits n (ds ++ d ∷ more) ≡ None
+digits_wrong n m d [] more h e = digits_stop n d more e
+digits_wrong n m d (x ∷ ds) more h e =
+    let f = front_digit n m x ds h in
+    digits_cons n x (ds ++ d ∷ more) f ∙ digits_wrong (10 * n + (x - 48)) m d ds more (sym (digits_cons n x ds f) ∙ h) e
+
+pub digits_wrong_in : (m d : ℕ) (ds more : List ℕ) → digits 0 ds ≡ Some m → is_digit d ≡ false → digits 0 ((ds ++ d ∷ []) ++ more) ≡ None
+digits_wrong_in m d ds more h e = ap (digits 0) (append_assoc ds (d ∷ []) more) ∙ digits_wrong 0 m d ds more h e
+
+-- a digit alone
+pub SpellsHeld_one : (d : ℕ) → is_digit d ≡ true → d < 256 → SpellsHeld (d ∷ []) (d - 48)
+SpellsHeld_one d e b = (d - 48, digits_cons 0 d [] e ∙ digits_nil (10 * 0 + (d - 48)) ∙ ap (λ (k : ℕ). Some k) (omega arith), omega arith)
+
+pub SpellsHeld_more : (ds : List ℕ) (v d : ℕ) → SpellsHeld ds v → is_digit d ≡ true → SpellsHeld (ds ++ d ∷ []) (grown v d)
+SpellsHeld_more ds v d s e = (10 * s.0 + (d - 48), digits_more 0 s.0 d ds s.1 e, omega (arith, s.2))
+
+not_eqb : (x y : ℕ) → (x ≡ y → ⊥) → eqb x y ≡ false
+not_eqb x y h = grind (arith, nat_tests)
+
+token_plain : (x : ℕ) (w : List ℕ) → (x ≡ 45 → ⊥) → is_letter x ≡ false → token (x ∷ w) ≡ plain (digits 0 (x ∷ w))
+unfolding token
+token_plain x w n l = rw (not_eqb x 45 n, l) refl
+
+token_minus : (w : List ℕ) → token (45 ∷ w) ≡ behind_minus w
+unfolding token
+token_minus w = refl
+
+token_letter : (x : ℕ) (w : List ℕ) → (x ≡ 45 → ⊥) → is_letter x ≡ true → token (x ∷ w) ≡ alone x w
+unfolding token
+token_letter x w n l = rw (not_eqb x 45 n, l) refl
+
+pub no_minus_digit : (d : ℕ) → is_digit d ≡ true → d ≡ 45 → ⊥
+no_minus_digit d e f = let g : is_digit 45 ≡ true = subst (λ (k : ℕ). is_digit k ≡ true) f e in cc
+
+no_minus_letter : (d : ℕ) → is_letter d ≡ true → d ≡ 45 → ⊥
+no_minus_letter d e f = let g : is_letter 45 ≡ true = subst (λ (k : ℕ). is_letter k ≡ true) f e in cc
+
+pub no_letter_digit : (d : ℕ) → is_digit d ≡ true → is_letter d ≡ false
+no_letter_digit d e = grind (arith, nat_tests)
+
+pub BeginsWrong_more : (w : List ℕ) (b : ℕ) → BeginsWrong w → BeginsWrong (w ++ b ∷ [])
+BeginsWrong_more w b h more = ap token (append_assoc w (b ∷ []) more) ∙ h (b ∷ more)
+
+-- a word that begins with no digit, no letter and no `-`
+pub BeginsWrong_first : (b : ℕ) → is_digit b ≡ false → is_letter b ≡ false → (b ≡ 45 → ⊥) → BeginsWrong (b ∷ [])
+BeginsWrong_first b e l n more = token_plain b more n l ∙ ap plain (digits_stop 0 b more e)
+
+-- a letter that isn't alone
+pub BeginsWrong_letter : (b c : ℕ) → is_letter b ≡ true → BeginsWrong (b ∷ c ∷ [])
+BeginsWrong_letter b c l more = token_letter b (c ∷ more) (no_minus_letter b l) l
+
+-- behind digits comes no digit
+pub BeginsWrong_plain : (x : ℕ) (w : List ℕ) (v b : ℕ) → SpellsHeld (x ∷ w) v → (x ≡ 45 → ⊥) → is_letter x ≡ false → is_digit b ≡ false → BeginsWrong ((x ∷ w) ++ b ∷ [])
+BeginsWrong_plain x w v b s n l e more =
+    ap token (append_assoc (x ∷ w) (b ∷ []) more) ∙ token_plain x (w ++ b ∷ more) n l ∙ ap plain (digits_wrong 0 s.0 b (x ∷ w) more s.1 e)
+
+-- behind `-` comes no digit
+pub BeginsWrong_minus : (b : ℕ) → is_digit b ≡ false → BeginsWrong (45 ∷ b ∷ [])
+BeginsWrong_minus b e more = token_minus (b ∷ more) ∙ ap minus (digits_stop 0 b more e)
+
+behind_minus_is : (w : List ℕ) → (w ≡ [] → ⊥) → behind_minus w ≡ minus (digits 0 w)
+behind_minus_is [] h = absurd (h refl)
+behind_minus_is (d ∷ w) h = refl
+
+some_more : (w : List ℕ) (b : ℕ) (more : List ℕ) → w ++ b ∷ more ≡ [] → ⊥
+some_more [] b more e = cc
+some_more (x ∷ w) b more e = cc
+
+pub BeginsWrong_negative : (w : List ℕ) (v b : ℕ) → SpellsHeld w v → is_digit b ≡ false → BeginsWrong ((45 ∷ w) ++ b ∷ [])
+BeginsWrong_negative w v b s e more =
+    ap token (append_assoc (45 ∷ w) (b ∷ []) more) ∙ token_minus (w ++ b ∷ more) ∙ behind_minus_is (w ++ b ∷ more) (some_more w b more) ∙ ap minus (digits_wrong 0 s.0 b w more s.1 e)
+
+-- what a word in hand says, where it ends
+pub word_plain : (x : ℕ) (w : List ℕ) (m : ℕ) → digits 0 (x ∷ w) ≡ Some m → (x ≡ 45 → ⊥) → is_letter x ≡ false → token (x ∷ w) ≡ Number false m
+word_plain x w m e n l = token_plain x w n l ∙ ap plain e
+
+pub word_minus : (w : List ℕ) (m : ℕ) → digits 0 w ≡ Some m → (w ≡ [] → ⊥) → token (45 ∷ w) ≡ minus (Some m)
+word_minus w m e n = token_minus w ∙ behind_minus_is w n ∙ ap minus e
+
+pub word_bare : token (45 ∷ []) ≡ Wrong
+word_bare = token_minus []
+
+pub word_letter : (b : ℕ) → is_letter b ≡ true → token (b ∷ []) ≡ Letter b
+word_letter b l = token_letter b [] (no_minus_letter b l) l
+
+pub word_wrong : (w : List ℕ) → BeginsWrong w → token w ≡ Wrong
+word_wrong w h = ap token (sym (append-nil w)) ∙ h []

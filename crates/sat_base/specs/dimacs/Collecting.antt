@@ -1,0 +1,72 @@
+-- How the clauses of a formula are collected from tokens.
+use Rattle.std.specs.Prelude.{◌≡◌, ℕ, ◌+◌, ◌⊎◌, Bool, true, false, not, ◌&&◌, nat_eq, nat_lt, List, [], ◌∷◌, Option, None, Some, Result, Ok, Err}
+use Rattle.sat_base.specs.declared.dimacs.clauses.Clauses.{Clauses}
+use Rattle.sat_base.specs.declared.dimacs.clauses.Refusal.{Refusal}
+use Rattle.sat_base.specs.declared.dimacs.clauses.Refusal.TheVariants as refusal
+use Rattle.sat_base.specs.declared.text.Token.{Token as CodeToken}
+use Rattle.sat_base.specs.declared.text.Token.TheVariants as code
+use Rattle.sat_base.specs.text.Text.{Token, Number, Letter, Header, Wrong}
+use Rattle.sat_base.specs.text.Tokenizing.{held}
+use Rattle.sat_base.specs.values.Formulas.{with_clause}
+use Rattle.sat_base.specs.dimacs.Dimacs.{Malformed, Limit, Hand, Turn, GoesOn, Ends, Fails, literals_in, turn}
+use Rattle.sat_base.specs.values.Literals.{largest}
+
+-- a token as the code has it, with its value as it was held
+abbrev pub token_of : CodeToken → Token
+token_of (code.Number negative value) = Number negative value
+token_of (code.Letter b) = Letter b
+token_of (code.Header v c) = Header v c
+token_of code.Wrong = Wrong
+
+-- a clause has begun with its first literal
+abbrev pub hand_of : List ℕ → Hand
+hand_of [] = None
+hand_of (l ∷ ls) = Some (l ∷ ls)
+
+-- what is in hand
+abbrev pub hand_in : Clauses → Hand
+hand_in clauses = hand_of clauses.hand.items
+
+-- the header, if this token is one
+abbrev pub header_behind : Token → Option (ℕ × ℕ) → Option (ℕ × ℕ)
+header_behind (Number negative value) header = header
+header_behind (Letter b) header = header
+header_behind (Header v c) header = Some (v, c)
+header_behind Wrong header = header
+
+-- the clauses are as they were
+abbrev pub Stay : Clauses → Clauses → Type 0
+Stay old new = (new.formula ≡ old.formula) × (new.count ≡ old.count)
+
+-- so is the header
+abbrev pub AllStay : Clauses → Clauses → Type 0
+AllStay old new = Stay old new × (new.header ≡ old.header)
+
+-- a turn that is no fault was taken
+abbrev pub Turns : Turn → Clauses → Clauses → Type 0
+Turns (GoesOn hand) old new = Stay old new × (hand_in new ≡ hand)
+Turns (Ends clause) old new = (new.formula ≡ with_clause clause old.formula) × (new.count ≡ held (old.count + 1)) × (hand_in new ≡ None)
+Turns (Fails ending) old new = ⊥
+
+-- a number that is a literal
+abbrev pub is_literal : Token → Bool
+is_literal (Number negative value) = not (nat_eq value 0) && not (nat_lt largest value)
+is_literal (Letter b) = false
+is_literal (Header v c) = false
+is_literal Wrong = false
+
+-- memory is taken for literals and for clauses
+abbrev pub NeedsRoom : Token → Type 0
+NeedsRoom t = (is_literal t ≡ true) ⊎ ((hand : Hand) (n : ℕ) → turn hand n t ≡ Ends (literals_in hand))
+
+-- what a token is answered by, on whichever line it stands
+abbrev pub Collects : Result (Unit {0}) Refusal → Clauses → Token → Clauses → Type 0
+Collects (Ok u) old t new = ((n : ℕ) → Turns (turn (hand_in old) n t) old new) × (new.header ≡ header_behind t old.header)
+Collects (Err refusal.Malformed) old t new = AllStay old new × ((n : ℕ) → turn (hand_in old) n t ≡ Fails (Malformed n))
+Collects (Err refusal.Limit) old t new = AllStay old new × ((n : ℕ) → turn (hand_in old) n t ≡ Fails (Limit n))
+Collects (Err refusal.OutOfMemory) old t new = AllStay old new × NeedsRoom t
+
+-- whether a clause has begun
+abbrev pub IsInside : Bool → Hand → Type 0
+IsInside false hand = hand ≡ None
+IsInside true hand = (ls : List ℕ) × (hand ≡ Some ls)

@@ -1,0 +1,79 @@
+-- The clauses of a formula's text, as DIMACS CNF has them.
+use Rattle.std.specs.Prelude.{ℕ, ◌-◌, ◌≡◌, Bool, false, not, ◌||◌, List, [], ◌∷◌, ◌++◌, Option, None, Some, nat_eq, nat_lt, if◌then◌else◌}
+use Rattle.sat_base.specs.values.Literals.{coded, largest}
+use Rattle.sat_base.specs.text.Text.{Token, Number, Letter, Header, Wrong, Scan, scan, is_blank}
+
+-- how a formula's text ends: cleanly; at a word that is wrong, or inside a clause; or at a number past the limit. Lines count from 1.
+pub data Ending : Type 0 where
+  Clean : Ending
+  Malformed : ℕ → Ending
+  Limit : ℕ → Ending
+
+-- what a text says of a formula
+pub record Dimacs : Type 0 where
+  pub clauses : List (List ℕ)  -- in order, over codes of literals
+  pub ending : Ending
+
+-- the literals of the clause in hand, where one has begun
+abbrev pub Hand : Type 0
+Hand = Option (List ℕ)
+
+-- what a token makes of it: it goes on, a clause ends, or the text does
+pub data Turn : Type 0 where
+  GoesOn : Hand → Turn
+  Ends : List ℕ → Turn
+  Fails : Ending → Turn
+
+-- a zero alone is the clause of no literals
+abbrev pub literals_in : Hand → List ℕ
+literals_in None = []
+literals_in (Some ls) = ls
+
+-- a number that isn't 0 is a literal, unless it is past the limit
+abbrev pub with_number : Hand → ℕ → Bool → ℕ → Turn
+with_number hand line negative value =
+    if nat_lt largest value then Fails (Limit line) else GoesOn (Some (literals_in hand ++ coded (value - 1) (not negative) ∷ []))
+
+-- a token on this line
+abbrev pub turn : Hand → ℕ → Token → Turn
+turn hand line (Number negative value) = if nat_eq value 0 then Ends (literals_in hand) else with_number hand line negative value
+turn hand line (Header v c) = GoesOn hand
+turn hand line (Letter b) = Fails (Malformed line)
+turn hand line Wrong = Fails (Malformed line)
+
+-- an end inside a clause is malformed, on the last line
+abbrev pub at_end : Hand → ℕ → Ending
+at_end None last = Clean
+at_end (Some ls) last = Malformed last
+
+-- a turn, and then what more says
+abbrev pub behind_turn : Turn → (Hand → Dimacs) → Dimacs
+behind_turn (GoesOn hand) more = more hand
+behind_turn (Ends clause) more = record { clauses = clause ∷ (more None).clauses; ending = (more None).ending }
+behind_turn (Fails ending) more = record { clauses = []; ending = ending }
+
+-- what tokens say, behind what is in hand, the last line being this one
+unfoldable pub clauses_of : Hand → ℕ → List (ℕ × Token) → Dimacs
+clauses_of hand last [] = record { clauses = []; ending = at_end hand last }
+clauses_of hand last (t ∷ ts) = behind_turn (turn hand t.0 t.1) (λ h. clauses_of h last ts)
+
+-- what a scan says, behind what is in hand
+abbrev pub dimacs_of : Hand → Scan → Dimacs
+dimacs_of hand s = clauses_of hand s.last s.tokens
+
+-- what a text says
+unfoldable pub dimacs : List ℕ → Dimacs
+dimacs text = dimacs_of None (scan text)
+
+abbrev pub has_blank : List ℕ → Bool
+has_blank [] = false
+has_blank (b ∷ bs) = is_blank b || has_blank bs
+
+-- a text up to its last blank, so that each word in it has ended
+abbrev pub settled : List ℕ → List ℕ
+settled [] = []
+settled (b ∷ bs) = if has_blank (b ∷ bs) then b ∷ settled bs else []
+
+-- the text has these clauses, and ends so
+abbrev pub IsDimacs : List ℕ → List (List ℕ) → Ending → Type 0
+IsDimacs text clauses end = dimacs text ≡ record { clauses = clauses; ending = end }

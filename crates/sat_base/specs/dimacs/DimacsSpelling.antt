@@ -1,0 +1,38 @@
+-- How the clauses of a formula are spelled, which says again when a text reads cleanly.
+use Rattle.std.specs.Prelude.{◌≡◌, ℕ, ◌+◌, ◌<◌, ◌↔◌, ◌⊎◌, List, [], ◌∷◌, ◌++◌, map, not}
+use Rattle.std.specs.List.{AllByRecursion}
+use Rattle.sat_base.specs.values.Literals.{largest, variable, is_positive}
+use Rattle.sat_base.specs.text.Text.{Token, Number, Header, tokens}
+use Rattle.sat_base.specs.dimacs.Dimacs.{Ending, Clean, IsDimacs}
+use Rattle.sat_base.specs.script.Script.{spoken}
+use Rattle.sat_base.specs.script.ScriptSpelling.{IsZero}
+
+-- the number of a literal's variable, from 1, negative if the literal is
+abbrev pub number_of : ℕ → Token
+number_of l = Number (not (is_positive l)) (variable l + 1)
+
+-- their numbers are at most 2^28
+abbrev pub AreWithin : List ℕ → Type 0
+AreWithin ls = AllByRecursion (λ l. variable l < largest) ls
+
+-- a clause is the numbers of its literals and a zero
+abbrev pub SpellsClause : List ℕ → List Token → Type 0
+SpellsClause ls ts = (last : Token) × IsZero last × AreWithin ls × (ts ≡ map number_of ls ++ last ∷ [])
+
+-- clauses are spelled one after another
+abbrev pub SpellsClauses : List (List ℕ) → List Token → Type 0
+SpellsClauses [] ts = ts ≡ []
+SpellsClauses (ls ∷ cs) ts = (front : List Token) × (rest : List Token) × SpellsClause ls front × SpellsClauses cs rest × (ts ≡ front ++ rest)
+
+-- a formula is clauses, and a header may stand before them
+abbrev pub SpellsFormula : List (List ℕ) → List Token → Type 0
+SpellsFormula cs ts = SpellsClauses cs ts ⊎ ((vars : ℕ) × (clauses : ℕ) × (rest : List Token) × (ts ≡ Header vars clauses ∷ rest) × SpellsClauses cs rest)
+
+-- each text has one list of clauses, and one end
+pub record OneFormula : Type 0 where
+  pub some : (text : List ℕ) → (cs : List (List ℕ)) × (end : Ending) × IsDimacs text cs end
+  pub one : (text : List ℕ) (cs ds : List (List ℕ)) (d e : Ending) → IsDimacs text cs d → IsDimacs text ds e → (cs ≡ ds) × (d ≡ e)
+
+-- a text reads cleanly as these clauses exactly if its tokens spell a formula of them
+abbrev pub CleanIfSpelled : Type 0
+CleanIfSpelled = (text : List ℕ) (cs : List (List ℕ)) → IsDimacs text cs Clean ↔ SpellsFormula cs (spoken (tokens text))

@@ -1,0 +1,24 @@
+-- The text of a formula, as DIMACS CNF writes it.
+use Rattle.std.specs.Prelude.{ℕ, ◌+◌, List, [], ◌∷◌, ◌++◌, length, decimal, codes, if◌then◌else◌}
+use Rattle.sat_base.specs.values.Literals.{variable, is_positive}
+use Rattle.sat_base.specs.values.Formulas.{Formula}
+
+-- the number of a literal: that of its variable, counted from 1, behind `-` if the literal is negative
+abbrev pub number_text : ℕ → List ℕ
+number_text l = (if is_positive l then [] else codes "-") ++ decimal (variable l + 1)
+
+-- each number and a space, then `0` and LF
+abbrev pub clause_line : List ℕ → List ℕ
+clause_line [] = codes "0\n"
+clause_line (l ∷ ls) = number_text l ++ (codes " " ++ clause_line ls)
+
+abbrev pub clause_lines : List (List ℕ) → List ℕ
+clause_lines [] = []
+clause_lines (c ∷ cs) = clause_line c ++ clause_lines cs
+
+-- `p cnf V C`, the number of variables and that of clauses, and LF
+abbrev pub header_line : ℕ → ℕ → List ℕ
+header_line v c = codes "p cnf " ++ (decimal v ++ (codes " " ++ (decimal c ++ codes "\n")))
+
+unfoldable pub dimacs_text : Formula → List ℕ
+dimacs_text f = header_line f.var_count (length f.clauses) ++ clause_lines f.clauses

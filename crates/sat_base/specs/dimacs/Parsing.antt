@@ -1,0 +1,214 @@
+-- What a parser of formulas' texts makes of the bytes that it is fed.
+use Rattle.std.specs.Borrow.{MutBor}
+use Rattle.std.specs.List.{FoldsTo, concat}
+use Rattle.std.specs.Prelude.{◌≡◌, ◌<◌, ◌⊎◌, ◌-◌, ℕ, length, get_or, nat_eq, List, [], ◌∷◌, ◌++◌, Bool, true, false, ◌||◌, Option, None, Some, Result, Ok, Err, if◌then◌else◌}
+use Rattle.sat_base.specs.text.Text.{is_blank, Token, Number, scan, tokens}
+use Rattle.sat_base.specs.text.Tokenizing.{held}
+use Rattle.sat_base.specs.values.Formulas.{Formula, vars_of}
+use Rattle.sat_base.specs.dimacs.Dimacs.{Ending, Clean, Malformed, Limit, Hand, Turn, GoesOn, Ends, Fails, turn, dimacs, settled, IsDimacs}
+use Rattle.sat_base.specs.declared.dimacs.error.DimacsError.{DimacsError}
+use Rattle.sat_base.specs.declared.dimacs.error.IncrementalError.{IncrementalError}
+use Rattle.sat_base.specs.declared.dimacs.error.IncrementalError.TheVariants as parts
+use Rattle.sat_base.specs.declared.dimacs.error.DimacsError.TheVariants as errors
+
+-- what a caller knows of a parser
+pub record Progress : Type 0 where
+  pub fed : List ℕ  -- the bytes that were taken
+  pub taken : List (List ℕ)  -- the clauses that were handed over
+  pub stopped : Bool  -- nothing more is taken
+  pub ended : Bool  -- the text is over: it was said to be, or has a fault
+
+abbrev pub no_progress : Progress
+no_progress = record { fed = []; taken = []; stopped = false; ended = false }
+
+-- with more bytes taken
+abbrev pub with_fed : List ℕ → Progress → Progress
+with_fed bytes p = record p { fed = p.fed ++ bytes }
+
+-- stopped for want of memory
+abbrev pub cut_short : Progress → Progress
+cut_short p = record p { stopped = true }
+
+-- stopped since the text is over
+abbrev pub at_its_end : Progress → Progress
+at_its_end p = record p { stopped = true; ended = true }
+
+-- the bytes whose words have ended: up to the last blank, or all where the text is over
+abbrev pub words_read : Progress → List ℕ
+words_read p = if p.ended then p.fed else settled p.fed
+
+-- the clauses read
+abbrev pub clauses_read : Progress → List (List ℕ)
+clauses_read p = (dimacs (words_read p)).clauses
+
+-- with all clauses read handed over
+abbrev pub all_taken : Progress → Progress
+all_taken p = record p { taken = clauses_read p }
+
+abbrev pub has_LF : List ℕ → Bool
+has_LF [] = false
+has_LF (b ∷ bs) = nat_eq b 10 || has_LF bs
+
+-- a text up to its last LF
+abbrev pub whole_lines : List ℕ → List ℕ
+whole_lines [] = []
+whole_lines (b ∷ bs) = if has_LF (b ∷ bs) then b ∷ whole_lines bs else []
+
+-- the bytes whose lines have ended, or all where the text is over
+abbrev pub lines_read : Progress → List ℕ
+lines_read p = if p.ended then p.fed else whole_lines p.fed
+
+-- the numbers of a header, held
+abbrev pub held_numbers : Option (ℕ × ℕ) → Option (ℕ × ℕ)
+held_numbers None = None
+held_numbers (Some h) = Some (held h.0, held h.1)
+
+-- however the text goes on, it has the clauses read and ends so
+abbrev pub EndsAt : Ending → Progress → Type 0
+EndsAt ending p = (rest : List ℕ) → dimacs (p.fed ++ rest) ≡ record { clauses = clauses_read p; ending = ending }
+
+-- a turn that is no fault, and then more that is none
+abbrev pub unless_fault : Turn → (Hand → Type 0) → Type 0
+unless_fault (GoesOn hand) more = more hand
+unless_fault (Ends clause) more = more None
+unless_fault (Fails ending) more = ⊥
+
+-- no token is at fault, behind what is in hand
+abbrev pub NoFault : Hand → List (ℕ × Token) → Type 0
+NoFault hand [] = Unit {0}
+NoFault hand (t ∷ ts) = unless_fault (turn hand t.0 t.1) (λ h. NoFault h ts)
+
+-- no line that has ended has a fault
+abbrev pub IsSound : Progress → Type 0
+IsSound p = NoFault None (tokens (whole_lines p.fed))
+
+-- a front of the piece was taken, up to and with a fault
+pub record Faults (ending : Ending) (piece : List ℕ) (old new : Progress) : Type 0 where
+  pub front : List ℕ
+  pub behind : List ℕ
+  pub whole : piece ≡ front ++ behind
+  pub progress : new ≡ at_its_end (with_fed front old)
+  pub ends : EndsAt ending new
+
+-- the last byte of a text, LF where there is none
+abbrev pub last_byte : List ℕ → ℕ
+last_byte text = get_or text (length text - 1) 10
+
+-- the last word of the whole text is a number, and this text ends with the last byte of it
+pub record EndsNumber (text whole : List ℕ) : Type 0 where
+  pub in_word : is_blank (last_byte text) ≡ false
+  pub before : List (ℕ × Token)
+  pub negative : Bool
+  pub value : ℕ
+  pub number : tokens whole ≡ before ++ ((scan whole).last, Number negative value) ∷ []
+
+-- behind this text the byte is a blank that ends a number, and up to there no word is at fault
+pub record GoesWell (text : List ℕ) (byte : ℕ) : Type 0 where
+  pub blank : is_blank byte ≡ true
+  pub number : EndsNumber text (text ++ byte ∷ [])
+  pub sound : NoFault None (tokens (text ++ byte ∷ []))
+
+-- the text ends cleanly, with a number, which is then a zero
+pub record EndsWell (text : List ℕ) : Type 0 where
+  pub number : EndsNumber text text
+  pub clean : (dimacs text).ending ≡ Clean
+
+-- a front of the piece was taken, and there was no memory at the next byte
+pub record FallsShort (piece : List ℕ) (old new : Progress) : Type 0 where
+  pub front : List ℕ
+  pub byte : ℕ
+  pub behind : List ℕ
+  pub whole : piece ≡ front ++ byte ∷ behind
+  pub progress : new ≡ cut_short (with_fed front old)
+  pub well : GoesWell (old.fed ++ front) byte
+
+-- what a piece is answered by
+abbrev pub Feeds : Result (Unit {0}) DimacsError → List ℕ → Progress → Progress → Type 0
+Feeds (Ok u) piece old new = (old.stopped ≡ false) × (new ≡ with_fed piece old)
+Feeds (Err (errors.Malformed line)) piece old new = (old.stopped ≡ false) × (n : ℕ) × (line ≡ held n) × Faults (Malformed n) piece old new
+Feeds (Err (errors.Limit line)) piece old new = (old.stopped ≡ false) × (n : ℕ) × (line ≡ held n) × Faults (Limit n) piece old new
+Feeds (Err errors.OutOfMemory) piece old new = (old.stopped ≡ false) × FallsShort piece old new
+Feeds (Err errors.HasFailed) piece old new = (old.stopped ≡ true) × (new ≡ old)
+Feeds (Err errors.Read) piece old new = ⊥
+
+-- what the end of the text is answered by
+abbrev pub Finishes : Result (Unit {0}) DimacsError → Progress → Progress → Type 0
+Finishes (Ok u) old new = (old.stopped ≡ false) × (new ≡ at_its_end old) × ((dimacs old.fed).ending ≡ Clean)
+Finishes (Err (errors.Malformed line)) old new = (old.stopped ≡ false) × (new ≡ at_its_end old) × (n : ℕ) × (line ≡ held n) × ((dimacs old.fed).ending ≡ Malformed n)
+Finishes (Err (errors.Limit line)) old new = (old.stopped ≡ false) × (new ≡ at_its_end old) × (n : ℕ) × (line ≡ held n) × ((dimacs old.fed).ending ≡ Limit n)
+Finishes (Err errors.OutOfMemory) old new = (old.stopped ≡ false) × (new ≡ cut_short old) × EndsWell old.fed
+Finishes (Err errors.HasFailed) old new = (old.stopped ≡ true) × (new ≡ old)
+Finishes (Err errors.Read) old new = ⊥
+
+-- there was no memory where a number of the text ends and no word up to there is at fault
+abbrev pub ParsesShort : List ℕ → Type 0
+ParsesShort text = ((front : List ℕ) × (byte : ℕ) × (behind : List ℕ) × (text ≡ front ++ byte ∷ behind) × GoesWell front byte) ⊎ EndsWell text
+
+-- what a whole text is answered by
+abbrev pub Parses : Result Formula DimacsError → List ℕ → Type 0
+Parses (Ok f) text = IsDimacs text f.clauses Clean × (f.var_count ≡ vars_of f.clauses)
+Parses (Err (errors.Malformed line)) text = (n : ℕ) × (line ≡ held n) × ((dimacs text).ending ≡ Malformed n)
+Parses (Err (errors.Limit line)) text = (n : ℕ) × (line ≡ held n) × ((dimacs text).ending ≡ Limit n)
+Parses (Err errors.OutOfMemory) text = ParsesShort text
+Parses (Err errors.Read) text = Unit {0}
+Parses (Err errors.HasFailed) text = ⊥
+
+-- a text that was given is at fault: it is all, or a front, whatever would follow
+abbrev pub FaultGiven : (List ℕ → Type 0) → (List ℕ → Type 0) → DimacsError → Type 0
+FaultGiven IsAll IsFront e = ((text : List ℕ) × IsAll text × Parses (Err e) text) ⊎ ((text : List ℕ) × IsFront text × ((rest : List ℕ) → Parses (Err e) (text ++ rest)))
+
+-- what a text that was given is answered by
+abbrev pub ParsesGiven : (List ℕ → Type 0) → (List ℕ → Type 0) → Result Formula DimacsError → Type 0
+ParsesGiven IsAll IsFront (Ok f) = (text : List ℕ) × IsAll text × Parses (Ok f) text
+ParsesGiven IsAll IsFront (Err e) = FaultGiven IsAll IsFront e
+
+-- the calls of a closure that is lent a parser
+abbrev pub Calls : Type 0 → Type 0 → Type 1
+Calls F E = F → MutBor Progress → Result (Unit {0}) E → MutBor Progress → F → Type 0
+
+-- calls with these parsers, one after another, leave all but the clauses taken
+abbrev pub KeepsEach : {F E : Type 0} → Calls F E → F → List (MutBor Progress) → Type 0
+KeepsEach calls f [] = Unit {0}
+KeepsEach {F} {E} calls f (p ∷ ps) = (answer : Result (Unit {0}) E) (q : MutBor Progress) (g : F) → calls f p answer q g → (q.now ≡ record p.now { taken = q.now.taken }) × KeepsEach calls g ps
+
+-- each call of the closure, now and later, leaves all but the clauses taken, as `take_formula` does
+abbrev pub KeepsText : {F E : Type 0} → Calls F E → F → Type 0
+KeepsText calls f = (ps : List (MutBor Progress)) → KeepsEach calls f ps
+
+-- the parser has read a text that ends cleanly
+abbrev pub HasRead : Progress → List ℕ → Type 0
+HasRead p text = (p.fed ≡ text) × (p.stopped ≡ true) × (p.ended ≡ true) × ((dimacs text).ending ≡ Clean)
+
+-- what a whole text is answered by where a caller sees each piece's clauses
+abbrev pub ParsesInParts : {E : Type 0} → Result Progress (IncrementalError E) → List ℕ → Type 0
+ParsesInParts (Ok p) text = HasRead p text
+ParsesInParts (Err (parts.Dimacs e)) text = Parses (Err e) text
+ParsesInParts (Err (parts.Caller e)) text = Unit {0}
+
+-- and where the text was given
+abbrev pub ParsesPartsGiven : {E : Type 0} → (List ℕ → Type 0) → (List ℕ → Type 0) → Result Progress (IncrementalError E) → Type 0
+ParsesPartsGiven IsAll IsFront (Ok p) = (text : List ℕ) × IsAll text × HasRead p text
+ParsesPartsGiven IsAll IsFront (Err (parts.Dimacs e)) = FaultGiven IsAll IsFront e
+ParsesPartsGiven IsAll IsFront (Err (parts.Caller e)) = Unit {0}
+
+-- the closure has the parser, and answers; both may change
+abbrev pub Visits : {F E : Type 0} → Calls F E → F × Progress → Result (Unit {0}) E → F × Progress → Type 0
+Visits calls s answer t = (p : MutBor Progress) × (q : MutBor Progress) × (p.now ≡ s.1) × (q.now ≡ t.1) × calls s.0 p answer q t.0
+
+-- a piece is taken, and then the closure has the parser
+abbrev pub FeedsAndVisits : {F E : Type 0} → Calls F E → F × Progress → List ℕ → F × Progress → Type 0
+FeedsAndVisits calls s piece t = (0 < length piece) × (fed : Progress) × Feeds (Ok tt) piece s.1 fed × IsSound fed × Visits calls (s.0, fed) (Ok tt) t
+
+-- an answer to a last piece, or to the end of what the reader gave
+abbrev pub Answers : Result (Unit {0}) DimacsError → List ℕ → Type 0 → Progress → Progress → Type 0
+Answers answer piece AtEnd old new = ((0 < length piece) × Feeds answer piece old new) ⊎ ((piece ≡ []) × AtEnd × Finishes answer old new)
+
+-- what comes behind the pieces that were taken and seen: the closure has the parser once more, unless a read has failed
+abbrev pub LastVisit : {F E : Type 0} → Calls F E → List ℕ → Type 0 → Result Progress (IncrementalError E) → F × Progress → Type 0
+LastVisit {F} calls piece AtEnd (Ok p) s = (piece ≡ []) × AtEnd × (mid : Progress) × (f : F) × Finishes (Ok tt) s.1 mid × Visits calls (s.0, mid) (Ok tt) (f, p)
+LastVisit {F} calls piece AtEnd (Err (parts.Dimacs e)) s = ((e ≡ errors.Read) × (piece ≡ [])) ⊎ ((mid : Progress) × (t : F × Progress) × Answers (Err e) piece AtEnd s.1 mid × Visits calls (s.0, mid) (Ok tt) t)
+LastVisit {F} calls piece AtEnd (Err (parts.Caller e)) s = (answer : Result (Unit {0}) DimacsError) × (mid : Progress) × (t : F × Progress) × Answers answer piece AtEnd s.1 mid × Visits calls (s.0, mid) (Err e) t
+
+-- the closure had the parser after each piece that the reader gave, and after the end; that the pieces were given is handed in, and that the reader is at its end
+abbrev pub VisitsAll : {F E : Type 0} → Calls F E → F → (List ℕ → Type 0) → Type 0 → Result Progress (IncrementalError E) → Type 0
+VisitsAll {F} calls f IsFront AtEnd result = (pieces : List (List ℕ)) × (last : List ℕ) × (s : F × Progress) × FoldsTo (FeedsAndVisits calls) (f, no_progress) pieces s × LastVisit calls last AtEnd result s × IsFront (concat pieces ++ last)

@@ -1,0 +1,4 @@
+pub mod Script
+pub mod ScriptSpelling
+pub mod ScriptRows
+pub mod Judge

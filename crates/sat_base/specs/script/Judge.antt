@@ -1,0 +1,170 @@
+-- What a script's commands leave: names, their variables, modes and clauses. No result of a search stands in it.
+use Rattle.std.specs.Prelude.{ℕ, zero, suc, ◌+◌, ◌-◌, ◌==◌, ◌≡◌, max, Bool, true, false, not, Option, Some, None, List, [], ◌∷◌, ◌++◌, map, set, get_or, nat_lt, is_some, if◌then◌else◌}
+use Rattle.std.specs.List.{filter, AllByRecursion}
+use Rattle.sat_base.specs.values.Literals.{coded, largest}
+use Rattle.sat_base.specs.values.Clauses.{Valuation, EachTrue, EachHolds}
+use Rattle.sat_base.specs.script.Script.{Literal, Command, Clause, Ask, Hide, Witness, Sample, names_of, Among, InOrder}
+
+pub data Mode : Type 0 where
+  Sampled : Mode
+  Witnessed : Mode
+
+-- a name in use, and the identity of its variable: a number given once and never again
+pub record Named : Type 0 where
+  pub name : ℕ
+  pub identity : ℕ
+
+pub record Judge : Type 0 where
+  pub first_unused : ℕ  -- the first name never used
+  pub in_use : List Named  -- by increasing name
+  pub modes : List Mode  -- of each identity, in order
+  pub next_identity : ℕ
+  pub clauses : List (List ℕ)  -- accepted, over identities; the newest first
+
+-- before the first command
+abbrev pub start : Judge
+start = record { first_unused = 1; in_use = []; modes = []; next_identity = 0; clauses = [] }
+
+-- the identity of a name in use
+abbrev pub identity_in : List Named → ℕ → Option ℕ
+identity_in [] name = None
+identity_in (n ∷ ns) name = if n.name == name then Some n.identity else identity_in ns name
+
+abbrev pub identity_of : Judge → ℕ → Option ℕ
+identity_of j name = identity_in j.in_use name
+
+-- put in by its name
+abbrev pub placed : Named → List Named → List Named
+placed new [] = new ∷ []
+placed new (n ∷ ns) = if nat_lt n.name new.name then n ∷ placed new ns else new ∷ n ∷ ns
+
+-- a new variable, of mode sample, under this name
+abbrev pub with_name : ℕ → Judge → Judge
+with_name name j = record {
+  first_unused = max j.first_unused (name + 1);
+  in_use = placed (record { name = name; identity = j.next_identity }) j.in_use;
+  modes = j.modes ++ Sampled ∷ [];
+  next_identity = j.next_identity + 1;
+  clauses = j.clauses;
+}
+
+-- count names in order, from this one
+abbrev pub names_from : ℕ → ℕ → List ℕ
+names_from zero name = []
+names_from (suc count) name = name ∷ names_from count (name + 1)
+
+-- the names that become new variables where this one is brought in, in order: all from the first never used up to it, or a hidden one itself
+abbrev pub new_names : ℕ → Judge → List ℕ
+new_names name j =
+    if nat_lt name j.first_unused
+    then (if is_some (identity_of j name) then [] else name ∷ [])
+    else names_from (name + 1 - j.first_unused) j.first_unused
+
+abbrev pub with_names : List ℕ → Judge → Judge
+with_names [] j = j
+with_names (name ∷ names) j = with_names names (with_name name j)
+
+abbrev pub bring_in : ℕ → Judge → Judge
+bring_in name j = with_names (new_names name j) j
+
+-- from left to right
+abbrev pub bring_all : List ℕ → Judge → Judge
+bring_all [] j = j
+bring_all (name ∷ names) j = bring_all names (bring_in name j)
+
+-- the name is no longer in use
+abbrev pub without_name : ℕ → Judge → Judge
+without_name name j = record j { in_use = filter (λ n. not (n.name == name)) j.in_use }
+
+abbrev pub or_zero : Option ℕ → ℕ
+or_zero None = 0
+or_zero (Some n) = n
+
+-- the literal over identities; its name is in use
+abbrev pub over : Judge → Literal → ℕ
+over j l = coded (or_zero (identity_of j l.name)) l.positive
+
+abbrev pub with_mode : Mode → ℕ → Judge → Judge
+with_mode mode name j = record j { modes = set j.modes (or_zero (identity_of j name)) mode }
+
+abbrev pub with_clause : List Literal → Judge → Judge
+with_clause ls j = record j { clauses = map (over j) ls ∷ j.clauses }
+
+abbrev pub hide_all : List ℕ → Judge → Judge
+hide_all [] j = j
+hide_all (name ∷ names) j = hide_all names (without_name name (bring_in name j))
+
+abbrev pub set_all : Mode → List ℕ → Judge → Judge
+set_all mode [] j = j
+set_all mode (name ∷ names) j = set_all mode names (with_mode mode name (bring_in name j))
+
+-- what an accepted command leaves
+abbrev pub accepted : Command → Judge → Judge
+accepted (Clause ls) j = with_clause ls (bring_all (names_of ls) j)
+accepted (Ask ls) j = bring_all (names_of ls) j
+accepted (Hide names) j = hide_all names j
+accepted (Witness names) j = set_all Witnessed names j
+accepted (Sample names) j = set_all Sampled names j
+
+-- why a command is refused
+pub data Refusal : Type 0 where
+  PastLimit : Refusal
+  WitnessName : ℕ → Refusal
+
+abbrev pub is_witness : Mode → Bool
+is_witness Sampled = false
+is_witness Witnessed = true
+
+-- a name in use of mode witness
+abbrev pub has_witness : Judge → Option ℕ → Bool
+has_witness j None = false
+has_witness j (Some identity) = is_witness (get_or j.modes identity Sampled)
+
+-- the leftmost name past the limit or of mode witness decides
+abbrev pub refused_literal : Judge → List ℕ → Option Refusal
+refused_literal j [] = None
+refused_literal j (name ∷ names) =
+    if nat_lt largest name then Some PastLimit
+    else (if has_witness j (identity_of j name) then Some (WitnessName name) else refused_literal j names)
+
+abbrev pub refused_name : List ℕ → Option Refusal
+refused_name [] = None
+refused_name (name ∷ names) = if nat_lt largest name then Some PastLimit else refused_name names
+
+abbrev pub refusal_of : Judge → Command → Option Refusal
+refusal_of j (Clause ls) = refused_literal j (names_of ls)
+refusal_of j (Ask ls) = refused_literal j (names_of ls)
+refusal_of j (Hide names) = refused_name names
+refusal_of j (Witness names) = refused_name names
+refusal_of j (Sample names) = refused_name names
+
+-- a refused command changes nothing
+abbrev pub after_command : Command → Judge → Judge
+after_command command j = if is_some (refusal_of j command) then j else accepted command j
+
+abbrev pub after_script : List Command → Judge → Judge
+after_script [] j = j
+after_script (command ∷ commands) j = after_script commands (after_command command j)
+
+-- the commands that aren't refused, in order
+abbrev pub accepted_of : Judge → List Command → List Command
+accepted_of j [] = []
+accepted_of j (command ∷ commands) =
+    if is_some (refusal_of j command) then accepted_of j commands else command ∷ accepted_of (accepted command j) commands
+
+-- A right model of an ask, j being the state after the ask's names came in.
+pub record IsRightModel (j : Judge) (ask line : List Literal) : Type 0 where
+  -- one literal for each name in use, in increasing order
+  pub names : names_of line ≡ map (λ n. n.name) j.in_use
+  -- some valuation that agrees with them satisfies the accepted clauses and the ask
+  pub valuation : Valuation
+  pub agrees : EachTrue valuation (map (over j) line)
+  pub clauses : EachHolds valuation j.clauses
+  pub asked : EachTrue valuation (map (over j) ask)
+
+-- A right core of an ask.
+pub record IsRightCore (j : Judge) (ask core : List Literal) : Type 0 where
+  pub order : InOrder core
+  pub among : AllByRecursion (λ l. Among l ask) core
+  -- no valuation satisfies the core and the accepted clauses
+  pub none : (a : Valuation) → EachTrue a (map (over j) core) → EachHolds a j.clauses → ⊥

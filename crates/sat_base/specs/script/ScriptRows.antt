@@ -1,0 +1,60 @@
+-- Texts, and what they mean.
+use Rattle.std.specs.Prelude.{ℕ, [], ◌∷◌, true, false, codes}
+use Rattle.sat_base.specs.script.Script.{Literal, Clause, Ask, Clean, Malformed, IsScript}
+
+abbrev pub plus : ℕ → Literal
+plus name = record { name = name; positive = true }
+
+abbrev pub minus : ℕ → Literal
+minus name = record { name = name; positive = false }
+
+pub record ReadRows : Type 0 where
+  pub empty : IsScript [] [] Clean
+  pub clause_and_ask : IsScript (codes "1 2 0\na 0\n") (Clause (plus 1 ∷ plus 2 ∷ []) ∷ Ask [] ∷ []) Clean
+  pub no_last_LF : IsScript (codes "1 -2 0") (Clause (plus 1 ∷ minus 2 ∷ []) ∷ []) Clean
+  pub two_on_a_line : IsScript (codes "1 0\t-1 0\r\n") (Clause (plus 1 ∷ []) ∷ Clause (minus 1 ∷ []) ∷ []) Clean
+  pub comment_inside : IsScript (codes "1\nc x\n 2 0\n") (Clause (plus 1 ∷ plus 2 ∷ []) ∷ []) Clean
+  pub comment_behind_blanks : IsScript (codes " \tcx 3\n0\n") (Clause [] ∷ []) Clean
+  pub zero_alone : IsScript (codes "0") (Clause [] ∷ []) Clean
+  pub leading_zeros : IsScript (codes "007 000") (Clause (plus 7 ∷ []) ∷ []) Clean
+  pub past_the_limit : IsScript (codes "268435457 0") (Clause (plus 268435457 ∷ []) ∷ []) Clean
+  pub header : IsScript (codes "p cnf 1 1\n") (Ask [] ∷ []) Clean
+  pub header_and_percent : IsScript (codes "p cnf 2 1\n1 2 0\n%\n0\n") (Clause (plus 1 ∷ plus 2 ∷ []) ∷ Ask [] ∷ []) Clean
+  pub header_and_ask : IsScript (codes "p cnf 2 1\n1 0\na 0\n") (Clause (plus 1 ∷ []) ∷ Ask [] ∷ []) Clean
+  pub header_behind_comment : IsScript (codes "c x\n p\tcnf 007 1 \r\n1 0") (Clause (plus 1 ∷ []) ∷ Ask [] ∷ []) Clean
+  pub long_number : IsScript (codes "p cnf 99999999999999999999 1") (Ask [] ∷ []) Clean
+  pub percent : IsScript (codes "0\n%\n0\n") (Clause [] ∷ []) Clean
+  pub percent_and_more : IsScript (codes "0\n \t%x 1\n+1 a") (Clause [] ∷ []) Clean
+  pub percent_alone : IsScript (codes "%") [] Clean
+
+pub record MalformedRows : Type 0 where
+  pub comment_behind_word : IsScript (codes "c x\n1 c\n") [] Malformed
+  pub minus_zero : IsScript (codes "-0 0") [] Malformed
+  pub minus_zeros : IsScript (codes "1 0 -00 0") (Clause (plus 1 ∷ []) ∷ []) Malformed
+  pub plus_sign : IsScript (codes "+1 0") [] Malformed
+  pub minus_alone : IsScript (codes "- 1 0") [] Malformed
+  pub digits_and_more : IsScript (codes "1x 0") [] Malformed
+  pub letter_in_clause : IsScript (codes "1 a 0") [] Malformed
+  pub other_letter : IsScript (codes "b 0") [] Malformed
+  pub vertical_tab : IsScript (49 ∷ 11 ∷ 48 ∷ []) [] Malformed
+  pub form_feed : IsScript (49 ∷ 32 ∷ 48 ∷ 12 ∷ []) [] Malformed
+  pub ask_with_literals : IsScript (codes "a 1 0") [] Malformed
+  pub two_letters : IsScript (codes "aa 0") [] Malformed
+  pub one_number : IsScript (codes "p cnf 1\n") [] Malformed
+  pub three_numbers : IsScript (codes "p cnf 1 1 1\n") [] Malformed
+  pub other_format : IsScript (codes "p dnf 1 1\n") [] Malformed
+  pub plus_in_header : IsScript (codes "p cnf +1 1") [] Malformed
+  pub minus_in_header : IsScript (codes "p cnf -1 1") [] Malformed
+  pub no_blank_behind_p : IsScript (codes "pcnf 1 1\n") [] Malformed
+  pub header_cut : IsScript (codes "p cnf 1\n1") [] Malformed
+  pub two_headers : IsScript (codes "p cnf 1 1\np cnf 1 1\n") [] Malformed
+  pub header_behind_clause : IsScript (codes "1 0\np cnf 1 1\n") (Clause (plus 1 ∷ []) ∷ []) Malformed
+  pub header_in_clause : IsScript (codes "1\np cnf 1 1\n0") [] Malformed
+  pub header_inside_a_line : IsScript (codes "1 p cnf 1 1") [] Malformed
+  pub header_and_cut : IsScript (codes "p cnf 1 1\n1") [] Malformed
+  pub header_and_wrong : IsScript (codes "p cnf 1 1\n1 0 x1") (Clause (plus 1 ∷ []) ∷ []) Malformed
+  pub percent_in_clause : IsScript (codes "1\n%\n") [] Malformed
+  pub percent_inside_a_line : IsScript (codes "1 0 %") (Clause (plus 1 ∷ []) ∷ []) Malformed
+  pub percent_behind_a : IsScript (codes "a\n%\n") [] Malformed
+  pub cut_in_clause : IsScript (codes "1 2") [] Malformed
+  pub cut_behind_a : IsScript (codes "0 a") (Clause [] ∷ []) Malformed

@@ -1,0 +1,13 @@
+-- Numbers in groups of seven bits, low group first.
+use Rattle.std.specs.Prelude.{◌≡◌, ℕ, ◌+◌, ◌*◌, ◌<◌, ◌≤◌, List, [], ◌∷◌}
+use Rattle.sat_base.specs.steps.Formats.{Format}
+
+-- A byte below 128 is the last, and stands for itself. One from 128 on has the low seven bits, and the
+-- bytes after it stand for the rest, which isn't 0: so each number has one form.
+abbrev pub IsNumber : ℕ → List ℕ → Type 0
+IsNumber n [] = ⊥
+IsNumber n (b ∷ []) = (b < 128) × (n ≡ b)
+IsNumber n (b ∷ c ∷ bs) = (128 ≤ b) × (b < 256) × (high : ℕ) × (0 < high) × (n + 128 ≡ b + 128 * high) × IsNumber high (c ∷ bs)
+
+abbrev pub IsBelow : ℕ → Format ℕ
+IsBelow limit n bytes = IsNumber n bytes × (n < limit)

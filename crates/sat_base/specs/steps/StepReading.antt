@@ -1,0 +1,74 @@
+-- What a reader of steps does.
+use Rattle.std.specs.Prelude.{◌≡◌, ◌≤◌, ℕ, Bool, true, false, List, [], Option, Result, Ok, Err}
+use Rattle.sat_base.specs.declared.step_reader.StepReader.{StepReader}
+use Rattle.sat_base.specs.declared.step_reader.Buffers.{Buffers}
+use Rattle.sat_base.specs.declared.error.StepError.{StepError}
+use Rattle.sat_base.specs.declared.error.StepError.TheVariants as errors
+use Rattle.sat_base.specs.device.Device.{most_reads}
+use Rattle.sat_base.specs.device.Reading.{Source, Passes, Answers, source_of}
+use Rattle.sat_base.specs.steps.Steps.{Step}
+use Rattle.sat_base.specs.steps.Kinds.{step_with}
+
+-- its reader, with what was read ahead
+abbrev pub source : {R : Type 0} → (R → Option (List ℕ)) → (R → List ℕ) → (R → Bool) → (R → ℕ) → (R → ℕ) → StepReader R Buffers → Source
+source remaining given ended failures calls s = source_of remaining given ended failures calls s.reader.now s.buffers.ahead
+
+-- a reader that has and has given these bytes, with these failures and calls, before the first read
+abbrev pub unread : Option (List ℕ) → List ℕ → Bool → ℕ → ℕ → Source
+unread bytes given ended failures calls = record { to_come = bytes; given = given; waiting = []; ended = ended; failures = failures; calls = calls; reads = 0 }
+
+-- whether it answers nothing else any more
+abbrev pub has_failed : {R : Type 0} → StepReader R Buffers → Bool
+has_failed s = s.buffers.failed
+
+-- by which borrow it holds its reader
+abbrev pub reader_name : {R : Type 0} → StepReader R Buffers → ℕ
+reader_name s = s.reader.ghost_name
+
+-- the step that was read last
+abbrev pub step_in : {R : Type 0} → StepReader R Buffers → Step
+step_in s = step_with s.buffers.kind s.buffers.lists.literals.items s.buffers.lists.hashes.items s.buffers.lists.units.items
+
+abbrev pub is_stop : StepError → Bool
+is_stop errors.Ends = false
+is_stop errors.Cut = true
+is_stop errors.BadByte = true
+is_stop errors.Read = true
+is_stop errors.OutOfMemory = true
+is_stop errors.HasFailed = true
+
+abbrev pub is_repeat : StepError → Bool
+is_repeat errors.HasFailed = true
+is_repeat errors.Ends = false
+is_repeat errors.Cut = false
+is_repeat errors.BadByte = false
+is_repeat errors.Read = false
+is_repeat errors.OutOfMemory = false
+
+-- the answer stops the reader
+abbrev pub stopped : Result Step StepError → Bool
+stopped (Ok step) = false
+stopped (Err e) = is_stop e
+
+-- the answer says that it was stopped
+abbrev pub repeated : Result Step StepError → Bool
+repeated (Ok step) = false
+repeated (Err e) = is_repeat e
+
+-- once stopped it takes nothing
+abbrev pub Answered : Result Step StepError → Source → Source → Type 0
+Answered (Ok step) old new = Answers (Ok step) old new
+Answered (Err errors.Ends) old new = Answers (Err errors.Ends) old new
+Answered (Err errors.Cut) old new = Answers (Err errors.Cut) old new
+Answered (Err errors.BadByte) old new = Answers (Err errors.BadByte) old new
+Answered (Err errors.Read) old new = Answers (Err errors.Read) old new
+Answered (Err errors.OutOfMemory) old new = Answers (Err errors.OutOfMemory) old new
+Answered (Err errors.HasFailed) old new = Passes old new []
+
+-- A call of `advance`. `HasFailed` comes exactly where an earlier answer stopped it.
+pub record Next {R : Type 0} (remaining : R → Option (List ℕ)) (given : R → List ℕ) (ended : R → Bool) (failures calls : R → ℕ) (old new : StepReader R Buffers) (result : Result Step StepError) : Type 0 where
+  pub same : reader_name new ≡ reader_name old
+  pub answer : Answered result (source remaining given ended failures calls old) (source remaining given ended failures calls new)
+  pub was : has_failed old ≡ repeated result
+  pub is : has_failed new ≡ stopped result
+  pub bound : (source remaining given ended failures calls new).reads ≤ most_reads

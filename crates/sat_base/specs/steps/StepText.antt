@@ -1,0 +1,82 @@
+-- The bytes of a proof step: a tag, and then its fields.
+use Rattle.std.specs.Prelude.{◌≡◌, ℕ, ◌+◌, ◌*◌, ◌^◌, Bool, true, false, Option, Some, None, List, [], ◌∷◌}
+use Rattle.sat_base.specs.steps.Formats.{Format, Both, Items, ListOf}
+use Rattle.sat_base.specs.values.Literals.{largest}
+use Rattle.sat_base.specs.steps.Numbers.{IsBelow}
+use Rattle.sat_base.specs.steps.Steps.{Deletion, Redundant, Simplified, Satisfied, Step, SolverVarName, UserVarName, DeleteVar, ChangeSamplingMode, AddClause, AtClause, UnitClauses, DeleteClause, ChangeHashBits, Model, Assumptions, FailedAssumptions, End}
+
+abbrev pub IsVariable : Format ℕ
+IsVariable = IsBelow largest
+
+-- 0 for none, else one more than the index
+abbrev pub IsOptionalVariable : Format (Option ℕ)
+IsOptionalVariable None bytes = IsBelow (largest + 1) 0 bytes
+IsOptionalVariable (Some v) bytes = IsBelow (largest + 1) (v + 1) bytes
+
+abbrev pub IsLiteral : Format ℕ
+IsLiteral = IsBelow (2 * largest)
+
+abbrev pub IsHash : Format ℕ
+IsHash = IsBelow (2 ^ 64)
+
+abbrev pub IsFlag : Format Bool
+IsFlag false bytes = IsBelow 2 0 bytes
+IsFlag true bytes = IsBelow 2 1 bytes
+
+-- 0 to 64
+abbrev pub IsWidth : Format ℕ
+IsWidth = IsBelow 65
+
+abbrev pub IsDeletion : Format Deletion
+IsDeletion Redundant bytes = IsBelow 3 0 bytes
+IsDeletion Simplified bytes = IsBelow 3 1 bytes
+IsDeletion Satisfied bytes = IsBelow 3 2 bytes
+
+-- a list's count is below 2^64
+abbrev pub AreLiterals : Format (List ℕ)
+AreLiterals = ListOf (IsBelow (2 ^ 64)) IsLiteral
+
+abbrev pub AreHashes : Format (List ℕ)
+AreHashes = ListOf (IsBelow (2 ^ 64)) IsHash
+
+-- literals, each with a hash
+abbrev pub AreUnits : Format (List (ℕ × ℕ))
+AreUnits = ListOf (IsBelow (2 ^ 64)) (Both IsLiteral IsHash)
+
+abbrev pub tag_of : Step → ℕ
+tag_of (SolverVarName global solver) = 1
+tag_of (UserVarName global user) = 2
+tag_of (DeleteVar v) = 3
+tag_of (ChangeSamplingMode v sample) = 4
+tag_of (AddClause clause) = 5
+tag_of (AtClause redundant clause hashes) = 6
+tag_of (UnitClauses units) = 7
+tag_of (DeleteClause clause proof) = 8
+tag_of (ChangeHashBits bits) = 9
+tag_of (Model assignment) = 10
+tag_of (Assumptions assumptions) = 11
+tag_of (FailedAssumptions core hashes) = 12
+tag_of End = 13
+
+-- the bytes behind the tag
+abbrev pub SpellsFields : Format Step
+SpellsFields (SolverVarName global solver) bytes = Both IsVariable IsOptionalVariable (global, solver) bytes
+SpellsFields (UserVarName global user) bytes = Both IsVariable IsOptionalVariable (global, user) bytes
+SpellsFields (DeleteVar v) bytes = IsVariable v bytes
+SpellsFields (ChangeSamplingMode v sample) bytes = Both IsVariable IsFlag (v, sample) bytes
+SpellsFields (AddClause clause) bytes = AreLiterals clause bytes
+SpellsFields (AtClause redundant clause hashes) bytes = Both IsFlag (Both AreLiterals AreHashes) (redundant, (clause, hashes)) bytes
+SpellsFields (UnitClauses units) bytes = AreUnits units bytes
+SpellsFields (DeleteClause clause proof) bytes = Both AreLiterals IsDeletion (clause, proof) bytes
+SpellsFields (ChangeHashBits bits) bytes = IsWidth bits bytes
+SpellsFields (Model assignment) bytes = AreLiterals assignment bytes
+SpellsFields (Assumptions assumptions) bytes = AreLiterals assumptions bytes
+SpellsFields (FailedAssumptions core hashes) bytes = Both AreLiterals AreHashes (core, hashes) bytes
+SpellsFields End bytes = bytes ≡ []
+
+abbrev pub SpellsStep : Format Step
+SpellsStep step bytes = (fields : List ℕ) × (bytes ≡ tag_of step ∷ fields) × SpellsFields step fields
+
+-- steps, one after another
+abbrev pub SpellsSteps : Format (List Step)
+SpellsSteps = Items SpellsStep

@@ -1,0 +1,27 @@
+-- What a proof step of the code says.
+use Rattle.sat_base.specs.declared.step.DeleteClauseProof.{DeleteClauseProof}
+use Rattle.sat_base.specs.declared.step.DeleteClauseProof.TheVariants as proofs
+use Rattle.sat_base.specs.declared.step.ProofStep.{ProofStep}
+use Rattle.sat_base.specs.declared.step.ProofStep.TheVariants as code
+use Rattle.sat_base.specs.steps.Steps.{Deletion, Redundant, Simplified, Satisfied, Step, SolverVarName, UserVarName, DeleteVar, ChangeSamplingMode, AddClause, AtClause, UnitClauses, DeleteClause, ChangeHashBits, Model, Assumptions, FailedAssumptions, End}
+
+abbrev pub deletion_of : DeleteClauseProof → Deletion
+deletion_of proofs.Redundant = Redundant
+deletion_of proofs.Simplified = Simplified
+deletion_of proofs.Satisfied = Satisfied
+
+-- the step without where it lies in memory
+abbrev pub step_of : ProofStep → Step
+step_of (code.SolverVarName global solver) = SolverVarName global solver
+step_of (code.UserVarName global user) = UserVarName global user
+step_of (code.DeleteVar var) = DeleteVar var
+step_of (code.ChangeSamplingMode var sample) = ChangeSamplingMode var sample
+step_of (code.AddClause clause) = AddClause clause.now
+step_of (code.AtClause redundant clause hashes) = AtClause redundant clause.now hashes.now
+step_of (code.UnitClauses units) = UnitClauses units.now
+step_of (code.DeleteClause clause proof) = DeleteClause clause.now (deletion_of proof)
+step_of (code.ChangeHashBits bits) = ChangeHashBits bits
+step_of (code.Model assignment) = Model assignment.now
+step_of (code.Assumptions assumptions) = Assumptions assumptions.now
+step_of (code.FailedAssumptions core hashes) = FailedAssumptions core.now hashes.now
+step_of code.End = End

@@ -1,0 +1,4 @@
+pub mod Text
+pub mod Spot
+pub mod Tokenizing
+pub mod Chunks

@@ -1,0 +1,171 @@
+-- How a tokenizer stands in a text, and what a byte makes of it.
+use Rattle.std.specs.Prelude.{◌≡◌, ℕ, ◌+◌, ◌*◌, ◌-◌, ◌^◌, ◌⊎◌, min, List, [], ◌∷◌, ◌++◌, Bool, true, false, Option, Some, None}
+use Rattle.sat_base.specs.declared.text.Place.{Place}
+use Rattle.sat_base.specs.declared.text.Place.TheVariants as at
+use Rattle.sat_base.specs.declared.text.header.HeaderPlace.{HeaderPlace}
+use Rattle.sat_base.specs.declared.text.header.HeaderPlace.TheVariants as header
+use Rattle.sat_base.specs.declared.text.header.Stage.{Stage as CodeStage}
+use Rattle.sat_base.specs.declared.text.header.Stage.TheVariants as stage
+use Rattle.sat_base.specs.declared.text.Token.{Token as CodeToken}
+use Rattle.sat_base.specs.declared.text.Token.TheVariants as code
+use Rattle.sat_base.specs.declared.text.Tokenizer.{Tokenizer}
+use Rattle.sat_base.specs.text.Text.{digits, Token, Number, Letter, Header, Wrong, token, Scan, is_letter}
+use Rattle.sat_base.specs.text.Spot.{Stage, Begun, Named, Format, Vars, Both, stage_behind, Spot, Fresh, Leading, Comment, Between, Within, HeaderBetween, HeaderWithin, Spoilt, Over, Solid, left, in_hand, ended_by_blank, behind_blank, behind_LF, onto}
+
+-- a count or a value is held at 2^64-1
+abbrev pub held : ℕ → ℕ
+held n = min n (2 ^ 64 - 1)
+
+-- a token as the code has it, with its values held
+abbrev pub held_token : Token → CodeToken
+held_token (Number negative value) = code.Number negative (held value)
+held_token (Letter b) = code.Letter b
+held_token (Header v c) = code.Header (held v) (held c)
+held_token Wrong = code.Wrong
+
+abbrev pub grown : ℕ → ℕ → ℕ
+grown value digit = held (10 * value + (digit - 48))
+
+-- the bytes are digits that spell a number, which is held
+abbrev pub SpellsHeld : List ℕ → ℕ → Type 0
+SpellsHeld ds value = (m : ℕ) × (digits 0 ds ≡ Some m) × (value ≡ held m)
+
+-- a word that begins so is wrong
+abbrev pub BeginsWrong : List ℕ → Type 0
+BeginsWrong w = (more : List ℕ) → token (w ++ more) ≡ Wrong
+
+-- a word that begins so may not stand there in a header line
+abbrev pub BeginsSpoilt : Stage → List ℕ → Type 0
+BeginsSpoilt s w = (more : List ℕ) → stage_behind s (w ++ more) ≡ None
+
+-- the words of a header line that have ended, as the code has them, with their values held
+abbrev pub IsStage : CodeStage → Stage → Type 0
+IsStage stage.Named s = s ≡ Named
+IsStage stage.Format s = s ≡ Format
+IsStage (stage.Vars vars) s = (v : ℕ) × (vars ≡ held v) × (s ≡ Vars v)
+IsStage (stage.Both vars clauses) s = (v : ℕ) × (c : ℕ) × (vars ≡ held v) × (clauses ≡ held c) × (s ≡ Both v c)
+
+-- the spots that a place in a header line stands for
+abbrev pub IsAtHeader : HeaderPlace → Spot → Type 0
+IsAtHeader (header.Between ended) spot = (s : Stage) × IsStage ended s × (spot ≡ HeaderBetween s)
+IsAtHeader header.P spot = spot ≡ HeaderWithin Begun 112 []
+IsAtHeader header.C spot = spot ≡ HeaderWithin Named 99 []
+IsAtHeader header.Cn spot = spot ≡ HeaderWithin Named 99 (110 ∷ [])
+IsAtHeader header.Cnf spot = spot ≡ HeaderWithin Named 99 (110 ∷ 102 ∷ [])
+IsAtHeader (header.Vars value) spot = (x : ℕ) × (w : List ℕ) × Solid (x ∷ w) × SpellsHeld (x ∷ w) value × (spot ≡ HeaderWithin Format x w)
+IsAtHeader (header.Clauses vars value) spot =
+    (v : ℕ) × (x : ℕ) × (w : List ℕ) × (vars ≡ held v) × Solid (x ∷ w) × SpellsHeld (x ∷ w) value × (spot ≡ HeaderWithin (Vars v) x w)
+
+-- the spots that a place stands for, with the bytes of the word in hand and the numbers of the header, of any size
+abbrev pub IsAt : Place → Spot → Type 0
+IsAt (at.Fresh may) spot = spot ≡ Fresh may
+IsAt (at.Leading may) spot = spot ≡ Leading may
+IsAt (at.Comment may) spot = spot ≡ Comment may
+IsAt at.Between spot = spot ≡ Between
+IsAt at.Minus spot = spot ≡ Within 45 []
+IsAt (at.Digits false value) spot =
+    (x : ℕ) × (w : List ℕ) × Solid (x ∷ w) × SpellsHeld (x ∷ w) value × (x ≡ 45 → ⊥) × (is_letter x ≡ false) × (spot ≡ Within x w)
+IsAt (at.Digits true value) spot = (w : List ℕ) × Solid w × (w ≡ [] → ⊥) × SpellsHeld w value × (spot ≡ Within 45 w)
+IsAt (at.Letter b) spot = (Solid (b ∷ []) × (is_letter b ≡ true)) × (spot ≡ Within b [])
+IsAt at.Bad spot = (x : ℕ) × (w : List ℕ) × Solid (x ∷ w) × BeginsWrong (x ∷ w) × (spot ≡ Within x w)
+IsAt (at.Header place) spot = IsAtHeader place spot
+IsAt at.Spoilt spot = spot ≡ Spoilt
+IsAt at.Over spot = spot ≡ Over
+
+-- a byte leads from a spot to a spot
+abbrev pub Leads : Spot → ℕ → Spot → Type 0
+Leads old byte new = (n : ℕ) (rest : List ℕ) → left old n (byte ∷ rest) ≡ left new n rest
+
+-- a byte that is no blank leads from a place to a place
+abbrev pub Moves : Place → ℕ → Place → Type 0
+Moves old byte new = (spot : Spot) → IsAt old spot → (next : Spot) × IsAt new next × Leads spot byte next
+
+-- so in a header line, unless the word in hand may then not stand there
+abbrev pub MovesHeader : HeaderPlace → ℕ → Option HeaderPlace → Type 0
+MovesHeader old byte None = (spot : Spot) → IsAtHeader old spot → Leads spot byte Spoilt
+MovesHeader old byte (Some new) = (spot : Spot) → IsAtHeader old spot → (next : Spot) × IsAtHeader new next × Leads spot byte next
+
+-- a place in a word of this byte alone
+abbrev pub Began : ℕ → Place → Type 0
+Began byte place = IsAt place (Within byte [])
+
+-- so in a header line behind the words of a stage
+abbrev pub BeganHeader : CodeStage → ℕ → Option HeaderPlace → Type 0
+BeganHeader ended byte None = (s : Stage) → IsStage ended s → BeginsSpoilt s (byte ∷ [])
+BeganHeader ended byte (Some place) = (s : Stage) → IsStage ended s → IsAtHeader place (HeaderWithin s byte [])
+
+-- what is in hand where the line ends, or where a blank ends the word
+abbrev pub Given : Option CodeToken → (ℕ → List (ℕ × Token)) → Type 0
+Given None tokens = (n : ℕ) → tokens n ≡ []
+Given (Some t) tokens = (given : Token) × (t ≡ held_token given) × ((n : ℕ) → tokens n ≡ (n + 1, given) ∷ [])
+
+abbrev pub Says : Option CodeToken → Place → Type 0
+Says given place = (spot : Spot) → IsAt place spot → Given given (in_hand spot)
+
+abbrev pub SaysAtBlank : Option CodeToken → Place → Type 0
+SaysAtBlank given place = (spot : Spot) → IsAt place spot → Given given (ended_by_blank spot)
+
+-- the words of a header line that have ended where the one in hand does
+abbrev pub ended_stage : Spot → Option Stage
+ended_stage (HeaderBetween s) = Some s
+ended_stage (HeaderWithin s x w) = stage_behind s (x ∷ w)
+ended_stage spot = None
+
+abbrev pub IsStageIf : Option CodeStage → Option Stage → Type 0
+IsStageIf None given = given ≡ None
+IsStageIf (Some ended) given = (s : Stage) × IsStage ended s × (given ≡ Some s)
+
+-- the place behind a blank that ends no line
+abbrev pub LeadsBehind : Place → Place → Type 0
+LeadsBehind old new = (spot : Spot) → IsAt old spot → IsAt new (behind_blank spot)
+
+-- with no word in hand
+abbrev pub IsQuiet : Place → Type 0
+IsQuiet (at.Leading may) = Unit {0}
+IsQuiet (at.Comment may) = Unit {0}
+IsQuiet at.Between = Unit {0}
+IsQuiet (at.Header (header.Between ended)) = Unit {0}
+IsQuiet at.Over = Unit {0}
+IsQuiet place = ⊥
+
+-- whether a header may come on the lines below
+abbrev pub may_come : Place → Bool
+may_come (at.Fresh may) = may
+may_come (at.Leading may) = may
+may_come (at.Comment may) = may
+may_come place = false
+
+-- the place behind LF
+abbrev pub LeadsBelow : Place → Place → Type 0
+LeadsBelow old new = (spot : Spot) → IsAt old spot → IsAt new (behind_LF spot)
+
+-- the machine stands at a place of a text: `left_of` says what is still to be read, whatever bytes come
+unfoldable pub Stands : Tokenizer → (List ℕ → Scan) → Type 0
+Stands machine left_of = (spot : Spot) × (n : ℕ) × IsAt machine.place spot × (machine.lines ≡ held n) × ((rest : List ℕ) → left_of rest ≡ left spot n rest)
+
+-- what a byte gives: the token that it ended, on the line of this byte, or none
+abbrev pub Gives : Option CodeToken → ℕ → (List ℕ → Scan) → (List ℕ → Scan) → Type 0
+Gives None byte old new = (rest : List ℕ) → old (byte ∷ rest) ≡ new rest
+Gives (Some t) byte old new = (given : Token) × (t ≡ held_token given)
+    × ((rest : List ℕ) → old (byte ∷ rest) ≡ onto (((new []).last, given) ∷ []) (new rest))
+
+-- what is still to be read behind this byte is what the machine then stands before, behind the token that the byte gives
+abbrev pub Takes : Tokenizer → ℕ → Option CodeToken → Tokenizer → Type 0
+Takes old byte given new = (before : List ℕ → Scan) → Stands old before
+    → (after : List ℕ → Scan) × Stands new after × Gives given byte before after
+
+-- a header, or a word that is wrong
+abbrev pub IsOfHeader : Token → Type 0
+IsOfHeader (Number negative value) = ⊥
+IsOfHeader (Letter b) = ⊥
+IsOfHeader (Header v c) = Unit {0}
+IsOfHeader Wrong = Unit {0}
+
+-- no word is in hand, though a header line may be
+abbrev pub Quiet : Scan → Type 0
+Quiet s = (s.tokens ≡ []) ⊎ ((line : ℕ) × (t : Token) × IsOfHeader t × (s.tokens ≡ (line, t) ∷ []))
+
+-- what is left where the text ends: the token in hand, on the last line, or none
+abbrev pub GivesLast : Option CodeToken → Scan → Type 0
+GivesLast None rest = rest.tokens ≡ []
+GivesLast (Some t) rest = (given : Token) × (t ≡ held_token given) × (rest.tokens ≡ (rest.last, given) ∷ [])

@@ -1,0 +1,6 @@
+pub mod Literals
+pub mod Clauses
+pub mod Numerals
+pub mod Formulas
+pub mod Flat
+pub mod Hashes

@@ -1,0 +1,26 @@
+-- When clauses hold.
+use Rattle.std.specs.Prelude.{ℕ, ◌==◌, ◌≡◌, Bool, true, false, not, ◌||◌, List, [], ◌∷◌, if◌then◌else◌}
+use Rattle.std.specs.List.{AllByRecursion}
+use Rattle.sat_base.specs.values.Literals.{is_positive, variable}
+
+-- which variables are true; all others are false
+abbrev pub Valuation : Type 0
+Valuation = ℕ → Bool
+
+abbrev pub literal_true : Valuation → ℕ → Bool
+literal_true a l = if is_positive l then a (variable l) else not (a (variable l))
+
+-- a clause holds if one of its literals is true
+abbrev pub clause_true : Valuation → List ℕ → Bool
+clause_true a [] = false
+clause_true a (l ∷ ls) = literal_true a l || clause_true a ls
+
+-- the valuation with the other value at v
+abbrev pub flipped : ℕ → Valuation → Valuation
+flipped v a = λ x. if x == v then not (a x) else a x
+
+abbrev pub EachTrue : Valuation → List ℕ → Type 0
+EachTrue a = AllByRecursion (λ l. literal_true a l ≡ true)
+
+abbrev pub EachHolds : Valuation → List (List ℕ) → Type 0
+EachHolds a = AllByRecursion (λ c. clause_true a c ≡ true)
