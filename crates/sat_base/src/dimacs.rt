@@ -184,6 +184,3 @@ impl DimacsParser {
         Err(IncrementalError::Dimacs(DimacsError::Read))
     }
 }
-
-#[cfg(test)]
-mod tests;

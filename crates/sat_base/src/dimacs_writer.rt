@@ -85,6 +85,3 @@ pub fn write_dimacs<W: CountedWrite>(writer: &mut W, formula: &CnfFormula) -> io
     put_clauses(writer, &mut pending, formula)?;
     write_out(writer, &mut pending)
 }
-
-#[cfg(test)]
-mod tests;

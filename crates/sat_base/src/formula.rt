@@ -138,6 +138,3 @@ impl<'a> IntoIterator for &'a CnfFormula {
         self.iter()
     }
 }
-
-#[cfg(test)]
-mod tests;

@@ -26,8 +26,6 @@ pub mod step;
 pub mod step_reader;
 mod step_writer;
 mod tally;
-#[cfg(test)]
-mod tests;
 pub mod text;
 pub mod var;
 pub mod whole;

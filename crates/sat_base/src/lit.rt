@@ -151,6 +151,3 @@ impl BitXor<bool> for Lit {
         }
     }
 }
-
-#[cfg(test)]
-mod tests;

@@ -99,6 +99,3 @@ impl<'r, R: CountedRead> StepReader<'r, R, Buffers> {
         self.buffers.lists.step(self.buffers.kind)
     }
 }
-
-#[cfg(test)]
-mod tests;

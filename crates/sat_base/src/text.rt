@@ -325,6 +325,3 @@ impl Tokenizer {
         }
     }
 }
-
-#[cfg(test)]
-mod tests;

@@ -1,6 +1,6 @@
 //! Devices.
 
-use crate::{Counted, CountedRead, CountedWrite, ReadError, read_whole};
+use sat_base::{Counted, CountedRead, CountedWrite, ReadError, read_whole};
 use std::alloc::Global;
 use std::io;
 use std::io::{ErrorKind, Read, Write};
@@ -111,12 +111,12 @@ fn devices_pass_on_what_they_are_given(rt: HostRuntime) -> Result<(), Fail> {
     writer.write_all_counted(b"abc")?;
     writer.flush_counted()?;
     let text = writer.into_inner();
-    assert_eq!(rt; text.as_slice(), b"abc".as_slice());
+    assert!(rt; text.as_slice() == b"abc".as_slice());
     let mut full = Counted::new(Full {});
     assert!(rt; full.write_all_counted(b"abc").is_err());
     let mut reader = by_one(text.as_slice(), 0);
     let whole = read_whole(rt.alloc(), &mut reader)?;
-    assert_eq!(rt; whole.as_slice(), b"abc".as_slice());
+    assert!(rt; whole.as_slice() == b"abc".as_slice());
     Ok(())
 }
 
@@ -124,31 +124,28 @@ fn devices_pass_on_what_they_are_given(rt: HostRuntime) -> Result<(), Fail> {
 fn each_read_of_a_whole_text_may_fail(rt: HostRuntime) -> Result<(), Fail> {
     for failing in 1..5 {
         let mut reader = by_one(b"abc", failing);
-        assert_eq!(rt;
-            read_whole(rt.alloc(), &mut reader).err(),
-            Some(ReadError::Failed)
-        );
-        assert_eq!(rt; reader.into_inner().calls, failing);
+        assert!(rt; read_whole(rt.alloc(), &mut reader).err() == Some(ReadError::Failed));
+        assert!(rt; reader.into_inner().calls == failing);
     }
     let mut reader = by_one(b"abc", 5);
     let whole = read_whole(rt.alloc(), &mut reader)?;
-    assert_eq!(rt; whole.as_slice(), b"abc".as_slice());
-    assert_eq!(rt; reader.into_inner().calls, 4);
+    assert!(rt; whole.as_slice() == b"abc".as_slice());
+    assert!(rt; reader.into_inner().calls == 4);
     Ok(())
 }
 
 #[test]
 fn calls_by_the_standard_traits_reach_the_device(rt: HostRuntime) -> Result<(), Fail> {
     let mut writer = Counted::new(Vec::new(rt.alloc()));
-    assert_eq!(rt; writer.write(b"abc")?, 3);
-    assert_eq!(rt; writer.into_inner().as_slice(), b"abc".as_slice());
+    assert!(rt; writer.write(b"abc")? == 3);
+    assert!(rt; writer.into_inner().as_slice() == b"abc".as_slice());
     let mut writer = Counted::new(Flushed { flushes: 0 });
     writer.flush()?;
     writer.flush_counted()?;
-    assert_eq!(rt; writer.into_inner().flushes, 2);
+    assert!(rt; writer.into_inner().flushes == 2);
     let mut reader = by_one(b"ab", 0);
     let mut piece = [0; 4];
-    assert_eq!(rt; reader.read(&mut piece)?, 1);
-    assert_eq!(rt; piece[0], b'a');
+    assert!(rt; reader.read(&mut piece)? == 1);
+    assert!(rt; piece[0] == b'a');
     Ok(())
 }

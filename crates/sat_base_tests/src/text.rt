@@ -1,4 +1,4 @@
-use crate::{Token, Tokenizer};
+use sat_base::{Token, Tokenizer};
 use std::test::*;
 
 fn number(negative: bool, value: u64) -> Option<Token> {
@@ -198,5 +198,5 @@ fn tells_numbers_from_wrong_words(rt: HostRuntime) {
 
 #[test]
 fn laws_are_proved(_rt: HostRuntime) {
-    crate::law_text::script_laws();
+    sat_base::law_text::script_laws();
 }

@@ -1,0 +1,412 @@
+//! Rows of texts, whole and in pieces of one byte, and what goes on after a fault.
+//!
+//! The tests see a parser and a formula through functions that ensure nothing, and keep few values: that is cheap to prove.
+ghost use Rattle.std.specs.Prelude.{◌≡◌, ◌<◌, IfSome, IfOk, length};
+ghost use Rattle.sat_base.specs.Tokenizing.{held};
+ghost use Rattle.sat_base.specs.Dimacs.{dimacs};
+
+use crate::devices::by_one;
+use sat_base::{
+    CnfFormula, Counted, CountedRead, DimacsError, DimacsParser, ExtendFormula, IncrementalError,
+    Lit, write_dimacs,
+};
+use std::alloc::Global;
+use std::test::*;
+
+const MALFORMED: DimacsError = DimacsError::Malformed { line: 2 };
+
+fn feed(parser: &mut DimacsParser, piece: &[u8]) -> Result<(), DimacsError> {
+    parser.feed(piece)
+}
+
+/// Feeds a text in pieces of this length, and says that it is over.
+fn read(parser: &mut DimacsParser, text: &[u8], piece: usize) -> Result<(), DimacsError>
+    requires { 0 < piece }
+{
+    for part in text.chunks(piece) {
+        feed(parser, part)?;
+    }
+    parser.finish()
+}
+
+/// The header, how many clauses were read, and the highest variable.
+type State = (Option<(u64, u64)>, u64, usize);
+
+fn state(parser: &DimacsParser) -> State {
+    (parser.header(), parser.clause_count(), parser.var_count())
+}
+
+/// The numbers of a formula's literals, with a 0 behind each clause.
+fn numbers(alloc: Global, formula: &CnfFormula) -> Result<Vec<i64>, Fail> {
+    let mut all = Vec::new(alloc);
+    for clause in formula {
+        for lit in clause {
+            all.push(lit.to_dimacs())?;
+        }
+        all.push(0)?;
+    }
+    Ok(all)
+}
+
+/// Tests whether a formula has these clauses.
+fn has(alloc: Global, formula: &CnfFormula, clauses: &[i64]) -> Result<bool, Fail> {
+    Ok(numbers(alloc, formula)?.as_slice() == clauses)
+}
+
+/// Takes the clauses that wait. Gives whether they are these, how many there are, and the highest variable.
+fn take(
+    alloc: Global,
+    parser: &mut DimacsParser,
+    clauses: &[i64],
+) -> Result<(bool, u64, usize), Fail> {
+    let formula = parser.take_formula();
+    let is_right = has(alloc, &formula, clauses)?;
+    Ok((is_right, formula.len() as u64, formula.var_count()))
+}
+
+/// Tests whether nothing waits, and nothing is read any more.
+fn is_over(parser: &mut DimacsParser) -> bool {
+    parser.take_formula().is_empty()
+        && parser.feed(b"1 0\n") == Err(DimacsError::HasFailed)
+        && parser.finish() == Err(DimacsError::HasFailed)
+}
+
+/// A text, the answer, the numbers of its clauses, its header, and its highest variable.
+type Row = (
+    &'static [u8],
+    Result<(), DimacsError>,
+    &'static [i64],
+    Option<(u64, u64)>,
+    usize,
+);
+
+const ROWS: [Row; 11] = [
+    (b"", Ok(()), &[], None, 0),
+    (b"p cnf 2 1\n1 -2 0\n", Ok(()), &[1, -2, 0], Some((2, 1)), 2),
+    (b"p cnf 9 5\n-4 0\n", Ok(()), &[-4, 0], Some((9, 5)), 4),
+    (b"1\nc 3\n\t-2\r\n0 3 0", Ok(()), &[1, -2, 0, 3, 0], None, 3),
+    (b"0 0\n%\n0\n", Ok(()), &[0, 0], None, 0),
+    (b"1 2\n-0 0\n", Err(MALFORMED), &[], None, 0),
+    (
+        b"1 0\n268435457 0\n",
+        Err(DimacsError::Limit { line: 2 }),
+        &[1, 0],
+        None,
+        1,
+    ),
+    (b"1\n%\n", Err(MALFORMED), &[], None, 0),
+    (b"1 0\n2", Err(MALFORMED), &[1, 0], None, 1),
+    (b"1 0\np cnf 1 1\n", Err(MALFORMED), &[1, 0], None, 1),
+    (b"p cnf 7 1\n3 x", Err(MALFORMED), &[], Some((7, 1)), 0),
+];
+
+/// Tests whether a parser that has read a row's text has what the row says, and is over.
+fn has_read(alloc: Global, parser: &mut DimacsParser, row: &Row) -> Result<bool, Fail> {
+    let (header, count, highest) = state(parser);
+    let (is_right, taken, _) = take(alloc, parser, row.2)?;
+    Ok(is_right && taken == count && header == row.3 && highest == row.4 && is_over(parser))
+}
+
+/// Tests whether a row's text, in pieces of this length, says what the row says.
+fn says(alloc: Global, row: &Row, piece: usize) -> Result<bool, Fail>
+    requires { 0 < piece }
+{
+    let mut parser = DimacsParser::new(alloc);
+    Ok(read(&mut parser, row.0, piece) == row.1 && has_read(alloc, &mut parser, row)?)
+}
+
+#[test]
+fn texts_say_clauses_and_faults(rt: HostRuntime) -> Result<(), Fail> {
+    for row in &ROWS {
+        for piece in [1, 3, 100] {
+            assert!(rt; says(rt.alloc(), row, piece)?, "{row:?} by {piece}");
+        }
+    }
+    Ok(())
+}
+
+/// A piece, the state behind it, the clauses that wait then, and the highest variable of those and the ones before.
+type Piece = (&'static [u8], State, &'static [i64], u64, usize);
+
+const PIECES: [Piece; 3] = [
+    (
+        b"p cnf 7 2\n-5 1 0 9",
+        (Some((7, 2)), 1, 5),
+        &[-5, 1, 0],
+        1,
+        5,
+    ),
+    (b" 0\n3 0\n", (Some((7, 2)), 3, 9), &[9, 0, 3, 0], 2, 9),
+    (b"", (Some((7, 2)), 3, 9), &[], 0, 9),
+];
+
+fn goes_on(alloc: Global, parser: &mut DimacsParser, piece: &Piece) -> Result<bool, Fail> {
+    feed(parser, piece.0)?;
+    Ok(state(parser) == piece.1 && take(alloc, parser, piece.2)? == (true, piece.3, piece.4))
+}
+
+#[test]
+fn clauses_are_taken_as_they_come(rt: HostRuntime) -> Result<(), Fail> {
+    let mut parser = DimacsParser::new(rt.alloc());
+    for piece in &PIECES {
+        assert!(rt; goes_on(rt.alloc(), &mut parser, piece)?, "{piece:?}");
+    }
+    read(&mut parser, b"", 1)?;
+    assert!(rt; state(&parser) == (Some((7, 2)), 3, 9));
+    Ok(())
+}
+
+/// Tests whether a formula with these clauses and this highest variable is read from a text.
+fn is_parsed(alloc: Global, text: &[u8], clauses: &[i64], highest: usize) -> Result<bool, Fail> {
+    let formula = DimacsParser::parse(alloc, &mut Counted::new(text))?;
+    Ok(formula.var_count() == highest && has(alloc, &formula, clauses)?)
+}
+
+/// How many clauses are read from a text, or the fault.
+fn parsed<R: CountedRead>(alloc: Global, reader: &mut R) -> Result<usize, DimacsError> {
+    Ok(DimacsParser::parse(alloc, reader)?.len())
+}
+
+#[test]
+fn a_reader_is_read_to_its_end(rt: HostRuntime) -> Result<(), Fail> {
+    let text: &[u8] = b"p cnf 3 2\n1 -3 0\n2 0\n";
+    assert!(rt; is_parsed(rt.alloc(), text, &[1, -3, 0, 2, 0], 3)?);
+    let cut: &[u8] = b"1 0\n2 x";
+    assert!(rt; parsed(rt.alloc(), &mut Counted::new(cut)) == Err(MALFORMED));
+    Ok(())
+}
+
+#[test]
+fn each_read_may_fail(rt: HostRuntime) {
+    let text: &[u8] = b"1 -3 0\n2 0\n";
+    for failing in 1..13 {
+        assert!(rt; parsed(rt.alloc(), &mut by_one(text, failing)) == Err(DimacsError::Read));
+    }
+    assert!(rt; parsed(rt.alloc(), &mut by_one(text, 13)) == Ok(2));
+}
+
+/// What a closure saw: the numbers of the clauses that it took, and how often it was called.
+#[derive(Drop)]
+struct Seen {
+    numbers: Vec<i64>,
+    calls: u64,
+}
+
+/// A caller's refusal, of the call of this number.
+#[derive(Clone, Copy, Debug, Drop, PartialEq, Eq)]
+struct Refused(u64);
+
+/// Takes what waits, but refuses one call, counted from 1.
+fn look(seen: &mut Seen, parser: &mut DimacsParser, refused: u64) -> Result<(), Refused> {
+    seen.calls = seen.calls.saturating_add(1);
+    if seen.calls == refused {
+        return Err(Refused(refused));
+    }
+    for clause in &parser.take_formula() {
+        for lit in clause {
+            seen.numbers.push(lit.to_dimacs()).map_err(|_| Refused(0))?;
+        }
+        seen.numbers.push(0).map_err(|_| Refused(0))?;
+    }
+    Ok(())
+}
+
+/// Reads a text, of which one call of the closure refuses, counted from 1.
+fn read_and_look<R: CountedRead>(
+    alloc: Global,
+    reader: &mut R,
+    refused: u64,
+) -> (Seen, Result<DimacsParser, IncrementalError<Refused>>) {
+    let mut seen = Seen {
+        numbers: Vec::new(alloc),
+        calls: 0,
+    };
+    let answer = DimacsParser::parse_incremental(alloc, reader, |parser| {
+        look(&mut seen, parser, refused)
+    });
+    (seen, answer)
+}
+
+/// The state of a parser that has read its text, if nothing waits and nothing more is read, or the fault.
+type End = Result<Option<State>, IncrementalError<Refused>>;
+
+fn end_of(answer: Result<DimacsParser, IncrementalError<Refused>>) -> End {
+    let mut parser = answer?;
+    Ok(is_over(&mut parser).then_some(state(&parser)))
+}
+
+/// Tests whether the closure saw these clauses, and was called so often. Gives the parser's end.
+fn looked<R: CountedRead>(
+    alloc: Global,
+    reader: &mut R,
+    clauses: &[i64],
+    calls: u64,
+) -> (bool, End) {
+    let (seen, answer) = read_and_look(alloc, reader, 0);
+    let is_right = seen.numbers.as_slice() == clauses && seen.calls == calls;
+    (is_right, end_of(answer))
+}
+
+/// Reads a text byte by byte, of which one read fails and one call of the closure refuses, both counted from 1. Gives how often
+/// the closure was called, and the fault.
+fn in_parts(
+    alloc: Global,
+    text: &[u8],
+    failing: u64,
+    refused: u64,
+) -> (u64, Option<IncrementalError<Refused>>) {
+    let (seen, answer) = read_and_look(alloc, &mut by_one(text, failing), refused);
+    (seen.calls, answer.err())
+}
+
+#[test]
+fn a_caller_sees_each_piece(rt: HostRuntime) {
+    let text: &[u8] = b"p cnf 3 2\n1 -3 0\n2 0\n";
+    let answer = looked(rt.alloc(), &mut by_one(text, 0), &[1, -3, 0, 2, 0], 22);
+    assert!(rt; answer == (true, Ok(Some((Some((3, 2)), 2, 3)))));
+}
+
+/// Adds a clause for each of the first thousand variables.
+fn add_thousand(formula: &mut CnfFormula) -> Result<(), Fail> {
+    for index in 0..1000 {
+        formula.add_clause(&[Lit::from_index(index, true), Lit::from_index(1, false)])?;
+    }
+    Ok(())
+}
+
+fn long_text(alloc: Global) -> Result<Vec<u8>, Fail> {
+    let mut formula = CnfFormula::new(alloc);
+    add_thousand(&mut formula)?;
+    let mut writer = Counted::new(Vec::new(alloc));
+    write_dimacs(&mut writer, &formula)?;
+    Ok(writer.into_inner())
+}
+
+/// The clauses that a text is parsed to, and the highest variable.
+fn whole(alloc: Global, text: &[u8]) -> Result<(Vec<i64>, usize), Fail> {
+    let formula = DimacsParser::parse(alloc, &mut Counted::new(text))?;
+    Ok((numbers(alloc, &formula)?, formula.var_count()))
+}
+
+#[test]
+fn a_caller_sees_each_clause_of_a_long_text(rt: HostRuntime) -> Result<(), Fail> {
+    let text = long_text(rt.alloc())?;
+    assert!(rt; text.len() == 8_909);
+    let (clauses, highest) = whole(rt.alloc(), text.as_slice())?;
+    assert!(rt; clauses.len() == 3_000);
+    let mut reader = Counted::new(text.as_slice());
+    let answer = looked(rt.alloc(), &mut reader, clauses.as_slice(), 4);
+    assert!(rt; answer == (true, Ok(Some((Some((1_000, 1_000)), 1_000, highest)))));
+    Ok(())
+}
+
+/// A text, its fault, the clauses before it, and how often the closure is called.
+const FAULTS: [(&[u8], DimacsError, &[i64], u64); 4] = [
+    (b"1 2\n-0 0\n", MALFORMED, &[], 7),
+    (
+        b"1 0\n268435457 0\n",
+        DimacsError::Limit { line: 2 },
+        &[1, 0],
+        14,
+    ),
+    (b"1\n%\n", MALFORMED, &[], 5),
+    (b"1 0\n2", MALFORMED, &[1, 0], 6),
+];
+
+#[test]
+fn a_caller_sees_the_clauses_before_a_fault(rt: HostRuntime) {
+    for (text, fault, clauses, calls) in FAULTS {
+        let answer = looked(rt.alloc(), &mut by_one(text, 0), clauses, calls);
+        assert!(rt;
+            answer == (true, Err(IncrementalError::Dimacs(fault))),
+            "{text:?}"
+        );
+    }
+}
+
+#[test]
+fn a_caller_may_refuse_and_a_read_may_fail(rt: HostRuntime) {
+    let text: &[u8] = b"1 0\n2 0\n";
+    for number in 1..10 {
+        let refused = Some(IncrementalError::Caller(Refused(number)));
+        assert!(rt; in_parts(rt.alloc(), text, 0, number) == (number, refused));
+        let fault = Some(IncrementalError::Dimacs(DimacsError::Read));
+        assert!(rt; in_parts(rt.alloc(), text, number, 0) == (number - 1, fault));
+    }
+    let refused = Some(IncrementalError::Caller(Refused(7)));
+    assert!(rt; in_parts(rt.alloc(), b"1 2\n-0 0\n", 0, 7) == (7, refused));
+    assert!(rt; in_parts(rt.alloc(), text, 10, 10) == (9, None));
+}
+
+/// How many clauses a formula's text has.
+fn clause_count<R: CountedRead>(alloc: Global, reader: &mut R) -> Result<usize, DimacsError>
+    ensures { IfSome (R.remaining reader.old) (λ text. IfOk result (λ count. count ≡ length (dimacs text).clauses)) }
+{
+    let formula = DimacsParser::parse(alloc, reader)?;
+    Ok(formula.len())
+}
+
+#[test]
+fn clauses_are_counted(rt: HostRuntime) {
+    let answer = clause_count(rt.alloc(), &mut by_one(b"p cnf 2 2\n1 0 2 0\n", 0));
+    assert!(rt; answer == Ok(2));
+}
+
+/// How many clauses a text has, which are let go as they come.
+fn count_in_parts<R: CountedRead>(
+    alloc: Global,
+    reader: &mut R,
+) -> Result<u64, IncrementalError<DimacsError>>
+    ensures { IfSome (R.remaining reader.old) (λ text. IfOk result (λ count. count ≡ held (length (dimacs text).clauses))) }
+{
+    let parser = DimacsParser::parse_incremental(alloc, reader, |parser| {
+        parser.take_formula();
+        Ok(())
+    })?;
+    Ok(parser.clause_count())
+}
+
+#[test]
+fn clauses_are_counted_in_parts(rt: HostRuntime) -> Result<(), Fail> {
+    let answer = count_in_parts(rt.alloc(), &mut by_one(b"p cnf 2 2\n1 0 2 0\n", 0));
+    assert!(rt; answer == Ok(2));
+    Ok(())
+}
+
+/// Errors, and how they are printed.
+const PRINTED: [(IncrementalError<DimacsError>, &str); 5] = [
+    (IncrementalError::Dimacs(MALFORMED), "line 2 is malformed"),
+    (
+        IncrementalError::Dimacs(DimacsError::Limit { line: 3 }),
+        "a number on line 3 is past the limit",
+    ),
+    (
+        IncrementalError::Dimacs(DimacsError::Read),
+        "the formula can't be read",
+    ),
+    (
+        IncrementalError::Caller(DimacsError::OutOfMemory),
+        "out of memory",
+    ),
+    (
+        IncrementalError::Caller(DimacsError::HasFailed),
+        "the parser has failed or finished before",
+    ),
+];
+
+#[test]
+fn errors_are_printed(rt: HostRuntime) -> Result<(), Fail> {
+    for (error, text) in &PRINTED {
+        assert!(rt;
+            format!(in rt.alloc(); "{error}")?.as_str() == *text,
+            "{text}"
+        );
+    }
+    Ok(())
+}
+
+#[test]
+fn laws_are_proved(_rt: HostRuntime) {
+    sat_base::law_dimacs::dimacs_laws();
+    sat_base::law_dimacs::dimacs_rows();
+}

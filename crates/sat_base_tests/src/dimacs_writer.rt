@@ -1,0 +1,116 @@
+//! Texts from outside, and each write failing in turn.
+//!
+//! Where a formula is owned, little more than one `?` stands: that is dear to prove.
+
+use crate::devices::by_few;
+use sat_base::{CnfFormula, Counted, ExtendFormula, Lit, Var, write_dimacs};
+use std::alloc::Global;
+use std::io;
+use std::test::Fail;
+
+fn written(alloc: Global, formula: &CnfFormula) -> Result<Vec<u8>, io::Error> {
+    let mut writer = Counted::new(Vec::new(alloc));
+    write_dimacs(&mut writer, formula)?;
+    Ok(writer.into_inner())
+}
+
+/// Adds nothing, a clause and a variable that stands in none, or that and the last variable.
+fn fill(formula: &mut CnfFormula, stage: u64) -> Result<(), Fail> {
+    if stage == 0 {
+        return Ok(());
+    }
+    formula.add_clause(&[Lit::from_index(0, true), Lit::from_index(1, false)])?;
+    formula.set_var_count(3);
+    if stage == 1 {
+        return Ok(());
+    }
+    formula.add_clause(&[])?;
+    formula.set_var_count(Var::max_count());
+    formula.add_clause(&[Lit::from_index(268_435_455, false)])?;
+    Ok(())
+}
+
+fn has_text(alloc: Global, formula: &CnfFormula, text: &[u8]) -> Result<bool, Fail> {
+    Ok(written(alloc, formula)?.as_slice() == text)
+}
+
+fn stage_has_text(alloc: Global, stage: u64, text: &[u8]) -> Result<bool, Fail> {
+    let mut formula = CnfFormula::new(alloc);
+    fill(&mut formula, stage)?;
+    has_text(alloc, &formula, text)
+}
+
+const TEXTS: [(u64, &[u8]); 3] = [
+    (0, b"p cnf 0 0\n"),
+    (1, b"p cnf 3 1\n1 -2 0\n"),
+    (2, b"p cnf 268435456 3\n1 -2 0\n0\n-268435456 0\n"),
+];
+
+#[test]
+fn formulas_have_these_texts(rt: HostRuntime) -> Result<(), Fail> {
+    for (stage, text) in TEXTS {
+        assert!(rt; stage_has_text(rt.alloc(), stage, text)?, "{stage}");
+    }
+    Ok(())
+}
+
+/// Writes a formula to a writer that takes so many bytes a call, of which one fails, counted from 1. Gives whether it was
+/// written, how many calls were made, and whether what was taken is this text.
+fn by_few_calls(
+    alloc: Global,
+    formula: &CnfFormula,
+    (most, failing): (usize, u64),
+    text: &[u8],
+) -> (bool, u64, bool) {
+    let mut writer = by_few(alloc, most, failing);
+    let is_written = write_dimacs(&mut writer, formula).is_ok();
+    let device = writer.into_inner();
+    (is_written, device.calls, device.taken.as_slice() == text)
+}
+
+fn add_thousand(formula: &mut CnfFormula) -> Result<(), Fail> {
+    for index in 0..1000 {
+        formula.add_clause(&[Lit::from_index(index, true), Lit::from_index(1, false)])?;
+    }
+    Ok(())
+}
+
+fn length(alloc: Global, formula: &CnfFormula) -> Option<usize> {
+    Some(written(alloc, formula).ok()?.len())
+}
+
+/// The same, without what was taken.
+fn calls(alloc: Global, formula: &CnfFormula, most: usize, failing: u64) -> (bool, u64) {
+    let (is_written, calls, _) = by_few_calls(alloc, formula, (most, failing), &[]);
+    (is_written, calls)
+}
+
+#[test]
+fn a_failed_write_is_not_tried_again(rt: HostRuntime) -> Result<(), Fail> {
+    let mut formula = CnfFormula::new(rt.alloc());
+    add_thousand(&mut formula)?;
+    assert!(rt; length(rt.alloc(), &formula) == Some(8_909));
+    for failing in [1, 2, 3] {
+        assert!(rt;
+            calls(rt.alloc(), &formula, 4096, failing) == (false, failing),
+            "{failing}"
+        );
+    }
+    assert!(rt; calls(rt.alloc(), &formula, 4096, 4) == (true, 3));
+    Ok(())
+}
+
+#[test]
+fn a_text_may_be_taken_byte_by_byte(rt: HostRuntime) -> Result<(), Fail> {
+    let text: &[u8] = TEXTS[1].1;
+    let mut formula = CnfFormula::new(rt.alloc());
+    fill(&mut formula, 1)?;
+    for failing in 1..18 {
+        let front = text.get(..(failing - 1) as usize).unwrap_or(&[]);
+        let answer = by_few_calls(rt.alloc(), &formula, (1, failing), front);
+        assert!(rt; answer == (false, failing, true), "{failing}");
+    }
+    assert!(rt; by_few_calls(rt.alloc(), &formula, (1, 18), text) == (true, 17, true));
+    assert!(rt; calls(rt.alloc(), &formula, 0, 0) == (false, 1));
+    Ok(())
+}

@@ -1,0 +1,17 @@
+//! Tests of `sat_base` by its public calls, in a crate of their own so that the library is proved once.
+#![tactic(auto)]
+
+#[cfg(test)]
+mod devices;
+#[cfg(test)]
+mod dimacs;
+#[cfg(test)]
+mod dimacs_writer;
+#[cfg(test)]
+mod formula;
+#[cfg(test)]
+mod lit;
+#[cfg(test)]
+mod steps;
+#[cfg(test)]
+mod text;

@@ -1,0 +1,452 @@
+//! Steps that are written and read again.
+//!
+//! Each function is short and keeps few values, and the rows stand in tables: that is cheap to prove.
+
+ghost use Rattle.std.specs.Prelude.{◌≤◌};
+
+use crate::devices::{by_few, by_one};
+use sat_base::{
+    Counted, CountedRead, DeleteClauseProof, HashBits, Lit, ProofStep, StepError, StepReader, Var,
+    write_step,
+};
+use std::alloc::Global;
+use std::io;
+use std::test::Fail;
+
+fn written(alloc: Global, step: &ProofStep<'_>) -> Result<Vec<u8>, io::Error> {
+    let mut writer = Counted::new(Vec::new(alloc));
+    write_step(&mut writer, step)?;
+    Ok(writer.into_inner())
+}
+
+/// The errors of two calls.
+type Errors = (StepError, Option<StepError>);
+
+const AT_THE_END: Errors = (StepError::Ends, Some(StepError::Ends));
+
+const CUT: Errors = (StepError::Cut, Some(StepError::HasFailed));
+
+const BAD: Errors = (StepError::BadByte, Some(StepError::HasFailed));
+
+const FAULT: Errors = (StepError::Read, Some(StepError::HasFailed));
+
+/// Reads steps and writes them again, up to the first error. Gives that, and the error of the call behind it.
+fn copied<R: CountedRead>(
+    steps: &mut StepReader<'_, R>,
+    copy: &mut Counted<Vec<u8>>,
+) -> Result<Errors, Fail> {
+    for _ in 0..100 {
+        if let Err(error) = steps.advance() {
+            return Ok((error, steps.advance().err()));
+        }
+        write_step(copy, &steps.step())?;
+    }
+    Err(Fail::new("too many steps"))
+}
+
+/// Tests whether a reader gives the steps of this text, and then these errors.
+fn gives<R: CountedRead>(
+    alloc: Global,
+    reader: &mut R,
+    text: &[u8],
+    errors: Errors,
+) -> Result<bool, Fail> {
+    let mut copy = Counted::new(Vec::new(alloc));
+    let found = copied(&mut StepReader::new(alloc, reader), &mut copy)?;
+    Ok(found == errors && copy.into_inner().as_slice() == text)
+}
+
+/// The same of a text that is given whole.
+fn whole_gives(alloc: Global, text: &[u8], steps: &[u8], errors: Errors) -> Result<bool, Fail> {
+    gives(alloc, &mut Counted::new(text), steps, errors)
+}
+
+/// The same of a text that is given byte by byte, of which one read fails, counted from 1. Gives the calls, too.
+fn pieces_give(
+    alloc: Global,
+    text: &[u8],
+    failing: u64,
+    steps: &[u8],
+    errors: Errors,
+) -> Result<(bool, u64), Fail> {
+    let mut pieces = by_one(text, failing);
+    let is_right = gives(alloc, &mut pieces, steps, errors)?;
+    Ok((is_right, pieces.into_inner().calls))
+}
+
+/// Tests whether a text that is given whole or by one byte gives these steps and then these errors.
+fn both_give(alloc: Global, text: &[u8], steps: &[u8], errors: Errors) -> Result<bool, Fail> {
+    let is_right = whole_gives(alloc, text, steps, errors)?;
+    Ok(is_right && pieces_give(alloc, text, 0, steps, errors)?.0)
+}
+
+/// Tests whether a step has this text, and is read again from it, whole and by one byte.
+fn has_text(alloc: Global, step: &ProofStep<'_>, text: &[u8]) -> Result<bool, Fail> {
+    let is_right = written(alloc, step)?.as_slice() == text;
+    Ok(is_right && both_give(alloc, text, text, AT_THE_END)?)
+}
+
+/// Tests whether a step is read again, whole and by one byte.
+fn is_read_again(alloc: Global, step: &ProofStep<'_>) -> Result<bool, Fail> {
+    let text = written(alloc, step)?;
+    both_give(alloc, text.as_slice(), text.as_slice(), AT_THE_END)
+}
+
+/// A step and its text.
+type Row<'a> = (ProofStep<'a>, &'static [u8]);
+
+fn rows_about_variables(first: Var, last: Var) -> [Row<'static>; 6] {
+    let fifth = Var::from_index(5);
+    let late = Var::from_index(128);
+    [
+        (
+            ProofStep::SolverVarName {
+                global: fifth,
+                solver: None,
+            },
+            &[1, 5, 0],
+        ),
+        (
+            ProofStep::SolverVarName {
+                global: fifth,
+                solver: Some(first),
+            },
+            &[1, 5, 1],
+        ),
+        (
+            ProofStep::UserVarName {
+                global: first,
+                user: Some(last),
+            },
+            &[2, 0, 0x80, 0x80, 0x80, 0x80, 1],
+        ),
+        (
+            ProofStep::DeleteVar { var: last },
+            &[3, 0xff, 0xff, 0xff, 0x7f],
+        ),
+        (
+            ProofStep::ChangeSamplingMode {
+                var: first,
+                sample: false,
+            },
+            &[4, 0, 0],
+        ),
+        (
+            ProofStep::ChangeSamplingMode {
+                var: late,
+                sample: true,
+            },
+            &[4, 0x80, 1, 1],
+        ),
+    ]
+}
+
+#[test]
+fn steps_about_variables_have_these_bytes(rt: HostRuntime) -> Result<(), Fail> {
+    for (step, text) in &rows_about_variables(Var::from_index(0), Var::from_index(268435455)) {
+        assert!(rt; has_text(rt.alloc(), step, *text)?, "{text:?}");
+    }
+    Ok(())
+}
+
+fn rows_about_clauses<'a>(
+    both: &'a [Lit],
+    clause: &'a [Lit],
+    units: &'a [(Lit, u64)],
+) -> [Row<'a>; 6] {
+    [
+        (ProofStep::AddClause { clause }, &[5, 2, 0, 3]),
+        (
+            ProofStep::AtClause {
+                redundant: true,
+                clause,
+                propagation_hashes: &[0, 230],
+            },
+            &[6, 1, 2, 0, 3, 2, 0, 0xe6, 1],
+        ),
+        (ProofStep::UnitClauses { units }, &[7, 1, 0, 0x44]),
+        (
+            ProofStep::DeleteClause {
+                clause: both,
+                proof: DeleteClauseProof::Redundant,
+            },
+            &[8, 2, 0, 2, 0],
+        ),
+        (
+            ProofStep::DeleteClause {
+                clause: both,
+                proof: DeleteClauseProof::Simplified,
+            },
+            &[8, 2, 0, 2, 1],
+        ),
+        (
+            ProofStep::DeleteClause {
+                clause: both,
+                proof: DeleteClauseProof::Satisfied,
+            },
+            &[8, 2, 0, 2, 2],
+        ),
+    ]
+}
+
+#[test]
+fn steps_about_clauses_have_these_bytes(rt: HostRuntime) -> Result<(), Fail> {
+    let first = Lit::from_index(0, true);
+    let both = [first, Lit::from_index(1, true)];
+    let clause = [first, Lit::from_index(1, false)];
+    for (step, text) in &rows_about_clauses(&both, &clause, &[(first, 0x44)]) {
+        assert!(rt; has_text(rt.alloc(), step, *text)?, "{text:?}");
+    }
+    Ok(())
+}
+
+fn other_rows(lits: &[Lit], bits: HashBits) -> [Row<'_>; 5] {
+    [
+        (ProofStep::ChangeHashBits { bits }, &[9, 0x40]),
+        (ProofStep::Model { assignment: lits }, &[10, 1, 3]),
+        (ProofStep::Assumptions { assumptions: lits }, &[11, 1, 3]),
+        (
+            ProofStep::FailedAssumptions {
+                failed_core: lits,
+                propagation_hashes: &[230],
+            },
+            &[12, 1, 3, 1, 0xe6, 1],
+        ),
+        (ProofStep::End, &[13]),
+    ]
+}
+
+#[test]
+fn other_steps_have_these_bytes(rt: HostRuntime) -> Result<(), Fail> {
+    let bits = HashBits::new(64).ok_or("no width of 64")?;
+    for (step, text) in &other_rows(&[Lit::from_index(1, false)], bits) {
+        assert!(rt; has_text(rt.alloc(), step, *text)?, "{text:?}");
+    }
+    Ok(())
+}
+
+#[test]
+fn a_hash_has_at_most_64_bits(rt: HostRuntime) {
+    assert!(rt; HashBits::new(64).map(|bits| bits.get()) == Some(64));
+    assert!(rt; HashBits::new(65) == None);
+}
+
+#[test]
+fn the_room_of_lists_is_used_again(rt: HostRuntime) -> Result<(), Fail> {
+    let text: &[u8] = &[
+        7, 2, 0, 0x44, 3, 1, 12, 1, 3, 1, 9, 7, 1, 5, 0, 5, 0, 7, 0, 6, 0, 0, 2, 3, 4, 13,
+    ];
+    assert!(rt; both_give(rt.alloc(), text, text, AT_THE_END)?);
+    Ok(())
+}
+
+const FOUR_STEPS: &[u8] = &[5, 2, 0, 3, 12, 1, 3, 2, 0xe6, 1, 9, 1, 0x80, 1, 0, 13];
+
+/// The steps that stand before a byte, counted from 1.
+fn steps_before(byte: u64) -> &'static [u8] {
+    let mut whole = 0;
+    for end in [4, 11, 15, 16] {
+        if end < byte {
+            whole = end;
+        }
+    }
+    FOUR_STEPS.get(..whole as usize).unwrap_or(&[])
+}
+
+#[test]
+fn each_read_of_steps_may_fail(rt: HostRuntime) -> Result<(), Fail> {
+    for failing in 1..18 {
+        let steps = steps_before(failing);
+        let answer = pieces_give(rt.alloc(), FOUR_STEPS, failing, steps, FAULT)?;
+        assert!(rt; answer == (true, failing), "{failing}");
+    }
+    // The end was found before the read that fails, which the call behind makes.
+    let late = (StepError::Ends, Some(StepError::Read));
+    assert!(rt; pieces_give(rt.alloc(), FOUR_STEPS, 18, FOUR_STEPS, late)?.0);
+    Ok(())
+}
+
+const BAD_TEXTS: [&[u8]; 17] = [
+    &[0],
+    &[14],
+    &[0x82],
+    &[1, 5, 0x80, 0],
+    &[2, 0xff, 0xff, 0xff, 0xff],
+    &[3, 0x80, 0x80, 0x80, 0x80],
+    &[4, 0, 2],
+    &[5, 0x82, 0],
+    &[5, 1, 0xff, 0xff, 0xff, 0xff, 2],
+    &[6, 2],
+    &[6, 0, 0, 1, 0xe6, 0],
+    &[
+        7, 1, 0, 0xff, 0xff, 0xff, 0xff, 0xff, 0xff, 0xff, 0xff, 0xff, 2,
+    ],
+    &[8, 2, 0, 2, 3],
+    &[9, 0x41],
+    &[9, 0xc0],
+    &[12, 0x80, 0],
+    &[12, 0, 0x80, 0],
+];
+
+#[test]
+fn wrong_texts_are_refused(rt: HostRuntime) -> Result<(), Fail> {
+    for text in BAD_TEXTS {
+        assert!(rt; whole_gives(rt.alloc(), text, &[], BAD)?, "{text:?}");
+        let answer = pieces_give(rt.alloc(), text, 0, &[], BAD)?;
+        assert!(rt; answer == (true, text.len() as u64), "{text:?}");
+    }
+    Ok(())
+}
+
+/// A text, its whole steps, and the errors behind them.
+const ENDS: [(&[u8], &[u8], Errors); 9] = [
+    (&[3], &[], CUT),
+    (&[3, 0x80], &[], CUT),
+    (&[4, 0], &[], CUT),
+    (&[7, 1, 0], &[], CUT),
+    (&[8, 2, 0, 2], &[], CUT),
+    (&[12, 1, 3], &[], CUT),
+    (&[5, 2, 0], &[], CUT),
+    (&[], &[], AT_THE_END),
+    (&[13], &[13], AT_THE_END),
+];
+
+#[test]
+fn a_text_ends_between_steps(rt: HostRuntime) -> Result<(), Fail> {
+    for (text, steps, errors) in ENDS {
+        assert!(rt; both_give(rt.alloc(), text, steps, errors)?, "{text:?}");
+    }
+    Ok(())
+}
+
+#[test]
+fn a_failed_read_is_not_tried_again(rt: HostRuntime) -> Result<(), Fail> {
+    let answer = pieces_give(rt.alloc(), &[5, 2, 0, 3], 3, &[], FAULT)?;
+    assert!(rt; answer == (true, 3));
+    Ok(())
+}
+
+fn more_steps<'a>(last: Var, lits: &'a [Lit], hashes: &'a [u64]) -> [ProofStep<'a>; 7] {
+    [
+        ProofStep::UserVarName {
+            global: last,
+            user: Some(last),
+        },
+        ProofStep::UserVarName {
+            global: Var::from_index(0),
+            user: None,
+        },
+        ProofStep::AddClause { clause: lits },
+        ProofStep::AtClause {
+            redundant: true,
+            clause: lits,
+            propagation_hashes: hashes,
+        },
+        ProofStep::Model { assignment: lits },
+        ProofStep::Assumptions { assumptions: lits },
+        ProofStep::End,
+    ]
+}
+
+#[test]
+fn steps_are_read_again(rt: HostRuntime) -> Result<(), Fail> {
+    let last = Var::from_index(268435455);
+    let lits = [Lit::from_index(0, true), last.negative()];
+    for step in &more_steps(last, &lits, &[0, 230, 18446744073709551615]) {
+        assert!(rt; is_read_again(rt.alloc(), step)?, "{step:?}");
+    }
+    Ok(())
+}
+
+/// The positive literals of 3,000 variables.
+fn many_lits(alloc: Global, first: usize) -> Result<Vec<Lit>, Fail>
+    requires { first ≤ 268000000 }
+{
+    let mut lits = Vec::new(alloc);
+    for index in 0..3000 {
+        lits.push(Lit::from_index(first + index, true))?;
+    }
+    Ok(lits)
+}
+
+/// The length of a step's text, if the step is read again from it, whole.
+fn length_again(alloc: Global, step: &ProofStep<'_>) -> Result<Option<usize>, Fail> {
+    let text = written(alloc, step)?;
+    let is_right = whole_gives(alloc, text.as_slice(), text.as_slice(), AT_THE_END)?;
+    Ok(is_right.then_some(text.len()))
+}
+
+#[test]
+fn a_long_step_is_read_again(rt: HostRuntime) -> Result<(), Fail> {
+    let lits = many_lits(rt.alloc(), 268000000)?;
+    let long = ProofStep::Model {
+        assignment: lits.as_slice(),
+    };
+    assert!(rt; length_again(rt.alloc(), &long)? == Some(15003));
+    Ok(())
+}
+
+/// Writes a step to a writer that takes so many bytes a call, of which one fails, counted from 1. Gives whether the step was
+/// written, how many calls were made, and whether what was taken begins this text, and is it.
+fn by_few_calls(
+    alloc: Global,
+    step: &ProofStep<'_>,
+    (most, failing): (usize, u64),
+    text: &[u8],
+) -> (bool, u64, bool, bool) {
+    let mut writer = by_few(alloc, most, failing);
+    let is_written = write_step(&mut writer, step).is_ok();
+    let device = writer.into_inner();
+    let taken = device.taken.as_slice();
+    (
+        is_written,
+        device.calls,
+        text.get(..taken.len()) == Some(taken),
+        taken == text,
+    )
+}
+
+/// Tests whether a step is an error where one of so many calls fails, and ends with it.
+fn may_fail(alloc: Global, step: &ProofStep<'_>, most: usize, calls: u64, text: &[u8]) -> bool {
+    for failing in 1..=calls {
+        let (is_written, made, begins, _) = by_few_calls(alloc, step, (most, failing), text);
+        if is_written || made != failing || !begins {
+            return false;
+        }
+    }
+    true
+}
+
+/// Tests whether a step is written whole to a writer that takes so many bytes a call, and is an error where one of the calls fails.
+fn is_taken_by_few(alloc: Global, step: &ProofStep<'_>, most: usize) -> Result<bool, Fail> {
+    let text = written(alloc, step)?;
+    let (is_written, calls, _, is_whole) = by_few_calls(alloc, step, (most, 0), text.as_slice());
+    Ok(is_written && is_whole && may_fail(alloc, step, most, calls, text.as_slice()))
+}
+
+#[test]
+fn each_write_of_a_short_step_may_fail(rt: HostRuntime) -> Result<(), Fail> {
+    let clause = [Lit::from_index(0, true), Lit::from_index(1, false)];
+    let short = ProofStep::AtClause {
+        redundant: true,
+        clause: &clause,
+        propagation_hashes: &[0, 230],
+    };
+    for most in [1, 4] {
+        assert!(rt; is_taken_by_few(rt.alloc(), &short, most)?, "{most}");
+    }
+    Ok(())
+}
+
+#[test]
+fn each_write_of_a_long_step_may_fail(rt: HostRuntime) -> Result<(), Fail> {
+    let lits = many_lits(rt.alloc(), 0)?;
+    let long = ProofStep::AddClause {
+        clause: lits.as_slice(),
+    };
+    assert!(rt; length_again(rt.alloc(), &long)? == Some(5939));
+    assert!(rt; is_taken_by_few(rt.alloc(), &long, 7)?);
+    let (is_written, calls, _, _) = by_few_calls(rt.alloc(), &long, (0, 0), &[]);
+    assert!(rt; !is_written && calls == 1);
+    Ok(())
+}
