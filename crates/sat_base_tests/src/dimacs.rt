@@ -2,8 +2,8 @@
 //!
 //! The tests see a parser and a formula through functions that ensure nothing, and keep few values: that is cheap to prove.
 ghost use Rattle.std.specs.Prelude.{◌≡◌, ◌<◌, IfSome, IfOk, length};
-ghost use Rattle.sat_base.specs.Tokenizing.{held};
-ghost use Rattle.sat_base.specs.Dimacs.{dimacs};
+ghost use Rattle.sat_base.specs.text.Tokenizing.{held};
+ghost use Rattle.sat_base.specs.dimacs.Dimacs.{dimacs};
 
 use crate::devices::by_one;
 use sat_base::{

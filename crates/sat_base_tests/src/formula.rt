@@ -2,7 +2,7 @@
 //!
 //! No `?` stands where a formula is owned: that is dear to prove.
 ghost use Rattle.std.specs.Prelude.{◌≡◌, ◌≤◌, ◌∷◌, [], ℕ, true, OnOk};
-ghost use Rattle.sat_base.specs.Literals.{coded, largest};
+ghost use Rattle.sat_base.specs.values.Literals.{coded, largest};
 
 use sat_base::{CnfFormula, ExtendFormula, FormulaError, Lit, Var};
 use std::alloc::Global;
