@@ -64,6 +64,11 @@ fn take(
     Ok((is_right, formula.len() as u64, formula.var_count()))
 }
 
+/// Tests whether nothing waits, and the text was said to be over.
+fn is_finished(parser: &mut DimacsParser) -> bool {
+    parser.take_formula().is_empty() && parser.finish() == Err(DimacsError::HasFailed)
+}
+
 /// Tests whether nothing waits, and nothing is read any more.
 fn is_over(parser: &mut DimacsParser) -> bool {
     parser.take_formula().is_empty()
@@ -100,11 +105,11 @@ const ROWS: [Row; 11] = [
     (b"p cnf 7 1\n3 x", Err(MALFORMED), &[], Some((7, 1)), 0),
 ];
 
-/// Tests whether a parser that has read a row's text has what the row says, and is over.
+/// Tests whether a parser that has read a row's text has what the row says, also when its clauses are taken, and is over.
 fn has_read(alloc: Global, parser: &mut DimacsParser, row: &Row) -> Result<bool, Fail> {
-    let (header, count, highest) = state(parser);
-    let (is_right, taken, _) = take(alloc, parser, row.2)?;
-    Ok(is_right && taken == count && header == row.3 && highest == row.4 && is_over(parser))
+    let found = state(parser);
+    let (is_right, count, _) = take(alloc, parser, row.2)?;
+    Ok(is_right && found == (row.3, count, row.4) && state(parser) == found && is_over(parser))
 }
 
 /// Tests whether a row's text, in pieces of this length, says what the row says.
@@ -151,7 +156,8 @@ fn clauses_are_taken_as_they_come(rt: HostRuntime) -> Result<(), Fail> {
     for piece in &PIECES {
         assert!(rt; goes_on(rt.alloc(), &mut parser, piece)?, "{piece:?}");
     }
-    read(&mut parser, b"", 1)?;
+    assert!(rt; take(rt.alloc(), &mut parser, &[])? == (true, 0, 9));
+    assert!(rt; read(&mut parser, b"", 1) == Ok(()));
     assert!(rt; state(&parser) == (Some((7, 2)), 3, 9));
     Ok(())
 }
@@ -232,7 +238,8 @@ type End = Result<Option<State>, IncrementalError<Refused>>;
 
 fn end_of(answer: Result<DimacsParser, IncrementalError<Refused>>) -> End {
     let mut parser = answer?;
-    Ok(is_over(&mut parser).then_some(state(&parser)))
+    let found = state(&parser);
+    Ok((is_finished(&mut parser) && is_over(&mut parser)).then_some(found))
 }
 
 /// Tests whether the closure saw these clauses, and was called so often. Gives the parser's end.

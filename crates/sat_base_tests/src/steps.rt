@@ -89,7 +89,7 @@ fn has_text(alloc: Global, step: &ProofStep<'_>, text: &[u8]) -> Result<bool, Fa
 /// Tests whether a step is read again, whole and by one byte.
 fn is_read_again(alloc: Global, step: &ProofStep<'_>) -> Result<bool, Fail> {
     let text = written(alloc, step)?;
-    both_give(alloc, text.as_slice(), text.as_slice(), AT_THE_END)
+    has_text(alloc, step, text.as_slice())
 }
 
 /// A step and its text.
