@@ -65,7 +65,7 @@ fn parse(mut reader: impl Read) -> Result<Formula, u64> {
 
 fn main() {
     match parse(std::io::stdin().lock()) {
-        Ok(f) => println!("{} clauses, {} literals, {} variables", f.ends.len(), f.lits.len(), f.var_count),
-        Err(line) => println!("line {line}"),
+        Ok(f) => eprintln!("{} clauses, {} literals, {} variables", f.ends.len(), f.lits.len(), f.var_count),
+        Err(line) => eprintln!("line {line}"),
     }
 }

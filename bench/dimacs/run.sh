@@ -1,8 +1,8 @@
 #!/usr/bin/env bash
 # Measures the parser of DIMACS CNF beside a plain one in Rust: bench/dimacs/run.sh [BYTES]
 #
-# It generates a formula of so many bytes (100,000,000 where none are given), and has both read it from standard input, three times
-# in turn. It prints what each read, its time and its peak memory. It isn't part of the gate, and needs rustc and GNU time.
+# It generates a formula of so many bytes (100,000,000 where none are given), and has both read it from standard input, five times in
+# turn. It prints what each read, its times and its peak memory. It isn't part of the gate, and needs rustc and GNU time.
 set -eu
 here=$(cd "$(dirname "$0")" && pwd)
 top=$(cd "$here/../.." && pwd)
@@ -33,16 +33,14 @@ fn main(rt: HostRuntime) {
             for clause in formula.iter() {
                 literals = literals.wrapping_add(clause.len());
             }
-            let _ = println!(rt; "{} clauses, {} literals, {} variables", formula.len(), literals, formula.var_count());
+            let _ = eprintln!(rt; "{} clauses, {} literals, {} variables", formula.len(), literals, formula.var_count());
         }
         Err(error) => {
-            let _ = println!(rt; "{error}");
+            let _ = eprintln!(rt; "{error}");
         }
     }
 }
 RT
 (cd "$work/repo/crates/proved" && rt run < /dev/null > "$work/build.log" 2>&1) || { tail -n 20 "$work/build.log"; exit 1; }
 
-for program in plain repo/crates/proved/out/proved plain repo/crates/proved/out/proved plain repo/crates/proved/out/proved; do
-    echo "$(basename "$program"): $("$(command -v time)" -f '%e s, %M KiB' "$work/$program" < "$work/formula.cnf" 2>&1 | tr '\n' ' ')"
-done
+"$top/bench/measure.sh" 5 "$work/formula.cnf" "$work/plain" "$work/repo/crates/proved/out/proved"
