@@ -4,6 +4,8 @@
 pub mod answers;
 pub mod checker;
 pub mod confirm;
+#[cfg(test)]
+mod devices;
 pub mod fault;
 pub mod law_script;
 pub mod laws;

@@ -1,18 +1,55 @@
 //! Verdicts of worked texts, each whole and read by one byte.
 
 use crate::confirm::confirm;
+use crate::devices::fails_at;
 use crate::run::run;
 use crate::verdict::{ConfirmFault, Verdict, Why};
 use sat_base::Counted;
 use std::alloc::Global;
-use std::io;
-use std::io::{ErrorKind, Read};
-use std::process::Abort;
 use std::test::Fail;
 
-const ROW: &[u8] = b"1 2 0\na 0\n";
+const AMPLE: u64 = 1 << 20;
 
-const SIXTH: &[u8] = b"1 2 0\n1 -2 0\n-1 2 0\n-1 -2 0\na 0\n";
+/// A script, answers and a certificate.
+type Texts<'a> = (&'a [u8], &'a [u8], &'a [u8]);
+
+fn said_whole(alloc: Global, texts: Texts<'_>) -> Result<Verdict, ConfirmFault> {
+    confirm(
+        alloc,
+        &mut Counted::new(texts.0),
+        &mut Counted::new(texts.1),
+        &mut Counted::new(texts.2),
+    )
+}
+
+/// What is said of texts that are read by one byte, where one read of each fails; none where that is 0.
+fn said_at(
+    alloc: Global,
+    texts: Texts<'_>,
+    failing: (u64, u64, u64),
+) -> Result<Verdict, ConfirmFault> {
+    confirm(
+        alloc,
+        &mut fails_at(texts.0, failing.0),
+        &mut fails_at(texts.1, failing.1),
+        &mut fails_at(texts.2, failing.2),
+    )
+}
+
+/// Tests whether this is said of texts whole and read by one byte.
+fn is_said(alloc: Global, texts: Texts<'_>, verdict: Verdict) -> bool {
+    said_whole(alloc, texts) == Ok(verdict) && said_at(alloc, texts, (0, 0, 0)) == Ok(verdict)
+}
+
+fn is_yes(alloc: Global, texts: Texts<'_>) -> bool {
+    is_said(alloc, texts, Verdict::Yes)
+}
+
+fn is_no(alloc: Global, texts: Texts<'_>, ask: u64, why: Why) -> bool {
+    is_said(alloc, texts, Verdict::No { ask, why })
+}
+
+const ROW: &[u8] = b"1 2 0\na 0\n";
 
 const ROW_ANSWERS: &[u8] = b"s SATISFIABLE\nv -1 2 0\n";
 
@@ -21,393 +58,356 @@ const ROW_STEPS: &[u8] = &[
     0x0b, 0x00, 0x0d,
 ];
 
-/// A text that is given byte by byte. One call fails, counted from 1; none where that is 0.
-#[derive(Drop)]
-struct ByOne<'a> {
-    text: &'a [u8],
-    calls: u64,
-    failing: u64,
-}
+const SIXTH: &[u8] = b"1 2 0\n1 -2 0\n-1 2 0\n-1 -2 0\na 0\n";
 
-impl Read for ByOne<'_> {
-    fn read(&mut self, buf: &mut [u8]) -> io::Result<usize> {
-        self.calls = self.calls.saturating_add(1);
-        if self.calls == self.failing {
-            return Err(io::Error::from(ErrorKind::Interrupted));
-        }
-        if buf.is_empty() {
-            return Ok(0);
-        }
-        match self.text.split_first() {
-            Some((byte, rest)) => {
-                buf[0] = *byte;
-                self.text = rest;
-                Ok(1)
-            }
-            None => Ok(0),
-        }
+const UNITS: &[u8] = b"1 0\n-1 0\na 0\n";
+
+const NONE_LEFT: &[u8] = b"s UNSATISFIABLE\nf 0\n";
+
+const CONFIRMED: [Texts<'static>; 10] = [
+    (UNITS, NONE_LEFT, &[2, 0, 1, 5, 1, 0, 5, 1, 1]),
+    (ROW, ROW_ANSWERS, ROW_STEPS),
+    // Bytes behind the end.
+    (
+        ROW,
+        ROW_ANSWERS,
+        &[
+            2, 0, 1, 2, 1, 2, 5, 2, 0, 2, 11, 0, 10, 2, 1, 2, 11, 0, 13, 255, 7,
+        ],
+    ),
+    (b"", b"", &[13]),
+    (b"268435457 0\n", b"c refused 1 limit\n", &[13]),
+    (b"1 2", b"c malformed 1\n", &[13]),
+    // A header asks once at the end, and a text that ends at `%` is as one that ends there.
+    (b"p cnf 2 1\n1 2 0\n%\n0\n", ROW_ANSWERS, ROW_STEPS),
+    (b"c x\n p\tcnf 007 1 \r\n1 2 0", ROW_ANSWERS, ROW_STEPS),
+    (b"p cnf 2 1\n1 2 0\na 0\n", ROW_ANSWERS, ROW_STEPS),
+    (b"1 2 0\na 0\n%\n1 0\n", ROW_ANSWERS, ROW_STEPS),
+];
+
+#[test]
+fn texts_that_match(rt: HostRuntime) {
+    for texts in CONFIRMED {
+        assert!(rt; is_yes(rt.alloc(), texts), "{texts:?}");
     }
 }
 
-fn by_one(text: &[u8], failing: u64) -> Counted<ByOne<'_>> {
-    Counted::new(ByOne {
-        text,
-        calls: 0,
-        failing,
-    })
-}
-
-/// What is said of the texts whole, which is also what is said of them read by one byte.
-fn verdict<R: Abort + AllocGlobal>(
-    rt: &R,
-    script: &[u8],
-    answers: &[u8],
-    certificate: &[u8],
-) -> Result<Verdict, Fail> {
-    let whole = confirm(
-        rt.alloc(),
-        &mut Counted::new(script),
-        &mut Counted::new(answers),
-        &mut Counted::new(certificate),
-    )?;
-    let cut = confirm(
-        rt.alloc(),
-        &mut by_one(script, 0),
-        &mut by_one(answers, 0),
-        &mut by_one(certificate, 0),
-    )?;
-    assert_eq!(rt; whole, cut);
-    Ok(whole)
-}
-
-fn no(ask: u64, why: Why) -> Verdict {
-    Verdict::No { ask, why }
-}
-
-#[test]
-fn contradicting_units(rt: HostRuntime) -> Result<(), Fail> {
-    let script = b"1 0\n-1 0\na 0\n";
-    let answers = b"s UNSATISFIABLE\nf 0\n";
-    assert_eq!(rt;
-        verdict(&rt, script, answers, &[0x0d])?,
-        no(1, Why::StepOutOfPlace)
-    );
-    assert_eq!(rt;
-        verdict(&rt, script, answers, &[])?,
-        no(1, Why::CertificateEnds)
-    );
-    assert_eq!(rt;
-        verdict(&rt, script, answers, &[2, 0, 1, 5, 1, 0, 5, 1, 1])?,
-        Verdict::Yes
-    );
-    Ok(())
-}
-
-#[test]
-fn a_model(rt: HostRuntime) -> Result<(), Fail> {
-    assert_eq!(rt; verdict(&rt, ROW, ROW_ANSWERS, ROW_STEPS)?, Verdict::Yes);
-    assert_eq!(rt;
-        verdict(&rt, ROW, b"", ROW_STEPS)?,
-        no(1, Why::AnswerMissing)
-    );
-    assert_eq!(rt;
-        verdict(&rt, ROW, b"s SATISFIABLE\nv 1 2 0\n", ROW_STEPS)?,
-        no(1, Why::AnswerDiffers)
-    );
-    assert_eq!(rt;
-        verdict(&rt, ROW, b"s SATISFIABLE\nv -1  2 0\n", ROW_STEPS)?,
-        no(1, Why::AnswerText)
-    );
-    let twice = b"s SATISFIABLE\nv -1 2 0\ns SATISFIABLE\nv -1 2 0\n";
-    assert_eq!(rt;
-        verdict(&rt, ROW, twice, ROW_STEPS)?,
-        no(2, Why::AnswerExtra)
-    );
-    Ok(())
-}
+/// Texts, the ask, and what doesn't match there.
+const NOT_CONFIRMED: [(Texts<'static>, u64, Why); 12] = [
+    ((UNITS, NONE_LEFT, &[0x0d]), 1, Why::StepOutOfPlace),
+    ((UNITS, NONE_LEFT, &[]), 1, Why::CertificateEnds),
+    ((ROW, b"", ROW_STEPS), 1, Why::AnswerMissing),
+    (
+        (ROW, b"s SATISFIABLE\nv 1 2 0\n", ROW_STEPS),
+        1,
+        Why::AnswerDiffers,
+    ),
+    (
+        (ROW, b"s SATISFIABLE\nv -1  2 0\n", ROW_STEPS),
+        1,
+        Why::AnswerText,
+    ),
+    (
+        (
+            ROW,
+            b"s SATISFIABLE\nv -1 2 0\ns SATISFIABLE\nv -1 2 0\n",
+            ROW_STEPS,
+        ),
+        2,
+        Why::AnswerExtra,
+    ),
+    (
+        (
+            ROW,
+            ROW_ANSWERS,
+            &[2, 0, 1, 2, 1, 2, 5, 2, 0, 3, 11, 0, 10, 2, 1, 2, 11, 0, 13],
+        ),
+        1,
+        Why::ClauseDiffers,
+    ),
+    (
+        (
+            ROW,
+            ROW_ANSWERS,
+            &[2, 0, 2, 2, 1, 2, 5, 2, 0, 2, 11, 0, 10, 2, 1, 2, 11, 0, 13],
+        ),
+        1,
+        Why::NameDiffers,
+    ),
+    (
+        (
+            ROW,
+            ROW_ANSWERS,
+            &[2, 0, 1, 2, 0, 2, 5, 2, 0, 2, 11, 0, 10, 2, 1, 2, 11, 0, 13],
+        ),
+        1,
+        Why::NameNotFresh,
+    ),
+    ((b"1 2", b"", &[13]), 1, Why::AnswerMissing),
+    ((b"1 2 0\n", ROW_ANSWERS, ROW_STEPS), 1, Why::StepOutOfPlace),
+    (
+        (b"p cnf 2 1\n1 2 0\n", b"", ROW_STEPS),
+        1,
+        Why::AnswerMissing,
+    ),
+];
 
 #[test]
-fn changed_steps(rt: HostRuntime) -> Result<(), Fail> {
-    let clause = [2, 0, 1, 2, 1, 2, 5, 2, 0, 3, 11, 0, 10, 2, 1, 2, 11, 0, 13];
-    assert_eq!(rt;
-        verdict(&rt, ROW, ROW_ANSWERS, &clause)?,
-        no(1, Why::ClauseDiffers)
-    );
-    let name = [2, 0, 2, 2, 1, 2, 5, 2, 0, 2, 11, 0, 10, 2, 1, 2, 11, 0, 13];
-    assert_eq!(rt;
-        verdict(&rt, ROW, ROW_ANSWERS, &name)?,
-        no(1, Why::NameDiffers)
-    );
-    let known = [2, 0, 1, 2, 0, 2, 5, 2, 0, 2, 11, 0, 10, 2, 1, 2, 11, 0, 13];
-    assert_eq!(rt;
-        verdict(&rt, ROW, ROW_ANSWERS, &known)?,
-        no(1, Why::NameNotFresh)
-    );
-    let behind = [
-        2, 0, 1, 2, 1, 2, 5, 2, 0, 2, 11, 0, 10, 2, 1, 2, 11, 0, 13, 255, 7,
-    ];
-    assert_eq!(rt; verdict(&rt, ROW, ROW_ANSWERS, &behind)?, Verdict::Yes);
-    Ok(())
-}
-
-/// The row's certificate with a step before the clause.
-fn with_step(alloc: Global, step: &[u8]) -> Result<Vec<u8>, Fail> {
-    let mut text = Vec::new(alloc);
-    text.extend_from_slice(&ROW_STEPS[..6])?;
-    text.extend_from_slice(step)?;
-    text.extend_from_slice(&ROW_STEPS[6..])?;
-    Ok(text)
-}
-
-#[test]
-fn other_kinds_of_step(rt: HostRuntime) -> Result<(), Fail> {
-    let refused: [&[u8]; 6] = [
-        &[1, 0, 1],
-        &[3, 0],
-        &[4, 0, 1],
-        &[7, 1, 0, 9],
-        &[8, 2, 0, 2, 1],
-        &[9, 64],
-    ];
-    for step in refused {
-        let mut certificate = with_step(rt.alloc(), step)?;
-        assert_eq!(rt;
-            verdict(&rt, ROW, ROW_ANSWERS, &certificate)?,
-            no(1, Why::StepRefused)
-        );
-        certificate.truncate(7);
-        assert_eq!(rt;
-            verdict(&rt, ROW, ROW_ANSWERS, &certificate)?,
-            no(1, Why::CertificateEnds)
-        );
+fn texts_that_do_not_match(rt: HostRuntime) {
+    for (texts, ask, why) in NOT_CONFIRMED {
+        assert!(rt; is_no(rt.alloc(), texts, ask, why), "{texts:?}");
     }
-    let core = with_step(rt.alloc(), &[12, 0, 0])?;
-    assert_eq!(rt;
-        verdict(&rt, ROW, ROW_ANSWERS, &core)?,
-        no(1, Why::StepOutOfPlace)
-    );
-    let derived = with_step(rt.alloc(), &[6, 1, 2, 0, 1, 0])?;
-    assert_eq!(rt; verdict(&rt, ROW, ROW_ANSWERS, &derived)?, Verdict::Yes);
-    Ok(())
 }
 
-/// What is said of an answer with a core, where the certificate goes on so behind the ask's assumptions.
-fn core_verdict<R: Abort + AllocGlobal>(
-    rt: &R,
+/// Tests whether this is said of the row where the certificate has this front, these steps, and this behind them.
+fn is_said_of(
+    alloc: Global,
     answers: &[u8],
-    behind: &[u8],
-) -> Result<Verdict, Fail> {
-    let mut certificate = Vec::new(rt.alloc());
-    certificate.extend_from_slice(&ROW_STEPS[..12])?;
+    (front, steps, behind): Texts<'_>,
+    verdict: Verdict,
+) -> Result<bool, Fail> {
+    let mut certificate = Vec::new(alloc);
+    certificate.extend_from_slice(front)?;
+    certificate.extend_from_slice(steps)?;
     certificate.extend_from_slice(behind)?;
-    verdict(rt, ROW, answers, &certificate)
+    Ok(is_said(alloc, (ROW, answers, &certificate), verdict))
 }
 
-#[test]
-fn a_core_that_is_shown(rt: HostRuntime) -> Result<(), Fail> {
-    let empty: [(&[u8], Why); 6] = [
-        (&[12, 0, 0], Why::StepRefused),
-        (&[12, 1, 0, 0], Why::AnswerDiffers),
-        (&[13], Why::StepOutOfPlace),
-        (&[11, 0], Why::StepOutOfPlace),
-        (&[0], Why::StepRefused),
-        (&[], Why::CertificateEnds),
-    ];
-    for (behind, why) in empty {
-        let said = core_verdict(&rt, b"s UNSATISFIABLE\nf 0\n", behind)?;
-        assert_eq!(rt; said, no(1, why));
-    }
-    let one: [(&[u8], Why); 4] = [
-        (&[12, 1, 3, 0], Why::StepRefused),
-        (&[12, 2, 3, 3, 1, 7], Why::StepRefused),
-        (&[12, 1, 0, 0], Why::AnswerDiffers),
-        (&[12, 0, 0], Why::AnswerDiffers),
-    ];
-    for (behind, why) in one {
-        let said = core_verdict(&rt, b"s UNSATISFIABLE\nf -2 0\n", behind)?;
-        assert_eq!(rt; said, no(1, why));
-    }
-    Ok(())
+/// Tests whether this is said of the row's certificate with a step before the clause.
+fn is_said_with(alloc: Global, step: &[u8], verdict: Verdict) -> Result<bool, Fail> {
+    let texts = (&ROW_STEPS[..6], step, &ROW_STEPS[6..]);
+    is_said_of(alloc, ROW_ANSWERS, texts, verdict)
 }
 
-#[test]
-fn refused_and_malformed(rt: HostRuntime) -> Result<(), Fail> {
-    assert_eq!(rt; verdict(&rt, b"", b"", &[13])?, Verdict::Yes);
-    assert_eq!(rt;
-        verdict(&rt, b"268435457 0\n", b"c refused 1 limit\n", &[13])?,
-        Verdict::Yes
-    );
-    assert_eq!(rt;
-        verdict(&rt, b"1 2", b"c malformed 1\n", &[13])?,
-        Verdict::Yes
-    );
-    assert_eq!(rt;
-        verdict(&rt, b"1 2", b"", &[13])?,
-        no(1, Why::AnswerMissing)
-    );
-    Ok(())
+/// Tests whether the row's certificate is refused with a step before the clause, and ends there if it is cut in that step.
+fn is_refused(alloc: Global, step: &[u8]) -> Result<bool, Fail> {
+    let refused = Verdict::No {
+        ask: 1,
+        why: Why::StepRefused,
+    };
+    let ends = Verdict::No {
+        ask: 1,
+        why: Why::CertificateEnds,
+    };
+    let cut = (&ROW_STEPS[..6], &step[..step.len().min(1)], b"".as_slice());
+    Ok(is_said_with(alloc, step, refused)? && is_said_of(alloc, ROW_ANSWERS, cut, ends)?)
 }
 
-/// A header asks once at the end, and a text that ends at `%` is as one that ends there.
-#[test]
-fn asked_at_the_end(rt: HostRuntime) -> Result<(), Fail> {
-    let texts: [&[u8]; 4] = [
-        b"p cnf 2 1\n1 2 0\n%\n0\n",
-        b"c x\n p\tcnf 007 1 \r\n1 2 0",
-        b"p cnf 2 1\n1 2 0\na 0\n",
-        b"1 2 0\na 0\n%\n1 0\n",
-    ];
-    for text in texts {
-        assert_eq!(rt; verdict(&rt, text, ROW_ANSWERS, ROW_STEPS)?, Verdict::Yes);
-    }
-    assert_eq!(rt;
-        verdict(&rt, b"1 2 0\n", ROW_ANSWERS, ROW_STEPS)?,
-        no(1, Why::StepOutOfPlace)
-    );
-    assert_eq!(rt;
-        verdict(&rt, b"p cnf 2 1\n1 2 0\n", b"", ROW_STEPS)?,
-        no(1, Why::AnswerMissing)
-    );
-    Ok(())
-}
+/// Steps of kinds that the checker doesn't know.
+const OTHER_KINDS: [&[u8]; 6] = [
+    &[1, 0, 1],
+    &[3, 0],
+    &[4, 0, 1],
+    &[7, 1, 0, 9],
+    &[8, 2, 0, 2, 1],
+    &[9, 64],
+];
 
 #[test]
-fn what_a_run_wrote(rt: HostRuntime) -> Result<(), Fail> {
-    let rows: [(&[u8], u64); 24] = [
-        (b"", 1 << 20),
-        (b"a 0\n", 1 << 20),
-        (b"3 0\na 0\n", 1 << 20),
-        (ROW, 1 << 20),
-        (b"1 0\n-1 0\na 0\n", 1 << 20),
-        (b"1 0\n-1 0\na 0\n", 0),
-        (b"0\na 0\n", 1 << 20),
-        (b"0\na 0\n", 0),
-        (SIXTH, 1 << 20),
-        (b"1 -1 0\na 0\n", 1 << 20),
-        (b"1 0\na 0\n", 0),
-        (b"268435457 0\n", 1 << 20),
-        (b"1 2", 1 << 20),
-        (b"-0 0\n", 1 << 20),
-        (b"+1 0\n", 1 << 20),
-        (b"1 a 0\n", 1 << 20),
-        (b"b 0\n", 1 << 20),
-        (b"a 1 0\n", 1 << 20),
-        (b"p cnf 2 1\n1 2 0\n%\n0\n", 1 << 20),
-        (b"p cnf 0 0\n", 1 << 20),
-        (b"p cnf 1 1\n1 0\na 0\n", 1 << 20),
-        (b"p cnf 1 1\n268435457 0\n", 1 << 20),
-        (b"p cnf 1 0\na 268435457 0\n", 1 << 20),
-        (b"1 0\n%\na 0\n", 1 << 20),
-    ];
-    for (script, budget) in rows {
-        let mut answers = Counted::new(Vec::new(rt.alloc()));
-        let mut certificate = Counted::new(Vec::new(rt.alloc()));
-        let mut text = by_one(script, 0);
-        run(
-            rt.alloc(),
-            &mut text,
-            &mut answers,
-            &mut certificate,
-            budget,
-        )?;
-        let answers = answers.into_inner();
-        let certificate = certificate.into_inner();
-        assert_eq!(rt; verdict(&rt, script, &answers, &certificate)?, Verdict::Yes);
+fn other_kinds_of_step_are_refused(rt: HostRuntime) -> Result<(), Fail> {
+    for step in OTHER_KINDS {
+        assert!(rt; is_refused(rt.alloc(), step)?, "{step:?}");
     }
     Ok(())
 }
 
-/// What is said where one read of each reader fails; none where that is 0.
-fn said_at<R: Abort + AllocGlobal>(
-    rt: &R,
-    texts: (&[u8], &[u8], &[u8]),
-    failing: (u64, u64, u64),
-) -> Result<Verdict, ConfirmFault> {
-    confirm(
-        rt.alloc(),
-        &mut by_one(texts.0, failing.0),
-        &mut by_one(texts.1, failing.1),
-        &mut by_one(texts.2, failing.2),
-    )
+/// Steps before the clause, and what is said then.
+const STEPS_BETWEEN: [(&[u8], Verdict); 2] = [
+    (
+        &[12, 0, 0],
+        Verdict::No {
+            ask: 1,
+            why: Why::StepOutOfPlace,
+        },
+    ),
+    (&[6, 1, 2, 0, 1, 0], Verdict::Yes),
+];
+
+#[test]
+fn steps_may_stand_between(rt: HostRuntime) -> Result<(), Fail> {
+    for (step, verdict) in STEPS_BETWEEN {
+        assert!(rt; is_said_with(rt.alloc(), step, verdict)?, "{step:?}");
+    }
+    Ok(())
 }
 
-/// Each read in turn fails, the one that finds the end too, and gives its text's fault. There is no further read.
+/// The answers, how the row's certificate goes on behind the ask's assumptions, and what doesn't match.
+const CORES: [(&[u8], &[u8], Why); 10] = [
+    (b"s UNSATISFIABLE\nf 0\n", &[12, 0, 0], Why::StepRefused),
+    (
+        b"s UNSATISFIABLE\nf 0\n",
+        &[12, 1, 0, 0],
+        Why::AnswerDiffers,
+    ),
+    (b"s UNSATISFIABLE\nf 0\n", &[13], Why::StepOutOfPlace),
+    (b"s UNSATISFIABLE\nf 0\n", &[11, 0], Why::StepOutOfPlace),
+    (b"s UNSATISFIABLE\nf 0\n", &[0], Why::StepRefused),
+    (b"s UNSATISFIABLE\nf 0\n", &[], Why::CertificateEnds),
+    (
+        b"s UNSATISFIABLE\nf -2 0\n",
+        &[12, 1, 3, 0],
+        Why::StepRefused,
+    ),
+    (
+        b"s UNSATISFIABLE\nf -2 0\n",
+        &[12, 2, 3, 3, 1, 7],
+        Why::StepRefused,
+    ),
+    (
+        b"s UNSATISFIABLE\nf -2 0\n",
+        &[12, 1, 0, 0],
+        Why::AnswerDiffers,
+    ),
+    (
+        b"s UNSATISFIABLE\nf -2 0\n",
+        &[12, 0, 0],
+        Why::AnswerDiffers,
+    ),
+];
+
 #[test]
-fn failing_reads(rt: HostRuntime) -> Result<(), Fail> {
+fn cores_are_compared(rt: HostRuntime) -> Result<(), Fail> {
+    for (answers, behind, why) in CORES {
+        let texts = (&ROW_STEPS[..12], behind, b"".as_slice());
+        let verdict = Verdict::No { ask: 1, why };
+        assert!(rt;
+            is_said_of(rt.alloc(), answers, texts, verdict)?,
+            "{behind:?}"
+        );
+    }
+    Ok(())
+}
+
+/// Answers a script that is read by one byte. Gives the answers and the certificate.
+fn written(alloc: Global, script: &[u8], budget: u64) -> Result<(Vec<u8>, Vec<u8>), Fail> {
+    let mut answers = Counted::new(Vec::new(alloc));
+    let mut certificate = Counted::new(Vec::new(alloc));
+    run(
+        alloc,
+        &mut fails_at(script, 0),
+        &mut answers,
+        &mut certificate,
+        budget,
+    )?;
+    Ok((answers.into_inner(), certificate.into_inner()))
+}
+
+fn is_confirmed(alloc: Global, script: &[u8], budget: u64) -> Result<bool, Fail> {
+    let (answers, certificate) = written(alloc, script, budget)?;
+    Ok(is_yes(alloc, (script, &answers, &certificate)))
+}
+
+/// A script, and a budget.
+const RUNS: [(&[u8], u64); 24] = [
+    (b"", AMPLE),
+    (b"a 0\n", AMPLE),
+    (b"3 0\na 0\n", AMPLE),
+    (ROW, AMPLE),
+    (UNITS, AMPLE),
+    (UNITS, 0),
+    (b"0\na 0\n", AMPLE),
+    (b"0\na 0\n", 0),
+    (SIXTH, AMPLE),
+    (b"1 -1 0\na 0\n", AMPLE),
+    (b"1 0\na 0\n", 0),
+    (b"268435457 0\n", AMPLE),
+    (b"1 2", AMPLE),
+    (b"-0 0\n", AMPLE),
+    (b"+1 0\n", AMPLE),
+    (b"1 a 0\n", AMPLE),
+    (b"b 0\n", AMPLE),
+    (b"a 1 0\n", AMPLE),
+    (b"p cnf 2 1\n1 2 0\n%\n0\n", AMPLE),
+    (b"p cnf 0 0\n", AMPLE),
+    (b"p cnf 1 1\n1 0\na 0\n", AMPLE),
+    (b"p cnf 1 1\n268435457 0\n", AMPLE),
+    (b"p cnf 1 0\na 268435457 0\n", AMPLE),
+    (b"1 0\n%\na 0\n", AMPLE),
+];
+
+#[test]
+fn what_a_run_wrote_is_confirmed(rt: HostRuntime) -> Result<(), Fail> {
+    for (script, budget) in RUNS {
+        assert!(rt; is_confirmed(rt.alloc(), script, budget)?, "{script:?}");
+    }
+    Ok(())
+}
+
+/// Tests whether each read in turn fails, the one that finds the end too, and gives its text's fault, and no further read is made.
+fn each_read_fails(alloc: Global, texts: Texts<'_>) -> bool {
+    for failing in 1..=(texts.0.len() as u64).saturating_add(1) {
+        if said_at(alloc, texts, (failing, 0, 0)) != Err(ConfirmFault::ScriptRead) {
+            return false;
+        }
+    }
+    for failing in 1..=(texts.1.len() as u64).saturating_add(1) {
+        if said_at(alloc, texts, (0, failing, 0)) != Err(ConfirmFault::AnswersRead) {
+            return false;
+        }
+    }
+    for failing in 1..=(texts.2.len() as u64).saturating_add(1) {
+        if said_at(alloc, texts, (0, 0, failing)) != Err(ConfirmFault::CertificateRead) {
+            return false;
+        }
+    }
+    let behind = (
+        (texts.0.len() as u64).saturating_add(2),
+        (texts.1.len() as u64).saturating_add(2),
+        (texts.2.len() as u64).saturating_add(2),
+    );
+    said_at(alloc, texts, behind) == Ok(Verdict::Yes)
+}
+
+#[test]
+fn each_read_fails_in_turn(rt: HostRuntime) -> Result<(), Fail> {
     for script in [ROW, SIXTH] {
-        let mut answers = Counted::new(Vec::new(rt.alloc()));
-        let mut certificate = Counted::new(Vec::new(rt.alloc()));
-        run(
-            rt.alloc(),
-            &mut by_one(script, 0),
-            &mut answers,
-            &mut certificate,
-            1 << 20,
-        )?;
-        let answers = answers.into_inner();
-        let certificate = certificate.into_inner();
+        let (answers, certificate) = written(rt.alloc(), script, AMPLE)?;
         let texts = (script, answers.as_slice(), certificate.as_slice());
-        let reads = (
-            (script.len() as u64).saturating_add(1),
-            (answers.len() as u64).saturating_add(1),
-            (certificate.len() as u64).saturating_add(1),
-        );
-        for before in 0..reads.0 {
-            let said = said_at(&rt, texts, (before.saturating_add(1), 0, 0));
-            assert_eq!(rt; said, Err(ConfirmFault::ScriptRead));
-        }
-        for before in 0..reads.1 {
-            let said = said_at(&rt, texts, (0, before.saturating_add(1), 0));
-            assert_eq!(rt; said, Err(ConfirmFault::AnswersRead));
-        }
-        for before in 0..reads.2 {
-            let said = said_at(&rt, texts, (0, 0, before.saturating_add(1)));
-            assert_eq!(rt; said, Err(ConfirmFault::CertificateRead));
-        }
-        let behind = (
-            reads.0.saturating_add(1),
-            reads.1.saturating_add(1),
-            reads.2.saturating_add(1),
-        );
-        assert_eq!(rt; said_at(&rt, texts, behind), Ok(Verdict::Yes));
+        assert!(rt; each_read_fails(rt.alloc(), texts), "{script:?}");
     }
     Ok(())
 }
 
+const WORDS_OF_A_NO: [(Why, &str); 11] = [
+    (Why::AnswerMissing, "AnswerMissing"),
+    (Why::AnswerExtra, "AnswerExtra"),
+    (Why::AnswerText, "AnswerText"),
+    (Why::ClauseDiffers, "ClauseDiffers"),
+    (Why::NameDiffers, "NameDiffers"),
+    (Why::NameNotFresh, "NameNotFresh"),
+    (Why::AskDiffers, "AskDiffers"),
+    (Why::AnswerDiffers, "AnswerDiffers"),
+    (Why::StepRefused, "StepRefused"),
+    (Why::CertificateEnds, "CertificateEnds"),
+    (Why::StepOutOfPlace, "StepOutOfPlace"),
+];
+
 #[test]
-fn words_of_a_no(rt: HostRuntime) -> Result<(), Fail> {
-    let rows = [
-        (Why::AnswerMissing, "AnswerMissing"),
-        (Why::AnswerExtra, "AnswerExtra"),
-        (Why::AnswerText, "AnswerText"),
-        (Why::ClauseDiffers, "ClauseDiffers"),
-        (Why::NameDiffers, "NameDiffers"),
-        (Why::NameNotFresh, "NameNotFresh"),
-        (Why::AskDiffers, "AskDiffers"),
-        (Why::AnswerDiffers, "AnswerDiffers"),
-        (Why::StepRefused, "StepRefused"),
-        (Why::CertificateEnds, "CertificateEnds"),
-        (Why::StepOutOfPlace, "StepOutOfPlace"),
-    ];
-    for (why, words) in rows {
-        let text = format!(in rt.alloc(); "{why}")?;
-        assert_eq!(rt; text.as_str(), words);
+fn a_no_has_words(rt: HostRuntime) -> Result<(), Fail> {
+    for (why, words) in WORDS_OF_A_NO {
+        assert!(rt;
+            format!(in rt.alloc(); "{why}")?.as_str() == words,
+            "{words}"
+        );
     }
     Ok(())
 }
 
+const WORDS_OF_A_FAULT: [(ConfirmFault, &str); 5] = [
+    (ConfirmFault::ScriptRead, "ScriptRead"),
+    (ConfirmFault::AnswersRead, "AnswersRead"),
+    (ConfirmFault::CertificateRead, "CertificateRead"),
+    (ConfirmFault::OutOfMemory, "OutOfMemory"),
+    (ConfirmFault::CounterEnd, "CounterEnd"),
+];
+
 #[test]
-fn words_of_a_fault(rt: HostRuntime) -> Result<(), Fail> {
-    let rows = [
-        (ConfirmFault::ScriptRead, "ScriptRead"),
-        (ConfirmFault::AnswersRead, "AnswersRead"),
-        (ConfirmFault::CertificateRead, "CertificateRead"),
-        (ConfirmFault::OutOfMemory, "OutOfMemory"),
-        (ConfirmFault::CounterEnd, "CounterEnd"),
-    ];
-    for (fault, words) in rows {
-        let text = format!(in rt.alloc(); "{fault}")?;
-        assert_eq!(rt; text.as_str(), words);
+fn a_fault_has_words(rt: HostRuntime) -> Result<(), Fail> {
+    for (fault, words) in WORDS_OF_A_FAULT {
+        assert!(rt;
+            format!(in rt.alloc(); "{fault}")?.as_str() == words,
+            "{words}"
+        );
     }
     Ok(())
 }

@@ -1,6 +1,6 @@
 use super::{Command, Literal, Script, read_script};
 use sat_base::Counted;
-use std::test::*;
+use std::alloc::Global;
 
 fn are(literals: &[Literal], numbers: &[i64]) -> bool {
     if literals.len() != numbers.len() {
@@ -15,80 +15,95 @@ fn are(literals: &[Literal], numbers: &[i64]) -> bool {
     true
 }
 
-/// Whether a script has these commands: the literals of each, and whether it is an ask.
-fn has_commands(script: &Script, commands: &[(&[i64], bool)]) -> bool {
+/// A command's literals, and whether it is an ask.
+type Told = (&'static [i64], bool);
+
+fn is_told(command: Command<'_>, (numbers, is_ask): Told) -> bool {
+    match command {
+        Command::Clause(literals) => !is_ask && are(literals, numbers),
+        Command::Ask(literals) => is_ask && are(literals, numbers),
+    }
+}
+
+fn has_commands(script: &Script, commands: &[Told]) -> bool {
     for index in 0..script.len() {
         if index >= commands.len() {
             return false;
         }
-        let (numbers, is_ask) = commands[index];
-        let is_so = match script.command(index) {
-            Command::Clause(literals) => !is_ask && are(literals, numbers),
-            Command::Ask(literals) => is_ask && are(literals, numbers),
-        };
-        if !is_so {
+        if !is_told(script.command(index), commands[index]) {
             return false;
         }
     }
-    script.len() == commands.len()
+    script.len() == commands.len() && script.is_empty() == commands.is_empty()
 }
 
-/// Each row is a text, the literals of its commands, whether they are asks, whether it is malformed behind them, and how many of
-/// them stand in it.
-#[test]
-fn reads_scripts(rt: HostRuntime) {
-    let rows: [(&[u8], &[(&[i64], bool)], bool, usize); 24] = [
-        (b"", &[], false, 0),
-        (b"1 2 0\na 0\n", &[(&[1, 2], false), (&[], true)], false, 2),
-        (b"1\nc x\n -2 0\n", &[(&[1, -2], false)], false, 1),
-        (b"c x\n1 c\n", &[], true, 0),
-        (b"-0 0", &[], true, 0),
-        (b"+1 0", &[], true, 0),
-        (b"1 a 0", &[], true, 0),
-        (b"b 0", &[], true, 0),
-        (b"a 1 0", &[], true, 0),
-        (b"1 2", &[], true, 0),
-        (b"1 0 a", &[(&[1], false)], true, 1),
-        (b"0", &[(&[], false)], false, 1),
-        (b"007 0", &[(&[7], false)], false, 1),
-        (
-            b"268435456 0 268435457 -99999999999999999999 0",
-            &[(&[268435456], false), (&[268435457, -268435457], false)],
-            false,
-            2,
-        ),
-        (
-            b"1 0 a 0 a 0 2",
-            &[(&[1], false), (&[], true), (&[], true)],
-            true,
-            3,
-        ),
-        (b"p cnf 1 1\n1 0\n", &[(&[1], false), (&[], true)], false, 1),
-        (
-            b"p cnf 1 1\n1 0\n%\n+1",
-            &[(&[1], false), (&[], true)],
-            false,
-            1,
-        ),
-        (b"p cnf 1 1", &[(&[], true)], false, 0),
-        (b"p cnf 1 1\na 0\n", &[(&[], true)], false, 1),
-        (b"p cnf 1 1\n1", &[], true, 0),
-        (b"p cnf 1\n1 0", &[], true, 0),
-        (b"1 0\np cnf 1 1\n", &[(&[1], false)], true, 1),
-        (b"1 0\n%\n0\n", &[(&[1], false)], false, 1),
-        (b"1\n%\n0\n", &[], true, 0),
-    ];
-    for (text, commands, malformed, written) in rows {
-        let mut reader = Counted::new(text);
-        match read_script(rt.alloc(), &mut reader) {
-            Ok(script) => {
-                assert!(rt; has_commands(&script, commands));
-                assert!(rt; script.command_count() == written);
-                assert!(rt; script.is_empty() == commands.is_empty());
-                assert!(rt; script.is_malformed() == malformed);
-            }
-            Err(_) => assert!(rt; false),
+/// Tests whether a text is read as these commands, malformed or not behind them, of which so many stand in it.
+fn is_read(
+    alloc: Global,
+    text: &[u8],
+    commands: &[Told],
+    is_malformed: bool,
+    count: usize,
+) -> bool {
+    match read_script(alloc, &mut Counted::new(text)) {
+        Ok(script) => {
+            has_commands(&script, commands)
+                && (script.is_malformed(), script.command_count()) == (is_malformed, count)
         }
+        Err(_) => false,
+    }
+}
+
+/// A text, its commands, whether it is malformed behind them, and how many of them stand in it.
+const SCRIPTS: [(&[u8], &[Told], bool, usize); 24] = [
+    (b"", &[], false, 0),
+    (b"1 2 0\na 0\n", &[(&[1, 2], false), (&[], true)], false, 2),
+    (b"1\nc x\n -2 0\n", &[(&[1, -2], false)], false, 1),
+    (b"c x\n1 c\n", &[], true, 0),
+    (b"-0 0", &[], true, 0),
+    (b"+1 0", &[], true, 0),
+    (b"1 a 0", &[], true, 0),
+    (b"b 0", &[], true, 0),
+    (b"a 1 0", &[], true, 0),
+    (b"1 2", &[], true, 0),
+    (b"1 0 a", &[(&[1], false)], true, 1),
+    (b"0", &[(&[], false)], false, 1),
+    (b"007 0", &[(&[7], false)], false, 1),
+    (
+        b"268435456 0 268435457 -99999999999999999999 0",
+        &[(&[268435456], false), (&[268435457, -268435457], false)],
+        false,
+        2,
+    ),
+    (
+        b"1 0 a 0 a 0 2",
+        &[(&[1], false), (&[], true), (&[], true)],
+        true,
+        3,
+    ),
+    (b"p cnf 1 1\n1 0\n", &[(&[1], false), (&[], true)], false, 1),
+    (
+        b"p cnf 1 1\n1 0\n%\n+1",
+        &[(&[1], false), (&[], true)],
+        false,
+        1,
+    ),
+    (b"p cnf 1 1", &[(&[], true)], false, 0),
+    (b"p cnf 1 1\na 0\n", &[(&[], true)], false, 1),
+    (b"p cnf 1 1\n1", &[], true, 0),
+    (b"p cnf 1\n1 0", &[], true, 0),
+    (b"1 0\np cnf 1 1\n", &[(&[1], false)], true, 1),
+    (b"1 0\n%\n0\n", &[(&[1], false)], false, 1),
+    (b"1\n%\n0\n", &[], true, 0),
+];
+
+#[test]
+fn scripts_are_read(rt: HostRuntime) {
+    for (text, commands, is_malformed, count) in SCRIPTS {
+        assert!(rt;
+            is_read(rt.alloc(), text, commands, is_malformed, count),
+            "{text:?}"
+        );
     }
 }
 

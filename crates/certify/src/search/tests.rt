@@ -3,11 +3,21 @@
 use crate::search::Solver;
 use crate::search::propagate::RoundEnd;
 use crate::search::solve::{Answer, solve};
-use sat_base::{Counted, Lit, Var, clause_hash};
+use sat_base::{ClauseHash, Counted, Lit, Var, clause_hash};
+use std::alloc::Global;
 use std::test::Fail;
 
-fn add(rt: &HostRuntime, solver: &mut Solver, numbers: &[i64]) -> Result<bool, Fail> {
-    let mut lits = Vec::new(rt.alloc());
+fn lits(alloc: Global, numbers: &[i64]) -> Result<Vec<Lit>, Fail> {
+    let mut lits = Vec::new(alloc);
+    for number in numbers {
+        lits.push(Lit::from_dimacs(*number).ok_or("no literal")?)?;
+    }
+    Ok(lits)
+}
+
+/// Adds a clause. Gives whether it is a step of the proof.
+fn add(alloc: Global, solver: &mut Solver, numbers: &[i64]) -> Result<bool, Fail> {
+    let mut lits = Vec::new(alloc);
     for number in numbers {
         let lit = Lit::from_dimacs(*number).ok_or("no literal")?;
         if lit.index() >= solver.var_count() {
@@ -18,18 +28,22 @@ fn add(rt: &HostRuntime, solver: &mut Solver, numbers: &[i64]) -> Result<bool, F
     Ok(solver.add_clause(&lits)?)
 }
 
-fn solver_of(rt: &HostRuntime, vars: usize, formula: &[&[i64]]) -> Result<Solver, Fail> {
-    let mut solver = Solver::new(rt.alloc());
-    for _ in 0..vars {
+fn add_vars(solver: &mut Solver, count: usize) -> Result<(), Fail> {
+    for _ in 0..count {
         if solver.var_count() >= Var::max_count() {
             return Err(Fail::from("no room"));
         }
         solver.add_var()?;
     }
+    Ok(())
+}
+
+fn fill(alloc: Global, solver: &mut Solver, vars: usize, formula: &[&[i64]]) -> Result<(), Fail> {
+    add_vars(solver, vars)?;
     for numbers in formula {
-        add(rt, &mut solver, numbers)?;
+        add(alloc, solver, *numbers)?;
     }
-    Ok(solver)
+    Ok(())
 }
 
 fn round(solver: &mut Solver) -> Result<RoundEnd, Fail> {
@@ -39,137 +53,245 @@ fn round(solver: &mut Solver) -> Result<RoundEnd, Fail> {
     Ok(solver.round()?)
 }
 
-fn hash(rt: &HostRuntime, numbers: &[i64]) -> Result<u64, Fail> {
-    let mut lits = Vec::new(rt.alloc());
-    for number in numbers {
-        lits.push(Lit::from_dimacs(*number).ok_or("no literal")?)?;
-    }
-    Ok(clause_hash(&lits))
+fn hash_of(alloc: Global, numbers: &[i64]) -> Result<ClauseHash, Fail> {
+    let clause = lits(alloc, numbers)?;
+    Ok(clause_hash(&clause))
 }
 
-/// The numbers of literals.
-fn numbers(rt: &HostRuntime, lits: &[Lit]) -> Result<Vec<i64>, Fail> {
-    let mut numbers = Vec::new(rt.alloc());
-    for lit in lits {
-        numbers.push(lit.to_dimacs())?;
-    }
-    Ok(numbers)
-}
-
-#[test]
-fn learns_until_unsat(rt: HostRuntime) -> Result<(), Fail> {
-    let mut solver = solver_of(&rt, 2, &[&[1, 2], &[1, -2], &[-1, 2], &[-1, -2]])?;
-    assert_eq!(rt; round(&mut solver)?, RoundEnd::Conflict);
-    assert_eq!(rt; numbers(&rt, solver.learned())?.as_slice(), [1].as_slice());
-    let named = [hash(&rt, &[1, 2])?, hash(&rt, &[1, -2])?];
-    assert_eq!(rt; solver.hashes(), named.as_slice());
-    assert!(rt; !solver.unsat());
-    assert_eq!(rt; round(&mut solver)?, RoundEnd::Conflict);
-    assert_eq!(rt; solver.learned().len(), 0);
-    let named = [hash(&rt, &[-1, 2])?, hash(&rt, &[-1, -2])?];
-    assert_eq!(rt; solver.hashes(), named.as_slice());
-    assert!(rt; solver.unsat());
-    assert_eq!(rt; solver.rounds(), 2);
-    Ok(())
-}
-
-/// The signs of the variables after a round, which has to end in a model.
-fn model(rt: &HostRuntime, solver: &mut Solver) -> Result<Vec<i64>, Fail> {
-    if round(solver)? != RoundEnd::Model {
-        return Err(Fail::from("no model"));
-    }
-    let mut signs = Vec::new(rt.alloc());
-    for index in 0..solver.var_count() {
-        if index >= Var::max_count() {
-            return Err(Fail::from("no variable"));
+fn are_hashes(alloc: Global, hashes: &[ClauseHash], clauses: &[&[i64]]) -> Result<bool, Fail> {
+    for (hash, numbers) in hashes.iter().zip(clauses) {
+        if *hash != hash_of(alloc, *numbers)? {
+            return Ok(false);
         }
-        let var = Var::from_index(index);
-        let value = solver.value(var).ok_or("no value")?;
-        signs.push(var.lit(value).to_dimacs())?;
     }
-    Ok(signs)
+    Ok(hashes.len() == clauses.len())
 }
 
+fn are_numbers(found: &[Lit], numbers: &[i64]) -> bool {
+    for (lit, number) in found.iter().zip(numbers) {
+        if lit.to_dimacs() != *number {
+            return false;
+        }
+    }
+    found.len() == numbers.len()
+}
+
+const ALL_OF_TWO: &[&[i64]] = &[&[1, 2], &[1, -2], &[-1, 2], &[-1, -2]];
+
+/// What is done with a solver, and what it answers.
+#[derive(Clone, Copy, Debug)]
+enum Told {
+    Vars(usize),
+    /// A clause, and whether it is a step of the proof.
+    Add(&'static [i64], bool),
+    /// How the clause that was added last is written.
+    IsWritten(&'static [i64]),
+    /// A round that ends in a conflict: the clause that it learns, and those that it names.
+    Learns(&'static [i64], &'static [&'static [i64]]),
+    /// A round that ends in a model: the signs of the variables.
+    HasModel(&'static [bool]),
+    IsUnsat(bool),
+    Clauses(usize),
+    Rounds(u64),
+}
+
+fn learns(
+    alloc: Global,
+    solver: &mut Solver,
+    clause: &[i64],
+    named: &[&[i64]],
+) -> Result<bool, Fail> {
+    let is_conflict = round(solver)? == RoundEnd::Conflict;
+    Ok(
+        is_conflict
+            && are_numbers(solver.learned(), clause)
+            && are_hashes(alloc, solver.hashes(), named)?,
+    )
+}
+
+fn are_signs(solver: &Solver, signs: &[bool]) -> bool {
+    if solver.var_count() != signs.len() || signs.len() > Var::max_count() {
+        return false;
+    }
+    for index in 0..signs.len() {
+        if solver.value(Var::from_index(index)) != Some(signs[index]) {
+            return false;
+        }
+    }
+    true
+}
+
+fn is_so(alloc: Global, solver: &mut Solver, told: Told) -> Result<bool, Fail> {
+    match told {
+        Told::Vars(count) => {
+            add_vars(solver, count)?;
+            Ok(true)
+        }
+        Told::Add(clause, is_step) => Ok(add(alloc, solver, clause)? == is_step),
+        Told::IsWritten(clause) => Ok(are_numbers(solver.written(), clause)),
+        Told::Learns(clause, named) => learns(alloc, solver, clause, named),
+        Told::HasModel(signs) => {
+            let end = round(solver)?;
+            Ok(end == RoundEnd::Model && are_signs(solver, signs))
+        }
+        Told::IsUnsat(is_unsat) => Ok(solver.unsat() == is_unsat),
+        Told::Clauses(count) => Ok(solver.clauses.len() == count),
+        Told::Rounds(rounds) => Ok(solver.rounds() == rounds),
+    }
+}
+
+/// The first of these that isn't so.
+fn first_wrong(alloc: Global, solver: &mut Solver, rows: &[Told]) -> Result<Option<Told>, Fail> {
+    for told in rows {
+        if !is_so(alloc, solver, *told)? {
+            return Ok(Some(*told));
+        }
+    }
+    Ok(None)
+}
+
+fn first_wrong_of_new(alloc: Global, rows: &[Told]) -> Result<Option<Told>, Fail> {
+    let mut solver = Solver::new(alloc);
+    first_wrong(alloc, &mut solver, rows)
+}
+
+const ALL_OF_TWO_ARE_REFUTED: &[Told] = &[
+    Told::Vars(2),
+    Told::Add(&[1, 2], true),
+    Told::Add(&[1, -2], true),
+    Told::Add(&[-1, 2], true),
+    Told::Add(&[-1, -2], true),
+    Told::Learns(&[1], &[&[1, 2], &[1, -2]]),
+    Told::IsUnsat(false),
+    Told::Learns(&[], &[&[-1, 2], &[-1, -2]]),
+    Told::IsUnsat(true),
+    Told::Rounds(2),
+];
+
+const ONE_CLAUSE_HAS_A_MODEL: &[Told] = &[
+    Told::Vars(2),
+    Told::Add(&[1, 2], true),
+    Told::HasModel(&[false, true]),
+];
+
+const NO_CLAUSE_HAS_A_MODEL: &[Told] = &[Told::Vars(3), Told::HasModel(&[false, false, false])];
+
+const A_TAUTOLOGY_IS_LEFT_OUT: &[Told] = &[
+    Told::Vars(1),
+    Told::Add(&[1, -1], true),
+    Told::Clauses(0),
+    Told::HasModel(&[false]),
+];
+
+const UNITS_CONTRADICT: &[Told] = &[
+    Told::Vars(1),
+    Told::Add(&[1], true),
+    Told::IsUnsat(false),
+    Told::Add(&[-1], true),
+    Told::IsUnsat(true),
+    // No step is due any more.
+    Told::Add(&[1], false),
+];
+
+const THE_EMPTY_CLAUSE_IS_UNSAT: &[Told] = &[Told::Add(&[], true), Told::IsUnsat(true)];
+
+const CLAUSES_ARE_WRITTEN_IN_ORDER: &[Told] = &[
+    Told::Vars(3),
+    Told::Add(&[-3, 1, -2, 1, -3], true),
+    Told::IsWritten(&[1, -2, -3]),
+];
+
+const RUNS: [&[Told]; 7] = [
+    ALL_OF_TWO_ARE_REFUTED,
+    ONE_CLAUSE_HAS_A_MODEL,
+    NO_CLAUSE_HAS_A_MODEL,
+    A_TAUTOLOGY_IS_LEFT_OUT,
+    UNITS_CONTRADICT,
+    THE_EMPTY_CLAUSE_IS_UNSAT,
+    CLAUSES_ARE_WRITTEN_IN_ORDER,
+];
+
 #[test]
-fn finds_models(rt: HostRuntime) -> Result<(), Fail> {
-    let mut solver = solver_of(&rt, 2, &[&[1, 2]])?;
-    assert_eq!(rt; model(&rt, &mut solver)?.as_slice(), [-1, 2].as_slice());
-    let mut solver = solver_of(&rt, 3, &[])?;
-    assert_eq!(rt;
-        model(&rt, &mut solver)?.as_slice(),
-        [-1, -2, -3].as_slice()
-    );
-    let mut solver = solver_of(&rt, 1, &[&[1, -1]])?;
-    assert_eq!(rt; solver.clauses.len(), 0);
-    assert_eq!(rt; model(&rt, &mut solver)?.as_slice(), [-1].as_slice());
+fn solvers_answer_so(rt: HostRuntime) -> Result<(), Fail> {
+    for rows in RUNS {
+        let wrong = first_wrong_of_new(rt.alloc(), rows)?;
+        assert!(rt; wrong.is_none(), "{wrong:?}");
+    }
     Ok(())
 }
 
-#[test]
-fn knows_contradicting_units(rt: HostRuntime) -> Result<(), Fail> {
-    let mut solver = solver_of(&rt, 1, &[&[1]])?;
-    assert!(rt; !solver.unsat());
-    assert!(rt; add(&rt, &mut solver, &[-1])?);
-    assert!(rt; solver.unsat());
-    assert!(rt; !add(&rt, &mut solver, &[1])?, "no step is due any more");
-    let solver = solver_of(&rt, 0, &[&[]])?;
-    assert!(rt; solver.unsat());
-    Ok(())
-}
+/// An answer, the rounds that it took, and the length of what was written.
+type Found = (Answer, u64, usize);
 
-#[test]
-fn writes_clauses_in_order(rt: HostRuntime) -> Result<(), Fail> {
-    let solver = solver_of(&rt, 3, &[&[-3, 1, -2, 1, -3]])?;
-    assert_eq!(rt;
-        numbers(&rt, solver.written())?.as_slice(),
-        [1, -2, -3].as_slice()
-    );
-    Ok(())
-}
-
-/// The answer to a formula over so many variables, the rounds that it took, and the length of what was written.
-fn answer(
-    rt: &HostRuntime,
+fn found(
+    alloc: Global,
+    solver: &mut Solver,
     vars: usize,
     formula: &[&[i64]],
     budget: u64,
-) -> Result<(Answer, u64, usize), Fail> {
-    let mut solver = solver_of(rt, vars, formula)?;
-    let mut proof = Counted::new(Vec::new(rt.alloc()));
-    let (answer, rounds) = solve(&mut solver, budget, &mut proof)?;
-    Ok((answer, rounds, proof.into_inner().len()))
+) -> Result<Found, Fail> {
+    fill(alloc, solver, vars, formula)?;
+    let mut proof = Counted::new(Vec::new(alloc));
+    match solve(solver, budget, &mut proof) {
+        Ok((answer, rounds)) => Ok((answer, rounds, proof.into_inner().len())),
+        Err(_) => Err(Fail::from("no answer")),
+    }
 }
 
+fn answered(alloc: Global, vars: usize, formula: &[&[i64]], budget: u64) -> Result<Found, Fail> {
+    let mut solver = Solver::new(alloc);
+    found(alloc, &mut solver, vars, formula, budget)
+}
+
+const PIGEONS: &[&[i64]] = &[
+    &[1, 2],
+    &[3, 4],
+    &[5, 6],
+    &[-1, -3],
+    &[-1, -5],
+    &[-3, -5],
+    &[-2, -4],
+    &[-2, -6],
+    &[-4, -6],
+];
+
+/// How many variables, clauses, the budget, the answer, the rounds, and the least and the greatest length of what is written.
+type Row = (
+    usize,
+    &'static [&'static [i64]],
+    u64,
+    Answer,
+    u64,
+    usize,
+    usize,
+);
+
+/// A learned step has a tag, a flag, two counts, a byte for the literal, and ten, nine or so bytes for a hash.
+const ANSWERS: [Row; 7] = [
+    (2, ALL_OF_TWO, 1 << 20, Answer::Unsat, 2, 9, 49),
+    (2, ALL_OF_TWO, 2, Answer::Unsat, 2, 9, 49),
+    (2, ALL_OF_TWO, 1, Answer::Unknown, 1, 4, 25),
+    (2, ALL_OF_TWO, 0, Answer::Unknown, 0, 0, 0),
+    (1, &[&[1], &[-1]], 0, Answer::Unsat, 0, 0, 0),
+    (2, &[&[1, 2]], 1, Answer::Sat, 1, 0, 0),
+    (0, &[], 1, Answer::Sat, 1, 0, 0),
+];
+
 #[test]
-fn answers_asks(rt: HostRuntime) -> Result<(), Fail> {
-    let all: [&[i64]; 4] = [&[1, 2], &[1, -2], &[-1, 2], &[-1, -2]];
-    // a step has a tag, a flag, two counts, a byte for the literal, and ten, nine or so bytes for a hash
-    let (answered, rounds, written) = answer(&rt, 2, &all, 1 << 20)?;
-    assert_eq!(rt; (answered, rounds), (Answer::Unsat, 2));
-    assert!(rt; written > 8 && written <= 49);
-    assert_eq!(rt; answer(&rt, 2, &all, 2)?.0, Answer::Unsat);
-    let (answered, rounds, _) = answer(&rt, 2, &all, 1)?;
-    assert_eq!(rt; (answered, rounds), (Answer::Unknown, 1));
-    assert_eq!(rt; answer(&rt, 2, &all, 0)?, (Answer::Unknown, 0, 0));
-    assert_eq!(rt; answer(&rt, 1, &[&[1], &[-1]], 0)?, (Answer::Unsat, 0, 0));
-    assert_eq!(rt; answer(&rt, 2, &[&[1, 2]], 1)?, (Answer::Sat, 1, 0));
-    assert_eq!(rt; answer(&rt, 0, &[], 1)?, (Answer::Sat, 1, 0));
+fn asks_are_answered(rt: HostRuntime) -> Result<(), Fail> {
+    for (vars, formula, budget, answer, rounds, least, most) in ANSWERS {
+        let found = answered(rt.alloc(), vars, formula, budget)?;
+        assert!(rt;
+            (found.0, found.1) == (answer, rounds),
+            "{formula:?} {budget}"
+        );
+        assert!(rt; least <= found.2 && found.2 <= most, "{formula:?} {budget}");
+    }
     Ok(())
 }
 
 #[test]
-fn refutes_three_pigeons_in_two_holes(rt: HostRuntime) -> Result<(), Fail> {
-    let pigeons: [&[i64]; 9] = [
-        &[1, 2],
-        &[3, 4],
-        &[5, 6],
-        &[-1, -3],
-        &[-1, -5],
-        &[-3, -5],
-        &[-2, -4],
-        &[-2, -6],
-        &[-4, -6],
-    ];
-    assert_eq!(rt; answer(&rt, 6, &pigeons, 64)?.0, Answer::Unsat);
+fn three_pigeons_in_two_holes_are_refuted(rt: HostRuntime) -> Result<(), Fail> {
+    assert!(rt; answered(rt.alloc(), 6, PIGEONS, 64)?.0 == Answer::Unsat);
     Ok(())
 }

@@ -1,0 +1,59 @@
+//! Devices for tests.
+
+use sat_base::Counted;
+use std::io;
+use std::io::{ErrorKind, Read, Write};
+
+/// A device that gives its text byte by byte, and takes what it is asked to. One call fails, counted from 1; none where that is 0.
+#[derive(Drop)]
+pub(crate) struct FailsAt<'a> {
+    text: &'a [u8],
+    pub(crate) calls: u64,
+    failing: u64,
+}
+
+impl FailsAt<'_> {
+    fn call(&mut self) -> io::Result<()> {
+        self.calls = self.calls.saturating_add(1);
+        if self.calls == self.failing {
+            return Err(io::Error::from(ErrorKind::Interrupted));
+        }
+        Ok(())
+    }
+}
+
+impl Read for FailsAt<'_> {
+    fn read(&mut self, buf: &mut [u8]) -> io::Result<usize> {
+        self.call()?;
+        if buf.is_empty() {
+            return Ok(0);
+        }
+        match self.text.split_first() {
+            Some((byte, rest)) => {
+                buf[0] = *byte;
+                self.text = rest;
+                Ok(1)
+            }
+            None => Ok(0),
+        }
+    }
+}
+
+impl Write for FailsAt<'_> {
+    fn write(&mut self, piece: &[u8]) -> io::Result<usize> {
+        self.call()?;
+        Ok(piece.len())
+    }
+
+    fn flush(&mut self) -> io::Result<()> {
+        self.call()
+    }
+}
+
+pub(crate) fn fails_at(text: &[u8], failing: u64) -> Counted<FailsAt<'_>> {
+    Counted::new(FailsAt {
+        text,
+        calls: 0,
+        failing,
+    })
+}
