@@ -3,9 +3,9 @@
 ghost use Rattle.std.specs.Prelude.{◌≡◌, ◌↔◌, IsTrue, IfOk, OnOk};
 ghost use Rattle.sat_base.specs.steps.Steps.{UserVarName, AddClause, AtClause, Model};
 ghost use Rattle.sat_base.specs.steps.StepViews.{step_of};
-ghost use Rattle.certify.specs.Stored.{Stored, nothing_stored, is_known, with_unit, with_stored, with_literals_known};
-ghost use Rattle.certify.specs.Accepts.{FitsModel};
-ghost use Rattle.certify.specs.CheckerView.{Keeps, AnswersRightly};
+ghost use Rattle.certify.specs.checker.Stored.{Stored, nothing_stored, is_known, with_unit, with_stored, with_literals_known};
+ghost use Rattle.certify.specs.checker.Accepts.{FitsModel};
+ghost use Rattle.certify.specs.checker.CheckerView.{Keeps, DecidesStep};
 
 pub(crate) mod assigned;
 pub(crate) mod clauses;
@@ -67,7 +67,7 @@ impl Checker {
     /// Checks the next step, and takes it in if it is accepted. The answer is whether it is.
     /// After a step that is refused, or an error, the checker is of no further use. An error is want of memory.
     pub fn step(&mut self, step: &ProofStep<'_>) -> Result<bool, AllocError>
-        ensures { IfOk result (AnswersRightly self.old (step_of step.now) self.new) }
+        ensures { IfOk result (DecidesStep self.old (step_of step.now) self.new) }
     {
         match *step {
             ProofStep::UserVarName { global, user } => self.user_var_name(global, user),
@@ -94,7 +94,7 @@ impl Checker {
     }
 
     fn user_var_name(&mut self, var: Var, user: Option<Var>) -> Result<bool, AllocError>
-        ensures { IfOk result (AnswersRightly self.old (UserVarName var user) self.new) }
+        ensures { IfOk result (DecidesStep self.old (UserVarName var user) self.new) }
     {
         let Some(name) = user else {
             return Ok(false);
@@ -111,7 +111,7 @@ impl Checker {
     }
 
     fn add_clause(&mut self, clause: &[Lit]) -> Result<bool, AllocError>
-        ensures { IfOk result (AnswersRightly self.old (AddClause clause.now) self.new) }
+        ensures { IfOk result (DecidesStep self.old (AddClause clause.now) self.new) }
     {
         if self.unsat {
             return Ok(true);
@@ -127,7 +127,7 @@ impl Checker {
         clause: &[Lit],
         hashes: &[ClauseHash],
     ) -> Result<bool, AllocError>
-        ensures { IfOk result (AnswersRightly self.old (AtClause redundant clause.now hashes.now) self.new) }
+        ensures { IfOk result (DecidesStep self.old (AtClause redundant clause.now hashes.now) self.new) }
     {
         if !check_clause(&self.clauses, clause, hashes, &mut self.units)? {
             return Ok(false);
@@ -138,7 +138,7 @@ impl Checker {
     }
 
     fn model(&mut self, assignment: &[Lit]) -> Result<bool, AllocError>
-        ensures { IfOk result (AnswersRightly self.old (Model assignment.now) self.new) }
+        ensures { IfOk result (DecidesStep self.old (Model assignment.now) self.new) }
     {
         if !self.fits(assignment)? {
             return Ok(false);

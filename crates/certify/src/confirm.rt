@@ -2,10 +2,10 @@
 ghost use Rattle.std.specs.Prelude.{◌≡◌, ◌+◌, ◌-◌, ◌^◌, ◌≤◌, ◌<◌, ◌⊎◌, length, IfOk, IsErrOf};
 ghost use Rattle.std.specs.List.{AllByRecursion};
 ghost use Rattle.sat_base.specs.device.Device.{most_reads, ReadFails, GaveAll};
-ghost use Rattle.certify.specs.Confirmed.{IsExact, GaveRightAnswers};
-ghost use Rattle.certify.specs.Decides.{Decides};
-ghost use Rattle.certify.specs.Holding.{HasCommands};
-ghost use Rattle.certify.specs.Sessions.{CountFromOne, ConfirmsEnd};
+ghost use Rattle.certify.specs.confirm.VerdictPromises.{IsExact, GaveRightAnswers};
+ghost use Rattle.certify.specs.confirm.Decides.{Decides};
+ghost use Rattle.certify.specs.script.CappedNames.{HasCommands};
+ghost use Rattle.certify.specs.confirm.ConfirmedCommands.{CountFromOne, ConfirmsEnd};
 
 pub(crate) mod certificate;
 pub(crate) mod session;
@@ -18,11 +18,11 @@ mod tests;
 use crate::script::{Script, read_script};
 use crate::verdict::{ConfirmFault, Verdict, Why};
 use sat_base::{CountedRead, ReadError, read_whole};
-use session::Session;
+use session::Confirmation;
 use std::alloc::{AllocError, Global};
 
 /// Confirms what is left behind the commands.
-fn confirm_rest(session: &mut Session<'_>, script: &Script) -> Result<Option<Why>, AllocError>
+fn confirm_rest(session: &mut Confirmation<'_>, script: &Script) -> Result<Option<Why>, AllocError>
     requires { length script.now.0 < 2 ^ 64 - 1 }
     ensures { IfOk result (ConfirmsEnd session.old (length script.now.0 + 1) script.now.1) }
 {
@@ -40,7 +40,7 @@ pub(crate) fn confirm_texts(
     requires { length script.now.0 < 2 ^ 64 - 1 }
     ensures { IfOk result (λ verdict. AllByRecursion CountFromOne script.now.0 → Decides verdict script.now answers.now certificate.now) }
 {
-    let mut session = Session::new(alloc, answers, certificate);
+    let mut session = Confirmation::new(alloc, answers, certificate);
     for index in 0..script.len() {
         let command = script.command(index);
         if let Some(why) = session.confirm_command(index as u64 + 1, command)? {

@@ -1,7 +1,7 @@
 //! Laws of scripts, for proofs alone.
-ghost use Rattle.certify.specs.Holding.{HoldingIsFree};
+ghost use Rattle.certify.specs.script.CappedNames.{CappingIsFree};
 
-/// Names that are held change nothing of what a script's commands do. It does nothing.
+/// Capped names change nothing of what a script's commands do. It does nothing.
 pub fn holding_laws()
-    ensures { HoldingIsFree }
+    ensures { CappingIsFree }
 {}

@@ -1,8 +1,8 @@
 //! What holds of the answers, of matching and of the list checker: each law is the contract of a function that does nothing.
-ghost use Rattle.certify.specs.Laws.{AskBindsNothing, AskLeavesNames, GivenIdentitiesSuffice, JudgeIsKept, MatchingIsRight, NotBoth, RepeatChangesNothing, TautologyChangesNothing, TextsTellOutcomes, TextsThatMatchAreRight};
-ghost use Rattle.certify.specs.Checking.{IsSound};
-ghost use Rattle.certify.specs.TheChecking.{the_checking};
-ghost use Rattle.certify.specs.Rows.{AnswersTwice, AskAloneText, BehindEndUncertified, ClauseAndAskCertified, ClauseAndAskExpected, ClauseAndAskMatches, ClauseAndAskRight, ClauseAndAskSteps, ClauseAndAskText, ClauseUncertified, EmptyMatches, EmptyText, EndAlone, EndAloneUncertified, HiddenAndBackExpected, HiddenAndBackState, HiddenAtOnceState, LeftOutCertified, LeftmostRefuses, MalformedText, ModelUncertified, NameOnOldVariable, NoAnswers, TwoUnitsMatches, TwoUnitsRight, TwoUnitsSteps, WitnessRefusedText, WitnessRefusesAsk};
+ghost use Rattle.certify.specs.laws.Laws.{AskBindsNothing, AskLeavesNames, GivenIdentitiesSuffice, JudgeIsKept, MatchingIsRight, NotBoth, RepeatChangesNothing, TautologyChangesNothing, TextsTellOutcomes, TextsThatMatchAreRight};
+ghost use Rattle.certify.specs.confirm.Checking.{IsSound};
+ghost use Rattle.certify.specs.confirm.ListChecking.{the_checking};
+ghost use Rattle.certify.specs.laws.Rows.{AnswersTwice, AskAloneText, BehindEndUncertified, ClauseAndAskCertified, ClauseAndAskExpected, ClauseAndAskMatches, ClauseAndAskRight, ClauseAndAskSteps, ClauseAndAskText, ClauseUncertified, EmptyMatches, EmptyText, EndAlone, EndAloneUncertified, HiddenAndBackExpected, HiddenAndBackState, HiddenAtOnceState, LeftOutCertified, LeftmostRefuses, MalformedText, ModelUncertified, NameOnOldVariable, NoAnswers, TwoUnitsMatches, TwoUnitsRight, TwoUnitsSteps, WitnessRefusedText, WitnessRefusesAsk};
 
 /// Where script, answers and certificate match, the answers are right: by steps and outcomes, and by the three texts.
 pub fn matching_is_right()

@@ -2,9 +2,9 @@
 ghost use Rattle.std.specs.Prelude.{◌≡◌, ◌+◌, ◌-◌, ◌^◌, ◌≤◌, ◌<◌, ◌⊎◌, length, IfOk, OnOk, IfErr, IsErrOf, MatchResult};
 ghost use Rattle.sat_base.specs.device.Device.{most_reads, ReadFails, GaveAll};
 ghost use Rattle.sat_base.specs.script.Script.{Malformed};
-ghost use Rattle.certify.specs.Holding.{IsHeldOf, IsMalformedBehind};
-ghost use Rattle.certify.specs.Run.{FinishesText, HasCause};
-ghost use Rattle.certify.specs.Running.{Finishes, FailsOnce};
+ghost use Rattle.certify.specs.script.CappedNames.{IsScriptOf, IsMalformedBehind};
+ghost use Rattle.certify.specs.run.FinishedRun.{FinishesText, HasCause};
+ghost use Rattle.certify.specs.run.Running.{Finishes, FailsOnce};
 
 mod ask;
 mod clause;
@@ -28,7 +28,7 @@ use std::alloc::Global;
 
 /// Reads the script.
 fn load<S: CountedRead>(alloc: Global, script: &mut S) -> Result<Script, RunFault>
-    ensures script { IfOk result (λ s. IsHeldOf (GaveAll S.given S.ended S.remaining script.old script.new) s) }
+    ensures script { IfOk result (λ s. IsScriptOf (GaveAll S.given S.ended S.remaining script.old script.new) s) }
     ensures failures { MatchResult result (λ _. S.failures script.new ≡ S.failures script.old)
         (λ e. HasCause e (ReadFails S.failures S.calls script.old script.new) ⊥ ⊥ ⊥ (S.failures script.new ≡ S.failures script.old)) }
     ensures kept { IsErrOf result RunFault.ScriptRead ⊎ (S.failures script.new ≡ S.failures script.old) }

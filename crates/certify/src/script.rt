@@ -1,7 +1,7 @@
 //! Scripts: the commands of a text.
 ghost use Rattle.std.specs.Prelude.{◌≡◌, ◌<◌, ◌↔◌, IsTrue, [], length, slice_get, vec_len};
 ghost use Rattle.sat_base.specs.script.Script.{Malformed};
-ghost use Rattle.certify.specs.ScriptParts.{commands_in, end_of, AreParts, start_of, is_ask, any_ask, shown};
+ghost use Rattle.certify.specs.script.ScriptParts.{commands_in, end_of, AreParts, start_of, is_ask, any_ask, shown};
 
 mod reader;
 #[cfg(test)]
@@ -10,7 +10,7 @@ mod tests;
 pub use reader::read_script;
 use std::marker::Model;
 
-/// A name, counted from 1, and a sign. Names past 2^28 are held at 2^28+1.
+/// A name, counted from 1, and a sign. Names past 2^28 are capped at 2^28+1.
 #[derive(Clone, Copy, Debug, PartialEq, Eq)]
 pub struct Literal {
     pub name: u32,
@@ -28,7 +28,7 @@ impl Model for Literal {
 }
 
 #[derive(Clone, Copy, Debug)]
-enum Kind {
+enum CommandKind {
     Clause,
     Ask,
 }
@@ -36,7 +36,7 @@ enum Kind {
 /// A command's kind, and where its literals end. They begin where those of the command before it end.
 #[derive(Clone, Copy, Debug)]
 struct Part {
-    kind: Kind,
+    kind: CommandKind,
     end: usize,
 }
 
@@ -60,12 +60,12 @@ pub struct Script {
 }
 
 impl Model for Script {
-    ghost use Rattle.certify.specs.Holding.{HeldScript};
+    ghost use Rattle.certify.specs.script.CappedNames.{CappedScript};
 
-    ghost Value = { HeldScript };
+    ghost Value = { CappedScript };
 
     ghost use Rattle.std.specs.Prelude.{length};
-    ghost use Rattle.certify.specs.ScriptParts.{commands_in, end_of, AreParts};
+    ghost use Rattle.certify.specs.script.ScriptParts.{commands_in, end_of, AreParts};
 
     ghost view = { λ s. (commands_in 0 s.parts.items s.literals.items, end_of s.malformed, s.command_count) };
 
@@ -127,12 +127,12 @@ impl Script {
     }
 }
 
-fn is_ask(kind: Kind) -> bool
+fn is_ask(kind: CommandKind) -> bool
     ensures { result ≡ is_ask kind }
 {
     match kind {
-        Kind::Clause => false,
-        Kind::Ask => true,
+        CommandKind::Clause => false,
+        CommandKind::Ask => true,
     }
 }
 
@@ -166,7 +166,7 @@ fn command_at<'a>(literals: &'a [Literal], parts: &[Part], index: usize) -> Comm
     let end = parts[index].end;
     let literals = &literals[start..end];
     match parts[index].kind {
-        Kind::Clause => Command::Clause(literals),
-        Kind::Ask => Command::Ask(literals),
+        CommandKind::Clause => Command::Clause(literals),
+        CommandKind::Ask => Command::Ask(literals),
     }
 }

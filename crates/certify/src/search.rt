@@ -2,9 +2,9 @@
 //! conflict keeps the clause of all negated decisions.
 ghost use Rattle.std.specs.Prelude.{◌≡◌, ◌+◌, ◌-◌, ◌^◌, ◌<◌, ◌≤◌, Bool, not, true, false, length, slice_index_or, IfOk, OnOk, OnErr, None};
 ghost use Rattle.sat_base.specs.values.Literals.{largest};
-ghost use Rattle.certify.specs.Search.{IsBounded};
-ghost use Rattle.certify.specs.Kept.{IsNormalOf};
-ghost use Rattle.certify.specs.Held.{fresh, with_variable, TakesClause, RoundSays};
+ghost use Rattle.certify.specs.search.Search.{IsBounded};
+ghost use Rattle.certify.specs.search.KeptClauses.{IsNormalOf};
+ghost use Rattle.certify.specs.search.SolverState.{new_solver, with_variable, GainsClause, RoundSays};
 
 mod clause_list;
 mod keep;
@@ -36,21 +36,21 @@ pub(crate) struct Solver {
 }
 
 impl Model for Solver {
-    ghost use Rattle.certify.specs.Held.{Held};
+    ghost use Rattle.certify.specs.search.SolverState.{SolverState};
 
-    ghost Value = { Held };
+    ghost Value = { SolverState };
 
-    ghost use Rattle.certify.specs.SolverView.{held_of, IsSolver};
+    ghost use Rattle.certify.specs.search.SolverView.{state_of, IsSolver};
 
-    ghost view = { held_of };
+    ghost view = { state_of };
 
     ghost invariant = { IsSolver };
 }
 
-#[tactic(auto, using(crate::proofs::SearchSolving::solving))]
+#[tactic(auto, using(crate::proofs::lemmas::search::SolverCalls::solving))]
 impl Solver {
     pub(crate) fn new(alloc: Global) -> Solver
-        ensures { result ≡ fresh }
+        ensures { result ≡ new_solver }
     {
         Solver {
             clauses: ClauseList::new(alloc),
@@ -134,7 +134,7 @@ impl Solver {
         requires { IsBounded self.old.var_count lits.now }
         ensures step { IfOk result (λ step. step ≡ not self.old.unsat) }
         ensures written { self.old.unsat ≡ false → OnOk result (IsNormalOf lits.now self.new.written) }
-        ensures takes { OnOk result (TakesClause self.old self.new lits.now) }
+        ensures takes { OnOk result (GainsClause self.old self.new lits.now) }
         ensures var_count { self.new.var_count ≡ self.old.var_count }
         ensures rounds { self.new.rounds ≡ self.old.rounds }
     {

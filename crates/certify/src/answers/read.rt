@@ -1,9 +1,9 @@
 //! Reads answers, line by line, from the front of their bytes. What isn't in form to the byte is refused:
 //! single spaces, no leading zeros, each line ended by LF, names from 1 to 2^28 in their order.
 ghost use Rattle.std.specs.Prelude.{◌≡◌, ◌++◌, ◌∷◌, [], ◌*◌, ◌<◌, ◌≤◌, decimal, MatchOption, MatchResult, List, ℕ};
-ghost use Rattle.certify.specs.Answers.{literals_text, outcome_text, word_of};
-ghost use Rattle.certify.specs.AnswerForms.{IsInForm, IsName, named_literal, named_literals};
-ghost use Rattle.certify.specs.AnswerReading.{NoDigit, NoName, NoLiteral, NoLiterals, NoKind, NoLine, NoOutcome, HasLine, IsHead, digits_so_far, first_line, outcome_of, second_line, place_in};
+ghost use Rattle.certify.specs.answers.Answers.{literals_text, outcome_text, word_of};
+ghost use Rattle.certify.specs.answers.AnswerForms.{IsInForm, IsName, named_literal, named_literals};
+ghost use Rattle.certify.specs.answers.AnswerReading.{NoDigit, NoName, NoLiteral, NoLiterals, NoKind, NoLine, NoOutcome, HasLine, IsHead, digits_so_far, first_line, outcome_of, second_line, place_in};
 ghost use Rattle.sat_base.specs.values.Literals.{largest};
 
 use sat_base::{Lit, Var};

@@ -1,6 +1,6 @@
 //! Literals that are assumed, with a mark by code for each.
 ghost use Rattle.std.specs.Prelude.{◌≡◌, ◌+◌, ◌-◌, ◌<◌, ◌≤◌, List, [], ◌∷◌, drop, length, OnOk, OnErr, false, reverse};
-ghost use Rattle.certify.specs.Propagation.{is_among};
+ghost use Rattle.certify.specs.checker.Propagation.{is_among};
 
 use sat_base::Lit;
 use std::alloc::{AllocError, Global};
@@ -15,7 +15,7 @@ pub(crate) struct Assigned {
 
 impl Model for Assigned {
     ghost use Rattle.std.specs.Prelude.{List, ℕ, reverse};
-    ghost use Rattle.certify.specs.Marks.{AreMarks};
+    ghost use Rattle.certify.specs.checker.Marks.{AreMarks};
 
     ghost Value = { List ℕ };
 

@@ -2,10 +2,10 @@
 ghost use Rattle.std.specs.Prelude.{◌≡◌, ◌+◌, ◌-◌, ◌<◌, ◌≤◌, ◌∷◌, [], ◌++◌, List, not, length, slice_index_or, OnOk, false};
 ghost use Rattle.std.specs.List.{AllByRecursion};
 ghost use Rattle.sat_base.specs.values.Hashes.{hash_of};
-ghost use Rattle.certify.specs.Marks.{IsIncreasing};
-ghost use Rattle.certify.specs.Walk.{all_literals, all_flags};
-ghost use Rattle.certify.specs.ClausesView.{IsFirstSame, kept, fresh};
-ghost use Rattle.certify.specs.Stored.{with_clause};
+ghost use Rattle.certify.specs.checker.Marks.{IsIncreasing};
+ghost use Rattle.certify.specs.checker.Walk.{all_literals, all_flags};
+ghost use Rattle.certify.specs.checker.ListEntries.{IsFirstSame, stored_again, newly_stored};
+ghost use Rattle.certify.specs.checker.Stored.{with_clause};
 
 use sat_base::{ClauseHash, Lit, clause_hash};
 use std::alloc::{AllocError, Global};
@@ -30,8 +30,8 @@ pub(crate) struct ClauseList {
 impl Model for ClauseList {
     ghost use Rattle.std.specs.Prelude.{List, map};
     ghost use Rattle.std.specs.List.{All};
-    ghost use Rattle.certify.specs.Stored.{StoredClause};
-    ghost use Rattle.certify.specs.ClausesView.{clause_at, IsEntry};
+    ghost use Rattle.certify.specs.checker.Stored.{StoredClause};
+    ghost use Rattle.certify.specs.checker.ListEntries.{clause_at, IsEntry};
 
     ghost Value = { List StoredClause };
 
@@ -80,7 +80,7 @@ impl ClauseList {
     }
 
     /// Stores a clause once. Where it is stored already, it stands as irredundant from then on unless the new one is redundant.
-    #[tactic(auto, using(crate::proofs::ClauseLemmas::storing))]
+    #[tactic(auto, using(crate::proofs::lemmas::checker::ListEntries::storing))]
     pub fn add(&mut self, redundant: bool, literals: &[Lit]) -> Result<(), AllocError>
         requires { IsIncreasing literals.now }
         ensures { OnOk result (self.new ≡ with_clause redundant literals.now self.old) }
@@ -96,7 +96,7 @@ impl ClauseList {
     }
 
     /// The first place where these literals stand.
-    #[tactic(auto, using(crate::proofs::ClauseLemmas::other_hash))]
+    #[tactic(auto, using(crate::proofs::lemmas::checker::ListEntries::other_hash))]
     fn find(&self, literals: &[Lit], hash: ClauseHash) -> Option<usize>
         requires { hash ≡ hash_of literals.now }
         ensures { IsFirstSame literals.now self.now result }
@@ -114,7 +114,7 @@ impl ClauseList {
 
     fn keep(&mut self, place: usize, redundant: bool)
         requires { place < length self.old }
-        ensures { self.new ≡ kept redundant place self.old }
+        ensures { self.new ≡ stored_again redundant place self.old }
     {
         self.entries[place].irredundant |= !redundant;
     }
@@ -127,7 +127,7 @@ impl ClauseList {
     ) -> Result<(), AllocError>
         requires increasing { IsIncreasing literals.now }
         requires hash { hash ≡ hash_of literals.now }
-        ensures { OnOk result (self.new ≡ self.old ++ fresh redundant literals.now ∷ []) }
+        ensures { OnOk result (self.new ≡ self.old ++ newly_stored redundant literals.now ∷ []) }
     {
         let start = self.literals.len();
         self.literals.extend_from_slice(literals)?;

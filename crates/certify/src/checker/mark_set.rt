@@ -2,7 +2,7 @@
 ghost use Rattle.std.specs.Prelude.{ℕ, ◌≡◌, ◌<◌, ◌==◌, ◌||◌, [], map, IfOk, OnOk};
 ghost use Rattle.std.specs.List.{list_any};
 ghost use Rattle.sat_base.specs.values.Literals.{largest, variable};
-ghost use Rattle.certify.specs.Marks.{is_marked};
+ghost use Rattle.certify.specs.checker.Marks.{is_marked};
 
 use sat_base::Lit;
 use std::alloc::{AllocError, Global};

@@ -1,8 +1,8 @@
 //! Clauses in order of their literals' codes, without repeats.
 ghost use Rattle.std.specs.Prelude.{◌≡◌, IfOk};
-ghost use Rattle.certify.specs.Stored.{canonical};
-ghost use Rattle.certify.specs.Propagation.{is_tautology};
-ghost use Rattle.certify.specs.Marks.{IsIncreasing};
+ghost use Rattle.certify.specs.checker.Stored.{canonical};
+ghost use Rattle.certify.specs.checker.Propagation.{is_tautology};
+ghost use Rattle.certify.specs.checker.Marks.{IsIncreasing};
 
 use sat_base::Lit;
 use std::alloc::{AllocError, Global};
@@ -18,7 +18,7 @@ pub(crate) fn sorted_literals(alloc: Global, clause: &[Lit]) -> Result<Vec<Lit>,
 }
 
 /// Whether sorted literals have both signs of a variable. They would stand side by side.
-#[tactic(auto, using(crate::proofs::CheckerCanonical::signs))]
+#[tactic(auto, using(crate::proofs::lemmas::checker::SortedLiterals::signs))]
 pub(crate) fn has_both_signs(literals: &[Lit]) -> bool
     requires { IsIncreasing literals.now }
     ensures { result ≡ is_tautology literals.now }

@@ -3,9 +3,9 @@ ghost use Rattle.std.specs.Prelude.{ℕ, ◌≡◌, [], IfOk, reverse};
 ghost use Rattle.std.specs.Bool.{MatchBool};
 ghost use Rattle.std.specs.List.{list_any};
 ghost use Rattle.sat_base.specs.values.Literals.{negated};
-ghost use Rattle.certify.specs.Propagation.{is_among};
-ghost use Rattle.certify.specs.Accepts.{VariablesApart};
-ghost use Rattle.certify.specs.ModelView.{is_contradicted, are_all_true};
+ghost use Rattle.certify.specs.checker.Propagation.{is_among};
+ghost use Rattle.certify.specs.checker.Accepts.{VariablesApart};
+ghost use Rattle.certify.specs.checker.ModelTests.{is_contradicted, are_all_true};
 
 use crate::checker::assigned::Assigned;
 use crate::checker::clauses::ClauseList;
@@ -13,7 +13,7 @@ use sat_base::Lit;
 use std::alloc::AllocError;
 
 /// Assumes the literals, the last first, unless a variable stands twice among them. The answer is whether none does.
-#[tactic(auto, using(crate::proofs::CheckerModels::setting_apart))]
+#[tactic(auto, using(crate::proofs::lemmas::checker::ModelTests::setting_apart))]
 pub(crate) fn assume_apart(assigned: &mut Assigned, literals: &[Lit]) -> Result<bool, AllocError>
     requires { assigned.old ≡ [] }
     ensures { IfOk result
@@ -33,7 +33,7 @@ pub(crate) fn assume_apart(assigned: &mut Assigned, literals: &[Lit]) -> Result<
 }
 
 /// Whether the negation of one of the units is assumed.
-#[tactic(auto, using(crate::proofs::CheckerModels::comparing))]
+#[tactic(auto, using(crate::proofs::lemmas::checker::ModelTests::comparing))]
 pub(crate) fn contradicts(assigned: &Assigned, units: &[Lit]) -> bool
     ensures { result ≡ is_contradicted assigned.now units.now }
 {
@@ -45,7 +45,7 @@ pub(crate) fn contradicts(assigned: &Assigned, units: &[Lit]) -> bool
     false
 }
 
-#[tactic(auto, using(crate::proofs::CheckerModels::comparing))]
+#[tactic(auto, using(crate::proofs::lemmas::checker::ModelTests::comparing))]
 fn makes_true(assigned: &Assigned, clause: &[Lit]) -> bool
     ensures { result ≡ list_any (is_among assigned.now) clause.now }
 {
@@ -58,7 +58,7 @@ fn makes_true(assigned: &Assigned, clause: &[Lit]) -> bool
 }
 
 /// Whether each clause that stands as irredundant has an assumed literal.
-#[tactic(auto, using(crate::proofs::CheckerModels::comparing))]
+#[tactic(auto, using(crate::proofs::lemmas::checker::ModelTests::comparing))]
 pub(crate) fn makes_all_true(assigned: &Assigned, clauses: &ClauseList) -> bool
     ensures { result ≡ are_all_true assigned.now clauses.now }
 {

@@ -1,8 +1,8 @@
 //! The propagation check of a derived clause.
 ghost use Rattle.std.specs.Prelude.{◌≡◌, ◌+◌, ◌≤◌, List, [], ◌∷◌, length, OnOk, IfOk, if◌then◌else◌, None, Some, map, IsTrue, ◌↔◌};
-ghost use Rattle.certify.specs.Propagation.{Passes};
-ghost use Rattle.certify.specs.Look.{verdict_of, Extends, Says};
-ghost use Rattle.certify.specs.Walk.{verdict, walk_on, walk_buckets, denied, all_literals, of_hash};
+ghost use Rattle.certify.specs.checker.Propagation.{PassesCheck};
+ghost use Rattle.certify.specs.checker.WalkEnds.{status_of_look, Extends, WalksBucket};
+ghost use Rattle.certify.specs.checker.Walk.{status_under, walk_on, walk_buckets, denied, all_literals, of_hash};
 
 use crate::checker::assigned::Assigned;
 use crate::checker::clauses::ClauseList;
@@ -18,7 +18,7 @@ enum Look {
 }
 
 fn look_at(assigned: &Assigned, clause: &[Lit]) -> Look
-    ensures { verdict_of result ≡ verdict assigned.now clause.now }
+    ensures { status_of_look result ≡ status_under assigned.now clause.now }
 {
     let mut open = None;
     for lit in clause {
@@ -37,9 +37,9 @@ fn look_at(assigned: &Assigned, clause: &[Lit]) -> Look
 }
 
 /// Takes what a clause opens. The answer is whether the clause was falsified.
-#[tactic(auto, using(crate::proofs::WalkLemmas::meeting))]
+#[tactic(auto, using(crate::proofs::lemmas::checker::WalkSteps::meeting))]
 fn meet(assigned: &mut Assigned, clause: &[Lit]) -> Result<bool, AllocError>
-    ensures met { IfOk result (λ conflict. walk_on (verdict assigned.old clause.now) assigned.old ≡ (if conflict then None else Some assigned.new)) }
+    ensures met { IfOk result (λ conflict. walk_on (status_under assigned.old clause.now) assigned.old ≡ (if conflict then None else Some assigned.new)) }
     ensures extends { Extends assigned.old assigned.new }
 {
     match look_at(assigned, clause) {
@@ -60,13 +60,13 @@ enum Bucket {
     Open,
 }
 
-#[tactic(auto, using(crate::proofs::WalkLemmas::walking))]
+#[tactic(auto, using(crate::proofs::lemmas::checker::WalkSteps::walking))]
 fn walk_bucket(
     clauses: &ClauseList,
     hash: ClauseHash,
     assigned: &mut Assigned,
 ) -> Result<Bucket, AllocError>
-    ensures says { IfOk result (λ b. Says b (of_hash (all_literals clauses.now) hash) assigned.old assigned.new) }
+    ensures says { IfOk result (λ b. WalksBucket b (of_hash (all_literals clauses.now) hash) assigned.old assigned.new) }
     ensures extends { Extends assigned.old assigned.new }
 {
     let mut found = false;
@@ -83,7 +83,7 @@ fn walk_bucket(
 }
 
 /// Walks over the buckets of the hashes, in their order. The answer is whether a conflict came before an empty bucket.
-#[tactic(auto, using(crate::proofs::WalkLemmas::over_buckets))]
+#[tactic(auto, using(crate::proofs::lemmas::checker::WalkSteps::over_buckets))]
 fn walk_hashes(
     clauses: &ClauseList,
     hashes: &[ClauseHash],
@@ -103,7 +103,7 @@ fn walk_hashes(
 }
 
 /// Assumes the negations of a clause's literals. The answer is whether a literal was true already.
-#[tactic(auto, using(crate::proofs::Denied::denying))]
+#[tactic(auto, using(crate::proofs::lemmas::checker::NegatedClauses::denying))]
 fn deny(assigned: &mut Assigned, clause: &[Lit]) -> Result<bool, AllocError>
     ensures denied { IfOk result (λ met. denied assigned.old clause.now ≡ (if met then None else Some assigned.new)) }
     ensures extends { Extends assigned.old assigned.new }
@@ -121,14 +121,14 @@ fn deny(assigned: &mut Assigned, clause: &[Lit]) -> Result<bool, AllocError>
     Ok(false)
 }
 
-#[tactic(auto, using(crate::proofs::WalkLemmas::over_buckets))]
+#[tactic(auto, using(crate::proofs::lemmas::checker::WalkSteps::over_buckets))]
 fn check_under(
     clauses: &ClauseList,
     clause: &[Lit],
     hashes: &[ClauseHash],
     assigned: &mut Assigned,
 ) -> Result<bool, AllocError>
-    ensures exact { IfOk result (λ yes. IsTrue yes ↔ Passes assigned.old clause.now (map (of_hash (all_literals clauses.now)) hashes.now)) }
+    ensures exact { IfOk result (λ yes. IsTrue yes ↔ PassesCheck assigned.old clause.now (map (of_hash (all_literals clauses.now)) hashes.now)) }
     ensures extends { Extends assigned.old assigned.new }
 {
     let _count = clauses.len();
@@ -145,7 +145,7 @@ pub(crate) fn check_clause(
     hashes: &[ClauseHash],
     assigned: &mut Assigned,
 ) -> Result<bool, AllocError>
-    ensures exact { IfOk result (λ yes. IsTrue yes ↔ Passes assigned.old clause.now (map (of_hash (all_literals clauses.now)) hashes.now)) }
+    ensures exact { IfOk result (λ yes. IsTrue yes ↔ PassesCheck assigned.old clause.now (map (of_hash (all_literals clauses.now)) hashes.now)) }
     ensures units { assigned.new ≡ assigned.old }
 {
     let units = assigned.len();

@@ -2,7 +2,7 @@
 ghost use Rattle.std.specs.Prelude.{◌≡◌, ◌≤◌, List, [], ◌∷◌, map, Ok, IfOk};
 ghost use Rattle.sat_base.specs.values.Literals.{largest};
 ghost use Rattle.sat_base.specs.steps.StepViews.{step_of};
-ghost use Rattle.certify.specs.Checking.{is_ordered as is_ordered_step};
+ghost use Rattle.certify.specs.confirm.Checking.{is_ordered as is_ordered_step};
 
 use crate::checker::Checker;
 use crate::checker::assigned::Assigned;
@@ -29,7 +29,7 @@ pub(crate) struct Certificate<'c> {
 /// What came where an ordered step is awaited.
 #[derive(Clone, Copy, Debug)]
 pub(crate) enum Awaited {
-    /// The step, which is held and not yet fed.
+    /// The step that was read, which is not yet fed.
     Step,
     /// `unsat` is recorded, and nothing more is read.
     Cut,
@@ -55,13 +55,13 @@ fn is_ordered(step: &ProofStep<'_>) -> bool
 impl<'c> Certificate<'c> {
     ghost use Rattle.sat_base.specs.script.Judge.{Judge, start, bring_in, bring_all, new_names, with_name};
     ghost use Rattle.sat_base.specs.script.Script.{Literal as Spelled, names_of};
-    ghost use Rattle.certify.specs.Answers.{Outcome};
-    ghost use Rattle.certify.specs.AnswerForms.{IsName, HaveNames};
-    ghost use Rattle.certify.specs.Matches.{NewName, Adds, Opens, Shows, Fails, Closes, Finish, bringing};
-    ghost use Rattle.certify.specs.Standing.{Stands, Stays, Goes, Awaits, Advances, FitsHeld, Takes, NamesNext, Puts, Asks, bytes_of};
+    ghost use Rattle.certify.specs.answers.Answers.{Outcome};
+    ghost use Rattle.certify.specs.answers.AnswerForms.{IsName, HaveNames};
+    ghost use Rattle.certify.specs.confirm.Matches.{NewName, Adds, Opens, Shows, Fails, Closes, Finish, bringing};
+    ghost use Rattle.certify.specs.confirm.CertificateSteps.{IsFed, Stays, MeetsPending, Awaits, GoesOneStep, ReadStepFits, FeedsStep, NamesNext, FeedsName, OpensAsk, bytes_of};
 
     pub fn new(alloc: Global, bytes: &'c [u8]) -> Certificate<'c>
-        ensures stands { Stands result start [] }
+        ensures stands { IsFed result start [] }
         ensures bytes { bytes_of result ≡ bytes.now }
     {
         Certificate {
@@ -75,7 +75,7 @@ impl<'c> Certificate<'c> {
 
     /// Takes one step where an ordered one is awaited. None: it was another, and is fed.
     fn advance(&mut self) -> Result<Option<Awaited>, AllocError>
-        ensures { IfOk result (Advances self.old self.new) }
+        ensures { IfOk result (GoesOneStep self.old self.new) }
     {
         if self.checker.unsat() {
             return Ok(Some(Awaited::Cut));
@@ -104,9 +104,9 @@ impl<'c> Certificate<'c> {
         }
     }
 
-    /// Feeds the held step, where it puts no name.
+    /// Feeds the step that was read, where it puts no name.
     pub fn take(&mut self) -> Result<Option<Why>, AllocError>
-        ensures { IfOk result (Takes self.old self.new) }
+        ensures { IfOk result (FeedsStep self.old self.new) }
     {
         if self.checker.step(&self.source.step())? {
             Ok(None)
@@ -115,7 +115,7 @@ impl<'c> Certificate<'c> {
         }
     }
 
-    /// The variable that the held step puts the next name on.
+    /// The variable that the step that was read puts the next name on.
     fn next_name(&self) -> Result<Var, Why>
         ensures { NamesNext self.now result }
     {
@@ -134,9 +134,9 @@ impl<'c> Certificate<'c> {
         Ok(global)
     }
 
-    /// Feeds the held step, which puts the next name on the variable.
+    /// Feeds the step that was read, which puts the next name on the variable.
     fn put_name(&mut self, variable: Var) -> Result<Option<Why>, AllocError>
-        ensures { IfOk result (λ why. NamesNext self.old (Ok variable) → Puts self.old self.new why) }
+        ensures { IfOk result (λ why. NamesNext self.old (Ok variable) → FeedsName self.old self.new why) }
     {
         if self.checker.step(&self.source.step())? {
             self.variables.push(variable)?;
@@ -148,7 +148,7 @@ impl<'c> Certificate<'c> {
 
     /// Expects the next name on a variable that the checker doesn't know.
     fn expect_name(&mut self) -> Result<Option<Why>, AllocError>
-        ensures { IfOk result (λ why. (j : Judge) → j.first_unused ≤ largest → Goes self.old self.new j (NewName j.first_unused ∷ []) (with_name j.first_unused j) why) }
+        ensures { IfOk result (λ why. (j : Judge) → j.first_unused ≤ largest → MeetsPending self.old self.new j (NewName j.first_unused ∷ []) (with_name j.first_unused j) why) }
     {
         match self.await_ordered()? {
             Awaited::Cut => return Ok(None),
@@ -163,7 +163,7 @@ impl<'c> Certificate<'c> {
 
     /// Expects the names that come in with this one, from 1 to 2^28.
     fn bring_name(&mut self, name: usize) -> Result<Option<Why>, AllocError>
-        ensures { IfOk result (λ why. (j : Judge) → IsName name → Goes self.old self.new j (map NewName (new_names name j)) (bring_in name j) why) }
+        ensures { IfOk result (λ why. (j : Judge) → IsName name → MeetsPending self.old self.new j (map NewName (new_names name j)) (bring_in name j) why) }
     {
         if self.checker.unsat() {
             return Ok(None);
@@ -179,7 +179,7 @@ impl<'c> Certificate<'c> {
 
     /// Expects the names that come in with the literals.
     pub fn bring_in(&mut self, literals: &[Literal]) -> Result<Option<Why>, AllocError>
-        ensures { IfOk result (λ why. (j : Judge) → HaveNames literals.now → Goes self.old self.new j (bringing (names_of literals.now) j) (bring_all (names_of literals.now) j) why) }
+        ensures { IfOk result (λ why. (j : Judge) → HaveNames literals.now → MeetsPending self.old self.new j (bringing (names_of literals.now) j) (bring_all (names_of literals.now) j) why) }
     {
         for literal in literals {
             if let Some(why) = self.bring_name(literal.name as usize)? {
@@ -190,7 +190,7 @@ impl<'c> Certificate<'c> {
     }
 
     fn adds(&mut self, literals: &[Literal]) -> Result<Option<Why>, AllocError>
-        ensures fits { IfOk result (FitsHeld self.new (λ _. Adds literals.now)) }
+        ensures fits { IfOk result (ReadStepFits self.new (λ _. Adds literals.now)) }
         ensures stays { Stays self.old self.new }
     {
         let ProofStep::AddClause { clause } = self.source.step() else {
@@ -211,7 +211,7 @@ impl<'c> Certificate<'c> {
 
     /// Expects a clause of these literals.
     pub fn expect_clause(&mut self, literals: &[Literal]) -> Result<Option<Why>, AllocError>
-        ensures { IfOk result (λ why. (j : Judge) → Goes self.old self.new j (Adds literals.now ∷ []) j why) }
+        ensures { IfOk result (λ why. (j : Judge) → MeetsPending self.old self.new j (Adds literals.now ∷ []) j why) }
     {
         match self.await_ordered()? {
             Awaited::Cut => return Ok(None),
@@ -225,7 +225,7 @@ impl<'c> Certificate<'c> {
     }
 
     fn opens(&mut self, literals: &[Literal]) -> Result<Option<Why>, AllocError>
-        ensures fits { IfOk result (λ why. (o : Outcome) → FitsHeld self.new (λ _. Opens literals.now o) why) }
+        ensures fits { IfOk result (λ why. (o : Outcome) → ReadStepFits self.new (λ _. Opens literals.now o) why) }
         ensures stays { Stays self.old self.new }
     {
         let ProofStep::Assumptions { assumptions } = self.source.step() else {
@@ -246,7 +246,7 @@ impl<'c> Certificate<'c> {
 
     /// Expects the assumptions of an ask.
     pub fn expect_ask(&mut self, literals: &[Literal]) -> Result<Option<Why>, AllocError>
-        ensures { IfOk result (Asks self.old self.new literals.now) }
+        ensures { IfOk result (OpensAsk self.old self.new literals.now) }
     {
         match self.await_ordered()? {
             Awaited::Cut => return Ok(None),
@@ -260,7 +260,7 @@ impl<'c> Certificate<'c> {
     }
 
     fn shows(&mut self, ask: &[Literal], line: &[Literal]) -> Result<Option<Why>, AllocError>
-        ensures fits { IfOk result (FitsHeld self.new (λ j. Shows (map (λ n. n.name) j.in_use) ask.now line.now)) }
+        ensures fits { IfOk result (ReadStepFits self.new (λ j. Shows (map (λ n. n.name) j.in_use) ask.now line.now)) }
         ensures stays { Stays self.old self.new }
     {
         let ProofStep::Model { assignment } = self.source.step() else {
@@ -289,7 +289,7 @@ impl<'c> Certificate<'c> {
         ask: &[Literal],
         line: &[Literal],
     ) -> Result<Option<Why>, AllocError>
-        ensures { IfOk result (λ why. (j : Judge) → Goes self.old self.new j (Shows (map (λ n. n.name) j.in_use) ask.now line.now ∷ []) j why) }
+        ensures { IfOk result (λ why. (j : Judge) → MeetsPending self.old self.new j (Shows (map (λ n. n.name) j.in_use) ask.now line.now ∷ []) j why) }
     {
         match self.await_ordered()? {
             Awaited::Cut => return Ok(Some(Why::AnswerDiffers)),
@@ -303,7 +303,7 @@ impl<'c> Certificate<'c> {
     }
 
     fn fails(&mut self, core: &[Literal]) -> Result<Option<Why>, AllocError>
-        ensures fits { IfOk result (λ why. (ask : List Spelled) → FitsHeld self.new (λ _. Fails ask core.now) why) }
+        ensures fits { IfOk result (λ why. (ask : List Spelled) → ReadStepFits self.new (λ _. Fails ask core.now) why) }
         ensures stays { Stays self.old self.new }
     {
         let ProofStep::FailedAssumptions { failed_core, .. } = self.source.step() else {
@@ -324,7 +324,7 @@ impl<'c> Certificate<'c> {
 
     /// Expects that this core fails. Where `unsat` is recorded only the empty one does.
     pub fn expect_core(&mut self, core: &[Literal]) -> Result<Option<Why>, AllocError>
-        ensures { IfOk result (λ why. (j : Judge) (ask : List Spelled) → Goes self.old self.new j (Fails ask core.now ∷ []) j why) }
+        ensures { IfOk result (λ why. (j : Judge) (ask : List Spelled) → MeetsPending self.old self.new j (Fails ask core.now ∷ []) j why) }
     {
         match self.await_ordered()? {
             Awaited::Cut => {
@@ -343,7 +343,7 @@ impl<'c> Certificate<'c> {
     }
 
     fn closes(&self) -> Option<Why>
-        ensures { FitsHeld self.now (λ _. Closes) result }
+        ensures { ReadStepFits self.now (λ _. Closes) result }
     {
         match self.source.step() {
             ProofStep::Assumptions { assumptions } => {
@@ -359,7 +359,7 @@ impl<'c> Certificate<'c> {
 
     /// Expects the end of an ask: assumptions without literals.
     pub fn close(&mut self) -> Result<Option<Why>, AllocError>
-        ensures { IfOk result (λ why. (j : Judge) → Goes self.old self.new j (Closes ∷ []) j why) }
+        ensures { IfOk result (λ why. (j : Judge) → MeetsPending self.old self.new j (Closes ∷ []) j why) }
     {
         match self.await_ordered()? {
             Awaited::Cut => return Ok(None),
@@ -373,7 +373,7 @@ impl<'c> Certificate<'c> {
     }
 
     fn finishes(&self) -> Option<Why>
-        ensures { FitsHeld self.now (λ _. Finish) result }
+        ensures { ReadStepFits self.now (λ _. Finish) result }
     {
         match self.source.step() {
             ProofStep::End => None,
@@ -383,7 +383,7 @@ impl<'c> Certificate<'c> {
 
     /// Expects the end of the certificate.
     pub fn finish(&mut self) -> Result<Option<Why>, AllocError>
-        ensures { IfOk result (λ why. (j : Judge) → Goes self.old self.new j (Finish ∷ []) j why) }
+        ensures { IfOk result (λ why. (j : Judge) → MeetsPending self.old self.new j (Finish ∷ []) j why) }
     {
         match self.await_ordered()? {
             Awaited::Cut => return Ok(None),

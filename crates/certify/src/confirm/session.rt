@@ -3,8 +3,8 @@ ghost use Rattle.std.specs.Prelude.{ℕ, ◌≡◌, ◌+◌, ◌++◌, List, [],
 ghost use Rattle.std.specs.Bool.{MatchBool};
 ghost use Rattle.sat_base.specs.script.Script.{names_of};
 ghost use Rattle.sat_base.specs.script.Judge.{Judge, PastLimit, refused_name};
-ghost use Rattle.certify.specs.Answers.{refused_line, malformed_line};
-ghost use Rattle.certify.specs.AnswerForms.{named_literals};
+ghost use Rattle.certify.specs.answers.Answers.{refused_line, malformed_line};
+ghost use Rattle.certify.specs.answers.AnswerForms.{named_literals};
 
 use crate::answers::read::{AnswerFault, AnswerKind, read_kind, read_line, take_text};
 use crate::answers::write::{push_malformed, push_refused_limit};
@@ -16,7 +16,7 @@ use std::alloc::{AllocError, Global};
 
 /// What is left of the answers and of the certificate.
 #[derive(Drop)]
-pub(crate) struct Session<'a> {
+pub(crate) struct Confirmation<'a> {
     pub(crate) certificate: Certificate<'a>,
     pub(crate) answers: &'a [u8],
     /// The literals of an answer's line, as it counts variables.
@@ -66,19 +66,19 @@ fn unread(fault: AnswerFault) -> Result<Why, AllocError>
     }
 }
 
-impl<'a> Session<'a> {
+impl<'a> Confirmation<'a> {
     ghost use Rattle.sat_base.specs.script.Judge.{start};
     ghost use Rattle.sat_base.specs.script.Script.{Clause, Ask, Clean, Malformed};
-    ghost use Rattle.certify.specs.ScriptParts.{end_of, shown};
-    ghost use Rattle.certify.specs.Standing.{Stands, bytes_of};
-    ghost use Rattle.certify.specs.Sessions.{TakesLine, ReadsAnswer, ShowsOutcome, ConfirmsCommand, ConfirmsEnd};
+    ghost use Rattle.certify.specs.script.ScriptParts.{end_of, shown};
+    ghost use Rattle.certify.specs.confirm.CertificateSteps.{IsFed, bytes_of};
+    ghost use Rattle.certify.specs.confirm.ConfirmedCommands.{TakesLine, ReadsAnswer, ShowsOutcome, ConfirmsCommand, ConfirmsEnd};
 
-    pub fn new(alloc: Global, answers: &'a [u8], certificate: &'a [u8]) -> Session<'a>
-        ensures stands { Stands result.certificate start [] }
+    pub fn new(alloc: Global, answers: &'a [u8], certificate: &'a [u8]) -> Confirmation<'a>
+        ensures stands { IsFed result.certificate start [] }
         ensures bytes { bytes_of result.certificate ≡ certificate.now }
         ensures answers { result.answers.now ≡ answers.now }
     {
-        Session {
+        Confirmation {
             certificate: Certificate::new(alloc, certificate),
             answers,
             codes: Vec::new(alloc),

@@ -2,8 +2,8 @@
 ghost use Rattle.std.specs.Prelude.{ℕ, ◌≡◌, ◌∷◌, [], true, IfOk, OnOk};
 ghost use Rattle.std.specs.Bool.{MatchBool};
 ghost use Rattle.std.specs.List.{AllByRecursion};
-ghost use Rattle.certify.specs.Propagation.{is_among};
-ghost use Rattle.certify.specs.Spelling.{AllAmong, SameMembers};
+ghost use Rattle.certify.specs.checker.Propagation.{is_among};
+ghost use Rattle.certify.specs.confirm.SpeltLiterals.{AllAmong, SameMembers};
 
 use crate::checker::assigned::Assigned;
 use sat_base::Lit;

@@ -1,7 +1,7 @@
 //! The steps of a certificate, one at a time.
 ghost use Rattle.std.specs.Prelude.{◌≡◌, IfOk};
 ghost use Rattle.sat_base.specs.steps.StepViews.{step_of};
-ghost use Rattle.certify.specs.HeldStep.{ReadsNext};
+ghost use Rattle.certify.specs.confirm.ReadSteps.{ReadsNext};
 
 mod buffers;
 mod cursor;
@@ -19,7 +19,7 @@ use crate::verdict::Why;
 use buffers::Buffers;
 use cursor::Cursor;
 use fields::{fields, is_tag};
-use kind::Kind;
+use kind::StepKind;
 use sat_base::ProofStep;
 use std::alloc::{AllocError, Global};
 use std::marker::Model;
@@ -30,12 +30,12 @@ use stop::Stop;
 #[derive(Drop)]
 pub(crate) struct Source<'c> {
     cursor: Cursor<'c>,
-    kind: Kind,
+    kind: StepKind,
     buffers: Buffers,
 }
 
 impl<'c> Model for Source<'c> {
-    ghost use Rattle.certify.specs.HeldStep.{Place, step_in};
+    ghost use Rattle.certify.specs.confirm.ReadSteps.{Place, step_in};
 
     ghost Value = { Place };
 
@@ -48,7 +48,7 @@ impl<'c> Source<'c> {
     {
         Source {
             cursor: Cursor::new(certificate),
-            kind: Kind::End,
+            kind: StepKind::End,
             buffers: Buffers::new(alloc),
         }
     }

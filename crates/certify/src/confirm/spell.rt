@@ -4,9 +4,9 @@ ghost use Rattle.std.specs.Bool.{MatchBool};
 ghost use Rattle.std.specs.List.{AllByRecursion};
 ghost use Rattle.sat_base.specs.script.Script.{Among, names_of};
 ghost use Rattle.sat_base.specs.script.Judge.{names_from};
-ghost use Rattle.certify.specs.Confirming.{variable_in};
-ghost use Rattle.certify.specs.Matches.{EachSpelt, SameSet};
-ghost use Rattle.certify.specs.Spelling.{AreSpelt};
+ghost use Rattle.certify.specs.confirm.CertificatePlaces.{variable_in};
+ghost use Rattle.certify.specs.confirm.Matches.{EachSpelt, SameSet};
+ghost use Rattle.certify.specs.confirm.SpeltLiterals.{AreSpelt};
 
 use crate::checker::assigned::Assigned;
 use crate::confirm::sets::{are_among, are_same};

@@ -2,10 +2,10 @@
 ghost use Rattle.std.specs.Prelude.{◌≡◌, ◌+◌, [], ◌∷◌, IfOk, OnOk};
 ghost use Rattle.std.specs.Io.KnownBytes.{Appends};
 ghost use Rattle.sat_base.specs.steps.Steps.{Assumptions};
-ghost use Rattle.certify.specs.Answers.{outcome_text};
-ghost use Rattle.certify.specs.Held.{HoldsSame};
-ghost use Rattle.certify.specs.Run.{IsSpent};
-ghost use Rattle.certify.specs.Running.{Wrote, WroteAsk, WritesSteps, WritesAnswer, WritesBoth, IsTrueOf, Asked, outcome_of, shown_by};
+ghost use Rattle.certify.specs.answers.Answers.{outcome_text};
+ghost use Rattle.certify.specs.search.SolverState.{AllowsSame};
+ghost use Rattle.certify.specs.run.FinishedRun.{IsSpent};
+ghost use Rattle.certify.specs.run.Running.{Wrote, WroteAsk, WritesSteps, WritesAnswer, WritesBoth, IsTrueOf, Asked, reported_outcome, shown_by};
 
 use super::names_in::record_step;
 use super::session::Session;
@@ -32,7 +32,7 @@ fn show<C: CountedWrite>(
     text: &mut Vec<u8>,
     certificate: &mut C,
 ) -> Result<(), RunFault>
-    ensures text { OnOk result (text.new.items ≡ outcome_text (outcome_of answer model.now)) }
+    ensures text { OnOk result (text.new.items ≡ outcome_text (reported_outcome answer model.now)) }
     ensures certificate { WritesSteps result (λ _. Wrote (shown_by answer model.now) (C.contents certificate.old) (C.contents certificate.new)) (C.failures certificate.old) (C.failures certificate.new) }
 {
     text.clear();
@@ -54,13 +54,13 @@ fn ask<C: CountedWrite>(
     budget: u64,
 ) -> Result<AskReport, RunFault>
     requires { session.old.solver.var_count ≡ session.old.names }
-    ensures same { OnOk result (HoldsSame session.old.solver session.new.solver) }
+    ensures same { OnOk result (AllowsSame session.old.solver session.new.solver) }
     ensures variables { OnOk result (session.new.solver.var_count ≡ session.old.solver.var_count) }
     ensures names { session.new.names ≡ session.old.names }
     ensures refused { session.new.refused ≡ session.old.refused }
     ensures asks { session.new.asks ≡ session.old.asks }
     ensures answer { IfOk result (λ report. IsTrueOf session.new.solver session.new.lits.items report.answer) }
-    ensures text { IfOk result (λ report. session.new.text.items ≡ outcome_text (outcome_of report.answer session.new.lits.items)) }
+    ensures text { IfOk result (λ report. session.new.text.items ≡ outcome_text (reported_outcome report.answer session.new.lits.items)) }
     ensures spent { IfOk result (λ report. IsSpent budget session.old.solver.rounds report) }
     ensures rounds { IfOk result (λ report. session.new.solver.rounds ≡ session.old.solver.rounds + report.steps) }
     ensures certificate { WritesSteps result (λ report. WroteAsk session.old.solver.var_count report.answer session.new.lits.items [] (C.contents certificate.old) (C.contents certificate.new)) (C.failures certificate.old) (C.failures certificate.new) }
@@ -87,7 +87,7 @@ pub(crate) fn answer_ask<A: CountedWrite, C: CountedWrite>(
 ) -> Result<(), RunFault>
     requires { session.old.solver.var_count ≡ session.old.names }
     ensures asked { OnOk result ((report : AskReport) × Asked budget session.old session.new report
-        × Appends (A.contents answers.old) (A.contents answers.new) (outcome_text (outcome_of report.answer session.new.lits.items))
+        × Appends (A.contents answers.old) (A.contents answers.new) (outcome_text (reported_outcome report.answer session.new.lits.items))
         × WroteAsk session.old.solver.var_count report.answer session.new.lits.items (Assumptions [] ∷ []) (C.contents certificate.old) (C.contents certificate.new)) }
     ensures written { WritesBoth result (A.failures answers.old) (A.failures answers.new) (C.failures certificate.old) (C.failures certificate.new) }
 {

@@ -1,8 +1,8 @@
 //! Takes a clause of a script.
 ghost use Rattle.std.specs.Prelude.{◌≡◌, ◌-◌, true, map, OnOk};
 ghost use Rattle.sat_base.specs.script.Script.{names_of};
-ghost use Rattle.certify.specs.Held.{TakesClause};
-ghost use Rattle.certify.specs.Running.{WritesSteps, WroteClause, are_within, code_of, raised};
+ghost use Rattle.certify.specs.search.SolverState.{GainsClause};
+ghost use Rattle.certify.specs.run.Running.{WritesSteps, WroteClause, are_within, code_of, raised};
 
 use super::lits::fill;
 use super::names_in::{bring_all, record_step};
@@ -21,7 +21,7 @@ pub(crate) fn take_clause<C: CountedWrite>(
     requires same { session.old.solver.var_count ≡ session.old.names }
     ensures names { OnOk result (session.new.names ≡ raised session.old.names (names_of literals.now)) }
     ensures variables { OnOk result (session.new.solver.var_count ≡ session.new.names) }
-    ensures clauses { OnOk result (TakesClause session.old.solver session.new.solver (map code_of literals.now)) }
+    ensures clauses { OnOk result (GainsClause session.old.solver session.new.solver (map code_of literals.now)) }
     ensures refused { session.new.refused ≡ session.old.refused }
     ensures asks { session.new.asks ≡ session.old.asks }
     ensures rounds { OnOk result (session.new.solver.rounds ≡ session.old.solver.rounds) }

@@ -2,8 +2,8 @@
 ghost use Rattle.std.specs.Prelude.{◌≡◌, ◌+◌, ◌-◌, ◌^◌, ◌≤◌, ◌<◌, [], length, MatchResult};
 ghost use Rattle.sat_base.specs.script.Script.{Malformed};
 ghost use Rattle.sat_base.specs.steps.Steps.{End};
-ghost use Rattle.certify.specs.Run.{HasCause, malformed_at};
-ghost use Rattle.certify.specs.Running.{WritesAnswer, WritesStep, Ends, malformed_text};
+ghost use Rattle.certify.specs.run.FinishedRun.{HasCause, malformed_at};
+ghost use Rattle.certify.specs.run.Running.{WritesAnswer, WritesStep, Ends, malformed_text};
 
 use super::ask::write_answer;
 use super::names_in::record_step;

@@ -1,7 +1,7 @@
 //! The literals of a clause.
 ghost use Rattle.std.specs.Prelude.{◌≡◌, ◌<◌, ◌≤◌, true, map, OnOk};
 ghost use Rattle.sat_base.specs.script.Script.{names_of};
-ghost use Rattle.certify.specs.Running.{are_within, code_of};
+ghost use Rattle.certify.specs.run.Running.{are_within, code_of};
 
 use crate::script::Literal;
 use sat_base::{Lit, Var};

@@ -3,8 +3,8 @@ ghost use Rattle.std.specs.Prelude.{◌≡◌, ◌+◌, ◌-◌, ◌<◌, ◌≤
 ghost use Rattle.sat_base.specs.values.Clauses.{Valuation};
 ghost use Rattle.sat_base.specs.values.Literals.{largest};
 ghost use Rattle.sat_base.specs.steps.StepViews.{step_of};
-ghost use Rattle.certify.specs.Held.{HoldsSame};
-ghost use Rattle.certify.specs.Running.{Wrote, WritesStep, WritesSteps, are_within, naming, raised};
+ghost use Rattle.certify.specs.search.SolverState.{AllowsSame};
+ghost use Rattle.certify.specs.run.Running.{Wrote, WritesStep, WritesSteps, are_within, naming, raised};
 ghost use Rattle.sat_base.specs.script.Script.{names_of};
 
 use crate::fault::RunFault;
@@ -36,7 +36,7 @@ fn add_name<C: CountedWrite>(
     requires same { solver.old.var_count ≡ names.old }
     ensures names { OnOk result (names.new ≡ names.old + 1) }
     ensures variables { OnOk result (solver.new.var_count ≡ names.new) }
-    ensures clauses { OnOk result (HoldsSame solver.old solver.new) }
+    ensures clauses { OnOk result (AllowsSame solver.old solver.new) }
     ensures rounds { OnOk result (solver.new.rounds ≡ solver.old.rounds) }
     ensures certificate { WritesSteps result (λ _. Wrote (naming 1 names.old) (C.contents certificate.old) (C.contents certificate.new)) (C.failures certificate.old) (C.failures certificate.new) }
 {
@@ -63,7 +63,7 @@ fn bring_in<C: CountedWrite>(
     requires same { solver.old.var_count ≡ names.old }
     ensures names { OnOk result (names.new ≡ max names.old name) }
     ensures variables { OnOk result (solver.new.var_count ≡ names.new) }
-    ensures clauses { OnOk result (HoldsSame solver.old solver.new) }
+    ensures clauses { OnOk result (AllowsSame solver.old solver.new) }
     ensures rounds { OnOk result (solver.new.rounds ≡ solver.old.rounds) }
     ensures certificate { WritesSteps result (λ _. Wrote (naming (names.new - names.old) names.old) (C.contents certificate.old) (C.contents certificate.new)) (C.failures certificate.old) (C.failures certificate.new) }
 {
@@ -84,7 +84,7 @@ pub(crate) fn bring_all<C: CountedWrite>(
     requires same { solver.old.var_count ≡ names.old }
     ensures names { OnOk result (names.new ≡ raised names.old (names_of literals.now)) }
     ensures variables { OnOk result (solver.new.var_count ≡ names.new) }
-    ensures clauses { OnOk result (HoldsSame solver.old solver.new) }
+    ensures clauses { OnOk result (AllowsSame solver.old solver.new) }
     ensures rounds { OnOk result (solver.new.rounds ≡ solver.old.rounds) }
     ensures certificate { WritesSteps result (λ _. Wrote (naming (names.new - names.old) names.old) (C.contents certificate.old) (C.contents certificate.new)) (C.failures certificate.old) (C.failures certificate.new) }
 {

@@ -1,6 +1,6 @@
 //! What a run holds between commands.
 ghost use Rattle.std.specs.Prelude.{◌≡◌, []};
-ghost use Rattle.certify.specs.Held.{fresh};
+ghost use Rattle.certify.specs.search.SolverState.{new_solver};
 
 use crate::names::Names;
 use crate::search::Solver;
@@ -26,7 +26,7 @@ impl Session {
     /// Before the first command.
     pub(crate) fn new(alloc: Global) -> Session
         ensures names { result.names ≡ 0 }
-        ensures solver { result.solver ≡ fresh }
+        ensures solver { result.solver ≡ new_solver }
         ensures refused { result.refused ≡ 0 }
         ensures asks { result.asks.items ≡ [] }
     {

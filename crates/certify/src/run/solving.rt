@@ -1,15 +1,15 @@
 //! Searches for the answer of an ask.
 ghost use Rattle.std.specs.Prelude.{◌≡◌, ◌+◌, ◌<◌, ◌≤◌, IfOk, OnOk, slice_index_or, None};
 ghost use Rattle.sat_base.specs.values.Literals.{coded, largest};
-ghost use Rattle.certify.specs.Held.{HasModel, HoldsSame};
-ghost use Rattle.certify.specs.Run.{IsSpent};
-ghost use Rattle.certify.specs.Running.{WritesSteps, WroteDerived, IsTrueOf};
-ghost use Rattle.certify.specs.Search.{is_true};
-ghost use Rattle.certify.specs.Solved.{Solves};
+ghost use Rattle.certify.specs.search.SolverState.{HasModel, AllowsSame};
+ghost use Rattle.certify.specs.run.FinishedRun.{IsSpent};
+ghost use Rattle.certify.specs.run.Running.{WritesSteps, WroteDerived, IsTrueOf};
+ghost use Rattle.certify.specs.search.Search.{is_true};
+ghost use Rattle.certify.specs.search.SearchEnds.{Solves};
 
 use crate::fault::RunFault;
 use crate::search::Solver;
-use crate::search::solve::{Answer as Found, SolveFault, solve};
+use crate::search::solve::{SearchEnd, SolveFault, solve};
 use crate::summary::{Answer, AskReport};
 use sat_base::{CountedWrite, Lit, Var};
 use std::alloc::AllocError;
@@ -40,12 +40,12 @@ fn fill_model(lits: &mut Vec<Lit>, solver: &Solver, count: usize) -> Result<(), 
 }
 
 /// Searches, with at most so many steps.
-#[tactic(auto, using(crate::proofs::Solved::finding))]
+#[tactic(auto, using(crate::proofs::lemmas::run::SearchedAsks::finding))]
 fn find<C: CountedWrite>(
     solver: &mut Solver,
     budget: u64,
     certificate: &mut C,
-) -> Result<(Found, u64), RunFault>
+) -> Result<(SearchEnd, u64), RunFault>
     ensures answers { IfOk result (λ r. Solves r.0 r.1 budget solver.old solver.new) }
     ensures certificate { WritesSteps result (λ _. WroteDerived solver.old.var_count (C.contents certificate.old) (C.contents certificate.new)) (C.failures certificate.old) (C.failures certificate.new) }
 {
@@ -57,7 +57,7 @@ fn find<C: CountedWrite>(
 }
 
 /// Searches for an answer, with at most so many steps, and lists the model where there is one.
-#[tactic(auto, using(crate::proofs::Solved::reporting))]
+#[tactic(auto, using(crate::proofs::lemmas::run::SearchedAsks::reporting))]
 pub(crate) fn solve_ask<C: CountedWrite>(
     solver: &mut Solver,
     count: usize,
@@ -67,7 +67,7 @@ pub(crate) fn solve_ask<C: CountedWrite>(
 ) -> Result<AskReport, RunFault>
     requires count { solver.old.var_count ≡ count }
     requires bound { count ≤ largest }
-    ensures same { OnOk result (HoldsSame solver.old solver.new) }
+    ensures same { OnOk result (AllowsSame solver.old solver.new) }
     ensures variables { OnOk result (solver.new.var_count ≡ solver.old.var_count) }
     ensures answer { IfOk result (λ report. IsTrueOf solver.new model.new.items report.answer) }
     ensures spent { IfOk result (λ report. IsSpent budget solver.old.rounds report) }
@@ -76,18 +76,18 @@ pub(crate) fn solve_ask<C: CountedWrite>(
 {
     let (found, steps) = find(solver, budget, certificate)?;
     match found {
-        Found::Sat => {
+        SearchEnd::Sat => {
             fill_model(model, solver, count)?;
             Ok(AskReport {
                 answer: Answer::Sat,
                 steps,
             })
         }
-        Found::Unsat => Ok(AskReport {
+        SearchEnd::Unsat => Ok(AskReport {
             answer: Answer::Unsat,
             steps,
         }),
-        Found::Unknown => Ok(AskReport {
+        SearchEnd::Unknown => Ok(AskReport {
             answer: Answer::Unknown,
             steps,
         }),

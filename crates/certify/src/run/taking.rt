@@ -1,9 +1,9 @@
 //! Takes the commands of a script.
 ghost use Rattle.std.specs.Prelude.{◌≡◌, ◌+◌, ◌<◌, ◌≤◌, OnOk, length};
 ghost use Rattle.sat_base.specs.script.Judge.{PastLimit};
-ghost use Rattle.certify.specs.Answers.{refused_line};
-ghost use Rattle.certify.specs.ScriptParts.{shown};
-ghost use Rattle.certify.specs.Running.{WritesAnswer, WritesBoth, Refused, Took, TookAll};
+ghost use Rattle.certify.specs.answers.Answers.{refused_line};
+ghost use Rattle.certify.specs.script.ScriptParts.{shown};
+ghost use Rattle.certify.specs.run.Running.{WritesAnswer, WritesBoth, Refused, Took, TookAll};
 
 use super::ask::{answer_ask, write_answer};
 use super::clause::take_clause;

@@ -3,11 +3,11 @@ ghost use Rattle.std.specs.Prelude.{◌≡◌, ◌+◌, ◌≤◌, ◌<◌, ◌�
 ghost use Rattle.sat_base.specs.device.Device.{most_reads, ReadFails, GaveAll};
 ghost use Rattle.sat_base.specs.text.Text.{Token as SpelledToken};
 ghost use Rattle.sat_base.specs.script.Script.{Literal as Spelled, Ask, Clean, Nothing, command_in, with_literal, with_letter, at_end, commands_of, has_ask};
-ghost use Rattle.certify.specs.Holding.{HeldScript, held_script, IsHeldOf};
-ghost use Rattle.certify.specs.ScriptParts.{command_of, end_of};
-ghost use Rattle.certify.specs.ScriptReading.{token_of, hand_of, commands_read, hand_in, AreCommands, Turns, EndsCommand, any_header, asked_if, meaning, malformed_behind, TakesToken, Means, TakesByte};
+ghost use Rattle.certify.specs.script.CappedNames.{CappedScript, capped_script, IsScriptOf};
+ghost use Rattle.certify.specs.script.ScriptParts.{command_of, end_of};
+ghost use Rattle.certify.specs.script.ScriptReading.{token_of, hand_of, commands_read, hand_in, AreCommands, Turns, EndsCommand, any_header, asked_if, meaning, malformed_behind, TakesToken, Means, TakesByte};
 
-use super::{Kind, Literal, Part, Script, any_ask};
+use super::{CommandKind, Literal, Part, Script, any_ask};
 use sat_base::{CountedRead, ReadError, Token, Tokenizer, read_whole};
 use std::alloc::{AllocError, Global};
 
@@ -40,13 +40,13 @@ struct Parser {
 }
 
 /// The kind of the command in hand, where a zero ends it.
-fn kind_of(hand: Hand) -> Kind
+fn kind_of(hand: Hand) -> CommandKind
     ensures { (ls : List Spelled) → (hand ≡ Hand.Nothing → ls ≡ []) → command_of result ls ≡ command_in (hand_of hand ls) }
 {
     match hand {
-        Hand::Nothing => Kind::Clause,
-        Hand::Clause => Kind::Clause,
-        Hand::Ask => Kind::Ask,
+        Hand::Nothing => CommandKind::Clause,
+        Hand::Clause => CommandKind::Clause,
+        Hand::Ask => CommandKind::Ask,
     }
 }
 
@@ -163,7 +163,7 @@ impl Commands {
         let command_count = self.parts.len();
         let end = self.literals.len();
         self.parts.push(Part {
-            kind: Kind::Ask,
+            kind: CommandKind::Ask,
             end,
         })?;
         Ok(Script::new(self.literals, self.parts, false, command_count))
@@ -186,7 +186,7 @@ impl Commands {
 
 impl Parser {
     fn new(alloc: Global) -> Parser
-        ensures { Means result held_script }
+        ensures { Means result capped_script }
     {
         Parser {
             tokenizer: Tokenizer::new(),
@@ -209,7 +209,7 @@ impl Parser {
     fn finish(mut self) -> Result<Script, AllocError>
         requires { AreCommands self.commands }
         ensures { IfOk result
-            (λ script. (before : List ℕ → HeldScript) → Means self before → script ≡ before []) }
+            (λ script. (before : List ℕ → CappedScript) → Means self before → script ≡ before []) }
     {
         match self.tokenizer.finish() {
             None => self.commands.finish(),
@@ -225,7 +225,7 @@ impl Parser {
 
 /// The script that a text spells.
 pub(crate) fn parse(alloc: Global, text: &[u8]) -> Result<Script, AllocError>
-    ensures { IfOk result (λ script. script ≡ held_script text.now) }
+    ensures { IfOk result (λ script. script ≡ capped_script text.now) }
 {
     let mut parser = Parser::new(alloc);
     for byte in text {
@@ -238,8 +238,8 @@ pub(crate) fn parse(alloc: Global, text: &[u8]) -> Result<Script, AllocError>
 
 /// Reads a script to the end of its text.
 pub fn read_script<R: CountedRead>(alloc: Global, reader: &mut R) -> Result<Script, ReadError>
-    // The script is what the bytes that were given spell, with names past 2^28 held at 2^28+1.
-    ensures script { IfOk result (λ script. IsHeldOf (GaveAll R.given R.ended R.remaining reader.old reader.new) script) }
+    // The script is what the bytes that were given spell, with names past 2^28 capped at 2^28+1.
+    ensures script { IfOk result (λ script. IsScriptOf (GaveAll R.given R.ended R.remaining reader.old reader.new) script) }
     ensures kept { OnOk result (R.failures reader.new ≡ R.failures reader.old) }
     // None is tried again.
     ensures failed { IsErrOf result ReadError.Failed

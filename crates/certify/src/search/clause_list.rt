@@ -17,7 +17,7 @@ impl Model for ClauseList {
 
     ghost Value = { List (List ℕ) };
 
-    ghost use Rattle.certify.specs.Cuts.{pieces, AreEnds};
+    ghost use Rattle.certify.specs.search.Pieces.{pieces, AreEnds};
 
     ghost view = { λ s. pieces 0 s.ends.items s.literals.items };
 
@@ -32,7 +32,7 @@ fn start_at(ends: &[usize], place: usize) -> usize
     if place == 0 { 0 } else { ends[place - 1] }
 }
 
-#[tactic(auto, using(crate::proofs::SearchPieces::cuts))]
+#[tactic(auto, using(crate::proofs::lemmas::search::Pieces::cuts))]
 impl ClauseList {
     pub(crate) fn new(alloc: Global) -> ClauseList
         ensures { result ≡ [] }

@@ -2,8 +2,8 @@
 ghost use Rattle.std.specs.Prelude.{◌≡◌, ◌<◌, ◌≤◌, [], length, vec_len, IfOk, OnOk, OnErr, IsTrue};
 ghost use Rattle.std.specs.List.Sorted.{IsStrictlyIncreasing};
 ghost use Rattle.sat_base.specs.values.Literals.{variable};
-ghost use Rattle.certify.specs.Search.{IsBounded, AreBounded};
-ghost use Rattle.certify.specs.Kept.{IsNormalOf, IsTautology, UnitsFollow, Keeps};
+ghost use Rattle.certify.specs.search.Search.{IsBounded, AreBounded};
+ghost use Rattle.certify.specs.search.KeptClauses.{IsNormalOf, IsTautology, UnitsFollow, KeepsClause};
 
 use crate::search::clause_list::ClauseList;
 use crate::search::look::is_false;
@@ -22,7 +22,7 @@ pub(crate) fn normalize(clause: &mut Vec<Lit>, lits: &[Lit]) -> Result<(), Alloc
 }
 
 /// Whether two neighbours are each other's negations.
-#[tactic(auto, using(crate::proofs::SearchKeeping::tautologies))]
+#[tactic(auto, using(crate::proofs::lemmas::search::KeptClauses::tautologies))]
 fn is_tautology(clause: &[Lit]) -> bool
     ensures { IsTrue result → IsTautology clause.now }
 {
@@ -36,7 +36,7 @@ fn is_tautology(clause: &[Lit]) -> bool
 
 /// Keeps a clause, unless it is a tautology. The answer is whether the clauses are unsatisfiable by it at once: it is
 /// empty, or its only literal's negation is a unit.
-#[tactic(auto, using(crate::proofs::SearchKeeping::keeping))]
+#[tactic(auto, using(crate::proofs::lemmas::search::KeptClauses::keeping))]
 pub(crate) fn keep(
     clauses: &mut ClauseList,
     units: &mut [Option<bool>],
@@ -45,7 +45,7 @@ pub(crate) fn keep(
     requires bounded { IsBounded (length units.old) clause.now }
     requires units_follow { UnitsFollow clauses.old units.old }
     requires all_bounded { AreBounded (length units.old) clauses.old }
-    ensures keeps { IfOk result (λ unsat. Keeps unsat clauses.old clauses.new clause.now) }
+    ensures keeps { IfOk result (λ unsat. KeepsClause unsat clauses.old clauses.new clause.now) }
     ensures units_follow { UnitsFollow clauses.new units.new }
     ensures all_bounded { AreBounded (length units.old) clauses.new }
     ensures err { OnErr result (clauses.new ≡ clauses.old) }

@@ -1,7 +1,7 @@
 //! What a clause says under the values so far.
 ghost use Rattle.std.specs.Prelude.{◌≡◌, ◌<◌, ◌≤◌, length, slice_index_or, None, Some, MatchOption};
 ghost use Rattle.sat_base.specs.values.Literals.{variable};
-ghost use Rattle.certify.specs.Search.{value_of, is_false, is_open, verdict, IsBounded};
+ghost use Rattle.certify.specs.search.Search.{value_of, is_false, is_open, look_of, IsBounded};
 
 use sat_base::Lit;
 
@@ -39,7 +39,7 @@ pub(crate) fn is_false(values: &[Option<bool>], lit: Lit) -> bool
 /// Looks at a clause.
 pub(crate) fn look_at(clause: &[Lit], values: &[Option<bool>]) -> Look
     requires { IsBounded (length values.now) clause.now }
-    ensures { result ≡ verdict values.now clause.now }
+    ensures { result ≡ look_of values.now clause.now }
 {
     let mut open = None;
     for lit in clause {

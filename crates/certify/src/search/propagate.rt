@@ -1,8 +1,8 @@
 //! Propagation by scanning all clauses, and the decisions of one round.
 ghost use Rattle.std.specs.Prelude.{◌≡◌, ◌<◌, ◌≤◌, [], length, slice_set, IfOk, OnErr, MatchOption, None, Some};
 ghost use Rattle.sat_base.specs.values.Literals.{variable, is_positive, largest};
-ghost use Rattle.certify.specs.Search.{open_count, AreBounded, IsBounded, Follows, AllOpen, AllAssigned, IsLowestOpen};
-ghost use Rattle.certify.specs.SearchSays.{MetSays, ScanSays, PropagateSays, EndSays};
+ghost use Rattle.certify.specs.search.Search.{open_count, AreBounded, IsBounded, ValuesFollow, AllOpen, AllAssigned, IsLowestOpen};
+ghost use Rattle.certify.specs.search.ScanEnds.{MetSays, ScanSays, PropagateSays, EndSays};
 
 use crate::search::clause_list::ClauseList;
 use crate::search::look::{Look, look_at};
@@ -54,7 +54,7 @@ fn name_clause(hashes: &mut Vec<ClauseHash>, clause: &[Lit]) -> Result<(), Alloc
 }
 
 /// Takes what a clause opens.
-#[tactic(auto, using(crate::proofs::SearchValues::opened_bounded))]
+#[tactic(auto, using(crate::proofs::lemmas::search::OpenValues::opened_bounded))]
 fn meet(
     clause: &[Lit],
     values: &mut [Option<bool>],
@@ -79,7 +79,7 @@ fn meet(
 }
 
 /// Looks at each clause in turn, and takes what it opens.
-#[tactic(auto, using(crate::proofs::SearchScan::scanning))]
+#[tactic(auto, using(crate::proofs::lemmas::search::Scans::scanning))]
 fn scan(
     clauses: &ClauseList,
     values: &mut [Option<bool>],
@@ -87,7 +87,7 @@ fn scan(
 ) -> Result<Met, AllocError>
     requires { AreBounded (length values.old) clauses.now }
     ensures says { IfOk result (λ met. ScanSays met clauses.now values.old values.new) }
-    ensures follows { Follows clauses.now values.old values.new }
+    ensures follows { ValuesFollow clauses.now values.old values.new }
     ensures fewer { open_count values.new ≤ open_count values.old }
 {
     let mut assigned = false;
@@ -108,7 +108,7 @@ fn scan(
 }
 
 /// Scans until nothing changes. The answer is whether a clause was falsified.
-#[tactic(auto, using(crate::proofs::SearchScan::rescanning))]
+#[tactic(auto, using(crate::proofs::lemmas::search::Scans::rescanning))]
 fn propagate(
     clauses: &ClauseList,
     values: &mut [Option<bool>],
@@ -116,7 +116,7 @@ fn propagate(
 ) -> Result<bool, AllocError>
     requires { AreBounded (length values.old) clauses.now }
     ensures says { IfOk result (λ conflict. PropagateSays conflict clauses.now values.new) }
-    ensures follows { Follows clauses.now values.old values.new }
+    ensures follows { ValuesFollow clauses.now values.old values.new }
     ensures fewer { open_count values.new ≤ open_count values.old }
 {
     loop {
@@ -130,7 +130,7 @@ fn propagate(
 
 /// One round of search from no values: propagates, and decides the lowest open variable as false, until a clause is
 /// falsified or every variable has a value. `learned` gets the negations of the decisions.
-#[tactic(auto, using(crate::proofs::SearchDecisions::deciding))]
+#[tactic(auto, using(crate::proofs::lemmas::search::Decisions::deciding))]
 pub(crate) fn search(
     clauses: &ClauseList,
     values: &mut [Option<bool>],

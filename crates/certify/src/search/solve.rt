@@ -1,8 +1,8 @@
 //! Rounds of search up to an answer.
 ghost use Rattle.std.specs.Prelude.{◌≡◌, MatchResult, IfOk};
 ghost use Rattle.sat_base.specs.device.Writing.{written_by};
-ghost use Rattle.certify.specs.Search.{IsBounded};
-ghost use Rattle.certify.specs.Solved.{Solves, WritesDerived, conflicts, IsTrueFault};
+ghost use Rattle.certify.specs.search.Search.{IsBounded};
+ghost use Rattle.certify.specs.search.SearchEnds.{Solves, WritesDerived, conflicts, IsTrueFault};
 
 use crate::search::Solver;
 use crate::search::propagate::RoundEnd;
@@ -11,7 +11,7 @@ use std::alloc::AllocError;
 
 /// What an ask is answered.
 #[derive(Clone, Copy, Debug, Drop, PartialEq, Eq)]
-pub(crate) enum Answer {
+pub(crate) enum SearchEnd {
     Sat,
     Unsat,
     /// The rounds are spent.
@@ -37,7 +37,7 @@ impl From<AllocError> for SolveFault {
 }
 
 /// Writes the step of the clause last learned.
-#[tactic(auto, using(crate::proofs::SearchAsking::writing))]
+#[tactic(auto, using(crate::proofs::lemmas::search::DerivedSteps::writing))]
 fn write_learned<W: CountedWrite>(solver: &Solver, proof: &mut W) -> Result<(), SolveFault>
     requires { IsBounded solver.now.var_count solver.now.learned }
     ensures { MatchResult result
@@ -57,12 +57,12 @@ fn write_learned<W: CountedWrite>(solver: &Solver, proof: &mut W) -> Result<(), 
 
 /// Searches until there is an answer, for at most `budget` rounds, and writes a step for each clause learned. Beside the
 /// answer comes the number of rounds.
-#[tactic(auto, using(crate::proofs::SearchAsking::asking))]
+#[tactic(auto, using(crate::proofs::lemmas::search::DerivedSteps::asking))]
 pub(crate) fn solve<W: CountedWrite>(
     solver: &mut Solver,
     budget: u64,
     proof: &mut W,
-) -> Result<(Answer, u64), SolveFault>
+) -> Result<(SearchEnd, u64), SolveFault>
     ensures answers { IfOk result (λ r. Solves r.0 r.1 budget solver.old solver.new) }
     ensures writes { MatchResult result
         (λ r. WritesDerived solver.old.var_count (conflicts r.0 r.1) (written_by W.contents W.failures proof.old) (written_by W.contents W.failures proof.new))
@@ -71,16 +71,16 @@ pub(crate) fn solve<W: CountedWrite>(
     let mut spent = 0;
     while !solver.unsat() {
         if spent == budget {
-            return Ok((Answer::Unknown, spent));
+            return Ok((SearchEnd::Unknown, spent));
         }
         if solver.rounds() == u64::MAX {
-            return Ok((Answer::Unknown, spent));
+            return Ok((SearchEnd::Unknown, spent));
         }
         match solver.round()? {
-            RoundEnd::Model => return Ok((Answer::Sat, spent + 1)),
+            RoundEnd::Model => return Ok((SearchEnd::Sat, spent + 1)),
             RoundEnd::Conflict => write_learned(solver, proof)?,
         }
         spent += 1;
     }
-    Ok((Answer::Unsat, spent))
+    Ok((SearchEnd::Unsat, spent))
 }

@@ -2,7 +2,7 @@
 
 use crate::search::Solver;
 use crate::search::propagate::RoundEnd;
-use crate::search::solve::{Answer, solve};
+use crate::search::solve::{SearchEnd, solve};
 use sat_base::{ClauseHash, Counted, Lit, Var, clause_hash};
 use std::alloc::Global;
 use std::test::Fail;
@@ -221,7 +221,7 @@ fn solvers_answer_so(rt: HostRuntime) -> Result<(), Fail> {
 }
 
 /// An answer, the rounds that it took, and the length of what was written.
-type Found = (Answer, u64, usize);
+type Found = (SearchEnd, u64, usize);
 
 fn found(
     alloc: Global,
@@ -260,7 +260,7 @@ type Row = (
     usize,
     &'static [&'static [i64]],
     u64,
-    Answer,
+    SearchEnd,
     u64,
     usize,
     usize,
@@ -268,13 +268,13 @@ type Row = (
 
 /// A learned step has a tag, a flag, two counts, a byte for the literal, and ten, nine or so bytes for a hash.
 const ANSWERS: [Row; 7] = [
-    (2, ALL_OF_TWO, 1 << 20, Answer::Unsat, 2, 9, 49),
-    (2, ALL_OF_TWO, 2, Answer::Unsat, 2, 9, 49),
-    (2, ALL_OF_TWO, 1, Answer::Unknown, 1, 4, 25),
-    (2, ALL_OF_TWO, 0, Answer::Unknown, 0, 0, 0),
-    (1, &[&[1], &[-1]], 0, Answer::Unsat, 0, 0, 0),
-    (2, &[&[1, 2]], 1, Answer::Sat, 1, 0, 0),
-    (0, &[], 1, Answer::Sat, 1, 0, 0),
+    (2, ALL_OF_TWO, 1 << 20, SearchEnd::Unsat, 2, 9, 49),
+    (2, ALL_OF_TWO, 2, SearchEnd::Unsat, 2, 9, 49),
+    (2, ALL_OF_TWO, 1, SearchEnd::Unknown, 1, 4, 25),
+    (2, ALL_OF_TWO, 0, SearchEnd::Unknown, 0, 0, 0),
+    (1, &[&[1], &[-1]], 0, SearchEnd::Unsat, 0, 0, 0),
+    (2, &[&[1, 2]], 1, SearchEnd::Sat, 1, 0, 0),
+    (0, &[], 1, SearchEnd::Sat, 1, 0, 0),
 ];
 
 #[test]
@@ -292,6 +292,6 @@ fn asks_are_answered(rt: HostRuntime) -> Result<(), Fail> {
 
 #[test]
 fn three_pigeons_in_two_holes_are_refuted(rt: HostRuntime) -> Result<(), Fail> {
-    assert!(rt; answered(rt.alloc(), 6, PIGEONS, 64)?.0 == Answer::Unsat);
+    assert!(rt; answered(rt.alloc(), 6, PIGEONS, 64)?.0 == SearchEnd::Unsat);
     Ok(())
 }

@@ -1,5 +1,5 @@
 use Rattle.sat_base.specs.device.Device.{GaveAll}
-use Rattle.certify.proofs.Deciding.{exact, sound}
+use Rattle.certify.proofs.lemmas.confirm.DecidedTexts.{exact, sound}
 use Rattle.certify.proofs.confirm.confirm.Goals as goal
 
 pub returns-in-Ok-confirm_texts-clause-exact : goal.returns-in-Ok-confirm_texts-clause-exact

@@ -1,6 +1,6 @@
 use Rattle.std.proofs.Common.{◌≡◌, ◌+◌, length, IfOk, ap, subst}
-use Rattle.certify.specs.Sessions.{ConfirmsEnd}
-use Rattle.certify.proofs.EndLaws.{end_is}
+use Rattle.certify.specs.confirm.ConfirmedCommands.{ConfirmsEnd}
+use Rattle.certify.proofs.lemmas.confirm.ScriptEnds.{end_is}
 use Rattle.certify.proofs.confirm.confirm_rest.Goals as goal
 
 pub returns : goal.returns

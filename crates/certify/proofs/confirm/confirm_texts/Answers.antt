@@ -1,6 +1,6 @@
 use Rattle.std.proofs.Common.{◌≡◌, ◌≤◌, length, arith}
-use Rattle.certify.specs.ScriptParts.{shown}
-use Rattle.certify.proofs.EndLaws.{reached_more, reached_barred, reached_yes, reached_no}
+use Rattle.certify.specs.script.ScriptParts.{shown}
+use Rattle.certify.proofs.lemmas.confirm.ScriptEnds.{reached_more, reached_barred, reached_yes, reached_no}
 use Rattle.certify.proofs.confirm.confirm_texts.Goals as goal
 
 pub returns-in-Some : goal.returns-in-Some

@@ -1,6 +1,6 @@
 use Rattle.std.specs.List.{AllByRecursion}
-use Rattle.certify.specs.Sessions.{CountFromOne}
-use Rattle.certify.proofs.EndLaws.{Reached}
+use Rattle.certify.specs.confirm.ConfirmedCommands.{CountFromOne}
+use Rattle.certify.proofs.lemmas.confirm.ScriptEnds.{Reached}
 use Rattle.certify.proofs.confirm.confirm_texts.Given as goal
 
 abbrev pub invariant-loop-index : goal.invariant-loop-index

@@ -1,4 +1,4 @@
-use Rattle.certify.proofs.Held.{holding_is_free}
+use Rattle.certify.proofs.lemmas.script.CappedNames.{holding_is_free}
 use Rattle.certify.proofs.law_script.holding_laws.Goals as goal
 
 pub returns : goal.returns

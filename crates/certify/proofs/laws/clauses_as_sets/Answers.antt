@@ -1,4 +1,4 @@
-use Rattle.certify.proofs.Plain.{repeated, tautology}
+use Rattle.certify.proofs.lemmas.laws.DefinitionLaws.{repeated, tautology}
 use Rattle.certify.proofs.laws.clauses_as_sets.Goals as goal
 
 pub returns-clause-repeat : goal.returns-clause-repeat

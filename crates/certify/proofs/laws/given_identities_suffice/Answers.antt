@@ -1,4 +1,4 @@
-use Rattle.certify.proofs.Kept.{given_suffice}
+use Rattle.certify.proofs.lemmas.laws.JudgeStates.{given_suffice}
 use Rattle.certify.proofs.laws.given_identities_suffice.Goals as goal
 
 pub returns : goal.returns

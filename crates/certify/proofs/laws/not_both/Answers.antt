@@ -1,4 +1,4 @@
-use Rattle.certify.proofs.Plain.{not_both}
+use Rattle.certify.proofs.lemmas.laws.DefinitionLaws.{not_both}
 use Rattle.certify.proofs.laws.not_both.Goals as goal
 
 pub returns : goal.returns

@@ -1,4 +1,4 @@
-use Rattle.certify.proofs.CertifiedRows as rows
+use Rattle.certify.proofs.lemmas.laws.CertifiedRows as rows
 use Rattle.certify.proofs.laws.rows_of_certificates.Goals as goal
 
 pub returns-clause-model : goal.returns-clause-model

@@ -1,4 +1,4 @@
-use Rattle.certify.proofs.Rows as rows
+use Rattle.certify.proofs.lemmas.laws.Rows as rows
 use Rattle.certify.proofs.laws.rows_of_names.Goals as goal
 
 pub returns-clause-hidden : goal.returns-clause-hidden

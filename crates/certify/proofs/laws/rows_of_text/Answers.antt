@@ -1,4 +1,4 @@
-use Rattle.certify.proofs.Rows as rows
+use Rattle.certify.proofs.lemmas.laws.Rows as rows
 use Rattle.certify.proofs.laws.rows_of_text.Goals as goal
 
 pub returns-clause-empty : goal.returns-clause-empty

@@ -1,4 +1,4 @@
-use Rattle.certify.proofs.Rows as rows
+use Rattle.certify.proofs.lemmas.laws.Rows as rows
 use Rattle.certify.proofs.laws.rows_that_fail.Goals as goal
 
 pub returns-clause-old_variable : goal.returns-clause-old_variable

@@ -1,4 +1,4 @@
-use Rattle.certify.proofs.Texts.{texts_tell}
+use Rattle.certify.proofs.lemmas.laws.TellingTexts.{texts_tell}
 use Rattle.certify.proofs.laws.texts_tell_outcomes.Goals as goal
 
 pub returns : goal.returns

@@ -1,5 +1,5 @@
 use Rattle.std.proofs.Common.{refl}
-use Rattle.certify.proofs.Finishing.{took_none, finishes}
+use Rattle.certify.proofs.lemmas.run.FinishedRuns.{took_none, finishes}
 use Rattle.certify.proofs.run.answer.Goals as goal
 
 pub take_all-requires-clause-first : goal.take_all-requires-clause-first

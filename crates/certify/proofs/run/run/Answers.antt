@@ -1,5 +1,5 @@
 use Rattle.sat_base.specs.device.Device.{GaveAll}
-use Rattle.certify.proofs.Finishing.{finished_if, too_many, run_fault, kept_answers, kept_certificate}
+use Rattle.certify.proofs.lemmas.run.FinishedRuns.{finished_if, too_many, run_fault, kept_answers, kept_certificate}
 use Rattle.certify.proofs.run.run.Goals as goal
 
 pub returns-clause-finished : goal.returns-clause-finished

@@ -1,5 +1,5 @@
 use Rattle.std.proofs.Common.{◌≡◌, drop}
-use Rattle.certify.specs.ScriptParts.{any_ask}
+use Rattle.certify.specs.script.ScriptParts.{any_ask}
 use Rattle.certify.proofs.script.any_ask.Given as goal
 
 abbrev pub invariant-loop-part : goal.invariant-loop-part

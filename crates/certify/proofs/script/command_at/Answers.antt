@@ -1,7 +1,7 @@
 use Rattle.std.proofs.Common.{◌≤◌, length, arith, rules}
-use Rattle.certify.specs.declared.script.Kind.TheVariants as kind
+use Rattle.certify.specs.declared.script.CommandKind.TheVariants as kind
 use Rattle.certify.specs.declared.script.Part.{Part}
-use Rattle.certify.proofs.Parts.{bounds, part_at}
+use Rattle.certify.proofs.lemmas.script.ScriptParts.{bounds, part_at}
 use Rattle.certify.proofs.script.command_at.Goals as goal
 
 -- what is read past the end, which never happens

@@ -1,4 +1,4 @@
-use Rattle.certify.proofs.Parts.{start_of-index}
+use Rattle.certify.proofs.lemmas.script.ScriptParts.{start_of-index}
 use Rattle.certify.proofs.script.start_of.Goals as goal
 
 pub returns-else-index-eq0 : goal.returns-else-index-eq0

@@ -1,7 +1,7 @@
-//! Bytes that are held, and read from the front.
+//! Bytes that are read from the front.
 ghost use Rattle.std.specs.Prelude.{◌≡◌, ◌∷◌, ◌^◌, ◌<◌, ◌≤◌, [], MatchOption};
 ghost use Rattle.sat_base.specs.steps.Numbers.{IsBelow};
-ghost use Rattle.certify.specs.SourceReading.{Takes};
+ghost use Rattle.certify.specs.confirm.SourceReading.{ReadsValue};
 
 use super::numbers::number;
 use super::stop::Stop;
@@ -43,7 +43,7 @@ impl<'c> Cursor<'c> {
     pub(crate) fn number(&mut self, limit: u128) -> Result<u64, Stop>
         requires one { 1 < limit }
         requires word { limit ≤ 2 ^ 64 }
-        ensures { Takes (IsBelow limit) result self.old self.new }
+        ensures { ReadsValue (IsBelow limit) result self.old self.new }
     {
         let (value, rest) = number(self.rest, limit)?;
         self.rest = rest;

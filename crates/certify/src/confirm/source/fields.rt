@@ -2,69 +2,69 @@
 ghost use Rattle.std.specs.Prelude.{◌≡◌, List, ℕ, IsTrue, false};
 ghost use Rattle.sat_base.specs.steps.Kinds.{is_tag, has_lists};
 ghost use Rattle.sat_base.specs.device.Reading.{Behind};
-ghost use Rattle.certify.specs.HeldStep.{step_in};
-ghost use Rattle.certify.specs.SourceReading.{Takes, valued};
+ghost use Rattle.certify.specs.confirm.ReadSteps.{step_in};
+ghost use Rattle.certify.specs.confirm.SourceReading.{ReadsValue, valued};
 
 use super::buffers::Buffers;
 use super::cursor::Cursor;
 use super::groups::{clause_and_deletion, flag_and_lists, variable_and_flag, variables};
-use super::kind::Kind;
+use super::kind::StepKind;
 use super::lists::{both_lists, literals, units};
 use super::stop::Stop;
 use super::values::{variable, width};
 
 /// Takes what stands behind the tag of a step without lists.
-fn plain_fields(tag: u8, cursor: &mut Cursor<'_>) -> Result<Kind, Stop>
+fn plain_fields(tag: u8, cursor: &mut Cursor<'_>) -> Result<StepKind, Stop>
     requires known { IsTrue (is_tag tag) }
     requires plain { has_lists tag ≡ false }
-    ensures { (literals hashes : List ℕ) (units : List (ℕ × ℕ)) → Takes (Behind tag) (valued (λ k. step_in k literals hashes units) result) cursor.old cursor.new }
+    ensures { (literals hashes : List ℕ) (units : List (ℕ × ℕ)) → ReadsValue (Behind tag) (valued (λ k. step_in k literals hashes units) result) cursor.old cursor.new }
 {
     if tag == 1 {
         let (global, solver) = variables(cursor)?;
-        Ok(Kind::SolverVarName { global, solver })
+        Ok(StepKind::SolverVarName { global, solver })
     } else if tag == 2 {
         let (global, user) = variables(cursor)?;
-        Ok(Kind::UserVarName { global, user })
+        Ok(StepKind::UserVarName { global, user })
     } else if tag == 3 {
         let var = variable(cursor)?;
-        Ok(Kind::DeleteVar { var })
+        Ok(StepKind::DeleteVar { var })
     } else if tag == 4 {
         let (var, sample) = variable_and_flag(cursor)?;
-        Ok(Kind::ChangeSamplingMode { var, sample })
+        Ok(StepKind::ChangeSamplingMode { var, sample })
     } else if tag == 9 {
         let bits = width(cursor)?;
-        Ok(Kind::ChangeHashBits { bits })
+        Ok(StepKind::ChangeHashBits { bits })
     } else {
-        Ok(Kind::End)
+        Ok(StepKind::End)
     }
 }
 
 /// Takes what stands behind the tag of a step with lists.
-fn list_fields(tag: u8, cursor: &mut Cursor<'_>, buffers: &mut Buffers) -> Result<Kind, Stop>
+fn list_fields(tag: u8, cursor: &mut Cursor<'_>, buffers: &mut Buffers) -> Result<StepKind, Stop>
     requires { IsTrue (has_lists tag) }
-    ensures { Takes (Behind tag) (valued (λ k. step_in k buffers.new.literals.items buffers.new.hashes.items buffers.new.units.items) result) cursor.old cursor.new }
+    ensures { ReadsValue (Behind tag) (valued (λ k. step_in k buffers.new.literals.items buffers.new.hashes.items buffers.new.units.items) result) cursor.old cursor.new }
 {
     if tag == 5 {
         literals(cursor, &mut buffers.literals)?;
-        Ok(Kind::AddClause)
+        Ok(StepKind::AddClause)
     } else if tag == 6 {
         let redundant = flag_and_lists(cursor, buffers)?;
-        Ok(Kind::AtClause { redundant })
+        Ok(StepKind::AtClause { redundant })
     } else if tag == 7 {
         units(cursor, &mut buffers.units)?;
-        Ok(Kind::UnitClauses)
+        Ok(StepKind::UnitClauses)
     } else if tag == 8 {
         let proof = clause_and_deletion(cursor, buffers)?;
-        Ok(Kind::DeleteClause { proof })
+        Ok(StepKind::DeleteClause { proof })
     } else if tag == 10 {
         literals(cursor, &mut buffers.literals)?;
-        Ok(Kind::Model)
+        Ok(StepKind::Model)
     } else if tag == 11 {
         literals(cursor, &mut buffers.literals)?;
-        Ok(Kind::Assumptions)
+        Ok(StepKind::Assumptions)
     } else {
         both_lists(cursor, buffers)?;
-        Ok(Kind::FailedAssumptions)
+        Ok(StepKind::FailedAssumptions)
     }
 }
 
@@ -83,9 +83,13 @@ fn has_lists(tag: u8) -> bool
 }
 
 /// Takes what stands behind a tag.
-pub(crate) fn fields(tag: u8, cursor: &mut Cursor<'_>, buffers: &mut Buffers) -> Result<Kind, Stop>
+pub(crate) fn fields(
+    tag: u8,
+    cursor: &mut Cursor<'_>,
+    buffers: &mut Buffers,
+) -> Result<StepKind, Stop>
     requires { IsTrue (is_tag tag) }
-    ensures { Takes (Behind tag) (valued (λ k. step_in k buffers.new.literals.items buffers.new.hashes.items buffers.new.units.items) result) cursor.old cursor.new }
+    ensures { ReadsValue (Behind tag) (valued (λ k. step_in k buffers.new.literals.items buffers.new.hashes.items buffers.new.units.items) result) cursor.old cursor.new }
 {
     if has_lists(tag) {
         list_fields(tag, cursor, buffers)

@@ -2,7 +2,7 @@
 ghost use Rattle.sat_base.specs.steps.Formats.{Both};
 ghost use Rattle.sat_base.specs.steps.StepText.{IsVariable, IsOptionalVariable, IsFlag, IsDeletion, AreLiterals, AreHashes};
 ghost use Rattle.sat_base.specs.steps.StepViews.{deletion_of};
-ghost use Rattle.certify.specs.SourceReading.{Takes, valued};
+ghost use Rattle.certify.specs.confirm.SourceReading.{ReadsValue, valued};
 
 use super::buffers::Buffers;
 use super::cursor::Cursor;
@@ -13,7 +13,7 @@ use sat_base::{DeleteClauseProof, Var};
 
 /// Takes a variable, and then one that may be none.
 pub(crate) fn variables(cursor: &mut Cursor<'_>) -> Result<(Var, Option<Var>), Stop>
-    ensures { Takes (Both IsVariable IsOptionalVariable) result cursor.old cursor.new }
+    ensures { ReadsValue (Both IsVariable IsOptionalVariable) result cursor.old cursor.new }
 {
     let first = variable(cursor)?;
     let second = optional(cursor)?;
@@ -21,7 +21,7 @@ pub(crate) fn variables(cursor: &mut Cursor<'_>) -> Result<(Var, Option<Var>), S
 }
 
 pub(crate) fn variable_and_flag(cursor: &mut Cursor<'_>) -> Result<(Var, bool), Stop>
-    ensures { Takes (Both IsVariable IsFlag) result cursor.old cursor.new }
+    ensures { ReadsValue (Both IsVariable IsFlag) result cursor.old cursor.new }
 {
     let var = variable(cursor)?;
     let flag = flag(cursor)?;
@@ -29,7 +29,7 @@ pub(crate) fn variable_and_flag(cursor: &mut Cursor<'_>) -> Result<(Var, bool), 
 }
 
 pub(crate) fn flag_and_lists(cursor: &mut Cursor<'_>, buffers: &mut Buffers) -> Result<bool, Stop>
-    ensures { Takes (Both IsFlag (Both AreLiterals AreHashes)) (valued (λ f. (f, (buffers.new.literals.items, buffers.new.hashes.items))) result) cursor.old cursor.new }
+    ensures { ReadsValue (Both IsFlag (Both AreLiterals AreHashes)) (valued (λ f. (f, (buffers.new.literals.items, buffers.new.hashes.items))) result) cursor.old cursor.new }
 {
     let flag = flag(cursor)?;
     both_lists(cursor, buffers)?;
@@ -40,7 +40,7 @@ pub(crate) fn clause_and_deletion(
     cursor: &mut Cursor<'_>,
     buffers: &mut Buffers,
 ) -> Result<DeleteClauseProof, Stop>
-    ensures { Takes (Both AreLiterals IsDeletion) (valued (λ p. (buffers.new.literals.items, deletion_of p)) result) cursor.old cursor.new }
+    ensures { ReadsValue (Both AreLiterals IsDeletion) (valued (λ p. (buffers.new.literals.items, deletion_of p)) result) cursor.old cursor.new }
 {
     literals(cursor, &mut buffers.literals)?;
     deletion(cursor)

@@ -4,7 +4,7 @@ use sat_base::{DeleteClauseProof, HashBits, Var};
 
 /// Which step it is, and what it has beside its lists.
 #[derive(Clone, Copy, Debug)]
-pub(crate) enum Kind {
+pub(crate) enum StepKind {
     SolverVarName { global: Var, solver: Option<Var> },
     UserVarName { global: Var, user: Option<Var> },
     DeleteVar { var: Var },

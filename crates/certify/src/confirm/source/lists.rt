@@ -2,7 +2,7 @@
 ghost use Rattle.std.specs.Prelude.{◌≡◌, []};
 ghost use Rattle.sat_base.specs.steps.Formats.{Times, Both};
 ghost use Rattle.sat_base.specs.steps.StepText.{IsLiteral, IsHash, AreLiterals, AreHashes, AreUnits};
-ghost use Rattle.certify.specs.SourceReading.{Takes, giving};
+ghost use Rattle.certify.specs.confirm.SourceReading.{ReadsValue, giving};
 
 use super::buffers::Buffers;
 use super::cursor::Cursor;
@@ -16,7 +16,7 @@ const CODES: u128 = 1 << 29;
 const WORDS: u128 = 1 << 64;
 
 fn literal(cursor: &mut Cursor<'_>) -> Result<Lit, Stop>
-    ensures { Takes IsLiteral result cursor.old cursor.new }
+    ensures { ReadsValue IsLiteral result cursor.old cursor.new }
 {
     let code = cursor.number(CODES)?;
     Ok(Lit::from_code(code as usize))
@@ -24,7 +24,7 @@ fn literal(cursor: &mut Cursor<'_>) -> Result<Lit, Stop>
 
 fn literal_items(cursor: &mut Cursor<'_>, count: u64, lits: &mut Vec<Lit>) -> Result<(), Stop>
     requires { lits.old.items ≡ [] }
-    ensures { Takes (Times IsLiteral count) (giving lits.new.items result) cursor.old cursor.new }
+    ensures { ReadsValue (Times IsLiteral count) (giving lits.new.items result) cursor.old cursor.new }
 {
     for _ in 0..count {
         let lit = literal(cursor)?;
@@ -35,7 +35,7 @@ fn literal_items(cursor: &mut Cursor<'_>, count: u64, lits: &mut Vec<Lit>) -> Re
 
 fn hash_items(cursor: &mut Cursor<'_>, count: u64, hashes: &mut Vec<ClauseHash>) -> Result<(), Stop>
     requires { hashes.old.items ≡ [] }
-    ensures { Takes (Times IsHash count) (giving hashes.new.items result) cursor.old cursor.new }
+    ensures { ReadsValue (Times IsHash count) (giving hashes.new.items result) cursor.old cursor.new }
 {
     for _ in 0..count {
         let hash = cursor.number(WORDS)?;
@@ -45,7 +45,7 @@ fn hash_items(cursor: &mut Cursor<'_>, count: u64, hashes: &mut Vec<ClauseHash>)
 }
 
 fn unit(cursor: &mut Cursor<'_>) -> Result<(Lit, ClauseHash), Stop>
-    ensures { Takes (Both IsLiteral IsHash) result cursor.old cursor.new }
+    ensures { ReadsValue (Both IsLiteral IsHash) result cursor.old cursor.new }
 {
     let lit = literal(cursor)?;
     let hash = cursor.number(WORDS)?;
@@ -58,7 +58,7 @@ fn unit_items(
     units: &mut Vec<(Lit, ClauseHash)>,
 ) -> Result<(), Stop>
     requires { units.old.items ≡ [] }
-    ensures { Takes (Times (Both IsLiteral IsHash) count) (giving units.new.items result) cursor.old cursor.new }
+    ensures { ReadsValue (Times (Both IsLiteral IsHash) count) (giving units.new.items result) cursor.old cursor.new }
 {
     for _ in 0..count {
         let unit = unit(cursor)?;
@@ -69,7 +69,7 @@ fn unit_items(
 
 /// Takes a list of literals, in place of those that are there.
 pub(crate) fn literals(cursor: &mut Cursor<'_>, lits: &mut Vec<Lit>) -> Result<(), Stop>
-    ensures { Takes AreLiterals (giving lits.new.items result) cursor.old cursor.new }
+    ensures { ReadsValue AreLiterals (giving lits.new.items result) cursor.old cursor.new }
 {
     lits.clear();
     let count = cursor.number(WORDS)?;
@@ -78,7 +78,7 @@ pub(crate) fn literals(cursor: &mut Cursor<'_>, lits: &mut Vec<Lit>) -> Result<(
 
 /// Takes a list of hashes, in place of those that are there.
 pub(crate) fn hashes(cursor: &mut Cursor<'_>, hashes: &mut Vec<ClauseHash>) -> Result<(), Stop>
-    ensures { Takes AreHashes (giving hashes.new.items result) cursor.old cursor.new }
+    ensures { ReadsValue AreHashes (giving hashes.new.items result) cursor.old cursor.new }
 {
     hashes.clear();
     let count = cursor.number(WORDS)?;
@@ -87,7 +87,7 @@ pub(crate) fn hashes(cursor: &mut Cursor<'_>, hashes: &mut Vec<ClauseHash>) -> R
 
 /// Takes a list of units, in place of those that are there.
 pub(crate) fn units(cursor: &mut Cursor<'_>, units: &mut Vec<(Lit, ClauseHash)>) -> Result<(), Stop>
-    ensures { Takes AreUnits (giving units.new.items result) cursor.old cursor.new }
+    ensures { ReadsValue AreUnits (giving units.new.items result) cursor.old cursor.new }
 {
     units.clear();
     let count = cursor.number(WORDS)?;
@@ -96,7 +96,7 @@ pub(crate) fn units(cursor: &mut Cursor<'_>, units: &mut Vec<(Lit, ClauseHash)>)
 
 /// Takes a list of literals, and then one of hashes.
 pub(crate) fn both_lists(cursor: &mut Cursor<'_>, buffers: &mut Buffers) -> Result<(), Stop>
-    ensures { Takes (Both AreLiterals AreHashes) (giving (buffers.new.literals.items, buffers.new.hashes.items) result) cursor.old cursor.new }
+    ensures { ReadsValue (Both AreLiterals AreHashes) (giving (buffers.new.literals.items, buffers.new.hashes.items) result) cursor.old cursor.new }
 {
     literals(cursor, &mut buffers.literals)?;
     hashes(cursor, &mut buffers.hashes)

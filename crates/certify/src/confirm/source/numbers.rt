@@ -1,7 +1,7 @@
-//! Numbers at the front of bytes that are held.
+//! Numbers at the front of bytes.
 ghost use Rattle.std.specs.Prelude.{◌^◌, ◌<◌, ◌≤◌, MatchResult};
 ghost use Rattle.sat_base.specs.steps.Numbers.{IsBelow};
-ghost use Rattle.certify.specs.SourceReading.{Begins, Stops};
+ghost use Rattle.certify.specs.confirm.SourceReading.{Begins, NoneRead};
 
 use super::stop::Stop;
 
@@ -9,7 +9,7 @@ use super::stop::Stop;
 pub(crate) fn number(bytes: &[u8], limit: u128) -> Result<(u64, &[u8]), Stop>
     requires one { 1 < limit }
     requires word { limit ≤ 2 ^ 64 }
-    ensures { MatchResult result (λ x. Begins (IsBelow limit) x.0 x.1.now bytes.now) (λ stop. Stops (IsBelow limit) stop bytes.now) }
+    ensures { MatchResult result (λ x. Begins (IsBelow limit) x.0 x.1.now bytes.now) (λ stop. NoneRead (IsBelow limit) stop bytes.now) }
 {
     let mut value = 0u128;
     let mut place = 1u128;

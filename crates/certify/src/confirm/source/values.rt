@@ -1,7 +1,7 @@
 //! Fields that are one number.
 ghost use Rattle.sat_base.specs.steps.StepText.{IsVariable, IsOptionalVariable, IsFlag, IsWidth, IsDeletion};
 ghost use Rattle.sat_base.specs.steps.StepViews.{deletion_of};
-ghost use Rattle.certify.specs.SourceReading.{Takes, valued};
+ghost use Rattle.certify.specs.confirm.SourceReading.{ReadsValue, valued};
 
 use super::cursor::Cursor;
 use super::stop::Stop;
@@ -14,14 +14,14 @@ const VARIABLES: u128 = 1 << 28;
 const WIDTHS: u128 = 65;
 
 pub(crate) fn variable(cursor: &mut Cursor<'_>) -> Result<Var, Stop>
-    ensures { Takes IsVariable result cursor.old cursor.new }
+    ensures { ReadsValue IsVariable result cursor.old cursor.new }
 {
     let index = cursor.number(VARIABLES)?;
     Ok(Var::from_index(index as usize))
 }
 
 pub(crate) fn optional(cursor: &mut Cursor<'_>) -> Result<Option<Var>, Stop>
-    ensures { Takes IsOptionalVariable result cursor.old cursor.new }
+    ensures { ReadsValue IsOptionalVariable result cursor.old cursor.new }
 {
     let above = cursor.number(VARIABLES + 1)?;
     if above == 0 {
@@ -31,7 +31,7 @@ pub(crate) fn optional(cursor: &mut Cursor<'_>) -> Result<Option<Var>, Stop>
 }
 
 pub(crate) fn flag(cursor: &mut Cursor<'_>) -> Result<bool, Stop>
-    ensures { Takes IsFlag result cursor.old cursor.new }
+    ensures { ReadsValue IsFlag result cursor.old cursor.new }
 {
     let bit = cursor.number(2)?;
     if bit == 0 {
@@ -41,7 +41,7 @@ pub(crate) fn flag(cursor: &mut Cursor<'_>) -> Result<bool, Stop>
 }
 
 pub(crate) fn width(cursor: &mut Cursor<'_>) -> Result<HashBits, Stop>
-    ensures { Takes IsWidth result cursor.old cursor.new }
+    ensures { ReadsValue IsWidth result cursor.old cursor.new }
 {
     let width = cursor.number(WIDTHS)?;
     let Some(bits) = HashBits::new(width as u32) else {
@@ -51,7 +51,7 @@ pub(crate) fn width(cursor: &mut Cursor<'_>) -> Result<HashBits, Stop>
 }
 
 pub(crate) fn deletion(cursor: &mut Cursor<'_>) -> Result<DeleteClauseProof, Stop>
-    ensures { Takes IsDeletion (valued deletion_of result) cursor.old cursor.new }
+    ensures { ReadsValue IsDeletion (valued deletion_of result) cursor.old cursor.new }
 {
     let code = cursor.number(3)?;
     if code == 0 {

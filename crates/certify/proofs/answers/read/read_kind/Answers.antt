@@ -1,7 +1,7 @@
 use Rattle.std.proofs.Common.{ℕ, ◌≡◌, ◌++◌, List, length, ap, arith}
 use Rattle.std.proofs.lemmas.Grind.{common_steps}
-use Rattle.certify.specs.Answers.{s_satisfiable, s_unsatisfiable, s_unknown}
-use Rattle.certify.specs.AnswerReading.{first_line}
+use Rattle.certify.specs.answers.Answers.{s_satisfiable, s_unsatisfiable, s_unknown}
+use Rattle.certify.specs.answers.AnswerReading.{first_line}
 use Rattle.certify.specs.declared.answers.read.AnswerKind.{AnswerKind}
 use Rattle.certify.specs.declared.answers.read.AnswerKind.TheVariants as kind
 use Rattle.certify.proofs.answers.read.read_kind.Goals as goal

@@ -3,13 +3,13 @@ use Rattle.std.proofs.lemmas.Grind.{common_steps}
 use Rattle.std.proofs.lemmas.Result.{err_from_is_err_and}
 use Rattle.std.specs.Option.{ok_or}
 use Rattle.sat_base.specs.script.Script.{Literal}
-use Rattle.certify.specs.Answers.{literals_text}
-use Rattle.certify.specs.AnswerForms.{IsInForm, named_literals}
-use Rattle.certify.specs.AnswerReading.{IsHead, NoLine, NoLiterals, outcome_of, second_line}
+use Rattle.certify.specs.answers.Answers.{literals_text}
+use Rattle.certify.specs.answers.AnswerForms.{IsInForm, named_literals}
+use Rattle.certify.specs.answers.AnswerReading.{IsHead, NoLine, NoLiterals, outcome_of, second_line}
 use Rattle.certify.specs.declared.answers.read.AnswerKind.{AnswerKind}
 use Rattle.certify.specs.declared.answers.read.AnswerFault.{AnswerFault}
 use Rattle.certify.specs.declared.answers.read.AnswerFault.TheVariants.{Text}
-use Rattle.certify.proofs.AnswerKinds.{line_read, no_head, no_list}
+use Rattle.certify.proofs.lemmas.answers.LinesByKind.{line_read, no_head, no_list}
 use Rattle.certify.proofs.answers.read.read_list.Goals as goal
 
 -- what was found of the line's head

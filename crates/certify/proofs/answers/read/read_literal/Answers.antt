@@ -1,5 +1,5 @@
-use Rattle.certify.specs.AnswerReading.{NoLiteral}
-use Rattle.certify.proofs.AnswerLemmas.{no_negative}
+use Rattle.certify.specs.answers.AnswerReading.{NoLiteral}
+use Rattle.certify.proofs.lemmas.answers.NamesAndWords.{no_negative}
 use Rattle.certify.proofs.answers.read.read_literal.Goals as goal
 
 pub returns-in_err-name-in-Some : goal.returns-in_err-name-in-Some

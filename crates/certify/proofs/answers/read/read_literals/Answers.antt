@@ -3,15 +3,15 @@ use Rattle.std.proofs.lemmas.List.{map-append}
 use Rattle.std.proofs.lemmas.Result.{err_from_is_err_and}
 use Rattle.std.specs.Option.{ok_or}
 use Rattle.sat_base.specs.script.Script.{Literal, names_of, InOrder}
-use Rattle.certify.specs.Answers.{literals_text, word_of}
-use Rattle.certify.specs.AnswerForms.{HaveNames, IsIncreasing, IsInForm, IsName, IsOrdered, named_literal, named_literals}
-use Rattle.certify.specs.AnswerReading.{HasLine, NoLiteral, NoLiterals, outcome_of, place_in}
+use Rattle.certify.specs.answers.Answers.{literals_text, word_of}
+use Rattle.certify.specs.answers.AnswerForms.{HaveNames, NamesRise, IsInForm, IsName, IsOrdered, named_literal, named_literals}
+use Rattle.certify.specs.answers.AnswerReading.{HasLine, NoLiteral, NoLiterals, outcome_of, place_in}
 use Rattle.certify.specs.declared.answers.read.AnswerKind.{AnswerKind}
 use Rattle.certify.specs.declared.answers.read.AnswerKind.TheVariants as kind
 use Rattle.certify.specs.declared.answers.read.AnswerFault.TheVariants.{Text, OutOfMemory}
-use Rattle.certify.proofs.AnswerKinds.{line_literals}
-use Rattle.certify.proofs.AnswerLines.{Read, none_read, one_read, all_read, not_read, same_literals}
-use Rattle.certify.proofs.AnswerOrder.{RiseFrom, rise_ordered, ordered_rise}
+use Rattle.certify.proofs.lemmas.answers.LinesByKind.{line_literals}
+use Rattle.certify.proofs.lemmas.answers.LiteralsOfLines.{Read, none_read, one_read, all_read, not_read, same_literals}
+use Rattle.certify.proofs.lemmas.answers.LineOrder.{RiseFrom, rise_ordered, ordered_rise}
 use Rattle.certify.proofs.answers.read.read_literals.Invariants.{words_text, GoOnFrom, ReadInOrder}
 use Rattle.certify.proofs.answers.read.read_literals.Goals as goal
 
@@ -26,7 +26,7 @@ words_ended [] = refl
 words_ended (l ∷ ls) = ap (λ t. word_of l ++ (32 ∷ t)) (words_ended ls) ∙ sym (append_assoc (word_of l) (32 ∷ words_text ls) (48 ∷ 10 ∷ []))
 
 -- the front of an order is one
-increasing_front : (ls ks : List Literal) → IsIncreasing (names_of (ls ++ ks)) → IsIncreasing (names_of ls)
+increasing_front : (ls ks : List Literal) → NamesRise (names_of (ls ++ ks)) → NamesRise (names_of ls)
 increasing_front [] ks h = tt
 increasing_front (l ∷ []) ks h = tt
 increasing_front (l ∷ m ∷ ls) ks h = (h.0, increasing_front (m ∷ ls) ks h.1)

@@ -1,11 +1,11 @@
 use Rattle.std.proofs.Common.{ℕ, List, [], ◌∷◌, ◌≡◌, ◌++◌, ◌↔◌, length, map}
 use Rattle.sat_base.specs.script.Script.{Literal}
-use Rattle.certify.specs.Answers.{word_of}
-use Rattle.certify.specs.AnswerForms.{named_literals}
-use Rattle.certify.specs.AnswerReading.{place_in}
+use Rattle.certify.specs.answers.Answers.{word_of}
+use Rattle.certify.specs.answers.AnswerForms.{named_literals}
+use Rattle.certify.specs.answers.AnswerReading.{place_in}
 use Rattle.certify.specs.declared.answers.read.AnswerKind.{AnswerKind}
-use Rattle.certify.proofs.AnswerLines.{Read}
-use Rattle.certify.proofs.AnswerOrder.{RiseFrom}
+use Rattle.certify.proofs.lemmas.answers.LiteralsOfLines.{Read}
+use Rattle.certify.proofs.lemmas.answers.LineOrder.{RiseFrom}
 use Rattle.certify.proofs.answers.read.read_literals.Given as goal
 
 -- each literal and a space

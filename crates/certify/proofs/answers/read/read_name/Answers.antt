@@ -1,8 +1,8 @@
 use Rattle.std.proofs.Common.{ℕ, ◌≡◌, ◌≢◌, ◌<◌, ◌≤◌, ◌⊎◌, inl, inr, ◌++◌, ◌∷◌, [], length, drop, get_or, suc, ◌∙◌, ap, arith}
 use Rattle.std.proofs.Math.Seq.{drop-cons}
 use Rattle.std.proofs.lemmas.List.{drop_all}
-use Rattle.certify.specs.AnswerReading.{NoName, digits_so_far}
-use Rattle.certify.proofs.AnswerLemmas.{no_name_so, no_name_end}
+use Rattle.certify.specs.answers.AnswerReading.{NoName, digits_so_far}
+use Rattle.certify.proofs.lemmas.answers.NamesAndWords.{no_name_so, no_name_end}
 use Rattle.certify.proofs.answers.read.read_name.Goals as goal
 
 at_zero : (b name : ℕ) → ((b ≡ 32) × (name ≤ 0)) ⊎ (b ≢ 32) → b ≡ 32 → name ≡ 0

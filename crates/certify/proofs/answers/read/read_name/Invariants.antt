@@ -1,6 +1,6 @@
 use Rattle.std.proofs.Common.{◌≡◌, ◌≤◌, ◌++◌, drop}
 use Rattle.sat_base.specs.values.Literals.{largest}
-use Rattle.certify.specs.AnswerReading.{digits_so_far}
+use Rattle.certify.specs.answers.AnswerReading.{digits_so_far}
 use Rattle.certify.proofs.answers.read.read_name.Given as goal
 
 -- what was read is the name's digits

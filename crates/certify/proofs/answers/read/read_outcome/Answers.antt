@@ -1,5 +1,5 @@
 use Rattle.std.proofs.lemmas.Result.{err_from_is_err_and}
-use Rattle.certify.proofs.AnswerKinds.{no_kind, no_line}
+use Rattle.certify.proofs.lemmas.answers.LinesByKind.{no_kind, no_line}
 use Rattle.certify.proofs.answers.read.read_outcome.Goals as goal
 
 pub returns-in_err-kind : goal.returns-in_err-kind

@@ -1,5 +1,5 @@
 use Rattle.std.proofs.Common.{◌<◌, ◌≤◌, inl, inr, ◌⊎◌, ℕ, arith}
-use Rattle.certify.proofs.AnswerLemmas.{no_digit, no_zero, next_digit, past_limit}
+use Rattle.certify.proofs.lemmas.answers.NamesAndWords.{no_digit, no_zero, next_digit, past_limit}
 use Rattle.certify.proofs.answers.read.with_digit.Goals as goal
 use Rattle.certify.proofs.answers.read.with_digit.Goals.{then-more-eq0-via-then-more-eq0, then-more-eq0-via-else-more-eq0+then-more-max_count}
 

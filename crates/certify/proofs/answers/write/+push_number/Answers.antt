@@ -1,5 +1,5 @@
 use Rattle.std.proofs.Common.{◌≡◌, ◌<◌, ◌≤◌, ◌++◌, ◌∷◌, [], ◌+◌, ◌%◌, ◌/◌, decimal, ap, ◌∙◌, arith}
-use Rattle.certify.proofs.AnswerLemmas.{one_digit, last_digit}
+use Rattle.certify.proofs.lemmas.answers.NamesAndWords.{one_digit, last_digit}
 use Rattle.certify.proofs.answers.write.+push_number.Goals as goal
 use Rattle.certify.proofs.answers.write.+push_number.Goals.{then-number-gt9+in_ok-push_number, else-number-gt9}
 

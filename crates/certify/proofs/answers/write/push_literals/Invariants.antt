@@ -1,6 +1,6 @@
 use Rattle.std.proofs.Common.{◌≡◌, ◌++◌, drop}
-use Rattle.certify.specs.Answers.{literals_text}
-use Rattle.certify.specs.AnswerForms.{named_literals}
+use Rattle.certify.specs.answers.Answers.{literals_text}
+use Rattle.certify.specs.answers.AnswerForms.{named_literals}
 use Rattle.certify.proofs.answers.write.push_literals.Given as goal
 
 abbrev pub invariant-loop-lit : goal.invariant-loop-lit

@@ -1,5 +1,5 @@
-use Rattle.certify.specs.Stored.{with_literals_known}
-use Rattle.certify.proofs.CheckerKeeping.{refused, accepted, passes_kept, kept_passes, keeps_units}
+use Rattle.certify.specs.checker.Stored.{with_literals_known}
+use Rattle.certify.proofs.lemmas.checker.CheckerParts.{refused, accepted, passes_kept, kept_passes, keeps_units}
 use Rattle.certify.proofs.checker.Checker.at_clause.Goals as goal
 
 pub returns-then-not-branch : goal.returns-then-not-branch

@@ -1,4 +1,4 @@
-use Rattle.certify.proofs.CheckerModels.{fits_not, fits_when}
+use Rattle.certify.proofs.lemmas.checker.ModelTests.{fits_not, fits_when}
 use Rattle.certify.proofs.checker.Checker.fits.Goals as goal
 
 pub returns-then-contradicts : goal.returns-then-contradicts

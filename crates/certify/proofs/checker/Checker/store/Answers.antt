@@ -1,8 +1,8 @@
 use Rattle.std.proofs.Common.{◌≡◌, ◌≢◌, ap, ◌∙◌, sym, refl, length, arith}
 use Rattle.std.proofs.lemmas.Grind.{common_steps}
-use Rattle.certify.specs.Propagation.{is_tautology}
-use Rattle.certify.specs.Stored.{canonical, with_unit, with_clause}
-use Rattle.certify.proofs.CheckerKeeping.{keeps_by, canonical_read, only_literal, stored_not, stored_empty, stored_unit, stored_clause}
+use Rattle.certify.specs.checker.Propagation.{is_tautology}
+use Rattle.certify.specs.checker.Stored.{canonical, with_unit, with_clause}
+use Rattle.certify.proofs.lemmas.checker.CheckerParts.{keeps_by, canonical_read, only_literal, stored_not, stored_empty, stored_unit, stored_clause}
 use Rattle.certify.proofs.checker.Checker.store.Goals as goal
 
 pub has_both_signs-requires : goal.has_both_signs-requires

@@ -1,7 +1,7 @@
 use Rattle.std.proofs.Common.{ap, ◌∙◌, refl, true, false}
 use Rattle.sat_base.specs.values.Literals.{negated}
-use Rattle.certify.specs.Propagation.{is_among}
-use Rattle.certify.proofs.CheckerKeeping.{keeps_by, units_has, units_more, unit_had, unit_clash, unit_new}
+use Rattle.certify.specs.checker.Propagation.{is_among}
+use Rattle.certify.proofs.lemmas.checker.CheckerParts.{keeps_by, units_has, units_more, unit_had, unit_clash, unit_new}
 use Rattle.certify.proofs.checker.Checker.store_unit.Goals as goal
 
 pub returns-then-is_true : goal.returns-then-is_true

@@ -1,5 +1,5 @@
 use Rattle.std.proofs.Common.{◌≡◌, ◌-◌, drop}
-use Rattle.certify.specs.Propagation.{is_tautology}
+use Rattle.certify.specs.checker.Propagation.{is_tautology}
 use Rattle.certify.proofs.checker.sorted.has_both_signs.Given as goal
 
 -- the literals that are left decide

@@ -1,6 +1,6 @@
 use Rattle.std.proofs.lemmas.List.Filters.{dedup_is}
 use Rattle.std.proofs.Common.{◌∙◌}
-use Rattle.certify.proofs.CheckerCanonical.{sorted_dedup}
+use Rattle.certify.proofs.lemmas.checker.SortedLiterals.{sorted_dedup}
 use Rattle.certify.proofs.checker.sorted.sorted_literals.Goals as goal
 
 pub returns : goal.returns

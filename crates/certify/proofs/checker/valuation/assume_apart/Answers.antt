@@ -1,5 +1,5 @@
 use Rattle.std.proofs.Common.{◌-◌, arith}
-use Rattle.certify.proofs.CheckerModels.{met_same, met_negated}
+use Rattle.certify.proofs.lemmas.checker.ModelTests.{met_same, met_negated}
 use Rattle.certify.proofs.checker.valuation.assume_apart.Goals as goal
 
 pub returns-then-is_true : goal.returns-then-is_true

@@ -1,5 +1,5 @@
 use Rattle.std.proofs.Common.{◌≡◌, drop}
-use Rattle.certify.specs.Accepts.{VariablesApart}
+use Rattle.certify.specs.checker.Accepts.{VariablesApart}
 use Rattle.certify.proofs.checker.valuation.assume_apart.Given as goal
 
 -- the literals from the place on are assumed

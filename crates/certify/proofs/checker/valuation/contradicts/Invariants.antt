@@ -1,5 +1,5 @@
 use Rattle.std.proofs.Common.{◌≡◌, drop}
-use Rattle.certify.specs.ModelView.{is_contradicted}
+use Rattle.certify.specs.checker.ModelTests.{is_contradicted}
 use Rattle.certify.proofs.checker.valuation.contradicts.Given as goal
 
 abbrev pub invariant-loop-unit : goal.invariant-loop-unit

@@ -1,5 +1,5 @@
 use Rattle.std.proofs.Common.{◌≡◌, drop}
-use Rattle.certify.specs.ModelView.{are_all_true}
+use Rattle.certify.specs.checker.ModelTests.{are_all_true}
 use Rattle.certify.proofs.checker.valuation.makes_all_true.Given as goal
 
 abbrev pub invariant-loop-place : goal.invariant-loop-place

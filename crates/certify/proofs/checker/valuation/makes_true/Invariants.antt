@@ -1,6 +1,6 @@
 use Rattle.std.proofs.Common.{◌≡◌, drop}
 use Rattle.std.specs.List.{list_any}
-use Rattle.certify.specs.Propagation.{is_among}
+use Rattle.certify.specs.checker.Propagation.{is_among}
 use Rattle.certify.proofs.checker.valuation.makes_true.Given as goal
 
 abbrev pub invariant-loop-lit : goal.invariant-loop-lit

@@ -1,7 +1,7 @@
 use Rattle.std.proofs.Common.{true, Result, Ok, Err, IfOk, map, refl}
-use Rattle.certify.specs.Walk.{all_literals, of_hash}
-use Rattle.certify.proofs.Denied.{exact_when_met, exact_when_walked}
-use Rattle.certify.proofs.CheckerMarks.{each_once}
+use Rattle.certify.specs.checker.Walk.{all_literals, of_hash}
+use Rattle.certify.proofs.lemmas.checker.NegatedClauses.{exact_when_met, exact_when_walked}
+use Rattle.certify.proofs.lemmas.checker.Members.{each_once}
 use Rattle.certify.proofs.checker.walk.check_under.Goals as goal
 
 if_ok : {A E : Type 0} (r : Result A E) (P Q : A → Type 0) → ((x : A) → P x → Q x) → IfOk r P → IfOk r Q

@@ -1,6 +1,6 @@
 use Rattle.std.proofs.Common.{◌≡◌, drop}
-use Rattle.certify.specs.Look.{Extends}
-use Rattle.certify.specs.Walk.{denied}
+use Rattle.certify.specs.checker.WalkEnds.{Extends}
+use Rattle.certify.specs.checker.Walk.{denied}
 use Rattle.certify.proofs.checker.walk.deny.Given as goal
 
 abbrev pub invariant-loop-lit : goal.invariant-loop-lit

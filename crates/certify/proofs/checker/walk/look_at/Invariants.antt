@@ -1,6 +1,6 @@
 use Rattle.std.proofs.Common.{◌≡◌, ◌++◌, drop}
 use Rattle.std.specs.Option.{option_to_list}
-use Rattle.certify.specs.Walk.{not_false}
+use Rattle.certify.specs.checker.Walk.{not_false}
 use Rattle.certify.proofs.checker.walk.look_at.Given as goal
 
 -- the literals that aren't false are the open one, if it was met, and those still to come

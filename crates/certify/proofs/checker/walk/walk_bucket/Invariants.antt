@@ -1,8 +1,8 @@
 use Rattle.std.proofs.Common.{◌≡◌, ◌≢◌, [], drop}
 use Rattle.std.specs.Bool.{MatchBool}
-use Rattle.certify.specs.Walk.{all_literals, of_hash}
-use Rattle.certify.specs.Look.{Extends}
-use Rattle.certify.specs.Walk.{walk}
+use Rattle.certify.specs.checker.Walk.{all_literals, of_hash}
+use Rattle.certify.specs.checker.WalkEnds.{Extends}
+use Rattle.certify.specs.checker.Walk.{walk}
 use Rattle.certify.proofs.checker.walk.walk_bucket.Given as goal
 
 -- what is left to walk over gives what the whole bucket gives

@@ -1,7 +1,7 @@
 use Rattle.std.proofs.Common.{◌≡◌, drop, map}
-use Rattle.certify.specs.Walk.{all_literals, of_hash}
-use Rattle.certify.specs.Look.{Extends}
-use Rattle.certify.specs.Walk.{walk_buckets}
+use Rattle.certify.specs.checker.Walk.{all_literals, of_hash}
+use Rattle.certify.specs.checker.WalkEnds.{Extends}
+use Rattle.certify.specs.checker.Walk.{walk_buckets}
 use Rattle.certify.proofs.checker.walk.walk_hashes.Given as goal
 
 -- the buckets that are left give what all of them give

@@ -1,7 +1,7 @@
 use Rattle.std.proofs.Common.{◌≤◌, ◌<◌, ◌∙◌, get_or, ap, arith}
 use Rattle.sat_base.specs.values.Literals.{largest}
 use Rattle.sat_base.specs.script.Script.{Literal}
-use Rattle.certify.proofs.Listing.{past_limit, within_limit}
+use Rattle.certify.proofs.lemmas.confirm.ListedNames.{past_limit, within_limit}
 use Rattle.certify.proofs.confirm.session.is_refused.Goals as goal
 
 pub returns-then-literal-max_count : goal.returns-then-literal-max_count

@@ -1,5 +1,5 @@
 use Rattle.std.proofs.Common.{take, ◌≡◌}
-use Rattle.certify.specs.AnswerForms.{named_literals}
+use Rattle.certify.specs.answers.AnswerForms.{named_literals}
 use Rattle.certify.proofs.confirm.session.name_all.Given as goal
 
 abbrev pub invariant-loop-code : goal.invariant-loop-code

@@ -1,4 +1,4 @@
-use Rattle.certify.proofs.Sets.{among_answer}
+use Rattle.certify.proofs.lemmas.confirm.LiteralSets.{among_answer}
 use Rattle.certify.proofs.confirm.sets.are_among.Goals as goal
 
 pub returns : goal.returns

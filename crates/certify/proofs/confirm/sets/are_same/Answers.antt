@@ -1,7 +1,7 @@
 use Rattle.std.specs.Bool.{MatchBool}
-use Rattle.certify.specs.Spelling.{AllAmong}
-use Rattle.certify.proofs.Sets.{both_so, first_not}
-use Rattle.certify.proofs.Stepping.{ok_so}
+use Rattle.certify.specs.confirm.SpeltLiterals.{AllAmong}
+use Rattle.certify.proofs.lemmas.confirm.LiteralSets.{both_so, first_not}
+use Rattle.certify.proofs.lemmas.confirm.CertificateSteps.{ok_so}
 use Rattle.certify.proofs.confirm.sets.are_same.Goals as goal
 
 pub returns-then-branch : goal.returns-then-branch

@@ -1,7 +1,7 @@
 use Rattle.std.proofs.Common.{◌≡◌, true, ◌+◌, ◌∷◌, take, sym, ◌∙◌, ap, subst}
-use Rattle.certify.specs.Propagation.{is_among}
-use Rattle.certify.specs.Spelling.{SameMembers}
-use Rattle.certify.proofs.Sets.{marked_more, marked_before}
+use Rattle.certify.specs.checker.Propagation.{is_among}
+use Rattle.certify.specs.confirm.SpeltLiterals.{SameMembers}
+use Rattle.certify.proofs.lemmas.confirm.LiteralSets.{marked_more, marked_before}
 use Rattle.certify.proofs.confirm.sets.mark.Goals as goal
 
 pub loop-lit-preserved-then-is_true : goal.loop-lit-preserved-then-is_true

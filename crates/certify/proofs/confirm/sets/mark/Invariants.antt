@@ -1,5 +1,5 @@
 use Rattle.std.proofs.Common.{take}
-use Rattle.certify.specs.Spelling.{SameMembers}
+use Rattle.certify.specs.confirm.SpeltLiterals.{SameMembers}
 use Rattle.certify.proofs.confirm.sets.mark.Given as goal
 
 abbrev pub invariant-loop-lit : goal.invariant-loop-lit

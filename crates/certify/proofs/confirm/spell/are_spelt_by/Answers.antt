@@ -1,10 +1,10 @@
 use Rattle.std.proofs.Common.{List, ℕ}
 use Rattle.std.specs.Bool.{MatchBool}
-use Rattle.certify.specs.Confirming.{variable_in}
-use Rattle.certify.specs.Matches.{EachSpelt, SameSet}
-use Rattle.certify.specs.Spelling.{AllAmong, AreSpelt}
-use Rattle.certify.proofs.Sets.{set_answer, unspelt_each}
-use Rattle.certify.proofs.Stepping.{ok_so}
+use Rattle.certify.specs.confirm.CertificatePlaces.{variable_in}
+use Rattle.certify.specs.confirm.Matches.{EachSpelt, SameSet}
+use Rattle.certify.specs.confirm.SpeltLiterals.{AllAmong, AreSpelt}
+use Rattle.certify.proofs.lemmas.confirm.LiteralSets.{set_answer, unspelt_each}
+use Rattle.certify.proofs.lemmas.confirm.CertificateSteps.{ok_so}
 use Rattle.certify.proofs.confirm.spell.are_spelt_by.Goals as goal
 
 pub returns-then-branch : goal.returns-then-branch

@@ -1,10 +1,10 @@
 use Rattle.std.proofs.Common.{List, ℕ}
 use Rattle.std.specs.Bool.{MatchBool}
-use Rattle.certify.specs.Confirming.{variable_in}
-use Rattle.certify.specs.Matches.{EachSpelt}
-use Rattle.certify.specs.Spelling.{AllAmong, AreSpelt}
-use Rattle.certify.proofs.Sets.{each_answer, unspelt_each}
-use Rattle.certify.proofs.Stepping.{ok_so}
+use Rattle.certify.specs.confirm.CertificatePlaces.{variable_in}
+use Rattle.certify.specs.confirm.Matches.{EachSpelt}
+use Rattle.certify.specs.confirm.SpeltLiterals.{AllAmong, AreSpelt}
+use Rattle.certify.proofs.lemmas.confirm.LiteralSets.{each_answer, unspelt_each}
+use Rattle.certify.proofs.lemmas.confirm.CertificateSteps.{ok_so}
 use Rattle.certify.proofs.confirm.spell.are_spelt_in.Goals as goal
 
 pub returns-then-branch : goal.returns-then-branch

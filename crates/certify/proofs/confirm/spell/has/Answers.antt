@@ -2,7 +2,7 @@ use Rattle.std.proofs.Common.{◌≡◌, ◌≤◌, ◌<◌, ◌-◌, length, ge
 use Rattle.std.specs.Bool.{MatchBool}
 use mathlib.Core.Bool.{beq}
 use Rattle.sat_base.specs.script.Script.{Literal, Among}
-use Rattle.certify.proofs.Listing.{has_zero, has_past, has_answer}
+use Rattle.certify.proofs.lemmas.confirm.ListedNames.{has_zero, has_past, has_answer}
 use Rattle.certify.proofs.confirm.spell.has.Goals as goal
 
 pub returns-then-literal-eq0 : goal.returns-then-literal-eq0

@@ -3,8 +3,8 @@ use Rattle.std.specs.Bool.{MatchBool}
 use Rattle.std.specs.List.{AllByRecursion}
 use Rattle.sat_base.specs.script.Script.{Among, names_of}
 use Rattle.sat_base.specs.script.Judge.{names_from}
-use Rattle.certify.proofs.Sets.{both_so, first_not}
-use Rattle.certify.proofs.Listing.{all_named}
+use Rattle.certify.proofs.lemmas.confirm.LiteralSets.{both_so, first_not}
+use Rattle.certify.proofs.lemmas.confirm.ListedNames.{all_named}
 use Rattle.certify.proofs.confirm.spell.is_line.Goals as goal
 
 pub returns-then-lists_all : goal.returns-then-lists_all

@@ -1,6 +1,6 @@
 use Rattle.std.proofs.Common.{eqb, length, refl, sym, ◌∙◌, ap}
 use Rattle.sat_base.specs.script.Script.{Literal}
-use Rattle.certify.proofs.Listing.{lists_not, lists_more, lists_end}
+use Rattle.certify.proofs.lemmas.confirm.ListedNames.{lists_not, lists_more, lists_end}
 use Rattle.certify.proofs.confirm.spell.lists_all.Goals as goal
 
 pub returns-then-literal-i : goal.returns-then-literal-i

@@ -1,8 +1,8 @@
 use Rattle.std.proofs.Common.{◌≡◌, Some, sym, ◌∙◌, ap, subst}
 use Rattle.sat_base.specs.values.Literals.{coded}
 use Rattle.sat_base.specs.script.Script.{Literal}
-use Rattle.certify.specs.Confirming.{variable_in}
-use Rattle.certify.proofs.Sets.{spelt_loop}
+use Rattle.certify.specs.confirm.CertificatePlaces.{variable_in}
+use Rattle.certify.proofs.lemmas.confirm.LiteralSets.{spelt_loop}
 use Rattle.certify.proofs.confirm.spell.spell.Goals as goal
 
 pub loop-literal-preserved : goal.loop-literal-preserved

@@ -1,6 +1,6 @@
 use Rattle.std.proofs.Common.{take}
-use Rattle.certify.specs.Confirming.{variable_in}
-use Rattle.certify.specs.Spelling.{AreSpelt}
+use Rattle.certify.specs.confirm.CertificatePlaces.{variable_in}
+use Rattle.certify.specs.confirm.SpeltLiterals.{AreSpelt}
 use Rattle.certify.proofs.confirm.spell.spell.Given as goal
 
 abbrev pub invariant-loop-literal : goal.invariant-loop-literal

@@ -1,8 +1,8 @@
 use Rattle.std.proofs.Common.{◌≡◌, ◌∙◌, ◌++◌, ◌∷◌, [], ap, subst, List, ℕ}
 use Rattle.std.specs.Io.KnownBytes.{Appends}
-use Rattle.certify.specs.Answers.{outcome_text}
-use Rattle.certify.specs.Running.{outcome_of}
-use Rattle.certify.proofs.Writing.{wrote_asked}
+use Rattle.certify.specs.answers.Answers.{outcome_text}
+use Rattle.certify.specs.run.Running.{reported_outcome}
+use Rattle.certify.proofs.lemmas.run.WrittenSteps.{wrote_asked}
 use Rattle.certify.proofs.run.ask.answer_ask.Goals as goal
 
 pub returns-clause-written : goal.returns-clause-written
@@ -15,7 +15,7 @@ pub returns-clause-asked : goal.returns-clause-asked
 returns-clause-asked g c =
     let report = c.in_ok-report.report in
     let h = c.in_ok-report.ensures in
-    let text : c.deref.result.now ≡ outcome_text (outcome_of report.answer c.ask.new.session.lits.items) = c.deref.ensures.value ∙ h.text in (
+    let text : c.deref.result.now ≡ outcome_text (reported_outcome report.answer c.ask.new.session.lits.items) = c.deref.ensures.value ∙ h.text in (
       report,
       record {
         truth = h.answer;

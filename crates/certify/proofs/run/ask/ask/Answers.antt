@@ -1,6 +1,6 @@
 use Rattle.std.proofs.Common.{◌∙◌, ap}
-use Rattle.certify.specs.Running.{shown_by}
-use Rattle.certify.proofs.Writing.{wrote_as, wrote_ask}
+use Rattle.certify.specs.run.Running.{shown_by}
+use Rattle.certify.proofs.lemmas.run.WrittenSteps.{wrote_as, wrote_ask}
 use Rattle.certify.proofs.run.ask.ask.Goals as goal
 
 pub returns-clause-certificate : goal.returns-clause-certificate

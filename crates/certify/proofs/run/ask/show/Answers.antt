@@ -1,7 +1,7 @@
 use Rattle.std.proofs.Common.{ap, sym}
 use Rattle.certify.specs.declared.summary.Answer.{Answer}
-use Rattle.certify.specs.Running.{shown_by}
-use Rattle.certify.proofs.Writing.{wrote_as, wrote_step}
+use Rattle.certify.specs.run.Running.{shown_by}
+use Rattle.certify.proofs.lemmas.run.WrittenSteps.{wrote_as, wrote_step}
 use Rattle.certify.proofs.run.ask.show.Goals as goal
 
 pub returns-in_ok-push_sat-in-Sat-clause-certificate : goal.returns-in_ok-push_sat-in-Sat-clause-certificate

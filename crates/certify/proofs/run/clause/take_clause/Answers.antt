@@ -1,11 +1,11 @@
 use Rattle.std.proofs.Common.{◌≡◌, ◌∙◌, map, true, false, arith, rules}
 use Rattle.std.proofs.lemmas.Grind.{common_steps}
-use Rattle.certify.specs.Kept.{IsNormalOf}
+use Rattle.certify.specs.search.KeptClauses.{IsNormalOf}
 use Rattle.sat_base.specs.script.Script.{names_of}
-use Rattle.certify.specs.Running.{code_of, raised}
-use Rattle.certify.proofs.SolverHolds.{takes_then}
-use Rattle.certify.proofs.NameLists.{codes_bounded}
-use Rattle.certify.proofs.Writing.{wrote_clause, left_clause}
+use Rattle.certify.specs.run.Running.{code_of, raised}
+use Rattle.certify.proofs.lemmas.search.SolverStates.{takes_then}
+use Rattle.certify.proofs.lemmas.run.NamesOfLiterals.{codes_bounded}
+use Rattle.certify.proofs.lemmas.run.WrittenSteps.{wrote_clause, left_clause}
 use Rattle.certify.proofs.run.clause.take_clause.Goals as goal
 
 pub add_clause-requires : goal.add_clause-requires

@@ -1,6 +1,6 @@
 use Rattle.std.proofs.Common.{◌≡◌, drop, take, map, true}
 use Rattle.sat_base.specs.script.Script.{names_of}
-use Rattle.certify.specs.Running.{are_within, code_of}
+use Rattle.certify.specs.run.Running.{are_within, code_of}
 use Rattle.certify.proofs.run.lits.fill.Given as goal
 
 abbrev pub invariant-loop-literal : goal.invariant-loop-literal

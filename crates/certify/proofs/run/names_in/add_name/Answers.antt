@@ -1,7 +1,7 @@
 use Rattle.std.proofs.Common.{ℕ, [], ◌∷◌, Some, ap}
 use Rattle.sat_base.specs.steps.Steps.{UserVarName}
-use Rattle.certify.proofs.SolverHolds.{same_variable}
-use Rattle.certify.proofs.Writing.{wrote_as, wrote_step}
+use Rattle.certify.proofs.lemmas.search.SolverStates.{same_variable}
+use Rattle.certify.proofs.lemmas.run.WrittenSteps.{wrote_as, wrote_step}
 use Rattle.certify.proofs.run.names_in.add_name.Goals as goal
 
 pub returns-clause-certificate : goal.returns-clause-certificate

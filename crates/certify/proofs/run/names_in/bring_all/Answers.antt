@@ -1,10 +1,10 @@
 use Rattle.std.proofs.Common.{◌≡◌, sym, ap, ◌∙◌, ◌+◌, max, arith, [], drop}
 use Rattle.std.proofs.Math.ListN.{drop_of_length-le}
 use Rattle.sat_base.specs.script.Script.{names_of}
-use Rattle.certify.specs.Running.{raised}
-use Rattle.certify.proofs.SolverHolds.{same_then}
-use Rattle.certify.proofs.Writing.{wrote_names}
-use Rattle.certify.proofs.NameLists.{within_at, raised_next}
+use Rattle.certify.specs.run.Running.{raised}
+use Rattle.certify.proofs.lemmas.search.SolverStates.{same_then}
+use Rattle.certify.proofs.lemmas.run.WrittenSteps.{wrote_names}
+use Rattle.certify.proofs.lemmas.run.NamesOfLiterals.{within_at, raised_next}
 use Rattle.certify.proofs.run.names_in.bring_all.Goals as goal
 
 pub loop-literal-preserved : goal.loop-literal-preserved

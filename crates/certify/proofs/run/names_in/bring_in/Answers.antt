@@ -1,6 +1,6 @@
 use Rattle.std.proofs.Common.{arith, ◌∙◌}
-use Rattle.certify.proofs.SolverHolds.{same_then}
-use Rattle.certify.proofs.Writing.{wrote_name}
+use Rattle.certify.proofs.lemmas.search.SolverStates.{same_then}
+use Rattle.certify.proofs.lemmas.run.WrittenSteps.{wrote_name}
 use Rattle.certify.proofs.run.names_in.bring_in.Goals as goal
 
 pub loop-preserved : goal.loop-preserved

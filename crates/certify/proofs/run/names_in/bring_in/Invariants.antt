@@ -1,6 +1,6 @@
 use Rattle.std.proofs.Common.{◌≡◌, ◌≤◌, ◌-◌, max}
-use Rattle.certify.specs.Held.{HoldsSame}
-use Rattle.certify.specs.Running.{Wrote, naming}
+use Rattle.certify.specs.search.SolverState.{AllowsSame}
+use Rattle.certify.specs.run.Running.{Wrote, naming}
 use Rattle.certify.proofs.run.names_in.bring_in.Given as goal
 
 abbrev pub invariant-loop : goal.invariant-loop
@@ -10,7 +10,7 @@ invariant-loop g l = record {
   most : l.names ≤ max l.fn.names l.name;
   variables : l.solver.var_count ≡ l.names;
   rounds : l.solver.rounds ≡ l.fn.solver.rounds;
-  clauses : HoldsSame l.fn.solver l.solver;
+  clauses : AllowsSame l.fn.solver l.solver;
   wrote : Wrote (naming (l.names - l.fn.names) l.fn.names) (g.C.Write.contents l.fn.certificate) (g.C.Write.contents l.certificate);
   failures : g.C.CountedWrite.failures l.certificate ≡ g.C.CountedWrite.failures l.fn.certificate;
 }

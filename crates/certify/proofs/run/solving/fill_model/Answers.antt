@@ -2,8 +2,8 @@ use Rattle.std.proofs.Common.{◌≡◌, ◌∙◌, ◌++◌, ◌∷◌, [], ap,
 use Rattle.std.specs.List.{slice_index_or}
 use Rattle.sat_base.specs.values.Literals.{coded}
 use Rattle.sat_base.specs.script.Judge.{names_from}
-use Rattle.certify.specs.Search.{is_true}
-use Rattle.certify.proofs.Solved.{model_push, true_model}
+use Rattle.certify.specs.search.Search.{is_true}
+use Rattle.certify.proofs.lemmas.run.SearchedAsks.{model_push, true_model}
 use Rattle.certify.proofs.run.solving.fill_model.Goals as goal
 
 pub loop-index-preserved : goal.loop-index-preserved

@@ -1,5 +1,5 @@
 use Rattle.std.proofs.Common.{◌∙◌, refl}
-use Rattle.certify.proofs.Reaching.{took_next}
+use Rattle.certify.proofs.lemmas.run.CommandsTaken.{took_next}
 use Rattle.certify.proofs.run.taking.take_all.Goals as goal
 
 pub loop-place-preserved : goal.loop-place-preserved

@@ -1,5 +1,5 @@
 use Rattle.std.proofs.Common.{◌≡◌, ◌≤◌}
-use Rattle.certify.specs.Running.{TookAll}
+use Rattle.certify.specs.run.Running.{TookAll}
 use Rattle.certify.proofs.run.taking.take_all.Given as goal
 
 abbrev pub invariant-loop-place : goal.invariant-loop-place

@@ -1,8 +1,8 @@
 use Rattle.std.proofs.Common.{◌≡◌, true, false, arith, rules}
 use Rattle.std.proofs.lemmas.Grind.{common_steps}
 use Rattle.sat_base.specs.script.Script.{names_of}
-use Rattle.certify.specs.Running.{are_within}
-use Rattle.certify.proofs.Reaching.{took_refused, took_clause, took_ask, added}
+use Rattle.certify.specs.run.Running.{are_within}
+use Rattle.certify.proofs.lemmas.run.CommandsTaken.{took_refused, took_clause, took_ask, added}
 use Rattle.certify.proofs.run.taking.take_command.Goals as goal
 
 pub returns-then-not-are_within-clause-took : goal.returns-then-not-are_within-clause-took

@@ -1,7 +1,7 @@
 use Rattle.std.proofs.Common.{◌≡◌, ◌+◌, ◌∙◌, ◌++◌, List, [], ℕ, Bool, false, subst, take, drop, get_or, arith}
-use Rattle.certify.specs.Holding.{HeldScript, held_script}
-use Rattle.certify.specs.ScriptReading.{TakesByte, Means}
-use Rattle.certify.proofs.Reading.{reached_stop, reached_end, split_at, if_ok}
+use Rattle.certify.specs.script.CappedNames.{CappedScript, capped_script}
+use Rattle.certify.specs.script.ScriptReading.{TakesByte, Means}
+use Rattle.certify.proofs.lemmas.script.TokensAndBytes.{reached_stop, reached_end, split_at, if_ok}
 use Rattle.certify.proofs.script.reader.parse.Goals as goal
 
 pub returns-then-not-branch : goal.returns-then-not-branch
@@ -17,4 +17,4 @@ pub returns : goal.returns
 returns c =
     let i = c.loop-byte.byte-index in
     let xs = c.args.text.now in
-    if_ok c.finish.result _ _ (λ (s : HeldScript) (h : (before : List ℕ → HeldScript) → Means c.loop-byte.parser before → s ≡ before []). h (λ rest. held_script (take i xs ++ rest)) c.loop-byte.invariant ∙ reached_end xs i (omega arith)) c.finish.ensures
+    if_ok c.finish.result _ _ (λ (s : CappedScript) (h : (before : List ℕ → CappedScript) → Means c.loop-byte.parser before → s ≡ before []). h (λ rest. capped_script (take i xs ++ rest)) c.loop-byte.invariant ∙ reached_end xs i (omega arith)) c.finish.ensures

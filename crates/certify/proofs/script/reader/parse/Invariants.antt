@@ -1,5 +1,5 @@
 use Rattle.std.proofs.Common.{take}
-use Rattle.certify.proofs.Reading.{Reached}
+use Rattle.certify.proofs.lemmas.script.TokensAndBytes.{Reached}
 use Rattle.certify.proofs.script.reader.parse.Given as goal
 
 abbrev pub invariant-loop-byte : goal.invariant-loop-byte

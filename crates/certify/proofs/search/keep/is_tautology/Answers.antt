@@ -2,7 +2,7 @@ use Rattle.std.proofs.Common.{◌≡◌, ◌<◌, ◌-◌, ◌∙◌, length, sy
 use Rattle.std.proofs.lemmas.Bool.Decides.{nat_tests}
 use Rattle.std.proofs.lemmas.List.{get_or_read}
 use Rattle.sat_base.specs.values.Literals.{negated}
-use Rattle.certify.proofs.SearchKeeping.{both_signs}
+use Rattle.certify.proofs.lemmas.search.KeptClauses.{both_signs}
 use Rattle.certify.proofs.search.keep.is_tautology.Goals as goal
 
 pub returns-then-eq : goal.returns-then-eq

@@ -2,9 +2,9 @@ use Rattle.std.proofs.Common.{◌≡◌, ◌<◌, ◌++◌, ◌∷◌, [], true,
 use Rattle.std.proofs.lemmas.Bool.Decides.{nat_tests}
 use Rattle.std.proofs.lemmas.List.{get_or_read}
 use Rattle.sat_base.specs.values.Literals.{is_positive, variable}
-use Rattle.certify.specs.Search.{value_of, is_false}
-use Rattle.certify.specs.Kept.{UnitsFollow}
-use Rattle.certify.proofs.SearchKeeping.{keeps_contradiction, units_set}
+use Rattle.certify.specs.search.Search.{value_of, is_false}
+use Rattle.certify.specs.search.KeptClauses.{UnitsFollow}
+use Rattle.certify.proofs.lemmas.search.KeptClauses.{keeps_contradiction, units_set}
 use Rattle.certify.proofs.search.keep.keep.Goals as goal
 
 pub returns-then-is_false-clause-keeps : goal.returns-then-is_false-clause-keeps

@@ -1,6 +1,6 @@
 use Rattle.std.proofs.Common.{◌≡◌, eqb, subst, IsPermutation}
 use Rattle.std.proofs.lemmas.List.Filters.{dedup_is}
-use Rattle.certify.proofs.SearchKeeping.{normal_from_sort}
+use Rattle.certify.proofs.lemmas.search.KeptClauses.{normal_from_sort}
 use Rattle.certify.proofs.search.keep.normalize.Goals as goal
 
 pub returns : goal.returns

@@ -1,7 +1,7 @@
 use Rattle.std.proofs.Common.{◌≡◌, ◌<◌, ◌++◌, drop, length}
 use Rattle.std.specs.Option.{option_to_list, IfSome}
 use Rattle.sat_base.specs.values.Literals.{variable}
-use Rattle.certify.specs.Search.{not_false}
+use Rattle.certify.specs.search.Search.{not_false}
 use Rattle.certify.proofs.search.look.look_at.Given as goal
 
 -- the literals that aren't false are the open one, if it was met, and those still to come

@@ -1,5 +1,5 @@
 use Rattle.std.proofs.Common.{◌≡◌, ℕ, ◌<◌, None, false, slice_index_or}
-use Rattle.certify.specs.Search.{is_open}
+use Rattle.certify.specs.search.Search.{is_open}
 use Rattle.certify.proofs.search.propagate.lowest_open.Given as goal
 
 abbrev pub invariant-loop-index : goal.invariant-loop-index

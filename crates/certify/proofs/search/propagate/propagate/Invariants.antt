@@ -1,10 +1,10 @@
 use Rattle.std.proofs.Common.{◌≤◌}
-use Rattle.certify.specs.Search.{Follows, open_count}
+use Rattle.certify.specs.search.Search.{ValuesFollow, open_count}
 use Rattle.certify.proofs.search.propagate.propagate.Given as goal
 
 abbrev pub invariant-loop : goal.invariant-loop
 invariant-loop l = record {
-  follows : Follows l.clauses l.fn.values l.values;
+  follows : ValuesFollow l.clauses l.fn.values l.values;
   fewer : open_count l.values ≤ open_count l.fn.values;
 }
 

@@ -1,6 +1,6 @@
 use Rattle.std.proofs.Common.{◌≡◌, ◌<◌, length, subst, arith}
-use Rattle.certify.specs.Search.{AreBounded}
-use Rattle.certify.proofs.SearchScan.{scan_assigned, scan_nothing, scan_conflict}
+use Rattle.certify.specs.search.Search.{AreBounded}
+use Rattle.certify.proofs.lemmas.search.Scans.{scan_assigned, scan_nothing, scan_conflict}
 use Rattle.certify.proofs.search.propagate.scan.Goals as goal
 
 pub returns-in-Conflict-clause-says : goal.returns-in-Conflict-clause-says

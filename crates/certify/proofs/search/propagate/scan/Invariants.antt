@@ -1,4 +1,4 @@
-use Rattle.certify.proofs.SearchScan.{Scanned}
+use Rattle.certify.proofs.lemmas.search.Scans.{Scanned}
 use Rattle.certify.proofs.search.propagate.scan.Given as goal
 
 abbrev pub invariant-loop-place : goal.invariant-loop-place

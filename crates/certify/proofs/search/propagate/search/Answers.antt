@@ -1,8 +1,8 @@
 use Rattle.std.proofs.Common.{◌≡◌, ◌<◌, ◌++◌, ◌∷◌, [], true, false, Some, length, set, subst, sym, arith}
 use Rattle.std.proofs.lemmas.List.{length-set}
 use Rattle.sat_base.specs.values.Literals.{coded}
-use Rattle.certify.specs.Search.{FollowsDenied, IsBounded, IsLowestOpen}
-use Rattle.certify.proofs.SearchDecisions.{denied_further, denied_decided, bounded_decided}
+use Rattle.certify.specs.search.Search.{ValuesFollowDenied, IsBounded, IsLowestOpen}
+use Rattle.certify.proofs.lemmas.search.Decisions.{denied_further, denied_decided, bounded_decided}
 use Rattle.certify.proofs.search.propagate.search.Goals as goal
 
 pub loop-values-preserved : goal.loop-values-preserved
@@ -19,6 +19,6 @@ loop-values-preserved c =
     let denied = denied_further clauses learned c.loop-values.values now c.loop-values.invariant.denied c.propagate.ensures.follows in
     let bounded = bounded_decided (length c.loop-values.values) learned v c.loop-values.invariant.bounded inside in
     record {
-      denied = subst (λ ls. FollowsDenied clauses ls new) (sym pushed) (denied_decided clauses learned now v denied);
+      denied = subst (λ ls. ValuesFollowDenied clauses ls new) (sym pushed) (denied_decided clauses learned now v denied);
       bounded = subst (λ ls. IsBounded (length new) ls) (sym pushed) (subst (λ n. IsBounded n (learned ++ coded v true ∷ [])) same bounded);
     }

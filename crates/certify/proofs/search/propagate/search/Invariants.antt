@@ -1,10 +1,10 @@
 use Rattle.std.proofs.Common.{length}
-use Rattle.certify.specs.Search.{FollowsDenied, IsBounded, open_count}
+use Rattle.certify.specs.search.Search.{ValuesFollowDenied, IsBounded, open_count}
 use Rattle.certify.proofs.search.propagate.search.Given as goal
 
 abbrev pub invariant-loop-values : goal.invariant-loop-values
 invariant-loop-values l = record {
-  denied : FollowsDenied l.clauses l.learned.items l.values;
+  denied : ValuesFollowDenied l.clauses l.learned.items l.values;
   bounded : IsBounded (length l.values) l.learned.items;
 }
 

@@ -2,9 +2,9 @@ use Rattle.std.proofs.Common.{◌≡◌, ◌≢◌, ◌<◌, ◌-◌, ◌^◌, �
 use Rattle.std.proofs.lemmas.Bool.{not-true, not-false}
 use Rattle.std.proofs.lemmas.Bool.Decides.{nat_tests}
 use Rattle.sat_base.specs.device.Writing.{written_by}
-use Rattle.certify.specs.Held.{RoundSays}
-use Rattle.certify.specs.Solved.{WritesDerived}
-use Rattle.certify.proofs.SearchAsking.{asking_unsat, asking_sat, asking_more}
+use Rattle.certify.specs.search.SolverState.{RoundSays}
+use Rattle.certify.specs.search.SearchEnds.{WritesDerived}
+use Rattle.certify.proofs.lemmas.search.DerivedSteps.{asking_unsat, asking_sat, asking_more}
 use Rattle.certify.proofs.search.solve.solve.Goals as goal
 
 pub returns-in-Model-clause-answers : goal.returns-in-Model-clause-answers

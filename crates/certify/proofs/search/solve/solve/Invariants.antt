@@ -1,6 +1,6 @@
 use Rattle.std.proofs.Common.{◌-◌}
 use Rattle.sat_base.specs.device.Writing.{written_by}
-use Rattle.certify.proofs.SearchAsking.{Asking}
+use Rattle.certify.proofs.lemmas.search.DerivedSteps.{Asking}
 use Rattle.certify.proofs.search.solve.solve.Given as goal
 
 abbrev pub invariant-loop-budget : goal.invariant-loop-budget

@@ -1,7 +1,7 @@
 use Rattle.std.proofs.Common.{subst, sym}
 use Rattle.sat_base.specs.device.Writing.{written_by}
-use Rattle.certify.specs.Search.{IsBounded}
-use Rattle.certify.proofs.SearchAsking.{one_derived}
+use Rattle.certify.specs.search.Search.{IsBounded}
+use Rattle.certify.proofs.lemmas.search.DerivedSteps.{one_derived}
 use Rattle.certify.proofs.search.solve.write_learned.Goals as goal
 
 pub returns-in-Ok : goal.returns-in-Ok

@@ -1,4 +1,4 @@
-use Rattle.certify.specs.Search.{IsBounded}
+use Rattle.certify.specs.search.Search.{IsBounded}
 use Rattle.certify.proofs.search.tests.add.Given as goal
 
 abbrev pub invariant-loop-number : goal.invariant-loop-number

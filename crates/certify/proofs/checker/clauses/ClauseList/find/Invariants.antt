@@ -1,5 +1,5 @@
 use Rattle.std.proofs.Common.{◌≡◌, ◌<◌, ℕ, false}
-use Rattle.certify.specs.ClausesView.{is_same_at}
+use Rattle.certify.specs.checker.ListEntries.{is_same_at}
 use Rattle.certify.proofs.checker.clauses.ClauseList.find.Given as goal
 
 -- the literals stand nowhere before

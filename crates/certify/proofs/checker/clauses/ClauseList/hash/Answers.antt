@@ -1,6 +1,6 @@
 use Rattle.std.proofs.Common.{◌∙◌, ap}
 use Rattle.sat_base.specs.values.Hashes.{hash_of}
-use Rattle.certify.proofs.ClauseLemmas.{literals_read, entry_read}
+use Rattle.certify.proofs.lemmas.checker.ListEntries.{literals_read, entry_read}
 use Rattle.certify.proofs.checker.clauses.ClauseList.hash.Goals as goal
 
 pub returns : goal.returns

@@ -1,4 +1,4 @@
-use Rattle.certify.proofs.ClauseLemmas.{flag_read}
+use Rattle.certify.proofs.lemmas.checker.ListEntries.{flag_read}
 use Rattle.certify.proofs.checker.clauses.ClauseList.is_irredundant.Goals as goal
 
 pub returns : goal.returns

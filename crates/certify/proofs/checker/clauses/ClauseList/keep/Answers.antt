@@ -1,4 +1,4 @@
-use Rattle.certify.proofs.ClauseLemmas.{kept_view}
+use Rattle.certify.proofs.lemmas.checker.ListEntries.{kept_view}
 use Rattle.certify.proofs.checker.clauses.ClauseList.keep.Goals as goal
 
 pub returns : goal.returns

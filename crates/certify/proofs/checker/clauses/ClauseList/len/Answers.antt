@@ -1,4 +1,4 @@
-use Rattle.certify.proofs.ClauseLemmas.{each_increasing}
+use Rattle.certify.proofs.lemmas.checker.ListEntries.{each_increasing}
 use Rattle.certify.proofs.checker.clauses.ClauseList.len.Goals as goal
 
 pub returns-clause-increasing : goal.returns-clause-increasing

@@ -1,4 +1,4 @@
-use Rattle.certify.proofs.ClauseLemmas.{literals_read}
+use Rattle.certify.proofs.lemmas.checker.ListEntries.{literals_read}
 use Rattle.certify.proofs.checker.clauses.ClauseList.literals.Goals as goal
 
 pub returns : goal.returns

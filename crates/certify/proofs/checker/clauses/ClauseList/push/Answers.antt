@@ -1,5 +1,5 @@
 use Rattle.std.proofs.Common.{◌≡◌, length, is_ok, rules}
-use Rattle.certify.proofs.ClauseLemmas.{new_entry, pushed_entries, pushed_view}
+use Rattle.certify.proofs.lemmas.checker.ListEntries.{new_entry, pushed_entries, pushed_view}
 use Rattle.certify.proofs.checker.clauses.ClauseList.push.Goals as goal
 
 pub invariant_of-self-2 : goal.invariant_of-self-2

@@ -1,7 +1,7 @@
 use Rattle.std.proofs.Common.{ℕ, ◌≡◌, ◌==◌, ◌||◌, drop, map}
 use Rattle.std.specs.List.{list_any}
 use Rattle.sat_base.specs.values.Literals.{variable}
-use Rattle.certify.specs.Marks.{is_marked}
+use Rattle.certify.specs.checker.Marks.{is_marked}
 use Rattle.certify.proofs.checker.mark_set.MarkSet.insert_variables.Given as goal
 
 -- the marks so far and the literals that are left give what the marks and all literals gave

@@ -1,7 +1,7 @@
 use Rattle.std.proofs.Common.{ap}
 use Rattle.sat_base.specs.steps.StepViews.{step_of}
 use Rattle.certify.specs.declared.verdict.Why.TheVariants.{ClauseDiffers}
-use Rattle.certify.proofs.Comparing.{adds_fit, adds_unfit}
+use Rattle.certify.proofs.lemmas.confirm.ComparedSteps.{adds_fit, adds_unfit}
 use Rattle.certify.proofs.confirm.certificate.Certificate.adds.Goals as goal
 
 pub returns-then-branch-clause-fits : goal.returns-then-branch-clause-fits

@@ -1,8 +1,8 @@
 use Rattle.std.proofs.Common.{true, false, refl, sym, ◌∙◌, ap, subst}
-use Rattle.certify.specs.Checking.{is_ordered}
+use Rattle.certify.specs.confirm.Checking.{is_ordered}
 use Rattle.certify.specs.declared.verdict.Why.TheVariants.{StepRefused}
-use Rattle.certify.specs.HeldStep.{ReadsNext}
-use Rattle.certify.proofs.Stepping.{is_none, is_step, is_passed, is_refused, right}
+use Rattle.certify.specs.confirm.ReadSteps.{ReadsNext}
+use Rattle.certify.proofs.lemmas.confirm.CertificateSteps.{is_none, is_step, is_passed, is_refused, right}
 use Rattle.certify.proofs.confirm.certificate.Certificate.advance.Goals as goal
 
 pub returns-in-Some : goal.returns-in-Some

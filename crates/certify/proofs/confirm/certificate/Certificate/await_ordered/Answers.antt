@@ -1,4 +1,4 @@
-use Rattle.certify.proofs.Stepping.{pass_on, pass_end}
+use Rattle.certify.proofs.lemmas.confirm.CertificateSteps.{pass_on, pass_end}
 use Rattle.certify.proofs.confirm.certificate.Certificate.await_ordered.Goals as goal
 
 pub returns-in-Some : goal.returns-in-Some

@@ -1,6 +1,6 @@
 use Rattle.std.proofs.Common.{◌≡◌, ◌-◌, ◌<◌, length, arith}
-use Rattle.certify.specs.Accepts.{stored_after}
-use Rattle.certify.proofs.Naming.{names_cut, names_more, names_barred, names_done}
+use Rattle.certify.specs.checker.Accepts.{stored_after}
+use Rattle.certify.proofs.lemmas.confirm.NamesPut.{names_cut, names_more, names_barred, names_done}
 use Rattle.certify.proofs.confirm.certificate.Certificate.bring_name.Goals as goal
 
 pub returns-then-unsat : goal.returns-then-unsat

@@ -1,8 +1,8 @@
 use Rattle.std.proofs.Common.{◌∷◌, [], refl}
 use Rattle.sat_base.specs.script.Judge.{Judge}
-use Rattle.certify.specs.Matches.{Closes}
-use Rattle.certify.specs.Standing.{Goes, Takes}
-use Rattle.certify.proofs.Stepping.{cut_goes, none_goes, unfit_goes, take_goes, ok_so}
+use Rattle.certify.specs.confirm.Matches.{Closes}
+use Rattle.certify.specs.confirm.CertificateSteps.{MeetsPending, FeedsStep}
+use Rattle.certify.proofs.lemmas.confirm.CertificateSteps.{cut_goes, none_goes, unfit_goes, take_goes, ok_so}
 use Rattle.certify.proofs.confirm.certificate.Certificate.close.Goals as goal
 
 pub returns-in-Cut : goal.returns-in-Cut
@@ -15,5 +15,5 @@ pub returns-in-Some : goal.returns-in-Some
 returns-in-Some c = λ j. unfit_goes (λ _. Closes) c.args.self.now c.await_ordered.new.self c.in_ok-await_ordered.field-0 c.in_ok-await_ordered.ensures j j c.await_ordered.new.self c.in-Some.why c.closes.result c.in-Step.is c.in-Some.is c.closes.ensures
 
 pub returns : goal.returns
-returns c = ok_so c.take.result (Takes c.await_ordered.new.self c.take.new.self) (λ why. (j : Judge) → Goes c.args.self.now c.take.new.self j (Closes ∷ []) j why)
+returns c = ok_so c.take.result (FeedsStep c.await_ordered.new.self c.take.new.self) (λ why. (j : Judge) → MeetsPending c.args.self.now c.take.new.self j (Closes ∷ []) j why)
     (λ taken t j. take_goes (λ _. Closes) c.args.self.now c.await_ordered.new.self c.in_ok-await_ordered.field-0 c.in_ok-await_ordered.ensures j c.take.new.self c.closes.result taken c.in-Step.is c.in_default.is c.closes.ensures t refl) c.take.ensures

@@ -1,9 +1,9 @@
 use Rattle.std.proofs.Common.{sym, ◌∙◌, ap, subst}
 use Rattle.sat_base.specs.steps.StepViews.{step_of}
 use Rattle.sat_base.specs.steps.Steps.{Assumptions}
-use Rattle.certify.specs.Matches.{Closes, Fits, closes}
-use Rattle.certify.specs.TheChecking.{the_checking}
-use Rattle.certify.proofs.Stepping.{nothing_in}
+use Rattle.certify.specs.confirm.Matches.{Closes, Fits, closes}
+use Rattle.certify.specs.confirm.ListChecking.{the_checking}
+use Rattle.certify.proofs.lemmas.confirm.CertificateSteps.{nothing_in}
 use Rattle.certify.proofs.confirm.certificate.Certificate.closes.Goals as goal
 
 pub returns-then-is_empty : goal.returns-then-is_empty

@@ -1,9 +1,9 @@
 use Rattle.std.proofs.Common.{◌∷◌, [], refl}
 use Rattle.sat_base.specs.script.Judge.{Judge}
-use Rattle.certify.specs.Matches.{Adds}
-use Rattle.certify.specs.Standing.{Goes, Takes}
+use Rattle.certify.specs.confirm.Matches.{Adds}
+use Rattle.certify.specs.confirm.CertificateSteps.{MeetsPending, FeedsStep}
 use Rattle.certify.specs.declared.confirm.certificate.Awaited.TheVariants as awaited
-use Rattle.certify.proofs.Stepping.{step_stays, cut_goes, none_goes, unfit_goes, take_goes, ok_so}
+use Rattle.certify.proofs.lemmas.confirm.CertificateSteps.{step_stays, cut_goes, none_goes, unfit_goes, take_goes, ok_so}
 use Rattle.certify.proofs.confirm.certificate.Certificate.expect_clause.Goals as goal
 
 pub returns-in-Cut : goal.returns-in-Cut
@@ -16,5 +16,5 @@ pub returns-in-Some : goal.returns-in-Some
 returns-in-Some c = λ j. unfit_goes (λ (_ : Judge). (Adds c.args.literals.now)) c.args.self.now c.adds.new.self awaited.Step (step_stays c.args.self.now c.await_ordered.new.self c.adds.new.self c.in_ok-await_ordered.field-0 c.in-Step.is c.adds.ensures.stays c.in_ok-await_ordered.ensures) j j c.adds.new.self c.in-Some.why c.in_ok-why.field-0 refl c.in-Some.is c.in_ok-why.ensures.fits
 
 pub returns : goal.returns
-returns c = ok_so c.take.result (Takes c.adds.new.self c.take.new.self) (λ why. (j : Judge) → Goes c.args.self.now c.take.new.self j ((Adds c.args.literals.now) ∷ []) j why)
+returns c = ok_so c.take.result (FeedsStep c.adds.new.self c.take.new.self) (λ why. (j : Judge) → MeetsPending c.args.self.now c.take.new.self j ((Adds c.args.literals.now) ∷ []) j why)
     (λ taken t j. take_goes (λ (_ : Judge). (Adds c.args.literals.now)) c.args.self.now c.adds.new.self awaited.Step (step_stays c.args.self.now c.await_ordered.new.self c.adds.new.self c.in_ok-await_ordered.field-0 c.in-Step.is c.adds.ensures.stays c.in_ok-await_ordered.ensures) j c.take.new.self c.in_ok-why.field-0 taken refl c.in_default.is c.in_ok-why.ensures.fits t refl) c.take.ensures

@@ -1,11 +1,11 @@
 use Rattle.std.proofs.Common.{List, ◌∷◌, [], refl}
 use Rattle.sat_base.specs.script.Judge.{Judge}
 use Rattle.sat_base.specs.script.Script.{Literal}
-use Rattle.certify.specs.Matches.{Fails}
-use Rattle.certify.specs.Standing.{Goes, Takes}
+use Rattle.certify.specs.confirm.Matches.{Fails}
+use Rattle.certify.specs.confirm.CertificateSteps.{MeetsPending, FeedsStep}
 use Rattle.certify.specs.declared.verdict.Why.TheVariants.{AnswerDiffers}
 use Rattle.certify.specs.declared.confirm.certificate.Awaited.TheVariants as awaited
-use Rattle.certify.proofs.Stepping.{step_stays, cut_goes, cut_bars, none_goes, unfit_goes, take_goes, nothing_in, something_in, ok_so}
+use Rattle.certify.proofs.lemmas.confirm.CertificateSteps.{step_stays, cut_goes, cut_bars, none_goes, unfit_goes, take_goes, nothing_in, something_in, ok_so}
 use Rattle.certify.proofs.confirm.certificate.Certificate.expect_core.Goals as goal
 
 pub returns-then-is_empty : goal.returns-then-is_empty
@@ -21,5 +21,5 @@ pub returns-in-Some : goal.returns-in-Some
 returns-in-Some c = λ j ask. unfit_goes (λ (_ : Judge). Fails ask c.args.core.now) c.args.self.now c.fails.new.self awaited.Step (step_stays c.args.self.now c.await_ordered.new.self c.fails.new.self c.in_ok-await_ordered.field-0 c.in-Step.is c.fails.ensures.stays c.in_ok-await_ordered.ensures) j j c.fails.new.self c.in-Some.why c.in_ok-why.field-0 refl c.in-Some.is (c.in_ok-why.ensures.fits ask)
 
 pub returns : goal.returns
-returns c = ok_so c.take.result (Takes c.fails.new.self c.take.new.self) (λ why. (j : Judge) (ask : List Literal) → Goes c.args.self.now c.take.new.self j (Fails ask c.args.core.now ∷ []) j why)
+returns c = ok_so c.take.result (FeedsStep c.fails.new.self c.take.new.self) (λ why. (j : Judge) (ask : List Literal) → MeetsPending c.args.self.now c.take.new.self j (Fails ask c.args.core.now ∷ []) j why)
     (λ taken t j ask. take_goes (λ (_ : Judge). Fails ask c.args.core.now) c.args.self.now c.fails.new.self awaited.Step (step_stays c.args.self.now c.await_ordered.new.self c.fails.new.self c.in_ok-await_ordered.field-0 c.in-Step.is c.fails.ensures.stays c.in_ok-await_ordered.ensures) j c.take.new.self c.in_ok-why.field-0 taken refl c.in_default.is (c.in_ok-why.ensures.fits ask) t refl) c.take.ensures

@@ -1,7 +1,7 @@
 use Rattle.std.proofs.Common.{ap}
 use Rattle.sat_base.specs.steps.StepViews.{step_of}
 use Rattle.certify.specs.declared.verdict.Why.TheVariants.{AnswerDiffers}
-use Rattle.certify.proofs.Comparing.{fails_fit, fails_unfit}
+use Rattle.certify.proofs.lemmas.confirm.ComparedSteps.{fails_fit, fails_unfit}
 use Rattle.certify.proofs.confirm.certificate.Certificate.fails.Goals as goal
 
 pub returns-then-branch-clause-fits : goal.returns-then-branch-clause-fits

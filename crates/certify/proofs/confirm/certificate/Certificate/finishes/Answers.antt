@@ -1,7 +1,7 @@
 use Rattle.std.proofs.Common.{sym, ◌∙◌, ap, subst}
 use Rattle.sat_base.specs.steps.StepViews.{step_of}
-use Rattle.certify.specs.Matches.{Finish, Fits, finish}
-use Rattle.certify.specs.TheChecking.{the_checking}
+use Rattle.certify.specs.confirm.Matches.{Finish, Fits, finish}
+use Rattle.certify.specs.confirm.ListChecking.{the_checking}
 use Rattle.certify.proofs.confirm.certificate.Certificate.finishes.Goals as goal
 
 pub returns-in-End : goal.returns-in-End

@@ -1,7 +1,7 @@
 use Rattle.std.proofs.Common.{ap}
 use Rattle.sat_base.specs.steps.StepViews.{step_of}
 use Rattle.certify.specs.declared.verdict.Why.TheVariants.{AskDiffers}
-use Rattle.certify.proofs.Comparing.{opens_fit, opens_unfit}
+use Rattle.certify.proofs.lemmas.confirm.ComparedSteps.{opens_fit, opens_unfit}
 use Rattle.certify.proofs.confirm.certificate.Certificate.opens.Goals as goal
 
 pub returns-then-branch-clause-fits : goal.returns-then-branch-clause-fits

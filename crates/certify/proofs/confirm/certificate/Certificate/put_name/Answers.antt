@@ -1,7 +1,7 @@
 use Rattle.std.proofs.Common.{true, false, refl}
 use Rattle.certify.specs.declared.verdict.Why.TheVariants.{StepRefused}
-use Rattle.certify.proofs.Stepping.{right}
-use Rattle.certify.proofs.Naming.{puts, put_refused}
+use Rattle.certify.proofs.lemmas.confirm.CertificateSteps.{right}
+use Rattle.certify.proofs.lemmas.confirm.NamesPut.{puts, put_refused}
 use Rattle.certify.proofs.confirm.certificate.Certificate.put_name.Goals as goal
 
 pub returns-in_ok-push : goal.returns-in_ok-push

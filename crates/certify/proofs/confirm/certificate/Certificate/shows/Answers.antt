@@ -5,7 +5,7 @@ use Rattle.sat_base.specs.script.Script.{Among, names_of}
 use Rattle.sat_base.specs.script.Judge.{names_from}
 use Rattle.sat_base.specs.steps.StepViews.{step_of}
 use Rattle.certify.specs.declared.verdict.Why.TheVariants.{AnswerDiffers}
-use Rattle.certify.proofs.Comparing.{shows_fit, shows_unfit, shows_unlisted}
+use Rattle.certify.proofs.lemmas.confirm.ComparedSteps.{shows_fit, shows_unfit, shows_unlisted}
 use Rattle.certify.proofs.confirm.certificate.Certificate.shows.Goals as goal
 
 pub returns-then-branch-clause-fits : goal.returns-then-branch-clause-fits

@@ -1,5 +1,5 @@
 use Rattle.std.proofs.Common.{true, refl}
-use Rattle.certify.proofs.Stepping.{fed_step, right}
+use Rattle.certify.proofs.lemmas.confirm.CertificateSteps.{fed_step, right}
 use Rattle.certify.proofs.confirm.certificate.Certificate.take.Goals as goal
 
 pub returns-then-branch : goal.returns-then-branch

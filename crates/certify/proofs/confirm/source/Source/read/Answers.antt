@@ -1,6 +1,6 @@
 use Rattle.std.proofs.Common.{ap, sym, ◌∙◌}
-use Rattle.certify.specs.HeldStep.{Place}
-use Rattle.certify.proofs.SourceSteps.{reads_step}
+use Rattle.certify.specs.confirm.ReadSteps.{Place}
+use Rattle.certify.proofs.lemmas.confirm.SourceSteps.{reads_step}
 use Rattle.certify.proofs.confirm.source.Source.read.Goals as goal
 
 pub returns-in-Ok : goal.returns-in-Ok

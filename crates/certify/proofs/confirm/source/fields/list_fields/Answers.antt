@@ -1,7 +1,7 @@
 use Rattle.std.proofs.Common.{rules}
 use Rattle.std.proofs.lemmas.Result.{err_from_is_err_and}
 use Rattle.sat_base.proofs.lemmas.steps.TagForms.{clause_form, at_form, units_form, deletion_form, model_form, assumptions_form, failed_form}
-use Rattle.certify.proofs.SourceSteps.{stops_behind}
+use Rattle.certify.proofs.lemmas.confirm.SourceSteps.{stops_behind}
 use Rattle.certify.proofs.confirm.source.fields.list_fields.Goals as goal
 
 pub returns-in_err-literals : goal.returns-in_err-literals

@@ -1,6 +1,6 @@
 use Rattle.std.proofs.lemmas.Result.{err_from_is_err_and}
 use Rattle.sat_base.proofs.lemmas.steps.TagForms.{solver_form, user_form, variable_form, mode_form, width_form}
-use Rattle.certify.proofs.SourceSteps.{stops_behind}
+use Rattle.certify.proofs.lemmas.confirm.SourceSteps.{stops_behind}
 use Rattle.certify.proofs.confirm.source.fields.plain_fields.Goals as goal
 
 pub returns-in_err-global : goal.returns-in_err-global

@@ -2,7 +2,7 @@ use Rattle.std.proofs.lemmas.Result.{err_from_is_err_and}
 use Rattle.sat_base.specs.steps.StepText.{IsDeletion, AreLiterals}
 use Rattle.sat_base.specs.steps.StepViews.{deletion_of}
 use Rattle.sat_base.proofs.lemmas.steps.StepReads.{one_literals}
-use Rattle.certify.proofs.SourceFormats.{first_fails, second_gives}
+use Rattle.certify.proofs.lemmas.confirm.SourceFormats.{first_fails, second_gives}
 use Rattle.certify.proofs.confirm.source.groups.clause_and_deletion.Goals as goal
 
 pub returns-in_err-literals : goal.returns-in_err-literals

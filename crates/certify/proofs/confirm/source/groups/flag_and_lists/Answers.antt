@@ -2,7 +2,7 @@ use Rattle.std.proofs.lemmas.Result.{err_from_is_err_and}
 use Rattle.sat_base.specs.steps.Formats.{Both}
 use Rattle.sat_base.specs.steps.StepText.{IsFlag, AreLiterals, AreHashes}
 use Rattle.sat_base.proofs.lemmas.steps.StepReads.{one_flag}
-use Rattle.certify.proofs.SourceFormats.{first_fails, second_fails, both}
+use Rattle.certify.proofs.lemmas.confirm.SourceFormats.{first_fails, second_fails, both}
 use Rattle.certify.proofs.confirm.source.groups.flag_and_lists.Goals as goal
 
 pub returns-in_err-flag : goal.returns-in_err-flag

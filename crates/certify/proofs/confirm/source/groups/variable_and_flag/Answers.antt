@@ -2,7 +2,7 @@ use Rattle.std.proofs.lemmas.Result.{err_from_is_err_and}
 use Rattle.sat_base.specs.values.Literals.{largest}
 use Rattle.sat_base.specs.steps.StepText.{IsVariable, IsFlag}
 use Rattle.sat_base.proofs.lemmas.steps.Numbers.{one_below}
-use Rattle.certify.proofs.SourceFormats.{first_fails, second_fails, both}
+use Rattle.certify.proofs.lemmas.confirm.SourceFormats.{first_fails, second_fails, both}
 use Rattle.certify.proofs.confirm.source.groups.variable_and_flag.Goals as goal
 
 pub returns-in_err-var : goal.returns-in_err-var

@@ -3,7 +3,7 @@ use Rattle.std.proofs.lemmas.Result.{err_from_is_err_and}
 use Rattle.sat_base.specs.values.Literals.{largest}
 use Rattle.sat_base.specs.steps.StepText.{IsLiteral}
 use Rattle.sat_base.proofs.lemmas.steps.Numbers.{one_below}
-use Rattle.certify.proofs.SourceFormats.{counted_none, counted_more, counted_fails, counted_all}
+use Rattle.certify.proofs.lemmas.confirm.SourceFormats.{counted_none, counted_more, counted_fails, counted_all}
 use Rattle.certify.proofs.confirm.source.lists.literal_items.Goals as goal
 
 pub loop-init : goal.loop-init

@@ -1,5 +1,5 @@
 use Rattle.sat_base.specs.steps.StepText.{IsLiteral}
-use Rattle.certify.proofs.SourceFormats.{Counted}
+use Rattle.certify.proofs.lemmas.confirm.SourceFormats.{Counted}
 use Rattle.certify.proofs.confirm.source.lists.literal_items.Given as goal
 
 abbrev pub invariant-loop : goal.invariant-loop

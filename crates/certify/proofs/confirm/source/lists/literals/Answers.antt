@@ -3,8 +3,8 @@ use Rattle.std.proofs.lemmas.Result.{err_from_is_err_and}
 use Rattle.sat_base.specs.steps.Numbers.{IsBelow}
 use Rattle.sat_base.specs.steps.StepText.{IsLiteral}
 use Rattle.sat_base.proofs.lemmas.steps.Numbers.{one_below}
-use Rattle.certify.specs.SourceReading.{giving}
-use Rattle.certify.proofs.SourceFormats.{list_fails, list_gives}
+use Rattle.certify.specs.confirm.SourceReading.{giving}
+use Rattle.certify.proofs.lemmas.confirm.SourceFormats.{list_fails, list_gives}
 use Rattle.certify.proofs.confirm.source.lists.literals.Goals as goal
 
 pub returns-in_err-count : goal.returns-in_err-count

@@ -3,7 +3,7 @@ use Rattle.std.proofs.lemmas.Result.{err_from_is_err_and}
 use Rattle.sat_base.specs.values.Literals.{largest}
 use Rattle.sat_base.specs.steps.StepText.{IsLiteral, IsHash}
 use Rattle.sat_base.proofs.lemmas.steps.Numbers.{one_below}
-use Rattle.certify.proofs.SourceFormats.{first_fails, second_fails, both}
+use Rattle.certify.proofs.lemmas.confirm.SourceFormats.{first_fails, second_fails, both}
 use Rattle.certify.proofs.confirm.source.lists.unit.Goals as goal
 
 pub returns-in_err-lit : goal.returns-in_err-lit

@@ -1,6 +1,6 @@
 use Rattle.sat_base.specs.steps.Formats.{Both}
 use Rattle.sat_base.specs.steps.StepText.{IsLiteral, IsHash}
-use Rattle.certify.proofs.SourceFormats.{Counted}
+use Rattle.certify.proofs.lemmas.confirm.SourceFormats.{Counted}
 use Rattle.certify.proofs.confirm.source.lists.unit_items.Given as goal
 
 abbrev pub invariant-loop : goal.invariant-loop

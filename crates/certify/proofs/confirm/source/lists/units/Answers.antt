@@ -4,8 +4,8 @@ use Rattle.sat_base.specs.steps.Formats.{Both}
 use Rattle.sat_base.specs.steps.Numbers.{IsBelow}
 use Rattle.sat_base.specs.steps.StepText.{IsLiteral, IsHash}
 use Rattle.sat_base.proofs.lemmas.steps.Numbers.{one_below}
-use Rattle.certify.specs.SourceReading.{giving}
-use Rattle.certify.proofs.SourceFormats.{list_fails, list_gives}
+use Rattle.certify.specs.confirm.SourceReading.{giving}
+use Rattle.certify.proofs.lemmas.confirm.SourceFormats.{list_fails, list_gives}
 use Rattle.certify.proofs.confirm.source.lists.units.Goals as goal
 
 pub returns-in_err-count : goal.returns-in_err-count

@@ -1,6 +1,6 @@
 use Rattle.std.proofs.Common.{arith}
 use Rattle.std.proofs.lemmas.Grind.{common_steps}
-use Rattle.certify.proofs.SourceNumbers.{zero_at, large_at, on_at, read_at, more_at, cut_at}
+use Rattle.certify.proofs.lemmas.confirm.SourceNumbers.{zero_at, large_at, on_at, read_at, more_at, cut_at}
 use Rattle.certify.proofs.confirm.source.numbers.number.Goals as goal
 use Rattle.certify.proofs.confirm.source.numbers.number.Goals.{else-byte-eq0-via-then-byte-eq0+else-i-gt0, else-byte-eq0-via-else-byte-eq0}
 

@@ -1,7 +1,7 @@
 use Rattle.std.proofs.Common.{refl}
 use Rattle.certify.specs.declared.script.reader.Hand.TheVariants as at
 use Rattle.certify.specs.declared.script.reader.Commands.{Commands}
-use Rattle.certify.proofs.Reading.{added}
+use Rattle.certify.proofs.lemmas.script.TokensAndBytes.{added}
 use Rattle.certify.proofs.script.reader.Commands.add_literal.Goals as goal
 
 pub returns-in_ok-push-in_default : goal.returns-in_ok-push-in_default

@@ -2,8 +2,8 @@ use Rattle.std.proofs.Common.{refl, arith}
 use Rattle.certify.specs.declared.script.Part.{Part}
 use Rattle.certify.specs.declared.script.reader.Hand.TheVariants as at
 use Rattle.certify.specs.declared.script.reader.Commands.{Commands}
-use Rattle.certify.specs.ScriptReading.{literals_left}
-use Rattle.certify.proofs.Reading.{ended}
+use Rattle.certify.specs.script.ScriptReading.{literals_left}
+use Rattle.certify.proofs.lemmas.script.TokensAndBytes.{ended}
 use Rattle.certify.proofs.script.reader.Commands.end_command.Goals as goal
 
 pub returns : goal.returns

@@ -1,8 +1,8 @@
 use Rattle.std.proofs.Common.{◌≡◌, ◌∙◌, true, false, ap, sym}
 use Rattle.sat_base.specs.script.Script.{Clean, Malformed, at_end}
-use Rattle.certify.specs.ScriptParts.{end_of}
-use Rattle.certify.specs.ScriptReading.{hand_in}
-use Rattle.certify.proofs.Reading.{ends_inside, ends_clean, clean_hand, if_ok}
+use Rattle.certify.specs.script.ScriptParts.{end_of}
+use Rattle.certify.specs.script.ScriptReading.{hand_in}
+use Rattle.certify.proofs.lemmas.script.TokensAndBytes.{ends_inside, ends_clean, clean_hand, if_ok}
 use Rattle.certify.proofs.script.reader.Commands.finish.Goals as goal
 
 pub returns-then-is_inside : goal.returns-then-is_inside

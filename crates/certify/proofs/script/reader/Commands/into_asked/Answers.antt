@@ -1,12 +1,12 @@
 use Rattle.std.proofs.Common.{◌≡◌, ◌≤◌, ◌++◌, ◌∷◌, ◌∙◌, List, [], ℕ, length, refl, ap, arith}
 use Rattle.std.specs.Vec.{vec_len}
 use Rattle.sat_base.specs.script.Script.{Command, Ask, Clean}
-use Rattle.certify.specs.declared.script.Kind.TheVariants as kind
+use Rattle.certify.specs.declared.script.CommandKind.TheVariants as kind
 use Rattle.certify.specs.declared.script.Part.{Part}
-use Rattle.certify.specs.ScriptParts.{commands_in}
-use Rattle.certify.specs.ScriptReading.{commands_read}
-use Rattle.certify.proofs.Parts.{length-commands_in, AreParts-part, AreParts-more}
-use Rattle.certify.proofs.Reading.{asked_parts}
+use Rattle.certify.specs.script.ScriptParts.{commands_in}
+use Rattle.certify.specs.script.ScriptReading.{commands_read}
+use Rattle.certify.proofs.lemmas.script.ScriptParts.{length-commands_in, AreParts-part, AreParts-more}
+use Rattle.certify.proofs.lemmas.script.TokensAndBytes.{asked_parts}
 use Rattle.certify.proofs.script.reader.Commands.into_asked.Goals as goal
 
 pub new-requires : goal.new-requires

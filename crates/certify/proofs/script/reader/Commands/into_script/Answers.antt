@@ -1,7 +1,7 @@
 use Rattle.std.proofs.Common.{◌≡◌, ◌∙◌, ℕ, length, ap, arith}
-use Rattle.certify.specs.ScriptParts.{end_of}
-use Rattle.certify.specs.ScriptReading.{commands_read}
-use Rattle.certify.proofs.Parts.{length-commands_in}
+use Rattle.certify.specs.script.ScriptParts.{end_of}
+use Rattle.certify.specs.script.ScriptReading.{commands_read}
+use Rattle.certify.proofs.lemmas.script.ScriptParts.{length-commands_in}
 use Rattle.certify.proofs.script.reader.Commands.into_script.Goals as goal
 
 pub returns : goal.returns

@@ -1,9 +1,9 @@
 use Rattle.std.proofs.Common.{◌≡◌, ◌∙◌, ap, sym}
 use Rattle.std.specs.Prelude.{not}
 use Rattle.sat_base.specs.script.Script.{has_ask}
-use Rattle.certify.specs.ScriptParts.{any_ask}
-use Rattle.certify.specs.ScriptReading.{commands_read}
-use Rattle.certify.proofs.Parts.{has_ask-commands_in}
+use Rattle.certify.specs.script.ScriptParts.{any_ask}
+use Rattle.certify.specs.script.ScriptReading.{commands_read}
+use Rattle.certify.proofs.lemmas.script.ScriptParts.{has_ask-commands_in}
 use Rattle.certify.proofs.script.reader.Commands.is_unasked.Goals as goal
 
 pub returns-then-self : goal.returns-then-self

@@ -2,15 +2,15 @@ use Rattle.std.proofs.Common.{◌≡◌, ◌<◌, refl, arith}
 use Rattle.std.specs.Prelude.{not}
 use Rattle.sat_base.specs.text.Text.{Token, Number, Letter}
 use Rattle.sat_base.specs.script.Script.{Literal, turn, with_literal}
-use Rattle.certify.specs.Holding.{held_name}
-use Rattle.certify.specs.ScriptReading.{hand_in, Turns, TakesToken}
-use Rattle.certify.proofs.Reading.{turn_taken, end_taken, wrong_taken, header_taken, turn_zero, turn_literal, literal_taken, if_ok}
+use Rattle.certify.specs.script.CappedNames.{capped_name}
+use Rattle.certify.specs.script.ScriptReading.{hand_in, Turns, TakesToken}
+use Rattle.certify.proofs.lemmas.script.TokensAndBytes.{turn_taken, end_taken, wrong_taken, header_taken, turn_zero, turn_literal, literal_taken, if_ok}
 use Rattle.certify.proofs.script.reader.Commands.take.Goals as goal
 
 pub returns-then-value-eq0 : goal.returns-then-value-eq0
 returns-then-value-eq0 c =
     let old = c.args.self.now in
-    rw c.in-Number.is (end_taken (Number c.in-Number.negative (held_name c.in-Number.value)) old c.end_command.new.self refl (turn_zero (hand_in old) c.in-Number.negative c.in-Number.value c.if-value-eq0.true) c.in_ok-end_command-in-Number.ensures)
+    rw c.in-Number.is (end_taken (Number c.in-Number.negative (capped_name c.in-Number.value)) old c.end_command.new.self refl (turn_zero (hand_in old) c.in-Number.negative c.in-Number.value c.if-value-eq0.true) c.in_ok-end_command-in-Number.ensures)
 
 pub returns-else-value-eq0 : goal.returns-else-value-eq0
 returns-else-value-eq0 c =
@@ -20,7 +20,7 @@ returns-else-value-eq0 c =
     let value = c.in-Number.value in
     let l : Literal = record { name = c.min.result; positive = not negative } in
     let some : 0 < value = omega arith in
-    let t : Token = Number negative (held_name value) in
+    let t : Token = Number negative (capped_name value) in
     let same : turn (hand_in old) t ≡ with_literal (hand_in old) l = turn_literal (hand_in old) negative value l some c.min.ensures refl in
     rw c.in-Number.is (if_ok c.add_literal.result (λ goes. Turns goes (with_literal (hand_in old) l) old new) (λ goes. TakesToken goes old t new) (λ goes h. literal_taken goes t l old new refl same h) c.add_literal.ensures)
 

@@ -1,6 +1,6 @@
 use Rattle.std.proofs.Common.{true, false, subst, ◌∙◌, Bool}
-use Rattle.certify.specs.ScriptReading.{token_of, TakesToken}
-use Rattle.certify.proofs.Reading.{ends_none, ends_goes, ends_fails, if_ok}
+use Rattle.certify.specs.script.ScriptReading.{token_of, TakesToken}
+use Rattle.certify.proofs.lemmas.script.TokensAndBytes.{ends_none, ends_goes, ends_fails, if_ok}
 use Rattle.certify.proofs.script.reader.Parser.finish.Goals as goal
 
 pub returns-in-None : goal.returns-in-None

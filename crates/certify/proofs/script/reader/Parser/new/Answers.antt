@@ -1,4 +1,4 @@
-use Rattle.certify.proofs.Reading.{means_first}
+use Rattle.certify.proofs.lemmas.script.TokensAndBytes.{means_first}
 use Rattle.certify.proofs.script.reader.Parser.new.Goals as goal
 
 pub returns : goal.returns

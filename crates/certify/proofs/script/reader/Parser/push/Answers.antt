@@ -1,4 +1,4 @@
-use Rattle.certify.proofs.Reading.{byte_goes, byte_takes, if_ok}
+use Rattle.certify.proofs.lemmas.script.TokensAndBytes.{byte_goes, byte_takes, if_ok}
 use Rattle.certify.proofs.script.reader.Parser.push.Goals as goal
 
 pub returns-in-None : goal.returns-in-None

@@ -1,6 +1,6 @@
 use Rattle.std.proofs.Common.{◌<◌, length, arith}
 use Rattle.std.proofs.lemmas.Grind.{common_steps}
-use Rattle.certify.proofs.SearchPieces.{start_below, cuts}
+use Rattle.certify.proofs.lemmas.search.Pieces.{start_below, cuts}
 use Rattle.certify.proofs.search.clause_list.ClauseList.clause.Goals as goal
 
 pub slice_bounds-result-count : goal.slice_bounds-result-count

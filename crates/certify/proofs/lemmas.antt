@@ -1,0 +1,7 @@
+pub mod laws
+pub mod confirm
+pub mod checker
+pub mod run
+pub mod answers
+pub mod search
+pub mod script

@@ -1,0 +1,5 @@
+pub mod LinesByKind
+pub mod NamesAndWords
+pub mod LiteralsOfLines
+pub mod LineOrder
+pub mod UnreadAnswers

@@ -1,0 +1,130 @@
+-- The lines of an answer of some kind.
+use Rattle.std.proofs.Common.{ℕ, ◌≡◌, ◌≢◌, inl, inr, ◌++◌, ◌∷◌, [], List, append_assoc, refl, sym, ◌∙◌, ap, subst, arith}
+use Rattle.std.proofs.lemmas.List.{append_cancel_left}
+use Rattle.sat_base.specs.script.Script.{Literal}
+use Rattle.certify.specs.answers.Answers.{Outcome, Sat, Unsat, Unknown, s_satisfiable, s_unsatisfiable, s_unknown, literals_text, outcome_text}
+use Rattle.certify.specs.answers.AnswerForms.{IsInForm, literals_of}
+use Rattle.certify.specs.answers.AnswerReading.{NoKind, NoLiterals, NoLine, NoOutcome, HasLine, IsHead, IsCutShort, BeginsNoOutcome, first_line, outcome_of, second_line}
+use Rattle.certify.specs.declared.answers.read.AnswerKind.{AnswerKind}
+use Rattle.certify.specs.declared.answers.read.AnswerKind.TheVariants as kind
+use Rattle.certify.specs.declared.answers.read.AnswerFault.{AnswerFault}
+use Rattle.certify.specs.declared.answers.read.AnswerFault.TheVariants.{Missing, Text, OutOfMemory}
+
+pub has_line : (k : AnswerKind) (head : List ℕ) → IsHead k head → HasLine k
+has_line kind.Sat head h = tt
+has_line kind.Unsat head h = tt
+has_line kind.Unknown head h = absurd h
+
+pub line_text : (k : AnswerKind) (head : List ℕ) (ls : List Literal) → IsHead k head → second_line (outcome_of k ls) ≡ head ++ literals_text ls
+line_text kind.Sat head ls h = ap (λ t. t ++ literals_text ls) (sym h)
+line_text kind.Unsat head ls h = ap (λ t. t ++ literals_text ls) (sym h)
+line_text kind.Unknown head ls h = absurd h
+
+pub line_literals : (k : AnswerKind) (ls : List Literal) → HasLine k → literals_of (outcome_of k ls) ≡ ls
+line_literals kind.Sat ls h = refl
+line_literals kind.Unsat ls h = refl
+line_literals kind.Unknown ls h = absurd h
+
+-- the line in full, with what is behind it
+line_behind : (k : AnswerKind) (head bytes : List ℕ) (ls : List Literal) (tail : List ℕ) → IsHead k head → bytes ≡ second_line (outcome_of k ls) ++ tail → bytes ≡ head ++ (literals_text ls ++ tail)
+line_behind k head bytes ls tail h e = e ∙ ap (λ t. t ++ tail) (line_text k head ls h) ∙ append_assoc head (literals_text ls) tail
+
+-- the line has been read
+pub line_read : (k : AnswerKind) (head bytes behind : List ℕ) (ls : List Literal) (tail : List ℕ) → IsHead k head → bytes ≡ head ++ behind → behind ≡ literals_text ls ++ tail → bytes ≡ second_line (outcome_of k ls) ++ tail
+line_read k head bytes behind ls tail h e f = e ∙ ap (λ t. head ++ t) f ∙ sym (append_assoc head (literals_text ls) tail) ∙ ap (λ t. t ++ tail) (sym (line_text k head ls h))
+
+-- it doesn't begin as it has to
+pub no_head : (k : AnswerKind) (head bytes : List ℕ) → IsHead k head → bytes ≢ [] → ((tail : List ℕ) → bytes ≡ head ++ tail → ⊥) → NoLine k bytes Text
+no_head k head bytes h some none = (some, λ ls tail o e. none (literals_text ls ++ tail) (line_behind k head bytes ls tail h e))
+
+-- no list of literals is behind its head
+pub no_list : (k : AnswerKind) (head bytes behind : List ℕ) (fault : AnswerFault) → IsHead k head → bytes ≢ [] → bytes ≡ head ++ behind → NoLiterals k behind fault → NoLine k bytes fault
+no_list k head bytes behind Missing h some e none = absurd none
+no_list k head bytes behind Text h some e none = (
+  some,
+  λ ls tail o f. none ls tail o (append_cancel_left head behind (literals_text ls ++ tail) (sym e ∙ line_behind k head bytes ls tail h f)),
+)
+no_list k head bytes behind OutOfMemory h some e none =
+    let ls : List Literal = none.1.0 in
+    let l : Literal = none.1.1 in
+    let front : List ℕ = none.1.2.1.0 in
+    let tail : List ℕ = none.1.2.1.1 in
+    let t : second_line (outcome_of k (ls ++ (l ∷ []))) ≡ (head ++ front) ++ (48 ∷ 10 ∷ [])
+    = line_text k head (ls ++ (l ∷ [])) h ∙ ap (λ x. head ++ x) none.1.2.1.2.0 ∙ sym (append_assoc head front (48 ∷ 10 ∷ [])) in
+    let b : bytes ≡ (head ++ front) ++ tail = e ∙ ap (λ x. head ++ x) none.1.2.1.2.1 ∙ sym (append_assoc head front tail) in
+    (none.0, (ls, l, (none.1.2.0, (head ++ front, tail, (t, b)))))
+
+-- the first line tells the kind
+of_kind : (k : AnswerKind) (o : Outcome) (x y : List ℕ) → first_line k ++ x ≡ outcome_text o ++ y → (ls : List Literal) × ((o ≡ outcome_of k ls) × (x ≡ second_line o ++ y))
+of_kind kind.Sat (Sat ls) x y e = (ls, (refl, cc))
+of_kind kind.Unsat (Unsat ls) x y e = (ls, (refl, cc))
+of_kind kind.Unknown Unknown x y e = ([], (refl, cc))
+of_kind kind.Sat (Unsat ls) x y e = let r : ◌≡◌ {A = ℕ} 83 85 = cc in absurd (omega arith)
+of_kind kind.Sat Unknown x y e = let r : ◌≡◌ {A = ℕ} 83 85 = cc in absurd (omega arith)
+of_kind kind.Unsat (Sat ls) x y e = let r : ◌≡◌ {A = ℕ} 85 83 = cc in absurd (omega arith)
+of_kind kind.Unsat Unknown x y e = let r : ◌≡◌ {A = ℕ} 83 75 = cc in absurd (omega arith)
+of_kind kind.Unknown (Sat ls) x y e = let r : ◌≡◌ {A = ℕ} 85 83 = cc in absurd (omega arith)
+of_kind kind.Unknown (Unsat ls) x y e = let r : ◌≡◌ {A = ℕ} 75 83 = cc in absurd (omega arith)
+
+kind_text : (o : Outcome) → (k : AnswerKind) × (outcome_text o ≡ first_line k ++ second_line o)
+kind_text (Sat ls) = (kind.Sat, refl)
+kind_text (Unsat ls) = (kind.Unsat, refl)
+kind_text Unknown = (kind.Unknown, refl)
+
+pub in_full : (k : AnswerKind) (ls : List Literal) (bytes behind tail : List ℕ) → bytes ≡ first_line k ++ behind → behind ≡ second_line (outcome_of k ls) ++ tail → bytes ≡ outcome_text (outcome_of k ls) ++ tail
+in_full kind.Sat ls bytes behind tail e f = e ∙ ap (λ t. s_satisfiable ++ t) f
+in_full kind.Unsat ls bytes behind tail e f = e ∙ ap (λ t. s_unsatisfiable ++ t) f
+in_full kind.Unknown ls bytes behind tail e f = e ∙ ap (λ t. s_unknown ++ t) f
+
+-- no first line
+pub no_kind : (bytes : List ℕ) (fault : AnswerFault) → NoKind bytes fault → NoOutcome bytes fault
+no_kind bytes Missing e = (inl e, λ o tail h f. go (kind_text o).0 (second_line o ++ tail) (sym e ∙ f ∙ ap (λ t. t ++ tail) (kind_text o).1 ∙ append_assoc (first_line (kind_text o).0) (second_line o) tail))
+  where
+    go : (k : AnswerKind) (x : List ℕ) → [] ≡ first_line k ++ x → ⊥
+    go kind.Sat x e = cc
+    go kind.Unsat x e = cc
+    go kind.Unknown x e = cc
+no_kind bytes Text none = (cut, λ o tail h f. none.1 (kind_text o).0 (second_line o ++ tail) (f ∙ ap (λ t. t ++ tail) (kind_text o).1 ∙ append_assoc (first_line (kind_text o).0) (second_line o) tail))
+  where
+    cut : IsCutShort bytes → ⊥
+    cut (inl e) = none.0 e
+    cut (inr (inl e)) = none.1 kind.Sat [] e
+    cut (inr (inr e)) = none.1 kind.Unsat [] e
+no_kind bytes OutOfMemory none = absurd none
+
+-- a first line without its second
+pub no_line : (k : AnswerKind) (bytes behind : List ℕ) (fault : AnswerFault) → bytes ≡ first_line k ++ behind → NoLine k behind fault → NoOutcome bytes fault
+no_line k bytes behind Missing e none = (cut k none.0 (e ∙ ap (λ t. first_line k ++ t) none.1), begins)
+  where
+    cut : (k : AnswerKind) → HasLine k → bytes ≡ first_line k ++ [] → IsCutShort bytes
+    cut kind.Sat h e = inr (inl e)
+    cut kind.Unsat h e = inr (inr e)
+    cut kind.Unknown h e = absurd h
+
+    some : (k : AnswerKind) (ls : List Literal) (y : List ℕ) → HasLine k → [] ≡ second_line (outcome_of k ls) ++ y → ⊥
+    some kind.Sat ls y h e = cc
+    some kind.Unsat ls y h e = cc
+    some kind.Unknown ls y h e = absurd h
+
+    begins : BeginsNoOutcome bytes
+    begins o tail h f =
+        let r = of_kind k o behind tail (sym e ∙ f) in
+        some k r.0 tail none.0 (sym none.1 ∙ r.1.1 ∙ ap (λ t. second_line t ++ tail) r.1.0)
+no_line k bytes behind Text e none = (
+  cut k none.0 e,
+  λ o tail h f.
+      let r = of_kind k o behind tail (sym e ∙ f) in
+      none.1 r.0 tail (subst IsInForm r.1.0 h) (r.1.1 ∙ ap (λ t. second_line t ++ tail) r.1.0),
+)
+  where
+    cut : (k : AnswerKind) → behind ≢ [] → bytes ≡ first_line k ++ behind → IsCutShort bytes → ⊥
+    cut kind.Sat some e (inl f) = let r : first_line kind.Sat ++ behind ≡ [] = sym e ∙ f in cc
+    cut kind.Sat some e (inr (inl f)) = some (append_cancel_left s_satisfiable behind [] (sym e ∙ f))
+    cut kind.Sat some e (inr (inr f)) = let g : s_satisfiable ++ behind ≡ s_unsatisfiable = sym e ∙ f in let r : ◌≡◌ {A = ℕ} 83 85 = cc in omega arith
+    cut kind.Unsat some e (inl f) = let r : first_line kind.Unsat ++ behind ≡ [] = sym e ∙ f in cc
+    cut kind.Unsat some e (inr (inl f)) = let g : s_unsatisfiable ++ behind ≡ s_satisfiable = sym e ∙ f in let r : ◌≡◌ {A = ℕ} 85 83 = cc in omega arith
+    cut kind.Unsat some e (inr (inr f)) = some (append_cancel_left s_unsatisfiable behind [] (sym e ∙ f))
+    cut kind.Unknown some e (inl f) = let r : first_line kind.Unknown ++ behind ≡ [] = sym e ∙ f in cc
+    cut kind.Unknown some e (inr (inl f)) = let g : s_unknown ++ behind ≡ s_satisfiable = sym e ∙ f in let r : ◌≡◌ {A = ℕ} 85 83 = cc in omega arith
+    cut kind.Unknown some e (inr (inr f)) = let g : s_unknown ++ behind ≡ s_unsatisfiable = sym e ∙ f in let r : ◌≡◌ {A = ℕ} 75 83 = cc in omega arith
+no_line k bytes behind OutOfMemory e none = (k, behind, (e, none))

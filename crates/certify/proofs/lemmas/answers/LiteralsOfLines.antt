@@ -1,0 +1,68 @@
+-- The literals of a line, one by one.
+use Rattle.std.proofs.Common.{ℕ, ◌<◌, ◌≤◌, ◌≡◌, ◌∷◌, ◌++◌, [], List, length, length-append, append-nil, append_assoc, sym, ◌∙◌, ap, subst, arith}
+use Rattle.std.proofs.lemmas.List.{map-append}
+use Rattle.std.specs.List.{AllByRecursion}
+use Rattle.sat_base.specs.values.Literals.{largest}
+use Rattle.sat_base.specs.script.Script.{Literal}
+use Rattle.certify.specs.answers.Answers.{literals_text, word_of}
+use Rattle.certify.specs.answers.AnswerForms.{HaveNames, IsName, named_literal, named_literals}
+use Rattle.certify.specs.answers.AnswerReading.{NoLiteral}
+use Rattle.certify.proofs.lemmas.laws.TellingTexts.{plain_word, at_space, not_end, same_literals as literals_told}
+
+within_limit : (ls : List Literal) → HaveNames ls → AllByRecursion (λ l. l.name ≤ largest) ls
+within_limit [] h = tt
+within_limit (l ∷ ls) h = (h.0.1, within_limit ls h.1)
+
+-- a line's text tells its literals
+pub same_literals : (ls ks : List Literal) (x y : List ℕ) → HaveNames ls → HaveNames ks → literals_text ls ++ x ≡ literals_text ks ++ y → (ls ≡ ks) × (x ≡ y)
+same_literals ls ks x y h k e = literals_told ls ks x y (within_limit ls h) (within_limit ks k) e
+
+-- The line's literals have been read and the rest of the bytes is left. Any line that begins the bytes goes on in the rest, and the other way round.
+pub record Read (bytes line rest : List ℕ) : Type 0 where
+  pub names : HaveNames (named_literals line)
+  pub forth : (ls : List Literal) (tail : List ℕ) → HaveNames ls → bytes ≡ literals_text ls ++ tail → (more : List Literal) × (HaveNames more × (rest ≡ literals_text more ++ tail))
+  pub back : (more : List Literal) (tail : List ℕ) → rest ≡ literals_text more ++ tail → bytes ≡ literals_text (named_literals line ++ more) ++ tail
+
+pub none_read : (bytes : List ℕ) → Read bytes [] bytes
+none_read bytes = record {
+  names = tt;
+  forth = λ ls tail h e. (ls, (h, e));
+  back = λ more tail e. e;
+}
+
+have_names_snoc : (ls : List Literal) (l : Literal) → HaveNames ls → IsName l.name → HaveNames (ls ++ (l ∷ []))
+have_names_snoc [] l h k = (k, tt)
+have_names_snoc (m ∷ ls) l h k = (h.0, have_names_snoc ls l h.1 k)
+
+behind_word : (m : Literal) (more : List Literal) (behind tail : List ℕ) → IsName m.name → HaveNames more → word_of m ++ (32 ∷ behind) ≡ literals_text more ++ tail → (left : List Literal) × (HaveNames left × (behind ≡ literals_text left ++ tail))
+behind_word m [] behind tail h k e = absurd (not_end (word_of m) tail behind (plain_word m h.1) (sym e))
+behind_word m (l ∷ ls) behind tail h k e =
+    let p = at_space (word_of m) (word_of l) behind (literals_text ls ++ tail) (plain_word m h.1) (plain_word l k.0.1) (e ∙ append_assoc (word_of l) (32 ∷ literals_text ls) tail) in
+    (ls, (k.1, p.1))
+
+pub one_read : (bytes line rest behind : List ℕ) (l : ℕ) → Read bytes line rest → IsName (named_literal l).name → rest ≡ word_of (named_literal l) ++ (32 ∷ behind) → Read bytes (line ++ (l ∷ [])) behind
+one_read bytes line rest behind l r h e = record {
+  names = subst HaveNames (sym (map-append named_literal line (l ∷ []))) (have_names_snoc (named_literals line) (named_literal l) r.names h);
+  forth = λ ls tail k f. let more = r.forth ls tail k f in behind_word (named_literal l) more.0 behind tail h more.1.0 (sym e ∙ more.1.1);
+  back = λ more tail f.
+      let g : rest ≡ literals_text (named_literal l ∷ more) ++ tail
+      = e ∙ ap (λ t. word_of (named_literal l) ++ (32 ∷ t)) f ∙ sym (append_assoc (word_of (named_literal l)) (32 ∷ literals_text more) tail) in
+      let s : named_literals (line ++ (l ∷ [])) ++ more ≡ named_literals line ++ (named_literal l ∷ more)
+      = ap (λ t. t ++ more) (map-append named_literal line (l ∷ [])) ∙ append_assoc (named_literals line) (named_literal l ∷ []) more in
+      r.back (named_literal l ∷ more) tail g ∙ ap (λ t. literals_text t ++ tail) (sym s);
+}
+
+-- up to `0` and LF
+pub all_read : (bytes line rest tail : List ℕ) → Read bytes line rest → rest ≡ 48 ∷ 10 ∷ tail → HaveNames (named_literals line) × (bytes ≡ literals_text (named_literals line) ++ tail)
+all_read bytes line rest tail r e = (r.names, r.back [] tail e ∙ ap (λ t. literals_text t ++ tail) (append-nil (named_literals line)))
+
+-- where neither a literal nor the end comes
+pub not_read : (bytes line rest : List ℕ) → Read bytes line rest → NoLiteral rest → ((tail : List ℕ) → rest ≡ 48 ∷ 10 ∷ tail → ⊥) → (ls : List Literal) (tail : List ℕ) → HaveNames ls → bytes ≡ literals_text ls ++ tail → ⊥
+not_read bytes line rest r none end ls tail h e = let more = r.forth ls tail h e in go more.0 more.1.0 more.1.1
+  where
+    go : (more : List Literal) → HaveNames more → rest ≡ literals_text more ++ tail → ⊥
+    go [] k f = end tail f
+    go (l ∷ ks) k f = none l (literals_text ks ++ tail) k.0 (f ∙ append_assoc (word_of l) (32 ∷ literals_text ks) tail)
+
+pub shorter : (w rest behind : List ℕ) → rest ≡ w ++ (32 ∷ behind) → length behind < length rest
+shorter w rest behind e = let f = ap length e ∙ length-append w (32 ∷ behind) in omega arith

@@ -1,0 +1,137 @@
+-- Names, digit by digit, and literals as words in front of a space.
+use Rattle.std.proofs.Common.{ℕ, zero, suc, ◌+◌, ◌-◌, ◌*◌, ◌/◌, ◌%◌, ◌^◌, ◌<◌, ◌≤◌, ◌≡◌, Bool, true, false, cond, ◌∷◌, ◌++◌, [], List, length, take, get_or, decimal, append-nil, refl, sym, ◌∙◌, ap, subst, arith, append_assoc}
+use Rattle.std.proofs.lemmas.Fmt.{decimal_digit, decimal_step, decimal_is_IsNumeral, first_decimal, decimal_nonempty}
+use Rattle.std.proofs.lemmas.Str.Parse.{digit_from_value, digits_value-take-le}
+use Rattle.std.proofs.Math.Seq.{take-append_seam}
+use Rattle.std.specs.Str.Parse.{AllDigits, digits_value}
+use Rattle.sat_base.specs.values.Literals.{largest}
+use Rattle.certify.specs.answers.AnswerForms.{IsName}
+use Rattle.certify.specs.answers.AnswerReading.{digits_so_far, NoDigit, NoName, NoLiteral}
+use Rattle.certify.proofs.lemmas.laws.TellingTexts.{Plain, plain_digits, small, numeral}
+
+-- the last digit, behind nothing or behind the others
+pub one_digit : (n : ℕ) (xs : List ℕ) → n ≤ 9 → xs ++ ((48 + n % 10) ∷ []) ≡ xs ++ decimal n
+one_digit n xs h = let e : n % 10 ≡ n = omega arith in let small : n < 10 = omega arith in rw (e, decimal_digit n small) refl
+
+pub last_digit : (n : ℕ) (xs : List ℕ) → 9 < n → n < 2 ^ 64 → (xs ++ decimal (n / 10)) ++ ((48 + n % 10) ∷ []) ≡ xs ++ decimal n
+last_digit n xs h fits = let more : 10 ≤ n = omega arith in rw (decimal_step n more fits) (append_assoc xs (decimal (n / 10)) ((48 + n % 10) ∷ []))
+
+digits : (n : ℕ) → n ≤ largest → AllDigits 10 (decimal n)
+digits n h = (numeral n h).0
+
+digit_behind : (ds : List ℕ) (b : ℕ) (more : List ℕ) → AllDigits 10 (ds ++ (b ∷ more)) → (48 ≤ b) × (b ≤ 57)
+digit_behind [] b more d = digit_from_value b d.0
+digit_behind (c ∷ ds) b more d = digit_behind ds b more d.1
+
+-- a byte that is no digit
+pub no_digit : (name b : ℕ) → ((48 ≤ b) × (b ≤ 57) → ⊥) → NoDigit name b
+no_digit name b wrong n more h e = wrong (digit_behind (digits_so_far name) b more (subst (AllDigits 10) e (digits n h.1)))
+
+-- a leading zero
+pub no_zero : (name b : ℕ) → 48 ≤ b → 10 * name + (b - 48) ≡ 0 → NoDigit name b
+no_zero zero b low z n more h e =
+    let f : 48 < get_or (decimal n) 0 0 = first_decimal n h.0 (small n h.1) in
+    let g : get_or (decimal n) 0 0 ≡ b = ap (λ ds. get_or ds 0 0) e in
+    omega arith
+no_zero (suc name) b low z n more h e = absurd (omega arith)
+
+-- a digit behind those of a name
+pub next_digit : (name b : ℕ) → name ≤ largest → 48 ≤ b → b ≤ 57 → 0 < 10 * name + (b - 48) → decimal (10 * name + (b - 48)) ≡ digits_so_far name ++ (b ∷ [])
+next_digit zero b h low high more =
+    let e : 10 * 0 + (b - 48) ≡ b - 48 = omega arith in
+    let f : 48 + (b - 48) ≡ b = omega arith in
+    let one : b - 48 < 10 = omega arith in
+    ap decimal e ∙ decimal_digit (b - 48) one ∙ ap (λ d. d ∷ []) f
+next_digit (suc name) b h low high more =
+    let e : (10 * suc name + (b - 48)) / 10 ≡ suc name = omega arith in
+    let f : 48 + (10 * suc name + (b - 48)) % 10 ≡ b = omega arith in
+    let g = decimal_step (10 * suc name + (b - 48)) (omega arith) (omega arith) in
+    g ∙ ap (λ n. decimal n ++ ((48 + (10 * suc name + (b - 48)) % 10) ∷ [])) e ∙ ap (λ d. decimal (suc name) ++ (d ∷ [])) f
+
+-- a number with these first digits is no less
+begun_below : (m n : ℕ) (more : List ℕ) → m < 2 ^ 64 → n < 2 ^ 64 → decimal n ≡ decimal m ++ more → m ≤ n
+begun_below m n more h k e =
+    let p : digits_value 10 (take (length (decimal m)) (decimal n)) ≤ digits_value 10 (decimal n) = digits_value-take-le 10 (decimal n) (length (decimal m)) (omega arith) in
+    let q : take (length (decimal m)) (decimal n) ≡ decimal m = ap (take (length (decimal m))) e ∙ take-append_seam (decimal m) more in
+    let r : digits_value 10 (take (length (decimal m)) (decimal n)) ≡ m = ap (digits_value 10) q ∙ (decimal_is_IsNumeral m h).1 in
+    let s : digits_value 10 (decimal n) ≡ n = (decimal_is_IsNumeral n k).1 in
+    omega arith
+
+-- a number past the limit
+pub past_limit : (name b : ℕ) → name ≤ largest → 48 ≤ b → b ≤ 57 → largest < 10 * name + (b - 48) → NoDigit name b
+past_limit name b h low high past n more k e =
+    let d = next_digit name b h low high (omega arith) in
+    let f : decimal n ≡ decimal (10 * name + (b - 48)) ++ more = e ∙ sym (append_assoc (digits_so_far name) (b ∷ []) more) ∙ ap (λ ds. ds ++ more) (sym d) in
+    let g = begun_below (10 * name + (b - 48)) n more (omega arith) (small n k.1) f in
+    let i : n ≤ largest = k.1 in
+    omega arith
+
+plain_so_far : (name : ℕ) → name ≤ largest → Plain (digits_so_far name)
+plain_so_far zero h = tt
+plain_so_far (suc name) h = plain_digits (decimal (suc name)) (digits (suc name) h)
+
+-- a word before a space, and another text without a space
+no_space : (ds es y : List ℕ) → Plain ds → ds ≡ es ++ (32 ∷ y) → ⊥
+no_space [] [] y p e = cc
+no_space [] (c ∷ es) y p e = cc
+no_space (d ∷ ds) [] y p e = p.0.0 (let r : d ≡ 32 = cc in r)
+no_space (d ∷ ds) (c ∷ es) y p e = no_space ds es y p.1 (let r : ds ≡ es ++ (32 ∷ y) = cc in r)
+
+-- a word that goes on behind another's bytes
+goes_on : (ds es : List ℕ) (b : ℕ) (x y : List ℕ) → Plain ds → (b ≡ 32 → ⊥) → ds ++ (b ∷ x) ≡ es ++ (32 ∷ y) → (more : List ℕ) × (es ≡ ds ++ (b ∷ more))
+goes_on [] [] b x y p other e = absurd (other (let r : b ≡ 32 = cc in r))
+goes_on [] (c ∷ es) b x y p other e = (es, let r : c ≡ b = cc in ap (λ c. c ∷ es) r)
+goes_on (d ∷ ds) [] b x y p other e = absurd (p.0.0 (let r : d ≡ 32 = cc in r))
+goes_on (d ∷ ds) (c ∷ es) b x y p other e =
+    let t : ds ++ (b ∷ x) ≡ es ++ (32 ∷ y) = cc in
+    let r : c ≡ d = cc in
+    let more = goes_on ds es b x y p.1 other t in
+    (more.0, pair c d es (ds ++ (b ∷ more.0)) r more.1)
+  where
+    pair : (c d : ℕ) (es ds : List ℕ) → c ≡ d → es ≡ ds → (c ∷ es) ≡ (d ∷ ds)
+    pair c d es ds h t = cc
+
+-- the first byte of a name
+first_byte : (ds : List ℕ) (b : ℕ) (x y : List ℕ) → 0 < length ds → b ∷ x ≡ ds ++ (32 ∷ y) → (more : List ℕ) × (ds ≡ b ∷ more)
+first_byte [] b x y h e = absurd (omega arith)
+first_byte (c ∷ cs) b x y h e = (cs, let r : c ≡ b = cc in ap (λ c. c ∷ cs) r)
+
+-- where no digit of a name comes next
+pub no_name_so : (name b : ℕ) (bytes x : List ℕ) → name ≤ largest → (b ≡ 32 → name ≡ 0) → NoDigit name b → bytes ≡ digits_so_far name ++ (b ∷ x) → NoName bytes
+no_name_so zero b bytes x h space none e n tail k f =
+    let r = first_byte (decimal n) b x tail (decimal_nonempty n (small n k.1)) (sym e ∙ f) in
+    none n r.0 k r.1
+no_name_so (suc name) b bytes x h space none e n tail k f =
+    let r = goes_on (decimal (suc name)) (decimal n) b x tail (plain_so_far (suc name) h) (λ s. let z : suc name ≡ 0 = space s in omega arith) (sym e ∙ f) in
+    none n r.0 k r.1
+
+-- where the bytes are over
+pub no_name_end : (name : ℕ) (bytes : List ℕ) → name ≤ largest → bytes ≡ digits_so_far name ++ [] → NoName bytes
+no_name_end name bytes h e n tail k f = no_space (digits_so_far name) (decimal n) tail (plain_so_far name h) (sym (append-nil (digits_so_far name)) ∙ sym e ∙ f)
+
+-- a name that has begun has its digits
+pub begun : (name : ℕ) → 0 < name → digits_so_far name ≡ decimal name
+begun zero h = absurd (omega arith)
+begun (suc name) h = refl
+
+-- no minus sign comes before a name
+no_minus : (n : ℕ) (x y : List ℕ) → n ≤ largest → decimal n ++ (32 ∷ x) ≡ 45 ∷ y → ⊥
+no_minus n x y h e = go (decimal n) (digits n h) (decimal_nonempty n (small n h)) e
+  where
+    go : (ds : List ℕ) → AllDigits 10 ds → 0 < length ds → ds ++ (32 ∷ x) ≡ 45 ∷ y → ⊥
+    go [] d k e = omega arith
+    go (c ∷ cs) d k e = let r = digit_from_value c d.0 in let s : c ≡ 45 = cc in omega arith
+
+pub no_negative : (bytes behind : List ℕ) → bytes ≡ 45 ∷ behind → NoName behind → NoLiteral bytes
+no_negative bytes behind e none l tail h f = go l.positive l.name h f
+  where
+    go : (s : Bool) (n : ℕ) → IsName n → bytes ≡ (cond s [] (45 ∷ []) ++ decimal n) ++ (32 ∷ tail) → ⊥
+    go true n h f = no_minus n tail behind h.1 (sym f ∙ e)
+    go false n h f = none n tail h (let r : 45 ∷ behind ≡ 45 ∷ (decimal n ++ (32 ∷ tail)) = sym e ∙ f in let t : behind ≡ decimal n ++ (32 ∷ tail) = cc in t)
+
+pub no_positive : (bytes : List ℕ) → ((tail : List ℕ) → bytes ≡ 45 ∷ tail → ⊥) → NoName bytes → NoLiteral bytes
+no_positive bytes sign none l tail h f = go l.positive l.name h f
+  where
+    go : (s : Bool) (n : ℕ) → IsName n → bytes ≡ (cond s [] (45 ∷ []) ++ decimal n) ++ (32 ∷ tail) → ⊥
+    go true n h f = none n tail h f
+    go false n h f = sign (decimal n ++ (32 ∷ tail)) f

@@ -1,0 +1,10 @@
+pub mod SoundConflicts
+pub mod StoredMeaning
+pub mod SortedLiterals
+pub mod ListEntries
+pub mod NegatedClauses
+pub mod GreedyWalk
+pub mod CheckerParts
+pub mod Members
+pub mod ModelTests
+pub mod WalkSteps

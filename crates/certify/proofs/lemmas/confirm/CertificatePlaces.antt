@@ -1,0 +1,171 @@
+-- How places of a certificate lead from one to another.
+use Rattle.std.proofs.Common.{ℕ, ◌≡◌, true, false, List, [], ◌∷◌, ◌++◌, refl, sym, ◌∙◌, ap, subst, append_assoc}
+use Rattle.std.proofs.lemmas.Bool.{true≢false}
+use Rattle.std.proofs.lemmas.List.{append_cancel_left}
+use Rattle.std.specs.List.{AllByRecursion}
+use Rattle.sat_base.specs.steps.Formats.{OneForm}
+use Rattle.sat_base.specs.steps.Steps.{Step}
+use Rattle.sat_base.specs.steps.StepText.{SpellsStep, SpellsSteps}
+use Rattle.certify.specs.checker.Accepts.{Accepts, stored_after}
+use Rattle.certify.specs.confirm.Checking.{is_ordered}
+use Rattle.certify.specs.confirm.Matches.{Expected, Fits, Meets, Excused, met, cut, other, ordered}
+use Rattle.certify.specs.confirm.ListChecking.{the_checking}
+use Rattle.certify.specs.confirm.CertificatePlaces.{CanMeet, Leads, Bars, Skips, Stops, Offers}
+use Rattle.certify.proofs.lemmas.confirm.NextStep.{taken, skipped}
+
+pub leads_nowhere : (earlier : List Step) (certificate : List ℕ) → Leads earlier certificate [] earlier certificate
+leads_nowhere earlier certificate = record { on = λ es m. m; back = λ es m. m }
+
+pub leads_on : {earlier mid later : List Step} {bytes between rest : List ℕ} {p q : List Expected} → Leads earlier bytes p mid between → Leads mid between q later rest → Leads earlier bytes (p ++ q) later rest
+leads_on {earlier} {mid} {later} {bytes} {between} {rest} {p} {q} l m = record {
+  on = λ es h. m.on es (l.on (q ++ es) (subst (λ xs. CanMeet earlier xs bytes) (append_assoc p q es) h));
+  back = λ es h. subst (λ xs. CanMeet earlier xs bytes) (sym (append_assoc p q es)) (l.back (q ++ es) (m.back es h));
+}
+
+pub bars_behind : {earlier mid : List Step} {bytes between : List ℕ} {p q : List Expected} → Leads earlier bytes p mid between → Bars mid between q → Bars earlier bytes (p ++ q)
+bars_behind {earlier} {mid} {bytes} {between} {p} {q} l b = record { none = λ es h. b.none es (l.on (q ++ es) (subst (λ xs. CanMeet earlier xs bytes) (append_assoc p q es) h)) }
+
+pub bars_more : {earlier : List Step} {bytes : List ℕ} {p : List Expected} (q : List Expected) → Bars earlier bytes p → Bars earlier bytes (p ++ q)
+bars_more {earlier} {bytes} {p} q b = record { none = λ es h. b.none (q ++ es) (subst (λ xs. CanMeet earlier xs bytes) (append_assoc p q es) h) }
+
+-- once unsat is recorded, all that counts is what may be left unmet
+pub when_cut : (earlier : List Step) (es : List Expected) (bytes : List ℕ) → (stored_after earlier).unsat ≡ true → CanMeet earlier es bytes → AllByRecursion Excused es
+when_cut earlier es bytes u m = go m.steps es m.meets
+  where
+    go : (steps : List Step) (es : List Expected) → Meets the_checking earlier steps es → AllByRecursion Excused es
+    go steps es (met v) = absurd (true≢false (sym u ∙ v))
+    go steps es (cut v x) = x
+    go steps es (other v n a k) = absurd (true≢false (sym u ∙ v))
+    go steps es (ordered v f a k) = absurd (true≢false (sym u ∙ v))
+
+pub cut_met : (earlier : List Step) (es : List Expected) (bytes : List ℕ) → (stored_after earlier).unsat ≡ true → AllByRecursion Excused es → CanMeet earlier es bytes
+cut_met earlier es bytes u x = record { steps = []; text = []; rest = bytes; begins = refl; spelt = refl; meets = cut u x }
+
+all_back : (p es : List Expected) → AllByRecursion Excused p → AllByRecursion Excused es → AllByRecursion Excused (p ++ es)
+all_back [] es x y = y
+all_back (e ∷ p) es x y = (x.0, all_back p es x.1 y)
+
+all_behind : (p es : List Expected) → AllByRecursion Excused (p ++ es) → AllByRecursion Excused es
+all_behind [] es x = x
+all_behind (e ∷ p) es x = all_behind p es x.1
+
+all_before : (p es : List Expected) → AllByRecursion Excused (p ++ es) → AllByRecursion Excused p
+all_before [] es x = tt
+all_before (e ∷ p) es x = (x.0, all_before p es x.1)
+
+pub leads_cut : (earlier : List Step) (bytes : List ℕ) (p : List Expected) → (stored_after earlier).unsat ≡ true → AllByRecursion Excused p → Leads earlier bytes p earlier bytes
+leads_cut earlier bytes p u x = record {
+  on = λ es h. cut_met earlier es bytes u (all_behind p es (when_cut earlier (p ++ es) bytes u h));
+  back = λ es h. cut_met earlier (p ++ es) bytes u (all_back p es x (when_cut earlier es bytes u h));
+}
+
+pub bars_cut : (earlier : List Step) (bytes : List ℕ) (p : List Expected) → (stored_after earlier).unsat ≡ true → (AllByRecursion Excused p → ⊥) → Bars earlier bytes p
+bars_cut earlier bytes p u x = record { none = λ es h. x (all_before p es (when_cut earlier (p ++ es) bytes u h)) }
+
+-- nothing is met from a place where nothing can be expected
+not_over : (earlier : List Step) (e : Expected) (es : List Expected) → (stored_after earlier).unsat ≡ false → Meets the_checking earlier [] (e ∷ es) → ⊥
+not_over earlier e es u (cut v x) = true≢false (sym v ∙ u)
+
+-- no step's text begins the bytes
+pub no_step : (earlier : List Step) (bytes : List ℕ) → (stored_after earlier).unsat ≡ false → ((step : Step) (text rest : List ℕ) → bytes ≡ text ++ rest → SpellsStep step text → ⊥) → Stops earlier bytes
+no_step earlier bytes u none = record { none = λ e es m. go e es m.rest m.steps m.text m.begins m.spelt m.meets }
+  where
+    go : (e : Expected) (es : List Expected) (behind : List ℕ) (steps : List Step) (text : List ℕ) → bytes ≡ text ++ behind → SpellsSteps steps text → Meets the_checking earlier steps (e ∷ es) → ⊥
+    go e es behind [] text b s k = not_over earlier e es u k
+    go e es behind (step ∷ steps) text b s k = none step s.0 (s.1 ++ behind) (b ∙ ap (λ x. x ++ behind) s.4 ∙ append_assoc s.0 s.1 behind) s.2
+
+-- what is met from a place where this step stands
+record Begun (earlier : List Step) (step : Step) (es : List Expected) (more : List ℕ) : Type 0 where
+  steps : List Step
+  text : List ℕ
+  rest : List ℕ
+  begins : more ≡ text ++ rest
+  spelt : SpellsSteps steps text
+  meets : Meets the_checking earlier (step ∷ steps) es
+
+begun : OneForm SpellsStep → (earlier : List Step) (step : Step) (bytes text more : List ℕ) (e : Expected) (es : List Expected)
+    → (stored_after earlier).unsat ≡ false → bytes ≡ text ++ more → SpellsStep step text → CanMeet earlier (e ∷ es) bytes → Begun earlier step (e ∷ es) more
+begun one earlier step bytes text more e es u b s m = go m.steps m.text m.begins m.spelt m.meets
+  where
+    go : (steps : List Step) (front : List ℕ) → bytes ≡ front ++ m.rest → SpellsSteps steps front → Meets the_checking earlier steps (e ∷ es) → Begun earlier step (e ∷ es) more
+    go [] front c t k = absurd (not_over earlier e es u k)
+    go (first ∷ steps) front c t k =
+        let whole : text ++ more ≡ t.0 ++ (t.1 ++ m.rest) = sym b ∙ c ∙ ap (λ x. x ++ m.rest) t.4 ∙ append_assoc t.0 t.1 m.rest in
+        let same = one step first text t.0 more (t.1 ++ m.rest) s t.2 whole in
+        record {
+          steps = steps;
+          text = t.1;
+          rest = m.rest;
+          begins = append_cancel_left text more (t.1 ++ m.rest) (whole ∙ ap (λ z. z ++ (t.1 ++ m.rest)) (sym same.0));
+          spelt = t.3;
+          meets = subst (λ x. Meets the_checking earlier (x ∷ steps) (e ∷ es)) (sym same.1) k;
+        }
+
+pub skips_step : OneForm SpellsStep → (earlier : List Step) (step : Step) (bytes text more : List ℕ) → (stored_after earlier).unsat ≡ false → bytes ≡ text ++ more → SpellsStep step text → is_ordered step ≡ false
+    → Accepts (stored_after earlier) step → Skips earlier bytes (step ∷ earlier) more
+skips_step one earlier step bytes text more u b s o a = record {
+  on = λ e es m. let g = begun one earlier step bytes text more e es u b s m in record { steps = g.steps; text = g.text; rest = g.rest; begins = g.begins; spelt = g.spelt; meets = (skipped the_checking o g.meets).1 };
+  back = λ e es m. record {
+    steps = step ∷ m.steps;
+    text = text ++ m.text;
+    rest = m.rest;
+    begins = b ∙ ap (λ x. text ++ x) m.begins ∙ sym (append_assoc text m.text m.rest);
+    spelt = (text, m.text, s, m.spelt, refl);
+    meets = other u o a m.meets;
+  };
+}
+
+-- a step that the checker refuses
+pub stops_at_step : OneForm SpellsStep → (earlier : List Step) (step : Step) (bytes text more : List ℕ) → (stored_after earlier).unsat ≡ false → bytes ≡ text ++ more → SpellsStep step text → is_ordered step ≡ false
+    → (Accepts (stored_after earlier) step → ⊥) → Stops earlier bytes
+stops_at_step one earlier step bytes text more u b s o a = record { none = λ e es m. let g = begun one earlier step bytes text more e es u b s m in a (skipped the_checking o g.meets).0 }
+
+pub offers_step : OneForm SpellsStep → (earlier : List Step) (step : Step) (bytes text more : List ℕ) → (stored_after earlier).unsat ≡ false → bytes ≡ text ++ more → SpellsStep step text → is_ordered step ≡ true
+    → Offers earlier bytes earlier step more
+offers_step one earlier step bytes text more u b s o = record {
+  on = λ e es m.
+      let g = begun one earlier step bytes text more e es u b s m in
+      let t = taken the_checking o g.meets in
+      (t.0, t.1, record { steps = g.steps; text = g.text; rest = g.rest; begins = g.begins; spelt = g.spelt; meets = t.2 });
+  back = λ e es f a m. record {
+    steps = step ∷ m.steps;
+    text = text ++ m.text;
+    rest = m.rest;
+    begins = b ∙ ap (λ x. text ++ x) m.begins ∙ sym (append_assoc text m.text m.rest);
+    spelt = (text, m.text, s, m.spelt, refl);
+    meets = ordered u f a m.meets;
+  };
+}
+
+pub skips_none : (earlier : List Step) (bytes : List ℕ) → Skips earlier bytes earlier bytes
+skips_none earlier bytes = record { on = λ e es m. m; back = λ e es m. m }
+
+pub skips_on : {earlier mid later : List Step} {bytes between rest : List ℕ} → Skips earlier bytes mid between → Skips mid between later rest → Skips earlier bytes later rest
+skips_on s t = record { on = λ e es m. t.on e es (s.on e es m); back = λ e es m. s.back e es (t.back e es m) }
+
+pub skips_stop : {earlier mid : List Step} {bytes between : List ℕ} → Skips earlier bytes mid between → Stops mid between → Stops earlier bytes
+skips_stop s t = record { none = λ e es m. t.none e es (s.on e es m) }
+
+pub skips_offer : {earlier mid later : List Step} {bytes between rest : List ℕ} {step : Step} → Skips earlier bytes mid between → Offers mid between later step rest → Offers earlier bytes later step rest
+skips_offer s o = record { on = λ e es m. o.on e es (s.on e es m); back = λ e es f a m. s.back e es (o.back e es f a m) }
+
+-- the step that was expected
+pub leads_step : {earlier later : List Step} {bytes rest : List ℕ} {step : Step} (e : Expected) → Offers earlier bytes later step rest → Fits the_checking later e step → Accepts (stored_after later) step → Leads earlier bytes (e ∷ []) (step ∷ later) rest
+leads_step e o f a = record { on = λ es m. (o.on e es m).2; back = λ es m. o.back e es f a m }
+
+pub bars_unfit : {earlier later : List Step} {bytes rest : List ℕ} {step : Step} (e : Expected) → Offers earlier bytes later step rest → (Fits the_checking later e step → ⊥) → Bars earlier bytes (e ∷ [])
+bars_unfit e o n = record { none = λ es m. n (o.on e es m).0 }
+
+pub bars_refused : {earlier later : List Step} {bytes rest : List ℕ} {step : Step} (e : Expected) → Offers earlier bytes later step rest → (Accepts (stored_after later) step → ⊥) → Bars earlier bytes (e ∷ [])
+bars_refused e o n = record { none = λ es m. n (o.on e es m).1 }
+
+pub bars_stop : {earlier : List Step} {bytes : List ℕ} (e : Expected) → Stops earlier bytes → Bars earlier bytes (e ∷ [])
+bars_stop e s = record { none = λ es m. s.none e es m }
+
+-- unsat was recorded before the step came
+pub leads_skip : {earlier later : List Step} {bytes rest : List ℕ} (e : Expected) → Skips earlier bytes later rest → (stored_after later).unsat ≡ true → Excused e → Leads earlier bytes (e ∷ []) later rest
+leads_skip {earlier} {later} {bytes} {rest} e s u x =
+    let l = leads_cut later rest (e ∷ []) u (x, tt) in record { on = λ es m. l.on es (s.on e es m); back = λ es m. s.back e es (l.back es m) }
+
+pub bars_skip : {earlier later : List Step} {bytes rest : List ℕ} (e : Expected) → Skips earlier bytes later rest → (stored_after later).unsat ≡ true → (Excused e → ⊥) → Bars earlier bytes (e ∷ [])
+bars_skip {earlier} {later} {bytes} {rest} e s u x = record { none = λ es m. (bars_cut later rest (e ∷ []) u (λ h. x h.0)).none es (s.on e es m) }

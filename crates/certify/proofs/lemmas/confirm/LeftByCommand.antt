@@ -1,0 +1,130 @@
+-- What is left, command by command.
+use Rattle.std.proofs.Common.{ℕ, ◌+◌, ◌≡◌, ◌↔◌, List, [], ◌∷◌, ◌++◌, Some, None, refl, sym, ◌∙◌, ap, subst, append_assoc}
+use Rattle.std.specs.List.{AllByRecursion}
+use Rattle.sat_base.specs.script.Script.{Literal, Command, Clause, Ask, Ending, names_of}
+use Rattle.sat_base.specs.script.Judge.{Judge, Refusal, accepted, accepted_of, refusal_of, start}
+use Rattle.sat_base.specs.steps.Steps.{Step}
+use Rattle.certify.specs.answers.Answers.{Outcome, answers_from, refused_line, outcome_text, outcomes_left, piece, ending_text}
+use Rattle.certify.specs.confirm.Matches.{Expected, Adds, Opens, Shows, Fails, Closes, Finish, bringing, showing, expected, OneEach, InForm, Meets, cut, other, ordered, shows, fails, MatchesCommands}
+use Rattle.certify.specs.confirm.LeftToMatch.{Left, LeftOfAsk}
+use Rattle.certify.specs.confirm.ListChecking.{the_checking}
+use Rattle.certify.specs.confirm.CertificatePlaces.{CanMeet, Leads, Bars}
+
+-- what is left of the commands from number n on
+abbrev pub Rest : Judge → ℕ → List Step → List Expected → List Command → Ending → List ℕ → List ℕ → Type 0
+Rest j n earlier pending commands ending answers certificate = Left the_checking j n earlier pending commands ending answers certificate
+
+pub left_begins : (commands : List Command) (ending : Ending) (answers certificate : List ℕ) → MatchesCommands the_checking commands ending answers certificate ↔ Rest start 1 [] [] commands ending answers certificate
+left_begins commands ending answers certificate = (
+  (λ m. record { outcomes = m.outcomes; answered = m.answered; one_each = m.match.one_each; in_form = m.match.in_form; certified = record { steps = m.steps; text = m.text; rest = m.rest; begins = m.begins; spelt = m.spelt; meets = m.match.meets } }),
+  (λ l. let c = l.certified in record { outcomes = l.outcomes; steps = c.steps; text = c.text; rest = c.rest; answered = l.answered; begins = c.begins; spelt = c.spelt; match = record { one_each = l.one_each; in_form = l.in_form; meets = c.meets } }),
+)
+
+-- a refused command takes its line
+pub refused_on : (j : Judge) (n : ℕ) (earlier : List Step) (c : Command) (cs : List Command) (ending : Ending) (answers certificate : List ℕ) (refusal : Refusal) → refusal_of j c ≡ Some refusal
+    → Rest j n earlier [] (c ∷ cs) ending answers certificate → (tail : List ℕ) × (answers ≡ refused_line n refusal ++ tail) × Rest j (n + 1) earlier [] cs ending tail certificate
+refused_on j n earlier c cs ending answers certificate refusal e l =
+    (answers_from (n + 1) j cs ending l.outcomes, rw e at l.answered, record { outcomes = l.outcomes; answered = refl; one_each = rw e at l.one_each; in_form = l.in_form; certified = rw e at l.certified })
+
+pub refused_back : (j : Judge) (n : ℕ) (earlier : List Step) (c : Command) (cs : List Command) (ending : Ending) (answers tail certificate : List ℕ) (refusal : Refusal) → refusal_of j c ≡ Some refusal
+    → answers ≡ refused_line n refusal ++ tail → Rest j (n + 1) earlier [] cs ending tail certificate → Rest j n earlier [] (c ∷ cs) ending answers certificate
+refused_back j n earlier c cs ending answers tail certificate refusal e a l =
+    record { outcomes = l.outcomes; answered = rw e (a ∙ ap (λ t. refused_line n refusal ++ t) l.answered); one_each = rw e l.one_each; in_form = l.in_form; certified = rw e l.certified }
+
+-- a clause that isn't refused is pending, behind its names
+pub clause_pending : (j : Judge) (n : ℕ) (earlier : List Step) (ls : List Literal) (cs : List Command) (ending : Ending) (answers certificate : List ℕ) → refusal_of j (Clause ls) ≡ None
+    → Rest j n earlier [] (Clause ls ∷ cs) ending answers certificate ↔ Rest (accepted (Clause ls) j) (n + 1) earlier (bringing (names_of ls) j ++ (Adds ls ∷ [])) cs ending answers certificate
+clause_pending j n earlier ls cs ending answers certificate e =
+    let next = accepted (Clause ls) j in
+    let same : (vs : List Outcome) → (bringing (names_of ls) j ++ (Adds ls ∷ [])) ++ expected next (accepted_of next cs) vs ≡ bringing (names_of ls) j ++ (Adds ls ∷ expected next (accepted_of next cs) vs) = λ vs. append_assoc (bringing (names_of ls) j) (Adds ls ∷ []) (expected next (accepted_of next cs) vs) in (
+      (λ l. record { outcomes = l.outcomes; answered = rw e at l.answered; one_each = rw e at l.one_each; in_form = l.in_form; certified = subst (λ es. CanMeet earlier es certificate) (sym (same l.outcomes)) (rw e at l.certified) }),
+      (λ l. record { outcomes = l.outcomes; answered = rw e l.answered; one_each = rw e l.one_each; in_form = l.in_form; certified = rw e (subst (λ es. CanMeet earlier es certificate) (same l.outcomes) l.certified) }),
+    )
+
+-- an ask that isn't refused takes an outcome
+module _ (j : Judge) (n : ℕ) (earlier : List Step) (ls : List Literal) (cs : List Command) (ending : Ending) (answers certificate : List ℕ) where
+  next : Judge
+  next = accepted (Ask ls) j
+
+  all_of : Outcome → List Outcome → List Expected
+  all_of v vs = bringing (names_of ls) j ++ (Opens ls v ∷ (showing (accepted (Ask ls) j) ls v ++ (Closes ∷ expected (accepted (Ask ls) j) (accepted_of (accepted (Ask ls) j) cs) vs)))
+
+  same : (v : Outcome) (vs : List Outcome) → (bringing (names_of ls) j ++ (Opens ls v ∷ (showing (accepted (Ask ls) j) ls v ++ (Closes ∷ [])))) ++ expected (accepted (Ask ls) j) (accepted_of (accepted (Ask ls) j) cs) vs
+      ≡ bringing (names_of ls) j ++ (Opens ls v ∷ (showing (accepted (Ask ls) j) ls v ++ (Closes ∷ expected (accepted (Ask ls) j) (accepted_of (accepted (Ask ls) j) cs) vs)))
+  same v vs = append_assoc (bringing (names_of ls) j) (Opens ls v ∷ (showing (accepted (Ask ls) j) ls v ++ (Closes ∷ []))) (expected (accepted (Ask ls) j) (accepted_of (accepted (Ask ls) j) cs) vs)
+      ∙ ap (λ es. bringing (names_of ls) j ++ (Opens ls v ∷ es)) (append_assoc (showing (accepted (Ask ls) j) ls v) (Closes ∷ []) (expected (accepted (Ask ls) j) (accepted_of (accepted (Ask ls) j) cs) vs))
+
+  to : (vs : List Outcome) → OneEach (Ask ls ∷ accepted_of (accepted (Ask ls) j) cs) vs → AllByRecursion InForm vs
+      → answers ≡ piece n None (Ask ls) vs ++ answers_from (n + 1) (accepted (Ask ls) j) cs ending (outcomes_left None (Ask ls) vs)
+      → CanMeet earlier (expected j (Ask ls ∷ accepted_of (accepted (Ask ls) j) cs) vs) certificate
+      → LeftOfAsk the_checking (accepted (Ask ls) j) (n + 1) earlier (bringing (names_of ls) j) ls cs ending answers certificate
+  to [] o f a m = absurd o
+  to (v ∷ vs) o f a m = record {
+    outcome = v;
+    tail = answers_from (n + 1) (accepted (Ask ls) j) cs ending vs;
+    answered = a;
+    in_form = f.0;
+    left = record { outcomes = vs; answered = refl; one_each = o; in_form = f.1; certified = subst (λ es. CanMeet earlier es certificate) (sym (same v vs)) m };
+  }
+
+  pub ask_on : refusal_of j (Ask ls) ≡ None → Rest j n earlier [] (Ask ls ∷ cs) ending answers certificate → LeftOfAsk the_checking (accepted (Ask ls) j) (n + 1) earlier (bringing (names_of ls) j) ls cs ending answers certificate
+  ask_on e l = to l.outcomes (rw e at l.one_each) l.in_form (rw e at l.answered) (rw e at l.certified)
+
+  pub ask_back : refusal_of j (Ask ls) ≡ None → LeftOfAsk the_checking (accepted (Ask ls) j) (n + 1) earlier (bringing (names_of ls) j) ls cs ending answers certificate → Rest j n earlier [] (Ask ls ∷ cs) ending answers certificate
+  ask_back e p =
+      let l = p.left in
+      record {
+        outcomes = p.outcome ∷ l.outcomes;
+        answered = rw e (p.answered ∙ ap (λ t. outcome_text p.outcome ++ t) l.answered);
+        one_each = rw e l.one_each;
+        in_form = (p.in_form, l.in_form);
+        certified = rw e (subst (λ es. CanMeet earlier es certificate) (same p.outcome l.outcomes) l.certified);
+      }
+
+-- what is pending is met on the way
+pub left_on : {earlier later : List Step} {certificate rest : List ℕ} {p : List Expected} (q : List Expected) (j : Judge) (n : ℕ) (cs : List Command) (ending : Ending) (answers : List ℕ)
+    → Leads earlier certificate p later rest → Rest j n earlier (p ++ q) cs ending answers certificate → Rest j n later q cs ending answers rest
+left_on {earlier} {later} {certificate} {rest} {p} q j n cs ending answers l m =
+    let more = expected j (accepted_of j cs) m.outcomes in
+    record { outcomes = m.outcomes; answered = m.answered; one_each = m.one_each; in_form = m.in_form; certified = l.on (q ++ more) (subst (λ es. CanMeet earlier es certificate) (append_assoc p q more) m.certified) }
+
+pub left_back : {earlier later : List Step} {certificate rest : List ℕ} {p : List Expected} (q : List Expected) (j : Judge) (n : ℕ) (cs : List Command) (ending : Ending) (answers : List ℕ)
+    → Leads earlier certificate p later rest → Rest j n later q cs ending answers rest → Rest j n earlier (p ++ q) cs ending answers certificate
+left_back {earlier} {later} {certificate} {rest} {p} q j n cs ending answers l m =
+    let more = expected j (accepted_of j cs) m.outcomes in
+    record { outcomes = m.outcomes; answered = m.answered; one_each = m.one_each; in_form = m.in_form; certified = subst (λ es. CanMeet earlier es certificate) (sym (append_assoc p q more)) (l.back (q ++ more) m.certified) }
+
+pub left_barred : {earlier : List Step} {certificate : List ℕ} {p : List Expected} (q : List Expected) (j : Judge) (n : ℕ) (cs : List Command) (ending : Ending) (answers : List ℕ)
+    → Bars earlier certificate p → Rest j n earlier (p ++ q) cs ending answers certificate → ⊥
+left_barred {earlier} {certificate} {p} q j n cs ending answers b m =
+    let more = expected j (accepted_of j cs) m.outcomes in
+    b.none (q ++ more) (subst (λ es. CanMeet earlier es certificate) (append_assoc p q more) m.certified)
+
+-- no command is left
+pub end_on : (j : Judge) (n : ℕ) (earlier : List Step) (ending : Ending) (answers certificate : List ℕ) → Rest j n earlier [] [] ending answers certificate → (answers ≡ ending_text n ending) × CanMeet earlier (Finish ∷ []) certificate
+end_on j n earlier ending answers certificate l = go l.outcomes l.one_each l.answered l.certified
+  where
+    go : (vs : List Outcome) → OneEach [] vs → answers ≡ answers_from n j [] ending vs → CanMeet earlier (expected j [] vs) certificate → (answers ≡ ending_text n ending) × CanMeet earlier (Finish ∷ []) certificate
+    go [] o a m = (a, m)
+    go (v ∷ vs) o a m = absurd o
+
+pub end_back : (j : Judge) (n : ℕ) (earlier : List Step) (ending : Ending) (answers certificate : List ℕ) → answers ≡ ending_text n ending → CanMeet earlier (Finish ∷ []) certificate → Rest j n earlier [] [] ending answers certificate
+end_back j n earlier ending answers certificate a m = record { outcomes = []; answered = a; one_each = tt; in_form = tt; certified = m }
+
+-- what a line of a model lists where it is met
+shown_names : (earlier steps : List Step) (names : List ℕ) (ask line : List Literal) (es : List Expected) → Meets the_checking earlier steps (Shows names ask line ∷ es) → names_of line ≡ names
+shown_names earlier steps names ask line es (cut u x) = absurd x.0
+shown_names earlier (step ∷ steps) names ask line es (other u n a m) = shown_names (step ∷ earlier) steps names ask line es m
+shown_names earlier (step ∷ steps) names ask line es (ordered u (shows n s k) a m) = n
+
+pub met_shows : (earlier : List Step) (names : List ℕ) (ask line : List Literal) (es : List Expected) (certificate : List ℕ) → CanMeet earlier (Shows names ask line ∷ es) certificate → names_of line ≡ names
+met_shows earlier names ask line es certificate m = shown_names earlier m.steps names ask line es m.meets
+
+-- no core but the empty one is met: failed cores aren't accepted yet
+failed_core : (earlier steps : List Step) (ask core : List Literal) (es : List Expected) → Meets the_checking earlier steps (Fails ask core ∷ es) → core ≡ []
+failed_core earlier steps ask core es (cut u x) = x.0
+failed_core earlier (step ∷ steps) ask core es (other u n a m) = failed_core (step ∷ earlier) steps ask core es m
+failed_core earlier (step ∷ steps) ask core es (ordered u (fails s) a m) = absurd a
+
+pub met_fails : (earlier : List Step) (ask core : List Literal) (es : List Expected) (certificate : List ℕ) → CanMeet earlier (Fails ask core ∷ es) certificate → core ≡ []
+met_fails earlier ask core es certificate m = failed_core earlier m.steps ask core es m.meets

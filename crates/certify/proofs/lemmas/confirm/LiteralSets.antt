@@ -1,0 +1,180 @@
+-- Lists of literals as sets.
+use Rattle.std.proofs.Common.{ℕ, zero, suc, ◌+◌, ◌<◌, ◌≡◌, ◌||◌, inl, inr, Bool, true, false, eqb, List, [], ◌∷◌, ◌++◌, length, take, get_or, Option, Some, None, refl, sym, ◌∙◌, ap, subst, arith}
+use Rattle.std.proofs.lemmas.Bool.{true≢false, eqb-true, or_cases}
+use Rattle.std.proofs.lemmas.List.{take_more}
+use Rattle.std.specs.Bool.{MatchBool}
+use Rattle.std.specs.List.{AllByRecursion}
+use Rattle.sat_base.specs.values.Literals.{coded}
+use Rattle.sat_base.specs.script.Script.{Literal, Among}
+use Rattle.certify.specs.checker.Propagation.{is_among}
+use Rattle.certify.specs.confirm.Matches.{Spells, EachSpelt, SameSet}
+use Rattle.certify.specs.confirm.SpeltLiterals.{AllAmong, SameMembers, AreSpelt}
+
+eqb_refl : (n : ℕ) → eqb n n ≡ true
+eqb_refl n = grind (arith)
+
+pub among_is : (xs : List ℕ) (l : ℕ) → is_among xs l ≡ true → Among l xs
+among_is [] l e = absurd (true≢false (sym e))
+among_is (x ∷ xs) l e = elim (or_cases (eqb x l) (is_among xs l) e) [ inl t ↦ inl (sym (eqb-true x l t)) | inr t ↦ inr (among_is xs l t) ]
+
+pub is_from_among : (xs : List ℕ) (l : ℕ) → Among l xs → is_among xs l ≡ true
+is_from_among [] l h = absurd h
+is_from_among (x ∷ xs) l (inl e) = rw e (let r = eqb_refl x in rw r refl)
+is_from_among (x ∷ xs) l (inr h) = go (eqb x l) (is_from_among xs l h)
+  where
+    go : (b : Bool) → is_among xs l ≡ true → b || is_among xs l ≡ true
+    go true r = refl
+    go false r = r
+
+is_among-append : (xs ys : List ℕ) (l : ℕ) → is_among (xs ++ ys) l ≡ is_among xs l || is_among ys l
+is_among-append [] ys l = refl
+is_among-append (x ∷ xs) ys l = go (eqb x l) (is_among-append xs ys l)
+  where
+    go : (b : Bool) → is_among (xs ++ ys) l ≡ is_among xs l || is_among ys l → b || is_among (xs ++ ys) l ≡ (b || is_among xs l) || is_among ys l
+    go true r = refl
+    go false r = r
+
+or_comm : (a b : Bool) → a || b ≡ b || a
+or_comm true true = refl
+or_comm true false = refl
+or_comm false true = refl
+or_comm false false = refl
+
+or_false : (a : Bool) → a || false ≡ a
+or_false true = refl
+or_false false = refl
+
+-- a literal more
+pub marked_more : (marks xs : List ℕ) (i d : ℕ) → i < length xs → SameMembers marks (take i xs) → SameMembers (get_or xs i d ∷ marks) (take (i + 1) xs)
+marked_more marks xs i d h s l =
+    let more = take_more xs i d h in
+    rw more (ap (λ b. eqb (get_or xs i d) l || b) (s l) ∙ or_comm (eqb (get_or xs i d) l) (is_among (take i xs) l) ∙ ap (λ b. is_among (take i xs) l || b) (sym (or_false (eqb (get_or xs i d) l))) ∙ sym (is_among-append (take i xs) (get_or xs i d ∷ []) l))
+
+-- one that is marked already
+pub marked_before : (marks xs : List ℕ) (i d : ℕ) → i < length xs → is_among marks (get_or xs i d) ≡ true → SameMembers marks (take i xs) → SameMembers marks (take (i + 1) xs)
+marked_before marks xs i d h m s l = go (eqb (get_or xs i d) l) refl ∙ marked_more marks xs i d h s l
+  where
+    go : (b : Bool) → eqb (get_or xs i d) l ≡ b → is_among marks l ≡ b || is_among marks l
+    go true e = ap (is_among marks) (sym (eqb-true (get_or xs i d) l e)) ∙ m
+    go false e = refl
+
+pub all_marked : (marks xs ys : List ℕ) → SameMembers marks ys → AllByRecursion (λ l. is_among marks l ≡ true) xs → AllAmong xs ys
+all_marked marks [] ys s h = tt
+all_marked marks (x ∷ xs) ys s h = (among_is ys x (sym (s x) ∙ h.0), all_marked marks xs ys s h.1)
+
+pub marked_all : (marks xs ys : List ℕ) → SameMembers marks ys → AllAmong xs ys → AllByRecursion (λ l. is_among marks l ≡ true) xs
+marked_all marks [] ys s h = tt
+marked_all marks (x ∷ xs) ys s h = (s x ∙ is_from_among ys x h.0, marked_all marks xs ys s h.1)
+
+pub among_answer : (marks xs ys : List ℕ) (yes : Bool) → SameMembers marks ys → MatchBool yes (AllByRecursion (λ l. is_among marks l ≡ true) xs) (AllByRecursion (λ l. is_among marks l ≡ true) xs → ⊥) → MatchBool yes (AllAmong xs ys) (AllAmong xs ys → ⊥)
+among_answer marks xs ys true s h = all_marked marks xs ys s h
+among_answer marks xs ys false s h = λ a. h (marked_all marks xs ys s a)
+
+pub all_at : (P : ℕ → Type 0) (xs : List ℕ) (i d : ℕ) → i < length xs → AllByRecursion P xs → P (get_or xs i d)
+all_at P [] i d h a = absurd (omega arith)
+all_at P (x ∷ xs) zero d h a = a.0
+all_at P (x ∷ xs) (suc i) d h a = all_at P xs i d (omega arith) a.1
+
+pub all_more : (P : ℕ → Type 0) (xs : List ℕ) (i d : ℕ) → i < length xs → AllByRecursion P (take i xs) → P (get_or xs i d) → AllByRecursion P (take (i + 1) xs)
+all_more P xs i d h a p = let more = take_more xs i d h in rw more (go (take i xs) a)
+  where
+    go : (ys : List ℕ) → AllByRecursion P ys → AllByRecursion P (ys ++ get_or xs i d ∷ [])
+    go [] b = (p, tt)
+    go (y ∷ ys) b = (b.0, go ys b.1)
+
+-- literals of names
+
+spells_once : (names : ℕ → Option ℕ) (l : Literal) (c d : ℕ) → Spells names l c → Spells names l d → c ≡ d
+spells_once names l c d s t = s.is ∙ ap (λ v. coded v l.positive) (some (sym s.named ∙ t.named)) ∙ sym t.is
+  where
+    some : {v w : ℕ} → Some v ≡ Some w → v ≡ w
+    some e = cc
+
+pub spelt_more : (names : ℕ → Option ℕ) (ls : List Literal) (cs : List ℕ) (l : Literal) (c : ℕ) → AreSpelt names ls cs → Spells names l c → AreSpelt names (ls ++ l ∷ []) (cs ++ c ∷ [])
+spelt_more names [] [] l c a s = (s, tt)
+spelt_more names [] (d ∷ cs) l c a s = absurd a
+spelt_more names (k ∷ ls) [] l c a s = absurd a
+spelt_more names (k ∷ ls) (d ∷ cs) l c a s = (a.0, spelt_more names ls cs l c a.1 s)
+
+among_spelt : (names : ℕ → Option ℕ) (ls : List Literal) (cs codes : List ℕ) → AreSpelt names ls cs → AllAmong cs codes → EachSpelt names ls codes
+among_spelt names [] [] codes a h = tt
+among_spelt names [] (c ∷ cs) codes a h = absurd a
+among_spelt names (l ∷ ls) [] codes a h = absurd a
+among_spelt names (l ∷ ls) (c ∷ cs) codes a h = ((c, a.0, h.0), among_spelt names ls cs codes a.1 h.1)
+
+spelt_among : (names : ℕ → Option ℕ) (ls : List Literal) (cs codes : List ℕ) → AreSpelt names ls cs → EachSpelt names ls codes → AllAmong cs codes
+spelt_among names [] [] codes a h = tt
+spelt_among names [] (c ∷ cs) codes a h = absurd a
+spelt_among names (l ∷ ls) [] codes a h = absurd a
+spelt_among names (l ∷ ls) (c ∷ cs) codes a h = (subst (λ x. Among x codes) (spells_once names l h.0.0 c h.0.1 a.0) h.0.2, spelt_among names ls cs codes a.1 h.1)
+
+-- each code is that of one of the literals
+abbrev EachFrom : (ℕ → Option ℕ) → List Literal → List ℕ → Type 0
+EachFrom names ls codes = AllByRecursion (λ code. (l : Literal) × Spells names l code × Among l ls) codes
+
+from_one : (names : ℕ → Option ℕ) (ls : List Literal) (cs : List ℕ) (c : ℕ) → AreSpelt names ls cs → Among c cs → (l : Literal) × Spells names l c × Among l ls
+from_one names [] [] c a h = absurd h
+from_one names [] (d ∷ cs) c a h = absurd a
+from_one names (l ∷ ls) [] c a h = absurd a
+from_one names (l ∷ ls) (d ∷ cs) c a (inl e) = (l, subst (Spells names l) (sym e) a.0, inl refl)
+from_one names (l ∷ ls) (d ∷ cs) c a (inr h) = let p = from_one names ls cs c a.1 h in (p.0, p.1, inr p.2)
+
+one_from : (names : ℕ → Option ℕ) (ls : List Literal) (cs : List ℕ) (c : ℕ) (l : Literal) → AreSpelt names ls cs → Spells names l c → Among l ls → Among c cs
+one_from names [] cs c l a s h = absurd h
+one_from names (k ∷ ls) [] c l a s h = absurd a
+one_from names (k ∷ ls) (d ∷ cs) c l a s (inl e) = inl (spells_once names k c d (subst (λ x. Spells names x c) e s) a.0)
+one_from names (k ∷ ls) (d ∷ cs) c l a s (inr h) = inr (one_from names ls cs c l a.1 s h)
+
+each_from : (names : ℕ → Option ℕ) (ls : List Literal) (cs codes : List ℕ) → AreSpelt names ls cs → AllAmong codes cs → EachFrom names ls codes
+each_from names ls cs [] a h = tt
+each_from names ls cs (c ∷ codes) a h = (from_one names ls cs c a h.0, each_from names ls cs codes a h.1)
+
+from_each : (names : ℕ → Option ℕ) (ls : List Literal) (cs codes : List ℕ) → AreSpelt names ls cs → EachFrom names ls codes → AllAmong codes cs
+from_each names ls cs [] a h = tt
+from_each names ls cs (c ∷ codes) a h = (one_from names ls cs c h.0.0 a h.0.1 h.0.2, from_each names ls cs codes a h.1)
+
+pub same_set : (names : ℕ → Option ℕ) (ls : List Literal) (cs codes : List ℕ) → AreSpelt names ls cs → AllAmong cs codes → AllAmong codes cs → SameSet names ls codes
+same_set names ls cs codes a h k = (among_spelt names ls cs codes a h, each_from names ls cs codes a k)
+
+pub both_so : (P Q : Type 0) (first b : Bool) → first ≡ true → MatchBool first P (P → ⊥) → MatchBool b Q (Q → ⊥) → MatchBool b (P × Q) (P × Q → ⊥)
+both_so P Q first true e m n = (subst (λ x. MatchBool x P (P → ⊥)) e m, n)
+both_so P Q first false e m n = λ p. n p.1
+
+pub first_not : (P Q : Type 0) (first : Bool) → first ≡ false → MatchBool first P (P → ⊥) → P × Q → ⊥
+first_not P Q first e m p = subst (λ x. MatchBool x P (P → ⊥)) e m p.0
+
+-- the literals were spelt, and compared
+pub each_answer : (names : ℕ → Option ℕ) (ls : List Literal) (cs given codes : List ℕ) (first b : Bool) (N : Type 0) → first ≡ true → MatchBool first (AreSpelt names ls cs) N → given ≡ cs → MatchBool b (AllAmong given codes) (AllAmong given codes → ⊥) → MatchBool b (EachSpelt names ls codes) (EachSpelt names ls codes → ⊥)
+each_answer names ls cs given codes first b N e m g h = go b (subst (λ x. MatchBool x (AreSpelt names ls cs) N) e m) (subst (λ x. MatchBool b (AllAmong x codes) (AllAmong x codes → ⊥)) g h)
+  where
+    go : (b : Bool) → AreSpelt names ls cs → MatchBool b (AllAmong cs codes) (AllAmong cs codes → ⊥) → MatchBool b (EachSpelt names ls codes) (EachSpelt names ls codes → ⊥)
+    go true a h = among_spelt names ls cs codes a h
+    go false a h = λ s. h (spelt_among names ls cs codes a s)
+
+pub set_answer : (names : ℕ → Option ℕ) (ls : List Literal) (cs given codes : List ℕ) (first b : Bool) (N : Type 0) → first ≡ true → MatchBool first (AreSpelt names ls cs) N → given ≡ cs
+    → MatchBool b (AllAmong given codes × AllAmong codes given) (AllAmong given codes × AllAmong codes given → ⊥) → MatchBool b (SameSet names ls codes) (SameSet names ls codes → ⊥)
+set_answer names ls cs given codes first b N e m g h = go b (subst (λ x. MatchBool x (AreSpelt names ls cs) N) e m) (subst (λ x. MatchBool b (AllAmong x codes × AllAmong codes x) (AllAmong x codes × AllAmong codes x → ⊥)) g h)
+  where
+    go : (b : Bool) → AreSpelt names ls cs → MatchBool b (AllAmong cs codes × AllAmong codes cs) (AllAmong cs codes × AllAmong codes cs → ⊥) → MatchBool b (SameSet names ls codes) (SameSet names ls codes → ⊥)
+    go true a h = same_set names ls cs codes a h.0 h.1
+    go false a h = λ s. h (spelt_among names ls cs codes a s.0, from_each names ls cs codes a s.1)
+
+pub unspelt_each : (names : ℕ → Option ℕ) (ls : List Literal) (codes : List ℕ) (first : Bool) (P : Type 0) → first ≡ false → MatchBool first P ((codes : List ℕ) → EachSpelt names ls codes → ⊥) → EachSpelt names ls codes → ⊥
+unspelt_each names ls codes first P e m s = subst (λ x. MatchBool x P ((codes : List ℕ) → EachSpelt names ls codes → ⊥)) e m codes s
+
+-- one more literal is spelt
+pub spelt_loop : (names : ℕ → Option ℕ) (ls : List Literal) (cs new : List ℕ) (i : ℕ) (l : Literal) (v code : ℕ) → i < length ls → l ≡ get_or ls i l → AreSpelt names (take i ls) cs → new ≡ cs ++ code ∷ [] → names l.name ≡ Some v → code ≡ coded v l.positive → AreSpelt names (take (i + 1) ls) new
+spelt_loop names ls cs new i l v code h is a n e c =
+    let more : take (i + 1) ls ≡ take i ls ++ l ∷ [] = take_more ls i l h ∙ ap (λ x. take i ls ++ x ∷ []) (sym is) in
+    subst (AreSpelt names (take (i + 1) ls)) (sym n) (subst (λ xs. AreSpelt names xs (cs ++ code ∷ [])) (sym more) (spelt_more names (take i ls) cs l code a (record { variable = v; named = e; is = c })))
+
+-- a literal whose name has no variable
+pub unspelt : (names : ℕ → Option ℕ) (ls : List Literal) (l : Literal) (codes : List ℕ) → Among l ls → names l.name ≡ None → EachSpelt names ls codes → ⊥
+unspelt names [] l codes h n s = absurd h
+unspelt names (k ∷ ls) l codes (inl e) n s = let named = s.0.1.named in let f : names k.name ≡ None = subst (λ x. names x.name ≡ None) e n in absurd (cc)
+unspelt names (k ∷ ls) l codes (inr h) n s = unspelt names ls l codes h n s.1
+
+pub among_got : (ls : List Literal) (i : ℕ) (d : Literal) → i < length ls → Among (get_or ls i d) ls
+among_got [] i d h = absurd (omega arith)
+among_got (l ∷ ls) zero d h = inl refl
+among_got (l ∷ ls) (suc i) d h = inr (among_got ls i d (omega arith))

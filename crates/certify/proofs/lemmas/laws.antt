@@ -1,0 +1,10 @@
+pub mod LiteralValues
+pub mod Bridge
+pub mod MatchingSteps
+pub mod ExpectedOutcomes
+pub mod DefinitionLaws
+pub mod TellingTexts
+pub mod JudgeStates
+pub mod ListCheckerIsSound
+pub mod Rows
+pub mod CertifiedRows

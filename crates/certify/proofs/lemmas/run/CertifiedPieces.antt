@@ -1,0 +1,294 @@
+-- What each piece of a run's certificate brings in.
+use Rattle.std.proofs.Common.{ℕ, zero, suc, ◌+◌, ◌-◌, ◌/◌, ◌%◌, ◌<◌, ◌≤◌, ◌≡◌, Bool, true, false, cond, eqb, ltb, max, List, [], ◌∷◌, ◌++◌, map, Some, is_some, refl, sym, ◌∙◌, ap, subst, arith, inl, inr, append_assoc}
+use Rattle.std.proofs.lemmas.Bool.{ltb-true, ltb-false, eqb-true, eqb-false, ne_eqb}
+use Rattle.std.proofs.lemmas.Bool.Decides.{nat_tests}
+use Rattle.std.proofs.lemmas.List.{map-append}
+use Rattle.std.proofs.lemmas.List.Elements.{recursion_from_All}
+use Rattle.std.specs.List.{AllByRecursion, list_any}
+use Rattle.sat_base.specs.values.Literals.{coded, variable}
+use Rattle.sat_base.specs.values.Clauses.{Valuation, clause_true}
+use Rattle.sat_base.specs.script.Script.{Literal, Among, names_of}
+use Rattle.sat_base.specs.script.Judge.{Judge, names_from, new_names, bring_in, identity_of}
+use Rattle.sat_base.specs.steps.Steps.{Step, UserVarName, AddClause, AtClause, Model, Assumptions}
+use Rattle.certify.specs.checker.Stored.{Stored, with_stored, with_literals_known, is_known}
+use Rattle.certify.specs.checker.Accepts.{stored_after}
+use Rattle.certify.specs.confirm.Checking.{variable_of}
+use Rattle.certify.specs.confirm.ListChecking.{the_checking}
+use Rattle.certify.specs.answers.AnswerForms.{named_literal, named_literals}
+use Rattle.certify.specs.answers.RightAnswers.{IsRight}
+use Rattle.certify.specs.confirm.Matches.{Expected, NewName, Adds, Opens, Shows, Fails, Closes, bringing, showing, Spells, SameSet, EachSpelt, new_name, adds, opens, shows, closes}
+use Rattle.certify.specs.run.Certifies.{Certifies, left_out, other, ordered}
+use Rattle.certify.specs.search.Search.{IsBounded}
+use Rattle.certify.specs.search.KeptClauses.{IsNormalOf}
+use Rattle.certify.specs.search.SolverState.{SolverState, Allows, GainsClause}
+use Rattle.certify.specs.search.SearchEnds.{IsDerived}
+use Rattle.certify.specs.declared.summary.Answer.{Answer}
+use Rattle.certify.specs.declared.summary.Answer.TheVariants as kind
+use Rattle.certify.specs.run.Running.{HasFirstNames, Told, WritesClause, unwritten, written, naming, shown_by, reported_outcome, raised, are_within, code_of, IsTrueOf}
+use Rattle.certify.proofs.lemmas.checker.SortedLiterals.{among_from_contains, contains_from_among}
+use Rattle.certify.proofs.lemmas.run.NamesOfLiterals.{within_first, raised_least, codes_bounded}
+use Rattle.certify.proofs.lemmas.confirm.PlainJudge.{from_split}
+use Rattle.certify.proofs.lemmas.run.FirstNames.{AreNames, identity_plain, bring_plain}
+use Rattle.certify.proofs.lemmas.search.SolverCalls.{true_with, normal_bounded}
+use Rattle.certify.proofs.lemmas.confirm.LiteralSets.{among_is, is_from_among}
+use Rattle.certify.proofs.lemmas.laws.ListCheckerIsSound.{stored_knows}
+use Rattle.certify.proofs.lemmas.laws.LiteralValues.{all_at, all_from, among_mapped}
+
+-- behind the earlier steps these are what is expected, and then so many names are in use; whatever comes
+pub record Brings (earlier steps : List Step) (es : List Expected) (n : ℕ) (solver : SolverState) : Type 0 where
+  pub later : List Step
+  pub told : Told later n solver
+  pub leads : (more : List Step) (fs : List Expected) → Certifies the_checking later more fs → Certifies the_checking earlier (steps ++ more) (es ++ fs)
+
+pub brings_then : {earlier xs ys : List Step} {es fs : List Expected} {n m : ℕ} {s t : SolverState} (b : Brings earlier xs es n s) → Brings b.later ys fs m t → Brings earlier (xs ++ ys) (es ++ fs) m t
+brings_then {earlier} {xs} {ys} {es} {fs} {n} {m} {s} {t} b d = record {
+  later = d.later;
+  told = d.told;
+  leads = λ more gs c.
+      let all = b.leads (ys ++ more) (fs ++ gs) (d.leads more gs c) in
+      subst (λ zs. Certifies the_checking earlier zs ((es ++ fs) ++ gs)) (sym (append_assoc xs ys more))
+      (subst (λ hs. Certifies the_checking earlier (xs ++ (ys ++ more)) hs) (sym (append_assoc es fs gs)) all);
+}
+
+-- what was to be certified is so by these steps and the rest
+pub further : (before : List Step) {earlier steps : List Step} {es all rest goal : List Expected} {n : ℕ} {s : SolverState} → ((more : List Step) → Certifies the_checking earlier more all → Certifies the_checking [] (before ++ more) goal) → (b : Brings earlier steps es n s)
+    → all ≡ es ++ rest → (more : List Step) → Certifies the_checking b.later more rest → Certifies the_checking [] ((before ++ steps) ++ more) goal
+further before {earlier} {steps} {es} {all} {rest} {goal} f b e more c =
+    subst (λ xs. Certifies the_checking [] xs goal) (sym (append_assoc before steps more)) (f (steps ++ more) (subst (λ xs. Certifies the_checking earlier (steps ++ more) xs) (sym e) (b.leads more rest c)))
+
+pub brings_nothing : {earlier : List Step} {n : ℕ} {s : SolverState} → Told earlier n s → Brings earlier [] [] n s
+brings_nothing {earlier} t = record { later = earlier; told = t; leads = λ more fs c. c }
+
+pub told_start : (s : SolverState) → ((a : Valuation) → Allows s a) → Told [] 0 s
+told_start s h = record { named = λ name p q. absurd (omega arith); unknown = λ v q. refl; holds = λ a x. h a }
+
+-- the next name
+named_next : (n : ℕ) (earlier : List Step) (s : SolverState) → Told earlier n s → Told (UserVarName n (Some n) ∷ earlier) (n + 1) s
+named_next n earlier s t = record {
+  named = λ name p q. at name p q (eqb (n + 1) name) refl;
+  unknown = λ v q. let e : eqb n v ≡ false = ne_eqb n v (λ x. omega arith) in rw e (t.unknown v (omega arith));
+  holds = t.holds;
+}
+  where
+    at : (name : ℕ) → 0 < name → name ≤ n + 1 → (b : Bool) → eqb (n + 1) name ≡ b → cond b (Some n) (variable_of earlier name) ≡ Some (name - 1)
+    at name p q true e = let same = eqb-true (n + 1) name e in let f : n ≡ name - 1 = omega arith in ap (λ x. Some x) f
+    at name p q false e = let differs = eqb-false (n + 1) name e in t.named name p (omega arith)
+
+pub brings_names : (count n : ℕ) (earlier : List Step) (s : SolverState) → Told earlier n s → Brings earlier (naming count n) (map NewName (names_from count (n + 1))) (n + count) s
+brings_names zero n earlier s t = let e : n ≡ n + zero = omega arith in record { later = earlier; told = subst (λ m. Told earlier m s) e t; leads = λ more fs c. c }
+brings_names (suc count) n earlier s t =
+    let r = brings_names count (n + 1) (UserVarName n (Some n) ∷ earlier) s (named_next n earlier s t) in
+    let e : n + 1 + count ≡ n + suc count = omega arith in
+    record {
+      later = r.later;
+      told = subst (λ m. Told r.later m s) e r.told;
+      leads = λ more fs c. ordered (new_name refl (t.unknown n (omega arith))) (r.leads more fs c);
+    }
+
+-- the names that are expected
+new_names_plain : (j : Judge) (n name : ℕ) → HasFirstNames j n → 0 < name → new_names name j ≡ names_from (max n name - n) (n + 1)
+new_names_plain j n name h p = go (ltb name j.first_unused) refl
+  where
+    go : (b : Bool) → ltb name j.first_unused ≡ b → cond b (cond (is_some (identity_of j name)) [] (name ∷ [])) (names_from (name + 1 - j.first_unused) j.first_unused) ≡ names_from (max n name - n) (n + 1)
+    go true x =
+        let f = identity_plain j n name h p (omega (arith, ltb-true name j.first_unused x, h.first_unused)) in
+        let m : max n name - n ≡ 0 = omega (arith, ltb-true name j.first_unused x, h.first_unused) in
+        rw (f, m) refl
+    go false x =
+        let c : name + 1 - j.first_unused ≡ max n name - n = omega (arith, ltb-false name j.first_unused x, h.first_unused) in
+        ap (λ k. names_from k j.first_unused) c ∙ ap (names_from (max n name - n)) h.first_unused
+
+pub bringing_plain : (names : List ℕ) (j : Judge) (n : ℕ) → HasFirstNames j n → AreNames names → bringing names j ≡ map NewName (names_from (raised n names - n) (n + 1))
+bringing_plain [] j n h p = let e : n - n ≡ 0 = omega arith in rw e refl
+bringing_plain (name ∷ names) j n h p =
+    let m = max n name in
+    let r = raised m names in
+    let least = raised_least m names in
+    let ih = bringing_plain names (bring_in name j) m (bring_plain j n name h p.0).0 p.1 in
+    let total : (m - n) + (r - m) ≡ r - n = omega arith in
+    let at : n + 1 + (m - n) ≡ m + 1 = omega arith in
+    let joined : names_from (m - n) (n + 1) ++ names_from (r - m) (m + 1) ≡ names_from (r - n) (n + 1) =
+    ap (λ x. names_from (m - n) (n + 1) ++ names_from (r - m) x) (sym at) ∙ sym (from_split (m - n) (r - m) (n + 1)) ∙ ap (λ k. names_from k (n + 1)) total in
+    ap (λ es. map NewName (new_names name j) ++ es) ih
+    ∙ ap (λ ns. map NewName ns ++ map NewName (names_from (r - m) (m + 1))) (new_names_plain j n name h p.0)
+    ∙ sym (map-append NewName (names_from (m - n) (n + 1)) (names_from (r - m) (m + 1)))
+    ∙ ap (map NewName) joined
+
+-- literals of variables that came in
+abbrev AreLow : ℕ → List ℕ → Type 0
+AreLow n = AllByRecursion (λ l. variable l < n)
+
+low_from : (n : ℕ) (c : List ℕ) → IsBounded n c → AreLow n c
+low_from n c h = recursion_from_All (λ l. variable l < n) c h
+
+none_known : (n v : ℕ) (c known : List ℕ) → n ≤ v → AreLow n c → list_any (λ w. eqb w v) known ≡ false → list_any (λ w. eqb w v) (map variable c ++ known) ≡ false
+none_known n v [] known q b h = h
+none_known n v (l ∷ ls) known q b h = let low = b.0 in let e : eqb (variable l) v ≡ false = ne_eqb (variable l) v (λ x. omega arith) in rw e (none_known n v ls known q b.1 h)
+
+none_stored : (n v : ℕ) (c : List ℕ) (f : Stored) → n ≤ v → AreLow n c → is_known v f ≡ false → is_known v (with_stored false c (with_literals_known c f)) ≡ false
+none_stored n v c f q b h = ap (list_any (λ w. eqb w v)) (stored_knows false c (with_literals_known c f)) ∙ none_known n v c f.known q b h
+
+none_added : (n v : ℕ) (c : List ℕ) (f : Stored) (b : Bool) → n ≤ v → AreLow n c → is_known v f ≡ false → is_known v (cond b f (with_stored false c (with_literals_known c f))) ≡ false
+none_added n v c f true q low h = h
+none_added n v c f false q low h = none_stored n v c f q low h
+
+told_added : (n : ℕ) (c : List ℕ) (earlier : List Step) (s t : SolverState) → AreLow n c → ((a : Valuation) → Allows s a → clause_true a c ≡ true → Allows t a) → Told earlier n s → Told (AddClause c ∷ earlier) n t
+told_added n c earlier s t low onwards h = record {
+  named = h.named;
+  unknown = λ v q. none_added n v c (stored_after earlier) (stored_after earlier).unsat q low (h.unknown v q);
+  holds = λ a x. onwards a (h.holds a x.0) x.1;
+}
+
+told_derived : (n : ℕ) (c hashes : List ℕ) (earlier : List Step) (s : SolverState) → AreLow n c → Told earlier n s → Told (AtClause false c hashes ∷ earlier) n s
+told_derived n c hashes earlier s low h = record { named = h.named; unknown = λ v q. none_stored n v c (stored_after earlier) q low (h.unknown v q); holds = h.holds }
+
+told_model : (n : ℕ) (c : List ℕ) (earlier : List Step) (s : SolverState) → AreLow n c → Told earlier n s → Told (Model c ∷ earlier) n s
+told_model n c earlier s low h = record { named = h.named; unknown = λ v q. none_known n v c (stored_after earlier).known q low (h.unknown v q); holds = h.holds }
+
+told_assumed : (n : ℕ) (earlier : List Step) (s : SolverState) → Told earlier n s → Told (Assumptions [] ∷ earlier) n s
+told_assumed n earlier s h = record { named = h.named; unknown = h.unknown; holds = h.holds }
+
+-- literals are read through the steps
+spelt : (n : ℕ) (earlier : List Step) (s : SolverState) → Told earlier n s → (l : Literal) → 0 < l.name → l.name ≤ n → Spells (variable_of earlier) l (code_of l)
+spelt n earlier s t l p q = record { variable = l.name - 1; named = t.named l.name p q; is = refl }
+
+-- a clause's literals and those of its step are the same set
+code_in : (code : ℕ) (ls : List Literal) → Among code (map code_of ls) → (l : Literal) × Among l ls × (code ≡ code_of l)
+code_in code [] m = absurd m
+code_in code (l ∷ ls) m = elim m [ inl e ↦ (l, inl refl, e) | inr k ↦ let r = code_in code ls k in (r.0, inr r.1, r.2) ]
+
+abbrev AreWithin : ℕ → List Literal → Type 0
+AreWithin n = AllByRecursion (λ l. (0 < l.name) × (l.name ≤ n))
+
+within_all : (n m : ℕ) (ls : List Literal) → raised m (names_of ls) ≤ n → are_within (names_of ls) ≡ true → AreWithin n ls
+within_all n m [] h w = tt
+within_all n m (l ∷ ls) h w =
+    let i = within_first l.name (names_of ls) w in
+    let r = raised_least (max m l.name) (names_of ls) in
+    ((i.positive, omega arith), within_all n (max m l.name) ls h i.others)
+
+same_set : (n : ℕ) (earlier : List Step) (s : SolverState) → Told earlier n s → (ls : List Literal) (c : List ℕ) → AreWithin n ls → IsNormalOf (map code_of ls) c → SameSet (variable_of earlier) ls c
+same_set n earlier s t ls c w normal = (
+  all_from (λ l. (code : ℕ) × Spells (variable_of earlier) l code × Among code c) ls (λ l m. let p = all_at (λ l. (0 < l.name) × (l.name ≤ n)) l ls w m in (code_of l, spelt n earlier s t l p.0 p.1, into (code_of l) (among_mapped code_of l ls m))),
+  all_from (λ code. (l : Literal) × Spells (variable_of earlier) l code × Among l ls) c
+      (λ code m.
+      let r = code_in code ls (back code m) in
+      let p = all_at (λ l. (0 < l.name) × (l.name ≤ n)) r.0 ls w r.1 in
+      (r.0, subst (λ x. Spells (variable_of earlier) r.0 x) (sym r.2) (spelt n earlier s t r.0 p.0 p.1), r.1)),
+)
+  where
+    into : (x : ℕ) → Among x (map code_of ls) → Among x c
+    into x m = among_is c x (among_from_contains c x (normal.has x (contains_from_among (map code_of ls) x (is_from_among (map code_of ls) x m))))
+
+    back : (x : ℕ) → Among x c → Among x (map code_of ls)
+    back x m = among_is (map code_of ls) x (among_from_contains (map code_of ls) x (normal.only x (contains_from_among c x (is_from_among c x m))))
+
+-- a clause
+pub brings_clause : (n : ℕ) (earlier : List Step) (s t : SolverState) (ls : List Literal) (steps : List Step) → AreWithin n ls → IsBounded n (map code_of ls) → WritesClause s (map code_of ls) steps → GainsClause s t (map code_of ls) → Told earlier n s → Brings earlier steps (Adds ls ∷ []) n t
+brings_clause n earlier s t ls steps w b (unwritten none) takes told = record {
+  later = earlier;
+  told = record { named = told.named; unknown = told.unknown; holds = λ a x. absurd (none.none a (told.holds a x)) };
+  leads = λ more fs c. left_out tt (λ a x. none.none a (told.holds a x)) c;
+}
+brings_clause n earlier s t ls steps w b (written {normal = c} normal) takes told = record {
+  later = AddClause c ∷ earlier;
+  told = told_added n c earlier s t (low_from n c (normal_bounded n (map code_of ls) c normal b)) (λ a h e. takes.onwards a h (true_with a c (map code_of ls) normal.only e)) told;
+  leads = λ more fs d. ordered (adds (same_set n earlier s told ls c w normal)) d;
+}
+
+-- a clause with its names
+pub brings_added : (n : ℕ) (earlier : List Step) (s t : SolverState) (j : Judge) (ls : List Literal) (steps : List Step) → HasFirstNames j n → AreNames (names_of ls) → are_within (names_of ls) ≡ true → WritesClause s (map code_of ls) steps → GainsClause s t (map code_of ls) → Told earlier n s
+    → Brings earlier (naming (raised n (names_of ls) - n) n ++ steps) (bringing (names_of ls) j ++ Adds ls ∷ []) (raised n (names_of ls)) t
+brings_added n earlier s t j ls steps plain positive w wrote takes told =
+    let m = raised n (names_of ls) in
+    let least = raised_least n (names_of ls) in
+    let e : n + (m - n) ≡ m = omega arith in
+    let named = subst (λ k. Brings earlier (naming (m - n) n) (map NewName (names_from (m - n) (n + 1))) k s) e (brings_names (m - n) n earlier s told) in
+    let clause = brings_clause m named.later s t ls steps (within_all m n ls (omega arith) w) (codes_bounded n ls w) wrote takes named.told in
+    subst (λ es. Brings earlier (naming (m - n) n ++ steps) (es ++ Adds ls ∷ []) m t) (sym (bringing_plain (names_of ls) j n plain positive)) (brings_then named clause)
+
+-- derived clauses, while something is expected
+pub record Passes (earlier steps : List Step) (n : ℕ) (solver : SolverState) : Type 0 where
+  pub later : List Step
+  pub told : Told later n solver
+  pub leads : (more : List Step) (e : Expected) (fs : List Expected) → Certifies the_checking later more (e ∷ fs) → Certifies the_checking earlier (steps ++ more) (e ∷ fs)
+
+passes_derived : (n : ℕ) (steps earlier : List Step) (s : SolverState) → AllByRecursion (IsDerived n) steps → Told earlier n s → Passes earlier steps n s
+passes_derived n [] earlier s h t = record { later = earlier; told = t; leads = λ more e fs c. c }
+passes_derived n (step ∷ steps) earlier s h t =
+    let c = h.0.0 in
+    let hashes = h.0.1 in
+    let r = passes_derived n steps (AtClause false c hashes ∷ earlier) s h.1 (told_derived n c hashes earlier s (low_from n c h.0.3) t) in
+    record {
+      later = r.later;
+      told = r.told;
+      leads = λ more e fs d. subst (λ x. Certifies the_checking earlier (x ∷ (steps ++ more)) (e ∷ fs)) (sym h.0.2) (other refl (r.leads more e fs d));
+    }
+
+-- a model's line
+pub code_back : (l : ℕ) → code_of (named_literal l) ≡ l
+code_back l = go (eqb (l % 2) 0) refl
+  where
+    go : (b : Bool) → eqb (l % 2) 0 ≡ b → coded (l / 2 + 1 - 1) b ≡ l
+    go true e = let z : l % 2 ≡ 0 = grind (arith, nat_tests) in omega arith
+    go false e = let z : 0 < l % 2 = grind (arith, nat_tests) in omega arith
+
+low_line : (line : List ℕ) (m k n : ℕ) → map variable line ≡ names_from m k → k + m ≤ n → AreLow n line
+low_line [] m k n e q = tt
+low_line (l ∷ ls) zero k n e q = absurd (cc)
+low_line (l ∷ ls) (suc m) k n e q =
+    let hd : variable l ≡ k = cc in
+    let tl : map variable ls ≡ names_from m (k + 1) = cc in
+    (omega arith, low_line ls m (k + 1) n tl (omega arith))
+
+line_spelt : (n : ℕ) (earlier : List Step) (s : SolverState) → Told earlier n s → (ls whole : List ℕ) → AreLow n ls → ((c : ℕ) → Among c ls → Among c whole) → EachSpelt (variable_of earlier) (named_literals ls) whole
+line_spelt n earlier s t [] whole low m = tt
+line_spelt n earlier s t (l ∷ ls) whole low m =
+    let h : variable l < n = low.0 in (
+      (l, subst (λ c. Spells (variable_of earlier) (named_literal l) c) (code_back l) (spelt n earlier s t (named_literal l) (omega arith) (omega arith)), m l (inl refl)),
+      line_spelt n earlier s t ls whole low.1 (λ c k. m c (inr k)),
+    )
+
+-- what shows an answer
+brings_shown : (n : ℕ) (earlier : List Step) (s : SolverState) (j : Judge) (line : List ℕ) (answer : Answer) → s.var_count ≡ n → IsTrueOf s line answer → IsRight j [] (reported_outcome answer line) → Told earlier n s
+    → Brings earlier (shown_by answer line) (showing j [] (reported_outcome answer line)) n s
+brings_shown n earlier s j line kind.Sat v truth right t =
+    let low = low_line line s.var_count 0 n truth.0 (omega arith) in
+    record {
+      later = Model line ∷ earlier;
+      told = told_model n line earlier s low t;
+      leads = λ more fs c. ordered (shows right.names (line_spelt n earlier s t line line low (λ c m. m)) tt) c;
+    }
+brings_shown n earlier s j line kind.Unsat v truth right t = record { later = earlier; told = t; leads = λ more fs c. left_out tt (λ a x. truth a (t.holds a x)) c }
+brings_shown n earlier s j line kind.Unknown v truth right t = record { later = earlier; told = t; leads = λ more fs c. c }
+
+-- the steps of an ask
+abbrev pub ask_steps : List Step → Answer → List ℕ → List Step
+ask_steps derived answer line = Assumptions [] ∷ (derived ++ (shown_by answer line ++ Assumptions [] ∷ []))
+
+pub brings_ask : (n : ℕ) (earlier : List Step) (s t : SolverState) (j : Judge) (derived : List Step) (line : List ℕ) (answer : Answer) → t.var_count ≡ n → ((a : Valuation) → Allows s a → Allows t a)
+    → AllByRecursion (IsDerived n) derived → IsTrueOf t line answer → IsRight j [] (reported_outcome answer line) → Told earlier n s
+    → Brings earlier (ask_steps derived answer line) (Opens [] (reported_outcome answer line) ∷ (showing j [] (reported_outcome answer line) ++ (Closes ∷ []))) n t
+brings_ask n earlier s t j derived line answer v onwards are_derived truth right told =
+    let o = reported_outcome answer line in
+    let opened : Told (Assumptions [] ∷ earlier) n t = told_assumed n earlier t (record { named = told.named; unknown = told.unknown; holds = λ a x. onwards a (told.holds a x) }) in
+    let passed = passes_derived n derived (Assumptions [] ∷ earlier) t are_derived opened in
+    let shown = brings_shown n passed.later t j line answer v truth right passed.told in
+    record {
+      later = Assumptions [] ∷ shown.later;
+      told = told_assumed n shown.later t shown.told;
+      leads = λ more fs c.
+          let last : Certifies the_checking passed.later (shown_by answer line ++ (Assumptions [] ∷ more)) (showing j [] o ++ (Closes ∷ fs)) = shown.leads (Assumptions [] ∷ more) (Closes ∷ fs) (ordered closes c) in
+          let at : ask_steps derived answer line ++ more ≡ Assumptions [] ∷ (derived ++ (shown_by answer line ++ (Assumptions [] ∷ more))) = ap (λ xs. Assumptions [] ∷ xs) (append_assoc derived (shown_by answer line ++ Assumptions [] ∷ []) more ∙ ap (λ xs. derived ++ xs) (append_assoc (shown_by answer line) (Assumptions [] ∷ []) more)) in
+          let es : (showing j [] o ++ (Closes ∷ [])) ++ fs ≡ showing j [] o ++ (Closes ∷ fs) = append_assoc (showing j [] o) (Closes ∷ []) fs in
+          subst (λ xs. Certifies the_checking earlier xs (Opens [] o ∷ ((showing j [] o ++ (Closes ∷ [])) ++ fs))) (sym at)
+          (subst (λ xs. Certifies the_checking earlier (Assumptions [] ∷ (derived ++ (shown_by answer line ++ (Assumptions [] ∷ more)))) (Opens [] o ∷ xs)) (sym es)
+          (ordered (opens (tt, tt)) (derived_leads answer (shown_by answer line ++ (Assumptions [] ∷ more)) fs passed last)));
+    }
+  where
+    -- something is expected behind the derived clauses
+    derived_leads : (answer : Answer) (more : List Step) (fs : List Expected) (passed : Passes (Assumptions [] ∷ earlier) derived n t) → Certifies the_checking passed.later more (showing j [] (reported_outcome answer line) ++ (Closes ∷ fs))
+        → Certifies the_checking (Assumptions [] ∷ earlier) (derived ++ more) (showing j [] (reported_outcome answer line) ++ (Closes ∷ fs))
+    derived_leads kind.Sat more fs passed c = passed.leads more (Shows (map (λ m. m.name) j.in_use) [] (named_literals line)) (Closes ∷ fs) c
+    derived_leads kind.Unsat more fs passed c = passed.leads more (Fails [] []) (Closes ∷ fs) c
+    derived_leads kind.Unknown more fs passed c = passed.leads more Closes fs c

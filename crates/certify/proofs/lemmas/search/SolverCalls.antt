@@ -1,0 +1,93 @@
+-- The solver's calls.
+use Rattle.std.proofs.Common.{ℕ, zero, suc, ◌≡◌, ◌<◌, ◌≤◌, Bool, true, false, Option, Some, None, List, [], ◌∷◌, ◌++◌, length, get_or, refl, sym, ◌∙◌, ap, subst, arith, inl, inr}
+use Rattle.std.specs.List.{Contains}
+use Rattle.std.proofs.lemmas.Bool.{or_cases, false≢true}
+use Rattle.std.proofs.lemmas.List.{get_or_default}
+use Rattle.std.proofs.lemmas.List.Elements.{All-weaker, All-nil, All-contains, Contains-get_or}
+use Rattle.sat_base.specs.values.Literals.{variable}
+use Rattle.sat_base.specs.values.Clauses.{Valuation, literal_true, clause_true, EachHolds}
+use Rattle.certify.specs.search.Search.{IsBounded, AreBounded, Implies, AllAssigned, valuation_of}
+use Rattle.certify.specs.search.KeptClauses.{IsNormalOf, UnitsFollow, KeepsClause}
+use Rattle.certify.specs.search.SolverState.{SolverState, GainsClause, AllowsSame, HasModel}
+use Rattle.certify.proofs.lemmas.search.KeptClauses.{true_at}
+
+pub none_follow : (clauses : List (List ℕ)) (units : List (Option Bool)) → units ≡ [] → UnitsFollow clauses units
+none_follow clauses units e = subst (UnitsFollow clauses) (sym e) record { agree = λ a h v b k. absurd (nothing b k) }
+  where
+    nothing : (b : Bool) → None ≡ Some b → ⊥
+    nothing b k = cc
+
+pub none_bounded : (n : ℕ) (clauses : List (List ℕ)) → clauses ≡ [] → AreBounded n clauses
+none_bounded n clauses e = subst (AreBounded n) (sym e) (All-nil (IsBounded n))
+
+bounded_by_more : (n m : ℕ) (c : List ℕ) → n ≤ m → IsBounded n c → IsBounded m c
+bounded_by_more n m c le h = λ k d inside. let below : variable (get_or c k d) < n = h k d inside in omega arith
+
+pub more_bounded : (n m : ℕ) (clauses : List (List ℕ)) → n ≤ m → AreBounded n clauses → AreBounded m clauses
+more_bounded n m clauses le h = All-weaker (IsBounded n) (IsBounded m) (λ c k. bounded_by_more n m c le k) clauses h
+
+-- an open variable behind the others
+get_or_more : (units : List (Option Bool)) (v : ℕ) → get_or (units ++ None ∷ []) v None ≡ get_or units v None
+get_or_more [] zero = refl
+get_or_more [] (suc v) = refl
+get_or_more (o ∷ os) zero = refl
+get_or_more (o ∷ os) (suc v) = get_or_more os v
+
+pub more_follow : (clauses : List (List ℕ)) (units : List (Option Bool)) → UnitsFollow clauses units → UnitsFollow clauses (units ++ None ∷ [])
+more_follow clauses units u = record { agree = λ a h v b k. u.agree a h v b (sym (get_or_more units v) ∙ k) }
+
+-- clauses with the same literals are true together
+true_in : (a : Valuation) (xs : List ℕ) → clause_true a xs ≡ true → (l : ℕ) × Contains xs l × (literal_true a l ≡ true)
+true_in a [] e = absurd (false≢true e)
+true_in a (l ∷ ls) e = elim (or_cases (literal_true a l) (clause_true a ls) e) [
+  | inl here ↦ (l, (0, omega arith, refl), here)
+  | inr there ↦ let more = true_in a ls there in (more.0, (suc more.1.0, omega (arith, more.1.1), more.1.2), more.2)
+]
+
+true_by : (a : Valuation) (xs : List ℕ) (l : ℕ) → Contains xs l → literal_true a l ≡ true → clause_true a xs ≡ true
+true_by a xs l h e = true_at a xs h.0 h.1 (ap (literal_true a) (get_or_default xs h.0 0 l h.1 ∙ h.2) ∙ e)
+
+pub true_with : (a : Valuation) (xs ys : List ℕ) → ((l : ℕ) → Contains xs l → Contains ys l) → clause_true a xs ≡ true → clause_true a ys ≡ true
+true_with a xs ys has e = let found = true_in a xs e in true_by a ys found.0 (has found.0 found.1) found.2
+
+pub normal_bounded : (n : ℕ) (lits clause : List ℕ) → IsNormalOf lits clause → IsBounded n lits → IsBounded n clause
+normal_bounded n lits clause normal h = λ k d inside. All-contains (λ l. variable l < n) lits (get_or clause k d) h (normal.only (get_or clause k d) (Contains-get_or clause k d inside))
+
+-- a clause was kept
+pub takes_normal : (old new : SolverState) (unsat : Bool) (lits clause : List ℕ) → IsNormalOf lits clause → old.unsat ≡ false → new.unsat ≡ unsat → KeepsClause unsat old.clauses new.clauses clause → GainsClause old new lits
+takes_normal old new unsat lits clause normal was now keeps = record {
+  onwards = λ a h e. let more = keeps.onwards a h.1 (true_with a lits clause normal.has e) in (now ∙ more.0, more.1);
+  back = λ a h. let less = keeps.back a (sym now ∙ h.0) h.1 in ((was, less.0), true_with a clause lits normal.only less.1);
+}
+
+-- the same, of a value that is seen through its parts
+pub takes_viewed : (before old new : SolverState) (unsat : Bool) (lits clause : List ℕ) → before ≡ old → IsNormalOf lits clause → before.unsat ≡ false → new.unsat ≡ unsat → KeepsClause unsat before.clauses new.clauses clause → GainsClause old new lits
+takes_viewed before old new unsat lits clause e normal was now keeps = subst (λ h. GainsClause h new lits) e (takes_normal before new unsat lits clause normal was now keeps)
+
+-- nothing is allowed, before and after
+pub takes_nothing : (old new : SolverState) (lits : List ℕ) → old.unsat ≡ true → new.unsat ≡ true → GainsClause old new lits
+takes_nothing old new lits was now = record {
+  onwards = λ a h e. absurd (false≢true (sym h.0 ∙ was));
+  back = λ a h. absurd (false≢true (sym h.0 ∙ now));
+}
+
+-- what follows was kept
+pub same_with_learned : (old new : SolverState) (unsat : Bool) (learned : List ℕ) → Implies old.clauses learned → old.unsat ≡ false → new.unsat ≡ unsat → KeepsClause unsat old.clauses new.clauses learned → AllowsSame old new
+same_with_learned old new unsat learned implies was now keeps = record {
+  onwards = λ a h. let more = keeps.onwards a h.1 (implies.holds a h.1) in (now ∙ more.0, more.1);
+  back = λ a h. (was, (keeps.back a (sym now ∙ h.0) h.1).0);
+}
+
+pub learned_viewed : (before old new : SolverState) (unsat : Bool) (learned : List ℕ) → before ≡ old → Implies before.clauses learned → before.unsat ≡ false → new.unsat ≡ unsat → KeepsClause unsat before.clauses new.clauses learned → AllowsSame old new × Implies old.clauses learned
+learned_viewed before old new unsat learned e implies was now keeps = subst (λ h. AllowsSame h new × Implies h.clauses learned) e (same_with_learned before new unsat learned implies was now keeps, implies)
+
+pub same_held : (old new : SolverState) → new.clauses ≡ old.clauses → new.unsat ≡ old.unsat → AllowsSame old new
+same_held old new same_clauses same_unsat = record {
+  onwards = λ a h. (same_unsat ∙ h.0, subst (EachHolds a) (sym same_clauses) h.1);
+  back = λ a h. (sym same_unsat ∙ h.0, subst (EachHolds a) same_clauses h.1);
+}
+
+pub has_model : (s : SolverState) → s.unsat ≡ false → length s.values ≡ s.var_count → EachHolds (valuation_of s.values) s.clauses → AllAssigned s.values → HasModel s
+has_model s going long h assigned = record { long = long; assigned = assigned; holds = (going, h) }
+
+pub ruleset solving = (none_follow, none_bounded, more_bounded, more_follow, normal_bounded)

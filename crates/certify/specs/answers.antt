@@ -1,0 +1,4 @@
+pub mod Answers
+pub mod RightAnswers
+pub mod AnswerForms
+pub mod AnswerReading

@@ -1,0 +1,41 @@
+-- How literals stand for named ones, and which outcomes an answer may print.
+use Rattle.std.specs.Prelude.{ℕ, ◌+◌, ◌<◌, ◌≤◌, List, [], ◌∷◌, map}
+use Rattle.std.specs.List.{AllByRecursion}
+use Rattle.sat_base.specs.values.Literals.{largest, variable, is_positive}
+use Rattle.sat_base.specs.script.Script.{Literal, names_of, InOrder}
+use Rattle.certify.specs.answers.Answers.{Outcome, Sat, Unsat, Unknown}
+
+-- the literal under the name that is the number of its variable, counted from 1
+abbrev pub named_literal : ℕ → Literal
+named_literal l = record { name = variable l + 1; positive = is_positive l }
+
+abbrev pub named_literals : List ℕ → List Literal
+named_literals = map named_literal
+
+-- names are counted from 1 up to the limit
+abbrev pub IsName : ℕ → Type 0
+IsName n = (1 ≤ n) × (n ≤ largest)
+
+abbrev pub HaveNames : List Literal → Type 0
+HaveNames = AllByRecursion (λ l. IsName l.name)
+
+abbrev pub NamesRise : List ℕ → Type 0
+NamesRise [] = Unit {0}
+NamesRise (n ∷ []) = Unit {0}
+NamesRise (n ∷ m ∷ ns) = (n < m) × NamesRise (m ∷ ns)
+
+-- the literals of an outcome
+abbrev pub literals_of : Outcome → List Literal
+literals_of (Sat line) = line
+literals_of (Unsat core) = core
+literals_of Unknown = []
+
+-- a model's line by increasing names, each once; a core by names, of one name the positive literal first, without repeats
+abbrev pub IsOrdered : Outcome → Type 0
+IsOrdered (Sat line) = NamesRise (names_of line)
+IsOrdered (Unsat core) = InOrder core
+IsOrdered Unknown = Unit {0}
+
+-- what an answer may print
+abbrev pub IsInForm : Outcome → Type 0
+IsInForm o = HaveNames (literals_of o) × IsOrdered o

@@ -1,0 +1,101 @@
+-- What the bytes are where an answer is read, and where none is.
+use Rattle.std.specs.Prelude.{ℕ, zero, suc, ◌≡◌, ◌≢◌, ◌⊎◌, List, [], ◌∷◌, ◌++◌, decimal}
+use Rattle.sat_base.specs.values.Literals.{variable}
+use Rattle.sat_base.specs.script.Script.{Literal}
+use Rattle.certify.specs.answers.Answers.{Outcome, Sat, Unsat, Unknown, s_satisfiable, s_unsatisfiable, s_unknown, v_line, f_line, word_of, literals_text, outcome_text}
+use Rattle.certify.specs.answers.AnswerForms.{IsName, IsInForm}
+use Rattle.certify.specs.declared.answers.read.AnswerKind.{AnswerKind}
+use Rattle.certify.specs.declared.answers.read.AnswerKind.TheVariants as kind
+use Rattle.certify.specs.declared.answers.read.AnswerFault.{AnswerFault}
+use Rattle.certify.specs.declared.answers.read.AnswerFault.TheVariants.{Missing, Text, OutOfMemory}
+
+-- the outcome of this kind, with this line
+abbrev pub outcome_of : AnswerKind → List Literal → Outcome
+outcome_of kind.Sat line = Sat line
+outcome_of kind.Unsat core = Unsat core
+outcome_of kind.Unknown line = Unknown
+
+-- `s SATISFIABLE`, `s UNSATISFIABLE` or `s UNKNOWN`, with LF
+abbrev pub first_line : AnswerKind → List ℕ
+first_line kind.Sat = s_satisfiable
+first_line kind.Unsat = s_unsatisfiable
+first_line kind.Unknown = s_unknown
+
+-- `v LITS 0` or `f LITS 0`, with LF, where there is one
+abbrev pub second_line : Outcome → List ℕ
+second_line (Sat line) = v_line line
+second_line (Unsat core) = f_line core
+second_line Unknown = []
+
+-- is there one?
+abbrev pub HasLine : AnswerKind → Type 0
+HasLine kind.Unknown = ⊥
+HasLine k = Unit {0}
+
+-- `v ` or `f `
+abbrev pub IsHead : AnswerKind → List ℕ → Type 0
+IsHead kind.Sat head = head ≡ 118 ∷ 32 ∷ []
+IsHead kind.Unsat head = head ≡ 102 ∷ 32 ∷ []
+IsHead kind.Unknown head = ⊥
+
+-- a model's literals stand by variable, those of a core by their codes
+abbrev pub place_in : AnswerKind → ℕ → ℕ
+place_in kind.Sat l = variable l
+place_in k l = l
+
+-- the digits of a name that has begun; 0 where none has been read
+abbrev pub digits_so_far : ℕ → List ℕ
+digits_so_far zero = []
+digits_so_far (suc n) = decimal (suc n)
+
+-- no name goes on with this byte
+abbrev pub NoDigit : ℕ → ℕ → Type 0
+NoDigit name byte = (n : ℕ) (more : List ℕ) → IsName n → decimal n ≡ digits_so_far name ++ (byte ∷ more) → ⊥
+
+-- the bytes don't begin with a name and a space
+abbrev pub NoName : List ℕ → Type 0
+NoName bytes = (n : ℕ) (tail : List ℕ) → IsName n → bytes ≡ decimal n ++ (32 ∷ tail) → ⊥
+
+-- nor with a literal and a space
+abbrev pub NoLiteral : List ℕ → Type 0
+NoLiteral bytes = (l : Literal) (tail : List ℕ) → IsName l.name → bytes ≡ word_of l ++ (32 ∷ tail) → ⊥
+
+-- the bytes begin with this text, but for the `0` and LF at its end
+abbrev pub BeginWithWordsOf : List ℕ → List ℕ → Type 0
+BeginWithWordsOf text bytes = (front : List ℕ) × (tail : List ℕ) × ((text ≡ front ++ (48 ∷ 10 ∷ [])) × (bytes ≡ front ++ tail))
+
+-- memory is wanted for a literal that was read: with it and those before it the line is in form so far
+abbrev pub WantsRoom : AnswerKind → (List Literal → List ℕ) → List ℕ → Type 0
+WantsRoom k text bytes = HasLine k × ((ls : List Literal) × (l : Literal) × (IsInForm (outcome_of k (ls ++ (l ∷ []))) × BeginWithWordsOf (text (ls ++ (l ∷ []))) bytes))
+
+-- why no literals of a line of this kind are read
+abbrev pub NoLiterals : AnswerKind → List ℕ → AnswerFault → Type 0
+NoLiterals k bytes Missing = ⊥
+NoLiterals k bytes Text = (ls : List Literal) (tail : List ℕ) → IsInForm (outcome_of k ls) → bytes ≡ literals_text ls ++ tail → ⊥
+NoLiterals k bytes OutOfMemory = WantsRoom k literals_text bytes
+
+-- why no first line is read
+abbrev pub NoKind : List ℕ → AnswerFault → Type 0
+NoKind bytes Missing = bytes ≡ []
+NoKind bytes Text = (bytes ≢ []) × ((k : AnswerKind) (tail : List ℕ) → bytes ≡ first_line k ++ tail → ⊥)
+NoKind bytes OutOfMemory = ⊥
+
+-- why no second line is read
+abbrev pub NoLine : AnswerKind → List ℕ → AnswerFault → Type 0
+NoLine k bytes Missing = HasLine k × (bytes ≡ [])
+NoLine k bytes Text = (bytes ≢ []) × ((ls : List Literal) (tail : List ℕ) → IsInForm (outcome_of k ls) → bytes ≡ second_line (outcome_of k ls) ++ tail → ⊥)
+NoLine k bytes OutOfMemory = WantsRoom k (λ ls. second_line (outcome_of k ls)) bytes
+
+-- the bytes are over where a line of an answer is due
+abbrev pub IsCutShort : List ℕ → Type 0
+IsCutShort bytes = (bytes ≡ []) ⊎ ((bytes ≡ s_satisfiable) ⊎ (bytes ≡ s_unsatisfiable))
+
+-- the bytes don't begin with the text of an outcome in form
+abbrev pub BeginsNoOutcome : List ℕ → Type 0
+BeginsNoOutcome bytes = (o : Outcome) (tail : List ℕ) → IsInForm o → bytes ≡ outcome_text o ++ tail → ⊥
+
+-- why no answer is read
+abbrev pub NoOutcome : List ℕ → AnswerFault → Type 0
+NoOutcome bytes Missing = IsCutShort bytes × BeginsNoOutcome bytes
+NoOutcome bytes Text = (IsCutShort bytes → ⊥) × BeginsNoOutcome bytes
+NoOutcome bytes OutOfMemory = (k : AnswerKind) × (rest : List ℕ) × ((bytes ≡ first_line k ++ rest) × NoLine k rest OutOfMemory)

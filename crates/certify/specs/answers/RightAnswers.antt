@@ -1,0 +1,26 @@
+-- When answers are right, over all valuations. No trail, hash or step stands in it.
+use Rattle.std.specs.Prelude.{List, [], ◌∷◌}
+use Rattle.sat_base.specs.script.Script.{Literal, Command, Clause, Ask, Hide, Witness, Sample}
+use Rattle.sat_base.specs.script.Judge.{Judge, IsRightModel, IsRightCore, accepted, start, accepted_of}
+use Rattle.certify.specs.answers.Answers.{Outcome, Sat, Unsat, Unknown}
+
+-- of an ask, j being the state after its names came in
+abbrev pub IsRight : Judge → List Literal → Outcome → Type 0
+IsRight j ask (Sat line) = IsRightModel j ask line
+IsRight j ask (Unsat core) = IsRightCore j ask core
+IsRight j ask Unknown = Unit {0}
+
+-- of commands that aren't refused: one outcome for each ask, in order, and each is right
+abbrev pub AreRight : Judge → List Command → List Outcome → Type 0
+AreRight j [] [] = Unit {0}
+AreRight j [] (o ∷ os) = ⊥
+AreRight j (Ask ls ∷ commands) [] = ⊥
+AreRight j (Ask ls ∷ commands) (o ∷ os) = IsRight (accepted (Ask ls) j) ls o × AreRight (accepted (Ask ls) j) commands os
+AreRight j (Clause ls ∷ commands) os = AreRight (accepted (Clause ls) j) commands os
+AreRight j (Hide names ∷ commands) os = AreRight (accepted (Hide names) j) commands os
+AreRight j (Witness names ∷ commands) os = AreRight (accepted (Witness names) j) commands os
+AreRight j (Sample names ∷ commands) os = AreRight (accepted (Sample names) j) commands os
+
+-- one outcome for each accepted ask of the script, each right
+abbrev pub AnswersAreRight : List Command → List Outcome → Type 0
+AnswersAreRight commands outcomes = AreRight start (accepted_of start commands) outcomes

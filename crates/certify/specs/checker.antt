@@ -1,0 +1,10 @@
+pub mod Propagation
+pub mod Stored
+pub mod Accepts
+pub mod Fold
+pub mod CheckerView
+pub mod ListEntries
+pub mod WalkEnds
+pub mod Marks
+pub mod ModelTests
+pub mod Walk

@@ -1,0 +1,15 @@
+-- What a list of literals says of units and clauses, as tests.
+use Rattle.std.specs.Prelude.{ℕ, Bool, true, not, ◌||◌, ◌&&◌, List, [], ◌∷◌}
+use Rattle.std.specs.List.{list_any}
+use Rattle.sat_base.specs.values.Literals.{negated}
+use Rattle.certify.specs.checker.Propagation.{is_among}
+use Rattle.certify.specs.checker.Stored.{StoredClause}
+
+-- is the negation of a unit among the literals?
+abbrev pub is_contradicted : List ℕ → List ℕ → Bool
+is_contradicted ls = list_any (λ u. is_among ls (negated u))
+
+-- has each clause that stands as irredundant one of the literals?
+abbrev pub are_all_true : List ℕ → List StoredClause → Bool
+are_all_true ls [] = true
+are_all_true ls (c ∷ cs) = (not c.irredundant || list_any (is_among ls) c.literals) && are_all_true ls cs

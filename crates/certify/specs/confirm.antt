@@ -1,0 +1,12 @@
+pub mod Checking
+pub mod ListChecking
+pub mod Matches
+pub mod LeftToMatch
+pub mod VerdictPromises
+pub mod CertificatePlaces
+pub mod Decides
+pub mod ReadSteps
+pub mod ConfirmedCommands
+pub mod SpeltLiterals
+pub mod CertificateSteps
+pub mod SourceReading

@@ -1,0 +1,49 @@
+-- What confirming knows as it goes along a certificate.
+use Rattle.std.specs.Prelude.{ℕ, zero, suc, ◌+◌, ◌-◌, ◌≤◌, ◌≡◌, Option, None, List, ◌∷◌, ◌++◌, map, slice_get}
+use Rattle.std.specs.List.{AllByRecursion}
+use Rattle.sat_base.specs.values.Literals.{largest}
+use Rattle.sat_base.specs.script.Judge.{Judge, Sampled, names_from}
+use Rattle.sat_base.specs.steps.Steps.{Step}
+use Rattle.certify.specs.checker.Accepts.{Accepts, stored_after}
+use Rattle.certify.specs.confirm.Matches.{Expected, Fits}
+use Rattle.certify.specs.confirm.LeftToMatch.{CertificateMeets}
+use Rattle.certify.specs.confirm.ListChecking.{the_checking}
+
+-- what is left of the certificate meets what is expected
+abbrev pub CanMeet : List Step → List Expected → List ℕ → Type 0
+CanMeet earlier es certificate = CertificateMeets the_checking earlier es certificate
+
+-- Between two places of the certificate just these are met: whatever is expected behind them, all is met from the one exactly if the rest is met from the other.
+pub record Leads (earlier : List Step) (certificate : List ℕ) (pending : List Expected) (later : List Step) (rest : List ℕ) : Type 0 where
+  pub on : (es : List Expected) → CanMeet earlier (pending ++ es) certificate → CanMeet later es rest
+  pub back : (es : List Expected) → CanMeet later es rest → CanMeet earlier (pending ++ es) certificate
+
+-- nothing that begins with these is met
+pub record Bars (earlier : List Step) (certificate : List ℕ) (pending : List Expected) : Type 0 where
+  pub none : (es : List Expected) → CanMeet earlier (pending ++ es) certificate → ⊥
+
+-- between two places there are only steps that nobody expects
+pub record Skips (earlier : List Step) (certificate : List ℕ) (later : List Step) (rest : List ℕ) : Type 0 where
+  pub on : (e : Expected) (es : List Expected) → CanMeet earlier (e ∷ es) certificate → CanMeet later (e ∷ es) rest
+  pub back : (e : Expected) (es : List Expected) → CanMeet later (e ∷ es) rest → CanMeet earlier (e ∷ es) certificate
+
+-- whatever is expected isn't met
+pub record Stops (earlier : List Step) (certificate : List ℕ) : Type 0 where
+  pub none : (e : Expected) (es : List Expected) → CanMeet earlier (e ∷ es) certificate → ⊥
+
+-- the next ordered step is this one: what is expected next is met exactly if the step is that and is accepted
+pub record Offers (earlier : List Step) (certificate : List ℕ) (later : List Step) (step : Step) (rest : List ℕ) : Type 0 where
+  pub on : (e : Expected) (es : List Expected) → CanMeet earlier (e ∷ es) certificate → Fits the_checking later e step × Accepts (stored_after later) step × CanMeet (step ∷ later) es rest
+  pub back : (e : Expected) (es : List Expected) → Fits the_checking later e step → Accepts (stored_after later) step → CanMeet (step ∷ later) es rest → CanMeet earlier (e ∷ es) certificate
+
+-- the variable of a name, by a list of the names' variables that begins with name 1
+abbrev pub variable_in : List ℕ → ℕ → Option ℕ
+variable_in variables zero = None
+variable_in variables (suc index) = slice_get variables index
+
+-- nothing was hidden, and no mode was set: the names in use are all up to the first never used
+pub record IsPlain (j : Judge) : Type 0 where
+  pub begun : 1 ≤ j.first_unused
+  pub limit : j.first_unused ≤ largest + 1
+  pub used : map (λ n. n.name) j.in_use ≡ names_from (j.first_unused - 1) 1
+  pub sampled : AllByRecursion (λ m. m ≡ Sampled) j.modes

@@ -1,0 +1,114 @@
+-- Where confirming stands in the certificate, and what each of its steps makes of that.
+use Rattle.std.specs.Prelude.{ℕ, ◌+◌, ◌<◌, ◌≤◌, ◌≡◌, true, false, Result, Ok, Err, Option, Some, None, List, [], ◌∷◌, length}
+use Rattle.sat_base.specs.values.Literals.{largest}
+use Rattle.sat_base.specs.script.Script.{Literal}
+use Rattle.sat_base.specs.script.Judge.{Judge, with_name}
+use Rattle.sat_base.specs.steps.Steps.{Step, UserVarName}
+use Rattle.certify.specs.checker.Stored.{is_known}
+use Rattle.certify.specs.answers.Answers.{Outcome, Unsat}
+use Rattle.certify.specs.checker.Accepts.{Accepts, stored_after}
+use Rattle.certify.specs.confirm.Checking.{variable_of}
+use Rattle.certify.specs.confirm.Matches.{Expected, NewName, Opens, Fits}
+use Rattle.certify.specs.confirm.ListChecking.{the_checking}
+use Rattle.certify.specs.checker.CheckerView.{Keeps}
+use Rattle.certify.specs.confirm.CertificatePlaces.{CanMeet, Leads, Bars, Skips, Stops, Offers, variable_in, IsPlain}
+use Rattle.certify.specs.declared.verdict.Why.{Why}
+use Rattle.certify.specs.declared.confirm.certificate.Certificate.{Certificate}
+use Rattle.certify.specs.declared.confirm.certificate.Awaited.{Awaited}
+use Rattle.certify.specs.declared.confirm.certificate.Awaited.TheVariants as awaited
+
+-- the checker was fed these steps, the names have the variables that they say, and as long as unsat isn't recorded just the names in use have one
+pub record IsFed (c : Certificate) (j : Judge) (earlier : List Step) : Type 0 where
+  pub keeps : Keeps c.checker (stored_after earlier)
+  pub named : variable_of earlier ≡ variable_in c.variables.items
+  pub plain : IsPlain j
+  pub counted : (stored_after earlier).unsat ≡ false → j.first_unused ≡ length c.variables.items + 1
+
+-- the bytes that are left of the certificate
+abbrev pub bytes_of : Certificate → List ℕ
+bytes_of c = c.source.rest
+
+-- just what is pending is met, and the judge comes from the one state to the other
+pub record Onward (old : Certificate) (earlier : List Step) (pending : List Expected) (next : Judge) (new : Certificate) : Type 0 where
+  pub later : List Step
+  pub stands : IsFed new next later
+  pub leads : Leads earlier (bytes_of old) pending later (bytes_of new)
+
+-- What is pending is met, or can't be.
+abbrev pub MeetsPending : Certificate → Certificate → Judge → List Expected → Judge → Option Why → Type 0
+MeetsPending old new j pending next None = (earlier : List Step) → IsFed old j earlier → Onward old earlier pending next new
+MeetsPending old new j pending next (Some why) = (earlier : List Step) → IsFed old j earlier → Bars earlier (bytes_of old) pending
+
+-- the next ordered step was read, and unsat isn't recorded
+pub record StepIsReady (old : Certificate) (j : Judge) (earlier : List Step) (new : Certificate) : Type 0 where
+  pub later : List Step
+  pub stands : IsFed new j later
+  pub open_yet : (stored_after later).unsat ≡ false
+  pub offers : Offers earlier (bytes_of old) later new.source.step (bytes_of new)
+
+-- unsat is recorded before an ordered step came
+pub record UnsatIsRecorded (old : Certificate) (j : Judge) (earlier : List Step) (new : Certificate) : Type 0 where
+  pub later : List Step
+  pub stands : IsFed new j later
+  pub closed : (stored_after later).unsat ≡ true
+  pub skips : Skips earlier (bytes_of old) later (bytes_of new)
+
+-- what came where an ordered step is awaited
+abbrev pub Awaits : Certificate → Certificate → Awaited → Type 0
+Awaits old new awaited.Step = (j : Judge) (earlier : List Step) → IsFed old j earlier → StepIsReady old j earlier new
+Awaits old new awaited.Cut = (j : Judge) (earlier : List Step) → IsFed old j earlier → UnsatIsRecorded old j earlier new
+Awaits old new (awaited.No why) = (j : Judge) (earlier : List Step) → IsFed old j earlier → Stops earlier (bytes_of old)
+
+-- a step that nobody expects was taken
+pub record StepWasPassed (old : Certificate) (j : Judge) (earlier : List Step) (new : Certificate) : Type 0 where
+  pub later : List Step
+  pub stands : IsFed new j later
+  pub skips : Skips earlier (bytes_of old) later (bytes_of new)
+
+-- what one more step brought
+abbrev pub GoesOneStep : Certificate → Certificate → Option Awaited → Type 0
+GoesOneStep old new None = (length (bytes_of new) < length (bytes_of old)) × ((j : Judge) (earlier : List Step) → IsFed old j earlier → StepWasPassed old j earlier new)
+GoesOneStep old new (Some a) = Awaits old new a
+
+-- the step that was read is what the judge expects, or isn't
+abbrev pub ReadStepFits : Certificate → (Judge → Expected) → Option Why → Type 0
+ReadStepFits c e None = (j : Judge) (earlier : List Step) → IsFed c j earlier → (stored_after earlier).unsat ≡ false → Fits the_checking earlier (e j) c.source.step
+ReadStepFits c e (Some why) = (j : Judge) (earlier : List Step) → IsFed c j earlier → (stored_after earlier).unsat ≡ false → Fits the_checking earlier (e j) c.source.step → ⊥
+
+-- the step that was read puts the next name on a variable that isn't known, or doesn't
+abbrev pub NamesNext : Certificate → Result ℕ Why → Type 0
+NamesNext c (Ok v) = (c.source.step ≡ UserVarName v (Some (length c.variables.items)))
+    × ((j : Judge) (earlier : List Step) → IsFed c j earlier → is_known v (stored_after earlier) ≡ false)
+NamesNext c (Err why) = (j : Judge) (earlier : List Step) → IsFed c j earlier → (stored_after earlier).unsat ≡ false → Fits the_checking earlier (NewName j.first_unused) c.source.step → ⊥
+
+-- all but what a comparison uses stays
+pub record Stays (old new : Certificate) : Type 0 where
+  pub source : new.source ≡ old.source
+  pub checker : new.checker ≡ old.checker
+  pub variables : new.variables ≡ old.variables
+
+-- the step that was read is accepted, or isn't; it puts no name
+abbrev pub FeedsStep : Certificate → Certificate → Option Why → Type 0
+FeedsStep old new None = (bytes_of new ≡ bytes_of old)
+    × ((j : Judge) (earlier : List Step) → IsFed old j earlier → (stored_after earlier).unsat ≡ false
+    → variable_of (old.source.step ∷ earlier) ≡ variable_of earlier
+    → Accepts (stored_after earlier) old.source.step × IsFed new j (old.source.step ∷ earlier))
+FeedsStep old new (Some why) = (j : Judge) (earlier : List Step) → IsFed old j earlier → Accepts (stored_after earlier) old.source.step → ⊥
+
+-- the step that was read puts the next name, and is accepted or isn't
+abbrev pub FeedsName : Certificate → Certificate → Option Why → Type 0
+FeedsName old new None = (bytes_of new ≡ bytes_of old)
+    × ((j : Judge) (earlier : List Step) → IsFed old j earlier → (stored_after earlier).unsat ≡ false → j.first_unused ≤ largest
+    → Accepts (stored_after earlier) old.source.step × IsFed new (with_name j.first_unused j) (old.source.step ∷ earlier))
+FeedsName old new (Some why) = (j : Judge) (earlier : List Step) → IsFed old j earlier → Accepts (stored_after earlier) old.source.step → ⊥
+
+-- Behind the assumptions of an ask: once unsat is recorded, it is the only answer.
+pub record AskIsOpen (old : Certificate) (earlier : List Step) (ask : List Literal) (j : Judge) (new : Certificate) : Type 0 where
+  pub later : List Step
+  pub stands : IsFed new j later
+  pub leads : (o : Outcome) → ((stored_after later).unsat ≡ true → o ≡ Unsat []) → Leads earlier (bytes_of old) (Opens ask o ∷ []) later (bytes_of new)
+  pub alone : (o : Outcome) (es : List Expected) → CanMeet earlier (Opens ask o ∷ es) (bytes_of old) → (stored_after later).unsat ≡ true → o ≡ Unsat []
+
+abbrev pub OpensAsk : Certificate → Certificate → List Literal → Option Why → Type 0
+OpensAsk old new ask None = (j : Judge) (earlier : List Step) → IsFed old j earlier → AskIsOpen old earlier ask j new
+OpensAsk old new ask (Some why) = (j : Judge) (earlier : List Step) → IsFed old j earlier → (o : Outcome) → Bars earlier (bytes_of old) (Opens ask o ∷ [])

@@ -1,0 +1,35 @@
+-- What is still to be matched from some place on: what a loop that confirms keeps true.
+use Rattle.std.specs.Prelude.{ℕ, ◌≡◌, List, [], ◌∷◌, ◌++◌}
+use Rattle.std.specs.List.{AllByRecursion}
+use Rattle.sat_base.specs.script.Script.{Literal, Command, Ending}
+use Rattle.sat_base.specs.script.Judge.{Judge, accepted_of}
+use Rattle.sat_base.specs.steps.Steps.{Step}
+use Rattle.sat_base.specs.steps.StepText.{SpellsSteps}
+use Rattle.certify.specs.answers.Answers.{Outcome, outcome_text, answers_from}
+use Rattle.certify.specs.confirm.Checking.{Checking}
+use Rattle.certify.specs.confirm.Matches.{Expected, Opens, Closes, showing, expected, OneEach, InForm, Meets}
+
+-- what is left of the certificate begins with steps that are what is expected behind the earlier ones
+pub record CertificateMeets (k : Checking) (earlier : List Step) (es : List Expected) (certificate : List ℕ) : Type 0 where
+  pub steps : List Step
+  pub text : List ℕ
+  pub rest : List ℕ
+  pub begins : certificate ≡ text ++ rest
+  pub spelt : SpellsSteps steps text
+  pub meets : Meets k earlier steps es
+
+-- Command n comes next, in this state of the judge; what is pending belongs to the commands before it.
+pub record Left (k : Checking) (j : Judge) (n : ℕ) (earlier : List Step) (pending : List Expected) (commands : List Command) (ending : Ending) (answers certificate : List ℕ) : Type 0 where
+  pub outcomes : List Outcome
+  pub answered : answers ≡ answers_from n j commands ending outcomes
+  pub one_each : OneEach (accepted_of j commands) outcomes
+  pub in_form : AllByRecursion InForm outcomes
+  pub certified : CertificateMeets k earlier (pending ++ expected j (accepted_of j commands) outcomes) certificate
+
+-- The answer to an ask is still to be read, j being the state after its names came in. Of its names these are pending, and then its assumptions.
+pub record LeftOfAsk (k : Checking) (j : Judge) (n : ℕ) (earlier : List Step) (pending : List Expected) (ask : List Literal) (commands : List Command) (ending : Ending) (answers certificate : List ℕ) : Type 0 where
+  pub outcome : Outcome
+  pub tail : List ℕ
+  pub answered : answers ≡ outcome_text outcome ++ tail
+  pub in_form : InForm outcome
+  pub left : Left k j n earlier (pending ++ (Opens ask outcome ∷ (showing j ask outcome ++ (Closes ∷ [])))) commands ending tail certificate

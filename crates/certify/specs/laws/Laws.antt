@@ -1,0 +1,93 @@
+-- What holds of the definitions.
+use Rattle.std.specs.Prelude.{ℕ, ◌+◌, ◌≤◌, ◌<◌, length, ◌≡◌, ◌↔◌, true, false, Some, nat_lt, if◌then◌else◌, List, [], ◌∷◌}
+use Rattle.std.specs.List.{AllByRecursion}
+use Rattle.sat_base.specs.values.Literals.{largest, variable}
+use Rattle.sat_base.specs.values.Clauses.{Valuation, literal_true, EachHolds}
+use Rattle.sat_base.specs.script.Script.{Literal, Command, Ask, Ending, Among, names_of}
+use Rattle.sat_base.specs.script.Judge.{Judge, Named, IsRightModel, IsRightCore, with_clause, accepted, accepted_of, after_script, start, identity_of, over}
+use Rattle.sat_base.specs.steps.Steps.{Step}
+use Rattle.certify.specs.answers.Answers.{Outcome, Sat, Unsat, Unknown, answers_text}
+use Rattle.certify.specs.answers.RightAnswers.{AnswersAreRight}
+use Rattle.certify.specs.confirm.Matches.{OneEach, StepsMatch, Matches}
+use Rattle.certify.specs.confirm.ListChecking.{the_checking}
+
+-- no ask has both a right model and a right core
+abbrev pub NotBoth : Type 0
+NotBoth = (j : Judge) (ask line core : List Literal) → IsRightModel j ask line → IsRightCore j ask core → ⊥
+
+-- clauses of the same literals, in whatever order and however often, hold under the same valuations
+abbrev pub RepeatChangesNothing : Type 0
+RepeatChangesNothing =
+    (j : Judge) (ls ks : List Literal) (a : Valuation)
+    → AllByRecursion (λ l. Among l ks) ls → AllByRecursion (λ l. Among l ls) ks
+    → EachHolds a (with_clause ls j).clauses ↔ EachHolds a (with_clause ks j).clauses
+
+-- a clause with both signs of a name changes nothing
+abbrev pub TautologyChangesNothing : Type 0
+TautologyChangesNothing =
+    (j : Judge) (name : ℕ) (ls : List Literal) (a : Valuation)
+    → Among (record { name = name; positive = true }) ls → Among (record { name = name; positive = false }) ls
+    → EachHolds a (with_clause ls j).clauses ↔ EachHolds a j.clauses
+
+-- an ask leaves the clauses as they were
+abbrev pub AskBindsNothing : Type 0
+AskBindsNothing = (j : Judge) (ls : List Literal) → (accepted (Ask ls) j).clauses ≡ j.clauses
+
+-- of an ask, only the names that it brings in count for what comes behind it
+abbrev pub AskLeavesNames : Type 0
+AskLeavesNames = (j : Judge) (ls ks : List Literal) → names_of ls ≡ names_of ks → accepted (Ask ls) j ≡ accepted (Ask ks) j
+
+-- no name past the limit
+abbrev pub Prints : Outcome → Type 0
+Prints (Sat line) = AllByRecursion (λ l. l.name ≤ largest) line
+Prints (Unsat core) = AllByRecursion (λ l. l.name ≤ largest) core
+Prints Unknown = Unit {0}
+
+-- different outcomes give different texts
+abbrev pub TextsTellOutcomes : Type 0
+TextsTellOutcomes =
+    (commands : List Command) (ending : Ending) (vs ws : List Outcome)
+    → OneEach (accepted_of start commands) vs → OneEach (accepted_of start commands) ws
+    → AllByRecursion Prints vs → AllByRecursion Prints ws
+    → answers_text commands ending vs ≡ answers_text commands ending ws
+    → vs ≡ ws
+
+-- each name once, increasing
+abbrev pub NamesIncrease : List Named → Type 0
+NamesIncrease [] = Unit {0}
+NamesIncrease (n ∷ ns) = AllByRecursion (λ m. n.name < m.name) ns × NamesIncrease ns
+
+pub record IsKept (j : Judge) : Type 0 where
+  pub limit : j.first_unused ≤ largest + 1
+  pub order : NamesIncrease j.in_use
+  pub used : AllByRecursion (λ n. n.name < j.first_unused) j.in_use
+  pub given : AllByRecursion (λ n. n.identity < j.next_identity) j.in_use
+  pub modes : length j.modes ≡ j.next_identity
+  pub clauses : AllByRecursion (AllByRecursion (λ l. variable l < j.next_identity)) j.clauses
+
+-- After every script names increase, are below the first never used and within the limit; each identity has a mode; names in use and clauses speak of identities given out.
+abbrev pub JudgeIsKept : Type 0
+JudgeIsKept = (commands : List Command) → IsKept (after_script commands start)
+
+-- the valuation, false from this variable on
+abbrev pub only_below : ℕ → Valuation → Valuation
+only_below n a = λ v. if nat_lt v n then a v else false
+
+-- what a valuation says of identities that aren't given out is of no matter: those that are true may be taken as finitely many
+abbrev pub GivenIdentitiesSuffice : Type 0
+GivenIdentitiesSuffice =
+    (commands : List Command) (a : Valuation)
+    → let j = after_script commands start in
+    (EachHolds a j.clauses ↔ EachHolds (only_below j.next_identity a) j.clauses)
+    × ((l : Literal) (i : ℕ) → identity_of j l.name ≡ Some i → literal_true (only_below j.next_identity a) (over j l) ≡ literal_true a (over j l))
+
+-- steps that the list checker accepts and that match show right outcomes
+abbrev pub MatchingIsRight : Type 0
+MatchingIsRight = (commands : List Command) (outcomes : List Outcome) (steps : List Step) → StepsMatch the_checking commands outcomes steps → AnswersAreRight commands outcomes
+
+-- the same of three texts, however a script is read: the answers are the text of right outcomes
+abbrev pub TextsThatMatchAreRight : Type 0
+TextsThatMatchAreRight =
+    (reading : List ℕ → List Command × Ending) (script answers certificate : List ℕ)
+    → Matches the_checking reading script answers certificate
+    → (outcomes : List Outcome) × (answers ≡ answers_text (reading script).0 (reading script).1 outcomes) × AnswersAreRight (reading script).0 outcomes

@@ -1,0 +1,161 @@
+-- Worked rows: scripts of a few commands, and what is answered.
+use Rattle.std.specs.Prelude.{ℕ, ◌≡◌, Bool, true, false, Some, None, List, [], ◌∷◌, ◌++◌}
+use Rattle.sat_base.specs.script.Script.{Literal, Command, Clause, Ask, Hide, Witness, Clean, Malformed}
+use Rattle.sat_base.specs.script.Judge.{Sampled, start, after_script, refusal_of, PastLimit, WitnessName}
+use Rattle.sat_base.specs.steps.Steps.{Step, UserVarName, ChangeSamplingMode, AddClause, Model, Assumptions, End}
+use Rattle.certify.specs.checker.Stored.{is_known}
+use Rattle.certify.specs.checker.Accepts.{stored_after}
+use Rattle.certify.specs.answers.Answers.{Outcome, Sat, Unsat, answers_text}
+use Rattle.certify.specs.answers.RightAnswers.{AnswersAreRight}
+use Rattle.certify.specs.confirm.Matches.{expected, NewName, NoName, Adds, Opens, Shows, Closes, Finish, StepsMatch, MatchesCommands}
+use Rattle.certify.specs.run.Certifies.{Certifies}
+use Rattle.certify.specs.confirm.ListChecking.{the_checking}
+
+-- the positive literal of a name, and the negative one
+abbrev pub pos : ℕ → Literal
+pos n = record { name = n; positive = true }
+
+abbrev pub neg : ℕ → Literal
+neg n = record { name = n; positive = false }
+
+-- `a 0`
+abbrev pub AskAloneText : Type 0
+AskAloneText = answers_text (Ask [] ∷ []) Clean (Sat [] ∷ []) ≡ 115 ∷ 32 ∷ 83 ∷ 65 ∷ 84 ∷ 73 ∷ 83 ∷ 70 ∷ 73 ∷ 65 ∷ 66 ∷ 76 ∷ 69 ∷ 10 ∷ 118 ∷ 32 ∷ 48 ∷ 10 ∷ []
+
+-- `1 2 0`, `a 0`
+abbrev pub clause_and_ask : List Command
+clause_and_ask = Clause (pos 1 ∷ pos 2 ∷ []) ∷ Ask [] ∷ []
+
+abbrev pub clause_and_ask_text : List ℕ
+clause_and_ask_text = 115 ∷ 32 ∷ 83 ∷ 65 ∷ 84 ∷ 73 ∷ 83 ∷ 70 ∷ 73 ∷ 65 ∷ 66 ∷ 76 ∷ 69 ∷ 10 ∷ 118 ∷ 32 ∷ 45 ∷ 49 ∷ 32 ∷ 50 ∷ 32 ∷ 48 ∷ 10 ∷ []
+
+abbrev pub ClauseAndAskText : Type 0
+ClauseAndAskText = answers_text clause_and_ask Clean (Sat (neg 1 ∷ pos 2 ∷ []) ∷ []) ≡ clause_and_ask_text
+
+abbrev pub ClauseAndAskExpected : Type 0
+ClauseAndAskExpected = expected start clause_and_ask (Sat (neg 1 ∷ pos 2 ∷ []) ∷ [])
+    ≡ NewName 1 ∷ NewName 2 ∷ Adds (pos 1 ∷ pos 2 ∷ []) ∷ Opens [] (Sat (neg 1 ∷ pos 2 ∷ [])) ∷ Shows (1 ∷ 2 ∷ []) [] (neg 1 ∷ pos 2 ∷ []) ∷ Closes ∷ Finish ∷ []
+
+abbrev pub ClauseAndAskRight : Type 0
+ClauseAndAskRight = AnswersAreRight clause_and_ask (Sat (neg 1 ∷ pos 2 ∷ []) ∷ [])
+
+-- `1 0`, `-1 0`, `a 0`: the second clause records unsat, and the steps end there
+abbrev pub two_units : List Command
+two_units = Clause (pos 1 ∷ []) ∷ Clause (neg 1 ∷ []) ∷ Ask [] ∷ []
+
+abbrev pub TwoUnitsRight : Type 0
+TwoUnitsRight = AnswersAreRight two_units (Unsat [] ∷ [])
+
+-- `1 0`, `h 1 0`, `-1 0`, `a 0`: the name comes back with another identity
+abbrev pub hidden_and_back : List Command
+hidden_and_back = Clause (pos 1 ∷ []) ∷ Hide (1 ∷ []) ∷ Clause (neg 1 ∷ []) ∷ Ask [] ∷ []
+
+abbrev pub HiddenAndBackState : Type 0
+HiddenAndBackState = after_script hidden_and_back start ≡ record {
+  first_unused = 2;
+  in_use = (record { name = 1; identity = 1 }) ∷ [];
+  modes = Sampled ∷ Sampled ∷ [];
+  next_identity = 2;
+  clauses = (3 ∷ []) ∷ (0 ∷ []) ∷ [];
+}
+
+abbrev pub HiddenAndBackExpected : Type 0
+HiddenAndBackExpected = expected start hidden_and_back (Sat (neg 1 ∷ []) ∷ [])
+    ≡ NewName 1 ∷ Adds (pos 1 ∷ []) ∷ NoName 1 ∷ NewName 1 ∷ Adds (neg 1 ∷ []) ∷ Opens [] (Sat (neg 1 ∷ [])) ∷ Shows (1 ∷ []) [] (neg 1 ∷ []) ∷ Closes ∷ Finish ∷ []
+
+-- `h 2 0`, `a 0`: name 1 came in below name 2
+abbrev pub HiddenAtOnceState : Type 0
+HiddenAtOnceState = after_script (Hide (2 ∷ []) ∷ Ask [] ∷ []) start ≡ record {
+  first_unused = 3;
+  in_use = (record { name = 1; identity = 0 }) ∷ [];
+  modes = Sampled ∷ Sampled ∷ [];
+  next_identity = 2;
+  clauses = [];
+}
+
+-- refusals
+abbrev pub WitnessRefusedText : Type 0
+WitnessRefusedText = answers_text (Witness (1 ∷ []) ∷ Clause (pos 1 ∷ []) ∷ Ask [] ∷ []) Clean (Sat (neg 1 ∷ []) ∷ [])
+    ≡ 99 ∷ 32 ∷ 114 ∷ 101 ∷ 102 ∷ 117 ∷ 115 ∷ 101 ∷ 100 ∷ 32 ∷ 50 ∷ 32 ∷ 119 ∷ 105 ∷ 116 ∷ 110 ∷ 101 ∷ 115 ∷ 115 ∷ 32 ∷ 49 ∷ 10
+    ∷ 115 ∷ 32 ∷ 83 ∷ 65 ∷ 84 ∷ 73 ∷ 83 ∷ 70 ∷ 73 ∷ 65 ∷ 66 ∷ 76 ∷ 69 ∷ 10 ∷ 118 ∷ 32 ∷ 45 ∷ 49 ∷ 32 ∷ 48 ∷ 10 ∷ []
+
+-- the leftmost literal decides why
+abbrev pub LeftmostRefuses : Type 0
+LeftmostRefuses = refusal_of (after_script (Witness (1 ∷ []) ∷ []) start) (Clause (pos 268435457 ∷ pos 1 ∷ [])) ≡ Some PastLimit
+
+abbrev pub WitnessRefusesAsk : Type 0
+WitnessRefusesAsk = refusal_of (after_script (Witness (1 ∷ []) ∷ []) start) (Ask (pos 1 ∷ [])) ≡ Some (WitnessName 1)
+
+-- `1 2` cut off: `c malformed 1`
+abbrev pub MalformedText : Type 0
+MalformedText = answers_text [] Malformed [] ≡ 99 ∷ 32 ∷ 109 ∷ 97 ∷ 108 ∷ 102 ∷ 111 ∷ 114 ∷ 109 ∷ 101 ∷ 100 ∷ 32 ∷ 49 ∷ 10 ∷ []
+
+-- an empty text has no answers
+abbrev pub EmptyText : Type 0
+EmptyText = answers_text [] Clean [] ≡ []
+
+-- Steps that match. A clause and an ask:
+abbrev pub ClauseAndAskSteps : Type 0
+ClauseAndAskSteps = StepsMatch the_checking clause_and_ask (Sat (neg 1 ∷ pos 2 ∷ []) ∷ [])
+    (UserVarName 0 (Some 0) ∷ UserVarName 1 (Some 1) ∷ AddClause (0 ∷ 2 ∷ []) ∷ Assumptions [] ∷ Model (1 ∷ 2 ∷ []) ∷ Assumptions [] ∷ End ∷ [])
+
+-- the second clause records unsat, and the steps end there
+abbrev pub TwoUnitsSteps : Type 0
+TwoUnitsSteps = StepsMatch the_checking two_units (Unsat [] ∷ []) (UserVarName 0 (Some 0) ∷ AddClause (0 ∷ []) ∷ AddClause (1 ∷ []) ∷ [])
+
+-- The same as bytes: name steps, clause, assumptions, model, assumptions, end. What stands behind is of no matter.
+abbrev pub ClauseAndAskMatches : Type 0
+ClauseAndAskMatches = (rest : List ℕ)
+    → MatchesCommands the_checking clause_and_ask Clean clause_and_ask_text (2 ∷ 0 ∷ 1 ∷ 2 ∷ 1 ∷ 2 ∷ 5 ∷ 2 ∷ 0 ∷ 2 ∷ 11 ∷ 0 ∷ 10 ∷ 2 ∷ 1 ∷ 2 ∷ 11 ∷ 0 ∷ 13 ∷ rest)
+
+abbrev pub TwoUnitsMatches : Type 0
+TwoUnitsMatches = (rest : List ℕ)
+    → MatchesCommands the_checking two_units Clean (115 ∷ 32 ∷ 85 ∷ 78 ∷ 83 ∷ 65 ∷ 84 ∷ 73 ∷ 83 ∷ 70 ∷ 73 ∷ 65 ∷ 66 ∷ 76 ∷ 69 ∷ 10 ∷ 102 ∷ 32 ∷ 48 ∷ 10 ∷ []) (2 ∷ 0 ∷ 1 ∷ 5 ∷ 1 ∷ 0 ∷ 5 ∷ 1 ∷ 1 ∷ rest)
+
+-- an empty script matches no answers and `End`
+abbrev pub EmptyMatches : Type 0
+EmptyMatches = (rest : List ℕ) → MatchesCommands the_checking [] Clean [] (13 ∷ rest)
+
+-- Where the hidden name comes back on its old variable, nothing matches: whatever is answered, and whatever a checker that knows named variables accepts.
+abbrev pub NameOnOldVariable : Type 0
+NameOnOldVariable = (accepts : List Step → Step → Bool) (unsat : List Step → Bool) (outcomes : List Outcome)
+    → StepsMatch (record { Accepts = λ earlier step. accepts earlier step ≡ true; unsat = unsat; knows = λ earlier v. is_known v (stored_after earlier) }) hidden_and_back outcomes
+    (UserVarName 0 (Some 0) ∷ AddClause (0 ∷ []) ∷ UserVarName 0 None ∷ ChangeSamplingMode 0 true ∷ UserVarName 0 (Some 0) ∷ AddClause (1 ∷ []) ∷ End ∷ [])
+    → ⊥
+
+-- `1 0`, `a 0`: no answers match with `End` alone
+abbrev pub EndAlone : Type 0
+EndAlone = (outcomes : List Outcome) → StepsMatch the_checking (Clause (pos 1 ∷ []) ∷ Ask [] ∷ []) outcomes (End ∷ []) → ⊥
+
+-- nor do empty answers with any certificate
+abbrev pub NoAnswers : Type 0
+NoAnswers = (certificate : List ℕ) → MatchesCommands the_checking clause_and_ask Clean [] certificate → ⊥
+
+-- nor the right answers twice
+abbrev pub AnswersTwice : Type 0
+AnswersTwice = (certificate : List ℕ) → MatchesCommands the_checking clause_and_ask Clean (clause_and_ask_text ++ clause_and_ask_text) certificate → ⊥
+
+-- Steps that a run may write. A clause and an ask:
+abbrev pub ClauseAndAskCertified : Type 0
+ClauseAndAskCertified = Certifies the_checking [] (UserVarName 0 (Some 0) ∷ UserVarName 1 (Some 1) ∷ AddClause (0 ∷ 2 ∷ []) ∷ Assumptions [] ∷ Model (1 ∷ 2 ∷ []) ∷ Assumptions [] ∷ End ∷ []) (expected start clause_and_ask (Sat (neg 1 ∷ pos 2 ∷ []) ∷ []))
+
+-- `1 0`, `-1 0`, `2 0`, `a 0`: the third clause and the core are left out, the name isn't
+abbrev pub LeftOutCertified : Type 0
+LeftOutCertified = Certifies the_checking [] (UserVarName 0 (Some 0) ∷ AddClause (0 ∷ []) ∷ AddClause (1 ∷ []) ∷ UserVarName 1 (Some 1) ∷ Assumptions [] ∷ Assumptions [] ∷ End ∷ [])
+    (expected start (Clause (pos 1 ∷ []) ∷ Clause (neg 1 ∷ []) ∷ Clause (pos 2 ∷ []) ∷ Ask [] ∷ []) (Unsat [] ∷ []))
+
+-- Steps that it may not: `1 0`, `a 0` with `End` alone
+abbrev pub EndAloneUncertified : Type 0
+EndAloneUncertified = (outcomes : List Outcome) → Certifies the_checking [] (End ∷ []) (expected start (Clause (pos 1 ∷ []) ∷ Ask [] ∷ []) outcomes) → ⊥
+
+-- `1 0` without its clause
+abbrev pub ClauseUncertified : Type 0
+ClauseUncertified = Certifies the_checking [] (UserVarName 0 (Some 0) ∷ End ∷ []) (expected start (Clause (pos 1 ∷ []) ∷ []) []) → ⊥
+
+-- `a 0`, satisfiable, without its model
+abbrev pub ModelUncertified : Type 0
+ModelUncertified = Certifies the_checking [] (Assumptions [] ∷ Assumptions [] ∷ End ∷ []) (expected start (Ask [] ∷ []) (Sat [] ∷ [])) → ⊥
+
+-- an empty script with a step behind `End`
+abbrev pub BehindEndUncertified : Type 0
+BehindEndUncertified = (step : Step) → Certifies the_checking [] (End ∷ step ∷ []) (expected start [] []) → ⊥

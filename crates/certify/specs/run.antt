@@ -1,0 +1,3 @@
+pub mod Certifies
+pub mod FinishedRun
+pub mod Running

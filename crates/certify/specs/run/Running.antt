@@ -1,0 +1,242 @@
+-- How a run stands among the commands of a script of clauses and asks.
+use Rattle.std.specs.Prelude.{ℕ, zero, suc, ◌+◌, ◌-◌, ◌<◌, ◌≤◌, ◌≡◌, ◌↔◌, max, Bool, true, false, ◌&&◌, Option, Some, None, Result, MatchResult, List, [], ◌∷◌, ◌++◌, map, drop, nat_le}
+use Rattle.std.specs.List.{AllByRecursion}
+use Rattle.std.specs.Io.KnownBytes.{Appends}
+use Rattle.sat_base.specs.values.Literals.{coded, largest, variable}
+use Rattle.sat_base.specs.values.Clauses.{Valuation, EachTrue, EachHolds}
+use Rattle.sat_base.specs.script.Script.{Literal, Command, Clause, Ask, Ending, names_of}
+use Rattle.sat_base.specs.script.Judge.{Judge, Named, Mode, Sampled, names_from, accepted_of, start}
+use Rattle.sat_base.specs.steps.Steps.{Step, UserVarName, AddClause, Model, Assumptions, End}
+use Rattle.sat_base.specs.steps.StepText.{SpellsStep, SpellsSteps}
+use Rattle.certify.specs.answers.Answers.{Outcome, Sat, Unsat, Unknown, answers_from, malformed_line}
+use Rattle.certify.specs.answers.AnswerForms.{named_literals}
+use Rattle.certify.specs.answers.RightAnswers.{AreRight}
+use Rattle.certify.specs.run.FinishedRun.{HasCause, refused_count, kind_of, AreSpent, IsSpent, RunOf}
+use Rattle.certify.specs.checker.Fold.{Holds}
+use Rattle.certify.specs.confirm.Checking.{variable_of}
+use Rattle.certify.specs.confirm.ListChecking.{the_checking}
+use Rattle.certify.specs.confirm.Matches.{expected}
+use Rattle.certify.specs.run.Certifies.{Certifies}
+use Rattle.certify.specs.search.KeptClauses.{IsNormalOf}
+use Rattle.certify.specs.search.SearchEnds.{AllowsNone, IsDerived}
+use Rattle.certify.specs.script.CappedNames.{CappedScript}
+use Rattle.certify.specs.search.SolverState.{SolverState, Allows, AllowsSame, GainsClause}
+use Rattle.certify.specs.declared.fault.RunFault.{RunFault}
+use Rattle.certify.specs.declared.run.session.Session.{Session}
+use Rattle.certify.specs.declared.summary.Answer.{Answer}
+use Rattle.certify.specs.declared.summary.Answer.TheVariants as kind
+use Rattle.certify.specs.declared.summary.AskReport.{AskReport}
+use Rattle.certify.specs.declared.summary.Summary.{Summary}
+
+-- these steps were written
+pub record Wrote (steps : List Step) (old new : Option (List ℕ)) : Type 0 where
+  pub text : List ℕ
+  pub spelt : SpellsSteps steps text
+  pub appended : Appends old new text
+
+-- one step was written
+pub record WroteStep (step : Step) (old new : Option (List ℕ)) : Type 0 where
+  pub text : List ℕ
+  pub spelt : SpellsStep step text
+  pub appended : Appends old new text
+
+-- where a part writes to the certificate alone: `Ok` says what it wrote and that no call failed
+abbrev pub WritesSteps : {T : Type 0} → Result T RunFault → (T → Type 0) → ℕ → ℕ → Type 0
+WritesSteps r wrote failed_old failed_new = MatchResult r (λ x. wrote x × (failed_new ≡ failed_old)) (λ e. HasCause e ⊥ ⊥ (failed_new ≡ failed_old + 1) ⊥ (failed_new ≡ failed_old))
+
+abbrev pub WritesStep : {T : Type 0} → Result T RunFault → Step → Option (List ℕ) → Option (List ℕ) → ℕ → ℕ → Type 0
+WritesStep r step old new failed_old failed_new =
+    MatchResult r (λ _. WroteStep step old new × (failed_new ≡ failed_old)) (λ e. HasCause e ⊥ ⊥ (failed_new ≡ failed_old + 1) ⊥ (failed_new ≡ failed_old))
+
+-- where a part writes these bytes to the answers alone
+abbrev pub WritesAnswer : {T : Type 0} → Result T RunFault → List ℕ → Option (List ℕ) → Option (List ℕ) → ℕ → ℕ → Type 0
+WritesAnswer r text old new failed_old failed_new = MatchResult r (λ _. Appends old new text × (failed_new ≡ failed_old)) (λ e. HasCause e ⊥ (failed_new ≡ failed_old + 1) ⊥ ⊥ (failed_new ≡ failed_old))
+
+-- the literal over variables, name k being that of variable k - 1
+abbrev pub code_of : Literal → ℕ
+code_of l = coded (l.name - 1) l.positive
+
+-- the names 1 to n, each with the identity below it
+abbrev pub first_names : ℕ → List Named
+first_names zero = []
+first_names (suc n) = first_names n ++ record { name = n + 1; identity = n } ∷ []
+
+abbrev pub all_sampled : ℕ → List Mode
+all_sampled zero = []
+all_sampled (suc n) = all_sampled n ++ Sampled ∷ []
+
+-- the names in use are 1 to n, none was ever hidden, and each is of mode sample
+pub record HasFirstNames (j : Judge) (n : ℕ) : Type 0 where
+  pub first_unused : j.first_unused ≡ n + 1
+  pub in_use : j.in_use ≡ first_names n
+  pub modes : j.modes ≡ all_sampled n
+  pub next_identity : j.next_identity ≡ n
+
+-- how many names are in use once these came in as well
+abbrev pub raised : ℕ → List ℕ → ℕ
+raised n [] = n
+raised n (name ∷ names) = raised (max n name) names
+
+-- each name is that of a variable
+abbrev pub are_within : List ℕ → Bool
+are_within [] = true
+are_within (name ∷ names) = (nat_le 1 name && nat_le name largest) && are_within names
+
+-- the commands that a script has for now: clauses over names from 1 on, and asks without literals
+abbrev pub IsSimple : Command → Type 0
+IsSimple (Clause ls) = AllByRecursion (λ name. 0 < name) (names_of ls)
+IsSimple (Ask ls) = ls ≡ []
+IsSimple command = ⊥
+
+-- what an answer says of a solver's clauses: a literal for each variable, in order, by which they can all hold; that they can't; or nothing
+abbrev pub IsTrueOf : SolverState → List ℕ → Answer → Type 0
+IsTrueOf solver line kind.Sat = (map variable line ≡ names_from solver.var_count 0) × (a : Valuation) × EachTrue a line × Allows solver a
+IsTrueOf solver line kind.Unsat = (a : Valuation) → Allows solver a → ⊥
+IsTrueOf solver line kind.Unknown = Unit {0}
+
+-- the outcome, with a model's line where there is one
+abbrev pub reported_outcome : Answer → List ℕ → Outcome
+reported_outcome kind.Sat line = Sat (named_literals line)
+reported_outcome kind.Unsat line = Unsat []
+reported_outcome kind.Unknown line = Unknown
+
+-- so many names from this variable on are brought in, each the one above its variable
+abbrev pub naming : ℕ → ℕ → List Step
+naming zero v = []
+naming (suc count) v = UserVarName v (Some v) ∷ naming count (v + 1)
+
+-- a clause's step, or none where nothing satisfies what the solver holds
+pub data WritesClause (solver : SolverState) (clause : List ℕ) : List Step → Type 0 where
+  unwritten : AllowsNone solver → WritesClause solver clause []
+  written : {normal : List ℕ} → IsNormalOf clause normal → WritesClause solver clause (AddClause normal ∷ [])
+
+-- a clause's names were brought in, and it was written or left out
+pub record WroteClause (count v : ℕ) (solver : SolverState) (literals : List ℕ) (old new : Option (List ℕ)) : Type 0 where
+  pub steps : List Step
+  pub clause : WritesClause solver literals steps
+  pub wrote : Wrote (naming count v ++ steps) old new
+
+-- the step that shows an answer, where there is one
+abbrev pub shown_by : Answer → List ℕ → List Step
+shown_by kind.Sat line = Model line ∷ []
+shown_by kind.Unsat line = []
+shown_by kind.Unknown line = []
+
+-- derived clauses over so many variables were written
+pub record WroteDerived (n : ℕ) (old new : Option (List ℕ)) : Type 0 where
+  pub derived : List Step
+  pub are_derived : AllByRecursion (IsDerived n) derived
+  pub wrote : Wrote derived old new
+
+-- an ask was opened, and its answer derived and shown, and then these steps came
+pub record WroteAsk (n : ℕ) (answer : Answer) (line : List ℕ) (last : List Step) (old new : Option (List ℕ)) : Type 0 where
+  pub derived : List Step
+  pub are_derived : AllByRecursion (IsDerived n) derived
+  pub wrote : Wrote (Assumptions [] ∷ (derived ++ (shown_by answer line ++ last))) old new
+
+-- What the steps so far tell, the newest of which stands first: names 1 to n are those of the variables below n, no other variable
+-- is known, and what satisfies their clauses satisfies what the solver holds.
+pub record Told (earlier : List Step) (n : ℕ) (solver : SolverState) : Type 0 where
+  pub named : (name : ℕ) → 0 < name → name ≤ n → variable_of earlier name ≡ Some (name - 1)
+  pub unknown : (v : ℕ) → n ≤ v → the_checking.knows earlier v ≡ false
+  pub holds : (a : Valuation) → Holds earlier a → Allows solver a
+
+-- the line of a malformed text
+abbrev pub malformed_text : Option ℕ → List ℕ
+malformed_text None = []
+malformed_text (Some number) = malformed_line number
+
+abbrev pub steps_of : List AskReport → ℕ
+steps_of [] = 0
+steps_of (r ∷ rs) = r.steps + steps_of rs
+
+-- These commands are left of a script, from this number on, and this was answered to the others, and these steps written.
+pub record Reached (script : List Command) (ending : Ending) (budget : ℕ) (left : List Command) (number : ℕ) (s : Session) (answered : List ℕ) (written : List Step) : Type 0 where
+  pub judge : Judge
+  pub done : List Outcome
+  pub plain : HasFirstNames judge s.names
+  pub clauses : (a : Valuation) → Allows s.solver a ↔ EachHolds a judge.clauses
+  -- whatever is answered to the commands that are left
+  pub right : (rest : List Outcome) → AreRight judge (accepted_of judge left) rest → AreRight start (accepted_of start script) (done ++ rest)
+  pub text : (rest : List Outcome) → answers_from 1 start script ending (done ++ rest) ≡ answered ++ answers_from number judge left ending rest
+  pub refused : refused_count start script ≡ s.refused + refused_count judge left
+  pub kinds : map (λ r. r.answer) s.asks.items ≡ map kind_of done
+  pub spent : AreSpent budget 0 s.asks.items
+  pub counted : s.solver.rounds ≡ steps_of s.asks.items
+  pub earlier : List Step
+  pub told : Told earlier s.names s.solver
+  -- whatever is written for them
+  pub certifies : (rest : List Outcome) (more : List Step) → Certifies the_checking earlier more (expected judge (accepted_of judge left) rest)
+      → Certifies the_checking [] (written ++ more) (expected start (accepted_of start script) (done ++ rest))
+
+-- what an ask left
+pub record Asked (budget : ℕ) (old new : Session) (report : AskReport) : Type 0 where
+  pub truth : IsTrueOf new.solver new.lits.items report.answer
+  pub spent : IsSpent budget old.solver.rounds report
+  pub same : AllowsSame old.solver new.solver
+  pub variables : new.solver.var_count ≡ old.solver.var_count
+  pub rounds : new.solver.rounds ≡ old.solver.rounds + report.steps
+  pub names : new.names ≡ old.names
+  pub refused : new.refused ≡ old.refused
+  pub asks : new.asks.items ≡ old.asks.items ++ report ∷ []
+
+-- what a clause left
+pub record Added (ls : List Literal) (old new : Session) : Type 0 where
+  pub clauses : GainsClause old.solver new.solver (map code_of ls)
+  pub variables : new.solver.var_count ≡ new.names
+  pub rounds : new.solver.rounds ≡ old.solver.rounds
+  pub names : new.names ≡ raised old.names (names_of ls)
+  pub refused : new.refused ≡ old.refused
+  pub asks : new.asks ≡ old.asks
+
+-- what a refused command left
+pub record Refused (old new : Session) : Type 0 where
+  pub solver : new.solver ≡ old.solver
+  pub names : new.names ≡ old.names
+  pub refused : new.refused ≡ old.refused + 1
+  pub asks : new.asks ≡ old.asks
+
+-- what was answered to a command of this number, and that it brings a run on
+pub record Took (command : Command) (number budget : ℕ) (old new : Session) (answers_old answers_new certificate_old certificate_new : Option (List ℕ)) : Type 0 where
+  pub piece : List ℕ
+  pub appended : Appends answers_old answers_new piece
+  pub steps : List Step
+  pub wrote : Wrote steps certificate_old certificate_new
+  pub reached : IsSimple command → (script : List Command) (ending : Ending) (left : List Command) (answered : List ℕ) (written : List Step) → old.solver.var_count ≡ old.names
+      → Reached script ending budget (command ∷ left) number old answered written → Reached script ending budget left (number + 1) new (answered ++ piece) (written ++ steps)
+
+-- so many commands of a script were taken
+pub record TookAll (script : CappedScript) (budget place : ℕ) (s : Session) (answers_old answers_new certificate_old certificate_new : Option (List ℕ)) : Type 0 where
+  pub answered : List ℕ
+  pub appended : Appends answers_old answers_new answered
+  pub steps : List Step
+  pub wrote : Wrote steps certificate_old certificate_new
+  pub reached : AllByRecursion IsSimple script.0 → Reached script.0 script.1 budget (drop place script.0) (place + 1) s answered steps
+
+-- where a part writes to both, a fault says that one call failed, of its device, and want of memory that none did
+abbrev pub FailsOnce : RunFault → Type 0 → ℕ → ℕ → ℕ → ℕ → Type 0
+FailsOnce e many answers_old answers_new certificate_old certificate_new = HasCause e ⊥
+    ((answers_new ≡ answers_old + 1) × (certificate_new ≡ certificate_old))
+    ((certificate_new ≡ certificate_old + 1) × (answers_new ≡ answers_old))
+    (many × (answers_new ≡ answers_old) × (certificate_new ≡ certificate_old))
+    ((answers_new ≡ answers_old) × (certificate_new ≡ certificate_old))
+
+-- where a part writes to both, `Ok` says that no call failed
+abbrev pub WritesBoth : {T : Type 0} → Result T RunFault → ℕ → ℕ → ℕ → ℕ → Type 0
+WritesBoth r answers_failed_old answers_failed_new certificate_failed_old certificate_failed_new =
+    MatchResult r (λ _. (answers_failed_new ≡ answers_failed_old) × (certificate_failed_new ≡ certificate_failed_old))
+    (λ e. FailsOnce e ⊥ answers_failed_old answers_failed_new certificate_failed_old certificate_failed_new)
+
+-- where a part ends both texts
+abbrev pub Ends : {T : Type 0} → Result T RunFault → List ℕ → Option (List ℕ) → Option (List ℕ) → Option (List ℕ) → Option (List ℕ) → ℕ → ℕ → ℕ → ℕ → Type 0
+Ends r last answers_old answers_new certificate_old certificate_new answers_failed_old answers_failed_new certificate_failed_old certificate_failed_new =
+    MatchResult r (λ _. Appends answers_old answers_new last × (answers_failed_new ≡ answers_failed_old) × WroteStep End certificate_old certificate_new × (certificate_failed_new ≡ certificate_failed_old))
+    (λ e. FailsOnce e ⊥ answers_failed_old answers_failed_new certificate_failed_old certificate_failed_new)
+
+-- what was written to a whole script, where its commands are those that a script has for now
+pub record Finishes (script : CappedScript) (budget : ℕ) (summary : Summary) (answers_old answers_new certificate_old certificate_new : Option (List ℕ)) : Type 0 where
+  pub answered : List ℕ
+  pub answers : Appends answers_old answers_new answered
+  pub certified : List ℕ
+  pub certificate : Appends certificate_old certificate_new certified
+  pub run : AllByRecursion IsSimple script.0 → RunOf script.0 script.1 script.2 budget summary answered certified

@@ -1,0 +1,3 @@
+pub mod CappedNames
+pub mod ScriptParts
+pub mod ScriptReading

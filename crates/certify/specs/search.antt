@@ -1,0 +1,8 @@
+pub mod Pieces
+pub mod SolverState
+pub mod KeptClauses
+pub mod Search
+pub mod StepsLeft
+pub mod ScanEnds
+pub mod SearchEnds
+pub mod SolverView
