@@ -1,11 +1,13 @@
 //! Confirms that script, answers and certificate belong together.
-ghost use Rattle.std.specs.Prelude.{◌≡◌, ◌+◌, ◌-◌, ◌^◌, ◌≤◌, ◌<◌, ◌⊎◌, length, IfOk, IsErrOf};
+ghost use Rattle.std.specs.Prelude.{◌≡◌, ◌+◌, ◌-◌, ◌^◌, ◌≤◌, ◌<◌, ◌⊎◌, [], length, IfOk, IsErrOf};
 ghost use Rattle.std.specs.List.{AllByRecursion};
 ghost use Rattle.sat_base.specs.device.Device.{most_reads, ReadFails, GaveAll};
 ghost use Rattle.certify.specs.confirm.VerdictPromises.{IsExact, GaveRightAnswers};
 ghost use Rattle.certify.specs.confirm.Decides.{Decides};
 ghost use Rattle.certify.specs.script.CappedNames.{HasCommands};
-ghost use Rattle.certify.specs.confirm.ConfirmedCommands.{CountFromOne, ConfirmsEnd};
+ghost use Rattle.certify.specs.confirm.ConfirmedCommands.{CountFromOne, ConfirmsEnd, DecidesRest};
+ghost use Rattle.certify.specs.confirm.CertificateSteps.{IsFed};
+ghost use Rattle.sat_base.specs.script.Judge.{start};
 
 pub(crate) mod certificate;
 pub(crate) mod session;
@@ -30,6 +32,30 @@ fn confirm_rest(session: &mut Confirmation<'_>, script: &Script) -> Result<Optio
     session.confirm_end(number, script.is_malformed())
 }
 
+/// Confirms the commands of a script, one after another, and then its end.
+fn decide(session: &mut Confirmation<'_>, script: &Script) -> Result<Verdict, AllocError>
+    requires begun { IsFed session.old.certificate start [] }
+    requires few { length script.now.0 < 2 ^ 64 - 1 }
+    ensures { IfOk result (λ verdict. AllByRecursion CountFromOne script.now.0 → DecidesRest verdict script.now session.old) }
+{
+    for index in 0..script.len() {
+        let command = script.command(index);
+        if let Some(why) = session.confirm_command(index as u64 + 1, command)? {
+            return Ok(Verdict::No {
+                ask: session.asks.saturating_add(1),
+                why,
+            });
+        }
+    }
+    match confirm_rest(session, script)? {
+        None => Ok(Verdict::Yes),
+        Some(why) => Ok(Verdict::No {
+            ask: session.asks.saturating_add(1),
+            why,
+        }),
+    }
+}
+
 /// Confirms a script against the bytes of its answers and of a certificate.
 pub(crate) fn confirm_texts(
     alloc: Global,
@@ -41,22 +67,7 @@ pub(crate) fn confirm_texts(
     ensures { IfOk result (λ verdict. AllByRecursion CountFromOne script.now.0 → Decides verdict script.now answers.now certificate.now) }
 {
     let mut session = Confirmation::new(alloc, answers, certificate);
-    for index in 0..script.len() {
-        let command = script.command(index);
-        if let Some(why) = session.confirm_command(index as u64 + 1, command)? {
-            return Ok(Verdict::No {
-                ask: session.asks.saturating_add(1),
-                why,
-            });
-        }
-    }
-    match confirm_rest(&mut session, script)? {
-        None => Ok(Verdict::Yes),
-        Some(why) => Ok(Verdict::No {
-            ask: session.asks.saturating_add(1),
-            why,
-        }),
-    }
+    decide(&mut session, script)
 }
 
 /// Compares a script, answers and a certificate, and says yes exactly where they match. Each is read to its end first.

@@ -3,7 +3,7 @@ use Rattle.std.specs.Prelude.{ℕ, zero, suc, ◌≡◌, ◌≢◌, ◌⊎◌, L
 use Rattle.sat_base.specs.values.Literals.{variable}
 use Rattle.sat_base.specs.script.Script.{Literal}
 use Rattle.certify.specs.answers.Answers.{Outcome, Sat, Unsat, Unknown, s_satisfiable, s_unsatisfiable, s_unknown, v_line, f_line, word_of, literals_text, outcome_text}
-use Rattle.certify.specs.answers.AnswerForms.{IsName, IsInForm}
+use Rattle.certify.specs.answers.AnswerForms.{IsName, IsInForm, named_literal, named_literals}
 use Rattle.certify.specs.declared.answers.read.AnswerKind.{AnswerKind}
 use Rattle.certify.specs.declared.answers.read.AnswerKind.TheVariants as kind
 use Rattle.certify.specs.declared.answers.read.AnswerFault.{AnswerFault}
@@ -99,3 +99,19 @@ abbrev pub NoOutcome : List ℕ → AnswerFault → Type 0
 NoOutcome bytes Missing = IsCutShort bytes × BeginsNoOutcome bytes
 NoOutcome bytes Text = (IsCutShort bytes → ⊥) × BeginsNoOutcome bytes
 NoOutcome bytes OutOfMemory = (k : AnswerKind) × (rest : List ℕ) × ((bytes ≡ first_line k ++ rest) × NoLine k rest OutOfMemory)
+
+-- what is read: a literal and the space behind it
+abbrev pub BeginsWithLiteral : List ℕ → ℕ → List ℕ → Type 0
+BeginsWithLiteral bytes l rest = IsName (named_literal l).name × (bytes ≡ word_of (named_literal l) ++ (32 ∷ rest))
+
+-- the literals of a line of this kind
+abbrev pub BeginsWithLiterals : AnswerKind → List ℕ → List ℕ → List ℕ → Type 0
+BeginsWithLiterals k bytes line rest = IsInForm (outcome_of k (named_literals line)) × (bytes ≡ literals_text (named_literals line) ++ rest)
+
+-- the second line of an answer of this kind, where there is one
+abbrev pub BeginsWithLine : AnswerKind → List ℕ → List ℕ → List ℕ → Type 0
+BeginsWithLine k bytes line rest = IsInForm (outcome_of k (named_literals line)) × (bytes ≡ second_line (outcome_of k (named_literals line)) ++ rest)
+
+-- an answer
+abbrev pub BeginsWithAnswer : AnswerKind → List ℕ → List ℕ → List ℕ → Type 0
+BeginsWithAnswer k bytes line rest = IsInForm (outcome_of k (named_literals line)) × (bytes ≡ outcome_text (outcome_of k (named_literals line)) ++ rest)

@@ -1,6 +1,6 @@
 -- Marks by number, and the numbers that they mark.
-use Rattle.std.specs.Prelude.{ℕ, ◌≡◌, ◌<◌, Bool, false, List, [], ◌∷◌, slice_index_or}
-use Rattle.std.specs.List.{AllByRecursion}
+use Rattle.std.specs.Prelude.{ℕ, ◌==◌, ◌≡◌, ◌<◌, Bool, false, ◌||◌, List, [], ◌∷◌, slice_index_or}
+use Rattle.std.specs.List.{AllByRecursion, list_any}
 use Rattle.certify.specs.checker.Propagation.{is_among}
 
 -- is the number marked? None is past the end.
@@ -21,3 +21,7 @@ IsIncreasing (l ∷ ls) = AllByRecursion (λ m. l < m) ls × IsIncreasing ls
 pub record AreMarks (marks : List Bool) (literals : List ℕ) : Type 0 where
   pub each : (l : ℕ) → is_marked marks l ≡ is_among literals l
   pub once : NoRepeats literals
+
+-- these numbers are marked, too
+abbrev pub MarksMore : List ℕ → List Bool → List Bool → Type 0
+MarksMore more old new = (i : ℕ) → is_marked new i ≡ (list_any (λ v. v == i) more || is_marked old i)

@@ -1,14 +1,15 @@
 -- Where confirming stands in the certificate, and what each of its steps makes of that.
-use Rattle.std.specs.Prelude.{ℕ, ◌+◌, ◌<◌, ◌≤◌, ◌≡◌, true, false, Result, Ok, Err, Option, Some, None, List, [], ◌∷◌, length}
+use Rattle.std.specs.Prelude.{ℕ, ◌+◌, ◌<◌, ◌≤◌, ◌≡◌, true, false, Result, Ok, Err, Option, Some, None, List, [], ◌∷◌, length, map}
 use Rattle.sat_base.specs.values.Literals.{largest}
-use Rattle.sat_base.specs.script.Script.{Literal}
-use Rattle.sat_base.specs.script.Judge.{Judge, with_name}
+use Rattle.sat_base.specs.script.Script.{Literal, names_of}
+use Rattle.sat_base.specs.script.Judge.{Judge, with_name, new_names, bring_in, bring_all}
 use Rattle.sat_base.specs.steps.Steps.{Step, UserVarName}
 use Rattle.certify.specs.checker.Stored.{is_known}
 use Rattle.certify.specs.answers.Answers.{Outcome, Unsat}
+use Rattle.certify.specs.answers.AnswerForms.{IsName, HaveNames}
 use Rattle.certify.specs.checker.Accepts.{Accepts, stored_after}
 use Rattle.certify.specs.confirm.Checking.{variable_of}
-use Rattle.certify.specs.confirm.Matches.{Expected, NewName, Opens, Fits}
+use Rattle.certify.specs.confirm.Matches.{Expected, NewName, Opens, Fits, bringing}
 use Rattle.certify.specs.confirm.ListChecking.{the_checking}
 use Rattle.certify.specs.checker.CheckerView.{Keeps}
 use Rattle.certify.specs.confirm.CertificatePlaces.{CanMeet, Leads, Bars, Skips, Stops, Offers, variable_in, IsPlain}
@@ -112,3 +113,16 @@ pub record AskIsOpen (old : Certificate) (earlier : List Step) (ask : List Liter
 abbrev pub OpensAsk : Certificate → Certificate → List Literal → Option Why → Type 0
 OpensAsk old new ask None = (j : Judge) (earlier : List Step) → IsFed old j earlier → AskIsOpen old earlier ask j new
 OpensAsk old new ask (Some why) = (j : Judge) (earlier : List Step) → IsFed old j earlier → (o : Outcome) → Bars earlier (bytes_of old) (Opens ask o ∷ [])
+
+-- the next name is put on a variable that isn't known, or can't be
+abbrev pub BringsNext : Certificate → Certificate → Option Why → Type 0
+BringsNext old new why = (j : Judge) → j.first_unused ≤ largest
+    → MeetsPending old new j (NewName j.first_unused ∷ []) (with_name j.first_unused j) why
+
+-- so are the names that come in with this one
+abbrev pub BringsName : Certificate → Certificate → ℕ → Option Why → Type 0
+BringsName old new name why = (j : Judge) → IsName name → MeetsPending old new j (map NewName (new_names name j)) (bring_in name j) why
+
+-- and those that come in with literals
+abbrev pub BringsAll : Certificate → Certificate → List Literal → Option Why → Type 0
+BringsAll old new ls why = (j : Judge) → HaveNames ls → MeetsPending old new j (bringing (names_of ls) j) (bring_all (names_of ls) j) why

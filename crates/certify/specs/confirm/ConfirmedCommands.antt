@@ -15,6 +15,9 @@ use Rattle.certify.specs.checker.Stored.{Stored}
 use Rattle.certify.specs.confirm.ListChecking.{the_checking}
 use Rattle.certify.specs.declared.answers.read.AnswerKind.{AnswerKind}
 use Rattle.certify.specs.declared.verdict.Why.{Why}
+use Rattle.certify.specs.declared.verdict.Verdict.{Verdict}
+use Rattle.certify.specs.confirm.Decides.{Decides}
+use Rattle.certify.specs.script.CappedNames.{CappedScript}
 use Rattle.certify.specs.declared.confirm.session.Confirmation.{Confirmation}
 
 -- the line was taken, or isn't there; the certificate stays
@@ -62,3 +65,7 @@ ConfirmsCommand old new n command (Some why) = (j : Judge) (earlier : List Step)
 abbrev pub ConfirmsEnd : Confirmation → ℕ → Ending → Option Why → Type 0
 ConfirmsEnd old n ending None = (j : Judge) (earlier : List Step) → IsFed old.certificate j earlier → ToConfirm old j n earlier [] ending
 ConfirmsEnd old n ending (Some why) = (j : Judge) (earlier : List Step) → IsFed old.certificate j earlier → ToConfirm old j n earlier [] ending → ⊥
+
+-- a verdict of a script, on the answers and the certificate that are left
+abbrev pub DecidesRest : Verdict → CappedScript → Confirmation → Type 0
+DecidesRest verdict script s = Decides verdict script s.answers.now (bytes_of s.certificate)

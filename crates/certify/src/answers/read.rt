@@ -1,9 +1,8 @@
 //! Reads answers, line by line, from the front of their bytes. What isn't in form to the byte is refused:
 //! single spaces, no leading zeros, each line ended by LF, names from 1 to 2^28 in their order.
 ghost use Rattle.std.specs.Prelude.{◌≡◌, ◌++◌, ◌∷◌, [], ◌*◌, ◌<◌, ◌≤◌, decimal, MatchOption, MatchResult, List, ℕ};
-ghost use Rattle.certify.specs.answers.Answers.{literals_text, outcome_text, word_of};
-ghost use Rattle.certify.specs.answers.AnswerForms.{IsInForm, IsName, named_literal, named_literals};
-ghost use Rattle.certify.specs.answers.AnswerReading.{NoDigit, NoName, NoLiteral, NoLiterals, NoKind, NoLine, NoOutcome, HasLine, IsHead, digits_so_far, first_line, outcome_of, second_line, place_in};
+ghost use Rattle.certify.specs.answers.AnswerForms.{IsName};
+ghost use Rattle.certify.specs.answers.AnswerReading.{NoDigit, NoName, NoLiteral, NoLiterals, NoKind, NoLine, NoOutcome, HasLine, IsHead, digits_so_far, first_line, place_in, BeginsWithLiteral, BeginsWithLiterals, BeginsWithLine, BeginsWithAnswer};
 ghost use Rattle.sat_base.specs.values.Literals.{largest};
 
 use sat_base::{Lit, Var};
@@ -84,7 +83,7 @@ fn read_name(bytes: &[u8]) -> Option<(usize, &[u8])>
 
 /// The literal in front of a space, and what is behind the space.
 fn read_literal(bytes: &[u8]) -> Option<(Lit, &[u8])>
-    ensures { MatchOption result (NoLiteral bytes.now) (λ x. IsName (named_literal x.0).name × (bytes.now ≡ word_of (named_literal x.0) ++ (32 ∷ x.1.now))) }
+    ensures { MatchOption result (NoLiteral bytes.now) (λ x. BeginsWithLiteral bytes.now x.0 x.1.now) }
 {
     match take_text(bytes, b"-") {
         Some(behind) => {
@@ -117,7 +116,7 @@ fn read_literals<'a>(
     line: &mut Vec<Lit>,
 ) -> Result<&'a [u8], AnswerFault>
     requires { HasLine kind }
-    ensures { MatchResult result (λ rest. IsInForm (outcome_of kind (named_literals line.new.items)) × (bytes.now ≡ literals_text (named_literals line.new.items) ++ rest.now)) (NoLiterals kind bytes.now) }
+    ensures { MatchResult result (λ rest. BeginsWithLiterals kind bytes.now line.new.items rest.now) (NoLiterals kind bytes.now) }
 {
     line.clear();
     let mut rest = bytes;
@@ -162,7 +161,7 @@ fn read_list<'a>(
     line: &mut Vec<Lit>,
 ) -> Result<&'a [u8], AnswerFault>
     requires { IsHead kind head.now }
-    ensures { MatchResult result (λ rest. IsInForm (outcome_of kind (named_literals line.new.items)) × (bytes.now ≡ second_line (outcome_of kind (named_literals line.new.items)) ++ rest.now)) (NoLine kind bytes.now) }
+    ensures { MatchResult result (λ rest. BeginsWithLine kind bytes.now line.new.items rest.now) (NoLine kind bytes.now) }
 {
     if bytes.is_empty() {
         return Err(AnswerFault::Missing);
@@ -178,7 +177,7 @@ pub fn read_line<'a>(
     bytes: &'a [u8],
     line: &mut Vec<Lit>,
 ) -> Result<&'a [u8], AnswerFault>
-    ensures { MatchResult result (λ rest. IsInForm (outcome_of kind (named_literals line.new.items)) × (bytes.now ≡ second_line (outcome_of kind (named_literals line.new.items)) ++ rest.now)) (NoLine kind bytes.now) }
+    ensures { MatchResult result (λ rest. BeginsWithLine kind bytes.now line.new.items rest.now) (NoLine kind bytes.now) }
 {
     match kind {
         AnswerKind::Sat => read_list(kind, b"v ", bytes, line),
@@ -196,7 +195,7 @@ pub fn read_outcome<'a>(
     bytes: &'a [u8],
     line: &mut Vec<Lit>,
 ) -> Result<(AnswerKind, &'a [u8]), AnswerFault>
-    ensures { MatchResult result (λ x. IsInForm (outcome_of x.0 (named_literals line.new.items)) × (bytes.now ≡ outcome_text (outcome_of x.0 (named_literals line.new.items)) ++ x.1.now)) (NoOutcome bytes.now) }
+    ensures { MatchResult result (λ x. BeginsWithAnswer x.0 bytes.now line.new.items x.1.now) (NoOutcome bytes.now) }
 {
     let (kind, behind) = read_kind(bytes)?;
     let rest = read_line(kind, behind, line)?;

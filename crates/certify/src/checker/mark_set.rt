@@ -1,8 +1,7 @@
 //! Sets of indices.
 ghost use Rattle.std.specs.Prelude.{ℕ, ◌≡◌, ◌<◌, ◌==◌, ◌||◌, [], map, IfOk, OnOk};
-ghost use Rattle.std.specs.List.{list_any};
 ghost use Rattle.sat_base.specs.values.Literals.{largest, variable};
-ghost use Rattle.certify.specs.checker.Marks.{is_marked};
+ghost use Rattle.certify.specs.checker.Marks.{is_marked, MarksMore};
 
 use sat_base::Lit;
 use std::alloc::{AllocError, Global};
@@ -41,7 +40,7 @@ impl MarkSet {
 
     /// Puts in the variables of the literals.
     pub fn insert_variables(&mut self, literals: &[Lit]) -> Result<(), AllocError>
-        ensures { OnOk result ((i : ℕ) → is_marked self.new.marks.items i ≡ (list_any (λ v. v == i) (map variable literals.now) || is_marked self.old.marks.items i)) }
+        ensures { OnOk result (MarksMore (map variable literals.now) self.old.marks.items self.new.marks.items) }
     {
         for lit in literals {
             self.insert(lit.index())?;

@@ -53,12 +53,11 @@ fn is_ordered(step: &ProofStep<'_>) -> bool
 }
 
 impl<'c> Certificate<'c> {
-    ghost use Rattle.sat_base.specs.script.Judge.{Judge, start, bring_in, bring_all, new_names, with_name};
-    ghost use Rattle.sat_base.specs.script.Script.{Literal as Spelled, names_of};
+    ghost use Rattle.sat_base.specs.script.Judge.{Judge, start};
+    ghost use Rattle.sat_base.specs.script.Script.{Literal as Spelled};
     ghost use Rattle.certify.specs.answers.Answers.{Outcome};
-    ghost use Rattle.certify.specs.answers.AnswerForms.{IsName, HaveNames};
-    ghost use Rattle.certify.specs.confirm.Matches.{NewName, Adds, Opens, Shows, Fails, Closes, Finish, bringing};
-    ghost use Rattle.certify.specs.confirm.CertificateSteps.{IsFed, Stays, MeetsPending, Awaits, GoesOneStep, ReadStepFits, FeedsStep, NamesNext, FeedsName, OpensAsk, bytes_of};
+    ghost use Rattle.certify.specs.confirm.Matches.{Adds, Opens, Shows, Fails, Closes, Finish};
+    ghost use Rattle.certify.specs.confirm.CertificateSteps.{IsFed, Stays, MeetsPending, Awaits, GoesOneStep, ReadStepFits, FeedsStep, NamesNext, FeedsName, OpensAsk, BringsNext, BringsName, BringsAll, bytes_of};
 
     pub fn new(alloc: Global, bytes: &'c [u8]) -> Certificate<'c>
         ensures stands { IsFed result start [] }
@@ -148,7 +147,7 @@ impl<'c> Certificate<'c> {
 
     /// Expects the next name on a variable that the checker doesn't know.
     fn expect_name(&mut self) -> Result<Option<Why>, AllocError>
-        ensures { IfOk result (λ why. (j : Judge) → j.first_unused ≤ largest → MeetsPending self.old self.new j (NewName j.first_unused ∷ []) (with_name j.first_unused j) why) }
+        ensures { IfOk result (BringsNext self.old self.new) }
     {
         match self.await_ordered()? {
             Awaited::Cut => return Ok(None),
@@ -163,7 +162,7 @@ impl<'c> Certificate<'c> {
 
     /// Expects the names that come in with this one, from 1 to 2^28.
     fn bring_name(&mut self, name: usize) -> Result<Option<Why>, AllocError>
-        ensures { IfOk result (λ why. (j : Judge) → IsName name → MeetsPending self.old self.new j (map NewName (new_names name j)) (bring_in name j) why) }
+        ensures { IfOk result (BringsName self.old self.new name) }
     {
         if self.checker.unsat() {
             return Ok(None);
@@ -179,7 +178,7 @@ impl<'c> Certificate<'c> {
 
     /// Expects the names that come in with the literals.
     pub fn bring_in(&mut self, literals: &[Literal]) -> Result<Option<Why>, AllocError>
-        ensures { IfOk result (λ why. (j : Judge) → HaveNames literals.now → MeetsPending self.old self.new j (bringing (names_of literals.now) j) (bring_all (names_of literals.now) j) why) }
+        ensures { IfOk result (BringsAll self.old self.new literals.now) }
     {
         for literal in literals {
             if let Some(why) = self.bring_name(literal.name as usize)? {

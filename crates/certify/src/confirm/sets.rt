@@ -1,16 +1,12 @@
 //! Lists of literals, compared as sets.
-ghost use Rattle.std.specs.Prelude.{ℕ, ◌≡◌, ◌∷◌, [], true, IfOk, OnOk};
-ghost use Rattle.std.specs.Bool.{MatchBool};
-ghost use Rattle.std.specs.List.{AllByRecursion};
-ghost use Rattle.certify.specs.checker.Propagation.{is_among};
-ghost use Rattle.certify.specs.confirm.SpeltLiterals.{AllAmong, SameMembers};
+ghost use Rattle.std.specs.Prelude.{IfOk, OnOk};
+ghost use Rattle.certify.specs.confirm.SpeltLiterals.{Tells, AllMarked, AllAmong, SameMembers};
 
 use crate::checker::assigned::Assigned;
 use sat_base::Lit;
 use std::alloc::AllocError;
 
 /// Marks the literals, and no others.
-
 fn mark(marks: &mut Assigned, literals: &[Lit]) -> Result<(), AllocError>
     ensures { OnOk result (SameMembers marks.new literals.now) }
 {
@@ -25,7 +21,7 @@ fn mark(marks: &mut Assigned, literals: &[Lit]) -> Result<(), AllocError>
 }
 
 fn all_marked(marks: &Assigned, literals: &[Lit]) -> bool
-    ensures { MatchBool result (AllByRecursion (λ l. is_among marks.now l ≡ true) literals.now) (AllByRecursion (λ l. is_among marks.now l ≡ true) literals.now → ⊥) }
+    ensures { Tells result (AllMarked marks.now literals.now) }
 {
     for lit in literals {
         if !marks.is_true(*lit) {
@@ -41,7 +37,7 @@ pub(crate) fn are_among(
     literals: &[Lit],
     others: &[Lit],
 ) -> Result<bool, AllocError>
-    ensures { IfOk result (λ yes. MatchBool yes (AllAmong literals.now others.now) (AllAmong literals.now others.now → ⊥)) }
+    ensures { IfOk result (λ yes. Tells yes (AllAmong literals.now others.now)) }
 {
     mark(marks, others)?;
     Ok(all_marked(marks, literals))
@@ -49,7 +45,7 @@ pub(crate) fn are_among(
 
 /// Whether both lists have the same literals.
 pub(crate) fn are_same(marks: &mut Assigned, xs: &[Lit], ys: &[Lit]) -> Result<bool, AllocError>
-    ensures { IfOk result (λ yes. MatchBool yes (AllAmong xs.now ys.now × AllAmong ys.now xs.now) (AllAmong xs.now ys.now × AllAmong ys.now xs.now → ⊥)) }
+    ensures { IfOk result (λ yes. Tells yes (AllAmong xs.now ys.now × AllAmong ys.now xs.now)) }
 {
     if are_among(marks, xs, ys)? {
         are_among(marks, ys, xs)

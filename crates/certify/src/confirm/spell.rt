@@ -1,12 +1,9 @@
 //! Literals of names, as literals of their variables.
-ghost use Rattle.std.specs.Prelude.{ℕ, ◌≡◌, ◌+◌, List, [], length, map, IfOk};
-ghost use Rattle.std.specs.Bool.{MatchBool};
-ghost use Rattle.std.specs.List.{AllByRecursion};
-ghost use Rattle.sat_base.specs.script.Script.{Among, names_of};
-ghost use Rattle.sat_base.specs.script.Judge.{names_from};
+ghost use Rattle.std.specs.Prelude.{◌≡◌, length, IfOk};
+ghost use Rattle.sat_base.specs.script.Script.{Among};
 ghost use Rattle.certify.specs.confirm.CertificatePlaces.{variable_in};
 ghost use Rattle.certify.specs.confirm.Matches.{EachSpelt, SameSet};
-ghost use Rattle.certify.specs.confirm.SpeltLiterals.{AreSpelt};
+ghost use Rattle.certify.specs.confirm.SpeltLiterals.{Tells, SpellsAll, ListsNames, HasEach, IsLineOf};
 
 use crate::checker::assigned::Assigned;
 use crate::confirm::sets::{are_among, are_same};
@@ -26,7 +23,7 @@ fn variable_of(variables: &[Var], name: u32) -> Option<Var>
 
 /// Spells the literals by the names' variables. The answer is whether each name has one.
 fn spell(variables: &[Var], literals: &[Literal], spelt: &mut Vec<Lit>) -> Result<bool, AllocError>
-    ensures { IfOk result (λ yes. MatchBool yes (AreSpelt (variable_in variables.now) literals.now spelt.new.items) ((codes : List ℕ) → EachSpelt (variable_in variables.now) literals.now codes → ⊥)) }
+    ensures { IfOk result (λ yes. SpellsAll yes (variable_in variables.now) literals.now spelt.new.items) }
 {
     spelt.clear();
     for literal in literals {
@@ -46,7 +43,7 @@ pub(crate) fn are_spelt_in(
     spelt: &mut Vec<Lit>,
     marks: &mut Assigned,
 ) -> Result<bool, AllocError>
-    ensures { IfOk result (λ yes. MatchBool yes (EachSpelt (variable_in variables.now) literals.now codes.now) (EachSpelt (variable_in variables.now) literals.now codes.now → ⊥)) }
+    ensures { IfOk result (λ yes. Tells yes (EachSpelt (variable_in variables.now) literals.now codes.now)) }
 {
     if spell(variables, literals, spelt)? {
         are_among(marks, spelt, codes)
@@ -63,7 +60,7 @@ pub(crate) fn are_spelt_by(
     spelt: &mut Vec<Lit>,
     marks: &mut Assigned,
 ) -> Result<bool, AllocError>
-    ensures { IfOk result (λ yes. MatchBool yes (SameSet (variable_in variables.now) literals.now codes.now) (SameSet (variable_in variables.now) literals.now codes.now → ⊥)) }
+    ensures { IfOk result (λ yes. Tells yes (SameSet (variable_in variables.now) literals.now codes.now)) }
 {
     if spell(variables, literals, spelt)? {
         are_same(marks, spelt, codes)
@@ -74,7 +71,7 @@ pub(crate) fn are_spelt_by(
 
 /// Whether the literals are those of so many names, in order.
 fn lists_all(line: &[Literal], count: usize) -> bool
-    ensures { MatchBool result (names_of line.now ≡ names_from count 1) (names_of line.now ≡ names_from count 1 → ⊥) }
+    ensures { Tells result (ListsNames line.now count) }
 {
     for i in 0..line.len() {
         let literal = line[i];
@@ -87,7 +84,7 @@ fn lists_all(line: &[Literal], count: usize) -> bool
 
 /// Whether a line of all names has the literal.
 fn has(line: &[Literal], literal: Literal) -> bool
-    ensures { names_of line.now ≡ names_from (length line.now) 1 → MatchBool result (Among literal line.now) (Among literal line.now → ⊥) }
+    ensures { ListsNames line.now (length line.now) → Tells result (Among literal line.now) }
 {
     if literal.name == 0 {
         return false;
@@ -101,7 +98,7 @@ fn has(line: &[Literal], literal: Literal) -> bool
 
 /// Whether a line of all names has each of the literals.
 fn has_all(line: &[Literal], literals: &[Literal]) -> bool
-    ensures { names_of line.now ≡ names_from (length line.now) 1 → MatchBool result (AllByRecursion (λ l. Among l line.now) literals.now) (AllByRecursion (λ l. Among l line.now) literals.now → ⊥) }
+    ensures { ListsNames line.now (length line.now) → Tells result (HasEach line.now literals.now) }
 {
     for literal in literals {
         if !has(line, *literal) {
@@ -113,7 +110,7 @@ fn has_all(line: &[Literal], literals: &[Literal]) -> bool
 
 /// Whether the literals are those of so many names, in order, and the ask's are among them.
 pub(crate) fn is_line(line: &[Literal], ask: &[Literal], count: usize) -> bool
-    ensures { MatchBool result ((names_of line.now ≡ names_from count 1) × AllByRecursion (λ l. Among l line.now) ask.now) ((names_of line.now ≡ names_from count 1) × AllByRecursion (λ l. Among l line.now) ask.now → ⊥) }
+    ensures { Tells result (IsLineOf line.now ask.now count) }
 {
     if lists_all(line, count) {
         has_all(line, ask)

@@ -1,7 +1,0 @@
-use Rattle.std.specs.List.{AllByRecursion}
-use Rattle.certify.specs.confirm.ConfirmedCommands.{CountFromOne}
-use Rattle.certify.proofs.lemmas.confirm.ScriptEnds.{Reached}
-use Rattle.certify.proofs.confirm.confirm_texts.Given as goal
-
-abbrev pub invariant-loop-index : goal.invariant-loop-index
-invariant-loop-index l = AllByRecursion CountFromOne l.script.0 → Reached l.session l.script.0 l.script.1 l.answers l.certificate l.index
