@@ -1,3 +1,4 @@
+pub mod Counting
 pub mod Device
-pub mod Writing
 pub mod Reading
+pub mod Sink

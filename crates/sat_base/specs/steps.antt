@@ -1,7 +1,8 @@
-pub mod Steps
-pub mod StepViews
 pub mod Formats
-pub mod Numbers
-pub mod StepText
 pub mod Kinds
+pub mod Numbers
+pub mod StepBytes
 pub mod StepReading
+pub mod StepText
+pub mod StepViews
+pub mod Steps

@@ -1,8 +1,10 @@
-//! Readers and writers whose contracts see how often a call has failed, and which bytes a reader gave.
-ghost use Rattle.std.specs.Prelude.{◌≡◌, ◌+◌, ℕ, Bool, List, OnOk};
+//! Readers and writers whose contracts see what was read and written, and how often that failed.
+ghost use Rattle.std.specs.Prelude.{◌≡◌};
 ghost use Rattle.std.specs.Io.{ReadsAtMost, WritesAtMost};
-ghost use Rattle.std.specs.Io.KnownBytes.{ReadConsumes, WriteAppends, Appends, Keeps};
-ghost use Rattle.sat_base.specs.device.Device.{CountsErr, CountsWrite, EndsIfNone, Gives, RaisesOnErr};
+ghost use Rattle.sat_base.specs.device.Device.{Reader, Writer, ReadsOnce, WritesOnce, FlushesOnce, Puts, lent_reader, lent_writer};
+
+pub(crate) mod output;
+mod pending;
 
 use std::io;
 use std::io::{ErrorKind, Read, Write};
@@ -10,43 +12,33 @@ use std::io::{ErrorKind, Read, Write};
 /// A reader that says how often it was read, how often that failed, which bytes it gave, and whether the last read found it at its
 /// end.
 pub trait CountedRead: Read {
-    ghost calls: { Self → ℕ };
-
-    ghost failures: { Self → ℕ };
-
-    ghost given: { Self → List ℕ };
-
-    ghost ended: { Self → Bool };
+    ghost seen: { Self → Reader };
 
     /// One read. An `Err` is a failed call, an interrupted one too, and isn't tried again.
     fn read_counted(&mut self, buf: &mut [u8]) -> io::Result<usize>
         ensures bound { ReadsAtMost result buf.new }
-        ensures bytes { ReadConsumes (Self.remaining self.old) (Self.remaining self.new) result buf.new }
-        ensures given { Gives result buf.new (given self.old) (given self.new) }
-        ensures ended { EndsIfNone result buf.new (ended self.new) }
-        ensures calls { calls self.new ≡ calls self.old + 1 }
-        ensures failures { CountsErr result (failures self.old) (failures self.new) };
+        ensures once { ReadsOnce result buf.new (seen self.old) (seen self.new) };
+
+    // What it tells is what std's reader tells.
+    ghost tells: { (r : Self) → (seen r).to_come ≡ Self.remaining r };
 }
 
-/// A writer that says how often it has failed.
+/// A writer that says how often it was called, how often that failed, and which bytes it took.
 pub trait CountedWrite: Write {
-    ghost failures: { Self → ℕ };
+    ghost seen: { Self → Writer };
 
     /// One write. An `Err` is a failed call, and so is a write that takes nothing of a piece that isn't empty.
     fn write_counted(&mut self, piece: &[u8]) -> io::Result<usize>
         ensures bound { WritesAtMost result piece.now }
-        ensures bytes { WriteAppends (Self.contents self.old) (Self.contents self.new) result piece.now }
-        ensures failures { CountsWrite result piece.now (failures self.old) (failures self.new) };
+        ensures once { WritesOnce result piece.now (seen self.old) (seen self.new) };
 
     fn flush_counted(&mut self) -> io::Result<()>
-        ensures bytes { Keeps (Self.contents self.old) (Self.contents self.new) }
-        ensures failures { CountsErr result (failures self.old) (failures self.new) };
+        ensures { FlushesOnce result (seen self.old) (seen self.new) };
 
     /// Writes the whole piece, in as many writes as that takes. The first failed one ends it; a front of the piece may then have
     /// been written.
     fn write_all_counted(&mut self, piece: &[u8]) -> io::Result<()>
-        ensures bytes { OnOk result (Appends (Self.contents self.old) (Self.contents self.new) piece.now) }
-        ensures failures { RaisesOnErr result (failures self.old) (failures self.new) }
+        ensures { Puts piece.now result (seen self.old) (seen self.new) }
     {
         let mut written = 0;
         while written < piece.len() {
@@ -57,5 +49,36 @@ pub trait CountedWrite: Write {
             written += count;
         }
         Ok(())
+    }
+
+    // What it tells is what std's writer tells.
+    ghost tells: { (w : Self) → (seen w).contents ≡ Self.contents w };
+}
+
+impl<R: CountedRead> CountedRead for &mut R {
+    ghost seen = { λ r. lent_reader r.ghost_name (R.seen r.now) };
+
+    ghost tells = { λ r. R.tells r.now };
+
+    fn read_counted(&mut self, buf: &mut [u8]) -> io::Result<usize> {
+        CountedRead::read_counted(&mut **self, buf)
+    }
+}
+
+impl<W: CountedWrite> CountedWrite for &mut W {
+    ghost seen = { λ w. lent_writer w.ghost_name (W.seen w.now) };
+
+    ghost tells = { λ w. W.tells w.now };
+
+    fn write_counted(&mut self, piece: &[u8]) -> io::Result<usize> {
+        CountedWrite::write_counted(&mut **self, piece)
+    }
+
+    fn flush_counted(&mut self) -> io::Result<()> {
+        CountedWrite::flush_counted(&mut **self)
+    }
+
+    fn write_all_counted(&mut self, piece: &[u8]) -> io::Result<()> {
+        CountedWrite::write_all_counted(&mut **self, piece)
     }
 }

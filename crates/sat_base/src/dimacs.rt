@@ -1,12 +1,11 @@
 //! Formulas' texts, read in any pieces.
-ghost use Rattle.std.specs.Prelude.{◌≡◌, ◌≤◌, ◌<◌, ◌+◌, ◌++◌, ◌⊎◌, length, OnOk, IfSome, IsErrOf};
-ghost use Rattle.std.specs.Io.KnownBytes.{IsAtEnd};
-ghost use Rattle.sat_base.specs.device.Device.{most_reads, ReadFails, GaveAll, GaveFront, IsOver};
+ghost use Rattle.std.specs.Prelude.{◌≡◌, ◌≤◌, ◌<◌, ◌+◌, ◌++◌, ◌⊎◌, length, OnOk, IsErrOf};
+ghost use Rattle.sat_base.specs.device.Device.{most_reads, ReadFails, GaveEnough};
 ghost use Rattle.sat_base.specs.values.Literals.{largest};
 ghost use Rattle.sat_base.specs.text.Text.{header_of};
 ghost use Rattle.sat_base.specs.text.Tokenizing.{held};
 ghost use Rattle.sat_base.specs.values.Formulas.{vars_of};
-ghost use Rattle.sat_base.specs.dimacs.Parsing.{no_progress, clauses_read, lines_read, held_numbers, all_taken, Feeds, IsSound, Finishes, Parses, ParsesGiven, KeepsText, ParsesInParts, ParsesPartsGiven, VisitsAll};
+ghost use Rattle.sat_base.specs.dimacs.Parsing.{no_progress, clauses_read, lines_read, held_numbers, all_taken, Feeds, IsSound, Finishes, Parses, KeepsText, ParsesInParts, VisitsAll};
 
 mod clauses;
 pub mod error;
@@ -104,16 +103,12 @@ impl DimacsParser {
 
     /// Reads a formula to the end of its text.
     pub fn parse<R: CountedRead>(alloc: Global, reader: &mut R) -> Result<CnfFormula, DimacsError>
-        // The formula and the faults are those of the text that was given, to its end or to the fault,
-        ensures given { ParsesGiven (GaveAll R.given R.ended R.remaining reader.old reader.new) (GaveFront R.given R.remaining reader.old reader.new) result }
-        // and where the reader tells its bytes, of all that there are.
-        ensures parsed { IfSome (R.remaining reader.old) (Parses result) }
-        ensures end { OnOk result (IsAtEnd (R.remaining reader.new)) }
+        // The formula and the faults are those of the text that was given, whatever would follow.
+        ensures given { GaveEnough (R.seen reader.old) (R.seen reader.new) (Parses result) }
         // A read has failed only where the answer is that, and none is tried again.
-        ensures kept { IsErrOf result DimacsError.Read ⊎ (R.failures reader.new ≡ R.failures reader.old) }
-        ensures read { IsErrOf result DimacsError.Read
-            → ReadFails R.failures R.calls reader.old reader.new }
-        ensures reads { R.calls reader.new ≤ R.calls reader.old + most_reads }
+        ensures kept { IsErrOf result DimacsError.Read ⊎ ((R.seen reader.new).failures ≡ (R.seen reader.old).failures) }
+        ensures read { IsErrOf result DimacsError.Read → ReadFails (R.seen reader.old) (R.seen reader.new) }
+        ensures reads { (R.seen reader.new).calls ≤ (R.seen reader.old).calls + most_reads }
         ensures fresh { IsErrOf result DimacsError.HasFailed → ⊥ }
     {
         let mut parser = DimacsParser::new(alloc);
@@ -140,20 +135,15 @@ impl DimacsParser {
         mut closure: F,
     ) -> Result<DimacsParser, IncrementalError<E>>
         requires { F.IsAlwaysCallable closure }
-        // Where no call does more than take clauses, the answer is that of the text that was given, to its end or to the fault,
-        ensures given { KeepsText (λ f p r q g. F.step f p r q g) closure
-            → ParsesPartsGiven (GaveAll R.given R.ended R.remaining reader.old reader.new) (GaveFront R.given R.remaining reader.old reader.new) result }
-        // and where the reader tells its bytes, of all that there are. The clauses taken and those that wait are then the text's,
-        // too, by what `take_formula` ensures.
-        ensures parsed { IfSome (R.remaining reader.old) (λ text. KeepsText (λ f p r q g. F.step f p r q g) closure → ParsesInParts result text) }
+        // Where no call does more than take clauses, the answer is that of the text that was given, whatever would follow. The
+        // clauses taken and those that wait are then the text's, too, by what `take_formula` ensures.
+        ensures given { KeepsText (λ f p r q g. F.step f p r q g) closure → ParsesInParts (R.seen reader.old) (R.seen reader.new) result }
         // Whatever the closure does, it had the parser after each piece that the reader gave.
-        ensures visited { VisitsAll (λ f p r q g. F.step f p r q g) closure (GaveFront R.given R.remaining reader.old reader.new) (IsOver R.ended R.remaining reader.new) result }
-        ensures end { OnOk result (IsAtEnd (R.remaining reader.new)) }
+        ensures visited { VisitsAll (λ f p r q g. F.step f p r q g) closure (R.seen reader.old) (R.seen reader.new) result }
         // A read has failed only where the answer is that, and none is tried again.
-        ensures kept { IsErrOf result (IncrementalError.Dimacs DimacsError.Read) ⊎ (R.failures reader.new ≡ R.failures reader.old) }
-        ensures read { IsErrOf result (IncrementalError.Dimacs DimacsError.Read)
-            → ReadFails R.failures R.calls reader.old reader.new }
-        ensures reads { R.calls reader.new ≤ R.calls reader.old + most_reads }
+        ensures kept { IsErrOf result (IncrementalError.Dimacs DimacsError.Read) ⊎ ((R.seen reader.new).failures ≡ (R.seen reader.old).failures) }
+        ensures read { IsErrOf result (IncrementalError.Dimacs DimacsError.Read) → ReadFails (R.seen reader.old) (R.seen reader.new) }
+        ensures reads { (R.seen reader.new).calls ≤ (R.seen reader.old).calls + most_reads }
     {
         let mut parser = DimacsParser::new(alloc);
         let mut piece = [0; 4096];

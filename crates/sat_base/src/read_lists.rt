@@ -16,7 +16,7 @@ const CODES: u128 = 1 << 29;
 const WORDS: u128 = 1 << 64;
 
 fn literal<R: CountedRead>(reader: &mut R, ahead: &mut Ahead) -> Result<Lit, StepError>
-    ensures { Reads IsLiteral result (source_of R.remaining R.given R.ended R.failures R.calls reader.old ahead.old) (source_of R.remaining R.given R.ended R.failures R.calls reader.new ahead.new) }
+    ensures { Reads IsLiteral result (source_of R.seen reader.old ahead.old) (source_of R.seen reader.new ahead.new) }
 {
     let code = number(reader, ahead, CODES)?;
     Ok(Lit::from_code(code as usize))
@@ -29,7 +29,7 @@ fn literal_items<R: CountedRead>(
     lits: &mut Vec<Lit>,
 ) -> Result<(), StepError>
     requires { lits.old.items ≡ [] }
-    ensures { Reads (Times IsLiteral count) (giving lits.new.items result) (source_of R.remaining R.given R.ended R.failures R.calls reader.old ahead.old) (source_of R.remaining R.given R.ended R.failures R.calls reader.new ahead.new) }
+    ensures { Reads (Times IsLiteral count) (giving lits.new.items result) (source_of R.seen reader.old ahead.old) (source_of R.seen reader.new ahead.new) }
 {
     for _ in 0..count {
         let lit = literal(reader, ahead)?;
@@ -45,7 +45,7 @@ fn hash_items<R: CountedRead>(
     hashes: &mut Vec<ClauseHash>,
 ) -> Result<(), StepError>
     requires { hashes.old.items ≡ [] }
-    ensures { Reads (Times IsHash count) (giving hashes.new.items result) (source_of R.remaining R.given R.ended R.failures R.calls reader.old ahead.old) (source_of R.remaining R.given R.ended R.failures R.calls reader.new ahead.new) }
+    ensures { Reads (Times IsHash count) (giving hashes.new.items result) (source_of R.seen reader.old ahead.old) (source_of R.seen reader.new ahead.new) }
 {
     for _ in 0..count {
         let hash = number(reader, ahead, WORDS)?;
@@ -55,7 +55,7 @@ fn hash_items<R: CountedRead>(
 }
 
 fn unit<R: CountedRead>(reader: &mut R, ahead: &mut Ahead) -> Result<(Lit, ClauseHash), StepError>
-    ensures { Reads (Both IsLiteral IsHash) result (source_of R.remaining R.given R.ended R.failures R.calls reader.old ahead.old) (source_of R.remaining R.given R.ended R.failures R.calls reader.new ahead.new) }
+    ensures { Reads (Both IsLiteral IsHash) result (source_of R.seen reader.old ahead.old) (source_of R.seen reader.new ahead.new) }
 {
     let lit = literal(reader, ahead)?;
     let hash = number(reader, ahead, WORDS)?;
@@ -69,7 +69,7 @@ fn unit_items<R: CountedRead>(
     units: &mut Vec<(Lit, ClauseHash)>,
 ) -> Result<(), StepError>
     requires { units.old.items ≡ [] }
-    ensures { Reads (Times (Both IsLiteral IsHash) count) (giving units.new.items result) (source_of R.remaining R.given R.ended R.failures R.calls reader.old ahead.old) (source_of R.remaining R.given R.ended R.failures R.calls reader.new ahead.new) }
+    ensures { Reads (Times (Both IsLiteral IsHash) count) (giving units.new.items result) (source_of R.seen reader.old ahead.old) (source_of R.seen reader.new ahead.new) }
 {
     for _ in 0..count {
         let unit = unit(reader, ahead)?;
@@ -84,7 +84,7 @@ pub(crate) fn literals<R: CountedRead>(
     ahead: &mut Ahead,
     lits: &mut Vec<Lit>,
 ) -> Result<(), StepError>
-    ensures { Reads AreLiterals (giving lits.new.items result) (source_of R.remaining R.given R.ended R.failures R.calls reader.old ahead.old) (source_of R.remaining R.given R.ended R.failures R.calls reader.new ahead.new) }
+    ensures { Reads AreLiterals (giving lits.new.items result) (source_of R.seen reader.old ahead.old) (source_of R.seen reader.new ahead.new) }
 {
     lits.clear();
     let count = number(reader, ahead, WORDS)?;
@@ -97,7 +97,7 @@ pub(crate) fn hashes<R: CountedRead>(
     ahead: &mut Ahead,
     hashes: &mut Vec<ClauseHash>,
 ) -> Result<(), StepError>
-    ensures { Reads AreHashes (giving hashes.new.items result) (source_of R.remaining R.given R.ended R.failures R.calls reader.old ahead.old) (source_of R.remaining R.given R.ended R.failures R.calls reader.new ahead.new) }
+    ensures { Reads AreHashes (giving hashes.new.items result) (source_of R.seen reader.old ahead.old) (source_of R.seen reader.new ahead.new) }
 {
     hashes.clear();
     let count = number(reader, ahead, WORDS)?;
@@ -110,7 +110,7 @@ pub(crate) fn units<R: CountedRead>(
     ahead: &mut Ahead,
     units: &mut Vec<(Lit, ClauseHash)>,
 ) -> Result<(), StepError>
-    ensures { Reads AreUnits (giving units.new.items result) (source_of R.remaining R.given R.ended R.failures R.calls reader.old ahead.old) (source_of R.remaining R.given R.ended R.failures R.calls reader.new ahead.new) }
+    ensures { Reads AreUnits (giving units.new.items result) (source_of R.seen reader.old ahead.old) (source_of R.seen reader.new ahead.new) }
 {
     units.clear();
     let count = number(reader, ahead, WORDS)?;
@@ -123,7 +123,7 @@ pub(crate) fn both_lists<R: CountedRead>(
     ahead: &mut Ahead,
     lists: &mut Lists,
 ) -> Result<(), StepError>
-    ensures { Reads (Both AreLiterals AreHashes) (giving (lists.new.literals.items, lists.new.hashes.items) result) (source_of R.remaining R.given R.ended R.failures R.calls reader.old ahead.old) (source_of R.remaining R.given R.ended R.failures R.calls reader.new ahead.new) }
+    ensures { Reads (Both AreLiterals AreHashes) (giving (lists.new.literals.items, lists.new.hashes.items) result) (source_of R.seen reader.old ahead.old) (source_of R.seen reader.new ahead.new) }
 {
     literals(reader, ahead, &mut lists.literals)?;
     hashes(reader, ahead, &mut lists.hashes)

@@ -10,7 +10,7 @@ use crate::{CountedRead, StepError};
 /// Reads the next piece, where all of the last one was taken.
 fn refill<R: CountedRead>(reader: &mut R, ahead: &mut Ahead) -> Result<(), StepError>
     requires { ahead.old.end ≤ ahead.old.at }
-    ensures bytes { Refills result ahead.new.end (source_of R.remaining R.given R.ended R.failures R.calls reader.old ahead.old) (source_of R.remaining R.given R.ended R.failures R.calls reader.new ahead.new) }
+    ensures bytes { Refills result ahead.new.end (source_of R.seen reader.old ahead.old) (source_of R.seen reader.new ahead.new) }
     ensures at { OnOk result (ahead.new.at ≡ 0) }
 {
     if ahead.reads >= MAX_READS {
@@ -43,7 +43,7 @@ pub(crate) fn next_byte<R: CountedRead>(
     reader: &mut R,
     ahead: &mut Ahead,
 ) -> Result<Option<u8>, StepError>
-    ensures { NextByte result (source_of R.remaining R.given R.ended R.failures R.calls reader.old ahead.old) (source_of R.remaining R.given R.ended R.failures R.calls reader.new ahead.new) }
+    ensures { NextByte result (source_of R.seen reader.old ahead.old) (source_of R.seen reader.new ahead.new) }
 {
     if ahead.at < ahead.end {
         return Ok(Some(take(ahead)));
@@ -57,7 +57,7 @@ pub(crate) fn next_byte<R: CountedRead>(
 
 /// Takes the next byte of a text that isn't whole.
 fn byte_within<R: CountedRead>(reader: &mut R, ahead: &mut Ahead) -> Result<u8, StepError>
-    ensures { ByteWithin result (source_of R.remaining R.given R.ended R.failures R.calls reader.old ahead.old) (source_of R.remaining R.given R.ended R.failures R.calls reader.new ahead.new) }
+    ensures { ByteWithin result (source_of R.seen reader.old ahead.old) (source_of R.seen reader.new ahead.new) }
 {
     match next_byte(reader, ahead)? {
         Some(byte) => Ok(byte),
@@ -73,7 +73,7 @@ pub(crate) fn number<R: CountedRead>(
 ) -> Result<u64, StepError>
     requires one { 1 < limit }
     requires word { limit ≤ 2 ^ 64 }
-    ensures { Reads (IsBelow limit) result (source_of R.remaining R.given R.ended R.failures R.calls reader.old ahead.old) (source_of R.remaining R.given R.ended R.failures R.calls reader.new ahead.new) }
+    ensures { Reads (IsBelow limit) result (source_of R.seen reader.old ahead.old) (source_of R.seen reader.new ahead.new) }
 {
     let mut value = 0u128;
     let mut place = 1u128;

@@ -36,7 +36,7 @@ fn fields<R: CountedRead>(
     tag: u8,
 ) -> Result<Kind, StepError>
     requires { IsTrue (is_tag tag) }
-    ensures { Reads (Behind tag) (valued (λ k. step_with k lists.new.literals.items lists.new.hashes.items lists.new.units.items) result) (source_of R.remaining R.given R.ended R.failures R.calls reader.old ahead.old) (source_of R.remaining R.given R.ended R.failures R.calls reader.new ahead.new) }
+    ensures { Reads (Behind tag) (valued (λ k. step_with k lists.new.literals.items lists.new.hashes.items lists.new.units.items) result) (source_of R.seen reader.old ahead.old) (source_of R.seen reader.new ahead.new) }
 {
     if has_lists(tag) {
         list_fields(reader, ahead, lists, tag)
@@ -51,7 +51,7 @@ pub(crate) fn read_step<R: CountedRead>(
     ahead: &mut Ahead,
     lists: &mut Lists,
 ) -> Result<Kind, StepError>
-    ensures { Answers (valued (λ k. step_with k lists.new.literals.items lists.new.hashes.items lists.new.units.items) result) (source_of R.remaining R.given R.ended R.failures R.calls reader.old ahead.old) (source_of R.remaining R.given R.ended R.failures R.calls reader.new ahead.new) }
+    ensures { Answers (valued (λ k. step_with k lists.new.literals.items lists.new.hashes.items lists.new.units.items) result) (source_of R.seen reader.old ahead.old) (source_of R.seen reader.new ahead.new) }
 {
     match next_byte(reader, ahead)? {
         None => Err(StepError::Ends),

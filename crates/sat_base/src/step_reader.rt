@@ -57,7 +57,7 @@ impl<'r, R: CountedRead> StepReader<'r, R, Buffers> {
     /// A reader of the steps that stand next in a reader. Nothing is read yet, and no memory taken.
     pub fn new(alloc: Global, reader: &'r mut R) -> StepReader<'r, R, Buffers>
         ensures same { reader_name result ≡ reader.entry.ghost_name }
-        ensures source { source R.remaining R.given R.ended R.failures R.calls result ≡ unread (R.remaining reader.old) (R.given reader.old) (R.ended reader.old) (R.failures reader.old) (R.calls reader.old) }
+        ensures source { source R.seen result ≡ unread (R.seen reader.old) }
         ensures fresh { has_failed result ≡ false }
     {
         let buffers = Buffers {
@@ -71,7 +71,7 @@ impl<'r, R: CountedRead> StepReader<'r, R, Buffers> {
 
     /// Reads the next step, which `step` then lends. After any error but `Ends` it only answers that it has failed.
     pub fn advance(&mut self) -> Result<(), StepError>
-        ensures { Next R.remaining R.given R.ended R.failures R.calls self.old self.new (giving (step_in self.new) result) }
+        ensures { Next R.seen self.old self.new (giving (step_in self.new) result) }
     {
         if self.buffers.failed {
             return Err(StepError::HasFailed);

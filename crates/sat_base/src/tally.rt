@@ -4,14 +4,19 @@ ghost use Rattle.std.specs.Borrow.{ftrue};
 
 use std::marker::Model;
 
-/// How many calls there were, how many of them failed, the bytes that were read, and whether the last read found the end. The
-/// counts have no largest value.
+/// How many calls there were and how many of them failed, the bytes that reads gave and that writes took, and what the last call
+/// was. The counts have no largest value.
 #[derive(Drop)]
 pub(crate) struct Tally {
     pub ghost calls: { ℕ },
     pub ghost failures: { ℕ },
     pub ghost given: { List ℕ },
+    pub ghost taken: { List ℕ },
+    /// A read that gave nothing though there was room.
     pub ghost ended: { Bool },
+    /// A flush that didn't fail.
+    pub ghost flushed: { Bool },
+    pub ghost failed: { Bool },
 }
 
 impl Model for Tally {
@@ -20,32 +25,37 @@ impl Model for Tally {
 
 impl Tally {
     pub(crate) fn new() -> Tally
-        ensures { (result.calls ≡ 0) × (result.failures ≡ 0) × (result.given ≡ []) × (result.ended ≡ false) }
+        ensures { result ≡ record { calls = 0; failures = 0; given = []; taken = []; ended = false; flushed = false; failed = false } }
     {
         Tally {}
     }
 
-    pub(crate) fn and_success(&self) -> Tally
-        ensures { (result.calls ≡ self.now.calls + 1) × (result.failures ≡ self.now.failures) × (result.given ≡ self.now.given) × (result.ended ≡ self.now.ended) }
+    pub(crate) fn and_read(&self, bytes: &[u8]) -> Tally
+        ensures { result ≡ record self.now { calls = self.now.calls + 1; given = self.now.given ++ bytes.now; ended = false; flushed = false; failed = false } }
+    {
+        Tally {}
+    }
+
+    pub(crate) fn and_end(&self) -> Tally
+        ensures { result ≡ record self.now { calls = self.now.calls + 1; ended = true; flushed = false; failed = false } }
+    {
+        Tally {}
+    }
+
+    pub(crate) fn and_write(&self, bytes: &[u8]) -> Tally
+        ensures { result ≡ record self.now { calls = self.now.calls + 1; taken = self.now.taken ++ bytes.now; ended = false; flushed = false; failed = false } }
+    {
+        Tally {}
+    }
+
+    pub(crate) fn and_flush(&self) -> Tally
+        ensures { result ≡ record self.now { calls = self.now.calls + 1; ended = false; flushed = true; failed = false } }
     {
         Tally {}
     }
 
     pub(crate) fn and_failure(&self) -> Tally
-        ensures { (result.calls ≡ self.now.calls + 1) × (result.failures ≡ self.now.failures + 1) × (result.given ≡ self.now.given) × (result.ended ≡ false) }
-    {
-        Tally {}
-    }
-
-    pub(crate) fn and_read(&self, _bytes: &[u8]) -> Tally
-        ensures { (result.calls ≡ self.now.calls + 1) × (result.failures ≡ self.now.failures) × (result.given ≡ self.now.given ++ _bytes.now) × (result.ended ≡ false) }
-    {
-        Tally {}
-    }
-
-    /// A read that gave nothing though there was room.
-    pub(crate) fn and_end(&self) -> Tally
-        ensures { (result.calls ≡ self.now.calls + 1) × (result.failures ≡ self.now.failures) × (result.given ≡ self.now.given) × (result.ended ≡ true) }
+        ensures { result ≡ record self.now { calls = self.now.calls + 1; failures = self.now.failures + 1; ended = false; flushed = false; failed = true } }
     {
         Tally {}
     }

@@ -1,6 +1,6 @@
 //! Reading a reader to its end.
 ghost use Rattle.std.specs.Prelude.{◌≡◌, ◌+◌, ◌≤◌, ◌⊎◌, IfOk, OnOk, IsErrOf};
-ghost use Rattle.sat_base.specs.device.Device.{most_reads, ReadFails, GaveAll};
+ghost use Rattle.sat_base.specs.device.Device.{most_reads, ReadFails, GaveAll, Grew};
 
 use crate::CountedRead;
 use std::alloc::{AllocError, Global};
@@ -33,12 +33,13 @@ impl From<AllocError> for ReadError {
 /// Reads to the end, in pieces of at most 4,096 bytes, and gives all bytes. The first failed read ends it. After an error what was
 /// read is gone.
 pub fn read_whole<R: CountedRead>(alloc: Global, reader: &mut R) -> Result<Vec<u8>, ReadError>
-    ensures gave { IfOk result (λ v. GaveAll R.given R.ended R.remaining reader.old reader.new v.items) }
-    ensures kept { OnOk result (R.failures reader.new ≡ R.failures reader.old) }
+    ensures gave { IfOk result (λ v. GaveAll (R.seen reader.old) (R.seen reader.new) v.items) }
+    ensures front { Grew (R.seen reader.old) (R.seen reader.new) }
+    ensures kept { OnOk result ((R.seen reader.new).failures ≡ (R.seen reader.old).failures) }
     // None is tried again.
-    ensures failed { IsErrOf result ReadError.Failed → ReadFails R.failures R.calls reader.old reader.new }
-    ensures memory { IsErrOf result ReadError.OutOfMemory → R.failures reader.new ≡ R.failures reader.old }
-    ensures reads { R.calls reader.new ≤ R.calls reader.old + most_reads }
+    ensures failed { IsErrOf result ReadError.Failed → ReadFails (R.seen reader.old) (R.seen reader.new) }
+    ensures memory { IsErrOf result ReadError.OutOfMemory → (R.seen reader.new).failures ≡ (R.seen reader.old).failures }
+    ensures reads { (R.seen reader.new).calls ≤ (R.seen reader.old).calls + most_reads }
 {
     let mut whole = Vec::new(alloc);
     let mut piece = [0; 4096];

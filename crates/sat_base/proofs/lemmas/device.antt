@@ -1,4 +1,6 @@
-pub mod Makers
+pub mod Given
 pub mod Known
-pub mod Writes
+pub mod Makers
 pub mod ReadLemmas
+pub mod Sending
+pub mod Writes

@@ -1,5 +1,7 @@
-pub mod Formats
-pub mod Numbers
 pub mod FormatReads
-pub mod TagForms
+pub mod Formats
+pub mod ListBytes
+pub mod NumberBytes
+pub mod Numbers
 pub mod StepReads
+pub mod TagForms

@@ -1,69 +1,153 @@
--- What contracts see of the calls of a device: which failed, and which bytes were given.
-use Rattle.std.specs.Prelude.{Bool, true, false, Option, ◌≡◌, ℕ, ◌+◌, ◌^◌, ◌⊎◌, List, length, ◌++◌, take, Result, MatchResult, if◌then◌else◌, ◌&&◌, nat_eq, nat_lt}
-use Rattle.std.specs.Io.KnownBytes.{Consumes, IsAtEnd}
-use Rattle.sat_base.specs.declared.counted.Counted.{Counted}
+-- What contracts see of the calls of a device: which failed, which bytes a reader gave, and which a writer took.
+use Rattle.std.specs.Prelude.{Bool, true, false, Option, ◌≡◌, ℕ, ◌+◌, ◌^◌, ◌≤◌, ◌<◌, ◌⊎◌, List, [], ◌∷◌, length, ◌++◌, take, Result, MatchResult, if◌then◌else◌, ◌&&◌, nat_eq, nat_lt, is_ok}
+use Rattle.std.specs.Io.KnownBytes.{Consumes, IsAtEnd, ReadConsumes, Appends, WriteAppends, Keeps}
+
+-- what contracts see of a reader
+pub record Reader : Type 0 where
+  pub to_come : Option (List ℕ)  -- the bytes still to come, where it tells them
+  pub given : List ℕ  -- all bytes that it gave, to whomever
+  pub ended : Bool  -- the last read gave nothing though there was room
+  pub failed : Bool  -- the last call failed
+  pub failures : ℕ
+  pub calls : ℕ
+  pub loans : List ℕ  -- by which borrows it is lent, the last one first
+
+-- and of a writer
+pub record Writer : Type 0 where
+  pub contents : Option (List ℕ)  -- what it holds, where it tells
+  pub taken : List ℕ  -- all bytes that it took, whoever wrote them
+  pub flushed : Bool  -- the last call was a flush that didn't fail
+  pub failed : Bool  -- the last call failed
+  pub failures : ℕ
+  pub calls : ℕ  -- a flush is one, too
+  pub loans : List ℕ  -- by which borrows it is lent, the last one first
+
+-- lent once more
+abbrev pub lent_reader : ℕ → Reader → Reader
+lent_reader name r = record r { loans = name ∷ r.loans }
+
+abbrev pub lent_writer : ℕ → Writer → Writer
+lent_writer name w = record w { loans = name ∷ w.loans }
+
+-- ONE CALL
 
 -- each `Err` is one failed call
-abbrev pub CountsErr : {T E : Type 0} → Result T E → ℕ → ℕ → Type 0
-CountsErr r old new = MatchResult r (λ _. new ≡ old) (λ _. new ≡ old + 1)
+abbrev pub CountsErr : {T E : Type 0} → Result T E → ℕ → ℕ → Bool → Type 0
+CountsErr r old new failed = MatchResult r (λ _. (new ≡ old) × (failed ≡ false)) (λ _. (new ≡ old + 1) × (failed ≡ true))
 
--- so is a write that takes nothing of a piece that isn't empty
-abbrev pub CountsWrite : {E : Type 0} → Result ℕ E → List ℕ → ℕ → ℕ → Type 0
-CountsWrite r piece old new = MatchResult r (λ n. new ≡ (if nat_eq n 0 && nat_lt 0 (length piece) then old + 1 else old)) (λ _. new ≡ old + 1)
+-- a write that takes nothing of a piece that isn't empty
+abbrev pub takes_none : ℕ → List ℕ → Bool
+takes_none n piece = nat_eq n 0 && nat_lt 0 (length piece)
 
--- a read adds the bytes that it gave to those given before, and a failed one adds none
-abbrev pub Gives : {E : Type 0} → Result ℕ E → List ℕ → List ℕ → List ℕ → Type 0
-Gives r piece old new = MatchResult r (λ n. new ≡ old ++ take n piece) (λ _. new ≡ old)
+-- is a failed call, too
+abbrev pub CountsWrite : {E : Type 0} → Result ℕ E → List ℕ → ℕ → ℕ → Bool → Type 0
+CountsWrite r piece old new failed = MatchResult r (λ n. (new ≡ (if takes_none n piece then old + 1 else old)) × (failed ≡ takes_none n piece)) (λ _. (new ≡ old + 1) × (failed ≡ true))
+
+-- a call adds the first bytes of the piece to those before, and a failed one adds none
+abbrev pub Adds : {E : Type 0} → Result ℕ E → List ℕ → List ℕ → List ℕ → Type 0
+Adds r piece old new = MatchResult r (λ n. new ≡ old ++ take n piece) (λ _. new ≡ old)
 
 -- a reader is at its end where the last read gave nothing though there was room
 abbrev pub EndsIfNone : {E : Type 0} → Result ℕ E → List ℕ → Bool → Type 0
 EndsIfNone r piece ended = MatchResult r (λ n. ended ≡ (nat_eq n 0 && nat_lt 0 (length piece))) (λ _. ended ≡ false)
 
--- between two moments a reader gave this text, to its end; where it tells its bytes, the text is all that there were
-pub record GaveAll {R : Type 0} (given : R → List ℕ) (ended : R → Bool) (remaining : R → Option (List ℕ)) (old new : R) (text : List ℕ) : Type 0 where
-  pub gave : given new ≡ given old ++ text
-  pub ends : ended new ≡ true
-  pub told : Consumes (remaining old) (remaining new) text
-  pub over : IsAtEnd (remaining new)
+-- one read, of which this is the room
+pub record ReadsOnce {E : Type 0} (r : Result ℕ E) (room : List ℕ) (old new : Reader) : Type 0 where
+  pub told : ReadConsumes old.to_come new.to_come r room
+  pub given : Adds r room old.given new.given
+  pub ended : EndsIfNone r room new.ended
+  pub failures : CountsErr r old.failures new.failures new.failed
+  pub calls : new.calls ≡ old.calls + 1
+  pub loans : new.loans ≡ old.loans
 
--- or a front of it
-pub record GaveFront {R : Type 0} (given : R → List ℕ) (remaining : R → Option (List ℕ)) (old new : R) (text : List ℕ) : Type 0 where
-  pub gave : given new ≡ given old ++ text
-  pub told : Consumes (remaining old) (remaining new) text
+-- one write of a piece
+pub record WritesOnce {E : Type 0} (r : Result ℕ E) (piece : List ℕ) (old new : Writer) : Type 0 where
+  pub told : WriteAppends old.contents new.contents r piece
+  pub taken : Adds r piece old.taken new.taken
+  pub flushed : new.flushed ≡ false
+  pub failures : CountsWrite r piece old.failures new.failures new.failed
+  pub calls : new.calls ≡ old.calls + 1
+  pub loans : new.loans ≡ old.loans
 
--- and is at its end now
-pub record IsOver {R : Type 0} (ended : R → Bool) (remaining : R → Option (List ℕ)) (r : R) : Type 0 where
-  pub ends : ended r ≡ true
-  pub over : IsAtEnd (remaining r)
+-- one flush
+pub record FlushesOnce {E : Type 0} (r : Result (Unit {0}) E) (old new : Writer) : Type 0 where
+  pub told : Keeps old.contents new.contents
+  pub taken : new.taken ≡ old.taken
+  pub flushed : new.flushed ≡ is_ok r
+  pub failures : CountsErr r old.failures new.failures new.failed
+  pub calls : new.calls ≡ old.calls + 1
+  pub loans : new.loans ≡ old.loans
 
--- of calls that end with the first failed one: `Ok` keeps the count, and an `Err` is that one
-abbrev pub RaisesOnErr : {T E : Type 0} → Result T E → ℕ → ℕ → Type 0
-RaisesOnErr r old new = MatchResult r (λ _. new ≡ old) (λ _. new ≡ old + 1)
+-- WHAT A READER GAVE
+
+-- Between two moments a reader gave this text, and where it tells its bytes they were the next ones.
+pub record GaveFront (old new : Reader) (text : List ℕ) : Type 0 where
+  pub gave : new.given ≡ old.given ++ text
+  pub told : Consumes old.to_come new.to_come text
+  pub loans : new.loans ≡ old.loans
+
+-- it is at its end
+pub record IsOver (r : Reader) : Type 0 where
+  pub ends : r.ended ≡ true
+  pub over : IsAtEnd r.to_come
+
+-- it gave this text, to its end
+pub record GaveAll (old new : Reader) (text : List ℕ) : Type 0 where
+  pub gave : new.given ≡ old.given ++ text
+  pub ends : new.ended ≡ true
+  pub told : Consumes old.to_come new.to_come text
+  pub over : IsAtEnd new.to_come
+  pub loans : new.loans ≡ old.loans
+
+-- what could follow: nothing where it was seen to be at its end
+abbrev pub CanFollow : Reader → List ℕ → Type 0
+CanFollow r rest = r.ended ≡ true → rest ≡ []
+
+-- It gave a text of which this is so whatever would follow.
+pub record GaveEnough (old new : Reader) (P : List ℕ → Type 0) : Type 0 where
+  pub text : List ℕ
+  pub front : GaveFront old new text
+  pub over : new.ended ≡ true → IsAtEnd new.to_come
+  pub holds : (rest : List ℕ) → CanFollow new rest → P (text ++ rest)
+
+-- what was given only grew
+abbrev pub Grew : Reader → Reader → Type 0
+Grew old new = (text : List ℕ) × GaveFront old new text
 
 -- a reader is read at most so often
 abbrev pub most_reads : ℕ
 most_reads = 2 ^ 48
 
--- why a text couldn't be read: one read failed, which was the last, or so many were made and none did
-abbrev pub ReadFails : {R : Type 0} → (R → ℕ) → (R → ℕ) → R → R → Type 0
-ReadFails failures calls old new = (failures new ≡ failures old + 1) ⊎ ((failures new ≡ failures old) × (calls new ≡ calls old + most_reads))
+-- in pieces of at most so many bytes
+abbrev pub piece_size : ℕ
+piece_size = 4096
 
--- the device inside
-abbrev pub device_of : {D : Type 0} → Counted D → D
-device_of c = c.device
+-- Why a text couldn't be read: one read failed, which was the last, or so many were made and none did.
+abbrev pub ReadFails : Reader → Reader → Type 0
+ReadFails old new = ((new.failures ≡ old.failures + 1) × (new.failed ≡ true)) ⊎ ((new.failures ≡ old.failures) × (new.calls ≡ old.calls + most_reads))
 
--- its calls so far
-abbrev pub calls_of : {D : Type 0} → Counted D → ℕ
-calls_of c = c.tally.calls
+-- WHAT A WRITER TOOK
 
--- and how many of them failed
-abbrev pub failures_of : {D : Type 0} → Counted D → ℕ
-failures_of c = c.tally.failures
+-- it took this text, and no call failed
+pub record Takes (old new : Writer) (text : List ℕ) : Type 0 where
+  pub taken : new.taken ≡ old.taken ++ text
+  pub told : Appends old.contents new.contents text
+  pub failures : new.failures ≡ old.failures
+  pub calls : old.calls ≤ new.calls
+  pub loans : new.loans ≡ old.loans
 
--- and all bytes that it gave to reads
-abbrev pub given_of : {D : Type 0} → Counted D → List ℕ
-given_of c = c.tally.given
+-- it took a front of this text, and then one call failed, the last
+pub record Breaks (old new : Writer) (text : List ℕ) : Type 0 where
+  pub front : List ℕ
+  pub behind : List ℕ
+  pub whole : text ≡ front ++ behind
+  pub taken : new.taken ≡ old.taken ++ front
+  pub told : Appends old.contents new.contents front
+  pub failures : new.failures ≡ old.failures + 1
+  pub failed : new.failed ≡ true
+  pub calls : old.calls < new.calls
+  pub loans : new.loans ≡ old.loans
 
--- whether the last read found it at its end
-abbrev pub ended_of : {D : Type 0} → Counted D → Bool
-ended_of c = c.tally.ended
+-- a text was written, or a front of it
+abbrev pub Puts : {E : Type 0} → List ℕ → Result (Unit {0}) E → Writer → Writer → Type 0
+Puts text r old new = MatchResult r (λ _. Takes old new text) (λ _. Breaks old new text)

@@ -1,85 +1,86 @@
 -- What it is to read a value in a format, from a reader whose bytes are read ahead of need.
-use Rattle.std.specs.Prelude.{◌≡◌, ℕ, Bool, true, ◌+◌, ◌<◌, ◌≤◌, ◌⊎◌, List, [], ◌∷◌, ◌++◌, Option, None, Some, Result, Ok, Err, take, drop}
+use Rattle.std.specs.Prelude.{◌≡◌, ℕ, true, length, ◌+◌, ◌*◌, ◌≤◌, ◌⊎◌, List, [], ◌∷◌, ◌++◌, Option, None, Some, Result, Ok, Err, take, drop}
 use Rattle.std.specs.Io.KnownBytes.{Consumes, IsAtEnd, prepend_known}
 use Rattle.sat_base.specs.declared.ahead.Ahead.{Ahead}
 use Rattle.sat_base.specs.declared.error.StepError.{StepError}
 use Rattle.sat_base.specs.declared.error.StepError.TheVariants as errors
-use Rattle.sat_base.specs.device.Device.{most_reads}
+use Rattle.sat_base.specs.device.Device.{Reader, most_reads, piece_size}
 use Rattle.sat_base.specs.steps.Formats.{Format, Open, Live}
 use Rattle.sat_base.specs.steps.Steps.{Step}
 use Rattle.sat_base.specs.steps.StepText.{tag_of, SpellsFields, SpellsStep}
 
 -- a reader, and what was read of it ahead of need
 pub record Source : Type 0 where
-  pub to_come : Option (List ℕ)  -- the bytes still to come, where the reader tells them
-  pub given : List ℕ  -- all bytes that the reader gave, to whomever
-  pub waiting : List ℕ  -- the last of them, read and not yet taken
-  pub ended : Bool  -- whether the last read found the reader at its end
-  pub failures : ℕ
-  pub calls : ℕ  -- of the reader, by whomever
-  pub reads : ℕ  -- those by this reader of steps
+  pub reader : Reader
+  pub waiting : List ℕ  -- the last bytes that it gave, read and not yet taken
+  pub reads : ℕ  -- the reads by this reader of steps
+
+-- the bytes still to come, where the reader tells them
+abbrev pub to_come : Source → Option (List ℕ)
+to_come s = prepend_known s.waiting s.reader.to_come
 
 -- the bytes read and not yet taken
 abbrev pub waiting : Ahead → List ℕ
 waiting a = drop a.at (take a.end a.piece)
 
-abbrev pub source_of : {R : Type 0} → (R → Option (List ℕ)) → (R → List ℕ) → (R → Bool) → (R → ℕ) → (R → ℕ) → R → Ahead → Source
-source_of remaining given ended failures calls r a = record {
-  to_come = prepend_known (waiting a) (remaining r);
-  given = given r;
-  waiting = waiting a;
-  ended = ended r;
-  failures = failures r;
-  calls = calls r;
-  reads = a.reads;
-}
+abbrev pub source_of : {R : Type 0} → (R → Reader) → R → Ahead → Source
+source_of seen r a = record { reader = seen r; waiting = waiting a; reads = a.reads }
 
--- These bytes were taken, and no call failed. What waited and what was given since is what was taken and what waits now.
+-- These bytes were taken, and no call failed. What waited and what was given since is what was taken and what waits now; a read gave at most 4,096 bytes.
 pub record Passes (old new : Source) (text : List ℕ) : Type 0 where
   pub fresh : List ℕ
-  pub gave : new.given ≡ old.given ++ fresh
+  pub gave : new.reader.given ≡ old.reader.given ++ fresh
   pub flows : old.waiting ++ fresh ≡ text ++ new.waiting
-  pub bytes : Consumes old.to_come new.to_come text
-  pub failures : new.failures ≡ old.failures
-  pub calls : new.calls + old.reads ≡ old.calls + new.reads
+  pub bytes : Consumes (to_come old) (to_come new) text
+  pub failures : new.reader.failures ≡ old.reader.failures
+  pub calls : new.reader.calls + old.reads ≡ old.reader.calls + new.reads
+  pub room : length fresh + piece_size * old.reads ≤ piece_size * new.reads
+  pub loans : new.reader.loans ≡ old.reader.loans
 
 -- all bytes are taken: the last read found the reader at its end, and none waits
 pub record AllTaken (s : Source) : Type 0 where
-  pub ended : s.ended ≡ true
+  pub ended : s.reader.ended ≡ true
   pub waiting : s.waiting ≡ []
-  pub over : IsAtEnd s.to_come
+  pub over : IsAtEnd (to_come s)
 
--- one read failed, which was the last, or there were 2^48 of them and none did
-pub record Faults (old new : Source) : Type 0 where
-  pub cause : (new.failures ≡ old.failures + 1) ⊎ ((new.failures ≡ old.failures) × (most_reads ≤ new.reads))
-  pub calls : new.calls + old.reads ≡ old.calls + new.reads
+-- These bytes were taken, which were all that was given, and then one read failed, the last, or there were 2^48 of them and none did.
+pub record Faults (old new : Source) (text : List ℕ) : Type 0 where
+  pub fresh : List ℕ
+  pub gave : new.reader.given ≡ old.reader.given ++ fresh
+  pub flows : old.waiting ++ fresh ≡ text
+  pub none : new.waiting ≡ []
+  pub bytes : Consumes (to_come old) (to_come new) text
+  pub cause : ((new.reader.failures ≡ old.reader.failures + 1) × (new.reader.failed ≡ true)) ⊎ ((new.reader.failures ≡ old.reader.failures) × (most_reads ≤ new.reads))
+  pub calls : new.reader.calls + old.reads ≡ old.reader.calls + new.reads
+  pub room : length fresh + piece_size * old.reads ≤ piece_size * new.reads
+  pub loans : new.reader.loans ≡ old.reader.loans
 
 -- another piece was read, of so many bytes: none only at the end
 abbrev pub Refills : Result (Unit {0}) StepError → ℕ → Source → Source → Type 0
 Refills (Ok u) n old new = Passes old new [] × (n ≡ 0 → AllTaken new)
-Refills (Err errors.Read) n old new = Faults old new
+Refills (Err errors.Read) n old new = Faults old new []
 Refills (Err e) n old new = ⊥
 
 -- the next byte, or none at the end
 abbrev pub NextByte : Result (Option ℕ) StepError → Source → Source → Type 0
 NextByte (Ok (Some byte)) old new = Passes old new (byte ∷ [])
 NextByte (Ok None) old new = Passes old new [] × AllTaken new
-NextByte (Err errors.Read) old new = Faults old new
+NextByte (Err errors.Read) old new = Faults old new []
 NextByte (Err e) old new = ⊥
 
 -- the next byte of a text that isn't whole
 abbrev pub ByteWithin : Result ℕ StepError → Source → Source → Type 0
 ByteWithin (Ok byte) old new = Passes old new (byte ∷ [])
 ByteWithin (Err errors.Cut) old new = Passes old new [] × AllTaken new
-ByteWithin (Err errors.Read) old new = Faults old new
+ByteWithin (Err errors.Read) old new = Faults old new []
 ByteWithin (Err e) old new = ⊥
 
--- A value's text was taken; or the front of one, and the bytes are over; or such a front and a byte after which no text can follow. Want of memory comes where the bytes so far are the front of a text, or all of it.
+-- A value's text was taken; or the front of one, and the bytes are over or can't be read; or such a front and a byte after which no text can follow. Want of memory comes where the bytes so far are the front of a text, or all of it.
 abbrev pub Reads : {A : Type 0} → Format A → Result A StepError → Source → Source → Type 0
 Reads F (Ok x) old new = (text : List ℕ) × Passes old new text × F x text
 Reads F (Err errors.Cut) old new = (text : List ℕ) × Passes old new text × Live F text × AllTaken new
 Reads F (Err errors.BadByte) old new = (front : List ℕ) × (byte : ℕ) × Passes old new (front ++ byte ∷ []) × Live F front × (Open F (front ++ byte ∷ []) → ⊥)
-Reads F (Err errors.Read) old new = Faults old new
+Reads F (Err errors.Read) old new = (text : List ℕ) × Faults old new text × Live F text
 Reads F (Err errors.OutOfMemory) old new = (text : List ℕ) × Passes old new text × Open F text
 Reads F (Err errors.Ends) old new = ⊥
 Reads F (Err errors.HasFailed) old new = ⊥
@@ -103,6 +104,6 @@ Answers (Ok step) old new = (text : List ℕ) × Passes old new text × SpellsSt
 Answers (Err errors.Ends) old new = Passes old new [] × AllTaken new
 Answers (Err errors.Cut) old new = (tag : ℕ) × (more : List ℕ) × Passes old new (tag ∷ more) × Live SpellsStep (tag ∷ more) × AllTaken new
 Answers (Err errors.BadByte) old new = (front : List ℕ) × (byte : ℕ) × Passes old new (front ++ byte ∷ []) × Live SpellsStep front × (Open SpellsStep (front ++ byte ∷ []) → ⊥)
-Answers (Err errors.Read) old new = Faults old new
+Answers (Err errors.Read) old new = (text : List ℕ) × Faults old new text × Live SpellsStep text
 Answers (Err errors.OutOfMemory) old new = (tag : ℕ) × (more : List ℕ) × Passes old new (tag ∷ more) × Open SpellsStep (tag ∷ more)
 Answers (Err errors.HasFailed) old new = ⊥

@@ -1,8 +1,10 @@
 -- What a parser of formulas' texts makes of the bytes that it is fed.
 use Rattle.std.specs.Borrow.{MutBor}
+use Rattle.std.specs.Io.KnownBytes.{IsAtEnd}
 use Rattle.std.specs.List.{FoldsTo, concat}
 use Rattle.std.specs.Prelude.{◌≡◌, ◌<◌, ◌⊎◌, ◌-◌, ℕ, length, get_or, nat_eq, List, [], ◌∷◌, ◌++◌, Bool, true, false, ◌||◌, Option, None, Some, Result, Ok, Err, if◌then◌else◌}
-use Rattle.sat_base.specs.text.Text.{is_blank, Token, Number, scan, tokens}
+use Rattle.sat_base.specs.device.Device.{Reader, CanFollow, GaveFront, GaveEnough}
+use Rattle.sat_base.specs.text.Text.{is_blank, Token, Number, scan, tokens, header_of}
 use Rattle.sat_base.specs.text.Tokenizing.{held}
 use Rattle.sat_base.specs.values.Formulas.{Formula, vars_of}
 use Rattle.sat_base.specs.dimacs.Dimacs.{Ending, Clean, Malformed, Limit, Hand, Turn, GoesOn, Ends, Fails, turn, dimacs, settled, IsDimacs}
@@ -153,15 +155,6 @@ Parses (Err errors.OutOfMemory) text = ParsesShort text
 Parses (Err errors.Read) text = Unit {0}
 Parses (Err errors.HasFailed) text = ⊥
 
--- a text that was given is at fault: it is all, or a front, whatever would follow
-abbrev pub FaultGiven : (List ℕ → Type 0) → (List ℕ → Type 0) → DimacsError → Type 0
-FaultGiven IsAll IsFront e = ((text : List ℕ) × IsAll text × Parses (Err e) text) ⊎ ((text : List ℕ) × IsFront text × ((rest : List ℕ) → Parses (Err e) (text ++ rest)))
-
--- what a text that was given is answered by
-abbrev pub ParsesGiven : (List ℕ → Type 0) → (List ℕ → Type 0) → Result Formula DimacsError → Type 0
-ParsesGiven IsAll IsFront (Ok f) = (text : List ℕ) × IsAll text × Parses (Ok f) text
-ParsesGiven IsAll IsFront (Err e) = FaultGiven IsAll IsFront e
-
 -- the calls of a closure that is lent a parser
 abbrev pub Calls : Type 0 → Type 0 → Type 1
 Calls F E = F → MutBor Progress → Result (Unit {0}) E → MutBor Progress → F → Type 0
@@ -179,17 +172,15 @@ KeepsText calls f = (ps : List (MutBor Progress)) → KeepsEach calls f ps
 abbrev pub HasRead : Progress → List ℕ → Type 0
 HasRead p text = (p.fed ≡ text) × (p.stopped ≡ true) × (p.ended ≡ true) × ((dimacs text).ending ≡ Clean)
 
--- what a whole text is answered by where a caller sees each piece's clauses
-abbrev pub ParsesInParts : {E : Type 0} → Result Progress (IncrementalError E) → List ℕ → Type 0
-ParsesInParts (Ok p) text = HasRead p text
-ParsesInParts (Err (parts.Dimacs e)) text = Parses (Err e) text
-ParsesInParts (Err (parts.Caller e)) text = Unit {0}
+-- A text is all that is looked at, whatever would follow: it ends where its reader does, or at a line that ends formulas.
+abbrev pub IsWhole : Reader → List ℕ → Type 0
+IsWhole r text = (rest : List ℕ) → CanFollow r rest → (dimacs (text ++ rest) ≡ dimacs text) × (header_of (text ++ rest) ≡ header_of text)
 
--- and where the text was given
-abbrev pub ParsesPartsGiven : {E : Type 0} → (List ℕ → Type 0) → (List ℕ → Type 0) → Result Progress (IncrementalError E) → Type 0
-ParsesPartsGiven IsAll IsFront (Ok p) = (text : List ℕ) × IsAll text × HasRead p text
-ParsesPartsGiven IsAll IsFront (Err (parts.Dimacs e)) = FaultGiven IsAll IsFront e
-ParsesPartsGiven IsAll IsFront (Err (parts.Caller e)) = Unit {0}
+-- what was given is answered by, where a caller sees each piece's clauses
+abbrev pub ParsesInParts : {E : Type 0} → Reader → Reader → Result Progress (IncrementalError E) → Type 0
+ParsesInParts old new (Ok p) = (text : List ℕ) × GaveFront old new text × HasRead p text × IsWhole new text
+ParsesInParts old new (Err (parts.Dimacs e)) = GaveEnough old new (Parses (Err e))
+ParsesInParts old new (Err (parts.Caller e)) = Unit {0}
 
 -- the closure has the parser, and answers; both may change
 abbrev pub Visits : {F E : Type 0} → Calls F E → F × Progress → Result (Unit {0}) E → F × Progress → Type 0
@@ -199,16 +190,22 @@ Visits calls s answer t = (p : MutBor Progress) × (q : MutBor Progress) × (p.n
 abbrev pub FeedsAndVisits : {F E : Type 0} → Calls F E → F × Progress → List ℕ → F × Progress → Type 0
 FeedsAndVisits calls s piece t = (0 < length piece) × (fed : Progress) × Feeds (Ok tt) piece s.1 fed × IsSound fed × Visits calls (s.0, fed) (Ok tt) t
 
--- an answer to a last piece, or to the end of what the reader gave
-abbrev pub Answers : Result (Unit {0}) DimacsError → List ℕ → Type 0 → Progress → Progress → Type 0
-Answers answer piece AtEnd old new = ((0 < length piece) × Feeds answer piece old new) ⊎ ((piece ≡ []) × AtEnd × Finishes answer old new)
+-- an answer to a last piece, or to the end of the text
+abbrev pub Answers : Result (Unit {0}) DimacsError → List ℕ → Reader → Progress → Progress → Type 0
+Answers answer piece reader old new = ((0 < length piece) × Feeds answer piece old new) ⊎ ((piece ≡ []) × IsWhole reader old.fed × Finishes answer old new)
 
 -- what comes behind the pieces that were taken and seen: the closure has the parser once more, unless a read has failed
-abbrev pub LastVisit : {F E : Type 0} → Calls F E → List ℕ → Type 0 → Result Progress (IncrementalError E) → F × Progress → Type 0
-LastVisit {F} calls piece AtEnd (Ok p) s = (piece ≡ []) × AtEnd × (mid : Progress) × (f : F) × Finishes (Ok tt) s.1 mid × Visits calls (s.0, mid) (Ok tt) (f, p)
-LastVisit {F} calls piece AtEnd (Err (parts.Dimacs e)) s = ((e ≡ errors.Read) × (piece ≡ [])) ⊎ ((mid : Progress) × (t : F × Progress) × Answers (Err e) piece AtEnd s.1 mid × Visits calls (s.0, mid) (Ok tt) t)
-LastVisit {F} calls piece AtEnd (Err (parts.Caller e)) s = (answer : Result (Unit {0}) DimacsError) × (mid : Progress) × (t : F × Progress) × Answers answer piece AtEnd s.1 mid × Visits calls (s.0, mid) (Err e) t
+abbrev pub LastVisit : {F E : Type 0} → Calls F E → List ℕ → Reader → Result Progress (IncrementalError E) → F × Progress → Type 0
+LastVisit {F} calls piece reader (Ok p) s = (piece ≡ []) × IsWhole reader s.1.fed × (mid : Progress) × (f : F) × Finishes (Ok tt) s.1 mid × Visits calls (s.0, mid) (Ok tt) (f, p)
+LastVisit {F} calls piece reader (Err (parts.Dimacs e)) s = ((e ≡ errors.Read) × (piece ≡ [])) ⊎ ((mid : Progress) × (t : F × Progress) × Answers (Err e) piece reader s.1 mid × Visits calls (s.0, mid) (Ok tt) t)
+LastVisit {F} calls piece reader (Err (parts.Caller e)) s = (answer : Result (Unit {0}) DimacsError) × (mid : Progress) × (t : F × Progress) × Answers answer piece reader s.1 mid × Visits calls (s.0, mid) (Err e) t
 
--- the closure had the parser after each piece that the reader gave, and after the end; that the pieces were given is handed in, and that the reader is at its end
-abbrev pub VisitsAll : {F E : Type 0} → Calls F E → F → (List ℕ → Type 0) → Type 0 → Result Progress (IncrementalError E) → Type 0
-VisitsAll {F} calls f IsFront AtEnd result = (pieces : List (List ℕ)) × (last : List ℕ) × (s : F × Progress) × FoldsTo (FeedsAndVisits calls) (f, no_progress) pieces s × LastVisit calls last AtEnd result s × IsFront (concat pieces ++ last)
+-- The closure had the parser after each piece that the reader gave, and after the end of the text.
+pub record VisitsAll {F E : Type 0} (calls : Calls F E) (f : F) (old new : Reader) (result : Result Progress (IncrementalError E)) : Type 0 where
+  pub pieces : List (List ℕ)
+  pub last : List ℕ
+  pub seen : F × Progress
+  pub folds : FoldsTo (FeedsAndVisits calls) (f, no_progress) pieces seen
+  pub visit : LastVisit calls last new result seen
+  pub front : GaveFront old new (concat pieces ++ last)
+  pub over : new.ended ≡ true → IsAtEnd new.to_come

@@ -1,21 +1,21 @@
 -- What a reader of steps does.
-use Rattle.std.specs.Prelude.{◌≡◌, ◌≤◌, ℕ, Bool, true, false, List, [], Option, Result, Ok, Err}
+use Rattle.std.specs.Prelude.{◌≡◌, ◌≤◌, ℕ, Bool, true, false, [], Result, Ok, Err}
 use Rattle.sat_base.specs.declared.step_reader.StepReader.{StepReader}
 use Rattle.sat_base.specs.declared.step_reader.Buffers.{Buffers}
 use Rattle.sat_base.specs.declared.error.StepError.{StepError}
 use Rattle.sat_base.specs.declared.error.StepError.TheVariants as errors
-use Rattle.sat_base.specs.device.Device.{most_reads}
+use Rattle.sat_base.specs.device.Device.{Reader, most_reads}
 use Rattle.sat_base.specs.device.Reading.{Source, Passes, Answers, source_of}
 use Rattle.sat_base.specs.steps.Steps.{Step}
 use Rattle.sat_base.specs.steps.Kinds.{step_with}
 
 -- its reader, with what was read ahead
-abbrev pub source : {R : Type 0} → (R → Option (List ℕ)) → (R → List ℕ) → (R → Bool) → (R → ℕ) → (R → ℕ) → StepReader R Buffers → Source
-source remaining given ended failures calls s = source_of remaining given ended failures calls s.reader.now s.buffers.ahead
+abbrev pub source : {R : Type 0} → (R → Reader) → StepReader R Buffers → Source
+source seen s = source_of seen s.reader.now s.buffers.ahead
 
--- a reader that has and has given these bytes, with these failures and calls, before the first read
-abbrev pub unread : Option (List ℕ) → List ℕ → Bool → ℕ → ℕ → Source
-unread bytes given ended failures calls = record { to_come = bytes; given = given; waiting = []; ended = ended; failures = failures; calls = calls; reads = 0 }
+-- a reader, before the first read
+abbrev pub unread : Reader → Source
+unread reader = record { reader = reader; waiting = []; reads = 0 }
 
 -- whether it answers nothing else any more
 abbrev pub has_failed : {R : Type 0} → StepReader R Buffers → Bool
@@ -66,9 +66,9 @@ Answered (Err errors.OutOfMemory) old new = Answers (Err errors.OutOfMemory) old
 Answered (Err errors.HasFailed) old new = Passes old new []
 
 -- A call of `advance`. `HasFailed` comes exactly where an earlier answer stopped it.
-pub record Next {R : Type 0} (remaining : R → Option (List ℕ)) (given : R → List ℕ) (ended : R → Bool) (failures calls : R → ℕ) (old new : StepReader R Buffers) (result : Result Step StepError) : Type 0 where
+pub record Next {R : Type 0} (seen : R → Reader) (old new : StepReader R Buffers) (result : Result Step StepError) : Type 0 where
   pub same : reader_name new ≡ reader_name old
-  pub answer : Answered result (source remaining given ended failures calls old) (source remaining given ended failures calls new)
+  pub answer : Answered result (source seen old) (source seen new)
   pub was : has_failed old ≡ repeated result
   pub is : has_failed new ≡ stopped result
-  pub bound : (source remaining given ended failures calls new).reads ≤ most_reads
+  pub bound : (source seen new).reads ≤ most_reads

@@ -15,7 +15,7 @@ pub(super) fn variables<R: CountedRead>(
     reader: &mut R,
     ahead: &mut Ahead,
 ) -> Result<(Var, Option<Var>), StepError>
-    ensures { Reads (Both IsVariable IsOptionalVariable) result (source_of R.remaining R.given R.ended R.failures R.calls reader.old ahead.old) (source_of R.remaining R.given R.ended R.failures R.calls reader.new ahead.new) }
+    ensures { Reads (Both IsVariable IsOptionalVariable) result (source_of R.seen reader.old ahead.old) (source_of R.seen reader.new ahead.new) }
 {
     let first = variable(reader, ahead)?;
     let second = optional(reader, ahead)?;
@@ -26,7 +26,7 @@ pub(super) fn variable_and_flag<R: CountedRead>(
     reader: &mut R,
     ahead: &mut Ahead,
 ) -> Result<(Var, bool), StepError>
-    ensures { Reads (Both IsVariable IsFlag) result (source_of R.remaining R.given R.ended R.failures R.calls reader.old ahead.old) (source_of R.remaining R.given R.ended R.failures R.calls reader.new ahead.new) }
+    ensures { Reads (Both IsVariable IsFlag) result (source_of R.seen reader.old ahead.old) (source_of R.seen reader.new ahead.new) }
 {
     let var = variable(reader, ahead)?;
     let flag = flag(reader, ahead)?;
@@ -38,7 +38,7 @@ pub(super) fn flag_and_lists<R: CountedRead>(
     ahead: &mut Ahead,
     lists: &mut Lists,
 ) -> Result<bool, StepError>
-    ensures { Reads (Both IsFlag (Both AreLiterals AreHashes)) (valued (λ f. (f, (lists.new.literals.items, lists.new.hashes.items))) result) (source_of R.remaining R.given R.ended R.failures R.calls reader.old ahead.old) (source_of R.remaining R.given R.ended R.failures R.calls reader.new ahead.new) }
+    ensures { Reads (Both IsFlag (Both AreLiterals AreHashes)) (valued (λ f. (f, (lists.new.literals.items, lists.new.hashes.items))) result) (source_of R.seen reader.old ahead.old) (source_of R.seen reader.new ahead.new) }
 {
     let flag = flag(reader, ahead)?;
     both_lists(reader, ahead, lists)?;
@@ -50,7 +50,7 @@ pub(super) fn clause_and_deletion<R: CountedRead>(
     ahead: &mut Ahead,
     lists: &mut Lists,
 ) -> Result<DeleteClauseProof, StepError>
-    ensures { Reads (Both AreLiterals IsDeletion) (valued (λ p. (lists.new.literals.items, deletion_of p)) result) (source_of R.remaining R.given R.ended R.failures R.calls reader.old ahead.old) (source_of R.remaining R.given R.ended R.failures R.calls reader.new ahead.new) }
+    ensures { Reads (Both AreLiterals IsDeletion) (valued (λ p. (lists.new.literals.items, deletion_of p)) result) (source_of R.seen reader.old ahead.old) (source_of R.seen reader.new ahead.new) }
 {
     literals(reader, ahead, &mut lists.literals)?;
     deletion(reader, ahead)

@@ -19,7 +19,7 @@ pub(super) fn plain_fields<R: CountedRead>(
 ) -> Result<Kind, StepError>
     requires known { IsTrue (is_tag tag) }
     requires plain { has_lists tag ≡ false }
-    ensures { (literals hashes : List ℕ) (units : List (ℕ × ℕ)) → Reads (Behind tag) (valued (λ k. step_with k literals hashes units) result) (source_of R.remaining R.given R.ended R.failures R.calls reader.old ahead.old) (source_of R.remaining R.given R.ended R.failures R.calls reader.new ahead.new) }
+    ensures { (literals hashes : List ℕ) (units : List (ℕ × ℕ)) → Reads (Behind tag) (valued (λ k. step_with k literals hashes units) result) (source_of R.seen reader.old ahead.old) (source_of R.seen reader.new ahead.new) }
 {
     if tag == 1 {
         let (global, solver) = variables(reader, ahead)?;
@@ -49,7 +49,7 @@ pub(super) fn list_fields<R: CountedRead>(
     tag: u8,
 ) -> Result<Kind, StepError>
     requires { IsTrue (has_lists tag) }
-    ensures { Reads (Behind tag) (valued (λ k. step_with k lists.new.literals.items lists.new.hashes.items lists.new.units.items) result) (source_of R.remaining R.given R.ended R.failures R.calls reader.old ahead.old) (source_of R.remaining R.given R.ended R.failures R.calls reader.new ahead.new) }
+    ensures { Reads (Behind tag) (valued (λ k. step_with k lists.new.literals.items lists.new.hashes.items lists.new.units.items) result) (source_of R.seen reader.old ahead.old) (source_of R.seen reader.new ahead.new) }
 {
     if tag == 5 {
         literals(reader, ahead, &mut lists.literals)?;

@@ -14,7 +14,7 @@ const VARIABLES: u128 = 1 << 28;
 const WIDTHS: u128 = 65;
 
 pub(super) fn variable<R: CountedRead>(reader: &mut R, ahead: &mut Ahead) -> Result<Var, StepError>
-    ensures { Reads IsVariable result (source_of R.remaining R.given R.ended R.failures R.calls reader.old ahead.old) (source_of R.remaining R.given R.ended R.failures R.calls reader.new ahead.new) }
+    ensures { Reads IsVariable result (source_of R.seen reader.old ahead.old) (source_of R.seen reader.new ahead.new) }
 {
     let index = number(reader, ahead, VARIABLES)?;
     Ok(Var::from_index(index as usize))
@@ -24,7 +24,7 @@ pub(super) fn optional<R: CountedRead>(
     reader: &mut R,
     ahead: &mut Ahead,
 ) -> Result<Option<Var>, StepError>
-    ensures { Reads IsOptionalVariable result (source_of R.remaining R.given R.ended R.failures R.calls reader.old ahead.old) (source_of R.remaining R.given R.ended R.failures R.calls reader.new ahead.new) }
+    ensures { Reads IsOptionalVariable result (source_of R.seen reader.old ahead.old) (source_of R.seen reader.new ahead.new) }
 {
     let above = number(reader, ahead, VARIABLES + 1)?;
     if above == 0 {
@@ -34,7 +34,7 @@ pub(super) fn optional<R: CountedRead>(
 }
 
 pub(super) fn flag<R: CountedRead>(reader: &mut R, ahead: &mut Ahead) -> Result<bool, StepError>
-    ensures { Reads IsFlag result (source_of R.remaining R.given R.ended R.failures R.calls reader.old ahead.old) (source_of R.remaining R.given R.ended R.failures R.calls reader.new ahead.new) }
+    ensures { Reads IsFlag result (source_of R.seen reader.old ahead.old) (source_of R.seen reader.new ahead.new) }
 {
     let bit = number(reader, ahead, 2)?;
     if bit == 0 {
@@ -47,7 +47,7 @@ pub(super) fn width<R: CountedRead>(
     reader: &mut R,
     ahead: &mut Ahead,
 ) -> Result<HashBits, StepError>
-    ensures { Reads IsWidth result (source_of R.remaining R.given R.ended R.failures R.calls reader.old ahead.old) (source_of R.remaining R.given R.ended R.failures R.calls reader.new ahead.new) }
+    ensures { Reads IsWidth result (source_of R.seen reader.old ahead.old) (source_of R.seen reader.new ahead.new) }
 {
     let bits = number(reader, ahead, WIDTHS)?;
     Ok(HashBits::of_width(bits as u32))
@@ -57,7 +57,7 @@ pub(super) fn deletion<R: CountedRead>(
     reader: &mut R,
     ahead: &mut Ahead,
 ) -> Result<DeleteClauseProof, StepError>
-    ensures { Reads IsDeletion (valued deletion_of result) (source_of R.remaining R.given R.ended R.failures R.calls reader.old ahead.old) (source_of R.remaining R.given R.ended R.failures R.calls reader.new ahead.new) }
+    ensures { Reads IsDeletion (valued deletion_of result) (source_of R.seen reader.old ahead.old) (source_of R.seen reader.new ahead.new) }
 {
     let code = number(reader, ahead, 3)?;
     if code == 0 {

@@ -1,125 +1,156 @@
--- Writing, step by step.
-use Rattle.std.proofs.Common.{◌≡◌, ℕ, ◌+◌, ◌*◌, ◌-◌, ◌<◌, ◌≤◌, List, [], ◌∷◌, ◌++◌, length, take, get_or, ◌^◌, ◌⊎◌, inl, inr, Option, Some, None, Result, Ok, Err, append_assoc, refl, sym, ap, subst, ◌∙◌, arith}
-use Rattle.std.proofs.lemmas.List.{append-nil, take_more, take_all}
-use Rattle.std.specs.Io.KnownBytes.{Appends, append_known}
-use Rattle.sat_base.specs.steps.Formats.{Format, Both, Items, ListOf}
-use Rattle.sat_base.specs.steps.Numbers.{IsNumber, IsBelow}
-use Rattle.sat_base.specs.steps.Steps.{Step}
-use Rattle.sat_base.specs.steps.StepText.{tag_of, SpellsFields, SpellsStep}
-use Rattle.sat_base.specs.device.Writing.{Written, Writes, Plainly}
-use Rattle.sat_base.proofs.lemmas.device.Known.{appends_none, appends_more}
-use Rattle.sat_base.proofs.lemmas.steps.Numbers.{Front, front_none, front_more, spread}
+-- What a writer takes, piece by piece.
+use Rattle.std.proofs.Common.{◌≡◌, ℕ, ◌+◌, ◌-◌, ◌<◌, Bool, true, false, List, [], ◌∷◌, ◌++◌, length, length-drop, take, drop, if◌then◌else◌, Option, Some, None, Result, Ok, Err, append_assoc, refl, sym, ap, subst, ◌∙◌, arith}
+use Rattle.std.proofs.lemmas.List.{append-nil, take-append-drop}
+use Rattle.std.proofs.lemmas.Grind.{common_steps}
+use Rattle.std.proofs.Math.Seq.{take-add}
+use Rattle.std.specs.Io.KnownBytes.{Appends, Keeps}
+use Rattle.sat_base.specs.device.Device.{Writer, WritesOnce, Takes, Breaks, Puts, takes_none, lent_writer}
+use Rattle.sat_base.proofs.lemmas.device.Known.{appends_none, appends_more, rest_is}
 
--- what waits is written out
-pub out_written : (a b : Option (List ℕ)) (xs ys : List ℕ) → ys ≡ [] → Appends a b xs → Appends (append_known a xs) (append_known b ys) []
-out_written None b xs ys e h = tt
-out_written (Some s) None xs ys e h = absurd h
-out_written (Some s) (Some t) xs ys e h = ap (λ (z : List ℕ). t ++ z) e ∙ append-nil t ∙ h ∙ sym (append-nil (s ++ xs))
+pub took_none : (w : Writer) → Takes w w []
+took_none w = record { taken = sym (append-nil w.taken); told = appends_none w.contents; failures = refl; calls = omega arith; loans = refl }
 
--- one byte waits more
-pub one_more : (a b : Option (List ℕ)) (xs ys zs : List ℕ) (byte : ℕ) → Appends (append_known a xs) (append_known b ys) [] → zs ≡ ys ++ byte ∷ [] → Appends (append_known a xs) (append_known b zs) (byte ∷ [])
-one_more None b xs ys zs byte h e = tt
-one_more (Some s) None xs ys zs byte h e = absurd h
-one_more (Some s) (Some t) xs ys zs byte h e = ap (λ (z : List ℕ). t ++ z) e ∙ sym (append_assoc t ys (byte ∷ [])) ∙ ap (λ (z : List ℕ). z ++ byte ∷ []) (h ∙ append-nil (s ++ xs))
-
--- THE GROUPS OF A NUMBER, from the low end
-pub record GroupsPut (number rest : ℕ) (old new : Written) : Type 0 where
-  pub text : List ℕ
-  pub value : ℕ
-  pub place : ℕ
-  pub front : Front text value place
-  pub is : number ≡ value + place * rest
-  pub some : (text ≡ []) ⊎ (0 < rest)
-  pub bytes : Appends old.contents new.contents text
-  pub failures : new.failures ≡ old.failures
-
-pub groups_none : (number : ℕ) (s : Written) → GroupsPut number number s s
-groups_none number s = record { text = []; value = 0; place = 1; front = front_none; is = omega arith; some = inl refl; bytes = appends_none s.contents; failures = refl }
-
--- the text that a write of plain bytes appended
-pub plainly : (bytes : List ℕ) (old mid new : Written) (text more : List ℕ) → Appends old.contents mid.contents text → more ≡ bytes → Appends mid.contents new.contents more → Appends old.contents new.contents (text ++ bytes)
-plainly bytes old mid new text more h e k = appends_more old.contents mid.contents new.contents text bytes h (subst (Appends mid.contents new.contents) e k)
-
-pub groups_more : (number rest low high : ℕ) (old mid new : Written) → 128 ≤ rest → low + 128 * high ≡ rest → low < 128 → GroupsPut number rest old mid → (text : List ℕ) × Plainly ((low + 128) ∷ []) text × Appends mid.contents new.contents text × (new.failures ≡ mid.failures) → GroupsPut number high old new
-groups_more number rest low high old mid new h e l g w = record {
-  text = g.text ++ (low + 128) ∷ [];
-  value = g.value + g.place * (low + 128 - 128);
-  place = g.place * 128;
-  front = front_more g.text g.value g.place (low + 128) (omega arith) (omega arith) g.front;
-  is = g.is ∙ ap (λ (n : ℕ). g.value + g.place * n) (sym e) ∙ spread g.value g.place low high ∙ (let k : low ≡ low + 128 - 128 = omega arith in ap (λ (n : ℕ). (g.value + g.place * n) + (g.place * 128) * high) k);
-  some = inr (omega arith);
-  bytes = plainly ((low + 128) ∷ []) old mid new g.text w.0 g.bytes w.1 w.2;
-  failures = w.3 ∙ g.failures;
+pub took_more : (a b c : Writer) (xs ys : List ℕ) → Takes a b xs → Takes b c ys → Takes a c (xs ++ ys)
+took_more a b c xs ys p q = record {
+  taken = q.taken ∙ ap (λ (z : List ℕ). z ++ ys) p.taken ∙ append_assoc a.taken xs ys;
+  told = appends_more a.contents b.contents c.contents xs ys p.told q.told;
+  failures = q.failures ∙ p.failures;
+  calls = omega (arith, p.calls, q.calls);
+  loans = q.loans ∙ p.loans;
 }
 
-pub groups_all : {E : Type 0} (number rest : ℕ) (old mid new : Written) (r : Result (Unit {0}) E) → rest < 128 → GroupsPut number rest old mid → Writes Plainly (rest ∷ []) r mid new → Writes IsNumber number r old new
-groups_all number rest old mid new (Ok u) h g w =
-    (g.text ++ rest ∷ [], subst (λ (n : ℕ). IsNumber n (g.text ++ rest ∷ [])) (sym g.is) (g.front.completes rest (rest ∷ []) (h, refl) g.some), plainly (rest ∷ []) old mid new g.text w.0 g.bytes w.1 w.2, w.3 ∙ g.failures)
-groups_all number rest old mid new (Err e) h g w = omega (arith, g.failures, w)
-
--- VALUES IN PARTS
-abbrev pub Part : {A : Type 0} → Format A → A → Written → Written → Type 0
-Part F x old new = (text : List ℕ) × F x text × Appends old.contents new.contents text × (new.failures ≡ old.failures)
-
-pub below : {E : Type 0} (limit n : ℕ) (old new : Written) (r : Result (Unit {0}) E) → n < limit → Writes IsNumber n r old new → Writes (IsBelow limit) n r old new
-below limit n old new (Ok u) h w = (w.0, (w.1, h), w.2, w.3)
-below limit n old new (Err e) h w = w
-
-pub both : {A B C E : Type 0} (F : Format A) (G : Format B) (K : Format C) (x : A) (y : B) (z : C) (old mid new : Written) (r : Result (Unit {0}) E) → ((a b : List ℕ) → F x a → G y b → K z (a ++ b)) → Part F x old mid → Writes G y r mid new → Writes K z r old new
-both F G K x y z old mid new (Ok u) k p w = (p.0 ++ w.0, k p.0 w.0 p.1 w.1, appends_more old.contents mid.contents new.contents p.0 w.0 p.2 w.2, w.3 ∙ p.3)
-both F G K x y z old mid new (Err e) k p w = omega (arith, p.3, w)
-
-pub one_then_other : {A B E : Type 0} (F : Format A) (G : Format B) (x : A) (y : B) (old mid new : Written) (r : Result (Unit {0}) E) → Part F x old mid → Writes G y r mid new → Writes (Both F G) (x, y) r old new
-one_then_other F G x y old mid new r p w = both F G (Both F G) x y (x, y) old mid new r (λ a b h k. (a, b, h, k, refl)) p w
-
--- A LIST: its count, and the items before a place
-pub record ListPut {A : Type 0} (F : Format A) (xs : List A) (i : ℕ) (old new : Written) : Type 0 where
-  pub count : List ℕ
-  pub items : List ℕ
-  pub counted : IsBelow (2 ^ 64) (length xs) count
-  pub put : Items F (take i xs) items
-  pub bytes : Appends old.contents new.contents (count ++ items)
-  pub failures : new.failures ≡ old.failures
-
-pub items_one : {A : Type 0} (F : Format A) (xs : List A) (x : A) (a b : List ℕ) → Items F xs a → F x b → Items F (xs ++ x ∷ []) (a ++ b)
-items_one F [] x a b h k = (b, [], k, refl, ap (λ (z : List ℕ). z ++ b) h ∙ sym (append-nil b))
-items_one F (y ∷ xs) x a b h k = (h.0, h.1 ++ b, h.2, items_one F xs x h.1 b h.3 k, ap (λ (z : List ℕ). z ++ b) h.4 ∙ append_assoc h.0 h.1 b)
-
-pub list_none : {A : Type 0} (F : Format A) (xs : List A) (old new : Written) → length xs < 2 ^ 64 → Part IsNumber (length xs) old new → ListPut F xs 0 old new
-list_none F xs old new h p = record { count = p.0; items = []; counted = (p.1, h); put = refl; bytes = subst (Appends old.contents new.contents) (sym (append-nil p.0)) p.2; failures = p.3 }
-
-pub list_more : {A : Type 0} (F : Format A) (xs : List A) (i : ℕ) (x d : A) (old mid new : Written) → i < length xs → x ≡ get_or xs i d → ListPut F xs i old mid → Part F x mid new → ListPut F xs (i + 1) old new
-list_more {A} F xs i x d old mid new h e g p = record {
-  count = g.count;
-  items = g.items ++ p.0;
-  counted = g.counted;
-  put = subst (λ (z : List A). Items F z (g.items ++ p.0)) (ap (λ (n : A). take i xs ++ n ∷ []) e ∙ sym (take_more xs i d h)) (items_one F (take i xs) x g.items p.0 g.put p.1);
-  bytes = subst (Appends old.contents new.contents) (append_assoc g.count g.items p.0) (appends_more old.contents mid.contents new.contents (g.count ++ g.items) p.0 g.bytes p.2);
-  failures = p.3 ∙ g.failures;
+-- a failure behind what was taken
+pub breaks_later : (a b c : Writer) (xs ys : List ℕ) → Takes a b xs → Breaks b c ys → Breaks a c (xs ++ ys)
+breaks_later a b c xs ys p q = record {
+  front = xs ++ q.front;
+  behind = q.behind;
+  whole = ap (λ (z : List ℕ). xs ++ z) q.whole ∙ sym (append_assoc xs q.front q.behind);
+  taken = q.taken ∙ ap (λ (z : List ℕ). z ++ q.front) p.taken ∙ append_assoc a.taken xs q.front;
+  told = appends_more a.contents b.contents c.contents xs q.front p.told q.told;
+  failures = q.failures ∙ ap (λ (n : ℕ). n + 1) p.failures;
+  failed = q.failed;
+  calls = omega (arith, p.calls, q.calls);
+  loans = q.loans ∙ p.loans;
 }
 
-pub list_all : {A : Type 0} (F : Format A) (xs : List A) (i : ℕ) (old new : Written) → length xs ≤ i → ListPut F xs i old new → Part (ListOf (IsBelow (2 ^ 64)) F) xs old new
-list_all {A} F xs i old new h g = (g.count ++ g.items, (g.count, g.items, g.counted, subst (λ (z : List A). Items F z g.items) (take_all i xs h) g.put, refl), g.bytes, g.failures)
+-- a failure within a longer text
+pub breaks_within : (a b : Writer) (xs ys : List ℕ) → Breaks a b xs → Breaks a b (xs ++ ys)
+breaks_within a b xs ys q = record {
+  front = q.front;
+  behind = q.behind ++ ys;
+  whole = ap (λ (z : List ℕ). z ++ ys) q.whole ∙ append_assoc q.front q.behind ys;
+  taken = q.taken;
+  told = q.told;
+  failures = q.failures;
+  failed = q.failed;
+  calls = q.calls;
+  loans = q.loans;
+}
 
--- A STEP
-pub tagged : (step : Step) (byte : ℕ) (old mid new : Written) → byte ≡ tag_of step → Part Plainly (byte ∷ []) old mid → Part SpellsFields step mid new → Part SpellsStep step old new
-tagged step byte old mid new e p q = (p.0 ++ q.0, (q.0, ap (λ (z : List ℕ). z ++ q.0) p.1 ∙ ap (λ (n : ℕ). n ∷ q.0) e, q.1), appends_more old.contents mid.contents new.contents p.0 q.0 p.2 q.2, q.3 ∙ p.3)
+-- ONE WRITE
 
-pub all_out : {E : Type 0} (step : Step) (old mid new : Written) (r : Result (Unit {0}) E) → Part SpellsStep step old mid → Writes Plainly [] r mid new → Writes SpellsStep step r old new
-all_out step old mid new r p w = both SpellsStep Plainly SpellsStep step [] step old mid new r (λ a b h k. subst (SpellsStep step) (sym (append-nil a) ∙ ap (λ (z : List ℕ). a ++ z) (sym k)) h) p w
+some_taken : (n : ℕ) (rest : List ℕ) → (n ≡ 0 → ⊥) → takes_none n rest ≡ false
+some_taken n rest h = grind (arith, common_steps)
 
--- where nothing waits
-known_none : (a : Option (List ℕ)) (n : ℕ) (xs : List ℕ) → n ≡ 0 → append_known a (take n xs) ≡ a
-known_none None n xs e = refl
-known_none (Some s) n xs e = ap Some (ap (λ (k : ℕ). s ++ take k xs) e ∙ append-nil s)
+none_taken : (n : ℕ) (rest : List ℕ) → n ≡ 0 → 0 < length rest → takes_none n rest ≡ true
+none_taken n rest h k = grind (arith, common_steps)
 
-abbrev pub writing : Option (List ℕ) → ℕ → Written
-writing a f = record { contents = a; failures = f }
+counted : (t : Bool) (old new : ℕ) → new ≡ (if t then old + 1 else old) → t ≡ false → new ≡ old
+counted true old new h e = absurd (let k : ◌≡◌ {A = Bool} true false = e in cc)
+counted false old new h e = h
 
-pub none_waits : (a : Option (List ℕ)) (f n : ℕ) (xs : List ℕ) → n ≡ 0 → writing (append_known a (take n xs)) f ≡ writing a f
-none_waits a f n xs e = ap (λ (c : Option (List ℕ)). writing c f) (known_none a n xs e)
+counted_one : (t : Bool) (old new : ℕ) → new ≡ (if t then old + 1 else old) → t ≡ true → new ≡ old + 1
+counted_one true old new h e = h
+counted_one false old new h e = absurd (let k : ◌≡◌ {A = Bool} false true = e in cc)
 
-pub emptied : {E : Type 0} (step : Step) (a b : Option (List ℕ)) (f h n m : ℕ) (xs ys : List ℕ) (r : Result (Unit {0}) E) → n ≡ 0 → m ≡ 0 → Writes SpellsStep step r (writing (append_known a (take n xs)) f) (writing (append_known b (take m ys)) h) → Writes SpellsStep step r (writing a f) (writing b h)
-emptied step a b f h n m xs ys r d e w =
-    subst (λ (o : Written). Writes SpellsStep step r o (writing b h)) (none_waits a f n xs d)
-    (subst (λ (o : Written). Writes SpellsStep step r (writing (append_known a (take n xs)) f) o) (none_waits b h m ys e) w)
+pub wrote_some : {E : Type 0} (a b : Writer) (rest : List ℕ) (n : ℕ) → WritesOnce {E = E} (Ok n) rest a b → (n ≡ 0 → ⊥) → Takes a b (take n rest)
+wrote_some a b rest n w h = record {
+  taken = w.taken;
+  told = w.told;
+  failures = counted (takes_none n rest) a.failures b.failures w.failures.0 (some_taken n rest h);
+  calls = omega (arith, w.calls);
+  loans = w.loans;
+}
+
+keeps_appends : (a b : Option (List ℕ)) → Keeps a b → Appends a b []
+keeps_appends None b h = tt
+keeps_appends (Some x) None h = absurd h
+keeps_appends (Some x) (Some y) h = h ∙ sym (append-nil x)
+
+none_at : (n : ℕ) (rest : List ℕ) → n ≡ 0 → take n rest ≡ []
+none_at n rest h = ap (λ (k : ℕ). take k rest) h
+
+pub wrote_none : {E : Type 0} (a b : Writer) (rest : List ℕ) (n : ℕ) → WritesOnce {E = E} (Ok n) rest a b → n ≡ 0 → 0 < length rest → Breaks a b rest
+wrote_none a b rest n w h k = record {
+  front = [];
+  behind = rest;
+  whole = refl;
+  taken = w.taken ∙ ap (λ (z : List ℕ). a.taken ++ z) (none_at n rest h);
+  told = subst (Appends a.contents b.contents) (none_at n rest h) w.told;
+  failures = counted_one (takes_none n rest) a.failures b.failures w.failures.0 (none_taken n rest h k);
+  failed = w.failures.1 ∙ none_taken n rest h k;
+  calls = omega (arith, w.calls);
+  loans = w.loans;
+}
+
+pub write_fails : {E : Type 0} (e : E) (a b : Writer) (rest : List ℕ) → WritesOnce {E = E} (Err e) rest a b → Breaks a b rest
+write_fails e a b rest w = record {
+  front = [];
+  behind = rest;
+  whole = refl;
+  taken = w.taken ∙ sym (append-nil a.taken);
+  told = keeps_appends a.contents b.contents w.told;
+  failures = w.failures.0;
+  failed = w.failures.1;
+  calls = omega (arith, w.calls);
+  loans = w.loans;
+}
+
+-- THE NEXT PART OF A PIECE
+
+pub took_next : {E : Type 0} (a b c : Writer) (piece : List ℕ) (i n : ℕ) → Takes a b (take i piece) → WritesOnce {E = E} (Ok n) (take (length piece - i) (drop i piece)) b c → (n ≡ 0 → ⊥) → Takes a c (take (i + n) piece)
+took_next a b c piece i n p w h =
+    let e : take i piece ++ take n (take (length piece - i) (drop i piece)) ≡ take (i + n) piece = ap (λ (z : List ℕ). take i piece ++ take n z) (rest_is piece i) ∙ sym (take-add i n piece) in
+    subst (Takes a c) e (took_more a b c (take i piece) (take n (take (length piece - i) (drop i piece))) p (wrote_some b c (take (length piece - i) (drop i piece)) n w h))
+
+pub breaks_next : (a b c : Writer) (piece : List ℕ) (i : ℕ) → Takes a b (take i piece) → Breaks b c (take (length piece - i) (drop i piece)) → Breaks a c piece
+breaks_next a b c piece i p q =
+    let e : take i piece ++ take (length piece - i) (drop i piece) ≡ piece = ap (λ (z : List ℕ). take i piece ++ z) (rest_is piece i) ∙ take-append-drop i piece in
+    subst (Breaks a c) e (breaks_later a b c (take i piece) (take (length piece - i) (drop i piece)) p q)
+
+pub rest_some : (piece : List ℕ) (i : ℕ) → i < length piece → 0 < length (take (length piece - i) (drop i piece))
+rest_some piece i h = let e = ap length (rest_is piece i) in omega (arith, length-drop i piece)
+
+-- WHAT A LENDER GETS BACK
+
+loans_end : (W : Type 0) (z v : W) (given back : ℕ) (xs ys : List ℕ) → (given ≡ back → z ≡ v) → ◌≡◌ {A = List ℕ} (back ∷ ys) (given ∷ xs) → z ≡ v
+loans_end W z v given back xs ys h e = h (let k : given ≡ back = cc in k)
+
+lent_takes : (a b : Writer) (given back : ℕ) (text : List ℕ) → Takes (lent_writer given a) (lent_writer back b) text → Takes a b text
+lent_takes a b given back text p = record {
+  taken = p.taken;
+  told = p.told;
+  failures = p.failures;
+  calls = p.calls;
+  loans = let k = p.loans in cc;
+}
+
+lent_breaks : (a b : Writer) (given back : ℕ) (text : List ℕ) → Breaks (lent_writer given a) (lent_writer back b) text → Breaks a b text
+lent_breaks a b given back text p = record {
+  front = p.front;
+  behind = p.behind;
+  whole = p.whole;
+  taken = p.taken;
+  told = p.told;
+  failures = p.failures;
+  failed = p.failed;
+  calls = p.calls;
+  loans = let k = p.loans in cc;
+}
+
+-- a writer that was lent and given back holds what it held at the end of the loan
+pub lent_puts : {E W : Type 0} (seen : W → Writer) (a z v : W) (given back : ℕ) (text : List ℕ) (r : Result (Unit {0}) E) → (given ≡ back → z ≡ v) → Puts text r (lent_writer given (seen a)) (lent_writer back (seen v)) → Puts text r (seen a) (seen z)
+lent_puts {E} {W} seen a z v given back text (Ok u) h p =
+    subst (λ (x : W). Takes (seen a) (seen x) text) (sym (loans_end W z v given back (seen a).loans (seen v).loans h p.loans)) (lent_takes (seen a) (seen v) given back text p)
+lent_puts {E} {W} seen a z v given back text (Err e) h p =
+    subst (λ (x : W). Breaks (seen a) (seen x) text) (sym (loans_end W z v given back (seen a).loans (seen v).loans h p.loans)) (lent_breaks (seen a) (seen v) given back text p)

@@ -26,7 +26,7 @@ zero_case front b m n z e (inl h) = n h
 zero_case front b m n z e (inr h) = omega arith
 
 -- a group that goes on
-group : (b m : ℕ) (tail : List ℕ) → 128 ≤ b → b < 256 → 0 < m → IsNumber m tail → IsNumber (b - 128 + 128 * m) (b ∷ tail)
+pub group : (b m : ℕ) (tail : List ℕ) → 128 ≤ b → b < 256 → 0 < m → IsNumber m tail → IsNumber (b - 128 + 128 * m) (b ∷ tail)
 group b m [] p q z h = absurd h
 group b m (c ∷ tail) p q z h = (p, q, m, z, omega arith, h)
 

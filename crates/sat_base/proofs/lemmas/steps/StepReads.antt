@@ -173,7 +173,7 @@ pub answers_behind : (tag : ℕ) (old mid new : Source) (r : Result Step StepErr
 answers_behind tag old mid new (Ok step) p r = (tag ∷ r.0, passes_more old mid new (tag ∷ []) r.0 p r.1, spelled tag step r.0 r.2)
 answers_behind tag old mid new (Err errors.Cut) p r = (tag, r.0, passes_more old mid new (tag ∷ []) r.0 p r.1, (r.2.0, r.2.1, r.2.2, spelled tag r.2.0 (r.0 ++ r.2.1 ∷ r.2.2) r.2.3), r.3)
 answers_behind tag old mid new (Err errors.BadByte) p r = (tag ∷ r.0, r.1, passes_more old mid new (tag ∷ []) (r.0 ++ r.1 ∷ []) p r.2, (r.3.0, r.3.1, r.3.2, spelled tag r.3.0 (r.0 ++ r.3.1 ∷ r.3.2) r.3.3), λ o. r.4 (o.0, o.1, behind tag o.0 ((r.0 ++ r.1 ∷ []) ++ o.1) o.2))
-answers_behind tag old mid new (Err errors.Read) p r = faults_later old mid new (tag ∷ []) p r
+answers_behind tag old mid new (Err errors.Read) p r = (tag ∷ r.0, faults_later old mid new (tag ∷ []) r.0 p r.1, (r.2.0, r.2.1, r.2.2, spelled tag r.2.0 (r.0 ++ r.2.1 ∷ r.2.2) r.2.3))
 answers_behind tag old mid new (Err errors.OutOfMemory) p r = (tag, r.0, passes_more old mid new (tag ∷ []) r.0 p r.1, (r.2.0, r.2.1, spelled tag r.2.0 (r.0 ++ r.2.1) r.2.2))
 answers_behind tag old mid new (Err errors.Ends) p r = absurd r
 answers_behind tag old mid new (Err errors.HasFailed) p r = absurd r
@@ -252,3 +252,12 @@ one_reading (x ∷ xs) (y ∷ ys) text h k =
     let v : h.1 ≡ k.1 = cancel h.0 h.1 k.1 (u ∙ ap (λ (z : List ℕ). z ++ k.1) (sym p.0)) in
     let q = one_reading xs ys h.1 h.3 (subst (SpellsSteps ys) (sym v) k.3) in
     ap (λ (z : Step). z ∷ xs) p.1 ∙ ap (λ (z : List Step). y ∷ z) q
+
+-- no first byte
+pub answers_at_once : (e : StepError) (old new : Source) → NextByte (Err e) old new → Answers (Err e) old new
+answers_at_once errors.Read old new f = ([], f, (End, 13, [], ([], refl, refl)))
+answers_at_once errors.Ends old new f = absurd f
+answers_at_once errors.Cut old new f = absurd f
+answers_at_once errors.BadByte old new f = absurd f
+answers_at_once errors.OutOfMemory old new f = absurd f
+answers_at_once errors.HasFailed old new f = absurd f

@@ -11,13 +11,13 @@ use Rattle.sat_base.proofs.read_lists.both_lists.Goals as goal
 
 pub returns-in_err-literals : goal.returns-in_err-literals
 returns-in_err-literals g c =
-    let S = source_of g.R.Read.remaining g.R.CountedRead.given g.R.CountedRead.ended g.R.CountedRead.failures g.R.CountedRead.calls in
+    let S = source_of g.R.CountedRead.seen in
     let p = err_from_is_err_and c.from_residual.result c.from_residual.ensures.1 in
     rw (p.1, p.2) (first_fails AreLiterals (λ _. AreHashes) one_literals (λ _. some_list (IsBelow (2 ^ 64))) c.in_err-literals.field-0.0 (S c.args.reader.now c.args.ahead.now) (S c.literals.new.reader c.literals.new.ahead) c.in_err-literals.ensures)
 
 pub returns : goal.returns
 returns g c =
-    let S = source_of g.R.Read.remaining g.R.CountedRead.given g.R.CountedRead.ended g.R.CountedRead.failures g.R.CountedRead.calls in
+    let S = source_of g.R.CountedRead.seen in
     let lits = c.literals.new.lits.items in
     let hs = c.hashes.new.hashes.items in
     let k = c.in_ok-literals.ensures in

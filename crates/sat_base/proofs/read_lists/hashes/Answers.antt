@@ -8,11 +8,11 @@ use Rattle.sat_base.proofs.read_lists.hashes.Goals as goal
 
 pub returns-in_err-count : goal.returns-in_err-count
 returns-in_err-count g c =
-    let S = source_of g.R.Read.remaining g.R.CountedRead.given g.R.CountedRead.ended g.R.CountedRead.failures g.R.CountedRead.calls in
+    let S = source_of g.R.CountedRead.seen in
     let p = err_from_is_err_and c.from_residual.result c.from_residual.ensures.1 in
     rw (p.1, p.2) (list_fails (IsBelow (2 ^ 64)) (IsBelow (2 ^ 64)) (one_below (2 ^ 64)) (some_below (2 ^ 64) (omega arith)) c.in_err-count.field-0.0 (S c.args.reader.now c.args.ahead.now) (S c.number.new.reader c.number.new.ahead) c.in_err-count.ensures)
 
 pub returns : goal.returns
 returns g c =
-    let S = source_of g.R.Read.remaining g.R.CountedRead.given g.R.CountedRead.ended g.R.CountedRead.failures g.R.CountedRead.calls in
+    let S = source_of g.R.CountedRead.seen in
     list_gives (IsBelow (2 ^ 64)) (IsBelow (2 ^ 64)) (one_below (2 ^ 64)) c.in_ok-count.count (S c.args.reader.now c.args.ahead.now) (S c.number.new.reader c.number.new.ahead) (S c.hash_items.new.reader c.hash_items.new.ahead) c.in_ok-count.ensures (giving c.hash_items.new.hashes.items c.hash_items.result) c.hash_items.ensures

@@ -9,19 +9,19 @@ use Rattle.sat_base.proofs.read_lists.unit.Goals as goal
 
 pub returns-in_err-lit : goal.returns-in_err-lit
 returns-in_err-lit g c =
-    let S = source_of g.R.Read.remaining g.R.CountedRead.given g.R.CountedRead.ended g.R.CountedRead.failures g.R.CountedRead.calls in
+    let S = source_of g.R.CountedRead.seen in
     let p = err_from_is_err_and c.from_residual.result c.from_residual.ensures.1 in
     rw (p.1, p.2) (first_fails IsLiteral (λ _. IsHash) (one_below (2 * largest)) (λ _. some_below (2 ^ 64) (omega arith)) c.in_err-lit.field-0.0 (S c.args.reader.now c.args.ahead.now) (S c.literal.new.reader c.literal.new.ahead) c.in_err-lit.ensures)
 
 pub returns-in_err-hash : goal.returns-in_err-hash
 returns-in_err-hash g c =
-    let S = source_of g.R.Read.remaining g.R.CountedRead.given g.R.CountedRead.ended g.R.CountedRead.failures g.R.CountedRead.calls in
+    let S = source_of g.R.CountedRead.seen in
     let p = err_from_is_err_and c.from_residual-in_err-hash.result c.from_residual-in_err-hash.ensures.1 in
     let k = c.in_ok-lit.ensures in
     rw (p.1, p.2) (second_gives IsLiteral (λ _. IsHash) (one_below (2 * largest)) c.in_ok-lit.lit k.0 (S c.args.reader.now c.args.ahead.now) (S c.literal.new.reader c.literal.new.ahead) (S c.number.new.reader c.number.new.ahead) k.2 k.1 (Err c.in_err-hash.field-0.0) c.in_err-hash.ensures)
 
 pub returns : goal.returns
 returns g c =
-    let S = source_of g.R.Read.remaining g.R.CountedRead.given g.R.CountedRead.ended g.R.CountedRead.failures g.R.CountedRead.calls in
+    let S = source_of g.R.CountedRead.seen in
     let k = c.in_ok-lit.ensures in
     second_gives IsLiteral (λ _. IsHash) (one_below (2 * largest)) c.in_ok-lit.lit k.0 (S c.args.reader.now c.args.ahead.now) (S c.literal.new.reader c.literal.new.ahead) (S c.number.new.reader c.number.new.ahead) k.2 k.1 (Ok c.in_ok-hash.hash) c.in_ok-hash.ensures

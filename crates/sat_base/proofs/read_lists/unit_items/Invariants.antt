@@ -6,4 +6,4 @@ use Rattle.sat_base.proofs.lemmas.steps.FormatReads.{Counted}
 use Rattle.sat_base.proofs.read_lists.unit_items.Given as goal
 
 abbrev pub invariant-loop : goal.invariant-loop
-invariant-loop g l = Counted (Both IsLiteral IsHash) l.count (l.count - l.counter) l.units.items (source_of g.R.Read.remaining g.R.CountedRead.given g.R.CountedRead.ended g.R.CountedRead.failures g.R.CountedRead.calls l.fn.reader l.fn.ahead) (source_of g.R.Read.remaining g.R.CountedRead.given g.R.CountedRead.ended g.R.CountedRead.failures g.R.CountedRead.calls l.reader l.ahead)
+invariant-loop g l = Counted (Both IsLiteral IsHash) l.count (l.count - l.counter) l.units.items (source_of g.R.CountedRead.seen l.fn.reader l.fn.ahead) (source_of g.R.CountedRead.seen l.reader l.ahead)

@@ -11,11 +11,11 @@ use Rattle.sat_base.proofs.read_lists.units.Goals as goal
 
 pub returns-in_err-count : goal.returns-in_err-count
 returns-in_err-count g c =
-    let S = source_of g.R.Read.remaining g.R.CountedRead.given g.R.CountedRead.ended g.R.CountedRead.failures g.R.CountedRead.calls in
+    let S = source_of g.R.CountedRead.seen in
     let p = err_from_is_err_and c.from_residual.result c.from_residual.ensures.1 in
     rw (p.1, p.2) (list_fails (IsBelow (2 ^ 64)) (Both IsLiteral IsHash) (one_below (2 ^ 64)) some_unit c.in_err-count.field-0.0 (S c.args.reader.now c.args.ahead.now) (S c.number.new.reader c.number.new.ahead) c.in_err-count.ensures)
 
 pub returns : goal.returns
 returns g c =
-    let S = source_of g.R.Read.remaining g.R.CountedRead.given g.R.CountedRead.ended g.R.CountedRead.failures g.R.CountedRead.calls in
+    let S = source_of g.R.CountedRead.seen in
     list_gives (IsBelow (2 ^ 64)) (Both IsLiteral IsHash) (one_below (2 ^ 64)) c.in_ok-count.count (S c.args.reader.now c.args.ahead.now) (S c.number.new.reader c.number.new.ahead) (S c.unit_items.new.reader c.unit_items.new.ahead) c.in_ok-count.ensures (giving c.unit_items.new.units.items c.unit_items.result) c.unit_items.ensures

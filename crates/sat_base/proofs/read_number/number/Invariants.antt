@@ -4,7 +4,7 @@ use Rattle.sat_base.proofs.lemmas.device.ReadLemmas.{Groups}
 use Rattle.sat_base.proofs.read_number.number.Given as goal
 
 abbrev pub invariant-loop-byte : goal.invariant-loop-byte
-invariant-loop-byte g l = Groups l.limit l.value l.place (source_of g.R.Read.remaining g.R.CountedRead.given g.R.CountedRead.ended g.R.CountedRead.failures g.R.CountedRead.calls l.fn.reader l.fn.ahead) (source_of g.R.Read.remaining g.R.CountedRead.given g.R.CountedRead.ended g.R.CountedRead.failures g.R.CountedRead.calls l.reader l.ahead)
+invariant-loop-byte g l = Groups l.limit l.value l.place (source_of g.R.CountedRead.seen l.fn.reader l.fn.ahead) (source_of g.R.CountedRead.seen l.reader l.ahead)
 
 abbrev pub decreases-loop-byte : goal.decreases-loop-byte
 decreases-loop-byte g l = l.limit - l.place

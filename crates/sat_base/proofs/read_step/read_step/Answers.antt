@@ -1,19 +1,26 @@
 use Rattle.std.proofs.Common.{rules}
+use Rattle.std.proofs.lemmas.Result.{err_from_is_err_and}
 use Rattle.sat_base.specs.device.Reading.{source_of, valued}
 use Rattle.sat_base.specs.steps.Kinds.{step_with}
-use Rattle.sat_base.proofs.lemmas.steps.StepReads.{some_byte, unknown_tag, answers_behind}
+use Rattle.sat_base.proofs.lemmas.steps.StepReads.{some_byte, unknown_tag, answers_behind, answers_at_once}
 use Rattle.sat_base.proofs.read_step.read_step.Goals as goal
+
+pub returns-in_err-next_byte : goal.returns-in_err-next_byte
+returns-in_err-next_byte g c =
+    let S = source_of g.R.CountedRead.seen in
+    let p = err_from_is_err_and c.from_residual.result c.from_residual.ensures.1 in
+    rw (p.1, p.2) (answers_at_once c.in_err-next_byte.field-0.0 (S c.args.reader.now c.args.ahead.now) (S c.next_byte.new.reader c.next_byte.new.ahead) c.in_err-next_byte.ensures)
 
 pub returns-then-not-is_tag : goal.returns-then-not-is_tag
 returns-then-not-is_tag g c =
-    let S = source_of g.R.Read.remaining g.R.CountedRead.given g.R.CountedRead.ended g.R.CountedRead.failures g.R.CountedRead.calls in
+    let S = source_of g.R.CountedRead.seen in
     let t = c.in-Some.tag in
     let p = some_byte t c.in_ok-next_byte.field-0 (S c.args.reader.now c.args.ahead.now) (S c.next_byte.new.reader c.next_byte.new.ahead) c.in-Some.is c.in_ok-next_byte.ensures in
     unknown_tag t (S c.args.reader.now c.args.ahead.now) (S c.next_byte.new.reader c.next_byte.new.ahead) (search rules) p
 
 pub returns-else-not-is_tag : goal.returns-else-not-is_tag
 returns-else-not-is_tag g c =
-    let S = source_of g.R.Read.remaining g.R.CountedRead.given g.R.CountedRead.ended g.R.CountedRead.failures g.R.CountedRead.calls in
+    let S = source_of g.R.CountedRead.seen in
     let t = c.in-Some.tag in
     let p = some_byte t c.in_ok-next_byte.field-0 (S c.args.reader.now c.args.ahead.now) (S c.next_byte.new.reader c.next_byte.new.ahead) c.in-Some.is c.in_ok-next_byte.ensures in
     let lists = c.fields.new.lists in

@@ -1,50 +1,57 @@
-use Rattle.std.proofs.Common.{ℕ, List, ◌++◌, inl, inr, ap, ◌∙◌, append_assoc, take, rules}
+use Rattle.std.proofs.Common.{[], ◌++◌, Ok, Err, refl, ap, ◌∙◌, take, rules, arith}
 use Rattle.std.proofs.lemmas.Result.{err_from_is_err_and}
-use Rattle.sat_base.specs.device.Device.{GaveAll}
-use Rattle.sat_base.specs.dimacs.Parsing.{Progress}
-use Rattle.sat_base.proofs.lemmas.device.Known.{consumes_more}
-use Rattle.sat_base.proofs.lemmas.dimacs.Parsed.{parse_stops, stops_on, ends_by, stands_of, consumed_still}
+use Rattle.sat_base.specs.dimacs.Parsing.{Progress, Parses, with_fed}
+use Rattle.sat_base.proofs.lemmas.device.Given.{gave_none, gave_more, gave_still, gave_to_end, not_ended, enough_all, enough_front}
+use Rattle.sat_base.proofs.lemmas.dimacs.Parsed.{stops_on, ends_by, stands_of}
 use Rattle.sat_base.proofs.dimacs.DimacsParser.parse.Goals as goal
 
-pub returns-in_err-feed-in-Ok-clause-parsed : goal.returns-in_err-feed-in-Ok-clause-parsed
-returns-in_err-feed-in-Ok-clause-parsed g c =
-    let p = err_from_is_err_and c.from_residual-in_err-feed-in-Ok.result c.from_residual-in_err-feed-in-Ok.ensures.1 in
+pub loop-init : goal.loop-init
+loop-init g c = record { bytes = ([], c.new-parser.ensures, gave_none _); open_yet = λ h. absurd (omega arith); failures = refl; calls = omega arith }
+
+pub loop-preserved : goal.loop-preserved
+loop-preserved g c =
+    let S = g.R.CountedRead.seen in
     let b = c.loop.invariant.bytes in
-    rw (p.1, p.2) (parse_stops (g.R.Read.remaining c.args.reader.now) (g.R.Read.remaining c.loop.reader) (g.R.Read.remaining c.read_counted.new.self) c.in_err-feed-in-Ok.field-0.0 b.0 (take c.in-Ok.count c.read_counted.new.buf) c.loop.parser c.feed.new.self b.1
-    c.in_err-feed-in-Ok.ensures.answer b.2 c.in-Ok.ensures.bytes.0)
+    let piece = take c.in-Ok.count c.read_counted.new.buf in
+    let once = c.in-Ok.ensures.once in
+    record {
+      bytes = (b.0 ++ piece, c.in_ok-feed-in-Ok.ensures.answer.1 ∙ ap (λ (k : Progress). with_fed piece k) b.1, gave_more (S c.args.reader.now) (S c.loop.reader) (S c.read_counted.new.self) b.0 c.in-Ok.count c.read_counted.new.buf b.2 once);
+      open_yet = λ h. not_ended (S c.loop.reader) (S c.read_counted.new.self) c.in-Ok.count c.read_counted.new.buf once (search rules);
+      failures = once.failures.0 ∙ c.loop.invariant.failures;
+      calls = omega (arith, once.calls, c.loop.invariant.calls);
+    }
+
+pub returns-in-Ok-eq0-clause-given : goal.returns-in-Ok-eq0-clause-given
+returns-in-Ok-eq0-clause-given g c =
+    let S = g.R.CountedRead.seen in
+    let b = c.loop.invariant.bytes in
+    let all = gave_to_end (S c.args.reader.now) (S c.loop.reader) (S c.read_counted.new.self) b.0 c.in-Ok-eq0.field-0 c.read_counted.new.buf b.2 c.in-Ok-eq0.ensures.once (search rules) (search rules) in
+    enough_all _ _ (Parses (Ok c.take_formula.result)) b.0 all (search rules)
 
 pub returns-in_err-finish-in-Ok-eq0-clause-given : goal.returns-in_err-finish-in-Ok-eq0-clause-given
 returns-in_err-finish-in-Ok-eq0-clause-given g c =
+    let S = g.R.CountedRead.seen in
     let p = err_from_is_err_and c.from_residual.result c.from_residual.ensures.1 in
     let b = c.loop.invariant.bytes in
-    let all : GaveAll g.R.CountedRead.given g.R.CountedRead.ended g.R.Read.remaining c.args.reader.now c.read_counted.new.self b.0 = search rules in
-    rw (p.1, p.2) (inl (b.0, all, ends_by c.in_err-finish-in-Ok-eq0.field-0.0 b.0 c.loop.parser c.finish.new.self (stands_of b.0 c.loop.parser b.1) c.in_err-finish-in-Ok-eq0.ensures))
+    let all = gave_to_end (S c.args.reader.now) (S c.loop.reader) (S c.read_counted.new.self) b.0 c.in-Ok-eq0.field-0 c.read_counted.new.buf b.2 c.in-Ok-eq0.ensures.once (search rules) (search rules) in
+    rw (p.1, p.2) (enough_all _ _ (Parses (Err c.in_err-finish-in-Ok-eq0.field-0.0)) b.0 all (ends_by c.in_err-finish-in-Ok-eq0.field-0.0 b.0 c.loop.parser c.finish.new.self (stands_of b.0 c.loop.parser b.1) c.in_err-finish-in-Ok-eq0.ensures))
 
 pub returns-in_err-feed-in-Ok-clause-given : goal.returns-in_err-feed-in-Ok-clause-given
 returns-in_err-feed-in-Ok-clause-given g c =
+    let S = g.R.CountedRead.seen in
     let p = err_from_is_err_and c.from_residual-in_err-feed-in-Ok.result c.from_residual-in_err-feed-in-Ok.ensures.1 in
     let b = c.loop.invariant.bytes in
     let piece = take c.in-Ok.count c.read_counted.new.buf in
-    rw (p.1, p.2) (inr (
-      b.0 ++ piece,
-      record {
-        gave = c.in-Ok.ensures.given ∙ ap (λ (xs : List ℕ). xs ++ piece) b.3 ∙ append_assoc (g.R.CountedRead.given c.args.reader.now) b.0 piece;
-        told = consumes_more (g.R.Read.remaining c.args.reader.now) (g.R.Read.remaining c.loop.reader) (g.R.Read.remaining c.read_counted.new.self) b.0 piece b.2 c.in-Ok.ensures.bytes.0;
-      },
-      λ rest. stops_on c.in_err-feed-in-Ok.field-0.0 b.0 piece c.loop.parser c.feed.new.self (ap (λ (k : Progress). k.fed) b.1) (ap (λ (k : Progress). k.stopped) b.1) c.in_err-feed-in-Ok.ensures.answer rest,
-    ))
+    let once = c.in-Ok.ensures.once in
+    rw (p.1, p.2) (enough_front _ _ (Parses (Err c.in_err-feed-in-Ok.field-0.0)) (b.0 ++ piece) (gave_more (S c.args.reader.now) (S c.loop.reader) (S c.read_counted.new.self) b.0 c.in-Ok.count c.read_counted.new.buf b.2 once)
+    (not_ended (S c.loop.reader) (S c.read_counted.new.self) c.in-Ok.count c.read_counted.new.buf once (search rules))
+    (λ rest. stops_on c.in_err-feed-in-Ok.field-0.0 b.0 piece c.loop.parser c.feed.new.self (ap (λ (k : Progress). k.fed) b.1) (ap (λ (k : Progress). k.stopped) b.1) c.in_err-feed-in-Ok.ensures.answer rest))
 
 pub returns-in-Err-clause-given : goal.returns-in-Err-clause-given
 returns-in-Err-clause-given g c =
+    let S = g.R.CountedRead.seen in
     let b = c.loop.invariant.bytes in
-    inr (
-      b.0,
-      record {
-        gave = c.in-Err.ensures.given ∙ b.3;
-        told = consumed_still (g.R.Read.remaining c.args.reader.now) (g.R.Read.remaining c.loop.reader) (g.R.Read.remaining c.read_counted.new.self) b.0 b.2 c.in-Err.ensures.bytes;
-      },
-      λ rest. tt,
-    )
+    enough_front _ _ _ b.0 (gave_still _ (S c.args.reader.now) (S c.loop.reader) (S c.read_counted.new.self) b.0 c.read_counted.new.buf b.2 c.in-Err.ensures.once) c.in-Err.ensures.once.ended (λ rest. tt)
 
 pub returns-clause-given : goal.returns-clause-given
-returns-clause-given g c = let b = c.loop.invariant.bytes in inr (b.0, record { gave = b.3; told = b.2 }, λ rest. tt)
+returns-clause-given g c = let b = c.loop.invariant.bytes in enough_front _ _ _ b.0 b.2 (c.loop.invariant.open_yet (omega arith)) (λ rest. tt)

@@ -9,20 +9,20 @@ use Rattle.sat_base.proofs.read_step.groups.flag_and_lists.Goals as goal
 
 pub returns-in_err-flag : goal.returns-in_err-flag
 returns-in_err-flag g c =
-    let S = source_of g.R.Read.remaining g.R.CountedRead.given g.R.CountedRead.ended g.R.CountedRead.failures g.R.CountedRead.calls in
+    let S = source_of g.R.CountedRead.seen in
     let p = err_from_is_err_and c.from_residual.result c.from_residual.ensures.1 in
     rw (p.1, p.2) (first_fails IsFlag (λ _. Both AreLiterals AreHashes) one_flag (λ _. some_lists) c.in_err-flag.field-0.0 (S c.args.reader.now c.args.ahead.now) (S c.flag.new.reader c.flag.new.ahead) c.in_err-flag.ensures)
 
 pub returns-in_err-both_lists : goal.returns-in_err-both_lists
 returns-in_err-both_lists g c =
-    let S = source_of g.R.Read.remaining g.R.CountedRead.given g.R.CountedRead.ended g.R.CountedRead.failures g.R.CountedRead.calls in
+    let S = source_of g.R.CountedRead.seen in
     let p = err_from_is_err_and c.from_residual-in_err-both_lists.result c.from_residual-in_err-both_lists.ensures.1 in
     let k = c.in_ok-flag.ensures in
     rw (p.1, p.2) (second_gives IsFlag (λ _. Both AreLiterals AreHashes) one_flag c.in_ok-flag.flag k.0 (S c.args.reader.now c.args.ahead.now) (S c.flag.new.reader c.flag.new.ahead) (S c.both_lists.new.reader c.both_lists.new.ahead) k.2 k.1 (Err c.in_err-both_lists.field-0.0) c.in_err-both_lists.ensures)
 
 pub returns : goal.returns
 returns g c =
-    let S = source_of g.R.Read.remaining g.R.CountedRead.given g.R.CountedRead.ended g.R.CountedRead.failures g.R.CountedRead.calls in
+    let S = source_of g.R.CountedRead.seen in
     let k = c.in_ok-flag.ensures in
     let lists = c.both_lists.new.lists in
     second_gives IsFlag (λ _. Both AreLiterals AreHashes) one_flag c.in_ok-flag.flag k.0 (S c.args.reader.now c.args.ahead.now) (S c.flag.new.reader c.flag.new.ahead) (S c.both_lists.new.reader c.both_lists.new.ahead) k.2 k.1 (Ok (lists.literals.items, lists.hashes.items)) c.in_ok-both_lists.ensures

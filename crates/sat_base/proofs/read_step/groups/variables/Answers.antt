@@ -10,19 +10,19 @@ use Rattle.sat_base.proofs.read_step.groups.variables.Goals as goal
 
 pub returns-in_err-first : goal.returns-in_err-first
 returns-in_err-first g c =
-    let S = source_of g.R.Read.remaining g.R.CountedRead.given g.R.CountedRead.ended g.R.CountedRead.failures g.R.CountedRead.calls in
+    let S = source_of g.R.CountedRead.seen in
     let p = err_from_is_err_and c.from_residual.result c.from_residual.ensures.1 in
     rw (p.1, p.2) (first_fails IsVariable (λ _. IsOptionalVariable) (one_below largest) (λ _. some_optional) c.in_err-first.field-0.0 (S c.args.reader.now c.args.ahead.now) (S c.variable.new.reader c.variable.new.ahead) c.in_err-first.ensures)
 
 pub returns-in_err-second : goal.returns-in_err-second
 returns-in_err-second g c =
-    let S = source_of g.R.Read.remaining g.R.CountedRead.given g.R.CountedRead.ended g.R.CountedRead.failures g.R.CountedRead.calls in
+    let S = source_of g.R.CountedRead.seen in
     let p = err_from_is_err_and c.from_residual-in_err-second.result c.from_residual-in_err-second.ensures.1 in
     let k = c.in_ok-first.ensures in
     rw (p.1, p.2) (second_gives IsVariable (λ _. IsOptionalVariable) (one_below largest) c.in_ok-first.first k.0 (S c.args.reader.now c.args.ahead.now) (S c.variable.new.reader c.variable.new.ahead) (S c.optional.new.reader c.optional.new.ahead) k.2 k.1 (Err c.in_err-second.field-0.0) c.in_err-second.ensures)
 
 pub returns : goal.returns
 returns g c =
-    let S = source_of g.R.Read.remaining g.R.CountedRead.given g.R.CountedRead.ended g.R.CountedRead.failures g.R.CountedRead.calls in
+    let S = source_of g.R.CountedRead.seen in
     let k = c.in_ok-first.ensures in
     second_gives IsVariable (λ _. IsOptionalVariable) (one_below largest) c.in_ok-first.first k.0 (S c.args.reader.now c.args.ahead.now) (S c.variable.new.reader c.variable.new.ahead) (S c.optional.new.reader c.optional.new.ahead) k.2 k.1 (Ok c.in_ok-second.second) c.in_ok-second.ensures

@@ -5,6 +5,6 @@ use Rattle.sat_base.proofs.read_step.values.optional.Goals as goal
 
 pub returns-in_err-above : goal.returns-in_err-above
 returns-in_err-above g c =
-    let S = source_of g.R.Read.remaining g.R.CountedRead.given g.R.CountedRead.ended g.R.CountedRead.failures g.R.CountedRead.calls in
+    let S = source_of g.R.CountedRead.seen in
     let p = err_from_is_err_and c.from_residual.result c.from_residual.ensures.1 in
     rw (p.1, p.2) (optional_fails c.in_err-above.field-0.0 (S c.args.reader.now c.args.ahead.now) (S c.number.new.reader c.number.new.ahead) c.in_err-above.ensures)

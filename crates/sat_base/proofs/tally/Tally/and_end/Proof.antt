@@ -1,5 +1,5 @@
--- `and_end` makes the tally after one call more, which gave nothing though there was room.
-use Rattle.std.proofs.Common.{[], ◌∷◌, ◌+◌, true, refl}
+-- `and_end` makes the tally after one call more, which found the end.
+use Rattle.std.proofs.Common.{[], ◌∷◌, ◌+◌, true, false, refl}
 use Rattle.std.proofs.raw_atomic.Walks.{proved}
 use mir.Syntax.{named}
 use types.Kit.{‵, raw, ◌⊛◌, ◌$◌, ◌∵◌, !, qed, done, move, keep, split, join, fjoin, suffices}
@@ -32,12 +32,12 @@ and_end_spec 𝓤 𝓛 𝓜 𝓡 wired =
     (λ κs. (shr_vals, tt)) (λ κs. (shr_Tells (named 0) κs.0 tally.the_row, tt)) (λ κs qs bounds a _ are.
     let vs = shr_vals a.0 in
     let y : W.Ghost = ((κs, qs, bounds, a, (vs, tt)), tt) in
-    let made : (tally.the_row).Denot = record { calls = a.0.now.calls + 1; failures = a.0.now.failures; given = a.0.now.given; ended = true } in
+    let made : (tally.the_row).Denot = record { calls = a.0.now.calls + 1; failures = a.0.now.failures; given = a.0.now.given; taken = a.0.now.taken; ended = true; flushed = false; failed = false } in
     qed 𝓛 ((raw (alive 𝓛 f.signature κs qs) ⊛ ‵ (owns (types_at f.signature.params κs) a (vs, tt))) ∷ ‵ ftrue ∷ []) ∵
     split ! $ keep ! (0 ∷ []) $
     enter ! _ _ _ _ _ $ alloc_all ! (λ l. pass_all ! refl ((tt, tt), tt) $
     sets ! (agg ! (no_more !)) refl (tt, tt) $
     nothing ! $ makes_empty ! $ fjoin ! $
     returns ! (look_at ! 0 refl) $ free_all ! refl $
-    suffices ! _ (ends_at 𝓛 f.ended stayed c y no_bytes made (tt, tt) (tt, tt)) $ says ! (refl, refl, refl, refl) $
+    suffices ! _ (ends_at 𝓛 f.ended stayed c y no_bytes made (tt, tt) (tt, tt)) $ says ! refl $
     nothing ! $ nothing ! $ join ! $ move ! (2 ∷ 0 ∷ 1 ∷ []) $ done !))

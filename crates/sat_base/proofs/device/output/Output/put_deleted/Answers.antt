@@ -1,0 +1,20 @@
+use Rattle.std.proofs.lemmas.Result.{err_from_is_err_and}
+use Rattle.sat_base.specs.device.Sink.{sink_of}
+use Rattle.sat_base.specs.steps.StepBytes.{list_bytes, deletion_bytes}
+use Rattle.sat_base.specs.steps.StepViews.{deletion_of}
+use Rattle.sat_base.specs.steps.StepText.{AreLiterals, IsDeletion}
+use Rattle.sat_base.proofs.lemmas.steps.NumberBytes.{both_written}
+use Rattle.sat_base.proofs.lemmas.device.Sending.{sends_stops}
+use Rattle.sat_base.proofs.device.output.Output.put_deleted.Goals as goal
+
+pub returns-in_err-put_literals : goal.returns-in_err-put_literals
+returns-in_err-put_literals g c =
+    let S = g.W.CountedWrite.seen in
+    let p = err_from_is_err_and c.from_residual.result c.from_residual.ensures.1 in
+    rw p.1 (sends_stops (sink_of S c.args.self.now) (sink_of S c.put_literals.new.self) (list_bytes c.args.clause.now) (deletion_bytes (deletion_of c.args.proof)) c.in_err-put_literals.ensures)
+
+pub returns : goal.returns
+returns g c =
+    let S = g.W.CountedWrite.seen in
+    let p = c.in_ok-put_literals.ensures in
+    both_written AreLiterals IsDeletion c.args.clause.now (deletion_of c.args.proof) (list_bytes c.args.clause.now) (deletion_bytes (deletion_of c.args.proof)) (sink_of S c.args.self.now) (sink_of S c.put_literals.new.self) (sink_of S c.put_deletion.new.self) c.put_deletion.result p.0 p.1 c.put_deletion.ensures

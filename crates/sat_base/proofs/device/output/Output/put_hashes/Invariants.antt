@@ -1,0 +1,8 @@
+use Rattle.std.proofs.Common.{drop}
+use Rattle.sat_base.specs.device.Sink.{sink_of}
+use Rattle.sat_base.specs.steps.StepBytes.{list_bytes, numbers_bytes}
+use Rattle.sat_base.proofs.lemmas.device.Sending.{SentOf}
+use Rattle.sat_base.proofs.device.output.Output.put_hashes.Given as goal
+
+abbrev pub invariant-loop-hash : goal.invariant-loop-hash
+invariant-loop-hash g l = SentOf (list_bytes l.hashes) (numbers_bytes (drop l.hash-index l.hashes)) (sink_of g.W.CountedWrite.seen l.fn.self) (sink_of g.W.CountedWrite.seen l.self)

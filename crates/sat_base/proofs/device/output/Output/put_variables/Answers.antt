@@ -1,0 +1,19 @@
+use Rattle.std.proofs.lemmas.Result.{err_from_is_err_and}
+use Rattle.sat_base.specs.device.Sink.{sink_of}
+use Rattle.sat_base.specs.steps.StepBytes.{number_bytes, optional_bytes}
+use Rattle.sat_base.specs.steps.StepText.{IsVariable, IsOptionalVariable}
+use Rattle.sat_base.proofs.lemmas.steps.NumberBytes.{both_written}
+use Rattle.sat_base.proofs.lemmas.device.Sending.{sends_stops}
+use Rattle.sat_base.proofs.device.output.Output.put_variables.Goals as goal
+
+pub returns-in_err-put_variable : goal.returns-in_err-put_variable
+returns-in_err-put_variable g c =
+    let S = g.W.CountedWrite.seen in
+    let p = err_from_is_err_and c.from_residual.result c.from_residual.ensures.1 in
+    rw p.1 (sends_stops (sink_of S c.args.self.now) (sink_of S c.put_variable.new.self) (number_bytes c.args.first) (optional_bytes c.args.second) c.in_err-put_variable.ensures)
+
+pub returns : goal.returns
+returns g c =
+    let S = g.W.CountedWrite.seen in
+    let p = c.in_ok-put_variable.ensures in
+    both_written IsVariable IsOptionalVariable c.args.first c.args.second (number_bytes c.args.first) (optional_bytes c.args.second) (sink_of S c.args.self.now) (sink_of S c.put_variable.new.self) (sink_of S c.put_optional.new.self) c.put_optional.result p.0 p.1 c.put_optional.ensures

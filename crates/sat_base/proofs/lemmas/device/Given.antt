@@ -1,0 +1,85 @@
+-- What a reader gave, read by read.
+use Rattle.std.proofs.Common.{◌≡◌, ℕ, ◌<◌, Bool, true, false, List, [], ◌++◌, length, take, nat_eq, nat_lt, ◌&&◌, Option, Some, None, Ok, Err, append_assoc, refl, sym, ap, subst, ◌∙◌, arith}
+use Rattle.std.proofs.lemmas.List.{append-nil}
+use Rattle.std.proofs.lemmas.Grind.{common_steps}
+use Rattle.std.specs.Prelude.{IfSome}
+use Rattle.std.specs.Io.KnownBytes.{Consumes, Keeps, IsAtEnd}
+use Rattle.sat_base.specs.device.Device.{Reader, ReadsOnce, GaveFront, GaveAll, GaveEnough}
+use Rattle.sat_base.proofs.lemmas.device.Known.{consumes_none, consumes_more}
+
+pub gave_none : (r : Reader) → GaveFront r r []
+gave_none r = record { gave = sym (append-nil r.given); told = consumes_none r.to_come; loans = refl }
+
+-- a read more
+pub gave_more : {E : Type 0} (a b c : Reader) (xs : List ℕ) (n : ℕ) (room : List ℕ) → GaveFront a b xs → ReadsOnce {E = E} (Ok n) room b c → GaveFront a c (xs ++ take n room)
+gave_more a b c xs n room p r = record {
+  gave = r.given ∙ ap (λ (z : List ℕ). z ++ take n room) p.gave ∙ append_assoc a.given xs (take n room);
+  told = consumes_more a.to_come b.to_come c.to_come xs (take n room) p.told r.told.0;
+  loans = r.loans ∙ p.loans;
+}
+
+consumed_still : (a b c : Option (List ℕ)) (xs : List ℕ) → Consumes a b xs → Keeps b c → Consumes a c xs
+consumed_still None b c xs h k = tt
+consumed_still (Some s) None c xs h k = absurd h
+consumed_still (Some s) (Some t) None xs h k = absurd k
+consumed_still (Some s) (Some t) (Some u) xs h k = h ∙ ap (λ (z : List ℕ). xs ++ z) (sym k)
+
+-- a failed one
+pub gave_still : {E : Type 0} (e : E) (a b c : Reader) (xs room : List ℕ) → GaveFront a b xs → ReadsOnce {E = E} (Err e) room b c → GaveFront a c xs
+gave_still e a b c xs room p r = record {
+  gave = r.given ∙ p.gave;
+  told = consumed_still a.to_come b.to_come c.to_come xs p.told r.told;
+  loans = r.loans ∙ p.loans;
+}
+
+gave_nothing : {E : Type 0} (a b c : Reader) (xs : List ℕ) (n : ℕ) (room : List ℕ) → GaveFront a b xs → ReadsOnce {E = E} (Ok n) room b c → n ≡ 0 → GaveFront a c xs
+gave_nothing a b c xs n room p r e =
+    let f : xs ++ take n room ≡ xs = ap (λ (k : ℕ). xs ++ take k room) e ∙ append-nil xs in
+    subst (GaveFront a c) f (gave_more a b c xs n room p r)
+
+at_end : (n : ℕ) (room : List ℕ) → n ≡ 0 → 0 < length room → (nat_eq n 0 && nat_lt 0 (length room)) ≡ true
+at_end n room e h = grind (arith, common_steps)
+
+not_at_end : (n : ℕ) (room : List ℕ) → 0 < n → (nat_eq n 0 && nat_lt 0 (length room)) ≡ false
+not_at_end n room h = grind (arith, common_steps)
+
+-- one that found the end
+pub gave_to_end : {E : Type 0} (a b c : Reader) (xs : List ℕ) (n : ℕ) (room : List ℕ) → GaveFront a b xs → ReadsOnce {E = E} (Ok n) room b c → n ≡ 0 → 0 < length room → GaveAll a c xs
+gave_to_end a b c xs n room p r e h =
+    let g = gave_nothing a b c xs n room p r e in
+    record { gave = g.gave; ends = r.ended ∙ at_end n room e h; told = g.told; over = r.told.1 e h; loans = g.loans }
+
+pub not_ended : {E : Type 0} (b c : Reader) (n : ℕ) (room : List ℕ) → ReadsOnce {E = E} (Ok n) room b c → 0 < n → c.ended ≡ false
+not_ended b c n room r h = r.ended ∙ not_at_end n room h
+
+-- WHAT WAS GIVEN DECIDES
+
+pub is_over : (a c : Reader) (xs : List ℕ) → GaveAll a c xs → c.ended ≡ true → IsAtEnd c.to_come
+is_over a c xs g e = g.over
+
+pub still_open : (c : Reader) (T : Type 0) → c.ended ≡ false → c.ended ≡ true → T
+still_open c T h e = absurd (let k : ◌≡◌ {A = Bool} true false = sym e ∙ h in cc)
+
+pub enough_all : (a c : Reader) (P : List ℕ → Type 0) (xs : List ℕ) → GaveAll a c xs → P xs → GaveEnough a c P
+enough_all a c P xs g p = record {
+  text = xs;
+  front = record { gave = g.gave; told = g.told; loans = g.loans };
+  over = is_over a c xs g;
+  holds = λ rest f. subst P (sym (ap (λ (z : List ℕ). xs ++ z) (f g.ends) ∙ append-nil xs)) p;
+}
+
+pub enough_front : (a c : Reader) (P : List ℕ → Type 0) (xs : List ℕ) → GaveFront a c xs → c.ended ≡ false → ((rest : List ℕ) → P (xs ++ rest)) → GaveEnough a c P
+enough_front a c P xs g e p = record { text = xs; front = g; over = still_open c (IsAtEnd c.to_come) e; holds = λ rest f. p rest }
+
+rest_ends : (k : Option (List ℕ)) (rest : List ℕ) → k ≡ Some rest → IsAtEnd k → rest ≡ []
+rest_ends None rest h o = absurd cc
+rest_ends (Some xs) rest h o = let j : xs ≡ rest = cc in sym j ∙ o
+
+told_of : (s t : Option (List ℕ)) (xs : List ℕ) (P : List ℕ → Type 0) → Consumes s t xs → ((rest : List ℕ) → t ≡ Some rest → P (xs ++ rest)) → IfSome s P
+told_of None t xs P h k = tt
+told_of (Some all) None xs P h k = absurd h
+told_of (Some all) (Some rest) xs P h k = subst P (sym h) (k rest refl)
+
+-- where the reader tells its bytes, it is so of all that there were
+pub enough_told : (a c : Reader) (P : List ℕ → Type 0) → GaveEnough a c P → IfSome a.to_come P
+enough_told a c P g = told_of a.to_come c.to_come g.text P g.front.told (λ rest h. g.holds rest (λ e. rest_ends c.to_come rest h (g.over e)))

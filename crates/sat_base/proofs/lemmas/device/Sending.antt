@@ -1,0 +1,132 @@
+-- What is sent through bytes that wait.
+use Rattle.std.proofs.Common.{◌≡◌, ℕ, List, [], ◌∷◌, ◌++◌, take, Result, Ok, Err, append_assoc, refl, sym, ap, subst, ◌∙◌}
+use Rattle.std.proofs.lemmas.List.{append-nil}
+use Rattle.std.specs.Borrow.{MutBor}
+use Rattle.std.specs.Prelude.{OnOk}
+use Rattle.sat_base.specs.declared.device.output.Output.{Output}
+use Rattle.sat_base.specs.device.Device.{Writer, Takes, Breaks, Puts, lent_writer}
+use Rattle.sat_base.specs.device.Sink.{Sink, Sent, Sends, sink_of, empty_sink}
+use Rattle.sat_base.proofs.lemmas.device.Writes.{took_none, took_more, breaks_later, breaks_within, lent_puts}
+
+pub sent_none : (s : Sink) → Sent s s []
+sent_none s = record { fresh = []; flows = append-nil s.waiting; takes = took_none s.writer }
+
+flows_more : (a b c fs gs xs ys : List ℕ) → a ++ xs ≡ fs ++ b → b ++ ys ≡ gs ++ c → a ++ (xs ++ ys) ≡ (fs ++ gs) ++ c
+flows_more a b c fs gs xs ys h k = sym (append_assoc a xs ys) ∙ ap (λ (z : List ℕ). z ++ ys) h ∙ append_assoc fs b ys ∙ ap (λ (z : List ℕ). fs ++ z) k ∙ sym (append_assoc fs gs c)
+
+pub sent_more : (a b c : Sink) (xs ys : List ℕ) → Sent a b xs → Sent b c ys → Sent a c (xs ++ ys)
+sent_more a b c xs ys p q = record {
+  fresh = p.fresh ++ q.fresh;
+  flows = flows_more a.waiting b.waiting c.waiting p.fresh q.fresh xs ys p.flows q.flows;
+  takes = took_more a.writer b.writer c.writer p.fresh q.fresh p.takes q.takes;
+}
+
+-- a failure in the first part
+pub sends_stops : (a b : Sink) (xs ys : List ℕ) → Breaks a.writer b.writer (a.waiting ++ xs) → Breaks a.writer b.writer (a.waiting ++ (xs ++ ys))
+sends_stops a b xs ys q = subst (Breaks a.writer b.writer) (append_assoc a.waiting xs ys) (breaks_within a.writer b.writer (a.waiting ++ xs) ys q)
+
+-- and in a later one
+pub sends_breaks : (a b c : Sink) (xs ys : List ℕ) → Sent a b xs → Breaks b.writer c.writer (b.waiting ++ ys) → Breaks a.writer c.writer (a.waiting ++ (xs ++ ys))
+sends_breaks a b c xs ys p q =
+    let e : p.fresh ++ (b.waiting ++ ys) ≡ a.waiting ++ (xs ++ ys) = sym (append_assoc p.fresh b.waiting ys) ∙ ap (λ (z : List ℕ). z ++ ys) (sym p.flows) ∙ append_assoc a.waiting xs ys in
+    subst (Breaks a.writer c.writer) e (breaks_later a.writer b.writer c.writer p.fresh (b.waiting ++ ys) p.takes q)
+
+-- one part and then another
+pub sends_more : {E : Type 0} (a b c : Sink) (xs ys : List ℕ) (r : Result (Unit {0}) E) → Sent a b xs → Sends ys r b c → Sends (xs ++ ys) r a c
+sends_more a b c xs ys (Ok u) p w = sent_more a b c xs ys p w
+sends_more a b c xs ys (Err e) p w = sends_breaks a b c xs ys p w
+
+-- the same text in other words
+pub sends_same : {E : Type 0} (a b : Sink) (xs ys : List ℕ) (r : Result (Unit {0}) E) → xs ≡ ys → Sends xs r a b → Sends ys r a b
+sends_same a b xs ys r e w = subst (λ (z : List ℕ). Sends z r a b) e w
+
+-- all is out where nothing waited before and nothing waits now
+pub all_out : {E : Type 0} (a b : Sink) (xs : List ℕ) (r : Result (Unit {0}) E) → a.waiting ≡ [] → b.waiting ≡ [] → Sends xs r a b → Puts xs r a.writer b.writer
+all_out a b xs (Ok u) e f w =
+    let g : xs ≡ w.fresh = ap (λ (z : List ℕ). z ++ xs) (sym e) ∙ w.flows ∙ ap (λ (z : List ℕ). w.fresh ++ z) f ∙ append-nil w.fresh in
+    subst (Takes a.writer b.writer) (sym g) w.takes
+all_out a b xs (Err e) d f w = subst (λ (z : List ℕ). Breaks a.writer b.writer (z ++ xs)) d w
+
+-- a byte waits more
+pub byte_waits : (w : Writer) (xs ys : List ℕ) (byte : ℕ) (a : Sink) → Sent a (record { writer = w; waiting = xs }) [] → ys ≡ xs ++ byte ∷ [] → Sent a (record { writer = w; waiting = ys }) (byte ∷ [])
+byte_waits w xs ys byte a p e =
+    sent_more a (record { writer = w; waiting = xs }) (record { writer = w; waiting = ys }) [] (byte ∷ []) p (record { fresh = []; flows = sym e; takes = took_none w })
+
+-- a piece goes to the writer at once, where nothing waits
+pub sends_direct : {E : Type 0} (a : Sink) (v w : Writer) (piece : List ℕ) (n : ℕ) (bytes : List ℕ) (r : Result (Unit {0}) E) → n ≡ 0 → Sent a (record { writer = v; waiting = take n bytes }) [] → Puts piece r v w
+    → Sends piece r a (record { writer = w; waiting = take n bytes })
+sends_direct a v w piece n bytes (Ok u) e p q =
+    let f : take n bytes ≡ [] = ap (λ (k : ℕ). take k bytes) e in
+    sent_more a (record { writer = v; waiting = take n bytes }) (record { writer = w; waiting = take n bytes }) [] piece p
+    (record { fresh = piece; flows = ap (λ (z : List ℕ). z ++ piece) f ∙ sym (append-nil piece) ∙ ap (λ (z : List ℕ). piece ++ z) (sym f); takes = q })
+sends_direct a v w piece n bytes (Err x) e p q =
+    let f : take n bytes ≡ [] = ap (λ (k : ℕ). take k bytes) e in
+    sends_breaks a (record { writer = v; waiting = take n bytes }) (record { writer = w; waiting = take n bytes }) [] piece p (subst (λ (z : List ℕ). Breaks v w (z ++ piece)) (sym f) q)
+
+-- a piece waits more
+pub piece_waits : (w : Writer) (xs ys piece : List ℕ) (a : Sink) → Sent a (record { writer = w; waiting = xs }) [] → ys ≡ xs ++ piece → Sent a (record { writer = w; waiting = ys }) piece
+piece_waits w xs ys piece a p e =
+    sent_more a (record { writer = w; waiting = xs }) (record { writer = w; waiting = ys }) [] piece p (record { fresh = []; flows = sym e; takes = took_none w })
+
+-- PART BY PART
+
+-- a text of which a front was sent, and what is left of it
+pub record SentOf (text left : List ℕ) (old new : Sink) : Type 0 where
+  pub done : List ℕ
+  pub sent : Sent old new done
+  pub whole : done ++ left ≡ text
+
+pub of_none : (text : List ℕ) (s : Sink) → SentOf text text s s
+of_none text s = record { done = []; sent = sent_none s; whole = refl }
+
+-- the next part of it
+pub of_more : (text part left : List ℕ) (old mid new : Sink) → SentOf text (part ++ left) old mid → Sent mid new part → SentOf text left old new
+of_more text part left old mid new g p = record { done = g.done ++ part; sent = sent_more old mid new g.done part g.sent p; whole = append_assoc g.done part left ∙ g.whole }
+
+-- a failure at that part
+pub of_break : (text part left : List ℕ) (old mid new : Sink) → SentOf text (part ++ left) old mid → Breaks mid.writer new.writer (mid.waiting ++ part) → Breaks old.writer new.writer (old.waiting ++ text)
+of_break text part left old mid new g p =
+    subst (λ (z : List ℕ). Breaks old.writer new.writer (old.waiting ++ z)) g.whole (sends_breaks old mid new g.done (part ++ left) g.sent (sends_stops mid new part left p))
+
+-- the last part
+pub of_end : {E : Type 0} (text left : List ℕ) (old mid new : Sink) (r : Result (Unit {0}) E) → SentOf text left old mid → Sends left r mid new → Sends text r old new
+of_end text left old mid new r g w = sends_same old new (g.done ++ left) text r g.whole (sends_more old mid new g.done left r g.sent w)
+
+-- nothing is left
+pub of_all : (text left : List ℕ) (old new : Sink) → left ≡ [] → SentOf text left old new → Sent old new text
+of_all text left old new e g =
+    subst (Sent old new) (sym (append-nil g.done) ∙ ap (λ (z : List ℕ). g.done ++ z) (sym e) ∙ g.whole) g.sent
+
+-- the same rest in other words
+pub of_same : (text left more : List ℕ) (old new : Sink) → left ≡ more → SentOf text left old new → SentOf text more old new
+of_same text left more old new e g = subst (λ (z : List ℕ). SentOf text z old new) e g
+
+-- a failure in a part of a text
+pub stops_same : (a b : Sink) (xs ys text : List ℕ) → xs ++ ys ≡ text → Breaks a.writer b.writer (a.waiting ++ xs) → Breaks a.writer b.writer (a.waiting ++ text)
+stops_same a b xs ys text e q = subst (λ (z : List ℕ). Breaks a.writer b.writer (a.waiting ++ z)) e (sends_stops a b xs ys q)
+
+-- what waits is written out behind a text
+pub sends_last : {E : Type 0} (a b c : Sink) (xs : List ℕ) (r : Result (Unit {0}) E) → Sent a b xs → Sends [] r b c → Sends xs r a c
+sends_last a b c xs r p w = sends_same a c (xs ++ []) xs r (append-nil xs) (sends_more a b c xs [] r p w)
+
+pub ruleset sending = (sends_more, sends_stops)
+
+-- A LENT WRITER
+
+lent_none : {W : Type 0} {N : ℕ} (seen : W → Writer) (o : Output (MutBor W) N) → o.pending.len ≡ 0 → (sink_of (λ (w : MutBor W). lent_writer w.ghost_name (seen w.now)) o).waiting ≡ []
+lent_none seen o e = ap (λ (k : ℕ). take k o.pending.bytes) e
+
+-- what was sent through bytes of which none waits before and after was put
+pub lent_out : {E W : Type 0} {N : ℕ} (seen : W → Writer) (a z : W) (r : MutBor W) (first last : Output (MutBor W) N) (given : ℕ) (text : List ℕ) (result : Result (Unit {0}) E) → (given ≡ r.ghost_name → z ≡ r.now)
+    → sink_of (λ (w : MutBor W). lent_writer w.ghost_name (seen w.now)) first ≡ empty_sink (lent_writer given (seen a)) → r ≡ last.writer
+    → Sends text result (sink_of (λ (w : MutBor W). lent_writer w.ghost_name (seen w.now)) first) (sink_of (λ (w : MutBor W). lent_writer w.ghost_name (seen w.now)) last) → OnOk result (last.pending.len ≡ 0)
+    → Puts text result (seen a) (seen z)
+lent_out {E} {W} {N} seen a z r first last given text (Ok u) back start same sends none =
+    let S : MutBor W → Writer = λ (w : MutBor W). lent_writer w.ghost_name (seen w.now) in
+    let s : Sent (empty_sink (lent_writer given (seen a))) (sink_of S last) text = subst (λ (o : Sink). Sent o (sink_of S last) text) start sends in
+    let p : Takes (lent_writer given (seen a)) (S last.writer) text = all_out {E = E} (empty_sink (lent_writer given (seen a))) (sink_of S last) text (Ok u) refl (lent_none seen last none) s in
+    lent_puts {E = E} seen a z r.now given r.ghost_name text (Ok u) back (subst (λ (w : MutBor W). Takes (lent_writer given (seen a)) (S w) text) (sym same) p)
+lent_out {E} {W} {N} seen a z r first last given text (Err e) back start same sends none =
+    let S : MutBor W → Writer = λ (w : MutBor W). lent_writer w.ghost_name (seen w.now) in
+    let s : Breaks (lent_writer given (seen a)) (S last.writer) text = subst (λ (o : Sink). Breaks o.writer (S last.writer) (o.waiting ++ text)) start sends in
+    lent_puts {E = E} seen a z r.now given r.ghost_name text (Err e) back (subst (λ (w : MutBor W). Breaks (lent_writer given (seen a)) (S w) text) (sym same) s)

@@ -1,0 +1,126 @@
+-- The bytes of a number, as they are written.
+use Rattle.std.proofs.Common.{◌≡◌, ℕ, suc, zero, ◌+◌, ◌*◌, ◌-◌, ◌/◌, ◌%◌, ◌^◌, ◌<◌, ◌≤◌, Bool, true, false, nat_lt, List, [], ◌∷◌, ◌++◌, Result, Ok, Err, append_assoc, refl, sym, ap, subst, ◌∙◌, if◌then◌else◌, arith}
+use Rattle.std.specs.Prelude.{OnOk}
+use Rattle.std.proofs.lemmas.Grind.{common_steps}
+use Rattle.std.proofs.Math.Nat.{pow-succ'}
+use Rattle.sat_base.specs.device.Device.{Breaks}
+use Rattle.sat_base.specs.device.Sink.{Sink, Sent, Sends, Writes}
+use Rattle.sat_base.specs.steps.Formats.{Format, Both}
+use Rattle.sat_base.specs.steps.Numbers.{IsNumber, IsBelow}
+use Rattle.sat_base.proofs.lemmas.steps.Numbers.{group}
+use Rattle.sat_base.specs.steps.StepBytes.{groups}
+use Rattle.sat_base.proofs.lemmas.device.Sending.{sent_none, sent_more, sends_more, sends_stops, sends_breaks, sends_same, sends_last}
+
+small : (n : ℕ) → n < 128 → nat_lt n 128 ≡ true
+small n h = grind (arith, common_steps)
+
+large : (n : ℕ) → 128 ≤ n → nat_lt n 128 ≡ false
+large n h = grind (arith, common_steps)
+
+-- a last group
+pub groups_last : (k n : ℕ) → n < 128 → groups k n ≡ n ∷ []
+unfolding groups
+groups_last zero n h = refl
+groups_last (suc k) n h = ap (λ (t : Bool). if t then n ∷ [] else (n % 128 + 128) ∷ groups k (n / 128)) (small n h)
+
+-- one that goes on
+pub groups_on : (k n : ℕ) → 128 ≤ n → groups (suc k) n ≡ (n % 128 + 128) ∷ groups k (n / 128)
+unfolding groups
+groups_on k n h = ap (λ (t : Bool). if t then n ∷ [] else (n % 128 + 128) ∷ groups k (n / 128)) (large n h)
+
+-- the groups of a number that are put, and the rest of it
+pub record GroupsPut (number rest : ℕ) (old new : Sink) : Type 0 where
+  pub done : List ℕ
+  pub left : ℕ
+  pub sent : Sent old new done
+  pub whole : done ++ groups left rest ≡ groups 9 number
+  pub fits : rest < 128 ^ (left + 1)
+
+pub groups_none : (number : ℕ) (s : Sink) → number < 2 ^ 64 → GroupsPut number number s s
+groups_none number s h = record { done = []; left = 9; sent = sent_none s; whole = refl; fits = omega arith }
+
+power : (k n : ℕ) → n < 128 ^ (suc k + 1) → n < 128 * 128 ^ (k + 1)
+power k n f = let e : suc k + 1 ≡ suc (k + 1) = omega arith in subst (λ (z : ℕ). n < z) (ap (λ (j : ℕ). 128 ^ j) e ∙ pow-succ' 128 (k + 1)) f
+
+smaller : (p n : ℕ) → n < 128 * p → n / 128 < p
+smaller p n f = omega arith
+
+one_less : (left n : ℕ) → 128 ≤ n → n < 128 ^ (left + 1) → (k : ℕ) × (left ≡ suc k) × (n / 128 < 128 ^ (k + 1))
+one_less zero n h f = absurd (omega (arith, f))
+one_less (suc k) n h f = (k, refl, smaller (128 ^ (k + 1)) n (power k n f))
+
+pub groups_more : (number rest byte : ℕ) (old mid new : Sink) → 128 ≤ rest → byte ≡ rest % 128 + 128 → GroupsPut number rest old mid → Sent mid new (byte ∷ []) → GroupsPut number (rest / 128) old new
+groups_more number rest byte old mid new h e g w =
+    let k = one_less g.left rest h g.fits in
+    record {
+      done = g.done ++ byte ∷ [];
+      left = k.0;
+      sent = sent_more old mid new g.done (byte ∷ []) g.sent w;
+      whole = append_assoc g.done (byte ∷ []) (groups k.0 (rest / 128)) ∙ ap (λ (b : ℕ). g.done ++ b ∷ groups k.0 (rest / 128)) e ∙ ap (λ (z : List ℕ). g.done ++ z) (sym (groups_on k.0 rest h)) ∙ ap (λ (j : ℕ). g.done ++ groups j rest) (sym k.1) ∙ g.whole;
+      fits = k.2;
+    }
+
+-- a failure at one that goes on
+pub groups_break : (number rest byte : ℕ) (old mid new : Sink) → 128 ≤ rest → byte ≡ rest % 128 + 128 → GroupsPut number rest old mid → Breaks mid.writer new.writer (mid.waiting ++ (byte ∷ [])) → Breaks old.writer new.writer (old.waiting ++ groups 9 number)
+groups_break number rest byte old mid new h e g w =
+    let k = one_less g.left rest h g.fits in
+    let more = groups k.0 (rest / 128) in
+    let whole : g.done ++ (byte ∷ more) ≡ groups 9 number = ap (λ (b : ℕ). g.done ++ b ∷ more) e ∙ ap (λ (z : List ℕ). g.done ++ z) (sym (groups_on k.0 rest h)) ∙ ap (λ (j : ℕ). g.done ++ groups j rest) (sym k.1) ∙ g.whole in
+    subst (λ (z : List ℕ). Breaks old.writer new.writer (old.waiting ++ z)) whole (sends_breaks old mid new g.done (byte ∷ more) g.sent (sends_stops mid new (byte ∷ []) more w))
+
+-- the last one
+pub groups_end : {E : Type 0} (number rest : ℕ) (old mid new : Sink) (r : Result (Unit {0}) E) → rest < 128 → GroupsPut number rest old mid → Sends (rest ∷ []) r mid new → Sends (groups 9 number) r old new
+groups_end number rest old mid new r h g w =
+    sends_same old new (g.done ++ rest ∷ []) (groups 9 number) r (ap (λ (z : List ℕ). g.done ++ z) (sym (groups_last g.left rest h)) ∙ g.whole) (sends_more old mid new g.done (rest ∷ []) r g.sent w)
+
+-- WHAT THEY SPELL
+
+is_small : (n : ℕ) → nat_lt n 128 ≡ true → n < 128
+is_small n h = grind (arith, common_steps)
+
+is_large : (n : ℕ) → nat_lt n 128 ≡ false → 128 ≤ n
+is_large n h = grind (arith, common_steps)
+
+goes_on : (k n : ℕ) → 128 ≤ n → IsNumber (n / 128) (groups k (n / 128)) → IsNumber n (groups (suc k) n)
+goes_on k n h i =
+    let whole : n % 128 + 128 - 128 + 128 * (n / 128) ≡ n = omega arith in
+    subst (IsNumber n) (sym (groups_on k n h)) (subst (λ (m : ℕ). IsNumber m ((n % 128 + 128) ∷ groups k (n / 128))) whole (group (n % 128 + 128) (n / 128) (groups k (n / 128)) (omega arith) (omega arith) (omega arith) i))
+
+by_size : (k n : ℕ) (b : Bool) → nat_lt n 128 ≡ b → (128 ≤ n → IsNumber (n / 128) (groups k (n / 128))) → IsNumber n (groups (suc k) n)
+by_size k n true e i = subst (IsNumber n) (sym (groups_last (suc k) n (is_small n e))) (is_small n e, refl)
+by_size k n false e i = goes_on k n (is_large n e) (i (is_large n e))
+
+spells_groups : (k n : ℕ) → n < 128 ^ (k + 1) → IsNumber n (groups k n)
+spells_groups zero n h = let e : n < 128 = h in subst (IsNumber n) (sym (groups_last zero n e)) (e, refl)
+spells_groups (suc k) n h = by_size k n (nat_lt n 128) refl (λ g. spells_groups k (n / 128) (smaller (128 ^ (k + 1)) n (power k n h)))
+
+pub spells_number : (limit n : ℕ) → n < limit → limit ≤ 2 ^ 64 → IsBelow limit n (groups 9 n)
+spells_number limit n h k = (spells_groups 9 n (omega arith), h)
+
+-- a number in its range, under another name
+pub number_writes : {E : Type 0} (limit m n : ℕ) (a b : Sink) (r : Result (Unit {0}) E) → m ≡ n → n < limit → limit ≤ 2 ^ 64 → Sends (groups 9 m) r a b → Writes (IsBelow limit) n (groups 9 n) r a b
+number_writes limit m n a b (Ok u) e h k w = (subst (λ (j : ℕ). Sent a b (groups 9 j)) e w, spells_number limit n h k)
+number_writes limit m n a b (Err x) e h k w = subst (λ (j : ℕ). Breaks a.writer b.writer (a.waiting ++ groups 9 j)) e w
+
+-- the same under another format
+pub writes_as : {A B E : Type 0} (F : Format A) (G : Format B) (x : A) (y : B) (text : List ℕ) (a b : Sink) (r : Result (Unit {0}) E) → (F x text → G y text) → Writes F x text r a b → Writes G y text r a b
+writes_as F G x y text a b (Ok u) f w = (w.0, f w.1)
+writes_as F G x y text a b (Err e) f w = w
+
+-- one and then another
+pub both_written : {A B E : Type 0} (F : Format A) (G : Format B) (x : A) (y : B) (s t : List ℕ) (a b c : Sink) (r : Result (Unit {0}) E) → Sent a b s → F x s → Writes G y t r b c → Writes (Both F G) (x, y) (s ++ t) r a c
+both_written F G x y s t a b c (Ok u) p f w = (sent_more a b c s t p w.0, (s, t, f, w.1, refl))
+both_written F G x y s t a b c (Err e) p f w = sends_breaks a b c s t p w
+
+-- what waits is written out behind a value
+pub writes_last : {A E : Type 0} (F : Format A) (x : A) (text : List ℕ) (a b c : Sink) (r : Result (Unit {0}) E) → Sent a b text → F x text → Sends [] r b c → Writes F x text r a c
+writes_last F x text a b c (Ok u) p f w = (sends_last {E = Unit {0}} a b c text (Ok u) p w, f)
+writes_last F x text a b c (Err e) p f w = sends_last a b c text (Err e) p w
+
+pub sends_of : {A E : Type 0} (F : Format A) (x : A) (text : List ℕ) (a b : Sink) (r : Result (Unit {0}) E) → Writes F x text r a b → Sends text r a b
+sends_of F x text a b (Ok u) w = w.0
+sends_of F x text a b (Err e) w = w
+
+pub spelt_of : {A E : Type 0} (F : Format A) (x : A) (text : List ℕ) (a b : Sink) (r : Result (Unit {0}) E) → Writes F x text r a b → OnOk r (F x text)
+spelt_of F x text a b (Ok u) w = w.1
+spelt_of F x text a b (Err e) w = tt

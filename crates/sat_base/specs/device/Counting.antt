@@ -1,0 +1,40 @@
+-- What contracts see of a device whose calls are counted.
+use Rattle.std.specs.Prelude.{Option, ℕ, false, List, []}
+use Rattle.sat_base.specs.declared.counted.Counted.{Counted}
+use Rattle.sat_base.specs.device.Device.{Reader, Writer}
+
+-- the device inside
+abbrev pub device_of : {D : Type 0} → Counted D → D
+device_of c = c.device
+
+-- as a reader, which may tell its bytes
+abbrev pub reader_of : {D : Type 0} → (D → Option (List ℕ)) → Counted D → Reader
+reader_of remaining c = record {
+  to_come = remaining c.device;
+  given = c.tally.given;
+  ended = c.tally.ended;
+  failed = c.tally.failed;
+  failures = c.tally.failures;
+  calls = c.tally.calls;
+  loans = [];
+}
+
+-- and as a writer
+abbrev pub writer_of : {D : Type 0} → (D → Option (List ℕ)) → Counted D → Writer
+writer_of contents c = record {
+  contents = contents c.device;
+  taken = c.tally.taken;
+  flushed = c.tally.flushed;
+  failed = c.tally.failed;
+  failures = c.tally.failures;
+  calls = c.tally.calls;
+  loans = [];
+}
+
+-- a reader that was never called
+abbrev pub new_reader : Option (List ℕ) → Reader
+new_reader bytes = record { to_come = bytes; given = []; ended = false; failed = false; failures = 0; calls = 0; loans = [] }
+
+-- a writer that was never called
+abbrev pub new_writer : Option (List ℕ) → Writer
+new_writer bytes = record { contents = bytes; taken = []; flushed = false; failed = false; failures = 0; calls = 0; loans = [] }

@@ -1,0 +1,62 @@
+-- The bytes of a proof step, as they are written. That they spell the step, and are its one spelling, is a law.
+use Rattle.std.specs.Prelude.{ℕ, suc, zero, ◌+◌, ◌/◌, ◌%◌, Bool, true, false, Option, None, Some, List, [], ◌∷◌, ◌++◌, length, nat_lt, if◌then◌else◌}
+use Rattle.sat_base.specs.steps.Steps.{Deletion, Redundant, Simplified, Satisfied, Step, SolverVarName, UserVarName, DeleteVar, ChangeSamplingMode, AddClause, AtClause, UnitClauses, DeleteClause, ChangeHashBits, Model, Assumptions, FailedAssumptions, End}
+use Rattle.sat_base.specs.steps.StepText.{tag_of}
+
+-- a number in groups of seven bits, low group first, of which at most so many go on
+unfoldable pub groups : ℕ → ℕ → List ℕ
+groups zero n = n ∷ []
+groups (suc k) n = if nat_lt n 128 then n ∷ [] else (n % 128 + 128) ∷ groups k (n / 128)
+
+-- 64 bits are ten groups
+abbrev pub number_bytes : ℕ → List ℕ
+number_bytes n = groups 9 n
+
+abbrev pub optional_bytes : Option ℕ → List ℕ
+optional_bytes None = number_bytes 0
+optional_bytes (Some v) = number_bytes (v + 1)
+
+abbrev pub flag_bytes : Bool → List ℕ
+flag_bytes false = number_bytes 0
+flag_bytes true = number_bytes 1
+
+abbrev pub deletion_bytes : Deletion → List ℕ
+deletion_bytes Redundant = number_bytes 0
+deletion_bytes Simplified = number_bytes 1
+deletion_bytes Satisfied = number_bytes 2
+
+-- literals or hashes, one after another
+abbrev pub numbers_bytes : List ℕ → List ℕ
+numbers_bytes [] = []
+numbers_bytes (n ∷ ns) = number_bytes n ++ numbers_bytes ns
+
+-- literals, each with a hash
+abbrev pub pairs_bytes : List (ℕ × ℕ) → List ℕ
+pairs_bytes [] = []
+pairs_bytes (p ∷ ps) = (number_bytes p.0 ++ number_bytes p.1) ++ pairs_bytes ps
+
+-- a count, and then so many
+abbrev pub list_bytes : List ℕ → List ℕ
+list_bytes ns = number_bytes (length ns) ++ numbers_bytes ns
+
+abbrev pub units_bytes : List (ℕ × ℕ) → List ℕ
+units_bytes ps = number_bytes (length ps) ++ pairs_bytes ps
+
+-- what stands behind the tag
+abbrev pub fields_bytes : Step → List ℕ
+fields_bytes (SolverVarName global solver) = number_bytes global ++ optional_bytes solver
+fields_bytes (UserVarName global user) = number_bytes global ++ optional_bytes user
+fields_bytes (DeleteVar v) = number_bytes v
+fields_bytes (ChangeSamplingMode v sample) = number_bytes v ++ flag_bytes sample
+fields_bytes (AddClause clause) = list_bytes clause
+fields_bytes (AtClause redundant clause hashes) = flag_bytes redundant ++ (list_bytes clause ++ list_bytes hashes)
+fields_bytes (UnitClauses units) = units_bytes units
+fields_bytes (DeleteClause clause proof) = list_bytes clause ++ deletion_bytes proof
+fields_bytes (ChangeHashBits bits) = number_bytes bits
+fields_bytes (Model assignment) = list_bytes assignment
+fields_bytes (Assumptions assumptions) = list_bytes assumptions
+fields_bytes (FailedAssumptions core hashes) = list_bytes core ++ list_bytes hashes
+fields_bytes End = []
+
+abbrev pub step_bytes : Step → List ℕ
+step_bytes step = tag_of step ∷ fields_bytes step
