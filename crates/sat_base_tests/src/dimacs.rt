@@ -1,7 +1,9 @@
 //! Rows of texts, whole and in pieces of one byte, and what goes on after a fault.
 //!
 //! The tests see a parser and a formula through functions that ensure nothing, and keep few values: that is cheap to prove.
-ghost use Rattle.std.specs.Prelude.{◌≡◌, ◌<◌, IfSome, IfOk, length};
+ghost use Rattle.std.specs.Prelude.{◌≡◌, ◌<◌, ℕ, List, IfOk, length};
+ghost use Rattle.sat_base.specs.device.Device.{GaveEnough, GaveFront};
+ghost use Rattle.sat_base.specs.dimacs.Parsing.{IsWhole};
 ghost use Rattle.sat_base.specs.text.Tokenizing.{held};
 ghost use Rattle.sat_base.specs.dimacs.Dimacs.{dimacs};
 
@@ -347,7 +349,7 @@ fn a_caller_may_refuse_and_a_read_may_fail(rt: HostRuntime) {
 
 /// How many clauses a formula's text has.
 fn clause_count<R: CountedRead>(alloc: Global, reader: &mut R) -> Result<usize, DimacsError>
-    ensures { IfSome (R.remaining reader.old) (λ text. IfOk result (λ count. count ≡ length (dimacs text).clauses)) }
+    ensures { IfOk result (λ count. GaveEnough (R.seen reader.old) (R.seen reader.new) (λ text. count ≡ length (dimacs text).clauses)) }
 {
     let formula = DimacsParser::parse(alloc, reader)?;
     Ok(formula.len())
@@ -364,7 +366,8 @@ fn count_in_parts<R: CountedRead>(
     alloc: Global,
     reader: &mut R,
 ) -> Result<u64, IncrementalError<DimacsError>>
-    ensures { IfSome (R.remaining reader.old) (λ text. IfOk result (λ count. count ≡ held (length (dimacs text).clauses))) }
+    ensures { IfOk result (λ count. (text : List ℕ) × GaveFront (R.seen reader.old) (R.seen reader.new) text
+        × (count ≡ held (length (dimacs text).clauses)) × IsWhole (R.seen reader.new) text) }
 {
     let parser = DimacsParser::parse_incremental(alloc, reader, |parser| {
         parser.take_formula();
