@@ -2,3 +2,4 @@ pub mod Counting
 pub mod Device
 pub mod Reading
 pub mod Sink
+pub mod Waiting

@@ -5,4 +5,5 @@ pub mod StepBytes
 pub mod StepReading
 pub mod StepText
 pub mod StepViews
+pub mod StepWriting
 pub mod Steps

@@ -4,7 +4,8 @@ ghost use Rattle.std.specs.Io.{ReadsAtMost, WritesAtMost};
 ghost use Rattle.sat_base.specs.device.Device.{Reader, Writer, ReadsOnce, WritesOnce, FlushesOnce, Puts, lent_reader, lent_writer};
 
 pub(crate) mod output;
-mod pending;
+pub(crate) mod pending;
+pub(crate) mod room;
 
 use std::io;
 use std::io::{ErrorKind, Read, Write};

@@ -1,16 +1,18 @@
 //! Writing formulas as DIMACS CNF.
-ghost use Rattle.std.specs.Prelude.{◌≡◌, decimal, OnOk};
+ghost use Rattle.std.specs.Prelude.{◌≡◌, decimal, OnOk, []};
 ghost use Rattle.sat_base.specs.dimacs.DimacsText.{clause_line, clause_lines, dimacs_text, header_line, number_text};
 ghost use Rattle.sat_base.specs.device.Device.{Puts};
 ghost use Rattle.sat_base.specs.device.Sink.{Sends, sink_of};
 
 use crate::device::output::Output;
+use crate::device::pending::Pending;
+use crate::device::room::Room;
 use crate::{CnfFormula, CountedWrite, Lit};
 use std::io;
 
-impl<W: CountedWrite, const N: usize> Output<W, N> {
+impl<W: CountedWrite, P: Room> Output<W, P> {
     fn put_decimal(&mut self, number: u64) -> io::Result<()>
-        ensures { Sends (decimal number) result (sink_of W.seen self.old) (sink_of W.seen self.new) }
+        ensures { Sends (decimal number) result (sink_of W.seen P.waiting self.old) (sink_of W.seen P.waiting self.new) }
     {
         if number < 10 {
             return self.put(b'0' + number as u8);
@@ -20,7 +22,7 @@ impl<W: CountedWrite, const N: usize> Output<W, N> {
     }
 
     fn put_literal(&mut self, lit: Lit) -> io::Result<()>
-        ensures { Sends (number_text lit) result (sink_of W.seen self.old) (sink_of W.seen self.new) }
+        ensures { Sends (number_text lit) result (sink_of W.seen P.waiting self.old) (sink_of W.seen P.waiting self.new) }
     {
         let number = lit.index() as u64 + 1;
         if lit.is_positive() {
@@ -31,7 +33,7 @@ impl<W: CountedWrite, const N: usize> Output<W, N> {
     }
 
     fn put_clause(&mut self, lits: &[Lit]) -> io::Result<()>
-        ensures { Sends (clause_line lits.now) result (sink_of W.seen self.old) (sink_of W.seen self.new) }
+        ensures { Sends (clause_line lits.now) result (sink_of W.seen P.waiting self.old) (sink_of W.seen P.waiting self.new) }
     {
         for lit in lits {
             self.put_literal(*lit)?;
@@ -41,7 +43,7 @@ impl<W: CountedWrite, const N: usize> Output<W, N> {
     }
 
     fn put_clauses(&mut self, formula: &CnfFormula) -> io::Result<()>
-        ensures { Sends (clause_lines formula.now.clauses) result (sink_of W.seen self.old) (sink_of W.seen self.new) }
+        ensures { Sends (clause_lines formula.now.clauses) result (sink_of W.seen P.waiting self.old) (sink_of W.seen P.waiting self.new) }
     {
         for clause in formula {
             self.put_clause(clause)?;
@@ -50,7 +52,7 @@ impl<W: CountedWrite, const N: usize> Output<W, N> {
     }
 
     fn put_header(&mut self, vars: u64, clauses: u64) -> io::Result<()>
-        ensures { Sends (header_line vars clauses) result (sink_of W.seen self.old) (sink_of W.seen self.new) }
+        ensures { Sends (header_line vars clauses) result (sink_of W.seen P.waiting self.old) (sink_of W.seen P.waiting self.new) }
     {
         self.put_all(b"p cnf ")?;
         self.put_decimal(vars)?;
@@ -60,12 +62,12 @@ impl<W: CountedWrite, const N: usize> Output<W, N> {
     }
 
     fn write_formula(&mut self, formula: &CnfFormula) -> io::Result<()>
-        ensures sends { Sends (dimacs_text formula.now) result (sink_of W.seen self.old) (sink_of W.seen self.new) }
-        ensures none { OnOk result (self.new.pending.len ≡ 0) }
+        ensures sends { Sends (dimacs_text formula.now) result (sink_of W.seen P.waiting self.old) (sink_of W.seen P.waiting self.new) }
+        ensures none { OnOk result (P.waiting self.new.pending ≡ []) }
     {
         self.put_header(formula.var_count() as u64, formula.len() as u64)?;
         self.put_clauses(formula)?;
-        self.write_out()
+        self.write_rest()
     }
 }
 
@@ -75,7 +77,7 @@ impl<W: CountedWrite, const N: usize> Output<W, N> {
 pub fn write_dimacs<W: CountedWrite>(writer: &mut W, formula: &CnfFormula) -> io::Result<()>
     ensures { Puts (dimacs_text formula.now) result (W.seen writer.old) (W.seen writer.new) }
 {
-    let mut output: Output<&mut W, 4096> = Output::new(writer);
+    let mut output: Output<&mut W, Pending<4096>> = Output::new(writer, Pending::new());
     let result = output.write_formula(formula);
     let _writer = output.into_writer();
     result

@@ -42,7 +42,7 @@ pub use hash::{ClauseHash, clause_hash, lit_hash};
 pub use lit::Lit;
 pub use step::{DeleteClauseProof, HashBits, ProofStep};
 pub use step_reader::StepReader;
-pub use steps::write_step;
+pub use steps::{StepWriter, write_step};
 pub use text::{Token, Tokenizer};
 pub use var::Var;
 pub use whole::{ReadError, read_whole};

@@ -7,4 +7,4 @@ mod numbers;
 mod values;
 mod writer;
 
-pub use self::writer::write_step;
+pub use self::writer::{StepWriter, write_step};

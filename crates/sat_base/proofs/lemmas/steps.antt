@@ -4,4 +4,5 @@ pub mod ListBytes
 pub mod NumberBytes
 pub mod Numbers
 pub mod StepReads
+pub mod StepsWritten
 pub mod TagForms

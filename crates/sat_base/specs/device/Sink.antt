@@ -1,5 +1,5 @@
 -- Bytes that wait for a writer.
-use Rattle.std.specs.Prelude.{◌≡◌, ℕ, List, [], ◌++◌, take, Result, MatchResult}
+use Rattle.std.specs.Prelude.{◌≡◌, ℕ, true, List, [], ◌++◌, Result, MatchResult}
 use Rattle.sat_base.specs.device.Device.{Writer, Takes, Breaks}
 use Rattle.sat_base.specs.steps.Formats.{Format}
 use Rattle.sat_base.specs.declared.device.output.Output.{Output}
@@ -13,8 +13,8 @@ pub record Sink : Type 0 where
 abbrev pub empty_sink : Writer → Sink
 empty_sink w = record { writer = w; waiting = [] }
 
-abbrev pub sink_of : {W : Type 0} {N : ℕ} → (W → Writer) → Output W N → Sink
-sink_of seen o = record { writer = seen o.writer; waiting = take o.pending.len o.pending.bytes }
+abbrev pub sink_of : {W P : Type 0} → (W → Writer) → (P → List ℕ) → Output W P → Sink
+sink_of seen waiting o = record { writer = seen o.writer; waiting = waiting o.pending }
 
 -- A text was put behind the bytes that waited. The writer took a front of both, and the rest waits.
 pub record Sent (old new : Sink) (text : List ℕ) : Type 0 where
@@ -22,10 +22,23 @@ pub record Sent (old new : Sink) (text : List ℕ) : Type 0 where
   pub flows : old.waiting ++ text ≡ fresh ++ new.waiting
   pub takes : Takes old.writer new.writer fresh
 
--- or one call failed, the last, and the writer took a front of both
+-- Or one call failed, the last. The writer took a front of both, and the rest is lost.
+pub record Broken (old new : Sink) (text : List ℕ) : Type 0 where
+  pub breaks : Breaks old.writer new.writer (old.waiting ++ text)
+  pub none : new.waiting ≡ []
+
 abbrev pub Sends : {E : Type 0} → List ℕ → Result (Unit {0}) E → Sink → Sink → Type 0
-Sends text r old new = MatchResult r (λ _. Sent old new text) (λ _. Breaks old.writer new.writer (old.waiting ++ text))
+Sends text r old new = MatchResult r (λ _. Sent old new text) (λ _. Broken old new text)
 
 -- a value's text was sent
 abbrev pub Writes : {A E : Type 0} → Format A → A → List ℕ → Result (Unit {0}) E → Sink → Sink → Type 0
-Writes F x text r old new = MatchResult r (λ _. Sent old new text × F x text) (λ _. Breaks old.writer new.writer (old.waiting ++ text))
+Writes F x text r old new = MatchResult r (λ _. Sent old new text × F x text) (λ _. Broken old new text)
+
+-- nothing waits any more, and the last call was a flush
+pub record Emptied (old new : Sink) : Type 0 where
+  pub sent : Sent old new []
+  pub none : new.waiting ≡ []
+  pub flushed : new.writer.flushed ≡ true
+
+abbrev pub Flushes : {E : Type 0} → Result (Unit {0}) E → Sink → Sink → Type 0
+Flushes r old new = MatchResult r (λ _. Emptied old new) (λ _. Broken old new [])

@@ -1,85 +1,102 @@
 //! Bytes on their way to a writer, in pieces.
-ghost use Rattle.std.specs.Prelude.{◌≡◌, ◌+◌, ◌≤◌, ◌<◌, ◌∷◌, [], OnOk};
-ghost use Rattle.sat_base.specs.device.Sink.{Sends, sink_of, empty_sink};
+ghost use Rattle.std.specs.Prelude.{◌≡◌, ◌<◌, ◌∷◌, []};
+ghost use Rattle.sat_base.specs.device.Sink.{Sends, Flushes, sink_of, empty_sink};
 
 use crate::CountedWrite;
-use crate::device::pending::Pending;
+use crate::device::room::Room;
 use std::io;
 
-/// A writer, and at most `N` bytes, which wait until there is no room for more, or nothing more comes.
+/// A writer, and bytes that wait until there is no room for more, or nothing more comes.
 #[derive(Drop)]
-pub(crate) struct Output<W, const N: usize> {
+pub(crate) struct Output<W, P> {
     pub(crate) writer: W,
-    pub(crate) pending: Pending<N>,
+    pub(crate) pending: P,
 }
 
-// Each byte goes through `put` and `make_room`, which are small, and nothing is inlined through a `Result` unasked.
-impl<W: CountedWrite, const N: usize> Output<W, N> {
-    pub(crate) fn new(writer: W) -> Output<W, N>
-        requires { 0 < N }
-        ensures { sink_of W.seen result ≡ empty_sink (W.seen writer) }
+// Each byte goes through `put`, and nothing is inlined through a `Result` unasked.
+impl<W: CountedWrite, P: Room> Output<W, P> {
+    pub(crate) fn new(writer: W, pending: P) -> Output<W, P>
+        requires { P.waiting pending ≡ [] }
+        ensures { sink_of W.seen P.waiting result ≡ empty_sink (W.seen writer) }
     {
-        Output {
-            writer,
-            pending: Pending::new(),
-        }
+        Output { writer, pending }
     }
 
     /// Writes out what waits.
-    pub(crate) fn write_out(&mut self) -> io::Result<()>
-        ensures sends { Sends [] result (sink_of W.seen self.old) (sink_of W.seen self.new) }
-        ensures none { self.new.pending.len ≡ 0 }
+    fn write_out(&mut self) -> io::Result<()>
+        ensures sends { Sends [] result (sink_of W.seen P.waiting self.old) (sink_of W.seen P.waiting self.new) }
+        ensures none { P.waiting self.new.pending ≡ [] }
+        ensures size { P.size self.new.pending ≡ P.size self.old.pending }
     {
-        let len = self.pending.len;
-        self.pending.len = 0;
-        self.writer.write_all_counted(&self.pending.bytes[..len])
+        let result = self.writer.write_all_counted(self.pending.as_slice());
+        self.pending.clear();
+        result
     }
 
-    /// Writes out what waits, unless there is room for so many bytes more.
+    /// Lets a byte wait. What waits is written out first where there is no room.
     #[inline(always)]
-    fn make_room(&mut self, count: usize) -> io::Result<()>
-        requires { count ≤ N }
-        ensures sends { Sends [] result (sink_of W.seen self.old) (sink_of W.seen self.new) }
-        ensures room { OnOk result (self.new.pending.len + count ≤ N) }
+    pub(crate) fn put(&mut self, byte: u8) -> io::Result<()>
+        ensures { Sends (byte ∷ []) result (sink_of W.seen P.waiting self.old) (sink_of W.seen P.waiting self.new) }
     {
-        if count <= N - self.pending.len {
+        if self.pending.free() == 0 {
+            return self.put_behind(byte);
+        }
+        self.pending.push(byte);
+        Ok(())
+    }
+
+    /// Writes out what waits, and lets a byte wait.
+    fn put_behind(&mut self, byte: u8) -> io::Result<()>
+        requires { 0 < P.size self.old.pending }
+        ensures { Sends (byte ∷ []) result (sink_of W.seen P.waiting self.old) (sink_of W.seen P.waiting self.new) }
+    {
+        self.write_out()?;
+        self.pending.push(byte);
+        Ok(())
+    }
+
+    /// Lets bytes wait, or writes them at once where there is no room for them.
+    pub(crate) fn put_all(&mut self, bytes: &[u8]) -> io::Result<()>
+        ensures { Sends bytes.now result (sink_of W.seen P.waiting self.old) (sink_of W.seen P.waiting self.new) }
+    {
+        if bytes.len() <= self.pending.free() {
+            self.pending.push_all(bytes);
+            return Ok(());
+        }
+        self.write_out()?;
+        self.put_first(bytes)
+    }
+
+    /// Lets bytes wait where none does, or writes them at once.
+    fn put_first(&mut self, bytes: &[u8]) -> io::Result<()>
+        requires { P.waiting self.old.pending ≡ [] }
+        ensures { Sends bytes.now result (sink_of W.seen P.waiting self.old) (sink_of W.seen P.waiting self.new) }
+    {
+        if bytes.len() <= self.pending.free() {
+            self.pending.push_all(bytes);
+            return Ok(());
+        }
+        self.writer.write_all_counted(bytes)
+    }
+
+    /// Writes out what waits, if anything does.
+    pub(crate) fn write_rest(&mut self) -> io::Result<()>
+        ensures sends { Sends [] result (sink_of W.seen P.waiting self.old) (sink_of W.seen P.waiting self.new) }
+        ensures none { P.waiting self.new.pending ≡ [] }
+        ensures idle { P.waiting self.old.pending ≡ [] → W.seen self.new.writer ≡ W.seen self.old.writer }
+    {
+        if self.pending.as_slice().is_empty() {
             return Ok(());
         }
         self.write_out()
     }
 
-    /// Lets a byte wait.
-    #[inline(always)]
-    pub(crate) fn put(&mut self, byte: u8) -> io::Result<()>
-        ensures { Sends (byte ∷ []) result (sink_of W.seen self.old) (sink_of W.seen self.new) }
+    /// Writes out what waits, and flushes the writer.
+    pub(crate) fn flush(&mut self) -> io::Result<()>
+        ensures { Flushes result (sink_of W.seen P.waiting self.old) (sink_of W.seen P.waiting self.new) }
     {
-        self.make_room(1)?;
-        self.pending.bytes[self.pending.len] = byte;
-        self.pending.len += 1;
-        Ok(())
-    }
-
-    /// Writes a piece that is longer than what may wait.
-    fn write_through(&mut self, bytes: &[u8]) -> io::Result<()>
-        ensures { Sends bytes.now result (sink_of W.seen self.old) (sink_of W.seen self.new) }
-    {
-        self.write_out()?;
-        self.writer.write_all_counted(bytes)
-    }
-
-    /// Lets bytes wait.
-    pub(crate) fn put_all(&mut self, bytes: &[u8]) -> io::Result<()>
-        ensures { Sends bytes.now result (sink_of W.seen self.old) (sink_of W.seen self.new) }
-    {
-        if bytes.len() > N {
-            return self.write_through(bytes);
-        }
-        self.make_room(bytes.len())?;
-        let end = self.pending.len + bytes.len();
-        let all = &mut self.pending.bytes[..];
-        all[self.pending.len..end].copy_from_slice(bytes);
-        self.pending.len = end;
-        Ok(())
+        self.write_rest()?;
+        self.writer.flush_counted()
     }
 
     /// The writer. What waits is lost.

@@ -1,7 +1,7 @@
 //! Bytes that wait to be written out together.
 ghost use Rattle.std.specs.Prelude.{◌≡◌, ◌≤◌, ◌<◌};
 
-/// Bytes that wait: the first `len`.
+/// Bytes that wait: the first `len` of `N`.
 #[derive(Drop)]
 pub(crate) struct Pending<const N: usize> {
     pub(crate) bytes: [u8; N],

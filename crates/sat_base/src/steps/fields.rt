@@ -1,13 +1,14 @@
 //! A step's tag, and what stands behind it.
 #![tactic(auto, using(crate::proofs::lemmas::device::Sending::sending))]
 
-ghost use Rattle.std.specs.Prelude.{◌≡◌, OnOk};
+ghost use Rattle.std.specs.Prelude.{◌≡◌, OnOk, []};
 ghost use Rattle.sat_base.specs.device.Sink.{Writes, sink_of};
 ghost use Rattle.sat_base.specs.steps.StepBytes.{fields_bytes, step_bytes};
 ghost use Rattle.sat_base.specs.steps.StepText.{tag_of, SpellsFields, SpellsStep};
 ghost use Rattle.sat_base.specs.steps.StepViews.{step_of};
 
 use crate::device::output::Output;
+use crate::device::room::Room;
 use crate::{CountedWrite, ProofStep};
 use std::io;
 
@@ -31,10 +32,10 @@ fn tag(step: &ProofStep<'_>) -> u8
     }
 }
 
-impl<W: CountedWrite, const N: usize> Output<W, N> {
+impl<W: CountedWrite, P: Room> Output<W, P> {
     /// Lets what stands behind the tag wait.
     fn put_fields(&mut self, step: &ProofStep<'_>) -> io::Result<()>
-        ensures { Writes SpellsFields (step_of step.now) (fields_bytes (step_of step.now)) result (sink_of W.seen self.old) (sink_of W.seen self.new) }
+        ensures { Writes SpellsFields (step_of step.now) (fields_bytes (step_of step.now)) result (sink_of W.seen P.waiting self.old) (sink_of W.seen P.waiting self.new) }
     {
         match *step {
             ProofStep::SolverVarName { global, solver } => self.put_variables(global, solver),
@@ -62,7 +63,7 @@ impl<W: CountedWrite, const N: usize> Output<W, N> {
 
     /// Lets a step's bytes wait.
     pub(super) fn put_step(&mut self, step: &ProofStep<'_>) -> io::Result<()>
-        ensures { Writes SpellsStep (step_of step.now) (step_bytes (step_of step.now)) result (sink_of W.seen self.old) (sink_of W.seen self.new) }
+        ensures { Writes SpellsStep (step_of step.now) (step_bytes (step_of step.now)) result (sink_of W.seen P.waiting self.old) (sink_of W.seen P.waiting self.new) }
     {
         self.put(tag(step))?;
         self.put_fields(step)
@@ -70,10 +71,10 @@ impl<W: CountedWrite, const N: usize> Output<W, N> {
 
     /// Writes a step's bytes out, behind those that wait.
     pub(super) fn write_step(&mut self, step: &ProofStep<'_>) -> io::Result<()>
-        ensures writes { Writes SpellsStep (step_of step.now) (step_bytes (step_of step.now)) result (sink_of W.seen self.old) (sink_of W.seen self.new) }
-        ensures none { OnOk result (self.new.pending.len ≡ 0) }
+        ensures writes { Writes SpellsStep (step_of step.now) (step_bytes (step_of step.now)) result (sink_of W.seen P.waiting self.old) (sink_of W.seen P.waiting self.new) }
+        ensures none { OnOk result (P.waiting self.new.pending ≡ []) }
     {
         self.put_step(step)?;
-        self.write_out()
+        self.write_rest()
     }
 }

@@ -9,20 +9,21 @@ ghost use Rattle.sat_base.specs.steps.StepBytes.{number_bytes, optional_bytes, f
 ghost use Rattle.sat_base.specs.steps.StepViews.{deletion_of};
 
 use crate::device::output::Output;
+use crate::device::room::Room;
 use crate::{ClauseHash, CountedWrite, DeleteClauseProof, Lit, Var};
 use std::io;
 
-impl<W: CountedWrite, const N: usize> Output<W, N> {
+impl<W: CountedWrite, P: Room> Output<W, P> {
     /// Lets a variable wait, and one that may be none.
     pub(super) fn put_variables(&mut self, first: Var, second: Option<Var>) -> io::Result<()>
-        ensures { Writes (Both IsVariable IsOptionalVariable) (first, second) (number_bytes first ++ optional_bytes second) result (sink_of W.seen self.old) (sink_of W.seen self.new) }
+        ensures { Writes (Both IsVariable IsOptionalVariable) (first, second) (number_bytes first ++ optional_bytes second) result (sink_of W.seen P.waiting self.old) (sink_of W.seen P.waiting self.new) }
     {
         self.put_variable(first)?;
         self.put_optional(second)
     }
 
     pub(super) fn put_mode(&mut self, var: Var, sample: bool) -> io::Result<()>
-        ensures { Writes (Both IsVariable IsFlag) (var, sample) (number_bytes var ++ flag_bytes sample) result (sink_of W.seen self.old) (sink_of W.seen self.new) }
+        ensures { Writes (Both IsVariable IsFlag) (var, sample) (number_bytes var ++ flag_bytes sample) result (sink_of W.seen P.waiting self.old) (sink_of W.seen P.waiting self.new) }
     {
         self.put_variable(var)?;
         self.put_flag(sample)
@@ -34,14 +35,14 @@ impl<W: CountedWrite, const N: usize> Output<W, N> {
         clause: &[Lit],
         hashes: &[ClauseHash],
     ) -> io::Result<()>
-        ensures { Writes (Both IsFlag (Both AreLiterals AreHashes)) (redundant, (clause.now, hashes.now)) (flag_bytes redundant ++ (list_bytes clause.now ++ list_bytes hashes.now)) result (sink_of W.seen self.old) (sink_of W.seen self.new) }
+        ensures { Writes (Both IsFlag (Both AreLiterals AreHashes)) (redundant, (clause.now, hashes.now)) (flag_bytes redundant ++ (list_bytes clause.now ++ list_bytes hashes.now)) result (sink_of W.seen P.waiting self.old) (sink_of W.seen P.waiting self.new) }
     {
         self.put_flag(redundant)?;
         self.put_both_lists(clause, hashes)
     }
 
     pub(super) fn put_deleted(&mut self, clause: &[Lit], proof: DeleteClauseProof) -> io::Result<()>
-        ensures { Writes (Both AreLiterals IsDeletion) (clause.now, deletion_of proof) (list_bytes clause.now ++ deletion_bytes (deletion_of proof)) result (sink_of W.seen self.old) (sink_of W.seen self.new) }
+        ensures { Writes (Both AreLiterals IsDeletion) (clause.now, deletion_of proof) (list_bytes clause.now ++ deletion_bytes (deletion_of proof)) result (sink_of W.seen P.waiting self.old) (sink_of W.seen P.waiting self.new) }
     {
         self.put_literals(clause)?;
         self.put_deletion(proof)

@@ -5,18 +5,19 @@ ghost use Rattle.sat_base.specs.steps.StepText.{IsVariable, IsOptionalVariable, 
 ghost use Rattle.sat_base.specs.steps.StepViews.{deletion_of};
 
 use crate::device::output::Output;
+use crate::device::room::Room;
 use crate::{CountedWrite, DeleteClauseProof, HashBits, Var};
 use std::io;
 
-impl<W: CountedWrite, const N: usize> Output<W, N> {
+impl<W: CountedWrite, P: Room> Output<W, P> {
     pub(super) fn put_variable(&mut self, var: Var) -> io::Result<()>
-        ensures { Writes IsVariable var (number_bytes var) result (sink_of W.seen self.old) (sink_of W.seen self.new) }
+        ensures { Writes IsVariable var (number_bytes var) result (sink_of W.seen P.waiting self.old) (sink_of W.seen P.waiting self.new) }
     {
         self.put_number(var.index() as u64)
     }
 
     pub(super) fn put_optional(&mut self, var: Option<Var>) -> io::Result<()>
-        ensures { Writes IsOptionalVariable var (optional_bytes var) result (sink_of W.seen self.old) (sink_of W.seen self.new) }
+        ensures { Writes IsOptionalVariable var (optional_bytes var) result (sink_of W.seen P.waiting self.old) (sink_of W.seen P.waiting self.new) }
     {
         match var {
             None => self.put_number(0),
@@ -25,7 +26,7 @@ impl<W: CountedWrite, const N: usize> Output<W, N> {
     }
 
     pub(super) fn put_flag(&mut self, flag: bool) -> io::Result<()>
-        ensures { Writes IsFlag flag (flag_bytes flag) result (sink_of W.seen self.old) (sink_of W.seen self.new) }
+        ensures { Writes IsFlag flag (flag_bytes flag) result (sink_of W.seen P.waiting self.old) (sink_of W.seen P.waiting self.new) }
     {
         if flag {
             self.put_number(1)
@@ -35,13 +36,13 @@ impl<W: CountedWrite, const N: usize> Output<W, N> {
     }
 
     pub(super) fn put_width(&mut self, bits: HashBits) -> io::Result<()>
-        ensures { Writes IsWidth bits (number_bytes bits) result (sink_of W.seen self.old) (sink_of W.seen self.new) }
+        ensures { Writes IsWidth bits (number_bytes bits) result (sink_of W.seen P.waiting self.old) (sink_of W.seen P.waiting self.new) }
     {
         self.put_number(bits.get() as u64)
     }
 
     pub(super) fn put_deletion(&mut self, proof: DeleteClauseProof) -> io::Result<()>
-        ensures { Writes IsDeletion (deletion_of proof) (deletion_bytes (deletion_of proof)) result (sink_of W.seen self.old) (sink_of W.seen self.new) }
+        ensures { Writes IsDeletion (deletion_of proof) (deletion_bytes (deletion_of proof)) result (sink_of W.seen P.waiting self.old) (sink_of W.seen P.waiting self.new) }
     {
         match proof {
             DeleteClauseProof::Redundant => self.put_number(0),

@@ -1,16 +1,62 @@
 //! Writing proof steps.
-ghost use Rattle.std.specs.Prelude.{OnOk};
+ghost use Rattle.std.specs.Prelude.{◌≡◌, [], OnOk};
 ghost use Rattle.sat_base.specs.device.Device.{Puts};
+ghost use Rattle.sat_base.specs.device.Sink.{Sends, Flushes, empty_sink};
 ghost use Rattle.sat_base.specs.steps.StepBytes.{step_bytes};
 ghost use Rattle.sat_base.specs.steps.StepText.{SpellsStep};
 ghost use Rattle.sat_base.specs.steps.StepViews.{step_of};
+ghost use Rattle.sat_base.specs.steps.StepWriting.{steps_sink};
 
 use crate::device::output::Output;
+use crate::device::pending::Pending;
 use crate::{CountedWrite, ProofStep};
 use std::io;
 
 /// How many bytes of a single step wait at most.
-const SHORT: usize = 64;
+const SHORT_PIECE: usize = 64;
+
+/// A writer of proof steps, which keeps at most 4,096 bytes from step to step, so that a proof of N bytes takes about N/4,096
+/// writes. They are written out when there is no room for more, at a flush, and when it is taken apart.
+#[derive(Drop)]
+pub struct StepWriter<W> {
+    output: Output<W, Pending<4096>>,
+}
+
+impl<W: CountedWrite> StepWriter<W> {
+    /// Writes nothing yet, and takes no memory.
+    pub fn new(writer: W) -> StepWriter<W>
+        ensures { steps_sink W.seen result ≡ empty_sink (W.seen writer) }
+    {
+        StepWriter {
+            output: Output::new(writer, Pending::new()),
+        }
+    }
+
+    /// Lets a step's bytes wait. After an error a front of what waited and of them may have been written; nothing waits then.
+    pub fn write(&mut self, step: &ProofStep<'_>) -> io::Result<()>
+        ensures sends { Sends (step_bytes (step_of step.now)) result (steps_sink W.seen self.old) (steps_sink W.seen self.new) }
+        ensures spells { OnOk result (SpellsStep (step_of step.now) (step_bytes (step_of step.now))) }
+    {
+        self.output.put_step(step)
+    }
+
+    /// Writes out what waits, and flushes the writer.
+    pub fn flush(&mut self) -> io::Result<()>
+        ensures { Flushes result (steps_sink W.seen self.old) (steps_sink W.seen self.new) }
+    {
+        self.output.flush()
+    }
+
+    /// The writer, and whether what waited was written out. Where nothing waited nothing is done.
+    pub fn into_inner(self) -> (W, io::Result<()>)
+        ensures puts { Puts (steps_sink W.seen self).waiting result.1 (steps_sink W.seen self).writer (W.seen result.0) }
+        ensures idle { (steps_sink W.seen self).waiting ≡ [] → W.seen result.0 ≡ (steps_sink W.seen self).writer }
+    {
+        let StepWriter { mut output } = self;
+        let result = output.write_rest();
+        (output.into_writer(), result)
+    }
+}
 
 /// Writes a step's bytes, taking no memory: in pieces of 64 bytes, so that most steps are one write. After an error a front of
 /// them may have been written.
@@ -18,7 +64,7 @@ pub fn write_step<W: CountedWrite>(writer: &mut W, step: &ProofStep<'_>) -> io::
     ensures puts { Puts (step_bytes (step_of step.now)) result (W.seen writer.old) (W.seen writer.new) }
     ensures spells { OnOk result (SpellsStep (step_of step.now) (step_bytes (step_of step.now))) }
 {
-    let mut output: Output<&mut W, SHORT> = Output::new(writer);
+    let mut output: Output<&mut W, Pending<SHORT_PIECE>> = Output::new(writer, Pending::new());
     let result = output.write_step(step);
     let _writer = output.into_writer();
     result

@@ -4,9 +4,9 @@ use Rattle.std.proofs.lemmas.List.{append-nil}
 use Rattle.std.specs.Borrow.{MutBor}
 use Rattle.std.specs.Prelude.{OnOk}
 use Rattle.sat_base.specs.declared.device.output.Output.{Output}
-use Rattle.sat_base.specs.device.Device.{Writer, Takes, Breaks, Puts, lent_writer}
-use Rattle.sat_base.specs.device.Sink.{Sink, Sent, Sends, sink_of, empty_sink}
-use Rattle.sat_base.proofs.lemmas.device.Writes.{took_none, took_more, breaks_later, breaks_within, lent_puts}
+use Rattle.sat_base.specs.device.Device.{Writer, FlushesOnce, Takes, Breaks, Puts, lent_writer}
+use Rattle.sat_base.specs.device.Sink.{Sink, Sent, Broken, Sends, Emptied, Flushes, sink_of, empty_sink}
+use Rattle.sat_base.proofs.lemmas.device.Writes.{took_none, took_more, breaks_later, breaks_within, lent_puts, flush_takes, flush_fails}
 
 pub sent_none : (s : Sink) → Sent s s []
 sent_none s = record { fresh = []; flows = append-nil s.waiting; takes = took_none s.writer }
@@ -22,14 +22,14 @@ sent_more a b c xs ys p q = record {
 }
 
 -- a failure in the first part
-pub sends_stops : (a b : Sink) (xs ys : List ℕ) → Breaks a.writer b.writer (a.waiting ++ xs) → Breaks a.writer b.writer (a.waiting ++ (xs ++ ys))
-sends_stops a b xs ys q = subst (Breaks a.writer b.writer) (append_assoc a.waiting xs ys) (breaks_within a.writer b.writer (a.waiting ++ xs) ys q)
+pub sends_stops : (a b : Sink) (xs ys : List ℕ) → Broken a b xs → Broken a b (xs ++ ys)
+sends_stops a b xs ys q = record { breaks = subst (Breaks a.writer b.writer) (append_assoc a.waiting xs ys) (breaks_within a.writer b.writer (a.waiting ++ xs) ys q.breaks); none = q.none }
 
 -- and in a later one
-pub sends_breaks : (a b c : Sink) (xs ys : List ℕ) → Sent a b xs → Breaks b.writer c.writer (b.waiting ++ ys) → Breaks a.writer c.writer (a.waiting ++ (xs ++ ys))
+pub sends_breaks : (a b c : Sink) (xs ys : List ℕ) → Sent a b xs → Broken b c ys → Broken a c (xs ++ ys)
 sends_breaks a b c xs ys p q =
     let e : p.fresh ++ (b.waiting ++ ys) ≡ a.waiting ++ (xs ++ ys) = sym (append_assoc p.fresh b.waiting ys) ∙ ap (λ (z : List ℕ). z ++ ys) (sym p.flows) ∙ append_assoc a.waiting xs ys in
-    subst (Breaks a.writer c.writer) e (breaks_later a.writer b.writer c.writer p.fresh (b.waiting ++ ys) p.takes q)
+    record { breaks = subst (Breaks a.writer c.writer) e (breaks_later a.writer b.writer c.writer p.fresh (b.waiting ++ ys) p.takes q.breaks); none = q.none }
 
 -- one part and then another
 pub sends_more : {E : Type 0} (a b c : Sink) (xs ys : List ℕ) (r : Result (Unit {0}) E) → Sent a b xs → Sends ys r b c → Sends (xs ++ ys) r a c
@@ -45,28 +45,26 @@ pub all_out : {E : Type 0} (a b : Sink) (xs : List ℕ) (r : Result (Unit {0}) E
 all_out a b xs (Ok u) e f w =
     let g : xs ≡ w.fresh = ap (λ (z : List ℕ). z ++ xs) (sym e) ∙ w.flows ∙ ap (λ (z : List ℕ). w.fresh ++ z) f ∙ append-nil w.fresh in
     subst (Takes a.writer b.writer) (sym g) w.takes
-all_out a b xs (Err e) d f w = subst (λ (z : List ℕ). Breaks a.writer b.writer (z ++ xs)) d w
-
--- a byte waits more
-pub byte_waits : (w : Writer) (xs ys : List ℕ) (byte : ℕ) (a : Sink) → Sent a (record { writer = w; waiting = xs }) [] → ys ≡ xs ++ byte ∷ [] → Sent a (record { writer = w; waiting = ys }) (byte ∷ [])
-byte_waits w xs ys byte a p e =
-    sent_more a (record { writer = w; waiting = xs }) (record { writer = w; waiting = ys }) [] (byte ∷ []) p (record { fresh = []; flows = sym e; takes = took_none w })
-
--- a piece goes to the writer at once, where nothing waits
-pub sends_direct : {E : Type 0} (a : Sink) (v w : Writer) (piece : List ℕ) (n : ℕ) (bytes : List ℕ) (r : Result (Unit {0}) E) → n ≡ 0 → Sent a (record { writer = v; waiting = take n bytes }) [] → Puts piece r v w
-    → Sends piece r a (record { writer = w; waiting = take n bytes })
-sends_direct a v w piece n bytes (Ok u) e p q =
-    let f : take n bytes ≡ [] = ap (λ (k : ℕ). take k bytes) e in
-    sent_more a (record { writer = v; waiting = take n bytes }) (record { writer = w; waiting = take n bytes }) [] piece p
-    (record { fresh = piece; flows = ap (λ (z : List ℕ). z ++ piece) f ∙ sym (append-nil piece) ∙ ap (λ (z : List ℕ). piece ++ z) (sym f); takes = q })
-sends_direct a v w piece n bytes (Err x) e p q =
-    let f : take n bytes ≡ [] = ap (λ (k : ℕ). take k bytes) e in
-    sends_breaks a (record { writer = v; waiting = take n bytes }) (record { writer = w; waiting = take n bytes }) [] piece p (subst (λ (z : List ℕ). Breaks v w (z ++ piece)) (sym f) q)
+all_out a b xs (Err e) d f w = subst (λ (z : List ℕ). Breaks a.writer b.writer (z ++ xs)) d w.breaks
 
 -- a piece waits more
 pub piece_waits : (w : Writer) (xs ys piece : List ℕ) (a : Sink) → Sent a (record { writer = w; waiting = xs }) [] → ys ≡ xs ++ piece → Sent a (record { writer = w; waiting = ys }) piece
 piece_waits w xs ys piece a p e =
     sent_more a (record { writer = w; waiting = xs }) (record { writer = w; waiting = ys }) [] piece p (record { fresh = []; flows = sym e; takes = took_none w })
+
+-- what waits is written out
+pub out_sends : {E : Type 0} (v w : Writer) (xs ys piece : List ℕ) (r : Result (Unit {0}) E) → piece ≡ xs → ys ≡ [] → Puts piece r v w → Sends [] r (record { writer = v; waiting = xs }) (record { writer = w; waiting = ys })
+out_sends v w xs ys piece (Ok u) e f q = record { fresh = piece; flows = ap (λ (z : List ℕ). z ++ []) (sym e) ∙ ap (λ (z : List ℕ). piece ++ z) (sym f); takes = q }
+out_sends v w xs ys piece (Err x) e f q = record { breaks = subst (Breaks v w) (e ∙ sym (append-nil xs)) q; none = f }
+
+-- a piece goes to the writer at once, where nothing waits
+pub sends_direct : {E : Type 0} (a : Sink) (v w : Writer) (piece bytes : List ℕ) (r : Result (Unit {0}) E) → bytes ≡ [] → Sent a (record { writer = v; waiting = bytes }) [] → Puts piece r v w
+    → Sends piece r a (record { writer = w; waiting = bytes })
+sends_direct a v w piece bytes (Ok u) f p q =
+    sent_more a (record { writer = v; waiting = bytes }) (record { writer = w; waiting = bytes }) [] piece p
+    (record { fresh = piece; flows = ap (λ (z : List ℕ). z ++ piece) f ∙ sym (append-nil piece) ∙ ap (λ (z : List ℕ). piece ++ z) (sym f); takes = q })
+sends_direct a v w piece bytes (Err x) f p q =
+    sends_breaks a (record { writer = v; waiting = bytes }) (record { writer = w; waiting = bytes }) [] piece p (record { breaks = subst (λ (z : List ℕ). Breaks v w (z ++ piece)) (sym f) q; none = f })
 
 -- PART BY PART
 
@@ -84,9 +82,9 @@ pub of_more : (text part left : List ℕ) (old mid new : Sink) → SentOf text (
 of_more text part left old mid new g p = record { done = g.done ++ part; sent = sent_more old mid new g.done part g.sent p; whole = append_assoc g.done part left ∙ g.whole }
 
 -- a failure at that part
-pub of_break : (text part left : List ℕ) (old mid new : Sink) → SentOf text (part ++ left) old mid → Breaks mid.writer new.writer (mid.waiting ++ part) → Breaks old.writer new.writer (old.waiting ++ text)
+pub of_break : (text part left : List ℕ) (old mid new : Sink) → SentOf text (part ++ left) old mid → Broken mid new part → Broken old new text
 of_break text part left old mid new g p =
-    subst (λ (z : List ℕ). Breaks old.writer new.writer (old.waiting ++ z)) g.whole (sends_breaks old mid new g.done (part ++ left) g.sent (sends_stops mid new part left p))
+    subst (λ (z : List ℕ). Broken old new z) g.whole (sends_breaks old mid new g.done (part ++ left) g.sent (sends_stops mid new part left p))
 
 -- the last part
 pub of_end : {E : Type 0} (text left : List ℕ) (old mid new : Sink) (r : Result (Unit {0}) E) → SentOf text left old mid → Sends left r mid new → Sends text r old new
@@ -102,8 +100,8 @@ pub of_same : (text left more : List ℕ) (old new : Sink) → left ≡ more →
 of_same text left more old new e g = subst (λ (z : List ℕ). SentOf text z old new) e g
 
 -- a failure in a part of a text
-pub stops_same : (a b : Sink) (xs ys text : List ℕ) → xs ++ ys ≡ text → Breaks a.writer b.writer (a.waiting ++ xs) → Breaks a.writer b.writer (a.waiting ++ text)
-stops_same a b xs ys text e q = subst (λ (z : List ℕ). Breaks a.writer b.writer (a.waiting ++ z)) e (sends_stops a b xs ys q)
+pub stops_same : (a b : Sink) (xs ys text : List ℕ) → xs ++ ys ≡ text → Broken a b xs → Broken a b text
+stops_same a b xs ys text e q = subst (λ (z : List ℕ). Broken a b z) e (sends_stops a b xs ys q)
 
 -- what waits is written out behind a text
 pub sends_last : {E : Type 0} (a b c : Sink) (xs : List ℕ) (r : Result (Unit {0}) E) → Sent a b xs → Sends [] r b c → Sends xs r a c
@@ -111,22 +109,37 @@ sends_last a b c xs r p w = sends_same a c (xs ++ []) xs r (append-nil xs) (send
 
 pub ruleset sending = (sends_more, sends_stops)
 
+-- A FLUSH
+
+pub sends_flush : {E : Type 0} (a : Sink) (v w : Writer) (bytes : List ℕ) (r : Result (Unit {0}) E) → bytes ≡ [] → Sent a (record { writer = v; waiting = bytes }) [] → FlushesOnce r v w → Flushes r a (record { writer = w; waiting = bytes })
+sends_flush a v w bytes (Ok u) f p q = record {
+  sent = sent_more a (record { writer = v; waiting = bytes }) (record { writer = w; waiting = bytes }) [] [] p (record { fresh = []; flows = append-nil bytes; takes = flush_takes v w q });
+  none = f;
+  flushed = q.flushed;
+}
+sends_flush a v w bytes (Err x) f p q =
+    sends_breaks a (record { writer = v; waiting = bytes }) (record { writer = w; waiting = bytes }) [] [] p (record { breaks = subst (λ (z : List ℕ). Breaks v w (z ++ [])) (sym f) (flush_fails x v w q); none = f })
+
+-- what waited is written, and nothing more
+pub rest_put : {E : Type 0} (a b : Sink) (r : Result (Unit {0}) E) → b.waiting ≡ [] → Sends [] r a b → Puts a.waiting r a.writer b.writer
+rest_put a b (Ok u) f w =
+    let g : a.waiting ≡ w.fresh = sym (append-nil a.waiting) ∙ w.flows ∙ ap (λ (z : List ℕ). w.fresh ++ z) f ∙ append-nil w.fresh in
+    subst (Takes a.writer b.writer) (sym g) w.takes
+rest_put a b (Err e) f w = subst (Breaks a.writer b.writer) (append-nil a.waiting) w.breaks
+
 -- A LENT WRITER
 
-lent_none : {W : Type 0} {N : ℕ} (seen : W → Writer) (o : Output (MutBor W) N) → o.pending.len ≡ 0 → (sink_of (λ (w : MutBor W). lent_writer w.ghost_name (seen w.now)) o).waiting ≡ []
-lent_none seen o e = ap (λ (k : ℕ). take k o.pending.bytes) e
-
 -- what was sent through bytes of which none waits before and after was put
-pub lent_out : {E W : Type 0} {N : ℕ} (seen : W → Writer) (a z : W) (r : MutBor W) (first last : Output (MutBor W) N) (given : ℕ) (text : List ℕ) (result : Result (Unit {0}) E) → (given ≡ r.ghost_name → z ≡ r.now)
-    → sink_of (λ (w : MutBor W). lent_writer w.ghost_name (seen w.now)) first ≡ empty_sink (lent_writer given (seen a)) → r ≡ last.writer
-    → Sends text result (sink_of (λ (w : MutBor W). lent_writer w.ghost_name (seen w.now)) first) (sink_of (λ (w : MutBor W). lent_writer w.ghost_name (seen w.now)) last) → OnOk result (last.pending.len ≡ 0)
+pub lent_out : {E W P : Type 0} (seen : W → Writer) (waiting : P → List ℕ) (a z : W) (r : MutBor W) (first last : Output (MutBor W) P) (given : ℕ) (text : List ℕ) (result : Result (Unit {0}) E) → (given ≡ r.ghost_name → z ≡ r.now)
+    → sink_of (λ (w : MutBor W). lent_writer w.ghost_name (seen w.now)) waiting first ≡ empty_sink (lent_writer given (seen a)) → r ≡ last.writer
+    → Sends text result (sink_of (λ (w : MutBor W). lent_writer w.ghost_name (seen w.now)) waiting first) (sink_of (λ (w : MutBor W). lent_writer w.ghost_name (seen w.now)) waiting last) → OnOk result (waiting last.pending ≡ [])
     → Puts text result (seen a) (seen z)
-lent_out {E} {W} {N} seen a z r first last given text (Ok u) back start same sends none =
+lent_out {E} {W} {P} seen waiting a z r first last given text (Ok u) back start same sends none =
     let S : MutBor W → Writer = λ (w : MutBor W). lent_writer w.ghost_name (seen w.now) in
-    let s : Sent (empty_sink (lent_writer given (seen a))) (sink_of S last) text = subst (λ (o : Sink). Sent o (sink_of S last) text) start sends in
-    let p : Takes (lent_writer given (seen a)) (S last.writer) text = all_out {E = E} (empty_sink (lent_writer given (seen a))) (sink_of S last) text (Ok u) refl (lent_none seen last none) s in
+    let s : Sent (empty_sink (lent_writer given (seen a))) (sink_of S waiting last) text = subst (λ (o : Sink). Sent o (sink_of S waiting last) text) start sends in
+    let p : Takes (lent_writer given (seen a)) (S last.writer) text = all_out {E = E} (empty_sink (lent_writer given (seen a))) (sink_of S waiting last) text (Ok u) refl none s in
     lent_puts {E = E} seen a z r.now given r.ghost_name text (Ok u) back (subst (λ (w : MutBor W). Takes (lent_writer given (seen a)) (S w) text) (sym same) p)
-lent_out {E} {W} {N} seen a z r first last given text (Err e) back start same sends none =
+lent_out {E} {W} {P} seen waiting a z r first last given text (Err e) back start same sends none =
     let S : MutBor W → Writer = λ (w : MutBor W). lent_writer w.ghost_name (seen w.now) in
-    let s : Breaks (lent_writer given (seen a)) (S last.writer) text = subst (λ (o : Sink). Breaks o.writer (S last.writer) (o.waiting ++ text)) start sends in
+    let s : Breaks (lent_writer given (seen a)) (S last.writer) text = subst (λ (o : Sink). Breaks o.writer (S last.writer) (o.waiting ++ text)) start sends.breaks in
     lent_puts {E = E} seen a z r.now given r.ghost_name text (Err e) back (subst (λ (w : MutBor W). Breaks (lent_writer given (seen a)) (S w) text) (sym same) s)

@@ -4,7 +4,7 @@ use Rattle.std.proofs.lemmas.List.{append-nil, take-append-drop}
 use Rattle.std.proofs.lemmas.Grind.{common_steps}
 use Rattle.std.proofs.Math.Seq.{take-add}
 use Rattle.std.specs.Io.KnownBytes.{Appends, Keeps}
-use Rattle.sat_base.specs.device.Device.{Writer, WritesOnce, Takes, Breaks, Puts, takes_none, lent_writer}
+use Rattle.sat_base.specs.device.Device.{Writer, WritesOnce, FlushesOnce, Takes, Breaks, Puts, takes_none, lent_writer}
 use Rattle.sat_base.proofs.lemmas.device.Known.{appends_none, appends_more, rest_is}
 
 pub took_none : (w : Writer) → Takes w w []
@@ -104,6 +104,30 @@ write_fails e a b rest w = record {
   failed = w.failures.1;
   calls = omega (arith, w.calls);
   loans = w.loans;
+}
+
+-- ONE FLUSH
+
+pub flush_takes : {E : Type 0} {u : Unit {0}} (a b : Writer) → FlushesOnce {E = E} (Ok u) a b → Takes a b []
+flush_takes a b f = record {
+  taken = f.taken ∙ sym (append-nil a.taken);
+  told = keeps_appends a.contents b.contents f.told;
+  failures = f.failures.0;
+  calls = omega (arith, f.calls);
+  loans = f.loans;
+}
+
+pub flush_fails : {E : Type 0} (e : E) (a b : Writer) → FlushesOnce {E = E} (Err e) a b → Breaks a b []
+flush_fails e a b f = record {
+  front = [];
+  behind = [];
+  whole = refl;
+  taken = f.taken ∙ sym (append-nil a.taken);
+  told = keeps_appends a.contents b.contents f.told;
+  failures = f.failures.0;
+  failed = f.failures.1;
+  calls = omega (arith, f.calls);
+  loans = f.loans;
 }
 
 -- THE NEXT PART OF A PIECE

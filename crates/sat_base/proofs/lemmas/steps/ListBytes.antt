@@ -8,8 +8,7 @@ use Rattle.sat_base.specs.steps.Numbers.{IsBelow}
 use Rattle.sat_base.specs.steps.StepText.{IsOptionalVariable, IsLiteral, IsHash, IsFlag, IsDeletion, AreUnits, tag_of, SpellsFields, SpellsStep}
 use Rattle.sat_base.specs.steps.StepBytes.{number_bytes, optional_bytes, flag_bytes, deletion_bytes, numbers_bytes, pairs_bytes, list_bytes, units_bytes, fields_bytes, step_bytes}
 use Rattle.sat_base.specs.steps.Steps.{Step, Deletion}
-use Rattle.sat_base.specs.device.Device.{Breaks}
-use Rattle.sat_base.specs.device.Sink.{Sink, Sent, Sends, Writes}
+use Rattle.sat_base.specs.device.Sink.{Sink, Sent, Broken, Sends, Writes}
 use Rattle.sat_base.proofs.lemmas.device.Sending.{sent_more, sends_breaks}
 use Rattle.sat_base.proofs.lemmas.steps.NumberBytes.{spells_number, number_writes, writes_as, both_written}
 
@@ -52,7 +51,7 @@ spells_units ps l f = (number_bytes (length ps), pairs_bytes ps, spells_number (
 -- A STEP: its tag, and its fields
 pub step_writes : {E : Type 0} (step : Step) (tag : ℕ) (a b c : Sink) (r : Result (Unit {0}) E) → tag ≡ tag_of step → Sent a b (tag ∷ []) → Writes SpellsFields step (fields_bytes step) r b c → Writes SpellsStep step (step_bytes step) r a c
 step_writes step tag a b c (Ok u) e p w = (subst (λ (n : ℕ). Sent a c (n ∷ fields_bytes step)) e (sent_more a b c (tag ∷ []) (fields_bytes step) p w.0), (fields_bytes step, refl, w.1))
-step_writes step tag a b c (Err x) e p w = subst (λ (n : ℕ). Breaks a.writer c.writer (a.waiting ++ (n ∷ fields_bytes step))) e (sends_breaks a b c (tag ∷ []) (fields_bytes step) p w)
+step_writes step tag a b c (Err x) e p w = subst (λ (n : ℕ). Broken a c (n ∷ fields_bytes step)) e (sends_breaks a b c (tag ∷ []) (fields_bytes step) p w)
 
 -- VALUES OF FEW KINDS
 pub flag_writes : {E : Type 0} (flag : Bool) (a b : Sink) (r : Result (Unit {0}) E) → flag ≡ true → Sends (number_bytes 1) r a b → Writes IsFlag flag (flag_bytes flag) r a b

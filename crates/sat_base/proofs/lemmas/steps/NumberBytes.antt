@@ -3,8 +3,7 @@ use Rattle.std.proofs.Common.{◌≡◌, ℕ, suc, zero, ◌+◌, ◌*◌, ◌-�
 use Rattle.std.specs.Prelude.{OnOk}
 use Rattle.std.proofs.lemmas.Grind.{common_steps}
 use Rattle.std.proofs.Math.Nat.{pow-succ'}
-use Rattle.sat_base.specs.device.Device.{Breaks}
-use Rattle.sat_base.specs.device.Sink.{Sink, Sent, Sends, Writes}
+use Rattle.sat_base.specs.device.Sink.{Sink, Sent, Broken, Sends, Writes}
 use Rattle.sat_base.specs.steps.Formats.{Format, Both}
 use Rattle.sat_base.specs.steps.Numbers.{IsNumber, IsBelow}
 use Rattle.sat_base.proofs.lemmas.steps.Numbers.{group}
@@ -61,12 +60,12 @@ groups_more number rest byte old mid new h e g w =
     }
 
 -- a failure at one that goes on
-pub groups_break : (number rest byte : ℕ) (old mid new : Sink) → 128 ≤ rest → byte ≡ rest % 128 + 128 → GroupsPut number rest old mid → Breaks mid.writer new.writer (mid.waiting ++ (byte ∷ [])) → Breaks old.writer new.writer (old.waiting ++ groups 9 number)
+pub groups_break : (number rest byte : ℕ) (old mid new : Sink) → 128 ≤ rest → byte ≡ rest % 128 + 128 → GroupsPut number rest old mid → Broken mid new (byte ∷ []) → Broken old new (groups 9 number)
 groups_break number rest byte old mid new h e g w =
     let k = one_less g.left rest h g.fits in
     let more = groups k.0 (rest / 128) in
     let whole : g.done ++ (byte ∷ more) ≡ groups 9 number = ap (λ (b : ℕ). g.done ++ b ∷ more) e ∙ ap (λ (z : List ℕ). g.done ++ z) (sym (groups_on k.0 rest h)) ∙ ap (λ (j : ℕ). g.done ++ groups j rest) (sym k.1) ∙ g.whole in
-    subst (λ (z : List ℕ). Breaks old.writer new.writer (old.waiting ++ z)) whole (sends_breaks old mid new g.done (byte ∷ more) g.sent (sends_stops mid new (byte ∷ []) more w))
+    subst (λ (z : List ℕ). Broken old new z) whole (sends_breaks old mid new g.done (byte ∷ more) g.sent (sends_stops mid new (byte ∷ []) more w))
 
 -- the last one
 pub groups_end : {E : Type 0} (number rest : ℕ) (old mid new : Sink) (r : Result (Unit {0}) E) → rest < 128 → GroupsPut number rest old mid → Sends (rest ∷ []) r mid new → Sends (groups 9 number) r old new
@@ -100,7 +99,7 @@ spells_number limit n h k = (spells_groups 9 n (omega arith), h)
 -- a number in its range, under another name
 pub number_writes : {E : Type 0} (limit m n : ℕ) (a b : Sink) (r : Result (Unit {0}) E) → m ≡ n → n < limit → limit ≤ 2 ^ 64 → Sends (groups 9 m) r a b → Writes (IsBelow limit) n (groups 9 n) r a b
 number_writes limit m n a b (Ok u) e h k w = (subst (λ (j : ℕ). Sent a b (groups 9 j)) e w, spells_number limit n h k)
-number_writes limit m n a b (Err x) e h k w = subst (λ (j : ℕ). Breaks a.writer b.writer (a.waiting ++ groups 9 j)) e w
+number_writes limit m n a b (Err x) e h k w = subst (λ (j : ℕ). Broken a b (groups 9 j)) e w
 
 -- the same under another format
 pub writes_as : {A B E : Type 0} (F : Format A) (G : Format B) (x : A) (y : B) (text : List ℕ) (a b : Sink) (r : Result (Unit {0}) E) → (F x text → G y text) → Writes F x text r a b → Writes G y text r a b

@@ -10,10 +10,10 @@ pub returns-in_err-put_literals : goal.returns-in_err-put_literals
 returns-in_err-put_literals g c =
     let S = g.W.CountedWrite.seen in
     let p = err_from_is_err_and c.from_residual.result c.from_residual.ensures.1 in
-    rw p.1 (sends_stops (sink_of S c.args.self.now) (sink_of S c.put_literals.new.self) (list_bytes c.args.lits.now) (list_bytes c.args.hashes.now) c.in_err-put_literals.ensures)
+    rw p.1 (sends_stops (sink_of S g.P.Room.waiting c.args.self.now) (sink_of S g.P.Room.waiting c.put_literals.new.self) (list_bytes c.args.lits.now) (list_bytes c.args.hashes.now) c.in_err-put_literals.ensures)
 
 pub returns : goal.returns
 returns g c =
     let S = g.W.CountedWrite.seen in
     let p = c.in_ok-put_literals.ensures in
-    both_written AreLiterals AreHashes c.args.lits.now c.args.hashes.now (list_bytes c.args.lits.now) (list_bytes c.args.hashes.now) (sink_of S c.args.self.now) (sink_of S c.put_literals.new.self) (sink_of S c.put_hashes.new.self) c.put_hashes.result p.0 p.1 c.put_hashes.ensures
+    both_written AreLiterals AreHashes c.args.lits.now c.args.hashes.now (list_bytes c.args.lits.now) (list_bytes c.args.hashes.now) (sink_of S g.P.Room.waiting c.args.self.now) (sink_of S g.P.Room.waiting c.put_literals.new.self) (sink_of S g.P.Room.waiting c.put_hashes.new.self) c.put_hashes.result p.0 p.1 c.put_hashes.ensures

@@ -17,10 +17,10 @@ loop-lit-preserved g c =
     let x = c.lit-item.result in
     let text = clause_line ls in
     let more = clause_line (drop (i + 1) ls) in
-    let old = sink_of S c.args.self.now in
-    let mid = sink_of S c.loop-lit.self in
-    let between = sink_of S c.put_literal.new.self in
-    of_more text (32 ∷ []) more old between (sink_of S c.put.new.self)
+    let old = sink_of S g.P.Room.waiting c.args.self.now in
+    let mid = sink_of S g.P.Room.waiting c.loop-lit.self in
+    let between = sink_of S g.P.Room.waiting c.put_literal.new.self in
+    of_more text (32 ∷ []) more old between (sink_of S g.P.Room.waiting c.put.new.self)
     (of_more text (number_text x) (32 ∷ more) old mid between (of_same text _ _ old mid (next_literal ls i x x c.loop-lit-test.true c.lit-item.is) c.loop-lit.invariant) c.in_ok-put_literal.ensures) c.in_ok-put.ensures
 
 pub returns-in_err-put_literal : goal.returns-in_err-put_literal
@@ -31,9 +31,9 @@ returns-in_err-put_literal g c =
     let i = c.loop-lit.lit-index in
     let x = c.lit-item.result in
     let text = clause_line ls in
-    let old = sink_of S c.args.self.now in
-    let mid = sink_of S c.loop-lit.self in
-    rw p.1 (of_break text (number_text x) (32 ∷ clause_line (drop (i + 1) ls)) old mid (sink_of S c.put_literal.new.self) (of_same text _ _ old mid (next_literal ls i x x c.loop-lit-test.true c.lit-item.is) c.loop-lit.invariant) c.in_err-put_literal.ensures)
+    let old = sink_of S g.P.Room.waiting c.args.self.now in
+    let mid = sink_of S g.P.Room.waiting c.loop-lit.self in
+    rw p.1 (of_break text (number_text x) (32 ∷ clause_line (drop (i + 1) ls)) old mid (sink_of S g.P.Room.waiting c.put_literal.new.self) (of_same text _ _ old mid (next_literal ls i x x c.loop-lit-test.true c.lit-item.is) c.loop-lit.invariant) c.in_err-put_literal.ensures)
 
 pub returns-in_err-put : goal.returns-in_err-put
 returns-in_err-put g c =
@@ -44,16 +44,16 @@ returns-in_err-put g c =
     let x = c.lit-item.result in
     let text = clause_line ls in
     let more = clause_line (drop (i + 1) ls) in
-    let old = sink_of S c.args.self.now in
-    let mid = sink_of S c.loop-lit.self in
-    let between = sink_of S c.put_literal.new.self in
-    rw p.1 (of_break text (32 ∷ []) more old between (sink_of S c.put.new.self)
+    let old = sink_of S g.P.Room.waiting c.args.self.now in
+    let mid = sink_of S g.P.Room.waiting c.loop-lit.self in
+    let between = sink_of S g.P.Room.waiting c.put_literal.new.self in
+    rw p.1 (of_break text (32 ∷ []) more old between (sink_of S g.P.Room.waiting c.put.new.self)
     (of_more text (number_text x) (32 ∷ more) old mid between (of_same text _ _ old mid (next_literal ls i x x c.loop-lit-test.true c.lit-item.is) c.loop-lit.invariant) c.in_ok-put_literal.ensures) c.in_err-put.ensures)
 
 pub returns : goal.returns
 returns g c =
     let S = g.W.CountedWrite.seen in
     let text = clause_line c.args.lits.now in
-    let old = sink_of S c.args.self.now in
-    let mid = sink_of S c.loop-lit.self in
-    of_end text (48 ∷ 10 ∷ []) old mid (sink_of S c.put_all.new.self) c.put_all.result (of_same text _ _ old mid (last_literal c.args.lits.now c.loop-lit.lit-index c.loop-lit-test.false) c.loop-lit.invariant) c.put_all.ensures
+    let old = sink_of S g.P.Room.waiting c.args.self.now in
+    let mid = sink_of S g.P.Room.waiting c.loop-lit.self in
+    of_end text (48 ∷ 10 ∷ []) old mid (sink_of S g.P.Room.waiting c.put_all.new.self) c.put_all.result (of_same text _ _ old mid (last_literal c.args.lits.now c.loop-lit.lit-index c.loop-lit-test.false) c.loop-lit.invariant) c.put_all.ensures

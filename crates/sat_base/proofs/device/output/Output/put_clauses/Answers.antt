@@ -7,7 +7,7 @@ use Rattle.sat_base.proofs.device.output.Output.put_clauses.Goals as goal
 
 pub loop-clause-init : goal.loop-clause-init
 loop-clause-init g c =
-    let s = sink_of g.W.CountedWrite.seen c.args.self.now in
+    let s = sink_of g.W.CountedWrite.seen g.P.Room.waiting c.args.self.now in
     let all = c.args.formula.now.clauses in
     let e : all ≡ c.into_iter-clause-iterator.result = search rules in
     of_same (clause_lines all) _ _ s s (ap clause_lines e) (of_none (clause_lines all) s)
@@ -15,16 +15,16 @@ loop-clause-init g c =
 pub loop-clause-preserved : goal.loop-clause-preserved
 loop-clause-preserved g c =
     let S = g.W.CountedWrite.seen in
-    let old = sink_of S c.args.self.now in
-    let mid = sink_of S c.loop-clause.self in
+    let old = sink_of S g.P.Room.waiting c.args.self.now in
+    let mid = sink_of S g.P.Room.waiting c.loop-clause.self in
     let text = clause_lines c.args.formula.now.clauses in
-    of_more text (clause_line c.in-Some.clause.now) (clause_lines c.next.new.self) old mid (sink_of S c.put_clause.new.self) (of_same text _ _ old mid (ap clause_lines c.in-Some.ensures.steps) c.loop-clause.invariant) c.in_ok-put_clause.ensures
+    of_more text (clause_line c.in-Some.clause.now) (clause_lines c.next.new.self) old mid (sink_of S g.P.Room.waiting c.put_clause.new.self) (of_same text _ _ old mid (ap clause_lines c.in-Some.ensures.steps) c.loop-clause.invariant) c.in_ok-put_clause.ensures
 
 pub returns-in_err-put_clause : goal.returns-in_err-put_clause
 returns-in_err-put_clause g c =
     let S = g.W.CountedWrite.seen in
     let p = err_from_is_err_and c.from_residual.result c.from_residual.ensures.1 in
-    let old = sink_of S c.args.self.now in
-    let mid = sink_of S c.loop-clause.self in
+    let old = sink_of S g.P.Room.waiting c.args.self.now in
+    let mid = sink_of S g.P.Room.waiting c.loop-clause.self in
     let text = clause_lines c.args.formula.now.clauses in
-    rw p.1 (of_break text (clause_line c.in-Some.clause.now) (clause_lines c.next.new.self) old mid (sink_of S c.put_clause.new.self) (of_same text _ _ old mid (ap clause_lines c.in-Some.ensures.steps) c.loop-clause.invariant) c.in_err-put_clause.ensures)
+    rw p.1 (of_break text (clause_line c.in-Some.clause.now) (clause_lines c.next.new.self) old mid (sink_of S g.P.Room.waiting c.put_clause.new.self) (of_same text _ _ old mid (ap clause_lines c.in-Some.ensures.steps) c.loop-clause.invariant) c.in_err-put_clause.ensures)

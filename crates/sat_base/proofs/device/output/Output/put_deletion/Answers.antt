@@ -8,14 +8,14 @@ use Rattle.sat_base.proofs.device.output.Output.put_deletion.Goals as goal
 pub returns-in-Redundant : goal.returns-in-Redundant
 returns-in-Redundant g c =
     let S = g.W.CountedWrite.seen in
-    deletion_writes (deletion_of c.args.proof) steps.Redundant 0 (sink_of S c.args.self.now) (sink_of S c.put_number.new.self) c.put_number.result (ap deletion_of c.in-Redundant.is) (omega arith) refl (λ h. h) c.put_number.ensures
+    deletion_writes (deletion_of c.args.proof) steps.Redundant 0 (sink_of S g.P.Room.waiting c.args.self.now) (sink_of S g.P.Room.waiting c.put_number.new.self) c.put_number.result (ap deletion_of c.in-Redundant.is) (omega arith) refl (λ h. h) c.put_number.ensures
 
 pub returns-in-Simplified : goal.returns-in-Simplified
 returns-in-Simplified g c =
     let S = g.W.CountedWrite.seen in
-    deletion_writes (deletion_of c.args.proof) steps.Simplified 1 (sink_of S c.args.self.now) (sink_of S c.put_number-in-Simplified.new.self) c.put_number-in-Simplified.result (ap deletion_of c.in-Simplified.is) (omega arith) refl (λ h. h) c.put_number-in-Simplified.ensures
+    deletion_writes (deletion_of c.args.proof) steps.Simplified 1 (sink_of S g.P.Room.waiting c.args.self.now) (sink_of S g.P.Room.waiting c.put_number-in-Simplified.new.self) c.put_number-in-Simplified.result (ap deletion_of c.in-Simplified.is) (omega arith) refl (λ h. h) c.put_number-in-Simplified.ensures
 
 pub returns-in-Satisfied : goal.returns-in-Satisfied
 returns-in-Satisfied g c =
     let S = g.W.CountedWrite.seen in
-    deletion_writes (deletion_of c.args.proof) steps.Satisfied 2 (sink_of S c.args.self.now) (sink_of S c.put_number-in-Satisfied.new.self) c.put_number-in-Satisfied.result (ap deletion_of c.in-Satisfied.is) (omega arith) refl (λ h. h) c.put_number-in-Satisfied.ensures
+    deletion_writes (deletion_of c.args.proof) steps.Satisfied 2 (sink_of S g.P.Room.waiting c.args.self.now) (sink_of S g.P.Room.waiting c.put_number-in-Satisfied.new.self) c.put_number-in-Satisfied.result (ap deletion_of c.in-Satisfied.is) (omega arith) refl (λ h. h) c.put_number-in-Satisfied.ensures

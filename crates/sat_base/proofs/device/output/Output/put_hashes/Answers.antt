@@ -10,22 +10,22 @@ pub returns-in_err-put_number : goal.returns-in_err-put_number
 returns-in_err-put_number g c =
     let S = g.W.CountedWrite.seen in
     let p = err_from_is_err_and c.from_residual.result c.from_residual.ensures.1 in
-    rw p.1 (sends_stops (sink_of S c.args.self.now) (sink_of S c.put_number.new.self) (number_bytes (length c.args.hashes.now)) (numbers_bytes c.args.hashes.now) c.in_err-put_number.ensures)
+    rw p.1 (sends_stops (sink_of S g.P.Room.waiting c.args.self.now) (sink_of S g.P.Room.waiting c.put_number.new.self) (number_bytes (length c.args.hashes.now)) (numbers_bytes c.args.hashes.now) c.in_err-put_number.ensures)
 
 pub loop-hash-init : goal.loop-hash-init
 loop-hash-init g c =
     let S = g.W.CountedWrite.seen in
     let xs = c.args.hashes.now in
-    of_more (list_bytes xs) (number_bytes (length xs)) (numbers_bytes xs) (sink_of S c.args.self.now) (sink_of S c.args.self.now) (sink_of S c.put_number.new.self) (of_none _ _) c.in_ok-put_number.ensures
+    of_more (list_bytes xs) (number_bytes (length xs)) (numbers_bytes xs) (sink_of S g.P.Room.waiting c.args.self.now) (sink_of S g.P.Room.waiting c.args.self.now) (sink_of S g.P.Room.waiting c.put_number.new.self) (of_none _ _) c.in_ok-put_number.ensures
 
 pub loop-hash-preserved : goal.loop-hash-preserved
 loop-hash-preserved g c =
     let S = g.W.CountedWrite.seen in
     let xs = c.args.hashes.now in
     let x = get_or xs c.loop-hash.hash-index 0 in
-    let old = sink_of S c.args.self.now in
-    let mid = sink_of S c.loop-hash.self in
-    of_more (list_bytes xs) (number_bytes x) (numbers_bytes (drop (c.loop-hash.hash-index + 1) xs)) old mid (sink_of S c.put_number-in-loop-hash.new.self)
+    let old = sink_of S g.P.Room.waiting c.args.self.now in
+    let mid = sink_of S g.P.Room.waiting c.loop-hash.self in
+    of_more (list_bytes xs) (number_bytes x) (numbers_bytes (drop (c.loop-hash.hash-index + 1) xs)) old mid (sink_of S g.P.Room.waiting c.put_number-in-loop-hash.new.self)
     (of_same (list_bytes xs) _ _ old mid (next_number xs c.loop-hash.hash-index x 0 c.loop-hash-test.true refl) c.loop-hash.invariant) c.in_ok-put_number-2.ensures
 
 pub returns-in_err-put_number-2 : goal.returns-in_err-put_number-2
@@ -34,14 +34,14 @@ returns-in_err-put_number-2 g c =
     let p = err_from_is_err_and c.from_residual-in_err-put_number-2.result c.from_residual-in_err-put_number-2.ensures.1 in
     let xs = c.args.hashes.now in
     let x = get_or xs c.loop-hash.hash-index 0 in
-    let old = sink_of S c.args.self.now in
-    let mid = sink_of S c.loop-hash.self in
-    rw p.1 (of_break (list_bytes xs) (number_bytes x) (numbers_bytes (drop (c.loop-hash.hash-index + 1) xs)) old mid (sink_of S c.put_number-in-loop-hash.new.self)
+    let old = sink_of S g.P.Room.waiting c.args.self.now in
+    let mid = sink_of S g.P.Room.waiting c.loop-hash.self in
+    rw p.1 (of_break (list_bytes xs) (number_bytes x) (numbers_bytes (drop (c.loop-hash.hash-index + 1) xs)) old mid (sink_of S g.P.Room.waiting c.put_number-in-loop-hash.new.self)
     (of_same (list_bytes xs) _ _ old mid (next_number xs c.loop-hash.hash-index x 0 c.loop-hash-test.true refl) c.loop-hash.invariant) c.in_err-put_number-2.ensures)
 
 pub returns : goal.returns
 returns g c =
     let S = g.W.CountedWrite.seen in (
-      of_all _ _ (sink_of S c.args.self.now) (sink_of S c.loop-hash.self) (last_number c.args.hashes.now c.loop-hash.hash-index c.loop-hash-test.false) c.loop-hash.invariant,
+      of_all _ _ (sink_of S g.P.Room.waiting c.args.self.now) (sink_of S g.P.Room.waiting c.loop-hash.self) (last_number c.args.hashes.now c.loop-hash.hash-index c.loop-hash-test.false) c.loop-hash.invariant,
       spells_list (2 ^ 64) c.args.hashes.now (omega arith) (search rules) (λ k h. omega (arith, c.type_inv.hashes k)),
     )

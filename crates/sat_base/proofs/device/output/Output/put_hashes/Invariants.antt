@@ -5,4 +5,4 @@ use Rattle.sat_base.proofs.lemmas.device.Sending.{SentOf}
 use Rattle.sat_base.proofs.device.output.Output.put_hashes.Given as goal
 
 abbrev pub invariant-loop-hash : goal.invariant-loop-hash
-invariant-loop-hash g l = SentOf (list_bytes l.hashes) (numbers_bytes (drop l.hash-index l.hashes)) (sink_of g.W.CountedWrite.seen l.fn.self) (sink_of g.W.CountedWrite.seen l.self)
+invariant-loop-hash g l = SentOf (list_bytes l.hashes) (numbers_bytes (drop l.hash-index l.hashes)) (sink_of g.W.CountedWrite.seen g.P.Room.waiting l.fn.self) (sink_of g.W.CountedWrite.seen g.P.Room.waiting l.self)

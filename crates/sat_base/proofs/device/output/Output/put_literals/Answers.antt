@@ -12,23 +12,23 @@ pub returns-in_err-put_number : goal.returns-in_err-put_number
 returns-in_err-put_number g c =
     let S = g.W.CountedWrite.seen in
     let p = err_from_is_err_and c.from_residual.result c.from_residual.ensures.1 in
-    rw p.1 (sends_stops (sink_of S c.args.self.now) (sink_of S c.put_number.new.self) (number_bytes (length c.args.lits.now)) (numbers_bytes c.args.lits.now) c.in_err-put_number.ensures)
+    rw p.1 (sends_stops (sink_of S g.P.Room.waiting c.args.self.now) (sink_of S g.P.Room.waiting c.put_number.new.self) (number_bytes (length c.args.lits.now)) (numbers_bytes c.args.lits.now) c.in_err-put_number.ensures)
 
 pub loop-lit-init : goal.loop-lit-init
 loop-lit-init g c =
     let S = g.W.CountedWrite.seen in
     let xs = c.args.lits.now in
-    record { sent = of_more (list_bytes xs) (number_bytes (length xs)) (numbers_bytes xs) (sink_of S c.args.self.now) (sink_of S c.args.self.now) (sink_of S c.put_number.new.self) (of_none _ _) c.in_ok-put_number.ensures; low = λ k h. absurd (omega arith) }
+    record { sent = of_more (list_bytes xs) (number_bytes (length xs)) (numbers_bytes xs) (sink_of S g.P.Room.waiting c.args.self.now) (sink_of S g.P.Room.waiting c.args.self.now) (sink_of S g.P.Room.waiting c.put_number.new.self) (of_none _ _) c.in_ok-put_number.ensures; low = λ k h. absurd (omega arith) }
 
 pub loop-lit-preserved : goal.loop-lit-preserved
 loop-lit-preserved g c =
     let S = g.W.CountedWrite.seen in
     let xs = c.args.lits.now in
     let x = c.code.result in
-    let old = sink_of S c.args.self.now in
-    let mid = sink_of S c.loop-lit.self in
+    let old = sink_of S g.P.Room.waiting c.args.self.now in
+    let mid = sink_of S g.P.Room.waiting c.loop-lit.self in
     record {
-      sent = of_more (list_bytes xs) (number_bytes x) (numbers_bytes (drop (c.loop-lit.lit-index + 1) xs)) old mid (sink_of S c.put_number-in-loop-lit.new.self)
+      sent = of_more (list_bytes xs) (number_bytes x) (numbers_bytes (drop (c.loop-lit.lit-index + 1) xs)) old mid (sink_of S g.P.Room.waiting c.put_number-in-loop-lit.new.self)
           (of_same (list_bytes xs) _ _ old mid (next_number xs c.loop-lit.lit-index x c.lit-item.result c.loop-lit-test.true (c.code.ensures.value ∙ c.lit-item.is)) c.loop-lit.invariant.sent) c.in_ok-put_number-2.ensures;
       low = below_more _ _ c.loop-lit.invariant.low (let e = get_or_read xs c.loop-lit.lit-index c.lit-item.result c.loop-lit-test.true c.lit-item.is 0 in omega (arith, e, c.code.ensures.value, c.code.ensures.bound));
     }
@@ -39,14 +39,14 @@ returns-in_err-put_number-2 g c =
     let p = err_from_is_err_and c.from_residual-in_err-put_number-2.result c.from_residual-in_err-put_number-2.ensures.1 in
     let xs = c.args.lits.now in
     let x = c.code.result in
-    let old = sink_of S c.args.self.now in
-    let mid = sink_of S c.loop-lit.self in
-    rw p.1 (of_break (list_bytes xs) (number_bytes x) (numbers_bytes (drop (c.loop-lit.lit-index + 1) xs)) old mid (sink_of S c.put_number-in-loop-lit.new.self)
+    let old = sink_of S g.P.Room.waiting c.args.self.now in
+    let mid = sink_of S g.P.Room.waiting c.loop-lit.self in
+    rw p.1 (of_break (list_bytes xs) (number_bytes x) (numbers_bytes (drop (c.loop-lit.lit-index + 1) xs)) old mid (sink_of S g.P.Room.waiting c.put_number-in-loop-lit.new.self)
     (of_same (list_bytes xs) _ _ old mid (next_number xs c.loop-lit.lit-index x c.lit-item.result c.loop-lit-test.true (c.code.ensures.value ∙ c.lit-item.is)) c.loop-lit.invariant.sent) c.in_err-put_number-2.ensures)
 
 pub returns : goal.returns
 returns g c =
     let S = g.W.CountedWrite.seen in (
-      of_all _ _ (sink_of S c.args.self.now) (sink_of S c.loop-lit.self) (last_number c.args.lits.now c.loop-lit.lit-index c.loop-lit-test.false) c.loop-lit.invariant.sent,
+      of_all _ _ (sink_of S g.P.Room.waiting c.args.self.now) (sink_of S g.P.Room.waiting c.loop-lit.self) (last_number c.args.lits.now c.loop-lit.lit-index c.loop-lit-test.false) c.loop-lit.invariant.sent,
       spells_list (2 * largest) c.args.lits.now (omega arith) (search rules) (λ k h. c.loop-lit.invariant.low k (omega arith)),
     )

@@ -7,6 +7,6 @@ use Rattle.sat_base.proofs.device.output.Output.put_literals.Given as goal
 
 abbrev pub invariant-loop-lit : goal.invariant-loop-lit
 invariant-loop-lit g l = record {
-  sent : SentOf (list_bytes l.lits) (numbers_bytes (drop l.lit-index l.lits)) (sink_of g.W.CountedWrite.seen l.fn.self) (sink_of g.W.CountedWrite.seen l.self);
+  sent : SentOf (list_bytes l.lits) (numbers_bytes (drop l.lit-index l.lits)) (sink_of g.W.CountedWrite.seen g.P.Room.waiting l.fn.self) (sink_of g.W.CountedWrite.seen g.P.Room.waiting l.self);
   low : (k : ℕ) → k < l.lit-index → get_or l.lits k 0 < 2 * largest;
 }

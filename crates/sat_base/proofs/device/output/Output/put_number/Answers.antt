@@ -10,15 +10,15 @@ loop-rest-init g c = groups_none c.args.number _ (omega arith)
 pub loop-rest-preserved : goal.loop-rest-preserved
 loop-rest-preserved g c =
     let S = g.W.CountedWrite.seen in
-    groups_more c.args.number c.loop-rest.rest (c.loop-rest.rest % 128 + 128) (sink_of S c.args.self.now) (sink_of S c.loop-rest.self) (sink_of S c.put.new.self) c.loop-rest-test.true refl c.loop-rest.invariant c.in_ok-put.ensures
+    groups_more c.args.number c.loop-rest.rest (c.loop-rest.rest % 128 + 128) (sink_of S g.P.Room.waiting c.args.self.now) (sink_of S g.P.Room.waiting c.loop-rest.self) (sink_of S g.P.Room.waiting c.put.new.self) c.loop-rest-test.true refl c.loop-rest.invariant c.in_ok-put.ensures
 
 pub returns-in_err-put : goal.returns-in_err-put
 returns-in_err-put g c =
     let S = g.W.CountedWrite.seen in
     let p = err_from_is_err_and c.from_residual.result c.from_residual.ensures.1 in
-    rw p.1 (groups_break c.args.number c.loop-rest.rest (c.loop-rest.rest % 128 + 128) (sink_of S c.args.self.now) (sink_of S c.loop-rest.self) (sink_of S c.put.new.self) c.loop-rest-test.true refl c.loop-rest.invariant c.in_err-put.ensures)
+    rw p.1 (groups_break c.args.number c.loop-rest.rest (c.loop-rest.rest % 128 + 128) (sink_of S g.P.Room.waiting c.args.self.now) (sink_of S g.P.Room.waiting c.loop-rest.self) (sink_of S g.P.Room.waiting c.put.new.self) c.loop-rest-test.true refl c.loop-rest.invariant c.in_err-put.ensures)
 
 pub returns : goal.returns
 returns g c =
     let S = g.W.CountedWrite.seen in
-    groups_end c.args.number c.loop-rest.rest (sink_of S c.args.self.now) (sink_of S c.loop-rest.self) (sink_of S c.put-2.new.self) c.put-2.result c.loop-rest-test.false c.loop-rest.invariant c.put-2.ensures
+    groups_end c.args.number c.loop-rest.rest (sink_of S g.P.Room.waiting c.args.self.now) (sink_of S g.P.Room.waiting c.loop-rest.self) (sink_of S g.P.Room.waiting c.put-2.new.self) c.put-2.result c.loop-rest-test.false c.loop-rest.invariant c.put-2.ensures

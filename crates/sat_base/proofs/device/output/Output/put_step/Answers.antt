@@ -12,9 +12,9 @@ returns-in_err-put g c =
     let S = g.W.CountedWrite.seen in
     let p = err_from_is_err_and c.from_residual.result c.from_residual.ensures.1 in
     let step = step_of c.args.step.now in
-    rw p.1 (stops_same (sink_of S c.args.self.now) (sink_of S c.put.new.self) (c.tag.result ∷ []) (fields_bytes step) (step_bytes step) (ap (λ (n : ℕ). n ∷ fields_bytes step) c.tag.ensures) c.in_err-put.ensures)
+    rw p.1 (stops_same (sink_of S g.P.Room.waiting c.args.self.now) (sink_of S g.P.Room.waiting c.put.new.self) (c.tag.result ∷ []) (fields_bytes step) (step_bytes step) (ap (λ (n : ℕ). n ∷ fields_bytes step) c.tag.ensures) c.in_err-put.ensures)
 
 pub returns : goal.returns
 returns g c =
     let S = g.W.CountedWrite.seen in
-    step_writes (step_of c.args.step.now) c.tag.result (sink_of S c.args.self.now) (sink_of S c.put.new.self) (sink_of S c.put_fields.new.self) c.put_fields.result c.tag.ensures c.in_ok-put.ensures c.put_fields.ensures
+    step_writes (step_of c.args.step.now) c.tag.result (sink_of S g.P.Room.waiting c.args.self.now) (sink_of S g.P.Room.waiting c.put.new.self) (sink_of S g.P.Room.waiting c.put_fields.new.self) c.put_fields.result c.tag.ensures c.in_ok-put.ensures c.put_fields.ensures

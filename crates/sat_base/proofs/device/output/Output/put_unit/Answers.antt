@@ -11,9 +11,9 @@ returns-in_err-put_number g c =
     let S = g.W.CountedWrite.seen in
     let p = err_from_is_err_and c.from_residual.result c.from_residual.ensures.1 in
     let hash = number_bytes c.args.unit.1 in
-    rw p.1 (stops_same (sink_of S c.args.self.now) (sink_of S c.put_number.new.self) (number_bytes c.code.result) hash (number_bytes c.args.unit.0 ++ hash) (ap (λ (n : ℕ). number_bytes n ++ hash) c.code.ensures.value) c.in_err-put_number.ensures)
+    rw p.1 (stops_same (sink_of S g.P.Room.waiting c.args.self.now) (sink_of S g.P.Room.waiting c.put_number.new.self) (number_bytes c.code.result) hash (number_bytes c.args.unit.0 ++ hash) (ap (λ (n : ℕ). number_bytes n ++ hash) c.code.ensures.value) c.in_err-put_number.ensures)
 
 pub returns : goal.returns
 returns g c =
     let S = g.W.CountedWrite.seen in
-    unit_writes c.args.unit c.code.result (sink_of S c.args.self.now) (sink_of S c.put_number.new.self) (sink_of S c.put_number-2.new.self) c.put_number-2.result c.code.ensures.value c.code.ensures.bound (search rules) c.in_ok-put_number.ensures c.put_number-2.ensures
+    unit_writes c.args.unit c.code.result (sink_of S g.P.Room.waiting c.args.self.now) (sink_of S g.P.Room.waiting c.put_number.new.self) (sink_of S g.P.Room.waiting c.put_number-2.new.self) c.put_number-2.result c.code.ensures.value c.code.ensures.bound (search rules) c.in_ok-put_number.ensures c.put_number-2.ensures

@@ -7,6 +7,6 @@ use Rattle.sat_base.proofs.device.output.Output.put_units.Given as goal
 
 abbrev pub invariant-loop-unit : goal.invariant-loop-unit
 invariant-loop-unit g l = record {
-  sent : SentOf (units_bytes l.units) (pairs_bytes (drop l.unit-index l.units)) (sink_of g.W.CountedWrite.seen l.fn.self) (sink_of g.W.CountedWrite.seen l.self);
+  sent : SentOf (units_bytes l.units) (pairs_bytes (drop l.unit-index l.units)) (sink_of g.W.CountedWrite.seen g.P.Room.waiting l.fn.self) (sink_of g.W.CountedWrite.seen g.P.Room.waiting l.self);
   low : (k : ℕ) → k < l.unit-index → ((get_or l.units k (0, 0)).0 < 2 * largest) × ((get_or l.units k (0, 0)).1 < 2 ^ 64);
 }

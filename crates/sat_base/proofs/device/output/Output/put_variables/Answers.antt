@@ -10,10 +10,10 @@ pub returns-in_err-put_variable : goal.returns-in_err-put_variable
 returns-in_err-put_variable g c =
     let S = g.W.CountedWrite.seen in
     let p = err_from_is_err_and c.from_residual.result c.from_residual.ensures.1 in
-    rw p.1 (sends_stops (sink_of S c.args.self.now) (sink_of S c.put_variable.new.self) (number_bytes c.args.first) (optional_bytes c.args.second) c.in_err-put_variable.ensures)
+    rw p.1 (sends_stops (sink_of S g.P.Room.waiting c.args.self.now) (sink_of S g.P.Room.waiting c.put_variable.new.self) (number_bytes c.args.first) (optional_bytes c.args.second) c.in_err-put_variable.ensures)
 
 pub returns : goal.returns
 returns g c =
     let S = g.W.CountedWrite.seen in
     let p = c.in_ok-put_variable.ensures in
-    both_written IsVariable IsOptionalVariable c.args.first c.args.second (number_bytes c.args.first) (optional_bytes c.args.second) (sink_of S c.args.self.now) (sink_of S c.put_variable.new.self) (sink_of S c.put_optional.new.self) c.put_optional.result p.0 p.1 c.put_optional.ensures
+    both_written IsVariable IsOptionalVariable c.args.first c.args.second (number_bytes c.args.first) (optional_bytes c.args.second) (sink_of S g.P.Room.waiting c.args.self.now) (sink_of S g.P.Room.waiting c.put_variable.new.self) (sink_of S g.P.Room.waiting c.put_optional.new.self) c.put_optional.result p.0 p.1 c.put_optional.ensures

@@ -16,26 +16,26 @@ returns-in_err-put_header-clause-sends g c =
     let S = g.W.CountedWrite.seen in
     let f = c.args.formula.now in
     let p = err_from_is_err_and c.from_residual.result c.from_residual.ensures.1 in
-    rw p.1 (stops_same (sink_of S c.args.self.now) (sink_of S c.put_header.new.self) (header_line c.var_count.result c.len.result) (clause_lines f.clauses) (dimacs_text f) (text_is f c.var_count.result c.len.result c.var_count.ensures.count c.len.ensures) c.in_err-put_header.ensures)
+    rw p.1 (stops_same (sink_of S g.P.Room.waiting c.args.self.now) (sink_of S g.P.Room.waiting c.put_header.new.self) (header_line c.var_count.result c.len.result) (clause_lines f.clauses) (dimacs_text f) (text_is f c.var_count.result c.len.result c.var_count.ensures.count c.len.ensures) c.in_err-put_header.ensures)
 
 pub returns-in_err-put_clauses-clause-sends : goal.returns-in_err-put_clauses-clause-sends
 returns-in_err-put_clauses-clause-sends g c =
     let S = g.W.CountedWrite.seen in
     let f = c.args.formula.now in
     let p = err_from_is_err_and c.from_residual-in_err-put_clauses.result c.from_residual-in_err-put_clauses.ensures.1 in
-    let header = sink_of S c.put_header.new.self in
+    let header = sink_of S g.P.Room.waiting c.put_header.new.self in
     let text = header_line c.var_count.result c.len.result in
-    rw p.1 (stops_same (sink_of S c.args.self.now) (sink_of S c.put_clauses.new.self) (text ++ clause_lines f.clauses) [] (dimacs_text f) (append-nil (text ++ clause_lines f.clauses) ∙ text_is f c.var_count.result c.len.result c.var_count.ensures.count c.len.ensures)
-    (sends_breaks (sink_of S c.args.self.now) header (sink_of S c.put_clauses.new.self) text (clause_lines f.clauses) c.in_ok-put_header.ensures c.in_err-put_clauses.ensures))
+    rw p.1 (stops_same (sink_of S g.P.Room.waiting c.args.self.now) (sink_of S g.P.Room.waiting c.put_clauses.new.self) (text ++ clause_lines f.clauses) [] (dimacs_text f) (append-nil (text ++ clause_lines f.clauses) ∙ text_is f c.var_count.result c.len.result c.var_count.ensures.count c.len.ensures)
+    (sends_breaks (sink_of S g.P.Room.waiting c.args.self.now) header (sink_of S g.P.Room.waiting c.put_clauses.new.self) text (clause_lines f.clauses) c.in_ok-put_header.ensures c.in_err-put_clauses.ensures))
 
 pub returns-clause-sends : goal.returns-clause-sends
 returns-clause-sends g c =
     let S = g.W.CountedWrite.seen in
     let f = c.args.formula.now in
-    let old = sink_of S c.args.self.now in
-    let header = sink_of S c.put_header.new.self in
-    let all = sink_of S c.put_clauses.new.self in
-    let new = sink_of S c.write_out.new.self in
+    let old = sink_of S g.P.Room.waiting c.args.self.now in
+    let header = sink_of S g.P.Room.waiting c.put_header.new.self in
+    let all = sink_of S g.P.Room.waiting c.put_clauses.new.self in
+    let new = sink_of S g.P.Room.waiting c.write_rest.new.self in
     let text = header_line c.var_count.result c.len.result in
-    sends_same old new (text ++ clause_lines f.clauses) (dimacs_text f) c.write_out.result (text_is f c.var_count.result c.len.result c.var_count.ensures.count c.len.ensures)
-    (sends_last old all new (text ++ clause_lines f.clauses) c.write_out.result (sent_more old header all text (clause_lines f.clauses) c.in_ok-put_header.ensures c.in_ok-put_clauses.ensures) c.write_out.ensures.sends)
+    sends_same old new (text ++ clause_lines f.clauses) (dimacs_text f) c.write_rest.result (text_is f c.var_count.result c.len.result c.var_count.ensures.count c.len.ensures)
+    (sends_last old all new (text ++ clause_lines f.clauses) c.write_rest.result (sent_more old header all text (clause_lines f.clauses) c.in_ok-put_header.ensures c.in_ok-put_clauses.ensures) c.write_rest.ensures.sends)

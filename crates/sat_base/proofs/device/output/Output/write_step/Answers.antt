@@ -15,4 +15,4 @@ returns-in_err-put_step-clause-writes g c =
 pub returns-clause-writes : goal.returns-clause-writes
 returns-clause-writes g c =
     let S = g.W.CountedWrite.seen in
-    writes_last SpellsStep (step_of c.args.step.now) (step_bytes (step_of c.args.step.now)) (sink_of S c.args.self.now) (sink_of S c.put_step.new.self) (sink_of S c.write_out.new.self) c.write_out.result c.in_ok-put_step.ensures.0 c.in_ok-put_step.ensures.1 c.write_out.ensures.sends
+    writes_last SpellsStep (step_of c.args.step.now) (step_bytes (step_of c.args.step.now)) (sink_of S g.P.Room.waiting c.args.self.now) (sink_of S g.P.Room.waiting c.put_step.new.self) (sink_of S g.P.Room.waiting c.write_rest.new.self) c.write_rest.result c.in_ok-put_step.ensures.0 c.in_ok-put_step.ensures.1 c.write_rest.ensures.sends

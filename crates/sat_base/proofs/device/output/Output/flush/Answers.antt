@@ -1,0 +1,19 @@
+use Rattle.std.proofs.Common.{[]}
+use Rattle.std.proofs.lemmas.Result.{err_from_is_err_and}
+use Rattle.sat_base.specs.device.Sink.{sink_of}
+use Rattle.sat_base.proofs.lemmas.device.Sending.{sends_flush}
+use Rattle.sat_base.proofs.device.output.Output.flush.Goals as goal
+
+pub returns-in_err-write_rest : goal.returns-in_err-write_rest
+returns-in_err-write_rest g c =
+    let S = g.W.CountedWrite.seen in
+    let Q = g.P.Room.waiting in
+    let p = err_from_is_err_and c.from_residual.result c.from_residual.ensures.1 in
+    rw p.1 c.in_err-write_rest.ensures.sends
+
+pub returns : goal.returns
+returns g c =
+    let S = g.W.CountedWrite.seen in
+    let Q = g.P.Room.waiting in
+    let o = c.write_rest.new.self in
+    sends_flush (sink_of S Q c.args.self.now) (S o.writer) (S c.flush_counted.new.self) (Q o.pending) c.flush_counted.result c.in_ok-write_rest.ensures.none c.in_ok-write_rest.ensures.sends c.flush_counted.ensures

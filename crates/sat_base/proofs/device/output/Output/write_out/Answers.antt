@@ -1,0 +1,12 @@
+use Rattle.std.proofs.Common.{[]}
+use Rattle.std.proofs.lemmas.Result.{err_from_is_err_and}
+use Rattle.sat_base.specs.device.Sink.{sink_of}
+use Rattle.sat_base.proofs.lemmas.device.Sending.{out_sends}
+use Rattle.sat_base.proofs.device.output.Output.write_out.Goals as goal
+
+pub returns-clause-sends : goal.returns-clause-sends
+returns-clause-sends g c =
+    let S = g.W.CountedWrite.seen in
+    let Q = g.P.Room.waiting in
+    let o = c.args.self.now in
+    out_sends (S o.writer) (S c.write_all_counted-result.new.self) (Q o.pending) (Q c.clear.new.self) c.as_slice.result.now c.write_all_counted-result.result c.as_slice.ensures c.clear.ensures.waiting c.write_all_counted-result.ensures

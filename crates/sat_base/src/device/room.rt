@@ -1,0 +1,67 @@
+//! Room for bytes that wait.
+ghost use Rattle.std.specs.Prelude.{◌≡◌, ◌+◌, ◌++◌, ◌∷◌, [], ◌≤◌, ◌<◌, ℕ, List, length, take};
+
+use crate::device::pending::Pending;
+
+/// Room for some bytes, of which those that wait are the first. What is taken for a piece depends on how long it is kept.
+pub(crate) trait Room: Drop {
+    ghost waiting: { Self → List ℕ };
+
+    ghost size: { Self → ℕ };
+
+    /// How many bytes more there is room for.
+    fn free(&self) -> usize
+        ensures room { result + length (waiting self.now) ≡ size self.now }
+        ensures some { 0 < size self.now };
+
+    fn push(&mut self, byte: u8)
+        requires { length (waiting self.old) < size self.old }
+        ensures waiting { waiting self.new ≡ waiting self.old ++ (byte ∷ []) }
+        ensures size { size self.new ≡ size self.old };
+
+    fn push_all(&mut self, piece: &[u8])
+        requires { length (waiting self.old) + length piece.now ≤ size self.old }
+        ensures waiting { waiting self.new ≡ waiting self.old ++ piece.now }
+        ensures size { size self.new ≡ size self.old };
+
+    fn clear(&mut self)
+        ensures waiting { waiting self.new ≡ [] }
+        ensures size { size self.new ≡ size self.old };
+
+    fn as_slice(&self) -> &[u8]
+        ensures { result.now ≡ waiting self.now };
+}
+
+// Each byte goes through `free` and `push`.
+impl<const N: usize> Room for Pending<N> {
+    ghost waiting = { λ p. take p.len p.bytes };
+
+    ghost size = { λ p. N };
+
+    #[inline(always)]
+    fn free(&self) -> usize {
+        N - self.len
+    }
+
+    #[inline(always)]
+    fn push(&mut self, byte: u8) {
+        self.bytes[self.len] = byte;
+        self.len += 1;
+    }
+
+    fn push_all(&mut self, piece: &[u8]) {
+        let end = self.len + piece.len();
+        let all = &mut self.bytes[..];
+        all[self.len..end].copy_from_slice(piece);
+        self.len = end;
+    }
+
+    fn clear(&mut self) {
+        self.len = 0;
+    }
+
+    fn as_slice(&self) -> &[u8] {
+        let all = &self.bytes[..];
+        &all[..self.len]
+    }
+}
