@@ -1,0 +1,381 @@
+-- What a write to the buffer leaves of the clauses in it.
+use Rattle.std.proofs.Common.{◌≡◌, ◌≢◌, ℕ, zero, suc, append_assoc, ◌+◌, ◌*◌, ◌^◌, ◌<◌, ◌≤◌, inl, inr, List, [], ◌∷◌, ◌++◌, length, get_or, set, take, drop, refl, sym, ap, ◌∙◌, subst, arith, length-append, length-drop}
+use Rattle.std.proofs.lemmas.List.{get_or_read, take_more, length-take-le, get_or-take, get_or-drop, get_or_append_left, get_or-append-add, ext_get_or, get_or-set_same, get_or-set_other, length-set, drop-set-add}
+use Rattle.std.proofs.Math.Seq.{take-set-lt}
+use Rattle.std.proofs.lemmas.List.Elements.{Contains-append_cases, All-more}
+use Rattle.std.proofs.lemmas.Bool.{cases_eq}
+use Rattle.std.specs.List.{Contains, All}
+use Rattle.sat_base.specs.values.Literals.{largest}
+use Rattle.sat_store.specs.clause.Header.{Header, header_of}
+use Rattle.sat_store.specs.clause.Buffer.{header_at, lits_at, IsClause, Apart, Laid, Keeps, ChangesAt, Adds}
+
+-- the clause's length is its header's and that of its literals
+
+pub lits_count : (w : List ℕ) (o : ℕ) → IsClause w o → length (lits_at w o) ≡ get_or w (o + 2) 0
+unfolding lits_at
+lits_count w o c = length-take-le (get_or w (o + 2) 0) (drop (o + 3) w) (omega (arith, length-drop (o + 3) w, c.whole))
+
+pub lit_there : (w : List ℕ) (o k : ℕ) → k < get_or w (o + 2) 0 → get_or (lits_at w o) k 0 ≡ get_or w (o + 3 + k) 0
+unfolding lits_at
+lit_there w o k small = get_or-take (get_or w (o + 2) 0) (drop (o + 3) w) k 0 small ∙ get_or-drop (o + 3) w k 0
+
+pub header_len : (w : List ℕ) (o : ℕ) → (header_at w o).len ≡ get_or w (o + 2) 0
+unfolding header_at
+header_len w o = refl
+
+-- two clauses of the same words are the same
+
+same_lits : (v w : List ℕ) (o p : ℕ) → IsClause v o → IsClause w p → get_or w (p + 2) 0 ≡ get_or v (o + 2) 0 → ((k : ℕ) → k < get_or v (o + 2) 0 → get_or w (p + 3 + k) 0 ≡ get_or v (o + 3 + k) 0) → lits_at w p ≡ lits_at v o
+same_lits v w o p c d n e =
+    let lw : length (lits_at w p) ≡ get_or w (p + 2) 0 = lits_count w p d in
+    let lv : length (lits_at v o) ≡ get_or v (o + 2) 0 = lits_count v o c in
+    ext_get_or 0 (lits_at w p) (lits_at v o) (lw ∙ n ∙ sym lv)
+    (λ k h. lit_there w p k (omega arith) ∙ e k (omega arith) ∙ sym (lit_there v o k (omega arith)))
+
+pub kept : (v w : List ℕ) (p : ℕ) → IsClause v p → length v ≤ length w → ((i : ℕ) → p ≤ i → i < p + 3 + get_or v (p + 2) 0 → get_or w i 0 ≡ get_or v i 0) → Keeps v w p
+unfolding header_at
+kept v w p c longer same =
+    let e0 : get_or w p 0 ≡ get_or v p 0 = same p (omega arith) (omega arith) in
+    let e1 : get_or w (p + 1) 0 ≡ get_or v (p + 1) 0 = same (p + 1) (omega arith) (omega arith) in
+    let e2 : get_or w (p + 2) 0 ≡ get_or v (p + 2) 0 = same (p + 2) (omega arith) (omega arith) in
+    let ls : (k : ℕ) → k < get_or v (p + 2) 0 → get_or w (p + 3 + k) 0 ≡ get_or v (p + 3 + k) 0 = λ k h. same (p + 3 + k) (omega arith) (omega arith) in
+    let clause : IsClause w p = record {
+      flags = omega (arith, c.flags);
+      whole = omega (arith, c.whole);
+      lits = λ k h. omega (arith, ls k (omega arith), c.lits k (omega arith));
+    } in
+    record {
+      clause = clause;
+      header = rw (e0, e1, e2) refl;
+      lits = same_lits v w p p c clause e2 ls;
+    }
+
+same_len : (v w : List ℕ) (p : ℕ) → Keeps v w p → get_or w (p + 2) 0 ≡ get_or v (p + 2) 0
+same_len v w p keeps = sym (header_len w p) ∙ ap (λ (h : Header). h.len) keeps.header ∙ header_len v p
+
+still_apart : (v w : List ℕ) (p q : ℕ) → Apart v p q → get_or w (p + 2) 0 ≤ get_or v (p + 2) 0 → get_or w (q + 2) 0 ≤ get_or v (q + 2) 0 → Apart w p q
+unfolding Apart
+still_apart v w p q apart a b = elim apart [ inl before ↦ inl (omega arith) | inr behind ↦ inr (omega arith) ]
+
+pub others_kept : (v w : List ℕ) (o : ℕ) → length w ≡ length v → ((i : ℕ) → i < o → get_or w i 0 ≡ get_or v i 0) → ((i : ℕ) → o + 3 + get_or v (o + 2) 0 ≤ i → get_or w i 0 ≡ get_or v i 0) → (p : ℕ) → IsClause v p → Apart v o p → Keeps v w p
+unfolding Apart
+others_kept v w o size below above p c apart = elim apart [
+  | inl before ↦ kept v w p c (omega arith) (λ i h k. above i (omega arith))
+  | inr behind ↦ kept v w p c (omega arith) (λ i h k. below i (omega arith))
+]
+
+-- a write within the words of the clause at o, which is at most as long as before
+pub changes_at : (v w : List ℕ) (o : ℕ) → IsClause v o → IsClause w o → length w ≡ length v → get_or w (o + 2) 0 ≤ get_or v (o + 2) 0 → ((i : ℕ) → i < o → get_or w i 0 ≡ get_or v i 0) → ((i : ℕ) → o + 3 + get_or v (o + 2) 0 ≤ i → get_or w i 0 ≡ get_or v i 0) → ChangesAt v w o
+changes_at v w o was now size shorter below above =
+    let others : (p : ℕ) → IsClause v p → Apart v o p → Keeps v w p = others_kept v w o size below above in
+    let no_longer : (live : List ℕ) → Contains live o → Laid v live → (p : ℕ) → Contains live p → get_or w (p + 2) 0 ≤ get_or v (p + 2) 0 = λ live has laid p c. elim (cases_eq p o) [
+      | inl same ↦ subst (λ (x : ℕ). get_or w (x + 2) 0 ≤ get_or v (x + 2) 0) (sym same) shorter
+      | inr other ↦ omega (arith, same_len v w p (others p (laid.clauses p c) (laid.apart o p has c (λ e. other (sym e)))))
+    ] in
+    record {
+      clause = now;
+      size = size;
+      others = others;
+      laid = λ live has laid. record {
+        clauses = λ p c. elim (cases_eq p o) [ inl same ↦ subst (IsClause w) (sym same) now | inr other ↦ (others p (laid.clauses p c) (laid.apart o p has c (λ e. other (sym e)))).clause ];
+        apart = λ p q hp hq differ. still_apart v w p q (laid.apart p q hp hq differ) (no_longer live has laid p hp) (no_longer live has laid q hq);
+      };
+    }
+
+-- one literal written
+
+at_other : (w : List ℕ) (i j x : ℕ) → j ≢ i → get_or (set w i x) j 0 ≡ get_or w j 0
+at_other w i j x differ = get_or-set_other w i j x 0 differ
+
+pub lit_set : (w : List ℕ) (o k x : ℕ) → k < get_or w (o + 2) 0 → lits_at (set w (o + 3 + k) x) o ≡ set (lits_at w o) k x
+unfolding lits_at
+lit_set w o k x within =
+    let n : get_or (set w (o + 3 + k) x) (o + 2) 0 ≡ get_or w (o + 2) 0 = at_other w (o + 3 + k) (o + 2) x (omega arith) in
+    rw (n, drop-set-add) (take-set-lt (get_or w (o + 2) 0) (drop (o + 3) w) k x within)
+
+pub header_set_lit : (w : List ℕ) (o k x : ℕ) → header_at (set w (o + 3 + k) x) o ≡ header_at w o
+unfolding header_at
+header_set_lit w o k x =
+    let a : get_or (set w (o + 3 + k) x) o 0 ≡ get_or w o 0 = at_other w (o + 3 + k) o x (omega arith) in
+    let b : get_or (set w (o + 3 + k) x) (o + 1) 0 ≡ get_or w (o + 1) 0 = at_other w (o + 3 + k) (o + 1) x (omega arith) in
+    let c : get_or (set w (o + 3 + k) x) (o + 2) 0 ≡ get_or w (o + 2) 0 = at_other w (o + 3 + k) (o + 2) x (omega arith) in
+    rw (a, b, c) refl
+
+clause_set_lit : (w : List ℕ) (o k x : ℕ) → IsClause w o → k < get_or w (o + 2) 0 → x < 2 * largest → IsClause (set w (o + 3 + k) x) o
+clause_set_lit w o k x c within small =
+    let i : ℕ = o + 3 + k in
+    let b : get_or (set w (o + 3 + k) x) (o + 1) 0 ≡ get_or w (o + 1) 0 = at_other w (o + 3 + k) (o + 1) x (omega arith) in
+    let n : get_or (set w (o + 3 + k) x) (o + 2) 0 ≡ get_or w (o + 2) 0 = at_other w (o + 3 + k) (o + 2) x (omega arith) in
+    let len : length (set w (o + 3 + k) x) ≡ length w = length-set w (o + 3 + k) x in
+    record {
+      flags = omega (arith, c.flags);
+      whole = omega (arith, c.whole);
+      lits = λ j h. elim (cases_eq j k) [
+        | inl same ↦ let e : get_or (set w (o + 3 + k) x) (o + 3 + k) 0 ≡ x = get_or-set_same w (o + 3 + k) x 0 (omega (arith, c.whole)) in subst (λ (z : ℕ). get_or (set w (o + 3 + k) x) (o + 3 + z) 0 < 2 * largest) (sym same) (omega arith)
+        | inr other ↦ let e : get_or (set w (o + 3 + k) x) (o + 3 + j) 0 ≡ get_or w (o + 3 + j) 0 = at_other w (o + 3 + k) (o + 3 + j) x (omega arith) in omega (arith, c.lits j (omega arith))
+      ];
+    }
+
+pub changes_lit : (w : List ℕ) (o k x : ℕ) → IsClause w o → k < get_or w (o + 2) 0 → x < 2 * largest → ChangesAt w (set w (o + 3 + k) x) o
+changes_lit w o k x c within small =
+    let n : get_or (set w (o + 3 + k) x) (o + 2) 0 ≡ get_or w (o + 2) 0 = at_other w (o + 3 + k) (o + 2) x (omega arith) in
+    changes_at w (set w (o + 3 + k) x) o c (clause_set_lit w o k x c within small) (length-set w (o + 3 + k) x) (omega arith)
+    (λ i h. at_other w (o + 3 + k) i x (omega arith))
+    (λ i h. at_other w (o + 3 + k) i x (omega arith))
+
+-- two writes one after the other
+
+keeps_twice : (u v w : List ℕ) (p : ℕ) → Keeps u v p → Keeps v w p → Keeps u w p
+keeps_twice u v w p a b = record { clause = b.clause; header = b.header ∙ a.header; lits = b.lits ∙ a.lits }
+
+pub changes_twice : (u v w : List ℕ) (o : ℕ) → get_or v (o + 2) 0 ≤ get_or u (o + 2) 0 → ChangesAt u v o → ChangesAt v w o → ChangesAt u w o
+changes_twice u v w o shorter a b = record {
+  clause = b.clause;
+  size = b.size ∙ a.size;
+  others = λ p c apart.
+      let first : Keeps u v p = a.others p c apart in
+      keeps_twice u v w p first (b.others p first.clause (still_apart u v o p apart shorter (omega (arith, same_len u v p first))));
+  laid = λ live has laid. b.laid live has (a.laid live has laid);
+}
+
+pub lits_swapped : (w : List ℕ) (o i j : ℕ) → i < get_or w (o + 2) 0 → j < get_or w (o + 2) 0 → lits_at (set (set w (o + 3 + i) (get_or w (o + 3 + j) 0)) (o + 3 + j) (get_or w (o + 3 + i) 0)) o ≡ set (set (lits_at w o) i (get_or (lits_at w o) j 0)) j (get_or (lits_at w o) i 0)
+lits_swapped w o i j h k =
+    let x : ℕ = get_or w (o + 3 + j) 0 in
+    let y : ℕ = get_or w (o + 3 + i) 0 in
+    let v : List ℕ = set w (o + 3 + i) x in
+    let n : get_or v (o + 2) 0 ≡ get_or w (o + 2) 0 = at_other w (o + 3 + i) (o + 2) x (omega arith) in
+    lit_set v o j y (omega arith) ∙ ap (λ (ls : List ℕ). set ls j y) (lit_set w o i x h) ∙ rw (lit_there w o j k, lit_there w o i h) refl
+
+pub changes_swapped : (w : List ℕ) (o i j : ℕ) → IsClause w o → i < get_or w (o + 2) 0 → j < get_or w (o + 2) 0 → ChangesAt w (set (set w (o + 3 + i) (get_or w (o + 3 + j) 0)) (o + 3 + j) (get_or w (o + 3 + i) 0)) o
+changes_swapped w o i j c h k =
+    let x : ℕ = get_or w (o + 3 + j) 0 in
+    let y : ℕ = get_or w (o + 3 + i) 0 in
+    let v : List ℕ = set w (o + 3 + i) x in
+    let n : get_or v (o + 2) 0 ≡ get_or w (o + 2) 0 = at_other w (o + 3 + i) (o + 2) x (omega arith) in
+    let first : ChangesAt w v o = changes_lit w o i x c h (c.lits j k) in
+    changes_twice w v (set v (o + 3 + j) y) o (omega arith) first (changes_lit v o j y first.clause (omega arith) (c.lits i h))
+
+pub header_swapped : (w : List ℕ) (o i j x y : ℕ) → header_at (set (set w (o + 3 + i) x) (o + 3 + j) y) o ≡ header_at w o
+header_swapped w o i j x y = header_set_lit (set w (o + 3 + i) x) o j y ∙ header_set_lit w o i x
+
+-- the words that a call found in the buffer, where it was given the same words under another name
+
+pub within_words : (v w : List ℕ) (p o k : ℕ) → v ≡ w → p ≡ o → IsClause w o → k < length (lits_at w o) → (k < get_or v (p + 2) 0) × (p + 3 + k < length v)
+within_words v w p o k e f c small =
+    let n : length (lits_at w o) ≡ get_or w (o + 2) 0 = lits_count w o c in
+    let m : get_or v (p + 2) 0 ≡ get_or w (o + 2) 0 = rw (e, f) refl in
+    let l : length v ≡ length w = ap length e in
+    (omega arith, omega (arith, c.whole))
+
+pub same_clause : (v w : List ℕ) (p o : ℕ) → v ≡ w → p ≡ o → IsClause w o → IsClause v p
+same_clause v w p o e f c = rw (e, f) c
+
+pub word_read : (v w : List ℕ) (p o k x : ℕ) → v ≡ w → p ≡ o → IsClause w o → k < length (lits_at w o) → x ≡ get_or v (p + 3 + k) x → x ≡ get_or w (o + 3 + k) 0
+word_read v w p o k x e f c small read =
+    let inside : (k < get_or v (p + 2) 0) × (p + 3 + k < length v) = within_words v w p o k e f c small in
+    let first : x ≡ get_or v (p + 3 + k) 0 = get_or_read v (p + 3 + k) x inside.1 read 0 in
+    let second : get_or v (p + 3 + k) 0 ≡ get_or w (o + 3 + k) 0 = rw (e, f) refl in
+    first ∙ second
+
+pub lit_read : (v w : List ℕ) (p o k x : ℕ) → v ≡ w → p ≡ o → IsClause w o → k < length (lits_at w o) → x ≡ get_or v (p + 3 + k) x → (x ≡ get_or (lits_at w o) k 0) × (x < 2 * largest)
+lit_read v w p o k x e f c small read =
+    let n : length (lits_at w o) ≡ get_or w (o + 2) 0 = lits_count w o c in
+    let there : x ≡ get_or w (o + 3 + k) 0 = word_read v w p o k x e f c small read in
+    (there ∙ sym (lit_there w o k (omega arith)), omega (arith, c.lits k (omega arith)))
+
+-- what a write of a literal leaves, and what an exchange of two
+
+pub record Leaves (w v : List ℕ) (o : ℕ) (ls : List ℕ) : Type 0 where
+  pub header : header_at v o ≡ header_at w o
+  pub lits : lits_at v o ≡ ls
+  pub others : ChangesAt w v o
+
+pub wrote_lit : (v w : List ℕ) (p o k x : ℕ) → v ≡ w → p ≡ o → IsClause w o → k < length (lits_at w o) → x < 2 * largest → Leaves w (set v (p + 3 + k) x) o (set (lits_at w o) k x)
+wrote_lit v w p o k x e f c small fits =
+    let n : length (lits_at w o) ≡ get_or w (o + 2) 0 = lits_count w o c in
+    let here : Leaves w (set w (o + 3 + k) x) o (set (lits_at w o) k x) = record {
+      header = header_set_lit w o k x;
+      lits = lit_set w o k x (omega arith);
+      others = changes_lit w o k x c (omega arith) fits;
+    } in
+    rw (e, f) here
+
+pub wrote_two : (v w : List ℕ) (p o i j x y : ℕ) → v ≡ w → p ≡ o → IsClause w o → i < length (lits_at w o) → j < length (lits_at w o) → x ≡ get_or v (p + 3 + i) x → y ≡ get_or v (p + 3 + j) y → Leaves w (set (set v (p + 3 + i) y) (p + 3 + j) x) o (set (set (lits_at w o) i (get_or (lits_at w o) j 0)) j (get_or (lits_at w o) i 0))
+wrote_two v w p o i j x y e f c h k read_x read_y =
+    let n : length (lits_at w o) ≡ get_or w (o + 2) 0 = lits_count w o c in
+    let x_is : x ≡ get_or w (o + 3 + i) 0 = word_read v w p o i x e f c h read_x in
+    let y_is : y ≡ get_or w (o + 3 + j) 0 = word_read v w p o j y e f c k read_y in
+    let a : ℕ = get_or w (o + 3 + j) 0 in
+    let b : ℕ = get_or w (o + 3 + i) 0 in
+    let here : Leaves w (set (set w (o + 3 + i) a) (o + 3 + j) b) o (set (set (lits_at w o) i (get_or (lits_at w o) j 0)) j (get_or (lits_at w o) i 0)) = record {
+      header = header_swapped w o i j a b;
+      lits = lits_swapped w o i j (omega arith) (omega arith);
+      others = changes_swapped w o i j c (omega arith) (omega arith);
+    } in
+    rw (e, f, x_is, y_is) here
+
+-- a header written
+
+record WroteHeader (w v : List ℕ) (o a f l : ℕ) : Type 0 where
+  first : get_or v o 0 ≡ a
+  second : get_or v (o + 1) 0 ≡ f
+  third : get_or v (o + 2) 0 ≡ l
+  size : length v ≡ length w
+  other : (i : ℕ) → i ≢ o → i ≢ o + 1 → i ≢ o + 2 → get_or v i 0 ≡ get_or w i 0
+
+wrote_header : (w : List ℕ) (o a f l : ℕ) → o + 3 ≤ length w → WroteHeader w (set (set (set w o a) (o + 1) f) (o + 2) l) o a f l
+wrote_header w o a f l room =
+    let n1 : length (set w o a) ≡ length w = length-set w o a in
+    let n2 : length (set (set w o a) (o + 1) f) ≡ length (set w o a) = length-set (set w o a) (o + 1) f in
+    let n3 : length (set (set (set w o a) (o + 1) f) (o + 2) l) ≡ length (set (set w o a) (o + 1) f) = length-set (set (set w o a) (o + 1) f) (o + 2) l in
+    let other : (i : ℕ) → i ≢ o → i ≢ o + 1 → i ≢ o + 2 → get_or (set (set (set w o a) (o + 1) f) (o + 2) l) i 0 ≡ get_or w i 0 =
+    λ i d1 d2 d3. at_other (set (set w o a) (o + 1) f) (o + 2) i l d3 ∙ at_other (set w o a) (o + 1) i f d2 ∙ at_other w o i a d1 in
+    record {
+      first = at_other (set (set w o a) (o + 1) f) (o + 2) o l (omega arith) ∙ at_other (set w o a) (o + 1) o f (omega arith) ∙ get_or-set_same w o a 0 (omega arith);
+      second = at_other (set (set w o a) (o + 1) f) (o + 2) (o + 1) l (omega arith) ∙ get_or-set_same (set w o a) (o + 1) f 0 (omega arith);
+      third = get_or-set_same (set (set w o a) (o + 1) f) (o + 2) l 0 (omega arith);
+      size = n3 ∙ n2 ∙ n1;
+      other = other;
+    }
+
+pub record LeavesHeader (w v : List ℕ) (o : ℕ) (h : Header) : Type 0 where
+  pub header : header_at v o ≡ h
+  pub lits : lits_at v o ≡ take h.len (lits_at w o)
+  pub others : ChangesAt w v o
+
+shortened_lits : (w v : List ℕ) (o : ℕ) → IsClause w o → IsClause v o → get_or v (o + 2) 0 ≤ get_or w (o + 2) 0 → ((k : ℕ) → k < get_or v (o + 2) 0 → get_or v (o + 3 + k) 0 ≡ get_or w (o + 3 + k) 0) → lits_at v o ≡ take (get_or v (o + 2) 0) (lits_at w o)
+shortened_lits w v o c d shorter same =
+    let lv : length (lits_at v o) ≡ get_or v (o + 2) 0 = lits_count v o d in
+    let lw : length (lits_at w o) ≡ get_or w (o + 2) 0 = lits_count w o c in
+    let lt : length (take (get_or v (o + 2) 0) (lits_at w o)) ≡ get_or v (o + 2) 0 = length-take-le (get_or v (o + 2) 0) (lits_at w o) (omega arith) in
+    ext_get_or 0 (lits_at v o) (take (get_or v (o + 2) 0) (lits_at w o)) (lv ∙ sym lt)
+    (λ k h. lit_there v o k (omega arith) ∙ same k (omega arith) ∙ sym (lit_there w o k (omega arith)) ∙ sym (get_or-take (get_or v (o + 2) 0) (lits_at w o) k 0 (omega arith)))
+
+header_left : (w v : List ℕ) (o a f l : ℕ) (h : Header) → IsClause w o → WroteHeader w v o a f l → f < 2 ^ 11 → l ≤ length (lits_at w o) → header_of a f l ≡ h → LeavesHeader w v o h
+unfolding header_at
+header_left w v o a f l h c wrote small shorter is =
+    let n : length (lits_at w o) ≡ get_or w (o + 2) 0 = lits_count w o c in
+    let third : get_or v (o + 2) 0 ≡ l = wrote.third in
+    let other : (k : ℕ) → get_or v (o + 3 + k) 0 ≡ get_or w (o + 3 + k) 0 = λ k. wrote.other (o + 3 + k) (omega arith) (omega arith) (omega arith) in
+    let clause : IsClause v o = record {
+      flags = omega (arith, wrote.second);
+      whole = omega (arith, c.whole, wrote.size);
+      lits = λ k p. omega (arith, other k, c.lits k (omega arith));
+    } in
+    let len : l ≡ h.len = ap (λ (g : Header). g.len) is in
+    record {
+      header = rw (wrote.first, wrote.second, wrote.third) is;
+      lits = shortened_lits w v o c clause (omega arith) (λ k p. other k) ∙ ap (λ (m : ℕ). take m (lits_at w o)) (third ∙ len);
+      others = changes_at w v o c clause wrote.size (omega arith)
+          (λ i p. wrote.other i (omega arith) (omega arith) (omega arith))
+          (λ i p. wrote.other i (omega arith) (omega arith) (omega arith));
+    }
+
+pub header_wrote : (v w : List ℕ) (p o a f l : ℕ) (h : Header) → v ≡ w → p ≡ o → IsClause w o → a ≡ h.activity → f < 2 ^ 11 → l ≡ h.len → h.len ≤ length (lits_at w o) → header_of h.activity f h.len ≡ h → LeavesHeader w (set (set (set v p a) (p + 1) f) (p + 2) l) o h
+header_wrote v w p o a f l h e g c active small len shorter is =
+    let here : LeavesHeader w (set (set (set w o h.activity) (o + 1) f) (o + 2) h.len) o h = header_left w (set (set (set w o h.activity) (o + 1) f) (o + 2) h.len) o h.activity f h.len h c (wrote_header w o h.activity f h.len (omega (arith, c.whole))) small shorter is in
+    rw (e, g, active, len) here
+
+pub len_read : (v w : List ℕ) (p o x : ℕ) → v ≡ w → p ≡ o → IsClause w o → x ≡ get_or v (p + 2) x → (x ≡ length (lits_at w o)) × (x ≡ (header_at w o).len)
+len_read v w p o x e f c read =
+    let l : length v ≡ length w = ap length e in
+    let first : x ≡ get_or v (p + 2) 0 = get_or_read v (p + 2) x (omega (arith, c.whole)) read 0 in
+    let second : get_or v (p + 2) 0 ≡ get_or w (o + 2) 0 = rw (e, f) refl in
+    (first ∙ second ∙ sym (lits_count w o c), first ∙ second ∙ sym (header_len w o))
+
+pub header_read : (v w : List ℕ) (p o a f l : ℕ) → v ≡ w → p ≡ o → IsClause w o → a ≡ get_or v p a → f ≡ get_or v (p + 1) f → l ≡ get_or v (p + 2) l → (h : Header) → h ≡ header_of a f l → h ≡ header_at w o
+unfolding header_at
+header_read v w p o a f l e g c read_a read_f read_l h is =
+    let n : length v ≡ length w = ap length e in
+    let first : a ≡ get_or v p 0 = get_or_read v p a (omega (arith, c.whole)) read_a 0 in
+    let second : f ≡ get_or v (p + 1) 0 = get_or_read v (p + 1) f (omega (arith, c.whole)) read_f 0 in
+    let third : l ≡ get_or v (p + 2) 0 = get_or_read v (p + 2) l (omega (arith, c.whole)) read_l 0 in
+    is ∙ rw (first, second, third, e, g) refl
+
+-- a clause behind all others
+
+single : (c x : ℕ) → Contains (c ∷ []) x → x ≡ c
+single c x (zero, h, e) = sym e
+single c x (suc k, h, e) = absurd (omega arith)
+
+record WroteClause (v w : List ℕ) (a f : ℕ) (ls : List ℕ) : Type 0 where
+  first : get_or w (length v) 0 ≡ a
+  second : get_or w (length v + 1) 0 ≡ f
+  third : get_or w (length v + 2) 0 ≡ length ls
+  size : length w ≡ length v + 3 + length ls
+  before : (i : ℕ) → i < length v → get_or w i 0 ≡ get_or v i 0
+  behind : (k : ℕ) → get_or w (length v + 3 + k) 0 ≡ get_or ls k 0
+
+wrote_clause : (v : List ℕ) (a f : ℕ) (ls : List ℕ) → WroteClause v (v ++ (a ∷ f ∷ length ls ∷ ls)) a f ls
+wrote_clause v a f ls =
+    let new : List ℕ = a ∷ f ∷ length ls ∷ ls in
+    let zeroth : length v ≡ length v + 0 = omega arith in
+    record {
+      first = ap (λ (i : ℕ). get_or (v ++ new) i 0) zeroth ∙ get_or-append-add v new 0 0;
+      second = get_or-append-add v new 1 0;
+      third = get_or-append-add v new 2 0;
+      size = omega (arith, length-append v new);
+      before = λ i h. get_or_append_left v new 0 i h;
+      behind = λ k. let e : length v + 3 + k ≡ length v + suc (suc (suc k)) = omega arith in ap (λ (i : ℕ). get_or (v ++ new) i 0) e ∙ get_or-append-add v new (suc (suc (suc k))) 0;
+    }
+
+apart_behind : (v w : List ℕ) (p : ℕ) → IsClause v p → Keeps v w p → Apart w p (length v) × Apart w (length v) p
+unfolding Apart
+apart_behind v w p c keeps =
+    let n : get_or w (p + 2) 0 ≡ get_or v (p + 2) 0 = same_len v w p keeps in
+    (inl (omega (arith, c.whole)), inr (omega (arith, c.whole)))
+
+added_clause : (v w : List ℕ) (a f : ℕ) (ls : List ℕ) (h : Header) → WroteClause v w a f ls → f < 2 ^ 11 → All (λ l. l < 2 * largest) ls → header_of a f h.len ≡ h → Adds v w (length v) h ls
+unfolding header_at
+added_clause v w a f ls h wrote small fit is =
+    let size : length w ≡ length v + 3 + length ls = wrote.size in
+    let third : get_or w (length v + 2) 0 ≡ length ls = wrote.third in
+    let clause : IsClause w (length v) = record {
+      flags = omega (arith, wrote.second);
+      whole = omega arith;
+      lits = λ k p. let e : get_or w (length v + 3 + k) 0 ≡ get_or ls k 0 = wrote.behind k in omega (arith, fit k 0 (omega arith));
+    } in
+    let others : (p : ℕ) → IsClause v p → Keeps v w p = λ p c. kept v w p c (omega arith) (λ i x y. wrote.before i (omega (arith, c.whole))) in
+    let count : length (lits_at w (length v)) ≡ length ls = lits_count w (length v) clause ∙ third in
+    record {
+      place = refl;
+      clause = clause;
+      header_there = rw (wrote.first, wrote.second, wrote.third) (ap (λ (g : Header). record g { len = length ls }) is);
+      lits_there = ext_get_or 0 (lits_at w (length v)) ls count (λ k p. lit_there w (length v) k (omega arith) ∙ wrote.behind k);
+      size = size;
+      others = others;
+      fresh = λ live laid has. omega (arith, (laid.clauses (length v) has).whole);
+      laid = λ live laid. record {
+        clauses = λ o has. elim (Contains-append_cases live (length v ∷ []) o has) [
+          | inl old ↦ (others o (laid.clauses o old)).clause
+          | inr new ↦ subst (IsClause w) (sym (single (length v) o new)) clause
+        ];
+        apart = λ o p has_o has_p differ. elim (Contains-append_cases live (length v ∷ []) o has_o) [
+          | inl old_o ↦ elim (Contains-append_cases live (length v ∷ []) p has_p) [
+            | inl old_p ↦
+                let keeps_o : Keeps v w o = others o (laid.clauses o old_o) in
+                let keeps_p : Keeps v w p = others p (laid.clauses p old_p) in
+                still_apart v w o p (laid.apart o p old_o old_p differ) (omega (arith, same_len v w o keeps_o)) (omega (arith, same_len v w p keeps_p))
+            | inr new_p ↦ subst (Apart w o) (sym (single (length v) p new_p)) (apart_behind v w o (laid.clauses o old_o) (others o (laid.clauses o old_o))).0
+          ]
+          | inr new_o ↦ elim (Contains-append_cases live (length v ∷ []) p has_p) [
+            | inl old_p ↦ subst (λ (x : ℕ). Apart w x p) (sym (single (length v) o new_o)) (apart_behind v w p (laid.clauses p old_p) (others p (laid.clauses p old_p))).1
+            | inr new_p ↦ absurd (differ (single (length v) o new_o ∙ sym (single (length v) p new_p)))
+          ]
+        ];
+      };
+    }
+
+pub pushed_clause : (v w x : List ℕ) (c a f l : ℕ) (ls : List ℕ) (h : Header) → v ≡ w → c ≡ length v → x ≡ v ++ a ∷ [] ++ f ∷ [] ++ l ∷ [] ++ ls → l ≡ length ls → f < 2 ^ 11 → All (λ l. l < 2 * largest) ls → a ≡ h.activity → header_of h.activity f h.len ≡ h → Adds w x c h ls
+pushed_clause v w x c a f l ls h e place is len small fit active head =
+    let whole : x ≡ w ++ (h.activity ∷ f ∷ length ls ∷ ls) = is ∙ rw (active, len, e) (simp append_assoc) in
+    let here : Adds w (w ++ (h.activity ∷ f ∷ length ls ∷ ls)) (length w) h ls = added_clause w (w ++ (h.activity ∷ f ∷ length ls ∷ ls)) h.activity f ls h (wrote_clause w h.activity f ls) small fit head in
+    rw (whole, place, e) here
+
+pub one_more : (v items ls : List ℕ) (i x y : ℕ) → i < length ls → x ≡ get_or ls i x → y ≡ x → items ≡ v ++ take i ls → items ++ y ∷ [] ≡ v ++ take (i + 1) ls
+one_more v items ls i x y within read is front =
+    let value : x ≡ get_or ls i 0 = get_or_read ls i x within read 0 in
+    rw (front, is, value, take_more ls i 0 within) (append_assoc v (take i ls) (get_or ls i 0 ∷ []))
+
+pub one_more_fits : (ls : List ℕ) (i x : ℕ) (P : ℕ → Type 0) → i < length ls → x ≡ get_or ls i x → P x → All P (take i ls) → All P (take (i + 1) ls)
+one_more_fits ls i x P within read fits front = All-more P ls i 0 within front (subst P (get_or_read ls i x within read 0) fits)

@@ -1,0 +1,46 @@
+-- For crates above: what a call on one clause leaves of the others that are live.
+use Rattle.std.proofs.Common.{◌≡◌, ◌≢◌, ℕ, ◌+◌, ◌*◌, ◌<◌, ◌≤◌, List, [], length, get_or, arith, sym, ◌∙◌}
+use Rattle.std.proofs.lemmas.List.{get_or_default}
+use Rattle.std.specs.List.{Contains, All}
+use Rattle.sat_base.specs.values.Literals.{largest}
+use Rattle.sat_store.specs.clause.Header.{Header}
+use Rattle.sat_store.specs.clause.Buffer.{header_at, lits_at, IsClause, Laid, Keeps, ChangesAt, Adds}
+use Rattle.sat_store.proofs.lemmas.clause.BufferLemmas.{lits_count, lit_there, header_len}
+
+-- nothing is live in an empty buffer
+pub laid_none : (words : List ℕ) → Laid words []
+laid_none words = record {
+  clauses = λ o (k, h, e). absurd (omega arith);
+  apart = λ o p (k, h, e) has differ. absurd (omega arith);
+}
+
+-- a list of some of the live clauses, in any order, is laid as well
+pub laid_among : (words live some : List ℕ) → ((o : ℕ) → Contains some o → Contains live o) → Laid words live → Laid words some
+laid_among words live some among laid = record {
+  clauses = λ o has. laid.clauses o (among o has);
+  apart = λ o p has_o has_p differ. laid.apart o p (among o has_o) (among p has_p) differ;
+}
+
+-- a change of one live clause keeps each other one
+pub kept_beside : (old new live : List ℕ) (o p : ℕ) → Laid old live → Contains live o → Contains live p → p ≢ o → ChangesAt old new o → Keeps old new p
+kept_beside old new live o p laid has_o has_p differ change = change.others p (laid.clauses p has_p) (laid.apart o p has_o has_p (λ e. differ (sym e)))
+
+-- a clause added keeps each live one, and isn't one of them
+pub kept_below : (old new live : List ℕ) (c p : ℕ) (header : Header) (lits : List ℕ) → Laid old live → Contains live p → Adds old new c header lits → Keeps old new p
+kept_below old new live c p header lits laid has added = added.others p (laid.clauses p has)
+
+-- the length in the header is that of the literals
+pub same_count : (words : List ℕ) (o : ℕ) → IsClause words o → length (lits_at words o) ≡ (header_at words o).len
+same_count words o clause = lits_count words o clause ∙ sym (header_len words o)
+
+-- each literal is the code of one
+pub lits_fit : (words : List ℕ) (o : ℕ) → IsClause words o → All (λ l. l < 2 * largest) (lits_at words o)
+lits_fit words o clause k d small =
+    let n : length (lits_at words o) ≡ get_or words (o + 2) 0 = lits_count words o clause in
+    let there : get_or (lits_at words o) k 0 ≡ get_or words (o + 3 + k) 0 = lit_there words o k (omega arith) in
+    let at : get_or (lits_at words o) k d ≡ get_or (lits_at words o) k 0 = get_or_default (lits_at words o) k d 0 small in
+    omega (arith, clause.lits k (omega arith))
+
+-- a clause lies within the buffer
+pub clause_within : (words : List ℕ) (o : ℕ) → IsClause words o → o + 3 + length (lits_at words o) ≤ length words
+clause_within words o clause = omega (arith, lits_count words o clause, clause.whole)

@@ -1,0 +1,60 @@
+-- Clauses in one buffer of words: three words of header, then the literals. A clause goes by the place of its first word.
+use Rattle.std.specs.Prelude.{◌≡◌, ◌≢◌, ℕ, ◌+◌, ◌*◌, ◌^◌, ◌<◌, ◌≤◌, ◌⊎◌, List, [], ◌∷◌, ◌++◌, length, slice_index_or as get_or, slice_set as set, take, drop}
+use Rattle.std.specs.List.{Contains}
+use Rattle.sat_base.specs.values.Literals.{largest}
+use Rattle.sat_store.specs.clause.Header.{Header, header_of}
+
+-- how many literals the clause at o has
+abbrev pub len_at : List ℕ → ℕ → ℕ
+len_at words o = get_or words (o + 2) 0
+
+-- the header of the clause at o
+unfoldable pub header_at : List ℕ → ℕ → Header
+header_at words o = header_of (get_or words o 0) (get_or words (o + 1) 0) (get_or words (o + 2) 0)
+
+-- the literals of the clause at o, in order
+unfoldable pub lits_at : List ℕ → ℕ → List ℕ
+lits_at words o = take (get_or words (o + 2) 0) (drop (o + 3) words)
+
+-- a clause stands at o, all of its words in the buffer
+pub record IsClause (words : List ℕ) (o : ℕ) : Type 0 where
+  pub flags : get_or words (o + 1) 0 < 2 ^ 11
+  pub whole : o + 3 + get_or words (o + 2) 0 ≤ length words
+  pub lits : (k : ℕ) → k < get_or words (o + 2) 0 → get_or words (o + 3 + k) 0 < 2 * largest
+
+-- the list with two of its elements exchanged
+abbrev pub swapped : List ℕ → ℕ → ℕ → List ℕ
+swapped ls i j = set (set ls i (get_or ls j 0)) j (get_or ls i 0)
+
+-- no word belongs to both clauses
+unfoldable pub Apart : List ℕ → ℕ → ℕ → Type 0
+Apart words o p = (o + 3 + get_or words (o + 2) 0 ≤ p) ⊎ (p + 3 + get_or words (p + 2) 0 ≤ o)
+
+-- a clause stands at each of these places, each with words of its own
+pub record Laid (words : List ℕ) (live : List ℕ) : Type 0 where
+  pub clauses : (o : ℕ) → Contains live o → IsClause words o
+  pub apart : (o p : ℕ) → Contains live o → Contains live p → o ≢ p → Apart words o p
+
+-- the clause at p is the same in both
+pub record Keeps (old new : List ℕ) (p : ℕ) : Type 0 where
+  pub clause : IsClause new p
+  pub header : header_at new p ≡ header_at old p
+  pub lits : lits_at new p ≡ lits_at old p
+
+-- no clause changed but the one at o, which is still there
+pub record ChangesAt (old new : List ℕ) (o : ℕ) : Type 0 where
+  pub clause : IsClause new o
+  pub size : length new ≡ length old
+  pub others : (p : ℕ) → IsClause old p → Apart old o p → Keeps old new p
+  pub laid : (live : List ℕ) → Contains live o → Laid old live → Laid new live
+
+-- a clause of this header, but for its length, and of these literals came to stand at c, behind all others
+pub record Adds (old new : List ℕ) (c : ℕ) (header : Header) (lits : List ℕ) : Type 0 where
+  pub place : c ≡ length old
+  pub clause : IsClause new c
+  pub header_there : header_at new c ≡ record header { len = length lits }
+  pub lits_there : lits_at new c ≡ lits
+  pub size : length new ≡ length old + 3 + length lits
+  pub others : (p : ℕ) → IsClause old p → Keeps old new p
+  pub fresh : (live : List ℕ) → Laid old live → Contains live c → ⊥
+  pub laid : (live : List ℕ) → Laid old live → Laid new (live ++ c ∷ [])

@@ -1,0 +1,4 @@
+//! Long clauses: three words of header and the literals, in one buffer.
+pub mod alloc;
+pub mod header;
+pub mod tier;

@@ -1,0 +1,209 @@
+//! Clauses in one buffer.
+ghost use Rattle.std.specs.Prelude.{◌≡◌, ◌<◌, ◌≤◌, ◌^◌, ◌+◌, ◌-◌, ◌*◌, ◌↔◌, ◌++◌, [], length, slice_index, slice_set, take, IfOk, OnErr, vec_len, vec_capacity};
+ghost use Rattle.std.specs.List.{All};
+ghost use Rattle.sat_base.specs.values.Literals.{largest};
+ghost use Rattle.sat_store.specs.clause.Buffer.{IsClause, header_at, lits_at, ChangesAt, Adds, swapped};
+
+use crate::clause::header::ClauseHeader;
+use sat_base::Lit;
+use std::alloc::{AllocError, Global};
+use std::marker::Model;
+
+/// How many words of the buffer a clause takes beside its literals.
+const HEADER_LEN: usize = 3;
+
+/// A clause in a `ClauseAlloc`, which contracts see as the place of its first word. Clauses that were added later are greater.
+#[derive(Clone, Copy, Debug, PartialEq, Eq, PartialOrd, Ord)]
+pub struct ClauseRef {
+    offset: u32,
+}
+
+impl Model for ClauseRef {
+    ghost use Rattle.std.specs.Prelude.{ℕ};
+
+    ghost Value = { ℕ };
+
+    ghost view = { λ c. c.offset };
+
+    ghost inverse = { λ o. record { offset = o } };
+}
+
+impl ClauseRef {
+    /// The place of the clause's first word.
+    pub fn offset(self) -> usize
+        ensures { result ≡ self }
+    {
+        self.offset as usize
+    }
+}
+
+/// Why a clause wasn't stored.
+#[derive(Clone, Copy, Debug, PartialEq, Eq)]
+pub enum StoreError {
+    /// The buffer holds more than 2^32 - 1 words, so that no reference names the next place.
+    StoreFull,
+    OutOfMemory,
+}
+
+impl From<AllocError> for StoreError {
+    ghost use Rattle.std.specs.Prelude.{◌≡◌};
+    ghost use Rattle.sat_store.specs.declared.clause.alloc.StoreError.TheVariants.{OutOfMemory};
+
+    ghost from_gives = { λ _ e. e ≡ OutOfMemory };
+
+    fn from(_e: AllocError) -> StoreError {
+        StoreError::OutOfMemory
+    }
+}
+
+/// The buffer that long clauses are kept in. It is a map from references to headers and literals: contracts see it as its
+/// words, and read them by `IsClause`, `header_at` and `lits_at` alone.
+#[derive(Debug, Drop)]
+pub struct ClauseAlloc {
+    words: Vec<u32>,
+}
+
+impl Model for ClauseAlloc {
+    ghost use Rattle.std.specs.Prelude.{ℕ, List};
+
+    ghost Value = { List ℕ };
+
+    ghost view = { λ a. a.words.items };
+}
+
+impl ClauseAlloc {
+    /// An empty buffer. Takes no memory.
+    pub fn new(alloc: Global) -> ClauseAlloc
+        ensures { result ≡ [] }
+    {
+        ClauseAlloc {
+            words: Vec::new(alloc),
+        }
+    }
+
+    /// An empty buffer with room for so many words.
+    pub fn with_capacity(alloc: Global, capacity: usize) -> Result<ClauseAlloc, AllocError>
+        ensures { IfOk result (λ words. words ≡ []) }
+    {
+        Ok(ClauseAlloc {
+            words: Vec::with_capacity(alloc, capacity)?,
+        })
+    }
+
+    /// The number of words in use, those of deleted and shortened clauses among them.
+    pub fn buffer_size(&self) -> usize
+        ensures { result ≡ length self.now }
+    {
+        self.words.len()
+    }
+
+    /// Stores a clause behind all others. Its length is that of the literals, whatever the header says.
+    pub fn add_clause(
+        &mut self,
+        header: ClauseHeader,
+        lits: &[Lit],
+    ) -> Result<ClauseRef, StoreError>
+        requires long { 3 ≤ length lits.now }
+        requires fits { length lits.now < 2 ^ 32 }
+        ensures added { IfOk result (λ cref. Adds self.old self.new cref header lits.now) }
+        ensures full { (result ≡ Err StoreError.StoreFull) ↔ (2 ^ 32 - 1 < length self.old) }
+        ensures kept { OnErr result (self.new ≡ self.old) }
+    {
+        let offset = self.words.len();
+        if offset > 4294967295 {
+            return Err(StoreError::StoreFull);
+        }
+        self.words.reserve(HEADER_LEN + lits.len())?;
+        self.words.push_reserved(header.activity());
+        self.words.push_reserved(header.flags());
+        self.words.push_reserved(lits.len() as u32);
+        push_lits(&mut self.words, lits);
+        Ok(ClauseRef {
+            offset: offset as u32,
+        })
+    }
+
+    /// The header of a clause.
+    #[inline(always)] // read for each clause that an inner loop looks at
+    pub fn header(&self, cref: ClauseRef) -> ClauseHeader
+        requires { IsClause self.now cref }
+        ensures { result ≡ header_at self.now cref }
+    {
+        let at = cref.offset as usize;
+        ClauseHeader::from_words(self.words[at], self.words[at + 1], self.words[at + 2])
+    }
+
+    /// Puts a header in the place of the clause's own. A smaller length drops literals from the end.
+    pub fn set_header(&mut self, cref: ClauseRef, header: ClauseHeader)
+        requires clause { IsClause self.old cref }
+        requires no_longer { header.len ≤ length (lits_at self.old cref) }
+        ensures header { header_at self.new cref ≡ header }
+        ensures lits { lits_at self.new cref ≡ take header.len (lits_at self.old cref) }
+        ensures others { ChangesAt self.old self.new cref }
+    {
+        let at = cref.offset as usize;
+        self.words[at] = header.activity();
+        self.words[at + 1] = header.flags();
+        self.words[at + 2] = header.len() as u32;
+    }
+
+    /// The number of literals of a clause.
+    #[inline(always)] // read for each clause that an inner loop looks at
+    pub fn len(&self, cref: ClauseRef) -> usize
+        requires { IsClause self.now cref }
+        ensures lits { result ≡ length (lits_at self.now cref) }
+        ensures header { result ≡ (header_at self.now cref).len }
+    {
+        self.words[cref.offset as usize + 2] as usize
+    }
+
+    /// A literal of a clause.
+    #[inline(always)] // read for each literal that an inner loop looks at
+    pub fn lit(&self, cref: ClauseRef, at: usize) -> Lit
+        requires clause { IsClause self.now cref }
+        requires within { at < length (lits_at self.now cref) }
+        ensures value { result ≡ slice_index (lits_at self.now cref) at }
+        ensures bound { result < 2 * largest }
+    {
+        Lit::from_code(self.words[cref.offset as usize + HEADER_LEN + at] as usize)
+    }
+
+    /// Writes a literal of a clause.
+    #[inline(always)] // written for each clause that an inner loop reorders
+    pub fn set_lit(&mut self, cref: ClauseRef, at: usize, lit: Lit)
+        requires clause { IsClause self.old cref }
+        requires within { at < length (lits_at self.old cref) }
+        ensures header { header_at self.new cref ≡ header_at self.old cref }
+        ensures lits { lits_at self.new cref ≡ slice_set (lits_at self.old cref) at lit }
+        ensures others { ChangesAt self.old self.new cref }
+    {
+        self.words[cref.offset as usize + HEADER_LEN + at] = lit.code() as u32;
+    }
+
+    /// Exchanges two literals of a clause.
+    #[inline(always)] // written for each clause that an inner loop reorders
+    pub fn swap_lits(&mut self, cref: ClauseRef, i: usize, j: usize)
+        requires clause { IsClause self.old cref }
+        requires first_within { i < length (lits_at self.old cref) }
+        requires second_within { j < length (lits_at self.old cref) }
+        ensures header { header_at self.new cref ≡ header_at self.old cref }
+        ensures lits { lits_at self.new cref ≡ swapped (lits_at self.old cref) i j }
+        ensures others { ChangesAt self.old self.new cref }
+    {
+        let base = cref.offset as usize + HEADER_LEN;
+        let first = self.words[base + i];
+        self.words[base + i] = self.words[base + j];
+        self.words[base + j] = first;
+    }
+}
+
+/// Puts the codes of these literals behind the words, which have room for them.
+fn push_lits(words: &mut Vec<u32>, lits: &[Lit])
+    requires { vec_len words.old + length lits.now ≤ vec_capacity words.old }
+    ensures words { words.new.items ≡ words.old.items ++ lits.now }
+    ensures literals { All (λ l. l < 2 * largest) lits.now }
+{
+    for lit in lits {
+        words.push_reserved(lit.code() as u32);
+    }
+}

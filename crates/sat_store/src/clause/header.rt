@@ -1,0 +1,181 @@
+//! The data of a long clause beside its literals.
+ghost use Rattle.std.specs.Prelude.{◌≡◌, ◌<◌, ◌^◌, min};
+ghost use Rattle.sat_store.specs.clause.Header.{header_of, no_header, is_learned};
+
+use crate::clause::tier::Tier;
+use std::marker::Model;
+
+/// Tier, glue, activity, marks and length of a clause, in three words. Contracts see it as a `Header` of these.
+#[derive(Clone, Copy)]
+pub struct ClauseHeader {
+    activity: u32,
+    flags: u32,
+    len: u32,
+}
+
+impl Model for ClauseHeader {
+    ghost use Rattle.std.specs.Prelude.{◌<◌, ◌^◌};
+    ghost use Rattle.sat_store.specs.clause.Header.{Header, header_of, flags_of};
+    ghost use Rattle.sat_store.specs.clause.HeaderBack.{inverse_flags};
+
+    ghost Value = { Header };
+
+    ghost view = { λ h. header_of h.activity h.flags h.len };
+
+    ghost invariant = { λ h. h.flags < 2 ^ 11 };
+
+    ghost inverse = { λ h. record { activity = h.activity; flags = flags_of h; len = h.len } };
+
+    ghost inverse_ok = { inverse_flags };
+}
+
+impl Default for ClauseHeader {
+    ghost use Rattle.std.specs.Prelude.{◌≡◌};
+    ghost use Rattle.sat_store.specs.clause.Header.{no_header};
+
+    ghost is_default = { λ h. h ≡ no_header };
+
+    fn default() -> ClauseHeader {
+        ClauseHeader {
+            activity: 0,
+            flags: 0,
+            len: 0,
+        }
+    }
+}
+
+impl ClauseHeader {
+    /// The header of an irredundant clause without literals, all marks false, glue and activity 0.
+    pub fn new() -> ClauseHeader
+        ensures { result ≡ no_header }
+    {
+        ClauseHeader::default()
+    }
+
+    /// The header in these words.
+    #[inline(always)] // read for each clause that an inner loop looks at
+    pub(crate) fn from_words(activity: u32, flags: u32, len: u32) -> ClauseHeader
+        requires { flags < 2 ^ 11 }
+        ensures { result ≡ header_of activity flags len }
+    {
+        ClauseHeader {
+            activity,
+            flags,
+            len,
+        }
+    }
+
+    /// The word of flags.
+    pub(crate) fn flags(&self) -> u32
+        ensures value { header_of self.now.activity result self.now.len ≡ self.now }
+        ensures bound { result < 2 ^ 11 }
+    {
+        self.flags
+    }
+
+    /// The number of literals.
+    pub fn len(&self) -> usize
+        ensures value { result ≡ self.now.len }
+        ensures bound { result < 2 ^ 32 }
+    {
+        self.len as usize
+    }
+
+    pub fn set_len(&mut self, len: usize)
+        requires { len < 2 ^ 32 }
+        ensures { self.new ≡ record self.old { len = len } }
+    {
+        self.len = len as u32;
+    }
+
+    /// Whether the clause was deleted and waits for collection.
+    pub fn deleted(&self) -> bool
+        ensures { result ≡ self.now.deleted }
+    {
+        self.flags / 4 % 2 == 1
+    }
+
+    pub fn set_deleted(&mut self, deleted: bool)
+        ensures { self.new ≡ record self.old { deleted = deleted } }
+    {
+        self.flags = self.flags / 8 * 8 + u32::from(deleted) * 4 + self.flags % 4;
+    }
+
+    pub fn tier(&self) -> Tier
+        ensures { result ≡ self.now.tier }
+    {
+        match self.flags % 4 {
+            0 => Tier::Irred,
+            1 => Tier::Core,
+            2 => Tier::Mid,
+            _ => Tier::Local,
+        }
+    }
+
+    pub fn set_tier(&mut self, tier: Tier)
+        ensures { self.new ≡ record self.old { tier = tier } }
+    {
+        self.flags = self.flags / 4 * 4 + tier.index() as u32;
+    }
+
+    /// Whether the clause is a learned one.
+    pub fn redundant(&self) -> bool
+        ensures { result ≡ is_learned self.now.tier }
+    {
+        self.flags % 4 != 0
+    }
+
+    /// A mark for passes over all clauses.
+    pub fn mark(&self) -> bool
+        ensures { result ≡ self.now.mark }
+    {
+        self.flags / 8 % 2 == 1
+    }
+
+    pub fn set_mark(&mut self, mark: bool)
+        ensures { self.new ≡ record self.old { mark = mark } }
+    {
+        self.flags = self.flags / 16 * 16 + u32::from(mark) * 8 + self.flags % 8;
+    }
+
+    /// Whether the clause was used since this was last cleared.
+    pub fn active(&self) -> bool
+        ensures { result ≡ self.now.active }
+    {
+        self.flags / 1024 % 2 == 1
+    }
+
+    pub fn set_active(&mut self, active: bool)
+        ensures { self.new ≡ record self.old { active = active } }
+    {
+        self.flags = u32::from(active) * 1024 + self.flags % 1024;
+    }
+
+    /// The smallest number of levels that the clause was seen with, less one, at most 63.
+    pub fn glue(&self) -> usize
+        ensures { result ≡ self.now.glue }
+    {
+        (self.flags / 16 % 64) as usize
+    }
+
+    /// Keeps 63 in place of a larger glue.
+    pub fn set_glue(&mut self, glue: usize)
+        ensures { self.new ≡ record self.old { glue = min glue 63 } }
+    {
+        let kept = glue.min(63) as u32;
+        self.flags = self.flags / 1024 * 1024 + kept * 16 + self.flags % 16;
+    }
+
+    /// How useful the clause was, on the scale of the solver's current increment.
+    pub fn activity(&self) -> u32
+        ensures { result ≡ self.now.activity }
+    {
+        self.activity
+    }
+
+    pub fn set_activity(&mut self, activity: u32)
+        ensures { self.new ≡ record self.old { activity = activity } }
+    {
+        self.activity = activity;
+    }
+}

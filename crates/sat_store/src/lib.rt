@@ -1,0 +1,8 @@
+//! What a solver keeps: clauses in one buffer, variables by activity, restarts, levels, and maps between variables.
+#![tactic(auto)]
+
+pub mod clause;
+
+pub use clause::alloc::{ClauseAlloc, ClauseRef, StoreError};
+pub use clause::header::ClauseHeader;
+pub use clause::tier::Tier;
