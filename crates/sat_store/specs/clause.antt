@@ -1,3 +1,4 @@
 pub mod Header
 pub mod HeaderBack
 pub mod Buffer
+pub mod Edits

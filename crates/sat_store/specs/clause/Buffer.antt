@@ -41,6 +41,11 @@ pub record Keeps (old new : List ℕ) (p : ℕ) : Type 0 where
   pub header : header_at new p ≡ header_at old p
   pub lits : lits_at new p ≡ lits_at old p
 
+-- a clause alone
+pub record Stored : Type 0 where
+  pub header : Header
+  pub lits : List ℕ
+
 -- no clause changed but the one at o, which is still there
 pub record ChangesAt (old new : List ℕ) (o : ℕ) : Type 0 where
   pub clause : IsClause new o

@@ -4,7 +4,9 @@ ghost use Rattle.std.specs.List.{All};
 ghost use Rattle.sat_base.specs.values.Literals.{largest};
 ghost use Rattle.sat_store.specs.clause.Buffer.{IsClause, header_at, lits_at, ChangesAt, Adds, swapped};
 
+use crate::clause::edit::ClauseMut;
 use crate::clause::header::ClauseHeader;
+use crate::clause::view::Clause;
 use sat_base::Lit;
 use std::alloc::{AllocError, Global};
 use std::marker::Model;
@@ -127,10 +129,20 @@ impl ClauseAlloc {
     #[inline(always)] // read for each clause that an inner loop looks at
     pub fn header(&self, cref: ClauseRef) -> ClauseHeader
         requires { IsClause self.now cref }
-        ensures { result ≡ header_at self.now cref }
+        ensures value { result ≡ header_at self.now cref }
+        ensures bound { result.len < 2 ^ 32 }
     {
         let at = cref.offset as usize;
         ClauseHeader::from_words(self.words[at], self.words[at + 1], self.words[at + 2])
+    }
+
+    /// A clause, to set fields of its header.
+    pub fn header_mut(&mut self, cref: ClauseRef) -> ClauseMut<'_>
+        ensures buffer { result.buffer.ghost_name ≡ self.entry.ghost_name }
+        ensures words { result.buffer.now ≡ self.old }
+        ensures cref { result.cref ≡ cref }
+    {
+        self.clause_mut(cref)
     }
 
     /// Puts a header in the place of the clause's own. A smaller length drops literals from the end.
@@ -145,6 +157,26 @@ impl ClauseAlloc {
         self.words[at] = header.activity();
         self.words[at + 1] = header.flags();
         self.words[at + 2] = header.len() as u32;
+    }
+
+    /// A clause, to be read.
+    pub fn clause(&self, cref: ClauseRef) -> Clause<'_>
+        requires { IsClause self.now cref }
+        ensures header { result.header ≡ header_at self.now cref }
+        ensures lits { result.lits ≡ lits_at self.now cref }
+    {
+        let at = cref.offset as usize;
+        let end = at + HEADER_LEN + self.words[at + 2] as usize;
+        Clause::new(&self.words[at..end])
+    }
+
+    /// A clause, to be written.
+    pub fn clause_mut(&mut self, cref: ClauseRef) -> ClauseMut<'_>
+        ensures buffer { result.buffer.ghost_name ≡ self.entry.ghost_name }
+        ensures words { result.buffer.now ≡ self.old }
+        ensures cref { result.cref ≡ cref }
+    {
+        ClauseMut { buffer: self, cref }
     }
 
     /// The number of literals of a clause.

@@ -56,7 +56,8 @@ impl ClauseHeader {
     #[inline(always)] // read for each clause that an inner loop looks at
     pub(crate) fn from_words(activity: u32, flags: u32, len: u32) -> ClauseHeader
         requires { flags < 2 ^ 11 }
-        ensures { result ≡ header_of activity flags len }
+        ensures value { result ≡ header_of activity flags len }
+        ensures bound { result.len < 2 ^ 32 }
     {
         ClauseHeader {
             activity,

@@ -1,5 +1,5 @@
 -- What a write to the buffer leaves of the clauses in it.
-use Rattle.std.proofs.Common.{◌≡◌, ◌≢◌, ℕ, zero, suc, append_assoc, ◌+◌, ◌*◌, ◌^◌, ◌<◌, ◌≤◌, inl, inr, List, [], ◌∷◌, ◌++◌, length, get_or, set, take, drop, refl, sym, ap, ◌∙◌, subst, arith, length-append, length-drop}
+use Rattle.std.proofs.Common.{◌≡◌, ◌≢◌, ◌-◌, ℕ, zero, suc, append_assoc, ◌+◌, ◌*◌, ◌^◌, ◌<◌, ◌≤◌, inl, inr, List, [], ◌∷◌, ◌++◌, length, get_or, set, take, drop, refl, sym, ap, ◌∙◌, subst, arith, length-append, length-drop}
 use Rattle.std.proofs.lemmas.List.{get_or_read, take_more, length-take-le, get_or-take, get_or-drop, get_or_append_left, get_or-append-add, ext_get_or, get_or-set_same, get_or-set_other, length-set, drop-set-add}
 use Rattle.std.proofs.Math.Seq.{take-set-lt}
 use Rattle.std.proofs.lemmas.List.Elements.{Contains-append_cases, All-more}
@@ -379,3 +379,52 @@ one_more v items ls i x y within read is front =
 
 pub one_more_fits : (ls : List ℕ) (i x : ℕ) (P : ℕ → Type 0) → i < length ls → x ≡ get_or ls i x → P x → All P (take i ls) → All P (take (i + 1) ls)
 one_more_fits ls i x P within read fits front = All-more P ls i 0 within front (subst P (get_or_read ls i x within read 0) fits)
+
+-- the words of one clause alone
+
+part_at : (v : List ℕ) (p m i : ℕ) → i < m → get_or (take m (drop p v)) i 0 ≡ get_or v (p + i) 0
+part_at v p m i small = get_or-take m (drop p v) i 0 small ∙ get_or-drop p v i 0
+
+pub record Lent (part words : List ℕ) (o : ℕ) : Type 0 where
+  pub clause : IsClause part 0
+  pub header : header_at part 0 ≡ header_at words o
+  pub lits : lits_at part 0 ≡ lits_at words o
+
+part_lent : (w : List ℕ) (o m : ℕ) → IsClause w o → m ≡ 3 + get_or w (o + 2) 0 → Lent (take m (drop o w)) w o
+unfolding header_at
+part_lent w o m c is =
+    let part : List ℕ = take m (drop o w) in
+    let count : length part ≡ m = length-take-le m (drop o w) (omega (arith, length-drop o w, c.whole)) in
+    let zeroth : o + 0 ≡ o = omega arith in
+    let e0 : get_or part 0 0 ≡ get_or w o 0 = part_at w o m 0 (omega arith) ∙ ap (λ (i : ℕ). get_or w i 0) zeroth in
+    let e1 : get_or part 1 0 ≡ get_or w (o + 1) 0 = part_at w o m 1 (omega arith) in
+    let e2 : get_or part 2 0 ≡ get_or w (o + 2) 0 = part_at w o m 2 (omega arith) in
+    let ls : (k : ℕ) → k < get_or w (o + 2) 0 → get_or part (3 + k) 0 ≡ get_or w (o + 3 + k) 0 = λ k h. let e : o + (3 + k) ≡ o + 3 + k = omega arith in part_at w o m (3 + k) (omega arith) ∙ ap (λ (i : ℕ). get_or w i 0) e in
+    let clause : IsClause part 0 = record {
+      flags = omega (arith, e1, c.flags);
+      whole = omega (arith, e2, count);
+      lits = λ k h. omega (arith, ls k (omega arith), c.lits k (omega arith));
+    } in
+    record {
+      clause = clause;
+      header = rw (e0, e1, e2) refl;
+      lits = same_lits w part o 0 c clause e2 ls;
+    }
+
+pub lent : (v w : List ℕ) (p o n end : ℕ) → v ≡ w → p ≡ o → IsClause w o → n ≡ get_or v (p + 2) n → end ≡ p + 3 + n → Lent (take (end - p) (drop p v)) w o
+lent v w p o n end e f c read is =
+    let there : n ≡ get_or w (o + 2) 0 = (len_read v w p o n e f c read).0 ∙ lits_count w o c in
+    let m : end - p ≡ 3 + get_or w (o + 2) 0 = omega arith in
+    rw (e, f) (subst (λ (k : ℕ). Lent (take k (drop o w)) w o) (sym (ap (λ (x : ℕ). end - x) (sym f) ∙ m)) (part_lent w o (3 + get_or w (o + 2) 0) c refl))
+
+-- the words of a clause that stands alone, as they are read one by one
+
+pub alone_header : (w : List ℕ) → header_of (get_or w 0 0) (get_or w 1 0) (get_or w 2 0) ≡ header_at w 0
+unfolding header_at
+alone_header w = refl
+
+pub alone_lits : (w : List ℕ) → IsClause w 0 → (3 + get_or w 2 0 ≤ length w) × (take (3 + get_or w 2 0 - 3) (drop 3 w) ≡ lits_at w 0)
+unfolding lits_at
+alone_lits w c =
+    let n : 3 + get_or w 2 0 - 3 ≡ get_or w 2 0 = omega arith in
+    (omega (arith, c.whole), ap (λ (k : ℕ). take k (drop 3 w)) n)

@@ -1,0 +1,24 @@
+-- What is done to a clause through a view that holds its buffer.
+use Rattle.std.specs.Prelude.{◌≡◌, ℕ, List}
+use Rattle.sat_store.specs.declared.clause.edit.ClauseMut.{ClauseMut}
+use Rattle.sat_store.specs.clause.Header.{Header}
+use Rattle.sat_store.specs.clause.Buffer.{IsClause, header_at, lits_at, ChangesAt}
+
+-- the view's clause stands in its buffer
+abbrev pub IsThere : ClauseMut → Type 0
+IsThere view = IsClause view.buffer.now view.cref
+
+-- the header of the view's clause
+abbrev pub header_there : ClauseMut → Header
+header_there view = header_at view.buffer.now view.cref
+
+-- the literals of the view's clause
+abbrev pub lits_there : ClauseMut → List ℕ
+lits_there view = lits_at view.buffer.now view.cref
+
+-- the view's clause came to have this header and these literals, and no other clause changed
+pub record Edits (old new : ClauseMut) (header : Header) (lits : List ℕ) : Type 0 where
+  pub cref : new.cref ≡ old.cref
+  pub has_header : header_there new ≡ header
+  pub has_lits : lits_there new ≡ lits
+  pub change : ChangesAt old.buffer.now new.buffer.now old.cref

@@ -1,0 +1,171 @@
+//! A clause in the buffer, to be written.
+ghost use Rattle.std.specs.Prelude.{◌≡◌, ◌<◌, ◌≤◌, ℕ, length, min, slice_index, slice_set, take};
+ghost use Rattle.std.specs.Map.Iter.{ShowsInOrder};
+ghost use Rattle.sat_store.specs.clause.Buffer.{IsClause, header_at, lits_at, swapped};
+
+use crate::clause::alloc::{ClauseAlloc, ClauseRef};
+use crate::clause::header::ClauseHeader;
+use crate::clause::tier::Tier;
+use crate::clause::view::LitsIter;
+use sat_base::Lit;
+
+/// A clause in the buffer, to be read and written. The fields are what `ClauseAlloc::clause_mut` was given.
+#[derive(Drop)]
+pub struct ClauseMut<'a> {
+    pub buffer: &'a mut ClauseAlloc,
+    pub cref: ClauseRef,
+}
+
+impl<'a> ClauseMut<'a> {
+    ghost use Rattle.sat_store.specs.clause.Edits.{Edits, IsThere, header_there, lits_there};
+
+    /// The view, to set fields of the clause's header.
+    pub fn header_mut(&mut self) -> &mut ClauseMut<'a>
+        ensures same { result.ghost_name ≡ self.entry.ghost_name }
+        ensures value { result.now ≡ self.old }
+    {
+        self
+    }
+
+    /// The view, to set and exchange the clause's literals.
+    pub fn lits_mut(&mut self) -> &mut ClauseMut<'a>
+        ensures same { result.ghost_name ≡ self.entry.ghost_name }
+        ensures value { result.now ≡ self.old }
+    {
+        self
+    }
+
+    pub fn header(&self) -> ClauseHeader
+        requires { IsThere self.now }
+        ensures { result ≡ header_there self.now }
+    {
+        self.buffer.header(self.cref)
+    }
+
+    /// The number of literals.
+    pub fn len(&self) -> usize
+        requires { IsThere self.now }
+        ensures { result ≡ length (lits_there self.now) }
+    {
+        self.buffer.len(self.cref)
+    }
+
+    pub fn get(&self, at: usize) -> Lit
+        requires clause { IsThere self.now }
+        requires within { at < length (lits_there self.now) }
+        ensures { result ≡ slice_index (lits_there self.now) at }
+    {
+        self.buffer.lit(self.cref, at)
+    }
+
+    /// The literals, in order.
+    pub fn iter(&self) -> LitsIter<'_>
+        requires { IsThere self.now }
+        ensures rest { result ≡ lits_there self.now }
+        ensures runs { ShowsInOrder (λ (x : ℕ). x) }
+    {
+        self.buffer.clause(self.cref).lits().iter()
+    }
+
+    pub fn set(&mut self, at: usize, lit: Lit)
+        requires clause { IsThere self.old }
+        requires within { at < length (lits_there self.old) }
+        ensures buffer { self.new.buffer.ghost_name ≡ self.old.buffer.ghost_name }
+        ensures edit { Edits self.old self.new (header_there self.old) (slice_set (lits_there self.old) at lit) }
+    {
+        self.buffer.set_lit(self.cref, at, lit);
+    }
+
+    /// Exchanges two literals.
+    pub fn swap(&mut self, i: usize, j: usize)
+        requires clause { IsThere self.old }
+        requires first_within { i < length (lits_there self.old) }
+        requires second_within { j < length (lits_there self.old) }
+        ensures buffer { self.new.buffer.ghost_name ≡ self.old.buffer.ghost_name }
+        ensures edit { Edits self.old self.new (header_there self.old) (swapped (lits_there self.old) i j) }
+    {
+        self.buffer.swap_lits(self.cref, i, j);
+    }
+
+    fn set_header(&mut self, header: ClauseHeader)
+        requires clause { IsThere self.old }
+        requires same_len { header.len ≡ (header_there self.old).len }
+        ensures buffer { self.new.buffer.ghost_name ≡ self.old.buffer.ghost_name }
+        ensures edit { Edits self.old self.new header (lits_there self.old) }
+    {
+        self.buffer.set_header(self.cref, header);
+    }
+
+    /// Drops the literals from this place on.
+    pub fn set_len(&mut self, len: usize)
+        requires clause { IsThere self.old }
+        requires no_longer { len ≤ length (lits_there self.old) }
+        ensures buffer { self.new.buffer.ghost_name ≡ self.old.buffer.ghost_name }
+        ensures edit { Edits self.old self.new (record (header_there self.old) { len = len }) (take len (lits_there self.old)) }
+    {
+        let mut header = self.buffer.header(self.cref);
+        header.set_len(len);
+        self.buffer.set_header(self.cref, header);
+    }
+
+    pub fn set_deleted(&mut self, deleted: bool)
+        requires { IsThere self.old }
+        ensures buffer { self.new.buffer.ghost_name ≡ self.old.buffer.ghost_name }
+        ensures edit { Edits self.old self.new (record (header_there self.old) { deleted = deleted }) (lits_there self.old) }
+    {
+        let mut header = self.header();
+        header.set_deleted(deleted);
+        self.set_header(header);
+    }
+
+    pub fn set_tier(&mut self, tier: Tier)
+        requires { IsThere self.old }
+        ensures buffer { self.new.buffer.ghost_name ≡ self.old.buffer.ghost_name }
+        ensures edit { Edits self.old self.new (record (header_there self.old) { tier = tier }) (lits_there self.old) }
+    {
+        let mut header = self.header();
+        header.set_tier(tier);
+        self.set_header(header);
+    }
+
+    pub fn set_mark(&mut self, mark: bool)
+        requires { IsThere self.old }
+        ensures buffer { self.new.buffer.ghost_name ≡ self.old.buffer.ghost_name }
+        ensures edit { Edits self.old self.new (record (header_there self.old) { mark = mark }) (lits_there self.old) }
+    {
+        let mut header = self.header();
+        header.set_mark(mark);
+        self.set_header(header);
+    }
+
+    pub fn set_active(&mut self, active: bool)
+        requires { IsThere self.old }
+        ensures buffer { self.new.buffer.ghost_name ≡ self.old.buffer.ghost_name }
+        ensures edit { Edits self.old self.new (record (header_there self.old) { active = active }) (lits_there self.old) }
+    {
+        let mut header = self.header();
+        header.set_active(active);
+        self.set_header(header);
+    }
+
+    /// Keeps 63 in place of a larger glue.
+    pub fn set_glue(&mut self, glue: usize)
+        requires { IsThere self.old }
+        ensures buffer { self.new.buffer.ghost_name ≡ self.old.buffer.ghost_name }
+        ensures edit { Edits self.old self.new (record (header_there self.old) { glue = min glue 63 }) (lits_there self.old) }
+    {
+        let mut header = self.header();
+        header.set_glue(glue);
+        self.set_header(header);
+    }
+
+    pub fn set_activity(&mut self, activity: u32)
+        requires { IsThere self.old }
+        ensures buffer { self.new.buffer.ghost_name ≡ self.old.buffer.ghost_name }
+        ensures edit { Edits self.old self.new (record (header_there self.old) { activity = activity }) (lits_there self.old) }
+    {
+        let mut header = self.header();
+        header.set_activity(activity);
+        self.set_header(header);
+    }
+}

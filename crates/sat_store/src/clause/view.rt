@@ -1,0 +1,138 @@
+//! Views of a clause, lent from the buffer.
+ghost use Rattle.std.specs.Prelude.{◌≡◌, ◌<◌, ◌≤◌, ◌*◌, ◌^◌, List, ℕ, [], length, min, slice_index, slice_set, take, IsTrue, ◌↔◌};
+ghost use Rattle.std.specs.List.{All};
+ghost use Rattle.std.specs.Iterator.{at_most};
+ghost use Rattle.std.specs.Map.Iter.{TakesFirst, ShowsInOrder};
+ghost use Rattle.sat_base.specs.values.Literals.{largest};
+ghost use Rattle.sat_store.specs.clause.Buffer.{IsClause, header_at, lits_at};
+
+use crate::clause::header::ClauseHeader;
+use sat_base::Lit;
+use std::iter::FusedIterator;
+use std::marker::Model;
+
+/// The words of a clause before its literals.
+const HEADER_LEN: usize = 3;
+
+/// A clause, which contracts see as its header and its literals.
+#[derive(Drop)]
+pub struct Clause<'a> {
+    words: &'a [u32],
+}
+
+impl<'a> Model for Clause<'a> {
+    ghost use Rattle.sat_store.specs.clause.Buffer.{Stored, IsClause, header_at, lits_at};
+
+    ghost Value = { Stored };
+
+    ghost view = { λ c. record { header = header_at c.words.now 0; lits = lits_at c.words.now 0 } };
+
+    ghost invariant = { λ c. IsClause c.words.now 0 };
+}
+
+impl<'a> Clause<'a> {
+    pub(crate) fn new(words: &'a [u32]) -> Clause<'a>
+        requires { IsClause words.now 0 }
+        ensures header { result.header ≡ header_at words.now 0 }
+        ensures lits { result.lits ≡ lits_at words.now 0 }
+    {
+        Clause { words }
+    }
+
+    pub fn header(&self) -> ClauseHeader
+        ensures { result ≡ self.now.header }
+    {
+        ClauseHeader::from_words(self.words[0], self.words[1], self.words[2])
+    }
+
+    pub fn lits(&self) -> Lits<'a>
+        ensures { result ≡ self.now.lits }
+    {
+        let len = self.words[2] as usize;
+        Lits {
+            words: &self.words[HEADER_LEN..HEADER_LEN + len],
+        }
+    }
+}
+
+/// The literals of a clause, which contracts see as their list.
+#[derive(Drop)]
+pub struct Lits<'a> {
+    words: &'a [u32],
+}
+
+impl<'a> Model for Lits<'a> {
+    ghost use Rattle.std.specs.Prelude.{ℕ, ◌*◌, ◌<◌, List};
+    ghost use Rattle.std.specs.List.{All};
+    ghost use Rattle.sat_base.specs.values.Literals.{largest};
+
+    ghost Value = { List ℕ };
+
+    ghost view = { λ l. l.words.now };
+
+    ghost invariant = { λ l. All (λ x. x < 2 * largest) l.words.now };
+}
+
+impl<'a> Lits<'a> {
+    pub fn len(&self) -> usize
+        ensures { result ≡ length self.now }
+    {
+        self.words.len()
+    }
+
+    pub fn is_empty(&self) -> bool
+        ensures { IsTrue result ↔ self.now ≡ [] }
+    {
+        self.words.is_empty()
+    }
+
+    pub fn get(&self, at: usize) -> Lit
+        requires { at < length self.now }
+        ensures { result ≡ slice_index self.now at }
+    {
+        let words = self.words;
+        Lit::from_code(words[at] as usize)
+    }
+
+    /// The literals, in order.
+    pub fn iter(&self) -> LitsIter<'a>
+        ensures rest { result ≡ self.now }
+        ensures runs { ShowsInOrder (λ (x : ℕ). x) }
+    {
+        LitsIter { words: self.words }
+    }
+}
+
+/// Gives the literals of a clause, in order. Contracts see it as those that are still to come.
+#[derive(Drop)]
+pub struct LitsIter<'a> {
+    words: &'a [u32],
+}
+
+impl<'a> Model for LitsIter<'a> {
+    ghost use Rattle.std.specs.Prelude.{ℕ, ◌*◌, ◌<◌, List};
+    ghost use Rattle.std.specs.List.{All};
+    ghost use Rattle.sat_base.specs.values.Literals.{largest};
+
+    ghost Value = { List ℕ };
+
+    ghost view = { λ l. l.words.now };
+
+    ghost invariant = { λ l. All (λ x. x < 2 * largest) l.words.now };
+}
+
+impl<'a> Iterator for LitsIter<'a> {
+    type Item = Lit;
+
+    ghost next_gives = { TakesFirst (λ (x : ℕ). x) };
+
+    ghost remaining = { λ s. at_most (length s) };
+
+    fn next(&mut self) -> Option<Lit> {
+        let (first, others) = self.words.split_first()?;
+        self.words = others;
+        Some(Lit::from_code(*first as usize))
+    }
+}
+
+impl<'a> FusedIterator for LitsIter<'a> {}
