@@ -1,1 +1,3 @@
 pub mod clause
+pub mod levels
+pub mod variables

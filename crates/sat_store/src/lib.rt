@@ -2,9 +2,17 @@
 #![tactic(auto)]
 
 pub mod clause;
+pub mod data;
+pub mod level_abstraction;
+pub mod tmp;
+pub mod var_map;
 
 pub use clause::alloc::{ClauseAlloc, ClauseRef, StoreError};
 pub use clause::edit::ClauseMut;
 pub use clause::header::ClauseHeader;
 pub use clause::tier::Tier;
 pub use clause::view::{Clause, Lits, LitsIter};
+pub use data::{SamplingMode, VarData};
+pub use level_abstraction::LevelAbstraction;
+pub use tmp::{TmpData, TmpFlags};
+pub use var_map::{VarBiMap, VarBiMapMut, VarMap};

@@ -1,0 +1,39 @@
+-- Maps between variables, as the list of what each index is mapped to. The list is as long as one more than the largest index
+-- that was ever mapped.
+use Rattle.std.specs.Prelude.{ℕ, ◌+◌, ◌==◌, ◌≡◌, max, if◌then◌else◌, Option, Some, None, List, length, slice_index_or}
+
+-- what a variable is mapped to
+abbrev pub target : List (Option ℕ) → ℕ → Option ℕ
+target map from = slice_index_or map from None
+
+-- the map in which one variable has this target, and all others have theirs
+abbrev pub PutsTarget : List (Option ℕ) → List (Option ℕ) → ℕ → Option ℕ → Type 0
+PutsTarget old new from into = (v : ℕ) → target new v ≡ (if v == from then into else target old v)
+
+-- a map and its inverse
+pub record Both : Type 0 where
+  pub fwd : List (Option ℕ)
+  pub bwd : List (Option ℕ)
+
+-- each is the inverse of the other
+pub record AreInverse (maps : Both) : Type 0 where
+  pub back : (v u : ℕ) → target maps.fwd v ≡ Some u → target maps.bwd u ≡ Some v
+  pub forth : (v u : ℕ) → target maps.bwd u ≡ Some v → target maps.fwd v ≡ Some u
+
+-- the maps in the other direction
+abbrev pub turned : Both → Both
+turned maps = record { fwd = maps.bwd; bwd = maps.fwd }
+
+-- one variable was mapped to another, and back
+pub record Links (old new : Both) (from into : ℕ) : Type 0 where
+  pub fwd : PutsTarget old.fwd new.fwd from (Some into)
+  pub bwd : PutsTarget old.bwd new.bwd into (Some from)
+  pub fwd_watermark : length new.fwd ≡ max (length old.fwd) (from + 1)
+  pub bwd_watermark : length new.bwd ≡ max (length old.bwd) (into + 1)
+
+-- one variable was mapped to another, and is no more
+pub record Unlinks (old new : Both) (from into : ℕ) : Type 0 where
+  pub fwd : PutsTarget old.fwd new.fwd from None
+  pub bwd : PutsTarget old.bwd new.bwd into None
+  pub fwd_watermark : length new.fwd ≡ length old.fwd
+  pub bwd_watermark : length new.bwd ≡ length old.bwd

@@ -1,0 +1,48 @@
+//! A filter of decision levels.
+ghost use Rattle.std.specs.Prelude.{ℕ, ◌≡◌, ◌%◌, ◌==◌, if◌then◌else◌, true, false};
+ghost use Rattle.sat_store.specs.levels.Levels.{passes};
+
+use std::marker::Model;
+
+/// A set of levels, of which it keeps the remainder modulo 64: one bit for each.
+#[derive(Clone, Copy)]
+pub struct LevelAbstraction {
+    bits: u64,
+}
+
+impl Model for LevelAbstraction {
+    ghost use Rattle.std.specs.Prelude.{ℕ};
+
+    ghost Value = { ℕ };
+
+    ghost view = { λ a. a.bits };
+
+    ghost inverse = { λ n. record { bits = n } };
+}
+
+impl Default for LevelAbstraction {
+    ghost use Rattle.std.specs.Prelude.{ℕ, ◌≡◌, false};
+    ghost use Rattle.sat_store.specs.levels.Levels.{passes};
+
+    ghost is_default = { λ filter. (level : ℕ) → passes filter level ≡ false };
+
+    fn default() -> LevelAbstraction {
+        LevelAbstraction { bits: 0 }
+    }
+}
+
+impl LevelAbstraction {
+    /// Lets a level pass from now on, with all that have its remainder.
+    pub fn add(&mut self, level: usize)
+        ensures { (other : ℕ) → passes self.new other ≡ (if other % 64 == level % 64 then true else passes self.old other) }
+    {
+        self.bits |= 1 << (level % 64);
+    }
+
+    /// Whether the level, or one with its remainder, was added.
+    pub fn test(&self, level: usize) -> bool
+        ensures { result ≡ passes self.now level }
+    {
+        self.bits >> (level % 64) & 1 == 1
+    }
+}
