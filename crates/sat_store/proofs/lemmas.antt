@@ -1,3 +1,4 @@
 pub mod clause
 pub mod levels
 pub mod variables
+pub mod schedule

@@ -4,6 +4,7 @@
 pub mod clause;
 pub mod data;
 pub mod level_abstraction;
+pub mod luby;
 pub mod tmp;
 pub mod var_map;
 
@@ -14,5 +15,6 @@ pub use clause::tier::Tier;
 pub use clause::view::{Clause, Lits, LitsIter};
 pub use data::{SamplingMode, VarData};
 pub use level_abstraction::LevelAbstraction;
+pub use luby::LubySequence;
 pub use tmp::{TmpData, TmpFlags};
 pub use var_map::{VarBiMap, VarBiMapMut, VarMap};

@@ -1,0 +1,20 @@
+-- The Luby sequence: 1 1 2 1 1 2 4 and so on.
+use Rattle.std.specs.Prelude.{◌≡◌, ℕ, zero, suc, ◌+◌, ◌-◌, ◌^◌, ◌==◌, [], ◌∷◌, if◌then◌else◌, nat_lt, refl}
+
+-- the t-th term, for t below 2 ^ k: 2 ^ (k - 1) for t = 2 ^ k - 1, else, from 2 ^ (k - 1) on, that of t - 2 ^ (k - 1) + 1
+unfoldable pub luby_below : ℕ → ℕ → ℕ
+luby_below zero t = 0
+luby_below (suc k) t =
+    if t == 2 ^ suc k - 1 then 2 ^ k else (if nat_lt t (2 ^ k) then luby_below k t else luby_below k (t - 2 ^ k + 1))
+
+-- the t-th term, from 1 on
+unfoldable pub luby : ℕ → ℕ
+luby t = luby_below t t
+
+-- the number of the term behind this one: behind term 2 ^ 64 - 1 the terms begin again
+abbrev pub behind : ℕ → ℕ
+behind t = if t == 2 ^ 64 - 1 then 0 else t
+
+first_fifteen : luby 1 ∷ luby 2 ∷ luby 3 ∷ luby 4 ∷ luby 5 ∷ luby 6 ∷ luby 7 ∷ luby 8 ∷ luby 9 ∷ luby 10 ∷ luby 11 ∷ luby 12 ∷ luby 13 ∷ luby 14 ∷ luby 15 ∷ [] ≡ 1 ∷ 1 ∷ 2 ∷ 1 ∷ 1 ∷ 2 ∷ 4 ∷ 1 ∷ 1 ∷ 2 ∷ 1 ∷ 1 ∷ 2 ∷ 4 ∷ 8 ∷ []
+unfolding luby luby_below
+first_fifteen = refl

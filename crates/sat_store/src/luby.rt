@@ -1,0 +1,72 @@
+//! The lengths of the gaps between restarts.
+ghost use Rattle.std.specs.Prelude.{◌≡◌, ◌+◌, ◌<◌, ◌≤◌, ◌^◌};
+ghost use Rattle.sat_store.specs.schedule.Luby.{luby, behind};
+
+use std::marker::Model;
+
+/// The Luby sequence 1, 1, 2, 1, 1, 2, 4, .. from term 1 to term 2^64 - 1, and then from the first again. Contracts see it as the
+/// number of the last term that it gave.
+pub struct LubySequence {
+    given: u64,
+}
+
+impl Model for LubySequence {
+    ghost use Rattle.std.specs.Prelude.{ℕ, ◌+◌, ◌<◌, ◌^◌};
+
+    ghost Value = { ℕ };
+
+    ghost view = { λ s. s.given };
+
+    ghost invariant = { λ s. s.given + 1 < 2 ^ 64 };
+}
+
+impl Default for LubySequence {
+    ghost use Rattle.std.specs.Prelude.{◌≡◌};
+
+    ghost is_default = { λ s. s ≡ 0 };
+
+    fn default() -> LubySequence {
+        LubySequence { given: 0 }
+    }
+}
+
+impl LubySequence {
+    /// The next term.
+    pub fn advance(&mut self) -> u64
+        ensures term { result ≡ luby (self.old + 1) }
+        ensures next { self.new ≡ behind (self.old + 1) }
+    {
+        let term = self.given + 1;
+        self.given = if term == u64::MAX { 0 } else { term };
+        luby_term(term)
+    }
+}
+
+/// The term of this number.
+fn luby_term(number: u64) -> u64
+    requires { 0 < number }
+    ensures { result ≡ luby number }
+{
+    let mut rest = number;
+    let mut bits: u32 = 64;
+    while bits > 0 {
+        bits -= 1;
+        let half = power_of_two(bits);
+        if rest == half - 1 + half {
+            return half;
+        }
+        if rest >= half {
+            rest = rest - half + 1;
+        }
+    }
+    0
+}
+
+fn power_of_two(bits: u32) -> u64
+    requires { bits < 64 }
+    ensures value { result ≡ 2 ^ bits }
+    ensures bound { 0 < result }
+    ensures half { result + result ≤ 2 ^ 64 }
+{
+    1 << bits
+}
