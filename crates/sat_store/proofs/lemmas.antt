@@ -2,3 +2,4 @@ pub mod clause
 pub mod levels
 pub mod variables
 pub mod schedule
+pub mod heap

@@ -7,6 +7,7 @@ pub mod level_abstraction;
 pub mod luby;
 pub mod tmp;
 pub mod var_map;
+pub mod vsids;
 
 pub use clause::alloc::{ClauseAlloc, ClauseRef, StoreError};
 pub use clause::edit::ClauseMut;
@@ -18,3 +19,4 @@ pub use level_abstraction::LevelAbstraction;
 pub use luby::LubySequence;
 pub use tmp::{TmpData, TmpFlags};
 pub use var_map::{VarBiMap, VarBiMapMut, VarMap};
+pub use vsids::Vsids;

@@ -1,0 +1,31 @@
+use Rattle.std.proofs.Common.{◌≡◌, ◌<◌, ℕ, List, Bool, false, length, get_or, set, ap, ◌∙◌, refl, sym, subst, arith}
+use Rattle.std.proofs.lemmas.List.{get_or_read}
+use Rattle.sat_store.specs.heap.Heap.{flags}
+use Rattle.sat_store.specs.heap.Vsids.{Queue, may_pick, IsFirst, with_available}
+use Rattle.sat_store.proofs.lemmas.heap.QueueLemmas.{none_flagged, front_first}
+use Rattle.sat_store.proofs.vsids.VsidsIterator.next.Goals as goal
+
+pub returns-then-self-eq0-clause-steps : goal.returns-then-self-eq0-clause-steps
+returns-then-self-eq0-clause-steps c =
+    let p = c.self.inside.positions.items in (
+      (λ v. ap (λ (q : Queue). may_pick q v) (sym c.self.view_is) ∙ ap (λ (m : ℕ). get_or (flags m p) v false) c.if-self-eq0.true ∙ none_flagged p v),
+      refl,
+    )
+
+pub returns-clause-steps : goal.returns-clause-steps
+returns-clause-steps c =
+    let h = c.self.inside.heap.items in
+    let p = c.self.inside.positions.items in
+    let a = c.self.inside.activities.items in
+    let m = c.self.inside.available in
+    let b = c.self.inside.bump in
+    let d = c.self.inside.decay in
+    let heap = c.self.invariant.0 in
+    let some : 0 < m = omega (arith, c.if-self-eq0.false) in
+    let within : 0 < length h = omega (arith, heap.within) in
+    let first : c.from_index-first.result ≡ get_or h 0 0 = c.from_index-first.ensures ∙ get_or_read h 0 c.index.result.now within c.index.ensures 0 in (
+      subst (λ (q : Queue). IsFirst q c.from_index-first.result) c.self.view_is (subst (IsFirst (record { available = flags m p; activities = a; bump = b; decay = d })) (sym first) (front_first h p a m b d heap some)),
+      ap (λ (f : List Bool). record { available = f; activities = a; bump = b; decay = d }) c.take_out.ensures.flags
+          ∙ ap (λ (u : ℕ). record { available = set (flags m p) u false; activities = a; bump = b; decay = d }) (sym first)
+          ∙ ap (with_available c.from_index-first.result false) c.self.view_is,
+    )

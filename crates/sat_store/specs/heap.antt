@@ -1,0 +1,2 @@
+pub mod Vsids
+pub mod Heap

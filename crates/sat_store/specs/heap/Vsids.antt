@@ -1,0 +1,60 @@
+-- Variables by activity.
+use Rattle.std.specs.Prelude.{◌≡◌, ℕ, ◌+◌, ◌-◌, ◌*◌, ◌/◌, ◌^◌, ◌<◌, ◌≤◌, ◌⊎◌, Bool, true, false, nat_lt, if◌then◌else◌, List, [], ◌++◌, length, map, max, replicate, slice_index_or as get_or, slice_set as set}
+
+-- of each variable whether it may be picked, and its activity; what a bump adds; by how many thousandths activities decay
+pub record Queue : Type 0 where
+  pub available : List Bool
+  pub activities : List ℕ
+  pub bump : ℕ
+  pub decay : ℕ
+
+-- whether a variable may be picked
+abbrev pub may_pick : Queue → ℕ → Bool
+may_pick q v = get_or q.available v false
+
+abbrev pub activity_of : Queue → ℕ → ℕ
+activity_of q v = get_or q.activities v 0
+
+-- no variables
+abbrev pub no_variables : Queue
+no_variables = record { available = []; activities = []; bump = 2 ^ 20; decay = 950 }
+
+-- more variables, none of them to be picked, of activity 0
+abbrev pub with_variables : ℕ → Queue → Queue
+with_variables count q = record q {
+  available = q.available ++ replicate (count - length q.available) false;
+  activities = q.activities ++ replicate (count - length q.available) 0;
+}
+
+-- all on a smaller scale: 40 bits less, but a bump adds at least 1
+abbrev pub rescaled : Queue → Queue
+rescaled q = record q { activities = map (λ a. a / 2 ^ 40) q.activities; bump = max (q.bump / 2 ^ 40) 1 }
+
+-- the variable's activity raised; on a smaller scale where it comes to 2 ^ 60
+abbrev pub bumped : ℕ → Queue → Queue
+bumped v q =
+    let raised = record q { activities = set q.activities v (activity_of q v + q.bump) } in
+    if nat_lt (activity_of q v + q.bump) (2 ^ 60) then raised else rescaled raised
+
+-- a quotient, rounded up
+abbrev pub quotient_up : ℕ → ℕ → ℕ
+quotient_up a b = (a + b - 1) / b
+
+-- later bumps add more; on a smaller scale where that comes to 2 ^ 60
+abbrev pub decayed : Queue → Queue
+decayed q =
+    let later = record q { bump = quotient_up (q.bump * 1000) q.decay } in
+    if nat_lt later.bump (2 ^ 60) then later else rescaled later
+
+-- the variable isn't to be picked, or is, from now on
+abbrev pub with_available : ℕ → Bool → Queue → Queue
+with_available v flag q = record q { available = set q.available v flag }
+
+-- of those to be picked, none has a higher activity, nor the same and a lower index
+pub record IsFirst (q : Queue) (v : ℕ) : Type 0 where
+  pub available : may_pick q v ≡ true
+  pub first : (u : ℕ) → may_pick q u ≡ true → (activity_of q u < activity_of q v) ⊎ ((activity_of q u ≡ activity_of q v) × (v ≤ u))
+
+-- none is to be picked
+abbrev pub NoneLeft : Queue → Type 0
+NoneLeft q = (v : ℕ) → may_pick q v ≡ false

@@ -1,0 +1,226 @@
+//! Variables by activity.
+//!
+//! A decision takes the variable of highest activity. Conflicts raise activities, and in place of lowering all others after each
+//! conflict, later conflicts raise by more; where numbers grow too large, all are brought to a smaller scale.
+ghost use Rattle.std.specs.Prelude.{◌≡◌, ◌<◌, ◌≤◌, ◌+◌, ◌*◌, ◌-◌, ◌/◌, ◌^◌, OnOk, OnErr, true, false, length, map, max, slice_set};
+ghost use Rattle.sat_base.specs.values.Literals.{largest};
+ghost use Rattle.sat_store.specs.heap.Vsids.{no_variables, with_variables, bumped, decayed, with_available, may_pick};
+
+mod heap;
+
+use self::heap::{add_variables, heapify, put_in, sift_up, take_out};
+use sat_base::Var;
+use std::alloc::{AllocError, Global};
+use std::marker::Model;
+
+/// Activities are below this.
+const LIMIT: u64 = 1 << 60;
+
+/// The variables that may be picked, by activity. Contracts see it as a `Queue`: which variables may be picked, the activity of
+/// each, what a bump adds, and the decay.
+#[derive(Drop)]
+pub struct Vsids {
+    /// All variables, the available ones first and in a heap.
+    heap: Vec<u32>,
+
+    /// Where each variable stands in `heap`.
+    positions: Vec<u32>,
+
+    activities: Vec<u64>,
+    available: usize,
+    bump: u64,
+
+    /// In thousandths.
+    decay: u64,
+}
+
+impl Model for Vsids {
+    ghost use Rattle.std.specs.Prelude.{◌<◌, ◌≤◌, ◌^◌};
+    ghost use Rattle.sat_store.specs.heap.Vsids.{Queue};
+    ghost use Rattle.sat_store.specs.heap.Heap.{IsHeap, flags};
+
+    ghost Value = { Queue };
+
+    ghost view = { λ v. record { available = flags v.available v.positions.items; activities = v.activities.items; bump = v.bump; decay = v.decay } };
+
+    ghost invariant = { λ v. IsHeap v.heap.items v.positions.items v.activities.items v.available × (0 < v.bump) × (v.bump < 2 ^ 60) × (500 ≤ v.decay) × (v.decay ≤ 999) };
+}
+
+impl Vsids {
+    /// No variables, and a decay of 950. Takes no memory.
+    pub fn new(alloc: Global) -> Vsids
+        ensures { result ≡ no_variables }
+    {
+        Vsids {
+            heap: Vec::new(alloc),
+            positions: Vec::new(alloc),
+            activities: Vec::new(alloc),
+            available: 0,
+            bump: 1 << 20,
+            decay: 950,
+        }
+    }
+
+    /// Raises the number of variables to this count, with room for all to be available. A lower count changes nothing.
+    pub fn set_var_count(&mut self, count: usize) -> Result<(), AllocError>
+        requires { count ≤ largest }
+        ensures counted { OnOk result (self.new ≡ with_variables count self.old) }
+        ensures kept { OnErr result (self.new ≡ self.old) }
+    {
+        let old = self.heap.len();
+        if count <= old {
+            return Ok(());
+        }
+        self.heap.reserve(count - old)?;
+        self.positions.reserve(count - old)?;
+        self.activities.reserve(count - old)?;
+        add_variables(
+            &mut self.heap,
+            &mut self.positions,
+            &mut self.activities,
+            count,
+        );
+        Ok(())
+    }
+
+    /// Sets by how many thousandths activities decay.
+    pub fn set_decay(&mut self, decay: u32)
+        requires low { 500 ≤ decay }
+        requires high { decay ≤ 999 }
+        ensures { self.new ≡ record self.old { decay = decay } }
+    {
+        self.decay = u64::from(decay);
+    }
+
+    /// Raises the activity of a variable.
+    pub fn bump(&mut self, var: Var)
+        requires { var < length self.old.available }
+        ensures { self.new ≡ bumped var self.old }
+    {
+        let index = var.index();
+        let raised = self.activities[index] + self.bump;
+        self.activities[index] = raised;
+        if raised >= LIMIT {
+            self.bump = rescale(&mut self.activities, self.bump);
+            heapify(
+                &mut self.heap,
+                &mut self.positions,
+                &self.activities,
+                self.available,
+            );
+            return;
+        }
+        let at = self.positions[index] as usize;
+        if at < self.available {
+            sift_up(
+                &mut self.heap,
+                &mut self.positions,
+                &self.activities,
+                self.available,
+                at,
+            );
+        }
+    }
+
+    /// Lets all activities decay, in that later bumps add more.
+    pub fn decay(&mut self)
+        ensures { self.new ≡ decayed self.old }
+    {
+        let later = self.bump / self.decay * 1000
+            + (self.bump % self.decay * 1000 + self.decay - 1) / self.decay;
+        if later >= LIMIT {
+            self.bump = rescale(&mut self.activities, later);
+            heapify(
+                &mut self.heap,
+                &mut self.positions,
+                &self.activities,
+                self.available,
+            );
+            return;
+        }
+        self.bump = later;
+    }
+
+    /// Sets the activity of a variable that may not be picked to 0.
+    pub fn reset(&mut self, var: Var)
+        requires within { var < length self.old.available }
+        requires unavailable { may_pick self.old var ≡ false }
+        ensures { self.new ≡ record self.old { activities = slice_set self.old.activities var 0 } }
+    {
+        self.activities[var.index()] = 0;
+    }
+
+    /// Lets a variable not be picked from now on.
+    pub fn make_unavailable(&mut self, var: Var)
+        requires { var < length self.old.available }
+        ensures { self.new ≡ with_available var false self.old }
+    {
+        let at = self.positions[var.index()] as usize;
+        if at < self.available {
+            take_out(
+                &mut self.heap,
+                &mut self.positions,
+                &self.activities,
+                self.available,
+                at,
+            );
+            self.available -= 1;
+        }
+    }
+
+    /// Lets a variable be picked from now on.
+    pub fn make_available(&mut self, var: Var)
+        requires { var < length self.old.available }
+        ensures { self.new ≡ with_available var true self.old }
+    {
+        let at = self.positions[var.index()] as usize;
+        if at >= self.available {
+            put_in(
+                &mut self.heap,
+                &mut self.positions,
+                &self.activities,
+                self.available,
+                at,
+            );
+            self.available += 1;
+        }
+    }
+}
+
+impl Iterator for Vsids {
+    type Item = Var;
+
+    ghost use Rattle.std.specs.Prelude.{◌≡◌, MatchOption, false};
+    ghost use Rattle.sat_store.specs.heap.Vsids.{IsFirst, NoneLeft, with_available};
+
+    ghost next_gives = { λ q result after. MatchOption result (NoneLeft q × (after ≡ q)) (λ v. IsFirst q v × (after ≡ with_available v false q)) };
+
+    /// The variable of highest activity of those that may be picked, of equals the one of the lowest index. It may not be picked
+    /// from then on. `None` where there is none.
+    fn next(&mut self) -> Option<Var> {
+        if self.available == 0 {
+            return None;
+        }
+        let first = Var::from_index(self.heap[0] as usize);
+        take_out(
+            &mut self.heap,
+            &mut self.positions,
+            &self.activities,
+            self.available,
+            0,
+        );
+        self.available -= 1;
+        Some(first)
+    }
+}
+
+/// Brings all activities to a smaller scale, and answers what a bump adds on it.
+fn rescale(activities: &mut Vec<u64>, bump: u64) -> u64
+    ensures activities { activities.new.items ≡ map (λ a. a / 2 ^ 40) activities.old.items }
+    ensures bump { result ≡ max (bump / 2 ^ 40) 1 }
+{
+    for activity in activities.iter_mut() {
+        *activity >>= 40;
+    }
+    (bump >> 40).max(1)
+}
