@@ -1,0 +1,2 @@
+pub mod propagation
+pub mod rows

@@ -1,0 +1,134 @@
+-- What it takes to assume the negation of a clause, and that the check is then exact.
+use Rattle.std.proofs.Common.{ℕ, ◌≡◌, Bool, true, false, cond, eqb, List, [], ◌∷◌, ◌++◌, map, refl, sym, subst, Some, None, ◌⊎◌, inl, inr}
+use Rattle.std.proofs.lemmas.Bool.{or_cases, or_left, or_right, or_from, both_ways, eqb-true, eq-eqb, true≢false, false_from_ne_true}
+use Rattle.std.specs.List.{AllByRecursion, list_any}
+use Rattle.sat_base.specs.values.Literals.{negated}
+use Rattle.sat_checker.specs.LiteralSets.{is_among, is_tautology}
+use Rattle.sat_checker.specs.inner.Marks.{NoRepeats}
+use Rattle.sat_checker.specs.Propagation.{PassesCheck, tautology, unit_true, conflict}
+use Rattle.sat_checker.specs.inner.Walk.{denied, walk_buckets}
+use Rattle.sat_checker.proofs.lemmas.propagation.Greedy.{Within, rule_from_walk, walk_from_rule}
+
+-- the assumed literals once l is denied
+abbrev with_denied : List ℕ → ℕ → List ℕ
+with_denied assumed l = cond (is_among assumed (negated l)) assumed (negated l ∷ assumed)
+
+-- they are the old ones and the negation
+pub denied_among : (assumed : List ℕ) (l m : ℕ) → is_among (with_denied assumed l) m ≡ true → (m ≡ negated l) ⊎ (is_among assumed m ≡ true)
+denied_among assumed l m = go (is_among assumed (negated l))
+  where
+    go : (b : Bool) → is_among (cond b assumed (negated l ∷ assumed)) m ≡ true → (m ≡ negated l) ⊎ (is_among assumed m ≡ true)
+    go true h = inr h
+    go false h = elim (or_cases (eqb (negated l) m) (is_among assumed m) h) [ inl e ↦ inl (sym (eqb-true (negated l) m e)) | inr k ↦ inr k ]
+
+pub among_denied : (assumed : List ℕ) (l m : ℕ) → (m ≡ negated l) ⊎ (is_among assumed m ≡ true) → is_among (with_denied assumed l) m ≡ true
+among_denied assumed l m = go (is_among assumed (negated l)) refl
+  where
+    go : (b : Bool) → is_among assumed (negated l) ≡ b → (m ≡ negated l) ⊎ (is_among assumed m ≡ true) → is_among (cond b assumed (negated l ∷ assumed)) m ≡ true
+    go true e h = elim h [ inl s ↦ subst (λ x. is_among assumed x ≡ true) (sym s) e | inr k ↦ k ]
+    go false e h = elim h [ inl s ↦ or_left (eqb (negated l) m) (is_among assumed m) (eq-eqb (negated l) m (sym s)) | inr k ↦ or_right (eqb (negated l) m) (is_among assumed m) k ]
+
+-- one of the list that is in a list with one more is the new one or in the list
+any_denied : (assumed : List ℕ) (l : ℕ) (ls : List ℕ) → list_any (is_among (with_denied assumed l)) ls ≡ true → (is_among ls (negated l) ≡ true) ⊎ (list_any (is_among assumed) ls ≡ true)
+any_denied assumed l [] h = absurd (true≢false (sym h))
+any_denied assumed l (m ∷ ms) h =
+    elim (or_cases (is_among (with_denied assumed l) m) (list_any (is_among (with_denied assumed l)) ms) h) [
+      | inl k ↦ elim (denied_among assumed l m k) [ inl e ↦ inl (or_left (eqb m (negated l)) (is_among ms (negated l)) (eq-eqb m (negated l) e)) | inr a ↦ inr (or_left (is_among assumed m) (list_any (is_among assumed) ms) a) ]
+      | inr k ↦ elim (any_denied assumed l ms k) [ inl e ↦ inl (or_right (eqb m (negated l)) (is_among ms (negated l)) e) | inr a ↦ inr (or_right (is_among assumed m) (list_any (is_among assumed) ms) a) ]
+    ]
+
+-- a literal was true: a unit or both signs
+pub denied_none : (clause assumed : List ℕ) → denied assumed clause ≡ None → (list_any (is_among assumed) clause ≡ true) ⊎ (is_tautology clause ≡ true)
+denied_none [] assumed e = absurd cc
+denied_none (l ∷ ls) assumed e = go (denied_none ls) (is_among assumed l) refl e
+  where
+    go : ((more : List ℕ) → denied more ls ≡ None → (list_any (is_among more) ls ≡ true) ⊎ (is_tautology ls ≡ true)) → (b : Bool) → is_among assumed l ≡ b → cond b None (denied (with_denied assumed l) ls) ≡ None → (list_any (is_among assumed) (l ∷ ls) ≡ true) ⊎ (is_tautology (l ∷ ls) ≡ true)
+    go ih true h e' = inl (or_left (is_among assumed l) (list_any (is_among assumed) ls) h)
+    go ih false h e' =
+        elim (ih (with_denied assumed l) e') [
+          | inl k ↦ elim (any_denied assumed l ls k) [ inl m ↦ inr (or_left (is_among ls (negated l)) (is_tautology ls) m) | inr a ↦ inl (or_right (is_among assumed l) (list_any (is_among assumed) ls) a) ]
+          | inr t ↦ inr (or_right (is_among ls (negated l)) (is_tautology ls) t)
+        ]
+
+-- what is known once all negations are assumed
+pub record Denied (assumed clause more : List ℕ) : Type 0 where
+  pub enough : Within (map negated clause ++ assumed) more
+  pub only : Within more (map negated clause ++ assumed)
+  pub no_unit : list_any (is_among assumed) clause ≡ false
+  pub no_tautology : is_tautology clause ≡ false
+
+among_append : (xs ys : List ℕ) (m : ℕ) → is_among (xs ++ ys) m ≡ true → (is_among xs m ≡ true) ⊎ (is_among ys m ≡ true)
+among_append [] ys m h = inr h
+among_append (x ∷ xs) ys m h =
+    elim (or_cases (eqb x m) (is_among (xs ++ ys) m) h) [
+      | inl e ↦ inl (or_left (eqb x m) (is_among xs m) e)
+      | inr k ↦ elim (among_append xs ys m k) [ inl a ↦ inl (or_right (eqb x m) (is_among xs m) a) | inr b ↦ inr b ]
+    ]
+
+append_among : (xs ys : List ℕ) (m : ℕ) → (is_among xs m ≡ true) ⊎ (is_among ys m ≡ true) → is_among (xs ++ ys) m ≡ true
+append_among [] ys m h = elim h [ inl a ↦ absurd (true≢false (sym a)) | inr b ↦ b ]
+append_among (x ∷ xs) ys m h =
+    elim h [
+      | inl a ↦ elim (or_cases (eqb x m) (is_among xs m) a) [ inl e ↦ or_left (eqb x m) (is_among (xs ++ ys) m) e | inr k ↦ or_right (eqb x m) (is_among (xs ++ ys) m) (append_among xs ys m (inl k)) ]
+      | inr b ↦ or_right (eqb x m) (is_among (xs ++ ys) m) (append_among xs ys m (inr b))
+    ]
+
+-- a member shows that one passes
+any_member : (test : ℕ → Bool) (ls : List ℕ) (l : ℕ) → is_among ls l ≡ true → test l ≡ true → list_any test ls ≡ true
+any_member test [] l m t = absurd (true≢false (sym m))
+any_member test (x ∷ xs) l m t =
+    elim (or_cases (eqb x l) (is_among xs l) m) [ inl e ↦ or_left (test x) (list_any test xs) (subst (λ y. test y ≡ true) (sym (eqb-true x l e)) t) | inr k ↦ or_right (test x) (list_any test xs) (any_member test xs l k t) ]
+
+any_weaker : (p q : ℕ → Bool) → ((m : ℕ) → p m ≡ true → q m ≡ true) → (ls : List ℕ) → list_any p ls ≡ true → list_any q ls ≡ true
+any_weaker p q w [] h = h
+any_weaker p q w (l ∷ ls) h = elim (or_cases (p l) (list_any p ls) h) [ inl a ↦ or_left (q l) (list_any q ls) (w l a) | inr b ↦ or_right (q l) (list_any q ls) (any_weaker p q w ls b) ]
+
+pub denied_some : (clause assumed more : List ℕ) → denied assumed clause ≡ Some more → Denied assumed clause more
+denied_some [] assumed more e =
+    let same : assumed ≡ more = cc in
+    record { enough = record { each = λ l h. subst (λ x. is_among x l ≡ true) same h }; only = record { each = λ l h. subst (λ x. is_among x l ≡ true) (sym same) h }; no_unit = refl; no_tautology = refl }
+denied_some (l ∷ ls) assumed more e = go (λ m. denied_some ls m more) (is_among assumed l) refl e
+  where
+    go : ((m : List ℕ) → denied m ls ≡ Some more → Denied m ls more) → (b : Bool) → is_among assumed l ≡ b → cond b None (denied (with_denied assumed l) ls) ≡ Some more → Denied assumed (l ∷ ls) more
+    go ih true h e' = absurd cc
+    go ih false h e' =
+        let d = ih (with_denied assumed l) e' in
+        record {
+          enough = record {
+            each = λ m k. d.enough.each m (append_among (map negated ls) (with_denied assumed l) m
+                (elim (or_cases (eqb (negated l) m) (is_among (map negated ls ++ assumed) m) k) [
+                  | inl s ↦ inr (among_denied assumed l m (inl (sym (eqb-true (negated l) m s))))
+                  | inr a ↦ elim (among_append (map negated ls) assumed m a) [ inl x ↦ inl x | inr y ↦ inr (among_denied assumed l m (inr y)) ]
+                ]));
+          };
+          only = record {
+            each = λ m k. elim (among_append (map negated ls) (with_denied assumed l) m (d.only.each m k)) [
+              | inl x ↦ or_right (eqb (negated l) m) (is_among (map negated ls ++ assumed) m) (append_among (map negated ls) assumed m (inl x))
+              | inr y ↦ elim (denied_among assumed l m y) [
+                | inl s ↦ or_left (eqb (negated l) m) (is_among (map negated ls ++ assumed) m) (eq-eqb (negated l) m (sym s))
+                | inr z ↦ or_right (eqb (negated l) m) (is_among (map negated ls ++ assumed) m) (append_among (map negated ls) assumed m (inr z))
+              ]
+            ];
+          };
+          no_unit = or_from (is_among assumed l) (list_any (is_among assumed) ls) h
+              (false_from_ne_true (list_any (is_among assumed) ls) (λ t. both_ways (list_any (is_among (with_denied assumed l)) ls) d.no_unit
+              (any_weaker (is_among assumed) (is_among (with_denied assumed l)) (λ m k. among_denied assumed l m (inr k)) ls t)));
+          no_tautology = or_from (is_among ls (negated l)) (is_tautology ls)
+              (false_from_ne_true (is_among ls (negated l)) (λ t. both_ways (list_any (is_among (with_denied assumed l)) ls) d.no_unit
+              (any_member (is_among (with_denied assumed l)) ls (negated l) t (among_denied assumed l (negated l) (inl refl)))))
+              d.no_tautology;
+        }
+
+-- the check says yes exactly by the rule
+pub passes_when_true : (units clause : List ℕ) (buckets : List (List (List ℕ))) → denied units clause ≡ None → PassesCheck units clause buckets
+passes_when_true units clause buckets e = elim (denied_none clause units e) [ inl u ↦ unit_true u | inr t ↦ tautology t ]
+
+pub passes_when_walked : (units clause more : List ℕ) (buckets : List (List (List ℕ))) → AllByRecursion (AllByRecursion NoRepeats) buckets → denied units clause ≡ Some more → walk_buckets more buckets ≡ true → PassesCheck units clause buckets
+passes_when_walked units clause more buckets n e w =
+    let d = denied_some clause units more e in
+    conflict (rule_from_walk (map negated clause ++ units) buckets (walk_from_rule more (map negated clause ++ units) buckets d.only n (rule_from_walk more buckets w)))
+
+pub walked_when_passes : (units clause more : List ℕ) (buckets : List (List (List ℕ))) → AllByRecursion (AllByRecursion NoRepeats) buckets → denied units clause ≡ Some more → PassesCheck units clause buckets → walk_buckets more buckets ≡ true
+walked_when_passes units clause more buckets n e (tautology t) = absurd (both_ways (is_tautology clause) (denied_some clause units more e).no_tautology t)
+walked_when_passes units clause more buckets n e (unit_true u) = absurd (both_ways (list_any (is_among units) clause) (denied_some clause units more e).no_unit u)
+walked_when_passes units clause more buckets n e (conflict k) = walk_from_rule (map negated clause ++ units) more buckets (denied_some clause units more e).enough n k

@@ -1,0 +1,102 @@
+-- Which steps are accepted, and what they leave. Lists of steps have the newest first.
+use Rattle.std.specs.Prelude.{ℕ, ◌<◌, ◌≡◌, ◌≢◌, ◌⊎◌, true, false, Option, None, Some, List, [], ◌∷◌, map, if◌then◌else◌}
+use Rattle.std.specs.List.{list_any, AllByRecursion}
+use Rattle.sat_base.specs.values.Literals.{variable, negated}
+use Rattle.sat_base.specs.steps.Steps.{Redundant, Simplified, Satisfied, Step, SolverVarName, UserVarName, DeleteVar, ChangeSamplingMode, AddClause, AtClause, UnitClauses, DeleteClause, ChangeHashBits, Model, Assumptions, FailedAssumptions, End}
+use Rattle.sat_checker.specs.LiteralSets.{is_among, mentions, is_subset, canonical}
+use Rattle.sat_checker.specs.Propagation.{PassesCheck}
+use Rattle.sat_checker.specs.Stored.{Sample, Witness, Hide, Stored, nothing_stored, is_known, mode_of, name_of, is_unit, unit_literals, bucket}
+use Rattle.sat_checker.specs.Storing.{clause_with, irredundant_count, redundant_count, found, with_derived, with_input, with_unit, with_units, with_variable, with_known, with_literals_known, with_solver_name, without_variable, without_clause}
+
+-- the propagation check of a clause under the hashes that a step names
+abbrev pub Passes : Stored → List ℕ → List ℕ → Type 0
+Passes f clause hashes = PassesCheck (unit_literals f) clause (map (bucket f) hashes)
+
+-- no variable has the name, and this one has none and isn't hidden
+pub record MayGetName (f : Stored) (v name : ℕ) : Type 0 where
+  pub free : (w : ℕ) → name_of w f ≢ Some name
+  pub nameless : name_of v f ≡ None
+  pub not_hidden : mode_of v f ≢ Hide
+
+-- it's known, has no name, and is neither in a stored clause of two literals or more nor assumed
+pub record MayBeDeleted (f : Stored) (v : ℕ) : Type 0 where
+  pub known : is_known v f ≡ true
+  pub nameless : name_of v f ≡ None
+  pub unused : list_any (λ c. mentions c.literals v) f.clauses ≡ false
+  pub not_assumed : mentions f.assumed v ≡ false
+
+-- unsat is recorded, or each variable is sampling or unknown
+abbrev pub MayBeAdded : Stored → List ℕ → Type 0
+MayBeAdded f clause = (f.unsat ≡ true) ⊎ AllByRecursion (λ l. mode_of (variable l) f ≡ Sample) clause
+
+-- each literal in turn passes the check as a clause under its one hash, those before it being units by then
+abbrev pub PassInTurn : Stored → List (ℕ × ℕ) → Type 0
+PassInTurn f [] = Unit {0}
+PassInTurn f (u ∷ us) = Passes f (u.0 ∷ []) (u.1 ∷ []) × PassInTurn (with_unit u.0 f) us
+
+-- it was found, and is a part of the clause but not all of it
+abbrev pub IsStrictSubset : Option (List ℕ) → List ℕ → Type 0
+IsStrictSubset None clause = ⊥
+IsStrictSubset (Some ls) clause = (is_subset ls clause ≡ true) × (is_subset clause ls ≡ false)
+
+-- no variable stands twice
+abbrev pub VariablesApart : List ℕ → Type 0
+VariablesApart [] = Unit {0}
+VariablesApart (l ∷ ls) = (mentions ls (variable l) ≡ false) × VariablesApart ls
+
+-- no variable twice, no unit contradicted, a true literal in each clause with an irredundant count, and no recorded unsat
+pub record FitsModel (f : Stored) (ls : List ℕ) : Type 0 where
+  pub consistent : f.unsat ≡ false
+  pub apart : VariablesApart ls
+  pub units : AllByRecursion (λ u. is_among ls (negated u.literal) ≡ false) f.units
+  pub clauses : AllByRecursion (λ c. (c.irredundant ≡ 0) ⊎ (list_any (is_among ls) c.literals ≡ true)) f.clauses
+
+abbrev pub Accepts : Stored → Step → Type 0
+Accepts f (SolverVarName v name) = Unit {0}
+Accepts f (UserVarName v (Some name)) = MayGetName f v name
+Accepts f (UserVarName v None) = name_of v f ≢ None
+Accepts f (DeleteVar v) = MayBeDeleted f v
+Accepts f (ChangeSamplingMode v sample) = is_known v f ≡ true
+Accepts f (AddClause clause) = MayBeAdded f clause
+Accepts f (AtClause redundant clause hashes) = Passes f clause hashes
+Accepts f (UnitClauses us) = PassInTurn f us
+Accepts f (DeleteClause clause Redundant) = 0 < redundant_count (clause_with (canonical clause) f.clauses)
+Accepts f (DeleteClause clause Satisfied) =
+    (0 < irredundant_count (clause_with (canonical clause) f.clauses)) × (list_any (is_unit f) clause ≡ true)
+Accepts f (DeleteClause clause Simplified) =
+    (0 < irredundant_count (clause_with (canonical clause) f.clauses)) × IsStrictSubset (found f.last f) clause
+Accepts f (ChangeHashBits bits) = Unit {0}
+Accepts f (Model ls) = FitsModel f ls
+Accepts f (Assumptions ls) = Unit {0}
+-- the core is among the assumptions and its negation passes the check, which it does where it has both signs of a variable
+Accepts f (FailedAssumptions core hashes) = (is_subset core f.assumed ≡ true) × Passes f (map negated core) hashes
+Accepts f End = Unit {0}
+
+-- what an accepted step leaves
+abbrev pub after : Step → Stored → Stored
+after (SolverVarName v None) f = with_solver_name v None f
+after (SolverVarName v (Some name)) f = with_solver_name v (Some name) (with_known (v ∷ []) f)
+after (UserVarName v (Some name)) f = with_variable v (record (f.variables v) { known = true; name = Some name }) f
+after (UserVarName v None) f = with_variable v (record (f.variables v) { mode = Hide; name = None }) f
+after (DeleteVar v) f = without_variable v f
+after (ChangeSamplingMode v sample) f = with_variable v (record (f.variables v) { mode = (if sample then Sample else Witness) }) f
+-- once unsat is recorded, a clause of the formula has no effect at all
+after (AddClause clause) f = if f.unsat then f else with_input clause (with_literals_known clause f)
+after (AtClause redundant clause hashes) f = with_derived redundant clause (with_literals_known clause f)
+after (UnitClauses us) f = let ls : List ℕ = map (λ u. u.0) us in with_units ls (with_literals_known ls f)
+after (DeleteClause clause Redundant) f = record f { clauses = without_clause true (canonical clause) f.clauses }
+after (DeleteClause clause proof) f = record f { clauses = without_clause false (canonical clause) f.clauses }
+after (ChangeHashBits bits) f = record f { width = bits }
+after (Model ls) f = with_literals_known ls f
+after (Assumptions ls) f = record (with_literals_known ls f) { assumed = ls }
+after (FailedAssumptions core hashes) f = f
+after End f = record f { ended = true }
+
+abbrev pub stored_after : List Step → Stored
+stored_after [] = nothing_stored
+stored_after (step ∷ earlier) = after step (stored_after earlier)
+
+-- each step is accepted in its turn
+abbrev pub AcceptsAll : List Step → Type 0
+AcceptsAll [] = Unit {0}
+AcceptsAll (step ∷ earlier) = AcceptsAll earlier × Accepts (stored_after earlier) step

@@ -1,0 +1,10 @@
+pub mod LiteralSets
+pub mod Propagation
+pub mod Stored
+pub mod Storing
+pub mod Accepts
+pub mod Fold
+pub mod Looks
+pub mod inner
+pub mod Laws
+pub mod Rows

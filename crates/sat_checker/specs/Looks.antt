@@ -1,0 +1,25 @@
+-- How many looks at literals a step takes at most. The store lends the literals of a clause of two or more by one call alone, which adds the clause's length to the looks.
+use Rattle.std.specs.Prelude.{ℕ, ◌+◌, ◌*◌, List, [], ◌∷◌, length, sum_by}
+use Rattle.sat_base.specs.steps.Steps.{Step, AtClause, UnitClauses, FailedAssumptions}
+use Rattle.sat_checker.specs.Stored.{Stored}
+use Rattle.sat_checker.specs.Accepts.{stored_after}
+
+-- the number of literals of stored clauses
+abbrev pub literal_count : Stored → ℕ
+literal_count f = sum_by (λ c. length c.literals) f.clauses
+
+-- the number of hashes that a step names
+abbrev pub hashes_named : Step → ℕ
+hashes_named (AtClause redundant clause hashes) = length hashes
+hashes_named (UnitClauses us) = length us
+hashes_named (FailedAssumptions core hashes) = length hashes
+hashes_named step = 0
+
+-- five passes over all literals, and two more for each hash that the step names
+abbrev pub most_looks : Stored → Step → ℕ
+most_looks f step = (5 + 2 * hashes_named step) * literal_count f
+
+-- over a list of steps, the newest first
+abbrev pub most_looks_of : List Step → ℕ
+most_looks_of [] = 0
+most_looks_of (step ∷ earlier) = most_looks_of earlier + most_looks (stored_after earlier) step

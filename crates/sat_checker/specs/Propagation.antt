@@ -1,0 +1,50 @@
+-- When clauses are unit in turn, the last falsified, and when a clause passes the propagation check.
+use Rattle.std.specs.Prelude.{ℕ, ◌≡◌, ◌≢◌, ◌⊎◌, true, false, List, [], ◌∷◌, ◌++◌, map}
+use Rattle.std.specs.List.{AllByRecursion, list_any}
+use Rattle.sat_base.specs.values.Literals.{negated}
+use Rattle.sat_checker.specs.LiteralSets.{is_among, is_tautology}
+
+-- each literal of the clause is false where the assumed literals are true
+abbrev pub IsFalsified : List ℕ → List ℕ → Type 0
+IsFalsified assumed clause = AllByRecursion (λ l. is_among assumed (negated l) ≡ true) clause
+
+-- the literal is in the clause and not assigned, and each other literal of the clause is false
+pub record IsUnit (assumed clause : List ℕ) (open_literal : ℕ) : Type 0 where
+  pub within : is_among clause open_literal ≡ true
+  pub not_true : is_among assumed open_literal ≡ false
+  pub not_false : is_among assumed (negated open_literal) ≡ false
+  pub others : AllByRecursion (λ l. (l ≡ open_literal) ⊎ (is_among assumed (negated l) ≡ true)) clause
+
+-- each clause but the last is unit in its turn, its literal being assumed from there on, and the last is falsified
+abbrev pub UnitInTurn : List ℕ → List (List ℕ) → Type 0
+UnitInTurn assumed [] = ⊥
+UnitInTurn assumed (clause ∷ []) = IsFalsified assumed clause
+UnitInTurn assumed (clause ∷ next ∷ rest) =
+    (open_literal : ℕ) × IsUnit assumed clause open_literal × UnitInTurn (open_literal ∷ assumed) (next ∷ rest)
+
+-- xs can be had from ys by leaving some out
+abbrev pub IsSubsequence : List (List ℕ) → List (List ℕ) → Type 0
+IsSubsequence [] ys = Unit {0}
+IsSubsequence (x ∷ xs) [] = ⊥
+IsSubsequence (x ∷ xs) (y ∷ ys) = ((x ≡ y) × IsSubsequence xs ys) ⊎ IsSubsequence (x ∷ xs) ys
+
+-- the clauses of the buckets, one bucket after another
+abbrev pub joined : List (List (List ℕ)) → List (List ℕ)
+joined [] = []
+joined (b ∷ bs) = b ++ joined bs
+
+-- some of the clauses of the first buckets, none of these empty, are unit in turn, the last falsified
+pub record LeadToConflict (assumed : List ℕ) (buckets : List (List (List ℕ))) : Type 0 where
+  pub first : List (List (List ℕ))
+  pub rest : List (List (List ℕ))
+  pub named : List (List ℕ)
+  pub split : buckets ≡ first ++ rest
+  pub none_empty : AllByRecursion (λ b. b ≢ []) first
+  pub chosen : IsSubsequence named (joined first)
+  pub conflict : UnitInTurn assumed named
+
+-- When a clause passes the check under stored units and the buckets that were named: it has both signs of a variable, a unit is true in it, or the buckets lead to a conflict under its negated literals and the units.
+pub data PassesCheck (units clause : List ℕ) (buckets : List (List (List ℕ))) : Type 0 where
+  tautology : is_tautology clause ≡ true → PassesCheck units clause buckets
+  unit_true : list_any (is_among units) clause ≡ true → PassesCheck units clause buckets
+  conflict : LeadToConflict (map negated clause ++ units) buckets → PassesCheck units clause buckets

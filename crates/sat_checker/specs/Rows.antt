@@ -1,0 +1,180 @@
+-- Worked rows: steps in the order of a certificate, whether they are accepted, and what they leave.
+use Rattle.std.specs.Prelude.{ℕ, ◌≡◌, true, false, Option, Some, None, List, [], ◌∷◌, ◌++◌, map}
+use Rattle.sat_base.specs.values.Hashes.{hash_of}
+use Rattle.sat_base.specs.steps.Steps.{Redundant, Simplified, Satisfied, Step, SolverVarName, UserVarName, DeleteVar, ChangeSamplingMode, AddClause, AtClause, UnitClauses, DeleteClause, ChangeHashBits, Model, Assumptions, FailedAssumptions, End}
+use Rattle.sat_checker.specs.Stored.{Stored, hash_by}
+use Rattle.sat_checker.specs.Accepts.{Accepts, AcceptsAll, stored_after}
+
+-- steps in the order of the certificate, taken one after another
+abbrev pub behind : List Step → List Step → List Step
+behind [] earlier = earlier
+behind (step ∷ steps) earlier = behind steps (step ∷ earlier)
+
+abbrev pub left_by : List Step → Stored
+left_by steps = stored_after (behind steps [])
+
+-- all of them are accepted
+abbrev pub AllAccepted : List Step → Type 0
+AllAccepted steps = AcceptsAll (behind steps [])
+
+-- those before the last are accepted, and the last isn't
+abbrev pub LastRefused : List Step → Step → Type 0
+LastRefused steps last = AllAccepted steps × (Accepts (left_by steps) last → ⊥)
+
+abbrev pub no_names : ℕ → Option ℕ
+no_names v = None
+
+-- the hashes of [1, 2] at widths 64, 8, 6 and 0
+abbrev pub HashesOfOneTwo : Type 0
+HashesOfOneTwo = map (λ width. hash_by no_names width (0 ∷ 2 ∷ [])) (64 ∷ 8 ∷ 6 ∷ 0 ∷ []) ≡ 0x449114950295082a ∷ 0x44 ∷ 17 ∷ 0 ∷ []
+
+-- the end alone
+abbrev pub EndAlone : Type 0
+EndAlone = AllAccepted (End ∷ []) × ((left_by (End ∷ [])).ended ≡ true) × ((left_by (End ∷ [])).unsat ≡ false)
+
+-- a name is put on a variable again, which is known still and so keeps its unit
+abbrev pub named_again : List Step
+named_again =
+    UserVarName 0 (Some 0) ∷ AddClause (0 ∷ []) ∷ UserVarName 0 None ∷ ChangeSamplingMode 0 true ∷ UserVarName 0 (Some 0) ∷ AddClause (1 ∷ []) ∷ End ∷ []
+
+abbrev pub NamedAgain : Type 0
+NamedAgain = AllAccepted named_again × ((left_by named_again).unsat ≡ true)
+
+-- [1, 2], [1, -2], [-1, 2], [-1, -2]
+abbrev pub four_clauses : List Step
+four_clauses = AddClause (0 ∷ 2 ∷ []) ∷ AddClause (0 ∷ 3 ∷ []) ∷ AddClause (1 ∷ 2 ∷ []) ∷ AddClause (1 ∷ 3 ∷ []) ∷ []
+
+abbrev pub FourClauses : Type 0
+FourClauses = AllAccepted four_clauses × (map (λ c. c.id) (left_by four_clauses).clauses ≡ 0 ∷ 1 ∷ 2 ∷ 3 ∷ [])
+
+-- [1] from the first two, then the empty clause from the last two
+abbrev pub refuted : List Step
+refuted =
+    four_clauses ++ AtClause false (0 ∷ []) (hash_of (0 ∷ 2 ∷ []) ∷ hash_of (0 ∷ 3 ∷ []) ∷ []) ∷ AtClause false [] (hash_of (1 ∷ 2 ∷ []) ∷ hash_of (1 ∷ 3 ∷ []) ∷ []) ∷ []
+
+-- the unit and the empty clause have ids 4 and 5
+abbrev pub FourAndFive : List Step → Type 0
+FourAndFive steps = AllAccepted steps × ((left_by steps).units ≡ record { id = 4; literal = 0 } ∷ []) × ((left_by steps).unsat ≡ true) × ((left_by steps).next_id ≡ 6)
+
+abbrev pub Refuted : Type 0
+Refuted = FourAndFive refuted
+
+-- the same at width 0, where one bucket has all clauses
+abbrev pub RefutedAtZero : Type 0
+RefutedAtZero = FourAndFive (four_clauses ++ ChangeHashBits 0 ∷ AtClause false (0 ∷ []) (0 ∷ []) ∷ AtClause false [] (0 ∷ []) ∷ [])
+
+-- a clause stored before takes an id and is stored once more; [3] doesn't follow
+abbrev pub StoredTwice : Type 0
+StoredTwice = let steps : List Step = AddClause (0 ∷ 2 ∷ []) ∷ AddClause (2 ∷ 0 ∷ 0 ∷ []) ∷ [] in
+    LastRefused steps (AtClause false (4 ∷ []) [])
+    × ((left_by steps).clauses ≡ record { id = 0; literals = 0 ∷ 2 ∷ []; irredundant = 2; redundant = 0 } ∷ [])
+    × ((left_by steps).next_id ≡ 2)
+
+-- [-2, 3, 4], [1, 2], [-2, -4] at width 0: [1, 3] follows where the one bucket is named twice
+abbrev pub three_at_zero : List Step
+three_at_zero = ChangeHashBits 0 ∷ AddClause (3 ∷ 4 ∷ 6 ∷ []) ∷ AddClause (0 ∷ 2 ∷ []) ∷ AddClause (3 ∷ 7 ∷ []) ∷ []
+
+abbrev pub NamedOnce : Type 0
+NamedOnce = LastRefused three_at_zero (AtClause false (0 ∷ 4 ∷ []) (0 ∷ []))
+
+abbrev pub named_twice : List Step
+named_twice = three_at_zero ++ AtClause false (0 ∷ 4 ∷ []) (0 ∷ 0 ∷ []) ∷ []
+
+abbrev pub NamedTwice : Type 0
+NamedTwice = AllAccepted named_twice × (map (λ c. c.id) (left_by named_twice).clauses ≡ 0 ∷ 1 ∷ 2 ∷ 3 ∷ [])
+
+-- the certificate of four clauses over two names, with colliding hashes at width 8
+abbrev pub colliding : List Step
+colliding =
+    UserVarName 0 (Some 0) ∷ SolverVarName 0 (Some 0) ∷ UserVarName 1 (Some 1) ∷ SolverVarName 1 (Some 1) ∷ four_clauses
+    ++ Assumptions [] ∷ ChangeHashBits 8 ∷ AtClause false (0 ∷ []) (0x44 ∷ 0xe6 ∷ []) ∷ UnitClauses ((2, 0xe6) ∷ []) ∷ AtClause false [] (0x44 ∷ []) ∷ Assumptions [] ∷ End ∷ []
+
+abbrev pub Colliding : Type 0
+Colliding = AllAccepted colliding × ((left_by colliding).unsat ≡ true) × ((left_by colliding).ended ≡ true)
+
+-- a solver name changes the hash by which a clause is found
+abbrev pub SolverNamesHash : Type 0
+SolverNamesHash = LastRefused (AddClause (0 ∷ 2 ∷ []) ∷ SolverVarName 0 (Some 5) ∷ AddClause (1 ∷ []) ∷ []) (AtClause true (2 ∷ []) (hash_of (0 ∷ 2 ∷ []) ∷ []))
+
+-- the unit conflict takes an id for the unit and one for the empty clause
+abbrev pub UnitConflict : Type 0
+UnitConflict = let steps : List Step = AddClause (0 ∷ []) ∷ AddClause (1 ∷ []) ∷ [] in
+    AllAccepted steps × ((left_by steps).units ≡ record { id = 0; literal = 0 } ∷ []) × ((left_by steps).unsat ≡ true) × ((left_by steps).next_id ≡ 3)
+
+-- [1, 2, 3] goes by [1, 2], whatever order it's named in and whatever the width
+abbrev pub SimplifiedByPart : Type 0
+SimplifiedByPart = let steps : List Step = AddClause (0 ∷ 2 ∷ 4 ∷ []) ∷ AddClause (0 ∷ 2 ∷ []) ∷ ChangeHashBits 8 ∷ DeleteClause (4 ∷ 2 ∷ 0 ∷ []) Simplified ∷ [] in
+    AllAccepted steps × ((left_by steps).clauses ≡ record { id = 1; literals = 0 ∷ 2 ∷ []; irredundant = 1; redundant = 0 } ∷ [])
+
+-- no clause goes by itself
+abbrev pub SimplifiedByItself : Type 0
+SimplifiedByItself = LastRefused (AddClause (0 ∷ 2 ∷ []) ∷ []) (DeleteClause (0 ∷ 2 ∷ []) Simplified)
+
+-- nor by one that is gone
+abbrev pub SimplifiedByGone : Type 0
+SimplifiedByGone = LastRefused (AddClause (0 ∷ []) ∷ AddClause (0 ∷ 2 ∷ 4 ∷ []) ∷ AddClause (0 ∷ 2 ∷ []) ∷ DeleteClause (0 ∷ 2 ∷ []) Satisfied ∷ []) (DeleteClause (0 ∷ 2 ∷ 4 ∷ []) Simplified)
+
+-- a clause that has no redundant count
+abbrev pub NoRedundantCount : Type 0
+NoRedundantCount = LastRefused (AddClause (0 ∷ 2 ∷ []) ∷ []) (DeleteClause (0 ∷ 2 ∷ []) Redundant)
+
+-- a deleted variable's unit is forgotten
+abbrev pub UnitForgotten : Type 0
+UnitForgotten = let steps : List Step = AddClause (0 ∷ []) ∷ DeleteVar 0 ∷ AddClause (1 ∷ []) ∷ [] in
+    AllAccepted steps × ((left_by steps).units ≡ record { id = 1; literal = 1 } ∷ []) × ((left_by steps).unsat ≡ false) × ((left_by steps).var_deleted ≡ true)
+
+-- a variable stays that is in a clause, that has a name, that is assumed, or that is unknown
+abbrev pub InClause : Type 0
+InClause = LastRefused (AddClause (0 ∷ 2 ∷ []) ∷ []) (DeleteVar 0)
+
+abbrev pub WithName : Type 0
+WithName = LastRefused (UserVarName 0 (Some 7) ∷ []) (DeleteVar 0)
+
+abbrev pub Assumed : Type 0
+Assumed = LastRefused (Assumptions (1 ∷ []) ∷ []) (DeleteVar 0)
+
+abbrev pub Unknown : Type 0
+Unknown = LastRefused [] (DeleteVar 0)
+
+-- no clause is added over a witness variable or a hidden one
+abbrev pub WitnessAdded : Type 0
+WitnessAdded = LastRefused (Assumptions (0 ∷ []) ∷ ChangeSamplingMode 0 false ∷ []) (AddClause (0 ∷ 2 ∷ []))
+
+abbrev pub HiddenAdded : Type 0
+HiddenAdded = LastRefused (UserVarName 0 (Some 0) ∷ UserVarName 0 None ∷ []) (AddClause (0 ∷ 2 ∷ []))
+
+-- a name that is taken, another name for a variable, a name for a hidden one, and a name taken from one that has none
+abbrev pub NameTaken : Type 0
+NameTaken = LastRefused (UserVarName 0 (Some 7) ∷ []) (UserVarName 1 (Some 7))
+
+abbrev pub NamedTwiceOver : Type 0
+NamedTwiceOver = LastRefused (UserVarName 0 (Some 7) ∷ []) (UserVarName 0 (Some 8))
+
+abbrev pub HiddenNamed : Type 0
+HiddenNamed = LastRefused (UserVarName 0 (Some 7) ∷ UserVarName 0 None ∷ []) (UserVarName 0 (Some 7))
+
+abbrev pub NoNameTaken : Type 0
+NoNameTaken = LastRefused (AddClause (0 ∷ []) ∷ []) (UserVarName 0 None)
+
+-- [1, 2] irredundant and [3, 4] redundant: a model needs a literal of the first alone, and contradicts no unit
+abbrev pub for_a_model : List Step
+for_a_model = AddClause (0 ∷ 2 ∷ []) ∷ AddClause (4 ∷ []) ∷ AtClause true (4 ∷ 6 ∷ []) [] ∷ []
+
+abbrev pub Modelled : Type 0
+Modelled = AllAccepted (for_a_model ++ Model (1 ∷ 2 ∷ []) ∷ [])
+
+abbrev pub ModelAgainstUnit : Type 0
+ModelAgainstUnit = LastRefused for_a_model (Model (1 ∷ 2 ∷ 5 ∷ []))
+
+abbrev pub ModelWithoutClause : Type 0
+ModelWithoutClause = LastRefused for_a_model (Model (1 ∷ []))
+
+abbrev pub ModelTwice : Type 0
+ModelTwice = LastRefused for_a_model (Model (0 ∷ 1 ∷ []))
+
+-- a core with both signs of a variable passes, one that isn't among the assumptions doesn't
+abbrev pub BothSigns : Type 0
+BothSigns = AllAccepted (Assumptions (0 ∷ 1 ∷ []) ∷ FailedAssumptions (0 ∷ 1 ∷ []) [] ∷ [])
+
+abbrev pub NotAssumed : Type 0
+NotAssumed = LastRefused (Assumptions (0 ∷ []) ∷ []) (FailedAssumptions (0 ∷ 1 ∷ []) [])

@@ -1,0 +1,104 @@
+-- What the checker stores. A clause is a list of codes, a variable and a name are their indices.
+use Rattle.std.specs.Prelude.{ℕ, ◌+◌, ◌-◌, ◌*◌, ◌/◌, ◌%◌, ◌^◌, ◌==◌, ◌≡◌, ◌⊎◌, Bool, true, false, Option, None, unwrap_or, List, [], map, filter}
+use Rattle.std.specs.List.{AllByRecursion}
+use Rattle.sat_base.specs.values.Literals.{variable}
+use Rattle.sat_base.specs.values.Clauses.{Valuation, literal_true, clause_true}
+use Rattle.sat_base.specs.values.Hashes.{hash_of}
+use Rattle.sat_checker.specs.LiteralSets.{is_among}
+
+-- a clause of two literals or more, sorted, without repeats, no tautology, and how often it stands as irredundant and as redundant
+pub record StoredClause : Type 0 where
+  pub id : ℕ
+  pub literals : List ℕ
+  pub irredundant : ℕ
+  pub redundant : ℕ
+
+pub record StoredUnit : Type 0 where
+  pub id : ℕ
+  pub literal : ℕ
+
+pub data Mode : Type 0 where
+  Sample : Mode
+  Witness : Mode
+  Hide : Mode
+
+pub record Variable : Type 0 where
+  pub known : Bool
+  pub mode : Mode
+  pub name : Option ℕ
+
+-- each variable at first; it counts as a sampling one
+abbrev pub unknown : Variable
+unknown = record { known = false; mode = Sample; name = None }
+
+-- the last irredundant clause stored
+pub data Last : Type 0 where
+  NoneYet : Last
+  EmptyClause : Last
+  WithId : ℕ → Last
+
+pub record Stored : Type 0 where
+  pub clauses : List StoredClause  -- in order of their ids
+  pub units : List StoredUnit
+  pub unsat : Bool
+  pub variables : ℕ → Variable
+  pub solver_names : ℕ → Option ℕ  -- by variable, known or not
+  pub width : ℕ  -- of the hashes that steps name, in bits
+  pub assumed : List ℕ
+  pub last : Last
+  pub next_id : ℕ
+  pub ended : Bool
+  pub var_deleted : Bool
+
+abbrev pub nothing_stored : Stored
+nothing_stored = record {
+  clauses = [];
+  units = [];
+  unsat = false;
+  variables = λ v. unknown;
+  solver_names = λ v. None;
+  width = 64;
+  assumed = [];
+  last = NoneYet;
+  next_id = 0;
+  ended = false;
+  var_deleted = false;
+}
+
+abbrev pub is_known : ℕ → Stored → Bool
+is_known v f = (f.variables v).known
+
+abbrev pub mode_of : ℕ → Stored → Mode
+mode_of v f = (f.variables v).mode
+
+abbrev pub name_of : ℕ → Stored → Option ℕ
+name_of v f = (f.variables v).name
+
+abbrev pub unit_literals : Stored → List ℕ
+unit_literals f = map (λ u. u.literal) f.units
+
+-- is the literal a stored unit?
+abbrev pub is_unit : Stored → ℕ → Bool
+is_unit f = is_among (unit_literals f)
+
+-- the literal with its variable's solver name, or itself where there is none
+abbrev pub renamed : (ℕ → Option ℕ) → ℕ → ℕ
+renamed names l = 2 * unwrap_or (names (variable l)) (variable l) + l % 2
+
+-- the hash of a clause by solver names: of its 64 bits so many are kept, from the top
+abbrev pub hash_by : (ℕ → Option ℕ) → ℕ → List ℕ → ℕ
+hash_by names width clause = hash_of (map (renamed names) clause) / 2 ^ (64 - width)
+
+-- the literals of each clause of two literals or more
+abbrev pub all_literals : Stored → List (List ℕ)
+all_literals f = map (λ c. c.literals) f.clauses
+
+-- those of one hash, in order of ids
+abbrev pub bucket : Stored → ℕ → List (List ℕ)
+bucket f hash = filter (λ c. hash_by f.solver_names f.width c == hash) (all_literals f)
+
+-- every clause with an irredundant count and every unit is true, and unsat isn't recorded
+pub record Satisfies (f : Stored) (a : Valuation) : Type 0 where
+  pub consistent : f.unsat ≡ false
+  pub kept : AllByRecursion (λ c. (c.irredundant ≡ 0) ⊎ (clause_true a c.literals ≡ true)) f.clauses
+  pub units : AllByRecursion (λ u. literal_true a u.literal ≡ true) f.units

@@ -1,0 +1,55 @@
+//! What holds of the definitions: each law is the contract of a function that does nothing.
+ghost use Rattle.sat_checker.specs.Rows.{Assumed, BothSigns, HiddenAdded, HiddenNamed, InClause, ModelAgainstUnit, ModelTwice, ModelWithoutClause, Modelled, NameTaken, NamedTwiceOver, NoNameTaken, NoRedundantCount, NotAssumed, SimplifiedByGone, SimplifiedByItself, SimplifiedByPart, UnitForgotten, Unknown, WitnessAdded, WithName, Colliding, EndAlone, FourClauses, HashesOfOneTwo, NamedAgain, NamedOnce, NamedTwice, Refuted, RefutedAtZero, SolverNamesHash, StoredTwice, UnitConflict};
+
+/// Worked rows of hashes, of names, and of what is stored.
+pub fn rows_of_storing()
+    ensures hashes { HashesOfOneTwo }
+    ensures end { EndAlone }
+    ensures named { NamedAgain }
+    ensures four { FourClauses }
+    ensures twice { StoredTwice }
+    ensures conflict { UnitConflict }
+{}
+
+/// Worked rows of clauses that are derived, at widths 64, 8 and 0.
+pub fn rows_of_deriving()
+    ensures refuted { Refuted }
+    ensures at_zero { RefutedAtZero }
+    ensures once { NamedOnce }
+    ensures twice { NamedTwice }
+    ensures colliding { Colliding }
+    ensures solver_names { SolverNamesHash }
+{}
+
+/// Worked rows of deletions, of clauses and of variables.
+pub fn rows_of_deleting()
+    ensures part { SimplifiedByPart }
+    ensures itself { SimplifiedByItself }
+    ensures gone { SimplifiedByGone }
+    ensures redundant { NoRedundantCount }
+    ensures forgotten { UnitForgotten }
+    ensures in_clause { InClause }
+    ensures with_name { WithName }
+    ensures assumed { Assumed }
+    ensures unknown { Unknown }
+{}
+
+/// Worked rows of names and modes.
+pub fn rows_of_names()
+    ensures witness { WitnessAdded }
+    ensures hidden { HiddenAdded }
+    ensures taken { NameTaken }
+    ensures twice { NamedTwiceOver }
+    ensures hidden_named { HiddenNamed }
+    ensures none { NoNameTaken }
+{}
+
+/// Worked rows of models and cores.
+pub fn rows_of_answers()
+    ensures model { Modelled }
+    ensures unit { ModelAgainstUnit }
+    ensures clause { ModelWithoutClause }
+    ensures twice { ModelTwice }
+    ensures signs { BothSigns }
+    ensures not_assumed { NotAssumed }
+{}

@@ -1,0 +1,4 @@
+//! A checker of proof steps.
+#![tactic(auto)]
+
+pub mod laws;
