@@ -48,7 +48,7 @@ VariablesApart (l ∷ ls) = (mentions ls (variable l) ≡ false) × VariablesApa
 pub record FitsModel (f : Stored) (ls : List ℕ) : Type 0 where
   pub consistent : f.unsat ≡ false
   pub apart : VariablesApart ls
-  pub units : AllByRecursion (λ u. is_among ls (negated u.literal) ≡ false) f.units
+  pub units : AllByRecursion (λ u. is_among ls (negated u) ≡ false) (unit_literals f)
   pub clauses : AllByRecursion (λ c. (c.irredundant ≡ 0) ⊎ (list_any (is_among ls) c.literals ≡ true)) f.clauses
 
 abbrev pub Accepts : Stored → Step → Type 0

@@ -2,7 +2,7 @@
 use Rattle.std.specs.Prelude.{ℕ, ◌+◌, ◌-◌, ◌*◌, ◌/◌, ◌%◌, ◌^◌, ◌==◌, ◌≡◌, ◌⊎◌, Bool, true, false, Option, None, unwrap_or, List, [], map, filter}
 use Rattle.std.specs.List.{AllByRecursion}
 use Rattle.sat_base.specs.values.Literals.{variable}
-use Rattle.sat_base.specs.values.Clauses.{Valuation, literal_true, clause_true}
+use Rattle.sat_base.specs.values.Clauses.{Valuation, clause_true, EachTrue}
 use Rattle.sat_base.specs.values.Hashes.{hash_of}
 use Rattle.sat_checker.specs.LiteralSets.{is_among}
 
@@ -31,11 +31,12 @@ pub record Variable : Type 0 where
 abbrev pub unknown : Variable
 unknown = record { known = false; mode = Sample; name = None }
 
--- the last irredundant clause stored
+-- the last irredundant clause stored: none yet, an empty one, or a unit or a longer one by its id
 pub data Last : Type 0 where
   NoneYet : Last
-  EmptyClause : Last
-  WithId : ℕ → Last
+  Empty : Last
+  UnitClause : ℕ → Last
+  LongClause : ℕ → Last
 
 pub record Stored : Type 0 where
   pub clauses : List StoredClause  -- in order of their ids
@@ -101,4 +102,4 @@ bucket f hash = filter (λ c. hash_by f.solver_names f.width c == hash) (all_lit
 pub record Satisfies (f : Stored) (a : Valuation) : Type 0 where
   pub consistent : f.unsat ≡ false
   pub kept : AllByRecursion (λ c. (c.irredundant ≡ 0) ⊎ (clause_true a c.literals ≡ true)) f.clauses
-  pub units : AllByRecursion (λ u. literal_true a u.literal ≡ true) f.units
+  pub units : EachTrue a (unit_literals f)

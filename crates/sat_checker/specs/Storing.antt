@@ -2,7 +2,7 @@
 use Rattle.std.specs.Prelude.{ℕ, ◌+◌, ◌-◌, ◌==◌, Bool, true, false, not, ◌&&◌, max, Option, None, Some, is_some, List, [], ◌∷◌, ◌++◌, map, filter, if◌then◌else◌}
 use Rattle.sat_base.specs.values.Literals.{variable, negated}
 use Rattle.sat_checker.specs.LiteralSets.{is_among, is_tautology, canonical, same_literals}
-use Rattle.sat_checker.specs.Stored.{StoredClause, StoredUnit, Variable, unknown, Last, NoneYet, EmptyClause, WithId, Stored, is_unit}
+use Rattle.sat_checker.specs.Stored.{StoredClause, StoredUnit, Variable, unknown, Last, NoneYet, Empty, UnitClause, LongClause, Stored, is_unit}
 
 -- one count more
 abbrev pub counted : Bool → StoredClause → StoredClause
@@ -52,34 +52,37 @@ with_unit l f =
     else (if is_unit f (negated l) then record f { unsat = true; next_id = f.next_id + 2 }
     else record f { units = f.units ++ (record { id = f.next_id; literal = l }) ∷ []; next_id = f.next_id + 1 })
 
--- the id of the unit
-abbrev pub unit_id : ℕ → List StoredUnit → Option ℕ
-unit_id l [] = None
-unit_id l (u ∷ us) = if u.literal == l then Some u.id else unit_id l us
-
-abbrev pub clause_id : Option StoredClause → Option ℕ
-clause_id None = None
-clause_id (Some c) = Some c.id
-
--- the clause of this id is the last irredundant one stored
-abbrev pub with_last : Option ℕ → Stored → Stored
-with_last None f = f
-with_last (Some id) f = record f { last = WithId id }
-
--- two literals or more
+-- a clause of two literals or more
 abbrev pub with_long : Bool → List ℕ → Stored → Stored
 with_long redundant literals f = record f {
   clauses = with_clause redundant f.next_id literals f.clauses;
   next_id = (if is_some (clause_with literals f.clauses) then f.next_id else f.next_id + 1);
 }
 
--- A sorted clause without repeats. Each empty one is new and records unsat.
+-- Sorted literals without repeats. Each empty clause is new and records unsat.
+abbrev pub with_set : Bool → List ℕ → Stored → Stored
+with_set redundant [] f = record f { unsat = true; next_id = f.next_id + 1 }
+with_set redundant (l ∷ []) f = with_unit l f
+with_set redundant (l ∷ m ∷ ls) f = with_long redundant (l ∷ m ∷ ls) f
+
+abbrev pub unit_at : ℕ → List StoredUnit → Last → Last
+unit_at l [] otherwise = otherwise
+unit_at l (u ∷ us) otherwise = if u.literal == l then UnitClause u.id else unit_at l us otherwise
+
+abbrev pub long_at : Option StoredClause → Last → Last
+long_at None otherwise = otherwise
+long_at (Some c) otherwise = LongClause c.id
+
+-- how these literals are stored, if they are
+abbrev pub place_of : List ℕ → Stored → Last → Last
+place_of [] f otherwise = Empty
+place_of (l ∷ []) f otherwise = unit_at l f.units otherwise
+place_of (l ∷ m ∷ ls) f otherwise = long_at (clause_with (l ∷ m ∷ ls) f.clauses) otherwise
+
+-- where it's irredundant and stored by now, it's the last irredundant clause stored
 abbrev pub with_canonical : Bool → List ℕ → Stored → Stored
-with_canonical redundant [] f = record f { unsat = true; next_id = f.next_id + 1; last = (if redundant then f.last else EmptyClause) }
-with_canonical redundant (l ∷ []) f =
-    let g : Stored = with_unit l f in if redundant then g else with_last (unit_id l g.units) g
-with_canonical redundant (l ∷ m ∷ ls) f =
-    let g : Stored = with_long redundant (l ∷ m ∷ ls) f in if redundant then g else with_last (clause_id (clause_with (l ∷ m ∷ ls) g.clauses)) g
+with_canonical redundant literals f =
+    let g : Stored = with_set redundant literals f in if redundant then g else record g { last = place_of literals g f.last }
 
 -- a derived clause: a tautology isn't stored
 abbrev pub with_derived : Bool → List ℕ → Stored → Stored
@@ -121,12 +124,9 @@ abbrev pub unit_numbered : ℕ → List StoredUnit → Option (List ℕ)
 unit_numbered id [] = None
 unit_numbered id (u ∷ us) = if u.id == id then Some (u.literal ∷ []) else unit_numbered id us
 
-abbrev pub first_found : Option (List ℕ) → Option (List ℕ) → Option (List ℕ)
-first_found None second = second
-first_found (Some ls) second = Some ls
-
 -- the literals of the last irredundant clause stored, where it's still there
 abbrev pub found : Last → Stored → Option (List ℕ)
 found NoneYet f = None
-found EmptyClause f = Some []
-found (WithId id) f = first_found (clause_numbered id f.clauses) (unit_numbered id f.units)
+found Empty f = Some []
+found (UnitClause id) f = unit_numbered id f.units
+found (LongClause id) f = clause_numbered id f.clauses
