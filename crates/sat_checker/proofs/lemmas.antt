@@ -1,2 +1,4 @@
+pub mod sets
 pub mod propagation
+pub mod meaning
 pub mod rows

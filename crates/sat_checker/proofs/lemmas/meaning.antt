@@ -1,0 +1,4 @@
+pub mod Clauses
+pub mod Deleting
+pub mod Orderly
+pub mod OrderlySteps
