@@ -2,3 +2,4 @@ pub mod Clauses
 pub mod Deleting
 pub mod Orderly
 pub mod OrderlySteps
+pub mod Meaning

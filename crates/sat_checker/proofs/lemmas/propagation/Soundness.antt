@@ -115,7 +115,7 @@ tautology_true a (l ∷ ls) e =
       ])
     ]
 
-unit_in_clause : (a : Valuation) (units clause : List ℕ) → EachTrue a units → list_any (is_among units) clause ≡ true → clause_true a clause ≡ true
+pub unit_in_clause : (a : Valuation) (units clause : List ℕ) → EachTrue a units → list_any (is_among units) clause ≡ true → clause_true a clause ≡ true
 unit_in_clause a units [] h e = absurd (true≢false (sym e))
 unit_in_clause a units (l ∷ ls) h e =
     elim (or_cases (is_among units l) (list_any (is_among units) ls) e) [
