@@ -3,10 +3,10 @@ use Rattle.std.specs.Prelude.{ℕ, ◌<◌, ◌≡◌, ◌≢◌, ◌⊎◌, tru
 use Rattle.std.specs.List.{list_any, AllByRecursion}
 use Rattle.sat_base.specs.values.Literals.{variable, negated}
 use Rattle.sat_base.specs.steps.Steps.{Redundant, Simplified, Satisfied, Step, SolverVarName, UserVarName, DeleteVar, ChangeSamplingMode, AddClause, AtClause, UnitClauses, DeleteClause, ChangeHashBits, Model, Assumptions, FailedAssumptions, End}
-use Rattle.sat_checker.specs.LiteralSets.{is_among, mentions, is_subset, canonical}
+use Rattle.sat_checker.specs.LiteralSets.{is_among, mentions, is_part, canonical}
 use Rattle.sat_checker.specs.Propagation.{PassesCheck}
 use Rattle.sat_checker.specs.Stored.{Sample, Witness, Hide, Stored, nothing_stored, is_known, mode_of, name_of, is_unit, unit_literals, bucket}
-use Rattle.sat_checker.specs.Storing.{clause_with, irredundant_count, redundant_count, found, with_derived, with_input, with_unit, with_units, with_variable, with_known, with_literals_known, with_solver_name, without_variable, without_clause}
+use Rattle.sat_checker.specs.Storing.{clause_with, irredundant_count, redundant_count, last_literals, with_stored, with_input, with_unit, with_units, settled, with_variable, with_known, with_literals_known, with_solver_name, without_variable, without_clause}
 
 -- the propagation check of a clause under the hashes that a step names
 abbrev pub Passes : Stored → List ℕ → List ℕ → Type 0
@@ -34,10 +34,10 @@ abbrev pub PassInTurn : Stored → List (ℕ × ℕ) → Type 0
 PassInTurn f [] = Unit {0}
 PassInTurn f (u ∷ us) = Passes f (u.0 ∷ []) (u.1 ∷ []) × PassInTurn (with_unit u.0 f) us
 
--- it was found, and is a part of the clause but not all of it
+-- it was last_literals, and is a part of the clause but not all of it
 abbrev pub IsStrictSubset : Option (List ℕ) → List ℕ → Type 0
 IsStrictSubset None clause = ⊥
-IsStrictSubset (Some ls) clause = (is_subset ls clause ≡ true) × (is_subset clause ls ≡ false)
+IsStrictSubset (Some ls) clause = (is_part ls clause ≡ true) × (is_part clause ls ≡ false)
 
 -- no variable stands twice
 abbrev pub VariablesApart : List ℕ → Type 0
@@ -64,39 +64,44 @@ Accepts f (DeleteClause clause Redundant) = 0 < redundant_count (clause_with (ca
 Accepts f (DeleteClause clause Satisfied) =
     (0 < irredundant_count (clause_with (canonical clause) f.clauses)) × (list_any (is_unit f) clause ≡ true)
 Accepts f (DeleteClause clause Simplified) =
-    (0 < irredundant_count (clause_with (canonical clause) f.clauses)) × IsStrictSubset (found f.last f) clause
+    (0 < irredundant_count (clause_with (canonical clause) f.clauses)) × IsStrictSubset (last_literals f.last f) clause
 Accepts f (ChangeHashBits bits) = Unit {0}
 Accepts f (Model ls) = FitsModel f ls
 Accepts f (Assumptions ls) = Unit {0}
 -- the core is among the assumptions and its negation passes the check, which it does where it has both signs of a variable
-Accepts f (FailedAssumptions core hashes) = (is_subset core f.assumed ≡ true) × Passes f (map negated core) hashes
+Accepts f (FailedAssumptions core hashes) = (is_part core f.assumed ≡ true) × Passes f (map negated core) hashes
 Accepts f End = Unit {0}
 
--- what an accepted step leaves
-abbrev pub after : Step → Stored → Stored
-after (SolverVarName v None) f = with_solver_name v None f
-after (SolverVarName v (Some name)) f = with_solver_name v (Some name) (with_known (v ∷ []) f)
-after (UserVarName v (Some name)) f = with_variable v (record (f.variables v) { known = true; name = Some name }) f
-after (UserVarName v None) f = with_variable v (record (f.variables v) { mode = Hide; name = None }) f
-after (DeleteVar v) f = without_variable v f
-after (ChangeSamplingMode v sample) f = with_variable v (record (f.variables v) { mode = (if sample then Sample else Witness) }) f
+-- what an accepted step leaves, where no unit conflict was pending
+abbrev pub effect : Step → Stored → Stored
+effect (SolverVarName v None) f = with_solver_name v None f
+effect (SolverVarName v (Some name)) f = with_solver_name v (Some name) (with_known (v ∷ []) f)
+effect (UserVarName v (Some name)) f = with_variable v (record (f.variables v) { known = true; name = Some name }) f
+effect (UserVarName v None) f = with_variable v (record (f.variables v) { mode = Hide; name = None }) f
+effect (DeleteVar v) f = without_variable v f
+effect (ChangeSamplingMode v sample) f = with_variable v (record (f.variables v) { mode = (if sample then Sample else Witness) }) f
 -- once unsat is recorded, a clause of the formula has no effect at all
-after (AddClause clause) f = if f.unsat then f else with_input clause (with_literals_known clause f)
-after (AtClause redundant clause hashes) f = with_derived redundant clause (with_literals_known clause f)
-after (UnitClauses us) f = let ls : List ℕ = map (λ u. u.0) us in with_units ls (with_literals_known ls f)
-after (DeleteClause clause Redundant) f = record f { clauses = without_clause true (canonical clause) f.clauses }
-after (DeleteClause clause proof) f = record f { clauses = without_clause false (canonical clause) f.clauses }
-after (ChangeHashBits bits) f = record f { width = bits }
-after (Model ls) f = with_literals_known ls f
-after (Assumptions ls) f = record (with_literals_known ls f) { assumed = ls }
-after (FailedAssumptions core hashes) f = f
-after End f = record f { ended = true }
+effect (AddClause clause) f = if f.unsat then f else with_input clause (with_literals_known clause f)
+effect (AtClause redundant clause hashes) f = with_stored redundant clause (with_literals_known clause f)
+effect (UnitClauses us) f = let ls : List ℕ = map (λ u. u.0) us in with_units ls (with_literals_known ls f)
+effect (DeleteClause clause Redundant) f = record f { clauses = without_clause true (canonical clause) f.clauses }
+effect (DeleteClause clause proof) f = record f { clauses = without_clause false (canonical clause) f.clauses }
+effect (ChangeHashBits bits) f = record f { width = bits }
+effect (Model ls) f = with_literals_known ls f
+effect (Assumptions ls) f = record (with_literals_known ls f) { assumed = ls }
+effect (FailedAssumptions core hashes) f = f
+effect End f = record f { ended = true }
 
+-- A unit conflict is settled before the next step is judged.
 abbrev pub stored_after : List Step → Stored
 stored_after [] = nothing_stored
-stored_after (step ∷ earlier) = after step (stored_after earlier)
+stored_after (step ∷ earlier) = effect step (settled (stored_after earlier))
+
+-- what the next step is judged by
+abbrev pub ready_after : List Step → Stored
+ready_after steps = settled (stored_after steps)
 
 -- each step is accepted in its turn
 abbrev pub AcceptsAll : List Step → Type 0
 AcceptsAll [] = Unit {0}
-AcceptsAll (step ∷ earlier) = AcceptsAll earlier × Accepts (stored_after earlier) step
+AcceptsAll (step ∷ earlier) = AcceptsAll earlier × Accepts (ready_after earlier) step

@@ -5,26 +5,26 @@ use Rattle.sat_base.specs.values.Clauses.{Valuation, EachTrue}
 use Rattle.sat_base.specs.steps.Steps.{Step, UserVarName, DeleteVar, Model, FailedAssumptions}
 use Rattle.sat_checker.specs.LiteralSets.{is_among}
 use Rattle.sat_checker.specs.Stored.{Stored, unit_literals, is_known, name_of, Satisfies}
-use Rattle.sat_checker.specs.Accepts.{Accepts, AcceptsAll, after, stored_after}
+use Rattle.sat_checker.specs.Accepts.{Accepts, AcceptsAll, effect, ready_after}
 use Rattle.sat_checker.specs.Fold.{Holds}
 
 -- a valuation satisfies the stored formula exactly if it is one that the steps leave
 abbrev pub FormulaIsFold : Type 0
-FormulaIsFold = (steps : List Step) (a : Valuation) → AcceptsAll steps → Satisfies (stored_after steps) a ↔ Holds steps a
+FormulaIsFold = (steps : List Step) (a : Valuation) → AcceptsAll steps → Satisfies (ready_after steps) a ↔ Holds steps a
 
 -- recorded unsat means that the steps leave none
 abbrev pub UnsatMeansNone : Type 0
-UnsatMeansNone = (steps : List Step) (a : Valuation) → AcceptsAll steps → (stored_after steps).unsat ≡ true → Holds steps a → ⊥
+UnsatMeansNone = (steps : List Step) (a : Valuation) → AcceptsAll steps → (ready_after steps).unsat ≡ true → Holds steps a → ⊥
 
 -- each valuation that agrees with an accepted model and with the units is one that the steps leave, and there is one
 abbrev pub ModelsExtend : Type 0
-ModelsExtend = (steps : List Step) (ls : List ℕ) → AcceptsAll steps → Accepts (stored_after steps) (Model ls) →
-    ((a : Valuation) → EachTrue a ls → EachTrue a (unit_literals (stored_after steps)) → Holds steps a)
-    × ((a : Valuation) × EachTrue a ls × EachTrue a (unit_literals (stored_after steps)))
+ModelsExtend = (steps : List Step) (ls : List ℕ) → AcceptsAll steps → Accepts (ready_after steps) (Model ls) →
+    ((a : Valuation) → EachTrue a ls → EachTrue a (unit_literals (ready_after steps)) → Holds steps a)
+    × ((a : Valuation) × EachTrue a ls × EachTrue a (unit_literals (ready_after steps)))
 
 -- no valuation that the steps leave satisfies an accepted failed core
 abbrev pub CoresFail : Type 0
-CoresFail = (steps : List Step) (core hashes : List ℕ) (a : Valuation) → AcceptsAll steps → Accepts (stored_after steps) (FailedAssumptions core hashes) → Holds steps a → EachTrue a core → ⊥
+CoresFail = (steps : List Step) (core hashes : List ℕ) (a : Valuation) → AcceptsAll steps → Accepts (ready_after steps) (FailedAssumptions core hashes) → Holds steps a → EachTrue a core → ⊥
 
 -- an accepted failed core is among the assumptions
 abbrev pub CoresAssumed : Type 0
@@ -32,11 +32,11 @@ CoresAssumed = (f : Stored) (core hashes : List ℕ) → Accepts f (FailedAssump
 
 -- a variable that got a name is known
 abbrev pub NamedIsKnown : Type 0
-NamedIsKnown = (f : Stored) (v name : ℕ) → is_known v (after (UserVarName v (Some name)) f) ≡ true
+NamedIsKnown = (f : Stored) (v name : ℕ) → is_known v (effect (UserVarName v (Some name)) f) ≡ true
 
 -- what is known stays so until it is deleted
 abbrev pub KnownStays : Type 0
-KnownStays = (f : Stored) (step : Step) (v : ℕ) → is_known v f ≡ true → (is_known v (after step f) ≡ true) ⊎ (step ≡ DeleteVar v)
+KnownStays = (f : Stored) (step : Step) (v : ℕ) → is_known v f ≡ true → (is_known v (effect step f) ≡ true) ⊎ (step ≡ DeleteVar v)
 
 -- a deleted variable has no name
 abbrev pub DeletedIsNameless : Type 0
@@ -44,7 +44,7 @@ DeletedIsNameless = (f : Stored) (v : ℕ) → Accepts f (DeleteVar v) → name_
 
 -- no two variables have one name
 abbrev pub NamesApart : Type 0
-NamesApart = (steps : List Step) (v w name : ℕ) → AcceptsAll steps → name_of v (stored_after steps) ≡ Some name → name_of w (stored_after steps) ≡ Some name → v ≡ w
+NamesApart = (steps : List Step) (v w name : ℕ) → AcceptsAll steps → name_of v (ready_after steps) ≡ Some name → name_of w (ready_after steps) ≡ Some name → v ≡ w
 
 abbrev pub has_delete_var : List Step → Bool
 has_delete_var [] = false
@@ -53,4 +53,4 @@ has_delete_var (step ∷ earlier) = has_delete_var earlier
 
 -- a deletion of a variable is seen from then on
 abbrev pub DeletionIsSeen : Type 0
-DeletionIsSeen = (steps : List Step) → (stored_after steps).var_deleted ≡ has_delete_var steps
+DeletionIsSeen = (steps : List Step) → (ready_after steps).var_deleted ≡ has_delete_var steps

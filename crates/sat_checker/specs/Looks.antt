@@ -2,7 +2,7 @@
 use Rattle.std.specs.Prelude.{ℕ, ◌+◌, ◌*◌, List, [], ◌∷◌, length, sum_by}
 use Rattle.sat_base.specs.steps.Steps.{Step, AtClause, UnitClauses, FailedAssumptions}
 use Rattle.sat_checker.specs.Stored.{Stored}
-use Rattle.sat_checker.specs.Accepts.{stored_after}
+use Rattle.sat_checker.specs.Accepts.{ready_after}
 
 -- the number of literals of stored clauses
 abbrev pub literal_count : Stored → ℕ
@@ -22,4 +22,4 @@ most_looks f step = (5 + 2 * hashes_named step) * literal_count f
 -- over a list of steps, the newest first
 abbrev pub most_looks_of : List Step → ℕ
 most_looks_of [] = 0
-most_looks_of (step ∷ earlier) = most_looks_of earlier + most_looks (stored_after earlier) step
+most_looks_of (step ∷ earlier) = most_looks_of earlier + most_looks (ready_after earlier) step

@@ -29,19 +29,19 @@ IsSubsequence (x ∷ xs) [] = ⊥
 IsSubsequence (x ∷ xs) (y ∷ ys) = ((x ≡ y) × IsSubsequence xs ys) ⊎ IsSubsequence (x ∷ xs) ys
 
 -- the clauses of the buckets, one bucket after another
-abbrev pub joined : List (List (List ℕ)) → List (List ℕ)
-joined [] = []
-joined (b ∷ bs) = b ++ joined bs
+abbrev pub clauses_in : List (List (List ℕ)) → List (List ℕ)
+clauses_in [] = []
+clauses_in (b ∷ bs) = b ++ clauses_in bs
 
 -- some of the clauses of the first buckets, none of these empty, are unit in turn, the last falsified
 pub record LeadToConflict (assumed : List ℕ) (buckets : List (List (List ℕ))) : Type 0 where
   pub first : List (List (List ℕ))
   pub rest : List (List (List ℕ))
-  pub named : List (List ℕ)
+  pub picked : List (List ℕ)
   pub split : buckets ≡ first ++ rest
   pub none_empty : AllByRecursion (λ b. b ≢ []) first
-  pub chosen : IsSubsequence named (joined first)
-  pub conflict : UnitInTurn assumed named
+  pub chosen : IsSubsequence picked (clauses_in first)
+  pub conflict : UnitInTurn assumed picked
 
 -- When a clause passes the check under stored units and the buckets that were named: it has both signs of a variable, a unit is true in it, or the buckets lead to a conflict under its negated literals and the units.
 pub data PassesCheck (units clause : List ℕ) (buckets : List (List (List ℕ))) : Type 0 where

@@ -3,7 +3,7 @@ use Rattle.std.specs.Prelude.{ℕ, ◌≡◌, true, false, Option, Some, None, L
 use Rattle.sat_base.specs.values.Hashes.{hash_of}
 use Rattle.sat_base.specs.steps.Steps.{Redundant, Simplified, Satisfied, Step, SolverVarName, UserVarName, DeleteVar, ChangeSamplingMode, AddClause, AtClause, UnitClauses, DeleteClause, ChangeHashBits, Model, Assumptions, FailedAssumptions, End}
 use Rattle.sat_checker.specs.Stored.{Stored, hash_by}
-use Rattle.sat_checker.specs.Accepts.{Accepts, AcceptsAll, stored_after}
+use Rattle.sat_checker.specs.Accepts.{Accepts, AcceptsAll, stored_after, ready_after}
 
 -- steps in the order of the certificate, taken one after another
 abbrev pub behind : List Step → List Step → List Step
@@ -13,13 +13,16 @@ behind (step ∷ steps) earlier = behind steps (step ∷ earlier)
 abbrev pub left_by : List Step → Stored
 left_by steps = stored_after (behind steps [])
 
+abbrev pub ready_by : List Step → Stored
+ready_by steps = ready_after (behind steps [])
+
 -- all of them are accepted
 abbrev pub AllAccepted : List Step → Type 0
 AllAccepted steps = AcceptsAll (behind steps [])
 
 -- those before the last are accepted, and the last isn't
 abbrev pub LastRefused : List Step → Step → Type 0
-LastRefused steps last = AllAccepted steps × (Accepts (left_by steps) last → ⊥)
+LastRefused steps last = AllAccepted steps × (Accepts (ready_by (steps)) last → ⊥)
 
 abbrev pub no_names : ℕ → Option ℕ
 no_names v = None
@@ -96,10 +99,20 @@ Colliding = AllAccepted colliding × ((left_by colliding).unsat ≡ true) × ((l
 abbrev pub SolverNamesHash : Type 0
 SolverNamesHash = LastRefused (AddClause (0 ∷ 2 ∷ []) ∷ SolverVarName 0 (Some 5) ∷ AddClause (1 ∷ []) ∷ []) (AtClause true (2 ∷ []) (hash_of (0 ∷ 2 ∷ []) ∷ []))
 
--- the unit conflict takes an id for the unit and one for the empty clause
+-- the unit of a conflict takes an id, and the empty clause another one once the conflict is settled
 abbrev pub UnitConflict : Type 0
 UnitConflict = let steps : List Step = AddClause (0 ∷ []) ∷ AddClause (1 ∷ []) ∷ [] in
-    AllAccepted steps × ((left_by steps).units ≡ record { id = 0; literal = 0 } ∷ []) × ((left_by steps).unsat ≡ true) × ((left_by steps).next_id ≡ 3)
+    AllAccepted steps × ((left_by steps).units ≡ record { id = 0; literal = 0 } ∷ []) × ((left_by steps).unsat ≡ true)
+    × ((left_by steps).conflict ≡ Some (0, 1)) × ((left_by steps).next_id ≡ 2) × ((ready_by steps).next_id ≡ 3)
+
+-- of two conflicts in one step the first is told, and the empty clause comes behind the units of the step
+abbrev pub conflict_and_unit : List Step
+conflict_and_unit =
+    ChangeHashBits 0 ∷ AddClause (0 ∷ []) ∷ AddClause (1 ∷ 2 ∷ []) ∷ AddClause (1 ∷ 3 ∷ []) ∷ UnitClauses ((1, 0) ∷ (1, 0) ∷ (4, 0) ∷ []) ∷ []
+
+abbrev pub ConflictAndUnit : Type 0
+ConflictAndUnit = AllAccepted conflict_and_unit × ((left_by conflict_and_unit).units ≡ record { id = 0; literal = 0 } ∷ record { id = 5; literal = 4 } ∷ [])
+    × ((left_by conflict_and_unit).conflict ≡ Some (0, 3)) × ((ready_by conflict_and_unit).next_id ≡ 7)
 
 -- [1, 2, 3] goes by [1, 2], whatever order it's named in and whatever the width
 abbrev pub SimplifiedByPart : Type 0

@@ -42,6 +42,7 @@ pub record Stored : Type 0 where
   pub clauses : List StoredClause  -- in order of their ids
   pub units : List StoredUnit
   pub unsat : Bool
+  pub conflict : Option (ℕ × ℕ)  -- the ids of a unit and of one that contradicts it, while the empty clause of their conflict has no id yet
   pub variables : ℕ → Variable
   pub solver_names : ℕ → Option ℕ  -- by variable, known or not
   pub width : ℕ  -- of the hashes that steps name, in bits
@@ -56,6 +57,7 @@ nothing_stored = record {
   clauses = [];
   units = [];
   unsat = false;
+  conflict = None;
   variables = λ v. unknown;
   solver_names = λ v. None;
   width = 64;
@@ -83,20 +85,20 @@ abbrev pub is_unit : Stored → ℕ → Bool
 is_unit f = is_among (unit_literals f)
 
 -- the literal with its variable's solver name, or itself where there is none
-abbrev pub renamed : (ℕ → Option ℕ) → ℕ → ℕ
-renamed names l = 2 * unwrap_or (names (variable l)) (variable l) + l % 2
+abbrev pub solver_literal : (ℕ → Option ℕ) → ℕ → ℕ
+solver_literal names l = 2 * unwrap_or (names (variable l)) (variable l) + l % 2
 
 -- the hash of a clause by solver names: of its 64 bits so many are kept, from the top
 abbrev pub hash_by : (ℕ → Option ℕ) → ℕ → List ℕ → ℕ
-hash_by names width clause = hash_of (map (renamed names) clause) / 2 ^ (64 - width)
+hash_by names width clause = hash_of (map (solver_literal names) clause) / 2 ^ (64 - width)
 
 -- the literals of each clause of two literals or more
-abbrev pub all_literals : Stored → List (List ℕ)
-all_literals f = map (λ c. c.literals) f.clauses
+abbrev pub long_clauses : Stored → List (List ℕ)
+long_clauses f = map (λ c. c.literals) f.clauses
 
 -- those of one hash, in order of ids
 abbrev pub bucket : Stored → ℕ → List (List ℕ)
-bucket f hash = filter (λ c. hash_by f.solver_names f.width c == hash) (all_literals f)
+bucket f hash = filter (λ c. hash_by f.solver_names f.width c == hash) (long_clauses f)
 
 -- every clause with an irredundant count and every unit is true, and unsat isn't recorded
 pub record Satisfies (f : Stored) (a : Valuation) : Type 0 where

@@ -1,27 +1,26 @@
 -- How clauses and variables come in and go.
-use Rattle.std.specs.Prelude.{ℕ, ◌+◌, ◌-◌, ◌==◌, Bool, true, false, not, ◌&&◌, max, Option, None, Some, is_some, List, [], ◌∷◌, ◌++◌, map, filter, if◌then◌else◌}
+use Rattle.std.specs.Prelude.{ℕ, ◌+◌, ◌-◌, ◌==◌, Bool, true, false, not, ◌&&◌, max, Option, None, Some, is_some, List, [], ◌∷◌, ◌++◌, map, filter, find, if◌then◌else◌}
 use Rattle.sat_base.specs.values.Literals.{variable, negated}
 use Rattle.sat_checker.specs.LiteralSets.{is_among, is_tautology, canonical, same_literals}
 use Rattle.sat_checker.specs.Stored.{StoredClause, StoredUnit, Variable, unknown, Last, NoneYet, Empty, UnitClause, LongClause, Stored, is_unit}
 
 -- one count more
-abbrev pub counted : Bool → StoredClause → StoredClause
-counted redundant c = if redundant then record c { redundant = c.redundant + 1 } else record c { irredundant = c.irredundant + 1 }
+abbrev pub with_count : Bool → StoredClause → StoredClause
+with_count redundant c = if redundant then record c { redundant = c.redundant + 1 } else record c { irredundant = c.irredundant + 1 }
 
 -- stored once
-abbrev pub fresh : Bool → ℕ → List ℕ → StoredClause
-fresh redundant id literals = counted redundant (record { id = id; literals = literals; irredundant = 0; redundant = 0 })
+abbrev pub new_clause : Bool → ℕ → List ℕ → StoredClause
+new_clause redundant id literals = with_count redundant (record { id = id; literals = literals; irredundant = 0; redundant = 0 })
 
 -- one count more of the clause with these literals, which comes in behind the others where it isn't there
 abbrev pub with_clause : Bool → ℕ → List ℕ → List StoredClause → List StoredClause
-with_clause redundant id literals [] = fresh redundant id literals ∷ []
+with_clause redundant id literals [] = new_clause redundant id literals ∷ []
 with_clause redundant id literals (c ∷ cs) =
-    if same_literals c.literals literals then counted redundant c ∷ cs else c ∷ with_clause redundant id literals cs
+    if same_literals c.literals literals then with_count redundant c ∷ cs else c ∷ with_clause redundant id literals cs
 
 -- the clause with these literals
 abbrev pub clause_with : List ℕ → List StoredClause → Option StoredClause
-clause_with literals [] = None
-clause_with literals (c ∷ cs) = if same_literals c.literals literals then Some c else clause_with literals cs
+clause_with literals = find (λ c. same_literals c.literals literals)
 
 abbrev pub irredundant_count : Option StoredClause → ℕ
 irredundant_count None = 0
@@ -32,8 +31,8 @@ redundant_count None = 0
 redundant_count (Some c) = c.redundant
 
 -- one count less
-abbrev pub discounted : Bool → StoredClause → StoredClause
-discounted redundant c = if redundant then record c { redundant = c.redundant - 1 } else record c { irredundant = c.irredundant - 1 }
+abbrev pub without_count : Bool → StoredClause → StoredClause
+without_count redundant c = if redundant then record c { redundant = c.redundant - 1 } else record c { irredundant = c.irredundant - 1 }
 
 -- a clause whose two counts are zero is gone
 abbrev pub unless_gone : StoredClause → List StoredClause
@@ -43,14 +42,37 @@ unless_gone c = if c.irredundant == 0 && c.redundant == 0 then [] else c ∷ []
 abbrev pub without_clause : Bool → List ℕ → List StoredClause → List StoredClause
 without_clause redundant literals [] = []
 without_clause redundant literals (c ∷ cs) =
-    if same_literals c.literals literals then unless_gone (discounted redundant c) ++ cs else c ∷ without_clause redundant literals cs
+    if same_literals c.literals literals then unless_gone (without_count redundant c) ++ cs else c ∷ without_clause redundant literals cs
 
--- A unit is stored once. One whose negation is stored records unsat: it takes an id, and so does the empty clause of the conflict.
+abbrev pub unit_id : ℕ → List StoredUnit → Option ℕ
+unit_id l [] = None
+unit_id l (u ∷ us) = if u.literal == l then Some u.id else unit_id l us
+
+-- a unit conflict is recorded where none is pending
+abbrev pub first_conflict : Option (ℕ × ℕ) → Option ℕ → ℕ → Option (ℕ × ℕ)
+first_conflict (Some pending) stored id = Some pending
+first_conflict None None id = None
+first_conflict None (Some stored) id = Some (stored, id)
+
+-- A unit whose negation is stored isn't stored, but takes an id, and records unsat and a unit conflict.
+abbrev pub with_contradiction : ℕ → Stored → Stored
+with_contradiction l f =
+    record f { unsat = true; conflict = first_conflict f.conflict (unit_id (negated l) f.units) f.next_id; next_id = f.next_id + 1 }
+
+abbrev pub with_new_unit : ℕ → Stored → Stored
+with_new_unit l f = record f { units = f.units ++ (record { id = f.next_id; literal = l }) ∷ []; next_id = f.next_id + 1 }
+
+-- a unit is stored once
 abbrev pub with_unit : ℕ → Stored → Stored
-with_unit l f =
-    if is_unit f l then f
-    else (if is_unit f (negated l) then record f { unsat = true; next_id = f.next_id + 2 }
-    else record f { units = f.units ++ (record { id = f.next_id; literal = l }) ∷ []; next_id = f.next_id + 1 })
+with_unit l f = if is_unit f l then f else (if is_unit f (negated l) then with_contradiction l f else with_new_unit l f)
+
+-- the empty clause of a pending unit conflict takes the next id
+abbrev pub settled_by : Option (ℕ × ℕ) → Stored → Stored
+settled_by None f = f
+settled_by (Some units) f = record f { conflict = None; next_id = f.next_id + 1 }
+
+abbrev pub settled : Stored → Stored
+settled f = settled_by f.conflict f
 
 -- a clause of two literals or more
 abbrev pub with_long : Bool → List ℕ → Stored → Stored
@@ -85,12 +107,12 @@ with_canonical redundant literals f =
     let g : Stored = with_set redundant literals f in if redundant then g else record g { last = place_of literals g f.last }
 
 -- a derived clause: a tautology isn't stored
-abbrev pub with_derived : Bool → List ℕ → Stored → Stored
-with_derived redundant clause f = if is_tautology clause then f else with_canonical redundant (canonical clause) f
+abbrev pub with_stored : Bool → List ℕ → Stored → Stored
+with_stored redundant clause f = if is_tautology clause then f else with_canonical redundant (canonical clause) f
 
 -- an input clause takes an id whatever becomes of it
 abbrev pub with_input : List ℕ → Stored → Stored
-with_input clause f = let g : Stored = with_derived false clause f in record g { next_id = max g.next_id (f.next_id + 1) }
+with_input clause f = let g : Stored = with_stored false clause f in record g { next_id = max g.next_id (f.next_id + 1) }
 
 abbrev pub with_units : List ℕ → Stored → Stored
 with_units [] f = f
@@ -125,8 +147,8 @@ unit_numbered id [] = None
 unit_numbered id (u ∷ us) = if u.id == id then Some (u.literal ∷ []) else unit_numbered id us
 
 -- the literals of the last irredundant clause stored, where it's still there
-abbrev pub found : Last → Stored → Option (List ℕ)
-found NoneYet f = None
-found Empty f = Some []
-found (UnitClause id) f = unit_numbered id f.units
-found (LongClause id) f = clause_numbered id f.clauses
+abbrev pub last_literals : Last → Stored → Option (List ℕ)
+last_literals NoneYet f = None
+last_literals Empty f = Some []
+last_literals (UnitClause id) f = unit_numbered id f.units
+last_literals (LongClause id) f = clause_numbered id f.clauses

@@ -1,5 +1,5 @@
 //! What holds of the definitions: each law is the contract of a function that does nothing.
-ghost use Rattle.sat_checker.specs.Rows.{Assumed, BothSigns, HiddenAdded, HiddenNamed, InClause, ModelAgainstUnit, ModelTwice, ModelWithoutClause, Modelled, NameTaken, NamedTwiceOver, NoNameTaken, NoRedundantCount, NotAssumed, SimplifiedByGone, SimplifiedByItself, SimplifiedByPart, UnitForgotten, Unknown, WitnessAdded, WithName, Colliding, EndAlone, FourClauses, HashesOfOneTwo, NamedAgain, NamedOnce, NamedTwice, Refuted, RefutedAtZero, SolverNamesHash, StoredTwice, UnitConflict};
+ghost use Rattle.sat_checker.specs.Rows.{Assumed, BothSigns, HiddenAdded, HiddenNamed, InClause, ModelAgainstUnit, ModelTwice, ModelWithoutClause, Modelled, NameTaken, NamedTwiceOver, NoNameTaken, NoRedundantCount, NotAssumed, SimplifiedByGone, SimplifiedByItself, SimplifiedByPart, UnitForgotten, Unknown, WitnessAdded, WithName, Colliding, ConflictAndUnit, EndAlone, FourClauses, HashesOfOneTwo, NamedAgain, NamedOnce, NamedTwice, Refuted, RefutedAtZero, SolverNamesHash, StoredTwice, UnitConflict};
 
 /// Worked rows of hashes, of names, and of what is stored.
 pub fn rows_of_storing()
@@ -9,6 +9,7 @@ pub fn rows_of_storing()
     ensures four { FourClauses }
     ensures twice { StoredTwice }
     ensures conflict { UnitConflict }
+    ensures unit_behind { ConflictAndUnit }
 {}
 
 /// Worked rows of clauses that are derived, at widths 64, 8 and 0.

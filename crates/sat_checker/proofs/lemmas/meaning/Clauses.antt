@@ -7,7 +7,7 @@ use Rattle.std.specs.List.{AllByRecursion}
 use Rattle.sat_base.specs.values.Clauses.{Valuation, literal_true, clause_true, EachTrue, EachHolds}
 use Rattle.sat_checker.specs.LiteralSets.{same_literals, with_literal, canonical}
 use Rattle.sat_checker.specs.Stored.{StoredClause}
-use Rattle.sat_checker.specs.Storing.{counted, with_clause, clause_with, irredundant_count, redundant_count, discounted, unless_gone, without_clause}
+use Rattle.sat_checker.specs.Storing.{with_count, with_clause, clause_with, irredundant_count, redundant_count, without_count, unless_gone, without_clause}
 
 abbrev pub Kept : Valuation → List StoredClause → Type 0
 Kept a = AllByRecursion (λ c. (c.irredundant ≡ 0) ⊎ (clause_true a c.literals ≡ true))
@@ -53,7 +53,7 @@ more_asks a true id ls [] h = (tt, λ e. absurd (true≢false e))
 more_asks a false id ls [] h = (tt, λ e. elim h.0 [ inl z ↦ absurd (one_more 0 z) | inr t ↦ t ])
 more_asks a r id ls (c ∷ cs) h = go r (more_asks a r id ls cs) (same_literals c.literals ls) refl h
   where
-    go : (r : Bool) → (Kept a (with_clause r id ls cs) → Kept a cs × (r ≡ false → clause_true a ls ≡ true)) → (b : Bool) → same_literals c.literals ls ≡ b → Kept a (cond b (counted r c ∷ cs) (c ∷ with_clause r id ls cs)) → Kept a (c ∷ cs) × (r ≡ false → clause_true a ls ≡ true)
+    go : (r : Bool) → (Kept a (with_clause r id ls cs) → Kept a cs × (r ≡ false → clause_true a ls ≡ true)) → (b : Bool) → same_literals c.literals ls ≡ b → Kept a (cond b (with_count r c ∷ cs) (c ∷ with_clause r id ls cs)) → Kept a (c ∷ cs) × (r ≡ false → clause_true a ls ≡ true)
     go true ih true e k = (k, λ z. absurd (true≢false z))
     go false ih true e k =
         let t : clause_true a c.literals ≡ true = elim k.0 [ inl z ↦ absurd (one_more c.irredundant z) | inr y ↦ y ] in
@@ -65,7 +65,7 @@ more_kept a true id ls [] h t = (inr t, tt)
 more_kept a false id ls [] h t = (inr t, tt)
 more_kept a r id ls (c ∷ cs) h t = go r (more_kept a r id ls cs h.1 t) (same_literals c.literals ls) refl
   where
-    go : (r : Bool) → Kept a (with_clause r id ls cs) → (b : Bool) → same_literals c.literals ls ≡ b → Kept a (cond b (counted r c ∷ cs) (c ∷ with_clause r id ls cs))
+    go : (r : Bool) → Kept a (with_clause r id ls cs) → (b : Bool) → same_literals c.literals ls ≡ b → Kept a (cond b (with_count r c ∷ cs) (c ∷ with_clause r id ls cs))
     go true ih true e = (h.0, h.1)
     go false ih true e = (inr (subst (λ x. clause_true a x ≡ true) (sym (same c.literals ls e)) t), h.1)
     go r ih false e = (h.0, ih)
@@ -75,7 +75,7 @@ more_true a true id ls [] h t = (t, tt)
 more_true a false id ls [] h t = (t, tt)
 more_true a r id ls (c ∷ cs) h t = go r (more_true a r id ls cs h.1 t) (same_literals c.literals ls)
   where
-    go : (r : Bool) → EachHolds a (literals_of (with_clause r id ls cs)) → (b : Bool) → EachHolds a (literals_of (cond b (counted r c ∷ cs) (c ∷ with_clause r id ls cs)))
+    go : (r : Bool) → EachHolds a (literals_of (with_clause r id ls cs)) → (b : Bool) → EachHolds a (literals_of (cond b (with_count r c ∷ cs) (c ∷ with_clause r id ls cs)))
     go true ih true = (h.0, h.1)
     go false ih true = (h.0, h.1)
     go r ih false = (h.0, ih)
@@ -85,40 +85,40 @@ pub less_asks : (a : Valuation) (r : Bool) (ls : List ℕ) (cs : List StoredClau
 less_asks a r ls [] t h = tt
 less_asks a r ls (c ∷ cs) t h = go r t (less_asks a r ls cs t) (same_literals c.literals ls) refl h
   where
-    gone_too : (r : Bool) → (r ≡ false → clause_true a ls ≡ true) → same_literals c.literals ls ≡ true → (b : Bool) → (eqb (discounted r c).irredundant 0 && eqb (discounted r c).redundant 0) ≡ b → Kept a (cond b [] (discounted r c ∷ []) ++ cs) → Kept a (c ∷ cs)
+    gone_too : (r : Bool) → (r ≡ false → clause_true a ls ≡ true) → same_literals c.literals ls ≡ true → (b : Bool) → (eqb (without_count r c).irredundant 0 && eqb (without_count r c).redundant 0) ≡ b → Kept a (cond b [] (without_count r c ∷ []) ++ cs) → Kept a (c ∷ cs)
     gone_too true t e true n k = (inl (eqb-true c.irredundant 0 (and_parts (eqb c.irredundant 0) (eqb (c.redundant - 1) 0) n).0), k)
     gone_too true t e false n k = k
     gone_too false t e true n k = (inr (subst (λ x. clause_true a x ≡ true) (sym (same c.literals ls e)) (t refl)), k)
     gone_too false t e false n k = (inr (subst (λ x. clause_true a x ≡ true) (sym (same c.literals ls e)) (t refl)), k.1)
 
-    go : (r : Bool) → (r ≡ false → clause_true a ls ≡ true) → (Kept a (without_clause r ls cs) → Kept a cs) → (b : Bool) → same_literals c.literals ls ≡ b → Kept a (cond b (unless_gone (discounted r c) ++ cs) (c ∷ without_clause r ls cs)) → Kept a (c ∷ cs)
-    go r t ih true e k = gone_too r t e (eqb (discounted r c).irredundant 0 && eqb (discounted r c).redundant 0) refl k
+    go : (r : Bool) → (r ≡ false → clause_true a ls ≡ true) → (Kept a (without_clause r ls cs) → Kept a cs) → (b : Bool) → same_literals c.literals ls ≡ b → Kept a (cond b (unless_gone (without_count r c) ++ cs) (c ∷ without_clause r ls cs)) → Kept a (c ∷ cs)
+    go r t ih true e k = gone_too r t e (eqb (without_count r c).irredundant 0 && eqb (without_count r c).redundant 0) refl k
     go r t ih false e k = (k.0, ih k.1)
 
 pub less_kept : (a : Valuation) (r : Bool) (ls : List ℕ) (cs : List StoredClause) → Kept a cs → Kept a (without_clause r ls cs)
 less_kept a r ls [] h = tt
 less_kept a r ls (c ∷ cs) h = go r (less_kept a r ls cs h.1) (same_literals c.literals ls)
   where
-    left_over : (r : Bool) (b : Bool) → Kept a (cond b [] (discounted r c ∷ []) ++ cs)
+    left_over : (r : Bool) (b : Bool) → Kept a (cond b [] (without_count r c ∷ []) ++ cs)
     left_over r true = h.1
     left_over true false = (h.0, h.1)
     left_over false false = (elim h.0 [ inl z ↦ inl (let k : c.irredundant ≡ 0 = z in omega arith) | inr t ↦ inr t ], h.1)
 
-    go : (r : Bool) → Kept a (without_clause r ls cs) → (b : Bool) → Kept a (cond b (unless_gone (discounted r c) ++ cs) (c ∷ without_clause r ls cs))
-    go r ih true = left_over r (eqb (discounted r c).irredundant 0 && eqb (discounted r c).redundant 0)
+    go : (r : Bool) → Kept a (without_clause r ls cs) → (b : Bool) → Kept a (cond b (unless_gone (without_count r c) ++ cs) (c ∷ without_clause r ls cs))
+    go r ih true = left_over r (eqb (without_count r c).irredundant 0 && eqb (without_count r c).redundant 0)
     go r ih false = (h.0, ih)
 
 pub less_true : (a : Valuation) (r : Bool) (ls : List ℕ) (cs : List StoredClause) → EachHolds a (literals_of cs) → EachHolds a (literals_of (without_clause r ls cs))
 less_true a r ls [] h = tt
 less_true a r ls (c ∷ cs) h = go r (less_true a r ls cs h.1) (same_literals c.literals ls)
   where
-    left_over : (r : Bool) (b : Bool) → EachHolds a (literals_of (cond b [] (discounted r c ∷ []) ++ cs))
+    left_over : (r : Bool) (b : Bool) → EachHolds a (literals_of (cond b [] (without_count r c ∷ []) ++ cs))
     left_over r true = h.1
     left_over true false = (h.0, h.1)
     left_over false false = (h.0, h.1)
 
-    go : (r : Bool) → EachHolds a (literals_of (without_clause r ls cs)) → (b : Bool) → EachHolds a (literals_of (cond b (unless_gone (discounted r c) ++ cs) (c ∷ without_clause r ls cs)))
-    go r ih true = left_over r (eqb (discounted r c).irredundant 0 && eqb (discounted r c).redundant 0)
+    go : (r : Bool) → EachHolds a (literals_of (without_clause r ls cs)) → (b : Bool) → EachHolds a (literals_of (cond b (unless_gone (without_count r c) ++ cs) (c ∷ without_clause r ls cs)))
+    go r ih true = left_over r (eqb (without_count r c).irredundant 0 && eqb (without_count r c).redundant 0)
     go r ih false = (h.0, ih)
 
 -- where it has an irredundant count, it's asked for
@@ -142,13 +142,13 @@ others_stay r ls ms (c ∷ cs) n = go r (others_stay r ls ms cs n) (same_literal
         go true s = absurd (both_ways (same_literals ls ms) n (same_from ls ms (sym (same c.literals ls s) ∙ same c.literals ms e)))
         go false s = refl
 
-    left_over : (r : Bool) (b : Bool) → same_literals c.literals ls ≡ false → clause_with ls (cond b [] (discounted r c ∷ []) ++ cs) ≡ clause_with ls (c ∷ cs)
+    left_over : (r : Bool) (b : Bool) → same_literals c.literals ls ≡ false → clause_with ls (cond b [] (without_count r c ∷ []) ++ cs) ≡ clause_with ls (c ∷ cs)
     left_over r true s = sym (ap (λ b. cond b (Some c) (clause_with ls cs)) s)
-    left_over true false s = ap (λ b. cond b (Some (discounted true c)) (clause_with ls cs)) s ∙ sym (ap (λ b. cond b (Some c) (clause_with ls cs)) s)
-    left_over false false s = ap (λ b. cond b (Some (discounted false c)) (clause_with ls cs)) s ∙ sym (ap (λ b. cond b (Some c) (clause_with ls cs)) s)
+    left_over true false s = ap (λ b. cond b (Some (without_count true c)) (clause_with ls cs)) s ∙ sym (ap (λ b. cond b (Some c) (clause_with ls cs)) s)
+    left_over false false s = ap (λ b. cond b (Some (without_count false c)) (clause_with ls cs)) s ∙ sym (ap (λ b. cond b (Some c) (clause_with ls cs)) s)
 
-    go : (r : Bool) → clause_with ls (without_clause r ms cs) ≡ clause_with ls cs → (b : Bool) → same_literals c.literals ms ≡ b → clause_with ls (cond b (unless_gone (discounted r c) ++ cs) (c ∷ without_clause r ms cs)) ≡ clause_with ls (c ∷ cs)
-    go r ih true e = left_over r (eqb (discounted r c).irredundant 0 && eqb (discounted r c).redundant 0) (not_it e)
+    go : (r : Bool) → clause_with ls (without_clause r ms cs) ≡ clause_with ls cs → (b : Bool) → same_literals c.literals ms ≡ b → clause_with ls (cond b (unless_gone (without_count r c) ++ cs) (c ∷ without_clause r ms cs)) ≡ clause_with ls (c ∷ cs)
+    go r ih true e = left_over r (eqb (without_count r c).irredundant 0 && eqb (without_count r c).redundant 0) (not_it e)
     go r ih false e = ap (λ o. cond (same_literals c.literals ls) (Some c) o) ih
 
 -- a redundant count less leaves the irredundant ones
@@ -156,13 +156,13 @@ pub irredundant_stay : (ls ms : List ℕ) (cs : List StoredClause) → 0 < irred
 irredundant_stay ls ms [] n = n
 irredundant_stay ls ms (c ∷ cs) n = go (irredundant_stay ls ms cs) (same_literals c.literals ms) refl n
   where
-    by_mark : (b : Bool) → (eqb c.irredundant 0 && eqb (c.redundant - 1) 0) ≡ b → same_literals c.literals ms ≡ true → (d : Bool) → same_literals c.literals ls ≡ d → 0 < irredundant_count (cond d (Some c) (clause_with ls cs)) → 0 < irredundant_count (clause_with ls (cond b [] (discounted true c ∷ []) ++ cs))
+    by_mark : (b : Bool) → (eqb c.irredundant 0 && eqb (c.redundant - 1) 0) ≡ b → same_literals c.literals ms ≡ true → (d : Bool) → same_literals c.literals ls ≡ d → 0 < irredundant_count (cond d (Some c) (clause_with ls cs)) → 0 < irredundant_count (clause_with ls (cond b [] (without_count true c ∷ []) ++ cs))
     by_mark true g e true s n = let z : c.irredundant ≡ 0 = eqb-true c.irredundant 0 (and_parts (eqb c.irredundant 0) (eqb (c.redundant - 1) 0) g).0 in absurd (omega arith)
     by_mark true g e false s n = n
-    by_mark false g e true s n = subst (λ b. 0 < irredundant_count (cond b (Some (discounted true c)) (clause_with ls cs))) (sym s) n
-    by_mark false g e false s n = subst (λ b. 0 < irredundant_count (cond b (Some (discounted true c)) (clause_with ls cs))) (sym s) n
+    by_mark false g e true s n = subst (λ b. 0 < irredundant_count (cond b (Some (without_count true c)) (clause_with ls cs))) (sym s) n
+    by_mark false g e false s n = subst (λ b. 0 < irredundant_count (cond b (Some (without_count true c)) (clause_with ls cs))) (sym s) n
 
-    go : (0 < irredundant_count (clause_with ls cs) → 0 < irredundant_count (clause_with ls (without_clause true ms cs))) → (b : Bool) → same_literals c.literals ms ≡ b → 0 < irredundant_count (clause_with ls (c ∷ cs)) → 0 < irredundant_count (clause_with ls (cond b (unless_gone (discounted true c) ++ cs) (c ∷ without_clause true ms cs)))
+    go : (0 < irredundant_count (clause_with ls cs) → 0 < irredundant_count (clause_with ls (without_clause true ms cs))) → (b : Bool) → same_literals c.literals ms ≡ b → 0 < irredundant_count (clause_with ls (c ∷ cs)) → 0 < irredundant_count (clause_with ls (cond b (unless_gone (without_count true c) ++ cs) (c ∷ without_clause true ms cs)))
     go ih true e n = by_mark (eqb c.irredundant 0 && eqb (c.redundant - 1) 0) refl e (same_literals c.literals ls) refl n
     go ih false e n = pick ih (same_literals c.literals ls) n
       where
@@ -175,7 +175,7 @@ pub irredundant_more : (r : Bool) (id : ℕ) (ls ms : List ℕ) (cs : List Store
 irredundant_more r id ls ms [] n = absurd (omega arith)
 irredundant_more r id ls ms (c ∷ cs) n = go r (irredundant_more r id ls ms cs) (same_literals c.literals ms) n
   where
-    once_more : (r d : Bool) → 0 < irredundant_count (cond d (Some c) (clause_with ls cs)) → 0 < irredundant_count (cond d (Some (counted r c)) (clause_with ls cs))
+    once_more : (r d : Bool) → 0 < irredundant_count (cond d (Some c) (clause_with ls cs)) → 0 < irredundant_count (cond d (Some (with_count r c)) (clause_with ls cs))
     once_more true true k = k
     once_more false true k = omega arith
     once_more r false k = k
@@ -184,7 +184,7 @@ irredundant_more r id ls ms (c ∷ cs) n = go r (irredundant_more r id ls ms cs)
     behind r true ih k = k
     behind r false ih k = ih k
 
-    go : (r : Bool) → (0 < irredundant_count (clause_with ls cs) → 0 < irredundant_count (clause_with ls (with_clause r id ms cs))) → (b : Bool) → 0 < irredundant_count (clause_with ls (c ∷ cs)) → 0 < irredundant_count (clause_with ls (cond b (counted r c ∷ cs) (c ∷ with_clause r id ms cs)))
+    go : (r : Bool) → (0 < irredundant_count (clause_with ls cs) → 0 < irredundant_count (clause_with ls (with_clause r id ms cs))) → (b : Bool) → 0 < irredundant_count (clause_with ls (c ∷ cs)) → 0 < irredundant_count (clause_with ls (cond b (with_count r c ∷ cs) (c ∷ with_clause r id ms cs)))
     go true ih true k = once_more true (same_literals c.literals ls) k
     go false ih true k = once_more false (same_literals c.literals ls) k
     go r ih false k = behind r (same_literals c.literals ls) ih k

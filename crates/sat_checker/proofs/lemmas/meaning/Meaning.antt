@@ -5,16 +5,16 @@ use Rattle.std.specs.List.{AllByRecursion, list_any}
 use Rattle.sat_base.specs.values.Literals.{variable, negated}
 use Rattle.sat_base.specs.values.Clauses.{Valuation, literal_true, clause_true, flipped, EachTrue, EachHolds}
 use Rattle.sat_base.specs.steps.Steps.{Redundant, Simplified, Satisfied, Step, SolverVarName, UserVarName, DeleteVar, ChangeSamplingMode, AddClause, AtClause, UnitClauses, DeleteClause, ChangeHashBits, Model, Assumptions, FailedAssumptions, End}
-use Rattle.sat_checker.specs.LiteralSets.{is_among, mentions, is_subset, is_tautology, canonical, same_literals}
-use Rattle.sat_checker.specs.Stored.{Stored, StoredClause, StoredUnit, Last, NoneYet, Empty, UnitClause, LongClause, Satisfies, is_unit, unit_literals, all_literals}
-use Rattle.sat_checker.specs.Storing.{with_clause, clause_with, irredundant_count, without_clause, with_unit, with_long, with_set, place_of, with_canonical, with_derived, with_input, with_units, with_literals_known, without_variable, unit_numbered, found}
-use Rattle.sat_checker.specs.Accepts.{VariablesApart, IsStrictSubset, PassInTurn, Passes, MayBeDeleted, Accepts, AcceptsAll, after, stored_after}
+use Rattle.sat_checker.specs.LiteralSets.{is_among, mentions, is_part, is_tautology, canonical, same_literals}
+use Rattle.sat_checker.specs.Stored.{Stored, StoredClause, StoredUnit, Last, NoneYet, Empty, UnitClause, LongClause, Satisfies, is_unit, unit_literals, long_clauses}
+use Rattle.sat_checker.specs.Storing.{with_clause, clause_with, irredundant_count, without_clause, with_unit, with_contradiction, with_new_unit, settled, settled_by, with_long, with_set, place_of, with_canonical, with_stored, with_input, with_units, with_literals_known, without_variable, unit_numbered, last_literals}
+use Rattle.sat_checker.specs.Accepts.{VariablesApart, IsStrictSubset, PassInTurn, Passes, MayBeDeleted, Accepts, AcceptsAll, effect, stored_after, ready_after}
 use Rattle.sat_checker.specs.Fold.{Holds}
 use Rattle.sat_checker.proofs.lemmas.sets.Subsets.{superset_true}
 use Rattle.sat_checker.proofs.lemmas.propagation.Soundness.{true_among, negated_value, unit_in_clause, tautology_true, derived_hold}
 use Rattle.sat_checker.proofs.lemmas.meaning.Clauses.{Kept, literals_of, canonical_true, more_asks, more_kept, more_true, less_asks, less_kept, less_true, counted_true, others_stay}
 use Rattle.sat_checker.proofs.lemmas.meaning.Deleting.{left, units_of_left, units_left, units_left_flipped, units_either, kept_by_flip, true_by_flip, to_flipped, from_flipped, apart_left}
-use Rattle.sat_checker.proofs.lemmas.meaning.Orderly.{Supported, LastHolds, Orderly}
+use Rattle.sat_checker.proofs.lemmas.meaning.Orderly.{Supported, LastHolds, Orderly, orderly_settled}
 use Rattle.sat_checker.proofs.lemmas.meaning.OrderlySteps.{orderly, strict_differs}
 
 units_push : (a : Valuation) (us : List StoredUnit) (u : StoredUnit) → EachTrue a (map (λ w. w.literal) us) → literal_true a u.literal ≡ true → EachTrue a (map (λ w. w.literal) (us ++ u ∷ []))
@@ -41,7 +41,7 @@ module _ (f : Stored) (a : Valuation) where
   set_asks r [] s = absurd (true≢false s.consistent)
   set_asks r (l ∷ []) s = go (is_unit f l) refl (is_unit f (negated l)) s
     where
-      go : (b : Bool) → is_unit f l ≡ b → (d : Bool) → Satisfies (cond b f (cond d (record f { unsat = true; next_id = f.next_id + 2 }) (record f { units = f.units ++ (record { id = f.next_id; literal = l }) ∷ []; next_id = f.next_id + 1 }))) a → Satisfies f a × (r ≡ false → clause_true a (l ∷ []) ≡ true)
+      go : (b : Bool) → is_unit f l ≡ b → (d : Bool) → Satisfies (cond b f (cond d (with_contradiction l f) (with_new_unit l f))) a → Satisfies f a × (r ≡ false → clause_true a (l ∷ []) ≡ true)
       go true e d k = (k, λ _. single_from a l (true_among a (unit_literals f) l k.units e))
       go false e true k = absurd (true≢false k.consistent)
       go false e false k = let p = units_pop a f.units (record { id = f.next_id; literal = l }) k.units in (record { consistent = k.consistent; kept = k.kept; units = p.0 }, λ _. single_from a l p.1)
@@ -51,17 +51,17 @@ module _ (f : Stored) (a : Valuation) where
   set_holds r [] s t = absurd (true≢false (sym t))
   set_holds r (l ∷ []) s t = go (is_unit f l) (is_unit f (negated l)) refl
     where
-      go : (b d : Bool) → is_unit f (negated l) ≡ d → Satisfies (cond b f (cond d (record f { unsat = true; next_id = f.next_id + 2 }) (record f { units = f.units ++ (record { id = f.next_id; literal = l }) ∷ []; next_id = f.next_id + 1 }))) a
+      go : (b d : Bool) → is_unit f (negated l) ≡ d → Satisfies (cond b f (cond d (with_contradiction l f) (with_new_unit l f))) a
       go true d e = s
       go false true e = absurd (not_true (literal_true a l) (single a l t) (sym (negated_value a l) ∙ true_among a (unit_literals f) (negated l) s.units e))
       go false false e = record { consistent = s.consistent; kept = s.kept; units = units_push a f.units (record { id = f.next_id; literal = l }) s.units (single a l t) }
   set_holds r (l ∷ m ∷ ls) s t = record { consistent = s.consistent; kept = more_kept a r f.next_id (l ∷ m ∷ ls) f.clauses s.kept t; units = s.units }
 
-  set_true : (r : Bool) (c : List ℕ) → EachHolds a (all_literals f) → clause_true a c ≡ true → EachHolds a (all_literals (with_set r c f))
+  set_true : (r : Bool) (c : List ℕ) → EachHolds a (long_clauses f) → clause_true a c ≡ true → EachHolds a (long_clauses (with_set r c f))
   set_true r [] h t = h
   set_true r (l ∷ []) h t = go (is_unit f l) (is_unit f (negated l))
     where
-      go : (b d : Bool) → EachHolds a (all_literals (cond b f (cond d (record f { unsat = true; next_id = f.next_id + 2 }) (record f { units = f.units ++ (record { id = f.next_id; literal = l }) ∷ []; next_id = f.next_id + 1 }))))
+      go : (b d : Bool) → EachHolds a (long_clauses (cond b f (cond d (with_contradiction l f) (with_new_unit l f))))
       go true d = h
       go false true = h
       go false false = h
@@ -87,7 +87,7 @@ apart_set : (f : Stored) (r : Bool) (c : List ℕ) → VariablesApart (unit_lite
 apart_set f r [] p = p
 apart_set f r (l ∷ []) p = go (is_unit f l) refl (is_unit f (negated l)) refl
   where
-    go : (b : Bool) → is_unit f l ≡ b → (d : Bool) → is_unit f (negated l) ≡ d → VariablesApart (unit_literals (cond b f (cond d (record f { unsat = true; next_id = f.next_id + 2 }) (record f { units = f.units ++ (record { id = f.next_id; literal = l }) ∷ []; next_id = f.next_id + 1 }))))
+    go : (b : Bool) → is_unit f l ≡ b → (d : Bool) → is_unit f (negated l) ≡ d → VariablesApart (unit_literals (cond b f (cond d (with_contradiction l f) (with_new_unit l f))))
     go true n d m = p
     go false n true m = p
     go false n false m = apart_push f.units (record { id = f.next_id; literal = l }) p n m
@@ -95,7 +95,7 @@ apart_set f r (l ∷ m ∷ ls) p = p
 
 -- every stored clause follows from those that are kept, and no variable has two units
 pub record IsCoherent (f : Stored) : Type 0 where
-  pub follows : (a : Valuation) → Satisfies f a → EachHolds a (all_literals f)
+  pub follows : (a : Valuation) → Satisfies f a → EachHolds a (long_clauses f)
   pub apart : VariablesApart (unit_literals f)
 
 -- it's coherent, and satisfied by these valuations
@@ -137,7 +137,7 @@ canonicals f true c s derived = sets f true c s derived
 canonicals f false c s derived = aside (with_set false c f) (record (with_set false c f) { last = place_of c (with_set false c f) f.last }) (λ a. Satisfies f a × (clause_true a c ≡ true)) refl refl refl (sets f false c s derived)
 
 -- a clause that is asked for, or that follows
-stores : (f : Stored) (r : Bool) (c : List ℕ) → IsCoherent f → ((a : Valuation) → Satisfies f a → r ≡ true → clause_true a c ≡ true) → Does (with_derived r c f) (λ a. Satisfies f a × (clause_true a c ≡ true))
+stores : (f : Stored) (r : Bool) (c : List ℕ) → IsCoherent f → ((a : Valuation) → Satisfies f a → r ≡ true → clause_true a c ≡ true) → Does (with_stored r c f) (λ a. Satisfies f a × (clause_true a c ≡ true))
 stores f r c s derived = go (is_tautology c) refl
   where
     go : (d : Bool) → is_tautology c ≡ d → Does (cond d f (with_canonical r (canonical c) f)) (λ a. Satisfies f a × (clause_true a c ≡ true))
@@ -149,7 +149,7 @@ stores f r c s derived = go (is_tautology c) refl
 known : (f : Stored) (ls : List ℕ) → IsCoherent f → Does (with_literals_known ls f) (Satisfies f)
 known f ls s = aside f (with_literals_known ls f) (Satisfies f) refl refl refl (itself f s)
 
-adds : (f : Stored) (c : List ℕ) → IsCoherent f → Does (after (AddClause c) f) (λ a. Satisfies f a × (clause_true a c ≡ true))
+adds : (f : Stored) (c : List ℕ) → IsCoherent f → Does (effect (AddClause c) f) (λ a. Satisfies f a × (clause_true a c ≡ true))
 adds f c s = go f.unsat refl
   where
     go : (b : Bool) → f.unsat ≡ b → Does (cond b f (with_input c (with_literals_known c f))) (λ a. Satisfies f a × (clause_true a c ≡ true))
@@ -157,10 +157,10 @@ adds f c s = go f.unsat refl
     go false e =
         let g : Stored = with_literals_known c f in
         let k = known f c s in
-        let d = aside (with_derived false c g) (with_input c g) (λ a. Satisfies g a × (clause_true a c ≡ true)) refl refl refl (stores g false c k.coherent (λ a t z. absurd (true≢false (sym z)))) in
+        let d = aside (with_stored false c g) (with_input c g) (λ a. Satisfies g a × (clause_true a c ≡ true)) refl refl refl (stores g false c k.coherent (λ a t z. absurd (true≢false (sym z)))) in
         record { coherent = d.coherent; to = λ a h. d.to a (k.to a h.0, h.1); back = λ a h. let p = d.back a h in (k.back a p.0, p.1) }
 
-derives : (f : Stored) (r : Bool) (c hashes : List ℕ) → IsCoherent f → Passes f c hashes → Does (after (AtClause r c hashes) f) (Satisfies f)
+derives : (f : Stored) (r : Bool) (c hashes : List ℕ) → IsCoherent f → Passes f c hashes → Does (effect (AtClause r c hashes) f) (Satisfies f)
 derives f r c hashes s p =
     let k = known f c s in
     let d = stores (with_literals_known c f) r c k.coherent (λ a t e. holds a (k.back a t)) in
@@ -202,22 +202,22 @@ unit_found a id ls (u ∷ us) e h = go (λ k. unit_found a id ls us k h.1) (eqb 
     go ih false e = ih e
 
 -- the last irredundant clause is true without the one that it's a part of
-last_true : (f : Stored) (c : List ℕ) (a : Valuation) → Orderly f → IsStrictSubset (found f.last f) c → Satisfies (record f { clauses = without_clause false (canonical c) f.clauses }) a → clause_true a c ≡ true
+last_true : (f : Stored) (c : List ℕ) (a : Valuation) → Orderly f → IsStrictSubset (last_literals f.last f) c → Satisfies (record f { clauses = without_clause false (canonical c) f.clauses }) a → clause_true a c ≡ true
 last_true f c a o p h = go f.last o.last_holds p
   where
-    by_found : (x : Option (List ℕ)) → IsStrictSubset x c → ((ms : List ℕ) → x ≡ Some ms → is_subset c ms ≡ false → clause_true a ms ≡ true) → clause_true a c ≡ true
+    by_found : (x : Option (List ℕ)) → IsStrictSubset x c → ((ms : List ℕ) → x ≡ Some ms → is_part c ms ≡ false → clause_true a ms ≡ true) → clause_true a c ≡ true
     by_found None p w = absurd p
     by_found (Some ms) p w = superset_true a ms c p.0 (w ms refl p.1)
 
-    supported : (ms : List ℕ) → is_subset c ms ≡ false → Supported (unit_literals f) f.clauses ms → clause_true a ms ≡ true
+    supported : (ms : List ℕ) → is_part c ms ≡ false → Supported (unit_literals f) f.clauses ms → clause_true a ms ≡ true
     supported ms n (inl t) = unit_in_clause a (unit_literals f) ms h.units t
     supported ms n (inr k) = counted_true a ms (without_clause false (canonical c) f.clauses) h.kept (subst (λ x. 0 < irredundant_count x) (sym (others_stay false ms (canonical c) f.clauses (strict_differs ms c n))) k)
 
-    go : (last : Last) → LastHolds last f.unsat (unit_literals f) f.clauses → IsStrictSubset (found last f) c → clause_true a c ≡ true
+    go : (last : Last) → LastHolds last f.unsat (unit_literals f) f.clauses → IsStrictSubset (last_literals last f) c → clause_true a c ≡ true
     go NoneYet k p = absurd p
     go Empty k p = absurd (both_ways f.unsat h.consistent k)
     go (UnitClause id) k p = by_found (unit_numbered id f.units) p (λ ms e n. unit_found a id ms f.units e h.units)
-    go (LongClause id) k p = by_found (found (LongClause id) f) p (λ ms e n. supported ms n (k ms e))
+    go (LongClause id) k p = by_found (last_literals (LongClause id) f) p (λ ms e n. supported ms n (k ms e))
 
 drops : (f : Stored) (v : ℕ) → IsCoherent f → MayBeDeleted f v → Does (without_variable v f) (λ a. Satisfies f a ⊎ Satisfies f (flipped v a))
 drops f v s free = record {
@@ -242,11 +242,7 @@ drops f v s free = record {
 same_unit : (f : Stored) (ls : List ℕ) (l : ℕ) → with_unit l (with_literals_known ls f) ≡ with_literals_known ls (with_unit l f)
 same_unit f ls l = go (is_unit f l) (is_unit f (negated l))
   where
-    g : Stored
-    g = with_literals_known ls f
-
-    go : (b d : Bool) → cond b (with_literals_known ls f) (cond d (record (with_literals_known ls f) { unsat = true; next_id = f.next_id + 2 }) (record (with_literals_known ls f) { units = f.units ++ (record { id = f.next_id; literal = l }) ∷ []; next_id = f.next_id + 1 }))
-        ≡ with_literals_known ls (cond b f (cond d (record f { unsat = true; next_id = f.next_id + 2 }) (record f { units = f.units ++ (record { id = f.next_id; literal = l }) ∷ []; next_id = f.next_id + 1 })))
+    go : (b d : Bool) → cond b (with_literals_known ls f) (cond d (with_contradiction l (with_literals_known ls f)) (with_new_unit l (with_literals_known ls f))) ≡ with_literals_known ls (cond b f (cond d (with_contradiction l f) (with_new_unit l f)))
     go true d = refl
     go false true = refl
     go false false = refl
@@ -259,6 +255,14 @@ pass_known (u ∷ us) ls f p = (p.0, subst (λ g. PassInTurn g us) (sym (same_un
 further : (f g : Stored) (Meant : Valuation → Type 0) → Does f Meant → Does g (Satisfies f) → Does g Meant
 further f g Meant m d = record { coherent = d.coherent; to = λ a h. d.to a (m.to a h); back = λ a h. m.back a (d.back a h) }
 
+-- a settled unit conflict means nothing more
+settle : (earlier : List Step) → Does (stored_after earlier) (Holds earlier) → Does (ready_after earlier) (Holds earlier)
+settle earlier d = go (stored_after earlier) d (stored_after earlier).conflict
+  where
+    go : (f : Stored) → Does f (Holds earlier) → (x : Option (ℕ × ℕ)) → Does (settled_by x f) (Holds earlier)
+    go f d None = d
+    go f d (Some units) = aside f (record f { conflict = None; next_id = f.next_id + 1 }) (Holds earlier) refl refl refl d
+
 -- over all steps
 pub means : (steps : List Step) → AcceptsAll steps → Does (stored_after steps) (Holds steps)
 means [] ok = record {
@@ -267,42 +271,45 @@ means [] ok = record {
   back = λ a h. tt;
 }
 means (AddClause c ∷ earlier) ok =
-    let m = means earlier ok.0 in
-    let d = adds (stored_after earlier) c m.coherent in
+    let m = settle earlier (means earlier ok.0) in
+    let d = adds (ready_after earlier) c m.coherent in
     record { coherent = d.coherent; to = λ a h. d.to a (m.to a h.0, h.1); back = λ a h. let p = d.back a h in (m.back a p.0, p.1) }
 means (DeleteVar v ∷ earlier) ok =
-    let m = means earlier ok.0 in
-    let d = drops (stored_after earlier) v m.coherent ok.1 in
+    let m = settle earlier (means earlier ok.0) in
+    let d = drops (ready_after earlier) v m.coherent ok.1 in
     record {
       coherent = d.coherent;
       to = λ a h. d.to a (elim h [ inl x ↦ inl (m.to a x) | inr y ↦ inr (m.to (flipped v a) y) ]);
       back = λ a h. elim (d.back a h) [ inl x ↦ inl (m.back a x) | inr y ↦ inr (m.back (flipped v a) y) ];
     }
 means (AtClause r c hashes ∷ earlier) ok =
-    let m = means earlier ok.0 in
-    further (stored_after earlier) (stored_after (AtClause r c hashes ∷ earlier)) (Holds earlier) m (derives (stored_after earlier) r c hashes m.coherent ok.1)
+    let m = settle earlier (means earlier ok.0) in
+    further (ready_after earlier) (stored_after (AtClause r c hashes ∷ earlier)) (Holds earlier) m (derives (ready_after earlier) r c hashes m.coherent ok.1)
 means (UnitClauses us ∷ earlier) ok =
-    let m = means earlier ok.0 in
-    let f : Stored = stored_after earlier in
+    let m = settle earlier (means earlier ok.0) in
+    let f : Stored = ready_after earlier in
     let k = known f (map (λ u. u.0) us) m.coherent in
     let d = units_pass us (with_literals_known (map (λ u. u.0) us) f) k.coherent (pass_known us (map (λ u. u.0) us) f ok.1) in
     further f (stored_after (UnitClauses us ∷ earlier)) (Holds earlier) m (further (with_literals_known (map (λ u. u.0) us) f) (stored_after (UnitClauses us ∷ earlier)) (Satisfies f) k d)
 means (DeleteClause c Redundant ∷ earlier) ok =
-    let m = means earlier ok.0 in
-    further (stored_after earlier) (stored_after (DeleteClause c Redundant ∷ earlier)) (Holds earlier) m (deletes (stored_after earlier) true c m.coherent (λ a h e. absurd (true≢false e)))
+    let m = settle earlier (means earlier ok.0) in
+    further (ready_after earlier) (stored_after (DeleteClause c Redundant ∷ earlier)) (Holds earlier) m (deletes (ready_after earlier) true c m.coherent (λ a h e. absurd (true≢false e)))
 means (DeleteClause c Satisfied ∷ earlier) ok =
-    let m = means earlier ok.0 in
-    further (stored_after earlier) (stored_after (DeleteClause c Satisfied ∷ earlier)) (Holds earlier) m (deletes (stored_after earlier) false c m.coherent (λ a h e. unit_in_clause a (unit_literals (stored_after earlier)) c h.units ok.1.1))
+    let m = settle earlier (means earlier ok.0) in
+    further (ready_after earlier) (stored_after (DeleteClause c Satisfied ∷ earlier)) (Holds earlier) m (deletes (ready_after earlier) false c m.coherent (λ a h e. unit_in_clause a (unit_literals (ready_after earlier)) c h.units ok.1.1))
 means (DeleteClause c Simplified ∷ earlier) ok =
-    let m = means earlier ok.0 in
-    further (stored_after earlier) (stored_after (DeleteClause c Simplified ∷ earlier)) (Holds earlier) m (deletes (stored_after earlier) false c m.coherent (λ a h e. last_true (stored_after earlier) c a (orderly earlier ok.0) ok.1.1 h))
-means (SolverVarName v None ∷ earlier) ok = aside (stored_after earlier) (stored_after (SolverVarName v None ∷ earlier)) (Holds earlier) refl refl refl (means earlier ok.0)
-means (SolverVarName v (Some n) ∷ earlier) ok = aside (stored_after earlier) (stored_after (SolverVarName v (Some n) ∷ earlier)) (Holds earlier) refl refl refl (means earlier ok.0)
-means (UserVarName v (Some n) ∷ earlier) ok = aside (stored_after earlier) (stored_after (UserVarName v (Some n) ∷ earlier)) (Holds earlier) refl refl refl (means earlier ok.0)
-means (UserVarName v None ∷ earlier) ok = aside (stored_after earlier) (stored_after (UserVarName v None ∷ earlier)) (Holds earlier) refl refl refl (means earlier ok.0)
-means (ChangeSamplingMode v s ∷ earlier) ok = aside (stored_after earlier) (stored_after (ChangeSamplingMode v s ∷ earlier)) (Holds earlier) refl refl refl (means earlier ok.0)
-means (ChangeHashBits n ∷ earlier) ok = aside (stored_after earlier) (stored_after (ChangeHashBits n ∷ earlier)) (Holds earlier) refl refl refl (means earlier ok.0)
-means (Model ls ∷ earlier) ok = aside (stored_after earlier) (stored_after (Model ls ∷ earlier)) (Holds earlier) refl refl refl (means earlier ok.0)
-means (Assumptions ls ∷ earlier) ok = aside (stored_after earlier) (stored_after (Assumptions ls ∷ earlier)) (Holds earlier) refl refl refl (means earlier ok.0)
-means (FailedAssumptions c hs ∷ earlier) ok = means earlier ok.0
-means (End ∷ earlier) ok = aside (stored_after earlier) (stored_after (End ∷ earlier)) (Holds earlier) refl refl refl (means earlier ok.0)
+    let m = settle earlier (means earlier ok.0) in
+    further (ready_after earlier) (stored_after (DeleteClause c Simplified ∷ earlier)) (Holds earlier) m (deletes (ready_after earlier) false c m.coherent (λ a h e. last_true (ready_after earlier) c a (orderly_settled (stored_after earlier) (orderly earlier ok.0)) ok.1.1 h))
+means (SolverVarName v None ∷ earlier) ok = aside (ready_after earlier) (stored_after (SolverVarName v None ∷ earlier)) (Holds earlier) refl refl refl (settle earlier (means earlier ok.0))
+means (SolverVarName v (Some n) ∷ earlier) ok = aside (ready_after earlier) (stored_after (SolverVarName v (Some n) ∷ earlier)) (Holds earlier) refl refl refl (settle earlier (means earlier ok.0))
+means (UserVarName v (Some n) ∷ earlier) ok = aside (ready_after earlier) (stored_after (UserVarName v (Some n) ∷ earlier)) (Holds earlier) refl refl refl (settle earlier (means earlier ok.0))
+means (UserVarName v None ∷ earlier) ok = aside (ready_after earlier) (stored_after (UserVarName v None ∷ earlier)) (Holds earlier) refl refl refl (settle earlier (means earlier ok.0))
+means (ChangeSamplingMode v s ∷ earlier) ok = aside (ready_after earlier) (stored_after (ChangeSamplingMode v s ∷ earlier)) (Holds earlier) refl refl refl (settle earlier (means earlier ok.0))
+means (ChangeHashBits n ∷ earlier) ok = aside (ready_after earlier) (stored_after (ChangeHashBits n ∷ earlier)) (Holds earlier) refl refl refl (settle earlier (means earlier ok.0))
+means (Model ls ∷ earlier) ok = aside (ready_after earlier) (stored_after (Model ls ∷ earlier)) (Holds earlier) refl refl refl (settle earlier (means earlier ok.0))
+means (Assumptions ls ∷ earlier) ok = aside (ready_after earlier) (stored_after (Assumptions ls ∷ earlier)) (Holds earlier) refl refl refl (settle earlier (means earlier ok.0))
+means (FailedAssumptions c hs ∷ earlier) ok = settle earlier (means earlier ok.0)
+means (End ∷ earlier) ok = aside (ready_after earlier) (stored_after (End ∷ earlier)) (Holds earlier) refl refl refl (settle earlier (means earlier ok.0))
+
+pub means_ready : (steps : List Step) → AcceptsAll steps → Does (ready_after steps) (Holds steps)
+means_ready steps ok = settle steps (means steps ok)

@@ -4,10 +4,10 @@ use Rattle.std.proofs.lemmas.Bool.{or_cases, or_left, or_right, or_parts, both_w
 use Rattle.std.specs.List.{AllByRecursion, list_any}
 use Rattle.sat_base.specs.values.Literals.{variable, negated}
 use Rattle.sat_base.specs.steps.Steps.{Redundant, Simplified, Satisfied, Step, SolverVarName, UserVarName, DeleteVar, ChangeSamplingMode, AddClause, AtClause, UnitClauses, DeleteClause, ChangeHashBits, Model, Assumptions, FailedAssumptions, End}
-use Rattle.sat_checker.specs.LiteralSets.{is_among, mentions, is_subset, is_tautology, same_literals, canonical}
+use Rattle.sat_checker.specs.LiteralSets.{is_among, mentions, is_part, is_tautology, same_literals, canonical}
 use Rattle.sat_checker.specs.Stored.{StoredClause, StoredUnit, Last, NoneYet, Empty, UnitClause, LongClause, Stored, is_unit, unit_literals}
-use Rattle.sat_checker.specs.Storing.{counted, with_clause, clause_with, irredundant_count, discounted, unless_gone, without_clause, with_unit, with_long, with_set, unit_at, long_at, place_of, with_canonical, with_derived, with_input, with_units, with_literals_known, without_variable, clause_numbered, found}
-use Rattle.sat_checker.specs.Accepts.{IsStrictSubset, Accepts, AcceptsAll, after, stored_after}
+use Rattle.sat_checker.specs.Storing.{with_count, with_clause, clause_with, irredundant_count, without_count, unless_gone, without_clause, with_unit, with_contradiction, with_new_unit, settled, settled_by, with_long, with_set, unit_at, long_at, place_of, with_canonical, with_stored, with_input, with_units, with_literals_known, without_variable, clause_numbered, last_literals}
+use Rattle.sat_checker.specs.Accepts.{IsStrictSubset, Accepts, AcceptsAll, stored_after}
 use Rattle.sat_checker.specs.inner.Marks.{IsIncreasing}
 use Rattle.sat_checker.proofs.lemmas.sets.Subsets.{subset_canonical, any_true, some_of, any_canonical}
 use Rattle.sat_checker.proofs.lemmas.meaning.Clauses.{same, others_stay, irredundant_stay, irredundant_more}
@@ -73,12 +73,12 @@ orderly_unit f l o = go (is_unit f l) (is_unit f (negated l))
     more : (k i : ℕ) → i < f.next_id → i < f.next_id + k
     more k i h = omega arith
 
-    go : (b d : Bool) → Orderly (cond b f (cond d (record f { unsat = true; next_id = f.next_id + 2 }) (record f { units = f.units ++ (record { id = f.next_id; literal = l }) ∷ []; next_id = f.next_id + 1 })))
+    go : (b d : Bool) → Orderly (cond b f (cond d (with_contradiction l f) (with_new_unit l f)))
     go true d = o
     go false true = record {
       increasing = o.increasing;
-      below = below_more f.next_id (f.next_id + 2) (more 2) (ids f.clauses) o.below;
-      last_below = last_below_more f.next_id (f.next_id + 2) (more 2) f.last o.last_below;
+      below = below_more f.next_id (f.next_id + 1) (more 1) (ids f.clauses) o.below;
+      last_below = last_below_more f.next_id (f.next_id + 1) (more 1) f.last o.last_below;
       last_holds = last_stays f.last f.unsat true (unit_literals f) (unit_literals f) f.clauses (λ e. refl) (λ x h. h) o.last_holds;
     }
     go false false = record {
@@ -93,7 +93,7 @@ ids_with : (r : Bool) (n : ℕ) (ls : List ℕ) (cs : List StoredClause) → is_
 ids_with r n ls [] e = absurd (true≢false (sym e))
 ids_with r n ls (c ∷ cs) e = go r (ids_with r n ls cs) (same_literals c.literals ls) e
   where
-    go : (r : Bool) → (is_some (clause_with ls cs) ≡ true → ids (with_clause r n ls cs) ≡ ids cs) → (b : Bool) → is_some (cond b (Some c) (clause_with ls cs)) ≡ true → ids (cond b (counted r c ∷ cs) (c ∷ with_clause r n ls cs)) ≡ c.id ∷ ids cs
+    go : (r : Bool) → (is_some (clause_with ls cs) ≡ true → ids (with_clause r n ls cs) ≡ ids cs) → (b : Bool) → is_some (cond b (Some c) (clause_with ls cs)) ≡ true → ids (cond b (with_count r c ∷ cs) (c ∷ with_clause r n ls cs)) ≡ c.id ∷ ids cs
     go true ih true e = refl
     go false ih true e = refl
     go r ih false e = ap (λ is. c.id ∷ is) (ih e)
@@ -103,7 +103,7 @@ ids_new true n ls [] e = refl
 ids_new false n ls [] e = refl
 ids_new r n ls (c ∷ cs) e = go r (ids_new r n ls cs) (same_literals c.literals ls) e
   where
-    go : (r : Bool) → (is_some (clause_with ls cs) ≡ false → ids (with_clause r n ls cs) ≡ ids cs ++ n ∷ []) → (b : Bool) → is_some (cond b (Some c) (clause_with ls cs)) ≡ false → ids (cond b (counted r c ∷ cs) (c ∷ with_clause r n ls cs)) ≡ c.id ∷ (ids cs ++ n ∷ [])
+    go : (r : Bool) → (is_some (clause_with ls cs) ≡ false → ids (with_clause r n ls cs) ≡ ids cs ++ n ∷ []) → (b : Bool) → is_some (cond b (Some c) (clause_with ls cs)) ≡ false → ids (cond b (with_count r c ∷ cs) (c ∷ with_clause r n ls cs)) ≡ c.id ∷ (ids cs ++ n ∷ [])
     go r ih true e = absurd (true≢false e)
     go r ih false e = ap (λ is. c.id ∷ is) (ih e)
 
@@ -137,7 +137,7 @@ numbered_with r id n ls ms (c ∷ cs) e = go r (numbered_with r id n ls ms cs) (
     behind r true ih e = inl e
     behind r false ih e = ih e
 
-    go : (r : Bool) → (clause_numbered id (with_clause r n ls cs) ≡ Some ms → (clause_numbered id cs ≡ Some ms) ⊎ (id ≡ n)) → (b : Bool) → clause_numbered id (cond b (counted r c ∷ cs) (c ∷ with_clause r n ls cs)) ≡ Some ms → (clause_numbered id (c ∷ cs) ≡ Some ms) ⊎ (id ≡ n)
+    go : (r : Bool) → (clause_numbered id (with_clause r n ls cs) ≡ Some ms → (clause_numbered id cs ≡ Some ms) ⊎ (id ≡ n)) → (b : Bool) → clause_numbered id (cond b (with_count r c ∷ cs) (c ∷ with_clause r n ls cs)) ≡ Some ms → (clause_numbered id (c ∷ cs) ≡ Some ms) ⊎ (id ≡ n)
     go true ih true e = inl e
     go false ih true e = inl e
     go r ih false e = behind r (eqb c.id id) ih e
@@ -234,6 +234,18 @@ stored_count n ls [] = subst (λ b. 0 < irredundant_count (cond b (Some (record 
     itself (x ∷ xs) = let e : eqb x x ≡ true = grind arith in rw e (itself xs)
 stored_count n ls (c ∷ cs) = go (stored_count n ls cs) (same_literals c.literals ls) refl
   where
-    go : 0 < irredundant_count (clause_with ls (with_clause false n ls cs)) → (b : Bool) → same_literals c.literals ls ≡ b → 0 < irredundant_count (clause_with ls (cond b (counted false c ∷ cs) (c ∷ with_clause false n ls cs)))
-    go ih true e = subst (λ b. 0 < irredundant_count (cond b (Some (counted false c)) (clause_with ls cs))) (sym e) (omega arith)
+    go : 0 < irredundant_count (clause_with ls (with_clause false n ls cs)) → (b : Bool) → same_literals c.literals ls ≡ b → 0 < irredundant_count (clause_with ls (cond b (with_count false c ∷ cs) (c ∷ with_clause false n ls cs)))
+    go ih true e = subst (λ b. 0 < irredundant_count (cond b (Some (with_count false c)) (clause_with ls cs))) (sym e) (omega arith)
     go ih false e = subst (λ b. 0 < irredundant_count (cond b (Some c) (clause_with ls (with_clause false n ls cs)))) (sym e) ih
+
+pub orderly_settled : (f : Stored) → Orderly f → Orderly (settled f)
+orderly_settled f o = go f.conflict
+  where
+    go : (x : Option (ℕ × ℕ)) → Orderly (settled_by x f)
+    go None = o
+    go (Some units) = record {
+      increasing = o.increasing;
+      below = below_more f.next_id (f.next_id + 1) (λ i h. omega arith) (ids f.clauses) o.below;
+      last_below = last_below_more f.next_id (f.next_id + 1) (λ i h. omega arith) f.last o.last_below;
+      last_holds = o.last_holds;
+    }

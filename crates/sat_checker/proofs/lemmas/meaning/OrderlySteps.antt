@@ -4,15 +4,15 @@ use Rattle.std.proofs.lemmas.Bool.{or_cases, or_left, or_right, or_parts, both_w
 use Rattle.std.specs.List.{AllByRecursion, list_any}
 use Rattle.sat_base.specs.values.Literals.{variable, negated}
 use Rattle.sat_base.specs.steps.Steps.{Redundant, Simplified, Satisfied, Step, SolverVarName, UserVarName, DeleteVar, ChangeSamplingMode, AddClause, AtClause, UnitClauses, DeleteClause, ChangeHashBits, Model, Assumptions, FailedAssumptions, End}
-use Rattle.sat_checker.specs.LiteralSets.{is_among, mentions, is_subset, is_tautology, same_literals, canonical}
+use Rattle.sat_checker.specs.LiteralSets.{is_among, mentions, is_part, is_tautology, same_literals, canonical}
 use Rattle.sat_checker.specs.Stored.{StoredClause, StoredUnit, Last, NoneYet, Empty, UnitClause, LongClause, Stored, is_unit, unit_literals}
-use Rattle.sat_checker.specs.Storing.{with_clause, clause_with, irredundant_count, discounted, unless_gone, without_clause, with_unit, with_set, unit_at, long_at, place_of, with_canonical, with_derived, with_input, with_units, with_literals_known, without_variable, clause_numbered, found}
-use Rattle.sat_checker.specs.Accepts.{IsStrictSubset, Accepts, AcceptsAll, after, stored_after}
+use Rattle.sat_checker.specs.Storing.{with_clause, clause_with, irredundant_count, without_count, unless_gone, without_clause, with_unit, with_contradiction, with_new_unit, settled, settled_by, with_set, unit_at, long_at, place_of, with_canonical, with_stored, with_input, with_units, with_literals_known, without_variable, clause_numbered, last_literals}
+use Rattle.sat_checker.specs.Accepts.{IsStrictSubset, Accepts, AcceptsAll, effect, stored_after}
 use Rattle.sat_checker.specs.inner.Marks.{IsIncreasing}
 use Rattle.sat_checker.proofs.lemmas.sets.Subsets.{subset_canonical, any_true, some_of, any_canonical}
 use Rattle.sat_checker.proofs.lemmas.meaning.Clauses.{same, others_stay, irredundant_stay}
 use Rattle.sat_checker.proofs.lemmas.meaning.Deleting.{IsUnused, left, units_of_left}
-use Rattle.sat_checker.proofs.lemmas.meaning.Orderly.{ids, Supported, LastHolds, LastBelow, Orderly, below_more, last_below_more, last_stays, numbered_above, numbered_itself, below_itself, stored_count, orderly_unit, orderly_set}
+use Rattle.sat_checker.proofs.lemmas.meaning.Orderly.{ids, Supported, LastHolds, LastBelow, Orderly, below_more, last_below_more, last_stays, numbered_above, numbered_itself, below_itself, stored_count, orderly_unit, orderly_set, orderly_settled}
 
 -- other fields don't matter
 aside : (f g : Stored) → g.clauses ≡ f.clauses → g.units ≡ f.units → g.unsat ≡ f.unsat → g.last ≡ f.last → g.next_id ≡ f.next_id → Orderly f → Orderly g
@@ -53,13 +53,13 @@ orderly_canonical f false (l ∷ []) o =
     let s = orderly_unit f l o in
     aside (record (with_unit l f) { last = unit_at l (with_unit l f).units (with_unit l f).last }) (with_canonical false (l ∷ []) f) refl refl refl (ap (unit_at l (with_unit l f).units) (same_last (is_unit f l) (is_unit f (negated l)))) refl (unit_at_orderly (with_unit l f) l (with_unit l f).units s)
   where
-    same_last : (b d : Bool) → f.last ≡ (cond b f (cond d (record f { unsat = true; next_id = f.next_id + 2 }) (record f { units = f.units ++ (record { id = f.next_id; literal = l }) ∷ []; next_id = f.next_id + 1 }))).last
+    same_last : (b d : Bool) → f.last ≡ (cond b f (cond d (with_contradiction l f) (with_new_unit l f))).last
     same_last true d = refl
     same_last false true = refl
     same_last false false = refl
 orderly_canonical f false (l ∷ m ∷ ls) o = long_at_orderly (with_set false (l ∷ m ∷ ls) f) (l ∷ m ∷ ls) (orderly_set f false (l ∷ m ∷ ls) o) (stored_count f.next_id (l ∷ m ∷ ls) f.clauses)
 
-pub orderly_derived : (f : Stored) (r : Bool) (c : List ℕ) → Orderly f → Orderly (with_derived r c f)
+pub orderly_derived : (f : Stored) (r : Bool) (c : List ℕ) → Orderly f → Orderly (with_stored r c f)
 orderly_derived f r c o = go (is_tautology c)
   where
     go : (b : Bool) → Orderly (cond b f (with_canonical r (canonical c) f))
@@ -67,7 +67,7 @@ orderly_derived f r c o = go (is_tautology c)
     go false = orderly_canonical f r (canonical c) o
 
 orderly_input : (f : Stored) (c : List ℕ) → Orderly f → Orderly (with_input c f)
-orderly_input f c o = raised (with_derived false c f) (orderly_derived f false c o)
+orderly_input f c o = raised (with_stored false c f) (orderly_derived f false c o)
   where
     raised : (g : Stored) → Orderly g → Orderly (record g { next_id = max g.next_id (f.next_id + 1) })
     raised g k = record {
@@ -89,39 +89,39 @@ ids_above : (b : ℕ) (r : Bool) (ls : List ℕ) (cs : List StoredClause) → Al
 ids_above b r ls [] h = tt
 ids_above b r ls (c ∷ cs) h = go r (ids_above b r ls cs h.1) (same_literals c.literals ls)
   where
-    left_over : (r d : Bool) → AllByRecursion (λ i. b < i) (ids (cond d [] (discounted r c ∷ []) ++ cs))
+    left_over : (r d : Bool) → AllByRecursion (λ i. b < i) (ids (cond d [] (without_count r c ∷ []) ++ cs))
     left_over r true = h.1
     left_over true false = (h.0, h.1)
     left_over false false = (h.0, h.1)
 
-    go : (r : Bool) → AllByRecursion (λ i. b < i) (ids (without_clause r ls cs)) → (d : Bool) → AllByRecursion (λ i. b < i) (ids (cond d (unless_gone (discounted r c) ++ cs) (c ∷ without_clause r ls cs)))
-    go r ih true = left_over r (eqb (discounted r c).irredundant 0 && eqb (discounted r c).redundant 0)
+    go : (r : Bool) → AllByRecursion (λ i. b < i) (ids (without_clause r ls cs)) → (d : Bool) → AllByRecursion (λ i. b < i) (ids (cond d (unless_gone (without_count r c) ++ cs) (c ∷ without_clause r ls cs)))
+    go r ih true = left_over r (eqb (without_count r c).irredundant 0 && eqb (without_count r c).redundant 0)
     go r ih false = (h.0, ih)
 
 ids_below : (n : ℕ) (r : Bool) (ls : List ℕ) (cs : List StoredClause) → AllByRecursion (λ i. i < n) (ids cs) → AllByRecursion (λ i. i < n) (ids (without_clause r ls cs))
 ids_below n r ls [] h = tt
 ids_below n r ls (c ∷ cs) h = go r (ids_below n r ls cs h.1) (same_literals c.literals ls)
   where
-    left_over : (r d : Bool) → AllByRecursion (λ i. i < n) (ids (cond d [] (discounted r c ∷ []) ++ cs))
+    left_over : (r d : Bool) → AllByRecursion (λ i. i < n) (ids (cond d [] (without_count r c ∷ []) ++ cs))
     left_over r true = h.1
     left_over true false = (h.0, h.1)
     left_over false false = (h.0, h.1)
 
-    go : (r : Bool) → AllByRecursion (λ i. i < n) (ids (without_clause r ls cs)) → (d : Bool) → AllByRecursion (λ i. i < n) (ids (cond d (unless_gone (discounted r c) ++ cs) (c ∷ without_clause r ls cs)))
-    go r ih true = left_over r (eqb (discounted r c).irredundant 0 && eqb (discounted r c).redundant 0)
+    go : (r : Bool) → AllByRecursion (λ i. i < n) (ids (without_clause r ls cs)) → (d : Bool) → AllByRecursion (λ i. i < n) (ids (cond d (unless_gone (without_count r c) ++ cs) (c ∷ without_clause r ls cs)))
+    go r ih true = left_over r (eqb (without_count r c).irredundant 0 && eqb (without_count r c).redundant 0)
     go r ih false = (h.0, ih)
 
 ids_increase : (r : Bool) (ls : List ℕ) (cs : List StoredClause) → IsIncreasing (ids cs) → IsIncreasing (ids (without_clause r ls cs))
 ids_increase r ls [] h = tt
 ids_increase r ls (c ∷ cs) h = go r (ids_increase r ls cs h.1) (same_literals c.literals ls)
   where
-    left_over : (r d : Bool) → IsIncreasing (ids (cond d [] (discounted r c ∷ []) ++ cs))
+    left_over : (r d : Bool) → IsIncreasing (ids (cond d [] (without_count r c ∷ []) ++ cs))
     left_over r true = h.1
     left_over true false = (h.0, h.1)
     left_over false false = (h.0, h.1)
 
-    go : (r : Bool) → IsIncreasing (ids (without_clause r ls cs)) → (d : Bool) → IsIncreasing (ids (cond d (unless_gone (discounted r c) ++ cs) (c ∷ without_clause r ls cs)))
-    go r ih true = left_over r (eqb (discounted r c).irredundant 0 && eqb (discounted r c).redundant 0)
+    go : (r : Bool) → IsIncreasing (ids (without_clause r ls cs)) → (d : Bool) → IsIncreasing (ids (cond d (unless_gone (without_count r c) ++ cs) (c ∷ without_clause r ls cs)))
+    go r ih true = left_over r (eqb (without_count r c).irredundant 0 && eqb (without_count r c).redundant 0)
     go r ih false = (ids_above c.id r ls cs h.0, ih)
 
 -- what an id names afterwards, it named before
@@ -135,7 +135,7 @@ numbered_before r id ls ms (c ∷ cs) h e = go r (numbered_before r id ls ms cs 
         let t : eqb c.id id ≡ false = ne_eqb c.id id (λ q. omega arith) in
         ap (λ b. cond b (Some c.literals) (clause_numbered id cs)) t ∙ k
 
-    left_over : (r d : Bool) → clause_numbered id (cond d [] (discounted r c ∷ []) ++ cs) ≡ Some ms → clause_numbered id (c ∷ cs) ≡ Some ms
+    left_over : (r d : Bool) → clause_numbered id (cond d [] (without_count r c ∷ []) ++ cs) ≡ Some ms → clause_numbered id (c ∷ cs) ≡ Some ms
     left_over r true e = later e
     left_over true false e = e
     left_over false false e = e
@@ -144,21 +144,21 @@ numbered_before r id ls ms (c ∷ cs) h e = go r (numbered_before r id ls ms cs 
     behind r true ih e = e
     behind r false ih e = ih e
 
-    go : (r : Bool) → (clause_numbered id (without_clause r ls cs) ≡ Some ms → clause_numbered id cs ≡ Some ms) → (d : Bool) → clause_numbered id (cond d (unless_gone (discounted r c) ++ cs) (c ∷ without_clause r ls cs)) ≡ Some ms → clause_numbered id (c ∷ cs) ≡ Some ms
-    go r ih true e = left_over r (eqb (discounted r c).irredundant 0 && eqb (discounted r c).redundant 0) e
+    go : (r : Bool) → (clause_numbered id (without_clause r ls cs) ≡ Some ms → clause_numbered id cs ≡ Some ms) → (d : Bool) → clause_numbered id (cond d (unless_gone (without_count r c) ++ cs) (c ∷ without_clause r ls cs)) ≡ Some ms → clause_numbered id (c ∷ cs) ≡ Some ms
+    go r ih true e = left_over r (eqb (without_count r c).irredundant 0 && eqb (without_count r c).redundant 0) e
     go r ih false e = behind r (eqb c.id id) ih e
 
 -- a count may be taken where what supported the last clause supports it still
-last_without : (f : Stored) (r : Bool) (ls : List ℕ) → Orderly f → ((ms : List ℕ) → found f.last f ≡ Some ms → Supported (unit_literals f) f.clauses ms → Supported (unit_literals f) (without_clause r ls f.clauses) ms) → LastHolds f.last f.unsat (unit_literals f) (without_clause r ls f.clauses)
+last_without : (f : Stored) (r : Bool) (ls : List ℕ) → Orderly f → ((ms : List ℕ) → last_literals f.last f ≡ Some ms → Supported (unit_literals f) f.clauses ms → Supported (unit_literals f) (without_clause r ls f.clauses) ms) → LastHolds f.last f.unsat (unit_literals f) (without_clause r ls f.clauses)
 last_without f r ls o w = go f.last o.last_holds w
   where
-    go : (last : Last) → LastHolds last f.unsat (unit_literals f) f.clauses → ((ms : List ℕ) → found last f ≡ Some ms → Supported (unit_literals f) f.clauses ms → Supported (unit_literals f) (without_clause r ls f.clauses) ms) → LastHolds last f.unsat (unit_literals f) (without_clause r ls f.clauses)
+    go : (last : Last) → LastHolds last f.unsat (unit_literals f) f.clauses → ((ms : List ℕ) → last_literals last f ≡ Some ms → Supported (unit_literals f) f.clauses ms → Supported (unit_literals f) (without_clause r ls f.clauses) ms) → LastHolds last f.unsat (unit_literals f) (without_clause r ls f.clauses)
     go NoneYet h w = tt
     go Empty h w = h
     go (UnitClause id) h w = tt
     go (LongClause id) h w = λ ms e. let k = numbered_before r id ls ms f.clauses o.increasing e in w ms k (h ms k)
 
-orderly_without : (f : Stored) (r : Bool) (ls : List ℕ) → Orderly f → ((ms : List ℕ) → found f.last f ≡ Some ms → Supported (unit_literals f) f.clauses ms → Supported (unit_literals f) (without_clause r ls f.clauses) ms) → Orderly (record f { clauses = without_clause r ls f.clauses })
+orderly_without : (f : Stored) (r : Bool) (ls : List ℕ) → Orderly f → ((ms : List ℕ) → last_literals f.last f ≡ Some ms → Supported (unit_literals f) f.clauses ms → Supported (unit_literals f) (without_clause r ls f.clauses) ms) → Orderly (record f { clauses = without_clause r ls f.clauses })
 orderly_without f r ls o w = record {
   increasing = ids_increase r ls f.clauses o.increasing;
   below = ids_below f.next_id r ls f.clauses o.below;
@@ -172,11 +172,11 @@ others_supported us ms ls r cs n (inl t) = inl t
 others_supported us ms ls r cs n (inr k) = inr (subst (λ x. 0 < irredundant_count x) (sym (others_stay r ms ls cs n)) k)
 
 -- a strict part of a clause is another clause
-pub strict_differs : (ms c : List ℕ) → is_subset c ms ≡ false → same_literals ms (canonical c) ≡ false
+pub strict_differs : (ms c : List ℕ) → is_part c ms ≡ false → same_literals ms (canonical c) ≡ false
 strict_differs ms c s = go (same_literals ms (canonical c)) refl
   where
     go : (b : Bool) → same_literals ms (canonical c) ≡ b → b ≡ false
-    go true e = absurd (both_ways (is_subset c ms) s (subst (λ x. is_subset c x ≡ true) (sym (same ms (canonical c) e)) (subset_canonical c)))
+    go true e = absurd (both_ways (is_part c ms) s (subst (λ x. is_part c x ≡ true) (sym (same ms (canonical c) e)) (subset_canonical c)))
     go false e = refl
 
 satisfied_supports : (f : Stored) (c : List ℕ) → list_any (is_unit f) c ≡ true → (ms : List ℕ) → Supported (unit_literals f) f.clauses ms → Supported (unit_literals f) (without_clause false (canonical c) f.clauses) ms
@@ -186,7 +186,7 @@ satisfied_supports f c t ms s = go (same_literals ms (canonical c)) refl
     go true e = inl (subst (λ x. list_any (is_unit f) x ≡ true) (sym (same ms (canonical c) e)) (any_canonical (is_unit f) c t))
     go false e = others_supported (unit_literals f) ms (canonical c) false f.clauses e s
 
-simplified_supports : (f : Stored) (c : List ℕ) → IsStrictSubset (found f.last f) c → (ms : List ℕ) → found f.last f ≡ Some ms → Supported (unit_literals f) f.clauses ms → Supported (unit_literals f) (without_clause false (canonical c) f.clauses) ms
+simplified_supports : (f : Stored) (c : List ℕ) → IsStrictSubset (last_literals f.last f) c → (ms : List ℕ) → last_literals f.last f ≡ Some ms → Supported (unit_literals f) f.clauses ms → Supported (unit_literals f) (without_clause false (canonical c) f.clauses) ms
 simplified_supports f c p ms e s =
     let q : IsStrictSubset (Some ms) c = subst (λ x. IsStrictSubset x c) e p in
     others_supported (unit_literals f) ms (canonical c) false f.clauses (strict_differs ms c q.1) s
@@ -233,29 +233,29 @@ orderly_deleted f v u o = record {
   last_holds = subst (λ us. LastHolds f.last f.unsat us f.clauses) (sym (units_of_left v f.units)) (last_left v f.last f.unsat (unit_literals f) f.clauses u o.last_holds);
 }
 
-pub orderly_after : (step : Step) (f : Stored) → Accepts f step → Orderly f → Orderly (after step f)
-orderly_after (SolverVarName v None) f a o = aside f (after (SolverVarName v None) f) refl refl refl refl refl o
-orderly_after (SolverVarName v (Some n)) f a o = aside f (after (SolverVarName v (Some n)) f) refl refl refl refl refl o
-orderly_after (UserVarName v (Some n)) f a o = aside f (after (UserVarName v (Some n)) f) refl refl refl refl refl o
-orderly_after (UserVarName v None) f a o = aside f (after (UserVarName v None) f) refl refl refl refl refl o
-orderly_after (DeleteVar v) f a o = orderly_deleted f v a.unused o
-orderly_after (ChangeSamplingMode v s) f a o = aside f (after (ChangeSamplingMode v s) f) refl refl refl refl refl o
-orderly_after (AddClause c) f a o = go f.unsat
+pub orderly_effect : (step : Step) (f : Stored) → Accepts f step → Orderly f → Orderly (effect step f)
+orderly_effect (SolverVarName v None) f a o = aside f (effect (SolverVarName v None) f) refl refl refl refl refl o
+orderly_effect (SolverVarName v (Some n)) f a o = aside f (effect (SolverVarName v (Some n)) f) refl refl refl refl refl o
+orderly_effect (UserVarName v (Some n)) f a o = aside f (effect (UserVarName v (Some n)) f) refl refl refl refl refl o
+orderly_effect (UserVarName v None) f a o = aside f (effect (UserVarName v None) f) refl refl refl refl refl o
+orderly_effect (DeleteVar v) f a o = orderly_deleted f v a.unused o
+orderly_effect (ChangeSamplingMode v s) f a o = aside f (effect (ChangeSamplingMode v s) f) refl refl refl refl refl o
+orderly_effect (AddClause c) f a o = go f.unsat
   where
     go : (b : Bool) → Orderly (cond b f (with_input c (with_literals_known c f)))
     go true = o
     go false = orderly_input (with_literals_known c f) c (orderly_known f c o)
-orderly_after (AtClause r c hs) f a o = orderly_derived (with_literals_known c f) r c (orderly_known f c o)
-orderly_after (UnitClauses us) f a o = orderly_units (map (λ u. u.0) us) (with_literals_known (map (λ u. u.0) us) f) (orderly_known f (map (λ u. u.0) us) o)
-orderly_after (DeleteClause c Redundant) f a o = orderly_without f true (canonical c) o (λ ms e s. elim s [ inl t ↦ inl t | inr n ↦ inr (irredundant_stay ms (canonical c) f.clauses n) ])
-orderly_after (DeleteClause c Satisfied) f a o = orderly_without f false (canonical c) o (λ ms e s. satisfied_supports f c a.1 ms s)
-orderly_after (DeleteClause c Simplified) f a o = orderly_without f false (canonical c) o (simplified_supports f c a.1)
-orderly_after (ChangeHashBits n) f a o = aside f (after (ChangeHashBits n) f) refl refl refl refl refl o
-orderly_after (Model ls) f a o = orderly_known f ls o
-orderly_after (Assumptions ls) f a o = aside f (after (Assumptions ls) f) refl refl refl refl refl o
-orderly_after (FailedAssumptions c hs) f a o = o
-orderly_after End f a o = aside f (after End f) refl refl refl refl refl o
+orderly_effect (AtClause r c hs) f a o = orderly_derived (with_literals_known c f) r c (orderly_known f c o)
+orderly_effect (UnitClauses us) f a o = orderly_units (map (λ u. u.0) us) (with_literals_known (map (λ u. u.0) us) f) (orderly_known f (map (λ u. u.0) us) o)
+orderly_effect (DeleteClause c Redundant) f a o = orderly_without f true (canonical c) o (λ ms e s. elim s [ inl t ↦ inl t | inr n ↦ inr (irredundant_stay ms (canonical c) f.clauses n) ])
+orderly_effect (DeleteClause c Satisfied) f a o = orderly_without f false (canonical c) o (λ ms e s. satisfied_supports f c a.1 ms s)
+orderly_effect (DeleteClause c Simplified) f a o = orderly_without f false (canonical c) o (simplified_supports f c a.1)
+orderly_effect (ChangeHashBits n) f a o = aside f (effect (ChangeHashBits n) f) refl refl refl refl refl o
+orderly_effect (Model ls) f a o = orderly_known f ls o
+orderly_effect (Assumptions ls) f a o = aside f (effect (Assumptions ls) f) refl refl refl refl refl o
+orderly_effect (FailedAssumptions c hs) f a o = o
+orderly_effect End f a o = aside f (effect End f) refl refl refl refl refl o
 
 pub orderly : (steps : List Step) → AcceptsAll steps → Orderly (stored_after steps)
 orderly [] a = record { increasing = tt; below = tt; last_below = tt; last_holds = tt }
-orderly (step ∷ earlier) a = orderly_after step (stored_after earlier) a.1 (orderly earlier a.0)
+orderly (step ∷ earlier) a = orderly_effect step (settled (stored_after earlier)) a.1 (orderly_settled (stored_after earlier) (orderly earlier a.0))

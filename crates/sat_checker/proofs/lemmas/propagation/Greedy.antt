@@ -5,7 +5,7 @@ use Rattle.std.specs.List.{AllByRecursion}
 use Rattle.sat_base.specs.values.Literals.{negated}
 use Rattle.sat_checker.specs.LiteralSets.{is_among}
 use Rattle.sat_checker.specs.inner.Marks.{NoRepeats}
-use Rattle.sat_checker.specs.Propagation.{IsFalsified, IsUnit, UnitInTurn, IsSubsequence, joined, LeadToConflict}
+use Rattle.sat_checker.specs.Propagation.{IsFalsified, IsUnit, UnitInTurn, IsSubsequence, clauses_in, LeadToConflict}
 use Rattle.sat_checker.specs.inner.Walk.{opens, rests, verdict, verdict_of_open, not_false, walk, walk_on, and_then, walk_buckets, if_conflict}
 
 abbrev IsFalse : List ℕ → ℕ → Type 0
@@ -80,17 +80,17 @@ IsSubsequence-longer [] y ys h = tt
 IsSubsequence-longer (x ∷ xs) y ys h = inr h
 
 record Runs (assumed : List ℕ) (clauses : List (List ℕ)) : Type 0 where
-  named : List (List ℕ)
-  chosen : IsSubsequence named clauses
-  conflict : UnitInTurn assumed named
+  picked : List (List ℕ)
+  chosen : IsSubsequence picked clauses
+  conflict : UnitInTurn assumed picked
 
 -- one more clause in front, which is unit
 unit_first : (assumed clause : List ℕ) (o : ℕ) (rest : List (List ℕ)) → IsUnit assumed clause o → Runs (o ∷ assumed) rest → Runs assumed (clause ∷ rest)
-unit_first assumed clause o rest u r = go r.named r.chosen r.conflict
+unit_first assumed clause o rest u r = go r.picked r.chosen r.conflict
   where
     go : (named : List (List ℕ)) → IsSubsequence named rest → UnitInTurn (o ∷ assumed) named → Runs assumed (clause ∷ rest)
     go [] s c = absurd c
-    go (d ∷ ds) s c = record { named = clause ∷ d ∷ ds; chosen = inl (refl, s); conflict = (o, u, c) }
+    go (d ∷ ds) s c = record { picked = clause ∷ d ∷ ds; chosen = inl (refl, s); conflict = (o, u, c) }
 
 -- where the walk meets a conflict, some of the clauses run to one
 walk_runs : (clauses : List (List ℕ)) (assumed : List ℕ) → walk assumed clauses ≡ None → Runs assumed clauses
@@ -98,15 +98,15 @@ walk_runs [] assumed e = absurd cc
 walk_runs (c ∷ cs) assumed e = by_open (walk_runs cs) (not_false assumed c) refl e
   where
     by_mark : ((more : List ℕ) → walk more cs ≡ None → Runs more cs) → (o : ℕ) → not_false assumed c ≡ o ∷ [] → (b : Bool) → is_among assumed o ≡ b → and_then (walk_on (cond b rests (opens o)) assumed) (λ more. walk more cs) ≡ None → Runs assumed (c ∷ cs)
-    by_mark ih o h true m e' = let r = ih assumed e' in record { named = r.named; chosen = IsSubsequence-longer r.named c cs r.chosen; conflict = r.conflict }
+    by_mark ih o h true m e' = let r = ih assumed e' in record { picked = r.picked; chosen = IsSubsequence-longer r.picked c cs r.chosen; conflict = r.conflict }
     by_mark ih o h false m e' =
         let k = one_open assumed c o h in
         unit_first assumed c o cs (record { within = k.within; not_true = m; not_false = k.not_false; others = k.others }) (ih (o ∷ assumed) e')
 
     by_open : ((more : List ℕ) → walk more cs ≡ None → Runs more cs) → (ls : List ℕ) → not_false assumed c ≡ ls → and_then (walk_on (verdict_of_open assumed ls) assumed) (λ more. walk more cs) ≡ None → Runs assumed (c ∷ cs)
-    by_open ih [] h e' = record { named = c ∷ []; chosen = inl (refl, tt); conflict = none_open assumed c h }
+    by_open ih [] h e' = record { picked = c ∷ []; chosen = inl (refl, tt); conflict = none_open assumed c h }
     by_open ih (o ∷ []) h e' = by_mark ih o h (is_among assumed o) refl e'
-    by_open ih (o ∷ p ∷ ls) h e' = let r = ih assumed e' in record { named = r.named; chosen = IsSubsequence-longer r.named c cs r.chosen; conflict = r.conflict }
+    by_open ih (o ∷ p ∷ ls) h e' = let r = ih assumed e' in record { picked = r.picked; chosen = IsSubsequence-longer r.picked c cs r.chosen; conflict = r.conflict }
 
 -- every literal of the first list is in the second
 pub record Within (fewer more : List ℕ) : Type 0 where
@@ -196,7 +196,7 @@ record Front (assumed : List ℕ) (buckets : List (List (List ℕ))) : Type 0 wh
   rest : List (List (List ℕ))
   split : buckets ≡ first ++ rest
   none_empty : AllByRecursion (λ b. b ≢ []) first
-  met : walk assumed (joined first) ≡ None
+  met : walk assumed (clauses_in first) ≡ None
 
 walk_front : (buckets : List (List (List ℕ))) (assumed : List ℕ) → walk_buckets assumed buckets ≡ true → Front assumed buckets
 walk_front [] assumed e = absurd (true≢false (sym e))
@@ -213,15 +213,15 @@ walk_front ((c ∷ cs) ∷ bs) assumed e = go (walk_front bs) (walk assumed (c �
           rest = f.rest;
           split = ap (λ b. (c ∷ cs) ∷ b) f.split;
           none_empty = ((λ k. cc), f.none_empty);
-          met = walk-append (c ∷ cs) (joined f.first) assumed ∙ ap (λ o. and_then o (λ more. walk more (joined f.first))) h ∙ f.met;
+          met = walk-append (c ∷ cs) (clauses_in f.first) assumed ∙ ap (λ o. and_then o (λ more. walk more (clauses_in f.first))) h ∙ f.met;
         }
 
-walk_over : (first rest : List (List (List ℕ))) (assumed : List ℕ) → AllByRecursion (λ b. b ≢ []) first → walk assumed (joined first) ≡ None → walk_buckets assumed (first ++ rest) ≡ true
+walk_over : (first rest : List (List (List ℕ))) (assumed : List ℕ) → AllByRecursion (λ b. b ≢ []) first → walk assumed (clauses_in first) ≡ None → walk_buckets assumed (first ++ rest) ≡ true
 walk_over [] rest assumed n e = absurd cc
 walk_over ([] ∷ fs) rest assumed n e = absurd (n.0 refl)
-walk_over ((c ∷ cs) ∷ fs) rest assumed n e = go (λ m. walk_over fs rest m n.1) (walk assumed (c ∷ cs)) (sym (walk-append (c ∷ cs) (joined fs) assumed) ∙ e)
+walk_over ((c ∷ cs) ∷ fs) rest assumed n e = go (λ m. walk_over fs rest m n.1) (walk assumed (c ∷ cs)) (sym (walk-append (c ∷ cs) (clauses_in fs) assumed) ∙ e)
   where
-    go : ((m : List ℕ) → walk m (joined fs) ≡ None → walk_buckets m (fs ++ rest) ≡ true) → (o : Option (List ℕ)) → and_then o (λ more. walk more (joined fs)) ≡ None → if_conflict o (λ m. walk_buckets m (fs ++ rest)) ≡ true
+    go : ((m : List ℕ) → walk m (clauses_in fs) ≡ None → walk_buckets m (fs ++ rest) ≡ true) → (o : Option (List ℕ)) → and_then o (λ more. walk more (clauses_in fs)) ≡ None → if_conflict o (λ m. walk_buckets m (fs ++ rest)) ≡ true
     go ih None e' = refl
     go ih (Some m) e' = ih m e'
 
@@ -229,20 +229,20 @@ walk_over ((c ∷ cs) ∷ fs) rest assumed n e = go (λ m. walk_over fs rest m n
 pub rule_from_walk : (assumed : List ℕ) (buckets : List (List (List ℕ))) → walk_buckets assumed buckets ≡ true → LeadToConflict assumed buckets
 rule_from_walk assumed buckets e =
     let f = walk_front buckets assumed e in
-    let r = walk_runs (joined f.first) assumed f.met in
-    record { first = f.first; rest = f.rest; named = r.named; split = f.split; none_empty = f.none_empty; chosen = r.chosen; conflict = r.conflict }
+    let r = walk_runs (clauses_in f.first) assumed f.met in
+    record { first = f.first; rest = f.rest; picked = r.picked; split = f.split; none_empty = f.none_empty; chosen = r.chosen; conflict = r.conflict }
 
-joined_front : (first rest : List (List (List ℕ))) → AllByRecursion (AllByRecursion NoRepeats) (first ++ rest) → AllByRecursion NoRepeats (joined first)
+joined_front : (first rest : List (List (List ℕ))) → AllByRecursion (AllByRecursion NoRepeats) (first ++ rest) → AllByRecursion NoRepeats (clauses_in first)
 joined_front [] rest h = tt
-joined_front (b ∷ bs) rest h = both b (joined bs) h.0 (joined_front bs rest h.1)
+joined_front (b ∷ bs) rest h = both b (clauses_in bs) h.0 (joined_front bs rest h.1)
   where
     both : (xs ys : List (List ℕ)) → AllByRecursion NoRepeats xs → AllByRecursion NoRepeats ys → AllByRecursion NoRepeats (xs ++ ys)
     both [] ys p q = q
     both (x ∷ xs) ys p q = (p.0, both xs ys p.1 q)
 
--- and a conflict by the rule is found, also with more literals assumed
+-- and a conflict by the rule is last_literals, also with more literals assumed
 pub walk_from_rule : (fewer more : List ℕ) (buckets : List (List (List ℕ))) → Within fewer more → AllByRecursion (AllByRecursion NoRepeats) buckets → LeadToConflict fewer buckets → walk_buckets more buckets ≡ true
 walk_from_rule fewer more buckets w n h =
     let n' : AllByRecursion (AllByRecursion NoRepeats) (h.first ++ h.rest) = subst (AllByRecursion (AllByRecursion NoRepeats)) h.split n in
     subst (λ b. walk_buckets more b ≡ true) (sym h.split)
-    (walk_over h.first h.rest more h.none_empty (walk_finds (joined h.first) fewer more w (joined_front h.first h.rest n') h.named h.chosen h.conflict))
+    (walk_over h.first h.rest more h.none_empty (walk_finds (clauses_in h.first) fewer more w (joined_front h.first h.rest n') h.picked h.chosen h.conflict))

@@ -5,8 +5,8 @@ use Rattle.std.specs.List.{AllByRecursion, list_any}
 use Rattle.sat_base.specs.values.Literals.{negated}
 use Rattle.sat_base.specs.values.Clauses.{Valuation, literal_true, clause_true, EachTrue, EachHolds}
 use Rattle.sat_checker.specs.LiteralSets.{is_among, is_tautology}
-use Rattle.sat_checker.specs.Propagation.{IsFalsified, UnitInTurn, IsSubsequence, joined, PassesCheck, tautology, unit_true, conflict}
-use Rattle.sat_checker.specs.Stored.{Stored, unit_literals, all_literals, hash_by, bucket}
+use Rattle.sat_checker.specs.Propagation.{IsFalsified, UnitInTurn, IsSubsequence, clauses_in, PassesCheck, tautology, unit_true, conflict}
+use Rattle.sat_checker.specs.Stored.{Stored, unit_literals, long_clauses, hash_by, bucket}
 use Rattle.sat_checker.specs.Accepts.{Passes}
 
 pub negated-negated : (l : ℕ) → negated (negated l) ≡ l
@@ -88,12 +88,12 @@ EachHolds-both : (a : Valuation) (xs ys : List (List ℕ)) → EachHolds a xs �
 EachHolds-both a [] ys p q = q
 EachHolds-both a (x ∷ xs) ys p q = (p.0, EachHolds-both a xs ys p.1 q)
 
-EachHolds-buckets : (a : Valuation) (first rest buckets : List (List (List ℕ))) → AllByRecursion (EachHolds a) buckets → buckets ≡ first ++ rest → EachHolds a (joined first)
+EachHolds-buckets : (a : Valuation) (first rest buckets : List (List (List ℕ))) → AllByRecursion (EachHolds a) buckets → buckets ≡ first ++ rest → EachHolds a (clauses_in first)
 EachHolds-buckets a first rest buckets h e = go first (subst (AllByRecursion (EachHolds a)) e h)
   where
-    go : (bs : List (List (List ℕ))) → AllByRecursion (EachHolds a) (bs ++ rest) → EachHolds a (joined bs)
+    go : (bs : List (List (List ℕ))) → AllByRecursion (EachHolds a) (bs ++ rest) → EachHolds a (clauses_in bs)
     go [] k = tt
-    go (b ∷ bs) k = EachHolds-both a b (joined bs) k.0 (go bs k.1)
+    go (b ∷ bs) k = EachHolds-both a b (clauses_in bs) k.0 (go bs k.1)
 
 -- a clause with both signs of a variable is true
 pub member_true : (a : Valuation) (ls : List ℕ) (l : ℕ) → is_among ls l ≡ true → literal_true a l ≡ true → clause_true a ls ≡ true
@@ -130,13 +130,13 @@ passed_holds units clause buckets a (unit_true e) u h = unit_in_clause a units c
 passed_holds units clause buckets a (conflict k) u h =
     elim (cases_Bool (clause_true a clause)) [
       | inl t ↦ t
-      | inr n ↦ absurd (conflict_never a (map negated clause ++ units) k.named (EachTrue-both a (map negated clause) units (negations_true a clause n) u) (EachHolds-chosen a k.named (joined k.first) k.chosen (EachHolds-buckets a k.first k.rest buckets h k.split)) k.conflict)
+      | inr n ↦ absurd (conflict_never a (map negated clause ++ units) k.picked (EachTrue-both a (map negated clause) units (negations_true a clause n) u) (EachHolds-chosen a k.picked (clauses_in k.first) k.chosen (EachHolds-buckets a k.first k.rest buckets h k.split)) k.conflict)
     ]
 
-buckets_hold : (f : Stored) (hashes : List ℕ) (a : Valuation) → EachHolds a (all_literals f) → AllByRecursion (EachHolds a) (map (bucket f) hashes)
+buckets_hold : (f : Stored) (hashes : List ℕ) (a : Valuation) → EachHolds a (long_clauses f) → AllByRecursion (EachHolds a) (map (bucket f) hashes)
 buckets_hold f [] a h = tt
-buckets_hold f (k ∷ ks) a h = (EachHolds-filter a (λ c. eqb (hash_by f.solver_names f.width c) k) (all_literals f) h, buckets_hold f ks a h)
+buckets_hold f (k ∷ ks) a h = (EachHolds-filter a (λ c. eqb (hash_by f.solver_names f.width c) k) (long_clauses f) h, buckets_hold f ks a h)
 
 -- a clause that passes is true wherever the stored units and clauses are
-pub derived_hold : (f : Stored) (clause hashes : List ℕ) (a : Valuation) → Passes f clause hashes → EachTrue a (unit_literals f) → EachHolds a (all_literals f) → clause_true a clause ≡ true
+pub derived_hold : (f : Stored) (clause hashes : List ℕ) (a : Valuation) → Passes f clause hashes → EachTrue a (unit_literals f) → EachHolds a (long_clauses f) → clause_true a clause ≡ true
 derived_hold f clause hashes a p u h = passed_holds (unit_literals f) clause (map (bucket f) hashes) a p u (buckets_hold f hashes a h)

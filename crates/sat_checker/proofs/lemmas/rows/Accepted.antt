@@ -9,9 +9,10 @@ use Rattle.sat_checker.specs.LiteralSets.{is_tautology}
 use Rattle.sat_checker.specs.inner.Marks.{NoRepeats}
 use Rattle.sat_checker.specs.Propagation.{tautology, unit_true, conflict}
 use Rattle.sat_checker.specs.Stored.{Stored, Variable, Sample, Hide, unknown, is_unit, unit_literals, bucket}
+use Rattle.sat_checker.specs.Storing.{with_unit}
 use Rattle.sat_checker.specs.Accepts.{Passes, MayGetName}
 use Rattle.sat_checker.specs.inner.Walk.{walk_buckets}
-use Rattle.sat_checker.specs.Rows.{left_by, AllAccepted, HashesOfOneTwo, EndAlone, NamedAgain, four_clauses as four, FourClauses, Refuted, RefutedAtZero, StoredTwice, three_at_zero, NamedOnce, NamedTwice, Colliding, SolverNamesHash, UnitConflict}
+use Rattle.sat_checker.specs.Rows.{ready_by, AllAccepted, HashesOfOneTwo, EndAlone, NamedAgain, four_clauses as four, FourClauses, Refuted, RefutedAtZero, StoredTwice, three_at_zero, NamedOnce, NamedTwice, Colliding, SolverNamesHash, UnitConflict, ConflictAndUnit}
 use Rattle.sat_checker.proofs.lemmas.propagation.Greedy.{rule_from_walk, walk_from_rule}
 
 pub of_one_two : HashesOfOneTwo
@@ -44,8 +45,8 @@ all_four = four_clauses.0
 pub refuted_twice : Refuted
 refuted_twice = (
   (
-    (all_four, walked (left_by four) (0 ∷ []) (hash_of (0 ∷ 2 ∷ []) ∷ hash_of (0 ∷ 3 ∷ []) ∷ []) refl),
-    walked (left_by (four ++ AtClause false (0 ∷ []) (hash_of (0 ∷ 2 ∷ []) ∷ hash_of (0 ∷ 3 ∷ []) ∷ []) ∷ [])) [] (hash_of (1 ∷ 2 ∷ []) ∷ hash_of (1 ∷ 3 ∷ []) ∷ []) refl,
+    (all_four, walked (ready_by four) (0 ∷ []) (hash_of (0 ∷ 2 ∷ []) ∷ hash_of (0 ∷ 3 ∷ []) ∷ []) refl),
+    walked (ready_by (four ++ AtClause false (0 ∷ []) (hash_of (0 ∷ 2 ∷ []) ∷ hash_of (0 ∷ 3 ∷ []) ∷ []) ∷ [])) [] (hash_of (1 ∷ 2 ∷ []) ∷ hash_of (1 ∷ 3 ∷ []) ∷ []) refl,
   ),
   refl,
   refl,
@@ -55,8 +56,8 @@ refuted_twice = (
 pub refuted_at_zero : RefutedAtZero
 refuted_at_zero = (
   (
-    ((all_four, tt), walked (left_by (four ++ ChangeHashBits 0 ∷ [])) (0 ∷ []) (0 ∷ []) refl),
-    walked (left_by (four ++ ChangeHashBits 0 ∷ AtClause false (0 ∷ []) (0 ∷ []) ∷ [])) [] (0 ∷ []) refl,
+    ((all_four, tt), walked (ready_by (four ++ ChangeHashBits 0 ∷ [])) (0 ∷ []) (0 ∷ []) refl),
+    walked (ready_by (four ++ ChangeHashBits 0 ∷ AtClause false (0 ∷ []) (0 ∷ []) ∷ [])) [] (0 ∷ []) refl,
   ),
   refl,
   refl,
@@ -65,25 +66,35 @@ refuted_at_zero = (
 
 pub stored_twice : StoredTwice
 stored_twice =
-    let f : Stored = left_by (AddClause (0 ∷ 2 ∷ []) ∷ AddClause (2 ∷ 0 ∷ 0 ∷ []) ∷ []) in
+    let f : Stored = ready_by (AddClause (0 ∷ 2 ∷ []) ∷ AddClause (2 ∷ 0 ∷ 0 ∷ []) ∷ []) in
     (((((tt, inr (refl, (refl, tt))), inr (refl, (refl, (refl, tt))))), stuck f (4 ∷ []) [] refl refl tt refl), refl, refl)
 
 three_accepted : AllAccepted three_at_zero
 three_accepted = ((((tt, tt), inr (refl, (refl, (refl, tt)))), inr (refl, (refl, tt))), inr (refl, (refl, tt)))
 
 pub named_once : NamedOnce
-named_once = (three_accepted, stuck (left_by three_at_zero) (0 ∷ 4 ∷ []) (0 ∷ []) refl refl (((refl, (refl, (refl, tt))), ((refl, (refl, tt)), ((refl, (refl, tt)), tt))), tt) refl)
+named_once = (three_accepted, stuck (ready_by three_at_zero) (0 ∷ 4 ∷ []) (0 ∷ []) refl refl (((refl, (refl, (refl, tt))), ((refl, (refl, tt)), ((refl, (refl, tt)), tt))), tt) refl)
 
 pub twice : NamedTwice
-twice = ((three_accepted, walked (left_by three_at_zero) (0 ∷ 4 ∷ []) (0 ∷ 0 ∷ []) refl), refl)
+twice = ((three_accepted, walked (ready_by three_at_zero) (0 ∷ 4 ∷ []) (0 ∷ 0 ∷ []) refl), refl)
 
 pub solver_names : SolverNamesHash
 solver_names =
-    let f : Stored = left_by (AddClause (0 ∷ 2 ∷ []) ∷ SolverVarName 0 (Some 5) ∷ AddClause (1 ∷ []) ∷ []) in
+    let f : Stored = ready_by (AddClause (0 ∷ 2 ∷ []) ∷ SolverVarName 0 (Some 5) ∷ AddClause (1 ∷ []) ∷ []) in
     ((((tt, inr (refl, (refl, tt))), tt), inr (refl, tt)), stuck f (2 ∷ []) (hash_of (0 ∷ 2 ∷ []) ∷ []) refl refl (tt, tt) refl)
 
 pub unit_conflict : UnitConflict
-unit_conflict = (((tt, inr (refl, tt)), inr (refl, tt)), refl, refl, refl)
+unit_conflict = (((tt, inr (refl, tt)), inr (refl, tt)), refl, refl, refl, refl, refl)
+
+pub unit_behind : ConflictAndUnit
+unit_behind =
+    let before : List Step = ChangeHashBits 0 ∷ AddClause (0 ∷ []) ∷ AddClause (1 ∷ 2 ∷ []) ∷ AddClause (1 ∷ 3 ∷ []) ∷ [] in
+    let f : Stored = ready_by before in
+    (
+      (((((tt, tt), inr (refl, tt)), inr (refl, (refl, tt))), inr (refl, (refl, tt))),
+      (walked f (1 ∷ []) (0 ∷ []) refl, (walked (with_unit 1 f) (1 ∷ []) (0 ∷ []) refl, (walked (with_unit 1 (with_unit 1 f)) (4 ∷ []) (0 ∷ []) refl, tt)))),
+      refl, refl, refl,
+    )
 
 named_first : Variable
 named_first = record { known = true; mode = Sample; name = Some 0 }
@@ -102,7 +113,7 @@ named = (
   refl,
 )
 
-two_more : MayGetName (left_by (UserVarName 0 (Some 0) ∷ SolverVarName 0 (Some 0) ∷ [])) 1 1
+two_more : MayGetName (ready_by (UserVarName 0 (Some 0) ∷ SolverVarName 0 (Some 0) ∷ [])) 1 1
 two_more = record { free = λ w e. one_name (eqb w 0) (eqb 0 w || false) e; nameless = refl; not_hidden = λ e. cc }
   where
     one_name : (b d : Bool) → (cond d (record (cond b (record { known = true; mode = Sample; name = Some 0 }) unknown) { known = true }) (cond b (record { known = true; mode = Sample; name = Some 0 }) unknown)).name ≢ Some 1
@@ -120,4 +131,4 @@ collide =
     let before : List Step = names_of_two ++ four ++ Assumptions [] ∷ ChangeHashBits 8 ∷ [] in
     let first : Step = AtClause false (0 ∷ []) (0x44 ∷ 0xe6 ∷ []) in
     let second : Step = UnitClauses ((2, 0xe6) ∷ []) in
-    ((((((((((((((((tt, record { free = λ w e. none_some 0 e; nameless = refl; not_hidden = λ e. cc }), tt), two_more), tt), inr (refl, (refl, tt))), inr (refl, (refl, tt))), inr (refl, (refl, tt))), inr (refl, (refl, tt))), tt), tt), walked (left_by before) (0 ∷ []) (0x44 ∷ 0xe6 ∷ []) refl), (walked (left_by (before ++ first ∷ [])) (2 ∷ []) (0xe6 ∷ []) refl, tt)), walked (left_by (before ++ first ∷ second ∷ [])) [] (0x44 ∷ []) refl), tt), tt), refl, refl)
+    ((((((((((((((((tt, record { free = λ w e. none_some 0 e; nameless = refl; not_hidden = λ e. cc }), tt), two_more), tt), inr (refl, (refl, tt))), inr (refl, (refl, tt))), inr (refl, (refl, tt))), inr (refl, (refl, tt))), tt), tt), walked (ready_by before) (0 ∷ []) (0x44 ∷ 0xe6 ∷ []) refl), (walked (ready_by (before ++ first ∷ [])) (2 ∷ []) (0xe6 ∷ []) refl, tt)), walked (ready_by (before ++ first ∷ second ∷ [])) [] (0x44 ∷ []) refl), tt), tt), refl, refl)
