@@ -4,7 +4,7 @@ use Rattle.std.specs.List.{AllByRecursion}
 use Rattle.sat_base.specs.values.Clauses.{Valuation, EachTrue}
 use Rattle.sat_base.specs.steps.Steps.{Step, UserVarName, DeleteVar, Model, FailedAssumptions}
 use Rattle.sat_checker.specs.LiteralSets.{is_among}
-use Rattle.sat_checker.specs.Stored.{Stored, unit_literals, is_known, name_of, Satisfies}
+use Rattle.sat_checker.specs.Stored.{Stored, unknown, unit_literals, is_known, name_of, Satisfies}
 use Rattle.sat_checker.specs.Accepts.{Accepts, AcceptsAll, effect, ready_after}
 use Rattle.sat_checker.specs.Fold.{Holds}
 
@@ -45,6 +45,10 @@ DeletedIsNameless = (f : Stored) (v : ℕ) → Accepts f (DeleteVar v) → name_
 -- no two variables have one name
 abbrev pub NamesApart : Type 0
 NamesApart = (steps : List Step) (v w name : ℕ) → AcceptsAll steps → name_of v (ready_after steps) ≡ Some name → name_of w (ready_after steps) ≡ Some name → v ≡ w
+
+-- a variable that isn't known is as it was at first
+abbrev pub UnknownIsUnknown : Type 0
+UnknownIsUnknown = (steps : List Step) (v : ℕ) → AcceptsAll steps → is_known v (ready_after steps) ≡ false → (ready_after steps).variables v ≡ unknown
 
 abbrev pub has_delete_var : List Step → Bool
 has_delete_var [] = false

@@ -1,5 +1,29 @@
 //! What holds of the definitions: each law is the contract of a function that does nothing.
+ghost use Rattle.sat_checker.specs.Laws.{CoresAssumed, CoresFail, DeletedIsNameless, DeletionIsSeen, FormulaIsFold, KnownStays, ModelsExtend, NamedIsKnown, NamesApart, UnknownIsUnknown, UnsatMeansNone};
 ghost use Rattle.sat_checker.specs.Rows.{Assumed, BothSigns, HiddenAdded, HiddenNamed, InClause, ModelAgainstUnit, ModelTwice, ModelWithoutClause, Modelled, NameTaken, NamedTwiceOver, NoNameTaken, NoRedundantCount, NotAssumed, SimplifiedByGone, SimplifiedByItself, SimplifiedByPart, UnitForgotten, Unknown, WitnessAdded, WithName, Colliding, ConflictAndUnit, EndAlone, FourClauses, HashesOfOneTwo, NamedAgain, NamedOnce, NamedTwice, Refuted, RefutedAtZero, SolverNamesHash, StoredTwice, UnitConflict};
+
+/// After every list of accepted steps, what is stored means what the steps mean.
+pub fn stored_formula_is_fold()
+    ensures fold { FormulaIsFold }
+    ensures unsat { UnsatMeansNone }
+{}
+
+/// What accepted models and failed cores mean.
+pub fn answers_are_sound()
+    ensures models { ModelsExtend }
+    ensures cores { CoresFail }
+    ensures assumed { CoresAssumed }
+{}
+
+/// Which variables are known, have names and were deleted.
+pub fn variables_are_kept()
+    ensures named { NamedIsKnown }
+    ensures stays { KnownStays }
+    ensures nameless { DeletedIsNameless }
+    ensures apart { NamesApart }
+    ensures unknowns { UnknownIsUnknown }
+    ensures deletion { DeletionIsSeen }
+{}
 
 /// Worked rows of hashes, of names, and of what is stored.
 pub fn rows_of_storing()

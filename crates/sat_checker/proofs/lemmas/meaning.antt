@@ -3,3 +3,5 @@ pub mod Deleting
 pub mod Orderly
 pub mod OrderlySteps
 pub mod Meaning
+pub mod Answers
+pub mod Names
