@@ -6,5 +6,6 @@ pub mod Accepts
 pub mod Fold
 pub mod Looks
 pub mod inner
+pub mod HasherView
 pub mod Laws
 pub mod Rows

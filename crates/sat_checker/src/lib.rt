@@ -1,4 +1,12 @@
 //! A checker of proof steps.
 #![tactic(auto)]
 
+pub(crate) mod assigned;
+pub mod hash;
 pub mod laws;
+pub mod looks;
+pub mod sorted_lits;
+mod tally;
+
+pub use hash::ClauseHasher;
+pub use looks::Looks;

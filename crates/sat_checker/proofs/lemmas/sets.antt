@@ -1,3 +1,5 @@
 pub mod Marks
 pub mod Canonical
 pub mod Subsets
+pub mod Hashing
+pub mod Merging

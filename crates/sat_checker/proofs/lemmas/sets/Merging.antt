@@ -1,0 +1,72 @@
+-- Going over two increasing lists side by side.
+use Rattle.std.proofs.Common.{ℕ, zero, suc, ◌+◌, ◌<◌, ◌≤◌, ◌≡◌, ◌≢◌, Bool, true, false, ◌&&◌, ◌||◌, eqb, List, [], ◌∷◌, length, drop, get_or, refl, sym, ◌∙◌, ap, subst, arith, ◌⊎◌, inl, inr}
+use Rattle.std.proofs.lemmas.Bool.{eq-eqb, ne_eqb, or_left}
+use Rattle.std.proofs.lemmas.List.{drop_more}
+use Rattle.std.specs.List.{AllByRecursion, list_all}
+use Rattle.sat_checker.specs.LiteralSets.{is_among, is_part}
+use Rattle.sat_checker.specs.inner.Marks.{IsIncreasing}
+use Rattle.sat_checker.proofs.lemmas.sets.Marks.{below_all}
+
+pub increasing_drop : (xs : List ℕ) (i : ℕ) → IsIncreasing xs → IsIncreasing (drop i xs)
+increasing_drop [] zero h = h
+increasing_drop [] (suc i) h = h
+increasing_drop (x ∷ xs) zero h = h
+increasing_drop (x ∷ xs) (suc i) h = increasing_drop xs i h.1
+
+-- what is above the first of a list is looked for behind it
+all_behind : (x : ℕ) (xs ms : List ℕ) → AllByRecursion (λ m. x < m) ms → list_all (is_among (x ∷ xs)) ms ≡ list_all (is_among xs) ms
+all_behind x xs [] h = refl
+all_behind x xs (m ∷ ms) h =
+    let e : eqb x m ≡ false = ne_eqb x m (λ q. let k : x < m = h.0 in omega arith) in
+    rw e (ap (λ b. is_among xs m && b) (all_behind x xs ms h.1))
+
+part_same : (s : ℕ) (ss xs : List ℕ) → AllByRecursion (λ m. s < m) ss → is_part (s ∷ ss) (s ∷ xs) ≡ is_part ss xs
+part_same s ss xs h = let e : eqb s s ≡ true = eq-eqb s s refl in rw e (all_behind s xs ss h)
+
+above_all : (x s : ℕ) (ss : List ℕ) → x < s → AllByRecursion (λ m. s < m) ss → AllByRecursion (λ m. x < m) ss
+above_all x s [] l h = tt
+above_all x s (m ∷ ms) l h = (let k : s < m = h.0 in omega arith, above_all x s ms l h.1)
+
+lower_or_higher : (s x : ℕ) → s ≢ x → (x < s) ⊎ (s < x)
+lower_or_higher s x n = grind arith
+
+part_past : (s x : ℕ) (ss xs : List ℕ) → s ≢ x → IsIncreasing (s ∷ ss) → IsIncreasing (x ∷ xs) → is_part (s ∷ ss) (x ∷ xs) ≡ is_part (s ∷ ss) xs
+part_past s x ss xs n h k = elim (lower_or_higher s x n) [
+  | inl l ↦ all_behind x xs (s ∷ ss) (l, above_all x s ss l h.0)
+  | inr l ↦
+      let far : is_among (x ∷ xs) s ≡ false = below_all s (x ∷ xs) (l, above_all s x xs l k.0) in
+      let near : is_among xs s ≡ false = below_all s xs (above_all s x xs l k.0) in
+      ap (λ b. b && list_all (is_among (x ∷ xs)) ss) far ∙ sym (ap (λ b. b && list_all (is_among xs) ss) near)
+]
+
+nothing_left : (xs : List ℕ) (i : ℕ) → length xs ≤ i → drop i xs ≡ []
+nothing_left [] zero h = refl
+nothing_left [] (suc i) h = refl
+nothing_left (x ∷ xs) zero h = absurd (omega arith)
+nothing_left (x ∷ xs) (suc i) h = nothing_left xs i (omega arith)
+
+module _ (part whole : List ℕ) (met : ℕ) where
+  pub met_all : length part ≤ met → (i : ℕ) → is_part (drop met part) (drop i whole) ≡ true
+  met_all h i = rw (nothing_left part met h) refl
+
+  pub none_left : met < length part → (i : ℕ) → length whole ≤ i → is_part (drop met part) (drop i whole) ≡ false
+  none_left m i h = rw (nothing_left whole i h, drop_more part met 0 m) refl
+
+  module _ (i : ℕ) (inside : i < length whole) (more : met < length part) (part_increasing : IsIncreasing part) (whole_increasing : IsIncreasing whole) where
+    first_of : IsIncreasing (get_or part met 0 ∷ drop (met + 1) part)
+    first_of = subst IsIncreasing (drop_more part met 0 more) (increasing_drop part met part_increasing)
+
+    first_in : IsIncreasing (get_or whole i 0 ∷ drop (i + 1) whole)
+    first_in = subst IsIncreasing (drop_more whole i 0 inside) (increasing_drop whole i whole_increasing)
+
+    pub met_one : get_or part met 0 ≡ get_or whole i 0 → is_part (drop met part) (drop i whole) ≡ is_part (drop (met + 1) part) (drop (i + 1) whole)
+    met_one e =
+        ap (λ p. is_part p (drop i whole)) (drop_more part met 0 more) ∙ ap (λ w. is_part (get_or part met 0 ∷ drop (met + 1) part) w) (drop_more whole i 0 inside)
+        ∙ ap (λ x. is_part (get_or part met 0 ∷ drop (met + 1) part) (x ∷ drop (i + 1) whole)) (sym e) ∙ part_same (get_or part met 0) (drop (met + 1) part) (drop (i + 1) whole) first_of.0
+
+    pub passed_one : get_or part met 0 ≢ get_or whole i 0 → is_part (drop met part) (drop i whole) ≡ is_part (drop met part) (drop (i + 1) whole)
+    passed_one n =
+        ap (λ p. is_part p (drop i whole)) (drop_more part met 0 more) ∙ ap (λ w. is_part (get_or part met 0 ∷ drop (met + 1) part) w) (drop_more whole i 0 inside)
+        ∙ part_past (get_or part met 0) (get_or whole i 0) (drop (met + 1) part) (drop (i + 1) whole) n first_of first_in ∙ ap (λ p. is_part p (drop (i + 1) whole)) (sym (drop_more part met 0 more))
+
+pub ruleset merging = (met_all, none_left, met_one, passed_one)

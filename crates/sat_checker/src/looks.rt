@@ -1,0 +1,51 @@
+//! The count of looks at literals of stored clauses.
+ghost use Rattle.std.specs.Prelude.{◌≡◌, ◌+◌, ◌-◌, ◌^◌, min};
+
+use crate::tally::LookTally;
+use std::marker::Model;
+
+/// How many literals of stored clauses were looked at, which contracts see without a largest value.
+#[derive(Drop)]
+pub struct Looks {
+    held: u64,
+    tally: LookTally,
+}
+
+impl Model for Looks {
+    ghost use Rattle.std.specs.Prelude.{ℕ, ◌≡◌, ◌-◌, ◌^◌, min};
+
+    ghost Value = { ℕ };
+
+    ghost view = { λ s. s.tally.seen };
+
+    ghost invariant = { λ s. s.held ≡ min s.tally.seen (2 ^ 64 - 1) };
+}
+
+impl Looks {
+    /// None yet.
+    pub fn new() -> Looks
+        ensures { result ≡ 0 }
+    {
+        Looks {
+            held: 0,
+            tally: LookTally::new(),
+        }
+    }
+
+    /// The count, held at 2^64-1.
+    pub fn get(&self) -> u64
+        ensures { result ≡ min self.now (2 ^ 64 - 1) }
+    {
+        self.held
+    }
+
+    /// So many more.
+    #[inline(always)]
+    pub(crate) fn count(&mut self, more: usize)
+        ensures { self.new ≡ self.old + more }
+    {
+        let more = more as u64;
+        self.tally = self.tally.and(more);
+        self.held = self.held.saturating_add(more);
+    }
+}
