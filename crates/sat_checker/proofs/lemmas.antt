@@ -2,4 +2,5 @@ pub mod sets
 pub mod tally
 pub mod propagation
 pub mod meaning
+pub mod store
 pub mod rows

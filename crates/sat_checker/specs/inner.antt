@@ -1,2 +1,3 @@
 pub mod Marks
 pub mod Walk
+pub mod IndexView

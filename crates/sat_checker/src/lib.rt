@@ -3,6 +3,7 @@
 
 pub(crate) mod assigned;
 pub mod hash;
+pub(crate) mod index;
 pub mod laws;
 pub mod looks;
 pub mod sorted_lits;
