@@ -1,3 +1,5 @@
 pub mod Marks
 pub mod Walk
 pub mod IndexView
+pub mod SlotView
+pub mod EntryView

@@ -2,10 +2,12 @@
 #![tactic(auto)]
 
 pub(crate) mod assigned;
+pub(crate) mod clauses;
 pub mod hash;
 pub(crate) mod index;
 pub mod laws;
 pub mod looks;
+pub mod slots;
 pub mod sorted_lits;
 mod tally;
 

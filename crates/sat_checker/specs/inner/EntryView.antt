@@ -1,0 +1,13 @@
+-- What an entry of the store means over its buffer.
+use Rattle.std.specs.Prelude.{ℕ, List}
+use Rattle.sat_checker.specs.inner.Marks.{IsIncreasing}
+use Rattle.sat_checker.specs.inner.SlotView.{lits_in, LitsWithin, Slot}
+use Rattle.sat_checker.specs.declared.slots.Entry.{Entry}
+
+abbrev pub slot_of : List ℕ → Entry → Slot
+slot_of buffer e = record { clause = record { id = e.id; literals = lits_in buffer e.lits; irredundant = e.irredundant; redundant = e.redundant }; hash = e.hash }
+
+-- its literals are there, sorted without repeats
+pub record IsEntry (buffer : List ℕ) (e : Entry) : Type 0 where
+  pub within : LitsWithin buffer e.lits
+  pub increasing : IsIncreasing (lits_in buffer e.lits)

@@ -1,0 +1,70 @@
+-- What the store has at each place.
+use Rattle.std.specs.Prelude.{ℕ, ◌+◌, ◌<◌, ◌≤◌, ◌==◌, ◌≡◌, Bool, not, ◌&&◌, List, [], ◌∷◌, ◌++◌, map, filter, length, take, nat_le, slice_range, slice_index_or, slice_set, if◌then◌else◌}
+use Rattle.sat_checker.specs.Stored.{StoredClause}
+use Rattle.sat_checker.specs.Storing.{with_count, without_count, new_clause, unless_gone}
+use Rattle.sat_checker.specs.declared.slots.ClauseLits.{ClauseLits}
+
+-- the literals that lie inline, or in the buffer
+abbrev pub lits_in : List ℕ → ClauseLits → List ℕ
+lits_in buffer c = if nat_le c.len 3 then take c.len c.inline else slice_range buffer c.start (c.start + c.len)
+
+-- those in the buffer are there
+abbrev pub LitsWithin : List ℕ → ClauseLits → Type 0
+LitsWithin buffer c = 3 < c.len → c.start + c.len ≤ length buffer
+
+-- a clause at its place, with its hash; it's gone where it has no count
+pub record Slot : Type 0 where
+  pub clause : StoredClause
+  pub hash : ℕ
+
+abbrev pub unstored : ℕ → ℕ → List ℕ → Slot
+unstored id hash literals = record { clause = record { id = id; literals = literals; irredundant = 0; redundant = 0 }; hash = hash }
+
+abbrev pub slot_at : List Slot → ℕ → Slot
+slot_at slots place = slice_index_or slots place (unstored 0 0 [])
+
+abbrev pub literals_at : List Slot → ℕ → List ℕ
+literals_at slots place = (slot_at slots place).clause.literals
+
+abbrev pub all_lits : List Slot → List (List ℕ)
+all_lits = map (λ s. s.clause.literals)
+
+abbrev pub count_of : Bool → Slot → ℕ
+count_of redundant s = if redundant then s.clause.redundant else s.clause.irredundant
+
+abbrev pub with_count_at : Bool → ℕ → List Slot → List Slot
+with_count_at redundant place slots = slice_set slots place (record (slot_at slots place) { clause = with_count redundant (slot_at slots place).clause })
+
+abbrev pub without_count_at : Bool → ℕ → List Slot → List Slot
+without_count_at redundant place slots = slice_set slots place (record (slot_at slots place) { clause = without_count redundant (slot_at slots place).clause })
+
+abbrev pub with_hash_at : ℕ → ℕ → List Slot → List Slot
+with_hash_at hash place slots = slice_set slots place (record (slot_at slots place) { hash = hash })
+
+-- the clauses that aren't gone
+abbrev pub live : List Slot → List StoredClause
+live [] = []
+live (s ∷ ss) = unless_gone s.clause ++ live ss
+
+abbrev pub is_gone : Slot → Bool
+is_gone s = s.clause.irredundant == 0 && s.clause.redundant == 0
+
+-- a clause that was stored once
+abbrev pub stored_slot : Bool → ℕ → ℕ → List ℕ → Slot
+stored_slot redundant id hash literals = record { clause = new_clause redundant id literals; hash = hash }
+
+-- it isn't gone and has this hash
+abbrev pub is_filed : ℕ → Slot → Bool
+is_filed hash s = not (is_gone s) && s.hash == hash
+
+-- the literals of the clauses of a hash
+abbrev pub bucket_in : ℕ → List Slot → List (List ℕ)
+bucket_in hash slots = all_lits (filter (is_filed hash) slots)
+
+-- the places of a hash, the first slot being at this place
+abbrev pub places_from : ℕ → ℕ → List Slot → List ℕ
+places_from place hash [] = []
+places_from place hash (s ∷ ss) = if is_filed hash s then place ∷ places_from (place + 1) hash ss else places_from (place + 1) hash ss
+
+abbrev pub places_of : ℕ → List Slot → List ℕ
+places_of hash slots = places_from 0 hash slots

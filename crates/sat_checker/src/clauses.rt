@@ -1,0 +1,126 @@
+//! The stored clauses of two literals or more.
+ghost use Rattle.std.specs.Prelude.{ℕ, ◌≡◌, ◌+◌, ◌<◌, ◌≤◌, ◌^◌, [], ◌∷◌, ◌++◌, length, find, false, sum_by, MatchOption, OnOk};
+ghost use Rattle.std.specs.List.{AllByRecursion};
+ghost use Rattle.sat_checker.specs.LiteralSets.{same_literals};
+ghost use Rattle.sat_checker.specs.inner.Marks.{IsIncreasing};
+ghost use Rattle.sat_checker.specs.inner.SlotView.{slot_at, literals_at, all_lits, stored_slot, with_count_at, without_count_at, count_of, is_gone, places_of, bucket_in};
+
+use crate::index::{Bucket, Index};
+use crate::looks::Looks;
+use crate::slots::Slots;
+use sat_base::{ClauseHash, Lit};
+use std::alloc::{AllocError, Global};
+use std::marker::Model;
+
+/// Clauses at their places, each found by its hash unless it is gone.
+#[derive(Drop)]
+pub(crate) struct Clauses {
+    slots: Slots,
+    index: Index,
+}
+
+impl Model for Clauses {
+    ghost use Rattle.std.specs.Prelude.{List, ℕ, ◌≡◌};
+    ghost use Rattle.sat_checker.specs.inner.SlotView.{Slot, places_of};
+    ghost use Rattle.sat_checker.specs.inner.IndexView.{places_in};
+
+    ghost Value = { List Slot };
+
+    ghost view = { λ s. s.slots };
+
+    ghost invariant = { λ s. (hash : ℕ) → places_in s.index hash ≡ places_of hash s.slots };
+}
+
+impl Clauses {
+    pub fn new(alloc: Global) -> Clauses
+        ensures { result ≡ [] }
+    {
+        Clauses {
+            slots: Slots::new(alloc),
+            index: Index::new(alloc),
+        }
+    }
+
+    pub fn len(&self) -> usize
+        ensures count { result ≡ length self.now }
+        ensures increasing { AllByRecursion IsIncreasing (all_lits self.now) }
+    {
+        self.slots.len()
+    }
+
+    /// Lends the literals at a place, which counts as a look at each.
+    #[inline(always)]
+    pub fn literals(&self, place: usize, looks: &mut Looks) -> &[Lit]
+        requires { place < length self.now }
+        ensures lent { result.now ≡ literals_at self.now place }
+        ensures looks { looks.new ≡ looks.old + length (literals_at self.now place) }
+    {
+        let literals = self.slots.literals(place);
+        looks.count(literals.len());
+        literals
+    }
+
+    pub fn id(&self, place: usize) -> u64
+        requires { place < length self.now }
+        ensures { result ≡ (slot_at self.now place).clause.id }
+    {
+        self.slots.id(place)
+    }
+
+    /// How often the clause stands as redundant, or as irredundant.
+    pub fn count(&self, place: usize, redundant: bool) -> u64
+        requires { place < length self.now }
+        ensures { result ≡ count_of redundant (slot_at self.now place) }
+    {
+        self.slots.count(place, redundant)
+    }
+
+    /// The places of a hash, in order of ids.
+    #[inline(always)]
+    pub fn bucket(&self, hash: ClauseHash) -> Option<&Bucket>
+        ensures { MatchOption result (places_of hash self.now ≡ []) (λ b. places_of hash self.now ≡ b.now.first ∷ b.now.more.items) }
+    {
+        self.index.bucket(hash)
+    }
+
+    /// Puts a clause with one count behind the others.
+    pub fn push(
+        &mut self,
+        id: u64,
+        redundant: bool,
+        hash: ClauseHash,
+        literals: &[Lit],
+    ) -> Result<(), AllocError>
+        requires { IsIncreasing literals.now }
+        ensures { OnOk result (self.new ≡ self.old ++ stored_slot redundant id hash literals.now ∷ []) }
+    {
+        let place = self.slots.len();
+        self.slots.push(id, hash, literals)?;
+        self.index.file(hash, place)?;
+        self.slots.add_count(place, redundant);
+        Ok(())
+    }
+
+    /// One count more of a clause that isn't gone.
+    pub fn add_count(&mut self, place: usize, redundant: bool)
+        requires inside { place < length self.old }
+        requires there { is_gone (slot_at self.old place) ≡ false }
+        requires room { count_of redundant (slot_at self.old place) + 1 < 2 ^ 64 }
+        ensures { self.new ≡ with_count_at redundant place self.old }
+    {
+        self.slots.add_count(place, redundant);
+    }
+
+    /// One count less. A clause without a count is gone.
+    pub fn take_count(&mut self, place: usize, redundant: bool)
+        requires inside { place < length self.old }
+        requires some { 0 < count_of redundant (slot_at self.old place) }
+        ensures { self.new ≡ without_count_at redundant place self.old }
+    {
+        let hash = self.slots.hash(place);
+        self.slots.take_count(place, redundant);
+        if self.slots.is_gone(place) {
+            self.index.remove(hash, place);
+        }
+    }
+}

@@ -1,0 +1,192 @@
+//! Clauses of sorted literals by place, with their ids, counts and hashes.
+ghost use Rattle.std.specs.Prelude.{◌≡◌, ◌+◌, ◌-◌, ◌<◌, ◌≤◌, ◌^◌, ℕ, List, ◌∷◌, [], ◌++◌, length, OnOk, OnErr, IfOk, if◌then◌else◌};
+ghost use Rattle.std.specs.List.{AllByRecursion};
+ghost use Rattle.sat_checker.specs.inner.Marks.{IsIncreasing};
+ghost use Rattle.sat_checker.specs.inner.SlotView.{lits_in, LitsWithin, slot_at, literals_at, all_lits, unstored, with_count_at, without_count_at, with_hash_at, count_of, is_gone};
+
+use sat_base::{ClauseHash, Lit};
+use std::alloc::{AllocError, Global};
+use std::marker::Model;
+
+/// A clause's literals: up to three lie here, and more in a buffer.
+#[derive(Clone, Copy)]
+pub struct ClauseLits {
+    inline: [Lit; 3],
+    len: usize,
+    start: usize,
+}
+
+impl ClauseLits {
+    /// Puts literals here or at the end of the buffer.
+    fn new(buffer: &mut Vec<Lit>, literals: &[Lit]) -> Result<ClauseLits, AllocError>
+        ensures kept { (more : List ℕ) × (buffer.new.items ≡ buffer.old.items ++ more) }
+        ensures within { IfOk result (λ c. LitsWithin buffer.new.items c) }
+        ensures literals { IfOk result (λ c. lits_in buffer.new.items c ≡ literals.now) }
+    {
+        let mut inline = [Lit::from_code(0); 3];
+        let len = literals.len();
+        let start = buffer.len();
+        if len <= 3 {
+            inline[..len].copy_from_slice(literals);
+        } else {
+            buffer.extend_from_slice(literals)?;
+        }
+        Ok(ClauseLits { inline, len, start })
+    }
+
+    /// The literals, where those that don't lie here are in this buffer.
+    pub fn slice<'a>(&'a self, buffer: &'a [Lit]) -> &'a [Lit]
+        requires { LitsWithin buffer.now self.now }
+        ensures { result.now ≡ lits_in buffer.now self.now }
+    {
+        if self.len <= 3 {
+            &self.inline[..self.len]
+        } else {
+            &buffer[self.start..self.start + self.len]
+        }
+    }
+}
+
+/// A clause at its place.
+#[derive(Clone, Copy)]
+struct Entry {
+    id: u64,
+    irredundant: u64,
+    redundant: u64,
+    hash: ClauseHash,
+    lits: ClauseLits,
+}
+
+/// Clauses at their places, those that are gone among them. Contracts see the list of them.
+#[derive(Drop)]
+pub(crate) struct Slots {
+    entries: Vec<Entry>,
+    buffer: Vec<Lit>,
+}
+
+impl Model for Slots {
+    ghost use Rattle.std.specs.Prelude.{List, map};
+    ghost use Rattle.std.specs.List.{All};
+    ghost use Rattle.sat_checker.specs.inner.SlotView.{Slot};
+    ghost use Rattle.sat_checker.specs.inner.EntryView.{slot_of, IsEntry};
+
+    ghost Value = { List Slot };
+
+    ghost view = { λ s. map (slot_of s.buffer.items) s.entries.items };
+
+    ghost invariant = { λ s. All (IsEntry s.buffer.items) s.entries.items };
+}
+
+impl Slots {
+    pub fn new(alloc: Global) -> Slots
+        ensures { result ≡ [] }
+    {
+        Slots {
+            entries: Vec::new(alloc),
+            buffer: Vec::new(alloc),
+        }
+    }
+
+    pub fn len(&self) -> usize
+        ensures count { result ≡ length self.now }
+        ensures increasing { AllByRecursion IsIncreasing (all_lits self.now) }
+    {
+        self.entries.len()
+    }
+
+    /// The literals at a place.
+    #[inline(always)]
+    pub fn literals(&self, place: usize) -> &[Lit]
+        requires { place < length self.now }
+        ensures { result.now ≡ literals_at self.now place }
+    {
+        self.entries[place].lits.slice(&self.buffer)
+    }
+
+    pub fn hash(&self, place: usize) -> ClauseHash
+        requires { place < length self.now }
+        ensures { result ≡ (slot_at self.now place).hash }
+    {
+        self.entries[place].hash
+    }
+
+    pub fn id(&self, place: usize) -> u64
+        requires { place < length self.now }
+        ensures { result ≡ (slot_at self.now place).clause.id }
+    {
+        self.entries[place].id
+    }
+
+    /// How often the clause stands as redundant, or as irredundant.
+    pub fn count(&self, place: usize, redundant: bool) -> u64
+        requires { place < length self.now }
+        ensures { result ≡ count_of redundant (slot_at self.now place) }
+    {
+        let entry = self.entries[place];
+        if redundant {
+            entry.redundant
+        } else {
+            entry.irredundant
+        }
+    }
+
+    /// Whether the clause has no count.
+    pub fn is_gone(&self, place: usize) -> bool
+        requires { place < length self.now }
+        ensures { result ≡ is_gone (slot_at self.now place) }
+    {
+        self.count(place, false) == 0 && self.count(place, true) == 0
+    }
+
+    /// Puts a clause without a count behind the others.
+    pub fn push(&mut self, id: u64, hash: ClauseHash, literals: &[Lit]) -> Result<(), AllocError>
+        requires { IsIncreasing literals.now }
+        ensures ok { OnOk result (self.new ≡ self.old ++ unstored id hash literals.now ∷ []) }
+        ensures err { OnErr result (self.new ≡ self.old) }
+    {
+        let lits = ClauseLits::new(&mut self.buffer, literals)?;
+        self.entries.push(Entry {
+            id,
+            irredundant: 0,
+            redundant: 0,
+            hash,
+            lits,
+        })?;
+        Ok(())
+    }
+
+    /// One count more.
+    pub fn add_count(&mut self, place: usize, redundant: bool)
+        requires inside { place < length self.old }
+        requires room { count_of redundant (slot_at self.old place) + 1 < 2 ^ 64 }
+        ensures { self.new ≡ with_count_at redundant place self.old }
+    {
+        let entry = &mut self.entries[place];
+        if redundant {
+            entry.redundant += 1;
+        } else {
+            entry.irredundant += 1;
+        }
+    }
+
+    /// One count less.
+    pub fn take_count(&mut self, place: usize, redundant: bool)
+        requires inside { place < length self.old }
+        requires some { 0 < count_of redundant (slot_at self.old place) }
+        ensures { self.new ≡ without_count_at redundant place self.old }
+    {
+        let entry = &mut self.entries[place];
+        if redundant {
+            entry.redundant -= 1;
+        } else {
+            entry.irredundant -= 1;
+        }
+    }
+
+    pub fn set_hash(&mut self, place: usize, hash: ClauseHash)
+        requires { place < length self.old }
+        ensures { self.new ≡ with_hash_at hash place self.old }
+    {
+        self.entries[place].hash = hash;
+    }
+}
