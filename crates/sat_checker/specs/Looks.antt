@@ -1,12 +1,16 @@
 -- How many looks at literals a step takes at most. The store lends the literals of a clause of two or more by one call alone, which adds the clause's length to the looks.
-use Rattle.std.specs.Prelude.{ℕ, ◌+◌, ◌*◌, List, [], ◌∷◌, length, sum_by}
+use Rattle.std.specs.Prelude.{ℕ, ◌+◌, ◌*◌, List, [], ◌∷◌, length}
 use Rattle.sat_base.specs.steps.Steps.{Step, AtClause, UnitClauses, FailedAssumptions}
-use Rattle.sat_checker.specs.Stored.{Stored}
+use Rattle.sat_checker.specs.Stored.{Stored, long_clauses}
 use Rattle.sat_checker.specs.Accepts.{ready_after}
+
+abbrev pub total_length : List (List ℕ) → ℕ
+total_length [] = 0
+total_length (c ∷ cs) = length c + total_length cs
 
 -- the number of literals of stored clauses
 abbrev pub literal_count : Stored → ℕ
-literal_count f = sum_by (λ c. length c.literals) f.clauses
+literal_count f = total_length (long_clauses f)
 
 -- the number of hashes that a step names
 abbrev pub hashes_named : Step → ℕ

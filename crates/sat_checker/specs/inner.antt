@@ -1,5 +1,6 @@
 pub mod Marks
 pub mod Walk
+pub mod Look
 pub mod IndexView
 pub mod SlotView
 pub mod EntryView

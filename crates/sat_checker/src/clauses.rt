@@ -1,9 +1,9 @@
 //! The stored clauses of two literals or more.
-ghost use Rattle.std.specs.Prelude.{ℕ, ◌≡◌, ◌+◌, ◌<◌, ◌≤◌, ◌^◌, [], ◌∷◌, ◌++◌, length, find, false, sum_by, MatchOption, OnOk};
+ghost use Rattle.std.specs.Prelude.{ℕ, ◌≡◌, ◌+◌, ◌<◌, ◌≤◌, ◌^◌, [], ◌∷◌, ◌++◌, length, false, MatchOption, OnOk};
 ghost use Rattle.std.specs.List.{AllByRecursion};
-ghost use Rattle.sat_checker.specs.LiteralSets.{same_literals};
+ghost use Rattle.sat_checker.specs.Looks.{total_length};
 ghost use Rattle.sat_checker.specs.inner.Marks.{IsIncreasing};
-ghost use Rattle.sat_checker.specs.inner.SlotView.{slot_at, literals_at, all_lits, stored_slot, with_count_at, without_count_at, count_of, is_gone, places_of, bucket_in};
+ghost use Rattle.sat_checker.specs.inner.SlotView.{slot_at, literals_at, all_lits, stored_slot, with_count_at, without_count_at, count_of, is_gone, places_of, bucket_in, is_same_at, found_among, IsBucket};
 
 use crate::index::{Bucket, Index};
 use crate::looks::Looks;
@@ -78,9 +78,42 @@ impl Clauses {
     /// The places of a hash, in order of ids.
     #[inline(always)]
     pub fn bucket(&self, hash: ClauseHash) -> Option<&Bucket>
-        ensures { MatchOption result (places_of hash self.now ≡ []) (λ b. places_of hash self.now ≡ b.now.first ∷ b.now.more.items) }
+        ensures { MatchOption result (IsBucket hash self.now []) (λ b. IsBucket hash self.now (b.now.first ∷ b.now.more.items)) }
     {
         self.index.bucket(hash)
+    }
+
+    fn is_same(&self, place: usize, literals: &[Lit], looks: &mut Looks) -> bool
+        requires { place < length self.now }
+        ensures same { result ≡ is_same_at self.now literals.now place }
+        ensures looks { looks.new ≡ looks.old + length (literals_at self.now place) }
+    {
+        self.literals(place, looks) == literals
+    }
+
+    /// The first place of the hash that has these literals.
+    #[tactic(auto, using(crate::proofs::lemmas::store::Finding::finding))]
+    pub fn find(
+        &self,
+        hash: ClauseHash,
+        literals: &[Lit],
+        looks: &mut Looks,
+    ) -> Option<usize>
+        ensures found { result ≡ found_among self.now literals.now (places_of hash self.now) }
+        ensures looks { looks.new ≤ looks.old + total_length (bucket_in hash self.now) }
+    {
+        let Some(bucket) = self.bucket(hash) else {
+            return None;
+        };
+        if self.is_same(bucket.first, literals, looks) {
+            return Some(bucket.first);
+        }
+        for place in &bucket.more {
+            if self.is_same(*place, literals, looks) {
+                return Some(*place);
+            }
+        }
+        None
     }
 
     /// Puts a clause with one count behind the others.

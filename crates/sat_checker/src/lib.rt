@@ -7,6 +7,7 @@ pub mod hash;
 pub(crate) mod index;
 pub mod laws;
 pub mod looks;
+pub mod rup;
 pub mod slots;
 pub mod sorted_lits;
 mod tally;

@@ -1,3 +1,4 @@
 pub mod Greedy
 pub mod Denied
 pub mod Soundness
+pub mod Walking

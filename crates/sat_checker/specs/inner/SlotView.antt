@@ -1,5 +1,7 @@
 -- What the store has at each place.
-use Rattle.std.specs.Prelude.{ℕ, ◌+◌, ◌<◌, ◌≤◌, ◌==◌, ◌≡◌, Bool, not, ◌&&◌, List, [], ◌∷◌, ◌++◌, map, filter, length, take, nat_le, slice_range, slice_index_or, slice_set, if◌then◌else◌}
+use Rattle.std.specs.Prelude.{ℕ, ◌+◌, ◌<◌, ◌≤◌, ◌==◌, ◌≡◌, Bool, not, ◌&&◌, List, [], ◌∷◌, ◌++◌, map, filter, find, Option, length, take, nat_le, slice_range, slice_index_or, slice_set, if◌then◌else◌}
+use Rattle.std.specs.List.{AllByRecursion}
+use Rattle.sat_checker.specs.LiteralSets.{same_literals}
 use Rattle.sat_checker.specs.Stored.{StoredClause}
 use Rattle.sat_checker.specs.Storing.{with_count, without_count, new_clause, unless_gone}
 use Rattle.sat_checker.specs.declared.slots.ClauseLits.{ClauseLits}
@@ -68,3 +70,17 @@ places_from place hash (s ∷ ss) = if is_filed hash s then place ∷ places_fro
 
 abbrev pub places_of : ℕ → List Slot → List ℕ
 places_of hash slots = places_from 0 hash slots
+
+-- are these the literals at the place?
+abbrev pub is_same_at : List Slot → List ℕ → ℕ → Bool
+is_same_at slots literals place = same_literals (literals_at slots place) literals
+
+-- the first of these places that has the literals
+abbrev pub found_among : List Slot → List ℕ → List ℕ → Option ℕ
+found_among slots literals = find (is_same_at slots literals)
+
+-- the places of a hash, and the clauses that are there
+pub record IsBucket (hash : ℕ) (slots : List Slot) (places : List ℕ) : Type 0 where
+  pub all : places_of hash slots ≡ places
+  pub literals : bucket_in hash slots ≡ map (literals_at slots) places
+  pub within : AllByRecursion (λ p. p < length slots) places
