@@ -2,6 +2,7 @@
 use Rattle.std.specs.Prelude.{ℕ, ◌+◌, ◌<◌, ◌≤◌, ◌==◌, ◌≡◌, Bool, not, ◌&&◌, List, [], ◌∷◌, ◌++◌, map, filter, find, Option, length, take, nat_le, slice_range, slice_index_or, slice_set, if◌then◌else◌}
 use Rattle.std.specs.List.{AllByRecursion}
 use Rattle.sat_checker.specs.LiteralSets.{same_literals}
+use Rattle.sat_checker.specs.Looks.{total_length}
 use Rattle.sat_checker.specs.Stored.{StoredClause}
 use Rattle.sat_checker.specs.Storing.{with_count, without_count, new_clause, unless_gone}
 use Rattle.sat_checker.specs.declared.slots.ClauseLits.{ClauseLits}
@@ -62,6 +63,13 @@ is_filed hash s = not (is_gone s) && s.hash == hash
 -- the literals of the clauses of a hash
 abbrev pub bucket_in : ℕ → List Slot → List (List ℕ)
 bucket_in hash slots = all_lits (filter (is_filed hash) slots)
+
+abbrev pub bucket_of : List Slot → ℕ → List (List ℕ)
+bucket_of slots hash = bucket_in hash slots
+
+-- the number of literals of the clauses that aren't gone
+abbrev pub live_length : List Slot → ℕ
+live_length slots = total_length (map (λ c. c.literals) (live slots))
 
 -- the places of a hash, the first slot being at this place
 abbrev pub places_from : ℕ → ℕ → List Slot → List ℕ

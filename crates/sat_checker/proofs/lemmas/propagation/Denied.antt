@@ -1,5 +1,5 @@
 -- What it takes to assume the negation of a clause, and that the check is then exact.
-use Rattle.std.proofs.Common.{ℕ, ◌≡◌, Bool, true, false, cond, eqb, List, [], ◌∷◌, ◌++◌, map, refl, sym, subst, Some, None, ◌⊎◌, inl, inr}
+use Rattle.std.proofs.Common.{length, drop, get_or, ◌<◌, ◌+◌, ◌↔◌, ℕ, ◌≡◌, Bool, true, false, cond, eqb, List, [], ◌∷◌, ◌++◌, map, refl, sym, ◌∙◌, subst, Some, None, ◌⊎◌, inl, inr}
 use Rattle.std.proofs.lemmas.Bool.{or_cases, or_left, or_right, or_from, both_ways, eqb-true, eq-eqb, true≢false, false_from_ne_true}
 use Rattle.std.specs.List.{AllByRecursion, list_any}
 use Rattle.sat_base.specs.values.Literals.{negated}
@@ -7,6 +7,8 @@ use Rattle.sat_checker.specs.LiteralSets.{is_among, is_tautology}
 use Rattle.sat_checker.specs.inner.Marks.{NoRepeats}
 use Rattle.sat_checker.specs.Propagation.{PassesCheck, tautology, unit_true, conflict}
 use Rattle.sat_checker.specs.inner.Walk.{denied, walk_buckets}
+use Rattle.std.proofs.lemmas.List.{drop_more}
+use Rattle.sat_checker.proofs.lemmas.propagation.Walking.{Extends-itself, Extends-more}
 use Rattle.sat_checker.proofs.lemmas.propagation.Greedy.{Within, rule_from_walk, walk_from_rule}
 
 -- the assumed literals once l is denied
@@ -132,3 +134,22 @@ pub walked_when_passes : (units clause more : List ℕ) (buckets : List (List (L
 walked_when_passes units clause more buckets n e (tautology t) = absurd (both_ways (is_tautology clause) (denied_some clause units more e).no_tautology t)
 walked_when_passes units clause more buckets n e (unit_true u) = absurd (both_ways (list_any (is_among units) clause) (denied_some clause units more e).no_unit u)
 walked_when_passes units clause more buckets n e (conflict k) = walk_from_rule (map negated clause ++ units) more buckets (denied_some clause units more e).enough n k
+
+pub exact_when_met : (units clause : List ℕ) (buckets : List (List (List ℕ))) (answer : Bool) → denied units clause ≡ None → answer ≡ true → (answer ≡ true) ↔ PassesCheck units clause buckets
+exact_when_met units clause buckets answer e t = ((λ _. passes_when_true units clause buckets e), (λ _. t))
+
+pub exact_when_walked : (units clause more : List ℕ) (buckets : List (List (List ℕ))) (answer : Bool) → AllByRecursion (AllByRecursion NoRepeats) buckets → denied units clause ≡ Some more → answer ≡ walk_buckets more buckets → (answer ≡ true) ↔ PassesCheck units clause buckets
+exact_when_walked units clause more buckets answer sets e w =
+    ((λ t. passes_when_walked units clause more buckets sets e (sym w ∙ t)), (λ p. w ∙ walked_when_passes units clause more buckets sets e p))
+
+module _ (clause : List ℕ) (i : ℕ) (inside : i < length clause) (assumed : List ℕ) where
+  pub denied-true : is_among assumed (get_or clause i 0) ≡ true → denied assumed (drop i clause) ≡ None
+  denied-true t = rw (drop_more clause i 0 inside) (rw t refl)
+
+  pub denied-had : is_among assumed (get_or clause i 0) ≡ false → is_among assumed (negated (get_or clause i 0)) ≡ true → denied assumed (drop i clause) ≡ denied assumed (drop (i + 1) clause)
+  denied-had f t = rw (drop_more clause i 0 inside) (rw (f, t) refl)
+
+  pub denied-new : is_among assumed (get_or clause i 0) ≡ false → is_among assumed (negated (get_or clause i 0)) ≡ false → denied assumed (drop i clause) ≡ denied (negated (get_or clause i 0) ∷ assumed) (drop (i + 1) clause)
+  denied-new f t = rw (drop_more clause i 0 inside) (rw (f, t) refl)
+
+pub ruleset denying = (Extends-itself, Extends-more, denied-true, denied-had, denied-new)

@@ -1,8 +1,14 @@
 -- What a bucket without one of its places is.
-use Rattle.std.proofs.Common.{ℕ, suc, ◌+◌, ◌<◌, ◌≡◌, ◌≢◌, Bool, true, false, not, cond, eqb, List, [], ◌∷◌, filter, length, take, drop, get_or, ◌++◌, refl, sym, ap, ◌∙◌, arith}
+use Rattle.std.proofs.Common.{ℕ, suc, ◌+◌, ◌*◌, ◌<◌, ◌≤◌, ◌&&◌, map, ◌≡◌, ◌≢◌, Bool, true, false, not, cond, eqb, List, [], ◌∷◌, filter, length, take, drop, get_or, ◌++◌, refl, sym, ap, ◌∙◌, arith}
 use Rattle.std.proofs.lemmas.Bool.{eq-eqb, ne_eqb}
 use Rattle.std.specs.Prelude.{remove, slice_index_or}
+use Rattle.std.specs.List.{AllByRecursion}
+use Rattle.sat_checker.specs.Looks.{total_length}
+use Rattle.sat_checker.specs.inner.Marks.{IsIncreasing, NoRepeats}
 use Rattle.sat_checker.specs.inner.IndexView.{without_place}
+use Rattle.sat_checker.specs.inner.SlotView.{Slot, is_gone, is_filed, all_lits, live, live_length, bucket_in, bucket_of}
+use Rattle.sat_checker.proofs.lemmas.sets.Marks.{once}
+use Rattle.sat_checker.proofs.lemmas.propagation.Walking.{over_buckets}
 
 pub first_stays : (first place : ℕ) (more : List ℕ) → first ≢ place → first ∷ without_place place more ≡ without_place place (first ∷ more)
 first_stays first place more n = sym (ap (λ b. cond (not b) (first ∷ without_place place more) (without_place place more)) (ne_eqb first place n))
@@ -13,3 +19,44 @@ first_goes first place more e = ap (λ b. cond (not b) (first ∷ without_place 
 pub first_taken : (x : ℕ) (xs ys : List ℕ) → length xs ≢ 0 → x ≡ slice_index_or xs 0 x → ys ≡ remove xs 0 → x ∷ ys ≡ xs
 first_taken x [] ys n e r = absurd (n refl)
 first_taken x (z ∷ zs) ys n e r = ap (λ k. k ∷ ys) e ∙ ap (λ k. z ∷ k) r
+
+-- a bucket has no more literals than all clauses together
+total-append : (xs ys : List (List ℕ)) → total_length (xs ++ ys) ≡ total_length xs + total_length ys
+total-append [] ys = omega arith
+total-append (x ∷ xs) ys = let e : total_length (xs ++ ys) ≡ total_length xs + total_length ys = total-append xs ys in omega arith
+
+pub bucket_length : (h : ℕ) (ss : List Slot) → total_length (bucket_in h ss) ≤ live_length ss
+bucket_length h [] = omega arith
+bucket_length h (s ∷ ss) = go (is_gone s) (eqb s.hash h) (bucket_length h ss)
+  where
+    go : (b d : Bool) → total_length (bucket_in h ss) ≤ live_length ss → total_length (all_lits (cond (not b && d) (s ∷ filter (is_filed h) ss) (filter (is_filed h) ss))) ≤ total_length (map (λ c. c.literals) (cond b [] (s.clause ∷ []) ++ live ss))
+    go true d ih = ih
+    go false true ih = omega arith
+    go false false ih = omega arith
+
+pub looks_more : (old looks new i n b : ℕ) → looks ≤ old + i * n → new ≤ looks + b → b ≤ n → new ≤ old + (i + 1) * n
+looks_more old looks new i n b h k l = let e : (i + 1) * n ≡ i * n + n = grind arith in omega arith
+
+pub looks_within : (old looks i m n : ℕ) → looks ≤ old + i * n → i ≤ m → looks ≤ old + m * n
+looks_within old looks i m n h l = let e : i * n ≤ m * n = grind arith in omega arith
+
+pub walked_more : (old looks new i h : ℕ) (ss : List Slot) → looks ≤ old + i * live_length ss → new ≤ looks + total_length (bucket_in h ss) → new ≤ old + (i + 1) * live_length ss
+walked_more old looks new i h ss a b = looks_more old looks new i (live_length ss) (total_length (bucket_in h ss)) a b (bucket_length h ss)
+
+pub walked_within : (old looks new i m h : ℕ) (ss : List Slot) → looks ≤ old + i * live_length ss → new ≤ looks + total_length (bucket_in h ss) → i < m → new ≤ old + m * live_length ss
+walked_within old looks new i m h ss a b l = looks_within old new (i + 1) m (live_length ss) (walked_more old looks new i h ss a b) (omega arith)
+
+-- in no clause of a bucket a literal stands twice
+pub buckets_once : (ss : List Slot) (hashes : List ℕ) → AllByRecursion IsIncreasing (all_lits ss) → AllByRecursion (AllByRecursion NoRepeats) (map (bucket_of ss) hashes)
+buckets_once ss [] h = tt
+buckets_once ss (k ∷ ks) h = (bucket_once ss h, buckets_once ss ks h)
+  where
+    bucket_once : (ts : List Slot) → AllByRecursion IsIncreasing (all_lits ts) → AllByRecursion NoRepeats (bucket_in k ts)
+    bucket_once [] g = tt
+    bucket_once (t ∷ ts) g = go (is_filed k t) (bucket_once ts g.1)
+      where
+        go : (b : Bool) → AllByRecursion NoRepeats (bucket_in k ts) → AllByRecursion NoRepeats (all_lits (cond b (t ∷ filter (is_filed k) ts) (filter (is_filed k) ts)))
+        go true ih = (once t.clause.literals g.0, ih)
+        go false ih = ih
+
+pub ruleset over_hashes = (over_buckets, walked_more, walked_within)

@@ -1,0 +1,19 @@
+use Rattle.std.proofs.Common.{true, Result, Ok, Err, IfOk, map, refl}
+use Rattle.sat_checker.specs.inner.SlotView.{bucket_of}
+use Rattle.sat_checker.proofs.lemmas.propagation.Denied.{exact_when_met, exact_when_walked}
+use Rattle.sat_checker.proofs.lemmas.store.Buckets.{buckets_once}
+use Rattle.sat_checker.proofs.rup.check_under.Goals as goal
+
+if_ok : {A E : Type 0} (r : Result A E) (P Q : A → Type 0) → ((x : A) → P x → Q x) → IfOk r P → IfOk r Q
+if_ok (Ok x) P Q w h = w x h
+if_ok (Err e) P Q w h = tt
+
+pub returns-then-branch-clause-exact : goal.returns-then-branch-clause-exact
+returns-then-branch-clause-exact c =
+    exact_when_met c.args.assigned.now c.args.clause.now (map (bucket_of c.args.clauses.now) c.args.hashes.now) true (rw c.if-branch.true at c.in_ok-deny.ensures.denied) refl
+
+pub returns-clause-exact : goal.returns-clause-exact
+returns-clause-exact c =
+    if_ok c.walk_hashes.result _ _
+    (λ answer found. exact_when_walked c.args.assigned.now c.args.clause.now c.deny.new.assigned (map (bucket_of c.args.clauses.now) c.args.hashes.now) answer (buckets_once c.args.clauses.now c.args.hashes.now c.len-count.ensures.increasing) (rw c.if-branch.false at c.in_ok-deny.ensures.denied) found)
+    c.walk_hashes.ensures.found

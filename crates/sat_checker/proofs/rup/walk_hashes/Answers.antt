@@ -1,0 +1,25 @@
+use Rattle.std.proofs.Common.{◌<◌, length, get_or, ◌∙◌}
+use Rattle.sat_checker.specs.inner.SlotView.{bucket_of}
+use Rattle.sat_checker.proofs.lemmas.propagation.Walking.{Extends-further, buckets-open}
+use Rattle.sat_checker.proofs.lemmas.store.Buckets.{walked_more, walked_within}
+use Rattle.sat_checker.proofs.rup.walk_hashes.Goals as goal
+
+pub returns-in_err-walk_bucket-clause-looks : goal.returns-in_err-walk_bucket-clause-looks
+returns-in_err-walk_bucket-clause-looks c =
+    walked_within c.args.looks.now c.loop-hash.looks c.walk_bucket.new.looks c.loop-hash.hash-index (length c.args.hashes.now) (get_or c.args.hashes.now c.loop-hash.hash-index 0) c.args.clauses.now
+    c.loop-hash.invariant.looks c.walk_bucket.ensures.looks c.loop-hash-test.true
+
+pub returns-in-Conflict-clause-looks : goal.returns-in-Conflict-clause-looks
+returns-in-Conflict-clause-looks c =
+    walked_within c.args.looks.now c.loop-hash.looks c.walk_bucket.new.looks c.loop-hash.hash-index (length c.args.hashes.now) (get_or c.args.hashes.now c.loop-hash.hash-index 0) c.args.clauses.now
+    c.loop-hash.invariant.looks c.walk_bucket.ensures.looks c.loop-hash-test.true
+
+pub loop-hash-preserved : goal.loop-hash-preserved
+loop-hash-preserved c =
+    let says = rw c.in-Open.is at c.in_ok-walk_bucket.ensures.says in
+    record {
+      walked = c.loop-hash.invariant.walked ∙ buckets-open (bucket_of c.args.clauses.now) c.args.hashes.now c.loop-hash.hash-index c.loop-hash-test.true c.loop-hash.assigned c.walk_bucket.new.assigned says.0 says.1;
+      extends = Extends-further c.args.assigned.now c.loop-hash.assigned c.walk_bucket.new.assigned c.loop-hash.invariant.extends c.walk_bucket.ensures.extends;
+      looks = walked_more c.args.looks.now c.loop-hash.looks c.walk_bucket.new.looks c.loop-hash.hash-index (get_or c.args.hashes.now c.loop-hash.hash-index 0) c.args.clauses.now
+          c.loop-hash.invariant.looks c.walk_bucket.ensures.looks;
+    }
