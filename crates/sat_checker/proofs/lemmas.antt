@@ -3,4 +3,5 @@ pub mod tally
 pub mod propagation
 pub mod meaning
 pub mod store
+pub mod variables
 pub mod rows

@@ -4,3 +4,4 @@ pub mod Look
 pub mod IndexView
 pub mod SlotView
 pub mod EntryView
+pub mod VariablesView

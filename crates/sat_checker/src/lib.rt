@@ -11,6 +11,7 @@ pub mod rup;
 pub mod slots;
 pub mod sorted_lits;
 mod tally;
+pub mod variables;
 
 pub use hash::ClauseHasher;
 pub use looks::Looks;

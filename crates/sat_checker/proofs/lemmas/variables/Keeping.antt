@@ -1,0 +1,107 @@
+-- What is kept of variables.
+use Rattle.std.proofs.Common.{ℕ, ◌+◌, ◌<◌, ◌≡◌, Bool, true, false, ◌||◌, cond, eqb, List, [], ◌∷◌, length, drop, get_or, map, Option, Some, None, is_some, refl, sym, ◌∙◌, ap}
+use Rattle.std.proofs.lemmas.Bool.{true≢false, eqb-true, eqb-false, eq-eqb, ne_eqb}
+use Rattle.std.proofs.lemmas.List.{drop_more}
+use Rattle.std.specs.Bool.{MatchBool}
+use Rattle.sat_base.specs.values.Literals.{variable}
+use Rattle.sat_checker.specs.LiteralSets.{is_among}
+use Rattle.sat_checker.specs.Stored.{Stored, Variable, Hide}
+use Rattle.sat_checker.specs.Accepts.{MayGetName}
+use Rattle.sat_checker.specs.inner.VariablesView.{known_if, mode_in, variable_of, variable_at, holder_at, KeepsVariables}
+use Rattle.sat_checker.specs.declared.variables.Variables.{Variables}
+use Rattle.sat_checker.specs.declared.variables.VarData.{VarData}
+
+eqb_comm : (x y : ℕ) → eqb x y ≡ eqb y x
+eqb_comm x y = go (eqb x y) refl (eqb y x) refl
+  where
+    go : (b : Bool) → eqb x y ≡ b → (d : Bool) → eqb y x ≡ d → b ≡ d
+    go true e true f = refl
+    go false e false f = refl
+    go true e false f = absurd (eqb-false y x f (sym (eqb-true x y e)))
+    go false e true f = absurd (eqb-false x y e (sym (eqb-true y x f)))
+
+twice : (b d : Bool) (x : Variable) → known_if d (known_if b x) ≡ known_if (b || d) x
+twice true true x = refl
+twice true false x = refl
+twice false d x = refl
+
+-- one more literal's variable is known
+pub known_next : (ls : List ℕ) (i v w d : ℕ) (x y : Variable) → i < length ls → w ≡ variable (get_or ls i d) → y ≡ known_if (eqb v w) x → known_if (is_among (map variable (drop i ls)) v) x ≡ known_if (is_among (map variable (drop (i + 1) ls)) v) y
+known_next ls i v w d x y l e k =
+    ap (λ ms. known_if (is_among (map variable ms) v) x) (drop_more ls i d l)
+    ∙ ap (λ n. known_if (eqb n v || is_among (map variable (drop (i + 1) ls)) v) x) (sym e)
+    ∙ ap (λ b. known_if (b || is_among (map variable (drop (i + 1) ls)) v) x) (eqb_comm w v)
+    ∙ sym (twice (eqb v w) (is_among (map variable (drop (i + 1) ls)) v) x) ∙ ap (known_if (is_among (map variable (drop (i + 1) ls)) v)) (sym k)
+
+-- a name that is taken, a variable that has one, and a hidden one get no name
+module _ (vs : Variables) (f : Stored) (k : KeepsVariables vs f.variables) (v name : ℕ) where
+  pub refused_taken : (o : Option ℕ) → o ≡ holder_at vs name → is_some o ≡ true → MayGetName f v name → ⊥
+  refused_taken None e s h = true≢false (sym s)
+  refused_taken (Some w) e s h = h.free w ((k.holders name w).0 (sym e))
+
+  pub refused_named : (d : VarData) → variable_of d ≡ variable_at vs v → is_some d.name ≡ true → MayGetName f v name → ⊥
+  refused_named d e s h = named d.name refl s
+    where
+      none : d.name ≡ None
+      none = ap (λ (x : Variable). x.name) (e ∙ k.each v) ∙ h.nameless
+
+      named : (o : Option ℕ) → d.name ≡ o → is_some o ≡ true → ⊥
+      named None q s = true≢false (sym s)
+      named (Some n) q s = let z : None ≡ Some n = sym none ∙ q in absurd (cc)
+
+  pub refused_hidden : (d : VarData) → variable_of d ≡ variable_at vs v → mode_in d.mode ≡ Hide → MayGetName f v name → ⊥
+  refused_hidden d e s h = h.not_hidden (ap (λ (x : Variable). x.mode) (sym (k.each v) ∙ sym e) ∙ s)
+
+  pub may_get : (o : Option ℕ) (d : VarData) → o ≡ holder_at vs name → is_some o ≡ false → variable_of d ≡ variable_at vs v → is_some d.name ≡ false → (mode_in d.mode ≡ Hide → ⊥) → MayGetName f v name
+  may_get o d e s q n m = record {
+    free = λ w t. taken o e s w ((k.holders name w).1 t);
+    nameless = sym (ap (λ (x : Variable). x.name) (k.each v)) ∙ sym (ap (λ (x : Variable). x.name) q) ∙ unnamed d.name n;
+    not_hidden = λ t. m (ap (λ (x : Variable). x.mode) (q ∙ k.each v) ∙ t);
+  }
+    where
+      taken : (o : Option ℕ) → o ≡ holder_at vs name → is_some o ≡ false → (w : ℕ) → holder_at vs name ≡ Some w → ⊥
+      taken None e s w t = let z : None ≡ Some w = e ∙ t in absurd (cc)
+      taken (Some x) e s w t = true≢false s
+
+      unnamed : (o : Option ℕ) → is_some o ≡ false → o ≡ None
+      unnamed None s = refl
+      unnamed (Some x) s = absurd (true≢false s)
+
+-- a variable gets a name
+pub named_kept : (vs one two : Variables) (g : ℕ → Variable) (v name : ℕ) (x : Variable) → KeepsVariables vs g → x.name ≡ Some name → (g v).name ≡ None → ((w : ℕ) → (g w).name ≡ Some name → ⊥)
+    → ((w : ℕ) → variable_at one w ≡ cond (eqb w v) x (variable_at vs w)) → ((n : ℕ) → holder_at one n ≡ holder_at vs n) → ((w : ℕ) → variable_at two w ≡ variable_at one w) → ((n : ℕ) → holder_at two n ≡ cond (eqb n name) (Some v) (holder_at one n))
+    → KeepsVariables two (λ w. cond (eqb w v) x (g w))
+named_kept vs one two g v name x k xn gn free e h e2 h2 = record {
+  each = λ w. e2 w ∙ e w ∙ ap (λ y. cond (eqb w v) x y) (k.each w);
+  holders = λ n w. (by_two n w (eqb n name) refl (eqb w v) refl, back n w (eqb n name) refl (eqb w v) refl);
+}
+  where
+    some_same : (a b : ℕ) → Some a ≡ Some b → a ≡ b
+    some_same a b q = cc
+
+    by_two : (n w : ℕ) (b : Bool) → eqb n name ≡ b → (d : Bool) → eqb w v ≡ d → holder_at two n ≡ Some w → (cond d x (g w)).name ≡ Some n
+    by_two n w true a true c t = xn ∙ ap Some (sym (eqb-true n name a))
+    by_two n w true a false c t =
+        let q : Some v ≡ Some w = sym (ap (λ b. cond b (Some v) (holder_at one n)) a) ∙ sym (h2 n) ∙ t in
+        absurd (eqb-false w v c (sym (some_same v w q)))
+    by_two n w false a true c t =
+        let q : holder_at vs n ≡ Some w = sym (h n) ∙ sym (ap (λ b. cond b (Some v) (holder_at one n)) a) ∙ sym (h2 n) ∙ t in
+        let z : (g w).name ≡ Some n = (k.holders n w).0 q in
+        let y : None ≡ Some n = sym (ap (λ m. (g m).name) (eqb-true w v c) ∙ gn) ∙ z in absurd (cc)
+    by_two n w false a false c t = (k.holders n w).0 (sym (h n) ∙ sym (ap (λ b. cond b (Some v) (holder_at one n)) a) ∙ sym (h2 n) ∙ t)
+
+    back : (n w : ℕ) (b : Bool) → eqb n name ≡ b → (d : Bool) → eqb w v ≡ d → (cond d x (g w)).name ≡ Some n → holder_at two n ≡ Some w
+    back n w true a true c t = h2 n ∙ ap (λ b. cond b (Some v) (holder_at one n)) a ∙ ap Some (sym (eqb-true w v c))
+    back n w true a false c t = absurd (free w (t ∙ ap Some (eqb-true n name a)))
+    back n w false a true c t = absurd (eqb-false n name a (sym (some_same name n (sym xn ∙ t))))
+    back n w false a false c t = h2 n ∙ ap (λ b. cond b (Some v) (holder_at one n)) a ∙ h n ∙ (k.holders n w).1 t
+
+pub match_true : (b : Bool) (P Q : Type 0) → MatchBool b P Q → b ≡ true → P
+match_true true P Q m e = m
+match_true false P Q m e = absurd (true≢false (sym e))
+
+pub match_false : (b : Bool) (P Q : Type 0) → MatchBool b P Q → b ≡ false → Q
+match_false true P Q m e = absurd (true≢false e)
+match_false false P Q m e = m
+
+pub ruleset ensuring = (known_next)

@@ -1,0 +1,28 @@
+use Rattle.std.proofs.Common.{◌≡◌, ◌∙◌, ap, sym, refl, true, false, cond, eqb, Some}
+use Rattle.sat_checker.specs.Stored.{Variable, Mode}
+use Rattle.sat_checker.specs.Accepts.{MayGetName}
+use Rattle.sat_checker.specs.inner.VariablesView.{mode_in, variable_at}
+use Rattle.sat_checker.proofs.lemmas.variables.Keeping.{refused_taken, refused_named, refused_hidden, may_get, named_kept, match_true, match_false}
+use Rattle.sat_checker.proofs.variables.Variables.add_user_mapping.Goals as goal
+
+pub returns-then-is_some : goal.returns-then-is_some
+returns-then-is_some c = λ f k. refused_taken c.args.self.now f k c.args.var c.args.name c.holder.result c.holder.ensures (sym c.is_some.ensures ∙ c.if-is_some.true)
+
+pub returns-then-is_some-2 : goal.returns-then-is_some-2
+returns-then-is_some-2 c = λ f k. refused_named c.args.self.now f k c.args.var c.args.name c.data-old.result c.data-old.ensures (sym c.is_some-2.ensures ∙ c.if-is_some-2.true)
+
+pub returns-then-is_hidden : goal.returns-then-is_hidden
+returns-then-is_hidden c = λ f k. refused_hidden c.args.self.now f k c.args.var c.args.name c.data-old.result c.data-old.ensures (match_true _ _ _ c.is_hidden.ensures c.if-is_hidden.true)
+
+pub returns : goal.returns
+returns c = λ f k.
+    let may : MayGetName f c.args.var c.args.name =
+        may_get c.args.self.now f k c.args.var c.args.name c.holder.result c.data-old.result c.holder.ensures (sym c.is_some.ensures ∙ c.if-is_some.false) c.data-old.ensures (sym c.is_some-2.ensures ∙ c.if-is_some-2.false)
+            (match_false _ _ _ c.is_hidden.ensures c.if-is_hidden.false) in
+    let mode : mode_in c.data-old.result.mode ≡ (f.variables c.args.var).mode = ap (λ (x : Variable). x.mode) (c.data-old.ensures ∙ k.each c.args.var) in
+    (
+      may,
+      named_kept c.args.self.now c.set.new.self c.set_holder.new.self f.variables c.args.var c.args.name (record { known = true; mode = (f.variables c.args.var).mode; name = Some c.args.name }) k refl may.nameless may.free
+          (λ w. c.in_ok-set.ensures.variables w ∙ ap (λ (m : Mode). cond (eqb w c.args.var) (record { known = true; mode = m; name = Some c.args.name }) (variable_at c.args.self.now w)) mode)
+          c.in_ok-set.ensures.holders c.in_ok-set_holder.ensures.variables c.in_ok-set_holder.ensures.holders,
+    )

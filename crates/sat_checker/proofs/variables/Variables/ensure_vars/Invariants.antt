@@ -1,0 +1,12 @@
+use Rattle.std.proofs.Common.{ℕ, ◌≡◌, drop, map}
+use Rattle.sat_base.specs.values.Literals.{variable}
+use Rattle.sat_checker.specs.LiteralSets.{is_among}
+use Rattle.sat_checker.specs.inner.VariablesView.{variable_at, holder_at, known_if}
+use Rattle.sat_checker.proofs.variables.Variables.ensure_vars.Given as goal
+
+-- the variables of the literals that are left make known the rest
+abbrev pub invariant-loop-lit : goal.invariant-loop-lit
+invariant-loop-lit l = record {
+  variables : (v : ℕ) → known_if (is_among (map variable l.literals) v) (variable_at l.fn.self v) ≡ known_if (is_among (map variable (drop l.lit-index l.literals)) v) (variable_at l.self v);
+  holders : (name : ℕ) → holder_at l.self name ≡ holder_at l.fn.self name;
+}

@@ -1,0 +1,41 @@
+-- What the code keeps of variables.
+use Rattle.std.specs.Prelude.{ℕ, ◌≡◌, ◌↔◌, Bool, true, if◌then◌else◌, Option, None, Some, slice_index_or}
+use Rattle.std.specs.Bool.{MatchBool}
+use Rattle.sat_base.specs.steps.Steps.{Step}
+use Rattle.sat_checker.specs.Stored.{Stored, Variable, Mode}
+use Rattle.sat_checker.specs.Accepts.{Accepts, effect}
+use Rattle.sat_checker.specs.Stored as stored
+use Rattle.sat_checker.specs.declared.variables.SamplingMode.{SamplingMode}
+use Rattle.sat_checker.specs.declared.variables.SamplingMode.TheVariants as code
+use Rattle.sat_checker.specs.declared.variables.VarData.{VarData}
+use Rattle.sat_checker.specs.declared.variables.Variables.{Variables}
+
+abbrev pub mode_in : SamplingMode → Mode
+mode_in code.Sample = stored.Sample
+mode_in code.Witness = stored.Witness
+mode_in code.Hide = stored.Hide
+
+abbrev pub variable_of : VarData → Variable
+variable_of d = record { known = d.known; mode = mode_in d.mode; name = d.name }
+
+abbrev pub unknown_data : VarData
+unknown_data = record { known = stored.unknown.known; mode = code.Sample; name = None }
+
+abbrev pub variable_at : Variables → ℕ → Variable
+variable_at vs v = variable_of (slice_index_or vs.data.items v unknown_data)
+
+abbrev pub holder_at : Variables → ℕ → Option ℕ
+holder_at vs name = slice_index_or vs.holders.items name None
+
+abbrev pub known_if : Bool → Variable → Variable
+known_if b x = if b then record x { known = true } else x
+
+-- it keeps these variables, and the names that they have
+pub record KeepsVariables (vs : Variables) (variables : ℕ → Variable) : Type 0 where
+  pub each : (v : ℕ) → variable_at vs v ≡ variables v
+  pub holders : (name v : ℕ) → (holder_at vs name ≡ Some v) ↔ ((variables v).name ≡ Some name)
+
+-- the step is accepted, and then its variables are kept, or it's refused
+abbrev pub VariablesAnswer : Variables → Step → Variables → Bool → Type 0
+VariablesAnswer old step new accepted =
+    (f : Stored) → KeepsVariables old f.variables → MatchBool accepted (Accepts f step × KeepsVariables new (effect step f).variables) (Accepts f step → ⊥)

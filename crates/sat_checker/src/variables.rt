@@ -1,0 +1,172 @@
+//! Which variables are known, their modes, and the user's names for them.
+ghost use Rattle.std.specs.Prelude.{ℕ, true, ◌≡◌, ◌==◌, ◌↔◌, IsTrue, Option, None, Some, OnOk, IfOk, MatchBool, map, if◌then◌else◌};
+ghost use Rattle.std.specs.List.{AllByRecursion};
+ghost use Rattle.sat_base.specs.values.Literals.{variable};
+ghost use Rattle.sat_checker.specs.LiteralSets.{is_among};
+ghost use Rattle.sat_checker.specs.Stored.{Hide, Sample, unknown};
+ghost use Rattle.sat_checker.specs.inner.VariablesView.{mode_in, variable_of, variable_at, holder_at, known_if, VariablesAnswer};
+ghost use Rattle.sat_base.specs.steps.Steps.{UserVarName, ChangeSamplingMode};
+
+use sat_base::{Lit, Var};
+use std::alloc::{AllocError, Global};
+
+/// What a variable is to the user's formula.
+#[derive(Clone, Copy)]
+pub enum SamplingMode {
+    Sample,
+    Witness,
+    Hide,
+}
+
+fn is_hidden(mode: SamplingMode) -> bool
+    ensures { MatchBool result (mode_in mode ≡ Hide) (mode_in mode ≡ Hide → ⊥) }
+{
+    match mode {
+        SamplingMode::Hide => true,
+        SamplingMode::Sample | SamplingMode::Witness => false,
+    }
+}
+
+/// What is kept of a variable.
+#[derive(Clone, Copy)]
+pub struct VarData {
+    pub known: bool,
+    pub mode: SamplingMode,
+    pub name: Option<Var>,
+}
+
+impl VarData {
+    /// A variable at first.
+    pub fn unknown() -> VarData
+        ensures { variable_of result ≡ unknown }
+    {
+        VarData {
+            known: false,
+            mode: SamplingMode::Sample,
+            name: None,
+        }
+    }
+}
+
+/// Variables by index, and which of them have the names of the user.
+#[derive(Drop)]
+pub struct Variables {
+    data: Vec<VarData>,
+    holders: Vec<Option<Var>>,
+}
+
+impl Variables {
+    pub fn new(alloc: Global) -> Variables
+        ensures variables { (v : ℕ) → variable_at result v ≡ unknown }
+        ensures holders { (name : ℕ) → holder_at result name ≡ None }
+    {
+        Variables {
+            data: Vec::new(alloc),
+            holders: Vec::new(alloc),
+        }
+    }
+
+    pub fn data(&self, var: Var) -> VarData
+        ensures { variable_of result ≡ variable_at self.now var }
+    {
+        let place = var.index();
+        if place < self.data.len() {
+            self.data[place]
+        } else {
+            VarData::unknown()
+        }
+    }
+
+    /// The variable that has the name.
+    pub fn holder(&self, name: Var) -> Option<Var>
+        ensures { result ≡ holder_at self.now name }
+    {
+        let place = name.index();
+        if place < self.holders.len() {
+            self.holders[place]
+        } else {
+            None
+        }
+    }
+
+    fn set(&mut self, var: Var, state: VarData) -> Result<(), AllocError>
+        ensures variables { OnOk result ((v : ℕ) → variable_at self.new v ≡ (if v == var then variable_of state else variable_at self.old v)) }
+        ensures holders { (name : ℕ) → holder_at self.new name ≡ holder_at self.old name }
+    {
+        let place = var.index();
+        if self.data.len() <= place {
+            self.data.resize(place + 1, VarData::unknown())?;
+        }
+        self.data[place] = state;
+        Ok(())
+    }
+
+    /// An unknown variable becomes a sampling one.
+    pub fn ensure_var(&mut self, var: Var) -> Result<(), AllocError>
+        ensures variables { OnOk result ((v : ℕ) → variable_at self.new v ≡ (known_if (v == var) (variable_at self.old v))) }
+        ensures holders { (name : ℕ) → holder_at self.new name ≡ holder_at self.old name }
+    {
+        let old = self.data(var);
+        if old.known {
+            return Ok(());
+        }
+        self.set(
+            var,
+            VarData {
+                known: true,
+                mode: old.mode,
+                name: old.name,
+            },
+        )
+    }
+
+    /// Unknown variables of the literals become sampling ones.
+    #[tactic(auto, using(crate::proofs::lemmas::variables::Keeping::ensuring))]
+    pub fn ensure_vars(&mut self, literals: &[Lit]) -> Result<(), AllocError>
+        ensures variables { OnOk result ((v : ℕ) → variable_at self.new v ≡ known_if (is_among (map variable literals.now) v) (variable_at self.old v)) }
+        ensures holders { (name : ℕ) → holder_at self.new name ≡ holder_at self.old name }
+    {
+        for lit in literals {
+            self.ensure_var(lit.var())?;
+        }
+        Ok(())
+    }
+
+    /// Gives a variable a name. The answer is whether it may have it: the name is free, the variable has none and isn't hidden.
+    pub fn add_user_mapping(&mut self, var: Var, name: Var) -> Result<bool, AllocError>
+        ensures { IfOk result (VariablesAnswer self.old (UserVarName var (Some name)) self.new) }
+    {
+        if self.holder(name).is_some() {
+            return Ok(false);
+        }
+        let old = self.data(var);
+        if old.name.is_some() {
+            return Ok(false);
+        }
+        if is_hidden(old.mode) {
+            return Ok(false);
+        }
+        self.set(
+            var,
+            VarData {
+                known: true,
+                mode: old.mode,
+                name: Some(name),
+            },
+        )?;
+        self.set_holder(name, Some(var))?;
+        Ok(true)
+    }
+
+    fn set_holder(&mut self, name: Var, holder: Option<Var>) -> Result<(), AllocError>
+        ensures holders { OnOk result ((q : ℕ) → holder_at self.new q ≡ (if q == name then holder else holder_at self.old q)) }
+        ensures variables { (v : ℕ) → variable_at self.new v ≡ variable_at self.old v }
+    {
+        let place = name.index();
+        if self.holders.len() <= place {
+            self.holders.resize(place + 1, None)?;
+        }
+        self.holders[place] = holder;
+        Ok(())
+    }
+}
