@@ -1,0 +1,7 @@
+//! What a solver propagates with: values of variables, the trail, reasons, lists of clauses, and propagation itself.
+#![tactic(auto)]
+
+pub mod prop;
+
+pub use prop::assignment::{Assignment, fast_option_eq};
+pub use prop::trail::Trail;

@@ -1,0 +1,3 @@
+//! Unit propagation, and what it works on.
+pub mod assignment;
+pub mod trail;

@@ -1,0 +1,147 @@
+//! Values of variables.
+ghost use Rattle.std.specs.Prelude.{◌≡◌, ◌<◌, ◌≤◌, ◌↔◌, [], length, IsTrue, OnOk, OnErr, None, slice_index_or};
+ghost use Rattle.sat_base.specs.values.Literals.{largest, variable, is_positive};
+ghost use Rattle.sat_parts.specs.prop.Values.{assigned, made_true, with_var_count, value_of, seen_from, IsTrueLit, IsFalseLit, IsOpenLit};
+
+use sat_base::{Lit, Var};
+use std::alloc::{AllocError, Global};
+use std::marker::Model;
+
+/// The value of each variable that has one, and for each variable the value that it lost last, false at first.
+/// Contracts see both lists, by index of variable.
+#[derive(Drop)]
+pub struct Assignment {
+    values: Vec<Option<bool>>,
+    last_values: Vec<bool>,
+}
+
+impl Model for Assignment {
+    ghost use Rattle.std.specs.Prelude.{◌≡◌, ◌≤◌, length};
+    ghost use Rattle.sat_base.specs.values.Literals.{largest};
+    ghost use Rattle.sat_parts.specs.prop.Values.{Values};
+
+    ghost Value = { Values };
+
+    ghost view = { λ a. record { current = a.values.items; last = a.last_values.items } };
+
+    ghost invariant = { λ a. (length a.last_values.items ≡ length a.values.items) × (length a.values.items ≤ largest) };
+}
+
+/// Whether both are the same value, or both none.
+#[inline(always)] // called for each literal that an inner loop looks at
+pub fn fast_option_eq(a: Option<bool>, b: Option<bool>) -> bool
+    ensures { IsTrue result ↔ (a ≡ b) }
+{
+    a == b
+}
+
+impl Assignment {
+    /// No variables. Takes no memory.
+    pub fn new(alloc: Global) -> Assignment
+        ensures current { result.current ≡ [] }
+        ensures last { result.last ≡ [] }
+    {
+        Assignment {
+            values: Vec::new(alloc),
+            last_values: Vec::new(alloc),
+        }
+    }
+
+    /// Makes the variables those with an index below the count. New ones have no value.
+    pub fn set_var_count(&mut self, count: usize) -> Result<(), AllocError>
+        requires { count ≤ largest }
+        ensures done { OnOk result (self.new ≡ with_var_count count self.old) }
+        ensures same { OnErr result (self.new ≡ self.old) }
+    {
+        let more = count.saturating_sub(self.values.len());
+        self.values.reserve(more)?;
+        self.last_values.reserve(more)?;
+        self.values.resize(count, None)?;
+        self.last_values.resize(count, false)?;
+        Ok(())
+    }
+
+    /// The values, by index of variable.
+    #[inline(always)] // called for each literal that an inner loop looks at
+    pub fn assignment(&self) -> &[Option<bool>]
+        ensures values { result.now ≡ self.now.current }
+        ensures last { length self.now.last ≡ length self.now.current }
+        ensures bound { length self.now.current ≤ largest }
+    {
+        &self.values
+    }
+
+    pub fn var_value(&self, var: Var) -> Option<bool>
+        requires { var < length self.now.current }
+        ensures { result ≡ value_of self.now.current var }
+    {
+        self.values[var.index()]
+    }
+
+    /// The value that the variable lost last.
+    pub fn last_var_value(&self, var: Var) -> bool
+        requires { var < length self.now.current }
+        ensures { result ≡ slice_index_or self.now.last var result }
+    {
+        self.last_values[var.index()]
+    }
+
+    /// The literal's value, none where its variable has none.
+    pub fn lit_value(&self, lit: Lit) -> Option<bool>
+        requires { variable lit < length self.now.current }
+        ensures { result ≡ seen_from (is_positive lit) (value_of self.now.current (variable lit)) }
+    {
+        match self.values[lit.index()] {
+            None => None,
+            Some(value) => Some(value == lit.is_positive()),
+        }
+    }
+
+    #[inline(always)] // called for each literal that an inner loop looks at
+    pub fn lit_is_true(&self, lit: Lit) -> bool
+        requires { variable lit < length self.now.current }
+        ensures { IsTrue result ↔ IsTrueLit self.now.current lit }
+    {
+        fast_option_eq(self.values[lit.index()], Some(lit.is_positive()))
+    }
+
+    #[inline(always)] // called for each literal that an inner loop looks at
+    pub fn lit_is_false(&self, lit: Lit) -> bool
+        requires { variable lit < length self.now.current }
+        ensures { IsTrue result ↔ IsFalseLit self.now.current lit }
+    {
+        fast_option_eq(self.values[lit.index()], Some(lit.is_negative()))
+    }
+
+    /// Whether the literal's variable has no value.
+    pub fn lit_is_unk(&self, lit: Lit) -> bool
+        requires { variable lit < length self.now.current }
+        ensures { IsTrue result ↔ IsOpenLit self.now.current lit }
+    {
+        fast_option_eq(self.values[lit.index()], None)
+    }
+
+    /// Makes the literal true.
+    pub fn assign_lit(&mut self, lit: Lit)
+        requires { variable lit < length self.old.current }
+        ensures { self.new ≡ made_true lit self.old }
+    {
+        self.values[lit.index()] = Some(lit.is_positive());
+    }
+
+    /// Takes the variable's value away. The value that it lost last stays as it was.
+    pub fn unassign_var(&mut self, var: Var)
+        requires { var < length self.old.current }
+        ensures { self.new ≡ assigned var None self.old }
+    {
+        self.values[var.index()] = None;
+    }
+
+    /// Gives the variable this value, or none.
+    pub fn set_var(&mut self, var: Var, value: Option<bool>)
+        requires { var < length self.old.current }
+        ensures { self.new ≡ assigned var value self.old }
+    {
+        self.values[var.index()] = value;
+    }
+}

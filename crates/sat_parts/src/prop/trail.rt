@@ -1,0 +1,140 @@
+//! The trail of literals that were made true.
+ghost use Rattle.std.specs.Prelude.{◌≡◌, ◌+◌, ◌-◌, ◌^◌, ◌<◌, ◌≤◌, ◌↔◌, [], length, min, max, IsTrue, OnOk, OnErr, MatchOption, slice_get, IfNone, IfSome};
+ghost use Rattle.sat_base.specs.values.Literals.{largest};
+ghost use Rattle.sat_parts.specs.prop.Trails.{IsTrail, no_trail, first_start, with_lit, with_level, with_cleared};
+
+use sat_base::Lit;
+use std::alloc::{AllocError, Global};
+use std::marker::Model;
+
+/// The literals that were made true and not undone, in order, which of them are still to be propagated, and where each
+/// level begins. Contracts see a `Trailed`.
+#[derive(Drop)]
+pub struct Trail {
+    trail: Vec<Lit>,
+    queue_head_pos: usize,
+    decisions: Vec<u32>,
+    units_removed: usize,
+    room: usize,
+}
+
+impl Model for Trail {
+    ghost use Rattle.std.specs.Prelude.{◌≤◌, vec_capacity};
+    ghost use Rattle.sat_parts.specs.prop.Trails.{Trailed, IsTrail};
+
+    ghost Value = { Trailed };
+
+    ghost view = { λ t. record { lits = t.trail.items; head = t.queue_head_pos; starts = t.decisions.items; cleared = t.units_removed; room = t.room } };
+
+    ghost invariant = { λ t. IsTrail (record { lits = t.trail.items; head = t.queue_head_pos; starts = t.decisions.items; cleared = t.units_removed; room = t.room }) × (t.room ≤ vec_capacity t.trail) };
+}
+
+impl Trail {
+    /// No literals, and room for none. Takes no memory.
+    pub fn new(alloc: Global) -> Trail
+        ensures { result ≡ no_trail }
+    {
+        Trail {
+            trail: Vec::new(alloc),
+            queue_head_pos: 0,
+            decisions: Vec::new(alloc),
+            units_removed: 0,
+            room: 0,
+        }
+    }
+
+    /// Makes room for a literal of each variable. A lower count than before changes nothing.
+    pub fn set_var_count(&mut self, count: usize) -> Result<(), AllocError>
+        requires { count ≤ largest }
+        ensures done { OnOk result (self.new ≡ record self.old { room = max self.old.room count }) }
+        ensures same { OnErr result (self.new ≡ self.old) }
+    {
+        let more = count.saturating_sub(self.trail.len());
+        self.trail.reserve(more)?;
+        self.room = self.room.max(count);
+        Ok(())
+    }
+
+    /// The next literal to be propagated.
+    pub fn queue_head(&self) -> Option<Lit>
+        ensures next { MatchOption result (self.now.head ≡ length self.now.lits) (λ l. slice_get self.now.lits self.now.head ≡ Some l) }
+        ensures sound { IsTrail self.now }
+    {
+        self.trail.get(self.queue_head_pos).copied()
+    }
+
+    /// Takes the next literal to be propagated off the queue. It stays on the trail.
+    pub fn pop_queue(&mut self) -> Option<Lit>
+        ensures none { IfNone result ((self.old.head ≡ length self.old.lits) × (self.new ≡ self.old)) }
+        ensures next { IfSome result (λ l. (slice_get self.old.lits self.old.head ≡ Some l) × (self.new ≡ record self.old { head = self.old.head + 1 })) }
+    {
+        if self.queue_head_pos == self.trail.len() {
+            return None;
+        }
+        let head = self.trail[self.queue_head_pos];
+        self.queue_head_pos += 1;
+        Some(head)
+    }
+
+    /// Puts all literals of the trail into the queue.
+    pub fn reset_queue(&mut self)
+        ensures { self.new ≡ record self.old { head = 0 } }
+    {
+        self.queue_head_pos = 0;
+    }
+
+    /// The literals, in the order in which they were made true.
+    pub fn trail(&self) -> &[Lit]
+        ensures lits { result.now ≡ self.now.lits }
+        ensures sound { IsTrail self.now }
+    {
+        &self.trail
+    }
+
+    /// Takes all literals off the trail. They stay counted as literals of level 0.
+    pub fn clear(&mut self)
+        requires { self.old.starts ≡ [] }
+        ensures { self.new ≡ with_cleared self.old }
+    {
+        self.units_removed = self.units_removed.saturating_add(self.trail.len());
+        self.trail.clear();
+        self.queue_head_pos = 0;
+    }
+
+    /// Begins a level behind the literals that are there.
+    pub fn new_decision_level(&mut self) -> Result<(), AllocError>
+        requires { length self.old.starts + 1 < 2 ^ 32 }
+        ensures done { OnOk result (self.new ≡ with_level self.old) }
+        ensures same { OnErr result (self.new ≡ self.old) }
+    {
+        let len = self.trail.len() as u32;
+        self.decisions.push(len)?;
+        Ok(())
+    }
+
+    /// The number of levels above 0.
+    pub fn current_level(&self) -> usize
+        ensures level { result ≡ length self.now.starts }
+        ensures sound { IsTrail self.now }
+    {
+        self.decisions.len()
+    }
+
+    /// How many literals were cleared or are of level 0, held at 2^64 - 1.
+    pub fn top_level_assignment_count(&self) -> usize
+        ensures { result ≡ min (first_start self.now + self.now.cleared) (2 ^ 64 - 1) }
+    {
+        let end = match self.decisions.first() {
+            Some(start) => *start as usize,
+            None => self.trail.len(),
+        };
+        end.saturating_add(self.units_removed)
+    }
+
+    /// Whether no literal is to be propagated.
+    pub fn fully_propagated(&self) -> bool
+        ensures { IsTrue result ↔ (self.now.head ≡ length self.now.lits) }
+    {
+        self.queue_head_pos == self.trail.len()
+    }
+}
