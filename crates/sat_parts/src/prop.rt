@@ -1,3 +1,4 @@
 //! Unit propagation, and what it works on.
 pub mod assignment;
+pub mod graph;
 pub mod trail;

@@ -1,0 +1,28 @@
+-- Nodes of the implication graph, by index of variable.
+use Rattle.std.specs.Prelude.{ℕ, ◌-◌, Bool, true, false, List, ◌++◌, take, replicate, length, slice_index_or as get_or, slice_set as set}
+use Rattle.sat_parts.specs.declared.prop.graph.ImplNode.{ImplNode}
+use Rattle.sat_parts.specs.declared.prop.graph.Reason.{Reason}
+use Rattle.sat_parts.specs.declared.prop.graph.Reason.TheVariants.{Unit as NoCause, Binary, Long}
+
+abbrev pub is_unit : Reason → Bool
+is_unit NoCause = true
+is_unit (Binary _) = false
+is_unit (Long _) = false
+
+-- a node that nothing has been written to
+abbrev pub new_node : ImplNode
+new_node = record { reason = NoCause; level = 0; depth = 0 }
+
+abbrev pub node_of : List ImplNode → ℕ → ImplNode
+node_of nodes v = get_or nodes v new_node
+
+abbrev pub with_node : ℕ → ImplNode → List ImplNode → List ImplNode
+with_node v node nodes = set nodes v node
+
+-- the nodes of so many variables
+abbrev pub with_nodes : ℕ → List ImplNode → List ImplNode
+with_nodes count nodes = take count nodes ++ replicate (count - length nodes) new_node
+
+-- the node of a unit taken off the trail
+abbrev pub without_depth : ImplNode → ImplNode
+without_depth node = record node { reason = NoCause; depth = 4294967295 }
