@@ -1,3 +1,4 @@
 pub mod Values
 pub mod Trails
 pub mod Graphs
+pub mod State

@@ -1,5 +1,6 @@
 -- Nodes of the implication graph, by index of variable.
-use Rattle.std.specs.Prelude.{ℕ, ◌-◌, Bool, true, false, List, ◌++◌, take, replicate, length, slice_index_or as get_or, slice_set as set}
+use Rattle.std.specs.Prelude.{ℕ, ◌+◌, ◌-◌, Bool, true, false, List, ◌++◌, take, replicate, length, slice_index_or as get_or, slice_set as set}
+use Rattle.sat_parts.specs.prop.Trails.{Trailed}
 use Rattle.sat_parts.specs.declared.prop.graph.ImplNode.{ImplNode}
 use Rattle.sat_parts.specs.declared.prop.graph.Reason.{Reason}
 use Rattle.sat_parts.specs.declared.prop.graph.Reason.TheVariants.{Unit as NoCause, Binary, Long}
@@ -15,6 +16,10 @@ new_node = record { reason = NoCause; level = 0; depth = 0 }
 
 abbrev pub node_of : List ImplNode → ℕ → ImplNode
 node_of nodes v = get_or nodes v new_node
+
+-- the node of a literal that comes next on this trail
+abbrev pub node_at : Trailed → Reason → ImplNode
+node_at t reason = record { reason = reason; level = length t.starts; depth = length t.lits + 1 }
 
 abbrev pub with_node : ℕ → ImplNode → List ImplNode → List ImplNode
 with_node v node nodes = set nodes v node

@@ -22,6 +22,7 @@ pub record IsTrail (t : Trailed) : Type 0 where
   pub levels : AreStarts t.starts (length t.lits)
   pub fits : length t.lits ≤ t.room
   pub small : t.room ≤ largest
+  pub counted : length t.starts < 2 ^ 32
 
 -- the literal at place i was made true at this level
 pub record LevelIs (starts : List ℕ) (i level : ℕ) : Type 0 where

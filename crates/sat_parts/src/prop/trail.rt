@@ -1,8 +1,12 @@
 //! The trail of literals that were made true.
 ghost use Rattle.std.specs.Prelude.{◌≡◌, ◌+◌, ◌-◌, ◌^◌, ◌<◌, ◌≤◌, ◌↔◌, [], length, min, max, IsTrue, OnOk, OnErr, MatchOption, slice_get, IfNone, IfSome};
-ghost use Rattle.sat_base.specs.values.Literals.{largest};
+ghost use Rattle.sat_base.specs.values.Literals.{largest, variable};
+ghost use Rattle.sat_parts.specs.prop.Values.{made_true, IsOpenLit};
+ghost use Rattle.sat_parts.specs.prop.Graphs.{node_at, with_node};
 ghost use Rattle.sat_parts.specs.prop.Trails.{IsTrail, no_trail, first_start, with_lit, with_level, with_cleared};
 
+use crate::prop::assignment::Assignment;
+use crate::prop::graph::{ImplGraph, ImplNode, Reason};
 use sat_base::Lit;
 use std::alloc::{AllocError, Global};
 use std::marker::Model;
@@ -137,4 +141,30 @@ impl Trail {
     {
         self.queue_head_pos == self.trail.len()
     }
+}
+
+/// Makes an open literal true, as the last one of the trail and of its queue. Takes no memory.
+#[inline(always)] // called for each literal that propagation finds
+pub fn enqueue_assignment(
+    assignment: &mut Assignment,
+    graph: &mut ImplGraph,
+    trail: &mut Trail,
+    lit: Lit,
+    reason: Reason,
+)
+    requires value { variable lit < length assignment.old.current }
+    requires node { variable lit < length graph.old }
+    requires open { IsOpenLit assignment.old.current lit }
+    requires room { length trail.old.lits < trail.old.room }
+    ensures value { assignment.new ≡ made_true lit assignment.old }
+    ensures node { graph.new ≡ with_node (variable lit) (node_at trail.old reason) graph.old }
+    ensures trail { trail.new ≡ with_lit lit trail.old }
+{
+    assignment.assign_lit(lit);
+    trail.trail.push_reserved(lit);
+    graph.nodes[lit.index()] = ImplNode {
+        reason,
+        level: trail.decisions.len() as u32,
+        depth: trail.trail.len() as u32,
+    };
 }

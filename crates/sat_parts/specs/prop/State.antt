@@ -1,0 +1,61 @@
+-- Values, nodes and trail of one search, and what ties them.
+use Rattle.std.specs.Prelude.{ℕ, ◌≡◌, ◌≢◌, ◌+◌, ◌<◌, ◌≤◌, ◌⊎◌, Bool, Option, None, List, [], ◌∷◌, ◌++◌, length, slice_index_or as get_or}
+use Rattle.sat_base.specs.values.Literals.{variable, largest}
+use Rattle.sat_parts.specs.declared.prop.graph.ImplNode.{ImplNode}
+use Rattle.sat_parts.specs.declared.prop.graph.Reason.{Reason}
+use Rattle.sat_parts.specs.prop.Values.{IsTrueLit, value_of}
+use Rattle.sat_parts.specs.prop.Trails.{Trailed, IsTrail, LevelIs}
+use Rattle.sat_parts.specs.prop.Graphs.{node_of}
+
+-- which literals are true, why, and in which order they became so
+pub record State : Type 0 where
+  pub values : List (Option Bool)
+  pub nodes : List ImplNode
+  pub trail : Trailed
+
+-- the node of a literal's variable
+abbrev pub node : State → ℕ → ImplNode
+node s l = node_of s.nodes (variable l)
+
+-- the level of a literal, which it shares with its negation
+abbrev pub level : State → ℕ → ℕ
+level s l = (node s l).level
+
+abbrev pub current_level : State → ℕ
+current_level s = length s.trail.starts
+
+-- the literal at a place of the trail
+abbrev pub lit_at : State → ℕ → ℕ
+lit_at s i = get_or s.trail.lits i 0
+
+-- a true literal of level 0 that was taken off the trail
+pub record IsRemoved (s : State) (l : ℕ) : Type 0 where
+  pub holds : IsTrueLit s.values l
+  pub depth : (node s l).depth ≡ 4294967295
+  pub bottom : level s l ≡ 0
+
+-- the literal stands on the trail, at a place before this one
+pub record IsBefore (s : State) (bound l : ℕ) : Type 0 where
+  pub place : ℕ
+  pub before : place < bound
+  pub within : place < length s.trail.lits
+  pub there : lit_at s place ≡ l
+
+-- the literal has left the queue: it was propagated, or taken off the trail as a unit
+abbrev pub HasLeft : State → ℕ → Type 0
+HasLeft s l = IsBefore s s.trail.head l ⊎ IsRemoved s l
+
+-- values, nodes and trail agree: the literals of the trail are true, their nodes say where they stand and at which level,
+-- and what else is true was taken off the trail as a unit
+pub record Agrees (s : State) : Type 0 where
+  pub trail : IsTrail s.trail
+  pub nodes : length s.nodes ≡ length s.values
+  pub room : length s.values ≤ s.trail.room
+  pub holds : (i : ℕ) → i < length s.trail.lits → IsTrueLit s.values (lit_at s i)
+  pub depths : (i : ℕ) → i < length s.trail.lits → (node s (lit_at s i)).depth ≡ i + 1
+  pub levels : (i : ℕ) → i < length s.trail.lits → LevelIs s.trail.starts i (level s (lit_at s i))
+  pub known : (l : ℕ) → IsTrueLit s.values l → IsBefore s (length s.trail.lits) l ⊎ IsRemoved s l
+
+-- each literal that is still to be propagated is of the current level
+abbrev pub IsQueueCurrent : State → Type 0
+IsQueueCurrent s = (i : ℕ) → s.trail.head ≤ i → i < length s.trail.lits → level s (lit_at s i) ≡ current_level s
