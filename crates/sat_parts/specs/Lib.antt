@@ -1,1 +1,2 @@
+pub mod clause
 pub mod prop

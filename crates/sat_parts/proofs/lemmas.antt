@@ -1,0 +1,2 @@
+pub mod clause
+pub mod prop
