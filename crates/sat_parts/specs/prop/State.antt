@@ -1,11 +1,11 @@
 -- Values, nodes and trail of one search, and what ties them.
-use Rattle.std.specs.Prelude.{ℕ, ◌≡◌, ◌≢◌, ◌+◌, ◌<◌, ◌≤◌, ◌⊎◌, Bool, Option, None, List, [], ◌∷◌, ◌++◌, length, slice_index_or as get_or}
-use Rattle.sat_base.specs.values.Literals.{variable, largest}
+use Rattle.std.specs.Prelude.{ℕ, ◌≡◌, ◌+◌, ◌<◌, ◌≤◌, ◌⊎◌, Bool, Option, Some, List, length, slice_index_or as get_or, slice_set as set}
+use Rattle.sat_base.specs.values.Literals.{variable, is_positive}
 use Rattle.sat_parts.specs.declared.prop.graph.ImplNode.{ImplNode}
 use Rattle.sat_parts.specs.declared.prop.graph.Reason.{Reason}
-use Rattle.sat_parts.specs.prop.Values.{IsTrueLit, value_of}
-use Rattle.sat_parts.specs.prop.Trails.{Trailed, IsTrail, LevelIs}
-use Rattle.sat_parts.specs.prop.Graphs.{node_of}
+use Rattle.sat_parts.specs.prop.Values.{IsTrueLit}
+use Rattle.sat_parts.specs.prop.Trails.{Trailed, IsTrail, LevelIs, with_lit}
+use Rattle.sat_parts.specs.prop.Graphs.{node_of, node_at, with_node}
 
 -- which literals are true, why, and in which order they became so
 pub record State : Type 0 where
@@ -59,3 +59,31 @@ pub record Agrees (s : State) : Type 0 where
 -- each literal that is still to be propagated is of the current level
 abbrev pub IsQueueCurrent : State → Type 0
 IsQueueCurrent s = (i : ℕ) → s.trail.head ≤ i → i < length s.trail.lits → level s (lit_at s i) ≡ current_level s
+
+-- the state where an open literal became true as the last one of the trail
+abbrev pub enqueued : ℕ → Reason → State → State
+enqueued l reason s = record {
+    values = set s.values (variable l) (Some (is_positive l));
+    nodes = with_node (variable l) (node_at s.trail reason) s.nodes;
+    trail = with_lit l s.trail;
+  }
+
+-- only open literals became true, behind the others of the trail, and none left the queue
+pub record Grows (old new : State) : Type 0 where
+  pub size : length new.values ≡ length old.values
+  pub head : new.trail.head ≡ old.trail.head
+  pub starts : new.trail.starts ≡ old.trail.starts
+  pub cleared : new.trail.cleared ≡ old.trail.cleared
+  pub room : new.trail.room ≡ old.trail.room
+  pub longer : length old.trail.lits ≤ length new.trail.lits
+  pub front : (i : ℕ) → i < length old.trail.lits → lit_at new i ≡ lit_at old i
+  pub kept : (l : ℕ) → IsTrueLit old.values l → IsTrueLit new.values l
+  pub nodes : (l : ℕ) → IsTrueLit old.values l → node new l ≡ node old l
+  pub removed : (l : ℕ) → IsRemoved new l → IsRemoved old l
+
+-- one of these literals is true, at a level not above this one
+pub record IsSatisfied (s : State) (ls : List ℕ) (bound : ℕ) : Type 0 where
+  pub place : ℕ
+  pub within : place < length ls
+  pub holds : IsTrueLit s.values (get_or ls place 0)
+  pub low : level s (get_or ls place 0) ≤ bound
