@@ -2,3 +2,4 @@ pub mod Values
 pub mod Trails
 pub mod Graphs
 pub mod State
+pub mod Reasons

@@ -1,1 +1,3 @@
 pub mod StateLemmas
+pub mod RoomLemmas
+pub mod ReasonLemmas

@@ -1,0 +1,40 @@
+-- Why the literals of the trail are true.
+use Rattle.std.specs.Prelude.{ℕ, ◌≡◌, ◌<◌, ◌≤◌, ◌⊎◌, List, [], length, slice_index_or as get_or}
+use Rattle.std.specs.List.{Contains}
+use Rattle.sat_base.specs.values.Literals.{negated}
+use Rattle.sat_parts.specs.declared.prop.graph.Reason.{Reason}
+use Rattle.sat_parts.specs.declared.prop.graph.Reason.TheVariants.{Unit as NoCause, Binary, Long}
+use Rattle.sat_parts.specs.clause.Orders.{Reorders}
+use Rattle.sat_parts.specs.clause.Stored.{lit_of, size_of}
+use Rattle.sat_parts.specs.prop.Values.{IsTrueLit}
+use Rattle.sat_parts.specs.prop.State.{State, node, lit_at, IsBefore, IsRemoved, Grows}
+
+-- the literal is false: its negation stands on the trail before this place, or was taken off as a unit
+abbrev pub IsFalseBefore : State → ℕ → ℕ → Type 0
+IsFalseBefore s bound l = IsBefore s bound (negated l) ⊎ IsRemoved s (negated l)
+
+-- the literal at place i of the trail is implied by a clause of this reason whose other literals were false before it:
+-- a clause of two literals by the lists of implied literals, or a live long clause that has it first
+abbrev pub Implies : (words live : List ℕ) (implied : List (List ℕ)) (s : State) (i : ℕ) → Reason → Type 0
+Implies words live implied s i NoCause = Unit {0}
+Implies words live implied s i (Binary ls) =
+    Contains (get_or implied (negated (get_or ls 0 0)) []) (lit_at s i) × IsFalseBefore s i (get_or ls 0 0)
+Implies words live implied s i (Long o) =
+    Contains live o × (lit_of words o 0 ≡ lit_at s i) × ((k : ℕ) → 1 ≤ k → k < size_of words o → IsFalseBefore s i (lit_of words o k))
+
+-- the reasons of the literals of the trail from this place on are unit in the trail's order
+abbrev pub AreInTurn : (words live : List ℕ) (implied : List (List ℕ)) (s : State) (from : ℕ) → Type 0
+AreInTurn words live implied s from =
+    (i : ℕ) → from ≤ i → i < length s.trail.lits → Implies words live implied s i (node s (lit_at s i)).reason
+
+-- the clause of each long reason on the trail is live and has the literal first
+abbrev pub HaveFirsts : (words live : List ℕ) (s : State) → Type 0
+HaveFirsts words live s = (i o : ℕ) → i < length s.trail.lits → (node s (lit_at s i)).reason ≡ Long o → Contains live o × (lit_of words o 0 ≡ lit_at s i)
+
+-- a piece of propagation: literals became true by reasons that are unit in turn, and clauses changed only in the order of
+-- their literals, none in its first literal where that was true
+pub record Moves (live : List ℕ) (implied : List (List ℕ)) (words : List ℕ) (s : State) (words' : List ℕ) (s' : State) : Type 0 where
+  pub grows : Grows s s'
+  pub reorders : Reorders words words' live
+  pub firsts : (o : ℕ) → Contains live o → IsTrueLit s.values (lit_of words o 0) → lit_of words' o 0 ≡ lit_of words o 0
+  pub turns : (from : ℕ) → from ≤ length s.trail.lits → AreInTurn words live implied s from → AreInTurn words' live implied s' from
