@@ -3,3 +3,4 @@ pub mod Trails
 pub mod Graphs
 pub mod State
 pub mod Reasons
+pub mod WatchLists

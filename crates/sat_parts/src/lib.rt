@@ -6,3 +6,4 @@ pub mod prop;
 pub use prop::assignment::{Assignment, fast_option_eq};
 pub use prop::graph::{Conflict, ImplGraph, ImplNode, Reason};
 pub use prop::trail::{Trail, enqueue_assignment};
+pub use prop::watch::{Watch, WatchList, Watchlists};

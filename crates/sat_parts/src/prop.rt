@@ -2,3 +2,4 @@
 pub mod assignment;
 pub mod graph;
 pub mod trail;
+pub mod watch;

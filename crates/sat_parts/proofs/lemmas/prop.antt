@@ -1,3 +1,4 @@
 pub mod StateLemmas
 pub mod RoomLemmas
+pub mod WatchLemmas
 pub mod ReasonLemmas

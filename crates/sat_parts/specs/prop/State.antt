@@ -63,10 +63,10 @@ IsQueueCurrent s = (i : ℕ) → s.trail.head ≤ i → i < length s.trail.lits 
 -- the state where an open literal became true as the last one of the trail
 abbrev pub enqueued : ℕ → Reason → State → State
 enqueued l reason s = record {
-    values = set s.values (variable l) (Some (is_positive l));
-    nodes = with_node (variable l) (node_at s.trail reason) s.nodes;
-    trail = with_lit l s.trail;
-  }
+  values = set s.values (variable l) (Some (is_positive l));
+  nodes = with_node (variable l) (node_at s.trail reason) s.nodes;
+  trail = with_lit l s.trail;
+}
 
 -- only open literals became true, behind the others of the trail, and none left the queue
 pub record Grows (old new : State) : Type 0 where

@@ -44,40 +44,40 @@ other_rest i j k n m = grind (arith, nat_tests)
 
 pub swapped_at : (ls : List ℕ) (i j k : ℕ) → i < length ls → j < length ls → get_or (swapped ls i j) k 0 ≡ get_or ls (other i j k) 0
 swapped_at ls i j k p q = elim (cases_eq k j) [
-    inl e ↦ ap (λ x. get_or (swapped ls i j) x 0) e ∙ at_second ls i j q ∙ ap (λ x. get_or ls x 0) (sym (other_second i j k e))
+  | inl e ↦ ap (λ x. get_or (swapped ls i j) x 0) e ∙ at_second ls i j q ∙ ap (λ x. get_or ls x 0) (sym (other_second i j k e))
   | inr n ↦ elim (cases_eq k i) [
-      inl e ↦
+    | inl e ↦
         let m : i ≢ j = λ r. n (e ∙ r) in
         ap (λ x. get_or (swapped ls i j) x 0) e ∙ at_first ls i j p m ∙ ap (λ x. get_or ls x 0) (sym (other_first i j k e n))
     | inr m ↦ at_rest ls i j k m n ∙ ap (λ x. get_or ls x 0) (sym (other_rest i j k m n))
-    ]
   ]
+]
 
 pub swapped_length : (ls : List ℕ) (i j : ℕ) → length (swapped ls i j) ≡ length ls
 swapped_length ls i j = length-set (set ls i (get_or ls j 0)) j (get_or ls i 0) ∙ length-set ls i (get_or ls j 0)
 
 pub shuffled_swapped : (ls : List ℕ) (i j : ℕ) → i < length ls → j < length ls → Shuffled ls (swapped ls i j)
 shuffled_swapped ls i j p q = record {
-    order = IsPermutation-swap ls (swapped ls i j) i j p q (swap_is ls i j 0 p q);
-    size = swapped_length ls i j;
-    forth = λ k h. (other i j k, (other_below i j k (length ls) p q h, swapped_at ls i j (other i j k) p q ∙ ap (λ x. get_or ls x 0) (other_other i j k)));
-    back = λ k h. (other i j k, (other_below i j k (length ls) p q h, sym (swapped_at ls i j k p q)));
-    apart = λ d a b ha hb e.
+  order = IsPermutation-swap ls (swapped ls i j) i j p q (swap_is ls i j 0 p q);
+  size = swapped_length ls i j;
+  forth = λ k h. (other i j k, (other_below i j k (length ls) p q h, swapped_at ls i j (other i j k) p q ∙ ap (λ x. get_or ls x 0) (other_other i j k)));
+  back = λ k h. (other i j k, (other_below i j k (length ls) p q h, sym (swapped_at ls i j k p q)));
+  apart = λ d a b ha hb e.
       let s : length (swapped ls i j) ≡ length ls = swapped_length ls i j in
       let x : other i j a ≡ other i j b =
-        d (other i j a) (other i j b) (other_below i j a (length ls) p q (omega arith)) (other_below i j b (length ls) p q (omega arith))
-          (sym (swapped_at ls i j a p q) ∙ e ∙ swapped_at ls i j b p q) in
+      d (other i j a) (other i j b) (other_below i j a (length ls) p q (omega arith)) (other_below i j b (length ls) p q (omega arith))
+      (sym (swapped_at ls i j a p q) ∙ e ∙ swapped_at ls i j b p q) in
       sym (other_other i j a) ∙ ap (λ y. other i j y) x ∙ other_other i j b;
-  }
+}
 
 pub shuffled_refl : (ls : List ℕ) → Shuffled ls ls
 shuffled_refl ls = record {
-    order = IsPermutation-refl ls;
-    size = refl;
-    forth = λ k h. (k, (h, refl));
-    back = λ k h. (k, (h, refl));
-    apart = λ d. d;
-  }
+  order = IsPermutation-refl ls;
+  size = refl;
+  forth = λ k h. (k, (h, refl));
+  back = λ k h. (k, (h, refl));
+  apart = λ d. d;
+}
 
 pub shuffled_trans : (ls ms ns : List ℕ) → Shuffled ls ms → Shuffled ms ns → Shuffled ls ns
 shuffled_trans ls ms ns a b =
@@ -86,13 +86,13 @@ shuffled_trans ls ms ns a b =
       order = IsPermutation-trans ls ms ns a.order b.order;
       size = b.size ∙ a.size;
       forth = λ k h.
-        let m : (j : ℕ) × ((j < length ls) × (get_or ms j 0 ≡ get_or ls k 0)) = a.forth k h in
-        let r : (j : ℕ) × ((j < length ms) × (get_or ns j 0 ≡ get_or ms m.0 0)) = b.forth m.0 (omega (arith, m.1.0)) in
-        (r.0, (omega (arith, r.1.0), r.1.1 ∙ m.1.1));
+          let m : (j : ℕ) × ((j < length ls) × (get_or ms j 0 ≡ get_or ls k 0)) = a.forth k h in
+          let r : (j : ℕ) × ((j < length ms) × (get_or ns j 0 ≡ get_or ms m.0 0)) = b.forth m.0 (omega (arith, m.1.0)) in
+          (r.0, (omega (arith, r.1.0), r.1.1 ∙ m.1.1));
       back = λ k h.
-        let m : (j : ℕ) × ((j < length ms) × (get_or ms j 0 ≡ get_or ns k 0)) = b.back k (omega arith) in
-        let r : (j : ℕ) × ((j < length ls) × (get_or ls j 0 ≡ get_or ms m.0 0)) = a.back m.0 (omega (arith, m.1.0)) in
-        (r.0, (r.1.0, r.1.1 ∙ m.1.1));
+          let m : (j : ℕ) × ((j < length ms) × (get_or ms j 0 ≡ get_or ns k 0)) = b.back k (omega arith) in
+          let r : (j : ℕ) × ((j < length ls) × (get_or ls j 0 ≡ get_or ms m.0 0)) = a.back m.0 (omega (arith, m.1.0)) in
+          (r.0, (r.1.0, r.1.1 ∙ m.1.1));
       apart = λ d. b.apart (a.apart d);
     }
 
@@ -101,49 +101,49 @@ shuffled_eq ls ms e = subst (λ (x : List ℕ). Shuffled ls x) (sym e) (shuffled
 
 pub shuffles_refl : (words : List ℕ) (o : ℕ) → IsClause words o → Shuffles words words o
 shuffles_refl words o c = record {
-    size = refl;
-    clause = c;
-    header = refl;
-    lits = shuffled_refl (lits_at words o);
-    laid = λ refs h l. l;
-    others = λ refs p h l g n. record { clause = l.clauses p g; header = refl; lits = refl };
-  }
+  size = refl;
+  clause = c;
+  header = refl;
+  lits = shuffled_refl (lits_at words o);
+  laid = λ refs h l. l;
+  others = λ refs p h l g n. record { clause = l.clauses p g; header = refl; lits = refl };
+}
 
 pub shuffles_trans : (a b c : List ℕ) (o : ℕ) → Shuffles a b o → Shuffles b c o → Shuffles a c o
 shuffles_trans a b c o x y = record {
-    size = y.size ∙ x.size;
-    clause = y.clause;
-    header = y.header ∙ x.header;
-    lits = shuffled_trans (lits_at a o) (lits_at b o) (lits_at c o) x.lits y.lits;
-    laid = λ refs h l. y.laid refs h (x.laid refs h l);
-    others = λ refs p h l g n.
+  size = y.size ∙ x.size;
+  clause = y.clause;
+  header = y.header ∙ x.header;
+  lits = shuffled_trans (lits_at a o) (lits_at b o) (lits_at c o) x.lits y.lits;
+  laid = λ refs h l. y.laid refs h (x.laid refs h l);
+  others = λ refs p h l g n.
       let f : Keeps a b p = x.others refs p h l g n in
       let s : Keeps b c p = y.others refs p h (x.laid refs h l) g n in
       record { clause = s.clause; header = s.header ∙ f.header; lits = s.lits ∙ f.lits };
-  }
+}
 
 -- what `swap_lits` says
 pub shuffles_swap : (a b : List ℕ) (o i j : ℕ) → i < size_of a o → j < size_of a o →
     header_at b o ≡ header_at a o → lits_at b o ≡ swapped (lits_at a o) i j → ChangesAt a b o → Shuffles a b o
 shuffles_swap a b o i j p q e f c = record {
-    size = c.size;
-    clause = c.clause;
-    header = e;
-    lits = subst (λ (x : List ℕ). Shuffled (lits_at a o) x) (sym f) (shuffled_swapped (lits_at a o) i j p q);
-    laid = λ refs h l. c.laid refs h l;
-    others = λ refs p h l g n. c.others p (l.clauses p g) (l.apart o p h g n);
-  }
+  size = c.size;
+  clause = c.clause;
+  header = e;
+  lits = subst (λ (x : List ℕ). Shuffled (lits_at a o) x) (sym f) (shuffled_swapped (lits_at a o) i j p q);
+  laid = λ refs h l. c.laid refs h l;
+  others = λ refs p h l g n. c.others p (l.clauses p g) (l.apart o p h g n);
+}
 
 pub reorders_refl : (words live : List ℕ) → Reorders words words live
 reorders_refl words live = record {
-    size = refl;
-    all = λ refs h l. record { laid = l; headers = λ o g. refl; lits = λ o g. shuffled_refl (lits_at words o) };
-  }
+  size = refl;
+  all = λ refs h l. record { laid = l; headers = λ o g. refl; lits = λ o g. shuffled_refl (lits_at words o) };
+}
 
 pub reorders_trans : (a b c live : List ℕ) → Reorders a b live → Reorders b c live → Reorders a c live
 reorders_trans a b c live x y = record {
-    size = y.size ∙ x.size;
-    all = λ refs h l.
+  size = y.size ∙ x.size;
+  all = λ refs h l.
       let f : Kept a b refs = x.all refs h l in
       let s : Kept b c refs = y.all refs h f.laid in
       record {
@@ -151,23 +151,23 @@ reorders_trans a b c live x y = record {
         headers = λ o g. s.headers o g ∙ f.headers o g;
         lits = λ o g. shuffled_trans (lits_at a o) (lits_at b o) (lits_at c o) (f.lits o g) (s.lits o g);
       };
-  }
+}
 
 pub reorders_one : (a b live : List ℕ) (o : ℕ) → Contains live o → Shuffles a b o → Reorders a b live
 reorders_one a b live o g s = record {
-    size = s.size;
-    all = λ refs h l. record {
-      laid = s.laid refs (h o g) l;
-      headers = λ p k. elim (cases_eq o p) [
-          inl e ↦ subst (λ (x : ℕ). header_at b x ≡ header_at a x) e s.header
-        | inr n ↦ (s.others refs p (h o g) l k n).header
-        ];
-      lits = λ p k. elim (cases_eq o p) [
-          inl e ↦ subst (λ (x : ℕ). Shuffled (lits_at a x) (lits_at b x)) e s.lits
-        | inr n ↦ shuffled_eq (lits_at a p) (lits_at b p) (s.others refs p (h o g) l k n).lits
-        ];
-    };
-  }
+  size = s.size;
+  all = λ refs h l. record {
+    laid = s.laid refs (h o g) l;
+    headers = λ p k. elim (cases_eq o p) [
+      | inl e ↦ subst (λ (x : ℕ). header_at b x ≡ header_at a x) e s.header
+      | inr n ↦ (s.others refs p (h o g) l k n).header
+    ];
+    lits = λ p k. elim (cases_eq o p) [
+      | inl e ↦ subst (λ (x : ℕ). Shuffled (lits_at a x) (lits_at b x)) e s.lits
+      | inr n ↦ shuffled_eq (lits_at a p) (lits_at b p) (s.others refs p (h o g) l k n).lits
+    ];
+  };
+}
 
 pub kept_clauses : (a b live : List ℕ) (count : ℕ) → AreClauses a live count → Reorders a b live → AreClauses b live count
 kept_clauses a b live count h r =
@@ -176,8 +176,8 @@ kept_clauses a b live count h r =
       laid = k.laid;
       long = λ o g. let s : size_of b o ≡ size_of a o = (k.lits o g).size in omega (arith, h.long o g);
       below = λ o i g q.
-        let s : size_of b o ≡ size_of a o = (k.lits o g).size in
-        let m : (j : ℕ) × ((j < size_of a o) × (lit_of a o j ≡ lit_of b o i)) = (k.lits o g).back i (omega arith) in
-        omega (arith, h.below o m.0 g m.1.0, m.1.1);
+          let s : size_of b o ≡ size_of a o = (k.lits o g).size in
+          let m : (j : ℕ) × ((j < size_of a o) × (lit_of a o j ≡ lit_of b o i)) = (k.lits o g).back i (omega arith) in
+          omega (arith, h.below o m.0 g m.1.0, m.1.1);
       distinct = λ o g. (k.lits o g).apart (h.distinct o g);
     }

@@ -19,9 +19,9 @@ use Rattle.sat_parts.proofs.lemmas.prop.StateLemmas.{before_forth, removed_forth
 
 pub false_before_forth : (a b : State) (bound l : ℕ) → Grows a b → IsFalseBefore a bound l → IsFalseBefore b bound l
 false_before_forth a b bound l g h = elim h [
-    inl x ↦ inl (before_forth a b bound (negated l) g x)
+  | inl x ↦ inl (before_forth a b bound (negated l) g x)
   | inr x ↦ inr (removed_forth a b (negated l) g x)
-  ]
+]
 
 pub implies_forth : (words live : List ℕ) (implied : List (List ℕ)) (a b : State) (i : ℕ) (r : Reason) → Grows a b → i < length a.trail.lits → Implies words live implied a i r → Implies words live implied b i r
 implies_forth words live implied a b i NoCause g p h = tt
@@ -32,21 +32,21 @@ implies_forth words live implied a b i (Long o) g p h =
 
 pub moves_refl : (live : List ℕ) (implied : List (List ℕ)) (words : List ℕ) (s : State) → Moves live implied words s words s
 moves_refl live implied words s = record {
-    grows = grows_refl s;
-    reorders = reorders_refl words live;
-    firsts = λ o h t. refl;
-    turns = λ from p h. h;
-  }
+  grows = grows_refl s;
+  reorders = reorders_refl words live;
+  firsts = λ o h t. refl;
+  turns = λ from p h. h;
+}
 
 pub moves_trans : (live : List ℕ) (implied : List (List ℕ)) (u : List ℕ) (a : State) (v : List ℕ) (b : State) (w : List ℕ) (c : State) → Moves live implied u a v b → Moves live implied v b w c → Moves live implied u a w c
 moves_trans live implied u a v b w c x y = record {
-    grows = grows_trans a b c x.grows y.grows;
-    reorders = reorders_trans u v w live x.reorders y.reorders;
-    firsts = λ o h t.
+  grows = grows_trans a b c x.grows y.grows;
+  reorders = reorders_trans u v w live x.reorders y.reorders;
+  firsts = λ o h t.
       let e : lit_of v o 0 ≡ lit_of u o 0 = x.firsts o h t in
       y.firsts o h (subst (λ (m : ℕ). IsTrueLit b.values m) (sym e) (x.grows.kept (lit_of u o 0) t)) ∙ e;
-    turns = λ from p h. y.turns from (omega (arith, x.grows.longer)) (x.turns from p h);
-  }
+  turns = λ from p h. y.turns from (omega (arith, x.grows.longer)) (x.turns from p h);
+}
 
 -- an open literal becomes true by a reason that is unit in turn
 pub moves_enqueued : (live : List ℕ) (implied : List (List ℕ)) (words : List ℕ) (s : State) (l : ℕ) (r : Reason) →
@@ -62,14 +62,14 @@ moves_enqueued live implied words s l r h n below room cause =
       reorders = reorders_refl words live;
       firsts = λ o p q. refl;
       turns = λ from p q i x y. elim (cases_eq i (length s.trail.lits)) [
-          inl e ↦
+        | inl e ↦
             let f : (node t (lit_at t i)).reason ≡ r = ap (λ m. (node t (lit_at t m)).reason) e ∙ ap (λ m. (node t m).reason) (lit_last s l r) ∙ ap (λ (z : ImplNode). z.reason) (node_new s l r (omega (arith, h.nodes))) in
             subst (λ (z : Reason). Implies words live implied t i z) (sym f) (subst (λ (z : ℕ). Implies words live implied t z r) (sym e) cause)
         | inr d ↦
             let k : i < length s.trail.lits = omega arith in
             let f : (node t (lit_at t i)).reason ≡ (node s (lit_at s i)).reason = ap (λ m. (node t m).reason) (lit_front s l r i k) ∙ ap (λ (z : ImplNode). z.reason) (node_kept s l (lit_at s i) r n (h.holds i k)) in
             subst (λ (z : Reason). Implies words live implied t i z) (sym f) (implies_forth words live implied s t i (node s (lit_at s i)).reason g k (q i x k))
-        ];
+      ];
     }
 
 -- literals change places in one clause, whose first literal stays where it is true
@@ -80,40 +80,46 @@ pub implies_shuffled : (words words' live : List ℕ) (implied : List (List ℕ)
 implies_shuffled words words' live implied s p i NoCause count c g e first holds h = tt
 implies_shuffled words words' live implied s p i (Binary ls) count c g e first holds h = h
 implies_shuffled words words' live implied s p i (Long o) count c g e first holds h = elim (cases_eq p o) [
-    inl q ↦ subst (λ (x : ℕ). Implies words live implied s i (Long x) → Implies words' live implied s i (Long x)) q
+  | inl q ↦ subst (λ (x : ℕ). Implies words live implied s i (Long x) → Implies words' live implied s i (Long x)) q
       (λ f.
-        let at_first : lit_of words' p 0 ≡ lit_of words p 0 = first (subst (λ (m : ℕ). IsTrueLit s.values m) (sym f.1) holds) in
-        let size : size_of words' p ≡ size_of words p = e.lits.size in
-        let long : 3 ≤ size_of words p = c.long p g in
-        (f.0, at_first ∙ f.1, λ k x y.
-          let m : (j : ℕ) × ((j < size_of words p) × (lit_of words p j ≡ lit_of words' p k)) = e.lits.back k (omega arith) in
-          elim (cases_eq m.0 0) [
-            inl z ↦
-              let same : lit_of words' p k ≡ lit_of words' p 0 = sym m.1.1 ∙ ap (λ j. lit_of words p j) z ∙ sym at_first in
-              let k0 : k ≡ 0 = e.lits.apart (c.distinct p g) k 0 y (omega arith) same in
-              absurd (omega arith)
-          | inr z ↦ subst (λ (l : ℕ). IsFalseBefore s i l) m.1.1 (f.2 m.0 (omega arith) m.1.0)
-          ]))
+      let at_first : lit_of words' p 0 ≡ lit_of words p 0 = first (subst (λ (m : ℕ). IsTrueLit s.values m) (sym f.1) holds) in
+      let size : size_of words' p ≡ size_of words p = e.lits.size in
+      let long : 3 ≤ size_of words p = c.long p g in (
+        f.0,
+        at_first ∙ f.1,
+        λ k x y.
+            let m : (j : ℕ) × ((j < size_of words p) × (lit_of words p j ≡ lit_of words' p k)) = e.lits.back k (omega arith) in
+            elim (cases_eq m.0 0) [
+              | inl z ↦
+                  let same : lit_of words' p k ≡ lit_of words' p 0 = sym m.1.1 ∙ ap (λ j. lit_of words p j) z ∙ sym at_first in
+                  let k0 : k ≡ 0 = e.lits.apart (c.distinct p g) k 0 y (omega arith) same in
+                  absurd (omega arith)
+              | inr z ↦ subst (λ (l : ℕ). IsFalseBefore s i l) m.1.1 (f.2 m.0 (omega arith) m.1.0)
+            ],
+      ))
       h
   | inr n ↦
-      let k : lits_at words' o ≡ lits_at words o = (e.others live o g c.laid h.0 n).lits in
-      (h.0, ap (λ (ls : List ℕ). get_or ls 0 0) k ∙ h.1, λ j x y.
-        subst (λ (l : ℕ). IsFalseBefore s i l) (sym (ap (λ (ls : List ℕ). get_or ls j 0) k)) (h.2 j x (subst (λ (ls : List ℕ). j < length ls) k y)))
-  ]
+      let k : lits_at words' o ≡ lits_at words o = (e.others live o g c.laid h.0 n).lits in (
+        h.0,
+        ap (λ (ls : List ℕ). get_or ls 0 0) k ∙ h.1,
+        λ j x y.
+            subst (λ (l : ℕ). IsFalseBefore s i l) (sym (ap (λ (ls : List ℕ). get_or ls j 0) k)) (h.2 j x (subst (λ (ls : List ℕ). j < length ls) k y)),
+      )
+]
 
 pub moves_shuffled : (live : List ℕ) (implied : List (List ℕ)) (words : List ℕ) (s : State) (words' : List ℕ) (p count : ℕ) →
     Agrees s → AreClauses words live count → Contains live p → Shuffles words words' p →
     (IsTrueLit s.values (lit_of words p 0) → lit_of words' p 0 ≡ lit_of words p 0) →
     Moves live implied words s words' s
 moves_shuffled live implied words s words' p count a c g e first = record {
-    grows = grows_refl s;
-    reorders = reorders_one words words' live p g e;
-    firsts = λ o h t. elim (cases_eq p o) [
-        inl q ↦ subst (λ (x : ℕ). IsTrueLit s.values (lit_of words x 0) → lit_of words' x 0 ≡ lit_of words x 0) q first t
-      | inr n ↦ ap (λ (ls : List ℕ). get_or ls 0 0) (e.others live o g c.laid h n).lits
-      ];
-    turns = λ from x h i y z. implies_shuffled words words' live implied s p i (node s (lit_at s i)).reason count c g e first (a.holds i z) (h i y z);
-  }
+  grows = grows_refl s;
+  reorders = reorders_one words words' live p g e;
+  firsts = λ o h t. elim (cases_eq p o) [
+    | inl q ↦ subst (λ (x : ℕ). IsTrueLit s.values (lit_of words x 0) → lit_of words' x 0 ≡ lit_of words x 0) q first t
+    | inr n ↦ ap (λ (ls : List ℕ). get_or ls 0 0) (e.others live o g c.laid h n).lits
+  ];
+  turns = λ from x h i y z. implies_shuffled words words' live implied s p i (node s (lit_at s i)).reason count c g e first (a.holds i z) (h i y z);
+}
 
 from_long : (words live : List ℕ) (implied : List (List ℕ)) (s : State) (i o : ℕ) (r : Reason) → r ≡ Long o → Implies words live implied s i r → Contains live o × (lit_of words o 0 ≡ lit_at s i)
 from_long words live implied s i o r e h =
@@ -124,12 +130,12 @@ from_long words live implied s i o r e h =
 pub firsts_moved : (live : List ℕ) (implied : List (List ℕ)) (words : List ℕ) (s : State) (words' : List ℕ) (s' : State) →
     Agrees s → Moves live implied words s words' s' → HaveFirsts words live s → HaveFirsts words' live s'
 firsts_moved live implied words s words' s' a m h i o p e = elim (cases_lt i (length s.trail.lits)) [
-    inl lt ↦
+  | inl lt ↦
       let f : (node s' (lit_at s' i)).reason ≡ (node s (lit_at s i)).reason =
-        ap (λ l. (node s' l).reason) (m.grows.front i lt) ∙ ap (λ (z : ImplNode). z.reason) (m.grows.nodes (lit_at s i) (a.holds i lt)) in
+      ap (λ l. (node s' l).reason) (m.grows.front i lt) ∙ ap (λ (z : ImplNode). z.reason) (m.grows.nodes (lit_at s i) (a.holds i lt)) in
       let x : Contains live o × (lit_of words o 0 ≡ lit_at s i) = h i o lt (sym f ∙ e) in
       (x.0, m.firsts o x.0 (subst (λ (l : ℕ). IsTrueLit s.values l) (sym x.1) (a.holds i lt)) ∙ x.1 ∙ sym (m.grows.front i lt))
   | inr le ↦
       let none : AreInTurn words live implied s (length s.trail.lits) = λ j x y. absurd (omega arith) in
       from_long words' live implied s' i o (node s' (lit_at s' i)).reason e (m.turns (length s.trail.lits) (omega arith) none i le p)
-  ]
+]

@@ -16,9 +16,9 @@ use Rattle.sat_parts.proofs.lemmas.prop.StateLemmas.{open_other, lit_front, lit_
 -- an assigned variable is there
 pub below_from_value : (values : List (Option Bool)) (v : ℕ) (b : Bool) → value_of values v ≡ Some b → v < length values
 below_from_value values v b e = elim (cases_lt v (length values)) [
-    inl h ↦ h
+  | inl h ↦ h
   | inr h ↦ (let x : Some b ≡ None = sym e ∙ get_or_past values v None h in cc)
-  ]
+]
 
 -- the trail's variables, and that of one literal more
 abbrev variables : State → ℕ → List ℕ
@@ -48,24 +48,24 @@ apart s l r i j d h n lt b =
     let size : length (variables s l) ≡ length s.trail.lits + 1 = variables_length s l in
     let p : i < length s.trail.lits = omega arith in
     ne_eqb (get_or (variables s l) i d) (get_or (variables s l) j d) (λ e.
-      let f : variable (lit_at s i) ≡ get_or (variables s l) j d = sym (variables_front s l r i d p) ∙ e in
-      elim (cases_eq j (length s.trail.lits)) [
-        inl q ↦ open_other s.values l (lit_at s i) n (h.holds i p) (f ∙ variables_last s l r j d q)
+    let f : variable (lit_at s i) ≡ get_or (variables s l) j d = sym (variables_front s l r i d p) ∙ e in
+    elim (cases_eq j (length s.trail.lits)) [
+      | inl q ↦ open_other s.values l (lit_at s i) n (h.holds i p) (f ∙ variables_last s l r j d q)
       | inr q ↦
           let k : j < length s.trail.lits = omega arith in
           let same : i ≡ j = places_apart s i j h p k (f ∙ variables_front s l r j d k) in
           omega arith
-      ])
+    ])
 
 below : (s : State) (l : ℕ) (r : Reason) (q : ℕ) → Agrees s → variable l < length s.values → list_any (eqb q) (variables s l) ≡ true → q < length s.values
 below s l r q h small any =
     let size : length (variables s l) ≡ length s.trail.lits + 1 = variables_length s l in
     let c : Contains (variables s l) q = Contains-from_any {eq = eqb} (λ x y e. eqb-true x y e) q (variables s l) any in
     elim (cases_eq c.0 (length s.trail.lits)) [
-      inl e ↦ subst (λ (x : ℕ). x < length s.values) (sym (variables_last s l r c.0 q e) ∙ c.2) small
-    | inr e ↦
-        let k : c.0 < length s.trail.lits = omega (arith, c.1) in
-        subst (λ (x : ℕ). x < length s.values) (sym (variables_front s l r c.0 q k) ∙ c.2)
+      | inl e ↦ subst (λ (x : ℕ). x < length s.values) (sym (variables_last s l r c.0 q e) ∙ c.2) small
+      | inr e ↦
+          let k : c.0 < length s.trail.lits = omega (arith, c.1) in
+          subst (λ (x : ℕ). x < length s.values) (sym (variables_front s l r c.0 q k) ∙ c.2)
           (below_from_value s.values (variable (lit_at s c.0)) (is_positive (lit_at s c.0)) (h.holds c.0 k))
     ]
 
@@ -74,7 +74,7 @@ pub room_for : (s : State) (l : ℕ) (r : Reason) → Agrees s → IsOpenLit s.v
 room_for s l r h n small =
     let size : length (variables s l) ≡ length s.trail.lits + 1 = variables_length s l in
     let all : length (variables s l) ≤ length s.values =
-      length-le_from_distinct_below (variables s l) (length s.values)
-        (IsDistinct-from_apart eqb (variables s l) (λ i j d lt b. apart s l r i j d h n lt b))
-        (λ q any. below s l r q h small any) in
+    length-le_from_distinct_below (variables s l) (length s.values)
+    (IsDistinct-from_apart eqb (variables s l) (λ i j d lt b. apart s l r i j d h n lt b))
+    (λ q any. below s l r q h small any) in
     omega (arith, h.room)

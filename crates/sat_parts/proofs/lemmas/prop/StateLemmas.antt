@@ -71,11 +71,11 @@ node_new s l r h = get_or-set_same s.nodes (variable l) (node_at s.trail r) new_
 -- a literal that is true after l became true was true before, or is l
 pub true_back : (s : State) (l m : ℕ) (r : Reason) → variable l < length s.values → IsTrueLit (enqueued l r s).values m → (m ≡ l) ⊎ ((variable m ≢ variable l) × IsTrueLit s.values m)
 true_back s l m r h t = elim (cases_eq (variable m) (variable l)) [
-    inl e ↦
+  | inl e ↦
       let a : Some (is_positive m) ≡ Some (is_positive l) = sym t ∙ ap (λ v. value_of (enqueued l r s).values v) e ∙ true_new s l r h in
       inl (lit_from_parts m l e (some_back (is_positive m) (is_positive l) a))
   | inr n ↦ inr (n, sym (get_or-set_other s.values (variable l) (variable m) (Some (is_positive l)) None n) ∙ t)
-  ]
+]
 
 trail_enqueued : (s : State) (l : ℕ) (r : Reason) → IsTrail s.trail → length s.trail.lits < s.trail.room → IsTrail (enqueued l r s).trail
 trail_enqueued s l r t room =
@@ -103,37 +103,37 @@ agrees_enqueued s l r h n below room =
       nodes = nodes ∙ h.nodes ∙ sym values;
       room = omega (arith, h.room);
       holds = λ i p. elim (cases_eq i (length s.trail.lits)) [
-          inl e ↦ subst (λ (m : ℕ). IsTrueLit t.values m) (sym (ap (λ x. lit_at t x) e ∙ last)) (true_new s l r below)
+        | inl e ↦ subst (λ (m : ℕ). IsTrueLit t.values m) (sym (ap (λ x. lit_at t x) e ∙ last)) (true_new s l r below)
         | inr d ↦
             let q : i < length s.trail.lits = omega arith in
             subst (λ (m : ℕ). IsTrueLit t.values m) (sym (lit_front s l r i q)) (true_kept s l (lit_at s i) r n (old i q))
-        ];
+      ];
       depths = λ i p. elim (cases_eq i (length s.trail.lits)) [
-          inl e ↦ ap (λ m. (node t m).depth) (ap (λ x. lit_at t x) e ∙ last) ∙ ap (λ (x : ImplNode). x.depth) (node_new s l r in_nodes) ∙ ap (λ x. x + 1) (sym e)
+        | inl e ↦ ap (λ m. (node t m).depth) (ap (λ x. lit_at t x) e ∙ last) ∙ ap (λ (x : ImplNode). x.depth) (node_new s l r in_nodes) ∙ ap (λ x. x + 1) (sym e)
         | inr d ↦
             let q : i < length s.trail.lits = omega arith in
             ap (λ m. (node t m).depth) (lit_front s l r i q) ∙ ap (λ (x : ImplNode). x.depth) (node_kept s l (lit_at s i) r n (old i q)) ∙ h.depths i q
-        ];
+      ];
       levels = λ i p. elim (cases_eq i (length s.trail.lits)) [
-          inl e ↦
+        | inl e ↦
             let v : level t (lit_at t i) ≡ length s.trail.starts = ap (λ m. (node t m).level) (ap (λ x. lit_at t x) e ∙ last) ∙ ap (λ (x : ImplNode). x.level) (node_new s l r in_nodes) in
             record { within = omega arith; begun = λ k b. omega (arith, h.trail.levels.within k (omega arith), e); not_begun = λ k b c. absurd (omega arith) }
         | inr d ↦
             let q : i < length s.trail.lits = omega arith in
             let v : level s (lit_at s i) ≡ level t (lit_at t i) = sym (ap (λ m. (node t m).level) (lit_front s l r i q) ∙ ap (λ (x : ImplNode). x.level) (node_kept s l (lit_at s i) r n (old i q))) in
             subst (λ (x : ℕ). LevelIs s.trail.starts i x) v (h.levels i q)
-        ];
+      ];
       known = λ m p. elim (true_back s l m r below p) [
-          inl e ↦ inl (record { place = length s.trail.lits; before = omega arith; within = omega arith; there = last ∙ sym e })
+        | inl e ↦ inl (record { place = length s.trail.lits; before = omega arith; within = omega arith; there = last ∙ sym e })
         | inr d ↦ elim (h.known m d.1) [
-            inl b ↦ inl (record { place = b.place; before = omega (arith, b.before); within = omega (arith, b.within); there = lit_front s l r b.place b.within ∙ b.there })
+          | inl b ↦ inl (record { place = b.place; before = omega (arith, b.before); within = omega (arith, b.within); there = lit_front s l r b.place b.within ∙ b.there })
           | inr x ↦ inr (record {
-              holds = p;
-              depth = ap (λ (y : ImplNode). y.depth) (node_kept s l m r n d.1) ∙ x.depth;
-              bottom = ap (λ (y : ImplNode). y.level) (node_kept s l m r n d.1) ∙ x.bottom;
-            })
-          ]
-        ];
+            holds = p;
+            depth = ap (λ (y : ImplNode). y.depth) (node_kept s l m r n d.1) ∙ x.depth;
+            bottom = ap (λ (y : ImplNode). y.level) (node_kept s l m r n d.1) ∙ x.bottom;
+          })
+        ]
+      ];
     }
 
 pub grows_enqueued : (s : State) (l : ℕ) (r : Reason) → Agrees s → IsOpenLit s.values l → variable l < length s.values → length s.trail.lits < s.trail.room → Grows s (enqueued l r s)
@@ -142,49 +142,60 @@ grows_enqueued s l r h n below room =
     let in_nodes : variable l < length s.nodes = omega (arith, h.nodes) in
     record {
       size = length-set s.values (variable l) (Some (is_positive l));
-      head = refl; starts = refl; cleared = refl; room = refl;
+      head = refl;
+      starts = refl;
+      cleared = refl;
+      room = refl;
       longer = omega arith;
       front = λ i p. lit_front s l r i p;
       kept = λ m t. true_kept s l m r n t;
       nodes = λ m t. node_kept s l m r n t;
       removed = λ m x. elim (true_back s l m r below x.holds) [
-          inl e ↦
+        | inl e ↦
             let d : length s.trail.lits + 1 ≡ 4294967295 = sym (ap (λ (y : ImplNode). y.depth) (node_new s l r in_nodes)) ∙ ap (λ y. (node (enqueued l r s) y).depth) (sym e) ∙ x.depth in
             absurd (omega (arith, h.trail.small))
         | inr d ↦ record {
-            holds = d.1;
-            depth = sym (ap (λ (y : ImplNode). y.depth) (node_kept s l m r n d.1)) ∙ x.depth;
-            bottom = sym (ap (λ (y : ImplNode). y.level) (node_kept s l m r n d.1)) ∙ x.bottom;
-          }
-        ];
+          holds = d.1;
+          depth = sym (ap (λ (y : ImplNode). y.depth) (node_kept s l m r n d.1)) ∙ x.depth;
+          bottom = sym (ap (λ (y : ImplNode). y.level) (node_kept s l m r n d.1)) ∙ x.bottom;
+        }
+      ];
     }
 
 pub grows_refl : (s : State) → Grows s s
 grows_refl s = record {
-    size = refl; head = refl; starts = refl; cleared = refl; room = refl;
-    longer = omega arith; front = λ i p. refl; kept = λ l t. t; nodes = λ l t. refl; removed = λ l x. x;
-  }
+  size = refl;
+  head = refl;
+  starts = refl;
+  cleared = refl;
+  room = refl;
+  longer = omega arith;
+  front = λ i p. refl;
+  kept = λ l t. t;
+  nodes = λ l t. refl;
+  removed = λ l x. x;
+}
 
 pub grows_trans : (a b c : State) → Grows a b → Grows b c → Grows a c
 grows_trans a b c x y = record {
-    size = y.size ∙ x.size;
-    head = y.head ∙ x.head;
-    starts = y.starts ∙ x.starts;
-    cleared = y.cleared ∙ x.cleared;
-    room = y.room ∙ x.room;
-    longer = omega (arith, x.longer, y.longer);
-    front = λ i p. y.front i (omega (arith, x.longer)) ∙ x.front i p;
-    kept = λ l t. y.kept l (x.kept l t);
-    nodes = λ l t. y.nodes l (x.kept l t) ∙ x.nodes l t;
-    removed = λ l r. x.removed l (y.removed l r);
-  }
+  size = y.size ∙ x.size;
+  head = y.head ∙ x.head;
+  starts = y.starts ∙ x.starts;
+  cleared = y.cleared ∙ x.cleared;
+  room = y.room ∙ x.room;
+  longer = omega (arith, x.longer, y.longer);
+  front = λ i p. y.front i (omega (arith, x.longer)) ∙ x.front i p;
+  kept = λ l t. y.kept l (x.kept l t);
+  nodes = λ l t. y.nodes l (x.kept l t) ∙ x.nodes l t;
+  removed = λ l r. x.removed l (y.removed l r);
+}
 
 pub removed_forth : (a b : State) (l : ℕ) → Grows a b → IsRemoved a l → IsRemoved b l
 removed_forth a b l g r = record {
-    holds = g.kept l r.holds;
-    depth = ap (λ (y : ImplNode). y.depth) (g.nodes l r.holds) ∙ r.depth;
-    bottom = ap (λ (y : ImplNode). y.level) (g.nodes l r.holds) ∙ r.bottom;
-  }
+  holds = g.kept l r.holds;
+  depth = ap (λ (y : ImplNode). y.depth) (g.nodes l r.holds) ∙ r.depth;
+  bottom = ap (λ (y : ImplNode). y.level) (g.nodes l r.holds) ∙ r.bottom;
+}
 
 pub before_forth : (a b : State) (bound l : ℕ) → Grows a b → IsBefore a bound l → IsBefore b bound l
 before_forth a b bound l g h = record { place = h.place; before = h.before; within = omega (arith, h.within, g.longer); there = g.front h.place h.within ∙ h.there }
@@ -196,42 +207,42 @@ before_back a b bound l g m h =
 
 pub left_forth : (a b : State) (l : ℕ) → Grows a b → HasLeft a l → HasLeft b l
 left_forth a b l g h = elim h [
-    inl x ↦ inl (subst (λ (y : ℕ). IsBefore b y l) (sym g.head) (before_forth a b a.trail.head l g x))
+  | inl x ↦ inl (subst (λ (y : ℕ). IsBefore b y l) (sym g.head) (before_forth a b a.trail.head l g x))
   | inr x ↦ inr (removed_forth a b l g x)
-  ]
+]
 
 pub left_back : (a b : State) (l : ℕ) → Grows a b → IsTrail a.trail → HasLeft b l → HasLeft a l
 left_back a b l g t h = elim h [
-    inl x ↦ inl (before_back a b a.trail.head l g t.queue (subst (λ (y : ℕ). IsBefore b y l) g.head x))
+  | inl x ↦ inl (before_back a b a.trail.head l g t.queue (subst (λ (y : ℕ). IsBefore b y l) g.head x))
   | inr x ↦ inr (g.removed l x)
-  ]
+]
 
 pub level_kept : (a b : State) (l : ℕ) → Grows a b → IsTrueLit a.values l → level b l ≡ level a l
 level_kept a b l g t = ap (λ (y : ImplNode). y.level) (g.nodes l t)
 
 pub satisfied_forth : (a b : State) (ls : List ℕ) (bound : ℕ) → Grows a b → IsSatisfied a ls bound → IsSatisfied b ls bound
 satisfied_forth a b ls bound g h = record {
-    place = h.place;
-    within = h.within;
-    holds = g.kept (get_or ls h.place 0) h.holds;
-    low = omega (arith, h.low, level_kept a b (get_or ls h.place 0) g h.holds);
-  }
+  place = h.place;
+  within = h.within;
+  holds = g.kept (get_or ls h.place 0) h.holds;
+  low = omega (arith, h.low, level_kept a b (get_or ls h.place 0) g h.holds);
+}
 
 -- what has left the queue is true
 pub left_true : (s : State) (l : ℕ) → Agrees s → HasLeft s l → IsTrueLit s.values l
 left_true s l h x = elim x [
-    inl b ↦ subst (λ (m : ℕ). IsTrueLit s.values m) b.there (h.holds b.place b.within)
+  | inl b ↦ subst (λ (m : ℕ). IsTrueLit s.values m) b.there (h.holds b.place b.within)
   | inr r ↦ r.holds
-  ]
+]
 
 -- no true literal is of a level above the current one
 pub level_low : (s : State) (l : ℕ) → Agrees s → IsTrueLit s.values l → level s l ≤ current_level s
 level_low s l h t = elim (h.known l t) [
-    inl b ↦
+  | inl b ↦
       let e : level s (lit_at s b.place) ≡ level s l = ap (λ m. level s m) b.there in
       omega (arith, (h.levels b.place b.within).within)
   | inr r ↦ omega (arith, r.bottom)
-  ]
+]
 
 pub queue_enqueued : (s : State) (l : ℕ) (r : Reason) → Agrees s → IsQueueCurrent s → IsOpenLit s.values l → variable l < length s.values → IsQueueCurrent (enqueued l r s)
 queue_enqueued s l r h q n below i p b =
@@ -239,8 +250,8 @@ queue_enqueued s l r h q n below i p b =
     let in_nodes : variable l < length s.nodes = omega (arith, h.nodes) in
     let t : State = enqueued l r s in
     elim (cases_eq i (length s.trail.lits)) [
-      inl e ↦ ap (λ m. (node t m).level) (ap (λ x. lit_at t x) e ∙ lit_last s l r) ∙ ap (λ (x : ImplNode). x.level) (node_new s l r in_nodes)
-    | inr d ↦
-        let k : i < length s.trail.lits = omega arith in
-        ap (λ m. (node t m).level) (lit_front s l r i k) ∙ ap (λ (x : ImplNode). x.level) (node_kept s l (lit_at s i) r n (h.holds i k)) ∙ q i p k
+      | inl e ↦ ap (λ m. (node t m).level) (ap (λ x. lit_at t x) e ∙ lit_last s l r) ∙ ap (λ (x : ImplNode). x.level) (node_new s l r in_nodes)
+      | inr d ↦
+          let k : i < length s.trail.lits = omega arith in
+          ap (λ m. (node t m).level) (lit_front s l r i k) ∙ ap (λ (x : ImplNode). x.level) (node_kept s l (lit_at s i) r n (h.holds i k)) ∙ q i p k
     ]

@@ -1,0 +1,35 @@
+-- Lists of watches.
+use Rattle.std.specs.Prelude.{ℕ, ◌-◌, Bool, if◌then◌else◌, List, [], ◌∷◌, ◌++◌, take, replicate, length, slice_index_or as get_or, slice_set as set}
+use Rattle.sat_base.specs.values.Literals.{negated}
+use Rattle.sat_parts.specs.declared.prop.watch.Watch.{Watch}
+
+-- the lists by code of literal, and whether they are kept up
+pub record Watching : Type 0 where
+  pub lists : List (List Watch)
+  pub enabled : Bool
+
+-- a watch on the clause at o whose blocking literal is l
+abbrev pub watch_on : ℕ → ℕ → Watch
+watch_on o l = record { cref = o; blocking = l }
+
+abbrev pub no_watch : Watch
+no_watch = watch_on 0 0
+
+-- the watches of a literal
+abbrev pub watches_of : List (List Watch) → ℕ → List Watch
+watches_of lists l = get_or lists l []
+
+-- the lists with one watch more at literal l
+abbrev pub more_at : ℕ → Watch → List (List Watch) → List (List Watch)
+more_at l watch lists = set lists l (watches_of lists l ++ watch ∷ [])
+
+abbrev pub with_watch : ℕ → Watch → Watching → Watching
+with_watch l watch w = record w { lists = more_at l watch w.lists }
+
+-- a clause watched by two of its literals, where the lists are kept up: each is the blocking literal of the other's watch
+abbrev pub with_clause : ℕ → ℕ → ℕ → Watching → Watching
+with_clause o a b w = if w.enabled then with_watch (negated b) (watch_on o a) (with_watch (negated a) (watch_on o b) w) else w
+
+-- the lists of so many literals
+abbrev pub with_lists : ℕ → Watching → Watching
+with_lists count w = record w { lists = take count w.lists ++ replicate (count - length w.lists) [] }

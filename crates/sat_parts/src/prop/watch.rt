@@ -1,0 +1,220 @@
+//! Lists of the long clauses that are to be looked at when a literal becomes true.
+ghost use Rattle.std.specs.Prelude.{◌≡◌, ◌+◌, ◌*◌, ◌<◌, ◌≤◌, ◌∷◌, ◌++◌, [], length, OnOk, OnErr, take, drop, true, false, slice_index_or, slice_set, if◌then◌else◌, is_ok};
+ghost use Rattle.sat_base.specs.values.Literals.{largest, negated};
+ghost use Rattle.sat_parts.specs.prop.WatchLists.{no_watch, watch_on, with_watch, with_clause, with_lists};
+
+use sat_base::Lit;
+use sat_store::ClauseRef;
+use std::alloc::{AllocError, Global};
+use std::marker::Model;
+use std::mem;
+
+/// A long clause to be looked at, and one of its literals: where that is true, the clause needn't be read.
+#[derive(Clone, Copy)]
+pub struct Watch {
+    pub cref: ClauseRef,
+    pub blocking: Lit,
+}
+
+/// The watches of one literal, which contracts see as their list.
+#[derive(Drop)]
+pub struct WatchList {
+    watches: Vec<Watch>,
+}
+
+impl Model for WatchList {
+    ghost use Rattle.std.specs.Prelude.{List};
+    ghost use Rattle.sat_parts.specs.declared.prop.watch.Watch.{Watch};
+
+    ghost Value = { List Watch };
+
+    ghost view = { λ l. l.watches.items };
+}
+
+impl WatchList {
+    /// No watches. Takes no memory.
+    pub fn new(alloc: Global) -> WatchList
+        ensures { result ≡ [] }
+    {
+        WatchList {
+            watches: Vec::new(alloc),
+        }
+    }
+
+    pub fn len(&self) -> usize
+        ensures { result ≡ length self.now }
+    {
+        self.watches.len()
+    }
+
+    /// The clause of a watch.
+    #[inline(always)] // called for each watch that propagation goes through
+    pub fn cref(&self, at: usize) -> ClauseRef
+        requires { at < length self.now }
+        ensures { result ≡ (slice_index_or self.now at no_watch).cref }
+    {
+        let watch = &self.watches[at];
+        watch.cref
+    }
+
+    /// The blocking literal of a watch.
+    #[inline(always)] // called for each watch that propagation goes through
+    pub fn blocking(&self, at: usize) -> Lit
+        requires { at < length self.now }
+        ensures { result ≡ (slice_index_or self.now at no_watch).blocking }
+    {
+        let watch = &self.watches[at];
+        watch.blocking
+    }
+
+    /// Writes a watch over another.
+    #[inline(always)] // called for each watch that propagation goes through
+    pub fn set(&mut self, at: usize, cref: ClauseRef, blocking: Lit)
+        requires { at < length self.old }
+        ensures { self.new ≡ slice_set self.old at (watch_on cref blocking) }
+    {
+        self.watches[at] = Watch { cref, blocking };
+    }
+
+    pub fn push(&mut self, watch: Watch) -> Result<(), AllocError>
+        ensures { self.new ≡ (if is_ok result then self.old ++ watch ∷ [] else self.old) }
+    {
+        self.watches.push(watch)?;
+        Ok(())
+    }
+
+    /// Takes the watches from place `kept` up to `at` out.
+    pub fn cut(&mut self, kept: usize, at: usize)
+        requires order { kept ≤ at }
+        requires within { at ≤ length self.old }
+        ensures { self.new ≡ take kept self.old ++ drop at self.old }
+    {
+        let end = self.len();
+        let mut to = kept;
+        for from in at..end {
+            let watch = self.watches[from];
+            self.watches[to] = watch;
+            to += 1;
+        }
+        self.watches.truncate(to);
+    }
+
+    pub fn clear(&mut self)
+        ensures { self.new ≡ [] }
+    {
+        self.watches.clear();
+    }
+}
+
+/// For each literal the watches that are gone through once it is true. Contracts see a `Watching`: the lists by code of the
+/// literal, and whether they are kept up.
+#[derive(Drop)]
+pub struct Watchlists {
+    watches: Vec<WatchList>,
+    enabled: bool,
+}
+
+impl Model for Watchlists {
+    ghost use Rattle.sat_parts.specs.prop.WatchLists.{Watching};
+
+    ghost Value = { Watching };
+
+    ghost view = { λ w. record { lists = w.watches.items; enabled = w.enabled } };
+}
+
+impl Watchlists {
+    /// No literals, and lists that are kept up. Takes no memory.
+    pub fn new(alloc: Global) -> Watchlists
+        ensures lists { result.lists ≡ [] }
+        ensures enabled { result.enabled ≡ true }
+    {
+        Watchlists {
+            watches: Vec::new(alloc),
+            enabled: true,
+        }
+    }
+
+    /// Makes the literals those of so many variables. New ones have no watches.
+    pub fn set_var_count(&mut self, alloc: Global, count: usize) -> Result<(), AllocError>
+        requires { count ≤ largest }
+        ensures done { OnOk result (self.new ≡ with_lists (2 * count) self.old) }
+        ensures same { OnErr result (self.new ≡ self.old) }
+    {
+        let more = (2 * count).saturating_sub(self.watches.len());
+        self.watches.reserve(more)?;
+        self.watches.truncate(2 * count);
+        for _added in 0..more {
+            self.watches.push_reserved(WatchList::new(alloc));
+        }
+        Ok(())
+    }
+
+    /// Whether the lists are kept up.
+    pub fn enabled(&self) -> bool
+        ensures { result ≡ self.now.enabled }
+    {
+        self.enabled
+    }
+
+    /// From here on the lists aren't kept up, until they are built anew.
+    pub fn disable(&mut self)
+        ensures { self.new ≡ record self.old { enabled = false } }
+    {
+        self.enabled = false;
+    }
+
+    /// Puts a watch behind those of a literal.
+    #[inline(always)] // called for each clause that gets a new watch in propagation
+    pub fn add_watch(&mut self, lit: Lit, watch: Watch) -> Result<(), AllocError>
+        requires { lit < length self.old.lists }
+        ensures done { OnOk result (self.new ≡ with_watch lit watch self.old) }
+        ensures same { OnErr result (self.new ≡ self.old) }
+    {
+        let list = &mut self.watches[lit.code()];
+        list.push(watch)
+    }
+
+    /// Takes out the watches of a literal, which has none until they are put back.
+    pub(crate) fn take_list(&mut self, alloc: Global, lit: Lit) -> WatchList
+        requires { lit < length self.old.lists }
+        ensures list { result ≡ slice_index_or self.old.lists lit [] }
+        ensures rest { self.new ≡ record self.old { lists = slice_set self.old.lists lit [] } }
+    {
+        let list = &mut self.watches[lit.code()];
+        mem::replace(list, WatchList::new(alloc))
+    }
+
+    /// Makes these the watches of a literal.
+    pub(crate) fn put_list(&mut self, lit: Lit, list: WatchList)
+        requires { lit < length self.old.lists }
+        ensures { self.new ≡ record self.old { lists = slice_set self.old.lists lit list } }
+    {
+        self.watches[lit.code()] = list;
+    }
+
+    /// Watches a clause by these two literals of it. Does nothing while the lists aren't kept up.
+    pub fn watch_clause(&mut self, cref: ClauseRef, lits: [Lit; 2]) -> Result<(), AllocError>
+        requires first { negated (slice_index_or lits 0 0) < length self.old.lists }
+        requires second { negated (slice_index_or lits 1 0) < length self.old.lists }
+        ensures done { OnOk result (self.new ≡ with_clause cref (slice_index_or lits 0 0) (slice_index_or lits 1 0) self.old) }
+    {
+        if !self.enabled {
+            return Ok(());
+        }
+        let [first, second] = lits;
+        self.add_watch(
+            !first,
+            Watch {
+                cref,
+                blocking: second,
+            },
+        )?;
+        self.add_watch(
+            !second,
+            Watch {
+                cref,
+                blocking: first,
+            },
+        )
+    }
+}
