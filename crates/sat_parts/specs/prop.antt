@@ -4,3 +4,5 @@ pub mod Graphs
 pub mod State
 pub mod Reasons
 pub mod WatchLists
+pub mod Ready
+pub mod Walk

@@ -1,4 +1,6 @@
 pub mod StateLemmas
 pub mod RoomLemmas
 pub mod WatchLemmas
+pub mod WalkLemmas
+pub mod HalfLemmas
 pub mod ReasonLemmas

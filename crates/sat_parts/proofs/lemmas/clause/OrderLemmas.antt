@@ -181,3 +181,9 @@ kept_clauses a b live count h r =
           omega (arith, h.below o m.0 g m.1.0, m.1.1);
       distinct = λ o g. (k.lits o g).apart (h.distinct o g);
     }
+
+pub below_shuffled : (a b : List ℕ) (o n : ℕ) → Shuffles a b o → ((k : ℕ) → k < size_of a o → lit_of a o k < n) → (k : ℕ) → k < size_of b o → lit_of b o k < n
+below_shuffled a b o n e h k p =
+    let s : size_of b o ≡ size_of a o = e.lits.size in
+    let m : (j : ℕ) × ((j < size_of a o) × (lit_of a o j ≡ lit_of b o k)) = e.lits.back k (omega arith) in
+    omega (arith, h m.0 m.1.0, m.1.1)

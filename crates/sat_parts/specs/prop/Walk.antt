@@ -1,0 +1,84 @@
+-- Inside the walk through the watches of one literal.
+use Rattle.std.specs.Prelude.{ℕ, ◌≡◌, ◌≢◌, ◌*◌, ◌/◌, ◌<◌, ◌≤◌, ◌⊎◌, Bool, Option, List, [], length, slice_index_or as get_or, MatchOption}
+use Rattle.std.specs.List.{Contains}
+use Rattle.sat_base.specs.values.Literals.{negated}
+use Rattle.sat_store.specs.clause.Buffer.{lits_at}
+use Rattle.sat_parts.specs.declared.prop.watch.Watch.{Watch}
+use Rattle.sat_parts.specs.declared.prop.long.Visit.{Visit}
+use Rattle.sat_parts.specs.declared.prop.long.Visit.TheVariants.{Stale, Moved, Keep, Propagates, Falsified}
+use Rattle.sat_parts.specs.clause.Stored.{AreClauses, lit_of, size_of}
+use Rattle.sat_parts.specs.prop.Values.{IsTrueLit, IsFalseLit, IsOpenLit}
+use Rattle.sat_parts.specs.prop.WatchLists.{no_watch, watch_on, watches_of, more_at}
+use Rattle.sat_parts.specs.prop.State.{State, level, current_level, HasLeft, Agrees, IsQueueCurrent, IsSatisfied}
+use Rattle.sat_parts.specs.prop.Reasons.{Moves}
+use Rattle.sat_parts.specs.prop.Ready.{IsGood, HasWatch, LongReady, IsFalsified}
+
+-- among the first kept watches or those from at on
+abbrev pub HasWatchOutside : List Watch → ℕ → ℕ → ℕ → Type 0
+HasWatchOutside xs kept at o = (p : ℕ) × ((p < length xs) × ((p < kept) ⊎ (at ≤ p)) × ((get_or xs p no_watch).cref ≡ o))
+
+abbrev pub HasWatchFrom : List Watch → ℕ → ℕ → Type 0
+HasWatchFrom xs at o = (p : ℕ) × ((p < length xs) × (at ≤ p) × ((get_or xs p no_watch).cref ≡ o))
+
+-- the watches while those of lit, taken out as a list, are gone through: those from at on are to be looked at, and the
+-- first kept stay
+pub record AreWalked (words live : List ℕ) (lists : List (List Watch)) (list : List Watch) (lit kept at count : ℕ) : Type 0 where
+  pub room : length lists ≡ 2 * count
+  pub good : (l p : ℕ) → p < length (watches_of lists l) → IsGood words live (get_or (watches_of lists l) p no_watch)
+  pub mine : (p : ℕ) → p < length list → IsGood words live (get_or list p no_watch)
+  pub gap : kept ≤ at
+  pub within : at ≤ length list
+  pub both : (o i : ℕ) → Contains live o → i < 2 →
+    ((negated (lit_of words o i) ≡ lit) × HasWatchOutside list kept at o)
+    ⊎ ((negated (lit_of words o i) ≢ lit) × HasWatch (watches_of lists (negated (lit_of words o i))) o)
+
+-- the parts in the middle of the walk: what isn't settled yet is to be looked at
+pub record Half (words live : List ℕ) (s : State) (lists : List (List Watch)) (list : List Watch) (lit kept at : ℕ) : Type 0 where
+  pub clauses : AreClauses words live (length s.values)
+  pub agrees : Agrees s
+  pub queue : IsQueueCurrent s
+  pub left : HasLeft s lit
+  pub top : level s lit ≡ current_level s
+  pub walked : AreWalked words live lists list lit kept at (length s.values)
+  pub settled : (o i : ℕ) → Contains live o → i < 2 → HasLeft s (negated (lit_of words o i)) →
+    IsSatisfied s (lits_at words o) (level s (negated (lit_of words o i)))
+    ⊎ ((negated (lit_of words o i) ≡ lit) × HasWatchFrom list at o)
+
+-- fl was one of the first two literals of the clause at o, and the other of them is now the first
+abbrev pub IsOther : List ℕ → List ℕ → ℕ → ℕ → Type 0
+IsOther w v o fl = ((lit_of w o 1 ≡ fl) × (lit_of v o 0 ≡ lit_of w o 0)) ⊎ ((lit_of w o 0 ≡ fl) × (lit_of v o 0 ≡ lit_of w o 1))
+
+-- the same, and fl is now the second
+pub record Oriented (w v : List ℕ) (o fl : ℕ) : Type 0 where
+  pub other : IsOther w v o fl
+  pub second : lit_of v o 1 ≡ fl
+
+-- what a visit of the clause at o for the false literal fl makes of the words and the lists
+abbrev pub Visited : (w v : List ℕ) (a : List (Option Bool)) (lists lists' : List (List Watch)) (o fl : ℕ) → Visit → Type 0
+Visited w v a lists lists' o fl Stale = (lit_of w o 0 ≢ fl) × (lit_of w o 1 ≢ fl) × (v ≡ w) × (lists' ≡ lists)
+Visited w v a lists lists' o fl Moved =
+    IsOther w v o fl
+    × (IsFalseLit a (lit_of v o 1) → ⊥)
+    × (lists' ≡ more_at (negated (lit_of v o 1)) (watch_on o (lit_of v o 0)) lists)
+Visited w v a lists lists' o fl (Keep n) = Oriented w v o fl × (n ≡ lit_of v o 0) × (lists' ≡ lists) × IsTrueLit a (lit_of v o 0)
+Visited w v a lists lists' o fl (Propagates n) =
+    Oriented w v o fl
+    × (n ≡ lit_of v o 0)
+    × (lists' ≡ lists)
+    × ((k : ℕ) → 1 ≤ k → k < size_of v o → IsFalseLit a (lit_of v o k))
+    × IsOpenLit a (lit_of v o 0)
+Visited w v a lists lists' o fl (Falsified n) =
+    Oriented w v o fl
+    × (n ≡ lit_of v o 0)
+    × (lists' ≡ lists)
+    × ((k : ℕ) → k < size_of v o → IsFalseLit a (lit_of v o k))
+
+-- what is settled after a walk: all that has left the queue, or what is below the current level where a clause was found false
+abbrev pub due_after : Option ℕ → State → ℕ → Type 0
+due_after found s l = MatchOption found (Unit {0}) (λ _. level s l < current_level s)
+
+-- what a walk makes of words and state, and of the lists once the walked one is back
+pub record Walks (live : List ℕ) (words : List ℕ) (s : State) (words' : List ℕ) (s' : State) (lists : List (List Watch)) (found : Option ℕ) : Type 0 where
+  pub moves : (implied : List (List ℕ)) → Moves live implied words s words' s'
+  pub ready : LongReady words' live lists s' (due_after found s')
+  pub conflict : MatchOption found (Unit {0}) (λ o. Contains live o × IsFalsified s'.values (lits_at words' o))

@@ -1,0 +1,110 @@
+//! Propagation over long clauses, by two watched literals.
+ghost use Rattle.std.specs.Prelude.{ℕ, List, ◌≡◌, ◌≢◌, ◌+◌, ◌*◌, ◌<◌, ◌≤◌, ◌↔◌, length, IfOk, IsTrue, MatchResult, slice_set};
+ghost use Rattle.sat_base.specs.values.Literals.{negated, variable};
+ghost use Rattle.sat_store.specs.clause.Buffer.{IsClause};
+ghost use Rattle.sat_parts.specs.clause.Orders.{Shuffles};
+ghost use Rattle.sat_parts.specs.clause.Stored.{lit_of, size_of};
+ghost use Rattle.sat_parts.specs.prop.Values.{IsFalseLit};
+ghost use Rattle.sat_parts.specs.prop.State.{HasLeft, level, current_level};
+ghost use Rattle.sat_parts.specs.prop.Reasons.{Moves};
+ghost use Rattle.sat_parts.specs.prop.Ready.{state_of, LongReady, IsConflict};
+ghost use Rattle.sat_parts.specs.prop.Walk.{Half, IsOther, Oriented, Visited, Walks};
+
+use crate::prop::assignment::Assignment;
+use crate::prop::watch::{Watch, Watchlists};
+use sat_base::Lit;
+use sat_store::{ClauseAlloc, ClauseRef};
+use std::alloc::AllocError;
+
+/// What became of a watch whose literal is false: the clause isn't watched by it, has found another literal, or keeps the
+/// watch, with its first literal true, to become true, or false as all others.
+#[derive(Clone, Copy)]
+enum Visit {
+    Stale,
+    Moved,
+    Keep(Lit),
+    Propagates(Lit),
+    Falsified(Lit),
+}
+
+/// The place of the first literal from the third on that isn't false, or the clause's length.
+#[inline(always)] // called for each clause that propagation reads
+fn find_open(clauses: &ClauseAlloc, assignment: &Assignment, cref: ClauseRef) -> usize
+    requires clause { IsClause clauses.now cref }
+    requires below { (k : ℕ) → k < size_of clauses.now cref → lit_of clauses.now cref k < 2 * length assignment.now.current }
+    requires long { 2 ≤ size_of clauses.now cref }
+    ensures from { 2 ≤ result }
+    ensures within { result ≤ size_of clauses.now cref }
+    ensures before { (k : ℕ) → 2 ≤ k → k < result → IsFalseLit assignment.now.current (lit_of clauses.now cref k) }
+    ensures found { result < size_of clauses.now cref → IsFalseLit assignment.now.current (lit_of clauses.now cref result) → ⊥ }
+{
+    let len = clauses.len(cref);
+    for at in 2..len {
+        if !assignment.lit_is_false(clauses.lit(cref, at)) {
+            return at;
+        }
+    }
+    len
+}
+
+/// Brings a literal to the second place if it is one of the first two, and says whether it is. The second place is tested
+/// first, so that a literal that is true by this clause stays its first.
+#[inline(always)] // called for each clause that propagation reads
+fn orient(clauses: &mut ClauseAlloc, cref: ClauseRef, lit: Lit) -> bool
+    requires clause { IsClause clauses.old cref }
+    requires long { 2 ≤ size_of clauses.old cref }
+    ensures shuffles { Shuffles clauses.old clauses.new cref }
+    ensures oriented { IsTrue result → Oriented clauses.old clauses.new cref lit }
+    ensures stale { ¬ IsTrue result → (lit_of clauses.old cref 0 ≢ lit) × (lit_of clauses.old cref 1 ≢ lit) × (clauses.new ≡ clauses.old) }
+{
+    if clauses.lit(cref, 1) == lit {
+        return true;
+    }
+    if clauses.lit(cref, 0) == lit {
+        clauses.swap_lits(cref, 0, 1);
+        return true;
+    }
+    false
+}
+
+/// Looks at a clause after a literal that it may watch has become false.
+fn visit_clause(
+    clauses: &mut ClauseAlloc,
+    watchlists: &mut Watchlists,
+    assignment: &Assignment,
+    cref: ClauseRef,
+    false_lit: Lit,
+) -> Result<Visit, AllocError>
+    requires clause { IsClause clauses.old cref }
+    requires long { 2 ≤ size_of clauses.old cref }
+    requires below { (k : ℕ) → k < size_of clauses.old cref → lit_of clauses.old cref k < 2 * length assignment.now.current }
+    requires room { length watchlists.old.lists ≡ 2 * length assignment.now.current }
+    requires falsified { IsFalseLit assignment.now.current false_lit }
+    ensures shuffles { Shuffles clauses.old clauses.new cref }
+    ensures visited { IfOk result (λ r. Visited clauses.old clauses.new assignment.now.current watchlists.old.lists watchlists.new.lists cref false_lit r) }
+    ensures enabled { watchlists.new.enabled ≡ watchlists.old.enabled }
+{
+    if !orient(clauses, cref, false_lit) {
+        return Ok(Visit::Stale);
+    }
+    let first = clauses.lit(cref, 0);
+    if assignment.lit_is_true(first) {
+        return Ok(Visit::Keep(first));
+    }
+    let at = find_open(clauses, assignment, cref);
+    if at < clauses.len(cref) {
+        clauses.swap_lits(cref, 1, at);
+        let second = clauses.lit(cref, 1);
+        let watch = Watch {
+            cref,
+            blocking: first,
+        };
+        watchlists.add_watch(!second, watch)?;
+        return Ok(Visit::Moved);
+    }
+    if assignment.lit_is_false(first) {
+        Ok(Visit::Falsified(first))
+    } else {
+        Ok(Visit::Propagates(first))
+    }
+}
