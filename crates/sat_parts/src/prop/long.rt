@@ -11,7 +11,9 @@ ghost use Rattle.sat_parts.specs.prop.Ready.{state_of, LongReady, IsConflict};
 ghost use Rattle.sat_parts.specs.prop.Walk.{Half, IsOther, Oriented, Visited, Walks};
 
 use crate::prop::assignment::Assignment;
-use crate::prop::watch::{Watch, Watchlists};
+use crate::prop::graph::{ImplGraph, Reason};
+use crate::prop::trail::{Trail, enqueue_assignment};
+use crate::prop::watch::{Watch, WatchList, Watchlists};
 use sat_base::Lit;
 use sat_store::{ClauseAlloc, ClauseRef};
 use std::alloc::AllocError;
@@ -107,4 +109,55 @@ fn visit_clause(
     } else {
         Ok(Visit::Propagates(first))
     }
+}
+
+/// Goes through the watches of a literal that was taken off the queue, and answers a clause that it finds falsified. After
+/// want of memory the parts aren't used again.
+fn propagate_list(
+    clauses: &mut ClauseAlloc,
+    watchlists: &mut Watchlists,
+    assignment: &mut Assignment,
+    graph: &mut ImplGraph,
+    trail: &mut Trail,
+    list: &mut WatchList,
+    lit: Lit,
+) -> Result<Option<ClauseRef>, AllocError>
+    ghost live: { List ℕ }
+    requires { Half clauses.old live (state_of assignment.old graph.old trail.old) watchlists.old.lists list.old lit 0 0 }
+    ensures walked { IfOk result (λ found. Walks live clauses.old (state_of assignment.old graph.old trail.old) clauses.new (state_of assignment.new graph.new trail.new) (slice_set watchlists.new.lists lit list.new) found) }
+    ensures last { assignment.new.last ≡ assignment.old.last }
+    ensures enabled { watchlists.new.enabled ≡ watchlists.old.enabled }
+{
+    let false_lit = !lit;
+    let mut kept = 0;
+    let end = list.len();
+    for at in 0..end {
+        let cref = list.cref(at);
+        let blocking = list.blocking(at);
+        if assignment.lit_is_true(blocking) {
+            list.set(kept, cref, blocking);
+            kept += 1;
+        } else {
+            match visit_clause(clauses, watchlists, assignment, cref, false_lit)? {
+                Visit::Stale => {}
+                Visit::Moved => {}
+                Visit::Keep(first) => {
+                    list.set(kept, cref, first);
+                    kept += 1;
+                }
+                Visit::Propagates(first) => {
+                    list.set(kept, cref, first);
+                    kept += 1;
+                    enqueue_assignment(assignment, graph, trail, first, Reason::Long(cref));
+                }
+                Visit::Falsified(first) => {
+                    list.set(kept, cref, first);
+                    list.cut(kept + 1, at + 1);
+                    return Ok(Some(cref));
+                }
+            }
+        }
+    }
+    list.cut(kept, end);
+    Ok(None)
 }

@@ -223,3 +223,30 @@ walk_open live w s lists lit h left top small = record {
     };
     moves = λ implied. moves_refl live implied w s;
   }
+
+-- the blocking literal of a watch is in range
+pub blocking_below : (w live : List ℕ) (s : State) (lists : List (List Watch)) (list : List Watch) (lit kept at b : ℕ) →
+    Half w live s lists list lit kept at → at < length list → b ≡ (get_or list at no_watch).blocking → variable b < length s.values
+blocking_below w live s lists list lit kept at b h lt at_b =
+    let g : IsGood w live (get_or list at no_watch) = h.walked.mine at lt in
+    let x : lit_of w (get_or list at no_watch).cref g.1.0 < 2 * length s.values = h.clauses.below (get_or list at no_watch).cref g.1.0 g.0 g.1.1.0 in
+    omega (arith, g.1.1.1)
+
+-- a literal that has left the queue is in range
+pub left_below : (s : State) (l : ℕ) → Agrees s → HasLeft s l → l < 2 * length s.values
+left_below s l a f =
+    let v : variable l < length s.values = below_from_value s.values (variable l) (is_positive l) (left_true s l a f) in
+    omega arith
+
+pub walk_small : (w live : List ℕ) (s : State) (lists : List (List Watch)) (list : List Watch) (lit kept at : ℕ) →
+    Half w live s lists list lit kept at → lit < 2 * length s.values
+walk_small w live s lists list lit kept at h = left_below s lit h.agrees h.left
+
+-- the first literal of a visited clause is in range
+pub visited_below : (w v live : List ℕ) (s : State) (lists : List (List Watch)) (list : List Watch) (lit kept at p n : ℕ) →
+    Half w live s lists list lit kept at → at < length list → p ≡ (get_or list at no_watch).cref → Shuffles w v p → n ≡ lit_of v p 0 →
+    variable n < length s.values
+visited_below w v live s lists list lit kept at p n h lt at_p e n_is =
+    let hp : Contains live p = place_live w live s lists list lit kept at p h lt at_p in
+    subst (λ (z : ℕ). variable z < length s.values) (sym n_is)
+      (lit_below w v live s lists list lit kept at p 0 h hp e (first_there w v live s lists list lit kept at p h hp e))
