@@ -3,6 +3,7 @@ pub mod Trails
 pub mod Graphs
 pub mod State
 pub mod Reasons
+pub mod Binaries
 pub mod WatchLists
 pub mod Ready
 pub mod Walk

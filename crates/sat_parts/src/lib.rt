@@ -1,9 +1,13 @@
 //! What a solver propagates with: values of variables, the trail, reasons, lists of clauses, and propagation itself.
 #![tactic(auto)]
 
+pub mod binary;
 pub mod prop;
 
+pub use binary::BinaryClauses;
 pub use prop::assignment::{Assignment, fast_option_eq};
+pub use prop::binary::propagate_binary;
 pub use prop::graph::{Conflict, ImplGraph, ImplNode, Reason};
+pub use prop::long::propagate_long;
 pub use prop::trail::{Trail, enqueue_assignment};
 pub use prop::watch::{Watch, WatchList, Watchlists};

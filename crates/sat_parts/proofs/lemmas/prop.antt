@@ -4,4 +4,6 @@ pub mod WatchLemmas
 pub mod WalkLemmas
 pub mod HalfLemmas
 pub mod Walking
+pub mod BinaryLemmas
+pub mod QueueLemmas
 pub mod ReasonLemmas

@@ -1,5 +1,5 @@
 -- What unit propagation asks and gives, over clauses, watch lists and the state of a search.
-use Rattle.std.specs.Prelude.{ℕ, ◌≡◌, ◌≢◌, ◌+◌, ◌*◌, ◌<◌, ◌≤◌, Bool, Option, List, [], length, slice_index_or as get_or}
+use Rattle.std.specs.Prelude.{ℕ, ◌≡◌, ◌≢◌, ◌+◌, ◌*◌, ◌<◌, ◌≤◌, Bool, Option, List, [], length, slice_index_or as get_or, Result, MatchResult}
 use Rattle.std.specs.List.{Contains}
 use Rattle.sat_base.specs.values.Literals.{negated}
 use Rattle.sat_store.specs.clause.Buffer.{lits_at}
@@ -10,16 +10,13 @@ use Rattle.sat_parts.specs.declared.prop.graph.Conflict.TheVariants.{Binary, Lon
 use Rattle.sat_parts.specs.clause.Stored.{AreClauses, lit_of, size_of}
 use Rattle.sat_parts.specs.prop.Values.{Values, IsTrueLit, IsFalseLit, IsOpenLit}
 use Rattle.sat_parts.specs.prop.Trails.{Trailed}
+use Rattle.sat_parts.specs.prop.Binaries.{implied_by}
 use Rattle.sat_parts.specs.prop.WatchLists.{no_watch, watches_of}
 use Rattle.sat_parts.specs.prop.State.{State, level, current_level, HasLeft, Agrees, IsQueueCurrent, IsSatisfied}
-use Rattle.sat_parts.specs.prop.Reasons.{HaveFirsts}
+use Rattle.sat_parts.specs.prop.Reasons.{HaveFirsts, Moves}
 
 abbrev pub state_of : Values → List ImplNode → Trailed → State
 state_of a g t = record { values = a.current; nodes = g; trail = t }
-
--- the literals that the literal l implies by clauses of two literals
-abbrev pub implied_by : List (List ℕ) → ℕ → List ℕ
-implied_by implied l = get_or implied l []
 
 -- l is a literal of the clause at o
 abbrev pub HasLit : List ℕ → ℕ → ℕ → Type 0
@@ -98,3 +95,11 @@ IsConflict words live implied values (Binary ls) =
     × IsFalseLit values (get_or ls 0 0)
     × IsFalseLit values (get_or ls 1 0)
 IsConflict words live implied values (Long o) = Contains live o × IsFalsified values (lits_at words o)
+
+-- what propagation makes of a state that is ready for it: the pieces in between, and either a state that is ready again, with
+-- nothing in the queue and no clause left to do, or a falsified clause and a state that is ready once its level is undone
+pub record Propagated (live : List ℕ) (implied : List (List ℕ)) (words : List ℕ) (s : State) (words' : List ℕ) (s' : State) (lists : List (List Watch)) (r : Result (Unit {0}) Conflict) : Type 0 where
+  pub moves : Moves live implied words s words' s'
+  pub outcome : MatchResult r
+      (λ _. IsReady words' live lists implied s' × (s'.trail.head ≡ length s'.trail.lits) × IsComplete words' live implied s'.values)
+      (λ e. ReadyBelow words' live lists implied s' (current_level s') × IsConflict words' live implied s'.values e)

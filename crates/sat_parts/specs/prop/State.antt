@@ -68,10 +68,9 @@ enqueued l reason s = record {
   trail = with_lit l s.trail;
 }
 
--- only open literals became true, behind the others of the trail, and none left the queue
+-- only open literals became true, behind the others of the trail
 pub record Grows (old new : State) : Type 0 where
   pub size : length new.values ≡ length old.values
-  pub head : new.trail.head ≡ old.trail.head
   pub starts : new.trail.starts ≡ old.trail.starts
   pub cleared : new.trail.cleared ≡ old.trail.cleared
   pub room : new.trail.room ≡ old.trail.room

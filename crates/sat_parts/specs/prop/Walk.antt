@@ -1,17 +1,20 @@
 -- Inside the walk through the watches of one literal.
-use Rattle.std.specs.Prelude.{ℕ, ◌≡◌, ◌≢◌, ◌*◌, ◌/◌, ◌<◌, ◌≤◌, ◌⊎◌, Bool, Option, List, [], length, slice_index_or as get_or, MatchOption}
+use Rattle.std.specs.Prelude.{ℕ, ◌≡◌, ◌≢◌, ◌*◌, ◌/◌, ◌<◌, ◌≤◌, ◌⊎◌, Bool, Option, List, [], length, slice_index_or as get_or, MatchOption, MatchResult, Result, Some, None}
 use Rattle.std.specs.List.{Contains}
 use Rattle.sat_base.specs.values.Literals.{negated}
 use Rattle.sat_store.specs.clause.Buffer.{lits_at}
 use Rattle.sat_parts.specs.declared.prop.watch.Watch.{Watch}
+use Rattle.sat_parts.specs.declared.prop.graph.Conflict.{Conflict}
+use Rattle.sat_parts.specs.declared.prop.graph.Conflict.TheVariants.{Long}
 use Rattle.sat_parts.specs.declared.prop.long.Visit.{Visit}
 use Rattle.sat_parts.specs.declared.prop.long.Visit.TheVariants.{Stale, Moved, Keep, Propagates, Falsified}
 use Rattle.sat_parts.specs.clause.Stored.{AreClauses, lit_of, size_of}
 use Rattle.sat_parts.specs.prop.Values.{IsTrueLit, IsFalseLit, IsOpenLit}
+use Rattle.sat_parts.specs.prop.Binaries.{implied_by}
 use Rattle.sat_parts.specs.prop.WatchLists.{no_watch, watch_on, watches_of, more_at}
 use Rattle.sat_parts.specs.prop.State.{State, level, current_level, HasLeft, Agrees, IsQueueCurrent, IsSatisfied}
 use Rattle.sat_parts.specs.prop.Reasons.{Moves}
-use Rattle.sat_parts.specs.prop.Ready.{IsGood, HasWatch, LongReady, IsFalsified}
+use Rattle.sat_parts.specs.prop.Ready.{IsGood, HasWatch, LongReady, IsFalsified, IsConflict}
 
 -- among the first kept watches or those from at on
 abbrev pub HasWatchOutside : List Watch → ℕ → ℕ → ℕ → Type 0
@@ -29,8 +32,8 @@ pub record AreWalked (words live : List ℕ) (lists : List (List Watch)) (list :
   pub gap : kept ≤ at
   pub within : at ≤ length list
   pub both : (o i : ℕ) → Contains live o → i < 2 →
-    ((negated (lit_of words o i) ≡ lit) × HasWatchOutside list kept at o)
-    ⊎ ((negated (lit_of words o i) ≢ lit) × HasWatch (watches_of lists (negated (lit_of words o i))) o)
+      ((negated (lit_of words o i) ≡ lit) × HasWatchOutside list kept at o)
+      ⊎ ((negated (lit_of words o i) ≢ lit) × HasWatch (watches_of lists (negated (lit_of words o i))) o)
 
 -- the parts in the middle of the walk: what isn't settled yet is to be looked at
 pub record Half (words live : List ℕ) (s : State) (lists : List (List Watch)) (list : List Watch) (lit kept at : ℕ) : Type 0 where
@@ -41,8 +44,8 @@ pub record Half (words live : List ℕ) (s : State) (lists : List (List Watch)) 
   pub top : level s lit ≡ current_level s
   pub walked : AreWalked words live lists list lit kept at (length s.values)
   pub settled : (o i : ℕ) → Contains live o → i < 2 → HasLeft s (negated (lit_of words o i)) →
-    IsSatisfied s (lits_at words o) (level s (negated (lit_of words o i)))
-    ⊎ ((negated (lit_of words o i) ≡ lit) × HasWatchFrom list at o)
+      IsSatisfied s (lits_at words o) (level s (negated (lit_of words o i)))
+      ⊎ ((negated (lit_of words o i) ≡ lit) × HasWatchFrom list at o)
 
 -- fl was one of the first two literals of the clause at o, and the other of them is now the first
 abbrev pub IsOther : List ℕ → List ℕ → ℕ → ℕ → Type 0
@@ -80,5 +83,27 @@ due_after found s l = MatchOption found (Unit {0}) (λ _. level s l < current_le
 -- what a walk makes of words and state, and of the lists once the walked one is back
 pub record Walks (live : List ℕ) (words : List ℕ) (s : State) (words' : List ℕ) (s' : State) (lists : List (List Watch)) (found : Option ℕ) : Type 0 where
   pub moves : (implied : List (List ℕ)) → Moves live implied words s words' s'
+  pub head : s'.trail.head ≡ s.trail.head
   pub ready : LongReady words' live lists s' (due_after found s')
   pub conflict : MatchOption found (Unit {0}) (λ o. Contains live o × IsFalsified s'.values (lits_at words' o))
+
+-- the same, where the clause that was found is named as a conflict
+abbrev pub WalksLong : (live : List ℕ) (words : List ℕ) (s : State) (words' : List ℕ) (s' : State) (lists : List (List Watch)) → Result (Unit {0}) Conflict → Type 0
+WalksLong live words s words' s' lists r =
+    MatchResult r (λ _. Walks live words s words' s' lists None) (λ e. (o : ℕ) × ((e ≡ Long o) × Walks live words s words' s' lists (Some o)))
+
+-- the state while the literals that lit implies are gone through: those before place at are true
+pub record BinaryWalk (implied : List (List ℕ)) (lit : ℕ) (s s' : State) (at : ℕ) : Type 0 where
+  pub agrees : Agrees s'
+  pub queue : IsQueueCurrent s'
+  pub left : HasLeft s' lit
+  pub top : level s' lit ≡ current_level s'
+  pub moves : (words live : List ℕ) → Moves live implied words s words s'
+  pub head : s'.trail.head ≡ s.trail.head
+  pub done : (k : ℕ) → k < at → k < length (implied_by implied lit) →
+      IsTrueLit s'.values (get_or (implied_by implied lit) k 0) × (level s' (get_or (implied_by implied lit) k 0) ≤ level s' lit)
+
+-- what propagation over the clauses of two literals makes of a state
+abbrev pub WalksBinary : (implied : List (List ℕ)) (lit : ℕ) (s s' : State) → Result (Unit {0}) Conflict → Type 0
+WalksBinary implied lit s s' r =
+    MatchResult r (λ _. BinaryWalk implied lit s s' (length (implied_by implied lit))) (λ e. BinaryWalk implied lit s s' 0 × IsConflict [] [] implied s'.values e)

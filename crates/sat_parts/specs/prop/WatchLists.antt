@@ -26,6 +26,10 @@ more_at l watch lists = set lists l (watches_of lists l ++ watch ∷ [])
 abbrev pub with_watch : ℕ → Watch → Watching → Watching
 with_watch l watch w = record w { lists = more_at l watch w.lists }
 
+-- the lists without the last watch of literal l
+abbrev pub without_last : ℕ → List (List Watch) → List (List Watch)
+without_last l lists = set lists l (take (length (watches_of lists l) - 1) (watches_of lists l))
+
 -- a clause watched by two of its literals, where the lists are kept up: each is the blocking literal of the other's watch
 abbrev pub with_clause : ℕ → ℕ → ℕ → Watching → Watching
 with_clause o a b w = if w.enabled then with_watch (negated b) (watch_on o a) (with_watch (negated a) (watch_on o b) w) else w

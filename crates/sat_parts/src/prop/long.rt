@@ -8,15 +8,15 @@ ghost use Rattle.sat_parts.specs.prop.Values.{IsFalseLit};
 ghost use Rattle.sat_parts.specs.prop.State.{HasLeft, level, current_level};
 ghost use Rattle.sat_parts.specs.prop.Reasons.{Moves};
 ghost use Rattle.sat_parts.specs.prop.Ready.{state_of, LongReady, IsConflict};
-ghost use Rattle.sat_parts.specs.prop.Walk.{Half, IsOther, Oriented, Visited, Walks};
+ghost use Rattle.sat_parts.specs.prop.Walk.{Half, IsOther, Oriented, Visited, Walks, WalksLong};
 
 use crate::prop::assignment::Assignment;
-use crate::prop::graph::{ImplGraph, Reason};
+use crate::prop::graph::{Conflict, ImplGraph, Reason};
 use crate::prop::trail::{Trail, enqueue_assignment};
 use crate::prop::watch::{Watch, WatchList, Watchlists};
 use sat_base::Lit;
 use sat_store::{ClauseAlloc, ClauseRef};
-use std::alloc::AllocError;
+use std::alloc::{AllocError, Global};
 
 /// What became of a watch whose literal is false: the clause isn't watched by it, has found another literal, or keeps the
 /// watch, with its first literal true, to become true, or false as all others.
@@ -160,4 +160,34 @@ fn propagate_list(
     }
     list.cut(kept, end);
     Ok(None)
+}
+
+/// Propagates a literal that was taken off the queue, over the long clauses. The literals before it are settled already. An
+/// `Err` within is a live clause whose literals are all false. After want of memory the parts aren't used again.
+pub fn propagate_long(
+    alloc: Global,
+    clauses: &mut ClauseAlloc,
+    watchlists: &mut Watchlists,
+    assignment: &mut Assignment,
+    graph: &mut ImplGraph,
+    trail: &mut Trail,
+    lit: Lit,
+) -> Result<Result<(), Conflict>, AllocError>
+    ghost live: { List ℕ }
+    requires ready { LongReady clauses.old live watchlists.old.lists (state_of assignment.old graph.old trail.old) (λ l. l ≢ lit) }
+    requires left { HasLeft (state_of assignment.old graph.old trail.old) lit }
+    requires top { level (state_of assignment.old graph.old trail.old) lit ≡ current_level (state_of assignment.old graph.old trail.old) }
+    ensures walked { IfOk result (λ r. WalksLong live clauses.old (state_of assignment.old graph.old trail.old) clauses.new (state_of assignment.new graph.new trail.new) watchlists.new.lists r) }
+    ensures last { assignment.new.last ≡ assignment.old.last }
+    ensures enabled { watchlists.new.enabled ≡ watchlists.old.enabled }
+{
+    let mut list = watchlists.take_list(alloc, lit);
+    let found = propagate_list(
+        clauses, watchlists, assignment, graph, trail, &mut list, lit,
+    )?;
+    watchlists.put_list(lit, list);
+    match found {
+        None => Ok(Ok(())),
+        Some(cref) => Ok(Err(Conflict::Long(cref))),
+    }
 }

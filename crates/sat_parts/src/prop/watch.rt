@@ -1,7 +1,7 @@
 //! Lists of the long clauses that are to be looked at when a literal becomes true.
-ghost use Rattle.std.specs.Prelude.{◌≡◌, ◌+◌, ◌*◌, ◌<◌, ◌≤◌, ◌∷◌, ◌++◌, [], length, OnOk, OnErr, take, drop, true, false, slice_index_or, slice_set, if◌then◌else◌, is_ok};
+ghost use Rattle.std.specs.Prelude.{◌≡◌, ◌+◌, ◌-◌, ◌*◌, ◌<◌, ◌≤◌, ◌∷◌, ◌++◌, [], length, OnOk, OnErr, take, drop, true, false, slice_index_or, slice_set, if◌then◌else◌, is_ok};
 ghost use Rattle.sat_base.specs.values.Literals.{largest, negated};
-ghost use Rattle.sat_parts.specs.prop.WatchLists.{no_watch, watch_on, with_watch, with_clause, with_lists};
+ghost use Rattle.sat_parts.specs.prop.WatchLists.{no_watch, watch_on, with_watch, without_last, with_clause, with_lists};
 
 use sat_base::Lit;
 use sat_store::ClauseRef;
@@ -81,6 +81,13 @@ impl WatchList {
     {
         self.watches.push(watch)?;
         Ok(())
+    }
+
+    /// Takes the last watch out.
+    fn pop(&mut self)
+        ensures { self.new ≡ take (length self.old - 1) self.old }
+    {
+        let _ = self.watches.pop();
     }
 
     /// Takes the watches from place `kept` up to `at` out.
@@ -192,11 +199,21 @@ impl Watchlists {
         self.watches[lit.code()] = list;
     }
 
+    /// Takes the last watch of a literal out.
+    fn pop_watch(&mut self, lit: Lit)
+        requires { lit < length self.old.lists }
+        ensures { self.new ≡ record self.old { lists = without_last lit self.old.lists } }
+    {
+        let list = &mut self.watches[lit.code()];
+        list.pop();
+    }
+
     /// Watches a clause by these two literals of it. Does nothing while the lists aren't kept up.
     pub fn watch_clause(&mut self, cref: ClauseRef, lits: [Lit; 2]) -> Result<(), AllocError>
         requires first { negated (slice_index_or lits 0 0) < length self.old.lists }
         requires second { negated (slice_index_or lits 1 0) < length self.old.lists }
         ensures done { OnOk result (self.new ≡ with_clause cref (slice_index_or lits 0 0) (slice_index_or lits 1 0) self.old) }
+        ensures same { OnErr result (self.new ≡ self.old) }
     {
         if !self.enabled {
             return Ok(());
@@ -209,12 +226,14 @@ impl Watchlists {
                 blocking: second,
             },
         )?;
-        self.add_watch(
-            !second,
-            Watch {
-                cref,
-                blocking: first,
-            },
-        )
+        let other = Watch {
+            cref,
+            blocking: first,
+        };
+        if let Err(error) = self.add_watch(!second, other) {
+            self.pop_watch(!first);
+            return Err(error);
+        }
+        Ok(())
     }
 }

@@ -48,23 +48,26 @@ half_kept w v live s lists list lit kept at p l h lt at_p e two has sat =
     let gap : kept ≤ at = h.walked.gap in
     record {
       clauses = kept_clauses w v live (length s.values) h.clauses (reorders_one w v live p hp e);
-      agrees = h.agrees; queue = h.queue; left = h.left; top = h.top;
+      agrees = h.agrees;
+      queue = h.queue;
+      left = h.left;
+      top = h.top;
       walked = walked_kept w v live lists list lit kept at (length s.values) p l h.clauses h.walked lt at_p e two has;
       settled = λ o i ho hi f.
-        let m : (j : ℕ) × ((j < 2) × (lit_of v o i ≡ lit_of w o j)) = first_two w v live (length s.values) p o h.clauses hp e ho two i hi in
-        let n : negated (lit_of v o i) ≡ negated (lit_of w o m.0) = ap (λ z. negated z) m.1.1 in
-        elim (h.settled o m.0 ho m.1.0 (subst (λ (z : ℕ). HasLeft s z) n f)) [
-          inl t ↦ inl (subst (λ (z : ℕ). IsSatisfied s (lits_at v o) (level s z)) (sym n)
-            (satisfied_order s (lits_at w o) (lits_at v o) (level s (negated (lit_of w o m.0))) (shuffled_all w v live (length s.values) p o h.clauses hp e ho) t))
-        | inr t ↦ elim (cases_eq t.1.0 at) [
-            inl r ↦
-              let same : p ≡ o = at_p ∙ ap (λ q. (get_or list q no_watch).cref) (sym r) ∙ t.1.1.2 in
-              inl (subst (λ (z : ℕ). IsSatisfied s (lits_at v o) (level s z)) (sym (n ∙ t.0)) (subst (λ (z : ℕ). IsSatisfied s (lits_at v z) (level s lit)) same sat))
-          | inr d ↦
-              let k : t.1.0 ≢ kept = λ z. d (omega (arith, t.1.1.1)) in
-              inr (n ∙ t.0, (t.1.0, (omega (arith, t.1.1.0), omega (arith, t.1.1.1), ap (λ (y : Watch). y.cref) (get_or-set_other list kept t.1.0 (watch_on p l) no_watch k) ∙ t.1.1.2)))
-          ]
-        ];
+          let m : (j : ℕ) × ((j < 2) × (lit_of v o i ≡ lit_of w o j)) = first_two w v live (length s.values) p o h.clauses hp e ho two i hi in
+          let n : negated (lit_of v o i) ≡ negated (lit_of w o m.0) = ap (λ z. negated z) m.1.1 in
+          elim (h.settled o m.0 ho m.1.0 (subst (λ (z : ℕ). HasLeft s z) n f)) [
+            | inl t ↦ inl (subst (λ (z : ℕ). IsSatisfied s (lits_at v o) (level s z)) (sym n)
+                (satisfied_order s (lits_at w o) (lits_at v o) (level s (negated (lit_of w o m.0))) (shuffled_all w v live (length s.values) p o h.clauses hp e ho) t))
+            | inr t ↦ elim (cases_eq t.1.0 at) [
+              | inl r ↦
+                  let same : p ≡ o = at_p ∙ ap (λ q. (get_or list q no_watch).cref) (sym r) ∙ t.1.1.2 in
+                  inl (subst (λ (z : ℕ). IsSatisfied s (lits_at v o) (level s z)) (sym (n ∙ t.0)) (subst (λ (z : ℕ). IsSatisfied s (lits_at v z) (level s lit)) same sat))
+              | inr d ↦
+                  let k : t.1.0 ≢ kept = λ z. d (omega (arith, t.1.1.1)) in
+                  inr (n ∙ t.0, (t.1.0, (omega (arith, t.1.1.0), omega (arith, t.1.1.1), ap (λ (y : Watch). y.cref) (get_or-set_other list kept t.1.0 (watch_on p l) no_watch k) ∙ t.1.1.2)))
+            ]
+          ];
     }
 
 -- the watch at place at goes, its clause not being watched by lit
@@ -73,18 +76,22 @@ pub half_stale : (w live : List ℕ) (s : State) (lists : List (List Watch)) (li
     lit_of w p 0 ≢ negated lit → lit_of w p 1 ≢ negated lit →
     Half w live s lists list lit kept (at + 1)
 half_stale w live s lists list lit kept at p h lt at_p n0 n1 = record {
-    clauses = h.clauses; agrees = h.agrees; queue = h.queue; left = h.left; top = h.top;
-    walked = walked_stale w live lists list lit kept at (length s.values) p h.walked lt at_p n0 n1;
-    settled = λ o i ho hi f. elim (h.settled o i ho hi f) [
-        inl t ↦ inl t
-      | inr t ↦ elim (cases_eq t.1.0 at) [
-          inl r ↦
-            let same : p ≡ o = at_p ∙ ap (λ q. (get_or list q no_watch).cref) (sym r) ∙ t.1.1.2 in
-            absurd (not_watched w p lit n0 n1 i hi (ap (λ z. negated (lit_of w z i)) same ∙ t.0))
-        | inr d ↦ inr (t.0, (t.1.0, (t.1.1.0, omega (arith, t.1.1.1), t.1.1.2)))
-        ]
-      ];
-  }
+  clauses = h.clauses;
+  agrees = h.agrees;
+  queue = h.queue;
+  left = h.left;
+  top = h.top;
+  walked = walked_stale w live lists list lit kept at (length s.values) p h.walked lt at_p n0 n1;
+  settled = λ o i ho hi f. elim (h.settled o i ho hi f) [
+    | inl t ↦ inl t
+    | inr t ↦ elim (cases_eq t.1.0 at) [
+      | inl r ↦
+          let same : p ≡ o = at_p ∙ ap (λ q. (get_or list q no_watch).cref) (sym r) ∙ t.1.1.2 in
+          absurd (not_watched w p lit n0 n1 i hi (ap (λ z. negated (lit_of w z i)) same ∙ t.0))
+      | inr d ↦ inr (t.0, (t.1.0, (t.1.1.0, omega (arith, t.1.1.1), t.1.1.2)))
+    ]
+  ];
+}
 
 -- the watch at place at goes, and its clause is watched by its new second literal instead, which isn't false
 pub half_moved : (w v live : List ℕ) (s : State) (lists : List (List Watch)) (list : List Watch) (lit kept at p : ℕ) →
@@ -95,53 +102,57 @@ half_moved w v live s lists list lit kept at p h lt at_p e other opened =
     let hp : Contains live p = place_live w live s lists list lit kept at p h lt at_p in
     let c' : AreClauses v live (length s.values) = kept_clauses w v live (length s.values) h.clauses (reorders_one w v live p hp e) in
     let not_left : HasLeft s (negated (lit_of v p 1)) → ⊥ = λ f.
-      opened (subst (λ (z : ℕ). IsFalseLit s.values z) (negated_twice (lit_of v p 1)) (false_from_true s.values (negated (lit_of v p 1)) (left_true s (negated (lit_of v p 1)) h.agrees f))) in
+    opened (subst (λ (z : ℕ). IsFalseLit s.values z) (negated_twice (lit_of v p 1)) (false_from_true s.values (negated (lit_of v p 1)) (left_true s (negated (lit_of v p 1)) h.agrees f))) in
     let new : negated (lit_of v p 1) ≢ lit = λ r. not_left (subst (λ (z : ℕ). HasLeft s z) (sym r) h.left) in
     let long : 3 ≤ size_of w p = h.clauses.long p hp in
     let first_ne : negated (lit_of v p 0) ≢ lit = first_other w v p lit (h.clauses.distinct p hp) (omega arith) other in
     let S : ℕ → ℕ → Type 0 = λ o i. HasLeft s (negated (lit_of v o i)) → IsSatisfied s (lits_at v o) (level s (negated (lit_of v o i))) ⊎ ((negated (lit_of v o i) ≡ lit) × HasWatchFrom list (at + 1) o) in
     let from_old : (j : ℕ) → j < 2 → lit_of v p 0 ≡ lit_of w p j → S p 0 = λ j hj q f.
-      let n : negated (lit_of v p 0) ≡ negated (lit_of w p j) = ap (λ z. negated z) q in
-      elim (h.settled p j hp hj (subst (λ (z : ℕ). HasLeft s z) n f)) [
-        inl t ↦ inl (subst (λ (z : ℕ). IsSatisfied s (lits_at v p) (level s z)) (sym n) (satisfied_order s (lits_at w p) (lits_at v p) (level s (negated (lit_of w p j))) e.lits t))
+    let n : negated (lit_of v p 0) ≡ negated (lit_of w p j) = ap (λ z. negated z) q in
+    elim (h.settled p j hp hj (subst (λ (z : ℕ). HasLeft s z) n f)) [
+      | inl t ↦ inl (subst (λ (z : ℕ). IsSatisfied s (lits_at v p) (level s z)) (sym n) (satisfied_order s (lits_at w p) (lits_at v p) (level s (negated (lit_of w p j))) e.lits t))
       | inr t ↦ absurd (first_ne (n ∙ t.0))
-      ] in
+    ] in
     let s0 : S p 0 = elim other [ inl x ↦ from_old 0 (omega arith) x.1 | inr x ↦ from_old 1 (omega arith) x.1 ] in
     let s1 : S p 1 = λ f. absurd (not_left f) in
     record {
-      clauses = c'; agrees = h.agrees; queue = h.queue; left = h.left; top = h.top;
+      clauses = c';
+      agrees = h.agrees;
+      queue = h.queue;
+      left = h.left;
+      top = h.top;
       walked = walked_moved w v live lists list lit kept at (length s.values) p h.clauses c' h.walked lt at_p e other new;
       settled = λ o i ho hi. elim (cases_eq p o) [
-          inl r ↦ subst (λ (z : ℕ). S z i) r (at_two (λ j. S p j) s0 s1 i hi)
+        | inl r ↦ subst (λ (z : ℕ). S z i) r (at_two (λ j. S p j) s0 s1 i hi)
         | inr d ↦ λ f.
             let ls : lits_at v o ≡ lits_at w o = same_lits w v live (length s.values) p o h.clauses hp e ho d in
             let n : negated (lit_of v o i) ≡ negated (lit_of w o i) = ap (λ (xs : List ℕ). negated (get_or xs i 0)) ls in
             elim (h.settled o i ho hi (subst (λ (z : ℕ). HasLeft s z) n f)) [
-              inl t ↦ inl (subst (λ (z : ℕ). IsSatisfied s (lits_at v o) (level s z)) (sym n) (subst (λ (xs : List ℕ). IsSatisfied s xs (level s (negated (lit_of w o i)))) (sym ls) t))
-            | inr t ↦
-                let k : t.1.0 ≢ at = λ z. d (at_p ∙ ap (λ q. (get_or list q no_watch).cref) (sym z) ∙ t.1.1.2) in
-                inr (n ∙ t.0, (t.1.0, (t.1.1.0, omega (arith, t.1.1.1), t.1.1.2)))
+              | inl t ↦ inl (subst (λ (z : ℕ). IsSatisfied s (lits_at v o) (level s z)) (sym n) (subst (λ (xs : List ℕ). IsSatisfied s xs (level s (negated (lit_of w o i)))) (sym ls) t))
+              | inr t ↦
+                  let k : t.1.0 ≢ at = λ z. d (at_p ∙ ap (λ q. (get_or list q no_watch).cref) (sym z) ∙ t.1.1.2) in
+                  inr (n ∙ t.0, (t.1.0, (t.1.1.0, omega (arith, t.1.1.1), t.1.1.2)))
             ]
-        ];
+      ];
     }
 
 -- open literals become true
 pub half_grows : (w live : List ℕ) (s t : State) (lists : List (List Watch)) (list : List Watch) (lit kept at : ℕ) →
-    Half w live s lists list lit kept at → Grows s t → Agrees t → IsQueueCurrent t → Half w live t lists list lit kept at
-half_grows w live s t lists list lit kept at h g a q =
+    Half w live s lists list lit kept at → Grows s t → t.trail.head ≡ s.trail.head → Agrees t → IsQueueCurrent t → Half w live t lists list lit kept at
+half_grows w live s t lists list lit kept at h g e a q =
     let lt : IsTrueLit s.values lit = left_true s lit h.agrees h.left in
     record {
       clauses = subst (λ (n : ℕ). AreClauses w live n) (sym g.size) h.clauses;
       agrees = a;
       queue = q;
-      left = left_forth s t lit g h.left;
+      left = left_forth s t lit g e h.left;
       top = level_kept s t lit g lt ∙ h.top ∙ ap (λ (xs : List ℕ). length xs) (sym g.starts);
       walked = subst (λ (n : ℕ). AreWalked w live lists list lit kept at n) (sym g.size) h.walked;
       settled = λ o i ho hi f.
-        let f' : HasLeft s (negated (lit_of w o i)) = left_back s t (negated (lit_of w o i)) g h.agrees.trail f in
-        let same : level t (negated (lit_of w o i)) ≡ level s (negated (lit_of w o i)) = level_kept s t (negated (lit_of w o i)) g (left_true s (negated (lit_of w o i)) h.agrees f') in
-        elim (h.settled o i ho hi f') [
-          inl x ↦ inl (satisfied_forth s t (lits_at w o) (level t (negated (lit_of w o i))) g (subst (λ (n : ℕ). IsSatisfied s (lits_at w o) n) (sym same) x))
-        | inr x ↦ inr x
-        ];
+          let f' : HasLeft s (negated (lit_of w o i)) = left_back s t (negated (lit_of w o i)) g e h.agrees.trail f in
+          let same : level t (negated (lit_of w o i)) ≡ level s (negated (lit_of w o i)) = level_kept s t (negated (lit_of w o i)) g (left_true s (negated (lit_of w o i)) h.agrees f') in
+          elim (h.settled o i ho hi f') [
+            | inl x ↦ inl (satisfied_forth s t (lits_at w o) (level t (negated (lit_of w o i))) g (subst (λ (n : ℕ). IsSatisfied s (lits_at w o) n) (sym same) x))
+            | inr x ↦ inr x
+          ];
     }

@@ -142,7 +142,6 @@ grows_enqueued s l r h n below room =
     let in_nodes : variable l < length s.nodes = omega (arith, h.nodes) in
     record {
       size = length-set s.values (variable l) (Some (is_positive l));
-      head = refl;
       starts = refl;
       cleared = refl;
       room = refl;
@@ -165,7 +164,6 @@ grows_enqueued s l r h n below room =
 pub grows_refl : (s : State) → Grows s s
 grows_refl s = record {
   size = refl;
-  head = refl;
   starts = refl;
   cleared = refl;
   room = refl;
@@ -179,7 +177,6 @@ grows_refl s = record {
 pub grows_trans : (a b c : State) → Grows a b → Grows b c → Grows a c
 grows_trans a b c x y = record {
   size = y.size ∙ x.size;
-  head = y.head ∙ x.head;
   starts = y.starts ∙ x.starts;
   cleared = y.cleared ∙ x.cleared;
   room = y.room ∙ x.room;
@@ -205,15 +202,15 @@ before_back a b bound l g m h =
     let p : h.place < length a.trail.lits = omega (arith, h.before) in
     record { place = h.place; before = h.before; within = p; there = sym (g.front h.place p) ∙ h.there }
 
-pub left_forth : (a b : State) (l : ℕ) → Grows a b → HasLeft a l → HasLeft b l
-left_forth a b l g h = elim h [
-  | inl x ↦ inl (subst (λ (y : ℕ). IsBefore b y l) (sym g.head) (before_forth a b a.trail.head l g x))
+pub left_forth : (a b : State) (l : ℕ) → Grows a b → b.trail.head ≡ a.trail.head → HasLeft a l → HasLeft b l
+left_forth a b l g e h = elim h [
+  | inl x ↦ inl (subst (λ (y : ℕ). IsBefore b y l) (sym e) (before_forth a b a.trail.head l g x))
   | inr x ↦ inr (removed_forth a b l g x)
 ]
 
-pub left_back : (a b : State) (l : ℕ) → Grows a b → IsTrail a.trail → HasLeft b l → HasLeft a l
-left_back a b l g t h = elim h [
-  | inl x ↦ inl (before_back a b a.trail.head l g t.queue (subst (λ (y : ℕ). IsBefore b y l) g.head x))
+pub left_back : (a b : State) (l : ℕ) → Grows a b → b.trail.head ≡ a.trail.head → IsTrail a.trail → HasLeft b l → HasLeft a l
+left_back a b l g e t h = elim h [
+  | inl x ↦ inl (before_back a b a.trail.head l g t.queue (subst (λ (y : ℕ). IsBefore b y l) e x))
   | inr x ↦ inr (g.removed l x)
 ]
 

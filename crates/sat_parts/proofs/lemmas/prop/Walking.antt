@@ -28,6 +28,7 @@ use Rattle.sat_parts.proofs.lemmas.prop.HalfLemmas.{satisfied_order, place_live,
 pub record Walking (live w0 : List ℕ) (s0 : State) (w : List ℕ) (s : State) (lists : List (List Watch)) (list : List Watch) (lit kept at : ℕ) : Type 0 where
   pub half : Half w live s lists list lit kept at
   pub moves : (implied : List (List ℕ)) → Moves live implied w0 s0 w s
+  pub head : s.trail.head ≡ s0.trail.head
 
 -- the false literal of a visit
 false_lit : (w live : List ℕ) (s : State) (lists : List (List Watch)) (list : List Watch) (lit kept at : ℕ) → Half w live s lists list lit kept at → IsFalseLit s.values (negated lit)
@@ -39,9 +40,9 @@ lit_false w live s lists list lit kept at h = false_lit w live s lists list lit 
 -- a true first literal stays the first
 first_stays : (w v : List ℕ) (s : State) (p fl : ℕ) → IsFalseLit s.values fl → IsOther w v p fl → IsTrueLit s.values (lit_of w p 0) → lit_of v p 0 ≡ lit_of w p 0
 first_stays w v s p fl f other t = elim other [
-    inl x ↦ x.1
+  | inl x ↦ x.1
   | inr x ↦ absurd (not_both s.values fl (subst (λ (z : ℕ). IsTrueLit s.values z) x.0 t) f)
-  ]
+]
 
 -- a true literal of the clause settles it
 satisfied_by : (s : State) (ls : List ℕ) (lit k : ℕ) → Agrees s → level s lit ≡ current_level s → k < length ls → IsTrueLit s.values (get_or ls k 0) → IsSatisfied s ls (level s lit)
@@ -58,8 +59,9 @@ step_blocked live w0 s0 w s lists list lit kept at p b h lt at_p at_b t =
     let g : HasLit w p b = subst (λ (z : ℕ). HasLit w z b) (sym at_p) (subst (λ (z : ℕ). HasLit w (get_or list at no_watch).cref z) (sym at_b) (half.walked.mine at lt).1) in
     record {
       half = half_kept w w live s lists list lit kept at p b half lt at_p (shuffles_refl w p (half.clauses.laid.clauses p hp)) (λ i hi. (i, (hi, refl))) g
-        (satisfied_by s (lits_at w p) lit g.0 half.agrees half.top g.1.0 (subst (λ (z : ℕ). IsTrueLit s.values z) (sym g.1.1) t));
+          (satisfied_by s (lits_at w p) lit g.0 half.agrees half.top g.1.0 (subst (λ (z : ℕ). IsTrueLit s.values z) (sym g.1.1) t));
       moves = h.moves;
+      head = h.head;
     }
 
 pub step_stale : (live w0 : List ℕ) (s0 : State) (w : List ℕ) (s : State) (lists : List (List Watch)) (list : List Watch) (lit kept at p : ℕ) →
@@ -67,9 +69,10 @@ pub step_stale : (live w0 : List ℕ) (s0 : State) (w : List ℕ) (s : State) (l
     lit_of w p 0 ≢ negated lit → lit_of w p 1 ≢ negated lit →
     Walking live w0 s0 w s lists list lit kept (at + 1)
 step_stale live w0 s0 w s lists list lit kept at p h lt at_p n0 n1 = record {
-    half = half_stale w live s lists list lit kept at p h.half lt at_p n0 n1;
-    moves = h.moves;
-  }
+  half = half_stale w live s lists list lit kept at p h.half lt at_p n0 n1;
+  moves = h.moves;
+  head = h.head;
+}
 
 -- words change by a visit
 visit_moves : (live w0 : List ℕ) (s0 : State) (w v : List ℕ) (s : State) (lists : List (List Watch)) (list : List Watch) (lit kept at p : ℕ) →
@@ -79,17 +82,18 @@ visit_moves : (live w0 : List ℕ) (s0 : State) (w v : List ℕ) (s : State) (li
 visit_moves live w0 s0 w v s lists list lit kept at p h lt at_p e other implied =
     let half : Half w live s lists list lit kept at = h.half in
     moves_trans live implied w0 s0 w s v s (h.moves implied)
-      (moves_shuffled live implied w s v p (length s.values) half.agrees half.clauses (place_live w live s lists list lit kept at p half lt at_p) e
-        (first_stays w v s p (negated lit) (lit_false w live s lists list lit kept at half) other))
+    (moves_shuffled live implied w s v p (length s.values) half.agrees half.clauses (place_live w live s lists list lit kept at p half lt at_p) e
+    (first_stays w v s p (negated lit) (lit_false w live s lists list lit kept at half) other))
 
 pub step_moved : (live w0 : List ℕ) (s0 : State) (w v : List ℕ) (s : State) (lists : List (List Watch)) (list : List Watch) (lit kept at p : ℕ) →
     Walking live w0 s0 w s lists list lit kept at → at < length list → p ≡ (get_or list at no_watch).cref →
     Shuffles w v p → IsOther w v p (negated lit) → (IsFalseLit s.values (lit_of v p 1) → ⊥) →
     Walking live w0 s0 v s (more_at (negated (lit_of v p 1)) (watch_on p (lit_of v p 0)) lists) list lit kept (at + 1)
 step_moved live w0 s0 w v s lists list lit kept at p h lt at_p e other opened = record {
-    half = half_moved w v live s lists list lit kept at p h.half lt at_p e other opened;
-    moves = visit_moves live w0 s0 w v s lists list lit kept at p h lt at_p e other;
-  }
+  half = half_moved w v live s lists list lit kept at p h.half lt at_p e other opened;
+  moves = visit_moves live w0 s0 w v s lists list lit kept at p h lt at_p e other;
+  head = h.head;
+}
 
 first_there : (w v live : List ℕ) (s : State) (lists : List (List Watch)) (list : List Watch) (lit kept at p : ℕ) →
     Half w live s lists list lit kept at → Contains live p → Shuffles w v p → 0 < size_of v p
@@ -108,8 +112,9 @@ step_kept live w0 s0 w v s lists list lit kept at p n h lt at_p e o n_is t =
     let b : 0 < size_of v p = first_there w v live s lists list lit kept at p half hp e in
     record {
       half = half_kept w v live s lists list lit kept at p n half lt at_p e (oriented_two w v p (negated lit) o.other o.second) (0, (b, sym n_is))
-        (satisfied_by s (lits_at v p) lit 0 half.agrees half.top b t);
+          (satisfied_by s (lits_at v p) lit 0 half.agrees half.top b t);
       moves = visit_moves live w0 s0 w v s lists list lit kept at p h lt at_p e o.other;
+      head = h.head;
     }
 
 -- a literal of the clause is in range
@@ -122,9 +127,9 @@ lit_below w v live s lists list lit kept at p k h hp e b =
 -- a false literal was false before the next place of the trail
 false_so_far : (s : State) (l n : ℕ) (r : Reason) → Agrees s → Grows s (enqueued n r s) → IsFalseLit s.values l → IsFalseBefore (enqueued n r s) (length s.trail.lits) l
 false_so_far s l n r a g f = elim (a.known (negated l) (true_from_false s.values l f)) [
-    inl x ↦ inl (before_forth s (enqueued n r s) (length s.trail.lits) (negated l) g x)
+  | inl x ↦ inl (before_forth s (enqueued n r s) (length s.trail.lits) (negated l) g x)
   | inr x ↦ inr (removed_forth s (enqueued n r s) (negated l) g x)
-  ]
+]
 
 pub step_propagates : (live w0 : List ℕ) (s0 : State) (w v : List ℕ) (s : State) (lists : List (List Watch)) (list : List Watch) (lit kept at p n : ℕ) →
     Walking live w0 s0 w s lists list lit kept at → at < length list → p ≡ (get_or list at no_watch).cref →
@@ -141,15 +146,16 @@ step_propagates live w0 s0 w v s lists list lit kept at p n h lt at_p e o n_is o
     let g : Grows s (enqueued n (Long p) s) = grows_enqueued s n (Long p) half.agrees open_n small room in
     let a : Agrees (enqueued n (Long p) s) = agrees_enqueued s n (Long p) half.agrees open_n small room in
     let q : IsQueueCurrent (enqueued n (Long p) s) = queue_enqueued s n (Long p) half.agrees half.queue open_n small in
-    let grown : Half w live (enqueued n (Long p) s) lists list lit kept at = half_grows w live s t lists list lit kept at half g a q in
+    let grown : Half w live (enqueued n (Long p) s) lists list lit kept at = half_grows w live s t lists list lit kept at half g refl a q in
     let holds : IsTrueLit t.values (lit_of v p 0) = subst (λ (z : ℕ). IsTrueLit t.values z) n_is (true_new s n (Long p) small) in
     let cause : (implied : List (List ℕ)) → Implies v live implied t (length s.trail.lits) (Long p) =
-      λ implied. (hp, sym n_is ∙ sym (lit_last s n (Long p)), λ k x y. false_so_far s (lit_of v p k) n (Long p) half.agrees g (others k x y)) in
+    λ implied. (hp, sym n_is ∙ sym (lit_last s n (Long p)), λ k x y. false_so_far s (lit_of v p k) n (Long p) half.agrees g (others k x y)) in
     record {
       half = half_kept w v live t lists list lit kept at p n grown lt at_p e (oriented_two w v p (negated lit) o.other o.second) (0, (b, sym n_is))
-        (satisfied_by t (lits_at v p) lit 0 a grown.top b holds);
+          (satisfied_by t (lits_at v p) lit 0 a grown.top b holds);
       moves = λ implied. moves_trans live implied w0 s0 v s v t (visit_moves live w0 s0 w v s lists list lit kept at p h lt at_p e o.other implied)
-        (moves_enqueued live implied v s n (Long p) half.agrees open_n small room (cause implied));
+          (moves_enqueued live implied v s n (Long p) half.agrees open_n small room (cause implied));
+      head = h.head;
     }
 
 -- the clause is falsified: the walk ends, and what isn't settled is of the current level
@@ -165,22 +171,23 @@ walk_falsified live w0 s0 w v s lists list lit kept at p n h lt at_p e o n_is al
     let two = oriented_two w v p (negated lit) o.other o.second in
     record {
       moves = visit_moves live w0 s0 w v s lists list lit kept at p h lt at_p e o.other;
+      head = h.head;
       ready = record {
         clauses = kept_clauses w v live (length s.values) half.clauses (reorders_one w v live p hp e);
         watches = walked_close v live lists (set list kept (watch_on p n)) lit (kept + 1) (at + 1) (length s.values)
-          (walked_kept w v live lists list lit kept at (length s.values) p n half.clauses half.walked lt at_p e two (0, (b, sym n_is))) small;
+            (walked_kept w v live lists list lit kept at (length s.values) p n half.clauses half.walked lt at_p e two (0, (b, sym n_is))) small;
         agrees = half.agrees;
         queue = half.queue;
         settled = λ x i hx hi f due.
-          let m : (j : ℕ) × ((j < 2) × (lit_of v x i ≡ lit_of w x j)) = first_two w v live (length s.values) p x half.clauses hp e hx two i hi in
-          let q : negated (lit_of v x i) ≡ negated (lit_of w x m.0) = ap (λ z. negated z) m.1.1 in
-          elim (half.settled x m.0 hx m.1.0 (subst (λ (z : ℕ). HasLeft s z) q f)) [
-            inl y ↦ subst (λ (z : ℕ). IsSatisfied s (lits_at v x) (level s z)) (sym q)
-              (satisfied_order s (lits_at w x) (lits_at v x) (level s (negated (lit_of w x m.0))) (shuffled_all w v live (length s.values) p x half.clauses hp e hx) y)
-          | inr y ↦
-              let same : level s (negated (lit_of v x i)) ≡ level s lit = ap (λ z. level s z) (q ∙ y.0) in
-              absurd (omega (arith, due, half.top))
-          ];
+            let m : (j : ℕ) × ((j < 2) × (lit_of v x i ≡ lit_of w x j)) = first_two w v live (length s.values) p x half.clauses hp e hx two i hi in
+            let q : negated (lit_of v x i) ≡ negated (lit_of w x m.0) = ap (λ z. negated z) m.1.1 in
+            elim (half.settled x m.0 hx m.1.0 (subst (λ (z : ℕ). HasLeft s z) q f)) [
+              | inl y ↦ subst (λ (z : ℕ). IsSatisfied s (lits_at v x) (level s z)) (sym q)
+                  (satisfied_order s (lits_at w x) (lits_at v x) (level s (negated (lit_of w x m.0))) (shuffled_all w v live (length s.values) p x half.clauses hp e hx) y)
+              | inr y ↦
+                  let same : level s (negated (lit_of v x i)) ≡ level s lit = ap (λ z. level s z) (q ∙ y.0) in
+                  absurd (omega (arith, due, half.top))
+            ];
       };
       conflict = (hp, all);
     }
@@ -193,15 +200,16 @@ walk_done live w0 s0 w s lists list lit kept at h end small =
     let half : Half w live s lists list lit kept at = h.half in
     record {
       moves = h.moves;
+      head = h.head;
       ready = record {
         clauses = half.clauses;
         watches = walked_close w live lists list lit kept at (length s.values) half.walked small;
         agrees = half.agrees;
         queue = half.queue;
         settled = λ x i hx hi f due. elim (half.settled x i hx hi f) [
-            inl y ↦ y
+          | inl y ↦ y
           | inr y ↦ absurd (omega (arith, y.1.1.0, y.1.1.1, end))
-          ];
+        ];
       };
       conflict = tt;
     }
@@ -211,18 +219,23 @@ pub walk_open : (live w : List ℕ) (s : State) (lists : List (List Watch)) (lit
     LongReady w live lists s (λ l. l ≢ lit) → HasLeft s lit → level s lit ≡ current_level s → lit < 2 * length s.values →
     Walking live w s w s (set lists lit []) (watches_of lists lit) lit 0 0
 walk_open live w s lists lit h left top small = record {
-    half = record {
-      clauses = h.clauses; agrees = h.agrees; queue = h.queue; left = left; top = top;
-      walked = walked_open w live lists lit (length s.values) h.watches small;
-      settled = λ o i ho hi f. elim (cases_eq (negated (lit_of w o i)) lit) [
-          inl e ↦
-            let x = subst (λ (z : ℕ). HasWatch (watches_of lists z) o) e (h.watches.both o i ho hi) in
-            inr (e, (x.0, (x.1.0, omega arith, x.1.1)))
-        | inr n ↦ inl (h.settled o i ho hi f n)
-        ];
-    };
-    moves = λ implied. moves_refl live implied w s;
-  }
+  half = record {
+    clauses = h.clauses;
+    agrees = h.agrees;
+    queue = h.queue;
+    left = left;
+    top = top;
+    walked = walked_open w live lists lit (length s.values) h.watches small;
+    settled = λ o i ho hi f. elim (cases_eq (negated (lit_of w o i)) lit) [
+      | inl e ↦
+          let x = subst (λ (z : ℕ). HasWatch (watches_of lists z) o) e (h.watches.both o i ho hi) in
+          inr (e, (x.0, (x.1.0, omega arith, x.1.1)))
+      | inr n ↦ inl (h.settled o i ho hi f n)
+    ];
+  };
+  moves = λ implied. moves_refl live implied w s;
+  head = refl;
+}
 
 -- the blocking literal of a watch is in range
 pub blocking_below : (w live : List ℕ) (s : State) (lists : List (List Watch)) (list : List Watch) (lit kept at b : ℕ) →
@@ -249,4 +262,4 @@ pub visited_below : (w v live : List ℕ) (s : State) (lists : List (List Watch)
 visited_below w v live s lists list lit kept at p n h lt at_p e n_is =
     let hp : Contains live p = place_live w live s lists list lit kept at p h lt at_p in
     subst (λ (z : ℕ). variable z < length s.values) (sym n_is)
-      (lit_below w v live s lists list lit kept at p 0 h hp e (first_there w v live s lists list lit kept at p h hp e))
+    (lit_below w v live s lists list lit kept at p 0 h hp e (first_there w v live s lists list lit kept at p h hp e))

@@ -1,6 +1,6 @@
 -- Lists of watches that are gone through.
-use Rattle.std.proofs.Common.{ℕ, ◌≡◌, ◌≢◌, ◌+◌, ◌-◌, ◌<◌, ◌≤◌, ◌⊎◌, inl, inr, List, [], ◌∷◌, ◌++◌, length, get_or, set, take, drop, refl, sym, ap, ◌∙◌, subst, arith, length-set, length-drop, append_assoc}
-use Rattle.std.proofs.lemmas.List.{take_more_set, take_more, get_or-drop, get_or_read}
+use Rattle.std.proofs.Common.{ℕ, ◌≡◌, ◌≢◌, ◌+◌, ◌-◌, ◌<◌, ◌≤◌, ◌⊎◌, inl, inr, List, [], ◌∷◌, ◌++◌, length, get_or, set, take, drop, refl, sym, ap, ◌∙◌, subst, arith, length-set, length-drop, append_assoc, get_or-set_same}
+use Rattle.std.proofs.lemmas.List.{take_more_set, take_more, get_or-drop, get_or_read, set-set, set-get_or, take_at, length_push}
 use Rattle.sat_parts.specs.declared.prop.watch.Watch.{Watch}
 use Rattle.sat_parts.specs.prop.WatchLists.{no_watch}
 
@@ -23,3 +23,16 @@ cut_more items old w kept at to from place behind order lt size read rest moved 
     (ap (λ (x : Watch). take (from - at) (drop at old) ++ x ∷ []) same
     ∙ sym (take_more (drop at old) (from - at) no_watch (omega arith))
     ∙ ap (λ k. take k (drop at old)) (sym n))
+
+-- what was put behind a list is taken out again
+pub pushed_back : {A : Type 0} (lists : List (List A)) (l : ℕ) (x : A) → l < length lists →
+    set (set lists l (get_or lists l [] ++ x ∷ [])) l (take (length (get_or (set lists l (get_or lists l [] ++ x ∷ [])) l []) - 1) (get_or (set lists l (get_or lists l [] ++ x ∷ [])) l [])) ≡ lists
+pushed_back {A} lists l x lt =
+    let xs : List A = get_or lists l [] in
+    let e : get_or (set lists l (get_or lists l [] ++ x ∷ [])) l [] ≡ get_or lists l [] ++ x ∷ [] = get_or-set_same lists l (get_or lists l [] ++ x ∷ []) [] lt in
+    let n : length (get_or lists l [] ++ x ∷ []) ≡ length (get_or lists l []) + 1 = length_push (get_or lists l []) x in
+    let t : take (length (get_or lists l [] ++ x ∷ []) - 1) (get_or lists l [] ++ x ∷ []) ≡ get_or lists l [] = take_at (get_or lists l []) (x ∷ []) (length (get_or lists l [] ++ x ∷ []) - 1) (omega arith) in
+    set-set lists l (get_or lists l [] ++ x ∷ []) (take (length (get_or (set lists l (get_or lists l [] ++ x ∷ [])) l []) - 1) (get_or (set lists l (get_or lists l [] ++ x ∷ [])) l []))
+    ∙ ap (λ (ys : List A). set lists l (take (length ys - 1) ys)) e
+    ∙ ap (λ (ys : List A). set lists l ys) t
+    ∙ set-get_or lists l []

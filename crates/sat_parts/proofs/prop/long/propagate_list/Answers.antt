@@ -17,45 +17,46 @@ use Rattle.sat_parts.proofs.prop.long.propagate_list.Goals.{then-lit_is_true, el
 
 pub loop-at-init : goal.loop-at-init
 loop-at-init g c = record {
-    walking = record {
-      half = c.requires;
-      moves = λ implied. moves_refl g.live implied c.args.clauses.now (state_of c.args.assignment.now c.args.graph.now c.args.trail.now);
-    };
-    end = c.len-end.ensures;
-    last = search rules;
-    enabled = search rules;
-  }
+  walking = record {
+    half = c.requires;
+    moves = λ implied. moves_refl g.live implied c.args.clauses.now (state_of c.args.assignment.now c.args.graph.now c.args.trail.now);
+    head = search rules;
+  };
+  end = c.len-end.ensures;
+  last = search rules;
+  enabled = search rules;
+}
 
 pub lit_is_true-requires : goal.lit_is_true-requires
 lit_is_true-requires g c =
     blocking_below c.loop-at.clauses g.live (state_of c.loop-at.assignment c.loop-at.graph c.loop-at.trail) c.loop-at.watchlists.lists c.loop-at.list c.args.lit c.loop-at.kept c.loop-at.at c.blocking-blocking.result
-      c.loop-at.invariant.walking.half (omega arith) c.blocking-blocking.ensures
+    c.loop-at.invariant.walking.half (omega arith) c.blocking-blocking.ensures
 
 pub visit_clause-requires-clause-clause : goal.visit_clause-requires-clause-clause
 visit_clause-requires-clause-clause g c =
     c.loop-at.invariant.walking.half.clauses.laid.clauses c.cref-cref.result
-      (place_live c.loop-at.clauses g.live (state_of c.loop-at.assignment c.loop-at.graph c.loop-at.trail) c.loop-at.watchlists.lists c.loop-at.list c.args.lit c.loop-at.kept c.loop-at.at c.cref-cref.result
-        c.loop-at.invariant.walking.half (omega arith) c.cref-cref.ensures)
+    (place_live c.loop-at.clauses g.live (state_of c.loop-at.assignment c.loop-at.graph c.loop-at.trail) c.loop-at.watchlists.lists c.loop-at.list c.args.lit c.loop-at.kept c.loop-at.at c.cref-cref.result
+    c.loop-at.invariant.walking.half (omega arith) c.cref-cref.ensures)
 
 pub visit_clause-requires-clause-long : goal.visit_clause-requires-clause-long
 visit_clause-requires-clause-long g c =
     let hp : Contains g.live c.cref-cref.result =
-      place_live c.loop-at.clauses g.live (state_of c.loop-at.assignment c.loop-at.graph c.loop-at.trail) c.loop-at.watchlists.lists c.loop-at.list c.args.lit c.loop-at.kept c.loop-at.at c.cref-cref.result
-        c.loop-at.invariant.walking.half (omega arith) c.cref-cref.ensures in
+    place_live c.loop-at.clauses g.live (state_of c.loop-at.assignment c.loop-at.graph c.loop-at.trail) c.loop-at.watchlists.lists c.loop-at.list c.args.lit c.loop-at.kept c.loop-at.at c.cref-cref.result
+    c.loop-at.invariant.walking.half (omega arith) c.cref-cref.ensures in
     omega (arith, c.loop-at.invariant.walking.half.clauses.long c.cref-cref.result hp)
 
 pub visit_clause-requires-clause-below : goal.visit_clause-requires-clause-below
 visit_clause-requires-clause-below g c =
     let hp : Contains g.live c.cref-cref.result =
-      place_live c.loop-at.clauses g.live (state_of c.loop-at.assignment c.loop-at.graph c.loop-at.trail) c.loop-at.watchlists.lists c.loop-at.list c.args.lit c.loop-at.kept c.loop-at.at c.cref-cref.result
-        c.loop-at.invariant.walking.half (omega arith) c.cref-cref.ensures in
+    place_live c.loop-at.clauses g.live (state_of c.loop-at.assignment c.loop-at.graph c.loop-at.trail) c.loop-at.watchlists.lists c.loop-at.list c.args.lit c.loop-at.kept c.loop-at.at c.cref-cref.result
+    c.loop-at.invariant.walking.half (omega arith) c.cref-cref.ensures in
     λ k b. c.loop-at.invariant.walking.half.clauses.below c.cref-cref.result k hp b
 
 pub enqueue_assignment-requires-clause-value : goal.enqueue_assignment-requires-clause-value
 enqueue_assignment-requires-clause-value g c =
     let v = rw c.in-Propagates.is at c.in_ok-visit_clause.ensures.visited in
     visited_below c.loop-at.clauses c.visit_clause.new.clauses g.live (state_of c.loop-at.assignment c.loop-at.graph c.loop-at.trail) c.loop-at.watchlists.lists c.loop-at.list c.args.lit c.loop-at.kept c.loop-at.at c.cref-cref.result c.in-Propagates.first
-      c.loop-at.invariant.walking.half (omega arith) c.cref-cref.ensures c.in_ok-visit_clause.ensures.shuffles v.1
+    c.loop-at.invariant.walking.half (omega arith) c.cref-cref.ensures c.in_ok-visit_clause.ensures.shuffles v.1
 
 pub enqueue_assignment-requires-clause-node : goal.enqueue_assignment-requires-clause-node
 enqueue_assignment-requires-clause-node g c =
@@ -67,74 +68,74 @@ enqueue_assignment-requires-clause-room g c =
     let v = rw c.in-Propagates.is at c.in_ok-visit_clause.ensures.visited in
     let n : IsOpenLit c.loop-at.assignment.current c.in-Propagates.first = subst (λ (z : ℕ). IsOpenLit c.loop-at.assignment.current z) (sym v.1) v.4 in
     room_for (state_of c.loop-at.assignment c.loop-at.graph c.loop-at.trail) c.in-Propagates.first (Long c.cref-cref.result)
-      c.loop-at.invariant.walking.half.agrees n (enqueue_assignment-requires-clause-value g c)
+    c.loop-at.invariant.walking.half.agrees n (enqueue_assignment-requires-clause-value g c)
 
 pub returns-in-Falsified-clause-walked : goal.returns-in-Falsified-clause-walked
 returns-in-Falsified-clause-walked g c =
     let v = rw c.in-Falsified.is at c.in_ok-visit_clause.ensures.visited in
     rw (c.cut.ensures, c.set-in-Falsified.ensures, v.2)
-      (walk_falsified g.live c.args.clauses.now (state_of c.args.assignment.now c.args.graph.now c.args.trail.now) c.loop-at.clauses c.visit_clause.new.clauses (state_of c.loop-at.assignment c.loop-at.graph c.loop-at.trail)
-        c.loop-at.watchlists.lists c.loop-at.list c.args.lit c.loop-at.kept c.loop-at.at c.cref-cref.result c.in-Falsified.first c.loop-at.invariant.walking (omega arith) c.cref-cref.ensures
-        c.in_ok-visit_clause.ensures.shuffles (rw c.not-false_lit.ensures at v.0) v.1 v.3
-        (walk_small c.loop-at.clauses g.live (state_of c.loop-at.assignment c.loop-at.graph c.loop-at.trail) c.loop-at.watchlists.lists c.loop-at.list c.args.lit c.loop-at.kept c.loop-at.at c.loop-at.invariant.walking.half))
+    (walk_falsified g.live c.args.clauses.now (state_of c.args.assignment.now c.args.graph.now c.args.trail.now) c.loop-at.clauses c.visit_clause.new.clauses (state_of c.loop-at.assignment c.loop-at.graph c.loop-at.trail)
+    c.loop-at.watchlists.lists c.loop-at.list c.args.lit c.loop-at.kept c.loop-at.at c.cref-cref.result c.in-Falsified.first c.loop-at.invariant.walking (omega arith) c.cref-cref.ensures
+    c.in_ok-visit_clause.ensures.shuffles (rw c.not-false_lit.ensures at v.0) v.1 v.3
+    (walk_small c.loop-at.clauses g.live (state_of c.loop-at.assignment c.loop-at.graph c.loop-at.trail) c.loop-at.watchlists.lists c.loop-at.list c.args.lit c.loop-at.kept c.loop-at.at c.loop-at.invariant.walking.half))
 
 pub loop-at-preserved : goal.loop-at-preserved
 loop-at-preserved g c =
     let lt : c.loop-at.at < length c.loop-at.list = omega arith in
     elim c.if-lit_is_true.branch [
-      then-lit_is_true w ↦ record {
+      | then-lit_is_true w ↦ record {
         walking = rw (w.clauses-is, w.assignment-is, w.graph-is, w.trail-is, w.watchlists-is, w.list-is, w.kept-is, w.set.ensures)
-          (step_blocked g.live c.args.clauses.now (state_of c.args.assignment.now c.args.graph.now c.args.trail.now) c.loop-at.clauses (state_of c.loop-at.assignment c.loop-at.graph c.loop-at.trail)
+            (step_blocked g.live c.args.clauses.now (state_of c.args.assignment.now c.args.graph.now c.args.trail.now) c.loop-at.clauses (state_of c.loop-at.assignment c.loop-at.graph c.loop-at.trail)
             c.loop-at.watchlists.lists c.loop-at.list c.args.lit c.loop-at.kept c.loop-at.at c.cref-cref.result c.blocking-blocking.result c.loop-at.invariant.walking lt c.cref-cref.ensures c.blocking-blocking.ensures
             (c.lit_is_true.ensures.0 w.if-lit_is_true.true));
         end = rw (w.list-is, w.set.ensures) (c.loop-at.invariant.end ∙ sym (length-set c.loop-at.list c.loop-at.kept (watch_on c.cref-cref.result c.blocking-blocking.result)));
         last = rw w.assignment-is c.loop-at.invariant.last;
         enabled = rw w.watchlists-is c.loop-at.invariant.enabled;
       }
-    | else-lit_is_true+in_ok-visit_clause+in-Stale w ↦
-        let v = rw w.in-Stale.is at w.in_ok-visit_clause.ensures.visited in
-        record {
-          walking = rw (w.clauses-is, w.assignment-is, w.graph-is, w.trail-is, w.watchlists-is, w.list-is, w.kept-is, v.2, v.3)
-            (step_stale g.live c.args.clauses.now (state_of c.args.assignment.now c.args.graph.now c.args.trail.now) c.loop-at.clauses (state_of c.loop-at.assignment c.loop-at.graph c.loop-at.trail)
-              c.loop-at.watchlists.lists c.loop-at.list c.args.lit c.loop-at.kept c.loop-at.at c.cref-cref.result c.loop-at.invariant.walking lt c.cref-cref.ensures
-              (rw (← c.not-false_lit.ensures) v.0) (rw (← c.not-false_lit.ensures) v.1));
-          end = rw w.list-is c.loop-at.invariant.end;
-          last = rw w.assignment-is c.loop-at.invariant.last;
-          enabled = rw w.watchlists-is (w.in_ok-visit_clause.ensures.enabled ∙ c.loop-at.invariant.enabled);
-        }
-    | else-lit_is_true+in_ok-visit_clause+in-Moved w ↦
-        let v = rw w.in-Moved.is at w.in_ok-visit_clause.ensures.visited in
-        record {
-          walking = rw (w.clauses-is, w.assignment-is, w.graph-is, w.trail-is, w.watchlists-is, w.list-is, w.kept-is, v.2)
-            (step_moved g.live c.args.clauses.now (state_of c.args.assignment.now c.args.graph.now c.args.trail.now) c.loop-at.clauses w.visit_clause.new.clauses (state_of c.loop-at.assignment c.loop-at.graph c.loop-at.trail)
-              c.loop-at.watchlists.lists c.loop-at.list c.args.lit c.loop-at.kept c.loop-at.at c.cref-cref.result c.loop-at.invariant.walking lt c.cref-cref.ensures
-              w.in_ok-visit_clause.ensures.shuffles (rw c.not-false_lit.ensures at v.0) v.1);
-          end = rw w.list-is c.loop-at.invariant.end;
-          last = rw w.assignment-is c.loop-at.invariant.last;
-          enabled = rw w.watchlists-is (w.in_ok-visit_clause.ensures.enabled ∙ c.loop-at.invariant.enabled);
-        }
-    | else-lit_is_true+in_ok-visit_clause+in-Keep w ↦
-        let v = rw w.in-Keep.is at w.in_ok-visit_clause.ensures.visited in
-        record {
-          walking = rw (w.clauses-is, w.assignment-is, w.graph-is, w.trail-is, w.watchlists-is, w.list-is, w.kept-is, w.set-in-Keep.ensures, v.2)
-            (step_kept g.live c.args.clauses.now (state_of c.args.assignment.now c.args.graph.now c.args.trail.now) c.loop-at.clauses w.visit_clause.new.clauses (state_of c.loop-at.assignment c.loop-at.graph c.loop-at.trail)
-              c.loop-at.watchlists.lists c.loop-at.list c.args.lit c.loop-at.kept c.loop-at.at c.cref-cref.result w.in-Keep.first c.loop-at.invariant.walking lt c.cref-cref.ensures
-              w.in_ok-visit_clause.ensures.shuffles (rw c.not-false_lit.ensures at v.0) v.1 v.3);
-          end = rw (w.list-is, w.set-in-Keep.ensures) (c.loop-at.invariant.end ∙ sym (length-set c.loop-at.list c.loop-at.kept (watch_on c.cref-cref.result w.in-Keep.first)));
-          last = rw w.assignment-is c.loop-at.invariant.last;
-          enabled = rw w.watchlists-is (w.in_ok-visit_clause.ensures.enabled ∙ c.loop-at.invariant.enabled);
-        }
-    | else-lit_is_true+in_ok-visit_clause+in-Propagates w ↦
-        let v = rw w.in-Propagates.is at w.in_ok-visit_clause.ensures.visited in
-        record {
-          walking = rw (w.clauses-is, w.assignment-is, w.graph-is, w.trail-is, w.watchlists-is, w.list-is, w.kept-is, w.set-in-Propagates.ensures, w.enqueue_assignment.ensures.value, w.enqueue_assignment.ensures.node, w.enqueue_assignment.ensures.trail, v.2)
-            (step_propagates g.live c.args.clauses.now (state_of c.args.assignment.now c.args.graph.now c.args.trail.now) c.loop-at.clauses w.visit_clause.new.clauses (state_of c.loop-at.assignment c.loop-at.graph c.loop-at.trail)
-              c.loop-at.watchlists.lists c.loop-at.list c.args.lit c.loop-at.kept c.loop-at.at c.cref-cref.result w.in-Propagates.first c.loop-at.invariant.walking lt c.cref-cref.ensures
-              w.in_ok-visit_clause.ensures.shuffles (rw c.not-false_lit.ensures at v.0) v.1 v.3 (subst (λ (z : ℕ). IsOpenLit c.loop-at.assignment.current z) (sym v.1) v.4));
-          end = rw (w.list-is, w.set-in-Propagates.ensures) (c.loop-at.invariant.end ∙ sym (length-set c.loop-at.list c.loop-at.kept (watch_on c.cref-cref.result w.in-Propagates.first)));
-          last = rw (w.assignment-is, w.enqueue_assignment.ensures.value) c.loop-at.invariant.last;
-          enabled = rw w.watchlists-is (w.in_ok-visit_clause.ensures.enabled ∙ c.loop-at.invariant.enabled);
-        }
+      | else-lit_is_true+in_ok-visit_clause+in-Stale w ↦
+          let v = rw w.in-Stale.is at w.in_ok-visit_clause.ensures.visited in
+          record {
+            walking = rw (w.clauses-is, w.assignment-is, w.graph-is, w.trail-is, w.watchlists-is, w.list-is, w.kept-is, v.2, v.3)
+                (step_stale g.live c.args.clauses.now (state_of c.args.assignment.now c.args.graph.now c.args.trail.now) c.loop-at.clauses (state_of c.loop-at.assignment c.loop-at.graph c.loop-at.trail)
+                c.loop-at.watchlists.lists c.loop-at.list c.args.lit c.loop-at.kept c.loop-at.at c.cref-cref.result c.loop-at.invariant.walking lt c.cref-cref.ensures
+                (rw (← c.not-false_lit.ensures) v.0) (rw (← c.not-false_lit.ensures) v.1));
+            end = rw w.list-is c.loop-at.invariant.end;
+            last = rw w.assignment-is c.loop-at.invariant.last;
+            enabled = rw w.watchlists-is (w.in_ok-visit_clause.ensures.enabled ∙ c.loop-at.invariant.enabled);
+          }
+      | else-lit_is_true+in_ok-visit_clause+in-Moved w ↦
+          let v = rw w.in-Moved.is at w.in_ok-visit_clause.ensures.visited in
+          record {
+            walking = rw (w.clauses-is, w.assignment-is, w.graph-is, w.trail-is, w.watchlists-is, w.list-is, w.kept-is, v.2)
+                (step_moved g.live c.args.clauses.now (state_of c.args.assignment.now c.args.graph.now c.args.trail.now) c.loop-at.clauses w.visit_clause.new.clauses (state_of c.loop-at.assignment c.loop-at.graph c.loop-at.trail)
+                c.loop-at.watchlists.lists c.loop-at.list c.args.lit c.loop-at.kept c.loop-at.at c.cref-cref.result c.loop-at.invariant.walking lt c.cref-cref.ensures
+                w.in_ok-visit_clause.ensures.shuffles (rw c.not-false_lit.ensures at v.0) v.1);
+            end = rw w.list-is c.loop-at.invariant.end;
+            last = rw w.assignment-is c.loop-at.invariant.last;
+            enabled = rw w.watchlists-is (w.in_ok-visit_clause.ensures.enabled ∙ c.loop-at.invariant.enabled);
+          }
+      | else-lit_is_true+in_ok-visit_clause+in-Keep w ↦
+          let v = rw w.in-Keep.is at w.in_ok-visit_clause.ensures.visited in
+          record {
+            walking = rw (w.clauses-is, w.assignment-is, w.graph-is, w.trail-is, w.watchlists-is, w.list-is, w.kept-is, w.set-in-Keep.ensures, v.2)
+                (step_kept g.live c.args.clauses.now (state_of c.args.assignment.now c.args.graph.now c.args.trail.now) c.loop-at.clauses w.visit_clause.new.clauses (state_of c.loop-at.assignment c.loop-at.graph c.loop-at.trail)
+                c.loop-at.watchlists.lists c.loop-at.list c.args.lit c.loop-at.kept c.loop-at.at c.cref-cref.result w.in-Keep.first c.loop-at.invariant.walking lt c.cref-cref.ensures
+                w.in_ok-visit_clause.ensures.shuffles (rw c.not-false_lit.ensures at v.0) v.1 v.3);
+            end = rw (w.list-is, w.set-in-Keep.ensures) (c.loop-at.invariant.end ∙ sym (length-set c.loop-at.list c.loop-at.kept (watch_on c.cref-cref.result w.in-Keep.first)));
+            last = rw w.assignment-is c.loop-at.invariant.last;
+            enabled = rw w.watchlists-is (w.in_ok-visit_clause.ensures.enabled ∙ c.loop-at.invariant.enabled);
+          }
+      | else-lit_is_true+in_ok-visit_clause+in-Propagates w ↦
+          let v = rw w.in-Propagates.is at w.in_ok-visit_clause.ensures.visited in
+          record {
+            walking = rw (w.clauses-is, w.assignment-is, w.graph-is, w.trail-is, w.watchlists-is, w.list-is, w.kept-is, w.set-in-Propagates.ensures, w.enqueue_assignment.ensures.value, w.enqueue_assignment.ensures.node, w.enqueue_assignment.ensures.trail, v.2)
+                (step_propagates g.live c.args.clauses.now (state_of c.args.assignment.now c.args.graph.now c.args.trail.now) c.loop-at.clauses w.visit_clause.new.clauses (state_of c.loop-at.assignment c.loop-at.graph c.loop-at.trail)
+                c.loop-at.watchlists.lists c.loop-at.list c.args.lit c.loop-at.kept c.loop-at.at c.cref-cref.result w.in-Propagates.first c.loop-at.invariant.walking lt c.cref-cref.ensures
+                w.in_ok-visit_clause.ensures.shuffles (rw c.not-false_lit.ensures at v.0) v.1 v.3 (subst (λ (z : ℕ). IsOpenLit c.loop-at.assignment.current z) (sym v.1) v.4));
+            end = rw (w.list-is, w.set-in-Propagates.ensures) (c.loop-at.invariant.end ∙ sym (length-set c.loop-at.list c.loop-at.kept (watch_on c.cref-cref.result w.in-Propagates.first)));
+            last = rw (w.assignment-is, w.enqueue_assignment.ensures.value) c.loop-at.invariant.last;
+            enabled = rw w.watchlists-is (w.in_ok-visit_clause.ensures.enabled ∙ c.loop-at.invariant.enabled);
+          }
     ]
 
 pub returns-clause-walked : goal.returns-clause-walked
@@ -142,6 +143,6 @@ returns-clause-walked g c =
     let e : c.loop-at.at ≡ length c.loop-at.list = omega arith in
     let f : c.len-end.result ≡ c.loop-at.at = omega arith in
     rw (c.cut-2.ensures, f)
-      (walk_done g.live c.args.clauses.now (state_of c.args.assignment.now c.args.graph.now c.args.trail.now) c.loop-at.clauses (state_of c.loop-at.assignment c.loop-at.graph c.loop-at.trail)
-        c.loop-at.watchlists.lists c.loop-at.list c.args.lit c.loop-at.kept c.loop-at.at c.loop-at.invariant.walking e
-        (walk_small c.loop-at.clauses g.live (state_of c.loop-at.assignment c.loop-at.graph c.loop-at.trail) c.loop-at.watchlists.lists c.loop-at.list c.args.lit c.loop-at.kept c.loop-at.at c.loop-at.invariant.walking.half))
+    (walk_done g.live c.args.clauses.now (state_of c.args.assignment.now c.args.graph.now c.args.trail.now) c.loop-at.clauses (state_of c.loop-at.assignment c.loop-at.graph c.loop-at.trail)
+    c.loop-at.watchlists.lists c.loop-at.list c.args.lit c.loop-at.kept c.loop-at.at c.loop-at.invariant.walking e
+    (walk_small c.loop-at.clauses g.live (state_of c.loop-at.assignment c.loop-at.graph c.loop-at.trail) c.loop-at.watchlists.lists c.loop-at.list c.args.lit c.loop-at.kept c.loop-at.at c.loop-at.invariant.walking.half))

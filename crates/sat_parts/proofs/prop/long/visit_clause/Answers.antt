@@ -13,12 +13,12 @@ add_watch-requires c =
     let p : Shuffles c.args.clauses.now c.orient.new.clauses c.args.cref = c.orient.ensures.shuffles in
     let long : size_of c.orient.new.clauses c.args.cref ≡ size_of c.args.clauses.now c.args.cref = p.lits.size in
     let e : Shuffles c.args.clauses.now c.swap_lits.new.self c.args.cref =
-      shuffles_trans c.args.clauses.now c.orient.new.clauses c.swap_lits.new.self c.args.cref p
-        (shuffles_swap c.orient.new.clauses c.swap_lits.new.self c.args.cref 1 c.find_open-at.result (omega (arith, c.requires.long)) (omega arith)
-          c.swap_lits.ensures.header c.swap_lits.ensures.lits c.swap_lits.ensures.others) in
+    shuffles_trans c.args.clauses.now c.orient.new.clauses c.swap_lits.new.self c.args.cref p
+    (shuffles_swap c.orient.new.clauses c.swap_lits.new.self c.args.cref 1 c.find_open-at.result (omega (arith, c.requires.long)) (omega arith)
+    c.swap_lits.ensures.header c.swap_lits.ensures.lits c.swap_lits.ensures.others) in
     let size : size_of c.swap_lits.new.self c.args.cref ≡ size_of c.args.clauses.now c.args.cref = e.lits.size in
     let b : lit_of c.swap_lits.new.self c.args.cref 1 < 2 * length c.args.assignment.now.current =
-      below_shuffled c.args.clauses.now c.swap_lits.new.self c.args.cref (2 * length c.args.assignment.now.current) e c.requires.below 1 (omega (arith, c.requires.long)) in
+    below_shuffled c.args.clauses.now c.swap_lits.new.self c.args.cref (2 * length c.args.assignment.now.current) e c.requires.below 1 (omega (arith, c.requires.long)) in
     omega (arith, b, c.lit-second.ensures.value, c.not.ensures, c.requires.room)
 
 pub returns-in_err-add_watch-clause-shuffles : goal.returns-in_err-add_watch-clause-shuffles
@@ -26,13 +26,13 @@ returns-in_err-add_watch-clause-shuffles c =
     let p : Shuffles c.args.clauses.now c.orient.new.clauses c.args.cref = c.orient.ensures.shuffles in
     let long : size_of c.orient.new.clauses c.args.cref ≡ size_of c.args.clauses.now c.args.cref = p.lits.size in
     shuffles_trans c.args.clauses.now c.orient.new.clauses c.swap_lits.new.self c.args.cref p
-      (shuffles_swap c.orient.new.clauses c.swap_lits.new.self c.args.cref 1 c.find_open-at.result (omega (arith, c.requires.long)) (omega arith)
-        c.swap_lits.ensures.header c.swap_lits.ensures.lits c.swap_lits.ensures.others)
+    (shuffles_swap c.orient.new.clauses c.swap_lits.new.self c.args.cref 1 c.find_open-at.result (omega (arith, c.requires.long)) (omega arith)
+    c.swap_lits.ensures.header c.swap_lits.ensures.lits c.swap_lits.ensures.others)
 
 pub returns-then-at-len-clause-shuffles : goal.returns-then-at-len-clause-shuffles
 returns-then-at-len-clause-shuffles c =
     let p : Shuffles c.args.clauses.now c.orient.new.clauses c.args.cref = c.orient.ensures.shuffles in
     let long : size_of c.orient.new.clauses c.args.cref ≡ size_of c.args.clauses.now c.args.cref = p.lits.size in
     shuffles_trans c.args.clauses.now c.orient.new.clauses c.swap_lits.new.self c.args.cref p
-      (shuffles_swap c.orient.new.clauses c.swap_lits.new.self c.args.cref 1 c.find_open-at.result (omega (arith, c.requires.long)) (omega arith)
-        c.swap_lits.ensures.header c.swap_lits.ensures.lits c.swap_lits.ensures.others)
+    (shuffles_swap c.orient.new.clauses c.swap_lits.new.self c.args.cref 1 c.find_open-at.result (omega (arith, c.requires.long)) (omega arith)
+    c.swap_lits.ensures.header c.swap_lits.ensures.lits c.swap_lits.ensures.others)

@@ -1,0 +1,31 @@
+-- Clauses of two literals as lists of implied literals.
+use Rattle.std.specs.Prelude.{ℕ, ◌+◌, ◌-◌, ◌^◌, min, List, [], ◌∷◌, ◌++◌, take, replicate, length, slice_index_or as get_or, slice_set as set}
+use Rattle.sat_base.specs.values.Literals.{negated}
+
+-- the lists by code of literal, and the number of clauses (held at 2^64 - 1)
+pub record Binaries : Type 0 where
+  pub implied : List (List ℕ)
+  pub count : ℕ
+
+-- the literals that the literal l implies
+abbrev pub implied_by : List (List ℕ) → ℕ → List ℕ
+implied_by implied l = get_or implied l []
+
+-- the lists where l implies m as well
+abbrev pub with_implied : ℕ → ℕ → List (List ℕ) → List (List ℕ)
+with_implied l m implied = set implied l (implied_by implied l ++ m ∷ [])
+
+-- the lists without the last one of what l implies
+abbrev pub without_last : ℕ → List (List ℕ) → List (List ℕ)
+without_last l implied = set implied l (take (length (implied_by implied l) - 1) (implied_by implied l))
+
+-- the clause of two literals: where one is false, the other is implied
+abbrev pub with_binary : ℕ → ℕ → Binaries → Binaries
+with_binary a b x = record {
+  implied = with_implied (negated b) a (with_implied (negated a) b x.implied);
+  count = min (x.count + 1) (2 ^ 64 - 1);
+}
+
+-- the lists of so many literals
+abbrev pub with_literals : ℕ → Binaries → Binaries
+with_literals count x = record x { implied = take count x.implied ++ replicate (count - length x.implied) [] }
