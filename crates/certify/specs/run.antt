@@ -1,3 +1,4 @@
 pub mod Certifies
 pub mod FinishedRun
+pub mod Outputs
 pub mod Running

@@ -1,10 +1,9 @@
 //! Confirms that script, answers and certificate belong together.
 ghost use Rattle.std.specs.Prelude.{◌≡◌, ◌+◌, ◌-◌, ◌^◌, ◌≤◌, ◌<◌, ◌⊎◌, [], length, IfOk, IsErrOf};
 ghost use Rattle.std.specs.List.{AllByRecursion};
-ghost use Rattle.sat_base.specs.device.Device.{most_reads, ReadFails, GaveAll};
-ghost use Rattle.certify.specs.confirm.VerdictPromises.{IsExact, GaveRightAnswers};
+ghost use Rattle.sat_base.specs.device.Device.{most_reads, ReadFails, GaveEnough};
+ghost use Rattle.certify.specs.confirm.VerdictPromises.{Exact, IsSound, HasTooMany, gave};
 ghost use Rattle.certify.specs.confirm.Decides.{Decides};
-ghost use Rattle.certify.specs.script.CappedNames.{HasCommands};
 ghost use Rattle.certify.specs.confirm.ConfirmedCommands.{CountFromOne, ConfirmsEnd, DecidesRest};
 ghost use Rattle.certify.specs.confirm.CertificateSteps.{IsFed};
 ghost use Rattle.sat_base.specs.script.Judge.{start};
@@ -77,25 +76,25 @@ pub fn confirm<S: CountedRead, A: CountedRead, C: CountedRead>(
     answers: &mut A,
     certificate: &mut C,
 ) -> Result<Verdict, ConfirmFault>
-    // Yes means that the texts that the three readers gave, to their ends, match, and that these match means yes.
-    ensures exact { IfOk result (λ v. IsExact v (GaveAll S.given S.ended S.remaining script.old script.new)
-        (GaveAll A.given A.ended A.remaining answers.old answers.new) (GaveAll C.given C.ended C.remaining certificate.old certificate.new)) }
+    // Yes means that the texts that the three readers gave match, whatever would follow, and that these match means yes.
+    ensures exact { IfOk result (Exact (gave S.seen script.old script.new) (gave A.seen answers.old answers.new) (gave C.seen certificate.old certificate.new)) }
     // A yes means right answers, whatever answers and certificate are.
-    ensures sound { IfOk result (λ v. v ≡ Verdict.Yes
-        → GaveRightAnswers (GaveAll S.given S.ended S.remaining script.old script.new) (GaveAll A.given A.ended A.remaining answers.old answers.new)) }
+    ensures sound { IfOk result (IsSound (gave S.seen script.old script.new) (gave A.seen answers.old answers.new)) }
 
     // A fault is answered only where it happened: exactly one read failed, or there were 2^48 of which none did.
-    ensures script_read { IsErrOf result ConfirmFault.ScriptRead → ReadFails S.failures S.calls script.old script.new }
-    ensures answers_read { IsErrOf result ConfirmFault.AnswersRead → ReadFails A.failures A.calls answers.old answers.new }
-    ensures certificate_read { IsErrOf result ConfirmFault.CertificateRead → ReadFails C.failures C.calls certificate.old certificate.new }
-    ensures counter_end { IsErrOf result ConfirmFault.CounterEnd → HasCommands (GaveAll S.given S.ended S.remaining script.old script.new) (2 ^ 64 - 1) }
+    ensures script_read { IsErrOf result ConfirmFault.ScriptRead → ReadFails (S.seen script.old) (S.seen script.new) }
+    ensures answers_read { IsErrOf result ConfirmFault.AnswersRead → ReadFails (A.seen answers.old) (A.seen answers.new) }
+    ensures certificate_read { IsErrOf result ConfirmFault.CertificateRead → ReadFails (C.seen certificate.old) (C.seen certificate.new) }
+    ensures counter_end { IsErrOf result ConfirmFault.CounterEnd → GaveEnough (S.seen script.old) (S.seen script.new) HasTooMany }
 
     // A read of a text has failed only where the answer is that text's fault: neither yes nor no comes after one.
-    ensures kept_script { IsErrOf result ConfirmFault.ScriptRead ⊎ (S.failures script.new ≡ S.failures script.old) }
-    ensures kept_answers { IsErrOf result ConfirmFault.AnswersRead ⊎ (A.failures answers.new ≡ A.failures answers.old) }
-    ensures kept_certificate { IsErrOf result ConfirmFault.CertificateRead ⊎ (C.failures certificate.new ≡ C.failures certificate.old) }
+    ensures kept_script { IsErrOf result ConfirmFault.ScriptRead ⊎ ((S.seen script.new).failures ≡ (S.seen script.old).failures) }
+    ensures kept_answers { IsErrOf result ConfirmFault.AnswersRead ⊎ ((A.seen answers.new).failures ≡ (A.seen answers.old).failures) }
+    ensures kept_certificate { IsErrOf result ConfirmFault.CertificateRead ⊎ ((C.seen certificate.new).failures ≡ (C.seen certificate.old).failures) }
     // Each is read at most 2^48 times.
-    ensures reads { (S.calls script.new ≤ S.calls script.old + most_reads) × (A.calls answers.new ≤ A.calls answers.old + most_reads) × (C.calls certificate.new ≤ C.calls certificate.old + most_reads) }
+    ensures script_reads { (S.seen script.new).calls ≤ (S.seen script.old).calls + most_reads }
+    ensures answers_reads { (A.seen answers.new).calls ≤ (A.seen answers.old).calls + most_reads }
+    ensures certificate_reads { (C.seen certificate.new).calls ≤ (C.seen certificate.old).calls + most_reads }
 {
     let script = match read_script(alloc, script) {
         Ok(script) => script,

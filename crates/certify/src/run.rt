@@ -1,16 +1,17 @@
 //! Answers a script, with a certificate.
-ghost use Rattle.std.specs.Prelude.{◌≡◌, ◌+◌, ◌-◌, ◌^◌, ◌≤◌, ◌<◌, ◌⊎◌, length, IfOk, OnOk, IfErr, IsErrOf, MatchResult};
-ghost use Rattle.sat_base.specs.device.Device.{most_reads, ReadFails, GaveAll};
-ghost use Rattle.sat_base.specs.script.Script.{Malformed};
-ghost use Rattle.certify.specs.script.CappedNames.{IsScriptOf, IsMalformedBehind};
-ghost use Rattle.certify.specs.run.FinishedRun.{FinishesText, HasCause};
-ghost use Rattle.certify.specs.run.Running.{Finishes, FailsOnce};
+ghost use Rattle.std.specs.Prelude.{◌≡◌, ◌+◌, ◌≤◌, ◌⊎◌, true, IfOk, OnOk, IfErr, IsErrOf};
+ghost use Rattle.sat_base.specs.device.Device.{most_reads, ReadFails, GaveAll, GaveEnough};
+ghost use Rattle.certify.specs.script.CappedNames.{IsScriptOf};
+ghost use Rattle.certify.specs.run.FinishedRun.{Answered, Backed, HasCause, HasNoNumber, WriteFails, gave, took};
+ghost use Rattle.certify.specs.run.Outputs.{AnswersAll, both, pair};
+ghost use Rattle.certify.specs.run.Running.{Done, IsNew, IsOverlong, SumsUp};
 
 mod ask;
 mod clause;
 mod finish;
 mod lits;
 mod names_in;
+mod outputs;
 mod session;
 mod solving;
 mod taking;
@@ -19,6 +20,7 @@ mod tests;
 
 use crate::fault::RunFault;
 use crate::run::finish::{finish, malformed_number};
+use crate::run::outputs::Outputs;
 use crate::run::session::Session;
 use crate::run::taking::take_all;
 use crate::script::{Script, read_script};
@@ -28,11 +30,11 @@ use std::alloc::Global;
 
 /// Reads the script.
 fn load<S: CountedRead>(alloc: Global, script: &mut S) -> Result<Script, RunFault>
-    ensures script { IfOk result (λ s. IsScriptOf (GaveAll S.given S.ended S.remaining script.old script.new) s) }
-    ensures failures { MatchResult result (λ _. S.failures script.new ≡ S.failures script.old)
-        (λ e. HasCause e (ReadFails S.failures S.calls script.old script.new) ⊥ ⊥ ⊥ (S.failures script.new ≡ S.failures script.old)) }
-    ensures kept { IsErrOf result RunFault.ScriptRead ⊎ (S.failures script.new ≡ S.failures script.old) }
-    ensures reads { S.calls script.new ≤ S.calls script.old + most_reads }
+    ensures script { IfOk result (λ s. IsScriptOf (GaveAll (S.seen script.old) (S.seen script.new)) s) }
+    ensures failed { IsErrOf result RunFault.ScriptRead → ReadFails (S.seen script.old) (S.seen script.new) }
+    ensures faults { IfErr result (λ e. HasCause e (Unit {0}) ⊥ ⊥ ⊥ (Unit {0})) }
+    ensures kept { IsErrOf result RunFault.ScriptRead ⊎ ((S.seen script.new).failures ≡ (S.seen script.old).failures) }
+    ensures reads { (S.seen script.new).calls ≤ (S.seen script.old).calls + most_reads }
 {
     match read_script(alloc, script) {
         Ok(script) => Ok(script),
@@ -41,28 +43,76 @@ fn load<S: CountedRead>(alloc: Global, script: &mut S) -> Result<Script, RunFaul
     }
 }
 
-/// Answers the commands of a script.
+/// Answers the commands of a script. The answer is the number at which the text is malformed.
+fn answer_all<A: CountedWrite, C: CountedWrite>(
+    session: &mut Session,
+    script: &Script,
+    out: &mut Outputs<A, C>,
+    budget: u64,
+) -> Result<Option<u64>, RunFault>
+    requires new { IsNew session.old }
+    ensures finishes { IfOk result (λ m. Done script.now budget m session.new (both A.seen C.seen out.old) (both A.seen C.seen out.new)) }
+    ensures failures { AnswersAll result (IsOverlong script.now) (both A.seen C.seen out.old) (both A.seen C.seen out.new) }
+{
+    take_all(session, script, out, budget)?;
+    let malformed = malformed_number(script)?;
+    finish(&mut session.text, malformed, out)?;
+    Ok(malformed)
+}
+
+/// The same, summed up.
 fn answer<A: CountedWrite, C: CountedWrite>(
+    alloc: Global,
+    script: &Script,
+    out: &mut Outputs<A, C>,
+    budget: u64,
+) -> Result<Summary, RunFault>
+    ensures { SumsUp result script.now budget (both A.seen C.seen out.old) (both A.seen C.seen out.new) }
+{
+    let mut session = Session::new(alloc);
+    match answer_all(&mut session, script, out, budget) {
+        Ok(malformed) => Ok(Summary {
+            commands: script.command_count() as u64,
+            refused: session.refused,
+            malformed,
+            asks: session.asks,
+        }),
+        Err(fault) => Err(fault),
+    }
+}
+
+/// The same, with a certificate's writer that is lent. Gives the answers' writer back.
+fn answer_into<A: CountedWrite, C: CountedWrite>(
+    alloc: Global,
+    script: &Script,
+    answers: A,
+    certificate: &mut C,
+    budget: u64,
+) -> (A, Result<Summary, RunFault>)
+    ensures { SumsUp result.1 script.now budget (pair (A.seen answers) (C.seen certificate.old)) (pair (A.seen result.0) (C.seen certificate.new)) }
+{
+    let mut out: Outputs<A, &mut C> = Outputs {
+        answers,
+        certificate,
+    };
+    let result = answer(alloc, script, &mut out, budget);
+    let (answers, _certificate) = out.into_writers();
+    (answers, result)
+}
+
+/// The same, with both writers lent.
+fn answer_lent<A: CountedWrite, C: CountedWrite>(
     alloc: Global,
     script: &Script,
     answers: &mut A,
     certificate: &mut C,
     budget: u64,
 ) -> Result<Summary, RunFault>
-    ensures finishes { IfOk result (λ summary. Finishes script.now budget summary (A.contents answers.old) (A.contents answers.new) (C.contents certificate.old) (C.contents certificate.new)) }
-    ensures failures { MatchResult result (λ _. (A.failures answers.new ≡ A.failures answers.old) × (C.failures certificate.new ≡ C.failures certificate.old))
-        (λ e. FailsOnce e ((script.now.1 ≡ Malformed) × (2 ^ 64 - 1 ≤ length script.now.0)) (A.failures answers.old) (A.failures answers.new) (C.failures certificate.old) (C.failures certificate.new)) }
+    ensures { SumsUp result script.now budget (pair (A.seen answers.old) (C.seen certificate.old)) (pair (A.seen answers.new) (C.seen certificate.new)) }
 {
-    let mut session = Session::new(alloc);
-    take_all(&mut session, script, answers, certificate, budget)?;
-    let malformed = malformed_number(script)?;
-    finish(&mut session.text, malformed, answers, certificate)?;
-    Ok(Summary {
-        commands: script.command_count() as u64,
-        refused: session.refused,
-        malformed,
-        asks: session.asks,
-    })
+    let (lent, result) = answer_into(alloc, script, answers, certificate, budget);
+    let _answers: &mut A = lent;
+    result
 }
 
 /// Answers each ask of a script, with at most `budget` steps of search for each, and writes the answers and a certificate
@@ -76,24 +126,25 @@ pub fn run<S: CountedRead, A: CountedWrite, C: CountedWrite>(
     certificate: &mut C,
     budget: u64,
 ) -> Result<Summary, RunFault>
-    // A finished run has written the answers to the text that the reader gave, to its end.
-    ensures finished { IfOk result (λ summary. FinishesText (GaveAll S.given S.ended S.remaining script.old script.new) budget summary
-        (A.contents answers.old) (A.contents answers.new) (C.contents certificate.old) (C.contents certificate.new)) }
-    ensures kept { OnOk result ((S.failures script.new ≡ S.failures script.old) × (A.failures answers.new ≡ A.failures answers.old) × (C.failures certificate.new ≡ C.failures certificate.old)) }
+    // The answers' writer took the answers to the text that was given, whatever would follow, and each of them is right.
+    ensures answered { IfOk result (λ s. Answered budget s (gave S.seen script.old script.new) (took A.seen answers.old answers.new)) }
+    // The certificate's writer took the steps of the accepted commands and of these answers.
+    ensures certified { OnOk result (Backed (gave S.seen script.old script.new) (took A.seen answers.old answers.new) (took C.seen certificate.old certificate.new)) }
+    ensures flushed { OnOk result (((A.seen answers.new).flushed ≡ true) × ((C.seen certificate.new).flushed ≡ true)) }
+
     // A fault is answered only where it happened: exactly one call of the device failed, or there were 2^48 reads and none did.
-    ensures fault { IfErr result (λ e. HasCause e
-        (ReadFails S.failures S.calls script.old script.new)
-        (A.failures answers.new ≡ A.failures answers.old + 1)
-        (C.failures certificate.new ≡ C.failures certificate.old + 1)
-        (IsMalformedBehind (GaveAll S.given S.ended S.remaining script.old script.new) (2 ^ 64 - 1))
-        ((A.failures answers.new ≡ A.failures answers.old) × (C.failures certificate.new ≡ C.failures certificate.old))) }
+    ensures script_read { IsErrOf result RunFault.ScriptRead → ReadFails (S.seen script.old) (S.seen script.new) }
+    ensures answers_write { IsErrOf result RunFault.AnswersWrite → WriteFails (A.seen answers.old) (A.seen answers.new) }
+    ensures certificate_write { IsErrOf result RunFault.CertificateWrite → WriteFails (C.seen certificate.old) (C.seen certificate.new) }
+    ensures store_full { IsErrOf result RunFault.StoreFull → ⊥ }
+    ensures counter_end { IsErrOf result RunFault.CounterEnd → GaveEnough (S.seen script.old) (S.seen script.new) HasNoNumber }
     // A call of a device has failed only where the answer is that.
-    ensures kept_script { IsErrOf result RunFault.ScriptRead ⊎ (S.failures script.new ≡ S.failures script.old) }
-    ensures kept_answers { IsErrOf result RunFault.AnswersWrite ⊎ (A.failures answers.new ≡ A.failures answers.old) }
-    ensures kept_certificate { IsErrOf result RunFault.CertificateWrite ⊎ (C.failures certificate.new ≡ C.failures certificate.old) }
+    ensures kept_script { IsErrOf result RunFault.ScriptRead ⊎ ((S.seen script.new).failures ≡ (S.seen script.old).failures) }
+    ensures kept_answers { IsErrOf result RunFault.AnswersWrite ⊎ ((A.seen answers.new).failures ≡ (A.seen answers.old).failures) }
+    ensures kept_certificate { IsErrOf result RunFault.CertificateWrite ⊎ ((C.seen certificate.new).failures ≡ (C.seen certificate.old).failures) }
     // The script is read at most 2^48 times.
-    ensures reads { S.calls script.new ≤ S.calls script.old + most_reads }
+    ensures reads { (S.seen script.new).calls ≤ (S.seen script.old).calls + most_reads }
 {
     let commands = load(alloc, script)?;
-    answer(alloc, &commands, answers, certificate, budget)
+    answer_lent(alloc, &commands, answers, certificate, budget)
 }

@@ -5,3 +5,4 @@ pub mod FirstNames
 pub mod CommandsTaken
 pub mod SearchedAsks
 pub mod WrittenSteps
+pub mod FailedCalls

@@ -1,29 +1,36 @@
--- What a verdict promises of the texts that three readers gave. What says that a reader gave a text is handed in.
-use Rattle.std.specs.Prelude.{ℕ, ◌≡◌, ◌↔◌, List}
+-- What a verdict promises of the texts that three readers gave.
+use Rattle.std.specs.Prelude.{ℕ, ◌-◌, ◌^◌, ◌≤◌, ◌≡◌, ◌↔◌, List, length}
+use Rattle.sat_base.specs.device.Device.{Reader, GaveEnough}
 use Rattle.sat_base.specs.script.Script.{reading}
 use Rattle.certify.specs.answers.Answers.{Outcome, answers_text}
-use Rattle.certify.specs.confirm.Matches.{Matches}
 use Rattle.certify.specs.answers.RightAnswers.{AnswersAreRight}
+use Rattle.certify.specs.confirm.Matches.{Matches}
 use Rattle.certify.specs.confirm.ListChecking.{the_checking}
 use Rattle.certify.specs.declared.verdict.Verdict.{Verdict}
 use Rattle.certify.specs.declared.verdict.Verdict.TheVariants.{Yes}
 
--- yes says exactly that the texts that were given match
-pub record IsExact (v : Verdict) (IsScript AreAnswers IsCertificate : List ℕ → Type 0) : Type 0 where
-  pub script : List ℕ
-  pub answers : List ℕ
-  pub certificate : List ℕ
-  pub script_given : IsScript script
-  pub answers_given : AreAnswers answers
-  pub certificate_given : IsCertificate certificate
-  pub yes : (v ≡ Yes) ↔ Matches the_checking reading script answers certificate
+-- a reader before and after
+abbrev pub gave : {D : Type 0} → (D → Reader) → D → D → Reader × Reader
+gave seen old new = (seen old, seen new)
 
--- the answers that were given are the text of right outcomes, one for each accepted ask of the script
-pub record GaveRightAnswers (IsScript AreAnswers : List ℕ → Type 0) : Type 0 where
-  pub script : List ℕ
-  pub answers : List ℕ
-  pub script_given : IsScript script
-  pub answers_given : AreAnswers answers
+-- the reader gave a text of which this is so, whatever would follow
+abbrev pub Given : Reader × Reader → (List ℕ → Type 0) → Type 0
+Given r IsSo = GaveEnough r.0 r.1 IsSo
+
+-- yes says exactly that the texts that were given match
+abbrev pub Exact : Reader × Reader → Reader × Reader → Reader × Reader → Verdict → Type 0
+Exact script answers certificate v = Given script (λ s. Given answers (λ a. Given certificate (λ c. (v ≡ Yes) ↔ Matches the_checking reading s a c)))
+
+-- the answers are the text of right outcomes, one for each accepted ask of the script
+pub record AreRightAnswers (script answers : List ℕ) : Type 0 where
   pub outcomes : List Outcome
   pub answered : answers ≡ answers_text (reading script).0 (reading script).1 outcomes
   pub right : AnswersAreRight (reading script).0 outcomes
+
+-- a yes says that the answers that were given are right
+abbrev pub IsSound : Reader × Reader → Reader × Reader → Verdict → Type 0
+IsSound script answers v = v ≡ Yes → Given script (λ s. Given answers (AreRightAnswers s))
+
+-- the text has so many commands that they can't be counted
+abbrev pub HasTooMany : List ℕ → Type 0
+HasTooMany text = 2 ^ 64 - 1 ≤ length (reading text).0

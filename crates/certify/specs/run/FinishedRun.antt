@@ -1,6 +1,6 @@
 -- What a finished run has done, and why one wasn't finished.
-use Rattle.std.specs.Prelude.{ℕ, ◌+◌, ◌≡◌, ◌≤◌, Option, Some, None, is_some, List, [], ◌∷◌, map, length, if◌then◌else◌}
-use Rattle.std.specs.Io.KnownBytes.{Appends}
+use Rattle.std.specs.Prelude.{ℕ, ◌+◌, ◌-◌, ◌^◌, ◌≡◌, ◌≤◌, true, Option, Some, None, is_some, List, [], ◌∷◌, map, length, if◌then◌else◌}
+use Rattle.sat_base.specs.device.Device.{Reader, Writer, GaveEnough, Takes}
 use Rattle.sat_base.specs.script.Script.{Command, Ending, Clean, Malformed, written, reading}
 use Rattle.sat_base.specs.script.Judge.{Judge, refusal_of, after_command, accepted_of, start}
 use Rattle.sat_base.specs.steps.Steps.{Step}
@@ -70,15 +70,51 @@ pub record RunOf (script : List Command) (ending : Ending) (count budget : ℕ) 
   pub kinds : map (λ r. r.answer) summary.asks.items ≡ map kind_of outcomes
   pub spent : AreSpent budget 0 summary.asks.items
 
--- what a finished run of this text wrote behind what stood there, and says
-pub record Finished (text : List ℕ) (budget : ℕ) (summary : Summary) (answers_old answers_new certificate_old certificate_new : Option (List ℕ)) : Type 0 where
-  pub answered : List ℕ
-  pub answers : Appends answers_old answers_new answered
-  pub certified : List ℕ
-  pub certificate : Appends certificate_old certificate_new certified
-  pub run : RunOf (reading text).0 (reading text).1 (length (written text).0) budget summary answered certified
+-- What a finished run says of a text, and answered to it: one outcome for each accepted ask, each right, and their text.
+pub record Answers (text : List ℕ) (budget : ℕ) (summary : Summary) (answered : List ℕ) : Type 0 where
+  pub outcomes : List Outcome
+  pub right : AnswersAreRight (reading text).0 outcomes
+  pub answers : answered ≡ answers_text (reading text).0 (reading text).1 outcomes
+  pub commands : summary.commands ≡ length (written text).0
+  pub refused : summary.refused ≡ refused_count start (reading text).0
+  pub malformed : summary.malformed ≡ malformed_at (length (reading text).0 + 1) (reading text).1
+  -- one report for each outcome, of its kind
+  pub kinds : map (λ r. r.answer) summary.asks.items ≡ map kind_of outcomes
+  pub spent : AreSpent budget 0 summary.asks.items
 
--- the same where the text is known by what is said of it, as that a reader gave it
-abbrev pub FinishesText : (List ℕ → Type 0) → ℕ → Summary → Option (List ℕ) → Option (List ℕ) → Option (List ℕ) → Option (List ℕ) → Type 0
-FinishesText IsText budget summary answers_old answers_new certificate_old certificate_new =
-    (text : List ℕ) × IsText text × Finished text budget summary answers_old answers_new certificate_old certificate_new
+-- What its certificate is to the answers: it spells steps that are, in order, those of the accepted commands and of these outcomes.
+pub record Backs (text answered certified : List ℕ) : Type 0 where
+  pub outcomes : List Outcome
+  pub right : AnswersAreRight (reading text).0 outcomes
+  pub answers : answered ≡ answers_text (reading text).0 (reading text).1 outcomes
+  pub steps : List Step
+  pub certificate : SpellsSteps steps certified
+  pub certifies : Certifies the_checking [] steps (expected start (accepted_of start (reading text).0) outcomes)
+
+-- WHAT THREE DEVICES SHOW OF IT
+
+-- a reader before and after
+abbrev pub gave : {D : Type 0} → (D → Reader) → D → D → Reader × Reader
+gave seen old new = (seen old, seen new)
+
+-- a writer before and after
+abbrev pub took : {D : Type 0} → (D → Writer) → D → D → Writer × Writer
+took seen old new = (seen old, seen new)
+
+-- the answers' writer took the answers to the text that was given, whatever would follow
+abbrev pub Answered : ℕ → Summary → Reader × Reader → Writer × Writer → Type 0
+Answered budget summary script answers =
+    GaveEnough script.0 script.1 (λ text. (answered : List ℕ) × Takes answers.0 answers.1 answered × Answers text budget summary answered)
+
+-- and the certificate's writer took the certificate
+abbrev pub Backed : Reader × Reader → Writer × Writer → Writer × Writer → Type 0
+Backed script answers certificate = GaveEnough script.0 script.1 (λ text. (answered : List ℕ) × (certified : List ℕ)
+    × Takes answers.0 answers.1 answered × Takes certificate.0 certificate.1 certified × Backs text answered certified)
+
+-- exactly one call failed, the last
+abbrev pub WriteFails : Writer → Writer → Type 0
+WriteFails old new = (new.failures ≡ old.failures + 1) × (new.failed ≡ true)
+
+-- the text is malformed behind so many commands that the next one has no number
+abbrev pub HasNoNumber : List ℕ → Type 0
+HasNoNumber text = ((reading text).1 ≡ Malformed) × (2 ^ 64 - 1 ≤ length (reading text).0)

@@ -1,56 +1,32 @@
 -- How a run stands among the commands of a script of clauses and asks.
-use Rattle.std.specs.Prelude.{ℕ, zero, suc, ◌+◌, ◌-◌, ◌<◌, ◌≤◌, ◌≡◌, ◌↔◌, max, Bool, true, false, ◌&&◌, Option, Some, None, Result, MatchResult, List, [], ◌∷◌, ◌++◌, map, drop, nat_le}
+use Rattle.std.specs.Prelude.{ℕ, zero, suc, ◌+◌, ◌-◌, ◌^◌, ◌<◌, ◌≤◌, ◌≡◌, ◌↔◌, max, Bool, true, false, ◌&&◌, Option, Some, None, Result, IfOk, List, [], ◌∷◌, ◌++◌, length, map, drop, nat_le}
 use Rattle.std.specs.List.{AllByRecursion}
-use Rattle.std.specs.Io.KnownBytes.{Appends}
+use Rattle.sat_base.specs.device.Device.{Writer, Takes}
 use Rattle.sat_base.specs.values.Literals.{coded, largest, variable}
 use Rattle.sat_base.specs.values.Clauses.{Valuation, EachTrue, EachHolds}
-use Rattle.sat_base.specs.script.Script.{Literal, Command, Clause, Ask, Ending, names_of}
+use Rattle.sat_base.specs.script.Script.{Literal, Command, Clause, Ask, Ending, Malformed, names_of}
 use Rattle.sat_base.specs.script.Judge.{Judge, Named, Mode, Sampled, names_from, accepted_of, start}
 use Rattle.sat_base.specs.steps.Steps.{Step, UserVarName, AddClause, Model, Assumptions, End}
-use Rattle.sat_base.specs.steps.StepText.{SpellsStep, SpellsSteps}
-use Rattle.certify.specs.answers.Answers.{Outcome, Sat, Unsat, Unknown, answers_from, malformed_line}
+use Rattle.certify.specs.answers.Answers.{Outcome, Sat, Unsat, Unknown, answers_from, malformed_line, outcome_text}
 use Rattle.certify.specs.answers.AnswerForms.{named_literals}
 use Rattle.certify.specs.answers.RightAnswers.{AreRight}
-use Rattle.certify.specs.run.FinishedRun.{HasCause, refused_count, kind_of, AreSpent, IsSpent, RunOf}
+use Rattle.certify.specs.run.FinishedRun.{refused_count, kind_of, AreSpent, IsSpent, RunOf}
 use Rattle.certify.specs.checker.Fold.{Holds}
 use Rattle.certify.specs.confirm.Checking.{variable_of}
 use Rattle.certify.specs.confirm.ListChecking.{the_checking}
 use Rattle.certify.specs.confirm.Matches.{expected}
 use Rattle.certify.specs.run.Certifies.{Certifies}
+use Rattle.certify.specs.run.Outputs.{Both, Wrote, AnswersAll}
 use Rattle.certify.specs.search.KeptClauses.{IsNormalOf}
 use Rattle.certify.specs.search.SearchEnds.{AllowsNone, IsDerived}
 use Rattle.certify.specs.script.CappedNames.{CappedScript}
-use Rattle.certify.specs.search.SolverState.{SolverState, Allows, AllowsSame, GainsClause}
+use Rattle.certify.specs.search.SolverState.{SolverState, Allows, AllowsSame, GainsClause, new_solver}
 use Rattle.certify.specs.declared.fault.RunFault.{RunFault}
 use Rattle.certify.specs.declared.run.session.Session.{Session}
 use Rattle.certify.specs.declared.summary.Answer.{Answer}
 use Rattle.certify.specs.declared.summary.Answer.TheVariants as kind
 use Rattle.certify.specs.declared.summary.AskReport.{AskReport}
 use Rattle.certify.specs.declared.summary.Summary.{Summary}
-
--- these steps were written
-pub record Wrote (steps : List Step) (old new : Option (List ℕ)) : Type 0 where
-  pub text : List ℕ
-  pub spelt : SpellsSteps steps text
-  pub appended : Appends old new text
-
--- one step was written
-pub record WroteStep (step : Step) (old new : Option (List ℕ)) : Type 0 where
-  pub text : List ℕ
-  pub spelt : SpellsStep step text
-  pub appended : Appends old new text
-
--- where a part writes to the certificate alone: `Ok` says what it wrote and that no call failed
-abbrev pub WritesSteps : {T : Type 0} → Result T RunFault → (T → Type 0) → ℕ → ℕ → Type 0
-WritesSteps r wrote failed_old failed_new = MatchResult r (λ x. wrote x × (failed_new ≡ failed_old)) (λ e. HasCause e ⊥ ⊥ (failed_new ≡ failed_old + 1) ⊥ (failed_new ≡ failed_old))
-
-abbrev pub WritesStep : {T : Type 0} → Result T RunFault → Step → Option (List ℕ) → Option (List ℕ) → ℕ → ℕ → Type 0
-WritesStep r step old new failed_old failed_new =
-    MatchResult r (λ _. WroteStep step old new × (failed_new ≡ failed_old)) (λ e. HasCause e ⊥ ⊥ (failed_new ≡ failed_old + 1) ⊥ (failed_new ≡ failed_old))
-
--- where a part writes these bytes to the answers alone
-abbrev pub WritesAnswer : {T : Type 0} → Result T RunFault → List ℕ → Option (List ℕ) → Option (List ℕ) → ℕ → ℕ → Type 0
-WritesAnswer r text old new failed_old failed_new = MatchResult r (λ _. Appends old new text × (failed_new ≡ failed_old)) (λ e. HasCause e ⊥ (failed_new ≡ failed_old + 1) ⊥ ⊥ (failed_new ≡ failed_old))
 
 -- the literal over variables, name k being that of variable k - 1
 abbrev pub code_of : Literal → ℕ
@@ -111,7 +87,7 @@ pub data WritesClause (solver : SolverState) (clause : List ℕ) : List Step →
   written : {normal : List ℕ} → IsNormalOf clause normal → WritesClause solver clause (AddClause normal ∷ [])
 
 -- a clause's names were brought in, and it was written or left out
-pub record WroteClause (count v : ℕ) (solver : SolverState) (literals : List ℕ) (old new : Option (List ℕ)) : Type 0 where
+pub record WroteClause (count v : ℕ) (solver : SolverState) (literals : List ℕ) (old new : Writer) : Type 0 where
   pub steps : List Step
   pub clause : WritesClause solver literals steps
   pub wrote : Wrote (naming count v ++ steps) old new
@@ -123,13 +99,13 @@ shown_by kind.Unsat line = []
 shown_by kind.Unknown line = []
 
 -- derived clauses over so many variables were written
-pub record WroteDerived (n : ℕ) (old new : Option (List ℕ)) : Type 0 where
+pub record WroteDerived (n : ℕ) (old new : Writer) : Type 0 where
   pub derived : List Step
   pub are_derived : AllByRecursion (IsDerived n) derived
   pub wrote : Wrote derived old new
 
 -- an ask was opened, and its answer derived and shown, and then these steps came
-pub record WroteAsk (n : ℕ) (answer : Answer) (line : List ℕ) (last : List Step) (old new : Option (List ℕ)) : Type 0 where
+pub record WroteAsk (n : ℕ) (answer : Answer) (line : List ℕ) (last : List Step) (old new : Writer) : Type 0 where
   pub derived : List Step
   pub are_derived : AllByRecursion (IsDerived n) derived
   pub wrote : Wrote (Assumptions [] ∷ (derived ++ (shown_by answer line ++ last))) old new
@@ -196,47 +172,69 @@ pub record Refused (old new : Session) : Type 0 where
   pub refused : new.refused ≡ old.refused + 1
   pub asks : new.asks ≡ old.asks
 
+-- a clause's names and the clause, by what a run had before and has behind it
+abbrev pub WroteClauseOf : Session → Session → List Literal → Writer → Writer → Type 0
+WroteClauseOf old new ls = WroteClause (new.names - old.names) old.names old.solver (map code_of ls)
+
+-- an ask and its answer, and then these steps
+abbrev pub WroteAskOf : Session → Session → AskReport → List Step → Writer → Writer → Type 0
+WroteAskOf old new report last = WroteAsk old.solver.var_count report.answer new.lits.items last
+
+-- the text of an ask's answer
+abbrev pub reported_text : Session → AskReport → List ℕ
+reported_text s report = outcome_text (reported_outcome report.answer s.lits.items)
+
+-- an ask was answered, and opened and closed in the certificate
+pub record AnsweredAsk (budget : ℕ) (old new : Session) (before after : Both) : Type 0 where
+  pub report : AskReport
+  pub asked : Asked budget old new report
+  pub answered : Takes before.answers after.answers (reported_text new report)
+  pub wrote : WroteAskOf old new report (Assumptions [] ∷ []) before.certificate after.certificate
+
 -- what was answered to a command of this number, and that it brings a run on
-pub record Took (command : Command) (number budget : ℕ) (old new : Session) (answers_old answers_new certificate_old certificate_new : Option (List ℕ)) : Type 0 where
+pub record Took (command : Command) (number budget : ℕ) (old new : Session) (before after : Both) : Type 0 where
   pub piece : List ℕ
-  pub appended : Appends answers_old answers_new piece
+  pub took : Takes before.answers after.answers piece
   pub steps : List Step
-  pub wrote : Wrote steps certificate_old certificate_new
+  pub wrote : Wrote steps before.certificate after.certificate
   pub reached : IsSimple command → (script : List Command) (ending : Ending) (left : List Command) (answered : List ℕ) (written : List Step) → old.solver.var_count ≡ old.names
       → Reached script ending budget (command ∷ left) number old answered written → Reached script ending budget left (number + 1) new (answered ++ piece) (written ++ steps)
 
 -- so many commands of a script were taken
-pub record TookAll (script : CappedScript) (budget place : ℕ) (s : Session) (answers_old answers_new certificate_old certificate_new : Option (List ℕ)) : Type 0 where
+pub record TookAll (script : CappedScript) (budget place : ℕ) (s : Session) (before after : Both) : Type 0 where
   pub answered : List ℕ
-  pub appended : Appends answers_old answers_new answered
+  pub took : Takes before.answers after.answers answered
   pub steps : List Step
-  pub wrote : Wrote steps certificate_old certificate_new
+  pub wrote : Wrote steps before.certificate after.certificate
   pub reached : AllByRecursion IsSimple script.0 → Reached script.0 script.1 budget (drop place script.0) (place + 1) s answered steps
 
--- where a part writes to both, a fault says that one call failed, of its device, and want of memory that none did
-abbrev pub FailsOnce : RunFault → Type 0 → ℕ → ℕ → ℕ → ℕ → Type 0
-FailsOnce e many answers_old answers_new certificate_old certificate_new = HasCause e ⊥
-    ((answers_new ≡ answers_old + 1) × (certificate_new ≡ certificate_old))
-    ((certificate_new ≡ certificate_old + 1) × (answers_new ≡ answers_old))
-    (many × (answers_new ≡ answers_old) × (certificate_new ≡ certificate_old))
-    ((answers_new ≡ answers_old) × (certificate_new ≡ certificate_old))
-
--- where a part writes to both, `Ok` says that no call failed
-abbrev pub WritesBoth : {T : Type 0} → Result T RunFault → ℕ → ℕ → ℕ → ℕ → Type 0
-WritesBoth r answers_failed_old answers_failed_new certificate_failed_old certificate_failed_new =
-    MatchResult r (λ _. (answers_failed_new ≡ answers_failed_old) × (certificate_failed_new ≡ certificate_failed_old))
-    (λ e. FailsOnce e ⊥ answers_failed_old answers_failed_new certificate_failed_old certificate_failed_new)
-
--- where a part ends both texts
-abbrev pub Ends : {T : Type 0} → Result T RunFault → List ℕ → Option (List ℕ) → Option (List ℕ) → Option (List ℕ) → Option (List ℕ) → ℕ → ℕ → ℕ → ℕ → Type 0
-Ends r last answers_old answers_new certificate_old certificate_new answers_failed_old answers_failed_new certificate_failed_old certificate_failed_new =
-    MatchResult r (λ _. Appends answers_old answers_new last × (answers_failed_new ≡ answers_failed_old) × WroteStep End certificate_old certificate_new × (certificate_failed_new ≡ certificate_failed_old))
-    (λ e. FailsOnce e ⊥ answers_failed_old answers_failed_new certificate_failed_old certificate_failed_new)
+-- the script is malformed behind so many commands that the next one has no number
+abbrev pub IsOverlong : CappedScript → Type 0
+IsOverlong script = (script.1 ≡ Malformed) × (2 ^ 64 - 1 ≤ length script.0)
 
 -- what was written to a whole script, where its commands are those that a script has for now
-pub record Finishes (script : CappedScript) (budget : ℕ) (summary : Summary) (answers_old answers_new certificate_old certificate_new : Option (List ℕ)) : Type 0 where
+pub record Finishes (script : CappedScript) (budget : ℕ) (summary : Summary) (before after : Both) : Type 0 where
   pub answered : List ℕ
-  pub answers : Appends answers_old answers_new answered
+  pub answers : Takes before.answers after.answers answered
   pub certified : List ℕ
-  pub certificate : Appends certificate_old certificate_new certified
+  pub certificate : Takes before.certificate after.certificate certified
+  pub answers_flushed : after.answers.flushed ≡ true
+  pub certificate_flushed : after.certificate.flushed ≡ true
   pub run : AllByRecursion IsSimple script.0 → RunOf script.0 script.1 script.2 budget summary answered certified
+
+-- whatever sums a run up so is what a finished run says
+abbrev pub Done : CappedScript → ℕ → Option ℕ → Session → Both → Both → Type 0
+Done script budget malformed s before after = (summary : Summary) → summary.commands ≡ script.2 → summary.refused ≡ s.refused
+    → summary.malformed ≡ malformed → summary.asks ≡ s.asks → Finishes script budget summary before after
+
+-- a session before its first command
+pub record IsNew (s : Session) : Type 0 where
+  pub names : s.names ≡ 0
+  pub solver : s.solver ≡ new_solver
+  pub refused : s.refused ≡ 0
+  pub asks : s.asks.items ≡ []
+
+-- all commands were answered and summed up, or one call failed, and which
+pub record SumsUp (r : Result Summary RunFault) (script : CappedScript) (budget : ℕ) (before after : Both) : Type 0 where
+  pub finishes : IfOk r (λ summary. Finishes script budget summary before after)
+  pub failures : AnswersAll r (IsOverlong script) before after

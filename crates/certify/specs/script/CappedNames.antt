@@ -32,14 +32,6 @@ capped_script text = ((capped_reading (reading text)).0, (capped_reading (readin
 abbrev pub IsScriptOf : (List ℕ → Type 0) → CappedScript → Type 0
 IsScriptOf IsText script = (text : List ℕ) × IsText text × (script ≡ capped_script text)
 
--- the text in question has so many commands
-abbrev pub HasCommands : (List ℕ → Type 0) → ℕ → Type 0
-HasCommands IsText count = (text : List ℕ) × IsText text × (count ≤ length (reading text).0)
-
--- it is malformed behind so many commands
-abbrev pub IsMalformedBehind : (List ℕ → Type 0) → ℕ → Type 0
-IsMalformedBehind IsText = HasCommands (λ text. IsText text × ((reading text).1 ≡ Malformed))
-
 -- why a command is refused, which commands are accepted, and what they leave, all stay as they are
 pub record CappingIsFree : Type 0 where
   pub refusals : (j : Judge) (c : Command) → refusal_of j (capped_command c) ≡ refusal_of j c

@@ -1,29 +1,18 @@
 //! Answers an ask.
-ghost use Rattle.std.specs.Prelude.{◌≡◌, ◌+◌, [], ◌∷◌, IfOk, OnOk};
-ghost use Rattle.std.specs.Io.KnownBytes.{Appends};
-ghost use Rattle.sat_base.specs.steps.Steps.{Assumptions};
+ghost use Rattle.std.specs.Prelude.{◌≡◌, ◌+◌, [], IfOk, OnOk};
 ghost use Rattle.certify.specs.answers.Answers.{outcome_text};
 ghost use Rattle.certify.specs.search.SolverState.{AllowsSame};
 ghost use Rattle.certify.specs.run.FinishedRun.{IsSpent};
-ghost use Rattle.certify.specs.run.Running.{Wrote, WroteAsk, WritesSteps, WritesAnswer, WritesBoth, IsTrueOf, Asked, reported_outcome, shown_by};
+ghost use Rattle.certify.specs.run.Outputs.{Wrote, WritesSteps, WritesBoth, both};
+ghost use Rattle.certify.specs.run.Running.{WroteAskOf, AnsweredAsk, IsTrueOf, reported_outcome, reported_text, shown_by};
 
-use super::names_in::record_step;
+use super::outputs::{Outputs, record_step, write_answer};
 use super::session::Session;
 use super::solving::solve_ask;
 use crate::answers::write::{push_sat, push_unknown, push_unsat};
 use crate::fault::RunFault;
 use crate::summary::{Answer, AskReport};
 use sat_base::{CountedWrite, Lit, ProofStep};
-
-/// Writes a piece of the answers.
-pub(crate) fn write_answer<A: CountedWrite>(answers: &mut A, text: &[u8]) -> Result<(), RunFault>
-    ensures { WritesAnswer result text.now (A.contents answers.old) (A.contents answers.new) (A.failures answers.old) (A.failures answers.new) }
-{
-    match answers.write_all_counted(text) {
-        Ok(()) => Ok(()),
-        Err(_) => Err(RunFault::AnswersWrite),
-    }
-}
 
 /// Shows an answer: its text, and in the certificate the model of a satisfiable ask.
 fn show<C: CountedWrite>(
@@ -33,7 +22,7 @@ fn show<C: CountedWrite>(
     certificate: &mut C,
 ) -> Result<(), RunFault>
     ensures text { OnOk result (text.new.items ≡ outcome_text (reported_outcome answer model.now)) }
-    ensures certificate { WritesSteps result (λ _. Wrote (shown_by answer model.now) (C.contents certificate.old) (C.contents certificate.new)) (C.failures certificate.old) (C.failures certificate.new) }
+    ensures certificate { WritesSteps result (λ _. Wrote (shown_by answer model.now)) (C.seen certificate.old) (C.seen certificate.new) }
 {
     text.clear();
     match answer {
@@ -60,10 +49,10 @@ fn ask<C: CountedWrite>(
     ensures refused { session.new.refused ≡ session.old.refused }
     ensures asks { session.new.asks ≡ session.old.asks }
     ensures answer { IfOk result (λ report. IsTrueOf session.new.solver session.new.lits.items report.answer) }
-    ensures text { IfOk result (λ report. session.new.text.items ≡ outcome_text (reported_outcome report.answer session.new.lits.items)) }
+    ensures text { IfOk result (λ report. session.new.text.items ≡ reported_text session.new report) }
     ensures spent { IfOk result (λ report. IsSpent budget session.old.solver.rounds report) }
     ensures rounds { IfOk result (λ report. session.new.solver.rounds ≡ session.old.solver.rounds + report.steps) }
-    ensures certificate { WritesSteps result (λ report. WroteAsk session.old.solver.var_count report.answer session.new.lits.items [] (C.contents certificate.old) (C.contents certificate.new)) (C.failures certificate.old) (C.failures certificate.new) }
+    ensures certificate { WritesSteps result (λ report. WroteAskOf session.old session.new report []) (C.seen certificate.old) (C.seen certificate.new) }
 {
     record_step(certificate, &ProofStep::Assumptions { assumptions: &[] })?;
     let count = session.names.count();
@@ -81,19 +70,19 @@ fn ask<C: CountedWrite>(
 /// Answers an ask under no literals, with at most so many steps of search.
 pub(crate) fn answer_ask<A: CountedWrite, C: CountedWrite>(
     session: &mut Session,
-    answers: &mut A,
-    certificate: &mut C,
+    out: &mut Outputs<A, C>,
     budget: u64,
 ) -> Result<(), RunFault>
     requires { session.old.solver.var_count ≡ session.old.names }
-    ensures asked { OnOk result ((report : AskReport) × Asked budget session.old session.new report
-        × Appends (A.contents answers.old) (A.contents answers.new) (outcome_text (reported_outcome report.answer session.new.lits.items))
-        × WroteAsk session.old.solver.var_count report.answer session.new.lits.items (Assumptions [] ∷ []) (C.contents certificate.old) (C.contents certificate.new)) }
-    ensures written { WritesBoth result (A.failures answers.old) (A.failures answers.new) (C.failures certificate.old) (C.failures certificate.new) }
+    ensures asked { OnOk result (AnsweredAsk budget session.old session.new (both A.seen C.seen out.old) (both A.seen C.seen out.new)) }
+    ensures written { WritesBoth result (both A.seen C.seen out.old) (both A.seen C.seen out.new) }
 {
-    let report = ask(session, certificate, budget)?;
-    write_answer(answers, &session.text)?;
-    record_step(certificate, &ProofStep::Assumptions { assumptions: &[] })?;
+    let report = ask(session, &mut out.certificate, budget)?;
+    write_answer(&mut out.answers, &session.text)?;
+    record_step(
+        &mut out.certificate,
+        &ProofStep::Assumptions { assumptions: &[] },
+    )?;
     session.asks.push(report)?;
     Ok(())
 }

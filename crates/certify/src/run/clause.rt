@@ -1,11 +1,13 @@
 //! Takes a clause of a script.
-ghost use Rattle.std.specs.Prelude.{◌≡◌, ◌-◌, true, map, OnOk};
+ghost use Rattle.std.specs.Prelude.{◌≡◌, true, map, OnOk};
 ghost use Rattle.sat_base.specs.script.Script.{names_of};
 ghost use Rattle.certify.specs.search.SolverState.{GainsClause};
-ghost use Rattle.certify.specs.run.Running.{WritesSteps, WroteClause, are_within, code_of, raised};
+ghost use Rattle.certify.specs.run.Outputs.{WritesSteps};
+ghost use Rattle.certify.specs.run.Running.{WroteClauseOf, are_within, code_of, raised};
 
 use super::lits::fill;
-use super::names_in::{bring_all, record_step};
+use super::names_in::bring_all;
+use super::outputs::record_step;
 use super::session::Session;
 use crate::fault::RunFault;
 use crate::script::Literal;
@@ -25,7 +27,7 @@ pub(crate) fn take_clause<C: CountedWrite>(
     ensures refused { session.new.refused ≡ session.old.refused }
     ensures asks { session.new.asks ≡ session.old.asks }
     ensures rounds { OnOk result (session.new.solver.rounds ≡ session.old.solver.rounds) }
-    ensures certificate { WritesSteps result (λ _. WroteClause (session.new.names - session.old.names) session.old.names session.old.solver (map code_of literals.now) (C.contents certificate.old) (C.contents certificate.new)) (C.failures certificate.old) (C.failures certificate.new) }
+    ensures certificate { WritesSteps result (λ _. WroteClauseOf session.old session.new literals.now) (C.seen certificate.old) (C.seen certificate.new) }
 {
     bring_all(
         &mut session.names,

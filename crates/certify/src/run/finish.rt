@@ -1,12 +1,12 @@
 //! Ends a run's answers and its certificate.
-ghost use Rattle.std.specs.Prelude.{◌≡◌, ◌+◌, ◌-◌, ◌^◌, ◌≤◌, ◌<◌, [], length, MatchResult};
+ghost use Rattle.std.specs.Prelude.{◌≡◌, ◌+◌, ◌-◌, ◌^◌, ◌≤◌, ◌<◌, [], true, length, OnOk, MatchResult};
 ghost use Rattle.sat_base.specs.script.Script.{Malformed};
 ghost use Rattle.sat_base.specs.steps.Steps.{End};
 ghost use Rattle.certify.specs.run.FinishedRun.{HasCause, malformed_at};
-ghost use Rattle.certify.specs.run.Running.{WritesAnswer, WritesStep, Ends, malformed_text};
+ghost use Rattle.certify.specs.run.Outputs.{WroteStep, WritesAnswer, WritesSteps, Ends, both};
+ghost use Rattle.certify.specs.run.Running.{IsOverlong, malformed_text};
 
-use super::ask::write_answer;
-use super::names_in::record_step;
+use super::outputs::{Outputs, record_step, write_answer};
 use crate::answers::write::push_malformed;
 use crate::fault::RunFault;
 use crate::script::Script;
@@ -14,7 +14,7 @@ use sat_base::{CountedWrite, ProofStep};
 
 /// The number that the command would have had at which the text is malformed, counted from 1.
 pub(crate) fn malformed_number(script: &Script) -> Result<Option<u64>, RunFault>
-    ensures { MatchResult result (λ number. number ≡ malformed_at (length script.now.0 + 1) script.now.1) (λ e. HasCause e ⊥ ⊥ ⊥ ((script.now.1 ≡ Malformed) × (2 ^ 64 - 1 ≤ length script.now.0)) ⊥) }
+    ensures { MatchResult result (λ m. m ≡ malformed_at (length script.now.0 + 1) script.now.1) (λ e. HasCause e ⊥ ⊥ ⊥ (IsOverlong script.now) ⊥) }
 {
     if !script.is_malformed() {
         return Ok(None);
@@ -31,7 +31,7 @@ fn write_malformed<A: CountedWrite>(
     malformed: Option<u64>,
     answers: &mut A,
 ) -> Result<(), RunFault>
-    ensures { WritesAnswer result (malformed_text malformed) (A.contents answers.old) (A.contents answers.new) (A.failures answers.old) (A.failures answers.new) }
+    ensures { WritesAnswer result (malformed_text malformed) (A.seen answers.old) (A.seen answers.new) }
 {
     match malformed {
         None => Ok(()),
@@ -44,7 +44,8 @@ fn write_malformed<A: CountedWrite>(
 }
 
 fn flush_answers<A: CountedWrite>(answers: &mut A) -> Result<(), RunFault>
-    ensures { WritesAnswer result [] (A.contents answers.old) (A.contents answers.new) (A.failures answers.old) (A.failures answers.new) }
+    ensures none { WritesAnswer result [] (A.seen answers.old) (A.seen answers.new) }
+    ensures flushed { OnOk result ((A.seen answers.new).flushed ≡ true) }
 {
     match answers.flush_counted() {
         Ok(()) => Ok(()),
@@ -54,7 +55,8 @@ fn flush_answers<A: CountedWrite>(answers: &mut A) -> Result<(), RunFault>
 
 /// Ends the certificate and writes out what waits.
 fn end_certificate<C: CountedWrite>(certificate: &mut C) -> Result<(), RunFault>
-    ensures { WritesStep result End (C.contents certificate.old) (C.contents certificate.new) (C.failures certificate.old) (C.failures certificate.new) }
+    ensures end { WritesSteps result (λ _. WroteStep End) (C.seen certificate.old) (C.seen certificate.new) }
+    ensures flushed { OnOk result ((C.seen certificate.new).flushed ≡ true) }
 {
     record_step(certificate, &ProofStep::End)?;
     match certificate.flush_counted() {
@@ -67,12 +69,11 @@ fn end_certificate<C: CountedWrite>(certificate: &mut C) -> Result<(), RunFault>
 pub(crate) fn finish<A: CountedWrite, C: CountedWrite>(
     text: &mut Vec<u8>,
     malformed: Option<u64>,
-    answers: &mut A,
-    certificate: &mut C,
+    out: &mut Outputs<A, C>,
 ) -> Result<(), RunFault>
-    ensures { Ends result (malformed_text malformed) (A.contents answers.old) (A.contents answers.new) (C.contents certificate.old) (C.contents certificate.new) (A.failures answers.old) (A.failures answers.new) (C.failures certificate.old) (C.failures certificate.new) }
+    ensures { Ends result (malformed_text malformed) (both A.seen C.seen out.old) (both A.seen C.seen out.new) }
 {
-    write_malformed(text, malformed, answers)?;
-    flush_answers(answers)?;
-    end_certificate(certificate)
+    write_malformed(text, malformed, &mut out.answers)?;
+    flush_answers(&mut out.answers)?;
+    end_certificate(&mut out.certificate)
 }

@@ -2,29 +2,17 @@
 ghost use Rattle.std.specs.Prelude.{◌≡◌, ◌+◌, ◌-◌, ◌<◌, ◌≤◌, ◌↔◌, max, true, OnOk, ℕ};
 ghost use Rattle.sat_base.specs.values.Clauses.{Valuation};
 ghost use Rattle.sat_base.specs.values.Literals.{largest};
-ghost use Rattle.sat_base.specs.steps.StepViews.{step_of};
 ghost use Rattle.certify.specs.search.SolverState.{AllowsSame};
-ghost use Rattle.certify.specs.run.Running.{Wrote, WritesStep, WritesSteps, are_within, naming, raised};
+ghost use Rattle.certify.specs.run.Outputs.{Wrote, WritesSteps};
+ghost use Rattle.certify.specs.run.Running.{are_within, naming, raised};
 ghost use Rattle.sat_base.specs.script.Script.{names_of};
 
+use super::outputs::record_step;
 use crate::fault::RunFault;
 use crate::names::Names;
 use crate::script::Literal;
 use crate::search::Solver;
-use sat_base::{CountedWrite, ProofStep, write_step};
-
-/// Writes a step of the certificate.
-pub(crate) fn record_step<C: CountedWrite>(
-    certificate: &mut C,
-    step: &ProofStep,
-) -> Result<(), RunFault>
-    ensures { WritesStep result (step_of step.now) (C.contents certificate.old) (C.contents certificate.new) (C.failures certificate.old) (C.failures certificate.new) }
-{
-    match write_step(certificate, step) {
-        Ok(()) => Ok(()),
-        Err(_) => Err(RunFault::CertificateWrite),
-    }
-}
+use sat_base::{CountedWrite, ProofStep};
 
 /// The first name never used becomes a new variable.
 fn add_name<C: CountedWrite>(
@@ -38,7 +26,7 @@ fn add_name<C: CountedWrite>(
     ensures variables { OnOk result (solver.new.var_count ≡ names.new) }
     ensures clauses { OnOk result (AllowsSame solver.old solver.new) }
     ensures rounds { OnOk result (solver.new.rounds ≡ solver.old.rounds) }
-    ensures certificate { WritesSteps result (λ _. Wrote (naming 1 names.old) (C.contents certificate.old) (C.contents certificate.new)) (C.failures certificate.old) (C.failures certificate.new) }
+    ensures certificate { WritesSteps result (λ _. Wrote (naming 1 names.old)) (C.seen certificate.old) (C.seen certificate.new) }
 {
     let var = names.add();
     record_step(
@@ -65,7 +53,7 @@ fn bring_in<C: CountedWrite>(
     ensures variables { OnOk result (solver.new.var_count ≡ names.new) }
     ensures clauses { OnOk result (AllowsSame solver.old solver.new) }
     ensures rounds { OnOk result (solver.new.rounds ≡ solver.old.rounds) }
-    ensures certificate { WritesSteps result (λ _. Wrote (naming (names.new - names.old) names.old) (C.contents certificate.old) (C.contents certificate.new)) (C.failures certificate.old) (C.failures certificate.new) }
+    ensures certificate { WritesSteps result (λ _. Wrote (naming (names.new - names.old) names.old)) (C.seen certificate.old) (C.seen certificate.new) }
 {
     for _ in names.count()..name as usize {
         add_name(names, solver, certificate)?;
@@ -86,7 +74,7 @@ pub(crate) fn bring_all<C: CountedWrite>(
     ensures variables { OnOk result (solver.new.var_count ≡ names.new) }
     ensures clauses { OnOk result (AllowsSame solver.old solver.new) }
     ensures rounds { OnOk result (solver.new.rounds ≡ solver.old.rounds) }
-    ensures certificate { WritesSteps result (λ _. Wrote (naming (names.new - names.old) names.old) (C.contents certificate.old) (C.contents certificate.new)) (C.failures certificate.old) (C.failures certificate.new) }
+    ensures certificate { WritesSteps result (λ _. Wrote (naming (names.new - names.old) names.old)) (C.seen certificate.old) (C.seen certificate.new) }
 {
     for literal in literals {
         bring_in(names, solver, certificate, literal.name)?;

@@ -3,7 +3,8 @@ ghost use Rattle.std.specs.Prelude.{◌≡◌, ◌+◌, ◌<◌, ◌≤◌, IfOk
 ghost use Rattle.sat_base.specs.values.Literals.{coded, largest};
 ghost use Rattle.certify.specs.search.SolverState.{HasModel, AllowsSame};
 ghost use Rattle.certify.specs.run.FinishedRun.{IsSpent};
-ghost use Rattle.certify.specs.run.Running.{WritesSteps, WroteDerived, IsTrueOf};
+ghost use Rattle.certify.specs.run.Outputs.{WritesSteps};
+ghost use Rattle.certify.specs.run.Running.{WroteDerived, IsTrueOf};
 ghost use Rattle.certify.specs.search.Search.{is_true};
 ghost use Rattle.certify.specs.search.SearchEnds.{Solves};
 
@@ -47,7 +48,7 @@ fn find<C: CountedWrite>(
     certificate: &mut C,
 ) -> Result<(SearchEnd, u64), RunFault>
     ensures answers { IfOk result (λ r. Solves r.0 r.1 budget solver.old solver.new) }
-    ensures certificate { WritesSteps result (λ _. WroteDerived solver.old.var_count (C.contents certificate.old) (C.contents certificate.new)) (C.failures certificate.old) (C.failures certificate.new) }
+    ensures certificate { WritesSteps result (λ _. WroteDerived solver.old.var_count) (C.seen certificate.old) (C.seen certificate.new) }
 {
     match solve(solver, budget, certificate) {
         Ok(found) => Ok(found),
@@ -72,7 +73,7 @@ pub(crate) fn solve_ask<C: CountedWrite>(
     ensures answer { IfOk result (λ report. IsTrueOf solver.new model.new.items report.answer) }
     ensures spent { IfOk result (λ report. IsSpent budget solver.old.rounds report) }
     ensures rounds { IfOk result (λ report. solver.new.rounds ≡ solver.old.rounds + report.steps) }
-    ensures certificate { WritesSteps result (λ _. WroteDerived solver.old.var_count (C.contents certificate.old) (C.contents certificate.new)) (C.failures certificate.old) (C.failures certificate.new) }
+    ensures certificate { WritesSteps result (λ _. WroteDerived solver.old.var_count) (C.seen certificate.old) (C.seen certificate.new) }
 {
     let (found, steps) = find(solver, budget, certificate)?;
     match found {

@@ -3,11 +3,13 @@ ghost use Rattle.std.specs.Prelude.{◌≡◌, ◌+◌, ◌<◌, ◌≤◌, OnOk
 ghost use Rattle.sat_base.specs.script.Judge.{PastLimit};
 ghost use Rattle.certify.specs.answers.Answers.{refused_line};
 ghost use Rattle.certify.specs.script.ScriptParts.{shown};
-ghost use Rattle.certify.specs.run.Running.{WritesAnswer, WritesBoth, Refused, Took, TookAll};
+ghost use Rattle.certify.specs.run.Outputs.{WritesAnswer, WritesBoth, both};
+ghost use Rattle.certify.specs.run.Running.{Refused, Took, TookAll};
 
-use super::ask::{answer_ask, write_answer};
+use super::ask::answer_ask;
 use super::clause::take_clause;
 use super::lits::are_within;
+use super::outputs::{Outputs, write_answer};
 use super::session::Session;
 use crate::answers::write::push_refused_limit;
 use crate::fault::RunFault;
@@ -22,7 +24,7 @@ fn refuse<A: CountedWrite>(
 ) -> Result<(), RunFault>
     requires { session.old.refused < number }
     ensures left { OnOk result (Refused session.old session.new) }
-    ensures answers { WritesAnswer result (refused_line number PastLimit) (A.contents answers.old) (A.contents answers.new) (A.failures answers.old) (A.failures answers.new) }
+    ensures answers { WritesAnswer result (refused_line number PastLimit) (A.seen answers.old) (A.seen answers.new) }
 {
     session.refused += 1;
     session.text.clear();
@@ -33,8 +35,7 @@ fn refuse<A: CountedWrite>(
 /// Takes the command of this number, counted from 1.
 fn take_command<A: CountedWrite, C: CountedWrite>(
     session: &mut Session,
-    answers: &mut A,
-    certificate: &mut C,
+    out: &mut Outputs<A, C>,
     command: Command<'_>,
     number: u64,
     budget: u64,
@@ -43,18 +44,18 @@ fn take_command<A: CountedWrite, C: CountedWrite>(
     requires refused { session.old.refused < number }
     ensures same { OnOk result (session.new.solver.var_count ≡ session.new.names) }
     ensures refused { OnOk result (session.new.refused ≤ number) }
-    ensures took { OnOk result (Took (shown command.entry) number budget session.old session.new (A.contents answers.old) (A.contents answers.new) (C.contents certificate.old) (C.contents certificate.new)) }
-    ensures written { WritesBoth result (A.failures answers.old) (A.failures answers.new) (C.failures certificate.old) (C.failures certificate.new) }
+    ensures took { OnOk result (Took (shown command.entry) number budget session.old session.new (both A.seen C.seen out.old) (both A.seen C.seen out.new)) }
+    ensures written { WritesBoth result (both A.seen C.seen out.old) (both A.seen C.seen out.new) }
 {
     match command {
         Command::Clause(literals) => {
             if !are_within(literals) {
-                return refuse(session, answers, number);
+                return refuse(session, &mut out.answers, number);
             }
-            take_clause(session, certificate, literals)
+            take_clause(session, &mut out.certificate, literals)
         }
         // An ask has no literals.
-        Command::Ask(_) => answer_ask(session, answers, certificate, budget),
+        Command::Ask(_) => answer_ask(session, out, budget),
     }
 }
 
@@ -62,26 +63,18 @@ fn take_command<A: CountedWrite, C: CountedWrite>(
 pub(crate) fn take_all<A: CountedWrite, C: CountedWrite>(
     session: &mut Session,
     script: &Script,
-    answers: &mut A,
-    certificate: &mut C,
+    out: &mut Outputs<A, C>,
     budget: u64,
 ) -> Result<(), RunFault>
     requires same { session.old.solver.var_count ≡ session.old.names }
     requires refused { session.old.refused ≡ 0 }
-    requires first { TookAll script.now budget 0 session.old (A.contents answers.old) (A.contents answers.old) (C.contents certificate.old) (C.contents certificate.old) }
-    ensures took { OnOk result (TookAll script.now budget (length script.now.0) session.new (A.contents answers.old) (A.contents answers.new) (C.contents certificate.old) (C.contents certificate.new)) }
-    ensures written { WritesBoth result (A.failures answers.old) (A.failures answers.new) (C.failures certificate.old) (C.failures certificate.new) }
+    requires first { TookAll script.now budget 0 session.old (both A.seen C.seen out.old) (both A.seen C.seen out.old) }
+    ensures took { OnOk result (TookAll script.now budget (length script.now.0) session.new (both A.seen C.seen out.old) (both A.seen C.seen out.new)) }
+    ensures written { WritesBoth result (both A.seen C.seen out.old) (both A.seen C.seen out.new) }
 {
     for place in 0..script.len() {
         let command = script.command(place);
-        take_command(
-            session,
-            answers,
-            certificate,
-            command,
-            place as u64 + 1,
-            budget,
-        )?;
+        take_command(session, out, command, place as u64 + 1, budget)?;
     }
     Ok(())
 }

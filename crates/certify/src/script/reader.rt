@@ -239,13 +239,12 @@ pub(crate) fn parse(alloc: Global, text: &[u8]) -> Result<Script, AllocError>
 /// Reads a script to the end of its text.
 pub fn read_script<R: CountedRead>(alloc: Global, reader: &mut R) -> Result<Script, ReadError>
     // The script is what the bytes that were given spell, with names past 2^28 capped at 2^28+1.
-    ensures script { IfOk result (λ script. IsScriptOf (GaveAll R.given R.ended R.remaining reader.old reader.new) script) }
-    ensures kept { OnOk result (R.failures reader.new ≡ R.failures reader.old) }
+    ensures script { IfOk result (IsScriptOf (GaveAll (R.seen reader.old) (R.seen reader.new))) }
+    ensures kept { OnOk result ((R.seen reader.new).failures ≡ (R.seen reader.old).failures) }
     // None is tried again.
-    ensures failed { IsErrOf result ReadError.Failed
-        → ReadFails R.failures R.calls reader.old reader.new }
-    ensures memory { IsErrOf result ReadError.OutOfMemory → R.failures reader.new ≡ R.failures reader.old }
-    ensures reads { R.calls reader.new ≤ R.calls reader.old + most_reads }
+    ensures failed { IsErrOf result ReadError.Failed → ReadFails (R.seen reader.old) (R.seen reader.new) }
+    ensures memory { IsErrOf result ReadError.OutOfMemory → (R.seen reader.new).failures ≡ (R.seen reader.old).failures }
+    ensures reads { (R.seen reader.new).calls ≤ (R.seen reader.old).calls + most_reads }
 {
     let text = read_whole(alloc, reader)?;
     Ok(parse(alloc, &text)?)

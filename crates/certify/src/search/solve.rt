@@ -1,8 +1,7 @@
 //! Rounds of search up to an answer.
-ghost use Rattle.std.specs.Prelude.{◌≡◌, MatchResult, IfOk};
-ghost use Rattle.sat_base.specs.device.Writing.{written_by};
+ghost use Rattle.std.specs.Prelude.{◌≡◌, IfOk};
 ghost use Rattle.certify.specs.search.Search.{IsBounded};
-ghost use Rattle.certify.specs.search.SearchEnds.{Solves, WritesDerived, conflicts, IsTrueFault};
+ghost use Rattle.certify.specs.search.SearchEnds.{Solves, WritesLearned, conflicts};
 
 use crate::search::Solver;
 use crate::search::propagate::RoundEnd;
@@ -40,9 +39,7 @@ impl From<AllocError> for SolveFault {
 #[tactic(auto, using(crate::proofs::lemmas::search::DerivedSteps::writing))]
 fn write_learned<W: CountedWrite>(solver: &Solver, proof: &mut W) -> Result<(), SolveFault>
     requires { IsBounded solver.now.var_count solver.now.learned }
-    ensures { MatchResult result
-        (λ _. WritesDerived solver.now.var_count 1 (written_by W.contents W.failures proof.old) (written_by W.contents W.failures proof.new))
-        (λ fault. IsTrueFault fault (written_by W.contents W.failures proof.old) (written_by W.contents W.failures proof.new)) }
+    ensures { WritesLearned result solver.now.var_count (λ _. 1) (W.seen proof.old) (W.seen proof.new) }
 {
     let step = ProofStep::AtClause {
         redundant: false,
@@ -64,9 +61,7 @@ pub(crate) fn solve<W: CountedWrite>(
     proof: &mut W,
 ) -> Result<(SearchEnd, u64), SolveFault>
     ensures answers { IfOk result (λ r. Solves r.0 r.1 budget solver.old solver.new) }
-    ensures writes { MatchResult result
-        (λ r. WritesDerived solver.old.var_count (conflicts r.0 r.1) (written_by W.contents W.failures proof.old) (written_by W.contents W.failures proof.new))
-        (λ fault. IsTrueFault fault (written_by W.contents W.failures proof.old) (written_by W.contents W.failures proof.new)) }
+    ensures writes { WritesLearned result solver.old.var_count (λ r. conflicts r.0 r.1) (W.seen proof.old) (W.seen proof.new) }
 {
     let mut spent = 0;
     while !solver.unsat() {

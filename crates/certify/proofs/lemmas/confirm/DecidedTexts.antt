@@ -1,9 +1,11 @@
 -- From what is decided of a script whose names are capped, to what is said of the texts that were read.
-use Rattle.std.proofs.Common.{ℕ, ◌<◌, ◌≤◌, ◌≡◌, ◌↔◌, List, [], ◌∷◌, map, refl, sym, ◌∙◌, subst, arith}
+use Rattle.std.proofs.Common.{ℕ, ◌-◌, ◌^◌, ◌<◌, ◌≤◌, ◌≡◌, ◌↔◌, length, List, [], ◌∷◌, map, refl, sym, ◌∙◌, subst, arith}
 use Rattle.std.specs.List.{AllByRecursion}
 use Rattle.sat_base.specs.script.Script.{Literal, Command, Clause, Ask, Hide, Witness, Sample, Ending, names_of, reading}
 use Rattle.sat_base.specs.script.Judge.{start}
-use Rattle.certify.specs.confirm.VerdictPromises.{IsExact, GaveRightAnswers}
+use Rattle.sat_base.specs.device.Device.{Reader, GaveAll, GaveEnough}
+use Rattle.sat_base.proofs.lemmas.device.Given.{enough_all}
+use Rattle.certify.specs.confirm.VerdictPromises.{Exact, IsSound, HasTooMany, AreRightAnswers}
 use Rattle.certify.specs.confirm.Decides.{Decides}
 use Rattle.certify.specs.script.CappedNames.{capped_command, CappedScript, capped_script, IsScriptOf}
 use Rattle.certify.specs.confirm.Matches.{MatchesCommands, Matches, OneEach, Meets, expected}
@@ -15,6 +17,7 @@ use Rattle.certify.specs.declared.verdict.Verdict.TheVariants.{Yes, No}
 use Rattle.certify.proofs.lemmas.run.FinishedRuns.{answers_held}
 use Rattle.certify.proofs.lemmas.script.CappedNames.{accepted_of-held}
 use Rattle.certify.proofs.lemmas.laws.ExpectedOutcomes.{matching_right}
+use Rattle.certify.proofs.lemmas.script.CappedReading.{counted}
 use Rattle.certify.proofs.lemmas.script.SimpleCommands.{held_good}
 use Rattle.certify.proofs.lemmas.laws.ListCheckerIsSound.{the_checking_sound}
 
@@ -79,28 +82,25 @@ decided_of v script text a c e d =
     let P : CappedScript → Type 0 = λ s. AllByRecursion CountFromOne s.0 → Decides v s a c in
     decided v text a c (subst P e d (read_counts text))
 
-pub exact : (v : Verdict) (IsScript AreAnswers IsCertificate : List ℕ → Type 0) (script : CappedScript) (a c : List ℕ) → IsScriptOf IsScript script → AreAnswers a → IsCertificate c
-    → (AllByRecursion CountFromOne script.0 → Decides v script a c) → IsExact v IsScript AreAnswers IsCertificate
-exact v IsScript AreAnswers IsCertificate script a c s ga gc d = record {
-  script = s.0;
-  answers = a;
-  certificate = c;
-  script_given = s.1;
-  answers_given = ga;
-  certificate_given = gc;
-  yes = decided_of v script s.0 a c s.2 d;
-}
+pub exact : (v : Verdict) (x y a b c d : Reader) (script : CappedScript) (answers certificate : List ℕ) → IsScriptOf (GaveAll x y) script → GaveAll a b answers → GaveAll c d certificate
+    → (AllByRecursion CountFromOne script.0 → Decides v script answers certificate) → Exact (x, y) (a, b) (c, d) v
+exact v x y a b c d script answers certificate s ga gc decides =
+    let S : List ℕ → List ℕ → List ℕ → Type 0 = λ s t u. (v ≡ Yes) ↔ Matches the_checking reading s t u in
+    enough_all x y (λ s. GaveEnough a b (λ t. GaveEnough c d (S s t))) s.0 s.1
+    (enough_all a b (λ t. GaveEnough c d (S s.0 t)) answers ga
+    (enough_all c d (S s.0 answers) certificate gc (decided_of v script s.0 answers certificate s.2 decides)))
 
-pub sound : (v : Verdict) (IsScript AreAnswers : List ℕ → Type 0) (script : CappedScript) (a c : List ℕ) → IsScriptOf IsScript script → AreAnswers a
-    → (AllByRecursion CountFromOne script.0 → Decides v script a c) → v ≡ Yes → GaveRightAnswers IsScript AreAnswers
-sound v IsScript AreAnswers script a c s ga d said =
-    let m : Matches the_checking reading s.0 a c = (decided_of v script s.0 a c s.2 d).0 said in
-    record {
-      script = s.0;
-      answers = a;
-      script_given = s.1;
-      answers_given = ga;
+pub sound : (v : Verdict) (x y a b : Reader) (script : CappedScript) (answers certificate : List ℕ) → IsScriptOf (GaveAll x y) script → GaveAll a b answers
+    → (AllByRecursion CountFromOne script.0 → Decides v script answers certificate) → IsSound (x, y) (a, b) v
+sound v x y a b script answers certificate s ga decides = λ said.
+    let m : Matches the_checking reading s.0 answers certificate = (decided_of v script s.0 answers certificate s.2 decides).0 said in
+    enough_all x y (λ s. GaveEnough a b (AreRightAnswers s)) s.0 s.1
+    (enough_all a b (AreRightAnswers s.0) answers ga record {
       outcomes = m.outcomes;
       answered = m.answered;
       right = matching_right the_checking the_checking_sound (reading s.0).0 m.outcomes m.steps m.match;
-    }
+    })
+
+-- a script of so many commands
+pub too_many : (x y : Reader) (script : CappedScript) → IsScriptOf (GaveAll x y) script → length script.0 ≡ 2 ^ 64 - 1 → GaveEnough x y HasTooMany
+too_many x y script s e = enough_all x y HasTooMany s.0 s.1 (let n = counted s.0 script s.2 in omega arith)

@@ -1,9 +1,9 @@
 -- What each command brings a run to.
 use Rattle.std.proofs.Common.{ℕ, zero, suc, ◌+◌, ◌-◌, ◌≤◌, ◌≡◌, true, false, cond, List, [], ◌∷◌, ◌++◌, map, drop, Option, Some, None, Result, Ok, Err, OnOk, refl, sym, ◌∙◌, ap, subst, arith, append_assoc, append-nil, max}
-use Rattle.std.proofs.KnownBytes.{Appends-nil, Appends-trans}
+use Rattle.sat_base.specs.device.Device.{Takes}
+use Rattle.sat_base.proofs.lemmas.device.Writes.{took_none, took_more}
 use Rattle.std.proofs.lemmas.List.{map-append}
 use Rattle.std.specs.List.{AllByRecursion, slice_get}
-use Rattle.std.specs.Io.KnownBytes.{Appends}
 use Rattle.sat_base.specs.values.Literals.{variable}
 use Rattle.sat_base.specs.values.Clauses.{Valuation, clause_true, EachTrue, EachHolds}
 use Rattle.sat_base.specs.script.Script.{Literal, Command, Clause, Ask, Ending, names_of}
@@ -19,8 +19,9 @@ use Rattle.certify.specs.answers.RightAnswers.{IsRight, AreRight}
 use Rattle.certify.specs.run.FinishedRun.{refused_count, kind_of, IsSpent, AreSpent}
 use Rattle.certify.specs.search.SolverState.{SolverState, Allows, GainsClause}
 use Rattle.certify.specs.script.CappedNames.{CappedScript}
-use Rattle.certify.specs.run.Running.{HasFirstNames, Reached, Refused, Added, Asked, Took, TookAll, Told, IsSimple, IsTrueOf, WritesAnswer, WritesSteps, WritesClause, WroteClause, WroteAsk, are_within, code_of, naming, reported_outcome, raised, steps_of}
-use Rattle.sat_base.specs.steps.Steps.{Step, Assumptions}
+use Rattle.certify.specs.run.Running.{HasFirstNames, Reached, Refused, Added, Asked, Took, TookAll, Told, IsSimple, IsTrueOf, WritesClause, WroteClauseOf, AnsweredAsk, reported_text, are_within, code_of, naming, reported_outcome, raised, steps_of}
+use Rattle.certify.specs.run.Outputs.{Both, Wrote, WritesAnswer, WritesSteps}
+use Rattle.sat_base.specs.steps.Steps.{Step}
 use Rattle.certify.specs.confirm.ListChecking.{the_checking}
 use Rattle.certify.specs.confirm.Matches.{Adds, Opens, Closes, bringing, expected, showing}
 use Rattle.certify.specs.run.Certifies.{Certifies}
@@ -200,41 +201,40 @@ reached_ask script ending budget left number old new answered before derived rep
           (further before (r.certifies (o ∷ rest)) brought (ap (λ es. Opens [] o ∷ es) (sym (append_assoc (showing r.judge [] o) (Closes ∷ []) (expected r.judge (accepted_of r.judge left) rest)))) more c);
     }
 
-pub took_refused : (r : Result (Unit {0}) RunFault) (ls : List Literal) (number budget : ℕ) (old new : Session) (a b p : Option (List ℕ)) (before after : ℕ)
-    → are_within (names_of ls) ≡ false → OnOk r (Refused old new) → WritesAnswer r (refused_line number PastLimit) a b before after → OnOk r (Took (Clause ls) number budget old new a b p p)
-took_refused (Ok x) ls number budget old new a b p before after w h t = record {
+pub took_refused : (r : Result (Unit {0}) RunFault) (ls : List Literal) (number budget : ℕ) (old new : Session) (before after : Both)
+    → are_within (names_of ls) ≡ false → OnOk r (Refused old new) → WritesAnswer r (refused_line number PastLimit) before.answers after.answers → after.certificate ≡ before.certificate → OnOk r (Took (Clause ls) number budget old new before after)
+took_refused (Ok x) ls number budget old new before after w h t e = record {
   piece = refused_line number PastLimit;
-  appended = t.0;
+  took = t;
   steps = [];
-  wrote = wrote_none p;
+  wrote = subst (λ c. Wrote [] before.certificate c) (sym e) (wrote_none before.certificate);
   reached = λ simple script ending left answered written same r. reached_refused script ending budget left number old new answered written ls simple w h r;
 }
-took_refused (Err x) ls number budget old new a b p before after w h t = tt
+took_refused (Err x) ls number budget old new before after w h t e = tt
 
-pub took_clause : (r : Result (Unit {0}) RunFault) (ls : List Literal) (number budget : ℕ) (old new : Session) (a p q : Option (List ℕ)) (before after : ℕ)
-    → are_within (names_of ls) ≡ true → OnOk r (Added ls old new) → WritesSteps r (λ _. WroteClause (new.names - old.names) old.names old.solver (map code_of ls) p q) before after → OnOk r (Took (Clause ls) number budget old new a a p q)
-took_clause (Ok x) ls number budget old new a p q before after w h t = record {
+pub took_clause : (r : Result (Unit {0}) RunFault) (ls : List Literal) (number budget : ℕ) (old new : Session) (before after : Both)
+    → are_within (names_of ls) ≡ true → OnOk r (Added ls old new) → WritesSteps r (λ _. WroteClauseOf old new ls) before.certificate after.certificate → after.answers ≡ before.answers → OnOk r (Took (Clause ls) number budget old new before after)
+took_clause (Ok x) ls number budget old new before after w h t e = record {
   piece = [];
-  appended = Appends-nil a;
-  steps = naming (new.names - old.names) old.names ++ t.0.steps;
-  wrote = t.0.wrote;
-  reached = λ simple script ending left answered written same r. reached_clause script ending budget left number old new answered written t.0.steps ls simple w h t.0.clause r;
+  took = subst (λ a. Takes before.answers a []) (sym e) (took_none before.answers);
+  steps = naming (new.names - old.names) old.names ++ t.steps;
+  wrote = t.wrote;
+  reached = λ simple script ending left answered written same r. reached_clause script ending budget left number old new answered written t.steps ls simple w h t.clause r;
 }
-took_clause (Err x) ls number budget old new a p q before after w h t = tt
+took_clause (Err x) ls number budget old new before after w h t e = tt
 
-pub took_ask : (r : Result (Unit {0}) RunFault) (ls : List Literal) (number budget : ℕ) (old new : Session) (a b p q : Option (List ℕ))
-    → OnOk r ((report : AskReport) × Asked budget old new report × Appends a b (outcome_text (reported_outcome report.answer new.lits.items)) × WroteAsk old.solver.var_count report.answer new.lits.items (Assumptions [] ∷ []) p q)
-    → OnOk r (Took (Ask ls) number budget old new a b p q)
-took_ask (Ok x) ls number budget old new a b p q h = record {
-  piece = outcome_text (reported_outcome h.0.answer new.lits.items);
-  appended = h.2;
-  steps = ask_steps h.3.derived h.0.answer new.lits.items;
-  wrote = h.3.wrote;
+pub took_ask : (r : Result (Unit {0}) RunFault) (ls : List Literal) (number budget : ℕ) (old new : Session) (before after : Both)
+    → OnOk r (AnsweredAsk budget old new before after) → OnOk r (Took (Ask ls) number budget old new before after)
+took_ask (Ok x) ls number budget old new before after h = record {
+  piece = reported_text new h.report;
+  took = h.answered;
+  steps = ask_steps h.wrote.derived h.report.answer new.lits.items;
+  wrote = h.wrote.wrote;
   reached = λ simple script ending left answered written same r.
       let P : List Literal → Type 0 = λ ks. Reached script ending budget (Ask ks ∷ left) number old answered written in
-      reached_ask script ending budget left number old new answered written h.3.derived h.0 same h.1 h.3.are_derived (subst P simple r);
+      reached_ask script ending budget left number old new answered written h.wrote.derived h.report same h.asked h.wrote.are_derived (subst P simple r);
 }
-took_ask (Err x) ls number budget old new a b p q h = tt
+took_ask (Err x) ls number budget old new before after h = tt
 
 drop_at : (cs : List Command) (i : ℕ) (c : Command) → slice_get cs i ≡ Some c → drop i cs ≡ c ∷ drop (i + 1) cs
 drop_at [] i c e = absurd (cc)
@@ -246,15 +246,15 @@ simple_at [] i c e h = absurd (cc)
 simple_at (x ∷ xs) zero c e h = let s : x ≡ c = cc in subst IsSimple s h.0
 simple_at (x ∷ xs) (suc i) c e h = simple_at xs i c e h.1
 
-pub took_next : {script : CappedScript} {budget place number : ℕ} {old new : Session} {a b d p q t : Option (List ℕ)} {command : Command}
-    → TookAll script budget place old a b p q → number ≡ place + 1 → slice_get script.0 place ≡ Some command → old.solver.var_count ≡ old.names
-    → Took command number budget old new b d q t → TookAll script budget (place + 1) new a d p t
-took_next {script} {budget} {place} {number} {old} {new} {a} {b} {d} {p} {q} {t} {command} all n e same k =
+pub took_next : {script : CappedScript} {budget place number : ℕ} {old new : Session} {a b c : Both} {command : Command}
+    → TookAll script budget place old a b → number ≡ place + 1 → slice_get script.0 place ≡ Some command → old.solver.var_count ≡ old.names
+    → Took command number budget old new b c → TookAll script budget (place + 1) new a c
+took_next {script} {budget} {place} {number} {old} {new} {a} {b} {c} {command} all n e same k =
     let P : List Command → ℕ → Type 0 = λ cs m. Reached script.0 script.1 budget cs m old all.answered all.steps in
     let Q : ℕ → Type 0 = λ m. Reached script.0 script.1 budget (drop (place + 1) script.0) (m + 1) new (all.answered ++ k.piece) (all.steps ++ k.steps) in
     record {
       answered = all.answered ++ k.piece;
-      appended = Appends-trans a b d all.answered k.piece all.appended k.appended;
+      took = took_more a.answers b.answers c.answers all.answered k.piece all.took k.took;
       steps = all.steps ++ k.steps;
       wrote = wrote_then all.wrote k.wrote;
       reached = λ simple.

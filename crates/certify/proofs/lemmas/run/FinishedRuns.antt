@@ -1,9 +1,10 @@
 -- What a run has done once all commands are taken.
-use Rattle.std.proofs.Common.{ℕ, ◌+◌, ◌-◌, ◌^◌, ◌≤◌, ◌≡◌, cond, Result, Ok, Err, IfOk, List, [], ◌∷◌, ◌++◌, map, length, Option, Some, None, is_some, inl, inr, refl, sym, ◌∙◌, ap, subst, arith, append-nil}
+use Rattle.std.proofs.Common.{ℕ, ◌+◌, ◌-◌, ◌^◌, ◌≤◌, ◌≡◌, true, cond, Result, Ok, Err, IfOk, List, [], ◌∷◌, ◌++◌, map, length, Option, Some, None, is_some, inl, inr, refl, sym, ◌∙◌, ap, subst, arith, append-nil}
 use Rattle.std.proofs.Math.Seq.{drop-length}
-use Rattle.std.proofs.KnownBytes.{Appends-nil, Appends-trans}
+use Rattle.sat_base.specs.device.Device.{Reader, Writer, Takes, GaveAll, GaveEnough, lent_writer}
+use Rattle.sat_base.proofs.lemmas.device.Given.{enough_all}
+use Rattle.sat_base.proofs.lemmas.device.Writes.{took_none, took_more}
 use Rattle.std.proofs.lemmas.List.{length-map}
-use Rattle.std.specs.Io.KnownBytes.{Appends}
 use Rattle.sat_base.specs.script.Script.{Command, Ending, Clean, Malformed, written, reading}
 use Rattle.sat_base.specs.script.Judge.{Judge, Refusal, refusal_of, after_command, accepted_of, start}
 use Rattle.sat_base.specs.steps.Steps.{Step, End}
@@ -17,11 +18,14 @@ use Rattle.certify.specs.search.SolverState.{new_solver}
 use Rattle.certify.specs.confirm.ListChecking.{the_checking}
 use Rattle.certify.specs.confirm.Matches.{expected, finish}
 use Rattle.certify.specs.run.Certifies.{Certifies, complete, ordered}
-use Rattle.certify.specs.script.CappedNames.{capped_command, CappedScript, capped_script, IsScriptOf, IsMalformedBehind}
-use Rattle.std.specs.Prelude.{MatchResult, IfErr, IsErrOf, ◌⊎◌}
+use Rattle.certify.specs.script.CappedNames.{capped_command, CappedScript, capped_script, IsScriptOf}
+use Rattle.std.specs.Prelude.{OnOk, IsErrOf, ◌⊎◌}
+use Rattle.std.specs.List.{AllByRecursion}
 use Rattle.certify.specs.declared.fault.RunFault.TheVariants as fault
-use Rattle.certify.specs.run.FinishedRun.{HasCause, RunOf, Finished, FinishesText, refused_count, malformed_at}
-use Rattle.certify.specs.run.Running.{HasFirstNames, Reached, TookAll, WroteStep, Finishes, FailsOnce, malformed_text}
+use Rattle.certify.specs.run.FinishedRun.{RunOf, Answers, Answered, Backs, Backed, HasNoNumber, WriteFails, refused_count, malformed_at}
+use Rattle.certify.specs.Calls.{NoneFailed, OneFailed}
+use Rattle.certify.specs.run.Outputs.{Both, Ended, AnswersAll, FailsOnce, pair}
+use Rattle.certify.specs.run.Running.{HasFirstNames, Reached, TookAll, Finishes, Done, SumsUp, IsNew, IsOverlong, IsSimple, malformed_text}
 use Rattle.certify.proofs.lemmas.script.CappedNames.{refusal_of-held, uncapped, after_command-held, accepted_of-held}
 use Rattle.certify.proofs.lemmas.run.CertifiedPieces.{told_start}
 use Rattle.certify.proofs.lemmas.run.FirstNames.{start_plain}
@@ -29,12 +33,12 @@ use Rattle.certify.proofs.lemmas.script.SimpleCommands.{held_good}
 use Rattle.certify.proofs.lemmas.script.CappedReading.{counted}
 use Rattle.certify.proofs.lemmas.run.WrittenSteps.{wrote_none, wrote_step, wrote_then}
 
-pub took_none : (script : CappedScript) (budget : ℕ) (s : Session) (a p : Option (List ℕ)) → s.names ≡ 0 → s.solver ≡ new_solver → s.refused ≡ 0 → s.asks.items ≡ [] → TookAll script budget 0 s a a p p
-took_none script budget s a p names solver refused asks = record {
+pub took_nothing : (script : CappedScript) (budget : ℕ) (s : Session) (a : Both) → IsNew s → TookAll script budget 0 s a a
+took_nothing script budget s a new = let names = new.names in let solver = new.solver in let refused = new.refused in let asks = new.asks in record {
   answered = [];
-  appended = Appends-nil a;
+  took = took_none a.answers;
   steps = [];
-  wrote = wrote_none p;
+  wrote = wrote_none a.certificate;
   reached = λ simple. record {
     judge = start;
     done = [];
@@ -77,19 +81,21 @@ run_reached script ending count budget number s summary answered certified steps
     }
 
 -- after the last command
-pub finishes : (script : CappedScript) (budget : ℕ) (s : Session) (summary : Summary) (a b d p q t : Option (List ℕ))
-    → TookAll script budget (length script.0) s a b p q → Appends b d (malformed_text summary.malformed) → WroteStep End q t
-    → summary.commands ≡ script.2 → summary.refused ≡ s.refused → summary.malformed ≡ malformed_at (length script.0 + 1) script.1 → summary.asks ≡ s.asks
-    → Finishes script budget summary a d p t
-finishes script budget s summary a b d p q t took last ended commands refused malformed asks =
-    let w = wrote_then took.wrote (wrote_step ended) in
+pub finishes : (script : CappedScript) (budget : ℕ) (s : Session) (malformed : Option ℕ) (a b c : Both)
+    → TookAll script budget (length script.0) s a b → Ended (malformed_text malformed) b c → malformed ≡ malformed_at (length script.0 + 1) script.1
+    → Done script budget malformed s a c
+finishes script budget s malformed a b c took ended at = λ summary commands refused same asks.
+    let last : Takes b.answers c.answers (malformed_text summary.malformed) = subst (λ m. Takes b.answers c.answers (malformed_text m)) (sym same) ended.answers in
+    let w = wrote_then took.wrote (wrote_step ended.certificate) in
     let P : List Command → Type 0 = λ cs. Reached script.0 script.1 budget cs (length script.0 + 1) s took.answered took.steps in
     record {
       answered = took.answered ++ malformed_text summary.malformed;
-      answers = Appends-trans a b d took.answered (malformed_text summary.malformed) took.appended last;
+      answers = took_more a.answers b.answers c.answers took.answered (malformed_text summary.malformed) took.took last;
       certified = w.text;
-      certificate = w.appended;
-      run = λ simple. run_reached script.0 script.1 script.2 budget (length script.0 + 1) s summary took.answered w.text took.steps (subst P (drop-length script.0) (took.reached simple)) refl w.spelt commands refused malformed asks;
+      certificate = w.took;
+      answers_flushed = ended.answers_flushed;
+      certificate_flushed = ended.certificate_flushed;
+      run = λ simple. run_reached script.0 script.1 script.2 budget (length script.0 + 1) s summary took.answered w.text took.steps (subst P (drop-length script.0) (took.reached simple)) refl w.spelt commands refused (same ∙ at) asks;
     }
 
 -- capped names change none of it
@@ -133,61 +139,165 @@ run_held cs ending count budget summary answered certified r =
       spent = r.spent;
     }
 
-pub finished : (text : List ℕ) (script : CappedScript) (budget : ℕ) (summary : Summary) (a b p q : Option (List ℕ)) → script ≡ capped_script text → Finishes script budget summary a b p q → Finished text budget summary a b p q
-finished text script budget summary a b p q e f =
-    let P : CappedScript → Type 0 = λ s. Finishes s budget summary a b p q in
-    let h = subst P e f in
-    record {
-      answered = h.answered;
-      answers = h.answers;
-      certified = h.certified;
-      certificate = h.certificate;
-      run = run_held (reading text).0 (reading text).1 (length (written text).0) budget summary h.answered h.certified (h.run (held_good text));
-    }
+-- what a finished run of a text wrote and says
+run_of : (text : List ℕ) (script : CappedScript) (budget : ℕ) (summary : Summary) (answered certified : List ℕ) → script ≡ capped_script text
+    → (AllByRecursion IsSimple script.0 → RunOf script.0 script.1 script.2 budget summary answered certified)
+    → RunOf (reading text).0 (reading text).1 (length (written text).0) budget summary answered certified
+run_of text script budget summary answered certified e run =
+    let P : CappedScript → Type 0 = λ s. AllByRecursion IsSimple s.0 → RunOf s.0 s.1 s.2 budget summary answered certified in
+    run_held (reading text).0 (reading text).1 (length (written text).0) budget summary answered certified (subst P e run (held_good text))
 
-pub finished_if : (IsText : List ℕ → Type 0) (r : Result Summary RunFault) (script : CappedScript) (budget : ℕ) (a b p q : Option (List ℕ)) → IsScriptOf IsText script
-    → IfOk r (λ summary. Finishes script budget summary a b p q) → IfOk r (λ summary. FinishesText IsText budget summary a b p q)
-finished_if IsText (Ok summary) script budget a b p q e f = (e.0, e.1, finished e.0 script budget summary a b p q e.2 f)
-finished_if IsText (Err x) script budget a b p q e f = tt
+pub answered_if : (r : Result Summary RunFault) (script : CappedScript) (budget : ℕ) (x y : Reader) (a b : Both) → IsScriptOf (GaveAll x y) script
+    → IfOk r (λ summary. Finishes script budget summary a b) → IfOk r (λ summary. Answered budget summary (x, y) (a.answers, b.answers))
+answered_if (Ok summary) script budget x y a b e f =
+    let run = run_of e.0 script budget summary f.answered f.certified e.2 f.run in
+    let says : Answers e.0 budget summary f.answered = record {
+      outcomes = run.outcomes;
+      right = run.right;
+      answers = run.answers;
+      commands = run.commands;
+      refused = run.refused;
+      malformed = run.malformed;
+      kinds = run.kinds;
+      spent = run.spent;
+    } in
+    enough_all x y (λ text. (answered : List ℕ) × Takes a.answers b.answers answered × Answers text budget summary answered) e.0 e.1 (f.answered, f.answers, says)
+answered_if (Err fault) script budget x y a b e f = tt
 
-pub too_many : (IsText : List ℕ → Type 0) (script : CappedScript) → IsScriptOf IsText script → (script.1 ≡ Malformed) × (2 ^ 64 - 1 ≤ length script.0) → IsMalformedBehind IsText (2 ^ 64 - 1)
-too_many IsText script e h =
-    let m : (reading e.0).1 ≡ Malformed = sym (ap (λ (s : CappedScript). s.1) e.2) ∙ h.0 in
-    counted (λ text. IsText text × ((reading text).1 ≡ Malformed)) script (2 ^ 64 - 1) (e.0, (e.1, m), e.2) h.1
+pub backed_if : (r : Result Summary RunFault) (script : CappedScript) (budget : ℕ) (x y : Reader) (a b : Both) → IsScriptOf (GaveAll x y) script
+    → IfOk r (λ summary. Finishes script budget summary a b) → OnOk r (Backed (x, y) (a.answers, b.answers) (a.certificate, b.certificate))
+backed_if (Ok summary) script budget x y a b e f =
+    let run = run_of e.0 script budget summary f.answered f.certified e.2 f.run in
+    let backs : Backs e.0 f.answered f.certified = record {
+      outcomes = run.outcomes;
+      right = run.right;
+      answers = run.answers;
+      steps = run.steps;
+      certificate = run.certificate;
+      certifies = run.certifies;
+    } in
+    enough_all x y (λ text. (answered : List ℕ) × (certified : List ℕ) × Takes a.answers b.answers answered × Takes a.certificate b.certificate certified × Backs text answered certified)
+    e.0 e.1 (f.answered, f.certified, f.answers, f.certificate, backs)
+backed_if (Err fault) script budget x y a b e f = tt
 
--- the cause of a fault behind the script
-once_behind : (e : RunFault) (script many more : Type 0) (a a' c c' : ℕ) → (many → more) → FailsOnce e many a a' c c'
-    → HasCause e script (a' ≡ a + 1) (c' ≡ c + 1) more ((a' ≡ a) × (c' ≡ c))
-once_behind fault.ScriptRead script many more a a' c c' f h = absurd h
-once_behind fault.AnswersWrite script many more a a' c c' f h = h.0
-once_behind fault.CertificateWrite script many more a a' c c' f h = h.0
-once_behind fault.OutOfMemory script many more a a' c c' f h = h
-once_behind fault.StoreFull script many more a a' c c' f h = absurd h
-once_behind fault.CounterEnd script many more a a' c c' f h = f h.0
+pub flushed_if : (r : Result Summary RunFault) (script : CappedScript) (budget : ℕ) (a b : Both) → IfOk r (λ summary. Finishes script budget summary a b)
+    → OnOk r ((b.answers.flushed ≡ true) × (b.certificate.flushed ≡ true))
+flushed_if (Ok summary) script budget a b f = (f.answers_flushed, f.certificate_flushed)
+flushed_if (Err fault) script budget a b f = tt
 
-pub run_fault : (r : Result Summary RunFault) (ok : Summary → Type 0) (script many more : Type 0) (a a' c c' : ℕ) → (many → more)
-    → MatchResult r ok (λ e. FailsOnce e many a a' c c') → IfErr r (λ e. HasCause e script (a' ≡ a + 1) (c' ≡ c + 1) more ((a' ≡ a) × (c' ≡ c)))
-run_fault (Ok x) ok script many more a a' c c' f h = tt
-run_fault (Err e) ok script many more a a' c c' f h = once_behind e script many more a a' c c' f h
+overlong : (text : List ℕ) (script : CappedScript) → script ≡ capped_script text → IsOverlong script → HasNoNumber text
+overlong text script e h =
+    let P : CappedScript → Type 0 = IsOverlong in
+    let k = subst P e h in
+    (k.0, subst (λ n. 2 ^ 64 - 1 ≤ n) (length-map (reading text).0 capped_command) k.1)
+
+-- what a fault says of both writers
+pub no_script_fault : (r : Result Summary RunFault) (many : Type 0) (a b : Both) → AnswersAll r many a b → IsErrOf r fault.ScriptRead → ⊥
+no_script_fault (Ok x) many a b h k = absurd (cc)
+no_script_fault (Err e) many a b h k = let m : e ≡ fault.ScriptRead = cc in subst (λ f. FailsOnce f many a b) m h
+
+pub answers_fault : (r : Result Summary RunFault) (many : Type 0) (a b : Both) → AnswersAll r many a b → IsErrOf r fault.AnswersWrite → WriteFails a.answers b.answers
+answers_fault (Ok x) many a b h k = absurd (cc)
+answers_fault (Err e) many a b h k = let m : e ≡ fault.AnswersWrite = cc in let x = subst (λ f. FailsOnce f many a b) m h in (x.0.0, x.0.1)
+
+pub certificate_fault : (r : Result Summary RunFault) (many : Type 0) (a b : Both) → AnswersAll r many a b → IsErrOf r fault.CertificateWrite → WriteFails a.certificate b.certificate
+certificate_fault (Ok x) many a b h k = absurd (cc)
+certificate_fault (Err e) many a b h k = let m : e ≡ fault.CertificateWrite = cc in let x = subst (λ f. FailsOnce f many a b) m h in (x.0.0, x.0.1)
+
+pub no_full_store : (r : Result Summary RunFault) (many : Type 0) (a b : Both) → AnswersAll r many a b → IsErrOf r fault.StoreFull → ⊥
+no_full_store (Ok x) many a b h k = absurd (cc)
+no_full_store (Err e) many a b h k = let m : e ≡ fault.StoreFull = cc in subst (λ f. FailsOnce f many a b) m h
+
+pub counter_ends : (r : Result Summary RunFault) (script : CappedScript) (x y : Reader) (a b : Both) → IsScriptOf (GaveAll x y) script → AnswersAll r (IsOverlong script) a b
+    → IsErrOf r fault.CounterEnd → GaveEnough x y HasNoNumber
+counter_ends (Ok s) script x y a b e h k = absurd (cc)
+counter_ends (Err f) script x y a b e h k =
+    let m : f ≡ fault.CounterEnd = cc in
+    let late = subst (λ f. FailsOnce f (IsOverlong script) a b) m h in
+    enough_all x y HasNoNumber e.0 e.1 (overlong e.0 script e.2 late.0)
 
 -- no call of a writer failed where its fault isn't the answer
-abbrev Same : ℕ → ℕ → ℕ → ℕ → Summary → Type 0
-Same a a' c c' summary = (a' ≡ a) × (c' ≡ c)
+pub kept_answers : (r : Result Summary RunFault) (many : Type 0) (a b : Both) → AnswersAll r many a b → IsErrOf r fault.AnswersWrite ⊎ (b.answers.failures ≡ a.answers.failures)
+kept_answers (Ok x) many a b h = inr h.0.0
+kept_answers (Err fault.ScriptRead) many a b h = absurd h
+kept_answers (Err fault.AnswersWrite) many a b h = inl refl
+kept_answers (Err fault.CertificateWrite) many a b h = inr h.1.0
+kept_answers (Err fault.OutOfMemory) many a b h = inr h.0.0
+kept_answers (Err fault.StoreFull) many a b h = absurd h
+kept_answers (Err fault.CounterEnd) many a b h = inr h.1.0.0
 
-pub kept_answers : (r : Result Summary RunFault) (many : Type 0) (a a' c c' : ℕ) → MatchResult r (Same a a' c c') (λ e. FailsOnce e many a a' c c') → IsErrOf r fault.AnswersWrite ⊎ (a' ≡ a)
-kept_answers (Ok x) many a a' c c' h = inr h.0
-kept_answers (Err fault.ScriptRead) many a a' c c' h = absurd h
-kept_answers (Err fault.AnswersWrite) many a a' c c' h = inl refl
-kept_answers (Err fault.CertificateWrite) many a a' c c' h = inr h.1
-kept_answers (Err fault.OutOfMemory) many a a' c c' h = inr h.0
-kept_answers (Err fault.StoreFull) many a a' c c' h = absurd h
-kept_answers (Err fault.CounterEnd) many a a' c c' h = inr h.1
+pub kept_certificate : (r : Result Summary RunFault) (many : Type 0) (a b : Both) → AnswersAll r many a b → IsErrOf r fault.CertificateWrite ⊎ (b.certificate.failures ≡ a.certificate.failures)
+kept_certificate (Ok x) many a b h = inr h.1.0
+kept_certificate (Err fault.ScriptRead) many a b h = absurd h
+kept_certificate (Err fault.AnswersWrite) many a b h = inr h.1.0
+kept_certificate (Err fault.CertificateWrite) many a b h = inl refl
+kept_certificate (Err fault.OutOfMemory) many a b h = inr h.1.0
+kept_certificate (Err fault.StoreFull) many a b h = absurd h
+kept_certificate (Err fault.CounterEnd) many a b h = inr h.1.1.0
 
-pub kept_certificate : (r : Result Summary RunFault) (many : Type 0) (a a' c c' : ℕ) → MatchResult r (Same a a' c c') (λ e. FailsOnce e many a a' c c') → IsErrOf r fault.CertificateWrite ⊎ (c' ≡ c)
-kept_certificate (Ok x) many a a' c c' h = inr h.1
-kept_certificate (Err fault.ScriptRead) many a a' c c' h = absurd h
-kept_certificate (Err fault.AnswersWrite) many a a' c c' h = inr h.1
-kept_certificate (Err fault.CertificateWrite) many a a' c c' h = inl refl
-kept_certificate (Err fault.OutOfMemory) many a a' c c' h = inr h.1
-kept_certificate (Err fault.StoreFull) many a a' c c' h = absurd h
-kept_certificate (Err fault.CounterEnd) many a a' c c' h = inr h.2
+-- LENT WRITERS
+
+loans_failed : (e : RunFault) (many : Type 0) (a b : Both) → FailsOnce e many a b → (b.answers.loans ≡ a.answers.loans) × (b.certificate.loans ≡ a.certificate.loans)
+loans_failed fault.ScriptRead many a b h = absurd h
+loans_failed fault.AnswersWrite many a b h = (h.0.2, h.1.1)
+loans_failed fault.CertificateWrite many a b h = (h.1.1, h.0.2)
+loans_failed fault.OutOfMemory many a b h = (h.0.1, h.1.1)
+loans_failed fault.StoreFull many a b h = absurd h
+loans_failed fault.CounterEnd many a b h = (h.1.0.1, h.1.1.1)
+
+loans_kept : (r : Result Summary RunFault) (many : Type 0) (a b : Both) → AnswersAll r many a b → (b.answers.loans ≡ a.answers.loans) × (b.certificate.loans ≡ a.certificate.loans)
+loans_kept (Ok s) many a b h = (h.0.1, h.1.1)
+loans_kept (Err e) many a b h = loans_failed e many a b h
+
+unlent_names : (a b : Writer) (given back : ℕ) → (lent_writer back b).loans ≡ (lent_writer given a).loans → given ≡ back
+unlent_names a b given back loans = let h : ◌≡◌ {A = List ℕ} (back ∷ b.loans) (given ∷ a.loans) = loans in cc
+
+unlent_loans : (a b : Writer) (given back : ℕ) → (lent_writer back b).loans ≡ (lent_writer given a).loans → b.loans ≡ a.loans
+unlent_loans a b given back loans = let h : ◌≡◌ {A = List ℕ} (back ∷ b.loans) (given ∷ a.loans) = loans in cc
+
+unlent_takes : (a b : Writer) (given back : ℕ) (text : List ℕ) → Takes (lent_writer given a) (lent_writer back b) text → Takes a b text
+unlent_takes a b given back text p = record { taken = p.taken; told = p.told; failures = p.failures; calls = p.calls; loans = unlent_loans a b given back p.loans }
+
+unlent_none : (a b : Writer) (given back : ℕ) → NoneFailed (lent_writer given a) (lent_writer back b) → NoneFailed a b
+unlent_none a b given back p = (p.0, unlent_loans a b given back p.1)
+
+unlent_one : (a b : Writer) (given back : ℕ) → OneFailed (lent_writer given a) (lent_writer back b) → OneFailed a b
+unlent_one a b given back p = (p.0, p.1, unlent_loans a b given back p.2)
+
+-- the certificate's writer was lent
+module _ (x y a b : Writer) (given back : ℕ) where
+  lent_fault : (e : RunFault) (many : Type 0) → FailsOnce e many (pair x (lent_writer given a)) (pair y (lent_writer back b)) → FailsOnce e many (pair x a) (pair y b)
+  lent_fault fault.ScriptRead many h = h
+  lent_fault fault.AnswersWrite many h = (h.0, unlent_none a b given back h.1)
+  lent_fault fault.CertificateWrite many h = (unlent_one a b given back h.0, h.1)
+  lent_fault fault.OutOfMemory many h = (h.0, unlent_none a b given back h.1)
+  lent_fault fault.StoreFull many h = h
+  lent_fault fault.CounterEnd many h = (h.0, (h.1.0, unlent_none a b given back h.1.1))
+
+  lent_all : (r : Result Summary RunFault) (many : Type 0) → AnswersAll r many (pair x (lent_writer given a)) (pair y (lent_writer back b)) → AnswersAll r many (pair x a) (pair y b)
+  lent_all (Ok s) many h = (h.0, unlent_none a b given back h.1)
+  lent_all (Err e) many h = lent_fault e many h
+
+  lent_done : (r : Result Summary RunFault) (script : CappedScript) (budget : ℕ) → IfOk r (λ s. Finishes script budget s (pair x (lent_writer given a)) (pair y (lent_writer back b)))
+      → IfOk r (λ s. Finishes script budget s (pair x a) (pair y b))
+  lent_done (Ok s) script budget f = record {
+    answered = f.answered;
+    answers = f.answers;
+    certified = f.certified;
+    certificate = unlent_takes a b given back f.certified f.certificate;
+    answers_flushed = f.answers_flushed;
+    certificate_flushed = f.certificate_flushed;
+    run = f.run;
+  }
+  lent_done (Err e) script budget f = tt
+
+-- given back, it is what it was at the end of the loan
+pub sums_up_lent : {C : Type 0} (seen : C → Writer) (x y : Writer) (a z v : C) (given back : ℕ) → (given ≡ back → z ≡ v) → (r : Result Summary RunFault) (script : CappedScript) (budget : ℕ)
+    → SumsUp r script budget (pair x (lent_writer given (seen a))) (pair y (lent_writer back (seen v))) → SumsUp r script budget (pair x (seen a)) (pair y (seen z))
+sums_up_lent {C} seen x y a z v given back same r script budget h =
+    let many : Type 0 = IsOverlong script in
+    let is_back : z ≡ v = same (unlent_names (seen a) (seen v) given back (loans_kept r many (pair x (lent_writer given (seen a))) (pair y (lent_writer back (seen v))) h.failures).1) in
+    subst (λ (w : C). SumsUp r script budget (pair x (seen a)) (pair y (seen w))) (sym is_back) record {
+      finishes = lent_done x y (seen a) (seen v) given back r script budget h.finishes;
+      failures = lent_all x y (seen a) (seen v) given back r many h.failures;
+    }

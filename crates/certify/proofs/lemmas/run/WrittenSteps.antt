@@ -1,11 +1,13 @@
 -- Steps written one after another.
 use Rattle.std.proofs.Common.{ℕ, zero, suc, ◌+◌, ◌-◌, ◌≤◌, ◌≡◌, true, List, [], ◌∷◌, ◌++◌, Option, Some, refl, sym, ◌∙◌, ap, subst, arith, append_assoc, append-nil}
 use Rattle.std.proofs.lemmas.Bool.{both_ways}
-use Rattle.std.proofs.KnownBytes.{Appends-nil, Appends-trans}
+use Rattle.sat_base.specs.device.Device.{Writer}
+use Rattle.sat_base.proofs.lemmas.device.Writes.{took_none, took_more}
 use Rattle.sat_base.specs.steps.Formats.{Format, Items}
 use Rattle.sat_base.specs.steps.Steps.{Step, UserVarName, AddClause, Assumptions}
 use Rattle.sat_base.specs.steps.StepText.{SpellsStep}
-use Rattle.certify.specs.run.Running.{Wrote, WroteStep, WroteDerived, WroteAsk, WroteClause, written, unwritten, naming, shown_by}
+use Rattle.certify.specs.run.Outputs.{Wrote, WroteStep}
+use Rattle.certify.specs.run.Running.{WroteDerived, WroteAsk, WroteClause, written, unwritten, naming, shown_by}
 use Rattle.certify.specs.search.SolverState.{SolverState, AllowsSame}
 use Rattle.certify.specs.search.KeptClauses.{IsNormalOf}
 use Rattle.certify.specs.declared.summary.Answer.{Answer}
@@ -18,20 +20,20 @@ items_then F (x ∷ xs) ys a b p q = (p.0, p.1 ++ b, p.2, items_then F xs ys p.1
 items_one : {A : Type 0} (F : Format A) (x : A) (a : List ℕ) → F x a → Items F (x ∷ []) a
 items_one F x a h = (a, [], h, refl, sym (append-nil a))
 
-pub wrote_none : (a : Option (List ℕ)) → Wrote [] a a
-wrote_none a = record { text = []; spelt = refl; appended = Appends-nil a }
+pub wrote_none : (a : Writer) → Wrote [] a a
+wrote_none a = record { text = []; spelt = refl; took = took_none a }
 
-pub wrote_then : {xs ys : List Step} {a b c : Option (List ℕ)} → Wrote xs a b → Wrote ys b c → Wrote (xs ++ ys) a c
+pub wrote_then : {xs ys : List Step} {a b c : Writer} → Wrote xs a b → Wrote ys b c → Wrote (xs ++ ys) a c
 wrote_then {xs} {ys} {a} {b} {c} p q = record {
   text = p.text ++ q.text;
   spelt = items_then SpellsStep xs ys p.text q.text p.spelt q.spelt;
-  appended = Appends-trans a b c p.text q.text p.appended q.appended;
+  took = took_more a b c p.text q.text p.took q.took;
 }
 
-pub wrote_step : {step : Step} {a b : Option (List ℕ)} → WroteStep step a b → Wrote (step ∷ []) a b
-wrote_step {step} {a} {b} h = record { text = h.text; spelt = items_one SpellsStep step h.text h.spelt; appended = h.appended }
+pub wrote_step : {step : Step} {a b : Writer} → WroteStep step a b → Wrote (step ∷ []) a b
+wrote_step {step} {a} {b} h = record { text = h.text; spelt = items_one SpellsStep step h.text h.spelt; took = h.took }
 
-pub wrote_as : {xs ys : List Step} {a b : Option (List ℕ)} → xs ≡ ys → Wrote xs a b → Wrote ys a b
+pub wrote_as : {xs ys : List Step} {a b : Writer} → xs ≡ ys → Wrote xs a b → Wrote ys a b
 wrote_as {xs} {ys} {a} {b} e h = subst (λ zs. Wrote zs a b) e h
 
 -- names that are brought in one after another
@@ -42,26 +44,26 @@ naming_then (suc m) n v =
     let f : v + 1 + m ≡ v + suc m = omega arith in
     rw e (ap (λ xs. UserVarName v (Some v) ∷ xs) (naming_then m n (v + 1) ∙ ap (λ x. naming m (v + 1) ++ naming n x) f))
 
-pub wrote_no_names : (n : ℕ) (a : Option (List ℕ)) → Wrote (naming (n - n) n) a a
+pub wrote_no_names : (n : ℕ) (a : Writer) → Wrote (naming (n - n) n) a a
 wrote_no_names n a = let e : n - n ≡ 0 = omega arith in rw e (wrote_none a)
 
-pub wrote_names : {first mid last : ℕ} {a b c : Option (List ℕ)} → first ≤ mid → mid ≤ last → Wrote (naming (mid - first) first) a b → Wrote (naming (last - mid) mid) b c → Wrote (naming (last - first) first) a c
+pub wrote_names : {first mid last : ℕ} {a b c : Writer} → first ≤ mid → mid ≤ last → Wrote (naming (mid - first) first) a b → Wrote (naming (last - mid) mid) b c → Wrote (naming (last - first) first) a c
 wrote_names {first} {mid} {last} {a} {b} {c} p q x y =
     let at : first + (mid - first) ≡ mid = omega arith in
     let all : (mid - first) + (last - mid) ≡ last - first = omega arith in
     wrote_as (ap (λ v. naming (mid - first) first ++ naming (last - mid) v) (sym at) ∙ sym (naming_then (mid - first) (last - mid) first) ∙ ap (λ n. naming n first) all) (wrote_then x y)
 
 -- one name more
-pub wrote_name : {first mid last : ℕ} {a b c : Option (List ℕ)} → first ≤ mid → last ≡ mid + 1 → Wrote (naming (mid - first) first) a b → Wrote (naming 1 mid) b c → Wrote (naming (last - first) first) a c
+pub wrote_name : {first mid last : ℕ} {a b c : Writer} → first ≤ mid → last ≡ mid + 1 → Wrote (naming (mid - first) first) a b → Wrote (naming 1 mid) b c → Wrote (naming (last - first) first) a c
 wrote_name {first} {mid} {last} {a} {b} {c} p q x y =
     let one : 1 ≡ last - mid = omega arith in
     wrote_names p (omega arith) x (wrote_as (ap (λ n. naming n mid) one) y)
 
 -- a clause behind its names, or the names alone
-pub wrote_clause : {count v : ℕ} {s t : SolverState} {clause normal : List ℕ} {a b c : Option (List ℕ)} → AllowsSame s t → IsNormalOf clause normal → Wrote (naming count v) a b → WroteStep (AddClause normal) b c → WroteClause count v s clause a c
+pub wrote_clause : {count v : ℕ} {s t : SolverState} {clause normal : List ℕ} {a b c : Writer} → AllowsSame s t → IsNormalOf clause normal → Wrote (naming count v) a b → WroteStep (AddClause normal) b c → WroteClause count v s clause a c
 wrote_clause {normal = normal} same n names step = record { steps = AddClause normal ∷ []; clause = written n; wrote = wrote_then names (wrote_step step) }
 
-pub left_clause : {count v : ℕ} {s t : SolverState} {clause : List ℕ} {a b : Option (List ℕ)} → AllowsSame s t → t.unsat ≡ true → Wrote (naming count v) a b → WroteClause count v s clause a b
+pub left_clause : {count v : ℕ} {s t : SolverState} {clause : List ℕ} {a b : Writer} → AllowsSame s t → t.unsat ≡ true → Wrote (naming count v) a b → WroteClause count v s clause a b
 left_clause {count} {v} {t = t} same is names = record {
   steps = [];
   clause = unwritten (record { none = λ a h. both_ways t.unsat (same.onwards a h).0 is });
@@ -69,14 +71,14 @@ left_clause {count} {v} {t = t} same is names = record {
 }
 
 -- an ask is opened, shown, and closed
-pub wrote_ask : {n : ℕ} {answer : Answer} {line : List ℕ} {a b c d : Option (List ℕ)} → WroteStep (Assumptions []) a b → WroteDerived n b c → Wrote (shown_by answer line) c d → WroteAsk n answer line [] a d
+pub wrote_ask : {n : ℕ} {answer : Answer} {line : List ℕ} {a b c d : Writer} → WroteStep (Assumptions []) a b → WroteDerived n b c → Wrote (shown_by answer line) c d → WroteAsk n answer line [] a d
 wrote_ask {n} {answer} {line} {a} {b} {c} {d} opened w shown = record {
   derived = w.derived;
   are_derived = w.are_derived;
   wrote = wrote_as (ap (λ xs. Assumptions [] ∷ (w.derived ++ xs)) (sym (append-nil (shown_by answer line)))) (wrote_then (wrote_step opened) (wrote_then w.wrote shown));
 }
 
-pub wrote_asked : {n : ℕ} {answer : Answer} {line : List ℕ} {a b c : Option (List ℕ)} → WroteAsk n answer line [] a b → WroteStep (Assumptions []) b c → WroteAsk n answer line (Assumptions [] ∷ []) a c
+pub wrote_asked : {n : ℕ} {answer : Answer} {line : List ℕ} {a b c : Writer} → WroteAsk n answer line [] a b → WroteStep (Assumptions []) b c → WroteAsk n answer line (Assumptions [] ∷ []) a c
 wrote_asked {n} {answer} {line} {a} {b} {c} w closed = record {
   derived = w.derived;
   are_derived = w.are_derived;

@@ -7,7 +7,7 @@ use Rattle.std.proofs.lemmas.Bool.Decides.{nat_tests}
 use Rattle.sat_base.specs.text.Text.{Token, Number, Letter, Header, Wrong, header_first, header_from, header_of, scan, tokens}
 use Rattle.sat_base.specs.text.Tokenizing as base
 use Rattle.sat_base.specs.script.Script.{Literal, Command, Clause, Ask, Hide, Witness, Sample, Clean, Hand, Nothing, InClause, InAsk, Turn, GoesOn, Ends, Fails, command_in, with_literal, with_letter, turn, Reading, onto_commands, at_end, behind_turn, commands_of, spoken, has_ask, is_clean, written, reading}
-use Rattle.certify.specs.script.CappedNames.{capped_name, capped_literal, capped_command, capped_reading, CappedScript, capped_script, IsScriptOf, HasCommands}
+use Rattle.certify.specs.script.CappedNames.{capped_name, capped_literal, capped_command, capped_reading, CappedScript, capped_script}
 use Rattle.certify.specs.script.ScriptReading.{capped_token, token_of, any_header, asked_if, capped_tokens}
 use Rattle.sat_base.proofs.lemmas.text.HeaderFirst.{IsWord, AreWords, AreScript, text_is}
 
@@ -162,11 +162,8 @@ reading-held text =
     ∙ ap (asked_if (any_header (capped_tokens (scan text)))) (written-held text)
 
 -- the commands with capped names are as many
-pub counted : (IsText : List ℕ → Type 0) (script : CappedScript) (count : ℕ) → IsScriptOf IsText script → count ≤ length script.0 → HasCommands IsText count
-counted IsText script count s h =
-    let e : length script.0 ≡ length (map capped_command (reading s.0).0) = ap (λ (r : CappedScript). length r.0) s.2 in
-    let f : length (map capped_command (reading s.0).0) ≡ length (reading s.0).0 = length-map (reading s.0).0 capped_command in
-    (s.0, s.1, omega (arith, e, f))
+pub counted : (text : List ℕ) (script : CappedScript) → script ≡ capped_script text → length (reading text).0 ≡ length script.0
+counted text script e = sym (ap (λ (s : CappedScript). length s.0) e ∙ length-map (reading text).0 capped_command)
 
 -- a value that is capped at 2^64-1, and then as a name
 pub token_of-held : (t : Token) → token_of (base.held_token t) ≡ capped_token t

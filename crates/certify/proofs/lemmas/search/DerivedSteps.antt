@@ -1,28 +1,18 @@
 -- Rounds of an ask, and the steps that it writes.
 use Rattle.std.proofs.Common.{ℕ, ◌≡◌, ◌≢◌, ◌+◌, ◌-◌, ◌^◌, ◌<◌, ◌≤◌, ◌⊎◌, inl, inr, true, false, Option, Some, None, List, [], ◌∷◌, ◌++◌, refl, sym, ◌∙◌, ap, subst, arith, append_assoc}
 use Rattle.std.specs.List.{AllByRecursion}
-use Rattle.std.specs.Io.KnownBytes.{Appends}
 use Rattle.std.proofs.lemmas.Bool.{false≢true}
 use Rattle.std.proofs.lemmas.List.{append-nil, length-append}
 use Rattle.sat_base.specs.steps.Steps.{Step, AtClause}
 use Rattle.sat_base.specs.steps.StepText.{SpellsStep, SpellsSteps}
-use Rattle.sat_base.specs.device.Writing.{Written}
+use Rattle.sat_base.specs.device.Device.{Writer, Takes}
+use Rattle.sat_base.proofs.lemmas.device.Writes.{took_none, took_more}
 use Rattle.certify.specs.declared.search.propagate.RoundEnd.TheVariants.{Conflict, Model}
 use Rattle.certify.specs.declared.search.solve.SearchEnd.TheVariants.{Sat, Unsat, Unknown}
 use Rattle.certify.specs.search.SolverState.{SolverState, AllowsSame, RoundSays}
 use Rattle.certify.specs.search.StepsLeft.{steps_left}
 use Rattle.certify.specs.search.Search.{IsBounded}
 use Rattle.certify.specs.search.SearchEnds.{Solves, IsDerived, WritesDerived}
-
-appends_nothing : (a : Option (List ℕ)) → Appends a a []
-appends_nothing None = tt
-appends_nothing (Some xs) = sym (append-nil xs)
-
-appends_both : (a b c : Option (List ℕ)) (s t : List ℕ) → Appends a b s → Appends b c t → Appends a c (s ++ t)
-appends_both None b c s t h k = tt
-appends_both (Some xs) None c s t h k = absurd h
-appends_both (Some xs) (Some ys) None s t h k = absurd k
-appends_both (Some xs) (Some ys) (Some zs) s t h k = k ∙ ap (λ (w : List ℕ). w ++ t) h ∙ append_assoc xs s t
 
 items_both : (xs ys : List Step) (s t : List ℕ) → SpellsSteps xs s → SpellsSteps ys t → SpellsSteps (xs ++ ys) (s ++ t)
 items_both [] ys s t h k = subst (λ w. SpellsSteps ys (w ++ t)) (sym h) k
@@ -32,33 +22,31 @@ derived_both : (n : ℕ) (xs ys : List Step) → AllByRecursion (IsDerived n) xs
 derived_both n [] ys h k = k
 derived_both n (x ∷ xs) ys h k = (h.0, derived_both n xs ys h.1 k)
 
-pub none_derived : (n : ℕ) (w : Written) → WritesDerived n 0 w w
-none_derived n w = record { steps = []; many = refl; derived = tt; text = []; spells = refl; bytes = appends_nothing w.contents; failures = refl }
+pub none_derived : (n : ℕ) (w : Writer) → WritesDerived n 0 w w
+none_derived n w = record { steps = []; many = refl; derived = tt; text = []; spells = refl; took = took_none w }
 
-pub one_derived : (n : ℕ) (clause hashes : List ℕ) (old new : Written) → IsBounded n clause → (text : List ℕ) × SpellsStep (AtClause false clause hashes) text × Appends old.contents new.contents text × (new.failures ≡ old.failures) → WritesDerived n 1 old new
-one_derived n clause hashes old new bounded (text, spells, bytes, failures) = record {
+pub one_derived : (n : ℕ) (clause hashes : List ℕ) (old new : Writer) → IsBounded n clause → (text : List ℕ) → SpellsStep (AtClause false clause hashes) text → Takes old new text → WritesDerived n 1 old new
+one_derived n clause hashes old new bounded text spells took = record {
   steps = AtClause false clause hashes ∷ [];
   many = refl;
   derived = ((clause, hashes, refl, bounded), tt);
   text = text;
   spells = (text, [], spells, refl, sym (append-nil text));
-  bytes = bytes;
-  failures = failures;
+  took = took;
 }
 
-more_derived : (n count : ℕ) (a b c : Written) → WritesDerived n count a b → WritesDerived n 1 b c → WritesDerived n (count + 1) a c
+more_derived : (n count : ℕ) (a b c : Writer) → WritesDerived n count a b → WritesDerived n 1 b c → WritesDerived n (count + 1) a c
 more_derived n count a b c x y = record {
   steps = x.steps ++ y.steps;
   many = length-append x.steps y.steps ∙ (let p = x.many in let q = y.many in omega arith);
   derived = derived_both n x.steps y.steps x.derived y.derived;
   text = x.text ++ y.text;
   spells = items_both x.steps y.steps x.text y.text x.spells y.spells;
-  bytes = appends_both a.contents b.contents c.contents x.text y.text x.bytes y.bytes;
-  failures = y.failures ∙ x.failures;
+  took = took_more a b c x.text y.text x.took y.took;
 }
 
 -- what is known of an ask after so many rounds
-pub record Asking (spent budget : ℕ) (old now : SolverState) (before after : Written) : Type 0 where
+pub record Asking (spent budget : ℕ) (old now : SolverState) (before after : Writer) : Type 0 where
   pub same : AllowsSame old now
   pub known : old.unsat ≡ true → (spent ≡ 0) × (now.unsat ≡ true)
   pub var_count : now.var_count ≡ old.var_count
@@ -66,7 +54,7 @@ pub record Asking (spent budget : ℕ) (old now : SolverState) (before after : W
   pub within : spent ≤ steps_left budget old.rounds
   pub written : WritesDerived old.var_count spent before after
 
-pub asking_start : (budget : ℕ) (s : SolverState) (w : Written) → Asking 0 budget s s w w
+pub asking_start : (budget : ℕ) (s : SolverState) (w : Writer) → Asking 0 budget s s w w
 asking_start budget s w = record {
   same = record { onwards = λ a h. h; back = λ a h. h };
   known = λ e. (refl, e);
@@ -79,7 +67,7 @@ asking_start budget s w = record {
 same_further : (x y z : SolverState) → AllowsSame x y → AllowsSame y z → AllowsSame x z
 same_further x y z f g = record { onwards = λ a h. g.onwards a (f.onwards a h); back = λ a h. f.back a (g.back a h) }
 
-module _ (spent budget : ℕ) (old now : SolverState) (before after : Written) (asking : Asking spent budget old now before after) where
+module _ (spent budget : ℕ) (old now : SolverState) (before after : Writer) (asking : Asking spent budget old now before after) where
   not_known : {P : Type 0} → now.unsat ≡ false → old.unsat ≡ true → P
   not_known going was = absurd (false≢true (sym going ∙ (asking.known was).1))
 
@@ -113,7 +101,7 @@ module _ (spent budget : ℕ) (old now : SolverState) (before after : Written) (
     within = omega arith;
   }
 
-  pub asking_more : (new : SolverState) (later : Written) → now.unsat ≡ false → spent ≢ budget → now.rounds < 2 ^ 64 - 1 → RoundSays Conflict now new → new.rounds ≡ now.rounds + 1 → new.var_count ≡ now.var_count → WritesDerived old.var_count 1 after later → Asking (spent + 1) budget old new before later
+  pub asking_more : (new : SolverState) (later : Writer) → now.unsat ≡ false → spent ≢ budget → now.rounds < 2 ^ 64 - 1 → RoundSays Conflict now new → new.rounds ≡ now.rounds + 1 → new.var_count ≡ now.var_count → WritesDerived old.var_count 1 after later → Asking (spent + 1) budget old new before later
   asking_more new later going room count says rounds var_count wrote = let was = asking.rounds in let below = asking.within in record {
     same = same_further old now new asking.same says.0;
     known = λ was. not_known going was;

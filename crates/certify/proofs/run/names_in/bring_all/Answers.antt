@@ -19,9 +19,8 @@ loop-literal-preserved g c =
       within = (within_at ls i l c.loop-literal-test.true c.literal-item.is c.loop-literal.invariant.within).others;
       variables = c.in_ok-bring_in.ensures.variables;
       clauses = same_then c.loop-literal.invariant.clauses c.in_ok-bring_in.ensures.clauses;
-      wrote = wrote_names c.loop-literal.invariant.least (omega (arith, named)) c.loop-literal.invariant.wrote c.in_ok-bring_in.ensures.certificate.0;
+      wrote = wrote_names c.loop-literal.invariant.least (omega (arith, named)) c.loop-literal.invariant.wrote c.in_ok-bring_in.ensures.certificate;
       rounds = c.in_ok-bring_in.ensures.rounds ∙ c.loop-literal.invariant.rounds;
-      failures = c.in_ok-bring_in.ensures.certificate.1 ∙ c.loop-literal.invariant.failures;
     }
 
 pub returns-clause-names : goal.returns-clause-names

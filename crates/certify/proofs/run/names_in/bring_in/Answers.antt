@@ -10,9 +10,8 @@ loop-preserved g c = record {
   most = let t = c.loop-test.true in omega (arith, c.in_ok-add_name.ensures.names, c.loop.invariant.names);
   variables = c.in_ok-add_name.ensures.variables;
   clauses = same_then c.loop.invariant.clauses c.in_ok-add_name.ensures.clauses;
-  wrote = wrote_name c.loop.invariant.least c.in_ok-add_name.ensures.names c.loop.invariant.wrote c.in_ok-add_name.ensures.certificate.0;
+  wrote = wrote_name c.loop.invariant.least c.in_ok-add_name.ensures.names c.loop.invariant.wrote c.in_ok-add_name.ensures.certificate;
   rounds = c.in_ok-add_name.ensures.rounds ∙ c.loop.invariant.rounds;
-  failures = c.in_ok-add_name.ensures.certificate.1 ∙ c.loop.invariant.failures;
 }
 
 pub returns-clause-names : goal.returns-clause-names

@@ -1,6 +1,7 @@
 use Rattle.std.proofs.Common.{◌≡◌, ◌≤◌, ◌-◌, max}
 use Rattle.certify.specs.search.SolverState.{AllowsSame}
-use Rattle.certify.specs.run.Running.{Wrote, naming}
+use Rattle.certify.specs.run.Outputs.{Wrote}
+use Rattle.certify.specs.run.Running.{naming}
 use Rattle.certify.proofs.run.names_in.bring_in.Given as goal
 
 abbrev pub invariant-loop : goal.invariant-loop
@@ -11,6 +12,5 @@ invariant-loop g l = record {
   variables : l.solver.var_count ≡ l.names;
   rounds : l.solver.rounds ≡ l.fn.solver.rounds;
   clauses : AllowsSame l.fn.solver l.solver;
-  wrote : Wrote (naming (l.names - l.fn.names) l.fn.names) (g.C.Write.contents l.fn.certificate) (g.C.Write.contents l.certificate);
-  failures : g.C.CountedWrite.failures l.certificate ≡ g.C.CountedWrite.failures l.fn.certificate;
+  wrote : Wrote (naming (l.names - l.fn.names) l.fn.names) (g.C.CountedWrite.seen l.fn.certificate) (g.C.CountedWrite.seen l.certificate);
 }
