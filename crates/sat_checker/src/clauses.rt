@@ -93,12 +93,7 @@ impl Clauses {
 
     /// The first place of the hash that has these literals.
     #[tactic(auto, using(crate::proofs::lemmas::store::Finding::finding))]
-    pub fn find(
-        &self,
-        hash: ClauseHash,
-        literals: &[Lit],
-        looks: &mut Looks,
-    ) -> Option<usize>
+    pub fn find(&self, hash: ClauseHash, literals: &[Lit], looks: &mut Looks) -> Option<usize>
         ensures found { result ≡ found_among self.now literals.now (places_of hash self.now) }
         ensures looks { looks.new ≤ looks.old + total_length (bucket_in hash self.now) }
     {

@@ -89,11 +89,14 @@ unit_conflict = (((tt, inr (refl, tt)), inr (refl, tt)), refl, refl, refl, refl,
 pub unit_behind : ConflictAndUnit
 unit_behind =
     let before : List Step = ChangeHashBits 0 ∷ AddClause (0 ∷ []) ∷ AddClause (1 ∷ 2 ∷ []) ∷ AddClause (1 ∷ 3 ∷ []) ∷ [] in
-    let f : Stored = ready_by before in
-    (
-      (((((tt, tt), inr (refl, tt)), inr (refl, (refl, tt))), inr (refl, (refl, tt))),
-      (walked f (1 ∷ []) (0 ∷ []) refl, (walked (with_unit 1 f) (1 ∷ []) (0 ∷ []) refl, (walked (with_unit 1 (with_unit 1 f)) (4 ∷ []) (0 ∷ []) refl, tt)))),
-      refl, refl, refl,
+    let f : Stored = ready_by before in (
+      (
+        ((((tt, tt), inr (refl, tt)), inr (refl, (refl, tt))), inr (refl, (refl, tt))),
+        (walked f (1 ∷ []) (0 ∷ []) refl, (walked (with_unit 1 f) (1 ∷ []) (0 ∷ []) refl, (walked (with_unit 1 (with_unit 1 f)) (4 ∷ []) (0 ∷ []) refl, tt))),
+      ),
+      refl,
+      refl,
+      refl,
     )
 
 named_first : Variable

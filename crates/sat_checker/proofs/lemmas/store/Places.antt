@@ -153,7 +153,6 @@ places_counted q r i ss l n =
 
 -- a count less of one that isn't gone afterwards, and of one that is
 
-
 pub places_left : (q : ℕ) (r : Bool) (i : ℕ) (ss : List Slot) → i < length ss → 0 < count_of r (slot_at ss i) → is_gone (record { clause = without_count r (slot_at ss i).clause; hash = (slot_at ss i).hash }) ≡ false → places_of q (without_count_at r i ss) ≡ places_of q ss
 places_left q r i ss l c n =
     places_same 0 q ss i (record { clause = without_count r (slot_at ss i).clause; hash = (slot_at ss i).hash }) l

@@ -17,10 +17,9 @@ returns-then-is_hidden c = λ f k. refused_hidden c.args.self.now f k c.args.var
 pub returns : goal.returns
 returns c = λ f k.
     let may : MayGetName f c.args.var c.args.name =
-        may_get c.args.self.now f k c.args.var c.args.name c.holder.result c.data-old.result c.holder.ensures (sym c.is_some.ensures ∙ c.if-is_some.false) c.data-old.ensures (sym c.is_some-2.ensures ∙ c.if-is_some-2.false)
-            (match_false _ _ _ c.is_hidden.ensures c.if-is_hidden.false) in
-    let mode : mode_in c.data-old.result.mode ≡ (f.variables c.args.var).mode = ap (λ (x : Variable). x.mode) (c.data-old.ensures ∙ k.each c.args.var) in
-    (
+    may_get c.args.self.now f k c.args.var c.args.name c.holder.result c.data-old.result c.holder.ensures (sym c.is_some.ensures ∙ c.if-is_some.false) c.data-old.ensures (sym c.is_some-2.ensures ∙ c.if-is_some-2.false)
+    (match_false _ _ _ c.is_hidden.ensures c.if-is_hidden.false) in
+    let mode : mode_in c.data-old.result.mode ≡ (f.variables c.args.var).mode = ap (λ (x : Variable). x.mode) (c.data-old.ensures ∙ k.each c.args.var) in (
       may,
       named_kept c.args.self.now c.set.new.self c.set_holder.new.self f.variables c.args.var c.args.name (record { known = true; mode = (f.variables c.args.var).mode; name = Some c.args.name }) k refl may.nameless may.free
           (λ w. c.in_ok-set.ensures.variables w ∙ ap (λ (m : Mode). cond (eqb w c.args.var) (record { known = true; mode = m; name = Some c.args.name }) (variable_at c.args.self.now w)) mode)

@@ -9,6 +9,6 @@ loop-lit-preserved c = record {
   variables = λ v.
       c.loop-lit.invariant.variables v
       ∙ known_next c.args.literals.now c.loop-lit.lit-index v c.var.result c.lit-item.result (variable_at c.loop-lit.self v) (variable_at c.ensure_var.new.self v)
-          c.loop-lit-test.true (c.var.ensures ∙ ap variable c.lit-item.is) (c.in_ok-ensure_var.ensures.variables v);
+      c.loop-lit-test.true (c.var.ensures ∙ ap variable c.lit-item.is) (c.in_ok-ensure_var.ensures.variables v);
   holders = λ name. c.in_ok-ensure_var.ensures.holders name ∙ c.loop-lit.invariant.holders name;
 }
