@@ -3,10 +3,18 @@ ghost use Rattle.std.specs.Prelude.{◌≡◌};
 ghost use Rattle.std.specs.Io.{ReadsAtMost, WritesAtMost};
 ghost use Rattle.sat_base.specs.device.Device.{Reader, Writer, ReadsOnce, WritesOnce, FlushesOnce, Puts, lent_reader, lent_writer};
 
+pub(crate) mod ahead;
+mod counted;
+pub(crate) mod input;
 pub(crate) mod output;
 pub(crate) mod pending;
 pub(crate) mod room;
+mod taking;
+mod tally;
+pub(crate) mod whole;
 
+pub use self::counted::Counted;
+pub use self::whole::{ReadError, read_whole};
 use std::io;
 use std::io::{ErrorKind, Read, Write};
 

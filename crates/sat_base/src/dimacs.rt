@@ -14,7 +14,7 @@ mod parser;
 
 use self::error::{DimacsError, IncrementalError};
 use self::parser::Parser;
-use crate::whole::MAX_READS;
+use crate::device::whole::MAX_READS;
 use crate::{CnfFormula, CountedRead};
 use std::alloc::Global;
 use std::marker::Model;

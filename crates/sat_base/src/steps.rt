@@ -1,10 +1,18 @@
-//! Proof steps: their bytes, read and written.
+//! Proof steps, and their bytes, read and written.
 
+mod error;
 mod fields;
 mod groups;
+mod kind;
 mod lists;
 mod numbers;
+mod reader;
+mod step;
+mod step_lists;
 mod values;
 mod writer;
 
+pub use self::error::StepError;
+pub use self::reader::StepReader;
+pub use self::step::{DeleteClauseProof, HashBits, ProofStep};
 pub use self::writer::{StepWriter, write_step};

@@ -58,6 +58,9 @@ pub struct Tokenizer {
     lines: u64,
 }
 
+// Each byte goes through several of the functions below, which pass places by value: unasked none is inlined into the others, and
+// a place is then written to memory and read again for each.
+
 fn is_blank(byte: u8) -> bool
     ensures { result ≡ is_blank byte }
 {
@@ -85,6 +88,7 @@ fn grown(value: u64, digit: u8) -> u64
 }
 
 /// The place in a word that begins with this byte.
+#[inline(always)]
 fn word_begun(byte: u8) -> Place
     requires { is_blank byte ≡ false }
     ensures { Began byte result }
@@ -104,6 +108,7 @@ fn word_begun(byte: u8) -> Place
 }
 
 /// The place behind the first byte of a line that is no blank.
+#[inline(always)]
 fn line_begun(may: bool, byte: u8) -> Place
     requires { is_blank byte ≡ false }
     ensures { Moves (Place.Leading may) byte result }
@@ -125,6 +130,7 @@ fn line_begun(may: bool, byte: u8) -> Place
 }
 
 /// The place behind digits and this byte.
+#[inline(always)]
 fn number_goes_on(negative: bool, value: u64, byte: u8) -> Place
     requires { is_blank byte ≡ false }
     ensures { Moves (Place.Digits negative value) byte result }
@@ -140,6 +146,7 @@ fn number_goes_on(negative: bool, value: u64, byte: u8) -> Place
 }
 
 /// The place behind a minus sign and this byte.
+#[inline(always)]
 fn number_begun(byte: u8) -> Place
     requires { is_blank byte ≡ false }
     ensures { Moves Place.Minus byte result }
@@ -155,6 +162,7 @@ fn number_begun(byte: u8) -> Place
 }
 
 /// The place behind a byte that is no blank.
+#[inline(always)]
 fn next(place: Place, byte: u8) -> Place
     requires { is_blank byte ≡ false }
     ensures { Moves place byte result }
@@ -188,6 +196,7 @@ fn header_token(place: HeaderPlace) -> Token
 }
 
 /// What the word or the header line in hand says where the line ends, if there is one.
+#[inline(always)]
 fn token_in(place: Place) -> Option<Token>
     ensures { Says result place }
 {
@@ -213,6 +222,7 @@ fn token_in(place: Place) -> Option<Token>
 }
 
 /// What a blank ends that ends no line, if it ends something.
+#[inline(always)]
 fn token_at_blank(place: Place) -> Option<Token>
     ensures { SaysAtBlank result place }
 {
@@ -226,6 +236,7 @@ fn token_at_blank(place: Place) -> Option<Token>
 }
 
 /// The place behind a blank that ends no line.
+#[inline(always)]
 fn after_blank(place: Place) -> Place
     ensures leads { LeadsBehind place result }
     ensures quiet { IsQuiet result }
@@ -287,6 +298,7 @@ impl Tokenizer {
 
     /// Takes the next byte, and gives the token that it ended, if it ended one. A header is ended by its LF, a wrong word in a
     /// header line by the blank behind it. Behind the `%` that ends the text no byte gives a token.
+    #[inline(always)]
     pub fn push(&mut self, byte: u8) -> Option<Token>
         ensures takes { Takes self.old byte result self.new }
         // Only a blank ends a word,

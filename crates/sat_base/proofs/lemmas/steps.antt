@@ -1,5 +1,6 @@
 pub mod FormatReads
 pub mod Formats
+pub mod LentInput
 pub mod ListBytes
 pub mod NumberBytes
 pub mod Numbers

@@ -1,6 +1,6 @@
 -- What contracts see of a device whose calls are counted.
 use Rattle.std.specs.Prelude.{Option, ℕ, false, List, []}
-use Rattle.sat_base.specs.declared.counted.Counted.{Counted}
+use Rattle.sat_base.specs.declared.device.counted.Counted.{Counted}
 use Rattle.sat_base.specs.device.Device.{Reader, Writer}
 
 -- the device inside

@@ -1,9 +1,11 @@
 -- What it is to read a value in a format, from a reader whose bytes are read ahead of need.
 use Rattle.std.specs.Prelude.{◌≡◌, ℕ, true, length, ◌+◌, ◌*◌, ◌≤◌, ◌⊎◌, List, [], ◌∷◌, ◌++◌, Option, None, Some, Result, Ok, Err, take, drop}
 use Rattle.std.specs.Io.KnownBytes.{Consumes, IsAtEnd, prepend_known}
-use Rattle.sat_base.specs.declared.ahead.Ahead.{Ahead}
-use Rattle.sat_base.specs.declared.error.StepError.{StepError}
-use Rattle.sat_base.specs.declared.error.StepError.TheVariants as errors
+use Rattle.sat_base.specs.declared.device.ahead.Ahead.{Ahead}
+use Rattle.sat_base.specs.declared.device.input.Input.{Input}
+use Rattle.sat_base.specs.device.Waiting.{waiting}
+use Rattle.sat_base.specs.declared.steps.error.StepError.{StepError}
+use Rattle.sat_base.specs.declared.steps.error.StepError.TheVariants as errors
 use Rattle.sat_base.specs.device.Device.{Reader, most_reads, piece_size}
 use Rattle.sat_base.specs.steps.Formats.{Format, Open, Live}
 use Rattle.sat_base.specs.steps.Steps.{Step}
@@ -14,17 +16,24 @@ pub record Source : Type 0 where
   pub reader : Reader
   pub waiting : List ℕ  -- the last bytes that it gave, read and not yet taken
   pub reads : ℕ  -- the reads by this reader of steps
+  pub names : List ℕ  -- by which borrows it is held
 
 -- the bytes still to come, where the reader tells them
 abbrev pub to_come : Source → Option (List ℕ)
 to_come s = prepend_known s.waiting s.reader.to_come
 
--- the bytes read and not yet taken
-abbrev pub waiting : Ahead → List ℕ
-waiting a = drop a.at (take a.end a.piece)
+-- before the first read
+abbrev pub unread : Reader → Source
+unread r = record { reader = r; waiting = []; reads = 0; names = [] }
 
-abbrev pub source_of : {R : Type 0} → (R → Reader) → R → Ahead → Source
-source_of seen r a = record { reader = seen r; waiting = waiting a; reads = a.reads }
+abbrev pub source : {R : Type 0} → (R → Reader) → R → Ahead → Source
+source seen r a = record { reader = seen r; waiting = waiting a; reads = a.reads; names = [] }
+
+abbrev pub named : List ℕ → Source → Source
+named names s = record s { names = names }
+
+abbrev pub source_of : {R : Type 0} → (R → Reader) → Input R → Source
+source_of seen i = named (i.reader.ghost_name ∷ i.ahead.ghost_name ∷ []) (source seen i.reader.now i.ahead.now)
 
 -- These bytes were taken, and no call failed. What waited and what was given since is what was taken and what waits now; a read gave at most 4,096 bytes.
 pub record Passes (old new : Source) (text : List ℕ) : Type 0 where
@@ -36,6 +45,7 @@ pub record Passes (old new : Source) (text : List ℕ) : Type 0 where
   pub calls : new.reader.calls + old.reads ≡ old.reader.calls + new.reads
   pub room : length fresh + piece_size * old.reads ≤ piece_size * new.reads
   pub loans : new.reader.loans ≡ old.reader.loans
+  pub names : new.names ≡ old.names
 
 -- all bytes are taken: the last read found the reader at its end, and none waits
 pub record AllTaken (s : Source) : Type 0 where
@@ -54,6 +64,7 @@ pub record Faults (old new : Source) (text : List ℕ) : Type 0 where
   pub calls : new.reader.calls + old.reads ≡ old.reader.calls + new.reads
   pub room : length fresh + piece_size * old.reads ≤ piece_size * new.reads
   pub loans : new.reader.loans ≡ old.reader.loans
+  pub names : new.names ≡ old.names
 
 -- another piece was read, of so many bytes: none only at the end
 abbrev pub Refills : Result (Unit {0}) StepError → ℕ → Source → Source → Type 0

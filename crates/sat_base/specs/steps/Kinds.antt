@@ -1,7 +1,7 @@
 -- Steps of which the lists are held elsewhere.
 use Rattle.std.specs.Prelude.{ℕ, ◌==◌, ◌||◌, ◌&&◌, Bool, List, nat_lt}
-use Rattle.sat_base.specs.declared.kind.Kind.{Kind}
-use Rattle.sat_base.specs.declared.kind.Kind.TheVariants as code
+use Rattle.sat_base.specs.declared.steps.kind.Kind.{Kind}
+use Rattle.sat_base.specs.declared.steps.kind.Kind.TheVariants as code
 use Rattle.sat_base.specs.steps.Steps.{Step, SolverVarName, UserVarName, DeleteVar, ChangeSamplingMode, AddClause, AtClause, UnitClauses, DeleteClause, ChangeHashBits, Model, Assumptions, FailedAssumptions, End}
 use Rattle.sat_base.specs.steps.StepViews.{deletion_of}
 

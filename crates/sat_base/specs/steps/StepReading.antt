@@ -1,21 +1,17 @@
 -- What a reader of steps does.
 use Rattle.std.specs.Prelude.{◌≡◌, ◌≤◌, ℕ, Bool, true, false, [], Result, Ok, Err}
-use Rattle.sat_base.specs.declared.step_reader.StepReader.{StepReader}
-use Rattle.sat_base.specs.declared.step_reader.Buffers.{Buffers}
-use Rattle.sat_base.specs.declared.error.StepError.{StepError}
-use Rattle.sat_base.specs.declared.error.StepError.TheVariants as errors
+use Rattle.sat_base.specs.declared.steps.reader.StepReader.{StepReader}
+use Rattle.sat_base.specs.declared.steps.reader.Buffers.{Buffers}
+use Rattle.sat_base.specs.declared.steps.error.StepError.{StepError}
+use Rattle.sat_base.specs.declared.steps.error.StepError.TheVariants as errors
 use Rattle.sat_base.specs.device.Device.{Reader, most_reads}
-use Rattle.sat_base.specs.device.Reading.{Source, Passes, Answers, source_of}
+use Rattle.sat_base.specs.device.Reading.{Source, Passes, Answers, source}
 use Rattle.sat_base.specs.steps.Steps.{Step}
 use Rattle.sat_base.specs.steps.Kinds.{step_with}
 
 -- its reader, with what was read ahead
-abbrev pub source : {R : Type 0} → (R → Reader) → StepReader R Buffers → Source
-source seen s = source_of seen s.reader.now s.buffers.ahead
-
--- a reader, before the first read
-abbrev pub unread : Reader → Source
-unread reader = record { reader = reader; waiting = []; reads = 0 }
+abbrev pub reader_source : {R : Type 0} → (R → Reader) → StepReader R Buffers → Source
+reader_source seen s = source seen s.reader.now s.buffers.ahead
 
 -- whether it answers nothing else any more
 abbrev pub has_failed : {R : Type 0} → StepReader R Buffers → Bool
@@ -68,7 +64,7 @@ Answered (Err errors.HasFailed) old new = Passes old new []
 -- A call of `advance`. `HasFailed` comes exactly where an earlier answer stopped it.
 pub record Next {R : Type 0} (seen : R → Reader) (old new : StepReader R Buffers) (result : Result Step StepError) : Type 0 where
   pub same : reader_name new ≡ reader_name old
-  pub answer : Answered result (source seen old) (source seen new)
+  pub answer : Answered result (reader_source seen old) (reader_source seen new)
   pub was : has_failed old ≡ repeated result
   pub is : has_failed new ≡ stopped result
-  pub bound : (source seen new).reads ≤ most_reads
+  pub bound : (reader_source seen new).reads ≤ most_reads

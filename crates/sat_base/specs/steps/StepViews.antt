@@ -1,8 +1,8 @@
 -- What a proof step of the code says.
-use Rattle.sat_base.specs.declared.step.DeleteClauseProof.{DeleteClauseProof}
-use Rattle.sat_base.specs.declared.step.DeleteClauseProof.TheVariants as proofs
-use Rattle.sat_base.specs.declared.step.ProofStep.{ProofStep}
-use Rattle.sat_base.specs.declared.step.ProofStep.TheVariants as code
+use Rattle.sat_base.specs.declared.steps.step.DeleteClauseProof.{DeleteClauseProof}
+use Rattle.sat_base.specs.declared.steps.step.DeleteClauseProof.TheVariants as proofs
+use Rattle.sat_base.specs.declared.steps.step.ProofStep.{ProofStep}
+use Rattle.sat_base.specs.declared.steps.step.ProofStep.TheVariants as code
 use Rattle.sat_base.specs.steps.Steps.{Deletion, Redundant, Simplified, Satisfied, Step, SolverVarName, UserVarName, DeleteVar, ChangeSamplingMode, AddClause, AtClause, UnitClauses, DeleteClause, ChangeHashBits, Model, Assumptions, FailedAssumptions, End}
 
 abbrev pub deletion_of : DeleteClauseProof → Deletion

@@ -1,15 +1,20 @@
 //! A step's tag, and what stands behind it.
 #![tactic(auto, using(crate::proofs::lemmas::device::Sending::sending))]
 
-ghost use Rattle.std.specs.Prelude.{◌≡◌, OnOk, []};
+ghost use Rattle.std.specs.Prelude.{◌≡◌, OnOk, [], ℕ, List, IsTrue, false};
+ghost use Rattle.sat_base.specs.device.Reading.{Reads, source_of, valued, Answers, Behind};
+ghost use Rattle.sat_base.specs.steps.Kinds.{step_with, is_tag, has_lists};
 ghost use Rattle.sat_base.specs.device.Sink.{Writes, sink_of};
 ghost use Rattle.sat_base.specs.steps.StepBytes.{fields_bytes, step_bytes};
 ghost use Rattle.sat_base.specs.steps.StepText.{tag_of, SpellsFields, SpellsStep};
 ghost use Rattle.sat_base.specs.steps.StepViews.{step_of};
 
+use crate::device::input::Input;
 use crate::device::output::Output;
 use crate::device::room::Room;
-use crate::{CountedWrite, ProofStep};
+use crate::steps::kind::Kind;
+use crate::steps::step_lists::Lists;
+use crate::{CountedRead, CountedWrite, ProofStep, StepError};
 use std::io;
 
 fn tag(step: &ProofStep<'_>) -> u8
@@ -29,6 +34,104 @@ fn tag(step: &ProofStep<'_>) -> u8
         ProofStep::Assumptions { .. } => 11,
         ProofStep::FailedAssumptions { .. } => 12,
         ProofStep::End => 13,
+    }
+}
+
+/// Tests whether a step has this tag.
+fn is_tag(tag: u8) -> bool
+    ensures { result ≡ is_tag tag }
+{
+    0 < tag && tag < 14
+}
+
+/// Tests whether steps with this tag have lists.
+fn has_lists(tag: u8) -> bool
+    ensures { result ≡ has_lists tag }
+{
+    tag == 5 || tag == 6 || tag == 7 || tag == 8 || tag == 10 || tag == 11 || tag == 12
+}
+
+impl<R: CountedRead> Input<'_, R> {
+    /// Reads what stands behind the tag of a step without lists.
+    fn plain_fields(&mut self, tag: u8) -> Result<Kind, StepError>
+        requires known { IsTrue (is_tag tag) }
+        requires plain { has_lists tag ≡ false }
+        ensures { (literals hashes : List ℕ) (units : List (ℕ × ℕ)) → Reads (Behind tag) (valued (λ k. step_with k literals hashes units) result) (source_of R.seen self.old) (source_of R.seen self.new) }
+    {
+        if tag == 1 {
+            let (global, solver) = self.variables()?;
+            Ok(Kind::SolverVarName { global, solver })
+        } else if tag == 2 {
+            let (global, user) = self.variables()?;
+            Ok(Kind::UserVarName { global, user })
+        } else if tag == 3 {
+            let var = self.variable()?;
+            Ok(Kind::DeleteVar { var })
+        } else if tag == 4 {
+            let (var, sample) = self.variable_and_flag()?;
+            Ok(Kind::ChangeSamplingMode { var, sample })
+        } else if tag == 9 {
+            let bits = self.width()?;
+            Ok(Kind::ChangeHashBits { bits })
+        } else {
+            Ok(Kind::End)
+        }
+    }
+
+    /// Reads what stands behind the tag of a step with lists.
+    fn list_fields(&mut self, lists: &mut Lists, tag: u8) -> Result<Kind, StepError>
+        requires { IsTrue (has_lists tag) }
+        ensures { Reads (Behind tag) (valued (λ k. step_with k lists.new.literals.items lists.new.hashes.items lists.new.units.items) result) (source_of R.seen self.old) (source_of R.seen self.new) }
+    {
+        if tag == 5 {
+            self.literals(&mut lists.literals)?;
+            Ok(Kind::AddClause)
+        } else if tag == 6 {
+            let redundant = self.flag_and_lists(lists)?;
+            Ok(Kind::AtClause { redundant })
+        } else if tag == 7 {
+            self.units(&mut lists.units)?;
+            Ok(Kind::UnitClauses)
+        } else if tag == 8 {
+            let proof = self.clause_and_deletion(lists)?;
+            Ok(Kind::DeleteClause { proof })
+        } else if tag == 10 {
+            self.literals(&mut lists.literals)?;
+            Ok(Kind::Model)
+        } else if tag == 11 {
+            self.literals(&mut lists.literals)?;
+            Ok(Kind::Assumptions)
+        } else {
+            self.both_lists(lists)?;
+            Ok(Kind::FailedAssumptions)
+        }
+    }
+
+    /// Reads what stands behind a tag.
+    fn fields(&mut self, lists: &mut Lists, tag: u8) -> Result<Kind, StepError>
+        requires { IsTrue (is_tag tag) }
+        ensures { Reads (Behind tag) (valued (λ k. step_with k lists.new.literals.items lists.new.hashes.items lists.new.units.items) result) (source_of R.seen self.old) (source_of R.seen self.new) }
+    {
+        if has_lists(tag) {
+            self.list_fields(lists, tag)
+        } else {
+            self.plain_fields(tag)
+        }
+    }
+
+    /// Reads the next step, and its lists into those that are there.
+    pub(super) fn read_step(&mut self, lists: &mut Lists) -> Result<Kind, StepError>
+        ensures { Answers (valued (λ k. step_with k lists.new.literals.items lists.new.hashes.items lists.new.units.items) result) (source_of R.seen self.old) (source_of R.seen self.new) }
+    {
+        match self.next_byte()? {
+            None => Err(StepError::Ends),
+            Some(tag) => {
+                if !is_tag(tag) {
+                    return Err(StepError::BadByte);
+                }
+                self.fields(lists, tag)
+            }
+        }
     }
 }
 

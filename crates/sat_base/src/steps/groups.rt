@@ -2,16 +2,56 @@
 #![tactic(auto, using(crate::proofs::lemmas::device::Sending::sending))]
 
 ghost use Rattle.std.specs.Prelude.{◌++◌};
+ghost use Rattle.sat_base.specs.device.Reading.{Reads, source_of, valued};
 ghost use Rattle.sat_base.specs.device.Sink.{Writes, sink_of};
 ghost use Rattle.sat_base.specs.steps.Formats.{Both};
 ghost use Rattle.sat_base.specs.steps.StepText.{IsVariable, IsOptionalVariable, IsFlag, IsDeletion, AreLiterals, AreHashes};
 ghost use Rattle.sat_base.specs.steps.StepBytes.{number_bytes, optional_bytes, flag_bytes, deletion_bytes, list_bytes};
 ghost use Rattle.sat_base.specs.steps.StepViews.{deletion_of};
 
+use crate::device::input::Input;
 use crate::device::output::Output;
 use crate::device::room::Room;
-use crate::{ClauseHash, CountedWrite, DeleteClauseProof, Lit, Var};
+use crate::steps::step_lists::Lists;
+use crate::{ClauseHash, CountedRead, CountedWrite, DeleteClauseProof, Lit, StepError, Var};
 use std::io;
+
+impl<R: CountedRead> Input<'_, R> {
+    /// Reads a variable, and then one that may be none.
+    pub(super) fn variables(&mut self) -> Result<(Var, Option<Var>), StepError>
+        ensures { Reads (Both IsVariable IsOptionalVariable) result (source_of R.seen self.old) (source_of R.seen self.new) }
+    {
+        let first = self.variable()?;
+        let second = self.optional()?;
+        Ok((first, second))
+    }
+
+    pub(super) fn variable_and_flag(&mut self) -> Result<(Var, bool), StepError>
+        ensures { Reads (Both IsVariable IsFlag) result (source_of R.seen self.old) (source_of R.seen self.new) }
+    {
+        let var = self.variable()?;
+        let flag = self.flag()?;
+        Ok((var, flag))
+    }
+
+    pub(super) fn flag_and_lists(&mut self, lists: &mut Lists) -> Result<bool, StepError>
+        ensures { Reads (Both IsFlag (Both AreLiterals AreHashes)) (valued (λ f. (f, (lists.new.literals.items, lists.new.hashes.items))) result) (source_of R.seen self.old) (source_of R.seen self.new) }
+    {
+        let flag = self.flag()?;
+        self.both_lists(lists)?;
+        Ok(flag)
+    }
+
+    pub(super) fn clause_and_deletion(
+        &mut self,
+        lists: &mut Lists,
+    ) -> Result<DeleteClauseProof, StepError>
+        ensures { Reads (Both AreLiterals IsDeletion) (valued (λ p. (lists.new.literals.items, deletion_of p)) result) (source_of R.seen self.old) (source_of R.seen self.new) }
+    {
+        self.literals(&mut lists.literals)?;
+        self.deletion()
+    }
+}
 
 impl<W: CountedWrite, P: Room> Output<W, P> {
     /// Lets a variable wait, and one that may be none.

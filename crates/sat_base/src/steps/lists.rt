@@ -1,16 +1,111 @@
 //! Lists of literals, of hashes and of units.
 #![tactic(auto, using(crate::proofs::lemmas::device::Sending::sending))]
 
-ghost use Rattle.std.specs.Prelude.{◌++◌};
+ghost use Rattle.std.specs.Prelude.{◌++◌, [], ◌≡◌};
+ghost use Rattle.sat_base.specs.device.Reading.{Reads, source_of, giving};
 ghost use Rattle.sat_base.specs.device.Sink.{Writes, sink_of};
-ghost use Rattle.sat_base.specs.steps.Formats.{Both};
+ghost use Rattle.sat_base.specs.steps.Formats.{Both, Times};
 ghost use Rattle.sat_base.specs.steps.StepText.{IsLiteral, IsHash, AreLiterals, AreHashes, AreUnits};
 ghost use Rattle.sat_base.specs.steps.StepBytes.{number_bytes, list_bytes, units_bytes};
 
+use crate::device::input::Input;
 use crate::device::output::Output;
 use crate::device::room::Room;
-use crate::{ClauseHash, CountedWrite, Lit};
+use crate::steps::step_lists::Lists;
+use crate::{ClauseHash, CountedRead, CountedWrite, Lit, StepError};
 use std::io;
+
+/// The largest code of a literal.
+const LARGEST_CODE: u64 = (1 << 29) - 1;
+
+impl<R: CountedRead> Input<'_, R> {
+    fn literal(&mut self) -> Result<Lit, StepError>
+        ensures { Reads IsLiteral result (source_of R.seen self.old) (source_of R.seen self.new) }
+    {
+        let code = self.number(LARGEST_CODE)?;
+        Ok(Lit::from_code(code as usize))
+    }
+
+    fn literal_items(&mut self, count: u64, lits: &mut Vec<Lit>) -> Result<(), StepError>
+        requires { lits.old.items ≡ [] }
+        ensures { Reads (Times IsLiteral count) (giving lits.new.items result) (source_of R.seen self.old) (source_of R.seen self.new) }
+    {
+        for _ in 0..count {
+            let lit = self.literal()?;
+            lits.push(lit)?;
+        }
+        Ok(())
+    }
+
+    fn hash_items(&mut self, count: u64, hashes: &mut Vec<ClauseHash>) -> Result<(), StepError>
+        requires { hashes.old.items ≡ [] }
+        ensures { Reads (Times IsHash count) (giving hashes.new.items result) (source_of R.seen self.old) (source_of R.seen self.new) }
+    {
+        for _ in 0..count {
+            let hash = self.number(u64::MAX)?;
+            hashes.push(hash)?;
+        }
+        Ok(())
+    }
+
+    fn unit(&mut self) -> Result<(Lit, ClauseHash), StepError>
+        ensures { Reads (Both IsLiteral IsHash) result (source_of R.seen self.old) (source_of R.seen self.new) }
+    {
+        let lit = self.literal()?;
+        let hash = self.number(u64::MAX)?;
+        Ok((lit, hash))
+    }
+
+    fn unit_items(
+        &mut self,
+        count: u64,
+        units: &mut Vec<(Lit, ClauseHash)>,
+    ) -> Result<(), StepError>
+        requires { units.old.items ≡ [] }
+        ensures { Reads (Times (Both IsLiteral IsHash) count) (giving units.new.items result) (source_of R.seen self.old) (source_of R.seen self.new) }
+    {
+        for _ in 0..count {
+            let unit = self.unit()?;
+            units.push(unit)?;
+        }
+        Ok(())
+    }
+
+    /// Reads a list of literals in place of those that are there.
+    pub(super) fn literals(&mut self, lits: &mut Vec<Lit>) -> Result<(), StepError>
+        ensures { Reads AreLiterals (giving lits.new.items result) (source_of R.seen self.old) (source_of R.seen self.new) }
+    {
+        lits.clear();
+        let count = self.number(u64::MAX)?;
+        self.literal_items(count, lits)
+    }
+
+    /// Reads a list of hashes in place of those that are there.
+    pub(super) fn hashes(&mut self, hashes: &mut Vec<ClauseHash>) -> Result<(), StepError>
+        ensures { Reads AreHashes (giving hashes.new.items result) (source_of R.seen self.old) (source_of R.seen self.new) }
+    {
+        hashes.clear();
+        let count = self.number(u64::MAX)?;
+        self.hash_items(count, hashes)
+    }
+
+    /// Reads a list of units in place of those that are there.
+    pub(super) fn units(&mut self, units: &mut Vec<(Lit, ClauseHash)>) -> Result<(), StepError>
+        ensures { Reads AreUnits (giving units.new.items result) (source_of R.seen self.old) (source_of R.seen self.new) }
+    {
+        units.clear();
+        let count = self.number(u64::MAX)?;
+        self.unit_items(count, units)
+    }
+
+    /// Reads a list of literals, and then one of hashes.
+    pub(super) fn both_lists(&mut self, lists: &mut Lists) -> Result<(), StepError>
+        ensures { Reads (Both AreLiterals AreHashes) (giving (lists.new.literals.items, lists.new.hashes.items) result) (source_of R.seen self.old) (source_of R.seen self.new) }
+    {
+        self.literals(&mut lists.literals)?;
+        self.hashes(&mut lists.hashes)
+    }
+}
 
 impl<W: CountedWrite, P: Room> Output<W, P> {
     pub(super) fn put_literals(&mut self, lits: &[Lit]) -> io::Result<()>

@@ -1,13 +1,67 @@
 //! The fields of steps that are one number.
+ghost use Rattle.sat_base.specs.device.Reading.{Reads, source_of, valued};
 ghost use Rattle.sat_base.specs.device.Sink.{Writes, sink_of};
 ghost use Rattle.sat_base.specs.steps.StepBytes.{number_bytes, optional_bytes, flag_bytes, deletion_bytes};
 ghost use Rattle.sat_base.specs.steps.StepText.{IsVariable, IsOptionalVariable, IsFlag, IsWidth, IsDeletion};
 ghost use Rattle.sat_base.specs.steps.StepViews.{deletion_of};
 
+use crate::device::input::Input;
 use crate::device::output::Output;
 use crate::device::room::Room;
-use crate::{CountedWrite, DeleteClauseProof, HashBits, Var};
+use crate::{CountedRead, CountedWrite, DeleteClauseProof, HashBits, StepError, Var};
 use std::io;
+
+/// The largest index of a variable.
+const LARGEST_INDEX: u64 = (1 << 28) - 1;
+
+impl<R: CountedRead> Input<'_, R> {
+    pub(super) fn variable(&mut self) -> Result<Var, StepError>
+        ensures { Reads IsVariable result (source_of R.seen self.old) (source_of R.seen self.new) }
+    {
+        let index = self.number(LARGEST_INDEX)?;
+        Ok(Var::from_index(index as usize))
+    }
+
+    pub(super) fn optional(&mut self) -> Result<Option<Var>, StepError>
+        ensures { Reads IsOptionalVariable result (source_of R.seen self.old) (source_of R.seen self.new) }
+    {
+        let above = self.number(LARGEST_INDEX + 1)?;
+        if above == 0 {
+            return Ok(None);
+        }
+        Ok(Some(Var::from_index((above - 1) as usize)))
+    }
+
+    pub(super) fn flag(&mut self) -> Result<bool, StepError>
+        ensures { Reads IsFlag result (source_of R.seen self.old) (source_of R.seen self.new) }
+    {
+        let bit = self.number(1)?;
+        if bit == 0 {
+            return Ok(false);
+        }
+        Ok(true)
+    }
+
+    pub(super) fn width(&mut self) -> Result<HashBits, StepError>
+        ensures { Reads IsWidth result (source_of R.seen self.old) (source_of R.seen self.new) }
+    {
+        let bits = self.number(64)?;
+        Ok(HashBits::of_width(bits as u32))
+    }
+
+    pub(super) fn deletion(&mut self) -> Result<DeleteClauseProof, StepError>
+        ensures { Reads IsDeletion (valued deletion_of result) (source_of R.seen self.old) (source_of R.seen self.new) }
+    {
+        let code = self.number(2)?;
+        if code == 0 {
+            return Ok(DeleteClauseProof::Redundant);
+        }
+        if code == 1 {
+            return Ok(DeleteClauseProof::Simplified);
+        }
+        Ok(DeleteClauseProof::Satisfied)
+    }
+}
 
 impl<W: CountedWrite, P: Room> Output<W, P> {
     pub(super) fn put_variable(&mut self, var: Var) -> io::Result<()>

@@ -1,13 +1,15 @@
 -- Reading, step by step.
-use Rattle.std.proofs.Common.{◌≡◌, ℕ, ◌+◌, ◌*◌, ◌-◌, ◌<◌, ◌≤◌, List, length, length-append, take, drop, Option, Some, None, [], ◌∷◌, ◌++◌, ◌⊎◌, inl, inr, Ok, Err, refl, sym, subst, ap, append_assoc, ◌∙◌, arith}
+use Rattle.std.proofs.Common.{◌≡◌, ℕ, ◌+◌, ◌*◌, ◌-◌, ◌/◌, Bool, true, false, nat_lt, ◌<◌, ◌≤◌, List, length, length-append, take, drop, Option, Some, None, [], ◌∷◌, ◌++◌, ◌⊎◌, inl, inr, Result, Ok, Err, refl, sym, subst, ap, append_assoc, ◌∙◌, arith}
 use Rattle.std.proofs.lemmas.List.{append-nil, drop_all, length-take}
+use Rattle.std.proofs.lemmas.Grind.{common_steps}
+use Rattle.std.proofs.Math.Nat.{mul-le-mul_left}
 use Rattle.std.specs.Io.KnownBytes.{Consumes, Keeps, prepend_known}
 use Rattle.sat_base.specs.device.Device.{Reader, ReadsOnce, most_reads}
-use Rattle.sat_base.specs.declared.error.StepError.{StepError}
-use Rattle.sat_base.specs.declared.error.StepError.TheVariants as errors
+use Rattle.sat_base.specs.declared.steps.error.StepError.{StepError}
+use Rattle.sat_base.specs.declared.steps.error.StepError.TheVariants as errors
 use Rattle.sat_base.specs.steps.Formats.{Open}
 use Rattle.sat_base.specs.steps.Numbers.{IsBelow}
-use Rattle.sat_base.specs.device.Reading.{Source, to_come, Passes, AllTaken, Faults, ByteWithin, Reads}
+use Rattle.sat_base.specs.device.Reading.{Source, to_come, Passes, AllTaken, Faults, Refills, NextByte, ByteWithin, Reads}
 use Rattle.sat_base.proofs.lemmas.device.Known.{consumes_none, consumes_more}
 use Rattle.sat_base.proofs.lemmas.steps.Numbers.{Front, front_none, front_more, live, last_read, shut_zero, shut_large, shut_on}
 
@@ -22,6 +24,7 @@ passes_none s = record {
   calls = refl;
   room = omega arith;
   loans = refl;
+  names = refl;
 }
 
 -- what was given and what was taken, over two turns
@@ -41,6 +44,7 @@ passes_more old mid new xs ys p q = record {
   calls = omega (arith, p.calls, q.calls);
   room = room_more p.fresh q.fresh old.reads mid.reads new.reads p.room q.room;
   loans = q.loans ∙ p.loans;
+  names = q.names ∙ p.names;
 }
 
 pub faults_later : (old mid new : Source) (xs ys : List ℕ) → Passes old mid xs → Faults mid new ys → Faults old new (xs ++ ys)
@@ -54,6 +58,7 @@ faults_later old mid new xs ys p f = record {
   calls = omega (arith, p.calls, f.calls);
   room = room_more p.fresh f.fresh old.reads mid.reads new.reads p.room f.room;
   loans = f.loans ∙ p.loans;
+  names = f.names ∙ p.names;
 }
 
 -- nothing more was taken before the failure
@@ -70,8 +75,8 @@ keeps_none None b ws vs e f h = tt
 keeps_none (Some x) None ws vs e f h = absurd h
 keeps_none (Some x) (Some y) ws vs e f h = ap (λ (z : List ℕ). z ++ x) e ∙ sym h ∙ ap (λ (z : List ℕ). z ++ y) (sym f)
 
-pub faults_now : {E : Type 0} (e : E) (a b : Reader) (ws vs room : List ℕ) (n : ℕ) → ReadsOnce {E = E} (Err e) room a b → ws ≡ [] → vs ≡ [] → Faults (record { reader = a; waiting = ws; reads = n }) (record { reader = b; waiting = vs; reads = n + 1 }) []
-faults_now e a b ws vs room n r d f = record {
+pub faults_now : {E : Type 0} (e : E) (a b : Reader) (ws vs room names : List ℕ) (n : ℕ) → ReadsOnce {E = E} (Err e) room a b → ws ≡ [] → vs ≡ [] → Faults (record { reader = a; waiting = ws; reads = n; names = names }) (record { reader = b; waiting = vs; reads = n + 1; names = names }) []
+faults_now e a b ws vs room names n r d f = record {
   fresh = [];
   gave = r.given ∙ sym (append-nil a.given);
   flows = append-nil ws ∙ d;
@@ -81,6 +86,7 @@ faults_now e a b ws vs room n r d f = record {
   calls = omega (arith, r.calls);
   room = omega arith;
   loans = r.loans;
+  names = refl;
 }
 
 -- or isn't made, after so many
@@ -95,6 +101,7 @@ faults_spent s d h = record {
   calls = refl;
   room = omega arith;
   loans = refl;
+  names = refl;
 }
 
 pub none_waits : (at end : ℕ) (piece : List ℕ) → end ≤ at → drop at (take end piece) ≡ []
@@ -150,6 +157,53 @@ groups_large limit value place b old mid new g h l m = groups_bad limit value pl
 pub groups_on : (limit value place b : ℕ) (old mid new : Source) → Groups limit value place old mid → Passes mid new (b ∷ []) → 128 ≤ b → limit ≤ (value + place * (b - 128)) + place * 128 → Reads (IsBelow limit) (Err errors.BadByte) old new
 groups_on limit value place b old mid new g h l m = groups_bad limit value place b old mid new g h (shut_on limit g.text value place b g.front l m)
 
+-- THE ROOM THAT IS LEFT for the groups to come: so many times the place fit into what the number may still grow by
+
+pub room_start : (largest : ℕ) → (0 + 1 * largest ≤ largest) × (largest < 0 + 1 * (largest + 1))
+room_start largest = (omega arith, omega arith)
+
+past_room : (largest value place room b : ℕ) → largest < value + place * (room + 1) → room < b → largest + 1 ≤ value + place * b
+past_room largest value place room b h k = let m = mul-le-mul_left place (let j : room + 1 ≤ b = omega arith in j) in omega arith
+
+pub in_room : (largest value place room b : ℕ) → value + place * room ≤ largest → b ≤ room → value + place * b < largest + 1
+in_room largest value place room b h k = let m = mul-le-mul_left place k in omega arith
+
+spread_group : (place g : ℕ) → place * (g + 128) ≡ place * g + place * 128
+spread_group place g = omega arith
+
+split_group : (place b : ℕ) → 128 ≤ b → place * b ≡ place * (b - 128) + place * 128
+split_group place b h = let e : b ≡ (b - 128) + 128 = omega arith in ap (λ (n : ℕ). place * n) e ∙ spread_group place (b - 128)
+
+small_group : (b : ℕ) → nat_lt b 128 ≡ true → b < 128
+small_group b h = grind (arith, common_steps)
+
+large_group : (b : ℕ) → nat_lt b 128 ≡ false → 128 ≤ b
+large_group b h = grind (arith, common_steps)
+
+by_kind : (largest value place b : ℕ) (old mid new : Source) → Groups (largest + 1) value place old mid → Passes mid new (b ∷ []) → largest + 1 ≤ value + place * b → (t : Bool) → nat_lt b 128 ≡ t → Reads (IsBelow (largest + 1)) (Err errors.BadByte) old new
+by_kind largest value place b old mid new g h k true e = groups_large (largest + 1) value place b old mid new g h (small_group b e) k
+by_kind largest value place b old mid new g h k false e = groups_on (largest + 1) value place b old mid new g h (large_group b e) (let s = split_group place b (large_group b e) in omega arith)
+
+-- a group that has no room
+pub groups_past : (largest value place room b : ℕ) (old mid new : Source) → Groups (largest + 1) value place old mid → Passes mid new (b ∷ []) → largest < value + place * (room + 1) → room < b → Reads (IsBelow (largest + 1)) (Err errors.BadByte) old new
+groups_past largest value place room b old mid new g h k l = by_kind largest value place b old mid new g h (past_room largest value place room b k l) (nat_lt b 128) refl
+
+low_of : (largest value place room g q : ℕ) → value + place * room ≤ largest → g + 128 * q ≤ room → (value + place * g) + (place * 128) * q ≤ largest
+low_of largest value place room g q h k = let m = mul-le-mul_left place k in let e : place * (g + 128 * q) ≡ place * g + (place * 128) * q = omega arith in omega arith
+
+high_of : (largest value place room g q : ℕ) → largest < value + place * (room + 1) → room + 1 ≤ g + 128 * (q + 1) → largest < (value + place * g) + (place * 128) * (q + 1)
+high_of largest value place room g q h k = let m = mul-le-mul_left place k in let e : place * (g + 128 * (q + 1)) ≡ place * g + (place * 128) * (q + 1) = omega arith in omega arith
+
+-- one that has, and goes on
+pub room_low : (largest value place room b : ℕ) → value + place * room ≤ largest → 128 ≤ b → b ≤ room → (value + place * (b - 128)) + (place * 128) * ((room - (b - 128)) / 128) ≤ largest
+room_low largest value place room b h k l = low_of largest value place room (b - 128) ((room - (b - 128)) / 128) h (omega arith)
+
+pub room_high : (largest value place room b : ℕ) → largest < value + place * (room + 1) → 128 ≤ b → b ≤ room → largest < (value + place * (b - 128)) + (place * 128) * ((room - (b - 128)) / 128 + 1)
+room_high largest value place room b h k l = high_of largest value place room (b - 128) ((room - (b - 128)) / 128) h (omega arith)
+
+pub room_small : (largest value place room b : ℕ) → value + place * room ≤ largest → 128 ≤ b → b ≤ room → (value + place * (b - 128)) + place * 128 < largest + 1
+room_small largest value place room b h k l = let m = mul-le-mul_left place l in let s = split_group place b k in omega arith
+
 not_none : (xs : List ℕ) (b : ℕ) → xs ++ b ∷ [] ≡ [] → ⊥
 not_none [] b e = cc
 not_none (x ∷ xs) b e = cc
@@ -161,4 +215,33 @@ groups_more limit value place b old mid new g h l m s = record {
   front = front_more g.text value place b l m g.front;
   small = s;
   begun = let p = place_some limit value place old mid g in inr (not_none g.text b, omega arith);
+}
+
+-- THE FIRST BYTE OF A PIECE
+
+pub next_fails : (e : StepError) (n : ℕ) (s t : Source) → Refills (Err e) n s t → NextByte (Err e) s t
+next_fails errors.Read n s t h = h
+next_fails errors.Ends n s t h = absurd h
+next_fails errors.Cut n s t h = absurd h
+next_fails errors.BadByte n s t h = absurd h
+next_fails errors.OutOfMemory n s t h = absurd h
+next_fails errors.HasFailed n s t h = absurd h
+
+took_known : (a b : Option (List ℕ)) (ws vs : List ℕ) (byte : ℕ) → ws ≡ byte ∷ vs → Consumes a (prepend_known ws b) [] → Consumes a (prepend_known vs b) (byte ∷ [])
+took_known None b ws vs byte e h = tt
+took_known (Some x) None ws vs byte e h = absurd h
+took_known (Some x) (Some y) ws vs byte e h = h ∙ ap (λ (z : List ℕ). z ++ y) e
+
+pub took_byte : (s : Source) (r : Reader) (ws vs names : List ℕ) (n m byte : ℕ) → Passes s (record { reader = r; waiting = ws; reads = n; names = names }) [] → ws ≡ byte ∷ vs → m ≡ n
+    → Passes s (record { reader = r; waiting = vs; reads = m; names = names }) (byte ∷ [])
+took_byte s r ws vs names n m byte p e f = record {
+  fresh = p.fresh;
+  gave = p.gave;
+  flows = p.flows ∙ e;
+  bytes = took_known (to_come s) r.to_come ws vs byte e p.bytes;
+  failures = p.failures;
+  calls = omega (arith, p.calls, f);
+  room = omega (arith, p.room, f);
+  loans = p.loans;
+  names = p.names;
 }

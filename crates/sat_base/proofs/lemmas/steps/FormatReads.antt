@@ -1,8 +1,8 @@
 -- Readers of formats that are made of others.
 use Rattle.std.proofs.Common.{◌≡◌, ℕ, suc, List, [], ◌∷◌, ◌++◌, length, Result, Ok, Err, append_assoc, refl, sym, ap, subst}
 use Rattle.std.proofs.lemmas.List.{append-nil}
-use Rattle.sat_base.specs.declared.error.StepError.{StepError}
-use Rattle.sat_base.specs.declared.error.StepError.TheVariants as errors
+use Rattle.sat_base.specs.declared.steps.error.StepError.{StepError}
+use Rattle.sat_base.specs.declared.steps.error.StepError.TheVariants as errors
 use Rattle.sat_base.specs.steps.Formats.{Format, Open, Then, Times, ListOf, OneForm}
 use Rattle.sat_base.specs.device.Reading.{Source, Passes, Reads, giving, valued}
 use Rattle.sat_base.proofs.lemmas.steps.Formats.{HasText, live_first, shut_first, live_second, shut_second, Times_text, to_items, from_items}

@@ -1,7 +1,7 @@
 -- Steps, and the values that they are made of.
 use Rattle.std.proofs.Common.{◌≡◌, ℕ, ◌+◌, ◌*◌, ◌^◌, zero, suc, Bool, true, false, Option, Some, None, List, [], ◌∷◌, ◌++◌, length, Result, Ok, Err, append_assoc, refl, sym, ap, subst, ◌∙◌, arith}
-use Rattle.sat_base.specs.declared.error.StepError.{StepError}
-use Rattle.sat_base.specs.declared.error.StepError.TheVariants as errors
+use Rattle.sat_base.specs.declared.steps.error.StepError.{StepError}
+use Rattle.sat_base.specs.declared.steps.error.StepError.TheVariants as errors
 use Rattle.sat_base.specs.steps.Formats.{Format, Both, Items, ListOf, OneForm}
 use Rattle.sat_base.specs.values.Literals.{largest}
 use Rattle.sat_base.specs.steps.Numbers.{IsBelow}

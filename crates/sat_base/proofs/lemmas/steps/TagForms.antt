@@ -1,6 +1,6 @@
 -- What stands behind each tag. A further tag wants its `.._back` and `.._form`, and a line in `behind_one` and in `known` of `StepReads`.
 use Rattle.std.proofs.Common.{◌≡◌, ℕ, Bool, Option, List, [], Result, Ok, Err, refl, sym, ap, ◌∙◌, arith}
-use Rattle.sat_base.specs.declared.error.StepError.{StepError}
+use Rattle.sat_base.specs.declared.steps.error.StepError.{StepError}
 use Rattle.sat_base.specs.steps.Formats.{Format, Both, OneForm}
 use Rattle.sat_base.specs.steps.Steps.{Deletion, Step, SolverVarName, UserVarName, DeleteVar, ChangeSamplingMode, AddClause, AtClause, UnitClauses, DeleteClause, ChangeHashBits, Model, Assumptions, FailedAssumptions, End}
 use Rattle.sat_base.specs.steps.StepText.{IsVariable, IsOptionalVariable, IsFlag, IsWidth, IsDeletion, AreLiterals, AreHashes, AreUnits}

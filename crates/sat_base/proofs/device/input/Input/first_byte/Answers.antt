@@ -1,0 +1,28 @@
+use Rattle.std.proofs.Common.{List, ℕ, [], ◌∷◌}
+use Rattle.std.proofs.lemmas.Result.{err_from_is_err_and}
+use Rattle.sat_base.specs.device.Waiting.{waiting}
+use Rattle.sat_base.specs.device.Reading.{source_of}
+use Rattle.sat_base.proofs.lemmas.device.ReadLemmas.{next_fails, took_byte}
+use Rattle.sat_base.proofs.device.input.Input.first_byte.Goals as goal
+
+pub returns-in_err-refill : goal.returns-in_err-refill
+returns-in_err-refill g c =
+    let i = c.args.self.now in
+    let names : List ℕ = i.reader.ghost_name ∷ i.ahead.ghost_name ∷ [] in
+    let p = err_from_is_err_and c.from_residual.result c.from_residual.ensures.1 in
+    rw (p.1, p.2) (next_fails c.in_err-refill.field-0.0 c.refill.new.self.end _ _ (c.in_err-refill.ensures.bytes names))
+
+pub returns-then-self-eq0 : goal.returns-then-self-eq0
+returns-then-self-eq0 g c =
+    let i = c.args.self.now in
+    let names : List ℕ = i.reader.ghost_name ∷ i.ahead.ghost_name ∷ [] in
+    let h = c.in_ok-refill.ensures.bytes names in
+    (h.0, h.1 c.if-self-eq0.true)
+
+pub returns : goal.returns
+returns g c =
+    let i = c.args.self.now in
+    let names : List ℕ = i.reader.ghost_name ∷ i.ahead.ghost_name ∷ [] in
+    let a = c.refill.new.self in
+    let b = c.take.new.self in
+    took_byte (source_of g.R.CountedRead.seen i) (g.R.CountedRead.seen c.refill.new.reader) (waiting a) (waiting b) names a.reads b.reads c.take.result (c.in_ok-refill.ensures.bytes names).0 c.take.ensures.byte c.take.ensures.reads

@@ -1,0 +1,28 @@
+use Rattle.std.proofs.Common.{Ok, Err}
+use Rattle.std.proofs.lemmas.Result.{err_from_is_err_and}
+use Rattle.sat_base.specs.steps.Formats.{Both}
+use Rattle.sat_base.specs.steps.StepText.{IsFlag, AreLiterals, AreHashes}
+use Rattle.sat_base.specs.device.Reading.{source_of}
+use Rattle.sat_base.proofs.lemmas.steps.FormatReads.{first_fails, second_gives}
+use Rattle.sat_base.proofs.lemmas.steps.StepReads.{one_flag, some_lists}
+use Rattle.sat_base.proofs.device.input.Input.flag_and_lists.Goals as goal
+
+pub returns-in_err-flag : goal.returns-in_err-flag
+returns-in_err-flag g c =
+    let S = source_of g.R.CountedRead.seen in
+    let p = err_from_is_err_and c.from_residual.result c.from_residual.ensures.1 in
+    rw (p.1, p.2) (first_fails IsFlag (λ _. Both AreLiterals AreHashes) one_flag (λ _. some_lists) c.in_err-flag.field-0.0 (S c.args.self.now) (S c.flag.new.self) c.in_err-flag.ensures)
+
+pub returns-in_err-both_lists : goal.returns-in_err-both_lists
+returns-in_err-both_lists g c =
+    let S = source_of g.R.CountedRead.seen in
+    let p = err_from_is_err_and c.from_residual-in_err-both_lists.result c.from_residual-in_err-both_lists.ensures.1 in
+    let k = c.in_ok-flag.ensures in
+    rw (p.1, p.2) (second_gives IsFlag (λ _. Both AreLiterals AreHashes) one_flag c.in_ok-flag.flag k.0 (S c.args.self.now) (S c.flag.new.self) (S c.both_lists.new.self) k.2 k.1 (Err c.in_err-both_lists.field-0.0) c.in_err-both_lists.ensures)
+
+pub returns : goal.returns
+returns g c =
+    let S = source_of g.R.CountedRead.seen in
+    let k = c.in_ok-flag.ensures in
+    let lists = c.both_lists.new.lists in
+    second_gives IsFlag (λ _. Both AreLiterals AreHashes) one_flag c.in_ok-flag.flag k.0 (S c.args.self.now) (S c.flag.new.self) (S c.both_lists.new.self) k.2 k.1 (Ok (lists.literals.items, lists.hashes.items)) c.in_ok-both_lists.ensures

@@ -1,0 +1,29 @@
+use Rattle.std.proofs.Common.{◌+◌, ◌-◌, ◌^◌, arith}
+use Rattle.std.proofs.lemmas.Result.{err_from_is_err_and}
+use Rattle.sat_base.specs.device.Reading.{source_of}
+use Rattle.sat_base.specs.steps.StepText.{IsHash}
+use Rattle.sat_base.proofs.lemmas.steps.Numbers.{one_below, some_below}
+use Rattle.sat_base.proofs.lemmas.steps.FormatReads.{counted_more, counted_fails, counted_no_room, counted_all}
+use Rattle.sat_base.proofs.device.input.Input.hash_items.Goals as goal
+
+pub returns-in_err-hash : goal.returns-in_err-hash
+returns-in_err-hash g c =
+    let S = source_of g.R.CountedRead.seen in
+    let p = err_from_is_err_and c.from_residual.result c.from_residual.ensures.1 in
+    rw (p.1, p.2) (counted_fails IsHash (one_below (2 ^ 64)) (some_below (2 ^ 64) (omega arith)) c.args.count (c.args.count - c.loop.counter) (c.args.count - (c.loop.counter + 1)) c.loop.hashes.items (S c.args.self.now) (S c.loop.self) (S c.number.new.self) c.in_err-hash.field-0.0 (omega arith) c.in_err-hash.ensures c.loop.invariant)
+
+pub returns-in_err-push : goal.returns-in_err-push
+returns-in_err-push g c =
+    let S = source_of g.R.CountedRead.seen in
+    let p = err_from_is_err_and c.from_residual-in_err-push.result c.from_residual-in_err-push.ensures.1 in
+    rw (p.1, p.2) (counted_no_room IsHash (one_below (2 ^ 64)) (some_below (2 ^ 64) (omega arith)) c.args.count (c.args.count - c.loop.counter) (c.args.count - (c.loop.counter + 1)) c.loop.hashes.items c.in_ok-hash.hash (S c.args.self.now) (S c.loop.self) (S c.number.new.self) (omega arith) c.in_ok-hash.ensures c.loop.invariant)
+
+pub loop-preserved : goal.loop-preserved
+loop-preserved g c =
+    let S = source_of g.R.CountedRead.seen in
+    rw c.in_ok-push.ensures.items (counted_more IsHash (one_below (2 ^ 64)) c.args.count (c.args.count - c.loop.counter) (c.args.count - (c.loop.counter + 1)) c.loop.hashes.items c.in_ok-hash.hash (S c.args.self.now) (S c.loop.self) (S c.number.new.self) (omega arith) c.in_ok-hash.ensures c.loop.invariant)
+
+pub returns : goal.returns
+returns g c =
+    let S = source_of g.R.CountedRead.seen in
+    counted_all IsHash c.args.count (c.args.count - c.loop.counter) c.loop.hashes.items (S c.args.self.now) (S c.loop.self) (omega arith) c.loop.invariant

@@ -1,0 +1,8 @@
+use Rattle.std.proofs.Common.{◌-◌}
+use Rattle.sat_base.specs.steps.StepText.{IsHash}
+use Rattle.sat_base.specs.device.Reading.{source_of}
+use Rattle.sat_base.proofs.lemmas.steps.FormatReads.{Counted}
+use Rattle.sat_base.proofs.device.input.Input.hash_items.Given as goal
+
+abbrev pub invariant-loop : goal.invariant-loop
+invariant-loop g l = Counted IsHash l.count (l.count - l.counter) l.hashes.items (source_of g.R.CountedRead.seen l.fn.self) (source_of g.R.CountedRead.seen l.self)

@@ -1,0 +1,30 @@
+use Rattle.std.proofs.Common.{◌+◌, ◌-◌, ◌*◌, arith}
+use Rattle.std.proofs.lemmas.Result.{err_from_is_err_and}
+use Rattle.sat_base.specs.values.Literals.{largest}
+use Rattle.sat_base.specs.device.Reading.{source_of}
+use Rattle.sat_base.specs.steps.StepText.{IsLiteral}
+use Rattle.sat_base.proofs.lemmas.steps.Numbers.{one_below, some_below}
+use Rattle.sat_base.proofs.lemmas.steps.FormatReads.{counted_more, counted_fails, counted_no_room, counted_all}
+use Rattle.sat_base.proofs.device.input.Input.literal_items.Goals as goal
+
+pub returns-in_err-lit : goal.returns-in_err-lit
+returns-in_err-lit g c =
+    let S = source_of g.R.CountedRead.seen in
+    let p = err_from_is_err_and c.from_residual.result c.from_residual.ensures.1 in
+    rw (p.1, p.2) (counted_fails IsLiteral (one_below (2 * largest)) (some_below (2 * largest) (omega arith)) c.args.count (c.args.count - c.loop.counter) (c.args.count - (c.loop.counter + 1)) c.loop.lits.items (S c.args.self.now) (S c.loop.self) (S c.literal.new.self) c.in_err-lit.field-0.0 (omega arith) c.in_err-lit.ensures c.loop.invariant)
+
+pub returns-in_err-push : goal.returns-in_err-push
+returns-in_err-push g c =
+    let S = source_of g.R.CountedRead.seen in
+    let p = err_from_is_err_and c.from_residual-in_err-push.result c.from_residual-in_err-push.ensures.1 in
+    rw (p.1, p.2) (counted_no_room IsLiteral (one_below (2 * largest)) (some_below (2 * largest) (omega arith)) c.args.count (c.args.count - c.loop.counter) (c.args.count - (c.loop.counter + 1)) c.loop.lits.items c.in_ok-lit.lit (S c.args.self.now) (S c.loop.self) (S c.literal.new.self) (omega arith) c.in_ok-lit.ensures c.loop.invariant)
+
+pub loop-preserved : goal.loop-preserved
+loop-preserved g c =
+    let S = source_of g.R.CountedRead.seen in
+    rw c.in_ok-push.ensures.items (counted_more IsLiteral (one_below (2 * largest)) c.args.count (c.args.count - c.loop.counter) (c.args.count - (c.loop.counter + 1)) c.loop.lits.items c.in_ok-lit.lit (S c.args.self.now) (S c.loop.self) (S c.literal.new.self) (omega arith) c.in_ok-lit.ensures c.loop.invariant)
+
+pub returns : goal.returns
+returns g c =
+    let S = source_of g.R.CountedRead.seen in
+    counted_all IsLiteral c.args.count (c.args.count - c.loop.counter) c.loop.lits.items (S c.args.self.now) (S c.loop.self) (omega arith) c.loop.invariant

@@ -1,0 +1,10 @@
+use Rattle.std.proofs.lemmas.Result.{err_from_is_err_and}
+use Rattle.sat_base.specs.device.Reading.{source_of}
+use Rattle.sat_base.proofs.lemmas.steps.StepReads.{optional_fails}
+use Rattle.sat_base.proofs.device.input.Input.optional.Goals as goal
+
+pub returns-in_err-above : goal.returns-in_err-above
+returns-in_err-above g c =
+    let S = source_of g.R.CountedRead.seen in
+    let p = err_from_is_err_and c.from_residual.result c.from_residual.ensures.1 in
+    rw (p.1, p.2) (optional_fails c.in_err-above.field-0.0 (S c.args.self.now) (S c.number.new.self) c.in_err-above.ensures)

@@ -1,0 +1,34 @@
+use Rattle.std.proofs.lemmas.Result.{err_from_is_err_and}
+use Rattle.sat_base.specs.device.Reading.{source_of}
+use Rattle.sat_base.proofs.lemmas.steps.TagForms.{stops_behind, solver_form, user_form, variable_form, mode_form, width_form}
+use Rattle.sat_base.proofs.device.input.Input.plain_fields.Goals as goal
+
+pub returns-in_err-global : goal.returns-in_err-global
+returns-in_err-global g c =
+    let S = source_of g.R.CountedRead.seen in
+    let p = err_from_is_err_and c.from_residual.result c.from_residual.ensures.1 in
+    λ literals hashes units. stops_behind 1 c.args.tag _ _ solver_form _ c.from_residual.result _ c.in_err-global.field-0.0 (S c.args.self.now) (S c.variables.new.self) p.1 p.2 c.if-tag-eq1.true c.in_err-global.ensures
+
+pub returns-in_err-global-2 : goal.returns-in_err-global-2
+returns-in_err-global-2 g c =
+    let S = source_of g.R.CountedRead.seen in
+    let p = err_from_is_err_and c.from_residual-in_err-global-2.result c.from_residual-in_err-global-2.ensures.1 in
+    λ literals hashes units. stops_behind 2 c.args.tag _ _ user_form _ c.from_residual-in_err-global-2.result _ c.in_err-global-2.field-0.0 (S c.args.self.now) (S c.variables-then-tag-eq2.new.self) p.1 p.2 c.if-tag-eq2.true c.in_err-global-2.ensures
+
+pub returns-in_err-var : goal.returns-in_err-var
+returns-in_err-var g c =
+    let S = source_of g.R.CountedRead.seen in
+    let p = err_from_is_err_and c.from_residual-in_err-var.result c.from_residual-in_err-var.ensures.1 in
+    λ literals hashes units. stops_behind 3 c.args.tag _ _ variable_form _ c.from_residual-in_err-var.result _ c.in_err-var.field-0.0 (S c.args.self.now) (S c.variable.new.self) p.1 p.2 c.if-tag-eq3.true c.in_err-var.ensures
+
+pub returns-in_err-var-2 : goal.returns-in_err-var-2
+returns-in_err-var-2 g c =
+    let S = source_of g.R.CountedRead.seen in
+    let p = err_from_is_err_and c.from_residual-in_err-var-2.result c.from_residual-in_err-var-2.ensures.1 in
+    λ literals hashes units. stops_behind 4 c.args.tag _ _ mode_form _ c.from_residual-in_err-var-2.result _ c.in_err-var-2.field-0.0 (S c.args.self.now) (S c.variable_and_flag.new.self) p.1 p.2 c.if-tag-eq4.true c.in_err-var-2.ensures
+
+pub returns-in_err-bits : goal.returns-in_err-bits
+returns-in_err-bits g c =
+    let S = source_of g.R.CountedRead.seen in
+    let p = err_from_is_err_and c.from_residual-in_err-bits.result c.from_residual-in_err-bits.ensures.1 in
+    λ literals hashes units. stops_behind 9 c.args.tag _ _ width_form _ c.from_residual-in_err-bits.result _ c.in_err-bits.field-0.0 (S c.args.self.now) (S c.width.new.self) p.1 p.2 c.if-tag-eq9.true c.in_err-bits.ensures

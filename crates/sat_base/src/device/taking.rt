@@ -1,0 +1,55 @@
+//! Taking bytes that were read ahead.
+ghost use Rattle.std.specs.Prelude.{◌≡◌, ◌<◌, ◌≤◌, ◌∷◌, ℕ, List, OnOk};
+ghost use Rattle.sat_base.specs.device.Reading.{Refills, source, named};
+ghost use Rattle.sat_base.specs.device.Waiting.{waiting};
+
+use crate::device::ahead::{Ahead, PIECE};
+use crate::device::whole::MAX_READS;
+use crate::{CountedRead, StepError};
+
+impl Ahead {
+    pub(crate) fn new() -> Ahead
+        ensures end { result.end ≡ 0 }
+        ensures reads { result.reads ≡ 0 }
+    {
+        Ahead {
+            piece: [0; PIECE],
+            at: 0,
+            end: 0,
+            reads: 0,
+        }
+    }
+
+    /// Takes a byte that was read.
+    #[inline(always)]
+    pub(crate) fn take(&mut self) -> u8
+        requires { self.old.at < self.old.end }
+        ensures byte { waiting self.old ≡ result ∷ waiting self.new }
+        ensures reads { self.new.reads ≡ self.old.reads }
+    {
+        let byte = self.piece[self.at];
+        self.at += 1;
+        byte
+    }
+
+    /// Reads the next piece, where all of the last one was taken.
+    pub(crate) fn refill<R: CountedRead>(&mut self, reader: &mut R) -> Result<(), StepError>
+        requires { self.old.end ≤ self.old.at }
+        ensures bytes { (names : List ℕ) → Refills result self.new.end (named names (source R.seen reader.old self.old)) (named names (source R.seen reader.new self.new)) }
+        ensures at { OnOk result (self.new.at ≡ 0) }
+    {
+        if self.reads >= MAX_READS {
+            return Err(StepError::Read);
+        }
+        self.reads += 1;
+        self.at = 0;
+        self.end = 0;
+        match reader.read_counted(&mut self.piece) {
+            Ok(count) => {
+                self.end = count;
+                Ok(())
+            }
+            Err(_) => Err(StepError::Read),
+        }
+    }
+}

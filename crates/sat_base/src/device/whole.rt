@@ -1,0 +1,54 @@
+//! Reading a reader to its end.
+ghost use Rattle.std.specs.Prelude.{◌≡◌, ◌+◌, ◌≤◌, ◌⊎◌, IfOk, OnOk, IsErrOf};
+ghost use Rattle.sat_base.specs.device.Device.{most_reads, ReadFails, GaveAll, Grew};
+
+use crate::CountedRead;
+use std::alloc::{AllocError, Global};
+use thiserror::Error;
+
+/// A reader is read at most so often.
+pub(crate) const MAX_READS: u64 = 1 << 48;
+
+/// Why a reader wasn't read to its end.
+#[derive(Clone, Copy, Debug, Drop, PartialEq, Eq, Error)]
+pub enum ReadError {
+    /// A read failed, or there were 2^48 of them.
+    #[error("a read failed")]
+    Failed,
+    #[error("out of memory")]
+    OutOfMemory,
+}
+
+impl From<AllocError> for ReadError {
+    ghost use Rattle.std.specs.Prelude.{◌≡◌};
+    ghost use Rattle.sat_base.specs.declared.device.whole.ReadError.TheVariants.{OutOfMemory};
+
+    ghost from_gives = { λ _ e. e ≡ OutOfMemory };
+
+    fn from(_e: AllocError) -> ReadError {
+        ReadError::OutOfMemory
+    }
+}
+
+/// Reads to the end, in pieces of at most 4,096 bytes, and gives all bytes. The first failed read ends it. After an error what was
+/// read is gone.
+pub fn read_whole<R: CountedRead>(alloc: Global, reader: &mut R) -> Result<Vec<u8>, ReadError>
+    ensures gave { IfOk result (λ v. GaveAll (R.seen reader.old) (R.seen reader.new) v.items) }
+    ensures front { Grew (R.seen reader.old) (R.seen reader.new) }
+    ensures kept { OnOk result ((R.seen reader.new).failures ≡ (R.seen reader.old).failures) }
+    // None is tried again.
+    ensures failed { IsErrOf result ReadError.Failed → ReadFails (R.seen reader.old) (R.seen reader.new) }
+    ensures memory { IsErrOf result ReadError.OutOfMemory → (R.seen reader.new).failures ≡ (R.seen reader.old).failures }
+    ensures reads { (R.seen reader.new).calls ≤ (R.seen reader.old).calls + most_reads }
+{
+    let mut whole = Vec::new(alloc);
+    let mut piece = [0; 4096];
+    for _ in 0..MAX_READS {
+        match reader.read_counted(&mut piece) {
+            Ok(0) => return Ok(whole),
+            Ok(count) => whole.extend_from_slice(&piece[..count])?,
+            Err(_) => return Err(ReadError::Failed),
+        }
+    }
+    Err(ReadError::Failed)
+}

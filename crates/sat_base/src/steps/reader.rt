@@ -1,0 +1,114 @@
+//! A reader of proof steps.
+ghost use Rattle.std.specs.Prelude.{◌≡◌, false};
+ghost use Rattle.sat_base.specs.steps.StepViews.{step_of};
+ghost use Rattle.sat_base.specs.device.Reading.{Answers, giving, source, unread, valued};
+ghost use Rattle.sat_base.specs.steps.Kinds.{step_with};
+ghost use Rattle.sat_base.specs.steps.StepReading.{reader_source, has_failed, reader_name, step_in, is_stop, Next};
+
+use crate::device::ahead::Ahead;
+use crate::device::input::Input;
+use crate::steps::kind::Kind;
+use crate::steps::step_lists::Lists;
+use crate::{CountedRead, ProofStep, StepError};
+use std::alloc::Global;
+
+/// What a reader of steps keeps: the bytes read ahead, and the lists of the step in hand.
+#[derive(Drop)]
+pub struct Buffers {
+    ahead: Ahead,
+    lists: Lists,
+    /// Which step the lists belong to.
+    kind: Kind,
+    failed: bool,
+}
+
+/// A reader of proof steps, which asks its reader for at most 4,096 bytes at a time.
+pub struct StepReader<'r, R, B: Drop = Buffers> {
+    reader: &'r mut R,
+    buffers: B,
+}
+
+impl<R, B: Drop> Drop for StepReader<'_, R, B> {
+    /// The reader is left as the last step left it.
+    fn drop(self)
+        ensures { self.exit.0.now ≡ self.entry.reader.now }
+    {
+        let StepReader {
+            reader: _reader,
+            buffers: _buffers,
+        } = self;
+    }
+}
+
+/// Tests whether no step is read after this error.
+fn stops(error: StepError) -> bool
+    ensures { result ≡ is_stop error }
+{
+    match error {
+        StepError::Ends => false,
+        StepError::Cut => true,
+        StepError::BadByte => true,
+        StepError::Read => true,
+        StepError::OutOfMemory => true,
+        StepError::HasFailed => true,
+    }
+}
+
+/// Reads the next step of a reader, of which this was read ahead.
+fn read_from<R: CountedRead>(
+    reader: &mut R,
+    ahead: &mut Ahead,
+    lists: &mut Lists,
+) -> Result<Kind, StepError>
+    ensures { Answers (valued (λ k. step_with k lists.new.literals.items lists.new.hashes.items lists.new.units.items) result) (source R.seen reader.old ahead.old) (source R.seen reader.new ahead.new) }
+{
+    let mut input = Input::new(reader, ahead);
+    input.read_step(lists)
+}
+
+impl<'r, R: CountedRead> StepReader<'r, R, Buffers> {
+    /// A reader of the steps that stand next in a reader. Nothing is read yet, and no memory taken.
+    pub fn new(alloc: Global, reader: &'r mut R) -> StepReader<'r, R, Buffers>
+        ensures same { reader_name result ≡ reader.entry.ghost_name }
+        ensures source { reader_source R.seen result ≡ unread (R.seen reader.old) }
+        ensures fresh { has_failed result ≡ false }
+    {
+        let buffers = Buffers {
+            ahead: Ahead::new(),
+            lists: Lists::new(alloc),
+            kind: Kind::End,
+            failed: false,
+        };
+        StepReader { reader, buffers }
+    }
+
+    /// Reads the next step, which `step` then lends. After any error but `Ends` it only answers that it has failed.
+    pub fn advance(&mut self) -> Result<(), StepError>
+        ensures { Next R.seen self.old self.new (giving (step_in self.new) result) }
+    {
+        if self.buffers.failed {
+            return Err(StepError::HasFailed);
+        }
+        match read_from(
+            self.reader,
+            &mut self.buffers.ahead,
+            &mut self.buffers.lists,
+        ) {
+            Ok(kind) => {
+                self.buffers.kind = kind;
+                Ok(())
+            }
+            Err(error) => {
+                self.buffers.failed = stops(error);
+                Err(error)
+            }
+        }
+    }
+
+    /// The step that `advance` has read, after an `Ok`. After an error it says nothing.
+    pub fn step(&self) -> ProofStep<'_>
+        ensures { step_of result ≡ step_in self.now }
+    {
+        self.buffers.lists.step(self.buffers.kind)
+    }
+}

@@ -1,0 +1,66 @@
+//! The lists of the step in hand, whose room is used again.
+ghost use Rattle.std.specs.Prelude.{◌≡◌};
+ghost use Rattle.sat_base.specs.steps.StepViews.{step_of};
+ghost use Rattle.sat_base.specs.steps.Kinds.{step_with};
+
+use crate::steps::kind::Kind;
+use crate::{ClauseHash, Lit, ProofStep};
+use std::alloc::Global;
+
+#[derive(Drop)]
+pub(crate) struct Lists {
+    pub(crate) literals: Vec<Lit>,
+    pub(crate) hashes: Vec<ClauseHash>,
+    pub(crate) units: Vec<(Lit, ClauseHash)>,
+}
+
+impl Lists {
+    pub(crate) fn new(alloc: Global) -> Lists {
+        Lists {
+            literals: Vec::new(alloc),
+            hashes: Vec::new(alloc),
+            units: Vec::new(alloc),
+        }
+    }
+
+    /// The step of this kind that has these lists.
+    pub(crate) fn step(&self, kind: Kind) -> ProofStep<'_>
+        ensures { step_of result ≡ step_with kind self.now.literals.items self.now.hashes.items self.now.units.items }
+    {
+        let literals = self.literals.as_slice();
+        let propagation_hashes = self.hashes.as_slice();
+        match kind {
+            Kind::SolverVarName { global, solver } => ProofStep::SolverVarName { global, solver },
+            Kind::UserVarName { global, user } => ProofStep::UserVarName { global, user },
+            Kind::DeleteVar { var } => ProofStep::DeleteVar { var },
+            Kind::ChangeSamplingMode { var, sample } => {
+                ProofStep::ChangeSamplingMode { var, sample }
+            }
+            Kind::AddClause => ProofStep::AddClause { clause: literals },
+            Kind::AtClause { redundant } => ProofStep::AtClause {
+                redundant,
+                clause: literals,
+                propagation_hashes,
+            },
+            Kind::UnitClauses => ProofStep::UnitClauses {
+                units: self.units.as_slice(),
+            },
+            Kind::DeleteClause { proof } => ProofStep::DeleteClause {
+                clause: literals,
+                proof,
+            },
+            Kind::ChangeHashBits { bits } => ProofStep::ChangeHashBits { bits },
+            Kind::Model => ProofStep::Model {
+                assignment: literals,
+            },
+            Kind::Assumptions => ProofStep::Assumptions {
+                assumptions: literals,
+            },
+            Kind::FailedAssumptions => ProofStep::FailedAssumptions {
+                failed_core: literals,
+                propagation_hashes,
+            },
+            Kind::End => ProofStep::End,
+        }
+    }
+}
