@@ -417,6 +417,6 @@ fn errors_are_printed(rt: HostRuntime) -> Result<(), Fail> {
 
 #[test]
 fn laws_are_proved(_rt: HostRuntime) {
-    sat_base::law_dimacs::dimacs_laws();
-    sat_base::law_dimacs::dimacs_rows();
+    sat_base::dimacs_laws();
+    sat_base::dimacs_rows();
 }

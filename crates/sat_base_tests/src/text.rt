@@ -198,5 +198,5 @@ fn tells_numbers_from_wrong_words(rt: HostRuntime) {
 
 #[test]
 fn laws_are_proved(_rt: HostRuntime) {
-    sat_base::law_text::script_laws();
+    sat_base::script_laws();
 }
