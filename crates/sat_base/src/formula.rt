@@ -5,23 +5,23 @@ ghost use Rattle.sat_base.specs.values.Literals.{largest};
 ghost use Rattle.sat_base.specs.values.Formulas.{no_formula, vars_in, vars_of, with_count, with_clause, with_variable};
 ghost use Rattle.sat_base.specs.declared.formula.error.FormulaError.TheVariants.{OutOfMemory, VariableLimit};
 
-pub mod error;
-mod flat;
-pub mod iter;
+pub(crate) mod error;
 
 use self::error::FormulaError;
-use self::flat::FlatClauses;
-use self::iter::CnfFormulaIter;
 use crate::extend::ExtendFormula;
+use crate::flat_lists::{FlatLists, FlatListsIter};
 use crate::{Lit, Var};
 use std::alloc::Global;
 use std::marker::Model;
+
+/// Lends each clause of a formula, in order.
+pub type CnfFormulaIter<'a> = FlatListsIter<'a, Lit>;
 
 /// Clauses in the order in which they were added, and a number of variables, which is at most 2^28.
 #[derive(Debug, Drop)]
 pub struct CnfFormula {
     var_count: usize,
-    clauses: FlatClauses,
+    clauses: FlatLists<Lit>,
 }
 
 impl Model for CnfFormula {
@@ -43,7 +43,7 @@ impl CnfFormula {
     {
         CnfFormula {
             var_count: 0,
-            clauses: FlatClauses::new(alloc),
+            clauses: FlatLists::new(alloc),
         }
     }
 

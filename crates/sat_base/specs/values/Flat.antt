@@ -1,12 +1,12 @@
--- Clauses in flat storage: their literals one after another, and where each clause ends.
-use Rattle.std.specs.Prelude.{ℕ, ◌-◌, ◌≤◌, ◌≡◌, List, [], ◌∷◌, take, drop}
+-- Lists in one piece of memory: their items one after another, and where each list ends.
+use Rattle.std.specs.Prelude.{ℕ, ◌≡◌, ◌≤◌, List, [], ◌∷◌, length, slice_range}
 
--- the clauses that lie in literals which so many others precede
-abbrev pub clauses_in : ℕ → List ℕ → List ℕ → List (List ℕ)
-clauses_in start ls [] = []
-clauses_in start ls (end ∷ ends) = take (end - start) ls ∷ clauses_in end (drop (end - start) ls) ends
+-- the pieces that end at these places, the first of which begins here
+abbrev pub pieces : {A : Type 0} → ℕ → List ℕ → List A → List (List A)
+pieces from [] xs = []
+pieces from (end ∷ ends) xs = slice_range xs from end ∷ pieces end ends xs
 
--- the ends are in order, from this start on, and the last one is the number of all literals
-abbrev pub InOrder : ℕ → List ℕ → ℕ → Type 0
-InOrder start [] total = start ≡ total
-InOrder start (end ∷ ends) total = (start ≤ end) × InOrder end ends total
+-- the places ascend, and the last is the list's end
+abbrev pub AreEnds : {A : Type 0} → ℕ → List ℕ → List A → Type 0
+AreEnds from [] xs = length xs ≡ from
+AreEnds from (end ∷ ends) xs = (from ≤ end) × AreEnds end ends xs

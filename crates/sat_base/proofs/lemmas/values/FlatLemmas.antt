@@ -1,51 +1,57 @@
--- Clauses in flat storage: one more at the end, and the first one taken.
-use Rattle.std.proofs.Common.{◌≡◌, ℕ, ◌+◌, ◌-◌, ◌<◌, ◌≤◌, List, [], ◌∷◌, ◌++◌, length, take, drop, get_or, suc, max, refl, ap, ap₂, subst, ◌∙◌, arith, length-drop}
-use Rattle.std.proofs.lemmas.List.{take-append-le, drop-append-le, take_all}
+-- Lists in one piece of memory: one more at the end, and the one at a place.
+use Rattle.std.proofs.Common.{ℕ, zero, suc, max, ◌≡◌, ◌+◌, ◌-◌, ◌<◌, ◌≤◌, List, [], ◌∷◌, ◌++◌, length, get_or, take, drop, refl, sym, ◌∙◌, ap, arith}
+use Rattle.std.specs.List.{between}
+use Rattle.std.proofs.lemmas.List.{drop_at, take_all, take-append-le, length-append}
+use Rattle.std.proofs.lemmas.Slice.{between_is}
 use Rattle.std.proofs.Math.Seq.{drop-cons}
 use Rattle.std.proofs.iter.runs.Sources.{from_front}
 use Rattle.std.specs.Map.Iter.{TakesFirst, ShowsInOrder, deref}
 use Rattle.sat_base.specs.values.Literals.{variable}
 use Rattle.sat_base.specs.values.Formulas.{vars_in, vars_of}
-use Rattle.sat_base.specs.values.Flat.{clauses_in, InOrder}
+use Rattle.sat_base.specs.values.Flat.{pieces, AreEnds}
 
-pub end_within : (start : ℕ) (ends : List ℕ) (total : ℕ) → InOrder start ends total → start ≤ total
-end_within start [] total s = omega arith
-end_within start (e ∷ es) total s = let h : e ≤ total = end_within e es total s.1 in omega (arith, s.0)
+pub length-pieces : {A : Type 0} (from : ℕ) (ends : List ℕ) (xs : List A) → length (pieces from ends xs) ≡ length ends
+length-pieces from [] xs = refl
+length-pieces from (e ∷ es) xs = ap suc (length-pieces e es xs)
 
-pub ends_count : (start : ℕ) (ls ends : List ℕ) → length (clauses_in start ls ends) ≡ length ends
-ends_count start ls [] = refl
-ends_count start ls (e ∷ es) = ap suc (ends_count e (drop (e - start) ls) es)
+pub AreEnds-le : {A : Type 0} (from : ℕ) (ends : List ℕ) (xs : List A) → AreEnds from ends xs → from ≤ length xs
+AreEnds-le from [] xs h = omega arith
+AreEnds-le from (e ∷ es) xs h = let more : e ≤ length xs = AreEnds-le e es xs h.1 in omega (arith, h.0)
 
-pub push_in_order : (start : ℕ) (ends : List ℕ) (total more : ℕ) → total ≤ more → InOrder start ends total → InOrder start (ends ++ more ∷ []) more
-push_in_order start [] total more h s = (omega arith, refl)
-push_in_order start (e ∷ es) total more h s = (s.0, push_in_order e es total more h s.1)
+pub start_below : {A : Type 0} (from : ℕ) (ends : List ℕ) (xs : List A) (i : ℕ) → AreEnds from ends xs → i < length ends → get_or (from ∷ ends) i 0 ≤ get_or ends i 0
+start_below from [] xs i h inside = absurd (omega arith)
+start_below from (e ∷ es) xs zero h inside = h.0
+start_below from (e ∷ es) xs (suc i) h inside = start_below e es xs i h.1 (omega arith)
 
--- the first clause's literals lie there, and the ends behind it go with the literals behind it
-pub first_within : (start e : ℕ) (es ls : List ℕ) → InOrder start (e ∷ es) (start + length ls) → e - start ≤ length ls
-first_within start e es ls s = let h : e ≤ start + length ls = end_within e es (start + length ls) s.1 in omega (arith, s.0)
+pub end_below : {A : Type 0} (from : ℕ) (ends : List ℕ) (xs : List A) (i : ℕ) → AreEnds from ends xs → i < length ends → get_or ends i 0 ≤ length xs
+end_below from [] xs i h inside = absurd (omega arith)
+end_below from (e ∷ es) xs zero h inside = AreEnds-le e es xs h.1
+end_below from (e ∷ es) xs (suc i) h inside = end_below e es xs i h.1 (omega arith)
 
-pub rest_in_order : (start e : ℕ) (es ls : List ℕ) → InOrder start (e ∷ es) (start + length ls) → InOrder e es (e + length (drop (e - start) ls))
-rest_in_order start e es ls s =
-    let h = end_within e es (start + length ls) s.1 in
-    let k : start + length ls ≡ e + length (drop (e - start) ls) = omega (arith, s.0, h, length-drop (e - start) ls) in
-    subst (InOrder e es) k s.1
+pub piece_at : {A : Type 0} (from : ℕ) (ends : List ℕ) (xs : List A) (i : ℕ) → i < length ends → get_or (pieces from ends xs) i [] ≡ between (get_or (from ∷ ends) i 0) (get_or ends i 0) xs
+piece_at from [] xs i inside = absurd (omega arith)
+piece_at from (e ∷ es) xs zero inside = refl
+piece_at from (e ∷ es) xs (suc i) inside = piece_at e es xs i (omega arith)
 
-nothing : (ls : List ℕ) → length ls ≡ 0 → ls ≡ []
-nothing [] e = refl
-nothing (x ∷ xs) e = absurd (omega arith)
+last_piece : {A : Type 0} (xs c : List A) (from : ℕ) → length xs ≡ from → between from (length (xs ++ c)) (xs ++ c) ≡ c
+last_piece xs c from e =
+    let k : length c ≤ length (xs ++ c) - from = omega (arith, length-append xs c) in
+    ap (take (length (xs ++ c) - from)) (drop_at xs c from e) ∙ take_all (length (xs ++ c) - from) c k
 
-pub push_clauses : (start : ℕ) (ls ends c : List ℕ) (total : ℕ) → InOrder start ends (start + length ls) → total ≡ start + length ls + length c
-    → clauses_in start (ls ++ c) (ends ++ total ∷ []) ≡ clauses_in start ls ends ++ c ∷ []
-push_clauses start ls [] c total s h =
-    let none : ls ≡ [] = nothing ls (omega arith) in
-    let long : length c ≤ total - start = omega (arith, ap length none) in
-    ap (λ (xs : List ℕ). xs ∷ []) (ap (λ (xs : List ℕ). take (total - start) (xs ++ c)) none ∙ take_all (total - start) c long)
-push_clauses start ls (e ∷ es) c total s h =
-    let within : e - start ≤ length ls = first_within start e es ls s in
-    let behind = drop (e - start) ls in
-    let k : total ≡ e + length behind + length c = omega (arith, s.0, h, length-drop (e - start) ls, within) in
-    ap₂ ◌∷◌ (take-append-le (e - start) ls c within)
-    (ap (λ (xs : List ℕ). clauses_in e xs (es ++ total ∷ [])) (drop-append-le (e - start) ls c within) ∙ push_clauses e behind es c total (rest_in_order start e es ls s) k)
+same_piece : {A : Type 0} (xs c : List A) (from end : ℕ) → end ≤ length xs → between from end (xs ++ c) ≡ between from end xs
+same_piece xs c from end h = between_is (xs ++ c) from end ∙ ap (drop from) (take-append-le end xs c h) ∙ sym (between_is xs from end)
+
+pub pieces-push : {A : Type 0} (from : ℕ) (ends : List ℕ) (xs c : List A) → AreEnds from ends xs → pieces from (ends ++ length (xs ++ c) ∷ []) (xs ++ c) ≡ pieces from ends xs ++ c ∷ []
+pieces-push from [] xs c h = ap (λ p. p ∷ []) (last_piece xs c from h)
+pieces-push from (e ∷ es) xs c h =
+    ap (λ p. p ∷ pieces e (es ++ length (xs ++ c) ∷ []) (xs ++ c)) (same_piece xs c from e (AreEnds-le e es xs h.1))
+    ∙ ap (λ ps. between from e xs ∷ ps) (pieces-push e es xs c h.1)
+
+pub AreEnds-push : {A : Type 0} (from : ℕ) (ends : List ℕ) (xs c : List A) → AreEnds from ends xs → AreEnds from (ends ++ length (xs ++ c) ∷ []) (xs ++ c)
+AreEnds-push from [] xs c h = (omega (arith, length-append xs c), refl)
+AreEnds-push from (e ∷ es) xs c h = (h.0, AreEnds-push e es xs c h.1)
+
+pub ruleset flat = (length-pieces, start_below, end_below, piece_at, pieces-push, AreEnds-push)
 
 -- the next literal's variable moves from what is left into what was taken
 pub vars_next : (ls : List ℕ) (i count : ℕ) → i < length ls → max count (vars_in (drop i ls)) ≡ max (max count (variable (get_or ls i 0) + 1)) (vars_in (drop (i + 1) ls))
@@ -56,6 +62,6 @@ pub vars_of_more : (cs : List (List ℕ)) (c : List ℕ) → vars_of (cs ++ c �
 vars_of_more [] c = omega arith
 vars_of_more (d ∷ ds) c = let h = vars_of_more ds c in omega arith
 
--- what a loop sees of the clauses that an iterator lends
-pub clauses_in_order : ShowsInOrder (deref {X = List ℕ})
-clauses_in_order = from_front (TakesFirst deref) deref (λ s. s) (λ s t h. ap length h.0) (λ s x t h. h)
+-- what a loop sees of the lists that an iterator lends
+pub lists_in_order : {X : Type 0} → ShowsInOrder (deref {X = X})
+lists_in_order = from_front (TakesFirst deref) deref (λ s. s) (λ s t h. ap length h.0) (λ s x t h. h)
