@@ -1,9 +1,11 @@
-//! How variables and literals are ordered, as contracts see it.
+//! How variables and literals are ordered and hashed, as contracts see it.
 ghost use Rattle.std.specs.Ordering.{nat_cmp};
-ghost use Rattle.std.specs.Prelude.{◌≡◌};
+ghost use Rattle.std.specs.Prelude.{◌≡◌, IsTrue, fold};
+ghost use Rattle.std.specs.Hash.DefaultHasher as sip;
 
 use crate::{Lit, Var};
 use std::cmp::Ordering;
+use std::hash::{DefaultHasher, Hash, Hasher};
 
 /// Variables are ordered by their indices.
 pub fn order_of_variables(a: Var, b: Var) -> Ordering
@@ -17,4 +19,27 @@ pub fn order_of_literals(l: Lit, m: Lit) -> Ordering
     ensures { result ≡ nat_cmp l m }
 {
     l.cmp(&m)
+}
+
+/// What a hasher makes of a value alone.
+fn fed<T: Hash>(value: &T) -> u64
+    ensures { result ≡ sip.finish (fold sip.write sip.initial (T.hash_input value.now)) }
+{
+    let mut state = DefaultHasher::new();
+    value.hash(&mut state);
+    state.finish()
+}
+
+/// Equal variables feed a hasher the same.
+pub fn equal_variables_hash_alike(a: &Var, b: &Var) -> bool
+    ensures { IsTrue result }
+{
+    *a != *b || fed(a) == fed(b)
+}
+
+/// Equal literals feed a hasher the same.
+pub fn equal_literals_hash_alike(l: &Lit, m: &Lit) -> bool
+    ensures { IsTrue result }
+{
+    *l != *m || fed(l) == fed(m)
 }

@@ -2,6 +2,7 @@
 ghost use Rattle.sat_base.specs.steps.Formats.{OneForm};
 ghost use Rattle.std.specs.Prelude.{◌≡◌, ℕ, List};
 ghost use Rattle.sat_base.specs.steps.Steps.{Step};
+ghost use Rattle.sat_base.specs.steps.StepBytes.{step_bytes};
 ghost use Rattle.sat_base.specs.steps.StepText.{SpellsStep, SpellsSteps};
 
 /// No step's text begins another's, and no text has two steps.
@@ -12,4 +13,14 @@ pub fn steps_have_one_form()
 /// A text of steps is that of one list of steps.
 pub fn texts_are_read_one_way()
     ensures { (xs ys : List Step) (text : List ℕ) → SpellsSteps xs text → SpellsSteps ys text → xs ≡ ys }
+{}
+
+/// A step has one spelling.
+pub fn steps_have_one_spelling()
+    ensures { (step : Step) (a b : List ℕ) → SpellsStep step a → SpellsStep step b → a ≡ b }
+{}
+
+/// What is written for a step spells it, and nothing else does.
+pub fn written_steps_are_spellings()
+    ensures { (step : Step) (text : List ℕ) → SpellsStep step text → text ≡ step_bytes step }
 {}

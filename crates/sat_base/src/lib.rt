@@ -9,6 +9,7 @@ mod flat_lists;
 mod formula;
 mod hash;
 mod law_dimacs;
+mod law_hash;
 mod law_lit;
 mod law_step;
 mod law_text;
@@ -27,8 +28,14 @@ pub use formula::error::FormulaError;
 pub use formula::{CnfFormula, CnfFormulaIter};
 pub use hash::{ClauseHash, clause_hash, lit_hash};
 pub use law_dimacs::{dimacs_laws, dimacs_rows, written_dimacs_is_read};
-pub use law_lit::{order_of_literals, order_of_variables};
-pub use law_step::{steps_have_one_form, texts_are_read_one_way};
+pub use law_hash::permuted_clauses_hash_alike;
+pub use law_lit::{
+    equal_literals_hash_alike, equal_variables_hash_alike, order_of_literals, order_of_variables,
+};
+pub use law_step::{
+    steps_have_one_form, steps_have_one_spelling, texts_are_read_one_way,
+    written_steps_are_spellings,
+};
 pub use law_text::script_laws;
 pub use lit::Lit;
 pub use steps::{

@@ -4,6 +4,7 @@ pub mod LentInput
 pub mod ListBytes
 pub mod NumberBytes
 pub mod Numbers
+pub mod OneSpelling
 pub mod StepReads
 pub mod StepsWritten
 pub mod TagForms
