@@ -6,6 +6,7 @@ use std::marker::Model;
 
 /// The Luby sequence 1, 1, 2, 1, 1, 2, 4, .. from term 1 to term 2^64 - 1, and then from the first again. Contracts see it as the
 /// number of the last term that it gave.
+#[derive(Drop)]
 pub struct LubySequence {
     given: u64,
 }

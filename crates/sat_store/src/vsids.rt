@@ -95,7 +95,8 @@ impl Vsids {
     /// Raises the activity of a variable.
     pub fn bump(&mut self, var: Var)
         requires { var < length self.old.available }
-        ensures { self.new ≡ bumped var self.old }
+        ensures queue { self.new ≡ bumped var self.old }
+        ensures available { self.new.available ≡ self.old.available }
     {
         let index = var.index();
         let raised = self.activities[index] + self.bump;
@@ -124,7 +125,8 @@ impl Vsids {
 
     /// Lets all activities decay, in that later bumps add more.
     pub fn decay(&mut self)
-        ensures { self.new ≡ decayed self.old }
+        ensures queue { self.new ≡ decayed self.old }
+        ensures available { self.new.available ≡ self.old.available }
     {
         let later = self.bump / self.decay * 1000
             + (self.bump % self.decay * 1000 + self.decay - 1) / self.decay;
@@ -190,10 +192,13 @@ impl Vsids {
 impl Iterator for Vsids {
     type Item = Var;
 
-    ghost use Rattle.std.specs.Prelude.{◌≡◌, MatchOption, false};
+    ghost use Rattle.std.specs.Prelude.{◌≡◌, MatchOption, false, count_by};
+    ghost use Rattle.std.specs.Iterator.{at_most};
     ghost use Rattle.sat_store.specs.heap.Vsids.{IsFirst, NoneLeft, with_available};
 
     ghost next_gives = { λ q result after. MatchOption result (NoneLeft q × (after ≡ q)) (λ v. IsFirst q v × (after ≡ with_available v false q)) };
+
+    ghost remaining = { λ q. at_most (count_by (λ b. b) q.available) };
 
     /// The variable of highest activity of those that may be picked, of equals the one of the lowest index. It may not be picked
     /// from then on. `None` where there is none.
@@ -224,3 +229,6 @@ fn rescale(activities: &mut Vec<u64>, bump: u64) -> u64
     }
     (bump >> 40).max(1)
 }
+
+#[cfg(test)]
+mod tests;

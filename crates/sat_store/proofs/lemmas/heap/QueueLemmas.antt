@@ -1,6 +1,8 @@
 -- What the calls on a heap of variables leave of it.
-use Rattle.std.proofs.Common.{◌≡◌, ◌≢◌, ℕ, zero, suc, ◌+◌, ◌-◌, ◌*◌, ◌/◌, ◌%◌, ◌^◌, ◌<◌, ◌≤◌, ◌⊎◌, inl, inr, nat_lt, Bool, true, false, List, [], ◌∷◌, ◌++◌, length, map, replicate, get_or, set, refl, sym, ap, ◌∙◌, arith, subst, length-append, append_assoc, max}
+use Rattle.std.proofs.Common.{◌≡◌, ◌≢◌, ℕ, zero, suc, ◌+◌, ◌-◌, ◌*◌, ◌/◌, ◌%◌, ◌^◌, ◌<◌, ◌≤◌, ◌⊎◌, inl, inr, nat_lt, Bool, true, false, cond, List, [], ◌∷◌, ◌++◌, length, map, replicate, get_or, set, refl, sym, ap, ◌∙◌, arith, subst, length-append, append_assoc, max}
 use Rattle.std.proofs.lemmas.Bool.{cases_eq, cases_lt, false≢true}
+use Rattle.std.specs.List.{count_by}
+use Rattle.std.proofs.lemmas.List.Sums.{sum_by-set}
 use Rattle.std.proofs.lemmas.Nat.{div-add-mod', div_below}
 use Rattle.std.proofs.Math.Nat.{mul-add-div_right}
 use Rattle.std.proofs.lemmas.Bool.Decides.{nat_tests}
@@ -326,3 +328,18 @@ stays_available p m v within less = set_again (flags m p) v true (flag_at m p v 
 
 pub stays_unavailable : (p : List ℕ) (m v : ℕ) → v < length p → m ≤ get_or p v 0 → set (flags m p) v false ≡ flags m p
 stays_unavailable p m v within more = set_again (flags m p) v false (flag_at m p v within ∙ from_test (get_or p v 0) m more)
+
+-- how many may be picked
+
+pub one_fewer_true : (f : List Bool) (u : ℕ) → u < length f → get_or f u false ≡ true → count_by (λ b. b) (set f u false) + 1 ≡ count_by (λ b. b) f
+one_fewer_true f u within flag =
+    let sums : count_by (λ b. b) (set f u false) + cond {A = ℕ} (get_or f u false) 1 0 ≡ count_by (λ b. b) f + 0 = sum_by-set (λ (b : Bool). cond {A = ℕ} b 1 0) f u false false within in
+    let one : cond {A = ℕ} (get_or f u false) 1 0 ≡ 1 = ap (λ (b : Bool). cond {A = ℕ} b 1 0) flag in
+    omega arith
+
+pub front_fewer : (h p a : List ℕ) (m : ℕ) → IsHeap h p a m → 0 < m → count_by (λ b. b) (set (flags m p) (get_or h 0 0) false) + 1 ≡ count_by (λ b. b) (flags m p)
+front_fewer h p a m heap some =
+    let within : 0 < length h = omega (arith, heap.within) in
+    let at : get_or p (get_or h 0 0) 0 ≡ 0 = heap.placed.position 0 within in
+    let listed : get_or h 0 0 < length p = omega (arith, heap.placed.listed 0 within, heap.placed.count) in
+    one_fewer_true (flags m p) (get_or h 0 0) (omega (arith, flags_count m p)) (flag_at m p (get_or h 0 0) listed ∙ below_test (get_or p (get_or h 0 0) 0) m (omega arith))

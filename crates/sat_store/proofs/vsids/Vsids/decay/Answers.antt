@@ -20,14 +20,14 @@ invariant_of-self c =
       c.self.invariant.4,
     )
 
-pub returns-then-later-ge-LIMIT : goal.returns-then-later-ge-LIMIT
-returns-then-later-ge-LIMIT c =
+pub returns-then-later-ge-LIMIT-clause-queue : goal.returns-then-later-ge-LIMIT-clause-queue
+returns-then-later-ge-LIMIT-clause-queue c =
     let some : 0 < c.self.inside.decay = omega (arith, c.self.invariant.3) in
     let parts = thousandfold c.self.inside.bump c.self.inside.decay some in
     rw (← c.self.view_is) (decayed_large _ _ _ _ _ parts c.if-later-ge-LIMIT.true c.heapify.ensures.flags c.rescale-self-inside.ensures.activities c.rescale-self-inside.ensures.bump)
 
-pub returns : goal.returns
-returns c =
+pub returns-clause-queue : goal.returns-clause-queue
+returns-clause-queue c =
     let some : 0 < c.self.inside.decay = omega (arith, c.self.invariant.3) in
     let parts = thousandfold c.self.inside.bump c.self.inside.decay some in
     rw (← c.self.view_is) (decayed_small _ _ parts c.if-later-ge-LIMIT.false)

@@ -1,8 +1,9 @@
-use Rattle.std.proofs.Common.{◌≡◌, ◌<◌, ℕ, List, Bool, false, length, get_or, set, ap, ◌∙◌, refl, sym, subst, arith}
+use Rattle.std.proofs.Common.{◌≡◌, ◌<◌, ◌+◌, ◌-◌, ℕ, List, Bool, false, length, get_or, set, ap, ◌∙◌, refl, sym, subst, arith}
 use Rattle.std.proofs.lemmas.List.{get_or_read}
+use Rattle.std.specs.List.{count_by}
 use Rattle.sat_store.specs.heap.Heap.{flags}
 use Rattle.sat_store.specs.heap.Vsids.{Queue, may_pick, IsFirst, with_available}
-use Rattle.sat_store.proofs.lemmas.heap.QueueLemmas.{none_flagged, front_first}
+use Rattle.sat_store.proofs.lemmas.heap.QueueLemmas.{none_flagged, front_first, front_fewer}
 use Rattle.sat_store.proofs.vsids.VsidsIterator.next.Goals as goal
 
 pub returns-then-self-eq0-clause-steps : goal.returns-then-self-eq0-clause-steps
@@ -29,3 +30,16 @@ returns-clause-steps c =
           ∙ ap (λ (u : ℕ). record { available = set (flags m p) u false; activities = a; bump = b; decay = d }) (sym first)
           ∙ ap (with_available c.from_index-first.result false) c.self.view_is,
     )
+
+pub returns-clause-goes : goal.returns-clause-goes
+returns-clause-goes c =
+    let h = c.self.inside.heap.items in
+    let p = c.self.inside.positions.items in
+    let m = c.self.inside.available in
+    let heap = c.self.invariant.0 in
+    let some : 0 < m = omega (arith, c.if-self-eq0.false) in
+    let fewer : count_by (λ b. b) (flags (m - 1) c.take_out.new.positions.items) + 1 ≡ count_by (λ b. b) c.args.self.now.available =
+          ap (λ (f : List Bool). count_by (λ b. b) f + 1) c.take_out.ensures.flags
+          ∙ front_fewer h p c.self.inside.activities.items m heap some
+          ∙ ap (λ (q : Queue). count_by (λ b. b) q.available) c.self.view_is in
+    record { on = λ fin. (tt, fin, omega arith); keeps = tt; rests = λ fin. tt }

@@ -1,0 +1,8 @@
+use Rattle.std.proofs.Common.{◌≡◌, length}
+use Rattle.sat_store_tests.proofs.picks.bump_each.Given as goal
+
+abbrev pub invariant-loop : goal.invariant-loop
+invariant-loop l = length l.vsids.available ≡ 8
+
+abbrev pub invariant-loop-index : goal.invariant-loop-index
+invariant-loop-index l = length l.vsids.available ≡ 8

@@ -1,0 +1,13 @@
+//! Tests of the public calls of `sat_store`.
+#![tactic(auto)]
+
+#[cfg(test)]
+mod clauses;
+#[cfg(test)]
+mod headers;
+#[cfg(test)]
+mod maps;
+#[cfg(test)]
+mod picks;
+#[cfg(test)]
+mod schedule;
