@@ -1,9 +1,9 @@
 //! Clauses in one buffer.
-ghost use Rattle.std.specs.Prelude.{◌≡◌, ◌≤◌, ◌<◌, ◌^◌, [], ◌∷◌, length, IfOk, take};
-ghost use Rattle.sat_store.specs.clause.Buffer.{IsClause, lits_at, swapped};
+ghost use Rattle.std.specs.Prelude.{◌≡◌, ◌≢◌, ◌≤◌, ◌<◌, ◌^◌, [], ◌∷◌, length, IfOk};
+ghost use Rattle.sat_store.specs.clause.Buffer.{IsClause, Laid, lits_at, swapped};
 ghost use Rattle.sat_store_tests.specs.Two.{HasTwo};
 
-use sat_base::{Lit, Var};
+use sat_base::Lit;
 use sat_store::{ClauseAlloc, ClauseHeader, ClauseRef, StoreError, Tier};
 
 /// Stores two clauses in an empty buffer.
@@ -40,4 +40,147 @@ fn reads(buffer: &ClauseAlloc, cref: ClauseRef, numbers: &[i64]) -> bool
         }
     }
     true
+}
+
+/// Reverses a clause of three literals. The other one stays.
+fn reverse_three(buffer: &mut ClauseAlloc, cref: ClauseRef, other: ClauseRef)
+    requires live { Laid buffer.old (cref ∷ other ∷ []) }
+    requires differ { other ≢ cref }
+    requires three { length (lits_at buffer.old cref) ≡ 3 }
+    ensures live { Laid buffer.new (cref ∷ other ∷ []) }
+    ensures reversed { lits_at buffer.new cref ≡ swapped (lits_at buffer.old cref) 0 2 }
+    ensures kept { lits_at buffer.new other ≡ lits_at buffer.old other }
+{
+    let mut clause = buffer.clause_mut(cref);
+    clause.lits_mut().swap(0, 2);
+}
+
+/// Exchanges two literals of a clause of four. The other one stays.
+fn exchange(buffer: &mut ClauseAlloc, other: ClauseRef, cref: ClauseRef, i: usize, j: usize)
+    requires live { Laid buffer.old (other ∷ cref ∷ []) }
+    requires differ { other ≢ cref }
+    requires four { length (lits_at buffer.old cref) ≡ 4 }
+    requires places { (i < 4) × (j < 4) }
+    ensures live { Laid buffer.new (other ∷ cref ∷ []) }
+    ensures kept { lits_at buffer.new other ≡ lits_at buffer.old other }
+    ensures four { length (lits_at buffer.new cref) ≡ 4 }
+{
+    buffer.swap_lits(cref, i, j);
+}
+
+/// Keeps the first three literals of a clause of four. The other one stays.
+fn cut_to_three(buffer: &mut ClauseAlloc, other: ClauseRef, cref: ClauseRef)
+    requires live { Laid buffer.old (other ∷ cref ∷ []) }
+    requires differ { other ≢ cref }
+    requires four { length (lits_at buffer.old cref) ≡ 4 }
+    ensures live { Laid buffer.new (other ∷ cref ∷ []) }
+    ensures kept { lits_at buffer.new other ≡ lits_at buffer.old other }
+{
+    let mut header = buffer.header(cref);
+    header.set_len(3);
+    buffer.set_header(cref, header);
+}
+
+fn reversed_row(buffer: &mut ClauseAlloc) -> Result<bool, StoreError>
+    requires { buffer.old ≡ [] }
+{
+    let first = [
+        Lit::from_index(0, true),
+        Lit::from_index(1, true),
+        Lit::from_index(2, true),
+    ];
+    let second = [
+        Lit::from_index(3, true),
+        Lit::from_index(4, false),
+        Lit::from_index(5, true),
+        Lit::from_index(6, true),
+    ];
+    let (a, b) = store_two(buffer, &first, &second)?;
+    if !reads(buffer, a, &[1, 2, 3]) || !reads(buffer, b, &[4, -5, 6, 7]) {
+        return Ok(false);
+    }
+    reverse_three(buffer, a, b);
+    exchange(buffer, a, b, 0, 3);
+    exchange(buffer, a, b, 1, 2);
+    cut_to_three(buffer, a, b);
+    Ok(reads(buffer, a, &[3, 2, 1]) && reads(buffer, b, &[7, 6, -5]))
+}
+
+#[test]
+fn clauses_read_back_and_reversed(rt: HostRuntime) {
+    let mut buffer = ClauseAlloc::new(rt.alloc());
+    assert!(rt; reversed_row(&mut buffer) == Ok(true));
+    assert!(rt; buffer.buffer_size() == 13);
+}
+
+/// Sets each field of a clause's header, and answers the header.
+fn set_all(buffer: &mut ClauseAlloc, cref: ClauseRef) -> ClauseHeader
+    requires { IsClause buffer.old cref }
+    ensures { IsClause buffer.new cref }
+{
+    let mut clause = buffer.clause_mut(cref);
+    let fields = clause.header_mut();
+    fields.set_deleted(true);
+    fields.set_tier(Tier::Core);
+    fields.set_mark(true);
+    fields.set_active(true);
+    fields.set_glue(70);
+    fields.set_activity(8);
+    fields.set_len(0);
+    clause.header()
+}
+
+/// Writes the first literal in both ways, and answers what is read in each way.
+fn set_first(buffer: &mut ClauseAlloc, cref: ClauseRef) -> [usize; 4]
+    requires clause { IsClause buffer.old cref }
+    requires some { 3 ≤ length (lits_at buffer.old cref) }
+    ensures { IsClause buffer.new cref }
+{
+    buffer.set_lit(cref, 0, Lit::from_code(20));
+    let first = buffer.lit(cref, 0).code();
+    let mut clause = buffer.clause_mut(cref);
+    clause.lits_mut().set(1, Lit::from_code(22));
+    let second = clause.get(1).code();
+    let last = clause.iter().last().map_or(0, |lit| lit.code());
+    [first, second, last, clause.len()]
+}
+
+fn other_calls(buffer: &mut ClauseAlloc) -> Result<bool, StoreError> {
+    let lits = [
+        Lit::from_index(0, true),
+        Lit::from_index(1, true),
+        Lit::from_index(2, true),
+    ];
+    let cref = buffer.add_clause(ClauseHeader::new(), &lits)?;
+    if set_first(buffer, cref) != [20, 22, 4, 3] {
+        return Ok(false);
+    }
+    let header = set_all(buffer, cref);
+    let marks = (
+        header.deleted(),
+        header.mark(),
+        header.active(),
+        header.redundant(),
+    );
+    if marks != (true, true, true, true)
+        || (header.glue(), header.activity(), header.len()) != (63, 8, 0)
+    {
+        return Ok(false);
+    }
+    buffer.set_header(cref, ClauseHeader::new());
+    Ok(
+        buffer.header_mut(cref).len() == 0
+            && buffer.clause(cref).header().len() == 0
+            && buffer.clause(cref).lits().is_empty()
+            && cref.offset() == 0,
+    )
+}
+
+#[test]
+fn views_and_methods_by_index(rt: HostRuntime) {
+    if let Ok(mut buffer) = ClauseAlloc::with_capacity(rt.alloc(), 16) {
+        assert!(rt; other_calls(&mut buffer) == Ok(true));
+    } else {
+        panic!(rt; "no memory");
+    }
 }

@@ -63,10 +63,14 @@ fn unlinked_on_both_sides(rt: HostRuntime) {
 fn data_of_variables(rt: HostRuntime) {
     let data = VarData::default();
     assert!(rt; data.sampling_mode == SamplingMode::Hide);
-    assert!(rt; (data.unit, data.isolated, data.assumed, data.deleted) == (None, true, false, true));
+    assert!(rt;
+        (data.unit, data.isolated, data.assumed, data.deleted) == (None, true, false, true)
+    );
     let data = VarData::user_default();
     assert!(rt; data.sampling_mode == SamplingMode::Sample);
-    assert!(rt; (data.unit, data.isolated, data.assumed, data.deleted) == (None, true, false, false));
+    assert!(rt;
+        (data.unit, data.isolated, data.assumed, data.deleted) == (None, true, false, false)
+    );
 }
 
 #[test]

@@ -84,3 +84,24 @@ fn most_active_first(rt: HostRuntime) {
     next_indices(&mut vsids, &mut picked);
     assert!(rt; picked == [0, 1, 2, 3, 9]);
 }
+
+/// Whether a variable that was reset goes behind one that was bumped less.
+fn reset_goes_last(vsids: &mut Vsids) -> bool
+    requires { vsids.old ≡ no_variables }
+{
+    if vsids.set_var_count(2).is_err() {
+        return false;
+    }
+    vsids.bump(Var::from_index(0));
+    vsids.reset(Var::from_index(0));
+    vsids.bump(Var::from_index(1));
+    vsids.make_available(Var::from_index(0));
+    vsids.make_available(Var::from_index(1));
+    vsids.next() == Some(Var::from_index(1))
+}
+
+#[test]
+fn reset_activity_is_lowest(rt: HostRuntime) {
+    let mut vsids = Vsids::new(rt.alloc());
+    assert!(rt; reset_goes_last(&mut vsids));
+}

@@ -18,5 +18,12 @@ fn levels_pass_by_remainder(rt: HostRuntime) {
     assert!(rt; !levels.test(0));
     levels.add(3);
     levels.add(127);
-    assert!(rt; (levels.test(3), levels.test(67), levels.test(63), levels.test(4)) == (true, true, true, false));
+    assert!(rt;
+        (
+            levels.test(3),
+            levels.test(67),
+            levels.test(63),
+            levels.test(4)
+        ) == (true, true, true, false)
+    );
 }

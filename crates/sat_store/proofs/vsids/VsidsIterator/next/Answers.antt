@@ -39,7 +39,7 @@ returns-clause-goes c =
     let heap = c.self.invariant.0 in
     let some : 0 < m = omega (arith, c.if-self-eq0.false) in
     let fewer : count_by (λ b. b) (flags (m - 1) c.take_out.new.positions.items) + 1 ≡ count_by (λ b. b) c.args.self.now.available =
-          ap (λ (f : List Bool). count_by (λ b. b) f + 1) c.take_out.ensures.flags
-          ∙ front_fewer h p c.self.inside.activities.items m heap some
-          ∙ ap (λ (q : Queue). count_by (λ b. b) q.available) c.self.view_is in
+    ap (λ (f : List Bool). count_by (λ b. b) f + 1) c.take_out.ensures.flags
+    ∙ front_fewer h p c.self.inside.activities.items m heap some
+    ∙ ap (λ (q : Queue). count_by (λ b. b) q.available) c.self.view_is in
     record { on = λ fin. (tt, fin, omega arith); keeps = tt; rests = λ fin. tt }

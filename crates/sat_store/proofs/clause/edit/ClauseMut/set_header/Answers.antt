@@ -16,6 +16,7 @@ returns-clause-edit c =
     let whole : length lits ≤ c.args.header.len = omega (arith, count, c.requires.same_len) in
     record {
       cref = refl;
+      stands = c.set_header.ensures.others.clause;
       has_header = c.set_header.ensures.header;
       has_lits = c.set_header.ensures.lits ∙ take_all c.args.header.len lits whole;
       change = c.set_header.ensures.others;
