@@ -5,3 +5,4 @@ pub mod IndexView
 pub mod SlotView
 pub mod EntryView
 pub mod VariablesView
+pub mod StoreView

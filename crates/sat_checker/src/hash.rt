@@ -1,10 +1,10 @@
 //! The hashes by which steps name stored clauses.
-ghost use Rattle.std.specs.Prelude.{◌≡◌, ◌/◌, ◌-◌, ◌^◌, ◌≤◌};
+ghost use Rattle.std.specs.Prelude.{ℕ, ◌≡◌, ◌/◌, ◌-◌, ◌^◌, ◌==◌, None, OnOk, if◌then◌else◌};
 ghost use Rattle.sat_checker.specs.Stored.{solver_literal, hash_by};
 ghost use Rattle.sat_checker.specs.HasherView.{solver_name_of, width_of};
 
 use sat_base::{ClauseHash, HashBits, Lit, Var, lit_hash};
-use std::alloc::Global;
+use std::alloc::{AllocError, Global};
 
 /// Hashes over the solver's names of variables, of which so many bits are kept.
 #[derive(Drop)]
@@ -14,6 +14,38 @@ pub struct ClauseHasher {
 }
 
 impl ClauseHasher {
+    /// So many bits, and no solver names.
+    pub fn new(alloc: Global, bits: HashBits) -> ClauseHasher
+        ensures width { width_of result ≡ bits }
+        ensures names { (v : ℕ) → solver_name_of result v ≡ None }
+    {
+        ClauseHasher {
+            bits,
+            solver_names: Vec::new(alloc),
+        }
+    }
+
+    /// So many bits are kept from here on.
+    pub fn set_bits(&mut self, bits: HashBits)
+        ensures width { width_of self.new ≡ bits }
+        ensures names { (v : ℕ) → solver_name_of self.new v ≡ solver_name_of self.old v }
+    {
+        self.bits = bits;
+    }
+
+    /// A variable has this solver name or none from here on.
+    pub fn set_solver_name(&mut self, var: Var, name: Option<Var>) -> Result<(), AllocError>
+        ensures width { width_of self.new ≡ width_of self.old }
+        ensures names { OnOk result ((v : ℕ) → solver_name_of self.new v ≡ (if v == var then name else solver_name_of self.old v)) }
+    {
+        let place = var.index();
+        if self.solver_names.len() <= place {
+            self.solver_names.resize(place + 1, None)?;
+        }
+        self.solver_names[place] = name;
+        Ok(())
+    }
+
     /// The solver's name of a variable.
     fn solver_name(&self, var: Var) -> Option<Var>
         ensures { result ≡ solver_name_of self.now var }

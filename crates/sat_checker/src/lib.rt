@@ -10,6 +10,7 @@ pub mod looks;
 pub mod rup;
 pub mod slots;
 pub mod sorted_lits;
+pub(crate) mod store;
 mod tally;
 pub mod variables;
 

@@ -3,8 +3,8 @@ ghost use Rattle.std.specs.Prelude.{ℕ, true, ◌≡◌, ◌==◌, ◌↔◌, I
 ghost use Rattle.std.specs.List.{AllByRecursion};
 ghost use Rattle.sat_base.specs.values.Literals.{variable};
 ghost use Rattle.sat_checker.specs.LiteralSets.{is_among};
-ghost use Rattle.sat_checker.specs.Stored.{Hide, Sample, unknown};
-ghost use Rattle.sat_checker.specs.inner.VariablesView.{mode_in, variable_of, variable_at, holder_at, known_if, VariablesAnswer};
+ghost use Rattle.sat_checker.specs.Stored.{Hide, Sample, Variable, Witness, unknown};
+ghost use Rattle.sat_checker.specs.inner.VariablesView.{mode_in, variable_of, variable_at, holder_at, known_if, AreSampling, KeepsVariables, VariablesAnswer};
 ghost use Rattle.sat_base.specs.steps.Steps.{UserVarName, ChangeSamplingMode};
 
 use sat_base::{Lit, Var};
@@ -24,6 +24,25 @@ fn is_hidden(mode: SamplingMode) -> bool
     match mode {
         SamplingMode::Hide => true,
         SamplingMode::Sample | SamplingMode::Witness => false,
+    }
+}
+
+fn is_sampling(mode: SamplingMode) -> bool
+    ensures { MatchBool result (mode_in mode ≡ Sample) (mode_in mode ≡ Sample → ⊥) }
+{
+    match mode {
+        SamplingMode::Sample => true,
+        SamplingMode::Witness | SamplingMode::Hide => false,
+    }
+}
+
+fn mode_from(sample: bool) -> SamplingMode
+    ensures { mode_in result ≡ (if sample then Sample else Witness) }
+{
+    if sample {
+        SamplingMode::Sample
+    } else {
+        SamplingMode::Witness
     }
 }
 
@@ -156,6 +175,67 @@ impl Variables {
         )?;
         self.set_holder(name, Some(var))?;
         Ok(true)
+    }
+
+    /// Takes a variable's name away and hides it. The answer is whether it has one.
+    pub fn remove_user_mapping(&mut self, var: Var) -> Result<bool, AllocError>
+        ensures { IfOk result (VariablesAnswer self.old (UserVarName var None) self.new) }
+    {
+        let old = self.data(var);
+        let Some(name) = old.name else {
+            return Ok(false);
+        };
+        self.set(
+            var,
+            VarData {
+                known: old.known,
+                mode: SamplingMode::Hide,
+                name: None,
+            },
+        )?;
+        self.set_holder(name, None)?;
+        Ok(true)
+    }
+
+    /// Sets the mode of a known variable. The answer is whether it is known.
+    pub fn set_mode(&mut self, var: Var, sample: bool) -> Result<bool, AllocError>
+        ensures { IfOk result (VariablesAnswer self.old (ChangeSamplingMode var sample) self.new) }
+    {
+        let old = self.data(var);
+        if !old.known {
+            return Ok(false);
+        }
+        let mode = mode_from(sample);
+        self.set(
+            var,
+            VarData {
+                known: old.known,
+                mode,
+                name: old.name,
+            },
+        )?;
+        Ok(true)
+    }
+
+    /// A variable without a name is unknown again.
+    pub fn forget(&mut self, var: Var) -> Result<(), AllocError>
+        ensures { OnOk result ((g : ℕ → Variable) → KeepsVariables self.old g → (g var).name ≡ None → KeepsVariables self.new (λ w. if w == var then unknown else g w)) }
+    {
+        self.set(var, VarData::unknown())?;
+        Ok(())
+    }
+
+    /// Whether the variables of the literals are all sampling or unknown.
+    #[tactic(auto, using(crate::proofs::lemmas::variables::Keeping::sampling))]
+    pub fn are_sampling(&self, literals: &[Lit]) -> bool
+        ensures { MatchBool result (AreSampling self.now literals.now) (AreSampling self.now literals.now → ⊥) }
+    {
+        for lit in literals {
+            if !is_sampling(self.data(lit.var()).mode) {
+                return false;
+            }
+        }
+        true
     }
 
     fn set_holder(&mut self, name: Var, holder: Option<Var>) -> Result<(), AllocError>

@@ -2,3 +2,5 @@ pub mod Buckets
 pub mod Entries
 pub mod Places
 pub mod Finding
+pub mod Keeping
+pub mod Storing

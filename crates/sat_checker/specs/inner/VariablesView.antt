@@ -1,6 +1,8 @@
 -- What the code keeps of variables.
-use Rattle.std.specs.Prelude.{ℕ, ◌≡◌, ◌↔◌, Bool, true, if◌then◌else◌, Option, None, Some, slice_index_or}
+use Rattle.std.specs.Prelude.{ℕ, ◌≡◌, ◌↔◌, Bool, true, if◌then◌else◌, List, Option, None, Some, slice_index_or}
 use Rattle.std.specs.Bool.{MatchBool}
+use Rattle.std.specs.List.{AllByRecursion}
+use Rattle.sat_base.specs.values.Literals.{variable}
 use Rattle.sat_base.specs.steps.Steps.{Step}
 use Rattle.sat_checker.specs.Stored.{Stored, Variable, Mode}
 use Rattle.sat_checker.specs.Accepts.{Accepts, effect}
@@ -39,3 +41,7 @@ pub record KeepsVariables (vs : Variables) (variables : ℕ → Variable) : Type
 abbrev pub VariablesAnswer : Variables → Step → Variables → Bool → Type 0
 VariablesAnswer old step new accepted =
     (f : Stored) → KeepsVariables old f.variables → MatchBool accepted (Accepts f step × KeepsVariables new (effect step f).variables) (Accepts f step → ⊥)
+
+-- no variable of the literals is hidden or a witness
+abbrev pub AreSampling : Variables → List ℕ → Type 0
+AreSampling vs = AllByRecursion (λ l. (variable_at vs (variable l)).mode ≡ stored.Sample)

@@ -141,7 +141,7 @@ gone_not s true h = let e : eqb s.clause.redundant 0 ≡ false = ne_eqb s.clause
     and_false false = refl
 gone_not s false h = let e : eqb s.clause.irredundant 0 ≡ false = ne_eqb s.clause.irredundant 0 (λ z. let k : 0 < s.clause.irredundant = h in omega arith) in ap (λ b. b && eqb s.clause.redundant 0) e
 
-gone_more : (c : StoredClause) (h : ℕ) (r : Bool) → is_gone (record { clause = with_count r c; hash = h }) ≡ false
+pub gone_more : (c : StoredClause) (h : ℕ) (r : Bool) → is_gone (record { clause = with_count r c; hash = h }) ≡ false
 gone_more c h true = gone_not (record { clause = with_count true c; hash = h }) true (omega arith)
 gone_more c h false = gone_not (record { clause = with_count false c; hash = h }) false (omega arith)
 
@@ -164,7 +164,7 @@ places_removed q r i ss l c g =
     places_gone 0 q ss i (record { clause = without_count r (slot_at ss i).clause; hash = (slot_at ss i).hash }) l g (gone_not (slot_at ss i) r c)
     ∙ ap (λ p. cond (eqb q (slot_at ss i).hash) (without_place p (places_of q ss)) (places_of q ss)) z
 
-set_at : (ss : List Slot) (i : ℕ) (t : Slot) → i < length ss → slot_at (slice_set ss i t) i ≡ t
+pub set_at : (ss : List Slot) (i : ℕ) (t : Slot) → i < length ss → slot_at (slice_set ss i t) i ≡ t
 set_at [] i t l = absurd (omega arith)
 set_at (s ∷ ss) zero t l = refl
 set_at (s ∷ ss) (suc i) t l = set_at ss i t (omega arith)

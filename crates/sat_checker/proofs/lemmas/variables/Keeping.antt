@@ -1,8 +1,9 @@
 -- What is kept of variables.
-use Rattle.std.proofs.Common.{ℕ, ◌+◌, ◌<◌, ◌≡◌, Bool, true, false, ◌||◌, cond, eqb, List, [], ◌∷◌, length, drop, get_or, map, Option, Some, None, is_some, refl, sym, ◌∙◌, ap}
+use Rattle.std.proofs.Common.{ℕ, ◌+◌, ◌<◌, ◌≡◌, Bool, true, false, not, ◌||◌, cond, eqb, List, [], ◌∷◌, length, drop, get_or, map, Option, Some, None, is_some, refl, sym, ◌∙◌, ap, subst}
 use Rattle.std.proofs.lemmas.Bool.{true≢false, eqb-true, eqb-false, eq-eqb, ne_eqb}
 use Rattle.std.proofs.lemmas.List.{drop_more}
 use Rattle.std.specs.Bool.{MatchBool}
+use Rattle.std.specs.List.{AllByRecursion}
 use Rattle.sat_base.specs.values.Literals.{variable}
 use Rattle.sat_checker.specs.LiteralSets.{is_among}
 use Rattle.sat_checker.specs.Stored.{Stored, Variable, Hide}
@@ -103,5 +104,74 @@ match_true false P Q m e = absurd (true≢false (sym e))
 pub match_false : (b : Bool) (P Q : Type 0) → MatchBool b P Q → b ≡ false → Q
 match_false true P Q m e = absurd (true≢false e)
 match_false false P Q m e = m
+
+-- a variable loses its name
+pub unnamed_kept : (vs one two : Variables) (g : ℕ → Variable) (v name : ℕ) (x : Variable) → KeepsVariables vs g → x.name ≡ None → (g v).name ≡ Some name
+    → ((w : ℕ) → variable_at one w ≡ cond (eqb w v) x (variable_at vs w)) → ((n : ℕ) → holder_at one n ≡ holder_at vs n) → ((w : ℕ) → variable_at two w ≡ variable_at one w) → ((n : ℕ) → holder_at two n ≡ cond (eqb n name) None (holder_at one n))
+    → KeepsVariables two (λ w. cond (eqb w v) x (g w))
+unnamed_kept vs one two g v name x k xn gn e h e2 h2 = record {
+  each = λ w. e2 w ∙ e w ∙ ap (λ y. cond (eqb w v) x y) (k.each w);
+  holders = λ n w. (by_two n w (eqb n name) refl (eqb w v) refl, back n w (eqb n name) refl (eqb w v) refl);
+}
+  where
+    some_same : (a b : ℕ) → Some a ≡ Some b → a ≡ b
+    some_same a b q = cc
+
+    none_some : (a : ℕ) → None ≡ Some a → ⊥
+    none_some a q = cc
+
+    by_two : (n w : ℕ) (b : Bool) → eqb n name ≡ b → (d : Bool) → eqb w v ≡ d → holder_at two n ≡ Some w → (cond d x (g w)).name ≡ Some n
+    by_two n w true a d c t = absurd (none_some w (sym (ap (λ b. cond b None (holder_at one n)) a) ∙ sym (h2 n) ∙ t))
+    by_two n w false a true c t =
+        let q : holder_at vs n ≡ Some w = sym (h n) ∙ sym (ap (λ b. cond b None (holder_at one n)) a) ∙ sym (h2 n) ∙ t in
+        let z : (g w).name ≡ Some n = (k.holders n w).0 q in
+        absurd (eqb-false n name a (some_same n name (sym z ∙ ap (λ m. (g m).name) (eqb-true w v c) ∙ gn)))
+    by_two n w false a false c t = (k.holders n w).0 (sym (h n) ∙ sym (ap (λ b. cond b None (holder_at one n)) a) ∙ sym (h2 n) ∙ t)
+
+    back : (n w : ℕ) (b : Bool) → eqb n name ≡ b → (d : Bool) → eqb w v ≡ d → (cond d x (g w)).name ≡ Some n → holder_at two n ≡ Some w
+    back n w b a true c t = absurd (none_some n (sym xn ∙ t))
+    back n w true a false c t =
+        let one_way : holder_at vs name ≡ Some w = (k.holders name w).1 (t ∙ ap Some (eqb-true n name a)) in
+        let other_way : holder_at vs name ≡ Some v = (k.holders name v).1 gn in
+        absurd (eqb-false w v c (some_same w v (sym one_way ∙ other_way)))
+    back n w false a false c t = h2 n ∙ ap (λ b. cond b None (holder_at one n)) a ∙ h n ∙ (k.holders n w).1 t
+
+-- a variable is set and keeps its name or has none
+pub set_kept : (vs one : Variables) (g : ℕ → Variable) (v : ℕ) (x : Variable) → KeepsVariables vs g → x.name ≡ (g v).name
+    → ((w : ℕ) → variable_at one w ≡ cond (eqb w v) x (variable_at vs w)) → ((n : ℕ) → holder_at one n ≡ holder_at vs n) → KeepsVariables one (λ w. cond (eqb w v) x (g w))
+set_kept vs one g v x k xn e h = record {
+  each = λ w. e w ∙ ap (λ y. cond (eqb w v) x y) (k.each w);
+  holders = λ n w. ((λ t. sym (name_same w (eqb w v) refl) ∙ (k.holders n w).0 (sym (h n) ∙ t)), (λ t. h n ∙ (k.holders n w).1 (name_same w (eqb w v) refl ∙ t)));
+}
+  where
+    name_same : (w : ℕ) (b : Bool) → eqb w v ≡ b → (g w).name ≡ (cond b x (g w)).name
+    name_same w true q = ap (λ m. (g m).name) (eqb-true w v q) ∙ sym xn
+    name_same w false q = refl
+
+-- variables become known
+pub known_kept : (vs one : Variables) (g : ℕ → Variable) (test : ℕ → Bool) → KeepsVariables vs g → ((v : ℕ) → variable_at one v ≡ known_if (test v) (variable_at vs v)) → ((n : ℕ) → holder_at one n ≡ holder_at vs n) → KeepsVariables one (λ v. known_if (test v) (g v))
+known_kept vs one g test k e h = record {
+  each = λ v. e v ∙ ap (known_if (test v)) (k.each v);
+  holders = λ n v. ((λ t. name_same (test v) (g v) ∙ (k.holders n v).0 (sym (h n) ∙ t)), (λ t. h n ∙ (k.holders n v).1 (sym (name_same (test v) (g v)) ∙ t)));
+}
+  where
+    name_same : (b : Bool) (x : Variable) → (known_if b x).name ≡ x.name
+    name_same true x = refl
+    name_same false x = refl
+
+pub all_drop : (P : ℕ → Type 0) (ls : List ℕ) (i d : ℕ) → i < length ls → AllByRecursion P (drop i ls) → P (get_or ls i d) × AllByRecursion P (drop (i + 1) ls)
+all_drop P ls i d l h = subst (AllByRecursion P) (drop_more ls i d l) h
+
+pub drop_all : (P : ℕ → Type 0) (ls : List ℕ) (i d : ℕ) → i < length ls → P (get_or ls i d) → AllByRecursion P (drop (i + 1) ls) → AllByRecursion P (drop i ls)
+drop_all P ls i d l p h = subst (AllByRecursion P) (sym (drop_more ls i d l)) (p, h)
+
+pub was_true : (b : Bool) → not b ≡ false → b ≡ true
+was_true true e = refl
+was_true false e = absurd (true≢false e)
+
+pub some_none : (n : ℕ) → Some n ≡ None → ⊥
+some_none n e = cc
+
+pub ruleset sampling = (all_drop, drop_all)
 
 pub ruleset ensuring = (known_next)

@@ -1,0 +1,62 @@
+-- What the store keeps, as clauses come in and go.
+use Rattle.std.proofs.Common.{ℕ, zero, suc, ◌+◌, ◌*◌, ◌/◌, ◌%◌, ◌-◌, ◌^◌, ◌<◌, ◌≤◌, ◌≡◌, Bool, true, false, not, ◌&&◌, cond, eqb, List, [], ◌∷◌, ◌++◌, length, map, filter, Option, None, Some, refl, sym, ◌∙◌, ap, subst, arith, Result, Ok, Err, IfOk, ◌↔◌, unwrap_or}
+use Rattle.std.proofs.lemmas.Bool.{true≢false, eqb-true}
+use Rattle.std.specs.List.{AllByRecursion}
+use Rattle.sat_base.specs.values.Literals.{variable}
+use Rattle.sat_base.specs.values.Hashes.{hash_of}
+use Rattle.sat_checker.specs.Propagation.{PassesCheck}
+use Rattle.sat_checker.specs.Stored.{Stored, StoredClause, solver_literal, hash_by, bucket, long_clauses}
+use Rattle.sat_checker.specs.Looks.{literal_count, total_length}
+use Rattle.sat_checker.specs.HasherView.{solver_name_of, width_of}
+use Rattle.sat_checker.specs.inner.SlotView.{Slot, is_gone, is_filed, all_lits, live, live_length, bucket_in, bucket_of}
+use Rattle.sat_checker.specs.inner.StoreView.{AreHashed, KeepsClauses}
+use Rattle.sat_checker.specs.declared.store.Store.{Store}
+use Rattle.sat_checker.specs.declared.hash.ClauseHasher.{ClauseHasher}
+
+-- hashes by the same names
+same_names : (f g : ℕ → Option ℕ) → ((v : ℕ) → f v ≡ g v) → (ls : List ℕ) → map (solver_literal f) ls ≡ map (solver_literal g) ls
+same_names f g e [] = refl
+same_names f g e (l ∷ ls) = ap (λ o. solver_by o l ∷ map (solver_literal f) ls) (e (variable l)) ∙ ap (λ ms. solver_literal g l ∷ ms) (same_names f g e ls)
+  where
+    solver_by : Option ℕ → ℕ → ℕ
+    solver_by o l = 2 * unwrap_or o (variable l) + l % 2
+
+pub hash_same : (f g : ℕ → Option ℕ) (m n : ℕ) → ((v : ℕ) → f v ≡ g v) → m ≡ n → (ls : List ℕ) → hash_by f m ls ≡ hash_by g n ls
+hash_same f g m n e w ls = ap (λ ks. hash_of ks / 2 ^ (64 - m)) (same_names f g e ls) ∙ ap (λ k. hash_of (map (solver_literal g) ls) / 2 ^ (64 - k)) w
+
+-- the clauses of a hash are those that the definition has in its bucket
+bucket_live : (h : ClauseHasher) (f : Stored) (k : ℕ) (ss : List Slot) → AreHashed h ss → ((v : ℕ) → solver_name_of h v ≡ f.solver_names v) → width_of h ≡ f.width
+    → bucket_in k ss ≡ filter (λ c. eqb (hash_by f.solver_names f.width c) k) (map (λ c. c.literals) (live ss))
+bucket_live h f k [] a n w = refl
+bucket_live h f k (s ∷ ss) a n w = go (is_gone s) refl (bucket_live h f k ss a.1 n w)
+  where
+    go : (b : Bool) → is_gone s ≡ b → bucket_in k ss ≡ filter (λ c. eqb (hash_by f.solver_names f.width c) k) (map (λ c. c.literals) (live ss))
+        → all_lits (cond (not b && eqb s.hash k) (s ∷ filter (is_filed k) ss) (filter (is_filed k) ss)) ≡ filter (λ c. eqb (hash_by f.solver_names f.width c) k) (map (λ c. c.literals) (cond b [] (s.clause ∷ []) ++ live ss))
+    go true e ih = ih
+    go false e ih =
+        let same : s.hash ≡ hash_by f.solver_names f.width s.clause.literals = a.0 e ∙ hash_same (solver_name_of h) f.solver_names (width_of h) f.width n w s.clause.literals in
+        ap (λ q. all_lits (cond (eqb q k) (s ∷ filter (is_filed k) ss) (filter (is_filed k) ss))) same ∙ pick (eqb (hash_by f.solver_names f.width s.clause.literals) k) ih
+      where
+        pick : (b : Bool) → bucket_in k ss ≡ filter (λ c. eqb (hash_by f.solver_names f.width c) k) (map (λ c. c.literals) (live ss))
+            → all_lits (cond b (s ∷ filter (is_filed k) ss) (filter (is_filed k) ss)) ≡ cond b (s.clause.literals ∷ filter (λ c. eqb (hash_by f.solver_names f.width c) k) (map (λ c. c.literals) (live ss))) (filter (λ c. eqb (hash_by f.solver_names f.width c) k) (map (λ c. c.literals) (live ss)))
+        pick true ih = ap (λ ls. s.clause.literals ∷ ls) ih
+        pick false ih = ih
+
+pub bucket_same : (store : Store) (f : Stored) → KeepsClauses store f → (k : ℕ) → bucket_of store.clauses k ≡ bucket f k
+bucket_same store f p k = bucket_live store.hasher f k store.clauses p.hashed p.names p.width ∙ ap (λ cs. filter (λ c. eqb (hash_by f.solver_names f.width c) k) (map (λ c. c.literals) cs)) p.clauses
+
+buckets_same : (store : Store) (f : Stored) → KeepsClauses store f → (hashes : List ℕ) → map (bucket_of store.clauses) hashes ≡ map (bucket f) hashes
+buckets_same store f p [] = refl
+buckets_same store f p (k ∷ ks) = ap (λ b. b ∷ map (bucket_of store.clauses) ks) (bucket_same store f p k) ∙ ap (λ bs. bucket f k ∷ bs) (buckets_same store f p ks)
+
+pub checked : {E : Type 0} (r : Result Bool E) (store : Store) (units clause hashes : List ℕ) → IfOk r (λ yes'. (yes' ≡ true) ↔ PassesCheck units clause (map (bucket_of store.clauses) hashes)) → IfOk r (λ yes'. (f : Stored) → KeepsClauses store f → (yes' ≡ true) ↔ PassesCheck units clause (map (bucket f) hashes))
+checked (Ok b) store units clause hashes h = λ f k. subst (λ bs. (b ≡ true) ↔ PassesCheck units clause bs) (buckets_same store f k hashes) h
+checked (Err e) store units clause hashes h = tt
+
+pub length_same : (store : Store) (f : Stored) → KeepsClauses store f → live_length store.clauses ≡ literal_count f
+length_same store f k = ap (λ cs. total_length (map (λ c. c.literals) cs)) k.clauses
+
+pub looks_same : (store : Store) (old new n : ℕ) → new ≤ old + n * live_length store.clauses → (f : Stored) → KeepsClauses store f → new ≤ old + n * literal_count f
+looks_same store old new n h f k = subst (λ m. new ≤ old + n * m) (length_same store f k) h
+
+pub ruleset checking = (checked, looks_same)

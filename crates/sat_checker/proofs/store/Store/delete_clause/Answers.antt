@@ -1,0 +1,30 @@
+use Rattle.std.proofs.Common.{◌≡◌, ◌<◌, ◌∙◌, subst, sym, arith}
+use Rattle.sat_checker.proofs.lemmas.store.Storing.{is_there, looks_one, count_there, count_none, deleted_one}
+use Rattle.sat_checker.proofs.store.Store.delete_clause.Goals as goal
+
+pub returns-in_default-clause-deleted : goal.returns-in_default-clause-deleted
+returns-in_default-clause-deleted c = λ f k n.
+    let z = count_none c.args.self.now f k c.args.literals.now c.clause_hash-hash.result c.clause_hash-hash.ensures c.in_default.ensures.found c.args.redundant in
+    omega (arith, z, n)
+
+pub returns-in_default-clause-looks : goal.returns-in_default-clause-looks
+returns-in_default-clause-looks c = looks_one c.args.self.now c.clause_hash-hash.result c.args.looks.now c.find.new.looks c.find.ensures.looks
+
+pub count-requires : goal.count-requires
+count-requires c = (is_there c.args.self.now.clauses c.args.literals.now c.clause_hash-hash.result c.in-Some.place c.in-Some.ensures.found).inside
+
+pub returns-then-count-eq0-clause-deleted : goal.returns-then-count-eq0-clause-deleted
+returns-then-count-eq0-clause-deleted c = λ f k n.
+    let z = count_there c.args.self.now f k c.args.literals.now c.clause_hash-hash.result c.clause_hash-hash.ensures c.in-Some.place c.in-Some.ensures.found c.args.redundant in
+    omega (arith, z, n, c.count.ensures, c.if-count-eq0.true)
+
+pub returns-then-count-eq0-clause-looks : goal.returns-then-count-eq0-clause-looks
+returns-then-count-eq0-clause-looks c = looks_one c.args.self.now c.clause_hash-hash.result c.args.looks.now c.find.new.looks c.find.ensures.looks
+
+pub returns-clause-deleted : goal.returns-clause-deleted
+returns-clause-deleted c = λ f k.
+    let z = count_there c.args.self.now f k c.args.literals.now c.clause_hash-hash.result c.clause_hash-hash.ensures c.in-Some.place c.in-Some.ensures.found c.args.redundant in
+    (omega (arith, z, c.count.ensures, c.if-count-eq0.false), deleted_one c.args.self.now f k c.args.literals.now c.clause_hash-hash.result c.clause_hash-hash.ensures c.in-Some.place c.in-Some.ensures.found c.args.redundant c.take_count.new.self c.take_count.ensures)
+
+pub returns-clause-looks : goal.returns-clause-looks
+returns-clause-looks c = looks_one c.args.self.now c.clause_hash-hash.result c.args.looks.now c.find.new.looks c.find.ensures.looks

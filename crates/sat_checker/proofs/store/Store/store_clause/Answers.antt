@@ -1,0 +1,42 @@
+use Rattle.std.proofs.Common.{◌≡◌, ◌<◌, ◌∙◌, subst, sym, arith}
+use Rattle.sat_checker.proofs.lemmas.store.Storing.{is_there, inside_more, looks_one, count_there, stored_again, stored_new}
+use Rattle.sat_checker.proofs.store.Store.store_clause.Goals as goal
+
+pub returns-in_err-push-clause-looks : goal.returns-in_err-push-clause-looks
+returns-in_err-push-clause-looks c = looks_one c.args.self.now c.clause_hash-hash.result c.args.looks.now c.find.new.looks c.find.ensures.looks
+
+pub returns-in_default-clause-ok : goal.returns-in_default-clause-ok
+returns-in_default-clause-ok c = λ f k.
+    stored_new c.args.self.now f k c.args.literals.now c.clause_hash-hash.result c.clause_hash-hash.ensures c.in_default.ensures.found c.args.redundant c.args.id c.push.new.self c.in_ok-push.ensures
+
+pub returns-in_default-clause-looks : goal.returns-in_default-clause-looks
+returns-in_default-clause-looks c = looks_one c.args.self.now c.clause_hash-hash.result c.args.looks.now c.find.new.looks c.find.ensures.looks
+
+pub count-requires : goal.count-requires
+count-requires c = (is_there c.args.self.now.clauses c.args.literals.now c.clause_hash-hash.result c.in-Some.place c.in-Some.ensures.found).inside
+
+pub returns-then-count-clause-full : goal.returns-then-count-clause-full
+returns-then-count-clause-full c = λ e f k.
+    let z = count_there c.args.self.now f k c.args.literals.now c.clause_hash-hash.result c.clause_hash-hash.ensures c.in-Some.place c.in-Some.ensures.found c.args.redundant in
+    omega (arith, z, c.count.ensures, c.if-count.true)
+
+pub returns-then-count-clause-looks : goal.returns-then-count-clause-looks
+returns-then-count-clause-looks c = looks_one c.args.self.now c.clause_hash-hash.result c.args.looks.now c.find.new.looks c.find.ensures.looks
+
+pub add_count-requires-clause-inside : goal.add_count-requires-clause-inside
+add_count-requires-clause-inside c = (is_there c.args.self.now.clauses c.args.literals.now c.clause_hash-hash.result c.in-Some.place c.in-Some.ensures.found).inside
+
+pub add_count-requires-clause-there : goal.add_count-requires-clause-there
+add_count-requires-clause-there c = (is_there c.args.self.now.clauses c.args.literals.now c.clause_hash-hash.result c.in-Some.place c.in-Some.ensures.found).there
+
+pub id-requires : goal.id-requires
+id-requires c =
+    inside_more c.args.redundant c.in-Some.place c.args.self.now.clauses c.add_count.new.self
+    (is_there c.args.self.now.clauses c.args.literals.now c.clause_hash-hash.result c.in-Some.place c.in-Some.ensures.found).inside c.add_count.ensures
+
+pub returns-clause-ok : goal.returns-clause-ok
+returns-clause-ok c = λ f k.
+    stored_again c.args.self.now f k c.args.literals.now c.clause_hash-hash.result c.clause_hash-hash.ensures c.in-Some.place c.in-Some.ensures.found c.args.redundant c.args.id c.id.result c.add_count.new.self c.add_count.ensures c.id.ensures
+
+pub returns-clause-looks : goal.returns-clause-looks
+returns-clause-looks c = looks_one c.args.self.now c.clause_hash-hash.result c.args.looks.now c.find.new.looks c.find.ensures.looks

@@ -1,0 +1,21 @@
+use Rattle.std.proofs.Common.{ℕ, ◌≡◌, ◌∙◌, ap, sym, refl, cond, eqb, Option, Some, None}
+use Rattle.std.proofs.lemmas.Bool.{true≢false}
+use Rattle.sat_base.specs.values.Literals.{variable}
+use Rattle.sat_checker.specs.Stored.{Variable, Hide}
+use Rattle.sat_checker.specs.inner.VariablesView.{variable_at}
+use Rattle.sat_checker.proofs.lemmas.variables.Keeping.{unnamed_kept, some_none}
+use Rattle.sat_checker.proofs.variables.Variables.remove_user_mapping.Goals as goal
+
+pub returns-in_default : goal.returns-in_default
+returns-in_default c = λ f k h. h (sym (ap (λ (x : Variable). x.name) (c.data-old.ensures ∙ k.each c.args.var)) ∙ c.in_default.is)
+
+pub returns : goal.returns
+returns c = λ f k.
+    let same = c.data-old.ensures ∙ k.each c.args.var in
+    let has : (f.variables c.args.var).name ≡ Some c.in-Some.name = sym (ap (λ (x : Variable). x.name) same) ∙ c.in-Some.is in
+    (
+      (λ e. some_none c.in-Some.name (sym has ∙ e)),
+      unnamed_kept c.args.self.now c.set.new.self c.set_holder.new.self f.variables c.args.var c.in-Some.name (record { known = (f.variables c.args.var).known; mode = Hide; name = None }) k refl has
+          (λ w. c.in_ok-set.ensures.variables w ∙ ap (λ (x : Variable). cond (eqb w c.args.var) (record { known = x.known; mode = Hide; name = None }) (variable_at c.args.self.now w)) same)
+          c.in_ok-set.ensures.holders c.in_ok-set_holder.ensures.variables c.in_ok-set_holder.ensures.holders,
+    )

@@ -1,0 +1,16 @@
+use Rattle.std.proofs.Common.{ℕ, ◌≡◌, ◌∙◌, ap, sym, refl, cond, eqb}
+use Rattle.sat_checker.specs.Stored.{Variable, Mode, Sample, Witness}
+use Rattle.sat_checker.specs.inner.VariablesView.{mode_in, variable_at}
+use Rattle.sat_checker.proofs.lemmas.variables.Keeping.{set_kept, was_true}
+use Rattle.sat_checker.proofs.variables.Variables.set_mode.Goals as goal
+
+pub returns : goal.returns
+returns c = λ f k.
+    let same = c.data-old.ensures ∙ k.each c.args.var in
+    (
+      sym (ap (λ (x : Variable). x.known) same) ∙ was_true c.data-old.result.known c.if-not-old.false,
+      set_kept c.args.self.now c.set.new.self f.variables c.args.var (record (f.variables c.args.var) { mode = cond c.args.sample Sample Witness }) k refl
+          (λ w. c.in_ok-set.ensures.variables w ∙ ap (λ (x : Variable). cond (eqb w c.args.var) (record { known = x.known; mode = mode_in c.mode_from-mode.result; name = x.name }) (variable_at c.args.self.now w)) same
+          ∙ ap (λ (m : Mode). cond (eqb w c.args.var) (record (f.variables c.args.var) { mode = m }) (variable_at c.args.self.now w)) c.mode_from-mode.ensures)
+          c.in_ok-set.ensures.holders,
+    )

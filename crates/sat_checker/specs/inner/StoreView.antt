@@ -1,0 +1,34 @@
+-- What the store keeps of the definition's state.
+use Rattle.std.specs.Prelude.{ℕ, ◌≡◌, Bool, false, not, List, Option, None, Some, is_some, if◌then◌else◌}
+use Rattle.std.specs.List.{AllByRecursion}
+use Rattle.sat_checker.specs.Stored.{Stored, StoredClause, hash_by}
+use Rattle.sat_checker.specs.Storing.{clause_with, with_clause, redundant_count, irredundant_count}
+use Rattle.sat_checker.specs.HasherView.{solver_name_of, width_of}
+use Rattle.sat_checker.specs.inner.SlotView.{Slot, is_gone, live}
+use Rattle.sat_checker.specs.declared.hash.ClauseHasher.{ClauseHasher}
+use Rattle.sat_checker.specs.declared.store.Store.{Store}
+
+-- each clause that isn't gone has its hash of now
+abbrev pub AreHashed : ClauseHasher → List Slot → Type 0
+AreHashed h = AllByRecursion (λ s. is_gone s ≡ false → s.hash ≡ hash_by (solver_name_of h) (width_of h) s.clause.literals)
+
+-- it has the clauses, under the hashes by solver names and width
+pub record KeepsClauses (store : Store) (f : Stored) : Type 0 where
+  pub clauses : live store.clauses ≡ f.clauses
+  pub hashed : AreHashed store.hasher store.clauses
+  pub names : (v : ℕ) → solver_name_of store.hasher v ≡ f.solver_names v
+  pub width : width_of store.hasher ≡ f.width
+
+abbrev pub count_in : Bool → Option StoredClause → ℕ
+count_in redundant c = if redundant then redundant_count c else irredundant_count c
+
+-- the id of a clause that was there, or that of a new one
+abbrev pub id_in : Option StoredClause → ℕ → ℕ
+id_in None id = id
+id_in (Some c) id = c.id
+
+-- what storing a clause leaves, and what it tells
+pub record Stores (store : Store) (f : Stored) (id : ℕ) (redundant : Bool) (literals : List ℕ) (stored_id : ℕ) (is_new : Bool) : Type 0 where
+  pub stored : KeepsClauses store (record f { clauses = with_clause redundant id literals f.clauses })
+  pub id_is : stored_id ≡ id_in (clause_with literals f.clauses) id
+  pub new_is : is_new ≡ not (is_some (clause_with literals f.clauses))

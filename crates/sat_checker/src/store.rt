@@ -1,0 +1,105 @@
+//! The stored clauses of two literals or more, with the hashes by which steps name them.
+ghost use Rattle.std.specs.Prelude.{◌≡◌, ◌+◌, ◌*◌, ◌≤◌, ◌<◌, ◌^◌, IfOk, Err, MatchBool, length, map, IsTrue, ◌↔◌};
+ghost use Rattle.sat_checker.specs.Propagation.{PassesCheck};
+ghost use Rattle.sat_checker.specs.inner.Marks.{IsIncreasing};
+ghost use Rattle.sat_checker.specs.Stored.{Stored, bucket};
+ghost use Rattle.sat_checker.specs.Looks.{literal_count};
+ghost use Rattle.sat_checker.specs.inner.StoreView.{KeepsClauses, Stores, count_in};
+ghost use Rattle.sat_checker.specs.Storing.{clause_with, without_clause};
+
+use crate::assigned::Assigned;
+use crate::clauses::Clauses;
+use crate::hash::ClauseHasher;
+use crate::looks::Looks;
+use crate::rup::check_clause_with_hashes;
+use sat_base::{ClauseHash, HashBits, Lit};
+use std::alloc::{AllocError, Global};
+
+/// Why a clause can't be stored.
+#[derive(Clone, Copy, Debug, Drop)]
+pub(crate) enum StoreError {
+    OutOfMemory,
+    CounterEnd,
+}
+
+impl From<AllocError> for StoreError {
+    ghost use Rattle.std.specs.Prelude.{◌≡◌};
+    ghost use Rattle.sat_checker.specs.declared.store.StoreError.TheVariants.{OutOfMemory};
+
+    ghost from_gives = { λ _ e. e ≡ OutOfMemory };
+
+    fn from(_e: AllocError) -> StoreError {
+        StoreError::OutOfMemory
+    }
+}
+
+/// Clauses, and the hasher of now.
+#[derive(Drop)]
+pub(crate) struct Store {
+    pub(crate) clauses: Clauses,
+    pub(crate) hasher: ClauseHasher,
+}
+
+impl Store {
+    /// The propagation check of a clause under hashes, over the units that are assigned, which stay.
+    #[tactic(auto, using(crate::proofs::lemmas::store::Keeping::checking))]
+    pub fn check(
+        &self,
+        clause: &[Lit],
+        hashes: &[ClauseHash],
+        units: &mut Assigned,
+        looks: &mut Looks,
+    ) -> Result<bool, AllocError>
+        ensures exact { IfOk result (λ passes. (f : Stored) → KeepsClauses self.now f → IsTrue passes ↔ PassesCheck units.old clause.now (map (bucket f) hashes.now)) }
+        ensures units { units.new ≡ units.old }
+        ensures looks { (f : Stored) → KeepsClauses self.now f → looks.new ≤ looks.old + length hashes.now * literal_count f }
+    {
+        check_clause_with_hashes(&self.clauses, clause, hashes, units, looks)
+    }
+
+    /// Stores sorted literals without repeats once more, under this id where they are new. The answer is the id under which they
+    /// are stored, and whether they are new.
+    pub fn store_clause(
+        &mut self,
+        id: u64,
+        redundant: bool,
+        literals: &[Lit],
+        looks: &mut Looks,
+    ) -> Result<(u64, bool), StoreError>
+        requires { IsIncreasing literals.now }
+        ensures ok { IfOk result (λ stored. (f : Stored) → KeepsClauses self.old f → Stores self.new f id redundant literals.now stored.0 stored.1) }
+        // A count is at its end.
+        ensures full { result ≡ Err StoreError.CounterEnd → (f : Stored) → KeepsClauses self.old f → 2 ^ 64 ≤ count_in redundant (clause_with literals.now f.clauses) + 1 }
+        ensures looks { (f : Stored) → KeepsClauses self.old f → looks.new ≤ looks.old + literal_count f }
+    {
+        let _count = self.clauses.len();
+        let hash = self.hasher.clause_hash(literals);
+        let Some(place) = self.clauses.find(hash, literals, looks) else {
+            self.clauses.push(id, redundant, hash, literals)?;
+            return Ok((id, true));
+        };
+        if self.clauses.count(place, redundant) == u64::MAX {
+            return Err(StoreError::CounterEnd);
+        }
+        self.clauses.add_count(place, redundant);
+        Ok((self.clauses.id(place), false))
+    }
+
+    /// Takes a count from sorted literals without repeats. The answer is whether they have one.
+    pub fn delete_clause(&mut self, redundant: bool, literals: &[Lit], looks: &mut Looks) -> bool
+        ensures deleted { (f : Stored) → KeepsClauses self.old f → MatchBool result
+            ((0 < count_in redundant (clause_with literals.now f.clauses)) × KeepsClauses self.new (record f { clauses = without_clause redundant literals.now f.clauses }))
+            (0 < count_in redundant (clause_with literals.now f.clauses) → ⊥) }
+        ensures looks { (f : Stored) → KeepsClauses self.old f → looks.new ≤ looks.old + literal_count f }
+    {
+        let hash = self.hasher.clause_hash(literals);
+        let Some(place) = self.clauses.find(hash, literals, looks) else {
+            return false;
+        };
+        if self.clauses.count(place, redundant) == 0 {
+            return false;
+        }
+        self.clauses.take_count(place, redundant);
+        true
+    }
+}
