@@ -1,10 +1,13 @@
 //! The stored clauses of two literals or more.
-ghost use Rattle.std.specs.Prelude.{ℕ, ◌≡◌, ◌+◌, ◌<◌, ◌≤◌, ◌^◌, [], ◌∷◌, ◌++◌, length, false, MatchOption, OnOk};
+ghost use Rattle.std.specs.Prelude.{ℕ, ◌≡◌, ◌+◌, ◌*◌, ◌<◌, ◌≤◌, ◌^◌, [], ◌∷◌, ◌++◌, length, false, MatchOption, OnOk};
 ghost use Rattle.std.specs.List.{AllByRecursion};
 ghost use Rattle.sat_checker.specs.Looks.{total_length};
 ghost use Rattle.sat_checker.specs.inner.Marks.{IsIncreasing};
-ghost use Rattle.sat_checker.specs.inner.SlotView.{slot_at, literals_at, all_lits, stored_slot, with_count_at, without_count_at, count_of, is_gone, places_of, bucket_in, is_same_at, found_among, IsBucket};
+ghost use Rattle.sat_checker.specs.inner.SlotView.{slot_at, literals_at, all_lits, stored_slot, with_count_at, without_count_at, count_of, is_gone, places_of, bucket_in, is_same_at, found_among, all_hashed_by, live_length, IsBucket};
+ghost use Rattle.sat_checker.specs.HasherView.{solver_name_of, width_of};
+ghost use Rattle.sat_checker.specs.inner.IndexView.{places_in};
 
+use crate::hash::ClauseHasher;
 use crate::index::{Bucket, Index};
 use crate::looks::Looks;
 use crate::slots::Slots;
@@ -55,9 +58,7 @@ impl Clauses {
         ensures lent { result.now ≡ literals_at self.now place }
         ensures looks { looks.new ≡ looks.old + length (literals_at self.now place) }
     {
-        let literals = self.slots.literals(place);
-        looks.count(literals.len());
-        literals
+        lend(&self.slots, place, looks)
     }
 
     pub fn id(&self, place: usize) -> u64
@@ -129,6 +130,23 @@ impl Clauses {
         Ok(())
     }
 
+    /// Files all clauses anew, by the hashes of this hasher.
+    pub fn rehash(
+        &mut self,
+        alloc: Global,
+        hasher: &ClauseHasher,
+        looks: &mut Looks,
+    ) -> Result<(), AllocError>
+        ensures hashed { OnOk result (self.new ≡ all_hashed_by (solver_name_of hasher.now) (width_of hasher.now) self.old) }
+        ensures looks { looks.new ≤ looks.old + 2 * live_length self.old }
+    {
+        let mut index = Index::new(alloc);
+        file_all(&self.slots, hasher, &mut index, looks)?;
+        hash_all(&mut self.slots, hasher, looks);
+        self.index = index;
+        Ok(())
+    }
+
     /// One count more of a clause that isn't gone.
     pub fn add_count(&mut self, place: usize, redundant: bool)
         requires inside { place < length self.old }
@@ -150,5 +168,54 @@ impl Clauses {
         if self.slots.is_gone(place) {
             self.index.remove(hash, place);
         }
+    }
+}
+
+/// Lends the literals at a place, which counts as a look at each.
+#[inline(always)]
+fn lend<'a>(slots: &'a Slots, place: usize, looks: &mut Looks) -> &'a [Lit]
+    requires { place < length slots.now }
+    ensures lent { result.now ≡ literals_at slots.now place }
+    ensures looks { looks.new ≡ looks.old + length (literals_at slots.now place) }
+{
+    let literals = slots.literals(place);
+    looks.count(literals.len());
+    literals
+}
+
+/// Files the clauses that aren't gone in an empty index.
+#[tactic(auto, using(crate::proofs::lemmas::store::Rehashing::filing))]
+fn file_all(
+    slots: &Slots,
+    hasher: &ClauseHasher,
+    index: &mut Index,
+    looks: &mut Looks,
+) -> Result<(), AllocError>
+    requires { (q : ℕ) → places_in index.old q ≡ [] }
+    ensures filed { OnOk result ((q : ℕ) → places_in index.new q ≡ places_of q (all_hashed_by (solver_name_of hasher.now) (width_of hasher.now) slots.now)) }
+    ensures looks { looks.new ≤ looks.old + live_length slots.now }
+{
+    for place in 0..slots.len() {
+        if slots.is_gone(place) {
+            continue;
+        }
+        let hash = hasher.clause_hash(lend(slots, place, looks));
+        index.file(hash, place)?;
+    }
+    Ok(())
+}
+
+/// Sets the hashes of the clauses that aren't gone.
+#[tactic(auto, using(crate::proofs::lemmas::store::Rehashing::hashing))]
+fn hash_all(slots: &mut Slots, hasher: &ClauseHasher, looks: &mut Looks)
+    ensures hashed { slots.new ≡ all_hashed_by (solver_name_of hasher.now) (width_of hasher.now) slots.old }
+    ensures looks { looks.new ≤ looks.old + live_length slots.old }
+{
+    for place in 0..slots.len() {
+        if slots.is_gone(place) {
+            continue;
+        }
+        let hash = hasher.clause_hash(lend(slots, place, looks));
+        slots.set_hash(place, hash);
     }
 }

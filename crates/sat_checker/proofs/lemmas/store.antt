@@ -4,3 +4,4 @@ pub mod Places
 pub mod Finding
 pub mod Keeping
 pub mod Storing
+pub mod Rehashing

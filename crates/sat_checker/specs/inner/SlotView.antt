@@ -3,7 +3,7 @@ use Rattle.std.specs.Prelude.{ℕ, ◌+◌, ◌<◌, ◌≤◌, ◌==◌, ◌≡
 use Rattle.std.specs.List.{AllByRecursion}
 use Rattle.sat_checker.specs.LiteralSets.{same_literals}
 use Rattle.sat_checker.specs.Looks.{total_length}
-use Rattle.sat_checker.specs.Stored.{StoredClause}
+use Rattle.sat_checker.specs.Stored.{StoredClause, hash_by}
 use Rattle.sat_checker.specs.Storing.{with_count, without_count, new_clause, unless_gone}
 use Rattle.sat_checker.specs.declared.slots.ClauseLits.{ClauseLits}
 
@@ -92,3 +92,10 @@ pub record IsBucket (hash : ℕ) (slots : List Slot) (places : List ℕ) : Type 
   pub all : places_of hash slots ≡ places
   pub literals : bucket_in hash slots ≡ map (literals_at slots) places
   pub within : AllByRecursion (λ p. p < length slots) places
+
+-- with the hash by these names and of this width, unless it's gone
+abbrev pub hashed_by : (ℕ → Option ℕ) → ℕ → Slot → Slot
+hashed_by names width s = if is_gone s then s else record s { hash = hash_by names width s.clause.literals }
+
+abbrev pub all_hashed_by : (ℕ → Option ℕ) → ℕ → List Slot → List Slot
+all_hashed_by names width = map (hashed_by names width)

@@ -7,7 +7,7 @@ use Rattle.sat_checker.specs.Storing.{with_count, without_count, new_clause}
 use Rattle.sat_checker.specs.inner.IndexView.{without_place}
 use Rattle.sat_checker.specs.inner.SlotView.{Slot, unstored, stored_slot, slot_at, literals_at, count_of, with_count_at, without_count_at, is_gone, is_filed, all_lits, bucket_in, places_from, places_of}
 
-eqb_comm : (x y : ℕ) → eqb x y ≡ eqb y x
+pub eqb_comm : (x y : ℕ) → eqb x y ≡ eqb y x
 eqb_comm x y = go (eqb x y) refl (eqb y x) refl
   where
     go : (b : Bool) → eqb x y ≡ b → (d : Bool) → eqb y x ≡ d → b ≡ d
@@ -17,7 +17,7 @@ eqb_comm x y = go (eqb x y) refl (eqb y x) refl
     go false e true f = absurd (eqb-false x y e (sym (eqb-true y x f)))
 
 -- one slot more at the end
-places_push : (k hash : ℕ) (ss : List Slot) (s : Slot) → places_from k hash (ss ++ s ∷ []) ≡ places_from k hash ss ++ cond (is_filed hash s) ((k + length ss) ∷ []) []
+pub places_push : (k hash : ℕ) (ss : List Slot) (s : Slot) → places_from k hash (ss ++ s ∷ []) ≡ places_from k hash ss ++ cond (is_filed hash s) ((k + length ss) ∷ []) []
 places_push k hash [] s = let e : k + 0 ≡ k = omega arith in rw e (go (is_filed hash s))
   where
     go : (b : Bool) → cond b (k ∷ []) [] ≡ cond b (k ∷ []) []
@@ -31,7 +31,7 @@ places_push k hash (t ∷ ss) s =
     go true h = ap (λ ps. k ∷ ps) h
     go false h = h
 
-append_none : (ps : List ℕ) → ps ++ [] ≡ ps
+pub append_none : (ps : List ℕ) → ps ++ [] ≡ ps
 append_none [] = refl
 append_none (p ∷ ps) = ap (λ qs. p ∷ qs) (append_none ps)
 

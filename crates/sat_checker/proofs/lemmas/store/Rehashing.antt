@@ -1,0 +1,134 @@
+-- Filing all clauses anew.
+use Rattle.std.proofs.Common.{ℕ, zero, suc, ◌+◌, ◌<◌, ◌≤◌, ◌≡◌, Bool, true, false, not, ◌&&◌, cond, eqb, List, [], ◌∷◌, ◌++◌, length, take, drop, map, Option, refl, sym, ◌∙◌, ap, arith, slice_set}
+use Rattle.std.proofs.lemmas.Bool.{eqb-true, eqb-false, eq-eqb, ne_eqb}
+use Rattle.std.proofs.lemmas.List.{take_more, length-map}
+use Rattle.std.proofs.Math.Seq.{take-length}
+use Rattle.sat_checker.specs.Stored.{hash_by}
+use Rattle.sat_checker.specs.Looks.{total_length}
+use Rattle.sat_checker.specs.inner.SlotView.{Slot, unstored, slot_at, literals_at, is_gone, is_filed, live, live_length, places_from, places_of, with_hash_at, hashed_by, all_hashed_by}
+use Rattle.sat_checker.proofs.lemmas.store.Places.{places_push, append_none, eqb_comm}
+
+module _ (names : ℕ → Option ℕ) (width : ℕ) where
+  -- the slots up to a place are hashed anew, those from there on aren't yet
+  abbrev pub hashed_to : ℕ → List Slot → List Slot
+  hashed_to i ss = all_hashed_by names width (take i ss) ++ drop i ss
+
+  pub hashed_all : (ss : List Slot) (i : ℕ) → length ss ≤ i → hashed_to i ss ≡ all_hashed_by names width ss
+  hashed_all [] zero l = refl
+  hashed_all [] (suc i) l = refl
+  hashed_all (s ∷ ss) zero l = absurd (omega arith)
+  hashed_all (s ∷ ss) (suc i) l = ap (λ ts. hashed_by names width s ∷ ts) (hashed_all ss i (omega arith))
+
+  pub slot_left : (ss : List Slot) (i : ℕ) → i < length ss → slot_at (hashed_to i ss) i ≡ slot_at ss i
+  slot_left [] i l = absurd (omega arith)
+  slot_left (s ∷ ss) zero l = refl
+  slot_left (s ∷ ss) (suc i) l = slot_left ss i (omega arith)
+
+  pub length_left : (ss : List Slot) (i : ℕ) → length (hashed_to i ss) ≡ length ss
+  length_left [] zero = refl
+  length_left [] (suc i) = refl
+  length_left (s ∷ ss) zero = refl
+  length_left (s ∷ ss) (suc i) = ap suc (length_left ss i)
+
+  set_next : (ss : List Slot) (i : ℕ) → i < length ss → slice_set (hashed_to i ss) i (hashed_by names width (slot_at ss i)) ≡ hashed_to (suc i) ss
+  set_next [] i l = absurd (omega arith)
+  set_next (s ∷ ss) zero l = refl
+  set_next (s ∷ ss) (suc i) l = ap (λ ts. hashed_by names width s ∷ ts) (set_next ss i (omega arith))
+
+  hashed_there : (s : Slot) → is_gone s ≡ false → hashed_by names width s ≡ record s { hash = hash_by names width s.clause.literals }
+  hashed_there s g = ap (λ b. cond b s (record s { hash = hash_by names width s.clause.literals })) g
+
+  hashed_gone : (s : Slot) → is_gone s ≡ true → hashed_by names width s ≡ s
+  hashed_gone s g = ap (λ b. cond b s (record s { hash = hash_by names width s.clause.literals })) g
+
+  skip_next : (ss : List Slot) (i : ℕ) → i < length ss → is_gone (slot_at ss i) ≡ true → hashed_to i ss ≡ hashed_to (suc i) ss
+  skip_next [] i l g = absurd (omega arith)
+  skip_next (s ∷ ss) zero l g = ap (λ t. t ∷ ss) (sym (hashed_gone s g))
+  skip_next (s ∷ ss) (suc i) l g = ap (λ ts. hashed_by names width s ∷ ts) (skip_next ss i (omega arith) g)
+
+  pub gone_same : (ss now : List Slot) (i : ℕ) (b : Bool) → i < length ss → now ≡ hashed_to i ss → is_gone (slot_at now i) ≡ b → is_gone (slot_at ss i) ≡ b
+  gone_same ss now i b l e g = ap is_gone (sym (ap (λ x. slot_at x i) e ∙ slot_left ss i l)) ∙ g
+
+  pub hashed_skip : (ss now : List Slot) (i : ℕ) → i < length ss → now ≡ hashed_to i ss → is_gone (slot_at now i) ≡ true → now ≡ hashed_to (i + 1) ss
+  hashed_skip ss now i l e g = let m : i + 1 ≡ suc i = omega arith in e ∙ skip_next ss i l (gone_same ss now i true l e g) ∙ ap (λ k. hashed_to k ss) (sym m)
+
+  pub hashed_next : (ss now next : List Slot) (i hash : ℕ) → i < length ss → now ≡ hashed_to i ss → is_gone (slot_at now i) ≡ false → hash ≡ hash_by names width (literals_at now i) → next ≡ with_hash_at hash i now → next ≡ hashed_to (i + 1) ss
+  hashed_next ss now next i hash l e g h n =
+      let at : slot_at now i ≡ slot_at ss i = ap (λ x. slot_at x i) e ∙ slot_left ss i l in
+      let m : i + 1 ≡ suc i = omega arith in
+      n ∙ ap (λ k. with_hash_at k i now) (h ∙ ap (λ (x : Slot). hash_by names width x.clause.literals) at)
+      ∙ ap (λ (x : Slot). slice_set now i (record x { hash = hash_by names width (slot_at ss i).clause.literals })) at
+      ∙ ap (λ x. slice_set x i (record (slot_at ss i) { hash = hash_by names width (slot_at ss i).clause.literals })) e
+      ∙ ap (λ t. slice_set (hashed_to i ss) i t) (sym (hashed_there (slot_at ss i) (gone_same ss now i false l e g))) ∙ set_next ss i l ∙ ap (λ k. hashed_to k ss) (sym m)
+
+  -- the places of the slots up to a place
+  abbrev pub filed_to : ℕ → List Slot → ℕ → List ℕ
+  filed_to i ss q = places_of q (all_hashed_by names width (take i ss))
+
+  take_next : (ss : List Slot) (i : ℕ) → i < length ss → all_hashed_by names width (take (suc i) ss) ≡ all_hashed_by names width (take i ss) ++ hashed_by names width (slot_at ss i) ∷ []
+  take_next [] i l = absurd (omega arith)
+  take_next (s ∷ ss) zero l = refl
+  take_next (s ∷ ss) (suc i) l = ap (λ ts. hashed_by names width s ∷ ts) (take_next ss i (omega arith))
+
+  taken_length : (ss : List Slot) (i : ℕ) → i < length ss → length (all_hashed_by names width (take i ss)) ≡ i
+  taken_length [] i l = absurd (omega arith)
+  taken_length (s ∷ ss) zero l = refl
+  taken_length (s ∷ ss) (suc i) l = ap suc (taken_length ss i (omega arith))
+
+  filed_one : (ss : List Slot) (i q : ℕ) → i < length ss → filed_to (i + 1) ss q ≡ filed_to i ss q ++ cond (is_filed q (hashed_by names width (slot_at ss i))) (i ∷ []) []
+  filed_one ss i q l =
+      let m : i + 1 ≡ suc i = omega arith in
+      let z : 0 + length (all_hashed_by names width (take i ss)) ≡ i = let k = taken_length ss i l in omega arith in
+      ap (λ k. filed_to k ss q) m ∙ ap (places_of q) (take_next ss i l) ∙ places_push 0 q (all_hashed_by names width (take i ss)) (hashed_by names width (slot_at ss i))
+      ∙ ap (λ k. filed_to i ss q ++ cond (is_filed q (hashed_by names width (slot_at ss i))) (k ∷ []) []) z
+
+  pub filed_gone : (f : ℕ → List ℕ) (ss : List Slot) (i q : ℕ) → i < length ss → is_gone (slot_at ss i) ≡ true → f q ≡ filed_to i ss q → f q ≡ filed_to (i + 1) ss q
+  filed_gone f ss i q l g e =
+      e ∙ sym (filed_one ss i q l ∙ ap (λ s. filed_to i ss q ++ cond (is_filed q s) (i ∷ []) []) (hashed_gone (slot_at ss i) g)
+      ∙ ap (λ b. filed_to i ss q ++ cond (not b && eqb (slot_at ss i).hash q) (i ∷ []) []) g ∙ append_none (filed_to i ss q))
+
+  pub filed_there : (f g : ℕ → List ℕ) (ss : List Slot) (i hash q : ℕ) → i < length ss → is_gone (slot_at ss i) ≡ false → hash ≡ hash_by names width (slot_at ss i).clause.literals → f q ≡ filed_to i ss q
+      → g q ≡ cond (eqb q hash) (f q ++ i ∷ []) (f q) → g q ≡ filed_to (i + 1) ss q
+  filed_there f g ss i hash q l n h e w =
+      w ∙ ap (λ ps. cond (eqb q hash) (ps ++ i ∷ []) ps) e
+      ∙ sym (filed_one ss i q l ∙ ap (λ s. filed_to i ss q ++ cond (is_filed q s) (i ∷ []) []) (hashed_there (slot_at ss i) n)
+      ∙ ap (λ b. filed_to i ss q ++ cond (not b && eqb (hash_by names width (slot_at ss i).clause.literals) q) (i ∷ []) []) n
+      ∙ ap (λ k. filed_to i ss q ++ cond (eqb k q) (i ∷ []) []) (sym h) ∙ ap (λ b. filed_to i ss q ++ cond b (i ∷ []) []) (eqb_comm hash q) ∙ go (eqb q hash))
+    where
+      go : (b : Bool) → filed_to i ss q ++ cond b (i ∷ []) [] ≡ cond b (filed_to i ss q ++ i ∷ []) (filed_to i ss q)
+      go true = refl
+      go false = append_none (filed_to i ss q)
+
+  pub filed_all : (ss : List Slot) (i q : ℕ) → length ss ≤ i → filed_to i ss q ≡ places_of q (all_hashed_by names width ss)
+  filed_all ss i q l = ap (λ ts. places_of q (all_hashed_by names width ts)) (take_whole ss i l)
+    where
+      take_whole : (ts : List Slot) (j : ℕ) → length ts ≤ j → take j ts ≡ ts
+      take_whole [] zero k = refl
+      take_whole [] (suc j) k = refl
+      take_whole (t ∷ ts) zero k = absurd (omega arith)
+      take_whole (t ∷ ts) (suc j) k = ap (λ us. t ∷ us) (take_whole ts j (omega arith))
+
+-- the literals of a place that are left to look at
+left_at : (ss : List Slot) (i : ℕ) → i < length ss → live_length (drop i ss) ≡ cond (is_gone (slot_at ss i)) 0 (length (literals_at ss i)) + live_length (drop (suc i) ss)
+left_at [] j k = absurd (omega arith)
+left_at (t ∷ ts) zero k = go (is_gone t)
+  where
+    go : (b : Bool) → total_length (map (λ c. c.literals) (cond b [] (t.clause ∷ []) ++ live ts)) ≡ cond b 0 (length t.clause.literals) + live_length ts
+    go true = omega arith
+    go false = refl
+left_at (t ∷ ts) (suc j) k = left_at ts j (omega arith)
+
+pub left_gone : (ss : List Slot) (i : ℕ) → i < length ss → is_gone (slot_at ss i) ≡ true → live_length (drop i ss) ≡ live_length (drop (i + 1) ss)
+left_gone ss i l g =
+    let m : i + 1 ≡ suc i = omega arith in
+    let z : 0 + live_length (drop (suc i) ss) ≡ live_length (drop (suc i) ss) = omega arith in
+    left_at ss i l ∙ ap (λ b. cond b 0 (length (literals_at ss i)) + live_length (drop (suc i) ss)) g ∙ z ∙ ap (λ k. live_length (drop k ss)) (sym m)
+
+pub left_there : (ss : List Slot) (i : ℕ) → i < length ss → is_gone (slot_at ss i) ≡ false → live_length (drop i ss) ≡ length (literals_at ss i) + live_length (drop (i + 1) ss)
+left_there ss i l g =
+    let m : i + 1 ≡ suc i = omega arith in
+    left_at ss i l ∙ ap (λ b. cond b 0 (length (literals_at ss i)) + live_length (drop (suc i) ss)) g ∙ ap (λ k. length (literals_at ss i) + live_length (drop k ss)) (sym m)
+
+pub ruleset filing = (filed_all)
+
+pub ruleset hashing = (hashed_all)
