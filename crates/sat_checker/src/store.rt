@@ -1,18 +1,18 @@
 //! The stored clauses of two literals or more, with the hashes by which steps name them.
-ghost use Rattle.std.specs.Prelude.{◌≡◌, ◌+◌, ◌*◌, ◌≤◌, ◌<◌, ◌^◌, IfOk, Err, MatchBool, length, map, IsTrue, ◌↔◌};
+ghost use Rattle.std.specs.Prelude.{◌≡◌, ◌+◌, ◌*◌, ◌≤◌, ◌<◌, ◌^◌, IfOk, OnOk, Err, MatchBool, length, map, IsTrue, ◌↔◌};
 ghost use Rattle.sat_checker.specs.Propagation.{PassesCheck};
 ghost use Rattle.sat_checker.specs.inner.Marks.{IsIncreasing};
 ghost use Rattle.sat_checker.specs.Stored.{Stored, bucket};
 ghost use Rattle.sat_checker.specs.Looks.{literal_count};
 ghost use Rattle.sat_checker.specs.inner.StoreView.{KeepsClauses, Stores, count_in};
-ghost use Rattle.sat_checker.specs.Storing.{clause_with, without_clause};
+ghost use Rattle.sat_checker.specs.Storing.{clause_with, with_solver_name, without_clause};
 
 use crate::assigned::Assigned;
 use crate::clauses::Clauses;
 use crate::hash::ClauseHasher;
 use crate::looks::Looks;
 use crate::rup::check_clause_with_hashes;
-use sat_base::{ClauseHash, HashBits, Lit};
+use sat_base::{ClauseHash, HashBits, Lit, Var};
 use std::alloc::{AllocError, Global};
 
 /// Why a clause can't be stored.
@@ -101,5 +101,36 @@ impl Store {
         }
         self.clauses.take_count(place, redundant);
         true
+    }
+
+    /// So many bits of each hash are kept from here on.
+    pub fn set_bits(
+        &mut self,
+        alloc: Global,
+        bits: HashBits,
+        looks: &mut Looks,
+    ) -> Result<(), AllocError>
+        ensures set { OnOk result ((f : Stored) → KeepsClauses self.old f → KeepsClauses self.new (record f { width = bits })) }
+        ensures looks { (f : Stored) → KeepsClauses self.old f → looks.new ≤ looks.old + 2 * literal_count f }
+    {
+        self.hasher.set_bits(bits);
+        self.clauses.rehash(alloc, &self.hasher, looks)?;
+        Ok(())
+    }
+
+    /// A variable has this solver name or none from here on.
+    pub fn set_solver_name(
+        &mut self,
+        alloc: Global,
+        var: Var,
+        name: Option<Var>,
+        looks: &mut Looks,
+    ) -> Result<(), AllocError>
+        ensures set { OnOk result ((f : Stored) → KeepsClauses self.old f → KeepsClauses self.new (with_solver_name var name f)) }
+        ensures looks { (f : Stored) → KeepsClauses self.old f → looks.new ≤ looks.old + 2 * literal_count f }
+    {
+        self.hasher.set_solver_name(var, name)?;
+        self.clauses.rehash(alloc, &self.hasher, looks)?;
+        Ok(())
     }
 }

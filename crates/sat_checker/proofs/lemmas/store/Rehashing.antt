@@ -1,10 +1,16 @@
 -- Filing all clauses anew.
-use Rattle.std.proofs.Common.{ℕ, zero, suc, ◌+◌, ◌<◌, ◌≤◌, ◌≡◌, Bool, true, false, not, ◌&&◌, cond, eqb, List, [], ◌∷◌, ◌++◌, length, take, drop, map, Option, refl, sym, ◌∙◌, ap, arith, slice_set}
-use Rattle.std.proofs.lemmas.Bool.{eqb-true, eqb-false, eq-eqb, ne_eqb}
+use Rattle.std.proofs.Common.{ℕ, zero, suc, ◌+◌, ◌<◌, ◌≤◌, ◌≡◌, Bool, true, false, not, ◌&&◌, cond, eqb, List, [], ◌∷◌, ◌++◌, length, take, drop, map, Option, refl, sym, ◌∙◌, ap, subst, ◌*◌, arith, slice_set}
+use Rattle.std.proofs.lemmas.Bool.{true≢false, eqb-true, eqb-false, eq-eqb, ne_eqb}
 use Rattle.std.proofs.lemmas.List.{take_more, length-map}
 use Rattle.std.proofs.Math.Seq.{take-length}
-use Rattle.sat_checker.specs.Stored.{hash_by}
-use Rattle.sat_checker.specs.Looks.{total_length}
+use Rattle.sat_checker.specs.Stored.{Stored, hash_by}
+use Rattle.sat_checker.specs.Storing.{unless_gone}
+use Rattle.sat_checker.specs.Looks.{total_length, literal_count}
+use Rattle.sat_checker.specs.HasherView.{solver_name_of, width_of}
+use Rattle.sat_checker.specs.inner.StoreView.{AreHashed, KeepsClauses}
+use Rattle.sat_checker.specs.declared.hash.ClauseHasher.{ClauseHasher}
+use Rattle.sat_checker.specs.declared.store.Store.{Store}
+use Rattle.sat_checker.proofs.lemmas.store.Keeping.{length_same}
 use Rattle.sat_checker.specs.inner.SlotView.{Slot, unstored, slot_at, literals_at, is_gone, is_filed, live, live_length, places_from, places_of, with_hash_at, hashed_by, all_hashed_by}
 use Rattle.sat_checker.proofs.lemmas.store.Places.{places_push, append_none, eqb_comm}
 
@@ -132,3 +138,33 @@ left_there ss i l g =
 pub ruleset filing = (filed_all)
 
 pub ruleset hashing = (hashed_all)
+
+-- what is stored, once all is filed anew
+live_hashed : (names : ℕ → Option ℕ) (width : ℕ) (ss : List Slot) → live (all_hashed_by names width ss) ≡ live ss
+live_hashed names width [] = refl
+live_hashed names width (s ∷ ss) = go (is_gone s) refl (live_hashed names width ss)
+  where
+    go : (b : Bool) → is_gone s ≡ b → live (all_hashed_by names width ss) ≡ live ss → unless_gone (cond b s (record s { hash = hash_by names width s.clause.literals })).clause ++ live (all_hashed_by names width ss) ≡ unless_gone s.clause ++ live ss
+    go true g ih = ap (λ cs. unless_gone s.clause ++ cs) ih
+    go false g ih = ap (λ cs. unless_gone s.clause ++ cs) ih
+
+all_hashed : (h : ClauseHasher) (ss : List Slot) → AreHashed h (all_hashed_by (solver_name_of h) (width_of h) ss)
+all_hashed h [] = tt
+all_hashed h (s ∷ ss) = (go (is_gone s) refl, all_hashed h ss)
+  where
+    go : (b : Bool) → is_gone s ≡ b → is_gone (cond b s (record s { hash = hash_by (solver_name_of h) (width_of h) s.clause.literals })) ≡ false
+        → (cond b s (record s { hash = hash_by (solver_name_of h) (width_of h) s.clause.literals })).hash ≡ hash_by (solver_name_of h) (width_of h) (cond b s (record s { hash = hash_by (solver_name_of h) (width_of h) s.clause.literals })).clause.literals
+    go true g n = absurd (true≢false (sym g ∙ n))
+    go false g n = refl
+
+pub filed_anew : (store : Store) (f : Stored) (h : ClauseHasher) (new : List Slot) (names : ℕ → Option ℕ) (width : ℕ) → KeepsClauses store f → new ≡ all_hashed_by (solver_name_of h) (width_of h) store.clauses
+    → ((v : ℕ) → solver_name_of h v ≡ names v) → width_of h ≡ width → KeepsClauses (record { clauses = new; hasher = h }) (record f { solver_names = names; width = width })
+filed_anew store f h new names width k n e w = record {
+  clauses = ap live n ∙ live_hashed (solver_name_of h) (width_of h) store.clauses ∙ k.clauses;
+  hashed = subst (AreHashed h) (sym n) (all_hashed h store.clauses);
+  names = e;
+  width = w;
+}
+
+pub looks_two : (store : Store) (old new : ℕ) → new ≤ old + 2 * live_length store.clauses → (f : Stored) → KeepsClauses store f → new ≤ old + 2 * literal_count f
+looks_two store old new h f k = let b : live_length store.clauses ≡ literal_count f = length_same store f k in omega arith
