@@ -1,2 +1,3 @@
 pub mod Orders
 pub mod Stored
+pub mod Db

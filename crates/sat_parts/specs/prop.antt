@@ -7,3 +7,6 @@ pub mod Binaries
 pub mod WatchLists
 pub mod Ready
 pub mod Walk
+pub mod Asks
+pub mod Building
+pub mod Undone

@@ -2,12 +2,15 @@
 #![tactic(auto)]
 
 pub mod binary;
+pub mod clause;
 pub mod prop;
 
 pub use binary::BinaryClauses;
+pub use clause::db::ClauseDb;
 pub use prop::assignment::{Assignment, fast_option_eq};
 pub use prop::binary::propagate_binary;
 pub use prop::graph::{Conflict, ImplGraph, ImplNode, Reason};
 pub use prop::long::propagate_long;
+pub use prop::propagate;
 pub use prop::trail::{Trail, enqueue_assignment};
-pub use prop::watch::{Watch, WatchList, Watchlists};
+pub use prop::watch::{Watch, WatchList, Watchlists, enable_watchlists};

@@ -1,4 +1,8 @@
 //! Unit propagation, and what it works on.
+ghost use Rattle.std.specs.Prelude.{◌≡◌, IfOk};
+ghost use Rattle.sat_parts.specs.prop.Ready.{state_of};
+ghost use Rattle.sat_parts.specs.prop.Asks.{AsksAll, Gives};
+
 pub mod assignment;
 pub mod binary;
 pub mod graph;
@@ -6,3 +10,36 @@ pub mod long;
 mod queue;
 pub mod trail;
 pub mod watch;
+
+use crate::binary::BinaryClauses;
+use crate::clause::db::ClauseDb;
+use crate::prop::assignment::Assignment;
+use crate::prop::graph::{Conflict, ImplGraph};
+use crate::prop::queue::propagate_queue;
+use crate::prop::trail::Trail;
+use crate::prop::watch::{Watchlists, enable_watchlists};
+use sat_store::ClauseAlloc;
+use std::alloc::{AllocError, Global};
+
+/// Propagates all literals of the queue: for each, the clauses of two literals before the long ones. Watch lists that weren't
+/// kept up are built first. `Ok` within means that nothing is left to do, `Err` names a falsified clause. After want of memory
+/// the parts aren't used again.
+pub fn propagate(
+    alloc: Global,
+    clauses: &mut ClauseAlloc,
+    db: &ClauseDb,
+    watchlists: &mut Watchlists,
+    assignment: &mut Assignment,
+    graph: &mut ImplGraph,
+    trail: &mut Trail,
+    binary: &BinaryClauses,
+) -> Result<Result<(), Conflict>, AllocError>
+    requires { AsksAll clauses.old db.now.refs watchlists.old binary.now.implied (state_of assignment.old graph.old trail.old) }
+    ensures given { IfOk result (λ r. Gives db.now.refs binary.now.implied clauses.old (state_of assignment.old graph.old trail.old) clauses.new (state_of assignment.new graph.new trail.new) watchlists.new r) }
+    ensures last { IfOk result (λ _. assignment.new.last ≡ assignment.old.last) }
+{
+    enable_watchlists(watchlists, clauses, db)?;
+    propagate_queue(
+        alloc, clauses, db, watchlists, assignment, graph, trail, binary,
+    )
+}

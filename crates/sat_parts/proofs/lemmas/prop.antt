@@ -6,4 +6,7 @@ pub mod HalfLemmas
 pub mod Walking
 pub mod BinaryLemmas
 pub mod QueueLemmas
+pub mod BuildLemmas
+pub mod BacktrackLemmas
+pub mod AsksLemmas
 pub mod ReasonLemmas

@@ -3,6 +3,7 @@ ghost use Rattle.std.specs.Prelude.{ℕ, List, ◌≡◌, IfOk};
 ghost use Rattle.sat_parts.specs.prop.Ready.{state_of, IsReady, Propagated};
 
 use crate::binary::BinaryClauses;
+use crate::clause::db::ClauseDb;
 use crate::prop::assignment::Assignment;
 use crate::prop::binary::propagate_binary;
 use crate::prop::graph::{Conflict, ImplGraph};
@@ -13,10 +14,11 @@ use sat_store::ClauseAlloc;
 use std::alloc::{AllocError, Global};
 
 /// Takes literal after literal off the queue and propagates it, over the clauses of two literals before the long ones. After
-/// want of memory the parts aren't used again.
+/// want of memory the parts aren't used again. The list of clauses isn't read: the contract's caller says by it which are live.
 pub(crate) fn propagate_queue(
     alloc: Global,
     clauses: &mut ClauseAlloc,
+    _db: &ClauseDb,
     watchlists: &mut Watchlists,
     assignment: &mut Assignment,
     graph: &mut ImplGraph,

@@ -1,10 +1,15 @@
 //! Lists of the long clauses that are to be looked at when a literal becomes true.
-ghost use Rattle.std.specs.Prelude.{◌≡◌, ◌+◌, ◌-◌, ◌*◌, ◌<◌, ◌≤◌, ◌∷◌, ◌++◌, [], length, OnOk, OnErr, take, drop, true, false, slice_index_or, slice_set, if◌then◌else◌, is_ok};
+ghost use Rattle.std.specs.Prelude.{ℕ, IsTrue, ◌≡◌, ◌+◌, ◌-◌, ◌*◌, ◌<◌, ◌≤◌, ◌∷◌, ◌++◌, [], length, OnOk, OnErr, take, drop, true, false, slice_index_or, slice_set, if◌then◌else◌, is_ok};
 ghost use Rattle.sat_base.specs.values.Literals.{largest, negated};
-ghost use Rattle.sat_parts.specs.prop.WatchLists.{no_watch, watch_on, with_watch, without_last, with_clause, with_lists};
+ghost use Rattle.sat_store.specs.clause.Buffer.{Laid};
+ghost use Rattle.sat_parts.specs.clause.Db.{live_refs};
+ghost use Rattle.sat_parts.specs.clause.Stored.{AreClauses};
+ghost use Rattle.sat_parts.specs.prop.Ready.{AreWatched};
+ghost use Rattle.sat_parts.specs.prop.WatchLists.{watches_of, no_watch, watch_on, with_watch, without_last, with_clause, with_lists};
 
+use crate::clause::db::ClauseDb;
 use sat_base::Lit;
-use sat_store::ClauseRef;
+use sat_store::{ClauseAlloc, ClauseRef};
 use std::alloc::{AllocError, Global};
 use std::marker::Model;
 use std::mem;
@@ -236,4 +241,49 @@ impl Watchlists {
         }
         Ok(())
     }
+}
+
+impl Watchlists {
+    /// Empties all lists. They are kept up from here on.
+    fn clear_lists(&mut self)
+        ensures size { length self.new.lists ≡ length self.old.lists }
+        ensures empty { (l : ℕ) → watches_of self.new.lists l ≡ [] }
+        ensures enabled { self.new.enabled ≡ true }
+    {
+        let end = self.watches.len();
+        for at in 0..end {
+            let list = &mut self.watches[at];
+            list.clear();
+        }
+        self.enabled = true;
+    }
+}
+
+/// Builds all watch lists anew where they weren't kept up: each live clause is watched by its first two literals. After want
+/// of memory the parts aren't used again.
+pub fn enable_watchlists(
+    watchlists: &mut Watchlists,
+    clauses: &ClauseAlloc,
+    db: &ClauseDb,
+) -> Result<(), AllocError>
+    ghost count: { ℕ }
+    requires laid { Laid clauses.now db.now.refs }
+    requires clauses { AreClauses clauses.now (live_refs clauses.now db.now.refs) count }
+    requires room { length watchlists.old.lists ≡ 2 * count }
+    ensures kept { IsTrue watchlists.old.enabled → OnOk result (watchlists.new ≡ watchlists.old) }
+    ensures built { watchlists.old.enabled ≡ false → OnOk result (AreWatched clauses.now (live_refs clauses.now db.now.refs) watchlists.new.lists count) }
+    ensures enabled { OnOk result (watchlists.new.enabled ≡ true) }
+{
+    if watchlists.enabled {
+        return Ok(());
+    }
+    watchlists.clear_lists();
+    for cref in &db.clauses {
+        let cref = *cref;
+        if !clauses.header(cref).deleted() {
+            let lits = [clauses.lit(cref, 0), clauses.lit(cref, 1)];
+            watchlists.watch_clause(cref, lits)?;
+        }
+    }
+    Ok(())
 }

@@ -125,7 +125,7 @@ walked_stale w live lists list lit kept at count p h lt at_p n0 n1 =
     }
 
 -- a list of watches with one more keeps the others
-more_watch : (lists : List (List Watch)) (m l o : ℕ) (x : Watch) → m < length lists → HasWatch (watches_of lists l) o → HasWatch (watches_of (more_at m x lists) l) o
+pub more_watch : (lists : List (List Watch)) (m l o : ℕ) (x : Watch) → m < length lists → HasWatch (watches_of lists l) o → HasWatch (watches_of (more_at m x lists) l) o
 more_watch lists m l o x lt h = elim (cases_eq l m) [
   | inl r ↦
       let e : watches_of (more_at m x lists) l ≡ watches_of lists l ++ x ∷ [] =
@@ -135,13 +135,13 @@ more_watch lists m l o x lt h = elim (cases_eq l m) [
   | inr n ↦ subst (λ (xs : List Watch). HasWatch xs o) (sym (get_or-set_other lists m l (watches_of lists m ++ x ∷ []) [] n)) h
 ]
 
-new_watch : (lists : List (List Watch)) (m : ℕ) (x : Watch) → m < length lists → HasWatch (watches_of (more_at m x lists) m) x.cref
+pub new_watch : (lists : List (List Watch)) (m : ℕ) (x : Watch) → m < length lists → HasWatch (watches_of (more_at m x lists) m) x.cref
 new_watch lists m x lt =
     subst (λ (xs : List Watch). HasWatch xs x.cref) (sym (get_or-set_same lists m (watches_of lists m ++ x ∷ []) [] lt))
     (length (watches_of lists m), (omega (arith, length-append (watches_of lists m) (x ∷ [])), ap (λ (z : Watch). z.cref) (get_or_at (watches_of lists m) x [] no_watch (length (watches_of lists m)) refl)))
 
 -- each watch of the list is good
-abbrev AllGood : List ℕ → List ℕ → List Watch → Type 0
+abbrev pub AllGood : List ℕ → List ℕ → List Watch → Type 0
 AllGood w live xs = (p : ℕ) → p < length xs → IsGood w live (get_or xs p no_watch)
 
 good_push : (w live : List ℕ) (xs : List Watch) (x : Watch) → AllGood w live xs → IsGood w live x → AllGood w live (xs ++ x ∷ [])
@@ -152,7 +152,7 @@ good_push w live xs x h g p q = elim (cases_eq p (length xs)) [
       subst (λ (z : Watch). IsGood w live z) (sym (get_or_append_left xs (x ∷ []) no_watch p b)) (h p b)
 ]
 
-good_lists : (w live : List ℕ) (lists : List (List Watch)) (m : ℕ) (x : Watch) → m < length lists → IsGood w live x →
+pub good_lists : (w live : List ℕ) (lists : List (List Watch)) (m : ℕ) (x : Watch) → m < length lists → IsGood w live x →
     ((l : ℕ) → AllGood w live (watches_of lists l)) → (l : ℕ) → AllGood w live (watches_of (more_at m x lists) l)
 good_lists w live lists m x lt g h l = elim (cases_eq l m) [
   | inl r ↦ subst (λ (z : ℕ). AllGood w live (watches_of (more_at m x lists) z)) (sym r)

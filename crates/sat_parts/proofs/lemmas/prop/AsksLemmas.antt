@@ -1,0 +1,81 @@
+-- From what propagation asks of all parts to what it asks of the queue's walk, and back.
+use Rattle.std.proofs.Common.{ℕ, ◌≡◌, ◌⊎◌, inl, inr, ◌+◌, ◌*◌, ◌/◌, ◌<◌, List, [], length, refl, sym, ap, ◌∙◌, subst, arith, Bool, true, false, Result, Ok, Err}
+use Rattle.std.proofs.lemmas.Bool.{cases_Bool}
+use Rattle.std.specs.List.{Contains}
+use Rattle.sat_store.specs.clause.Buffer.{Laid}
+use Rattle.sat_parts.specs.declared.prop.graph.Conflict.{Conflict}
+use Rattle.sat_parts.specs.clause.Orders.{Kept}
+use Rattle.sat_parts.specs.clause.Db.{live_refs}
+use Rattle.sat_parts.specs.clause.Stored.{AreClauses}
+use Rattle.sat_parts.specs.prop.WatchLists.{Watching}
+use Rattle.sat_parts.specs.prop.State.{State, level, current_level}
+use Rattle.sat_parts.specs.prop.Reasons.{HaveFirsts, Moves}
+use Rattle.sat_parts.specs.prop.Ready.{AreWatched, AreSettled, ReadyBelow, Propagated, IsComplete, IsConflict}
+use Rattle.sat_parts.specs.prop.Asks.{Asks, AsksAll, Gives}
+use Rattle.sat_parts.proofs.lemmas.prop.BuildLemmas.{live_in, live_same}
+
+pub ready_from : (words refs : List ℕ) (w w' : Watching) (implied : List (List ℕ)) (s : State) (top : ℕ) → Asks words refs w implied s top →
+    AreWatched words (live_refs words refs) w'.lists (length s.values) → ReadyBelow words (live_refs words refs) w'.lists implied s top
+ready_from words refs w w' implied s top h x = record {
+  long = record { clauses = h.clauses; watches = x; agrees = h.agrees; queue = h.queue; settled = h.settled };
+  ranges = h.ranges;
+  binary = h.binary;
+  firsts = h.firsts;
+}
+
+asks_from : (words refs : List ℕ) (w : Watching) (implied : List (List ℕ)) (s : State) (top : ℕ) (live : List ℕ) → Laid words refs → live_refs words refs ≡ live →
+    ReadyBelow words live w.lists implied s top → Asks words refs w implied s top
+asks_from words refs w implied s top live laid e h = record {
+  laid = laid;
+  clauses = subst (λ (z : List ℕ). AreClauses words z (length s.values)) (sym e) h.long.clauses;
+  room = h.long.watches.room;
+  watches = λ on. subst (λ (z : List ℕ). AreWatched words z w.lists (length s.values)) (sym e) h.long.watches;
+  agrees = h.long.agrees;
+  queue = h.long.queue;
+  firsts = subst (λ (z : List ℕ). HaveFirsts words z s) (sym e) h.firsts;
+  settled = subst (λ (z : List ℕ). AreSettled words z s (λ l. level s l < top)) (sym e) h.long.settled;
+  ranges = h.ranges;
+  binary = h.binary;
+}
+
+pub gives_from : (refs : List ℕ) (implied : List (List ℕ)) (words : List ℕ) (s : State) (words' : List ℕ) (s' : State) (w : Watching) (r : Result (Unit {0}) Conflict) →
+    Laid words refs → Propagated (live_refs words refs) implied words s words' s' w.lists r → Gives refs implied words s words' s' w r
+gives_from refs implied words s words' s' w (Ok x) laid h =
+    let k : Kept words words' refs = h.moves.reorders.all refs (λ o g. live_in words refs o g) laid in
+    let e : live_refs words' refs ≡ live_refs words refs = live_same words words' refs k.headers in
+    record {
+      moves = h.moves;
+      live = e;
+      outcome = (
+        asks_from words' refs w implied s' (current_level s' + 1) (live_refs words refs) k.laid e h.outcome.0,
+        h.outcome.1,
+        subst (λ (z : List ℕ). IsComplete words' z implied s'.values) (sym e) h.outcome.2,
+      );
+    }
+gives_from refs implied words s words' s' w (Err x) laid h =
+    let k : Kept words words' refs = h.moves.reorders.all refs (λ o g. live_in words refs o g) laid in
+    let e : live_refs words' refs ≡ live_refs words refs = live_same words words' refs k.headers in
+    record {
+      moves = h.moves;
+      live = e;
+      outcome = (
+        asks_from words' refs w implied s' (current_level s') (live_refs words refs) k.laid e h.outcome.0,
+        subst (λ (z : List ℕ). IsConflict words' z implied s'.values x) (sym e) h.outcome.1,
+      );
+    }
+
+-- the lists are watched once they are kept up
+pub watched_now : (words refs : List ℕ) (w w' : Watching) (implied : List (List ℕ)) (s : State) (top : ℕ) → Asks words refs w implied s top →
+    (w.enabled ≡ true → w' ≡ w) → (w.enabled ≡ false → AreWatched words (live_refs words refs) w'.lists (length w.lists / 2)) →
+    AreWatched words (live_refs words refs) w'.lists (length s.values)
+watched_now words refs w w' implied s top h same built =
+    let n : length w.lists / 2 ≡ length s.values = omega (arith, h.room) in
+    elim (cases_Bool w.enabled) [
+      | inl on ↦ subst (λ (x : Watching). AreWatched words (live_refs words refs) x.lists (length s.values)) (sym (same on)) (h.watches on)
+      | inr off ↦ subst (λ (z : ℕ). AreWatched words (live_refs words refs) w'.lists z) n (built off)
+    ]
+
+pub half_clauses : (words refs : List ℕ) (w : Watching) (implied : List (List ℕ)) (s : State) (top : ℕ) → Asks words refs w implied s top → AreClauses words (live_refs words refs) (length w.lists / 2)
+half_clauses words refs w implied s top h =
+    let n : length s.values ≡ length w.lists / 2 = omega (arith, h.room) in
+    subst (λ (z : ℕ). AreClauses words (live_refs words refs) z) n h.clauses

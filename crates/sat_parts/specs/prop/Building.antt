@@ -1,0 +1,15 @@
+-- Watch lists in the middle of being built.
+use Rattle.std.specs.Prelude.{ℕ, ◌≡◌, ◌*◌, ◌<◌, List, take, length, slice_index_or as get_or}
+use Rattle.std.specs.List.{Contains}
+use Rattle.sat_base.specs.values.Literals.{negated}
+use Rattle.sat_parts.specs.declared.prop.watch.Watch.{Watch}
+use Rattle.sat_parts.specs.clause.Db.{live_refs}
+use Rattle.sat_parts.specs.clause.Stored.{lit_of}
+use Rattle.sat_parts.specs.prop.WatchLists.{no_watch, watches_of}
+use Rattle.sat_parts.specs.prop.Ready.{IsGood, HasWatch}
+
+-- the live clauses among the first k are watched by their first two literals
+pub record AreBuilt (words refs : List ℕ) (lists : List (List Watch)) (count k : ℕ) : Type 0 where
+  pub room : length lists ≡ 2 * count
+  pub good : (l p : ℕ) → p < length (watches_of lists l) → IsGood words (live_refs words refs) (get_or (watches_of lists l) p no_watch)
+  pub both : (o i : ℕ) → Contains (live_refs words (take k refs)) o → i < 2 → HasWatch (watches_of lists (negated (lit_of words o i))) o

@@ -1,0 +1,23 @@
+-- Levels that are undone.
+use Rattle.std.specs.Prelude.{ℕ, ◌≡◌, ◌==◌, Bool, true, false, not, Option, Some, None, List, [], ◌∷◌, drop, length, slice_index_or as get_or, slice_set as set}
+use Rattle.sat_base.specs.values.Literals.{variable, is_positive}
+use Rattle.sat_parts.specs.prop.Values.{Values, value_of}
+use Rattle.sat_parts.specs.prop.Trails.{Trailed}
+
+-- whether a value is true
+abbrev pub was_true : Option Bool → Bool
+was_true None = false
+was_true (Some b) = b
+
+-- the literal's variable loses its value, which is kept as the last one
+abbrev pub lost : ℕ → Values → Values
+lost l a = record { current = set a.current (variable l) None; last = set a.last (variable l) (was_true (value_of a.current (variable l))) }
+
+-- the same for one literal after the other
+abbrev pub undone : List ℕ → Values → Values
+undone [] a = a
+undone (l ∷ ls) a = undone ls (lost l a)
+
+-- the values without those of levels above this one
+abbrev pub undone_to : ℕ → Trailed → Values → Values
+undone_to level t a = undone (drop (get_or t.starts level 0) t.lits) a

@@ -1,0 +1,2 @@
+//! Long clauses as a whole.
+pub mod db;
