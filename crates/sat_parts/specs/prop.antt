@@ -10,3 +10,4 @@ pub mod Walk
 pub mod Asks
 pub mod Building
 pub mod Undone
+pub mod Backtracked

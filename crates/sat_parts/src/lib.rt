@@ -12,5 +12,5 @@ pub use prop::binary::propagate_binary;
 pub use prop::graph::{Conflict, ImplGraph, ImplNode, Reason};
 pub use prop::long::propagate_long;
 pub use prop::propagate;
-pub use prop::trail::{Trail, enqueue_assignment};
+pub use prop::trail::{Trail, backtrack, enqueue_assignment};
 pub use prop::watch::{Watch, WatchList, Watchlists, enable_watchlists};

@@ -2,6 +2,7 @@
 use Rattle.std.specs.Prelude.{ℕ, ◌≡◌, ◌==◌, Bool, true, false, not, Option, Some, None, List, [], ◌∷◌, drop, length, slice_index_or as get_or, slice_set as set}
 use Rattle.sat_base.specs.values.Literals.{variable, is_positive}
 use Rattle.sat_parts.specs.prop.Values.{Values, value_of}
+use Rattle.sat_store.specs.heap.Vsids.{Queue, with_available}
 use Rattle.sat_parts.specs.prop.Trails.{Trailed}
 
 -- whether a value is true
@@ -18,6 +19,15 @@ abbrev pub undone : List ℕ → Values → Values
 undone [] a = a
 undone (l ∷ ls) a = undone ls (lost l a)
 
+-- the literals of the levels above this one
+abbrev pub undone_lits : ℕ → Trailed → List ℕ
+undone_lits level t = drop (get_or t.starts level 0) t.lits
+
+-- the variables of these literals may be picked
+abbrev pub all_available : List ℕ → Queue → Queue
+all_available [] q = q
+all_available (l ∷ ls) q = all_available ls (with_available (variable l) true q)
+
 -- the values without those of levels above this one
 abbrev pub undone_to : ℕ → Trailed → Values → Values
-undone_to level t a = undone (drop (get_or t.starts level 0) t.lits) a
+undone_to level t a = undone (undone_lits level t) a

@@ -2,6 +2,7 @@
 ghost use Rattle.std.specs.Prelude.{◌≡◌, ◌<◌, ◌≤◌, ◌↔◌, [], length, IsTrue, OnOk, OnErr, None, slice_index_or};
 ghost use Rattle.sat_base.specs.values.Literals.{largest, variable, is_positive};
 ghost use Rattle.sat_parts.specs.prop.Values.{assigned, made_true, with_var_count, value_of, seen_from, IsTrueLit, IsFalseLit, IsOpenLit};
+ghost use Rattle.sat_parts.specs.prop.Undone.{lost};
 
 use sat_base::{Lit, Var};
 use std::alloc::{AllocError, Global};
@@ -135,6 +136,19 @@ impl Assignment {
         ensures { self.new ≡ assigned var None self.old }
     {
         self.values[var.index()] = None;
+    }
+
+    /// Takes the value of a literal's variable away, and keeps it as the last one.
+    pub(crate) fn lose(&mut self, lit: Lit)
+        requires { variable lit < length self.old.current }
+        ensures { self.new ≡ lost lit self.old }
+    {
+        let was = match self.values[lit.index()] {
+            None => false,
+            Some(value) => value,
+        };
+        self.last_values[lit.index()] = was;
+        self.values[lit.index()] = None;
     }
 
     /// Gives the variable this value, or none.

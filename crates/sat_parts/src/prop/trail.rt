@@ -4,10 +4,15 @@ ghost use Rattle.sat_base.specs.values.Literals.{largest, variable};
 ghost use Rattle.sat_parts.specs.prop.Values.{made_true, IsOpenLit};
 ghost use Rattle.sat_parts.specs.prop.Graphs.{node_at, with_node};
 ghost use Rattle.sat_parts.specs.prop.Trails.{IsTrail, no_trail, first_start, with_lit, with_level, with_cleared};
+ghost use Rattle.std.specs.Prelude.{ℕ, slice_index, drop};
+ghost use Rattle.sat_parts.specs.prop.Trails.{cut_to};
+ghost use Rattle.sat_parts.specs.prop.Undone.{undone, undone_to, all_available, undone_lits};
+ghost use Rattle.sat_parts.specs.prop.Backtracked.{KeepsAsked, KeepsTurns};
 
 use crate::prop::assignment::Assignment;
 use crate::prop::graph::{ImplGraph, ImplNode, Reason};
 use sat_base::Lit;
+use sat_store::Vsids;
 use std::alloc::{AllocError, Global};
 use std::marker::Model;
 
@@ -167,4 +172,53 @@ pub fn enqueue_assignment(
         level: trail.decisions.len() as u32,
         depth: trail.trail.len() as u32,
     };
+}
+
+/// Takes the values of the literals' variables away, one after the other. These variables may be picked again.
+fn undo(assignment: &mut Assignment, vsids: &mut Vsids, lits: &[Lit])
+    requires values { (k : ℕ) → k < length lits.now → variable (slice_index lits.now k) < length assignment.old.current }
+    requires queue { (k : ℕ) → k < length lits.now → variable (slice_index lits.now k) < length vsids.old.available }
+    ensures values { assignment.new ≡ undone lits.now assignment.old }
+    ensures available { vsids.new ≡ all_available lits.now vsids.old }
+{
+    for lit in lits {
+        assignment.lose(*lit);
+        vsids.make_available(lit.var());
+    }
+}
+
+/// Undoes the levels above this one: their literals leave the trail, their variables lose their values and may be picked again,
+/// and nothing is to be propagated. A level that isn't below the current one changes nothing. Takes no memory.
+pub fn backtrack(assignment: &mut Assignment, trail: &mut Trail, vsids: &mut Vsids, level: usize)
+    requires values { (k : ℕ) → k < length trail.old.lits → variable (slice_index trail.old.lits k) < length assignment.old.current }
+    requires queue { (k : ℕ) → k < length trail.old.lits → variable (slice_index trail.old.lits k) < length vsids.old.available }
+    ensures same_values { length trail.old.starts ≤ level → assignment.new ≡ assignment.old }
+    ensures same_trail { length trail.old.starts ≤ level → trail.new ≡ trail.old }
+    ensures same_queue { length trail.old.starts ≤ level → vsids.new ≡ vsids.old }
+    ensures values { level < length trail.old.starts → assignment.new ≡ undone_to level trail.old assignment.old }
+    ensures trail { level < length trail.old.starts → trail.new ≡ cut_to level trail.old }
+    ensures available { level < length trail.old.starts → vsids.new ≡ all_available (undone_lits level trail.old) vsids.old }
+    ensures asked { level < length trail.old.starts → KeepsAsked level assignment.old trail.old assignment.new trail.new }
+    ensures turns { level < length trail.old.starts → KeepsTurns assignment.old trail.old assignment.new trail.new }
+{
+    if level >= trail.current_level() {
+        return;
+    }
+    undo_levels(assignment, trail, vsids, level);
+}
+
+/// Undoes the levels above one that is below the current one.
+fn undo_levels(assignment: &mut Assignment, trail: &mut Trail, vsids: &mut Vsids, level: usize)
+    requires below { level < length trail.old.starts }
+    requires values { (k : ℕ) → k < length trail.old.lits → variable (slice_index trail.old.lits k) < length assignment.old.current }
+    requires queue { (k : ℕ) → k < length trail.old.lits → variable (slice_index trail.old.lits k) < length vsids.old.available }
+    ensures values { assignment.new ≡ undone_to level trail.old assignment.old }
+    ensures trail { trail.new ≡ cut_to level trail.old }
+    ensures available { vsids.new ≡ all_available (undone_lits level trail.old) vsids.old }
+{
+    let start = trail.decisions[level] as usize;
+    undo(assignment, vsids, &trail.trail[start..]);
+    trail.queue_head_pos = start;
+    trail.decisions.truncate(level);
+    trail.trail.truncate(start);
 }

@@ -6,6 +6,8 @@ use Rattle.std.specs.List.{Contains}
 use Rattle.sat_base.specs.values.Literals.{negated, variable, is_positive}
 use Rattle.sat_store.specs.clause.Buffer.{lits_at}
 use Rattle.sat_parts.specs.declared.prop.graph.ImplNode.{ImplNode}
+use Rattle.sat_parts.specs.declared.prop.graph.Reason.{Reason}
+use Rattle.sat_parts.specs.declared.prop.graph.Reason.TheVariants.{Unit as NoCause, Binary, Long}
 use Rattle.sat_parts.specs.clause.Db.{live_refs}
 use Rattle.sat_parts.specs.clause.Stored.{AreClauses, lit_of}
 use Rattle.sat_parts.specs.prop.Values.{Values, IsTrueLit, value_of}
@@ -15,6 +17,7 @@ use Rattle.sat_parts.specs.prop.Undone.{lost, undone, undone_to}
 use Rattle.sat_parts.specs.prop.Binaries.{implied_by}
 use Rattle.sat_parts.specs.prop.WatchLists.{Watching}
 use Rattle.sat_parts.specs.prop.State.{State, node, level, current_level, lit_at, IsRemoved, IsBefore, HasLeft, Agrees, IsQueueCurrent, IsSatisfied}
+use Rattle.sat_parts.specs.prop.Reasons.{IsFalseBefore, Implies, AreInTurn}
 use Rattle.sat_parts.specs.prop.Ready.{AreWatched, AreLists}
 use Rattle.sat_parts.specs.prop.Asks.{Asks, AsksAll}
 use Rattle.sat_parts.proofs.lemmas.prop.StateLemmas.{left_true}
@@ -294,4 +297,53 @@ asks_after words refs w implied v a nodes t top h lt below =
                 (low_kept v a nodes t (get_or (implied_by implied l) k 0) h.agrees lt y.0 (omega (arith, y.1, x.1))) y.0,
             y.1,
           );
+    }
+
+false_after : (v : ℕ) (a : Values) (nodes : List ImplNode) (t : Trailed) (i m : ℕ) → Agrees (before a nodes t) → v < length t.starts → i < cut_at v t →
+    IsFalseBefore (before a nodes t) i m → IsFalseBefore (after v a nodes t) i m
+false_after v a nodes t i m h lt b x = elim x [
+  | inl y ↦ inl (before_cut v a nodes t i (negated m) h lt (omega arith) y)
+  | inr y ↦ inr (removed_cut v a nodes t (negated m) h lt y)
+]
+
+implies_after : (words live : List ℕ) (implied : List (List ℕ)) (v : ℕ) (a : Values) (nodes : List ImplNode) (t : Trailed) (i : ℕ) (r : Reason) → Agrees (before a nodes t) → v < length t.starts →
+    i < cut_at v t → Implies words live implied (before a nodes t) i r → Implies words live implied (after v a nodes t) i r
+implies_after words live implied v a nodes t i NoCause h lt b x = tt
+implies_after words live implied v a nodes t i (Binary ls) h lt b x = (
+  subst (λ (z : ℕ). Contains (implied_by implied (negated (get_or ls 0 0))) z) (sym (cut_lit v a nodes t i b)) x.0,
+  false_after v a nodes t i (get_or ls 0 0) h lt b x.1,
+)
+implies_after words live implied v a nodes t i (Long o) h lt b x =
+    (x.0, x.1 ∙ sym (cut_lit v a nodes t i b), λ k y z. false_after v a nodes t i (lit_of words o k) h lt b (x.2 k y z))
+
+-- reasons that are unit in turn stay so
+pub turns_after : (words live : List ℕ) (implied : List (List ℕ)) (v : ℕ) (a : Values) (nodes : List ImplNode) (t : Trailed) (from : ℕ) → Agrees (before a nodes t) → v < length t.starts →
+    AreInTurn words live implied (before a nodes t) from → AreInTurn words live implied (after v a nodes t) from
+turns_after words live implied v a nodes t from h lt x i le b =
+    let n : length (take (cut_at v t) t.lits) ≡ cut_at v t = cut_length v a nodes t h lt in
+    let q : i < cut_at v t = omega arith in
+    let s : State = before a nodes t in
+    subst (λ (z : Reason). Implies words live implied (after v a nodes t) i z) (ap (λ z. (node s z).reason) (sym (cut_lit v a nodes t i q)))
+    (implies_after words live implied v a nodes t i (node s (lit_at s i)).reason h lt q (x i le (omega (arith, cut_within v a nodes t h lt))))
+
+-- the trail without these levels is a trail
+pub trail_cut : (v : ℕ) (t : Trailed) → IsTrail t → v < length t.starts → IsTrail (cut_to v t)
+trail_cut v t h lt =
+    let w : cut_at v t ≤ length t.lits = h.levels.within v lt in
+    let n : length (take (cut_at v t) t.lits) ≡ cut_at v t = length-take-le (cut_at v t) t.lits w in
+    let k : length (take v t.starts) ≡ v = length-take-le v t.starts (omega arith) in
+    record {
+      queue = omega arith;
+      levels = record {
+        within = λ i b.
+            let e : get_or (take v t.starts) i 0 ≡ get_or t.starts i 0 = get_or-take v t.starts i 0 (omega arith) in
+            omega (arith, h.levels.rising i v (omega arith) lt);
+        rising = λ i j le b.
+            let e : get_or (take v t.starts) i 0 ≡ get_or t.starts i 0 = get_or-take v t.starts i 0 (omega arith) in
+            let f : get_or (take v t.starts) j 0 ≡ get_or t.starts j 0 = get_or-take v t.starts j 0 (omega arith) in
+            omega (arith, h.levels.rising i j le (omega arith));
+      };
+      fits = omega (arith, h.fits);
+      small = h.small;
+      counted = omega (arith, h.counted);
     }

@@ -1,0 +1,12 @@
+use Rattle.sat_parts.proofs.lemmas.prop.BacktrackLemmas.{asks_after, turns_after}
+use Rattle.sat_parts.proofs.prop.trail.backtrack.Goals as goal
+
+pub returns-clause-asked : goal.returns-clause-asked
+returns-clause-asked c = λ lt words refs w implied nodes top below h.
+    rw (c.undo_levels.ensures.values, c.undo_levels.ensures.trail)
+    (asks_after words refs w implied c.args.level c.args.assignment.now nodes c.args.trail.now top h lt below)
+
+pub returns-clause-turns : goal.returns-clause-turns
+returns-clause-turns c = λ lt words live implied nodes from h x.
+    rw (c.undo_levels.ensures.values, c.undo_levels.ensures.trail)
+    (turns_after words live implied c.args.level c.args.assignment.now nodes c.args.trail.now from h lt x)
