@@ -12,8 +12,7 @@ returns-in_default c = λ f k h. h (sym (ap (λ (x : Variable). x.name) (c.data-
 pub returns : goal.returns
 returns c = λ f k.
     let same = c.data-old.ensures ∙ k.each c.args.var in
-    let has : (f.variables c.args.var).name ≡ Some c.in-Some.name = sym (ap (λ (x : Variable). x.name) same) ∙ c.in-Some.is in
-    (
+    let has : (f.variables c.args.var).name ≡ Some c.in-Some.name = sym (ap (λ (x : Variable). x.name) same) ∙ c.in-Some.is in (
       (λ e. some_none c.in-Some.name (sym has ∙ e)),
       unnamed_kept c.args.self.now c.set.new.self c.set_holder.new.self f.variables c.args.var c.in-Some.name (record { known = (f.variables c.args.var).known; mode = Hide; name = None }) k refl has
           (λ w. c.in_ok-set.ensures.variables w ∙ ap (λ (x : Variable). cond (eqb w c.args.var) (record { known = x.known; mode = Hide; name = None }) (variable_at c.args.self.now w)) same)

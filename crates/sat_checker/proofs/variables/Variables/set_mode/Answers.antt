@@ -6,8 +6,7 @@ use Rattle.sat_checker.proofs.variables.Variables.set_mode.Goals as goal
 
 pub returns : goal.returns
 returns c = λ f k.
-    let same = c.data-old.ensures ∙ k.each c.args.var in
-    (
+    let same = c.data-old.ensures ∙ k.each c.args.var in (
       sym (ap (λ (x : Variable). x.known) same) ∙ was_true c.data-old.result.known c.if-not-old.false,
       set_kept c.args.self.now c.set.new.self f.variables c.args.var (record (f.variables c.args.var) { mode = cond c.args.sample Sample Witness }) k refl
           (λ w. c.in_ok-set.ensures.variables w ∙ ap (λ (x : Variable). cond (eqb w c.args.var) (record { known = x.known; mode = mode_in c.mode_from-mode.result; name = x.name }) (variable_at c.args.self.now w)) same
