@@ -1,6 +1,7 @@
 pub mod Formats
 pub mod Kinds
 pub mod Numbers
+pub mod Spellings
 pub mod StepBytes
 pub mod StepReading
 pub mod StepText

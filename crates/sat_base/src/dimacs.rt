@@ -14,6 +14,7 @@ mod parser;
 
 use self::error::{DimacsError, IncrementalError};
 use self::parser::Parser;
+use crate::device::ahead::PIECE;
 use crate::device::whole::MAX_READS;
 use crate::{CnfFormula, CountedRead};
 use std::alloc::Global;
@@ -112,7 +113,7 @@ impl DimacsParser {
         ensures fresh { IsErrOf result DimacsError.HasFailed → ⊥ }
     {
         let mut parser = DimacsParser::new(alloc);
-        let mut piece = [0; 4096];
+        let mut piece = [0; PIECE];
         for _ in 0..MAX_READS {
             match reader.read_counted(&mut piece) {
                 Ok(0) => {
@@ -146,7 +147,7 @@ impl DimacsParser {
         ensures reads { (R.seen reader.new).calls ≤ (R.seen reader.old).calls + most_reads }
     {
         let mut parser = DimacsParser::new(alloc);
-        let mut piece = [0; 4096];
+        let mut piece = [0; PIECE];
         for _ in 0..MAX_READS {
             match reader.read_counted(&mut piece) {
                 Ok(0) => {

@@ -4,6 +4,7 @@ ghost use Rattle.sat_base.specs.dimacs.DimacsText.{clause_line, clause_lines, di
 ghost use Rattle.sat_base.specs.device.Device.{Puts};
 ghost use Rattle.sat_base.specs.device.Sink.{Sends, sink_of};
 
+use crate::device::ahead::PIECE;
 use crate::device::output::Output;
 use crate::device::pending::Pending;
 use crate::device::room::Room;
@@ -77,7 +78,7 @@ impl<W: CountedWrite, P: Room> Output<W, P> {
 pub fn write_dimacs<W: CountedWrite>(writer: &mut W, formula: &CnfFormula) -> io::Result<()>
     ensures { Puts (dimacs_text formula.now) result (W.seen writer.old) (W.seen writer.new) }
 {
-    let mut output: Output<&mut W, Pending<4096>> = Output::new(writer, Pending::new());
+    let mut output: Output<&mut W, Pending<PIECE>> = Output::new(writer, Pending::new());
     let result = output.write_formula(formula);
     let _writer = output.into_writer();
     result

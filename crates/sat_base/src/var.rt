@@ -6,6 +6,9 @@ ghost use Rattle.sat_base.specs.values.Numerals.{IsNoVariable};
 use crate::Lit;
 use std::marker::Model;
 
+/// How many variables there are at most.
+pub(crate) const MAX_COUNT: usize = 1 << 28;
+
 /// A variable, which contracts see as its index. Indices go from 0 to 2^28 - 1.
 #[derive(Clone, Copy, Debug, PartialEq, Eq, PartialOrd, Ord, Hash)]
 pub struct Var {
@@ -48,7 +51,7 @@ impl Var {
     pub fn from_dimacs(number: i64) -> Option<Var>
         ensures { MatchOption result (IsNoVariable number) (λ v. number ≡ pos (v + 1)) }
     {
-        if number < 1 || number > 1 << 28 {
+        if number < 1 || number > MAX_COUNT as i64 {
             return None;
         }
         Some(Var {
@@ -87,6 +90,6 @@ impl Var {
     pub const fn max_count() -> usize
         ensures { result ≡ largest }
     {
-        1 << 28
+        MAX_COUNT
     }
 }

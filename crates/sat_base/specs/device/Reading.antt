@@ -72,6 +72,10 @@ Refills (Ok u) n old new = Passes old new [] × (n ≡ 0 → AllTaken new)
 Refills (Err errors.Read) n old new = Faults old new []
 Refills (Err e) n old new = ⊥
 
+-- whoever holds them
+abbrev pub RefillsAlone : {R : Type 0} → (R → Reader) → Result (Unit {0}) StepError → R → Ahead → R → Ahead → Type 0
+RefillsAlone seen result r a s b = (names : List ℕ) → Refills result b.end (named names (source seen r a)) (named names (source seen s b))
+
 -- the next byte, or none at the end
 abbrev pub NextByte : Result (Option ℕ) StepError → Source → Source → Type 0
 NextByte (Ok (Some byte)) old new = Passes old new (byte ∷ [])

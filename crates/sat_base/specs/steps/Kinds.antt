@@ -1,6 +1,7 @@
 -- Steps of which the lists are held elsewhere.
 use Rattle.std.specs.Prelude.{ℕ, ◌==◌, ◌||◌, ◌&&◌, Bool, List, nat_lt}
 use Rattle.sat_base.specs.declared.steps.kind.Kind.{Kind}
+use Rattle.sat_base.specs.declared.steps.step_lists.Lists.{Lists}
 use Rattle.sat_base.specs.declared.steps.kind.Kind.TheVariants as code
 use Rattle.sat_base.specs.steps.Steps.{Step, SolverVarName, UserVarName, DeleteVar, ChangeSamplingMode, AddClause, AtClause, UnitClauses, DeleteClause, ChangeHashBits, Model, Assumptions, FailedAssumptions, End}
 use Rattle.sat_base.specs.steps.StepViews.{deletion_of}
@@ -20,6 +21,10 @@ step_with code.Model literals hashes units = Model literals
 step_with code.Assumptions literals hashes units = Assumptions literals
 step_with code.FailedAssumptions literals hashes units = FailedAssumptions literals hashes
 step_with code.End literals hashes units = End
+
+-- and these lists
+abbrev pub step_held : Lists → Kind → Step
+step_held l k = step_with k l.literals.items l.hashes.items l.units.items
 
 -- the tags of steps
 abbrev pub is_tag : ℕ → Bool

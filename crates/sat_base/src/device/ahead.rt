@@ -2,7 +2,7 @@
 ghost use Rattle.std.specs.Prelude.{◌≡◌, ◌≤◌};
 ghost use Rattle.sat_base.specs.device.Device.{most_reads};
 
-/// How many bytes a reader is asked for at most.
+/// How many bytes a reader is asked for at most, and how many wait for a writer.
 pub(crate) const PIECE: usize = 4096;
 
 /// The last piece read, of which the bytes from `at` to `end` are still to be taken.

@@ -1,6 +1,6 @@
 //! Taking bytes that were read ahead.
 ghost use Rattle.std.specs.Prelude.{◌≡◌, ◌<◌, ◌≤◌, ◌∷◌, ℕ, List, OnOk};
-ghost use Rattle.sat_base.specs.device.Reading.{Refills, source, named};
+ghost use Rattle.sat_base.specs.device.Reading.{RefillsAlone};
 ghost use Rattle.sat_base.specs.device.Waiting.{waiting};
 
 use crate::device::ahead::{Ahead, PIECE};
@@ -35,7 +35,7 @@ impl Ahead {
     /// Reads the next piece, where all of the last one was taken.
     pub(crate) fn refill<R: CountedRead>(&mut self, reader: &mut R) -> Result<(), StepError>
         requires { self.old.end ≤ self.old.at }
-        ensures bytes { (names : List ℕ) → Refills result self.new.end (named names (source R.seen reader.old self.old)) (named names (source R.seen reader.new self.new)) }
+        ensures bytes { RefillsAlone R.seen result reader.old self.old reader.new self.new }
         ensures at { OnOk result (self.new.at ≡ 0) }
     {
         if self.reads >= MAX_READS {

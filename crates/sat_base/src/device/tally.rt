@@ -31,31 +31,31 @@ impl Tally {
     }
 
     pub(crate) fn and_read(&self, bytes: &[u8]) -> Tally
-        ensures { result ≡ record self.now { calls = self.now.calls + 1; given = self.now.given ++ bytes.now; ended = false; flushed = false; failed = false } }
+        ensures { let t = self.now in result ≡ record t { calls = t.calls + 1; given = t.given ++ bytes.now; ended = false; flushed = false; failed = false } }
     {
         Tally {}
     }
 
     pub(crate) fn and_end(&self) -> Tally
-        ensures { result ≡ record self.now { calls = self.now.calls + 1; ended = true; flushed = false; failed = false } }
+        ensures { let t = self.now in result ≡ record t { calls = t.calls + 1; ended = true; flushed = false; failed = false } }
     {
         Tally {}
     }
 
     pub(crate) fn and_write(&self, bytes: &[u8]) -> Tally
-        ensures { result ≡ record self.now { calls = self.now.calls + 1; taken = self.now.taken ++ bytes.now; ended = false; flushed = false; failed = false } }
+        ensures { let t = self.now in result ≡ record t { calls = t.calls + 1; taken = t.taken ++ bytes.now; ended = false; flushed = false; failed = false } }
     {
         Tally {}
     }
 
     pub(crate) fn and_flush(&self) -> Tally
-        ensures { result ≡ record self.now { calls = self.now.calls + 1; ended = false; flushed = true; failed = false } }
+        ensures { let t = self.now in result ≡ record t { calls = t.calls + 1; ended = false; flushed = true; failed = false } }
     {
         Tally {}
     }
 
     pub(crate) fn and_failure(&self) -> Tally
-        ensures { result ≡ record self.now { calls = self.now.calls + 1; failures = self.now.failures + 1; ended = false; flushed = false; failed = true } }
+        ensures { let t = self.now in result ≡ record t { calls = t.calls + 1; failures = t.failures + 1; ended = false; flushed = false; failed = true } }
     {
         Tally {}
     }

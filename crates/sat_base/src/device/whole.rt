@@ -3,6 +3,7 @@ ghost use Rattle.std.specs.Prelude.{◌≡◌, ◌+◌, ◌≤◌, ◌⊎◌, If
 ghost use Rattle.sat_base.specs.device.Device.{most_reads, ReadFails, GaveAll, Grew};
 
 use crate::CountedRead;
+use crate::device::ahead::PIECE;
 use std::alloc::{AllocError, Global};
 use thiserror::Error;
 
@@ -42,7 +43,7 @@ pub fn read_whole<R: CountedRead>(alloc: Global, reader: &mut R) -> Result<Vec<u
     ensures reads { (R.seen reader.new).calls ≤ (R.seen reader.old).calls + most_reads }
 {
     let mut whole = Vec::new(alloc);
-    let mut piece = [0; 4096];
+    let mut piece = [0; PIECE];
     for _ in 0..MAX_READS {
         match reader.read_counted(&mut piece) {
             Ok(0) => return Ok(whole),

@@ -5,12 +5,13 @@ ghost use Rattle.sat_base.specs.dimacs.Dimacs.{Ends, literals_in};
 ghost use Rattle.sat_base.specs.declared.dimacs.clauses.Refusal.TheVariants.{OutOfMemory};
 ghost use Rattle.sat_base.specs.dimacs.Collecting.{token_of, hand_in, is_literal, AllStay, Turns, Collects, IsInside};
 
+use crate::var::MAX_COUNT;
 use crate::{CnfFormula, ExtendFormula, FormulaError, Lit, Token};
 use std::alloc::{AllocFailed, Global};
 use std::mem;
 
 /// The largest number of a variable.
-const LARGEST: u64 = 1 << 28;
+const LARGEST: u64 = MAX_COUNT as u64;
 
 /// Why a token wasn't taken.
 #[derive(Clone, Copy, Debug, Drop, PartialEq, Eq)]

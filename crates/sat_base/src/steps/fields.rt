@@ -3,8 +3,8 @@
 
 ghost use Rattle.std.specs.Prelude.{◌≡◌, OnOk, [], ℕ, List, IsTrue, false};
 ghost use Rattle.sat_base.specs.device.Reading.{Reads, source_of, valued, Answers, Behind};
-ghost use Rattle.sat_base.specs.steps.Kinds.{step_with, is_tag, has_lists};
-ghost use Rattle.sat_base.specs.device.Sink.{Writes, sink_of};
+ghost use Rattle.sat_base.specs.steps.Kinds.{step_with, step_held, is_tag, has_lists};
+ghost use Rattle.sat_base.specs.steps.Spellings.{Wrote, fields, a_step};
 ghost use Rattle.sat_base.specs.steps.StepBytes.{fields_bytes, step_bytes};
 ghost use Rattle.sat_base.specs.steps.StepText.{tag_of, SpellsFields, SpellsStep};
 ghost use Rattle.sat_base.specs.steps.StepViews.{step_of};
@@ -81,7 +81,7 @@ impl<R: CountedRead> Input<'_, R> {
     /// Reads what stands behind the tag of a step with lists.
     fn list_fields(&mut self, lists: &mut Lists, tag: u8) -> Result<Kind, StepError>
         requires { IsTrue (has_lists tag) }
-        ensures { Reads (Behind tag) (valued (λ k. step_with k lists.new.literals.items lists.new.hashes.items lists.new.units.items) result) (source_of R.seen self.old) (source_of R.seen self.new) }
+        ensures { Reads (Behind tag) (valued (step_held lists.new) result) (source_of R.seen self.old) (source_of R.seen self.new) }
     {
         if tag == 5 {
             self.literals(&mut lists.literals)?;
@@ -110,7 +110,7 @@ impl<R: CountedRead> Input<'_, R> {
     /// Reads what stands behind a tag.
     fn fields(&mut self, lists: &mut Lists, tag: u8) -> Result<Kind, StepError>
         requires { IsTrue (is_tag tag) }
-        ensures { Reads (Behind tag) (valued (λ k. step_with k lists.new.literals.items lists.new.hashes.items lists.new.units.items) result) (source_of R.seen self.old) (source_of R.seen self.new) }
+        ensures { Reads (Behind tag) (valued (step_held lists.new) result) (source_of R.seen self.old) (source_of R.seen self.new) }
     {
         if has_lists(tag) {
             self.list_fields(lists, tag)
@@ -121,7 +121,7 @@ impl<R: CountedRead> Input<'_, R> {
 
     /// Reads the next step, and its lists into those that are there.
     pub(super) fn read_step(&mut self, lists: &mut Lists) -> Result<Kind, StepError>
-        ensures { Answers (valued (λ k. step_with k lists.new.literals.items lists.new.hashes.items lists.new.units.items) result) (source_of R.seen self.old) (source_of R.seen self.new) }
+        ensures { Answers (valued (step_held lists.new) result) (source_of R.seen self.old) (source_of R.seen self.new) }
     {
         match self.next_byte()? {
             None => Err(StepError::Ends),
@@ -138,7 +138,7 @@ impl<R: CountedRead> Input<'_, R> {
 impl<W: CountedWrite, P: Room> Output<W, P> {
     /// Lets what stands behind the tag wait.
     fn put_fields(&mut self, step: &ProofStep<'_>) -> io::Result<()>
-        ensures { Writes SpellsFields (step_of step.now) (fields_bytes (step_of step.now)) result (sink_of W.seen P.waiting self.old) (sink_of W.seen P.waiting self.new) }
+        ensures { Wrote fields (step_of step.now) result W.seen P.waiting self.old self.new }
     {
         match *step {
             ProofStep::SolverVarName { global, solver } => self.put_variables(global, solver),
@@ -166,7 +166,7 @@ impl<W: CountedWrite, P: Room> Output<W, P> {
 
     /// Lets a step's bytes wait.
     pub(super) fn put_step(&mut self, step: &ProofStep<'_>) -> io::Result<()>
-        ensures { Writes SpellsStep (step_of step.now) (step_bytes (step_of step.now)) result (sink_of W.seen P.waiting self.old) (sink_of W.seen P.waiting self.new) }
+        ensures { Wrote a_step (step_of step.now) result W.seen P.waiting self.old self.new }
     {
         self.put(tag(step))?;
         self.put_fields(step)
@@ -174,7 +174,7 @@ impl<W: CountedWrite, P: Room> Output<W, P> {
 
     /// Writes a step's bytes out, behind those that wait.
     pub(super) fn write_step(&mut self, step: &ProofStep<'_>) -> io::Result<()>
-        ensures writes { Writes SpellsStep (step_of step.now) (step_bytes (step_of step.now)) result (sink_of W.seen P.waiting self.old) (sink_of W.seen P.waiting self.new) }
+        ensures writes { Wrote a_step (step_of step.now) result W.seen P.waiting self.old self.new }
         ensures none { OnOk result (P.waiting self.new.pending ≡ []) }
     {
         self.put_step(step)?;

@@ -3,9 +3,9 @@
 
 ghost use Rattle.std.specs.Prelude.{◌++◌};
 ghost use Rattle.sat_base.specs.device.Reading.{Reads, source_of, valued};
-ghost use Rattle.sat_base.specs.device.Sink.{Writes, sink_of};
 ghost use Rattle.sat_base.specs.steps.Formats.{Both};
 ghost use Rattle.sat_base.specs.steps.StepText.{IsVariable, IsOptionalVariable, IsFlag, IsDeletion, AreLiterals, AreHashes};
+ghost use Rattle.sat_base.specs.steps.Spellings as spelling;
 ghost use Rattle.sat_base.specs.steps.StepBytes.{number_bytes, optional_bytes, flag_bytes, deletion_bytes, list_bytes};
 ghost use Rattle.sat_base.specs.steps.StepViews.{deletion_of};
 
@@ -56,14 +56,14 @@ impl<R: CountedRead> Input<'_, R> {
 impl<W: CountedWrite, P: Room> Output<W, P> {
     /// Lets a variable wait, and one that may be none.
     pub(super) fn put_variables(&mut self, first: Var, second: Option<Var>) -> io::Result<()>
-        ensures { Writes (Both IsVariable IsOptionalVariable) (first, second) (number_bytes first ++ optional_bytes second) result (sink_of W.seen P.waiting self.old) (sink_of W.seen P.waiting self.new) }
+        ensures { spelling.Wrote (spelling.both spelling.a_variable spelling.an_optional_variable) (first, second) result W.seen P.waiting self.old self.new }
     {
         self.put_variable(first)?;
         self.put_optional(second)
     }
 
     pub(super) fn put_mode(&mut self, var: Var, sample: bool) -> io::Result<()>
-        ensures { Writes (Both IsVariable IsFlag) (var, sample) (number_bytes var ++ flag_bytes sample) result (sink_of W.seen P.waiting self.old) (sink_of W.seen P.waiting self.new) }
+        ensures { spelling.Wrote (spelling.both spelling.a_variable spelling.a_flag) (var, sample) result W.seen P.waiting self.old self.new }
     {
         self.put_variable(var)?;
         self.put_flag(sample)
@@ -75,14 +75,14 @@ impl<W: CountedWrite, P: Room> Output<W, P> {
         clause: &[Lit],
         hashes: &[ClauseHash],
     ) -> io::Result<()>
-        ensures { Writes (Both IsFlag (Both AreLiterals AreHashes)) (redundant, (clause.now, hashes.now)) (flag_bytes redundant ++ (list_bytes clause.now ++ list_bytes hashes.now)) result (sink_of W.seen P.waiting self.old) (sink_of W.seen P.waiting self.new) }
+        ensures { spelling.Wrote (spelling.both spelling.a_flag (spelling.both spelling.literals spelling.hashes)) (redundant, (clause.now, hashes.now)) result W.seen P.waiting self.old self.new }
     {
         self.put_flag(redundant)?;
         self.put_both_lists(clause, hashes)
     }
 
     pub(super) fn put_deleted(&mut self, clause: &[Lit], proof: DeleteClauseProof) -> io::Result<()>
-        ensures { Writes (Both AreLiterals IsDeletion) (clause.now, deletion_of proof) (list_bytes clause.now ++ deletion_bytes (deletion_of proof)) result (sink_of W.seen P.waiting self.old) (sink_of W.seen P.waiting self.new) }
+        ensures { spelling.Wrote (spelling.both spelling.literals spelling.a_deletion) (clause.now, deletion_of proof) result W.seen P.waiting self.old self.new }
     {
         self.put_literals(clause)?;
         self.put_deletion(proof)

@@ -3,20 +3,21 @@
 
 ghost use Rattle.std.specs.Prelude.{◌++◌, [], ◌≡◌};
 ghost use Rattle.sat_base.specs.device.Reading.{Reads, source_of, giving};
-ghost use Rattle.sat_base.specs.device.Sink.{Writes, sink_of};
 ghost use Rattle.sat_base.specs.steps.Formats.{Both, Times};
 ghost use Rattle.sat_base.specs.steps.StepText.{IsLiteral, IsHash, AreLiterals, AreHashes, AreUnits};
+ghost use Rattle.sat_base.specs.steps.Spellings as spelling;
 ghost use Rattle.sat_base.specs.steps.StepBytes.{number_bytes, list_bytes, units_bytes};
 
 use crate::device::input::Input;
 use crate::device::output::Output;
 use crate::device::room::Room;
 use crate::steps::step_lists::Lists;
+use crate::var::MAX_COUNT;
 use crate::{ClauseHash, CountedRead, CountedWrite, Lit, StepError};
 use std::io;
 
 /// The largest code of a literal.
-const LARGEST_CODE: u64 = (1 << 29) - 1;
+const LARGEST_CODE: u64 = 2 * MAX_COUNT as u64 - 1;
 
 impl<R: CountedRead> Input<'_, R> {
     fn literal(&mut self) -> Result<Lit, StepError>
@@ -109,7 +110,7 @@ impl<R: CountedRead> Input<'_, R> {
 
 impl<W: CountedWrite, P: Room> Output<W, P> {
     pub(super) fn put_literals(&mut self, lits: &[Lit]) -> io::Result<()>
-        ensures { Writes AreLiterals lits.now (list_bytes lits.now) result (sink_of W.seen P.waiting self.old) (sink_of W.seen P.waiting self.new) }
+        ensures { spelling.Wrote spelling.literals lits.now result W.seen P.waiting self.old self.new }
     {
         self.put_number(lits.len() as u64)?;
         for lit in lits {
@@ -119,7 +120,7 @@ impl<W: CountedWrite, P: Room> Output<W, P> {
     }
 
     pub(super) fn put_hashes(&mut self, hashes: &[ClauseHash]) -> io::Result<()>
-        ensures { Writes AreHashes hashes.now (list_bytes hashes.now) result (sink_of W.seen P.waiting self.old) (sink_of W.seen P.waiting self.new) }
+        ensures { spelling.Wrote spelling.hashes hashes.now result W.seen P.waiting self.old self.new }
     {
         self.put_number(hashes.len() as u64)?;
         for hash in hashes {
@@ -129,7 +130,7 @@ impl<W: CountedWrite, P: Room> Output<W, P> {
     }
 
     fn put_unit(&mut self, unit: (Lit, ClauseHash)) -> io::Result<()>
-        ensures { Writes (Both IsLiteral IsHash) unit (number_bytes unit.0 ++ number_bytes unit.1) result (sink_of W.seen P.waiting self.old) (sink_of W.seen P.waiting self.new) }
+        ensures { spelling.Wrote (spelling.both spelling.a_literal spelling.a_hash) unit result W.seen P.waiting self.old self.new }
     {
         let (lit, hash) = unit;
         self.put_number(lit.code() as u64)?;
@@ -137,7 +138,7 @@ impl<W: CountedWrite, P: Room> Output<W, P> {
     }
 
     pub(super) fn put_units(&mut self, units: &[(Lit, ClauseHash)]) -> io::Result<()>
-        ensures { Writes AreUnits units.now (units_bytes units.now) result (sink_of W.seen P.waiting self.old) (sink_of W.seen P.waiting self.new) }
+        ensures { spelling.Wrote spelling.units units.now result W.seen P.waiting self.old self.new }
     {
         self.put_number(units.len() as u64)?;
         for unit in units {
@@ -147,7 +148,7 @@ impl<W: CountedWrite, P: Room> Output<W, P> {
     }
 
     pub(super) fn put_both_lists(&mut self, lits: &[Lit], hashes: &[ClauseHash]) -> io::Result<()>
-        ensures { Writes (Both AreLiterals AreHashes) (lits.now, hashes.now) (list_bytes lits.now ++ list_bytes hashes.now) result (sink_of W.seen P.waiting self.old) (sink_of W.seen P.waiting self.new) }
+        ensures { spelling.Wrote (spelling.both spelling.literals spelling.hashes) (lits.now, hashes.now) result W.seen P.waiting self.old self.new }
     {
         self.put_literals(lits)?;
         self.put_hashes(hashes)

@@ -2,7 +2,7 @@
 ghost use Rattle.std.specs.Prelude.{◌≡◌, false};
 ghost use Rattle.sat_base.specs.steps.StepViews.{step_of};
 ghost use Rattle.sat_base.specs.device.Reading.{Answers, giving, source, unread, valued};
-ghost use Rattle.sat_base.specs.steps.Kinds.{step_with};
+ghost use Rattle.sat_base.specs.steps.Kinds.{step_held};
 ghost use Rattle.sat_base.specs.steps.StepReading.{reader_source, has_failed, reader_name, step_in, is_stop, Next};
 
 use crate::device::ahead::Ahead;
@@ -60,7 +60,7 @@ fn read_from<R: CountedRead>(
     ahead: &mut Ahead,
     lists: &mut Lists,
 ) -> Result<Kind, StepError>
-    ensures { Answers (valued (λ k. step_with k lists.new.literals.items lists.new.hashes.items lists.new.units.items) result) (source R.seen reader.old ahead.old) (source R.seen reader.new ahead.new) }
+    ensures { Answers (valued (step_held lists.new) result) (source R.seen reader.old ahead.old) (source R.seen reader.new ahead.new) }
 {
     let mut input = Input::new(reader, ahead);
     input.read_step(lists)

@@ -1,6 +1,6 @@
 //! The fields of steps that are one number.
 ghost use Rattle.sat_base.specs.device.Reading.{Reads, source_of, valued};
-ghost use Rattle.sat_base.specs.device.Sink.{Writes, sink_of};
+ghost use Rattle.sat_base.specs.steps.Spellings.{Wrote, a_variable, an_optional_variable, a_flag, a_width, a_deletion};
 ghost use Rattle.sat_base.specs.steps.StepBytes.{number_bytes, optional_bytes, flag_bytes, deletion_bytes};
 ghost use Rattle.sat_base.specs.steps.StepText.{IsVariable, IsOptionalVariable, IsFlag, IsWidth, IsDeletion};
 ghost use Rattle.sat_base.specs.steps.StepViews.{deletion_of};
@@ -8,11 +8,12 @@ ghost use Rattle.sat_base.specs.steps.StepViews.{deletion_of};
 use crate::device::input::Input;
 use crate::device::output::Output;
 use crate::device::room::Room;
+use crate::var::MAX_COUNT;
 use crate::{CountedRead, CountedWrite, DeleteClauseProof, HashBits, StepError, Var};
 use std::io;
 
 /// The largest index of a variable.
-const LARGEST_INDEX: u64 = (1 << 28) - 1;
+const LARGEST_INDEX: u64 = MAX_COUNT as u64 - 1;
 
 impl<R: CountedRead> Input<'_, R> {
     pub(super) fn variable(&mut self) -> Result<Var, StepError>
@@ -65,13 +66,13 @@ impl<R: CountedRead> Input<'_, R> {
 
 impl<W: CountedWrite, P: Room> Output<W, P> {
     pub(super) fn put_variable(&mut self, var: Var) -> io::Result<()>
-        ensures { Writes IsVariable var (number_bytes var) result (sink_of W.seen P.waiting self.old) (sink_of W.seen P.waiting self.new) }
+        ensures { Wrote a_variable var result W.seen P.waiting self.old self.new }
     {
         self.put_number(var.index() as u64)
     }
 
     pub(super) fn put_optional(&mut self, var: Option<Var>) -> io::Result<()>
-        ensures { Writes IsOptionalVariable var (optional_bytes var) result (sink_of W.seen P.waiting self.old) (sink_of W.seen P.waiting self.new) }
+        ensures { Wrote an_optional_variable var result W.seen P.waiting self.old self.new }
     {
         match var {
             None => self.put_number(0),
@@ -80,7 +81,7 @@ impl<W: CountedWrite, P: Room> Output<W, P> {
     }
 
     pub(super) fn put_flag(&mut self, flag: bool) -> io::Result<()>
-        ensures { Writes IsFlag flag (flag_bytes flag) result (sink_of W.seen P.waiting self.old) (sink_of W.seen P.waiting self.new) }
+        ensures { Wrote a_flag flag result W.seen P.waiting self.old self.new }
     {
         if flag {
             self.put_number(1)
@@ -90,13 +91,13 @@ impl<W: CountedWrite, P: Room> Output<W, P> {
     }
 
     pub(super) fn put_width(&mut self, bits: HashBits) -> io::Result<()>
-        ensures { Writes IsWidth bits (number_bytes bits) result (sink_of W.seen P.waiting self.old) (sink_of W.seen P.waiting self.new) }
+        ensures { Wrote a_width bits result W.seen P.waiting self.old self.new }
     {
         self.put_number(bits.get() as u64)
     }
 
     pub(super) fn put_deletion(&mut self, proof: DeleteClauseProof) -> io::Result<()>
-        ensures { Writes IsDeletion (deletion_of proof) (deletion_bytes (deletion_of proof)) result (sink_of W.seen P.waiting self.old) (sink_of W.seen P.waiting self.new) }
+        ensures { Wrote a_deletion (deletion_of proof) result W.seen P.waiting self.old self.new }
     {
         match proof {
             DeleteClauseProof::Redundant => self.put_number(0),

@@ -7,6 +7,7 @@ ghost use Rattle.sat_base.specs.steps.StepText.{SpellsStep};
 ghost use Rattle.sat_base.specs.steps.StepViews.{step_of};
 ghost use Rattle.sat_base.specs.steps.StepWriting.{steps_sink};
 
+use crate::device::ahead::PIECE;
 use crate::device::output::Output;
 use crate::device::pending::Pending;
 use crate::{CountedWrite, ProofStep};
@@ -19,7 +20,7 @@ const SHORT_PIECE: usize = 64;
 /// writes. They are written out when there is no room for more, at a flush, and when it is taken apart.
 #[derive(Drop)]
 pub struct StepWriter<W> {
-    output: Output<W, Pending<4096>>,
+    output: Output<W, Pending<PIECE>>,
 }
 
 impl<W: CountedWrite> StepWriter<W> {

@@ -1,0 +1,57 @@
+-- Formats, each with the bytes that are written for a value.
+use Rattle.std.specs.Prelude.{ℕ, Bool, Option, List, Result, ◌++◌}
+use Rattle.sat_base.specs.declared.device.output.Output.{Output}
+use Rattle.sat_base.specs.device.Device.{Writer}
+use Rattle.sat_base.specs.device.Sink.{Writes, sink_of}
+use Rattle.sat_base.specs.steps.Formats.{Format, Both}
+use Rattle.sat_base.specs.steps.Steps.{Deletion, Step}
+use Rattle.sat_base.specs.steps.StepText.{IsVariable, IsOptionalVariable, IsLiteral, IsHash, IsFlag, IsWidth, IsDeletion, AreLiterals, AreHashes, AreUnits, SpellsFields, SpellsStep}
+use Rattle.sat_base.specs.steps.StepBytes.{number_bytes, optional_bytes, flag_bytes, deletion_bytes, list_bytes, units_bytes, fields_bytes, step_bytes}
+
+pub record Spelling (A : Type 0) : Type 1 where
+  pub format : Format A
+  pub bytes : A → List ℕ
+
+abbrev pub a_variable : Spelling ℕ
+a_variable = record { format = IsVariable; bytes = number_bytes }
+
+abbrev pub an_optional_variable : Spelling (Option ℕ)
+an_optional_variable = record { format = IsOptionalVariable; bytes = optional_bytes }
+
+abbrev pub a_flag : Spelling Bool
+a_flag = record { format = IsFlag; bytes = flag_bytes }
+
+abbrev pub a_width : Spelling ℕ
+a_width = record { format = IsWidth; bytes = number_bytes }
+
+abbrev pub a_deletion : Spelling Deletion
+a_deletion = record { format = IsDeletion; bytes = deletion_bytes }
+
+abbrev pub a_literal : Spelling ℕ
+a_literal = record { format = IsLiteral; bytes = number_bytes }
+
+abbrev pub a_hash : Spelling ℕ
+a_hash = record { format = IsHash; bytes = number_bytes }
+
+abbrev pub literals : Spelling (List ℕ)
+literals = record { format = AreLiterals; bytes = list_bytes }
+
+abbrev pub hashes : Spelling (List ℕ)
+hashes = record { format = AreHashes; bytes = list_bytes }
+
+abbrev pub units : Spelling (List (ℕ × ℕ))
+units = record { format = AreUnits; bytes = units_bytes }
+
+-- one and then another
+abbrev pub both : {A B : Type 0} → Spelling A → Spelling B → Spelling (A × B)
+both s t = record { format = Both s.format t.format; bytes = λ x. s.bytes x.0 ++ t.bytes x.1 }
+
+abbrev pub fields : Spelling Step
+fields = record { format = SpellsFields; bytes = fields_bytes }
+
+abbrev pub a_step : Spelling Step
+a_step = record { format = SpellsStep; bytes = step_bytes }
+
+-- a value's spelling was sent through an output
+abbrev pub Wrote : {A E W P : Type 0} → Spelling A → A → Result (Unit {0}) E → (W → Writer) → (P → List ℕ) → Output W P → Output W P → Type 0
+Wrote s x r seen waiting old new = Writes s.format x (s.bytes x) r (sink_of seen waiting old) (sink_of seen waiting new)
