@@ -1,6 +1,6 @@
 //! What can go wrong with a formula's text.
 
-use std::alloc::{AllocError, AllocFailed};
+use std::alloc::AllocError;
 use std::fmt::Display;
 use thiserror::Error;
 
@@ -30,17 +30,6 @@ impl From<AllocError> for DimacsError {
     ghost from_gives = { λ _ e. e ≡ OutOfMemory };
 
     fn from(_e: AllocError) -> DimacsError {
-        DimacsError::OutOfMemory
-    }
-}
-
-impl<T: Drop> From<AllocFailed<T>> for DimacsError {
-    ghost use Rattle.std.specs.Prelude.{◌≡◌};
-    ghost use Rattle.sat_base.specs.declared.dimacs.error.DimacsError.TheVariants.{OutOfMemory};
-
-    ghost from_gives = { λ _ e. e ≡ OutOfMemory };
-
-    fn from(_e: AllocFailed<T>) -> DimacsError {
         DimacsError::OutOfMemory
     }
 }

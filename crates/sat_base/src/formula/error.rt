@@ -1,6 +1,6 @@
 //! What can go wrong as a formula grows.
 
-use std::alloc::{AllocError, AllocFailed};
+use std::alloc::AllocError;
 use thiserror::Error;
 
 /// Why a formula took no clause, or gave no variable.
@@ -20,17 +20,6 @@ impl From<AllocError> for FormulaError {
     ghost from_gives = { λ _ e. e ≡ OutOfMemory };
 
     fn from(_e: AllocError) -> FormulaError {
-        FormulaError::OutOfMemory
-    }
-}
-
-impl<T: Drop> From<AllocFailed<T>> for FormulaError {
-    ghost use Rattle.std.specs.Prelude.{◌≡◌};
-    ghost use Rattle.sat_base.specs.declared.formula.error.FormulaError.TheVariants.{OutOfMemory};
-
-    ghost from_gives = { λ _ e. e ≡ OutOfMemory };
-
-    fn from(_e: AllocFailed<T>) -> FormulaError {
         FormulaError::OutOfMemory
     }
 }
