@@ -1,5 +1,5 @@
 //! Answers a script, with a certificate.
-ghost use Rattle.std.specs.Prelude.{◌≡◌, ◌+◌, ◌≤◌, ◌⊎◌, true, IfOk, OnOk, IfErr, IsErrOf};
+ghost use Rattle.std.specs.Prelude.{◌≡◌, ◌+◌, ◌≤◌, ◌⊎◌, true, Err, IfOk, OnOk, IfErr, IsOk, IsErr, IsErrOf};
 ghost use Rattle.sat_base.specs.device.Device.{most_reads, ReadFails, GaveAll, GaveEnough};
 ghost use Rattle.certify.specs.script.CappedNames.{IsScriptOf};
 ghost use Rattle.certify.specs.run.FinishedRun.{Answered, Backed, HasCause, HasNoNumber, WriteFails, gave, took};
@@ -25,8 +25,9 @@ use crate::run::session::Session;
 use crate::run::taking::take_all;
 use crate::script::{Script, read_script};
 use crate::summary::Summary;
-use sat_base::{CountedRead, CountedWrite, ReadError};
+use sat_base::{CountedRead, CountedWrite, ReadError, StepWriter};
 use std::alloc::Global;
+use std::io;
 
 /// Reads the script.
 fn load<S: CountedRead>(alloc: Global, script: &mut S) -> Result<Script, RunFault>
@@ -81,6 +82,20 @@ fn answer<A: CountedWrite, C: CountedWrite>(
     }
 }
 
+/// A fault behind which the steps that wait can't be written out is the certificate's.
+fn unless_broken(
+    before: Result<Summary, RunFault>,
+    written: io::Result<()>,
+) -> Result<Summary, RunFault>
+    ensures written { IsOk written → result ≡ before }
+    ensures broken { IsErr written → result ≡ Err RunFault.CertificateWrite }
+{
+    match written {
+        Ok(()) => before,
+        Err(_) => Err(RunFault::CertificateWrite),
+    }
+}
+
 /// The same, with a certificate's writer that is lent. Gives the answers' writer back.
 fn answer_into<A: CountedWrite, C: CountedWrite>(
     alloc: Global,
@@ -93,11 +108,12 @@ fn answer_into<A: CountedWrite, C: CountedWrite>(
 {
     let mut out: Outputs<A, &mut C> = Outputs {
         answers,
-        certificate,
+        certificate: StepWriter::new(certificate),
     };
     let result = answer(alloc, script, &mut out, budget);
-    let (answers, _certificate) = out.into_writers();
-    (answers, result)
+    let (answers, lent, written) = out.into_writers();
+    let _certificate: &mut C = lent;
+    (answers, unless_broken(result, written))
 }
 
 /// The same, with both writers lent.

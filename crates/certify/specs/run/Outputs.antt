@@ -1,6 +1,9 @@
 -- What the parts of a run do to its two outputs.
-use Rattle.std.specs.Prelude.{ℕ, ◌≡◌, true, Result, MatchResult, List}
+use Rattle.std.specs.Prelude.{ℕ, ◌≡◌, true, Result, MatchResult, List, []}
 use Rattle.sat_base.specs.device.Device.{Writer, Takes}
+use Rattle.sat_base.specs.device.Sink.{Sink, Sent, empty_sink}
+use Rattle.sat_base.specs.steps.StepWriting.{steps_sink}
+use Rattle.sat_base.specs.declared.steps.writer.StepWriter.{StepWriter}
 use Rattle.sat_base.specs.steps.Steps.{Step, End}
 use Rattle.sat_base.specs.steps.StepText.{SpellsStep, SpellsSteps}
 use Rattle.certify.specs.Calls.{NoneFailed, OneFailed}
@@ -8,32 +11,41 @@ use Rattle.certify.specs.run.FinishedRun.{HasCause}
 use Rattle.certify.specs.declared.fault.RunFault.{RunFault}
 use Rattle.certify.specs.declared.run.outputs.Outputs.{Outputs}
 
--- the writers of the answers and of the certificate
+-- what a writer of steps has written and still holds
+abbrev pub sink : {C : Type 0} → (C → Writer) → StepWriter C → Sink
+sink = steps_sink
+
+-- the writer of the answers, and that of the certificate with the bytes that wait for it
 pub record Both : Type 0 where
   pub answers : Writer
-  pub certificate : Writer
+  pub certificate : Sink
 
+-- where none wait
 abbrev pub pair : Writer → Writer → Both
-pair answers certificate = record { answers = answers; certificate = certificate }
+pair answers certificate = record { answers = answers; certificate = empty_sink certificate }
 
 abbrev pub both : {A C : Type 0} → (A → Writer) → (C → Writer) → Outputs A C → Both
-both answers certificate out = record { answers = answers out.answers; certificate = certificate out.certificate }
+both answers certificate out = record { answers = answers out.answers; certificate = steps_sink certificate out.certificate }
+
+-- one call of the certificate's writer failed, the last, and nothing waits
+abbrev pub OneBroke : Sink → Sink → Type 0
+OneBroke old new = OneFailed old.writer new.writer × (new.waiting ≡ [])
 
 -- these steps were written
-pub record Wrote (steps : List Step) (old new : Writer) : Type 0 where
+pub record Wrote (steps : List Step) (old new : Sink) : Type 0 where
   pub text : List ℕ
   pub spelt : SpellsSteps steps text
-  pub took : Takes old new text
+  pub sent : Sent old new text
 
 -- one step was written
-pub record WroteStep (step : Step) (old new : Writer) : Type 0 where
+pub record WroteStep (step : Step) (old new : Sink) : Type 0 where
   pub text : List ℕ
   pub spelt : SpellsStep step text
-  pub took : Takes old new text
+  pub sent : Sent old new text
 
 -- where a part writes to the certificate alone
-abbrev pub WritesSteps : {T : Type 0} → Result T RunFault → (T → Writer → Writer → Type 0) → Writer → Writer → Type 0
-WritesSteps r wrote old new = MatchResult r (λ x. wrote x old new) (λ e. HasCause e ⊥ ⊥ (OneFailed old new) ⊥ (NoneFailed old new))
+abbrev pub WritesSteps : {T : Type 0} → Result T RunFault → (T → Sink → Sink → Type 0) → Sink → Sink → Type 0
+WritesSteps r wrote old new = MatchResult r (λ x. wrote x old new) (λ e. HasCause e ⊥ ⊥ (OneBroke old new) ⊥ (NoneFailed old.writer new.writer))
 
 -- where a part writes this text to the answers alone
 abbrev pub WritesAnswer : {T : Type 0} → Result T RunFault → List ℕ → Writer → Writer → Type 0
@@ -41,13 +53,13 @@ WritesAnswer r text old new = MatchResult r (λ _. Takes old new text) (λ e. Ha
 
 -- where a part writes to both, no call of either failed
 abbrev pub NeitherFailed : Both → Both → Type 0
-NeitherFailed old new = NoneFailed old.answers new.answers × NoneFailed old.certificate new.certificate
+NeitherFailed old new = NoneFailed old.answers new.answers × NoneFailed old.certificate.writer new.certificate.writer
 
 -- or one call failed, of the device that the fault names; what is said of many commands may be a fault, too
 abbrev pub FailsOnce : RunFault → Type 0 → Both → Both → Type 0
 FailsOnce e many old new = HasCause e ⊥
-    (OneFailed old.answers new.answers × NoneFailed old.certificate new.certificate)
-    (OneFailed old.certificate new.certificate × NoneFailed old.answers new.answers)
+    (OneFailed old.answers new.answers × NoneFailed old.certificate.writer new.certificate.writer × (new.certificate.waiting ≡ []))
+    (OneBroke old.certificate new.certificate × NoneFailed old.answers new.answers)
     (many × NeitherFailed old new)
     (NeitherFailed old new)
 
@@ -58,12 +70,22 @@ WritesBoth r old new = MatchResult r (λ _. NeitherFailed old new) (λ e. FailsO
 abbrev pub AnswersAll : {T : Type 0} → Result T RunFault → Type 0 → Both → Both → Type 0
 AnswersAll r many old new = MatchResult r (λ _. NeitherFailed old new) (λ e. FailsOnce e many old new)
 
+-- the steps that waited were written out, and a text was written to the answers
+pub record Tells (text : List ℕ) (old new : Both) : Type 0 where
+  pub took : Takes old.answers new.answers text
+  pub sent : Sent old.certificate new.certificate []
+
+-- the last step was written, and all that waited, and the writer was flushed
+pub record EndedSteps (old new : Sink) : Type 0 where
+  pub step : WroteStep End old new
+  pub none : new.waiting ≡ []
+  pub flushed : new.writer.flushed ≡ true
+
 -- the last line was written, and the last step, and both were flushed
 pub record Ended (last : List ℕ) (old new : Both) : Type 0 where
   pub answers : Takes old.answers new.answers last
-  pub certificate : WroteStep End old.certificate new.certificate
+  pub certificate : EndedSteps old.certificate new.certificate
   pub answers_flushed : new.answers.flushed ≡ true
-  pub certificate_flushed : new.certificate.flushed ≡ true
 
 abbrev pub Ends : {T : Type 0} → Result T RunFault → List ℕ → Both → Both → Type 0
 Ends r last old new = MatchResult r (λ _. Ended last old new) (λ e. FailsOnce e ⊥ old new)

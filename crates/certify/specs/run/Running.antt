@@ -1,7 +1,8 @@
 -- How a run stands among the commands of a script of clauses and asks.
 use Rattle.std.specs.Prelude.{ℕ, zero, suc, ◌+◌, ◌-◌, ◌^◌, ◌<◌, ◌≤◌, ◌≡◌, ◌↔◌, max, Bool, true, false, ◌&&◌, Option, Some, None, Result, IfOk, List, [], ◌∷◌, ◌++◌, length, map, drop, nat_le}
 use Rattle.std.specs.List.{AllByRecursion}
-use Rattle.sat_base.specs.device.Device.{Writer, Takes}
+use Rattle.sat_base.specs.device.Device.{Takes}
+use Rattle.sat_base.specs.device.Sink.{Sink, Sent}
 use Rattle.sat_base.specs.values.Literals.{coded, largest, variable}
 use Rattle.sat_base.specs.values.Clauses.{Valuation, EachTrue, EachHolds}
 use Rattle.sat_base.specs.script.Script.{Literal, Command, Clause, Ask, Ending, Malformed, names_of}
@@ -87,7 +88,7 @@ pub data WritesClause (solver : SolverState) (clause : List ℕ) : List Step →
   written : {normal : List ℕ} → IsNormalOf clause normal → WritesClause solver clause (AddClause normal ∷ [])
 
 -- a clause's names were brought in, and it was written or left out
-pub record WroteClause (count v : ℕ) (solver : SolverState) (literals : List ℕ) (old new : Writer) : Type 0 where
+pub record WroteClause (count v : ℕ) (solver : SolverState) (literals : List ℕ) (old new : Sink) : Type 0 where
   pub steps : List Step
   pub clause : WritesClause solver literals steps
   pub wrote : Wrote (naming count v ++ steps) old new
@@ -99,13 +100,13 @@ shown_by kind.Unsat line = []
 shown_by kind.Unknown line = []
 
 -- derived clauses over so many variables were written
-pub record WroteDerived (n : ℕ) (old new : Writer) : Type 0 where
+pub record WroteDerived (n : ℕ) (old new : Sink) : Type 0 where
   pub derived : List Step
   pub are_derived : AllByRecursion (IsDerived n) derived
   pub wrote : Wrote derived old new
 
 -- an ask was opened, and its answer derived and shown, and then these steps came
-pub record WroteAsk (n : ℕ) (answer : Answer) (line : List ℕ) (last : List Step) (old new : Writer) : Type 0 where
+pub record WroteAsk (n : ℕ) (answer : Answer) (line : List ℕ) (last : List Step) (old new : Sink) : Type 0 where
   pub derived : List Step
   pub are_derived : AllByRecursion (IsDerived n) derived
   pub wrote : Wrote (Assumptions [] ∷ (derived ++ (shown_by answer line ++ last))) old new
@@ -173,11 +174,11 @@ pub record Refused (old new : Session) : Type 0 where
   pub asks : new.asks ≡ old.asks
 
 -- a clause's names and the clause, by what a run had before and has behind it
-abbrev pub WroteClauseOf : Session → Session → List Literal → Writer → Writer → Type 0
+abbrev pub WroteClauseOf : Session → Session → List Literal → Sink → Sink → Type 0
 WroteClauseOf old new ls = WroteClause (new.names - old.names) old.names old.solver (map code_of ls)
 
 -- an ask and its answer, and then these steps
-abbrev pub WroteAskOf : Session → Session → AskReport → List Step → Writer → Writer → Type 0
+abbrev pub WroteAskOf : Session → Session → AskReport → List Step → Sink → Sink → Type 0
 WroteAskOf old new report last = WroteAsk old.solver.var_count report.answer new.lits.items last
 
 -- the text of an ask's answer
@@ -217,9 +218,10 @@ pub record Finishes (script : CappedScript) (budget : ℕ) (summary : Summary) (
   pub answered : List ℕ
   pub answers : Takes before.answers after.answers answered
   pub certified : List ℕ
-  pub certificate : Takes before.certificate after.certificate certified
+  pub certificate : Sent before.certificate after.certificate certified
+  pub none : after.certificate.waiting ≡ []
   pub answers_flushed : after.answers.flushed ≡ true
-  pub certificate_flushed : after.certificate.flushed ≡ true
+  pub certificate_flushed : after.certificate.writer.flushed ≡ true
   pub run : AllByRecursion IsSimple script.0 → RunOf script.0 script.1 script.2 budget summary answered certified
 
 -- whatever sums a run up so is what a finished run says

@@ -1,10 +1,10 @@
 -- What a search under a budget answers, and what it writes.
-use Rattle.std.specs.Prelude.{ℕ, ◌≡◌, ◌+◌, ◌-◌, ◌≤◌, true, false, Result, MatchResult, List, length}
+use Rattle.std.specs.Prelude.{ℕ, ◌≡◌, ◌+◌, ◌-◌, ◌≤◌, true, false, Result, MatchResult, List, [], length}
 use Rattle.std.specs.List.{AllByRecursion}
 use Rattle.sat_base.specs.values.Clauses.{Valuation}
 use Rattle.sat_base.specs.steps.Steps.{Step, AtClause}
 use Rattle.sat_base.specs.steps.StepText.{SpellsSteps}
-use Rattle.sat_base.specs.device.Device.{Writer, Takes}
+use Rattle.sat_base.specs.device.Sink.{Sink, Sent}
 use Rattle.certify.specs.Calls.{NoneFailed, OneFailed}
 use Rattle.certify.specs.declared.search.solve.SearchEnd.{SearchEnd}
 use Rattle.certify.specs.declared.search.solve.SearchEnd.TheVariants.{Sat, Unsat, Unknown}
@@ -44,13 +44,13 @@ abbrev pub IsDerived : ℕ → Step → Type 0
 IsDerived n step = (clause : List ℕ) × (hashes : List ℕ) × (step ≡ AtClause false clause hashes) × IsBounded n clause
 
 -- so many derived clauses over these variables were written
-pub record WritesDerived (n count : ℕ) (old new : Writer) : Type 0 where
+pub record WritesDerived (n count : ℕ) (old new : Sink) : Type 0 where
   pub steps : List Step
   pub many : length steps ≡ count
   pub derived : AllByRecursion (IsDerived n) steps
   pub text : List ℕ
   pub spells : SpellsSteps steps text
-  pub took : Takes old new text
+  pub sent : Sent old new text
 
 -- a round that ends in a model writes nothing
 abbrev pub conflicts : SearchEnd → ℕ → ℕ
@@ -59,10 +59,10 @@ conflicts Unsat spent = spent
 conflicts Unknown spent = spent
 
 -- a fault of writing comes where a write failed, and no other
-abbrev pub IsTrueFault : SolveFault → Writer → Writer → Type 0
-IsTrueFault Write old new = OneFailed old new
-IsTrueFault OutOfMemory old new = NoneFailed old new
+abbrev pub IsTrueFault : SolveFault → Sink → Sink → Type 0
+IsTrueFault Write old new = OneFailed old.writer new.writer × (new.waiting ≡ [])
+IsTrueFault OutOfMemory old new = NoneFailed old.writer new.writer
 
 -- so many derived clauses over these variables were written, or a fault is true
-abbrev pub WritesLearned : {T : Type 0} → Result T SolveFault → ℕ → (T → ℕ) → Writer → Writer → Type 0
+abbrev pub WritesLearned : {T : Type 0} → Result T SolveFault → ℕ → (T → ℕ) → Sink → Sink → Type 0
 WritesLearned r n count old new = MatchResult r (λ x. WritesDerived n (count x) old new) (λ fault. IsTrueFault fault old new)

@@ -3,26 +3,26 @@ ghost use Rattle.std.specs.Prelude.{◌≡◌, ◌+◌, [], IfOk, OnOk};
 ghost use Rattle.certify.specs.answers.Answers.{outcome_text};
 ghost use Rattle.certify.specs.search.SolverState.{AllowsSame};
 ghost use Rattle.certify.specs.run.FinishedRun.{IsSpent};
-ghost use Rattle.certify.specs.run.Outputs.{Wrote, WritesSteps, WritesBoth, both};
+ghost use Rattle.certify.specs.run.Outputs.{Wrote, WritesSteps, WritesBoth, both, sink};
 ghost use Rattle.certify.specs.run.Running.{WroteAskOf, AnsweredAsk, IsTrueOf, reported_outcome, reported_text, shown_by};
 
-use super::outputs::{Outputs, record_step, write_answer};
+use super::outputs::{Outputs, flush_steps, record_step, write_answer};
 use super::session::Session;
 use super::solving::solve_ask;
 use crate::answers::write::{push_sat, push_unknown, push_unsat};
 use crate::fault::RunFault;
 use crate::summary::{Answer, AskReport};
-use sat_base::{CountedWrite, Lit, ProofStep};
+use sat_base::{CountedWrite, Lit, ProofStep, StepWriter};
 
 /// Shows an answer: its text, and in the certificate the model of a satisfiable ask.
 fn show<C: CountedWrite>(
     answer: Answer,
     model: &[Lit],
     text: &mut Vec<u8>,
-    certificate: &mut C,
+    certificate: &mut StepWriter<C>,
 ) -> Result<(), RunFault>
     ensures text { OnOk result (text.new.items ≡ outcome_text (reported_outcome answer model.now)) }
-    ensures certificate { WritesSteps result (λ _. Wrote (shown_by answer model.now)) (C.seen certificate.old) (C.seen certificate.new) }
+    ensures certificate { WritesSteps result (λ _. Wrote (shown_by answer model.now)) (sink C.seen certificate.old) (sink C.seen certificate.new) }
 {
     text.clear();
     match answer {
@@ -39,7 +39,7 @@ fn show<C: CountedWrite>(
 /// Searches for an answer, and leaves its text in the session.
 fn ask<C: CountedWrite>(
     session: &mut Session,
-    certificate: &mut C,
+    certificate: &mut StepWriter<C>,
     budget: u64,
 ) -> Result<AskReport, RunFault>
     requires { session.old.solver.var_count ≡ session.old.names }
@@ -52,7 +52,7 @@ fn ask<C: CountedWrite>(
     ensures text { IfOk result (λ report. session.new.text.items ≡ reported_text session.new report) }
     ensures spent { IfOk result (λ report. IsSpent budget session.old.solver.rounds report) }
     ensures rounds { IfOk result (λ report. session.new.solver.rounds ≡ session.old.solver.rounds + report.steps) }
-    ensures certificate { WritesSteps result (λ report. WroteAskOf session.old session.new report []) (C.seen certificate.old) (C.seen certificate.new) }
+    ensures certificate { WritesSteps result (λ report. WroteAskOf session.old session.new report []) (sink C.seen certificate.old) (sink C.seen certificate.new) }
 {
     record_step(certificate, &ProofStep::Assumptions { assumptions: &[] })?;
     let count = session.names.count();
@@ -78,6 +78,8 @@ pub(crate) fn answer_ask<A: CountedWrite, C: CountedWrite>(
     ensures written { WritesBoth result (both A.seen C.seen out.old) (both A.seen C.seen out.new) }
 {
     let report = ask(session, &mut out.certificate, budget)?;
+    // The steps go first: nothing waits where the answer can't be written.
+    flush_steps(&mut out.certificate)?;
     write_answer(&mut out.answers, &session.text)?;
     record_step(
         &mut out.certificate,

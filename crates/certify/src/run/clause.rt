@@ -2,7 +2,7 @@
 ghost use Rattle.std.specs.Prelude.{◌≡◌, true, map, OnOk};
 ghost use Rattle.sat_base.specs.script.Script.{names_of};
 ghost use Rattle.certify.specs.search.SolverState.{GainsClause};
-ghost use Rattle.certify.specs.run.Outputs.{WritesSteps};
+ghost use Rattle.certify.specs.run.Outputs.{WritesSteps, sink};
 ghost use Rattle.certify.specs.run.Running.{WroteClauseOf, are_within, code_of, raised};
 
 use super::lits::fill;
@@ -11,12 +11,12 @@ use super::outputs::record_step;
 use super::session::Session;
 use crate::fault::RunFault;
 use crate::script::Literal;
-use sat_base::{CountedWrite, ProofStep};
+use sat_base::{CountedWrite, ProofStep, StepWriter};
 
 /// Brings in the names of a clause and adds it. Once the clauses are known to be unsatisfiable, no clause is added.
 pub(crate) fn take_clause<C: CountedWrite>(
     session: &mut Session,
-    certificate: &mut C,
+    certificate: &mut StepWriter<C>,
     literals: &[Literal],
 ) -> Result<(), RunFault>
     requires within { are_within (names_of literals.now) ≡ true }
@@ -27,7 +27,7 @@ pub(crate) fn take_clause<C: CountedWrite>(
     ensures refused { session.new.refused ≡ session.old.refused }
     ensures asks { session.new.asks ≡ session.old.asks }
     ensures rounds { OnOk result (session.new.solver.rounds ≡ session.old.solver.rounds) }
-    ensures certificate { WritesSteps result (λ _. WroteClauseOf session.old session.new literals.now) (C.seen certificate.old) (C.seen certificate.new) }
+    ensures certificate { WritesSteps result (λ _. WroteClauseOf session.old session.new literals.now) (sink C.seen certificate.old) (sink C.seen certificate.new) }
 {
     bring_all(
         &mut session.names,

@@ -1,16 +1,15 @@
 //! Ends a run's answers and its certificate.
 ghost use Rattle.std.specs.Prelude.{◌≡◌, ◌+◌, ◌-◌, ◌^◌, ◌≤◌, ◌<◌, [], true, length, OnOk, MatchResult};
 ghost use Rattle.sat_base.specs.script.Script.{Malformed};
-ghost use Rattle.sat_base.specs.steps.Steps.{End};
 ghost use Rattle.certify.specs.run.FinishedRun.{HasCause, malformed_at};
-ghost use Rattle.certify.specs.run.Outputs.{WroteStep, WritesAnswer, WritesSteps, Ends, both};
+ghost use Rattle.certify.specs.run.Outputs.{EndedSteps, WritesAnswer, WritesSteps, Ends, both, sink};
 ghost use Rattle.certify.specs.run.Running.{IsOverlong, malformed_text};
 
-use super::outputs::{Outputs, record_step, write_answer};
+use super::outputs::{Outputs, flush_steps, record_step, write_answer};
 use crate::answers::write::push_malformed;
 use crate::fault::RunFault;
 use crate::script::Script;
-use sat_base::{CountedWrite, ProofStep};
+use sat_base::{CountedWrite, ProofStep, StepWriter};
 
 /// The number that the command would have had at which the text is malformed, counted from 1.
 pub(crate) fn malformed_number(script: &Script) -> Result<Option<u64>, RunFault>
@@ -53,19 +52,15 @@ fn flush_answers<A: CountedWrite>(answers: &mut A) -> Result<(), RunFault>
     }
 }
 
-/// Ends the certificate and writes out what waits.
-fn end_certificate<C: CountedWrite>(certificate: &mut C) -> Result<(), RunFault>
-    ensures end { WritesSteps result (λ _. WroteStep End) (C.seen certificate.old) (C.seen certificate.new) }
-    ensures flushed { OnOk result ((C.seen certificate.new).flushed ≡ true) }
+/// Writes the last step, and all that waits.
+fn end_certificate<C: CountedWrite>(certificate: &mut StepWriter<C>) -> Result<(), RunFault>
+    ensures { WritesSteps result (λ _. EndedSteps) (sink C.seen certificate.old) (sink C.seen certificate.new) }
 {
     record_step(certificate, &ProofStep::End)?;
-    match certificate.flush_counted() {
-        Ok(()) => Ok(()),
-        Err(_) => Err(RunFault::CertificateWrite),
-    }
+    flush_steps(certificate)
 }
 
-/// Writes the last line of the answers, where one is due, and the last step, and writes out what waits.
+/// Ends both texts. The certificate goes first: nothing waits where the answers can't be written.
 pub(crate) fn finish<A: CountedWrite, C: CountedWrite>(
     text: &mut Vec<u8>,
     malformed: Option<u64>,
@@ -73,7 +68,7 @@ pub(crate) fn finish<A: CountedWrite, C: CountedWrite>(
 ) -> Result<(), RunFault>
     ensures { Ends result (malformed_text malformed) (both A.seen C.seen out.old) (both A.seen C.seen out.new) }
 {
+    end_certificate(&mut out.certificate)?;
     write_malformed(text, malformed, &mut out.answers)?;
-    flush_answers(&mut out.answers)?;
-    end_certificate(&mut out.certificate)
+    flush_answers(&mut out.answers)
 }

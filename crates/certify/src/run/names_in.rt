@@ -3,7 +3,7 @@ ghost use Rattle.std.specs.Prelude.{◌≡◌, ◌+◌, ◌-◌, ◌<◌, ◌≤
 ghost use Rattle.sat_base.specs.values.Clauses.{Valuation};
 ghost use Rattle.sat_base.specs.values.Literals.{largest};
 ghost use Rattle.certify.specs.search.SolverState.{AllowsSame};
-ghost use Rattle.certify.specs.run.Outputs.{Wrote, WritesSteps};
+ghost use Rattle.certify.specs.run.Outputs.{Wrote, WritesSteps, sink};
 ghost use Rattle.certify.specs.run.Running.{are_within, naming, raised};
 ghost use Rattle.sat_base.specs.script.Script.{names_of};
 
@@ -12,13 +12,13 @@ use crate::fault::RunFault;
 use crate::names::Names;
 use crate::script::Literal;
 use crate::search::Solver;
-use sat_base::{CountedWrite, ProofStep};
+use sat_base::{CountedWrite, ProofStep, StepWriter};
 
 /// The first name never used becomes a new variable.
 fn add_name<C: CountedWrite>(
     names: &mut Names,
     solver: &mut Solver,
-    certificate: &mut C,
+    certificate: &mut StepWriter<C>,
 ) -> Result<(), RunFault>
     requires room { names.old < largest }
     requires same { solver.old.var_count ≡ names.old }
@@ -26,7 +26,7 @@ fn add_name<C: CountedWrite>(
     ensures variables { OnOk result (solver.new.var_count ≡ names.new) }
     ensures clauses { OnOk result (AllowsSame solver.old solver.new) }
     ensures rounds { OnOk result (solver.new.rounds ≡ solver.old.rounds) }
-    ensures certificate { WritesSteps result (λ _. Wrote (naming 1 names.old)) (C.seen certificate.old) (C.seen certificate.new) }
+    ensures certificate { WritesSteps result (λ _. Wrote (naming 1 names.old)) (sink C.seen certificate.old) (sink C.seen certificate.new) }
 {
     let var = names.add();
     record_step(
@@ -44,7 +44,7 @@ fn add_name<C: CountedWrite>(
 fn bring_in<C: CountedWrite>(
     names: &mut Names,
     solver: &mut Solver,
-    certificate: &mut C,
+    certificate: &mut StepWriter<C>,
     name: u32,
 ) -> Result<(), RunFault>
     requires within { name ≤ largest }
@@ -53,7 +53,7 @@ fn bring_in<C: CountedWrite>(
     ensures variables { OnOk result (solver.new.var_count ≡ names.new) }
     ensures clauses { OnOk result (AllowsSame solver.old solver.new) }
     ensures rounds { OnOk result (solver.new.rounds ≡ solver.old.rounds) }
-    ensures certificate { WritesSteps result (λ _. Wrote (naming (names.new - names.old) names.old)) (C.seen certificate.old) (C.seen certificate.new) }
+    ensures certificate { WritesSteps result (λ _. Wrote (naming (names.new - names.old) names.old)) (sink C.seen certificate.old) (sink C.seen certificate.new) }
 {
     for _ in names.count()..name as usize {
         add_name(names, solver, certificate)?;
@@ -65,7 +65,7 @@ fn bring_in<C: CountedWrite>(
 pub(crate) fn bring_all<C: CountedWrite>(
     names: &mut Names,
     solver: &mut Solver,
-    certificate: &mut C,
+    certificate: &mut StepWriter<C>,
     literals: &[Literal],
 ) -> Result<(), RunFault>
     requires within { are_within (names_of literals.now) ≡ true }
@@ -74,7 +74,7 @@ pub(crate) fn bring_all<C: CountedWrite>(
     ensures variables { OnOk result (solver.new.var_count ≡ names.new) }
     ensures clauses { OnOk result (AllowsSame solver.old solver.new) }
     ensures rounds { OnOk result (solver.new.rounds ≡ solver.old.rounds) }
-    ensures certificate { WritesSteps result (λ _. Wrote (naming (names.new - names.old) names.old)) (C.seen certificate.old) (C.seen certificate.new) }
+    ensures certificate { WritesSteps result (λ _. Wrote (naming (names.new - names.old) names.old)) (sink C.seen certificate.old) (sink C.seen certificate.new) }
 {
     for literal in literals {
         bring_in(names, solver, certificate, literal.name)?;

@@ -1,41 +1,56 @@
 //! The writers of a run.
+ghost use Rattle.sat_base.specs.device.Sink.{Emptied};
 ghost use Rattle.sat_base.specs.steps.StepViews.{step_of};
-ghost use Rattle.certify.specs.run.Outputs.{WroteStep, WritesSteps, WritesAnswer};
+ghost use Rattle.certify.specs.run.Outputs.{WroteStep, WritesSteps, WritesAnswer, sink};
 
 use crate::fault::RunFault;
-use sat_base::{CountedWrite, ProofStep, write_step};
+use sat_base::{CountedWrite, ProofStep, StepWriter};
+use std::io;
 
 /// The writers of the answers and of the certificate.
 #[derive(Drop)]
 pub(crate) struct Outputs<A, C> {
     pub answers: A,
-    pub certificate: C,
+    pub certificate: StepWriter<C>,
 }
 
-impl<A, C> Outputs<A, C> {
-    ghost use Rattle.std.specs.Prelude.{◌≡◌};
+impl<A: CountedWrite, C: CountedWrite> Outputs<A, C> {
+    ghost use Rattle.std.specs.Prelude.{◌≡◌, []};
+    ghost use Rattle.sat_base.specs.device.Device.{Puts};
 
-    /// The writers.
-    pub(crate) fn into_writers(self) -> (A, C)
+    /// The writers, and whether what waited was written out.
+    pub(crate) fn into_writers(self) -> (A, C, io::Result<()>)
         ensures answers { result.0 ≡ self.answers }
-        ensures certificate { result.1 ≡ self.certificate }
+        ensures puts { Puts (sink C.seen self.certificate).waiting result.2 (sink C.seen self.certificate).writer (C.seen result.1) }
+        ensures idle { (sink C.seen self.certificate).waiting ≡ [] → C.seen result.1 ≡ (sink C.seen self.certificate).writer }
     {
         let Outputs {
             answers,
             certificate,
         } = self;
-        (answers, certificate)
+        let (certificate, written) = certificate.into_inner();
+        (answers, certificate, written)
     }
 }
 
 /// Writes a step of the certificate.
 pub(crate) fn record_step<C: CountedWrite>(
-    certificate: &mut C,
+    certificate: &mut StepWriter<C>,
     step: &ProofStep,
 ) -> Result<(), RunFault>
-    ensures { WritesSteps result (λ _. WroteStep (step_of step.now)) (C.seen certificate.old) (C.seen certificate.new) }
+    ensures { WritesSteps result (λ _. WroteStep (step_of step.now)) (sink C.seen certificate.old) (sink C.seen certificate.new) }
 {
-    match write_step(certificate, step) {
+    match certificate.write(step) {
+        Ok(()) => Ok(()),
+        Err(_) => Err(RunFault::CertificateWrite),
+    }
+}
+
+/// Writes out the steps that wait, and flushes their writer.
+pub(crate) fn flush_steps<C: CountedWrite>(certificate: &mut StepWriter<C>) -> Result<(), RunFault>
+    ensures { WritesSteps result (λ _. Emptied) (sink C.seen certificate.old) (sink C.seen certificate.new) }
+{
+    match certificate.flush() {
         Ok(()) => Ok(()),
         Err(_) => Err(RunFault::CertificateWrite),
     }

@@ -3,7 +3,7 @@ ghost use Rattle.std.specs.Prelude.{◌≡◌, ◌+◌, ◌<◌, ◌≤◌, IfOk
 ghost use Rattle.sat_base.specs.values.Literals.{coded, largest};
 ghost use Rattle.certify.specs.search.SolverState.{HasModel, AllowsSame};
 ghost use Rattle.certify.specs.run.FinishedRun.{IsSpent};
-ghost use Rattle.certify.specs.run.Outputs.{WritesSteps};
+ghost use Rattle.certify.specs.run.Outputs.{WritesSteps, sink};
 ghost use Rattle.certify.specs.run.Running.{WroteDerived, IsTrueOf};
 ghost use Rattle.certify.specs.search.Search.{is_true};
 ghost use Rattle.certify.specs.search.SearchEnds.{Solves};
@@ -12,7 +12,7 @@ use crate::fault::RunFault;
 use crate::search::Solver;
 use crate::search::solve::{SearchEnd, SolveFault, solve};
 use crate::summary::{Answer, AskReport};
-use sat_base::{CountedWrite, Lit, Var};
+use sat_base::{CountedWrite, Lit, StepWriter, Var};
 use std::alloc::AllocError;
 
 /// The literal of a variable that is true in the solver's model.
@@ -45,10 +45,10 @@ fn fill_model(lits: &mut Vec<Lit>, solver: &Solver, count: usize) -> Result<(), 
 fn find<C: CountedWrite>(
     solver: &mut Solver,
     budget: u64,
-    certificate: &mut C,
+    certificate: &mut StepWriter<C>,
 ) -> Result<(SearchEnd, u64), RunFault>
     ensures answers { IfOk result (λ r. Solves r.0 r.1 budget solver.old solver.new) }
-    ensures certificate { WritesSteps result (λ _. WroteDerived solver.old.var_count) (C.seen certificate.old) (C.seen certificate.new) }
+    ensures certificate { WritesSteps result (λ _. WroteDerived solver.old.var_count) (sink C.seen certificate.old) (sink C.seen certificate.new) }
 {
     match solve(solver, budget, certificate) {
         Ok(found) => Ok(found),
@@ -64,7 +64,7 @@ pub(crate) fn solve_ask<C: CountedWrite>(
     count: usize,
     budget: u64,
     model: &mut Vec<Lit>,
-    certificate: &mut C,
+    certificate: &mut StepWriter<C>,
 ) -> Result<AskReport, RunFault>
     requires count { solver.old.var_count ≡ count }
     requires bound { count ≤ largest }
@@ -73,7 +73,7 @@ pub(crate) fn solve_ask<C: CountedWrite>(
     ensures answer { IfOk result (λ report. IsTrueOf solver.new model.new.items report.answer) }
     ensures spent { IfOk result (λ report. IsSpent budget solver.old.rounds report) }
     ensures rounds { IfOk result (λ report. solver.new.rounds ≡ solver.old.rounds + report.steps) }
-    ensures certificate { WritesSteps result (λ _. WroteDerived solver.old.var_count) (C.seen certificate.old) (C.seen certificate.new) }
+    ensures certificate { WritesSteps result (λ _. WroteDerived solver.old.var_count) (sink C.seen certificate.old) (sink C.seen certificate.new) }
 {
     let (found, steps) = find(solver, budget, certificate)?;
     match found {

@@ -3,13 +3,13 @@ ghost use Rattle.std.specs.Prelude.{◌≡◌, ◌+◌, ◌<◌, ◌≤◌, OnOk
 ghost use Rattle.sat_base.specs.script.Judge.{PastLimit};
 ghost use Rattle.certify.specs.answers.Answers.{refused_line};
 ghost use Rattle.certify.specs.script.ScriptParts.{shown};
-ghost use Rattle.certify.specs.run.Outputs.{WritesAnswer, WritesBoth, both};
+ghost use Rattle.certify.specs.run.Outputs.{Tells, WritesBoth, both};
 ghost use Rattle.certify.specs.run.Running.{Refused, Took, TookAll};
 
 use super::ask::answer_ask;
 use super::clause::take_clause;
 use super::lits::are_within;
-use super::outputs::{Outputs, write_answer};
+use super::outputs::{Outputs, flush_steps, write_answer};
 use super::session::Session;
 use crate::answers::write::push_refused_limit;
 use crate::fault::RunFault;
@@ -17,19 +17,21 @@ use crate::script::{Command, Script};
 use sat_base::CountedWrite;
 
 /// Refuses the command of this number, which has a name past the limit.
-fn refuse<A: CountedWrite>(
+fn refuse<A: CountedWrite, C: CountedWrite>(
     session: &mut Session,
-    answers: &mut A,
+    out: &mut Outputs<A, C>,
     number: u64,
 ) -> Result<(), RunFault>
     requires { session.old.refused < number }
     ensures left { OnOk result (Refused session.old session.new) }
-    ensures answers { WritesAnswer result (refused_line number PastLimit) (A.seen answers.old) (A.seen answers.new) }
+    ensures told { OnOk result (Tells (refused_line number PastLimit) (both A.seen C.seen out.old) (both A.seen C.seen out.new)) }
+    ensures written { WritesBoth result (both A.seen C.seen out.old) (both A.seen C.seen out.new) }
 {
     session.refused += 1;
     session.text.clear();
     push_refused_limit(&mut session.text, number)?;
-    write_answer(answers, &session.text)
+    flush_steps(&mut out.certificate)?;
+    write_answer(&mut out.answers, &session.text)
 }
 
 /// Takes the command of this number, counted from 1.
@@ -50,7 +52,7 @@ fn take_command<A: CountedWrite, C: CountedWrite>(
     match command {
         Command::Clause(literals) => {
             if !are_within(literals) {
-                return refuse(session, &mut out.answers, number);
+                return refuse(session, out, number);
             }
             take_clause(session, &mut out.certificate, literals)
         }

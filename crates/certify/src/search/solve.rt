@@ -1,11 +1,12 @@
 //! Rounds of search up to an answer.
 ghost use Rattle.std.specs.Prelude.{◌≡◌, IfOk};
+ghost use Rattle.sat_base.specs.steps.StepWriting.{steps_sink};
 ghost use Rattle.certify.specs.search.Search.{IsBounded};
 ghost use Rattle.certify.specs.search.SearchEnds.{Solves, WritesLearned, conflicts};
 
 use crate::search::Solver;
 use crate::search::propagate::RoundEnd;
-use sat_base::{CountedWrite, ProofStep, write_step};
+use sat_base::{CountedWrite, ProofStep, StepWriter};
 use std::alloc::AllocError;
 
 /// What an ask is answered.
@@ -37,16 +38,19 @@ impl From<AllocError> for SolveFault {
 
 /// Writes the step of the clause last learned.
 #[tactic(auto, using(crate::proofs::lemmas::search::DerivedSteps::writing))]
-fn write_learned<W: CountedWrite>(solver: &Solver, proof: &mut W) -> Result<(), SolveFault>
+fn write_learned<W: CountedWrite>(
+    solver: &Solver,
+    proof: &mut StepWriter<W>,
+) -> Result<(), SolveFault>
     requires { IsBounded solver.now.var_count solver.now.learned }
-    ensures { WritesLearned result solver.now.var_count (λ _. 1) (W.seen proof.old) (W.seen proof.new) }
+    ensures { WritesLearned result solver.now.var_count (λ _. 1) (steps_sink W.seen proof.old) (steps_sink W.seen proof.new) }
 {
     let step = ProofStep::AtClause {
         redundant: false,
         clause: solver.learned(),
         propagation_hashes: solver.hashes(),
     };
-    match write_step(proof, &step) {
+    match proof.write(&step) {
         Ok(()) => Ok(()),
         Err(_) => Err(SolveFault::Write),
     }
@@ -58,10 +62,10 @@ fn write_learned<W: CountedWrite>(solver: &Solver, proof: &mut W) -> Result<(), 
 pub(crate) fn solve<W: CountedWrite>(
     solver: &mut Solver,
     budget: u64,
-    proof: &mut W,
+    proof: &mut StepWriter<W>,
 ) -> Result<(SearchEnd, u64), SolveFault>
     ensures answers { IfOk result (λ r. Solves r.0 r.1 budget solver.old solver.new) }
-    ensures writes { WritesLearned result solver.old.var_count (λ r. conflicts r.0 r.1) (W.seen proof.old) (W.seen proof.new) }
+    ensures writes { WritesLearned result solver.old.var_count (λ r. conflicts r.0 r.1) (steps_sink W.seen proof.old) (steps_sink W.seen proof.new) }
 {
     let mut spent = 0;
     while !solver.unsat() {

@@ -3,7 +3,7 @@
 use crate::search::Solver;
 use crate::search::propagate::RoundEnd;
 use crate::search::solve::{SearchEnd, solve};
-use sat_base::{ClauseHash, Counted, Lit, Var, clause_hash};
+use sat_base::{ClauseHash, Counted, Lit, StepWriter, Var, clause_hash};
 use std::alloc::Global;
 use std::test::Fail;
 
@@ -231,10 +231,12 @@ fn found(
     budget: u64,
 ) -> Result<Found, Fail> {
     fill(alloc, solver, vars, formula)?;
-    let mut proof = Counted::new(Vec::new(alloc));
-    match solve(solver, budget, &mut proof) {
-        Ok((answer, rounds)) => Ok((answer, rounds, proof.into_inner().len())),
-        Err(_) => Err(Fail::from("no answer")),
+    let mut proof = StepWriter::new(Counted::new(Vec::new(alloc)));
+    let answer = solve(solver, budget, &mut proof);
+    let (writer, written) = proof.into_inner();
+    match answer {
+        Ok((answer, rounds)) if written.is_ok() => Ok((answer, rounds, writer.into_inner().len())),
+        _ => Err(Fail::from("no answer")),
     }
 }
 

@@ -20,14 +20,14 @@ use Rattle.certify.specs.run.FinishedRun.{refused_count, kind_of, IsSpent, AreSp
 use Rattle.certify.specs.search.SolverState.{SolverState, Allows, GainsClause}
 use Rattle.certify.specs.script.CappedNames.{CappedScript}
 use Rattle.certify.specs.run.Running.{HasFirstNames, Reached, Refused, Added, Asked, Took, TookAll, Told, IsSimple, IsTrueOf, WritesClause, WroteClauseOf, AnsweredAsk, reported_text, are_within, code_of, naming, reported_outcome, raised, steps_of}
-use Rattle.certify.specs.run.Outputs.{Both, Wrote, WritesAnswer, WritesSteps}
+use Rattle.certify.specs.run.Outputs.{Both, Tells, WritesSteps}
 use Rattle.sat_base.specs.steps.Steps.{Step}
 use Rattle.certify.specs.confirm.ListChecking.{the_checking}
 use Rattle.certify.specs.confirm.Matches.{Adds, Opens, Closes, bringing, expected, showing}
 use Rattle.certify.specs.run.Certifies.{Certifies}
 use Rattle.certify.specs.search.SearchEnds.{IsDerived}
 use Rattle.certify.proofs.lemmas.run.CertifiedPieces.{Brings, brings_nothing, brings_added, brings_ask, ask_steps, code_back, further}
-use Rattle.certify.proofs.lemmas.run.WrittenSteps.{wrote_none, wrote_then}
+use Rattle.certify.proofs.lemmas.run.WrittenSteps.{wrote_then}
 use Rattle.certify.proofs.lemmas.run.FirstNames.{over_plain, bring_all_plain, refused_plain, in_use_plain}
 use Rattle.certify.proofs.lemmas.run.NamesOfLiterals.{within_first, raised_least}
 
@@ -202,15 +202,15 @@ reached_ask script ending budget left number old new answered before derived rep
     }
 
 pub took_refused : (r : Result (Unit {0}) RunFault) (ls : List Literal) (number budget : ℕ) (old new : Session) (before after : Both)
-    → are_within (names_of ls) ≡ false → OnOk r (Refused old new) → WritesAnswer r (refused_line number PastLimit) before.answers after.answers → after.certificate ≡ before.certificate → OnOk r (Took (Clause ls) number budget old new before after)
-took_refused (Ok x) ls number budget old new before after w h t e = record {
+    → are_within (names_of ls) ≡ false → OnOk r (Refused old new) → OnOk r (Tells (refused_line number PastLimit) before after) → OnOk r (Took (Clause ls) number budget old new before after)
+took_refused (Ok x) ls number budget old new before after w h t = record {
   piece = refused_line number PastLimit;
-  took = t;
+  took = t.took;
   steps = [];
-  wrote = subst (λ c. Wrote [] before.certificate c) (sym e) (wrote_none before.certificate);
+  wrote = record { text = []; spelt = refl; sent = t.sent };
   reached = λ simple script ending left answered written same r. reached_refused script ending budget left number old new answered written ls simple w h r;
 }
-took_refused (Err x) ls number budget old new before after w h t e = tt
+took_refused (Err x) ls number budget old new before after w h t = tt
 
 pub took_clause : (r : Result (Unit {0}) RunFault) (ls : List Literal) (number budget : ℕ) (old new : Session) (before after : Both)
     → are_within (names_of ls) ≡ true → OnOk r (Added ls old new) → WritesSteps r (λ _. WroteClauseOf old new ls) before.certificate after.certificate → after.answers ≡ before.answers → OnOk r (Took (Clause ls) number budget old new before after)

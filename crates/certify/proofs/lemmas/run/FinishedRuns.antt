@@ -1,7 +1,8 @@
 -- What a run has done once all commands are taken.
-use Rattle.std.proofs.Common.{ℕ, ◌+◌, ◌-◌, ◌^◌, ◌≤◌, ◌≡◌, true, cond, Result, Ok, Err, IfOk, List, [], ◌∷◌, ◌++◌, map, length, Option, Some, None, is_some, inl, inr, refl, sym, ◌∙◌, ap, subst, arith, append-nil}
+use Rattle.std.proofs.Common.{ℕ, ◌+◌, ◌-◌, ◌^◌, ◌≤◌, ◌≡◌, true, cond, Result, Ok, Err, IfOk, List, [], ◌∷◌, ◌++◌, map, length, Option, Some, None, is_some, inl, inr, refl, sym, ◌∙◌, ap, subst, arith, append-nil, rules}
 use Rattle.std.proofs.Math.Seq.{drop-length}
-use Rattle.sat_base.specs.device.Device.{Reader, Writer, Takes, GaveAll, GaveEnough, lent_writer}
+use Rattle.sat_base.specs.device.Device.{Reader, Writer, Takes, Breaks, Puts, GaveAll, GaveEnough, lent_writer}
+use Rattle.sat_base.specs.device.Sink.{Sink, Sent}
 use Rattle.sat_base.proofs.lemmas.device.Given.{enough_all}
 use Rattle.sat_base.proofs.lemmas.device.Writes.{took_none, took_more}
 use Rattle.std.proofs.lemmas.List.{length-map}
@@ -19,7 +20,7 @@ use Rattle.certify.specs.confirm.ListChecking.{the_checking}
 use Rattle.certify.specs.confirm.Matches.{expected, finish}
 use Rattle.certify.specs.run.Certifies.{Certifies, complete, ordered}
 use Rattle.certify.specs.script.CappedNames.{capped_command, CappedScript, capped_script, IsScriptOf}
-use Rattle.std.specs.Prelude.{OnOk, IsErrOf, ◌⊎◌}
+use Rattle.std.specs.Prelude.{OnOk, IsOk, IsErr, IsErrOf, ◌⊎◌}
 use Rattle.std.specs.List.{AllByRecursion}
 use Rattle.certify.specs.declared.fault.RunFault.TheVariants as fault
 use Rattle.certify.specs.run.FinishedRun.{RunOf, Answers, Answered, Backs, Backed, HasNoNumber, WriteFails, refused_count, malformed_at}
@@ -86,15 +87,16 @@ pub finishes : (script : CappedScript) (budget : ℕ) (s : Session) (malformed :
     → Done script budget malformed s a c
 finishes script budget s malformed a b c took ended at = λ summary commands refused same asks.
     let last : Takes b.answers c.answers (malformed_text summary.malformed) = subst (λ m. Takes b.answers c.answers (malformed_text m)) (sym same) ended.answers in
-    let w = wrote_then took.wrote (wrote_step ended.certificate) in
+    let w = wrote_then took.wrote (wrote_step ended.certificate.step) in
     let P : List Command → Type 0 = λ cs. Reached script.0 script.1 budget cs (length script.0 + 1) s took.answered took.steps in
     record {
       answered = took.answered ++ malformed_text summary.malformed;
       answers = took_more a.answers b.answers c.answers took.answered (malformed_text summary.malformed) took.took last;
       certified = w.text;
-      certificate = w.took;
+      certificate = w.sent;
+      none = ended.certificate.none;
       answers_flushed = ended.answers_flushed;
-      certificate_flushed = ended.certificate_flushed;
+      certificate_flushed = ended.certificate.flushed;
       run = λ simple. run_reached script.0 script.1 script.2 budget (length script.0 + 1) s summary took.answered w.text took.steps (subst P (drop-length script.0) (took.reached simple)) refl w.spelt commands refused (same ∙ at) asks;
     }
 
@@ -164,9 +166,14 @@ answered_if (Ok summary) script budget x y a b e f =
     enough_all x y (λ text. (answered : List ℕ) × Takes a.answers b.answers answered × Answers text budget summary answered) e.0 e.1 (f.answered, f.answers, says)
 answered_if (Err fault) script budget x y a b e f = tt
 
-pub backed_if : (r : Result Summary RunFault) (script : CappedScript) (budget : ℕ) (x y : Reader) (a b : Both) → IsScriptOf (GaveAll x y) script
-    → IfOk r (λ summary. Finishes script budget summary a b) → OnOk r (Backed (x, y) (a.answers, b.answers) (a.certificate, b.certificate))
-backed_if (Ok summary) script budget x y a b e f =
+sent_all : (a b : Sink) (text : List ℕ) → a.waiting ≡ [] → b.waiting ≡ [] → Sent a b text → Takes a.writer b.writer text
+sent_all a b text e f s =
+    let same : text ≡ s.fresh = sym (ap (λ (w : List ℕ). w ++ text) e) ∙ s.flows ∙ ap (λ (w : List ℕ). s.fresh ++ w) f ∙ append-nil s.fresh in
+    subst (Takes a.writer b.writer) (sym same) s.takes
+
+pub backed_if : (r : Result Summary RunFault) (script : CappedScript) (budget : ℕ) (x y : Reader) (a b : Both) → IsScriptOf (GaveAll x y) script → a.certificate.waiting ≡ []
+    → IfOk r (λ summary. Finishes script budget summary a b) → OnOk r (Backed (x, y) (a.answers, b.answers) (a.certificate.writer, b.certificate.writer))
+backed_if (Ok summary) script budget x y a b e none f =
     let run = run_of e.0 script budget summary f.answered f.certified e.2 f.run in
     let backs : Backs e.0 f.answered f.certified = record {
       outcomes = run.outcomes;
@@ -176,12 +183,12 @@ backed_if (Ok summary) script budget x y a b e f =
       certificate = run.certificate;
       certifies = run.certifies;
     } in
-    enough_all x y (λ text. (answered : List ℕ) × (certified : List ℕ) × Takes a.answers b.answers answered × Takes a.certificate b.certificate certified × Backs text answered certified)
-    e.0 e.1 (f.answered, f.certified, f.answers, f.certificate, backs)
-backed_if (Err fault) script budget x y a b e f = tt
+    enough_all x y (λ text. (answered : List ℕ) × (certified : List ℕ) × Takes a.answers b.answers answered × Takes a.certificate.writer b.certificate.writer certified × Backs text answered certified)
+    e.0 e.1 (f.answered, f.certified, f.answers, sent_all a.certificate b.certificate f.certified none f.none f.certificate, backs)
+backed_if (Err fault) script budget x y a b e none f = tt
 
 pub flushed_if : (r : Result Summary RunFault) (script : CappedScript) (budget : ℕ) (a b : Both) → IfOk r (λ summary. Finishes script budget summary a b)
-    → OnOk r ((b.answers.flushed ≡ true) × (b.certificate.flushed ≡ true))
+    → OnOk r ((b.answers.flushed ≡ true) × (b.certificate.writer.flushed ≡ true))
 flushed_if (Ok summary) script budget a b f = (f.answers_flushed, f.certificate_flushed)
 flushed_if (Err fault) script budget a b f = tt
 
@@ -200,9 +207,9 @@ pub answers_fault : (r : Result Summary RunFault) (many : Type 0) (a b : Both) �
 answers_fault (Ok x) many a b h k = absurd (cc)
 answers_fault (Err e) many a b h k = let m : e ≡ fault.AnswersWrite = cc in let x = subst (λ f. FailsOnce f many a b) m h in (x.0.0, x.0.1)
 
-pub certificate_fault : (r : Result Summary RunFault) (many : Type 0) (a b : Both) → AnswersAll r many a b → IsErrOf r fault.CertificateWrite → WriteFails a.certificate b.certificate
+pub certificate_fault : (r : Result Summary RunFault) (many : Type 0) (a b : Both) → AnswersAll r many a b → IsErrOf r fault.CertificateWrite → WriteFails a.certificate.writer b.certificate.writer
 certificate_fault (Ok x) many a b h k = absurd (cc)
-certificate_fault (Err e) many a b h k = let m : e ≡ fault.CertificateWrite = cc in let x = subst (λ f. FailsOnce f many a b) m h in (x.0.0, x.0.1)
+certificate_fault (Err e) many a b h k = let m : e ≡ fault.CertificateWrite = cc in let x = subst (λ f. FailsOnce f many a b) m h in (x.0.0.0, x.0.0.1)
 
 pub no_full_store : (r : Result Summary RunFault) (many : Type 0) (a b : Both) → AnswersAll r many a b → IsErrOf r fault.StoreFull → ⊥
 no_full_store (Ok x) many a b h k = absurd (cc)
@@ -226,7 +233,7 @@ kept_answers (Err fault.OutOfMemory) many a b h = inr h.0.0
 kept_answers (Err fault.StoreFull) many a b h = absurd h
 kept_answers (Err fault.CounterEnd) many a b h = inr h.1.0.0
 
-pub kept_certificate : (r : Result Summary RunFault) (many : Type 0) (a b : Both) → AnswersAll r many a b → IsErrOf r fault.CertificateWrite ⊎ (b.certificate.failures ≡ a.certificate.failures)
+pub kept_certificate : (r : Result Summary RunFault) (many : Type 0) (a b : Both) → AnswersAll r many a b → IsErrOf r fault.CertificateWrite ⊎ (b.certificate.writer.failures ≡ a.certificate.writer.failures)
 kept_certificate (Ok x) many a b h = inr h.1.0
 kept_certificate (Err fault.ScriptRead) many a b h = absurd h
 kept_certificate (Err fault.AnswersWrite) many a b h = inr h.1.0
@@ -237,16 +244,16 @@ kept_certificate (Err fault.CounterEnd) many a b h = inr h.1.1.0
 
 -- LENT WRITERS
 
-loans_failed : (e : RunFault) (many : Type 0) (a b : Both) → FailsOnce e many a b → (b.answers.loans ≡ a.answers.loans) × (b.certificate.loans ≡ a.certificate.loans)
+loans_failed : (e : RunFault) (many : Type 0) (a b : Both) → FailsOnce e many a b → b.certificate.writer.loans ≡ a.certificate.writer.loans
 loans_failed fault.ScriptRead many a b h = absurd h
-loans_failed fault.AnswersWrite many a b h = (h.0.2, h.1.1)
-loans_failed fault.CertificateWrite many a b h = (h.1.1, h.0.2)
-loans_failed fault.OutOfMemory many a b h = (h.0.1, h.1.1)
+loans_failed fault.AnswersWrite many a b h = h.1.1
+loans_failed fault.CertificateWrite many a b h = h.0.0.2
+loans_failed fault.OutOfMemory many a b h = h.1.1
 loans_failed fault.StoreFull many a b h = absurd h
-loans_failed fault.CounterEnd many a b h = (h.1.0.1, h.1.1.1)
+loans_failed fault.CounterEnd many a b h = h.1.1.1
 
-loans_kept : (r : Result Summary RunFault) (many : Type 0) (a b : Both) → AnswersAll r many a b → (b.answers.loans ≡ a.answers.loans) × (b.certificate.loans ≡ a.certificate.loans)
-loans_kept (Ok s) many a b h = (h.0.1, h.1.1)
+loans_kept : (r : Result Summary RunFault) (many : Type 0) (a b : Both) → AnswersAll r many a b → b.certificate.writer.loans ≡ a.certificate.writer.loans
+loans_kept (Ok s) many a b h = h.1.1
 loans_kept (Err e) many a b h = loans_failed e many a b h
 
 unlent_names : (a b : Writer) (given back : ℕ) → (lent_writer back b).loans ≡ (lent_writer given a).loans → given ≡ back
@@ -268,8 +275,8 @@ unlent_one a b given back p = (p.0, p.1, unlent_loans a b given back p.2)
 module _ (x y a b : Writer) (given back : ℕ) where
   lent_fault : (e : RunFault) (many : Type 0) → FailsOnce e many (pair x (lent_writer given a)) (pair y (lent_writer back b)) → FailsOnce e many (pair x a) (pair y b)
   lent_fault fault.ScriptRead many h = h
-  lent_fault fault.AnswersWrite many h = (h.0, unlent_none a b given back h.1)
-  lent_fault fault.CertificateWrite many h = (unlent_one a b given back h.0, h.1)
+  lent_fault fault.AnswersWrite many h = (h.0, unlent_none a b given back h.1, h.2)
+  lent_fault fault.CertificateWrite many h = ((unlent_one a b given back h.0.0, h.0.1), h.1)
   lent_fault fault.OutOfMemory many h = (h.0, unlent_none a b given back h.1)
   lent_fault fault.StoreFull many h = h
   lent_fault fault.CounterEnd many h = (h.0, (h.1.0, unlent_none a b given back h.1.1))
@@ -284,7 +291,8 @@ module _ (x y a b : Writer) (given back : ℕ) where
     answered = f.answered;
     answers = f.answers;
     certified = f.certified;
-    certificate = unlent_takes a b given back f.certified f.certificate;
+    certificate = record { fresh = f.certificate.fresh; flows = f.certificate.flows; takes = unlent_takes a b given back f.certificate.fresh f.certificate.takes };
+    none = refl;
     answers_flushed = f.answers_flushed;
     certificate_flushed = f.certificate_flushed;
     run = f.run;
@@ -292,12 +300,87 @@ module _ (x y a b : Writer) (given back : ℕ) where
   lent_done (Err e) script budget f = tt
 
 -- given back, it is what it was at the end of the loan
-pub sums_up_lent : {C : Type 0} (seen : C → Writer) (x y : Writer) (a z v : C) (given back : ℕ) → (given ≡ back → z ≡ v) → (r : Result Summary RunFault) (script : CappedScript) (budget : ℕ)
+sums_up_lent : {C : Type 0} (seen : C → Writer) (x y : Writer) (a z v : C) (given back : ℕ) → (given ≡ back → z ≡ v) → (r : Result Summary RunFault) (script : CappedScript) (budget : ℕ)
     → SumsUp r script budget (pair x (lent_writer given (seen a))) (pair y (lent_writer back (seen v))) → SumsUp r script budget (pair x (seen a)) (pair y (seen z))
 sums_up_lent {C} seen x y a z v given back same r script budget h =
     let many : Type 0 = IsOverlong script in
-    let is_back : z ≡ v = same (unlent_names (seen a) (seen v) given back (loans_kept r many (pair x (lent_writer given (seen a))) (pair y (lent_writer back (seen v))) h.failures).1) in
+    let is_back : z ≡ v = same (unlent_names (seen a) (seen v) given back (loans_kept r many (pair x (lent_writer given (seen a))) (pair y (lent_writer back (seen v))) h.failures)) in
     subst (λ (w : C). SumsUp r script budget (pair x (seen a)) (pair y (seen w))) (sym is_back) record {
       finishes = lent_done x y (seen a) (seen v) given back r script budget h.finishes;
       failures = lent_all x y (seen a) (seen v) given back r many h.failures;
     }
+
+-- A WRITER OF STEPS, TAKEN APART
+
+-- the writer is what it was, and nothing waits
+module _ (x y v w : Writer) (now : Sink) (none : now.waiting ≡ []) (same : w ≡ now.writer) where
+  idle_none : NoneFailed v now.writer → NoneFailed v w
+  idle_none = subst (NoneFailed v) (sym same)
+
+  idle_done : (script : CappedScript) (budget : ℕ) (s : Summary) → Finishes script budget s (pair x v) (record { answers = y; certificate = now }) → Finishes script budget s (pair x v) (pair y w)
+  idle_done script budget s f = record {
+    answered = f.answered;
+    answers = f.answers;
+    certified = f.certified;
+    certificate = record {
+      fresh = f.certificate.fresh;
+      flows = f.certificate.flows ∙ ap (λ (z : List ℕ). f.certificate.fresh ++ z) none;
+      takes = subst (λ (z : Writer). Takes v z f.certificate.fresh) (sym same) f.certificate.takes;
+    };
+    none = refl;
+    answers_flushed = f.answers_flushed;
+    certificate_flushed = ap (λ (z : Writer). z.flushed) same ∙ f.certificate_flushed;
+    run = f.run;
+  }
+
+more_failed : (a b : Writer) (n : ℕ) → b ≡ a → b.failures ≡ a.failures + 1 → ⊥
+more_failed a b n e f = let k : b.failures ≡ a.failures = ap (λ (z : Writer). z.failures) e in omega arith
+
+module _ (x y v w : Writer) (now : Sink) (idle : now.waiting ≡ [] → w ≡ now.writer) (script : CappedScript) (budget : ℕ) where
+  -- what waited was written out
+  out_fault : (e : RunFault) → Takes now.writer w now.waiting → FailsOnce e (IsOverlong script) (pair x v) (record { answers = y; certificate = now }) → FailsOnce e (IsOverlong script) (pair x v) (pair y w)
+  out_fault fault.ScriptRead p h = h
+  out_fault fault.AnswersWrite p h = (h.0, subst (NoneFailed v) (sym (idle h.2)) h.1, refl)
+  out_fault fault.CertificateWrite p h = ((subst (OneFailed v) (sym (idle h.0.1)) h.0.0, refl), h.1)
+  out_fault fault.OutOfMemory p h = (h.0, (p.failures ∙ h.1.0, p.loans ∙ h.1.1))
+  out_fault fault.StoreFull p h = h
+  out_fault fault.CounterEnd p h = (h.0, (h.1.0, (p.failures ∙ h.1.1.0, p.loans ∙ h.1.1.1)))
+
+  out_all : (r : Result Summary RunFault) → Takes now.writer w now.waiting → SumsUp r script budget (pair x v) (record { answers = y; certificate = now }) → SumsUp r script budget (pair x v) (pair y w)
+  out_all (Ok s) p h =
+      let f = h.finishes in
+      record {
+        finishes = idle_done x y v w now f.none (idle f.none) script budget s f;
+        failures = (h.failures.0, (p.failures ∙ h.failures.1.0, p.loans ∙ h.failures.1.1));
+      }
+  out_all (Err e) p h = record { finishes = tt; failures = out_fault e p h.failures }
+
+  -- or that failed
+  broken : (a : Writer) → NoneFailed v now.writer → NoneFailed x y → Breaks now.writer w now.waiting → FailsOnce fault.CertificateWrite (IsOverlong script) (pair x v) (pair y w)
+  broken a p q k = (((k.failures ∙ ap (λ (n : ℕ). n + 1) p.0, k.failed, k.loans ∙ p.1), refl), q)
+
+  broken_fault : (e : RunFault) → Breaks now.writer w now.waiting → FailsOnce e (IsOverlong script) (pair x v) (record { answers = y; certificate = now }) → FailsOnce fault.CertificateWrite (IsOverlong script) (pair x v) (pair y w)
+  broken_fault fault.ScriptRead k h = absurd h
+  broken_fault fault.AnswersWrite k h = absurd (more_failed now.writer w 0 (idle h.2) k.failures)
+  broken_fault fault.CertificateWrite k h = absurd (more_failed now.writer w 0 (idle h.0.1) k.failures)
+  broken_fault fault.OutOfMemory k h = broken v h.1 h.0 k
+  broken_fault fault.StoreFull k h = absurd h
+  broken_fault fault.CounterEnd k h = broken v h.1.1 h.1.0 k
+
+  broken_all : (r : Result Summary RunFault) → Breaks now.writer w now.waiting → SumsUp r script budget (pair x v) (record { answers = y; certificate = now }) → SumsUp (Err fault.CertificateWrite) script budget (pair x v) (pair y w)
+  broken_all (Ok s) k h = absurd (more_failed now.writer w 0 (idle h.finishes.none) k.failures)
+  broken_all (Err e) k h = record { finishes = tt; failures = broken_fault e k h.failures }
+
+  taken_apart : {E : Type 0} (r q : Result Summary RunFault) (written : Result (Unit {0}) E) → Puts now.waiting written now.writer w → (IsOk written → q ≡ r) → (IsErr written → q ≡ Err fault.CertificateWrite)
+      → SumsUp r script budget (pair x v) (record { answers = y; certificate = now }) → SumsUp q script budget (pair x v) (pair y w)
+  taken_apart r q (Ok u) p ok err h = subst (λ (z : Result Summary RunFault). SumsUp z script budget (pair x v) (pair y w)) (sym (ok (search rules))) (out_all r p h)
+  taken_apart r q (Err e) p ok err h = subst (λ (z : Result Summary RunFault). SumsUp z script budget (pair x v) (pair y w)) (sym (err (search rules))) (broken_all r p h)
+
+-- a writer that was lent to a writer of steps
+pub run_into : {C E : Type 0} (seen : C → Writer) (x y : Writer) (a z v : C) (given back : ℕ) (now : Sink) → (given ≡ back → z ≡ v) → (now.waiting ≡ [] → lent_writer back (seen v) ≡ now.writer)
+    → (script : CappedScript) (budget : ℕ) (r q : Result Summary RunFault) (written : Result (Unit {0}) E) → Puts now.waiting written now.writer (lent_writer back (seen v))
+    → (IsOk written → q ≡ r) → (IsErr written → q ≡ Err fault.CertificateWrite)
+    → SumsUp r script budget (pair x (lent_writer given (seen a))) (record { answers = y; certificate = now }) → SumsUp q script budget (pair x (seen a)) (pair y (seen z))
+run_into seen x y a z v given back now same idle script budget r q written puts ok err h =
+    sums_up_lent seen x y a z v given back same q script budget
+    (taken_apart x y (lent_writer given (seen a)) (lent_writer back (seen v)) now idle script budget r q written puts ok err h)

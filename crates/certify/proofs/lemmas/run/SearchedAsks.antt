@@ -5,7 +5,7 @@ use Rattle.std.proofs.lemmas.List.{map-append}
 use Rattle.sat_base.specs.values.Literals.{coded, variable, is_positive}
 use Rattle.sat_base.specs.values.Clauses.{Valuation, EachTrue, literal_true}
 use Rattle.sat_base.specs.script.Judge.{names_from}
-use Rattle.sat_base.specs.device.Device.{Writer}
+use Rattle.sat_base.specs.device.Sink.{Sink}
 use Rattle.certify.specs.declared.search.solve.SearchEnd.TheVariants as found
 use Rattle.certify.specs.declared.summary.Answer.TheVariants as kind
 use Rattle.certify.specs.search.SolverState.{SolverState, HasModel}
@@ -16,8 +16,8 @@ use Rattle.certify.specs.run.Running.{WroteDerived, IsTrueOf}
 use Rattle.certify.proofs.lemmas.run.NamesOfLiterals.{variable_coded}
 use Rattle.certify.proofs.lemmas.run.FirstNames.{names_push}
 
-pub wrote_derived : (n count : ℕ) (old new : Writer) → WritesDerived n count old new → WroteDerived n old new
-wrote_derived n count old new w = record { derived = w.steps; are_derived = w.derived; wrote = record { text = w.text; spelt = w.spells; took = w.took } }
+pub wrote_derived : (n count : ℕ) (old new : Sink) → WritesDerived n count old new → WroteDerived n old new
+wrote_derived n count old new w = record { derived = w.steps; are_derived = w.derived; wrote = record { text = w.text; spelt = w.spells; sent = w.sent } }
 
 pub ruleset finding = (wrote_derived)
 

@@ -5,8 +5,8 @@ use Rattle.std.proofs.lemmas.Bool.{false≢true}
 use Rattle.std.proofs.lemmas.List.{append-nil, length-append}
 use Rattle.sat_base.specs.steps.Steps.{Step, AtClause}
 use Rattle.sat_base.specs.steps.StepText.{SpellsStep, SpellsSteps}
-use Rattle.sat_base.specs.device.Device.{Writer, Takes}
-use Rattle.sat_base.proofs.lemmas.device.Writes.{took_none, took_more}
+use Rattle.sat_base.specs.device.Sink.{Sink, Sent}
+use Rattle.sat_base.proofs.lemmas.device.Sending.{sent_none, sent_more}
 use Rattle.certify.specs.declared.search.propagate.RoundEnd.TheVariants.{Conflict, Model}
 use Rattle.certify.specs.declared.search.solve.SearchEnd.TheVariants.{Sat, Unsat, Unknown}
 use Rattle.certify.specs.search.SolverState.{SolverState, AllowsSame, RoundSays}
@@ -22,31 +22,31 @@ derived_both : (n : ℕ) (xs ys : List Step) → AllByRecursion (IsDerived n) xs
 derived_both n [] ys h k = k
 derived_both n (x ∷ xs) ys h k = (h.0, derived_both n xs ys h.1 k)
 
-pub none_derived : (n : ℕ) (w : Writer) → WritesDerived n 0 w w
-none_derived n w = record { steps = []; many = refl; derived = tt; text = []; spells = refl; took = took_none w }
+pub none_derived : (n : ℕ) (w : Sink) → WritesDerived n 0 w w
+none_derived n w = record { steps = []; many = refl; derived = tt; text = []; spells = refl; sent = sent_none w }
 
-pub one_derived : (n : ℕ) (clause hashes : List ℕ) (old new : Writer) → IsBounded n clause → (text : List ℕ) → SpellsStep (AtClause false clause hashes) text → Takes old new text → WritesDerived n 1 old new
-one_derived n clause hashes old new bounded text spells took = record {
+pub one_derived : (n : ℕ) (clause hashes : List ℕ) (old new : Sink) → IsBounded n clause → (text : List ℕ) → SpellsStep (AtClause false clause hashes) text → Sent old new text → WritesDerived n 1 old new
+one_derived n clause hashes old new bounded text spells sent = record {
   steps = AtClause false clause hashes ∷ [];
   many = refl;
   derived = ((clause, hashes, refl, bounded), tt);
   text = text;
   spells = (text, [], spells, refl, sym (append-nil text));
-  took = took;
+  sent = sent;
 }
 
-more_derived : (n count : ℕ) (a b c : Writer) → WritesDerived n count a b → WritesDerived n 1 b c → WritesDerived n (count + 1) a c
+more_derived : (n count : ℕ) (a b c : Sink) → WritesDerived n count a b → WritesDerived n 1 b c → WritesDerived n (count + 1) a c
 more_derived n count a b c x y = record {
   steps = x.steps ++ y.steps;
   many = length-append x.steps y.steps ∙ (let p = x.many in let q = y.many in omega arith);
   derived = derived_both n x.steps y.steps x.derived y.derived;
   text = x.text ++ y.text;
   spells = items_both x.steps y.steps x.text y.text x.spells y.spells;
-  took = took_more a b c x.text y.text x.took y.took;
+  sent = sent_more a b c x.text y.text x.sent y.sent;
 }
 
 -- what is known of an ask after so many rounds
-pub record Asking (spent budget : ℕ) (old now : SolverState) (before after : Writer) : Type 0 where
+pub record Asking (spent budget : ℕ) (old now : SolverState) (before after : Sink) : Type 0 where
   pub same : AllowsSame old now
   pub known : old.unsat ≡ true → (spent ≡ 0) × (now.unsat ≡ true)
   pub var_count : now.var_count ≡ old.var_count
@@ -54,7 +54,7 @@ pub record Asking (spent budget : ℕ) (old now : SolverState) (before after : W
   pub within : spent ≤ steps_left budget old.rounds
   pub written : WritesDerived old.var_count spent before after
 
-pub asking_start : (budget : ℕ) (s : SolverState) (w : Writer) → Asking 0 budget s s w w
+pub asking_start : (budget : ℕ) (s : SolverState) (w : Sink) → Asking 0 budget s s w w
 asking_start budget s w = record {
   same = record { onwards = λ a h. h; back = λ a h. h };
   known = λ e. (refl, e);
@@ -67,7 +67,7 @@ asking_start budget s w = record {
 same_further : (x y z : SolverState) → AllowsSame x y → AllowsSame y z → AllowsSame x z
 same_further x y z f g = record { onwards = λ a h. g.onwards a (f.onwards a h); back = λ a h. f.back a (g.back a h) }
 
-module _ (spent budget : ℕ) (old now : SolverState) (before after : Writer) (asking : Asking spent budget old now before after) where
+module _ (spent budget : ℕ) (old now : SolverState) (before after : Sink) (asking : Asking spent budget old now before after) where
   not_known : {P : Type 0} → now.unsat ≡ false → old.unsat ≡ true → P
   not_known going was = absurd (false≢true (sym going ∙ (asking.known was).1))
 
@@ -101,7 +101,7 @@ module _ (spent budget : ℕ) (old now : SolverState) (before after : Writer) (a
     within = omega arith;
   }
 
-  pub asking_more : (new : SolverState) (later : Writer) → now.unsat ≡ false → spent ≢ budget → now.rounds < 2 ^ 64 - 1 → RoundSays Conflict now new → new.rounds ≡ now.rounds + 1 → new.var_count ≡ now.var_count → WritesDerived old.var_count 1 after later → Asking (spent + 1) budget old new before later
+  pub asking_more : (new : SolverState) (later : Sink) → now.unsat ≡ false → spent ≢ budget → now.rounds < 2 ^ 64 - 1 → RoundSays Conflict now new → new.rounds ≡ now.rounds + 1 → new.var_count ≡ now.var_count → WritesDerived old.var_count 1 after later → Asking (spent + 1) budget old new before later
   asking_more new later going room count says rounds var_count wrote = let was = asking.rounds in let below = asking.within in record {
     same = same_further old now new asking.same says.0;
     known = λ was. not_known going was;

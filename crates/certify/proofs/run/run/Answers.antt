@@ -1,3 +1,4 @@
+use Rattle.std.proofs.Common.{refl}
 use Rattle.certify.specs.run.Outputs.{pair}
 use Rattle.certify.specs.run.Running.{IsOverlong}
 use Rattle.certify.proofs.lemmas.run.FinishedRuns.{answered_if, backed_if, flushed_if, no_script_fault, answers_fault, certificate_fault, no_full_store, counter_ends, kept_answers, kept_certificate}
@@ -11,7 +12,7 @@ returns-clause-answered g c =
 pub returns-clause-certified : goal.returns-clause-certified
 returns-clause-certified g c =
     backed_if c.answer_lent.result c.in_ok-commands.commands c.args.budget (g.S.CountedRead.seen c.args.script.now) (g.S.CountedRead.seen c.load.new.script) (pair (g.A.CountedWrite.seen c.args.answers.now) (g.C.CountedWrite.seen c.args.certificate.now)) (pair (g.A.CountedWrite.seen c.answer_lent.new.answers) (g.C.CountedWrite.seen c.answer_lent.new.certificate))
-    c.in_ok-commands.ensures.script c.answer_lent.ensures.finishes
+    c.in_ok-commands.ensures.script refl c.answer_lent.ensures.finishes
 
 pub returns-clause-flushed : goal.returns-clause-flushed
 returns-clause-flushed g c = flushed_if c.answer_lent.result c.in_ok-commands.commands c.args.budget (pair (g.A.CountedWrite.seen c.args.answers.now) (g.C.CountedWrite.seen c.args.certificate.now)) (pair (g.A.CountedWrite.seen c.answer_lent.new.answers) (g.C.CountedWrite.seen c.answer_lent.new.certificate)) c.answer_lent.ensures.finishes

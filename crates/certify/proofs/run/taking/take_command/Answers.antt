@@ -9,7 +9,7 @@ use Rattle.certify.proofs.run.taking.take_command.Goals as goal
 pub returns-then-not-are_within-clause-took : goal.returns-then-not-are_within-clause-took
 returns-then-not-are_within-clause-took g c =
     let w : are_within (names_of c.in-Clause.literals.now) ≡ false = first_of (grind (arith, common_steps), search rules) in
-    rw c.in-Clause.is (took_refused c.refuse.result c.in-Clause.literals.now c.args.number c.args.budget c.args.session.now c.refuse.new.session (both g.A.CountedWrite.seen g.C.CountedWrite.seen c.args.out.now) _ w c.refuse.ensures.left c.refuse.ensures.answers refl)
+    rw c.in-Clause.is (took_refused c.refuse.result c.in-Clause.literals.now c.args.number c.args.budget c.args.session.now c.refuse.new.session (both g.A.CountedWrite.seen g.C.CountedWrite.seen c.args.out.now) _ w c.refuse.ensures.left c.refuse.ensures.told)
 
 pub returns-else-not-are_within-clause-took : goal.returns-else-not-are_within-clause-took
 returns-else-not-are_within-clause-took g c =
