@@ -1,3 +1,4 @@
 pub mod Maps
 pub mod VarData
 pub mod Facing
+pub mod Flags

@@ -1,5 +1,6 @@
 //! Lists that the solver's parts use for a while.
-ghost use Rattle.std.specs.Prelude.{◌≡◌, ◌*◌, ◌-◌, ◌≤◌, ◌++◌, [], take, OnOk, OnErr, false, length, replicate};
+ghost use Rattle.std.specs.Prelude.{◌≡◌, ◌≤◌, [], OnOk, OnErr};
+ghost use Rattle.sat_store.specs.variables.Flags.{flags_for};
 ghost use Rattle.sat_base.specs.values.Literals.{largest};
 
 use sat_base::Lit;
@@ -44,7 +45,7 @@ impl TmpFlags {
     /// Makes it two flags for each of so many variables: new ones are false, those past the count are dropped.
     pub fn set_var_count(&mut self, count: usize) -> Result<(), AllocError>
         requires { count ≤ largest }
-        ensures flags { OnOk result (self.new.flags.items ≡ take (2 * count) self.old.flags.items ++ replicate (2 * count - length self.old.flags.items) false) }
+        ensures flags { OnOk result (self.new.flags.items ≡ flags_for count self.old.flags.items) }
         ensures kept { OnErr result (self.new.flags.items ≡ self.old.flags.items) }
     {
         self.flags.resize(2 * count, false)

@@ -192,11 +192,11 @@ impl Vsids {
 impl Iterator for Vsids {
     type Item = Var;
 
-    ghost use Rattle.std.specs.Prelude.{◌≡◌, MatchOption, false, count_by};
+    ghost use Rattle.std.specs.Prelude.{count_by};
     ghost use Rattle.std.specs.Iterator.{at_most};
-    ghost use Rattle.sat_store.specs.heap.Vsids.{IsFirst, NoneLeft, with_available};
+    ghost use Rattle.sat_store.specs.heap.Vsids.{Picks};
 
-    ghost next_gives = { λ q result after. MatchOption result (NoneLeft q × (after ≡ q)) (λ v. IsFirst q v × (after ≡ with_available v false q)) };
+    ghost next_gives = { Picks };
 
     ghost remaining = { λ q. at_most (count_by (λ b. b) q.available) };
 

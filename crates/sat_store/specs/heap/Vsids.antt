@@ -1,5 +1,5 @@
 -- Variables by activity.
-use Rattle.std.specs.Prelude.{◌≡◌, ℕ, ◌+◌, ◌-◌, ◌*◌, ◌/◌, ◌^◌, ◌<◌, ◌≤◌, ◌⊎◌, Bool, true, false, nat_lt, if◌then◌else◌, List, [], ◌++◌, length, map, max, replicate, slice_index_or as get_or, slice_set as set}
+use Rattle.std.specs.Prelude.{◌≡◌, ℕ, ◌+◌, ◌-◌, ◌*◌, ◌/◌, ◌^◌, ◌<◌, ◌≤◌, ◌⊎◌, Bool, true, false, nat_lt, if◌then◌else◌, Option, MatchOption, List, [], ◌++◌, length, map, max, replicate, slice_index_or as get_or, slice_set as set}
 
 -- of each variable whether it may be picked, and its activity; what a bump adds; by how many thousandths activities decay
 pub record Queue : Type 0 where
@@ -58,3 +58,7 @@ pub record IsFirst (q : Queue) (v : ℕ) : Type 0 where
 -- none is to be picked
 abbrev pub NoneLeft : Queue → Type 0
 NoneLeft q = (v : ℕ) → may_pick q v ≡ false
+
+-- a call of next: the variable that goes before all others, which isn't to be picked from then on, or none where none is left
+abbrev pub Picks : Queue → Option ℕ → Queue → Type 0
+Picks q result after = MatchOption result (NoneLeft q × (after ≡ q)) (λ v. IsFirst q v × (after ≡ with_available v false q))
