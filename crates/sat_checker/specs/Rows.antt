@@ -2,7 +2,7 @@
 use Rattle.std.specs.Prelude.{ℕ, ◌≡◌, true, false, Option, Some, None, List, [], ◌∷◌, ◌++◌, map}
 use Rattle.sat_base.specs.values.Hashes.{hash_of}
 use Rattle.sat_base.specs.steps.Steps.{Redundant, Simplified, Satisfied, Step, SolverVarName, UserVarName, DeleteVar, ChangeSamplingMode, AddClause, AtClause, UnitClauses, DeleteClause, ChangeHashBits, Model, Assumptions, FailedAssumptions, End}
-use Rattle.sat_checker.specs.Stored.{Stored, hash_by}
+use Rattle.sat_checker.specs.Stored.{Stored, Witness, UnitClause, hash_by, is_known, mode_of}
 use Rattle.sat_checker.specs.Accepts.{Accepts, AcceptsAll, stored_after, ready_after}
 
 -- steps in the order of the certificate, taken one after another
@@ -191,3 +191,75 @@ BothSigns = AllAccepted (Assumptions (0 ∷ 1 ∷ []) ∷ FailedAssumptions (0 �
 
 abbrev pub NotAssumed : Type 0
 NotAssumed = LastRefused (Assumptions (0 ∷ []) ∷ []) (FailedAssumptions (0 ∷ 1 ∷ []) [])
+
+-- a clause is found by the hash over solver names, also by one that a deleted variable left
+abbrev pub by_solver_name : List Step
+by_solver_name = AddClause (0 ∷ 2 ∷ []) ∷ SolverVarName 0 (Some 5) ∷ AddClause (1 ∷ []) ∷ AtClause true (2 ∷ []) (hash_of (10 ∷ 2 ∷ []) ∷ []) ∷ []
+
+abbrev pub BySolverName : Type 0
+BySolverName = AllAccepted by_solver_name
+
+abbrev pub ByNameLeft : Type 0
+ByNameLeft = AllAccepted (AddClause (0 ∷ []) ∷ SolverVarName 0 (Some 5) ∷ DeleteVar 0 ∷ AddClause (0 ∷ 2 ∷ []) ∷ AddClause (1 ∷ []) ∷ AtClause true (2 ∷ []) (hash_of (10 ∷ 2 ∷ []) ∷ []) ∷ [])
+
+-- two units in one step, the second by the first; they aren't the last irredundant clause
+abbrev pub for_units : List Step
+for_units = AddClause (1 ∷ 2 ∷ []) ∷ AddClause (3 ∷ 4 ∷ []) ∷ AddClause (0 ∷ []) ∷ []
+
+abbrev pub two_units : List Step
+two_units = for_units ++ UnitClauses ((2, hash_of (1 ∷ 2 ∷ [])) ∷ (4, hash_of (3 ∷ 4 ∷ [])) ∷ []) ∷ []
+
+abbrev pub TwoUnits : Type 0
+TwoUnits = AllAccepted two_units × (map (λ u. u.id) (left_by two_units).units ≡ 2 ∷ 3 ∷ 4 ∷ []) × ((left_by two_units).last ≡ UnitClause 2)
+
+abbrev pub UnitsTurned : Type 0
+UnitsTurned = LastRefused for_units (UnitClauses ((4, hash_of (3 ∷ 4 ∷ [])) ∷ (2, hash_of (1 ∷ 2 ∷ [])) ∷ []))
+
+-- a duplicate becomes the last irredundant clause
+abbrev pub ByDuplicate : Type 0
+ByDuplicate = AllAccepted (AddClause (0 ∷ 2 ∷ []) ∷ AddClause (0 ∷ 2 ∷ 4 ∷ []) ∷ AddClause (2 ∷ 0 ∷ []) ∷ DeleteClause (0 ∷ 2 ∷ 4 ∷ []) Simplified ∷ [])
+
+-- two counts, one after the other
+abbrev pub twice_counted : List Step
+twice_counted = AddClause (0 ∷ []) ∷ AddClause (0 ∷ 2 ∷ []) ∷ AtClause true (0 ∷ 2 ∷ []) [] ∷ DeleteClause (0 ∷ 2 ∷ []) Satisfied ∷ []
+
+abbrev pub TwoCounts : Type 0
+TwoCounts = AllAccepted (twice_counted ++ DeleteClause (0 ∷ 2 ∷ []) Redundant ∷ [])
+    × ((left_by twice_counted).clauses ≡ record { id = 1; literals = 0 ∷ 2 ∷ []; irredundant = 0; redundant = 1 } ∷ []) × ((left_by (twice_counted ++ DeleteClause (0 ∷ 2 ∷ []) Redundant ∷ [])).clauses ≡ [])
+
+-- the last irredundant clause is there while one count is left
+abbrev pub ByOneCount : Type 0
+ByOneCount = AllAccepted (AddClause (0 ∷ []) ∷ AddClause (0 ∷ 2 ∷ 4 ∷ []) ∷ AddClause (0 ∷ 2 ∷ []) ∷ AtClause true (0 ∷ 2 ∷ []) [] ∷ DeleteClause (0 ∷ 2 ∷ []) Satisfied ∷ DeleteClause (0 ∷ 2 ∷ 4 ∷ []) Simplified ∷ [])
+
+-- once unsat is recorded, an input clause does nothing; a tautology makes known, and takes an id as an input clause alone
+abbrev pub BehindUnsat : Type 0
+BehindUnsat = let steps : List Step = AddClause [] ∷ AddClause (0 ∷ []) ∷ [] in AllAccepted steps × ((left_by steps).next_id ≡ 1) × (is_known 0 (left_by steps) ≡ false)
+
+abbrev pub Tautologies : Type 0
+Tautologies = let input : List Step = AddClause (0 ∷ 1 ∷ []) ∷ [] in let derived : List Step = AtClause false (2 ∷ 3 ∷ []) [] ∷ [] in
+    AllAccepted input × ((left_by input).next_id ≡ 1) × (is_known 0 (left_by input) ≡ true) × ((left_by input).clauses ≡ [])
+    × AllAccepted derived × ((left_by derived).next_id ≡ 0) × (is_known 1 (left_by derived) ≡ true) × ((left_by derived).clauses ≡ [])
+
+-- a witness variable gets a name and stays one; an unknown variable gets no mode
+abbrev pub WitnessNamed : Type 0
+WitnessNamed = let steps : List Step = Assumptions (0 ∷ []) ∷ ChangeSamplingMode 0 false ∷ UserVarName 0 (Some 7) ∷ [] in AllAccepted steps × (mode_of 0 (left_by steps) ≡ Witness)
+
+abbrev pub UnknownMode : Type 0
+UnknownMode = LastRefused [] (ChangeSamplingMode 0 true)
+
+-- an empty bucket behind the conflict is no bar, and one before it is
+abbrev pub two_clauses : List Step
+two_clauses = AddClause (0 ∷ 2 ∷ []) ∷ AddClause (0 ∷ 3 ∷ []) ∷ []
+
+abbrev pub EmptyBehind : Type 0
+EmptyBehind = AllAccepted (two_clauses ++ AtClause false (0 ∷ []) (hash_of (0 ∷ 2 ∷ []) ∷ hash_of (0 ∷ 3 ∷ []) ∷ 5 ∷ []) ∷ [])
+
+abbrev pub EmptyBefore : Type 0
+EmptyBefore = LastRefused two_clauses (AtClause false (0 ∷ []) (5 ∷ hash_of (0 ∷ 2 ∷ []) ∷ hash_of (0 ∷ 3 ∷ []) ∷ []))
+
+-- a unit that isn't stored isn't the last irredundant clause, one that is stored is
+abbrev pub LastBehindConflict : Type 0
+LastBehindConflict = AllAccepted (AddClause (0 ∷ []) ∷ AddClause (2 ∷ 4 ∷ 6 ∷ []) ∷ AddClause (2 ∷ 4 ∷ []) ∷ AddClause (1 ∷ []) ∷ DeleteClause (2 ∷ 4 ∷ 6 ∷ []) Simplified ∷ [])
+
+abbrev pub LastUnit : Type 0
+LastUnit = LastRefused (AddClause (2 ∷ 4 ∷ []) ∷ AddClause (0 ∷ []) ∷ AddClause (1 ∷ []) ∷ []) (DeleteClause (2 ∷ 4 ∷ []) Simplified)

@@ -1,6 +1,6 @@
 //! What holds of the definitions: each law is the contract of a function that does nothing.
 ghost use Rattle.sat_checker.specs.Laws.{CoresAssumed, CoresFail, DeletedIsNameless, DeletionIsSeen, FormulaIsFold, KnownStays, ModelsExtend, NamedIsKnown, NamesApart, UnknownIsUnknown, UnsatMeansNone};
-ghost use Rattle.sat_checker.specs.Rows.{Assumed, BothSigns, HiddenAdded, HiddenNamed, InClause, ModelAgainstUnit, ModelTwice, ModelWithoutClause, Modelled, NameTaken, NamedTwiceOver, NoNameTaken, NoRedundantCount, NotAssumed, SimplifiedByGone, SimplifiedByItself, SimplifiedByPart, UnitForgotten, Unknown, WitnessAdded, WithName, Colliding, ConflictAndUnit, EndAlone, FourClauses, HashesOfOneTwo, NamedAgain, NamedOnce, NamedTwice, Refuted, RefutedAtZero, SolverNamesHash, StoredTwice, UnitConflict};
+ghost use Rattle.sat_checker.specs.Rows.{Assumed, BehindUnsat, BothSigns, ByDuplicate, ByNameLeft, ByOneCount, BySolverName, Colliding, ConflictAndUnit, EmptyBefore, EmptyBehind, EndAlone, FourClauses, HashesOfOneTwo, HiddenAdded, HiddenNamed, InClause, LastBehindConflict, LastUnit, ModelAgainstUnit, ModelTwice, ModelWithoutClause, Modelled, NameTaken, NamedAgain, NamedOnce, NamedTwice, NamedTwiceOver, NoNameTaken, NoRedundantCount, NotAssumed, Refuted, RefutedAtZero, SimplifiedByGone, SimplifiedByItself, SimplifiedByPart, SolverNamesHash, StoredTwice, Tautologies, TwoCounts, TwoUnits, UnitConflict, UnitForgotten, UnitsTurned, Unknown, UnknownMode, WithName, WitnessAdded, WitnessNamed};
 
 /// After every list of accepted steps, what is stored means what the steps mean.
 pub fn stored_formula_is_fold()
@@ -77,4 +77,31 @@ pub fn rows_of_answers()
     ensures twice { ModelTwice }
     ensures signs { BothSigns }
     ensures not_assumed { NotAssumed }
+{}
+
+/// Worked rows of hashes over solver names, of units in one step, and of empty buckets.
+pub fn rows_of_buckets()
+    ensures by_name { BySolverName }
+    ensures name_left { ByNameLeft }
+    ensures units { TwoUnits }
+    ensures turned { UnitsTurned }
+    ensures behind { EmptyBehind }
+    ensures before { EmptyBefore }
+{}
+
+/// Worked rows of counts, and of the last irredundant clause.
+pub fn rows_of_counts()
+    ensures duplicate { ByDuplicate }
+    ensures counts { TwoCounts }
+    ensures one_count { ByOneCount }
+    ensures conflict { LastBehindConflict }
+    ensures unit { LastUnit }
+{}
+
+/// Worked rows of steps that leave little.
+pub fn rows_of_effects()
+    ensures unsat { BehindUnsat }
+    ensures tautologies { Tautologies }
+    ensures witness { WitnessNamed }
+    ensures unknown { UnknownMode }
 {}

@@ -1,4 +1,4 @@
-use Rattle.std.proofs.Common.{rules, not, nat_eq}
+use Rattle.std.proofs.Common.{rules}
 use Rattle.std.proofs.lemmas.Fn.{filter_same}
 use Rattle.sat_checker.proofs.index.forget_among.Goals as goal
 

@@ -1,16 +1,14 @@
 -- What accepted models and failed cores mean.
-use Rattle.std.proofs.Common.{ℕ, ◌+◌, ◌-◌, ◌*◌, ◌/◌, ◌%◌, ◌≡◌, Bool, true, false, not, ◌||◌, cond, eqb, List, [], ◌∷◌, ◌++◌, map, refl, sym, ◌∙◌, ap, subst, arith, ◌⊎◌, ◌↔◌, inl, inr}
+use Rattle.std.proofs.Common.{ℕ, ◌*◌, ◌/◌, ◌%◌, ◌≡◌, Bool, true, false, not, ◌||◌, cond, eqb, List, [], ◌∷◌, map, refl, sym, ◌∙◌, ap, subst, arith, ◌⊎◌, inl, inr}
 use Rattle.std.proofs.lemmas.Bool.{or_cases, or_left, or_right, or_parts, both_ways, true≢false, false_from_ne_true, eqb-true, eqb-false, eq-eqb}
 use Rattle.std.specs.List.{AllByRecursion, list_any}
 use Rattle.sat_base.specs.values.Literals.{variable, negated}
 use Rattle.sat_base.specs.values.Clauses.{Valuation, literal_true, clause_true, EachTrue}
-use Rattle.sat_base.specs.steps.Steps.{Step, Model, FailedAssumptions}
 use Rattle.sat_checker.specs.LiteralSets.{is_among, mentions}
 use Rattle.sat_checker.specs.Stored.{Stored, StoredClause, Satisfies, unit_literals}
-use Rattle.sat_checker.specs.Accepts.{VariablesApart, FitsModel, Accepts, AcceptsAll, ready_after}
-use Rattle.sat_checker.specs.Fold.{Holds}
+use Rattle.sat_checker.specs.Accepts.{VariablesApart, FitsModel, ready_after}
 use Rattle.sat_checker.specs.Laws.{FormulaIsFold, UnsatMeansNone, ModelsExtend, CoresFail, CoresAssumed}
-use Rattle.sat_checker.proofs.lemmas.sets.Subsets.{each_true, some_of, any_true}
+use Rattle.sat_checker.proofs.lemmas.sets.Subsets.{each_true, some_of}
 use Rattle.sat_checker.proofs.lemmas.propagation.Soundness.{negated_value, negated-negated, derived_hold, member_true}
 use Rattle.sat_checker.proofs.lemmas.meaning.Clauses.{Kept}
 use Rattle.sat_checker.proofs.lemmas.meaning.Meaning.{means_ready}

@@ -1,19 +1,18 @@
 -- What is stored means what the steps mean.
-use Rattle.std.proofs.Common.{ℕ, ◌+◌, ◌/◌, ◌≡◌, ◌<◌, Bool, true, false, not, ◌||◌, cond, eqb, max, List, [], ◌∷◌, ◌++◌, map, Some, None, Option, is_some, refl, sym, ◌∙◌, ap, subst, arith, ◌⊎◌, inl, inr}
-use Rattle.std.proofs.lemmas.Bool.{cases_Bool, or_cases, or_left, or_right, or_parts, both_ways, true≢false, eqb-true, eqb-false, ne_eqb}
-use Rattle.std.specs.List.{AllByRecursion, list_any}
+use Rattle.std.proofs.Common.{ℕ, ◌+◌, ◌/◌, ◌≡◌, ◌<◌, Bool, true, false, not, cond, eqb, List, [], ◌∷◌, ◌++◌, map, Some, None, Option, refl, sym, ◌∙◌, subst, arith, ◌⊎◌, inl, inr}
+use Rattle.std.proofs.lemmas.Bool.{cases_Bool, or_cases, or_left, or_parts, both_ways, true≢false, eqb-false, ne_eqb}
 use Rattle.sat_base.specs.values.Literals.{variable, negated}
 use Rattle.sat_base.specs.values.Clauses.{Valuation, literal_true, clause_true, flipped, EachTrue, EachHolds}
 use Rattle.sat_base.specs.steps.Steps.{Redundant, Simplified, Satisfied, Step, SolverVarName, UserVarName, DeleteVar, ChangeSamplingMode, AddClause, AtClause, UnitClauses, DeleteClause, ChangeHashBits, Model, Assumptions, FailedAssumptions, End}
-use Rattle.sat_checker.specs.LiteralSets.{is_among, mentions, is_part, is_tautology, canonical, same_literals}
-use Rattle.sat_checker.specs.Stored.{Stored, StoredClause, StoredUnit, Last, NoneYet, Empty, UnitClause, LongClause, Satisfies, is_unit, unit_literals, long_clauses}
-use Rattle.sat_checker.specs.Storing.{with_clause, clause_with, irredundant_count, without_clause, with_unit, with_contradiction, with_new_unit, settled, settled_by, with_long, with_set, place_of, with_canonical, with_stored, with_input, with_units, with_literals_known, without_variable, unit_numbered, last_literals}
-use Rattle.sat_checker.specs.Accepts.{VariablesApart, IsStrictSubset, PassInTurn, Passes, MayBeDeleted, Accepts, AcceptsAll, effect, stored_after, ready_after}
+use Rattle.sat_checker.specs.LiteralSets.{is_among, mentions, is_part, is_tautology, canonical}
+use Rattle.sat_checker.specs.Stored.{Stored, StoredUnit, Last, NoneYet, Empty, UnitClause, LongClause, Satisfies, is_unit, unit_literals, long_clauses}
+use Rattle.sat_checker.specs.Storing.{irredundant_count, without_clause, with_unit, with_contradiction, with_new_unit, settled_by, with_set, place_of, with_canonical, with_stored, with_input, with_units, with_literals_known, without_variable, unit_numbered, last_literals}
+use Rattle.sat_checker.specs.Accepts.{VariablesApart, IsStrictSubset, PassInTurn, Passes, MayBeDeleted, AcceptsAll, effect, stored_after, ready_after}
 use Rattle.sat_checker.specs.Fold.{Holds}
 use Rattle.sat_checker.proofs.lemmas.sets.Subsets.{superset_true}
 use Rattle.sat_checker.proofs.lemmas.propagation.Soundness.{true_among, negated_value, unit_in_clause, tautology_true, derived_hold}
 use Rattle.sat_checker.proofs.lemmas.meaning.Clauses.{Kept, literals_of, canonical_true, more_asks, more_kept, more_true, less_asks, less_kept, less_true, counted_true, others_stay}
-use Rattle.sat_checker.proofs.lemmas.meaning.Deleting.{left, units_of_left, units_left, units_left_flipped, units_either, kept_by_flip, true_by_flip, to_flipped, from_flipped, apart_left}
+use Rattle.sat_checker.proofs.lemmas.meaning.Deleting.{units_of_left, units_left, units_left_flipped, units_either, kept_by_flip, true_by_flip, to_flipped, from_flipped, apart_left}
 use Rattle.sat_checker.proofs.lemmas.meaning.Orderly.{Supported, LastHolds, Orderly, orderly_settled}
 use Rattle.sat_checker.proofs.lemmas.meaning.OrderlySteps.{orderly, strict_differs}
 

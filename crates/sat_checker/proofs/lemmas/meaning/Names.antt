@@ -1,11 +1,11 @@
 -- Which variables are known and have names after accepted steps.
-use Rattle.std.proofs.Common.{ℕ, ◌+◌, ◌≡◌, ◌≢◌, Bool, true, false, not, ◌||◌, cond, eqb, max, List, [], ◌∷◌, map, Option, None, Some, refl, sym, ◌∙◌, ap, subst, ◌⊎◌, inl, inr}
-use Rattle.std.proofs.lemmas.Bool.{cases_Bool, both_ways, true≢false, eqb-true, eqb-false, eq-eqb, ne_eqb}
+use Rattle.std.proofs.Common.{ℕ, ◌≡◌, Bool, true, false, cond, eqb, List, [], ◌∷◌, map, Option, None, Some, refl, sym, ◌∙◌, ap, subst, ◌⊎◌, inl, inr}
+use Rattle.std.proofs.lemmas.Bool.{both_ways, true≢false, eqb-true, eq-eqb}
 use Rattle.sat_base.specs.values.Literals.{variable, negated}
 use Rattle.sat_base.specs.steps.Steps.{Redundant, Simplified, Satisfied, Step, SolverVarName, UserVarName, DeleteVar, ChangeSamplingMode, AddClause, AtClause, UnitClauses, DeleteClause, ChangeHashBits, Model, Assumptions, FailedAssumptions, End}
 use Rattle.sat_checker.specs.LiteralSets.{is_among, is_tautology, canonical}
-use Rattle.sat_checker.specs.Stored.{Stored, Variable, Sample, Witness, Hide, unknown, is_known, name_of, is_unit}
-use Rattle.sat_checker.specs.Storing.{with_set, place_of, with_canonical, with_stored, with_input, with_unit, with_contradiction, with_new_unit, with_units, settled, settled_by, with_known, with_literals_known}
+use Rattle.sat_checker.specs.Stored.{Stored, Variable, Sample, Witness, Hide, unknown, is_known, is_unit}
+use Rattle.sat_checker.specs.Storing.{with_set, with_canonical, with_stored, with_input, with_unit, with_contradiction, with_new_unit, with_units, settled, settled_by, with_known, with_literals_known}
 use Rattle.sat_checker.specs.Accepts.{Accepts, AcceptsAll, effect, stored_after, ready_after}
 use Rattle.sat_checker.specs.Laws.{NamedIsKnown, KnownStays, DeletedIsNameless, NamesApart, UnknownIsUnknown, has_delete_var, DeletionIsSeen}
 

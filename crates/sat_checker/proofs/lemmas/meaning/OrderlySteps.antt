@@ -1,18 +1,18 @@
 -- Accepted steps keep ids and the last irredundant clause in order.
-use Rattle.std.proofs.Common.{ℕ, ◌+◌, ◌≡◌, ◌<◌, Bool, true, false, not, ◌&&◌, ◌||◌, cond, eqb, max, List, [], ◌∷◌, ◌++◌, map, filter, refl, sym, ◌∙◌, ap, subst, arith, ◌⊎◌, inl, inr, Option, None, Some, is_some}
-use Rattle.std.proofs.lemmas.Bool.{or_cases, or_left, or_right, or_parts, both_ways, true≢false, eqb-true, eqb-false, ne_eqb}
+use Rattle.std.proofs.Common.{ℕ, ◌+◌, ◌≡◌, ◌<◌, Bool, true, false, not, ◌&&◌, ◌||◌, cond, eqb, max, List, [], ◌∷◌, ◌++◌, map, refl, sym, ◌∙◌, ap, subst, arith, inl, inr, Option, None, Some}
+use Rattle.std.proofs.lemmas.Bool.{or_cases, or_left, or_right, or_parts, both_ways, true≢false, eqb-true, ne_eqb}
 use Rattle.std.specs.List.{AllByRecursion, list_any}
 use Rattle.sat_base.specs.values.Literals.{variable, negated}
 use Rattle.sat_base.specs.steps.Steps.{Redundant, Simplified, Satisfied, Step, SolverVarName, UserVarName, DeleteVar, ChangeSamplingMode, AddClause, AtClause, UnitClauses, DeleteClause, ChangeHashBits, Model, Assumptions, FailedAssumptions, End}
 use Rattle.sat_checker.specs.LiteralSets.{is_among, mentions, is_part, is_tautology, same_literals, canonical}
 use Rattle.sat_checker.specs.Stored.{StoredClause, StoredUnit, Last, NoneYet, Empty, UnitClause, LongClause, Stored, is_unit, unit_literals}
-use Rattle.sat_checker.specs.Storing.{with_clause, clause_with, irredundant_count, without_count, unless_gone, without_clause, with_unit, with_contradiction, with_new_unit, settled, settled_by, with_set, unit_at, long_at, place_of, with_canonical, with_stored, with_input, with_units, with_literals_known, without_variable, clause_numbered, last_literals}
+use Rattle.sat_checker.specs.Storing.{clause_with, irredundant_count, without_count, unless_gone, without_clause, with_unit, with_contradiction, with_new_unit, settled, with_set, unit_at, long_at, with_canonical, with_stored, with_input, with_units, with_literals_known, without_variable, clause_numbered, last_literals}
 use Rattle.sat_checker.specs.Accepts.{IsStrictSubset, Accepts, AcceptsAll, effect, stored_after}
 use Rattle.sat_checker.specs.inner.Marks.{IsIncreasing}
 use Rattle.sat_checker.proofs.lemmas.sets.Subsets.{subset_canonical, any_true, some_of, any_canonical}
 use Rattle.sat_checker.proofs.lemmas.meaning.Clauses.{same, others_stay, irredundant_stay}
 use Rattle.sat_checker.proofs.lemmas.meaning.Deleting.{IsUnused, left, units_of_left}
-use Rattle.sat_checker.proofs.lemmas.meaning.Orderly.{ids, Supported, LastHolds, LastBelow, Orderly, below_more, last_below_more, last_stays, numbered_above, numbered_itself, below_itself, stored_count, orderly_unit, orderly_set, orderly_settled}
+use Rattle.sat_checker.proofs.lemmas.meaning.Orderly.{ids, Supported, LastHolds, LastBelow, Orderly, below_more, last_below_more, numbered_above, numbered_itself, below_itself, stored_count, orderly_unit, orderly_set, orderly_settled}
 
 -- other fields don't matter
 aside : (f g : Stored) → g.clauses ≡ f.clauses → g.units ≡ f.units → g.unsat ≡ f.unsat → g.last ≡ f.last → g.next_id ≡ f.next_id → Orderly f → Orderly g

@@ -25,11 +25,11 @@ none_some : (n : ℕ) → None ≢ Some n
 none_some n e = cc
 
 -- a clause passes where the walk meets a conflict
-walked : (f : Stored) (clause hashes : List ℕ) → walk_buckets (map negated clause ++ unit_literals f) (map (bucket f) hashes) ≡ true → Passes f clause hashes
+pub walked : (f : Stored) (clause hashes : List ℕ) → walk_buckets (map negated clause ++ unit_literals f) (map (bucket f) hashes) ≡ true → Passes f clause hashes
 walked f clause hashes e = conflict (rule_from_walk (map negated clause ++ unit_literals f) (map (bucket f) hashes) e)
 
 -- and doesn't where there is nothing to pass by
-stuck : (f : Stored) (clause hashes : List ℕ) → is_tautology clause ≡ false → list_any (is_unit f) clause ≡ false → AllByRecursion (AllByRecursion NoRepeats) (map (bucket f) hashes) → walk_buckets (map negated clause ++ unit_literals f) (map (bucket f) hashes) ≡ false → Passes f clause hashes → ⊥
+pub stuck : (f : Stored) (clause hashes : List ℕ) → is_tautology clause ≡ false → list_any (is_unit f) clause ≡ false → AllByRecursion (AllByRecursion NoRepeats) (map (bucket f) hashes) → walk_buckets (map negated clause ++ unit_literals f) (map (bucket f) hashes) ≡ false → Passes f clause hashes → ⊥
 stuck f clause hashes t u n w (tautology e) = both_ways (is_tautology clause) t e
 stuck f clause hashes t u n w (unit_true e) = both_ways (list_any (is_unit f) clause) u e
 stuck f clause hashes t u n w (conflict k) =

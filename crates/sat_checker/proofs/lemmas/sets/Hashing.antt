@@ -1,5 +1,5 @@
 -- Hashes of clauses, one literal after another.
-use Rattle.std.proofs.Common.{ℕ, suc, ◌+◌, ◌-◌, ◌*◌, ◌/◌, ◌%◌, ◌<◌, ◌≡◌, Bool, true, false, cond, eqb, length, drop, get_or, List, map, Option, Some, None, refl, sym, ap, ◌∙◌, arith}
+use Rattle.std.proofs.Common.{ℕ, suc, ◌+◌, ◌*◌, ◌/◌, ◌%◌, ◌<◌, ◌≡◌, Bool, true, false, cond, eqb, length, drop, get_or, List, map, Option, Some, None, refl, sym, ◌∙◌, arith}
 use Rattle.std.proofs.Math.Seq.{drop-cons}
 use Rattle.std.specs.Int.Bits.{bit_xor, xor_assoc}
 use Rattle.std.proofs.lemmas.Bool.{eqb-true, eqb-false}

@@ -1,12 +1,12 @@
 -- Entries of the store and the slots that they mean.
-use Rattle.std.proofs.Common.{ℕ, zero, suc, ◌+◌, ◌-◌, ◌<◌, ◌≤◌, ◌≡◌, Bool, true, false, cond, leb, List, [], ◌∷◌, ◌++◌, length, take, drop, get_or, map, refl, sym, ◌∙◌, ap, subst, arith, length-append, length-drop, slice_range, slice_set, Result, Ok, Err, OnErr}
+use Rattle.std.proofs.Common.{ℕ, suc, ◌+◌, ◌-◌, ◌<◌, ◌≤◌, ◌≡◌, Bool, true, false, cond, leb, List, [], ◌∷◌, ◌++◌, length, take, drop, get_or, map, refl, sym, ◌∙◌, ap, subst, arith, length-append, length-drop, slice_range, slice_set, Result, Ok, Err, OnErr}
 use Rattle.std.proofs.lemmas.List.{get_or-map, length-map, take-append-le, drop-append-le, map-set, map-append}
-use Rattle.std.proofs.lemmas.List.Elements.{All-push, All-set}
+use Rattle.std.proofs.lemmas.List.Elements.{All-push}
 use Rattle.std.proofs.lemmas.Bool.Decides.{nat_tests}
 use Rattle.std.specs.List.{All, AllByRecursion}
 use Rattle.sat_checker.specs.Storing.{with_count, without_count}
 use Rattle.sat_checker.specs.inner.Marks.{IsIncreasing}
-use Rattle.sat_checker.specs.inner.SlotView.{lits_in, LitsWithin, Slot, slot_at, literals_at, all_lits, unstored, with_count_at, without_count_at, with_hash_at}
+use Rattle.sat_checker.specs.inner.SlotView.{lits_in, LitsWithin, Slot, slot_at, all_lits, unstored, with_count_at, without_count_at, with_hash_at}
 use Rattle.sat_checker.specs.inner.EntryView.{slot_of, IsEntry}
 use Rattle.sat_checker.specs.declared.slots.Entry.{Entry}
 use Rattle.sat_checker.specs.declared.slots.ClauseLits.{ClauseLits}

@@ -1,11 +1,9 @@
 -- What the store keeps, as clauses come in and go.
-use Rattle.std.proofs.Common.{ℕ, zero, suc, ◌+◌, ◌*◌, ◌/◌, ◌%◌, ◌-◌, ◌^◌, ◌<◌, ◌≤◌, ◌≡◌, Bool, true, false, not, ◌&&◌, cond, eqb, List, [], ◌∷◌, ◌++◌, length, map, filter, Option, None, Some, refl, sym, ◌∙◌, ap, subst, arith, Result, Ok, Err, IfOk, ◌↔◌, unwrap_or}
-use Rattle.std.proofs.lemmas.Bool.{true≢false, eqb-true}
-use Rattle.std.specs.List.{AllByRecursion}
+use Rattle.std.proofs.Common.{ℕ, ◌+◌, ◌*◌, ◌/◌, ◌%◌, ◌-◌, ◌^◌, ◌≤◌, ◌≡◌, Bool, true, false, not, ◌&&◌, cond, eqb, List, [], ◌∷◌, ◌++◌, map, filter, Option, refl, ◌∙◌, ap, subst, Result, Ok, Err, IfOk, ◌↔◌, unwrap_or}
 use Rattle.sat_base.specs.values.Literals.{variable}
 use Rattle.sat_base.specs.values.Hashes.{hash_of}
 use Rattle.sat_checker.specs.Propagation.{PassesCheck}
-use Rattle.sat_checker.specs.Stored.{Stored, StoredClause, solver_literal, hash_by, bucket, long_clauses}
+use Rattle.sat_checker.specs.Stored.{Stored, solver_literal, hash_by, bucket}
 use Rattle.sat_checker.specs.Looks.{literal_count, total_length}
 use Rattle.sat_checker.specs.HasherView.{solver_name_of, width_of}
 use Rattle.sat_checker.specs.inner.SlotView.{Slot, is_gone, is_filed, all_lits, live, live_length, bucket_in, bucket_of}

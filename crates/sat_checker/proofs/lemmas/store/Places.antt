@@ -1,11 +1,11 @@
 -- The places of hashes, as clauses come in and go.
-use Rattle.std.proofs.Common.{ℕ, zero, suc, ◌+◌, ◌-◌, ◌<◌, ◌≤◌, ◌≡◌, ◌≢◌, Bool, true, false, not, ◌&&◌, cond, eqb, List, [], ◌∷◌, ◌++◌, length, get_or, map, filter, refl, sym, ◌∙◌, ap, subst, arith, slice_set, set}
-use Rattle.std.proofs.lemmas.Bool.{eqb-true, eqb-false, eq-eqb, ne_eqb, and_parts, true≢false, both_ways}
+use Rattle.std.proofs.Common.{ℕ, zero, suc, ◌+◌, ◌<◌, ◌≤◌, ◌≡◌, Bool, true, false, not, ◌&&◌, cond, eqb, List, [], ◌∷◌, ◌++◌, length, get_or, refl, sym, ◌∙◌, ap, arith, slice_set}
+use Rattle.std.proofs.lemmas.Bool.{eqb-true, eqb-false, eq-eqb, ne_eqb}
 use Rattle.std.specs.List.{AllByRecursion}
 use Rattle.sat_checker.specs.Stored.{StoredClause}
-use Rattle.sat_checker.specs.Storing.{with_count, without_count, new_clause}
+use Rattle.sat_checker.specs.Storing.{with_count, without_count}
 use Rattle.sat_checker.specs.inner.IndexView.{without_place}
-use Rattle.sat_checker.specs.inner.SlotView.{Slot, unstored, stored_slot, slot_at, literals_at, count_of, with_count_at, without_count_at, is_gone, is_filed, all_lits, bucket_in, places_from, places_of}
+use Rattle.sat_checker.specs.inner.SlotView.{Slot, unstored, stored_slot, slot_at, count_of, with_count_at, without_count_at, is_gone, is_filed, places_from, places_of}
 
 pub eqb_comm : (x y : ℕ) → eqb x y ≡ eqb y x
 eqb_comm x y = go (eqb x y) refl (eqb y x) refl

@@ -1,8 +1,6 @@
 -- Filing all clauses anew.
 use Rattle.std.proofs.Common.{ℕ, zero, suc, ◌+◌, ◌<◌, ◌≤◌, ◌≡◌, Bool, true, false, not, ◌&&◌, cond, eqb, List, [], ◌∷◌, ◌++◌, length, take, drop, map, Option, refl, sym, ◌∙◌, ap, subst, ◌*◌, arith, slice_set}
-use Rattle.std.proofs.lemmas.Bool.{true≢false, eqb-true, eqb-false, eq-eqb, ne_eqb}
-use Rattle.std.proofs.lemmas.List.{take_more, length-map}
-use Rattle.std.proofs.Math.Seq.{take-length}
+use Rattle.std.proofs.lemmas.Bool.{true≢false}
 use Rattle.sat_checker.specs.Stored.{Stored, hash_by}
 use Rattle.sat_checker.specs.Storing.{unless_gone}
 use Rattle.sat_checker.specs.Looks.{total_length, literal_count}
@@ -11,7 +9,7 @@ use Rattle.sat_checker.specs.inner.StoreView.{AreHashed, KeepsClauses}
 use Rattle.sat_checker.specs.declared.hash.ClauseHasher.{ClauseHasher}
 use Rattle.sat_checker.specs.declared.store.Store.{Store}
 use Rattle.sat_checker.proofs.lemmas.store.Keeping.{length_same}
-use Rattle.sat_checker.specs.inner.SlotView.{Slot, unstored, slot_at, literals_at, is_gone, is_filed, live, live_length, places_from, places_of, with_hash_at, hashed_by, all_hashed_by}
+use Rattle.sat_checker.specs.inner.SlotView.{Slot, slot_at, literals_at, is_gone, is_filed, live, live_length, places_of, with_hash_at, hashed_by, all_hashed_by}
 use Rattle.sat_checker.proofs.lemmas.store.Places.{places_push, append_none, eqb_comm}
 
 module _ (names : ℕ → Option ℕ) (width : ℕ) where

@@ -1,12 +1,11 @@
 -- What finding a clause's place says of the clauses that aren't gone.
 use Rattle.std.proofs.Common.{ℕ, zero, suc, ◌+◌, ◌<◌, ◌≤◌, ◌≡◌, is_some, Bool, true, false, not, ◌&&◌, cond, eqb, List, [], ◌∷◌, ◌++◌, length, Option, None, Some, refl, sym, ◌∙◌, ap, subst, arith, slice_set}
-use Rattle.std.proofs.lemmas.Bool.{true≢false, eqb-true, eq-eqb, ne_eqb}
-use Rattle.std.specs.List.{AllByRecursion}
+use Rattle.std.proofs.lemmas.Bool.{true≢false, eq-eqb}
 use Rattle.sat_checker.specs.LiteralSets.{same_literals}
 use Rattle.sat_checker.specs.Stored.{Stored, StoredClause, hash_by}
 use Rattle.sat_checker.specs.Storing.{with_count, new_clause, with_clause, clause_with, without_count, unless_gone, without_clause}
 use Rattle.sat_checker.specs.HasherView.{solver_name_of, width_of}
-use Rattle.sat_checker.specs.inner.SlotView.{Slot, unstored, stored_slot, slot_at, literals_at, count_of, with_count_at, without_count_at, is_gone, is_filed, live, live_length, bucket_in, places_from, places_of, is_same_at, found_among}
+use Rattle.sat_checker.specs.inner.SlotView.{Slot, stored_slot, slot_at, count_of, with_count_at, without_count_at, is_gone, live, live_length, bucket_in, places_from, places_of, is_same_at, found_among}
 use Rattle.sat_checker.specs.Looks.{total_length, literal_count}
 use Rattle.sat_checker.specs.inner.StoreView.{AreHashed, KeepsClauses, Stores, count_in, id_in}
 use Rattle.sat_checker.specs.declared.store.Store.{Store}

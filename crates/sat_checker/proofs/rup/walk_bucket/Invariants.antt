@@ -1,4 +1,4 @@
-use Rattle.std.proofs.Common.{◌≡◌, ◌+◌, drop, map, length}
+use Rattle.std.proofs.Common.{◌≡◌, ◌+◌, drop, map}
 use Rattle.sat_checker.specs.Looks.{total_length}
 use Rattle.sat_checker.specs.inner.SlotView.{bucket_in, literals_at}
 use Rattle.sat_checker.specs.inner.Look.{Extends}

@@ -1,4 +1,4 @@
-use Rattle.std.proofs.Common.{◌<◌, length, get_or, ◌∙◌}
+use Rattle.std.proofs.Common.{length, get_or, ◌∙◌}
 use Rattle.sat_checker.specs.inner.SlotView.{bucket_of}
 use Rattle.sat_checker.proofs.lemmas.propagation.Walking.{Extends-further, buckets-open}
 use Rattle.sat_checker.proofs.lemmas.store.Buckets.{walked_more, walked_within}

@@ -1,4 +1,4 @@
-use Rattle.std.proofs.Common.{◌≡◌, ◌∙◌, ap, ◌++◌, ◌∷◌, []}
+use Rattle.std.proofs.Common.{◌∙◌, ap, ◌++◌, ◌∷◌, []}
 use Rattle.sat_checker.specs.inner.IndexView.{places_in}
 use Rattle.sat_checker.specs.inner.SlotView.{stored_slot}
 use Rattle.sat_checker.proofs.lemmas.store.Places.{agrees_unstored, agrees_stored, stored_last}

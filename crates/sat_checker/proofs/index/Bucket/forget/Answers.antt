@@ -1,4 +1,4 @@
-use Rattle.std.proofs.Common.{◌≡◌, ◌≢◌, ◌∙◌, ◌∷◌, sym, ap, length, [], arith, rules}
+use Rattle.std.proofs.Common.{◌≡◌, ◌≢◌, ◌∙◌, ◌∷◌, sym, ap, length, [], arith}
 use Rattle.std.proofs.lemmas.Grind.{common_steps}
 use Rattle.sat_checker.proofs.lemmas.store.Buckets.{first_stays, first_goes, first_taken}
 use Rattle.sat_checker.proofs.index.Bucket.forget.Goals as goal

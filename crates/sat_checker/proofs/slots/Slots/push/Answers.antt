@@ -1,4 +1,4 @@
-use Rattle.std.proofs.Common.{List, ℕ, map, ap, sym, subst, ◌∙◌, is_ok}
+use Rattle.std.proofs.Common.{map, ap, sym, subst, ◌∙◌, is_ok}
 use Rattle.sat_checker.specs.inner.Marks.{IsIncreasing}
 use Rattle.sat_checker.specs.inner.SlotView.{unstored}
 use Rattle.sat_checker.specs.inner.EntryView.{slot_of}

@@ -1,4 +1,4 @@
-use Rattle.std.proofs.Common.{◌≡◌, ◌<◌, ◌∙◌, subst, sym, arith}
+use Rattle.std.proofs.Common.{arith}
 use Rattle.sat_checker.proofs.lemmas.store.Storing.{is_there, looks_one, count_there, count_none, deleted_one}
 use Rattle.sat_checker.proofs.store.Store.delete_clause.Goals as goal
 

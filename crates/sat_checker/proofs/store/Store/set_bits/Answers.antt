@@ -1,4 +1,4 @@
-use Rattle.std.proofs.Common.{ℕ, ◌∙◌}
+use Rattle.std.proofs.Common.{◌∙◌}
 use Rattle.sat_checker.proofs.lemmas.store.Rehashing.{filed_anew, looks_two}
 use Rattle.sat_checker.proofs.store.Store.set_bits.Goals as goal
 

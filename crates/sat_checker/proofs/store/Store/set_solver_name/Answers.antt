@@ -1,4 +1,4 @@
-use Rattle.std.proofs.Common.{ℕ, ◌≡◌, ◌∙◌, ap, cond, eqb}
+use Rattle.std.proofs.Common.{◌∙◌, ap, cond, eqb}
 use Rattle.sat_checker.proofs.lemmas.store.Rehashing.{filed_anew, looks_two}
 use Rattle.sat_checker.proofs.store.Store.set_solver_name.Goals as goal
 

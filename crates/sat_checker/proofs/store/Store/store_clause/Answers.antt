@@ -1,4 +1,4 @@
-use Rattle.std.proofs.Common.{◌≡◌, ◌<◌, ◌∙◌, subst, sym, arith}
+use Rattle.std.proofs.Common.{arith}
 use Rattle.sat_checker.proofs.lemmas.store.Storing.{is_there, inside_more, looks_one, count_there, stored_again, stored_new}
 use Rattle.sat_checker.proofs.store.Store.store_clause.Goals as goal
 

@@ -1,4 +1,4 @@
-use Rattle.std.proofs.Common.{◌≡◌, ◌∙◌, ap, sym, refl, true, false, cond, eqb, Some}
+use Rattle.std.proofs.Common.{◌≡◌, ◌∙◌, ap, sym, refl, true, cond, eqb, Some}
 use Rattle.sat_checker.specs.Stored.{Variable, Mode}
 use Rattle.sat_checker.specs.Accepts.{MayGetName}
 use Rattle.sat_checker.specs.inner.VariablesView.{mode_in, variable_at}

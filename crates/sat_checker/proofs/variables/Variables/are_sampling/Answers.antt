@@ -1,4 +1,4 @@
-use Rattle.std.proofs.Common.{ℕ, ◌≡◌, ◌∙◌, ap, sym}
+use Rattle.std.proofs.Common.{◌≡◌, ◌∙◌, ap, sym}
 use Rattle.sat_base.specs.values.Literals.{variable}
 use Rattle.sat_checker.specs.Stored.{Variable, Sample}
 use Rattle.sat_checker.specs.inner.VariablesView.{variable_at}

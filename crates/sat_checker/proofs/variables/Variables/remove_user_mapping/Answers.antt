@@ -1,6 +1,4 @@
-use Rattle.std.proofs.Common.{ℕ, ◌≡◌, ◌∙◌, ap, sym, refl, cond, eqb, Option, Some, None}
-use Rattle.std.proofs.lemmas.Bool.{true≢false}
-use Rattle.sat_base.specs.values.Literals.{variable}
+use Rattle.std.proofs.Common.{◌≡◌, ◌∙◌, ap, sym, refl, cond, eqb, Some, None}
 use Rattle.sat_checker.specs.Stored.{Variable, Hide}
 use Rattle.sat_checker.specs.inner.VariablesView.{variable_at}
 use Rattle.sat_checker.proofs.lemmas.variables.Keeping.{unnamed_kept, some_none}

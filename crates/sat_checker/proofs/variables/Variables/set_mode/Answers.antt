@@ -1,4 +1,4 @@
-use Rattle.std.proofs.Common.{ℕ, ◌≡◌, ◌∙◌, ap, sym, refl, cond, eqb}
+use Rattle.std.proofs.Common.{◌∙◌, ap, sym, refl, cond, eqb}
 use Rattle.sat_checker.specs.Stored.{Variable, Mode, Sample, Witness}
 use Rattle.sat_checker.specs.inner.VariablesView.{mode_in, variable_at}
 use Rattle.sat_checker.proofs.lemmas.variables.Keeping.{set_kept, was_true}

@@ -1,0 +1,77 @@
+-- More worked rows, by computing.
+use Rattle.std.proofs.Common.{◌≢◌, Bool, true, false, ◌||◌, cond, eqb, [], ◌∷◌, Some, None, refl, sym, lit<, inl, inr}
+use Rattle.std.proofs.lemmas.Bool.{true≢false}
+use Rattle.sat_base.specs.values.Hashes.{hash_of}
+use Rattle.sat_base.specs.steps.Steps.{SolverVarName, DeleteVar, AddClause}
+use Rattle.sat_checker.specs.Stored.{Stored, Sample, Witness, unknown}
+use Rattle.sat_checker.specs.Storing.{with_unit}
+use Rattle.sat_checker.specs.Propagation.{unit_true, tautology}
+use Rattle.sat_checker.specs.Rows.{ready_by, BySolverName, ByNameLeft, for_units, TwoUnits, UnitsTurned, ByDuplicate, TwoCounts, ByOneCount, BehindUnsat, Tautologies, WitnessNamed, UnknownMode, two_clauses, EmptyBehind, EmptyBefore, LastBehindConflict, LastUnit}
+use Rattle.sat_checker.proofs.lemmas.rows.Accepted.{walked, stuck}
+
+pub by_name : BySolverName
+by_name = ((((tt, inr (refl, (refl, tt))), tt), inr (refl, tt)), walked (ready_by (AddClause (0 ∷ 2 ∷ []) ∷ SolverVarName 0 (Some 5) ∷ AddClause (1 ∷ []) ∷ [])) (2 ∷ []) (hash_of (10 ∷ 2 ∷ []) ∷ []) refl)
+
+pub by_left : ByNameLeft
+by_left = (
+  (((((tt, inr (refl, tt)), tt), record { known = refl; nameless = refl; unused = refl; not_assumed = refl }), inr (refl, (refl, tt))), inr (refl, tt)),
+  walked (ready_by (AddClause (0 ∷ []) ∷ SolverVarName 0 (Some 5) ∷ DeleteVar 0 ∷ AddClause (0 ∷ 2 ∷ []) ∷ AddClause (1 ∷ []) ∷ [])) (2 ∷ []) (hash_of (10 ∷ 2 ∷ []) ∷ []) refl,
+)
+
+pub units : TwoUnits
+units =
+    let f : Stored = ready_by for_units in (
+      ((((tt, inr (refl, (refl, tt))), inr (refl, (refl, tt))), inr (refl, tt)), (walked f (2 ∷ []) (hash_of (1 ∷ 2 ∷ []) ∷ []) refl, (walked (with_unit 2 f) (4 ∷ []) (hash_of (3 ∷ 4 ∷ []) ∷ []) refl, tt))),
+      refl,
+      refl,
+    )
+
+pub turned : UnitsTurned
+turned =
+    let f : Stored = ready_by for_units in
+    ((((tt, inr (refl, (refl, tt))), inr (refl, (refl, tt))), inr (refl, tt)), λ h. stuck f (4 ∷ []) (hash_of (3 ∷ 4 ∷ []) ∷ []) refl refl (((refl, (refl, tt)), tt), tt) refl h.0)
+
+pub by_duplicate : ByDuplicate
+by_duplicate = ((((tt, inr (refl, (refl, tt))), inr (refl, (refl, (refl, tt)))), inr (refl, (refl, tt))), (lit< tt, (refl, refl)))
+
+pub two_counts : TwoCounts
+two_counts = (
+  (((((tt, inr (refl, tt)), inr (refl, (refl, tt))), unit_true refl), (lit< tt, refl)), lit< tt),
+  refl,
+  refl,
+)
+
+pub by_one_count : ByOneCount
+by_one_count = ((((((tt, inr (refl, tt)), inr (refl, (refl, (refl, tt)))), inr (refl, (refl, tt))), unit_true refl), (lit< tt, refl)), (lit< tt, (refl, refl)))
+
+pub behind_unsat : BehindUnsat
+behind_unsat = (((tt, inr tt), inl refl), refl, refl)
+
+pub tautologies : Tautologies
+tautologies = ((tt, inr (refl, (refl, tt))), refl, refl, refl, (tt, tautology refl), refl, refl, refl)
+
+pub witness_named : WitnessNamed
+witness_named = ((((tt, tt), refl), record { free = λ w e. none_left (eqb w 0) (eqb 0 w || false) e; nameless = refl; not_hidden = λ e. cc }), refl)
+  where
+    none_left : (b d : Bool) → (cond b (record { known = true; mode = Witness; name = None }) (cond d (record { known = true; mode = Sample; name = None }) unknown)).name ≢ Some 7
+    none_left true d e = cc
+    none_left false true e = cc
+    none_left false false e = cc
+
+pub unknown_mode : UnknownMode
+unknown_mode = (tt, λ h. true≢false (sym h))
+
+pub empty_behind : EmptyBehind
+empty_behind = (((tt, inr (refl, (refl, tt))), inr (refl, (refl, tt))), walked (ready_by two_clauses) (0 ∷ []) (hash_of (0 ∷ 2 ∷ []) ∷ hash_of (0 ∷ 3 ∷ []) ∷ 5 ∷ []) refl)
+
+pub empty_before : EmptyBefore
+empty_before = (
+  ((tt, inr (refl, (refl, tt))), inr (refl, (refl, tt))),
+  stuck (ready_by two_clauses) (0 ∷ []) (5 ∷ hash_of (0 ∷ 2 ∷ []) ∷ hash_of (0 ∷ 3 ∷ []) ∷ []) refl refl (tt, (((refl, (refl, tt)), tt), (((refl, (refl, tt)), tt), tt))) refl,
+)
+
+pub behind_conflict : LastBehindConflict
+behind_conflict = (((((tt, inr (refl, tt)), inr (refl, (refl, (refl, tt)))), inr (refl, (refl, tt))), inr (refl, tt)), (lit< tt, (refl, refl)))
+
+pub last_unit : LastUnit
+last_unit = ((((tt, inr (refl, (refl, tt))), inr (refl, tt)), inr (refl, tt)), λ h. true≢false (sym h.1.0))
