@@ -6,3 +6,4 @@ pub mod SlotView
 pub mod EntryView
 pub mod VariablesView
 pub mod StoreView
+pub mod UnitView

@@ -12,6 +12,7 @@ pub mod slots;
 pub mod sorted_lits;
 pub(crate) mod store;
 mod tally;
+pub(crate) mod units;
 pub mod variables;
 
 pub use hash::ClauseHasher;

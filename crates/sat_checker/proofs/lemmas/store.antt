@@ -5,3 +5,4 @@ pub mod Finding
 pub mod Keeping
 pub mod Storing
 pub mod Rehashing
+pub mod Units

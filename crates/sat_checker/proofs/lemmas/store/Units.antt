@@ -1,0 +1,51 @@
+-- Units, as they come in and are found.
+use Rattle.std.proofs.Common.{ℕ, ◌+◌, ◌<◌, ◌≤◌, ◌≡◌, ◌≢◌, Bool, true, false, ◌||◌, cond, eqb, List, [], ◌∷◌, ◌++◌, length, drop, get_or, map, reverse, Option, Some, None, refl, sym, ◌∙◌, ap, arith}
+use Rattle.std.proofs.lemmas.Bool.{eq-eqb, ne_eqb}
+use Rattle.std.proofs.lemmas.List.{reverse-append, drop_more, map-append}
+use Rattle.sat_checker.specs.LiteralSets.{is_among}
+use Rattle.sat_checker.specs.Stored.{StoredUnit}
+use Rattle.sat_checker.specs.Storing.{unit_id}
+use Rattle.sat_checker.specs.inner.UnitView.{unit_of}
+use Rattle.sat_checker.specs.declared.units.Unit.{Unit}
+
+-- membership, whatever the order
+among-append : (xs ys : List ℕ) (l : ℕ) → is_among (xs ++ ys) l ≡ (is_among xs l || is_among ys l)
+among-append [] ys l = refl
+among-append (x ∷ xs) ys l = ap (λ b. eqb x l || b) (among-append xs ys l) ∙ regroup (eqb x l) (is_among xs l) (is_among ys l)
+  where
+    regroup : (a b c : Bool) → (a || (b || c)) ≡ ((a || b) || c)
+    regroup true b c = refl
+    regroup false b c = refl
+
+or_comm : (a b : Bool) → (a || (b || false)) ≡ (b || a)
+or_comm true true = refl
+or_comm true false = refl
+or_comm false true = refl
+or_comm false false = refl
+
+pub among-reverse : (xs : List ℕ) (l : ℕ) → is_among (reverse xs) l ≡ is_among xs l
+among-reverse [] l = refl
+among-reverse (x ∷ xs) l =
+    ap (λ ys. is_among ys l) (reverse-append (x ∷ []) xs) ∙ among-append (reverse xs) (x ∷ []) l ∙ or_comm (is_among (reverse xs) l) (eqb x l) ∙ ap (λ b. eqb x l || b) (among-reverse xs l)
+
+same_literals_of : (us : List Unit) → map (λ u. u.literal) (map unit_of us) ≡ map (λ u. u.lit) us
+same_literals_of [] = refl
+same_literals_of (u ∷ us) = ap (λ ls. u.lit ∷ ls) (same_literals_of us)
+
+pub among_units : (us : List Unit) (value : List StoredUnit) (assigned : List ℕ) (l : ℕ) → map unit_of us ≡ value → assigned ≡ reverse (map (λ u. u.lit) us) → is_among assigned l ≡ is_among (map (λ u. u.literal) value) l
+among_units us value assigned l is e =
+    ap (λ ls. is_among ls l) e ∙ among-reverse (map (λ u. u.lit) us) l ∙ ap (λ ls. is_among ls l) (sym (same_literals_of us)) ∙ ap (λ v. is_among (map (λ u. u.literal) v) l) is
+
+-- one unit more
+pub assumed_more : (us new : List Unit) (u : Unit) (old all : List ℕ) → old ≡ reverse (map (λ w. w.lit) us) → all ≡ u.lit ∷ old → new ≡ us ++ u ∷ [] → all ≡ reverse (map (λ w. w.lit) new)
+assumed_more us new u old all e a n =
+    a ∙ ap (λ ls. u.lit ∷ ls) e ∙ sym (reverse-append (map (λ w. w.lit) us) (u.lit ∷ [])) ∙ ap reverse (sym (map-append (λ (w : Unit). w.lit) us (u ∷ []))) ∙ ap (λ ws. reverse (map (λ (w : Unit). w.lit) ws)) (sym n)
+
+-- the id is found among the units that are left
+pub id_here : (us : List Unit) (i : ℕ) (d : Unit) (l : ℕ) → i < length us → (get_or us i d).lit ≡ l → unit_id l (map unit_of (drop i us)) ≡ Some (get_or us i d).id
+id_here us i d l h e = ap (λ ws. unit_id l (map unit_of ws)) (drop_more us i d h) ∙ ap (λ b. cond b (Some (get_or us i d).id) (unit_id l (map unit_of (drop (i + 1) us)))) (eq-eqb (get_or us i d).lit l e)
+
+pub id_later : (us : List Unit) (i : ℕ) (d : Unit) (l : ℕ) → i < length us → ((get_or us i d).lit ≡ l → ⊥) → unit_id l (map unit_of (drop i us)) ≡ unit_id l (map unit_of (drop (i + 1) us))
+id_later us i d l h e = ap (λ ws. unit_id l (map unit_of ws)) (drop_more us i d h) ∙ ap (λ b. cond b (Some (get_or us i d).id) (unit_id l (map unit_of (drop (i + 1) us)))) (ne_eqb (get_or us i d).lit l e)
+
+pub ruleset finding_id = (id_here, id_later)

@@ -1,0 +1,76 @@
+//! The stored units.
+ghost use Rattle.std.specs.Prelude.{◌≡◌, ◌++◌, ◌∷◌, [], false, map, OnOk, reverse};
+ghost use Rattle.sat_checker.specs.LiteralSets.{is_among};
+ghost use Rattle.sat_checker.specs.Storing.{unit_id};
+
+use crate::assigned::Assigned;
+use sat_base::Lit;
+use std::alloc::{AllocError, Global};
+use std::marker::Model;
+
+/// A unit, with its id.
+#[derive(Clone, Copy)]
+struct Unit {
+    id: u64,
+    lit: Lit,
+}
+
+/// The units in the order in which they were stored, which are assumed whenever a clause is checked.
+#[derive(Drop)]
+pub(crate) struct Units {
+    list: Vec<Unit>,
+    assigned: Assigned,
+}
+
+impl Model for Units {
+    ghost use Rattle.std.specs.Prelude.{List, map, reverse, ◌≡◌};
+    ghost use Rattle.sat_checker.specs.Stored.{StoredUnit};
+    ghost use Rattle.sat_checker.specs.inner.UnitView.{unit_of};
+
+    ghost Value = { List StoredUnit };
+
+    ghost view = { λ s. map unit_of s.list.items };
+
+    ghost invariant = { λ s. s.assigned ≡ reverse (map (λ u. u.lit) s.list.items) };
+}
+
+impl Units {
+    pub fn new(alloc: Global) -> Units
+        ensures { result ≡ [] }
+    {
+        Units {
+            list: Vec::new(alloc),
+            assigned: Assigned::new(alloc),
+        }
+    }
+
+    pub fn is_unit(&self, lit: Lit) -> bool
+        ensures { result ≡ is_among (map (λ u. u.literal) self.now) lit }
+    {
+        self.assigned.is_true(lit)
+    }
+
+    /// Stores a unit behind the others.
+    pub fn push(&mut self, id: u64, lit: Lit) -> Result<(), AllocError>
+        requires { is_among (map (λ u. u.literal) self.old) lit ≡ false }
+        ensures { OnOk result (self.new ≡ self.old ++ (record { id = id; literal = lit }) ∷ []) }
+    {
+        self.list.reserve(1)?;
+        self.assigned.assume(lit)?;
+        self.list.push(Unit { id, lit })?;
+        Ok(())
+    }
+
+    /// The id of a unit.
+    #[tactic(auto, using(crate::proofs::lemmas::store::Units::finding_id))]
+    pub fn id(&self, lit: Lit) -> Option<u64>
+        ensures { result ≡ unit_id lit self.now }
+    {
+        for unit in &self.list {
+            if unit.lit == lit {
+                return Some(unit.id);
+            }
+        }
+        None
+    }
+}
