@@ -1,10 +1,16 @@
 //! The stored units.
-ghost use Rattle.std.specs.Prelude.{◌≡◌, ◌++◌, ◌∷◌, [], false, map, OnOk, reverse};
+ghost use Rattle.std.specs.Prelude.{◌≡◌, ◌++◌, ◌∷◌, [], ◌+◌, ◌*◌, ◌≤◌, ◌↔◌, false, length, map, IfOk, IsTrue, OnOk, reverse};
 ghost use Rattle.sat_checker.specs.LiteralSets.{is_among};
 ghost use Rattle.sat_checker.specs.Storing.{unit_id};
+ghost use Rattle.sat_checker.specs.Stored.{Stored};
+ghost use Rattle.sat_checker.specs.Accepts.{Passes};
+ghost use Rattle.sat_checker.specs.Looks.{literal_count};
+ghost use Rattle.sat_checker.specs.inner.StoreView.{KeepsClauses};
 
 use crate::assigned::Assigned;
-use sat_base::Lit;
+use crate::looks::Looks;
+use crate::store::Store;
+use sat_base::{ClauseHash, Lit};
 use std::alloc::{AllocError, Global};
 use std::marker::Model;
 
@@ -72,5 +78,20 @@ impl Units {
             }
         }
         None
+    }
+
+    /// The propagation check of a clause under hashes, over the units, which stay.
+    pub fn check(
+        &mut self,
+        store: &Store,
+        clause: &[Lit],
+        hashes: &[ClauseHash],
+        looks: &mut Looks,
+    ) -> Result<bool, AllocError>
+        ensures exact { IfOk result (λ passes. (f : Stored) → KeepsClauses store.now f → self.old ≡ f.units → IsTrue passes ↔ Passes f clause.now hashes.now) }
+        ensures units { self.new ≡ self.old }
+        ensures looks { (f : Stored) → KeepsClauses store.now f → looks.new ≤ looks.old + length hashes.now * literal_count f }
+    {
+        store.check(clause, hashes, &mut self.assigned, looks)
     }
 }

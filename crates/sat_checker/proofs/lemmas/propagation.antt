@@ -2,3 +2,4 @@ pub mod Greedy
 pub mod Denied
 pub mod Soundness
 pub mod Walking
+pub mod Members

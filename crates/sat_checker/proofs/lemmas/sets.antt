@@ -3,3 +3,4 @@ pub mod Canonical
 pub mod Subsets
 pub mod Hashing
 pub mod Merging
+pub mod Order

@@ -1,32 +1,18 @@
 -- Units, as they come in and are found.
-use Rattle.std.proofs.Common.{ℕ, ◌+◌, ◌<◌, ◌≤◌, ◌≡◌, ◌≢◌, Bool, true, false, ◌||◌, cond, eqb, List, [], ◌∷◌, ◌++◌, length, drop, get_or, map, reverse, Option, Some, None, refl, sym, ◌∙◌, ap, arith}
+use Rattle.std.proofs.Common.{ℕ, ◌+◌, ◌<◌, ◌≤◌, ◌≡◌, ◌≢◌, Bool, true, false, ◌||◌, cond, eqb, List, [], ◌∷◌, ◌++◌, length, drop, get_or, map, reverse, Option, Some, None, refl, sym, ◌∙◌, ap, subst, arith, Result, Ok, Err, IfOk, ◌↔◌}
 use Rattle.std.proofs.lemmas.Bool.{eq-eqb, ne_eqb}
 use Rattle.std.proofs.lemmas.List.{reverse-append, drop_more, map-append}
 use Rattle.sat_checker.specs.LiteralSets.{is_among}
-use Rattle.sat_checker.specs.Stored.{StoredUnit}
+use Rattle.sat_checker.specs.Propagation.{PassesCheck}
+use Rattle.sat_checker.specs.Stored.{Stored, StoredUnit, unit_literals, bucket}
+use Rattle.sat_checker.specs.Accepts.{Passes}
+use Rattle.sat_checker.specs.inner.StoreView.{KeepsClauses}
+use Rattle.sat_checker.specs.declared.store.Store.{Store}
+use Rattle.sat_checker.proofs.lemmas.propagation.Members.{passes_reversed}
 use Rattle.sat_checker.specs.Storing.{unit_id}
+use Rattle.sat_checker.proofs.lemmas.sets.Order.{among-reverse}
 use Rattle.sat_checker.specs.inner.UnitView.{unit_of}
 use Rattle.sat_checker.specs.declared.units.Unit.{Unit}
-
--- membership, whatever the order
-among-append : (xs ys : List ℕ) (l : ℕ) → is_among (xs ++ ys) l ≡ (is_among xs l || is_among ys l)
-among-append [] ys l = refl
-among-append (x ∷ xs) ys l = ap (λ b. eqb x l || b) (among-append xs ys l) ∙ regroup (eqb x l) (is_among xs l) (is_among ys l)
-  where
-    regroup : (a b c : Bool) → (a || (b || c)) ≡ ((a || b) || c)
-    regroup true b c = refl
-    regroup false b c = refl
-
-or_comm : (a b : Bool) → (a || (b || false)) ≡ (b || a)
-or_comm true true = refl
-or_comm true false = refl
-or_comm false true = refl
-or_comm false false = refl
-
-pub among-reverse : (xs : List ℕ) (l : ℕ) → is_among (reverse xs) l ≡ is_among xs l
-among-reverse [] l = refl
-among-reverse (x ∷ xs) l =
-    ap (λ ys. is_among ys l) (reverse-append (x ∷ []) xs) ∙ among-append (reverse xs) (x ∷ []) l ∙ or_comm (is_among (reverse xs) l) (eqb x l) ∙ ap (λ b. eqb x l || b) (among-reverse xs l)
 
 same_literals_of : (us : List Unit) → map (λ u. u.literal) (map unit_of us) ≡ map (λ u. u.lit) us
 same_literals_of [] = refl
@@ -49,3 +35,15 @@ pub id_later : (us : List Unit) (i : ℕ) (d : Unit) (l : ℕ) → i < length us
 id_later us i d l h e = ap (λ ws. unit_id l (map unit_of ws)) (drop_more us i d h) ∙ ap (λ b. cond b (Some (get_or us i d).id) (unit_id l (map unit_of (drop (i + 1) us)))) (ne_eqb (get_or us i d).lit l e)
 
 pub ruleset finding_id = (id_here, id_later)
+
+-- the check over what is kept is the definition's
+pub checked_units : {E : Type 0} (r : Result Bool E) (store : Store) (us : List Unit) (value : List StoredUnit) (assigned clause hashes : List ℕ) → map unit_of us ≡ value → assigned ≡ reverse (map (λ u. u.lit) us)
+    → IfOk r (λ b. (f : Stored) → KeepsClauses store f → (b ≡ true) ↔ PassesCheck assigned clause (map (bucket f) hashes)) → IfOk r (λ b. (f : Stored) → KeepsClauses store f → value ≡ f.units → (b ≡ true) ↔ Passes f clause hashes)
+checked_units (Err e) store us value assigned clause hashes is a h = tt
+checked_units (Ok b) store us value assigned clause hashes is a h = λ f k e.
+    let same : assigned ≡ reverse (unit_literals f) = a ∙ ap reverse (sym (same_literals_of us) ∙ ap (λ v. map (λ (u : StoredUnit). u.literal) v) (is ∙ e)) in
+    let exact = h f k in
+    let turn = passes_reversed (unit_literals f) clause (map (bucket f) hashes) in (
+      (λ t. turn.0 (subst (λ xs. PassesCheck xs clause (map (bucket f) hashes)) same (exact.0 t))),
+      (λ p. exact.1 (subst (λ xs. PassesCheck xs clause (map (bucket f) hashes)) (sym same) (turn.1 p))),
+    )
