@@ -9,4 +9,5 @@ pub mod QueueLemmas
 pub mod BuildLemmas
 pub mod BacktrackLemmas
 pub mod AsksLemmas
+pub mod StepLemmas
 pub mod ReasonLemmas

@@ -1,5 +1,10 @@
--- What holds on once levels are undone.
-use Rattle.std.specs.Prelude.{ℕ, ◌<◌, List}
+-- What holds on where literals become true, levels begin or levels are undone.
+use Rattle.std.specs.Prelude.{ℕ, ◌≡◌, ◌<◌, List, length}
+use Rattle.std.specs.List.{Contains}
+use Rattle.sat_parts.specs.declared.prop.graph.Reason.{Reason}
+use Rattle.sat_parts.specs.declared.prop.graph.Reason.TheVariants.{Long}
+use Rattle.sat_parts.specs.clause.Db.{live_refs}
+use Rattle.sat_parts.specs.clause.Stored.{lit_of}
 use Rattle.sat_parts.specs.declared.prop.graph.ImplNode.{ImplNode}
 use Rattle.sat_parts.specs.prop.Values.{Values}
 use Rattle.sat_parts.specs.prop.Trails.{Trailed}
@@ -21,3 +26,16 @@ abbrev pub KeepsTurns : (a : Values) (t : Trailed) (a' : Values) (t' : Trailed) 
 KeepsTurns a t a' t' =
     (words live : List ℕ) (implied : List (List ℕ)) (nodes : List ImplNode) (from : ℕ) → Agrees (state_of a nodes t) →
     AreInTurn words live implied (state_of a nodes t) from → AreInTurn words live implied (state_of a' nodes t') from
+
+-- what propagation asks stays so where an open literal becomes true, by a live clause that has it first if by a long one
+abbrev pub KeepsAskedBy : (lit : ℕ) (reason : Reason) (a : Values) (nodes : List ImplNode) (t : Trailed) (a' : Values) (nodes' : List ImplNode) (t' : Trailed) → Type 0
+KeepsAskedBy lit reason a nodes t a' nodes' t' =
+    (words refs : List ℕ) (w : Watching) (implied : List (List ℕ)) (top : ℕ) →
+    ((o : ℕ) → reason ≡ Long o → Contains (live_refs words refs) o × (lit_of words o 0 ≡ lit)) →
+    Asks words refs w implied (state_of a nodes t) top → Asks words refs w implied (state_of a' nodes' t') top
+
+-- what propagation asks stays so where a level begins while nothing is in the queue
+abbrev pub KeepsAskedAbove : (t t' : Trailed) → Type 0
+KeepsAskedAbove t t' =
+    (a : Values) (words refs : List ℕ) (w : Watching) (implied : List (List ℕ)) (nodes : List ImplNode) → t.head ≡ length t.lits →
+    AsksAll words refs w implied (state_of a nodes t) → AsksAll words refs w implied (state_of a nodes t')

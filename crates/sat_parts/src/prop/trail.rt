@@ -4,10 +4,12 @@ ghost use Rattle.sat_base.specs.values.Literals.{largest, variable};
 ghost use Rattle.sat_parts.specs.prop.Values.{made_true, IsOpenLit};
 ghost use Rattle.sat_parts.specs.prop.Graphs.{node_at, with_node};
 ghost use Rattle.sat_parts.specs.prop.Trails.{IsTrail, no_trail, first_start, with_lit, with_level, with_cleared};
-ghost use Rattle.std.specs.Prelude.{ℕ, slice_index, drop};
+ghost use Rattle.std.specs.Prelude.{ℕ, ◌⊎◌, slice_index, drop};
 ghost use Rattle.sat_parts.specs.prop.Trails.{cut_to};
 ghost use Rattle.sat_parts.specs.prop.Undone.{undone, undone_to, all_available, undone_lits};
-ghost use Rattle.sat_parts.specs.prop.Backtracked.{KeepsAsked, KeepsTurns};
+ghost use Rattle.sat_parts.specs.prop.State.{Agrees};
+ghost use Rattle.sat_parts.specs.prop.Ready.{state_of};
+ghost use Rattle.sat_parts.specs.prop.Backtracked.{KeepsAsked, KeepsAskedBy, KeepsAskedAbove, KeepsTurns};
 
 use crate::prop::assignment::Assignment;
 use crate::prop::graph::{ImplGraph, ImplNode, Reason};
@@ -115,6 +117,15 @@ impl Trail {
         requires { length self.old.starts + 1 < 2 ^ 32 }
         ensures done { OnOk result (self.new ≡ with_level self.old) }
         ensures same { OnErr result (self.new ≡ self.old) }
+        ensures asked { OnOk result (KeepsAskedAbove self.old self.new) }
+    {
+        self.push_level()
+    }
+
+    fn push_level(&mut self) -> Result<(), AllocError>
+        requires { length self.old.starts + 1 < 2 ^ 32 }
+        ensures done { OnOk result (self.new ≡ with_level self.old) }
+        ensures same { OnErr result (self.new ≡ self.old) }
     {
         let len = self.trail.len() as u32;
         self.decisions.push(len)?;
@@ -151,6 +162,29 @@ impl Trail {
 /// Makes an open literal true, as the last one of the trail and of its queue. Takes no memory.
 #[inline(always)] // called for each literal that propagation finds
 pub fn enqueue_assignment(
+    assignment: &mut Assignment,
+    graph: &mut ImplGraph,
+    trail: &mut Trail,
+    lit: Lit,
+    reason: Reason,
+)
+    requires value { variable lit < length assignment.old.current }
+    requires node { variable lit < length graph.old }
+    requires open { IsOpenLit assignment.old.current lit }
+    // Where the parts agree, there is room for each open literal.
+    requires room { Agrees (state_of assignment.old graph.old trail.old) ⊎ (length trail.old.lits < trail.old.room) }
+    ensures value { assignment.new ≡ made_true lit assignment.old }
+    ensures node { graph.new ≡ with_node (variable lit) (node_at trail.old reason) graph.old }
+    ensures trail { trail.new ≡ with_lit lit trail.old }
+    ensures agrees { Agrees (state_of assignment.old graph.old trail.old) → Agrees (state_of assignment.new graph.new trail.new) }
+    ensures asked { KeepsAskedBy lit reason assignment.old graph.old trail.old assignment.new graph.new trail.new }
+{
+    push_assignment(assignment, graph, trail, lit, reason);
+}
+
+/// The same, where there is room.
+#[inline(always)] // called for each literal that propagation finds
+fn push_assignment(
     assignment: &mut Assignment,
     graph: &mut ImplGraph,
     trail: &mut Trail,

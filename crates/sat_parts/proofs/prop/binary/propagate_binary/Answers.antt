@@ -1,4 +1,4 @@
-use Rattle.std.proofs.Common.{rules, ◌≡◌, ◌<◌, ℕ, List, [], ◌∷◌, length, get_or, sym, ap, ◌∙◌, subst, arith, length-set}
+use Rattle.std.proofs.Common.{inl, rules, ◌≡◌, ◌<◌, ℕ, List, [], ◌∷◌, length, get_or, sym, ap, ◌∙◌, subst, arith, length-set}
 use Rattle.std.proofs.lemmas.List.{get_or_read}
 use Rattle.sat_base.specs.values.Literals.{variable}
 use Rattle.sat_parts.specs.declared.prop.graph.Reason.TheVariants.{Binary}
@@ -29,16 +29,7 @@ returns-then-lit_is_false-clause-walked c =
     )
 
 pub enqueue_assignment-requires-clause-room : goal.enqueue_assignment-requires-clause-room
-enqueue_assignment-requires-clause-room c =
-    let lt : c.loop-implied.implied-index < length c.implied-implied-items.result.now = omega arith in
-    let lt' : c.loop-implied.implied-index < length (implied_by c.args.binary.now.implied c.args.lit) = subst (λ (xs : List ℕ). c.loop-implied.implied-index < length xs) c.implied-implied-items.ensures lt in
-    let x_is : c.implied-item.result ≡ get_or (implied_by c.args.binary.now.implied c.args.lit) c.loop-implied.implied-index 0 =
-    get_or_read c.implied-implied-items.result.now c.loop-implied.implied-index c.implied-item.result lt c.implied-item.is 0 ∙ ap (λ (xs : List ℕ). get_or xs c.loop-implied.implied-index 0) c.implied-implied-items.ensures in
-    let below : variable c.implied-item.result < length c.args.assignment.now.current =
-    implied_below c.args.binary.now.implied c.args.lit c.loop-implied.implied-index c.implied-item.result (length c.args.assignment.now.current) c.requires.lists lt' x_is in
-    let n : IsOpenLit c.loop-implied.assignment.current c.implied-item.result = open_from_not c.loop-implied.assignment.current c.implied-item.result (search rules) (search rules) in
-    room_for (state_of c.loop-implied.assignment c.loop-implied.graph c.loop-implied.trail) c.implied-item.result (Binary (c.not-false_lit.result ∷ []))
-    c.loop-implied.invariant.walk.agrees n (omega (arith, below, c.loop-implied.invariant.size))
+enqueue_assignment-requires-clause-room c = inl c.loop-implied.invariant.walk.agrees
 
 pub loop-implied-preserved : goal.loop-implied-preserved
 loop-implied-preserved c =

@@ -1,4 +1,4 @@
-use Rattle.std.proofs.Common.{◌≡◌, ℕ, ◌+◌, ◌*◌, ◌<◌, List, length, get_or, sym, ap, ◌∙◌, subst, arith, rules, length-set, Some, None}
+use Rattle.std.proofs.Common.{inl, ◌≡◌, ℕ, ◌+◌, ◌*◌, ◌<◌, List, length, get_or, sym, ap, ◌∙◌, subst, arith, rules, length-set, Some, None}
 use Rattle.std.specs.List.{Contains}
 use Rattle.sat_base.specs.values.Literals.{negated, variable}
 use Rattle.sat_parts.specs.declared.prop.graph.Reason.TheVariants.{Long}
@@ -64,11 +64,7 @@ enqueue_assignment-requires-clause-node g c =
     omega (arith, c.loop-at.invariant.walking.half.agrees.nodes)
 
 pub enqueue_assignment-requires-clause-room : goal.enqueue_assignment-requires-clause-room
-enqueue_assignment-requires-clause-room g c =
-    let v = rw c.in-Propagates.is at c.in_ok-visit_clause.ensures.visited in
-    let n : IsOpenLit c.loop-at.assignment.current c.in-Propagates.first = subst (λ (z : ℕ). IsOpenLit c.loop-at.assignment.current z) (sym v.1) v.4 in
-    room_for (state_of c.loop-at.assignment c.loop-at.graph c.loop-at.trail) c.in-Propagates.first (Long c.cref-cref.result)
-    c.loop-at.invariant.walking.half.agrees n (enqueue_assignment-requires-clause-value g c)
+enqueue_assignment-requires-clause-room g c = inl c.loop-at.invariant.walking.half.agrees
 
 pub returns-in-Falsified-clause-walked : goal.returns-in-Falsified-clause-walked
 returns-in-Falsified-clause-walked g c =

@@ -1,0 +1,155 @@
+-- What propagation asks stays so where literals become true and where levels begin.
+use Rattle.std.proofs.Common.{ℕ, ◌≡◌, ◌+◌, ◌*◌, ◌^◌, ◌<◌, ◌≤◌, ◌⊎◌, inl, inr, List, [], ◌∷◌, ◌++◌, length, get_or, refl, sym, ap, ◌∙◌, subst, arith, Bool, Option, Some}
+use Rattle.std.proofs.lemmas.Bool.{cases_eq, cases_lt}
+use Rattle.std.proofs.lemmas.List.{length_push, get_or_append_left, get_or_push}
+use Rattle.std.specs.List.{Contains}
+use Rattle.sat_base.specs.values.Literals.{negated, variable}
+use Rattle.sat_store.specs.clause.Buffer.{lits_at}
+use Rattle.sat_parts.specs.declared.prop.graph.ImplNode.{ImplNode}
+use Rattle.sat_parts.specs.declared.prop.graph.Reason.{Reason}
+use Rattle.sat_parts.specs.declared.prop.graph.Reason.TheVariants.{Long}
+use Rattle.sat_parts.specs.clause.Db.{live_refs}
+use Rattle.sat_parts.specs.clause.Stored.{AreClauses, lit_of}
+use Rattle.sat_parts.specs.prop.Values.{Values, IsTrueLit, IsOpenLit}
+use Rattle.sat_parts.specs.prop.Trails.{Trailed, IsTrail, AreStarts, LevelIs, with_level}
+use Rattle.sat_parts.specs.prop.Graphs.{node_at}
+use Rattle.sat_parts.specs.prop.Binaries.{implied_by}
+use Rattle.sat_parts.specs.prop.WatchLists.{Watching}
+use Rattle.sat_parts.specs.prop.State.{State, node, level, current_level, lit_at, IsRemoved, IsBefore, HasLeft, Agrees, IsQueueCurrent, IsSatisfied, Grows, enqueued}
+use Rattle.sat_parts.specs.prop.Reasons.{HaveFirsts}
+use Rattle.sat_parts.specs.prop.Ready.{AreWatched, AreLists, state_of}
+use Rattle.sat_parts.specs.prop.Asks.{Asks, AsksAll}
+use Rattle.sat_parts.proofs.lemmas.prop.StateLemmas.{left_true, left_back, level_kept, level_low, satisfied_forth, agrees_enqueued, grows_enqueued, queue_enqueued, lit_front, lit_last, node_kept, node_new, before_forth, removed_forth}
+use Rattle.sat_parts.proofs.lemmas.prop.RoomLemmas.{room_for}
+
+-- open literals become true
+pub asks_grows : (words refs : List ℕ) (w : Watching) (implied : List (List ℕ)) (s t : State) (top : ℕ) → Asks words refs w implied s top →
+    Grows s t → t.trail.head ≡ s.trail.head → Agrees t → IsQueueCurrent t → HaveFirsts words (live_refs words refs) t → Asks words refs w implied t top
+asks_grows words refs w implied s t top h g e a q f = record {
+  laid = h.laid;
+  clauses = subst (λ (n : ℕ). AreClauses words (live_refs words refs) n) (sym g.size) h.clauses;
+  room = h.room ∙ ap (λ n. 2 * n) (sym g.size);
+  watches = λ on. subst (λ (n : ℕ). AreWatched words (live_refs words refs) w.lists n) (sym g.size) (h.watches on);
+  agrees = a;
+  queue = q;
+  firsts = f;
+  settled = λ o i ho hi x d.
+      let m : ℕ = negated (lit_of words o i) in
+      let y : HasLeft s (negated (lit_of words o i)) = left_back s t (negated (lit_of words o i)) g e h.agrees.trail x in
+      let same : level t (negated (lit_of words o i)) ≡ level s (negated (lit_of words o i)) = level_kept s t (negated (lit_of words o i)) g (left_true s (negated (lit_of words o i)) h.agrees y) in
+      satisfied_forth s t (lits_at words o) (level t (negated (lit_of words o i))) g
+      (subst (λ (n : ℕ). IsSatisfied s (lits_at words o) n) (sym same) (h.settled o i ho hi y (omega arith)));
+  ranges = subst (λ (n : ℕ). AreLists implied n) (sym g.size) h.ranges;
+  binary = λ l k x d b.
+      let y : HasLeft s l = left_back s t l g e h.agrees.trail x in
+      let same : level t l ≡ level s l = level_kept s t l g (left_true s l h.agrees y) in
+      let z : IsTrueLit s.values (get_or (implied_by implied l) k 0) × (level s (get_or (implied_by implied l) k 0) ≤ level s l) = h.binary l k y (omega arith) b in
+      (g.kept (get_or (implied_by implied l) k 0) z.0, omega (arith, z.1, same, level_kept s t (get_or (implied_by implied l) k 0) g z.0));
+}
+
+firsts_enqueued : (words live : List ℕ) (s : State) (l : ℕ) (r : Reason) → Agrees s → IsOpenLit s.values l → variable l < length s.values → HaveFirsts words live s →
+    ((o : ℕ) → r ≡ Long o → Contains live o × (lit_of words o 0 ≡ l)) → HaveFirsts words live (enqueued l r s)
+firsts_enqueued words live s l r a n below h cause i o b e =
+    let t : State = enqueued l r s in
+    let size : length (s.trail.lits ++ l ∷ []) ≡ length s.trail.lits + 1 = length_push s.trail.lits l in
+    elim (cases_eq i (length s.trail.lits)) [
+      | inl q ↦
+          let last : lit_at t i ≡ l = ap (λ z. lit_at t z) q ∙ lit_last s l r in
+          let f : r ≡ Long o = sym (ap (λ z. (node t z).reason) last ∙ ap (λ (z : ImplNode). z.reason) (node_new s l r (omega (arith, a.nodes)))) ∙ e in
+          ((cause o f).0, (cause o f).1 ∙ sym last)
+      | inr d ↦
+          let k : i < length s.trail.lits = omega arith in
+          let same : lit_at t i ≡ lit_at s i = lit_front s l r i k in
+          let f : (node s (lit_at s i)).reason ≡ Long o = sym (ap (λ z. (node t z).reason) same ∙ ap (λ (z : ImplNode). z.reason) (node_kept s l (lit_at s i) r n (a.holds i k))) ∙ e in
+          ((h i o k f).0, (h i o k f).1 ∙ sym same)
+    ]
+
+pub asks_enqueued : (words refs : List ℕ) (w : Watching) (implied : List (List ℕ)) (s : State) (top l : ℕ) (r : Reason) → IsOpenLit s.values l → variable l < length s.values →
+    ((o : ℕ) → r ≡ Long o → Contains (live_refs words refs) o × (lit_of words o 0 ≡ l)) → Asks words refs w implied s top → Asks words refs w implied (enqueued l r s) top
+asks_enqueued words refs w implied s top l r n below cause h =
+    let room : length s.trail.lits < s.trail.room = room_for s l r h.agrees n below in
+    asks_grows words refs w implied s (enqueued l r s) top h (grows_enqueued s l r h.agrees n below room) refl (agrees_enqueued s l r h.agrees n below room)
+    (queue_enqueued s l r h.agrees h.queue n below) (firsts_enqueued words (live_refs words refs) s l r h.agrees n below h.firsts cause)
+
+pub agrees_by : (s : State) (l : ℕ) (r : Reason) → IsOpenLit s.values l → variable l < length s.values → Agrees s → Agrees (enqueued l r s)
+agrees_by s l r n below a = agrees_enqueued s l r a n below (room_for s l r a n below)
+
+-- the state with a level more
+abbrev pub raised : State → State
+raised s = record s { trail = with_level s.trail }
+
+grows_raised : (s : State) (l : ℕ) → IsRemoved (raised s) l → IsRemoved s l
+grows_raised s l r = record { holds = r.holds; depth = r.depth; bottom = r.bottom }
+
+pub agrees_raised : (s : State) → Agrees s → length s.trail.starts + 1 < 2 ^ 32 → Agrees (raised s)
+agrees_raised s h few =
+    let size : length (s.trail.starts ++ length s.trail.lits ∷ []) ≡ length s.trail.starts + 1 = length_push s.trail.starts (length s.trail.lits) in
+    let at_end : get_or (s.trail.starts ++ length s.trail.lits ∷ []) (length s.trail.starts) 0 ≡ length s.trail.lits = get_or_push s.trail.starts (length s.trail.lits) 0 (length s.trail.starts) refl in
+    let old : (k : ℕ) → k < length s.trail.starts → get_or (s.trail.starts ++ length s.trail.lits ∷ []) k 0 ≡ get_or s.trail.starts k 0 =
+    λ k b. get_or_append_left s.trail.starts (length s.trail.lits ∷ []) 0 k b in
+    let value : (k : ℕ) → k < length s.trail.starts + 1 → get_or (s.trail.starts ++ length s.trail.lits ∷ []) k 0 ≤ length s.trail.lits = λ k b.
+    elim (cases_eq k (length s.trail.starts)) [
+      | inl q ↦ subst (λ z. get_or (s.trail.starts ++ length s.trail.lits ∷ []) z 0 ≤ length s.trail.lits) (sym q) (omega arith)
+      | inr n ↦ omega (arith, old k (omega arith), h.trail.levels.within k (omega arith))
+    ] in
+    record {
+      trail = record {
+        queue = h.trail.queue;
+        levels = record {
+          within = λ k b. value k (omega arith);
+          rising = λ j k le b. elim (cases_eq k (length s.trail.starts)) [
+            | inl q ↦ omega (arith, value j (omega arith), ap (λ z. get_or (s.trail.starts ++ length s.trail.lits ∷ []) z 0) q)
+            | inr n ↦ omega (arith, old j (omega arith), old k (omega arith), h.trail.levels.rising j k le (omega arith))
+          ];
+        };
+        fits = h.trail.fits;
+        small = h.trail.small;
+        counted = omega arith;
+      };
+      nodes = h.nodes;
+      room = h.room;
+      holds = h.holds;
+      depths = h.depths;
+      levels = λ i b.
+          let l : LevelIs s.trail.starts i (level s (lit_at s i)) = h.levels i b in
+          record {
+            within = omega (arith, l.within);
+            begun = λ k c. omega (arith, old k (omega (arith, l.within)), l.begun k c);
+            not_begun = λ k c d. elim (cases_eq k (length s.trail.starts)) [
+              | inl q ↦ subst (λ z. i < get_or (s.trail.starts ++ length s.trail.lits ∷ []) z 0) (sym q) (omega arith)
+              | inr n ↦ omega (arith, old k (omega arith), l.not_begun k c (omega arith))
+            ];
+          };
+      known = λ l t. elim (h.known l t) [
+        | inl x ↦ inl (record { place = x.place; before = x.before; within = x.within; there = x.there })
+        | inr x ↦ inr (record { holds = x.holds; depth = x.depth; bottom = x.bottom })
+      ];
+    }
+
+left_raised : (s : State) (l : ℕ) → HasLeft (raised s) l → HasLeft s l
+left_raised s l h = elim h [
+  | inl x ↦ inl (record { place = x.place; before = x.before; within = x.within; there = x.there })
+  | inr x ↦ inr (grows_raised s l x)
+]
+
+-- a level begins while nothing is in the queue
+pub asks_raised : (words refs : List ℕ) (w : Watching) (implied : List (List ℕ)) (s : State) → length s.trail.starts + 1 < 2 ^ 32 → s.trail.head ≡ length s.trail.lits →
+    AsksAll words refs w implied s → AsksAll words refs w implied (raised s)
+asks_raised words refs w implied s few empty h = record {
+  laid = h.laid;
+  clauses = h.clauses;
+  room = h.room;
+  watches = h.watches;
+  agrees = agrees_raised s h.agrees few;
+  queue = λ i le b. absurd (omega arith);
+  firsts = h.firsts;
+  settled = λ o i ho hi x d.
+      let y : HasLeft s (negated (lit_of words o i)) = left_raised s (negated (lit_of words o i)) x in
+      let z : IsSatisfied s (lits_at words o) (level s (negated (lit_of words o i))) =
+      h.settled o i ho hi y (omega (arith, level_low s (negated (lit_of words o i)) h.agrees (left_true s (negated (lit_of words o i)) h.agrees y))) in
+      record { place = z.place; within = z.within; holds = z.holds; low = z.low };
+  ranges = h.ranges;
+  binary = λ l k x d b.
+      let y : HasLeft s l = left_raised s l x in
+      h.binary l k y (omega (arith, level_low s l h.agrees (left_true s l h.agrees y))) b;
+}
