@@ -1,6 +1,5 @@
 //! Outside values, and each call once.
-use sat_base::{order_of_literals, order_of_variables};
-use sat_base::{Lit, Var, clause_hash, lit_hash};
+use sat_base::{Lit, Var, clause_hash, lit_hash, order_of_literals, order_of_variables};
 use std::cmp::Ordering;
 use std::hash::{DefaultHasher, Hash, Hasher};
 use std::test::*;
