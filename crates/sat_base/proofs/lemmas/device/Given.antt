@@ -83,3 +83,7 @@ told_of (Some all) (Some rest) xs P h k = subst P (sym h) (k rest refl)
 -- where the reader tells its bytes, it is so of all that there were
 pub enough_told : (a c : Reader) (P : List ℕ → Type 0) → GaveEnough a c P → IfSome a.to_come P
 enough_told a c P g = told_of a.to_come c.to_come g.text P g.front.told (λ rest h. g.holds rest (λ e. rest_ends c.to_come rest h (g.over e)))
+
+-- what follows from it is so, too
+pub enough_as : (a c : Reader) (P Q : List ℕ → Type 0) → ((text : List ℕ) → P text → Q text) → GaveEnough a c P → GaveEnough a c Q
+enough_as a c P Q f g = record { text = g.text; front = g.front; over = g.over; holds = λ rest h. f (g.text ++ rest) (g.holds rest h) }

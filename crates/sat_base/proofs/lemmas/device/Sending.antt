@@ -1,11 +1,11 @@
 -- What is sent through bytes that wait.
-use Rattle.std.proofs.Common.{◌≡◌, ℕ, List, [], ◌∷◌, ◌++◌, take, Result, Ok, Err, append_assoc, refl, sym, ap, subst, ◌∙◌}
+use Rattle.std.proofs.Common.{◌≡◌, ℕ, List, [], ◌++◌, Result, Ok, Err, append_assoc, refl, sym, ap, subst, ◌∙◌}
 use Rattle.std.proofs.lemmas.List.{append-nil}
 use Rattle.std.specs.Borrow.{MutBor}
 use Rattle.std.specs.Prelude.{OnOk}
 use Rattle.sat_base.specs.declared.device.output.Output.{Output}
 use Rattle.sat_base.specs.device.Device.{Writer, FlushesOnce, Takes, Breaks, Puts, lent_writer}
-use Rattle.sat_base.specs.device.Sink.{Sink, Sent, Broken, Sends, Emptied, Flushes, sink_of, empty_sink}
+use Rattle.sat_base.specs.device.Sink.{Sink, Sent, Broken, Sends, Flushes, sink_of, empty_sink}
 use Rattle.sat_base.proofs.lemmas.device.Writes.{took_none, took_more, breaks_later, breaks_within, lent_puts, flush_takes, flush_fails}
 
 pub sent_none : (s : Sink) → Sent s s []

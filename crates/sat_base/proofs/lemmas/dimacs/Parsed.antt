@@ -1,14 +1,18 @@
 -- What a parser answers of a reader's text.
-use Rattle.std.proofs.Common.{◌≡◌, ℕ, List, [], ◌∷◌, ◌++◌, Bool, true, false, Result, Err, refl, sym, ap, subst, inl, inr, ◌∙◌, append_assoc, take, length, ◌<◌, ◌≤◌, arith}
+use Rattle.std.proofs.Common.{◌≡◌, ℕ, List, [], ◌∷◌, ◌++◌, Bool, true, false, Result, Err, refl, sym, ap, subst, inl, inr, ◌∙◌, append_assoc, take, length, ◌<◌, ◌≤◌, arith, Ok, if◌then◌else◌}
 use Rattle.std.specs.List.{FoldsTo, concat}
 use Rattle.std.proofs.lemmas.List.{append-nil, length-take-le}
 use Rattle.std.proofs.lemmas.List.Folds.{concat-append}
 use Rattle.std.specs.Borrow.{MutBor}
 use Rattle.sat_base.specs.declared.dimacs.error.DimacsError.{DimacsError}
 use Rattle.sat_base.specs.declared.dimacs.error.DimacsError.TheVariants as errors
-use Rattle.sat_base.specs.dimacs.Dimacs.{Ending, Malformed, Limit, Clean, Dimacs, dimacs}
-use Rattle.sat_base.specs.dimacs.Parsing.{Progress, no_progress, with_fed, at_its_end, Faults, FallsShort, GoesWell, EndsWell, Feeds, Finishes, Parses, Calls, KeepsText, HasRead, IsWhole}
-use Rattle.sat_base.specs.device.Device.{Reader, GaveAll, GaveFront}
+use Rattle.sat_base.specs.dimacs.Dimacs.{Clean, Dimacs, Ending, Limit, Malformed, dimacs, settled}
+use Rattle.sat_base.specs.dimacs.Parsing.{Calls, EndsWell, FallsShort, Faults, Feeds, Finishes, GoesWell, HasRead, IsWhole, KeepsText, Parses, ParsesInParts, Progress, at_its_end, clauses_read, no_progress, with_fed, words_read}
+use Rattle.std.specs.Io.KnownBytes.{IsAtEnd}
+use Rattle.sat_base.specs.device.Device.{Reader, GaveAll, GaveFront, GaveEnough}
+use Rattle.sat_base.specs.text.Tokenizing.{held}
+use Rattle.sat_base.specs.values.Formulas.{Formula}
+use Rattle.sat_base.proofs.lemmas.device.Given.{enough_as}
 use Rattle.sat_base.specs.text.Text.{header_of}
 
 -- the text has the ending of its fault
@@ -101,3 +105,15 @@ piece_given n buf h k = let e = length-take-le n buf h in omega arith
 pub folds_more : {P A : Type 0} (R : P → A → P → Type 0) (p q r : P) (xs : List A) (x : A) → FoldsTo R p xs q → R q x r → FoldsTo R p (xs ++ (x ∷ [])) r
 folds_more R p q r [] x h k = (r, subst (λ z. R z x r) (sym h) k, refl)
 folds_more R p q r (y ∷ ys) x h k = (h.0, h.1, folds_more R h.0 q r ys x h.2 k)
+
+-- the clauses counted of a text that was read
+pub counted : (a c : Reader) (f : Formula) (count : ℕ) → count ≡ length f.clauses → GaveEnough a c (Parses (Ok f)) → GaveEnough a c (λ text. count ≡ length (dimacs text).clauses)
+counted a c f count e g = enough_as a c (Parses (Ok f)) (λ (text : List ℕ). count ≡ length (dimacs text).clauses) (λ text p. e ∙ sym (ap (λ (d : Dimacs). length d.clauses) p.0)) g
+
+-- or read in parts
+pub counted_of : (E : Type 0) (a c : Reader) (p : Progress) (count : ℕ) → ParsesInParts {E = E} a c (Ok p) → (c.ended ≡ true → IsAtEnd c.to_come) → count ≡ held (length (clauses_read p))
+    → GaveEnough a c (λ text. count ≡ held (length (dimacs text).clauses))
+counted_of E a c p count h over e =
+    let read = h.2 in
+    let words : words_read p ≡ h.0 = ap (λ (b : Bool). if b then p.fed else settled p.fed) read.2 ∙ read.0 in
+    record { text = h.0; front = h.1; over = over; holds = λ rest k. e ∙ ap (λ (z : List ℕ). held (length (dimacs z).clauses)) words ∙ sym (ap (λ (d : Dimacs). held (length d.clauses)) (h.3 rest k).0) }

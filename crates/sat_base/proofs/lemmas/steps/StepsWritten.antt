@@ -1,7 +1,7 @@
 -- Steps written one after another.
-use Rattle.std.proofs.Common.{◌≡◌, ℕ, List, [], ◌∷◌, ◌++◌, Result, Ok, append_assoc, refl, sym, subst}
+use Rattle.std.proofs.Common.{◌≡◌, ℕ, List, [], ◌∷◌, ◌++◌, append_assoc, refl, sym, subst}
 use Rattle.std.proofs.lemmas.List.{append-nil}
-use Rattle.sat_base.specs.device.Device.{Writer, Takes, Puts}
+use Rattle.sat_base.specs.device.Device.{Writer, Takes}
 use Rattle.sat_base.specs.device.Sink.{Sink, Sent, empty_sink}
 use Rattle.sat_base.specs.steps.Formats.{Format, Items}
 use Rattle.sat_base.specs.steps.Steps.{Step}

@@ -1,4 +1,4 @@
-use Rattle.std.proofs.Common.{◌+◌, ◌*◌, arith}
+use Rattle.std.proofs.Common.{◌+◌, arith}
 use Rattle.std.proofs.lemmas.Result.{err_from_is_err_and}
 use Rattle.sat_base.proofs.lemmas.device.ReadLemmas.{groups_none, groups_stop, groups_zero, groups_zero_bad, groups_last, groups_past, groups_more, room_start, in_room, room_low, room_high, room_small}
 use Rattle.sat_base.proofs.device.input.Input.number.Goals as goal
