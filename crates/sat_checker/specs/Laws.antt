@@ -1,9 +1,11 @@
 -- What holds of the definitions.
 use Rattle.std.specs.Prelude.{ℕ, ◌≡◌, ◌⊎◌, ◌↔◌, Bool, true, false, Some, None, List, [], ◌∷◌}
 use Rattle.std.specs.List.{AllByRecursion}
+use Rattle.sat_base.specs.values.Literals.{negated}
 use Rattle.sat_base.specs.values.Clauses.{Valuation, EachTrue}
 use Rattle.sat_base.specs.steps.Steps.{Step, UserVarName, DeleteVar, Model, FailedAssumptions}
-use Rattle.sat_checker.specs.LiteralSets.{is_among}
+use Rattle.sat_checker.specs.LiteralSets.{is_among, is_tautology, canonical}
+use Rattle.sat_checker.specs.inner.Marks.{IsIncreasing}
 use Rattle.sat_checker.specs.Stored.{Stored, unknown, unit_literals, is_known, name_of, Satisfies}
 use Rattle.sat_checker.specs.Accepts.{Accepts, AcceptsAll, effect, ready_after}
 use Rattle.sat_checker.specs.Fold.{Holds}
@@ -58,3 +60,11 @@ has_delete_var (step ∷ earlier) = has_delete_var earlier
 -- a deletion of a variable is seen from then on
 abbrev pub DeletionIsSeen : Type 0
 DeletionIsSeen = (steps : List Step) → (ready_after steps).var_deleted ≡ has_delete_var steps
+
+-- the canonical form is increasing and has the same literals
+abbrev pub CanonicalIsSortedSet : Type 0
+CanonicalIsSortedSet = (ls : List ℕ) → IsIncreasing (canonical ls) × ((l : ℕ) → is_among (canonical ls) l ≡ is_among ls l)
+
+-- a tautology has both signs of a variable
+abbrev pub TautologyHasBothSigns : Type 0
+TautologyHasBothSigns = (ls : List ℕ) → (is_tautology ls ≡ true) ↔ ((l : ℕ) × (is_among ls l ≡ true) × (is_among ls (negated l) ≡ true))

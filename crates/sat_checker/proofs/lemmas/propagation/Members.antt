@@ -1,5 +1,5 @@
 -- What passes the check depends on which literals are units, not on their order.
-use Rattle.std.proofs.Common.{ℕ, ◌≡◌, ◌||◌, true, eqb, List, [], ◌∷◌, ◌++◌, map, reverse, sym, ◌∙◌, ap, refl, ◌⊎◌, inl, inr, ◌↔◌, Result, Ok, Err, IfOk, Bool}
+use Rattle.std.proofs.Common.{ℕ, ◌≡◌, ◌||◌, true, eqb, List, [], ◌∷◌, ◌++◌, map, reverse, sym, ◌∙◌, ap, refl, ◌⊎◌, inl, inr, ◌↔◌}
 use Rattle.std.specs.List.{AllByRecursion, list_any}
 use Rattle.sat_base.specs.values.Literals.{negated}
 use Rattle.sat_checker.specs.LiteralSets.{is_among}

@@ -1,5 +1,5 @@
 -- Units, as they come in and are found.
-use Rattle.std.proofs.Common.{ℕ, ◌+◌, ◌<◌, ◌≤◌, ◌≡◌, ◌≢◌, Bool, true, false, ◌||◌, cond, eqb, List, [], ◌∷◌, ◌++◌, length, drop, get_or, map, reverse, Option, Some, None, refl, sym, ◌∙◌, ap, subst, arith, Result, Ok, Err, IfOk, ◌↔◌}
+use Rattle.std.proofs.Common.{ℕ, ◌+◌, ◌<◌, ◌≡◌, Bool, true, cond, List, [], ◌∷◌, ◌++◌, length, drop, get_or, map, reverse, Some, refl, sym, ◌∙◌, ap, subst, Result, Ok, Err, IfOk, ◌↔◌}
 use Rattle.std.proofs.lemmas.Bool.{eq-eqb, ne_eqb}
 use Rattle.std.proofs.lemmas.List.{reverse-append, drop_more, map-append}
 use Rattle.sat_checker.specs.LiteralSets.{is_among}
