@@ -1,3 +1,4 @@
 pub mod Orders
 pub mod Stored
 pub mod Db
+pub mod Glue

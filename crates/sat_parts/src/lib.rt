@@ -3,10 +3,12 @@
 
 pub mod binary;
 pub mod clause;
+pub mod glue;
 pub mod prop;
 
 pub use binary::BinaryClauses;
 pub use clause::db::ClauseDb;
+pub use glue::compute_glue;
 pub use prop::assignment::{Assignment, fast_option_eq};
 pub use prop::binary::propagate_binary;
 pub use prop::graph::{Conflict, ImplGraph, ImplNode, Reason};
