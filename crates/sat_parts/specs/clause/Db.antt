@@ -1,5 +1,5 @@
 -- The list of long clauses.
-use Rattle.std.specs.Prelude.{ℕ, ◌≡◌, ◌+◌, ◌==◌, Bool, true, false, not, ◌&&◌, List, [], ◌∷◌, length, slice_index_or as get_or, if◌then◌else◌, count_by}
+use Rattle.std.specs.Prelude.{ℕ, ◌≡◌, ◌+◌, ◌==◌, Bool, not, ◌&&◌, List, [], ◌∷◌, length, slice_index_or as get_or, if◌then◌else◌, count_by}
 use Rattle.std.specs.List.{filter, sum_by}
 use Rattle.sat_store.specs.clause.Buffer.{Laid, header_at, lits_at}
 use Rattle.sat_store.specs.clause.Header.{index_of}

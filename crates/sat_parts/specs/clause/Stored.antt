@@ -1,5 +1,5 @@
 -- What holds of the live clauses, in whatever order their literals are.
-use Rattle.std.specs.Prelude.{ℕ, ◌≡◌, ◌*◌, ◌<◌, ◌≤◌, List, length, slice_index_or as get_or}
+use Rattle.std.specs.Prelude.{ℕ, ◌*◌, ◌<◌, ◌≤◌, List, length, slice_index_or as get_or}
 use Rattle.std.specs.List.{Contains}
 use Rattle.sat_store.specs.clause.Buffer.{Laid, lits_at}
 use Rattle.sat_parts.specs.clause.Orders.{AreDistinct}

@@ -1,5 +1,5 @@
 -- What propagation asks of all parts together, in the form in which it gives it back.
-use Rattle.std.specs.Prelude.{ℕ, ◌≡◌, ◌+◌, ◌*◌, ◌<◌, Bool, true, List, length, Result, MatchResult}
+use Rattle.std.specs.Prelude.{ℕ, ◌≡◌, ◌+◌, ◌*◌, ◌<◌, true, List, length, Result, MatchResult}
 use Rattle.sat_store.specs.clause.Buffer.{Laid}
 use Rattle.sat_parts.specs.declared.prop.graph.Conflict.{Conflict}
 use Rattle.sat_parts.specs.clause.Db.{live_refs}

@@ -1,5 +1,5 @@
 -- The trail: the literals that were made true and not undone, in order, with the places where levels begin.
-use Rattle.std.specs.Prelude.{ℕ, ◌≡◌, ◌+◌, ◌-◌, ◌^◌, ◌<◌, ◌≤◌, List, [], ◌∷◌, ◌++◌, min, max, take, length, slice_index_or as get_or}
+use Rattle.std.specs.Prelude.{ℕ, ◌+◌, ◌-◌, ◌^◌, ◌<◌, ◌≤◌, List, [], ◌∷◌, ◌++◌, min, take, length, slice_index_or as get_or}
 use Rattle.sat_base.specs.values.Literals.{largest}
 
 -- the literals, how many of them have left the queue, how many stood there as each level from 1 on began,

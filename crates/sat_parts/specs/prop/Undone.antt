@@ -1,6 +1,6 @@
 -- Levels that are undone.
-use Rattle.std.specs.Prelude.{ℕ, ◌≡◌, ◌==◌, Bool, true, false, not, Option, Some, None, List, [], ◌∷◌, drop, length, slice_index_or as get_or, slice_set as set}
-use Rattle.sat_base.specs.values.Literals.{variable, is_positive}
+use Rattle.std.specs.Prelude.{ℕ, Bool, true, false, Option, Some, None, List, [], ◌∷◌, drop, slice_index_or as get_or, slice_set as set}
+use Rattle.sat_base.specs.values.Literals.{variable}
 use Rattle.sat_parts.specs.prop.Values.{Values, value_of}
 use Rattle.sat_store.specs.heap.Vsids.{Queue, with_available}
 use Rattle.sat_parts.specs.prop.Trails.{Trailed}

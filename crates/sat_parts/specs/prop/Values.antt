@@ -1,5 +1,5 @@
 -- Which variables are assigned and to what, and so which literals are true, false or open.
-use Rattle.std.specs.Prelude.{ℕ, ◌≡◌, ◌-◌, Bool, true, false, not, Option, None, Some, List, ◌++◌, take, replicate, length, if◌then◌else◌, slice_index_or as get_or, slice_set as set}
+use Rattle.std.specs.Prelude.{ℕ, ◌≡◌, ◌-◌, Bool, false, not, Option, None, Some, List, ◌++◌, take, replicate, length, if◌then◌else◌, slice_index_or as get_or, slice_set as set}
 use Rattle.sat_base.specs.values.Literals.{variable, is_positive}
 
 -- by index of variable: the value that it has, and the one that it lost last

@@ -1,5 +1,5 @@
 -- Inside the walk through the watches of one literal.
-use Rattle.std.specs.Prelude.{ℕ, ◌≡◌, ◌≢◌, ◌*◌, ◌/◌, ◌<◌, ◌≤◌, ◌⊎◌, Bool, Option, List, [], length, slice_index_or as get_or, MatchOption, MatchResult, Result, Some, None}
+use Rattle.std.specs.Prelude.{ℕ, ◌≡◌, ◌≢◌, ◌*◌, ◌<◌, ◌≤◌, ◌⊎◌, Bool, Option, List, [], length, slice_index_or as get_or, MatchOption, MatchResult, Result, Some, None}
 use Rattle.std.specs.List.{Contains}
 use Rattle.sat_base.specs.values.Literals.{negated}
 use Rattle.sat_store.specs.clause.Buffer.{lits_at}

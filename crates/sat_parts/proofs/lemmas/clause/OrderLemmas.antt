@@ -1,13 +1,12 @@
 -- Exchanges of literals keep what is said of clauses.
-use Rattle.std.proofs.Common.{ℕ, ◌≡◌, ◌≢◌, ◌+◌, ◌*◌, ◌<◌, ◌≤◌, ◌==◌, ◌⊎◌, inl, inr, List, length, get_or, set, refl, sym, ap, ◌∙◌, subst, arith, length-set, get_or-set_same, get_or-set_other, if◌then◌else◌}
+use Rattle.std.proofs.Common.{ℕ, ◌≡◌, ◌≢◌, ◌<◌, ◌==◌, inl, inr, List, length, get_or, set, refl, sym, ap, ◌∙◌, subst, arith, length-set, get_or-set_same, get_or-set_other, if◌then◌else◌}
 use Rattle.std.proofs.lemmas.Bool.{cases_eq}
 use Rattle.std.proofs.lemmas.Bool.Decides.{nat_tests}
 use Rattle.std.proofs.lemmas.List.Edits.{swap_is}
 use Rattle.std.proofs.lemmas.List.Sorted.{IsPermutation-refl, IsPermutation-trans, IsPermutation-swap}
-use Rattle.std.specs.List.{Contains, swap}
-use Rattle.std.specs.List.Sorted.{IsPermutation}
-use Rattle.sat_store.specs.clause.Buffer.{IsClause, Laid, Keeps, ChangesAt, Apart, header_at, lits_at, swapped}
-use Rattle.sat_parts.specs.clause.Orders.{AreDistinct, Shuffled, Shuffles, Kept, Reorders}
+use Rattle.std.specs.List.{Contains}
+use Rattle.sat_store.specs.clause.Buffer.{IsClause, Keeps, ChangesAt, header_at, lits_at, swapped}
+use Rattle.sat_parts.specs.clause.Orders.{Shuffled, Shuffles, Kept, Reorders}
 use Rattle.sat_parts.specs.clause.Stored.{AreClauses, lit_of, size_of}
 
 -- where the literal at k stood before places i and j were exchanged

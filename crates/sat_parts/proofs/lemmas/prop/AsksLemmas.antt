@@ -1,7 +1,6 @@
 -- From what propagation asks of all parts to what it asks of the queue's walk, and back.
-use Rattle.std.proofs.Common.{ℕ, ◌≡◌, ◌⊎◌, inl, inr, ◌+◌, ◌*◌, ◌/◌, ◌<◌, List, [], length, refl, sym, ap, ◌∙◌, subst, arith, Bool, true, false, Result, Ok, Err}
+use Rattle.std.proofs.Common.{ℕ, ◌≡◌, inl, inr, ◌+◌, ◌/◌, ◌<◌, List, length, sym, subst, arith, true, false, Result, Ok, Err}
 use Rattle.std.proofs.lemmas.Bool.{cases_Bool}
-use Rattle.std.specs.List.{Contains}
 use Rattle.sat_store.specs.clause.Buffer.{Laid}
 use Rattle.sat_parts.specs.declared.prop.graph.Conflict.{Conflict}
 use Rattle.sat_parts.specs.clause.Orders.{Kept}
@@ -9,9 +8,9 @@ use Rattle.sat_parts.specs.clause.Db.{live_refs}
 use Rattle.sat_parts.specs.clause.Stored.{AreClauses}
 use Rattle.sat_parts.specs.prop.WatchLists.{Watching}
 use Rattle.sat_parts.specs.prop.State.{State, level, current_level}
-use Rattle.sat_parts.specs.prop.Reasons.{HaveFirsts, Moves}
+use Rattle.sat_parts.specs.prop.Reasons.{HaveFirsts}
 use Rattle.sat_parts.specs.prop.Ready.{AreWatched, AreSettled, ReadyBelow, Propagated, IsComplete, IsConflict}
-use Rattle.sat_parts.specs.prop.Asks.{Asks, AsksAll, Gives}
+use Rattle.sat_parts.specs.prop.Asks.{Asks, Gives}
 use Rattle.sat_parts.proofs.lemmas.prop.BuildLemmas.{live_in, live_same}
 
 pub ready_from : (words refs : List ℕ) (w w' : Watching) (implied : List (List ℕ)) (s : State) (top : ℕ) → Asks words refs w implied s top →

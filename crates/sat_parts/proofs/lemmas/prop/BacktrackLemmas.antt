@@ -1,5 +1,5 @@
 -- What is left once levels are undone.
-use Rattle.std.proofs.Common.{ℕ, ◌≡◌, ◌≢◌, ◌+◌, ◌-◌, ◌*◌, ◌/◌, ◌<◌, ◌≤◌, ◌⊎◌, inl, inr, List, [], ◌∷◌, suc, zero, length, get_or, set, take, drop, refl, sym, ap, ◌∙◌, subst, arith, length-set, get_or-set_same, get_or-set_other, length-drop, Bool, Option, Some, None}
+use Rattle.std.proofs.Common.{ℕ, ◌≡◌, ◌≢◌, ◌+◌, ◌-◌, ◌*◌, ◌<◌, ◌≤◌, ◌⊎◌, inl, inr, List, [], ◌∷◌, suc, zero, length, get_or, set, take, drop, refl, sym, ap, ◌∙◌, subst, arith, length-set, get_or-set_same, get_or-set_other, length-drop, Bool, Some, None}
 use Rattle.std.proofs.lemmas.Bool.{cases_eq, cases_lt}
 use Rattle.std.proofs.lemmas.List.{get_or-take, get_or-drop, length-take-le, get_or_past}
 use Rattle.std.specs.List.{Contains}
@@ -11,12 +11,12 @@ use Rattle.sat_parts.specs.declared.prop.graph.Reason.TheVariants.{Unit as NoCau
 use Rattle.sat_parts.specs.clause.Db.{live_refs}
 use Rattle.sat_parts.specs.clause.Stored.{AreClauses, lit_of}
 use Rattle.sat_parts.specs.prop.Values.{Values, IsTrueLit, value_of}
-use Rattle.sat_parts.specs.prop.Trails.{Trailed, IsTrail, AreStarts, LevelIs, cut_to}
+use Rattle.sat_parts.specs.prop.Trails.{Trailed, IsTrail, LevelIs, cut_to}
 use Rattle.sat_parts.specs.prop.Graphs.{node_of}
 use Rattle.sat_parts.specs.prop.Undone.{lost, undone, undone_to}
 use Rattle.sat_parts.specs.prop.Binaries.{implied_by}
 use Rattle.sat_parts.specs.prop.WatchLists.{Watching}
-use Rattle.sat_parts.specs.prop.State.{State, node, level, current_level, lit_at, IsRemoved, IsBefore, HasLeft, Agrees, IsQueueCurrent, IsSatisfied}
+use Rattle.sat_parts.specs.prop.State.{State, node, level, lit_at, IsRemoved, IsBefore, HasLeft, Agrees, IsQueueCurrent, IsSatisfied}
 use Rattle.sat_parts.specs.prop.Reasons.{IsFalseBefore, Implies, AreInTurn}
 use Rattle.sat_parts.specs.prop.Ready.{AreWatched, AreLists}
 use Rattle.sat_parts.specs.prop.Asks.{Asks, AsksAll}

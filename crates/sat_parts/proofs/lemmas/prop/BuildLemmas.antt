@@ -1,16 +1,16 @@
 -- Watch lists that are built clause by clause.
-use Rattle.std.proofs.Common.{ℕ, ◌≡◌, ◌≢◌, ◌+◌, ◌*◌, ◌/◌, ◌<◌, ◌≤◌, ◌⊎◌, inl, inr, List, [], ◌∷◌, ◌++◌, suc, length, get_or, set, take, drop, refl, sym, ap, ◌∙◌, subst, arith, length-set, Bool, true, false, not, cond}
+use Rattle.std.proofs.Common.{ℕ, ◌≡◌, ◌+◌, ◌*◌, ◌<◌, ◌≤◌, inl, inr, List, [], ◌∷◌, ◌++◌, suc, length, get_or, take, drop, refl, sym, ap, ◌∙◌, subst, arith, length-set, Bool, true, false, not, cond}
 use Rattle.std.proofs.lemmas.Bool.{cond-true, cond-false}
 use Rattle.std.proofs.lemmas.List.{take-append-drop, append-nil, take_all}
-use Rattle.std.proofs.lemmas.List.Elements.{filter_more, filter-append, filter_passes, All-filter, All-contains_itself, All-contains, Contains-append_left, Contains-push, Contains-push_cases}
-use Rattle.std.specs.List.{Contains, filter}
+use Rattle.std.proofs.lemmas.List.Elements.{filter_more, filter-append, All-filter, All-contains_itself, All-contains, Contains-append_left, Contains-push, Contains-push_cases}
+use Rattle.std.specs.List.{Contains}
 use Rattle.sat_base.specs.values.Literals.{negated}
-use Rattle.sat_store.specs.clause.Buffer.{header_at, lits_at}
+use Rattle.sat_store.specs.clause.Buffer.{header_at}
 use Rattle.sat_store.specs.clause.Header.{Header}
 use Rattle.sat_parts.specs.declared.prop.watch.Watch.{Watch}
 use Rattle.sat_parts.specs.clause.Db.{is_live, live_refs}
 use Rattle.sat_parts.specs.clause.Stored.{AreClauses, lit_of, size_of}
-use Rattle.sat_parts.specs.prop.WatchLists.{Watching, no_watch, watch_on, watches_of, more_at, with_watch, with_clause}
+use Rattle.sat_parts.specs.prop.WatchLists.{Watching, watch_on, watches_of, more_at, with_watch, with_clause}
 use Rattle.sat_parts.specs.prop.Ready.{IsGood, HasWatch, AreWatched}
 use Rattle.sat_parts.specs.prop.Building.{AreBuilt}
 use Rattle.sat_parts.proofs.lemmas.prop.WalkLemmas.{more_watch, new_watch, good_lists, at_two}

@@ -1,26 +1,20 @@
 -- One step of the walk through the watches of a literal, for each thing that a look at a clause may come to.
-use Rattle.std.proofs.Common.{ℕ, ◌≡◌, ◌≢◌, ◌+◌, ◌-◌, ◌*◌, ◌/◌, ◌<◌, ◌≤◌, ◌⊎◌, inl, inr, List, [], ◌∷◌, ◌++◌, length, get_or, set, take, drop, refl, sym, ap, ◌∙◌, subst, arith, length-set, get_or-set_same, get_or-set_other, Bool, Option, Some, None}
+use Rattle.std.proofs.Common.{ℕ, ◌≡◌, ◌≢◌, ◌+◌, ◌<◌, ◌≤◌, ◌⊎◌, inl, inr, List, length, get_or, set, sym, ap, ◌∙◌, subst, arith, length-set, get_or-set_other}
 use Rattle.std.proofs.lemmas.Bool.{cases_eq}
 use Rattle.std.specs.List.{Contains}
-use Rattle.sat_base.specs.values.Literals.{negated, variable, is_positive}
+use Rattle.sat_base.specs.values.Literals.{negated}
 use Rattle.sat_store.specs.clause.Buffer.{lits_at}
-use Rattle.sat_parts.specs.declared.prop.graph.ImplNode.{ImplNode}
-use Rattle.sat_parts.specs.declared.prop.graph.Reason.{Reason}
-use Rattle.sat_parts.specs.declared.prop.graph.Reason.TheVariants.{Long}
 use Rattle.sat_parts.specs.declared.prop.watch.Watch.{Watch}
-use Rattle.sat_parts.specs.clause.Orders.{AreDistinct, Shuffled, Shuffles}
+use Rattle.sat_parts.specs.clause.Orders.{Shuffled, Shuffles}
 use Rattle.sat_parts.specs.clause.Stored.{AreClauses, lit_of, size_of}
-use Rattle.sat_parts.specs.prop.Values.{IsTrueLit, IsFalseLit, IsOpenLit}
-use Rattle.sat_parts.specs.prop.WatchLists.{no_watch, watch_on, watches_of, more_at}
-use Rattle.sat_parts.specs.prop.State.{State, node, level, current_level, lit_at, IsRemoved, IsBefore, HasLeft, Agrees, IsQueueCurrent, IsSatisfied, enqueued, Grows}
-use Rattle.sat_parts.specs.prop.Reasons.{IsFalseBefore, Implies, Moves}
-use Rattle.sat_parts.specs.prop.Ready.{HasLit, IsGood, HasWatch, AreWatched, LongReady, IsFalsified}
-use Rattle.sat_parts.specs.prop.Walk.{HasWatchOutside, HasWatchFrom, AreWalked, Half, IsOther, Oriented, Walks, due_after}
-use Rattle.sat_parts.proofs.lemmas.clause.OrderLemmas.{shuffles_refl, kept_clauses, reorders_one}
-use Rattle.sat_parts.proofs.lemmas.prop.StateLemmas.{negated_twice, negated_variable, true_from_false, false_from_true, not_both, level_low, left_true, left_back, left_forth, level_kept, satisfied_forth, agrees_enqueued, grows_enqueued, queue_enqueued, open_other, true_new, true_kept, before_forth, lit_last}
-use Rattle.sat_parts.proofs.lemmas.prop.RoomLemmas.{room_for, below_from_value}
-use Rattle.sat_parts.proofs.lemmas.prop.ReasonLemmas.{moves_shuffled, moves_enqueued, moves_trans}
-use Rattle.sat_parts.proofs.lemmas.prop.WalkLemmas.{same_lits, shuffled_all, first_two, KeepsFirstTwo, at_two, oriented_two, walked_kept, walked_stale, walked_moved, walked_close, walked_open, not_watched, first_other, cut}
+use Rattle.sat_parts.specs.prop.Values.{IsTrueLit, IsFalseLit}
+use Rattle.sat_parts.specs.prop.WatchLists.{no_watch, watch_on, more_at}
+use Rattle.sat_parts.specs.prop.State.{State, level, HasLeft, Agrees, IsQueueCurrent, IsSatisfied, Grows}
+use Rattle.sat_parts.specs.prop.Ready.{HasLit}
+use Rattle.sat_parts.specs.prop.Walk.{HasWatchFrom, AreWalked, Half, IsOther}
+use Rattle.sat_parts.proofs.lemmas.clause.OrderLemmas.{kept_clauses, reorders_one}
+use Rattle.sat_parts.proofs.lemmas.prop.StateLemmas.{negated_twice, false_from_true, left_true, left_back, left_forth, level_kept, satisfied_forth}
+use Rattle.sat_parts.proofs.lemmas.prop.WalkLemmas.{same_lits, shuffled_all, first_two, KeepsFirstTwo, at_two, walked_kept, walked_stale, walked_moved, not_watched, first_other}
 
 pub satisfied_order : (s : State) (ls ms : List ℕ) (bound : ℕ) → Shuffled ls ms → IsSatisfied s ls bound → IsSatisfied s ms bound
 satisfied_order s ls ms bound e h =

@@ -1,25 +1,23 @@
 -- Propagation of the literals of the queue, one by one.
-use Rattle.std.proofs.Common.{ℕ, ◌≡◌, ◌≢◌, ◌+◌, ◌-◌, ◌*◌, ◌<◌, ◌≤◌, ◌⊎◌, inl, inr, List, [], ◌∷◌, ◌++◌, length, get_or, refl, sym, ap, ◌∙◌, subst, arith, Bool, Option, Some, None, slice_get}
+use Rattle.std.proofs.Common.{ℕ, ◌≡◌, ◌≢◌, ◌+◌, ◌-◌, ◌<◌, ◌≤◌, inl, inr, List, [], length, get_or, refl, sym, ap, ◌∙◌, subst, arith, Bool, Option, Some, None, slice_get}
 use Rattle.std.proofs.lemmas.Bool.{cases_eq}
 use Rattle.std.proofs.lemmas.Option.{slice_get_within, slice_get-get_or}
 use Rattle.std.specs.List.{Contains}
-use Rattle.sat_base.specs.values.Literals.{negated, variable, is_positive}
+use Rattle.sat_base.specs.values.Literals.{negated, variable}
 use Rattle.sat_store.specs.clause.Buffer.{lits_at}
-use Rattle.sat_parts.specs.declared.prop.graph.ImplNode.{ImplNode}
 use Rattle.sat_parts.specs.declared.prop.graph.Conflict.{Conflict}
 use Rattle.sat_parts.specs.declared.prop.graph.Conflict.TheVariants.{Binary, Long}
 use Rattle.sat_parts.specs.declared.prop.watch.Watch.{Watch}
 use Rattle.sat_parts.specs.clause.Stored.{AreClauses, lit_of, size_of}
-use Rattle.sat_parts.specs.prop.Values.{IsTrueLit, IsFalseLit, IsOpenLit}
-use Rattle.sat_parts.specs.prop.Trails.{Trailed, IsTrail, AreStarts, LevelIs}
+use Rattle.sat_parts.specs.prop.Values.{IsTrueLit, IsFalseLit}
 use Rattle.sat_parts.specs.prop.Binaries.{implied_by}
 use Rattle.sat_parts.specs.prop.State.{State, node, level, current_level, lit_at, IsRemoved, IsBefore, HasLeft, Agrees, IsQueueCurrent, IsSatisfied, Grows}
-use Rattle.sat_parts.specs.prop.Reasons.{HaveFirsts, AreInTurn, Moves}
-use Rattle.sat_parts.specs.prop.Ready.{AreSettled, AreImplied, AreWatched, AreLists, LongReady, ReadyBelow, IsReady, IsComplete, IsFalsified, IsUnitAt, IsConflict}
+use Rattle.sat_parts.specs.prop.Reasons.{HaveFirsts, Moves}
+use Rattle.sat_parts.specs.prop.Ready.{AreImplied, AreWatched, AreLists, LongReady, ReadyBelow, IsReady, IsComplete, IsConflict}
 use Rattle.sat_parts.specs.prop.Walk.{BinaryWalk, Walks, due_after}
 use Rattle.sat_parts.proofs.lemmas.clause.OrderLemmas.{reorders_refl}
 use Rattle.sat_parts.proofs.lemmas.prop.StateLemmas.{true_from_false, not_both, open_other, level_low, left_true, left_back, level_kept, satisfied_forth, before_forth, removed_forth}
-use Rattle.sat_parts.proofs.lemmas.prop.ReasonLemmas.{moves_refl, moves_trans, implies_forth, firsts_moved}
+use Rattle.sat_parts.proofs.lemmas.prop.ReasonLemmas.{moves_trans, implies_forth, firsts_moved}
 
 -- the state once the next literal was taken off the queue
 abbrev pub popped : State → State

@@ -1,18 +1,17 @@
 -- Reasons stay reasons while the trail grows and literals of clauses change places.
-use Rattle.std.proofs.Common.{ℕ, ◌≡◌, ◌≢◌, ◌+◌, ◌<◌, ◌≤◌, ◌⊎◌, inl, inr, List, [], ◌∷◌, ◌++◌, length, get_or, refl, sym, ap, ◌∙◌, subst, arith, Bool, Option}
+use Rattle.std.proofs.Common.{ℕ, ◌≡◌, ◌+◌, ◌<◌, ◌≤◌, inl, inr, List, [], ◌∷◌, ◌++◌, length, get_or, refl, sym, ap, ◌∙◌, subst, arith}
 use Rattle.std.proofs.lemmas.Bool.{cases_eq, cases_lt}
 use Rattle.std.proofs.lemmas.List.{length_push}
 use Rattle.std.specs.List.{Contains}
-use Rattle.sat_base.specs.values.Literals.{variable, is_positive, negated}
-use Rattle.sat_store.specs.clause.Buffer.{Keeps, lits_at}
+use Rattle.sat_base.specs.values.Literals.{variable, negated}
+use Rattle.sat_store.specs.clause.Buffer.{lits_at}
 use Rattle.sat_parts.specs.declared.prop.graph.ImplNode.{ImplNode}
 use Rattle.sat_parts.specs.declared.prop.graph.Reason.{Reason}
 use Rattle.sat_parts.specs.declared.prop.graph.Reason.TheVariants.{Unit as NoCause, Binary, Long}
-use Rattle.sat_parts.specs.clause.Orders.{AreDistinct, Shuffled, Shuffles, Reorders}
+use Rattle.sat_parts.specs.clause.Orders.{Shuffles}
 use Rattle.sat_parts.specs.clause.Stored.{AreClauses, lit_of, size_of}
 use Rattle.sat_parts.specs.prop.Values.{IsTrueLit, IsOpenLit}
-use Rattle.sat_parts.specs.prop.Graphs.{node_at}
-use Rattle.sat_parts.specs.prop.State.{State, node, lit_at, IsBefore, IsRemoved, Agrees, Grows, enqueued}
+use Rattle.sat_parts.specs.prop.State.{State, node, lit_at, Agrees, Grows, enqueued}
 use Rattle.sat_parts.specs.prop.Reasons.{IsFalseBefore, Implies, AreInTurn, HaveFirsts, Moves}
 use Rattle.sat_parts.proofs.lemmas.clause.OrderLemmas.{reorders_refl, reorders_trans, reorders_one}
 use Rattle.sat_parts.proofs.lemmas.prop.StateLemmas.{before_forth, removed_forth, grows_refl, grows_trans, grows_enqueued, lit_front, lit_last, node_kept, node_new}

@@ -1,16 +1,16 @@
 -- Each variable stands at most once on the trail, so that there is room for an open literal.
-use Rattle.std.proofs.Common.{ℕ, ◌≡◌, ◌≢◌, ◌+◌, ◌/◌, ◌<◌, ◌≤◌, ◌⊎◌, inl, inr, List, [], ◌∷◌, ◌++◌, map, length, get_or, refl, sym, ap, ◌∙◌, subst, arith, eqb, Bool, true, false, Option, Some, None}
+use Rattle.std.proofs.Common.{ℕ, ◌≡◌, ◌+◌, ◌<◌, ◌≤◌, inl, inr, List, [], ◌∷◌, ◌++◌, map, length, get_or, sym, ap, ◌∙◌, subst, arith, eqb, Bool, true, false, Option, Some, None}
 use Rattle.std.proofs.lemmas.Bool.{cases_eq, cases_lt, ne_eqb, eqb-true}
-use Rattle.std.proofs.lemmas.List.{get_or-map, length-map, length_push, get_or_default, get_or_past}
+use Rattle.std.proofs.lemmas.List.{get_or-map, length-map, length_push, get_or_past}
 use Rattle.std.proofs.lemmas.Map.Keys.{IsDistinct-from_apart}
 use Rattle.std.proofs.lemmas.Map.Steps.{length-le_from_distinct_below}
 use Rattle.std.proofs.lemmas.Map.Views.{Contains-from_any}
-use Rattle.std.specs.List.{IsDistinct, list_any, Contains}
+use Rattle.std.specs.List.{list_any, Contains}
 use Rattle.sat_base.specs.values.Literals.{variable, is_positive}
 use Rattle.sat_parts.specs.declared.prop.graph.Reason.{Reason}
-use Rattle.sat_parts.specs.prop.Values.{IsTrueLit, IsOpenLit, value_of}
+use Rattle.sat_parts.specs.prop.Values.{IsOpenLit, value_of}
 use Rattle.sat_parts.specs.prop.Graphs.{node_of}
-use Rattle.sat_parts.specs.prop.State.{State, node, lit_at, Agrees, enqueued}
+use Rattle.sat_parts.specs.prop.State.{State, lit_at, Agrees, enqueued}
 use Rattle.sat_parts.proofs.lemmas.prop.StateLemmas.{open_other, lit_front, lit_last}
 
 -- an assigned variable is there

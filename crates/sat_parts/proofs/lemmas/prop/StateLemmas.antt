@@ -1,14 +1,14 @@
 -- What a literal that becomes true changes, and what it leaves.
-use Rattle.std.proofs.Common.{ℕ, ◌≡◌, ◌≢◌, ◌+◌, ◌*◌, ◌/◌, ◌%◌, ◌==◌, ◌<◌, ◌≤◌, ◌⊎◌, inl, inr, List, [], ◌∷◌, ◌++◌, map, length, get_or, set, refl, sym, ap, ◌∙◌, subst, arith, length-set, get_or-set_same, get_or-set_other, length-append, Bool, not, Option, Some, None}
-use Rattle.std.proofs.lemmas.Bool.{cases_eq, ne_eqb}
+use Rattle.std.proofs.Common.{ℕ, ◌≡◌, ◌≢◌, ◌+◌, ◌<◌, ◌≤◌, ◌⊎◌, inl, inr, List, [], ◌∷◌, ◌++◌, length, get_or, set, refl, sym, ap, ◌∙◌, subst, arith, length-set, get_or-set_same, get_or-set_other, Bool, not, Option, Some, None}
+use Rattle.std.proofs.lemmas.Bool.{cases_eq}
 use Rattle.std.proofs.lemmas.Bool.Decides.{nat_tests}
 use Rattle.std.proofs.lemmas.List.{get_or_append_left, get_or_push, length_push}
-use Rattle.sat_base.specs.values.Literals.{variable, is_positive, negated, largest}
+use Rattle.sat_base.specs.values.Literals.{variable, is_positive, negated}
 use Rattle.sat_parts.specs.declared.prop.graph.ImplNode.{ImplNode}
 use Rattle.sat_parts.specs.declared.prop.graph.Reason.{Reason}
 use Rattle.sat_parts.specs.prop.Values.{IsTrueLit, IsFalseLit, IsOpenLit, value_of}
-use Rattle.sat_parts.specs.prop.Trails.{Trailed, IsTrail, AreStarts, LevelIs, with_lit}
-use Rattle.sat_parts.specs.prop.Graphs.{node_of, node_at, with_node, new_node}
+use Rattle.sat_parts.specs.prop.Trails.{IsTrail, LevelIs}
+use Rattle.sat_parts.specs.prop.Graphs.{node_at, new_node}
 use Rattle.sat_parts.specs.prop.State.{State, node, level, current_level, lit_at, IsRemoved, IsBefore, HasLeft, Agrees, IsQueueCurrent, enqueued, Grows, IsSatisfied}
 
 pub negated_variable : (l : ℕ) → variable (negated l) ≡ variable l

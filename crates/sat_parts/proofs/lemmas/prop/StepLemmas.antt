@@ -1,6 +1,6 @@
 -- What propagation asks stays so where literals become true and where levels begin.
-use Rattle.std.proofs.Common.{ℕ, ◌≡◌, ◌+◌, ◌*◌, ◌^◌, ◌<◌, ◌≤◌, ◌⊎◌, inl, inr, List, [], ◌∷◌, ◌++◌, length, get_or, refl, sym, ap, ◌∙◌, subst, arith, Bool, Option, Some}
-use Rattle.std.proofs.lemmas.Bool.{cases_eq, cases_lt}
+use Rattle.std.proofs.Common.{ℕ, ◌≡◌, ◌+◌, ◌*◌, ◌^◌, ◌<◌, ◌≤◌, inl, inr, List, [], ◌∷◌, ◌++◌, length, get_or, refl, sym, ap, ◌∙◌, subst, arith}
+use Rattle.std.proofs.lemmas.Bool.{cases_eq}
 use Rattle.std.proofs.lemmas.List.{length_push, get_or_append_left, get_or_push}
 use Rattle.std.specs.List.{Contains}
 use Rattle.sat_base.specs.values.Literals.{negated, variable}
@@ -10,16 +10,15 @@ use Rattle.sat_parts.specs.declared.prop.graph.Reason.{Reason}
 use Rattle.sat_parts.specs.declared.prop.graph.Reason.TheVariants.{Long}
 use Rattle.sat_parts.specs.clause.Db.{live_refs}
 use Rattle.sat_parts.specs.clause.Stored.{AreClauses, lit_of}
-use Rattle.sat_parts.specs.prop.Values.{Values, IsTrueLit, IsOpenLit}
-use Rattle.sat_parts.specs.prop.Trails.{Trailed, IsTrail, AreStarts, LevelIs, with_level}
-use Rattle.sat_parts.specs.prop.Graphs.{node_at}
+use Rattle.sat_parts.specs.prop.Values.{IsTrueLit, IsOpenLit}
+use Rattle.sat_parts.specs.prop.Trails.{LevelIs, with_level}
 use Rattle.sat_parts.specs.prop.Binaries.{implied_by}
 use Rattle.sat_parts.specs.prop.WatchLists.{Watching}
-use Rattle.sat_parts.specs.prop.State.{State, node, level, current_level, lit_at, IsRemoved, IsBefore, HasLeft, Agrees, IsQueueCurrent, IsSatisfied, Grows, enqueued}
+use Rattle.sat_parts.specs.prop.State.{State, node, level, lit_at, IsRemoved, HasLeft, Agrees, IsQueueCurrent, IsSatisfied, Grows, enqueued}
 use Rattle.sat_parts.specs.prop.Reasons.{HaveFirsts}
-use Rattle.sat_parts.specs.prop.Ready.{AreWatched, AreLists, state_of}
+use Rattle.sat_parts.specs.prop.Ready.{AreWatched, AreLists}
 use Rattle.sat_parts.specs.prop.Asks.{Asks, AsksAll}
-use Rattle.sat_parts.proofs.lemmas.prop.StateLemmas.{left_true, left_back, level_kept, level_low, satisfied_forth, agrees_enqueued, grows_enqueued, queue_enqueued, lit_front, lit_last, node_kept, node_new, before_forth, removed_forth}
+use Rattle.sat_parts.proofs.lemmas.prop.StateLemmas.{left_true, left_back, level_kept, level_low, satisfied_forth, agrees_enqueued, grows_enqueued, queue_enqueued, lit_front, lit_last, node_kept, node_new}
 use Rattle.sat_parts.proofs.lemmas.prop.RoomLemmas.{room_for}
 
 -- open literals become true

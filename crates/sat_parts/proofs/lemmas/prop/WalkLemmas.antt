@@ -1,17 +1,17 @@
 -- The watches of one literal, one by one: where each stays, goes, or moves to another literal.
-use Rattle.std.proofs.Common.{ℕ, ◌≡◌, ◌≢◌, ◌+◌, ◌-◌, ◌*◌, ◌/◌, ◌<◌, ◌≤◌, ◌⊎◌, inl, inr, List, [], ◌∷◌, ◌++◌, length, get_or, set, take, drop, refl, sym, ap, ◌∙◌, subst, arith, length-set, length-take, length-drop, length-append, get_or-set_same, get_or-set_other, Bool, Option}
+use Rattle.std.proofs.Common.{ℕ, ◌≡◌, ◌≢◌, ◌+◌, ◌-◌, ◌*◌, ◌<◌, ◌≤◌, ◌⊎◌, inl, inr, List, [], ◌∷◌, ◌++◌, length, get_or, set, take, drop, refl, sym, ap, ◌∙◌, subst, arith, length-set, length-drop, length-append, get_or-set_same, get_or-set_other}
 use Rattle.std.proofs.lemmas.Bool.{cases_eq, cases_lt}
-use Rattle.std.proofs.lemmas.List.{get_or_append_left, get_or_at, get_or-take, get_or-drop, get_or-append-add, get_or-append_right, length-take-le, length_push}
+use Rattle.std.proofs.lemmas.List.{get_or_append_left, get_or_at, get_or-take, get_or-drop, get_or-append-add, length-take-le}
 use Rattle.std.specs.List.{Contains}
 use Rattle.sat_base.specs.values.Literals.{negated}
-use Rattle.sat_store.specs.clause.Buffer.{Keeps, lits_at}
+use Rattle.sat_store.specs.clause.Buffer.{lits_at}
 use Rattle.sat_parts.specs.declared.prop.watch.Watch.{Watch}
-use Rattle.sat_parts.specs.clause.Orders.{AreDistinct, Shuffled, Shuffles, Reorders, Kept}
+use Rattle.sat_parts.specs.clause.Orders.{AreDistinct, Shuffled, Shuffles}
 use Rattle.sat_parts.specs.clause.Stored.{AreClauses, lit_of, size_of}
 use Rattle.sat_parts.specs.prop.WatchLists.{no_watch, watch_on, watches_of, more_at}
 use Rattle.sat_parts.specs.prop.Ready.{HasLit, IsGood, HasWatch, AreWatched}
-use Rattle.sat_parts.specs.prop.Walk.{HasWatchOutside, HasWatchFrom, AreWalked, IsOther}
-use Rattle.sat_parts.proofs.lemmas.clause.OrderLemmas.{shuffled_refl, shuffled_eq}
+use Rattle.sat_parts.specs.prop.Walk.{HasWatchOutside, AreWalked, IsOther}
+use Rattle.sat_parts.proofs.lemmas.clause.OrderLemmas.{shuffled_eq}
 use Rattle.sat_parts.proofs.lemmas.prop.StateLemmas.{negated_twice}
 
 -- after a visit of the clause at p, any other live clause has the literals that it had

@@ -1,24 +1,22 @@
 -- The walk through the watches of a literal as a whole: what holds before each look, step by step, and at both ends.
-use Rattle.std.proofs.Common.{ℕ, ◌≡◌, ◌≢◌, ◌+◌, ◌-◌, ◌*◌, ◌/◌, ◌<◌, ◌≤◌, ◌⊎◌, inl, inr, List, [], ◌∷◌, ◌++◌, length, get_or, set, refl, sym, ap, ◌∙◌, subst, arith, Bool, Option, Some, None}
+use Rattle.std.proofs.Common.{ℕ, ◌≡◌, ◌≢◌, ◌+◌, ◌*◌, ◌<◌, ◌≤◌, inl, inr, List, [], length, get_or, set, refl, sym, ap, ◌∙◌, subst, arith, Some, None}
 use Rattle.std.proofs.lemmas.Bool.{cases_eq}
 use Rattle.std.specs.List.{Contains}
 use Rattle.sat_base.specs.values.Literals.{negated, variable, is_positive}
-use Rattle.sat_store.specs.clause.Buffer.{IsClause, lits_at}
-use Rattle.sat_parts.specs.declared.prop.graph.ImplNode.{ImplNode}
+use Rattle.sat_store.specs.clause.Buffer.{lits_at}
 use Rattle.sat_parts.specs.declared.prop.graph.Reason.{Reason}
 use Rattle.sat_parts.specs.declared.prop.graph.Reason.TheVariants.{Long}
 use Rattle.sat_parts.specs.declared.prop.watch.Watch.{Watch}
 use Rattle.sat_parts.specs.clause.Orders.{Shuffles}
 use Rattle.sat_parts.specs.clause.Stored.{AreClauses, lit_of, size_of}
 use Rattle.sat_parts.specs.prop.Values.{IsTrueLit, IsFalseLit, IsOpenLit}
-use Rattle.sat_parts.specs.prop.Graphs.{node_at}
 use Rattle.sat_parts.specs.prop.WatchLists.{no_watch, watch_on, watches_of, more_at}
-use Rattle.sat_parts.specs.prop.State.{State, node, level, current_level, lit_at, IsRemoved, IsBefore, HasLeft, Agrees, IsQueueCurrent, IsSatisfied, enqueued, Grows}
+use Rattle.sat_parts.specs.prop.State.{State, level, current_level, HasLeft, Agrees, IsQueueCurrent, IsSatisfied, enqueued, Grows}
 use Rattle.sat_parts.specs.prop.Reasons.{IsFalseBefore, Implies, Moves}
-use Rattle.sat_parts.specs.prop.Ready.{HasLit, HasWatch, IsGood, LongReady, IsFalsified}
-use Rattle.sat_parts.specs.prop.Walk.{HasWatchFrom, AreWalked, Half, IsOther, Oriented, Walks, due_after}
+use Rattle.sat_parts.specs.prop.Ready.{HasLit, HasWatch, IsGood, LongReady}
+use Rattle.sat_parts.specs.prop.Walk.{Half, IsOther, Oriented, Walks}
 use Rattle.sat_parts.proofs.lemmas.clause.OrderLemmas.{shuffles_refl, kept_clauses, reorders_one}
-use Rattle.sat_parts.proofs.lemmas.prop.StateLemmas.{true_from_false, false_from_true, not_both, level_low, left_true, agrees_enqueued, grows_enqueued, queue_enqueued, true_new, node_new, before_forth, removed_forth, lit_last}
+use Rattle.sat_parts.proofs.lemmas.prop.StateLemmas.{true_from_false, false_from_true, not_both, level_low, left_true, agrees_enqueued, grows_enqueued, queue_enqueued, true_new, before_forth, removed_forth, lit_last}
 use Rattle.sat_parts.proofs.lemmas.prop.RoomLemmas.{room_for, below_from_value}
 use Rattle.sat_parts.proofs.lemmas.prop.ReasonLemmas.{moves_refl, moves_shuffled, moves_enqueued, moves_trans}
 use Rattle.sat_parts.proofs.lemmas.prop.WalkLemmas.{shuffled_all, first_two, oriented_two, walked_kept, walked_close, walked_open, cut}

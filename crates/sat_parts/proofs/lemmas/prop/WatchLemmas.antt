@@ -1,5 +1,5 @@
 -- Lists of watches that are gone through.
-use Rattle.std.proofs.Common.{ℕ, ◌≡◌, ◌≢◌, ◌+◌, ◌-◌, ◌<◌, ◌≤◌, ◌⊎◌, inl, inr, List, [], ◌∷◌, ◌++◌, length, get_or, set, take, drop, refl, sym, ap, ◌∙◌, subst, arith, length-set, length-drop, append_assoc, get_or-set_same}
+use Rattle.std.proofs.Common.{ℕ, ◌≡◌, ◌+◌, ◌-◌, ◌<◌, ◌≤◌, List, [], ◌∷◌, ◌++◌, length, get_or, set, take, drop, sym, ap, ◌∙◌, arith, length-drop, append_assoc, get_or-set_same}
 use Rattle.std.proofs.lemmas.List.{take_more_set, take_more, get_or-drop, get_or_read, set-set, set-get_or, take_at, length_push}
 use Rattle.sat_parts.specs.declared.prop.watch.Watch.{Watch}
 use Rattle.sat_parts.specs.prop.WatchLists.{no_watch}

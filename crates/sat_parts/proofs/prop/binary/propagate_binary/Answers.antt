@@ -1,11 +1,9 @@
-use Rattle.std.proofs.Common.{inl, rules, ◌≡◌, ◌<◌, ℕ, List, [], ◌∷◌, length, get_or, sym, ap, ◌∙◌, subst, arith, length-set}
+use Rattle.std.proofs.Common.{inl, rules, ◌≡◌, ◌<◌, ℕ, List, length, get_or, ap, ◌∙◌, subst, arith, length-set}
 use Rattle.std.proofs.lemmas.List.{get_or_read}
 use Rattle.sat_base.specs.values.Literals.{variable}
-use Rattle.sat_parts.specs.declared.prop.graph.Reason.TheVariants.{Binary}
 use Rattle.sat_parts.specs.prop.Values.{IsOpenLit, IsTrueLit}
 use Rattle.sat_parts.specs.prop.Binaries.{implied_by}
 use Rattle.sat_parts.specs.prop.Ready.{state_of}
-use Rattle.sat_parts.proofs.lemmas.prop.RoomLemmas.{room_for}
 use Rattle.sat_parts.proofs.lemmas.prop.BinaryLemmas.{binary_open, binary_true, binary_enqueued, binary_stopped, binary_conflict, open_from_not, implied_below}
 use Rattle.sat_parts.proofs.prop.binary.propagate_binary.Goals as goal
 use Rattle.sat_parts.proofs.prop.binary.propagate_binary.Goals.{then-not-lit_is_true, else-not-lit_is_true}

@@ -1,17 +1,12 @@
-use Rattle.std.proofs.Common.{inl, ◌≡◌, ℕ, ◌+◌, ◌*◌, ◌<◌, List, length, get_or, sym, ap, ◌∙◌, subst, arith, rules, length-set, Some, None}
+use Rattle.std.proofs.Common.{inl, ◌≡◌, ℕ, ◌<◌, length, sym, ◌∙◌, subst, arith, rules, length-set}
 use Rattle.std.specs.List.{Contains}
-use Rattle.sat_base.specs.values.Literals.{negated, variable}
-use Rattle.sat_parts.specs.declared.prop.graph.Reason.TheVariants.{Long}
-use Rattle.sat_parts.specs.clause.Stored.{lit_of, size_of}
+use Rattle.sat_base.specs.values.Literals.{variable}
 use Rattle.sat_parts.specs.prop.Values.{IsOpenLit}
-use Rattle.sat_parts.specs.prop.WatchLists.{no_watch, watch_on}
-use Rattle.sat_parts.specs.prop.State.{State}
+use Rattle.sat_parts.specs.prop.WatchLists.{watch_on}
 use Rattle.sat_parts.specs.prop.Ready.{state_of}
-use Rattle.sat_parts.specs.prop.Walk.{Half, Walks}
 use Rattle.sat_parts.proofs.lemmas.prop.ReasonLemmas.{moves_refl}
-use Rattle.sat_parts.proofs.lemmas.prop.RoomLemmas.{room_for}
 use Rattle.sat_parts.proofs.lemmas.prop.HalfLemmas.{place_live}
-use Rattle.sat_parts.proofs.lemmas.prop.Walking.{Walking, step_blocked, step_stale, step_moved, step_kept, step_propagates, walk_falsified, walk_done, walk_small, blocking_below, visited_below}
+use Rattle.sat_parts.proofs.lemmas.prop.Walking.{step_blocked, step_stale, step_moved, step_kept, step_propagates, walk_falsified, walk_done, walk_small, blocking_below, visited_below}
 use Rattle.sat_parts.proofs.prop.long.propagate_list.Goals as goal
 use Rattle.sat_parts.proofs.prop.long.propagate_list.Goals.{then-lit_is_true, else-lit_is_true+in_ok-visit_clause+in-Stale, else-lit_is_true+in_ok-visit_clause+in-Moved, else-lit_is_true+in_ok-visit_clause+in-Keep, else-lit_is_true+in_ok-visit_clause+in-Propagates}
 

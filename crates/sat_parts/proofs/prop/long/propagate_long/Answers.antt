@@ -1,6 +1,5 @@
-use Rattle.std.proofs.Common.{rules, ℕ, ◌≡◌, ◌*◌, ◌<◌, length, length-set, [], arith}
+use Rattle.std.proofs.Common.{length-set, [], arith}
 use Rattle.sat_parts.specs.prop.Ready.{state_of}
-use Rattle.sat_parts.specs.prop.Walk.{Walks}
 use Rattle.sat_parts.proofs.lemmas.prop.Walking.{walk_open, left_below}
 use Rattle.sat_parts.proofs.prop.long.propagate_long.Goals as goal
 

@@ -1,4 +1,4 @@
-use Rattle.std.proofs.Common.{ℕ, ◌≡◌, ◌+◌, ◌*◌, ◌<◌, length, arith}
+use Rattle.std.proofs.Common.{◌≡◌, ◌*◌, ◌<◌, length, arith}
 use Rattle.sat_parts.specs.clause.Orders.{Shuffles}
 use Rattle.sat_parts.specs.clause.Stored.{lit_of, size_of}
 use Rattle.sat_parts.proofs.lemmas.clause.OrderLemmas.{shuffles_trans, shuffles_swap, below_shuffled}

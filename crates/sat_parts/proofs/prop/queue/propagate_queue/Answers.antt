@@ -1,10 +1,8 @@
-use Rattle.std.proofs.Common.{rules, ◌≡◌, ◌+◌, ◌-◌, ◌*◌, ◌<◌, ℕ, List, length, sym, ap, ◌∙◌, subst, arith, Some, None}
+use Rattle.std.proofs.Common.{rules, length, ◌∙◌, Some, None}
 use Rattle.sat_parts.specs.prop.Binaries.{implied_by}
-use Rattle.sat_parts.specs.prop.State.{State, Agrees, HasLeft, level, current_level}
-use Rattle.sat_parts.specs.prop.Ready.{state_of, IsReady, IsConflict}
-use Rattle.sat_parts.specs.prop.Walk.{BinaryWalk, Walks}
+use Rattle.sat_parts.specs.prop.Ready.{state_of}
 use Rattle.sat_parts.proofs.lemmas.prop.ReasonLemmas.{moves_refl}
-use Rattle.sat_parts.proofs.lemmas.prop.QueueLemmas.{popped, next_agrees, next_left, next_top, next_long, next_stops_binary, next_goes_on, next_stops_long, next_moves_binary, next_moves, next_smaller, binary_names, complete}
+use Rattle.sat_parts.proofs.lemmas.prop.QueueLemmas.{next_agrees, next_left, next_top, next_long, next_stops_binary, next_goes_on, next_stops_long, next_moves_binary, next_moves, next_smaller, binary_names, complete}
 use Rattle.sat_parts.proofs.prop.queue.propagate_queue.Goals as goal
 
 pub queue-init : goal.queue-init

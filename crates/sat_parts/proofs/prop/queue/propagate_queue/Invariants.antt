@@ -1,4 +1,4 @@
-use Rattle.std.proofs.Common.{◌≡◌, ◌-◌, List, ℕ, length}
+use Rattle.std.proofs.Common.{◌≡◌, ◌-◌}
 use Rattle.sat_parts.specs.prop.Reasons.{Moves}
 use Rattle.sat_parts.specs.prop.Ready.{state_of, IsReady}
 use Rattle.sat_parts.proofs.prop.queue.propagate_queue.Given as goal

@@ -1,4 +1,4 @@
-use Rattle.std.proofs.Common.{◌<◌, inl, inr, length}
+use Rattle.std.proofs.Common.{inl, inr}
 use Rattle.sat_parts.specs.prop.Ready.{state_of}
 use Rattle.sat_parts.proofs.lemmas.prop.RoomLemmas.{room_for}
 use Rattle.sat_parts.proofs.lemmas.prop.StepLemmas.{asks_enqueued, agrees_by}

@@ -1,13 +1,10 @@
-use Rattle.std.proofs.Common.{rules, ◌≡◌, ◌+◌, ◌*◌, ◌<◌, ◌≤◌, ℕ, List, true, false, not, length, get_or, sym, ap, ◌∙◌, subst, arith}
+use Rattle.std.proofs.Common.{◌≡◌, ◌*◌, ◌<◌, ◌≤◌, ℕ, List, true, false, not, length, get_or, sym, ap, ◌∙◌, subst, arith}
 use Rattle.std.proofs.lemmas.List.{get_or_read}
 use Rattle.std.specs.List.{Contains}
-use Rattle.sat_base.specs.values.Literals.{negated}
-use Rattle.sat_store.specs.clause.Buffer.{header_at}
 use Rattle.sat_store.specs.clause.Header.{Header}
 use Rattle.sat_parts.specs.clause.Db.{Db, is_live, live_refs}
 use Rattle.sat_parts.specs.clause.Stored.{lit_of, size_of}
-use Rattle.sat_parts.specs.prop.Building.{AreBuilt}
-use Rattle.sat_parts.proofs.lemmas.prop.BuildLemmas.{built_none, built_skip, built_by, built_all, live_place}
+use Rattle.sat_parts.proofs.lemmas.prop.BuildLemmas.{built_skip, built_by, built_all, live_place}
 use Rattle.sat_parts.proofs.prop.watch.enable_watchlists.Goals as goal
 use Rattle.sat_parts.proofs.prop.watch.enable_watchlists.Goals.{then-not-deleted+in_ok-watch_clause, else-not-deleted}
 

@@ -1,4 +1,4 @@
-use Rattle.std.proofs.Common.{◌≡◌, true, length}
+use Rattle.std.proofs.Common.{◌≡◌, true}
 use Rattle.sat_parts.specs.prop.Building.{AreBuilt}
 use Rattle.sat_parts.proofs.prop.watch.enable_watchlists.Given as goal
 

@@ -1,4 +1,4 @@
-use Rattle.std.proofs.Common.{◌≡◌, ◌≢◌, ◌<◌, length, length-set, get_or-set_other, ◌∙◌, arith}
+use Rattle.std.proofs.Common.{◌≢◌, ◌<◌, length, length-set, get_or-set_other, ◌∙◌, arith}
 use Rattle.sat_parts.specs.prop.WatchLists.{no_watch}
 use Rattle.sat_parts.proofs.lemmas.prop.WatchLemmas.{cut_more}
 use Rattle.sat_parts.proofs.prop.watch.WatchList.cut.Goals as goal

@@ -1,4 +1,4 @@
-use Rattle.std.proofs.Common.{◌≡◌, ℕ, ◌+◌, ◌-◌, ◌<◌, ◌≤◌, ◌++◌, length, get_or, take, drop}
+use Rattle.std.proofs.Common.{◌≡◌, ℕ, ◌+◌, ◌-◌, ◌≤◌, ◌++◌, length, get_or, take, drop}
 use Rattle.sat_parts.specs.prop.WatchLists.{no_watch}
 use Rattle.sat_parts.proofs.prop.watch.WatchList.cut.Given as goal
 

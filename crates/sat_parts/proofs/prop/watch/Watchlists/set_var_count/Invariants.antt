@@ -1,4 +1,4 @@
-use Rattle.std.proofs.Common.{◌≡◌, ℕ, ◌+◌, ◌-◌, ◌*◌, ◌<◌, ◌≤◌, ◌++◌, [], length, take, replicate, vec_capacity}
+use Rattle.std.proofs.Common.{◌≡◌, ◌+◌, ◌-◌, ◌*◌, ◌≤◌, ◌++◌, [], length, take, replicate, vec_capacity}
 use Rattle.sat_parts.proofs.prop.watch.Watchlists.set_var_count.Given as goal
 
 abbrev pub invariant-loop-added : goal.invariant-loop-added
