@@ -35,7 +35,9 @@ pub fn propagate(
     binary: &BinaryClauses,
 ) -> Result<Result<(), Conflict>, AllocError>
     requires { AsksAll clauses.old db.now.refs watchlists.old binary.now.implied (state_of assignment.old graph.old trail.old) }
-    ensures given { IfOk result (λ r. Gives db.now.refs binary.now.implied clauses.old (state_of assignment.old graph.old trail.old) clauses.new (state_of assignment.new graph.new trail.new) watchlists.new r) }
+    ensures given { IfOk result (λ r. Gives db.now.refs binary.now.implied
+        clauses.old (state_of assignment.old graph.old trail.old)
+        clauses.new (state_of assignment.new graph.new trail.new) watchlists.new r) }
     ensures last { IfOk result (λ _. assignment.new.last ≡ assignment.old.last) }
 {
     enable_watchlists(watchlists, clauses, db)?;

@@ -26,7 +26,8 @@ pub fn propagate_binary(
     requires left { HasLeft (state_of assignment.old graph.old trail.old) lit }
     requires top { level (state_of assignment.old graph.old trail.old) lit ≡ current_level (state_of assignment.old graph.old trail.old) }
     ensures memory { IsOk result }
-    ensures walked { IfOk result (λ r. WalksBinary binary.now.implied lit (state_of assignment.old graph.old trail.old) (state_of assignment.new graph.new trail.new) r) }
+    ensures walked { IfOk result (λ r. WalksBinary binary.now.implied lit
+        (state_of assignment.old graph.old trail.old) (state_of assignment.new graph.new trail.new) r) }
     ensures last { assignment.new.last ≡ assignment.old.last }
 {
     let false_lit = !lit;

@@ -124,7 +124,9 @@ fn propagate_list(
 ) -> Result<Option<ClauseRef>, AllocError>
     ghost live: { List ℕ }
     requires { Half clauses.old live (state_of assignment.old graph.old trail.old) watchlists.old.lists list.old lit 0 0 }
-    ensures walked { IfOk result (λ found. Walks live clauses.old (state_of assignment.old graph.old trail.old) clauses.new (state_of assignment.new graph.new trail.new) (slice_set watchlists.new.lists lit list.new) found) }
+    ensures walked { IfOk result (λ found. Walks live
+        clauses.old (state_of assignment.old graph.old trail.old)
+        clauses.new (state_of assignment.new graph.new trail.new) (slice_set watchlists.new.lists lit list.new) found) }
     ensures last { assignment.new.last ≡ assignment.old.last }
     ensures enabled { watchlists.new.enabled ≡ watchlists.old.enabled }
 {
@@ -177,7 +179,9 @@ pub fn propagate_long(
     requires ready { LongReady clauses.old live watchlists.old.lists (state_of assignment.old graph.old trail.old) (λ l. l ≢ lit) }
     requires left { HasLeft (state_of assignment.old graph.old trail.old) lit }
     requires top { level (state_of assignment.old graph.old trail.old) lit ≡ current_level (state_of assignment.old graph.old trail.old) }
-    ensures walked { IfOk result (λ r. WalksLong live clauses.old (state_of assignment.old graph.old trail.old) clauses.new (state_of assignment.new graph.new trail.new) watchlists.new.lists r) }
+    ensures walked { IfOk result (λ r. WalksLong live
+        clauses.old (state_of assignment.old graph.old trail.old)
+        clauses.new (state_of assignment.new graph.new trail.new) watchlists.new.lists r) }
     ensures last { assignment.new.last ≡ assignment.old.last }
     ensures enabled { watchlists.new.enabled ≡ watchlists.old.enabled }
 {

@@ -27,7 +27,9 @@ pub(crate) fn propagate_queue(
 ) -> Result<Result<(), Conflict>, AllocError>
     ghost live: { List ℕ }
     requires { IsReady clauses.old live watchlists.old.lists binary.now.implied (state_of assignment.old graph.old trail.old) }
-    ensures propagated { IfOk result (λ r. Propagated live binary.now.implied clauses.old (state_of assignment.old graph.old trail.old) clauses.new (state_of assignment.new graph.new trail.new) watchlists.new.lists r) }
+    ensures propagated { IfOk result (λ r. Propagated live binary.now.implied
+        clauses.old (state_of assignment.old graph.old trail.old)
+        clauses.new (state_of assignment.new graph.new trail.new) watchlists.new.lists r) }
     ensures last { assignment.new.last ≡ assignment.old.last }
     ensures enabled { watchlists.new.enabled ≡ watchlists.old.enabled }
 {
