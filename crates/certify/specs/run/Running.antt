@@ -7,7 +7,7 @@ use Rattle.sat_base.specs.values.Literals.{coded, largest, variable}
 use Rattle.sat_base.specs.values.Clauses.{Valuation, EachTrue, EachHolds}
 use Rattle.sat_base.specs.script.Script.{Literal, Command, Clause, Ask, Ending, Malformed, names_of}
 use Rattle.sat_base.specs.script.Judge.{Judge, Named, Mode, Sampled, names_from, accepted_of, start}
-use Rattle.sat_base.specs.steps.Steps.{Step, UserVarName, AddClause, Model, Assumptions, End}
+use Rattle.sat_base.specs.steps.Steps.{Step, UserVarName, AddClause, Model, Assumptions}
 use Rattle.certify.specs.answers.Answers.{Outcome, Sat, Unsat, Unknown, answers_from, malformed_line, outcome_text}
 use Rattle.certify.specs.answers.AnswerForms.{named_literals}
 use Rattle.certify.specs.answers.RightAnswers.{AreRight}

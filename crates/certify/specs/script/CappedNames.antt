@@ -1,7 +1,7 @@
 -- Names capped at one above the largest, which no command with a larger one notices.
-use Rattle.std.specs.Prelude.{ℕ, ◌+◌, ◌≡◌, ◌≤◌, min, None, List, map, length}
+use Rattle.std.specs.Prelude.{ℕ, ◌+◌, ◌≡◌, min, None, List, map, length}
 use Rattle.sat_base.specs.values.Literals.{largest}
-use Rattle.sat_base.specs.script.Script.{Literal, Command, Clause, Ask, Hide, Witness, Sample, Ending, Malformed, Reading, written, reading}
+use Rattle.sat_base.specs.script.Script.{Literal, Command, Clause, Ask, Hide, Witness, Sample, Ending, Reading, written, reading}
 use Rattle.sat_base.specs.script.Judge.{Judge, refusal_of, accepted_of, after_command, after_script}
 
 abbrev pub capped_name : ℕ → ℕ

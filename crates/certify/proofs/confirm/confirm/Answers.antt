@@ -1,4 +1,4 @@
-use Rattle.certify.proofs.lemmas.confirm.DecidedTexts.{exact, sound, too_many}
+use Rattle.certify.proofs.lemmas.confirm.DecidedTexts.{exact, sound}
 use Rattle.certify.proofs.confirm.confirm.Goals as goal
 
 pub returns-in-Ok-confirm_texts-clause-exact : goal.returns-in-Ok-confirm_texts-clause-exact

@@ -15,7 +15,6 @@ use Rattle.certify.specs.declared.run.session.Session.{Session}
 use Rattle.certify.specs.declared.summary.Summary.{Summary}
 use Rattle.certify.specs.answers.Answers.{Outcome, piece, outcomes_left, refused_line, answers_from, ending_text}
 use Rattle.certify.specs.answers.RightAnswers.{AreRight}
-use Rattle.certify.specs.search.SolverState.{new_solver}
 use Rattle.certify.specs.confirm.ListChecking.{the_checking}
 use Rattle.certify.specs.confirm.Matches.{expected, finish}
 use Rattle.certify.specs.run.Certifies.{Certifies, complete, ordered}
@@ -31,7 +30,6 @@ use Rattle.certify.proofs.lemmas.script.CappedNames.{refusal_of-held, uncapped, 
 use Rattle.certify.proofs.lemmas.run.CertifiedPieces.{told_start}
 use Rattle.certify.proofs.lemmas.run.FirstNames.{start_plain}
 use Rattle.certify.proofs.lemmas.script.SimpleCommands.{held_good}
-use Rattle.certify.proofs.lemmas.script.CappedReading.{counted}
 use Rattle.certify.proofs.lemmas.run.WrittenSteps.{wrote_none, wrote_step, wrote_then}
 
 pub took_nothing : (script : CappedScript) (budget : ℕ) (s : Session) (a : Both) → IsNew s → TookAll script budget 0 s a a

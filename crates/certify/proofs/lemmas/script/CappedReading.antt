@@ -1,5 +1,5 @@
 -- Reading capped names is reading names and capping them.
-use Rattle.std.proofs.Common.{◌≡◌, ◌≤◌, ℕ, List, [], ◌∷◌, ◌++◌, Bool, true, false, map, refl, sym, ap, ◌∙◌, arith}
+use Rattle.std.proofs.Common.{◌≡◌, ℕ, List, [], ◌∷◌, ◌++◌, Bool, true, false, map, refl, sym, ap, ◌∙◌, arith}
 use Rattle.std.specs.Prelude.{nat_eq, not, is_some, ◌&&◌, if◌then◌else◌}
 use Rattle.std.proofs.Common.{cond, length, inl, inr}
 use Rattle.std.proofs.lemmas.List.{length-map}

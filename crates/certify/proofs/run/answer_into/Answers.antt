@@ -2,7 +2,6 @@ use Rattle.std.proofs.Common.{sym, subst, MutBor}
 use Rattle.sat_base.specs.device.Device.{Writer, lent_writer}
 use Rattle.sat_base.specs.device.Sink.{Sink}
 use Rattle.sat_base.specs.steps.StepWriting.{steps_sink}
-use Rattle.certify.specs.run.Outputs.{Both}
 use Rattle.certify.specs.run.Running.{SumsUp}
 use Rattle.certify.proofs.lemmas.run.FinishedRuns.{run_into}
 use Rattle.certify.proofs.run.answer_into.Goals as goal
