@@ -5,7 +5,7 @@ ghost use Rattle.std.specs.Prelude.{◌≡◌, ◌≤◌, ◌∷◌, [], ℕ, tr
 ghost use Rattle.sat_base.specs.values.Literals.{coded, largest};
 
 use sat_base::{CnfFormula, ExtendFormula, FormulaError, Lit, Var};
-use std::alloc::Global;
+use std::alloc::{AllocError, Global};
 use std::mem;
 use std::test::*;
 
@@ -18,7 +18,7 @@ fn add_unit<F: ExtendFormula>(formula: &mut F) -> Result<Lit, F::Error>
     Ok(lit)
 }
 
-fn clause(alloc: Global, numbers: &[i64]) -> Result<Vec<Lit>, FormulaError> {
+fn clause(alloc: Global, numbers: &[i64]) -> Result<Vec<Lit>, AllocError> {
     let mut lits = Vec::new(alloc);
     for number in numbers {
         if let Some(lit) = Lit::from_dimacs(*number) {
