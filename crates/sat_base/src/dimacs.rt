@@ -5,7 +5,7 @@ ghost use Rattle.sat_base.specs.values.Literals.{largest};
 ghost use Rattle.sat_base.specs.text.Text.{header_of};
 ghost use Rattle.sat_base.specs.text.Tokenizing.{held};
 ghost use Rattle.sat_base.specs.values.Formulas.{vars_of};
-ghost use Rattle.sat_base.specs.dimacs.Parsing.{no_progress, clauses_read, lines_read, held_numbers, all_taken, Feeds, IsSound, Finishes, Parses, KeepsText, ParsesInParts, VisitsAll};
+ghost use Rattle.sat_base.specs.dimacs.Parsing.{no_progress, clauses_read, lines_read, held_numbers, all_taken, Feeds, IsSound, GaveSound, Finishes, Parses, KeepsText, ParsesInParts, VisitsAll};
 
 mod clauses;
 pub mod error;
@@ -109,6 +109,8 @@ impl DimacsParser {
         // A read has failed only where the answer is that, and none is tried again.
         ensures kept { IsErrOf result DimacsError.Read ⊎ ((R.seen reader.new).failures ≡ (R.seen reader.old).failures) }
         ensures read { IsErrOf result DimacsError.Read → ReadFails (R.seen reader.old) (R.seen reader.new) }
+        // No fault of a line that was given is passed over.
+        ensures sound { IsErrOf result DimacsError.Read → GaveSound (R.seen reader.old) (R.seen reader.new) }
         ensures reads { (R.seen reader.new).calls ≤ (R.seen reader.old).calls + most_reads }
         ensures fresh { IsErrOf result DimacsError.HasFailed → ⊥ }
     {

@@ -310,7 +310,7 @@ fn a_caller_sees_each_clause_of_a_long_text(rt: HostRuntime) -> Result<(), Fail>
 }
 
 /// A text, its fault, the clauses before it, and how often the closure is called.
-const FAULTS: [(&[u8], DimacsError, &[i64], u64); 4] = [
+const FAULTS: [(&[u8], DimacsError, &[i64], u64); 3] = [
     (b"1 2\n-0 0\n", MALFORMED, &[], 7),
     (
         b"1 0\n268435457 0\n",
@@ -318,7 +318,6 @@ const FAULTS: [(&[u8], DimacsError, &[i64], u64); 4] = [
         &[1, 0],
         14,
     ),
-    (b"1\n%\n", MALFORMED, &[], 5),
     (b"1 0\n2", MALFORMED, &[1, 0], 6),
 ];
 
@@ -331,6 +330,26 @@ fn a_caller_sees_the_clauses_before_a_fault(rt: HostRuntime) {
             "{text:?}"
         );
     }
+}
+
+/// Reads a text byte by byte. Gives the numbers of the clauses that a closure took, how often it was called, how often the reader
+/// was, and the fault.
+fn looks_and_reads(
+    alloc: Global,
+    text: &[u8],
+) -> (Vec<i64>, u64, u64, Option<IncrementalError<Refused>>) {
+    let mut reader = by_one(text, 0);
+    let (seen, answer) = read_and_look(alloc, &mut reader, 0);
+    let Seen { numbers, calls } = seen;
+    (numbers, calls, reader.into_inner().calls, answer.err())
+}
+
+/// Behind the byte `%` the text is decided, and nothing need be read. The closure has the parser behind each read, either way.
+#[test]
+fn a_caller_sees_each_piece_up_to_a_percent_line(rt: HostRuntime) {
+    let (numbers, calls, reads, fault) = looks_and_reads(rt.alloc(), b"1\n%\n");
+    assert!(rt; numbers.is_empty() && fault == Some(IncrementalError::Dimacs(MALFORMED)));
+    assert!(rt; calls == reads && 2 < reads && reads < 6);
 }
 
 #[test]
@@ -367,7 +386,7 @@ fn count_in_parts<R: CountedRead>(
     reader: &mut R,
 ) -> Result<u64, IncrementalError<DimacsError>>
     ensures { IfOk result (λ count. (text : List ℕ) × GaveFront (R.seen reader.old) (R.seen reader.new) text
-        × (count ≡ held (length (dimacs text).clauses)) × IsWhole (R.seen reader.new) text) }
+        × (count ≡ held (length (dimacs text).clauses)) × IsWhole (R.seen reader.old) (R.seen reader.new) text) }
 {
     let parser = DimacsParser::parse_incremental(alloc, reader, |parser| {
         parser.take_formula();

@@ -28,6 +28,7 @@ writer_of contents c = record {
   failed = c.tally.failed;
   failures = c.tally.failures;
   calls = c.tally.calls;
+  flushes = c.tally.flushes;
   loans = [];
 }
 
@@ -37,4 +38,13 @@ new_reader bytes = record { to_come = bytes; given = []; ended = false; failed =
 
 -- a writer that was never called
 abbrev pub new_writer : Option (List ℕ) → Writer
-new_writer bytes = record { contents = bytes; taken = []; flushed = false; failed = false; failures = 0; calls = 0; loans = [] }
+new_writer bytes = record {
+  contents = bytes;
+  taken = [];
+  flushed = false;
+  failed = false;
+  failures = 0;
+  calls = 0;
+  flushes = 0;
+  loans = [];
+}

@@ -20,6 +20,7 @@ pub record Writer : Type 0 where
   pub failed : Bool  -- the last call failed
   pub failures : ℕ
   pub calls : ℕ  -- a flush is one, too
+  pub flushes : ℕ  -- how many of them were flushes that didn't fail
   pub loans : List ℕ  -- by which borrows it is lent, the last one first
 
 -- lent once more
@@ -65,15 +66,21 @@ pub record WritesOnce {E : Type 0} (r : Result ℕ E) (piece : List ℕ) (old ne
   pub told : WriteAppends old.contents new.contents r piece
   pub taken : Adds r piece old.taken new.taken
   pub flushed : new.flushed ≡ false
+  pub flushes : new.flushes ≡ old.flushes
   pub failures : CountsWrite r piece old.failures new.failures new.failed
   pub calls : new.calls ≡ old.calls + 1
   pub loans : new.loans ≡ old.loans
+
+-- a flush counts where it didn't fail
+abbrev pub CountsFlush : {T E : Type 0} → Result T E → ℕ → ℕ → Type 0
+CountsFlush r old new = MatchResult r (λ _. new ≡ old + 1) (λ _. new ≡ old)
 
 -- one flush
 pub record FlushesOnce {E : Type 0} (r : Result (Unit {0}) E) (old new : Writer) : Type 0 where
   pub told : Keeps old.contents new.contents
   pub taken : new.taken ≡ old.taken
   pub flushed : new.flushed ≡ is_ok r
+  pub flushes : CountsFlush r old.flushes new.flushes
   pub failures : CountsErr r old.failures new.failures new.failed
   pub calls : new.calls ≡ old.calls + 1
   pub loans : new.loans ≡ old.loans
@@ -86,6 +93,10 @@ pub record GaveFront (old new : Reader) (text : List ℕ) : Type 0 where
   pub told : Consumes old.to_come new.to_come text
   pub loans : new.loans ≡ old.loans
 
+-- No read is made for nothing: there were at most as many as bytes were given, and one more.
+abbrev pub FewReads : Reader → Reader → Type 0
+FewReads old new = new.calls + length old.given ≤ old.calls + length new.given + 1
+
 -- it is at its end
 pub record IsOver (r : Reader) : Type 0 where
   pub ends : r.ended ≡ true
@@ -97,22 +108,25 @@ pub record GaveAll (old new : Reader) (text : List ℕ) : Type 0 where
   pub ends : new.ended ≡ true
   pub told : Consumes old.to_come new.to_come text
   pub over : IsAtEnd new.to_come
+  pub called : old.calls < new.calls
+  pub few : FewReads old new
   pub loans : new.loans ≡ old.loans
 
--- what could follow: nothing where it was seen to be at its end
-abbrev pub CanFollow : Reader → List ℕ → Type 0
-CanFollow r rest = r.ended ≡ true → rest ≡ []
+-- what could follow: nothing where a read has found it at its end since
+abbrev pub CanFollow : Reader → Reader → List ℕ → Type 0
+CanFollow old new rest = old.calls < new.calls → new.ended ≡ true → rest ≡ []
 
 -- It gave a text of which this is so whatever would follow.
 pub record GaveEnough (old new : Reader) (P : List ℕ → Type 0) : Type 0 where
   pub text : List ℕ
   pub front : GaveFront old new text
   pub over : new.ended ≡ true → IsAtEnd new.to_come
-  pub holds : (rest : List ℕ) → CanFollow new rest → P (text ++ rest)
+  pub few : FewReads old new
+  pub holds : (rest : List ℕ) → CanFollow old new rest → P (text ++ rest)
 
--- what was given only grew
+-- what was given only grew, and no read was made for nothing
 abbrev pub Grew : Reader → Reader → Type 0
-Grew old new = (text : List ℕ) × GaveFront old new text
+Grew old new = (text : List ℕ) × GaveFront old new text × FewReads old new
 
 -- a reader is read at most so often
 abbrev pub most_reads : ℕ
@@ -122,21 +136,30 @@ most_reads = 2 ^ 48
 abbrev pub piece_size : ℕ
 piece_size = 4096
 
--- Why a text couldn't be read: one read failed, which was the last, or so many were made and none did.
+-- one call failed, the last
+abbrev pub FailsLast : Reader → Reader → Type 0
+FailsLast old new = (new.failures ≡ old.failures + 1) × (new.failed ≡ true)
+
+-- so many reads were made, and none failed
+abbrev pub ReadsOut : Reader → Reader → Type 0
+ReadsOut old new = (new.failures ≡ old.failures) × (new.calls ≡ old.calls + most_reads)
+
+-- why a text couldn't be read: one read failed, which was the last, or so many were made and none did; none for nothing
 abbrev pub ReadFails : Reader → Reader → Type 0
-ReadFails old new = ((new.failures ≡ old.failures + 1) × (new.failed ≡ true)) ⊎ ((new.failures ≡ old.failures) × (new.calls ≡ old.calls + most_reads))
+ReadFails old new = (FailsLast old new ⊎ ReadsOut old new) × FewReads old new
 
 -- WHAT A WRITER TOOK
 
--- it took this text, and no call failed
+-- it took this text, and no call failed; each but the flushes took some of it
 pub record Takes (old new : Writer) (text : List ℕ) : Type 0 where
   pub taken : new.taken ≡ old.taken ++ text
   pub told : Appends old.contents new.contents text
   pub failures : new.failures ≡ old.failures
   pub calls : old.calls ≤ new.calls
+  pub few : new.calls + old.flushes ≤ old.calls + new.flushes + length text
   pub loans : new.loans ≡ old.loans
 
--- it took a front of this text, and then one call failed, the last
+-- it took a front of this text, and then one call failed, the last; each but this one and the flushes took some of it
 pub record Breaks (old new : Writer) (text : List ℕ) : Type 0 where
   pub front : List ℕ
   pub behind : List ℕ
@@ -146,6 +169,7 @@ pub record Breaks (old new : Writer) (text : List ℕ) : Type 0 where
   pub failures : new.failures ≡ old.failures + 1
   pub failed : new.failed ≡ true
   pub calls : old.calls < new.calls
+  pub few : new.calls + old.flushes ≤ old.calls + new.flushes + length front + 1
   pub loans : new.loans ≡ old.loans
 
 -- a text was written, or a front of it

@@ -1,5 +1,5 @@
 -- What it is to read a value in a format, from a reader whose bytes are read ahead of need.
-use Rattle.std.specs.Prelude.{◌≡◌, ℕ, true, length, ◌+◌, ◌*◌, ◌≤◌, ◌⊎◌, List, [], ◌∷◌, ◌++◌, Option, None, Some, Result, Ok, Err}
+use Rattle.std.specs.Prelude.{◌≡◌, ℕ, true, length, ◌+◌, ◌*◌, ◌≤◌, ◌⊎◌, List, [], ◌∷◌, ◌++◌, Option, None, Some, Result, Ok, Err, nat_eq, if◌then◌else◌}
 use Rattle.std.specs.Io.KnownBytes.{Consumes, IsAtEnd, prepend_known}
 use Rattle.sat_base.specs.declared.device.ahead.Ahead.{Ahead}
 use Rattle.sat_base.specs.declared.device.input.Input.{Input}
@@ -35,8 +35,9 @@ named names s = record s { names = names }
 abbrev pub source_of : {R : Type 0} → (R → Reader) → Input R → Source
 source_of seen i = named (i.reader.ghost_name ∷ i.ahead.ghost_name ∷ []) (source seen i.reader.now i.ahead.now)
 
--- These bytes were taken, and no call failed. What waited and what was given since is what was taken and what waits now; a read gave at most 4,096 bytes.
-pub record Passes (old new : Source) (text : List ℕ) : Type 0 where
+-- These bytes were taken, and no call failed. What waited and what was given since is what was taken and what waits now. A read gave at
+-- most 4,096 bytes, and there were at most as many reads as bytes given, but for so many.
+pub record PassesBut (more : ℕ) (old new : Source) (text : List ℕ) : Type 0 where
   pub fresh : List ℕ
   pub gave : new.reader.given ≡ old.reader.given ++ fresh
   pub flows : old.waiting ++ fresh ≡ text ++ new.waiting
@@ -44,14 +45,23 @@ pub record Passes (old new : Source) (text : List ℕ) : Type 0 where
   pub failures : new.reader.failures ≡ old.reader.failures
   pub calls : new.reader.calls + old.reads ≡ old.reader.calls + new.reads
   pub room : length fresh + piece_size * old.reads ≤ piece_size * new.reads
+  pub few : new.reads ≤ old.reads + length fresh + more
   pub loans : new.reader.loans ≡ old.reader.loans
   pub names : new.names ≡ old.names
+
+-- no read was made for nothing
+abbrev pub Passes : Source → Source → List ℕ → Type 0
+Passes old new text = PassesBut 0 old new text
 
 -- all bytes are taken: the last read found the reader at its end, and none waits
 pub record AllTaken (s : Source) : Type 0 where
   pub ended : s.reader.ended ≡ true
   pub waiting : s.waiting ≡ []
   pub over : IsAtEnd (to_come s)
+
+-- these bytes were taken, and then one read found the end
+abbrev pub PassesToEnd : Source → Source → List ℕ → Type 0
+PassesToEnd old new text = PassesBut 1 old new text × AllTaken new
 
 -- These bytes were taken, which were all that was given, and then one read failed, the last, or there were 2^48 of them and none did.
 pub record Faults (old new : Source) (text : List ℕ) : Type 0 where
@@ -63,12 +73,17 @@ pub record Faults (old new : Source) (text : List ℕ) : Type 0 where
   pub cause : ((new.reader.failures ≡ old.reader.failures + 1) × (new.reader.failed ≡ true)) ⊎ ((new.reader.failures ≡ old.reader.failures) × (most_reads ≤ new.reads))
   pub calls : new.reader.calls + old.reads ≡ old.reader.calls + new.reads
   pub room : length fresh + piece_size * old.reads ≤ piece_size * new.reads
+  pub few : new.reads ≤ old.reads + length fresh + 1
   pub loans : new.reader.loans ≡ old.reader.loans
   pub names : new.names ≡ old.names
 
+-- one, where a read gave nothing
+abbrev pub none_given : ℕ → ℕ
+none_given n = if nat_eq n 0 then 1 else 0
+
 -- another piece was read, of so many bytes: none only at the end
 abbrev pub Refills : Result (Unit {0}) StepError → ℕ → Source → Source → Type 0
-Refills (Ok u) n old new = Passes old new [] × (n ≡ 0 → AllTaken new)
+Refills (Ok u) n old new = PassesBut (none_given n) old new [] × (n ≡ 0 → AllTaken new)
 Refills (Err errors.Read) n old new = Faults old new []
 Refills (Err e) n old new = ⊥
 
@@ -79,21 +94,21 @@ RefillsAlone seen result r a s b = (names : List ℕ) → Refills result b.end (
 -- the next byte, or none at the end
 abbrev pub NextByte : Result (Option ℕ) StepError → Source → Source → Type 0
 NextByte (Ok (Some byte)) old new = Passes old new (byte ∷ [])
-NextByte (Ok None) old new = Passes old new [] × AllTaken new
+NextByte (Ok None) old new = PassesToEnd old new []
 NextByte (Err errors.Read) old new = Faults old new []
 NextByte (Err e) old new = ⊥
 
 -- the next byte of a text that isn't whole
 abbrev pub ByteWithin : Result ℕ StepError → Source → Source → Type 0
 ByteWithin (Ok byte) old new = Passes old new (byte ∷ [])
-ByteWithin (Err errors.Cut) old new = Passes old new [] × AllTaken new
+ByteWithin (Err errors.Cut) old new = PassesToEnd old new []
 ByteWithin (Err errors.Read) old new = Faults old new []
 ByteWithin (Err e) old new = ⊥
 
 -- A value's text was taken; or the front of one, and the bytes are over or can't be read; or such a front and a byte after which no text can follow. Want of memory comes where the bytes so far are the front of a text, or all of it.
 abbrev pub Reads : {A : Type 0} → Format A → Result A StepError → Source → Source → Type 0
 Reads F (Ok x) old new = (text : List ℕ) × Passes old new text × F x text
-Reads F (Err errors.Cut) old new = (text : List ℕ) × Passes old new text × Live F text × AllTaken new
+Reads F (Err errors.Cut) old new = (text : List ℕ) × PassesToEnd old new text × Live F text
 Reads F (Err errors.BadByte) old new = (front : List ℕ) × (byte : ℕ) × Passes old new (front ++ byte ∷ []) × Live F front × (Open F (front ++ byte ∷ []) → ⊥)
 Reads F (Err errors.Read) old new = (text : List ℕ) × Faults old new text × Live F text
 Reads F (Err errors.OutOfMemory) old new = (text : List ℕ) × Passes old new text × Open F text
@@ -116,8 +131,8 @@ Behind tag step bytes = (tag_of step ≡ tag) × SpellsFields step bytes
 -- The answers of a reader of steps: as for any format, and `Ends` where the bytes are over between steps, so that `Cut` is one within a step. Want of memory comes within a step or at its end: the bytes so far are the front of its text, or all of it.
 abbrev pub Answers : Result Step StepError → Source → Source → Type 0
 Answers (Ok step) old new = (text : List ℕ) × Passes old new text × SpellsStep step text
-Answers (Err errors.Ends) old new = Passes old new [] × AllTaken new
-Answers (Err errors.Cut) old new = (tag : ℕ) × (more : List ℕ) × Passes old new (tag ∷ more) × Live SpellsStep (tag ∷ more) × AllTaken new
+Answers (Err errors.Ends) old new = PassesToEnd old new []
+Answers (Err errors.Cut) old new = (tag : ℕ) × (more : List ℕ) × PassesToEnd old new (tag ∷ more) × Live SpellsStep (tag ∷ more)
 Answers (Err errors.BadByte) old new = (front : List ℕ) × (byte : ℕ) × Passes old new (front ++ byte ∷ []) × Live SpellsStep front × (Open SpellsStep (front ++ byte ∷ []) → ⊥)
 Answers (Err errors.Read) old new = (text : List ℕ) × Faults old new text × Live SpellsStep text
 Answers (Err errors.OutOfMemory) old new = (tag : ℕ) × (more : List ℕ) × Passes old new (tag ∷ more) × Open SpellsStep (tag ∷ more)

@@ -2,7 +2,7 @@
 use Rattle.std.specs.Borrow.{MutBor}
 use Rattle.std.specs.Io.KnownBytes.{IsAtEnd}
 use Rattle.std.specs.List.{FoldsTo, concat}
-use Rattle.std.specs.Prelude.{◌≡◌, ◌<◌, ◌⊎◌, ◌-◌, ℕ, length, get_or, nat_eq, List, [], ◌∷◌, ◌++◌, Bool, true, false, ◌||◌, Option, None, Some, Result, Ok, Err, if◌then◌else◌}
+use Rattle.std.specs.Prelude.{◌≡◌, ◌<◌, ◌≤◌, ◌+◌, ◌⊎◌, ◌-◌, ℕ, length, get_or, nat_eq, List, [], ◌∷◌, ◌++◌, Bool, true, false, ◌||◌, Option, None, Some, Result, Ok, Err, if◌then◌else◌}
 use Rattle.sat_base.specs.device.Device.{Reader, CanFollow, GaveFront, GaveEnough}
 use Rattle.sat_base.specs.text.Text.{is_blank, Token, Number, scan, tokens, header_of}
 use Rattle.sat_base.specs.text.Tokenizing.{held}
@@ -80,9 +80,16 @@ abbrev pub NoFault : Hand → List (ℕ × Token) → Type 0
 NoFault hand [] = Unit {0}
 NoFault hand (t ∷ ts) = unless_fault (turn hand t.0 t.1) (λ h. NoFault h ts)
 
--- no line that has ended has a fault
+-- no line of a text that has ended has a fault
+abbrev pub IsSoundText : List ℕ → Type 0
+IsSoundText text = NoFault None (tokens (whole_lines text))
+
 abbrev pub IsSound : Progress → Type 0
-IsSound p = NoFault None (tokens (whole_lines p.fed))
+IsSound p = IsSoundText p.fed
+
+-- none of what was given
+abbrev pub GaveSound : Reader → Reader → Type 0
+GaveSound old new = (text : List ℕ) × GaveFront old new text × IsSoundText text
 
 -- a front of the piece was taken, up to and with a fault
 pub record Faults (ending : Ending) (piece : List ℕ) (old new : Progress) : Type 0 where
@@ -173,12 +180,12 @@ abbrev pub HasRead : Progress → List ℕ → Type 0
 HasRead p text = (p.fed ≡ text) × (p.stopped ≡ true) × (p.ended ≡ true) × ((dimacs text).ending ≡ Clean)
 
 -- A text is all that is looked at, whatever would follow: it ends where its reader does, or at a line that ends formulas.
-abbrev pub IsWhole : Reader → List ℕ → Type 0
-IsWhole r text = (rest : List ℕ) → CanFollow r rest → (dimacs (text ++ rest) ≡ dimacs text) × (header_of (text ++ rest) ≡ header_of text)
+abbrev pub IsWhole : Reader → Reader → List ℕ → Type 0
+IsWhole old new text = (rest : List ℕ) → CanFollow old new rest → (dimacs (text ++ rest) ≡ dimacs text) × (header_of (text ++ rest) ≡ header_of text)
 
 -- what was given is answered by, where a caller sees each piece's clauses
 abbrev pub ParsesInParts : {E : Type 0} → Reader → Reader → Result Progress (IncrementalError E) → Type 0
-ParsesInParts old new (Ok p) = (text : List ℕ) × GaveFront old new text × HasRead p text × IsWhole new text
+ParsesInParts old new (Ok p) = (text : List ℕ) × GaveFront old new text × HasRead p text × IsWhole old new text
 ParsesInParts old new (Err (parts.Dimacs e)) = GaveEnough old new (Parses (Err e))
 ParsesInParts old new (Err (parts.Caller e)) = Unit {0}
 
@@ -191,21 +198,24 @@ abbrev pub FeedsAndVisits : {F E : Type 0} → Calls F E → F × Progress → L
 FeedsAndVisits calls s piece t = (0 < length piece) × (fed : Progress) × Feeds (Ok tt) piece s.1 fed × IsSound fed × Visits calls (s.0, fed) (Ok tt) t
 
 -- an answer to a last piece, or to the end of the text
-abbrev pub Answers : Result (Unit {0}) DimacsError → List ℕ → Reader → Progress → Progress → Type 0
-Answers answer piece reader old new = ((0 < length piece) × Feeds answer piece old new) ⊎ ((piece ≡ []) × IsWhole reader old.fed × Finishes answer old new)
+abbrev pub Answers : Result (Unit {0}) DimacsError → List ℕ → Reader × Reader → Progress → Progress → Type 0
+Answers answer piece reader old new =
+    ((0 < length piece) × Feeds answer piece old new) ⊎ ((piece ≡ []) × IsWhole reader.0 reader.1 old.fed × Finishes answer old new)
 
 -- what comes behind the pieces that were taken and seen: the closure has the parser once more, unless a read has failed
-abbrev pub LastVisit : {F E : Type 0} → Calls F E → List ℕ → Reader → Result Progress (IncrementalError E) → F × Progress → Type 0
-LastVisit {F} calls piece reader (Ok p) s = (piece ≡ []) × IsWhole reader s.1.fed × (mid : Progress) × (f : F) × Finishes (Ok tt) s.1 mid × Visits calls (s.0, mid) (Ok tt) (f, p)
+abbrev pub LastVisit : {F E : Type 0} → Calls F E → List ℕ → Reader × Reader → Result Progress (IncrementalError E) → F × Progress → Type 0
+LastVisit {F} calls piece reader (Ok p) s = (piece ≡ []) × IsWhole reader.0 reader.1 s.1.fed × (mid : Progress) × (f : F) × Finishes (Ok tt) s.1 mid × Visits calls (s.0, mid) (Ok tt) (f, p)
 LastVisit {F} calls piece reader (Err (parts.Dimacs e)) s = ((e ≡ errors.Read) × (piece ≡ [])) ⊎ ((mid : Progress) × (t : F × Progress) × Answers (Err e) piece reader s.1 mid × Visits calls (s.0, mid) (Ok tt) t)
 LastVisit {F} calls piece reader (Err (parts.Caller e)) s = (answer : Result (Unit {0}) DimacsError) × (mid : Progress) × (t : F × Progress) × Answers answer piece reader s.1 mid × Visits calls (s.0, mid) (Err e) t
 
--- The closure had the parser after each piece that the reader gave, and after the end of the text.
+-- The closure had the parser after each piece that the reader gave, and after the end of the text. Each read gave one of them, but one.
 pub record VisitsAll {F E : Type 0} (calls : Calls F E) (f : F) (old new : Reader) (result : Result Progress (IncrementalError E)) : Type 0 where
   pub pieces : List (List ℕ)
   pub last : List ℕ
   pub seen : F × Progress
   pub folds : FoldsTo (FeedsAndVisits calls) (f, no_progress) pieces seen
-  pub visit : LastVisit calls last new result seen
+  pub visit : LastVisit calls last (old, new) result seen
   pub front : GaveFront old new (concat pieces ++ last)
   pub over : new.ended ≡ true → IsAtEnd new.to_come
+  pub least : old.calls + length pieces ≤ new.calls
+  pub most : new.calls ≤ old.calls + length pieces + 1

@@ -1,11 +1,11 @@
 -- What a reader of steps does.
-use Rattle.std.specs.Prelude.{◌≡◌, ◌≤◌, ℕ, Bool, true, false, [], Result, Ok, Err}
+use Rattle.std.specs.Prelude.{◌≡◌, ◌≤◌, ℕ, Bool, true, false, Result, Ok, Err}
 use Rattle.sat_base.specs.declared.steps.reader.StepReader.{StepReader}
 use Rattle.sat_base.specs.declared.steps.reader.Buffers.{Buffers}
 use Rattle.sat_base.specs.declared.steps.error.StepError.{StepError}
 use Rattle.sat_base.specs.declared.steps.error.StepError.TheVariants as errors
 use Rattle.sat_base.specs.device.Device.{Reader, most_reads}
-use Rattle.sat_base.specs.device.Reading.{Source, Passes, Answers, source}
+use Rattle.sat_base.specs.device.Reading.{Source, Answers, source}
 use Rattle.sat_base.specs.steps.Steps.{Step}
 use Rattle.sat_base.specs.steps.Kinds.{step_with}
 
@@ -51,7 +51,7 @@ abbrev pub repeated : Result Step StepError → Bool
 repeated (Ok step) = false
 repeated (Err e) = is_repeat e
 
--- once stopped it takes nothing
+-- once stopped it does nothing
 abbrev pub Answered : Result Step StepError → Source → Source → Type 0
 Answered (Ok step) old new = Answers (Ok step) old new
 Answered (Err errors.Ends) old new = Answers (Err errors.Ends) old new
@@ -59,7 +59,7 @@ Answered (Err errors.Cut) old new = Answers (Err errors.Cut) old new
 Answered (Err errors.BadByte) old new = Answers (Err errors.BadByte) old new
 Answered (Err errors.Read) old new = Answers (Err errors.Read) old new
 Answered (Err errors.OutOfMemory) old new = Answers (Err errors.OutOfMemory) old new
-Answered (Err errors.HasFailed) old new = Passes old new []
+Answered (Err errors.HasFailed) old new = new ≡ old
 
 -- A call of `advance`. `HasFailed` comes exactly where an earlier answer stopped it.
 pub record Next {R : Type 0} (seen : R → Reader) (old new : StepReader R Buffers) (result : Result Step StepError) : Type 0 where

@@ -17,6 +17,8 @@ pub(crate) struct Tally {
     /// A flush that didn't fail.
     pub ghost flushed: { Bool },
     pub ghost failed: { Bool },
+    /// How many calls were flushes that didn't fail.
+    pub ghost flushes: { ℕ },
 }
 
 impl Model for Tally {
@@ -25,7 +27,7 @@ impl Model for Tally {
 
 impl Tally {
     pub(crate) fn new() -> Tally
-        ensures { result ≡ record { calls = 0; failures = 0; given = []; taken = []; ended = false; flushed = false; failed = false } }
+        ensures { result ≡ record { calls = 0; failures = 0; given = []; taken = []; ended = false; flushed = false; failed = false; flushes = 0 } }
     {
         Tally {}
     }
@@ -49,7 +51,7 @@ impl Tally {
     }
 
     pub(crate) fn and_flush(&self) -> Tally
-        ensures { let t = self.now in result ≡ record t { calls = t.calls + 1; ended = false; flushed = true; failed = false } }
+        ensures { let t = self.now in result ≡ record t { calls = t.calls + 1; ended = false; flushed = true; failed = false; flushes = t.flushes + 1 } }
     {
         Tally {}
     }

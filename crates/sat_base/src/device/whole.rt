@@ -1,5 +1,5 @@
 //! Reading a reader to its end.
-ghost use Rattle.std.specs.Prelude.{◌≡◌, ◌+◌, ◌≤◌, ◌⊎◌, IfOk, OnOk, IsErrOf};
+ghost use Rattle.std.specs.Prelude.{◌≡◌, ◌+◌, ◌<◌, ◌≤◌, ◌⊎◌, length, IfOk, OnOk, IsErrOf};
 ghost use Rattle.sat_base.specs.device.Device.{most_reads, ReadFails, GaveAll, Grew};
 
 use crate::CountedRead;
@@ -40,6 +40,8 @@ pub fn read_whole<R: CountedRead>(alloc: Global, reader: &mut R) -> Result<Vec<u
     // None is tried again.
     ensures failed { IsErrOf result ReadError.Failed → ReadFails (R.seen reader.old) (R.seen reader.new) }
     ensures memory { IsErrOf result ReadError.OutOfMemory → (R.seen reader.new).failures ≡ (R.seen reader.old).failures }
+    // Memory is asked for by bytes alone.
+    ensures some { IsErrOf result ReadError.OutOfMemory → length (R.seen reader.old).given < length (R.seen reader.new).given }
     ensures reads { (R.seen reader.new).calls ≤ (R.seen reader.old).calls + most_reads }
 {
     let mut whole = Vec::new(alloc);

@@ -261,7 +261,7 @@ unlent_loans : (a b : Writer) (given back : ℕ) → (lent_writer back b).loans 
 unlent_loans a b given back loans = let h : ◌≡◌ {A = List ℕ} (back ∷ b.loans) (given ∷ a.loans) = loans in cc
 
 unlent_takes : (a b : Writer) (given back : ℕ) (text : List ℕ) → Takes (lent_writer given a) (lent_writer back b) text → Takes a b text
-unlent_takes a b given back text p = record { taken = p.taken; told = p.told; failures = p.failures; calls = p.calls; loans = unlent_loans a b given back p.loans }
+unlent_takes a b given back text p = record { taken = p.taken; told = p.told; failures = p.failures; calls = p.calls; few = p.few; loans = unlent_loans a b given back p.loans }
 
 unlent_none : (a b : Writer) (given back : ℕ) → NoneFailed (lent_writer given a) (lent_writer back b) → NoneFailed a b
 unlent_none a b given back p = (p.0, unlent_loans a b given back p.1)

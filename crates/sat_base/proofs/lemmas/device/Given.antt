@@ -1,14 +1,21 @@
 -- What a reader gave, read by read.
-use Rattle.std.proofs.Common.{◌≡◌, ℕ, ◌<◌, Bool, true, false, List, [], ◌++◌, length, take, nat_eq, nat_lt, ◌&&◌, Option, Some, None, Ok, Err, append_assoc, refl, sym, ap, subst, ◌∙◌, arith}
+use Rattle.std.proofs.Common.{◌≡◌, ℕ, ◌+◌, ◌<◌, ◌≤◌, Bool, true, false, List, [], ◌++◌, length, length-append, take, nat_eq, nat_lt, ◌&&◌, Option, Some, None, Ok, Err, append_assoc, refl, sym, ap, subst, ◌∙◌, arith}
 use Rattle.std.proofs.lemmas.List.{append-nil}
 use Rattle.std.proofs.lemmas.Grind.{common_steps}
 use Rattle.std.specs.Prelude.{IfSome}
 use Rattle.std.specs.Io.KnownBytes.{Consumes, Keeps, IsAtEnd}
-use Rattle.sat_base.specs.device.Device.{Reader, ReadsOnce, GaveFront, GaveAll, GaveEnough}
+use Rattle.sat_base.specs.device.Device.{Reader, ReadsOnce, FewReads, GaveFront, GaveAll, GaveEnough}
 use Rattle.sat_base.proofs.lemmas.device.Known.{consumes_none, consumes_more}
 
 pub gave_none : (r : Reader) → GaveFront r r []
 gave_none r = record { gave = sym (append-nil r.given); told = consumes_none r.to_come; loans = refl }
+
+-- one read more than the bytes given, at most
+pub few_reads : (a c : Reader) (xs : List ℕ) → c.given ≡ a.given ++ xs → c.calls ≤ a.calls + length xs + 1 → FewReads a c
+few_reads a c xs e h = let k : length c.given ≡ length a.given + length xs = ap length e ∙ length-append a.given xs in omega arith
+
+pub few_front : (a c : Reader) (xs : List ℕ) → GaveFront a c xs → c.calls ≤ a.calls + length xs + 1 → FewReads a c
+few_front a c xs g h = few_reads a c xs g.gave h
 
 -- a read more
 pub gave_more : {E : Type 0} (a b c : Reader) (xs : List ℕ) (n : ℕ) (room : List ℕ) → GaveFront a b xs → ReadsOnce {E = E} (Ok n) room b c → GaveFront a c (xs ++ take n room)
@@ -44,10 +51,19 @@ not_at_end : (n : ℕ) (room : List ℕ) → 0 < n → (nat_eq n 0 && nat_lt 0 (
 not_at_end n room h = grind (arith, common_steps)
 
 -- one that found the end
-pub gave_to_end : {E : Type 0} (a b c : Reader) (xs : List ℕ) (n : ℕ) (room : List ℕ) → GaveFront a b xs → ReadsOnce {E = E} (Ok n) room b c → n ≡ 0 → 0 < length room → GaveAll a c xs
-gave_to_end a b c xs n room p r e h =
+pub gave_to_end : {E : Type 0} (a b c : Reader) (xs : List ℕ) (n : ℕ) (room : List ℕ) → GaveFront a b xs → ReadsOnce {E = E} (Ok n) room b c → n ≡ 0 → 0 < length room
+    → a.calls ≤ b.calls → b.calls ≤ a.calls + length xs → GaveAll a c xs
+gave_to_end a b c xs n room p r e h some few =
     let g = gave_nothing a b c xs n room p r e in
-    record { gave = g.gave; ends = r.ended ∙ at_end n room e h; told = g.told; over = r.told.1 e h; loans = g.loans }
+    record {
+      gave = g.gave;
+      ends = r.ended ∙ at_end n room e h;
+      told = g.told;
+      over = r.told.1 e h;
+      called = omega (arith, r.calls);
+      few = few_reads a c xs g.gave (omega (arith, r.calls));
+      loans = g.loans;
+    }
 
 pub not_ended : {E : Type 0} (b c : Reader) (n : ℕ) (room : List ℕ) → ReadsOnce {E = E} (Ok n) room b c → 0 < n → c.ended ≡ false
 not_ended b c n room r h = r.ended ∙ not_at_end n room h
@@ -65,11 +81,19 @@ enough_all a c P xs g p = record {
   text = xs;
   front = record { gave = g.gave; told = g.told; loans = g.loans };
   over = is_over a c xs g;
-  holds = λ rest f. subst P (sym (ap (λ (z : List ℕ). xs ++ z) (f g.ends) ∙ append-nil xs)) p;
+  few = g.few;
+  holds = λ rest f. subst P (sym (ap (λ (z : List ℕ). xs ++ z) (f g.called g.ends) ∙ append-nil xs)) p;
 }
 
-pub enough_front : (a c : Reader) (P : List ℕ → Type 0) (xs : List ℕ) → GaveFront a c xs → c.ended ≡ false → ((rest : List ℕ) → P (xs ++ rest)) → GaveEnough a c P
-enough_front a c P xs g e p = record { text = xs; front = g; over = still_open c (IsAtEnd c.to_come) e; holds = λ rest f. p rest }
+pub enough_front : (a c : Reader) (P : List ℕ → Type 0) (xs : List ℕ) → GaveFront a c xs → c.ended ≡ false → c.calls ≤ a.calls + length xs + 1
+    → ((rest : List ℕ) → P (xs ++ rest)) → GaveEnough a c P
+enough_front a c P xs g e few p = record {
+  text = xs;
+  front = g;
+  over = still_open c (IsAtEnd c.to_come) e;
+  few = few_front a c xs g few;
+  holds = λ rest f. p rest;
+}
 
 rest_ends : (k : Option (List ℕ)) (rest : List ℕ) → k ≡ Some rest → IsAtEnd k → rest ≡ []
 rest_ends None rest h o = absurd cc
@@ -82,8 +106,8 @@ told_of (Some all) (Some rest) xs P h k = subst P (sym h) (k rest refl)
 
 -- where the reader tells its bytes, it is so of all that there were
 pub enough_told : (a c : Reader) (P : List ℕ → Type 0) → GaveEnough a c P → IfSome a.to_come P
-enough_told a c P g = told_of a.to_come c.to_come g.text P g.front.told (λ rest h. g.holds rest (λ e. rest_ends c.to_come rest h (g.over e)))
+enough_told a c P g = told_of a.to_come c.to_come g.text P g.front.told (λ rest h. g.holds rest (λ called e. rest_ends c.to_come rest h (g.over e)))
 
 -- what follows from it is so, too
 pub enough_as : (a c : Reader) (P Q : List ℕ → Type 0) → ((text : List ℕ) → P text → Q text) → GaveEnough a c P → GaveEnough a c Q
-enough_as a c P Q f g = record { text = g.text; front = g.front; over = g.over; holds = λ rest h. f (g.text ++ rest) (g.holds rest h) }
+enough_as a c P Q f g = record { text = g.text; front = g.front; over = g.over; few = g.few; holds = λ rest h. f (g.text ++ rest) (g.holds rest h) }

@@ -9,7 +9,7 @@ use Rattle.sat_base.specs.declared.steps.error.StepError.{StepError}
 use Rattle.sat_base.specs.declared.steps.error.StepError.TheVariants as errors
 use Rattle.sat_base.specs.steps.Formats.{Open}
 use Rattle.sat_base.specs.steps.Numbers.{IsBelow}
-use Rattle.sat_base.specs.device.Reading.{Source, to_come, Passes, AllTaken, Faults, Refills, NextByte, ByteWithin, Reads}
+use Rattle.sat_base.specs.device.Reading.{Source, to_come, PassesBut, Passes, PassesToEnd, none_given, Faults, Refills, NextByte, ByteWithin, Reads}
 use Rattle.sat_base.proofs.lemmas.device.Known.{consumes_none, consumes_more}
 use Rattle.sat_base.proofs.lemmas.steps.Numbers.{Front, front_none, front_more, live, last_read, shut_zero, shut_large, shut_on}
 
@@ -23,6 +23,7 @@ passes_none s = record {
   failures = refl;
   calls = refl;
   room = omega arith;
+  few = omega arith;
   loans = refl;
   names = refl;
 }
@@ -34,8 +35,11 @@ flows_more a b c fs gs xs ys h k = sym (append_assoc a fs gs) ∙ ap (λ (z : Li
 room_more : (fs gs : List ℕ) (a b c : ℕ) → length fs + 4096 * a ≤ 4096 * b → length gs + 4096 * b ≤ 4096 * c → length (fs ++ gs) + 4096 * a ≤ 4096 * c
 room_more fs gs a b c h k = omega (arith, length-append fs gs)
 
-pub passes_more : (old mid new : Source) (xs ys : List ℕ) → Passes old mid xs → Passes mid new ys → Passes old new (xs ++ ys)
-passes_more old mid new xs ys p q = record {
+few_more : (fs gs : List ℕ) (a b c n : ℕ) → b ≤ a + length fs + 0 → c ≤ b + length gs + n → c ≤ a + length (fs ++ gs) + n
+few_more fs gs a b c n h k = omega (arith, length-append fs gs)
+
+pub passes_more : {n : ℕ} (old mid new : Source) (xs ys : List ℕ) → Passes old mid xs → PassesBut n mid new ys → PassesBut n old new (xs ++ ys)
+passes_more {n} old mid new xs ys p q = record {
   fresh = p.fresh ++ q.fresh;
   gave = q.gave ∙ ap (λ (z : List ℕ). z ++ q.fresh) p.gave ∙ append_assoc old.reader.given p.fresh q.fresh;
   flows = flows_more old.waiting mid.waiting new.waiting p.fresh q.fresh xs ys p.flows q.flows;
@@ -43,6 +47,7 @@ passes_more old mid new xs ys p q = record {
   failures = q.failures ∙ p.failures;
   calls = omega (arith, p.calls, q.calls);
   room = room_more p.fresh q.fresh old.reads mid.reads new.reads p.room q.room;
+  few = few_more p.fresh q.fresh old.reads mid.reads new.reads n p.few q.few;
   loans = q.loans ∙ p.loans;
   names = q.names ∙ p.names;
 }
@@ -57,6 +62,7 @@ faults_later old mid new xs ys p f = record {
   cause = elim f.cause [ inl h ↦ inl (h.0 ∙ ap (λ (n : ℕ). n + 1) p.failures, h.1) | inr h ↦ inr (h.0 ∙ p.failures, h.1) ];
   calls = omega (arith, p.calls, f.calls);
   room = room_more p.fresh f.fresh old.reads mid.reads new.reads p.room f.room;
+  few = few_more p.fresh f.fresh old.reads mid.reads new.reads 1 p.few f.few;
   loans = f.loans ∙ p.loans;
   names = f.names ∙ p.names;
 }
@@ -65,8 +71,8 @@ faults_later old mid new xs ys p f = record {
 pub faults_there : (old mid new : Source) (xs : List ℕ) → Passes old mid xs → Faults mid new [] → Faults old new xs
 faults_there old mid new xs p f = subst (Faults old new) (append-nil xs) (faults_later old mid new xs [] p f)
 
-pub ends_there : (old mid new : Source) (xs : List ℕ) → Passes old mid xs → Passes mid new [] → Passes old new xs
-ends_there old mid new xs p q = subst (Passes old new) (append-nil xs) (passes_more old mid new xs [] p q)
+pub ends_there : (old mid new : Source) (xs : List ℕ) → Passes old mid xs → PassesToEnd mid new [] → PassesToEnd old new xs
+ends_there old mid new xs p q = (subst (PassesBut 1 old new) (append-nil xs) (passes_more old mid new xs [] p q.0), q.1)
 
 -- A READ THAT FAILS
 
@@ -85,6 +91,7 @@ faults_now e a b ws vs room names n r d f = record {
   cause = inl (r.failures.0, r.failures.1);
   calls = omega (arith, r.calls);
   room = omega arith;
+  few = omega arith;
   loans = r.loans;
   names = refl;
 }
@@ -100,6 +107,7 @@ faults_spent s d h = record {
   cause = inr (refl, h);
   calls = refl;
   room = omega arith;
+  few = omega arith;
   loans = refl;
   names = refl;
 }
@@ -121,8 +129,8 @@ groups_none limit s h = record { text = []; passes = passes_none s; front = fron
 pub place_some : (limit value place : ℕ) (old new : Source) → Groups limit value place old new → 0 < place
 place_some limit value place old new g = elim g.begun [ inl h ↦ omega (arith, h.2) | inr h ↦ omega (arith, h.1) ]
 
-groups_cut : (limit value place : ℕ) (old mid new : Source) → Groups limit value place old mid → Passes mid new [] × AllTaken new → Reads (IsBelow limit) (Err errors.Cut) old new
-groups_cut limit value place old mid new g h = (g.text, ends_there old mid new g.text g.passes h.0, live limit g.text value place g.front g.small, h.1)
+groups_cut : (limit value place : ℕ) (old mid new : Source) → Groups limit value place old mid → PassesToEnd mid new [] → Reads (IsBelow limit) (Err errors.Cut) old new
+groups_cut limit value place old mid new g h = (g.text, ends_there old mid new g.text g.passes h, live limit g.text value place g.front g.small)
 
 pub groups_stop : (limit value place : ℕ) (old mid new : Source) (e : StepError) → Groups limit value place old mid → ByteWithin (Err e) mid new → Reads (IsBelow limit) (Err e) old new
 groups_stop limit value place old mid new errors.Read g h = (g.text, faults_there old mid new g.text g.passes h, live limit g.text value place g.front g.small)
@@ -218,6 +226,8 @@ groups_more limit value place b old mid new g h l m s = record {
 }
 
 -- THE FIRST BYTE OF A PIECE
+none_zero : (n : ℕ) → (n ≡ 0 → ⊥) → none_given n ≡ 0
+none_zero n h = grind (arith, common_steps)
 
 pub next_fails : (e : StepError) (n : ℕ) (s t : Source) → Refills (Err e) n s t → NextByte (Err e) s t
 next_fails errors.Read n s t h = h
@@ -242,6 +252,14 @@ took_byte s r ws vs names n m byte p e f = record {
   failures = p.failures;
   calls = omega (arith, p.calls, f);
   room = omega (arith, p.room, f);
+  few = omega (arith, p.few, f);
   loans = p.loans;
   names = p.names;
 }
+
+-- a read that gave some bytes, and one that gave none
+pub gave_some : (n : ℕ) (s t : Source) → (n ≡ 0 → ⊥) → PassesBut (none_given n) s t [] → Passes s t []
+gave_some n s t h p = subst (λ (k : ℕ). PassesBut k s t []) (none_zero n h) p
+
+pub gave_nothing : (n : ℕ) (s t : Source) → n ≡ 0 → PassesBut (none_given n) s t [] → PassesBut 1 s t []
+gave_nothing n s t h p = subst (λ (k : ℕ). PassesBut (none_given k) s t []) h p

@@ -1,6 +1,6 @@
 -- What a writer takes, piece by piece.
-use Rattle.std.proofs.Common.{◌≡◌, ℕ, ◌+◌, ◌-◌, ◌<◌, Bool, true, false, List, [], ◌∷◌, ◌++◌, length, length-drop, take, drop, if◌then◌else◌, Option, Some, None, Result, Ok, Err, append_assoc, refl, sym, ap, subst, ◌∙◌, arith}
-use Rattle.std.proofs.lemmas.List.{append-nil, take-append-drop}
+use Rattle.std.proofs.Common.{◌≡◌, ℕ, ◌+◌, ◌-◌, ◌<◌, ◌≤◌, Bool, true, false, List, [], ◌∷◌, ◌++◌, length, length-append, length-drop, take, drop, if◌then◌else◌, Option, Some, None, Result, Ok, Err, append_assoc, refl, sym, ap, subst, ◌∙◌, arith}
+use Rattle.std.proofs.lemmas.List.{append-nil, take-append-drop, length-take-le}
 use Rattle.std.proofs.lemmas.Grind.{common_steps}
 use Rattle.std.proofs.Math.Seq.{take-add}
 use Rattle.std.specs.Io.KnownBytes.{Appends, Keeps}
@@ -8,7 +8,7 @@ use Rattle.sat_base.specs.device.Device.{Writer, WritesOnce, FlushesOnce, Takes,
 use Rattle.sat_base.proofs.lemmas.device.Known.{appends_none, appends_more, rest_is}
 
 pub took_none : (w : Writer) → Takes w w []
-took_none w = record { taken = sym (append-nil w.taken); told = appends_none w.contents; failures = refl; calls = omega arith; loans = refl }
+took_none w = record { taken = sym (append-nil w.taken); told = appends_none w.contents; failures = refl; calls = omega arith; few = omega arith; loans = refl }
 
 pub took_more : (a b c : Writer) (xs ys : List ℕ) → Takes a b xs → Takes b c ys → Takes a c (xs ++ ys)
 took_more a b c xs ys p q = record {
@@ -16,6 +16,7 @@ took_more a b c xs ys p q = record {
   told = appends_more a.contents b.contents c.contents xs ys p.told q.told;
   failures = q.failures ∙ p.failures;
   calls = omega (arith, p.calls, q.calls);
+  few = omega (arith, p.few, q.few, length-append xs ys);
   loans = q.loans ∙ p.loans;
 }
 
@@ -30,6 +31,7 @@ breaks_later a b c xs ys p q = record {
   failures = q.failures ∙ ap (λ (n : ℕ). n + 1) p.failures;
   failed = q.failed;
   calls = omega (arith, p.calls, q.calls);
+  few = omega (arith, p.few, q.few, length-append xs q.front);
   loans = q.loans ∙ p.loans;
 }
 
@@ -44,6 +46,7 @@ breaks_within a b xs ys q = record {
   failures = q.failures;
   failed = q.failed;
   calls = q.calls;
+  few = q.few;
   loans = q.loans;
 }
 
@@ -63,12 +66,13 @@ counted_one : (t : Bool) (old new : ℕ) → new ≡ (if t then old + 1 else old
 counted_one true old new h e = h
 counted_one false old new h e = absurd (let k : ◌≡◌ {A = Bool} false true = e in cc)
 
-pub wrote_some : {E : Type 0} (a b : Writer) (rest : List ℕ) (n : ℕ) → WritesOnce {E = E} (Ok n) rest a b → (n ≡ 0 → ⊥) → Takes a b (take n rest)
-wrote_some a b rest n w h = record {
+pub wrote_some : {E : Type 0} (a b : Writer) (rest : List ℕ) (n : ℕ) → WritesOnce {E = E} (Ok n) rest a b → n ≤ length rest → (n ≡ 0 → ⊥) → Takes a b (take n rest)
+wrote_some a b rest n w k h = record {
   taken = w.taken;
   told = w.told;
   failures = counted (takes_none n rest) a.failures b.failures w.failures.0 (some_taken n rest h);
   calls = omega (arith, w.calls);
+  few = let e = length-take-le n rest k in omega (arith, w.calls, w.flushes);
   loans = w.loans;
 }
 
@@ -90,6 +94,7 @@ wrote_none a b rest n w h k = record {
   failures = counted_one (takes_none n rest) a.failures b.failures w.failures.0 (none_taken n rest h k);
   failed = w.failures.1 ∙ none_taken n rest h k;
   calls = omega (arith, w.calls);
+  few = omega (arith, w.calls, w.flushes);
   loans = w.loans;
 }
 
@@ -103,6 +108,7 @@ write_fails e a b rest w = record {
   failures = w.failures.0;
   failed = w.failures.1;
   calls = omega (arith, w.calls);
+  few = omega (arith, w.calls, w.flushes);
   loans = w.loans;
 }
 
@@ -114,6 +120,7 @@ flush_takes a b f = record {
   told = keeps_appends a.contents b.contents f.told;
   failures = f.failures.0;
   calls = omega (arith, f.calls);
+  few = omega (arith, f.calls, f.flushes);
   loans = f.loans;
 }
 
@@ -127,15 +134,17 @@ flush_fails e a b f = record {
   failures = f.failures.0;
   failed = f.failures.1;
   calls = omega (arith, f.calls);
+  few = omega (arith, f.calls, f.flushes);
   loans = f.loans;
 }
 
 -- THE NEXT PART OF A PIECE
 
-pub took_next : {E : Type 0} (a b c : Writer) (piece : List ℕ) (i n : ℕ) → Takes a b (take i piece) → WritesOnce {E = E} (Ok n) (take (length piece - i) (drop i piece)) b c → (n ≡ 0 → ⊥) → Takes a c (take (i + n) piece)
-took_next a b c piece i n p w h =
+pub took_next : {E : Type 0} (a b c : Writer) (piece : List ℕ) (i n : ℕ) → Takes a b (take i piece) → WritesOnce {E = E} (Ok n) (take (length piece - i) (drop i piece)) b c
+    → n ≤ length (take (length piece - i) (drop i piece)) → (n ≡ 0 → ⊥) → Takes a c (take (i + n) piece)
+took_next a b c piece i n p w k h =
     let e : take i piece ++ take n (take (length piece - i) (drop i piece)) ≡ take (i + n) piece = ap (λ (z : List ℕ). take i piece ++ take n z) (rest_is piece i) ∙ sym (take-add i n piece) in
-    subst (Takes a c) e (took_more a b c (take i piece) (take n (take (length piece - i) (drop i piece))) p (wrote_some b c (take (length piece - i) (drop i piece)) n w h))
+    subst (Takes a c) e (took_more a b c (take i piece) (take n (take (length piece - i) (drop i piece))) p (wrote_some b c (take (length piece - i) (drop i piece)) n w k h))
 
 pub breaks_next : (a b c : Writer) (piece : List ℕ) (i : ℕ) → Takes a b (take i piece) → Breaks b c (take (length piece - i) (drop i piece)) → Breaks a c piece
 breaks_next a b c piece i p q =
@@ -156,6 +165,7 @@ lent_takes a b given back text p = record {
   told = p.told;
   failures = p.failures;
   calls = p.calls;
+  few = p.few;
   loans = let k = p.loans in cc;
 }
 
@@ -169,6 +179,7 @@ lent_breaks a b given back text p = record {
   failures = p.failures;
   failed = p.failed;
   calls = p.calls;
+  few = p.few;
   loans = let k = p.loans in cc;
 }
 

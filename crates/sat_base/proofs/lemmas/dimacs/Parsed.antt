@@ -1,5 +1,5 @@
 -- What a parser answers of a reader's text.
-use Rattle.std.proofs.Common.{◌≡◌, ℕ, List, [], ◌∷◌, ◌++◌, Bool, true, false, Result, Err, refl, sym, ap, subst, inl, inr, ◌∙◌, append_assoc, take, length, ◌<◌, ◌≤◌, arith, Ok, if◌then◌else◌}
+use Rattle.std.proofs.Common.{◌≡◌, ℕ, List, [], ◌∷◌, ◌++◌, Bool, true, false, Result, Err, refl, sym, ap, subst, inl, inr, ◌∙◌, append_assoc, take, length, length-append, ◌+◌, ◌<◌, ◌≤◌, arith, Ok, if◌then◌else◌}
 use Rattle.std.specs.List.{FoldsTo, concat}
 use Rattle.std.proofs.lemmas.List.{append-nil, length-take-le}
 use Rattle.std.proofs.lemmas.List.Folds.{concat-append}
@@ -7,13 +7,13 @@ use Rattle.std.specs.Borrow.{MutBor}
 use Rattle.sat_base.specs.declared.dimacs.error.DimacsError.{DimacsError}
 use Rattle.sat_base.specs.declared.dimacs.error.DimacsError.TheVariants as errors
 use Rattle.sat_base.specs.dimacs.Dimacs.{Clean, Dimacs, Ending, Limit, Malformed, dimacs, settled}
-use Rattle.sat_base.specs.dimacs.Parsing.{Calls, EndsWell, FallsShort, Faults, Feeds, Finishes, GoesWell, HasRead, IsWhole, KeepsText, Parses, ParsesInParts, Progress, at_its_end, clauses_read, no_progress, with_fed, words_read}
+use Rattle.sat_base.specs.dimacs.Parsing.{Calls, EndsWell, FallsShort, Faults, Feeds, Finishes, GoesWell, HasRead, IsSoundText, IsWhole, KeepsText, Parses, ParsesInParts, Progress, at_its_end, clauses_read, no_progress, with_fed, words_read}
 use Rattle.std.specs.Io.KnownBytes.{IsAtEnd}
-use Rattle.sat_base.specs.device.Device.{Reader, GaveAll, GaveFront, GaveEnough}
+use Rattle.sat_base.specs.device.Device.{Reader, FewReads, GaveAll, GaveFront, GaveEnough}
 use Rattle.sat_base.specs.text.Tokenizing.{held}
 use Rattle.sat_base.specs.values.Formulas.{Formula}
 use Rattle.sat_base.proofs.lemmas.device.Given.{enough_as}
-use Rattle.sat_base.specs.text.Text.{header_of}
+use Rattle.sat_base.specs.text.Text.{header_of, scan, tokens_of, lines}
 
 -- the text has the ending of its fault
 fault_ends : (ending : Ending) (fed piece : List ℕ) (p q : Progress) → p.fed ≡ fed → Faults ending piece p q → (rest : List ℕ) → (dimacs ((fed ++ piece) ++ rest)).ending ≡ ending
@@ -93,13 +93,22 @@ pub front_all : (old new : Reader) (pieces : List (List ℕ)) → GaveAll old ne
 front_all old new pieces g = front_alone old new pieces (record { gave = g.gave; told = g.told; loans = g.loans })
 
 -- a text is whole where its reader is at its end
-pub whole_at_end : (r : Reader) (text : List ℕ) → r.ended ≡ true → IsWhole r text
-whole_at_end r text e rest f =
-    let k : text ++ rest ≡ text = ap (λ (z : List ℕ). text ++ z) (f e) ∙ append-nil text in
+pub whole_at_end : (a c : Reader) (text : List ℕ) → a.calls < c.calls → c.ended ≡ true → IsWhole a c text
+whole_at_end a c text called e rest f =
+    let k : text ++ rest ≡ text = ap (λ (z : List ℕ). text ++ z) (f called e) ∙ append-nil text in
     (ap dimacs k, ap header_of k)
 
 pub piece_given : (n : ℕ) (buf : List ℕ) → n ≤ length buf → 0 < n → 0 < length (take n buf)
 piece_given n buf h k = let e = length-take-le n buf h in omega arith
+
+-- no text has no fault
+pub sound_none : IsSoundText []
+unfolding scan tokens_of lines
+sound_none = tt
+
+-- a piece more has a byte more, at least
+pub piece_more : (pieces : List (List ℕ)) (piece : List ℕ) (n : ℕ) → n ≤ length (concat pieces) → 0 < length piece → n + 1 ≤ length (concat (pieces ++ (piece ∷ [])))
+piece_more pieces piece n h k = let e = ap length (sym (joined_more pieces piece)) ∙ length-append (concat pieces) piece in omega arith
 
 -- one step more
 pub folds_more : {P A : Type 0} (R : P → A → P → Type 0) (p q r : P) (xs : List A) (x : A) → FoldsTo R p xs q → R q x r → FoldsTo R p (xs ++ (x ∷ [])) r
@@ -111,9 +120,9 @@ pub counted : (a c : Reader) (f : Formula) (count : ℕ) → count ≡ length f.
 counted a c f count e g = enough_as a c (Parses (Ok f)) (λ (text : List ℕ). count ≡ length (dimacs text).clauses) (λ text p. e ∙ sym (ap (λ (d : Dimacs). length d.clauses) p.0)) g
 
 -- or read in parts
-pub counted_of : (E : Type 0) (a c : Reader) (p : Progress) (count : ℕ) → ParsesInParts {E = E} a c (Ok p) → (c.ended ≡ true → IsAtEnd c.to_come) → count ≡ held (length (clauses_read p))
+pub counted_of : (E : Type 0) (a c : Reader) (p : Progress) (count : ℕ) → ParsesInParts {E = E} a c (Ok p) → (c.ended ≡ true → IsAtEnd c.to_come) → FewReads a c → count ≡ held (length (clauses_read p))
     → GaveEnough a c (λ text. count ≡ held (length (dimacs text).clauses))
-counted_of E a c p count h over e =
+counted_of E a c p count h over few e =
     let read = h.2 in
     let words : words_read p ≡ h.0 = ap (λ (b : Bool). if b then p.fed else settled p.fed) read.2 ∙ read.0 in
-    record { text = h.0; front = h.1; over = over; holds = λ rest k. e ∙ ap (λ (z : List ℕ). held (length (dimacs z).clauses)) words ∙ sym (ap (λ (d : Dimacs). held (length d.clauses)) (h.3 rest k).0) }
+    record { text = h.0; front = h.1; over = over; few = few; holds = λ rest k. e ∙ ap (λ (z : List ℕ). held (length (dimacs z).clauses)) words ∙ sym (ap (λ (d : Dimacs). held (length d.clauses)) (h.3 rest k).0) }

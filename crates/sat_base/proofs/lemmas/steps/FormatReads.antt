@@ -17,7 +17,7 @@ open_second : {A B : Type 0} (F : Format A) (G : A → Format B) (x : A) (a fron
 open_second F G x a front f o = ((x, o.0), o.1, (a, front ++ o.1, f, o.2, append_assoc a front o.1))
 
 pub first_fails : {A B : Type 0} (F : Format A) (G : A → Format B) → OneForm F → ((x : A) → HasText (G x)) → (e : StepError) (old new : Source) → Reads F (Err e) old new → Reads (Then F G) (Err e) old new
-first_fails F G one some errors.Cut old new r = (r.0, r.1, live_first F G r.0 some r.2, r.3)
+first_fails F G one some errors.Cut old new r = (r.0, r.1, live_first F G r.0 some r.2)
 first_fails F G one some errors.BadByte old new r = (r.0, r.1, r.2, live_first F G r.0 some r.3, shut_first F G one r.0 r.1 r.3 r.4)
 first_fails F G one some errors.Read old new r = (r.0, r.1, live_first F G r.0 some r.2)
 first_fails F G one some errors.OutOfMemory old new r = (r.0, r.1, open_first F G r.0 some r.2)
@@ -26,7 +26,7 @@ first_fails F G one some errors.HasFailed old new r = absurd r
 
 pub second_gives : {A B : Type 0} (F : Format A) (G : A → Format B) → OneForm F → (x : A) (a : List ℕ) (old mid new : Source) → F x a → Passes old mid a → (r : Result B StepError) → Reads (G x) r mid new → Reads (Then F G) (valued (λ y. (x, y)) r) old new
 second_gives F G one x a old mid new f p (Ok y) r = (a ++ r.0, passes_more old mid new a r.0 p r.1, (a, r.0, f, r.2, refl))
-second_gives F G one x a old mid new f p (Err errors.Cut) r = (a ++ r.0, passes_more old mid new a r.0 p r.1, live_second F G x a r.0 f r.2, r.3)
+second_gives F G one x a old mid new f p (Err errors.Cut) r = (a ++ r.0, (passes_more old mid new a r.0 p r.1.0, r.1.1), live_second F G x a r.0 f r.2)
 second_gives F G one x a old mid new f p (Err errors.BadByte) r = (a ++ r.0, r.1, subst (Passes old new) (sym (append_assoc a r.0 (r.1 ∷ []))) (passes_more old mid new a (r.0 ++ r.1 ∷ []) p r.2), live_second F G x a r.0 f r.3, shut_second F G one x a r.0 r.1 f r.4)
 second_gives F G one x a old mid new f p (Err errors.Read) r = (a ++ r.0, faults_later old mid new a r.0 p r.1, live_second F G x a r.0 f r.2)
 second_gives F G one x a old mid new f p (Err errors.OutOfMemory) r = (a ++ r.0, passes_more old mid new a r.0 p r.1, open_second F G x a r.0 f r.2)
@@ -36,7 +36,7 @@ second_gives F G one x a old mid new f p (Err errors.HasFailed) r = absurd r
 -- a reader of a format is one of another whose texts are the same, under values that are made of the first's
 pub reads_as : {A B : Type 0} (H : Format A) (K : Format B) (f : A → B) → ((x : A) (t : List ℕ) → H x t → K (f x) t) → ((y : B) (t : List ℕ) → K y t → (x : A) × H x t) → (r : Result A StepError) (old new : Source) → Reads H r old new → Reads K (valued f r) old new
 reads_as H K f to back (Ok x) old new r = (r.0, r.1, to x r.0 r.2)
-reads_as H K f to back (Err errors.Cut) old new r = (r.0, r.1, (f r.2.0, r.2.1, r.2.2, to r.2.0 (r.0 ++ r.2.1 ∷ r.2.2) r.2.3), r.3)
+reads_as H K f to back (Err errors.Cut) old new r = (r.0, r.1, (f r.2.0, r.2.1, r.2.2, to r.2.0 (r.0 ++ r.2.1 ∷ r.2.2) r.2.3))
 reads_as H K f to back (Err errors.BadByte) old new r = (r.0, r.1, r.2, (f r.3.0, r.3.1, r.3.2, to r.3.0 (r.0 ++ r.3.1 ∷ r.3.2) r.3.3), λ o. let h = back o.0 ((r.0 ++ r.1 ∷ []) ++ o.1) o.2 in r.4 (h.0, o.1, h.1))
 reads_as H K f to back (Err errors.Read) old new r = (r.0, r.1, (f r.2.0, r.2.1, r.2.2, to r.2.0 (r.0 ++ r.2.1 ∷ r.2.2) r.2.3))
 reads_as H K f to back (Err errors.OutOfMemory) old new r = (r.0, r.1, (f r.2.0, r.2.1, to r.2.0 (r.0 ++ r.2.1) r.2.2))

@@ -5,23 +5,23 @@ use Rattle.sat_base.specs.declared.device.input.Input.{Input}
 use Rattle.sat_base.specs.declared.steps.error.StepError.{StepError}
 use Rattle.sat_base.specs.declared.steps.error.StepError.TheVariants as errors
 use Rattle.sat_base.specs.device.Device.{Reader}
-use Rattle.sat_base.specs.device.Reading.{Source, Passes, Faults, AllTaken, Answers, source, source_of, named}
+use Rattle.sat_base.specs.device.Reading.{Source, PassesBut, Faults, AllTaken, Answers, source, source_of, named}
 use Rattle.sat_base.specs.steps.Steps.{Step}
 
 same_names : (r : Result Step StepError) (s t : Source) → Answers r s t → t.names ≡ s.names
 same_names (Ok step) s t h = h.1.names
 same_names (Err errors.Ends) s t h = h.0.names
-same_names (Err errors.Cut) s t h = h.2.names
+same_names (Err errors.Cut) s t h = h.2.0.names
 same_names (Err errors.BadByte) s t h = h.2.names
 same_names (Err errors.Read) s t h = h.1.names
 same_names (Err errors.OutOfMemory) s t h = h.2.names
 same_names (Err errors.HasFailed) s t h = absurd h
 
-passes_named : (ns : List ℕ) (s t : Source) (text : List ℕ) → Passes s t text → Passes (named ns s) (named ns t) text
-passes_named ns s t text p = record { fresh = p.fresh; gave = p.gave; flows = p.flows; bytes = p.bytes; failures = p.failures; calls = p.calls; room = p.room; loans = p.loans; names = refl }
+passes_named : {n : ℕ} (ns : List ℕ) (s t : Source) (text : List ℕ) → PassesBut n s t text → PassesBut n (named ns s) (named ns t) text
+passes_named ns s t text p = record { fresh = p.fresh; gave = p.gave; flows = p.flows; bytes = p.bytes; failures = p.failures; calls = p.calls; room = p.room; few = p.few; loans = p.loans; names = refl }
 
 faults_named : (ns : List ℕ) (s t : Source) (text : List ℕ) → Faults s t text → Faults (named ns s) (named ns t) text
-faults_named ns s t text f = record { fresh = f.fresh; gave = f.gave; flows = f.flows; none = f.none; bytes = f.bytes; cause = f.cause; calls = f.calls; room = f.room; loans = f.loans; names = refl }
+faults_named ns s t text f = record { fresh = f.fresh; gave = f.gave; flows = f.flows; none = f.none; bytes = f.bytes; cause = f.cause; calls = f.calls; room = f.room; few = f.few; loans = f.loans; names = refl }
 
 taken_named : (ns : List ℕ) (t : Source) → AllTaken t → AllTaken (named ns t)
 taken_named ns t a = record { ended = a.ended; waiting = a.waiting; over = a.over }
@@ -29,7 +29,7 @@ taken_named ns t a = record { ended = a.ended; waiting = a.waiting; over = a.ove
 answers_named : (ns : List ℕ) (r : Result Step StepError) (s t : Source) → Answers r s t → Answers r (named ns s) (named ns t)
 answers_named ns (Ok step) s t h = (h.0, passes_named ns s t h.0 h.1, h.2)
 answers_named ns (Err errors.Ends) s t h = (passes_named ns s t [] h.0, taken_named ns t h.1)
-answers_named ns (Err errors.Cut) s t h = (h.0, h.1, passes_named ns s t (h.0 ∷ h.1) h.2, h.3, taken_named ns t h.4)
+answers_named ns (Err errors.Cut) s t h = (h.0, h.1, (passes_named ns s t (h.0 ∷ h.1) h.2.0, taken_named ns t h.2.1), h.3)
 answers_named ns (Err errors.BadByte) s t h = (h.0, h.1, passes_named ns s t _ h.2, h.3, h.4)
 answers_named ns (Err errors.Read) s t h = (h.0, faults_named ns s t h.0 h.1, h.2)
 answers_named ns (Err errors.OutOfMemory) s t h = (h.0, h.1, passes_named ns s t (h.0 ∷ h.1) h.2, h.3)

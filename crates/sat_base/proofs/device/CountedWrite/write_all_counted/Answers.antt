@@ -20,5 +20,5 @@ loop-written-preserved g c =
     let S = g.Self.CountedWrite.seen in
     record {
       within = within_next c.args.piece.now c.loop-written.written c.in_ok-count.count c.loop-written.invariant.within c.in_ok-count.ensures.bound;
-      takes = took_next (S c.args.self.now) (S c.loop-written.self) (S c.write_counted.new.self) c.args.piece.now c.loop-written.written c.in_ok-count.count c.loop-written.invariant.takes c.in_ok-count.ensures.once c.if-count-eq0.false;
+      takes = took_next (S c.args.self.now) (S c.loop-written.self) (S c.write_counted.new.self) c.args.piece.now c.loop-written.written c.in_ok-count.count c.loop-written.invariant.takes c.in_ok-count.ensures.once c.in_ok-count.ensures.bound c.if-count-eq0.false;
     }

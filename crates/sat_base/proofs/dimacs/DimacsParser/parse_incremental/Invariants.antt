@@ -1,4 +1,4 @@
-use Rattle.std.proofs.Common.{◌≡◌, ◌+◌, ◌<◌, false, List, ℕ}
+use Rattle.std.proofs.Common.{◌≡◌, ◌+◌, ◌<◌, ◌≤◌, false, length, List, ℕ}
 use Rattle.std.specs.List.{FoldsTo, concat}
 use denote.Param.Always.{always_mut}
 use Rattle.sat_base.specs.device.Device.{GaveFront}
@@ -11,7 +11,8 @@ invariant-loop g l = record {
   always : always_mut g.F.FnMut l.initial.closure → always_mut g.F.FnMut l.closure;
   visited : (pieces : List (List ℕ)) × FoldsTo (FeedsAndVisits (λ f p r q h. goal.F-step g f p r q h)) (l.initial.closure, no_progress) pieces (l.closure, l.parser)
       × GaveFront (g.R.CountedRead.seen l.fn.reader) (g.R.CountedRead.seen l.reader) (concat pieces)
-      × (KeepsText (λ f p r q h. goal.F-step g f p r q h) l.initial.closure → KeepsText (λ f p r q h. goal.F-step g f p r q h) l.closure × Stands (concat pieces) l.parser);
+      × (KeepsText (λ f p r q h. goal.F-step g f p r q h) l.initial.closure → KeepsText (λ f p r q h. goal.F-step g f p r q h) l.closure × Stands (concat pieces) l.parser)
+      × (length pieces ≡ l.counter) × (l.counter ≤ length (concat pieces));
   open_yet : 0 < l.counter → (g.R.CountedRead.seen l.reader).ended ≡ false;
   failures : (g.R.CountedRead.seen l.reader).failures ≡ (g.R.CountedRead.seen l.fn.reader).failures;
   calls : (g.R.CountedRead.seen l.reader).calls ≡ (g.R.CountedRead.seen l.fn.reader).calls + l.counter;

@@ -32,7 +32,7 @@ and_end_spec 𝓤 𝓛 𝓜 𝓡 wired =
     (λ κs. (shr_vals, tt)) (λ κs. (shr_Tells (named 0) κs.0 tally.the_row, tt)) (λ κs qs bounds a _ are.
     let vs = shr_vals a.0 in
     let y : W.Ghost = ((κs, qs, bounds, a, (vs, tt)), tt) in
-    let made : (tally.the_row).Denot = record { calls = a.0.now.calls + 1; failures = a.0.now.failures; given = a.0.now.given; taken = a.0.now.taken; ended = true; flushed = false; failed = false } in
+    let made : (tally.the_row).Denot = record { calls = a.0.now.calls + 1; failures = a.0.now.failures; given = a.0.now.given; taken = a.0.now.taken; ended = true; flushed = false; failed = false; flushes = a.0.now.flushes } in
     qed 𝓛 ((raw (alive 𝓛 f.signature κs qs) ⊛ ‵ (owns (types_at f.signature.params κs) a (vs, tt))) ∷ ‵ ftrue ∷ []) ∵
     split ! $ keep ! (0 ∷ []) $
     enter ! _ _ _ _ _ $ alloc_all ! (λ l. pass_all ! refl ((tt, tt), tt) $

@@ -33,7 +33,7 @@ and_write_spec 𝓤 𝓛 𝓜 𝓡 wired =
     (λ κs. (shr_vals, (shr_slice_vals, tt))) (λ κs. (shr_Tells (named 0) κs.0 tally.the_row, (shr_slice_Tells (named 1) κs.1.0 u8, tt))) (λ κs qs bounds a _ are.
     let vs = shr_vals a.0 in let ws = shr_slice_vals a.1.0 in
     let y : W.Ghost = ((κs, qs, bounds, a, (vs, (ws, tt))), tt) in
-    let made : (tally.the_row).Denot = record { calls = a.0.now.calls + 1; failures = a.0.now.failures; given = a.0.now.given; taken = a.0.now.taken ++ a.1.0.now; ended = false; flushed = false; failed = false } in
+    let made : (tally.the_row).Denot = record { calls = a.0.now.calls + 1; failures = a.0.now.failures; given = a.0.now.given; taken = a.0.now.taken ++ a.1.0.now; ended = false; flushed = false; failed = false; flushes = a.0.now.flushes } in
     qed 𝓛 ((raw (alive 𝓛 f.signature κs qs) ⊛ ‵ (owns (types_at f.signature.params κs) a (vs, (ws, tt)))) ∷ ‵ ftrue ∷ []) ∵
     split ! $ keep ! (0 ∷ []) $
     enter ! _ _ _ _ _ $ alloc_all ! (λ l. pass_all ! refl ((tt, tt), ((tt, (tt, (record { fits = are.1.0.0.1.0 }, tt))), tt)) $

@@ -25,7 +25,7 @@ new_spec 𝓤 𝓛 𝓜 𝓡 wired =
     f.Key.name code.function (code.unfolded 𝓤 𝓛.H 𝓜 𝓡 wired)
     (λ κs. tt) (λ κs. tt) (λ κs qs bounds a _ are.
     let y : W.Ghost = ((κs, qs, bounds, a, tt), tt) in
-    let made : (tally.the_row).Denot = record { calls = 0; failures = 0; given = []; taken = []; ended = false; flushed = false; failed = false } in
+    let made : (tally.the_row).Denot = record { calls = 0; failures = 0; given = []; taken = []; ended = false; flushed = false; failed = false; flushes = 0 } in
     qed 𝓛 (raw (on_entry 𝓛 f.signature κs qs a tt) ∷ ‵ ftrue ∷ []) ∵ drop ! $ drop ! $
     enter ! _ _ _ _ _ $ alloc_all ! (λ l. pass_all ! refl tt $
     sets ! (agg ! (no_more !)) refl (tt, tt) $
