@@ -3,6 +3,7 @@ pub mod Propagation
 pub mod Stored
 pub mod Storing
 pub mod Accepts
+pub mod Spent
 pub mod Fold
 pub mod Looks
 pub mod inner

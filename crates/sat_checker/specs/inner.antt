@@ -7,3 +7,4 @@ pub mod EntryView
 pub mod VariablesView
 pub mod StoreView
 pub mod UnitView
+pub mod FormulaView

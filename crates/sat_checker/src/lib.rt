@@ -3,6 +3,7 @@
 
 pub(crate) mod assigned;
 pub(crate) mod clauses;
+pub(crate) mod formula;
 pub mod hash;
 pub(crate) mod index;
 pub mod laws;
@@ -10,6 +11,7 @@ pub mod looks;
 pub mod rup;
 pub mod slots;
 pub mod sorted_lits;
+pub(crate) mod status;
 pub(crate) mod store;
 mod tally;
 pub(crate) mod units;

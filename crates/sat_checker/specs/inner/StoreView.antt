@@ -12,12 +12,15 @@ use Rattle.sat_checker.specs.declared.store.Store.{Store}
 abbrev pub AreHashed : ClauseHasher → List Slot → Type 0
 AreHashed h = AllByRecursion (λ s. is_gone s ≡ false → s.hash ≡ hash_by (solver_name_of h) (width_of h) s.clause.literals)
 
--- it has the clauses, under the hashes by solver names and width
-pub record KeepsClauses (store : Store) (f : Stored) : Type 0 where
-  pub clauses : live store.clauses ≡ f.clauses
+-- it has these clauses, under the hashes by these solver names and of this width
+pub record KeepsHashed (store : Store) (kept : List StoredClause) (solver_names : ℕ → Option ℕ) (bits : ℕ) : Type 0 where
+  pub clauses : live store.clauses ≡ kept
   pub hashed : AreHashed store.hasher store.clauses
-  pub names : (v : ℕ) → solver_name_of store.hasher v ≡ f.solver_names v
-  pub width : width_of store.hasher ≡ f.width
+  pub names : (v : ℕ) → solver_name_of store.hasher v ≡ solver_names v
+  pub width : width_of store.hasher ≡ bits
+
+abbrev pub KeepsClauses : Store → Stored → Type 0
+KeepsClauses store f = KeepsHashed store f.clauses f.solver_names f.width
 
 abbrev pub count_in : Bool → Option StoredClause → ℕ
 count_in redundant c = if redundant then redundant_count c else irredundant_count c

@@ -1,0 +1,13 @@
+-- When a number that the checker would keep is past 64 bits.
+use Rattle.std.specs.Prelude.{ℕ, ◌≤◌, ◌^◌, ◌⊎◌, List}
+use Rattle.sat_checker.specs.Stored.{Stored}
+use Rattle.sat_checker.specs.Storing.{clause_with, irredundant_count, redundant_count}
+
+-- a count of a stored clause is past 64 bits
+pub record CountSpent (f : Stored) : Type 0 where
+  pub literals : List ℕ
+  pub past : (2 ^ 64 ≤ irredundant_count (clause_with literals f.clauses)) ⊎ (2 ^ 64 ≤ redundant_count (clause_with literals f.clauses))
+
+-- the last id, 2^64-2, was given, and one more would be; or a count is past 64 bits
+abbrev pub IsSpent : Stored → Type 0
+IsSpent f = (2 ^ 64 ≤ f.next_id) ⊎ CountSpent f

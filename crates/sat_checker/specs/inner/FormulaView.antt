@@ -1,0 +1,58 @@
+-- What the stored formula's parts keep of the definition's state.
+use Rattle.std.specs.Prelude.{ℕ, ◌≡◌, Bool, List, Option, Result, Ok, Err}
+use Rattle.std.specs.Bool.{MatchBool}
+use Rattle.sat_checker.specs.Stored.{Stored, StoredClause, StoredUnit, Last, NoneYet, Empty, UnitClause, LongClause}
+use Rattle.sat_checker.specs.Spent.{IsSpent}
+use Rattle.sat_checker.specs.inner.StoreView.{KeepsHashed}
+use Rattle.sat_checker.specs.declared.store.StoreError.{StoreError}
+use Rattle.sat_checker.specs.declared.store.StoreError.TheVariants.{OutOfMemory, CounterEnd}
+use Rattle.sat_checker.specs.declared.status.LastClause.{LastClause}
+use Rattle.sat_checker.specs.declared.status.LastClause.TheVariants as code
+use Rattle.sat_checker.specs.declared.status.Status.{Status}
+use Rattle.sat_checker.specs.declared.formula.Formula.{Formula}
+
+-- what is recorded beside clauses, units and variables
+pub record Standing : Type 0 where
+  pub unsat : Bool
+  pub conflict : Option (ℕ × ℕ)
+  pub last : Last
+  pub next_id : ℕ
+  pub ended : Bool
+  pub var_deleted : Bool
+
+abbrev pub standing_of : Stored → Standing
+standing_of f = record { unsat = f.unsat; conflict = f.conflict; last = f.last; next_id = f.next_id; ended = f.ended; var_deleted = f.var_deleted }
+
+abbrev pub last_in : LastClause → Last
+last_in code.NoneYet = NoneYet
+last_in code.Empty = Empty
+last_in (code.Single id) = UnitClause id
+last_in (code.Long id) = LongClause id
+
+abbrev pub standing_in : Status → Standing
+standing_in s = record { unsat = s.unsat; conflict = s.conflict; last = last_in s.last; next_id = s.next_id; ended = s.ended; var_deleted = s.var_deleted }
+
+-- it has these clauses, hashed by these names and of this width, these units, and this is recorded
+pub record KeepsParts (formula : Formula) (kept : List StoredClause) (solver_names : ℕ → Option ℕ) (bits : ℕ) (stored : List StoredUnit) (standing : Standing) : Type 0 where
+  pub clauses : KeepsHashed formula.store kept solver_names bits
+  pub units : formula.units ≡ stored
+  pub status : standing_in formula.status ≡ standing
+
+abbrev pub KeepsFormula : Formula → Stored → Type 0
+KeepsFormula formula f = KeepsParts formula f.clauses f.solver_names f.width f.units (standing_of f)
+
+-- what an answer says where this is stored then, and this is what would be
+abbrev pub Turns : {T : Type 0} → Result T StoreError → Type 0 → Stored → Type 0
+Turns (Ok x) kept g = kept
+Turns (Err OutOfMemory) kept g = Unit {0}
+Turns (Err CounterEnd) kept g = IsSpent g
+
+-- the formula is changed so
+abbrev pub Becomes : {T : Type 0} → Result T StoreError → Formula → (Stored → Stored) → Formula → Type 0
+Becomes result old change new = (f : Stored) → KeepsFormula old f → Turns result (KeepsFormula new (change f)) (change f)
+
+-- it is accepted, and changed so, or it isn't
+abbrev pub TurnsIf : Result Bool StoreError → Type 0 → Type 0 → Stored → Type 0
+TurnsIf (Ok accepted) accepts kept g = MatchBool accepted (accepts × kept) (accepts → ⊥)
+TurnsIf (Err OutOfMemory) accepts kept g = Unit {0}
+TurnsIf (Err CounterEnd) accepts kept g = IsSpent g

@@ -1,0 +1,55 @@
+//! What is recorded beside clauses, units and variables.
+ghost use Rattle.std.specs.Prelude.{◌≡◌, ◌+◌, ◌≤◌, ◌^◌, MatchResult};
+ghost use Rattle.sat_checker.specs.Storing.{first_conflict};
+ghost use Rattle.sat_checker.specs.declared.store.StoreError.TheVariants.{CounterEnd};
+
+use crate::store::StoreError;
+
+/// The last irredundant clause stored: none yet, an empty one, or another by its id.
+#[derive(Clone, Copy)]
+pub(crate) enum LastClause {
+    NoneYet,
+    Empty,
+    Single(u64),
+    Long(u64),
+}
+
+/// What is recorded of the stored formula as a whole.
+#[derive(Clone, Copy)]
+pub(crate) struct Status {
+    pub(crate) unsat: bool,
+    /// The ids of a unit and of one that contradicts it, while the empty clause of their conflict has no id yet.
+    pub(crate) conflict: Option<(u64, u64)>,
+    pub(crate) last: LastClause,
+    pub(crate) next_id: u64,
+    pub(crate) ended: bool,
+    pub(crate) var_deleted: bool,
+}
+
+impl Status {
+    /// Takes the next id. The last one is 2^64-2.
+    pub fn take_id(&mut self) -> Result<u64, StoreError>
+        ensures { MatchResult result
+            (λ id. (id ≡ self.old.next_id) × (self.new ≡ record self.old { next_id = self.old.next_id + 1 }))
+            (λ e. (e ≡ CounterEnd) × (2 ^ 64 ≤ self.old.next_id + 1)) }
+    {
+        let id = self.next_id;
+        if id == u64::MAX {
+            return Err(StoreError::CounterEnd);
+        }
+        self.next_id = id + 1;
+        Ok(id)
+    }
+
+    /// Records a unit conflict where none is pending.
+    pub fn record_conflict(&mut self, stored: Option<u64>, id: u64)
+        ensures { self.new ≡ record self.old { conflict = first_conflict self.old.conflict stored id } }
+    {
+        if self.conflict.is_some() {
+            return;
+        }
+        if let Some(stored) = stored {
+            self.conflict = Some((stored, id));
+        }
+    }
+}
