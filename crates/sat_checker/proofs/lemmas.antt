@@ -5,3 +5,4 @@ pub mod meaning
 pub mod store
 pub mod variables
 pub mod rows
+pub mod formula

@@ -1,5 +1,5 @@
 //! The stored formula: clauses, units, and what is recorded of them.
-ghost use Rattle.std.specs.Prelude.{◌≡◌, ◌+◌, ◌≤◌, ℕ};
+ghost use Rattle.std.specs.Prelude.{◌≡◌, ◌+◌, ◌≤◌, ℕ, [], ◌∷◌, length};
 ghost use Rattle.sat_checker.specs.Stored.{Stored, nothing_stored};
 ghost use Rattle.sat_checker.specs.Looks.{literal_count};
 ghost use Rattle.sat_checker.specs.Storing.{settled, with_unit, with_contradiction, with_canonical, with_stored, with_input};
@@ -59,5 +59,104 @@ impl Formula {
         self.status.unsat = true;
         self.status.record_conflict(stored, id);
         Ok(())
+    }
+
+    /// Stores an empty clause, which is new each time.
+    fn store_empty(&mut self, redundant: bool) -> Result<(), StoreError>
+        ensures { Becomes result self.old (with_canonical redundant []) self.new }
+    {
+        self.status.take_id()?;
+        self.status.unsat = true;
+        if !redundant {
+            self.status.last = LastClause::Empty;
+        }
+        Ok(())
+    }
+
+    /// Stores a clause of one literal.
+    #[tactic(auto, using(crate::proofs::lemmas::formula::Storing::storing_single))]
+    fn store_single(&mut self, redundant: bool, lit: Lit) -> Result<(), StoreError>
+        ensures { Becomes result self.old (with_canonical redundant (lit ∷ [])) self.new }
+    {
+        self.store_unit(lit)?;
+        if redundant {
+            return Ok(());
+        }
+        if let Some(id) = self.units.id(lit) {
+            self.status.last = LastClause::Single(id);
+        }
+        Ok(())
+    }
+
+    /// Stores a clause of two literals or more.
+    fn store_long(
+        &mut self,
+        redundant: bool,
+        literals: &[Lit],
+        looks: &mut Looks,
+    ) -> Result<(), StoreError>
+        requires increasing { IsIncreasing literals.now }
+        requires long { 2 ≤ length literals.now }
+        ensures stored { Becomes result self.old (with_canonical redundant literals.now) self.new }
+        ensures looks { (f : Stored) → KeepsFormula self.old f → looks.new ≤ looks.old + literal_count f }
+    {
+        let id = self.status.next_id;
+        let (id, is_new) = self.store.store_clause(id, redundant, literals, looks)?;
+        self.status.note_last(redundant, LastClause::Long(id));
+        self.status.take_id_if(is_new)
+    }
+
+    /// Stores sorted literals without repeats.
+    fn store_canonical(
+        &mut self,
+        redundant: bool,
+        literals: &[Lit],
+        looks: &mut Looks,
+    ) -> Result<(), StoreError>
+        requires { IsIncreasing literals.now }
+        ensures stored { Becomes result self.old (with_canonical redundant literals.now) self.new }
+        ensures looks { (f : Stored) → KeepsFormula self.old f → looks.new ≤ looks.old + literal_count f }
+    {
+        if literals.is_empty() {
+            return self.store_empty(redundant);
+        }
+        if literals.len() == 1 {
+            return self.store_single(redundant, literals[0]);
+        }
+        self.store_long(redundant, literals, looks)
+    }
+
+    /// Stores a derived clause, unless it is a tautology. The buffer is for its sorted literals.
+    #[tactic(auto, using(crate::proofs::lemmas::sets::Canonical::canonical_increasing))]
+    pub fn store_clause(
+        &mut self,
+        redundant: bool,
+        clause: &[Lit],
+        buffer: &mut Vec<Lit>,
+        looks: &mut Looks,
+    ) -> Result<(), StoreError>
+        ensures stored { Becomes result self.old (with_stored redundant clause.now) self.new }
+        ensures looks { (f : Stored) → KeepsFormula self.old f → looks.new ≤ looks.old + literal_count f }
+    {
+        if copy_canonical(buffer, clause)? {
+            return Ok(());
+        }
+        self.store_canonical(redundant, buffer, looks)
+    }
+
+    /// Stores a clause of the formula, which takes an id whatever becomes of it.
+    pub fn store_input(
+        &mut self,
+        clause: &[Lit],
+        buffer: &mut Vec<Lit>,
+        looks: &mut Looks,
+    ) -> Result<(), StoreError>
+        ensures stored { Becomes result self.old (with_input clause.now) self.new }
+        ensures looks { (f : Stored) → KeepsFormula self.old f → looks.new ≤ looks.old + literal_count f }
+    {
+        let id = self.status.next_id;
+        self.store_clause(false, clause, buffer, looks)?;
+        let unnumbered = self.status.next_id == id;
+        self.status.take_id_if(unnumbered)
     }
 }

@@ -1,5 +1,5 @@
 //! What is recorded beside clauses, units and variables.
-ghost use Rattle.std.specs.Prelude.{◌≡◌, ◌+◌, ◌≤◌, ◌^◌, MatchResult};
+ghost use Rattle.std.specs.Prelude.{◌≡◌, ◌+◌, ◌≤◌, ◌^◌, MatchResult, true, if◌then◌else◌};
 ghost use Rattle.sat_checker.specs.Storing.{first_conflict};
 ghost use Rattle.sat_checker.specs.declared.store.StoreError.TheVariants.{CounterEnd};
 
@@ -39,6 +39,28 @@ impl Status {
         }
         self.next_id = id + 1;
         Ok(id)
+    }
+
+    /// Takes the next id where one is needed.
+    pub fn take_id_if(&mut self, needed: bool) -> Result<(), StoreError>
+        ensures { MatchResult result
+            (λ _. self.new ≡ record self.old { next_id = (if needed then self.old.next_id + 1 else self.old.next_id) })
+            (λ e. (e ≡ CounterEnd) × (needed ≡ true) × (2 ^ 64 ≤ self.old.next_id + 1)) }
+    {
+        if !needed {
+            return Ok(());
+        }
+        self.take_id()?;
+        Ok(())
+    }
+
+    /// Notes the last irredundant clause stored.
+    pub fn note_last(&mut self, redundant: bool, last: LastClause)
+        ensures { self.new ≡ (if redundant then self.old else record self.old { last = last }) }
+    {
+        if !redundant {
+            self.last = last;
+        }
     }
 
     /// Records a unit conflict where none is pending.

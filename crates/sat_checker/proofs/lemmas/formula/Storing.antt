@@ -1,0 +1,243 @@
+-- What storing leaves of the formula.
+use Rattle.std.proofs.Common.{ℕ, ◌+◌, ◌≤◌, ◌^◌, ◌≡◌, Bool, true, false, not, cond, eqb, List, [], ◌∷◌, ◌++◌, length, Option, None, Some, is_some, refl, sym, ◌∙◌, ap, subst, arith, Result, Ok, Err, ◌⊎◌, inl, inr, max}
+use Rattle.std.proofs.lemmas.Bool.{true≢false, eq-eqb, eqb-true, eqb-false}
+use Rattle.std.specs.Prelude.{MatchResult}
+use Rattle.sat_base.specs.values.Literals.{negated}
+use Rattle.sat_checker.specs.LiteralSets.{same_literals, is_tautology, canonical}
+use Rattle.sat_checker.specs.Spent.{CountSpent, IsSpent}
+use Rattle.sat_checker.specs.Stored.{Stored, StoredClause, StoredUnit, Last, UnitClause, LongClause, is_unit}
+use Rattle.sat_checker.specs.Storing.{with_count, new_clause, with_clause, clause_with, irredundant_count, redundant_count, unit_id, unit_at, long_at, place_of, with_unit, with_contradiction, with_new_unit, with_long, with_set, with_canonical, with_stored, with_input}
+use Rattle.sat_checker.specs.inner.StoreView.{KeepsClauses, Stores, count_in, id_in}
+use Rattle.sat_checker.specs.inner.FormulaView.{Standing, standing_of, standing_in, KeepsFormula, Turns}
+use Rattle.sat_checker.specs.declared.store.Store.{Store}
+use Rattle.sat_checker.specs.declared.store.StoreError.{StoreError}
+use Rattle.sat_checker.specs.declared.store.StoreError.TheVariants.{OutOfMemory, CounterEnd}
+use Rattle.sat_checker.specs.declared.status.LastClause.TheVariants as code
+use Rattle.sat_checker.specs.declared.status.Status.{Status}
+use Rattle.sat_checker.specs.declared.formula.Formula.{Formula}
+
+-- the place of a unit by its id
+unit_there : (l id : ℕ) (us : List StoredUnit) (otherwise : Last) → unit_id l us ≡ Some id → unit_at l us otherwise ≡ UnitClause id
+unit_there l id [] otherwise e = cc
+unit_there l id (u ∷ us) otherwise e = go (eqb u.literal l) (unit_there l id us otherwise) e
+  where
+    go : (b : Bool) → (unit_id l us ≡ Some id → unit_at l us otherwise ≡ UnitClause id) → cond b (Some u.id) (unit_id l us) ≡ Some id → cond b (UnitClause u.id) (unit_at l us otherwise) ≡ UnitClause id
+    go true ih e = cc
+    go false ih e = ih e
+
+unit_none : (l : ℕ) (us : List StoredUnit) (otherwise : Last) → unit_id l us ≡ None → unit_at l us otherwise ≡ otherwise
+unit_none l [] otherwise e = refl
+unit_none l (u ∷ us) otherwise e = go (eqb u.literal l) (unit_none l us otherwise) e
+  where
+    go : (b : Bool) → (unit_id l us ≡ None → unit_at l us otherwise ≡ otherwise) → cond b (Some u.id) (unit_id l us) ≡ None → cond b (UnitClause u.id) (unit_at l us otherwise) ≡ otherwise
+    go true ih e = absurd cc
+    go false ih e = ih e
+
+last_same : (l : ℕ) (f : Stored) → (with_unit l f).last ≡ f.last
+last_same l f = go (is_unit f l) (is_unit f (negated l))
+  where
+    go : (b d : Bool) → (cond b f (cond d (with_contradiction l f) (with_new_unit l f))).last ≡ f.last
+    go true d = refl
+    go false true = refl
+    go false false = refl
+
+pub single_noted : (F : Formula) (r : Bool) (l id : ℕ) (f : Stored) → r ≡ false → KeepsFormula F (with_unit l f) → unit_id l F.units ≡ Some id
+    → KeepsFormula (record { store = F.store; units = F.units; status = record F.status { last = code.Single id } }) (with_canonical r (l ∷ []) f)
+single_noted F true l id f e k u = absurd (true≢false e)
+single_noted F false l id f e k u = record {
+  clauses = k.clauses;
+  units = k.units;
+  status =
+      ap (λ (s : Standing). record s { last = UnitClause id }) k.status
+      ∙ ap (λ o. record (standing_of (with_unit l f)) { last = o }) (sym (unit_there l id (with_unit l f).units f.last (ap (unit_id l) (sym k.units) ∙ u)));
+}
+
+pub single_passed : (F : Formula) (r : Bool) (l : ℕ) (f : Stored) → r ≡ false → KeepsFormula F (with_unit l f) → unit_id l F.units ≡ None → KeepsFormula F (with_canonical r (l ∷ []) f)
+single_passed F true l f e k u = absurd (true≢false e)
+single_passed F false l f e k u = record {
+  clauses = k.clauses;
+  units = k.units;
+  status =
+      k.status
+      ∙ ap (λ o. record (standing_of (with_unit l f)) { last = o }) (last_same l f ∙ sym (unit_none l (with_unit l f).units f.last (ap (unit_id l) (sym k.units) ∙ u)));
+}
+
+pub ruleset storing_single = (single_noted, single_passed)
+
+-- where a clause is, once it was stored
+itself : (ls : List ℕ) → same_literals ls ls ≡ true
+itself [] = refl
+itself (x ∷ xs) = let e : eqb x x ≡ true = eq-eqb x x refl in rw e (itself xs)
+
+long_there : (r : Bool) (n : ℕ) (ls : List ℕ) (cs : List StoredClause) (otherwise : Last) → long_at (clause_with ls (with_clause r n ls cs)) otherwise ≡ LongClause (id_in (clause_with ls cs) n)
+long_there true n ls [] otherwise = ap (λ b. long_at (cond b (Some (new_clause true n ls)) None) otherwise) (itself ls)
+long_there false n ls [] otherwise = ap (λ b. long_at (cond b (Some (new_clause false n ls)) None) otherwise) (itself ls)
+long_there r n ls (c ∷ cs) otherwise = go r (same_literals c.literals ls) refl (long_there r n ls cs otherwise)
+  where
+    go : (r : Bool) (b : Bool) → same_literals c.literals ls ≡ b → long_at (clause_with ls (with_clause r n ls cs)) otherwise ≡ LongClause (id_in (clause_with ls cs) n)
+        → long_at (clause_with ls (cond b (with_count r c ∷ cs) (c ∷ with_clause r n ls cs))) otherwise ≡ LongClause (id_in (cond b (Some c) (clause_with ls cs)) n)
+    go true true e ih = ap (λ b. long_at (cond b (Some (with_count true c)) (clause_with ls cs)) otherwise) e
+    go false true e ih = ap (λ b. long_at (cond b (Some (with_count false c)) (clause_with ls cs)) otherwise) e
+    go r false e ih = ap (λ b. long_at (cond b (Some c) (clause_with ls (with_clause r n ls cs))) otherwise) e ∙ ih
+
+-- one count more
+count_more : (r : Bool) (n : ℕ) (ls : List ℕ) (cs : List StoredClause) → count_in r (clause_with ls (with_clause r n ls cs)) ≡ count_in r (clause_with ls cs) + 1
+count_more true n ls [] = ap (λ b. redundant_count (cond b (Some (new_clause true n ls)) None)) (itself ls)
+count_more false n ls [] = ap (λ b. irredundant_count (cond b (Some (new_clause false n ls)) None)) (itself ls)
+count_more r n ls (c ∷ cs) = go r (same_literals c.literals ls) refl (count_more r n ls cs)
+  where
+    go : (r : Bool) (b : Bool) → same_literals c.literals ls ≡ b → count_in r (clause_with ls (with_clause r n ls cs)) ≡ count_in r (clause_with ls cs) + 1
+        → count_in r (clause_with ls (cond b (with_count r c ∷ cs) (c ∷ with_clause r n ls cs))) ≡ count_in r (cond b (Some c) (clause_with ls cs)) + 1
+    go true true e ih = ap (λ b. redundant_count (cond b (Some (with_count true c)) (clause_with ls cs))) e
+    go false true e ih = ap (λ b. irredundant_count (cond b (Some (with_count false c)) (clause_with ls cs))) e
+    go r false e ih = ap (λ b. count_in r (cond b (Some c) (clause_with ls (with_clause r n ls cs)))) e ∙ ih
+
+counts_spent : (f : Stored) (r : Bool) (ls : List ℕ) → 2 ^ 64 ≤ count_in r (clause_with ls f.clauses) → CountSpent f
+counts_spent f true ls h = record { literals = ls; past = inr h }
+counts_spent f false ls h = record { literals = ls; past = inl h }
+
+abbrev noted : Bool → ℕ → Status → Status
+noted r id s = cond r s (record s { last = code.Long id })
+
+next_of : (F : Formula) (f : Stored) → KeepsFormula F f → F.status.next_id ≡ f.next_id
+next_of F f k = ap (λ (s : Standing). s.next_id) k.status
+
+next_swap : (b is_new : Bool) (n : ℕ) → is_new ≡ not b → cond is_new (n + 1) n ≡ cond b n (n + 1)
+next_swap true true n e = absurd (true≢false e)
+next_swap true false n e = refl
+next_swap false true n e = refl
+next_swap false false n e = absurd (true≢false (sym e))
+
+-- a clause of two literals or more was stored
+module _ (F : Formula) (store : Store) (f : Stored) (x y : ℕ) (ls : List ℕ) (id : ℕ) (is_new : Bool) (k : KeepsFormula F f) where
+  abbrev all : List ℕ
+  all = x ∷ y ∷ ls
+
+  abbrev there : Option StoredClause
+  there = clause_with all f.clauses
+
+  kept_so : (r : Bool) → KeepsClauses store (record f { clauses = with_clause r F.status.next_id all f.clauses }) → KeepsClauses store (record f { clauses = with_clause r f.next_id all f.clauses })
+  kept_so r h = subst (λ n. KeepsClauses store (record f { clauses = with_clause r n all f.clauses })) (next_of F f k) h
+
+  long_done : (r : Bool) (status : Status) → Stores store f F.status.next_id r all id is_new
+      → status ≡ record (noted r id F.status) { next_id = cond is_new ((noted r id F.status).next_id + 1) (noted r id F.status).next_id }
+      → KeepsFormula (record { store = store; units = F.units; status = status }) (with_canonical r all f)
+  long_done true status s e = record {
+    clauses = kept_so true s.stored;
+    units = k.units;
+    status =
+        ap standing_in e ∙ ap (λ (t : Standing). record t { next_id = cond is_new (t.next_id + 1) t.next_id }) k.status
+        ∙ ap (λ n. record (standing_of f) { next_id = n }) (next_swap (is_some there) is_new f.next_id s.new_is);
+  }
+  long_done false status s e = record {
+    clauses = kept_so false s.stored;
+    units = k.units;
+    status =
+        ap standing_in e ∙ ap (λ (t : Standing). record t { last = LongClause id; next_id = cond is_new (t.next_id + 1) t.next_id }) k.status
+        ∙ ap (λ n. record (standing_of f) { last = LongClause id; next_id = n }) (next_swap (is_some there) is_new f.next_id s.new_is)
+        ∙ ap (λ l. record (standing_of f) { last = l; next_id = cond (is_some there) f.next_id (f.next_id + 1) }) (
+        ap LongClause (s.id_is ∙ ap (id_in there) (next_of F f k)) ∙ sym (long_there false f.next_id all f.clauses f.last)
+        );
+  }
+
+  next_noted : (r : Bool) → (noted r id F.status).next_id ≡ f.next_id
+  next_noted true = next_of F f k
+  next_noted false = next_of F f k
+
+  long_spent : (r : Bool) → is_new ≡ not (is_some there) → is_new ≡ true → 2 ^ 64 ≤ (noted r id F.status).next_id + 1 → IsSpent (with_canonical r all f)
+  long_spent true n t h = inl (let a = next_noted true in let b = next_swap (is_some there) is_new f.next_id n in let d : cond is_new (f.next_id + 1) f.next_id ≡ f.next_id + 1 = ap (λ c. cond c (f.next_id + 1) f.next_id) t in omega (arith, a, b, d, h))
+  long_spent false n t h = inl (let a = next_noted false in let b = next_swap (is_some there) is_new f.next_id n in let d : cond is_new (f.next_id + 1) f.next_id ≡ f.next_id + 1 = ap (λ c. cond c (f.next_id + 1) f.next_id) t in omega (arith, a, b, d, h))
+
+  count_spent : (r : Bool) → 2 ^ 64 ≤ count_in r there + 1 → IsSpent (with_canonical r all f)
+  count_spent true h = inr (counts_spent (with_canonical true all f) true all (let e = count_more true f.next_id all f.clauses in omega (arith, e, h)))
+  count_spent false h = inr (counts_spent (with_canonical false all f) false all (let e = count_more false f.next_id all f.clauses in omega (arith, e, h)))
+
+-- what taking an id where one is needed answers
+abbrev pub Takes : {T : Type 0} → Result T StoreError → Status → Bool → Status → Type 0
+Takes result old needed new =
+    MatchResult result (λ x. new ≡ record old { next_id = cond needed (old.next_id + 1) old.next_id }) (λ e. (e ≡ CounterEnd) × (needed ≡ true) × (2 ^ 64 ≤ old.next_id + 1))
+
+pub long_stored : {T : Type 0} (result : Result T StoreError) (F : Formula) (store : Store) (was status : Status) (f : Stored) (r : Bool) (ls : List ℕ) (id : ℕ) (is_new : Bool) → 2 ≤ length ls → KeepsFormula F f → Stores store f F.status.next_id r ls id is_new
+    → was ≡ noted r id F.status → Takes result was is_new status → Turns result (KeepsFormula (record { store = store; units = F.units; status = status }) (with_canonical r ls f)) (with_canonical r ls f)
+long_stored result F store was status f r [] id is_new l k s w m = absurd (omega arith)
+long_stored result F store was status f r (x ∷ []) id is_new l k s w m = absurd (omega arith)
+long_stored {T = T} result F store was status f r (x ∷ y ∷ ls) id is_new l k s w m = go result (subst (λ t. Takes result t is_new status) w m)
+  where
+    go : (result : Result T StoreError) → Takes result (noted r id F.status) is_new status → Turns result (KeepsFormula (record { store = store; units = F.units; status = status }) (with_canonical r (x ∷ y ∷ ls) f)) (with_canonical r (x ∷ y ∷ ls) f)
+    go (Ok v) m = long_done F store f x y ls id is_new k r status s m
+    go (Err e) m =
+        subst (λ d. Turns {T = T} (Err d) (KeepsFormula (record { store = store; units = F.units; status = status }) (with_canonical r (x ∷ y ∷ ls) f)) (with_canonical r (x ∷ y ∷ ls) f)) (sym m.0) (long_spent F store f x y ls id is_new k r s.new_is m.1 m.2)
+
+long_fails : (e : StoreError) (T K : Type 0) (F : Formula) (f : Stored) (r : Bool) (ls : List ℕ) → 2 ≤ length ls → KeepsFormula F f
+    → (e ≡ CounterEnd → 2 ^ 64 ≤ count_in r (clause_with ls f.clauses) + 1) → Turns {T = T} (Err e) K (with_canonical r ls f)
+long_fails e T K F f r [] l k h = absurd (omega arith)
+long_fails e T K F f r (x ∷ []) l k h = absurd (omega arith)
+long_fails OutOfMemory T K F f r (x ∷ y ∷ ls) l k h = tt
+long_fails CounterEnd T K F f r (x ∷ y ∷ ls) l k h = count_spent F F.store f x y ls 0 true k r (h refl)
+
+pub long_refused : {T : Type 0} (result : Result T StoreError) (d e : StoreError) → result ≡ Err d → d ≡ e → (K : Type 0) (F : Formula) (f : Stored) (r : Bool) (ls : List ℕ) → 2 ≤ length ls → KeepsFormula F f
+    → (e ≡ CounterEnd → 2 ^ 64 ≤ count_in r (clause_with ls f.clauses) + 1) → Turns result K (with_canonical r ls f)
+long_refused {T = T} result d e i s K F f r ls l k h = subst (λ x. Turns x K (with_canonical r ls f)) (sym (i ∙ ap Err s)) (long_fails e T K F f r ls l k h)
+
+-- an error is handed on
+pub turns_on : {T U : Type 0} (first : Result T StoreError) (result : Result U StoreError) (d e : StoreError) → first ≡ Err e → result ≡ Err d → d ≡ e → (K L : Type 0) (g h : Stored) → (IsSpent g → IsSpent h) → Turns first K g → Turns result L h
+turns_on {T = T} {U = U} first result d e a b s K L g h w t = subst (λ x. Turns x L h) (sym (b ∙ ap Err s)) (go e (subst (λ x. Turns x K g) a t))
+  where
+    go : (e : StoreError) → Turns {T = T} (Err e) K g → Turns {T = U} (Err e) L h
+    go OutOfMemory t = tt
+    go CounterEnd t = w t
+
+-- ids don't fall
+next_unit : (l : ℕ) (f : Stored) → f.next_id ≤ (with_unit l f).next_id
+next_unit l f = go (is_unit f l) (is_unit f (negated l))
+  where
+    go : (b d : Bool) → f.next_id ≤ (cond b f (cond d (with_contradiction l f) (with_new_unit l f))).next_id
+    go true d = omega arith
+    go false true = omega arith
+    go false false = omega arith
+
+next_set : (r : Bool) (ls : List ℕ) (f : Stored) → f.next_id ≤ (with_set r ls f).next_id
+next_set r [] f = omega arith
+next_set r (l ∷ []) f = next_unit l f
+next_set r (l ∷ m ∷ ls) f = go (is_some (clause_with (l ∷ m ∷ ls) f.clauses))
+  where
+    go : (b : Bool) → f.next_id ≤ cond b f.next_id (f.next_id + 1)
+    go true = omega arith
+    go false = omega arith
+
+next_canonical : (r : Bool) (ls : List ℕ) (f : Stored) → f.next_id ≤ (with_canonical r ls f).next_id
+next_canonical true ls f = next_set true ls f
+next_canonical false ls f = next_set false ls f
+
+next_stored : (r : Bool) (c : List ℕ) (f : Stored) → f.next_id ≤ (with_stored r c f).next_id
+next_stored r c f = go (is_tautology c)
+  where
+    go : (b : Bool) → f.next_id ≤ (cond b f (with_canonical r (canonical c) f)).next_id
+    go true = omega arith
+    go false = next_canonical r (canonical c) f
+
+-- a clause of the formula takes an id
+next_input : (n m : ℕ) (b : Bool) → n ≤ m → b ≡ eqb m n → cond b (m + 1) m ≡ max m (n + 1)
+next_input n m true l e = let h : m ≡ n = eqb-true m n (sym e) in omega arith
+next_input n m false l e = let h : (m ≡ n → ⊥) = eqb-false m n (sym e) in omega arith
+
+pub input_spent : (c : List ℕ) (f : Stored) → IsSpent (with_stored false c f) → IsSpent (with_input c f)
+input_spent c f (inl h) = inl (omega arith)
+input_spent c f (inr s) = inr (record { literals = s.literals; past = s.past })
+
+pub input_stored : {T : Type 0} (result : Result T StoreError) (F G : Formula) (status : Status) (f : Stored) (c : List ℕ) (b : Bool) → KeepsFormula F f → KeepsFormula G (with_stored false c f) → b ≡ eqb G.status.next_id F.status.next_id
+    → Takes result G.status b status → Turns result (KeepsFormula (record { store = G.store; units = G.units; status = status }) (with_input c f)) (with_input c f)
+input_stored {T = T} result F G status f c b k g e m = go result m
+  where
+    same : cond b ((with_stored false c f).next_id + 1) (with_stored false c f).next_id ≡ max (with_stored false c f).next_id (f.next_id + 1)
+    same = next_input f.next_id (with_stored false c f).next_id b (next_stored false c f) (e ∙ ap (λ n. eqb n F.status.next_id) (next_of G (with_stored false c f) g) ∙ ap (eqb (with_stored false c f).next_id) (next_of F f k))
+
+    go : (result : Result T StoreError) → Takes result G.status b status → Turns result (KeepsFormula (record { store = G.store; units = G.units; status = status }) (with_input c f)) (with_input c f)
+    go (Ok v) m = record {
+      clauses = g.clauses;
+      units = g.units;
+      status = ap standing_in m ∙ ap (λ (t : Standing). record t { next_id = cond b (t.next_id + 1) t.next_id }) g.status ∙ ap (λ n. record (standing_of (with_stored false c f)) { next_id = n }) same;
+    }
+    go (Err e) m =
+        subst (λ d. Turns {T = T} (Err d) (KeepsFormula (record { store = G.store; units = G.units; status = status }) (with_input c f)) (with_input c f)) (sym m.0)
+        (inl (let a = next_of G (with_stored false c f) g in let t = ap (λ x. cond x ((with_stored false c f).next_id + 1) (with_stored false c f).next_id) m.1 in omega (arith, a, t, same, m.2)))
