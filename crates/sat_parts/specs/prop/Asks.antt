@@ -1,11 +1,17 @@
 -- What propagation asks of all parts together, in the form in which it gives it back.
-use Rattle.std.specs.Prelude.{ℕ, ◌≡◌, ◌+◌, ◌*◌, ◌<◌, true, List, length, Result, MatchResult}
-use Rattle.sat_store.specs.clause.Buffer.{Laid}
+use Rattle.std.specs.Prelude.{ℕ, ◌≡◌, ◌+◌, ◌*◌, ◌<◌, ◌≤◌, ◌⊎◌, true, List, length, slice_index_or as get_or, Result, MatchResult}
+use Rattle.std.specs.List.{Contains}
+use Rattle.sat_base.specs.values.Literals.{negated}
+use Rattle.sat_store.specs.clause.Buffer.{Laid, lits_at}
+use Rattle.sat_parts.specs.declared.prop.graph.Reason.{Reason}
+use Rattle.sat_parts.specs.declared.prop.graph.Reason.TheVariants.{Unit as NoCause, Binary, Long}
 use Rattle.sat_parts.specs.declared.prop.graph.Conflict.{Conflict}
 use Rattle.sat_parts.specs.clause.Db.{live_refs}
-use Rattle.sat_parts.specs.clause.Stored.{AreClauses}
+use Rattle.sat_parts.specs.clause.Stored.{AreClauses, lit_of}
 use Rattle.sat_parts.specs.prop.WatchLists.{Watching}
-use Rattle.sat_parts.specs.prop.State.{State, level, current_level, Agrees, IsQueueCurrent}
+use Rattle.sat_parts.specs.prop.Binaries.{implied_by}
+use Rattle.sat_parts.specs.prop.Values.{IsTrueLit}
+use Rattle.sat_parts.specs.prop.State.{State, level, current_level, HasLeft, Agrees, IsQueueCurrent, IsSatisfied}
 use Rattle.sat_parts.specs.prop.Reasons.{HaveFirsts, Moves}
 use Rattle.sat_parts.specs.prop.Ready.{AreWatched, AreSettled, AreImplied, AreLists, IsComplete, IsConflict}
 
@@ -24,6 +30,36 @@ pub record Asks (words refs : List ℕ) (w : Watching) (implied : List (List ℕ
   pub settled : AreSettled words (live_refs words refs) s (λ l. level s l < top)
   pub ranges : AreLists implied (length s.values)
   pub binary : AreImplied implied s (λ l. level s l < top)
+
+-- the clause at o is the one that a reason names
+abbrev pub IsOwnLong : Reason → ℕ → Type 0
+IsOwnLong NoCause o = ⊥
+IsOwnLong (Binary ls) o = ⊥
+IsOwnLong (Long p) o = p ≡ o
+
+-- the clause by which l implies m is the one that a reason for lit names
+abbrev pub IsOwnBinary : Reason → (lit l m : ℕ) → Type 0
+IsOwnBinary NoCause lit l m = ⊥
+IsOwnBinary (Binary ls) lit l m = (m ≡ lit) × (negated (get_or ls 0 0) ≡ l)
+IsOwnBinary (Long o) lit l m = ⊥
+
+-- the same before an open literal becomes true by its reason: the clause that the reason names may be unsettled, as one is that
+-- was just added, where its false literals that are watched are of the current level
+pub record AsksForReason (lit : ℕ) (reason : Reason) (words refs : List ℕ) (w : Watching) (implied : List (List ℕ)) (s : State) (top : ℕ) : Type 0 where
+  pub laid : Laid words refs
+  pub clauses : AreClauses words (live_refs words refs) (length s.values)
+  pub room : length w.lists ≡ 2 * length s.values
+  pub watches : w.enabled ≡ true → AreWatched words (live_refs words refs) w.lists (length s.values)
+  pub agrees : Agrees s
+  pub queue : IsQueueCurrent s
+  pub firsts : HaveFirsts words (live_refs words refs) s
+  pub settled : (o i : ℕ) → Contains (live_refs words refs) o → i < 2 → HasLeft s (negated (lit_of words o i)) → level s (negated (lit_of words o i)) < top →
+      IsSatisfied s (lits_at words o) (level s (negated (lit_of words o i)))
+      ⊎ (IsOwnLong reason o × (current_level s ≤ level s (negated (lit_of words o i))))
+  pub ranges : AreLists implied (length s.values)
+  pub binary : (l k : ℕ) → HasLeft s l → level s l < top → k < length (implied_by implied l) →
+      (IsTrueLit s.values (get_or (implied_by implied l) k 0) × (level s (get_or (implied_by implied l) k 0) ≤ level s l))
+      ⊎ (IsOwnBinary reason lit l (get_or (implied_by implied l) k 0) × (current_level s ≤ level s l))
 
 -- what propagation asks before it goes on
 abbrev pub AsksAll : (words refs : List ℕ) (w : Watching) (implied : List (List ℕ)) (s : State) → Type 0

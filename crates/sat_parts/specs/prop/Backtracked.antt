@@ -12,7 +12,7 @@ use Rattle.sat_parts.specs.prop.WatchLists.{Watching}
 use Rattle.sat_parts.specs.prop.State.{Agrees}
 use Rattle.sat_parts.specs.prop.Reasons.{AreInTurn}
 use Rattle.sat_parts.specs.prop.Ready.{state_of}
-use Rattle.sat_parts.specs.prop.Asks.{Asks, AsksAll}
+use Rattle.sat_parts.specs.prop.Asks.{Asks, AsksForReason, AsksAll}
 
 -- where what propagation asks held for the literals of levels below a top, and this level is below it, it holds for all that is
 -- left: after a propagation that found nothing false, and after one that did once its level is undone
@@ -27,12 +27,13 @@ KeepsTurns a t a' t' =
     (words live : List ℕ) (implied : List (List ℕ)) (nodes : List ImplNode) (from : ℕ) → Agrees (state_of a nodes t) →
     AreInTurn words live implied (state_of a nodes t) from → AreInTurn words live implied (state_of a' nodes t') from
 
--- what propagation asks stays so where an open literal becomes true, by a live clause that has it first if by a long one
+-- what propagation asks holds where an open literal has become true, by a live clause that has it first if by a long one. Before,
+-- the clause of its reason may be unsettled
 abbrev pub KeepsAskedBy : (lit : ℕ) (reason : Reason) (a : Values) (nodes : List ImplNode) (t : Trailed) (a' : Values) (nodes' : List ImplNode) (t' : Trailed) → Type 0
 KeepsAskedBy lit reason a nodes t a' nodes' t' =
     (words refs : List ℕ) (w : Watching) (implied : List (List ℕ)) (top : ℕ) →
     ((o : ℕ) → reason ≡ Long o → Contains (live_refs words refs) o × (lit_of words o 0 ≡ lit)) →
-    Asks words refs w implied (state_of a nodes t) top → Asks words refs w implied (state_of a' nodes' t') top
+    AsksForReason lit reason words refs w implied (state_of a nodes t) top → Asks words refs w implied (state_of a' nodes' t') top
 
 -- what propagation asks stays so where a level begins while nothing is in the queue
 abbrev pub KeepsAskedAbove : (t t' : Trailed) → Type 0

@@ -29,5 +29,5 @@ abbrev pub with_nodes : ℕ → List ImplNode → List ImplNode
 with_nodes count nodes = take count nodes ++ replicate (count - length nodes) new_node
 
 -- the node of a unit taken off the trail
-abbrev pub without_depth : ImplNode → ImplNode
-without_depth node = record node { reason = NoCause; depth = 4294967295 }
+abbrev pub removed_node : ImplNode
+removed_node = record { reason = NoCause; level = 0; depth = 4294967295 }

@@ -1,5 +1,5 @@
 -- Why the literals of the trail are true.
-use Rattle.std.specs.Prelude.{ℕ, ◌≡◌, ◌<◌, ◌≤◌, ◌⊎◌, List, [], length, slice_index_or as get_or}
+use Rattle.std.specs.Prelude.{ℕ, ◌≡◌, false, ◌<◌, ◌≤◌, ◌⊎◌, List, [], length, slice_index_or as get_or}
 use Rattle.std.specs.List.{Contains}
 use Rattle.sat_base.specs.values.Literals.{negated}
 use Rattle.sat_parts.specs.declared.prop.graph.Reason.{Reason}
@@ -7,6 +7,7 @@ use Rattle.sat_parts.specs.declared.prop.graph.Reason.TheVariants.{Unit as NoCau
 use Rattle.sat_parts.specs.clause.Orders.{Reorders}
 use Rattle.sat_parts.specs.clause.Stored.{lit_of, size_of}
 use Rattle.sat_parts.specs.prop.Values.{IsTrueLit}
+use Rattle.sat_parts.specs.prop.Graphs.{is_unit}
 use Rattle.sat_parts.specs.prop.State.{State, node, lit_at, IsBefore, IsRemoved, Grows}
 
 -- the literal is false: its negation stands on the trail before this place, or was taken off as a unit
@@ -31,10 +32,15 @@ AreInTurn words live implied s from =
 abbrev pub HaveFirsts : (words live : List ℕ) (s : State) → Type 0
 HaveFirsts words live s = (i o : ℕ) → i < length s.trail.lits → (node s (lit_at s i)).reason ≡ Long o → Contains live o × (lit_of words o 0 ≡ lit_at s i)
 
--- a piece of propagation: literals became true by reasons that are unit in turn, and clauses changed only in the order of
--- their literals, none in its first literal where that was true
+-- the literal at place i of the trail is true by a clause: its reason isn't that of a unit or decision
+abbrev pub IsCaused : State → ℕ → Type 0
+IsCaused s i = IsTrueLit s.values (lit_at s i) × (is_unit (node s (lit_at s i)).reason ≡ false)
+
+-- a piece of propagation: each literal that became true has a clause as its reason, reasons are unit in turn, and clauses
+-- changed only in the order of their literals, none in its first literal where that was true
 pub record Moves (live : List ℕ) (implied : List (List ℕ)) (words : List ℕ) (s : State) (words' : List ℕ) (s' : State) : Type 0 where
   pub grows : Grows s s'
   pub reorders : Reorders words words' live
   pub firsts : (o : ℕ) → Contains live o → IsTrueLit s.values (lit_of words o 0) → lit_of words' o 0 ≡ lit_of words o 0
+  pub caused : (i : ℕ) → length s.trail.lits ≤ i → i < length s'.trail.lits → IsCaused s' i
   pub turns : (from : ℕ) → from ≤ length s.trail.lits → AreInTurn words live implied s from → AreInTurn words' live implied s' from

@@ -1,6 +1,6 @@
 //! Why variables have their values: for each the reason, the level and the place on the trail.
 ghost use Rattle.std.specs.Prelude.{◌≡◌, ◌<◌, ◌↔◌, [], length, IsTrue, OnOk, OnErr};
-ghost use Rattle.sat_parts.specs.prop.Graphs.{node_of, with_node, with_nodes, without_depth, is_unit};
+ghost use Rattle.sat_parts.specs.prop.Graphs.{node_of, with_node, with_nodes, removed_node, is_unit};
 
 use sat_base::{Lit, Var};
 use sat_store::ClauseRef;
@@ -36,7 +36,7 @@ pub enum Conflict {
 }
 
 /// What is known of an assigned variable: the reason, the level, and the trail's length once its literal stood there.
-/// A unit taken off the trail has the depth 2^32 - 1.
+/// A unit taken off the trail has the level 0 and the depth 2^32 - 1.
 #[derive(Clone, Copy)]
 pub struct ImplNode {
     pub reason: Reason,
@@ -111,14 +111,16 @@ impl ImplGraph {
         self.nodes[var.index()].reason = reason;
     }
 
-    /// Marks the variable as that of a unit taken off the trail.
+    /// Marks the variable as that of a unit taken off the trail, of level 0.
     pub fn update_removed_unit(&mut self, var: Var)
         requires { var < length self.old }
-        ensures { self.new ≡ with_node var (without_depth (node_of self.old var)) self.old }
+        ensures { self.new ≡ with_node var removed_node self.old }
     {
-        let node = &mut self.nodes[var.index()];
-        node.reason = Reason::Unit;
-        node.depth = u32::MAX;
+        self.nodes[var.index()] = ImplNode {
+            reason: Reason::Unit,
+            level: 0,
+            depth: u32::MAX,
+        };
     }
 
     /// Whether the variable is that of a unit taken off the trail.

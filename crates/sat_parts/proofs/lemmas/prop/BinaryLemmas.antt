@@ -79,7 +79,7 @@ binary_enqueued implied lit s t at x f h lt x_is f_is open_x small =
       left = left_forth t u lit g refl h.left;
       top = lt_kept ∙ h.top;
       moves = λ words live. moves_trans live implied words s words t words u (h.moves words live)
-          (moves_enqueued live implied words t x r h.agrees open_x small room (cause words live));
+          (moves_enqueued live implied words t x r h.agrees open_x small room refl (cause words live));
       head = h.head;
       done = λ k b c. elim (cases_eq k at) [
         | inl e ↦

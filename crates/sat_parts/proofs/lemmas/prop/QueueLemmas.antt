@@ -58,6 +58,7 @@ moves_popped live implied words s = record {
   grows = grows_popped s;
   reorders = reorders_refl words live;
   firsts = λ o h t. refl;
+  caused = λ i p q. absurd (omega arith);
   turns = λ from p h i x y. implies_forth words live implied s (popped s) i (node s (lit_at s i)).reason (grows_popped s) y (h i x y);
 }
 

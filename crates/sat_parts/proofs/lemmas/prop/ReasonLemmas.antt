@@ -1,5 +1,5 @@
 -- Reasons stay reasons while the trail grows and literals of clauses change places.
-use Rattle.std.proofs.Common.{ℕ, ◌≡◌, ◌+◌, ◌<◌, ◌≤◌, inl, inr, List, [], ◌∷◌, ◌++◌, length, get_or, refl, sym, ap, ◌∙◌, subst, arith}
+use Rattle.std.proofs.Common.{ℕ, ◌≡◌, false, ◌+◌, ◌<◌, ◌≤◌, inl, inr, List, [], ◌∷◌, ◌++◌, length, get_or, refl, sym, ap, ◌∙◌, subst, arith}
 use Rattle.std.proofs.lemmas.Bool.{cases_eq, cases_lt}
 use Rattle.std.proofs.lemmas.List.{length_push}
 use Rattle.std.specs.List.{Contains}
@@ -11,10 +11,11 @@ use Rattle.sat_parts.specs.declared.prop.graph.Reason.TheVariants.{Unit as NoCau
 use Rattle.sat_parts.specs.clause.Orders.{Shuffles}
 use Rattle.sat_parts.specs.clause.Stored.{AreClauses, lit_of, size_of}
 use Rattle.sat_parts.specs.prop.Values.{IsTrueLit, IsOpenLit}
+use Rattle.sat_parts.specs.prop.Graphs.{is_unit}
 use Rattle.sat_parts.specs.prop.State.{State, node, lit_at, Agrees, Grows, enqueued}
-use Rattle.sat_parts.specs.prop.Reasons.{IsFalseBefore, Implies, AreInTurn, HaveFirsts, Moves}
+use Rattle.sat_parts.specs.prop.Reasons.{IsCaused, IsFalseBefore, Implies, AreInTurn, HaveFirsts, Moves}
 use Rattle.sat_parts.proofs.lemmas.clause.OrderLemmas.{reorders_refl, reorders_trans, reorders_one}
-use Rattle.sat_parts.proofs.lemmas.prop.StateLemmas.{before_forth, removed_forth, grows_refl, grows_trans, grows_enqueued, lit_front, lit_last, node_kept, node_new}
+use Rattle.sat_parts.proofs.lemmas.prop.StateLemmas.{before_forth, removed_forth, grows_refl, grows_trans, grows_enqueued, lit_front, lit_last, node_kept, node_new, true_new}
 
 pub false_before_forth : (a b : State) (bound l : ℕ) → Grows a b → IsFalseBefore a bound l → IsFalseBefore b bound l
 false_before_forth a b bound l g h = elim h [
@@ -29,11 +30,20 @@ implies_forth words live implied a b i (Binary ls) g p h =
 implies_forth words live implied a b i (Long o) g p h =
     (h.0, h.1 ∙ sym (g.front i p), λ k x y. false_before_forth a b i (lit_of words o k) g (h.2 k x y))
 
+-- the cause of a literal stays while the trail grows
+pub caused_forth : (a b : State) (i : ℕ) → Grows a b → i < length a.trail.lits → IsCaused a i → IsCaused b i
+caused_forth a b i g p h =
+    let e : lit_at b i ≡ lit_at a i = g.front i p in (
+      subst (λ (m : ℕ). IsTrueLit b.values m) (sym e) (g.kept (lit_at a i) h.0),
+      ap (λ m. is_unit (node b m).reason) e ∙ ap (λ (z : ImplNode). is_unit z.reason) (g.nodes (lit_at a i) h.0) ∙ h.1,
+    )
+
 pub moves_refl : (live : List ℕ) (implied : List (List ℕ)) (words : List ℕ) (s : State) → Moves live implied words s words s
 moves_refl live implied words s = record {
   grows = grows_refl s;
   reorders = reorders_refl words live;
   firsts = λ o h t. refl;
+  caused = λ i p q. absurd (omega arith);
   turns = λ from p h. h;
 }
 
@@ -44,15 +54,19 @@ moves_trans live implied u a v b w c x y = record {
   firsts = λ o h t.
       let e : lit_of v o 0 ≡ lit_of u o 0 = x.firsts o h t in
       y.firsts o h (subst (λ (m : ℕ). IsTrueLit b.values m) (sym e) (x.grows.kept (lit_of u o 0) t)) ∙ e;
+  caused = λ i p q. elim (cases_lt i (length b.trail.lits)) [
+    | inl lt ↦ caused_forth b c i y.grows lt (x.caused i p lt)
+    | inr le ↦ y.caused i le q
+  ];
   turns = λ from p h. y.turns from (omega (arith, x.grows.longer)) (x.turns from p h);
 }
 
 -- an open literal becomes true by a reason that is unit in turn
 pub moves_enqueued : (live : List ℕ) (implied : List (List ℕ)) (words : List ℕ) (s : State) (l : ℕ) (r : Reason) →
     Agrees s → IsOpenLit s.values l → variable l < length s.values → length s.trail.lits < s.trail.room →
-    Implies words live implied (enqueued l r s) (length s.trail.lits) r →
+    is_unit r ≡ false → Implies words live implied (enqueued l r s) (length s.trail.lits) r →
     Moves live implied words s words (enqueued l r s)
-moves_enqueued live implied words s l r h n below room cause =
+moves_enqueued live implied words s l r h n below room clause cause =
     let t : State = enqueued l r s in
     let g : Grows s t = grows_enqueued s l r h n below room in
     let size : length (s.trail.lits ++ l ∷ []) ≡ length s.trail.lits + 1 = length_push s.trail.lits l in
@@ -60,6 +74,12 @@ moves_enqueued live implied words s l r h n below room cause =
       grows = g;
       reorders = reorders_refl words live;
       firsts = λ o p q. refl;
+      caused = λ i p q.
+          let e : i ≡ length s.trail.lits = omega arith in
+          let there : lit_at t i ≡ l = ap (λ m. lit_at t m) e ∙ lit_last s l r in (
+            subst (λ (m : ℕ). IsTrueLit t.values m) (sym there) (true_new s l r below),
+            ap (λ m. is_unit (node t m).reason) there ∙ ap (λ (z : ImplNode). is_unit z.reason) (node_new s l r (omega (arith, h.nodes))) ∙ clause,
+          );
       turns = λ from p q i x y. elim (cases_eq i (length s.trail.lits)) [
         | inl e ↦
             let f : (node t (lit_at t i)).reason ≡ r = ap (λ m. (node t (lit_at t m)).reason) e ∙ ap (λ m. (node t m).reason) (lit_last s l r) ∙ ap (λ (z : ImplNode). z.reason) (node_new s l r (omega (arith, h.nodes))) in
@@ -117,6 +137,7 @@ moves_shuffled live implied words s words' p count a c g e first = record {
     | inl q ↦ subst (λ (x : ℕ). IsTrueLit s.values (lit_of words x 0) → lit_of words' x 0 ≡ lit_of words x 0) q first t
     | inr n ↦ ap (λ (ls : List ℕ). get_or ls 0 0) (e.others live o g c.laid h n).lits
   ];
+  caused = λ i x y. absurd (omega arith);
   turns = λ from x h i y z. implies_shuffled words words' live implied s p i (node s (lit_at s i)).reason count c g e first (a.holds i z) (h i y z);
 }
 

@@ -7,7 +7,7 @@ use Rattle.sat_base.specs.values.Literals.{negated, variable}
 use Rattle.sat_store.specs.clause.Buffer.{lits_at}
 use Rattle.sat_parts.specs.declared.prop.graph.ImplNode.{ImplNode}
 use Rattle.sat_parts.specs.declared.prop.graph.Reason.{Reason}
-use Rattle.sat_parts.specs.declared.prop.graph.Reason.TheVariants.{Long}
+use Rattle.sat_parts.specs.declared.prop.graph.Reason.TheVariants.{Unit as NoCause, Binary, Long}
 use Rattle.sat_parts.specs.clause.Db.{live_refs}
 use Rattle.sat_parts.specs.clause.Stored.{AreClauses, lit_of}
 use Rattle.sat_parts.specs.prop.Values.{IsTrueLit, IsOpenLit}
@@ -17,34 +17,9 @@ use Rattle.sat_parts.specs.prop.WatchLists.{Watching}
 use Rattle.sat_parts.specs.prop.State.{State, node, level, lit_at, IsRemoved, HasLeft, Agrees, IsQueueCurrent, IsSatisfied, Grows, enqueued}
 use Rattle.sat_parts.specs.prop.Reasons.{HaveFirsts}
 use Rattle.sat_parts.specs.prop.Ready.{AreWatched, AreLists}
-use Rattle.sat_parts.specs.prop.Asks.{Asks, AsksAll}
-use Rattle.sat_parts.proofs.lemmas.prop.StateLemmas.{left_true, left_back, level_kept, level_low, satisfied_forth, agrees_enqueued, grows_enqueued, queue_enqueued, lit_front, lit_last, node_kept, node_new}
+use Rattle.sat_parts.specs.prop.Asks.{Asks, AsksForReason, IsOwnLong, IsOwnBinary, AsksAll}
+use Rattle.sat_parts.proofs.lemmas.prop.StateLemmas.{left_true, left_back, level_kept, level_low, satisfied_forth, agrees_enqueued, grows_enqueued, queue_enqueued, lit_front, lit_last, node_kept, node_new, true_new}
 use Rattle.sat_parts.proofs.lemmas.prop.RoomLemmas.{room_for}
-
--- open literals become true
-pub asks_grows : (words refs : List ℕ) (w : Watching) (implied : List (List ℕ)) (s t : State) (top : ℕ) → Asks words refs w implied s top →
-    Grows s t → t.trail.head ≡ s.trail.head → Agrees t → IsQueueCurrent t → HaveFirsts words (live_refs words refs) t → Asks words refs w implied t top
-asks_grows words refs w implied s t top h g e a q f = record {
-  laid = h.laid;
-  clauses = subst (λ (n : ℕ). AreClauses words (live_refs words refs) n) (sym g.size) h.clauses;
-  room = h.room ∙ ap (λ n. 2 * n) (sym g.size);
-  watches = λ on. subst (λ (n : ℕ). AreWatched words (live_refs words refs) w.lists n) (sym g.size) (h.watches on);
-  agrees = a;
-  queue = q;
-  firsts = f;
-  settled = λ o i ho hi x d.
-      let m : ℕ = negated (lit_of words o i) in
-      let y : HasLeft s (negated (lit_of words o i)) = left_back s t (negated (lit_of words o i)) g e h.agrees.trail x in
-      let same : level t (negated (lit_of words o i)) ≡ level s (negated (lit_of words o i)) = level_kept s t (negated (lit_of words o i)) g (left_true s (negated (lit_of words o i)) h.agrees y) in
-      satisfied_forth s t (lits_at words o) (level t (negated (lit_of words o i))) g
-      (subst (λ (n : ℕ). IsSatisfied s (lits_at words o) n) (sym same) (h.settled o i ho hi y (omega arith)));
-  ranges = subst (λ (n : ℕ). AreLists implied n) (sym g.size) h.ranges;
-  binary = λ l k x d b.
-      let y : HasLeft s l = left_back s t l g e h.agrees.trail x in
-      let same : level t l ≡ level s l = level_kept s t l g (left_true s l h.agrees y) in
-      let z : IsTrueLit s.values (get_or (implied_by implied l) k 0) × (level s (get_or (implied_by implied l) k 0) ≤ level s l) = h.binary l k y (omega arith) b in
-      (g.kept (get_or (implied_by implied l) k 0) z.0, omega (arith, z.1, same, level_kept s t (get_or (implied_by implied l) k 0) g z.0));
-}
 
 firsts_enqueued : (words live : List ℕ) (s : State) (l : ℕ) (r : Reason) → Agrees s → IsOpenLit s.values l → variable l < length s.values → HaveFirsts words live s →
     ((o : ℕ) → r ≡ Long o → Contains live o × (lit_of words o 0 ≡ l)) → HaveFirsts words live (enqueued l r s)
@@ -63,12 +38,74 @@ firsts_enqueued words live s l r a n below h cause i o b e =
           ((h i o k f).0, (h i o k f).1 ∙ sym same)
     ]
 
+own_long : (r : Reason) (o : ℕ) → IsOwnLong r o → r ≡ Long o
+own_long NoCause o h = absurd h
+own_long (Binary ls) o h = absurd h
+own_long (Long p) o h = ap (λ q. Long q) h
+
+own_binary : (r : Reason) (lit l m : ℕ) → IsOwnBinary r lit l m → m ≡ lit
+own_binary NoCause lit l m h = absurd h
+own_binary (Binary ls) lit l m h = h.0
+own_binary (Long o) lit l m h = absurd h
+
+-- where all clauses are settled, those but the reason's are
+pub asks_for_reason : (words refs : List ℕ) (w : Watching) (implied : List (List ℕ)) (s : State) (top l : ℕ) (r : Reason) → Asks words refs w implied s top → AsksForReason l r words refs w implied s top
+asks_for_reason words refs w implied s top l r h = record {
+  laid = h.laid;
+  clauses = h.clauses;
+  room = h.room;
+  watches = h.watches;
+  agrees = h.agrees;
+  queue = h.queue;
+  firsts = h.firsts;
+  settled = λ o i ho hi x d. inl (h.settled o i ho hi x d);
+  ranges = h.ranges;
+  binary = λ m k x d b. inl (h.binary m k x d b);
+}
+
+-- an open literal becomes true
 pub asks_enqueued : (words refs : List ℕ) (w : Watching) (implied : List (List ℕ)) (s : State) (top l : ℕ) (r : Reason) → IsOpenLit s.values l → variable l < length s.values →
-    ((o : ℕ) → r ≡ Long o → Contains (live_refs words refs) o × (lit_of words o 0 ≡ l)) → Asks words refs w implied s top → Asks words refs w implied (enqueued l r s) top
+    ((o : ℕ) → r ≡ Long o → Contains (live_refs words refs) o × (lit_of words o 0 ≡ l)) → AsksForReason l r words refs w implied s top → Asks words refs w implied (enqueued l r s) top
 asks_enqueued words refs w implied s top l r n below cause h =
     let room : length s.trail.lits < s.trail.room = room_for s l r h.agrees n below in
-    asks_grows words refs w implied s (enqueued l r s) top h (grows_enqueued s l r h.agrees n below room) refl (agrees_enqueued s l r h.agrees n below room)
-    (queue_enqueued s l r h.agrees h.queue n below) (firsts_enqueued words (live_refs words refs) s l r h.agrees n below h.firsts cause)
+    let t : State = enqueued l r s in
+    let g : Grows s t = grows_enqueued s l r h.agrees n below room in
+    let level_new : level t l ≡ length s.trail.starts = ap (λ (z : ImplNode). z.level) (node_new s l r (omega (arith, h.agrees.nodes))) in
+    record {
+      laid = h.laid;
+      clauses = subst (λ (n : ℕ). AreClauses words (live_refs words refs) n) (sym g.size) h.clauses;
+      room = h.room ∙ ap (λ n. 2 * n) (sym g.size);
+      watches = λ on. subst (λ (n : ℕ). AreWatched words (live_refs words refs) w.lists n) (sym g.size) (h.watches on);
+      agrees = agrees_enqueued s l r h.agrees n below room;
+      queue = queue_enqueued s l r h.agrees h.queue n below;
+      firsts = firsts_enqueued words (live_refs words refs) s l r h.agrees n below h.firsts cause;
+      settled = λ o i ho hi x d.
+          let y : HasLeft s (negated (lit_of words o i)) = left_back s t (negated (lit_of words o i)) g refl h.agrees.trail x in
+          let same : level t (negated (lit_of words o i)) ≡ level s (negated (lit_of words o i)) = level_kept s t (negated (lit_of words o i)) g (left_true s (negated (lit_of words o i)) h.agrees y) in
+          elim (h.settled o i ho hi y (omega arith)) [
+            | inl z ↦ satisfied_forth s t (lits_at words o) (level t (negated (lit_of words o i))) g (subst (λ (n : ℕ). IsSatisfied s (lits_at words o) n) (sym same) z)
+            | inr z ↦
+                let first : lit_of words o 0 ≡ l = (cause o (own_long r o z.0)).1 in
+                record {
+                  place = 0;
+                  within = omega (arith, h.clauses.long o ho);
+                  holds = subst (λ (m : ℕ). IsTrueLit t.values m) (sym first) (true_new s l r below);
+                  low = omega (arith, ap (λ m. level t m) first, level_new, z.1, same);
+                }
+          ];
+      ranges = subst (λ (n : ℕ). AreLists implied n) (sym g.size) h.ranges;
+      binary = λ m k x d b.
+          let y : HasLeft s m = left_back s t m g refl h.agrees.trail x in
+          let same : level t m ≡ level s m = level_kept s t m g (left_true s m h.agrees y) in
+          elim (h.binary m k y (omega arith) b) [
+            | inl z ↦ (g.kept (get_or (implied_by implied m) k 0) z.0, omega (arith, z.1, same, level_kept s t (get_or (implied_by implied m) k 0) g z.0))
+            | inr z ↦
+                let there : get_or (implied_by implied m) k 0 ≡ l = own_binary r l m (get_or (implied_by implied m) k 0) z.0 in (
+                  subst (λ (q : ℕ). IsTrueLit t.values q) (sym there) (true_new s l r below),
+                  omega (arith, ap (λ q. level t q) there, level_new, z.1, same),
+                )
+          ];
+    }
 
 pub agrees_by : (s : State) (l : ℕ) (r : Reason) → IsOpenLit s.values l → variable l < length s.values → Agrees s → Agrees (enqueued l r s)
 agrees_by s l r n below a = agrees_enqueued s l r a n below (room_for s l r a n below)

@@ -152,7 +152,7 @@ step_propagates live w0 s0 w v s lists list lit kept at p n h lt at_p e o n_is o
       half = half_kept w v live t lists list lit kept at p n grown lt at_p e (oriented_two w v p (negated lit) o.other o.second) (0, (b, sym n_is))
           (satisfied_by t (lits_at v p) lit 0 a grown.top b holds);
       moves = λ implied. moves_trans live implied w0 s0 v s v t (visit_moves live w0 s0 w v s lists list lit kept at p h lt at_p e o.other implied)
-          (moves_enqueued live implied v s n (Long p) half.agrees open_n small room (cause implied));
+          (moves_enqueued live implied v s n (Long p) half.agrees open_n small room refl (cause implied));
       head = h.head;
     }
 
