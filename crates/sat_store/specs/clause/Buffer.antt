@@ -60,6 +60,7 @@ pub record Adds (old new : List ℕ) (c : ℕ) (header : Header) (lits : List �
   pub header_there : header_at new c ≡ record header { len = length lits }
   pub lits_there : lits_at new c ≡ lits
   pub size : length new ≡ length old + 3 + length lits
+  pub front : take (length old) new ≡ old
   pub others : (p : ℕ) → IsClause old p → Keeps old new p
   pub fresh : (live : List ℕ) → Laid old live → Contains live c → ⊥
   pub laid : (live : List ℕ) → Laid old live → Laid new (live ++ c ∷ [])

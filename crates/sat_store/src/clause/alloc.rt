@@ -125,6 +125,32 @@ impl ClauseAlloc {
         })
     }
 
+    /// Stores a copy of another buffer's clause behind all others.
+    pub fn copy_clause(&mut self, from: &ClauseAlloc, cref: ClauseRef) -> Result<ClauseRef, StoreError>
+        requires { IsClause from.now cref }
+        ensures added { IfOk result (λ c. Adds self.old self.new c (header_at from.now cref) (lits_at from.now cref)) }
+        ensures full { (result ≡ Err StoreError.StoreFull) ↔ (2 ^ 32 - 1 < length self.old) }
+        ensures kept { OnErr result (self.new ≡ self.old) }
+    {
+        let offset = self.words.len();
+        if offset > u32::MAX as usize {
+            return Err(StoreError::StoreFull);
+        }
+        let at = cref.offset as usize;
+        let end = at + HEADER_LEN + from.words[at + 2] as usize;
+        self.words.extend_from_slice(&from.words[at..end])?;
+        Ok(ClauseRef {
+            offset: offset as u32,
+        })
+    }
+
+    /// Takes out the words from a clause on: the clause, if it is the last one, and nothing else.
+    pub fn truncate(&mut self, cref: ClauseRef)
+        ensures { self.new ≡ take cref self.old }
+    {
+        self.words.truncate(cref.offset as usize);
+    }
+
     /// The header of a clause.
     #[inline(always)] // read for each clause that an inner loop looks at
     pub fn header(&self, cref: ClauseRef) -> ClauseHeader

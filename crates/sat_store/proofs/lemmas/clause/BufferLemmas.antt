@@ -1,9 +1,9 @@
 -- What a write to the buffer leaves of the clauses in it.
 use Rattle.std.proofs.Common.{◌≡◌, ◌≢◌, ◌-◌, ℕ, zero, suc, append_assoc, ◌+◌, ◌*◌, ◌^◌, ◌<◌, ◌≤◌, inl, inr, List, [], ◌∷◌, ◌++◌, length, get_or, set, take, drop, refl, sym, ap, ◌∙◌, subst, arith, length-append, length-drop}
-use Rattle.std.proofs.lemmas.List.{get_or_read, take_more, length-take-le, get_or-take, get_or-drop, get_or_append_left, get_or-append-add, ext_get_or, get_or-set_same, get_or-set_other, length-set, drop-set-add}
-use Rattle.std.proofs.Math.Seq.{take-set-lt}
+use Rattle.std.proofs.lemmas.List.{get_or_read, take_more, length-take-le, get_or-take, get_or-drop, get_or_append_left, get_or-append-add, ext_get_or, get_or-set_same, get_or-set_other, length-set, drop-set-add, get_or_past}
+use Rattle.std.proofs.Math.Seq.{take-set-lt, take-append_seam}
 use Rattle.std.proofs.lemmas.List.Elements.{Contains-append_cases, All-more}
-use Rattle.std.proofs.lemmas.Bool.{cases_eq}
+use Rattle.std.proofs.lemmas.Bool.{cases_eq, cases_lt}
 use Rattle.std.specs.List.{Contains, All}
 use Rattle.sat_base.specs.values.Literals.{largest}
 use Rattle.sat_store.specs.clause.Header.{Header, header_of}
@@ -298,13 +298,14 @@ single : (c x : ℕ) → Contains (c ∷ []) x → x ≡ c
 single c x (zero, h, e) = sym e
 single c x (suc k, h, e) = absurd (omega arith)
 
-record WroteClause (v w : List ℕ) (a f : ℕ) (ls : List ℕ) : Type 0 where
-  first : get_or w (length v) 0 ≡ a
-  second : get_or w (length v + 1) 0 ≡ f
-  third : get_or w (length v + 2) 0 ≡ length ls
-  size : length w ≡ length v + 3 + length ls
-  before : (i : ℕ) → i < length v → get_or w i 0 ≡ get_or v i 0
-  behind : (k : ℕ) → get_or w (length v + 3 + k) 0 ≡ get_or ls k 0
+pub record WroteClause (v w : List ℕ) (a f : ℕ) (ls : List ℕ) : Type 0 where
+  pub first : get_or w (length v) 0 ≡ a
+  pub second : get_or w (length v + 1) 0 ≡ f
+  pub third : get_or w (length v + 2) 0 ≡ length ls
+  pub size : length w ≡ length v + 3 + length ls
+  pub front : take (length v) w ≡ v
+  pub before : (i : ℕ) → i < length v → get_or w i 0 ≡ get_or v i 0
+  pub behind : (k : ℕ) → get_or w (length v + 3 + k) 0 ≡ get_or ls k 0
 
 wrote_clause : (v : List ℕ) (a f : ℕ) (ls : List ℕ) → WroteClause v (v ++ (a ∷ f ∷ length ls ∷ ls)) a f ls
 wrote_clause v a f ls =
@@ -315,6 +316,7 @@ wrote_clause v a f ls =
       second = get_or-append-add v new 1 0;
       third = get_or-append-add v new 2 0;
       size = omega (arith, length-append v new);
+      front = take-append_seam v new;
       before = λ i h. get_or_append_left v new 0 i h;
       behind = λ k. let e : length v + 3 + k ≡ length v + suc (suc (suc k)) = omega arith in ap (λ (i : ℕ). get_or (v ++ new) i 0) e ∙ get_or-append-add v new (suc (suc (suc k))) 0;
     }
@@ -325,7 +327,7 @@ apart_behind v w p c keeps =
     let n : get_or w (p + 2) 0 ≡ get_or v (p + 2) 0 = same_len v w p keeps in
     (inl (omega (arith, c.whole)), inr (omega (arith, c.whole)))
 
-added_clause : (v w : List ℕ) (a f : ℕ) (ls : List ℕ) (h : Header) → WroteClause v w a f ls → f < 2 ^ 11 → All (λ l. l < 2 * largest) ls → header_of a f h.len ≡ h → Adds v w (length v) h ls
+pub added_clause : (v w : List ℕ) (a f : ℕ) (ls : List ℕ) (h : Header) → WroteClause v w a f ls → f < 2 ^ 11 → All (λ l. l < 2 * largest) ls → header_of a f h.len ≡ h → Adds v w (length v) h ls
 unfolding header_at
 added_clause v w a f ls h wrote small fit is =
     let size : length w ≡ length v + 3 + length ls = wrote.size in
@@ -343,6 +345,7 @@ added_clause v w a f ls h wrote small fit is =
       header_there = rw (wrote.first, wrote.second, wrote.third) (ap (λ (g : Header). record g { len = length ls }) is);
       lits_there = ext_get_or 0 (lits_at w (length v)) ls count (λ k p. lit_there w (length v) k (omega arith) ∙ wrote.behind k);
       size = size;
+      front = wrote.front;
       others = others;
       fresh = λ live laid has. omega (arith, (laid.clauses (length v) has).whole);
       laid = λ live laid. record {
@@ -428,3 +431,46 @@ unfolding lits_at
 alone_lits w c =
     let n : 3 + get_or w 2 0 - 3 ≡ get_or w 2 0 = omega arith in
     (omega (arith, c.whole), ap (λ (k : ℕ). take k (drop 3 w)) n)
+
+-- a clause copied behind all others
+
+copied_words : (v u : List ℕ) (o m : ℕ) → IsClause u o → m ≡ 3 + get_or u (o + 2) 0 → WroteClause v (v ++ take m (drop o u)) (get_or u o 0) (get_or u (o + 1) 0) (lits_at u o)
+copied_words v u o m c is =
+    let part : List ℕ = take m (drop o u) in
+    let count : length part ≡ m = length-take-le m (drop o u) (omega (arith, length-drop o u, c.whole)) in
+    let size : length (lits_at u o) ≡ get_or u (o + 2) 0 = lits_count u o c in
+    let zeroth : length v ≡ length v + 0 = omega arith in
+    let zeroth' : o + 0 ≡ o = omega arith in
+    record {
+      first = ap (λ (i : ℕ). get_or (v ++ part) i 0) zeroth ∙ get_or-append-add v part 0 0 ∙ part_at u o m 0 (omega arith) ∙ ap (λ (i : ℕ). get_or u i 0) zeroth';
+      second = get_or-append-add v part 1 0 ∙ part_at u o m 1 (omega arith);
+      third = get_or-append-add v part 2 0 ∙ part_at u o m 2 (omega arith) ∙ sym size;
+      size = omega (arith, length-append v part);
+      front = take-append_seam v part;
+      before = λ i h. get_or_append_left v part 0 i h;
+      behind = λ k.
+          let e : length v + 3 + k ≡ length v + (3 + k) = omega arith in
+          let there : get_or (v ++ part) (length v + 3 + k) 0 ≡ get_or part (3 + k) 0 = ap (λ (i : ℕ). get_or (v ++ part) i 0) e ∙ get_or-append-add v part (3 + k) 0 in
+          elim (cases_lt k (get_or u (o + 2) 0)) [
+            | inl lt ↦
+                let f : o + (3 + k) ≡ o + 3 + k = omega arith in
+                there ∙ part_at u o m (3 + k) (omega arith) ∙ ap (λ (i : ℕ). get_or u i 0) f ∙ sym (lit_there u o k lt)
+            | inr le ↦ there ∙ get_or_past part (3 + k) 0 (omega arith) ∙ sym (get_or_past (lits_at u o) k 0 (omega arith))
+          ];
+    }
+
+pub copied_clause : (v w x u : List ℕ) (c o m : ℕ) → v ≡ w → c ≡ length v → x ≡ v ++ take m (drop o u) → IsClause u o → m ≡ 3 + get_or u (o + 2) 0 → All (λ l. l < 2 * largest) (lits_at u o) → Adds w x c (header_at u o) (lits_at u o)
+unfolding header_at
+copied_clause v w x u c o m e place is clause size fit =
+    let here : Adds w (w ++ take m (drop o u)) (length w) (header_at u o) (lits_at u o) =
+    added_clause w (w ++ take m (drop o u)) (get_or u o 0) (get_or u (o + 1) 0) (lits_at u o) (header_at u o) (copied_words w u o m clause size) clause.flags fit refl in
+    let whole : x ≡ w ++ take m (drop o u) = is ∙ ap (λ (ws : List ℕ). ws ++ take m (drop o u)) e in
+    rw (whole, place, e) here
+
+-- the same, where the call knows the other buffer's words under another name
+pub copied_by : (v w x u t : List ℕ) (c o p n : ℕ) → v ≡ w → t ≡ u → p ≡ o → c ≡ length v → n ≡ get_or t (p + 2) n → x ≡ v ++ take (p + 3 + n - p) (drop p t) → IsClause u o → All (λ l. l < 2 * largest) (lits_at u o) → Adds w x c (header_at u o) (lits_at u o)
+copied_by v w x u t c o p n e same f place read is clause fit =
+    let there : n ≡ get_or u (o + 2) 0 = (len_read t u p o n same f clause read).0 ∙ lits_count u o clause in
+    let m : p + 3 + n - p ≡ 3 + get_or u (o + 2) 0 = omega arith in
+    let whole : x ≡ v ++ take (p + 3 + n - p) (drop o u) = is ∙ ap (λ (ws : List ℕ). v ++ take (p + 3 + n - p) ws) (ap (λ (i : ℕ). drop i t) f ∙ ap (λ (ws : List ℕ). drop o ws) same) in
+    copied_clause v w x u c o (p + 3 + n - p) e place whole clause m fit
