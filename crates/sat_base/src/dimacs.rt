@@ -140,11 +140,13 @@ impl DimacsParser {
         requires { F.IsAlwaysCallable closure }
         // Where no call does more than take clauses, the answer is that of the text that was given, whatever would follow. The
         // clauses taken and those that wait are then the text's, too, by what `take_formula` ensures.
-        ensures given { KeepsText (λ f p r q g. F.step f p r q g) closure → ParsesInParts (R.seen reader.old) (R.seen reader.new) result }
+        ensures given { KeepsText (λ f p r q g. F.step f p r q g) closure
+            → ParsesInParts (R.seen reader.old) (R.seen reader.new) result }
         // Whatever the closure does, it had the parser after each piece that the reader gave.
         ensures visited { VisitsAll (λ f p r q g. F.step f p r q g) closure (R.seen reader.old) (R.seen reader.new) result }
         // A read has failed only where the answer is that, and none is tried again.
-        ensures kept { IsErrOf result (IncrementalError.Dimacs DimacsError.Read) ⊎ ((R.seen reader.new).failures ≡ (R.seen reader.old).failures) }
+        ensures kept { IsErrOf result (IncrementalError.Dimacs DimacsError.Read)
+            ⊎ ((R.seen reader.new).failures ≡ (R.seen reader.old).failures) }
         ensures read { IsErrOf result (IncrementalError.Dimacs DimacsError.Read) → ReadFails (R.seen reader.old) (R.seen reader.new) }
         ensures reads { (R.seen reader.new).calls ≤ (R.seen reader.old).calls + most_reads }
     {

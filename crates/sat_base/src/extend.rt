@@ -31,7 +31,8 @@ pub trait ExtendFormula {
 
     /// The positive literal of a new variable.
     fn new_lit(&mut self) -> Result<Lit, Self::Error>
-        ensures { MatchResult result (λ l. (v : ℕ) × makes self.old v self.new × (l ≡ coded v true)) (λ e. refuses_variable self.old e self.new) }
+        ensures { MatchResult result (λ l. (v : ℕ) × makes self.old v self.new × (l ≡ coded v true))
+            (λ e. refuses_variable self.old e self.new) }
     {
         match self.new_var() {
             Ok(var) => Ok(var.positive()),

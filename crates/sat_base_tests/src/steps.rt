@@ -6,8 +6,8 @@ ghost use Rattle.std.specs.Prelude.{◌≤◌};
 
 use crate::devices::{by_few, by_one};
 use sat_base::{
-    Counted, CountedRead, DeleteClauseProof, HashBits, Lit, ProofStep, StepError, StepReader, Var,
-    write_step,
+    Counted, CountedRead, DeleteClauseProof, HashBits, Lit, ProofStep, StepError, StepReader,
+    StepWriter, Var, write_step,
 };
 use std::alloc::Global;
 use std::io;
@@ -310,6 +310,22 @@ const ENDS: [(&[u8], &[u8], Errors); 9] = [
     (&[], &[], AT_THE_END),
     (&[13], &[13], AT_THE_END),
 ];
+
+/// Writes `End`, flushes, and writes it again. Gives the device of the writer of steps.
+fn half_written(alloc: Global) -> Result<Vec<u8>, Fail> {
+    let mut steps = StepWriter::new(Counted::new(Vec::new(alloc)));
+    steps.write(&ProofStep::End)?;
+    steps.flush()?;
+    steps.write(&ProofStep::End)?;
+    Ok(steps.into_writer().into_inner())
+}
+
+#[test]
+fn what_waits_is_lost_with_a_writer_of_steps(rt: HostRuntime) -> Result<(), Fail> {
+    let text = half_written(rt.alloc())?;
+    assert!(rt; text.as_slice() == [13].as_slice());
+    Ok(())
+}
 
 /// Texts that promise 2^63 items, and then have none, or one: memory is for items that came.
 const PROMISES: [&[u8]; 7] = [

@@ -1,7 +1,33 @@
 -- What contracts see of a device whose calls are counted.
-use Rattle.std.specs.Prelude.{Option, ℕ, false, List, []}
+use Rattle.std.specs.Prelude.{Option, ℕ, ◌+◌, ◌++◌, true, false, List, []}
 use Rattle.sat_base.specs.declared.device.counted.Counted.{Counted}
+use Rattle.sat_base.specs.declared.device.tally.Tally.{Tally}
 use Rattle.sat_base.specs.device.Device.{Reader, Writer}
+
+-- WHAT A CALL ADDS TO A TALLY
+abbrev pub no_calls : Tally
+no_calls = record { calls = 0; failures = 0; given = []; taken = []; ended = false; flushed = false; failed = false; flushes = 0 }
+
+-- a call that didn't fail, and is no flush and no end
+abbrev pub after_call : Tally → Tally
+after_call t = record t { calls = t.calls + 1; ended = false; flushed = false; failed = false }
+
+abbrev pub after_read : List ℕ → Tally → Tally
+after_read bytes t = record (after_call t) { given = t.given ++ bytes }
+
+abbrev pub after_end : Tally → Tally
+after_end t = record (after_call t) { ended = true }
+
+abbrev pub after_write : List ℕ → Tally → Tally
+after_write bytes t = record (after_call t) { taken = t.taken ++ bytes }
+
+abbrev pub after_flush : Tally → Tally
+after_flush t = record (after_call t) { flushed = true; flushes = t.flushes + 1 }
+
+abbrev pub after_failure : Tally → Tally
+after_failure t = record (after_call t) { failures = t.failures + 1; failed = true }
+
+-- WHAT CONTRACTS SEE
 
 -- the device inside
 abbrev pub device_of : {D : Type 0} → Counted D → D

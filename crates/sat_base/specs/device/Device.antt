@@ -42,7 +42,9 @@ takes_none n piece = nat_eq n 0 && nat_lt 0 (length piece)
 
 -- is a failed call, too
 abbrev pub CountsWrite : {E : Type 0} → Result ℕ E → List ℕ → ℕ → ℕ → Bool → Type 0
-CountsWrite r piece old new failed = MatchResult r (λ n. (new ≡ (if takes_none n piece then old + 1 else old)) × (failed ≡ takes_none n piece)) (λ _. (new ≡ old + 1) × (failed ≡ true))
+CountsWrite r piece old new failed = MatchResult r
+    (λ n. (new ≡ (if takes_none n piece then old + 1 else old)) × (failed ≡ takes_none n piece))
+    (λ _. (new ≡ old + 1) × (failed ≡ true))
 
 -- a call adds the first bytes of the piece to those before, and a failed one adds none
 abbrev pub Adds : {E : Type 0} → Result ℕ E → List ℕ → List ℕ → List ℕ → Type 0

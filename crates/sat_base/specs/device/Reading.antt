@@ -63,6 +63,13 @@ pub record AllTaken (s : Source) : Type 0 where
 abbrev pub PassesToEnd : Source → Source → List ℕ → Type 0
 PassesToEnd old new text = PassesBut 1 old new text × AllTaken new
 
+-- one call failed, the last; or none did, and so many were made
+abbrev pub FailsLast : Source → Source → Type 0
+FailsLast old new = (new.reader.failures ≡ old.reader.failures + 1) × (new.reader.failed ≡ true)
+
+abbrev pub ReadsOut : Source → Source → Type 0
+ReadsOut old new = (new.reader.failures ≡ old.reader.failures) × (most_reads ≤ new.reads)
+
 -- These bytes were taken, which were all that was given, and then one read failed, the last, or there were 2^48 of them and none did.
 pub record Faults (old new : Source) (text : List ℕ) : Type 0 where
   pub fresh : List ℕ
@@ -70,7 +77,7 @@ pub record Faults (old new : Source) (text : List ℕ) : Type 0 where
   pub flows : old.waiting ++ fresh ≡ text
   pub none : new.waiting ≡ []
   pub bytes : Consumes (to_come old) (to_come new) text
-  pub cause : ((new.reader.failures ≡ old.reader.failures + 1) × (new.reader.failed ≡ true)) ⊎ ((new.reader.failures ≡ old.reader.failures) × (most_reads ≤ new.reads))
+  pub cause : FailsLast old new ⊎ ReadsOut old new
   pub calls : new.reader.calls + old.reads ≡ old.reader.calls + new.reads
   pub room : length fresh + piece_size * old.reads ≤ piece_size * new.reads
   pub few : new.reads ≤ old.reads + length fresh + 1
@@ -89,7 +96,8 @@ Refills (Err e) n old new = ⊥
 
 -- whoever holds them
 abbrev pub RefillsAlone : {R : Type 0} → (R → Reader) → Result (Unit {0}) StepError → R → Ahead → R → Ahead → Type 0
-RefillsAlone seen result r a s b = (names : List ℕ) → Refills result b.end (named names (source seen r a)) (named names (source seen s b))
+RefillsAlone seen result r a s b =
+    (names : List ℕ) → Refills result b.end (named names (source seen r a)) (named names (source seen s b))
 
 -- the next byte, or none at the end
 abbrev pub NextByte : Result (Option ℕ) StepError → Source → Source → Type 0
@@ -105,15 +113,21 @@ ByteWithin (Err errors.Cut) old new = PassesToEnd old new []
 ByteWithin (Err errors.Read) old new = Faults old new []
 ByteWithin (Err e) old new = ⊥
 
--- A value's text was taken; or the front of one, and the bytes are over or can't be read; or such a front and a byte after which no text can follow. Want of memory comes where the bytes so far are the front of a text, or all of it.
+-- A value's text was taken; or the front of one, and the bytes are over or can't be read; or such a front and a byte after which no text
+-- can follow. Want of memory comes where the bytes so far are the front of a text, or all of it.
 abbrev pub Reads : {A : Type 0} → Format A → Result A StepError → Source → Source → Type 0
 Reads F (Ok x) old new = (text : List ℕ) × Passes old new text × F x text
 Reads F (Err errors.Cut) old new = (text : List ℕ) × PassesToEnd old new text × Live F text
-Reads F (Err errors.BadByte) old new = (front : List ℕ) × (byte : ℕ) × Passes old new (front ++ byte ∷ []) × Live F front × (Open F (front ++ byte ∷ []) → ⊥)
+Reads F (Err errors.BadByte) old new =
+    (front : List ℕ) × (byte : ℕ) × Passes old new (front ++ byte ∷ []) × Live F front × (Open F (front ++ byte ∷ []) → ⊥)
 Reads F (Err errors.Read) old new = (text : List ℕ) × Faults old new text × Live F text
 Reads F (Err errors.OutOfMemory) old new = (text : List ℕ) × Passes old new text × Open F text
 Reads F (Err errors.Ends) old new = ⊥
 Reads F (Err errors.HasFailed) old new = ⊥
+
+-- a value was read through an input
+abbrev pub Got : {A R : Type 0} → Format A → Result A StepError → (R → Reader) → Input R → Input R → Type 0
+Got F r seen old new = Reads F r (source_of seen old) (source_of seen new)
 
 -- what was read, where the value was put elsewhere
 abbrev pub giving : {A : Type 0} → A → Result (Unit {0}) StepError → Result A StepError
@@ -128,12 +142,16 @@ valued f (Err e) = Err e
 abbrev pub Behind : ℕ → Format Step
 Behind tag step bytes = (tag_of step ≡ tag) × SpellsFields step bytes
 
--- The answers of a reader of steps: as for any format, and `Ends` where the bytes are over between steps, so that `Cut` is one within a step. Want of memory comes within a step or at its end: the bytes so far are the front of its text, or all of it.
+-- The answers of a reader of steps: as for any format, and `Ends` where the bytes are over between steps, so that `Cut` is one within a
+-- step. Want of memory comes within a step or at its end: the bytes so far are the front of its text, or all of it.
 abbrev pub Answers : Result Step StepError → Source → Source → Type 0
 Answers (Ok step) old new = (text : List ℕ) × Passes old new text × SpellsStep step text
 Answers (Err errors.Ends) old new = PassesToEnd old new []
 Answers (Err errors.Cut) old new = (tag : ℕ) × (more : List ℕ) × PassesToEnd old new (tag ∷ more) × Live SpellsStep (tag ∷ more)
-Answers (Err errors.BadByte) old new = (front : List ℕ) × (byte : ℕ) × Passes old new (front ++ byte ∷ []) × Live SpellsStep front × (Open SpellsStep (front ++ byte ∷ []) → ⊥)
+Answers (Err errors.BadByte) old new =
+    (front : List ℕ) × (byte : ℕ) × Passes old new (front ++ byte ∷ []) × Live SpellsStep front
+    × (Open SpellsStep (front ++ byte ∷ []) → ⊥)
 Answers (Err errors.Read) old new = (text : List ℕ) × Faults old new text × Live SpellsStep text
-Answers (Err errors.OutOfMemory) old new = (tag : ℕ) × (more : List ℕ) × Passes old new (tag ∷ more) × Open SpellsStep (tag ∷ more)
+Answers (Err errors.OutOfMemory) old new =
+    (tag : ℕ) × (more : List ℕ) × Passes old new (tag ∷ more) × Open SpellsStep (tag ∷ more)
 Answers (Err errors.HasFailed) old new = ⊥

@@ -22,16 +22,19 @@ SpellsClause ls ts = (last : Token) × IsZero last × AreWithin ls × (ts ≡ ma
 -- clauses are spelled one after another
 abbrev pub SpellsClauses : List (List ℕ) → List Token → Type 0
 SpellsClauses [] ts = ts ≡ []
-SpellsClauses (ls ∷ cs) ts = (front : List Token) × (rest : List Token) × SpellsClause ls front × SpellsClauses cs rest × (ts ≡ front ++ rest)
+SpellsClauses (ls ∷ cs) ts = (front : List Token) × (rest : List Token) × SpellsClause ls front × SpellsClauses cs rest
+    × (ts ≡ front ++ rest)
 
 -- a formula is clauses, and a header may stand before them
 abbrev pub SpellsFormula : List (List ℕ) → List Token → Type 0
-SpellsFormula cs ts = SpellsClauses cs ts ⊎ ((vars : ℕ) × (clauses : ℕ) × (rest : List Token) × (ts ≡ Header vars clauses ∷ rest) × SpellsClauses cs rest)
+SpellsFormula cs ts = SpellsClauses cs ts
+    ⊎ ((vars : ℕ) × (clauses : ℕ) × (rest : List Token) × (ts ≡ Header vars clauses ∷ rest) × SpellsClauses cs rest)
 
 -- each text has one list of clauses, and one end
 pub record OneFormula : Type 0 where
   pub some : (text : List ℕ) → (cs : List (List ℕ)) × (end : Ending) × IsDimacs text cs end
-  pub one : (text : List ℕ) (cs ds : List (List ℕ)) (d e : Ending) → IsDimacs text cs d → IsDimacs text ds e → (cs ≡ ds) × (d ≡ e)
+  pub one : (text : List ℕ) (cs ds : List (List ℕ)) (d e : Ending)
+      → IsDimacs text cs d → IsDimacs text ds e → (cs ≡ ds) × (d ≡ e)
 
 -- a text reads cleanly as these clauses exactly if its tokens spell a formula of them
 abbrev pub CleanIfSpelled : Type 0

@@ -51,5 +51,6 @@ pub record IsParser (p : Parser) : Type 0 where
 abbrev pub EndsClean : Result (Unit {0}) DimacsError → Parser → Type 0
 EndsClean (Ok u) p = hand_in p.clauses ≡ None
 EndsClean (Err (errors.Malformed line)) p =
-    ((ls : List ℕ) × (hand_in p.clauses ≡ Some ls)) × ((before : List ℕ → Scan) → Stands p.tokenizer before → line ≡ held (before []).last)
+    ((ls : List ℕ) × (hand_in p.clauses ≡ Some ls))
+    × ((before : List ℕ → Scan) → Stands p.tokenizer before → line ≡ held (before []).last)
 EndsClean (Err e) p = ⊥

@@ -134,7 +134,8 @@ pub record FallsShort (piece : List ℕ) (old new : Progress) : Type 0 where
 -- what a piece is answered by
 abbrev pub Feeds : Result (Unit {0}) DimacsError → List ℕ → Progress → Progress → Type 0
 Feeds (Ok u) piece old new = (old.stopped ≡ false) × (new ≡ with_fed piece old)
-Feeds (Err (errors.Malformed line)) piece old new = (old.stopped ≡ false) × (n : ℕ) × (line ≡ held n) × Faults (Malformed n) piece old new
+Feeds (Err (errors.Malformed line)) piece old new =
+    (old.stopped ≡ false) × (n : ℕ) × (line ≡ held n) × Faults (Malformed n) piece old new
 Feeds (Err (errors.Limit line)) piece old new = (old.stopped ≡ false) × (n : ℕ) × (line ≡ held n) × Faults (Limit n) piece old new
 Feeds (Err errors.OutOfMemory) piece old new = (old.stopped ≡ false) × FallsShort piece old new
 Feeds (Err errors.HasFailed) piece old new = (old.stopped ≡ true) × (new ≡ old)
@@ -143,15 +144,18 @@ Feeds (Err errors.Read) piece old new = ⊥
 -- what the end of the text is answered by
 abbrev pub Finishes : Result (Unit {0}) DimacsError → Progress → Progress → Type 0
 Finishes (Ok u) old new = (old.stopped ≡ false) × (new ≡ at_its_end old) × ((dimacs old.fed).ending ≡ Clean)
-Finishes (Err (errors.Malformed line)) old new = (old.stopped ≡ false) × (new ≡ at_its_end old) × (n : ℕ) × (line ≡ held n) × ((dimacs old.fed).ending ≡ Malformed n)
-Finishes (Err (errors.Limit line)) old new = (old.stopped ≡ false) × (new ≡ at_its_end old) × (n : ℕ) × (line ≡ held n) × ((dimacs old.fed).ending ≡ Limit n)
+Finishes (Err (errors.Malformed line)) old new = (old.stopped ≡ false) × (new ≡ at_its_end old) × (n : ℕ) × (line ≡ held n)
+    × ((dimacs old.fed).ending ≡ Malformed n)
+Finishes (Err (errors.Limit line)) old new = (old.stopped ≡ false) × (new ≡ at_its_end old) × (n : ℕ) × (line ≡ held n)
+    × ((dimacs old.fed).ending ≡ Limit n)
 Finishes (Err errors.OutOfMemory) old new = (old.stopped ≡ false) × (new ≡ cut_short old) × EndsWell old.fed
 Finishes (Err errors.HasFailed) old new = (old.stopped ≡ true) × (new ≡ old)
 Finishes (Err errors.Read) old new = ⊥
 
 -- there was no memory where a number of the text ends and no word up to there is at fault
 abbrev pub ParsesShort : List ℕ → Type 0
-ParsesShort text = ((front : List ℕ) × (byte : ℕ) × (behind : List ℕ) × (text ≡ front ++ byte ∷ behind) × GoesWell front byte) ⊎ EndsWell text
+ParsesShort text = ((front : List ℕ) × (byte : ℕ) × (behind : List ℕ) × (text ≡ front ++ byte ∷ behind) × GoesWell front byte)
+    ⊎ EndsWell text
 
 -- what a whole text is answered by
 abbrev pub Parses : Result Formula DimacsError → List ℕ → Type 0
@@ -169,7 +173,9 @@ Calls F E = F → MutBor Progress → Result (Unit {0}) E → MutBor Progress �
 -- calls with these parsers, one after another, leave all but the clauses taken
 abbrev pub KeepsEach : {F E : Type 0} → Calls F E → F → List (MutBor Progress) → Type 0
 KeepsEach calls f [] = Unit {0}
-KeepsEach {F} {E} calls f (p ∷ ps) = (answer : Result (Unit {0}) E) (q : MutBor Progress) (g : F) → calls f p answer q g → (q.now ≡ record p.now { taken = q.now.taken }) × KeepsEach calls g ps
+KeepsEach {F} {E} calls f (p ∷ ps) =
+    (answer : Result (Unit {0}) E) (q : MutBor Progress) (g : F) → calls f p answer q g
+    → (q.now ≡ record p.now { taken = q.now.taken }) × KeepsEach calls g ps
 
 -- each call of the closure, now and later, leaves all but the clauses taken, as `take_formula` does
 abbrev pub KeepsText : {F E : Type 0} → Calls F E → F → Type 0
@@ -181,7 +187,8 @@ HasRead p text = (p.fed ≡ text) × (p.stopped ≡ true) × (p.ended ≡ true) 
 
 -- A text is all that is looked at, whatever would follow: it ends where its reader does, or at a line that ends formulas.
 abbrev pub IsWhole : Reader → Reader → List ℕ → Type 0
-IsWhole old new text = (rest : List ℕ) → CanFollow old new rest → (dimacs (text ++ rest) ≡ dimacs text) × (header_of (text ++ rest) ≡ header_of text)
+IsWhole old new text = (rest : List ℕ) → CanFollow old new rest
+    → (dimacs (text ++ rest) ≡ dimacs text) × (header_of (text ++ rest) ≡ header_of text)
 
 -- what was given is answered by, where a caller sees each piece's clauses
 abbrev pub ParsesInParts : {E : Type 0} → Reader → Reader → Result Progress (IncrementalError E) → Type 0
@@ -195,7 +202,8 @@ Visits calls s answer t = (p : MutBor Progress) × (q : MutBor Progress) × (p.n
 
 -- a piece is taken, and then the closure has the parser
 abbrev pub FeedsAndVisits : {F E : Type 0} → Calls F E → F × Progress → List ℕ → F × Progress → Type 0
-FeedsAndVisits calls s piece t = (0 < length piece) × (fed : Progress) × Feeds (Ok tt) piece s.1 fed × IsSound fed × Visits calls (s.0, fed) (Ok tt) t
+FeedsAndVisits calls s piece t = (0 < length piece) × (fed : Progress) × Feeds (Ok tt) piece s.1 fed × IsSound fed
+    × Visits calls (s.0, fed) (Ok tt) t
 
 -- an answer to a last piece, or to the end of the text
 abbrev pub Answers : Result (Unit {0}) DimacsError → List ℕ → Reader × Reader → Progress → Progress → Type 0
@@ -203,10 +211,14 @@ Answers answer piece reader old new =
     ((0 < length piece) × Feeds answer piece old new) ⊎ ((piece ≡ []) × IsWhole reader.0 reader.1 old.fed × Finishes answer old new)
 
 -- what comes behind the pieces that were taken and seen: the closure has the parser once more, unless a read has failed
-abbrev pub LastVisit : {F E : Type 0} → Calls F E → List ℕ → Reader × Reader → Result Progress (IncrementalError E) → F × Progress → Type 0
-LastVisit {F} calls piece reader (Ok p) s = (piece ≡ []) × IsWhole reader.0 reader.1 s.1.fed × (mid : Progress) × (f : F) × Finishes (Ok tt) s.1 mid × Visits calls (s.0, mid) (Ok tt) (f, p)
-LastVisit {F} calls piece reader (Err (parts.Dimacs e)) s = ((e ≡ errors.Read) × (piece ≡ [])) ⊎ ((mid : Progress) × (t : F × Progress) × Answers (Err e) piece reader s.1 mid × Visits calls (s.0, mid) (Ok tt) t)
-LastVisit {F} calls piece reader (Err (parts.Caller e)) s = (answer : Result (Unit {0}) DimacsError) × (mid : Progress) × (t : F × Progress) × Answers answer piece reader s.1 mid × Visits calls (s.0, mid) (Err e) t
+abbrev pub LastVisit : {F E : Type 0} → Calls F E → List ℕ → Reader × Reader → Result Progress (IncrementalError E) → F × Progress
+    → Type 0
+LastVisit {F} calls piece reader (Ok p) s = (piece ≡ []) × IsWhole reader.0 reader.1 s.1.fed × (mid : Progress) × (f : F)
+    × Finishes (Ok tt) s.1 mid × Visits calls (s.0, mid) (Ok tt) (f, p)
+LastVisit {F} calls piece reader (Err (parts.Dimacs e)) s = ((e ≡ errors.Read) × (piece ≡ []))
+    ⊎ ((mid : Progress) × (t : F × Progress) × Answers (Err e) piece reader s.1 mid × Visits calls (s.0, mid) (Ok tt) t)
+LastVisit {F} calls piece reader (Err (parts.Caller e)) s = (answer : Result (Unit {0}) DimacsError) × (mid : Progress)
+    × (t : F × Progress) × Answers answer piece reader s.1 mid × Visits calls (s.0, mid) (Err e) t
 
 -- The closure had the parser after each piece that the reader gave, and after the end of the text. Each read gave one of them, but one.
 pub record VisitsAll {F E : Type 0} (calls : Calls F E) (f : F) (old new : Reader) (result : Result Progress (IncrementalError E)) : Type 0 where

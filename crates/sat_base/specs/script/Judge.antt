@@ -53,7 +53,8 @@ abbrev pub names_from : ℕ → ℕ → List ℕ
 names_from zero name = []
 names_from (suc count) name = name ∷ names_from count (name + 1)
 
--- the names that become new variables where this one is brought in, in order: all from the first never used up to it, or a hidden one itself
+-- the names that become new variables where this one is brought in, in order: all from the first never used up to it, or a hidden one
+-- itself
 abbrev pub new_names : ℕ → Judge → List ℕ
 new_names name j =
     if nat_lt name j.first_unused

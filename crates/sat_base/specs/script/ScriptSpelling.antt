@@ -31,7 +31,8 @@ SpellsCommand (Sample names) ts = ⊥
 -- commands are spelled one after another
 abbrev pub SpellsCommands : List Command → List Token → Type 0
 SpellsCommands [] ts = ts ≡ []
-SpellsCommands (c ∷ cs) ts = (front : List Token) × (rest : List Token) × SpellsCommand c front × SpellsCommands cs rest × (ts ≡ front ++ rest)
+SpellsCommands (c ∷ cs) ts = (front : List Token) × (rest : List Token) × SpellsCommand c front × SpellsCommands cs rest
+    × (ts ≡ front ++ rest)
 
 -- one ask more, under no literals, where there is none
 abbrev pub asked : List Command → List Command
@@ -46,7 +47,8 @@ SpellsScript cs ts = SpellsCommands cs ts
 -- each text has one list of commands, and one end
 pub record OneReading : Type 0 where
   pub some : (text : List ℕ) → (cs : List Command) × (end : Ending) × IsScript text cs end
-  pub one : (text : List ℕ) (cs ds : List Command) (d e : Ending) → IsScript text cs d → IsScript text ds e → (cs ≡ ds) × (d ≡ e)
+  pub one : (text : List ℕ) (cs ds : List Command) (d e : Ending)
+      → IsScript text cs d → IsScript text ds e → (cs ≡ ds) × (d ≡ e)
 
 -- a text reads cleanly as these commands exactly if its tokens spell a script of them
 abbrev pub CleanIfSpelled : Type 0

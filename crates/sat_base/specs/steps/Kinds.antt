@@ -26,6 +26,10 @@ step_with code.End literals hashes units = End
 abbrev pub step_held : Lists → Kind → Step
 step_held l k = step_with k l.literals.items l.hashes.items l.units.items
 
+-- a list of literals, and one of hashes
+abbrev pub both_held : Lists → List ℕ × List ℕ
+both_held l = (l.literals.items, l.hashes.items)
+
 -- the tags of steps
 abbrev pub is_tag : ℕ → Bool
 is_tag tag = nat_lt 0 tag && nat_lt tag 14

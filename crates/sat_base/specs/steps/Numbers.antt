@@ -7,7 +7,8 @@ use Rattle.sat_base.specs.steps.Formats.{Format}
 abbrev pub IsNumber : ℕ → List ℕ → Type 0
 IsNumber n [] = ⊥
 IsNumber n (b ∷ []) = (b < 128) × (n ≡ b)
-IsNumber n (b ∷ c ∷ bs) = (128 ≤ b) × (b < 256) × (high : ℕ) × (0 < high) × (n + 128 ≡ b + 128 * high) × IsNumber high (c ∷ bs)
+IsNumber n (b ∷ c ∷ bs) = (128 ≤ b) × (b < 256)
+    × (high : ℕ) × (0 < high) × (n + 128 ≡ b + 128 * high) × IsNumber high (c ∷ bs)
 
 abbrev pub IsBelow : ℕ → Format ℕ
 IsBelow limit n bytes = IsNumber n bytes × (n < limit)

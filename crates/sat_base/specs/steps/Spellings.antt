@@ -46,6 +46,26 @@ units = record { format = AreUnits; bytes = units_bytes }
 abbrev pub both : {A B : Type 0} → Spelling A → Spelling B → Spelling (A × B)
 both s t = record { format = Both s.format t.format; bytes = λ x. s.bytes x.0 ++ t.bytes x.1 }
 
+-- a variable, and one that may be none
+abbrev pub variables : Spelling (ℕ × Option ℕ)
+variables = both a_variable an_optional_variable
+
+-- a variable, and whether it is sampled
+abbrev pub a_mode : Spelling (ℕ × Bool)
+a_mode = both a_variable a_flag
+
+-- literals, and then hashes
+abbrev pub both_lists : Spelling (List ℕ × List ℕ)
+both_lists = both literals hashes
+
+-- a derived clause: whether it is redundant, its literals, and the hashes of the clauses that it follows from
+abbrev pub a_derived : Spelling (Bool × (List ℕ × List ℕ))
+a_derived = both a_flag both_lists
+
+-- a deleted clause, and why it may be
+abbrev pub a_deleted : Spelling (List ℕ × Deletion)
+a_deleted = both literals a_deletion
+
 abbrev pub fields : Spelling Step
 fields = record { format = SpellsFields; bytes = fields_bytes }
 
@@ -53,5 +73,6 @@ abbrev pub a_step : Spelling Step
 a_step = record { format = SpellsStep; bytes = step_bytes }
 
 -- a value's spelling was sent through an output
-abbrev pub Wrote : {A E W P : Type 0} → Spelling A → A → Result (Unit {0}) E → (W → Writer) → (P → List ℕ) → Output W P → Output W P → Type 0
+abbrev pub Wrote : {A E W P : Type 0} → Spelling A → A → Result (Unit {0}) E → (W → Writer) → (P → List ℕ)
+    → Output W P → Output W P → Type 0
 Wrote s x r seen waiting old new = Writes s.format x (s.bytes x) r (sink_of seen waiting old) (sink_of seen waiting new)

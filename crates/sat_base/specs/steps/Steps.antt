@@ -1,4 +1,5 @@
--- The steps of a proof, without where they lie in memory. A variable is its index, a literal its code, and a user's name its index, which is one less than the name.
+-- The steps of a proof, without where they lie in memory. A variable is its index, a literal its code, and a user's name its index, which
+-- is one less than the name.
 use Rattle.std.specs.Prelude.{ℕ, Bool, Option, List}
 
 -- why a clause may be deleted

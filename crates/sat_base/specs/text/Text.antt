@@ -90,7 +90,8 @@ with_numbers (Some v) (Some c) = Header v c
 
 -- what the words of a line that begins with `p` say: they are `p`, `cnf` and two words of digits, and nothing more
 abbrev pub header_in : List (List ℕ) → Token
-header_in (p ∷ cnf ∷ v ∷ c ∷ []) = if same_bytes p (codes "p") && same_bytes cnf (codes "cnf") then with_numbers (digits 0 v) (digits 0 c) else Wrong
+header_in (p ∷ cnf ∷ v ∷ c ∷ []) = if same_bytes p (codes "p") && same_bytes cnf (codes "cnf")
+    then with_numbers (digits 0 v) (digits 0 c) else Wrong
 header_in ws = Wrong
 
 -- such a line where a header may stand, or not
@@ -116,7 +117,8 @@ tokens_of may n (line ∷ lines) =
     else (if begins_with 112 line then (n + 1, header_if may line) ∷ tokens_of false (n + 1) lines
     else on_line (n + 1) (words line) ++ tokens_of (may && is_none (words line)) (n + 1) lines))
 
--- the number of the last of lines that n others precede, which is that of the last byte or of the line that begins with `%`; 0 for no line at all
+-- the number of the last of lines that n others precede, which is that of the last byte or of the line that begins with `%`; 0 for no
+-- line at all
 unfoldable pub last_line : ℕ → List (List ℕ) → ℕ
 last_line n [] = n
 last_line n (line ∷ lines) = if begins_with 37 line then n + 1 else last_line (n + 1) lines

@@ -52,9 +52,11 @@ IsAtHeader header.P spot = spot ≡ HeaderWithin Begun 112 []
 IsAtHeader header.C spot = spot ≡ HeaderWithin Named 99 []
 IsAtHeader header.Cn spot = spot ≡ HeaderWithin Named 99 (110 ∷ [])
 IsAtHeader header.Cnf spot = spot ≡ HeaderWithin Named 99 (110 ∷ 102 ∷ [])
-IsAtHeader (header.Vars value) spot = (x : ℕ) × (w : List ℕ) × Solid (x ∷ w) × SpellsHeld (x ∷ w) value × (spot ≡ HeaderWithin Format x w)
+IsAtHeader (header.Vars value) spot =
+    (x : ℕ) × (w : List ℕ) × Solid (x ∷ w) × SpellsHeld (x ∷ w) value × (spot ≡ HeaderWithin Format x w)
 IsAtHeader (header.Clauses vars value) spot =
-    (v : ℕ) × (x : ℕ) × (w : List ℕ) × (vars ≡ held v) × Solid (x ∷ w) × SpellsHeld (x ∷ w) value × (spot ≡ HeaderWithin (Vars v) x w)
+    (v : ℕ) × (x : ℕ) × (w : List ℕ) × (vars ≡ held v)
+    × Solid (x ∷ w) × SpellsHeld (x ∷ w) value × (spot ≡ HeaderWithin (Vars v) x w)
 
 -- the spots that a place stands for, with the bytes of the word in hand and the numbers of the header, of any size
 abbrev pub IsAt : Place → Spot → Type 0
@@ -64,7 +66,8 @@ IsAt (at.Comment may) spot = spot ≡ Comment may
 IsAt at.Between spot = spot ≡ Between
 IsAt at.Minus spot = spot ≡ Within 45 []
 IsAt (at.Digits false value) spot =
-    (x : ℕ) × (w : List ℕ) × Solid (x ∷ w) × SpellsHeld (x ∷ w) value × (x ≡ 45 → ⊥) × (is_letter x ≡ false) × (spot ≡ Within x w)
+    (x : ℕ) × (w : List ℕ) × Solid (x ∷ w) × SpellsHeld (x ∷ w) value
+    × (x ≡ 45 → ⊥) × (is_letter x ≡ false) × (spot ≡ Within x w)
 IsAt (at.Digits true value) spot = (w : List ℕ) × Solid w × (w ≡ [] → ⊥) × SpellsHeld w value × (spot ≡ Within 45 w)
 IsAt (at.Letter b) spot = (Solid (b ∷ []) × (is_letter b ≡ true)) × (spot ≡ Within b [])
 IsAt at.Bad spot = (x : ℕ) × (w : List ℕ) × Solid (x ∷ w) × BeginsWrong (x ∷ w) × (spot ≡ Within x w)
@@ -141,7 +144,8 @@ LeadsBelow old new = (spot : Spot) → IsAt old spot → IsAt new (behind_LF spo
 
 -- the machine stands at a place of a text: `left_of` says what is still to be read, whatever bytes come
 unfoldable pub Stands : Tokenizer → (List ℕ → Scan) → Type 0
-Stands machine left_of = (spot : Spot) × (n : ℕ) × IsAt machine.place spot × (machine.lines ≡ held n) × ((rest : List ℕ) → left_of rest ≡ left spot n rest)
+Stands machine left_of = (spot : Spot) × (n : ℕ) × IsAt machine.place spot × (machine.lines ≡ held n)
+    × ((rest : List ℕ) → left_of rest ≡ left spot n rest)
 
 -- what a byte gives: the token that it ended, on the line of this byte, or none
 abbrev pub Gives : Option CodeToken → ℕ → (List ℕ → Scan) → (List ℕ → Scan) → Type 0

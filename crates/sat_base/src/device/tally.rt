@@ -1,5 +1,5 @@
 //! What contracts alone see of a device's calls. It takes no memory, and its functions do nothing at run time.
-ghost use Rattle.std.specs.Prelude.{◌≡◌, ◌+◌, ◌++◌, ℕ, Bool, true, false, List, []};
+ghost use Rattle.std.specs.Prelude.{ℕ, Bool, List};
 ghost use Rattle.std.specs.Borrow.{ftrue};
 
 use std::marker::Model;
@@ -26,38 +26,41 @@ impl Model for Tally {
 }
 
 impl Tally {
+    ghost use Rattle.std.specs.Prelude.{◌≡◌};
+    ghost use Rattle.sat_base.specs.device.Counting.{no_calls, after_read, after_end, after_write, after_flush, after_failure};
+
     pub(crate) fn new() -> Tally
-        ensures { result ≡ record { calls = 0; failures = 0; given = []; taken = []; ended = false; flushed = false; failed = false; flushes = 0 } }
+        ensures { result ≡ no_calls }
     {
         Tally {}
     }
 
     pub(crate) fn and_read(&self, bytes: &[u8]) -> Tally
-        ensures { let t = self.now in result ≡ record t { calls = t.calls + 1; given = t.given ++ bytes.now; ended = false; flushed = false; failed = false } }
+        ensures { result ≡ after_read bytes.now self.now }
     {
         Tally {}
     }
 
     pub(crate) fn and_end(&self) -> Tally
-        ensures { let t = self.now in result ≡ record t { calls = t.calls + 1; ended = true; flushed = false; failed = false } }
+        ensures { result ≡ after_end self.now }
     {
         Tally {}
     }
 
     pub(crate) fn and_write(&self, bytes: &[u8]) -> Tally
-        ensures { let t = self.now in result ≡ record t { calls = t.calls + 1; taken = t.taken ++ bytes.now; ended = false; flushed = false; failed = false } }
+        ensures { result ≡ after_write bytes.now self.now }
     {
         Tally {}
     }
 
     pub(crate) fn and_flush(&self) -> Tally
-        ensures { let t = self.now in result ≡ record t { calls = t.calls + 1; ended = false; flushed = true; failed = false; flushes = t.flushes + 1 } }
+        ensures { result ≡ after_flush self.now }
     {
         Tally {}
     }
 
     pub(crate) fn and_failure(&self) -> Tally
-        ensures { let t = self.now in result ≡ record t { calls = t.calls + 1; failures = t.failures + 1; ended = false; flushed = false; failed = true } }
+        ensures { result ≡ after_failure self.now }
     {
         Tally {}
     }

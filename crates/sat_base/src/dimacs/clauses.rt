@@ -82,7 +82,8 @@ impl Clauses {
 
     /// A zero.
     fn end_clause(&mut self) -> Result<(), Refusal>
-        ensures { MatchResult result (λ _. Turns (Ends (literals_in (hand_in self.old))) self.old self.new × (self.new.header ≡ self.old.header))
+        ensures { MatchResult result
+            (λ _. Turns (Ends (literals_in (hand_in self.old))) self.old self.new × (self.new.header ≡ self.old.header))
             (λ e. (e ≡ OutOfMemory) × AllStay self.old self.new) }
     {
         self.formula.add_clause(&self.hand)?;

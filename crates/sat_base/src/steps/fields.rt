@@ -2,7 +2,7 @@
 #![tactic(auto, using(crate::proofs::lemmas::device::Sending::sending))]
 
 ghost use Rattle.std.specs.Prelude.{◌≡◌, OnOk, [], ℕ, List, IsTrue, false};
-ghost use Rattle.sat_base.specs.device.Reading.{Reads, source_of, valued, Answers, Behind};
+ghost use Rattle.sat_base.specs.device.Reading.{Got, source_of, valued, Answers, Behind};
 ghost use Rattle.sat_base.specs.steps.Kinds.{step_with, step_held, is_tag, has_lists};
 ghost use Rattle.sat_base.specs.steps.Spellings.{Wrote, fields, a_step};
 ghost use Rattle.sat_base.specs.steps.StepBytes.{fields_bytes, step_bytes};
@@ -56,7 +56,8 @@ impl<R: CountedRead> Input<'_, R> {
     fn plain_fields(&mut self, tag: u8) -> Result<Kind, StepError>
         requires known { IsTrue (is_tag tag) }
         requires plain { has_lists tag ≡ false }
-        ensures { (literals hashes : List ℕ) (units : List (ℕ × ℕ)) → Reads (Behind tag) (valued (λ k. step_with k literals hashes units) result) (source_of R.seen self.old) (source_of R.seen self.new) }
+        ensures { (literals hashes : List ℕ) (units : List (ℕ × ℕ))
+            → Got (Behind tag) (valued (λ k. step_with k literals hashes units) result) R.seen self.old self.new }
     {
         if tag == 1 {
             let (global, solver) = self.variables()?;
@@ -81,7 +82,7 @@ impl<R: CountedRead> Input<'_, R> {
     /// Reads what stands behind the tag of a step with lists.
     fn list_fields(&mut self, lists: &mut Lists, tag: u8) -> Result<Kind, StepError>
         requires { IsTrue (has_lists tag) }
-        ensures { Reads (Behind tag) (valued (step_held lists.new) result) (source_of R.seen self.old) (source_of R.seen self.new) }
+        ensures { Got (Behind tag) (valued (step_held lists.new) result) R.seen self.old self.new }
     {
         if tag == 5 {
             self.literals(&mut lists.literals)?;
@@ -110,7 +111,7 @@ impl<R: CountedRead> Input<'_, R> {
     /// Reads what stands behind a tag.
     fn fields(&mut self, lists: &mut Lists, tag: u8) -> Result<Kind, StepError>
         requires { IsTrue (is_tag tag) }
-        ensures { Reads (Behind tag) (valued (step_held lists.new) result) (source_of R.seen self.old) (source_of R.seen self.new) }
+        ensures { Got (Behind tag) (valued (step_held lists.new) result) R.seen self.old self.new }
     {
         if has_lists(tag) {
             self.list_fields(lists, tag)

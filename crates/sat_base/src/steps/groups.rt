@@ -2,7 +2,8 @@
 #![tactic(auto, using(crate::proofs::lemmas::device::Sending::sending))]
 
 ghost use Rattle.std.specs.Prelude.{◌++◌};
-ghost use Rattle.sat_base.specs.device.Reading.{Reads, source_of, valued};
+ghost use Rattle.sat_base.specs.device.Reading.{Got, valued};
+ghost use Rattle.sat_base.specs.steps.Kinds.{both_held};
 ghost use Rattle.sat_base.specs.steps.Formats.{Both};
 ghost use Rattle.sat_base.specs.steps.StepText.{IsVariable, IsOptionalVariable, IsFlag, IsDeletion, AreLiterals, AreHashes};
 ghost use Rattle.sat_base.specs.steps.Spellings as spelling;
@@ -19,7 +20,7 @@ use std::io;
 impl<R: CountedRead> Input<'_, R> {
     /// Reads a variable, and then one that may be none.
     pub(super) fn variables(&mut self) -> Result<(Var, Option<Var>), StepError>
-        ensures { Reads (Both IsVariable IsOptionalVariable) result (source_of R.seen self.old) (source_of R.seen self.new) }
+        ensures { Got (Both IsVariable IsOptionalVariable) result R.seen self.old self.new }
     {
         let first = self.variable()?;
         let second = self.optional()?;
@@ -27,7 +28,7 @@ impl<R: CountedRead> Input<'_, R> {
     }
 
     pub(super) fn variable_and_flag(&mut self) -> Result<(Var, bool), StepError>
-        ensures { Reads (Both IsVariable IsFlag) result (source_of R.seen self.old) (source_of R.seen self.new) }
+        ensures { Got (Both IsVariable IsFlag) result R.seen self.old self.new }
     {
         let var = self.variable()?;
         let flag = self.flag()?;
@@ -35,7 +36,7 @@ impl<R: CountedRead> Input<'_, R> {
     }
 
     pub(super) fn flag_and_lists(&mut self, lists: &mut Lists) -> Result<bool, StepError>
-        ensures { Reads (Both IsFlag (Both AreLiterals AreHashes)) (valued (λ f. (f, (lists.new.literals.items, lists.new.hashes.items))) result) (source_of R.seen self.old) (source_of R.seen self.new) }
+        ensures { Got (Both IsFlag (Both AreLiterals AreHashes)) (valued (λ f. (f, both_held lists.new)) result) R.seen self.old self.new }
     {
         let flag = self.flag()?;
         self.both_lists(lists)?;
@@ -46,7 +47,8 @@ impl<R: CountedRead> Input<'_, R> {
         &mut self,
         lists: &mut Lists,
     ) -> Result<DeleteClauseProof, StepError>
-        ensures { Reads (Both AreLiterals IsDeletion) (valued (λ p. (lists.new.literals.items, deletion_of p)) result) (source_of R.seen self.old) (source_of R.seen self.new) }
+        ensures { Got (Both AreLiterals IsDeletion) (valued (λ p. (lists.new.literals.items, deletion_of p)) result)
+            R.seen self.old self.new }
     {
         self.literals(&mut lists.literals)?;
         self.deletion()
@@ -56,14 +58,14 @@ impl<R: CountedRead> Input<'_, R> {
 impl<W: CountedWrite, P: Room> Output<W, P> {
     /// Lets a variable wait, and one that may be none.
     pub(super) fn put_variables(&mut self, first: Var, second: Option<Var>) -> io::Result<()>
-        ensures { spelling.Wrote (spelling.both spelling.a_variable spelling.an_optional_variable) (first, second) result W.seen P.waiting self.old self.new }
+        ensures { spelling.Wrote spelling.variables (first, second) result W.seen P.waiting self.old self.new }
     {
         self.put_variable(first)?;
         self.put_optional(second)
     }
 
     pub(super) fn put_mode(&mut self, var: Var, sample: bool) -> io::Result<()>
-        ensures { spelling.Wrote (spelling.both spelling.a_variable spelling.a_flag) (var, sample) result W.seen P.waiting self.old self.new }
+        ensures { spelling.Wrote spelling.a_mode (var, sample) result W.seen P.waiting self.old self.new }
     {
         self.put_variable(var)?;
         self.put_flag(sample)
@@ -75,14 +77,14 @@ impl<W: CountedWrite, P: Room> Output<W, P> {
         clause: &[Lit],
         hashes: &[ClauseHash],
     ) -> io::Result<()>
-        ensures { spelling.Wrote (spelling.both spelling.a_flag (spelling.both spelling.literals spelling.hashes)) (redundant, (clause.now, hashes.now)) result W.seen P.waiting self.old self.new }
+        ensures { spelling.Wrote spelling.a_derived (redundant, (clause.now, hashes.now)) result W.seen P.waiting self.old self.new }
     {
         self.put_flag(redundant)?;
         self.put_both_lists(clause, hashes)
     }
 
     pub(super) fn put_deleted(&mut self, clause: &[Lit], proof: DeleteClauseProof) -> io::Result<()>
-        ensures { spelling.Wrote (spelling.both spelling.literals spelling.a_deletion) (clause.now, deletion_of proof) result W.seen P.waiting self.old self.new }
+        ensures { spelling.Wrote spelling.a_deleted (clause.now, deletion_of proof) result W.seen P.waiting self.old self.new }
     {
         self.put_literals(clause)?;
         self.put_deletion(proof)

@@ -2,7 +2,8 @@
 #![tactic(auto, using(crate::proofs::lemmas::device::Sending::sending))]
 
 ghost use Rattle.std.specs.Prelude.{◌++◌, [], ◌≡◌};
-ghost use Rattle.sat_base.specs.device.Reading.{Reads, source_of, giving};
+ghost use Rattle.sat_base.specs.device.Reading.{Got, giving};
+ghost use Rattle.sat_base.specs.steps.Kinds.{both_held};
 ghost use Rattle.sat_base.specs.steps.Formats.{Both, Times};
 ghost use Rattle.sat_base.specs.steps.StepText.{IsLiteral, IsHash, AreLiterals, AreHashes, AreUnits};
 ghost use Rattle.sat_base.specs.steps.Spellings as spelling;
@@ -21,7 +22,7 @@ const LARGEST_CODE: u64 = 2 * MAX_COUNT as u64 - 1;
 
 impl<R: CountedRead> Input<'_, R> {
     fn literal(&mut self) -> Result<Lit, StepError>
-        ensures { Reads IsLiteral result (source_of R.seen self.old) (source_of R.seen self.new) }
+        ensures { Got IsLiteral result R.seen self.old self.new }
     {
         let code = self.number(LARGEST_CODE)?;
         Ok(Lit::from_code(code as usize))
@@ -29,7 +30,7 @@ impl<R: CountedRead> Input<'_, R> {
 
     fn literal_items(&mut self, count: u64, lits: &mut Vec<Lit>) -> Result<(), StepError>
         requires { lits.old.items ≡ [] }
-        ensures { Reads (Times IsLiteral count) (giving lits.new.items result) (source_of R.seen self.old) (source_of R.seen self.new) }
+        ensures { Got (Times IsLiteral count) (giving lits.new.items result) R.seen self.old self.new }
     {
         for _ in 0..count {
             let lit = self.literal()?;
@@ -40,7 +41,7 @@ impl<R: CountedRead> Input<'_, R> {
 
     fn hash_items(&mut self, count: u64, hashes: &mut Vec<ClauseHash>) -> Result<(), StepError>
         requires { hashes.old.items ≡ [] }
-        ensures { Reads (Times IsHash count) (giving hashes.new.items result) (source_of R.seen self.old) (source_of R.seen self.new) }
+        ensures { Got (Times IsHash count) (giving hashes.new.items result) R.seen self.old self.new }
     {
         for _ in 0..count {
             let hash = self.number(u64::MAX)?;
@@ -50,7 +51,7 @@ impl<R: CountedRead> Input<'_, R> {
     }
 
     fn unit(&mut self) -> Result<(Lit, ClauseHash), StepError>
-        ensures { Reads (Both IsLiteral IsHash) result (source_of R.seen self.old) (source_of R.seen self.new) }
+        ensures { Got (Both IsLiteral IsHash) result R.seen self.old self.new }
     {
         let lit = self.literal()?;
         let hash = self.number(u64::MAX)?;
@@ -63,7 +64,7 @@ impl<R: CountedRead> Input<'_, R> {
         units: &mut Vec<(Lit, ClauseHash)>,
     ) -> Result<(), StepError>
         requires { units.old.items ≡ [] }
-        ensures { Reads (Times (Both IsLiteral IsHash) count) (giving units.new.items result) (source_of R.seen self.old) (source_of R.seen self.new) }
+        ensures { Got (Times (Both IsLiteral IsHash) count) (giving units.new.items result) R.seen self.old self.new }
     {
         for _ in 0..count {
             let unit = self.unit()?;
@@ -74,7 +75,7 @@ impl<R: CountedRead> Input<'_, R> {
 
     /// Reads a list of literals in place of those that are there.
     pub(super) fn literals(&mut self, lits: &mut Vec<Lit>) -> Result<(), StepError>
-        ensures { Reads AreLiterals (giving lits.new.items result) (source_of R.seen self.old) (source_of R.seen self.new) }
+        ensures { Got AreLiterals (giving lits.new.items result) R.seen self.old self.new }
     {
         lits.clear();
         let count = self.number(u64::MAX)?;
@@ -83,7 +84,7 @@ impl<R: CountedRead> Input<'_, R> {
 
     /// Reads a list of hashes in place of those that are there.
     pub(super) fn hashes(&mut self, hashes: &mut Vec<ClauseHash>) -> Result<(), StepError>
-        ensures { Reads AreHashes (giving hashes.new.items result) (source_of R.seen self.old) (source_of R.seen self.new) }
+        ensures { Got AreHashes (giving hashes.new.items result) R.seen self.old self.new }
     {
         hashes.clear();
         let count = self.number(u64::MAX)?;
@@ -92,7 +93,7 @@ impl<R: CountedRead> Input<'_, R> {
 
     /// Reads a list of units in place of those that are there.
     pub(super) fn units(&mut self, units: &mut Vec<(Lit, ClauseHash)>) -> Result<(), StepError>
-        ensures { Reads AreUnits (giving units.new.items result) (source_of R.seen self.old) (source_of R.seen self.new) }
+        ensures { Got AreUnits (giving units.new.items result) R.seen self.old self.new }
     {
         units.clear();
         let count = self.number(u64::MAX)?;
@@ -101,7 +102,7 @@ impl<R: CountedRead> Input<'_, R> {
 
     /// Reads a list of literals, and then one of hashes.
     pub(super) fn both_lists(&mut self, lists: &mut Lists) -> Result<(), StepError>
-        ensures { Reads (Both AreLiterals AreHashes) (giving (lists.new.literals.items, lists.new.hashes.items) result) (source_of R.seen self.old) (source_of R.seen self.new) }
+        ensures { Got (Both AreLiterals AreHashes) (giving (both_held lists.new) result) R.seen self.old self.new }
     {
         self.literals(&mut lists.literals)?;
         self.hashes(&mut lists.hashes)
@@ -148,7 +149,7 @@ impl<W: CountedWrite, P: Room> Output<W, P> {
     }
 
     pub(super) fn put_both_lists(&mut self, lits: &[Lit], hashes: &[ClauseHash]) -> io::Result<()>
-        ensures { spelling.Wrote (spelling.both spelling.literals spelling.hashes) (lits.now, hashes.now) result W.seen P.waiting self.old self.new }
+        ensures { spelling.Wrote spelling.both_lists (lits.now, hashes.now) result W.seen P.waiting self.old self.new }
     {
         self.put_literals(lits)?;
         self.put_hashes(hashes)

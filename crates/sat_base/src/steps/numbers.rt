@@ -1,6 +1,6 @@
 //! A number's bytes.
 ghost use Rattle.std.specs.Prelude.{◌+◌, ◌<◌};
-ghost use Rattle.sat_base.specs.device.Reading.{Reads, source_of};
+ghost use Rattle.sat_base.specs.device.Reading.{Got};
 ghost use Rattle.sat_base.specs.device.Sink.{Sends, sink_of};
 ghost use Rattle.sat_base.specs.steps.StepBytes.{number_bytes};
 ghost use Rattle.sat_base.specs.steps.Numbers.{IsBelow};
@@ -15,7 +15,7 @@ impl<R: CountedRead> Input<'_, R> {
     /// Reads a number that is at most the largest.
     pub(super) fn number(&mut self, largest: u64) -> Result<u64, StepError>
         requires { 0 < largest }
-        ensures { Reads (IsBelow (largest + 1)) result (source_of R.seen self.old) (source_of R.seen self.new) }
+        ensures { Got (IsBelow (largest + 1)) result R.seen self.old self.new }
     {
         let mut value = 0;
         let mut place = 1;

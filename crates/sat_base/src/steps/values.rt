@@ -1,5 +1,5 @@
 //! The fields of steps that are one number.
-ghost use Rattle.sat_base.specs.device.Reading.{Reads, source_of, valued};
+ghost use Rattle.sat_base.specs.device.Reading.{Got, valued};
 ghost use Rattle.sat_base.specs.steps.Spellings.{Wrote, a_variable, an_optional_variable, a_flag, a_width, a_deletion};
 ghost use Rattle.sat_base.specs.steps.StepBytes.{number_bytes, optional_bytes, flag_bytes, deletion_bytes};
 ghost use Rattle.sat_base.specs.steps.StepText.{IsVariable, IsOptionalVariable, IsFlag, IsWidth, IsDeletion};
@@ -17,14 +17,14 @@ const LARGEST_INDEX: u64 = MAX_COUNT as u64 - 1;
 
 impl<R: CountedRead> Input<'_, R> {
     pub(super) fn variable(&mut self) -> Result<Var, StepError>
-        ensures { Reads IsVariable result (source_of R.seen self.old) (source_of R.seen self.new) }
+        ensures { Got IsVariable result R.seen self.old self.new }
     {
         let index = self.number(LARGEST_INDEX)?;
         Ok(Var::from_index(index as usize))
     }
 
     pub(super) fn optional(&mut self) -> Result<Option<Var>, StepError>
-        ensures { Reads IsOptionalVariable result (source_of R.seen self.old) (source_of R.seen self.new) }
+        ensures { Got IsOptionalVariable result R.seen self.old self.new }
     {
         let above = self.number(LARGEST_INDEX + 1)?;
         if above == 0 {
@@ -34,7 +34,7 @@ impl<R: CountedRead> Input<'_, R> {
     }
 
     pub(super) fn flag(&mut self) -> Result<bool, StepError>
-        ensures { Reads IsFlag result (source_of R.seen self.old) (source_of R.seen self.new) }
+        ensures { Got IsFlag result R.seen self.old self.new }
     {
         let bit = self.number(1)?;
         if bit == 0 {
@@ -44,14 +44,14 @@ impl<R: CountedRead> Input<'_, R> {
     }
 
     pub(super) fn width(&mut self) -> Result<HashBits, StepError>
-        ensures { Reads IsWidth result (source_of R.seen self.old) (source_of R.seen self.new) }
+        ensures { Got IsWidth result R.seen self.old self.new }
     {
         let bits = self.number(64)?;
         Ok(HashBits::of_width(bits as u32))
     }
 
     pub(super) fn deletion(&mut self) -> Result<DeleteClauseProof, StepError>
-        ensures { Reads IsDeletion (valued deletion_of result) (source_of R.seen self.old) (source_of R.seen self.new) }
+        ensures { Got IsDeletion (valued deletion_of result) R.seen self.old self.new }
     {
         let code = self.number(2)?;
         if code == 0 {

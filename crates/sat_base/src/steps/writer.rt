@@ -57,6 +57,14 @@ impl<W: CountedWrite> StepWriter<W> {
         let result = output.write_rest();
         (output.into_writer(), result)
     }
+
+    /// The writer, which took what was written out so far. What waits is lost.
+    pub fn into_writer(self) -> W
+        ensures { W.seen result ≡ (steps_sink W.seen self).writer }
+    {
+        let StepWriter { output } = self;
+        output.into_writer()
+    }
 }
 
 /// Writes a step's bytes, taking no memory: in pieces of 64 bytes, so that most steps are one write. After an error a front of
