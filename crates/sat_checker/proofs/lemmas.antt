@@ -6,3 +6,4 @@ pub mod store
 pub mod variables
 pub mod rows
 pub mod formula
+pub mod state

@@ -8,3 +8,4 @@ pub mod VariablesView
 pub mod StoreView
 pub mod UnitView
 pub mod FormulaView
+pub mod StateView

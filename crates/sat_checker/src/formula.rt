@@ -1,19 +1,19 @@
 //! The stored formula: clauses, units, and what is recorded of them.
-ghost use Rattle.std.specs.Prelude.{◌≡◌, ◌+◌, ◌≤◌, ℕ, [], ◌∷◌, length};
+ghost use Rattle.std.specs.Prelude.{◌≡◌, ◌+◌, ◌≤◌, ◌*◌, ℕ, [], ◌∷◌, length, IfOk, IsTrue, ◌↔◌};
+ghost use Rattle.sat_checker.specs.Accepts.{Passes};
 ghost use Rattle.sat_checker.specs.Stored.{Stored, nothing_stored};
 ghost use Rattle.sat_checker.specs.Looks.{literal_count};
 ghost use Rattle.sat_checker.specs.Storing.{settled, with_unit, with_contradiction, with_canonical, with_stored, with_input};
 ghost use Rattle.sat_checker.specs.inner.Marks.{IsIncreasing};
 ghost use Rattle.sat_checker.specs.inner.FormulaView.{KeepsFormula, Becomes};
 
-use crate::hash::ClauseHasher;
 use crate::looks::Looks;
 use crate::sorted_lits::copy_canonical;
 use crate::status::{LastClause, Status};
 use crate::store::{Store, StoreError};
 use crate::units::Units;
-use sat_base::{HashBits, Lit};
-use std::alloc::Global;
+use sat_base::{ClauseHash, Lit};
+use std::alloc::AllocError;
 
 /// Stored clauses and units.
 #[derive(Drop)]
@@ -24,6 +24,20 @@ pub(crate) struct Formula {
 }
 
 impl Formula {
+    /// The propagation check of a clause under hashes.
+    pub fn check(
+        &mut self,
+        clause: &[Lit],
+        hashes: &[ClauseHash],
+        looks: &mut Looks,
+    ) -> Result<bool, AllocError>
+        ensures exact { IfOk result (λ passes. (f : Stored) → KeepsFormula self.old f → IsTrue passes ↔ Passes f clause.now hashes.now) }
+        ensures kept { (f : Stored) → KeepsFormula self.old f → KeepsFormula self.new f }
+        ensures looks { (f : Stored) → KeepsFormula self.old f → looks.new ≤ looks.old + length hashes.now * literal_count f }
+    {
+        self.units.check(&self.store, clause, hashes, looks)
+    }
+
     /// The empty clause of a pending unit conflict takes the next id.
     pub fn settle(&mut self) -> Result<(), StoreError>
         ensures { Becomes result self.old settled self.new }

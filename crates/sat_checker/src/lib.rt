@@ -11,6 +11,7 @@ pub mod looks;
 pub mod rup;
 pub mod slots;
 pub mod sorted_lits;
+pub(crate) mod state;
 pub(crate) mod status;
 pub(crate) mod store;
 mod tally;

@@ -1,5 +1,5 @@
 //! Which variables are known, their modes, and the user's names for them.
-ghost use Rattle.std.specs.Prelude.{ℕ, true, ◌≡◌, ◌==◌, ◌↔◌, IsTrue, Option, None, Some, OnOk, IfOk, MatchBool, map, if◌then◌else◌};
+ghost use Rattle.std.specs.Prelude.{ℕ, true, ◌≡◌, ◌==◌, ◌↔◌, IsTrue, Option, None, Some, OnOk, IfOk, MatchBool, map, [], ◌∷◌, if◌then◌else◌};
 ghost use Rattle.std.specs.List.{AllByRecursion};
 ghost use Rattle.sat_base.specs.values.Literals.{variable};
 ghost use Rattle.sat_checker.specs.LiteralSets.{is_among};
@@ -148,6 +148,23 @@ impl Variables {
         for lit in literals {
             self.ensure_var(lit.var())?;
         }
+        Ok(())
+    }
+
+    /// Unknown variables of the literals become sampling ones.
+    pub fn learn(&mut self, literals: &[Lit]) -> Result<(), AllocError>
+        ensures { OnOk result ((g : ℕ → Variable) → KeepsVariables self.old g
+            → KeepsVariables self.new (λ v. known_if (is_among (map variable literals.now) v) (g v))) }
+    {
+        self.ensure_vars(literals)?;
+        Ok(())
+    }
+
+    /// An unknown variable becomes a sampling one.
+    pub fn learn_var(&mut self, var: Var) -> Result<(), AllocError>
+        ensures { OnOk result ((g : ℕ → Variable) → KeepsVariables self.old g → KeepsVariables self.new (λ v. known_if (is_among (var ∷ []) v) (g v))) }
+    {
+        self.ensure_var(var)?;
         Ok(())
     }
 

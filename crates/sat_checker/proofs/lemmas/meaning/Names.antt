@@ -13,41 +13,42 @@ use Rattle.sat_checker.specs.Laws.{NamedIsKnown, KnownStays, DeletedIsNameless, 
 pub record SameVariables (f g : Stored) : Type 0 where
   pub variables : g.variables ≡ f.variables
   pub deleted : g.var_deleted ≡ f.var_deleted
+  pub assumed : g.assumed ≡ f.assumed
 
-unit_same : (l : ℕ) (f : Stored) → SameVariables f (with_unit l f)
+pub unit_same : (l : ℕ) (f : Stored) → SameVariables f (with_unit l f)
 unit_same l f = go (is_unit f l) (is_unit f (negated l))
   where
     go : (b d : Bool) → SameVariables f (cond b f (cond d (with_contradiction l f) (with_new_unit l f)))
-    go true d = record { variables = refl; deleted = refl }
-    go false true = record { variables = refl; deleted = refl }
-    go false false = record { variables = refl; deleted = refl }
+    go true d = record { variables = refl; deleted = refl; assumed = refl }
+    go false true = record { variables = refl; deleted = refl; assumed = refl }
+    go false false = record { variables = refl; deleted = refl; assumed = refl }
 
 set_same : (r : Bool) (ls : List ℕ) (f : Stored) → SameVariables f (with_set r ls f)
-set_same r [] f = record { variables = refl; deleted = refl }
+set_same r [] f = record { variables = refl; deleted = refl; assumed = refl }
 set_same r (l ∷ []) f = unit_same l f
-set_same r (l ∷ m ∷ ls) f = record { variables = refl; deleted = refl }
+set_same r (l ∷ m ∷ ls) f = record { variables = refl; deleted = refl; assumed = refl }
 
 canonical_same : (r : Bool) (ls : List ℕ) (f : Stored) → SameVariables f (with_canonical r ls f)
 canonical_same true ls f = set_same true ls f
-canonical_same false ls f = let s = set_same false ls f in record { variables = s.variables; deleted = s.deleted }
+canonical_same false ls f = let s = set_same false ls f in record { variables = s.variables; deleted = s.deleted; assumed = s.assumed }
 
-stored_same : (r : Bool) (c : List ℕ) (f : Stored) → SameVariables f (with_stored r c f)
+pub stored_same : (r : Bool) (c : List ℕ) (f : Stored) → SameVariables f (with_stored r c f)
 stored_same r c f = go (is_tautology c)
   where
     go : (b : Bool) → SameVariables f (cond b f (with_canonical r (canonical c) f))
-    go true = record { variables = refl; deleted = refl }
+    go true = record { variables = refl; deleted = refl; assumed = refl }
     go false = canonical_same r (canonical c) f
 
-units_same : (ls : List ℕ) (f : Stored) → SameVariables f (with_units ls f)
-units_same [] f = record { variables = refl; deleted = refl }
-units_same (l ∷ ls) f = let s = unit_same l f in let t = units_same ls (with_unit l f) in record { variables = t.variables ∙ s.variables; deleted = t.deleted ∙ s.deleted }
+pub units_same : (ls : List ℕ) (f : Stored) → SameVariables f (with_units ls f)
+units_same [] f = record { variables = refl; deleted = refl; assumed = refl }
+units_same (l ∷ ls) f = let s = unit_same l f in let t = units_same ls (with_unit l f) in record { variables = t.variables ∙ s.variables; deleted = t.deleted ∙ s.deleted; assumed = t.assumed ∙ s.assumed }
 
-settled_same : (f : Stored) → SameVariables f (settled f)
+pub settled_same : (f : Stored) → SameVariables f (settled f)
 settled_same f = go f.conflict
   where
     go : (x : Option (ℕ × ℕ)) → SameVariables f (settled_by x f)
-    go None = record { variables = refl; deleted = refl }
-    go (Some units) = record { variables = refl; deleted = refl }
+    go None = record { variables = refl; deleted = refl; assumed = refl }
+    go (Some units) = record { variables = refl; deleted = refl; assumed = refl }
 
 itself : (n : ℕ) → eqb n n ≡ true
 itself n = eq-eqb n n refl

@@ -1,5 +1,5 @@
 -- What is kept of variables.
-use Rattle.std.proofs.Common.{ℕ, ◌+◌, ◌<◌, ◌≡◌, Bool, true, false, not, ◌||◌, cond, eqb, List, length, drop, get_or, map, Option, Some, None, is_some, refl, sym, ◌∙◌, ap, subst}
+use Rattle.std.proofs.Common.{ℕ, ◌+◌, ◌<◌, ◌≡◌, Bool, true, false, not, ◌||◌, cond, eqb, List, [], ◌∷◌, length, drop, get_or, map, Option, Some, None, is_some, refl, sym, ◌∙◌, ap, subst}
 use Rattle.std.proofs.lemmas.Bool.{true≢false, eqb-true, eqb-false}
 use Rattle.std.proofs.lemmas.List.{drop_more}
 use Rattle.std.specs.Bool.{MatchBool}
@@ -175,3 +175,22 @@ some_none n e = cc
 pub ruleset sampling = (all_drop, drop_all)
 
 pub ruleset ensuring = (known_next)
+
+known_name : (b : Bool) (x : Variable) → (known_if b x).name ≡ x.name
+known_name true x = refl
+known_name false x = refl
+
+-- some variables become known
+pub learnt : (old new : Variables) (g : ℕ → Variable) (test : ℕ → Bool) → KeepsVariables old g → ((v : ℕ) → variable_at new v ≡ known_if (test v) (variable_at old v)) → ((name : ℕ) → holder_at new name ≡ holder_at old name)
+    → KeepsVariables new (λ v. known_if (test v) (g v))
+learnt old new g test k e h = record {
+  each = λ v. e v ∙ ap (known_if (test v)) (k.each v);
+  holders = λ name v. ((λ t. known_name (test v) (g v) ∙ (k.holders name v).0 (sym (h name) ∙ t)), (λ t. h name ∙ (k.holders name v).1 (sym (known_name (test v) (g v)) ∙ t)));
+}
+
+pub only_one : (v w : ℕ) → eqb w v ≡ is_among (v ∷ []) w
+only_one v w = eqb_comm w v ∙ go (eqb v w)
+  where
+    go : (b : Bool) → b ≡ (b || false)
+    go true = refl
+    go false = refl

@@ -1,0 +1,64 @@
+-- What steps leave of the checker's state.
+use Rattle.std.proofs.Common.{ℕ, ◌+◌, ◌*◌, ◌≤◌, ◌≡◌, Bool, true, false, cond, List, [], ◌∷◌, length, Option, None, Some, refl, sym, ◌∙◌, ap, subst, arith, Result, Ok, Err, IfOk, ◌↔◌}
+use Rattle.std.specs.List.{AllByRecursion}
+use Rattle.sat_base.specs.values.Literals.{variable}
+use Rattle.sat_base.specs.steps.Steps.{Step, SolverVarName, AddClause, AtClause}
+use Rattle.sat_checker.specs.Stored.{Stored, StoredUnit, Variable, Sample, mode_of}
+use Rattle.sat_checker.specs.Storing.{with_stored, with_input, with_units, with_literals_known, with_solver_name, with_known}
+use Rattle.sat_checker.specs.Accepts.{Passes, Accepts, effect}
+use Rattle.sat_checker.specs.Spent.{IsSpent}
+use Rattle.sat_checker.specs.inner.StoreView.{KeepsClauses}
+use Rattle.sat_checker.specs.inner.FormulaView.{KeepsFormula, Turns, TurnsIf}
+use Rattle.sat_checker.specs.inner.StateView.{Keeps, Decides}
+use Rattle.sat_checker.specs.inner.VariablesView.{variable_at, KeepsVariables, AreSampling}
+use Rattle.sat_checker.specs.declared.store.StoreError.{StoreError}
+use Rattle.sat_checker.specs.declared.store.StoreError.TheVariants.{OutOfMemory, CounterEnd}
+use Rattle.sat_checker.specs.declared.formula.Formula.{Formula}
+use Rattle.sat_checker.specs.declared.state.State.{State}
+use Rattle.sat_checker.specs.declared.variables.Variables.{Variables}
+use Rattle.sat_checker.proofs.lemmas.meaning.Names.{stored_same, units_same, settled_same}
+
+-- the check over the formula's parts
+pub checked_formula : {E : Type 0} (r : Result Bool E) (F : Formula) (clause hashes : List ℕ) → IfOk r (λ b. (f : Stored) → KeepsClauses F.store f → F.units ≡ f.units → (b ≡ true) ↔ Passes f clause hashes)
+    → IfOk r (λ b. (f : Stored) → KeepsFormula F f → (b ≡ true) ↔ Passes f clause hashes)
+checked_formula (Ok b) F clause hashes h = λ f k. h f k.clauses k.units
+checked_formula (Err e) F clause hashes h = tt
+
+-- an error is handed on
+pub decides_err : {T : Type 0} (first : Result T StoreError) (result : Result Bool StoreError) (d e : StoreError) → first ≡ Err e → result ≡ Err d → d ≡ e → (K A L : Type 0) (g h : Stored) → (IsSpent g → IsSpent h) → Turns first K g → TurnsIf result A L h
+decides_err {T = T} first result d e a b s K A L g h w t = subst (λ x. TurnsIf x A L h) (sym (b ∙ ap Err s)) (go e (subst (λ x. Turns x K g) a t))
+  where
+    go : (e : StoreError) → Turns {T = T} (Err e) K g → TurnsIf (Err e) A L h
+    go OutOfMemory t = tt
+    go CounterEnd t = w t
+
+pub sampling_kept : (vs : Variables) (f : Stored) (ls : List ℕ) → KeepsVariables vs f.variables → AreSampling vs ls → AllByRecursion (λ l. mode_of (variable l) f ≡ Sample) ls
+sampling_kept vs f [] k h = tt
+sampling_kept vs f (l ∷ ls) k h = (sym (ap (λ (x : Variable). x.mode) (k.each (variable l))) ∙ h.0, sampling_kept vs f ls k h.1)
+
+-- a clause that was derived
+pub derived : (new : State) (f : Stored) (r : Bool) (c : List ℕ) → KeepsFormula new.formula (with_stored r c (with_literals_known c f)) → KeepsVariables new.variables (with_literals_known c f).variables → new.assumed.items ≡ f.assumed
+    → Keeps new (with_stored r c (with_literals_known c f))
+derived new f r c F V a = let s = stored_same r c (with_literals_known c f) in record { formula = F; variables = subst (KeepsVariables new.variables) (sym s.variables) V; assumed = a ∙ sym s.assumed }
+
+-- a clause of the formula
+pub added : (new : State) (f : Stored) (c : List ℕ) → f.unsat ≡ false → KeepsFormula new.formula (with_input c (with_literals_known c f)) → KeepsVariables new.variables (with_literals_known c f).variables → new.assumed.items ≡ f.assumed
+    → Keeps new (effect (AddClause c) f)
+added new f c e F V a =
+    let s = stored_same false c (with_literals_known c f) in
+    subst (λ b. Keeps new (cond b f (with_input c (with_literals_known c f)))) (sym e) (record { formula = F; variables = subst (KeepsVariables new.variables) (sym s.variables) V; assumed = a ∙ sym s.assumed })
+
+-- a solver name
+pub renamed : (new : State) (f : Stored) (v : ℕ) (name : Option ℕ) (n : ℕ) → name ≡ Some n → KeepsFormula new.formula (with_solver_name v (Some n) f) → KeepsVariables new.variables (with_known (v ∷ []) f).variables → new.assumed.items ≡ f.assumed
+    → Keeps new (effect (SolverVarName v name) f)
+renamed new f v name n e F V a = subst (λ o. Keeps new (effect (SolverVarName v o) f)) (sym e) (record { formula = F; variables = V; assumed = a })
+
+pub unnamed : (new : State) (f : Stored) (v : ℕ) (name : Option ℕ) → name ≡ None → KeepsFormula new.formula (with_solver_name v None f) → KeepsVariables new.variables f.variables → new.assumed.items ≡ f.assumed → Keeps new (effect (SolverVarName v name) f)
+unnamed new f v name e F V a = subst (λ o. Keeps new (effect (SolverVarName v o) f)) (sym e) (record { formula = F; variables = V; assumed = a })
+
+-- looks of a check, and of storing
+pub looks_checked : (old one k n : ℕ) → one ≤ old + k * n → one ≤ old + (5 + 2 * k) * n
+looks_checked old one k n h = let e : (5 + 2 * k) * n ≡ 5 * n + k * n + k * n = grind arith in omega arith
+
+pub looks_stored : (old one two k n : ℕ) → one ≤ old + k * n → two ≤ one + n → two ≤ old + (5 + 2 * k) * n
+looks_stored old one two k n h g = let e : (5 + 2 * k) * n ≡ 5 * n + k * n + k * n = grind arith in omega arith

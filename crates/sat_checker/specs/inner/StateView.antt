@@ -1,0 +1,23 @@
+-- What the checker's state keeps of the definition's, and when its answer to a step is right.
+use Rattle.std.specs.Prelude.{ℕ, ◌≡◌, ◌+◌, ◌≤◌, Bool, Result}
+use Rattle.sat_base.specs.steps.Steps.{Step}
+use Rattle.sat_checker.specs.Stored.{Stored}
+use Rattle.sat_checker.specs.Accepts.{Accepts, effect}
+use Rattle.sat_checker.specs.Looks.{most_looks}
+use Rattle.sat_checker.specs.inner.FormulaView.{KeepsFormula, TurnsIf}
+use Rattle.sat_checker.specs.inner.VariablesView.{KeepsVariables}
+use Rattle.sat_checker.specs.declared.state.State.{State}
+use Rattle.sat_checker.specs.declared.store.StoreError.{StoreError}
+
+pub record Keeps (state : State) (f : Stored) : Type 0 where
+  pub formula : KeepsFormula state.formula f
+  pub variables : KeepsVariables state.variables f.variables
+  pub assumed : state.assumed.items ≡ f.assumed
+
+-- Whatever state was kept, a step that it accepts is one that the definition accepts, and what the step leaves is kept then. One that it refuses is one that the definition refuses.
+abbrev pub Decides : Result Bool StoreError → State → Step → State → Type 0
+Decides result old step new = (f : Stored) → Keeps old f → TurnsIf result (Accepts f step) (Keeps new (effect step f)) (effect step f)
+
+-- no more looks than the step may take
+abbrev pub LooksWithin : State → Step → ℕ → ℕ → Type 0
+LooksWithin state step old new = (f : Stored) → Keeps state f → new ≤ old + most_looks f step
