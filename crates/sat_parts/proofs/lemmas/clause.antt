@@ -1,2 +1,4 @@
 pub mod OrderLemmas
 pub mod GlueLemmas
+pub mod ListLemmas
+pub mod DbLemmas

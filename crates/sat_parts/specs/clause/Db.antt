@@ -1,10 +1,14 @@
 -- The list of long clauses.
-use Rattle.std.specs.Prelude.{ℕ, ◌≡◌, ◌+◌, ◌==◌, Bool, not, ◌&&◌, List, [], ◌∷◌, length, slice_index_or as get_or, if◌then◌else◌, count_by}
-use Rattle.std.specs.List.{filter, sum_by}
-use Rattle.sat_store.specs.clause.Buffer.{Laid, header_at, lits_at}
-use Rattle.sat_store.specs.clause.Header.{index_of}
+use Rattle.std.specs.Prelude.{ℕ, ◌≡◌, ◌≢◌, ◌+◌, ◌-◌, ◌^◌, ◌<◌, ◌==◌, min, true, Bool, not, ◌&&◌, List, [], ◌∷◌, ◌++◌, length, slice_index_or as get_or, slice_set as set, take, Option, if◌then◌else◌, count_by}
+use Rattle.std.specs.List.{Contains, filter, sum_by}
+use Rattle.sat_store.specs.clause.Buffer.{Laid, Keeps, Adds, header_at, lits_at}
+use Rattle.sat_store.specs.clause.Header.{Header, index_of}
 use Rattle.sat_store.specs.declared.clause.tier.Tier.{Tier}
-use Rattle.sat_parts.specs.clause.Orders.{AreDistinct}
+use Rattle.sat_base.specs.values.Literals.{variable}
+use Rattle.sat_parts.specs.declared.prop.graph.ImplNode.{ImplNode}
+use Rattle.sat_parts.specs.declared.prop.graph.Reason.TheVariants.{Long}
+use Rattle.sat_parts.specs.prop.Values.{IsTrueLit}
+use Rattle.sat_parts.specs.prop.Graphs.{node_of}
 
 -- references in the order in which they came, numbers by tier, and how many words deleted clauses take
 pub record Db : Type 0 where
@@ -31,11 +35,70 @@ is_live_of words tier o = is_live words o && (index_of (header_at words o).tier 
 abbrev pub garbage_of : List ℕ → ℕ → ℕ
 garbage_of words o = if is_live words o then 0 else length (lits_at words o) + 3
 
--- each clause of the list has words of its own and stands there once, the numbers are those of the live clauses by tier, and
--- the garbage that of the deleted ones
+-- each number is above those before it
+abbrev pub AreRising : List ℕ → Type 0
+AreRising xs = (j k : ℕ) → j < k → k < length xs → get_or xs j 0 < get_or xs k 0
+
+-- each clause of the list has words of its own, behind those of the clause before it; the numbers are those of the live clauses
+-- by tier, and the garbage that of the deleted ones (held at 2^64 - 1)
 pub record HoldsDb (words : List ℕ) (db : Db) : Type 0 where
   pub laid : Laid words db.refs
-  pub once : AreDistinct db.refs
+  pub rising : AreRising db.refs
   pub tiers : length db.counts ≡ 4
   pub counts : (tier : Tier) → get_or db.counts (index_of tier) 0 ≡ count_by (is_live_of words tier) db.refs
-  pub garbage : db.garbage ≡ sum_by (garbage_of words) db.refs
+  pub garbage : db.garbage ≡ min (sum_by (garbage_of words) db.refs) (2 ^ 64 - 1)
+  pub few : length db.refs < 2 ^ 64
+
+-- the numbers by tier with one clause of this tier more, or less
+abbrev pub one_more : Tier → List ℕ → List ℕ
+one_more tier counts = set counts (index_of tier) (get_or counts (index_of tier) 0 + 1)
+
+abbrev pub one_less : Tier → List ℕ → List ℕ
+one_less tier counts = set counts (index_of tier) (get_or counts (index_of tier) 0 - 1)
+
+-- the list without the clause at o
+abbrev pub without : ℕ → List ℕ → List ℕ
+without o refs = filter (λ p. not (p == o)) refs
+
+-- a clause of this header, but for its length, and of these literals came to stand behind all others
+pub record AddsClause (words : List ℕ) (db : Db) (words' : List ℕ) (db' : Db) (o : ℕ) (header : Header) (lits : List ℕ) : Type 0 where
+  pub added : Adds words words' o header lits
+  pub holds : HoldsDb words' db'
+  pub refs : db'.refs ≡ db.refs ++ o ∷ []
+  pub live : live_refs words' db'.refs ≡ live_refs words db.refs ++ o ∷ []
+
+-- the clause at o came to have this header, of the same length, and no other clause of the list changed
+pub record PutsHeader (words words' refs : List ℕ) (o : ℕ) (header : Header) : Type 0 where
+  pub size : length words' ≡ length words
+  pub laid : Laid words' refs
+  pub header_there : header_at words' o ≡ header
+  pub lits_there : lits_at words' o ≡ lits_at words o
+  pub others : (p : ℕ) → Contains refs p → p ≢ o → Keeps words words' p
+
+-- the clause at o isn't live any more, and no other clause changed
+pub record DeletesClause (words : List ℕ) (db : Db) (words' : List ℕ) (db' : Db) (o : ℕ) : Type 0 where
+  pub put : PutsHeader words words' db.refs o (record (header_at words o) { deleted = true })
+  pub holds : HoldsDb words' db'
+  pub refs : db'.refs ≡ db.refs
+  pub live : live_refs words' db'.refs ≡ without o (live_refs words db.refs)
+
+-- the clause at o came to be of this tier, and no other clause changed
+pub record MovesClause (words : List ℕ) (db : Db) (words' : List ℕ) (db' : Db) (o : ℕ) (tier : Tier) : Type 0 where
+  pub put : PutsHeader words words' db.refs o (record (header_at words o) { tier = tier })
+  pub holds : HoldsDb words' db'
+  pub refs : db'.refs ≡ db.refs
+  pub live : live_refs words' db'.refs ≡ live_refs words db.refs
+
+-- the clause at o lost its literals from this place on, and no other clause changed
+pub record ShortensClause (words : List ℕ) (db : Db) (words' : List ℕ) (db' : Db) (o len : ℕ) : Type 0 where
+  pub size : length words' ≡ length words
+  pub header_there : header_at words' o ≡ record (header_at words o) { len = len }
+  pub lits_there : lits_at words' o ≡ take len (lits_at words o)
+  pub others : (p : ℕ) → Contains db.refs p → p ≢ o → Keeps words words' p
+  pub holds : HoldsDb words' db'
+  pub same : db' ≡ db
+  pub live : live_refs words' db'.refs ≡ live_refs words db.refs
+
+-- the clause at o has a true first literal, of which it is the reason
+abbrev pub IsAsserting : (words : List ℕ) (values : List (Option Bool)) (nodes : List ImplNode) (o : ℕ) → Type 0
+IsAsserting words values nodes o = IsTrueLit values (get_or (lits_at words o) 0 0) × ((node_of nodes (variable (get_or (lits_at words o) 0 0))).reason ≡ Long o)

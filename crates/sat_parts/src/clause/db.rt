@@ -1,14 +1,27 @@
 //! The list of long clauses.
-ghost use Rattle.std.specs.Prelude.{◌≡◌, [], ◌∷◌, slice_index};
+ghost use Rattle.std.specs.Prelude.{◌≡◌, ◌+◌, ◌-◌, ◌^◌, ◌<◌, ◌≤◌, ◌↔◌, ℕ, List, Err, [], ◌∷◌, false, length, min, slice_index, slice_index_or, IsTrue, IfOk, OnErr};
+ghost use Rattle.std.specs.List.{Contains};
+ghost use Rattle.sat_base.specs.values.Literals.{negated, variable};
+ghost use Rattle.sat_store.specs.clause.Buffer.{IsClause, Laid, Adds, header_at, lits_at};
 ghost use Rattle.sat_store.specs.clause.Header.{index_of};
-ghost use Rattle.sat_parts.specs.clause.Db.{no_clauses};
+ghost use Rattle.sat_parts.specs.clause.Db.{no_clauses, HoldsDb, live_refs, one_more, one_less, PutsHeader, AddsClause, DeletesClause, MovesClause, ShortensClause, IsAsserting};
+ghost use Rattle.sat_parts.specs.clause.Stored.{lit_of};
+ghost use Rattle.sat_parts.specs.prop.WatchLists.{with_clause};
 
-use sat_store::{ClauseRef, Tier};
+use crate::prop::assignment::Assignment;
+use crate::prop::graph::{ImplGraph, Reason};
+use crate::prop::watch::Watchlists;
+use sat_base::Lit;
+use sat_store::{ClauseAlloc, ClauseHeader, ClauseRef, StoreError, Tier};
 use std::alloc::Global;
 use std::marker::Model;
 
+/// The words of a clause before its literals.
+const HEADER_LEN: usize = 3;
+
 /// The long clauses, in the order in which they came, and how many there are of each tier. A clause that was deleted stays in
-/// the list until its words are collected: its header says so. Contracts see a `Db`.
+/// the list until its words are collected: its header says so. Contracts see a `Db`, and say by `HoldsDb` that it is the list of
+/// the clauses of a buffer.
 #[derive(Drop)]
 pub struct ClauseDb {
     pub(crate) clauses: Vec<ClauseRef>,
@@ -27,7 +40,8 @@ impl Model for ClauseDb {
 impl ClauseDb {
     /// No clauses. Takes no memory.
     pub fn new(alloc: Global) -> ClauseDb
-        ensures { result ≡ no_clauses }
+        ensures empty { result ≡ no_clauses }
+        ensures holds { HoldsDb [] result }
     {
         ClauseDb {
             clauses: Vec::new(alloc),
@@ -42,4 +56,143 @@ impl ClauseDb {
     {
         self.count_by_tier[tier.index()]
     }
+
+    /// All clauses of the list, in the order in which they came, deleted ones among them.
+    pub fn refs(&self) -> &[ClauseRef]
+        ensures { result.now ≡ self.now.refs }
+    {
+        &self.clauses
+    }
+
+    /// How many words deleted clauses take, held at 2^64 - 1.
+    pub fn garbage_size(&self) -> usize
+        ensures { result ≡ self.now.garbage }
+    {
+        self.garbage_size
+    }
+
+    /// Counts one clause of a tier more.
+    fn count_more(&mut self, tier: Tier)
+        requires { slice_index_or self.old.counts (index_of tier) 0 + 1 < 2 ^ 64 }
+        ensures { self.new ≡ record self.old { counts = one_more tier self.old.counts } }
+    {
+        self.count_by_tier[tier.index()] += 1;
+    }
+
+    /// Counts one clause of a tier less.
+    fn count_less(&mut self, tier: Tier)
+        requires { 0 < slice_index_or self.old.counts (index_of tier) 0 }
+        ensures { self.new ≡ record self.old { counts = one_less tier self.old.counts } }
+    {
+        self.count_by_tier[tier.index()] -= 1;
+    }
+
+    /// Counts the words of a clause of so many literals as garbage.
+    fn waste(&mut self, len: usize)
+        requires { len < 2 ^ 32 }
+        ensures { self.new ≡ record self.old { garbage = min (self.old.garbage + (len + 3)) (2 ^ 64 - 1) } }
+    {
+        self.garbage_size = self.garbage_size.saturating_add(len + HEADER_LEN);
+    }
+}
+
+/// Puts a header of the same length in the place of a clause's own.
+pub(crate) fn put_header(clauses: &mut ClauseAlloc, cref: ClauseRef, header: ClauseHeader)
+    requires clause { IsClause clauses.old cref }
+    requires len { header.len ≡ (header_at clauses.old cref).len }
+    ensures { (refs : List ℕ) → Laid clauses.old refs → Contains refs cref → PutsHeader clauses.old clauses.new refs cref header }
+{
+    clauses.set_header(cref, header);
+}
+
+/// Stores a clause and watches it by its first two literals.
+fn store_clause(
+    clauses: &mut ClauseAlloc,
+    watchlists: &mut Watchlists,
+    header: ClauseHeader,
+    lits: &[Lit],
+) -> Result<ClauseRef, StoreError>
+    requires long { 3 ≤ length lits.now }
+    requires fits { length lits.now < 2 ^ 32 }
+    requires first { negated (slice_index_or lits.now 0 0) < length watchlists.old.lists }
+    requires second { negated (slice_index_or lits.now 1 0) < length watchlists.old.lists }
+    ensures added { IfOk result (λ cref. Adds clauses.old clauses.new cref header lits.now) }
+    ensures watched { IfOk result (λ cref. watchlists.new ≡ with_clause cref (slice_index_or lits.now 0 0) (slice_index_or lits.now 1 0) watchlists.old) }
+    ensures full { result ≡ Err StoreError.StoreFull → 2 ^ 32 - 1 < length clauses.old }
+    ensures kept { OnErr result (clauses.new ≡ clauses.old) }
+    ensures unwatched { OnErr result (watchlists.new ≡ watchlists.old) }
+{
+    let cref = clauses.add_clause(header, lits)?;
+    let watched = watchlists.watch_clause(cref, [lits[0], lits[1]]);
+    if let Err(_) = watched {
+        clauses.truncate(cref);
+        return Err(StoreError::OutOfMemory);
+    }
+    Ok(cref)
+}
+
+/// Adds a clause, of the tier of its header, behind all others, and watches it by its first two literals where watch lists are
+/// kept up. Its length is that of the literals, whatever the header says. An `Err` leaves everything as it was.
+pub fn add_clause(
+    clauses: &mut ClauseAlloc,
+    db: &mut ClauseDb,
+    watchlists: &mut Watchlists,
+    header: ClauseHeader,
+    lits: &[Lit],
+) -> Result<ClauseRef, StoreError>
+    requires db { HoldsDb clauses.old db.old }
+    requires live { header.deleted ≡ false }
+    requires long { 3 ≤ length lits.now }
+    requires fits { length lits.now < 2 ^ 32 }
+    requires first { negated (slice_index_or lits.now 0 0) < length watchlists.old.lists }
+    requires second { negated (slice_index_or lits.now 1 0) < length watchlists.old.lists }
+    ensures added { IfOk result (λ cref. AddsClause clauses.old db.old clauses.new db.new cref header lits.now) }
+    ensures watched { IfOk result (λ cref. watchlists.new ≡ with_clause cref (slice_index_or lits.now 0 0) (slice_index_or lits.now 1 0) watchlists.old) }
+    ensures full { result ≡ Err StoreError.StoreFull → 2 ^ 32 - 1 < length clauses.old }
+    ensures same_words { OnErr result (clauses.new ≡ clauses.old) }
+    ensures same_list { OnErr result (db.new ≡ db.old) }
+    ensures same_watches { OnErr result (watchlists.new ≡ watchlists.old) }
+{
+    db.clauses.reserve(1)?;
+    let cref = store_clause(clauses, watchlists, header, lits)?;
+    db.clauses.push_reserved(cref);
+    db.count_more(header.tier());
+    Ok(cref)
+}
+
+/// Moves a live clause to a tier.
+pub fn set_clause_tier(clauses: &mut ClauseAlloc, db: &mut ClauseDb, cref: ClauseRef, tier: Tier)
+    requires db { HoldsDb clauses.old db.old }
+    requires live { Contains (live_refs clauses.old db.old.refs) cref }
+    ensures { MovesClause clauses.old db.old clauses.new db.new cref tier }
+{
+    let mut header = clauses.header(cref);
+    let old = header.tier();
+    if old.index() == tier.index() {
+        return;
+    }
+    db.count_less(old);
+    db.count_more(tier);
+    header.set_tier(tier);
+    put_header(clauses, cref, header);
+}
+
+/// Deletes a live clause. Watch lists aren't kept up from here on, until they are built anew.
+pub fn delete_clause(
+    clauses: &mut ClauseAlloc,
+    db: &mut ClauseDb,
+    watchlists: &mut Watchlists,
+    cref: ClauseRef,
+)
+    requires db { HoldsDb clauses.old db.old }
+    requires live { Contains (live_refs clauses.old db.old.refs) cref }
+    ensures deleted { DeletesClause clauses.old db.old clauses.new db.new cref }
+    ensures watches { watchlists.new ≡ record watchlists.old { enabled = false } }
+{
+    watchlists.disable();
+    let mut header = clauses.header(cref);
+    db.count_less(header.tier());
+    db.waste(header.len());
+    header.set_deleted(true);
+    put_header(clauses, cref, header);
 }

@@ -14,7 +14,7 @@ use Rattle.sat_parts.specs.prop.Values.{IsTrueLit, IsOpenLit}
 use Rattle.sat_parts.specs.prop.Trails.{LevelIs, with_level}
 use Rattle.sat_parts.specs.prop.Binaries.{implied_by}
 use Rattle.sat_parts.specs.prop.WatchLists.{Watching}
-use Rattle.sat_parts.specs.prop.State.{State, node, level, lit_at, IsRemoved, HasLeft, Agrees, IsQueueCurrent, IsSatisfied, Grows, enqueued}
+use Rattle.sat_parts.specs.prop.State.{State, node, level, lit_at, IsRemoved, HasLeft, Agrees, IsSatisfied, Grows, enqueued}
 use Rattle.sat_parts.specs.prop.Reasons.{HaveFirsts}
 use Rattle.sat_parts.specs.prop.Ready.{AreWatched, AreLists}
 use Rattle.sat_parts.specs.prop.Asks.{Asks, AsksForReason, IsOwnLong, IsOwnBinary, AsksAll}

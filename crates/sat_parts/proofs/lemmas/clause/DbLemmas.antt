@@ -1,0 +1,341 @@
+-- What adding, deleting and moving clauses leaves of the list of clauses.
+use Rattle.std.proofs.Common.{ℕ, ◌≡◌, ◌≢◌, ◌+◌, ◌-◌, ◌^◌, ◌<◌, inl, inr, min, List, [], ◌∷◌, ◌++◌, length, get_or, set, take, refl, sym, ap, ◌∙◌, subst, arith, length-set, get_or-set_same, get_or-set_other, Bool, true, false, not, ◌&&◌, ◌==◌, cond}
+use Rattle.std.proofs.lemmas.Bool.{cases_eq, ne_eqb, eq-eqb, cond-true, cond-false}
+use Rattle.std.proofs.lemmas.List.{take_all, length_push}
+use Rattle.std.proofs.lemmas.List.Sums.{sum_by_push, count_by-le-length}
+use Rattle.std.proofs.lemmas.List.Elements.{filter-append, filter_passes, All-contains}
+use Rattle.std.specs.List.{Contains, sum_by, count_by}
+use Rattle.sat_store.specs.clause.Buffer.{IsClause, Laid, Keeps, Adds, ChangesAt, header_at, lits_at}
+use Rattle.sat_store.specs.clause.Header.{Header, index_of}
+use Rattle.sat_store.specs.declared.clause.tier.Tier.{Tier}
+use Rattle.sat_store.specs.declared.clause.tier.Tier.TheVariants.{Irred, Core, Mid, Local}
+use Rattle.sat_store.proofs.lemmas.clause.Laying.{same_count, clause_within, kept_below}
+use Rattle.sat_parts.specs.clause.Db.{Db, is_live, live_refs, is_live_of, garbage_of, AreRising, HoldsDb, one_more, one_less, AddsClause, PutsHeader, DeletesClause, MovesClause}
+use Rattle.sat_parts.proofs.lemmas.prop.BuildLemmas.{live_in, live_same}
+use Rattle.sat_parts.proofs.lemmas.clause.ListLemmas.{rising_push, sum_same, sum_changed, count_less, counted_some, filter_without, filter_same}
+
+and_false : (a : Bool) → (a && false) ≡ false
+and_false true = refl
+and_false false = refl
+
+and_true : (a : Bool) → (a && true) ≡ a
+and_true true = refl
+and_true false = refl
+
+-- tiers of one number are one
+pub same_tier : (a b : Tier) → index_of a ≡ index_of b → a ≡ b
+same_tier Irred Irred e = refl
+same_tier Irred Core e = absurd (omega arith)
+same_tier Irred Mid e = absurd (omega arith)
+same_tier Irred Local e = absurd (omega arith)
+same_tier Core Irred e = absurd (omega arith)
+same_tier Core Core e = refl
+same_tier Core Mid e = absurd (omega arith)
+same_tier Core Local e = absurd (omega arith)
+same_tier Mid Irred e = absurd (omega arith)
+same_tier Mid Core e = absurd (omega arith)
+same_tier Mid Mid e = refl
+same_tier Mid Local e = absurd (omega arith)
+same_tier Local Irred e = absurd (omega arith)
+same_tier Local Core e = absurd (omega arith)
+same_tier Local Mid e = absurd (omega arith)
+same_tier Local Local e = refl
+
+-- what passes is live
+pub live_is : (words refs : List ℕ) (o : ℕ) → Contains (live_refs words refs) o → is_live words o ≡ true
+live_is words refs o h = All-contains (λ x. is_live words x ≡ true) (live_refs words refs) o (filter_passes (is_live words) refs) h
+
+-- a header of the same length, as `set_header` writes it
+pub puts_header : (words words' refs : List ℕ) (o : ℕ) (h : Header) → Laid words refs → Contains refs o → h.len ≡ (header_at words o).len →
+    header_at words' o ≡ h → lits_at words' o ≡ take h.len (lits_at words o) → ChangesAt words words' o → PutsHeader words words' refs o h
+puts_header words words' refs o h laid has len header lits change = record {
+  size = change.size;
+  laid = change.laid refs has laid;
+  header_there = header;
+  lits_there = lits ∙ take_all h.len (lits_at words o) (omega (arith, same_count words o (laid.clauses o has)));
+  others = λ p c n. change.others p (laid.clauses p c) (laid.apart o p has c (λ e. n (sym e)));
+}
+
+-- whether a clause is counted as one of a tier, where its header is known
+counted_live : (words : List ℕ) (t : Tier) (o : ℕ) (tier : Tier) → is_live words o ≡ true → (header_at words o).tier ≡ tier → is_live_of words t o ≡ (index_of tier == index_of t)
+counted_live words t o tier live is = ap (λ b. b && (index_of (header_at words o).tier == index_of t)) live ∙ ap (λ x. index_of x == index_of t) is
+
+counted_dead : (words : List ℕ) (t : Tier) (o : ℕ) → is_live words o ≡ false → is_live_of words t o ≡ false
+counted_dead words t o dead = ap (λ b. b && (index_of (header_at words o).tier == index_of t)) dead
+
+abbrev one : Bool → ℕ
+one b = cond b 1 0
+
+-- the clauses of the list that are kept are counted as before
+kept_counted : (words words' : List ℕ) (t : Tier) (p : ℕ) → header_at words' p ≡ header_at words p → is_live_of words' t p ≡ is_live_of words t p
+kept_counted words words' t p e = ap (λ (h : Header). not h.deleted && (index_of h.tier == index_of t)) e
+
+kept_garbage : (words words' : List ℕ) (p : ℕ) → Keeps words words' p → garbage_of words' p ≡ garbage_of words p
+kept_garbage words words' p k =
+    ap (λ (h : Header). cond (not h.deleted) 0 (length (lits_at words' p) + 3)) k.header ∙ ap (λ (ls : List ℕ). cond (is_live words p) 0 (length ls + 3)) k.lits
+
+-- the numbers by tier where one clause of the list changes
+counts_changed : (words words' refs : List ℕ) (o : ℕ) (h : Header) (t : Tier) → AreRising refs → Contains refs o → PutsHeader words words' refs o h →
+    count_by (is_live_of words' t) refs + one (is_live_of words t o) ≡ count_by (is_live_of words t) refs + one (is_live_of words' t o)
+counts_changed words words' refs o h t rising has put =
+    sum_changed (λ p. one (is_live_of words t p)) (λ p. one (is_live_of words' t p)) refs o rising has
+    (λ p c n. ap (λ b. one b) (kept_counted words words' t p (put.others p c n).header))
+
+garbage_changed : (words words' refs : List ℕ) (o : ℕ) (h : Header) → AreRising refs → Contains refs o → PutsHeader words words' refs o h →
+    sum_by (garbage_of words') refs + garbage_of words o ≡ sum_by (garbage_of words) refs + garbage_of words' o
+garbage_changed words words' refs o h rising has put =
+    sum_changed (garbage_of words) (garbage_of words') refs o rising has (λ p c n. kept_garbage words words' p (put.others p c n))
+
+-- a number by tier that one is taken from isn't 0
+pub counted_one : (words : List ℕ) (db : Db) (o : ℕ) → HoldsDb words db → Contains (live_refs words db.refs) o → 0 < get_or db.counts (index_of (header_at words o).tier) 0
+counted_one words db o h c = elim (cases_eq (get_or db.counts (index_of (header_at words o).tier) 0) 0) [
+  | inl e ↦
+      let tier : Tier = (header_at words o).tier in
+      let yes : is_live_of words (header_at words o).tier o ≡ true = counted_live words tier o tier (live_is words db.refs o c) refl ∙ eq-eqb (index_of tier) (index_of tier) refl in
+      let some : 0 < count_by (is_live_of words (header_at words o).tier) db.refs = counted_some (is_live_of words (header_at words o).tier) db.refs o (live_in words db.refs o c) yes in
+      absurd (omega (arith, h.counts (header_at words o).tier))
+  | inr n ↦ omega arith
+]
+
+index_small : (t : Tier) → index_of t < 4
+index_small Irred = omega arith
+index_small Core = omega arith
+index_small Mid = omega arith
+index_small Local = omega arith
+
+-- the numbers with one of them set, where it is read and elsewhere
+set_there : (counts : List ℕ) (a b : Tier) (x : ℕ) → length counts ≡ 4 → index_of a ≡ index_of b → get_or (set counts (index_of a) x) (index_of b) 0 ≡ x
+set_there counts a b x n e = ap (λ k. get_or (set counts (index_of a) x) k 0) (sym e) ∙ get_or-set_same counts (index_of a) x 0 (omega (arith, index_small a))
+
+set_elsewhere : (counts : List ℕ) (a b : Tier) (x : ℕ) → index_of a ≢ index_of b → get_or (set counts (index_of a) x) (index_of b) 0 ≡ get_or counts (index_of b) 0
+set_elsewhere counts a b x n = get_or-set_other counts (index_of a) (index_of b) x 0 (λ e. n (sym e))
+
+held_more : (sum x limit : ℕ) → min (min sum limit + x) limit ≡ min (sum + x) limit
+held_more sum x limit = grind arith
+
+-- the numbers once the clause at o isn't live any more
+abbrev pub after_delete : List ℕ → ℕ → Db → Db
+after_delete words o db = record db {
+  counts = one_less (header_at words o).tier db.counts;
+  garbage = min (db.garbage + (length (lits_at words o) + 3)) (2 ^ 64 - 1);
+}
+
+pub deletes : (words : List ℕ) (db : Db) (words' : List ℕ) (o : ℕ) → HoldsDb words db → Contains (live_refs words db.refs) o →
+    PutsHeader words words' db.refs o (record (header_at words o) { deleted = true }) → DeletesClause words db words' (after_delete words o db) o
+deletes words db words' o h c put =
+    let tier : Tier = (header_at words o).tier in
+    let has : Contains db.refs o = live_in words db.refs o c in
+    let live : is_live words o ≡ true = live_is words db.refs o c in
+    let dead : is_live words' o ≡ false = ap (λ (x : Header). not x.deleted) put.header_there in
+    record {
+      put = put;
+      holds = record {
+        laid = put.laid;
+        rising = h.rising;
+        tiers = length-set db.counts (index_of tier) (get_or db.counts (index_of tier) 0 - 1) ∙ h.tiers;
+        counts = λ t.
+            let q : count_by (is_live_of words' t) db.refs + one (is_live_of words t o) ≡ count_by (is_live_of words t) db.refs + one (is_live_of words' t o) =
+            counts_changed words words' db.refs o (record (header_at words o) { deleted = true }) t h.rising has put in
+            let gone : one (is_live_of words' t o) ≡ 0 = ap (λ b. one b) (counted_dead words' t o dead) in
+            elim (cases_eq (index_of tier) (index_of t)) [
+              | inl e ↦
+                  let yes : one (is_live_of words t o) ≡ 1 = ap (λ b. one b) (counted_live words t o tier live refl ∙ eq-eqb (index_of tier) (index_of t) e) in
+                  let same : get_or db.counts (index_of tier) 0 ≡ get_or db.counts (index_of t) 0 = ap (λ k. get_or db.counts k 0) e in
+                  omega (arith, set_there db.counts tier t (get_or db.counts (index_of tier) 0 - 1) h.tiers e, h.counts t, q, gone, yes, same)
+              | inr n ↦
+                  let no : one (is_live_of words t o) ≡ 0 = ap (λ b. one b) (counted_live words t o tier live refl ∙ ne_eqb (index_of tier) (index_of t) n) in
+                  omega (arith, set_elsewhere db.counts tier t (get_or db.counts (index_of tier) 0 - 1) n, h.counts t, q, gone, no)
+            ];
+        garbage =
+            let q : sum_by (garbage_of words') db.refs + garbage_of words o ≡ sum_by (garbage_of words) db.refs + garbage_of words' o =
+            garbage_changed words words' db.refs o (record (header_at words o) { deleted = true }) h.rising has put in
+            let before : garbage_of words o ≡ 0 = cond-true (is_live words o) 0 (length (lits_at words o) + 3) live in
+            let now : garbage_of words' o ≡ length (lits_at words o) + 3 = cond-false (is_live words' o) 0 (length (lits_at words' o) + 3) dead ∙ ap (λ (ls : List ℕ). length ls + 3) put.lits_there in
+            let whole : sum_by (garbage_of words) db.refs + (length (lits_at words o) + 3) ≡ sum_by (garbage_of words') db.refs = omega arith in
+            ap (λ x. min (x + (length (lits_at words o) + 3)) (2 ^ 64 - 1)) h.garbage
+            ∙ held_more (sum_by (garbage_of words) db.refs) (length (lits_at words o) + 3) (2 ^ 64 - 1)
+            ∙ ap (λ x. min x (2 ^ 64 - 1)) whole;
+        few = h.few;
+      };
+      refs = refl;
+      live = filter_without (is_live words) (is_live words') o db.refs (λ x d. elim (cases_eq x o) [
+        | inl e ↦ ap (λ z. is_live words' z) e ∙ dead ∙ sym (and_false (is_live words x)) ∙ ap (λ b. is_live words x && not b) (sym (eq-eqb x o e))
+        | inr n ↦
+            ap (λ (y : Header). not y.deleted) (put.others x d n).header ∙ sym (and_true (is_live words x)) ∙ ap (λ b. is_live words x && not b) (sym (ne_eqb x o n))
+      ]);
+    }
+
+-- the numbers once the clause at o is of another tier
+abbrev pub after_move : List ℕ → ℕ → Tier → Db → Db
+after_move words o tier db = record db { counts = one_more tier (one_less (header_at words o).tier db.counts) }
+
+-- a header that is as deleted as before leaves the live clauses as they are
+pub live_put : (words words' refs : List ℕ) (o : ℕ) (h : Header) → h.deleted ≡ (header_at words o).deleted → PutsHeader words words' refs o h → live_refs words' refs ≡ live_refs words refs
+live_put words words' refs o h e put = filter_same (is_live words) (is_live words') refs (λ x d. elim (cases_eq x o) [
+  | inl q ↦ ap (λ z. is_live words' z) q ∙ ap (λ (y : Header). not y.deleted) put.header_there ∙ ap (λ b. not b) e ∙ ap (λ z. is_live words z) (sym q)
+  | inr n ↦ ap (λ (y : Header). not y.deleted) (put.others x d n).header
+])
+
+garbage_put : (words words' refs : List ℕ) (o : ℕ) (h : Header) → AreRising refs → Contains refs o → is_live words o ≡ true → is_live words' o ≡ true → PutsHeader words words' refs o h →
+    sum_by (garbage_of words') refs ≡ sum_by (garbage_of words) refs
+garbage_put words words' refs o h rising has live live' put =
+    let q : sum_by (garbage_of words') refs + garbage_of words o ≡ sum_by (garbage_of words) refs + garbage_of words' o = garbage_changed words words' refs o h rising has put in
+    let before : garbage_of words o ≡ 0 = cond-true (is_live words o) 0 (length (lits_at words o) + 3) live in
+    let now : garbage_of words' o ≡ 0 = cond-true (is_live words' o) 0 (length (lits_at words' o) + 3) live' in
+    omega arith
+
+pub moves : (words : List ℕ) (db : Db) (words' : List ℕ) (o : ℕ) (tier : Tier) → HoldsDb words db → Contains (live_refs words db.refs) o → index_of (header_at words o).tier ≢ index_of tier →
+    PutsHeader words words' db.refs o (record (header_at words o) { tier = tier }) → MovesClause words db words' (after_move words o tier db) o tier
+moves words db words' o tier h c differ put =
+    let old : Tier = (header_at words o).tier in
+    let has : Contains db.refs o = live_in words db.refs o c in
+    let live : is_live words o ≡ true = live_is words db.refs o c in
+    let live' : is_live words' o ≡ true = ap (λ (x : Header). not x.deleted) put.header_there ∙ live in
+    let less : List ℕ = one_less old db.counts in
+    let size : length (one_less old db.counts) ≡ 4 = length-set db.counts (index_of old) (get_or db.counts (index_of old) 0 - 1) ∙ h.tiers in
+    record {
+      put = put;
+      holds = record {
+        laid = put.laid;
+        rising = h.rising;
+        tiers = length-set less (index_of tier) (get_or less (index_of tier) 0 + 1) ∙ size;
+        counts = λ t.
+            let q : count_by (is_live_of words' t) db.refs + one (is_live_of words t o) ≡ count_by (is_live_of words t) db.refs + one (is_live_of words' t o) =
+            counts_changed words words' db.refs o (record (header_at words o) { tier = tier }) t h.rising has put in
+            let was : is_live_of words t o ≡ (index_of old == index_of t) = counted_live words t o old live refl in
+            let is : is_live_of words' t o ≡ (index_of tier == index_of t) = counted_live words' t o tier live' (ap (λ (x : Header). x.tier) put.header_there) in
+            elim (cases_eq (index_of tier) (index_of t)) [
+              | inl e ↦
+                  let n : index_of old ≢ index_of t = λ f. differ (f ∙ sym e) in
+                  let no : one (is_live_of words t o) ≡ 0 = ap (λ b. one b) (was ∙ ne_eqb (index_of old) (index_of t) n) in
+                  let yes : one (is_live_of words' t o) ≡ 1 = ap (λ b. one b) (is ∙ eq-eqb (index_of tier) (index_of t) e) in
+                  let same : get_or less (index_of tier) 0 ≡ get_or less (index_of t) 0 = ap (λ k. get_or less k 0) e in
+                  let kept : get_or less (index_of t) 0 ≡ get_or db.counts (index_of t) 0 = set_elsewhere db.counts old t (get_or db.counts (index_of old) 0 - 1) n in
+                  omega (arith, set_there less tier t (get_or less (index_of tier) 0 + 1) size e, h.counts t, q, no, yes, same, kept)
+              | inr m ↦
+                  let none : one (is_live_of words' t o) ≡ 0 = ap (λ b. one b) (is ∙ ne_eqb (index_of tier) (index_of t) m) in
+                  let there : get_or (set less (index_of tier) (get_or less (index_of tier) 0 + 1)) (index_of t) 0 ≡ get_or less (index_of t) 0 = set_elsewhere less tier t (get_or less (index_of tier) 0 + 1) m in
+                  elim (cases_eq (index_of old) (index_of t)) [
+                    | inl e ↦
+                        let yes : one (is_live_of words t o) ≡ 1 = ap (λ b. one b) (was ∙ eq-eqb (index_of old) (index_of t) e) in
+                        let same : get_or db.counts (index_of old) 0 ≡ get_or db.counts (index_of t) 0 = ap (λ k. get_or db.counts k 0) e in
+                        let taken : get_or less (index_of t) 0 ≡ get_or db.counts (index_of old) 0 - 1 = set_there db.counts old t (get_or db.counts (index_of old) 0 - 1) h.tiers e in
+                        omega (arith, there, taken, h.counts t, q, yes, none, same)
+                    | inr n ↦
+                        let no : one (is_live_of words t o) ≡ 0 = ap (λ b. one b) (was ∙ ne_eqb (index_of old) (index_of t) n) in
+                        let kept : get_or less (index_of t) 0 ≡ get_or db.counts (index_of t) 0 = set_elsewhere db.counts old t (get_or db.counts (index_of old) 0 - 1) n in
+                        omega (arith, there, kept, h.counts t, q, no, none)
+                  ]
+            ];
+        garbage = h.garbage ∙ ap (λ x. min x (2 ^ 64 - 1)) (sym (garbage_put words words' db.refs o (record (header_at words o) { tier = tier }) h.rising has live live' put));
+        few = h.few;
+      };
+      refs = refl;
+      live = live_put words words' db.refs o (record (header_at words o) { tier = tier }) refl put;
+    }
+
+-- the list and the numbers once a clause was added
+abbrev pub after_add : ℕ → Tier → Db → Db
+after_add o tier db = record db { refs = db.refs ++ o ∷ []; counts = one_more tier db.counts }
+
+-- the clauses of the list are kept by an addition
+added_keeps : (words words' : List ℕ) (db : Db) (o : ℕ) (header : Header) (lits : List ℕ) → HoldsDb words db → Adds words words' o header lits → (p : ℕ) → Contains db.refs p → Keeps words words' p
+added_keeps words words' db o header lits h added p c = kept_below words words' db.refs o p header lits h.laid c added
+
+pub adds : (words : List ℕ) (db : Db) (words' : List ℕ) (o : ℕ) (header : Header) (lits : List ℕ) → HoldsDb words db → header.deleted ≡ false → length (db.refs ++ o ∷ []) < 2 ^ 64 →
+    Adds words words' o header lits → AddsClause words db words' (after_add o header.tier db) o header lits
+adds words db words' o header lits h new few added =
+    let tier : Tier = header.tier in
+    let keeps : (p : ℕ) → Contains db.refs p → Keeps words words' p = added_keeps words words' db o header lits h added in
+    let live : is_live words' o ≡ true = ap (λ (x : Header). not x.deleted) added.header_there ∙ ap (λ b. not b) new in
+    record {
+      added = added;
+      holds = record {
+        laid = added.laid db.refs h.laid;
+        rising = rising_push db.refs o h.rising (λ p c. omega (arith, clause_within words p (h.laid.clauses p c), added.place));
+        tiers = length-set db.counts (index_of tier) (get_or db.counts (index_of tier) 0 + 1) ∙ h.tiers;
+        counts = λ t.
+            let q : count_by (is_live_of words' t) (db.refs ++ o ∷ []) ≡ count_by (is_live_of words' t) db.refs + one (is_live_of words' t o) = sum_by_push (λ p. one (is_live_of words' t p)) db.refs o in
+            let same : count_by (is_live_of words' t) db.refs ≡ count_by (is_live_of words t) db.refs =
+            sum_same (λ p. one (is_live_of words t p)) (λ p. one (is_live_of words' t p)) db.refs (λ p c. ap (λ b. one b) (kept_counted words words' t p (keeps p c).header)) in
+            let is : is_live_of words' t o ≡ (index_of tier == index_of t) = counted_live words' t o tier live (ap (λ (x : Header). x.tier) added.header_there) in
+            elim (cases_eq (index_of tier) (index_of t)) [
+              | inl e ↦
+                  let yes : one (is_live_of words' t o) ≡ 1 = ap (λ b. one b) (is ∙ eq-eqb (index_of tier) (index_of t) e) in
+                  let there : get_or db.counts (index_of tier) 0 ≡ get_or db.counts (index_of t) 0 = ap (λ k. get_or db.counts k 0) e in
+                  omega (arith, set_there db.counts tier t (get_or db.counts (index_of tier) 0 + 1) h.tiers e, h.counts t, q, same, yes, there)
+              | inr n ↦
+                  let no : one (is_live_of words' t o) ≡ 0 = ap (λ b. one b) (is ∙ ne_eqb (index_of tier) (index_of t) n) in
+                  omega (arith, set_elsewhere db.counts tier t (get_or db.counts (index_of tier) 0 + 1) n, h.counts t, q, same, no)
+            ];
+        garbage =
+            let none : garbage_of words' o ≡ 0 = cond-true (is_live words' o) 0 (length (lits_at words' o) + 3) live in
+            let same : sum_by (garbage_of words') db.refs ≡ sum_by (garbage_of words) db.refs = sum_same (garbage_of words) (garbage_of words') db.refs (λ p c. kept_garbage words words' p (keeps p c)) in
+            let whole : sum_by (garbage_of words) db.refs ≡ sum_by (garbage_of words') (db.refs ++ o ∷ []) = omega (arith, sum_by_push (garbage_of words') db.refs o) in
+            h.garbage ∙ ap (λ x. min x (2 ^ 64 - 1)) whole;
+        few = few;
+      };
+      refs = refl;
+      live = filter-append (is_live words') db.refs (o ∷ [])
+          ∙ ap (λ (xs : List ℕ). xs ++ live_refs words' (o ∷ [])) (live_same words words' db.refs (λ p c. (keeps p c).header))
+          ∙ ap (λ (xs : List ℕ). live_refs words db.refs ++ xs) (cond-true (is_live words' o) (o ∷ []) [] live);
+    }
+
+-- the clause at a live place, and what its tier is counted with
+pub live_clause : (words : List ℕ) (db : Db) (o : ℕ) → HoldsDb words db → Contains (live_refs words db.refs) o → IsClause words o
+live_clause words db o h c = h.laid.clauses o (live_in words db.refs o c)
+
+-- a tier that a live clause isn't of has room for one more
+pub room_in_tier : (words : List ℕ) (db : Db) (o : ℕ) (tier : Tier) → HoldsDb words db → Contains (live_refs words db.refs) o → index_of (header_at words o).tier ≢ index_of tier →
+    get_or (one_less (header_at words o).tier db.counts) (index_of tier) 0 + 1 < 2 ^ 64
+room_in_tier words db o tier h c differ =
+    let old : Tier = (header_at words o).tier in
+    let no : is_live_of words tier o ≡ false = counted_live words tier o old (live_is words db.refs o c) refl ∙ ne_eqb (index_of old) (index_of tier) differ in
+    let less : count_by (is_live_of words tier) db.refs < length db.refs = count_less (is_live_of words tier) db.refs o (live_in words db.refs o c) no in
+    omega (arith, set_elsewhere db.counts old tier (get_or db.counts (index_of old) 0 - 1) differ, h.counts tier, less, h.few)
+
+-- and each tier has, where the list has
+pub room_to_add : (words : List ℕ) (db : Db) (o : ℕ) (tier : Tier) → HoldsDb words db → length (db.refs ++ o ∷ []) < 2 ^ 64 → get_or db.counts (index_of tier) 0 + 1 < 2 ^ 64
+room_to_add words db o tier h few = omega (arith, h.counts tier, count_by-le-length (is_live_of words tier) db.refs, length_push db.refs o)
+
+puts_same : (words refs : List ℕ) (o : ℕ) (h : Header) → Laid words refs → Contains refs o → h ≡ header_at words o → PutsHeader words words refs o h
+puts_same words refs o h laid has e = record {
+  size = refl;
+  laid = laid;
+  header_there = sym e;
+  lits_there = refl;
+  others = λ p c n. record { clause = laid.clauses p c; header = refl; lits = refl };
+}
+
+-- a clause that is of the tier already
+pub moves_none : (words : List ℕ) (db : Db) (o : ℕ) (tier : Tier) → HoldsDb words db → Contains (live_refs words db.refs) o → index_of (header_at words o).tier ≡ index_of tier →
+    MovesClause words db words db o tier
+moves_none words db o tier h c e = record {
+  put = puts_same words db.refs o (record (header_at words o) { tier = tier }) h.laid (live_in words db.refs o c)
+      (ap (λ (t : Tier). record (header_at words o) { tier = t }) (sym (same_tier (header_at words o).tier tier e)));
+  holds = h;
+  refs = refl;
+  live = refl;
+}
+
+-- the same with the length that the header says
+pub deleted_by : (words : List ℕ) (db : Db) (words' : List ℕ) (o : ℕ) → HoldsDb words db → Contains (live_refs words db.refs) o →
+    PutsHeader words words' db.refs o (record (header_at words o) { deleted = true }) →
+    DeletesClause words db words'
+    (record db { counts = one_less (header_at words o).tier db.counts; garbage = min (db.garbage + ((header_at words o).len + 3)) (2 ^ 64 - 1) }) o
+deleted_by words db words' o h c put =
+    subst (λ (n : ℕ). DeletesClause words db words' (record db { counts = one_less (header_at words o).tier db.counts; garbage = min (db.garbage + (n + 3)) (2 ^ 64 - 1) }) o)
+    (same_count words o (live_clause words db o h c)) (deletes words db words' o h c put)
+
+-- the same for an addition, in the words of the call
+pub added_by : (words : List ℕ) (db db' inside : Db) (words' items : List ℕ) (tier : Tier) (o : ℕ) (header : Header) (lits : List ℕ) → inside ≡ db →
+    db' ≡ record inside { refs = items; counts = one_more tier inside.counts } → items ≡ inside.refs ++ o ∷ [] → tier ≡ header.tier →
+    HoldsDb words db → header.deleted ≡ false → length items < 2 ^ 64 → Adds words words' o header lits → AddsClause words db words' db' o header lits
+added_by words db db' inside words' items tier o header lits same is items_is tier_is h new few added =
+    let refs_is : items ≡ db.refs ++ o ∷ [] = items_is ∙ ap (λ (d : Db). d.refs ++ o ∷ []) same in
+    let whole : db' ≡ after_add o header.tier db =
+    is ∙ ap (λ (d : Db). record d { refs = items; counts = one_more tier d.counts }) same
+    ∙ ap (λ (xs : List ℕ). record db { refs = xs; counts = one_more tier db.counts }) refs_is
+    ∙ ap (λ (t : Tier). record db { refs = db.refs ++ o ∷ []; counts = one_more t db.counts }) tier_is in
+    subst (λ (d : Db). AddsClause words db words' d o header lits) (sym whole)
+    (adds words db words' o header lits h new (subst (λ (xs : List ℕ). length xs < 2 ^ 64) refs_is few) added)
