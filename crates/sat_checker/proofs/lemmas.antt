@@ -7,3 +7,4 @@ pub mod variables
 pub mod rows
 pub mod formula
 pub mod state
+pub mod announcements

@@ -10,3 +10,4 @@ pub mod inner
 pub mod HasherView
 pub mod Laws
 pub mod Rows
+pub mod announcements

@@ -6,6 +6,7 @@ pub(crate) mod clauses;
 pub(crate) mod formula;
 pub mod hash;
 pub(crate) mod index;
+pub mod law_announcements;
 pub mod laws;
 pub mod looks;
 pub mod rup;

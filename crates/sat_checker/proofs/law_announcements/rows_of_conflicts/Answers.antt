@@ -1,0 +1,5 @@
+use Rattle.sat_checker.proofs.lemmas.announcements.Told.{contradiction, conflict_and_unit}
+use Rattle.sat_checker.proofs.law_announcements.rows_of_conflicts.Goals as goal
+
+pub returns : goal.returns
+returns c = record { contradiction = contradiction; unit_behind = conflict_and_unit }

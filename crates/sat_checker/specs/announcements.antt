@@ -1,0 +1,4 @@
+pub mod Needed
+pub mod Announcements
+pub mod Transcripts
+pub mod Rows

@@ -1,0 +1,63 @@
+-- Which stored units and clauses a clause that passed the propagation check rests on.
+use Rattle.std.specs.Prelude.{ℕ, ◌==◌, not, ◌&&◌, List, [], ◌∷◌, ◌++◌, map, filter, Option, None, Some, if◌then◌else◌}
+use Rattle.sat_base.specs.values.Literals.{negated}
+use Rattle.sat_checker.specs.LiteralSets.{is_among, is_tautology, canonical}
+use Rattle.sat_checker.specs.Stored.{StoredClause, StoredUnit, Stored, unit_literals, hash_by}
+use Rattle.sat_checker.specs.Storing.{unit_id}
+use Rattle.sat_checker.specs.inner.Walk.{Verdict, falsified, opens, rests, verdict}
+
+-- What a conflict rests on, followed backwards: true literals, and the clauses needed, in the order passed, the falsified one last.
+pub record Ground : Type 0 where
+  pub literals : List ℕ
+  pub clauses : List StoredClause
+
+-- the negations of the clause's literals other than this one
+abbrev pub others_denied : ℕ → List ℕ → List ℕ
+others_denied l clause = map negated (filter (λ m. not (m == l)) clause)
+
+-- A clause that made a literal true is needed where the literal is; then the negations of its other literals are.
+abbrev pub with_reason : ℕ → StoredClause → Ground → Ground
+with_reason l c g =
+    if is_among g.literals l then record { literals = others_denied l c.literals ++ g.literals; clauses = c ∷ g.clauses } else g
+
+-- by what a clause says: falsified, it is the conflict; unit, its open literal is true for the clauses behind it
+abbrev pub ground_by : Verdict → StoredClause → List ℕ → (List ℕ → Ground) → Ground
+ground_by falsified c assumed behind = record { literals = map negated c.literals; clauses = c ∷ [] }
+ground_by (opens l) c assumed behind = with_reason l c (behind (l ∷ assumed))
+ground_by rests c assumed behind = behind assumed
+
+-- what the first conflict of these clauses rests on, each that is unit in its turn being passed
+abbrev pub ground : List ℕ → List StoredClause → Ground
+ground assumed [] = record { literals = []; clauses = [] }
+ground assumed (c ∷ cs) = ground_by (verdict assumed c.literals) c assumed (λ more. ground more cs)
+
+-- the stored clauses of the named buckets, in the order named and by id in each
+abbrev pub named_by : List ℕ → Stored → List StoredClause
+named_by [] f = []
+named_by (hash ∷ hashes) f = filter (λ c. hash_by f.solver_names f.width c.literals == hash) f.clauses ++ named_by hashes f
+
+-- the units needed, by increasing id: not those that the negated clause holds
+abbrev pub needed_units : List ℕ → Ground → List StoredUnit → List StoredUnit
+needed_units denied g = filter (λ u. is_among g.literals u.literal && not (is_among denied u.literal))
+
+abbrev pub conflict_ids : List ℕ → Ground → List StoredUnit → List ℕ
+conflict_ids denied g units = map (λ u. u.id) (needed_units denied g units) ++ map (λ c. c.id) g.clauses
+
+abbrev pub or_else : {A : Type 0} → Option A → Option A → Option A
+or_else None y = y
+or_else (Some x) y = Some x
+
+-- the id of the stored unit that is true in the clause, that of the first literal where several are
+abbrev pub true_unit : List ℕ → List StoredUnit → Option ℕ
+true_unit [] units = None
+true_unit (l ∷ ls) units = or_else (unit_id l units) (true_unit ls units)
+
+abbrev pub unit_alone : Option ℕ → List ℕ → List ℕ
+unit_alone (Some id) ids = id ∷ []
+unit_alone None ids = ids
+
+-- The ids that a clause rests on which passed the check under the hashes: none where it has both signs of a variable; the unit that is true in it, of the lowest literal; or the units needed, by increasing id, and then the clauses needed, in the order passed, the falsified one last.
+abbrev pub propagations : Stored → List ℕ → List ℕ → List ℕ
+propagations f clause hashes =
+    let denied : List ℕ = map negated clause in
+    if is_tautology clause then [] else unit_alone (true_unit (canonical clause) f.units) (conflict_ids denied (ground (denied ++ unit_literals f) (named_by hashes f)) f.units)

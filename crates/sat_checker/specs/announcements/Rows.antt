@@ -1,0 +1,240 @@
+-- Worked rows: what accepted steps announce, in the order of a certificate, and the transcript of it.
+use Rattle.std.specs.Prelude.{◌≡◌, true, false, Some, None, List, [], ◌∷◌, ◌++◌, map}
+use Rattle.sat_base.specs.values.Hashes.{hash_of}
+use Rattle.sat_base.specs.steps.Steps.{Step, Redundant, Simplified, Satisfied, SolverVarName, UserVarName, DeleteVar, ChangeSamplingMode, UnitClauses, ChangeHashBits, End}
+use Rattle.sat_base.specs.steps.Steps as steps
+use Rattle.sat_checker.specs.Rows.{behind, four_clauses, refuted, named_twice, colliding, conflict_and_unit, AllAccepted}
+use Rattle.sat_checker.specs.announcements.Announcements.{Announcement, UserVar, AddClause, DuplicatedClause, TautologicalClause, AtClause, MakeIrredundant, DeleteClause, DeleteAtClause, Model, Assumptions, FailedAssumptions, Told, told_after, all_told_after}
+use Rattle.sat_checker.specs.announcements.Transcripts.{Transcribed, transcripts}
+use Rattle.sat_checker.specs.announcements.Transcripts as transcript
+
+abbrev pub announcements_of : List Told → List Announcement
+announcements_of = map (λ t. t.announcement)
+
+-- by the end of these steps
+abbrev pub told_by : List Step → List Announcement
+told_by ss = announcements_of (told_after (behind ss []))
+
+-- and once delayed ones were announced
+abbrev pub all_told_by : List Step → List Announcement
+all_told_by ss = announcements_of (all_told_after (behind ss []))
+
+abbrev pub transcribed_by : List Step → List Transcribed
+transcribed_by ss = transcripts (all_told_after (behind ss []))
+
+-- what the last step announces, if it and those before it are accepted
+abbrev pub LastTells : List Step → Step → List Announcement → Type 0
+LastTells before last told = AllAccepted (before ++ last ∷ []) × (told_by (before ++ last ∷ []) ≡ told_by before ++ told)
+
+-- and what the transcript says of it
+abbrev pub LastReads : List Step → Step → List Transcribed → Type 0
+LastReads before last read = AllAccepted (before ++ last ∷ []) × (transcripts (told_after (behind (before ++ last ∷ []) [])) ≡ transcripts (told_after (behind before [])) ++ read)
+
+-- [1, 2], [1, -2], [-1, 2], [-1, -2]
+abbrev pub four_told : List Announcement
+four_told = AddClause 0 (0 ∷ 2 ∷ []) ∷ AddClause 1 (0 ∷ 3 ∷ []) ∷ AddClause 2 (1 ∷ 2 ∷ []) ∷ AddClause 3 (1 ∷ 3 ∷ []) ∷ []
+
+-- [1] rests on the first two, the empty clause on [1] and the last two
+abbrev pub RefutedTold : Type 0
+RefutedTold = told_by refuted ≡ four_told ++ AtClause 4 false (0 ∷ []) (0 ∷ 1 ∷ []) ∷ AtClause 5 false [] (4 ∷ 2 ∷ 3 ∷ []) ∷ []
+
+abbrev pub RefutedAtZeroTold : Type 0
+RefutedAtZeroTold = told_by (four_clauses ++ ChangeHashBits 0 ∷ steps.AtClause false (0 ∷ []) (0 ∷ []) ∷ steps.AtClause false [] (0 ∷ []) ∷ [])
+    ≡ four_told ++ AtClause 4 false (0 ∷ []) (0 ∷ 1 ∷ []) ∷ AtClause 5 false [] (4 ∷ 2 ∷ 3 ∷ []) ∷ []
+
+-- the one bucket is passed twice: [1, 2], then [-2, -4], then [-2, 3, 4] is falsified
+abbrev pub NamedTwiceTold : Type 0
+NamedTwiceTold = told_by named_twice
+    ≡ AddClause 0 (3 ∷ 4 ∷ 6 ∷ []) ∷ AddClause 1 (0 ∷ 2 ∷ []) ∷ AddClause 2 (3 ∷ 7 ∷ []) ∷ AtClause 3 false (0 ∷ 4 ∷ []) (1 ∷ 2 ∷ 0 ∷ []) ∷ []
+
+-- the four clauses over two names, with units in between; the buckets' other clauses aren't needed
+abbrev pub CollidingTold : Type 0
+CollidingTold = told_by colliding
+    ≡ UserVar 0 (Some (record { name = 0; sampling = true; is_new = true })) ∷ UserVar 1 (Some (record { name = 1; sampling = true; is_new = true })) ∷ four_told
+    ++ Assumptions [] ∷ AtClause 4 false (0 ∷ []) (0 ∷ 1 ∷ []) ∷ AtClause 5 false (2 ∷ []) (4 ∷ 2 ∷ []) ∷ AtClause 6 false [] (4 ∷ 5 ∷ 3 ∷ []) ∷ Assumptions [] ∷ []
+
+-- a name for an unknown variable, and two clauses whose units contradict each other: the empty clause is announced once delayed steps are
+abbrev pub contradicting : List Step
+contradicting = UserVarName 0 (Some 0) ∷ steps.AddClause (0 ∷ []) ∷ steps.AddClause (1 ∷ []) ∷ []
+
+abbrev pub contradiction_told : List Announcement
+contradiction_told = UserVar 0 (Some (record { name = 0; sampling = true; is_new = true })) ∷ AddClause 0 (0 ∷ []) ∷ AddClause 1 (1 ∷ []) ∷ []
+
+abbrev pub empty_told : List Announcement
+empty_told = AtClause 2 false [] (0 ∷ 1 ∷ []) ∷ []
+
+abbrev pub Contradiction : Type 0
+Contradiction = AllAccepted contradicting × (told_by contradicting ≡ contradiction_told) × (all_told_by contradicting ≡ contradiction_told ++ empty_told)
+    × (told_by (contradicting ++ steps.Assumptions [] ∷ []) ≡ contradiction_told ++ empty_told ++ Assumptions [] ∷ [])
+    × (all_told_by (contradicting ++ End ∷ []) ≡ contradiction_told ++ empty_told)
+    × (transcribed_by contradicting ≡ transcript.AddClause (0 ∷ []) ∷ transcript.AddClause (1 ∷ []) ∷ transcript.Unsat ∷ [])
+
+-- [1], [-1, 2] and [-1, -2] in one bucket, then the units -1, -1 and 3 in one step: the empty clause comes behind all of them
+abbrev pub ConflictAndUnitTold : Type 0
+ConflictAndUnitTold = all_told_by conflict_and_unit
+    ≡ AddClause 0 (0 ∷ []) ∷ AddClause 1 (1 ∷ 2 ∷ []) ∷ AddClause 2 (1 ∷ 3 ∷ []) ∷ AtClause 3 false (1 ∷ []) (1 ∷ 2 ∷ []) ∷ AtClause 4 false (1 ∷ []) (1 ∷ 2 ∷ [])
+    ∷ AtClause 5 false (4 ∷ []) (0 ∷ 1 ∷ 2 ∷ []) ∷ AtClause 6 false [] (0 ∷ 3 ∷ []) ∷ []
+
+-- the four ways of [1, 2] as an input clause: new, stored before, also where it was stored as redundant alone, and a tautology; and one more once unsat is recorded
+abbrev pub InputNew : Type 0
+InputNew = LastTells [] (steps.AddClause (2 ∷ 0 ∷ 0 ∷ [])) (AddClause 0 (0 ∷ 2 ∷ []) ∷ [])
+
+abbrev pub InputDuplicate : Type 0
+InputDuplicate = LastTells (steps.AddClause (0 ∷ 2 ∷ []) ∷ []) (steps.AddClause (2 ∷ 0 ∷ 0 ∷ [])) (DuplicatedClause 1 0 (0 ∷ 2 ∷ []) ∷ [])
+
+abbrev pub as_redundant : List Step
+as_redundant = steps.AddClause (0 ∷ []) ∷ steps.AtClause true (0 ∷ 2 ∷ []) [] ∷ []
+
+abbrev pub InputRedundant : Type 0
+InputRedundant = LastTells as_redundant (steps.AddClause (0 ∷ 2 ∷ [])) (DuplicatedClause 2 1 (0 ∷ 2 ∷ []) ∷ [])
+
+abbrev pub InputUnitAgain : Type 0
+InputUnitAgain = LastTells (steps.AddClause (0 ∷ []) ∷ []) (steps.AddClause (0 ∷ 0 ∷ [])) (DuplicatedClause 1 0 (0 ∷ []) ∷ [])
+
+abbrev pub InputTautology : Type 0
+InputTautology = LastTells [] (steps.AddClause (2 ∷ 1 ∷ 0 ∷ [])) (TautologicalClause 0 (0 ∷ 1 ∷ 2 ∷ []) ∷ [])
+
+abbrev pub InputBehindUnsat : Type 0
+InputBehindUnsat = LastTells (steps.AddClause [] ∷ []) (steps.AddClause (0 ∷ 1 ∷ [])) []
+
+-- a derived clause that is new, one that becomes irredundant, and those of which nothing is told: a clause or unit stored before, and a tautology
+abbrev pub DerivedNew : Type 0
+DerivedNew = LastTells (steps.AddClause (0 ∷ []) ∷ []) (steps.AtClause true (2 ∷ 0 ∷ []) []) (AtClause 1 true (0 ∷ 2 ∷ []) (0 ∷ []) ∷ [])
+
+abbrev pub DerivedIrredundant : Type 0
+DerivedIrredundant = LastTells as_redundant (steps.AtClause false (2 ∷ 0 ∷ []) []) (MakeIrredundant 1 (0 ∷ 2 ∷ []) ∷ [])
+
+abbrev pub DerivedRedundantAgain : Type 0
+DerivedRedundantAgain = LastTells as_redundant (steps.AtClause true (2 ∷ 0 ∷ []) []) []
+
+abbrev pub DerivedIrredundantAgain : Type 0
+DerivedIrredundantAgain = LastTells (steps.AddClause (0 ∷ []) ∷ steps.AddClause (0 ∷ 2 ∷ []) ∷ []) (steps.AtClause false (0 ∷ 2 ∷ []) []) []
+
+abbrev pub DerivedUnitAgain : Type 0
+DerivedUnitAgain = LastTells (steps.AddClause (0 ∷ []) ∷ []) (steps.AtClause false (0 ∷ []) []) []
+
+abbrev pub DerivedTautology : Type 0
+DerivedTautology = LastTells [] (steps.AtClause false (0 ∷ 1 ∷ []) []) []
+
+-- a redundant count is taken: the last of all, or one beside an irredundant one
+abbrev pub RedundantGone : Type 0
+RedundantGone = LastTells as_redundant (steps.DeleteClause (2 ∷ 0 ∷ []) Redundant) (DeleteClause 1 (0 ∷ 2 ∷ []) ∷ [])
+
+abbrev pub RedundantStays : Type 0
+RedundantStays = LastTells (as_redundant ++ steps.AtClause false (0 ∷ 2 ∷ []) [] ∷ []) (steps.DeleteClause (0 ∷ 2 ∷ []) Redundant) []
+
+-- an irredundant count is taken: the last one, with or without redundant ones, or one of two
+abbrev pub SatisfiedGone : Type 0
+SatisfiedGone = LastTells (steps.AddClause (2 ∷ []) ∷ steps.AddClause (0 ∷ []) ∷ steps.AddClause (2 ∷ 0 ∷ []) ∷ []) (steps.DeleteClause (2 ∷ 0 ∷ []) Satisfied) (DeleteAtClause 2 false (0 ∷ 2 ∷ []) (1 ∷ []) ∷ [])
+
+abbrev pub SatisfiedKept : Type 0
+SatisfiedKept = LastTells (as_redundant ++ steps.AtClause false (0 ∷ 2 ∷ []) [] ∷ []) (steps.DeleteClause (0 ∷ 2 ∷ []) Satisfied) (DeleteAtClause 1 true (0 ∷ 2 ∷ []) (0 ∷ []) ∷ [])
+
+abbrev pub SimplifiedGone : Type 0
+SimplifiedGone = LastTells (steps.AddClause (0 ∷ 2 ∷ 4 ∷ []) ∷ steps.AddClause (0 ∷ 2 ∷ []) ∷ []) (steps.DeleteClause (4 ∷ 2 ∷ 0 ∷ []) Simplified) (DeleteAtClause 0 false (0 ∷ 2 ∷ 4 ∷ []) (1 ∷ []) ∷ [])
+
+abbrev pub SatisfiedStays : Type 0
+SatisfiedStays = LastTells (steps.AddClause (0 ∷ []) ∷ steps.AddClause (0 ∷ 2 ∷ []) ∷ steps.AddClause (0 ∷ 2 ∷ []) ∷ []) (steps.DeleteClause (0 ∷ 2 ∷ []) Satisfied) []
+
+-- names: of an unknown variable, of a known one, removed; and a solver's name
+abbrev pub NameNew : Type 0
+NameNew = LastTells [] (UserVarName 0 (Some 7)) (UserVar 0 (Some (record { name = 7; sampling = true; is_new = true })) ∷ [])
+
+abbrev pub as_witness : List Step
+as_witness = steps.Assumptions (0 ∷ []) ∷ ChangeSamplingMode 0 false ∷ []
+
+abbrev pub named_seven : List Step
+named_seven = UserVarName 0 (Some 7) ∷ []
+
+abbrev pub NameOfKnown : Type 0
+NameOfKnown = LastTells (as_witness) (UserVarName 0 (Some 7)) (UserVar 0 (Some (record { name = 7; sampling = false; is_new = false })) ∷ [])
+
+abbrev pub NameRemoved : Type 0
+NameRemoved = LastTells named_seven (UserVarName 0 None) (UserVar 0 None ∷ [])
+
+abbrev pub SolverNameSet : Type 0
+SolverNameSet = LastTells [] (SolverVarName 0 (Some 7)) []
+
+-- modes: of a variable that has a name, and the same again; of one that has none
+abbrev pub ModeChanged : Type 0
+ModeChanged = LastTells named_seven (ChangeSamplingMode 0 false) (UserVar 0 (Some (record { name = 7; sampling = false; is_new = false })) ∷ [])
+
+abbrev pub ModeLeft : Type 0
+ModeLeft = LastTells named_seven (ChangeSamplingMode 0 true) []
+
+abbrev pub ModeOfNameless : Type 0
+ModeOfNameless = LastTells (steps.Assumptions (0 ∷ []) ∷ []) (ChangeSamplingMode 0 false) []
+
+-- models, assumptions and cores; a core is the sorted set, and one with both signs of a variable rests on nothing
+abbrev pub Modelled : Type 0
+Modelled = LastTells (steps.AddClause (0 ∷ 2 ∷ []) ∷ []) (steps.Model (2 ∷ 1 ∷ [])) (Model (2 ∷ 1 ∷ []) ∷ [])
+
+abbrev pub Assumed : Type 0
+Assumed = LastTells [] (steps.Assumptions (2 ∷ 0 ∷ 2 ∷ [])) (Assumptions (2 ∷ 0 ∷ 2 ∷ []) ∷ [])
+
+abbrev pub CoreFailed : Type 0
+CoreFailed = LastTells (steps.AddClause (1 ∷ 3 ∷ []) ∷ steps.Assumptions (2 ∷ 0 ∷ []) ∷ []) (steps.FailedAssumptions (2 ∷ 0 ∷ 2 ∷ []) (hash_of (1 ∷ 3 ∷ []) ∷ [])) (FailedAssumptions (0 ∷ 2 ∷ []) (0 ∷ []) ∷ [])
+
+abbrev pub CoreOfBothSigns : Type 0
+CoreOfBothSigns = LastTells (steps.AddClause (1 ∷ []) ∷ steps.Assumptions (0 ∷ 1 ∷ []) ∷ []) (steps.FailedAssumptions (1 ∷ 0 ∷ []) []) (FailedAssumptions (0 ∷ 1 ∷ []) [] ∷ [])
+
+-- other steps
+abbrev pub OthersTell : Type 0
+OthersTell = LastTells [] (ChangeHashBits 8) [] × LastTells [] End [] × LastTells (steps.AddClause (0 ∷ []) ∷ []) (DeleteVar 0) []
+
+-- units 1 and 2 with ids 0 and 1, and at width 0 the clauses [-2, 3, 5], [-1, 4], [6, 7], [-3, -4, 5] with ids 2 to 5
+abbrev pub units_and_clauses : List Step
+units_and_clauses = steps.AddClause (0 ∷ []) ∷ steps.AddClause (2 ∷ []) ∷ steps.AddClause (3 ∷ 4 ∷ 8 ∷ []) ∷ steps.AddClause (1 ∷ 6 ∷ []) ∷ steps.AddClause (10 ∷ 12 ∷ []) ∷ steps.AddClause (5 ∷ 7 ∷ 8 ∷ []) ∷ ChangeHashBits 0 ∷ []
+
+-- the units first, by increasing id, whatever the order in which the clauses need them
+abbrev pub UnitsFirst : Type 0
+UnitsFirst = LastTells units_and_clauses (steps.AtClause true (8 ∷ 14 ∷ []) (0 ∷ [])) (AtClause 6 true (8 ∷ 14 ∷ []) (0 ∷ 1 ∷ 2 ∷ 3 ∷ 5 ∷ []) ∷ [])
+
+-- the negated clause holds 1 and 2 itself, so that their units aren't needed
+abbrev pub UnitsHeld : Type 0
+UnitsHeld = LastTells units_and_clauses (steps.AtClause true (8 ∷ 1 ∷ 3 ∷ []) (0 ∷ [])) (AtClause 6 true (1 ∷ 3 ∷ 8 ∷ []) (2 ∷ 3 ∷ 5 ∷ []) ∷ [])
+
+-- a clause that is passed, [6, 7] under not 6, isn't needed
+abbrev pub PassedNotNeeded : Type 0
+PassedNotNeeded = LastTells units_and_clauses (steps.AtClause true (8 ∷ 10 ∷ []) (0 ∷ [])) (AtClause 6 true (8 ∷ 10 ∷ []) (0 ∷ 1 ∷ 2 ∷ 3 ∷ 5 ∷ []) ∷ [])
+
+-- a unit that is true in the clause alone, of several that of the lowest literal
+abbrev pub UnitAlone : Type 0
+UnitAlone = LastTells (steps.AddClause (2 ∷ []) ∷ steps.AddClause (0 ∷ []) ∷ steps.AddClause (1 ∷ 3 ∷ []) ∷ []) (steps.AtClause true (4 ∷ 2 ∷ 0 ∷ []) (hash_of (1 ∷ 3 ∷ []) ∷ [])) (AtClause 3 true (0 ∷ 2 ∷ 4 ∷ []) (1 ∷ []) ∷ [])
+
+-- transcripts of names and modes
+abbrev pub NameNewRead : Type 0
+NameNewRead = LastReads [] (UserVarName 0 (Some 7)) []
+
+abbrev pub NameOfKnownRead : Type 0
+NameOfKnownRead = LastReads as_witness (UserVarName 0 (Some 7)) (transcript.ObserveInternalVar 7 ∷ [])
+
+abbrev pub NameRemovedRead : Type 0
+NameRemovedRead = LastReads named_seven (UserVarName 0 None) (transcript.HideVar 7 ∷ [])
+
+abbrev pub ModesRead : Type 0
+ModesRead = LastReads named_seven (ChangeSamplingMode 0 false) (transcript.WitnessVar 7 ∷ [])
+    × LastReads (named_seven ++ ChangeSamplingMode 0 false ∷ []) (ChangeSamplingMode 0 true) (transcript.SampleVar 7 ∷ [])
+
+-- of clauses: each input clause, the empty derived one, and no other derived or deleted one
+abbrev pub InputsRead : Type 0
+InputsRead = LastReads [] (steps.AddClause (2 ∷ 0 ∷ 0 ∷ [])) (transcript.AddClause (0 ∷ 2 ∷ []) ∷ [])
+    × LastReads (steps.AddClause (0 ∷ 2 ∷ []) ∷ []) (steps.AddClause (2 ∷ 0 ∷ 0 ∷ [])) (transcript.AddClause (0 ∷ 2 ∷ []) ∷ [])
+    × LastReads [] (steps.AddClause (2 ∷ 1 ∷ 0 ∷ [])) (transcript.AddClause (0 ∷ 1 ∷ 2 ∷ []) ∷ [])
+    × LastReads [] (steps.AddClause []) (transcript.AddClause [] ∷ [])
+
+abbrev pub RefutedRead : Type 0
+RefutedRead = transcribed_by refuted ≡ transcript.AddClause (0 ∷ 2 ∷ []) ∷ transcript.AddClause (0 ∷ 3 ∷ []) ∷ transcript.AddClause (1 ∷ 2 ∷ []) ∷ transcript.AddClause (1 ∷ 3 ∷ []) ∷ transcript.Unsat ∷ []
+
+abbrev pub OthersRead : Type 0
+OthersRead = LastReads as_redundant (steps.AtClause false (2 ∷ 0 ∷ []) []) [] × LastReads as_redundant (steps.DeleteClause (2 ∷ 0 ∷ []) Redundant) []
+    × LastReads (as_redundant ++ steps.AtClause false (0 ∷ 2 ∷ []) [] ∷ []) (steps.DeleteClause (0 ∷ 2 ∷ []) Satisfied) []
+
+-- in user's names: the explicit one, else a sampling variable's own; a literal of a witness variable without a name is dropped
+abbrev pub one_name : List Step
+one_name = UserVarName 0 (Some 7) ∷ steps.Assumptions (2 ∷ []) ∷ ChangeSamplingMode 1 false ∷ []
+
+abbrev pub AnswersRead : Type 0
+AnswersRead = LastReads one_name (steps.Model (1 ∷ 3 ∷ 5 ∷ [])) (transcript.Model (15 ∷ 5 ∷ []) ∷ [])
+    × LastReads one_name (steps.Assumptions (4 ∷ 2 ∷ 0 ∷ [])) (transcript.Assume (4 ∷ 14 ∷ []) ∷ [])
+    × LastReads (one_name ++ steps.Assumptions (0 ∷ 1 ∷ 3 ∷ []) ∷ []) (steps.FailedAssumptions (0 ∷ 1 ∷ 3 ∷ []) []) (transcript.FailedAssumptions (14 ∷ 15 ∷ []) ∷ [])

@@ -1,0 +1,75 @@
+-- What a transcript says of an announcement, in user's names.
+use Rattle.std.specs.Prelude.{ℕ, ◌+◌, ◌*◌, ◌%◌, List, [], ◌∷◌, Option, None, Some, if◌then◌else◌}
+use Rattle.sat_base.specs.values.Literals.{variable}
+use Rattle.sat_checker.specs.Stored.{Mode, Variable}
+use Rattle.sat_checker.specs.announcements.Announcements.{UserVariable, Announcement, UserVar, DuplicatedClause, TautologicalClause, AtClause, MakeIrredundant, DeleteClause, DeleteAtClause, DeleteRatClause, Assumptions, is_sample, Told, told_after, all_told_after}
+use Rattle.sat_checker.specs.announcements.Announcements as told
+
+pub data Transcribed : Type 0 where
+  WitnessVar : ℕ → Transcribed
+  SampleVar : ℕ → Transcribed
+  HideVar : ℕ → Transcribed
+  ObserveInternalVar : ℕ → Transcribed
+  AddClause : List ℕ → Transcribed
+  Unsat : Transcribed
+  Model : List ℕ → Transcribed
+  Assume : List ℕ → Transcribed
+  FailedAssumptions : List ℕ → Transcribed
+
+-- the explicit name, else the variable itself where it is a sampling one
+abbrev pub name_or_itself : ℕ → Mode → Option ℕ → Option ℕ
+name_or_itself v mode (Some name) = Some name
+name_or_itself v mode None = if is_sample mode then Some v else None
+
+abbrev pub user_from_proof_var : (ℕ → Variable) → ℕ → Option ℕ
+user_from_proof_var variables v = name_or_itself v (variables v).mode (variables v).name
+
+-- the literal of a name, with the sign of this one
+abbrev pub named_literal : ℕ → Option ℕ → List ℕ → List ℕ
+named_literal l None ls = ls
+named_literal l (Some name) ls = (2 * name + l % 2) ∷ ls
+
+-- literals in user's names; those of variables without one are dropped
+abbrev pub in_user_names : (ℕ → Variable) → List ℕ → List ℕ
+in_user_names variables [] = []
+in_user_names variables (l ∷ ls) = named_literal l (user_from_proof_var variables (variable l)) (in_user_names variables ls)
+
+-- a name was removed, which the variable had till then
+abbrev pub hiding : Option ℕ → Option Transcribed
+hiding None = None
+hiding (Some name) = Some (HideVar name)
+
+-- A name was set where the variable had none till then; else its mode was changed.
+abbrev pub naming : UserVariable → Option ℕ → Option Transcribed
+naming u None = if u.is_new then None else Some (ObserveInternalVar u.name)
+naming u (Some name) = Some (if u.sampling then SampleVar u.name else WitnessVar u.name)
+
+-- the empty clause was derived
+abbrev pub deriving_of : List ℕ → Option Transcribed
+deriving_of [] = Some Unsat
+deriving_of (l ∷ ls) = None
+
+-- the transcript of an announcement, by the variables from before the step
+abbrev pub transcript : (ℕ → Variable) → Announcement → Option Transcribed
+transcript variables (UserVar v None) = hiding (variables v).name
+transcript variables (UserVar v (Some u)) = naming u (variables v).name
+transcript variables (told.AddClause id clause) = Some (AddClause (in_user_names variables clause))
+transcript variables (DuplicatedClause id same clause) = Some (AddClause (in_user_names variables clause))
+transcript variables (TautologicalClause id clause) = Some (AddClause (in_user_names variables clause))
+transcript variables (AtClause id redundant clause ids) = deriving_of clause
+transcript variables (MakeIrredundant id clause) = None
+transcript variables (DeleteClause id clause) = None
+transcript variables (DeleteAtClause id kept clause ids) = None
+transcript variables (DeleteRatClause id kept clause) = None
+transcript variables (told.Model ls) = Some (Model (in_user_names variables ls))
+transcript variables (Assumptions ls) = Some (Assume (in_user_names variables ls))
+transcript variables (told.FailedAssumptions core ids) = Some (FailedAssumptions (in_user_names variables core))
+
+abbrev pub with_transcript : Option Transcribed → List Transcribed → List Transcribed
+with_transcript None ts = ts
+with_transcript (Some t) ts = t ∷ ts
+
+-- the transcript of what was told, in order
+abbrev pub transcripts : List Told → List Transcribed
+transcripts [] = []
+transcripts (t ∷ ts) = with_transcript (transcript t.variables t.announcement) (transcripts ts)

@@ -1,0 +1,78 @@
+//! What holds of announcements: each law is the contract of a function that does nothing.
+ghost use Rattle.sat_checker.specs.announcements.Rows.{AnswersRead, Assumed, CollidingTold, ConflictAndUnitTold, Contradiction, CoreFailed, CoreOfBothSigns, DerivedIrredundant, DerivedIrredundantAgain, DerivedNew, DerivedRedundantAgain, DerivedTautology, DerivedUnitAgain, InputBehindUnsat, InputDuplicate, InputNew, InputRedundant, InputTautology, InputUnitAgain, InputsRead, ModeChanged, ModeLeft, ModeOfNameless, Modelled, ModesRead, NameNew, NameNewRead, NameOfKnown, NameOfKnownRead, NameRemoved, NameRemovedRead, NamedTwiceTold, OthersRead, OthersTell, PassedNotNeeded, RedundantGone, RedundantStays, RefutedAtZeroTold, RefutedRead, RefutedTold, SatisfiedGone, SatisfiedKept, SatisfiedStays, SimplifiedGone, SolverNameSet, UnitAlone, UnitsFirst, UnitsHeld};
+
+/// Worked rows of what derived clauses rest on, at widths 64, 8 and 0.
+pub fn rows_of_propagations()
+    ensures refuted { RefutedTold }
+    ensures at_zero { RefutedAtZeroTold }
+    ensures twice { NamedTwiceTold }
+    ensures colliding { CollidingTold }
+    ensures units { UnitsFirst }
+    ensures held { UnitsHeld }
+    ensures passed { PassedNotNeeded }
+    ensures alone { UnitAlone }
+{}
+
+/// Worked rows of unit conflicts, whose empty clause is announced later.
+pub fn rows_of_conflicts()
+    ensures contradiction { Contradiction }
+    ensures unit_behind { ConflictAndUnitTold }
+{}
+
+/// Worked rows of input clauses.
+pub fn rows_of_inputs()
+    ensures fresh { InputNew }
+    ensures duplicate { InputDuplicate }
+    ensures redundant { InputRedundant }
+    ensures unit { InputUnitAgain }
+    ensures tautology { InputTautology }
+    ensures unsat { InputBehindUnsat }
+{}
+
+/// Worked rows of derived clauses.
+pub fn rows_of_derived()
+    ensures fresh { DerivedNew }
+    ensures irredundant { DerivedIrredundant }
+    ensures redundant_again { DerivedRedundantAgain }
+    ensures irredundant_again { DerivedIrredundantAgain }
+    ensures unit_again { DerivedUnitAgain }
+    ensures tautology { DerivedTautology }
+{}
+
+/// Worked rows of deleted clauses.
+pub fn rows_of_deleted()
+    ensures redundant { RedundantGone }
+    ensures redundant_stays { RedundantStays }
+    ensures satisfied { SatisfiedGone }
+    ensures kept { SatisfiedKept }
+    ensures simplified { SimplifiedGone }
+    ensures satisfied_stays { SatisfiedStays }
+{}
+
+/// Worked rows of names, modes, models and cores.
+pub fn rows_of_users()
+    ensures name { NameNew }
+    ensures known { NameOfKnown }
+    ensures removed { NameRemoved }
+    ensures solver_name { SolverNameSet }
+    ensures mode { ModeChanged }
+    ensures mode_left { ModeLeft }
+    ensures nameless { ModeOfNameless }
+    ensures model { Modelled }
+    ensures assumed { Assumed }
+    ensures core { CoreFailed }
+    ensures signs { CoreOfBothSigns }
+    ensures others { OthersTell }
+{}
+
+/// Worked rows of transcripts.
+pub fn rows_of_transcripts()
+    ensures name { NameNewRead }
+    ensures known { NameOfKnownRead }
+    ensures removed { NameRemovedRead }
+    ensures modes { ModesRead }
+    ensures inputs { InputsRead }
+    ensures refuted { RefutedRead }
+    ensures others { OthersRead }
+    ensures answers { AnswersRead }
+{}
