@@ -307,6 +307,13 @@ impl Tokenizer {
         ensures quiet { is_blank byte ≡ true → (after : List ℕ → Scan) → Stands self.new after → Quiet (after []) }
         ensures ended { byte ≡ 10 → (after : List ℕ → Scan) → Stands self.new after → (after []).tokens ≡ [] }
     {
+        // Most bytes are a further digit, for which no other place is looked at.
+        if let Place::Digits { negative, value } = self.place {
+            if is_digit(byte) {
+                self.place = number_goes_on(negative, value, byte);
+                return None;
+            }
+        }
         if !is_blank(byte) {
             self.place = next(self.place, byte);
             return None;

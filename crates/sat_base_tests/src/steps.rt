@@ -311,20 +311,28 @@ const ENDS: [(&[u8], &[u8], Errors); 9] = [
     (&[13], &[13], AT_THE_END),
 ];
 
-/// Writes `End`, flushes, and writes it again. Gives the device of the writer of steps.
-fn half_written(alloc: Global) -> Result<Vec<u8>, Fail> {
-    let mut steps = StepWriter::new(Counted::new(Vec::new(alloc)));
-    steps.write(&ProofStep::End)?;
+/// Writes a step, flushes, and writes it again.
+fn write_twice(
+    steps: &mut StepWriter<Counted<Vec<u8>>>,
+    step: &ProofStep<'_>,
+) -> Result<(), io::Error> {
+    steps.write(step)?;
     steps.flush()?;
-    steps.write(&ProofStep::End)?;
-    Ok(steps.into_writer().into_inner())
+    steps.write(step)
+}
+
+/// Whether a step was written twice, and what its writer took.
+fn half_written(alloc: Global, step: &ProofStep<'_>) -> (bool, Vec<u8>) {
+    let mut steps = StepWriter::new(Counted::new(Vec::new(alloc)));
+    let is_written = write_twice(&mut steps, step).is_ok();
+    (is_written, steps.into_writer().into_inner())
 }
 
 #[test]
-fn what_waits_is_lost_with_a_writer_of_steps(rt: HostRuntime) -> Result<(), Fail> {
-    let text = half_written(rt.alloc())?;
-    assert!(rt; text.as_slice() == [13].as_slice());
-    Ok(())
+fn what_waits_is_lost_with_a_writer_of_steps(rt: HostRuntime) {
+    let lits = [Lit::from_index(0, true)];
+    let (is_written, taken) = half_written(rt.alloc(), &ProofStep::AddClause { clause: &lits });
+    assert!(rt; is_written && taken.as_slice() == [5, 1, 0].as_slice());
 }
 
 /// Texts that promise 2^63 items, and then have none, or one: memory is for items that came.

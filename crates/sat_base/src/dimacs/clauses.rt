@@ -92,7 +92,9 @@ impl Clauses {
         Ok(())
     }
 
+    // Each word goes through this, and nothing is inlined through a `Result` unasked.
     /// The next token.
+    #[inline(always)]
     pub(crate) fn take(&mut self, token: Token) -> Result<(), Refusal>
         ensures { Collects result self.old (token_of token) self.new }
     {

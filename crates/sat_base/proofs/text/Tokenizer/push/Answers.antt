@@ -4,6 +4,10 @@ use Rattle.std.proofs.lemmas.Bool.Decides.{nat_tests}
 use Rattle.sat_base.proofs.lemmas.text.TextRuns.{takes_byte, takes_blank, quiet_behind}
 use Rattle.sat_base.proofs.text.Tokenizer.push.Goals as goal
 
+pub returns-then-is_digit-clause-takes : goal.returns-then-is_digit-clause-takes
+returns-then-is_digit-clause-takes c =
+    takes_byte c.args.self.now c.args.byte c.number_goes_on-self.result (rw c.in-Digits.is c.number_goes_on-self.ensures)
+
 pub returns-then-not-is_blank-clause-takes : goal.returns-then-not-is_blank-clause-takes
 returns-then-not-is_blank-clause-takes c = takes_byte c.args.self.now c.args.byte c.next-self.result c.next-self.ensures
 
