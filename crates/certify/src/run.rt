@@ -2,7 +2,7 @@
 ghost use Rattle.std.specs.Prelude.{◌≡◌, ◌+◌, ◌≤◌, ◌⊎◌, true, Err, IfOk, OnOk, IfErr, IsOk, IsErr, IsErrOf};
 ghost use Rattle.sat_base.specs.device.Device.{most_reads, ReadFails, GaveAll, GaveEnough};
 ghost use Rattle.certify.specs.script.CappedNames.{IsScriptOf};
-ghost use Rattle.certify.specs.run.FinishedRun.{Answered, Backed, HasCause, HasNoNumber, WriteFails, gave, took};
+ghost use Rattle.certify.specs.run.FinishedRun.{Answered, Backed, HasCause, HasNoNumber, WriteFails, WritesKept, gave, took};
 ghost use Rattle.certify.specs.run.Outputs.{AnswersAll, both, pair};
 ghost use Rattle.certify.specs.run.Running.{Done, IsNew, IsOverlong, SumsUp};
 
@@ -144,8 +144,9 @@ pub fn run<S: CountedRead, A: CountedWrite, C: CountedWrite>(
 ) -> Result<Summary, RunFault>
     // The answers' writer took the answers to the text that was given, whatever would follow, and each of them is right.
     ensures answered { IfOk result (λ s. Answered budget s (gave S.seen script.old script.new) (took A.seen answers.old answers.new)) }
-    // The certificate's writer took the steps of the accepted commands and of these answers.
-    ensures certified { OnOk result (Backed (gave S.seen script.old script.new) (took A.seen answers.old answers.new) (took C.seen certificate.old certificate.new)) }
+    // The certificate's writer took the steps of the accepted commands and of these answers. Once it has recorded that the clauses are
+    // unsatisfiable, an ask is answered so without a round of search.
+    ensures backed { Backed result S.seen A.seen C.seen (script.old, answers.old, certificate.old) (script.new, answers.new, certificate.new) }
     ensures flushed { OnOk result (((A.seen answers.new).flushed ≡ true) × ((C.seen certificate.new).flushed ≡ true)) }
 
     // A fault is answered only where it happened: exactly one call of the device failed, or there were 2^48 reads and none did.
@@ -156,8 +157,8 @@ pub fn run<S: CountedRead, A: CountedWrite, C: CountedWrite>(
     ensures counter_end { IsErrOf result RunFault.CounterEnd → GaveEnough (S.seen script.old) (S.seen script.new) HasNoNumber }
     // A call of a device has failed only where the answer is that.
     ensures kept_script { IsErrOf result RunFault.ScriptRead ⊎ ((S.seen script.new).failures ≡ (S.seen script.old).failures) }
-    ensures kept_answers { IsErrOf result RunFault.AnswersWrite ⊎ ((A.seen answers.new).failures ≡ (A.seen answers.old).failures) }
-    ensures kept_certificate { IsErrOf result RunFault.CertificateWrite ⊎ ((C.seen certificate.new).failures ≡ (C.seen certificate.old).failures) }
+    ensures kept_answers { IsErrOf result RunFault.AnswersWrite ⊎ WritesKept A.seen answers.old answers.new }
+    ensures kept_certificate { IsErrOf result RunFault.CertificateWrite ⊎ WritesKept C.seen certificate.old certificate.new }
     // The script is read at most 2^48 times.
     ensures reads { (S.seen script.new).calls ≤ (S.seen script.old).calls + most_reads }
 {

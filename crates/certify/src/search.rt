@@ -4,7 +4,7 @@ ghost use Rattle.std.specs.Prelude.{◌≡◌, ◌+◌, ◌-◌, ◌^◌, ◌<�
 ghost use Rattle.sat_base.specs.values.Literals.{largest};
 ghost use Rattle.certify.specs.search.Search.{IsBounded};
 ghost use Rattle.certify.specs.search.KeptClauses.{IsNormalOf};
-ghost use Rattle.certify.specs.search.SolverState.{new_solver, with_variable, GainsClause, RoundSays};
+ghost use Rattle.certify.specs.search.SolverState.{GainsClause, RecordsClause, RoundSays, new_solver, recording, with_variable};
 
 mod clause_list;
 mod keep;
@@ -135,6 +135,8 @@ impl Solver {
         ensures step { IfOk result (λ step. step ≡ not self.old.unsat) }
         ensures written { self.old.unsat ≡ false → OnOk result (IsNormalOf lits.now self.new.written) }
         ensures takes { OnOk result (GainsClause self.old self.new lits.now) }
+        ensures records { self.old.unsat ≡ false → OnOk result (RecordsClause self.new.written (recording self.old) (recording self.new)) }
+        ensures known { self.old.unsat ≡ true → self.new ≡ self.old }
         ensures var_count { self.new.var_count ≡ self.old.var_count }
         ensures rounds { self.new.rounds ≡ self.old.rounds }
     {

@@ -6,3 +6,4 @@ pub mod CommandsTaken
 pub mod SearchedAsks
 pub mod WrittenSteps
 pub mod FailedCalls
+pub mod MirroredRecords

@@ -1,5 +1,5 @@
 -- What a finished run has done, and why one wasn't finished.
-use Rattle.std.specs.Prelude.{ℕ, ◌+◌, ◌-◌, ◌^◌, ◌≡◌, ◌≤◌, true, Option, Some, None, is_some, List, [], ◌∷◌, map, length, if◌then◌else◌}
+use Rattle.std.specs.Prelude.{ℕ, ◌+◌, ◌-◌, ◌^◌, ◌≡◌, ◌≤◌, true, Option, Some, None, is_some, List, [], ◌∷◌, map, length, Result, IfOk, if◌then◌else◌}
 use Rattle.sat_base.specs.device.Device.{Reader, Writer, GaveEnough, Takes}
 use Rattle.sat_base.specs.script.Script.{Command, Ending, Clean, Malformed, written, reading}
 use Rattle.sat_base.specs.script.Judge.{Judge, refusal_of, after_command, accepted_of, start}
@@ -48,6 +48,10 @@ pub record IsSpent (budget before : ℕ) (report : AskReport) : Type 0 where
   pub within : report.steps ≤ steps_left budget before
   pub unknown : report.answer ≡ kind.Unknown → report.steps ≡ steps_left budget before
 
+-- the steps of each ask
+abbrev pub asked_steps : List AskReport → List ℕ
+asked_steps reports = map (λ r. r.steps) reports
+
 -- each ask's steps, the earlier ones having taken these before
 abbrev pub AreSpent : ℕ → ℕ → List AskReport → Type 0
 AreSpent budget before [] = Unit {0}
@@ -62,7 +66,7 @@ pub record RunOf (script : List Command) (ending : Ending) (count budget : ℕ) 
   -- the certificate spells steps that are, in order, those of the accepted commands and of these outcomes
   pub steps : List Step
   pub certificate : SpellsSteps steps certified
-  pub certifies : Certifies the_checking [] steps (expected start (accepted_of start script) outcomes)
+  pub certifies : Certifies the_checking [] steps (expected start (accepted_of start script) outcomes) (asked_steps summary.asks.items)
   pub commands : summary.commands ≡ count
   pub refused : summary.refused ≡ refused_count start script
   pub malformed : summary.malformed ≡ malformed_at (length script + 1) ending
@@ -82,14 +86,15 @@ pub record Answers (text : List ℕ) (budget : ℕ) (summary : Summary) (answere
   pub kinds : map (λ r. r.answer) summary.asks.items ≡ map kind_of outcomes
   pub spent : AreSpent budget 0 summary.asks.items
 
--- What its certificate is to the answers: it spells steps that are, in order, those of the accepted commands and of these outcomes.
-pub record Backs (text answered certified : List ℕ) : Type 0 where
+-- What its certificate is to the answers: it spells steps that are, in order, those of the accepted commands and of these outcomes,
+-- which took the steps that the summary reports.
+pub record Backs (text : List ℕ) (summary : Summary) (answered certified : List ℕ) : Type 0 where
   pub outcomes : List Outcome
   pub right : AnswersAreRight (reading text).0 outcomes
   pub answers : answered ≡ answers_text (reading text).0 (reading text).1 outcomes
   pub steps : List Step
   pub certificate : SpellsSteps steps certified
-  pub certifies : Certifies the_checking [] steps (expected start (accepted_of start (reading text).0) outcomes)
+  pub certifies : Certifies the_checking [] steps (expected start (accepted_of start (reading text).0) outcomes) (asked_steps summary.asks.items)
 
 -- WHAT THREE DEVICES SHOW OF IT
 
@@ -107,9 +112,17 @@ Answered budget summary script answers =
     GaveEnough script.0 script.1 (λ text. (answered : List ℕ) × Takes answers.0 answers.1 answered × Answers text budget summary answered)
 
 -- and the certificate's writer took the certificate
-abbrev pub Backed : Reader × Reader → Writer × Writer → Writer × Writer → Type 0
-Backed script answers certificate = GaveEnough script.0 script.1 (λ text. (answered : List ℕ) × (certified : List ℕ)
-    × Takes answers.0 answers.1 answered × Takes certificate.0 certificate.1 certified × Backs text answered certified)
+abbrev pub TookCertificate : Summary → Reader × Reader → Writer × Writer → Writer × Writer → Type 0
+TookCertificate summary script answers certificate = GaveEnough script.0 script.1 (λ text. (answered : List ℕ) × (certified : List ℕ)
+    × Takes answers.0 answers.1 answered × Takes certificate.0 certificate.1 certified × Backs text summary answered certified)
+
+-- the same of what three devices were and are
+abbrev pub Backed : {S A C : Type 0} → Result Summary RunFault → (S → Reader) → (A → Writer) → (C → Writer) → S × A × C → S × A × C → Type 0
+Backed r script answers certificate old new = IfOk r (λ s. TookCertificate s (gave script old.0 new.0) (took answers old.1 new.1) (took certificate old.2 new.2))
+
+-- no further call of the writer failed
+abbrev pub WritesKept : {W : Type 0} → (W → Writer) → W → W → Type 0
+WritesKept seen old new = (seen new).failures ≡ (seen old).failures
 
 -- exactly one call failed, the last
 abbrev pub WriteFails : Writer → Writer → Type 0

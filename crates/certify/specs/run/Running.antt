@@ -11,17 +11,19 @@ use Rattle.sat_base.specs.steps.Steps.{Step, UserVarName, AddClause, Model, Assu
 use Rattle.certify.specs.answers.Answers.{Outcome, Sat, Unsat, Unknown, answers_from, malformed_line, outcome_text}
 use Rattle.certify.specs.answers.AnswerForms.{named_literals}
 use Rattle.certify.specs.answers.RightAnswers.{AreRight}
-use Rattle.certify.specs.run.FinishedRun.{refused_count, kind_of, AreSpent, IsSpent, RunOf}
+use Rattle.certify.specs.run.FinishedRun.{refused_count, kind_of, AreSpent, IsSpent, RunOf, asked_steps}
+use Rattle.certify.specs.checker.Accepts.{stored_after}
 use Rattle.certify.specs.checker.Fold.{Holds}
+use Rattle.certify.specs.checker.Propagation.{is_among}
 use Rattle.certify.specs.confirm.Checking.{variable_of}
 use Rattle.certify.specs.confirm.ListChecking.{the_checking}
 use Rattle.certify.specs.confirm.Matches.{expected}
 use Rattle.certify.specs.run.Certifies.{Certifies}
 use Rattle.certify.specs.run.Outputs.{Both, Wrote, AnswersAll}
 use Rattle.certify.specs.search.KeptClauses.{IsNormalOf}
-use Rattle.certify.specs.search.SearchEnds.{AllowsNone, IsDerived}
+use Rattle.certify.specs.search.SearchEnds.{AreDerived}
 use Rattle.certify.specs.script.CappedNames.{CappedScript}
-use Rattle.certify.specs.search.SolverState.{SolverState, Allows, AllowsSame, GainsClause, new_solver}
+use Rattle.certify.specs.search.SolverState.{SolverState, Allows, AllowsSame, GainsClause, Recording, RecordsClause, RecordsSame, recording, new_solver}
 use Rattle.certify.specs.declared.fault.RunFault.{RunFault}
 use Rattle.certify.specs.declared.run.session.Session.{Session}
 use Rattle.certify.specs.declared.summary.Answer.{Answer}
@@ -65,10 +67,10 @@ IsSimple (Clause ls) = AllByRecursion (λ name. 0 < name) (names_of ls)
 IsSimple (Ask ls) = ls ≡ []
 IsSimple command = ⊥
 
--- what an answer says of a solver's clauses: a literal for each variable, in order, by which they can all hold; that they can't; or nothing
+-- what an answer says of a solver's clauses: a literal for each variable, in order, by which they can all hold; that they are known to be unsatisfiable; or nothing
 abbrev pub IsTrueOf : SolverState → List ℕ → Answer → Type 0
 IsTrueOf solver line kind.Sat = (map variable line ≡ names_from solver.var_count 0) × (a : Valuation) × EachTrue a line × Allows solver a
-IsTrueOf solver line kind.Unsat = (a : Valuation) → Allows solver a → ⊥
+IsTrueOf solver line kind.Unsat = solver.unsat ≡ true
 IsTrueOf solver line kind.Unknown = Unit {0}
 
 -- the outcome, with a model's line where there is one
@@ -82,15 +84,19 @@ abbrev pub naming : ℕ → ℕ → List Step
 naming zero v = []
 naming (suc count) v = UserVarName v (Some v) ∷ naming count (v + 1)
 
--- a clause's step, or none where nothing satisfies what the solver holds
-pub data WritesClause (solver : SolverState) (clause : List ℕ) : List Step → Type 0 where
-  unwritten : AllowsNone solver → WritesClause solver clause []
-  written : {normal : List ℕ} → IsNormalOf clause normal → WritesClause solver clause (AddClause normal ∷ [])
+-- those from so many on, up to so many
+abbrev pub brought : ℕ → ℕ → List Step
+brought old new = naming (new - old) old
+
+-- a clause's step, or none where the clauses before it are known to be unsatisfiable
+pub data WritesClause (from to : Recording) (clause : List ℕ) : List Step → Type 0 where
+  unwritten : from.unsat ≡ true → RecordsSame from to → WritesClause from to clause []
+  written : {normal : List ℕ} → IsNormalOf clause normal → RecordsClause normal from to → WritesClause from to clause (AddClause normal ∷ [])
 
 -- a clause's names were brought in, and it was written or left out
-pub record WroteClause (count v : ℕ) (solver : SolverState) (literals : List ℕ) (old new : Sink) : Type 0 where
+pub record WroteClause (count v : ℕ) (from to : Recording) (literals : List ℕ) (old new : Sink) : Type 0 where
   pub steps : List Step
-  pub clause : WritesClause solver literals steps
+  pub clause : WritesClause from to literals steps
   pub wrote : Wrote (naming count v ++ steps) old new
 
 -- the step that shows an answer, where there is one
@@ -100,23 +106,33 @@ shown_by kind.Unsat line = []
 shown_by kind.Unknown line = []
 
 -- derived clauses over so many variables were written
-pub record WroteDerived (n : ℕ) (old new : Sink) : Type 0 where
+pub record WroteDerived (n : ℕ) (from to : Recording) (old new : Sink) : Type 0 where
   pub derived : List Step
-  pub are_derived : AllByRecursion (IsDerived n) derived
+  pub are_derived : AreDerived n from derived to
   pub wrote : Wrote derived old new
 
+-- those of a search
+abbrev pub WroteSearch : SolverState → SolverState → Sink → Sink → Type 0
+WroteSearch old new = WroteDerived old.var_count (recording old) (recording new)
+
 -- an ask was opened, and its answer derived and shown, and then these steps came
-pub record WroteAsk (n : ℕ) (answer : Answer) (line : List ℕ) (last : List Step) (old new : Sink) : Type 0 where
+pub record WroteAsk (n : ℕ) (from to : Recording) (answer : Answer) (line : List ℕ) (last : List Step) (old new : Sink) : Type 0 where
   pub derived : List Step
-  pub are_derived : AllByRecursion (IsDerived n) derived
+  pub are_derived : AreDerived n from derived to
   pub wrote : Wrote (Assumptions [] ∷ (derived ++ (shown_by answer line ++ last))) old new
 
+-- of the steps it is recorded what is recorded of the clauses
+pub record Mirrors (earlier : List Step) (r : Recording) : Type 0 where
+  pub unsat : (stored_after earlier).unsat ≡ r.unsat
+  pub units : (l : ℕ) → is_among (stored_after earlier).units l ≡ r.is_unit l
+
 -- What the steps so far tell, the newest of which stands first: names 1 to n are those of the variables below n, no other variable
--- is known, and what satisfies their clauses satisfies what the solver holds.
-pub record Told (earlier : List Step) (n : ℕ) (solver : SolverState) : Type 0 where
+-- is known, what satisfies their clauses satisfies what the solver holds, and the same is recorded.
+pub record Told (earlier : List Step) (n : ℕ) (solver : SolverState) (r : Recording) : Type 0 where
   pub named : (name : ℕ) → 0 < name → name ≤ n → variable_of earlier name ≡ Some (name - 1)
   pub unknown : (v : ℕ) → n ≤ v → the_checking.knows earlier v ≡ false
   pub holds : (a : Valuation) → Holds earlier a → Allows solver a
+  pub mirrors : Mirrors earlier r
 
 -- the line of a malformed text
 abbrev pub malformed_text : Option ℕ → List ℕ
@@ -141,18 +157,27 @@ pub record Reached (script : List Command) (ending : Ending) (budget : ℕ) (lef
   pub spent : AreSpent budget 0 s.asks.items
   pub counted : s.solver.rounds ≡ steps_of s.asks.items
   pub earlier : List Step
-  pub told : Told earlier s.names s.solver
+  pub told : Told earlier s.names s.solver (recording s.solver)
   -- whatever is written for them
-  pub certifies : (rest : List Outcome) (more : List Step) → Certifies the_checking earlier more (expected judge (accepted_of judge left) rest)
-      → Certifies the_checking [] (written ++ more) (expected start (accepted_of start script) (done ++ rest))
+  pub certifies : (rest : List Outcome) (more : List Step) (counts : List ℕ) → Certifies the_checking earlier more (expected judge (accepted_of judge left) rest) counts
+      → Certifies the_checking [] (written ++ more) (expected start (accepted_of start script) (done ++ rest)) (asked_steps s.asks.items ++ counts)
+
+-- where the clauses are known to be unsatisfiable, a search says so without a round
+abbrev pub SaysKnown : SolverState → AskReport → Type 0
+SaysKnown solver report = solver.unsat ≡ true → (report.answer ≡ kind.Unsat) × (report.steps ≡ 0)
+
+-- what a search left of a solver, with a model's line where there is one
+pub record Searched (budget : ℕ) (old new : SolverState) (report : AskReport) (line : List ℕ) : Type 0 where
+  pub truth : IsTrueOf new line report.answer
+  pub spent : IsSpent budget old.rounds report
+  pub known : SaysKnown old report
+  pub same : AllowsSame old new
+  pub variables : new.var_count ≡ old.var_count
+  pub rounds : new.rounds ≡ old.rounds + report.steps
 
 -- what an ask left
 pub record Asked (budget : ℕ) (old new : Session) (report : AskReport) : Type 0 where
-  pub truth : IsTrueOf new.solver new.lits.items report.answer
-  pub spent : IsSpent budget old.solver.rounds report
-  pub same : AllowsSame old.solver new.solver
-  pub variables : new.solver.var_count ≡ old.solver.var_count
-  pub rounds : new.solver.rounds ≡ old.solver.rounds + report.steps
+  pub searched : Searched budget old.solver new.solver report new.lits.items
   pub names : new.names ≡ old.names
   pub refused : new.refused ≡ old.refused
   pub asks : new.asks.items ≡ old.asks.items ++ report ∷ []
@@ -175,11 +200,11 @@ pub record Refused (old new : Session) : Type 0 where
 
 -- a clause's names and the clause, by what a run had before and has behind it
 abbrev pub WroteClauseOf : Session → Session → List Literal → Sink → Sink → Type 0
-WroteClauseOf old new ls = WroteClause (new.names - old.names) old.names old.solver (map code_of ls)
+WroteClauseOf old new ls = WroteClause (new.names - old.names) old.names (recording old.solver) (recording new.solver) (map code_of ls)
 
 -- an ask and its answer, and then these steps
 abbrev pub WroteAskOf : Session → Session → AskReport → List Step → Sink → Sink → Type 0
-WroteAskOf old new report last = WroteAsk old.solver.var_count report.answer new.lits.items last
+WroteAskOf old new report last = WroteAsk old.solver.var_count (recording old.solver) (recording new.solver) report.answer new.lits.items last
 
 -- the text of an ask's answer
 abbrev pub reported_text : Session → AskReport → List ℕ

@@ -57,9 +57,10 @@ AreBounded n = All (IsBounded n)
 abbrev pub GivesValues : Valuation → List (Option Bool) → Type 0
 GivesValues a values = (v : ℕ) (b : Bool) → slice_index_or values v None ≡ Some b → a v ≡ b
 
--- the later values follow from the clauses and the earlier values
+-- the later values follow from the clauses and the earlier values, and what had a value has one
 pub record ValuesFollow (clauses : List (List ℕ)) (old new : List (Option Bool)) : Type 0 where
   pub gives : (a : Valuation) → EachHolds a clauses → GivesValues a old → GivesValues a new
+  pub stays : (v : ℕ) → is_open (slice_index_or new v None) ≡ true → is_open (slice_index_or old v None) ≡ true
 
 -- the clauses and the values contradict each other
 pub record Refutes (clauses : List (List ℕ)) (values : List (Option Bool)) : Type 0 where

@@ -11,6 +11,7 @@ state_of s = record {
   var_count = length s.values.items;
   clauses = s.clauses;
   unsat = s.unsat;
+  units = s.units.items;
   rounds = s.rounds;
   values = s.values.items;
   written = s.written.items;

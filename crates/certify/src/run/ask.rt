@@ -1,10 +1,8 @@
 //! Answers an ask.
-ghost use Rattle.std.specs.Prelude.{◌≡◌, ◌+◌, [], IfOk, OnOk};
+ghost use Rattle.std.specs.Prelude.{◌≡◌, [], IfOk, OnOk};
 ghost use Rattle.certify.specs.answers.Answers.{outcome_text};
-ghost use Rattle.certify.specs.search.SolverState.{AllowsSame};
-ghost use Rattle.certify.specs.run.FinishedRun.{IsSpent};
-ghost use Rattle.certify.specs.run.Outputs.{Wrote, WritesSteps, WritesBoth, both, sink};
-ghost use Rattle.certify.specs.run.Running.{WroteAskOf, AnsweredAsk, IsTrueOf, reported_outcome, reported_text, shown_by};
+ghost use Rattle.certify.specs.run.Outputs.{Wrote, WritesTo, WritesBoth, both};
+ghost use Rattle.certify.specs.run.Running.{WroteAskOf, AnsweredAsk, Searched, reported_outcome, reported_text, shown_by};
 
 use super::outputs::{Outputs, flush_steps, record_step, write_answer};
 use super::session::Session;
@@ -22,7 +20,7 @@ fn show<C: CountedWrite>(
     certificate: &mut StepWriter<C>,
 ) -> Result<(), RunFault>
     ensures text { OnOk result (text.new.items ≡ outcome_text (reported_outcome answer model.now)) }
-    ensures certificate { WritesSteps result (λ _. Wrote (shown_by answer model.now)) (sink C.seen certificate.old) (sink C.seen certificate.new) }
+    ensures certificate { WritesTo C.seen result (λ _. Wrote (shown_by answer model.now)) certificate.old certificate.new }
 {
     text.clear();
     match answer {
@@ -43,16 +41,12 @@ fn ask<C: CountedWrite>(
     budget: u64,
 ) -> Result<AskReport, RunFault>
     requires { session.old.solver.var_count ≡ session.old.names }
-    ensures same { OnOk result (AllowsSame session.old.solver session.new.solver) }
-    ensures variables { OnOk result (session.new.solver.var_count ≡ session.old.solver.var_count) }
+    ensures searched { IfOk result (λ report. Searched budget session.old.solver session.new.solver report session.new.lits.items) }
     ensures names { session.new.names ≡ session.old.names }
     ensures refused { session.new.refused ≡ session.old.refused }
     ensures asks { session.new.asks ≡ session.old.asks }
-    ensures answer { IfOk result (λ report. IsTrueOf session.new.solver session.new.lits.items report.answer) }
     ensures text { IfOk result (λ report. session.new.text.items ≡ reported_text session.new report) }
-    ensures spent { IfOk result (λ report. IsSpent budget session.old.solver.rounds report) }
-    ensures rounds { IfOk result (λ report. session.new.solver.rounds ≡ session.old.solver.rounds + report.steps) }
-    ensures certificate { WritesSteps result (λ report. WroteAskOf session.old session.new report []) (sink C.seen certificate.old) (sink C.seen certificate.new) }
+    ensures certificate { WritesTo C.seen result (λ report. WroteAskOf session.old session.new report []) certificate.old certificate.new }
 {
     record_step(certificate, &ProofStep::Assumptions { assumptions: &[] })?;
     let count = session.names.count();

@@ -2,7 +2,7 @@
 ghost use Rattle.std.specs.Prelude.{◌≡◌, true, map, OnOk};
 ghost use Rattle.sat_base.specs.script.Script.{names_of};
 ghost use Rattle.certify.specs.search.SolverState.{GainsClause};
-ghost use Rattle.certify.specs.run.Outputs.{WritesSteps, sink};
+ghost use Rattle.certify.specs.run.Outputs.{WritesTo};
 ghost use Rattle.certify.specs.run.Running.{WroteClauseOf, are_within, code_of, raised};
 
 use super::lits::fill;
@@ -27,7 +27,7 @@ pub(crate) fn take_clause<C: CountedWrite>(
     ensures refused { session.new.refused ≡ session.old.refused }
     ensures asks { session.new.asks ≡ session.old.asks }
     ensures rounds { OnOk result (session.new.solver.rounds ≡ session.old.solver.rounds) }
-    ensures certificate { WritesSteps result (λ _. WroteClauseOf session.old session.new literals.now) (sink C.seen certificate.old) (sink C.seen certificate.new) }
+    ensures certificate { WritesTo C.seen result (λ _. WroteClauseOf session.old session.new literals.now) certificate.old certificate.new }
 {
     bring_all(
         &mut session.names,

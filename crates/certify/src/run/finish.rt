@@ -2,7 +2,7 @@
 ghost use Rattle.std.specs.Prelude.{◌≡◌, ◌+◌, ◌-◌, ◌^◌, ◌≤◌, ◌<◌, [], true, length, OnOk, MatchResult};
 ghost use Rattle.sat_base.specs.script.Script.{Malformed};
 ghost use Rattle.certify.specs.run.FinishedRun.{HasCause, malformed_at};
-ghost use Rattle.certify.specs.run.Outputs.{EndedSteps, WritesAnswer, WritesSteps, Ends, both, sink};
+ghost use Rattle.certify.specs.run.Outputs.{EndedSteps, WritesAnswer, WritesTo, Ends, both};
 ghost use Rattle.certify.specs.run.Running.{IsOverlong, malformed_text};
 
 use super::outputs::{Outputs, flush_steps, record_step, write_answer};
@@ -54,7 +54,7 @@ fn flush_answers<A: CountedWrite>(answers: &mut A) -> Result<(), RunFault>
 
 /// Writes the last step, and all that waits.
 fn end_certificate<C: CountedWrite>(certificate: &mut StepWriter<C>) -> Result<(), RunFault>
-    ensures { WritesSteps result (λ _. EndedSteps) (sink C.seen certificate.old) (sink C.seen certificate.new) }
+    ensures { WritesTo C.seen result (λ _. EndedSteps) certificate.old certificate.new }
 {
     record_step(certificate, &ProofStep::End)?;
     flush_steps(certificate)

@@ -2,9 +2,9 @@
 ghost use Rattle.std.specs.Prelude.{◌≡◌, ◌+◌, ◌-◌, ◌<◌, ◌≤◌, ◌↔◌, max, true, OnOk, ℕ};
 ghost use Rattle.sat_base.specs.values.Clauses.{Valuation};
 ghost use Rattle.sat_base.specs.values.Literals.{largest};
-ghost use Rattle.certify.specs.search.SolverState.{AllowsSame};
-ghost use Rattle.certify.specs.run.Outputs.{Wrote, WritesSteps, sink};
-ghost use Rattle.certify.specs.run.Running.{are_within, naming, raised};
+ghost use Rattle.certify.specs.search.SolverState.{HoldsSame};
+ghost use Rattle.certify.specs.run.Outputs.{Wrote, WritesTo};
+ghost use Rattle.certify.specs.run.Running.{are_within, brought, naming, raised};
 ghost use Rattle.sat_base.specs.script.Script.{names_of};
 
 use super::outputs::record_step;
@@ -24,9 +24,9 @@ fn add_name<C: CountedWrite>(
     requires same { solver.old.var_count ≡ names.old }
     ensures names { OnOk result (names.new ≡ names.old + 1) }
     ensures variables { OnOk result (solver.new.var_count ≡ names.new) }
-    ensures clauses { OnOk result (AllowsSame solver.old solver.new) }
+    ensures clauses { OnOk result (HoldsSame solver.old solver.new) }
     ensures rounds { OnOk result (solver.new.rounds ≡ solver.old.rounds) }
-    ensures certificate { WritesSteps result (λ _. Wrote (naming 1 names.old)) (sink C.seen certificate.old) (sink C.seen certificate.new) }
+    ensures certificate { WritesTo C.seen result (λ _. Wrote (naming 1 names.old)) certificate.old certificate.new }
 {
     let var = names.add();
     record_step(
@@ -51,9 +51,9 @@ fn bring_in<C: CountedWrite>(
     requires same { solver.old.var_count ≡ names.old }
     ensures names { OnOk result (names.new ≡ max names.old name) }
     ensures variables { OnOk result (solver.new.var_count ≡ names.new) }
-    ensures clauses { OnOk result (AllowsSame solver.old solver.new) }
+    ensures clauses { OnOk result (HoldsSame solver.old solver.new) }
     ensures rounds { OnOk result (solver.new.rounds ≡ solver.old.rounds) }
-    ensures certificate { WritesSteps result (λ _. Wrote (naming (names.new - names.old) names.old)) (sink C.seen certificate.old) (sink C.seen certificate.new) }
+    ensures certificate { WritesTo C.seen result (λ _. Wrote (brought names.old names.new)) certificate.old certificate.new }
 {
     for _ in names.count()..name as usize {
         add_name(names, solver, certificate)?;
@@ -72,9 +72,9 @@ pub(crate) fn bring_all<C: CountedWrite>(
     requires same { solver.old.var_count ≡ names.old }
     ensures names { OnOk result (names.new ≡ raised names.old (names_of literals.now)) }
     ensures variables { OnOk result (solver.new.var_count ≡ names.new) }
-    ensures clauses { OnOk result (AllowsSame solver.old solver.new) }
+    ensures clauses { OnOk result (HoldsSame solver.old solver.new) }
     ensures rounds { OnOk result (solver.new.rounds ≡ solver.old.rounds) }
-    ensures certificate { WritesSteps result (λ _. Wrote (naming (names.new - names.old) names.old)) (sink C.seen certificate.old) (sink C.seen certificate.new) }
+    ensures certificate { WritesTo C.seen result (λ _. Wrote (brought names.old names.new)) certificate.old certificate.new }
 {
     for literal in literals {
         bring_in(names, solver, certificate, literal.name)?;

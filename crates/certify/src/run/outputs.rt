@@ -1,7 +1,7 @@
 //! The writers of a run.
 ghost use Rattle.sat_base.specs.device.Sink.{Emptied};
 ghost use Rattle.sat_base.specs.steps.StepViews.{step_of};
-ghost use Rattle.certify.specs.run.Outputs.{WroteStep, WritesSteps, WritesAnswer, sink};
+ghost use Rattle.certify.specs.run.Outputs.{WroteStep, WritesTo, WritesAnswer, sink};
 
 use crate::fault::RunFault;
 use sat_base::{CountedWrite, ProofStep, StepWriter};
@@ -38,7 +38,7 @@ pub(crate) fn record_step<C: CountedWrite>(
     certificate: &mut StepWriter<C>,
     step: &ProofStep,
 ) -> Result<(), RunFault>
-    ensures { WritesSteps result (λ _. WroteStep (step_of step.now)) (sink C.seen certificate.old) (sink C.seen certificate.new) }
+    ensures { WritesTo C.seen result (λ _. WroteStep (step_of step.now)) certificate.old certificate.new }
 {
     match certificate.write(step) {
         Ok(()) => Ok(()),
@@ -48,7 +48,7 @@ pub(crate) fn record_step<C: CountedWrite>(
 
 /// Writes out the steps that wait, and flushes their writer.
 pub(crate) fn flush_steps<C: CountedWrite>(certificate: &mut StepWriter<C>) -> Result<(), RunFault>
-    ensures { WritesSteps result (λ _. Emptied) (sink C.seen certificate.old) (sink C.seen certificate.new) }
+    ensures { WritesTo C.seen result (λ _. Emptied) certificate.old certificate.new }
 {
     match certificate.flush() {
         Ok(()) => Ok(()),

@@ -1,10 +1,9 @@
 //! Searches for the answer of an ask.
-ghost use Rattle.std.specs.Prelude.{◌≡◌, ◌+◌, ◌<◌, ◌≤◌, IfOk, OnOk, slice_index_or, None};
+ghost use Rattle.std.specs.Prelude.{◌≡◌, ◌<◌, ◌≤◌, IfOk, OnOk, slice_index_or, None};
 ghost use Rattle.sat_base.specs.values.Literals.{coded, largest};
-ghost use Rattle.certify.specs.search.SolverState.{HasModel, AllowsSame};
-ghost use Rattle.certify.specs.run.FinishedRun.{IsSpent};
-ghost use Rattle.certify.specs.run.Outputs.{WritesSteps, sink};
-ghost use Rattle.certify.specs.run.Running.{WroteDerived, IsTrueOf};
+ghost use Rattle.certify.specs.search.SolverState.{HasModel};
+ghost use Rattle.certify.specs.run.Outputs.{WritesTo};
+ghost use Rattle.certify.specs.run.Running.{IsTrueOf, Searched, WroteSearch};
 ghost use Rattle.certify.specs.search.Search.{is_true};
 ghost use Rattle.certify.specs.search.SearchEnds.{Solves};
 
@@ -48,7 +47,7 @@ fn find<C: CountedWrite>(
     certificate: &mut StepWriter<C>,
 ) -> Result<(SearchEnd, u64), RunFault>
     ensures answers { IfOk result (λ r. Solves r.0 r.1 budget solver.old solver.new) }
-    ensures certificate { WritesSteps result (λ _. WroteDerived solver.old.var_count) (sink C.seen certificate.old) (sink C.seen certificate.new) }
+    ensures certificate { WritesTo C.seen result (λ _. WroteSearch solver.old solver.new) certificate.old certificate.new }
 {
     match solve(solver, budget, certificate) {
         Ok(found) => Ok(found),
@@ -68,12 +67,8 @@ pub(crate) fn solve_ask<C: CountedWrite>(
 ) -> Result<AskReport, RunFault>
     requires count { solver.old.var_count ≡ count }
     requires bound { count ≤ largest }
-    ensures same { OnOk result (AllowsSame solver.old solver.new) }
-    ensures variables { OnOk result (solver.new.var_count ≡ solver.old.var_count) }
-    ensures answer { IfOk result (λ report. IsTrueOf solver.new model.new.items report.answer) }
-    ensures spent { IfOk result (λ report. IsSpent budget solver.old.rounds report) }
-    ensures rounds { IfOk result (λ report. solver.new.rounds ≡ solver.old.rounds + report.steps) }
-    ensures certificate { WritesSteps result (λ _. WroteDerived solver.old.var_count) (sink C.seen certificate.old) (sink C.seen certificate.new) }
+    ensures searched { IfOk result (λ report. Searched budget solver.old solver.new report model.new.items) }
+    ensures certificate { WritesTo C.seen result (λ _. WroteSearch solver.old solver.new) certificate.old certificate.new }
 {
     let (found, steps) = find(solver, budget, certificate)?;
     match found {

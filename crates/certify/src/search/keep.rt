@@ -1,9 +1,10 @@
 //! How clauses are written and kept.
-ghost use Rattle.std.specs.Prelude.{◌≡◌, ◌<◌, ◌≤◌, [], length, vec_len, IfOk, OnOk, OnErr, IsTrue};
+ghost use Rattle.std.specs.Prelude.{◌≡◌, ◌<◌, ◌≤◌, [], length, vec_len, IfOk, OnOk, OnErr, IsTrue, ℕ};
 ghost use Rattle.std.specs.List.Sorted.{IsStrictlyIncreasing};
 ghost use Rattle.sat_base.specs.values.Literals.{variable};
 ghost use Rattle.certify.specs.search.Search.{IsBounded, AreBounded};
 ghost use Rattle.certify.specs.search.KeptClauses.{IsNormalOf, IsTautology, UnitsFollow, KeepsClause};
+ghost use Rattle.certify.specs.search.SolverState.{records_unsat, records_unit, unit_test};
 
 use crate::search::clause_list::ClauseList;
 use crate::search::look::is_false;
@@ -24,7 +25,8 @@ pub(crate) fn normalize(clause: &mut Vec<Lit>, lits: &[Lit]) -> Result<(), Alloc
 /// Whether two neighbours are each other's negations.
 #[tactic(auto, using(crate::proofs::lemmas::search::KeptClauses::tautologies))]
 fn is_tautology(clause: &[Lit]) -> bool
-    ensures { IsTrue result → IsTautology clause.now }
+    ensures holds { IsTrue result → IsTautology clause.now }
+    ensures long { IsTrue result → 1 < length clause.now }
 {
     for place in 1..clause.len() {
         if clause[place] == !clause[place - 1] {
@@ -48,6 +50,8 @@ pub(crate) fn keep(
     ensures keeps { IfOk result (λ unsat. KeepsClause unsat clauses.old clauses.new clause.now) }
     ensures units_follow { UnitsFollow clauses.new units.new }
     ensures all_bounded { AreBounded (length units.old) clauses.new }
+    ensures unsat { IfOk result (λ unsat. unsat ≡ records_unsat (unit_test units.old) clause.now) }
+    ensures units { OnOk result ((l : ℕ) → unit_test units.new l ≡ records_unit (unit_test units.old) clause.now l) }
     ensures err { OnErr result (clauses.new ≡ clauses.old) }
 {
     if clause.is_empty() {

@@ -1,5 +1,6 @@
 //! Propagation by scanning all clauses, and the decisions of one round.
-ghost use Rattle.std.specs.Prelude.{◌≡◌, ◌<◌, ◌≤◌, [], length, slice_set, IfOk, OnErr, MatchOption, None, Some};
+ghost use Rattle.std.specs.Prelude.{◌≡◌, ◌<◌, ◌≤◌, [], length, slice_set, IfOk, OnOk, OnErr, MatchOption, None, Some};
+ghost use Rattle.std.specs.List.Sorted.{IsStrictlyIncreasing};
 ghost use Rattle.sat_base.specs.values.Literals.{variable, is_positive, largest};
 ghost use Rattle.certify.specs.search.Search.{open_count, AreBounded, IsBounded, ValuesFollow, AllOpen, AllAssigned, IsLowestOpen};
 ghost use Rattle.certify.specs.search.ScanEnds.{MetSays, ScanSays, PropagateSays, EndSays};
@@ -143,6 +144,7 @@ pub(crate) fn search(
     requires none { learned.old.items ≡ [] }
     ensures says { IfOk result (λ end. EndSays end clauses.now learned.new.items values.new) }
     ensures learned_bounded { IsBounded (length values.new) learned.new.items }
+    ensures learned_increasing { OnOk result (IsStrictlyIncreasing learned.new.items) }
 {
     loop {
         if propagate(clauses, values, hashes)? {

@@ -1,8 +1,7 @@
 //! Rounds of search up to an answer.
 ghost use Rattle.std.specs.Prelude.{◌≡◌, IfOk};
 ghost use Rattle.sat_base.specs.steps.StepWriting.{steps_sink};
-ghost use Rattle.certify.specs.search.Search.{IsBounded};
-ghost use Rattle.certify.specs.search.SearchEnds.{Solves, WritesLearned, conflicts};
+ghost use Rattle.certify.specs.search.SearchEnds.{Solves, WritesLearned, WritesOne, WroteRounds, learned_step};
 
 use crate::search::Solver;
 use crate::search::propagate::RoundEnd;
@@ -37,13 +36,11 @@ impl From<AllocError> for SolveFault {
 }
 
 /// Writes the step of the clause last learned.
-#[tactic(auto, using(crate::proofs::lemmas::search::DerivedSteps::writing))]
 fn write_learned<W: CountedWrite>(
     solver: &Solver,
     proof: &mut StepWriter<W>,
 ) -> Result<(), SolveFault>
-    requires { IsBounded solver.now.var_count solver.now.learned }
-    ensures { WritesLearned result solver.now.var_count (λ _. 1) (steps_sink W.seen proof.old) (steps_sink W.seen proof.new) }
+    ensures { WritesLearned result (λ _. WritesOne (learned_step solver.now)) (steps_sink W.seen proof.old) (steps_sink W.seen proof.new) }
 {
     let step = ProofStep::AtClause {
         redundant: false,
@@ -65,7 +62,7 @@ pub(crate) fn solve<W: CountedWrite>(
     proof: &mut StepWriter<W>,
 ) -> Result<(SearchEnd, u64), SolveFault>
     ensures answers { IfOk result (λ r. Solves r.0 r.1 budget solver.old solver.new) }
-    ensures writes { WritesLearned result solver.old.var_count (λ r. conflicts r.0 r.1) (steps_sink W.seen proof.old) (steps_sink W.seen proof.new) }
+    ensures writes { WritesLearned result (WroteRounds solver.old solver.new) (steps_sink W.seen proof.old) (steps_sink W.seen proof.new) }
 {
     let mut spent = 0;
     while !solver.unsat() {

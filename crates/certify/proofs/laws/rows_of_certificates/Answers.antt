@@ -7,6 +7,18 @@ returns-clause-model c = rows.clause_and_ask
 pub returns-clause-left_out : goal.returns-clause-left_out
 returns-clause-left_out c = rows.left_out_row
 
+pub returns-clause-without_rounds : goal.returns-clause-without_rounds
+returns-clause-without_rounds c = rows.without_rounds
+
+pub returns-clause-derived : goal.returns-clause-derived
+returns-clause-derived c = rows.chain
+
+pub returns-clause-early : goal.returns-clause-early
+returns-clause-early c = rows.early
+
+pub returns-clause-core : goal.returns-clause-core
+returns-clause-core c = rows.core
+
 pub returns-clause-end_alone : goal.returns-clause-end_alone
 returns-clause-end_alone c = rows.end_alone
 

@@ -1,6 +1,7 @@
 -- What each piece of a run's certificate brings in.
 use Rattle.std.proofs.Common.{ℕ, zero, suc, ◌+◌, ◌-◌, ◌/◌, ◌%◌, ◌<◌, ◌≤◌, ◌≡◌, Bool, true, false, cond, eqb, ltb, max, List, [], ◌∷◌, ◌++◌, map, Some, is_some, refl, sym, ◌∙◌, ap, subst, arith, inl, inr, append_assoc}
-use Rattle.std.proofs.lemmas.Bool.{ltb-true, ltb-false, eqb-true, eqb-false, ne_eqb}
+use Rattle.std.proofs.lemmas.Bool.{both_ways, ltb-true, ltb-false, eqb-true, eqb-false, ne_eqb}
+use Rattle.std.specs.List.Sorted.{IsStrictlyIncreasing}
 use Rattle.std.proofs.lemmas.Bool.Decides.{nat_tests}
 use Rattle.std.proofs.lemmas.List.{map-append}
 use Rattle.std.proofs.lemmas.List.Elements.{recursion_from_All}
@@ -17,15 +18,17 @@ use Rattle.certify.specs.confirm.ListChecking.{the_checking}
 use Rattle.certify.specs.answers.AnswerForms.{named_literal, named_literals}
 use Rattle.certify.specs.answers.RightAnswers.{IsRight}
 use Rattle.certify.specs.confirm.Matches.{Expected, NewName, Adds, Opens, Shows, Fails, Closes, bringing, showing, Spells, SameSet, EachSpelt, new_name, adds, opens, shows, closes}
-use Rattle.certify.specs.run.Certifies.{Certifies, left_out, other, ordered}
+use Rattle.certify.specs.run.Certifies.{Certifies, IsKnown, left_out, other, ordered, asked}
 use Rattle.certify.specs.search.Search.{IsBounded}
 use Rattle.certify.specs.search.KeptClauses.{IsNormalOf}
-use Rattle.certify.specs.search.SolverState.{SolverState, Allows, GainsClause}
-use Rattle.certify.specs.search.SearchEnds.{IsDerived}
+use Rattle.certify.specs.search.SolverState.{SolverState, Allows, GainsClause, Recording, RecordsClause, new_solver, recording}
+use Rattle.certify.specs.search.SearchEnds.{AreDerived}
 use Rattle.certify.specs.declared.summary.Answer.{Answer}
 use Rattle.certify.specs.declared.summary.Answer.TheVariants as kind
-use Rattle.certify.specs.run.Running.{HasFirstNames, Told, WritesClause, unwritten, written, naming, shown_by, reported_outcome, raised, are_within, code_of, IsTrueOf}
+use Rattle.certify.specs.declared.summary.AskReport.{AskReport}
+use Rattle.certify.specs.run.Running.{HasFirstNames, Told, WritesClause, unwritten, written, naming, shown_by, reported_outcome, raised, are_within, code_of, IsTrueOf, SaysKnown, Searched}
 use Rattle.certify.proofs.lemmas.checker.SortedLiterals.{among_from_contains, contains_from_among}
+use Rattle.certify.proofs.lemmas.run.MirroredRecords.{mirrors_start, mirrors_same, mirrors_added, mirrors_derived}
 use Rattle.certify.proofs.lemmas.run.NamesOfLiterals.{within_first, raised_least, codes_bounded}
 use Rattle.certify.proofs.lemmas.confirm.PlainJudge.{from_split}
 use Rattle.certify.proofs.lemmas.run.FirstNames.{AreNames, identity_plain, bring_plain}
@@ -34,55 +37,58 @@ use Rattle.certify.proofs.lemmas.confirm.LiteralSets.{among_is, is_from_among}
 use Rattle.certify.proofs.lemmas.laws.ListCheckerIsSound.{stored_knows}
 use Rattle.certify.proofs.lemmas.laws.LiteralValues.{all_at, all_from, among_mapped}
 
--- behind the earlier steps these are what is expected, and then so many names are in use; whatever comes
-pub record Brings (earlier steps : List Step) (es : List Expected) (n : ℕ) (solver : SolverState) : Type 0 where
+-- Behind the earlier steps these are what is expected, of which the asks took so many rounds; then so many names are in use, and this
+-- is recorded; whatever comes.
+pub record Brings (earlier steps : List Step) (es : List Expected) (counts : List ℕ) (n : ℕ) (solver : SolverState) (r : Recording) : Type 0 where
   pub later : List Step
-  pub told : Told later n solver
-  pub leads : (more : List Step) (fs : List Expected) → Certifies the_checking later more fs → Certifies the_checking earlier (steps ++ more) (es ++ fs)
+  pub told : Told later n solver r
+  pub leads : (more : List Step) (fs : List Expected) (rest : List ℕ) → Certifies the_checking later more fs rest → Certifies the_checking earlier (steps ++ more) (es ++ fs) (counts ++ rest)
 
-pub brings_then : {earlier xs ys : List Step} {es fs : List Expected} {n m : ℕ} {s t : SolverState} (b : Brings earlier xs es n s) → Brings b.later ys fs m t → Brings earlier (xs ++ ys) (es ++ fs) m t
-brings_then {earlier} {xs} {ys} {es} {fs} {n} {m} {s} {t} b d = record {
+pub brings_then : {earlier xs ys : List Step} {es fs : List Expected} {counts : List ℕ} {n m : ℕ} {s t : SolverState} {q r : Recording} (b : Brings earlier xs es [] n s q) → Brings b.later ys fs counts m t r → Brings earlier (xs ++ ys) (es ++ fs) counts m t r
+brings_then {earlier} {xs} {ys} {es} {fs} {counts} b d = record {
   later = d.later;
   told = d.told;
-  leads = λ more gs c.
-      let all = b.leads (ys ++ more) (fs ++ gs) (d.leads more gs c) in
-      subst (λ zs. Certifies the_checking earlier zs ((es ++ fs) ++ gs)) (sym (append_assoc xs ys more))
-      (subst (λ hs. Certifies the_checking earlier (xs ++ (ys ++ more)) hs) (sym (append_assoc es fs gs)) all);
+  leads = λ more gs rest c.
+      let all = b.leads (ys ++ more) (fs ++ gs) (counts ++ rest) (d.leads more gs rest c) in
+      subst (λ zs. Certifies the_checking earlier zs ((es ++ fs) ++ gs) (counts ++ rest)) (sym (append_assoc xs ys more))
+      (subst (λ hs. Certifies the_checking earlier (xs ++ (ys ++ more)) hs (counts ++ rest)) (sym (append_assoc es fs gs)) all);
 }
 
 -- what was to be certified is so by these steps and the rest
-pub further : (before : List Step) {earlier steps : List Step} {es all rest goal : List Expected} {n : ℕ} {s : SolverState} → ((more : List Step) → Certifies the_checking earlier more all → Certifies the_checking [] (before ++ more) goal) → (b : Brings earlier steps es n s)
-    → all ≡ es ++ rest → (more : List Step) → Certifies the_checking b.later more rest → Certifies the_checking [] ((before ++ steps) ++ more) goal
-further before {earlier} {steps} {es} {all} {rest} {goal} f b e more c =
-    subst (λ xs. Certifies the_checking [] xs goal) (sym (append_assoc before steps more)) (f (steps ++ more) (subst (λ xs. Certifies the_checking earlier (steps ++ more) xs) (sym e) (b.leads more rest c)))
+pub further : (before : List Step) (past : List ℕ) {earlier steps : List Step} {es all rest goal : List Expected} {counts : List ℕ} {n : ℕ} {s : SolverState} {r : Recording} → ((more : List Step) (left : List ℕ) → Certifies the_checking earlier more all left → Certifies the_checking [] (before ++ more) goal (past ++ left)) → (b : Brings earlier steps es counts n s r)
+    → all ≡ es ++ rest → (more : List Step) (left : List ℕ) → Certifies the_checking b.later more rest left → Certifies the_checking [] ((before ++ steps) ++ more) goal (past ++ (counts ++ left))
+further before past {earlier} {steps} {es} {all} {rest} {goal} {counts} f b e more left c =
+    subst (λ xs. Certifies the_checking [] xs goal (past ++ (counts ++ left))) (sym (append_assoc before steps more))
+    (f (steps ++ more) (counts ++ left) (subst (λ xs. Certifies the_checking earlier (steps ++ more) xs (counts ++ left)) (sym e) (b.leads more rest left c)))
 
-pub brings_nothing : {earlier : List Step} {n : ℕ} {s : SolverState} → Told earlier n s → Brings earlier [] [] n s
-brings_nothing {earlier} t = record { later = earlier; told = t; leads = λ more fs c. c }
+pub brings_nothing : {earlier : List Step} {n : ℕ} {s : SolverState} {r : Recording} → Told earlier n s r → Brings earlier [] [] [] n s r
+brings_nothing {earlier} t = record { later = earlier; told = t; leads = λ more fs rest c. c }
 
-pub told_start : (s : SolverState) → ((a : Valuation) → Allows s a) → Told [] 0 s
-told_start s h = record { named = λ name p q. absurd (omega arith); unknown = λ v q. refl; holds = λ a x. h a }
+pub told_start : Told [] 0 new_solver (recording new_solver)
+told_start = record { named = λ name p q. absurd (omega arith); unknown = λ v q. refl; holds = λ a x. (refl, tt); mirrors = mirrors_start }
 
 -- the next name
-named_next : (n : ℕ) (earlier : List Step) (s : SolverState) → Told earlier n s → Told (UserVarName n (Some n) ∷ earlier) (n + 1) s
-named_next n earlier s t = record {
+named_next : (n : ℕ) (earlier : List Step) (s : SolverState) (r : Recording) → Told earlier n s r → Told (UserVarName n (Some n) ∷ earlier) (n + 1) s r
+named_next n earlier s r t = record {
   named = λ name p q. at name p q (eqb (n + 1) name) refl;
   unknown = λ v q. let e : eqb n v ≡ false = ne_eqb n v (λ x. omega arith) in rw e (t.unknown v (omega arith));
   holds = t.holds;
+  mirrors = record { unsat = t.mirrors.unsat; units = t.mirrors.units };
 }
   where
     at : (name : ℕ) → 0 < name → name ≤ n + 1 → (b : Bool) → eqb (n + 1) name ≡ b → cond b (Some n) (variable_of earlier name) ≡ Some (name - 1)
     at name p q true e = let same = eqb-true (n + 1) name e in let f : n ≡ name - 1 = omega arith in ap (λ x. Some x) f
     at name p q false e = let differs = eqb-false (n + 1) name e in t.named name p (omega arith)
 
-pub brings_names : (count n : ℕ) (earlier : List Step) (s : SolverState) → Told earlier n s → Brings earlier (naming count n) (map NewName (names_from count (n + 1))) (n + count) s
-brings_names zero n earlier s t = let e : n ≡ n + zero = omega arith in record { later = earlier; told = subst (λ m. Told earlier m s) e t; leads = λ more fs c. c }
-brings_names (suc count) n earlier s t =
-    let r = brings_names count (n + 1) (UserVarName n (Some n) ∷ earlier) s (named_next n earlier s t) in
+pub brings_names : (count n : ℕ) (earlier : List Step) (s : SolverState) (q : Recording) → Told earlier n s q → Brings earlier (naming count n) (map NewName (names_from count (n + 1))) [] (n + count) s q
+brings_names zero n earlier s q t = let e : n ≡ n + zero = omega arith in record { later = earlier; told = subst (λ m. Told earlier m s q) e t; leads = λ more fs rest c. c }
+brings_names (suc count) n earlier s q t =
+    let r = brings_names count (n + 1) (UserVarName n (Some n) ∷ earlier) s q (named_next n earlier s q t) in
     let e : n + 1 + count ≡ n + suc count = omega arith in
     record {
       later = r.later;
-      told = subst (λ m. Told r.later m s) e r.told;
-      leads = λ more fs c. ordered (new_name refl (t.unknown n (omega arith))) (r.leads more fs c);
+      told = subst (λ m. Told r.later m s q) e r.told;
+      leads = λ more fs rest c. ordered refl (λ u. tt) (new_name refl (t.unknown n (omega arith))) (r.leads more fs rest c);
     }
 
 -- the names that are expected
@@ -132,25 +138,36 @@ none_added : (n v : ℕ) (c : List ℕ) (f : Stored) (b : Bool) → n ≤ v → 
 none_added n v c f true q low h = h
 none_added n v c f false q low h = none_stored n v c f q low h
 
-told_added : (n : ℕ) (c : List ℕ) (earlier : List Step) (s t : SolverState) → AreLow n c → ((a : Valuation) → Allows s a → clause_true a c ≡ true → Allows t a) → Told earlier n s → Told (AddClause c ∷ earlier) n t
-told_added n c earlier s t low onwards h = record {
+told_added : (n : ℕ) (c : List ℕ) (earlier : List Step) (s t : SolverState) (q r : Recording) → AreLow n c → IsStrictlyIncreasing c → RecordsClause c q r → ((a : Valuation) → Allows s a → clause_true a c ≡ true → Allows t a) → Told earlier n s q → Told (AddClause c ∷ earlier) n t r
+told_added n c earlier s t q r low increasing kept onwards h = record {
   named = h.named;
   unknown = λ v q. none_added n v c (stored_after earlier) (stored_after earlier).unsat q low (h.unknown v q);
   holds = λ a x. onwards a (h.holds a x.0) x.1;
+  mirrors = mirrors_added c earlier q r increasing kept h.mirrors;
 }
 
-told_derived : (n : ℕ) (c hashes : List ℕ) (earlier : List Step) (s : SolverState) → AreLow n c → Told earlier n s → Told (AtClause false c hashes ∷ earlier) n s
-told_derived n c hashes earlier s low h = record { named = h.named; unknown = λ v q. none_stored n v c (stored_after earlier) q low (h.unknown v q); holds = h.holds }
+told_derived : (n : ℕ) (c hashes : List ℕ) (earlier : List Step) (s : SolverState) (q r : Recording) → AreLow n c → IsStrictlyIncreasing c → RecordsClause c q r → Told earlier n s q → Told (AtClause false c hashes ∷ earlier) n s r
+told_derived n c hashes earlier s q r low increasing kept h = record {
+  named = h.named;
+  unknown = λ v q. none_stored n v c (stored_after earlier) q low (h.unknown v q);
+  holds = h.holds;
+  mirrors = mirrors_derived c hashes earlier q r increasing kept h.mirrors;
+}
 
-told_model : (n : ℕ) (c : List ℕ) (earlier : List Step) (s : SolverState) → AreLow n c → Told earlier n s → Told (Model c ∷ earlier) n s
-told_model n c earlier s low h = record { named = h.named; unknown = λ v q. none_known n v c (stored_after earlier).known q low (h.unknown v q); holds = h.holds }
+told_model : (n : ℕ) (c : List ℕ) (earlier : List Step) (s : SolverState) (r : Recording) → AreLow n c → Told earlier n s r → Told (Model c ∷ earlier) n s r
+told_model n c earlier s r low h = record {
+  named = h.named;
+  unknown = λ v q. none_known n v c (stored_after earlier).known q low (h.unknown v q);
+  holds = h.holds;
+  mirrors = record { unsat = h.mirrors.unsat; units = h.mirrors.units };
+}
 
-told_assumed : (n : ℕ) (earlier : List Step) (s : SolverState) → Told earlier n s → Told (Assumptions [] ∷ earlier) n s
-told_assumed n earlier s h = record { named = h.named; unknown = h.unknown; holds = h.holds }
+told_assumed : (n : ℕ) (earlier : List Step) (s : SolverState) (r : Recording) → Told earlier n s r → Told (Assumptions [] ∷ earlier) n s r
+told_assumed n earlier s r h = record { named = h.named; unknown = h.unknown; holds = h.holds; mirrors = record { unsat = h.mirrors.unsat; units = h.mirrors.units } }
 
 -- literals are read through the steps
-spelt : (n : ℕ) (earlier : List Step) (s : SolverState) → Told earlier n s → (l : Literal) → 0 < l.name → l.name ≤ n → Spells (variable_of earlier) l (code_of l)
-spelt n earlier s t l p q = record { variable = l.name - 1; named = t.named l.name p q; is = refl }
+spelt : (n : ℕ) (earlier : List Step) (s : SolverState) (r : Recording) → Told earlier n s r → (l : Literal) → 0 < l.name → l.name ≤ n → Spells (variable_of earlier) l (code_of l)
+spelt n earlier s r t l p q = record { variable = l.name - 1; named = t.named l.name p q; is = refl }
 
 -- a clause's literals and those of its step are the same set
 code_in : (code : ℕ) (ls : List Literal) → Among code (map code_of ls) → (l : Literal) × Among l ls × (code ≡ code_of l)
@@ -167,14 +184,14 @@ within_all n m (l ∷ ls) h w =
     let r = raised_least (max m l.name) (names_of ls) in
     ((i.positive, omega arith), within_all n (max m l.name) ls h i.others)
 
-same_set : (n : ℕ) (earlier : List Step) (s : SolverState) → Told earlier n s → (ls : List Literal) (c : List ℕ) → AreWithin n ls → IsNormalOf (map code_of ls) c → SameSet (variable_of earlier) ls c
-same_set n earlier s t ls c w normal = (
-  all_from (λ l. (code : ℕ) × Spells (variable_of earlier) l code × Among code c) ls (λ l m. let p = all_at (λ l. (0 < l.name) × (l.name ≤ n)) l ls w m in (code_of l, spelt n earlier s t l p.0 p.1, into (code_of l) (among_mapped code_of l ls m))),
+same_set : (n : ℕ) (earlier : List Step) (s : SolverState) (r : Recording) → Told earlier n s r → (ls : List Literal) (c : List ℕ) → AreWithin n ls → IsNormalOf (map code_of ls) c → SameSet (variable_of earlier) ls c
+same_set n earlier s q t ls c w normal = (
+  all_from (λ l. (code : ℕ) × Spells (variable_of earlier) l code × Among code c) ls (λ l m. let p = all_at (λ l. (0 < l.name) × (l.name ≤ n)) l ls w m in (code_of l, spelt n earlier s q t l p.0 p.1, into (code_of l) (among_mapped code_of l ls m))),
   all_from (λ code. (l : Literal) × Spells (variable_of earlier) l code × Among l ls) c
       (λ code m.
       let r = code_in code ls (back code m) in
       let p = all_at (λ l. (0 < l.name) × (l.name ≤ n)) r.0 ls w r.1 in
-      (r.0, subst (λ x. Spells (variable_of earlier) r.0 x) (sym r.2) (spelt n earlier s t r.0 p.0 p.1), r.1)),
+      (r.0, subst (λ x. Spells (variable_of earlier) r.0 x) (sym r.2) (spelt n earlier s q t r.0 p.0 p.1), r.1)),
 )
   where
     into : (x : ℕ) → Among x (map code_of ls) → Among x c
@@ -184,45 +201,50 @@ same_set n earlier s t ls c w normal = (
     back x m = among_is (map code_of ls) x (among_from_contains (map code_of ls) x (normal.only x (contains_from_among c x (is_from_among c x m))))
 
 -- a clause
-pub brings_clause : (n : ℕ) (earlier : List Step) (s t : SolverState) (ls : List Literal) (steps : List Step) → AreWithin n ls → IsBounded n (map code_of ls) → WritesClause s (map code_of ls) steps → GainsClause s t (map code_of ls) → Told earlier n s → Brings earlier steps (Adds ls ∷ []) n t
-brings_clause n earlier s t ls steps w b (unwritten none) takes told = record {
-  later = earlier;
-  told = record { named = told.named; unknown = told.unknown; holds = λ a x. absurd (none.none a (told.holds a x)) };
-  leads = λ more fs c. left_out tt (λ a x. none.none a (told.holds a x)) c;
-}
-brings_clause n earlier s t ls steps w b (written {normal = c} normal) takes told = record {
+pub brings_clause : (n : ℕ) (earlier : List Step) (s t : SolverState) (ls : List Literal) (steps : List Step) → AreWithin n ls → IsBounded n (map code_of ls) → WritesClause (recording s) (recording t) (map code_of ls) steps → GainsClause s t (map code_of ls)
+    → Told earlier n s (recording s) → Brings earlier steps (Adds ls ∷ []) [] n t (recording t)
+brings_clause n earlier s t ls steps w b (unwritten known same) takes told =
+    let none : (a : Valuation) → Allows s a → ⊥ = λ a h. both_ways s.unsat h.0 known in
+    record {
+      later = earlier;
+      told = record { named = told.named; unknown = told.unknown; holds = λ a x. absurd (none a (told.holds a x)); mirrors = mirrors_same same told.mirrors };
+      leads = λ more fs rest c. left_out tt (record { recorded = told.mirrors.unsat ∙ known; none = λ a x. none a (told.holds a x) }) c;
+    }
+brings_clause n earlier s t ls steps w b (written {normal = c} normal kept) takes told = record {
   later = AddClause c ∷ earlier;
-  told = told_added n c earlier s t (low_from n c (normal_bounded n (map code_of ls) c normal b)) (λ a h e. takes.onwards a h (true_with a c (map code_of ls) normal.only e)) told;
-  leads = λ more fs d. ordered (adds (same_set n earlier s told ls c w normal)) d;
+  told = told_added n c earlier s t (recording s) (recording t) (low_from n c (normal_bounded n (map code_of ls) c normal b)) normal.increasing kept (λ a h e. takes.onwards a h (true_with a c (map code_of ls) normal.only e)) told;
+  leads = λ more fs rest d. ordered refl (λ u. both_ways (stored_after earlier).unsat (told.mirrors.unsat ∙ kept.going) u) (adds (same_set n earlier s (recording s) told ls c w normal)) d;
 }
 
 -- a clause with its names
-pub brings_added : (n : ℕ) (earlier : List Step) (s t : SolverState) (j : Judge) (ls : List Literal) (steps : List Step) → HasFirstNames j n → AreNames (names_of ls) → are_within (names_of ls) ≡ true → WritesClause s (map code_of ls) steps → GainsClause s t (map code_of ls) → Told earlier n s
-    → Brings earlier (naming (raised n (names_of ls) - n) n ++ steps) (bringing (names_of ls) j ++ Adds ls ∷ []) (raised n (names_of ls)) t
+pub brings_added : (n : ℕ) (earlier : List Step) (s t : SolverState) (j : Judge) (ls : List Literal) (steps : List Step) → HasFirstNames j n → AreNames (names_of ls) → are_within (names_of ls) ≡ true → WritesClause (recording s) (recording t) (map code_of ls) steps → GainsClause s t (map code_of ls) → Told earlier n s (recording s)
+    → Brings earlier (naming (raised n (names_of ls) - n) n ++ steps) (bringing (names_of ls) j ++ Adds ls ∷ []) [] (raised n (names_of ls)) t (recording t)
 brings_added n earlier s t j ls steps plain positive w wrote takes told =
     let m = raised n (names_of ls) in
     let least = raised_least n (names_of ls) in
     let e : n + (m - n) ≡ m = omega arith in
-    let named = subst (λ k. Brings earlier (naming (m - n) n) (map NewName (names_from (m - n) (n + 1))) k s) e (brings_names (m - n) n earlier s told) in
+    let named = subst (λ k. Brings earlier (naming (m - n) n) (map NewName (names_from (m - n) (n + 1))) [] k s (recording s)) e (brings_names (m - n) n earlier s (recording s) told) in
     let clause = brings_clause m named.later s t ls steps (within_all m n ls (omega arith) w) (codes_bounded n ls w) wrote takes named.told in
-    subst (λ es. Brings earlier (naming (m - n) n ++ steps) (es ++ Adds ls ∷ []) m t) (sym (bringing_plain (names_of ls) j n plain positive)) (brings_then named clause)
+    subst (λ es. Brings earlier (naming (m - n) n ++ steps) (es ++ Adds ls ∷ []) [] m t (recording t)) (sym (bringing_plain (names_of ls) j n plain positive)) (brings_then named clause)
 
 -- derived clauses, while something is expected
-pub record Passes (earlier steps : List Step) (n : ℕ) (solver : SolverState) : Type 0 where
+pub record Passes (earlier steps : List Step) (n : ℕ) (solver : SolverState) (r : Recording) : Type 0 where
   pub later : List Step
-  pub told : Told later n solver
-  pub leads : (more : List Step) (e : Expected) (fs : List Expected) → Certifies the_checking later more (e ∷ fs) → Certifies the_checking earlier (steps ++ more) (e ∷ fs)
+  pub told : Told later n solver r
+  pub leads : (more : List Step) (e : Expected) (fs : List Expected) (rest : List ℕ) → Certifies the_checking later more (e ∷ fs) rest → Certifies the_checking earlier (steps ++ more) (e ∷ fs) rest
 
-passes_derived : (n : ℕ) (steps earlier : List Step) (s : SolverState) → AllByRecursion (IsDerived n) steps → Told earlier n s → Passes earlier steps n s
-passes_derived n [] earlier s h t = record { later = earlier; told = t; leads = λ more e fs c. c }
-passes_derived n (step ∷ steps) earlier s h t =
-    let c = h.0.0 in
-    let hashes = h.0.1 in
-    let r = passes_derived n steps (AtClause false c hashes ∷ earlier) s h.1 (told_derived n c hashes earlier s (low_from n c h.0.3) t) in
+passes_derived : (n : ℕ) (steps earlier : List Step) (s : SolverState) (q r : Recording) → AreDerived n q steps r → Told earlier n s q → Passes earlier steps n s r
+passes_derived n [] earlier s q r h t = record { later = earlier; told = subst (Told earlier n s) (sym h) t; leads = λ more e fs rest c. c }
+passes_derived n (step ∷ steps) earlier s q r h t =
+    let d = h.1 in
+    let now = told_derived n d.clause d.hashes earlier s q h.0 (low_from n d.clause d.bounded) d.increasing d.recorded t in
+    let p = passes_derived n steps (AtClause false d.clause d.hashes ∷ earlier) s h.0 r h.2 now in
     record {
-      later = r.later;
-      told = r.told;
-      leads = λ more e fs d. subst (λ x. Certifies the_checking earlier (x ∷ (steps ++ more)) (e ∷ fs)) (sym h.0.2) (other refl (r.leads more e fs d));
+      later = p.later;
+      told = p.told;
+      leads = λ more e fs rest c.
+          subst (λ x. Certifies the_checking earlier (x ∷ (steps ++ more)) (e ∷ fs) rest) (sym d.is)
+          (other refl (λ u. absurd (both_ways (stored_after earlier).unsat (t.mirrors.unsat ∙ d.recorded.going) u)) (p.leads more e fs rest c));
     }
 
 -- a model's line
@@ -241,54 +263,64 @@ low_line (l ∷ ls) (suc m) k n e q =
     let tl : map variable ls ≡ names_from m (k + 1) = cc in
     (omega arith, low_line ls m (k + 1) n tl (omega arith))
 
-line_spelt : (n : ℕ) (earlier : List Step) (s : SolverState) → Told earlier n s → (ls whole : List ℕ) → AreLow n ls → ((c : ℕ) → Among c ls → Among c whole) → EachSpelt (variable_of earlier) (named_literals ls) whole
-line_spelt n earlier s t [] whole low m = tt
-line_spelt n earlier s t (l ∷ ls) whole low m =
+line_spelt : (n : ℕ) (earlier : List Step) (s : SolverState) (r : Recording) → Told earlier n s r → (ls whole : List ℕ) → AreLow n ls → ((c : ℕ) → Among c ls → Among c whole) → EachSpelt (variable_of earlier) (named_literals ls) whole
+line_spelt n earlier s r t [] whole low m = tt
+line_spelt n earlier s r t (l ∷ ls) whole low m =
     let h : variable l < n = low.0 in (
-      (l, subst (λ c. Spells (variable_of earlier) (named_literal l) c) (code_back l) (spelt n earlier s t (named_literal l) (omega arith) (omega arith)), m l (inl refl)),
-      line_spelt n earlier s t ls whole low.1 (λ c k. m c (inr k)),
+      (l, subst (λ c. Spells (variable_of earlier) (named_literal l) c) (code_back l) (spelt n earlier s r t (named_literal l) (omega arith) (omega arith)), m l (inl refl)),
+      line_spelt n earlier s r t ls whole low.1 (λ c k. m c (inr k)),
     )
 
 -- what shows an answer
-brings_shown : (n : ℕ) (earlier : List Step) (s : SolverState) (j : Judge) (line : List ℕ) (answer : Answer) → s.var_count ≡ n → IsTrueOf s line answer → IsRight j [] (reported_outcome answer line) → Told earlier n s
-    → Brings earlier (shown_by answer line) (showing j [] (reported_outcome answer line)) n s
+brings_shown : (n : ℕ) (earlier : List Step) (s : SolverState) (j : Judge) (line : List ℕ) (answer : Answer) → s.var_count ≡ n → IsTrueOf s line answer → IsRight j [] (reported_outcome answer line) → Told earlier n s (recording s)
+    → Brings earlier (shown_by answer line) (showing j [] (reported_outcome answer line)) [] n s (recording s)
 brings_shown n earlier s j line kind.Sat v truth right t =
     let low = low_line line s.var_count 0 n truth.0 (omega arith) in
     record {
       later = Model line ∷ earlier;
-      told = told_model n line earlier s low t;
-      leads = λ more fs c. ordered (shows right.names (line_spelt n earlier s t line line low (λ c m. m)) tt) c;
+      told = told_model n line earlier s (recording s) low t;
+      leads = λ more fs rest c. ordered refl (λ u. both_ways (stored_after earlier).unsat (t.mirrors.unsat ∙ truth.3.0) u) (shows right.names (line_spelt n earlier s (recording s) t line line low (λ c m. m)) tt) c;
     }
-brings_shown n earlier s j line kind.Unsat v truth right t = record { later = earlier; told = t; leads = λ more fs c. left_out tt (λ a x. truth a (t.holds a x)) c }
-brings_shown n earlier s j line kind.Unknown v truth right t = record { later = earlier; told = t; leads = λ more fs c. c }
+brings_shown n earlier s j line kind.Unsat v truth right t = record {
+  later = earlier;
+  told = t;
+  leads = λ more fs rest c. left_out refl (record { recorded = t.mirrors.unsat ∙ truth; none = λ a x. both_ways s.unsat (t.holds a x).0 truth }) c;
+}
+brings_shown n earlier s j line kind.Unknown v truth right t = record { later = earlier; told = t; leads = λ more fs rest c. c }
 
 -- the steps of an ask
 abbrev pub ask_steps : List Step → Answer → List ℕ → List Step
 ask_steps derived answer line = Assumptions [] ∷ (derived ++ (shown_by answer line ++ Assumptions [] ∷ []))
 
-pub brings_ask : (n : ℕ) (earlier : List Step) (s t : SolverState) (j : Judge) (derived : List Step) (line : List ℕ) (answer : Answer) → t.var_count ≡ n → ((a : Valuation) → Allows s a → Allows t a)
-    → AllByRecursion (IsDerived n) derived → IsTrueOf t line answer → IsRight j [] (reported_outcome answer line) → Told earlier n s
-    → Brings earlier (ask_steps derived answer line) (Opens [] (reported_outcome answer line) ∷ (showing j [] (reported_outcome answer line) ++ (Closes ∷ []))) n t
-brings_ask n earlier s t j derived line answer v onwards are_derived truth right told =
+-- what is known needs no round
+known_outcome : (s : SolverState) (report : AskReport) (line : List ℕ) → SaysKnown s report → s.unsat ≡ true → IsKnown (reported_outcome report.answer line) report.steps
+known_outcome s report line h u = record { outcome = ap (λ (a : Answer). reported_outcome a line) (h u).0; rounds = (h u).1 }
+
+pub brings_ask : (n budget : ℕ) (earlier : List Step) (s t : SolverState) (j : Judge) (derived : List Step) (line : List ℕ) (report : AskReport) → t.var_count ≡ n → Searched budget s t report line
+    → AreDerived n (recording s) derived (recording t) → IsRight j [] (reported_outcome report.answer line) → Told earlier n s (recording s)
+    → Brings earlier (ask_steps derived report.answer line) (Opens [] (reported_outcome report.answer line) ∷ (showing j [] (reported_outcome report.answer line) ++ (Closes ∷ []))) (report.steps ∷ []) n t (recording t)
+brings_ask n budget earlier s t j derived line report v searched are_derived right told =
+    let answer = report.answer in
     let o = reported_outcome answer line in
-    let opened : Told (Assumptions [] ∷ earlier) n t = told_assumed n earlier t (record { named = told.named; unknown = told.unknown; holds = λ a x. onwards a (told.holds a x) }) in
-    let passed = passes_derived n derived (Assumptions [] ∷ earlier) t are_derived opened in
-    let shown = brings_shown n passed.later t j line answer v truth right passed.told in
+    let begun : Told earlier n t (recording s) = record { named = told.named; unknown = told.unknown; holds = λ a x. searched.same.onwards a (told.holds a x); mirrors = told.mirrors } in
+    let opened = told_assumed n earlier t (recording s) begun in
+    let passed = passes_derived n derived (Assumptions [] ∷ earlier) t (recording s) (recording t) are_derived opened in
+    let shown = brings_shown n passed.later t j line answer v searched.truth right passed.told in
     record {
       later = Assumptions [] ∷ shown.later;
-      told = told_assumed n shown.later t shown.told;
-      leads = λ more fs c.
-          let last : Certifies the_checking passed.later (shown_by answer line ++ (Assumptions [] ∷ more)) (showing j [] o ++ (Closes ∷ fs)) = shown.leads (Assumptions [] ∷ more) (Closes ∷ fs) (ordered closes c) in
+      told = told_assumed n shown.later t (recording t) shown.told;
+      leads = λ more fs rest c.
+          let last : Certifies the_checking passed.later (shown_by answer line ++ (Assumptions [] ∷ more)) (showing j [] o ++ (Closes ∷ fs)) rest = shown.leads (Assumptions [] ∷ more) (Closes ∷ fs) rest (ordered refl (λ u. tt) closes c) in
           let at : ask_steps derived answer line ++ more ≡ Assumptions [] ∷ (derived ++ (shown_by answer line ++ (Assumptions [] ∷ more))) = ap (λ xs. Assumptions [] ∷ xs) (append_assoc derived (shown_by answer line ++ Assumptions [] ∷ []) more ∙ ap (λ xs. derived ++ xs) (append_assoc (shown_by answer line) (Assumptions [] ∷ []) more)) in
           let es : (showing j [] o ++ (Closes ∷ [])) ++ fs ≡ showing j [] o ++ (Closes ∷ fs) = append_assoc (showing j [] o) (Closes ∷ []) fs in
-          subst (λ xs. Certifies the_checking earlier xs (Opens [] o ∷ ((showing j [] o ++ (Closes ∷ [])) ++ fs))) (sym at)
-          (subst (λ xs. Certifies the_checking earlier (Assumptions [] ∷ (derived ++ (shown_by answer line ++ (Assumptions [] ∷ more)))) (Opens [] o ∷ xs)) (sym es)
-          (ordered (opens (tt, tt)) (derived_leads answer (shown_by answer line ++ (Assumptions [] ∷ more)) fs passed last)));
+          subst (λ xs. Certifies the_checking earlier xs (Opens [] o ∷ ((showing j [] o ++ (Closes ∷ [])) ++ fs)) (report.steps ∷ rest)) (sym at)
+          (subst (λ xs. Certifies the_checking earlier (Assumptions [] ∷ (derived ++ (shown_by answer line ++ (Assumptions [] ∷ more)))) (Opens [] o ∷ xs) (report.steps ∷ rest)) (sym es)
+          (asked (λ u. known_outcome s report line searched.known (sym told.mirrors.unsat ∙ u)) (opens (tt, tt)) (derived_leads answer (shown_by answer line ++ (Assumptions [] ∷ more)) fs rest passed last)));
     }
   where
     -- something is expected behind the derived clauses
-    derived_leads : (answer : Answer) (more : List Step) (fs : List Expected) (passed : Passes (Assumptions [] ∷ earlier) derived n t) → Certifies the_checking passed.later more (showing j [] (reported_outcome answer line) ++ (Closes ∷ fs))
-        → Certifies the_checking (Assumptions [] ∷ earlier) (derived ++ more) (showing j [] (reported_outcome answer line) ++ (Closes ∷ fs))
-    derived_leads kind.Sat more fs passed c = passed.leads more (Shows (map (λ m. m.name) j.in_use) [] (named_literals line)) (Closes ∷ fs) c
-    derived_leads kind.Unsat more fs passed c = passed.leads more (Fails [] []) (Closes ∷ fs) c
-    derived_leads kind.Unknown more fs passed c = passed.leads more Closes fs c
+    derived_leads : (answer : Answer) (more : List Step) (fs : List Expected) (rest : List ℕ) (passed : Passes (Assumptions [] ∷ earlier) derived n t (recording t)) → Certifies the_checking passed.later more (showing j [] (reported_outcome answer line) ++ (Closes ∷ fs)) rest
+        → Certifies the_checking (Assumptions [] ∷ earlier) (derived ++ more) (showing j [] (reported_outcome answer line) ++ (Closes ∷ fs)) rest
+    derived_leads kind.Sat more fs rest passed c = passed.leads more (Shows (map (λ m. m.name) j.in_use) [] (named_literals line)) (Closes ∷ fs) rest c
+    derived_leads kind.Unsat more fs rest passed c = passed.leads more (Fails [] []) (Closes ∷ fs) rest c
+    derived_leads kind.Unknown more fs rest passed c = passed.leads more Closes fs rest c

@@ -2,6 +2,7 @@
 use Rattle.std.proofs.Common.{ℕ, zero, suc, ◌+◌, ◌-◌, ◌≤◌, ◌≡◌, true, false, cond, List, [], ◌∷◌, ◌++◌, map, drop, Some, None, Result, Ok, Err, OnOk, refl, sym, ◌∙◌, ap, subst, arith, append_assoc, append-nil, max}
 use Rattle.sat_base.specs.device.Device.{Takes}
 use Rattle.sat_base.proofs.lemmas.device.Writes.{took_none, took_more}
+use Rattle.std.proofs.lemmas.Bool.{both_ways}
 use Rattle.std.proofs.lemmas.List.{map-append}
 use Rattle.std.specs.List.{AllByRecursion, slice_get}
 use Rattle.sat_base.specs.values.Literals.{variable}
@@ -16,8 +17,8 @@ use Rattle.certify.specs.declared.summary.AskReport.{AskReport}
 use Rattle.certify.specs.answers.Answers.{Outcome, refused_line, outcome_text, answers_from}
 use Rattle.certify.specs.answers.AnswerForms.{named_literal, named_literals}
 use Rattle.certify.specs.answers.RightAnswers.{IsRight, AreRight}
-use Rattle.certify.specs.run.FinishedRun.{refused_count, kind_of, IsSpent, AreSpent}
-use Rattle.certify.specs.search.SolverState.{SolverState, Allows, GainsClause}
+use Rattle.certify.specs.run.FinishedRun.{refused_count, kind_of, IsSpent, AreSpent, asked_steps}
+use Rattle.certify.specs.search.SolverState.{SolverState, Allows, GainsClause, recording}
 use Rattle.certify.specs.script.CappedNames.{CappedScript}
 use Rattle.certify.specs.run.Running.{HasFirstNames, Reached, Refused, Added, Asked, Took, TookAll, Told, IsSimple, IsTrueOf, WritesClause, WroteClauseOf, AnsweredAsk, reported_text, are_within, code_of, naming, reported_outcome, raised, steps_of}
 use Rattle.certify.specs.run.Outputs.{Both, Tells, WritesSteps}
@@ -25,7 +26,7 @@ use Rattle.sat_base.specs.steps.Steps.{Step}
 use Rattle.certify.specs.confirm.ListChecking.{the_checking}
 use Rattle.certify.specs.confirm.Matches.{Adds, Opens, Closes, bringing, expected, showing}
 use Rattle.certify.specs.run.Certifies.{Certifies}
-use Rattle.certify.specs.search.SearchEnds.{IsDerived}
+use Rattle.certify.specs.search.SearchEnds.{AreDerived}
 use Rattle.certify.proofs.lemmas.run.CertifiedPieces.{Brings, brings_nothing, brings_added, brings_ask, ask_steps, code_back, further}
 use Rattle.certify.proofs.lemmas.run.WrittenSteps.{wrote_then}
 use Rattle.certify.proofs.lemmas.run.FirstNames.{over_plain, bring_all_plain, refused_plain, in_use_plain}
@@ -73,7 +74,7 @@ reached_refused script ending budget left number old new answered before ls simp
       counted = rw (h.solver, h.asks) r.counted;
       earlier = (brings_nothing r.told).later;
       told = rw (h.solver, h.names) (brings_nothing r.told).told;
-      certifies = λ rest. further before (r.certifies rest) (brings_nothing r.told) (ap (λ cs. expected r.judge cs rest) (accepted_refused r.judge ls left e));
+      certifies = λ rest. rw h.asks (further before (asked_steps old.asks.items) (r.certifies rest) (brings_nothing r.told) (ap (λ cs. expected r.judge cs rest) (accepted_refused r.judge ls left e)));
     }
 
 over_all : (b : Judge) (most n : ℕ) (ls : List Literal) → HasFirstNames b most → raised n (names_of ls) ≤ most → are_within (names_of ls) ≡ true → map (over b) ls ≡ map code_of ls
@@ -87,7 +88,7 @@ plain_clause : (j : Judge) (n : ℕ) (ls : List Literal) → HasFirstNames j n �
 plain_clause j n ls p = record { first_unused = p.first_unused; in_use = p.in_use; modes = p.modes; next_identity = p.next_identity }
 
 pub reached_clause : (script : List Command) (ending : Ending) (budget : ℕ) (left : List Command) (number : ℕ) (old new : Session) (answered : List ℕ) (before steps : List Step) (ls : List Literal)
-    → IsSimple (Clause ls) → are_within (names_of ls) ≡ true → Added ls old new → WritesClause old.solver (map code_of ls) steps
+    → IsSimple (Clause ls) → are_within (names_of ls) ≡ true → Added ls old new → WritesClause (recording old.solver) (recording new.solver) (map code_of ls) steps
     → Reached script ending budget (Clause ls ∷ left) number old answered before → Reached script ending budget left (number + 1) new (answered ++ []) (before ++ (naming (new.names - old.names) old.names ++ steps))
 reached_clause script ending budget left number old new answered before steps ls simple w h wrote r =
     let e : refused_literal r.judge (names_of ls) ≡ None = refused_plain (names_of ls) r.judge old.names r.plain simple ∙ ap (λ b. cond b None (Some PastLimit)) w in
@@ -97,8 +98,8 @@ reached_clause script ending budget left number old new answered before steps ls
     let codes = over_all b (raised old.names (names_of ls)) old.names ls p.0 (omega arith) w in
     let P : List Command → List Outcome → Type 0 = AreRight r.judge in
     let brought = brings_added old.names r.earlier old.solver new.solver r.judge ls steps r.plain simple w wrote h.clauses r.told in
-    let all : Brings r.earlier (naming (new.names - old.names) old.names ++ steps) (bringing (names_of ls) r.judge ++ Adds ls ∷ []) new.names new.solver =
-    subst (λ m. Brings r.earlier (naming (m - old.names) old.names ++ steps) (bringing (names_of ls) r.judge ++ Adds ls ∷ []) m new.solver) (sym h.names) brought in
+    let all : Brings r.earlier (naming (new.names - old.names) old.names ++ steps) (bringing (names_of ls) r.judge ++ Adds ls ∷ []) [] new.names new.solver (recording new.solver) =
+    subst (λ m. Brings r.earlier (naming (m - old.names) old.names ++ steps) (bringing (names_of ls) r.judge ++ Adds ls ∷ []) [] m new.solver (recording new.solver)) (sym h.names) brought in
     record {
       judge = with_clause ls b;
       done = r.done;
@@ -116,9 +117,9 @@ reached_clause script ending budget left number old new answered before steps ls
       counted = rw h.asks (h.rounds ∙ r.counted);
       earlier = all.later;
       told = all.told;
-      certifies = λ rest. further before (r.certifies rest) all
+      certifies = λ rest. rw h.asks (further before (asked_steps old.asks.items) (r.certifies rest) all
           (ap (λ cs. expected r.judge cs rest) (accepted_clause r.judge ls left e)
-          ∙ sym (append_assoc (bringing (names_of ls) r.judge) (Adds ls ∷ []) (expected (with_clause ls b) (accepted_of (with_clause ls b) left) rest)));
+          ∙ sym (append_assoc (bringing (names_of ls) r.judge) (Adds ls ∷ []) (expected (with_clause ls b) (accepted_of (with_clause ls b) left) rest))));
     }
 
 -- the names of a model's line
@@ -151,7 +152,7 @@ right_of j n s line kind.Sat p c f b t =
       clauses = f t.1 t.3;
       asked = tt;
     }
-right_of j n s line kind.Unsat p c f b t = record { order = tt; among = tt; none = λ a x y. t a (b a y) }
+right_of j n s line kind.Unsat p c f b t = record { order = tt; among = tt; none = λ a x y. both_ways s.unsat (b a y).0 t }
 right_of j n s line kind.Unknown p c f b t = tt
 
 kind_of_outcome : (answer : Answer) (line : List ℕ) → kind_of (reported_outcome answer line) ≡ answer
@@ -170,18 +171,20 @@ spent_push budget before (x ∷ xs) r h s =
     (h.0, spent_push budget (before + x.steps) xs r h.1 (subst (λ m. IsSpent budget m r) e s))
 
 pub reached_ask : (script : List Command) (ending : Ending) (budget : ℕ) (left : List Command) (number : ℕ) (old new : Session) (answered : List ℕ) (before derived : List Step) (report : AskReport)
-    → old.solver.var_count ≡ old.names → Asked budget old new report → AllByRecursion (IsDerived old.solver.var_count) derived
+    → old.solver.var_count ≡ old.names → Asked budget old new report → AreDerived old.solver.var_count (recording old.solver) derived (recording new.solver)
     → Reached script ending budget (Ask [] ∷ left) number old answered before
     → Reached script ending budget left (number + 1) new (answered ++ outcome_text (reported_outcome report.answer new.lits.items)) (before ++ ask_steps derived report.answer new.lits.items)
 reached_ask script ending budget left number old new answered before derived report same h are_derived r =
     let o = reported_outcome report.answer new.lits.items in
-    let onwards = λ (a : Valuation) (u : Allows new.solver a). (r.clauses a).0 (h.same.back a u) in
-    let back = λ (a : Valuation) (u : EachHolds a r.judge.clauses). h.same.onwards a ((r.clauses a).1 u) in
-    let is_right : IsRight r.judge [] o = right_of r.judge old.names new.solver new.lits.items report.answer r.plain (h.variables ∙ same) onwards back h.truth in
+    let onwards = λ (a : Valuation) (u : Allows new.solver a). (r.clauses a).0 (h.searched.same.back a u) in
+    let back = λ (a : Valuation) (u : EachHolds a r.judge.clauses). h.searched.same.onwards a ((r.clauses a).1 u) in
+    let is_right : IsRight r.judge [] o = right_of r.judge old.names new.solver new.lits.items report.answer r.plain (h.searched.variables ∙ same) onwards back h.searched.truth in
     let P : List Outcome → Type 0 = AreRight start (accepted_of start script) in
     let z : steps_of old.asks.items ≡ 0 + steps_of old.asks.items = omega arith in
-    let brought = brings_ask old.names r.earlier old.solver new.solver r.judge derived new.lits.items report.answer (h.variables ∙ same) h.same.onwards (subst (λ n. AllByRecursion (IsDerived n) derived) same are_derived) h.truth is_right r.told in
-    let spelt : IsSpent budget (0 + steps_of old.asks.items) report = subst (λ m. IsSpent budget m report) (r.counted ∙ z) h.spent in
+    let brought = brings_ask old.names budget r.earlier old.solver new.solver r.judge derived new.lits.items report (h.searched.variables ∙ same) h.searched (subst (λ n. AreDerived n (recording old.solver) derived (recording new.solver)) same are_derived) is_right r.told in
+    let spelt : IsSpent budget (0 + steps_of old.asks.items) report = subst (λ m. IsSpent budget m report) (r.counted ∙ z) h.searched.spent in
+    let counts : (ns : List ℕ) → asked_steps old.asks.items ++ (report.steps ∷ ns) ≡ asked_steps new.asks.items ++ ns = λ ns.
+    sym (append_assoc (asked_steps old.asks.items) (report.steps ∷ []) ns) ∙ ap (λ xs. xs ++ ns) (sym (map-append (λ (q : AskReport). q.steps) old.asks.items (report ∷ []))) ∙ ap (λ (rs : List AskReport). asked_steps rs ++ ns) (sym h.asks) in
     record {
       judge = r.judge;
       done = r.done ++ o ∷ [];
@@ -193,12 +196,13 @@ reached_ask script ending budget left number old new answered before derived rep
       kinds = ap (map (λ (q : AskReport). q.answer)) h.asks ∙ map-append (λ (q : AskReport). q.answer) old.asks.items (report ∷ [])
           ∙ ap (λ ks. ks ++ report.answer ∷ []) r.kinds ∙ ap (λ k. map kind_of r.done ++ k ∷ []) (sym (kind_of_outcome report.answer new.lits.items)) ∙ sym (map-append kind_of r.done (o ∷ []));
       spent = rw h.asks (spent_push budget 0 old.asks.items report r.spent spelt);
-      counted = h.rounds ∙ ap (λ m. m + report.steps) r.counted ∙ sym (steps_push old.asks.items report) ∙ sym (ap steps_of h.asks);
+      counted = h.searched.rounds ∙ ap (λ m. m + report.steps) r.counted ∙ sym (steps_push old.asks.items report) ∙ sym (ap steps_of h.asks);
       earlier = brought.later;
-      told = subst (λ n. Told brought.later n new.solver) (sym h.names) brought.told;
-      certifies = λ rest more c.
-          subst (λ os. Certifies the_checking [] ((before ++ ask_steps derived report.answer new.lits.items) ++ more) (expected start (accepted_of start script) os)) (sym (append_assoc r.done (o ∷ []) rest))
-          (further before (r.certifies (o ∷ rest)) brought (ap (λ es. Opens [] o ∷ es) (sym (append_assoc (showing r.judge [] o) (Closes ∷ []) (expected r.judge (accepted_of r.judge left) rest)))) more c);
+      told = subst (λ n. Told brought.later n new.solver (recording new.solver)) (sym h.names) brought.told;
+      certifies = λ rest more ns c.
+          let all = further before (asked_steps old.asks.items) (r.certifies (o ∷ rest)) brought (ap (λ es. Opens [] o ∷ es) (sym (append_assoc (showing r.judge [] o) (Closes ∷ []) (expected r.judge (accepted_of r.judge left) rest)))) more ns c in
+          subst (λ ks. Certifies the_checking [] ((before ++ ask_steps derived report.answer new.lits.items) ++ more) (expected start (accepted_of start script) ((r.done ++ o ∷ []) ++ rest)) ks) (counts ns)
+          (subst (λ os. Certifies the_checking [] ((before ++ ask_steps derived report.answer new.lits.items) ++ more) (expected start (accepted_of start script) os) (asked_steps old.asks.items ++ (report.steps ∷ ns))) (sym (append_assoc r.done (o ∷ []) rest)) all);
     }
 
 pub took_refused : (r : Result (Unit {0}) RunFault) (ls : List Literal) (number budget : ℕ) (old new : Session) (before after : Both)

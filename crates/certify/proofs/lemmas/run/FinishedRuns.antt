@@ -22,7 +22,7 @@ use Rattle.certify.specs.script.CappedNames.{capped_command, CappedScript, cappe
 use Rattle.std.specs.Prelude.{OnOk, IsOk, IsErr, IsErrOf, ◌⊎◌}
 use Rattle.std.specs.List.{AllByRecursion}
 use Rattle.certify.specs.declared.fault.RunFault.TheVariants as fault
-use Rattle.certify.specs.run.FinishedRun.{RunOf, Answers, Answered, Backs, Backed, HasNoNumber, WriteFails, refused_count, malformed_at}
+use Rattle.certify.specs.run.FinishedRun.{RunOf, Answers, Answered, Backs, TookCertificate, HasNoNumber, WriteFails, asked_steps, refused_count, malformed_at}
 use Rattle.certify.specs.Calls.{NoneFailed, OneFailed}
 use Rattle.certify.specs.run.Outputs.{Both, Ended, AnswersAll, FailsOnce, pair}
 use Rattle.certify.specs.run.Running.{HasFirstNames, Reached, TookAll, Finishes, Done, SumsUp, IsNew, IsOverlong, IsSimple, malformed_text}
@@ -50,8 +50,8 @@ took_nothing script budget s a new = let names = new.names in let solver = new.s
     spent = rw asks tt;
     counted = rw (solver, asks) refl;
     earlier = [];
-    told = rw names (told_start s.solver (λ a. rw solver (refl, tt)));
-    certifies = λ rest more c. c;
+    told = rw (names, solver) told_start;
+    certifies = λ rest more ns c. rw asks c;
   };
 }
 
@@ -71,7 +71,11 @@ run_reached script ending count budget number s summary answered certified steps
       answers = ap (λ m. answered ++ malformed_text m) (malformed ∙ ap (λ k. malformed_at k ending) (sym n)) ∙ ap (λ t. answered ++ t) (sym (ending_malformed number ending)) ∙ sym (r.text []) ∙ ap (answers_from 1 start script ending) (append-nil r.done);
       steps = steps ++ End ∷ [];
       certificate = spelt;
-      certifies = subst (λ os. Certifies the_checking [] (steps ++ End ∷ []) (expected start (accepted_of start script) os)) (append-nil r.done) (r.certifies [] (End ∷ []) (ordered finish complete));
+      certifies =
+          let all = r.certifies [] (End ∷ []) [] (ordered refl (λ u. tt) finish complete) in
+          let counts : asked_steps s.asks.items ++ [] ≡ asked_steps summary.asks.items = append-nil (asked_steps s.asks.items) ∙ ap (λ (rs : _). asked_steps rs.items) (sym asks) in
+          subst (λ ns. Certifies the_checking [] (steps ++ End ∷ []) (expected start (accepted_of start script) r.done) ns) counts
+          (subst (λ os. Certifies the_checking [] (steps ++ End ∷ []) (expected start (accepted_of start script) os) (asked_steps s.asks.items ++ [])) (append-nil r.done) all);
       commands = commands;
       refused = omega (arith, refused, r.refused);
       malformed = malformed;
@@ -131,7 +135,7 @@ run_held cs ending count budget summary answered certified r =
       answers = r.answers ∙ answers_held cs 1 start ending r.outcomes;
       steps = r.steps;
       certificate = r.certificate;
-      certifies = subst (λ cs. Certifies the_checking [] r.steps (expected start cs r.outcomes)) (accepted_of-held start cs) r.certifies;
+      certifies = subst (λ cs. Certifies the_checking [] r.steps (expected start cs r.outcomes) (asked_steps summary.asks.items)) (accepted_of-held start cs) r.certifies;
       commands = r.commands;
       refused = r.refused ∙ count_held cs start;
       malformed = r.malformed ∙ ap (λ k. malformed_at (k + 1) ending) n;
@@ -170,10 +174,10 @@ sent_all a b text e f s =
     subst (Takes a.writer b.writer) (sym same) s.takes
 
 pub backed_if : (r : Result Summary RunFault) (script : CappedScript) (budget : ℕ) (x y : Reader) (a b : Both) → IsScriptOf (GaveAll x y) script → a.certificate.waiting ≡ []
-    → IfOk r (λ summary. Finishes script budget summary a b) → OnOk r (Backed (x, y) (a.answers, b.answers) (a.certificate.writer, b.certificate.writer))
+    → IfOk r (λ summary. Finishes script budget summary a b) → IfOk r (λ summary. TookCertificate summary (x, y) (a.answers, b.answers) (a.certificate.writer, b.certificate.writer))
 backed_if (Ok summary) script budget x y a b e none f =
     let run = run_of e.0 script budget summary f.answered f.certified e.2 f.run in
-    let backs : Backs e.0 f.answered f.certified = record {
+    let backs : Backs e.0 summary f.answered f.certified = record {
       outcomes = run.outcomes;
       right = run.right;
       answers = run.answers;
@@ -181,7 +185,7 @@ backed_if (Ok summary) script budget x y a b e none f =
       certificate = run.certificate;
       certifies = run.certifies;
     } in
-    enough_all x y (λ text. (answered : List ℕ) × (certified : List ℕ) × Takes a.answers b.answers answered × Takes a.certificate.writer b.certificate.writer certified × Backs text answered certified)
+    enough_all x y (λ text. (answered : List ℕ) × (certified : List ℕ) × Takes a.answers b.answers answered × Takes a.certificate.writer b.certificate.writer certified × Backs text summary answered certified)
     e.0 e.1 (f.answered, f.certified, f.answers, sent_all a.certificate b.certificate f.certified none f.none f.certificate, backs)
 backed_if (Err fault) script budget x y a b e none f = tt
 

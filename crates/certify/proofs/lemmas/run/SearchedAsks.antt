@@ -8,16 +8,15 @@ use Rattle.sat_base.specs.script.Judge.{names_from}
 use Rattle.sat_base.specs.device.Sink.{Sink}
 use Rattle.certify.specs.declared.search.solve.SearchEnd.TheVariants as found
 use Rattle.certify.specs.declared.summary.Answer.TheVariants as kind
-use Rattle.certify.specs.search.SolverState.{SolverState, HasModel}
+use Rattle.certify.specs.search.SolverState.{SolverState, HasModel, Recording}
 use Rattle.certify.specs.search.Search.{is_true, valuation_of}
 use Rattle.certify.specs.search.SearchEnds.{Solves, WritesDerived}
-use Rattle.certify.specs.run.FinishedRun.{IsSpent}
-use Rattle.certify.specs.run.Running.{WroteDerived, IsTrueOf}
+use Rattle.certify.specs.run.Running.{Searched, WroteDerived, IsTrueOf}
 use Rattle.certify.proofs.lemmas.run.NamesOfLiterals.{variable_coded}
 use Rattle.certify.proofs.lemmas.run.FirstNames.{names_push}
 
-pub wrote_derived : (n count : ℕ) (old new : Sink) → WritesDerived n count old new → WroteDerived n old new
-wrote_derived n count old new w = record { derived = w.steps; are_derived = w.derived; wrote = record { text = w.text; spelt = w.spells; sent = w.sent } }
+pub wrote_derived : (n count : ℕ) (from to : Recording) (old new : Sink) → WritesDerived n count from to old new → WroteDerived n from to old new
+wrote_derived n count from to old new w = record { derived = w.steps; are_derived = w.derived; wrote = record { text = w.text; spelt = w.spells; sent = w.sent } }
 
 pub ruleset finding = (wrote_derived)
 
@@ -49,19 +48,38 @@ model_push values ls v e h =
 pub true_model : (s : SolverState) (line : List ℕ) → HasModel s → map variable line ≡ names_from s.var_count 0 → EachTrue (valuation_of s.values) line → IsTrueOf s line kind.Sat
 true_model s line m e h = (e, valuation_of s.values, h, m.holds)
 
-pub spent_sat : (steps budget : ℕ) (old new : SolverState) → Solves found.Sat steps budget old new → IsSpent budget old.rounds (record { answer = kind.Sat; steps = steps })
-spent_sat steps budget old new h = record { within = h.within; unknown = λ e. absurd (cc) }
+module _ (steps budget : ℕ) (old new : SolverState) (line : List ℕ) where
+  pub searched_sat : Solves found.Sat steps budget old new → IsTrueOf new line kind.Sat → Searched budget old new (record { answer = kind.Sat; steps = steps }) line
+  searched_sat h truth = record {
+    truth = truth;
+    spent = record { within = h.within; unknown = λ e. absurd (cc) };
+    known = λ e. absurd (h.known e);
+    same = h.same;
+    variables = h.var_count;
+    rounds = h.rounds;
+  }
 
-pub spent_unsat : (steps budget : ℕ) (old new : SolverState) → Solves found.Unsat steps budget old new → IsSpent budget old.rounds (record { answer = kind.Unsat; steps = steps })
-spent_unsat steps budget old new h = record { within = h.within; unknown = λ e. absurd (cc) }
+  pub searched_unsat : Solves found.Unsat steps budget old new → Searched budget old new (record { answer = kind.Unsat; steps = steps }) line
+  searched_unsat h = record {
+    truth = h.right.1;
+    spent = record { within = h.within; unknown = λ e. absurd (cc) };
+    known = λ e. (refl, h.known e);
+    same = h.same;
+    variables = h.var_count;
+    rounds = h.rounds;
+  }
 
-pub spent_unknown : (steps budget : ℕ) (old new : SolverState) → Solves found.Unknown steps budget old new → IsSpent budget old.rounds (record { answer = kind.Unknown; steps = steps })
-spent_unknown steps budget old new h = record { within = h.within; unknown = λ e. h.right.1 }
-
-pub true_unsat : (steps budget : ℕ) (old new : SolverState) (line : List ℕ) → Solves found.Unsat steps budget old new → IsTrueOf new line kind.Unsat
-true_unsat steps budget old new line h = λ a u. h.right.0.none a (h.same.back a u)
+  pub searched_unknown : Solves found.Unknown steps budget old new → Searched budget old new (record { answer = kind.Unknown; steps = steps }) line
+  searched_unknown h = record {
+    truth = tt;
+    spent = record { within = h.within; unknown = λ e. h.right.1 };
+    known = λ e. absurd (h.known e);
+    same = h.same;
+    variables = h.var_count;
+    rounds = h.rounds;
+  }
 
 pub model_of : (steps budget : ℕ) (old new : SolverState) → Solves found.Sat steps budget old new → HasModel new
 model_of steps budget old new h = h.right
 
-pub ruleset reporting = (spent_sat, spent_unsat, spent_unknown, true_unsat, model_of)
+pub ruleset reporting = (searched_sat, searched_unsat, searched_unknown, model_of)

@@ -1,6 +1,5 @@
 -- Steps written one after another.
 use Rattle.std.proofs.Common.{ℕ, zero, suc, ◌+◌, ◌-◌, ◌≤◌, ◌≡◌, true, List, [], ◌∷◌, ◌++◌, Some, refl, sym, ◌∙◌, ap, subst, arith, append_assoc, append-nil}
-use Rattle.std.proofs.lemmas.Bool.{both_ways}
 use Rattle.sat_base.specs.device.Sink.{Sink, Sent}
 use Rattle.sat_base.proofs.lemmas.device.Sending.{sent_none, sent_more}
 use Rattle.sat_base.specs.steps.Formats.{Format, Items}
@@ -8,9 +7,10 @@ use Rattle.sat_base.specs.steps.Steps.{Step, UserVarName, AddClause, Assumptions
 use Rattle.sat_base.specs.steps.StepText.{SpellsStep}
 use Rattle.certify.specs.run.Outputs.{Wrote, WroteStep}
 use Rattle.certify.specs.run.Running.{WroteDerived, WroteAsk, WroteClause, written, unwritten, naming, shown_by}
-use Rattle.certify.specs.search.SolverState.{SolverState, AllowsSame}
+use Rattle.certify.specs.search.SolverState.{Recording, RecordsClause, RecordsSame}
 use Rattle.certify.specs.search.KeptClauses.{IsNormalOf}
 use Rattle.certify.specs.declared.summary.Answer.{Answer}
+use Rattle.certify.proofs.lemmas.search.SolverStates.{recorded_then}
 
 items_then : {A : Type 0} (F : Format A) (xs ys : List A) (a b : List ℕ) → Items F xs a → Items F ys b → Items F (xs ++ ys) (a ++ b)
 items_then F [] ys a b p q = rw p q
@@ -40,7 +40,7 @@ wrote_as {xs} {ys} {a} {b} e h = subst (λ zs. Wrote zs a b) e h
 pub wrote_out : {xs : List Step} {a b c : Sink} → Wrote xs a b → Sent b c [] → Wrote xs a c
 wrote_out {xs} {a} {b} {c} p s = record { text = p.text; spelt = p.spelt; sent = subst (Sent a c) (append-nil p.text) (sent_more a b c p.text [] p.sent s) }
 
-pub wrote_ask_out : {n : ℕ} {answer : Answer} {line : List ℕ} {last : List Step} {a b c : Sink} → WroteAsk n answer line last a b → Sent b c [] → WroteAsk n answer line last a c
+pub wrote_ask_out : {n : ℕ} {from to : Recording} {answer : Answer} {line : List ℕ} {last : List Step} {a b c : Sink} → WroteAsk n from to answer line last a b → Sent b c [] → WroteAsk n from to answer line last a c
 wrote_ask_out w s = record { derived = w.derived; are_derived = w.are_derived; wrote = wrote_out w.wrote s }
 
 -- names that are brought in one after another
@@ -67,26 +67,26 @@ wrote_name {first} {mid} {last} {a} {b} {c} p q x y =
     wrote_names p (omega arith) x (wrote_as (ap (λ n. naming n mid) one) y)
 
 -- a clause behind its names, or the names alone
-pub wrote_clause : {count v : ℕ} {s t : SolverState} {clause normal : List ℕ} {a b c : Sink} → AllowsSame s t → IsNormalOf clause normal → Wrote (naming count v) a b → WroteStep (AddClause normal) b c → WroteClause count v s clause a c
-wrote_clause {normal = normal} same n names step = record { steps = AddClause normal ∷ []; clause = written n; wrote = wrote_then names (wrote_step step) }
+pub wrote_clause : {count v : ℕ} {r s t : Recording} {clause normal : List ℕ} {a b c : Sink} → RecordsSame r s → RecordsClause normal s t → IsNormalOf clause normal → Wrote (naming count v) a b → WroteStep (AddClause normal) b c → WroteClause count v r t clause a c
+wrote_clause {normal = normal} same kept n names step = record { steps = AddClause normal ∷ []; clause = written n (recorded_then same kept); wrote = wrote_then names (wrote_step step) }
 
-pub left_clause : {count v : ℕ} {s t : SolverState} {clause : List ℕ} {a b : Sink} → AllowsSame s t → t.unsat ≡ true → Wrote (naming count v) a b → WroteClause count v s clause a b
-left_clause {count} {v} {t = t} same is names = record {
+pub left_clause : {count v : ℕ} {r s t : Recording} {clause : List ℕ} {a b : Sink} → RecordsSame r s → s.unsat ≡ true → t ≡ s → Wrote (naming count v) a b → WroteClause count v r t clause a b
+left_clause {count} {v} {r} {s} {t} {clause} {a} {b} same is left names = subst (λ z. WroteClause count v r z clause a b) (sym left) record {
   steps = [];
-  clause = unwritten (record { none = λ a h. both_ways t.unsat (same.onwards a h).0 is });
+  clause = unwritten (sym same.unsat ∙ is) same;
   wrote = wrote_as (sym (append-nil (naming count v))) names;
 }
 
 -- an ask is opened, shown, and closed
-pub wrote_ask : {n : ℕ} {answer : Answer} {line : List ℕ} {a b c d : Sink} → WroteStep (Assumptions []) a b → WroteDerived n b c → Wrote (shown_by answer line) c d → WroteAsk n answer line [] a d
-wrote_ask {n} {answer} {line} {a} {b} {c} {d} opened w shown = record {
+pub wrote_ask : {n : ℕ} {from to : Recording} {answer : Answer} {line : List ℕ} {a b c d : Sink} → WroteStep (Assumptions []) a b → WroteDerived n from to b c → Wrote (shown_by answer line) c d → WroteAsk n from to answer line [] a d
+wrote_ask {n} {from} {to} {answer} {line} {a} {b} {c} {d} opened w shown = record {
   derived = w.derived;
   are_derived = w.are_derived;
   wrote = wrote_as (ap (λ xs. Assumptions [] ∷ (w.derived ++ xs)) (sym (append-nil (shown_by answer line)))) (wrote_then (wrote_step opened) (wrote_then w.wrote shown));
 }
 
-pub wrote_asked : {n : ℕ} {answer : Answer} {line : List ℕ} {a b c : Sink} → WroteAsk n answer line [] a b → WroteStep (Assumptions []) b c → WroteAsk n answer line (Assumptions [] ∷ []) a c
-wrote_asked {n} {answer} {line} {a} {b} {c} w closed = record {
+pub wrote_asked : {n : ℕ} {from to : Recording} {answer : Answer} {line : List ℕ} {a b c : Sink} → WroteAsk n from to answer line [] a b → WroteStep (Assumptions []) b c → WroteAsk n from to answer line (Assumptions [] ∷ []) a c
+wrote_asked {n} {from} {to} {answer} {line} {a} {b} {c} w closed = record {
   derived = w.derived;
   are_derived = w.are_derived;
   wrote = wrote_as

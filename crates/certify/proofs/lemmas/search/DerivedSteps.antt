@@ -1,6 +1,5 @@
 -- Rounds of an ask, and the steps that it writes.
 use Rattle.std.proofs.Common.{ℕ, ◌≡◌, ◌≢◌, ◌+◌, ◌-◌, ◌^◌, ◌<◌, ◌≤◌, ◌⊎◌, inl, inr, true, false, List, [], ◌∷◌, ◌++◌, refl, sym, ◌∙◌, ap, subst, arith, append_assoc}
-use Rattle.std.specs.List.{AllByRecursion}
 use Rattle.std.proofs.lemmas.Bool.{false≢true}
 use Rattle.std.proofs.lemmas.List.{append-nil, length-append}
 use Rattle.sat_base.specs.steps.Steps.{Step, AtClause}
@@ -9,37 +8,38 @@ use Rattle.sat_base.specs.device.Sink.{Sink, Sent}
 use Rattle.sat_base.proofs.lemmas.device.Sending.{sent_none, sent_more}
 use Rattle.certify.specs.declared.search.propagate.RoundEnd.TheVariants.{Conflict, Model}
 use Rattle.certify.specs.declared.search.solve.SearchEnd.TheVariants.{Sat, Unsat, Unknown}
-use Rattle.certify.specs.search.SolverState.{SolverState, AllowsSame, RoundSays}
+use Rattle.certify.specs.search.SolverState.{SolverState, AllowsSame, Recording, RoundSays, recording}
 use Rattle.certify.specs.search.StepsLeft.{steps_left}
 use Rattle.certify.specs.search.Search.{IsBounded}
-use Rattle.certify.specs.search.SearchEnds.{Solves, IsDerived, WritesDerived}
+use Rattle.certify.specs.search.SearchEnds.{Solves, AreDerived, WritesDerived, WritesOne, learned_step}
 
 items_both : (xs ys : List Step) (s t : List ℕ) → SpellsSteps xs s → SpellsSteps ys t → SpellsSteps (xs ++ ys) (s ++ t)
 items_both [] ys s t h k = subst (λ w. SpellsSteps ys (w ++ t)) (sym h) k
 items_both (x ∷ xs) ys s t (a, b, one, more, e) k = (a, b ++ t, one, items_both xs ys b t more k, ap (λ w. w ++ t) e ∙ append_assoc a b t)
 
-derived_both : (n : ℕ) (xs ys : List Step) → AllByRecursion (IsDerived n) xs → AllByRecursion (IsDerived n) ys → AllByRecursion (IsDerived n) (xs ++ ys)
-derived_both n [] ys h k = k
-derived_both n (x ∷ xs) ys h k = (h.0, derived_both n xs ys h.1 k)
+derived_both : (n : ℕ) (xs ys : List Step) (r s t : Recording) → AreDerived n r xs s → AreDerived n s ys t → AreDerived n r (xs ++ ys) t
+derived_both n [] ys r s t h k = subst (λ z. AreDerived n z ys t) h k
+derived_both n (x ∷ xs) ys r s t h k = (h.0, h.1, derived_both n xs ys h.0 s t h.2 k)
 
-pub none_derived : (n : ℕ) (w : Sink) → WritesDerived n 0 w w
-none_derived n w = record { steps = []; many = refl; derived = tt; text = []; spells = refl; sent = sent_none w }
+pub none_derived : (n : ℕ) (r : Recording) (w : Sink) → WritesDerived n 0 r r w w
+none_derived n r w = record { steps = []; many = refl; derived = refl; text = []; spells = refl; sent = sent_none w }
 
-pub one_derived : (n : ℕ) (clause hashes : List ℕ) (old new : Sink) → IsBounded n clause → (text : List ℕ) → SpellsStep (AtClause false clause hashes) text → Sent old new text → WritesDerived n 1 old new
-one_derived n clause hashes old new bounded text spells sent = record {
-  steps = AtClause false clause hashes ∷ [];
+-- a round learned a clause, which was written
+one_derived : (n : ℕ) (from to : SolverState) (old new : Sink) → IsBounded n to.learned → RoundSays Conflict from to → WritesOne (learned_step to) old new → WritesDerived n 1 (recording from) (recording to) old new
+one_derived n from to old new bounded says w = record {
+  steps = learned_step to ∷ [];
   many = refl;
-  derived = ((clause, hashes, refl, bounded), tt);
-  text = text;
-  spells = (text, [], spells, refl, sym (append-nil text));
-  sent = sent;
+  derived = (recording to, record { clause = to.learned; hashes = to.hashes; is = refl; bounded = bounded; increasing = says.increasing; recorded = says.recorded }, refl);
+  text = w.text;
+  spells = (w.text, [], w.spells, refl, sym (append-nil w.text));
+  sent = w.sent;
 }
 
-more_derived : (n count : ℕ) (a b c : Sink) → WritesDerived n count a b → WritesDerived n 1 b c → WritesDerived n (count + 1) a c
-more_derived n count a b c x y = record {
+more_derived : (n count : ℕ) (r s t : Recording) (a b c : Sink) → WritesDerived n count r s a b → WritesDerived n 1 s t b c → WritesDerived n (count + 1) r t a c
+more_derived n count r s t a b c x y = record {
   steps = x.steps ++ y.steps;
   many = length-append x.steps y.steps ∙ (let p = x.many in let q = y.many in omega arith);
-  derived = derived_both n x.steps y.steps x.derived y.derived;
+  derived = derived_both n x.steps y.steps r s t x.derived y.derived;
   text = x.text ++ y.text;
   spells = items_both x.steps y.steps x.text y.text x.spells y.spells;
   sent = sent_more a b c x.text y.text x.sent y.sent;
@@ -52,7 +52,7 @@ pub record Asking (spent budget : ℕ) (old now : SolverState) (before after : S
   pub var_count : now.var_count ≡ old.var_count
   pub rounds : now.rounds ≡ old.rounds + spent
   pub within : spent ≤ steps_left budget old.rounds
-  pub written : WritesDerived old.var_count spent before after
+  pub written : WritesDerived old.var_count spent (recording old) (recording now) before after
 
 pub asking_start : (budget : ℕ) (s : SolverState) (w : Sink) → Asking 0 budget s s w w
 asking_start budget s w = record {
@@ -61,7 +61,7 @@ asking_start budget s w = record {
   var_count = refl;
   rounds = omega arith;
   within = omega arith;
-  written = none_derived s.var_count w;
+  written = none_derived s.var_count (recording s) w;
 }
 
 same_further : (x y z : SolverState) → AllowsSame x y → AllowsSame y z → AllowsSame x z
@@ -93,24 +93,28 @@ module _ (spent budget : ℕ) (old now : SolverState) (before after : Sink) (ask
 
   pub asking_sat : (new : SolverState) → now.unsat ≡ false → spent ≢ budget → now.rounds < 2 ^ 64 - 1 → RoundSays Model now new → new.rounds ≡ now.rounds + 1 → new.var_count ≡ now.var_count → Solves Sat (spent + 1) budget old new
   asking_sat new going room count says rounds var_count = let was = asking.rounds in let below = asking.within in record {
-    right = says.1;
+    right = says.model;
     known = λ was. not_known going was;
-    same = same_further old now new asking.same says.0;
+    same = same_further old now new asking.same says.same;
     var_count = var_count ∙ asking.var_count;
     rounds = omega arith;
     within = omega arith;
   }
 
-  pub asking_more : (new : SolverState) (later : Sink) → now.unsat ≡ false → spent ≢ budget → now.rounds < 2 ^ 64 - 1 → RoundSays Conflict now new → new.rounds ≡ now.rounds + 1 → new.var_count ≡ now.var_count → WritesDerived old.var_count 1 after later → Asking (spent + 1) budget old new before later
-  asking_more new later going room count says rounds var_count wrote = let was = asking.rounds in let below = asking.within in record {
-    same = same_further old now new asking.same says.0;
+  pub asking_more : (new : SolverState) (later : Sink) → now.unsat ≡ false → spent ≢ budget → now.rounds < 2 ^ 64 - 1 → RoundSays Conflict now new → new.rounds ≡ now.rounds + 1 → new.var_count ≡ now.var_count → IsBounded new.var_count new.learned → WritesOne (learned_step new) after later → Asking (spent + 1) budget old new before later
+  asking_more new later going room count says rounds var_count bounded wrote = let was = asking.rounds in let below = asking.within in record {
+    same = same_further old now new asking.same says.same;
     known = λ was. not_known going was;
     var_count = var_count ∙ asking.var_count;
     rounds = omega arith;
     within = omega arith;
-    written = more_derived old.var_count spent before after later asking.written wrote;
+    written = more_derived old.var_count spent (recording old) (recording now) (recording new) before after later asking.written (one_derived old.var_count now new after later (subst (λ n. IsBounded n new.learned) (var_count ∙ asking.var_count) bounded) says wrote);
   }
 
-pub ruleset writing = (one_derived)
+  -- a round that finds a model writes nothing
+  pub wrote_sat : (new : SolverState) → RoundSays Model now new → WritesDerived old.var_count (spent + 1 - 1) (recording old) (recording new) before after
+  wrote_sat new says =
+      let e : spent ≡ spent + 1 - 1 = omega arith in
+      subst (λ n. WritesDerived old.var_count n (recording old) (recording new) before after) e (subst (λ r. WritesDerived old.var_count spent (recording old) r before after) (sym says.recorded) asking.written)
 
 pub ruleset asking = (asking_start, asking_unknown, asking_unsat, asking_sat, asking_more)

@@ -81,6 +81,19 @@ Agrees-set a values v b h e w d k = elim (cases_eq w v) [ inl same ↦ at_v same
     at_v : w ≡ v → a w ≡ d
     at_v same = elim (cases_lt v (length values)) [ inl into ↦ inside same into | inr past ↦ outside same past ]
 
+-- what has a value keeps one
+pub open_before : (values : List (Option Bool)) (v : ℕ) (b : Bool) (w : ℕ) → is_open (get_or (set values v (Some b)) w None) ≡ true → is_open (get_or values w None) ≡ true
+open_before values v b w e = elim (cases_eq w v) [ inl same ↦ at_v same | inr other ↦ subst (λ o. is_open o ≡ true) (get_or-set_other values v w (Some b) None other) e ]
+  where
+    inside : w ≡ v → v < length values → is_open (get_or values w None) ≡ true
+    inside same into = absurd (false≢true (subst (λ o. is_open o ≡ true) (get_or-set_same values v (Some b) None into) (subst (λ x. is_open (get_or (set values v (Some b)) x None) ≡ true) same e)))
+
+    outside : w ≡ v → length values ≤ v → is_open (get_or values w None) ≡ true
+    outside same past = rw set_past at e
+
+    at_v : w ≡ v → is_open (get_or values w None) ≡ true
+    at_v same = elim (cases_lt v (length values)) [ inl into ↦ inside same into | inr past ↦ outside same past ]
+
 pub Follows-opened : (clauses : List (List ℕ)) (old now : List (Option Bool)) (i l : ℕ) → ValuesFollow clauses old now → i < length clauses → look_of now (get_or clauses i []) ≡ Opens l → ValuesFollow clauses old (set now (variable l) (Some (is_positive l)))
 Follows-opened clauses old now i l follows inside e = record {
   gives = λ a h agrees.
@@ -89,13 +102,14 @@ Follows-opened clauses old now i l follows inside e = record {
       let left : clause_true a c ≡ (literal_true a l || false) = clause_left a now c here ∙ ap (clause_true a) (opens_left now (not_false now c) l e).0 in
       let holds : literal_true a l ≡ true = sym (or_false (literal_true a l)) ∙ sym left ∙ holds_at a clauses i h inside in
       Agrees-set a now (variable l) (is_positive l) here (sign_from_true (is_positive l) (a (variable l)) holds);
+  stays = λ v e. follows.stays v (open_before now (variable l) (is_positive l) v e);
 }
 
 pub Follows-itself : (clauses : List (List ℕ)) (values : List (Option Bool)) → ValuesFollow clauses values values
-Follows-itself clauses values = record { gives = λ a h agrees. agrees }
+Follows-itself clauses values = record { gives = λ a h agrees. agrees; stays = λ v e. e }
 
 pub Follows-further : (clauses : List (List ℕ)) (xs ys zs : List (Option Bool)) → ValuesFollow clauses xs ys → ValuesFollow clauses ys zs → ValuesFollow clauses xs zs
-Follows-further clauses xs ys zs f g = record { gives = λ a h agrees. g.gives a h (f.gives a h agrees) }
+Follows-further clauses xs ys zs f g = record { gives = λ a h agrees. g.gives a h (f.gives a h agrees); stays = λ v e. f.stays v (g.stays v e) }
 
 open_sign : (p : Bool) (o : Option Bool) → is_open (signed p o) ≡ true → is_open o ≡ true
 open_sign p None e = refl

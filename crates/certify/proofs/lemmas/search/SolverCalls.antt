@@ -8,7 +8,8 @@ use Rattle.sat_base.specs.values.Literals.{variable}
 use Rattle.sat_base.specs.values.Clauses.{Valuation, literal_true, clause_true, EachHolds}
 use Rattle.certify.specs.search.Search.{IsBounded, AreBounded, Implies, AllAssigned, valuation_of}
 use Rattle.certify.specs.search.KeptClauses.{IsNormalOf, UnitsFollow, KeepsClause}
-use Rattle.certify.specs.search.SolverState.{SolverState, GainsClause, AllowsSame, HasModel}
+use Rattle.std.specs.List.Sorted.{IsStrictlyIncreasing}
+use Rattle.certify.specs.search.SolverState.{SolverState, GainsClause, AllowsSame, HasModel, FindsModel, Learns, Recording, RecordsClause, records_unsat, records_unit, recording, unit_test}
 use Rattle.certify.proofs.lemmas.search.KeptClauses.{true_at}
 
 pub none_follow : (clauses : List (List ℕ)) (units : List (Option Bool)) → units ≡ [] → UnitsFollow clauses units
@@ -27,7 +28,7 @@ pub more_bounded : (n m : ℕ) (clauses : List (List ℕ)) → n ≤ m → AreBo
 more_bounded n m clauses le h = All-weaker (IsBounded n) (IsBounded m) (λ c k. bounded_by_more n m c le k) clauses h
 
 -- an open variable behind the others
-get_or_more : (units : List (Option Bool)) (v : ℕ) → get_or (units ++ None ∷ []) v None ≡ get_or units v None
+pub get_or_more : (units : List (Option Bool)) (v : ℕ) → get_or (units ++ None ∷ []) v None ≡ get_or units v None
 get_or_more [] zero = refl
 get_or_more [] (suc v) = refl
 get_or_more (o ∷ os) zero = refl
@@ -78,13 +79,31 @@ same_with_learned old new unsat learned implies was now keeps = record {
   back = λ a h. (was, (keeps.back a (sym now ∙ h.0) h.1).0);
 }
 
-pub learned_viewed : (before old new : SolverState) (unsat : Bool) (learned : List ℕ) → before ≡ old → Implies before.clauses learned → before.unsat ≡ false → new.unsat ≡ unsat → KeepsClause unsat before.clauses new.clauses learned → AllowsSame old new × Implies old.clauses learned
-learned_viewed before old new unsat learned e implies was now keeps = subst (λ h. AllowsSame h new × Implies h.clauses learned) e (same_with_learned before new unsat learned implies was now keeps, implies)
+-- a clause was kept, and this is recorded
+pub keeps_recorded : (before old : SolverState) (new : Recording) (unsat : Bool) (clause : List ℕ) → before ≡ old → before.unsat ≡ false → new.unsat ≡ unsat → unsat ≡ records_unsat (unit_test before.units) clause
+    → ((l : ℕ) → new.is_unit l ≡ records_unit (unit_test before.units) clause l) → RecordsClause clause (recording old) new
+keeps_recorded before old new unsat clause e was now says units = subst (λ h. RecordsClause clause (recording h) new) e (record { going = was; unsat = now ∙ says; units = units })
+
+pub learned_viewed : (before old new : SolverState) (unsat : Bool) → before ≡ old → Implies before.clauses new.learned → IsStrictlyIncreasing new.learned → before.unsat ≡ false → new.unsat ≡ unsat → KeepsClause unsat before.clauses new.clauses new.learned
+    → unsat ≡ records_unsat (unit_test before.units) new.learned → ((l : ℕ) → unit_test new.units l ≡ records_unit (unit_test before.units) new.learned l) → Learns old new
+learned_viewed before old new unsat e implies increasing was now keeps says units = record {
+  same = subst (λ h. AllowsSame h new) e (same_with_learned before new unsat new.learned implies was now keeps);
+  implied = subst (λ h. Implies h.clauses new.learned) e implies;
+  increasing = increasing;
+  recorded = keeps_recorded before old (recording new) unsat new.learned e was now says units;
+}
 
 pub same_held : (old new : SolverState) → new.clauses ≡ old.clauses → new.unsat ≡ old.unsat → AllowsSame old new
 same_held old new same_clauses same_unsat = record {
   onwards = λ a h. (same_unsat ∙ h.0, subst (EachHolds a) (sym same_clauses) h.1);
   back = λ a h. (sym same_unsat ∙ h.0, subst (EachHolds a) same_clauses h.1);
+}
+
+pub finds_model : (before old new : SolverState) → before ≡ old → new.clauses ≡ before.clauses → new.unsat ≡ before.unsat → new.units ≡ before.units → HasModel new → FindsModel old new
+finds_model before old new e clauses unsat units h = subst (λ s. FindsModel s new) e record {
+  same = same_held before new clauses unsat;
+  model = h;
+  recorded = ap (λ (b : Bool). record { unsat = b; is_unit = unit_test new.units }) unsat ∙ ap (λ (us : List (Option Bool)). record { unsat = before.unsat; is_unit = unit_test us }) units;
 }
 
 pub has_model : (s : SolverState) → s.unsat ≡ false → length s.values ≡ s.var_count → EachHolds (valuation_of s.values) s.clauses → AllAssigned s.values → HasModel s

@@ -9,8 +9,8 @@ returns-clause-answered g c =
     answered_if c.answer_lent.result c.in_ok-commands.commands c.args.budget (g.S.CountedRead.seen c.args.script.now) (g.S.CountedRead.seen c.load.new.script) (pair (g.A.CountedWrite.seen c.args.answers.now) (g.C.CountedWrite.seen c.args.certificate.now)) (pair (g.A.CountedWrite.seen c.answer_lent.new.answers) (g.C.CountedWrite.seen c.answer_lent.new.certificate))
     c.in_ok-commands.ensures.script c.answer_lent.ensures.finishes
 
-pub returns-clause-certified : goal.returns-clause-certified
-returns-clause-certified g c =
+pub returns-clause-backed : goal.returns-clause-backed
+returns-clause-backed g c =
     backed_if c.answer_lent.result c.in_ok-commands.commands c.args.budget (g.S.CountedRead.seen c.args.script.now) (g.S.CountedRead.seen c.load.new.script) (pair (g.A.CountedWrite.seen c.args.answers.now) (g.C.CountedWrite.seen c.args.certificate.now)) (pair (g.A.CountedWrite.seen c.answer_lent.new.answers) (g.C.CountedWrite.seen c.answer_lent.new.certificate))
     c.in_ok-commands.ensures.script refl c.answer_lent.ensures.finishes
 

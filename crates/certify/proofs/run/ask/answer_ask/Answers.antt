@@ -20,11 +20,7 @@ returns-clause-asked g c =
     record {
       report = report;
       asked = record {
-        truth = h.answer;
-        spent = h.spent;
-        same = h.same;
-        variables = h.variables;
-        rounds = h.rounds;
+        searched = h.searched;
         names = h.names;
         refused = h.refused;
         asks = c.in_ok-push.ensures.items ∙ ap (λ (v : _). v.items ++ report ∷ []) h.asks;

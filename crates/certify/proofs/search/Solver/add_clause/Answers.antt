@@ -1,9 +1,10 @@
-use Rattle.std.proofs.Common.{◌≡◌, ◌∙◌, length, refl, sym, ap, subst}
-use Rattle.certify.specs.search.SolverState.{SolverState}
+use Rattle.std.proofs.Common.{ℕ, ◌≡◌, ◌++◌, ◌∙◌, Bool, Option, List, length, take, drop, refl, sym, ap, subst, arith}
+use Rattle.std.proofs.lemmas.Grind.{common_steps}
+use Rattle.certify.specs.search.SolverState.{SolverState, records_unsat, records_unit, unit_test}
 use Rattle.certify.specs.search.SolverView.{state_of}
 use Rattle.certify.specs.search.Search.{IsBounded}
 use Rattle.certify.specs.search.KeptClauses.{KeepsClause}
-use Rattle.certify.proofs.lemmas.search.SolverCalls.{normal_bounded, takes_viewed}
+use Rattle.certify.proofs.lemmas.search.SolverCalls.{keeps_recorded, normal_bounded, takes_viewed}
 use Rattle.certify.proofs.search.Solver.add_clause.Goals as goal
 
 pub keep-requires-clause-bounded : goal.keep-requires-clause-bounded
@@ -20,3 +21,17 @@ returns-clause-takes c =
     let unsat = c.in_ok-self-inside.field-0 in
     let keeps = subst (KeepsClause unsat c.self.inside.clauses c.keep.new.clauses) c.deref.ensures.value c.in_ok-self-inside.ensures.keeps in
     takes_viewed (state_of c.self.inside) c.args.self.now _ unsat c.args.lits.now clause c.self.view_is c.in_ok-normalize.ensures c.if-self.false refl keeps
+
+pub returns-clause-records : goal.returns-clause-records
+returns-clause-records c going =
+    let before = state_of c.self.inside in
+    let clause = c.normalize.new.clause.items in
+    let unsat = c.in_ok-self-inside.field-0 in
+    let kept = c.in_ok-self-inside.ensures in
+    let was = ap (λ (h : SolverState). h.unsat) c.self.view_is ∙ going in
+    let back : take c.self.inside.units.len (c.keep.new.units ++ drop (length c.keep.new.units) c.self.inside.units.items) ≡ c.keep.new.units = grind (arith, common_steps) in
+    let unsat_is = subst (λ (us : List (Option Bool)). unsat ≡ records_unsat (unit_test us) clause) c.deref_mut.ensures.value (subst (λ ls. unsat ≡ records_unsat (unit_test c.deref_mut.result.now) ls) c.deref.ensures.value kept.unsat) in
+    let units_are = subst (λ (us : List (Option Bool)). (l : ℕ) → unit_test c.keep.new.units l ≡ records_unit (unit_test us) clause l) c.deref_mut.ensures.value
+    (subst (λ ls. (l : ℕ) → unit_test c.keep.new.units l ≡ records_unit (unit_test c.deref_mut.result.now) ls l) c.deref.ensures.value kept.units) in
+    keeps_recorded before c.args.self.now _ unsat clause c.self.view_is was refl unsat_is
+    (subst (λ (us : List (Option Bool)). (l : ℕ) → unit_test us l ≡ records_unit (unit_test before.units) clause l) (sym back) units_are)

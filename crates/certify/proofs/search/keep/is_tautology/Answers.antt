@@ -17,4 +17,4 @@ returns-then-eq c =
     let at_here = get_or_read clause i here.result inside here.is 0 in
     let at_before = get_or_read clause (i - 1) before.result inside_before before.is 0 in
     let flipped : c.not.result ≡ negated before.result = c.not.ensures in
-    λ _. both_signs clause i (i - 1) inside inside_before (sym at_here ∙ same ∙ flipped ∙ ap negated at_before)
+    record { holds = λ _. both_signs clause i (i - 1) inside inside_before (sym at_here ∙ same ∙ flipped ∙ ap negated at_before); long = λ _. omega arith }

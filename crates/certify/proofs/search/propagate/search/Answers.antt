@@ -2,7 +2,7 @@ use Rattle.std.proofs.Common.{◌≡◌, ◌<◌, ◌++◌, ◌∷◌, [], true,
 use Rattle.std.proofs.lemmas.List.{length-set}
 use Rattle.sat_base.specs.values.Literals.{coded}
 use Rattle.certify.specs.search.Search.{ValuesFollowDenied, IsBounded, IsLowestOpen}
-use Rattle.certify.proofs.lemmas.search.Decisions.{denied_further, denied_decided, bounded_decided}
+use Rattle.certify.proofs.lemmas.search.Decisions.{Ascends, denied_further, denied_decided, bounded_decided, ascends_further, ascends_decided}
 use Rattle.certify.proofs.search.propagate.search.Goals as goal
 
 pub loop-values-preserved : goal.loop-values-preserved
@@ -18,7 +18,9 @@ loop-values-preserved c =
     let same : length c.loop-values.values ≡ length new = omega (arith, length-set now v (Some false)) in
     let denied = denied_further clauses learned c.loop-values.values now c.loop-values.invariant.denied c.propagate.ensures.follows in
     let bounded = bounded_decided (length c.loop-values.values) learned v c.loop-values.invariant.bounded inside in
+    let ascends = ascends_decided now learned v lowest (ascends_further clauses c.loop-values.values now learned c.propagate.ensures.follows c.loop-values.invariant.ascends) in
     record {
       denied = subst (λ ls. ValuesFollowDenied clauses ls new) (sym pushed) (denied_decided clauses learned now v denied);
       bounded = subst (λ ls. IsBounded (length new) ls) (sym pushed) (subst (λ n. IsBounded n (learned ++ coded v true ∷ [])) same bounded);
+      ascends = subst (λ ls. Ascends new ls) (sym pushed) ascends;
     }
