@@ -1,11 +1,14 @@
 //! The stored formula: clauses, units, and what is recorded of them.
-ghost use Rattle.std.specs.Prelude.{◌≡◌, ◌+◌, ◌≤◌, ◌*◌, ℕ, [], ◌∷◌, length, IfOk, IsTrue, ◌↔◌};
-ghost use Rattle.sat_checker.specs.Accepts.{Passes};
+ghost use Rattle.std.specs.Prelude.{◌≡◌, ◌+◌, ◌≤◌, ◌*◌, ℕ, [], ◌∷◌, length, IfOk, IsTrue, ◌↔◌, MatchBool, ◌<◌, map};
+ghost use Rattle.sat_base.specs.steps.Steps.{DeleteClause, Redundant, Satisfied};
+ghost use Rattle.sat_checker.specs.LiteralSets.{canonical};
+ghost use Rattle.sat_checker.specs.Accepts.{Passes, PassInTurn};
 ghost use Rattle.sat_checker.specs.Stored.{Stored, nothing_stored};
 ghost use Rattle.sat_checker.specs.Looks.{literal_count};
-ghost use Rattle.sat_checker.specs.Storing.{settled, with_unit, with_contradiction, with_canonical, with_stored, with_input};
+ghost use Rattle.sat_checker.specs.Storing.{settled, with_unit, with_contradiction, with_canonical, with_stored, with_input, with_units, clause_with, without_clause};
+ghost use Rattle.sat_checker.specs.inner.StoreView.{count_in};
 ghost use Rattle.sat_checker.specs.inner.Marks.{IsIncreasing};
-ghost use Rattle.sat_checker.specs.inner.FormulaView.{KeepsFormula, Becomes};
+ghost use Rattle.sat_checker.specs.inner.FormulaView.{KeepsFormula, Becomes, TurnsIf, Deletes};
 
 use crate::looks::Looks;
 use crate::sorted_lits::copy_canonical;
@@ -172,5 +175,72 @@ impl Formula {
         self.store_clause(false, clause, buffer, looks)?;
         let unnumbered = self.status.next_id == id;
         self.status.take_id_if(unnumbered)
+    }
+
+    /// Checks a unit under its one hash, and stores it. The answer is whether it passes.
+    fn store_checked(
+        &mut self,
+        lit: Lit,
+        hash: ClauseHash,
+        looks: &mut Looks,
+    ) -> Result<bool, StoreError>
+        ensures decides { (f : Stored) → KeepsFormula self.old f
+            → TurnsIf result (Passes f (lit ∷ []) (hash ∷ [])) (KeepsFormula self.new (with_unit lit f)) (with_unit lit f) }
+        ensures looks { (f : Stored) → KeepsFormula self.old f → looks.new ≤ looks.old + literal_count f }
+    {
+        if !self.check(&[lit], &[hash], looks)? {
+            return Ok(false);
+        }
+        self.store_unit(lit)?;
+        Ok(true)
+    }
+
+    /// Checks and stores units in turn. The answer is whether each passes.
+    pub fn store_units(
+        &mut self,
+        units: &[(Lit, ClauseHash)],
+        looks: &mut Looks,
+    ) -> Result<bool, StoreError>
+        ensures decides { (f : Stored) → KeepsFormula self.old f
+            → TurnsIf result (PassInTurn f units.now) (KeepsFormula self.new (with_units (map (λ u. u.0) units.now) f)) (with_units (map (λ u. u.0) units.now) f) }
+        ensures looks { (f : Stored) → KeepsFormula self.old f → looks.new ≤ looks.old + length units.now * literal_count f }
+    {
+        for unit in units {
+            if !self.store_checked(unit.0, unit.1, looks)? {
+                return Ok(false);
+            }
+        }
+        Ok(true)
+    }
+
+    /// Takes a count from sorted literals. The answer is whether they have one.
+    fn take_count(&mut self, redundant: bool, literals: &[Lit], looks: &mut Looks) -> bool
+        ensures decides { (f : Stored) → KeepsFormula self.old f → MatchBool result
+            ((0 < count_in redundant (clause_with literals.now f.clauses)) × KeepsFormula self.new (record f { clauses = without_clause redundant literals.now f.clauses }))
+            (0 < count_in redundant (clause_with literals.now f.clauses) → ⊥) }
+        ensures looks { (f : Stored) → KeepsFormula self.old f → looks.new ≤ looks.old + literal_count f }
+    {
+        self.store.delete_clause(redundant, literals, looks)
+    }
+
+    /// Deletes a redundant clause, which has these sorted literals.
+    pub fn delete_redundant(&mut self, clause: &[Lit], literals: &[Lit], looks: &mut Looks) -> bool
+        requires { literals.now ≡ canonical clause.now }
+        ensures decides { Deletes result self.old (DeleteClause clause.now Redundant) self.new }
+        ensures looks { (f : Stored) → KeepsFormula self.old f → looks.new ≤ looks.old + literal_count f }
+    {
+        self.take_count(true, literals, looks)
+    }
+
+    /// Deletes an irredundant clause in which a unit is true.
+    pub fn delete_satisfied(&mut self, clause: &[Lit], literals: &[Lit], looks: &mut Looks) -> bool
+        requires { literals.now ≡ canonical clause.now }
+        ensures decides { Deletes result self.old (DeleteClause clause.now Satisfied) self.new }
+        ensures looks { (f : Stored) → KeepsFormula self.old f → looks.new ≤ looks.old + literal_count f }
+    {
+        if !self.units.has_any(clause) {
+            return false;
+        }
+        self.take_count(false, literals, looks)
     }
 }

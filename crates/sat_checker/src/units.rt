@@ -1,5 +1,6 @@
 //! The stored units.
 ghost use Rattle.std.specs.Prelude.{◌≡◌, ◌++◌, ◌∷◌, [], ◌+◌, ◌*◌, ◌≤◌, ◌↔◌, false, length, map, IfOk, IsTrue, OnOk, reverse};
+ghost use Rattle.std.specs.List.{list_any};
 ghost use Rattle.sat_checker.specs.LiteralSets.{is_among};
 ghost use Rattle.sat_checker.specs.Storing.{unit_id};
 ghost use Rattle.sat_checker.specs.Stored.{Stored};
@@ -54,6 +55,19 @@ impl Units {
         ensures { result ≡ is_among (map (λ u. u.literal) self.now) lit }
     {
         self.assigned.is_true(lit)
+    }
+
+    /// Whether a unit is true in the clause.
+    #[tactic(auto, using(crate::proofs::lemmas::state::Scanning::any_literal))]
+    pub fn has_any(&self, clause: &[Lit]) -> bool
+        ensures { result ≡ list_any (is_among (map (λ u. u.literal) self.now)) clause.now }
+    {
+        for lit in clause {
+            if self.is_unit(*lit) {
+                return true;
+            }
+        }
+        false
     }
 
     /// Stores a unit behind the others.

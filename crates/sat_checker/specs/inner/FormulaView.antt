@@ -2,6 +2,8 @@
 use Rattle.std.specs.Prelude.{ℕ, ◌≡◌, Bool, List, Option, Result, Ok, Err}
 use Rattle.std.specs.Bool.{MatchBool}
 use Rattle.sat_checker.specs.Stored.{Stored, StoredClause, StoredUnit, Last, NoneYet, Empty, UnitClause, LongClause}
+use Rattle.sat_base.specs.steps.Steps.{Step}
+use Rattle.sat_checker.specs.Accepts.{Accepts, effect}
 use Rattle.sat_checker.specs.Spent.{IsSpent}
 use Rattle.sat_checker.specs.inner.StoreView.{KeepsHashed}
 use Rattle.sat_checker.specs.declared.store.StoreError.{StoreError}
@@ -56,3 +58,7 @@ abbrev pub TurnsIf : Result Bool StoreError → Type 0 → Type 0 → Stored →
 TurnsIf (Ok accepted) accepts kept g = MatchBool accepted (accepts × kept) (accepts → ⊥)
 TurnsIf (Err OutOfMemory) accepts kept g = Unit {0}
 TurnsIf (Err CounterEnd) accepts kept g = IsSpent g
+
+-- a deletion is accepted, and what it leaves is kept, or it's refused
+abbrev pub Deletes : Bool → Formula → Step → Formula → Type 0
+Deletes accepted old step new = (f : Stored) → KeepsFormula old f → MatchBool accepted (Accepts f step × KeepsFormula new (effect step f)) (Accepts f step → ⊥)

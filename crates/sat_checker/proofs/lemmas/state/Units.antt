@@ -1,0 +1,138 @@
+-- Units that are checked and stored in turn.
+use Rattle.std.proofs.Common.{ℕ, zero, suc, ◌+◌, ◌*◌, ◌<◌, ◌≤◌, ◌^◌, ◌≡◌, Bool, true, false, cond, List, [], ◌∷◌, length, drop, get_or, map, refl, sym, ◌∙◌, ap, subst, arith, Result, Ok, Err, inl, inr}
+use Rattle.std.proofs.lemmas.Bool.{true≢false}
+use Rattle.std.proofs.lemmas.List.{drop_more}
+use Rattle.std.specs.Bool.{MatchBool}
+use Rattle.sat_base.specs.values.Literals.{variable, negated}
+use Rattle.sat_base.specs.steps.Steps.{UnitClauses}
+use Rattle.sat_checker.specs.Looks.{literal_count}
+use Rattle.sat_checker.specs.Spent.{IsSpent}
+use Rattle.sat_checker.specs.Stored.{Stored, is_unit}
+use Rattle.sat_checker.specs.Storing.{with_unit, with_contradiction, with_new_unit, with_units, with_known, with_literals_known}
+use Rattle.sat_checker.specs.Accepts.{Passes, PassInTurn, effect}
+use Rattle.sat_checker.specs.inner.FormulaView.{KeepsFormula, TurnsIf}
+use Rattle.sat_checker.specs.inner.StateView.{Keeps}
+use Rattle.sat_checker.specs.inner.VariablesView.{KeepsVariables}
+use Rattle.sat_checker.specs.declared.store.StoreError.{StoreError}
+use Rattle.sat_checker.specs.declared.store.StoreError.TheVariants.{OutOfMemory, CounterEnd}
+use Rattle.sat_checker.specs.declared.formula.Formula.{Formula}
+use Rattle.sat_checker.specs.declared.state.State.{State}
+use Rattle.sat_checker.proofs.lemmas.meaning.Names.{units_same}
+use Rattle.sat_checker.proofs.lemmas.store.Buckets.{looks_more, looks_within}
+
+abbrev pub firsts : List (ℕ × ℕ) → List ℕ
+firsts us = map (λ u. u.0) us
+
+-- Some units were checked and stored, and these are left.
+pub record Left (F : Formula) (f : Stored) (all left : List (ℕ × ℕ)) : Type 0 where
+  pub now : Stored
+  pub kept : KeepsFormula F now
+  pub on : PassInTurn now left → PassInTurn f all
+  pub back : PassInTurn f all → PassInTurn now left
+  pub same : with_units (firsts left) now ≡ with_units (firsts all) f
+  pub count : literal_count now ≡ literal_count f
+
+pub all_left : (F : Formula) (f : Stored) (all : List (ℕ × ℕ)) → KeepsFormula F f → Left F f all all
+all_left F f all k = record { now = f; kept = k; on = λ p. p; back = λ p. p; same = refl; count = refl }
+
+count_unit : (l : ℕ) (f : Stored) → literal_count (with_unit l f) ≡ literal_count f
+count_unit l f = go (is_unit f l) (is_unit f (negated l))
+  where
+    go : (b d : Bool) → literal_count (cond b f (cond d (with_contradiction l f) (with_new_unit l f))) ≡ literal_count f
+    go true d = refl
+    go false true = refl
+    go false false = refl
+
+-- what is spent stays so as units come in
+spent_unit : (l : ℕ) (f : Stored) → IsSpent f → IsSpent (with_unit l f)
+spent_unit l f h = go (is_unit f l) (is_unit f (negated l)) h
+  where
+    go : (b d : Bool) → IsSpent f → IsSpent (cond b f (cond d (with_contradiction l f) (with_new_unit l f)))
+    go true d h = h
+    go false true (inl h) = inl (omega arith)
+    go false true (inr s) = inr (record { literals = s.literals; past = s.past })
+    go false false (inl h) = inl (omega arith)
+    go false false (inr s) = inr (record { literals = s.literals; past = s.past })
+
+spent_units : (ls : List ℕ) (f : Stored) → IsSpent f → IsSpent (with_units ls f)
+spent_units [] f h = h
+spent_units (l ∷ ls) f h = spent_units ls (with_unit l f) (spent_unit l f h)
+
+-- the next one of those that are left
+module _ (F : Formula) (f : Stored) (all : List (ℕ × ℕ)) (i : ℕ) (u : ℕ × ℕ) (inside : i < length all) (is : u ≡ get_or all i u) (left : Left F f all (drop i all)) where
+  split : drop i all ≡ u ∷ drop (i + 1) all
+  split = drop_more all i u inside ∙ ap (λ x. x ∷ drop (i + 1) all) (sym is)
+
+  pub passed : (G : Formula) → Passes left.now (u.0 ∷ []) (u.1 ∷ []) → KeepsFormula G (with_unit u.0 left.now) → Left G f all (drop (i + 1) all)
+  passed G p k = record {
+    now = with_unit u.0 left.now;
+    kept = k;
+    on = λ q. left.on (subst (PassInTurn left.now) (sym split) (p, q));
+    back = λ q. (subst (PassInTurn left.now) split (left.back q)).1;
+    same = ap (λ us. with_units (firsts us) left.now) (sym split) ∙ left.same;
+    count = count_unit u.0 left.now ∙ left.count;
+  }
+
+  pub stopped : (Passes left.now (u.0 ∷ []) (u.1 ∷ []) → ⊥) → PassInTurn f all → ⊥
+  stopped n q = n (subst (PassInTurn left.now) split (left.back q)).0
+
+  pub spent_then : IsSpent (with_unit u.0 left.now) → IsSpent (with_units (firsts all) f)
+  spent_then s = subst IsSpent (ap (λ us. with_units (firsts us) left.now) (sym split) ∙ left.same) (spent_units (firsts (drop (i + 1) all)) (with_unit u.0 left.now) s)
+
+  pub looks_then : (old looks new : ℕ) → looks ≤ old + i * literal_count f → new ≤ looks + literal_count left.now → new ≤ old + (i + 1) * literal_count f
+  looks_then old looks new h k = let e = left.count in looks_more old looks new i (literal_count f) (literal_count left.now) h k (omega (arith, e))
+
+  pub looks_end : (old looks new : ℕ) → looks ≤ old + i * literal_count f → new ≤ looks + literal_count left.now → new ≤ old + length all * literal_count f
+  looks_end old looks new h k = looks_within old new (i + 1) (length all) (literal_count f) (looks_then old looks new h k) (omega arith)
+
+-- none is left
+pub finished : (F : Formula) (f : Stored) (all : List (ℕ × ℕ)) (i : ℕ) → length all ≤ i → Left F f all (drop i all) → PassInTurn f all × KeepsFormula F (with_units (firsts all) f)
+finished F f all i l left = let e = past all i l in (left.on (subst (PassInTurn left.now) (sym e) tt), subst (KeepsFormula F) (ap (λ us. with_units (firsts us) left.now) (sym e) ∙ left.same) left.kept)
+  where
+    past : (xs : List (ℕ × ℕ)) (i : ℕ) → length xs ≤ i → drop i xs ≡ []
+    past [] zero l = refl
+    past [] (suc i) l = refl
+    past (x ∷ xs) zero l = absurd (omega arith)
+    past (x ∷ xs) (suc i) l = past xs i (omega arith)
+
+-- the answer to all of them
+pub turns_err : (first result : Result Bool StoreError) (d e : StoreError) → first ≡ Err e → result ≡ Err d → d ≡ e → (A K B L : Type 0) (g h : Stored) → (IsSpent g → IsSpent h) → TurnsIf first A K g → TurnsIf result B L h
+turns_err first result d e a b s A K B L g h w t = subst (λ x. TurnsIf x B L h) (sym (b ∙ ap Err s)) (go e (subst (λ x. TurnsIf x A K g) a t))
+  where
+    go : (e : StoreError) → TurnsIf (Err e) A K g → TurnsIf (Err e) B L h
+    go OutOfMemory t = tt
+    go CounterEnd t = w t
+
+-- units and known variables come in apart from each other
+known_unit : (vs : List ℕ) (l : ℕ) (f : Stored) → with_unit l (with_known vs f) ≡ with_known vs (with_unit l f)
+known_unit vs l f = go (is_unit f l) (is_unit f (negated l))
+  where
+    go : (b d : Bool) → cond b (with_known vs f) (cond d (with_contradiction l (with_known vs f)) (with_new_unit l (with_known vs f))) ≡ with_known vs (cond b f (cond d (with_contradiction l f) (with_new_unit l f)))
+    go true d = refl
+    go false true = refl
+    go false false = refl
+
+known_units : (vs ls : List ℕ) (f : Stored) → with_units ls (with_known vs f) ≡ with_known vs (with_units ls f)
+known_units vs [] f = refl
+known_units vs (l ∷ ls) f = ap (with_units ls) (known_unit vs l f) ∙ known_units vs ls (with_unit l f)
+
+pub units_stored : (new : State) (f : Stored) (us : List (ℕ × ℕ)) → KeepsFormula new.formula (with_units (firsts us) f) → KeepsVariables new.variables (with_literals_known (firsts us) f).variables → new.assumed.items ≡ f.assumed → Keeps new (effect (UnitClauses us) f)
+units_stored new f us F V a =
+    let s = units_same (firsts us) f in
+    subst (Keeps new) (sym (known_units (map variable (firsts us)) (firsts us) f)) (record {
+      formula = F;
+      variables = subst (λ g. KeepsVariables new.variables (with_literals_known (firsts us) (record f { variables = g })).variables) (sym s.variables) V;
+      assumed = a ∙ sym s.assumed;
+    })
+
+pub spent_known : (f : Stored) (us : List (ℕ × ℕ)) → IsSpent (with_units (firsts us) f) → IsSpent (effect (UnitClauses us) f)
+spent_known f us h = subst IsSpent (sym (known_units (map variable (firsts us)) (firsts us) f)) (go h)
+  where
+    go : IsSpent (with_units (firsts us) f) → IsSpent (with_known (map variable (firsts us)) (with_units (firsts us) f))
+    go (inl h) = inl h
+    go (inr s) = inr (record { literals = s.literals; past = s.past })
+
+-- an answer by another
+pub match_on : (b : Bool) (P Q N M : Type 0) → (P → Q) → (N → M) → MatchBool b P N → MatchBool b Q M
+match_on true P Q N M h g m = h m
+match_on false P Q N M h g m = g m
