@@ -1,4 +1,5 @@
 pub mod Needed
 pub mod Announcements
 pub mod Transcripts
+pub mod Promises
 pub mod Rows
