@@ -9,3 +9,4 @@ pub mod StoreView
 pub mod UnitView
 pub mod FormulaView
 pub mod StateView
+pub mod ModelTests

@@ -1,17 +1,22 @@
 //! The stored clauses of two literals or more.
-ghost use Rattle.std.specs.Prelude.{ℕ, ◌≡◌, ◌+◌, ◌*◌, ◌<◌, ◌≤◌, ◌^◌, [], ◌∷◌, ◌++◌, length, false, MatchOption, OnOk};
-ghost use Rattle.std.specs.List.{AllByRecursion};
+ghost use Rattle.std.specs.Prelude.{ℕ, ◌≡◌, ◌+◌, ◌*◌, ◌<◌, ◌≤◌, ◌^◌, [], ◌∷◌, ◌++◌, length, false, MatchOption, OnOk, None, Some};
+ghost use Rattle.std.specs.List.{AllByRecursion, list_any};
+ghost use Rattle.sat_checker.specs.LiteralSets.{mentions};
+ghost use Rattle.sat_checker.specs.Storing.{clause_numbered};
+ghost use Rattle.sat_checker.specs.inner.ModelTests.{are_all_true};
 ghost use Rattle.sat_checker.specs.Looks.{total_length};
 ghost use Rattle.sat_checker.specs.inner.Marks.{IsIncreasing};
-ghost use Rattle.sat_checker.specs.inner.SlotView.{slot_at, literals_at, all_lits, stored_slot, with_count_at, without_count_at, count_of, is_gone, places_of, bucket_in, is_same_at, found_among, all_hashed_by, live_length, IsBucket};
+ghost use Rattle.sat_checker.specs.inner.SlotView.{slot_at, literals_at, all_lits, stored_slot, with_count_at, without_count_at, count_of, is_gone, places_of, bucket_in, is_same_at, found_among, all_hashed_by, live, live_length, IsBucket};
 ghost use Rattle.sat_checker.specs.HasherView.{solver_name_of, width_of};
 ghost use Rattle.sat_checker.specs.inner.IndexView.{places_in};
 
+use crate::assigned::Assigned;
 use crate::hash::ClauseHasher;
 use crate::index::{Bucket, Index};
 use crate::looks::Looks;
 use crate::slots::Slots;
-use sat_base::{ClauseHash, Lit};
+use crate::valuation::{makes_true, mentions};
+use sat_base::{ClauseHash, Lit, Var};
 use std::alloc::{AllocError, Global};
 use std::marker::Model;
 
@@ -110,6 +115,55 @@ impl Clauses {
             }
         }
         None
+    }
+
+    /// The place of the clause with this id.
+    #[tactic(auto, using(crate::proofs::lemmas::state::Living::finding_place))]
+    pub fn place_numbered(&self, id: u64) -> Option<usize>
+        ensures { MatchOption result (clause_numbered id (live self.now) ≡ None)
+            (λ p. (p < length self.now) × (clause_numbered id (live self.now) ≡ Some (literals_at self.now p))) }
+    {
+        for place in 0..self.slots.len() {
+            if self.slots.is_gone(place) {
+                continue;
+            }
+            if self.slots.id(place) == id {
+                return Some(place);
+            }
+        }
+        None
+    }
+
+    /// Whether a clause that isn't gone has a literal of the variable.
+    pub fn mention(&self, var: Var, looks: &mut Looks) -> bool
+        ensures found { result ≡ list_any (λ c. mentions c.literals var) (live self.now) }
+        ensures looks { looks.new ≤ looks.old + live_length self.now }
+    {
+        for place in 0..self.slots.len() {
+            if self.slots.is_gone(place) {
+                continue;
+            }
+            if mentions(lend(&self.slots, place, looks), var) {
+                return true;
+            }
+        }
+        false
+    }
+
+    /// Whether each clause that stands as irredundant has an assumed literal.
+    pub fn are_satisfied(&self, assigned: &Assigned, looks: &mut Looks) -> bool
+        ensures found { result ≡ are_all_true assigned.now (live self.now) }
+        ensures looks { looks.new ≤ looks.old + live_length self.now }
+    {
+        for place in 0..self.slots.len() {
+            if self.slots.count(place, false) == 0 {
+                continue;
+            }
+            if !makes_true(assigned, lend(&self.slots, place, looks)) {
+                return false;
+            }
+        }
+        true
     }
 
     /// Puts a clause with one count behind the others.

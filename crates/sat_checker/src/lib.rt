@@ -17,6 +17,7 @@ pub(crate) mod status;
 pub(crate) mod store;
 mod tally;
 pub(crate) mod units;
+pub(crate) mod valuation;
 pub mod variables;
 
 pub use hash::ClauseHasher;

@@ -1,8 +1,9 @@
 //! The stored units.
-ghost use Rattle.std.specs.Prelude.{◌≡◌, ◌++◌, ◌∷◌, [], ◌+◌, ◌*◌, ◌≤◌, ◌↔◌, false, length, map, IfOk, IsTrue, OnOk, reverse};
+ghost use Rattle.std.specs.Prelude.{◌≡◌, ◌++◌, ◌∷◌, [], ◌+◌, ◌*◌, ◌≤◌, ◌↔◌, false, length, map, IfOk, IsTrue, OnOk, reverse, MatchOption, None, Some};
+ghost use Rattle.sat_base.specs.values.Literals.{negated};
 ghost use Rattle.std.specs.List.{list_any};
 ghost use Rattle.sat_checker.specs.LiteralSets.{is_among};
-ghost use Rattle.sat_checker.specs.Storing.{unit_id};
+ghost use Rattle.sat_checker.specs.Storing.{unit_id, unit_numbered};
 ghost use Rattle.sat_checker.specs.Stored.{Stored};
 ghost use Rattle.sat_checker.specs.Accepts.{Passes};
 ghost use Rattle.sat_checker.specs.Looks.{literal_count};
@@ -92,6 +93,32 @@ impl Units {
             }
         }
         None
+    }
+
+    /// The unit with this id.
+    #[tactic(auto, using(crate::proofs::lemmas::state::Scanning::finding_number))]
+    pub fn numbered(&self, id: u64) -> Option<Lit>
+        ensures { MatchOption result (unit_numbered id self.now ≡ None) (λ l. unit_numbered id self.now ≡ Some (l ∷ [])) }
+    {
+        for unit in &self.list {
+            if unit.id == id {
+                return Some(unit.lit);
+            }
+        }
+        None
+    }
+
+    /// Whether the negation of a unit is assumed.
+    #[tactic(auto, using(crate::proofs::lemmas::state::Scanning::finding_number))]
+    pub fn are_contradicted(&self, assigned: &Assigned) -> bool
+        ensures { result ≡ list_any (λ u. is_among assigned.now (negated u.literal)) self.now }
+    {
+        for unit in &self.list {
+            if assigned.is_true(!unit.lit) {
+                return true;
+            }
+        }
+        false
     }
 
     /// The propagation check of a clause under hashes, over the units, which stay.

@@ -1,3 +1,5 @@
 pub mod Keeping
 pub mod Scanning
 pub mod Units
+pub mod Living
+pub mod Models

@@ -1,0 +1,11 @@
+use Rattle.std.proofs.Common.{◌≡◌, ◌≤◌, ◌+◌, drop}
+use Rattle.sat_checker.specs.inner.ModelTests.{are_all_true}
+use Rattle.sat_checker.specs.inner.SlotView.{live, live_length}
+use Rattle.sat_checker.proofs.clauses.Clauses.are_satisfied.Given as goal
+
+-- those that are left decide
+abbrev pub invariant-loop-place : goal.invariant-loop-place
+invariant-loop-place l = record {
+  found : are_all_true l.assigned (live l.self) ≡ are_all_true l.assigned (live (drop l.place l.self));
+  looks : l.looks + live_length (drop l.place l.self) ≤ l.fn.looks + live_length l.self;
+}
