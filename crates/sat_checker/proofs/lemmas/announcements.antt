@@ -5,3 +5,5 @@ pub mod Sorted
 pub mod Grounds
 pub mod Rests
 pub mod Apart
+pub mod Backwards
+pub mod Exact

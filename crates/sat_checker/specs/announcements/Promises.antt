@@ -1,15 +1,15 @@
 -- What is promised of announcements.
-use Rattle.std.specs.Prelude.{ℕ, ◌≡◌, ◌⊎◌, true, false, List, [], ◌∷◌, ◌++◌, map}
-use Rattle.std.specs.List.{AllByRecursion}
+use Rattle.std.specs.Prelude.{ℕ, ◌≡◌, ◌≢◌, ◌⊎◌, ◌↔◌, true, false, List, [], ◌∷◌, ◌++◌, map, filter}
+use Rattle.std.specs.List.{AllByRecursion, list_any}
 use Rattle.sat_base.specs.values.Literals.{negated}
 use Rattle.sat_base.specs.steps.Steps.{Step}
-use Rattle.sat_checker.specs.LiteralSets.{is_tautology}
+use Rattle.sat_checker.specs.LiteralSets.{is_among, is_tautology}
 use Rattle.sat_checker.specs.inner.Marks.{IsIncreasing}
-use Rattle.sat_checker.specs.Propagation.{UnitInTurn}
-use Rattle.sat_checker.specs.Stored.{StoredClause, StoredUnit, Stored}
+use Rattle.sat_checker.specs.Propagation.{IsFalsified, IsUnit, UnitInTurn}
+use Rattle.sat_checker.specs.Stored.{StoredClause, StoredUnit, Stored, unit_literals}
 use Rattle.sat_checker.specs.Storing.{with_units}
 use Rattle.sat_checker.specs.Accepts.{Passes, AcceptsAll, ready_after}
-use Rattle.sat_checker.specs.announcements.Needed.{propagations}
+use Rattle.sat_checker.specs.announcements.Needed.{Ground, ground, named_by, conflict_ids, propagations}
 
 -- it's in the list
 abbrev pub IsOneOf : {A : Type 0} → A → List A → Type 0
@@ -30,6 +30,40 @@ pub record RestsOn (f : Stored) (clause ids : List ℕ) : Type 0 where
 abbrev pub PropagationsInTurn : Type 0
 PropagationsInTurn = (steps : List Step) (front clause hashes : List ℕ) → AcceptsAll steps → Passes (with_units front (ready_after steps)) clause hashes → is_tautology clause ≡ false →
     RestsOn (with_units front (ready_after steps)) clause (propagations (with_units front (ready_after steps)) clause hashes)
+
+-- a clause that was unit, and the literal that it made true
+pub record Reason : Type 0 where
+  pub clause : StoredClause
+  pub literal : ℕ
+
+-- Clauses are passed in order, under assumed literals, up to a conflict: the first that is falsified is the conflict, one that is unit in its turn makes its literal true from there on, and any other is passed over.
+pub data Passing : List ℕ → List StoredClause → List Reason → StoredClause → Type 0 where
+  is_conflict : (assumed : List ℕ) (c : StoredClause) (cs : List StoredClause) → IsFalsified assumed c.literals → Passing assumed (c ∷ cs) [] c
+  is_unit : (assumed : List ℕ) (c : StoredClause) (cs : List StoredClause) (l : ℕ) (reasons : List Reason) (last : StoredClause) →
+      IsUnit assumed c.literals l → Passing (l ∷ assumed) cs reasons last → Passing assumed (c ∷ cs) (record { clause = c; literal = l } ∷ reasons) last
+  is_neither : (assumed : List ℕ) (c : StoredClause) (cs : List StoredClause) (reasons : List Reason) (last : StoredClause) →
+      (IsFalsified assumed c.literals → ⊥) → ((l : ℕ) → IsUnit assumed c.literals l → ⊥) → Passing assumed cs reasons last → Passing assumed (c ∷ cs) reasons last
+
+-- The literals that a conflict rests on, followed backwards: the negations of the falsified clause's literals, and where a clause made one of them true, those of its other literals.
+pub data Needs (reasons : List Reason) (last : StoredClause) : ℕ → Type 0 where
+  of_last : (l : ℕ) → is_among last.literals l ≡ true → Needs reasons last (negated l)
+  of_reason : (r : Reason) (l : ℕ) → IsOneOf r reasons → Needs reasons last r.literal → is_among r.clause.literals l ≡ true → l ≢ r.literal → Needs reasons last (negated l)
+
+-- just those literals, and just the clauses that made one of them true, in the order passed, the falsified one last
+pub record IsGround (assumed : List ℕ) (cs : List StoredClause) (g : Ground) : Type 0 where
+  pub reasons : List Reason
+  pub last : StoredClause
+  pub passing : Passing assumed cs reasons last
+  pub literals : (m : ℕ) → (is_among g.literals m ≡ true) ↔ Needs reasons last m
+  pub clauses : g.clauses ≡ map (λ r. r.clause) (filter (λ r. is_among g.literals r.literal) reasons) ++ last ∷ []
+
+-- what a clause rests on that passes by a conflict: no unit is true in it, and it has no variable with both signs
+abbrev pub ConflictIsFollowedBackwards : Type 0
+ConflictIsFollowedBackwards = (steps : List Step) (front clause hashes : List ℕ) → AcceptsAll steps → Passes (with_units front (ready_after steps)) clause hashes →
+    is_tautology clause ≡ false → list_any (is_among (unit_literals (with_units front (ready_after steps)))) clause ≡ false →
+    (let f : Stored = with_units front (ready_after steps) in
+    let assumed : List ℕ = map negated clause ++ unit_literals f in
+    (propagations f clause hashes ≡ conflict_ids (map negated clause) (ground assumed (named_by hashes f)) f.units) × IsGround assumed (named_by hashes f) (ground assumed (named_by hashes f)))
 
 -- one with both signs of a variable rests on nothing
 abbrev pub TautologiesRestOnNothing : Type 0

@@ -5,11 +5,7 @@ use Rattle.sat_base.specs.values.Literals.{variable, negated}
 use Rattle.sat_checker.specs.LiteralSets.{is_among, mentions}
 use Rattle.sat_checker.specs.Stored.{StoredUnit, Stored, is_unit, unit_literals}
 use Rattle.sat_checker.specs.Storing.{with_unit, with_contradiction, with_new_unit, with_units}
-use Rattle.sat_checker.specs.Accepts.{VariablesApart, ready_after}
-use Rattle.sat_checker.specs.announcements.Promises.{PropagationsInTurn}
-use Rattle.sat_checker.proofs.lemmas.meaning.Meaning.{means_ready}
-use Rattle.sat_checker.proofs.lemmas.announcements.Sorted.{sorted_ready, sorted_units}
-use Rattle.sat_checker.proofs.lemmas.announcements.Rests.{rests_on}
+use Rattle.sat_checker.specs.Accepts.{VariablesApart}
 
 abbrev literals_in : List StoredUnit → List ℕ
 literals_in = map (λ u. u.literal)
@@ -43,9 +39,6 @@ apart_unit l f p = go (is_unit f l) refl (is_unit f (negated l)) refl
     go false n true m = p
     go false n false m = apart_push f.units (record { id = f.next_id; literal = l }) p (not_mentioned (unit_literals f) l n m)
 
-apart_units : (ls : List ℕ) (f : Stored) → VariablesApart (unit_literals f) → VariablesApart (unit_literals (with_units ls f))
+pub apart_units : (ls : List ℕ) (f : Stored) → VariablesApart (unit_literals f) → VariablesApart (unit_literals (with_units ls f))
 apart_units [] f p = p
 apart_units (l ∷ ls) f p = apart_units ls (with_unit l f) (apart_unit l f p)
-
-pub in_turn : PropagationsInTurn
-in_turn steps front clause hashes ok = rests_on (with_units front (ready_after steps)) clause hashes (sorted_units front (ready_after steps) (sorted_ready steps)) (apart_units front (ready_after steps) (means_ready steps ok).coherent.apart)

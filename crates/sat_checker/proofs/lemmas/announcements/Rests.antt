@@ -133,11 +133,11 @@ one_of_itself p [] = tt
 one_of_itself p (u ∷ us) = (λ k. inl refl, one_of_later (λ w. p w ≡ true) u us us (one_of_itself p us))
 
 -- the unit of an id
-record UnitOf (us : List StoredUnit) (l id : ℕ) : Type 0 where
-  unit : StoredUnit
-  stored : IsOneOf unit us
-  id_is : unit.id ≡ id
-  literal_is : unit.literal ≡ l
+pub record UnitOf (us : List StoredUnit) (l id : ℕ) : Type 0 where
+  pub unit : StoredUnit
+  pub stored : IsOneOf unit us
+  pub id_is : unit.id ≡ id
+  pub literal_is : unit.literal ≡ l
 
 unit_found : (l id : ℕ) (us : List StoredUnit) → unit_id l us ≡ Some id → UnitOf us l id
 unit_found l id [] e = absurd cc
@@ -155,12 +155,12 @@ unit_missing l (u ∷ us) e = go (unit_missing l us) (eqb u.literal l) e
     go ih true k = absurd cc
     go ih false k = ih k
 
-record TrueUnit (us : List StoredUnit) (ls : List ℕ) (id : ℕ) : Type 0 where
-  literal : ℕ
-  within : is_among ls literal ≡ true
-  found : UnitOf us literal id
+pub record TrueUnit (us : List StoredUnit) (ls : List ℕ) (id : ℕ) : Type 0 where
+  pub literal : ℕ
+  pub within : is_among ls literal ≡ true
+  pub found : UnitOf us literal id
 
-true_found : (ls : List ℕ) (us : List StoredUnit) (id : ℕ) → true_unit ls us ≡ Some id → TrueUnit us ls id
+pub true_found : (ls : List ℕ) (us : List StoredUnit) (id : ℕ) → true_unit ls us ≡ Some id → TrueUnit us ls id
 true_found [] us id e = absurd cc
 true_found (l ∷ ls) us id e = go (true_found ls us id) (unit_id l us) refl e
   where
@@ -229,7 +229,7 @@ buckets_sets [] f s = tt
 buckets_sets (h ∷ hs) f s = (sets_once (λ c. eqb (hash_by f.solver_names f.width c) h) f.clauses s.sets, buckets_sets hs f s)
 
 -- the clauses needed are stored
-one_of_few : (p : StoredClause → Bool) (c : StoredClause) (cs : List StoredClause) → IsOneOf c (filter p cs) → IsOneOf c cs
+pub one_of_few : (p : StoredClause → Bool) (c : StoredClause) (cs : List StoredClause) → IsOneOf c (filter p cs) → IsOneOf c cs
 one_of_few p c [] h = h
 one_of_few p c (d ∷ ds) h = go (one_of_few p c ds) (p d) h
   where
@@ -241,7 +241,7 @@ one_of_both : (c : StoredClause) (xs ys : List StoredClause) → IsOneOf c (xs +
 one_of_both c [] ys h = inr h
 one_of_both c (x ∷ xs) ys h = elim h [ inl e ↦ inl (inl e) | inr k ↦ elim (one_of_both c xs ys k) [ inl m ↦ inl (inr m) | inr n ↦ inr n ] ]
 
-named_stored : (hashes : List ℕ) (f : Stored) (c : StoredClause) → IsOneOf c (named_by hashes f) → IsOneOf c f.clauses
+pub named_stored : (hashes : List ℕ) (f : Stored) (c : StoredClause) → IsOneOf c (named_by hashes f) → IsOneOf c f.clauses
 named_stored [] f c h = absurd h
 named_stored (k ∷ ks) f c h =
     elim (one_of_both c (filter (λ d. eqb (hash_by f.solver_names f.width d.literals) k) f.clauses) (named_by ks f) h) [
@@ -343,25 +343,26 @@ module _ (f : Stored) (clause hashes : List ℕ) (sorted : Sorted f) (apart : Va
         conflict = (among_negated clause t.found.unit.literal m, tt);
       }
 
+  -- where it passes by a conflict, the clauses named run to one
+  pub met : ((m : ℕ) → is_among clause m ≡ true → is_among (unit_literals f) m ≡ false) → is_tautology clause ≡ false → Passes f clause hashes → walk (map negated clause ++ unit_literals f) (literals_of (named_by hashes f)) ≡ None
+  met none n (tautology t) = absurd (both_ways (is_tautology clause) n t)
+  met none n (unit_true t) = absurd (both_ways (list_any (is_among (unit_literals f)) clause) (any_none (is_among (unit_literals f)) clause none) t)
+  met none n (conflict k) =
+      let assumed : List ℕ = map negated clause ++ unit_literals f in
+      subst (λ cs. walk assumed cs ≡ None) (named_clauses hashes f)
+      (walk_joined (map (bucket f) hashes) assumed (walk_from_rule assumed assumed (map (bucket f) hashes) (record { each = λ l h. h }) (buckets_sets hashes f sorted) k))
+
   pub rests_on : Passes f clause hashes → is_tautology clause ≡ false → RestsOn f clause (propagations f clause hashes)
   rests_on passes n = subst (λ b. RestsOn f clause (cond b [] (unit_alone (true_unit (canonical clause) f.units) ids))) (sym n) (go (true_unit (canonical clause) f.units) refl)
     where
       ids : List ℕ
       ids = conflict_ids (map negated clause) (ground (map negated clause ++ unit_literals f) (named_by hashes f)) f.units
 
-      met : ((m : ℕ) → is_among clause m ≡ true → is_among (unit_literals f) m ≡ false) → Passes f clause hashes → walk (map negated clause ++ unit_literals f) (literals_of (named_by hashes f)) ≡ None
-      met none (tautology t) = absurd (both_ways (is_tautology clause) n t)
-      met none (unit_true t) = absurd (both_ways (list_any (is_among (unit_literals f)) clause) (any_none (is_among (unit_literals f)) clause none) t)
-      met none (conflict k) =
-          let assumed : List ℕ = map negated clause ++ unit_literals f in
-          subst (λ cs. walk assumed cs ≡ None) (named_clauses hashes f)
-          (walk_joined (map (bucket f) hashes) assumed (walk_from_rule assumed assumed (map (bucket f) hashes) (record { each = λ l h. h }) (buckets_sets hashes f sorted) k))
-
       go : (x : Option ℕ) → true_unit (canonical clause) f.units ≡ x → RestsOn f clause (unit_alone x ids)
       go (Some id) e = rests_on_unit id e
       go None e =
           let none : (m : ℕ) → is_among clause m ≡ true → is_among (unit_literals f) m ≡ false = λ m k. true_missing (canonical clause) f.units e m (canonical_among clause m ∙ k) in
-          rests_on_conflict none (met none passes)
+          rests_on_conflict none (met none n passes)
 
 pub tautologies : TautologiesRestOnNothing
 tautologies f clause hashes t = rw t refl
