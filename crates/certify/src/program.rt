@@ -1,12 +1,18 @@
 //! The program: what it does with its arguments and its standard streams.
-ghost use Rattle.std.specs.Prelude.{◌≤◌, IfOk};
+ghost use Rattle.std.specs.Prelude.{◌≡◌, ◌≤◌, ◌++◌, IfOk, OnOk, [], true};
+ghost use Rattle.sat_base.specs.device.Device.{Takes};
+ghost use Rattle.certify.specs.run.FinishedRun.{gave, took};
+ghost use Rattle.certify.specs.declared.verdict.Verdict.TheVariants.{Yes};
+ghost use Rattle.certify.specs.program.Printing.{Prints, PrintsVerdict};
 
-use crate::confirm::confirm;
+mod verdict_line;
+
 use crate::fault::RunFault;
+use crate::program::verdict_line::confirm_texts;
 use crate::run::run;
 use crate::verdict::{ConfirmFault, Verdict};
 use sat_base::{Counted, CountedRead, CountedWrite, ReadError, read_whole};
-use std::alloc::{AllocError, Global};
+use std::alloc::Global;
 use std::io;
 
 /// Everything was done, and every answer was confirmed.
@@ -58,12 +64,6 @@ fn confirm_fault_name(fault: ConfirmFault) -> &'static str {
     }
 }
 
-impl From<AllocError> for Fault {
-    fn from(_e: AllocError) -> Fault {
-        Fault::Run(RunFault::OutOfMemory)
-    }
-}
-
 impl From<ReadError> for Fault {
     fn from(e: ReadError) -> Fault {
         match e {
@@ -100,7 +100,9 @@ pub fn program<R: AllocGlobal, I: CountedRead, O: CountedWrite, E: CountedWrite>
     output: &mut O,
     errors: &mut E,
 ) -> u8
-    ensures { result ≤ 3 }
+    ensures status { result ≤ 3 }
+    // A status of 0 or 1 behind a script: its answers were printed, and the verdict on them. 0 means that they are confirmed.
+    ensures printed { result ≤ 1 → PrintsVerdict result (gave I.seen input.old input.new) (took O.seen output.old output.new) }
 {
     let outcome = match arguments {
         Ok(words) => {
@@ -123,7 +125,7 @@ pub fn program<R: AllocGlobal, I: CountedRead, O: CountedWrite, E: CountedWrite>
 }
 
 fn misused<E: CountedWrite>(errors: &mut E) -> u8
-    ensures { result ≤ 3 }
+    ensures { result ≡ 2 }
 {
     let _ = errors.write_all_counted(USAGE.as_bytes());
     let _ = errors.flush_counted();
@@ -131,7 +133,7 @@ fn misused<E: CountedWrite>(errors: &mut E) -> u8
 }
 
 fn failed<E: CountedWrite>(errors: &mut E, fault: Fault) -> u8
-    ensures { result ≤ 3 }
+    ensures { result ≡ 3 }
 {
     let _ = errors.write_all_counted(b"certify: ");
     let _ = errors.write_all_counted(fault.name().as_bytes());
@@ -140,33 +142,53 @@ fn failed<E: CountedWrite>(errors: &mut E, fault: Fault) -> u8
     FAILED
 }
 
+/// The status behind a verdict.
+fn status(verdict: Verdict, malformed: bool) -> u8
+    ensures small { result ≤ 1 }
+    ensures yes { result ≡ 0 → verdict ≡ Yes }
+{
+    match verdict {
+        Verdict::Yes => { if malformed { REFUSED } else { DONE } }
+        Verdict::No { .. } => REFUSED,
+    }
+}
+
+/// Prints what was answered to a script, and the verdict on it. The answer is the status.
+fn print_confirmed<O: CountedWrite>(
+    alloc: Global,
+    script: &[u8],
+    written: &Written,
+    output: &mut O,
+) -> Result<u8, Fault>
+    ensures small { IfOk result (λ status. status ≤ 1) }
+    ensures printed { IfOk result (λ status. Prints status script.now (O.seen output.old) (O.seen output.new)) }
+{
+    write_out(output, &written.answers)?;
+    let mut line = Vec::new(alloc);
+    let verdict = confirm_texts(
+        alloc,
+        script,
+        &written.answers,
+        &written.certificate,
+        &mut line,
+    )?;
+    write_out(output, &line)?;
+    flush_out(output)?;
+    Ok(status(verdict, written.malformed))
+}
+
 /// Answers a script, and confirms the answers.
 fn answer<I: CountedRead, O: CountedWrite>(
     alloc: Global,
     input: &mut I,
     output: &mut O,
 ) -> Result<u8, Fault>
-    ensures { IfOk result (λ status. status ≤ 1) }
+    ensures small { IfOk result (λ status. status ≤ 1) }
+    ensures printed { IfOk result (λ s. PrintsVerdict s (gave I.seen input.old input.new) (took O.seen output.old output.new)) }
 {
     let script = read_whole(alloc, input)?;
-    let written = run_in_memory(alloc, script.as_slice())?;
-    write_out(output, written.answers.as_slice())?;
-    let verdict = confirm(
-        alloc,
-        &mut Counted::new(script.as_slice()),
-        &mut Counted::new(written.answers.as_slice()),
-        &mut Counted::new(written.certificate.as_slice()),
-    )?;
-    let line = verdict_line(alloc, &verdict)?;
-    write_out(output, line.as_bytes())?;
-    if output.flush_counted().is_err() {
-        return Err(Fault::Run(RunFault::AnswersWrite));
-    }
-    if verdict == Verdict::Yes && !written.malformed {
-        Ok(DONE)
-    } else {
-        Ok(REFUSED)
-    }
+    let written = run_in_memory(alloc, &script)?;
+    print_confirmed(alloc, &script, &written, output)
 }
 
 /// Runs a script with all rounds allowed. A failed write into memory is want of memory.
@@ -192,17 +214,22 @@ fn run_in_memory(alloc: Global, script: &[u8]) -> Result<Written, Fault> {
     }
 }
 
-fn write_out<O: CountedWrite>(output: &mut O, bytes: &[u8]) -> Result<(), Fault> {
-    output
-        .write_all_counted(bytes)
-        .map_err(|_| Fault::Run(RunFault::AnswersWrite))
+fn write_out<O: CountedWrite>(output: &mut O, bytes: &[u8]) -> Result<(), Fault>
+    ensures { OnOk result (Takes (O.seen output.old) (O.seen output.new) bytes.now) }
+{
+    match output.write_all_counted(bytes) {
+        Ok(()) => Ok(()),
+        Err(_) => Err(Fault::Run(RunFault::AnswersWrite)),
+    }
 }
 
-/// The last line of the output.
-fn verdict_line(alloc: Global, verdict: &Verdict) -> Result<String, AllocError> {
-    match verdict {
-        Verdict::Yes => format!(in alloc; "c confirmed\n"),
-        Verdict::No { ask, why } => format!(in alloc; "c not confirmed {ask} {why}\n"),
+fn flush_out<O: CountedWrite>(output: &mut O) -> Result<(), Fault>
+    ensures took { OnOk result (Takes (O.seen output.old) (O.seen output.new) []) }
+    ensures flushed { OnOk result ((O.seen output.new).flushed ≡ true) }
+{
+    match output.flush_counted() {
+        Ok(()) => Ok(()),
+        Err(_) => Err(Fault::Run(RunFault::AnswersWrite)),
     }
 }
 

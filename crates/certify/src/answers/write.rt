@@ -9,7 +9,7 @@ use sat_base::Lit;
 use std::alloc::AllocError;
 
 /// Appends the number in decimal.
-fn push_number(out: &mut Vec<u8>, number: u64) -> Result<(), AllocError>
+pub(crate) fn push_number(out: &mut Vec<u8>, number: u64) -> Result<(), AllocError>
     ensures { OnOk result (out.new.items ≡ out.old.items ++ decimal number) }
 {
     if number > 9 {

@@ -278,6 +278,156 @@ fn cores_are_compared(rt: HostRuntime) -> Result<(), Fail> {
     Ok(())
 }
 
+/// Three asks: behind the first two, which have a model and an unknown, a clause comes and the third one.
+const THIRD: &[u8] = b"1 2 0\na 0\na 0\n3 0\na 0\n";
+
+/// The certificate up to the end of the second ask.
+const TWO_ASKS: &[u8] = &[
+    2, 0, 1, 2, 1, 2, 5, 2, 0, 2, 11, 0, 10, 2, 1, 2, 11, 0, 11, 0, 11, 0,
+];
+
+const TWO_ANSWERS: &[u8] = b"s SATISFIABLE\nv -1 2 0\ns UNKNOWN\n";
+
+const THIRD_ANSWER: &[u8] = b"s SATISFIABLE\nv -1 2 3 0\n";
+
+/// How the answers and the certificate go on behind two asks, and the ask and the cause of a no.
+type Tail<'a> = (&'a [u8], &'a [u8], Option<(u64, Why)>);
+
+/// Each cause of a no, at the third ask or behind it.
+const THIRD_ASKS: [Tail<'static>; 13] = [
+    (THIRD_ANSWER, THIRD_STEPS, None),
+    (b"", THIRD_STEPS, Some((3, Why::AnswerMissing))),
+    (
+        b"s SATISFIABLE\n",
+        THIRD_STEPS,
+        Some((3, Why::AnswerMissing)),
+    ),
+    (
+        b"s SATISFIABLE\nv -1 2 3 0\ns UNKNOWN\n",
+        THIRD_STEPS,
+        Some((4, Why::AnswerExtra)),
+    ),
+    (
+        b"s SATISFIABLE\nv -1 2 03 0\n",
+        THIRD_STEPS,
+        Some((3, Why::AnswerText)),
+    ),
+    (
+        THIRD_ANSWER,
+        &[2, 2, 3, 5, 1, 5],
+        Some((3, Why::ClauseDiffers)),
+    ),
+    (THIRD_ANSWER, &[2, 2, 4], Some((3, Why::NameDiffers))),
+    (THIRD_ANSWER, &[2, 1, 3], Some((3, Why::NameNotFresh))),
+    (
+        THIRD_ANSWER,
+        &[2, 2, 3, 5, 1, 4, 11, 1, 4],
+        Some((3, Why::AskDiffers)),
+    ),
+    (
+        b"s SATISFIABLE\nv 1 2 3 0\n",
+        THIRD_STEPS,
+        Some((3, Why::AnswerDiffers)),
+    ),
+    (
+        THIRD_ANSWER,
+        &[2, 2, 3, 5, 1, 4, 11, 0, 6, 0, 1, 0, 0],
+        Some((3, Why::StepRefused)),
+    ),
+    (
+        THIRD_ANSWER,
+        &[2, 2, 3, 5, 1, 4, 11, 0],
+        Some((3, Why::CertificateEnds)),
+    ),
+    (
+        THIRD_ANSWER,
+        &[2, 2, 3, 5, 1, 4, 11, 0, 13],
+        Some((3, Why::StepOutOfPlace)),
+    ),
+];
+
+const THIRD_STEPS: &[u8] = &[2, 2, 3, 5, 1, 4, 11, 0, 10, 3, 1, 2, 4, 11, 0, 13];
+
+/// The same two asks, and then the empty clause and two asks more.
+const EMPTY_THIRD: &[u8] = b"1 2 0\na 0\na 0\n0\na 0\na 0\n";
+
+/// Once the empty clause has recorded `unsat`, nothing more of the certificate counts.
+const EMPTY_ASKS: [Tail<'static>; 7] = [
+    (
+        b"s UNSATISFIABLE\nf 0\ns UNSATISFIABLE\nf 0\n",
+        &[5, 0],
+        None,
+    ),
+    (
+        b"s UNSATISFIABLE\nf 0\ns UNSATISFIABLE\nf 0\n",
+        &[5, 0, 255],
+        None,
+    ),
+    (
+        b"s UNSATISFIABLE\nf 0\n",
+        &[5, 0],
+        Some((4, Why::AnswerMissing)),
+    ),
+    (
+        b"s UNSATISFIABLE\nf 0\ns UNSATISFIABLE\nf 0\ns UNSATISFIABLE\nf 0\n",
+        &[5, 0],
+        Some((5, Why::AnswerExtra)),
+    ),
+    (
+        b"s UNSATISFIABLE\nf 0\ns UNSATISFIABLE\nf  0\n",
+        &[5, 0],
+        Some((4, Why::AnswerText)),
+    ),
+    (
+        b"s UNSATISFIABLE\nf 0\ns UNSATISFIABLE\nf 1 0\n",
+        &[5, 0],
+        Some((4, Why::AnswerDiffers)),
+    ),
+    (
+        b"s UNSATISFIABLE\nf 0\ns UNKNOWN\n",
+        &[5, 0],
+        Some((4, Why::AnswerDiffers)),
+    ),
+];
+
+/// Tests whether this is said of a script of which two asks are answered so.
+fn is_said_behind(
+    alloc: Global,
+    script: &[u8],
+    (answers, steps, no): Tail<'_>,
+) -> Result<bool, Fail> {
+    let mut answered = Vec::new(alloc);
+    answered.extend_from_slice(TWO_ANSWERS)?;
+    answered.extend_from_slice(answers)?;
+    let mut certificate = Vec::new(alloc);
+    certificate.extend_from_slice(TWO_ASKS)?;
+    certificate.extend_from_slice(steps)?;
+    let verdict = match no {
+        None => Verdict::Yes,
+        Some((ask, why)) => Verdict::No { ask, why },
+    };
+    Ok(is_said(alloc, (script, &answered, &certificate), verdict))
+}
+
+#[test]
+fn later_asks_are_named(rt: HostRuntime) -> Result<(), Fail> {
+    for tail in THIRD_ASKS {
+        assert!(rt; is_said_behind(rt.alloc(), THIRD, tail)?, "{tail:?}");
+    }
+    for tail in EMPTY_ASKS {
+        assert!(rt; is_said_behind(rt.alloc(), EMPTY_THIRD, tail)?, "{tail:?}");
+    }
+    Ok(())
+}
+
+/// Memory is asked for items that came, and never for a count: here 2^63-1 literals are promised, and none comes.
+#[test]
+fn counts_promise_nothing(rt: HostRuntime) {
+    let promise = &[5, 255, 255, 255, 255, 255, 255, 255, 255, 127];
+    let texts = (ROW, ROW_ANSWERS, promise.as_slice());
+    assert!(rt; is_no(rt.alloc(), texts, 1, Why::CertificateEnds));
+}
+
 /// Answers a script that is read by one byte. Gives the answers and the certificate.
 fn written(alloc: Global, script: &[u8], budget: u64) -> Result<(Vec<u8>, Vec<u8>), Fail> {
     let mut answers = Counted::new(Vec::new(alloc));
@@ -297,8 +447,14 @@ fn is_confirmed(alloc: Global, script: &[u8], budget: u64) -> Result<bool, Fail>
     Ok(is_yes(alloc, (script, &answers, &certificate)))
 }
 
+/// Three pigeons in two holes: pigeon k is in the first hole where 2k-1 is true, in the second where 2k is.
+const PIGEONS: &[u8] =
+    b"1 2 0\n3 4 0\n5 6 0\n-1 -3 0\n-1 -5 0\n-3 -5 0\n-2 -4 0\n-2 -6 0\n-4 -6 0\na 0\n";
+
 /// A script, and a budget.
-const RUNS: [(&[u8], u64); 24] = [
+const RUNS: [(&[u8], u64); 26] = [
+    (PIGEONS, AMPLE),
+    (b"1 0\na 0\n-1 0\n2 0\na 0\n", AMPLE),
     (b"", AMPLE),
     (b"a 0\n", AMPLE),
     (b"3 0\na 0\n", AMPLE),

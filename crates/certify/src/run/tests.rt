@@ -23,7 +23,12 @@ fn is_answered<S: CountedRead>(alloc: Global, script: &mut S, budget: u64, answe
 }
 
 /// A text, a budget, and the answers.
-const ANSWERS: [(&[u8], u64, &[u8]); 28] = [
+const ANSWERS: [(&[u8], u64, &[u8]); 29] = [
+    (
+        b"1 2 0\n3 4 0\n5 6 0\n-1 -3 0\n-1 -5 0\n-3 -5 0\n-2 -4 0\n-2 -6 0\n-4 -6 0\na 0\n",
+        AMPLE,
+        b"s UNSATISFIABLE\nf 0\n",
+    ),
     (b"", AMPLE, b""),
     (b"a 0\n", AMPLE, b"s SATISFIABLE\nv 0\n"),
     (b"3 0\na 0\n", AMPLE, b"s SATISFIABLE\nv -1 -2 3 0\n"),
@@ -106,8 +111,13 @@ fn is_certified(alloc: Global, text: &[u8], certificate: &[u8]) -> bool {
 }
 
 /// A text, and its certificate.
-const CERTIFICATES: [(&[u8], &[u8]); 2] = [
+const CERTIFICATES: [(&[u8], &[u8]); 3] = [
     (b"", b"\x0d"),
+    // Once `unsat` is recorded names come in, no clause is written, and nothing for an ask but its assumptions.
+    (
+        b"1 0\na 0\n-1 0\n2 0\na 0\n",
+        b"\x02\x00\x01\x05\x01\x00\x0b\x00\x0a\x01\x00\x0b\x00\x05\x01\x01\x02\x01\x02\x0b\x00\x0b\x00\x0d",
+    ),
     (
         b"1 2 0\na 0\n",
         b"\x02\x00\x01\x02\x01\x02\x05\x02\x00\x02\x0b\x00\x0a\x02\x01\x02\x0b\x00\x0d",
@@ -159,7 +169,13 @@ const UNSAT_AT_ONCE: AskReport = AskReport {
 };
 
 /// A text, what a run counts, and what it reports of each ask. An ask at the end of a text is reported, and is no command of it.
-const SUMMARIES: [(&[u8], Counts, &[AskReport]); 7] = [
+const SUMMARIES: [(&[u8], Counts, &[AskReport]); 8] = [
+    // Units stay from one ask to the next.
+    (
+        b"1 0\na 0\n-1 0\n2 0\na 0\n",
+        (5, 0, None),
+        &[SAT, UNSAT_AT_ONCE],
+    ),
     (
         b"1 2 0 1 -2 0 -1 2 0 -1 -2 0 268435457 0 a 0 a 0 x",
         (7, 1, Some(8)),

@@ -1,0 +1,47 @@
+-- What the program prints.
+use Rattle.std.specs.Prelude.{ℕ, ◌≡◌, ◌↔◌, true, Bool, false, List, [], ◌∷◌, ◌++◌, codes, decimal, if◌then◌else◌}
+use Rattle.sat_base.specs.device.Device.{Reader, Writer, GaveEnough, Takes}
+use Rattle.sat_base.specs.script.Script.{reading}
+use Rattle.certify.specs.confirm.ListChecking.{the_checking}
+use Rattle.certify.specs.confirm.Matches.{Matches}
+use Rattle.certify.specs.declared.verdict.Verdict.{Verdict}
+use Rattle.certify.specs.declared.verdict.Verdict.TheVariants.{Yes, No}
+use Rattle.certify.specs.declared.verdict.Why.{Why}
+use Rattle.certify.specs.declared.verdict.Why.TheVariants as why
+
+-- the word of each cause
+abbrev pub why_text : Why → List ℕ
+why_text why.AnswerMissing = codes "AnswerMissing"
+why_text why.AnswerExtra = codes "AnswerExtra"
+why_text why.AnswerText = codes "AnswerText"
+why_text why.ClauseDiffers = codes "ClauseDiffers"
+why_text why.NameDiffers = codes "NameDiffers"
+why_text why.NameNotFresh = codes "NameNotFresh"
+why_text why.AskDiffers = codes "AskDiffers"
+why_text why.AnswerDiffers = codes "AnswerDiffers"
+why_text why.StepRefused = codes "StepRefused"
+why_text why.CertificateEnds = codes "CertificateEnds"
+why_text why.StepOutOfPlace = codes "StepOutOfPlace"
+
+-- `c confirmed`, or `c not confirmed ASK WHY`, with LF
+abbrev pub verdict_text : Verdict → List ℕ
+verdict_text Yes = codes "c confirmed" ++ 10 ∷ []
+verdict_text (No ask why) = codes "c not confirmed " ++ decimal ask ++ 32 ∷ [] ++ why_text why ++ 10 ∷ []
+
+-- the verdict is yes exactly where the three texts match
+abbrev pub SaysExactly : Verdict → List ℕ → List ℕ → List ℕ → Type 0
+SaysExactly v script answers certificate = (v ≡ Yes) ↔ Matches the_checking reading script answers certificate
+
+-- The answers to a text were printed, and behind them the verdict on text, answers and some certificate. Only a yes has the status 0.
+pub record Prints (status : ℕ) (text : List ℕ) (old new : Writer) : Type 0 where
+  pub answers : List ℕ
+  pub certificate : List ℕ
+  pub verdict : Verdict
+  pub exact : SaysExactly verdict text answers certificate
+  pub printed : Takes old new (answers ++ verdict_text verdict)
+  pub flushed : new.flushed ≡ true
+  pub confirmed : status ≡ 0 → verdict ≡ Yes
+
+-- the same of the text that a reader gave, whatever would follow
+abbrev pub PrintsVerdict : ℕ → Reader × Reader → Writer × Writer → Type 0
+PrintsVerdict status input output = GaveEnough input.0 input.1 (λ text. Prints status text output.0 output.1)

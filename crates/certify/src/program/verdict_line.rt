@@ -1,0 +1,75 @@
+//! The verdict on three texts, and the last line that the program prints.
+ghost use Rattle.std.specs.Prelude.{◌≡◌, ◌++◌, IfOk, OnOk};
+ghost use Rattle.certify.specs.program.Printing.{SaysExactly, verdict_text, why_text};
+
+use crate::answers::write::push_number;
+use crate::confirm::confirm;
+use crate::verdict::{ConfirmFault, Verdict, Why};
+use sat_base::Counted;
+use std::alloc::{AllocError, Global};
+
+/// The word of a cause.
+fn why_word(why: Why) -> &'static [u8]
+    ensures { result.now ≡ why_text why }
+{
+    match why {
+        Why::AnswerMissing => b"AnswerMissing",
+        Why::AnswerExtra => b"AnswerExtra",
+        Why::AnswerText => b"AnswerText",
+        Why::ClauseDiffers => b"ClauseDiffers",
+        Why::NameDiffers => b"NameDiffers",
+        Why::NameNotFresh => b"NameNotFresh",
+        Why::AskDiffers => b"AskDiffers",
+        Why::AnswerDiffers => b"AnswerDiffers",
+        Why::StepRefused => b"StepRefused",
+        Why::CertificateEnds => b"CertificateEnds",
+        Why::StepOutOfPlace => b"StepOutOfPlace",
+    }
+}
+
+/// Appends `c confirmed` or `c not confirmed ASK WHY`.
+fn push_verdict(out: &mut Vec<u8>, verdict: Verdict) -> Result<(), AllocError>
+    ensures { OnOk result (out.new.items ≡ out.old.items ++ verdict_text verdict) }
+{
+    match verdict {
+        Verdict::Yes => out.extend_from_slice(b"c confirmed\n"),
+        Verdict::No { ask, why } => {
+            out.extend_from_slice(b"c not confirmed ")?;
+            push_number(out, ask)?;
+            out.extend_from_slice(b" ")?;
+            out.extend_from_slice(why_word(why))?;
+            out.extend_from_slice(b"\n")
+        }
+    }
+}
+
+/// Confirms three texts in memory.
+fn confirm_slices(
+    alloc: Global,
+    script: &[u8],
+    answers: &[u8],
+    certificate: &[u8],
+) -> Result<Verdict, ConfirmFault>
+    ensures { IfOk result (λ v. SaysExactly v script.now answers.now certificate.now) }
+{
+    let mut script = Counted::new(script);
+    let mut answers = Counted::new(answers);
+    let mut certificate = Counted::new(certificate);
+    confirm(alloc, &mut script, &mut answers, &mut certificate)
+}
+
+/// Confirms three texts, and puts the last line of the output behind what `line` holds.
+pub(crate) fn confirm_texts(
+    alloc: Global,
+    script: &[u8],
+    answers: &[u8],
+    certificate: &[u8],
+    line: &mut Vec<u8>,
+) -> Result<Verdict, ConfirmFault>
+    ensures exact { IfOk result (λ v. SaysExactly v script.now answers.now certificate.now) }
+    ensures line { IfOk result (λ v. line.new.items ≡ line.old.items ++ verdict_text v) }
+{
+    let verdict = confirm_slices(alloc, script, answers, certificate)?;
+    push_verdict(line, verdict)?;
+    Ok(verdict)
+}
