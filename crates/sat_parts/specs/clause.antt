@@ -2,3 +2,4 @@ pub mod Orders
 pub mod Stored
 pub mod Db
 pub mod Glue
+pub mod Collected

@@ -1,2 +1,3 @@
 //! Long clauses as a whole.
 pub mod db;
+pub mod gc;

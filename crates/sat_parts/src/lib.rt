@@ -8,6 +8,7 @@ pub mod prop;
 
 pub use binary::BinaryClauses;
 pub use clause::db::{ClauseDb, add_clause, delete_clause, set_clause_tier};
+pub use clause::gc::collect_garbage;
 pub use glue::compute_glue;
 pub use prop::assignment::{Assignment, fast_option_eq};
 pub use prop::binary::propagate_binary;

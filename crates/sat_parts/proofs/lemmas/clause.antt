@@ -2,3 +2,4 @@ pub mod OrderLemmas
 pub mod GlueLemmas
 pub mod ListLemmas
 pub mod DbLemmas
+pub mod GcLemmas

@@ -1,5 +1,5 @@
 -- The list of long clauses.
-use Rattle.std.specs.Prelude.{ℕ, ◌≡◌, ◌≢◌, ◌+◌, ◌-◌, ◌^◌, ◌<◌, ◌==◌, min, true, Bool, not, ◌&&◌, List, [], ◌∷◌, ◌++◌, length, slice_index_or as get_or, slice_set as set, take, Option, if◌then◌else◌, count_by}
+use Rattle.std.specs.Prelude.{ℕ, ◌≡◌, ◌≢◌, ◌+◌, ◌-◌, ◌^◌, ◌<◌, ◌≤◌, ◌==◌, min, true, Bool, not, ◌&&◌, List, [], ◌∷◌, ◌++◌, length, slice_index_or as get_or, slice_set as set, take, Option, if◌then◌else◌, count_by}
 use Rattle.std.specs.List.{Contains, filter, sum_by}
 use Rattle.sat_store.specs.clause.Buffer.{Laid, Keeps, Adds, header_at, lits_at}
 use Rattle.sat_store.specs.clause.Header.{Header, index_of}
@@ -39,7 +39,7 @@ garbage_of words o = if is_live words o then 0 else length (lits_at words o) + 3
 abbrev pub AreRising : List ℕ → Type 0
 AreRising xs = (j k : ℕ) → j < k → k < length xs → get_or xs j 0 < get_or xs k 0
 
--- each clause of the list has words of its own, behind those of the clause before it; the numbers are those of the live clauses
+-- each clause of the list has three or more literals and words of its own, behind those of the clause before it; the numbers are those of the live clauses
 -- by tier, and the garbage that of the deleted ones (held at 2^64 - 1)
 pub record HoldsDb (words : List ℕ) (db : Db) : Type 0 where
   pub laid : Laid words db.refs
@@ -48,6 +48,7 @@ pub record HoldsDb (words : List ℕ) (db : Db) : Type 0 where
   pub counts : (tier : Tier) → get_or db.counts (index_of tier) 0 ≡ count_by (is_live_of words tier) db.refs
   pub garbage : db.garbage ≡ min (sum_by (garbage_of words) db.refs) (2 ^ 64 - 1)
   pub few : length db.refs < 2 ^ 64
+  pub long : (o : ℕ) → Contains db.refs o → 3 ≤ length (lits_at words o)
 
 -- the numbers by tier with one clause of this tier more, or less
 abbrev pub one_more : Tier → List ℕ → List ℕ

@@ -64,6 +64,21 @@ impl ClauseDb {
         &self.clauses
     }
 
+    /// The number of clauses of the list, deleted ones among them.
+    pub fn len(&self) -> usize
+        ensures { result ≡ length self.now.refs }
+    {
+        self.clauses.len()
+    }
+
+    /// A clause of the list, deleted ones among them.
+    pub fn cref(&self, at: usize) -> ClauseRef
+        requires { at < length self.now.refs }
+        ensures { result ≡ slice_index self.now.refs at }
+    {
+        self.clauses[at]
+    }
+
     /// How many words deleted clauses take, held at 2^64 - 1.
     pub fn garbage_size(&self) -> usize
         ensures { result ≡ self.now.garbage }

@@ -1,9 +1,9 @@
 -- What adding, deleting and moving clauses leaves of the list of clauses.
-use Rattle.std.proofs.Common.{ℕ, ◌≡◌, ◌≢◌, ◌+◌, ◌-◌, ◌^◌, ◌<◌, inl, inr, min, List, [], ◌∷◌, ◌++◌, length, get_or, set, take, refl, sym, ap, ◌∙◌, subst, arith, length-set, get_or-set_same, get_or-set_other, Bool, true, false, not, ◌&&◌, ◌==◌, cond}
+use Rattle.std.proofs.Common.{ℕ, ◌≡◌, ◌≢◌, ◌+◌, ◌-◌, ◌^◌, ◌<◌, ◌≤◌, inl, inr, min, List, [], ◌∷◌, ◌++◌, length, get_or, set, take, refl, sym, ap, ◌∙◌, subst, arith, length-set, get_or-set_same, get_or-set_other, Bool, true, false, not, ◌&&◌, ◌==◌, cond}
 use Rattle.std.proofs.lemmas.Bool.{cases_eq, ne_eqb, eq-eqb, cond-true, cond-false}
 use Rattle.std.proofs.lemmas.List.{take_all, length_push}
 use Rattle.std.proofs.lemmas.List.Sums.{sum_by_push, count_by-le-length}
-use Rattle.std.proofs.lemmas.List.Elements.{filter-append, filter_passes, All-contains}
+use Rattle.std.proofs.lemmas.List.Elements.{filter-append, filter_passes, All-contains, Contains-push_cases}
 use Rattle.std.specs.List.{Contains, sum_by, count_by}
 use Rattle.sat_store.specs.clause.Buffer.{IsClause, Laid, Keeps, Adds, ChangesAt, header_at, lits_at}
 use Rattle.sat_store.specs.clause.Header.{Header, index_of}
@@ -113,6 +113,13 @@ set_elsewhere counts a b x n = get_or-set_other counts (index_of a) (index_of b)
 held_more : (sum x limit : ℕ) → min (min sum limit + x) limit ≡ min (sum + x) limit
 held_more sum x limit = grind arith
 
+long_put : (words words' refs : List ℕ) (o : ℕ) (h : Header) → PutsHeader words words' refs o h → ((p : ℕ) → Contains refs p → 3 ≤ length (lits_at words p)) →
+    (p : ℕ) → Contains refs p → 3 ≤ length (lits_at words' p)
+long_put words words' refs o h put long p c = elim (cases_eq p o) [
+  | inl e ↦ subst (λ (ls : List ℕ). 3 ≤ length ls) (sym (ap (λ z. lits_at words' z) e ∙ put.lits_there ∙ ap (λ z. lits_at words z) (sym e))) (long p c)
+  | inr n ↦ subst (λ (ls : List ℕ). 3 ≤ length ls) (sym (put.others p c n).lits) (long p c)
+]
+
 -- the numbers once the clause at o isn't live any more
 abbrev pub after_delete : List ℕ → ℕ → Db → Db
 after_delete words o db = record db {
@@ -156,6 +163,7 @@ deletes words db words' o h c put =
             ∙ held_more (sum_by (garbage_of words) db.refs) (length (lits_at words o) + 3) (2 ^ 64 - 1)
             ∙ ap (λ x. min x (2 ^ 64 - 1)) whole;
         few = h.few;
+        long = long_put words words' db.refs o (record (header_at words o) { deleted = true }) put h.long;
       };
       refs = refl;
       live = filter_without (is_live words) (is_live words') o db.refs (λ x d. elim (cases_eq x o) [
@@ -229,6 +237,7 @@ moves words db words' o tier h c differ put =
             ];
         garbage = h.garbage ∙ ap (λ x. min x (2 ^ 64 - 1)) (sym (garbage_put words words' db.refs o (record (header_at words o) { tier = tier }) h.rising has live live' put));
         few = h.few;
+        long = long_put words words' db.refs o (record (header_at words o) { tier = tier }) put h.long;
       };
       refs = refl;
       live = live_put words words' db.refs o (record (header_at words o) { tier = tier }) refl put;
@@ -242,9 +251,9 @@ after_add o tier db = record db { refs = db.refs ++ o ∷ []; counts = one_more 
 added_keeps : (words words' : List ℕ) (db : Db) (o : ℕ) (header : Header) (lits : List ℕ) → HoldsDb words db → Adds words words' o header lits → (p : ℕ) → Contains db.refs p → Keeps words words' p
 added_keeps words words' db o header lits h added p c = kept_below words words' db.refs o p header lits h.laid c added
 
-pub adds : (words : List ℕ) (db : Db) (words' : List ℕ) (o : ℕ) (header : Header) (lits : List ℕ) → HoldsDb words db → header.deleted ≡ false → length (db.refs ++ o ∷ []) < 2 ^ 64 →
+pub adds : (words : List ℕ) (db : Db) (words' : List ℕ) (o : ℕ) (header : Header) (lits : List ℕ) → HoldsDb words db → header.deleted ≡ false → 3 ≤ length lits → length (db.refs ++ o ∷ []) < 2 ^ 64 →
     Adds words words' o header lits → AddsClause words db words' (after_add o header.tier db) o header lits
-adds words db words' o header lits h new few added =
+adds words db words' o header lits h new three few added =
     let tier : Tier = header.tier in
     let keeps : (p : ℕ) → Contains db.refs p → Keeps words words' p = added_keeps words words' db o header lits h added in
     let live : is_live words' o ≡ true = ap (λ (x : Header). not x.deleted) added.header_there ∙ ap (λ b. not b) new in
@@ -274,6 +283,10 @@ adds words db words' o header lits h new few added =
             let whole : sum_by (garbage_of words) db.refs ≡ sum_by (garbage_of words') (db.refs ++ o ∷ []) = omega (arith, sum_by_push (garbage_of words') db.refs o) in
             h.garbage ∙ ap (λ x. min x (2 ^ 64 - 1)) whole;
         few = few;
+        long = λ p c. elim (Contains-push_cases db.refs o p c) [
+          | inl old ↦ subst (λ (ls : List ℕ). 3 ≤ length ls) (sym (keeps p old).lits) (h.long p old)
+          | inr e ↦ subst (λ (ls : List ℕ). 3 ≤ length ls) (sym (ap (λ z. lits_at words' z) (sym e) ∙ added.lits_there)) three
+        ];
       };
       refs = refl;
       live = filter-append (is_live words') db.refs (o ∷ [])
@@ -330,12 +343,12 @@ deleted_by words db words' o h c put =
 -- the same for an addition, in the words of the call
 pub added_by : (words : List ℕ) (db db' inside : Db) (words' items : List ℕ) (tier : Tier) (o : ℕ) (header : Header) (lits : List ℕ) → inside ≡ db →
     db' ≡ record inside { refs = items; counts = one_more tier inside.counts } → items ≡ inside.refs ++ o ∷ [] → tier ≡ header.tier →
-    HoldsDb words db → header.deleted ≡ false → length items < 2 ^ 64 → Adds words words' o header lits → AddsClause words db words' db' o header lits
-added_by words db db' inside words' items tier o header lits same is items_is tier_is h new few added =
+    HoldsDb words db → header.deleted ≡ false → 3 ≤ length lits → length items < 2 ^ 64 → Adds words words' o header lits → AddsClause words db words' db' o header lits
+added_by words db db' inside words' items tier o header lits same is items_is tier_is h new three few added =
     let refs_is : items ≡ db.refs ++ o ∷ [] = items_is ∙ ap (λ (d : Db). d.refs ++ o ∷ []) same in
     let whole : db' ≡ after_add o header.tier db =
     is ∙ ap (λ (d : Db). record d { refs = items; counts = one_more tier d.counts }) same
     ∙ ap (λ (xs : List ℕ). record db { refs = xs; counts = one_more tier db.counts }) refs_is
     ∙ ap (λ (t : Tier). record db { refs = db.refs ++ o ∷ []; counts = one_more t db.counts }) tier_is in
     subst (λ (d : Db). AddsClause words db words' d o header lits) (sym whole)
-    (adds words db words' o header lits h new (subst (λ (xs : List ℕ). length xs < 2 ^ 64) refs_is few) added)
+    (adds words db words' o header lits h new three (subst (λ (xs : List ℕ). length xs < 2 ^ 64) refs_is few) added)

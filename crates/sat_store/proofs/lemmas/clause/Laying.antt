@@ -1,10 +1,10 @@
 -- For crates above: what a call on one clause leaves of the others that are live.
-use Rattle.std.proofs.Common.{◌≡◌, ◌≢◌, ℕ, ◌+◌, ◌*◌, ◌<◌, ◌≤◌, List, [], length, get_or, arith, sym, ◌∙◌}
+use Rattle.std.proofs.Common.{◌≡◌, ◌≢◌, ℕ, ◌+◌, ◌*◌, ◌<◌, ◌≤◌, inl, inr, List, [], length, get_or, arith, sym, ◌∙◌}
 use Rattle.std.proofs.lemmas.List.{get_or_default}
 use Rattle.std.specs.List.{Contains, All}
 use Rattle.sat_base.specs.values.Literals.{largest}
 use Rattle.sat_store.specs.clause.Header.{Header}
-use Rattle.sat_store.specs.clause.Buffer.{header_at, lits_at, IsClause, Laid, Keeps, ChangesAt, Adds}
+use Rattle.sat_store.specs.clause.Buffer.{header_at, lits_at, IsClause, Apart, Laid, Keeps, ChangesAt, Adds}
 use Rattle.sat_store.proofs.lemmas.clause.BufferLemmas.{lits_count, lit_there, header_len}
 
 -- nothing is live in an empty buffer
@@ -44,3 +44,10 @@ lits_fit words o clause k d small =
 -- a clause lies within the buffer
 pub clause_within : (words : List ℕ) (o : ℕ) → IsClause words o → o + 3 + length (lits_at words o) ≤ length words
 clause_within words o clause = omega (arith, lits_count words o clause, clause.whole)
+
+-- of two live clauses the words of the first end before those of the second begin
+pub ends_before : (words live : List ℕ) (o p : ℕ) → Laid words live → Contains live o → Contains live p → o < p → o + 3 + length (lits_at words o) ≤ p
+unfolding Apart
+ends_before words live o p laid has_o has_p lt =
+    let n : length (lits_at words o) ≡ get_or words (o + 2) 0 = lits_count words o (laid.clauses o has_o) in
+    elim (laid.apart o p has_o has_p (λ e. omega arith)) [ inl before ↦ omega arith | inr behind ↦ omega arith ]

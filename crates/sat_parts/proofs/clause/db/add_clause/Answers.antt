@@ -9,4 +9,4 @@ returns-clause-added c =
     let few : length c.push_reserved.new.self.items < 2 ^ 64 = omega (arith, c.push_reserved.new.self.ok.0, c.push_reserved.new.self.ok.1, c.push_reserved.auto.self) in
     added_by c.args.clauses.now c.args.db.now c.count_more.new.self inside c.store_clause.new.clauses c.push_reserved.new.self.items c.tier.result c.in_ok-cref.cref c.args.header c.args.lits.now
     c.db.view_is c.count_more.ensures (c.push_reserved.ensures.items ∙ ap (λ (xs : List ℕ). xs ++ c.in_ok-cref.cref ∷ []) c.reserve.ensures.items) c.tier.ensures
-    c.requires.db c.requires.live few c.in_ok-cref.ensures.added
+    c.requires.db c.requires.live c.requires.long few c.in_ok-cref.ensures.added

@@ -1,0 +1,71 @@
+-- Clauses that were copied into a new buffer, and reasons that follow their clauses.
+use Rattle.std.specs.Prelude.{ℕ, ◌≡◌, ◌≢◌, ◌<◌, ◌≤◌, ◌⊎◌, List, length, drop, take, slice_index_or as get_or}
+use Rattle.std.specs.List.{Contains}
+use Rattle.sat_base.specs.values.Literals.{variable}
+use Rattle.sat_store.specs.clause.Buffer.{Laid, header_at, lits_at}
+use Rattle.sat_parts.specs.declared.prop.graph.ImplNode.{ImplNode}
+use Rattle.sat_parts.specs.declared.prop.graph.Reason.{Reason}
+use Rattle.sat_parts.specs.declared.prop.graph.Reason.TheVariants.{Unit as NoCause, Binary, Long}
+use Rattle.sat_parts.specs.clause.Db.{Db, HoldsDb, live_refs, AreRising}
+use Rattle.sat_parts.specs.clause.Stored.{lit_of}
+use Rattle.sat_parts.specs.prop.Graphs.{node_of}
+
+-- the clauses of one list in order, as those of another: the same headers, and the same literals in order
+pub record Copies (words live words' refs' : List ℕ) : Type 0 where
+  pub size : length refs' ≡ length live
+  pub headers : (k : ℕ) → k < length live → header_at words' (get_or refs' k 0) ≡ header_at words (get_or live k 0)
+  pub lits : (k : ℕ) → k < length live → lits_at words' (get_or refs' k 0) ≡ lits_at words (get_or live k 0)
+
+-- the copies of the live clauses among the first i, each not behind its own place
+pub record Copying (words refs words' refs' : List ℕ) (i : ℕ) : Type 0 where
+  pub copies : Copies words (live_refs words (take i refs)) words' refs'
+  pub laid : Laid words' refs'
+  pub rising : AreRising refs'
+  pub low : (k : ℕ) → k < length refs' → get_or refs' k 0 ≤ get_or (live_refs words (take i refs)) k 0
+  pub room : (p : ℕ) → Contains (drop i refs) p → length words' ≤ p
+
+-- a reason once the clauses of a list are those of another
+abbrev pub FollowsClause : (live refs' : List ℕ) → Reason → Reason → Type 0
+FollowsClause live refs' NoCause r = r ≡ NoCause
+FollowsClause live refs' (Binary ls) r = r ≡ Binary ls
+FollowsClause live refs' (Long o) r = (k : ℕ) × ((k < length live) × (get_or live k 0 ≡ o) × (r ≡ Long (get_or refs' k 0)))
+
+-- the same where the first n clauses are followed
+abbrev pub FollowsFirst : (live refs' : List ℕ) (n : ℕ) → Reason → Reason → Type 0
+FollowsFirst live refs' n NoCause r = r ≡ NoCause
+FollowsFirst live refs' n (Binary ls) r = r ≡ Binary ls
+FollowsFirst live refs' n (Long o) r =
+    ((k : ℕ) × ((k < n) × (get_or live k 0 ≡ o) × (r ≡ Long (get_or refs' k 0))))
+    ⊎ ((r ≡ Long o) × ((k : ℕ) → k < n → get_or live k 0 ≢ o))
+
+-- reasons of the literals of a trail follow the first n clauses; nothing else of the nodes changes
+pub record AreFollowed (live refs' lits : List ℕ) (n : ℕ) (nodes nodes' : List ImplNode) : Type 0 where
+  pub size : length nodes' ≡ length nodes
+  pub levels : (v : ℕ) → (node_of nodes' v).level ≡ (node_of nodes v).level
+  pub depths : (v : ℕ) → (node_of nodes' v).depth ≡ (node_of nodes v).depth
+  pub others : (v : ℕ) → ((o : ℕ) → (node_of nodes v).reason ≡ Long o → ⊥) → node_of nodes' v ≡ node_of nodes v
+  pub reasons : (i : ℕ) → i < length lits →
+      FollowsFirst live refs' n (node_of nodes (variable (get_or lits i 0))).reason (node_of nodes' (variable (get_or lits i 0))).reason
+
+-- a collection: the live clauses are those of the new list, in order, none of them deleted, and each reason of a literal of the
+-- trail names the clause that it named
+pub record Collects (words : List ℕ) (db : Db) (nodes : List ImplNode) (lits words' : List ℕ) (db' : Db) (nodes' : List ImplNode) : Type 0 where
+  pub copies : Copies words (live_refs words db.refs) words' db'.refs
+  pub holds : HoldsDb words' db'
+  pub live : live_refs words' db'.refs ≡ db'.refs
+  pub clean : db'.garbage ≡ 0
+  pub counts : db'.counts ≡ db.counts
+  pub size : length nodes' ≡ length nodes
+  pub levels : (v : ℕ) → (node_of nodes' v).level ≡ (node_of nodes v).level
+  pub depths : (v : ℕ) → (node_of nodes' v).depth ≡ (node_of nodes v).depth
+  pub others : (v : ℕ) → ((o : ℕ) → (node_of nodes v).reason ≡ Long o → ⊥) → node_of nodes' v ≡ node_of nodes v
+  pub reasons : (i : ℕ) → i < length lits →
+      FollowsClause (live_refs words db.refs) db'.refs (node_of nodes (variable (get_or lits i 0))).reason (node_of nodes' (variable (get_or lits i 0))).reason
+
+-- the clause of each long reason of a literal of the trail is live and has the literal first
+abbrev pub AreFirsts : (words live lits : List ℕ) (nodes : List ImplNode) → Type 0
+AreFirsts words live lits nodes = (i o : ℕ) → i < length lits → (node_of nodes (variable (get_or lits i 0))).reason ≡ Long o → Contains live o × (lit_of words o 0 ≡ get_or lits i 0)
+
+-- the list once its live clauses were copied
+abbrev pub after_collection : List ℕ → Db → Db
+after_collection refs' db = record { refs = refs'; counts = db.counts; garbage = 0 }

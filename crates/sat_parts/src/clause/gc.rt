@@ -1,0 +1,176 @@
+//! Collection of deleted clauses.
+ghost use Rattle.std.specs.Prelude.{ℕ, ◌≡◌, ◌+◌, ◌*◌, ◌^◌, ◌<◌, ◌≤◌, ◌/◌, Err, [], ◌∷◌, ◌++◌, length, slice_index, slice_index_or, false, OnOk, OnErr, IfOk};
+ghost use Rattle.std.specs.List.{Contains};
+ghost use Rattle.sat_base.specs.values.Literals.{variable};
+ghost use Rattle.sat_store.specs.clause.Buffer.{IsClause, Laid, Adds, header_at, lits_at};
+ghost use Rattle.sat_parts.specs.clause.Db.{HoldsDb, live_refs};
+ghost use Rattle.sat_parts.specs.clause.Stored.{lit_of, size_of};
+ghost use Rattle.sat_parts.specs.clause.Collected.{Copying, AreFirsts, AreFollowed, Collects, after_collection};
+ghost use Rattle.sat_parts.specs.prop.Graphs.{node_of, with_node};
+
+use crate::clause::db::ClauseDb;
+use crate::prop::graph::{ImplGraph, Reason};
+use crate::prop::trail::Trail;
+use crate::prop::watch::Watchlists;
+use sat_base::Lit;
+use sat_store::{ClauseAlloc, ClauseRef, StoreError};
+use std::alloc::Global;
+
+/// Copies a clause behind the others of a new buffer, and puts the copy behind a list.
+fn copy_one(
+    clauses: &ClauseAlloc,
+    cref: ClauseRef,
+    to: &mut ClauseAlloc,
+    refs: &mut Vec<ClauseRef>,
+) -> Result<(), StoreError>
+    requires { IsClause clauses.now cref }
+    ensures copied { OnOk result ((c : ℕ) × ((Adds to.old to.new c (header_at clauses.now cref) (lits_at clauses.now cref))
+        × (refs.new.items ≡ refs.old.items ++ c ∷ []))) }
+    ensures room { length to.old ≤ cref → result ≡ Err StoreError.StoreFull → ⊥ }
+{
+    let copy = to.copy_clause(clauses, cref)?;
+    match refs.push(copy) {
+        Ok(()) => Ok(()),
+        Err(_) => Err(StoreError::OutOfMemory),
+    }
+}
+
+/// Copies the live clauses, in order, into an empty buffer.
+fn copy_live(
+    clauses: &ClauseAlloc,
+    db: &ClauseDb,
+    to: &mut ClauseAlloc,
+    refs: &mut Vec<ClauseRef>,
+) -> Result<(), StoreError>
+    requires db { HoldsDb clauses.now db.now }
+    requires no_words { to.old ≡ [] }
+    requires no_refs { refs.old.items ≡ [] }
+    ensures copied { OnOk result (Copying clauses.now db.now.refs to.new refs.new.items (length db.now.refs)) }
+    ensures room { result ≡ Err StoreError.StoreFull → ⊥ }
+{
+    for at in 0..db.len() {
+        let cref = db.cref(at);
+        if !clauses.header(cref).deleted() {
+            match copy_one(clauses, cref, to, refs) {
+                Ok(()) => {}
+                Err(error) => return Err(error),
+            }
+        }
+    }
+    Ok(())
+}
+
+/// Makes a clause the reason of a literal in the place of another, where that is its reason.
+fn move_reason(graph: &mut ImplGraph, lit: Lit, from: ClauseRef, to: ClauseRef)
+    ensures moved { (node_of graph.old (variable lit)).reason ≡ Reason.Long from →
+        graph.new ≡ with_node (variable lit) (record (node_of graph.old (variable lit)) { reason = Reason.Long to }) graph.old }
+    ensures kept { ((node_of graph.old (variable lit)).reason ≡ Reason.Long from → ⊥) → graph.new ≡ graph.old }
+{
+    if lit.index() >= graph.nodes.len() {
+        return;
+    }
+    let reason = graph.reason(lit.var());
+    if let Reason::Long(cref) = reason {
+        if cref == from {
+            graph.update_reason(lit.var(), Reason::Long(to));
+        }
+    }
+}
+
+/// Makes the copies of the live clauses the reasons that the clauses were. The trail isn't read: the contract's caller says by it
+/// which reasons count.
+fn move_reasons(
+    clauses: &ClauseAlloc,
+    db: &ClauseDb,
+    refs: &Vec<ClauseRef>,
+    graph: &mut ImplGraph,
+    _trail: &Trail,
+)
+    requires db { HoldsDb clauses.now db.now }
+    requires size { length refs.now.items ≡ length (live_refs clauses.now db.now.refs) }
+    requires low { (k : ℕ) → k < length refs.now.items → slice_index refs.now.items k ≤ slice_index (live_refs clauses.now db.now.refs) k }
+    requires firsts { AreFirsts clauses.now (live_refs clauses.now db.now.refs) _trail.now.lits graph.old }
+    ensures { AreFollowed (live_refs clauses.now db.now.refs) refs.now.items _trail.now.lits (length (live_refs clauses.now db.now.refs)) graph.old graph.new }
+{
+    let mut next = 0;
+    for at in 0..db.len() {
+        let cref = db.cref(at);
+        if !clauses.header(cref).deleted() {
+            let first = clauses.lit(cref, 0);
+            move_reason(graph, first, cref, refs[next]);
+            next += 1;
+        }
+    }
+}
+
+/// The live clauses of a list, in a buffer of their own.
+#[derive(Drop)]
+struct Copied {
+    clauses: ClauseAlloc,
+    refs: Vec<ClauseRef>,
+}
+
+/// Copies the live clauses of a list.
+fn copy_all(alloc: Global, clauses: &ClauseAlloc, db: &ClauseDb) -> Result<Copied, StoreError>
+    requires { HoldsDb clauses.now db.now }
+    ensures copied { IfOk result (λ x. Copying clauses.now db.now.refs x.clauses x.refs.items (length db.now.refs)) }
+    ensures room { result ≡ Err StoreError.StoreFull → ⊥ }
+{
+    let live = clauses.buffer_size().saturating_sub(db.garbage_size());
+    // Room for what is learned next, too.
+    let mut to = match ClauseAlloc::with_capacity(alloc, live.saturating_mul(2)) {
+        Ok(to) => to,
+        Err(_) => return Err(StoreError::OutOfMemory),
+    };
+    let mut refs = Vec::new(alloc);
+    match copy_live(clauses, db, &mut to, &mut refs) {
+        Ok(()) => Ok(Copied { clauses: to, refs }),
+        Err(error) => Err(error),
+    }
+}
+
+/// Puts the copied clauses in the place of the list's own, whose deleted ones are gone.
+fn put_copied(copied: Copied, clauses: &mut ClauseAlloc, db: &mut ClauseDb)
+    ensures words { clauses.new ≡ copied.clauses }
+    ensures list { db.new ≡ after_collection copied.refs.items db.old }
+{
+    let Copied { clauses: to, refs } = copied;
+    *clauses = to;
+    db.clauses = refs;
+    db.garbage_size = 0;
+}
+
+/// Collects deleted clauses where they take more than half of the buffer: the live clauses are put behind one another in a new
+/// buffer, in order, and reasons of literals of the trail name them there. Watch lists aren't kept up from there on, until they are
+/// built anew. After want of memory everything is as it was.
+pub fn collect_garbage(
+    alloc: Global,
+    clauses: &mut ClauseAlloc,
+    db: &mut ClauseDb,
+    graph: &mut ImplGraph,
+    watchlists: &mut Watchlists,
+    trail: &Trail,
+) -> Result<(), StoreError>
+    requires db { HoldsDb clauses.old db.old }
+    requires firsts { AreFirsts clauses.old (live_refs clauses.old db.old.refs) trail.now.lits graph.old }
+    ensures collected { length clauses.old / 2 < db.old.garbage →
+        OnOk result (Collects clauses.old db.old graph.old trail.now.lits clauses.new db.new graph.new) }
+    ensures watches { length clauses.old / 2 < db.old.garbage → OnOk result (watchlists.new ≡ record watchlists.old { enabled = false }) }
+    ensures not_due { db.old.garbage ≤ length clauses.old / 2 →
+        (clauses.new ≡ clauses.old) × (db.new ≡ db.old) × (graph.new ≡ graph.old) × (watchlists.new ≡ watchlists.old) }
+    ensures room { result ≡ Err StoreError.StoreFull → ⊥ }
+    ensures same { OnErr result ((clauses.new ≡ clauses.old) × (db.new ≡ db.old) × (graph.new ≡ graph.old) × (watchlists.new ≡ watchlists.old)) }
+{
+    if db.garbage_size() <= clauses.buffer_size() / 2 {
+        return Ok(());
+    }
+    match copy_all(alloc, clauses, db) {
+        Ok(copied) => {
+            move_reasons(clauses, db, &copied.refs, graph, trail);
+            watchlists.disable();
+            put_copied(copied, clauses, db);
+            Ok(())
+        }
+        Err(error) => Err(error),
+    }
+}
