@@ -1,5 +1,5 @@
 //! What holds of announcements: each law is the contract of a function that does nothing.
-ghost use Rattle.sat_checker.specs.announcements.Promises.{ConflictIsFollowedBackwards, PropagationsInTurn, TautologiesRestOnNothing};
+ghost use Rattle.sat_checker.specs.announcements.Promises.{ConflictIsFollowedBackwards, DeletionsRest, PropagationsInTurn, TautologiesRestOnNothing, ToldInOrder};
 ghost use Rattle.sat_checker.specs.announcements.Rows.{AnswersRead, Assumed, CollidingTold, ConflictAndUnitTold, Contradiction, CoreFailed, CoreOfBothSigns, DerivedIrredundant, DerivedIrredundantAgain, DerivedNew, DerivedRedundantAgain, DerivedTautology, DerivedUnitAgain, InputBehindUnsat, InputDuplicate, InputNew, InputRedundant, InputTautology, InputUnitAgain, InputsRead, ModeChanged, ModeLeft, ModeOfNameless, Modelled, ModesRead, NameNew, NameNewRead, NameOfKnown, NameOfKnownRead, NameRemoved, NameRemovedRead, NamedTwiceTold, OthersRead, OthersTell, PassedNotNeeded, RedundantGone, RedundantStays, RefutedAtZeroTold, RefutedRead, RefutedTold, SatisfiedGone, SatisfiedKept, SatisfiedStays, SimplifiedGone, SolverNameSet, UnitAlone, UnitsFirst, UnitsHeld};
 
 /// What a clause that passes the check rests on.
@@ -7,6 +7,12 @@ pub fn propagations_run_to_conflict()
     ensures in_turn { PropagationsInTurn }
     ensures exact { ConflictIsFollowedBackwards }
     ensures tautology { TautologiesRestOnNothing }
+    ensures deleted { DeletionsRest }
+{}
+
+/// In which order steps and delayed conflicts are announced.
+pub fn announcements_are_in_order()
+    ensures { ToldInOrder }
 {}
 
 /// Worked rows of what derived clauses rest on, at widths 64, 8 and 0.

@@ -7,3 +7,4 @@ pub mod Rests
 pub mod Apart
 pub mod Backwards
 pub mod Exact
+pub mod Deletions

@@ -1,15 +1,16 @@
 -- What is promised of announcements.
-use Rattle.std.specs.Prelude.{ℕ, ◌≡◌, ◌≢◌, ◌⊎◌, ◌↔◌, true, false, List, [], ◌∷◌, ◌++◌, map, filter}
+use Rattle.std.specs.Prelude.{ℕ, ◌≡◌, ◌≢◌, ◌⊎◌, ◌↔◌, true, false, None, List, [], ◌∷◌, ◌++◌, map, filter}
 use Rattle.std.specs.List.{AllByRecursion, list_any}
 use Rattle.sat_base.specs.values.Literals.{negated}
-use Rattle.sat_base.specs.steps.Steps.{Step}
-use Rattle.sat_checker.specs.LiteralSets.{is_among, is_tautology}
+use Rattle.sat_base.specs.steps.Steps.{Step, DeleteClause, Simplified, Satisfied}
+use Rattle.sat_checker.specs.LiteralSets.{is_among, is_tautology, canonical}
 use Rattle.sat_checker.specs.inner.Marks.{IsIncreasing}
 use Rattle.sat_checker.specs.Propagation.{IsFalsified, IsUnit, UnitInTurn}
 use Rattle.sat_checker.specs.Stored.{StoredClause, StoredUnit, Stored, unit_literals}
 use Rattle.sat_checker.specs.Storing.{with_units}
-use Rattle.sat_checker.specs.Accepts.{Passes, AcceptsAll, ready_after}
-use Rattle.sat_checker.specs.announcements.Needed.{Ground, ground, named_by, conflict_ids, propagations}
+use Rattle.sat_checker.specs.Accepts.{Passes, Accepts, AcceptsAll, ready_after}
+use Rattle.sat_checker.specs.announcements.Needed.{Ground, ground, named_by, conflict_ids, true_unit, propagations}
+use Rattle.sat_checker.specs.announcements.Announcements.{one, last_id, announced, delayed, told_over, told_after, all_told_after}
 
 -- it's in the list
 abbrev pub IsOneOf : {A : Type 0} → A → List A → Type 0
@@ -68,3 +69,14 @@ ConflictIsFollowedBackwards = (steps : List Step) (front clause hashes : List �
 -- one with both signs of a variable rests on nothing
 abbrev pub TautologiesRestOnNothing : Type 0
 TautologiesRestOnNothing = (f : Stored) (clause hashes : List ℕ) → is_tautology clause ≡ true → propagations f clause hashes ≡ []
+
+-- a deleted clause rests on the unit that is true in it, or on the last irredundant clause stored, where that isn't an empty one
+abbrev pub DeletionsRest : Type 0
+DeletionsRest = (steps : List Step) (clause : List ℕ) → AcceptsAll steps →
+    (Accepts (ready_after steps) (DeleteClause clause Satisfied) → RestsOn (ready_after steps) clause (one (true_unit (canonical clause) (ready_after steps).units)))
+    × (Accepts (ready_after steps) (DeleteClause clause Simplified) → last_id (ready_after steps).last ≢ None → RestsOn (ready_after steps) clause (one (last_id (ready_after steps).last)))
+
+-- what a step announces comes behind all that was told or delayed before it, and what was delayed is told once
+abbrev pub ToldInOrder : Type 0
+ToldInOrder = (steps : List Step) (step : Step) →
+    (told_after (step ∷ steps) ≡ all_told_after steps ++ told_over (ready_after steps) (announced (ready_after steps) step)) × (delayed (ready_after steps) ≡ [])

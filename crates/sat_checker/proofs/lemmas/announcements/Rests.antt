@@ -168,7 +168,7 @@ true_found (l ∷ ls) us id e = go (true_found ls us id) (unit_id l us) refl e
     go ih None s k = let t = ih k in record { literal = t.literal; within = or_right (eqb l t.literal) (is_among ls t.literal) t.within; found = t.found }
     go ih (Some i) s k = record { literal = l; within = or_left (eqb l l) (is_among ls l) (eq-eqb l l refl); found = unit_found l id us (s ∙ k) }
 
-true_missing : (ls : List ℕ) (us : List StoredUnit) → true_unit ls us ≡ None → (m : ℕ) → is_among ls m ≡ true → is_among (literals_in us) m ≡ false
+pub true_missing : (ls : List ℕ) (us : List StoredUnit) → true_unit ls us ≡ None → (m : ℕ) → is_among ls m ≡ true → is_among (literals_in us) m ≡ false
 true_missing [] us e m h = absurd (true≢false (sym h))
 true_missing (l ∷ ls) us e m h = go (true_missing ls us) (unit_id l us) refl e (or_cases (eqb l m) (is_among ls m) h)
   where
@@ -329,7 +329,7 @@ module _ (f : Stored) (clause hashes : List ℕ) (sorted : Sorted f) (apart : Va
         conflict = units_run needed denied (literals_of g.clauses) open_units (few_apart p f.units apart) (grounds_run (named_by hashes f) assumed (pushed needed denied) e (record { within = within; enough = enough }));
       }
 
-  rests_on_unit : (id : ℕ) → true_unit (canonical clause) f.units ≡ Some id → RestsOn f clause (id ∷ [])
+  pub rests_on_unit : (id : ℕ) → true_unit (canonical clause) f.units ≡ Some id → RestsOn f clause (id ∷ [])
   rests_on_unit id e =
       let t = true_found (canonical clause) f.units id e in
       let m : is_among clause t.found.unit.literal ≡ true = subst (λ x. is_among clause x ≡ true) (sym t.found.literal_is) (sym (canonical_among clause t.literal) ∙ t.within) in
