@@ -2,4 +2,5 @@ pub mod Needed
 pub mod Announcements
 pub mod Transcripts
 pub mod Promises
+pub mod Following
 pub mod Rows

@@ -8,3 +8,4 @@ pub mod Apart
 pub mod Backwards
 pub mod Exact
 pub mod Deletions
+pub mod Following
