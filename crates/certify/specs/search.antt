@@ -1,4 +1,3 @@
-pub mod Pieces
 pub mod SolverState
 pub mod KeptClauses
 pub mod Search

@@ -2,7 +2,7 @@
 ghost use Rattle.std.specs.Prelude.{◌≡◌, ◌+◌, ◌-◌, ◌^◌, ◌≤◌, ◌<◌, ◌⊎◌, [], length, IfOk, IsErrOf};
 ghost use Rattle.std.specs.List.{AllByRecursion};
 ghost use Rattle.sat_base.specs.device.Device.{most_reads, ReadFails, GaveEnough};
-ghost use Rattle.certify.specs.confirm.VerdictPromises.{Exact, IsSound, HasTooMany, gave};
+ghost use Rattle.certify.specs.confirm.VerdictPromises.{HasTooMany, IsExact, IsSound, ReadsKept, gave};
 ghost use Rattle.certify.specs.confirm.Decides.{Decides};
 ghost use Rattle.certify.specs.confirm.ConfirmedCommands.{CountFromOne, ConfirmsEnd, DecidesRest};
 ghost use Rattle.certify.specs.confirm.CertificateSteps.{IsFed};
@@ -77,7 +77,7 @@ pub fn confirm<S: CountedRead, A: CountedRead, C: CountedRead>(
     certificate: &mut C,
 ) -> Result<Verdict, ConfirmFault>
     // Yes means that the texts that the three readers gave match, whatever would follow, and that these match means yes.
-    ensures exact { IfOk result (Exact (gave S.seen script.old script.new) (gave A.seen answers.old answers.new) (gave C.seen certificate.old certificate.new)) }
+    ensures exact { IsExact result S.seen A.seen C.seen (script.old, answers.old, certificate.old) (script.new, answers.new, certificate.new) }
     // A yes means right answers, whatever answers and certificate are.
     ensures sound { IfOk result (IsSound (gave S.seen script.old script.new) (gave A.seen answers.old answers.new)) }
 
@@ -88,9 +88,9 @@ pub fn confirm<S: CountedRead, A: CountedRead, C: CountedRead>(
     ensures counter_end { IsErrOf result ConfirmFault.CounterEnd → GaveEnough (S.seen script.old) (S.seen script.new) HasTooMany }
 
     // A read of a text has failed only where the answer is that text's fault: neither yes nor no comes after one.
-    ensures kept_script { IsErrOf result ConfirmFault.ScriptRead ⊎ ((S.seen script.new).failures ≡ (S.seen script.old).failures) }
-    ensures kept_answers { IsErrOf result ConfirmFault.AnswersRead ⊎ ((A.seen answers.new).failures ≡ (A.seen answers.old).failures) }
-    ensures kept_certificate { IsErrOf result ConfirmFault.CertificateRead ⊎ ((C.seen certificate.new).failures ≡ (C.seen certificate.old).failures) }
+    ensures kept_script { IsErrOf result ConfirmFault.ScriptRead ⊎ ReadsKept S.seen script.old script.new }
+    ensures kept_answers { IsErrOf result ConfirmFault.AnswersRead ⊎ ReadsKept A.seen answers.old answers.new }
+    ensures kept_certificate { IsErrOf result ConfirmFault.CertificateRead ⊎ ReadsKept C.seen certificate.old certificate.new }
     // Each is read at most 2^48 times.
     ensures script_reads { (S.seen script.new).calls ≤ (S.seen script.old).calls + most_reads }
     ensures answers_reads { (A.seen answers.new).calls ≤ (A.seen answers.old).calls + most_reads }

@@ -3,8 +3,8 @@ ghost use Rattle.std.specs.Prelude.{◌≡◌, ◌+◌, ◌≤◌, ◌⊎◌, tr
 ghost use Rattle.sat_base.specs.device.Device.{most_reads, ReadFails, GaveAll, GaveEnough};
 ghost use Rattle.certify.specs.script.CappedNames.{IsScriptOf};
 ghost use Rattle.certify.specs.run.FinishedRun.{Answered, Backed, HasCause, HasNoNumber, WriteFails, WritesKept, gave, took};
-ghost use Rattle.certify.specs.run.Outputs.{AnswersAll, both, pair};
-ghost use Rattle.certify.specs.run.Running.{Done, IsNew, IsOverlong, SumsUp};
+ghost use Rattle.certify.specs.run.Outputs.{AnswersAll, both};
+ghost use Rattle.certify.specs.run.Running.{Done, IsNew, IsOverlong, SumsUp, SumsUpOf};
 
 mod ask;
 mod clause;
@@ -104,7 +104,7 @@ fn answer_into<A: CountedWrite, C: CountedWrite>(
     certificate: &mut C,
     budget: u64,
 ) -> (A, Result<Summary, RunFault>)
-    ensures { SumsUp result.1 script.now budget (pair (A.seen answers) (C.seen certificate.old)) (pair (A.seen result.0) (C.seen certificate.new)) }
+    ensures { SumsUpOf result.1 script.now budget A.seen C.seen (answers, certificate.old) (result.0, certificate.new) }
 {
     let mut out: Outputs<A, &mut C> = Outputs {
         answers,
@@ -124,7 +124,7 @@ fn answer_lent<A: CountedWrite, C: CountedWrite>(
     certificate: &mut C,
     budget: u64,
 ) -> Result<Summary, RunFault>
-    ensures { SumsUp result script.now budget (pair (A.seen answers.old) (C.seen certificate.old)) (pair (A.seen answers.new) (C.seen certificate.new)) }
+    ensures { SumsUpOf result script.now budget A.seen C.seen (answers.old, certificate.old) (answers.new, certificate.new) }
 {
     let (lent, result) = answer_into(alloc, script, answers, certificate, budget);
     let _answers: &mut A = lent;

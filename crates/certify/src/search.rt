@@ -6,7 +6,6 @@ ghost use Rattle.certify.specs.search.Search.{IsBounded};
 ghost use Rattle.certify.specs.search.KeptClauses.{IsNormalOf};
 ghost use Rattle.certify.specs.search.SolverState.{GainsClause, RecordsClause, RoundSays, new_solver, recording, with_variable};
 
-mod clause_list;
 mod keep;
 mod look;
 mod propagate;
@@ -14,17 +13,16 @@ pub(crate) mod solve;
 #[cfg(test)]
 mod tests;
 
-use crate::search::clause_list::ClauseList;
 use crate::search::keep::{keep, normalize};
 use crate::search::propagate::{RoundEnd, reset, search};
-use sat_base::{ClauseHash, Lit, Var};
+use sat_base::{ClauseHash, FlatLists, Lit, Var};
 use std::alloc::{AllocError, Global};
 use std::marker::Model;
 
 /// Clauses, and a search for a model of them.
 #[derive(Drop)]
 pub(crate) struct Solver {
-    clauses: ClauseList,
+    clauses: FlatLists<Lit>,
     unsat: bool,
     /// The values that clauses of one literal give.
     units: Vec<Option<bool>>,
@@ -53,7 +51,7 @@ impl Solver {
         ensures { result ≡ new_solver }
     {
         Solver {
-            clauses: ClauseList::new(alloc),
+            clauses: FlatLists::new(alloc),
             unsat: false,
             units: Vec::new(alloc),
             values: Vec::new(alloc),

@@ -1,7 +1,6 @@
 pub mod DerivedSteps
 pub mod Decisions
 pub mod KeptClauses
-pub mod Pieces
 pub mod Scans
 pub mod SolverCalls
 pub mod OpenValues

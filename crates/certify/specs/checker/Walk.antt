@@ -17,6 +17,10 @@ all_flags = map (λ c. c.irredundant)
 abbrev pub of_hash : List (List ℕ) → ℕ → List (List ℕ)
 of_hash clauses hash = filter (λ c. hash_of c == hash) clauses
 
+-- the buckets that hashes name
+abbrev pub buckets_of : List StoredClause → List ℕ → List (List (List ℕ))
+buckets_of clauses hashes = map (of_hash (all_literals clauses)) hashes
+
 -- what a clause says under the assumed literals
 pub data ClauseStatus : Type 0 where
   falsified : ClauseStatus
@@ -64,3 +68,7 @@ abbrev pub denied : List ℕ → List ℕ → Option (List ℕ)
 denied assumed [] = Some assumed
 denied assumed (l ∷ ls) =
     if is_among assumed l then None else denied (if is_among assumed (negated l) then assumed else negated l ∷ assumed) ls
+
+-- the assumed literals, or none where there was a conflict
+abbrev pub unless : Bool → List ℕ → Option (List ℕ)
+unless conflict assumed = if conflict then None else Some assumed

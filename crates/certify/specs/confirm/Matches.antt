@@ -35,6 +35,10 @@ abbrev pub setting : Mode → List ℕ → Judge → List Expected
 setting mode [] j = []
 setting mode (name ∷ names) j = map NewName (new_names name j) ++ setting mode names (with_mode mode name (bring_in name j))
 
+-- a model's line, which lists the names in use
+abbrev pub showing_model : Judge → List Literal → List Literal → Expected
+showing_model j ask line = Shows (map (λ n. n.name) j.in_use) ask line
+
 -- the step that shows an outcome, if one does
 abbrev pub showing : Judge → List Literal → Outcome → List Expected
 showing j ask (Sat line) = Shows (map (λ n. n.name) j.in_use) ask line ∷ []
@@ -47,7 +51,8 @@ expected j [] outcomes = Finish ∷ []
 expected j (Clause ls ∷ commands) outcomes = bringing (names_of ls) j ++ (Adds ls ∷ expected (accepted (Clause ls) j) commands outcomes)
 expected j (Ask ls ∷ commands) [] = Finish ∷ []
 expected j (Ask ls ∷ commands) (o ∷ os) =
-    bringing (names_of ls) j ++ (Opens ls o ∷ (showing (accepted (Ask ls) j) ls o ++ (Closes ∷ expected (accepted (Ask ls) j) commands os)))
+    bringing (names_of ls) j
+    ++ (Opens ls o ∷ (showing (accepted (Ask ls) j) ls o ++ (Closes ∷ expected (accepted (Ask ls) j) commands os)))
 expected j (Hide names ∷ commands) outcomes = hiding names j ++ expected (accepted (Hide names) j) commands outcomes
 expected j (Witness names ∷ commands) outcomes = setting Witnessed names j ++ expected (accepted (Witness names) j) commands outcomes
 expected j (Sample names ∷ commands) outcomes = setting Sampled names j ++ expected (accepted (Sample names) j) commands outcomes
@@ -82,13 +87,18 @@ SameSet names ls codes = EachSpelt names ls codes × AllByRecursion (λ code. (l
 
 -- the step is what is expected
 pub data Fits (k : Checking) (earlier : List Step) : Expected → Step → Type 0 where
-  new_name : {name v index : ℕ} → index + 1 ≡ name → k.knows earlier v ≡ false → Fits k earlier (NewName name) (UserVarName v (Some index))
+  new_name : {name v index : ℕ} → index + 1 ≡ name → k.knows earlier v ≡ false
+      → Fits k earlier (NewName name) (UserVarName v (Some index))
   no_name : {name v : ℕ} → variable_of earlier name ≡ Some v → Fits k earlier (NoName name) (UserVarName v None)
   adds : {ls : List Literal} {c : List ℕ} → SameSet (variable_of earlier) ls c → Fits k earlier (Adds ls) (AddClause c)
-  opens : {ls : List Literal} {o : Outcome} {c : List ℕ} → SameSet (variable_of earlier) ls c → Fits k earlier (Opens ls o) (Assumptions c)
+  opens : {ls : List Literal} {o : Outcome} {c : List ℕ} → SameSet (variable_of earlier) ls c
+      → Fits k earlier (Opens ls o) (Assumptions c)
   -- the line lists exactly the names in use, the model has its literals, and the ask's are among them
-  shows : {names : List ℕ} {ask line : List Literal} {c : List ℕ} → names_of line ≡ names → EachSpelt (variable_of earlier) line c → AllByRecursion (λ l. Among l line) ask → Fits k earlier (Shows names ask line) (Model c)
-  fails : {ask core : List Literal} {c hashes : List ℕ} → SameSet (variable_of earlier) core c → Fits k earlier (Fails ask core) (FailedAssumptions c hashes)
+  shows : {names : List ℕ} {ask line : List Literal} {c : List ℕ}
+      → names_of line ≡ names → EachSpelt (variable_of earlier) line c → AllByRecursion (λ l. Among l line) ask
+      → Fits k earlier (Shows names ask line) (Model c)
+  fails : {ask core : List Literal} {c hashes : List ℕ} → SameSet (variable_of earlier) core c
+      → Fits k earlier (Fails ask core) (FailedAssumptions c hashes)
   closes : Fits k earlier Closes (Assumptions [])
   finish : Fits k earlier Finish End
 
@@ -103,8 +113,12 @@ Excused e = Unit {0}
 pub data Meets (k : Checking) : List Step → List Step → List Expected → Type 0 where
   met : {earlier : List Step} → k.unsat earlier ≡ false → Meets k earlier [] []
   cut : {earlier : List Step} {es : List Expected} → k.unsat earlier ≡ true → AllByRecursion Excused es → Meets k earlier [] es
-  other : {earlier steps : List Step} {step : Step} {e : Expected} {es : List Expected} → k.unsat earlier ≡ false → is_ordered step ≡ false → k.Accepts earlier step → Meets k (step ∷ earlier) steps (e ∷ es) → Meets k earlier (step ∷ steps) (e ∷ es)
-  ordered : {earlier steps : List Step} {step : Step} {e : Expected} {es : List Expected} → k.unsat earlier ≡ false → Fits k earlier e step → k.Accepts earlier step → Meets k (step ∷ earlier) steps es → Meets k earlier (step ∷ steps) (e ∷ es)
+  other : {earlier steps : List Step} {step : Step} {e : Expected} {es : List Expected}
+      → k.unsat earlier ≡ false → is_ordered step ≡ false → k.Accepts earlier step → Meets k (step ∷ earlier) steps (e ∷ es)
+      → Meets k earlier (step ∷ steps) (e ∷ es)
+  ordered : {earlier steps : List Step} {step : Step} {e : Expected} {es : List Expected}
+      → k.unsat earlier ≡ false → Fits k earlier e step → k.Accepts earlier step → Meets k (step ∷ earlier) steps es
+      → Meets k earlier (step ∷ steps) (e ∷ es)
 
 -- the steps are those of the script's commands and these outcomes
 pub record StepsMatch (k : Checking) (commands : List Command) (outcomes : List Outcome) (steps : List Step) : Type 0 where
@@ -112,7 +126,8 @@ pub record StepsMatch (k : Checking) (commands : List Command) (outcomes : List 
   pub in_form : AllByRecursion InForm outcomes
   pub meets : Meets k [] steps (expected start (accepted_of start commands) outcomes)
 
--- How a script is read is a definition of its own: here are its commands and how it ends. Nothing is said of what stands in the certificate behind the steps.
+-- How a script is read is a definition of its own: here are its commands and how it ends. Nothing is said of what stands in the
+-- certificate behind the steps.
 pub record MatchesCommands (k : Checking) (commands : List Command) (ending : Ending) (answers certificate : List ℕ) : Type 0 where
   pub outcomes : List Outcome
   pub steps : List Step

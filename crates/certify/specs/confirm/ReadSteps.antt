@@ -1,8 +1,10 @@
 -- The step that a buffer holds, and where a certificate was read to.
 use Rattle.std.specs.Prelude.{ℕ, ◌≡◌, Option, Some, None, List, ◌++◌}
-use Rattle.sat_base.specs.steps.Steps.{Step, SolverVarName, UserVarName, DeleteVar, ChangeSamplingMode, AddClause, AtClause, UnitClauses, DeleteClause, ChangeHashBits, Model, Assumptions, FailedAssumptions, End}
+use Rattle.sat_base.specs.declared.steps.step.DeleteClauseProof.{DeleteClauseProof}
+use Rattle.sat_base.specs.steps.Steps.{Step, Deletion, SolverVarName, UserVarName, DeleteVar, ChangeSamplingMode, AddClause, AtClause, UnitClauses, DeleteClause, ChangeHashBits, Model, Assumptions, FailedAssumptions, End}
 use Rattle.sat_base.specs.steps.StepText.{SpellsStep}
 use Rattle.sat_base.specs.steps.StepViews.{deletion_of}
+use Rattle.certify.specs.declared.confirm.source.buffers.Buffers.{Buffers}
 use Rattle.certify.specs.declared.confirm.source.kind.StepKind.{StepKind}
 use Rattle.certify.specs.declared.confirm.source.kind.StepKind.TheVariants as kind
 use Rattle.certify.specs.declared.verdict.Why.{Why}
@@ -22,6 +24,17 @@ step_in kind.Model literals hashes units = Model literals
 step_in kind.Assumptions literals hashes units = Assumptions literals
 step_in kind.FailedAssumptions literals hashes units = FailedAssumptions literals hashes
 step_in kind.End literals hashes units = End
+
+-- with those that buffers hold
+abbrev pub step_held : Buffers → StepKind → Step
+step_held b k = step_in k b.literals.items b.hashes.items b.units.items
+
+-- literals and hashes that they hold, and a clause with the reason of its deletion
+abbrev pub both_held : Buffers → List ℕ × List ℕ
+both_held b = (b.literals.items, b.hashes.items)
+
+abbrev pub deletion_held : Buffers → DeleteClauseProof → List ℕ × Deletion
+deletion_held b p = (b.literals.items, deletion_of p)
 
 -- where a certificate was read to: the step that was read last, and the bytes behind it
 pub record Place : Type 0 where

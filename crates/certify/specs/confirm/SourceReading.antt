@@ -1,6 +1,9 @@
 -- What is read from the front of bytes.
 use Rattle.std.specs.Prelude.{◌≡◌, ℕ, List, ◌++◌, Result, Ok, Err}
+use Rattle.sat_base.specs.device.Reading.{Behind}
 use Rattle.sat_base.specs.steps.Formats.{Format}
+use Rattle.certify.specs.confirm.ReadSteps.{step_in}
+use Rattle.certify.specs.declared.confirm.source.kind.StepKind.{StepKind}
 use Rattle.certify.specs.declared.confirm.source.stop.Stop.{Stop}
 use Rattle.certify.specs.declared.confirm.source.stop.Stop.TheVariants as stop
 
@@ -26,6 +29,11 @@ ReadsValue F (Err e) old new = NoneRead F e old
 abbrev pub valued : {A B : Type 0} → (A → B) → Result A Stop → Result B Stop
 valued f (Ok x) = Ok (f x)
 valued f (Err e) = Err e
+
+-- the fields of a step without lists, whatever lists there are
+abbrev pub ReadsPlain : ℕ → Result StepKind Stop → List ℕ → List ℕ → Type 0
+ReadsPlain tag r old new =
+    (literals hashes : List ℕ) (units : List (ℕ × ℕ)) → ReadsValue (Behind tag) (valued (λ k. step_in k literals hashes units) r) old new
 
 -- what was read, where the value was put elsewhere
 abbrev pub giving : {A : Type 0} → A → Result (Unit {0}) Stop → Result A Stop

@@ -1,5 +1,5 @@
 -- What a verdict promises of the texts that three readers gave.
-use Rattle.std.specs.Prelude.{ℕ, ◌-◌, ◌^◌, ◌≤◌, ◌≡◌, ◌↔◌, List, length}
+use Rattle.std.specs.Prelude.{ℕ, ◌-◌, ◌^◌, ◌≤◌, ◌≡◌, ◌↔◌, Result, IfOk, List, length}
 use Rattle.sat_base.specs.device.Device.{Reader, GaveEnough}
 use Rattle.sat_base.specs.script.Script.{reading}
 use Rattle.certify.specs.answers.Answers.{Outcome, answers_text}
@@ -19,7 +19,18 @@ Given r IsSo = GaveEnough r.0 r.1 IsSo
 
 -- yes says exactly that the texts that were given match
 abbrev pub Exact : Reader × Reader → Reader × Reader → Reader × Reader → Verdict → Type 0
-Exact script answers certificate v = Given script (λ s. Given answers (λ a. Given certificate (λ c. (v ≡ Yes) ↔ Matches the_checking reading s a c)))
+Exact script answers certificate v =
+    Given script (λ s. Given answers (λ a. Given certificate (λ c. (v ≡ Yes) ↔ Matches the_checking reading s a c)))
+
+-- the same of what three readers were and are
+abbrev pub IsExact : {S A C E : Type 0} → Result Verdict E → (S → Reader) → (A → Reader) → (C → Reader)
+    → S × A × C → S × A × C → Type 0
+IsExact r script answers certificate old new =
+    IfOk r (Exact (gave script old.0 new.0) (gave answers old.1 new.1) (gave certificate old.2 new.2))
+
+-- no further read has failed
+abbrev pub ReadsKept : {R : Type 0} → (R → Reader) → R → R → Type 0
+ReadsKept seen old new = (seen new).failures ≡ (seen old).failures
 
 -- the answers are the text of right outcomes, one for each accepted ask of the script
 pub record AreRightAnswers (script answers : List ℕ) : Type 0 where

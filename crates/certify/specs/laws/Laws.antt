@@ -65,7 +65,8 @@ pub record IsKept (j : Judge) : Type 0 where
   pub modes : length j.modes ≡ j.next_identity
   pub clauses : AllByRecursion (AllByRecursion (λ l. variable l < j.next_identity)) j.clauses
 
--- After every script names increase, are below the first never used and within the limit; each identity has a mode; names in use and clauses speak of identities given out.
+-- After every script names increase, are below the first never used and within the limit; each identity has a mode; names in use and
+-- clauses speak of identities given out.
 abbrev pub JudgeIsKept : Type 0
 JudgeIsKept = (commands : List Command) → IsKept (after_script commands start)
 
@@ -83,7 +84,8 @@ GivenIdentitiesSuffice =
 
 -- steps that the list checker accepts and that match show right outcomes
 abbrev pub MatchingIsRight : Type 0
-MatchingIsRight = (commands : List Command) (outcomes : List Outcome) (steps : List Step) → StepsMatch the_checking commands outcomes steps → AnswersAreRight commands outcomes
+MatchingIsRight = (commands : List Command) (outcomes : List Outcome) (steps : List Step)
+    → StepsMatch the_checking commands outcomes steps → AnswersAreRight commands outcomes
 
 -- the same of three texts, however a script is read: the answers are the text of right outcomes
 abbrev pub TextsThatMatchAreRight : Type 0

@@ -47,7 +47,18 @@ pub record IsKnown (o : Outcome) (n : ℕ) : Type 0 where
 -- Behind the last that is expected there is none. The asks took so many rounds.
 pub data Certifies (k : Checking) : List Step → List Step → List Expected → List ℕ → Type 0 where
   complete : {earlier : List Step} → Certifies k earlier [] [] []
-  left_out : {earlier steps : List Step} {e : Expected} {es : List Expected} {counts : List ℕ} → MayLack e → IsRecorded k earlier → Certifies k earlier steps es counts → Certifies k earlier steps (e ∷ es) counts
-  other : {earlier steps : List Step} {step : Step} {e : Expected} {es : List Expected} {counts : List ℕ} → is_ordered step ≡ false → (k.unsat earlier ≡ true → is_searched step ≡ false) → Certifies k (step ∷ earlier) steps (e ∷ es) counts → Certifies k earlier (step ∷ steps) (e ∷ es) counts
-  ordered : {earlier steps : List Step} {step : Step} {e : Expected} {es : List Expected} {counts : List ℕ} → opens_ask e ≡ false → (k.unsat earlier ≡ true → MayStand e) → Fits k earlier e step → Certifies k (step ∷ earlier) steps es counts → Certifies k earlier (step ∷ steps) (e ∷ es) counts
-  asked : {earlier steps : List Step} {step : Step} {ask : List Literal} {o : Outcome} {n : ℕ} {es : List Expected} {counts : List ℕ} → (k.unsat earlier ≡ true → IsKnown o n) → Fits k earlier (Opens ask o) step → Certifies k (step ∷ earlier) steps es counts → Certifies k earlier (step ∷ steps) (Opens ask o ∷ es) (n ∷ counts)
+  left_out : {earlier steps : List Step} {e : Expected} {es : List Expected} {counts : List ℕ}
+      → MayLack e → IsRecorded k earlier → Certifies k earlier steps es counts
+      → Certifies k earlier steps (e ∷ es) counts
+  other : {earlier steps : List Step} {step : Step} {e : Expected} {es : List Expected} {counts : List ℕ}
+      → is_ordered step ≡ false → (k.unsat earlier ≡ true → is_searched step ≡ false)
+      → Certifies k (step ∷ earlier) steps (e ∷ es) counts
+      → Certifies k earlier (step ∷ steps) (e ∷ es) counts
+  ordered : {earlier steps : List Step} {step : Step} {e : Expected} {es : List Expected} {counts : List ℕ}
+      → opens_ask e ≡ false → (k.unsat earlier ≡ true → MayStand e) → Fits k earlier e step
+      → Certifies k (step ∷ earlier) steps es counts
+      → Certifies k earlier (step ∷ steps) (e ∷ es) counts
+  asked : {earlier steps : List Step} {step : Step} {ask : List Literal} {o : Outcome} {n : ℕ} {es : List Expected} {counts : List ℕ}
+      → (k.unsat earlier ≡ true → IsKnown o n) → Fits k earlier (Opens ask o) step
+      → Certifies k (step ∷ earlier) steps es counts
+      → Certifies k earlier (step ∷ steps) (Opens ask o ∷ es) (n ∷ counts)

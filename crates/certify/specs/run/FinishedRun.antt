@@ -31,7 +31,8 @@ HasCause fault.CounterEnd script answers certificate many memory = many
 -- how many commands are refused
 abbrev pub refused_count : Judge → List Command → ℕ
 refused_count j [] = 0
-refused_count j (command ∷ commands) = (if is_some (refusal_of j command) then 1 else 0) + refused_count (after_command command j) commands
+refused_count j (command ∷ commands) =
+    (if is_some (refusal_of j command) then 1 else 0) + refused_count (after_command command j) commands
 
 -- the number of the command at which the text is malformed
 abbrev pub malformed_at : ℕ → Ending → Option ℕ
@@ -94,7 +95,8 @@ pub record Backs (text : List ℕ) (summary : Summary) (answered certified : Lis
   pub answers : answered ≡ answers_text (reading text).0 (reading text).1 outcomes
   pub steps : List Step
   pub certificate : SpellsSteps steps certified
-  pub certifies : Certifies the_checking [] steps (expected start (accepted_of start (reading text).0) outcomes) (asked_steps summary.asks.items)
+  pub certifies : Certifies the_checking [] steps
+      (expected start (accepted_of start (reading text).0) outcomes) (asked_steps summary.asks.items)
 
 -- WHAT THREE DEVICES SHOW OF IT
 
@@ -109,7 +111,8 @@ took seen old new = (seen old, seen new)
 -- the answers' writer took the answers to the text that was given, whatever would follow
 abbrev pub Answered : ℕ → Summary → Reader × Reader → Writer × Writer → Type 0
 Answered budget summary script answers =
-    GaveEnough script.0 script.1 (λ text. (answered : List ℕ) × Takes answers.0 answers.1 answered × Answers text budget summary answered)
+    GaveEnough script.0 script.1 (λ text. (answered : List ℕ)
+    × Takes answers.0 answers.1 answered × Answers text budget summary answered)
 
 -- and the certificate's writer took the certificate
 abbrev pub TookCertificate : Summary → Reader × Reader → Writer × Writer → Writer × Writer → Type 0
@@ -117,8 +120,10 @@ TookCertificate summary script answers certificate = GaveEnough script.0 script.
     × Takes answers.0 answers.1 answered × Takes certificate.0 certificate.1 certified × Backs text summary answered certified)
 
 -- the same of what three devices were and are
-abbrev pub Backed : {S A C : Type 0} → Result Summary RunFault → (S → Reader) → (A → Writer) → (C → Writer) → S × A × C → S × A × C → Type 0
-Backed r script answers certificate old new = IfOk r (λ s. TookCertificate s (gave script old.0 new.0) (took answers old.1 new.1) (took certificate old.2 new.2))
+abbrev pub Backed : {S A C : Type 0} → Result Summary RunFault → (S → Reader) → (A → Writer) → (C → Writer)
+    → S × A × C → S × A × C → Type 0
+Backed r script answers certificate old new =
+    IfOk r (λ s. TookCertificate s (gave script old.0 new.0) (took answers old.1 new.1) (took certificate old.2 new.2))
 
 -- no further call of the writer failed
 abbrev pub WritesKept : {W : Type 0} → (W → Writer) → W → W → Type 0

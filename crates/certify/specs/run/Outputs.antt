@@ -45,14 +45,17 @@ pub record WroteStep (step : Step) (old new : Sink) : Type 0 where
 
 -- where a part writes to the certificate alone
 abbrev pub WritesSteps : {T : Type 0} → Result T RunFault → (T → Sink → Sink → Type 0) → Sink → Sink → Type 0
-WritesSteps r wrote old new = MatchResult r (λ x. wrote x old new) (λ e. HasCause e ⊥ ⊥ (OneBroke old new) ⊥ (NoneFailed old.writer new.writer))
+WritesSteps r wrote old new =
+    MatchResult r (λ x. wrote x old new) (λ e. HasCause e ⊥ ⊥ (OneBroke old new) ⊥ (NoneFailed old.writer new.writer))
 
-abbrev pub WritesTo : {C T : Type 0} → (C → Writer) → Result T RunFault → (T → Sink → Sink → Type 0) → StepWriter C → StepWriter C → Type 0
+abbrev pub WritesTo : {C T : Type 0} → (C → Writer) → Result T RunFault → (T → Sink → Sink → Type 0)
+    → StepWriter C → StepWriter C → Type 0
 WritesTo certificate r wrote old new = WritesSteps r wrote (sink certificate old) (sink certificate new)
 
 -- where a part writes this text to the answers alone
 abbrev pub WritesAnswer : {T : Type 0} → Result T RunFault → List ℕ → Writer → Writer → Type 0
-WritesAnswer r text old new = MatchResult r (λ _. Takes old new text) (λ e. HasCause e ⊥ (OneFailed old new) ⊥ ⊥ (NoneFailed old new))
+WritesAnswer r text old new =
+    MatchResult r (λ _. Takes old new text) (λ e. HasCause e ⊥ (OneFailed old new) ⊥ ⊥ (NoneFailed old new))
 
 -- where a part writes to both, no call of either failed
 abbrev pub NeitherFailed : Both → Both → Type 0

@@ -1,7 +1,7 @@
 -- How a run stands among the commands of a script of clauses and asks.
 use Rattle.std.specs.Prelude.{ℕ, zero, suc, ◌+◌, ◌-◌, ◌^◌, ◌<◌, ◌≤◌, ◌≡◌, ◌↔◌, max, Bool, true, false, ◌&&◌, Option, Some, None, Result, IfOk, List, [], ◌∷◌, ◌++◌, length, map, drop, nat_le}
 use Rattle.std.specs.List.{AllByRecursion}
-use Rattle.sat_base.specs.device.Device.{Takes}
+use Rattle.sat_base.specs.device.Device.{Takes, Writer}
 use Rattle.sat_base.specs.device.Sink.{Sink, Sent}
 use Rattle.sat_base.specs.values.Literals.{coded, largest, variable}
 use Rattle.sat_base.specs.values.Clauses.{Valuation, EachTrue, EachHolds}
@@ -11,7 +11,7 @@ use Rattle.sat_base.specs.steps.Steps.{Step, UserVarName, AddClause, Model, Assu
 use Rattle.certify.specs.answers.Answers.{Outcome, Sat, Unsat, Unknown, answers_from, malformed_line, outcome_text}
 use Rattle.certify.specs.answers.AnswerForms.{named_literals}
 use Rattle.certify.specs.answers.RightAnswers.{AreRight}
-use Rattle.certify.specs.run.FinishedRun.{refused_count, kind_of, AreSpent, IsSpent, RunOf, asked_steps}
+use Rattle.certify.specs.run.FinishedRun.{refused_count, kind_of, AreSpent, IsSpent, RunOf, asked_steps, malformed_at}
 use Rattle.certify.specs.checker.Accepts.{stored_after}
 use Rattle.certify.specs.checker.Fold.{Holds}
 use Rattle.certify.specs.checker.Propagation.{is_among}
@@ -19,12 +19,13 @@ use Rattle.certify.specs.confirm.Checking.{variable_of}
 use Rattle.certify.specs.confirm.ListChecking.{the_checking}
 use Rattle.certify.specs.confirm.Matches.{expected}
 use Rattle.certify.specs.run.Certifies.{Certifies}
-use Rattle.certify.specs.run.Outputs.{Both, Wrote, AnswersAll}
+use Rattle.certify.specs.run.Outputs.{Both, Wrote, AnswersAll, both, pair}
 use Rattle.certify.specs.search.KeptClauses.{IsNormalOf}
 use Rattle.certify.specs.search.SearchEnds.{AreDerived}
 use Rattle.certify.specs.script.CappedNames.{CappedScript}
 use Rattle.certify.specs.search.SolverState.{SolverState, Allows, AllowsSame, GainsClause, Recording, RecordsClause, RecordsSame, recording, new_solver}
 use Rattle.certify.specs.declared.fault.RunFault.{RunFault}
+use Rattle.certify.specs.declared.run.outputs.Outputs.{Outputs}
 use Rattle.certify.specs.declared.run.session.Session.{Session}
 use Rattle.certify.specs.declared.summary.Answer.{Answer}
 use Rattle.certify.specs.declared.summary.Answer.TheVariants as kind
@@ -67,9 +68,11 @@ IsSimple (Clause ls) = AllByRecursion (λ name. 0 < name) (names_of ls)
 IsSimple (Ask ls) = ls ≡ []
 IsSimple command = ⊥
 
--- what an answer says of a solver's clauses: a literal for each variable, in order, by which they can all hold; that they are known to be unsatisfiable; or nothing
+-- what an answer says of a solver's clauses: a literal for each variable, in order, by which they can all hold; that they are known to
+-- be unsatisfiable; or nothing
 abbrev pub IsTrueOf : SolverState → List ℕ → Answer → Type 0
-IsTrueOf solver line kind.Sat = (map variable line ≡ names_from solver.var_count 0) × (a : Valuation) × EachTrue a line × Allows solver a
+IsTrueOf solver line kind.Sat =
+    (map variable line ≡ names_from solver.var_count 0) × (a : Valuation) × EachTrue a line × Allows solver a
 IsTrueOf solver line kind.Unsat = solver.unsat ≡ true
 IsTrueOf solver line kind.Unknown = Unit {0}
 
@@ -91,7 +94,8 @@ brought old new = naming (new - old) old
 -- a clause's step, or none where the clauses before it are known to be unsatisfiable
 pub data WritesClause (from to : Recording) (clause : List ℕ) : List Step → Type 0 where
   unwritten : from.unsat ≡ true → RecordsSame from to → WritesClause from to clause []
-  written : {normal : List ℕ} → IsNormalOf clause normal → RecordsClause normal from to → WritesClause from to clause (AddClause normal ∷ [])
+  written : {normal : List ℕ} → IsNormalOf clause normal → RecordsClause normal from to
+      → WritesClause from to clause (AddClause normal ∷ [])
 
 -- a clause's names were brought in, and it was written or left out
 pub record WroteClause (count v : ℕ) (from to : Recording) (literals : List ℕ) (old new : Sink) : Type 0 where
@@ -150,8 +154,10 @@ pub record Reached (script : List Command) (ending : Ending) (budget : ℕ) (lef
   pub plain : HasFirstNames judge s.names
   pub clauses : (a : Valuation) → Allows s.solver a ↔ EachHolds a judge.clauses
   -- whatever is answered to the commands that are left
-  pub right : (rest : List Outcome) → AreRight judge (accepted_of judge left) rest → AreRight start (accepted_of start script) (done ++ rest)
-  pub text : (rest : List Outcome) → answers_from 1 start script ending (done ++ rest) ≡ answered ++ answers_from number judge left ending rest
+  pub right : (rest : List Outcome) → AreRight judge (accepted_of judge left) rest
+      → AreRight start (accepted_of start script) (done ++ rest)
+  pub text : (rest : List Outcome)
+      → answers_from 1 start script ending (done ++ rest) ≡ answered ++ answers_from number judge left ending rest
   pub refused : refused_count start script ≡ s.refused + refused_count judge left
   pub kinds : map (λ r. r.answer) s.asks.items ≡ map kind_of done
   pub spent : AreSpent budget 0 s.asks.items
@@ -159,8 +165,10 @@ pub record Reached (script : List Command) (ending : Ending) (budget : ℕ) (lef
   pub earlier : List Step
   pub told : Told earlier s.names s.solver (recording s.solver)
   -- whatever is written for them
-  pub certifies : (rest : List Outcome) (more : List Step) (counts : List ℕ) → Certifies the_checking earlier more (expected judge (accepted_of judge left) rest) counts
-      → Certifies the_checking [] (written ++ more) (expected start (accepted_of start script) (done ++ rest)) (asked_steps s.asks.items ++ counts)
+  pub certifies : (rest : List Outcome) (more : List Step) (counts : List ℕ)
+      → Certifies the_checking earlier more (expected judge (accepted_of judge left) rest) counts
+      → Certifies the_checking [] (written ++ more)
+      (expected start (accepted_of start script) (done ++ rest)) (asked_steps s.asks.items ++ counts)
 
 -- where the clauses are known to be unsatisfiable, a search says so without a round
 abbrev pub SaysKnown : SolverState → AskReport → Type 0
@@ -204,7 +212,8 @@ WroteClauseOf old new ls = WroteClause (new.names - old.names) old.names (record
 
 -- an ask and its answer, and then these steps
 abbrev pub WroteAskOf : Session → Session → AskReport → List Step → Sink → Sink → Type 0
-WroteAskOf old new report last = WroteAsk old.solver.var_count (recording old.solver) (recording new.solver) report.answer new.lits.items last
+WroteAskOf old new report last =
+    WroteAsk old.solver.var_count (recording old.solver) (recording new.solver) report.answer new.lits.items last
 
 -- the text of an ask's answer
 abbrev pub reported_text : Session → AskReport → List ℕ
@@ -223,8 +232,10 @@ pub record Took (command : Command) (number budget : ℕ) (old new : Session) (b
   pub took : Takes before.answers after.answers piece
   pub steps : List Step
   pub wrote : Wrote steps before.certificate after.certificate
-  pub reached : IsSimple command → (script : List Command) (ending : Ending) (left : List Command) (answered : List ℕ) (written : List Step) → old.solver.var_count ≡ old.names
-      → Reached script ending budget (command ∷ left) number old answered written → Reached script ending budget left (number + 1) new (answered ++ piece) (written ++ steps)
+  pub reached : IsSimple command → (script : List Command) (ending : Ending) (left : List Command) (answered : List ℕ)
+      (written : List Step) → old.solver.var_count ≡ old.names
+      → Reached script ending budget (command ∷ left) number old answered written
+      → Reached script ending budget left (number + 1) new (answered ++ piece) (written ++ steps)
 
 -- so many commands of a script were taken
 pub record TookAll (script : CappedScript) (budget place : ℕ) (s : Session) (before after : Both) : Type 0 where
@@ -233,6 +244,20 @@ pub record TookAll (script : CappedScript) (budget place : ℕ) (s : Session) (b
   pub steps : List Step
   pub wrote : Wrote steps before.certificate after.certificate
   pub reached : AllByRecursion IsSimple script.0 → Reached script.0 script.1 budget (drop place script.0) (place + 1) s answered steps
+
+-- all of them were taken
+abbrev pub TookWhole : CappedScript → ℕ → Session → Both → Both → Type 0
+TookWhole script budget s before after = TookAll script budget (length script.0) s before after
+
+-- a command was taken, by what a run and its outputs were and are
+abbrev pub TookOf : {A C : Type 0} → (A → Writer) → (C → Writer) → Command → ℕ → ℕ
+    → Session × Outputs A C → Session × Outputs A C → Type 0
+TookOf answers certificate command number budget old new =
+    Took command number budget old.0 new.0 (both answers certificate old.1) (both answers certificate new.1)
+
+-- the number of a malformed command, where the script has one
+abbrev pub IsMalformedAt : CappedScript → Option ℕ → Type 0
+IsMalformedAt script m = m ≡ malformed_at (length script.0 + 1) script.1
 
 -- the script is malformed behind so many commands that the next one has no number
 abbrev pub IsOverlong : CappedScript → Type 0
@@ -265,3 +290,9 @@ pub record IsNew (s : Session) : Type 0 where
 pub record SumsUp (r : Result Summary RunFault) (script : CappedScript) (budget : ℕ) (before after : Both) : Type 0 where
   pub finishes : IfOk r (λ summary. Finishes script budget summary before after)
   pub failures : AnswersAll r (IsOverlong script) before after
+
+-- the same of two writers that are lent
+abbrev pub SumsUpOf : {A C : Type 0} → Result Summary RunFault → CappedScript → ℕ → (A → Writer) → (C → Writer)
+    → A × C → A × C → Type 0
+SumsUpOf r script budget answers certificate old new =
+    SumsUp r script budget (pair (answers old.0) (certificate old.1)) (pair (answers new.0) (certificate new.1))

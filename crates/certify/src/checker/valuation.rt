@@ -1,11 +1,9 @@
 //! Whether literals are a model of the stored clauses.
 ghost use Rattle.std.specs.Prelude.{ℕ, ◌≡◌, [], IfOk, reverse};
-ghost use Rattle.std.specs.Bool.{MatchBool};
 ghost use Rattle.std.specs.List.{list_any};
 ghost use Rattle.sat_base.specs.values.Literals.{negated};
 ghost use Rattle.certify.specs.checker.Propagation.{is_among};
-ghost use Rattle.certify.specs.checker.Accepts.{VariablesApart};
-ghost use Rattle.certify.specs.checker.ModelTests.{is_contradicted, are_all_true};
+ghost use Rattle.certify.specs.checker.ModelTests.{AssumesApart, are_all_true, is_contradicted};
 
 use crate::checker::assigned::Assigned;
 use crate::checker::clauses::ClauseList;
@@ -16,8 +14,7 @@ use std::alloc::AllocError;
 #[tactic(auto, using(crate::proofs::lemmas::checker::ModelTests::setting_apart))]
 pub(crate) fn assume_apart(assigned: &mut Assigned, literals: &[Lit]) -> Result<bool, AllocError>
     requires { assigned.old ≡ [] }
-    ensures { IfOk result
-        (λ yes. MatchBool yes (VariablesApart literals.now × (assigned.new ≡ literals.now)) (VariablesApart literals.now → ⊥)) }
+    ensures { IfOk result (λ yes. AssumesApart yes literals.now assigned.new) }
 {
     for place in (0..literals.len()).rev() {
         let lit = literals[place];

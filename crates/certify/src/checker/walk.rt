@@ -2,7 +2,7 @@
 ghost use Rattle.std.specs.Prelude.{◌≡◌, ◌+◌, ◌≤◌, List, [], ◌∷◌, length, OnOk, IfOk, if◌then◌else◌, None, Some, map, IsTrue, ◌↔◌};
 ghost use Rattle.certify.specs.checker.Propagation.{PassesCheck};
 ghost use Rattle.certify.specs.checker.WalkEnds.{status_of_look, Extends, WalksBucket};
-ghost use Rattle.certify.specs.checker.Walk.{status_under, walk_on, walk_buckets, denied, all_literals, of_hash};
+ghost use Rattle.certify.specs.checker.Walk.{all_literals, buckets_of, denied, of_hash, status_under, unless, walk_buckets, walk_on};
 
 use crate::checker::assigned::Assigned;
 use crate::checker::clauses::ClauseList;
@@ -39,7 +39,7 @@ fn look_at(assigned: &Assigned, clause: &[Lit]) -> Look
 /// Takes what a clause opens. The answer is whether the clause was falsified.
 #[tactic(auto, using(crate::proofs::lemmas::checker::WalkSteps::meeting))]
 fn meet(assigned: &mut Assigned, clause: &[Lit]) -> Result<bool, AllocError>
-    ensures met { IfOk result (λ conflict. walk_on (status_under assigned.old clause.now) assigned.old ≡ (if conflict then None else Some assigned.new)) }
+    ensures met { IfOk result (λ conflict. walk_on (status_under assigned.old clause.now) assigned.old ≡ unless conflict assigned.new) }
     ensures extends { Extends assigned.old assigned.new }
 {
     match look_at(assigned, clause) {
@@ -89,7 +89,7 @@ fn walk_hashes(
     hashes: &[ClauseHash],
     assigned: &mut Assigned,
 ) -> Result<bool, AllocError>
-    ensures found { IfOk result (λ yes. yes ≡ walk_buckets assigned.old (map (of_hash (all_literals clauses.now)) hashes.now)) }
+    ensures found { IfOk result (λ yes. yes ≡ walk_buckets assigned.old (buckets_of clauses.now hashes.now)) }
     ensures extends { Extends assigned.old assigned.new }
 {
     for hash in hashes {
@@ -128,7 +128,7 @@ fn check_under(
     hashes: &[ClauseHash],
     assigned: &mut Assigned,
 ) -> Result<bool, AllocError>
-    ensures exact { IfOk result (λ yes. IsTrue yes ↔ PassesCheck assigned.old clause.now (map (of_hash (all_literals clauses.now)) hashes.now)) }
+    ensures exact { IfOk result (λ yes. IsTrue yes ↔ PassesCheck assigned.old clause.now (buckets_of clauses.now hashes.now)) }
     ensures extends { Extends assigned.old assigned.new }
 {
     let _count = clauses.len();
@@ -145,7 +145,7 @@ pub(crate) fn check_clause(
     hashes: &[ClauseHash],
     assigned: &mut Assigned,
 ) -> Result<bool, AllocError>
-    ensures exact { IfOk result (λ yes. IsTrue yes ↔ PassesCheck assigned.old clause.now (map (of_hash (all_literals clauses.now)) hashes.now)) }
+    ensures exact { IfOk result (λ yes. IsTrue yes ↔ PassesCheck assigned.old clause.now (buckets_of clauses.now hashes.now)) }
     ensures units { assigned.new ≡ assigned.old }
 {
     let units = assigned.len();

@@ -1,5 +1,5 @@
 //! A certificate as far as its steps were accepted.
-ghost use Rattle.std.specs.Prelude.{◌≡◌, ◌≤◌, List, [], ◌∷◌, map, Ok, IfOk};
+ghost use Rattle.std.specs.Prelude.{◌≡◌, ◌≤◌, List, [], ◌∷◌, Ok, IfOk};
 ghost use Rattle.sat_base.specs.values.Literals.{largest};
 ghost use Rattle.sat_base.specs.steps.StepViews.{step_of};
 ghost use Rattle.certify.specs.confirm.Checking.{is_ordered as is_ordered_step};
@@ -56,7 +56,7 @@ impl<'c> Certificate<'c> {
     ghost use Rattle.sat_base.specs.script.Judge.{Judge, start};
     ghost use Rattle.sat_base.specs.script.Script.{Literal as Spelled};
     ghost use Rattle.certify.specs.answers.Answers.{Outcome};
-    ghost use Rattle.certify.specs.confirm.Matches.{Adds, Opens, Shows, Fails, Closes, Finish};
+    ghost use Rattle.certify.specs.confirm.Matches.{Adds, Closes, Fails, Finish, Opens, showing_model};
     ghost use Rattle.certify.specs.confirm.CertificateSteps.{IsFed, Stays, MeetsPending, Awaits, GoesOneStep, ReadStepFits, FeedsStep, NamesNext, FeedsName, OpensAsk, BringsNext, BringsName, BringsAll, bytes_of};
 
     pub fn new(alloc: Global, bytes: &'c [u8]) -> Certificate<'c>
@@ -259,7 +259,7 @@ impl<'c> Certificate<'c> {
     }
 
     fn shows(&mut self, ask: &[Literal], line: &[Literal]) -> Result<Option<Why>, AllocError>
-        ensures fits { IfOk result (ReadStepFits self.new (λ j. Shows (map (λ n. n.name) j.in_use) ask.now line.now)) }
+        ensures fits { IfOk result (ReadStepFits self.new (λ j. showing_model j ask.now line.now)) }
         ensures stays { Stays self.old self.new }
     {
         let ProofStep::Model { assignment } = self.source.step() else {
@@ -288,7 +288,7 @@ impl<'c> Certificate<'c> {
         ask: &[Literal],
         line: &[Literal],
     ) -> Result<Option<Why>, AllocError>
-        ensures { IfOk result (λ why. (j : Judge) → MeetsPending self.old self.new j (Shows (map (λ n. n.name) j.in_use) ask.now line.now ∷ []) j why) }
+        ensures { IfOk result (λ why. (j : Judge) → MeetsPending self.old self.new j (showing_model j ask.now line.now ∷ []) j why) }
     {
         match self.await_ordered()? {
             Awaited::Cut => return Ok(Some(Why::AnswerDiffers)),

@@ -1,9 +1,9 @@
 //! Ends a run's answers and its certificate.
 ghost use Rattle.std.specs.Prelude.{◌≡◌, ◌+◌, ◌-◌, ◌^◌, ◌≤◌, ◌<◌, [], true, length, OnOk, MatchResult};
 ghost use Rattle.sat_base.specs.script.Script.{Malformed};
-ghost use Rattle.certify.specs.run.FinishedRun.{HasCause, malformed_at};
+ghost use Rattle.certify.specs.run.FinishedRun.{HasCause};
 ghost use Rattle.certify.specs.run.Outputs.{EndedSteps, WritesAnswer, WritesTo, Ends, both};
-ghost use Rattle.certify.specs.run.Running.{IsOverlong, malformed_text};
+ghost use Rattle.certify.specs.run.Running.{IsMalformedAt, IsOverlong, malformed_text};
 
 use super::outputs::{Outputs, flush_steps, record_step, write_answer};
 use crate::answers::write::push_malformed;
@@ -13,7 +13,7 @@ use sat_base::{CountedWrite, ProofStep, StepWriter};
 
 /// The number that the command would have had at which the text is malformed, counted from 1.
 pub(crate) fn malformed_number(script: &Script) -> Result<Option<u64>, RunFault>
-    ensures { MatchResult result (λ m. m ≡ malformed_at (length script.now.0 + 1) script.now.1) (λ e. HasCause e ⊥ ⊥ ⊥ (IsOverlong script.now) ⊥) }
+    ensures { MatchResult result (IsMalformedAt script.now) (λ e. HasCause e ⊥ ⊥ ⊥ (IsOverlong script.now) ⊥) }
 {
     if !script.is_malformed() {
         return Ok(None);

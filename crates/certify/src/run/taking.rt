@@ -4,7 +4,7 @@ ghost use Rattle.sat_base.specs.script.Judge.{PastLimit};
 ghost use Rattle.certify.specs.answers.Answers.{refused_line};
 ghost use Rattle.certify.specs.script.ScriptParts.{shown};
 ghost use Rattle.certify.specs.run.Outputs.{Tells, WritesBoth, both};
-ghost use Rattle.certify.specs.run.Running.{Refused, Took, TookAll};
+ghost use Rattle.certify.specs.run.Running.{Refused, TookAll, TookOf, TookWhole};
 
 use super::ask::answer_ask;
 use super::clause::take_clause;
@@ -46,7 +46,7 @@ fn take_command<A: CountedWrite, C: CountedWrite>(
     requires refused { session.old.refused < number }
     ensures same { OnOk result (session.new.solver.var_count ≡ session.new.names) }
     ensures refused { OnOk result (session.new.refused ≤ number) }
-    ensures took { OnOk result (Took (shown command.entry) number budget session.old session.new (both A.seen C.seen out.old) (both A.seen C.seen out.new)) }
+    ensures took { OnOk result (TookOf A.seen C.seen (shown command.entry) number budget (session.old, out.old) (session.new, out.new)) }
     ensures written { WritesBoth result (both A.seen C.seen out.old) (both A.seen C.seen out.new) }
 {
     match command {
@@ -71,7 +71,7 @@ pub(crate) fn take_all<A: CountedWrite, C: CountedWrite>(
     requires same { session.old.solver.var_count ≡ session.old.names }
     requires refused { session.old.refused ≡ 0 }
     requires first { TookAll script.now budget 0 session.old (both A.seen C.seen out.old) (both A.seen C.seen out.old) }
-    ensures took { OnOk result (TookAll script.now budget (length script.now.0) session.new (both A.seen C.seen out.old) (both A.seen C.seen out.new)) }
+    ensures took { OnOk result (TookWhole script.now budget session.new (both A.seen C.seen out.old) (both A.seen C.seen out.new)) }
     ensures written { WritesBoth result (both A.seen C.seen out.old) (both A.seen C.seen out.new) }
 {
     for place in 0..script.len() {

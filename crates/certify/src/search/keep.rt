@@ -6,9 +6,8 @@ ghost use Rattle.certify.specs.search.Search.{IsBounded, AreBounded};
 ghost use Rattle.certify.specs.search.KeptClauses.{IsNormalOf, IsTautology, UnitsFollow, KeepsClause};
 ghost use Rattle.certify.specs.search.SolverState.{records_unsat, records_unit, unit_test};
 
-use crate::search::clause_list::ClauseList;
 use crate::search::look::is_false;
-use sat_base::Lit;
+use sat_base::{FlatLists, Lit};
 use std::alloc::AllocError;
 
 /// Writes a clause's literals into `clause`, by increasing code and without repeats.
@@ -40,7 +39,7 @@ fn is_tautology(clause: &[Lit]) -> bool
 /// empty, or its only literal's negation is a unit.
 #[tactic(auto, using(crate::proofs::lemmas::search::KeptClauses::keeping))]
 pub(crate) fn keep(
-    clauses: &mut ClauseList,
+    clauses: &mut FlatLists<Lit>,
     units: &mut [Option<bool>],
     clause: &[Lit],
 ) -> Result<bool, AllocError>

@@ -5,9 +5,8 @@ ghost use Rattle.sat_base.specs.values.Literals.{variable, is_positive, largest}
 ghost use Rattle.certify.specs.search.Search.{open_count, AreBounded, IsBounded, ValuesFollow, AllOpen, AllAssigned, IsLowestOpen};
 ghost use Rattle.certify.specs.search.ScanEnds.{MetSays, ScanSays, PropagateSays, EndSays};
 
-use crate::search::clause_list::ClauseList;
 use crate::search::look::{Look, look_at};
-use sat_base::{ClauseHash, Lit, clause_hash};
+use sat_base::{ClauseHash, FlatLists, Lit, clause_hash};
 use std::alloc::AllocError;
 
 /// How a clause was met, or how a scan over all clauses ended.
@@ -82,7 +81,7 @@ fn meet(
 /// Looks at each clause in turn, and takes what it opens.
 #[tactic(auto, using(crate::proofs::lemmas::search::Scans::scanning))]
 fn scan(
-    clauses: &ClauseList,
+    clauses: &FlatLists<Lit>,
     values: &mut [Option<bool>],
     hashes: &mut Vec<ClauseHash>,
 ) -> Result<Met, AllocError>
@@ -93,7 +92,7 @@ fn scan(
 {
     let mut assigned = false;
     for place in 0..clauses.len() {
-        match meet(clauses.clause(place), values, hashes)? {
+        match meet(clauses.get(place), values, hashes)? {
             Met::Conflict => return Ok(Met::Conflict),
             Met::Assigned => {
                 assigned = true;
@@ -111,7 +110,7 @@ fn scan(
 /// Scans until nothing changes. The answer is whether a clause was falsified.
 #[tactic(auto, using(crate::proofs::lemmas::search::Scans::rescanning))]
 fn propagate(
-    clauses: &ClauseList,
+    clauses: &FlatLists<Lit>,
     values: &mut [Option<bool>],
     hashes: &mut Vec<ClauseHash>,
 ) -> Result<bool, AllocError>
@@ -133,7 +132,7 @@ fn propagate(
 /// falsified or every variable has a value. `learned` gets the negations of the decisions.
 #[tactic(auto, using(crate::proofs::lemmas::search::Decisions::deciding))]
 pub(crate) fn search(
-    clauses: &ClauseList,
+    clauses: &FlatLists<Lit>,
     values: &mut [Option<bool>],
     learned: &mut Vec<Lit>,
     hashes: &mut Vec<ClauseHash>,

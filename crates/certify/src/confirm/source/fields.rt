@@ -1,9 +1,9 @@
 //! A step's fields.
-ghost use Rattle.std.specs.Prelude.{◌≡◌, List, ℕ, IsTrue, false};
+ghost use Rattle.std.specs.Prelude.{◌≡◌, IsTrue, false};
 ghost use Rattle.sat_base.specs.steps.Kinds.{is_tag, has_lists};
 ghost use Rattle.sat_base.specs.device.Reading.{Behind};
-ghost use Rattle.certify.specs.confirm.ReadSteps.{step_in};
-ghost use Rattle.certify.specs.confirm.SourceReading.{ReadsValue, valued};
+ghost use Rattle.certify.specs.confirm.ReadSteps.{step_held};
+ghost use Rattle.certify.specs.confirm.SourceReading.{ReadsPlain, ReadsValue, valued};
 
 use super::buffers::Buffers;
 use super::cursor::Cursor;
@@ -17,7 +17,7 @@ use super::values::{variable, width};
 fn plain_fields(tag: u8, cursor: &mut Cursor<'_>) -> Result<StepKind, Stop>
     requires known { IsTrue (is_tag tag) }
     requires plain { has_lists tag ≡ false }
-    ensures { (literals hashes : List ℕ) (units : List (ℕ × ℕ)) → ReadsValue (Behind tag) (valued (λ k. step_in k literals hashes units) result) cursor.old cursor.new }
+    ensures { ReadsPlain tag result cursor.old cursor.new }
 {
     if tag == 1 {
         let (global, solver) = variables(cursor)?;
@@ -42,7 +42,7 @@ fn plain_fields(tag: u8, cursor: &mut Cursor<'_>) -> Result<StepKind, Stop>
 /// Takes what stands behind the tag of a step with lists.
 fn list_fields(tag: u8, cursor: &mut Cursor<'_>, buffers: &mut Buffers) -> Result<StepKind, Stop>
     requires { IsTrue (has_lists tag) }
-    ensures { ReadsValue (Behind tag) (valued (λ k. step_in k buffers.new.literals.items buffers.new.hashes.items buffers.new.units.items) result) cursor.old cursor.new }
+    ensures { ReadsValue (Behind tag) (valued (step_held buffers.new) result) cursor.old cursor.new }
 {
     if tag == 5 {
         literals(cursor, &mut buffers.literals)?;
@@ -89,7 +89,7 @@ pub(crate) fn fields(
     buffers: &mut Buffers,
 ) -> Result<StepKind, Stop>
     requires { IsTrue (is_tag tag) }
-    ensures { ReadsValue (Behind tag) (valued (λ k. step_in k buffers.new.literals.items buffers.new.hashes.items buffers.new.units.items) result) cursor.old cursor.new }
+    ensures { ReadsValue (Behind tag) (valued (step_held buffers.new) result) cursor.old cursor.new }
 {
     if has_lists(tag) {
         list_fields(tag, cursor, buffers)

@@ -1,7 +1,7 @@
 //! The fields of steps that have several.
 ghost use Rattle.sat_base.specs.steps.Formats.{Both};
 ghost use Rattle.sat_base.specs.steps.StepText.{IsVariable, IsOptionalVariable, IsFlag, IsDeletion, AreLiterals, AreHashes};
-ghost use Rattle.sat_base.specs.steps.StepViews.{deletion_of};
+ghost use Rattle.certify.specs.confirm.ReadSteps.{both_held, deletion_held};
 ghost use Rattle.certify.specs.confirm.SourceReading.{ReadsValue, valued};
 
 use super::buffers::Buffers;
@@ -29,7 +29,7 @@ pub(crate) fn variable_and_flag(cursor: &mut Cursor<'_>) -> Result<(Var, bool), 
 }
 
 pub(crate) fn flag_and_lists(cursor: &mut Cursor<'_>, buffers: &mut Buffers) -> Result<bool, Stop>
-    ensures { ReadsValue (Both IsFlag (Both AreLiterals AreHashes)) (valued (λ f. (f, (buffers.new.literals.items, buffers.new.hashes.items))) result) cursor.old cursor.new }
+    ensures { ReadsValue (Both IsFlag (Both AreLiterals AreHashes)) (valued (λ f. (f, both_held buffers.new)) result) cursor.old cursor.new }
 {
     let flag = flag(cursor)?;
     both_lists(cursor, buffers)?;
@@ -40,7 +40,7 @@ pub(crate) fn clause_and_deletion(
     cursor: &mut Cursor<'_>,
     buffers: &mut Buffers,
 ) -> Result<DeleteClauseProof, Stop>
-    ensures { ReadsValue (Both AreLiterals IsDeletion) (valued (λ p. (buffers.new.literals.items, deletion_of p)) result) cursor.old cursor.new }
+    ensures { ReadsValue (Both AreLiterals IsDeletion) (valued (deletion_held buffers.new) result) cursor.old cursor.new }
 {
     literals(cursor, &mut buffers.literals)?;
     deletion(cursor)

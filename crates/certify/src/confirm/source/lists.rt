@@ -2,6 +2,7 @@
 ghost use Rattle.std.specs.Prelude.{◌≡◌, []};
 ghost use Rattle.sat_base.specs.steps.Formats.{Times, Both};
 ghost use Rattle.sat_base.specs.steps.StepText.{IsLiteral, IsHash, AreLiterals, AreHashes, AreUnits};
+ghost use Rattle.certify.specs.confirm.ReadSteps.{both_held};
 ghost use Rattle.certify.specs.confirm.SourceReading.{ReadsValue, giving};
 
 use super::buffers::Buffers;
@@ -96,7 +97,7 @@ pub(crate) fn units(cursor: &mut Cursor<'_>, units: &mut Vec<(Lit, ClauseHash)>)
 
 /// Takes a list of literals, and then one of hashes.
 pub(crate) fn both_lists(cursor: &mut Cursor<'_>, buffers: &mut Buffers) -> Result<(), Stop>
-    ensures { ReadsValue (Both AreLiterals AreHashes) (giving (buffers.new.literals.items, buffers.new.hashes.items) result) cursor.old cursor.new }
+    ensures { ReadsValue (Both AreLiterals AreHashes) (giving (both_held buffers.new) result) cursor.old cursor.new }
 {
     literals(cursor, &mut buffers.literals)?;
     hashes(cursor, &mut buffers.hashes)
