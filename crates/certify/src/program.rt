@@ -1,9 +1,10 @@
 //! The program: what it does with its arguments and its standard streams.
-ghost use Rattle.std.specs.Prelude.{◌≡◌, ◌≤◌, ◌++◌, IfOk, OnOk, [], true};
+ghost use Rattle.std.specs.Prelude.{◌≡◌, ◌≤◌, ◌↔◌, IfOk, OnOk, [], true, false};
 ghost use Rattle.sat_base.specs.device.Device.{Takes};
 ghost use Rattle.certify.specs.run.FinishedRun.{gave, took};
 ghost use Rattle.certify.specs.declared.verdict.Verdict.TheVariants.{Yes};
-ghost use Rattle.certify.specs.program.Printing.{Prints, PrintsVerdict};
+ghost use Rattle.certify.specs.program.Printing.{Prints, PrintsVerdict, is_malformed};
+ghost use Rattle.sat_base.specs.script.Script.{reading};
 
 mod verdict_line;
 
@@ -101,7 +102,8 @@ pub fn program<R: AllocGlobal, I: CountedRead, O: CountedWrite, E: CountedWrite>
     errors: &mut E,
 ) -> u8
     ensures status { result ≤ 3 }
-    // A status of 0 or 1 behind a script: its answers were printed, and the verdict on them. 0 means that they are confirmed.
+    // Behind a status of 0 or 1 stand the answers to the script and the verdict on them, which is yes exactly where they match.
+    // 0 means a yes and a script that isn't malformed.
     ensures printed { result ≤ 1 → PrintsVerdict result (gave I.seen input.old input.new) (took O.seen output.old output.new) }
 {
     let outcome = match arguments {
@@ -145,7 +147,7 @@ fn failed<E: CountedWrite>(errors: &mut E, fault: Fault) -> u8
 /// The status behind a verdict.
 fn status(verdict: Verdict, malformed: bool) -> u8
     ensures small { result ≤ 1 }
-    ensures yes { result ≡ 0 → verdict ≡ Yes }
+    ensures done { (result ≡ 0) ↔ ((verdict ≡ Yes) × (malformed ≡ false)) }
 {
     match verdict {
         Verdict::Yes => { if malformed { REFUSED } else { DONE } }
@@ -160,6 +162,7 @@ fn print_confirmed<O: CountedWrite>(
     written: &Written,
     output: &mut O,
 ) -> Result<u8, Fault>
+    requires { written.now.malformed ≡ is_malformed (reading script.now).1 }
     ensures small { IfOk result (λ status. status ≤ 1) }
     ensures printed { IfOk result (λ status. Prints status script.now (O.seen output.old) (O.seen output.new)) }
 {
@@ -192,7 +195,9 @@ fn answer<I: CountedRead, O: CountedWrite>(
 }
 
 /// Runs a script with all rounds allowed. A failed write into memory is want of memory.
-fn run_in_memory(alloc: Global, script: &[u8]) -> Result<Written, Fault> {
+fn run_in_memory(alloc: Global, script: &[u8]) -> Result<Written, Fault>
+    ensures { IfOk result (λ w. w.malformed ≡ is_malformed (reading script.now).1) }
+{
     let mut answers = Counted::new(Vec::new(alloc));
     let mut certificate = Counted::new(Vec::new(alloc));
     match run(

@@ -1,7 +1,7 @@
 -- What the program prints.
-use Rattle.std.specs.Prelude.{ℕ, ◌≡◌, ◌↔◌, true, Bool, false, List, [], ◌∷◌, ◌++◌, codes, decimal, if◌then◌else◌}
+use Rattle.std.specs.Prelude.{ℕ, ◌≡◌, ◌↔◌, true, Bool, false, List, [], ◌∷◌, ◌++◌, codes, decimal}
 use Rattle.sat_base.specs.device.Device.{Reader, Writer, GaveEnough, Takes}
-use Rattle.sat_base.specs.script.Script.{reading}
+use Rattle.sat_base.specs.script.Script.{Ending, Clean, Malformed, reading}
 use Rattle.certify.specs.confirm.ListChecking.{the_checking}
 use Rattle.certify.specs.confirm.Matches.{Matches}
 use Rattle.certify.specs.declared.verdict.Verdict.{Verdict}
@@ -32,7 +32,12 @@ verdict_text (No ask why) = codes "c not confirmed " ++ decimal ask ++ 32 ∷ []
 abbrev pub SaysExactly : Verdict → List ℕ → List ℕ → List ℕ → Type 0
 SaysExactly v script answers certificate = (v ≡ Yes) ↔ Matches the_checking reading script answers certificate
 
--- The answers to a text were printed, and behind them the verdict on text, answers and some certificate. Only a yes has the status 0.
+abbrev pub is_malformed : Ending → Bool
+is_malformed Clean = false
+is_malformed Malformed = true
+
+-- The answers to a text were printed, and behind them the verdict on text, answers and some certificate. The status is 0 exactly for a
+-- yes on a text that isn't malformed.
 pub record Prints (status : ℕ) (text : List ℕ) (old new : Writer) : Type 0 where
   pub answers : List ℕ
   pub certificate : List ℕ
@@ -40,7 +45,7 @@ pub record Prints (status : ℕ) (text : List ℕ) (old new : Writer) : Type 0 w
   pub exact : SaysExactly verdict text answers certificate
   pub printed : Takes old new (answers ++ verdict_text verdict)
   pub flushed : new.flushed ≡ true
-  pub confirmed : status ≡ 0 → verdict ≡ Yes
+  pub done : (status ≡ 0) ↔ ((verdict ≡ Yes) × (is_malformed (reading text).1 ≡ false))
 
 -- the same of the text that a reader gave, whatever would follow
 abbrev pub PrintsVerdict : ℕ → Reader × Reader → Writer × Writer → Type 0

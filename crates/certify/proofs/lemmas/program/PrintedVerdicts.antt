@@ -1,13 +1,15 @@
 -- What is printed of texts in memory.
 use Rattle.std.proofs.Common.{ℕ, ◌≡◌, List, [], ◌∷◌, ◌++◌, Option, Some, Result, Ok, Err, IfOk, OnOk, decimal, refl, sym, ◌∙◌, ap, subst, append_assoc}
-use Rattle.std.specs.Prelude.{IfSome, codes, is_ok, if◌then◌else◌}
+use Rattle.std.specs.Prelude.{◌+◌, IfSome, codes, is_ok, is_some, length, if◌then◌else◌}
 use Rattle.sat_base.specs.device.Device.{Reader, Writer, GaveAll, GaveEnough}
 use Rattle.sat_base.proofs.lemmas.device.Given.{enough_all, enough_told}
-use Rattle.sat_base.specs.script.Script.{reading}
+use Rattle.sat_base.specs.script.Script.{Ending, Clean, Malformed, reading}
 use Rattle.certify.specs.confirm.ListChecking.{the_checking}
 use Rattle.certify.specs.confirm.Matches.{Matches}
 use Rattle.certify.specs.confirm.VerdictPromises.{Exact, Given}
-use Rattle.certify.specs.program.Printing.{Prints, PrintsVerdict, SaysExactly, verdict_text, why_text}
+use Rattle.certify.specs.program.Printing.{Prints, PrintsVerdict, SaysExactly, is_malformed, verdict_text, why_text}
+use Rattle.certify.specs.run.FinishedRun.{malformed_at}
+use Rattle.certify.specs.declared.summary.Summary.{Summary}
 use Rattle.certify.specs.declared.verdict.Verdict.{Verdict}
 use Rattle.certify.specs.declared.verdict.Verdict.TheVariants.{Yes, No}
 use Rattle.certify.specs.declared.verdict.Why.{Why}
@@ -36,3 +38,12 @@ exactly_told (Err e) a x b y c z s t u d f g h = tt
 pub prints_given : {E : Type 0} (r : Result ℕ E) (x y : Reader) (a b : Writer) (text : List ℕ) → GaveAll x y text → IfOk r (λ s. Prints s text a b) → IfOk r (λ s. PrintsVerdict s (x, y) (a, b))
 prints_given (Ok s) x y a b text g p = enough_all x y (λ k. Prints s k a b) text g p
 prints_given (Err e) x y a b text g p = tt
+
+malformed_is : (n : ℕ) (ending : Ending) → is_some (malformed_at n ending) ≡ is_malformed ending
+malformed_is n Clean = refl
+malformed_is n Malformed = refl
+
+-- whether a summary says that the text is malformed
+pub malformed_told : (summary : Summary) (x y : Reader) (text : List ℕ) {P : List ℕ → Type 0} → x.to_come ≡ Some text → GaveEnough x y P → ((t : List ℕ) → P t → summary.malformed ≡ malformed_at (length (reading t).0 + 1) (reading t).1)
+    → is_some summary.malformed ≡ is_malformed (reading text).1
+malformed_told summary x y text {P} e h says = ap is_some (says text (told x y P text e h)) ∙ malformed_is (length (reading text).0 + 1) (reading text).1

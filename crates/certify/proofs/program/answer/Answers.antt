@@ -1,5 +1,6 @@
-use Rattle.std.proofs.Common.{ℕ, List, IfOk, subst}
-use Rattle.certify.specs.program.Printing.{Prints}
+use Rattle.std.proofs.Common.{ℕ, ◌≡◌, ◌∙◌, List, IfOk, sym, subst}
+use Rattle.sat_base.specs.script.Script.{reading}
+use Rattle.certify.specs.program.Printing.{Prints, is_malformed}
 use Rattle.certify.proofs.lemmas.program.PrintedVerdicts.{prints_given}
 use Rattle.certify.proofs.program.answer.Goals as goal
 
@@ -11,3 +12,7 @@ returns-clause-printed g c =
     let b = g.O.CountedWrite.seen c.print_confirmed.new.output in
     prints_given c.print_confirmed.result x y a b c.in_ok-script.script.items c.in_ok-script.ensures.gave
     (subst (λ (text : List ℕ). IfOk c.print_confirmed.result (λ s. Prints s text a b)) c.deref-2.ensures.value c.print_confirmed.ensures.printed)
+
+pub print_confirmed-requires : goal.print_confirmed-requires
+print_confirmed-requires g c =
+    subst (λ (text : List ℕ). c.in_ok-written.written.malformed ≡ is_malformed (reading text).1) (c.deref.ensures.value ∙ sym c.deref-2.ensures.value) c.in_ok-written.ensures
