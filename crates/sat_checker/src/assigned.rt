@@ -1,8 +1,10 @@
 //! Literals that are assumed, with a mark by code for each.
-ghost use Rattle.std.specs.Prelude.{◌≡◌, ◌+◌, ◌-◌, ◌<◌, ◌≤◌, List, [], ◌∷◌, drop, length, OnOk, OnErr, false, reverse};
+ghost use Rattle.std.specs.Prelude.{◌≡◌, ◌+◌, ◌-◌, ◌<◌, ◌≤◌, List, [], ◌∷◌, drop, length, OnOk, OnErr, false, reverse, ℕ, not, filter, ◌==◌, if◌then◌else◌};
+ghost use Rattle.sat_base.specs.values.Literals.{variable};
+ghost use Rattle.sat_checker.specs.inner.Marks.{is_marked};
 ghost use Rattle.sat_checker.specs.LiteralSets.{is_among};
 
-use sat_base::Lit;
+use sat_base::{Lit, Var};
 use std::alloc::{AllocError, Global};
 use std::marker::Model;
 
@@ -81,6 +83,15 @@ impl Assigned {
         }
     }
 
+    /// Forgets the literals of a variable.
+    pub fn forget_var(&mut self, var: Var)
+        ensures { self.new ≡ filter (λ l. not (variable l == var)) self.old }
+    {
+        unmark(&mut self.marks, var.lit(true));
+        unmark(&mut self.marks, var.lit(false));
+        self.trail.retain(|lit| lit.var() != var);
+    }
+
     /// Forgets the newest literals, so that so many are left.
     pub fn undo_to(&mut self, left: usize)
         requires { left ≤ length self.old }
@@ -89,5 +100,14 @@ impl Assigned {
         for _ in left..self.len() {
             self.forget();
         }
+    }
+}
+
+fn unmark(marks: &mut Vec<bool>, lit: Lit)
+    ensures { (l : ℕ) → is_marked marks.new.items l ≡ (if l == lit then false else is_marked marks.old.items l) }
+{
+    let place = lit.code();
+    if place < marks.len() {
+        marks[place] = false;
     }
 }

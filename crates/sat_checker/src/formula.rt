@@ -1,22 +1,27 @@
 //! The stored formula: clauses, units, and what is recorded of them.
-ghost use Rattle.std.specs.Prelude.{◌≡◌, ◌+◌, ◌≤◌, ◌*◌, ℕ, [], ◌∷◌, length, IfOk, IsTrue, ◌↔◌, MatchBool, ◌<◌, map};
-ghost use Rattle.sat_base.specs.steps.Steps.{DeleteClause, Redundant, Satisfied};
-ghost use Rattle.sat_checker.specs.LiteralSets.{canonical};
-ghost use Rattle.sat_checker.specs.Accepts.{Passes, PassInTurn};
+ghost use Rattle.std.specs.Prelude.{◌≡◌, ◌+◌, ◌≤◌, ◌*◌, ℕ, [], ◌∷◌, length, IfOk, IsTrue, ◌↔◌, MatchBool, ◌<◌, map, not, ◌&&◌};
+ghost use Rattle.sat_base.specs.steps.Steps.{DeleteClause, Redundant, Satisfied, Simplified};
+ghost use Rattle.std.specs.List.{list_any};
+ghost use Rattle.sat_base.specs.values.Literals.{negated};
+ghost use Rattle.sat_checker.specs.inner.ModelTests.{are_all_true};
+ghost use Rattle.sat_checker.specs.LiteralSets.{canonical, is_among};
+ghost use Rattle.sat_checker.specs.Accepts.{Passes, PassInTurn, IsStrictSubset, FitsModel};
 ghost use Rattle.sat_checker.specs.Stored.{Stored, nothing_stored};
 ghost use Rattle.sat_checker.specs.Looks.{literal_count};
-ghost use Rattle.sat_checker.specs.Storing.{settled, with_unit, with_contradiction, with_canonical, with_stored, with_input, with_units, clause_with, without_clause};
+ghost use Rattle.sat_checker.specs.Storing.{settled, with_unit, with_contradiction, with_canonical, with_stored, with_input, with_units, clause_with, without_clause, last_literals, without_variable};
 ghost use Rattle.sat_checker.specs.inner.StoreView.{count_in};
 ghost use Rattle.sat_checker.specs.inner.Marks.{IsIncreasing};
 ghost use Rattle.sat_checker.specs.inner.FormulaView.{KeepsFormula, Becomes, TurnsIf, Deletes};
 
+use crate::assigned::Assigned;
 use crate::looks::Looks;
-use crate::sorted_lits::copy_canonical;
+use crate::sorted_lits::{copy_canonical, is_subset};
 use crate::status::{LastClause, Status};
 use crate::store::{Store, StoreError};
 use crate::units::Units;
-use sat_base::{ClauseHash, Lit};
-use std::alloc::AllocError;
+use crate::valuation::assume_apart;
+use sat_base::{ClauseHash, Lit, Var};
+use std::alloc::{AllocError, Global};
 
 /// Stored clauses and units.
 #[derive(Drop)]
@@ -27,6 +32,24 @@ pub(crate) struct Formula {
 }
 
 impl Formula {
+    /// No clause, and hashes of 64 bits.
+    pub fn new(alloc: Global) -> Formula
+        ensures { KeepsFormula result nothing_stored }
+    {
+        Formula {
+            store: Store::new(alloc),
+            units: Units::new(alloc),
+            status: Status {
+                unsat: false,
+                conflict: None,
+                last: LastClause::NoneYet,
+                next_id: 0,
+                ended: false,
+                var_deleted: false,
+            },
+        }
+    }
+
     /// The propagation check of a clause under hashes.
     pub fn check(
         &mut self,
@@ -242,5 +265,72 @@ impl Formula {
             return false;
         }
         self.take_count(false, literals, looks)
+    }
+
+    /// Whether the last irredundant clause stored is there, and is a part of these sorted literals but not all of them.
+    fn has_last_within(&self, literals: &[Lit], looks: &mut Looks) -> bool
+        requires { IsIncreasing literals.now }
+        ensures part { (f : Stored) → KeepsFormula self.now f → MatchBool result
+            (IsStrictSubset (last_literals f.last f) literals.now) (IsStrictSubset (last_literals f.last f) literals.now → ⊥) }
+        ensures looks { (f : Stored) → KeepsFormula self.now f → looks.new ≤ looks.old + literal_count f }
+    {
+        match self.status.last {
+            LastClause::NoneYet => false,
+            LastClause::Empty => is_subset(&[], literals, true),
+            LastClause::Single(id) => match self.units.numbered(id) {
+                Some(lit) => is_subset(&[lit], literals, true),
+                None => false,
+            },
+            LastClause::Long(id) => self.store.has_strict_part(id, literals, looks),
+        }
+    }
+
+    /// Deletes an irredundant clause of which the last irredundant clause stored is a part.
+    pub fn delete_simplified(&mut self, clause: &[Lit], literals: &[Lit], looks: &mut Looks) -> bool
+        requires { literals.now ≡ canonical clause.now }
+        ensures decides { Deletes result self.old (DeleteClause clause.now Simplified) self.new }
+        ensures looks { (f : Stored) → KeepsFormula self.old f → looks.new ≤ looks.old + 2 * literal_count f }
+    {
+        if !self.has_last_within(literals, looks) {
+            return false;
+        }
+        self.take_count(false, literals, looks)
+    }
+
+    /// Forgets the unit of a variable, which is deleted.
+    pub fn forget(&mut self, var: Var)
+        ensures { (f : Stored) → KeepsFormula self.old f → KeepsFormula self.new (without_variable var f) }
+    {
+        self.units.forget(var);
+        self.status.var_deleted = true;
+    }
+
+    /// Whether the literals are a model of what is stored.
+    pub fn fits(
+        &self,
+        alloc: Global,
+        literals: &[Lit],
+        looks: &mut Looks,
+    ) -> Result<bool, AllocError>
+        ensures exact { IfOk result (λ fits. (f : Stored) → KeepsFormula self.now f → IsTrue fits ↔ FitsModel f literals.now) }
+        ensures looks { (f : Stored) → KeepsFormula self.now f → looks.new ≤ looks.old + literal_count f }
+    {
+        if self.status.unsat {
+            return Ok(false);
+        }
+        let mut assigned = Assigned::new(alloc);
+        if !assume_apart(&mut assigned, literals)? {
+            return Ok(false);
+        }
+        Ok(self.are_met(&assigned, looks))
+    }
+
+    /// Whether no unit's negation is assumed, and each irredundant clause has an assumed literal.
+    fn are_met(&self, assigned: &Assigned, looks: &mut Looks) -> bool
+        ensures met { (f : Stored) → KeepsFormula self.now f
+            → result ≡ (not (list_any (λ u. is_among assigned.now (negated u.literal)) f.units) && are_all_true assigned.now f.clauses) }
+        ensures looks { (f : Stored) → KeepsFormula self.now f → looks.new ≤ looks.old + literal_count f }
+    {
+        !self.units.are_contradicted(assigned) && self.store.are_satisfied(assigned, looks)
     }
 }

@@ -8,6 +8,7 @@ pub mod hash;
 pub(crate) mod index;
 pub mod law_announcements;
 pub mod laws;
+pub(crate) mod lit_set;
 pub mod looks;
 pub mod rup;
 pub mod slots;

@@ -1,13 +1,19 @@
 //! The checker's state, and what each step makes of it.
-ghost use Rattle.std.specs.Prelude.{None, Some};
-ghost use Rattle.sat_base.specs.steps.Steps.{SolverVarName, UserVarName, ChangeSamplingMode, AddClause, AtClause, ChangeHashBits, Assumptions, End};
-ghost use Rattle.sat_checker.specs.inner.StateView.{Decides, LooksWithin};
+ghost use Rattle.std.specs.Prelude.{None, Some, ◌≤◌, ◌+◌, MatchBool};
+ghost use Rattle.sat_checker.specs.Stored.{Stored, nothing_stored};
+ghost use Rattle.sat_checker.specs.Looks.{literal_count};
+ghost use Rattle.sat_checker.specs.Accepts.{MayBeDeleted};
+ghost use Rattle.sat_base.specs.steps.Steps.{SolverVarName, UserVarName, ChangeSamplingMode, AddClause, AtClause, ChangeHashBits, Assumptions, End, UnitClauses, DeleteClause, Model, FailedAssumptions, DeleteVar};
+ghost use Rattle.sat_base.specs.steps.StepViews.{deletion_of, step_of};
+ghost use Rattle.sat_checker.specs.inner.StateView.{Keeps, Decides, LooksWithin};
 
 use crate::formula::Formula;
+use crate::lit_set::LitSet;
 use crate::looks::Looks;
+use crate::sorted_lits::{copy_canonical, copy_negated};
 use crate::store::StoreError;
 use crate::variables::Variables;
-use sat_base::{ClauseHash, HashBits, Lit, Var};
+use sat_base::{ClauseHash, DeleteClauseProof, HashBits, Lit, ProofStep, Var};
 use std::alloc::Global;
 
 /// All that steps are judged by.
@@ -16,7 +22,7 @@ pub(crate) struct State {
     alloc: Global,
     formula: Formula,
     variables: Variables,
-    assumed: Vec<Lit>,
+    assumed: LitSet,
     /// Room for the sorted literals of a clause.
     buffer: Vec<Lit>,
 }
@@ -107,8 +113,7 @@ impl State {
         ensures { Decides result self.old (Assumptions literals.now) self.new }
     {
         self.variables.learn(literals)?;
-        self.assumed.clear();
-        self.assumed.extend_from_slice(literals)?;
+        self.assumed.replace(literals)?;
         Ok(true)
     }
 
@@ -117,5 +122,148 @@ impl State {
     {
         self.formula.status.ended = true;
         Ok(true)
+    }
+
+    fn unit_clauses(
+        &mut self,
+        units: &[(Lit, ClauseHash)],
+        looks: &mut Looks,
+    ) -> Result<bool, StoreError>
+        ensures decides { Decides result self.old (UnitClauses units.now) self.new }
+        ensures looks { LooksWithin self.old (UnitClauses units.now) looks.old looks.new }
+    {
+        if !self.formula.store_units(units, looks)? {
+            return Ok(false);
+        }
+        self.variables.learn_units(units)?;
+        Ok(true)
+    }
+
+    fn delete_clause(
+        &mut self,
+        clause: &[Lit],
+        proof: DeleteClauseProof,
+        looks: &mut Looks,
+    ) -> Result<bool, StoreError>
+        ensures decides { Decides result self.old (DeleteClause clause.now (deletion_of proof)) self.new }
+        ensures looks { LooksWithin self.old (DeleteClause clause.now (deletion_of proof)) looks.old looks.new }
+    {
+        copy_canonical(&mut self.buffer, clause)?;
+        match proof {
+            DeleteClauseProof::Redundant => {
+                Ok(self.formula.delete_redundant(clause, &self.buffer, looks))
+            }
+            DeleteClauseProof::Satisfied => {
+                Ok(self.formula.delete_satisfied(clause, &self.buffer, looks))
+            }
+            DeleteClauseProof::Simplified => {
+                Ok(self.formula.delete_simplified(clause, &self.buffer, looks))
+            }
+        }
+    }
+
+    fn model(&mut self, assignment: &[Lit], looks: &mut Looks) -> Result<bool, StoreError>
+        ensures decides { Decides result self.old (Model assignment.now) self.new }
+        ensures looks { LooksWithin self.old (Model assignment.now) looks.old looks.new }
+    {
+        if !self.formula.fits(self.alloc, assignment, looks)? {
+            return Ok(false);
+        }
+        self.variables.learn(assignment)?;
+        Ok(true)
+    }
+
+    fn failed_assumptions(
+        &mut self,
+        core: &[Lit],
+        hashes: &[ClauseHash],
+        looks: &mut Looks,
+    ) -> Result<bool, StoreError>
+        ensures decides { Decides result self.old (FailedAssumptions core.now hashes.now) self.new }
+        ensures looks { LooksWithin self.old (FailedAssumptions core.now hashes.now) looks.old looks.new }
+    {
+        copy_canonical(&mut self.buffer, core)?;
+        if !self.assumed.has_all(&self.buffer) {
+            return Ok(false);
+        }
+        copy_negated(&mut self.buffer, core)?;
+        let passes = self.formula.check(&self.buffer, hashes, looks)?;
+        Ok(passes)
+    }
+
+    fn delete_var(&mut self, var: Var, looks: &mut Looks) -> Result<bool, StoreError>
+        ensures decides { Decides result self.old (DeleteVar var) self.new }
+        ensures looks { LooksWithin self.old (DeleteVar var) looks.old looks.new }
+    {
+        if !self.may_delete(var, looks) {
+            return Ok(false);
+        }
+        self.formula.forget(var);
+        self.variables.forget(var)?;
+        Ok(true)
+    }
+
+    /// Whether the variable is known, has no name, and is neither in a stored clause nor assumed.
+    fn may_delete(&self, var: Var, looks: &mut Looks) -> bool
+        ensures exact { (f : Stored) → Keeps self.now f → MatchBool result (MayBeDeleted f var) (MayBeDeleted f var → ⊥) }
+        ensures looks { (f : Stored) → Keeps self.now f → looks.new ≤ looks.old + literal_count f }
+    {
+        let data = self.variables.data(var);
+        if !data.known {
+            return false;
+        }
+        if data.name.is_some() {
+            return false;
+        }
+        if self.assumed.mentions(var) {
+            return false;
+        }
+        !self.formula.store.mention(var, looks)
+    }
+
+    /// Nothing is stored yet.
+    pub fn new(alloc: Global) -> State
+        ensures { Keeps result nothing_stored }
+    {
+        State {
+            alloc,
+            formula: Formula::new(alloc),
+            variables: Variables::new(alloc),
+            assumed: LitSet::new(alloc),
+            buffer: Vec::new(alloc),
+        }
+    }
+
+    /// Checks the next step, and takes it in if it is accepted. The answer is whether it is.
+    fn step(&mut self, step: &ProofStep<'_>, looks: &mut Looks) -> Result<bool, StoreError>
+        ensures decides { Decides result self.old (step_of step.now) self.new }
+        ensures looks { LooksWithin self.old (step_of step.now) looks.old looks.new }
+    {
+        match *step {
+            ProofStep::SolverVarName { global, solver } => {
+                self.solver_var_name(global, solver, looks)
+            }
+            ProofStep::UserVarName { global, user } => self.user_var_name(global, user),
+            ProofStep::DeleteVar { var } => self.delete_var(var, looks),
+            ProofStep::ChangeSamplingMode { var, sample } => {
+                self.change_sampling_mode(var, sample)
+            }
+            ProofStep::AddClause { clause } => self.add_clause(clause, looks),
+            ProofStep::AtClause {
+                redundant,
+                clause,
+                propagation_hashes,
+            } => self.at_clause(redundant, clause, propagation_hashes, looks),
+            ProofStep::UnitClauses { units } => self.unit_clauses(units, looks),
+            ProofStep::DeleteClause { clause, proof } => self.delete_clause(clause, proof, looks),
+            ProofStep::ChangeHashBits { bits } => self.change_hash_bits(bits, looks),
+            ProofStep::Model { assignment } => self.model(assignment, looks),
+            ProofStep::Assumptions { assumptions } => self.assumptions(assumptions),
+            ProofStep::FailedAssumptions {
+                failed_core,
+                propagation_hashes,
+            } => self.failed_assumptions(failed_core, propagation_hashes, looks),
+            ProofStep::End => self.end(),
+        }
     }
 }

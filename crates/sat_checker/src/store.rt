@@ -2,16 +2,21 @@
 ghost use Rattle.std.specs.Prelude.{◌≡◌, ◌+◌, ◌*◌, ◌≤◌, ◌<◌, ◌^◌, IfOk, OnOk, Err, MatchBool, length, map, IsTrue, ◌↔◌};
 ghost use Rattle.sat_checker.specs.Propagation.{PassesCheck};
 ghost use Rattle.sat_checker.specs.inner.Marks.{IsIncreasing};
-ghost use Rattle.sat_checker.specs.Stored.{Stored, bucket};
+ghost use Rattle.sat_checker.specs.Stored.{Stored, bucket, nothing_stored};
 ghost use Rattle.sat_checker.specs.Looks.{literal_count};
 ghost use Rattle.sat_checker.specs.inner.StoreView.{KeepsClauses, Stores, count_in};
-ghost use Rattle.sat_checker.specs.Storing.{clause_with, with_solver_name, without_clause};
+ghost use Rattle.sat_checker.specs.Storing.{clause_numbered, clause_with, with_solver_name, without_clause};
+ghost use Rattle.sat_checker.specs.Accepts.{IsStrictSubset};
+ghost use Rattle.sat_checker.specs.LiteralSets.{mentions};
+ghost use Rattle.sat_checker.specs.inner.ModelTests.{are_all_true};
+ghost use Rattle.std.specs.List.{list_any};
 
 use crate::assigned::Assigned;
 use crate::clauses::Clauses;
 use crate::hash::ClauseHasher;
 use crate::looks::Looks;
 use crate::rup::check_clause_with_hashes;
+use crate::sorted_lits::is_subset;
 use sat_base::{ClauseHash, HashBits, Lit, Var};
 use std::alloc::{AllocError, Global};
 
@@ -40,7 +45,24 @@ pub(crate) struct Store {
     pub(crate) hasher: ClauseHasher,
 }
 
+/// All 64 bits of a hash.
+fn all_bits() -> HashBits
+    ensures { result ≡ 64 }
+{
+    HashBits::new(64).unwrap()
+}
+
 impl Store {
+    /// No clause, and hashes of 64 bits.
+    pub fn new(alloc: Global) -> Store
+        ensures { KeepsClauses result nothing_stored }
+    {
+        Store {
+            clauses: Clauses::new(alloc),
+            hasher: ClauseHasher::new(alloc, all_bits()),
+        }
+    }
+
     /// The propagation check of a clause under hashes, over the units that are assigned, which stay.
     #[tactic(auto, using(crate::proofs::lemmas::store::Keeping::checking))]
     pub fn check(
@@ -132,5 +154,35 @@ impl Store {
         self.hasher.set_solver_name(var, name)?;
         self.clauses.rehash(alloc, &self.hasher, looks)?;
         Ok(())
+    }
+
+    /// Whether the clause with this id is there, and is a part of these sorted literals but not all of them.
+    pub fn has_strict_part(&self, id: u64, literals: &[Lit], looks: &mut Looks) -> bool
+        requires { IsIncreasing literals.now }
+        ensures part { (f : Stored) → KeepsClauses self.now f → MatchBool result
+            (IsStrictSubset (clause_numbered id f.clauses) literals.now) (IsStrictSubset (clause_numbered id f.clauses) literals.now → ⊥) }
+        ensures looks { (f : Stored) → KeepsClauses self.now f → looks.new ≤ looks.old + literal_count f }
+    {
+        let _count = self.clauses.len();
+        match self.clauses.place_numbered(id) {
+            Some(place) => is_subset(self.clauses.literals(place, looks), literals, true),
+            None => false,
+        }
+    }
+
+    /// Whether a stored clause has a literal of the variable.
+    pub fn mention(&self, var: Var, looks: &mut Looks) -> bool
+        ensures found { (f : Stored) → KeepsClauses self.now f → result ≡ list_any (λ c. mentions c.literals var) f.clauses }
+        ensures looks { (f : Stored) → KeepsClauses self.now f → looks.new ≤ looks.old + literal_count f }
+    {
+        self.clauses.mention(var, looks)
+    }
+
+    /// Whether each clause that stands as irredundant has an assumed literal.
+    pub fn are_satisfied(&self, assigned: &Assigned, looks: &mut Looks) -> bool
+        ensures found { (f : Stored) → KeepsClauses self.now f → result ≡ are_all_true assigned.now f.clauses }
+        ensures looks { (f : Stored) → KeepsClauses self.now f → looks.new ≤ looks.old + literal_count f }
+    {
+        self.clauses.are_satisfied(assigned, looks)
     }
 }

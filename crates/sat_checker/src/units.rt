@@ -1,6 +1,6 @@
 //! The stored units.
-ghost use Rattle.std.specs.Prelude.{◌≡◌, ◌++◌, ◌∷◌, [], ◌+◌, ◌*◌, ◌≤◌, ◌↔◌, false, length, map, IfOk, IsTrue, OnOk, reverse, MatchOption, None, Some};
-ghost use Rattle.sat_base.specs.values.Literals.{negated};
+ghost use Rattle.std.specs.Prelude.{◌≡◌, ◌++◌, ◌∷◌, [], ◌+◌, ◌*◌, ◌≤◌, ◌↔◌, false, length, map, IfOk, IsTrue, OnOk, reverse, MatchOption, None, Some, filter, not, ◌==◌};
+ghost use Rattle.sat_base.specs.values.Literals.{negated, variable};
 ghost use Rattle.std.specs.List.{list_any};
 ghost use Rattle.sat_checker.specs.LiteralSets.{is_among};
 ghost use Rattle.sat_checker.specs.Storing.{unit_id, unit_numbered};
@@ -12,7 +12,7 @@ ghost use Rattle.sat_checker.specs.inner.StoreView.{KeepsClauses};
 use crate::assigned::Assigned;
 use crate::looks::Looks;
 use crate::store::Store;
-use sat_base::{ClauseHash, Lit};
+use sat_base::{ClauseHash, Lit, Var};
 use std::alloc::{AllocError, Global};
 use std::marker::Model;
 
@@ -93,6 +93,14 @@ impl Units {
             }
         }
         None
+    }
+
+    /// Forgets the unit of a variable.
+    pub fn forget(&mut self, var: Var)
+        ensures { self.new ≡ filter (λ u. not (variable u.literal == var)) self.old }
+    {
+        self.assigned.forget_var(var);
+        self.list.retain(|unit| unit.lit.var() != var);
     }
 
     /// The unit with this id.

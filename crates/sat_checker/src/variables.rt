@@ -7,7 +7,7 @@ ghost use Rattle.sat_checker.specs.Stored.{Hide, Sample, Variable, Witness, unkn
 ghost use Rattle.sat_checker.specs.inner.VariablesView.{mode_in, variable_of, variable_at, holder_at, known_if, AreSampling, KeepsVariables, VariablesAnswer};
 ghost use Rattle.sat_base.specs.steps.Steps.{UserVarName, ChangeSamplingMode};
 
-use sat_base::{Lit, Var};
+use sat_base::{ClauseHash, Lit, Var};
 use std::alloc::{AllocError, Global};
 
 /// What a variable is to the user's formula.
@@ -157,6 +157,17 @@ impl Variables {
             → KeepsVariables self.new (λ v. known_if (is_among (map variable literals.now) v) (g v))) }
     {
         self.ensure_vars(literals)?;
+        Ok(())
+    }
+
+    /// Unknown variables of units become sampling ones.
+    pub fn learn_units(&mut self, units: &[(Lit, ClauseHash)]) -> Result<(), AllocError>
+        ensures { OnOk result ((g : ℕ → Variable) → KeepsVariables self.old g
+            → KeepsVariables self.new (λ v. known_if (is_among (map variable (map (λ u. u.0) units.now)) v) (g v))) }
+    {
+        for unit in units {
+            self.learn_var(unit.0.var())?;
+        }
         Ok(())
     }
 

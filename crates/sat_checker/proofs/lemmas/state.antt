@@ -3,3 +3,4 @@ pub mod Scanning
 pub mod Units
 pub mod Living
 pub mod Models
+pub mod Forgetting

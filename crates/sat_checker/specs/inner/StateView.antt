@@ -1,6 +1,7 @@
 -- What the checker's state keeps of the definition's, and when its answer to a step is right.
 use Rattle.std.specs.Prelude.{ℕ, ◌≡◌, ◌+◌, ◌≤◌, Bool, Result}
 use Rattle.sat_base.specs.steps.Steps.{Step}
+use Rattle.sat_checker.specs.LiteralSets.{canonical}
 use Rattle.sat_checker.specs.Stored.{Stored}
 use Rattle.sat_checker.specs.Accepts.{Accepts, effect}
 use Rattle.sat_checker.specs.Looks.{most_looks}
@@ -12,7 +13,7 @@ use Rattle.sat_checker.specs.declared.store.StoreError.{StoreError}
 pub record Keeps (state : State) (f : Stored) : Type 0 where
   pub formula : KeepsFormula state.formula f
   pub variables : KeepsVariables state.variables f.variables
-  pub assumed : state.assumed.items ≡ f.assumed
+  pub assumed : state.assumed ≡ canonical f.assumed
 
 -- Whatever state was kept, a step that it accepts is one that the definition accepts, and what the step leaves is kept then. One that it refuses is one that the definition refuses.
 abbrev pub Decides : Result Bool StoreError → State → Step → State → Type 0

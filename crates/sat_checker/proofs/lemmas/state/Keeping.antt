@@ -1,11 +1,16 @@
 -- What steps leave of the checker's state.
-use Rattle.std.proofs.Common.{ℕ, ◌+◌, ◌*◌, ◌≤◌, ◌≡◌, Bool, true, false, cond, List, [], ◌∷◌, length, Option, None, Some, refl, sym, ◌∙◌, ap, subst, arith, Result, Ok, Err, IfOk, ◌↔◌}
+use Rattle.std.proofs.Common.{ℕ, ◌+◌, ◌*◌, ◌≤◌, ◌≡◌, Bool, true, false, ◌&&◌, cond, List, [], ◌∷◌, length, Option, None, Some, refl, sym, ◌∙◌, ap, subst, arith, Result, Ok, Err, IfOk, ◌↔◌}
 use Rattle.std.specs.List.{AllByRecursion}
+use Rattle.std.specs.Bool.{MatchBool}
+use Rattle.std.proofs.lemmas.Bool.{true≢false}
 use Rattle.sat_base.specs.values.Literals.{variable}
-use Rattle.sat_base.specs.steps.Steps.{Step, SolverVarName, AddClause, AtClause}
+use Rattle.sat_base.specs.steps.Steps.{Step, SolverVarName, AddClause, AtClause, DeleteClause}
+use Rattle.sat_base.specs.steps.StepViews.{deletion_of}
+use Rattle.sat_base.specs.declared.steps.step.DeleteClauseProof.{DeleteClauseProof}
+use Rattle.sat_checker.specs.LiteralSets.{canonical, is_part}
 use Rattle.sat_checker.specs.Stored.{Stored, StoredUnit, Variable, Sample, mode_of}
 use Rattle.sat_checker.specs.Storing.{with_stored, with_input, with_units, with_literals_known, with_solver_name, with_known}
-use Rattle.sat_checker.specs.Accepts.{Passes, Accepts, effect}
+use Rattle.sat_checker.specs.Accepts.{Passes, Accepts, effect, IsStrictSubset}
 use Rattle.sat_checker.specs.Spent.{IsSpent}
 use Rattle.sat_checker.specs.inner.StoreView.{KeepsClauses}
 use Rattle.sat_checker.specs.inner.FormulaView.{KeepsFormula, Turns, TurnsIf}
@@ -16,6 +21,8 @@ use Rattle.sat_checker.specs.declared.store.StoreError.TheVariants.{OutOfMemory,
 use Rattle.sat_checker.specs.declared.formula.Formula.{Formula}
 use Rattle.sat_checker.specs.declared.state.State.{State}
 use Rattle.sat_checker.specs.declared.variables.Variables.{Variables}
+use Rattle.sat_checker.proofs.lemmas.sets.Canonical.{canonical_among}
+use Rattle.sat_checker.proofs.lemmas.state.Scanning.{same_part}
 use Rattle.sat_checker.proofs.lemmas.meaning.Names.{stored_same, units_same, settled_same}
 
 -- the check over the formula's parts
@@ -37,23 +44,23 @@ sampling_kept vs f [] k h = tt
 sampling_kept vs f (l ∷ ls) k h = (sym (ap (λ (x : Variable). x.mode) (k.each (variable l))) ∙ h.0, sampling_kept vs f ls k h.1)
 
 -- a clause that was derived
-pub derived : (new : State) (f : Stored) (r : Bool) (c : List ℕ) → KeepsFormula new.formula (with_stored r c (with_literals_known c f)) → KeepsVariables new.variables (with_literals_known c f).variables → new.assumed.items ≡ f.assumed
+pub derived : (new : State) (f : Stored) (r : Bool) (c : List ℕ) → KeepsFormula new.formula (with_stored r c (with_literals_known c f)) → KeepsVariables new.variables (with_literals_known c f).variables → new.assumed ≡ canonical f.assumed
     → Keeps new (with_stored r c (with_literals_known c f))
-derived new f r c F V a = let s = stored_same r c (with_literals_known c f) in record { formula = F; variables = subst (KeepsVariables new.variables) (sym s.variables) V; assumed = a ∙ sym s.assumed }
+derived new f r c F V a = let s = stored_same r c (with_literals_known c f) in record { formula = F; variables = subst (KeepsVariables new.variables) (sym s.variables) V; assumed = a ∙ ap canonical (sym s.assumed) }
 
 -- a clause of the formula
-pub added : (new : State) (f : Stored) (c : List ℕ) → f.unsat ≡ false → KeepsFormula new.formula (with_input c (with_literals_known c f)) → KeepsVariables new.variables (with_literals_known c f).variables → new.assumed.items ≡ f.assumed
+pub added : (new : State) (f : Stored) (c : List ℕ) → f.unsat ≡ false → KeepsFormula new.formula (with_input c (with_literals_known c f)) → KeepsVariables new.variables (with_literals_known c f).variables → new.assumed ≡ canonical f.assumed
     → Keeps new (effect (AddClause c) f)
 added new f c e F V a =
     let s = stored_same false c (with_literals_known c f) in
-    subst (λ b. Keeps new (cond b f (with_input c (with_literals_known c f)))) (sym e) (record { formula = F; variables = subst (KeepsVariables new.variables) (sym s.variables) V; assumed = a ∙ sym s.assumed })
+    subst (λ b. Keeps new (cond b f (with_input c (with_literals_known c f)))) (sym e) (record { formula = F; variables = subst (KeepsVariables new.variables) (sym s.variables) V; assumed = a ∙ ap canonical (sym s.assumed) })
 
 -- a solver name
-pub renamed : (new : State) (f : Stored) (v : ℕ) (name : Option ℕ) (n : ℕ) → name ≡ Some n → KeepsFormula new.formula (with_solver_name v (Some n) f) → KeepsVariables new.variables (with_known (v ∷ []) f).variables → new.assumed.items ≡ f.assumed
+pub renamed : (new : State) (f : Stored) (v : ℕ) (name : Option ℕ) (n : ℕ) → name ≡ Some n → KeepsFormula new.formula (with_solver_name v (Some n) f) → KeepsVariables new.variables (with_known (v ∷ []) f).variables → new.assumed ≡ canonical f.assumed
     → Keeps new (effect (SolverVarName v name) f)
 renamed new f v name n e F V a = subst (λ o. Keeps new (effect (SolverVarName v o) f)) (sym e) (record { formula = F; variables = V; assumed = a })
 
-pub unnamed : (new : State) (f : Stored) (v : ℕ) (name : Option ℕ) → name ≡ None → KeepsFormula new.formula (with_solver_name v None f) → KeepsVariables new.variables f.variables → new.assumed.items ≡ f.assumed → Keeps new (effect (SolverVarName v name) f)
+pub unnamed : (new : State) (f : Stored) (v : ℕ) (name : Option ℕ) → name ≡ None → KeepsFormula new.formula (with_solver_name v None f) → KeepsVariables new.variables f.variables → new.assumed ≡ canonical f.assumed → Keeps new (effect (SolverVarName v name) f)
 unnamed new f v name e F V a = subst (λ o. Keeps new (effect (SolverVarName v o) f)) (sym e) (record { formula = F; variables = V; assumed = a })
 
 -- looks of a check, and of storing
@@ -62,3 +69,29 @@ looks_checked old one k n h = let e : (5 + 2 * k) * n ≡ 5 * n + k * n + k * n 
 
 pub looks_stored : (old one two k n : ℕ) → one ≤ old + k * n → two ≤ one + n → two ≤ old + (5 + 2 * k) * n
 looks_stored old one two k n h g = let e : (5 + 2 * k) * n ≡ 5 * n + k * n + k * n = grind arith in omega arith
+
+-- the last irredundant clause, beside a clause or its sorted literals
+pub strict_on : (o : Option (List ℕ)) (c ls : List ℕ) → ls ≡ canonical c → IsStrictSubset o c → IsStrictSubset o ls
+strict_on None c ls e h = h
+strict_on (Some ms) c ls e h = subst (IsStrictSubset (Some ms)) (sym e) (same_part ms c ms (canonical c) (λ l. refl) (canonical_among c) ∙ h.0, same_part c ms (canonical c) ms (canonical_among c) (λ l. refl) ∙ h.1)
+
+pub strict_back : (o : Option (List ℕ)) (c ls : List ℕ) → ls ≡ canonical c → IsStrictSubset o ls → IsStrictSubset o c
+strict_back None c ls e h = h
+strict_back (Some ms) c ls e h =
+    let k = subst (IsStrictSubset (Some ms)) e h in (sym (same_part ms c ms (canonical c) (λ l. refl) (canonical_among c)) ∙ k.0, sym (same_part c ms (canonical c) ms (canonical_among c) (λ l. refl)) ∙ k.1)
+
+-- a core, beside the assumptions
+pub within_assumed : (b : Bool) (core assumed part whole : List ℕ) → part ≡ canonical core → whole ≡ canonical assumed → b ≡ is_part part whole → b ≡ is_part core assumed
+within_assumed b core assumed part whole p w e =
+    e ∙ ap (λ x. is_part x whole) p ∙ ap (is_part (canonical core)) w ∙ same_part core assumed (canonical core) (canonical assumed) (canonical_among core) (canonical_among assumed)
+
+pub core_passes : (b : Bool) (P Q K : Type 0) → P → K → (b ≡ true) ↔ Q → MatchBool b ((P × Q) × K) (P × Q → ⊥)
+core_passes true P Q K p k h = ((p, h.0 refl), k)
+core_passes false P Q K p k h = λ q. true≢false (sym (h.1 q.1))
+
+-- a deletion, by its proof
+pub deleted : (new : State) (f : Stored) (c : List ℕ) (p q : DeleteClauseProof) (b : Bool) → p ≡ q
+    → MatchBool b (Accepts f (DeleteClause c (deletion_of q)) × Keeps new (effect (DeleteClause c (deletion_of q)) f)) (Accepts f (DeleteClause c (deletion_of q)) → ⊥)
+    → MatchBool b (Accepts f (DeleteClause c (deletion_of p)) × Keeps new (effect (DeleteClause c (deletion_of p)) f)) (Accepts f (DeleteClause c (deletion_of p)) → ⊥)
+deleted new f c p q b e h =
+    subst (λ x. MatchBool b (Accepts f (DeleteClause c (deletion_of x)) × Keeps new (effect (DeleteClause c (deletion_of x)) f)) (Accepts f (DeleteClause c (deletion_of x)) → ⊥)) (sym e) h

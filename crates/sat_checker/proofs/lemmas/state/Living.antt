@@ -1,13 +1,14 @@
 -- The clauses that aren't gone, place by place.
 use Rattle.std.proofs.Common.{ℕ, zero, suc, ◌+◌, ◌<◌, ◌≤◌, ◌≡◌, Bool, true, false, ◌||◌, ◌&&◌, cond, eqb, List, [], ◌∷◌, ◌++◌, length, drop, map, Option, None, Some, refl, sym, ◌∙◌, ap, arith}
 use Rattle.std.proofs.lemmas.Bool.{eq-eqb, ne_eqb, or_right, true≢false}
-use Rattle.std.specs.List.{list_any}
+use Rattle.std.specs.List.{list_any, AllByRecursion}
+use Rattle.sat_checker.specs.inner.Marks.{IsIncreasing}
 use Rattle.sat_checker.specs.LiteralSets.{is_among}
 use Rattle.sat_checker.specs.Looks.{total_length}
 use Rattle.sat_checker.specs.Stored.{StoredClause}
 use Rattle.sat_checker.specs.Storing.{unless_gone, clause_numbered}
 use Rattle.sat_checker.specs.inner.ModelTests.{are_all_true}
-use Rattle.sat_checker.specs.inner.SlotView.{Slot, slot_at, literals_at, is_gone, live, live_length}
+use Rattle.sat_checker.specs.inner.SlotView.{Slot, slot_at, literals_at, all_lits, is_gone, live, live_length}
 
 module _ (ss : List Slot) (i : ℕ) (inside : i < length ss) where
   pub live_step : live (drop i ss) ≡ unless_gone (slot_at ss i).clause ++ live (drop (i + 1) ss)
@@ -62,3 +63,17 @@ module _ (ss : List Slot) (i : ℕ) (inside : i < length ss) where
       go false e = omega (arith, e)
 
 pub ruleset finding_place = (numbered_gone, numbered_here, numbered_other)
+
+-- the literals at a place
+pub at_place : (ss : List Slot) (i : ℕ) → AllByRecursion IsIncreasing (all_lits ss) → i < length ss → IsIncreasing (literals_at ss i)
+at_place [] i h l = absurd (omega arith)
+at_place (s ∷ ss) zero h l = h.0
+at_place (s ∷ ss) (suc i) h l = at_place ss i h.1 (omega arith)
+
+pub numbered_length : (id : ℕ) (ls : List ℕ) (cs : List StoredClause) → clause_numbered id cs ≡ Some ls → length ls ≤ total_length (map (λ c. c.literals) cs)
+numbered_length id ls [] e = absurd cc
+numbered_length id ls (c ∷ cs) e = go (eqb c.id id) e (numbered_length id ls cs)
+  where
+    go : (b : Bool) → cond b (Some c.literals) (clause_numbered id cs) ≡ Some ls → (clause_numbered id cs ≡ Some ls → length ls ≤ total_length (map (λ c. c.literals) cs)) → length ls ≤ length c.literals + total_length (map (λ c. c.literals) cs)
+    go true e ih = let k : c.literals ≡ ls = cc in let m = ap length k in omega (arith, m)
+    go false e ih = let k = ih e in omega (arith, k)

@@ -5,6 +5,7 @@ use Rattle.std.proofs.lemmas.List.{drop_more}
 use Rattle.std.specs.Bool.{MatchBool}
 use Rattle.sat_base.specs.values.Literals.{variable, negated}
 use Rattle.sat_base.specs.steps.Steps.{UnitClauses}
+use Rattle.sat_checker.specs.LiteralSets.{canonical}
 use Rattle.sat_checker.specs.Looks.{literal_count}
 use Rattle.sat_checker.specs.Spent.{IsSpent}
 use Rattle.sat_checker.specs.Stored.{Stored, is_unit}
@@ -116,13 +117,13 @@ known_units : (vs ls : List ℕ) (f : Stored) → with_units ls (with_known vs f
 known_units vs [] f = refl
 known_units vs (l ∷ ls) f = ap (with_units ls) (known_unit vs l f) ∙ known_units vs ls (with_unit l f)
 
-pub units_stored : (new : State) (f : Stored) (us : List (ℕ × ℕ)) → KeepsFormula new.formula (with_units (firsts us) f) → KeepsVariables new.variables (with_literals_known (firsts us) f).variables → new.assumed.items ≡ f.assumed → Keeps new (effect (UnitClauses us) f)
+pub units_stored : (new : State) (f : Stored) (us : List (ℕ × ℕ)) → KeepsFormula new.formula (with_units (firsts us) f) → KeepsVariables new.variables (with_literals_known (firsts us) f).variables → new.assumed ≡ canonical f.assumed → Keeps new (effect (UnitClauses us) f)
 units_stored new f us F V a =
     let s = units_same (firsts us) f in
     subst (Keeps new) (sym (known_units (map variable (firsts us)) (firsts us) f)) (record {
       formula = F;
       variables = subst (λ g. KeepsVariables new.variables (with_literals_known (firsts us) (record f { variables = g })).variables) (sym s.variables) V;
-      assumed = a ∙ sym s.assumed;
+      assumed = a ∙ ap canonical (sym s.assumed);
     })
 
 pub spent_known : (f : Stored) (us : List (ℕ × ℕ)) → IsSpent (with_units (firsts us) f) → IsSpent (effect (UnitClauses us) f)

@@ -1,7 +1,8 @@
 -- What is kept of variables.
-use Rattle.std.proofs.Common.{ℕ, ◌+◌, ◌<◌, ◌≡◌, Bool, true, false, not, ◌||◌, cond, eqb, List, [], ◌∷◌, length, drop, get_or, map, Option, Some, None, is_some, refl, sym, ◌∙◌, ap, subst}
+use Rattle.std.proofs.Common.{ℕ, zero, suc, arith, ◌++◌, take, ◌+◌, ◌<◌, ◌≡◌, Bool, true, false, not, ◌||◌, cond, eqb, List, [], ◌∷◌, length, drop, get_or, map, Option, Some, None, is_some, refl, sym, ◌∙◌, ap, subst}
 use Rattle.std.proofs.lemmas.Bool.{true≢false, eqb-true, eqb-false}
 use Rattle.std.proofs.lemmas.List.{drop_more}
+use Rattle.sat_checker.proofs.lemmas.sets.Order.{among-append}
 use Rattle.std.specs.Bool.{MatchBool}
 use Rattle.std.specs.List.{AllByRecursion}
 use Rattle.sat_base.specs.values.Literals.{variable}
@@ -194,3 +195,19 @@ only_one v w = eqb_comm w v ∙ go (eqb v w)
     go : (b : Bool) → b ≡ (b || false)
     go true = refl
     go false = refl
+
+pub kept_same : (vs : Variables) (g h : ℕ → Variable) → ((v : ℕ) → g v ≡ h v) → KeepsVariables vs g → KeepsVariables vs h
+kept_same vs g h e k = record { each = λ v. k.each v ∙ e v; holders = λ name v. ((λ t. ap (λ x. x.name) (sym (e v)) ∙ (k.holders name v).0 t), (λ t. (k.holders name v).1 (ap (λ x. x.name) (e v) ∙ t))) }
+
+-- one unit's variable more is known
+pub unit_known : (us : List (ℕ × ℕ)) (i : ℕ) (u : ℕ × ℕ) (w v : ℕ) (x : Variable) → i < length us → u ≡ get_or us i u → w ≡ variable u.0
+    → known_if (is_among (w ∷ []) v) (known_if (is_among (map variable (map (λ u. u.0) (take i us))) v) x) ≡ known_if (is_among (map variable (map (λ u. u.0) (take (i + 1) us))) v) x
+unit_known us i u w v x l is e =
+    let m : i + 1 ≡ suc i = omega arith in
+    twice (is_among (map variable (map (λ u. u.0) (take i us))) v) (is_among (w ∷ []) v) x
+    ∙ ap (λ b. known_if b x) (sym (among-append (map variable (map (λ u. u.0) (take i us))) (w ∷ []) v) ∙ ap (λ ws. is_among ws v) (ap (λ n. map variable (map (λ u. u.0) (take i us)) ++ n ∷ []) (e ∙ ap (λ t. variable t.0) is) ∙ sym (go us i l)) ∙ ap (λ k. is_among (map variable (map (λ u. u.0) (take k us))) v) (sym m))
+  where
+    go : (ts : List (ℕ × ℕ)) (j : ℕ) → j < length ts → map variable (map (λ u. u.0) (take (suc j) ts)) ≡ map variable (map (λ u. u.0) (take j ts)) ++ variable (get_or ts j u).0 ∷ []
+    go [] j k = absurd (omega arith)
+    go (t ∷ ts) zero k = refl
+    go (t ∷ ts) (suc j) k = ap (λ ws. variable t.0 ∷ ws) (go ts j (omega arith))
