@@ -1,11 +1,12 @@
 //! The checker's state, and what each step makes of it.
 ghost use Rattle.std.specs.Prelude.{None, Some, ◌≤◌, ◌+◌, MatchBool};
 ghost use Rattle.sat_checker.specs.Stored.{Stored, nothing_stored};
-ghost use Rattle.sat_checker.specs.Looks.{literal_count};
+ghost use Rattle.sat_checker.specs.Looks.{literal_count, most_looks};
+ghost use Rattle.sat_checker.specs.Storing.{settled};
 ghost use Rattle.sat_checker.specs.Accepts.{MayBeDeleted};
 ghost use Rattle.sat_base.specs.steps.Steps.{SolverVarName, UserVarName, ChangeSamplingMode, AddClause, AtClause, ChangeHashBits, Assumptions, End, UnitClauses, DeleteClause, Model, FailedAssumptions, DeleteVar};
 ghost use Rattle.sat_base.specs.steps.StepViews.{deletion_of, step_of};
-ghost use Rattle.sat_checker.specs.inner.StateView.{Keeps, Decides, LooksWithin};
+ghost use Rattle.sat_checker.specs.inner.StateView.{Keeps, Decides, LooksWithin, Judges};
 
 use crate::formula::Formula;
 use crate::lit_set::LitSet;
@@ -265,5 +266,18 @@ impl State {
             } => self.failed_assumptions(failed_core, propagation_hashes, looks),
             ProofStep::End => self.end(),
         }
+    }
+
+    /// Gives a pending unit conflict its id, checks the next step, and takes it in if it is accepted. The answer is whether it is.
+    pub fn check_step(
+        &mut self,
+        step: &ProofStep<'_>,
+        looks: &mut Looks,
+    ) -> Result<bool, StoreError>
+        ensures judges { Judges result self.old (step_of step.now) self.new }
+        ensures looks { (f : Stored) → Keeps self.old f → looks.new ≤ looks.old + most_looks (settled f) (step_of step.now) }
+    {
+        self.formula.settle()?;
+        self.step(step, looks)
     }
 }

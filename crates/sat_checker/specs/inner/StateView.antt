@@ -1,5 +1,9 @@
 -- What the checker's state keeps of the definition's, and when its answer to a step is right.
-use Rattle.std.specs.Prelude.{ℕ, ◌≡◌, ◌+◌, ◌≤◌, Bool, Result}
+use Rattle.std.specs.Prelude.{ℕ, ◌≡◌, ◌+◌, ◌≤◌, ◌⊎◌, Bool, Result, Ok, Err}
+use Rattle.std.specs.Bool.{MatchBool}
+use Rattle.sat_checker.specs.Spent.{IsSpent}
+use Rattle.sat_checker.specs.Storing.{settled}
+use Rattle.sat_checker.specs.declared.store.StoreError.TheVariants.{OutOfMemory, CounterEnd}
 use Rattle.sat_base.specs.steps.Steps.{Step}
 use Rattle.sat_checker.specs.LiteralSets.{canonical}
 use Rattle.sat_checker.specs.Stored.{Stored}
@@ -22,3 +26,17 @@ Decides result old step new = (f : Stored) → Keeps old f → TurnsIf result (A
 -- no more looks than the step may take
 abbrev pub LooksWithin : State → Step → ℕ → ℕ → Type 0
 LooksWithin state step old new = (f : Stored) → Keeps state f → new ≤ old + most_looks f step
+
+-- what an answer to a step says: it is accepted, and this is kept, or it isn't, or a number is spent
+abbrev pub Answers : Result Bool StoreError → Type 0 → Type 0 → Type 0 → Type 0
+Answers (Ok accepted) accepts kept spent = MatchBool accepted (accepts × kept) (accepts → ⊥)
+Answers (Err OutOfMemory) accepts kept spent = Unit {0}
+Answers (Err CounterEnd) accepts kept spent = spent
+
+-- a number is past 64 bits once a pending unit conflict is settled, or in what the step would leave
+abbrev pub SpentBy : Step → Stored → Type 0
+SpentBy step f = IsSpent (settled f) ⊎ IsSpent (effect step (settled f))
+
+-- a pending unit conflict is settled before the step is judged
+abbrev pub Judges : Result Bool StoreError → State → Step → State → Type 0
+Judges result old step new = (f : Stored) → Keeps old f → Answers result (Accepts (settled f) step) (Keeps new (effect step (settled f))) (SpentBy step f)

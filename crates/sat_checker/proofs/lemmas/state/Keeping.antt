@@ -1,5 +1,5 @@
 -- What steps leave of the checker's state.
-use Rattle.std.proofs.Common.{ℕ, ◌+◌, ◌*◌, ◌≤◌, ◌≡◌, Bool, true, false, ◌&&◌, cond, List, [], ◌∷◌, length, Option, None, Some, refl, sym, ◌∙◌, ap, subst, arith, Result, Ok, Err, IfOk, ◌↔◌}
+use Rattle.std.proofs.Common.{ℕ, ◌+◌, ◌*◌, ◌≤◌, ◌≡◌, Bool, true, false, ◌&&◌, cond, List, [], ◌∷◌, length, Option, None, Some, refl, sym, ◌∙◌, ap, subst, arith, Result, Ok, Err, IfOk, ◌↔◌, inl, inr}
 use Rattle.std.specs.List.{AllByRecursion}
 use Rattle.std.specs.Bool.{MatchBool}
 use Rattle.std.proofs.lemmas.Bool.{true≢false}
@@ -9,12 +9,12 @@ use Rattle.sat_base.specs.steps.StepViews.{deletion_of}
 use Rattle.sat_base.specs.declared.steps.step.DeleteClauseProof.{DeleteClauseProof}
 use Rattle.sat_checker.specs.LiteralSets.{canonical, is_part}
 use Rattle.sat_checker.specs.Stored.{Stored, StoredUnit, Variable, Sample, mode_of}
-use Rattle.sat_checker.specs.Storing.{with_stored, with_input, with_units, with_literals_known, with_solver_name, with_known}
+use Rattle.sat_checker.specs.Storing.{settled, with_stored, with_input, with_units, with_literals_known, with_solver_name, with_known}
 use Rattle.sat_checker.specs.Accepts.{Passes, Accepts, effect, IsStrictSubset}
 use Rattle.sat_checker.specs.Spent.{IsSpent}
 use Rattle.sat_checker.specs.inner.StoreView.{KeepsClauses}
 use Rattle.sat_checker.specs.inner.FormulaView.{KeepsFormula, Turns, TurnsIf}
-use Rattle.sat_checker.specs.inner.StateView.{Keeps, Decides}
+use Rattle.sat_checker.specs.inner.StateView.{Keeps, Decides, Answers, SpentBy}
 use Rattle.sat_checker.specs.inner.VariablesView.{variable_at, KeepsVariables, AreSampling}
 use Rattle.sat_checker.specs.declared.store.StoreError.{StoreError}
 use Rattle.sat_checker.specs.declared.store.StoreError.TheVariants.{OutOfMemory, CounterEnd}
@@ -95,3 +95,23 @@ pub deleted : (new : State) (f : Stored) (c : List ℕ) (p q : DeleteClauseProof
     → MatchBool b (Accepts f (DeleteClause c (deletion_of p)) × Keeps new (effect (DeleteClause c (deletion_of p)) f)) (Accepts f (DeleteClause c (deletion_of p)) → ⊥)
 deleted new f c p q b e h =
     subst (λ x. MatchBool b (Accepts f (DeleteClause c (deletion_of x)) × Keeps new (effect (DeleteClause c (deletion_of x)) f)) (Accepts f (DeleteClause c (deletion_of x)) → ⊥)) (sym e) h
+
+-- what a step answers behind a settled conflict
+pub settled_kept : (old new : State) (f : Stored) → Keeps old f → KeepsFormula new.formula (settled f) → new.variables ≡ old.variables → new.assumed ≡ old.assumed → Keeps new (settled f)
+settled_kept old new f k F v a = let s = settled_same f in record {
+  formula = F;
+  variables = subst (λ vs. KeepsVariables vs (settled f).variables) (sym v) (subst (KeepsVariables old.variables) (sym s.variables) k.variables);
+  assumed = a ∙ k.assumed ∙ ap canonical (sym s.assumed);
+}
+
+pub judged : (result : Result Bool StoreError) (A K : Type 0) (step : Step) (f : Stored) → TurnsIf result A K (effect step (settled f)) → Answers result A K (SpentBy step f)
+judged (Ok b) A K step f h = h
+judged (Err OutOfMemory) A K step f h = tt
+judged (Err CounterEnd) A K step f h = inr h
+
+pub judged_err : {T : Type 0} (first : Result T StoreError) (result : Result Bool StoreError) (d e : StoreError) → first ≡ Err e → result ≡ Err d → d ≡ e → (G A K : Type 0) (step : Step) (f : Stored) → Turns first G (settled f) → Answers result A K (SpentBy step f)
+judged_err {T = T} first result d e a b s G A K step f t = subst (λ x. Answers x A K (SpentBy step f)) (sym (b ∙ ap Err s)) (go e (subst (λ x. Turns x G (settled f)) a t))
+  where
+    go : (e : StoreError) → Turns {T = T} (Err e) G (settled f) → Answers (Err e) A K (SpentBy step f)
+    go OutOfMemory t = tt
+    go CounterEnd t = inl t
