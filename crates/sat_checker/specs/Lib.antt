@@ -8,6 +8,7 @@ pub mod Fold
 pub mod Looks
 pub mod inner
 pub mod HasherView
+pub mod CheckerView
 pub mod Laws
 pub mod Rows
 pub mod announcements

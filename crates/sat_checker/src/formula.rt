@@ -39,14 +39,7 @@ impl Formula {
         Formula {
             store: Store::new(alloc),
             units: Units::new(alloc),
-            status: Status {
-                unsat: false,
-                conflict: None,
-                last: LastClause::NoneYet,
-                next_id: 0,
-                ended: false,
-                var_deleted: false,
-            },
+            status: Status::new(),
         }
     }
 

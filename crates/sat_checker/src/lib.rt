@@ -2,7 +2,9 @@
 #![tactic(auto)]
 
 pub(crate) mod assigned;
+pub mod checker;
 pub(crate) mod clauses;
+pub mod error;
 pub(crate) mod formula;
 pub mod hash;
 pub(crate) mod index;
@@ -21,5 +23,7 @@ pub(crate) mod units;
 pub(crate) mod valuation;
 pub mod variables;
 
+pub use checker::Checker;
+pub use error::CheckerError;
 pub use hash::ClauseHasher;
 pub use looks::Looks;

@@ -21,8 +21,8 @@ use std::alloc::Global;
 #[derive(Drop)]
 pub(crate) struct State {
     alloc: Global,
-    formula: Formula,
-    variables: Variables,
+    pub(crate) formula: Formula,
+    pub(crate) variables: Variables,
     assumed: LitSet,
     /// Room for the sorted literals of a clause.
     buffer: Vec<Lit>,

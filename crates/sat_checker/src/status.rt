@@ -1,6 +1,8 @@
 //! What is recorded beside clauses, units and variables.
 ghost use Rattle.std.specs.Prelude.{◌≡◌, ◌+◌, ◌≤◌, ◌^◌, MatchResult, true, if◌then◌else◌};
+ghost use Rattle.sat_checker.specs.Stored.{nothing_stored};
 ghost use Rattle.sat_checker.specs.Storing.{first_conflict};
+ghost use Rattle.sat_checker.specs.inner.FormulaView.{standing_in, standing_of};
 ghost use Rattle.sat_checker.specs.declared.store.StoreError.TheVariants.{CounterEnd};
 
 use crate::store::StoreError;
@@ -27,6 +29,20 @@ pub(crate) struct Status {
 }
 
 impl Status {
+    /// Nothing is recorded yet.
+    pub fn new() -> Status
+        ensures { standing_in result ≡ standing_of nothing_stored }
+    {
+        Status {
+            unsat: false,
+            conflict: None,
+            last: LastClause::NoneYet,
+            next_id: 0,
+            ended: false,
+            var_deleted: false,
+        }
+    }
+
     /// Takes the next id. The last one is 2^64-2.
     pub fn take_id(&mut self) -> Result<u64, StoreError>
         ensures { MatchResult result

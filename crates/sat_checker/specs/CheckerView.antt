@@ -1,0 +1,47 @@
+-- What contracts see of a checker: the steps that it accepted, its input clauses among them, and whether it has failed.
+use Rattle.std.specs.Prelude.{ℕ, ◌≡◌, ◌⊎◌, Bool, true, false, List, ◌∷◌, Result, Ok, Err}
+use Rattle.sat_base.specs.steps.Steps.{Step}
+use Rattle.sat_checker.specs.Stored.{Stored}
+use Rattle.sat_checker.specs.Accepts.{Accepts, AcceptsAll, effect, stored_after, ready_after}
+use Rattle.sat_checker.specs.inner.FormulaView.{standing_in, standing_of}
+use Rattle.sat_checker.specs.inner.StateView.{Keeps, SpentBy}
+use Rattle.sat_checker.specs.declared.checker.Checker.{Checker}
+use Rattle.sat_checker.specs.declared.error.CheckerError.{CheckerError}
+use Rattle.sat_checker.specs.declared.error.CheckerError.TheVariants as errors
+
+abbrev pub has_failed : Checker → Bool
+has_failed c = c.failed
+
+abbrev pub looks_of : Checker → ℕ
+looks_of c = c.looks
+
+-- It has accepted these steps, the newest first, and keeps what they leave unless it has failed.
+pub record Stands (checker : Checker) (steps : List Step) : Type 0 where
+  pub accepted : AcceptsAll steps
+  pub status : standing_in checker.status ≡ standing_of (stored_after steps)
+  pub kept : checker.failed ≡ false → Keeps checker.state (stored_after steps)
+
+-- it stands where it stood, and answers nothing but HasFailed from then on
+pub record Fails (new : Checker) (steps : List Step) : Type 0 where
+  pub stands : Stands new steps
+  pub failed : has_failed new ≡ true
+
+-- the step was accepted, as the definition has it
+pub record Takes (new : Checker) (step : Step) (steps : List Step) : Type 0 where
+  pub accepts : Accepts (ready_after steps) step
+  pub stands : Stands new (step ∷ steps)
+  pub goes_on : has_failed new ≡ false
+
+-- What an answer to a step means, where these steps were accepted before. A refused step is one that the definition refuses; the last id or count is told only where it was given.
+abbrev pub AnswersStep : Result Unit CheckerError → Checker → Step → Checker → List Step → Type 0
+AnswersStep (Ok x) old step new steps = (has_failed old ≡ false) × Takes new step steps
+AnswersStep (Err errors.CheckFailed) old step new steps = (has_failed old ≡ false) × (Accepts (ready_after steps) step → ⊥) × Fails new steps
+AnswersStep (Err errors.CounterEnd) old step new steps = (has_failed old ≡ false) × SpentBy step (stored_after steps) × Fails new steps
+AnswersStep (Err errors.OutOfMemory) old step new steps = (has_failed old ≡ false) × Fails new steps
+AnswersStep (Err errors.HasFailed) old step new steps = (has_failed old ≡ true) × Fails new steps
+AnswersStep (Err errors.ProofIncomplete) old step new steps = ⊥
+AnswersStep (Err errors.IoError) old step new steps = ⊥
+AnswersStep (Err errors.ParseError) old step new steps = ⊥
+
+abbrev pub ChecksStep : Result Unit CheckerError → Checker → Step → Checker → Type 0
+ChecksStep result old step new = (steps : List Step) → Stands old steps → AnswersStep result old step new steps
