@@ -1,8 +1,7 @@
 -- What contracts see of a checker: the steps that it accepted, its input clauses among them, and whether it has failed.
-use Rattle.std.specs.Prelude.{ℕ, ◌≡◌, ◌⊎◌, Bool, true, false, List, ◌∷◌, Result, Ok, Err}
-use Rattle.sat_base.specs.steps.Steps.{Step}
-use Rattle.sat_checker.specs.Stored.{Stored}
-use Rattle.sat_checker.specs.Accepts.{Accepts, AcceptsAll, effect, stored_after, ready_after}
+use Rattle.std.specs.Prelude.{ℕ, ◌≡◌, Bool, true, false, List, ◌∷◌, Result, Ok, Err}
+use Rattle.sat_base.specs.steps.Steps.{Step, AddClause}
+use Rattle.sat_checker.specs.Accepts.{Accepts, AcceptsAll, stored_after, ready_after}
 use Rattle.sat_checker.specs.inner.FormulaView.{standing_in, standing_of}
 use Rattle.sat_checker.specs.inner.StateView.{Keeps, SpentBy}
 use Rattle.sat_checker.specs.declared.checker.Checker.{Checker}
@@ -45,3 +44,17 @@ AnswersStep (Err errors.ParseError) old step new steps = ⊥
 
 abbrev pub ChecksStep : Result Unit CheckerError → Checker → Step → Checker → Type 0
 ChecksStep result old step new = (steps : List Step) → Stands old steps → AnswersStep result old step new steps
+
+-- What an answer to a clause of the formula means. A refused one leaves the checker as it was.
+abbrev pub AnswersClause : Result Unit CheckerError → Checker → List ℕ → Checker → List Step → Type 0
+AnswersClause (Ok x) old clause new steps = AnswersStep (Ok x) old (AddClause clause) new steps
+AnswersClause (Err errors.CheckFailed) old clause new steps = (has_failed old ≡ false) × (Accepts (ready_after steps) (AddClause clause) → ⊥) × Stands new steps × (has_failed new ≡ false)
+AnswersClause (Err errors.CounterEnd) old clause new steps = AnswersStep (Err errors.CounterEnd) old (AddClause clause) new steps
+AnswersClause (Err errors.OutOfMemory) old clause new steps = AnswersStep (Err errors.OutOfMemory) old (AddClause clause) new steps
+AnswersClause (Err errors.HasFailed) old clause new steps = AnswersStep (Err errors.HasFailed) old (AddClause clause) new steps
+AnswersClause (Err errors.ProofIncomplete) old clause new steps = ⊥
+AnswersClause (Err errors.IoError) old clause new steps = ⊥
+AnswersClause (Err errors.ParseError) old clause new steps = ⊥
+
+abbrev pub ChecksClause : Result Unit CheckerError → Checker → List ℕ → Checker → Type 0
+ChecksClause result old clause new = (steps : List Step) → Stands old steps → AnswersClause result old clause new steps

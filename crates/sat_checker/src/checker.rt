@@ -5,14 +5,14 @@ ghost use Rattle.sat_base.specs.steps.StepViews.{step_of};
 ghost use Rattle.sat_checker.specs.Stored.{is_known, name_of};
 ghost use Rattle.sat_checker.specs.Accepts.{ready_after};
 ghost use Rattle.sat_checker.specs.Looks.{most_looks};
-ghost use Rattle.sat_checker.specs.CheckerView.{has_failed, looks_of, Stands, ChecksStep};
+ghost use Rattle.sat_checker.specs.CheckerView.{has_failed, looks_of, Stands, ChecksStep, ChecksClause};
 
 use crate::error::CheckerError;
 use crate::looks::Looks;
 use crate::state::State;
 use crate::status::Status;
 use crate::store::StoreError;
-use sat_base::{ProofStep, Var};
+use sat_base::{Lit, ProofStep, Var};
 use std::alloc::Global;
 
 /// A checker, which takes clauses of a formula and the steps of a proof in turn. Once it has refused a step, or had no memory or
@@ -39,6 +39,21 @@ impl Checker {
             failed: false,
             looks: Looks::new(),
         }
+    }
+
+    /// Takes a clause of the formula, unless it has a variable that is hidden or a witness. A refused one changes nothing.
+    pub fn add_clause(&mut self, clause: &[Lit]) -> Result<(), CheckerError>
+        ensures checks { ChecksClause result self.old clause.now self.new }
+        ensures looks { (steps : List Step) → Stands self.old steps
+            → looks_of self.new ≤ looks_of self.old + most_looks (ready_after steps) (AddClause clause.now) }
+    {
+        if self.failed {
+            return Err(CheckerError::HasFailed);
+        }
+        if !self.state.may_add(clause) {
+            return Err(CheckerError::CheckFailed);
+        }
+        self.self_check_step(&ProofStep::AddClause { clause })
     }
 
     /// Checks the next step, and takes it in if it is accepted.

@@ -3,7 +3,7 @@ ghost use Rattle.std.specs.Prelude.{None, Some, ◌≤◌, ◌+◌, MatchBool};
 ghost use Rattle.sat_checker.specs.Stored.{Stored, nothing_stored};
 ghost use Rattle.sat_checker.specs.Looks.{literal_count, most_looks};
 ghost use Rattle.sat_checker.specs.Storing.{settled};
-ghost use Rattle.sat_checker.specs.Accepts.{MayBeDeleted};
+ghost use Rattle.sat_checker.specs.Accepts.{MayBeDeleted, MayBeAdded};
 ghost use Rattle.sat_base.specs.steps.Steps.{SolverVarName, UserVarName, ChangeSamplingMode, AddClause, AtClause, ChangeHashBits, Assumptions, End, UnitClauses, DeleteClause, Model, FailedAssumptions, DeleteVar};
 ghost use Rattle.sat_base.specs.steps.StepViews.{deletion_of, step_of};
 ghost use Rattle.sat_checker.specs.inner.StateView.{Keeps, Decides, LooksWithin, Judges};
@@ -279,5 +279,12 @@ impl State {
     {
         self.formula.settle()?;
         self.step(step, looks)
+    }
+
+    /// Whether a clause of the formula is accepted: unsat is recorded, or its variables are all sampling or unknown.
+    pub fn may_add(&self, clause: &[Lit]) -> bool
+        ensures { (f : Stored) → Keeps self.now f → MatchBool result (MayBeAdded f clause.now) (MayBeAdded f clause.now → ⊥) }
+    {
+        self.formula.status.unsat || self.variables.are_sampling(clause)
     }
 }

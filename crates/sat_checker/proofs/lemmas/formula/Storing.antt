@@ -1,12 +1,12 @@
 -- What storing leaves of the formula.
-use Rattle.std.proofs.Common.{ℕ, ◌+◌, ◌≤◌, ◌^◌, ◌≡◌, Bool, true, false, not, cond, eqb, List, [], ◌∷◌, ◌++◌, length, Option, None, Some, is_some, refl, sym, ◌∙◌, ap, subst, arith, Result, Ok, Err, ◌⊎◌, inl, inr, max}
+use Rattle.std.proofs.Common.{ℕ, ◌+◌, ◌≤◌, ◌^◌, ◌≡◌, Bool, true, false, not, cond, eqb, List, [], ◌∷◌, length, Option, None, Some, is_some, refl, sym, ◌∙◌, ap, subst, arith, Result, Ok, Err, inl, inr, max}
 use Rattle.std.proofs.lemmas.Bool.{true≢false, eq-eqb, eqb-true, eqb-false}
 use Rattle.std.specs.Prelude.{MatchResult}
 use Rattle.sat_base.specs.values.Literals.{negated}
 use Rattle.sat_checker.specs.LiteralSets.{same_literals, is_tautology, canonical}
 use Rattle.sat_checker.specs.Spent.{CountSpent, IsSpent}
 use Rattle.sat_checker.specs.Stored.{Stored, StoredClause, StoredUnit, Last, UnitClause, LongClause, is_unit}
-use Rattle.sat_checker.specs.Storing.{with_count, new_clause, with_clause, clause_with, irredundant_count, redundant_count, unit_id, unit_at, long_at, place_of, with_unit, with_contradiction, with_new_unit, with_long, with_set, with_canonical, with_stored, with_input}
+use Rattle.sat_checker.specs.Storing.{with_count, new_clause, with_clause, clause_with, irredundant_count, redundant_count, unit_id, unit_at, long_at, with_unit, with_contradiction, with_new_unit, with_set, with_canonical, with_stored, with_input}
 use Rattle.sat_checker.specs.inner.StoreView.{KeepsClauses, Stores, count_in, id_in}
 use Rattle.sat_checker.specs.inner.FormulaView.{Standing, standing_of, standing_in, KeepsFormula, Turns}
 use Rattle.sat_checker.specs.declared.store.Store.{Store}

@@ -7,7 +7,7 @@ use Rattle.std.proofs.lemmas.List.{reverse-append}
 use Rattle.std.proofs.lemmas.List.Elements.{filter-append}
 use Rattle.sat_base.specs.values.Literals.{variable}
 use Rattle.sat_checker.specs.LiteralSets.{is_among, mentions, canonical}
-use Rattle.sat_checker.specs.Stored.{Stored, StoredUnit, Variable}
+use Rattle.sat_checker.specs.Stored.{Stored, Variable}
 use Rattle.sat_checker.specs.Accepts.{MayBeDeleted}
 use Rattle.sat_checker.specs.inner.Marks.{NoRepeats, AreMarks, is_marked}
 use Rattle.sat_checker.specs.inner.StateView.{Keeps}

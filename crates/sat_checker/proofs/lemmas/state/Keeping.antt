@@ -1,21 +1,21 @@
 -- What steps leave of the checker's state.
-use Rattle.std.proofs.Common.{ℕ, ◌+◌, ◌*◌, ◌≤◌, ◌≡◌, Bool, true, false, ◌&&◌, cond, List, [], ◌∷◌, length, Option, None, Some, refl, sym, ◌∙◌, ap, subst, arith, Result, Ok, Err, IfOk, ◌↔◌, inl, inr}
+use Rattle.std.proofs.Common.{ℕ, ◌+◌, ◌*◌, ◌≤◌, ◌≡◌, Bool, true, false, cond, List, [], ◌∷◌, Option, None, Some, refl, sym, ◌∙◌, ap, subst, arith, Result, Ok, Err, IfOk, ◌↔◌, inl, inr}
 use Rattle.std.specs.List.{AllByRecursion}
 use Rattle.std.specs.Bool.{MatchBool}
 use Rattle.std.proofs.lemmas.Bool.{true≢false}
 use Rattle.sat_base.specs.values.Literals.{variable}
-use Rattle.sat_base.specs.steps.Steps.{Step, SolverVarName, AddClause, AtClause, DeleteClause}
+use Rattle.sat_base.specs.steps.Steps.{Step, SolverVarName, AddClause, DeleteClause}
 use Rattle.sat_base.specs.steps.StepViews.{deletion_of}
 use Rattle.sat_base.specs.declared.steps.step.DeleteClauseProof.{DeleteClauseProof}
 use Rattle.sat_checker.specs.LiteralSets.{canonical, is_part}
-use Rattle.sat_checker.specs.Stored.{Stored, StoredUnit, Variable, Sample, mode_of}
-use Rattle.sat_checker.specs.Storing.{settled, with_stored, with_input, with_units, with_literals_known, with_solver_name, with_known}
+use Rattle.sat_checker.specs.Stored.{Stored, Variable, Sample, mode_of}
+use Rattle.sat_checker.specs.Storing.{settled, with_stored, with_input, with_literals_known, with_solver_name, with_known}
 use Rattle.sat_checker.specs.Accepts.{Passes, Accepts, effect, IsStrictSubset}
 use Rattle.sat_checker.specs.Spent.{IsSpent}
 use Rattle.sat_checker.specs.inner.StoreView.{KeepsClauses}
 use Rattle.sat_checker.specs.inner.FormulaView.{KeepsFormula, Turns, TurnsIf}
-use Rattle.sat_checker.specs.inner.StateView.{Keeps, Decides, Answers, SpentBy}
-use Rattle.sat_checker.specs.inner.VariablesView.{variable_at, KeepsVariables, AreSampling}
+use Rattle.sat_checker.specs.inner.StateView.{Keeps, Answers, SpentBy}
+use Rattle.sat_checker.specs.inner.VariablesView.{KeepsVariables, AreSampling}
 use Rattle.sat_checker.specs.declared.store.StoreError.{StoreError}
 use Rattle.sat_checker.specs.declared.store.StoreError.TheVariants.{OutOfMemory, CounterEnd}
 use Rattle.sat_checker.specs.declared.formula.Formula.{Formula}
@@ -23,7 +23,7 @@ use Rattle.sat_checker.specs.declared.state.State.{State}
 use Rattle.sat_checker.specs.declared.variables.Variables.{Variables}
 use Rattle.sat_checker.proofs.lemmas.sets.Canonical.{canonical_among}
 use Rattle.sat_checker.proofs.lemmas.state.Scanning.{same_part}
-use Rattle.sat_checker.proofs.lemmas.meaning.Names.{stored_same, units_same, settled_same}
+use Rattle.sat_checker.proofs.lemmas.meaning.Names.{stored_same, settled_same}
 
 -- the check over the formula's parts
 pub checked_formula : {E : Type 0} (r : Result Bool E) (F : Formula) (clause hashes : List ℕ) → IfOk r (λ b. (f : Stored) → KeepsClauses F.store f → F.units ≡ f.units → (b ≡ true) ↔ Passes f clause hashes)

@@ -1,12 +1,11 @@
 -- What is checked of a model, test by test.
-use Rattle.std.proofs.Common.{ℕ, zero, suc, ◌+◌, ◌<◌, ◌≡◌, ◌≢◌, Bool, true, false, not, ◌||◌, ◌&&◌, eqb, List, [], ◌∷◌, length, drop, get_or, map, refl, sym, ◌∙◌, ap, subst, arith, ◌⊎◌, inl, inr, Result, Ok, Err, IfOk, ◌↔◌}
-use Rattle.std.proofs.lemmas.Bool.{and_parts, or_cases, or_left, or_right, both_ways, eqb-true, eqb-false, eq-eqb, ne_eqb, true≢false}
+use Rattle.std.proofs.Common.{ℕ, zero, suc, ◌+◌, ◌<◌, ◌≡◌, ◌≢◌, Bool, true, false, not, ◌||◌, ◌&&◌, eqb, List, [], ◌∷◌, length, drop, get_or, map, refl, sym, ◌∙◌, ap, subst, arith, ◌⊎◌, inl, inr, ◌↔◌}
+use Rattle.std.proofs.lemmas.Bool.{and_parts, or_cases, or_left, or_right, both_ways, eqb-true, eq-eqb, ne_eqb, true≢false}
 use Rattle.std.proofs.lemmas.List.{drop_more, get_or_read}
 use Rattle.std.specs.List.{AllByRecursion, list_any}
-use Rattle.std.specs.Bool.{MatchBool}
 use Rattle.sat_base.specs.values.Literals.{negated, variable}
 use Rattle.sat_checker.specs.LiteralSets.{is_among, mentions}
-use Rattle.sat_checker.specs.Stored.{Stored, StoredClause, StoredUnit, unit_literals}
+use Rattle.sat_checker.specs.Stored.{Stored, StoredClause, StoredUnit}
 use Rattle.sat_checker.specs.Accepts.{VariablesApart, FitsModel}
 use Rattle.sat_checker.specs.inner.ModelTests.{are_all_true}
 

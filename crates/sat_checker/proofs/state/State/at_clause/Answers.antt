@@ -1,9 +1,9 @@
-use Rattle.std.proofs.Common.{sym, ap, ◌∙◌, length}
+use Rattle.std.proofs.Common.{sym, ◌∙◌, length}
 use Rattle.std.proofs.lemmas.Bool.{true≢false}
 use Rattle.std.proofs.lemmas.Result.{err_from_is_err_and}
 use Rattle.sat_checker.specs.Looks.{literal_count}
 use Rattle.sat_checker.specs.Storing.{with_literals_known}
-use Rattle.sat_checker.proofs.lemmas.state.Keeping.{decides_err, derived, looks_checked, looks_stored}
+use Rattle.sat_checker.proofs.lemmas.state.Keeping.{decides_err, derived, looks_stored}
 use Rattle.sat_checker.proofs.state.State.at_clause.Goals as goal
 
 pub returns-then-not-branch-clause-decides : goal.returns-then-not-branch-clause-decides

@@ -1,4 +1,3 @@
-use Rattle.std.proofs.Common.{sym}
 use Rattle.sat_checker.proofs.lemmas.state.Keeping.{deleted}
 use Rattle.sat_checker.proofs.lemmas.state.Units.{match_on}
 use Rattle.sat_checker.proofs.state.State.delete_clause.Goals as goal

@@ -1,5 +1,3 @@
-use Rattle.std.proofs.Common.{Some}
-use Rattle.sat_checker.specs.Storing.{with_known}
 use Rattle.sat_checker.proofs.lemmas.state.Keeping.{renamed, unnamed}
 use Rattle.sat_checker.proofs.state.State.solver_var_name.Goals as goal
 

@@ -1,4 +1,4 @@
-use Rattle.std.proofs.Common.{sym, subst, arith, ap, length}
+use Rattle.std.proofs.Common.{sym, subst, arith}
 use Rattle.sat_checker.specs.inner.Marks.{IsIncreasing}
 use Rattle.sat_checker.specs.inner.SlotView.{live, literals_at}
 use Rattle.sat_checker.proofs.lemmas.store.Keeping.{length_same}

@@ -1,4 +1,3 @@
-use Rattle.std.proofs.Common.{ap, ◌∙◌}
 use Rattle.sat_checker.proofs.lemmas.variables.Keeping.{kept_same, unit_known}
 use Rattle.sat_checker.proofs.variables.Variables.learn_units.Goals as goal
 
