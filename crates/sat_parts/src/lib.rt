@@ -7,7 +7,9 @@ pub mod glue;
 pub mod prop;
 
 pub use binary::BinaryClauses;
-pub use clause::db::{ClauseDb, add_clause, delete_clause, set_clause_tier};
+pub use clause::db::{
+    ClauseDb, add_clause, delete_clause, set_clause_tier, shorten_clause, try_delete_clause,
+};
 pub use clause::gc::collect_garbage;
 pub use glue::compute_glue;
 pub use prop::assignment::{Assignment, fast_option_eq};

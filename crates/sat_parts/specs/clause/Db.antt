@@ -91,14 +91,13 @@ pub record MovesClause (words : List ℕ) (db : Db) (words' : List ℕ) (db' : D
   pub live : live_refs words' db'.refs ≡ live_refs words db.refs
 
 -- the clause at o lost its literals from this place on, and no other clause changed
-pub record ShortensClause (words : List ℕ) (db : Db) (words' : List ℕ) (db' : Db) (o len : ℕ) : Type 0 where
+pub record ShortensClause (words : List ℕ) (db : Db) (words' : List ℕ) (o len : ℕ) : Type 0 where
   pub size : length words' ≡ length words
   pub header_there : header_at words' o ≡ record (header_at words o) { len = len }
   pub lits_there : lits_at words' o ≡ take len (lits_at words o)
   pub others : (p : ℕ) → Contains db.refs p → p ≢ o → Keeps words words' p
-  pub holds : HoldsDb words' db'
-  pub same : db' ≡ db
-  pub live : live_refs words' db'.refs ≡ live_refs words db.refs
+  pub holds : HoldsDb words' db
+  pub live : live_refs words' db.refs ≡ live_refs words db.refs
 
 -- the clause at o has a true first literal, of which it is the reason
 abbrev pub IsAsserting : (words : List ℕ) (values : List (Option Bool)) (nodes : List ImplNode) (o : ℕ) → Type 0

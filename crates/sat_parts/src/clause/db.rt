@@ -1,5 +1,5 @@
 //! The list of long clauses.
-ghost use Rattle.std.specs.Prelude.{◌≡◌, ◌+◌, ◌-◌, ◌^◌, ◌<◌, ◌≤◌, ◌↔◌, ℕ, List, Err, [], ◌∷◌, false, length, min, slice_index, slice_index_or, IsTrue, IfOk, OnErr};
+ghost use Rattle.std.specs.Prelude.{◌≡◌, ◌+◌, ◌-◌, ◌^◌, ◌<◌, ◌≤◌, ◌↔◌, ℕ, List, Err, [], ◌∷◌, false, true, length, min, slice_index, slice_index_or, IsTrue, IfOk, OnErr};
 ghost use Rattle.std.specs.List.{Contains};
 ghost use Rattle.sat_base.specs.values.Literals.{negated, variable};
 ghost use Rattle.sat_store.specs.clause.Buffer.{IsClause, Laid, Adds, header_at, lits_at};
@@ -210,4 +210,77 @@ pub fn delete_clause(
     db.waste(header.len());
     header.set_deleted(true);
     put_header(clauses, cref, header);
+}
+
+/// Whether the clause has a true first literal, of which it is the reason.
+fn is_asserting(
+    clauses: &ClauseAlloc,
+    graph: &ImplGraph,
+    assignment: &Assignment,
+    cref: ClauseRef,
+) -> bool
+    requires clause { IsClause clauses.now cref }
+    requires some { 0 < length (lits_at clauses.now cref) }
+    requires value { variable (lit_of clauses.now cref 0) < length assignment.now.current }
+    requires node { variable (lit_of clauses.now cref 0) < length graph.now }
+    ensures { IsTrue result ↔ IsAsserting clauses.now assignment.now.current graph.now cref }
+{
+    let first = clauses.lit(cref, 0);
+    if !assignment.lit_is_true(first) {
+        return false;
+    }
+    let reason = graph.reason(first.var());
+    match reason {
+        Reason::Unit => false,
+        Reason::Binary(_) => false,
+        Reason::Long(named) => named == cref,
+    }
+}
+
+/// Deletes a live clause unless it is the reason of its true first literal, and answers whether it did.
+pub fn try_delete_clause(
+    clauses: &mut ClauseAlloc,
+    db: &mut ClauseDb,
+    watchlists: &mut Watchlists,
+    graph: &ImplGraph,
+    assignment: &Assignment,
+    cref: ClauseRef,
+) -> bool
+    requires db { HoldsDb clauses.old db.old }
+    requires live { Contains (live_refs clauses.old db.old.refs) cref }
+    requires value { variable (lit_of clauses.old cref 0) < length assignment.now.current }
+    requires node { variable (lit_of clauses.old cref 0) < length graph.now }
+    ensures kept { result ≡ false → IsAsserting clauses.old assignment.now.current graph.now cref }
+    ensures free { result ≡ true → IsAsserting clauses.old assignment.now.current graph.now cref → ⊥ }
+    ensures deleted { result ≡ true → DeletesClause clauses.old db.old clauses.new db.new cref }
+    ensures watches { result ≡ true → watchlists.new ≡ record watchlists.old { enabled = false } }
+    ensures same { result ≡ false → (clauses.new ≡ clauses.old) × (db.new ≡ db.old) × (watchlists.new ≡ watchlists.old) }
+{
+    if is_asserting(clauses, graph, assignment, cref) {
+        return false;
+    }
+    delete_clause(clauses, db, watchlists, cref);
+    true
+}
+
+/// Drops the literals of a live clause from a place on, of which three or more are left. Watch lists aren't kept up from here on,
+/// until they are built anew.
+pub fn shorten_clause(
+    clauses: &mut ClauseAlloc,
+    db: &ClauseDb,
+    watchlists: &mut Watchlists,
+    cref: ClauseRef,
+    len: usize,
+)
+    requires db { HoldsDb clauses.old db.now }
+    requires live { Contains (live_refs clauses.old db.now.refs) cref }
+    requires long { 3 ≤ len }
+    requires no_longer { len ≤ length (lits_at clauses.old cref) }
+    ensures shortened { ShortensClause clauses.old db.now clauses.new cref len }
+    ensures watches { watchlists.new ≡ record watchlists.old { enabled = false } }
+{
+    watchlists.disable();
+    let mut header = clauses.header(cref);
+    header.set_len(len);
+    clauses.set_header(cref, header);
 }

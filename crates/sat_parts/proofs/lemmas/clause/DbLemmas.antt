@@ -1,7 +1,7 @@
 -- What adding, deleting and moving clauses leaves of the list of clauses.
 use Rattle.std.proofs.Common.{ℕ, ◌≡◌, ◌≢◌, ◌+◌, ◌-◌, ◌^◌, ◌<◌, ◌≤◌, inl, inr, min, List, [], ◌∷◌, ◌++◌, length, get_or, set, take, refl, sym, ap, ◌∙◌, subst, arith, length-set, get_or-set_same, get_or-set_other, Bool, true, false, not, ◌&&◌, ◌==◌, cond}
 use Rattle.std.proofs.lemmas.Bool.{cases_eq, ne_eqb, eq-eqb, cond-true, cond-false}
-use Rattle.std.proofs.lemmas.List.{take_all, length_push}
+use Rattle.std.proofs.lemmas.List.{take_all, length_push, length-take-le}
 use Rattle.std.proofs.lemmas.List.Sums.{sum_by_push, count_by-le-length}
 use Rattle.std.proofs.lemmas.List.Elements.{filter-append, filter_passes, All-contains, Contains-push_cases}
 use Rattle.std.specs.List.{Contains, sum_by, count_by}
@@ -10,7 +10,7 @@ use Rattle.sat_store.specs.clause.Header.{Header, index_of}
 use Rattle.sat_store.specs.declared.clause.tier.Tier.{Tier}
 use Rattle.sat_store.specs.declared.clause.tier.Tier.TheVariants.{Irred, Core, Mid, Local}
 use Rattle.sat_store.proofs.lemmas.clause.Laying.{same_count, clause_within, kept_below}
-use Rattle.sat_parts.specs.clause.Db.{Db, is_live, live_refs, is_live_of, garbage_of, AreRising, HoldsDb, one_more, one_less, AddsClause, PutsHeader, DeletesClause, MovesClause}
+use Rattle.sat_parts.specs.clause.Db.{Db, is_live, live_refs, is_live_of, garbage_of, AreRising, HoldsDb, one_more, one_less, AddsClause, PutsHeader, DeletesClause, MovesClause, ShortensClause}
 use Rattle.sat_parts.proofs.lemmas.prop.BuildLemmas.{live_in, live_same}
 use Rattle.sat_parts.proofs.lemmas.clause.ListLemmas.{rising_push, sum_same, sum_changed, count_less, counted_some, filter_without, filter_same}
 
@@ -352,3 +352,49 @@ added_by words db db' inside words' items tier o header lits same is items_is ti
     ∙ ap (λ (t : Tier). record db { refs = db.refs ++ o ∷ []; counts = one_more t db.counts }) tier_is in
     subst (λ (d : Db). AddsClause words db words' d o header lits) (sym whole)
     (adds words db words' o header lits h new three (subst (λ (xs : List ℕ). length xs < 2 ^ 64) refs_is few) added)
+
+-- the clause at o came to be shorter, as `set_header` says it
+pub shortens : (words : List ℕ) (db : Db) (words' : List ℕ) (o len : ℕ) → HoldsDb words db → Contains (live_refs words db.refs) o → 3 ≤ len → len ≤ length (lits_at words o) →
+    header_at words' o ≡ record (header_at words o) { len = len } → lits_at words' o ≡ take len (lits_at words o) → ChangesAt words words' o → ShortensClause words db words' o len
+shortens words db words' o len h c long fits header lits change =
+    let has : Contains db.refs o = live_in words db.refs o c in
+    let live : is_live words o ≡ true = live_is words db.refs o c in
+    let live' : is_live words' o ≡ true = ap (λ (x : Header). not x.deleted) header ∙ live in
+    let others : (p : ℕ) → Contains db.refs p → p ≢ o → Keeps words words' p = λ p d n. change.others p (h.laid.clauses p d) (h.laid.apart o p has d (λ e. n (sym e))) in
+    let flags : (p : ℕ) → Contains db.refs p → (is_live words' p ≡ is_live words p) × ((header_at words' p).tier ≡ (header_at words p).tier) = λ p d. elim (cases_eq p o) [
+      | inl e ↦ (
+        ap (λ z. is_live words' z) e ∙ ap (λ (x : Header). not x.deleted) header ∙ ap (λ z. is_live words z) (sym e),
+        ap (λ z. (header_at words' z).tier) e ∙ ap (λ (x : Header). x.tier) header ∙ ap (λ z. (header_at words z).tier) (sym e),
+      )
+      | inr n ↦ (ap (λ (x : Header). not x.deleted) (others p d n).header, ap (λ (x : Header). x.tier) (others p d n).header)
+    ] in
+    record {
+      size = change.size;
+      header_there = header;
+      lits_there = lits;
+      others = others;
+      live = filter_same (is_live words) (is_live words') db.refs (λ x d. (flags x d).0);
+      holds = record {
+        laid = change.laid db.refs has h.laid;
+        rising = h.rising;
+        tiers = h.tiers;
+        counts = λ t.
+            h.counts t
+            ∙ sym (sum_same (λ p. one (is_live_of words t p)) (λ p. one (is_live_of words' t p)) db.refs
+            (λ p d. ap (λ b. one (b && (index_of (header_at words' p).tier == index_of t))) (flags p d).0 ∙ ap (λ x. one (is_live words p && (index_of x == index_of t))) (flags p d).1));
+        garbage = h.garbage
+            ∙ ap (λ x. min x (2 ^ 64 - 1)) (sym (sum_same (garbage_of words) (garbage_of words') db.refs (λ p d. elim (cases_eq p o) [
+              | inl e ↦
+                  ap (λ z. garbage_of words' z) e ∙ cond-true (is_live words' o) 0 (length (lits_at words' o) + 3) live' ∙ sym (cond-true (is_live words o) 0 (length (lits_at words o) + 3) live)
+                  ∙ ap (λ z. garbage_of words z) (sym e)
+              | inr n ↦ kept_garbage words words' p (others p d n)
+            ])));
+        few = h.few;
+        long = λ p d. elim (cases_eq p o) [
+          | inl e ↦
+              let n : length (take len (lits_at words o)) ≡ len = length-take-le len (lits_at words o) fits in
+              subst (λ (ls : List ℕ). 3 ≤ length ls) (sym (ap (λ z. lits_at words' z) e ∙ lits)) (omega arith)
+          | inr n ↦ subst (λ (ls : List ℕ). 3 ≤ length ls) (sym (others p d n).lits) (h.long p d)
+        ];
+      };
+    }
