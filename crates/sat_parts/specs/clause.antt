@@ -3,3 +3,4 @@ pub mod Stored
 pub mod Db
 pub mod Glue
 pub mod Collected
+pub mod Activity

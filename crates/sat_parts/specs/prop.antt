@@ -11,3 +11,4 @@ pub mod Asks
 pub mod Building
 pub mod Undone
 pub mod Backtracked
+pub mod Implied

@@ -1,3 +1,4 @@
 //! Long clauses as a whole.
+pub mod activity;
 pub mod db;
 pub mod gc;

@@ -4,9 +4,11 @@
 pub mod binary;
 pub mod clause;
 pub mod glue;
+pub mod laws;
 pub mod prop;
 
 pub use binary::BinaryClauses;
+pub use clause::activity::{ClauseActivity, bump_clause_activity, decay_clause_activities};
 pub use clause::db::{
     ClauseDb, add_clause, delete_clause, set_clause_tier, shorten_clause, try_delete_clause,
 };

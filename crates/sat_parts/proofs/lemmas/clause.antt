@@ -3,3 +3,4 @@ pub mod GlueLemmas
 pub mod ListLemmas
 pub mod DbLemmas
 pub mod GcLemmas
+pub mod HeaderLemmas

@@ -11,3 +11,5 @@ pub mod BacktrackLemmas
 pub mod AsksLemmas
 pub mod StepLemmas
 pub mod ReasonLemmas
+pub mod ImpliedLemmas
+pub mod CallLemmas

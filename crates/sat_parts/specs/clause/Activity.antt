@@ -1,0 +1,52 @@
+-- Headers of a list of clauses that are written one by one, and activities of clauses.
+use Rattle.std.specs.Prelude.{ℕ, ◌≡◌, ◌+◌, ◌-◌, ◌*◌, ◌/◌, ◌^◌, ◌<◌, ◌≤◌, ◌==◌, min, max, List, length, slice_index_or as get_or, if◌then◌else◌}
+use Rattle.std.specs.List.{Contains}
+use Rattle.sat_store.specs.clause.Buffer.{Laid, header_at, lits_at}
+use Rattle.sat_store.specs.clause.Header.{Header}
+use Rattle.sat_store.specs.heap.Vsids.{quotient_up}
+
+-- each clause of the list has the header that f gives, and its literals as before
+pub record PutsHeaders (words words' refs : List ℕ) (f : ℕ → Header) : Type 0 where
+  pub size : length words' ≡ length words
+  pub laid : Laid words' refs
+  pub headers : (p : ℕ) → Contains refs p → header_at words' p ≡ f p
+  pub lits : (p : ℕ) → Contains refs p → lits_at words' p ≡ lits_at words p
+
+-- the same for the first n clauses of the list, where the others are as before
+pub record PutsFirst (words words' refs : List ℕ) (f : ℕ → Header) (n : ℕ) : Type 0 where
+  pub size : length words' ≡ length words
+  pub laid : Laid words' refs
+  pub first : (k : ℕ) → k < n → k < length refs → header_at words' (get_or refs k 0) ≡ f (get_or refs k 0)
+  pub rest : (k : ℕ) → n ≤ k → k < length refs → header_at words' (get_or refs k 0) ≡ header_at words (get_or refs k 0)
+  pub lits : (k : ℕ) → k < length refs → lits_at words' (get_or refs k 0) ≡ lits_at words (get_or refs k 0)
+
+-- what a bump adds, and by how many thousandths activities decay
+pub record Scale : Type 0 where
+  pub bump : ℕ
+  pub decay : ℕ
+
+abbrev pub first_scale : Scale
+first_scale = record { bump = 1024; decay = 999 }
+
+-- a bump on a smaller scale: 16 bits less, but at least 1
+abbrev pub rescaled : ℕ → ℕ
+rescaled bump = max (bump / 2 ^ 16) 1
+
+-- what a bump adds after a decay, on the scale before
+abbrev pub later_bump : Scale → ℕ
+later_bump s = quotient_up (s.bump * 1000) s.decay
+
+abbrev pub with_activity : Header → ℕ → Header
+with_activity h a = record h { activity = a }
+
+-- the headers on a smaller scale of activities
+abbrev pub shifted : List ℕ → ℕ → Header
+shifted words p = with_activity (header_at words p) ((header_at words p).activity / 2 ^ 16)
+
+-- the activity of the clause at o with this much more, held at 2^32 - 1
+abbrev pub raised : List ℕ → (o bump : ℕ) → ℕ
+raised words o bump = min ((header_at words o).activity + bump) (2 ^ 32 - 1)
+
+-- the headers where the clause at o was bumped, and then all on a smaller scale
+abbrev pub bumped_shifted : List ℕ → (o bump : ℕ) → ℕ → Header
+bumped_shifted words o bump p = with_activity (header_at words p) ((if p == o then raised words o bump else (header_at words p).activity) / 2 ^ 16)

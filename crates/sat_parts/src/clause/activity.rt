@@ -1,0 +1,141 @@
+//! Activities of clauses, as whole numbers on a scale that is made smaller before they grow too large.
+ghost use Rattle.std.specs.Prelude.{◌≡◌, ◌+◌, ◌*◌, ◌/◌, ◌^◌, ◌<◌, ◌≤◌, max};
+ghost use Rattle.std.specs.List.{Contains};
+ghost use Rattle.sat_store.specs.clause.Buffer.{header_at};
+ghost use Rattle.sat_store.specs.heap.Vsids.{quotient_up};
+ghost use Rattle.sat_parts.specs.clause.Db.{HoldsDb, PutsHeader, live_refs};
+ghost use Rattle.sat_parts.specs.clause.Activity.{PutsHeaders, first_scale, rescaled, later_bump, with_activity, shifted, raised, bumped_shifted};
+
+use crate::clause::db::{ClauseDb, put_header};
+use sat_store::{ClauseAlloc, ClauseRef};
+use std::marker::Model;
+
+/// Activities and bumps from this on are put on a smaller scale.
+const LIMIT: u64 = 1 << 30;
+
+/// What a bump adds to a clause's activity, and by how many thousandths activities decay. Contracts see a `Scale`.
+#[derive(Drop)]
+pub struct ClauseActivity {
+    bump: u64,
+    decay: u64,
+}
+
+impl Model for ClauseActivity {
+    ghost use Rattle.std.specs.Prelude.{◌<◌, ◌≤◌, ◌^◌};
+    ghost use Rattle.sat_parts.specs.clause.Activity.{Scale};
+
+    ghost Value = { Scale };
+
+    ghost view = { λ a. record { bump = a.bump; decay = a.decay } };
+
+    ghost invariant = { λ a. (0 < a.bump) × (a.bump < 2 ^ 30) × (500 ≤ a.decay) × (a.decay ≤ 999) };
+}
+
+impl Default for ClauseActivity {
+    ghost use Rattle.std.specs.Prelude.{◌≡◌};
+    ghost use Rattle.sat_parts.specs.clause.Activity.{first_scale};
+
+    ghost is_default = { λ a. a ≡ first_scale };
+
+    fn default() -> ClauseActivity {
+        ClauseActivity {
+            bump: 1024,
+            decay: 999,
+        }
+    }
+}
+
+impl ClauseActivity {
+    /// Sets by how many thousandths activities decay.
+    pub fn set_decay(&mut self, decay: u32)
+        requires low { 500 ≤ decay }
+        requires high { decay ≤ 999 }
+        ensures { self.new ≡ record self.old { decay = decay } }
+    {
+        self.decay = u64::from(decay);
+    }
+
+    /// What a bump adds next. It is never 0.
+    pub fn bump(&self) -> u64
+        ensures value { result ≡ self.now.bump }
+        ensures some { 0 < result }
+    {
+        self.bump
+    }
+}
+
+/// Puts the activities of all clauses on a smaller scale.
+fn rescale_clause_activities(clauses: &mut ClauseAlloc, db: &ClauseDb)
+    requires { HoldsDb clauses.old db.now }
+    ensures headers { PutsHeaders clauses.old clauses.new db.now.refs (shifted clauses.old) }
+    ensures db { HoldsDb clauses.new db.now }
+    ensures live { live_refs clauses.new db.now.refs ≡ live_refs clauses.old db.now.refs }
+{
+    for at in 0..db.len() {
+        let cref = db.cref(at);
+        let mut header = clauses.header(cref);
+        header.set_activity(header.activity() / 65536);
+        put_header(clauses, cref, header);
+    }
+}
+
+/// Sets the activity of a clause.
+fn put_activity(clauses: &mut ClauseAlloc, _db: &ClauseDb, cref: ClauseRef, activity: u32)
+    requires db { HoldsDb clauses.old _db.now }
+    requires there { Contains _db.now.refs cref }
+    ensures put { PutsHeader clauses.old clauses.new _db.now.refs cref (with_activity (header_at clauses.old cref) activity) }
+    ensures db { HoldsDb clauses.new _db.now }
+    ensures live { live_refs clauses.new _db.now.refs ≡ live_refs clauses.old _db.now.refs }
+{
+    let mut header = clauses.header(cref);
+    header.set_activity(activity);
+    put_header(clauses, cref, header);
+}
+
+/// Raises the activity of a clause. Where it comes to 2^30, all activities and the bump are put on a smaller scale.
+pub fn bump_clause_activity(
+    activity: &mut ClauseActivity,
+    clauses: &mut ClauseAlloc,
+    db: &ClauseDb,
+    cref: ClauseRef,
+)
+    requires db { HoldsDb clauses.old db.now }
+    requires there { Contains db.now.refs cref }
+    ensures raised { raised clauses.old cref activity.old.bump < 2 ^ 30 → (activity.new ≡ activity.old)
+        × PutsHeader clauses.old clauses.new db.now.refs cref (with_activity (header_at clauses.old cref) (raised clauses.old cref activity.old.bump)) }
+    ensures rescaled { 2 ^ 30 ≤ raised clauses.old cref activity.old.bump → (activity.new ≡ record activity.old { bump = rescaled activity.old.bump })
+        × PutsHeaders clauses.old clauses.new db.now.refs (bumped_shifted clauses.old cref activity.old.bump) }
+    ensures db { HoldsDb clauses.new db.now }
+    ensures live { live_refs clauses.new db.now.refs ≡ live_refs clauses.old db.now.refs }
+{
+    let sum = u64::from(clauses.header(cref).activity()) + activity.bump;
+    let held = sum.min(4294967295) as u32;
+    put_activity(clauses, db, cref, held);
+    if u64::from(held) >= LIMIT {
+        rescale_clause_activities(clauses, db);
+        activity.bump = (activity.bump / 65536).max(1);
+    }
+}
+
+/// Lets all activities decay, in that later bumps add more. Where the bump comes to 2^30, it and all activities are put on a
+/// smaller scale.
+pub fn decay_clause_activities(
+    activity: &mut ClauseActivity,
+    clauses: &mut ClauseAlloc,
+    db: &ClauseDb,
+)
+    requires db { HoldsDb clauses.old db.now }
+    ensures later { later_bump activity.old < 2 ^ 30 → (activity.new ≡ record activity.old { bump = later_bump activity.old }) × (clauses.new ≡ clauses.old) }
+    ensures rescaled { 2 ^ 30 ≤ later_bump activity.old → (activity.new ≡ record activity.old { bump = rescaled (later_bump activity.old) })
+        × PutsHeaders clauses.old clauses.new db.now.refs (shifted clauses.old) }
+    ensures db { HoldsDb clauses.new db.now }
+    ensures live { live_refs clauses.new db.now.refs ≡ live_refs clauses.old db.now.refs }
+{
+    let later = (activity.bump * 1000 + activity.decay - 1) / activity.decay;
+    if later >= LIMIT {
+        rescale_clause_activities(clauses, db);
+        activity.bump = (later / 65536).max(1);
+        return;
+    }
+    activity.bump = later;
+}
