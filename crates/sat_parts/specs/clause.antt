@@ -4,3 +4,4 @@ pub mod Db
 pub mod Glue
 pub mod Collected
 pub mod Activity
+pub mod Reduced

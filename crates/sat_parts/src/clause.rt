@@ -2,3 +2,4 @@
 pub mod activity;
 pub mod db;
 pub mod gc;
+pub mod reduce;

@@ -311,7 +311,7 @@ room_in_tier words db o tier h c differ =
 pub room_to_add : (words : List ℕ) (db : Db) (o : ℕ) (tier : Tier) → HoldsDb words db → length (db.refs ++ o ∷ []) < 2 ^ 64 → get_or db.counts (index_of tier) 0 + 1 < 2 ^ 64
 room_to_add words db o tier h few = omega (arith, h.counts tier, count_by-le-length (is_live_of words tier) db.refs, length_push db.refs o)
 
-puts_same : (words refs : List ℕ) (o : ℕ) (h : Header) → Laid words refs → Contains refs o → h ≡ header_at words o → PutsHeader words words refs o h
+pub puts_same : (words refs : List ℕ) (o : ℕ) (h : Header) → Laid words refs → Contains refs o → h ≡ header_at words o → PutsHeader words words refs o h
 puts_same words refs o h laid has e = record {
   size = refl;
   laid = laid;

@@ -1,5 +1,7 @@
 -- For crates above: what propagation asks holds on where clauses are added, deleted or moved between tiers.
-use Rattle.std.proofs.Common.{ℕ, ◌≡◌, ◌+◌, ◌*◌, ◌<◌, ◌≤◌, ◌⊎◌, inl, inr, List, length, get_or, refl, sym, ap, ◌∙◌, subst, arith, true}
+use Rattle.std.proofs.Common.{ℕ, ◌≡◌, ◌+◌, ◌*◌, ◌<◌, ◌≤◌, ◌⊎◌, inl, inr, List, [], ◌∷◌, ◌++◌, length, get_or, refl, sym, ap, ◌∙◌, subst, arith, true, length-set}
+use Rattle.std.proofs.lemmas.Bool.{cases_Bool, cond-true, cond-false}
+use Rattle.std.proofs.lemmas.List.Elements.{Contains-append_left, Contains-push, Contains-push_cases}
 use Rattle.std.specs.List.{Contains}
 use Rattle.sat_base.specs.values.Literals.{negated, variable}
 use Rattle.sat_store.specs.clause.Buffer.{Laid, lits_at}
@@ -7,13 +9,16 @@ use Rattle.sat_store.proofs.lemmas.clause.Laying.{laid_among}
 use Rattle.sat_parts.specs.declared.prop.graph.Reason.{Reason}
 use Rattle.sat_parts.specs.declared.prop.graph.Reason.TheVariants.{Unit as NoCause, Long}
 use Rattle.sat_parts.specs.clause.Orders.{AreDistinct}
-use Rattle.sat_parts.specs.clause.Db.{live_refs}
+use Rattle.sat_store.specs.clause.Header.{Header}
+use Rattle.sat_parts.specs.declared.prop.watch.Watch.{Watch}
+use Rattle.sat_parts.specs.clause.Db.{Db, live_refs, AddsClause}
 use Rattle.sat_parts.specs.clause.Stored.{AreClauses, lit_of, size_of}
-use Rattle.sat_parts.specs.prop.WatchLists.{Watching}
-use Rattle.sat_parts.specs.prop.State.{State, node, level, lit_at, HasLeft, IsSatisfied}
-use Rattle.sat_parts.specs.prop.Ready.{AreWatched}
+use Rattle.sat_parts.specs.prop.WatchLists.{Watching, no_watch, watch_on, watches_of, more_at, with_watch, with_clause}
+use Rattle.sat_parts.specs.prop.State.{State, node, level, current_level, lit_at, HasLeft, IsSatisfied}
+use Rattle.sat_parts.specs.prop.Ready.{IsGood, HasWatch, AreWatched}
 use Rattle.sat_parts.specs.prop.Asks.{Asks, AsksForReason, IsOwnLong}
 use Rattle.sat_parts.proofs.lemmas.prop.BuildLemmas.{live_in}
+use Rattle.sat_parts.proofs.lemmas.prop.WalkLemmas.{more_watch, new_watch, good_lists, at_two}
 
 -- fewer clauses are live, each with its literals as before, and each reason of the trail is one of them
 pub asks_fewer : (words refs words' refs' : List ℕ) (w w' : Watching) (implied : List (List ℕ)) (s : State) (top : ℕ) → Asks words refs w implied s top → Laid words' refs' →
@@ -57,3 +62,106 @@ asks_of_unit words refs w implied s top lit h = record {
   ranges = h.ranges;
   binary = λ l k x d b. elim (h.binary l k x d b) [ inl y ↦ y | inr n ↦ absurd n.0 ];
 }
+
+lists_added : (o a b : ℕ) (w : Watching) → (length (with_clause o a b w).lists ≡ length w.lists) × ((with_clause o a b w).enabled ≡ w.enabled)
+lists_added o a b w = elim (cases_Bool w.enabled) [
+  | inl on ↦
+      let e : with_clause o a b w ≡ with_watch (negated b) (watch_on o a) (with_watch (negated a) (watch_on o b) w) = cond-true w.enabled _ w on in
+      let one : List (List Watch) = more_at (negated a) (watch_on o b) w.lists in (
+        ap (λ (x : Watching). length x.lists) e ∙ length-set one (negated b) (watches_of one (negated b) ++ watch_on o a ∷ [])
+            ∙ length-set w.lists (negated a) (watches_of w.lists (negated a) ++ watch_on o b ∷ []),
+        ap (λ (x : Watching). x.enabled) e,
+      )
+  | inr off ↦
+      let e : with_clause o a b w ≡ w = cond-false w.enabled _ w off in
+      (ap (λ (x : Watching). length x.lists) e, ap (λ (x : Watching). x.enabled) e)
+]
+
+-- watch lists that are kept up have the new clause too
+watched_added : (words words' : List ℕ) (db db' : Db) (o count : ℕ) (header : Header) (lits : List ℕ) (w : Watching) → AddsClause words db words' db' o header lits →
+    Laid words db.refs → 3 ≤ length lits → ((k : ℕ) → k < length lits → get_or lits k 0 < 2 * count) → w.enabled ≡ true → AreWatched words (live_refs words db.refs) w.lists count →
+    AreWatched words' (live_refs words' db'.refs) (with_clause o (get_or lits 0 0) (get_or lits 1 0) w).lists count
+watched_added words words' db db' o count header lits w x laid three below on h =
+    let a : ℕ = get_or lits 0 0 in
+    let b : ℕ = get_or lits 1 0 in
+    let live : List ℕ = live_refs words db.refs in
+    let live' : List ℕ = live_refs words' db'.refs in
+    let room : length w.lists ≡ 2 * count = h.room in
+    let small_a : get_or lits 0 0 < 2 * count = below 0 (omega arith) in
+    let small_b : get_or lits 1 0 < 2 * count = below 1 (omega arith) in
+    let first : Watch = watch_on o b in
+    let second : Watch = watch_on o a in
+    let one : List (List Watch) = more_at (negated a) first w.lists in
+    let two : List (List Watch) = more_at (negated b) second one in
+    let one_length : length one ≡ length w.lists = length-set w.lists (negated a) (watches_of w.lists (negated a) ++ first ∷ []) in
+    let two_length : length two ≡ length one = length-set one (negated b) (watches_of one (negated b) ++ second ∷ []) in
+    let in_one : negated (get_or lits 0 0) < length w.lists = omega arith in
+    let in_two : negated (get_or lits 1 0) < length one = omega arith in
+    let new_in : Contains (live_refs words' db'.refs) o = subst (λ (xs : List ℕ). Contains xs o) (sym x.live) (Contains-push live o) in
+    let old_in : (p : ℕ) → Contains live p → Contains (live_refs words' db'.refs) p = λ p c. subst (λ (xs : List ℕ). Contains xs p) (sym x.live) (Contains-append_left live (o ∷ []) p c) in
+    let same : (p : ℕ) → Contains live p → lits_at words' p ≡ lits_at words p = λ p c. (x.added.others p (laid.clauses p (live_in words db.refs p c))).lits in
+    let there : lits_at words' o ≡ lits = x.added.lits_there in
+    let good_first : IsGood words' (live_refs words' db'.refs) first =
+    (new_in, (1, subst (λ (ls : List ℕ). (1 < length ls) × (get_or ls 1 0 ≡ b)) (sym there) (omega arith, refl))) in
+    let good_second : IsGood words' (live_refs words' db'.refs) second =
+    (new_in, (0, subst (λ (ls : List ℕ). (0 < length ls) × (get_or ls 0 0 ≡ a)) (sym there) (omega arith, refl))) in
+    let good_old : (l p : ℕ) → p < length (watches_of w.lists l) → IsGood words' (live_refs words' db'.refs) (get_or (watches_of w.lists l) p no_watch) = λ l p lt.
+    let g : IsGood words live (get_or (watches_of w.lists l) p no_watch) = h.good l p lt in
+    let y : Watch = get_or (watches_of w.lists l) p no_watch in
+    (old_in y.cref g.0, (g.1.0, subst (λ (ls : List ℕ). (g.1.0 < length ls) × (get_or ls g.1.0 0 ≡ y.blocking)) (sym (same y.cref g.0)) g.1.1)) in
+    let W : ℕ → ℕ → Type 0 = λ p i. HasWatch (watches_of two (negated (lit_of words' p i))) p in
+    let e : with_clause o a b w ≡ with_watch (negated b) second (with_watch (negated a) first w) = cond-true w.enabled _ w on in
+    subst (λ (z : Watching). AreWatched words' (live_refs words' db'.refs) z.lists count) (sym e) (record {
+      room = two_length ∙ one_length ∙ h.room;
+      good = good_lists words' (live_refs words' db'.refs) one (negated b) second in_two good_second (good_lists words' (live_refs words' db'.refs) w.lists (negated a) first in_one good_first good_old);
+      both = λ p i z hi. elim (Contains-push_cases live o p (subst (λ (xs : List ℕ). Contains xs p) x.live z)) [
+        | inl old ↦ subst (λ (ls : List ℕ). HasWatch (watches_of two (negated (get_or ls i 0))) p) (sym (same p old))
+            (more_watch one (negated b) (negated (lit_of words p i)) p second in_two (more_watch w.lists (negated a) (negated (lit_of words p i)) p first in_one (h.both p i old hi)))
+        | inr new ↦ subst (λ (q : ℕ). W q i) new
+            (at_two (λ j. W o j)
+            (subst (λ (ls : List ℕ). HasWatch (watches_of two (negated (get_or ls 0 0))) o) (sym there) (more_watch one (negated b) (negated a) o second in_two (new_watch w.lists (negated a) first in_one)))
+            (subst (λ (ls : List ℕ). HasWatch (watches_of two (negated (get_or ls 1 0))) o) (sym there) (new_watch one (negated b) second in_two)) i hi)
+      ];
+    })
+
+-- after an addition of a clause of different literals of known variables, which may be the next literal's reason: its false
+-- literals that are watched and have left the queue are settled, or of the current level
+pub asks_added : (words words' : List ℕ) (db db' : Db) (o : ℕ) (header : Header) (lits : List ℕ) (w : Watching) (implied : List (List ℕ)) (s : State) (top lit : ℕ) (r : Reason) →
+    Asks words db.refs w implied s top → AddsClause words db words' db' o header lits → AreDistinct lits → 3 ≤ length lits → ((k : ℕ) → k < length lits → get_or lits k 0 < 2 * length s.values) →
+    ((i : ℕ) → i < 2 → HasLeft s (negated (get_or lits i 0)) → level s (negated (get_or lits i 0)) < top →
+    IsSatisfied s lits (level s (negated (get_or lits i 0))) ⊎ (IsOwnLong r o × (current_level s ≤ level s (negated (get_or lits i 0))))) →
+    AsksForReason lit r words' db'.refs (with_clause o (get_or lits 0 0) (get_or lits 1 0) w) implied s top
+asks_added words words' db db' o header lits w implied s top lit r h x apart three below own =
+    let live : List ℕ = live_refs words db.refs in
+    let keeps : (p : ℕ) → Contains (live_refs words db.refs) p → lits_at words' p ≡ lits_at words p = λ p c. (x.added.others p (h.laid.clauses p (live_in words db.refs p c))).lits in
+    let there : lits_at words' o ≡ lits = x.added.lits_there in
+    let old_in : (p : ℕ) → Contains (live_refs words db.refs) p → Contains (live_refs words' db'.refs) p = λ p c. subst (λ (xs : List ℕ). Contains xs p) (sym x.live) (Contains-append_left live (o ∷ []) p c) in
+    let from : (P : ℕ → List ℕ → Type 0) → ((p : ℕ) → Contains (live_refs words db.refs) p → P p (lits_at words p)) → P o lits → (p : ℕ) → Contains (live_refs words' db'.refs) p → P p (lits_at words' p) =
+    λ P old new p c. elim (Contains-push_cases live o p (subst (λ (xs : List ℕ). Contains xs p) x.live c)) [
+      | inl before ↦ subst (λ (ls : List ℕ). P p ls) (sym (keeps p before)) (old p before)
+      | inr e ↦ subst (λ (q : ℕ). P q (lits_at words' q)) e (subst (λ (ls : List ℕ). P o ls) (sym there) new)
+    ] in
+    record {
+      laid = x.holds.laid;
+      clauses = record {
+        laid = laid_among words' db'.refs (live_refs words' db'.refs) (λ p c. live_in words' db'.refs p c) x.holds.laid;
+        long = from (λ p ls. 3 ≤ length ls) (λ p c. h.clauses.long p c) three;
+        below = λ p k c. from (λ q ls. k < length ls → get_or ls k 0 < 2 * length s.values) (λ q d. h.clauses.below q k d) (below k) p c;
+        distinct = from (λ p ls. AreDistinct ls) (λ p c. h.clauses.distinct p c) apart;
+      };
+      room = (lists_added o (get_or lits 0 0) (get_or lits 1 0) w).0 ∙ h.room;
+      watches = λ on.
+          let was : w.enabled ≡ true = sym (lists_added o (get_or lits 0 0) (get_or lits 1 0) w).1 ∙ on in
+          watched_added words words' db db' o (length s.values) header lits w x h.laid three below was (h.watches was);
+      agrees = h.agrees;
+      queue = h.queue;
+      firsts = λ i p lt e.
+          let f : Contains (live_refs words db.refs) p × (lit_of words p 0 ≡ lit_at s i) = h.firsts i p lt e in
+          (old_in p f.0, ap (λ (ls : List ℕ). get_or ls 0 0) (keeps p f.0) ∙ f.1);
+      settled = λ p i c b.
+          from (λ q ls. HasLeft s (negated (get_or ls i 0)) → level s (negated (get_or ls i 0)) < top →
+          IsSatisfied s ls (level s (negated (get_or ls i 0))) ⊎ (IsOwnLong r q × (current_level s ≤ level s (negated (get_or ls i 0)))))
+          (λ q d f g. inl (h.settled q i d b f g)) (own i b) p c;
+      ranges = h.ranges;
+      binary = λ l k f g b. inl (h.binary l k f g b);
+    }

@@ -1,0 +1,9 @@
+-- What reductions make of the header of a clause.
+use Rattle.std.specs.Prelude.{ℕ, ◌==◌, Bool, true, false, not, ◌&&◌, if◌then◌else◌}
+use Rattle.sat_store.specs.clause.Header.{Header, index_of}
+use Rattle.sat_store.specs.declared.clause.tier.Tier.{Tier}
+use Rattle.sat_store.specs.declared.clause.tier.Tier.TheVariants.{Local}
+
+-- of tier Mid: an active clause isn't active any more, an inactive one is of tier Local
+abbrev pub reduced : Header → Header
+reduced h = if not h.deleted && (index_of h.tier == 2) then (if h.active then record h { active = false } else record h { tier = Local }) else h
