@@ -13,3 +13,4 @@ pub mod StepLemmas
 pub mod ReasonLemmas
 pub mod ImpliedLemmas
 pub mod CallLemmas
+pub mod CollectedLemmas
