@@ -1,0 +1,283 @@
+-- From parts without clauses to parts that propagation can begin with.
+use Rattle.std.proofs.Common.{ℕ, ◌≡◌, ◌≢◌, ◌+◌, ◌-◌, ◌*◌, ◌^◌, ◌<◌, ◌≤◌, ◌⊎◌, inl, inr, List, [], ◌∷◌, ◌++◌, max, take, replicate, length, get_or, length-set, get_or-set_same, get_or-set_other, refl, sym, ap, ◌∙◌, subst, arith, true, false, Bool, Option, Some, None}
+use Rattle.std.proofs.lemmas.Bool.{cases_lt, cases_eq}
+use Rattle.std.proofs.lemmas.List.{get_or_push, get_or_append_left, length_push, get_or-replicate, length-replicate, get_or_past, take_all}
+use Rattle.std.proofs.lemmas.List.Elements.{Contains-push_cases, Contains-push}
+use Rattle.std.specs.List.{Contains}
+use Rattle.sat_base.specs.values.Literals.{largest, negated, variable, is_positive}
+use Rattle.sat_store.specs.clause.Buffer.{IsClause, Laid, Keeps, lits_at}
+use Rattle.sat_store.specs.clause.Header.{Header}
+use Rattle.sat_store.specs.heap.Vsids.{Queue, no_variables, with_variables, with_available}
+use Rattle.sat_store.proofs.lemmas.clause.Laying.{laid_none, laid_among}
+use Rattle.sat_parts.specs.declared.prop.graph.ImplNode.{ImplNode}
+use Rattle.sat_parts.specs.clause.Db.{Db, HoldsDb, no_clauses, live_refs, AddsClause}
+use Rattle.sat_parts.specs.clause.Orders.{AreDistinct}
+use Rattle.sat_parts.specs.clause.Stored.{AreClauses, lit_of, size_of}
+use Rattle.sat_parts.specs.prop.Binaries.{Binaries, implied_by, with_implied, with_binary, with_literals}
+use Rattle.sat_parts.specs.prop.Values.{Values, value_of, with_var_count, made_true}
+use Rattle.sat_parts.specs.prop.Undone.{undone, undone_to, undone_lits, all_available}
+use Rattle.sat_parts.specs.prop.Backtracked.{KeepsAsked, KeepsAskedBy}
+use Rattle.sat_parts.proofs.lemmas.prop.BacktrackLemmas.{undone_length}
+use Rattle.sat_parts.specs.prop.Graphs.{with_nodes, new_node}
+use Rattle.sat_parts.specs.prop.Trails.{Trailed, no_trail, with_lit}
+use Rattle.sat_parts.specs.prop.WatchLists.{Watching, with_lists, with_clause}
+use Rattle.sat_parts.specs.prop.Ready.{AreLists, state_of}
+use Rattle.sat_parts.specs.declared.prop.graph.Reason.TheVariants.{Unit as NoCause, Long}
+use Rattle.sat_parts.specs.prop.State.{State, HasLeft}
+use Rattle.sat_parts.specs.prop.Asks.{Asks, AsksAll, AsksForReason}
+use Rattle.sat_parts.proofs.lemmas.prop.BuildLemmas.{live_in}
+use Rattle.sat_parts_tests.specs.Loading.{HoldsClauses, IsBlank, IsClauseOver, Serves}
+
+-- a list of one value reads so everywhere
+same_everywhere : {X : Type 0} → (m i : ℕ) (x : X) → get_or (replicate m x) i x ≡ x
+same_everywhere m i x = elim (cases_lt i m) [
+  | inl lt ↦ get_or-replicate m i x x lt
+  | inr past ↦ (let n : length (replicate m x) ≡ m = length-replicate m x in get_or_past (replicate m x) i x (omega arith))
+]
+
+nothing_taken : {X : Type 0} → (xs : List X) (n : ℕ) → xs ≡ [] → take n xs ≡ []
+nothing_taken xs n e = (let z : length xs ≡ 0 = ap (λ ys. length ys) e in take_all n xs (omega arith)) ∙ e
+
+-- an empty list that grew
+grown_reads : {X : Type 0} → (xs : List X) (x : X) (n i : ℕ) → xs ≡ [] → get_or (take n xs ++ replicate (n - length xs) x) i x ≡ x
+grown_reads xs x n i e = ap (λ ys. get_or (ys ++ replicate (n - length xs) x) i x) (nothing_taken xs n e) ∙ same_everywhere (n - length xs) i x
+
+grown_length : {X : Type 0} → (xs : List X) (x : X) (n : ℕ) → xs ≡ [] → length (take n xs ++ replicate (n - length xs) x) ≡ n
+grown_length xs x n e =
+    let z : length xs ≡ 0 = ap (λ ys. length ys) e in
+    let m : length (replicate (n - length xs) x) ≡ n - length xs = length-replicate (n - length xs) x in
+    ap (λ ys. length (ys ++ replicate (n - length xs) x)) (nothing_taken xs n e) ∙ omega arith
+
+raised_length : {X : Type 0} → (xs : List X) (x : X) (n : ℕ) → xs ≡ [] → length (xs ++ replicate (n - length xs) x) ≡ n
+raised_length xs x n e =
+    let z : length xs ≡ 0 = ap (λ ys. length ys) e in
+    let m : length (replicate (n - length xs) x) ≡ n - length xs = length-replicate (n - length xs) x in
+    ap (λ ys. length (ys ++ replicate (n - length xs) x)) e ∙ omega arith
+
+no_live : (words : List ℕ) (count : ℕ) → AreClauses words [] count
+no_live words count = record {
+  laid = laid_none words;
+  long = λ o h. absurd (omega (arith, h.1));
+  below = λ o k h lt. absurd (omega (arith, h.1));
+  distinct = λ o h. absurd (omega (arith, h.1));
+}
+
+pub holds_none : (words : List ℕ) (db : Db) (w w' : Watching) (b b' : Binaries) (count : ℕ) → HoldsDb words db → db ≡ no_clauses →
+    w.lists ≡ [] → b.implied ≡ [] → w' ≡ with_lists (2 * count) (record w { enabled = false }) → b' ≡ with_literals (2 * count) b →
+    HoldsClauses words db w' b' count
+holds_none words db w w' b b' count holds e no_lists no_implied to_w to_b =
+    let size : length (take (2 * count) b.implied ++ replicate (2 * count - length b.implied) []) ≡ 2 * count = grown_length b.implied [] (2 * count) no_implied in
+    rw (to_w, to_b) record {
+      holds = holds;
+      clauses = subst (λ (d : Db). AreClauses words (live_refs words d.refs) count) (sym e) (no_live words count);
+      lists = grown_length w.lists [] (2 * count) no_lists;
+      off = refl;
+      ranges = record {
+        room = size;
+        below = λ l k lt. absurd (let z : length (get_or (take (2 * count) b.implied ++ replicate (2 * count - length b.implied) []) l []) ≡ 0 = ap (λ (ys : List ℕ). length ys) (grown_reads b.implied [] (2 * count) l no_implied) in omega (arith, lt));
+      };
+    }
+
+pub blank_made : (a a' : Values) (nodes nodes' : List ImplNode) (t t' : Trailed) (q q' : Queue) (count : ℕ) → count ≤ largest →
+    a.current ≡ [] → nodes ≡ [] → t ≡ no_trail → q ≡ no_variables →
+    a' ≡ with_var_count count a → nodes' ≡ with_nodes count nodes → t' ≡ record t { room = max t.room count } → q' ≡ with_variables count q →
+    IsBlank a' nodes' t' q' count
+blank_made a a' nodes nodes' t t' q q' count small no_values no_nodes no_lits no_vars to_a to_nodes to_t to_q =
+    rw (to_a, to_nodes, to_t, to_q) record {
+      size = grown_length a.current None count no_values;
+      unset = λ v. grown_reads a.current None count v no_values;
+      nodes = grown_length nodes new_node count no_nodes;
+      lits = ap (λ (x : Trailed). x.lits) no_lits;
+      head = ap (λ (x : Trailed). x.head) no_lits;
+      starts = ap (λ (x : Trailed). x.starts) no_lits;
+      room = omega arith;
+      small = (let r : t.room ≡ 0 = ap (λ (x : Trailed). x.room) no_lits in omega arith);
+      queue = raised_length q.available false count (ap (λ (x : Queue). x.available) no_vars);
+    }
+
+-- a clause more
+pub clauses_added : (words : List ℕ) (db : Db) (words' : List ℕ) (db' : Db) (o : ℕ) (h : Header) (ls : List ℕ) (count : ℕ) →
+    HoldsDb words db → AreClauses words (live_refs words db.refs) count → AddsClause words db words' db' o h ls → IsClauseOver ls count →
+    AreClauses words' (live_refs words' db'.refs) count
+clauses_added words db words' db' o h ls count holds c added good =
+    let old : List ℕ = live_refs words db.refs in
+    let kept : (p : ℕ) → Contains (live_refs words db.refs) p → lits_at words' p ≡ lits_at words p = λ p x. (added.added.others p (c.laid.clauses p x)).lits in
+    let case : (p : ℕ) → Contains (live_refs words' db'.refs) p → Contains (live_refs words db.refs) p ⊎ (o ≡ p) =
+    λ p x. Contains-push_cases (live_refs words db.refs) o p (subst (λ (xs : List ℕ). Contains xs p) added.live x) in
+    let here : (p : ℕ) → o ≡ p → lits_at words' p ≡ ls = λ p e. ap (λ x. lits_at words' x) (sym e) ∙ added.added.lits_there in
+    record {
+      laid = subst (λ (xs : List ℕ). Laid words' xs) (sym added.live) (added.added.laid (live_refs words db.refs) c.laid);
+      long = λ p x. elim (case p x) [
+        | inl x ↦ subst (λ (ms : List ℕ). 3 ≤ length ms) (sym (kept p x)) (c.long p x)
+        | inr e ↦ subst (λ (ms : List ℕ). 3 ≤ length ms) (sym (here p e)) good.long
+      ];
+      below = λ p k x. elim (case p x) [
+        | inl x ↦ subst (λ (ms : List ℕ). k < length ms → get_or ms k 0 < 2 * count) (sym (kept p x)) (λ lt. c.below p k x lt)
+        | inr e ↦ subst (λ (ms : List ℕ). k < length ms → get_or ms k 0 < 2 * count) (sym (here p e)) (λ lt. good.below k lt)
+      ];
+      distinct = λ p x. elim (case p x) [
+        | inl x ↦ subst (λ (ms : List ℕ). AreDistinct ms) (sym (kept p x)) (c.distinct p x)
+        | inr e ↦ subst (λ (ms : List ℕ). AreDistinct ms) (sym (here p e)) good.distinct
+      ];
+    }
+
+-- a clause that watch lists don't have to hold
+pub holds_more : (words : List ℕ) (db : Db) (w : Watching) (b : Binaries) (words' : List ℕ) (db' : Db) (w' : Watching) (o x y : ℕ) (h : Header) (ls : List ℕ) (count : ℕ) →
+    HoldsClauses words db w b count → AddsClause words db words' db' o h ls → IsClauseOver ls count → w' ≡ with_clause o x y w → HoldsClauses words' db' w' b count
+holds_more words db w b words' db' w' o x y h ls count held added good to_w =
+    let same : w' ≡ w = to_w ∙ grind (arith, held.off) in
+    record {
+      holds = added.holds;
+      clauses = clauses_added words db words' db' o h ls count held.holds held.clauses added good;
+      lists = ap (λ (v : Watching). length v.lists) same ∙ held.lists;
+      off = ap (λ (v : Watching). v.enabled) same ∙ held.off;
+      ranges = held.ranges;
+    }
+
+pub new_is_live : (words : List ℕ) (db : Db) (words' : List ℕ) (db' : Db) (o : ℕ) (h : Header) (ls : List ℕ) → AddsClause words db words' db' o h ls → Contains (live_refs words' db'.refs) o
+new_is_live words db words' db' o h ls added = subst (λ (xs : List ℕ). Contains xs o) (sym added.live) (Contains-push (live_refs words db.refs) o)
+
+pushed_below : (ys : List ℕ) (m count : ℕ) → m < 2 * count → ((j : ℕ) → j < length ys → get_or ys j 0 < 2 * count) → (k : ℕ) → k < length (ys ++ m ∷ []) → get_or (ys ++ m ∷ []) k 0 < 2 * count
+pushed_below ys m count small below k lt =
+    let n : length (ys ++ m ∷ []) ≡ length ys + 1 = length_push ys m in
+    elim (cases_lt k (length ys)) [
+      | inl h ↦ subst (λ y. y < 2 * count) (sym (get_or_append_left ys (m ∷ []) 0 k h)) (below k h)
+      | inr h ↦ subst (λ y. y < 2 * count) (sym (get_or_push ys m 0 k (omega arith))) small
+    ]
+
+-- the same for a clause of two literals
+longer_below : (implied : List (List ℕ)) (l m count : ℕ) → m < 2 * count → l < length implied →
+    ((x k : ℕ) → k < length (implied_by implied x) → get_or (implied_by implied x) k 0 < 2 * count) →
+    (x k : ℕ) → k < length (implied_by (with_implied l m implied) x) → get_or (implied_by (with_implied l m implied) x) k 0 < 2 * count
+longer_below implied l m count small within below x k lt = elim (cases_eq x l) [
+  | inr other ↦
+      let e : implied_by (with_implied l m implied) x ≡ implied_by implied x = get_or-set_other implied l x (implied_by implied l ++ m ∷ []) [] other in
+      subst (λ (ys : List ℕ). k < length ys → get_or ys k 0 < 2 * count) (sym e) (λ h. below x k h) lt
+  | inl same ↦
+      let e : implied_by (with_implied l m implied) x ≡ implied_by implied l ++ m ∷ [] =
+      ap (λ y. implied_by (with_implied l m implied) y) same ∙ get_or-set_same implied l (implied_by implied l ++ m ∷ []) [] within in
+      subst (λ (ys : List ℕ). k < length ys → get_or ys k 0 < 2 * count) (sym e) (λ h. pushed_below (implied_by implied l) m count small (λ j g. below l j g) k h) lt
+]
+
+pub lists_more : (b : Binaries) (x y count : ℕ) → x < 2 * count → y < 2 * count → AreLists b.implied count → AreLists (with_binary x y b).implied count
+lists_more b x y count small_x small_y h =
+    let one : List (List ℕ) = with_implied (negated x) y b.implied in
+    let n : length (with_implied (negated x) y b.implied) ≡ length b.implied = length-set b.implied (negated x) (implied_by b.implied (negated x) ++ y ∷ []) in
+    let m : length (with_implied (negated y) x one) ≡ length one = length-set one (negated y) (implied_by one (negated y) ++ x ∷ []) in
+    record {
+      room = m ∙ n ∙ h.room;
+      below = longer_below one (negated y) x count small_x (omega (arith, h.room)) (longer_below b.implied (negated x) y count small_y (omega (arith, h.room)) h.below);
+    }
+
+-- nothing has left the queue
+none_left : (a : Values) (nodes : List ImplNode) (t : Trailed) (q : Queue) (count l : ℕ) → IsBlank a nodes t q count → HasLeft (state_of a nodes t) l → ⊥
+none_left a nodes t q count l blank left = elim left [
+  | inl b ↦ (let n : length t.lits ≡ 0 = ap (λ (xs : List ℕ). length xs) blank.lits in omega (arith, b.within))
+  | inr r ↦ (let e : Some (is_positive l) ≡ None = sym r.holds ∙ blank.unset (variable l) in cc)
+]
+
+pub asks_begun : (words : List ℕ) (db : Db) (w : Watching) (b : Binaries) (a : Values) (nodes : List ImplNode) (t : Trailed) (q : Queue) (count : ℕ) →
+    HoldsClauses words db w b count → IsBlank a nodes t q count → AsksAll words db.refs w b.implied (state_of a nodes t)
+asks_begun words db w b a nodes t q count held blank =
+    let n : length t.lits ≡ 0 = ap (λ (xs : List ℕ). length xs) blank.lits in
+    let m : length t.starts ≡ 0 = ap (λ (xs : List ℕ). length xs) blank.starts in
+    record {
+      laid = held.holds.laid;
+      clauses = subst (λ (k : ℕ). AreClauses words (live_refs words db.refs) k) (sym blank.size) held.clauses;
+      room = held.lists ∙ ap (λ k. 2 * k) (sym blank.size);
+      watches = λ on. absurd (let e : true ≡ false = sym on ∙ held.off in cc);
+      agrees = record {
+        trail = record {
+          queue = omega (arith, blank.head);
+          levels = record { within = λ k lt. absurd (omega arith); rising = λ j k le lt. absurd (omega arith) };
+          fits = omega arith;
+          small = blank.small;
+          counted = omega arith;
+        };
+        nodes = blank.nodes ∙ sym blank.size;
+        room = omega (arith, blank.size, blank.room);
+        holds = λ i lt. absurd (omega arith);
+        depths = λ i lt. absurd (omega arith);
+        levels = λ i lt. absurd (omega arith);
+        known = λ l e. absurd (let f : Some (is_positive l) ≡ None = sym e ∙ blank.unset (variable l) in cc);
+      };
+      queue = λ i le lt. absurd (omega arith);
+      firsts = λ i o lt e. absurd (omega arith);
+      settled = λ o i h hi left due. absurd (none_left a nodes t q count _ blank left);
+      ranges = subst (λ (k : ℕ). AreLists b.implied k) (sym blank.size) held.ranges;
+      binary = λ l k left due lt. absurd (none_left a nodes t q count _ blank left);
+    }
+
+no_long : (o : ℕ) → NoCause ≡ Long o → ⊥
+no_long o e = cc
+
+-- no reason is needed for a unit or a decision
+pub asks_for_unit : (lit : ℕ) (words refs : List ℕ) (w : Watching) (implied : List (List ℕ)) (s : State) (top : ℕ) → Asks words refs w implied s top → AsksForReason lit NoCause words refs w implied s top
+asks_for_unit lit words refs w implied s top h = record {
+  laid = h.laid;
+  clauses = h.clauses;
+  room = h.room;
+  watches = h.watches;
+  agrees = h.agrees;
+  queue = h.queue;
+  firsts = h.firsts;
+  settled = λ o i x hi left due. inl (h.settled o i x hi left due);
+  ranges = h.ranges;
+  binary = λ l k left due lt. inl (h.binary l k left due lt);
+}
+
+pub serves_enqueued : (words : List ℕ) (db : Db) (w : Watching) (b : Binaries) (a : Values) (nodes : List ImplNode) (t : Trailed) (q : Queue) (a' : Values) (nodes' : List ImplNode) (t' : Trailed) (lit : ℕ) →
+    Serves words db w b a nodes t q (length t.starts + 1) → KeepsAskedBy lit NoCause a nodes t a' nodes' t' → a' ≡ made_true lit a → t' ≡ with_lit lit t →
+    Serves words db w b a' nodes' t' q (length t'.starts + 1)
+serves_enqueued words db w b a nodes t q a' nodes' t' lit h keeps to_a to_t =
+    let same : length t'.starts ≡ length t.starts = ap (λ (x : Trailed). length x.starts) to_t in
+    let size : length a'.current ≡ length a.current = ap (λ (x : Values). length x.current) to_a ∙ length-set a.current (variable lit) (Some (is_positive lit)) in
+    let asked : Asks words db.refs w b.implied (state_of a' nodes' t') (length t.starts + 1) =
+    keeps words db.refs w b.implied (length t.starts + 1) (λ o e. absurd (no_long o e)) (asks_for_unit lit words db.refs w b.implied (state_of a nodes t) (length t.starts + 1) h.asks) in
+    record {
+      asks = subst (λ (n : ℕ). Asks words db.refs w b.implied (state_of a' nodes' t') (n + 1)) (sym same) asked;
+      queue = h.queue ∙ sym size;
+    }
+
+-- what is asked for more levels is asked for fewer
+asks_lower : (words refs : List ℕ) (w : Watching) (implied : List (List ℕ)) (s : State) (top low : ℕ) → low ≤ top → Asks words refs w implied s top → Asks words refs w implied s low
+asks_lower words refs w implied s top low le h = record {
+  laid = h.laid;
+  clauses = h.clauses;
+  room = h.room;
+  watches = h.watches;
+  agrees = h.agrees;
+  queue = h.queue;
+  firsts = h.firsts;
+  settled = λ o i x hi left due. h.settled o i x hi left (omega (arith, due));
+  ranges = h.ranges;
+  binary = λ l k left due lt. h.binary l k left (omega (arith, due)) lt;
+}
+
+pub available_length : (ls : List ℕ) (q : Queue) → length (all_available ls q).available ≡ length q.available
+available_length [] q = refl
+available_length (l ∷ ls) q = available_length ls (with_available (variable l) true q) ∙ length-set q.available (variable l) true
+
+pub undone_size : (ls : List ℕ) (a a' : Values) → a' ≡ undone ls a → length a'.current ≡ length a.current
+undone_size ls a a' e = ap (λ (x : Values). length x.current) e ∙ undone_length ls a
+
+pub serves_undone : (words : List ℕ) (db : Db) (w : Watching) (b : Binaries) (a : Values) (nodes : List ImplNode) (t : Trailed) (q : Queue) (a' : Values) (t' : Trailed) (q' : Queue) (top : ℕ) →
+    Serves words db w b a nodes t q top → 0 < top →
+    (length t.starts ≤ 0 → a' ≡ a) → (length t.starts ≤ 0 → t' ≡ t) → (length t.starts ≤ 0 → q' ≡ q) →
+    (0 < length t.starts → a' ≡ undone_to 0 t a) → (0 < length t.starts → q' ≡ all_available (undone_lits 0 t) q) → (0 < length t.starts → KeepsAsked 0 a t a' t') →
+    Serves words db w b a' nodes t' q' (length t'.starts + 1) × (length a'.current ≡ length a.current)
+serves_undone words db w b a nodes t q a' t' q' top h above same_a same_t same_q to_a to_q keeps = elim (cases_lt 0 (length t.starts)) [
+  | inl lt ↦
+      let size : length a'.current ≡ length a.current = undone_size (undone_lits 0 t) a a' (to_a lt) in
+      let queue : length q'.available ≡ length q.available = ap (λ (x : Queue). length x.available) (to_q lt) ∙ available_length (undone_lits 0 t) q in (
+        record { asks = keeps lt words db.refs w b.implied nodes top above h.asks; queue = queue ∙ h.queue ∙ sym size },
+        size,
+      )
+  | inr le ↦ (
+    rw (same_a le, same_t le, same_q le) record {
+      asks = asks_lower words db.refs w b.implied (state_of a nodes t) top (length t.starts + 1) (omega arith) h.asks;
+      queue = h.queue;
+    },
+    ap (λ (x : Values). length x.current) (same_a le),
+  )
+]

@@ -1,0 +1,11 @@
+//! Tests of the public calls of `sat_parts`.
+#![tactic(auto)]
+
+#[cfg(test)]
+mod loading;
+#[cfg(test)]
+mod parts;
+#[cfg(test)]
+mod propagation;
+#[cfg(test)]
+mod search;
