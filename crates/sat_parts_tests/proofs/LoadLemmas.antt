@@ -25,7 +25,7 @@ use Rattle.sat_parts.specs.prop.Ready.{AreLists, state_of}
 use Rattle.sat_parts.specs.declared.prop.graph.Reason.TheVariants.{Unit as NoCause, Long}
 use Rattle.sat_parts.specs.prop.State.{State, HasLeft}
 use Rattle.sat_parts.specs.prop.Asks.{Asks, AsksAll, AsksForReason}
-use Rattle.sat_parts.proofs.lemmas.prop.BuildLemmas.{live_in}
+use Rattle.sat_parts.proofs.lemmas.clause.ListLemmas.{place_in}
 use Rattle.sat_parts_tests.specs.Loading.{HoldsClauses, IsBlank, IsClauseOver, Serves}
 
 -- a list of one value reads so everywhere
@@ -281,3 +281,7 @@ serves_undone words db w b a nodes t q a' t' q' top h above same_a same_t same_q
     ap (λ (x : Values). length x.current) (same_a le),
   )
 ]
+
+-- a number of a list that is written out
+pub contains_at : (xs ys : List ℕ) (k o : ℕ) → xs ≡ ys → o ≡ get_or ys k 0 → k < length ys → Contains xs o
+contains_at xs ys k o e f lt = subst (λ (zs : List ℕ). Contains zs o) (sym e) (subst (λ (p : ℕ). Contains ys p) (sym f) (place_in ys k lt))

@@ -2,6 +2,10 @@
 #![tactic(auto)]
 
 #[cfg(test)]
+mod data;
+#[cfg(test)]
+mod lists;
+#[cfg(test)]
 mod loading;
 #[cfg(test)]
 mod parts;
