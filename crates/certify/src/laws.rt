@@ -2,7 +2,7 @@
 ghost use Rattle.certify.specs.laws.Laws.{AskBindsNothing, AskLeavesNames, GivenIdentitiesSuffice, JudgeIsKept, MatchingIsRight, NotBoth, RepeatChangesNothing, TautologyChangesNothing, TextsTellOutcomes, TextsThatMatchAreRight};
 ghost use Rattle.certify.specs.confirm.Checking.{IsSound};
 ghost use Rattle.certify.specs.confirm.ListChecking.{the_checking};
-ghost use Rattle.certify.specs.laws.Rows.{AnswersTwice, AskAloneText, BehindEndUncertified, ChainCertified, ClauseAndAskCertified, ClauseAndAskExpected, ClauseAndAskMatches, ClauseAndAskRight, ClauseAndAskSteps, ClauseAndAskText, ClauseUncertified, CoreUncertified, EarlyUncertified, EmptyMatches, EmptyText, EndAlone, EndAloneUncertified, HiddenAndBackExpected, HiddenAndBackState, HiddenAtOnceState, KnownWithoutRounds, LeftOutCertified, LeftmostRefuses, MalformedText, ModelUncertified, NameOnOldVariable, NoAnswers, TwoUnitsMatches, TwoUnitsRight, TwoUnitsSteps, WitnessRefusedText, WitnessRefusesAsk};
+ghost use Rattle.certify.specs.laws.Rows.{AnswersTwice, AskAloneText, BehindEndUncertified, ChainCertified, SearchedEarlyUncertified, UnknownUncertified, ClauseAndAskCertified, ClauseAndAskExpected, ClauseAndAskMatches, ClauseAndAskRight, ClauseAndAskSteps, ClauseAndAskText, ClauseUncertified, CoreUncertified, EarlyUncertified, EmptyMatches, EmptyText, EndAlone, EndAloneUncertified, HiddenAndBackExpected, HiddenAndBackState, HiddenAtOnceState, KnownWithoutRounds, LeftOutCertified, LeftmostRefuses, MalformedText, ModelUncertified, NameOnOldVariable, NoAnswers, TwoUnitsMatches, TwoUnitsRight, TwoUnitsSteps, WitnessRefusedText, WitnessRefusesAsk};
 
 /// Where script, answers and certificate match, the answers are right: by steps and outcomes, and by the three texts.
 pub fn matching_is_right()
@@ -91,6 +91,8 @@ pub fn rows_of_certificates()
     ensures left_out { LeftOutCertified }
     ensures without_rounds { KnownWithoutRounds }
     ensures derived { ChainCertified }
+    ensures unknown { UnknownUncertified }
+    ensures searched_early { SearchedEarlyUncertified }
     ensures early { EarlyUncertified }
     ensures core { CoreUncertified }
     ensures end_alone { EndAloneUncertified }

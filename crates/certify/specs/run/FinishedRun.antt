@@ -67,7 +67,7 @@ pub record RunOf (script : List Command) (ending : Ending) (count budget : ℕ) 
   -- the certificate spells steps that are, in order, those of the accepted commands and of these outcomes
   pub steps : List Step
   pub certificate : SpellsSteps steps certified
-  pub certifies : Certifies the_checking [] steps (expected start (accepted_of start script) outcomes) (asked_steps summary.asks.items)
+  pub certifies : Certifies the_checking None [] steps (expected start (accepted_of start script) outcomes) (asked_steps summary.asks.items)
   pub commands : summary.commands ≡ count
   pub refused : summary.refused ≡ refused_count start script
   pub malformed : summary.malformed ≡ malformed_at (length script + 1) ending
@@ -95,7 +95,7 @@ pub record Backs (text : List ℕ) (summary : Summary) (answered certified : Lis
   pub answers : answered ≡ answers_text (reading text).0 (reading text).1 outcomes
   pub steps : List Step
   pub certificate : SpellsSteps steps certified
-  pub certifies : Certifies the_checking [] steps
+  pub certifies : Certifies the_checking None [] steps
       (expected start (accepted_of start (reading text).0) outcomes) (asked_steps summary.asks.items)
 
 -- WHAT THREE DEVICES SHOW OF IT

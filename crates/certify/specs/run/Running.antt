@@ -69,12 +69,12 @@ IsSimple (Ask ls) = ls ≡ []
 IsSimple command = ⊥
 
 -- what an answer says of a solver's clauses: a literal for each variable, in order, by which they can all hold; that they are known to
--- be unsatisfiable; or nothing
+-- be unsatisfiable; or that they aren't
 abbrev pub IsTrueOf : SolverState → List ℕ → Answer → Type 0
 IsTrueOf solver line kind.Sat =
     (map variable line ≡ names_from solver.var_count 0) × (a : Valuation) × EachTrue a line × Allows solver a
 IsTrueOf solver line kind.Unsat = solver.unsat ≡ true
-IsTrueOf solver line kind.Unknown = Unit {0}
+IsTrueOf solver line kind.Unknown = solver.unsat ≡ false
 
 -- the outcome, with a model's line where there is one
 abbrev pub reported_outcome : Answer → List ℕ → Outcome
@@ -166,8 +166,8 @@ pub record Reached (script : List Command) (ending : Ending) (budget : ℕ) (lef
   pub told : Told earlier s.names s.solver (recording s.solver)
   -- whatever is written for them
   pub certifies : (rest : List Outcome) (more : List Step) (counts : List ℕ)
-      → Certifies the_checking earlier more (expected judge (accepted_of judge left) rest) counts
-      → Certifies the_checking [] (written ++ more)
+      → Certifies the_checking None earlier more (expected judge (accepted_of judge left) rest) counts
+      → Certifies the_checking None [] (written ++ more)
       (expected start (accepted_of start script) (done ++ rest)) (asked_steps s.asks.items ++ counts)
 
 -- where the clauses are known to be unsatisfiable, a search says so without a round

@@ -23,7 +23,7 @@ fn is_answered<S: CountedRead>(alloc: Global, script: &mut S, budget: u64, answe
 }
 
 /// A text, a budget, and the answers.
-const ANSWERS: [(&[u8], u64, &[u8]); 29] = [
+const ANSWERS: [(&[u8], u64, &[u8]); 31] = [
     (
         b"1 2 0\n3 4 0\n5 6 0\n-1 -3 0\n-1 -5 0\n-3 -5 0\n-2 -4 0\n-2 -6 0\n-4 -6 0\na 0\n",
         AMPLE,
@@ -34,6 +34,8 @@ const ANSWERS: [(&[u8], u64, &[u8]); 29] = [
     (b"3 0\na 0\n", AMPLE, b"s SATISFIABLE\nv -1 -2 3 0\n"),
     (FOURTH, AMPLE, b"s SATISFIABLE\nv -1 2 0\n"),
     (SIXTH, AMPLE, b"s UNSATISFIABLE\nf 0\n"),
+    (SIXTH, 2, b"s UNSATISFIABLE\nf 0\n"),
+    (SIXTH, 1, b"s UNKNOWN\n"),
     (b"1 -1 0\na 0\n", AMPLE, b"s SATISFIABLE\nv -1 0\n"),
     (b"1 0\n-1 0\na 0\n", AMPLE, b"s UNSATISFIABLE\nf 0\n"),
     (b"0\na 0\n", AMPLE, b"s UNSATISFIABLE\nf 0\n"),

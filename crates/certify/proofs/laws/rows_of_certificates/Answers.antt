@@ -30,3 +30,9 @@ returns-clause-model_needed c = rows.model_needed
 
 pub returns-clause-behind_end : goal.returns-clause-behind_end
 returns-clause-behind_end c = rows.behind_end
+
+pub returns-clause-unknown : goal.returns-clause-unknown
+returns-clause-unknown c = rows.unknown
+
+pub returns-clause-searched_early : goal.returns-clause-searched_early
+returns-clause-searched_early c = rows.searched_early

@@ -1,17 +1,15 @@
 -- What is printed of texts in memory.
-use Rattle.std.proofs.Common.{ℕ, ◌≡◌, List, [], ◌∷◌, ◌++◌, Option, Some, Result, Ok, Err, IfOk, OnOk, decimal, refl, sym, ◌∙◌, ap, subst, append_assoc}
+use Rattle.std.proofs.Common.{ℕ, ◌≡◌, List, [], ◌∷◌, ◌++◌, Some, Result, Ok, Err, IfOk, OnOk, decimal, refl, sym, ◌∙◌, ap, subst, append_assoc}
 use Rattle.std.specs.Prelude.{◌+◌, IfSome, codes, is_ok, is_some, length, if◌then◌else◌}
 use Rattle.sat_base.specs.device.Device.{Reader, Writer, GaveAll, GaveEnough}
 use Rattle.sat_base.proofs.lemmas.device.Given.{enough_all, enough_told}
 use Rattle.sat_base.specs.script.Script.{Ending, Clean, Malformed, reading}
-use Rattle.certify.specs.confirm.ListChecking.{the_checking}
-use Rattle.certify.specs.confirm.Matches.{Matches}
 use Rattle.certify.specs.confirm.VerdictPromises.{Exact, Given}
 use Rattle.certify.specs.program.Printing.{Prints, PrintsVerdict, SaysExactly, is_malformed, verdict_text, why_text}
 use Rattle.certify.specs.run.FinishedRun.{malformed_at}
 use Rattle.certify.specs.declared.summary.Summary.{Summary}
 use Rattle.certify.specs.declared.verdict.Verdict.{Verdict}
-use Rattle.certify.specs.declared.verdict.Verdict.TheVariants.{Yes, No}
+use Rattle.certify.specs.declared.verdict.Verdict.TheVariants.{No}
 use Rattle.certify.specs.declared.verdict.Why.{Why}
 
 joined : (z a d s w l : List ℕ) → ((((z ++ a) ++ d) ++ s) ++ w) ++ l ≡ z ++ ((((a ++ d) ++ s) ++ w) ++ l)

@@ -1,5 +1,5 @@
 -- What each piece of a run's certificate brings in.
-use Rattle.std.proofs.Common.{ℕ, zero, suc, ◌+◌, ◌-◌, ◌/◌, ◌%◌, ◌<◌, ◌≤◌, ◌≡◌, Bool, true, false, cond, eqb, ltb, max, List, [], ◌∷◌, ◌++◌, map, Some, is_some, refl, sym, ◌∙◌, ap, subst, arith, inl, inr, append_assoc}
+use Rattle.std.proofs.Common.{ℕ, zero, suc, ◌+◌, ◌-◌, ◌/◌, ◌%◌, ◌<◌, ◌≤◌, ◌≡◌, Bool, true, false, cond, eqb, ltb, max, List, [], ◌∷◌, ◌++◌, map, None, Some, is_some, refl, sym, ◌∙◌, ap, subst, arith, inl, inr, append_assoc}
 use Rattle.std.proofs.lemmas.Bool.{both_ways, ltb-true, ltb-false, eqb-true, eqb-false, ne_eqb}
 use Rattle.std.specs.List.Sorted.{IsStrictlyIncreasing}
 use Rattle.std.proofs.lemmas.Bool.Decides.{nat_tests}
@@ -16,9 +16,10 @@ use Rattle.certify.specs.checker.Accepts.{stored_after}
 use Rattle.certify.specs.confirm.Checking.{variable_of}
 use Rattle.certify.specs.confirm.ListChecking.{the_checking}
 use Rattle.certify.specs.answers.AnswerForms.{named_literal, named_literals}
+use Rattle.certify.specs.answers.Answers.{Outcome, Unsat}
 use Rattle.certify.specs.answers.RightAnswers.{IsRight}
 use Rattle.certify.specs.confirm.Matches.{Expected, NewName, Adds, Opens, Shows, Fails, Closes, bringing, showing, Spells, SameSet, EachSpelt, new_name, adds, opens, shows, closes}
-use Rattle.certify.specs.run.Certifies.{Certifies, IsKnown, left_out, other, ordered, asked}
+use Rattle.certify.specs.run.Certifies.{Certifies, IsKnown, MayCome, left_out, other, ordered, asked, answered}
 use Rattle.certify.specs.search.Search.{IsBounded}
 use Rattle.certify.specs.search.KeptClauses.{IsNormalOf}
 use Rattle.certify.specs.search.SolverState.{SolverState, Allows, GainsClause, Recording, RecordsClause, new_solver, recording}
@@ -42,7 +43,7 @@ use Rattle.certify.proofs.lemmas.laws.LiteralValues.{all_at, all_from, among_map
 pub record Brings (earlier steps : List Step) (es : List Expected) (counts : List ℕ) (n : ℕ) (solver : SolverState) (r : Recording) : Type 0 where
   pub later : List Step
   pub told : Told later n solver r
-  pub leads : (more : List Step) (fs : List Expected) (rest : List ℕ) → Certifies the_checking later more fs rest → Certifies the_checking earlier (steps ++ more) (es ++ fs) (counts ++ rest)
+  pub leads : (more : List Step) (fs : List Expected) (rest : List ℕ) → Certifies the_checking None later more fs rest → Certifies the_checking None earlier (steps ++ more) (es ++ fs) (counts ++ rest)
 
 pub brings_then : {earlier xs ys : List Step} {es fs : List Expected} {counts : List ℕ} {n m : ℕ} {s t : SolverState} {q r : Recording} (b : Brings earlier xs es [] n s q) → Brings b.later ys fs counts m t r → Brings earlier (xs ++ ys) (es ++ fs) counts m t r
 brings_then {earlier} {xs} {ys} {es} {fs} {counts} b d = record {
@@ -50,16 +51,16 @@ brings_then {earlier} {xs} {ys} {es} {fs} {counts} b d = record {
   told = d.told;
   leads = λ more gs rest c.
       let all = b.leads (ys ++ more) (fs ++ gs) (counts ++ rest) (d.leads more gs rest c) in
-      subst (λ zs. Certifies the_checking earlier zs ((es ++ fs) ++ gs) (counts ++ rest)) (sym (append_assoc xs ys more))
-      (subst (λ hs. Certifies the_checking earlier (xs ++ (ys ++ more)) hs (counts ++ rest)) (sym (append_assoc es fs gs)) all);
+      subst (λ zs. Certifies the_checking None earlier zs ((es ++ fs) ++ gs) (counts ++ rest)) (sym (append_assoc xs ys more))
+      (subst (λ hs. Certifies the_checking None earlier (xs ++ (ys ++ more)) hs (counts ++ rest)) (sym (append_assoc es fs gs)) all);
 }
 
 -- what was to be certified is so by these steps and the rest
-pub further : (before : List Step) (past : List ℕ) {earlier steps : List Step} {es all rest goal : List Expected} {counts : List ℕ} {n : ℕ} {s : SolverState} {r : Recording} → ((more : List Step) (left : List ℕ) → Certifies the_checking earlier more all left → Certifies the_checking [] (before ++ more) goal (past ++ left)) → (b : Brings earlier steps es counts n s r)
-    → all ≡ es ++ rest → (more : List Step) (left : List ℕ) → Certifies the_checking b.later more rest left → Certifies the_checking [] ((before ++ steps) ++ more) goal (past ++ (counts ++ left))
+pub further : (before : List Step) (past : List ℕ) {earlier steps : List Step} {es all rest goal : List Expected} {counts : List ℕ} {n : ℕ} {s : SolverState} {r : Recording} → ((more : List Step) (left : List ℕ) → Certifies the_checking None earlier more all left → Certifies the_checking None [] (before ++ more) goal (past ++ left)) → (b : Brings earlier steps es counts n s r)
+    → all ≡ es ++ rest → (more : List Step) (left : List ℕ) → Certifies the_checking None b.later more rest left → Certifies the_checking None [] ((before ++ steps) ++ more) goal (past ++ (counts ++ left))
 further before past {earlier} {steps} {es} {all} {rest} {goal} {counts} f b e more left c =
-    subst (λ xs. Certifies the_checking [] xs goal (past ++ (counts ++ left))) (sym (append_assoc before steps more))
-    (f (steps ++ more) (counts ++ left) (subst (λ xs. Certifies the_checking earlier (steps ++ more) xs (counts ++ left)) (sym e) (b.leads more rest left c)))
+    subst (λ xs. Certifies the_checking None [] xs goal (past ++ (counts ++ left))) (sym (append_assoc before steps more))
+    (f (steps ++ more) (counts ++ left) (subst (λ xs. Certifies the_checking None earlier (steps ++ more) xs (counts ++ left)) (sym e) (b.leads more rest left c)))
 
 pub brings_nothing : {earlier : List Step} {n : ℕ} {s : SolverState} {r : Recording} → Told earlier n s r → Brings earlier [] [] [] n s r
 brings_nothing {earlier} t = record { later = earlier; told = t; leads = λ more fs rest c. c }
@@ -88,7 +89,7 @@ brings_names (suc count) n earlier s q t =
     record {
       later = r.later;
       told = subst (λ m. Told r.later m s q) e r.told;
-      leads = λ more fs rest c. ordered refl (λ u. tt) (new_name refl (t.unknown n (omega arith))) (r.leads more fs rest c);
+      leads = λ more fs rest c. ordered tt (new_name refl (t.unknown n (omega arith))) (r.leads more fs rest c);
     }
 
 -- the names that are expected
@@ -213,7 +214,7 @@ brings_clause n earlier s t ls steps w b (unwritten known same) takes told =
 brings_clause n earlier s t ls steps w b (written {normal = c} normal kept) takes told = record {
   later = AddClause c ∷ earlier;
   told = told_added n c earlier s t (recording s) (recording t) (low_from n c (normal_bounded n (map code_of ls) c normal b)) normal.increasing kept (λ a h e. takes.onwards a h (true_with a c (map code_of ls) normal.only e)) told;
-  leads = λ more fs rest d. ordered refl (λ u. both_ways (stored_after earlier).unsat (told.mirrors.unsat ∙ kept.going) u) (adds (same_set n earlier s (recording s) told ls c w normal)) d;
+  leads = λ more fs rest d. ordered (told.mirrors.unsat ∙ kept.going) (adds (same_set n earlier s (recording s) told ls c w normal)) d;
 }
 
 -- a clause with its names
@@ -227,24 +228,24 @@ brings_added n earlier s t j ls steps plain positive w wrote takes told =
     let clause = brings_clause m named.later s t ls steps (within_all m n ls (omega arith) w) (codes_bounded n ls w) wrote takes named.told in
     subst (λ es. Brings earlier (naming (m - n) n ++ steps) (es ++ Adds ls ∷ []) [] m t (recording t)) (sym (bringing_plain (names_of ls) j n plain positive)) (brings_then named clause)
 
--- derived clauses, while something is expected
-pub record Passes (earlier steps : List Step) (n : ℕ) (solver : SolverState) (r : Recording) : Type 0 where
+-- derived clauses, while an ask of this outcome is open
+pub record Passes (o : Outcome) (earlier steps : List Step) (n : ℕ) (solver : SolverState) (r : Recording) : Type 0 where
   pub later : List Step
   pub told : Told later n solver r
-  pub leads : (more : List Step) (e : Expected) (fs : List Expected) (rest : List ℕ) → Certifies the_checking later more (e ∷ fs) rest → Certifies the_checking earlier (steps ++ more) (e ∷ fs) rest
+  pub leads : (more : List Step) (e : Expected) (fs : List Expected) (rest : List ℕ) → Certifies the_checking (Some o) later more (e ∷ fs) rest → Certifies the_checking (Some o) earlier (steps ++ more) (e ∷ fs) rest
 
-passes_derived : (n : ℕ) (steps earlier : List Step) (s : SolverState) (q r : Recording) → AreDerived n q steps r → Told earlier n s q → Passes earlier steps n s r
-passes_derived n [] earlier s q r h t = record { later = earlier; told = subst (Told earlier n s) (sym h) t; leads = λ more e fs rest c. c }
-passes_derived n (step ∷ steps) earlier s q r h t =
+passes_derived : (o : Outcome) (n : ℕ) (steps earlier : List Step) (s : SolverState) (q r : Recording) → AreDerived n q steps r → Told earlier n s q → Passes o earlier steps n s r
+passes_derived o n [] earlier s q r h t = record { later = earlier; told = subst (Told earlier n s) (sym h) t; leads = λ more e fs rest c. c }
+passes_derived o n (step ∷ steps) earlier s q r h t =
     let d = h.1 in
     let now = told_derived n d.clause d.hashes earlier s q h.0 (low_from n d.clause d.bounded) d.increasing d.recorded t in
-    let p = passes_derived n steps (AtClause false d.clause d.hashes ∷ earlier) s h.0 r h.2 now in
+    let p = passes_derived o n steps (AtClause false d.clause d.hashes ∷ earlier) s h.0 r h.2 now in
     record {
       later = p.later;
       told = p.told;
       leads = λ more e fs rest c.
-          subst (λ x. Certifies the_checking earlier (x ∷ (steps ++ more)) (e ∷ fs) rest) (sym d.is)
-          (other refl (λ u. absurd (both_ways (stored_after earlier).unsat (t.mirrors.unsat ∙ d.recorded.going) u)) (p.leads more e fs rest c));
+          let going : MayCome (Some o) (the_checking.unsat earlier) (AtClause false d.clause d.hashes) = subst (λ u. MayCome (Some o) u (AtClause false d.clause d.hashes)) (sym (t.mirrors.unsat ∙ d.recorded.going)) tt in
+          subst (λ x. Certifies the_checking (Some o) earlier (x ∷ (steps ++ more)) (e ∷ fs) rest) (sym d.is) (other refl going (p.leads more e fs rest c));
     }
 
 -- a model's line
@@ -271,22 +272,33 @@ line_spelt n earlier s r t (l ∷ ls) whole low m =
       line_spelt n earlier s r t ls whole low.1 (λ c k. m c (inr k)),
     )
 
--- what shows an answer
-brings_shown : (n : ℕ) (earlier : List Step) (s : SolverState) (j : Judge) (line : List ℕ) (answer : Answer) → s.var_count ≡ n → IsTrueOf s line answer → IsRight j [] (reported_outcome answer line) → Told earlier n s (recording s)
-    → Brings earlier (shown_by answer line) (showing j [] (reported_outcome answer line)) [] n s (recording s)
-brings_shown n earlier s j line kind.Sat v truth right t =
+-- what shows an answer, while the ask of this outcome is open
+record Shown (o : Outcome) (earlier steps : List Step) (es : List Expected) (n : ℕ) (solver : SolverState) : Type 0 where
+  later : List Step
+  told : Told later n solver (recording solver)
+  leads : (more : List Step) (fs : List Expected) (rest : List ℕ) → Certifies the_checking (Some o) later more fs rest → Certifies the_checking (Some o) earlier (steps ++ more) (es ++ fs) rest
+
+shows_answer : (o : Outcome) (n : ℕ) (earlier : List Step) (s : SolverState) (j : Judge) (line : List ℕ) (answer : Answer) → s.var_count ≡ n → IsTrueOf s line answer → IsRight j [] (reported_outcome answer line) → Told earlier n s (recording s)
+    → Shown o earlier (shown_by answer line) (showing j [] (reported_outcome answer line)) n s
+shows_answer o n earlier s j line kind.Sat v truth right t =
     let low = low_line line s.var_count 0 n truth.0 (omega arith) in
     record {
       later = Model line ∷ earlier;
       told = told_model n line earlier s (recording s) low t;
-      leads = λ more fs rest c. ordered refl (λ u. both_ways (stored_after earlier).unsat (t.mirrors.unsat ∙ truth.3.0) u) (shows right.names (line_spelt n earlier s (recording s) t line line low (λ c m. m)) tt) c;
+      leads = λ more fs rest c. ordered (t.mirrors.unsat ∙ truth.3.0) (shows right.names (line_spelt n earlier s (recording s) t line line low (λ c m. m)) tt) c;
     }
-brings_shown n earlier s j line kind.Unsat v truth right t = record {
+shows_answer o n earlier s j line kind.Unsat v truth right t = record {
   later = earlier;
   told = t;
   leads = λ more fs rest c. left_out refl (record { recorded = t.mirrors.unsat ∙ truth; none = λ a x. both_ways s.unsat (t.holds a x).0 truth }) c;
 }
-brings_shown n earlier s j line kind.Unknown v truth right t = record { later = earlier; told = t; leads = λ more fs rest c. c }
+shows_answer o n earlier s j line kind.Unknown v truth right t = record { later = earlier; told = t; leads = λ more fs rest c. c }
+
+-- what is known by then is answered
+known_by_then : (s : SolverState) (line : List ℕ) (answer : Answer) → IsTrueOf s line answer → s.unsat ≡ true → reported_outcome answer line ≡ Unsat []
+known_by_then s line kind.Sat truth u = absurd (both_ways s.unsat truth.3.0 u)
+known_by_then s line kind.Unsat truth u = refl
+known_by_then s line kind.Unknown truth u = absurd (both_ways s.unsat truth u)
 
 -- the steps of an ask
 abbrev pub ask_steps : List Step → Answer → List ℕ → List Step
@@ -304,23 +316,24 @@ brings_ask n budget earlier s t j derived line report v searched are_derived rig
     let o = reported_outcome answer line in
     let begun : Told earlier n t (recording s) = record { named = told.named; unknown = told.unknown; holds = λ a x. searched.same.onwards a (told.holds a x); mirrors = told.mirrors } in
     let opened = told_assumed n earlier t (recording s) begun in
-    let passed = passes_derived n derived (Assumptions [] ∷ earlier) t (recording s) (recording t) are_derived opened in
-    let shown = brings_shown n passed.later t j line answer v searched.truth right passed.told in
+    let passed = passes_derived o n derived (Assumptions [] ∷ earlier) t (recording s) (recording t) are_derived opened in
+    let shown = shows_answer o n passed.later t j line answer v searched.truth right passed.told in
     record {
       later = Assumptions [] ∷ shown.later;
       told = told_assumed n shown.later t (recording t) shown.told;
       leads = λ more fs rest c.
-          let last : Certifies the_checking passed.later (shown_by answer line ++ (Assumptions [] ∷ more)) (showing j [] o ++ (Closes ∷ fs)) rest = shown.leads (Assumptions [] ∷ more) (Closes ∷ fs) rest (ordered refl (λ u. tt) closes c) in
+          let last : Certifies the_checking (Some o) passed.later (shown_by answer line ++ (Assumptions [] ∷ more)) (showing j [] o ++ (Closes ∷ fs)) rest
+              = shown.leads (Assumptions [] ∷ more) (Closes ∷ fs) rest (answered (λ u. known_by_then t line answer searched.truth (sym shown.told.mirrors.unsat ∙ u)) closes c) in
           let at : ask_steps derived answer line ++ more ≡ Assumptions [] ∷ (derived ++ (shown_by answer line ++ (Assumptions [] ∷ more))) = ap (λ xs. Assumptions [] ∷ xs) (append_assoc derived (shown_by answer line ++ Assumptions [] ∷ []) more ∙ ap (λ xs. derived ++ xs) (append_assoc (shown_by answer line) (Assumptions [] ∷ []) more)) in
           let es : (showing j [] o ++ (Closes ∷ [])) ++ fs ≡ showing j [] o ++ (Closes ∷ fs) = append_assoc (showing j [] o) (Closes ∷ []) fs in
-          subst (λ xs. Certifies the_checking earlier xs (Opens [] o ∷ ((showing j [] o ++ (Closes ∷ [])) ++ fs)) (report.steps ∷ rest)) (sym at)
-          (subst (λ xs. Certifies the_checking earlier (Assumptions [] ∷ (derived ++ (shown_by answer line ++ (Assumptions [] ∷ more)))) (Opens [] o ∷ xs) (report.steps ∷ rest)) (sym es)
+          subst (λ xs. Certifies the_checking None earlier xs (Opens [] o ∷ ((showing j [] o ++ (Closes ∷ [])) ++ fs)) (report.steps ∷ rest)) (sym at)
+          (subst (λ xs. Certifies the_checking None earlier (Assumptions [] ∷ (derived ++ (shown_by answer line ++ (Assumptions [] ∷ more)))) (Opens [] o ∷ xs) (report.steps ∷ rest)) (sym es)
           (asked (λ u. known_outcome s report line searched.known (sym told.mirrors.unsat ∙ u)) (opens (tt, tt)) (derived_leads answer (shown_by answer line ++ (Assumptions [] ∷ more)) fs rest passed last)));
     }
   where
     -- something is expected behind the derived clauses
-    derived_leads : (answer : Answer) (more : List Step) (fs : List Expected) (rest : List ℕ) (passed : Passes (Assumptions [] ∷ earlier) derived n t (recording t)) → Certifies the_checking passed.later more (showing j [] (reported_outcome answer line) ++ (Closes ∷ fs)) rest
-        → Certifies the_checking (Assumptions [] ∷ earlier) (derived ++ more) (showing j [] (reported_outcome answer line) ++ (Closes ∷ fs)) rest
+    derived_leads : (answer : Answer) (more : List Step) (fs : List Expected) (rest : List ℕ) (passed : Passes (reported_outcome report.answer line) (Assumptions [] ∷ earlier) derived n t (recording t)) → Certifies the_checking (Some (reported_outcome report.answer line)) passed.later more (showing j [] (reported_outcome answer line) ++ (Closes ∷ fs)) rest
+        → Certifies the_checking (Some (reported_outcome report.answer line)) (Assumptions [] ∷ earlier) (derived ++ more) (showing j [] (reported_outcome answer line) ++ (Closes ∷ fs)) rest
     derived_leads kind.Sat more fs rest passed c = passed.leads more (Shows (map (λ m. m.name) j.in_use) [] (named_literals line)) (Closes ∷ fs) rest c
     derived_leads kind.Unsat more fs rest passed c = passed.leads more (Fails [] []) (Closes ∷ fs) rest c
     derived_leads kind.Unknown more fs rest passed c = passed.leads more Closes fs rest c

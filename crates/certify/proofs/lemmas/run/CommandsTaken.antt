@@ -201,8 +201,8 @@ reached_ask script ending budget left number old new answered before derived rep
       told = subst (λ n. Told brought.later n new.solver (recording new.solver)) (sym h.names) brought.told;
       certifies = λ rest more ns c.
           let all = further before (asked_steps old.asks.items) (r.certifies (o ∷ rest)) brought (ap (λ es. Opens [] o ∷ es) (sym (append_assoc (showing r.judge [] o) (Closes ∷ []) (expected r.judge (accepted_of r.judge left) rest)))) more ns c in
-          subst (λ ks. Certifies the_checking [] ((before ++ ask_steps derived report.answer new.lits.items) ++ more) (expected start (accepted_of start script) ((r.done ++ o ∷ []) ++ rest)) ks) (counts ns)
-          (subst (λ os. Certifies the_checking [] ((before ++ ask_steps derived report.answer new.lits.items) ++ more) (expected start (accepted_of start script) os) (asked_steps old.asks.items ++ (report.steps ∷ ns))) (sym (append_assoc r.done (o ∷ []) rest)) all);
+          subst (λ ks. Certifies the_checking None [] ((before ++ ask_steps derived report.answer new.lits.items) ++ more) (expected start (accepted_of start script) ((r.done ++ o ∷ []) ++ rest)) ks) (counts ns)
+          (subst (λ os. Certifies the_checking None [] ((before ++ ask_steps derived report.answer new.lits.items) ++ more) (expected start (accepted_of start script) os) (asked_steps old.asks.items ++ (report.steps ∷ ns))) (sym (append_assoc r.done (o ∷ []) rest)) all);
     }
 
 pub took_refused : (r : Result (Unit {0}) RunFault) (ls : List Literal) (number budget : ℕ) (old new : Session) (before after : Both)

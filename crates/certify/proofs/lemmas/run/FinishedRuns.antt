@@ -72,10 +72,10 @@ run_reached script ending count budget number s summary answered certified steps
       steps = steps ++ End ∷ [];
       certificate = spelt;
       certifies =
-          let all = r.certifies [] (End ∷ []) [] (ordered refl (λ u. tt) finish complete) in
+          let all = r.certifies [] (End ∷ []) [] (ordered tt finish complete) in
           let counts : asked_steps s.asks.items ++ [] ≡ asked_steps summary.asks.items = append-nil (asked_steps s.asks.items) ∙ ap (λ (rs : _). asked_steps rs.items) (sym asks) in
-          subst (λ ns. Certifies the_checking [] (steps ++ End ∷ []) (expected start (accepted_of start script) r.done) ns) counts
-          (subst (λ os. Certifies the_checking [] (steps ++ End ∷ []) (expected start (accepted_of start script) os) (asked_steps s.asks.items ++ [])) (append-nil r.done) all);
+          subst (λ ns. Certifies the_checking None [] (steps ++ End ∷ []) (expected start (accepted_of start script) r.done) ns) counts
+          (subst (λ os. Certifies the_checking None [] (steps ++ End ∷ []) (expected start (accepted_of start script) os) (asked_steps s.asks.items ++ [])) (append-nil r.done) all);
       commands = commands;
       refused = omega (arith, refused, r.refused);
       malformed = malformed;
@@ -135,7 +135,7 @@ run_held cs ending count budget summary answered certified r =
       answers = r.answers ∙ answers_held cs 1 start ending r.outcomes;
       steps = r.steps;
       certificate = r.certificate;
-      certifies = subst (λ cs. Certifies the_checking [] r.steps (expected start cs r.outcomes) (asked_steps summary.asks.items)) (accepted_of-held start cs) r.certifies;
+      certifies = subst (λ cs. Certifies the_checking None [] r.steps (expected start cs r.outcomes) (asked_steps summary.asks.items)) (accepted_of-held start cs) r.certifies;
       commands = r.commands;
       refused = r.refused ∙ count_held cs start;
       malformed = r.malformed ∙ ap (λ k. malformed_at (k + 1) ending) n;

@@ -1,6 +1,5 @@
 -- What is recorded of steps and of a solver's clauses.
 use Rattle.std.proofs.Common.{ℕ, ◌≡◌, Bool, true, false, not, cond, ◌&&◌, ◌||◌, eqb, List, [], ◌∷◌, ◌++◌, refl, sym, ◌∙◌, ap, subst}
-use Rattle.std.specs.List.{Contains}
 use Rattle.std.specs.List.Sorted.{IsStrictlyIncreasing}
 use Rattle.std.proofs.lemmas.Bool.{both_ways, eqb-true}
 use Rattle.std.proofs.lemmas.Map.Keys.{sorted_from_strictly_increasing}
@@ -9,7 +8,7 @@ use Rattle.sat_base.specs.steps.Steps.{Step, AddClause, AtClause}
 use Rattle.certify.specs.checker.Propagation.{is_among, is_tautology}
 use Rattle.certify.specs.checker.Stored.{Stored, canonical, with_unit, with_canonical, with_stored, with_literals_known}
 use Rattle.certify.specs.checker.Accepts.{stored_after}
-use Rattle.certify.specs.search.SolverState.{SolverState, Recording, RecordsClause, RecordsSame, new_solver, recording}
+use Rattle.certify.specs.search.SolverState.{Recording, RecordsClause, RecordsSame, new_solver, recording}
 use Rattle.certify.specs.run.Running.{Mirrors}
 use Rattle.certify.proofs.lemmas.checker.SortedLiterals.{canonical_is, increasing_from_sorted}
 

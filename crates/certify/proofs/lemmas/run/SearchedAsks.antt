@@ -71,7 +71,7 @@ module _ (steps budget : ℕ) (old new : SolverState) (line : List ℕ) where
 
   pub searched_unknown : Solves found.Unknown steps budget old new → Searched budget old new (record { answer = kind.Unknown; steps = steps }) line
   searched_unknown h = record {
-    truth = tt;
+    truth = h.right.0;
     spent = record { within = h.within; unknown = λ e. h.right.1 };
     known = λ e. absurd (h.known e);
     same = h.same;

@@ -1,8 +1,8 @@
 -- What a solver holds, over several calls.
-use Rattle.std.proofs.Common.{ℕ, ◌≡◌, Bool, true, false, not, ◌&&◌, ◌||◌, eqb, List, [], ◌∷◌, Option, None, get_or, refl, sym, ◌∙◌, ap, zero, suc}
+use Rattle.std.proofs.Common.{ℕ, ◌≡◌, Bool, not, ◌&&◌, ◌||◌, eqb, List, [], ◌∷◌, refl, sym, ◌∙◌, ap}
 use Rattle.sat_base.specs.values.Literals.{variable, is_positive, negated}
 use Rattle.certify.specs.search.Search.{signed, is_true}
-use Rattle.certify.specs.search.SolverState.{SolverState, AllowsSame, HoldsSame, GainsClause, Recording, RecordsClause, RecordsSame, records_unsat, records_unit, recording, unit_test, with_variable}
+use Rattle.certify.specs.search.SolverState.{SolverState, HoldsSame, GainsClause, Recording, RecordsClause, RecordsSame, records_unsat, records_unit, with_variable}
 use Rattle.certify.proofs.lemmas.search.SolverCalls.{get_or_more}
 
 pub same_self : (s : SolverState) → HoldsSame s s
