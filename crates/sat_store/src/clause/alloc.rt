@@ -126,7 +126,11 @@ impl ClauseAlloc {
     }
 
     /// Stores a copy of another buffer's clause behind all others. There is room at a place not behind the clause's own.
-    pub fn copy_clause(&mut self, from: &ClauseAlloc, cref: ClauseRef) -> Result<ClauseRef, StoreError>
+    pub fn copy_clause(
+        &mut self,
+        from: &ClauseAlloc,
+        cref: ClauseRef,
+    ) -> Result<ClauseRef, StoreError>
         requires { IsClause from.now cref }
         ensures added { IfOk result (λ c. Adds self.old self.new c (header_at from.now cref) (lits_at from.now cref)) }
         ensures full { (result ≡ Err StoreError.StoreFull) ↔ (2 ^ 32 - 1 < length self.old) }

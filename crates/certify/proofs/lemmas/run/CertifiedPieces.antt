@@ -323,7 +323,7 @@ brings_ask n budget earlier s t j derived line report v searched are_derived rig
       told = told_assumed n shown.later t (recording t) shown.told;
       leads = λ more fs rest c.
           let last : Certifies the_checking (Some o) passed.later (shown_by answer line ++ (Assumptions [] ∷ more)) (showing j [] o ++ (Closes ∷ fs)) rest
-              = shown.leads (Assumptions [] ∷ more) (Closes ∷ fs) rest (answered (λ u. known_by_then t line answer searched.truth (sym shown.told.mirrors.unsat ∙ u)) closes c) in
+          = shown.leads (Assumptions [] ∷ more) (Closes ∷ fs) rest (answered (λ u. known_by_then t line answer searched.truth (sym shown.told.mirrors.unsat ∙ u)) closes c) in
           let at : ask_steps derived answer line ++ more ≡ Assumptions [] ∷ (derived ++ (shown_by answer line ++ (Assumptions [] ∷ more))) = ap (λ xs. Assumptions [] ∷ xs) (append_assoc derived (shown_by answer line ++ Assumptions [] ∷ []) more ∙ ap (λ xs. derived ++ xs) (append_assoc (shown_by answer line) (Assumptions [] ∷ []) more)) in
           let es : (showing j [] o ++ (Closes ∷ [])) ++ fs ≡ showing j [] o ++ (Closes ∷ fs) = append_assoc (showing j [] o) (Closes ∷ []) fs in
           subst (λ xs. Certifies the_checking None earlier xs (Opens [] o ∷ ((showing j [] o ++ (Closes ∷ [])) ++ fs)) (report.steps ∷ rest)) (sym at)
