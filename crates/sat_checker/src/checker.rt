@@ -108,14 +108,16 @@ impl Checker {
 
     /// The user's name of a variable, while the checker hasn't failed.
     pub fn user_name(&self, var: Var) -> Option<Var>
-        ensures { has_failed self.now ≡ false → (steps : List Step) → Stands self.now steps → result ≡ name_of var (ready_after steps) }
+        ensures { has_failed self.now ≡ false
+            → (steps : List Step) → Stands self.now steps → result ≡ name_of var (ready_after steps) }
     {
         self.state.variables.data(var).name
     }
 
     /// Whether the variable is known, while the checker hasn't failed.
     pub fn knows(&self, var: Var) -> bool
-        ensures { has_failed self.now ≡ false → (steps : List Step) → Stands self.now steps → result ≡ is_known var (ready_after steps) }
+        ensures { has_failed self.now ≡ false
+            → (steps : List Step) → Stands self.now steps → result ≡ is_known var (ready_after steps) }
     {
         self.state.variables.data(var).known
     }

@@ -50,7 +50,8 @@ impl Formula {
         hashes: &[ClauseHash],
         looks: &mut Looks,
     ) -> Result<bool, AllocError>
-        ensures exact { IfOk result (λ passes. (f : Stored) → KeepsFormula self.old f → IsTrue passes ↔ Passes f clause.now hashes.now) }
+        ensures exact { IfOk result
+            (λ passes. (f : Stored) → KeepsFormula self.old f → IsTrue passes ↔ Passes f clause.now hashes.now) }
         ensures kept { (f : Stored) → KeepsFormula self.old f → KeepsFormula self.new f }
         ensures looks { (f : Stored) → KeepsFormula self.old f → looks.new ≤ looks.old + length hashes.now * literal_count f }
     {
