@@ -1,13 +1,14 @@
 //! Passes over the clauses of a tier.
-ghost use Rattle.std.specs.Prelude.{◌≡◌};
-ghost use Rattle.std.specs.List.{Contains};
-ghost use Rattle.sat_store.specs.clause.Buffer.{header_at};
-ghost use Rattle.sat_parts.specs.clause.Db.{HoldsDb, PutsHeader, live_refs};
+ghost use Rattle.std.specs.Prelude.{◌≡◌, IfOk, OnOk, OnErr};
+ghost use Rattle.std.specs.List.{Contains, filter};
+ghost use Rattle.sat_store.specs.clause.Buffer.{IsClause, header_at};
+ghost use Rattle.sat_parts.specs.clause.Db.{HoldsDb, PutsHeader, live_refs, is_live_of};
 ghost use Rattle.sat_parts.specs.clause.Activity.{PutsHeaders};
-ghost use Rattle.sat_parts.specs.clause.Reduced.{reduced};
+ghost use Rattle.sat_parts.specs.clause.Reduced.{reduced, marked};
 
 use crate::clause::db::{ClauseDb, put_header, set_clause_tier};
 use sat_store::{ClauseAlloc, ClauseRef, Tier};
+use std::alloc::{AllocError, Global};
 
 /// Clears the flag of an active clause of tier Mid, and moves an inactive one to Local. Any other stays.
 fn reduce_one(clauses: &mut ClauseAlloc, db: &mut ClauseDb, cref: ClauseRef)
@@ -45,4 +46,88 @@ pub fn reduce_mids(clauses: &mut ClauseAlloc, db: &mut ClauseDb)
         let cref = db.cref(at);
         reduce_one(clauses, db, cref);
     }
+}
+
+/// Whether a clause is a live one of a tier.
+fn is_of_tier(clauses: &ClauseAlloc, cref: ClauseRef, tier: Tier) -> bool
+    requires { IsClause clauses.now cref }
+    ensures { result ≡ is_live_of clauses.now tier cref }
+{
+    let header = clauses.header(cref);
+    if header.deleted() {
+        return false;
+    }
+    header.tier().index() == tier.index()
+}
+
+/// The live clauses of a tier, in the order in which they came.
+fn clauses_of_tier(
+    alloc: Global,
+    clauses: &ClauseAlloc,
+    db: &ClauseDb,
+    tier: Tier,
+) -> Result<Vec<ClauseRef>, AllocError>
+    requires { HoldsDb clauses.now db.now }
+    ensures { IfOk result (λ list. list.items ≡ filter (is_live_of clauses.now tier) db.now.refs) }
+{
+    let mut list = Vec::new(alloc);
+    for at in 0..db.len() {
+        let cref = db.cref(at);
+        if is_of_tier(clauses, cref, tier) {
+            list.push(cref)?;
+        }
+    }
+    Ok(list)
+}
+
+/// Sets the mark of a clause if it is a live one of a tier.
+fn mark_one(clauses: &mut ClauseAlloc, _db: &ClauseDb, cref: ClauseRef, tier: Tier)
+    requires db { HoldsDb clauses.old _db.now }
+    requires there { Contains _db.now.refs cref }
+    ensures put { PutsHeader clauses.old clauses.new _db.now.refs cref (marked tier (header_at clauses.old cref)) }
+    ensures db { HoldsDb clauses.new _db.now }
+    ensures live { live_refs clauses.new _db.now.refs ≡ live_refs clauses.old _db.now.refs }
+{
+    let mut header = clauses.header(cref);
+    if header.deleted() {
+        return;
+    }
+    if header.tier().index() != tier.index() {
+        return;
+    }
+    header.set_mark(true);
+    put_header(clauses, cref, header);
+}
+
+/// Sets the mark of each live clause of a tier.
+fn mark_tier(clauses: &mut ClauseAlloc, db: &ClauseDb, tier: Tier)
+    requires { HoldsDb clauses.old db.now }
+    ensures headers { PutsHeaders clauses.old clauses.new db.now.refs (λ p. marked tier (header_at clauses.old p)) }
+    ensures db { HoldsDb clauses.new db.now }
+    ensures live { live_refs clauses.new db.now.refs ≡ live_refs clauses.old db.now.refs }
+{
+    for at in 0..db.len() {
+        let cref = db.cref(at);
+        mark_one(clauses, db, cref, tier);
+    }
+}
+
+/// The live clauses of a tier, each once and in the order in which they came, with their marks set. After want of memory everything
+/// is as it was.
+pub fn dedup_and_mark_by_tier(
+    alloc: Global,
+    clauses: &mut ClauseAlloc,
+    db: &ClauseDb,
+    tier: Tier,
+) -> Result<Vec<ClauseRef>, AllocError>
+    requires { HoldsDb clauses.old db.now }
+    ensures list { IfOk result (λ list. list.items ≡ filter (is_live_of clauses.old tier) db.now.refs) }
+    ensures marks { OnOk result (PutsHeaders clauses.old clauses.new db.now.refs (λ p. marked tier (header_at clauses.old p))) }
+    ensures db { HoldsDb clauses.new db.now }
+    ensures live { live_refs clauses.new db.now.refs ≡ live_refs clauses.old db.now.refs }
+    ensures same { OnErr result (clauses.new ≡ clauses.old) }
+{
+    let list = clauses_of_tier(alloc, clauses, db, tier)?;
+    mark_tier(clauses, db, tier);
+    Ok(list)
 }

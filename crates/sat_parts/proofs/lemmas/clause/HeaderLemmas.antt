@@ -1,7 +1,9 @@
 -- Headers of a list of clauses that are written one by one.
-use Rattle.std.proofs.Common.{ℕ, ◌≡◌, ◌≢◌, ◌+◌, ◌/◌, ◌^◌, ◌<◌, ◌≤◌, ◌==◌, ◌-◌, min, inl, inr, List, length, get_or, refl, sym, ap, ◌∙◌, subst, arith, Bool, not, ◌&&◌, cond}
+use Rattle.std.proofs.Common.{ℕ, ◌≡◌, ◌≢◌, ◌+◌, ◌/◌, ◌^◌, ◌<◌, ◌≤◌, ◌==◌, ◌-◌, min, inl, inr, List, [], ◌∷◌, ◌++◌, take, true, false, length, get_or, refl, sym, ap, ◌∙◌, subst, arith, Bool, not, ◌&&◌, cond}
 use Rattle.std.proofs.lemmas.Bool.{cases_eq, cases_lt, ne_eqb, eq-eqb, cond-true, cond-false}
-use Rattle.std.specs.List.{Contains}
+use Rattle.std.proofs.lemmas.List.{append-nil}
+use Rattle.std.proofs.lemmas.List.Elements.{filter_more}
+use Rattle.std.specs.List.{Contains, filter}
 use Rattle.sat_store.specs.clause.Buffer.{Laid, Keeps, header_at, lits_at}
 use Rattle.sat_store.specs.clause.Header.{Header, index_of}
 use Rattle.sat_store.specs.declared.clause.tier.Tier.{Tier}
@@ -136,3 +138,16 @@ holds_put words one db o h x put dead tier =
     let dead' : (p : ℕ) → Contains db.refs p → (cond (p == o) h (header_at words p)).deleted ≡ (header_at words p).deleted = λ p c. one_of words o p h (λ (z : Header). z.deleted) dead in
     let tier' : (p : ℕ) → Contains db.refs p → (cond (p == o) h (header_at words p)).tier ≡ (header_at words p).tier = λ p c. one_of words o p h (λ (z : Header). z.tier) tier in
     (holds_headers words one db (λ p. cond (p == o) h (header_at words p)) x all dead' tier', live_headers words one db (λ p. cond (p == o) h (header_at words p)) all dead')
+
+-- one place more of a filtered list
+pub passed_more : (p : ℕ → Bool) (refs xs : List ℕ) (at x : ℕ) → xs ≡ filter p (take at refs) → at < length refs → x ≡ get_or refs at 0 → p x ≡ true → xs ++ x ∷ [] ≡ filter p (take (at + 1) refs)
+passed_more p refs xs at x e lt is passes =
+    let y : p (get_or refs at 0) ≡ true = subst (λ z. p z ≡ true) is passes in
+    ap (λ (zs : List ℕ). zs ++ x ∷ []) e ∙ ap (λ z. filter p (take at refs) ++ z ∷ []) is
+    ∙ ap (λ (zs : List ℕ). filter p (take at refs) ++ zs) (sym (cond-true (p (get_or refs at 0)) (get_or refs at 0 ∷ []) [] y)) ∙ sym (filter_more p refs at 0 lt)
+
+pub passed_skip : (p : ℕ → Bool) (refs xs : List ℕ) (at x : ℕ) → xs ≡ filter p (take at refs) → at < length refs → x ≡ get_or refs at 0 → p x ≡ false → xs ≡ filter p (take (at + 1) refs)
+passed_skip p refs xs at x e lt is fails =
+    let n : p (get_or refs at 0) ≡ false = subst (λ z. p z ≡ false) is fails in
+    e ∙ sym (append-nil (filter p (take at refs)))
+    ∙ ap (λ (zs : List ℕ). filter p (take at refs) ++ zs) (sym (cond-false (p (get_or refs at 0)) (get_or refs at 0 ∷ []) [] n)) ∙ sym (filter_more p refs at 0 lt)
