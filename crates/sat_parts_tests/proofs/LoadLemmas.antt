@@ -9,6 +9,7 @@ use Rattle.sat_store.specs.clause.Buffer.{IsClause, Laid, Keeps, lits_at}
 use Rattle.sat_store.specs.clause.Header.{Header}
 use Rattle.sat_store.specs.heap.Vsids.{Queue, no_variables, with_variables, with_available}
 use Rattle.sat_store.proofs.lemmas.clause.Laying.{laid_none, laid_among}
+use Rattle.sat_store.specs.variables.Flags.{flags_for}
 use Rattle.sat_parts.specs.declared.prop.graph.ImplNode.{ImplNode}
 use Rattle.sat_parts.specs.clause.Db.{Db, HoldsDb, no_clauses, live_refs, AddsClause}
 use Rattle.sat_parts.specs.clause.Orders.{AreDistinct}
@@ -285,3 +286,6 @@ serves_undone words db w b a nodes t q a' t' q' top h above same_a same_t same_q
 -- a number of a list that is written out
 pub contains_at : (xs ys : List ℕ) (k o : ℕ) → xs ≡ ys → o ≡ get_or ys k 0 → k < length ys → Contains xs o
 contains_at xs ys k o e f lt = subst (λ (zs : List ℕ). Contains zs o) (sym e) (subst (λ (p : ℕ). Contains ys p) (sym f) (place_in ys k lt))
+
+pub flags_clear : (fs fs' : List Bool) (count : ℕ) → fs ≡ [] → fs' ≡ flags_for count fs → ((k : ℕ) → get_or fs' k false ≡ false) × (length fs' ≡ 2 * count)
+flags_clear fs fs' count e to_fs = rw to_fs (λ k. grown_reads fs false (2 * count) k e, grown_length fs false (2 * count) e)

@@ -13,3 +13,5 @@ mod parts;
 mod propagation;
 #[cfg(test)]
 mod search;
+#[cfg(test)]
+mod table;
