@@ -1,25 +1,26 @@
 -- From parts without clauses to parts that propagation can begin with.
-use Rattle.std.proofs.Common.{ℕ, ◌≡◌, ◌≢◌, ◌+◌, ◌-◌, ◌*◌, ◌^◌, ◌<◌, ◌≤◌, ◌⊎◌, inl, inr, List, [], ◌∷◌, ◌++◌, max, take, replicate, length, get_or, length-set, get_or-set_same, get_or-set_other, refl, sym, ap, ◌∙◌, subst, arith, true, false, Bool, Option, Some, None}
+use Rattle.std.proofs.Common.{ℕ, ◌≡◌, ◌+◌, ◌-◌, ◌*◌, ◌<◌, ◌≤◌, ◌⊎◌, inl, inr, List, [], ◌∷◌, ◌++◌, max, take, replicate, length, get_or, length-set, get_or-set_same, get_or-set_other, refl, sym, ap, ◌∙◌, subst, arith, true, false, Bool, Some, None}
 use Rattle.std.proofs.lemmas.Bool.{cases_lt, cases_eq}
 use Rattle.std.proofs.lemmas.List.{get_or_push, get_or_append_left, length_push, get_or-replicate, length-replicate, get_or_past, take_all}
 use Rattle.std.proofs.lemmas.List.Elements.{Contains-push_cases, Contains-push}
 use Rattle.std.specs.List.{Contains}
 use Rattle.sat_base.specs.values.Literals.{largest, negated, variable, is_positive}
-use Rattle.sat_store.specs.clause.Buffer.{IsClause, Laid, Keeps, lits_at}
+use Rattle.sat_store.specs.clause.Buffer.{Laid, lits_at}
 use Rattle.sat_store.specs.clause.Header.{Header}
 use Rattle.sat_store.specs.heap.Vsids.{Queue, no_variables, with_variables, with_available}
-use Rattle.sat_store.proofs.lemmas.clause.Laying.{laid_none, laid_among}
+use Rattle.sat_store.proofs.lemmas.clause.Laying.{laid_none}
 use Rattle.sat_store.specs.variables.Flags.{flags_for}
 use Rattle.sat_parts.specs.declared.prop.graph.ImplNode.{ImplNode}
 use Rattle.sat_parts.specs.clause.Db.{Db, HoldsDb, no_clauses, live_refs, AddsClause}
+use Rattle.sat_parts.specs.clause.Collected.{AreFirsts}
 use Rattle.sat_parts.specs.clause.Orders.{AreDistinct}
-use Rattle.sat_parts.specs.clause.Stored.{AreClauses, lit_of, size_of}
+use Rattle.sat_parts.specs.clause.Stored.{AreClauses}
 use Rattle.sat_parts.specs.prop.Binaries.{Binaries, implied_by, with_implied, with_binary, with_literals}
-use Rattle.sat_parts.specs.prop.Values.{Values, value_of, with_var_count, made_true}
+use Rattle.sat_parts.specs.prop.Values.{Values, with_var_count, made_true}
 use Rattle.sat_parts.specs.prop.Undone.{undone, undone_to, undone_lits, all_available}
 use Rattle.sat_parts.specs.prop.Backtracked.{KeepsAsked, KeepsAskedBy}
 use Rattle.sat_parts.proofs.lemmas.prop.BacktrackLemmas.{undone_length}
-use Rattle.sat_parts.specs.prop.Graphs.{with_nodes, new_node}
+use Rattle.sat_parts.specs.prop.Graphs.{with_nodes, new_node, node_of}
 use Rattle.sat_parts.specs.prop.Trails.{Trailed, no_trail, with_lit}
 use Rattle.sat_parts.specs.prop.WatchLists.{Watching, with_lists, with_clause}
 use Rattle.sat_parts.specs.prop.Ready.{AreLists, state_of}
@@ -289,3 +290,18 @@ contains_at xs ys k o e f lt = subst (λ (zs : List ℕ). Contains zs o) (sym e)
 
 pub flags_clear : (fs fs' : List Bool) (count : ℕ) → fs ≡ [] → fs' ≡ flags_for count fs → ((k : ℕ) → get_or fs' k false ≡ false) × (length fs' ≡ 2 * count)
 flags_clear fs fs' count e to_fs = rw to_fs (λ k. grown_reads fs false (2 * count) k e, grown_length fs false (2 * count) e)
+
+long_back : (o p : ℕ) → Long o ≡ Long p → o ≡ p
+long_back o p e = cc
+
+-- a trail of one literal whose reason is a live clause that has it first
+pub firsts_one : (words live lits : List ℕ) (nodes : List ImplNode) (o l : ℕ) → live ≡ o ∷ [] → lits ≡ l ∷ [] → get_or (lits_at words o) 0 0 ≡ l → (node_of nodes (variable l)).reason ≡ Long o → AreFirsts words live lits nodes
+firsts_one words live lits nodes o l one_live one_lit first reason = λ i p lt e.
+    let n : length lits ≡ 1 = ap (λ (xs : List ℕ). length xs) one_lit in
+    let zero_place : i ≡ 0 = omega arith in
+    let here : get_or lits i 0 ≡ l = ap (λ k. get_or lits k 0) zero_place ∙ ap (λ (xs : List ℕ). get_or xs 0 0) one_lit in
+    let same : Long o ≡ Long p = sym reason ∙ ap (λ x. (node_of nodes (variable x)).reason) (sym here) ∙ e in
+    let place : o ≡ p = long_back o p same in (
+      subst (λ (z : ℕ). Contains live z) place (contains_at live (o ∷ []) 0 o one_live refl (omega arith)),
+      subst (λ (z : ℕ). get_or (lits_at words z) 0 0 ≡ get_or lits i 0) place (first ∙ sym here),
+    )
