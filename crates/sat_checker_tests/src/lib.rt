@@ -1,0 +1,5 @@
+//! Tests of `sat_checker` by its public calls, in a crate of their own so that the library is proved once.
+#![tactic(auto)]
+
+#[cfg(test)]
+mod steps;
