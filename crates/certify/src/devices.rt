@@ -9,6 +9,7 @@ use std::io::{ErrorKind, Read, Write};
 pub(crate) struct FailsAt<'a> {
     text: &'a [u8],
     pub(crate) calls: u64,
+    pub(crate) taken: usize,
     failing: u64,
 }
 
@@ -42,6 +43,7 @@ impl Read for FailsAt<'_> {
 impl Write for FailsAt<'_> {
     fn write(&mut self, piece: &[u8]) -> io::Result<usize> {
         self.call()?;
+        self.taken = self.taken.saturating_add(piece.len());
         Ok(piece.len())
     }
 
@@ -54,6 +56,7 @@ pub(crate) fn fails_at(text: &[u8], failing: u64) -> Counted<FailsAt<'_>> {
     Counted::new(FailsAt {
         text,
         calls: 0,
+        taken: 0,
         failing,
     })
 }

@@ -29,8 +29,15 @@ fn does<I: CountedRead>(
         && errors.into_inner().as_slice() == told.as_bytes()
 }
 
+/// Four pigeons in three holes.
+const PIGEONS: &str = "\
+    1 2 3 0\n4 5 6 0\n7 8 9 0\n10 11 12 0\n-1 -4 0\n-1 -7 0\n-1 -10 0\n-4 -7 0\n-4 -10 0\n-7 -10 0\n\
+    -2 -5 0\n-2 -8 0\n-2 -11 0\n-5 -8 0\n-5 -11 0\n-8 -11 0\n-3 -6 0\n-3 -9 0\n-3 -12 0\n-6 -9 0\n\
+    -6 -12 0\n-9 -12 0\na 0\n";
+
 /// A script, the printed text, and the status.
-const SCRIPTS: [(&str, &str, u8); 13] = [
+const SCRIPTS: [(&str, &str, u8); 14] = [
+    (PIGEONS, "s UNSATISFIABLE\nf 0\nc confirmed\n", 0),
     ("1 2 0\na 0\n", "s SATISFIABLE\nv -1 2 0\nc confirmed\n", 0),
     ("", "c confirmed\n", 0),
     ("1 0\n-1 0\na 0\n", "s UNSATISFIABLE\nf 0\nc confirmed\n", 0),
@@ -120,23 +127,28 @@ fn standard_input_fails(rt: HostRuntime) {
     }
 }
 
-/// The status of the program where one call of its output fails, how many calls were made, and whether this is on its errors.
-fn output_fails(rt: &HostRuntime, failing: u64, told: &str) -> (u8, u64, bool) {
+/// The status of the program where one call of its output fails, how many calls were made and bytes taken, and whether this is on
+/// its errors.
+fn output_fails(rt: &HostRuntime, failing: u64, told: &str) -> (u8, u64, usize, bool) {
     let mut input = Counted::new("1 2 0\na 0\n".as_bytes());
     let mut output = fails_at(b"", failing);
     let mut errors = Counted::new(Vec::new(rt.alloc()));
     let none = Ok(Vec::new(rt.alloc()));
     let status = program(rt, none, &mut input, &mut output, &mut errors);
     let is_so = errors.into_inner().as_slice() == told.as_bytes();
-    (status, output.into_inner().calls, is_so)
+    let output = output.into_inner();
+    (status, output.calls, output.taken, is_so)
 }
 
-/// The write of the answers fails, then that of the last line, then the flush. Nothing more is written then.
+/// The call of the output that fails, and the bytes taken before.
+const TAKEN: [(u64, usize); 3] = [(1, 0), (2, 23), (3, 35)];
+
+/// The write of the answers fails, then that of the last line, behind the answers, then the flush. Nothing more is written then.
 #[test]
 fn standard_output_fails(rt: HostRuntime) {
-    for failing in 1..4 {
+    for (failing, taken) in TAKEN {
         let answer = output_fails(&rt, failing, "certify: AnswersWrite\n");
-        assert!(rt; answer == (3, failing, true), "{failing}");
+        assert!(rt; answer == (3, failing, taken, true), "{failing}");
     }
 }
 
