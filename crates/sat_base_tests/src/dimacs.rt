@@ -323,7 +323,7 @@ const FAULTS: [(&[u8], DimacsError, &[i64], u64); 3] = [
 
 #[test]
 fn a_caller_sees_the_clauses_before_a_fault(rt: HostRuntime) {
-    for (text, fault, clauses, calls) in FAULTS {
+    for &(text, fault, clauses, calls) in &FAULTS {
         let answer = looked(rt.alloc(), &mut by_one(text, 0), clauses, calls);
         assert!(rt;
             answer == (true, Err(IncrementalError::Dimacs(fault))),

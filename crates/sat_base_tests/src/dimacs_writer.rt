@@ -48,7 +48,7 @@ const TEXTS: [(u64, &[u8]); 3] = [
 
 #[test]
 fn formulas_have_these_texts(rt: HostRuntime) -> Result<(), Fail> {
-    for (stage, text) in TEXTS {
+    for &(stage, text) in &TEXTS {
         assert!(rt; stage_has_text(rt.alloc(), stage, text)?, "{stage}");
     }
     Ok(())

@@ -290,7 +290,7 @@ const BAD_TEXTS: [&[u8]; 17] = [
 
 #[test]
 fn wrong_texts_are_refused(rt: HostRuntime) -> Result<(), Fail> {
-    for text in BAD_TEXTS {
+    for &text in &BAD_TEXTS {
         assert!(rt; whole_gives(rt.alloc(), text, &[], BAD)?, "{text:?}");
         let answer = pieces_give(rt.alloc(), text, 0, &[], BAD)?;
         assert!(rt; answer == (true, text.len() as u64), "{text:?}");
@@ -356,7 +356,7 @@ const PROMISES: [&[u8]; 7] = [
 
 #[test]
 fn no_memory_is_taken_for_promised_items(rt: HostRuntime) -> Result<(), Fail> {
-    for text in PROMISES {
+    for &text in &PROMISES {
         assert!(rt; both_give(rt.alloc(), text, &[], CUT)?, "{text:?}");
     }
     Ok(())
@@ -364,7 +364,7 @@ fn no_memory_is_taken_for_promised_items(rt: HostRuntime) -> Result<(), Fail> {
 
 #[test]
 fn a_text_ends_between_steps(rt: HostRuntime) -> Result<(), Fail> {
-    for (text, steps, errors) in ENDS {
+    for &(text, steps, errors) in &ENDS {
         assert!(rt; both_give(rt.alloc(), text, steps, errors)?, "{text:?}");
     }
     Ok(())

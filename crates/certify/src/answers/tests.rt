@@ -82,7 +82,7 @@ fn has_text(alloc: Global, (kind, numbers, text): Answer) -> Result<bool, Fail> 
 
 #[test]
 fn answers_are_written_and_read(rt: HostRuntime) -> Result<(), Fail> {
-    for answer in ANSWERS {
+    for &answer in &ANSWERS {
         assert!(rt; has_text(rt.alloc(), answer)?, "{answer:?}");
     }
     Ok(())
@@ -114,13 +114,13 @@ const MISSING: [&[u8]; 3] = [b"", b"s SATISFIABLE\n", b"s UNSATISFIABLE\n"];
 
 #[test]
 fn other_texts_are_no_answers(rt: HostRuntime) {
-    for text in OUT_OF_FORM {
+    for &text in &OUT_OF_FORM {
         assert!(rt;
             fault_of(rt.alloc(), text) == Some(AnswerFault::Text),
             "{text:?}"
         );
     }
-    for text in MISSING {
+    for &text in &MISSING {
         assert!(rt;
             fault_of(rt.alloc(), text) == Some(AnswerFault::Missing),
             "{text:?}"
@@ -173,7 +173,7 @@ const WORDS: [(AnswerFault, &str); 3] = [
 
 #[test]
 fn faults_have_words(rt: HostRuntime) -> Result<(), Fail> {
-    for (fault, words) in WORDS {
+    for &(fault, words) in &WORDS {
         assert!(rt;
             format!(in rt.alloc(); "{fault}")?.as_str() == words,
             "{words}"

@@ -171,7 +171,7 @@ const RUNS: [&[(Told, bool)]; 7] = [
 
 #[test]
 fn steps_are_answered(rt: HostRuntime) -> Result<(), Fail> {
-    for rows in RUNS {
+    for &rows in &RUNS {
         assert!(rt; answered_by_new(rt.alloc(), rows)? == rows.len());
     }
     Ok(())
@@ -219,7 +219,7 @@ fn answered_with_model(
 
 #[test]
 fn models_are_checked(rt: HostRuntime) -> Result<(), Fail> {
-    for (assignment, is_so) in MODELS {
+    for &(assignment, is_so) in &MODELS {
         assert!(rt;
             answered_with_model(rt.alloc(), assignment, is_so)? == 3,
             "{assignment:?}"

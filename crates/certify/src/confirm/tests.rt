@@ -87,7 +87,7 @@ const CONFIRMED: [Texts<'static>; 10] = [
 
 #[test]
 fn texts_that_match(rt: HostRuntime) {
-    for texts in CONFIRMED {
+    for &texts in &CONFIRMED {
         assert!(rt; is_yes(rt.alloc(), texts), "{texts:?}");
     }
 }
@@ -154,7 +154,7 @@ const NOT_CONFIRMED: [(Texts<'static>, u64, Why); 12] = [
 
 #[test]
 fn texts_that_do_not_match(rt: HostRuntime) {
-    for (texts, ask, why) in NOT_CONFIRMED {
+    for &(texts, ask, why) in &NOT_CONFIRMED {
         assert!(rt; is_no(rt.alloc(), texts, ask, why), "{texts:?}");
     }
 }
@@ -205,7 +205,7 @@ const OTHER_KINDS: [&[u8]; 6] = [
 
 #[test]
 fn other_kinds_of_step_are_refused(rt: HostRuntime) -> Result<(), Fail> {
-    for step in OTHER_KINDS {
+    for &step in &OTHER_KINDS {
         assert!(rt; is_refused(rt.alloc(), step)?, "{step:?}");
     }
     Ok(())
@@ -225,7 +225,7 @@ const STEPS_BETWEEN: [(&[u8], Verdict); 2] = [
 
 #[test]
 fn steps_may_stand_between(rt: HostRuntime) -> Result<(), Fail> {
-    for (step, verdict) in STEPS_BETWEEN {
+    for &(step, verdict) in &STEPS_BETWEEN {
         assert!(rt; is_said_with(rt.alloc(), step, verdict)?, "{step:?}");
     }
     Ok(())
@@ -267,7 +267,7 @@ const CORES: [(&[u8], &[u8], Why); 10] = [
 
 #[test]
 fn cores_are_compared(rt: HostRuntime) -> Result<(), Fail> {
-    for (answers, behind, why) in CORES {
+    for &(answers, behind, why) in &CORES {
         let texts = (&ROW_STEPS[..12], behind, b"".as_slice());
         let verdict = Verdict::No { ask: 1, why };
         assert!(rt;
@@ -411,10 +411,10 @@ fn is_said_behind(
 
 #[test]
 fn later_asks_are_named(rt: HostRuntime) -> Result<(), Fail> {
-    for tail in THIRD_ASKS {
+    for &tail in &THIRD_ASKS {
         assert!(rt; is_said_behind(rt.alloc(), THIRD, tail)?, "{tail:?}");
     }
-    for tail in EMPTY_ASKS {
+    for &tail in &EMPTY_ASKS {
         assert!(rt; is_said_behind(rt.alloc(), EMPTY_THIRD, tail)?, "{tail:?}");
     }
     Ok(())
@@ -483,7 +483,7 @@ const RUNS: [(&[u8], u64); 26] = [
 
 #[test]
 fn what_a_run_wrote_is_confirmed(rt: HostRuntime) -> Result<(), Fail> {
-    for (script, budget) in RUNS {
+    for &(script, budget) in &RUNS {
         assert!(rt; is_confirmed(rt.alloc(), script, budget)?, "{script:?}");
     }
     Ok(())
@@ -540,7 +540,7 @@ const WORDS_OF_A_NO: [(Why, &str); 11] = [
 
 #[test]
 fn a_no_has_words(rt: HostRuntime) -> Result<(), Fail> {
-    for (why, words) in WORDS_OF_A_NO {
+    for &(why, words) in &WORDS_OF_A_NO {
         assert!(rt;
             format!(in rt.alloc(); "{why}")?.as_str() == words,
             "{words}"
@@ -559,7 +559,7 @@ const WORDS_OF_A_FAULT: [(ConfirmFault, &str); 5] = [
 
 #[test]
 fn a_fault_has_words(rt: HostRuntime) -> Result<(), Fail> {
-    for (fault, words) in WORDS_OF_A_FAULT {
+    for &(fault, words) in &WORDS_OF_A_FAULT {
         assert!(rt;
             format!(in rt.alloc(); "{fault}")?.as_str() == words,
             "{words}"

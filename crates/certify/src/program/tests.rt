@@ -63,7 +63,7 @@ const SCRIPTS: [(&str, &str, u8); 14] = [
 
 #[test]
 fn answers_are_printed_and_confirmed(rt: HostRuntime) {
-    for (script, printed, status) in SCRIPTS {
+    for &(script, printed, status) in &SCRIPTS {
         let mut input = Counted::new(script.as_bytes());
         let wanted = (status, printed, "");
         assert!(rt;
@@ -99,7 +99,7 @@ const MISUSES: [&[&str]; 5] = [
 
 #[test]
 fn other_arguments_give_the_usage(rt: HostRuntime) -> Result<(), Fail> {
-    for list in MISUSES {
+    for &list in &MISUSES {
         let words = words(rt.alloc(), list)?;
         assert!(rt; is_told(&rt, Ok(words), 2, USAGE), "{list:?}");
     }
@@ -146,7 +146,7 @@ const TAKEN: [(u64, usize); 3] = [(1, 0), (2, 23), (3, 35)];
 /// The write of the answers fails, then that of the last line, behind the answers, then the flush. Nothing more is written then.
 #[test]
 fn standard_output_fails(rt: HostRuntime) {
-    for (failing, taken) in TAKEN {
+    for &(failing, taken) in &TAKEN {
         let answer = output_fails(&rt, failing, "certify: AnswersWrite\n");
         assert!(rt; answer == (3, failing, taken, true), "{failing}");
     }
@@ -201,7 +201,7 @@ const LINES: [Line<'static>; 3] = [
 
 #[test]
 fn verdicts_are_printed(rt: HostRuntime) -> Result<(), Fail> {
-    for (texts, line, status) in LINES {
+    for &(texts, line, status) in &LINES {
         assert!(rt; confirms(rt.alloc(), texts, line, status)?, "{line}");
     }
     Ok(())
@@ -240,7 +240,7 @@ const NAMES: [(Fault, &str); 11] = [
 
 #[test]
 fn faults_have_names(rt: HostRuntime) {
-    for (fault, name) in NAMES {
+    for &(fault, name) in &NAMES {
         assert!(rt; fault.name() == name, "{name}");
     }
 }

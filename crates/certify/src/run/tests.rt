@@ -79,7 +79,7 @@ const ANSWERS: [(&[u8], u64, &[u8]); 31] = [
 
 #[test]
 fn scripts_are_answered(rt: HostRuntime) {
-    for (text, budget, answers) in ANSWERS {
+    for &(text, budget, answers) in &ANSWERS {
         assert!(rt;
             is_answered(rt.alloc(), &mut Counted::new(text), budget, answers),
             "{text:?}"
@@ -89,7 +89,7 @@ fn scripts_are_answered(rt: HostRuntime) {
 
 #[test]
 fn scripts_are_answered_by_one_byte(rt: HostRuntime) {
-    for (text, budget, answers) in ANSWERS {
+    for &(text, budget, answers) in &ANSWERS {
         assert!(rt;
             is_answered(rt.alloc(), &mut fails_at(text, 0), budget, answers),
             "{text:?}"
@@ -128,7 +128,7 @@ const CERTIFICATES: [(&[u8], &[u8]); 3] = [
 
 #[test]
 fn certificates_are_written(rt: HostRuntime) {
-    for (text, certificate) in CERTIFICATES {
+    for &(text, certificate) in &CERTIFICATES {
         assert!(rt; is_certified(rt.alloc(), text, certificate), "{text:?}");
     }
 }
@@ -193,7 +193,7 @@ const SUMMARIES: [(&[u8], Counts, &[AskReport]); 8] = [
 
 #[test]
 fn runs_are_summed_up(rt: HostRuntime) {
-    for (text, counts, asks) in SUMMARIES {
+    for &(text, counts, asks) in &SUMMARIES {
         assert!(rt; is_summed_up(rt.alloc(), text, counts, asks), "{text:?}");
     }
 }
@@ -228,7 +228,7 @@ const CALLS: [(&[u8], Calls); 3] = [
 
 #[test]
 fn calls_are_as_many_as_this(rt: HostRuntime) {
-    for (text, calls) in CALLS {
+    for &(text, calls) in &CALLS {
         assert!(rt;
             run_at(rt.alloc(), text, (0, 0, 0)) == (None, calls),
             "{text:?}"
@@ -239,7 +239,7 @@ fn calls_are_as_many_as_this(rt: HostRuntime) {
 /// Each call of a device fails in turn, the flushes too, and gives that text's fault.
 #[test]
 fn each_call_fails_in_turn(rt: HostRuntime) {
-    for (text, (reads, answered, certified)) in CALLS {
+    for &(text, (reads, answered, certified)) in &CALLS {
         for failing in 1..=reads {
             let fault = fault_at(rt.alloc(), text, (failing, 0, 0));
             assert!(rt; fault == Some(RunFault::ScriptRead), "{failing}");
@@ -293,7 +293,7 @@ const WORDS: [(RunFault, &str); 6] = [
 
 #[test]
 fn faults_have_words(rt: HostRuntime) -> Result<(), Fail> {
-    for (fault, words) in WORDS {
+    for &(fault, words) in &WORDS {
         assert!(rt;
             format!(in rt.alloc(); "{fault}")?.as_str() == words,
             "{words}"

@@ -99,7 +99,7 @@ const SCRIPTS: [(&[u8], &[Told], bool, usize); 24] = [
 
 #[test]
 fn scripts_are_read(rt: HostRuntime) {
-    for (text, commands, is_malformed, count) in SCRIPTS {
+    for &(text, commands, is_malformed, count) in &SCRIPTS {
         assert!(rt;
             is_read(rt.alloc(), text, commands, is_malformed, count),
             "{text:?}"

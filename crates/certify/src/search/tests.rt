@@ -213,7 +213,7 @@ const RUNS: [&[Told]; 7] = [
 
 #[test]
 fn solvers_answer_so(rt: HostRuntime) -> Result<(), Fail> {
-    for rows in RUNS {
+    for &rows in &RUNS {
         let wrong = first_wrong_of_new(rt.alloc(), rows)?;
         assert!(rt; wrong.is_none(), "{wrong:?}");
     }
@@ -281,7 +281,7 @@ const ANSWERS: [Row; 7] = [
 
 #[test]
 fn asks_are_answered(rt: HostRuntime) -> Result<(), Fail> {
-    for (vars, formula, budget, answer, rounds, least, most) in ANSWERS {
+    for &(vars, formula, budget, answer, rounds, least, most) in &ANSWERS {
         let found = answered(rt.alloc(), vars, formula, budget)?;
         assert!(rt;
             (found.0, found.1) == (answer, rounds),

@@ -55,7 +55,7 @@ const STEPS: [&[u8]; 18] = [
 
 #[test]
 fn each_kind_is_read(rt: HostRuntime) {
-    for text in STEPS {
+    for &text in &STEPS {
         assert!(rt; is_last(rt.alloc(), text, 1, text), "{text:?}");
     }
 }
@@ -140,13 +140,13 @@ const END_WITHIN: [&[u8]; 7] = [
 
 #[test]
 fn other_texts_are_no_step(rt: HostRuntime) -> Result<(), Fail> {
-    for text in BEGIN_NO_STEP {
+    for &text in &BEGIN_NO_STEP {
         assert!(rt;
             refusal(rt.alloc(), text)? == Some(Why::StepRefused),
             "{text:?}"
         );
     }
-    for text in END_WITHIN {
+    for &text in &END_WITHIN {
         assert!(rt;
             refusal(rt.alloc(), text)? == Some(Why::CertificateEnds),
             "{text:?}"
