@@ -23,7 +23,7 @@ pub struct Checker {
     /// What was recorded after the last step that was accepted.
     status: Status,
     failed: bool,
-    looks: Looks,
+    pub(crate) looks: Looks,
 }
 
 impl Checker {

@@ -1,6 +1,8 @@
 //! The count of looks at literals of stored clauses.
 ghost use Rattle.std.specs.Prelude.{◌≡◌, ◌+◌, ◌-◌, ◌^◌, min};
+ghost use Rattle.sat_checker.specs.CheckerView.{looks_of};
 
+use crate::checker::Checker;
 use crate::tally::LookTally;
 use std::marker::Model;
 
@@ -37,6 +39,20 @@ impl Looks {
         ensures { result ≡ min self.now (2 ^ 64 - 1) }
     {
         self.held
+    }
+
+    /// Those of the checker, too.
+    pub fn add(&mut self, checker: &Checker)
+        ensures { self.new ≡ self.old + looks_of checker.now }
+    {
+        self.join(&checker.looks);
+    }
+
+    fn join(&mut self, other: &Looks)
+        ensures { self.new ≡ self.old + other.now }
+    {
+        self.tally = self.tally.and_all(&other.tally);
+        self.held = self.held.saturating_add(other.held);
     }
 
     /// So many more.

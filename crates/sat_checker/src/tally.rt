@@ -26,4 +26,10 @@ impl LookTally {
     {
         LookTally {}
     }
+
+    pub(crate) fn and_all(&self, _other: &LookTally) -> LookTally
+        ensures { result.seen ≡ self.now.seen + _other.now.seen }
+    {
+        LookTally {}
+    }
 }
