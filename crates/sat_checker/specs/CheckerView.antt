@@ -1,10 +1,14 @@
 -- What contracts see of a checker: the steps that it accepted, its input clauses among them, and whether it has failed.
-use Rattle.std.specs.Prelude.{ℕ, ◌≡◌, Bool, true, false, List, ◌∷◌, Result, Ok, Err}
+use Rattle.std.specs.Prelude.{ℕ, ◌≡◌, ◌+◌, ◌≤◌, Bool, true, false, List, ◌∷◌, Result, Ok, Err}
 use Rattle.sat_base.specs.steps.Steps.{Step, AddClause}
+use Rattle.sat_checker.specs.Stored.{Stored}
+use Rattle.sat_checker.specs.Storing.{settled}
 use Rattle.sat_checker.specs.Accepts.{Accepts, AcceptsAll, stored_after, ready_after}
+use Rattle.sat_checker.specs.Looks.{most_looks}
 use Rattle.sat_checker.specs.inner.FormulaView.{standing_in, standing_of}
 use Rattle.sat_checker.specs.inner.StateView.{Keeps, SpentBy}
 use Rattle.sat_checker.specs.declared.checker.Checker.{Checker}
+use Rattle.sat_checker.specs.declared.state.State.{State}
 use Rattle.sat_checker.specs.declared.error.CheckerError.{CheckerError}
 use Rattle.sat_checker.specs.declared.error.CheckerError.TheVariants as errors
 
@@ -14,11 +18,17 @@ has_failed c = c.failed
 abbrev pub looks_of : Checker → ℕ
 looks_of c = c.looks
 
+-- What these steps leave is kept. A unit conflict that they left pending may be settled by now.
+pub record KeepsAfter (state : State) (steps : List Step) : Type 0 where
+  pub formula : Stored
+  pub keeps : Keeps state formula
+  pub ready : settled formula ≡ ready_after steps
+
 -- It has accepted these steps, the newest first, and keeps what they leave unless it has failed.
 pub record Stands (checker : Checker) (steps : List Step) : Type 0 where
   pub accepted : AcceptsAll steps
   pub status : standing_in checker.status ≡ standing_of (stored_after steps)
-  pub kept : checker.failed ≡ false → Keeps checker.state (stored_after steps)
+  pub kept : checker.failed ≡ false → KeepsAfter checker.state steps
 
 -- it stands where it stood, and answers nothing but HasFailed from then on
 pub record Fails (new : Checker) (steps : List Step) : Type 0 where
@@ -44,6 +54,10 @@ AnswersStep (Err errors.ParseError) old step new steps = ⊥
 
 abbrev pub ChecksStep : Result Unit CheckerError → Checker → Step → Checker → Type 0
 ChecksStep result old step new = (steps : List Step) → Stands old steps → AnswersStep result old step new steps
+
+-- the step takes no more looks than its bound
+abbrev pub LooksAtMost : Checker → Step → Checker → Type 0
+LooksAtMost old step new = (steps : List Step) → Stands old steps → looks_of new ≤ looks_of old + most_looks (ready_after steps) step
 
 -- What an answer to a clause of the formula means. A refused one leaves the checker as it was.
 abbrev pub AnswersClause : Result Unit CheckerError → Checker → List ℕ → Checker → List Step → Type 0

@@ -1,13 +1,13 @@
 //! The checker of proof steps.
-ghost use Rattle.std.specs.Prelude.{◌≡◌, ◌+◌, ◌-◌, ◌≤◌, ◌^◌, false, [], List, min};
+ghost use Rattle.std.specs.Prelude.{◌≡◌, ◌-◌, ◌^◌, false, [], List, min};
 ghost use Rattle.sat_base.specs.steps.Steps.{Step, AddClause};
 ghost use Rattle.sat_base.specs.steps.StepViews.{step_of};
 ghost use Rattle.sat_checker.specs.Stored.{is_known, name_of};
 ghost use Rattle.sat_checker.specs.Accepts.{ready_after};
-ghost use Rattle.sat_checker.specs.Looks.{most_looks};
-ghost use Rattle.sat_checker.specs.CheckerView.{has_failed, looks_of, Stands, ChecksStep, ChecksClause};
+ghost use Rattle.sat_checker.specs.CheckerView.{has_failed, looks_of, Stands, ChecksStep, ChecksClause, LooksAtMost};
 
 use crate::error::CheckerError;
+use crate::internal::SelfChecker;
 use crate::looks::Looks;
 use crate::state::State;
 use crate::status::Status;
@@ -44,8 +44,7 @@ impl Checker {
     /// Takes a clause of the formula, unless it has a variable that is hidden or a witness. A refused one changes nothing.
     pub fn add_clause(&mut self, clause: &[Lit]) -> Result<(), CheckerError>
         ensures checks { ChecksClause result self.old clause.now self.new }
-        ensures looks { (steps : List Step) → Stands self.old steps
-            → looks_of self.new ≤ looks_of self.old + most_looks (ready_after steps) (AddClause clause.now) }
+        ensures looks { LooksAtMost self.old (AddClause clause.now) self.new }
     {
         if self.failed {
             return Err(CheckerError::HasFailed);
@@ -53,14 +52,13 @@ impl Checker {
         if !self.state.may_add(clause) {
             return Err(CheckerError::CheckFailed);
         }
-        self.self_check_step(&ProofStep::AddClause { clause })
+        self.check_step(&ProofStep::AddClause { clause })
     }
 
     /// Checks the next step, and takes it in if it is accepted.
-    pub fn self_check_step(&mut self, step: &ProofStep<'_>) -> Result<(), CheckerError>
+    fn check_step(&mut self, step: &ProofStep<'_>) -> Result<(), CheckerError>
         ensures checks { ChecksStep result self.old (step_of step.now) self.new }
-        ensures looks { (steps : List Step) → Stands self.old steps
-            → looks_of self.new ≤ looks_of self.old + most_looks (ready_after steps) (step_of step.now) }
+        ensures looks { LooksAtMost self.old (step_of step.now) self.new }
     {
         if self.failed {
             return Err(CheckerError::HasFailed);
@@ -127,5 +125,13 @@ impl Checker {
         ensures { result ≡ min (looks_of self.now) (2 ^ 64 - 1) }
     {
         self.looks.get()
+    }
+}
+
+impl SelfChecker for Checker {
+    ghost checks = { λ c step r d. ChecksStep r c step d × LooksAtMost c step d };
+
+    fn self_check_step(&mut self, step: &ProofStep<'_>) -> Result<(), CheckerError> {
+        self.check_step(step)
     }
 }

@@ -1,7 +1,7 @@
 //! Steps that are accepted and refused, read from their bytes.
 
 use sat_base::{Counted, CountedRead, Lit, StepReader};
-use sat_checker::{Checker, CheckerError};
+use sat_checker::{Checker, CheckerError, SelfChecker};
 use std::alloc::Global;
 use std::test::Fail;
 

@@ -1,0 +1,18 @@
+//! What a solver feeds the steps of its proof to.
+ghost use Rattle.std.specs.Prelude.{Result};
+ghost use Rattle.sat_base.specs.steps.Steps.{Step};
+ghost use Rattle.sat_base.specs.steps.StepViews.{step_of};
+ghost use Rattle.sat_checker.specs.declared.error.CheckerError.{CheckerError as ErrorOfChecker};
+
+use crate::error::CheckerError;
+use sat_base::ProofStep;
+
+/// Checks the steps of a proof one at a time, as they are made.
+pub trait SelfChecker {
+    /// From the state before, this step was answered so, to the state after.
+    ghost checks: { Self → Step → Result (Unit {0}) ErrorOfChecker → Self → Type 0 };
+
+    /// Checks the next step, and takes it in if it is accepted.
+    fn self_check_step(&mut self, step: &ProofStep<'_>) -> Result<(), CheckerError>
+        ensures { checks self.old (step_of step.now) result self.new };
+}
