@@ -8,3 +8,4 @@ pub mod rows
 pub mod formula
 pub mod state
 pub mod announcements
+pub mod checker

@@ -9,6 +9,7 @@ pub mod Looks
 pub mod inner
 pub mod HasherView
 pub mod CheckerView
+pub mod ProofView
 pub mod Laws
 pub mod Rows
 pub mod announcements

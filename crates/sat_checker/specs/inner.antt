@@ -10,3 +10,4 @@ pub mod UnitView
 pub mod FormulaView
 pub mod StateView
 pub mod ModelTests
+pub mod ProofSteps

@@ -1,10 +1,12 @@
 //! The checker of proof steps.
-ghost use Rattle.std.specs.Prelude.{◌≡◌, ◌-◌, ◌^◌, false, [], List, min};
+ghost use Rattle.std.specs.Prelude.{◌≡◌, ◌-◌, ◌^◌, false, [], List, min, OnOk};
 ghost use Rattle.sat_base.specs.steps.Steps.{Step, AddClause};
 ghost use Rattle.sat_base.specs.steps.StepViews.{step_of};
 ghost use Rattle.sat_checker.specs.Stored.{is_known, name_of};
 ghost use Rattle.sat_checker.specs.Accepts.{ready_after};
 ghost use Rattle.sat_checker.specs.CheckerView.{has_failed, looks_of, Stands, ChecksStep, ChecksClause, LooksAtMost};
+
+mod proof;
 
 use crate::error::CheckerError;
 use crate::internal::SelfChecker;
@@ -56,8 +58,9 @@ impl Checker {
     }
 
     /// Checks the next step, and takes it in if it is accepted.
-    fn check_step(&mut self, step: &ProofStep<'_>) -> Result<(), CheckerError>
+    pub(crate) fn check_step(&mut self, step: &ProofStep<'_>) -> Result<(), CheckerError>
         ensures checks { ChecksStep result self.old (step_of step.now) self.new }
+        ensures goes_on { OnOk result (has_failed self.new ≡ false) }
         ensures looks { LooksAtMost self.old (step_of step.now) self.new }
     {
         if self.failed {

@@ -1,5 +1,5 @@
 //! The stored formula: clauses, units, and what is recorded of them.
-ghost use Rattle.std.specs.Prelude.{◌≡◌, ◌+◌, ◌≤◌, ◌*◌, ℕ, [], ◌∷◌, length, IfOk, IsTrue, ◌↔◌, MatchBool, ◌<◌, map, not, ◌&&◌};
+ghost use Rattle.std.specs.Prelude.{◌≡◌, ◌+◌, ◌≤◌, ◌*◌, ℕ, [], ◌∷◌, length, IfOk, OnErr, IsErrOf, IsTrue, ◌↔◌, MatchBool, ◌<◌, map, not, ◌&&◌};
 ghost use Rattle.sat_base.specs.steps.Steps.{DeleteClause, Redundant, Satisfied, Simplified};
 ghost use Rattle.std.specs.List.{list_any};
 ghost use Rattle.sat_base.specs.values.Literals.{negated};
@@ -11,6 +11,7 @@ ghost use Rattle.sat_checker.specs.Looks.{literal_count};
 ghost use Rattle.sat_checker.specs.Storing.{settled, with_unit, with_contradiction, with_canonical, with_stored, with_input, with_units, clause_with, without_clause, last_literals, without_variable};
 ghost use Rattle.sat_checker.specs.inner.StoreView.{count_in};
 ghost use Rattle.sat_checker.specs.inner.Marks.{IsIncreasing};
+ghost use Rattle.sat_checker.specs.declared.store.StoreError.TheVariants.{CounterEnd};
 ghost use Rattle.sat_checker.specs.inner.FormulaView.{KeepsFormula, Becomes, TurnsIf, Deletes};
 
 use crate::assigned::Assigned;
@@ -60,7 +61,8 @@ impl Formula {
 
     /// The empty clause of a pending unit conflict takes the next id.
     pub fn settle(&mut self) -> Result<(), StoreError>
-        ensures { Becomes result self.old settled self.new }
+        ensures settles { Becomes result self.old settled self.new }
+        ensures spent { OnErr result (IsErrOf result CounterEnd) }
     {
         if self.status.conflict.is_some() {
             self.status.take_id()?;

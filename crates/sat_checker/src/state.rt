@@ -20,7 +20,7 @@ use std::alloc::Global;
 /// All that steps are judged by.
 #[derive(Drop)]
 pub(crate) struct State {
-    alloc: Global,
+    pub(crate) alloc: Global,
     pub(crate) formula: Formula,
     pub(crate) variables: Variables,
     assumed: LitSet,

@@ -1,0 +1,304 @@
+-- What a proof that is read and checked step by step is answered by.
+use Rattle.std.proofs.Common.{ℕ, ◌+◌, ◌-◌, ◌*◌, ◌<◌, ◌≤◌, ◌≡◌, Bool, true, false, List, [], ◌∷◌, ◌++◌, length, length-append, append_assoc, Option, Some, None, Result, Ok, Err, inl, inr, refl, sym, ap, subst, ◌∙◌, arith}
+use Rattle.std.specs.Prelude.{◌≢◌}
+use Rattle.std.proofs.lemmas.List.{append-nil}
+use Rattle.std.specs.Bool.{MatchBool}
+use Rattle.std.specs.List.{AllByRecursion}
+use Rattle.std.specs.Io.KnownBytes.{Consumes, IsAtEnd, prepend_known}
+use Rattle.sat_base.specs.declared.steps.error.StepError.{StepError}
+use Rattle.sat_base.specs.declared.steps.error.StepError.TheVariants as unread_by
+use Rattle.sat_base.specs.declared.steps.reader.StepReader.{StepReader}
+use Rattle.sat_base.specs.declared.steps.reader.Buffers.{Buffers}
+use Rattle.sat_base.specs.device.Device.{Reader, IsOver, ReadFails, most_reads}
+use Rattle.sat_base.specs.device.Reading.{Source, PassesBut, Passes, Faults, AllTaken, giving, unread}
+use Rattle.sat_base.specs.steps.Formats.{Format, Items, Live}
+use Rattle.sat_base.specs.steps.StepReading.{reader_source, Next}
+use Rattle.sat_base.specs.steps.StepReading as reading
+use Rattle.sat_base.specs.steps.Steps.{Step, End}
+use Rattle.sat_base.specs.steps.StepText.{tag_of, SpellsStep, SpellsSteps}
+use Rattle.sat_base.proofs.lemmas.device.ReadLemmas.{passes_none, passes_more, faults_later}
+use Rattle.sat_checker.specs.Spent.{IsSpent}
+use Rattle.sat_checker.specs.Accepts.{ready_after}
+use Rattle.sat_checker.specs.Looks.{most_looks}
+use Rattle.sat_checker.specs.CheckerView.{has_failed, looks_of, Stands, Fails}
+use Rattle.sat_checker.specs.ProofView.{taken_after, most_looks_behind, GaveSteps, Went, GoesOn, AnswersProof}
+use Rattle.sat_checker.specs.inner.ProofSteps.{Turn, turn, Tries, StepsOn, Passed, Settles, error_of, is_final, bytes_left}
+use Rattle.sat_checker.specs.declared.checker.Checker.{Checker}
+use Rattle.sat_checker.specs.declared.error.CheckerError.{CheckerError}
+use Rattle.sat_checker.specs.declared.error.CheckerError.TheVariants as errors
+
+-- NO STEP IS READ
+
+live_none : Live SpellsStep []
+live_none = (End, 13, [], ([], refl, refl))
+
+-- the checker with its flag as it was
+unfailed : (c : Checker) (steps : List Step) → c.failed ≡ false → Stands c steps → GoesOn (record c { failed = false }) steps
+unfailed c steps h s = (record { accepted = s.accepted; status = s.status; kept = λ e. s.kept h }, refl)
+
+failed_now : (c : Checker) (steps : List Step) → Stands c steps → Stands (record c { failed = true }) steps
+failed_now c steps s = record { accepted = s.accepted; status = s.status; kept = λ e. absurd (let g : ◌≡◌ {A = Bool} true false = e in cc) }
+
+pub unread_answer : {R : Type 0} (seen : R → Reader) (c : Checker) (s t : StepReader R Buffers) (e : StepError) (step : Step) (earlier : List Step)
+    → has_failed c ≡ false → reading.has_failed s ≡ false → Next seen s t (giving step (Err e)) → Stands c earlier
+    → StepsOn (Err (error_of e)) (turn c (reader_source seen s)) (turn (record c { failed = is_final e }) (reader_source seen t)) earlier
+unread_answer seen c s t unread_by.Ends step earlier h k n stands = ([], n.answer, live_none, record { goes_on = unfailed c earlier h stands; looks = refl })
+unread_answer seen c s t unread_by.Cut step earlier h k n stands = let a = n.answer in (a.0 ∷ a.1, a.2, a.3, record { goes_on = unfailed c earlier h stands; looks = refl })
+unread_answer seen c s t unread_by.BadByte step earlier h k n stands = let a = n.answer in (a.0, a.1, a.2, a.3, a.4, record { goes_on = unfailed c earlier h stands; looks = refl })
+unread_answer seen c s t unread_by.Read step earlier h k n stands = let a = n.answer in (a.0, a.1, a.2, record { goes_on = unfailed c earlier h stands; looks = refl })
+unread_answer seen c s t unread_by.OutOfMemory step earlier h k n stands =
+    let a = n.answer in (inl (record { tag = a.0; more = a.1; passes = a.2; looks = refl }), record { stands = failed_now c earlier stands; failed = refl })
+unread_answer seen c s t unread_by.HasFailed step earlier h k n stands = absurd (let g : ◌≡◌ {A = Bool} true false = sym n.was ∙ k in cc)
+
+-- STEPS ONE AFTER ANOTHER
+
+items_one : {A : Type 0} (F : Format A) (xs : List A) (x : A) (a b : List ℕ) → Items F xs a → F x b → Items F (xs ++ x ∷ []) (a ++ b)
+items_one F [] x a b h k = (b, [], k, refl, ap (λ (z : List ℕ). z ++ b) h ∙ sym (append-nil b))
+items_one F (y ∷ ys) x a b h k = (h.0, h.1 ++ b, h.2, items_one F ys x h.1 b h.3 k, ap (λ (z : List ℕ). z ++ b) h.4 ∙ append_assoc h.0 h.1 b)
+
+all_one : {A : Type 0} (P : A → Type 0) (xs : List A) (x : A) → AllByRecursion P xs → P x → AllByRecursion P (xs ++ x ∷ [])
+all_one P [] x h k = (k, tt)
+all_one P (y ∷ ys) x h k = (h.0, all_one P ys x h.1 k)
+
+taken_one : (xs : List Step) (x : Step) (earlier : List Step) → taken_after (xs ++ x ∷ []) earlier ≡ x ∷ taken_after xs earlier
+taken_one [] x earlier = refl
+taken_one (y ∷ ys) x earlier = taken_one ys x (y ∷ earlier)
+
+looks_one : (xs : List Step) (x : Step) (earlier : List Step) → most_looks_behind (xs ++ x ∷ []) earlier ≡ most_looks_behind xs earlier + most_looks (ready_after (taken_after xs earlier)) x
+looks_one [] x earlier = added (most_looks (ready_after earlier) x)
+  where
+    added : (n : ℕ) → n + 0 ≡ 0 + n
+    added n = omega arith
+looks_one (y ∷ ys) x earlier = apart (most_looks (ready_after earlier) y) (most_looks_behind (ys ++ x ∷ []) (y ∷ earlier)) (most_looks_behind ys (y ∷ earlier)) (most_looks (ready_after (taken_after ys (y ∷ earlier))) x) (looks_one ys x (y ∷ earlier))
+  where
+    apart : (a b c d : ℕ) → b ≡ c + d → a + b ≡ a + c + d
+    apart a b c d e = omega arith
+
+looks_more : (a b c m n k : ℕ) → b ≤ a + m → c ≤ b + n → k ≡ m + n → c ≤ a + k
+looks_more a b c m n k h l e = omega arith
+
+tried_looks : (a b c : Turn) (earlier xs : List Step) (x : Step) → Passed a b earlier xs → Tries b c (taken_after xs earlier) x → looks_of c.checker ≤ looks_of a.checker + most_looks_behind (xs ++ x ∷ []) earlier
+tried_looks a b c earlier xs x p t = looks_more (looks_of a.checker) (looks_of b.checker) (looks_of c.checker) _ _ _ p.looks t.looks (looks_one xs x earlier)
+
+pub passed_none : (a : Turn) (earlier : List Step) → has_failed a.checker ≡ false → Stands a.checker earlier → Passed a a earlier []
+passed_none a earlier h s = record { text = []; passes = passes_none a.source; spelt = refl; unended = tt; goes_on = (s, h); looks = omega arith }
+
+pub passed_one : (a b c : Turn) (earlier xs : List Step) (x : Step) → Passed a b earlier xs → Tries b c (taken_after xs earlier) x → (x ≢ End) → GoesOn c.checker (x ∷ taken_after xs earlier) → Passed a c earlier (xs ++ x ∷ [])
+passed_one a b c earlier xs x p t n g = record {
+  text = p.text ++ t.text;
+  passes = passes_more a.source b.source c.source p.text t.text p.passes t.passes;
+  spelt = items_one SpellsStep xs x p.text t.text p.spelt t.spelt;
+  unended = all_one (λ step. step ≢ End) xs x p.unended n;
+  goes_on = subst (GoesOn c.checker) (sym (taken_one xs x earlier)) g;
+  looks = tried_looks a b c earlier xs x p t;
+}
+
+-- the loop ends: a step takes a byte at least
+less_left : (m a b ls lt lx lf : ℕ) → lf + 4096 * a ≤ 4096 * b → ls + lf ≡ lx + lt → 0 < lx → b ≤ m → 4096 * (m - b) + lt < 4096 * (m - a) + ls
+less_left m a b ls lt lx lf h e k n = omega arith
+
+flowed : (ws fs xs vs : List ℕ) → ws ++ fs ≡ xs ++ vs → length ws + length fs ≡ length xs + length vs
+flowed ws fs xs vs e = sym (length-append ws fs) ∙ ap length e ∙ length-append xs vs
+
+some_byte : (step : Step) (text : List ℕ) → SpellsStep step text → 0 < length text
+some_byte step text h = let e : length text ≡ length h.0 + 1 = ap length h.1 ∙ more (tag_of step) h.0 in omega arith
+  where
+    more : (b : ℕ) (bs : List ℕ) → length (b ∷ bs) ≡ length bs + 1
+    more b bs = omega arith
+
+pub step_takes : (s t : Source) (step : Step) (text : List ℕ) → Passes s t text → SpellsStep step text → t.reads ≤ most_reads → bytes_left t < bytes_left s
+step_takes s t step text p h k = less_left most_reads s.reads t.reads (length s.waiting) (length t.waiting) (length text) (length p.fresh) p.room (flowed s.waiting p.fresh text t.waiting p.flows) (some_byte step text h) k
+
+pub none_read : (s : Source) → s ≡ unread s.reader → s.reads ≤ most_reads
+none_read s e = let z : s.reads ≡ 0 = ap (λ (t : Source). t.reads) e in small s.reads most_reads z
+  where
+    small : (n m : ℕ) → n ≡ 0 → n ≤ m
+    small n m e = omega arith
+
+pub ended : (b : Bool) (x : Step) → b ≡ true → MatchBool b (x ≡ End) (x ≢ End) → x ≡ End
+ended true x e h = h
+ended false x e h = absurd (let g : ◌≡◌ {A = Bool} true false = sym e in cc)
+
+pub not_ended : (b : Bool) (x : Step) → b ≡ false → MatchBool b (x ≡ End) (x ≢ End) → x ≢ End
+not_ended false x e h = h
+not_ended true x e h = absurd (let g : ◌≡◌ {A = Bool} true false = e in cc)
+
+-- WHAT WAS READ, AS A READER SEES IT
+
+told_front : (a b : Option (List ℕ)) (ws text : List ℕ) → Consumes (prepend_known [] a) (prepend_known ws b) text → Consumes a b (text ++ ws)
+told_front None b ws text h = tt
+told_front (Some x) None ws text h = absurd h
+told_front (Some x) (Some y) ws text h = h ∙ sym (append_assoc text ws y)
+
+few_of : (n rc tc tr m : ℕ) (rg tg fresh : List ℕ) → n ≤ 1 → tc + 0 ≡ rc + tr → tr ≤ 0 + length fresh + n → tg ≡ rg ++ fresh → tc + length rg ≤ rc + length tg + 1
+few_of n rc tc tr m rg tg fresh h e k g = let l : length tg ≡ length rg + length fresh = ap length g ∙ length-append rg fresh in omega arith
+
+few_calls : (rc tc tr m : ℕ) → tc + 0 ≡ rc + tr → tr ≤ m → tc ≤ rc + m
+few_calls rc tc tr m e h = omega arith
+
+gave_steps : (n : ℕ) (r : Reader) (t : Source) (steps : List Step) (text more : List ℕ) → n ≤ 1 → t.reads ≤ most_reads → PassesBut n (unread r) t (text ++ more) → SpellsSteps steps text → GaveSteps r t.reader steps (more ++ t.waiting)
+gave_steps n r t steps text more h b p spelt =
+    let fresh : p.fresh ≡ text ++ (more ++ t.waiting) = p.flows ∙ append_assoc text more t.waiting in
+    record {
+      text = text;
+      spelt = spelt;
+      front = record {
+        gave = p.gave ∙ ap (λ (z : List ℕ). r.given ++ z) fresh;
+        told = subst (Consumes r.to_come t.reader.to_come) (append_assoc text more t.waiting) (told_front r.to_come t.reader.to_come t.waiting (text ++ more) p.bytes);
+        loans = p.loans;
+      };
+      few = few_of n r.calls t.reader.calls t.reads 0 r.given t.reader.given p.fresh h p.calls p.few p.gave;
+      reads = few_calls r.calls t.reader.calls t.reads most_reads p.calls b;
+    }
+
+faulted_steps : (r : Reader) (t : Source) (steps : List Step) (text more : List ℕ) → t.reads ≤ most_reads → Faults (unread r) t (text ++ more) → SpellsSteps steps text → GaveSteps r t.reader steps more
+faulted_steps r t steps text more b p spelt = record {
+  text = text;
+  spelt = spelt;
+  front = record {
+    gave = p.gave ∙ ap (λ (z : List ℕ). r.given ++ z) p.flows;
+    told = subst (Consumes r.to_come t.reader.to_come) (append-nil (text ++ more)) (told_front r.to_come t.reader.to_come [] (text ++ more) (subst (λ (z : List ℕ). Consumes (prepend_known [] r.to_come) (prepend_known z t.reader.to_come) (text ++ more)) p.none p.bytes));
+    loans = p.loans;
+  };
+  few = few_of 1 r.calls t.reader.calls t.reads 0 r.given t.reader.given p.fresh (omega arith) p.calls p.few p.gave;
+  reads = few_calls r.calls t.reader.calls t.reads most_reads p.calls b;
+}
+
+read_out : (rc tc tr m : ℕ) → tc + 0 ≡ rc + tr → m ≤ tr → tr ≤ m → tc ≡ rc + m
+read_out rc tc tr m e h k = omega arith
+
+read_fails : (r : Reader) (t : Source) (text : List ℕ) → t.reads ≤ most_reads → Faults (unread r) t text → ReadFails r t.reader
+read_fails r t text b p = (
+  elim p.cause [ inl h ↦ inl (h.0, h.1) | inr h ↦ inr (h.0, read_out r.calls t.reader.calls t.reads most_reads p.calls h.1 b) ],
+  few_of 1 r.calls t.reader.calls t.reads 0 r.given t.reader.given p.fresh (omega arith) p.calls p.few p.gave,
+)
+
+from_start : (P : Source → Type 0) (s : Source) → s ≡ unread s.reader → P s → P (unread s.reader)
+from_start P s e h = subst P e h
+
+-- steps that were taken, and then the last one, behind which bytes may wait
+went_tried : (a b c : Turn) (earlier xs : List Step) (x : Step) → a.source ≡ unread a.source.reader → has_failed a.checker ≡ false → c.source.reads ≤ most_reads
+    → Passed a b earlier xs → Tries b c (taken_after xs earlier) x → Went a.checker c.checker a.source.reader c.source.reader earlier xs (x ∷ []) ([] ++ c.source.waiting)
+went_tried a b c earlier xs x e h k p t =
+    let both : Passes a.source c.source (p.text ++ t.text) = passes_more a.source b.source c.source p.text t.text p.passes t.passes in
+    record {
+      well = h;
+      steps = gave_steps 0 a.source.reader c.source (xs ++ x ∷ []) (p.text ++ t.text) [] (omega arith) k
+          (subst (PassesBut 0 (unread a.source.reader) c.source) (sym (append-nil (p.text ++ t.text))) (from_start (λ s. Passes s c.source (p.text ++ t.text)) a.source e both))
+          (items_one SpellsStep xs x p.text t.text p.spelt t.spelt);
+      unended = p.unended;
+      looks = tried_looks a b c earlier xs x p t;
+    }
+
+looks_still : (a b c m n : ℕ) → b ≤ a + m → c ≡ b → n ≡ m → c ≤ a + n
+looks_still a b c m n h e f = omega arith
+
+none_behind : (xs earlier : List Step) → most_looks_behind (xs ++ []) earlier ≡ most_looks_behind xs earlier
+none_behind xs earlier = ap (λ (z : List Step). most_looks_behind z earlier) (append-nil xs)
+
+-- and then bytes of which no step was read
+went_waiting : (n : ℕ) (a b c : Turn) (earlier xs : List Step) (more : List ℕ) → n ≤ 1 → a.source ≡ unread a.source.reader → has_failed a.checker ≡ false → c.source.reads ≤ most_reads
+    → looks_of c.checker ≡ looks_of b.checker → Passed a b earlier xs → PassesBut n b.source c.source more → Went a.checker c.checker a.source.reader c.source.reader earlier xs [] (more ++ c.source.waiting)
+went_waiting n a b c earlier xs more m e h k l p w = record {
+  well = h;
+  steps = gave_steps n a.source.reader c.source (xs ++ []) p.text more m k
+      (from_start (λ s. PassesBut n s c.source (p.text ++ more)) a.source e (passes_more a.source b.source c.source p.text more p.passes w))
+      (subst (λ (z : List Step). SpellsSteps z p.text) (sym (append-nil xs)) p.spelt);
+  unended = p.unended;
+  looks = looks_still (looks_of a.checker) (looks_of b.checker) (looks_of c.checker) _ _ p.looks l (none_behind xs earlier);
+}
+
+went_faulted : (a b c : Turn) (earlier xs : List Step) (more : List ℕ) → a.source ≡ unread a.source.reader → has_failed a.checker ≡ false → c.source.reads ≤ most_reads
+    → looks_of c.checker ≡ looks_of b.checker → Passed a b earlier xs → Faults b.source c.source more → Went a.checker c.checker a.source.reader c.source.reader earlier xs [] more
+went_faulted a b c earlier xs more e h k l p w = record {
+  well = h;
+  steps = faulted_steps a.source.reader c.source (xs ++ []) p.text more k
+      (from_start (λ s. Faults s c.source (p.text ++ more)) a.source e (faults_later a.source b.source c.source p.text more p.passes w))
+      (subst (λ (z : List Step). SpellsSteps z p.text) (sym (append-nil xs)) p.spelt);
+  unended = p.unended;
+  looks = looks_still (looks_of a.checker) (looks_of b.checker) (looks_of c.checker) _ _ p.looks l (none_behind xs earlier);
+}
+
+-- no read failed
+kept_by : (n : ℕ) (a b c : Turn) (earlier xs : List Step) (more : List ℕ) → Passed a b earlier xs → PassesBut n b.source c.source more → c.source.reader.failures ≡ a.source.reader.failures
+kept_by n a b c earlier xs more p w = w.failures ∙ p.passes.failures
+
+live_still : (more waiting : List ℕ) → waiting ≡ [] → Live SpellsStep more → Live SpellsStep (more ++ waiting)
+live_still more waiting e h = subst (Live SpellsStep) (sym (ap (λ (z : List ℕ). more ++ z) e ∙ append-nil more)) h
+
+none_waits : (known : Option (List ℕ)) (ws : List ℕ) → ws ≡ [] → IsAtEnd (prepend_known ws known) → IsAtEnd known
+none_waits None ws e h = tt
+none_waits (Some xs) ws e h = sym (ap (λ (z : List ℕ). z ++ xs) e) ∙ h
+
+-- an error behind steps that were taken
+pub stops : (a b c : Turn) (e : CheckerError) (earlier xs : List Step) → a.source ≡ unread a.source.reader → has_failed a.checker ≡ false → c.source.reads ≤ most_reads
+    → Passed a b earlier xs → StepsOn (Err e) b c (taken_after xs earlier) → AnswersProof (Err e) a.checker c.checker a.source.reader c.source.reader earlier
+stops a b c errors.CheckFailed earlier xs e h k p s =
+    (xs, s.0, [] ++ c.source.waiting, went_tried a b c earlier xs s.0 e h k p s.1, kept_by 0 a b c earlier xs _ p s.1.passes, s.2, s.3)
+stops a b c errors.CounterEnd earlier xs e h k p s =
+    (xs, s.0, [] ++ c.source.waiting, went_tried a b c earlier xs s.0 e h k p s.1, kept_by 0 a b c earlier xs _ p s.1.passes, inl (s.2, s.3))
+stops a b c errors.OutOfMemory earlier xs e h k p s =
+    elim s.0 [
+      | inl w ↦ (xs, (w.tag ∷ w.more) ++ c.source.waiting, inl (went_waiting 0 a b c earlier xs (w.tag ∷ w.more) (omega arith) e h k w.looks p w.passes), kept_by 0 a b c earlier xs _ p w.passes, s.1)
+      | inr t ↦ (xs, [] ++ c.source.waiting, inr (t.0, went_tried a b c earlier xs t.0 e h k p t.1), kept_by 0 a b c earlier xs _ p t.1.passes, s.1)
+    ]
+stops a b c errors.ProofIncomplete earlier xs e h k p s = (
+  xs,
+  s.0 ++ c.source.waiting,
+  went_waiting 1 a b c earlier xs s.0 (omega arith) e h k s.3.looks p s.1.0,
+  kept_by 1 a b c earlier xs s.0 p s.1.0,
+  over c.source s.1.1,
+  live_still s.0 c.source.waiting s.1.1.waiting s.2,
+  s.3.goes_on,
+)
+  where
+    over : (s : Source) → AllTaken s → IsOver s.reader
+    over s t = record { ends = t.ended; over = none_waits s.reader.to_come s.waiting t.waiting t.over }
+stops a b c errors.ParseError earlier xs e h k p s = (
+  xs,
+  (s.0 ++ s.1 ∷ []) ++ c.source.waiting,
+  went_waiting 0 a b c earlier xs (s.0 ++ s.1 ∷ []) (omega arith) e h k s.5.looks p s.2,
+  kept_by 0 a b c earlier xs _ p s.2,
+  record { front = s.0; byte = s.1; behind = c.source.waiting; whole = append_assoc s.0 (s.1 ∷ []) c.source.waiting; live = s.3; shut = s.4 },
+  s.5.goes_on,
+)
+stops a b c errors.IoError earlier xs e h k p s = (
+  xs,
+  s.0,
+  went_faulted a b c earlier xs s.0 e h k s.3.looks p s.1,
+  read_fails a.source.reader c.source (p.text ++ s.0) k (from_start (λ z. Faults z c.source (p.text ++ s.0)) a.source e (faults_later a.source b.source c.source p.text s.0 p.passes s.1)),
+  s.2,
+  s.3.goes_on,
+)
+stops a b c errors.HasFailed earlier xs e h k p s = absurd s
+
+looks_kept : (a b c : ℕ) → b ≤ a → c ≡ b → c ≤ a
+looks_kept a b c h e = omega arith
+
+-- the end behind steps that were taken, and what was pending is settled
+pub finishes : (a b c : Turn) (d : Checker) (r : Result (Unit {0}) CheckerError) (earlier xs : List Step) (x : Step) → a.source ≡ unread a.source.reader → has_failed a.checker ≡ false → c.source.reads ≤ most_reads
+    → Passed a b earlier xs → Tries b c (taken_after xs earlier) x → x ≡ End → Settles r c.checker d (x ∷ taken_after xs earlier) → AnswersProof r a.checker d a.source.reader c.source.reader earlier
+finishes a b c d (Ok u) earlier xs x e h k p t is s =
+    let w : Went a.checker c.checker a.source.reader c.source.reader earlier xs (End ∷ []) ([] ++ c.source.waiting) =
+    subst (λ (z : Step). Went a.checker c.checker a.source.reader c.source.reader earlier xs (z ∷ []) ([] ++ c.source.waiting)) is (went_tried a b c earlier xs x e h k p t) in (
+      xs,
+      [] ++ c.source.waiting,
+      record { well = w.well; steps = w.steps; unended = w.unended; looks = looks_kept _ (looks_of c.checker) (looks_of d) w.looks s.0 },
+      kept_by 0 a b c earlier xs _ p t.passes,
+      subst (λ (z : Step). GoesOn d (z ∷ taken_after xs earlier)) is s.1,
+    )
+finishes a b c d (Err g) earlier xs x e h k p t is s =
+    let w : Went a.checker c.checker a.source.reader c.source.reader earlier xs (x ∷ []) ([] ++ c.source.waiting) = went_tried a b c earlier xs x e h k p t in
+    let whole : Went a.checker d a.source.reader c.source.reader earlier xs (x ∷ []) ([] ++ c.source.waiting) =
+    record { well = w.well; steps = w.steps; unended = w.unended; looks = looks_kept _ (looks_of c.checker) (looks_of d) w.looks s.0 } in
+    subst (λ (z : CheckerError). AnswersProof (Err z) a.checker d a.source.reader c.source.reader earlier) (sym s.1) (
+      xs,
+      x,
+      [] ++ c.source.waiting,
+      whole,
+      kept_by 0 a b c earlier xs _ p t.passes,
+      inr (is, spent_at x is s.2, subst (λ (z : Step). Fails d (z ∷ taken_after xs earlier)) is s.3),
+    )
+  where
+    spent_at : (x : Step) → x ≡ End → IsSpent (ready_after (x ∷ taken_after xs earlier)) → IsSpent (ready_after (End ∷ taken_after xs earlier))
+    spent_at x is s = subst (λ (z : Step). IsSpent (ready_after (z ∷ taken_after xs earlier))) is s

@@ -1,0 +1,83 @@
+-- What contracts see of a proof that is read and checked: which steps were read, and what an answer means.
+use Rattle.std.specs.Prelude.{ℕ, ◌≡◌, ◌≢◌, ◌+◌, ◌≤◌, ◌⊎◌, false, true, List, [], ◌∷◌, ◌++◌, Result, Ok, Err}
+use Rattle.std.specs.List.{AllByRecursion}
+use Rattle.sat_base.specs.device.Device.{Reader, GaveFront, FewReads, IsOver, ReadFails, most_reads}
+use Rattle.sat_base.specs.steps.Formats.{Live, Spoilt}
+use Rattle.sat_base.specs.steps.Steps.{Step, End}
+use Rattle.sat_base.specs.steps.StepText.{SpellsStep, SpellsSteps}
+use Rattle.sat_checker.specs.Spent.{IsSpent}
+use Rattle.sat_checker.specs.Accepts.{Accepts, stored_after, ready_after}
+use Rattle.sat_checker.specs.Looks.{most_looks}
+use Rattle.sat_checker.specs.CheckerView.{has_failed, looks_of, Stands, Fails}
+use Rattle.sat_checker.specs.inner.StateView.{SpentBy}
+use Rattle.sat_checker.specs.declared.checker.Checker.{Checker}
+use Rattle.sat_checker.specs.declared.error.CheckerError.{CheckerError}
+use Rattle.sat_checker.specs.declared.error.CheckerError.TheVariants as errors
+
+-- steps in the order in which they were taken, behind earlier ones, the newest first
+abbrev pub taken_after : List Step → List Step → List Step
+taken_after [] earlier = earlier
+taken_after (step ∷ steps) earlier = taken_after steps (step ∷ earlier)
+
+-- the looks that they take at most
+abbrev pub most_looks_behind : List Step → List Step → ℕ
+most_looks_behind [] earlier = 0
+most_looks_behind (step ∷ steps) earlier = most_looks (ready_after earlier) step + most_looks_behind steps (step ∷ earlier)
+
+-- Between two moments a reader gave the text of these steps, and behind it these bytes. Few reads were made for it.
+pub record GaveSteps (old new : Reader) (steps : List Step) (rest : List ℕ) : Type 0 where
+  pub text : List ℕ
+  pub spelt : SpellsSteps steps text
+  pub front : GaveFront old new (text ++ rest)
+  pub few : FewReads old new
+  pub reads : new.calls ≤ old.calls + most_reads
+
+-- A proof was read so far: steps that were accepted, none of them an end, then the last step read or none, and bytes behind them.
+pub record Went (old new : Checker) (from to : Reader) (earlier passed last : List Step) (rest : List ℕ) : Type 0 where
+  pub well : has_failed old ≡ false
+  pub steps : GaveSteps from to (passed ++ last) rest
+  pub unended : AllByRecursion (λ step. step ≢ End) passed
+  pub looks : looks_of new ≤ looks_of old + most_looks_behind (passed ++ last) earlier
+
+-- no read failed
+abbrev pub NoneFailed : Reader → Reader → Type 0
+NoneFailed from to = to.failures ≡ from.failures
+
+-- these steps stand, and it goes on
+abbrev pub GoesOn : Checker → List Step → Type 0
+GoesOn new steps = Stands new steps × (has_failed new ≡ false)
+
+-- What an answer to a proof means, where these steps were accepted before. `Ok` comes exactly where what was read are accepted steps up to the first end, of which nothing behind is looked at.
+abbrev pub AnswersProof : Result Unit CheckerError → Checker → Checker → Reader → Reader → List Step → Type 0
+AnswersProof (Ok x) old new from to earlier =
+    (passed : List Step) × (rest : List ℕ) × Went old new from to earlier passed (End ∷ []) rest × NoneFailed from to × GoesOn new (End ∷ taken_after passed earlier)
+-- the last step read is refused
+AnswersProof (Err errors.CheckFailed) old new from to earlier =
+    (passed : List Step) × (step : Step) × (rest : List ℕ) × Went old new from to earlier passed (step ∷ []) rest × NoneFailed from to
+    × (Accepts (ready_after (taken_after passed earlier)) step → ⊥) × Fails new (taken_after passed earlier)
+-- the text is over before an end, between steps or within one
+AnswersProof (Err errors.ProofIncomplete) old new from to earlier =
+    (passed : List Step) × (rest : List ℕ) × Went old new from to earlier passed [] rest × NoneFailed from to
+    × IsOver to × Live SpellsStep rest × GoesOn new (taken_after passed earlier)
+-- no step can follow a byte
+AnswersProof (Err errors.ParseError) old new from to earlier =
+    (passed : List Step) × (rest : List ℕ) × Went old new from to earlier passed [] rest × NoneFailed from to
+    × Spoilt SpellsStep rest × GoesOn new (taken_after passed earlier)
+-- exactly one read failed, the last, or so many were made and none did
+AnswersProof (Err errors.IoError) old new from to earlier =
+    (passed : List Step) × (rest : List ℕ) × Went old new from to earlier passed [] rest × ReadFails from to
+    × Live SpellsStep rest × GoesOn new (taken_after passed earlier)
+-- as a step is read or checked
+AnswersProof (Err errors.OutOfMemory) old new from to earlier =
+    (passed : List Step) × (rest : List ℕ)
+    × (Went old new from to earlier passed [] rest ⊎ ((step : Step) × Went old new from to earlier passed (step ∷ []) rest))
+    × NoneFailed from to × Fails new (taken_after passed earlier)
+-- the last id or count was given before, or the empty clause of a unit conflict that is pending at the end has no id
+AnswersProof (Err errors.CounterEnd) old new from to earlier =
+    (passed : List Step) × (step : Step) × (rest : List ℕ) × Went old new from to earlier passed (step ∷ []) rest × NoneFailed from to
+    × ((SpentBy step (stored_after (taken_after passed earlier)) × Fails new (taken_after passed earlier))
+    ⊎ ((step ≡ End) × IsSpent (ready_after (End ∷ taken_after passed earlier)) × Fails new (End ∷ taken_after passed earlier)))
+AnswersProof (Err errors.HasFailed) old new from to earlier = (has_failed old ≡ true) × (to ≡ from) × (new ≡ old)
+
+abbrev pub ChecksProof : Result Unit CheckerError → Checker → Checker → Reader → Reader → Type 0
+ChecksProof result old new from to = (steps : List Step) → Stands old steps → AnswersProof result old new from to steps
