@@ -10,6 +10,7 @@ pub mod inner
 pub mod HasherView
 pub mod CheckerView
 pub mod ProofView
+pub mod ClausesView
 pub mod Laws
 pub mod Rows
 pub mod announcements

@@ -60,11 +60,11 @@ all_one : {A : Type 0} (P : A → Type 0) (xs : List A) (x : A) → AllByRecursi
 all_one P [] x h k = (k, tt)
 all_one P (y ∷ ys) x h k = (h.0, all_one P ys x h.1 k)
 
-taken_one : (xs : List Step) (x : Step) (earlier : List Step) → taken_after (xs ++ x ∷ []) earlier ≡ x ∷ taken_after xs earlier
+pub taken_one : (xs : List Step) (x : Step) (earlier : List Step) → taken_after (xs ++ x ∷ []) earlier ≡ x ∷ taken_after xs earlier
 taken_one [] x earlier = refl
 taken_one (y ∷ ys) x earlier = taken_one ys x (y ∷ earlier)
 
-looks_one : (xs : List Step) (x : Step) (earlier : List Step) → most_looks_behind (xs ++ x ∷ []) earlier ≡ most_looks_behind xs earlier + most_looks (ready_after (taken_after xs earlier)) x
+pub looks_one : (xs : List Step) (x : Step) (earlier : List Step) → most_looks_behind (xs ++ x ∷ []) earlier ≡ most_looks_behind xs earlier + most_looks (ready_after (taken_after xs earlier)) x
 looks_one [] x earlier = added (most_looks (ready_after earlier) x)
   where
     added : (n : ℕ) → n + 0 ≡ 0 + n
@@ -74,7 +74,7 @@ looks_one (y ∷ ys) x earlier = apart (most_looks (ready_after earlier) y) (mos
     apart : (a b c d : ℕ) → b ≡ c + d → a + b ≡ a + c + d
     apart a b c d e = omega arith
 
-looks_more : (a b c m n k : ℕ) → b ≤ a + m → c ≤ b + n → k ≡ m + n → c ≤ a + k
+pub looks_more : (a b c m n k : ℕ) → b ≤ a + m → c ≤ b + n → k ≡ m + n → c ≤ a + k
 looks_more a b c m n k h l e = omega arith
 
 tried_looks : (a b c : Turn) (earlier xs : List Step) (x : Step) → Passed a b earlier xs → Tries b c (taken_after xs earlier) x → looks_of c.checker ≤ looks_of a.checker + most_looks_behind (xs ++ x ∷ []) earlier

@@ -1,0 +1,79 @@
+-- Clauses that are added one after another.
+use Rattle.std.proofs.Common.{ℕ, ◌+◌, ◌≤◌, ◌≡◌, Bool, true, false, List, [], ◌∷◌, ◌++◌, append_assoc, Ok, Err, refl, sym, ap, subst, ◌∙◌, arith}
+use Rattle.std.proofs.lemmas.List.{append-nil}
+use Rattle.sat_base.specs.steps.Steps.{Step, AddClause}
+use Rattle.sat_checker.specs.Accepts.{ready_after}
+use Rattle.sat_checker.specs.Looks.{most_looks}
+use Rattle.sat_checker.specs.CheckerView.{has_failed, looks_of, Stands, AnswersClause, LooksAtMost}
+use Rattle.sat_checker.specs.ProofView.{taken_after, most_looks_behind, GoesOn}
+use Rattle.sat_checker.specs.ClausesView.{additions, Adds, behind, AnswersClauses}
+use Rattle.sat_checker.specs.declared.checker.Checker.{Checker}
+use Rattle.sat_checker.specs.declared.error.CheckerError.{CheckerError}
+use Rattle.sat_checker.specs.declared.error.CheckerError.TheVariants as errors
+use Rattle.sat_checker.proofs.lemmas.checker.Proofs.{taken_one, looks_one, looks_more}
+
+-- these clauses were added, and those are left
+pub record Added (old new : Checker) (clauses rest : List (List ℕ)) (earlier : List Step) : Type 0 where
+  pub added : List (List ℕ)
+  pub split : clauses ≡ added ++ rest
+  pub goes_on : GoesOn new (behind added earlier)
+  pub looks : looks_of new ≤ looks_of old + most_looks_behind (additions added) earlier
+
+additions_one : (cs : List (List ℕ)) (c : List ℕ) → additions (cs ++ c ∷ []) ≡ additions cs ++ AddClause c ∷ []
+additions_one [] c = refl
+additions_one (d ∷ ds) c = ap (λ (z : List Step). AddClause d ∷ z) (additions_one ds c)
+
+behind_one : (cs : List (List ℕ)) (c : List ℕ) (earlier : List Step) → behind (cs ++ c ∷ []) earlier ≡ AddClause c ∷ behind cs earlier
+behind_one cs c earlier = ap (λ (z : List Step). taken_after z earlier) (additions_one cs c) ∙ taken_one (additions cs) (AddClause c) earlier
+
+cost_one : (cs : List (List ℕ)) (c : List ℕ) (earlier : List Step) → most_looks_behind (additions (cs ++ c ∷ [])) earlier ≡ most_looks_behind (additions cs) earlier + most_looks (ready_after (behind cs earlier)) (AddClause c)
+cost_one cs c earlier = ap (λ (z : List Step). most_looks_behind z earlier) (additions_one cs c) ∙ looks_one (additions cs) (AddClause c) earlier
+
+none_more : (n : ℕ) → n ≤ n + 0
+none_more n = omega arith
+
+pub added_none : (c : Checker) (clauses rest : List (List ℕ)) (earlier : List Step) → clauses ≡ rest → has_failed c ≡ false → Stands c earlier → Added c c clauses rest earlier
+added_none c clauses rest earlier e h s = record { added = []; split = e; goes_on = (s, h); looks = none_more (looks_of c) }
+
+tried_cost : (a b d : Checker) (clauses rest : List (List ℕ)) (c : List ℕ) (earlier : List Step) → (p : Added a b clauses rest earlier) → LooksAtMost b (AddClause c) d
+    → looks_of d ≤ looks_of a + most_looks_behind (additions (p.added ++ c ∷ [])) earlier
+tried_cost a b d clauses rest c earlier p l = looks_more (looks_of a) (looks_of b) (looks_of d) _ _ _ p.looks (l (behind p.added earlier) p.goes_on.0) (cost_one p.added c earlier)
+
+split_one : (clauses added rest more : List (List ℕ)) (c : List ℕ) → clauses ≡ added ++ rest → rest ≡ c ∷ more → clauses ≡ (added ++ c ∷ []) ++ more
+split_one clauses added rest more c e f = e ∙ ap (λ (z : List (List ℕ)). added ++ z) f ∙ sym (append_assoc added (c ∷ []) more)
+
+pub added_one : (a b d : Checker) (clauses rest more : List (List ℕ)) (c : List ℕ) (earlier : List Step) → rest ≡ c ∷ more → (p : Added a b clauses rest earlier) → LooksAtMost b (AddClause c) d
+    → AnswersClause (Ok tt) b c d (behind p.added earlier) → Added a d clauses more earlier
+added_one a b d clauses rest more c earlier e p l k = record {
+  added = p.added ++ c ∷ [];
+  split = split_one clauses p.added rest more c p.split e;
+  goes_on = subst (GoesOn d) (sym (behind_one p.added c earlier)) (k.1.stands, k.1.goes_on);
+  looks = tried_cost a b d clauses rest c earlier p l;
+}
+
+adds_tried : (a b d : Checker) (clauses rest more : List (List ℕ)) (c : List ℕ) (earlier : List Step) → has_failed a ≡ false → rest ≡ c ∷ more → (p : Added a b clauses rest earlier) → LooksAtMost b (AddClause c) d
+    → Adds a d clauses p.added (c ∷ []) earlier
+adds_tried a b d clauses rest more c earlier h e p l = record { well = h; left = more; split = split_one clauses p.added rest more c p.split e; looks = tried_cost a b d clauses rest c earlier p l }
+
+pub added_stops : (a b d : Checker) (g : CheckerError) (clauses rest more : List (List ℕ)) (c : List ℕ) (earlier : List Step) → has_failed a ≡ false → rest ≡ c ∷ more → (p : Added a b clauses rest earlier) → LooksAtMost b (AddClause c) d
+    → AnswersClause (Err g) b c d (behind p.added earlier) → AnswersClauses (Err g) a d clauses earlier
+added_stops a b d errors.CheckFailed clauses rest more c earlier h e p l k = (p.added, c, adds_tried a b d clauses rest more c earlier h e p l, k.1, (k.2, k.3))
+added_stops a b d errors.CounterEnd clauses rest more c earlier h e p l k = (p.added, c, adds_tried a b d clauses rest more c earlier h e p l, k.1, k.2)
+added_stops a b d errors.OutOfMemory clauses rest more c earlier h e p l k = (p.added, c, adds_tried a b d clauses rest more c earlier h e p l, k.1)
+added_stops a b d errors.HasFailed clauses rest more c earlier h e p l k = absurd (let g : ◌≡◌ {A = Bool} true false = sym k.0 ∙ p.goes_on.1 in cc)
+added_stops a b d errors.ProofIncomplete clauses rest more c earlier h e p l k = absurd k
+added_stops a b d errors.IoError clauses rest more c earlier h e p l k = absurd k
+added_stops a b d errors.ParseError clauses rest more c earlier h e p l k = absurd k
+
+pub added_all : (a b : Checker) (clauses rest : List (List ℕ)) (earlier : List Step) → has_failed a ≡ false → rest ≡ [] → Added a b clauses rest earlier → AnswersClauses (Ok tt) a b clauses earlier
+added_all a b clauses rest earlier h e p =
+    let all : clauses ≡ p.added = p.split ∙ ap (λ (z : List (List ℕ)). p.added ++ z) e ∙ append-nil p.added in
+    let cost : additions p.added ≡ additions (clauses ++ []) = ap additions (sym all ∙ sym (append-nil clauses)) in (
+      record {
+        well = h;
+        left = [];
+        split = sym (append-nil clauses) ∙ sym (append-nil (clauses ++ []));
+        looks = subst (λ (z : List Step). looks_of b ≤ looks_of a + most_looks_behind z earlier) cost p.looks;
+      },
+      subst (λ (z : List (List ℕ)). GoesOn b (behind z earlier)) (sym all) p.goes_on,
+    )
