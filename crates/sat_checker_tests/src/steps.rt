@@ -6,8 +6,8 @@ use std::alloc::Global;
 use std::test::Fail;
 
 /// Feeds a checker the steps of a text, up to the first that is refused. Gives that one's error, or None.
-fn fed<R: CountedRead>(
-    checker: &mut Checker,
+fn fed<C: SelfChecker, R: CountedRead>(
+    checker: &mut C,
     steps: &mut StepReader<'_, R>,
 ) -> Option<CheckerError> {
     for _ in 0..100 {
@@ -31,7 +31,7 @@ fn read_by<R: CountedRead>(
 }
 
 /// What a checker answers to a text: the first error, and whether unsat is recorded and it has ended.
-type Answer = (Option<CheckerError>, bool, bool);
+pub(crate) type Answer = (Option<CheckerError>, bool, bool);
 
 fn answered(alloc: Global, text: &[u8]) -> Answer {
     let mut checker = Checker::new(alloc);
@@ -50,7 +50,9 @@ const REFUSED: Answer = (Some(CheckerError::CheckFailed), false, false);
 const UNSAT: Answer = (None, true, false);
 
 /// Steps in bytes, and what the checker answers.
-const ROWS: [(&[u8], Answer); 34] = [
+pub(crate) type Row = (&'static [u8], Answer);
+
+pub(crate) const ROWS: [Row; 34] = [
     (&[0x0d], ENDED),
     // a name is put again on a hidden variable: the checker alone accepts it
     (

@@ -1,0 +1,188 @@
+//! Whole proofs, and clauses that come before them.
+
+use crate::devices::by_one;
+use crate::steps::{ROWS, Row};
+use sat_base::{CnfFormula, Counted, CountedRead, ExtendFormula, Lit};
+use sat_checker::{Checker, CheckerError, Looks};
+use std::alloc::Global;
+use std::test::Fail;
+
+/// What a checker answers to a proof: the error, whether unsat is recorded, and whether it has ended.
+type Answer = (Option<CheckerError>, bool, bool);
+
+fn read_on<R: CountedRead>(checker: &mut Checker, reader: &mut R) -> Answer {
+    let error = checker.check_proof(reader).err();
+    (error, checker.unsat(), checker.ended())
+}
+
+fn whole(alloc: Global, text: &[u8]) -> Answer {
+    read_on(&mut Checker::new(alloc), &mut Counted::new(text))
+}
+
+fn in_pieces(alloc: Global, text: &[u8]) -> Answer {
+    read_on(&mut Checker::new(alloc), &mut by_one(text, 0))
+}
+
+/// What a row's text is answered by as a proof: where its steps are accepted and none is the end, it is incomplete.
+fn proof_answer(row: &Row) -> Answer {
+    let (error, unsat, ended) = row.1;
+    if error.is_none() && !ended {
+        (Some(CheckerError::ProofIncomplete), unsat, ended)
+    } else {
+        (error, unsat, ended)
+    }
+}
+
+#[test]
+fn proofs_are_answered(rt: HostRuntime) -> Result<(), Fail> {
+    for row in &ROWS {
+        assert!(rt;
+            whole(rt.alloc(), row.0) == proof_answer(row),
+            "{:?}",
+            row.0
+        );
+        assert!(rt;
+            in_pieces(rt.alloc(), row.0) == proof_answer(row),
+            "{:?}",
+            row.0
+        );
+    }
+    Ok(())
+}
+
+const INCOMPLETE: Answer = (Some(CheckerError::ProofIncomplete), false, false);
+
+const UNREAD: Answer = (Some(CheckerError::ParseError), false, false);
+
+const ENDED: Answer = (None, false, true);
+
+/// Texts that are no proofs, and what stands behind an end.
+const TEXTS: [(&[u8], Answer); 9] = [
+    (&[], INCOMPLETE),
+    (&[5, 1, 0], INCOMPLETE),
+    (&[5, 2, 0], INCOMPLETE),
+    (&[5, 1, 0, 5], INCOMPLETE),
+    (&[14], UNREAD),
+    (&[0], UNREAD),
+    (&[5, 0x82, 0, 0], UNREAD),
+    (&[13, 0], ENDED),
+    (&[5, 1, 0, 13, 5, 1, 1], ENDED),
+];
+
+#[test]
+fn texts_are_answered(rt: HostRuntime) -> Result<(), Fail> {
+    for (text, answer) in &TEXTS {
+        assert!(rt; whole(rt.alloc(), *text) == *answer, "{text:?}");
+        assert!(rt; in_pieces(rt.alloc(), *text) == *answer, "{text:?}");
+    }
+    Ok(())
+}
+
+/// A name is put again on a hidden variable, and unsat is recorded.
+const NAMED_AGAIN: &[u8] = &[
+    0x02, 0x00, 0x01, 0x05, 0x01, 0x00, 0x02, 0x00, 0x00, 0x04, 0x00, 0x01, 0x02, 0x00, 0x01, 0x05,
+    0x01, 0x01, 0x0d,
+];
+
+/// Whether a read that fails is answered, and the checker goes on then.
+fn goes_on_behind(alloc: Global, failing: u64) -> bool {
+    let mut checker = Checker::new(alloc);
+    let answer = read_on(&mut checker, &mut by_one(NAMED_AGAIN, failing));
+    let end: &[u8] = &[13];
+    answer.0 == Some(CheckerError::IoError) && checker.check_proof(&mut Counted::new(end)).is_ok()
+}
+
+#[test]
+fn failed_reads_are_answered(rt: HostRuntime) -> Result<(), Fail> {
+    for failing in 1..20 {
+        assert!(rt; goes_on_behind(rt.alloc(), failing), "{failing}");
+    }
+    assert!(rt;
+        read_on(&mut Checker::new(rt.alloc()), &mut by_one(NAMED_AGAIN, 20)) == (None, true, true)
+    );
+    Ok(())
+}
+
+/// A unit conflict whose empty clause is settled at the end, and a proof behind it.
+#[test]
+fn proofs_follow_proofs(rt: HostRuntime) -> Result<(), Fail> {
+    let mut checker = Checker::new(rt.alloc());
+    let first: &[u8] = &[5, 1, 0, 5, 1, 1, 13];
+    let second: &[u8] = &[5, 1, 2, 13];
+    assert!(rt; read_on(&mut checker, &mut Counted::new(first)) == (None, true, true));
+    assert!(rt; read_on(&mut checker, &mut Counted::new(second)) == (None, true, true));
+    Ok(())
+}
+
+/// The clauses over two variables, with each pair of signs.
+fn add_pairs(formula: &mut CnfFormula) -> bool {
+    let mut added = true;
+    for pair in [[0, 2], [0, 3], [1, 2], [1, 3]] {
+        let clause = [Lit::from_code(pair[0]), Lit::from_code(pair[1])];
+        added = added && formula.add_clause(&clause).is_ok();
+    }
+    added
+}
+
+fn add_all(alloc: Global, checker: &mut Checker) -> Option<CheckerError> {
+    let mut formula = CnfFormula::new(alloc);
+    if !add_pairs(&mut formula) {
+        return Some(CheckerError::OutOfMemory);
+    }
+    checker.add_formula(&formula).err()
+}
+
+fn refuted(alloc: Global, text: &[u8]) -> (Option<CheckerError>, Answer) {
+    let mut checker = Checker::new(alloc);
+    let added = add_all(alloc, &mut checker);
+    (added, read_on(&mut checker, &mut Counted::new(text)))
+}
+
+/// Proofs that the four clauses have no model, at widths 8 and 0.
+const REFUTATIONS: [&[u8]; 2] = [
+    &[
+        9, 8, 6, 0, 1, 0, 2, 0x44, 0xe6, 1, 6, 0, 0, 2, 0xe6, 1, 0x44, 13,
+    ],
+    &[9, 0, 6, 0, 1, 0, 1, 0, 6, 0, 0, 1, 0, 13],
+];
+
+#[test]
+fn formulas_are_refuted(rt: HostRuntime) -> Result<(), Fail> {
+    for text in &REFUTATIONS {
+        assert!(rt;
+            refuted(rt.alloc(), *text) == (None, (None, true, true)),
+            "{text:?}"
+        );
+    }
+    Ok(())
+}
+
+/// The same clause again, and then one that doesn't follow.
+#[test]
+fn clauses_come_twice(rt: HostRuntime) -> Result<(), Fail> {
+    let mut checker = Checker::new(rt.alloc());
+    let (first, second) = (Lit::from_code(0), Lit::from_code(2));
+    assert!(rt; checker.add_clause(&[first, second]) == Ok(()));
+    assert!(rt; checker.add_clause(&[second, first, first]) == Ok(()));
+    let third: &[u8] = &[6, 0, 1, 4, 0, 13];
+    assert!(rt;
+        read_on(&mut checker, &mut Counted::new(third)).0 == Some(CheckerError::CheckFailed)
+    );
+    assert!(rt; read_on(&mut checker, &mut Counted::new(third)).0 == Some(CheckerError::HasFailed));
+    assert!(rt; checker.add_clause(&[first]) == Err(CheckerError::HasFailed));
+    Ok(())
+}
+
+/// Looks of two checkers are one count.
+#[test]
+fn looks_add_up(rt: HostRuntime) -> Result<(), Fail> {
+    let mut checker = Checker::new(rt.alloc());
+    let added = add_all(rt.alloc(), &mut checker);
+    let answer = read_on(&mut checker, &mut Counted::new(REFUTATIONS[1]));
+    let mut looks = Looks::new();
+    looks.add(&checker);
+    looks.add(&checker);
+    assert!(rt; (added, answer.0) == (None, None));
+    assert!(rt; looks.get() == 2 * checker.looks().min(1000) && looks.get() > 0);
+    Ok(())
+}
