@@ -1,6 +1,6 @@
 -- Clauses that were copied into a new buffer, and reasons that follow their clauses.
-use Rattle.std.specs.Prelude.{ℕ, ◌≡◌, ◌≢◌, ◌<◌, ◌≤◌, ◌⊎◌, List, length, drop, take, slice_index_or as get_or}
-use Rattle.std.specs.List.{Contains}
+use Rattle.std.specs.Prelude.{ℕ, ◌≡◌, ◌≢◌, ◌+◌, ◌<◌, ◌≤◌, ◌⊎◌, List, length, drop, take, slice_index_or as get_or}
+use Rattle.std.specs.List.{Contains, sum_by}
 use Rattle.sat_base.specs.values.Literals.{variable}
 use Rattle.sat_store.specs.clause.Buffer.{Laid, header_at, lits_at}
 use Rattle.sat_parts.specs.declared.prop.graph.ImplNode.{ImplNode}
@@ -16,6 +16,10 @@ pub record Copies (words live words' refs' : List ℕ) : Type 0 where
   pub headers : (k : ℕ) → k < length live → header_at words' (get_or refs' k 0) ≡ header_at words (get_or live k 0)
   pub lits : (k : ℕ) → k < length live → lits_at words' (get_or refs' k 0) ≡ lits_at words (get_or live k 0)
 
+-- how many words these clauses take, each with its header
+abbrev pub words_of : List ℕ → List ℕ → ℕ
+words_of words refs = sum_by (λ o. length (lits_at words o) + 3) refs
+
 -- the copies of the live clauses among the first i, each not behind its own place
 pub record Copying (words refs words' refs' : List ℕ) (i : ℕ) : Type 0 where
   pub copies : Copies words (live_refs words (take i refs)) words' refs'
@@ -23,6 +27,7 @@ pub record Copying (words refs words' refs' : List ℕ) (i : ℕ) : Type 0 where
   pub rising : AreRising refs'
   pub low : (k : ℕ) → k < length refs' → get_or refs' k 0 ≤ get_or (live_refs words (take i refs)) k 0
   pub room : (p : ℕ) → Contains (drop i refs) p → length words' ≤ p
+  pub packed : length words' ≡ words_of words' refs'
 
 -- a reason once the clauses of a list are those of another
 abbrev pub FollowsClause : (live refs' : List ℕ) → Reason → Reason → Type 0
@@ -47,12 +52,13 @@ pub record AreFollowed (live refs' lits : List ℕ) (n : ℕ) (nodes nodes' : Li
   pub reasons : (i : ℕ) → i < length lits →
       FollowsFirst live refs' n (node_of nodes (variable (get_or lits i 0))).reason (node_of nodes' (variable (get_or lits i 0))).reason
 
--- a collection: the live clauses are those of the new list, in order, none of them deleted, and each reason of a literal of the
--- trail names the clause that it named
+-- a collection: the live clauses are those of the new list, in order, none of them deleted, the buffer has their words and no
+-- others, and each reason of a literal of the trail names the clause that it named
 pub record Collects (words : List ℕ) (db : Db) (nodes : List ImplNode) (lits words' : List ℕ) (db' : Db) (nodes' : List ImplNode) : Type 0 where
   pub copies : Copies words (live_refs words db.refs) words' db'.refs
   pub holds : HoldsDb words' db'
   pub live : live_refs words' db'.refs ≡ db'.refs
+  pub packed : length words' ≡ words_of words' db'.refs
   pub clean : db'.garbage ≡ 0
   pub counts : db'.counts ≡ db.counts
   pub size : length nodes' ≡ length nodes

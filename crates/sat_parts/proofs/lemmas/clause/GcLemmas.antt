@@ -2,7 +2,7 @@
 use Rattle.std.proofs.Common.{ℕ, ◌≡◌, ◌≢◌, ◌+◌, ◌-◌, ◌^◌, ◌<◌, ◌≤◌, ◌⊎◌, inl, inr, min, List, [], ◌∷◌, ◌++◌, suc, zero, length, get_or, set, take, drop, refl, sym, ap, ◌∙◌, subst, arith, length-set, get_or-set_same, get_or-set_other, length-drop, length-append, Bool, true, false, not, ◌&&◌, ◌==◌, cond}
 use Rattle.std.proofs.lemmas.Bool.{cases_eq, cases_lt, cond-true}
 use Rattle.std.proofs.lemmas.List.{get_or-drop, take_all, drop_more, length_push, get_or_append_left, get_or_push, get_or-append-add, take-append-drop, get_or_past}
-use Rattle.std.proofs.lemmas.List.Sums.{sum_by-cons, count_by-le-length, length-filter}
+use Rattle.std.proofs.lemmas.List.Sums.{sum_by-cons, sum_by_push, count_by-le-length, length-filter}
 use Rattle.std.proofs.lemmas.List.Elements.{filter-append, All-filter, All-contains_itself, All-contains}
 use Rattle.std.specs.List.{Contains, filter, sum_by, count_by}
 use Rattle.sat_base.specs.values.Literals.{variable}
@@ -14,7 +14,7 @@ use Rattle.sat_parts.specs.declared.prop.graph.Reason.{Reason}
 use Rattle.sat_parts.specs.declared.prop.graph.Reason.TheVariants.{Unit as NoCause, Binary, Long}
 use Rattle.sat_parts.specs.clause.Db.{Db, is_live, live_refs, is_live_of, garbage_of, AreRising, HoldsDb}
 use Rattle.sat_parts.specs.clause.Stored.{lit_of}
-use Rattle.sat_parts.specs.clause.Collected.{Copies, Copying, FollowsClause, FollowsFirst, AreFollowed, AreFirsts, Collects, after_collection}
+use Rattle.sat_parts.specs.clause.Collected.{Copies, Copying, words_of, FollowsClause, FollowsFirst, AreFollowed, AreFirsts, Collects, after_collection}
 use Rattle.sat_parts.specs.prop.Graphs.{node_of, with_node, new_node}
 use Rattle.sat_parts.proofs.lemmas.prop.BuildLemmas.{live_in, live_next, live_skip}
 use Rattle.sat_parts.proofs.lemmas.clause.ListLemmas.{in_head, in_tail, at_place, place_in, rising_push, rising_tail, rising_above}
@@ -46,6 +46,24 @@ rising_dropped refs i p rising lt c =
     let e : get_or refs (i + 1 + c.0) 0 ≡ p = sym (get_or-drop (i + 1) refs c.0 0) ∙ at_place (drop (i + 1) refs) p c in
     omega (arith, rising i (i + 1 + c.0) (omega arith) (omega (arith, c.1)))
 
+sums_along : (f g : ℕ → ℕ) (xs ys : List ℕ) → length ys ≡ length xs → ((k : ℕ) → k < length xs → g (get_or ys k 0) ≡ f (get_or xs k 0)) → sum_by g ys ≡ sum_by f xs
+sums_along f g [] [] n h = refl
+sums_along f g [] (y ∷ ys) n h = absurd (omega arith)
+sums_along f g (x ∷ xs) [] n h = absurd (omega arith)
+sums_along f g (x ∷ xs) (y ∷ ys) n h =
+    let a : g y ≡ f x = h 0 (omega arith) in
+    let b : sum_by g ys ≡ sum_by f xs = sums_along f g xs ys (omega arith) (λ k lt. h (suc k) (omega arith)) in
+    omega (arith, sum_by-cons g y ys, sum_by-cons f x xs)
+
+-- an addition keeps the words of the clauses before it, and its own words come to them
+packed_more : (w r w2 : List ℕ) (c : ℕ) (h : Header) (ls : List ℕ) → Laid w r → length w ≡ words_of w r → Adds w w2 c h ls → length w2 ≡ words_of w2 (r ++ c ∷ [])
+packed_more w r w2 c h ls laid packed added =
+    let kept : words_of w2 r ≡ words_of w r =
+    sums_along (λ o. length (lits_at w o) + 3) (λ o. length (lits_at w2 o) + 3) r r refl
+    (λ k lt. ap (λ (xs : List ℕ). length xs + 3) (added.others (get_or r k 0) (laid.clauses (get_or r k 0) (place_in r k lt))).lits) in
+    let own : length (lits_at w2 c) ≡ length ls = ap (λ (xs : List ℕ). length xs) added.lits_there in
+    omega (arith, sum_by_push (λ o. length (lits_at w2 o) + 3) r c, kept, own, packed, added.size)
+
 pub copying_none : (words refs : List ℕ) → Copying words refs [] [] 0
 copying_none words refs = record {
   copies = record { size = refl; headers = λ k lt. absurd (omega arith); lits = λ k lt. absurd (omega arith) };
@@ -53,6 +71,7 @@ copying_none words refs = record {
   rising = λ j k a b. absurd (omega arith);
   low = λ k lt. absurd (omega arith);
   room = λ p c. omega arith;
+  packed = refl;
 }
 
 pub copying_skip : (words refs w r : List ℕ) (i : ℕ) → Copying words refs w r i → i < length refs → is_live words (get_or refs i 0) ≡ false → Copying words refs w r (i + 1)
@@ -64,6 +83,7 @@ copying_skip words refs w r i h lt dead =
       rising = h.rising;
       low = subst (λ (xs : List ℕ). (k : ℕ) → k < length r → get_or r k 0 ≤ get_or xs k 0) e h.low;
       room = λ p c. h.room p (drop_in refs i p lt c);
+      packed = h.packed;
     }
 
 copies_more : (words live w r w2 : List ℕ) (c o : ℕ) → Copies words live w r → Laid w r → IsClause words o → Adds w w2 c (header_at words o) (lits_at words o) → Copies words (live ++ o ∷ []) w2 (r ++ c ∷ [])
@@ -111,6 +131,7 @@ copying_more words refs w r w2 i c o laid rising h lt o_is live added =
           let in_refs : Contains refs p = in_dropped refs (i + 1) p q in
           let above : o < p = omega (arith, o_is, rising_dropped refs i p rising lt q) in
           omega (arith, ends_before words refs o p laid has in_refs above, added.size);
+      packed = packed_more w r w2 c (header_at words o) (lits_at words o) h.laid h.packed added;
     }
 
 pub copying_all : (words refs w r : List ℕ) (i : ℕ) → Copying words refs w r i → i ≡ length refs → Copies words (live_refs words refs) w r × ((k : ℕ) → k < length r → get_or r k 0 ≤ get_or (live_refs words refs) k 0)
@@ -268,15 +289,6 @@ live_nth words refs i lt live =
 
 -- the list of the copies
 
-sums_along : (f g : ℕ → ℕ) (xs ys : List ℕ) → length ys ≡ length xs → ((k : ℕ) → k < length xs → g (get_or ys k 0) ≡ f (get_or xs k 0)) → sum_by g ys ≡ sum_by f xs
-sums_along f g [] [] n h = refl
-sums_along f g [] (y ∷ ys) n h = absurd (omega arith)
-sums_along f g (x ∷ xs) [] n h = absurd (omega arith)
-sums_along f g (x ∷ xs) (y ∷ ys) n h =
-    let a : g y ≡ f x = h 0 (omega arith) in
-    let b : sum_by g ys ≡ sum_by f xs = sums_along f g xs ys (omega arith) (λ k lt. h (suc k) (omega arith)) in
-    omega (arith, sum_by-cons g y ys, sum_by-cons f x xs)
-
 sum_none : (f : ℕ → ℕ) (xs : List ℕ) → ((x : ℕ) → Contains xs x → f x ≡ 0) → sum_by f xs ≡ 0
 sum_none f [] h = refl
 sum_none f (x ∷ xs) h =
@@ -346,6 +358,7 @@ collected words w r lits db i n nodes nodes' h x e firsts f all =
       copies = c;
       holds = holds_copies words w r db i h x e;
       live = filter_all (is_live w) r (copy_live_is words (live_refs words db.refs) w r c (λ p d. live_is words db.refs p d));
+      packed = x.packed;
       clean = refl;
       counts = refl;
       size = f.size;
