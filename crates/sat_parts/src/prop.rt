@@ -1,5 +1,6 @@
 //! Unit propagation, and what it works on.
-ghost use Rattle.std.specs.Prelude.{◌≡◌, IfOk};
+ghost use Rattle.std.specs.Prelude.{◌≡◌, true, IfOk, OnOk};
+ghost use Rattle.sat_parts.specs.clause.Db.{HoldsDb};
 ghost use Rattle.sat_parts.specs.prop.Ready.{state_of};
 ghost use Rattle.sat_parts.specs.prop.Asks.{AsksAll, Gives};
 
@@ -38,6 +39,8 @@ pub fn propagate(
     ensures given { IfOk result (λ r. Gives db.now.refs binary.now.implied
         clauses.old (state_of assignment.old graph.old trail.old)
         clauses.new (state_of assignment.new graph.new trail.new) watchlists.new r) }
+    ensures held { HoldsDb clauses.old db.now → OnOk result (HoldsDb clauses.new db.now) }
+    ensures enabled { OnOk result (watchlists.new.enabled ≡ true) }
     ensures last { IfOk result (λ _. assignment.new.last ≡ assignment.old.last) }
 {
     enable_watchlists(watchlists, clauses, db)?;

@@ -4,3 +4,4 @@ pub mod ListLemmas
 pub mod DbLemmas
 pub mod GcLemmas
 pub mod HeaderLemmas
+pub mod HeldLemmas

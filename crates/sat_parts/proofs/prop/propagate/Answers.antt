@@ -3,6 +3,7 @@ use Rattle.std.proofs.lemmas.Result.{IfOk-weaker}
 use Rattle.sat_parts.specs.prop.State.{current_level}
 use Rattle.sat_parts.specs.prop.Ready.{state_of}
 use Rattle.sat_parts.proofs.lemmas.prop.AsksLemmas.{ready_from, watched_now, gives_from}
+use Rattle.sat_parts.proofs.lemmas.clause.HeldLemmas.{held_reordered}
 use Rattle.sat_parts.proofs.prop.propagate.Goals as goal
 
 pub propagate_queue-requires : goal.propagate_queue-requires
@@ -18,4 +19,10 @@ returns-clause-given c =
     IfOk-weaker _ _ _
     (λ r h. gives_from c.args.db.now.refs c.args.binary.now.implied c.args.clauses.now (state_of c.args.assignment.now c.args.graph.now c.args.trail.now)
     c.propagate_queue.new.clauses (state_of c.propagate_queue.new.assignment c.propagate_queue.new.graph c.propagate_queue.new.trail) c.propagate_queue.new.watchlists r c.requires.laid h)
+    c.propagate_queue.ensures.propagated
+
+pub returns-clause-held : goal.returns-clause-held
+returns-clause-held c = λ held.
+    IfOk-weaker _ _ _
+    (λ r h. held_reordered c.args.clauses.now c.propagate_queue.new.clauses c.args.db.now held h.moves.reorders)
     c.propagate_queue.ensures.propagated
