@@ -1,15 +1,15 @@
 -- What holds on where literals become true, levels begin or levels are undone.
-use Rattle.std.specs.Prelude.{ℕ, ◌≡◌, ◌<◌, List, length}
+use Rattle.std.specs.Prelude.{ℕ, ◌≡◌, ◌<◌, ◌≤◌, List, length}
 use Rattle.std.specs.List.{Contains}
 use Rattle.sat_parts.specs.declared.prop.graph.Reason.{Reason}
 use Rattle.sat_parts.specs.declared.prop.graph.Reason.TheVariants.{Long}
 use Rattle.sat_parts.specs.clause.Db.{live_refs}
 use Rattle.sat_parts.specs.clause.Stored.{lit_of}
 use Rattle.sat_parts.specs.declared.prop.graph.ImplNode.{ImplNode}
-use Rattle.sat_parts.specs.prop.Values.{Values}
+use Rattle.sat_parts.specs.prop.Values.{Values, IsTrueLit, IsOpenLit}
 use Rattle.sat_parts.specs.prop.Trails.{Trailed}
 use Rattle.sat_parts.specs.prop.WatchLists.{Watching}
-use Rattle.sat_parts.specs.prop.State.{Agrees}
+use Rattle.sat_parts.specs.prop.State.{State, level, lit_at, IsRemoved, Agrees}
 use Rattle.sat_parts.specs.prop.Reasons.{AreInTurn}
 use Rattle.sat_parts.specs.prop.Ready.{state_of}
 use Rattle.sat_parts.specs.prop.Asks.{Asks, AsksForReason, AsksAll}
@@ -40,3 +40,21 @@ abbrev pub KeepsAskedAbove : (t t' : Trailed) → Type 0
 KeepsAskedAbove t t' =
     (a : Values) (words refs : List ℕ) (w : Watching) (implied : List (List ℕ)) (nodes : List ImplNode) → t.head ≡ length t.lits →
     AsksAll words refs w implied (state_of a nodes t) → AsksAll words refs w implied (state_of a nodes t')
+
+-- what stays where the levels above this one are undone: exactly the literals that were true at a level not above it, those of
+-- the trail at their places. The others are open
+pub record KeepsLow (top : ℕ) (s s' : State) : Type 0 where
+  pub agrees : Agrees s'
+  pub low_kept : (l : ℕ) → IsTrueLit s.values l → level s l ≤ top → IsTrueLit s'.values l
+  pub true_kept : (l : ℕ) → IsTrueLit s'.values l → IsTrueLit s.values l
+  pub kept_level : (l : ℕ) → IsTrueLit s'.values l → level s l ≤ top
+  pub opened : (l : ℕ) → IsTrueLit s.values l → top < level s l → IsOpenLit s'.values l
+  pub open_kept : (l : ℕ) → IsOpenLit s.values l → IsOpenLit s'.values l
+  pub removed_kept : (l : ℕ) → IsRemoved s l → IsRemoved s' l
+  pub shorter : length s'.trail.lits ≤ length s.trail.lits
+  pub places : (i : ℕ) → i < length s'.trail.lits → lit_at s' i ≡ lit_at s i
+  pub low_places : (i : ℕ) → i < length s.trail.lits → level s (lit_at s i) ≤ top → i < length s'.trail.lits
+
+-- the same of values and a trail, whatever nodes they agree with
+abbrev pub KeepsBelow : (top : ℕ) (a : Values) (t : Trailed) (a' : Values) (t' : Trailed) → Type 0
+KeepsBelow top a t a' t' = (nodes : List ImplNode) → Agrees (state_of a nodes t) → KeepsLow top (state_of a nodes t) (state_of a' nodes t')

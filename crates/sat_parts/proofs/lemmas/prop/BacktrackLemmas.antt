@@ -10,13 +10,14 @@ use Rattle.sat_parts.specs.declared.prop.graph.Reason.{Reason}
 use Rattle.sat_parts.specs.declared.prop.graph.Reason.TheVariants.{Unit as NoCause, Binary, Long}
 use Rattle.sat_parts.specs.clause.Db.{live_refs}
 use Rattle.sat_parts.specs.clause.Stored.{AreClauses, lit_of}
-use Rattle.sat_parts.specs.prop.Values.{Values, IsTrueLit, value_of}
+use Rattle.sat_parts.specs.prop.Values.{Values, IsTrueLit, IsOpenLit, value_of}
 use Rattle.sat_parts.specs.prop.Trails.{Trailed, IsTrail, LevelIs, cut_to}
 use Rattle.sat_parts.specs.prop.Graphs.{node_of}
 use Rattle.sat_parts.specs.prop.Undone.{lost, undone, undone_to}
 use Rattle.sat_parts.specs.prop.Binaries.{implied_by}
 use Rattle.sat_parts.specs.prop.WatchLists.{Watching}
-use Rattle.sat_parts.specs.prop.State.{State, node, level, lit_at, IsRemoved, IsBefore, HasLeft, Agrees, IsQueueCurrent, IsSatisfied}
+use Rattle.sat_parts.specs.prop.Backtracked.{KeepsLow}
+use Rattle.sat_parts.specs.prop.State.{State, node, level, lit_at, current_level, IsRemoved, IsBefore, HasLeft, Agrees, IsQueueCurrent, IsSatisfied}
 use Rattle.sat_parts.specs.prop.Reasons.{IsFalseBefore, Implies, AreInTurn}
 use Rattle.sat_parts.specs.prop.Ready.{AreWatched, AreLists}
 use Rattle.sat_parts.specs.prop.Asks.{Asks, AsksAll}
@@ -118,11 +119,11 @@ not_undone v a nodes t m k h lt kept b e =
           omega (arith, h.trail.small, h.trail.fits)
     ]
 
-kept_true : (v : ℕ) (a : Values) (nodes : List ImplNode) (t : Trailed) (m : ℕ) → Agrees (before a nodes t) → v < length t.starts → IsKept v a nodes t m →
+pub kept_true : (v : ℕ) (a : Values) (nodes : List ImplNode) (t : Trailed) (m : ℕ) → Agrees (before a nodes t) → v < length t.starts → IsKept v a nodes t m →
     IsTrueLit a.current m → IsTrueLit (after v a nodes t).values m
 kept_true v a nodes t m h lt kept holds = undone_other (drop (cut_at v t) t.lits) a (variable m) (λ k b. not_undone v a nodes t m k h lt kept b) ∙ holds
 
-true_kept : (v : ℕ) (a : Values) (nodes : List ImplNode) (t : Trailed) (m : ℕ) → Agrees (before a nodes t) → v < length t.starts →
+pub true_kept : (v : ℕ) (a : Values) (nodes : List ImplNode) (t : Trailed) (m : ℕ) → Agrees (before a nodes t) → v < length t.starts →
     IsTrueLit (after v a nodes t).values m → IsTrueLit a.current m × IsKept v a nodes t m
 true_kept v a nodes t m h lt holds =
     let s : State = before a nodes t in
@@ -152,12 +153,12 @@ before_cut v a nodes t bound m h lt le x =
     let b : x.place < cut_at v t = omega (arith, x.before) in
     record { place = x.place; before = x.before; within = omega arith; there = cut_lit v a nodes t x.place b ∙ x.there }
 
-removed_cut : (v : ℕ) (a : Values) (nodes : List ImplNode) (t : Trailed) (m : ℕ) → Agrees (before a nodes t) → v < length t.starts →
+pub removed_cut : (v : ℕ) (a : Values) (nodes : List ImplNode) (t : Trailed) (m : ℕ) → Agrees (before a nodes t) → v < length t.starts →
     IsRemoved (before a nodes t) m → IsRemoved (after v a nodes t) m
 removed_cut v a nodes t m h lt x = record { holds = kept_true v a nodes t m h lt (inr x) x.holds; depth = x.depth; bottom = x.bottom }
 
 -- the level of a literal before the cut
-cut_level : (v : ℕ) (a : Values) (nodes : List ImplNode) (t : Trailed) (i : ℕ) → Agrees (before a nodes t) → v < length t.starts → i < cut_at v t →
+pub cut_level : (v : ℕ) (a : Values) (nodes : List ImplNode) (t : Trailed) (i : ℕ) → Agrees (before a nodes t) → v < length t.starts → i < cut_at v t →
     level (before a nodes t) (lit_at (before a nodes t) i) ≤ v
 cut_level v a nodes t i h lt b =
     let s : State = before a nodes t in
@@ -168,7 +169,7 @@ cut_level v a nodes t i h lt b =
       | inr x ↦ x
     ]
 
-kept_level : (v : ℕ) (a : Values) (nodes : List ImplNode) (t : Trailed) (m : ℕ) → Agrees (before a nodes t) → v < length t.starts → IsKept v a nodes t m →
+pub kept_level : (v : ℕ) (a : Values) (nodes : List ImplNode) (t : Trailed) (m : ℕ) → Agrees (before a nodes t) → v < length t.starts → IsKept v a nodes t m →
     level (before a nodes t) m ≤ v
 kept_level v a nodes t m h lt kept = elim kept [
   | inl x ↦ subst (λ z. level (before a nodes t) z ≤ v) x.there (cut_level v a nodes t x.place h lt x.before)
@@ -176,7 +177,7 @@ kept_level v a nodes t m h lt kept = elim kept [
 ]
 
 -- a true literal of no higher level isn't undone
-low_kept : (v : ℕ) (a : Values) (nodes : List ImplNode) (t : Trailed) (m : ℕ) → Agrees (before a nodes t) → v < length t.starts → IsTrueLit a.current m →
+pub low_kept : (v : ℕ) (a : Values) (nodes : List ImplNode) (t : Trailed) (m : ℕ) → Agrees (before a nodes t) → v < length t.starts → IsTrueLit a.current m →
     level (before a nodes t) m ≤ v → IsKept v a nodes t m
 low_kept v a nodes t m h lt holds low = elim (h.known m holds) [
   | inl x ↦
@@ -234,6 +235,68 @@ agrees_after v a nodes t h lt =
             | inr r ↦ inr (removed_cut v a nodes t m h lt r)
           ];
     }
+
+-- an undone literal is open
+undone_open : (v : ℕ) (a : Values) (nodes : List ImplNode) (t : Trailed) (m : ℕ) → Agrees (before a nodes t) → v < length t.starts → IsTrueLit a.current m →
+    v < level (before a nodes t) m → IsOpenLit (after v a nodes t).values m
+undone_open v a nodes t m h lt holds high = elim (h.known m holds) [
+  | inl x ↦ elim (cases_lt x.place (cut_at v t)) [
+    | inl b ↦
+        let low : level (before a nodes t) m ≤ v = kept_level v a nodes t m h lt (inl (record { place = x.place; before = b; within = x.within; there = x.there })) in
+        absurd (omega arith)
+    | inr le ↦
+        let n : length (drop (cut_at v t) t.lits) ≡ length t.lits - cut_at v t = length-drop (cut_at v t) t.lits in
+        let q : cut_at v t + (x.place - cut_at v t) ≡ x.place = omega arith in
+        let e : get_or (drop (cut_at v t) t.lits) (x.place - cut_at v t) 0 ≡ m = undone_lit v a nodes t (x.place - cut_at v t) ∙ ap (λ i. lit_at (before a nodes t) i) q ∙ x.there in
+        subst (λ z. value_of (after v a nodes t).values (variable z) ≡ None) e
+        (undone_none (drop (cut_at v t) t.lits) a (x.place - cut_at v t) (omega (arith, x.within)))
+  ]
+  | inr x ↦ absurd (omega (arith, x.bottom))
+]
+
+-- what stays where the levels above this one are undone
+pub keeps_low : (v : ℕ) (a : Values) (nodes : List ImplNode) (t : Trailed) → Agrees (before a nodes t) → v < length t.starts → KeepsLow v (before a nodes t) (after v a nodes t)
+keeps_low v a nodes t h lt =
+    let s : State = before a nodes t in
+    let n : length (take (cut_at v t) t.lits) ≡ cut_at v t = cut_length v a nodes t h lt in
+    record {
+      agrees = agrees_after v a nodes t h lt;
+      low_kept = λ m holds low. kept_true v a nodes t m h lt (low_kept v a nodes t m h lt holds low) holds;
+      true_kept = λ m holds. (true_kept v a nodes t m h lt holds).0;
+      kept_level = λ m holds. kept_level v a nodes t m h lt (true_kept v a nodes t m h lt holds).1;
+      opened = λ m holds high. undone_open v a nodes t m h lt holds high;
+      open_kept = λ m none. none_stays (drop (cut_at v t) t.lits) a (variable m) none;
+      removed_kept = λ m x. removed_cut v a nodes t m h lt x;
+      shorter = omega (arith, cut_within v a nodes t h lt);
+      places = λ i b. cut_lit v a nodes t i (omega arith);
+      low_places = λ i b low.
+          let l : LevelIs t.starts i (level s (lit_at s i)) = h.levels i b in
+          omega (arith, l.not_begun v low lt);
+    }
+
+-- no literal is of a level above the current one
+level_within : (s : State) (m : ℕ) → Agrees s → IsTrueLit s.values m → level s m ≤ current_level s
+level_within s m h holds = elim (h.known m holds) [
+  | inl x ↦
+      let l : LevelIs s.trail.starts x.place (level s (lit_at s x.place)) = h.levels x.place x.within in
+      subst (λ z. level s z ≤ current_level s) x.there l.within
+  | inr x ↦ omega (arith, x.bottom)
+]
+
+-- where no level is above this one, all stays
+pub keeps_all : (v : ℕ) (s : State) → Agrees s → current_level s ≤ v → KeepsLow v s s
+keeps_all v s h le = record {
+  agrees = h;
+  low_kept = λ m holds low. holds;
+  true_kept = λ m holds. holds;
+  kept_level = λ m holds. omega (arith, level_within s m h holds);
+  opened = λ m holds high. absurd (omega (arith, level_within s m h holds));
+  open_kept = λ m none. none;
+  removed_kept = λ m x. x;
+  shorter = omega arith;
+  places = λ i b. refl;
+  low_places = λ i b low. b;
+}
 
 -- all that was undone was in the queue or behind its head
 head_behind : (v : ℕ) (a : Values) (nodes : List ImplNode) (t : Trailed) → Agrees (before a nodes t) → IsQueueCurrent (before a nodes t) → v < length t.starts → cut_at v t ≤ t.head
