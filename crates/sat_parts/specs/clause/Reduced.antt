@@ -1,5 +1,5 @@
 -- What reductions make of the header of a clause.
-use Rattle.std.specs.Prelude.{ℕ, ◌==◌, Bool, true, false, not, ◌&&◌, if◌then◌else◌}
+use Rattle.std.specs.Prelude.{◌==◌, true, false, not, ◌&&◌, if◌then◌else◌}
 use Rattle.sat_store.specs.clause.Header.{Header, index_of}
 use Rattle.sat_store.specs.declared.clause.tier.Tier.{Tier}
 use Rattle.sat_store.specs.declared.clause.tier.Tier.TheVariants.{Local}

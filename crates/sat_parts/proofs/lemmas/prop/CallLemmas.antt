@@ -1,9 +1,9 @@
 -- For crates above: what propagation asks holds on where clauses are added, deleted or moved between tiers.
-use Rattle.std.proofs.Common.{ℕ, ◌≡◌, ◌+◌, ◌*◌, ◌<◌, ◌≤◌, ◌⊎◌, inl, inr, List, [], ◌∷◌, ◌++◌, length, get_or, refl, sym, ap, ◌∙◌, subst, arith, true, length-set}
+use Rattle.std.proofs.Common.{ℕ, ◌≡◌, ◌*◌, ◌<◌, ◌≤◌, ◌⊎◌, inl, inr, List, [], ◌∷◌, ◌++◌, length, get_or, refl, sym, ap, ◌∙◌, subst, arith, true, length-set}
 use Rattle.std.proofs.lemmas.Bool.{cases_Bool, cond-true, cond-false}
 use Rattle.std.proofs.lemmas.List.Elements.{Contains-append_left, Contains-push, Contains-push_cases}
 use Rattle.std.specs.List.{Contains}
-use Rattle.sat_base.specs.values.Literals.{negated, variable}
+use Rattle.sat_base.specs.values.Literals.{negated}
 use Rattle.sat_store.specs.clause.Buffer.{Laid, lits_at}
 use Rattle.sat_store.proofs.lemmas.clause.Laying.{laid_among}
 use Rattle.sat_parts.specs.declared.prop.graph.Reason.{Reason}
@@ -12,7 +12,7 @@ use Rattle.sat_parts.specs.clause.Orders.{AreDistinct}
 use Rattle.sat_store.specs.clause.Header.{Header}
 use Rattle.sat_parts.specs.declared.prop.watch.Watch.{Watch}
 use Rattle.sat_parts.specs.clause.Db.{Db, live_refs, AddsClause}
-use Rattle.sat_parts.specs.clause.Stored.{AreClauses, lit_of, size_of}
+use Rattle.sat_parts.specs.clause.Stored.{lit_of}
 use Rattle.sat_parts.specs.prop.WatchLists.{Watching, no_watch, watch_on, watches_of, more_at, with_watch, with_clause}
 use Rattle.sat_parts.specs.prop.State.{State, node, level, current_level, lit_at, HasLeft, IsSatisfied}
 use Rattle.sat_parts.specs.prop.Ready.{IsGood, HasWatch, AreWatched}

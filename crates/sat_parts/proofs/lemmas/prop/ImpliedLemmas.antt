@@ -1,18 +1,16 @@
 -- What is assigned follows from clauses, units and decisions.
-use Rattle.std.proofs.Common.{ℕ, ◌≡◌, ◌+◌, ◌<◌, ◌≤◌, inl, inr, suc, zero, List, length, get_or, refl, sym, ap, ◌∙◌, subst, arith, Bool, true, false, not}
-use Rattle.std.proofs.lemmas.Bool.{cases_eq, true≢false}
+use Rattle.std.proofs.Common.{ℕ, ◌≡◌, ◌<◌, inl, inr, suc, zero, List, length, get_or, refl, sym, ap, ◌∙◌, subst, arith, Bool, true}
+use Rattle.std.proofs.lemmas.Bool.{cases_eq}
 use Rattle.std.proofs.lemmas.Bool.Decides.{nat_tests}
-use Rattle.std.specs.List.{Contains}
 use Rattle.sat_base.specs.values.Clauses.{literal_true}
-use Rattle.sat_base.specs.values.Literals.{negated, variable, is_positive}
+use Rattle.sat_base.specs.values.Literals.{negated}
 use Rattle.sat_parts.specs.declared.prop.graph.Reason.{Reason}
 use Rattle.sat_parts.specs.declared.prop.graph.Reason.TheVariants.{Unit as NoCause, Binary, Long}
 use Rattle.sat_parts.specs.clause.Stored.{lit_of, size_of}
 use Rattle.sat_parts.specs.prop.Binaries.{implied_by}
-use Rattle.sat_parts.specs.prop.State.{State, node, lit_at, Agrees}
+use Rattle.sat_parts.specs.prop.State.{State, node, lit_at}
 use Rattle.sat_parts.specs.prop.Reasons.{IsFalseBefore, Implies, AreInTurn}
 use Rattle.sat_parts.specs.prop.Implied.{IsModelOf, AssignedIsImplied}
-use Rattle.sat_parts.proofs.lemmas.prop.StateLemmas.{negated_twice}
 use Rattle.sat_parts.proofs.lemmas.clause.ListLemmas.{at_place}
 
 -- a literal and its negation aren't both true

@@ -1,4 +1,4 @@
-use Rattle.std.proofs.Common.{◌≡◌, refl, ap, ◌∙◌, subst}
+use Rattle.std.proofs.Common.{refl, ap, ◌∙◌, subst}
 use Rattle.sat_store.specs.clause.Buffer.{header_at}
 use Rattle.sat_store.specs.clause.Header.{Header}
 use Rattle.sat_parts.specs.clause.Db.{PutsHeader}
