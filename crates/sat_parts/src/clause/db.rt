@@ -147,7 +147,8 @@ fn store_clause(
 }
 
 /// Adds a clause, of the tier of its header, behind all others, and watches it by its first two literals where watch lists are
-/// kept up. Its length is that of the literals, whatever the header says. An `Err` leaves everything as it was.
+/// kept up. Its length is that of the literals, whatever the header says. An `Err` leaves everything as it was: `StoreFull` where
+/// no reference names the next place, else `OutOfMemory`.
 pub fn add_clause(
     clauses: &mut ClauseAlloc,
     db: &mut ClauseDb,
@@ -163,11 +164,14 @@ pub fn add_clause(
     requires second { negated (slice_index_or lits.now 1 0) < length watchlists.old.lists }
     ensures added { IfOk result (λ cref. AddsClause clauses.old db.old clauses.new db.new cref header lits.now) }
     ensures watched { IfOk result (λ cref. watchlists.new ≡ with_clause cref (slice_index_or lits.now 0 0) (slice_index_or lits.now 1 0) watchlists.old) }
-    ensures full { result ≡ Err StoreError.StoreFull → 2 ^ 32 - 1 < length clauses.old }
+    ensures full { (result ≡ Err StoreError.StoreFull) ↔ (2 ^ 32 - 1 < length clauses.old) }
     ensures same_words { OnErr result (clauses.new ≡ clauses.old) }
     ensures same_list { OnErr result (db.new ≡ db.old) }
     ensures same_watches { OnErr result (watchlists.new ≡ watchlists.old) }
 {
+    if clauses.buffer_size() > 4294967295 {
+        return Err(StoreError::StoreFull);
+    }
     db.clauses.reserve(1)?;
     let cref = store_clause(clauses, watchlists, header, lits)?;
     db.clauses.push_reserved(cref);
