@@ -2,18 +2,19 @@
 ghost use Rattle.std.specs.Prelude.{ℕ, ◌≡◌, ◌<◌, ◌==◌, length, slice_index, slice_index_or, false};
 ghost use Rattle.std.specs.List.{list_any};
 ghost use Rattle.sat_base.specs.values.Literals.{variable};
+ghost use Rattle.sat_store.specs.clause.Buffer.{IsClause, lits_at};
 ghost use Rattle.sat_parts.specs.prop.Graphs.{node_of};
-ghost use Rattle.sat_parts.specs.clause.Glue.{levels_of, different};
+ghost use Rattle.sat_parts.specs.clause.Glue.{levels_of, different, HaveNodes, HaveFlags, AreClear, MarksLevels};
 
 use crate::prop::graph::ImplGraph;
 use sat_base::Lit;
-use sat_store::TmpFlags;
+use sat_store::{ClauseAlloc, ClauseRef, TmpFlags};
 
 /// The number of different levels of the literals. The flags are all false, and are so again.
 pub fn compute_glue(flags: &mut TmpFlags, graph: &ImplGraph, lits: &[Lit]) -> usize
-    requires nodes { (k : ℕ) → k < length lits.now → variable (slice_index lits.now k) < length graph.now }
-    requires levels { (k : ℕ) → k < length lits.now → (node_of graph.now (variable (slice_index lits.now k))).level < length flags.old.flags.items }
-    requires clear { (k : ℕ) → slice_index_or flags.old.flags.items k false ≡ false }
+    requires nodes { HaveNodes graph.now lits.now }
+    requires levels { HaveFlags graph.now flags.old.flags.items lits.now }
+    requires clear { AreClear flags.old.flags.items }
     ensures glue { result ≡ different (levels_of graph.now lits.now) }
     ensures clear { flags.new.flags.items ≡ flags.old.flags.items }
 {
@@ -24,12 +25,12 @@ pub fn compute_glue(flags: &mut TmpFlags, graph: &ImplGraph, lits: &[Lit]) -> us
 
 /// Sets the flag of each level of a literal, and counts them.
 fn mark_levels(flags: &mut TmpFlags, graph: &ImplGraph, lits: &[Lit]) -> usize
-    requires nodes { (k : ℕ) → k < length lits.now → variable (slice_index lits.now k) < length graph.now }
-    requires levels { (k : ℕ) → k < length lits.now → (node_of graph.now (variable (slice_index lits.now k))).level < length flags.old.flags.items }
-    requires clear { (k : ℕ) → slice_index_or flags.old.flags.items k false ≡ false }
+    requires nodes { HaveNodes graph.now lits.now }
+    requires levels { HaveFlags graph.now flags.old.flags.items lits.now }
+    requires clear { AreClear flags.old.flags.items }
     ensures glue { result ≡ different (levels_of graph.now lits.now) }
     ensures size { length flags.new.flags.items ≡ length flags.old.flags.items }
-    ensures marked { (k : ℕ) → k < length flags.new.flags.items → slice_index_or flags.new.flags.items k false ≡ list_any (λ x. k == x) (levels_of graph.now lits.now) }
+    ensures marked { MarksLevels flags.new.flags.items (levels_of graph.now lits.now) }
 {
     let mut glue = 0;
     for lit in lits {
@@ -44,14 +45,79 @@ fn mark_levels(flags: &mut TmpFlags, graph: &ImplGraph, lits: &[Lit]) -> usize
 
 /// Clears the flag of each level of a literal.
 fn clear_levels(flags: &mut TmpFlags, graph: &ImplGraph, lits: &[Lit])
-    requires nodes { (k : ℕ) → k < length lits.now → variable (slice_index lits.now k) < length graph.now }
-    requires levels { (k : ℕ) → k < length lits.now → (node_of graph.now (variable (slice_index lits.now k))).level < length flags.old.flags.items }
-    requires marked { (k : ℕ) → k < length flags.old.flags.items → slice_index_or flags.old.flags.items k false ≡ list_any (λ x. k == x) (levels_of graph.now lits.now) }
+    requires nodes { HaveNodes graph.now lits.now }
+    requires levels { HaveFlags graph.now flags.old.flags.items lits.now }
+    requires marked { MarksLevels flags.old.flags.items (levels_of graph.now lits.now) }
     ensures size { length flags.new.flags.items ≡ length flags.old.flags.items }
     ensures clear { (k : ℕ) → k < length flags.new.flags.items → slice_index_or flags.new.flags.items k false ≡ false }
 {
     for lit in lits {
         let level = graph.level(lit.var());
+        flags.flags[level] = false;
+    }
+}
+
+/// The number of different levels of the literals of a long clause. The flags are all false, and are so again.
+pub fn compute_clause_glue(
+    flags: &mut TmpFlags,
+    graph: &ImplGraph,
+    clauses: &ClauseAlloc,
+    cref: ClauseRef,
+) -> usize
+    requires clause { IsClause clauses.now cref }
+    requires nodes { HaveNodes graph.now (lits_at clauses.now cref) }
+    requires levels { HaveFlags graph.now flags.old.flags.items (lits_at clauses.now cref) }
+    requires clear { AreClear flags.old.flags.items }
+    ensures glue { result ≡ different (levels_of graph.now (lits_at clauses.now cref)) }
+    ensures clear { flags.new.flags.items ≡ flags.old.flags.items }
+{
+    let glue = mark_clause_levels(flags, graph, clauses, cref);
+    clear_clause_levels(flags, graph, clauses, cref);
+    glue
+}
+
+/// Sets the flag of each level of a clause's literal, and counts them.
+fn mark_clause_levels(
+    flags: &mut TmpFlags,
+    graph: &ImplGraph,
+    clauses: &ClauseAlloc,
+    cref: ClauseRef,
+) -> usize
+    requires clause { IsClause clauses.now cref }
+    requires nodes { HaveNodes graph.now (lits_at clauses.now cref) }
+    requires levels { HaveFlags graph.now flags.old.flags.items (lits_at clauses.now cref) }
+    requires clear { AreClear flags.old.flags.items }
+    ensures glue { result ≡ different (levels_of graph.now (lits_at clauses.now cref)) }
+    ensures size { length flags.new.flags.items ≡ length flags.old.flags.items }
+    ensures marked { MarksLevels flags.new.flags.items (levels_of graph.now (lits_at clauses.now cref)) }
+{
+    let mut glue = 0;
+    for at in 0..clauses.len(cref) {
+        let level = graph.level(clauses.lit(cref, at).var());
+        if !flags.flags[level] {
+            flags.flags[level] = true;
+            glue += 1;
+        }
+    }
+    glue
+}
+
+/// Clears the flag of each level of a clause's literal.
+fn clear_clause_levels(
+    flags: &mut TmpFlags,
+    graph: &ImplGraph,
+    clauses: &ClauseAlloc,
+    cref: ClauseRef,
+)
+    requires clause { IsClause clauses.now cref }
+    requires nodes { HaveNodes graph.now (lits_at clauses.now cref) }
+    requires levels { HaveFlags graph.now flags.old.flags.items (lits_at clauses.now cref) }
+    requires marked { MarksLevels flags.old.flags.items (levels_of graph.now (lits_at clauses.now cref)) }
+    ensures size { length flags.new.flags.items ≡ length flags.old.flags.items }
+    ensures clear { (k : ℕ) → k < length flags.new.flags.items → slice_index_or flags.new.flags.items k false ≡ false }
+{
+    for at in 0..clauses.len(cref) {
+        let level = graph.level(clauses.lit(cref, at).var());
         flags.flags[level] = false;
     }
 }

@@ -14,7 +14,7 @@ pub use clause::db::{
 };
 pub use clause::gc::collect_garbage;
 pub use clause::reduce::{dedup_and_mark_by_tier, reduce_mids};
-pub use glue::compute_glue;
+pub use glue::{compute_clause_glue, compute_glue};
 pub use prop::assignment::{Assignment, fast_option_eq};
 pub use prop::binary::propagate_binary;
 pub use prop::graph::{Conflict, ImplGraph, ImplNode, Reason};

@@ -1,5 +1,6 @@
 -- Levels of the literals of a clause.
-use Rattle.std.specs.Prelude.{ℕ, nat_eq, List, map}
+use Rattle.std.specs.Prelude.{ℕ, ◌≡◌, ◌<◌, ◌==◌, nat_eq, Bool, false, List, length, map, slice_index_or as get_or}
+use Rattle.std.specs.List.{list_any}
 use Rattle.std.specs.Set.{distinct_count}
 use Rattle.sat_base.specs.values.Literals.{variable}
 use Rattle.sat_parts.specs.declared.prop.graph.ImplNode.{ImplNode}
@@ -12,3 +13,19 @@ levels_of nodes ls = map (λ l. (node_of nodes (variable l)).level) ls
 -- how many different numbers a list has
 abbrev pub different : List ℕ → ℕ
 different xs = distinct_count nat_eq xs
+
+-- each literal's variable has a node
+abbrev pub HaveNodes : List ImplNode → List ℕ → Type 0
+HaveNodes nodes ls = (k : ℕ) → k < length ls → variable (get_or ls k 0) < length nodes
+
+-- there is a flag for the level of each literal
+abbrev pub HaveFlags : List ImplNode → List Bool → List ℕ → Type 0
+HaveFlags nodes flags ls = (k : ℕ) → k < length ls → (node_of nodes (variable (get_or ls k 0))).level < length flags
+
+-- no flag is set
+abbrev pub AreClear : List Bool → Type 0
+AreClear flags = (k : ℕ) → get_or flags k false ≡ false
+
+-- exactly the flags of these levels are set
+abbrev pub MarksLevels : List Bool → List ℕ → Type 0
+MarksLevels flags levels = (k : ℕ) → k < length flags → get_or flags k false ≡ list_any (λ x. k == x) levels
