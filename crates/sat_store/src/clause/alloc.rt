@@ -9,6 +9,8 @@ use crate::clause::header::ClauseHeader;
 use crate::clause::view::Clause;
 use sat_base::Lit;
 use std::alloc::{AllocError, Global};
+use std::error::Error;
+use std::fmt;
 use std::marker::Model;
 
 /// How many words of the buffer a clause takes beside its literals.
@@ -46,6 +48,17 @@ pub enum StoreError {
     StoreFull,
     OutOfMemory,
 }
+
+impl fmt::Display for StoreError {
+    fn fmt<W: fmt::Write>(&self, f: &mut fmt::Formatter<W>) -> fmt::Result {
+        match self {
+            StoreError::StoreFull => write!(f, "no room for another clause"),
+            StoreError::OutOfMemory => write!(f, "out of memory"),
+        }
+    }
+}
+
+impl Error for StoreError {}
 
 impl From<AllocError> for StoreError {
     ghost use Rattle.std.specs.Prelude.{◌≡◌};
