@@ -1,6 +1,7 @@
 //! A clause in the buffer, to be written.
 ghost use Rattle.std.specs.Prelude.{◌≡◌, ◌<◌, ◌≤◌, ℕ, length, min, slice_index, slice_set, take};
 ghost use Rattle.std.specs.Map.Iter.{ShowsInOrder};
+ghost use Rattle.sat_store.specs.clause.Header.{is_learned};
 ghost use Rattle.sat_store.specs.clause.Buffer.{IsClause, header_at, lits_at, swapped};
 
 use crate::clause::alloc::{ClauseAlloc, ClauseRef};
@@ -40,6 +41,56 @@ impl<'a> ClauseMut<'a> {
         ensures { result ≡ header_there self.now }
     {
         self.buffer.header(self.cref)
+    }
+
+    pub fn deleted(&self) -> bool
+        requires { IsThere self.now }
+        ensures { result ≡ (header_there self.now).deleted }
+    {
+        self.header().deleted()
+    }
+
+    pub fn tier(&self) -> Tier
+        requires { IsThere self.now }
+        ensures { result ≡ (header_there self.now).tier }
+    {
+        self.header().tier()
+    }
+
+    /// Whether the clause is a learned one.
+    pub fn redundant(&self) -> bool
+        requires { IsThere self.now }
+        ensures { result ≡ is_learned (header_there self.now).tier }
+    {
+        self.header().redundant()
+    }
+
+    pub fn mark(&self) -> bool
+        requires { IsThere self.now }
+        ensures { result ≡ (header_there self.now).mark }
+    {
+        self.header().mark()
+    }
+
+    pub fn active(&self) -> bool
+        requires { IsThere self.now }
+        ensures { result ≡ (header_there self.now).active }
+    {
+        self.header().active()
+    }
+
+    pub fn glue(&self) -> usize
+        requires { IsThere self.now }
+        ensures { result ≡ (header_there self.now).glue }
+    {
+        self.header().glue()
+    }
+
+    pub fn activity(&self) -> u32
+        requires { IsThere self.now }
+        ensures { result ≡ (header_there self.now).activity }
+    {
+        self.header().activity()
     }
 
     /// The number of literals.
