@@ -1,5 +1,5 @@
 -- All variables in a list, the first of them a heap by activity, and where in the list each stands.
-use Rattle.std.specs.Prelude.{◌≡◌, ◌≢◌, ℕ, ◌+◌, ◌-◌, ◌*◌, ◌/◌, ◌^◌, ◌<◌, ◌≤◌, Bool, nat_lt, List, length, map, slice_index_or as get_or}
+use Rattle.std.specs.Prelude.{◌≡◌, ◌≢◌, ℕ, ◌+◌, ◌-◌, ◌*◌, ◌/◌, ◌^◌, ◌<◌, ◌≤◌, ◌++◌, Bool, false, nat_lt, List, length, map, replicate, slice_index_or as get_or, slice_set as set}
 use Rattle.sat_base.specs.values.Literals.{largest}
 
 -- each variable stands once in the list, where its position says
@@ -35,6 +35,14 @@ pub record DownFrom (r : ℕ → ℕ) (m low hole : ℕ) : Type 0 where
   pub others : (k : ℕ) → 0 < k → k < m → low ≤ parent k → parent k ≢ hole → r k ≤ r (parent k)
   pub across : 0 < hole → low ≤ parent hole → (k : ℕ) → 0 < k → k < m → parent k ≡ hole → r k ≤ r (parent hole)
 
+-- none of those that the place at is parent of is above this child
+abbrev pub IsFirstChild : (r : ℕ → ℕ) (m at child : ℕ) → Type 0
+IsFirstChild r m at child = (k : ℕ) → 0 < k → k < m → parent k ≡ at → r k ≤ r child
+
+-- where the ranks r were ordered but for the one at a place, the ranks s are
+abbrev pub SettlesDown : (r s : ℕ → ℕ) (m at : ℕ) → Type 0
+SettlesDown r s m at = (low : ℕ) → low ≤ at → DownFrom r m low at → Ordered s m low
+
 -- s has the ranks of r, those at i and j exchanged
 pub record Exchanges (r s : ℕ → ℕ) (i j : ℕ) : Type 0 where
   pub first : s i ≡ r j
@@ -52,6 +60,14 @@ pub record Transposes (old new : List ℕ) (i j : ℕ) : Type 0 where
 abbrev pub flags : ℕ → List ℕ → List Bool
 flags m positions = map (λ p. nat_lt p m) positions
 
+-- the flags before place m' are those that were before place m, but for that of one variable
+abbrev pub SetsFlag : (m m' : ℕ) (positions positions' : List ℕ) (v : ℕ) (flag : Bool) → Type 0
+SetsFlag m m' positions positions' v flag = flags m' positions' ≡ set (flags m positions) v flag
+
+-- the flags of n variables, and those of new ones up to this count, which are false
+abbrev pub AddsFlags : (n count : ℕ) (positions positions' : List ℕ) → Type 0
+AddsFlags n count positions positions' = (m : ℕ) → m ≤ n → flags m positions' ≡ flags m positions ++ replicate (count - n) false
+
 -- what is kept of a heap at all times
 pub record IsHeap (heap positions activities : List ℕ) (m : ℕ) : Type 0 where
   pub placed : Placed heap positions
@@ -60,3 +76,7 @@ pub record IsHeap (heap positions activities : List ℕ) (m : ℕ) : Type 0 wher
   pub count : length activities ≡ length heap
   pub small : (v : ℕ) → get_or activities v 0 < 2 ^ 60
   pub ordered : Ordered (rank_at activities heap) m 0
+
+-- a heap stays one, whatever number of its variables may be picked
+abbrev pub IsKept : (heap positions activities heap' positions' activities' : List ℕ) → Type 0
+IsKept heap positions activities heap' positions' activities' = (m : ℕ) → IsHeap heap positions activities m → IsHeap heap' positions' activities' m

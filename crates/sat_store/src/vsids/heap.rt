@@ -1,7 +1,7 @@
 //! A heap of variables in a list of all of them.
 ghost use Rattle.std.specs.Prelude.{◌≡◌, ℕ, ◌+◌, ◌*◌, ◌/◌, ◌^◌, ◌<◌, ◌≤◌, ◌↔◌, IsTrue, List, length, slice_index, slice_set, ◌++◌, ◌-◌, true, false, replicate, vec_capacity};
 ghost use Rattle.sat_base.specs.values.Literals.{largest};
-ghost use Rattle.sat_store.specs.heap.Heap.{Placed, IsHeap, rank, rank_at, parent, Ordered, UpFrom, DownFrom, Exchanges, Transposes, flags};
+ghost use Rattle.sat_store.specs.heap.Heap.{Placed, IsHeap, IsKept, rank, rank_at, parent, Ordered, UpFrom, IsFirstChild, SettlesDown, Exchanges, Transposes, flags, SetsFlag, AddsFlags};
 
 /// Exchanges the variables at two places.
 pub(super) fn exchange(heap: &mut Vec<u32>, positions: &mut Vec<u32>, i: usize, j: usize)
@@ -75,7 +75,7 @@ fn first_child(heap: &[u32], activities: &[u64], available: usize, at: usize) ->
     ensures child { parent result ≡ at }
     ensures positive { 0 < result }
     ensures within { result < available }
-    ensures first { (k : ℕ) → 0 < k → k < available → parent k ≡ at → rank_at activities.now heap.now k ≤ rank_at activities.now heap.now result }
+    ensures first { IsFirstChild (rank_at activities.now heap.now) available at result }
 {
     let left = 2 * at + 1;
     let right = left + 1;
@@ -100,7 +100,7 @@ pub(super) fn sift_down(
     requires at { at < available }
     ensures placed { Placed heap.new.items positions.new.items }
     ensures count { length heap.new.items ≡ length heap.old.items }
-    ensures ordered { (low : ℕ) → low ≤ at → DownFrom (rank_at activities.now heap.old.items) available low at → Ordered (rank_at activities.now heap.new.items) available low }
+    ensures ordered { SettlesDown (rank_at activities.now heap.old.items) (rank_at activities.now heap.new.items) available at }
     ensures flags { flags available positions.new.items ≡ flags available positions.old.items }
 {
     let mut hole = at;
@@ -159,7 +159,7 @@ pub(super) fn take_out(
     requires heap { IsHeap heap.old.items positions.old.items activities.now available }
     requires at { at < available }
     ensures heap { IsHeap heap.new.items positions.new.items activities.now (available - 1) }
-    ensures flags { flags (available - 1) positions.new.items ≡ slice_set (flags available positions.old.items) (slice_index heap.old.items at) false }
+    ensures flags { SetsFlag available (available - 1) positions.old.items positions.new.items (slice_index heap.old.items at) false }
 {
     let last = available - 1;
     exchange(heap, positions, at, last);
@@ -185,7 +185,7 @@ pub(super) fn put_in(
     requires behind { available ≤ at }
     requires at { at < length heap.old.items }
     ensures heap { IsHeap heap.new.items positions.new.items activities.now (available + 1) }
-    ensures flags { flags (available + 1) positions.new.items ≡ slice_set (flags available positions.old.items) (slice_index heap.old.items at) true }
+    ensures flags { SetsFlag available (available + 1) positions.old.items positions.new.items (slice_index heap.old.items at) true }
 {
     exchange(heap, positions, at, available);
     sift_up(heap, positions, activities, available + 1, available);
@@ -205,8 +205,8 @@ pub(super) fn add_variables(
     requires activities_count { length activities.old.items ≡ length heap.old.items }
     requires more { length heap.old.items ≤ count }
     requires few { count ≤ largest }
-    ensures heap { (m : ℕ) → IsHeap heap.old.items positions.old.items activities.old.items m → IsHeap heap.new.items positions.new.items activities.new.items m }
-    ensures flags { (m : ℕ) → m ≤ length heap.old.items → flags m positions.new.items ≡ flags m positions.old.items ++ replicate (count - length heap.old.items) false }
+    ensures heap { IsKept heap.old.items positions.old.items activities.old.items heap.new.items positions.new.items activities.new.items }
+    ensures flags { AddsFlags (length heap.old.items) count positions.old.items positions.new.items }
     ensures activities { activities.new.items ≡ activities.old.items ++ replicate (count - length heap.old.items) 0 }
 {
     for index in heap.len()..count {
