@@ -1,6 +1,6 @@
 //! Lists that the solver's parts use for a while.
 ghost use Rattle.std.specs.Prelude.{◌≡◌, ◌≤◌, [], OnOk, OnErr};
-ghost use Rattle.sat_store.specs.variables.Flags.{flags_for};
+ghost use Rattle.sat_store.specs.variables.Flags.{flags_for, GrowsFlags};
 ghost use Rattle.sat_base.specs.values.Literals.{largest};
 
 use sat_base::Lit;
@@ -44,6 +44,15 @@ impl TmpFlags {
 
     /// Makes it two flags for each of so many variables: new ones are false, those past the count are dropped.
     pub fn set_var_count(&mut self, count: usize) -> Result<(), AllocError>
+        requires { count ≤ largest }
+        ensures flags { OnOk result (self.new.flags.items ≡ flags_for count self.old.flags.items) }
+        ensures grows { OnOk result (GrowsFlags count self.old.flags.items self.new.flags.items) }
+        ensures kept { OnErr result (self.new.flags.items ≡ self.old.flags.items) }
+    {
+        self.resize_flags(count)
+    }
+
+    fn resize_flags(&mut self, count: usize) -> Result<(), AllocError>
         requires { count ≤ largest }
         ensures flags { OnOk result (self.new.flags.items ≡ flags_for count self.old.flags.items) }
         ensures kept { OnErr result (self.new.flags.items ≡ self.old.flags.items) }

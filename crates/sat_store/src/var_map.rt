@@ -1,6 +1,6 @@
 //! Maps between variables.
 ghost use Rattle.std.specs.Prelude.{ℕ, ◌≡◌, ◌==◌, if◌then◌else◌, IfNone, IfSome, true, false, ◌+◌, ◌<◌, ◌≤◌, Option, Some, None, List, [], length, max, OnOk, OnErr, vec_capacity};
-ghost use Rattle.sat_store.specs.variables.Maps.{target, PutsTarget, AreInverse, Links, Unlinks};
+ghost use Rattle.sat_store.specs.variables.Maps.{target, PutsTarget, GrowsMap, GrowsBoth, AreInverse, Links, Unlinks};
 
 use sat_base::Var;
 use std::alloc::{AllocError, Global};
@@ -40,6 +40,15 @@ impl VarMap {
     /// Maps `from`, which isn't mapped, to `into`.
     pub fn insert(&mut self, into: Var, from: Var) -> Result<(), AllocError>
         requires { target self.old from ≡ None }
+        ensures put { OnOk result (PutsTarget self.old self.new from (Some into)) }
+        ensures watermark { OnOk result (length self.new ≡ max (length self.old) (from + 1)) }
+        ensures grows { OnOk result (GrowsMap self.old self.new from into) }
+        ensures kept { OnErr result (self.new ≡ self.old) }
+    {
+        self.put_target(into, from)
+    }
+
+    fn put_target(&mut self, into: Var, from: Var) -> Result<(), AllocError>
         ensures put { OnOk result (PutsTarget self.old self.new from (Some into)) }
         ensures watermark { OnOk result (length self.new ≡ max (length self.old) (from + 1)) }
         ensures kept { OnErr result (self.new ≡ self.old) }
@@ -208,6 +217,18 @@ impl<'a> VarBiMapMut<'a> {
 
     /// Maps `from` to `into`, neither of which is mapped on its side.
     pub fn insert(&mut self, into: Var, from: Var) -> Result<(), AllocError>
+        requires from_unmapped { target (facing self.old).fwd from ≡ None }
+        requires into_unmapped { target (facing self.old).bwd into ≡ None }
+        ensures same { self.new.map.ghost_name ≡ self.old.map.ghost_name }
+        ensures side { self.new.is_turned ≡ self.old.is_turned }
+        ensures linked { OnOk result (Links (facing self.old) (facing self.new) from into) }
+        ensures grows { OnOk result (GrowsBoth (facing self.old) (facing self.new) from into) }
+        ensures kept { OnErr result (self.new.map.now ≡ self.old.map.now) }
+    {
+        self.link(into, from)
+    }
+
+    fn link(&mut self, into: Var, from: Var) -> Result<(), AllocError>
         requires from_unmapped { target (facing self.old).fwd from ≡ None }
         requires into_unmapped { target (facing self.old).bwd into ≡ None }
         ensures same { self.new.map.ghost_name ≡ self.old.map.ghost_name }

@@ -4,7 +4,7 @@
 //! conflict, later conflicts raise by more; where numbers grow too large, all are brought to a smaller scale.
 ghost use Rattle.std.specs.Prelude.{◌≡◌, ◌<◌, ◌≤◌, ◌+◌, ◌*◌, ◌-◌, ◌/◌, ◌^◌, OnOk, OnErr, true, false, length, map, max, slice_set};
 ghost use Rattle.sat_base.specs.values.Literals.{largest};
-ghost use Rattle.sat_store.specs.heap.Vsids.{no_variables, with_variables, bumped, decayed, with_available, may_pick};
+ghost use Rattle.sat_store.specs.heap.Vsids.{no_variables, with_variables, GrowsQueue, bumped, decayed, with_available, may_pick};
 
 mod heap;
 
@@ -63,6 +63,15 @@ impl Vsids {
 
     /// Raises the number of variables to this count, with room for all to be available. A lower count changes nothing.
     pub fn set_var_count(&mut self, count: usize) -> Result<(), AllocError>
+        requires { count ≤ largest }
+        ensures counted { OnOk result (self.new ≡ with_variables count self.old) }
+        ensures grows { OnOk result (GrowsQueue count self.old self.new) }
+        ensures kept { OnErr result (self.new ≡ self.old) }
+    {
+        self.raise_count(count)
+    }
+
+    fn raise_count(&mut self, count: usize) -> Result<(), AllocError>
         requires { count ≤ largest }
         ensures counted { OnOk result (self.new ≡ with_variables count self.old) }
         ensures kept { OnErr result (self.new ≡ self.old) }

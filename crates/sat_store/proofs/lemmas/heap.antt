@@ -1,3 +1,4 @@
 pub mod OrderLemmas
 pub mod FlagLemmas
 pub mod QueueLemmas
+pub mod GrowsLemmas

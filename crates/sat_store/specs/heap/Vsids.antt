@@ -26,6 +26,16 @@ with_variables count q = record q {
   activities = q.activities ++ replicate (count - length q.available) 0;
 }
 
+-- the variables that were there stay as they were. Those that came to them may not be picked, and have activity 0
+pub record GrowsQueue (count : ℕ) (old new : Queue) : Type 0 where
+  pub size : length new.available ≡ max (length old.available) count
+  pub kept_available : (v : ℕ) → v < length old.available → may_pick new v ≡ may_pick old v
+  pub kept_activity : (v : ℕ) → v < length old.activities → activity_of new v ≡ activity_of old v
+  pub new_available : (v : ℕ) → length old.available ≤ v → may_pick new v ≡ false
+  pub new_activity : (v : ℕ) → length old.activities ≤ v → activity_of new v ≡ 0
+  pub bump : new.bump ≡ old.bump
+  pub decay : new.decay ≡ old.decay
+
 -- all on a smaller scale: 40 bits less, but a bump adds at least 1
 abbrev pub rescaled : Queue → Queue
 rescaled q = record q { activities = map (λ a. a / 2 ^ 40) q.activities; bump = max (q.bump / 2 ^ 40) 1 }

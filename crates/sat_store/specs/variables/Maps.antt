@@ -1,6 +1,6 @@
 -- Maps between variables, as the list of what each index is mapped to. The list is as long as one more than the largest index
 -- that was ever mapped.
-use Rattle.std.specs.Prelude.{ℕ, ◌+◌, ◌==◌, ◌≡◌, max, if◌then◌else◌, Option, Some, None, List, length, slice_index_or}
+use Rattle.std.specs.Prelude.{ℕ, ◌+◌, ◌==◌, ◌≡◌, ◌≢◌, ◌≤◌, max, if◌then◌else◌, Option, Some, None, List, length, slice_index_or}
 
 -- what a variable is mapped to
 abbrev pub target : List (Option ℕ) → ℕ → Option ℕ
@@ -9,6 +9,13 @@ target map from = slice_index_or map from None
 -- the map in which one variable has this target, and all others have theirs
 abbrev pub PutsTarget : List (Option ℕ) → List (Option ℕ) → ℕ → Option ℕ → Type 0
 PutsTarget old new from into = (v : ℕ) → target new v ≡ (if v == from then into else target old v)
+
+-- one variable came to have this target. Each other one keeps its own, and has none where the map didn't reach it before
+pub record GrowsMap (old new : List (Option ℕ)) (from into : ℕ) : Type 0 where
+  pub there : target new from ≡ Some into
+  pub kept : (v : ℕ) → v ≢ from → target new v ≡ target old v
+  pub fresh : (v : ℕ) → length old ≤ v → v ≢ from → target new v ≡ None
+  pub watermark : length new ≡ max (length old) (from + 1)
 
 -- a map and its inverse
 pub record Both : Type 0 where
@@ -37,3 +44,8 @@ pub record Unlinks (old new : Both) (from into : ℕ) : Type 0 where
   pub bwd : PutsTarget old.bwd new.bwd into None
   pub fwd_watermark : length new.fwd ≡ length old.fwd
   pub bwd_watermark : length new.bwd ≡ length old.bwd
+
+-- the same of a map and its inverse
+pub record GrowsBoth (old new : Both) (from into : ℕ) : Type 0 where
+  pub fwd : GrowsMap old.fwd new.fwd from into
+  pub bwd : GrowsMap old.bwd new.bwd into from

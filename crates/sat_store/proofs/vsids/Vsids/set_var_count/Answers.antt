@@ -1,5 +1,9 @@
+use Rattle.std.proofs.Common.{sym, subst}
+use Rattle.std.proofs.lemmas.Result.{on_ok_weaker}
+use Rattle.sat_store.specs.heap.Vsids.{Queue, GrowsQueue}
+use Rattle.sat_store.proofs.lemmas.heap.GrowsLemmas.{grows_queue}
 use Rattle.sat_store.proofs.vsids.Vsids.set_var_count.Goals as goal
 
-pub invariant_of-self-2 : goal.invariant_of-self-2
-invariant_of-self-2 c =
-    (c.add_variables.ensures.heap c.self.inside.available (rw (c.in_ok-reserve.ensures.items, c.in_ok-reserve-2.ensures.items, c.in_ok-reserve-3.ensures.items) c.self.invariant.0), c.self.invariant.1, c.self.invariant.2, c.self.invariant.3, c.self.invariant.4)
+pub returns-clause-grows : goal.returns-clause-grows
+returns-clause-grows c =
+    on_ok_weaker _ (λ e. subst (λ (q : Queue). GrowsQueue c.args.count c.args.self.now q) (sym e) (grows_queue c.args.count c.args.self.now)) c.raise_count.ensures.counted
