@@ -4,6 +4,7 @@ use Rattle.std.specs.List.{Contains}
 use Rattle.sat_store.specs.clause.Buffer.{Laid, header_at, lits_at}
 use Rattle.sat_store.specs.clause.Header.{Header}
 use Rattle.sat_store.specs.heap.Vsids.{quotient_up}
+use Rattle.sat_parts.specs.clause.Db.{PutsHeader}
 
 -- each clause of the list has the header that f gives, and its literals as before
 pub record PutsHeaders (words words' refs : List ℕ) (f : ℕ → Header) : Type 0 where
@@ -50,3 +51,19 @@ raised words o bump = min ((header_at words o).activity + bump) (2 ^ 32 - 1)
 -- the headers where the clause at o was bumped, and then all on a smaller scale
 abbrev pub bumped_shifted : List ℕ → (o bump : ℕ) → ℕ → Header
 bumped_shifted words o bump p = with_activity (header_at words p) ((if p == o then raised words o bump else (header_at words p).activity) / 2 ^ 16)
+
+-- a bump of the clause at o alone, on the scale that there was
+abbrev pub BumpsOne : (words words' refs : List ℕ) (o : ℕ) (s s' : Scale) → Type 0
+BumpsOne words words' refs o s s' = (s' ≡ s) × PutsHeader words words' refs o (with_activity (header_at words o) (raised words o s.bump))
+
+-- a bump of the clause at o that puts all activities on a smaller scale
+abbrev pub BumpsAll : (words words' refs : List ℕ) (o : ℕ) (s s' : Scale) → Type 0
+BumpsAll words words' refs o s s' = (s' ≡ record s { bump = rescaled s.bump }) × PutsHeaders words words' refs (bumped_shifted words o s.bump)
+
+-- the scale after a decay
+abbrev pub later_scale : Scale → Scale
+later_scale s = record s { bump = later_bump s }
+
+-- a decay that puts all activities on a smaller scale
+abbrev pub DecaysAll : (words words' refs : List ℕ) (s s' : Scale) → Type 0
+DecaysAll words words' refs s s' = (s' ≡ record s { bump = rescaled (later_bump s) }) × PutsHeaders words words' refs (shifted words)

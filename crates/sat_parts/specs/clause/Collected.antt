@@ -1,14 +1,15 @@
 -- Clauses that were copied into a new buffer, and reasons that follow their clauses.
-use Rattle.std.specs.Prelude.{ℕ, ◌≡◌, ◌≢◌, ◌+◌, ◌<◌, ◌≤◌, ◌⊎◌, List, length, drop, take, slice_index_or as get_or}
+use Rattle.std.specs.Prelude.{ℕ, ◌≡◌, ◌≢◌, ◌+◌, ◌<◌, ◌≤◌, ◌⊎◌, List, [], ◌∷◌, ◌++◌, length, drop, take, slice_index_or as get_or}
 use Rattle.std.specs.List.{Contains, sum_by}
 use Rattle.sat_base.specs.values.Literals.{variable}
-use Rattle.sat_store.specs.clause.Buffer.{Laid, header_at, lits_at}
+use Rattle.sat_store.specs.clause.Buffer.{Laid, Adds, header_at, lits_at}
 use Rattle.sat_parts.specs.declared.prop.graph.ImplNode.{ImplNode}
 use Rattle.sat_parts.specs.declared.prop.graph.Reason.{Reason}
 use Rattle.sat_parts.specs.declared.prop.graph.Reason.TheVariants.{Unit as NoCause, Binary, Long}
 use Rattle.sat_parts.specs.clause.Db.{Db, HoldsDb, live_refs, AreRising}
 use Rattle.sat_parts.specs.clause.Stored.{lit_of}
 use Rattle.sat_parts.specs.prop.Graphs.{node_of}
+use Rattle.sat_parts.specs.prop.WatchLists.{Watching}
 
 -- the clauses of one list in order, as those of another: the same headers, and the same literals in order
 pub record Copies (words live words' refs' : List ℕ) : Type 0 where
@@ -28,6 +29,10 @@ pub record Copying (words refs words' refs' : List ℕ) (i : ℕ) : Type 0 where
   pub low : (k : ℕ) → k < length refs' → get_or refs' k 0 ≤ get_or (live_refs words (take i refs)) k 0
   pub room : (p : ℕ) → Contains (drop i refs) p → length words' ≤ p
   pub packed : length words' ≡ words_of words' refs'
+
+-- a copy of the clause at o came to stand behind the words and the list
+abbrev pub CopiesOne : (words : List ℕ) (o : ℕ) (to refs to' refs' : List ℕ) → Type 0
+CopiesOne words o to refs to' refs' = (c : ℕ) × ((Adds to to' c (header_at words o) (lits_at words o)) × (refs' ≡ refs ++ c ∷ []))
 
 -- a reason once the clauses of a list are those of another
 abbrev pub FollowsClause : (live refs' : List ℕ) → Reason → Reason → Type 0
@@ -52,6 +57,10 @@ pub record AreFollowed (live refs' lits : List ℕ) (n : ℕ) (nodes nodes' : Li
   pub reasons : (i : ℕ) → i < length lits →
       FollowsFirst live refs' n (node_of nodes (variable (get_or lits i 0))).reason (node_of nodes' (variable (get_or lits i 0))).reason
 
+-- the same once all clauses are followed
+abbrev pub FollowsAll : (live refs' lits : List ℕ) (nodes nodes' : List ImplNode) → Type 0
+FollowsAll live refs' lits nodes nodes' = AreFollowed live refs' lits (length live) nodes nodes'
+
 -- a collection: the live clauses are those of the new list, in order, none of them deleted, the buffer has their words and no
 -- others, and each reason of a literal of the trail names the clause that it named
 pub record Collects (words : List ℕ) (db : Db) (nodes : List ImplNode) (lits words' : List ℕ) (db' : Db) (nodes' : List ImplNode) : Type 0 where
@@ -75,3 +84,7 @@ AreFirsts words live lits nodes = (i o : ℕ) → i < length lits → (node_of n
 -- the list once its live clauses were copied
 abbrev pub after_collection : List ℕ → Db → Db
 after_collection refs' db = record { refs = refs'; counts = db.counts; garbage = 0 }
+
+-- a buffer, its list, nodes and watch lists stay as they were
+abbrev pub AllStay : (words : List ℕ) (db : Db) (nodes : List ImplNode) (w : Watching) (words' : List ℕ) (db' : Db) (nodes' : List ImplNode) (w' : Watching) → Type 0
+AllStay words db nodes w words' db' nodes' w' = (words' ≡ words) × (db' ≡ db) × (nodes' ≡ nodes) × (w' ≡ w)

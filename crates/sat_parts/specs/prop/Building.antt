@@ -6,7 +6,11 @@ use Rattle.sat_parts.specs.declared.prop.watch.Watch.{Watch}
 use Rattle.sat_parts.specs.clause.Db.{live_refs}
 use Rattle.sat_parts.specs.clause.Stored.{lit_of}
 use Rattle.sat_parts.specs.prop.WatchLists.{no_watch, watches_of}
-use Rattle.sat_parts.specs.prop.Ready.{IsGood, HasWatch}
+use Rattle.sat_parts.specs.prop.Ready.{IsGood, HasWatch, AreWatched}
+
+-- the live clauses of a list are watched by their first two literals
+abbrev pub WatchesLive : (words refs : List ℕ) (lists : List (List Watch)) (count : ℕ) → Type 0
+WatchesLive words refs lists count = AreWatched words (live_refs words refs) lists count
 
 -- the live clauses among the first k are watched by their first two literals
 pub record AreBuilt (words refs : List ℕ) (lists : List (List Watch)) (count k : ℕ) : Type 0 where

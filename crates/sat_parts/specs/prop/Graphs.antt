@@ -24,6 +24,10 @@ node_at t reason = record { reason = reason; level = length t.starts; depth = le
 abbrev pub with_node : ℕ → ImplNode → List ImplNode → List ImplNode
 with_node v node nodes = set nodes v node
 
+-- the nodes where that of a variable has this reason
+abbrev pub with_reason : ℕ → Reason → List ImplNode → List ImplNode
+with_reason v reason nodes = with_node v (record (node_of nodes v) { reason = reason }) nodes
+
 -- the nodes of so many variables
 abbrev pub with_nodes : ℕ → List ImplNode → List ImplNode
 with_nodes count nodes = take count nodes ++ replicate (count - length nodes) new_node

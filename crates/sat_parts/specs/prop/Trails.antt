@@ -1,5 +1,5 @@
 -- The trail: the literals that were made true and not undone, in order, with the places where levels begin.
-use Rattle.std.specs.Prelude.{ℕ, ◌+◌, ◌-◌, ◌^◌, ◌<◌, ◌≤◌, List, [], ◌∷◌, ◌++◌, min, take, length, slice_index_or as get_or}
+use Rattle.std.specs.Prelude.{ℕ, ◌≡◌, Some, slice_get, ◌+◌, ◌-◌, ◌^◌, ◌<◌, ◌≤◌, List, [], ◌∷◌, ◌++◌, min, take, length, slice_index_or as get_or}
 use Rattle.sat_base.specs.values.Literals.{largest}
 
 -- the literals, how many of them have left the queue, how many stood there as each level from 1 on began,
@@ -36,6 +36,10 @@ no_trail = record { lits = []; head = 0; starts = []; cleared = 0; room = 0 }
 -- where the literals of level 0 end
 abbrev pub first_start : Trailed → ℕ
 first_start t = get_or t.starts 0 (length t.lits)
+
+-- the next literal to be propagated left the queue
+abbrev pub PopsNext : Trailed → ℕ → Trailed → Type 0
+PopsNext t l t' = (slice_get t.lits t.head ≡ Some l) × (t' ≡ record t { head = t.head + 1 })
 
 -- the trail with one literal more
 abbrev pub with_lit : ℕ → Trailed → Trailed

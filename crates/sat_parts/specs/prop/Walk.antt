@@ -9,9 +9,9 @@ use Rattle.sat_parts.specs.declared.prop.graph.Conflict.TheVariants.{Long}
 use Rattle.sat_parts.specs.declared.prop.long.Visit.{Visit}
 use Rattle.sat_parts.specs.declared.prop.long.Visit.TheVariants.{Stale, Moved, Keep, Propagates, Falsified}
 use Rattle.sat_parts.specs.clause.Stored.{AreClauses, lit_of, size_of}
-use Rattle.sat_parts.specs.prop.Values.{IsTrueLit, IsFalseLit, IsOpenLit}
+use Rattle.sat_parts.specs.prop.Values.{Values, IsTrueLit, IsFalseLit, IsOpenLit}
 use Rattle.sat_parts.specs.prop.Binaries.{implied_by}
-use Rattle.sat_parts.specs.prop.WatchLists.{no_watch, watch_on, watches_of, more_at}
+use Rattle.sat_parts.specs.prop.WatchLists.{Watching, no_watch, watch_on, watches_of, more_at}
 use Rattle.sat_parts.specs.prop.State.{State, level, current_level, HasLeft, Agrees, IsQueueCurrent, IsSatisfied}
 use Rattle.sat_parts.specs.prop.Reasons.{Moves}
 use Rattle.sat_parts.specs.prop.Ready.{IsGood, HasWatch, LongReady, IsFalsified, IsConflict}
@@ -75,6 +75,10 @@ Visited w v a lists lists' o fl (Falsified n) =
     × (n ≡ lit_of v o 0)
     × (lists' ≡ lists)
     × ((k : ℕ) → k < size_of v o → IsFalseLit a (lit_of v o k))
+
+-- the same between values and lists
+abbrev pub VisitedIn : (w v : List ℕ) (a : Values) (lists lists' : Watching) (o fl : ℕ) → Visit → Type 0
+VisitedIn w v a lists lists' o fl r = Visited w v a.current lists.lists lists'.lists o fl r
 
 -- what is settled after a walk: all that has left the queue, or what is below the current level where a clause was found false
 abbrev pub due_after : Option ℕ → State → ℕ → Type 0

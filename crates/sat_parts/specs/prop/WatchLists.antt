@@ -34,6 +34,10 @@ without_last l lists = set lists l (take (length (watches_of lists l) - 1) (watc
 abbrev pub with_clause : ℕ → ℕ → ℕ → Watching → Watching
 with_clause o a b w = if w.enabled then with_watch (negated b) (watch_on o a) (with_watch (negated a) (watch_on o b) w) else w
 
+-- the same for a clause of these literals, of which the first two are watched
+abbrev pub with_firsts : ℕ → List ℕ → Watching → Watching
+with_firsts o ls w = with_clause o (get_or ls 0 0) (get_or ls 1 0) w
+
 -- the lists of so many literals
 abbrev pub with_lists : ℕ → Watching → Watching
 with_lists count w = record w { lists = take count w.lists ++ replicate (count - length w.lists) [] }

@@ -4,7 +4,7 @@ ghost use Rattle.std.specs.List.{Contains};
 ghost use Rattle.sat_store.specs.clause.Buffer.{header_at};
 ghost use Rattle.sat_store.specs.heap.Vsids.{quotient_up};
 ghost use Rattle.sat_parts.specs.clause.Db.{HoldsDb, PutsHeader, live_refs};
-ghost use Rattle.sat_parts.specs.clause.Activity.{PutsHeaders, first_scale, rescaled, later_bump, with_activity, shifted, raised, bumped_shifted};
+ghost use Rattle.sat_parts.specs.clause.Activity.{PutsHeaders, BumpsOne, BumpsAll, DecaysAll, later_scale, first_scale, later_bump, with_activity, shifted, raised};
 
 use crate::clause::db::{ClauseDb, put_header};
 use sat_store::{ClauseAlloc, ClauseRef};
@@ -101,10 +101,10 @@ pub fn bump_clause_activity(
 )
     requires db { HoldsDb clauses.old db.now }
     requires there { Contains db.now.refs cref }
-    ensures raised { raised clauses.old cref activity.old.bump < 2 ^ 30 → (activity.new ≡ activity.old)
-        × PutsHeader clauses.old clauses.new db.now.refs cref (with_activity (header_at clauses.old cref) (raised clauses.old cref activity.old.bump)) }
-    ensures rescaled { 2 ^ 30 ≤ raised clauses.old cref activity.old.bump → (activity.new ≡ record activity.old { bump = rescaled activity.old.bump })
-        × PutsHeaders clauses.old clauses.new db.now.refs (bumped_shifted clauses.old cref activity.old.bump) }
+    ensures raised { raised clauses.old cref activity.old.bump < 2 ^ 30 →
+        BumpsOne clauses.old clauses.new db.now.refs cref activity.old activity.new }
+    ensures rescaled { 2 ^ 30 ≤ raised clauses.old cref activity.old.bump →
+        BumpsAll clauses.old clauses.new db.now.refs cref activity.old activity.new }
     ensures db { HoldsDb clauses.new db.now }
     ensures live { live_refs clauses.new db.now.refs ≡ live_refs clauses.old db.now.refs }
 {
@@ -125,9 +125,8 @@ pub fn decay_clause_activities(
     db: &ClauseDb,
 )
     requires db { HoldsDb clauses.old db.now }
-    ensures later { later_bump activity.old < 2 ^ 30 → (activity.new ≡ record activity.old { bump = later_bump activity.old }) × (clauses.new ≡ clauses.old) }
-    ensures rescaled { 2 ^ 30 ≤ later_bump activity.old → (activity.new ≡ record activity.old { bump = rescaled (later_bump activity.old) })
-        × PutsHeaders clauses.old clauses.new db.now.refs (shifted clauses.old) }
+    ensures later { later_bump activity.old < 2 ^ 30 → (activity.new ≡ later_scale activity.old) × (clauses.new ≡ clauses.old) }
+    ensures rescaled { 2 ^ 30 ≤ later_bump activity.old → DecaysAll clauses.old clauses.new db.now.refs activity.old activity.new }
     ensures db { HoldsDb clauses.new db.now }
     ensures live { live_refs clauses.new db.now.refs ≡ live_refs clauses.old db.now.refs }
 {

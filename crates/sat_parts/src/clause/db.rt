@@ -6,7 +6,7 @@ ghost use Rattle.sat_store.specs.clause.Buffer.{IsClause, Laid, Adds, header_at,
 ghost use Rattle.sat_store.specs.clause.Header.{index_of};
 ghost use Rattle.sat_parts.specs.clause.Db.{no_clauses, HoldsDb, live_refs, one_more, one_less, PutsHeader, AddsClause, DeletesClause, MovesClause, ShortensClause, IsAsserting};
 ghost use Rattle.sat_parts.specs.clause.Stored.{lit_of};
-ghost use Rattle.sat_parts.specs.prop.WatchLists.{with_clause};
+ghost use Rattle.sat_parts.specs.prop.WatchLists.{with_firsts};
 
 use crate::prop::assignment::Assignment;
 use crate::prop::graph::{ImplGraph, Reason};
@@ -132,7 +132,7 @@ fn store_clause(
     requires first { negated (slice_index_or lits.now 0 0) < length watchlists.old.lists }
     requires second { negated (slice_index_or lits.now 1 0) < length watchlists.old.lists }
     ensures added { IfOk result (λ cref. Adds clauses.old clauses.new cref header lits.now) }
-    ensures watched { IfOk result (λ cref. watchlists.new ≡ with_clause cref (slice_index_or lits.now 0 0) (slice_index_or lits.now 1 0) watchlists.old) }
+    ensures watched { IfOk result (λ cref. watchlists.new ≡ with_firsts cref lits.now watchlists.old) }
     ensures full { result ≡ Err StoreError.StoreFull → 2 ^ 32 - 1 < length clauses.old }
     ensures kept { OnErr result (clauses.new ≡ clauses.old) }
     ensures unwatched { OnErr result (watchlists.new ≡ watchlists.old) }
@@ -163,7 +163,7 @@ pub fn add_clause(
     requires first { negated (slice_index_or lits.now 0 0) < length watchlists.old.lists }
     requires second { negated (slice_index_or lits.now 1 0) < length watchlists.old.lists }
     ensures added { IfOk result (λ cref. AddsClause clauses.old db.old clauses.new db.new cref header lits.now) }
-    ensures watched { IfOk result (λ cref. watchlists.new ≡ with_clause cref (slice_index_or lits.now 0 0) (slice_index_or lits.now 1 0) watchlists.old) }
+    ensures watched { IfOk result (λ cref. watchlists.new ≡ with_firsts cref lits.now watchlists.old) }
     ensures full { (result ≡ Err StoreError.StoreFull) ↔ (2 ^ 32 - 1 < length clauses.old) }
     ensures same_words { OnErr result (clauses.new ≡ clauses.old) }
     ensures same_list { OnErr result (db.new ≡ db.old) }

@@ -5,8 +5,8 @@ ghost use Rattle.sat_base.specs.values.Literals.{variable};
 ghost use Rattle.sat_store.specs.clause.Buffer.{IsClause, Laid, Adds, header_at, lits_at};
 ghost use Rattle.sat_parts.specs.clause.Db.{HoldsDb, live_refs};
 ghost use Rattle.sat_parts.specs.clause.Stored.{lit_of, size_of};
-ghost use Rattle.sat_parts.specs.clause.Collected.{Copying, AreFirsts, AreFollowed, Collects, after_collection};
-ghost use Rattle.sat_parts.specs.prop.Graphs.{node_of, with_node};
+ghost use Rattle.sat_parts.specs.clause.Collected.{CopiesOne, Copying, AreFirsts, FollowsAll, Collects, AllStay, after_collection};
+ghost use Rattle.sat_parts.specs.prop.Graphs.{node_of, with_reason};
 
 use crate::clause::db::ClauseDb;
 use crate::prop::graph::{ImplGraph, Reason};
@@ -24,8 +24,7 @@ fn copy_one(
     refs: &mut Vec<ClauseRef>,
 ) -> Result<(), StoreError>
     requires { IsClause clauses.now cref }
-    ensures copied { OnOk result ((c : ℕ) × ((Adds to.old to.new c (header_at clauses.now cref) (lits_at clauses.now cref))
-        × (refs.new.items ≡ refs.old.items ++ c ∷ []))) }
+    ensures copied { OnOk result (CopiesOne clauses.now cref to.old refs.old.items to.new refs.new.items) }
     ensures room { length to.old ≤ cref → result ≡ Err StoreError.StoreFull → ⊥ }
 {
     let copy = to.copy_clause(clauses, cref)?;
@@ -63,7 +62,7 @@ fn copy_live(
 /// Makes a clause the reason of a literal in the place of another, where that is its reason.
 fn move_reason(graph: &mut ImplGraph, lit: Lit, from: ClauseRef, to: ClauseRef)
     ensures moved { (node_of graph.old (variable lit)).reason ≡ Reason.Long from →
-        graph.new ≡ with_node (variable lit) (record (node_of graph.old (variable lit)) { reason = Reason.Long to }) graph.old }
+        graph.new ≡ with_reason (variable lit) (Reason.Long to) graph.old }
     ensures kept { ((node_of graph.old (variable lit)).reason ≡ Reason.Long from → ⊥) → graph.new ≡ graph.old }
 {
     if lit.index() >= graph.nodes.len() {
@@ -90,7 +89,7 @@ fn move_reasons(
     requires size { length refs.now.items ≡ length (live_refs clauses.now db.now.refs) }
     requires low { (k : ℕ) → k < length refs.now.items → slice_index refs.now.items k ≤ slice_index (live_refs clauses.now db.now.refs) k }
     requires firsts { AreFirsts clauses.now (live_refs clauses.now db.now.refs) _trail.now.lits graph.old }
-    ensures { AreFollowed (live_refs clauses.now db.now.refs) refs.now.items _trail.now.lits (length (live_refs clauses.now db.now.refs)) graph.old graph.new }
+    ensures { FollowsAll (live_refs clauses.now db.now.refs) refs.now.items _trail.now.lits graph.old graph.new }
 {
     let mut next = 0;
     for at in 0..db.len() {
@@ -157,9 +156,9 @@ pub fn collect_garbage(
         OnOk result (Collects clauses.old db.old graph.old trail.now.lits clauses.new db.new graph.new) }
     ensures watches { length clauses.old / 2 < db.old.garbage → OnOk result (watchlists.new ≡ record watchlists.old { enabled = false }) }
     ensures not_due { db.old.garbage ≤ length clauses.old / 2 →
-        (clauses.new ≡ clauses.old) × (db.new ≡ db.old) × (graph.new ≡ graph.old) × (watchlists.new ≡ watchlists.old) }
+        AllStay clauses.old db.old graph.old watchlists.old clauses.new db.new graph.new watchlists.new }
     ensures room { result ≡ Err StoreError.StoreFull → ⊥ }
-    ensures same { OnErr result ((clauses.new ≡ clauses.old) × (db.new ≡ db.old) × (graph.new ≡ graph.old) × (watchlists.new ≡ watchlists.old)) }
+    ensures same { OnErr result (AllStay clauses.old db.old graph.old watchlists.old clauses.new db.new graph.new watchlists.new) }
 {
     if db.garbage_size() <= clauses.buffer_size() / 2 {
         return Ok(());

@@ -8,7 +8,7 @@ ghost use Rattle.sat_parts.specs.prop.Values.{IsFalseLit};
 ghost use Rattle.sat_parts.specs.prop.State.{HasLeft, level, current_level};
 ghost use Rattle.sat_parts.specs.prop.Reasons.{Moves};
 ghost use Rattle.sat_parts.specs.prop.Ready.{state_of, LongReady, IsConflict};
-ghost use Rattle.sat_parts.specs.prop.Walk.{Half, IsOther, Oriented, Visited, Walks, WalksLong};
+ghost use Rattle.sat_parts.specs.prop.Walk.{Half, IsOther, Oriented, VisitedIn, Walks, WalksLong};
 
 use crate::prop::assignment::Assignment;
 use crate::prop::graph::{Conflict, ImplGraph, Reason};
@@ -83,7 +83,7 @@ fn visit_clause(
     requires room { length watchlists.old.lists ≡ 2 * length assignment.now.current }
     requires falsified { IsFalseLit assignment.now.current false_lit }
     ensures shuffles { Shuffles clauses.old clauses.new cref }
-    ensures visited { IfOk result (λ r. Visited clauses.old clauses.new assignment.now.current watchlists.old.lists watchlists.new.lists cref false_lit r) }
+    ensures visited { IfOk result (λ r. VisitedIn clauses.old clauses.new assignment.now watchlists.old watchlists.new cref false_lit r) }
     ensures enabled { watchlists.new.enabled ≡ watchlists.old.enabled }
 {
     if !orient(clauses, cref, false_lit) {

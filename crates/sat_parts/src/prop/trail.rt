@@ -3,7 +3,7 @@ ghost use Rattle.std.specs.Prelude.{◌≡◌, ◌+◌, ◌-◌, ◌^◌, ◌<�
 ghost use Rattle.sat_base.specs.values.Literals.{largest, variable};
 ghost use Rattle.sat_parts.specs.prop.Values.{made_true, IsOpenLit};
 ghost use Rattle.sat_parts.specs.prop.Graphs.{node_at, with_node};
-ghost use Rattle.sat_parts.specs.prop.Trails.{IsTrail, no_trail, first_start, with_lit, with_level, with_cleared};
+ghost use Rattle.sat_parts.specs.prop.Trails.{IsTrail, PopsNext, no_trail, first_start, with_lit, with_level, with_cleared};
 ghost use Rattle.std.specs.Prelude.{ℕ, ◌⊎◌, slice_index, drop};
 ghost use Rattle.sat_parts.specs.prop.Trails.{cut_to};
 ghost use Rattle.sat_parts.specs.prop.Undone.{undone, undone_to, all_available, undone_lits};
@@ -77,7 +77,7 @@ impl Trail {
     /// Takes the next literal to be propagated off the queue. It stays on the trail.
     pub fn pop_queue(&mut self) -> Option<Lit>
         ensures none { IfNone result ((self.old.head ≡ length self.old.lits) × (self.new ≡ self.old)) }
-        ensures next { IfSome result (λ l. (slice_get self.old.lits self.old.head ≡ Some l) × (self.new ≡ record self.old { head = self.old.head + 1 })) }
+        ensures next { IfSome result (λ l. PopsNext self.old l self.new) }
     {
         if self.queue_head_pos == self.trail.len() {
             return None;

@@ -4,7 +4,7 @@ ghost use Rattle.sat_base.specs.values.Literals.{largest, negated};
 ghost use Rattle.sat_store.specs.clause.Buffer.{Laid};
 ghost use Rattle.sat_parts.specs.clause.Db.{live_refs};
 ghost use Rattle.sat_parts.specs.clause.Stored.{AreClauses};
-ghost use Rattle.sat_parts.specs.prop.Ready.{AreWatched};
+ghost use Rattle.sat_parts.specs.prop.Building.{WatchesLive};
 ghost use Rattle.sat_parts.specs.prop.WatchLists.{watches_of, no_watch, watch_on, with_watch, without_last, with_clause, with_lists};
 
 use crate::clause::db::ClauseDb;
@@ -271,7 +271,7 @@ pub fn enable_watchlists(
     requires clauses { AreClauses clauses.now (live_refs clauses.now db.now.refs) count }
     requires room { length watchlists.old.lists ≡ 2 * count }
     ensures kept { IsTrue watchlists.old.enabled → OnOk result (watchlists.new ≡ watchlists.old) }
-    ensures built { watchlists.old.enabled ≡ false → OnOk result (AreWatched clauses.now (live_refs clauses.now db.now.refs) watchlists.new.lists count) }
+    ensures built { watchlists.old.enabled ≡ false → OnOk result (WatchesLive clauses.now db.now.refs watchlists.new.lists count) }
     ensures enabled { OnOk result (watchlists.new.enabled ≡ true) }
 {
     if watchlists.enabled {
