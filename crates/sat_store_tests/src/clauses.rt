@@ -184,3 +184,110 @@ fn views_and_methods_by_index(rt: HostRuntime) {
         panic!(rt; "no memory");
     }
 }
+
+/// Copies a clause behind those of another buffer, and answers whether the copy is the same.
+fn is_copied(from: &ClauseAlloc, cref: ClauseRef, to: &mut ClauseAlloc) -> Result<bool, StoreError>
+    requires { IsClause from.now cref }
+{
+    let copy = to.copy_clause(from, cref)?;
+    let header = to.header(copy);
+    Ok(header.tier() == Tier::Core && header.glue() == 4 && reads(to, copy, &[1, -2, 3]))
+}
+
+fn copy_row(from: &mut ClauseAlloc, to: &mut ClauseAlloc) -> Result<bool, StoreError> {
+    let lits = [
+        Lit::from_index(0, true),
+        Lit::from_index(1, false),
+        Lit::from_index(2, true),
+    ];
+    let mut header = ClauseHeader::new();
+    header.set_tier(Tier::Core);
+    header.set_glue(4);
+    let cref = from.add_clause(header, &lits)?;
+    Ok(is_copied(from, cref, to)? && is_copied(from, cref, to)?)
+}
+
+#[test]
+fn clause_is_copied(rt: HostRuntime) {
+    let mut from = ClauseAlloc::new(rt.alloc());
+    let mut to = ClauseAlloc::new(rt.alloc());
+    assert!(rt; copy_row(&mut from, &mut to) == Ok(true));
+    assert!(rt; (from.buffer_size(), to.buffer_size()) == (6, 12));
+}
+
+/// The sizes of the buffer with two clauses, without the second, and without both.
+fn sizes(buffer: &mut ClauseAlloc) -> Result<[usize; 3], StoreError> {
+    let lits = [
+        Lit::from_index(0, true),
+        Lit::from_index(1, true),
+        Lit::from_index(2, true),
+    ];
+    let first = buffer.add_clause(ClauseHeader::new(), &lits)?;
+    let second = buffer.add_clause(ClauseHeader::new(), &lits)?;
+    let full = buffer.buffer_size();
+    buffer.truncate(second);
+    let one = buffer.buffer_size();
+    buffer.truncate(first);
+    Ok([full, one, buffer.buffer_size()])
+}
+
+#[test]
+fn last_clauses_are_taken_out(rt: HostRuntime) {
+    let mut buffer = ClauseAlloc::new(rt.alloc());
+    assert!(rt; sizes(&mut buffer) == Ok([12, 6, 0]));
+}
+
+/// Reads each field of a header through the view of the clause.
+fn view_fields(buffer: &mut ClauseAlloc, cref: ClauseRef) -> (Tier, [bool; 4], usize, u32)
+    requires { IsClause buffer.old cref }
+{
+    let clause = buffer.clause_mut(cref);
+    let flags = [
+        clause.deleted(),
+        clause.redundant(),
+        clause.mark(),
+        clause.active(),
+    ];
+    (clause.tier(), flags, clause.glue(), clause.activity())
+}
+
+fn view_row(buffer: &mut ClauseAlloc) -> Result<(Tier, [bool; 4], usize, u32), StoreError> {
+    let lits = [
+        Lit::from_index(0, true),
+        Lit::from_index(1, true),
+        Lit::from_index(2, true),
+    ];
+    let mut header = ClauseHeader::new();
+    header.set_tier(Tier::Mid);
+    header.set_active(true);
+    header.set_glue(9);
+    header.set_activity(7);
+    let cref = buffer.add_clause(header, &lits)?;
+    Ok(view_fields(buffer, cref))
+}
+
+#[test]
+fn fields_are_read_through_the_view(rt: HostRuntime) {
+    let mut buffer = ClauseAlloc::new(rt.alloc());
+    let wanted = (Tier::Mid, [false, true, false, true], 9, 7);
+    assert!(rt; view_row(&mut buffer) == Ok(wanted));
+}
+
+#[test]
+fn too_much_room_is_refused(rt: HostRuntime) {
+    assert!(rt; ClauseAlloc::with_capacity(rt.alloc(), 1 << 62).is_err());
+}
+
+#[test]
+fn errors_are_printed(rt: HostRuntime) -> Result<(), StoreError> {
+    for (error, text) in [
+        (StoreError::StoreFull, "no room for another clause"),
+        (StoreError::OutOfMemory, "out of memory"),
+    ] {
+        assert!(rt;
+            format!(in rt.alloc(); "{error}")?.as_str() == text,
+            "{text}"
+        );
+    }
+    Ok(())
+}
