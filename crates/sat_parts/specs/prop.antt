@@ -12,3 +12,4 @@ pub mod Building
 pub mod Undone
 pub mod Backtracked
 pub mod Implied
+pub mod Lending

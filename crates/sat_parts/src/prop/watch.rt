@@ -135,6 +135,9 @@ impl Model for Watchlists {
 }
 
 impl Watchlists {
+    ghost use Rattle.std.specs.Borrow.{sem};
+    ghost use Rattle.sat_parts.specs.prop.Lending.{LendsList};
+
     /// No literals, and lists that are kept up. Takes no memory.
     pub fn new(alloc: Global) -> Watchlists
         ensures lists { result.lists ≡ [] }
@@ -173,6 +176,15 @@ impl Watchlists {
         ensures { self.new ≡ record self.old { enabled = false } }
     {
         self.enabled = false;
+    }
+
+    /// The watches of a literal, to be changed.
+    pub fn watched_by_mut(&mut self, lit: Lit) -> &mut WatchList
+        requires { lit < length self.old.lists }
+        ensures value { result.now ≡ watches_of self.old.lists lit }
+        ensures* writes_back { sem 𝓛 (LendsList self.entry lit result) }
+    {
+        &mut self.watches[lit.code()]
     }
 
     /// Puts a watch behind those of a literal.
