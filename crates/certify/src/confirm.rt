@@ -6,6 +6,7 @@ ghost use Rattle.certify.specs.confirm.VerdictPromises.{HasTooMany, IsExact, IsS
 ghost use Rattle.certify.specs.confirm.Decides.{Decides};
 ghost use Rattle.certify.specs.confirm.ConfirmedCommands.{CountFromOne, ConfirmsEnd, DecidesRest};
 ghost use Rattle.certify.specs.confirm.CertificateSteps.{IsFed};
+ghost use Rattle.certify.specs.confirm.Views.{view, session_view};
 ghost use Rattle.sat_base.specs.script.Judge.{start};
 
 pub(crate) mod certificate;
@@ -25,7 +26,7 @@ use std::alloc::{AllocError, Global};
 /// Confirms what is left behind the commands.
 fn confirm_rest(session: &mut Confirmation<'_>, script: &Script) -> Result<Option<Why>, AllocError>
     requires { length script.now.0 < 2 ^ 64 - 1 }
-    ensures { IfOk result (ConfirmsEnd session.old (length script.now.0 + 1) script.now.1) }
+    ensures { IfOk result (ConfirmsEnd (session_view session.old) (length script.now.0 + 1) script.now.1) }
 {
     let number = script.len() as u64 + 1;
     session.confirm_end(number, script.is_malformed())
@@ -33,9 +34,10 @@ fn confirm_rest(session: &mut Confirmation<'_>, script: &Script) -> Result<Optio
 
 /// Confirms the commands of a script, one after another, and then its end.
 fn decide(session: &mut Confirmation<'_>, script: &Script) -> Result<Verdict, AllocError>
-    requires begun { IsFed session.old.certificate start [] }
+    requires begun { IsFed (view session.old.certificate) start [] }
     requires few { length script.now.0 < 2 ^ 64 - 1 }
-    ensures { IfOk result (λ verdict. AllByRecursion CountFromOne script.now.0 → DecidesRest verdict script.now session.old) }
+    ensures { IfOk result
+        (λ verdict. AllByRecursion CountFromOne script.now.0 → DecidesRest verdict script.now (session_view session.old)) }
 {
     for index in 0..script.len() {
         let command = script.command(index);

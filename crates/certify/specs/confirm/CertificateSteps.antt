@@ -13,116 +13,112 @@ use Rattle.certify.specs.confirm.Matches.{Expected, NewName, Opens, Fits, bringi
 use Rattle.certify.specs.confirm.ListChecking.{the_checking}
 use Rattle.certify.specs.checker.CheckerView.{Keeps}
 use Rattle.certify.specs.confirm.CertificatePlaces.{CanMeet, Leads, Bars, Skips, Stops, Offers, variable_in, IsPlain}
+use Rattle.certify.specs.confirm.Views.{View, place}
 use Rattle.certify.specs.declared.verdict.Why.{Why}
-use Rattle.certify.specs.declared.confirm.certificate.Certificate.{Certificate}
 use Rattle.certify.specs.declared.confirm.certificate.Awaited.{Awaited}
 use Rattle.certify.specs.declared.confirm.certificate.Awaited.TheVariants as awaited
 
 -- the checker was fed these steps, the names have the variables that they say, and as long as unsat isn't recorded just the names in use have one
-pub record IsFed (c : Certificate) (j : Judge) (earlier : List Step) : Type 0 where
+pub record IsFed (c : View) (j : Judge) (earlier : List Step) : Type 0 where
   pub keeps : Keeps c.checker (stored_after earlier)
-  pub named : variable_of earlier ≡ variable_in c.variables.items
+  pub named : variable_of earlier ≡ variable_in c.variables
   pub plain : IsPlain j
-  pub counted : (stored_after earlier).unsat ≡ false → j.first_unused ≡ length c.variables.items + 1
-
--- the bytes that are left of the certificate
-abbrev pub bytes_of : Certificate → List ℕ
-bytes_of c = c.source.rest
+  pub counted : (stored_after earlier).unsat ≡ false → j.first_unused ≡ length c.variables + 1
 
 -- just what is pending is met, and the judge comes from the one state to the other
-pub record Onward (old : Certificate) (earlier : List Step) (pending : List Expected) (next : Judge) (new : Certificate) : Type 0 where
+pub record Onward (old : View) (earlier : List Step) (pending : List Expected) (next : Judge) (new : View) : Type 0 where
   pub later : List Step
   pub stands : IsFed new next later
-  pub leads : Leads earlier (bytes_of old) pending later (bytes_of new)
+  pub leads : Leads earlier old.rest pending later new.rest
 
 -- What is pending is met, or can't be.
-abbrev pub MeetsPending : Certificate → Certificate → Judge → List Expected → Judge → Option Why → Type 0
+abbrev pub MeetsPending : View → View → Judge → List Expected → Judge → Option Why → Type 0
 MeetsPending old new j pending next None = (earlier : List Step) → IsFed old j earlier → Onward old earlier pending next new
-MeetsPending old new j pending next (Some why) = (earlier : List Step) → IsFed old j earlier → Bars earlier (bytes_of old) pending
+MeetsPending old new j pending next (Some why) = (earlier : List Step) → IsFed old j earlier → Bars earlier old.rest pending
 
 -- the next ordered step was read, and unsat isn't recorded
-pub record StepIsReady (old : Certificate) (j : Judge) (earlier : List Step) (new : Certificate) : Type 0 where
+pub record StepIsReady (old : View) (j : Judge) (earlier : List Step) (new : View) : Type 0 where
   pub later : List Step
   pub stands : IsFed new j later
   pub open_yet : (stored_after later).unsat ≡ false
-  pub offers : Offers earlier (bytes_of old) later new.source.step (bytes_of new)
+  pub offers : Offers earlier old.rest later new.step new.rest
 
 -- unsat is recorded before an ordered step came
-pub record UnsatIsRecorded (old : Certificate) (j : Judge) (earlier : List Step) (new : Certificate) : Type 0 where
+pub record UnsatIsRecorded (old : View) (j : Judge) (earlier : List Step) (new : View) : Type 0 where
   pub later : List Step
   pub stands : IsFed new j later
   pub closed : (stored_after later).unsat ≡ true
-  pub skips : Skips earlier (bytes_of old) later (bytes_of new)
+  pub skips : Skips earlier old.rest later new.rest
 
 -- what came where an ordered step is awaited
-abbrev pub Awaits : Certificate → Certificate → Awaited → Type 0
+abbrev pub Awaits : View → View → Awaited → Type 0
 Awaits old new awaited.Step = (j : Judge) (earlier : List Step) → IsFed old j earlier → StepIsReady old j earlier new
 Awaits old new awaited.Cut = (j : Judge) (earlier : List Step) → IsFed old j earlier → UnsatIsRecorded old j earlier new
-Awaits old new (awaited.No why) = (j : Judge) (earlier : List Step) → IsFed old j earlier → Stops earlier (bytes_of old)
+Awaits old new (awaited.No why) = (j : Judge) (earlier : List Step) → IsFed old j earlier → Stops earlier old.rest
 
 -- a step that nobody expects was taken
-pub record StepWasPassed (old : Certificate) (j : Judge) (earlier : List Step) (new : Certificate) : Type 0 where
+pub record StepWasPassed (old : View) (j : Judge) (earlier : List Step) (new : View) : Type 0 where
   pub later : List Step
   pub stands : IsFed new j later
-  pub skips : Skips earlier (bytes_of old) later (bytes_of new)
+  pub skips : Skips earlier old.rest later new.rest
 
 -- what one more step brought
-abbrev pub GoesOneStep : Certificate → Certificate → Option Awaited → Type 0
-GoesOneStep old new None = (length (bytes_of new) < length (bytes_of old)) × ((j : Judge) (earlier : List Step) → IsFed old j earlier → StepWasPassed old j earlier new)
+abbrev pub GoesOneStep : View → View → Option Awaited → Type 0
+GoesOneStep old new None = (length new.rest < length old.rest) × ((j : Judge) (earlier : List Step) → IsFed old j earlier → StepWasPassed old j earlier new)
 GoesOneStep old new (Some a) = Awaits old new a
 
 -- the step that was read is what the judge expects, or isn't
-abbrev pub ReadStepFits : Certificate → (Judge → Expected) → Option Why → Type 0
-ReadStepFits c e None = (j : Judge) (earlier : List Step) → IsFed c j earlier → (stored_after earlier).unsat ≡ false → Fits the_checking earlier (e j) c.source.step
-ReadStepFits c e (Some why) = (j : Judge) (earlier : List Step) → IsFed c j earlier → (stored_after earlier).unsat ≡ false → Fits the_checking earlier (e j) c.source.step → ⊥
+abbrev pub ReadStepFits : View → (Judge → Expected) → Option Why → Type 0
+ReadStepFits c e None = (j : Judge) (earlier : List Step) → IsFed c j earlier → (stored_after earlier).unsat ≡ false → Fits the_checking earlier (e j) c.step
+ReadStepFits c e (Some why) = (j : Judge) (earlier : List Step) → IsFed c j earlier → (stored_after earlier).unsat ≡ false → Fits the_checking earlier (e j) c.step → ⊥
 
 -- the step that was read puts the next name on a variable that isn't known, or doesn't
-abbrev pub NamesNext : Certificate → Result ℕ Why → Type 0
-NamesNext c (Ok v) = (c.source.step ≡ UserVarName v (Some (length c.variables.items)))
+abbrev pub NamesNext : View → Result ℕ Why → Type 0
+NamesNext c (Ok v) = (c.step ≡ UserVarName v (Some (length c.variables)))
     × ((j : Judge) (earlier : List Step) → IsFed c j earlier → is_known v (stored_after earlier) ≡ false)
-NamesNext c (Err why) = (j : Judge) (earlier : List Step) → IsFed c j earlier → (stored_after earlier).unsat ≡ false → Fits the_checking earlier (NewName j.first_unused) c.source.step → ⊥
+NamesNext c (Err why) = (j : Judge) (earlier : List Step) → IsFed c j earlier → (stored_after earlier).unsat ≡ false → Fits the_checking earlier (NewName j.first_unused) c.step → ⊥
 
 -- all but what a comparison uses stays
-pub record Stays (old new : Certificate) : Type 0 where
-  pub source : new.source ≡ old.source
+pub record Stays (old new : View) : Type 0 where
+  pub place : place new ≡ place old
   pub checker : new.checker ≡ old.checker
   pub variables : new.variables ≡ old.variables
 
 -- the step that was read is accepted, or isn't; it puts no name
-abbrev pub FeedsStep : Certificate → Certificate → Option Why → Type 0
-FeedsStep old new None = (bytes_of new ≡ bytes_of old)
+abbrev pub FeedsStep : View → View → Option Why → Type 0
+FeedsStep old new None = (new.rest ≡ old.rest)
     × ((j : Judge) (earlier : List Step) → IsFed old j earlier → (stored_after earlier).unsat ≡ false
-    → variable_of (old.source.step ∷ earlier) ≡ variable_of earlier
-    → Accepts (stored_after earlier) old.source.step × IsFed new j (old.source.step ∷ earlier))
-FeedsStep old new (Some why) = (j : Judge) (earlier : List Step) → IsFed old j earlier → Accepts (stored_after earlier) old.source.step → ⊥
+    → variable_of (old.step ∷ earlier) ≡ variable_of earlier
+    → Accepts (stored_after earlier) old.step × IsFed new j (old.step ∷ earlier))
+FeedsStep old new (Some why) = (j : Judge) (earlier : List Step) → IsFed old j earlier → Accepts (stored_after earlier) old.step → ⊥
 
 -- the step that was read puts the next name, and is accepted or isn't
-abbrev pub FeedsName : Certificate → Certificate → Option Why → Type 0
-FeedsName old new None = (bytes_of new ≡ bytes_of old)
+abbrev pub FeedsName : View → View → Option Why → Type 0
+FeedsName old new None = (new.rest ≡ old.rest)
     × ((j : Judge) (earlier : List Step) → IsFed old j earlier → (stored_after earlier).unsat ≡ false → j.first_unused ≤ largest
-    → Accepts (stored_after earlier) old.source.step × IsFed new (with_name j.first_unused j) (old.source.step ∷ earlier))
-FeedsName old new (Some why) = (j : Judge) (earlier : List Step) → IsFed old j earlier → Accepts (stored_after earlier) old.source.step → ⊥
+    → Accepts (stored_after earlier) old.step × IsFed new (with_name j.first_unused j) (old.step ∷ earlier))
+FeedsName old new (Some why) = (j : Judge) (earlier : List Step) → IsFed old j earlier → Accepts (stored_after earlier) old.step → ⊥
 
 -- Behind the assumptions of an ask: once unsat is recorded, it is the only answer.
-pub record AskIsOpen (old : Certificate) (earlier : List Step) (ask : List Literal) (j : Judge) (new : Certificate) : Type 0 where
+pub record AskIsOpen (old : View) (earlier : List Step) (ask : List Literal) (j : Judge) (new : View) : Type 0 where
   pub later : List Step
   pub stands : IsFed new j later
-  pub leads : (o : Outcome) → ((stored_after later).unsat ≡ true → o ≡ Unsat []) → Leads earlier (bytes_of old) (Opens ask o ∷ []) later (bytes_of new)
-  pub alone : (o : Outcome) (es : List Expected) → CanMeet earlier (Opens ask o ∷ es) (bytes_of old) → (stored_after later).unsat ≡ true → o ≡ Unsat []
+  pub leads : (o : Outcome) → ((stored_after later).unsat ≡ true → o ≡ Unsat []) → Leads earlier old.rest (Opens ask o ∷ []) later new.rest
+  pub alone : (o : Outcome) (es : List Expected) → CanMeet earlier (Opens ask o ∷ es) old.rest → (stored_after later).unsat ≡ true → o ≡ Unsat []
 
-abbrev pub OpensAsk : Certificate → Certificate → List Literal → Option Why → Type 0
+abbrev pub OpensAsk : View → View → List Literal → Option Why → Type 0
 OpensAsk old new ask None = (j : Judge) (earlier : List Step) → IsFed old j earlier → AskIsOpen old earlier ask j new
-OpensAsk old new ask (Some why) = (j : Judge) (earlier : List Step) → IsFed old j earlier → (o : Outcome) → Bars earlier (bytes_of old) (Opens ask o ∷ [])
+OpensAsk old new ask (Some why) = (j : Judge) (earlier : List Step) → IsFed old j earlier → (o : Outcome) → Bars earlier old.rest (Opens ask o ∷ [])
 
 -- the next name is put on a variable that isn't known, or can't be
-abbrev pub BringsNext : Certificate → Certificate → Option Why → Type 0
+abbrev pub BringsNext : View → View → Option Why → Type 0
 BringsNext old new why = (j : Judge) → j.first_unused ≤ largest
     → MeetsPending old new j (NewName j.first_unused ∷ []) (with_name j.first_unused j) why
 
 -- so are the names that come in with this one
-abbrev pub BringsName : Certificate → Certificate → ℕ → Option Why → Type 0
+abbrev pub BringsName : View → View → ℕ → Option Why → Type 0
 BringsName old new name why = (j : Judge) → IsName name → MeetsPending old new j (map NewName (new_names name j)) (bring_in name j) why
 
 -- and those that come in with literals
-abbrev pub BringsAll : Certificate → Certificate → List Literal → Option Why → Type 0
+abbrev pub BringsAll : View → View → List Literal → Option Why → Type 0
 BringsAll old new ls why = (j : Judge) → HaveNames ls → MeetsPending old new j (bringing (names_of ls) j) (bring_all (names_of ls) j) why

@@ -57,11 +57,12 @@ impl<'c> Certificate<'c> {
     ghost use Rattle.sat_base.specs.script.Script.{Literal as Spelled};
     ghost use Rattle.certify.specs.answers.Answers.{Outcome};
     ghost use Rattle.certify.specs.confirm.Matches.{Adds, Closes, Fails, Finish, Opens, showing_model};
-    ghost use Rattle.certify.specs.confirm.CertificateSteps.{IsFed, Stays, MeetsPending, Awaits, GoesOneStep, ReadStepFits, FeedsStep, NamesNext, FeedsName, OpensAsk, BringsNext, BringsName, BringsAll, bytes_of};
+    ghost use Rattle.certify.specs.confirm.CertificateSteps.{IsFed, Stays, MeetsPending, Awaits, GoesOneStep, ReadStepFits, FeedsStep, NamesNext, FeedsName, OpensAsk, BringsNext, BringsName, BringsAll};
+    ghost use Rattle.certify.specs.confirm.Views.{view};
 
     pub fn new(alloc: Global, bytes: &'c [u8]) -> Certificate<'c>
-        ensures stands { IsFed result start [] }
-        ensures bytes { bytes_of result ≡ bytes.now }
+        ensures stands { IsFed (view result) start [] }
+        ensures bytes { (view result).rest ≡ bytes.now }
     {
         Certificate {
             source: Source::new(alloc, bytes),
@@ -74,7 +75,7 @@ impl<'c> Certificate<'c> {
 
     /// Takes one step where an ordered one is awaited. None: it was another, and is fed.
     fn advance(&mut self) -> Result<Option<Awaited>, AllocError>
-        ensures { IfOk result (GoesOneStep self.old self.new) }
+        ensures { IfOk result (GoesOneStep (view self.old) (view self.new)) }
     {
         if self.checker.unsat() {
             return Ok(Some(Awaited::Cut));
@@ -94,7 +95,7 @@ impl<'c> Certificate<'c> {
 
     /// Feeds the other steps, up to the next ordered one.
     pub fn await_ordered(&mut self) -> Result<Awaited, AllocError>
-        ensures { IfOk result (Awaits self.old self.new) }
+        ensures { IfOk result (Awaits (view self.old) (view self.new)) }
     {
         loop {
             if let Some(awaited) = self.advance()? {
@@ -105,7 +106,7 @@ impl<'c> Certificate<'c> {
 
     /// Feeds the step that was read, where it puts no name.
     pub fn take(&mut self) -> Result<Option<Why>, AllocError>
-        ensures { IfOk result (FeedsStep self.old self.new) }
+        ensures { IfOk result (FeedsStep (view self.old) (view self.new)) }
     {
         if self.checker.step(&self.source.step())? {
             Ok(None)
@@ -116,7 +117,7 @@ impl<'c> Certificate<'c> {
 
     /// The variable that the step that was read puts the next name on.
     fn next_name(&self) -> Result<Var, Why>
-        ensures { NamesNext self.now result }
+        ensures { NamesNext (view self.now) result }
     {
         let ProofStep::UserVarName { global, user } = self.source.step() else {
             return Err(Why::StepOutOfPlace);
@@ -135,7 +136,7 @@ impl<'c> Certificate<'c> {
 
     /// Feeds the step that was read, which puts the next name on the variable.
     fn put_name(&mut self, variable: Var) -> Result<Option<Why>, AllocError>
-        ensures { IfOk result (λ why. NamesNext self.old (Ok variable) → FeedsName self.old self.new why) }
+        ensures { IfOk result (λ why. NamesNext (view self.old) (Ok variable) → FeedsName (view self.old) (view self.new) why) }
     {
         if self.checker.step(&self.source.step())? {
             self.variables.push(variable)?;
@@ -147,7 +148,7 @@ impl<'c> Certificate<'c> {
 
     /// Expects the next name on a variable that the checker doesn't know.
     fn expect_name(&mut self) -> Result<Option<Why>, AllocError>
-        ensures { IfOk result (BringsNext self.old self.new) }
+        ensures { IfOk result (BringsNext (view self.old) (view self.new)) }
     {
         match self.await_ordered()? {
             Awaited::Cut => return Ok(None),
@@ -162,7 +163,7 @@ impl<'c> Certificate<'c> {
 
     /// Expects the names that come in with this one, from 1 to 2^28.
     fn bring_name(&mut self, name: usize) -> Result<Option<Why>, AllocError>
-        ensures { IfOk result (BringsName self.old self.new name) }
+        ensures { IfOk result (BringsName (view self.old) (view self.new) name) }
     {
         if self.checker.unsat() {
             return Ok(None);
@@ -178,7 +179,7 @@ impl<'c> Certificate<'c> {
 
     /// Expects the names that come in with the literals.
     pub fn bring_in(&mut self, literals: &[Literal]) -> Result<Option<Why>, AllocError>
-        ensures { IfOk result (BringsAll self.old self.new literals.now) }
+        ensures { IfOk result (BringsAll (view self.old) (view self.new) literals.now) }
     {
         for literal in literals {
             if let Some(why) = self.bring_name(literal.name as usize)? {
@@ -189,8 +190,8 @@ impl<'c> Certificate<'c> {
     }
 
     fn adds(&mut self, literals: &[Literal]) -> Result<Option<Why>, AllocError>
-        ensures fits { IfOk result (ReadStepFits self.new (λ _. Adds literals.now)) }
-        ensures stays { Stays self.old self.new }
+        ensures fits { IfOk result (ReadStepFits (view self.new) (λ _. Adds literals.now)) }
+        ensures stays { Stays (view self.old) (view self.new) }
     {
         let ProofStep::AddClause { clause } = self.source.step() else {
             return Ok(Some(Why::StepOutOfPlace));
@@ -210,7 +211,7 @@ impl<'c> Certificate<'c> {
 
     /// Expects a clause of these literals.
     pub fn expect_clause(&mut self, literals: &[Literal]) -> Result<Option<Why>, AllocError>
-        ensures { IfOk result (λ why. (j : Judge) → MeetsPending self.old self.new j (Adds literals.now ∷ []) j why) }
+        ensures { IfOk result (λ why. (j : Judge) → MeetsPending (view self.old) (view self.new) j (Adds literals.now ∷ []) j why) }
     {
         match self.await_ordered()? {
             Awaited::Cut => return Ok(None),
@@ -224,8 +225,8 @@ impl<'c> Certificate<'c> {
     }
 
     fn opens(&mut self, literals: &[Literal]) -> Result<Option<Why>, AllocError>
-        ensures fits { IfOk result (λ why. (o : Outcome) → ReadStepFits self.new (λ _. Opens literals.now o) why) }
-        ensures stays { Stays self.old self.new }
+        ensures fits { IfOk result (λ why. (o : Outcome) → ReadStepFits (view self.new) (λ _. Opens literals.now o) why) }
+        ensures stays { Stays (view self.old) (view self.new) }
     {
         let ProofStep::Assumptions { assumptions } = self.source.step() else {
             return Ok(Some(Why::StepOutOfPlace));
@@ -245,7 +246,7 @@ impl<'c> Certificate<'c> {
 
     /// Expects the assumptions of an ask.
     pub fn expect_ask(&mut self, literals: &[Literal]) -> Result<Option<Why>, AllocError>
-        ensures { IfOk result (OpensAsk self.old self.new literals.now) }
+        ensures { IfOk result (OpensAsk (view self.old) (view self.new) literals.now) }
     {
         match self.await_ordered()? {
             Awaited::Cut => return Ok(None),
@@ -259,8 +260,8 @@ impl<'c> Certificate<'c> {
     }
 
     fn shows(&mut self, ask: &[Literal], line: &[Literal]) -> Result<Option<Why>, AllocError>
-        ensures fits { IfOk result (ReadStepFits self.new (λ j. showing_model j ask.now line.now)) }
-        ensures stays { Stays self.old self.new }
+        ensures fits { IfOk result (ReadStepFits (view self.new) (λ j. showing_model j ask.now line.now)) }
+        ensures stays { Stays (view self.old) (view self.new) }
     {
         let ProofStep::Model { assignment } = self.source.step() else {
             return Ok(Some(Why::StepOutOfPlace));
@@ -288,7 +289,8 @@ impl<'c> Certificate<'c> {
         ask: &[Literal],
         line: &[Literal],
     ) -> Result<Option<Why>, AllocError>
-        ensures { IfOk result (λ why. (j : Judge) → MeetsPending self.old self.new j (showing_model j ask.now line.now ∷ []) j why) }
+        ensures { IfOk result
+            (λ why. (j : Judge) → MeetsPending (view self.old) (view self.new) j (showing_model j ask.now line.now ∷ []) j why) }
     {
         match self.await_ordered()? {
             Awaited::Cut => return Ok(Some(Why::AnswerDiffers)),
@@ -302,8 +304,8 @@ impl<'c> Certificate<'c> {
     }
 
     fn fails(&mut self, core: &[Literal]) -> Result<Option<Why>, AllocError>
-        ensures fits { IfOk result (λ why. (ask : List Spelled) → ReadStepFits self.new (λ _. Fails ask core.now) why) }
-        ensures stays { Stays self.old self.new }
+        ensures fits { IfOk result (λ why. (ask : List Spelled) → ReadStepFits (view self.new) (λ _. Fails ask core.now) why) }
+        ensures stays { Stays (view self.old) (view self.new) }
     {
         let ProofStep::FailedAssumptions { failed_core, .. } = self.source.step() else {
             return Ok(Some(Why::StepOutOfPlace));
@@ -323,7 +325,8 @@ impl<'c> Certificate<'c> {
 
     /// Expects that this core fails. Where `unsat` is recorded only the empty one does.
     pub fn expect_core(&mut self, core: &[Literal]) -> Result<Option<Why>, AllocError>
-        ensures { IfOk result (λ why. (j : Judge) (ask : List Spelled) → MeetsPending self.old self.new j (Fails ask core.now ∷ []) j why) }
+        ensures { IfOk result
+            (λ why. (j : Judge) (ask : List Spelled) → MeetsPending (view self.old) (view self.new) j (Fails ask core.now ∷ []) j why) }
     {
         match self.await_ordered()? {
             Awaited::Cut => {
@@ -342,7 +345,7 @@ impl<'c> Certificate<'c> {
     }
 
     fn closes(&self) -> Option<Why>
-        ensures { ReadStepFits self.now (λ _. Closes) result }
+        ensures { ReadStepFits (view self.now) (λ _. Closes) result }
     {
         match self.source.step() {
             ProofStep::Assumptions { assumptions } => {
@@ -358,7 +361,7 @@ impl<'c> Certificate<'c> {
 
     /// Expects the end of an ask: assumptions without literals.
     pub fn close(&mut self) -> Result<Option<Why>, AllocError>
-        ensures { IfOk result (λ why. (j : Judge) → MeetsPending self.old self.new j (Closes ∷ []) j why) }
+        ensures { IfOk result (λ why. (j : Judge) → MeetsPending (view self.old) (view self.new) j (Closes ∷ []) j why) }
     {
         match self.await_ordered()? {
             Awaited::Cut => return Ok(None),
@@ -372,7 +375,7 @@ impl<'c> Certificate<'c> {
     }
 
     fn finishes(&self) -> Option<Why>
-        ensures { ReadStepFits self.now (λ _. Finish) result }
+        ensures { ReadStepFits (view self.now) (λ _. Finish) result }
     {
         match self.source.step() {
             ProofStep::End => None,
@@ -382,7 +385,7 @@ impl<'c> Certificate<'c> {
 
     /// Expects the end of the certificate.
     pub fn finish(&mut self) -> Result<Option<Why>, AllocError>
-        ensures { IfOk result (λ why. (j : Judge) → MeetsPending self.old self.new j (Finish ∷ []) j why) }
+        ensures { IfOk result (λ why. (j : Judge) → MeetsPending (view self.old) (view self.new) j (Finish ∷ []) j why) }
     {
         match self.await_ordered()? {
             Awaited::Cut => return Ok(None),

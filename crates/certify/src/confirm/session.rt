@@ -70,12 +70,13 @@ impl<'a> Confirmation<'a> {
     ghost use Rattle.sat_base.specs.script.Judge.{start};
     ghost use Rattle.sat_base.specs.script.Script.{Clause, Ask, Clean, Malformed};
     ghost use Rattle.certify.specs.script.ScriptParts.{end_of, shown};
-    ghost use Rattle.certify.specs.confirm.CertificateSteps.{IsFed, bytes_of};
+    ghost use Rattle.certify.specs.confirm.CertificateSteps.{IsFed};
+    ghost use Rattle.certify.specs.confirm.Views.{view, session_view};
     ghost use Rattle.certify.specs.confirm.ConfirmedCommands.{TakesLine, ReadsAnswer, ShowsOutcome, ConfirmsCommand, ConfirmsEnd};
 
     pub fn new(alloc: Global, answers: &'a [u8], certificate: &'a [u8]) -> Confirmation<'a>
-        ensures stands { IsFed result.certificate start [] }
-        ensures bytes { bytes_of result.certificate ≡ certificate.now }
+        ensures stands { IsFed (view result.certificate) start [] }
+        ensures bytes { (view result.certificate).rest ≡ certificate.now }
         ensures answers { result.answers.now ≡ answers.now }
     {
         Confirmation {
@@ -90,7 +91,7 @@ impl<'a> Confirmation<'a> {
 
     /// Takes the line that is due.
     fn take_line(&mut self) -> Option<Why>
-        ensures { TakesLine self.old self.new self.old.text.items result }
+        ensures { TakesLine (session_view self.old) (session_view self.new) self.old.text.items result }
     {
         match take_text(self.answers, &self.text) {
             Some(rest) => {
@@ -109,7 +110,7 @@ impl<'a> Confirmation<'a> {
 
     /// Expects the line that refuses the command of this number.
     fn refuse(&mut self, number: u64) -> Result<Option<Why>, AllocError>
-        ensures { IfOk result (TakesLine self.old self.new (refused_line number PastLimit)) }
+        ensures { IfOk result (TakesLine (session_view self.old) (session_view self.new) (refused_line number PastLimit)) }
     {
         self.text.clear();
         push_refused_limit(&mut self.text, number)?;
@@ -118,7 +119,7 @@ impl<'a> Confirmation<'a> {
 
     /// Expects the last line of the answers to a malformed text.
     fn refuse_rest(&mut self, number: u64) -> Result<Option<Why>, AllocError>
-        ensures { IfOk result (TakesLine self.old self.new (malformed_line number)) }
+        ensures { IfOk result (TakesLine (session_view self.old) (session_view self.new) (malformed_line number)) }
     {
         self.text.clear();
         push_malformed(&mut self.text, number)?;
@@ -127,7 +128,7 @@ impl<'a> Confirmation<'a> {
 
     /// Reads an answer, with its line. Where `unsat` is recorded there is only one.
     fn read_answer(&mut self) -> Result<Result<AnswerKind, Why>, AllocError>
-        ensures answer { IfOk result (ReadsAnswer self.old self.new) }
+        ensures answer { IfOk result (ReadsAnswer (session_view self.old) (session_view self.new)) }
         ensures kept { self.new.certificate ≡ self.old.certificate }
     {
         let (kind, behind) = match read_kind(self.answers) {
@@ -152,7 +153,7 @@ impl<'a> Confirmation<'a> {
 
     /// Expects what shows the answer.
     fn show(&mut self, kind: AnswerKind, ask: &[Literal]) -> Result<Option<Why>, AllocError>
-        ensures shows { IfOk result (ShowsOutcome self.old self.new kind ask.now) }
+        ensures shows { IfOk result (ShowsOutcome (session_view self.old) (session_view self.new) kind ask.now) }
         ensures kept { self.new.answers.now ≡ self.old.answers.now }
     {
         match kind {
@@ -164,7 +165,8 @@ impl<'a> Confirmation<'a> {
 
     fn confirm_clause(&mut self, literals: &[Literal]) -> Result<Option<Why>, AllocError>
         requires { refused_name (names_of literals.now) ≡ None }
-        ensures { IfOk result (λ why. (n : ℕ) → ConfirmsCommand self.old self.new n (Clause literals.now) why) }
+        ensures { IfOk result
+            (λ why. (n : ℕ) → ConfirmsCommand (session_view self.old) (session_view self.new) n (Clause literals.now) why) }
     {
         if let Some(why) = self.certificate.bring_in(literals)? {
             return Ok(Some(why));
@@ -174,7 +176,7 @@ impl<'a> Confirmation<'a> {
 
     fn confirm_ask(&mut self, literals: &[Literal]) -> Result<Option<Why>, AllocError>
         requires { refused_name (names_of literals.now) ≡ None }
-        ensures { IfOk result (λ why. (n : ℕ) → ConfirmsCommand self.old self.new n (Ask literals.now) why) }
+        ensures { IfOk result (λ why. (n : ℕ) → ConfirmsCommand (session_view self.old) (session_view self.new) n (Ask literals.now) why) }
     {
         if let Some(why) = self.certificate.bring_in(literals)? {
             return Ok(Some(why));
@@ -202,7 +204,7 @@ impl<'a> Confirmation<'a> {
         number: u64,
         literals: &[Literal],
     ) -> Result<Option<Why>, AllocError>
-        ensures { IfOk result (ConfirmsCommand self.old self.new number (Clause literals.now)) }
+        ensures { IfOk result (ConfirmsCommand (session_view self.old) (session_view self.new) number (Clause literals.now)) }
     {
         if is_refused(literals) {
             return self.refuse(number);
@@ -211,7 +213,7 @@ impl<'a> Confirmation<'a> {
     }
 
     fn ask_command(&mut self, number: u64, literals: &[Literal]) -> Result<Option<Why>, AllocError>
-        ensures { IfOk result (ConfirmsCommand self.old self.new number (Ask literals.now)) }
+        ensures { IfOk result (ConfirmsCommand (session_view self.old) (session_view self.new) number (Ask literals.now)) }
     {
         if is_refused(literals) {
             return self.refuse(number);
@@ -225,7 +227,7 @@ impl<'a> Confirmation<'a> {
         number: u64,
         command: Command<'_>,
     ) -> Result<Option<Why>, AllocError>
-        ensures { IfOk result (ConfirmsCommand self.old self.new number (shown command.entry)) }
+        ensures { IfOk result (ConfirmsCommand (session_view self.old) (session_view self.new) number (shown command.entry)) }
     {
         match command {
             Command::Clause(literals) => self.clause_command(number, literals),
@@ -235,7 +237,7 @@ impl<'a> Confirmation<'a> {
 
     /// Confirms that nothing is left but the end of the certificate.
     fn confirm_over(&mut self) -> Result<Option<Why>, AllocError>
-        ensures { IfOk result (λ why. (n : ℕ) → ConfirmsEnd self.old n Clean why) }
+        ensures { IfOk result (λ why. (n : ℕ) → ConfirmsEnd (session_view self.old) n Clean why) }
     {
         if let Some(why) = self.certificate.finish()? {
             return Ok(Some(why));
@@ -248,7 +250,7 @@ impl<'a> Confirmation<'a> {
     }
 
     fn confirm_malformed(&mut self, number: u64) -> Result<Option<Why>, AllocError>
-        ensures { IfOk result (ConfirmsEnd self.old number Malformed) }
+        ensures { IfOk result (ConfirmsEnd (session_view self.old) number Malformed) }
     {
         if let Some(why) = self.refuse_rest(number)? {
             return Ok(Some(why));
@@ -258,7 +260,7 @@ impl<'a> Confirmation<'a> {
 
     /// Confirms what is left behind the commands; the number is that of a further one.
     pub fn confirm_end(&mut self, number: u64, malformed: bool) -> Result<Option<Why>, AllocError>
-        ensures { IfOk result (ConfirmsEnd self.old number (end_of malformed)) }
+        ensures { IfOk result (ConfirmsEnd (session_view self.old) number (end_of malformed)) }
     {
         if malformed {
             self.confirm_malformed(number)

@@ -12,10 +12,10 @@ use Rattle.certify.specs.confirm.ListChecking.{the_checking}
 use Rattle.certify.specs.checker.CheckerView.{Keeps, DecidesStep}
 use Rattle.certify.specs.confirm.CertificatePlaces.{Leads, Offers, variable_in}
 use Rattle.certify.specs.confirm.ReadSteps.{Place, ReadsStep, ReadsNext}
-use Rattle.certify.specs.confirm.CertificateSteps.{IsFed, Stays, MeetsPending, StepWasPassed, Awaits, GoesOneStep, ReadStepFits, FeedsStep, bytes_of}
+use Rattle.certify.specs.confirm.CertificateSteps.{IsFed, Stays, MeetsPending, StepWasPassed, Awaits, GoesOneStep, ReadStepFits, FeedsStep}
+use Rattle.certify.specs.confirm.Views.{View, place}
 use Rattle.certify.specs.declared.checker.Checker.{Checker}
 use Rattle.certify.specs.declared.verdict.Why.{Why}
-use Rattle.certify.specs.declared.confirm.certificate.Certificate.{Certificate}
 use Rattle.certify.specs.declared.confirm.certificate.Awaited.{Awaited}
 use Rattle.certify.specs.declared.confirm.certificate.Awaited.TheVariants as awaited
 use Rattle.certify.proofs.lemmas.confirm.CertificatePlaces.{no_step, skips_step, stops_at_step, offers_step, skips_none, skips_on, skips_stop, skips_offer, leads_step, bars_unfit, bars_refused, bars_stop, leads_skip, bars_skip}
@@ -46,58 +46,58 @@ unordered_names (FailedAssumptions core hashes) earlier h = refl
 unordered_names End earlier h = refl
 
 -- what a round that ends brings
-module _ (old : Certificate) (new : Certificate) where
+module _ (old : View) (new : View) where
   -- unsat is recorded
   pub is_cut : (unsat : Bool) → unsat ≡ true → ((f : Stored) → Keeps old.checker f → unsat ≡ f.unsat) → Awaits old old awaited.Cut
-  is_cut unsat is h j earlier s = record { later = earlier; stands = s; closed = sym (h (stored_after earlier) s.keeps) ∙ is; skips = skips_none earlier (bytes_of old) }
+  is_cut unsat is h j earlier s = record { later = earlier; stands = s; closed = sym (h (stored_after earlier) s.keeps) ∙ is; skips = skips_none earlier old.rest }
 
   -- no step stands there
-  pub is_none : (why : Why) (unsat : Bool) → unsat ≡ false → ((f : Stored) → Keeps old.checker f → unsat ≡ f.unsat) → (fault : Option Why) → fault ≡ Some why → ReadsNext fault old.source new.source → Awaits old new (awaited.No why)
-  is_none why unsat is h fault e r j earlier s = no_step earlier (bytes_of old) (sym (h (stored_after earlier) s.keeps) ∙ is) (subst (λ x. ReadsNext x old.source new.source) e r)
+  pub is_none : (why : Why) (unsat : Bool) → unsat ≡ false → ((f : Stored) → Keeps old.checker f → unsat ≡ f.unsat) → (fault : Option Why) → fault ≡ Some why → ReadsNext fault (place old) (place new) → Awaits old new (awaited.No why)
+  is_none why unsat is h fault e r j earlier s = no_step earlier old.rest (sym (h (stored_after earlier) s.keeps) ∙ is) (subst (λ x. ReadsNext x (place old) (place new)) e r)
 
   -- an ordered step stands there
-  pub is_step : (unsat : Bool) → unsat ≡ false → ((f : Stored) → Keeps old.checker f → unsat ≡ f.unsat) → ReadsStep old.source new.source → is_ordered new.source.step ≡ true
+  pub is_step : (unsat : Bool) → unsat ≡ false → ((f : Stored) → Keeps old.checker f → unsat ≡ f.unsat) → ReadsStep (place old) (place new) → is_ordered new.step ≡ true
       → new.checker ≡ old.checker → new.variables ≡ old.variables → Awaits old new awaited.Step
   is_step unsat is h r o k v j earlier s =
       let open_yet = sym (h (stored_after earlier) s.keeps) ∙ is in
       record {
         later = earlier;
-        stands = record { keeps = subst (λ x. Keeps x (stored_after earlier)) (sym k) s.keeps; named = s.named ∙ ap (λ x. variable_in x.items) (sym v); plain = s.plain; counted = λ u. s.counted u ∙ ap (λ x. length x.items + 1) (sym v) };
+        stands = record { keeps = subst (λ x. Keeps x (stored_after earlier)) (sym k) s.keeps; named = s.named ∙ ap variable_in (sym v); plain = s.plain; counted = λ u. s.counted u ∙ ap (λ x. length x + 1) (sym v) };
         open_yet = open_yet;
-        offers = offers_step one_step earlier new.source.step (bytes_of old) r.text (bytes_of new) open_yet r.front r.spelt o;
+        offers = offers_step one_step earlier new.step old.rest r.text new.rest open_yet r.front r.spelt o;
       }
 
   -- another one stands there
-  pub is_passed : (unsat : Bool) → unsat ≡ false → ((f : Stored) → Keeps old.checker f → unsat ≡ f.unsat) → ReadsStep old.source new.source → is_ordered new.source.step ≡ false
-      → DecidesStep old.checker new.source.step new.checker true → new.variables ≡ old.variables → GoesOneStep old new None
+  pub is_passed : (unsat : Bool) → unsat ≡ false → ((f : Stored) → Keeps old.checker f → unsat ≡ f.unsat) → ReadsStep (place old) (place new) → is_ordered new.step ≡ false
+      → DecidesStep old.checker new.step new.checker true → new.variables ≡ old.variables → GoesOneStep old new None
   is_passed unsat is h r o a v = (
     shorter r,
     (λ j earlier s.
         let open_yet = sym (h (stored_after earlier) s.keeps) ∙ is in
         let fed = a (stored_after earlier) s.keeps in
         record {
-          later = new.source.step ∷ earlier;
-          stands = record { keeps = fed.1; named = unordered_names new.source.step earlier o ∙ s.named ∙ ap (λ x. variable_in x.items) (sym v); plain = s.plain; counted = λ u. s.counted open_yet ∙ ap (λ x. length x.items + 1) (sym v) };
-          skips = skips_step one_step earlier new.source.step (bytes_of old) r.text (bytes_of new) open_yet r.front r.spelt o fed.0;
+          later = new.step ∷ earlier;
+          stands = record { keeps = fed.1; named = unordered_names new.step earlier o ∙ s.named ∙ ap variable_in (sym v); plain = s.plain; counted = λ u. s.counted open_yet ∙ ap (λ x. length x + 1) (sym v) };
+          skips = skips_step one_step earlier new.step old.rest r.text new.rest open_yet r.front r.spelt o fed.0;
         }),
   )
 
   -- it is refused
-  pub is_refused : (why : Why) (mid : Certificate) (unsat : Bool) → unsat ≡ false → ((f : Stored) → Keeps old.checker f → unsat ≡ f.unsat) → ReadsStep old.source mid.source → is_ordered mid.source.step ≡ false
-      → DecidesStep old.checker mid.source.step new.checker false → Awaits old new (awaited.No why)
+  pub is_refused : (why : Why) (mid : View) (unsat : Bool) → unsat ≡ false → ((f : Stored) → Keeps old.checker f → unsat ≡ f.unsat) → ReadsStep (place old) (place mid) → is_ordered mid.step ≡ false
+      → DecidesStep old.checker mid.step new.checker false → Awaits old new (awaited.No why)
   is_refused why mid unsat is h r o a j earlier s =
       let open_yet = sym (h (stored_after earlier) s.keeps) ∙ is in
-      stops_at_step one_step earlier mid.source.step (bytes_of old) r.text (bytes_of mid) open_yet r.front r.spelt o (a (stored_after earlier) s.keeps)
+      stops_at_step one_step earlier mid.step old.rest r.text mid.rest open_yet r.front r.spelt o (a (stored_after earlier) s.keeps)
 
 -- rounds follow one another
-pub pass_on : (first old new : Certificate) (given : Option Awaited) → given ≡ None → ((j : Judge) (earlier : List Step) → IsFed first j earlier → StepWasPassed first j earlier old) → GoesOneStep old new given
+pub pass_on : (first old new : View) (given : Option Awaited) → given ≡ None → ((j : Judge) (earlier : List Step) → IsFed first j earlier → StepWasPassed first j earlier old) → GoesOneStep old new given
     → (j : Judge) (earlier : List Step) → IsFed first j earlier → StepWasPassed first j earlier new
 pass_on first old new given e p a j earlier s =
     let h = p j earlier s in
     let k = (subst (GoesOneStep old new) e a).1 j h.later h.stands in
     record { later = k.later; stands = k.stands; skips = skips_on h.skips k.skips }
 
-pub pass_end : (first old new : Certificate) (given : Option Awaited) (a : Awaited) → given ≡ Some a → ((j : Judge) (earlier : List Step) → IsFed first j earlier → StepWasPassed first j earlier old) → GoesOneStep old new given → Awaits first new a
+pub pass_end : (first old new : View) (given : Option Awaited) (a : Awaited) → given ≡ Some a → ((j : Judge) (earlier : List Step) → IsFed first j earlier → StepWasPassed first j earlier old) → GoesOneStep old new given → Awaits first new a
 pass_end first old new given a e p h = go a (subst (GoesOneStep old new) e h)
   where
     go : (a : Awaited) → Awaits old new a → Awaits first new a
@@ -106,31 +106,31 @@ pass_end first old new given a e p h = go a (subst (GoesOneStep old new) e h)
     go (awaited.No why) h = λ j earlier s. let x = p j earlier s in skips_stop x.skips (h j x.later x.stands)
 
 -- a comparison leaves what was awaited
-stands_stay : (old new : Certificate) (j : Judge) (earlier : List Step) → Stays old new → IsFed old j earlier → IsFed new j earlier
+stands_stay : (old new : View) (j : Judge) (earlier : List Step) → Stays old new → IsFed old j earlier → IsFed new j earlier
 stands_stay old new j earlier k s = record {
   keeps = subst (λ x. Keeps x (stored_after earlier)) (sym k.checker) s.keeps;
-  named = s.named ∙ ap (λ x. variable_in x.items) (sym k.variables);
+  named = s.named ∙ ap variable_in (sym k.variables);
   plain = s.plain;
-  counted = λ u. s.counted u ∙ ap (λ x. length x.items + 1) (sym k.variables);
+  counted = λ u. s.counted u ∙ ap (λ x. length x + 1) (sym k.variables);
 }
 
-pub step_stays : (first old new : Certificate) (a : Awaited) → a ≡ awaited.Step → Stays old new → Awaits first old a → Awaits first new awaited.Step
+pub step_stays : (first old new : View) (a : Awaited) → a ≡ awaited.Step → Stays old new → Awaits first old a → Awaits first new awaited.Step
 step_stays first old new a is k h j earlier s =
     let y = subst (Awaits first old) is h j earlier s in
     record {
       later = y.later;
       stands = stands_stay old new j y.later k y.stands;
       open_yet = y.open_yet;
-      offers = subst (λ x. Offers earlier (bytes_of first) y.later x.step x.rest) (sym k.source) y.offers;
+      offers = subst (λ x. Offers earlier first.rest y.later x.step x.rest) (sym k.place) y.offers;
     }
 
 -- the step that was read is fed
-pub fed_step : (old new : Certificate) → DecidesStep old.checker old.source.step new.checker true → new.source ≡ old.source → new.variables ≡ old.variables → FeedsStep old new None
+pub fed_step : (old new : View) → DecidesStep old.checker old.step new.checker true → new.rest ≡ old.rest → new.variables ≡ old.variables → FeedsStep old new None
 fed_step old new a b v = (
-  ap (λ x. x.rest) b,
+  b,
   (λ j earlier s open_yet same.
       let fed = a (stored_after earlier) s.keeps in
-      (fed.0, record { keeps = fed.1; named = same ∙ s.named ∙ ap (λ x. variable_in x.items) (sym v); plain = s.plain; counted = λ u. s.counted open_yet ∙ ap (λ x. length x.items + 1) (sym v) })),
+      (fed.0, record { keeps = fed.1; named = same ∙ s.named ∙ ap variable_in (sym v); plain = s.plain; counted = λ u. s.counted open_yet ∙ ap (λ x. length x + 1) (sym v) })),
 )
 
 -- the checker's answer to the step that was read
@@ -165,23 +165,23 @@ nameless earlier e step h closes = refl
 nameless earlier e step h finish = refl
 
 -- an ordered step is awaited, and this is expected
-module _ (e : Judge → Expected) (old mid : Certificate) (a : Awaited) (given : Awaits old mid a) where
+module _ (e : Judge → Expected) (old mid : View) (a : Awaited) (given : Awaits old mid a) where
   pub cut_goes : (j : Judge) → a ≡ awaited.Cut → Excused (e j) → MeetsPending old mid j (e j ∷ []) j None
   cut_goes j is x earlier s = let h = subst (Awaits old mid) is given j earlier s in record { later = h.later; stands = h.stands; leads = leads_skip (e j) h.skips h.closed x }
 
-  pub cut_bars : (j next : Judge) (new : Certificate) (why : Why) → a ≡ awaited.Cut → (Excused (e j) → ⊥) → MeetsPending old new j (e j ∷ []) next (Some why)
+  pub cut_bars : (j next : Judge) (new : View) (why : Why) → a ≡ awaited.Cut → (Excused (e j) → ⊥) → MeetsPending old new j (e j ∷ []) next (Some why)
   cut_bars j next new why is x earlier s = let h = subst (Awaits old mid) is given j earlier s in bars_skip (e j) h.skips h.closed x
 
-  pub none_goes : (j next : Judge) (new : Certificate) (why : Why) → a ≡ awaited.No why → MeetsPending old new j (e j ∷ []) next (Some why)
+  pub none_goes : (j next : Judge) (new : View) (why : Why) → a ≡ awaited.No why → MeetsPending old new j (e j ∷ []) next (Some why)
   none_goes j next new why is earlier s = bars_stop (e j) (subst (Awaits old mid) is given j earlier s)
 
-  pub unfit_goes : (j next : Judge) (new : Certificate) (why : Why) (fit : Option Why) → a ≡ awaited.Step → fit ≡ Some why → ReadStepFits mid e fit → MeetsPending old new j (e j ∷ []) next (Some why)
+  pub unfit_goes : (j next : Judge) (new : View) (why : Why) (fit : Option Why) → a ≡ awaited.Step → fit ≡ Some why → ReadStepFits mid e fit → MeetsPending old new j (e j ∷ []) next (Some why)
   unfit_goes j next new why fit is e2 f earlier s = let h = subst (Awaits old mid) is given j earlier s in bars_unfit (e j) h.offers (subst (ReadStepFits mid e) e2 f j h.later h.stands h.open_yet)
 
-  pub take_goes : (j : Judge) (new : Certificate) (fit taken : Option Why) → a ≡ awaited.Step → fit ≡ None → ReadStepFits mid e fit → FeedsStep mid new taken → is_nameless (e j) ≡ true → MeetsPending old new j (e j ∷ []) j taken
+  pub take_goes : (j : Judge) (new : View) (fit taken : Option Why) → a ≡ awaited.Step → fit ≡ None → ReadStepFits mid e fit → FeedsStep mid new taken → is_nameless (e j) ≡ true → MeetsPending old new j (e j ∷ []) j taken
   take_goes j new fit None is e2 f t less = λ earlier s.
       let h = subst (Awaits old mid) is given j earlier s in
       let fits = subst (ReadStepFits mid e) e2 f j h.later h.stands h.open_yet in
-      let taken = t.1 j h.later h.stands h.open_yet (nameless h.later (e j) mid.source.step less fits) in
-      record { later = mid.source.step ∷ h.later; stands = taken.1; leads = subst (λ rest. Leads earlier (bytes_of old) (e j ∷ []) (mid.source.step ∷ h.later) rest) (sym t.0) (leads_step (e j) h.offers fits taken.0) }
+      let taken = t.1 j h.later h.stands h.open_yet (nameless h.later (e j) mid.step less fits) in
+      record { later = mid.step ∷ h.later; stands = taken.1; leads = subst (λ rest. Leads earlier old.rest (e j ∷ []) (mid.step ∷ h.later) rest) (sym t.0) (leads_step (e j) h.offers fits taken.0) }
   take_goes j new fit (Some why) is e2 f t less = λ earlier s. let h = subst (Awaits old mid) is given j earlier s in bars_refused (e j) h.offers (t j h.later h.stands)

@@ -14,11 +14,10 @@ use Rattle.certify.specs.checker.CheckerView.{Keeps}
 use Rattle.certify.specs.confirm.CertificatePlaces.{IsPlain}
 use Rattle.certify.specs.confirm.Matches.{Adds, Closes, bringing, showing}
 use Rattle.certify.specs.confirm.ConfirmedCommands.{TakesLine, ToConfirm, CountFromOne, Confirmed, ConfirmsCommand}
-use Rattle.certify.specs.confirm.CertificateSteps.{IsFed, Onward, MeetsPending, AskIsOpen, OpensAsk, bytes_of}
+use Rattle.certify.specs.confirm.CertificateSteps.{IsFed, Onward, MeetsPending, AskIsOpen, OpensAsk}
 use Rattle.certify.specs.checker.Stored.{Stored}
+use Rattle.certify.specs.confirm.Views.{View, SessionView}
 use Rattle.certify.specs.declared.verdict.Why.{Why}
-use Rattle.certify.specs.declared.confirm.certificate.Certificate.{Certificate}
-use Rattle.certify.specs.declared.confirm.session.Confirmation.{Confirmation}
 use Rattle.certify.proofs.lemmas.confirm.LeftByCommand.{Rest, refused_on, refused_back, clause_pending, left_on, left_back, left_barred}
 use Rattle.certify.proofs.lemmas.confirm.PlainJudge.{plain_refused, plain_clause}
 use Rattle.certify.proofs.lemmas.confirm.WholeAsks.{ask_unnamed, ask_unopened, ask_unread, answered_on, answered_back}
@@ -35,7 +34,7 @@ is_refused : (j : Judge) (ls : List Literal) (r : Option Refusal) → IsPlain j 
 is_refused j ls r p e = plain_refused j (names_of ls) p ∙ e
 
 -- behind a command that leaves this state
-confirmed : (old new : Confirmation) (j next : Judge) (earlier later : List Step) (n : ℕ) (c : Command) → after_command c j ≡ next → IsFed new.certificate next later
+confirmed : (old new : SessionView) (j next : Judge) (earlier later : List Step) (n : ℕ) (c : Command) → after_command c j ≡ next → IsFed new.certificate next later
     → ((cs : List Command) (ending : Ending) → ToConfirm old j n earlier (c ∷ cs) ending → ToConfirm new next (n + 1) later cs ending)
     → ((cs : List Command) (ending : Ending) → ToConfirm new next (n + 1) later cs ending → ToConfirm old j n earlier (c ∷ cs) ending)
     → Confirmed old j earlier n c new
@@ -53,38 +52,38 @@ after_accepted : (j : Judge) (c : Command) → refusal_of j c ≡ None → after
 after_accepted j c e = rw e refl
 
 -- a refused command
-refused_command : (old new : Confirmation) (n : ℕ) (c : Command) (w : Option Why) → ((j : Judge) → IsPlain j → refusal_of j c ≡ Some PastLimit) → TakesLine old new (refused_line n PastLimit) w → ConfirmsCommand old new n c w
+refused_command : (old new : SessionView) (n : ℕ) (c : Command) (w : Option Why) → ((j : Judge) → IsPlain j → refusal_of j c ≡ Some PastLimit) → TakesLine old new (refused_line n PastLimit) w → ConfirmsCommand old new n c w
 refused_command old new n c None r t = λ j earlier s k.
     let e = r j s.plain in
-    let same : bytes_of new.certificate ≡ bytes_of old.certificate = ap bytes_of t.0 in
+    let same : new.certificate.rest ≡ old.certificate.rest = ap (λ (x : View). x.rest) t.0 in
     confirmed old new j j earlier earlier n c (after_refused j c PastLimit e) (subst (λ x. IsFed x j earlier) (sym t.0) s)
     (λ cs ending h.
-    let p = refused_on j n earlier c cs ending old.answers.now (bytes_of old.certificate) PastLimit e h in
-    let tail : p.0 ≡ new.answers.now = append_cancel_left (refused_line n PastLimit) p.0 new.answers.now (sym p.1 ∙ t.1) in
-    subst (λ x. Rest j (n + 1) earlier [] cs ending new.answers.now x) (sym same) (subst (λ x. Rest j (n + 1) earlier [] cs ending x (bytes_of old.certificate)) tail p.2))
-    (λ cs ending h. refused_back j n earlier c cs ending old.answers.now new.answers.now (bytes_of old.certificate) PastLimit e t.1 (subst (λ x. Rest j (n + 1) earlier [] cs ending new.answers.now x) same h))
+    let p = refused_on j n earlier c cs ending old.answers old.certificate.rest PastLimit e h in
+    let tail : p.0 ≡ new.answers = append_cancel_left (refused_line n PastLimit) p.0 new.answers (sym p.1 ∙ t.1) in
+    subst (λ x. Rest j (n + 1) earlier [] cs ending new.answers x) (sym same) (subst (λ x. Rest j (n + 1) earlier [] cs ending x old.certificate.rest) tail p.2))
+    (λ cs ending h. refused_back j n earlier c cs ending old.answers new.answers old.certificate.rest PastLimit e t.1 (subst (λ x. Rest j (n + 1) earlier [] cs ending new.answers x) same h))
 refused_command old new n c (Some why) r t = λ j earlier s k cs ending h.
-    let p = refused_on j n earlier c cs ending old.answers.now (bytes_of old.certificate) PastLimit (r j s.plain) h in
+    let p = refused_on j n earlier c cs ending old.answers old.certificate.rest PastLimit (r j s.plain) h in
     t p.0 p.1
 
-pub clause_refused : (old new : Confirmation) (n : ℕ) (ls : List Literal) (w : Option Why) → refused_name (names_of ls) ≡ Some PastLimit → TakesLine old new (refused_line n PastLimit) w → ConfirmsCommand old new n (Clause ls) w
+pub clause_refused : (old new : SessionView) (n : ℕ) (ls : List Literal) (w : Option Why) → refused_name (names_of ls) ≡ Some PastLimit → TakesLine old new (refused_line n PastLimit) w → ConfirmsCommand old new n (Clause ls) w
 clause_refused old new n ls w e t = refused_command old new n (Clause ls) w (λ j p. is_refused j ls (Some PastLimit) p e) t
 
-pub ask_refused : (old new : Confirmation) (n : ℕ) (ls : List Literal) (w : Option Why) → refused_name (names_of ls) ≡ Some PastLimit → TakesLine old new (refused_line n PastLimit) w → ConfirmsCommand old new n (Ask ls) w
+pub ask_refused : (old new : SessionView) (n : ℕ) (ls : List Literal) (w : Option Why) → refused_name (names_of ls) ≡ Some PastLimit → TakesLine old new (refused_line n PastLimit) w → ConfirmsCommand old new n (Ask ls) w
 ask_refused old new n ls w e t = refused_command old new n (Ask ls) w (λ j p. is_refused j ls (Some PastLimit) p e) t
 
 -- a clause
 
-pub clause_unnamed : (old new : Confirmation) (mid : Certificate) (n : ℕ) (ls : List Literal) (given : Option Why) (why : Why) → refused_name (names_of ls) ≡ None → given ≡ Some why
+pub clause_unnamed : (old new : SessionView) (mid : View) (n : ℕ) (ls : List Literal) (given : Option Why) (why : Why) → refused_name (names_of ls) ≡ None → given ≡ Some why
     → ((j : Judge) → HaveNames ls → MeetsPending old.certificate mid j (bringing (names_of ls) j) (bring_all (names_of ls) j) given) → ConfirmsCommand old new n (Clause ls) (Some why)
 clause_unnamed old new mid n ls given why r g b j earlier s k cs ending h =
     let e = is_refused j ls None s.plain r in
     let bars = subst (λ x. MeetsPending old.certificate mid j (bringing (names_of ls) j) (bring_all (names_of ls) j) x) g (b j (have_names ls r k)) earlier s in
-    left_barred (Adds ls ∷ []) (accepted (Clause ls) j) (n + 1) cs ending old.answers.now bars ((clause_pending j n earlier ls cs ending old.answers.now (bytes_of old.certificate) e).0 h)
+    left_barred (Adds ls ∷ []) (accepted (Clause ls) j) (n + 1) cs ending old.answers bars ((clause_pending j n earlier ls cs ending old.answers old.certificate.rest e).0 h)
 
-pub clause_confirmed : (old new : Confirmation) (mid : Certificate) (n : ℕ) (ls : List Literal) (given w : Option Why) → refused_name (names_of ls) ≡ None → given ≡ None
+pub clause_confirmed : (old new : SessionView) (mid : View) (n : ℕ) (ls : List Literal) (given w : Option Why) → refused_name (names_of ls) ≡ None → given ≡ None
     → ((j : Judge) → HaveNames ls → MeetsPending old.certificate mid j (bringing (names_of ls) j) (bring_all (names_of ls) j) given)
-    → ((j : Judge) → MeetsPending mid new.certificate j (Adds ls ∷ []) j w) → new.answers.now ≡ old.answers.now → ConfirmsCommand old new n (Clause ls) w
+    → ((j : Judge) → MeetsPending mid new.certificate j (Adds ls ∷ []) j w) → new.answers ≡ old.answers → ConfirmsCommand old new n (Clause ls) w
 clause_confirmed old new mid n ls given None r g b a same = λ j earlier s k.
     let e = is_refused j ls None s.plain r in
     let next = accepted (Clause ls) j in
@@ -94,61 +93,61 @@ clause_confirmed old new mid n ls given None r g b a same = λ j earlier s k.
     let pending = clause_pending j n earlier ls in
     confirmed old new j next earlier second.later n (Clause ls) (after_accepted j (Clause ls) e)
     (record { keeps = t.keeps; named = t.named; plain = plain_clause ls (bring_all (names_of ls) j) t.plain; counted = t.counted })
-    (λ cs ending h. subst (λ x. Rest next (n + 1) second.later [] cs ending x (bytes_of new.certificate)) (sym same)
-    (left_on [] next (n + 1) cs ending old.answers.now second.leads (left_on (Adds ls ∷ []) next (n + 1) cs ending old.answers.now first.leads ((pending cs ending old.answers.now (bytes_of old.certificate) e).0 h))))
-    (λ cs ending h. (pending cs ending old.answers.now (bytes_of old.certificate) e).1
-    (left_back (Adds ls ∷ []) next (n + 1) cs ending old.answers.now first.leads (left_back [] next (n + 1) cs ending old.answers.now second.leads (subst (λ x. Rest next (n + 1) second.later [] cs ending x (bytes_of new.certificate)) same h))))
+    (λ cs ending h. subst (λ x. Rest next (n + 1) second.later [] cs ending x new.certificate.rest) (sym same)
+    (left_on [] next (n + 1) cs ending old.answers second.leads (left_on (Adds ls ∷ []) next (n + 1) cs ending old.answers first.leads ((pending cs ending old.answers old.certificate.rest e).0 h))))
+    (λ cs ending h. (pending cs ending old.answers old.certificate.rest e).1
+    (left_back (Adds ls ∷ []) next (n + 1) cs ending old.answers first.leads (left_back [] next (n + 1) cs ending old.answers second.leads (subst (λ x. Rest next (n + 1) second.later [] cs ending x new.certificate.rest) same h))))
 clause_confirmed old new mid n ls given (Some why) r g b a same = λ j earlier s k cs ending h.
     let e = is_refused j ls None s.plain r in
     let next = accepted (Clause ls) j in
     let first = subst (λ x. MeetsPending old.certificate mid j (bringing (names_of ls) j) (bring_all (names_of ls) j) x) g (b j (have_names ls r k)) earlier s in
     let bars = a (bring_all (names_of ls) j) first.later first.stands in
-    left_barred [] next (n + 1) cs ending old.answers.now bars (left_on (Adds ls ∷ []) next (n + 1) cs ending old.answers.now first.leads ((clause_pending j n earlier ls cs ending old.answers.now (bytes_of old.certificate) e).0 h))
+    left_barred [] next (n + 1) cs ending old.answers bars (left_on (Adds ls ∷ []) next (n + 1) cs ending old.answers first.leads ((clause_pending j n earlier ls cs ending old.answers old.certificate.rest e).0 h))
 
 -- an ask
 
-module _ (old : Confirmation) (named : Certificate) (n : ℕ) (ls : List Literal) (given : Option Why) (r : refused_name (names_of ls) ≡ None)
+module _ (old : SessionView) (named : View) (n : ℕ) (ls : List Literal) (given : Option Why) (r : refused_name (names_of ls) ≡ None)
     (b : (j : Judge) → HaveNames ls → MeetsPending old.certificate named j (bringing (names_of ls) j) (bring_all (names_of ls) j) given) where
-  pub ask_without_names : (new : Confirmation) (why : Why) → given ≡ Some why → ConfirmsCommand old new n (Ask ls) (Some why)
+  pub ask_without_names : (new : SessionView) (why : Why) → given ≡ Some why → ConfirmsCommand old new n (Ask ls) (Some why)
   ask_without_names new why g j earlier s k cs ending h =
       let bars = subst (λ x. MeetsPending old.certificate named j (bringing (names_of ls) j) (bring_all (names_of ls) j) x) g (b j (have_names ls r k)) earlier s in
-      ask_unnamed j n ls cs ending old.answers.now (is_refused j ls None s.plain r) earlier (bytes_of old.certificate) bars h
+      ask_unnamed j n ls cs ending old.answers (is_refused j ls None s.plain r) earlier old.certificate.rest bars h
 
-  module _ (g : given ≡ None) (asked : Certificate) (opened : Option Why) (a : OpensAsk named asked ls opened) where
+  module _ (g : given ≡ None) (asked : View) (opened : Option Why) (a : OpensAsk named asked ls opened) where
     first : (j : Judge) (earlier : List Step) → IsFed old.certificate j earlier → CountFromOne (Ask ls) → Onward old.certificate earlier (bringing (names_of ls) j) (bring_all (names_of ls) j) named
     first j earlier s k = subst (λ x. MeetsPending old.certificate named j (bringing (names_of ls) j) (bring_all (names_of ls) j) x) g (b j (have_names ls r k)) earlier s
 
-    pub ask_without_assumptions : (new : Confirmation) (why : Why) → opened ≡ Some why → ConfirmsCommand old new n (Ask ls) (Some why)
+    pub ask_without_assumptions : (new : SessionView) (why : Why) → opened ≡ Some why → ConfirmsCommand old new n (Ask ls) (Some why)
     ask_without_assumptions new why o j earlier s k cs ending h =
         let f = first j earlier s k in
         let bars = subst (OpensAsk named asked ls) o a (bring_all (names_of ls) j) f.later f.stands in
-        ask_unopened j n ls cs ending old.answers.now (is_refused j ls None s.plain r) earlier f.later (bytes_of old.certificate) (bytes_of named) f.leads bars h
+        ask_unopened j n ls cs ending old.answers (is_refused j ls None s.plain r) earlier f.later old.certificate.rest named.rest f.leads bars h
 
     module _ (o : opened ≡ None) where
       second : (j : Judge) (earlier : List Step) (s : IsFed old.certificate j earlier) (k : CountFromOne (Ask ls)) → AskIsOpen named (first j earlier s k).later ls (bring_all (names_of ls) j) asked
       second j earlier s k = let f = first j earlier s k in subst (OpensAsk named asked ls) o a (bring_all (names_of ls) j) f.later f.stands
 
-      pub ask_without_answer : (new : Confirmation) (why : Why)
-          → ((f : Stored) → Keeps asked.checker f → (v : Outcome) (tail : List ℕ) → IsInForm v → (f.unsat ≡ true → v ≡ Unsat []) → old.answers.now ≡ outcome_text v ++ tail → ⊥)
+      pub ask_without_answer : (new : SessionView) (why : Why)
+          → ((f : Stored) → Keeps asked.checker f → (v : Outcome) (tail : List ℕ) → IsInForm v → (f.unsat ≡ true → v ≡ Unsat []) → old.answers ≡ outcome_text v ++ tail → ⊥)
           → ConfirmsCommand old new n (Ask ls) (Some why)
       ask_without_answer new why none j earlier s k cs ending h =
           let f = first j earlier s k in
           let t = second j earlier s k in
-          ask_unread j n ls cs ending old.answers.now (is_refused j ls None s.plain r) earlier f.later (bytes_of old.certificate) (bytes_of named) f.leads t.later (bytes_of asked) t.leads t.alone t.stands.plain
+          ask_unread j n ls cs ending old.answers (is_refused j ls None s.plain r) earlier f.later old.certificate.rest named.rest f.leads t.later asked.rest t.leads t.alone t.stands.plain
           (none (stored_after t.later) t.stands.keeps) h
 
       module _ (v : Outcome) (tail : List ℕ)
-          (read : (f : Stored) → Keeps asked.checker f → (old.answers.now ≡ outcome_text v ++ tail) × IsInForm v × (f.unsat ≡ true → v ≡ Unsat [])) where
-        pub ask_unshown : (new : Confirmation) (shown : Certificate) (why : Why) → ((j : Judge) → MeetsPending asked shown j (showing j ls v) j (Some why)) → ConfirmsCommand old new n (Ask ls) (Some why)
+          (read : (f : Stored) → Keeps asked.checker f → (old.answers ≡ outcome_text v ++ tail) × IsInForm v × (f.unsat ≡ true → v ≡ Unsat [])) where
+        pub ask_unshown : (new : SessionView) (shown : View) (why : Why) → ((j : Judge) → MeetsPending asked shown j (showing j ls v) j (Some why)) → ConfirmsCommand old new n (Ask ls) (Some why)
         ask_unshown new shown why sh j earlier s k cs ending h =
             let f = first j earlier s k in
             let t = second j earlier s k in
             let w = read (stored_after t.later) t.stands.keeps in
             let next = accepted (Ask ls) j in
             left_barred (Closes ∷ []) next (n + 1) cs ending tail (sh next t.later t.stands)
-            (answered_on j n ls cs ending old.answers.now (is_refused j ls None s.plain r) earlier f.later (bytes_of old.certificate) (bytes_of named) f.leads t.later (bytes_of asked) t.leads t.alone t.stands.plain v tail w.1 w.0 h)
+            (answered_on j n ls cs ending old.answers (is_refused j ls None s.plain r) earlier f.later old.certificate.rest named.rest f.leads t.later asked.rest t.leads t.alone t.stands.plain v tail w.1 w.0 h)
 
-        pub ask_confirmed : (new : Confirmation) (shown : Certificate) (closed : Option Why) → ((j : Judge) → MeetsPending asked shown j (showing j ls v) j None) → ((j : Judge) → MeetsPending shown new.certificate j (Closes ∷ []) j closed) → new.answers.now ≡ tail
+        pub ask_confirmed : (new : SessionView) (shown : View) (closed : Option Why) → ((j : Judge) → MeetsPending asked shown j (showing j ls v) j None) → ((j : Judge) → MeetsPending shown new.certificate j (Closes ∷ []) j closed) → new.answers ≡ tail
             → ConfirmsCommand old new n (Ask ls) closed
         ask_confirmed new shown None sh cl same = λ j earlier s k.
             let e = is_refused j ls None s.plain r in
@@ -159,11 +158,11 @@ module _ (old : Confirmation) (named : Certificate) (n : ℕ) (ls : List Literal
             let x = sh next t.later t.stands in
             let y = cl next x.later x.stands in
             confirmed old new j next earlier y.later n (Ask ls) (after_accepted j (Ask ls) e) y.stands
-            (λ cs ending h. subst (λ z. Rest next (n + 1) y.later [] cs ending z (bytes_of new.certificate)) (sym same)
+            (λ cs ending h. subst (λ z. Rest next (n + 1) y.later [] cs ending z new.certificate.rest) (sym same)
             (left_on [] next (n + 1) cs ending tail y.leads (left_on (Closes ∷ []) next (n + 1) cs ending tail x.leads
-            (answered_on j n ls cs ending old.answers.now e earlier f.later (bytes_of old.certificate) (bytes_of named) f.leads t.later (bytes_of asked) t.leads t.alone t.stands.plain v tail w.1 w.0 h))))
-            (λ cs ending h. answered_back j n ls cs ending old.answers.now e earlier f.later (bytes_of old.certificate) (bytes_of named) f.leads t.later (bytes_of asked) t.leads t.alone t.stands.plain v tail w.1 w.0 w.2
-            (left_back (Closes ∷ []) next (n + 1) cs ending tail x.leads (left_back [] next (n + 1) cs ending tail y.leads (subst (λ z. Rest next (n + 1) y.later [] cs ending z (bytes_of new.certificate)) same h))))
+            (answered_on j n ls cs ending old.answers e earlier f.later old.certificate.rest named.rest f.leads t.later asked.rest t.leads t.alone t.stands.plain v tail w.1 w.0 h))))
+            (λ cs ending h. answered_back j n ls cs ending old.answers e earlier f.later old.certificate.rest named.rest f.leads t.later asked.rest t.leads t.alone t.stands.plain v tail w.1 w.0 w.2
+            (left_back (Closes ∷ []) next (n + 1) cs ending tail x.leads (left_back [] next (n + 1) cs ending tail y.leads (subst (λ z. Rest next (n + 1) y.later [] cs ending z new.certificate.rest) same h))))
         ask_confirmed new shown (Some why) sh cl same = λ j earlier s k cs ending h.
             let e = is_refused j ls None s.plain r in
             let f = first j earlier s k in
@@ -172,9 +171,9 @@ module _ (old : Confirmation) (named : Certificate) (n : ℕ) (ls : List Literal
             let next = accepted (Ask ls) j in
             let x = sh next t.later t.stands in
             left_barred [] next (n + 1) cs ending tail (cl next x.later x.stands) (left_on (Closes ∷ []) next (n + 1) cs ending tail x.leads
-            (answered_on j n ls cs ending old.answers.now e earlier f.later (bytes_of old.certificate) (bytes_of named) f.leads t.later (bytes_of asked) t.leads t.alone t.stands.plain v tail w.1 w.0 h))
+            (answered_on j n ls cs ending old.answers e earlier f.later old.certificate.rest named.rest f.leads t.later asked.rest t.leads t.alone t.stands.plain v tail w.1 w.0 h))
 
 -- a line that was put together is taken
-pub line_taken : (old mid new : Confirmation) (line given : List ℕ) (w : Option Why) → mid.certificate ≡ old.certificate → mid.answers.now ≡ old.answers.now → given ≡ line → TakesLine mid new given w → TakesLine old new line w
-line_taken old mid new line given None c a g t = (t.0 ∙ c, sym a ∙ t.1 ∙ ap (λ x. x ++ new.answers.now) g)
+pub line_taken : (old mid new : SessionView) (line given : List ℕ) (w : Option Why) → mid.certificate ≡ old.certificate → mid.answers ≡ old.answers → given ≡ line → TakesLine mid new given w → TakesLine old new line w
+line_taken old mid new line given None c a g t = (t.0 ∙ c, sym a ∙ t.1 ∙ ap (λ x. x ++ new.answers) g)
 line_taken old mid new line given (Some why) c a g t = λ tail e. t tail (a ∙ e ∙ ap (λ x. x ++ tail) (sym g))

@@ -12,8 +12,8 @@ use Rattle.certify.specs.confirm.Matches.{Adds, Opens, Shows, Fails, Fits, adds,
 use Rattle.certify.specs.confirm.ListChecking.{the_checking}
 use Rattle.certify.specs.confirm.CertificatePlaces.{variable_in}
 use Rattle.certify.specs.confirm.CertificateSteps.{IsFed, ReadStepFits}
+use Rattle.certify.specs.confirm.Views.{View}
 use Rattle.certify.specs.declared.verdict.Why.{Why}
-use Rattle.certify.specs.declared.confirm.certificate.Certificate.{Certificate}
 
 adds_same : (earlier : List Step) (ls : List Literal) (c : List ℕ) → Fits the_checking earlier (Adds ls) (AddClause c) → SameSet (variable_of earlier) ls c
 adds_same earlier ls c (adds same) = same
@@ -27,7 +27,7 @@ fails_same earlier ask core c hashes (fails same) = same
 shows_all : (earlier : List Step) (names : List ℕ) (ask line : List Literal) (c : List ℕ) → Fits the_checking earlier (Shows names ask line) (Model c) → (names_of line ≡ names) × EachSpelt (variable_of earlier) line c × AllByRecursion (λ l. Among l line) ask
 shows_all earlier names ask line c (shows n s a) = (n, s, a)
 
-module _ (new : Certificate) (vs codes : List ℕ) (x : Step) (v : vs ≡ new.variables.items) (held : x ≡ new.source.step) where
+module _ (new : View) (vs codes : List ℕ) (x : Step) (v : vs ≡ new.variables) (held : x ≡ new.step) where
   names_are : (j : Judge) (earlier : List Step) → IsFed new j earlier → variable_of earlier ≡ variable_in vs
   names_are j earlier s = s.named ∙ ap variable_in (sym v)
 
@@ -58,19 +58,19 @@ module _ (new : Certificate) (vs codes : List ℕ) (x : Step) (v : vs ≡ new.va
       subst (λ w. MatchBool w (SameSet (variable_in vs) core codes) (SameSet (variable_in vs) core codes → ⊥)) t m
       (subst (λ g. SameSet g core codes) (names_are j earlier s) (fails_same earlier ask core codes hashes (subst (λ y. Fits the_checking earlier (Fails ask core) y) (sym held ∙ e) f)))
 
-  in_use_are : (j : Judge) (earlier : List Step) → IsFed new j earlier → (stored_after earlier).unsat ≡ false → map (λ n. n.name) j.in_use ≡ names_from (length new.variables.items) 1
-  in_use_are j earlier s u = let c = s.counted u in s.plain.used ∙ ap (λ n. names_from n 1) (let e : j.first_unused - 1 ≡ length new.variables.items = omega arith in e)
+  in_use_are : (j : Judge) (earlier : List Step) → IsFed new j earlier → (stored_after earlier).unsat ≡ false → map (λ n. n.name) j.in_use ≡ names_from (length new.variables) 1
+  in_use_are j earlier s u = let c = s.counted u in s.plain.used ∙ ap (λ n. names_from n 1) (let e : j.first_unused - 1 ≡ length new.variables = omega arith in e)
 
-  pub shows_fit : (ask line : List Literal) (b : Bool) → x ≡ Model codes → (names_of line ≡ names_from (length new.variables.items) 1) × AllByRecursion (λ l. Among l line) ask → b ≡ true
+  pub shows_fit : (ask line : List Literal) (b : Bool) → x ≡ Model codes → (names_of line ≡ names_from (length new.variables) 1) × AllByRecursion (λ l. Among l line) ask → b ≡ true
       → MatchBool b (EachSpelt (variable_in vs) line codes) (EachSpelt (variable_in vs) line codes → ⊥) → ReadStepFits new (λ j. Shows (map (λ n. n.name) j.in_use) ask line) None
   shows_fit ask line b e p t m j earlier s u =
       subst (λ y. Fits the_checking earlier (Shows (map (λ n. n.name) j.in_use) ask line) y) (sym e ∙ held)
       (shows (p.0 ∙ sym (in_use_are j earlier s u)) (subst (λ f. EachSpelt f line codes) (sym (names_are j earlier s)) (subst (λ w. MatchBool w (EachSpelt (variable_in vs) line codes) (EachSpelt (variable_in vs) line codes → ⊥)) t m)) p.1)
 
-  taken : (ask line : List Literal) → x ≡ Model codes → (j : Judge) (earlier : List Step) → Fits the_checking earlier (Shows (map (λ n. n.name) j.in_use) ask line) new.source.step → (names_of line ≡ map (λ n. n.name) j.in_use) × EachSpelt (variable_of earlier) line codes × AllByRecursion (λ l. Among l line) ask
+  taken : (ask line : List Literal) → x ≡ Model codes → (j : Judge) (earlier : List Step) → Fits the_checking earlier (Shows (map (λ n. n.name) j.in_use) ask line) new.step → (names_of line ≡ map (λ n. n.name) j.in_use) × EachSpelt (variable_of earlier) line codes × AllByRecursion (λ l. Among l line) ask
   taken ask line e j earlier f = shows_all earlier (map (λ n. n.name) j.in_use) ask line codes (subst (λ y. Fits the_checking earlier (Shows (map (λ n. n.name) j.in_use) ask line) y) (sym held ∙ e) f)
 
-  pub shows_unlisted : (ask line : List Literal) (why : Why) → x ≡ Model codes → ((names_of line ≡ names_from (length new.variables.items) 1) × AllByRecursion (λ l. Among l line) ask → ⊥) → ReadStepFits new (λ j. Shows (map (λ n. n.name) j.in_use) ask line) (Some why)
+  pub shows_unlisted : (ask line : List Literal) (why : Why) → x ≡ Model codes → ((names_of line ≡ names_from (length new.variables) 1) × AllByRecursion (λ l. Among l line) ask → ⊥) → ReadStepFits new (λ j. Shows (map (λ n. n.name) j.in_use) ask line) (Some why)
   shows_unlisted ask line why e n j earlier s u f = let t = taken ask line e j earlier f in n (t.0 ∙ in_use_are j earlier s u, t.2)
 
   pub shows_unfit : (ask line : List Literal) (b : Bool) (why : Why) → x ≡ Model codes → b ≡ false → MatchBool b (EachSpelt (variable_in vs) line codes) (EachSpelt (variable_in vs) line codes → ⊥) → ReadStepFits new (λ j. Shows (map (λ n. n.name) j.in_use) ask line) (Some why)

@@ -15,9 +15,9 @@ use Rattle.certify.specs.confirm.Matches.{NewName, Fits, Excused, new_name, brin
 use Rattle.certify.specs.confirm.ListChecking.{the_checking}
 use Rattle.certify.specs.checker.CheckerView.{Keeps, DecidesStep}
 use Rattle.certify.specs.confirm.CertificatePlaces.{Leads, Bars, variable_in}
-use Rattle.certify.specs.confirm.CertificateSteps.{IsFed, Onward, MeetsPending, Awaits, NamesNext, FeedsName, bytes_of}
+use Rattle.certify.specs.confirm.CertificateSteps.{IsFed, Onward, MeetsPending, Awaits, NamesNext, FeedsName}
+use Rattle.certify.specs.confirm.Views.{View}
 use Rattle.certify.specs.declared.verdict.Why.{Why}
-use Rattle.certify.specs.declared.confirm.certificate.Certificate.{Certificate}
 use Rattle.certify.specs.declared.confirm.certificate.Awaited.{Awaited}
 use Rattle.certify.specs.declared.confirm.certificate.Awaited.TheVariants as awaited
 use Rattle.certify.proofs.lemmas.confirm.CertificatePlaces.{leads_nowhere, leads_on, leads_cut, leads_step, bars_behind, bars_more, bars_unfit, bars_refused}
@@ -45,41 +45,41 @@ named_more : (earlier : List Step) (vs : List ℕ) (v : ℕ) → variable_of ear
 named_more earlier vs v e = fun_ext (λ name. ap (λ f. cond (eqb (length vs + 1) name) (Some v) (f name)) e ∙ variable_more vs v name)
 
 -- the next name is put
-pub puts : (old new : Certificate) (v : ℕ) → NamesNext old (Ok v) → DecidesStep old.checker old.source.step new.checker true → new.source ≡ old.source → new.variables.items ≡ old.variables.items ++ v ∷ [] → FeedsName old new None
+pub puts : (old new : View) (v : ℕ) → NamesNext old (Ok v) → DecidesStep old.checker old.step new.checker true → new.rest ≡ old.rest → new.variables ≡ old.variables ++ v ∷ [] → FeedsName old new None
 puts old new v n a b i = (
-  ap (λ x. x.rest) b,
+  b,
   (λ j earlier s open_yet low.
       let fed = a (stored_after earlier) s.keeps in
-      let vs = old.variables.items in (
+      let vs = old.variables in (
         fed.0,
         record {
           keeps = fed.1;
-          named = subst (λ step. variable_of (step ∷ earlier) ≡ variable_in new.variables.items) (sym n.0) (named_more earlier vs v s.named ∙ ap variable_in (sym i));
+          named = subst (λ step. variable_of (step ∷ earlier) ≡ variable_in new.variables) (sym n.0) (named_more earlier vs v s.named ∙ ap variable_in (sym i));
           plain = plain_name j low s.plain;
           counted = λ u. unused_next j ∙ ap (λ x. x + 1) (s.counted open_yet) ∙ ap (λ x. x + 1) (sym (length_push vs v)) ∙ ap (λ xs. length xs + 1) (sym i);
         },
       )),
 )
 
-pub put_refused : (old new : Certificate) (why : Why) → DecidesStep old.checker old.source.step new.checker false → FeedsName old new (Some why)
+pub put_refused : (old new : View) (why : Why) → DecidesStep old.checker old.step new.checker false → FeedsName old new (Some why)
 put_refused old new why a j earlier s = a (stored_after earlier) s.keeps
 
-module _ (old mid : Certificate) (a : Awaited) (given : Awaits old mid a) where
-  pub name_unfit : (j next : Judge) (new : Certificate) (why : Why) (answer : Result ℕ Why) → a ≡ awaited.Step → answer ≡ Err why → NamesNext mid answer → MeetsPending old new j (NewName j.first_unused ∷ []) next (Some why)
+module _ (old mid : View) (a : Awaited) (given : Awaits old mid a) where
+  pub name_unfit : (j next : Judge) (new : View) (why : Why) (answer : Result ℕ Why) → a ≡ awaited.Step → answer ≡ Err why → NamesNext mid answer → MeetsPending old new j (NewName j.first_unused ∷ []) next (Some why)
   name_unfit j next new why answer is e n earlier s = let h = subst (Awaits old mid) is given j earlier s in bars_unfit (NewName j.first_unused) h.offers (subst (NamesNext mid) e n j h.later h.stands h.open_yet)
 
-  pub name_goes : (j : Judge) (new : Certificate) (v : ℕ) (answer : Result ℕ Why) (taken : Option Why) → a ≡ awaited.Step → answer ≡ Ok v → NamesNext mid answer → (NamesNext mid (Ok v) → FeedsName mid new taken) → j.first_unused ≤ largest
+  pub name_goes : (j : Judge) (new : View) (v : ℕ) (answer : Result ℕ Why) (taken : Option Why) → a ≡ awaited.Step → answer ≡ Ok v → NamesNext mid answer → (NamesNext mid (Ok v) → FeedsName mid new taken) → j.first_unused ≤ largest
       → MeetsPending old new j (NewName j.first_unused ∷ []) (with_name j.first_unused j) taken
   name_goes j new v answer None is e n p low = λ earlier s.
       let h = subst (Awaits old mid) is given j earlier s in
       let next = subst (NamesNext mid) e n in
       let put = p next in
       let taken = put.1 j h.later h.stands h.open_yet low in
-      let fits : Fits the_checking h.later (NewName j.first_unused) mid.source.step = subst (λ step. Fits the_checking h.later (NewName j.first_unused) step) (sym next.0) (new_name (sym (h.stands.counted h.open_yet)) (next.1 j h.later h.stands)) in
+      let fits : Fits the_checking h.later (NewName j.first_unused) mid.step = subst (λ step. Fits the_checking h.later (NewName j.first_unused) step) (sym next.0) (new_name (sym (h.stands.counted h.open_yet)) (next.1 j h.later h.stands)) in
       record {
-        later = mid.source.step ∷ h.later;
+        later = mid.step ∷ h.later;
         stands = taken.1;
-        leads = subst (λ rest. Leads earlier (bytes_of old) (NewName j.first_unused ∷ []) (mid.source.step ∷ h.later) rest) (sym put.0) (leads_step (NewName j.first_unused) h.offers fits taken.0);
+        leads = subst (λ rest. Leads earlier old.rest (NewName j.first_unused ∷ []) (mid.step ∷ h.later) rest) (sym put.0) (leads_step (NewName j.first_unused) h.offers fits taken.0);
       }
   name_goes j new v answer (Some why) is e n p low = λ earlier s.
       let h = subst (Awaits old mid) is given j earlier s in
@@ -88,7 +88,7 @@ module _ (old mid : Certificate) (a : Awaited) (given : Awaits old mid a) where
   pub name_cut : (j : Judge) → a ≡ awaited.Cut → j.first_unused ≤ largest → MeetsPending old mid j (NewName j.first_unused ∷ []) (with_name j.first_unused j) None
   name_cut j is low earlier s =
       let h = subst (Awaits old mid) is given j earlier s in
-      let l = leads_cut h.later (bytes_of mid) (NewName j.first_unused ∷ []) h.closed (tt, tt) in
+      let l = leads_cut h.later mid.rest (NewName j.first_unused ∷ []) h.closed (tt, tt) in
       record {
         later = h.later;
         stands = record { keeps = h.stands.keeps; named = h.stands.named; plain = plain_name j low h.stands.plain; counted = λ u. absurd (true≢false (sym h.closed ∙ u)) };
@@ -100,23 +100,23 @@ excused_all [] = tt
 excused_all (n ∷ ns) = (tt, excused_all ns)
 
 -- nothing more is expected once unsat is recorded
-pub names_cut : (c : Certificate) (name : ℕ) (unsat : Bool) → unsat ≡ true → ((earlier : List Step) → Keeps c.checker (stored_after earlier) → unsat ≡ (stored_after earlier).unsat) → (j : Judge) → IsName name → MeetsPending c c j (map NewName (new_names name j)) (bring_in name j) None
+pub names_cut : (c : View) (name : ℕ) (unsat : Bool) → unsat ≡ true → ((earlier : List Step) → Keeps c.checker (stored_after earlier) → unsat ≡ (stored_after earlier).unsat) → (j : Judge) → IsName name → MeetsPending c c j (map NewName (new_names name j)) (bring_in name j) None
 names_cut c name unsat is h j n earlier s =
     let closed : (stored_after earlier).unsat ≡ true = sym (h earlier s.keeps) ∙ is in
     record {
       later = earlier;
       stands = record { keeps = s.keeps; named = s.named; plain = (plain_bring name j n.0 n.1 s.plain).0; counted = λ u. absurd (true≢false (sym closed ∙ u)) };
-      leads = leads_cut earlier (bytes_of c) (map NewName (new_names name j)) closed (excused_all (new_names name j));
+      leads = leads_cut earlier c.rest (map NewName (new_names name j)) closed (excused_all (new_names name j));
     }
 
 -- so many names were met
-abbrev pub NamesMet : Certificate → Certificate → ℕ → Type 0
+abbrev pub NamesMet : View → View → ℕ → Type 0
 NamesMet old new count = (j : Judge) (earlier : List Step) → IsFed old j earlier → j.first_unused + count ≤ largest + 1 → Onward old earlier (map NewName (names_from count j.first_unused)) (with_names (names_from count j.first_unused) j) new
 
-pub names_none : (c : Certificate) → NamesMet c c 0
-names_none c j earlier s low = record { later = earlier; stands = s; leads = leads_nowhere earlier (bytes_of c) }
+pub names_none : (c : View) → NamesMet c c 0
+names_none c j earlier s low = record { later = earlier; stands = s; leads = leads_nowhere earlier c.rest }
 
-pub names_more : (first old new : Certificate) (count : ℕ) (why : Option Why) → why ≡ None → NamesMet first old count
+pub names_more : (first old new : View) (count : ℕ) (why : Option Why) → why ≡ None → NamesMet first old count
     → ((j : Judge) → j.first_unused ≤ largest → MeetsPending old new j (NewName j.first_unused ∷ []) (with_name j.first_unused j) why) → NamesMet first new (count + 1)
 names_more first old new count why e m g j earlier s low =
     let f = j.first_unused in
@@ -132,14 +132,14 @@ names_more first old new count why e m g j earlier s low =
     record {
       later = k.later;
       stands = subst (λ x. IsFed new x k.later) next k.stands;
-      leads = subst (λ p. Leads earlier (bytes_of first) p k.later (bytes_of new)) pending (leads_on h.leads k.leads);
+      leads = subst (λ p. Leads earlier first.rest p k.later new.rest) pending (leads_on h.leads k.leads);
     }
 
 -- all the names that come in with this one
-pub names_done : (first new : Certificate) (name count : ℕ) (unsat : Bool) → unsat ≡ false → ((earlier : List Step) → Keeps first.checker (stored_after earlier) → unsat ≡ (stored_after earlier).unsat)
-    → count ≡ name - length first.variables.items → NamesMet first new count → (j : Judge) → IsName name → MeetsPending first new j (map NewName (new_names name j)) (bring_in name j) None
+pub names_done : (first new : View) (name count : ℕ) (unsat : Bool) → unsat ≡ false → ((earlier : List Step) → Keeps first.checker (stored_after earlier) → unsat ≡ (stored_after earlier).unsat)
+    → count ≡ name - length first.variables → NamesMet first new count → (j : Judge) → IsName name → MeetsPending first new j (map NewName (new_names name j)) (bring_in name j) None
 names_done first new name count unsat is h c m j n earlier s =
-    let f : j.first_unused ≡ length first.variables.items + 1 = s.counted (sym (h earlier s.keeps) ∙ is) in
+    let f : j.first_unused ≡ length first.variables + 1 = s.counted (sym (h earlier s.keeps) ∙ is) in
     let limit = s.plain.limit in
     let name_low = n.1 in
     let k = m j earlier s (omega arith) in
@@ -147,17 +147,17 @@ names_done first new name count unsat is h c m j n earlier s =
     record {
       later = k.later;
       stands = subst (λ ns. IsFed new (with_names ns j) k.later) same k.stands;
-      leads = subst (λ ns. Leads earlier (bytes_of first) (map NewName ns) k.later (bytes_of new)) same k.leads;
+      leads = subst (λ ns. Leads earlier first.rest (map NewName ns) k.later new.rest) same k.leads;
     }
 
 -- a name among them isn't put
-pub names_barred : (first old new next : Certificate) (name count : ℕ) (unsat : Bool) (w : Option Why) (why : Why) → unsat ≡ false → ((earlier : List Step) → Keeps first.checker (stored_after earlier) → unsat ≡ (stored_after earlier).unsat)
-    → count < name - length first.variables.items → w ≡ Some why → NamesMet first old count
+pub names_barred : (first old new next : View) (name count : ℕ) (unsat : Bool) (w : Option Why) (why : Why) → unsat ≡ false → ((earlier : List Step) → Keeps first.checker (stored_after earlier) → unsat ≡ (stored_after earlier).unsat)
+    → count < name - length first.variables → w ≡ Some why → NamesMet first old count
     → ((j : Judge) → j.first_unused ≤ largest → MeetsPending old new j (NewName j.first_unused ∷ []) (with_name j.first_unused j) w)
     → (j : Judge) → IsName name → MeetsPending first next j (map NewName (new_names name j)) (bring_in name j) (Some why)
 names_barred first old new next name count unsat w why is h c e m g j n earlier s =
     let f = j.first_unused in
-    let at0 : f ≡ length first.variables.items + 1 = s.counted (sym (h earlier s.keeps) ∙ is) in
+    let at0 : f ≡ length first.variables + 1 = s.counted (sym (h earlier s.keeps) ∙ is) in
     let name_low = n.1 in
     let k = m j earlier s (omega arith) in
     let mid = with_names (names_from count f) j in
@@ -171,7 +171,7 @@ names_barred first old new next name count unsat w why is h c e m g j n earlier 
     ap (λ x. (map NewName (names_from count f) ++ (NewName x ∷ [])) ++ map NewName rest) at
     ∙ ap (λ ps. ps ++ map NewName rest) (sym (map-append NewName (names_from count f) ((f + count) ∷ [])))
     ∙ sym (map-append NewName (names_from count f ++ (f + count) ∷ []) rest) ∙ ap (map NewName) (sym whole) in
-    subst (λ p. Bars earlier (bytes_of first) p) pending (bars_more (map NewName rest) (bars_behind k.leads barred))
+    subst (λ p. Bars earlier first.rest p) pending (bars_more (map NewName rest) (bars_behind k.leads barred))
 
 -- names of literals, one after another
 
@@ -183,7 +183,7 @@ have_at (l ∷ ls) (suc i) d h a = have_at ls i d (omega arith) a.1
 names_take : (ls : List Literal) (i : ℕ) (d : Literal) → i < length ls → names_of (take (i + 1) ls) ≡ names_of (take i ls) ++ (get_or ls i d).name ∷ []
 names_take ls i d h = ap names_of (take_more ls i d h) ∙ map-append (λ l. l.name) (take i ls) (get_or ls i d ∷ [])
 
-pub brought_more : (first old new : Certificate) (ls : List Literal) (i : ℕ) (d : Literal) (w : Option Why) → i < length ls → w ≡ None
+pub brought_more : (first old new : View) (ls : List Literal) (i : ℕ) (d : Literal) (w : Option Why) → i < length ls → w ≡ None
     → ((j : Judge) → HaveNames ls → MeetsPending first old j (bringing (names_of (take i ls)) j) (bring_all (names_of (take i ls)) j) None)
     → ((j : Judge) → IsName (get_or ls i d).name → MeetsPending old new j (map NewName (new_names (get_or ls i d).name j)) (bring_in (get_or ls i d).name j) w)
     → (j : Judge) → HaveNames ls → MeetsPending first new j (bringing (names_of (take (i + 1) ls)) j) (bring_all (names_of (take (i + 1) ls)) j) None
@@ -200,10 +200,10 @@ brought_more first old new ls i d w h e m g j names earlier s =
     record {
       later = next.later;
       stands = subst (λ x. IsFed new x next.later) judge next.stands;
-      leads = subst (λ p. Leads earlier (bytes_of first) p next.later (bytes_of new)) pending (leads_on k.leads next.leads);
+      leads = subst (λ p. Leads earlier first.rest p next.later new.rest) pending (leads_on k.leads next.leads);
     }
 
-pub brought_barred : (first old new last : Certificate) (ls : List Literal) (i : ℕ) (d : Literal) (w : Option Why) (why : Why) → i < length ls → w ≡ Some why
+pub brought_barred : (first old new last : View) (ls : List Literal) (i : ℕ) (d : Literal) (w : Option Why) (why : Why) → i < length ls → w ≡ Some why
     → ((j : Judge) → HaveNames ls → MeetsPending first old j (bringing (names_of (take i ls)) j) (bring_all (names_of (take i ls)) j) None)
     → ((j : Judge) → IsName (get_or ls i d).name → MeetsPending old new j (map NewName (new_names (get_or ls i d).name j)) (bring_in (get_or ls i d).name j) w)
     → (j : Judge) → HaveNames ls → MeetsPending first last j (bringing (names_of ls) j) (bring_all (names_of ls) j) (Some why)
@@ -220,4 +220,4 @@ brought_barred first old new last ls i d w why h e m g j names earlier s =
     let pending : (bringing before j ++ map NewName (new_names name mid)) ++ rest ≡ bringing (names_of ls) j =
     ap (λ ps. (bringing before j ++ ps) ++ rest) (sym (append-nil (map NewName (new_names name mid))))
     ∙ ap (λ ps. ps ++ rest) (sym (bringing_append before (name ∷ []) j)) ∙ sym (bringing_append (before ++ name ∷ []) after j) ∙ ap (λ ns. bringing ns j) (sym whole) in
-    subst (λ p. Bars earlier (bytes_of first) p) pending (bars_more rest (bars_behind k.leads barred))
+    subst (λ p. Bars earlier first.rest p) pending (bars_more rest (bars_behind k.leads barred))

@@ -11,11 +11,10 @@ use Rattle.certify.specs.confirm.CertificatePlaces.{CanMeet}
 use Rattle.certify.specs.confirm.Matches.{Finish, MatchesCommands, met}
 use Rattle.certify.specs.script.ScriptParts.{end_of}
 use Rattle.certify.specs.confirm.ConfirmedCommands.{TakesLine, ToConfirm, CountFromOne, ConfirmsCommand, ConfirmsEnd}
-use Rattle.certify.specs.confirm.CertificateSteps.{IsFed, MeetsPending, bytes_of}
+use Rattle.certify.specs.confirm.CertificateSteps.{IsFed, MeetsPending}
 use Rattle.certify.specs.confirm.ListChecking.{the_checking}
+use Rattle.certify.specs.confirm.Views.{View, SessionView}
 use Rattle.certify.specs.declared.verdict.Why.{Why}
-use Rattle.certify.specs.declared.confirm.certificate.Certificate.{Certificate}
-use Rattle.certify.specs.declared.confirm.session.Confirmation.{Confirmation}
 use Rattle.certify.proofs.lemmas.confirm.CertificatePlaces.{cut_met}
 use Rattle.certify.proofs.lemmas.confirm.LeftByCommand.{Rest, left_begins, end_on, end_back}
 
@@ -26,52 +25,52 @@ nothing_met earlier bytes = go (stored_after earlier).unsat refl
     go true u = cut_met earlier [] bytes u tt
     go false u = record { steps = []; text = []; rest = bytes; begins = refl; spelt = refl; meets = met u }
 
-module _ (old : Confirmation) (mid : Certificate) (taken : Option Why) (g : (j : Judge) → MeetsPending old.certificate mid j (Finish ∷ []) j taken) (n : ℕ) where
+module _ (old : SessionView) (mid : View) (taken : Option Why) (g : (j : Judge) → MeetsPending old.certificate mid j (Finish ∷ []) j taken) (n : ℕ) where
   pub over_barred : (why : Why) → taken ≡ Some why → ConfirmsEnd old n Clean (Some why)
-  over_barred why e j earlier s h = (subst (λ x. MeetsPending old.certificate mid j (Finish ∷ []) j x) e (g j) earlier s).none [] (end_on j n earlier Clean old.answers.now (bytes_of old.certificate) h).1
+  over_barred why e j earlier s h = (subst (λ x. MeetsPending old.certificate mid j (Finish ∷ []) j x) e (g j) earlier s).none [] (end_on j n earlier Clean old.answers old.certificate.rest h).1
 
-  pub over_done : taken ≡ None → old.answers.now ≡ [] → ConfirmsEnd old n Clean None
+  pub over_done : taken ≡ None → old.answers ≡ [] → ConfirmsEnd old n Clean None
   over_done e a j earlier s =
       let o = subst (λ x. MeetsPending old.certificate mid j (Finish ∷ []) j x) e (g j) earlier s in
-      end_back j n earlier Clean old.answers.now (bytes_of old.certificate) a (o.leads.back [] (nothing_met o.later (bytes_of mid)))
+      end_back j n earlier Clean old.answers old.certificate.rest a (o.leads.back [] (nothing_met o.later mid.rest))
 
-pub over_extra : (old : Confirmation) (n : ℕ) (why : Why) → (old.answers.now ≡ [] → ⊥) → ConfirmsEnd old n Clean (Some why)
-over_extra old n why x j earlier s h = x (end_on j n earlier Clean old.answers.now (bytes_of old.certificate) h).0
+pub over_extra : (old : SessionView) (n : ℕ) (why : Why) → (old.answers ≡ [] → ⊥) → ConfirmsEnd old n Clean (Some why)
+over_extra old n why x j earlier s h = x (end_on j n earlier Clean old.answers old.certificate.rest h).0
 
 -- behind the last line of the answers to a malformed text
-pub malformed_barred : (old new : Confirmation) (n : ℕ) (w : Option Why) (why : Why) → w ≡ Some why → TakesLine old new (malformed_line n) w → ConfirmsEnd old n Malformed (Some why)
+pub malformed_barred : (old new : SessionView) (n : ℕ) (w : Option Why) (why : Why) → w ≡ Some why → TakesLine old new (malformed_line n) w → ConfirmsEnd old n Malformed (Some why)
 malformed_barred old new n w why e t j earlier s h =
-    subst (TakesLine old new (malformed_line n)) e t [] ((end_on j n earlier Malformed old.answers.now (bytes_of old.certificate) h).0 ∙ sym (append-nil (malformed_line n)))
+    subst (TakesLine old new (malformed_line n)) e t [] ((end_on j n earlier Malformed old.answers old.certificate.rest h).0 ∙ sym (append-nil (malformed_line n)))
 
-pub malformed_then : (old new : Confirmation) (n : ℕ) (w last : Option Why) → w ≡ None → TakesLine old new (malformed_line n) w → ConfirmsEnd new n Clean last → ConfirmsEnd old n Malformed last
+pub malformed_then : (old new : SessionView) (n : ℕ) (w last : Option Why) → w ≡ None → TakesLine old new (malformed_line n) w → ConfirmsEnd new n Clean last → ConfirmsEnd old n Malformed last
 malformed_then old new n w None e t k = λ j earlier s.
     let line = subst (TakesLine old new (malformed_line n)) e t in
-    let p = end_on j n earlier Clean new.answers.now (bytes_of new.certificate) (k j earlier (subst (λ x. IsFed x j earlier) (sym line.0) s)) in
-    end_back j n earlier Malformed old.answers.now (bytes_of old.certificate) (line.1 ∙ ap (λ x. malformed_line n ++ x) p.0 ∙ append-nil (malformed_line n)) (subst (λ x. CanMeet earlier (Finish ∷ []) x) (ap bytes_of line.0) p.1)
+    let p = end_on j n earlier Clean new.answers new.certificate.rest (k j earlier (subst (λ x. IsFed x j earlier) (sym line.0) s)) in
+    end_back j n earlier Malformed old.answers old.certificate.rest (line.1 ∙ ap (λ x. malformed_line n ++ x) p.0 ∙ append-nil (malformed_line n)) (subst (λ x. CanMeet earlier (Finish ∷ []) x) (ap (λ (x : View). x.rest) line.0) p.1)
 malformed_then old new n w (Some why) e t k = λ j earlier s h.
     let line = subst (TakesLine old new (malformed_line n)) e t in
-    let p = end_on j n earlier Malformed old.answers.now (bytes_of old.certificate) h in
+    let p = end_on j n earlier Malformed old.answers old.certificate.rest h in
     k j earlier (subst (λ x. IsFed x j earlier) (sym line.0) s)
-    (end_back j n earlier Clean new.answers.now (bytes_of new.certificate)
-    (append_cancel_left (malformed_line n) new.answers.now [] (sym line.1 ∙ p.0 ∙ sym (append-nil (malformed_line n)))) (subst (λ x. CanMeet earlier (Finish ∷ []) x) (sym (ap bytes_of line.0)) p.1))
+    (end_back j n earlier Clean new.answers new.certificate.rest
+    (append_cancel_left (malformed_line n) new.answers [] (sym line.1 ∙ p.0 ∙ sym (append-nil (malformed_line n)))) (subst (λ x. CanMeet earlier (Finish ∷ []) x) (sym (ap (λ (x : View). x.rest) line.0)) p.1))
 
 -- so many commands are confirmed: the texts match exactly if the rest is confirmed
-pub record Reached (s : Confirmation) (commands : List Command) (ending : Ending) (answers certificate : List ℕ) (index : ℕ) : Type 0 where
+pub record Reached (s : SessionView) (commands : List Command) (ending : Ending) (answers certificate : List ℕ) (index : ℕ) : Type 0 where
   pub judge : Judge
   pub earlier : List Step
   pub stands : IsFed s.certificate judge earlier
   pub on : MatchesCommands the_checking commands ending answers certificate → ToConfirm s judge (index + 1) earlier (drop index commands) ending
   pub back : ToConfirm s judge (index + 1) earlier (drop index commands) ending → MatchesCommands the_checking commands ending answers certificate
 
-pub reached_none : (s : Confirmation) (commands : List Command) (ending : Ending) (answers certificate : List ℕ) → IsFed s.certificate start [] → bytes_of s.certificate ≡ certificate → s.answers.now ≡ answers → Reached s commands ending answers certificate 0
+pub reached_none : (s : SessionView) (commands : List Command) (ending : Ending) (answers certificate : List ℕ) → IsFed s.certificate start [] → s.certificate.rest ≡ certificate → s.answers ≡ answers → Reached s commands ending answers certificate 0
 reached_none s commands ending answers certificate t b a =
     let l = left_begins commands ending answers certificate in
     record {
       judge = start;
       earlier = [];
       stands = t;
-      on = λ m. subst (λ x. Rest start 1 [] [] commands ending x (bytes_of s.certificate)) (sym a) (subst (λ y. Rest start 1 [] [] commands ending answers y) (sym b) (l.0 m));
-      back = λ h. l.1 (subst (λ y. Rest start 1 [] [] commands ending answers y) b (subst (λ x. Rest start 1 [] [] commands ending x (bytes_of s.certificate)) a h));
+      on = λ m. subst (λ x. Rest start 1 [] [] commands ending x s.certificate.rest) (sym a) (subst (λ y. Rest start 1 [] [] commands ending answers y) (sym b) (l.0 m));
+      back = λ h. l.1 (subst (λ y. Rest start 1 [] [] commands ending answers y) b (subst (λ x. Rest start 1 [] [] commands ending x s.certificate.rest) a h));
     }
 
 drop_got : (cs : List Command) (i : ℕ) (c : Command) → slice_get cs i ≡ Some c → drop i cs ≡ c ∷ drop (i + 1) cs
@@ -84,7 +83,7 @@ each_at [] i c e a = absurd (cc)
 each_at (x ∷ cs) zero c e a = let h : x ≡ c = cc in subst CountFromOne h a.0
 each_at (x ∷ cs) (suc i) c e a = each_at cs i c e a.1
 
-pub reached_more : (s new : Confirmation) (commands : List Command) (ending : Ending) (answers certificate : List ℕ) (index : ℕ) (c : Command) (w : Option Why) → AllByRecursion CountFromOne commands → slice_get commands index ≡ Some c → w ≡ None
+pub reached_more : (s new : SessionView) (commands : List Command) (ending : Ending) (answers certificate : List ℕ) (index : ℕ) (c : Command) (w : Option Why) → AllByRecursion CountFromOne commands → slice_get commands index ≡ Some c → w ≡ None
     → ConfirmsCommand s new (index + 1) c w → Reached s commands ending answers certificate index → Reached new commands ending answers certificate (index + 1)
 reached_more s new commands ending answers certificate index c w all e none k r =
     let d = drop_got commands index c e in
@@ -97,20 +96,20 @@ reached_more s new commands ending answers certificate index c w all e none k r 
       back = λ h. r.back (subst (λ cs. ToConfirm s r.judge (index + 1) r.earlier cs ending) (sym d) (x.back (drop (index + 1) commands) ending h));
     }
 
-pub reached_barred : (s new : Confirmation) (commands : List Command) (ending : Ending) (answers certificate : List ℕ) (index : ℕ) (c : Command) (w : Option Why) (why : Why) → AllByRecursion CountFromOne commands → slice_get commands index ≡ Some c → w ≡ Some why
+pub reached_barred : (s new : SessionView) (commands : List Command) (ending : Ending) (answers certificate : List ℕ) (index : ℕ) (c : Command) (w : Option Why) (why : Why) → AllByRecursion CountFromOne commands → slice_get commands index ≡ Some c → w ≡ Some why
     → ConfirmsCommand s new (index + 1) c w → Reached s commands ending answers certificate index → MatchesCommands the_checking commands ending answers certificate → ⊥
 reached_barred s new commands ending answers certificate index c w why all e some k r m =
     subst (ConfirmsCommand s new (index + 1) c) some k r.judge r.earlier r.stands (each_at commands index c e all) (drop (index + 1) commands) ending
     (subst (λ cs. ToConfirm s r.judge (index + 1) r.earlier cs ending) (drop_got commands index c e) (r.on m))
 
 -- all commands are confirmed
-pub reached_yes : (s : Confirmation) (commands : List Command) (ending : Ending) (answers certificate : List ℕ) (index count : ℕ) (w : Option Why) → length commands ≤ index → index ≡ count → w ≡ None
+pub reached_yes : (s : SessionView) (commands : List Command) (ending : Ending) (answers certificate : List ℕ) (index count : ℕ) (w : Option Why) → length commands ≤ index → index ≡ count → w ≡ None
     → ConfirmsEnd s (count + 1) ending w → Reached s commands ending answers certificate index → MatchesCommands the_checking commands ending answers certificate
 reached_yes s commands ending answers certificate index count w all same none k r =
     r.back (subst (λ cs. ToConfirm s r.judge (index + 1) r.earlier cs ending) (sym (drop_all index commands all))
     (subst (λ n. ToConfirm s r.judge (n + 1) r.earlier [] ending) (sym same) (subst (ConfirmsEnd s (count + 1) ending) none k r.judge r.earlier r.stands)))
 
-pub reached_no : (s : Confirmation) (commands : List Command) (ending : Ending) (answers certificate : List ℕ) (index count : ℕ) (w : Option Why) (why : Why) → length commands ≤ index → index ≡ count → w ≡ Some why
+pub reached_no : (s : SessionView) (commands : List Command) (ending : Ending) (answers certificate : List ℕ) (index count : ℕ) (w : Option Why) (why : Why) → length commands ≤ index → index ≡ count → w ≡ Some why
     → ConfirmsEnd s (count + 1) ending w → Reached s commands ending answers certificate index → MatchesCommands the_checking commands ending answers certificate → ⊥
 reached_no s commands ending answers certificate index count w why all same some k r m =
     subst (ConfirmsEnd s (count + 1) ending) some k r.judge r.earlier r.stands
