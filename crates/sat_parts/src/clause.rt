@@ -2,4 +2,5 @@
 pub mod activity;
 pub mod db;
 pub mod gc;
+pub mod iter;
 pub mod reduce;

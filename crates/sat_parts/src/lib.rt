@@ -13,6 +13,7 @@ pub use clause::db::{
     ClauseDb, add_clause, delete_clause, set_clause_tier, shorten_clause, try_delete_clause,
 };
 pub use clause::gc::collect_garbage;
+pub use clause::iter::{ClausesIter, clauses_iter};
 pub use clause::reduce::{dedup_and_mark_by_tier, reduce_mids};
 pub use glue::{compute_clause_glue, compute_glue};
 pub use prop::assignment::{Assignment, fast_option_eq};

@@ -5,3 +5,4 @@ pub mod DbLemmas
 pub mod GcLemmas
 pub mod HeaderLemmas
 pub mod HeldLemmas
+pub mod IterLemmas

@@ -1,7 +1,7 @@
 -- The list of long clauses.
 use Rattle.std.specs.Prelude.{ℕ, ◌≡◌, ◌≢◌, ◌+◌, ◌-◌, ◌^◌, ◌<◌, ◌≤◌, ◌==◌, min, true, Bool, not, ◌&&◌, List, [], ◌∷◌, ◌++◌, length, slice_index_or as get_or, slice_set as set, take, Option, if◌then◌else◌, count_by}
 use Rattle.std.specs.List.{Contains, filter, sum_by}
-use Rattle.sat_store.specs.clause.Buffer.{Laid, Keeps, Adds, header_at, lits_at}
+use Rattle.sat_store.specs.clause.Buffer.{IsClause, Laid, Keeps, Adds, header_at, lits_at}
 use Rattle.sat_store.specs.clause.Header.{Header, index_of}
 use Rattle.sat_store.specs.declared.clause.tier.Tier.{Tier}
 use Rattle.sat_base.specs.values.Literals.{variable}
@@ -30,6 +30,10 @@ live_refs words refs = filter (is_live words) refs
 -- whether the clause at o is a live one of this tier
 abbrev pub is_live_of : List ℕ → Tier → ℕ → Bool
 is_live_of words tier o = is_live words o && (index_of (header_at words o).tier == index_of tier)
+
+-- a clause stands at each of these places
+abbrev pub AreThere : List ℕ → List ℕ → Type 0
+AreThere words refs = (o : ℕ) → Contains refs o → IsClause words o
 
 -- the words that a deleted clause takes
 abbrev pub garbage_of : List ℕ → ℕ → ℕ
