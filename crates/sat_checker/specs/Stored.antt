@@ -31,10 +31,10 @@ pub record Variable : Type 0 where
 abbrev pub unknown : Variable
 unknown = record { known = false; mode = Sample; name = None }
 
--- the last irredundant clause stored: none yet, an empty one, or a unit or a longer one by its id
+-- the last irredundant clause stored: none yet, or an empty one, a unit or a longer one by its id
 pub data Last : Type 0 where
   NoneYet : Last
-  Empty : Last
+  Empty : ℕ → Last
   UnitClause : ℕ → Last
   LongClause : ℕ → Last
 

@@ -95,16 +95,16 @@ abbrev pub long_at : Option StoredClause → Last → Last
 long_at None otherwise = otherwise
 long_at (Some c) otherwise = LongClause c.id
 
--- how these literals are stored, if they are
-abbrev pub place_of : List ℕ → Stored → Last → Last
-place_of [] f otherwise = Empty
-place_of (l ∷ []) f otherwise = unit_at l f.units otherwise
-place_of (l ∷ m ∷ ls) f otherwise = long_at (clause_with (l ∷ m ∷ ls) f.clauses) otherwise
+-- how these literals are stored, if they are; an empty clause took this id
+abbrev pub place_of : ℕ → List ℕ → Stored → Last → Last
+place_of id [] f otherwise = Empty id
+place_of id (l ∷ []) f otherwise = unit_at l f.units otherwise
+place_of id (l ∷ m ∷ ls) f otherwise = long_at (clause_with (l ∷ m ∷ ls) f.clauses) otherwise
 
 -- where it's irredundant and stored by now, it's the last irredundant clause stored
 abbrev pub with_canonical : Bool → List ℕ → Stored → Stored
 with_canonical redundant literals f =
-    let g : Stored = with_set redundant literals f in if redundant then g else record g { last = place_of literals g f.last }
+    let g : Stored = with_set redundant literals f in if redundant then g else record g { last = place_of f.next_id literals g f.last }
 
 -- a derived clause: a tautology isn't stored
 abbrev pub with_stored : Bool → List ℕ → Stored → Stored
@@ -149,6 +149,6 @@ unit_numbered id (u ∷ us) = if u.id == id then Some (u.literal ∷ []) else un
 -- the literals of the last irredundant clause stored, where it's still there
 abbrev pub last_literals : Last → Stored → Option (List ℕ)
 last_literals NoneYet f = None
-last_literals Empty f = Some []
+last_literals (Empty id) f = Some []
 last_literals (UnitClause id) f = unit_numbered id f.units
 last_literals (LongClause id) f = clause_numbered id f.clauses

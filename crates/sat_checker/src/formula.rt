@@ -101,11 +101,9 @@ impl Formula {
     fn store_empty(&mut self, redundant: bool) -> Result<(), StoreError>
         ensures { Becomes result self.old (with_canonical redundant []) self.new }
     {
-        self.status.take_id()?;
+        let id = self.status.take_id()?;
         self.status.unsat = true;
-        if !redundant {
-            self.status.last = LastClause::Empty;
-        }
+        self.status.note_last(redundant, LastClause::Empty(id));
         Ok(())
     }
 
@@ -221,7 +219,8 @@ impl Formula {
         looks: &mut Looks,
     ) -> Result<bool, StoreError>
         ensures decides { (f : Stored) → KeepsFormula self.old f
-            → TurnsIf result (PassInTurn f units.now) (KeepsFormula self.new (with_units (map (λ u. u.0) units.now) f)) (with_units (map (λ u. u.0) units.now) f) }
+            → TurnsIf result (PassInTurn f units.now)
+                (KeepsFormula self.new (with_units (map (λ u. u.0) units.now) f)) (with_units (map (λ u. u.0) units.now) f) }
         ensures looks { (f : Stored) → KeepsFormula self.old f → looks.new ≤ looks.old + length units.now * literal_count f }
     {
         for unit in units {
@@ -235,7 +234,8 @@ impl Formula {
     /// Takes a count from sorted literals. The answer is whether they have one.
     fn take_count(&mut self, redundant: bool, literals: &[Lit], looks: &mut Looks) -> bool
         ensures decides { (f : Stored) → KeepsFormula self.old f → MatchBool result
-            ((0 < count_in redundant (clause_with literals.now f.clauses)) × KeepsFormula self.new (record f { clauses = without_clause redundant literals.now f.clauses }))
+            ((0 < count_in redundant (clause_with literals.now f.clauses))
+                × KeepsFormula self.new (record f { clauses = without_clause redundant literals.now f.clauses }))
             (0 < count_in redundant (clause_with literals.now f.clauses) → ⊥) }
         ensures looks { (f : Stored) → KeepsFormula self.old f → looks.new ≤ looks.old + literal_count f }
     {
@@ -272,7 +272,7 @@ impl Formula {
     {
         match self.status.last {
             LastClause::NoneYet => false,
-            LastClause::Empty => is_subset(&[], literals, true),
+            LastClause::Empty(_) => is_subset(&[], literals, true),
             LastClause::Single(id) => match self.units.numbered(id) {
                 Some(lit) => is_subset(&[lit], literals, true),
                 None => false,
@@ -324,7 +324,8 @@ impl Formula {
     /// Whether no unit's negation is assumed, and each irredundant clause has an assumed literal.
     fn are_met(&self, assigned: &Assigned, looks: &mut Looks) -> bool
         ensures met { (f : Stored) → KeepsFormula self.now f
-            → result ≡ (not (list_any (λ u. is_among assigned.now (negated u.literal)) f.units) && are_all_true assigned.now f.clauses) }
+            → result
+                ≡ (not (list_any (λ u. is_among assigned.now (negated u.literal)) f.units) && are_all_true assigned.now f.clauses) }
         ensures looks { (f : Stored) → KeepsFormula self.now f → looks.new ≤ looks.old + literal_count f }
     {
         !self.units.are_contradicted(assigned) && self.store.are_satisfied(assigned, looks)

@@ -1,6 +1,6 @@
 //! What holds of announcements: each law is the contract of a function that does nothing.
 ghost use Rattle.sat_checker.specs.announcements.Promises.{ConflictIsFollowedBackwards, DeletionsRest, PropagationsInTurn, TautologiesRestOnNothing, ToldInOrder};
-ghost use Rattle.sat_checker.specs.announcements.Rows.{AnswersRead, Assumed, CollidingTold, ConflictAndUnitTold, Contradiction, CoreFailed, CoreOfBothSigns, DerivedIrredundant, DerivedIrredundantAgain, DerivedNew, DerivedRedundantAgain, DerivedTautology, DerivedUnitAgain, InputBehindUnsat, InputDuplicate, InputNew, InputRedundant, InputTautology, InputUnitAgain, InputsRead, ModeChanged, ModeLeft, ModeOfNameless, Modelled, ModesRead, NameNew, NameNewRead, NameOfKnown, NameOfKnownRead, NameRemoved, NameRemovedRead, NamedTwiceTold, OthersRead, OthersTell, PassedNotNeeded, RedundantGone, RedundantStays, RefutedAtZeroTold, RefutedRead, RefutedTold, SatisfiedGone, SatisfiedKept, SatisfiedStays, SimplifiedGone, SolverNameSet, UnitAlone, UnitsFirst, UnitsHeld};
+ghost use Rattle.sat_checker.specs.announcements.Rows.{AnswersRead, Assumed, CollidingTold, ConflictAndUnitTold, Contradiction, CoreFailed, CoreOfBothSigns, DerivedIrredundant, DerivedIrredundantAgain, DerivedNew, DerivedRedundantAgain, DerivedTautology, DerivedUnitAgain, InputBehindUnsat, InputDuplicate, InputNew, InputRedundant, InputTautology, InputUnitAgain, InputsRead, ModeChanged, ModeLeft, ModeOfNameless, Modelled, ModesRead, NameNew, NameNewRead, NameOfKnown, NameOfKnownRead, NameRemoved, NameRemovedRead, NamedTwiceTold, OthersRead, OthersTell, PassedNotNeeded, RedundantGone, RedundantStays, RefutedAtZeroTold, RefutedRead, RefutedTold, SatisfiedGone, SatisfiedKept, SatisfiedStays, SimplifiedByEmpty, SimplifiedGone, SolverNameSet, UnitAlone, UnitsFirst, UnitsHeld};
 
 /// What a clause that passes the check rests on.
 pub fn propagations_run_to_conflict()
@@ -60,6 +60,7 @@ pub fn rows_of_deleted()
     ensures satisfied { SatisfiedGone }
     ensures kept { SatisfiedKept }
     ensures simplified { SimplifiedGone }
+    ensures by_empty { SimplifiedByEmpty }
     ensures satisfied_stays { SatisfiedStays }
 {}
 

@@ -7,11 +7,11 @@ ghost use Rattle.sat_checker.specs.declared.store.StoreError.TheVariants.{Counte
 
 use crate::store::StoreError;
 
-/// The last irredundant clause stored: none yet, an empty one, or another by its id.
+/// The last irredundant clause stored: none yet, or an empty one, a unit or a longer one by its id.
 #[derive(Clone, Copy)]
 pub(crate) enum LastClause {
     NoneYet,
-    Empty,
+    Empty(u64),
     Single(u64),
     Long(u64),
 }

@@ -106,7 +106,7 @@ one (Some id) = id ∷ []
 -- the last irredundant clause stored
 abbrev pub last_id : Last → Option ℕ
 last_id NoneYet = None
-last_id Empty = None
+last_id (Empty id) = Some id
 last_id (UnitClause id) = Some id
 last_id (LongClause id) = Some id
 

@@ -1,12 +1,12 @@
 -- What is promised of announcements.
-use Rattle.std.specs.Prelude.{ℕ, ◌≡◌, ◌≢◌, ◌⊎◌, ◌↔◌, true, false, None, List, [], ◌∷◌, ◌++◌, map, filter}
+use Rattle.std.specs.Prelude.{ℕ, ◌≡◌, ◌≢◌, ◌⊎◌, ◌↔◌, true, false, List, [], ◌∷◌, ◌++◌, map, filter}
 use Rattle.std.specs.List.{AllByRecursion, list_any}
 use Rattle.sat_base.specs.values.Literals.{negated}
 use Rattle.sat_base.specs.steps.Steps.{Step, DeleteClause, Simplified, Satisfied}
 use Rattle.sat_checker.specs.LiteralSets.{is_among, is_tautology, canonical}
 use Rattle.sat_checker.specs.inner.Marks.{IsIncreasing}
 use Rattle.sat_checker.specs.Propagation.{IsFalsified, IsUnit, UnitInTurn}
-use Rattle.sat_checker.specs.Stored.{StoredClause, StoredUnit, Stored, unit_literals}
+use Rattle.sat_checker.specs.Stored.{StoredClause, StoredUnit, Last, Empty, Stored, unit_literals}
 use Rattle.sat_checker.specs.Storing.{with_units}
 use Rattle.sat_checker.specs.Accepts.{Passes, Accepts, AcceptsAll, ready_after}
 use Rattle.sat_checker.specs.announcements.Needed.{Ground, ground, named_by, conflict_ids, true_unit, propagations}
@@ -70,11 +70,15 @@ ConflictIsFollowedBackwards = (steps : List Step) (front clause hashes : List �
 abbrev pub TautologiesRestOnNothing : Type 0
 TautologiesRestOnNothing = (f : Stored) (clause hashes : List ℕ) → is_tautology clause ≡ true → propagations f clause hashes ≡ []
 
+-- no id is that of an empty clause, which no step names: neither a unit nor a clause of two literals or more
+abbrev pub IsNoEmpty : Last → Type 0
+IsNoEmpty last = (id : ℕ) → last ≢ Empty id
+
 -- a deleted clause rests on the unit that is true in it, or on the last irredundant clause stored, where that isn't an empty one
 abbrev pub DeletionsRest : Type 0
 DeletionsRest = (steps : List Step) (clause : List ℕ) → AcceptsAll steps →
     (Accepts (ready_after steps) (DeleteClause clause Satisfied) → RestsOn (ready_after steps) clause (one (true_unit (canonical clause) (ready_after steps).units)))
-    × (Accepts (ready_after steps) (DeleteClause clause Simplified) → last_id (ready_after steps).last ≢ None → RestsOn (ready_after steps) clause (one (last_id (ready_after steps).last)))
+    × (Accepts (ready_after steps) (DeleteClause clause Simplified) → IsNoEmpty (ready_after steps).last → RestsOn (ready_after steps) clause (one (last_id (ready_after steps).last)))
 
 -- what a step announces comes behind all that was told or delayed before it, and what was delayed is told once
 abbrev pub ToldInOrder : Type 0

@@ -133,6 +133,11 @@ SatisfiedKept = LastTells (as_redundant ++ steps.AtClause false (0 ∷ 2 ∷ [])
 abbrev pub SimplifiedGone : Type 0
 SimplifiedGone = LastTells (steps.AddClause (0 ∷ 2 ∷ 4 ∷ []) ∷ steps.AddClause (0 ∷ 2 ∷ []) ∷ []) (steps.DeleteClause (4 ∷ 2 ∷ 0 ∷ []) Simplified) (DeleteAtClause 0 false (0 ∷ 2 ∷ 4 ∷ []) (1 ∷ []) ∷ [])
 
+-- an empty clause is the last irredundant one, too: an input clause with id 1, or a derived one with id 5
+abbrev pub SimplifiedByEmpty : Type 0
+SimplifiedByEmpty = LastTells (steps.AddClause (0 ∷ 2 ∷ []) ∷ steps.AddClause [] ∷ []) (steps.DeleteClause (2 ∷ 0 ∷ []) Simplified) (DeleteAtClause 0 false (0 ∷ 2 ∷ []) (1 ∷ []) ∷ [])
+    × LastTells refuted (steps.DeleteClause (0 ∷ 3 ∷ []) Simplified) (DeleteAtClause 1 false (0 ∷ 3 ∷ []) (5 ∷ []) ∷ [])
+
 abbrev pub SatisfiedStays : Type 0
 SatisfiedStays = LastTells (steps.AddClause (0 ∷ []) ∷ steps.AddClause (0 ∷ 2 ∷ []) ∷ steps.AddClause (0 ∷ 2 ∷ []) ∷ []) (steps.DeleteClause (0 ∷ 2 ∷ []) Satisfied) []
 

@@ -27,7 +27,7 @@ standing_of f = record { unsat = f.unsat; conflict = f.conflict; last = f.last; 
 
 abbrev pub last_in : LastClause → Last
 last_in code.NoneYet = NoneYet
-last_in code.Empty = Empty
+last_in (code.Empty id) = Empty id
 last_in (code.Single id) = UnitClause id
 last_in (code.Long id) = LongClause id
 

@@ -1,7 +1,8 @@
 -- Worked rows of each announcement, by computing.
 use Rattle.std.proofs.Common.{refl, inl, inr, lit<}
 use Rattle.sat_checker.specs.Propagation.{unit_true, tautology}
-use Rattle.sat_checker.specs.announcements.Rows.{InputNew, InputDuplicate, InputRedundant, InputUnitAgain, InputTautology, InputBehindUnsat, DerivedNew, DerivedIrredundant, DerivedRedundantAgain, DerivedIrredundantAgain, DerivedUnitAgain, DerivedTautology, RedundantGone, RedundantStays, SatisfiedGone, SatisfiedKept, SimplifiedGone, SatisfiedStays}
+use Rattle.sat_checker.specs.announcements.Rows.{InputNew, InputDuplicate, InputRedundant, InputUnitAgain, InputTautology, InputBehindUnsat, DerivedNew, DerivedIrredundant, DerivedRedundantAgain, DerivedIrredundantAgain, DerivedUnitAgain, DerivedTautology, RedundantGone, RedundantStays, SatisfiedGone, SatisfiedKept, SimplifiedGone, SimplifiedByEmpty, SatisfiedStays}
+use Rattle.sat_checker.proofs.lemmas.rows.Accepted.{refuted_twice}
 
 pub input_new : InputNew
 input_new = ((tt, inr (refl, (refl, (refl, tt)))), refl)
@@ -53,6 +54,9 @@ satisfied_kept = (((((tt, inr (refl, tt)), unit_true refl), unit_true refl), (li
 
 pub simplified_gone : SimplifiedGone
 simplified_gone = ((((tt, inr (refl, (refl, (refl, tt)))), inr (refl, (refl, tt))), (lit< tt, (refl, refl))), refl)
+
+pub simplified_by_empty : SimplifiedByEmpty
+simplified_by_empty = (((((tt, inr (refl, (refl, tt))), inr tt), (lit< tt, (refl, refl))), refl), ((refuted_twice.0, (lit< tt, (refl, refl))), refl))
 
 pub satisfied_stays : SatisfiedStays
 satisfied_stays = (((((tt, inr (refl, tt)), inr (refl, (refl, tt))), inr (refl, (refl, tt))), (lit< tt, refl)), refl)

@@ -1,5 +1,5 @@
 -- What a deleted clause rests on, and the order of what is told.
-use Rattle.std.proofs.Common.{ℕ, ◌≡◌, ◌≢◌, Bool, true, false, cond, eqb, List, [], ◌∷◌, map, refl, sym, ◌∙◌, ap, subst, Option, Some, None, inl, inr}
+use Rattle.std.proofs.Common.{ℕ, ◌≡◌, Bool, true, false, cond, eqb, List, [], ◌∷◌, map, refl, sym, ◌∙◌, ap, subst, Option, Some, None, inl, inr}
 use Rattle.std.proofs.lemmas.Bool.{both_ways, eqb-true}
 use Rattle.std.specs.List.{AllByRecursion, list_any}
 use Rattle.sat_base.specs.values.Literals.{negated}
@@ -10,7 +10,7 @@ use Rattle.sat_checker.specs.Storing.{clause_numbered, unit_numbered, last_liter
 use Rattle.sat_checker.specs.Accepts.{IsStrictSubset, ready_after, stored_after}
 use Rattle.sat_checker.specs.announcements.Needed.{true_unit}
 use Rattle.sat_checker.specs.announcements.Announcements.{one, last_id, delayed}
-use Rattle.sat_checker.specs.announcements.Promises.{IsOneOf, RestsOn, DeletionsRest, ToldInOrder}
+use Rattle.sat_checker.specs.announcements.Promises.{IsOneOf, RestsOn, IsNoEmpty, DeletionsRest, ToldInOrder}
 use Rattle.sat_checker.proofs.lemmas.sets.Canonical.{canonical_among}
 use Rattle.sat_checker.proofs.lemmas.sets.Subsets.{each_true, some_of}
 use Rattle.sat_checker.proofs.lemmas.meaning.Meaning.{means_ready}
@@ -77,9 +77,9 @@ by_clause f clause ls id c p = record {
   conflict = part_falsified c.clause.literals clause (subst (λ x. is_part x clause ≡ true) (sym c.literals_are) p);
 }
 
-by_last : (f : Stored) (clause : List ℕ) (last : Last) → IsStrictSubset (last_literals last f) clause → last_id last ≢ None → RestsOn f clause (one (last_id last))
+by_last : (f : Stored) (clause : List ℕ) (last : Last) → IsStrictSubset (last_literals last f) clause → IsNoEmpty last → RestsOn f clause (one (last_id last))
 by_last f clause NoneYet s n = absurd s
-by_last f clause Empty s n = absurd (n refl)
+by_last f clause (Empty id) s n = absurd (n id refl)
 by_last f clause (UnitClause id) s n = go (unit_numbered id f.units) refl s
   where
     go : (x : Option (List ℕ)) → unit_numbered id f.units ≡ x → IsStrictSubset x clause → RestsOn f clause (id ∷ [])

@@ -133,7 +133,7 @@ sets f r c s derived = record {
 
 canonicals : (f : Stored) (r : Bool) (c : List ℕ) → IsCoherent f → ((a : Valuation) → Satisfies f a → r ≡ true → clause_true a c ≡ true) → Does (with_canonical r c f) (λ a. Satisfies f a × (clause_true a c ≡ true))
 canonicals f true c s derived = sets f true c s derived
-canonicals f false c s derived = aside (with_set false c f) (record (with_set false c f) { last = place_of c (with_set false c f) f.last }) (λ a. Satisfies f a × (clause_true a c ≡ true)) refl refl refl (sets f false c s derived)
+canonicals f false c s derived = aside (with_set false c f) (record (with_set false c f) { last = place_of f.next_id c (with_set false c f) f.last }) (λ a. Satisfies f a × (clause_true a c ≡ true)) refl refl refl (sets f false c s derived)
 
 -- a clause that is asked for, or that follows
 stores : (f : Stored) (r : Bool) (c : List ℕ) → IsCoherent f → ((a : Valuation) → Satisfies f a → r ≡ true → clause_true a c ≡ true) → Does (with_stored r c f) (λ a. Satisfies f a × (clause_true a c ≡ true))
@@ -214,7 +214,7 @@ last_true f c a o p h = go f.last o.last_holds p
 
     go : (last : Last) → LastHolds last f.unsat (unit_literals f) f.clauses → IsStrictSubset (last_literals last f) c → clause_true a c ≡ true
     go NoneYet k p = absurd p
-    go Empty k p = absurd (both_ways f.unsat h.consistent k)
+    go (Empty id) k p = absurd (both_ways f.unsat h.consistent k)
     go (UnitClause id) k p = by_found (unit_numbered id f.units) p (λ ms e n. unit_found a id ms f.units e h.units)
     go (LongClause id) k p = by_found (last_literals (LongClause id) f) p (λ ms e n. supported ms n (k ms e))
 

@@ -20,13 +20,13 @@ Supported us cs ls = (list_any (is_among us) ls ≡ true) ⊎ (0 < irredundant_c
 -- what is known of the last irredundant clause stored, as far as it's still there
 abbrev pub LastHolds : Last → Bool → List ℕ → List StoredClause → Type 0
 LastHolds NoneYet unsat us cs = Unit {0}
-LastHolds Empty unsat us cs = unsat ≡ true
+LastHolds (Empty id) unsat us cs = unsat ≡ true
 LastHolds (UnitClause id) unsat us cs = Unit {0}
 LastHolds (LongClause id) unsat us cs = (ls : List ℕ) → clause_numbered id cs ≡ Some ls → Supported us cs ls
 
 abbrev pub LastBelow : ℕ → Last → Type 0
 LastBelow n NoneYet = Unit {0}
-LastBelow n Empty = Unit {0}
+LastBelow n (Empty id) = Unit {0}
 LastBelow n (UnitClause id) = Unit {0}
 LastBelow n (LongClause id) = id < n
 
@@ -42,14 +42,14 @@ below_more n m w (i ∷ is) h = (w i h.0, below_more n m w is h.1)
 
 pub last_below_more : (n m : ℕ) → ((i : ℕ) → i < n → i < m) → (last : Last) → LastBelow n last → LastBelow m last
 last_below_more n m w NoneYet h = tt
-last_below_more n m w Empty h = tt
+last_below_more n m w (Empty id) h = tt
 last_below_more n m w (UnitClause id) h = tt
 last_below_more n m w (LongClause id) h = w id h
 
 -- where units become more and unsat stays, what is known of the last one stays
 pub last_stays : (last : Last) (u v : Bool) (us vs : List ℕ) (cs : List StoredClause) → (u ≡ true → v ≡ true) → ((l : ℕ) → is_among us l ≡ true → is_among vs l ≡ true) → LastHolds last u us cs → LastHolds last v vs cs
 last_stays NoneYet u v us vs cs b w h = tt
-last_stays Empty u v us vs cs b w h = b h
+last_stays (Empty id) u v us vs cs b w h = b h
 last_stays (UnitClause id) u v us vs cs b w h = tt
 last_stays (LongClause id) u v us vs cs b w h = λ ls e. elim (h ls e) [
   | inl t ↦ inl (let s = some_of (is_among us) ls t in any_true (is_among vs) ls s.literal s.within (w s.literal s.passes))
@@ -142,7 +142,7 @@ numbered_with r id n ls ms (c ∷ cs) e = go r (numbered_with r id n ls ms cs) (
 -- the last one stays the last where another clause is stored
 last_beside : (r : Bool) (n : ℕ) (ls : List ℕ) (last : Last) (unsat : Bool) (us : List ℕ) (cs : List StoredClause) → LastBelow n last → LastHolds last unsat us cs → LastHolds last unsat us (with_clause r n ls cs)
 last_beside r n ls NoneYet unsat us cs b h = tt
-last_beside r n ls Empty unsat us cs b h = h
+last_beside r n ls (Empty id) unsat us cs b h = h
 last_beside r n ls (UnitClause id) unsat us cs b h = tt
 last_beside r n ls (LongClause id) unsat us cs b h = λ ms e. elim (numbered_with r id n ls ms cs e) [
   | inl k ↦ elim (h ms k) [ inl t ↦ inl t | inr m ↦ inr (irredundant_more r n ms ls cs m) ]

@@ -48,7 +48,7 @@ long_at_orderly g ls o n = go (clause_with ls g.clauses) refl
 
 orderly_canonical : (f : Stored) (r : Bool) (ls : List ℕ) → Orderly f → Orderly (with_canonical r ls f)
 orderly_canonical f true ls o = orderly_set f true ls o
-orderly_canonical f false [] o = let s = orderly_set f false [] o in orderly_last (with_set false [] f) Empty s tt refl
+orderly_canonical f false [] o = let s = orderly_set f false [] o in orderly_last (with_set false [] f) (Empty f.next_id) s tt refl
 orderly_canonical f false (l ∷ []) o =
     let s = orderly_unit f l o in
     aside (record (with_unit l f) { last = unit_at l (with_unit l f).units (with_unit l f).last }) (with_canonical false (l ∷ []) f) refl refl refl (ap (unit_at l (with_unit l f).units) (same_last (is_unit f l) (is_unit f (negated l)))) refl (unit_at_orderly (with_unit l f) l (with_unit l f).units s)
@@ -154,7 +154,7 @@ last_without f r ls o w = go f.last o.last_holds w
   where
     go : (last : Last) → LastHolds last f.unsat (unit_literals f) f.clauses → ((ms : List ℕ) → last_literals last f ≡ Some ms → Supported (unit_literals f) f.clauses ms → Supported (unit_literals f) (without_clause r ls f.clauses) ms) → LastHolds last f.unsat (unit_literals f) (without_clause r ls f.clauses)
     go NoneYet h w = tt
-    go Empty h w = h
+    go (Empty id) h w = h
     go (UnitClause id) h w = tt
     go (LongClause id) h w = λ ms e. let k = numbered_before r id ls ms f.clauses o.increasing e in w ms k (h ms k)
 
@@ -218,7 +218,7 @@ not_mentioned v l (m ∷ ms) n h =
 
 last_left : (v : ℕ) (last : Last) (unsat : Bool) (us : List ℕ) (cs : List StoredClause) → IsUnused v cs → LastHolds last unsat us cs → LastHolds last unsat (left v us) cs
 last_left v NoneYet unsat us cs u h = tt
-last_left v Empty unsat us cs u h = h
+last_left v (Empty id) unsat us cs u h = h
 last_left v (UnitClause id) unsat us cs u h = tt
 last_left v (LongClause id) unsat us cs u h = λ ls e. elim (h ls e) [
   | inl t ↦ inl (let s = some_of (is_among us) ls t in any_true (is_among (left v us)) ls s.literal s.within (among_left v s.literal us (not_mentioned v s.literal ls (numbered_unused v id ls cs u e) s.within) s.passes))
