@@ -246,7 +246,8 @@ fn file_all(
     looks: &mut Looks,
 ) -> Result<(), AllocError>
     requires { (q : ℕ) → places_in index.old q ≡ [] }
-    ensures filed { OnOk result ((q : ℕ) → places_in index.new q ≡ places_of q (all_hashed_by (solver_name_of hasher.now) (width_of hasher.now) slots.now)) }
+    ensures filed { OnOk result ((q : ℕ) →
+        places_in index.new q ≡ places_of q (all_hashed_by (solver_name_of hasher.now) (width_of hasher.now) slots.now)) }
     ensures looks { looks.new ≤ looks.old + live_length slots.now }
 {
     for place in 0..slots.len() {

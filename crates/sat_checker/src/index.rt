@@ -16,7 +16,8 @@ pub(crate) struct Bucket {
 impl Bucket {
     /// Forgets a place. The answer is whether none is left.
     fn forget(&mut self, place: usize) -> bool
-        ensures { let left = without_place place (self.old.first ∷ self.old.more.items) in MatchBool result (left ≡ []) (self.new.first ∷ self.new.more.items ≡ left) }
+        ensures { let left = without_place place (self.old.first ∷ self.old.more.items) in
+            MatchBool result (left ≡ []) (self.new.first ∷ self.new.more.items ≡ left) }
     {
         forget_among(&mut self.more, place);
         if self.first != place {
@@ -61,7 +62,8 @@ impl Index {
 
     /// Puts a place behind those of its hash.
     pub fn file(&mut self, hash: ClauseHash, place: usize) -> Result<(), AllocError>
-        ensures ok { OnOk result ((q : ℕ) → places_in self.new q ≡ (if q == hash then places_in self.old q ++ place ∷ [] else places_in self.old q)) }
+        ensures ok { OnOk result ((q : ℕ) →
+            places_in self.new q ≡ (if q == hash then places_in self.old q ++ place ∷ [] else places_in self.old q)) }
         ensures err { OnErr result ((q : ℕ) → places_in self.new q ≡ places_in self.old q) }
     {
         match self.buckets.get_mut(&hash) {
@@ -79,7 +81,8 @@ impl Index {
 
     /// Takes a place out of those of its hash.
     pub fn remove(&mut self, hash: ClauseHash, place: usize)
-        ensures { (q : ℕ) → places_in self.new q ≡ (if q == hash then without_place place (places_in self.old q) else places_in self.old q) }
+        ensures { (q : ℕ) →
+            places_in self.new q ≡ (if q == hash then without_place place (places_in self.old q) else places_in self.old q) }
     {
         let emptied = match self.buckets.get_mut(&hash) {
             Some(bucket) => bucket.forget(place),

@@ -44,7 +44,8 @@ fn look_at(assigned: &Assigned, clause: &[Lit]) -> Look
 #[inline(always)]
 #[tactic(auto, using(crate::proofs::lemmas::propagation::Walking::meeting))]
 fn meet(assigned: &mut Assigned, clause: &[Lit]) -> Result<bool, AllocError>
-    ensures met { IfOk result (λ conflict. walk_on (verdict assigned.old clause.now) assigned.old ≡ (if conflict then None else Some assigned.new)) }
+    ensures met { IfOk result
+        (λ conflict. walk_on (verdict assigned.old clause.now) assigned.old ≡ (if conflict then None else Some assigned.new)) }
     ensures extends { Extends assigned.old assigned.new }
 {
     match look_at(assigned, clause) {

@@ -72,7 +72,8 @@ impl Store {
         units: &mut Assigned,
         looks: &mut Looks,
     ) -> Result<bool, AllocError>
-        ensures exact { IfOk result (λ passes. (f : Stored) → KeepsClauses self.now f → IsTrue passes ↔ PassesCheck units.old clause.now (map (bucket f) hashes.now)) }
+        ensures exact { IfOk result (λ passes. (f : Stored) → KeepsClauses self.now f
+            → IsTrue passes ↔ PassesCheck units.old clause.now (map (bucket f) hashes.now)) }
         ensures units { units.new ≡ units.old }
         ensures looks { (f : Stored) → KeepsClauses self.now f → looks.new ≤ looks.old + length hashes.now * literal_count f }
     {
@@ -89,9 +90,11 @@ impl Store {
         looks: &mut Looks,
     ) -> Result<(u64, bool), StoreError>
         requires { IsIncreasing literals.now }
-        ensures ok { IfOk result (λ stored. (f : Stored) → KeepsClauses self.old f → Stores self.new f id redundant literals.now stored.0 stored.1) }
+        ensures ok { IfOk result (λ stored. (f : Stored) → KeepsClauses self.old f
+            → Stores self.new f id redundant literals.now stored.0 stored.1) }
         // A count is at its end.
-        ensures full { result ≡ Err StoreError.CounterEnd → (f : Stored) → KeepsClauses self.old f → 2 ^ 64 ≤ count_in redundant (clause_with literals.now f.clauses) + 1 }
+        ensures full { result ≡ Err StoreError.CounterEnd → (f : Stored) → KeepsClauses self.old f
+            → 2 ^ 64 ≤ count_in redundant (clause_with literals.now f.clauses) + 1 }
         ensures looks { (f : Stored) → KeepsClauses self.old f → looks.new ≤ looks.old + literal_count f }
     {
         let _count = self.clauses.len();
@@ -110,7 +113,8 @@ impl Store {
     /// Takes a count from sorted literals without repeats. The answer is whether they have one.
     pub fn delete_clause(&mut self, redundant: bool, literals: &[Lit], looks: &mut Looks) -> bool
         ensures deleted { (f : Stored) → KeepsClauses self.old f → MatchBool result
-            ((0 < count_in redundant (clause_with literals.now f.clauses)) × KeepsClauses self.new (record f { clauses = without_clause redundant literals.now f.clauses }))
+            ((0 < count_in redundant (clause_with literals.now f.clauses))
+                × KeepsClauses self.new (record f { clauses = without_clause redundant literals.now f.clauses }))
             (0 < count_in redundant (clause_with literals.now f.clauses) → ⊥) }
         ensures looks { (f : Stored) → KeepsClauses self.old f → looks.new ≤ looks.old + literal_count f }
     {
@@ -160,7 +164,8 @@ impl Store {
     pub fn has_strict_part(&self, id: u64, literals: &[Lit], looks: &mut Looks) -> bool
         requires { IsIncreasing literals.now }
         ensures part { (f : Stored) → KeepsClauses self.now f → MatchBool result
-            (IsStrictSubset (clause_numbered id f.clauses) literals.now) (IsStrictSubset (clause_numbered id f.clauses) literals.now → ⊥) }
+            (IsStrictSubset (clause_numbered id f.clauses) literals.now)
+            (IsStrictSubset (clause_numbered id f.clauses) literals.now → ⊥) }
         ensures looks { (f : Stored) → KeepsClauses self.now f → looks.new ≤ looks.old + literal_count f }
     {
         let _count = self.clauses.len();

@@ -109,7 +109,8 @@ impl Variables {
     }
 
     fn set(&mut self, var: Var, state: VarData) -> Result<(), AllocError>
-        ensures variables { OnOk result ((v : ℕ) → variable_at self.new v ≡ (if v == var then variable_of state else variable_at self.old v)) }
+        ensures variables { OnOk result ((v : ℕ) →
+            variable_at self.new v ≡ (if v == var then variable_of state else variable_at self.old v)) }
         ensures holders { (name : ℕ) → holder_at self.new name ≡ holder_at self.old name }
     {
         let place = var.index();
@@ -142,7 +143,8 @@ impl Variables {
     /// Unknown variables of the literals become sampling ones.
     #[tactic(auto, using(crate::proofs::lemmas::variables::Keeping::ensuring))]
     pub fn ensure_vars(&mut self, literals: &[Lit]) -> Result<(), AllocError>
-        ensures variables { OnOk result ((v : ℕ) → variable_at self.new v ≡ known_if (is_among (map variable literals.now) v) (variable_at self.old v)) }
+        ensures variables { OnOk result ((v : ℕ) →
+            variable_at self.new v ≡ known_if (is_among (map variable literals.now) v) (variable_at self.old v)) }
         ensures holders { (name : ℕ) → holder_at self.new name ≡ holder_at self.old name }
     {
         for lit in literals {
@@ -173,7 +175,8 @@ impl Variables {
 
     /// An unknown variable becomes a sampling one.
     pub fn learn_var(&mut self, var: Var) -> Result<(), AllocError>
-        ensures { OnOk result ((g : ℕ → Variable) → KeepsVariables self.old g → KeepsVariables self.new (λ v. known_if (is_among (var ∷ []) v) (g v))) }
+        ensures { OnOk result ((g : ℕ → Variable) → KeepsVariables self.old g
+            → KeepsVariables self.new (λ v. known_if (is_among (var ∷ []) v) (g v))) }
     {
         self.ensure_var(var)?;
         Ok(())
@@ -247,7 +250,8 @@ impl Variables {
 
     /// A variable without a name is unknown again.
     pub fn forget(&mut self, var: Var) -> Result<(), AllocError>
-        ensures { OnOk result ((g : ℕ → Variable) → KeepsVariables self.old g → (g var).name ≡ None → KeepsVariables self.new (λ w. if w == var then unknown else g w)) }
+        ensures { OnOk result ((g : ℕ → Variable) → KeepsVariables self.old g → (g var).name ≡ None
+            → KeepsVariables self.new (λ w. if w == var then unknown else g w)) }
     {
         self.set(var, VarData::unknown())?;
         Ok(())

@@ -69,7 +69,8 @@ impl Checker {
         requires fresh { reader_source R.seen steps.old ≡ unread (reader_source R.seen steps.old).reader }
         requires open_yet { is_stopped steps.old ≡ false }
         ensures same { reader_name steps.new ≡ reader_name steps.old }
-        ensures proof { ChecksProof result self.old self.new (reader_source R.seen steps.old).reader (reader_source R.seen steps.new).reader }
+        ensures proof { ChecksProof result self.old self.new
+            (reader_source R.seen steps.old).reader (reader_source R.seen steps.new).reader }
     {
         loop {
             if self.check_next(steps)? {
