@@ -20,6 +20,7 @@ pub(crate) mod state;
 pub(crate) mod status;
 pub(crate) mod store;
 mod tally;
+pub(crate) mod unit_ids;
 pub(crate) mod units;
 pub(crate) mod valuation;
 pub mod variables;

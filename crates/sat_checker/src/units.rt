@@ -12,6 +12,7 @@ ghost use Rattle.sat_checker.specs.inner.StoreView.{KeepsClauses};
 use crate::assigned::Assigned;
 use crate::looks::Looks;
 use crate::store::Store;
+use crate::unit_ids::UnitIds;
 use sat_base::{ClauseHash, Lit, Var};
 use std::alloc::{AllocError, Global};
 use std::marker::Model;
@@ -27,19 +28,20 @@ struct Unit {
 #[derive(Drop)]
 pub(crate) struct Units {
     list: Vec<Unit>,
+    ids: UnitIds,
     assigned: Assigned,
 }
 
 impl Model for Units {
-    ghost use Rattle.std.specs.Prelude.{List, map, reverse, ◌≡◌};
+    ghost use Rattle.std.specs.Prelude.{List, map};
     ghost use Rattle.sat_checker.specs.Stored.{StoredUnit};
-    ghost use Rattle.sat_checker.specs.inner.UnitView.{unit_of};
+    ghost use Rattle.sat_checker.specs.inner.UnitView.{AreUnits, unit_of};
 
     ghost Value = { List StoredUnit };
 
     ghost view = { λ s. map unit_of s.list.items };
 
-    ghost invariant = { λ s. s.assigned ≡ reverse (map (λ u. u.lit) s.list.items) };
+    ghost invariant = { λ s. AreUnits s.list.items s.ids s.assigned };
 }
 
 impl Units {
@@ -48,6 +50,7 @@ impl Units {
     {
         Units {
             list: Vec::new(alloc),
+            ids: UnitIds::new(alloc),
             assigned: Assigned::new(alloc),
         }
     }
@@ -77,29 +80,32 @@ impl Units {
         ensures { OnOk result (self.new ≡ self.old ++ (record { id = id; literal = lit }) ∷ []) }
     {
         self.list.reserve(1)?;
+        self.ids.make_room(lit)?;
         self.assigned.assume(lit)?;
+        self.ids.put(lit, id);
         self.list.push(Unit { id, lit })?;
         Ok(())
     }
 
     /// The id of a unit.
-    #[tactic(auto, using(crate::proofs::lemmas::store::Units::finding_id))]
     pub fn id(&self, lit: Lit) -> Option<u64>
         ensures { result ≡ unit_id lit self.now }
     {
-        for unit in &self.list {
-            if unit.lit == lit {
-                return Some(unit.id);
-            }
-        }
-        None
+        self.ids.get(lit)
     }
 
     /// Forgets the unit of a variable.
     pub fn forget(&mut self, var: Var)
         ensures { self.new ≡ filter (λ u. not (variable u.literal == var)) self.old }
     {
+        let positive = var.lit(true);
+        let negative = var.lit(false);
+        if !self.is_unit(positive) && !self.is_unit(negative) {
+            return;
+        }
         self.assigned.forget_var(var);
+        self.ids.forget(positive);
+        self.ids.forget(negative);
         self.list.retain(|unit| unit.lit.var() != var);
     }
 
@@ -117,12 +123,19 @@ impl Units {
     }
 
     /// Whether the negation of a unit is assumed.
-    #[tactic(auto, using(crate::proofs::lemmas::state::Scanning::finding_number))]
     pub fn are_contradicted(&self, assigned: &Assigned) -> bool
         ensures { result ≡ list_any (λ u. is_among assigned.now (negated u.literal)) self.now }
     {
-        for unit in &self.list {
-            if assigned.is_true(!unit.lit) {
+        self.has_any_negated(assigned.literals())
+    }
+
+    /// Whether the negation of a unit is in the list.
+    #[tactic(auto, using(crate::proofs::lemmas::state::Scanning::any_literal))]
+    fn has_any_negated(&self, literals: &[Lit]) -> bool
+        ensures { result ≡ list_any (λ l. is_among (map (λ u. u.literal) self.now) (negated l)) literals.now }
+    {
+        for lit in literals {
+            if self.is_unit(!*lit) {
                 return true;
             }
         }
@@ -137,7 +150,8 @@ impl Units {
         hashes: &[ClauseHash],
         looks: &mut Looks,
     ) -> Result<bool, AllocError>
-        ensures exact { IfOk result (λ passes. (f : Stored) → KeepsClauses store.now f → self.old ≡ f.units → IsTrue passes ↔ Passes f clause.now hashes.now) }
+        ensures exact { IfOk result (λ passes. (f : Stored) → KeepsClauses store.now f → self.old ≡ f.units
+            → IsTrue passes ↔ Passes f clause.now hashes.now) }
         ensures units { self.new ≡ self.old }
         ensures looks { (f : Stored) → KeepsClauses store.now f → looks.new ≤ looks.old + length hashes.now * literal_count f }
     {

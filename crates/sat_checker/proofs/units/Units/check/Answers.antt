@@ -2,4 +2,4 @@ use Rattle.sat_checker.proofs.lemmas.store.Units.{checked_units}
 use Rattle.sat_checker.proofs.units.Units.check.Goals as goal
 
 pub returns-clause-exact : goal.returns-clause-exact
-returns-clause-exact c = checked_units c.check.result c.args.store.now c.self.inside.list.items c.args.self.now c.self.inside.assigned c.args.clause.now c.args.hashes.now c.self.view_is c.self.invariant c.check.ensures.exact
+returns-clause-exact c = checked_units c.check.result c.args.store.now c.self.inside.list.items c.args.self.now c.self.inside.assigned c.args.clause.now c.args.hashes.now c.self.view_is c.self.invariant.assumed c.check.ensures.exact
