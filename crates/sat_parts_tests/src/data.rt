@@ -1,10 +1,17 @@
 //! What each part answers by itself.
-ghost use Rattle.std.specs.Prelude.{◌≡◌, length};
+ghost use Rattle.std.specs.Prelude.{◌≡◌, ◌<◌, ◌≤◌, [], length};
+ghost use Rattle.sat_base.specs.values.Literals.{variable};
+ghost use Rattle.sat_store.specs.heap.Vsids.{no_variables};
+ghost use Rattle.sat_parts.specs.clause.Db.{no_clauses, HoldsDb};
+ghost use Rattle.sat_parts.specs.prop.Trails.{no_trail};
+ghost use Rattle.sat_parts.specs.prop.Values.{IsOpenLit};
 
-use crate::parts::{no_parts, prepare};
+use crate::parts::{Parts, no_parts, prepare};
 use sat_base::{Lit, Var};
-use sat_parts::{Assignment, BinaryClauses, ImplGraph, Reason, fast_option_eq};
-use std::alloc::AllocError;
+use sat_parts::{
+    Assignment, BinaryClauses, ImplGraph, Reason, Trail, enqueue_assignment, fast_option_eq,
+};
+use std::alloc::{AllocError, Global};
 
 fn values(values: &mut Assignment) -> bool
     requires { length values.old.current ≡ 2 }
@@ -64,4 +71,42 @@ fn parts_are_read_back(rt: HostRuntime) {
     assert!(rt; values(&mut parts.assignment));
     assert!(rt; nodes(&mut parts.graph));
     assert!(rt; implications(&mut parts.binary) == Ok(true));
+}
+
+/// Whether the queue and the count of level 0 have a unit, and what is left of it once the trail is cleared.
+fn cleared(assignment: &mut Assignment, graph: &mut ImplGraph, trail: &mut Trail, lit: Lit) -> bool
+    requires value { variable lit < length assignment.old.current }
+    requires node { variable lit < length graph.old }
+    requires open { IsOpenLit assignment.old.current lit }
+    requires room { length trail.old.lits < trail.old.room }
+    requires starts { trail.old.starts ≡ [] }
+{
+    enqueue_assignment(assignment, graph, trail, lit, Reason::Unit);
+    let before = (trail.queue_head(), trail.top_level_assignment_count());
+    trail.clear();
+    before == (Some(lit), 1)
+        && trail.queue_head().is_none()
+        && trail.top_level_assignment_count() == 1
+        && trail.trail().is_empty()
+}
+
+fn clear_row(alloc: Global, parts: &mut Parts) -> Result<bool, AllocError>
+    requires clauses { HoldsDb parts.old.clauses parts.old.db × (parts.old.db ≡ no_clauses) }
+    requires lists { (parts.old.watchlists.lists ≡ []) × (parts.old.binary.implied ≡ []) }
+    requires values { (parts.old.assignment.current ≡ []) × (parts.old.graph ≡ []) }
+    requires trail { (parts.old.trail ≡ no_trail) × (parts.old.vsids ≡ no_variables) }
+{
+    prepare(alloc, parts, 2)?;
+    Ok(cleared(
+        &mut parts.assignment,
+        &mut parts.graph,
+        &mut parts.trail,
+        Lit::from_index(1, false),
+    ))
+}
+
+#[test]
+fn cleared_literals_stay_counted(rt: HostRuntime) {
+    let mut parts = no_parts(rt.alloc());
+    assert!(rt; clear_row(rt.alloc(), &mut parts) == Ok(true));
 }

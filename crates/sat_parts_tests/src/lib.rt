@@ -10,6 +10,8 @@ mod loading;
 #[cfg(test)]
 mod parts;
 #[cfg(test)]
+mod passes;
+#[cfg(test)]
 mod propagation;
 #[cfg(test)]
 mod search;

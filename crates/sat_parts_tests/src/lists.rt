@@ -12,7 +12,7 @@ use sat_store::{ClauseAlloc, ClauseHeader, ClauseRef, StoreError, Tier};
 use std::alloc::Global;
 
 /// The numbers of clauses by tier.
-fn counts(db: &ClauseDb) -> [usize; 4] {
+pub fn counts(db: &ClauseDb) -> [usize; 4] {
     [
         db.count_by_tier(Tier::Irred),
         db.count_by_tier(Tier::Core),
@@ -22,7 +22,7 @@ fn counts(db: &ClauseDb) -> [usize; 4] {
 }
 
 /// Adds a clause over seven variables.
-fn store(
+pub fn store(
     clauses: &mut ClauseAlloc,
     db: &mut ClauseDb,
     watchlists: &mut Watchlists,
@@ -47,7 +47,7 @@ fn store(
 }
 
 /// Adds four clauses, which stand at 0, 6, 12 and 18.
-fn store_four(
+pub fn store_four(
     clauses: &mut ClauseAlloc,
     db: &mut ClauseDb,
     watchlists: &mut Watchlists,

@@ -1,5 +1,8 @@
 //! The steps of a search.
-ghost use Rattle.std.specs.Prelude.{ℕ, ◌≡◌, ◌+◌, ◌^◌, ◌<◌, OnOk, IfOk, MatchResult, [], length};
+ghost use Rattle.std.specs.Prelude.{ℕ, ◌≡◌, ◌+◌, ◌^◌, ◌<◌, OnOk, IfOk, MatchResult, true, [], length};
+ghost use Rattle.sat_parts.specs.clause.Db.{HoldsDb};
+ghost use Rattle.sat_parts.specs.prop.Ready.{state_of};
+ghost use Rattle.sat_parts.specs.prop.Asks.{AsksAll};
 ghost use Rattle.sat_base.specs.values.Literals.{variable};
 ghost use Rattle.sat_parts.specs.prop.Values.{IsOpenLit};
 ghost use Rattle.sat_parts_tests.specs.Loading.{HoldsClauses, IsBlank, Serves};
@@ -56,6 +59,39 @@ pub fn propagate_all(alloc: Global, parts: &mut Parts) -> Result<Result<(), Conf
     ensures size { OnOk result (length parts.new.assignment.current ≡ length parts.old.assignment.current) }
     ensures starts { OnOk result (parts.new.trail.starts ≡ parts.old.trail.starts) }
 {
+    propagate(
+        alloc,
+        &mut parts.clauses,
+        &parts.db,
+        &mut parts.watchlists,
+        &mut parts.assignment,
+        &mut parts.graph,
+        &mut parts.trail,
+        &parts.binary,
+    )
+}
+
+/// Propagates, and where nothing was false, at once again.
+pub fn propagate_again(alloc: Global, parts: &mut Parts) -> Result<Result<(), Conflict>, AllocError>
+    requires asks { AsksAll parts.old.clauses parts.old.db.refs parts.old.watchlists parts.old.binary.implied
+        (state_of parts.old.assignment parts.old.graph parts.old.trail) }
+    ensures held { HoldsDb parts.old.clauses parts.old.db → OnOk result (HoldsDb parts.new.clauses parts.new.db) }
+    ensures enabled { OnOk result (parts.new.watchlists.enabled ≡ true) }
+{
+    let first = propagate(
+        alloc,
+        &mut parts.clauses,
+        &parts.db,
+        &mut parts.watchlists,
+        &mut parts.assignment,
+        &mut parts.graph,
+        &mut parts.trail,
+        &parts.binary,
+    )?;
+    match first {
+        Ok(()) => {}
+        Err(conflict) => return Ok(Err(conflict)),
+    }
     propagate(
         alloc,
         &mut parts.clauses,
