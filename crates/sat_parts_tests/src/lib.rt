@@ -2,6 +2,8 @@
 #![tactic(auto)]
 
 #[cfg(test)]
+mod collection;
+#[cfg(test)]
 mod data;
 #[cfg(test)]
 mod lists;

@@ -1,14 +1,47 @@
 //! Passes over clauses, and the calls for one clause.
-ghost use Rattle.std.specs.Prelude.{◌≡◌, OnOk, []};
+ghost use Rattle.std.specs.Prelude.{ℕ, ◌≡◌, ◌≤◌, ◌<◌, IsTrue, OnOk, [], length};
+ghost use Rattle.std.specs.List.{Contains};
+ghost use Rattle.sat_store.specs.clause.Buffer.{IsClause, lits_at};
 ghost use Rattle.sat_parts.specs.clause.Db.{HoldsDb, live_refs};
 
 use crate::lists::{counts, store_four};
 use sat_parts::{
-    ClauseActivity, ClauseDb, Watchlists, bump_clause_activity, decay_clause_activities,
-    dedup_and_mark_by_tier, reduce_mids,
+    Assignment, ClauseActivity, ClauseDb, ImplGraph, Watchlists, bump_clause_activity,
+    decay_clause_activities, dedup_and_mark_by_tier, reduce_mids, shorten_clause,
+    try_delete_clause,
 };
-use sat_store::{ClauseAlloc, StoreError, Tier};
+use sat_store::{ClauseAlloc, ClauseRef, StoreError, Tier};
 use std::alloc::{AllocError, Global};
+
+/// Whether the clause stands at this place of the list and isn't deleted.
+fn stands_at(clauses: &ClauseAlloc, db: &ClauseDb, at: usize, cref: ClauseRef) -> bool
+    requires db { HoldsDb clauses.now db.now }
+    requires within { at < length db.now.refs }
+    ensures live { IsTrue result → Contains (live_refs clauses.now db.now.refs) cref }
+    ensures clause { IsTrue result → IsClause clauses.now cref }
+    ensures long { IsTrue result → 3 ≤ length (lits_at clauses.now cref) }
+{
+    let there = db.cref(at);
+    if clauses.header(there).deleted() {
+        return false;
+    }
+    there == cref
+}
+
+/// Whether the clause is a live one of the list.
+pub fn is_among(clauses: &ClauseAlloc, db: &ClauseDb, cref: ClauseRef) -> bool
+    requires { HoldsDb clauses.now db.now }
+    ensures live { IsTrue result → Contains (live_refs clauses.now db.now.refs) cref }
+    ensures clause { IsTrue result → IsClause clauses.now cref }
+    ensures long { IsTrue result → 3 ≤ length (lits_at clauses.now cref) }
+{
+    for at in 0..db.len() {
+        if stands_at(clauses, db, at, cref) {
+            return true;
+        }
+    }
+    false
+}
 
 /// Tier, mark and activity of a clause of the list.
 fn fields(clauses: &ClauseAlloc, db: &ClauseDb, at: usize) -> Option<(Tier, bool, u32)>
@@ -76,6 +109,70 @@ fn raised(clauses: &mut ClauseAlloc, db: &ClauseDb) -> Option<(u64, Option<(Tier
     Some((activity.bump(), fields(clauses, db, 0)))
 }
 
+/// Keeps the first three literals of a clause, and answers how many it had.
+fn shortened(
+    clauses: &mut ClauseAlloc,
+    db: &ClauseDb,
+    watchlists: &mut Watchlists,
+    cref: ClauseRef,
+) -> usize
+    requires { HoldsDb clauses.old db.now }
+    ensures { HoldsDb clauses.new db.now }
+{
+    if !is_among(clauses, db, cref) {
+        return 0;
+    }
+    let len = clauses.len(cref);
+    shorten_clause(clauses, db, watchlists, cref, 3);
+    len
+}
+
+/// Deletes a clause unless it is a reason. None where it isn't there.
+fn tried(
+    clauses: &mut ClauseAlloc,
+    db: &mut ClauseDb,
+    watchlists: &mut Watchlists,
+    graph: &ImplGraph,
+    assignment: &Assignment,
+    cref: ClauseRef,
+) -> Option<bool>
+    requires { HoldsDb clauses.old db.old }
+{
+    if !is_among(clauses, db, cref) {
+        return None;
+    }
+    let first = clauses.lit(cref, 0).index();
+    if first >= assignment.assignment().len() || first >= graph.nodes.len() {
+        return None;
+    }
+    Some(try_delete_clause(clauses, db, watchlists, graph, assignment, cref))
+}
+
+/// Shortens the last clause, and deletes it where it isn't a reason.
+fn cut_and_tried(
+    alloc: Global,
+    clauses: &mut ClauseAlloc,
+    db: &mut ClauseDb,
+    watchlists: &mut Watchlists,
+) -> Result<bool, AllocError>
+    requires { HoldsDb clauses.old db.old }
+{
+    let mut assignment = Assignment::new(alloc);
+    let mut graph = ImplGraph::new(alloc);
+    assignment.set_var_count(7)?;
+    graph.set_var_count(7)?;
+    if db.len() != 4 {
+        return Ok(false);
+    }
+    let last = db.cref(3);
+    let lens = (
+        shortened(clauses, db, watchlists, last),
+        shortened(clauses, db, watchlists, last),
+    );
+    let first = tried(clauses, db, watchlists, &graph, &assignment, last);
+    Ok(lens == (5, 3) && first == Some(true) && db.garbage_size() == 6 && !watchlists.enabled())
+}
+
 fn activities_row(
     alloc: Global,
     clauses: &mut ClauseAlloc,
@@ -89,6 +186,21 @@ fn activities_row(
 {
     four(alloc, clauses, db, watchlists)?;
     Ok(raised(clauses, db) == Some((2048, Some((Tier::Irred, false, 3072)))))
+}
+
+fn cut_row(
+    alloc: Global,
+    clauses: &mut ClauseAlloc,
+    db: &mut ClauseDb,
+    watchlists: &mut Watchlists,
+) -> Result<bool, StoreError>
+    requires empty { clauses.old ≡ [] }
+    requires db { HoldsDb clauses.old db.old }
+    requires none { live_refs clauses.old db.old.refs ≡ [] }
+    requires lists { watchlists.old.lists ≡ [] }
+{
+    four(alloc, clauses, db, watchlists)?;
+    Ok(cut_and_tried(alloc, clauses, db, watchlists)?)
 }
 
 fn passes_row(
@@ -120,4 +232,12 @@ fn bumped_clause_is_raised(rt: HostRuntime) {
     let mut db = ClauseDb::new(rt.alloc());
     let mut watchlists = Watchlists::new(rt.alloc());
     assert!(rt; activities_row(rt.alloc(), &mut clauses, &mut db, &mut watchlists) == Ok(true));
+}
+
+#[test]
+fn clause_is_shortened_and_deleted(rt: HostRuntime) {
+    let mut clauses = ClauseAlloc::new(rt.alloc());
+    let mut db = ClauseDb::new(rt.alloc());
+    let mut watchlists = Watchlists::new(rt.alloc());
+    assert!(rt; cut_row(rt.alloc(), &mut clauses, &mut db, &mut watchlists) == Ok(true));
 }
