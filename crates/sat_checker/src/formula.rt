@@ -220,7 +220,7 @@ impl Formula {
     ) -> Result<bool, StoreError>
         ensures decides { (f : Stored) → KeepsFormula self.old f
             → TurnsIf result (PassInTurn f units.now)
-                (KeepsFormula self.new (with_units (map (λ u. u.0) units.now) f)) (with_units (map (λ u. u.0) units.now) f) }
+            (KeepsFormula self.new (with_units (map (λ u. u.0) units.now) f)) (with_units (map (λ u. u.0) units.now) f) }
         ensures looks { (f : Stored) → KeepsFormula self.old f → looks.new ≤ looks.old + length units.now * literal_count f }
     {
         for unit in units {
@@ -235,7 +235,7 @@ impl Formula {
     fn take_count(&mut self, redundant: bool, literals: &[Lit], looks: &mut Looks) -> bool
         ensures decides { (f : Stored) → KeepsFormula self.old f → MatchBool result
             ((0 < count_in redundant (clause_with literals.now f.clauses))
-                × KeepsFormula self.new (record f { clauses = without_clause redundant literals.now f.clauses }))
+            × KeepsFormula self.new (record f { clauses = without_clause redundant literals.now f.clauses }))
             (0 < count_in redundant (clause_with literals.now f.clauses) → ⊥) }
         ensures looks { (f : Stored) → KeepsFormula self.old f → looks.new ≤ looks.old + literal_count f }
     {
@@ -325,7 +325,7 @@ impl Formula {
     fn are_met(&self, assigned: &Assigned, looks: &mut Looks) -> bool
         ensures met { (f : Stored) → KeepsFormula self.now f
             → result
-                ≡ (not (list_any (λ u. is_among assigned.now (negated u.literal)) f.units) && are_all_true assigned.now f.clauses) }
+            ≡ (not (list_any (λ u. is_among assigned.now (negated u.literal)) f.units) && are_all_true assigned.now f.clauses) }
         ensures looks { (f : Stored) → KeepsFormula self.now f → looks.new ≤ looks.old + literal_count f }
     {
         !self.units.are_contradicted(assigned) && self.store.are_satisfied(assigned, looks)

@@ -114,7 +114,7 @@ impl Store {
     pub fn delete_clause(&mut self, redundant: bool, literals: &[Lit], looks: &mut Looks) -> bool
         ensures deleted { (f : Stored) → KeepsClauses self.old f → MatchBool result
             ((0 < count_in redundant (clause_with literals.now f.clauses))
-                × KeepsClauses self.new (record f { clauses = without_clause redundant literals.now f.clauses }))
+            × KeepsClauses self.new (record f { clauses = without_clause redundant literals.now f.clauses }))
             (0 < count_in redundant (clause_with literals.now f.clauses) → ⊥) }
         ensures looks { (f : Stored) → KeepsClauses self.old f → looks.new ≤ looks.old + literal_count f }
     {

@@ -78,11 +78,11 @@ negated_in ls l = is_among ls (negated l)
 pub contradicted_same : (us : List StoredUnit) (assigned ls : List ℕ) → ls ≡ reverse assigned → list_any (λ l. is_among (map (λ u. u.literal) us) (negated l)) ls ≡ list_any (λ u. is_among assigned (negated u.literal)) us
 contradicted_same us assigned ls e = same_tests _ _
     (λ h. let s = some_of (negated_in (map (λ u. u.literal) us)) ls h in
-        any_at (negated_in assigned) us
-        ∙ any_true (negated_in assigned) (map (λ u. u.literal) us) (negated s.literal) s.passes (ap (is_among assigned) (negated-negated s.literal) ∙ sym (among-reverse assigned s.literal) ∙ ap (λ ms. is_among ms s.literal) (sym e) ∙ s.within))
+    any_at (negated_in assigned) us
+    ∙ any_true (negated_in assigned) (map (λ u. u.literal) us) (negated s.literal) s.passes (ap (is_among assigned) (negated-negated s.literal) ∙ sym (among-reverse assigned s.literal) ∙ ap (λ ms. is_among ms s.literal) (sym e) ∙ s.within))
     (λ h. let s = some_of (negated_in assigned) (map (λ u. u.literal) us) (sym (any_at (negated_in assigned) us) ∙ h) in
-        any_true (negated_in (map (λ u. u.literal) us)) ls (negated s.literal) (ap (λ ms. is_among ms (negated s.literal)) e ∙ among-reverse assigned (negated s.literal) ∙ s.passes)
-        (ap (is_among (map (λ u. u.literal) us)) (negated-negated s.literal) ∙ s.within))
+    any_true (negated_in (map (λ u. u.literal) us)) ls (negated s.literal) (ap (λ ms. is_among ms (negated s.literal)) e ∙ among-reverse assigned (negated s.literal) ∙ s.passes)
+    (ap (is_among (map (λ u. u.literal) us)) (negated-negated s.literal) ∙ s.within))
 
 -- the check over what is kept is the definition's
 pub checked_units : {E : Type 0} (r : Result Bool E) (store : Store) (us : List Unit) (value : List StoredUnit) (assigned clause hashes : List ℕ) → map unit_of us ≡ value → assigned ≡ reverse (map (λ u. u.lit) us)
