@@ -11,6 +11,7 @@ pub mod HasherView
 pub mod CheckerView
 pub mod ProofView
 pub mod ClausesView
+pub mod DimacsView
 pub mod Laws
 pub mod Rows
 pub mod announcements

@@ -11,3 +11,4 @@ pub mod FormulaView
 pub mod StateView
 pub mod ModelTests
 pub mod ProofSteps
+pub mod DimacsPieces

@@ -6,6 +6,7 @@ ghost use Rattle.sat_checker.specs.Stored.{is_known, name_of};
 ghost use Rattle.sat_checker.specs.Accepts.{ready_after};
 ghost use Rattle.sat_checker.specs.CheckerView.{has_failed, looks_of, Stands, ChecksStep, ChecksClause, LooksAtMost};
 
+mod dimacs;
 mod formula;
 mod proof;
 

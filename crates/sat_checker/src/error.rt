@@ -1,5 +1,6 @@
 //! What can go wrong as a proof is checked.
 
+use sat_base::DimacsError;
 use thiserror::Error;
 
 /// Why a proof, a step or a clause wasn't accepted.
@@ -25,4 +26,13 @@ pub enum CheckerError {
     /// The checker has failed before.
     #[error("the checker has failed before")]
     HasFailed,
+}
+
+/// Why a formula's text wasn't taken whole.
+#[derive(Clone, Copy, Debug, Drop, PartialEq, Eq, Error)]
+pub enum CheckerDimacsError {
+    #[error("{0}")]
+    Dimacs(DimacsError),
+    #[error("{0}")]
+    Checker(CheckerError),
 }

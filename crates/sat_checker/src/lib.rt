@@ -26,7 +26,7 @@ pub(crate) mod valuation;
 pub mod variables;
 
 pub use checker::Checker;
-pub use error::CheckerError;
+pub use error::{CheckerDimacsError, CheckerError};
 pub use hash::ClauseHasher;
 pub use internal::SelfChecker;
 pub use looks::Looks;

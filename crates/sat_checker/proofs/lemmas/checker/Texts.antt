@@ -1,0 +1,270 @@
+-- Clauses of a text that are added, piece by piece.
+use Rattle.std.proofs.Common.{ℕ, ◌+◌, ◌≤◌, ◌≡◌, true, false, List, [], ◌∷◌, ◌++◌, append_assoc, length, Result, Ok, Err, OnOk, inl, inr, refl, sym, ap, subst, ◌∙◌, arith}
+use Rattle.std.proofs.lemmas.Bool.{true≢false}
+use Rattle.std.proofs.lemmas.List.{append-nil, map-append}
+use Rattle.sat_base.specs.device.Device.{Reader, GaveAll, GaveEnough, GaveFront, ReadFails}
+use Rattle.sat_base.specs.text.Text.{scan, tokens_of, lines}
+use Rattle.sat_base.specs.dimacs.Dimacs.{Dimacs, Ending, Clean, Malformed, Limit, clauses_of, dimacs, settled, IsDimacs}
+use Rattle.sat_base.specs.dimacs.Parsing.{Progress, no_progress, with_fed, cut_short, at_its_end, clauses_read, all_taken, Faults, FallsShort, Feeds, Finishes, IsSound, IsSoundText}
+use Rattle.sat_base.specs.declared.dimacs.error.DimacsError.{DimacsError}
+use Rattle.sat_base.specs.declared.dimacs.error.DimacsError.TheVariants as texts
+use Rattle.sat_base.proofs.lemmas.device.Given.{enough_all, enough_front}
+use Rattle.sat_base.proofs.lemmas.dimacs.Parsed.{Stands as HasFed, stops_on, ends_by}
+use Rattle.sat_base.specs.steps.Steps.{Step, AddClause}
+use Rattle.sat_checker.specs.Accepts.{Accepts, stored_after, ready_after}
+use Rattle.sat_checker.specs.CheckerView.{has_failed, looks_of, Stands, Fails}
+use Rattle.sat_checker.specs.ProofView.{taken_after, most_looks_behind, NoneFailed, GoesOn}
+use Rattle.sat_checker.specs.ClausesView.{additions, Adds, behind, AnswersClauses}
+use Rattle.sat_checker.specs.DimacsView.{AreOfFront, AreRead, FailsBehind, StandsBehind, AnswersDimacs, AddsDimacs}
+use Rattle.sat_checker.specs.inner.DimacsPieces.{is_want, AddsRead}
+use Rattle.sat_checker.specs.inner.StateView.{SpentBy}
+use Rattle.sat_checker.specs.declared.checker.Checker.{Checker}
+use Rattle.sat_checker.specs.declared.error.CheckerError.{CheckerError}
+use Rattle.sat_checker.specs.declared.error.CheckerError.TheVariants as errors
+use Rattle.sat_checker.specs.declared.error.CheckerDimacsError.{CheckerDimacsError}
+use Rattle.sat_checker.specs.declared.error.CheckerDimacsError.TheVariants as refused
+use Rattle.sat_checker.proofs.lemmas.checker.Proofs.{looks_more}
+
+-- CLAUSES BEHIND CLAUSES
+
+taken_joined : (xs ys earlier : List Step) → taken_after (xs ++ ys) earlier ≡ taken_after ys (taken_after xs earlier)
+taken_joined [] ys earlier = refl
+taken_joined (x ∷ xs) ys earlier = taken_joined xs ys (x ∷ earlier)
+
+looks_joined : (xs ys earlier : List Step) → most_looks_behind (xs ++ ys) earlier ≡ most_looks_behind xs earlier + most_looks_behind ys (taken_after xs earlier)
+looks_joined [] ys earlier = none (most_looks_behind ys earlier)
+  where
+    none : (n : ℕ) → n ≡ 0 + n
+    none n = omega arith
+looks_joined (x ∷ xs) ys earlier = apart _ _ _ _ (looks_joined xs ys (x ∷ earlier))
+  where
+    apart : (a b c d : ℕ) → b ≡ c + d → a + b ≡ (a + c) + d
+    apart a b c d e = omega arith
+
+behind_joined : (cs ds : List (List ℕ)) (earlier : List Step) → behind (cs ++ ds) earlier ≡ behind ds (behind cs earlier)
+behind_joined cs ds earlier = ap (λ (z : List Step). taken_after z earlier) (map-append AddClause cs ds) ∙ taken_joined (additions cs) (additions ds) earlier
+
+cost_joined : (cs ds : List (List ℕ)) (earlier : List Step) → most_looks_behind (additions (cs ++ ds)) earlier ≡ most_looks_behind (additions cs) earlier + most_looks_behind (additions ds) (behind cs earlier)
+cost_joined cs ds earlier = ap (λ (z : List Step). most_looks_behind z earlier) (map-append AddClause cs ds) ∙ looks_joined (additions cs) (additions ds) earlier
+
+adds_joined : (a b d : Checker) (cs ds added tried : List (List ℕ)) (earlier : List Step) → Adds a b cs cs [] earlier → Adds b d ds added tried (behind cs earlier) → Adds a d (cs ++ ds) (cs ++ added) tried earlier
+adds_joined a b d cs ds added tried earlier p q = record {
+  well = p.well;
+  left = q.left;
+  split = ap (λ (z : List (List ℕ)). cs ++ z) q.split ∙ sym (append_assoc cs (added ++ tried) q.left) ∙ ap (λ (z : List (List ℕ)). z ++ q.left) (sym (append_assoc cs added tried));
+  looks = looks_more (looks_of a) (looks_of b) (looks_of d) _ _ _ (subst (λ (z : List (List ℕ)). looks_of b ≤ looks_of a + most_looks_behind (additions z) earlier) (append-nil cs) p.looks) q.looks
+      (ap (λ (z : List (List ℕ)). most_looks_behind (additions z) earlier) (append_assoc cs added tried) ∙ cost_joined cs (added ++ tried) earlier);
+}
+
+joined : (r : Result Unit CheckerError) (a b d : Checker) (cs ds : List (List ℕ)) (earlier : List Step) → AnswersClauses (Ok tt) a b cs earlier → AnswersClauses r b d ds (behind cs earlier) → AnswersClauses r a d (cs ++ ds) earlier
+joined (Ok x) a b d cs ds earlier p q = (adds_joined a b d cs ds ds [] earlier p.0 q.0, subst (GoesOn d) (sym (behind_joined cs ds earlier)) q.1)
+joined (Err errors.CheckFailed) a b d cs ds earlier p q = (
+  cs ++ q.0,
+  q.1,
+  adds_joined a b d cs ds q.0 (q.1 ∷ []) earlier p.0 q.2,
+  subst (λ (z : List Step). Accepts (ready_after z) (AddClause q.1) → ⊥) (sym (behind_joined cs q.0 earlier)) q.3,
+  subst (GoesOn d) (sym (behind_joined cs q.0 earlier)) q.4,
+)
+joined (Err errors.CounterEnd) a b d cs ds earlier p q = (
+  cs ++ q.0,
+  q.1,
+  adds_joined a b d cs ds q.0 (q.1 ∷ []) earlier p.0 q.2,
+  subst (λ (z : List Step). SpentBy (AddClause q.1) (stored_after z)) (sym (behind_joined cs q.0 earlier)) q.3,
+  subst (Fails d) (sym (behind_joined cs q.0 earlier)) q.4,
+)
+joined (Err errors.OutOfMemory) a b d cs ds earlier p q = (cs ++ q.0, q.1, adds_joined a b d cs ds q.0 (q.1 ∷ []) earlier p.0 q.2, subst (Fails d) (sym (behind_joined cs q.0 earlier)) q.3)
+joined (Err errors.HasFailed) a b d cs ds earlier p q = absurd (true≢false (sym q.0 ∙ p.1.1))
+joined (Err errors.ProofIncomplete) a b d cs ds earlier p q = absurd q
+joined (Err errors.IoError) a b d cs ds earlier p q = absurd q
+joined (Err errors.ParseError) a b d cs ds earlier p q = absurd q
+
+none_more : (n : ℕ) → n ≤ n + 0
+none_more n = omega arith
+
+pub none_added : (c : Checker) (earlier : List Step) → has_failed c ≡ false → Stands c earlier → AnswersClauses (Ok tt) c c [] earlier
+none_added c earlier h s = (record { well = h; left = []; split = refl; looks = none_more (looks_of c) }, (s, h))
+
+-- WHAT A PIECE LEAVES
+
+pub no_clauses : (dimacs []).clauses ≡ []
+unfolding dimacs scan tokens_of lines clauses_of
+no_clauses = refl
+
+pub fed_more : (text piece : List ℕ) (p q r : Progress) → HasFed text p → q ≡ with_fed piece p → r ≡ all_taken q → HasFed (text ++ piece) r
+fed_more text piece p q r is f t =
+    let e : r ≡ record q { taken = r.taken } = t ∙ ap (λ (z : List (List ℕ)). record q { taken = z }) (sym (ap (λ (z : Progress). z.taken) t)) in
+    e ∙ ap (λ (z : Progress). record z { taken = r.taken }) f ∙ ap (λ (z : Progress). record (with_fed piece z) { taken = r.taken }) is
+
+fed_of : (text : List ℕ) (p : Progress) → HasFed text p → p.fed ≡ text
+fed_of text p is = ap (λ (z : Progress). z.fed) is
+
+-- the clauses read of a text that goes on, and of one that is over
+pub open_read : (text piece : List ℕ) (p q : Progress) → HasFed text p → q ≡ with_fed piece p → clauses_read q ≡ (dimacs (settled (text ++ piece))).clauses
+open_read text piece p q is f = ap clauses_read (f ∙ ap (with_fed piece) is)
+
+pub settled_read : (text : List ℕ) (p : Progress) → HasFed text p → clauses_read p ≡ (dimacs (settled text)).clauses
+settled_read text p is = ap clauses_read is
+
+over_read : (text : List ℕ) (p q : Progress) → HasFed text p → q ≡ at_its_end p → clauses_read q ≡ (dimacs text).clauses
+over_read text p q is f = ap clauses_read (f ∙ ap at_its_end is)
+
+has_ending : (d : Dimacs) (clauses : List (List ℕ)) (ending : Ending) → clauses ≡ d.clauses → d.ending ≡ ending → d ≡ record { clauses = clauses; ending = ending }
+has_ending d clauses ending c e = subst (λ (z : Ending). d ≡ record { clauses = clauses; ending = z }) e (subst (λ (z : List (List ℕ)). d ≡ record { clauses = z; ending = d.ending }) (sym c) refl)
+
+-- where a piece is at fault, the text has the clauses read, whatever would follow
+fault_says : (ending : Ending) (text piece : List ℕ) (p q : Progress) → HasFed text p → Faults ending piece p q → (rest : List ℕ) → IsDimacs ((text ++ piece) ++ rest) (clauses_read q) ending
+fault_says ending text piece p q is f rest =
+    let fed : q.fed ≡ text ++ f.front = ap (λ (z : Progress). z.fed) f.progress ∙ ap (λ (z : List ℕ). z ++ f.front) (fed_of text p is) in
+    let all : (text ++ piece) ++ rest ≡ q.fed ++ (f.behind ++ rest) =
+    ap (λ (z : List ℕ). (text ++ z) ++ rest) f.whole ∙ ap (λ (z : List ℕ). z ++ rest) (sym (append_assoc text f.front f.behind)) ∙ append_assoc (text ++ f.front) f.behind rest
+    ∙ ap (λ (z : List ℕ). z ++ (f.behind ++ rest)) (sym fed) in
+    ap dimacs all ∙ f.ends (f.behind ++ rest)
+
+-- and where there is no memory, those of a front
+short_says : (text piece : List ℕ) (p q : Progress) → HasFed text p → FallsShort piece p q → (rest : List ℕ) → AreOfFront ((text ++ piece) ++ rest) (clauses_read q)
+short_says text piece p q is f rest = (
+  text ++ f.front,
+  (f.byte ∷ f.behind) ++ rest,
+  ap (λ (z : List ℕ). (text ++ z) ++ rest) f.whole ∙ ap (λ (z : List ℕ). z ++ rest) (sym (append_assoc text f.front (f.byte ∷ f.behind))) ∙ append_assoc (text ++ f.front) (f.byte ∷ f.behind) rest,
+  ap clauses_read (f.progress ∙ ap (λ (z : Progress). cut_short (with_fed f.front z)) is),
+)
+
+stopped_not : (T : Type 0) (text : List ℕ) (p : Progress) → HasFed text p → p.stopped ≡ true → T
+stopped_not T text p is s = absurd (true≢false (sym s ∙ ap (λ (z : Progress). z.stopped) is))
+
+pub read_by_piece : (answer : Result Unit DimacsError) (text piece : List ℕ) (p q : Progress) → HasFed text p → Feeds answer piece p q → (rest : List ℕ) → AreRead ((text ++ piece) ++ rest) (clauses_read q)
+read_by_piece (Ok x) text piece p q is f rest = inl (text ++ piece, rest, refl, open_read text piece p q is f.1)
+read_by_piece (Err (texts.Malformed line)) text piece p q is f rest = inr (sym (ap (λ (z : Dimacs). z.clauses) (fault_says (Malformed f.1) text piece p q is f.3 rest)))
+read_by_piece (Err (texts.Limit line)) text piece p q is f rest = inr (sym (ap (λ (z : Dimacs). z.clauses) (fault_says (Limit f.1) text piece p q is f.3 rest)))
+read_by_piece (Err texts.OutOfMemory) text piece p q is f rest = inl (short_says text piece p q is f.1 rest)
+read_by_piece (Err texts.Read) text piece p q is f rest = absurd f
+read_by_piece (Err texts.HasFailed) text piece p q is f rest = stopped_not _ text p is f.0
+
+pub read_by_end : (answer : Result Unit DimacsError) (text : List ℕ) (p q : Progress) → HasFed text p → Finishes answer p q → AreRead text (clauses_read q)
+read_by_end (Ok x) text p q is f = inr (over_read text p q is f.1)
+read_by_end (Err (texts.Malformed line)) text p q is f = inr (over_read text p q is f.1)
+read_by_end (Err (texts.Limit line)) text p q is f = inr (over_read text p q is f.1)
+read_by_end (Err texts.OutOfMemory) text p q is f = inl (text, [], sym (append-nil text), ap clauses_read (f.1 ∙ ap cut_short is))
+read_by_end (Err texts.Read) text p q is f = absurd f
+read_by_end (Err texts.HasFailed) text p q is f = stopped_not _ text p is f.0
+
+pub clean_by_end : (text : List ℕ) (p q : Progress) → HasFed text p → Finishes (Ok tt) p q → IsDimacs text (clauses_read q) Clean
+clean_by_end text p q is f = has_ending (dimacs text) (clauses_read q) Clean (over_read text p q is f.1) (ap (λ (z : List ℕ). (dimacs z).ending) (sym (fed_of text p is)) ∙ f.2)
+
+-- what a fault says
+pub fails_by_piece : (e : DimacsError) (from to : Reader) (text piece : List ℕ) (p q : Progress) → HasFed text p → Feeds (Err e) piece p q → NoneFailed from to → GaveFront from to (text ++ piece) → to.ended ≡ false
+    → to.calls ≤ from.calls + length (text ++ piece) + 1 → FailsBehind e from to (clauses_read q)
+fails_by_piece (texts.Malformed line) from to text piece p q is f n g o few = (n, enough_front from to _ (text ++ piece) g o few (λ rest. (f.1, f.2, fault_says (Malformed f.1) text piece p q is f.3 rest)))
+fails_by_piece (texts.Limit line) from to text piece p q is f n g o few = (n, enough_front from to _ (text ++ piece) g o few (λ rest. (f.1, f.2, fault_says (Limit f.1) text piece p q is f.3 rest)))
+fails_by_piece texts.OutOfMemory from to text piece p q is f n g o few =
+    (n, enough_front from to _ (text ++ piece) g o few (λ rest. (stops_on texts.OutOfMemory text piece p q (fed_of text p is) (ap (λ (z : Progress). z.stopped) is) f rest, short_says text piece p q is f.1 rest)))
+fails_by_piece texts.Read from to text piece p q is f n g o few = absurd f
+fails_by_piece texts.HasFailed from to text piece p q is f n g o few = stopped_not _ text p is f.0
+
+pub fails_by_end : (e : DimacsError) (from to : Reader) (text : List ℕ) (p q : Progress) → HasFed text p → Finishes (Err e) p q → NoneFailed from to → GaveAll from to text → FailsBehind e from to (clauses_read q)
+fails_by_end (texts.Malformed line) from to text p q is f n g =
+    (n, enough_all from to _ text g (f.2, f.3, has_ending (dimacs text) (clauses_read q) (Malformed f.2) (over_read text p q is f.1) (ap (λ (z : List ℕ). (dimacs z).ending) (sym (fed_of text p is)) ∙ f.4)))
+fails_by_end (texts.Limit line) from to text p q is f n g =
+    (n, enough_all from to _ text g (f.2, f.3, has_ending (dimacs text) (clauses_read q) (Limit f.2) (over_read text p q is f.1) (ap (λ (z : List ℕ). (dimacs z).ending) (sym (fed_of text p is)) ∙ f.4)))
+fails_by_end texts.OutOfMemory from to text p q is f n g = (n, enough_all from to _ text g (ends_by texts.OutOfMemory text p q is f, (text, [], sym (append-nil text), ap clauses_read (f.1 ∙ ap cut_short is))))
+fails_by_end texts.Read from to text p q is f n g = absurd f
+fails_by_end texts.HasFailed from to text p q is f n g = stopped_not _ text p is f.0
+
+-- WHAT IS ANSWERED
+
+set_failed : (e : DimacsError) (mid : Checker) (steps : List Step) → GoesOn mid steps → StandsBehind e (record mid { failed = is_want e }) steps
+set_failed (texts.Malformed line) mid steps g = (record { accepted = g.0.accepted; status = g.0.status; kept = λ h. g.0.kept g.1 }, refl)
+set_failed (texts.Limit line) mid steps g = (record { accepted = g.0.accepted; status = g.0.status; kept = λ h. g.0.kept g.1 }, refl)
+set_failed texts.Read mid steps g = (record { accepted = g.0.accepted; status = g.0.status; kept = λ h. g.0.kept g.1 }, refl)
+set_failed texts.HasFailed mid steps g = (record { accepted = g.0.accepted; status = g.0.status; kept = λ h. g.0.kept g.1 }, refl)
+set_failed texts.OutOfMemory mid steps g = record { stands = record { accepted = g.0.accepted; status = g.0.status; kept = λ h. absurd (true≢false h) }; failed = refl }
+
+-- those that were read before were added, and these are tried
+module _ (old cur new : Checker) (q : Progress) (earlier : List Step) (clauses : List (List ℕ)) (first : AnswersClauses (Ok tt) old cur q.taken earlier) (split : clauses_read q ≡ q.taken ++ clauses) where
+  pub behind_first : (r : Result Unit CheckerError) (last : Checker) → ((steps : List Step) → Stands cur steps → AnswersClauses r cur last clauses steps) → AnswersClauses r old last (clauses_read q) earlier
+  behind_first r last a = subst (λ (z : List (List ℕ)). AnswersClauses r old last z earlier) (sym split) (joined r old cur last q.taken clauses earlier first (a (behind q.taken earlier) first.1.0))
+
+pub answers_dimacs : (result : Result Unit CheckerDimacsError) (answer : Result Unit DimacsError) (old cur new : Checker) (from to : Reader) (q : Progress) (earlier : List Step) → NoneFailed from to
+    → AnswersClauses (Ok tt) old cur q.taken earlier → (result ≡ Ok tt → answer ≡ Ok tt → GaveEnough from to (λ text. IsDimacs text (clauses_read q) Clean))
+    → ((e : DimacsError) → answer ≡ Err e → FailsBehind e from to (clauses_read q)) → GaveEnough from to (λ text. AreRead text (clauses_read q)) → AddsRead result answer q cur new → AnswersDimacs result old new from to earlier
+answers_dimacs (Ok x) answer old cur new from to q earlier n first clean fails read a = (n, clauses_read q, clean refl a.2.0, behind_first old cur new q earlier a.0 first a.1 (Ok tt) new a.2.1)
+answers_dimacs (Err (refused.Dimacs e)) answer old cur new from to q earlier n first clean fails read a =
+    let mid : Checker = a.2.1 in
+    let all = behind_first old cur new q earlier a.0 first a.1 (Ok tt) mid a.2.2 in (
+      clauses_read q,
+      fails e a.2.0,
+      subst (λ (z : Checker). Adds old z (clauses_read q) (clauses_read q) [] earlier) (sym a.2.3) (record { well = all.0.well; left = all.0.left; split = all.0.split; looks = all.0.looks }),
+      subst (λ (z : Checker). StandsBehind e z (behind (clauses_read q) earlier)) (sym a.2.3) (set_failed e mid (behind (clauses_read q) earlier) all.1),
+    )
+answers_dimacs (Err (refused.Checker errors.HasFailed)) answer old cur new from to q earlier n first clean fails read a = absurd (true≢false (sym (a.2 (behind q.taken earlier) first.1.0).0 ∙ first.1.1))
+answers_dimacs (Err (refused.Checker errors.CheckFailed)) answer old cur new from to q earlier n first clean fails read a = (n, clauses_read q, read, behind_first old cur new q earlier a.0 first a.1 (Err errors.CheckFailed) new a.2)
+answers_dimacs (Err (refused.Checker errors.CounterEnd)) answer old cur new from to q earlier n first clean fails read a = (n, clauses_read q, read, behind_first old cur new q earlier a.0 first a.1 (Err errors.CounterEnd) new a.2)
+answers_dimacs (Err (refused.Checker errors.OutOfMemory)) answer old cur new from to q earlier n first clean fails read a = (n, clauses_read q, read, behind_first old cur new q earlier a.0 first a.1 (Err errors.OutOfMemory) new a.2)
+answers_dimacs (Err (refused.Checker errors.ProofIncomplete)) answer old cur new from to q earlier n first clean fails read a = absurd (a.2 (behind q.taken earlier) first.1.0)
+answers_dimacs (Err (refused.Checker errors.IoError)) answer old cur new from to q earlier n first clean fails read a = absurd (a.2 (behind q.taken earlier) first.1.0)
+answers_dimacs (Err (refused.Checker errors.ParseError)) answer old cur new from to q earlier n first clean fails read a = absurd (a.2 (behind q.taken earlier) first.1.0)
+
+-- WHAT IS ANSWERED OF A READER
+
+-- the clauses of what was given before were added
+abbrev pub AddedBefore : Checker → Checker → Progress → Type 0
+AddedBefore old cur p = (earlier : List Step) → Stands old earlier → AnswersClauses (Ok tt) old cur p.taken earlier
+
+pub start : (c : Checker) (p : Progress) → has_failed c ≡ false → p ≡ no_progress → AddedBefore c c p
+start c p h is = λ earlier stands. subst (λ (z : List (List ℕ)). AnswersClauses (Ok tt) c c z earlier) (sym (ap (λ (z : Progress). z.taken) is)) (none_added c earlier h stands)
+
+taken_by_piece : (answer : Result Unit DimacsError) (text piece : List ℕ) (p q : Progress) → HasFed text p → Feeds answer piece p q → q.taken ≡ p.taken
+taken_by_piece (Ok x) text piece p q is f = ap (λ (z : Progress). z.taken) f.1
+taken_by_piece (Err (texts.Malformed line)) text piece p q is f = ap (λ (z : Progress). z.taken) f.3.progress
+taken_by_piece (Err (texts.Limit line)) text piece p q is f = ap (λ (z : Progress). z.taken) f.3.progress
+taken_by_piece (Err texts.OutOfMemory) text piece p q is f = ap (λ (z : Progress). z.taken) f.1.progress
+taken_by_piece (Err texts.Read) text piece p q is f = absurd f
+taken_by_piece (Err texts.HasFailed) text piece p q is f = ap (λ (z : Progress). z.taken) f.1
+
+taken_by_end : (answer : Result Unit DimacsError) (p q : Progress) → Finishes answer p q → q.taken ≡ p.taken
+taken_by_end (Ok x) p q f = ap (λ (z : Progress). z.taken) f.1
+taken_by_end (Err (texts.Malformed line)) p q f = ap (λ (z : Progress). z.taken) f.1
+taken_by_end (Err (texts.Limit line)) p q f = ap (λ (z : Progress). z.taken) f.1
+taken_by_end (Err texts.OutOfMemory) p q f = ap (λ (z : Progress). z.taken) f.1
+taken_by_end (Err texts.Read) p q f = absurd f
+taken_by_end (Err texts.HasFailed) p q f = ap (λ (z : Progress). z.taken) f.1
+
+first_of : (old cur : Checker) (p q : Progress) → AddedBefore old cur p → q.taken ≡ p.taken → (earlier : List Step) → Stands old earlier → AnswersClauses (Ok tt) old cur q.taken earlier
+first_of old cur p q added e earlier stands = subst (λ (z : List (List ℕ)). AnswersClauses (Ok tt) old cur z earlier) (sym e) (added earlier stands)
+
+-- a piece without a fault
+pub piece_added : (old cur new : Checker) (text piece : List ℕ) (p q r : Progress) (answer : Result Unit DimacsError) → HasFed text p → Feeds answer piece p q → r ≡ all_taken q → AddsRead (Ok tt) answer q cur new → AddedBefore old cur p
+    → HasFed (text ++ piece) r × (r.taken ≡ (dimacs (settled (text ++ piece))).clauses) × AddedBefore old new r
+piece_added old cur new text piece p q r answer is f t a added =
+    let fed : q ≡ with_fed piece p = (subst (λ (z : Result Unit DimacsError). Feeds z piece p q) a.2.0 f).1 in (
+      fed_more text piece p q r is fed t,
+      ap (λ (z : Progress). z.taken) t ∙ open_read text piece p q is fed,
+      λ earlier stands. subst (λ (z : List (List ℕ)). AnswersClauses (Ok tt) old new z earlier) (sym (ap (λ (z : Progress). z.taken) t))
+          (behind_first old cur new q earlier a.0 (first_of old cur p q added (ap (λ (z : Progress). z.taken) fed) earlier stands) a.1 (Ok tt) new a.2.1),
+    )
+
+pub sound_after : (answer : Result Unit DimacsError) (q r : Progress) → answer ≡ Ok tt → OnOk answer (IsSound q) → r ≡ all_taken q → IsSound r
+sound_after answer q r e s t = subst IsSound (sym t) (subst (λ (z : Result Unit DimacsError). OnOk z (IsSound q)) e s)
+
+-- one at which reading stops
+pub piece_answers : (e : CheckerDimacsError) (answer : Result Unit DimacsError) (old cur new : Checker) (from to : Reader) (text piece : List ℕ) (p q : Progress) → HasFed text p → Feeds answer piece p q → NoneFailed from to
+    → GaveFront from to (text ++ piece) → to.ended ≡ false → to.calls ≤ from.calls + length (text ++ piece) + 1 → AddedBefore old cur p → AddsRead (Err e) answer q cur new → AddsDimacs (Err e) old new from to
+piece_answers e answer old cur new from to text piece p q is f n g o few added a = λ earlier stands. answers_dimacs (Err e) answer old cur new from to q earlier n (first_of old cur p q added (taken_by_piece answer text piece p q is f) earlier stands)
+    (λ no. let k : ◌≡◌ {A = Result Unit CheckerDimacsError} (Err e) (Ok tt) = no in absurd cc)
+    (λ d s. fails_by_piece d from to text piece p q is (subst (λ (z : Result Unit DimacsError). Feeds z piece p q) s f) n g o few)
+    (enough_front from to _ (text ++ piece) g o few (λ rest. read_by_piece answer text piece p q is f rest))
+    a
+
+-- the end of the text
+pub end_answers : (result : Result Unit CheckerDimacsError) (answer : Result Unit DimacsError) (old cur new : Checker) (from to : Reader) (text : List ℕ) (p q : Progress) → HasFed text p → Finishes answer p q → NoneFailed from to
+    → GaveAll from to text → AddedBefore old cur p → AddsRead result answer q cur new → AddsDimacs result old new from to
+end_answers result answer old cur new from to text p q is f n g added a = λ earlier stands. answers_dimacs result answer old cur new from to q earlier n (first_of old cur p q added (taken_by_end answer p q f) earlier stands)
+    (λ ok s. enough_all from to _ text g (clean_by_end text p q is (subst (λ (z : Result Unit DimacsError). Finishes z p q) s f)))
+    (λ d s. fails_by_end d from to text p q is (subst (λ (z : Result Unit DimacsError). Finishes z p q) s f) n g)
+    (enough_all from to _ text g (read_by_end answer text p q is f))
+    a
+
+-- a read that failed
+pub read_answers : (old cur : Checker) (from to : Reader) (text : List ℕ) (p : Progress) → HasFed text p → ReadFails from to → GaveFront from to text → IsSound p → p.taken ≡ (dimacs (settled text)).clauses → AddedBefore old cur p
+    → AddsDimacs (Err (refused.Dimacs texts.Read)) old cur from to
+read_answers old cur from to text p is r g s t added = λ earlier stands. let all = added earlier stands in (p.taken, (r, text, g, subst IsSoundText (fed_of text p is) s, t), all.0, all.1)

@@ -1,0 +1,55 @@
+-- What contracts see of a formula's text whose clauses are added: which text was read, and what an answer means.
+use Rattle.std.specs.Prelude.{ℕ, ◌≡◌, ◌⊎◌, true, List, [], ◌++◌, Result, Ok, Err}
+use Rattle.sat_base.specs.device.Device.{Reader, GaveFront, GaveEnough, ReadFails}
+use Rattle.sat_base.specs.text.Tokenizing.{held}
+use Rattle.sat_base.specs.dimacs.Dimacs.{Clean, Malformed, Limit, dimacs, settled, IsDimacs}
+use Rattle.sat_base.specs.dimacs.Parsing.{IsSoundText, ParsesShort}
+use Rattle.sat_base.specs.declared.dimacs.error.DimacsError.{DimacsError}
+use Rattle.sat_base.specs.declared.dimacs.error.DimacsError.TheVariants as texts
+use Rattle.sat_base.specs.steps.Steps.{Step}
+use Rattle.sat_checker.specs.CheckerView.{has_failed, Stands, Fails}
+use Rattle.sat_checker.specs.ProofView.{NoneFailed, GoesOn}
+use Rattle.sat_checker.specs.ClausesView.{Adds, behind, AnswersClauses}
+use Rattle.sat_checker.specs.declared.checker.Checker.{Checker}
+use Rattle.sat_checker.specs.declared.error.CheckerError.TheVariants as errors
+use Rattle.sat_checker.specs.declared.error.CheckerDimacsError.{CheckerDimacsError}
+use Rattle.sat_checker.specs.declared.error.CheckerDimacsError.TheVariants as refused
+
+-- the clauses of the words that have ended in a front of the text
+abbrev pub AreOfFront : List ℕ → List (List ℕ) → Type 0
+AreOfFront text clauses = (front : List ℕ) × (left : List ℕ) × (text ≡ front ++ left) × (clauses ≡ (dimacs (settled front)).clauses)
+
+-- those, or all of the text
+abbrev pub AreRead : List ℕ → List (List ℕ) → Type 0
+AreRead text clauses = AreOfFront text clauses ⊎ (clauses ≡ (dimacs text).clauses)
+
+-- the text has these clauses before a fault, or there was no memory behind them
+abbrev pub FaultBehind : DimacsError → List ℕ → List (List ℕ) → Type 0
+FaultBehind (texts.Malformed line) text clauses = (n : ℕ) × (line ≡ held n) × IsDimacs text clauses (Malformed n)
+FaultBehind (texts.Limit line) text clauses = (n : ℕ) × (line ≡ held n) × IsDimacs text clauses (Limit n)
+FaultBehind texts.OutOfMemory text clauses = ParsesShort text × AreOfFront text clauses
+FaultBehind texts.Read text clauses = ⊥
+FaultBehind texts.HasFailed text clauses = ⊥
+
+-- A text was read up to its fault, or to a read that failed. It is so whatever would follow.
+abbrev pub FailsBehind : DimacsError → Reader → Reader → List (List ℕ) → Type 0
+FailsBehind texts.Read from to clauses = ReadFails from to × (text : List ℕ) × GaveFront from to text × IsSoundText text × (clauses ≡ (dimacs (settled text)).clauses)
+FailsBehind error from to clauses = NoneFailed from to × GaveEnough from to (λ text. FaultBehind error text clauses)
+
+-- the checker goes on, but not for want of memory
+abbrev pub StandsBehind : DimacsError → Checker → List Step → Type 0
+StandsBehind texts.OutOfMemory new steps = Fails new steps
+StandsBehind error new steps = GoesOn new steps
+
+-- What an answer to a text means, where these steps were accepted before. `Ok` comes where all clauses of the text were added. Where the text is at fault, those before the fault were; where a clause isn't accepted, those before it.
+abbrev pub AnswersDimacs : Result Unit CheckerDimacsError → Checker → Checker → Reader → Reader → List Step → Type 0
+AnswersDimacs (Ok x) old new from to earlier =
+    NoneFailed from to × (clauses : List (List ℕ)) × GaveEnough from to (λ text. IsDimacs text clauses Clean) × AnswersClauses (Ok tt) old new clauses earlier
+AnswersDimacs (Err (refused.Dimacs error)) old new from to earlier =
+    (clauses : List (List ℕ)) × FailsBehind error from to clauses × Adds old new clauses clauses [] earlier × StandsBehind error new (behind clauses earlier)
+AnswersDimacs (Err (refused.Checker errors.HasFailed)) old new from to earlier = (has_failed old ≡ true) × (to ≡ from) × (new ≡ old)
+AnswersDimacs (Err (refused.Checker error)) old new from to earlier =
+    NoneFailed from to × (clauses : List (List ℕ)) × GaveEnough from to (λ text. AreRead text clauses) × AnswersClauses (Err error) old new clauses earlier
+
+abbrev pub AddsDimacs : Result Unit CheckerDimacsError → Checker → Checker → Reader → Reader → Type 0
+AddsDimacs result old new from to = (steps : List Step) → Stands old steps → AnswersDimacs result old new from to steps

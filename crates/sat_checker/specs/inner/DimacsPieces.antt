@@ -1,0 +1,28 @@
+-- One piece of a formula's text that was read, and its clauses added.
+use Rattle.std.specs.Prelude.{ℕ, ◌≡◌, ◌++◌, Bool, true, false, List, Result, Ok, Err}
+use Rattle.sat_base.specs.dimacs.Parsing.{Progress, clauses_read}
+use Rattle.sat_base.specs.declared.dimacs.error.DimacsError.{DimacsError}
+use Rattle.sat_base.specs.declared.dimacs.error.DimacsError.TheVariants as texts
+use Rattle.sat_checker.specs.ClausesView.{AddsClauses}
+use Rattle.sat_checker.specs.declared.checker.Checker.{Checker}
+use Rattle.sat_checker.specs.declared.error.CheckerDimacsError.{CheckerDimacsError}
+use Rattle.sat_checker.specs.declared.error.CheckerDimacsError.TheVariants as refused
+
+-- for want of memory the checker has failed then
+abbrev pub is_want : DimacsError → Bool
+is_want (texts.Malformed line) = false
+is_want (texts.Limit line) = false
+is_want texts.Read = false
+is_want texts.OutOfMemory = true
+is_want texts.HasFailed = false
+
+-- what is answered where these clauses were added
+abbrev pub AnswersRead : Result Unit CheckerDimacsError → Result Unit DimacsError → Checker → Checker → List (List ℕ) → Type 0
+AnswersRead (Ok x) answer old new clauses = (answer ≡ Ok tt) × AddsClauses (Ok tt) old new clauses
+AnswersRead (Err (refused.Dimacs error)) answer old new clauses =
+    (answer ≡ Err error) × (mid : Checker) × AddsClauses (Ok tt) old mid clauses × (new ≡ record mid { failed = is_want error })
+AnswersRead (Err (refused.Checker error)) answer old new clauses = AddsClauses (Err error) old new clauses
+
+-- the clauses that waited are added, and the parser's answer is passed on
+abbrev pub AddsRead : Result Unit CheckerDimacsError → Result Unit DimacsError → Progress → Checker → Checker → Type 0
+AddsRead result answer parser old new = (clauses : List (List ℕ)) × (clauses_read parser ≡ parser.taken ++ clauses) × AnswersRead result answer old new clauses

@@ -1,0 +1,79 @@
+//! Formulas' texts, clause by clause.
+ghost use Rattle.std.specs.Prelude.{◌≡◌};
+ghost use Rattle.sat_base.specs.dimacs.Parsing.{all_taken};
+ghost use Rattle.sat_checker.specs.DimacsView.{AddsDimacs};
+ghost use Rattle.sat_checker.specs.inner.DimacsPieces.{AddsRead, is_want};
+
+use crate::checker::Checker;
+use crate::error::{CheckerDimacsError, CheckerError};
+use sat_base::{CountedRead, DimacsError, DimacsParser};
+
+/// How many bytes are asked for at a time.
+const PIECE: usize = 4096;
+
+/// A reader is read at most so often.
+const MAX_READS: u64 = 1 << 48;
+
+/// Whether the checker has failed then: for want of memory.
+fn is_want(error: DimacsError) -> bool
+    ensures { result ≡ is_want error }
+{
+    match error {
+        DimacsError::OutOfMemory => true,
+        DimacsError::Malformed { .. } => false,
+        DimacsError::Limit { .. } => false,
+        DimacsError::Read => false,
+        DimacsError::HasFailed => false,
+    }
+}
+
+impl Checker {
+    /// Takes the clauses of a formula's text in DIMACS CNF, in order, as the text is read in pieces of 4,096 bytes. Those before a
+    /// fault stand, and those before a clause that is refused. A text that can't be read leaves the checker going on.
+    pub fn add_dimacs_cnf<R: CountedRead>(
+        &mut self,
+        reader: &mut R,
+    ) -> Result<(), CheckerDimacsError>
+        ensures { AddsDimacs result self.old self.new (R.seen reader.old) (R.seen reader.new) }
+    {
+        if self.failed {
+            return Err(CheckerDimacsError::Checker(CheckerError::HasFailed));
+        }
+        let mut parser = DimacsParser::new(self.state.alloc);
+        let mut piece = [0; PIECE];
+        for _ in 0..MAX_READS {
+            match reader.read_counted(&mut piece) {
+                Ok(0) => {
+                    let answer = parser.finish();
+                    return self.add_read(&mut parser, answer);
+                }
+                Ok(count) => {
+                    let answer = parser.feed(&piece[..count]);
+                    self.add_read(&mut parser, answer)?;
+                }
+                Err(_) => return Err(CheckerDimacsError::Dimacs(DimacsError::Read)),
+            }
+        }
+        Err(CheckerDimacsError::Dimacs(DimacsError::Read))
+    }
+
+    /// Adds the clauses that wait in a parser, which has answered so to a piece or to the end of its text.
+    fn add_read(
+        &mut self,
+        parser: &mut DimacsParser,
+        answer: Result<(), DimacsError>,
+    ) -> Result<(), CheckerDimacsError>
+        ensures taken { parser.new ≡ all_taken parser.old }
+        ensures adds { AddsRead result answer parser.old self.old self.new }
+    {
+        let formula = parser.take_formula();
+        if let Err(error) = self.add_formula(&formula) {
+            return Err(CheckerDimacsError::Checker(error));
+        }
+        if let Err(error) = answer {
+            self.failed = is_want(error);
+            return Err(CheckerDimacsError::Dimacs(error));
+        }
+        Ok(())
+    }
+}
