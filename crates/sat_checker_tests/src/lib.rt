@@ -2,7 +2,11 @@
 #![tactic(auto)]
 
 #[cfg(test)]
+mod caller;
+#[cfg(test)]
 mod devices;
+#[cfg(test)]
+mod dimacs;
 #[cfg(test)]
 mod proofs;
 #[cfg(test)]

@@ -52,7 +52,7 @@ const UNSAT: Answer = (None, true, false);
 /// Steps in bytes, and what the checker answers.
 pub(crate) type Row = (&'static [u8], Answer);
 
-pub(crate) const ROWS: [Row; 34] = [
+pub(crate) const ROWS: [Row; 35] = [
     (&[0x0d], ENDED),
     // a name is put again on a hidden variable: the checker alone accepts it
     (
@@ -121,6 +121,8 @@ pub(crate) const ROWS: [Row; 34] = [
     (&[5, 2, 0, 2, 8, 2, 0, 2, 2], REFUSED),
     (&[5, 2, 0, 2, 5, 1, 0, 8, 2, 0, 2, 1, 3, 1], GOES_ON),
     (&[5, 2, 0, 2, 8, 2, 0, 2, 1], REFUSED),
+    // the empty clause is a part of each
+    (&[5, 2, 0, 2, 5, 0, 8, 2, 0, 2, 1], UNSAT),
     // models: one that fits, a unit contradicted, a clause not met, a variable twice
     (&[5, 2, 0, 2, 10, 2, 0, 3], GOES_ON),
     (&[5, 1, 0, 10, 1, 1], REFUSED),

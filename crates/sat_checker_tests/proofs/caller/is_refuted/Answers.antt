@@ -1,0 +1,16 @@
+use Rattle.std.proofs.Common.{[], ◌∷◌, sym, ◌∙◌}
+use Rattle.sat_base.specs.steps.Steps.{End}
+use Rattle.sat_checker.specs.ProofView.{taken_after}
+use Rattle.sat_checker.specs.ClausesView.{behind}
+use Rattle.sat_checker.proofs.lemmas.meaning.Answers.{unsat_means_none}
+use Rattle.sat_checker_tests.proofs.caller.is_refuted.Goals as goal
+
+pub returns : goal.returns
+returns g c =
+    let added = c.in_ok-add_formula.ensures [] c.new-checker.ensures.stands in
+    let read = c.in_ok-check_proof.ensures (behind c.args.formula.now.clauses []) added.1.0 in (
+      read.0,
+      read.1,
+      read.2.steps,
+      λ u a h. unsat_means_none (End ∷ taken_after read.0 (behind c.args.formula.now.clauses [])) a read.4.0.accepted (sym (c.unsat.ensures (End ∷ taken_after read.0 (behind c.args.formula.now.clauses [])) read.4.0) ∙ u) h,
+    )

@@ -1,0 +1,186 @@
+//! Formulas' texts.
+
+use crate::devices::by_one;
+use sat_base::{Counted, CountedRead, DimacsError, Lit};
+use sat_checker::{Checker, CheckerDimacsError, CheckerError};
+use std::alloc::Global;
+use std::test::Fail;
+
+/// What a checker answers to a text: the error, and whether unsat is recorded.
+type Answer = (Option<CheckerDimacsError>, bool);
+
+fn read_on<R: CountedRead>(checker: &mut Checker, reader: &mut R) -> Answer {
+    let error = checker.add_dimacs_cnf(reader).err();
+    (error, checker.unsat())
+}
+
+fn whole(alloc: Global, text: &[u8]) -> Answer {
+    read_on(&mut Checker::new(alloc), &mut Counted::new(text))
+}
+
+fn in_pieces(alloc: Global, text: &[u8]) -> Answer {
+    read_on(&mut Checker::new(alloc), &mut by_one(text, 0))
+}
+
+const TAKEN: Answer = (None, false);
+
+const REFUTED: Answer = (None, true);
+
+fn at_fault(error: DimacsError, unsat: bool) -> Answer {
+    (Some(CheckerDimacsError::Dimacs(error)), unsat)
+}
+
+/// The clauses over two variables, with each pair of signs.
+const PAIRS: &[u8] = b"c four clauses\np cnf 2 4\n1 2 0\n1 -2 0\n-1 2 0\n-1 -2 0\n";
+
+const TEXTS: [(&[u8], Answer); 6] = [
+    (b"", TAKEN),
+    (PAIRS, TAKEN),
+    (b"1 -1 0", TAKEN),
+    (b"0", REFUTED),
+    (b"1 0 -1 0", REFUTED),
+    (b"1 0\n2 0 -2 0 3 0\n", REFUTED),
+];
+
+#[test]
+fn texts_are_taken(rt: HostRuntime) -> Result<(), Fail> {
+    for (text, answer) in &TEXTS {
+        assert!(rt; whole(rt.alloc(), *text) == *answer, "{text:?}");
+        assert!(rt; in_pieces(rt.alloc(), *text) == *answer, "{text:?}");
+    }
+    Ok(())
+}
+
+/// Texts at fault, the faults, and whether the clauses before them contradict each other.
+const FAULTS: [(&[u8], DimacsError, bool); 5] = [
+    (b"1 0\nx", DimacsError::Malformed { line: 2 }, false),
+    (b"1 0\n2", DimacsError::Malformed { line: 2 }, false),
+    (b"1 0 -1 0\n1x", DimacsError::Malformed { line: 2 }, true),
+    (b"1 0 -1 0\nx 0", DimacsError::Malformed { line: 2 }, true),
+    (b"0\n\n268435457 0", DimacsError::Limit { line: 3 }, true),
+];
+
+#[test]
+fn faults_are_answered(rt: HostRuntime) -> Result<(), Fail> {
+    for &(text, error, unsat) in &FAULTS {
+        assert!(rt;
+            whole(rt.alloc(), text) == at_fault(error, unsat),
+            "{text:?}"
+        );
+        assert!(rt;
+            in_pieces(rt.alloc(), text) == at_fault(error, unsat),
+            "{text:?}"
+        );
+    }
+    Ok(())
+}
+
+/// Whether a clause before a fault stands, and the checker goes on behind the fault.
+#[test]
+fn faults_leave_the_checker(rt: HostRuntime) -> Result<(), Fail> {
+    let mut checker = Checker::new(rt.alloc());
+    let text: &[u8] = b"1 0 2";
+    let rest: &[u8] = b"-1 0";
+    let fault = at_fault(DimacsError::Malformed { line: 1 }, false);
+    assert!(rt; read_on(&mut checker, &mut Counted::new(text)) == fault);
+    assert!(rt; read_on(&mut checker, &mut Counted::new(rest)) == REFUTED);
+    Ok(())
+}
+
+/// Whether a read that fails is answered, and the checker goes on then.
+fn goes_on_behind(alloc: Global, failing: u64) -> bool {
+    let mut checker = Checker::new(alloc);
+    let answer = read_on(&mut checker, &mut by_one(b"1 2 0\n-1 0\n", failing));
+    answer == at_fault(DimacsError::Read, false) && checker.add_clause(&[]).is_ok()
+}
+
+#[test]
+fn failed_reads_are_answered(rt: HostRuntime) -> Result<(), Fail> {
+    for failing in 1..13 {
+        assert!(rt; goes_on_behind(rt.alloc(), failing), "{failing}");
+    }
+    assert!(rt;
+        read_on(
+            &mut Checker::new(rt.alloc()),
+            &mut by_one(b"1 2 0\n-1 0\n", 13)
+        ) == TAKEN
+    );
+    Ok(())
+}
+
+/// Proofs that the four clauses have no model, at widths 8 and 0.
+const REFUTATIONS: [&[u8]; 2] = [
+    &[
+        9, 8, 6, 0, 1, 0, 2, 0x44, 0xe6, 1, 6, 0, 0, 2, 0xe6, 1, 0x44, 13,
+    ],
+    &[9, 0, 6, 0, 1, 0, 1, 0, 6, 0, 0, 1, 0, 13],
+];
+
+/// What a checker answers to a proof behind a text, both in pieces of one byte.
+fn refuted(alloc: Global, proof: &[u8]) -> (Answer, Option<CheckerError>, bool) {
+    let mut checker = Checker::new(alloc);
+    let taken = read_on(&mut checker, &mut by_one(PAIRS, 0));
+    let error = checker.check_proof(&mut by_one(proof, 0)).err();
+    (taken, error, checker.unsat())
+}
+
+#[test]
+fn texts_are_refuted(rt: HostRuntime) -> Result<(), Fail> {
+    for proof in &REFUTATIONS {
+        assert!(rt;
+            refuted(rt.alloc(), *proof) == (TAKEN, None, true),
+            "{proof:?}"
+        );
+    }
+    Ok(())
+}
+
+/// A clause of a hidden variable isn't taken, and neither is one behind it.
+#[test]
+fn refused_clauses_end_a_text(rt: HostRuntime) -> Result<(), Fail> {
+    let mut checker = Checker::new(rt.alloc());
+    let hidden: &[u8] = &[2, 0, 1, 2, 0, 0];
+    let text: &[u8] = b"2 0\n1 0\n-2 0\n";
+    let refused = Some(CheckerDimacsError::Checker(CheckerError::CheckFailed));
+    assert!(rt;
+        checker.check_proof(&mut Counted::new(hidden)) == Err(CheckerError::ProofIncomplete)
+    );
+    assert!(rt; read_on(&mut checker, &mut Counted::new(text)) == (refused, false));
+    assert!(rt; checker.add_clause(&[Lit::from_code(3)]) == Ok(()));
+    assert!(rt; checker.unsat());
+    Ok(())
+}
+
+/// Nothing is read once a step was refused.
+#[test]
+fn failing_is_final(rt: HostRuntime) -> Result<(), Fail> {
+    let mut checker = Checker::new(rt.alloc());
+    let refused: &[u8] = &[3, 0];
+    let failed = Some(CheckerDimacsError::Checker(CheckerError::HasFailed));
+    assert!(rt; checker.check_proof(&mut Counted::new(refused)) == Err(CheckerError::CheckFailed));
+    assert!(rt; read_on(&mut checker, &mut by_one(PAIRS, 1)) == (failed, false));
+    Ok(())
+}
+
+/// Errors, and how they are printed.
+const PRINTED: [(CheckerDimacsError, &str); 2] = [
+    (
+        CheckerDimacsError::Dimacs(DimacsError::Read),
+        "the formula can't be read",
+    ),
+    (
+        CheckerDimacsError::Checker(CheckerError::CheckFailed),
+        "a proof step is refused",
+    ),
+];
+
+#[test]
+fn errors_are_printed(rt: HostRuntime) -> Result<(), Fail> {
+    for (error, text) in &PRINTED {
+        assert!(rt;
+            format!(in rt.alloc(); "{error}")?.as_str() == *text,
+            "{text}"
+        );
+    }
+    Ok(())
+}
