@@ -122,7 +122,7 @@ CanFollow old new rest = old.calls < new.calls → new.ended ≡ true → rest �
 pub record GaveEnough (old new : Reader) (P : List ℕ → Type 0) : Type 0 where
   pub text : List ℕ
   pub front : GaveFront old new text
-  pub over : new.ended ≡ true → IsAtEnd new.to_come
+  pub over : old.calls < new.calls → new.ended ≡ true → IsAtEnd new.to_come
   pub few : FewReads old new
   pub holds : (rest : List ℕ) → CanFollow old new rest → P (text ++ rest)
 

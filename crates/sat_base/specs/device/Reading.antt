@@ -1,5 +1,5 @@
 -- What it is to read a value in a format, from a reader whose bytes are read ahead of need.
-use Rattle.std.specs.Prelude.{◌≡◌, ℕ, true, length, ◌+◌, ◌*◌, ◌≤◌, ◌⊎◌, List, [], ◌∷◌, ◌++◌, Option, None, Some, Result, Ok, Err, nat_eq, if◌then◌else◌}
+use Rattle.std.specs.Prelude.{◌≡◌, ℕ, true, length, ◌+◌, ◌*◌, ◌<◌, ◌≤◌, ◌⊎◌, List, [], ◌∷◌, ◌++◌, Option, None, Some, Result, Ok, Err, nat_eq, if◌then◌else◌}
 use Rattle.std.specs.Io.KnownBytes.{Consumes, IsAtEnd, prepend_known}
 use Rattle.sat_base.specs.declared.device.ahead.Ahead.{Ahead}
 use Rattle.sat_base.specs.declared.device.input.Input.{Input}
@@ -35,8 +35,12 @@ named names s = record s { names = names }
 abbrev pub source_of : {R : Type 0} → (R → Reader) → Input R → Source
 source_of seen i = named (i.reader.ghost_name ∷ i.ahead.ghost_name ∷ []) (source seen i.reader.now i.ahead.now)
 
+-- its reader was read for it, and the last read found the end
+abbrev pub AtEnd : Source → Type 0
+AtEnd s = (0 < s.reads) × (s.reader.ended ≡ true)
+
 -- These bytes were taken, and no call failed. What waited and what was given since is what was taken and what waits now. A read gave at
--- most 4,096 bytes, and there were at most as many reads as bytes given, but for so many.
+-- most 4,096 bytes, and there were at most as many reads as bytes given, but for so many. Where there were no more, none found the end.
 pub record PassesBut (more : ℕ) (old new : Source) (text : List ℕ) : Type 0 where
   pub fresh : List ℕ
   pub gave : new.reader.given ≡ old.reader.given ++ fresh
@@ -48,6 +52,7 @@ pub record PassesBut (more : ℕ) (old new : Source) (text : List ℕ) : Type 0 
   pub few : new.reads ≤ old.reads + length fresh + more
   pub loans : new.reader.loans ≡ old.reader.loans
   pub names : new.names ≡ old.names
+  pub going : more ≡ 0 → AtEnd new → AtEnd old
 
 -- no read was made for nothing
 abbrev pub Passes : Source → Source → List ℕ → Type 0
@@ -55,6 +60,7 @@ Passes old new text = PassesBut 0 old new text
 
 -- all bytes are taken: the last read found the reader at its end, and none waits
 pub record AllTaken (s : Source) : Type 0 where
+  pub read : 0 < s.reads
   pub ended : s.reader.ended ≡ true
   pub waiting : s.waiting ≡ []
   pub over : IsAtEnd (to_come s)

@@ -80,7 +80,7 @@ pub enough_all : (a c : Reader) (P : List ℕ → Type 0) (xs : List ℕ) → Ga
 enough_all a c P xs g p = record {
   text = xs;
   front = record { gave = g.gave; told = g.told; loans = g.loans };
-  over = is_over a c xs g;
+  over = λ called. is_over a c xs g;
   few = g.few;
   holds = λ rest f. subst P (sym (ap (λ (z : List ℕ). xs ++ z) (f g.called g.ends) ∙ append-nil xs)) p;
 }
@@ -90,7 +90,7 @@ pub enough_front : (a c : Reader) (P : List ℕ → Type 0) (xs : List ℕ) → 
 enough_front a c P xs g e few p = record {
   text = xs;
   front = g;
-  over = still_open c (IsAtEnd c.to_come) e;
+  over = λ called. still_open c (IsAtEnd c.to_come) e;
   few = few_front a c xs g few;
   holds = λ rest f. p rest;
 }
@@ -106,7 +106,7 @@ told_of (Some all) (Some rest) xs P h k = subst P (sym h) (k rest refl)
 
 -- where the reader tells its bytes, it is so of all that there were
 pub enough_told : (a c : Reader) (P : List ℕ → Type 0) → GaveEnough a c P → IfSome a.to_come P
-enough_told a c P g = told_of a.to_come c.to_come g.text P g.front.told (λ rest h. g.holds rest (λ called e. rest_ends c.to_come rest h (g.over e)))
+enough_told a c P g = told_of a.to_come c.to_come g.text P g.front.told (λ rest h. g.holds rest (λ called e. rest_ends c.to_come rest h (g.over called e)))
 
 -- what follows from it is so, too
 pub enough_as : (a c : Reader) (P Q : List ℕ → Type 0) → ((text : List ℕ) → P text → Q text) → GaveEnough a c P → GaveEnough a c Q

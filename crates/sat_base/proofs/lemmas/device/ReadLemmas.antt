@@ -26,6 +26,7 @@ passes_none s = record {
   few = omega arith;
   loans = refl;
   names = refl;
+  going = λ e h. h;
 }
 
 -- what was given and what was taken, over two turns
@@ -50,6 +51,7 @@ passes_more {n} old mid new xs ys p q = record {
   few = few_more p.fresh q.fresh old.reads mid.reads new.reads n p.few q.few;
   loans = q.loans ∙ p.loans;
   names = q.names ∙ p.names;
+  going = λ e h. p.going refl (q.going e h);
 }
 
 pub faults_later : (old mid new : Source) (xs ys : List ℕ) → Passes old mid xs → Faults mid new ys → Faults old new (xs ++ ys)
@@ -255,6 +257,7 @@ took_byte s r ws vs names n m byte p e f = record {
   few = omega (arith, p.few, f);
   loans = p.loans;
   names = p.names;
+  going = λ e h. p.going e (omega (arith, f, h.0), h.1);
 }
 
 -- a read that gave some bytes, and one that gave none

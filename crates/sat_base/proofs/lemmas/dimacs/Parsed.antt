@@ -125,4 +125,4 @@ pub counted_of : (E : Type 0) (a c : Reader) (p : Progress) (count : ℕ) → Pa
 counted_of E a c p count h over few e =
     let read = h.2 in
     let words : words_read p ≡ h.0 = ap (λ (b : Bool). if b then p.fed else settled p.fed) read.2 ∙ read.0 in
-    record { text = h.0; front = h.1; over = over; few = few; holds = λ rest k. e ∙ ap (λ (z : List ℕ). held (length (dimacs z).clauses)) words ∙ sym (ap (λ (d : Dimacs). held (length d.clauses)) (h.3 rest k).0) }
+    record { text = h.0; front = h.1; over = λ called. over; few = few; holds = λ rest k. e ∙ ap (λ (z : List ℕ). held (length (dimacs z).clauses)) words ∙ sym (ap (λ (d : Dimacs). held (length d.clauses)) (h.3 rest k).0) }

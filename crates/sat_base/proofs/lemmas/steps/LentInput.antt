@@ -18,13 +18,13 @@ same_names (Err errors.OutOfMemory) s t h = h.2.names
 same_names (Err errors.HasFailed) s t h = absurd h
 
 passes_named : {n : ℕ} (ns : List ℕ) (s t : Source) (text : List ℕ) → PassesBut n s t text → PassesBut n (named ns s) (named ns t) text
-passes_named ns s t text p = record { fresh = p.fresh; gave = p.gave; flows = p.flows; bytes = p.bytes; failures = p.failures; calls = p.calls; room = p.room; few = p.few; loans = p.loans; names = refl }
+passes_named ns s t text p = record { fresh = p.fresh; gave = p.gave; flows = p.flows; bytes = p.bytes; failures = p.failures; calls = p.calls; room = p.room; few = p.few; loans = p.loans; names = refl; going = p.going }
 
 faults_named : (ns : List ℕ) (s t : Source) (text : List ℕ) → Faults s t text → Faults (named ns s) (named ns t) text
 faults_named ns s t text f = record { fresh = f.fresh; gave = f.gave; flows = f.flows; none = f.none; bytes = f.bytes; cause = f.cause; calls = f.calls; room = f.room; few = f.few; loans = f.loans; names = refl }
 
 taken_named : (ns : List ℕ) (t : Source) → AllTaken t → AllTaken (named ns t)
-taken_named ns t a = record { ended = a.ended; waiting = a.waiting; over = a.over }
+taken_named ns t a = record { read = a.read; ended = a.ended; waiting = a.waiting; over = a.over }
 
 answers_named : (ns : List ℕ) (r : Result Step StepError) (s t : Source) → Answers r s t → Answers r (named ns s) (named ns t)
 answers_named ns (Ok step) s t h = (h.0, passes_named ns s t h.0 h.1, h.2)
