@@ -6,6 +6,7 @@ pub mod VerdictPromises
 pub mod CertificatePlaces
 pub mod Decides
 pub mod ReadSteps
+pub mod Streams
 pub mod Views
 pub mod ConfirmedCommands
 pub mod SpeltLiterals

@@ -14,6 +14,7 @@ pub(crate) mod session;
 pub(crate) mod sets;
 pub(crate) mod source;
 pub(crate) mod spell;
+pub(crate) mod stop;
 #[cfg(test)]
 mod tests;
 

@@ -17,3 +17,5 @@ pub mod CertificateSteps
 pub mod SourceFormats
 pub mod SourceNumbers
 pub mod SourceSteps
+pub mod Streams
+pub mod SteppedOn

@@ -1,0 +1,193 @@
+-- A certificate that is read step by step: how its calls follow one another.
+use Rattle.std.proofs.Common.{◌≡◌, ℕ, ◌+◌, ◌<◌, ◌≤◌, true, false, List, [], ◌∷◌, ◌++◌, drop, length, length-append, Option, Some, None, Result, Ok, Err, inl, inr, append_assoc, refl, sym, ap, ◌∙◌, subst, arith}
+use Rattle.std.proofs.Math.Seq.{drop-append_seam}
+use Rattle.std.proofs.lemmas.List.{append-nil}
+use Rattle.std.specs.Io.KnownBytes.{Consumes, IsAtEnd, prepend_known}
+use Rattle.sat_base.specs.declared.steps.error.StepError.{StepError}
+use Rattle.sat_base.specs.declared.steps.error.StepError.TheVariants as errors
+use Rattle.sat_base.specs.device.Device.{Reader, GaveEnough, ReadFails, most_reads}
+use Rattle.sat_base.specs.device.Reading.{Source, AtEnd, PassesBut, Passes, PassesToEnd, AllTaken, Faults, Answers, unread}
+use Rattle.sat_base.specs.steps.StepReading.{Answered, repeated}
+use Rattle.sat_base.specs.steps.Formats.{Open, Live}
+use Rattle.sat_base.specs.steps.Steps.{Step}
+use Rattle.sat_base.specs.steps.StepText.{SpellsStep, tag_of}
+use Rattle.sat_base.proofs.lemmas.device.ReadLemmas.{passes_more, faults_later}
+use Rattle.certify.specs.confirm.ReadSteps.{BeginsNoStep, ReadsStep}
+use Rattle.certify.specs.confirm.Streams.{Stream, rest_in, seen_in, Covers, Over, Moves, Halts, Confirms, stop_of}
+use Rattle.certify.specs.confirm.Views.{View, place}
+use Rattle.certify.specs.declared.confirm.stop.Stop.{Stop}
+use Rattle.certify.specs.declared.confirm.stop.Stop.TheVariants as stop
+use Rattle.certify.specs.declared.verdict.Why.{Why}
+use Rattle.certify.specs.declared.verdict.Why.TheVariants.{CertificateEnds, StepRefused}
+use Rattle.certify.proofs.lemmas.confirm.OneStep.{one_step}
+use Rattle.sat_base.proofs.lemmas.steps.Fronts.{no_whole, no_way}
+
+-- WHAT CAN FOLLOW
+
+-- a reader that isn't at its end, and what it gave since, can be followed as then
+pub covers_back : (n : ℕ) (s t : Source) (text total : List ℕ) → (AtEnd s → ⊥) → PassesBut n s t text → Covers t total → Covers s total
+covers_back n s t text total open_yet p c = record {
+  later = p.fresh ++ c.later;
+  whole = c.whole ∙ ap (λ (z : List ℕ). z ++ c.later) p.gave ∙ append_assoc s.reader.given p.fresh c.later;
+  none = λ h. absurd (open_yet h);
+}
+
+-- it goes on not to be at its end
+pub stays_open : (s t : Source) (text : List ℕ) → (AtEnd s → ⊥) → Passes s t text → AtEnd t → ⊥
+stays_open s t text open_yet p h = open_yet (p.going refl h)
+
+rest_is : (s : Source) (total later : List ℕ) → total ≡ s.reader.given ++ later → rest_in total s ≡ s.waiting ++ later
+rest_is s total later e = ap (λ (z : List ℕ). s.waiting ++ drop (length s.reader.given) z) e ∙ ap (λ (z : List ℕ). s.waiting ++ z) (drop-append_seam s.reader.given later)
+
+-- the bytes that were taken stand in front of those still to come
+pub taken_front : (n : ℕ) (s t : Source) (text total : List ℕ) → PassesBut n s t text → Covers t total → rest_in total s ≡ text ++ rest_in total t
+taken_front n s t text total p c =
+    let whole : total ≡ s.reader.given ++ (p.fresh ++ c.later) = c.whole ∙ ap (λ (z : List ℕ). z ++ c.later) p.gave ∙ append_assoc s.reader.given p.fresh c.later in
+    rest_is s total (p.fresh ++ c.later) whole ∙ sym (append_assoc s.waiting p.fresh c.later) ∙ ap (λ (z : List ℕ). z ++ c.later) p.flows
+    ∙ append_assoc text t.waiting c.later ∙ ap (λ (z : List ℕ). text ++ z) (sym (rest_is t total c.later c.whole))
+
+-- none stand behind them where the end was found
+pub nothing_behind : (s t : Source) (text total : List ℕ) → PassesToEnd s t text → Covers t total → rest_in total s ≡ text
+nothing_behind s t text total p c =
+    let none : c.later ≡ [] = c.none (p.1.read, p.1.ended) in
+    let behind : rest_in total t ≡ [] = rest_is t total c.later c.whole ∙ ap (λ (z : List ℕ). z ++ c.later) p.1.waiting ∙ none in
+    taken_front 1 s t text total p.0 c ∙ ap (λ (z : List ℕ). text ++ z) behind ∙ append-nil text
+
+-- WHERE NO STEP STANDS
+
+pub no_step_at_byte : (s t : Source) (front : List ℕ) (byte : ℕ) (total : List ℕ) → Passes s t (front ++ byte ∷ []) → Live SpellsStep front → (Open SpellsStep (front ++ byte ∷ []) → ⊥) → Covers t total
+    → BeginsNoStep (rest_in total s)
+no_step_at_byte s t front byte total p live shut c =
+    no_way SpellsStep one_step (rest_in total s) front (rest_in total t) byte (taken_front 0 s t (front ++ byte ∷ []) total p c ∙ append_assoc front (byte ∷ []) (rest_in total t)) live shut
+
+pub no_step_cut : (s t : Source) (text total : List ℕ) → PassesToEnd s t text → Live SpellsStep text → Covers t total → BeginsNoStep (rest_in total s)
+no_step_cut s t text total p live c = no_whole SpellsStep one_step (rest_in total s) (subst (Live SpellsStep) (sym (nothing_behind s t text total p c)) live)
+
+pub no_step_over : (s t : Source) (total : List ℕ) → PassesToEnd s t [] → Covers t total → BeginsNoStep (rest_in total s)
+no_step_over s t total p c step text rest e h = let u : [] ≡ tag_of step ∷ (h.0 ++ rest) = sym (nothing_behind s t [] total p c) ∙ e ∙ ap (λ (z : List ℕ). z ++ rest) h.1 in cc
+
+-- ONE CALL AFTER ANOTHER
+
+weaker : (s t : Source) (text : List ℕ) → Passes s t text → PassesBut 1 s t text
+weaker s t text p = record {
+  fresh = p.fresh;
+  gave = p.gave;
+  flows = p.flows;
+  bytes = p.bytes;
+  failures = p.failures;
+  calls = p.calls;
+  room = p.room;
+  few = omega (arith, p.few);
+  loans = p.loans;
+  names = p.names;
+  going = λ e. absurd (omega (arith, e));
+}
+
+-- one that went on before one that stops
+halts_later : (a b c : Stream) → Moves a b → Halts b c → Halts a c
+halts_later a b c m h = ((m.0 ++ h.0.0, passes_more a.source b.source c.source m.0 h.0.0 m.1 h.0.1), h.1)
+
+pub moves_halt : (a b : Stream) → (AtEnd a.source → ⊥) → Moves a b → Halts a b
+moves_halt a b open_yet m = ((m.0, weaker a.source b.source m.0 m.1), λ h. absurd (stays_open a.source b.source m.0 open_yet m.1 h))
+
+over_then : (n : ℕ) (a b c : Stream) (text : List ℕ) (P Q R : View → View → Type 0) → (AtEnd b.source → ⊥) → PassesBut n b.source c.source text
+    → ((x y z : View) → P x y → Q y z → R x z) → Over a b P → Over b c Q → Over a c R
+over_then n a b c text P Q R open_yet p f g h total k =
+    f (seen_in total a) (seen_in total b) (seen_in total c) (g total (covers_back n b.source c.source text total open_yet p k)) (h total k)
+
+-- behind a call that went on
+pub confirms_then : {A B : Type 0} (x : A) (r : Result B Stop) (a b c : Stream) (P : View → View → Result A Why → Type 0) (Q R : View → View → Result B Why → Type 0) → (AtEnd a.source → ⊥)
+    → ((u v w : View) (y : Result B Why) → P u v (Ok x) → Q v w y → R u w y) → Confirms (Ok x) a b P → Confirms r b c Q → Confirms r a c R
+confirms_then x (Ok y) a b c P Q R open_yet f p q = (
+  (p.0.0 ++ q.0.0, passes_more a.source b.source c.source p.0.0 q.0.0 p.0.1 q.0.1),
+  over_then 0 a b c q.0.0 (λ u v. P u v (Ok x)) (λ u v. Q u v (Ok y)) (λ u v. R u v (Ok y)) (stays_open a.source b.source p.0.0 open_yet p.0.1) q.0.1 (λ u v w. f u v w (Ok y)) p.1 q.1,
+)
+confirms_then x (Err (stop.No why)) a b c P Q R open_yet f p q = (
+  halts_later a b c p.0 q.0,
+  over_then 1 a b c q.0.0.0 (λ u v. P u v (Ok x)) (λ u v. Q u v (Err why)) (λ u v. R u v (Err why)) (stays_open a.source b.source p.0.0 open_yet p.0.1) q.0.0.1 (λ u v w. f u v w (Err why)) p.1 q.1,
+)
+confirms_then x (Err stop.Read) a b c P Q R open_yet f p q = (p.0.0 ++ q.0, faults_later a.source b.source c.source p.0.0 q.0 p.0.1 q.1)
+confirms_then x (Err stop.OutOfMemory) a b c P Q R open_yet f p q = halts_later a b c p.0 q
+
+-- an error that is handed on
+pub confirms_stop : {A B : Type 0} (e : Stop) (a b : Stream) (P : View → View → Result A Why → Type 0) (R : View → View → Result B Why → Type 0)
+    → ((u v : View) (why : Why) → P u v (Err why) → R u v (Err why)) → Confirms {A = A} (Err e) a b P → Confirms {A = B} (Err e) a b R
+confirms_stop (stop.No why) a b P R f p = (p.0, λ total k. f (seen_in total a) (seen_in total b) why (p.1 total k))
+confirms_stop stop.Read a b P R f p = p
+confirms_stop stop.OutOfMemory a b P R f p = p
+
+-- THE NEXT STEP
+
+-- a reader of steps that goes on doesn't say that it has failed
+pub answered : (r : Result Step StepError) (s t : Source) → repeated r ≡ false → Answered r s t → Answers r s t
+answered (Ok step) s t e h = h
+answered (Err errors.Ends) s t e h = h
+answered (Err errors.Cut) s t e h = h
+answered (Err errors.BadByte) s t e h = h
+answered (Err errors.Read) s t e h = h
+answered (Err errors.OutOfMemory) s t e h = h
+answered (Err errors.HasFailed) s t e h = absurd (let k : true ≡ false = e in cc)
+
+pub step_came : (step : Step) (a b : Stream) → b.step ≡ step → Answers (Ok step) a.source b.source → Moves a b × Over a b (λ u v. ReadsStep (place u) (place v))
+step_came step a b e h = (
+  (h.0, h.1),
+  (λ total k. record { text = h.0; spelt = subst (λ (z : Step). SpellsStep z h.0) (sym e) h.2; front = taken_front 0 a.source b.source h.0 total h.1 k }),
+)
+
+none_waits : (known : Option (List ℕ)) (ws : List ℕ) → ws ≡ [] → IsAtEnd (prepend_known ws known) → IsAtEnd known
+none_waits None ws e h = tt
+none_waits (Some xs) ws e h = sym (ap (λ (z : List ℕ). z ++ xs) e) ∙ h
+
+all_over : (s : Source) → AllTaken s → IsAtEnd s.reader.to_come
+all_over s t = none_waits s.reader.to_come s.waiting t.waiting t.over
+
+-- no step stands there
+pub none_came : {A : Type 0} (e : StepError) (a b : Stream) (P : View → View → Result A Why → Type 0) → (AtEnd a.source → ⊥) → Answers (Err e) a.source b.source
+    → ((total : List ℕ) (why : Why) → BeginsNoStep (rest_in total a.source) → P (seen_in total a) (seen_in total b) (Err why)) → Confirms {A = A} (Err (stop_of e)) a b P
+none_came errors.Ends a b P o h f = ((([], h.0), λ _. all_over b.source h.1), λ total k. f total CertificateEnds (no_step_over a.source b.source total h k))
+none_came errors.Cut a b P o h f =
+    (((h.0 ∷ h.1, h.2.0), λ _. all_over b.source h.2.1), λ total k. f total CertificateEnds (no_step_cut a.source b.source (h.0 ∷ h.1) total h.2 h.3 k))
+none_came errors.BadByte a b P o h f =
+    (moves_halt a b o (h.0 ++ h.1 ∷ [], h.2), λ total k. f total StepRefused (no_step_at_byte a.source b.source h.0 h.1 total h.2 h.3 h.4 k))
+none_came errors.Read a b P o h f = (h.0, h.1)
+none_came errors.OutOfMemory a b P o h f = moves_halt a b o (h.0 ∷ h.1, h.2)
+none_came errors.HasFailed a b P o h f = absurd h
+
+-- WHAT THE READER GAVE
+
+told_front : (a b : Option (List ℕ)) (ws text fresh : List ℕ) → fresh ≡ text ++ ws → Consumes (prepend_known [] a) (prepend_known ws b) text → Consumes a b fresh
+told_front None b ws text fresh e h = tt
+told_front (Some x) None ws text fresh e h = absurd h
+told_front (Some x) (Some y) ws text fresh e h = h ∙ sym (append_assoc text ws y) ∙ ap (λ (z : List ℕ). z ++ y) (sym e)
+
+few_of : (rc tc tr : ℕ) (rg tg fresh : List ℕ) → tc + 0 ≡ rc + tr → tr ≤ 0 + length fresh + 1 → tg ≡ rg ++ fresh → tc + length rg ≤ rc + length tg + 1
+few_of rc tc tr rg tg fresh e k g = let l : length tg ≡ length rg + length fresh = ap length g ∙ length-append rg fresh in omega arith
+
+read_some : (rc tc tr : ℕ) → tc + 0 ≡ rc + tr → rc < tc → 0 < tr
+read_some rc tc tr e h = omega arith
+
+called_some : (rc tc tr : ℕ) → tc + 0 ≡ rc + tr → 0 < tr → rc < tc
+called_some rc tc tr e h = omega arith
+
+-- what is so whatever would follow is so of what it gave
+pub gave_enough : (r : Reader) (t : Source) (text : List ℕ) (P : List ℕ → Type 0) → PassesBut 1 (unread r) t text → (AtEnd t → IsAtEnd t.reader.to_come)
+    → ((total : List ℕ) → Covers t total → P (rest_in total (unread r))) → GaveEnough r t.reader P
+gave_enough r t text P p over f = record {
+  text = p.fresh;
+  front = record { gave = p.gave; told = told_front r.to_come t.reader.to_come t.waiting text p.fresh p.flows p.bytes; loans = p.loans };
+  over = λ called e. over (read_some r.calls t.reader.calls t.reads p.calls called, e);
+  few = few_of r.calls t.reader.calls t.reads r.given t.reader.given p.fresh p.calls p.few p.gave;
+  holds = λ rest k.
+      let whole : t.reader.given ++ rest ≡ r.given ++ (p.fresh ++ rest) = ap (λ (z : List ℕ). z ++ rest) p.gave ∙ append_assoc r.given p.fresh rest in
+      subst P (rest_is (unread r) (t.reader.given ++ rest) (p.fresh ++ rest) whole)
+      (f (t.reader.given ++ rest) (record { later = rest; whole = refl; none = λ h. k (called_some r.calls t.reader.calls t.reads p.calls h.0) h.1 }));
+}
+
+read_out : (rc tc tr m : ℕ) → tc + 0 ≡ rc + tr → m ≤ tr → tr ≤ m → tc ≡ rc + m
+read_out rc tc tr m e h k = omega arith
+
+pub read_fails : (r : Reader) (t : Source) (text : List ℕ) → t.reads ≤ most_reads → Faults (unread r) t text → ReadFails r t.reader
+read_fails r t text b p = (
+  elim p.cause [ inl h ↦ inl (h.0, h.1) | inr h ↦ inr (h.0, read_out r.calls t.reader.calls t.reads most_reads p.calls h.1 b) ],
+  few_of r.calls t.reader.calls t.reads r.given t.reader.given p.fresh p.calls p.few p.gave,
+)

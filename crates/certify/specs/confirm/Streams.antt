@@ -1,0 +1,92 @@
+-- A certificate that is read step by step: what confirming makes of it, whatever would follow.
+use Rattle.std.specs.Prelude.{◌≡◌, ◌≤◌, ℕ, false, List, [], ◌++◌, drop, length, Option, Some, None, Result, Ok, Err}
+use Rattle.std.specs.Io.KnownBytes.{IsAtEnd}
+use Rattle.sat_base.specs.declared.steps.error.StepError.{StepError}
+use Rattle.sat_base.specs.declared.steps.error.StepError.TheVariants as errors
+use Rattle.sat_base.specs.device.Reading.{Source, AtEnd, PassesBut, Passes, Faults}
+use Rattle.sat_base.specs.declared.steps.reader.Buffers.{Buffers}
+use Rattle.sat_base.specs.declared.steps.reader.StepReader.{StepReader}
+use Rattle.sat_base.specs.device.Device.{Reader, most_reads}
+use Rattle.sat_base.specs.steps.StepReading.{reader_source, has_failed, step_in}
+use Rattle.sat_base.specs.steps.Steps.{Step}
+use Rattle.certify.specs.confirm.Views.{View}
+use Rattle.certify.specs.declared.checker.Checker.{Checker}
+use Rattle.certify.specs.declared.confirm.certificate.Awaited.{Awaited}
+use Rattle.certify.specs.declared.confirm.certificate.Awaited.TheVariants as awaited
+use Rattle.certify.specs.declared.confirm.certificate.Certificate.{Certificate}
+use Rattle.certify.specs.declared.confirm.stop.Stop.{Stop}
+use Rattle.certify.specs.declared.confirm.stop.Stop.TheVariants as stop
+use Rattle.certify.specs.declared.verdict.Why.{Why}
+use Rattle.certify.specs.declared.verdict.Why.TheVariants.{CertificateEnds, StepRefused}
+
+-- what its steps are read from, and what else confirming sees
+pub record Stream : Type 0 where
+  pub source : Source
+  pub checker : Checker
+  pub variables : List ℕ
+  pub step : Step
+
+abbrev pub stream : {R : Type 0} → (R → Reader) → StepReader R Buffers → Certificate → Stream
+stream seen r c = record { source = reader_source seen r; checker = c.checker; variables = c.variables.items; step = step_in r }
+
+-- a reader of steps that goes on: it hasn't failed, and isn't at its end
+pub record GoesOn {R : Type 0} (seen : R → Reader) (r : StepReader R Buffers) : Type 0 where
+  pub well : has_failed r ≡ false
+  pub open_yet : AtEnd (reader_source seen r) → ⊥
+  pub bound : (reader_source seen r).reads ≤ most_reads
+
+-- the bytes still to come, if these are all that its reader will have given, to whomever
+abbrev pub rest_in : List ℕ → Source → List ℕ
+rest_in total s = s.waiting ++ drop (length s.reader.given) total
+
+-- what confirming sees then
+abbrev pub seen_in : List ℕ → Stream → View
+seen_in total s = record { checker = s.checker; variables = s.variables; step = s.step; rest = rest_in total s.source }
+
+-- these can be all bytes that a reader will have given: no more where it is at its end
+pub record Covers (s : Source) (total : List ℕ) : Type 0 where
+  pub later : List ℕ
+  pub whole : total ≡ s.reader.given ++ later
+  pub none : AtEnd s → later ≡ []
+
+-- whatever would follow, this is so of what confirming saw and sees
+abbrev pub Over : Stream → Stream → (View → View → Type 0) → Type 0
+Over old new P = (total : List ℕ) → Covers new.source total → P (seen_in total old) (seen_in total new)
+
+-- some bytes were taken
+abbrev pub Moves : Stream → Stream → Type 0
+Moves old new = (text : List ℕ) × Passes old.source new.source text
+
+-- some bytes were taken, and then perhaps the end was found
+abbrev pub Halts : Stream → Stream → Type 0
+Halts old new = ((text : List ℕ) × PassesBut 1 old.source new.source text) × (AtEnd new.source → IsAtEnd new.source.reader.to_come)
+
+-- What a call answers: it goes on, or it stops; P says what an answer makes of what confirming saw and sees.
+abbrev pub Confirms : {A : Type 0} → Result A Stop → Stream → Stream → (View → View → Result A Why → Type 0) → Type 0
+Confirms (Ok x) old new P = Moves old new × Over old new (λ a b. P a b (Ok x))
+Confirms (Err (stop.No why)) old new P = Halts old new × Over old new (λ a b. P a b (Err why))
+Confirms (Err stop.Read) old new P = (text : List ℕ) × Faults old.source new.source text
+Confirms (Err stop.OutOfMemory) old new P = Halts old new
+
+-- why not, if so
+abbrev pub why_of : Result (Unit {0}) Why → Option Why
+why_of (Ok x) = None
+why_of (Err why) = Some why
+
+-- what came where an ordered step is awaited, and what one more step brought
+abbrev pub awaited_of : Result Awaited Why → Awaited
+awaited_of (Ok a) = a
+awaited_of (Err why) = awaited.No why
+
+abbrev pub one_step_of : Result (Option Awaited) Why → Option Awaited
+one_step_of (Ok a) = a
+one_step_of (Err why) = Some (awaited.No why)
+
+-- what a call answers where no step was read
+abbrev pub stop_of : StepError → Stop
+stop_of errors.Ends = stop.No CertificateEnds
+stop_of errors.Cut = stop.No CertificateEnds
+stop_of errors.BadByte = stop.No StepRefused
+stop_of errors.Read = stop.Read
+stop_of errors.OutOfMemory = stop.OutOfMemory
+stop_of errors.HasFailed = stop.Read

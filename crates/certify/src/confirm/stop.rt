@@ -1,0 +1,53 @@
+//! Why nothing more is confirmed.
+ghost use Rattle.std.specs.Prelude.{◌≡◌};
+ghost use Rattle.certify.specs.confirm.Streams.{stop_of};
+
+use crate::verdict::Why;
+use sat_base::StepError;
+use std::alloc::{AllocError, AllocFailed};
+
+/// Why nothing more is confirmed.
+#[derive(Clone, Copy, Debug, Drop, PartialEq, Eq)]
+pub(crate) enum Stop {
+    /// What was met first that doesn't match.
+    No(Why),
+    /// The certificate's reader failed, or was read 2^48 times.
+    Read,
+    OutOfMemory,
+}
+
+impl From<AllocError> for Stop {
+    ghost use Rattle.std.specs.Prelude.{◌≡◌};
+    ghost use Rattle.certify.specs.declared.confirm.stop.Stop.TheVariants.{OutOfMemory};
+
+    ghost from_gives = { λ _ e. e ≡ OutOfMemory };
+
+    fn from(_e: AllocError) -> Stop {
+        Stop::OutOfMemory
+    }
+}
+
+impl<T: Drop> From<AllocFailed<T>> for Stop {
+    ghost use Rattle.std.specs.Prelude.{◌≡◌};
+    ghost use Rattle.certify.specs.declared.confirm.stop.Stop.TheVariants.{OutOfMemory};
+
+    ghost from_gives = { λ _ e. e ≡ OutOfMemory };
+
+    fn from(_e: AllocFailed<T>) -> Stop {
+        Stop::OutOfMemory
+    }
+}
+
+/// Why no step was read. A reader of steps that has failed isn't asked again.
+pub(crate) fn unread(error: StepError) -> Stop
+    ensures { result ≡ stop_of error }
+{
+    match error {
+        StepError::Ends => Stop::No(Why::CertificateEnds),
+        StepError::Cut => Stop::No(Why::CertificateEnds),
+        StepError::BadByte => Stop::No(Why::StepRefused),
+        StepError::Read => Stop::Read,
+        StepError::OutOfMemory => Stop::OutOfMemory,
+        StepError::HasFailed => Stop::Read,
+    }
+}
