@@ -77,7 +77,8 @@ pub fn rows_that_match()
     ensures core_steps { TwoUnitsSteps }
 {}
 
-/// Worked rows that don't match: a name put again on its old variable, a certificate of `End` alone, answers that are missing, and answers that stand twice.
+/// Worked rows that don't match: a name put again on its old variable, a certificate of `End` alone, answers that are missing,
+/// and answers that stand twice.
 pub fn rows_that_fail()
     ensures old_variable { NameOnOldVariable }
     ensures end_alone { EndAlone }

@@ -1,4 +1,4 @@
-//! Why nothing more is confirmed.
+//! What ends a confirmation that reads its certificate step by step. Today's `confirm` holds it whole, and doesn't use this yet.
 ghost use Rattle.std.specs.Prelude.{◌≡◌};
 ghost use Rattle.certify.specs.confirm.Streams.{stop_of};
 
