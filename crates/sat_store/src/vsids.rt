@@ -41,9 +41,15 @@ impl Model for Vsids {
 
     ghost Value = { Queue };
 
-    ghost view = { λ v. record { available = flags v.available v.positions.items; activities = v.activities.items; bump = v.bump; decay = v.decay } };
+    ghost view = { λ v. record {
+      available = flags v.available v.positions.items;
+      activities = v.activities.items;
+      bump = v.bump;
+      decay = v.decay;
+    } };
 
-    ghost invariant = { λ v. IsHeap v.heap.items v.positions.items v.activities.items v.available × (0 < v.bump) × (v.bump < 2 ^ 60) × (500 ≤ v.decay) × (v.decay ≤ 999) };
+    ghost invariant = { λ v. IsHeap v.heap.items v.positions.items v.activities.items v.available × (0 < v.bump) × (v.bump < 2 ^ 60)
+        × (500 ≤ v.decay) × (v.decay ≤ 999) };
 }
 
 impl Vsids {
