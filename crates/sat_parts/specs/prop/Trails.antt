@@ -11,6 +11,9 @@ pub record Trailed : Type 0 where
   pub cleared : ℕ
   pub room : ℕ
 
+abbrev pub trailed : (lits : List ℕ) (head : ℕ) (starts : List ℕ) (cleared room : ℕ) → Trailed
+trailed lits head starts cleared room = record { lits = lits; head = head; starts = starts; cleared = cleared; room = room }
+
 -- levels begin one behind the other, and not behind the last literal
 pub record AreStarts (starts : List ℕ) (len : ℕ) : Type 0 where
   pub within : (k : ℕ) → k < length starts → get_or starts k 0 ≤ len

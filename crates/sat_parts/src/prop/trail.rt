@@ -31,13 +31,14 @@ pub struct Trail {
 
 impl Model for Trail {
     ghost use Rattle.std.specs.Prelude.{◌≤◌, vec_capacity};
-    ghost use Rattle.sat_parts.specs.prop.Trails.{Trailed, IsTrail};
+    ghost use Rattle.sat_parts.specs.prop.Trails.{Trailed, trailed, IsTrail};
 
     ghost Value = { Trailed };
 
-    ghost view = { λ t. record { lits = t.trail.items; head = t.queue_head_pos; starts = t.decisions.items; cleared = t.units_removed; room = t.room } };
+    ghost view = { λ t. trailed t.trail.items t.queue_head_pos t.decisions.items t.units_removed t.room };
 
-    ghost invariant = { λ t. IsTrail (record { lits = t.trail.items; head = t.queue_head_pos; starts = t.decisions.items; cleared = t.units_removed; room = t.room }) × (t.room ≤ vec_capacity t.trail) };
+    ghost invariant = { λ t. IsTrail (trailed t.trail.items t.queue_head_pos t.decisions.items t.units_removed t.room)
+        × (t.room ≤ vec_capacity t.trail) };
 }
 
 impl Trail {
