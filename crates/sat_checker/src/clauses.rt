@@ -184,7 +184,7 @@ impl Clauses {
         Ok(())
     }
 
-    /// Files all clauses anew, by the hashes of this hasher.
+    /// Files all clauses anew, by the hashes of this hasher. Where memory is wanted none is left.
     pub fn rehash(
         &mut self,
         alloc: Global,
@@ -194,10 +194,12 @@ impl Clauses {
         ensures hashed { OnOk result (self.new ≡ all_hashed_by (solver_name_of hasher.now) (width_of hasher.now) self.old) }
         ensures looks { looks.new ≤ looks.old + 2 * live_length self.old }
     {
-        let mut index = Index::new(alloc);
-        file_all(&self.slots, hasher, &mut index, looks)?;
+        self.index.clear();
+        if file_all(&self.slots, hasher, &mut self.index, looks).is_err() {
+            *self = Clauses::new(alloc);
+            return Err(AllocError);
+        }
         hash_all(&mut self.slots, hasher, looks);
-        self.index = index;
         Ok(())
     }
 

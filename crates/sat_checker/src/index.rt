@@ -54,6 +54,13 @@ impl Index {
         }
     }
 
+    /// Forgets all places, and keeps the room that they took.
+    pub fn clear(&mut self)
+        ensures { (hash : ℕ) → places_in self.new hash ≡ [] }
+    {
+        self.buckets.clear();
+    }
+
     pub fn bucket(&self, hash: ClauseHash) -> Option<&Bucket>
         ensures { MatchOption result (places_in self.now hash ≡ []) (λ b. places_in self.now hash ≡ b.now.first ∷ b.now.more.items) }
     {
