@@ -5,10 +5,10 @@ use Rattle.sat_checker.specs.Stored.{Stored}
 use Rattle.sat_checker.specs.Storing.{settled}
 use Rattle.sat_checker.specs.Accepts.{Accepts, AcceptsAll, stored_after, ready_after}
 use Rattle.sat_checker.specs.Looks.{most_looks}
-use Rattle.sat_checker.specs.inner.FormulaView.{standing_in, standing_of}
 use Rattle.sat_checker.specs.inner.StateView.{Keeps, SpentBy}
 use Rattle.sat_checker.specs.declared.checker.Checker.{Checker}
 use Rattle.sat_checker.specs.declared.state.State.{State}
+use Rattle.sat_checker.specs.declared.status.Records.{Records}
 use Rattle.sat_checker.specs.declared.error.CheckerError.{CheckerError}
 use Rattle.sat_checker.specs.declared.error.CheckerError.TheVariants as errors
 
@@ -24,10 +24,13 @@ pub record KeepsAfter (state : State) (steps : List Step) : Type 0 where
   pub keeps : Keeps state formula
   pub ready : settled formula ≡ ready_after steps
 
+abbrev pub records_of : Stored → Records
+records_of f = record { unsat = f.unsat; ended = f.ended; var_deleted = f.var_deleted }
+
 -- It has accepted these steps, the newest first, and keeps what they leave unless it has failed.
 pub record Stands (checker : Checker) (steps : List Step) : Type 0 where
   pub accepted : AcceptsAll steps
-  pub status : standing_in checker.status ≡ standing_of (stored_after steps)
+  pub records : checker.records ≡ records_of (stored_after steps)
   pub kept : checker.failed ≡ false → KeepsAfter checker.state steps
 
 -- it stands where it stood, and answers nothing but HasFailed from then on

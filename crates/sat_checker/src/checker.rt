@@ -14,7 +14,7 @@ use crate::error::CheckerError;
 use crate::internal::SelfChecker;
 use crate::looks::Looks;
 use crate::state::State;
-use crate::status::Status;
+use crate::status::{Records, Status};
 use crate::store::StoreError;
 use sat_base::{Lit, ProofStep, Var};
 use std::alloc::Global;
@@ -25,7 +25,7 @@ use std::alloc::Global;
 pub struct Checker {
     state: State,
     /// What was recorded after the last step that was accepted.
-    status: Status,
+    records: Records,
     failed: bool,
     pub(crate) looks: Looks,
 }
@@ -39,7 +39,7 @@ impl Checker {
     {
         Checker {
             state: State::new(alloc),
-            status: Status::new(),
+            records: Status::new().records(),
             failed: false,
             looks: Looks::new(),
         }
@@ -70,7 +70,7 @@ impl Checker {
         }
         match self.state.check_step(step, &mut self.looks) {
             Ok(true) => {
-                self.status = self.state.formula.status;
+                self.records = self.state.formula.status.records();
                 Ok(())
             }
             Ok(false) => {
@@ -92,21 +92,21 @@ impl Checker {
     pub fn unsat(&self) -> bool
         ensures { (steps : List Step) → Stands self.now steps → result ≡ (ready_after steps).unsat }
     {
-        self.status.unsat
+        self.records.unsat
     }
 
     /// Whether `End` was accepted.
     pub fn ended(&self) -> bool
         ensures { (steps : List Step) → Stands self.now steps → result ≡ (ready_after steps).ended }
     {
-        self.status.ended
+        self.records.ended
     }
 
     /// Whether a `DeleteVar` was accepted.
     pub fn var_deleted(&self) -> bool
         ensures { (steps : List Step) → Stands self.now steps → result ≡ (ready_after steps).var_deleted }
     {
-        self.status.var_deleted
+        self.records.var_deleted
     }
 
     /// The user's name of a variable, while the checker hasn't failed.

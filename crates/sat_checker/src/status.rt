@@ -28,6 +28,14 @@ pub(crate) struct Status {
     pub(crate) var_deleted: bool,
 }
 
+/// What of it stays to be told once a later step has failed.
+#[derive(Clone, Copy)]
+pub(crate) struct Records {
+    pub(crate) unsat: bool,
+    pub(crate) ended: bool,
+    pub(crate) var_deleted: bool,
+}
+
 impl Status {
     /// Nothing is recorded yet.
     pub fn new() -> Status
@@ -40,6 +48,17 @@ impl Status {
             next_id: 0,
             ended: false,
             var_deleted: false,
+        }
+    }
+
+    #[inline(always)]
+    pub fn records(&self) -> Records
+        ensures { (result.unsat ≡ self.now.unsat) × (result.ended ≡ self.now.ended) × (result.var_deleted ≡ self.now.var_deleted) }
+    {
+        Records {
+            unsat: self.unsat,
+            ended: self.ended,
+            var_deleted: self.var_deleted,
         }
     }
 

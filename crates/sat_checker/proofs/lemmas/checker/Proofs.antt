@@ -34,10 +34,10 @@ live_none = (End, 13, [], ([], refl, refl))
 
 -- the checker with its flag as it was
 unfailed : (c : Checker) (steps : List Step) → c.failed ≡ false → Stands c steps → GoesOn (record c { failed = false }) steps
-unfailed c steps h s = (record { accepted = s.accepted; status = s.status; kept = λ e. s.kept h }, refl)
+unfailed c steps h s = (record { accepted = s.accepted; records = s.records; kept = λ e. s.kept h }, refl)
 
 failed_now : (c : Checker) (steps : List Step) → Stands c steps → Stands (record c { failed = true }) steps
-failed_now c steps s = record { accepted = s.accepted; status = s.status; kept = λ e. absurd (let g : ◌≡◌ {A = Bool} true false = e in cc) }
+failed_now c steps s = record { accepted = s.accepted; records = s.records; kept = λ e. absurd (let g : ◌≡◌ {A = Bool} true false = e in cc) }
 
 pub unread_answer : {R : Type 0} (seen : R → Reader) (c : Checker) (s t : StepReader R Buffers) (e : StepError) (step : Step) (earlier : List Step)
     → has_failed c ≡ false → reading.has_failed s ≡ false → Next seen s t (giving step (Err e)) → Stands c earlier

@@ -173,11 +173,11 @@ fails_by_end texts.HasFailed from to text p q is f n g = stopped_not _ text p is
 -- WHAT IS ANSWERED
 
 set_failed : (e : DimacsError) (mid : Checker) (steps : List Step) → GoesOn mid steps → StandsBehind e (record mid { failed = is_want e }) steps
-set_failed (texts.Malformed line) mid steps g = (record { accepted = g.0.accepted; status = g.0.status; kept = λ h. g.0.kept g.1 }, refl)
-set_failed (texts.Limit line) mid steps g = (record { accepted = g.0.accepted; status = g.0.status; kept = λ h. g.0.kept g.1 }, refl)
-set_failed texts.Read mid steps g = (record { accepted = g.0.accepted; status = g.0.status; kept = λ h. g.0.kept g.1 }, refl)
-set_failed texts.HasFailed mid steps g = (record { accepted = g.0.accepted; status = g.0.status; kept = λ h. g.0.kept g.1 }, refl)
-set_failed texts.OutOfMemory mid steps g = record { stands = record { accepted = g.0.accepted; status = g.0.status; kept = λ h. absurd (true≢false h) }; failed = refl }
+set_failed (texts.Malformed line) mid steps g = (record { accepted = g.0.accepted; records = g.0.records; kept = λ h. g.0.kept g.1 }, refl)
+set_failed (texts.Limit line) mid steps g = (record { accepted = g.0.accepted; records = g.0.records; kept = λ h. g.0.kept g.1 }, refl)
+set_failed texts.Read mid steps g = (record { accepted = g.0.accepted; records = g.0.records; kept = λ h. g.0.kept g.1 }, refl)
+set_failed texts.HasFailed mid steps g = (record { accepted = g.0.accepted; records = g.0.records; kept = λ h. g.0.kept g.1 }, refl)
+set_failed texts.OutOfMemory mid steps g = record { stands = record { accepted = g.0.accepted; records = g.0.records; kept = λ h. absurd (true≢false h) }; failed = refl }
 
 -- those that were read before were added, and these are tried
 module _ (old cur new : Checker) (q : Progress) (earlier : List Step) (clauses : List (List ℕ)) (first : AnswersClauses (Ok tt) old cur q.taken earlier) (split : clauses_read q ≡ q.taken ++ clauses) where
