@@ -1,5 +1,5 @@
 //! Views of a clause, lent from the buffer.
-ghost use Rattle.std.specs.Prelude.{◌≡◌, ◌<◌, ◌≤◌, ◌*◌, ◌^◌, List, ℕ, [], length, min, slice_index, slice_set, take, IsTrue, ◌↔◌};
+ghost use Rattle.std.specs.Prelude.{◌≡◌, ◌<◌, ◌≤◌, ◌*◌, ◌^◌, List, ℕ, [], length, min, slice_index, slice_set, drop, take, IsTrue, ◌↔◌};
 ghost use Rattle.std.specs.List.{All};
 ghost use Rattle.std.specs.Iterator.{at_most};
 ghost use Rattle.std.specs.Map.Iter.{TakesFirst, ShowsInOrder};
@@ -74,6 +74,23 @@ impl<'a> Model for Lits<'a> {
 }
 
 impl<'a> Lits<'a> {
+    /// No literals.
+    pub fn none() -> Lits<'a>
+        ensures { result ≡ [] }
+    {
+        Lits { words: &[] }
+    }
+
+    /// The literals behind the first.
+    pub fn without_first(&self) -> Lits<'a>
+        requires { 0 < length self.now }
+        ensures { result ≡ drop 1 self.now }
+    {
+        Lits {
+            words: &self.words[1..],
+        }
+    }
+
     pub fn len(&self) -> usize
         ensures { result ≡ length self.now }
     {
