@@ -13,3 +13,4 @@ pub mod Undone
 pub mod Backtracked
 pub mod Implied
 pub mod Lending
+pub mod Causes

@@ -18,6 +18,7 @@ pub use clause::reduce::{dedup_and_mark_by_tier, reduce_mids};
 pub use glue::{compute_clause_glue, compute_glue};
 pub use prop::assignment::{Assignment, fast_option_eq};
 pub use prop::binary::propagate_binary;
+pub use prop::cause::{CauseLits, CauseLitsIter};
 pub use prop::graph::{Conflict, ImplGraph, ImplNode, Reason};
 pub use prop::long::propagate_long;
 pub use prop::propagate;

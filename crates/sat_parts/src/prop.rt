@@ -6,6 +6,7 @@ ghost use Rattle.sat_parts.specs.prop.Asks.{AsksAll, Gives};
 
 pub mod assignment;
 pub mod binary;
+pub mod cause;
 pub mod graph;
 pub mod long;
 mod queue;

@@ -1,5 +1,5 @@
 use Rattle.std.proofs.Common.{◌≡◌, ◌<◌, length, get_or, ap, ◌∙◌, arith, false, length-set}
-use Rattle.std.proofs.lemmas.List.{get_or_read, length-map}
+use Rattle.std.proofs.lemmas.List.{length-map}
 use Rattle.sat_base.specs.values.Literals.{variable}
 use Rattle.sat_store.specs.clause.Buffer.{lits_at}
 use Rattle.sat_parts.specs.prop.Graphs.{node_of}

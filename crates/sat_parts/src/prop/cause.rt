@@ -1,0 +1,147 @@
+//! The literals by which a literal became true, or a clause false.
+ghost use Rattle.std.specs.Prelude.{ℕ, ◌≡◌, ◌<◌, ◌↔◌, [], length, slice_index, IsTrue};
+ghost use Rattle.std.specs.Iterator.{at_most};
+ghost use Rattle.std.specs.Map.Iter.{TakesFirst, ShowsInOrder};
+ghost use Rattle.sat_store.specs.clause.Buffer.{IsClause, lits_at};
+ghost use Rattle.sat_parts.specs.prop.Causes.{causes, falsified};
+
+use crate::prop::graph::{Conflict, Reason};
+use sat_base::Lit;
+use sat_store::{ClauseAlloc, Lits, LitsIter};
+use std::iter::FusedIterator;
+use std::marker::Model;
+
+/// Literals that a reason or a conflict has itself, or those of a long clause. Contracts see their list.
+#[derive(Drop)]
+pub struct CauseLits<'a> {
+    own: &'a [Lit],
+    long: Lits<'a>,
+}
+
+impl<'a> Model for CauseLits<'a> {
+    ghost use Rattle.std.specs.Prelude.{ℕ, ◌≡◌, ◌⊎◌, List, [], ◌++◌};
+
+    ghost Value = { List ℕ };
+
+    ghost view = { λ l. l.own.now ++ l.long };
+
+    ghost invariant = { λ l. (l.own.now ≡ []) ⊎ (l.long ≡ []) };
+}
+
+impl<'a> CauseLits<'a> {
+    pub fn len(&self) -> usize
+        ensures { result ≡ length self.now }
+    {
+        if self.own.is_empty() {
+            self.long.len()
+        } else {
+            self.own.len()
+        }
+    }
+
+    pub fn is_empty(&self) -> bool
+        ensures { IsTrue result ↔ self.now ≡ [] }
+    {
+        self.len() == 0
+    }
+
+    pub fn get(&self, at: usize) -> Lit
+        requires { at < length self.now }
+        ensures { result ≡ slice_index self.now at }
+    {
+        let own = self.own;
+        if at < own.len() {
+            own[at]
+        } else {
+            self.long.get(at - own.len())
+        }
+    }
+
+    /// The literals, in order.
+    pub fn iter(&self) -> CauseLitsIter<'a>
+        ensures rest { result ≡ self.now }
+        ensures runs { ShowsInOrder (λ (x : ℕ). x) }
+    {
+        CauseLitsIter {
+            own: self.own,
+            long: self.long.iter(),
+        }
+    }
+}
+
+/// Gives the literals of a reason or a conflict, in order. Contracts see those that are still to come.
+#[derive(Drop)]
+pub struct CauseLitsIter<'a> {
+    own: &'a [Lit],
+    long: LitsIter<'a>,
+}
+
+impl<'a> Model for CauseLitsIter<'a> {
+    ghost use Rattle.std.specs.Prelude.{ℕ, List, ◌++◌};
+
+    ghost Value = { List ℕ };
+
+    ghost view = { λ l. l.own.now ++ l.long };
+}
+
+impl<'a> Iterator for CauseLitsIter<'a> {
+    type Item = Lit;
+
+    ghost next_gives = { TakesFirst (λ (x : ℕ). x) };
+
+    ghost remaining = { λ s. at_most (length s) };
+
+    fn next(&mut self) -> Option<Lit> {
+        if let Some((first, others)) = self.own.split_first() {
+            self.own = others;
+            return Some(*first);
+        }
+        self.long.next()
+    }
+}
+
+impl<'a> FusedIterator for CauseLitsIter<'a> {}
+
+impl Reason {
+    /// The false literals by which the reason's literal became true: none of a unit or a decision. A long clause has that literal
+    /// first, and the others are lent from it.
+    pub fn lits<'a>(&'a self, clauses: &'a ClauseAlloc) -> CauseLits<'a>
+        requires clause { (o : ℕ) → self.now ≡ Reason.Long o → IsClause clauses.now o }
+        requires some { (o : ℕ) → self.now ≡ Reason.Long o → 0 < length (lits_at clauses.now o) }
+        ensures { result ≡ causes clauses.now self.now }
+    {
+        match self {
+            Reason::Unit => CauseLits {
+                own: &[],
+                long: Lits::none(),
+            },
+            Reason::Binary(lits) => CauseLits {
+                own: lits,
+                long: Lits::none(),
+            },
+            Reason::Long(cref) => CauseLits {
+                own: &[],
+                long: clauses.clause(*cref).lits().without_first(),
+            },
+        }
+    }
+}
+
+impl Conflict {
+    /// The literals of the clause, all of which are false.
+    pub fn lits<'a>(&'a self, clauses: &'a ClauseAlloc) -> CauseLits<'a>
+        requires { (o : ℕ) → self.now ≡ Conflict.Long o → IsClause clauses.now o }
+        ensures { result ≡ falsified clauses.now self.now }
+    {
+        match self {
+            Conflict::Binary(lits) => CauseLits {
+                own: lits,
+                long: Lits::none(),
+            },
+            Conflict::Long(cref) => CauseLits {
+                own: &[],
+                long: clauses.clause(*cref).lits(),
+            },
+        }
+    }
+}
