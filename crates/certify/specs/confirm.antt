@@ -12,3 +12,6 @@ pub mod ConfirmedCommands
 pub mod SpeltLiterals
 pub mod CertificateSteps
 pub mod SourceReading
+pub mod Stepping
+pub mod Dues
+pub mod NextNames

@@ -10,10 +10,12 @@ ghost use Rattle.certify.specs.confirm.Views.{view, session_view};
 ghost use Rattle.sat_base.specs.script.Judge.{start};
 
 pub(crate) mod certificate;
+pub(crate) mod expected;
 pub(crate) mod session;
 pub(crate) mod sets;
 pub(crate) mod source;
 pub(crate) mod spell;
+pub(crate) mod stepped;
 pub(crate) mod stop;
 #[cfg(test)]
 mod tests;

@@ -19,3 +19,5 @@ pub mod SourceNumbers
 pub mod SourceSteps
 pub mod Streams
 pub mod SteppedOn
+pub mod DueSteps
+pub mod NextNames

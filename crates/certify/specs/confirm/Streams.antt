@@ -1,19 +1,17 @@
 -- A certificate that is read step by step: what confirming makes of it, whatever would follow.
-use Rattle.std.specs.Prelude.{◌≡◌, ◌≤◌, ℕ, false, List, [], ◌++◌, drop, length, Option, Some, None, Result, Ok, Err}
+use Rattle.std.specs.Prelude.{◌≡◌, ◌+◌, ◌-◌, ◌*◌, ◌≤◌, ℕ, false, List, [], ◌++◌, drop, length, Option, Some, None, Result, Ok, Err}
 use Rattle.std.specs.Io.KnownBytes.{IsAtEnd}
 use Rattle.sat_base.specs.declared.steps.error.StepError.{StepError}
 use Rattle.sat_base.specs.declared.steps.error.StepError.TheVariants as errors
 use Rattle.sat_base.specs.device.Reading.{Source, AtEnd, PassesBut, Passes, Faults}
 use Rattle.sat_base.specs.declared.steps.reader.Buffers.{Buffers}
 use Rattle.sat_base.specs.declared.steps.reader.StepReader.{StepReader}
-use Rattle.sat_base.specs.device.Device.{Reader, most_reads}
+use Rattle.sat_base.specs.device.Device.{Reader, most_reads, piece_size}
 use Rattle.sat_base.specs.steps.StepReading.{reader_source, has_failed, step_in}
 use Rattle.sat_base.specs.steps.Steps.{Step}
 use Rattle.certify.specs.confirm.Views.{View}
 use Rattle.certify.specs.declared.checker.Checker.{Checker}
-use Rattle.certify.specs.declared.confirm.certificate.Awaited.{Awaited}
-use Rattle.certify.specs.declared.confirm.certificate.Awaited.TheVariants as awaited
-use Rattle.certify.specs.declared.confirm.certificate.Certificate.{Certificate}
+use Rattle.certify.specs.declared.confirm.stepped.Certificate.{Certificate}
 use Rattle.certify.specs.declared.confirm.stop.Stop.{Stop}
 use Rattle.certify.specs.declared.confirm.stop.Stop.TheVariants as stop
 use Rattle.certify.specs.declared.verdict.Why.{Why}
@@ -26,14 +24,21 @@ pub record Stream : Type 0 where
   pub variables : List ℕ
   pub step : Step
 
+abbrev pub stream_of : {R : Type 0} → (R → Reader) → StepReader R Buffers → Checker → List ℕ → Stream
+stream_of seen r checker variables = record { source = reader_source seen r; checker = checker; variables = variables; step = step_in r }
+
 abbrev pub stream : {R : Type 0} → (R → Reader) → StepReader R Buffers → Certificate → Stream
-stream seen r c = record { source = reader_source seen r; checker = c.checker; variables = c.variables.items; step = step_in r }
+stream seen r c = stream_of seen r c.checker c.variables.items
 
 -- a reader of steps that goes on: it hasn't failed, and isn't at its end
 pub record GoesOn {R : Type 0} (seen : R → Reader) (r : StepReader R Buffers) : Type 0 where
   pub well : has_failed r ≡ false
   pub open_yet : AtEnd (reader_source seen r) → ⊥
   pub bound : (reader_source seen r).reads ≤ most_reads
+
+-- the most bytes that can still be taken
+abbrev pub bytes_left : Source → ℕ
+bytes_left s = piece_size * (most_reads - s.reads) + length s.waiting
 
 -- the bytes still to come, if these are all that its reader will have given, to whomever
 abbrev pub rest_in : List ℕ → Source → List ℕ
@@ -73,14 +78,12 @@ abbrev pub why_of : Result (Unit {0}) Why → Option Why
 why_of (Ok x) = None
 why_of (Err why) = Some why
 
--- what came where an ordered step is awaited, and what one more step brought
-abbrev pub awaited_of : Result Awaited Why → Awaited
-awaited_of (Ok a) = a
-awaited_of (Err why) = awaited.No why
-
-abbrev pub one_step_of : Result (Option Awaited) Why → Option Awaited
-one_step_of (Ok a) = a
-one_step_of (Err why) = Some (awaited.No why)
+-- what a call answers that reads nothing: P says what it makes of what it was given
+abbrev pub Says : {A : Type 0} → Result A Stop → (Result A Why → Type 0) → Type 0
+Says (Ok x) P = P (Ok x)
+Says (Err (stop.No why)) P = P (Err why)
+Says (Err stop.Read) P = ⊥
+Says (Err stop.OutOfMemory) P = Unit {0}
 
 -- what a call answers where no step was read
 abbrev pub stop_of : StepError → Stop

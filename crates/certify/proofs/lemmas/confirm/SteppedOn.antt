@@ -1,76 +1,97 @@
 -- One step of a certificate that is read step by step, and then another, up to the next ordered one.
-use Rattle.std.proofs.Common.{◌≡◌, Bool, true, false, List, [], Option, Some, None, Result, Ok, Err, refl, sym, ◌∙◌}
+use Rattle.std.proofs.Common.{◌≡◌, ◌<◌, ℕ, Bool, true, false, is_ok, List, Option, Some, None, Result, Ok, Err, refl, sym, ◌∙◌, subst}
 use Rattle.sat_base.specs.declared.steps.error.StepError.{StepError}
-use Rattle.sat_base.specs.device.Reading.{AtEnd, Answers}
+use Rattle.sat_base.specs.declared.steps.reader.Buffers.{Buffers}
+use Rattle.sat_base.specs.declared.steps.reader.StepReader.{StepReader}
+use Rattle.sat_base.specs.device.Device.{Reader}
+use Rattle.sat_base.specs.device.Reading.{AtEnd, Answers, giving}
 use Rattle.sat_base.specs.script.Judge.{Judge}
+use Rattle.sat_base.specs.steps.StepReading.{Next, reader_source, step_in}
 use Rattle.sat_base.specs.steps.Steps.{Step}
-use Rattle.sat_base.proofs.lemmas.device.ReadLemmas.{passes_none}
 use Rattle.certify.specs.checker.Accepts.{stored_after}
 use Rattle.certify.specs.checker.CheckerView.{Keeps, DecidesStep}
 use Rattle.certify.specs.checker.Stored.{Stored}
 use Rattle.certify.specs.confirm.Checking.{is_ordered}
-use Rattle.certify.specs.confirm.CertificateSteps.{IsFed, StepWasPassed, Awaits, GoesOneStep}
-use Rattle.certify.specs.confirm.Streams.{Stream, seen_in, rest_in, Over, Moves, Confirms, stop_of, awaited_of, one_step_of}
+use Rattle.certify.specs.confirm.CertificateSteps.{IsFed, StepWasPassed}
+use Rattle.certify.specs.confirm.Stepping.{ReadsOne, AwaitsNext, StepsOnce, Passed}
+use Rattle.certify.specs.confirm.Streams.{Stream, GoesOn, stream_of, bytes_left, seen_in, rest_in, Confirms, Says, stop_of}
 use Rattle.certify.specs.confirm.Views.{View}
-use Rattle.certify.specs.declared.confirm.certificate.Awaited.{Awaited}
-use Rattle.certify.specs.declared.confirm.certificate.Awaited.TheVariants as awaited
+use Rattle.certify.specs.declared.checker.Checker.{Checker}
+use Rattle.certify.specs.declared.confirm.stepped.Awaited.{Awaited}
+use Rattle.certify.specs.declared.confirm.stepped.Awaited.TheVariants as awaited
 use Rattle.certify.specs.declared.confirm.stop.Stop.{Stop}
 use Rattle.certify.specs.declared.confirm.stop.Stop.TheVariants as stop
 use Rattle.certify.specs.declared.verdict.Why.{Why}
-use Rattle.certify.specs.declared.verdict.Why.TheVariants.{StepRefused}
-use Rattle.certify.proofs.lemmas.confirm.CertificatePlaces.{no_step}
-use Rattle.certify.proofs.lemmas.confirm.CertificateSteps.{is_cut, is_step, is_passed, is_refused, pass_on, pass_end}
-use Rattle.certify.proofs.lemmas.confirm.Streams.{step_came, none_came, moves_halt, confirms_then}
+use Rattle.certify.proofs.lemmas.confirm.CertificatePlaces.{no_step, skips_none, skips_on, skips_stop, skips_offer}
+use Rattle.certify.proofs.lemmas.confirm.CertificateSteps.{is_cut, is_step, is_passed, is_refused}
+use Rattle.certify.proofs.lemmas.confirm.Streams.{answered, step_came, step_takes, none_came, stays_open, confirms_none, confirms_then, then_stop, confirms_stop, says_stop}
 
--- what one more step brought
-abbrev pub Steps : View → View → Result (Option Awaited) Why → Type 0
-Steps u v r = GoesOneStep u v (one_step_of r)
+-- WHAT A READER OF STEPS READS
 
-abbrev pub AwaitsOne : View → View → Result Awaited Why → Type 0
-AwaitsOne u v r = Awaits u v (awaited_of r)
+module _ {R : Type 0} (seen : R → Reader) (old new : StepReader R Buffers) (goes_on : GoesOn seen old) where
+  came : Next seen old new (Ok (step_in new)) → Answers (Ok (step_in new)) (reader_source seen old) (reader_source seen new)
+  came n = answered (Ok (step_in new)) (reader_source seen old) (reader_source seen new) (sym n.was ∙ goes_on.well) n.answer
 
-module _ (a b : Stream) (unsat : Bool) (told : (f : Stored) → Keeps a.checker f → unsat ≡ f.unsat) where
-  pub steps_cut : unsat ≡ true → Confirms (Ok (Some awaited.Cut)) a a Steps
-  steps_cut is = (([], passes_none a.source), λ total k. is_cut (seen_in total a) (seen_in total a) unsat is told)
+  pub read_goes_on : Next seen old new (Ok (step_in new)) → GoesOn seen new
+  read_goes_on n = record {
+    well = n.is;
+    open_yet = stays_open (reader_source seen old) (reader_source seen new) (came n).0 goes_on.open_yet (came n).1;
+    bound = n.bound;
+  }
 
-  module _ (open_yet : AtEnd a.source → ⊥) (is : unsat ≡ false) where
-    pub steps_none : (e : StepError) → Answers (Err e) a.source b.source → Confirms (Err (stop_of e)) a b Steps
-    steps_none e h = none_came e a b Steps open_yet h (λ total why n j earlier s. no_step earlier (rest_in total a.source) (sym (told (stored_after earlier) s.keeps) ∙ is) n)
+  pub read_takes : Next seen old new (Ok (step_in new)) → bytes_left (reader_source seen new) < bytes_left (reader_source seen old)
+  read_takes n = step_takes (step_in new) (reader_source seen old) (reader_source seen new) n.bound (came n)
 
-    pub steps_step : (step : Step) → b.step ≡ step → Answers (Ok step) a.source b.source → is_ordered b.step ≡ true → b.checker ≡ a.checker → b.variables ≡ a.variables → Confirms (Ok (Some awaited.Step)) a b Steps
-    steps_step step e h o c v =
-        let came = step_came step a b e h in
-        (came.0, λ total k. is_step (seen_in total a) (seen_in total b) unsat is told (came.1 total k) o c v)
+  pub read_one : Next seen old new (Ok (step_in new)) → (checker : Checker) (variables : List ℕ) → Confirms (Ok tt) (stream_of seen old checker variables) (stream_of seen new checker variables) ReadsOne
+  read_one n checker variables = step_came (step_in new) (stream_of seen old checker variables) (stream_of seen new checker variables) refl (came n)
 
-    pub steps_passed : (step : Step) → b.step ≡ step → Answers (Ok step) a.source b.source → is_ordered b.step ≡ false → DecidesStep a.checker b.step b.checker true → b.variables ≡ a.variables → Confirms (Ok None) a b Steps
-    steps_passed step e h o d v =
-        let came = step_came step a b e h in
-        (came.0, λ total k. is_passed (seen_in total a) (seen_in total b) unsat is told (came.1 total k) o d v)
+  pub read_none : (e : StepError) → Next seen old new (Err e) → (checker : Checker) (variables : List ℕ) → Confirms {A = Unit {0}} (Err (stop_of e)) (stream_of seen old checker variables) (stream_of seen new checker variables) ReadsOne
+  read_none e n checker variables = none_came e (stream_of seen old checker variables) (stream_of seen new checker variables) ReadsOne goes_on.open_yet
+      (answered (Err e) (reader_source seen old) (reader_source seen new) (sym n.was ∙ goes_on.well) n.answer) (λ total why none. none)
 
-    pub steps_refused : (step : Step) → b.step ≡ step → Answers (Ok step) a.source b.source → is_ordered b.step ≡ false → DecidesStep a.checker b.step b.checker false → Confirms (Err (stop.No StepRefused)) a b Steps
-    steps_refused step e h o d =
-        let came = step_came step a b e h in (
-          moves_halt a b open_yet came.0,
-          λ total k. is_refused (seen_in total a) (seen_in total b) StepRefused (seen_in total b) unsat is told (came.1 total k) o d,
-        )
+-- ONE STEP
 
--- rounds follow one another
-abbrev pub Passed : View → View → Result (Unit {0}) Why → Type 0
-Passed u v r = (j : Judge) (earlier : List Step) → IsFed u j earlier → StepWasPassed u j earlier v
+module _ (a : Stream) (unsat : Bool) (told : (f : Stored) → Keeps a.checker f → unsat ≡ f.unsat) where
+  pub steps_cut : unsat ≡ true → Confirms (Ok (Some awaited.Cut)) a a StepsOnce
+  steps_cut is = confirms_none (Some awaited.Cut) a StepsOnce (λ total. is_cut (seen_in total a) (seen_in total a) unsat is told)
 
-more_passed : (u v w : View) → Passed u v (Ok tt) → Steps v w (Ok None) → Passed u w (Ok tt)
-more_passed u v w f g = pass_on u v w None refl f g
+  module _ (b : Stream) (open_yet : AtEnd a.source → ⊥) (is : unsat ≡ false) where
+    pub steps_none : (e : Stop) → Confirms {A = Unit {0}} (Err e) a b ReadsOne → Confirms {A = Option Awaited} (Err e) a b StepsOnce
+    steps_none e p = confirms_stop e a b ReadsOne StepsOnce (λ total why none j earlier s. no_step earlier (rest_in total a.source) (sym (told (stored_after earlier) s.keeps) ∙ is) none) p
 
-pub rounds_more : (a b c : Stream) → (AtEnd a.source → ⊥) → Confirms (Ok tt) a b Passed → Confirms (Ok None) b c Steps → Confirms (Ok tt) a c Passed
-rounds_more a b c open_yet p q = confirms_then tt (Ok tt) a b c Passed (λ u v r. Steps u v (Ok None)) Passed open_yet (λ u v w y f g. more_passed u v w f g) p q
+    pub steps_step : Confirms (Ok tt) a b ReadsOne → is_ordered b.step ≡ true → b.checker ≡ a.checker → b.variables ≡ a.variables → Confirms (Ok (Some awaited.Step)) a b StepsOnce
+    steps_step p o c v = (p.0, λ total k. is_step (seen_in total a) (seen_in total b) unsat is told (p.1 total k) o c v)
 
-ends : (u v w : View) (y : Result Awaited Why) → Passed u v (Ok tt) → AwaitsOne v w y → AwaitsOne u w y
-ends u v w y f g = pass_end u v w (Some (awaited_of y)) (awaited_of y) refl f g
+    pub steps_passed : (next : Checker) → Confirms (Ok tt) a b ReadsOne → is_ordered b.step ≡ false → DecidesStep a.checker b.step next true → b.variables ≡ a.variables → Confirms (Ok None) a (record b { checker = next }) StepsOnce
+    steps_passed next p o d v = (p.0, λ total k. (is_passed (seen_in total a) (seen_in total (record b { checker = next })) unsat is told (p.1 total k) o d v).1)
 
-pub rounds_end : (x : Awaited) (a b c : Stream) → (AtEnd a.source → ⊥) → Confirms (Ok tt) a b Passed → Confirms (Ok (Some x)) b c Steps → Confirms (Ok x) a c AwaitsOne
-rounds_end x a b c open_yet p q = confirms_then tt (Ok x) a b c Passed AwaitsOne AwaitsOne open_yet ends p q
+    pub steps_refused : (e : Stop) (next : Checker) → Confirms (Ok tt) a b ReadsOne → is_ordered b.step ≡ false → Says {A = Unit {0}} (Err e) (λ y. DecidesStep a.checker b.step next (is_ok y)) → Confirms {A = Option Awaited} (Err e) a (record b { checker = next }) StepsOnce
+    steps_refused e next p o d =
+        says_stop tt e a b next b.variables ReadsOne (λ y. DecidesStep a.checker b.step next (is_ok y)) StepsOnce open_yet
+        (λ total why r h. is_refused (seen_in total a) (seen_in total (record b { checker = next })) why (seen_in total b) unsat is told r o h) p d
 
-pub rounds_stop : (e : Stop) (a b c : Stream) → (AtEnd a.source → ⊥) → Confirms (Ok tt) a b Passed → Confirms {A = Option Awaited} (Err e) b c Steps → Confirms {A = Awaited} (Err e) a c AwaitsOne
-rounds_stop (stop.No why) a b c open_yet p q = confirms_then tt (Err (stop.No why)) a b c Passed AwaitsOne AwaitsOne open_yet ends p q
-rounds_stop stop.Read a b c open_yet p q = confirms_then tt (Err stop.Read) a b c Passed AwaitsOne AwaitsOne open_yet ends p q
-rounds_stop stop.OutOfMemory a b c open_yet p q = confirms_then tt (Err stop.OutOfMemory) a b c Passed AwaitsOne AwaitsOne open_yet ends p q
+-- ROUNDS FOLLOW ONE ANOTHER
+
+pub passed_none : (a : Stream) → Confirms (Ok tt) a a Passed
+passed_none a = confirms_none tt a Passed (λ total j earlier s. record { later = earlier; stands = s; skips = skips_none earlier (rest_in total a.source) })
+
+passed_on : (u v w : View) → Passed u v (Ok tt) → StepsOnce v w (Ok None) → Passed u w (Ok tt)
+passed_on u v w p h j earlier s =
+    let x = p j earlier s in
+    let y = h j x.later x.stands in
+    record { later = y.later; stands = y.stands; skips = skips_on x.skips y.skips }
+
+ends : (u v w : View) (y : Result Awaited Why) → Passed u v (Ok tt) → AwaitsNext v w y → AwaitsNext u w y
+ends u v w (Ok awaited.Step) p h = λ j earlier s. let x = p j earlier s in let y = h j x.later x.stands in record { later = y.later; stands = y.stands; open_yet = y.open_yet; offers = skips_offer x.skips y.offers }
+ends u v w (Ok awaited.Cut) p h = λ j earlier s. let x = p j earlier s in let y = h j x.later x.stands in record { later = y.later; stands = y.stands; closed = y.closed; skips = skips_on x.skips y.skips }
+ends u v w (Err why) p h = λ j earlier s. let x = p j earlier s in skips_stop x.skips (h j x.later x.stands)
+
+module _ (a b c : Stream) (open_yet : AtEnd a.source → ⊥) (p : Confirms (Ok tt) a b Passed) where
+  pub rounds_more : Confirms (Ok None) b c StepsOnce → Confirms (Ok tt) a c Passed
+  rounds_more q = confirms_then tt (Ok tt) a b c Passed (λ u v r. StepsOnce u v (Ok None)) Passed open_yet (λ total y f g. passed_on (seen_in total a) (seen_in total b) (seen_in total c) f g) p q
+
+  pub rounds_end : (x : Awaited) → Confirms (Ok (Some x)) b c StepsOnce → Confirms (Ok x) a c AwaitsNext
+  rounds_end x q = confirms_then tt (Ok x) a b c Passed AwaitsNext AwaitsNext open_yet (λ total y f g. ends (seen_in total a) (seen_in total b) (seen_in total c) y f g) p q
+
+  pub rounds_stop : (e : Stop) → Confirms {A = Option Awaited} (Err e) b c StepsOnce → Confirms {A = Awaited} (Err e) a c AwaitsNext
+  rounds_stop e q = then_stop tt e a b c Passed StepsOnce AwaitsNext open_yet (λ total why f g. ends (seen_in total a) (seen_in total b) (seen_in total c) (Err why) f g) p q

@@ -1,5 +1,5 @@
 -- A certificate that is read step by step: how its calls follow one another.
-use Rattle.std.proofs.Common.{◌≡◌, ℕ, ◌+◌, ◌<◌, ◌≤◌, true, false, List, [], ◌∷◌, ◌++◌, drop, length, length-append, Option, Some, None, Result, Ok, Err, inl, inr, append_assoc, refl, sym, ap, ◌∙◌, subst, arith}
+use Rattle.std.proofs.Common.{◌≡◌, ℕ, ◌+◌, ◌-◌, ◌*◌, ◌<◌, ◌≤◌, true, false, List, [], ◌∷◌, ◌++◌, drop, length, length-append, Option, Some, None, Result, Ok, Err, inl, inr, append_assoc, refl, sym, ap, ◌∙◌, subst, arith}
 use Rattle.std.proofs.Math.Seq.{drop-append_seam}
 use Rattle.std.proofs.lemmas.List.{append-nil}
 use Rattle.std.specs.Io.KnownBytes.{Consumes, IsAtEnd, prepend_known}
@@ -11,10 +11,11 @@ use Rattle.sat_base.specs.steps.StepReading.{Answered, repeated}
 use Rattle.sat_base.specs.steps.Formats.{Open, Live}
 use Rattle.sat_base.specs.steps.Steps.{Step}
 use Rattle.sat_base.specs.steps.StepText.{SpellsStep, tag_of}
-use Rattle.sat_base.proofs.lemmas.device.ReadLemmas.{passes_more, faults_later}
+use Rattle.sat_base.proofs.lemmas.device.ReadLemmas.{passes_more, faults_later, passes_none}
 use Rattle.certify.specs.confirm.ReadSteps.{BeginsNoStep, ReadsStep}
-use Rattle.certify.specs.confirm.Streams.{Stream, rest_in, seen_in, Covers, Over, Moves, Halts, Confirms, stop_of}
+use Rattle.certify.specs.confirm.Streams.{Stream, rest_in, seen_in, Covers, Over, Moves, Halts, Confirms, Says, stop_of, bytes_left}
 use Rattle.certify.specs.confirm.Views.{View, place}
+use Rattle.certify.specs.declared.checker.Checker.{Checker}
 use Rattle.certify.specs.declared.confirm.stop.Stop.{Stop}
 use Rattle.certify.specs.declared.confirm.stop.Stop.TheVariants as stop
 use Rattle.certify.specs.declared.verdict.Why.{Why}
@@ -91,30 +92,65 @@ pub moves_halt : (a b : Stream) → (AtEnd a.source → ⊥) → Moves a b → H
 moves_halt a b open_yet m = ((m.0, weaker a.source b.source m.0 m.1), λ h. absurd (stays_open a.source b.source m.0 open_yet m.1 h))
 
 over_then : (n : ℕ) (a b c : Stream) (text : List ℕ) (P Q R : View → View → Type 0) → (AtEnd b.source → ⊥) → PassesBut n b.source c.source text
-    → ((x y z : View) → P x y → Q y z → R x z) → Over a b P → Over b c Q → Over a c R
-over_then n a b c text P Q R open_yet p f g h total k =
-    f (seen_in total a) (seen_in total b) (seen_in total c) (g total (covers_back n b.source c.source text total open_yet p k)) (h total k)
+    → ((total : List ℕ) → P (seen_in total a) (seen_in total b) → Q (seen_in total b) (seen_in total c) → R (seen_in total a) (seen_in total c)) → Over a b P → Over b c Q → Over a c R
+over_then n a b c text P Q R open_yet p f g h total k = f total (g total (covers_back n b.source c.source text total open_yet p k)) (h total k)
+
+-- an error behind a call that went on
+pub then_stop : {A B C : Type 0} (x : A) (e : Stop) (a b c : Stream) (P : View → View → Result A Why → Type 0) (Q : View → View → Result B Why → Type 0) (R : View → View → Result C Why → Type 0) → (AtEnd a.source → ⊥)
+    → ((total : List ℕ) (why : Why) → P (seen_in total a) (seen_in total b) (Ok x) → Q (seen_in total b) (seen_in total c) (Err why) → R (seen_in total a) (seen_in total c) (Err why))
+    → Confirms (Ok x) a b P → Confirms {A = B} (Err e) b c Q → Confirms {A = C} (Err e) a c R
+then_stop x (stop.No why) a b c P Q R open_yet f p q = (
+  halts_later a b c p.0 q.0,
+  over_then 1 a b c q.0.0.0 (λ u v. P u v (Ok x)) (λ u v. Q u v (Err why)) (λ u v. R u v (Err why)) (stays_open a.source b.source p.0.0 open_yet p.0.1) q.0.0.1 (λ total. f total why) p.1 q.1,
+)
+then_stop x stop.Read a b c P Q R open_yet f p q = (p.0.0 ++ q.0, faults_later a.source b.source c.source p.0.0 q.0 p.0.1 q.1)
+then_stop x stop.OutOfMemory a b c P Q R open_yet f p q = halts_later a b c p.0 q
 
 -- behind a call that went on
 pub confirms_then : {A B : Type 0} (x : A) (r : Result B Stop) (a b c : Stream) (P : View → View → Result A Why → Type 0) (Q R : View → View → Result B Why → Type 0) → (AtEnd a.source → ⊥)
-    → ((u v w : View) (y : Result B Why) → P u v (Ok x) → Q v w y → R u w y) → Confirms (Ok x) a b P → Confirms r b c Q → Confirms r a c R
+    → ((total : List ℕ) (y : Result B Why) → P (seen_in total a) (seen_in total b) (Ok x) → Q (seen_in total b) (seen_in total c) y → R (seen_in total a) (seen_in total c) y) → Confirms (Ok x) a b P → Confirms r b c Q → Confirms r a c R
 confirms_then x (Ok y) a b c P Q R open_yet f p q = (
   (p.0.0 ++ q.0.0, passes_more a.source b.source c.source p.0.0 q.0.0 p.0.1 q.0.1),
-  over_then 0 a b c q.0.0 (λ u v. P u v (Ok x)) (λ u v. Q u v (Ok y)) (λ u v. R u v (Ok y)) (stays_open a.source b.source p.0.0 open_yet p.0.1) q.0.1 (λ u v w. f u v w (Ok y)) p.1 q.1,
+  over_then 0 a b c q.0.0 (λ u v. P u v (Ok x)) (λ u v. Q u v (Ok y)) (λ u v. R u v (Ok y)) (stays_open a.source b.source p.0.0 open_yet p.0.1) q.0.1 (λ total. f total (Ok y)) p.1 q.1,
 )
-confirms_then x (Err (stop.No why)) a b c P Q R open_yet f p q = (
-  halts_later a b c p.0 q.0,
-  over_then 1 a b c q.0.0.0 (λ u v. P u v (Ok x)) (λ u v. Q u v (Err why)) (λ u v. R u v (Err why)) (stays_open a.source b.source p.0.0 open_yet p.0.1) q.0.0.1 (λ u v w. f u v w (Err why)) p.1 q.1,
-)
-confirms_then x (Err stop.Read) a b c P Q R open_yet f p q = (p.0.0 ++ q.0, faults_later a.source b.source c.source p.0.0 q.0 p.0.1 q.1)
-confirms_then x (Err stop.OutOfMemory) a b c P Q R open_yet f p q = halts_later a b c p.0 q
+confirms_then x (Err e) a b c P Q R open_yet f p q = then_stop x e a b c P Q R open_yet (λ total why. f total (Err why)) p q
 
 -- an error that is handed on
 pub confirms_stop : {A B : Type 0} (e : Stop) (a b : Stream) (P : View → View → Result A Why → Type 0) (R : View → View → Result B Why → Type 0)
-    → ((u v : View) (why : Why) → P u v (Err why) → R u v (Err why)) → Confirms {A = A} (Err e) a b P → Confirms {A = B} (Err e) a b R
-confirms_stop (stop.No why) a b P R f p = (p.0, λ total k. f (seen_in total a) (seen_in total b) why (p.1 total k))
+    → ((total : List ℕ) (why : Why) → P (seen_in total a) (seen_in total b) (Err why) → R (seen_in total a) (seen_in total b) (Err why)) → Confirms {A = A} (Err e) a b P → Confirms {A = B} (Err e) a b R
+confirms_stop (stop.No why) a b P R f p = (p.0, λ total k. f total why (p.1 total k))
 confirms_stop stop.Read a b P R f p = p
 confirms_stop stop.OutOfMemory a b P R f p = p
+
+-- the same of what is said behind it
+pub confirms_so : {A : Type 0} (r : Result A Stop) (a b : Stream) (P R : View → View → Result A Why → Type 0) → ((total : List ℕ) (y : Result A Why) → P (seen_in total a) (seen_in total b) y → R (seen_in total a) (seen_in total b) y) → Confirms r a b P → Confirms r a b R
+confirms_so (Ok x) a b P R f p = (p.0, λ total k. f total (Ok x) (p.1 total k))
+confirms_so (Err e) a b P R f p = confirms_stop e a b P R (λ total why. f total (Err why)) p
+
+-- WHAT READS NOTHING
+
+pub confirms_none : {A : Type 0} (x : A) (a : Stream) (P : View → View → Result A Why → Type 0) → ((total : List ℕ) → P (seen_in total a) (seen_in total a) (Ok x)) → Confirms (Ok x) a a P
+confirms_none x a P f = (([], passes_none a.source), λ total k. f total)
+
+pub says_so : {A : Type 0} (r : Result A Stop) (P Q : Result A Why → Type 0) → ((y : Result A Why) → P y → Q y) → Says r P → Says r Q
+says_so (Ok x) P Q f h = f (Ok x) h
+says_so (Err (stop.No why)) P Q f h = f (Err why) h
+says_so (Err stop.Read) P Q f h = h
+says_so (Err stop.OutOfMemory) P Q f h = h
+
+-- what is said behind a call that went on: the checker and the variables may change
+pub says_stop : {A B C : Type 0} (x : A) (e : Stop) (a b : Stream) (checker : Checker) (variables : List ℕ) (P : View → View → Result A Why → Type 0) (S : Result B Why → Type 0) (R : View → View → Result C Why → Type 0) → (AtEnd a.source → ⊥)
+    → ((total : List ℕ) (why : Why) → P (seen_in total a) (seen_in total b) (Ok x) → S (Err why) → R (seen_in total a) (seen_in total (record b { checker = checker; variables = variables })) (Err why))
+    → Confirms (Ok x) a b P → Says {A = B} (Err e) S → Confirms {A = C} (Err e) a (record b { checker = checker; variables = variables }) R
+says_stop x (stop.No why) a b checker variables P S R open_yet f p s = (moves_halt a b open_yet p.0, λ total k. f total why (p.1 total k) s)
+says_stop x stop.Read a b checker variables P S R open_yet f p s = absurd s
+says_stop x stop.OutOfMemory a b checker variables P S R open_yet f p s = moves_halt a b open_yet p.0
+
+pub says_then : {A B : Type 0} (x : A) (r : Result B Stop) (a b : Stream) (checker : Checker) (variables : List ℕ) (P : View → View → Result A Why → Type 0) (S : Result B Why → Type 0) (R : View → View → Result B Why → Type 0) → (AtEnd a.source → ⊥)
+    → ((total : List ℕ) (y : Result B Why) → P (seen_in total a) (seen_in total b) (Ok x) → S y → R (seen_in total a) (seen_in total (record b { checker = checker; variables = variables })) y)
+    → Confirms (Ok x) a b P → Says r S → Confirms r a (record b { checker = checker; variables = variables }) R
+says_then x (Ok y) a b checker variables P S R open_yet f p s = (p.0, λ total k. f total (Ok y) (p.1 total k) s)
+says_then x (Err e) a b checker variables P S R open_yet f p s = says_stop x e a b checker variables P S R open_yet (λ total why. f total (Err why)) p s
 
 -- THE NEXT STEP
 
@@ -133,6 +169,22 @@ step_came step a b e h = (
   (h.0, h.1),
   (λ total k. record { text = h.0; spelt = subst (λ (z : Step). SpellsStep z h.0) (sym e) h.2; front = taken_front 0 a.source b.source h.0 total h.1 k }),
 )
+
+-- a step takes a byte at least
+less_left : (m a b ls lt lx lf : ℕ) → lf + 4096 * a ≤ 4096 * b → ls + lf ≡ lx + lt → 0 < lx → b ≤ m → 4096 * (m - b) + lt < 4096 * (m - a) + ls
+less_left m a b ls lt lx lf h e k n = omega arith
+
+flowed : (ws fs xs vs : List ℕ) → ws ++ fs ≡ xs ++ vs → length ws + length fs ≡ length xs + length vs
+flowed ws fs xs vs e = sym (length-append ws fs) ∙ ap length e ∙ length-append xs vs
+
+some_byte : (step : Step) (text : List ℕ) → SpellsStep step text → 0 < length text
+some_byte step text h = let e : length text ≡ length h.0 + 1 = ap length h.1 ∙ more (tag_of step) h.0 in omega arith
+  where
+    more : (b : ℕ) (bs : List ℕ) → length (b ∷ bs) ≡ length bs + 1
+    more b bs = omega arith
+
+pub step_takes : (step : Step) (s t : Source) → t.reads ≤ most_reads → Answers (Ok step) s t → bytes_left t < bytes_left s
+step_takes step s t k h = less_left most_reads s.reads t.reads (length s.waiting) (length t.waiting) (length h.0) (length h.1.fresh) h.1.room (flowed s.waiting h.1.fresh h.0 t.waiting h.1.flows) (some_byte step h.0 h.2) k
 
 none_waits : (known : Option (List ℕ)) (ws : List ℕ) → ws ≡ [] → IsAtEnd (prepend_known ws known) → IsAtEnd known
 none_waits None ws e h = tt
