@@ -23,6 +23,10 @@ AreOfFront text clauses = (front : List ℕ) × (left : List ℕ) × (text ≡ f
 abbrev pub AreRead : List ℕ → List (List ℕ) → Type 0
 AreRead text clauses = AreOfFront text clauses ⊎ (clauses ≡ (dimacs text).clauses)
 
+-- the text has these clauses first
+abbrev pub AreFirst : List (List ℕ) → List ℕ → Type 0
+AreFirst clauses text = (behind : List (List ℕ)) × ((dimacs text).clauses ≡ clauses ++ behind)
+
 -- the text has these clauses before a fault, or there was no memory behind them
 abbrev pub FaultBehind : DimacsError → List ℕ → List (List ℕ) → Type 0
 FaultBehind (texts.Malformed line) text clauses = (n : ℕ) × (line ≡ held n) × IsDimacs text clauses (Malformed n)
@@ -53,3 +57,11 @@ AnswersDimacs (Err (refused.Checker error)) old new from to earlier =
 
 abbrev pub AddsDimacs : Result Unit CheckerDimacsError → Checker → Checker → Reader → Reader → Type 0
 AddsDimacs result old new from to = (steps : List Step) → Stands old steps → AnswersDimacs result old new from to steps
+
+-- the clauses of the words that have ended in a text stay the first, however it goes on
+abbrev pub EndedStayFirst : Type 0
+EndedStayFirst = (text rest : List ℕ) → AreFirst (dimacs (settled text)).clauses (text ++ rest)
+
+-- and so do those that are read
+abbrev pub ReadAreFirst : Type 0
+ReadAreFirst = (text : List ℕ) (clauses : List (List ℕ)) → AreRead text clauses → AreFirst clauses text

@@ -1,4 +1,5 @@
 //! What holds of the definitions: each law is the contract of a function that does nothing.
+ghost use Rattle.sat_checker.specs.DimacsView.{EndedStayFirst, ReadAreFirst};
 ghost use Rattle.sat_checker.specs.Laws.{CanonicalIsSortedSet, CoresAssumed, CoresFail, DeletedIsNameless, DeletionIsSeen, FormulaIsFold, KnownStays, ModelsExtend, NamedIsKnown, NamesApart, TautologyHasBothSigns, UnknownIsUnknown, UnsatMeansNone};
 ghost use Rattle.sat_checker.specs.Rows.{Assumed, BehindUnsat, BothSigns, ByDuplicate, ByNameLeft, ByOneCount, BySolverName, Colliding, ConflictAndUnit, EmptyBefore, EmptyBehind, EndAlone, FourClauses, HashesOfOneTwo, HiddenAdded, HiddenNamed, InClause, LastBehindConflict, LastUnit, ModelAgainstUnit, ModelTwice, ModelWithoutClause, Modelled, NameTaken, NamedAgain, NamedOnce, NamedTwice, NamedTwiceOver, NoNameTaken, NoRedundantCount, NotAssumed, Refuted, RefutedAtZero, SimplifiedByGone, SimplifiedByItself, SimplifiedByPart, SolverNamesHash, StoredTwice, Tautologies, TwoCounts, TwoUnits, UnitConflict, UnitForgotten, UnitsTurned, Unknown, UnknownMode, WithName, WitnessAdded, WitnessNamed};
 
@@ -29,6 +30,12 @@ pub fn variables_are_kept()
     ensures apart { NamesApart }
     ensures unknowns { UnknownIsUnknown }
     ensures deletion { DeletionIsSeen }
+{}
+
+/// The clauses that a text has up to some place are its first ones, whatever follows.
+pub fn clauses_read_are_first()
+    ensures ended { EndedStayFirst }
+    ensures read { ReadAreFirst }
 {}
 
 /// Worked rows of hashes, of names, and of what is stored.

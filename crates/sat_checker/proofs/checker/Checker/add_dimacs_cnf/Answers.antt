@@ -1,4 +1,4 @@
-use Rattle.std.proofs.Common.{◌+◌, ℕ, [], ◌++◌, inl, inr, Ok, Err, refl, ap, sym, subst, ◌∙◌, take, length-append, rules, arith}
+use Rattle.std.proofs.Common.{◌+◌, ℕ, [], ◌++◌, inl, inr, refl, ap, sym, subst, ◌∙◌, take, length-append, rules, arith}
 use Rattle.std.proofs.lemmas.Result.{err_from_is_err_and}
 use Rattle.sat_base.specs.dimacs.Parsing.{Progress, IsSound}
 use Rattle.sat_base.proofs.lemmas.device.Given.{gave_none, gave_more, gave_still, gave_to_end, not_ended, few_front}
