@@ -1,12 +1,12 @@
 -- What holds of the definitions.
-use Rattle.std.specs.Prelude.{ℕ, ◌≡◌, ◌⊎◌, ◌↔◌, Bool, true, false, Some, None, List, [], ◌∷◌}
+use Rattle.std.specs.Prelude.{ℕ, ◌<◌, ◌≡◌, ◌⊎◌, ◌↔◌, Bool, true, false, Some, None, List, [], ◌∷◌}
 use Rattle.std.specs.List.{AllByRecursion}
 use Rattle.sat_base.specs.values.Literals.{negated}
 use Rattle.sat_base.specs.values.Clauses.{Valuation, EachTrue}
 use Rattle.sat_base.specs.steps.Steps.{Step, UserVarName, DeleteVar, Model, FailedAssumptions}
 use Rattle.sat_checker.specs.LiteralSets.{is_among, is_tautology, canonical}
 use Rattle.sat_checker.specs.inner.Marks.{IsIncreasing}
-use Rattle.sat_checker.specs.Stored.{Stored, unknown, unit_literals, is_known, name_of, Satisfies}
+use Rattle.sat_checker.specs.Stored.{Empty, Stored, unknown, unit_literals, is_known, name_of, Satisfies}
 use Rattle.sat_checker.specs.Accepts.{Accepts, AcceptsAll, effect, ready_after}
 use Rattle.sat_checker.specs.Fold.{Holds}
 
@@ -60,6 +60,10 @@ has_delete_var (step ∷ earlier) = has_delete_var earlier
 -- a deletion of a variable is seen from then on
 abbrev pub DeletionIsSeen : Type 0
 DeletionIsSeen = (steps : List Step) → (ready_after steps).var_deleted ≡ has_delete_var steps
+
+-- an empty clause that is the last irredundant one stored has an id that was given
+abbrev pub EmptyIsGiven : Type 0
+EmptyIsGiven = (steps : List Step) (id : ℕ) → AcceptsAll steps → (ready_after steps).last ≡ Empty id → id < (ready_after steps).next_id
 
 -- the canonical form is increasing and has the same literals
 abbrev pub CanonicalIsSortedSet : Type 0

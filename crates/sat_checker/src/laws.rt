@@ -1,6 +1,6 @@
 //! What holds of the definitions: each law is the contract of a function that does nothing.
 ghost use Rattle.sat_checker.specs.DimacsView.{EndedStayFirst, ReadAreFirst};
-ghost use Rattle.sat_checker.specs.Laws.{CanonicalIsSortedSet, CoresAssumed, CoresFail, DeletedIsNameless, DeletionIsSeen, FormulaIsFold, KnownStays, ModelsExtend, NamedIsKnown, NamesApart, TautologyHasBothSigns, UnknownIsUnknown, UnsatMeansNone};
+ghost use Rattle.sat_checker.specs.Laws.{CanonicalIsSortedSet, CoresAssumed, CoresFail, DeletedIsNameless, DeletionIsSeen, EmptyIsGiven, FormulaIsFold, KnownStays, ModelsExtend, NamedIsKnown, NamesApart, TautologyHasBothSigns, UnknownIsUnknown, UnsatMeansNone};
 ghost use Rattle.sat_checker.specs.Rows.{Assumed, BehindUnsat, BothSigns, ByDuplicate, ByNameLeft, ByOneCount, BySolverName, Colliding, ConflictAndUnit, EmptyBefore, EmptyBehind, EndAlone, FourClauses, HashesOfOneTwo, HiddenAdded, HiddenNamed, InClause, LastBehindConflict, LastUnit, ModelAgainstUnit, ModelTwice, ModelWithoutClause, Modelled, NameTaken, NamedAgain, NamedOnce, NamedTwice, NamedTwiceOver, NoNameTaken, NoRedundantCount, NotAssumed, Refuted, RefutedAtZero, SimplifiedByGone, SimplifiedByItself, SimplifiedByPart, SolverNamesHash, StoredTwice, Tautologies, TwoCounts, TwoUnits, UnitConflict, UnitForgotten, UnitsTurned, Unknown, UnknownMode, WithName, WitnessAdded, WitnessNamed};
 
 /// What clauses as sets are: the sorted form, and both signs of a variable.
@@ -30,6 +30,11 @@ pub fn variables_are_kept()
     ensures apart { NamesApart }
     ensures unknowns { UnknownIsUnknown }
     ensures deletion { DeletionIsSeen }
+{}
+
+/// Which id the last irredundant clause stored has, where it is empty.
+pub fn last_id_was_given()
+    ensures { EmptyIsGiven }
 {}
 
 /// The clauses that a text has up to some place are its first ones, whatever follows.

@@ -26,7 +26,7 @@ LastHolds (LongClause id) unsat us cs = (ls : List ℕ) → clause_numbered id c
 
 abbrev pub LastBelow : ℕ → Last → Type 0
 LastBelow n NoneYet = Unit {0}
-LastBelow n (Empty id) = Unit {0}
+LastBelow n (Empty id) = id < n
 LastBelow n (UnitClause id) = Unit {0}
 LastBelow n (LongClause id) = id < n
 
@@ -42,7 +42,7 @@ below_more n m w (i ∷ is) h = (w i h.0, below_more n m w is h.1)
 
 pub last_below_more : (n m : ℕ) → ((i : ℕ) → i < n → i < m) → (last : Last) → LastBelow n last → LastBelow m last
 last_below_more n m w NoneYet h = tt
-last_below_more n m w (Empty id) h = tt
+last_below_more n m w (Empty id) h = w id h
 last_below_more n m w (UnitClause id) h = tt
 last_below_more n m w (LongClause id) h = w id h
 

@@ -7,7 +7,7 @@ use Rattle.sat_base.specs.steps.Steps.{Redundant, Simplified, Satisfied, Step, S
 use Rattle.sat_checker.specs.LiteralSets.{is_among, mentions, is_part, is_tautology, same_literals, canonical}
 use Rattle.sat_checker.specs.Stored.{StoredClause, StoredUnit, Last, NoneYet, Empty, UnitClause, LongClause, Stored, is_unit, unit_literals}
 use Rattle.sat_checker.specs.Storing.{clause_with, irredundant_count, without_count, unless_gone, without_clause, with_unit, with_contradiction, with_new_unit, settled, with_set, unit_at, long_at, with_canonical, with_stored, with_input, with_units, with_literals_known, without_variable, clause_numbered, last_literals}
-use Rattle.sat_checker.specs.Accepts.{IsStrictSubset, Accepts, AcceptsAll, effect, stored_after}
+use Rattle.sat_checker.specs.Accepts.{IsStrictSubset, Accepts, AcceptsAll, effect, stored_after, ready_after}
 use Rattle.sat_checker.specs.inner.Marks.{IsIncreasing}
 use Rattle.sat_checker.proofs.lemmas.sets.Subsets.{subset_canonical, any_true, some_of, any_canonical}
 use Rattle.sat_checker.proofs.lemmas.meaning.Clauses.{same, others_stay, irredundant_stay}
@@ -48,7 +48,7 @@ long_at_orderly g ls o n = go (clause_with ls g.clauses) refl
 
 orderly_canonical : (f : Stored) (r : Bool) (ls : List ℕ) → Orderly f → Orderly (with_canonical r ls f)
 orderly_canonical f true ls o = orderly_set f true ls o
-orderly_canonical f false [] o = let s = orderly_set f false [] o in orderly_last (with_set false [] f) (Empty f.next_id) s tt refl
+orderly_canonical f false [] o = let s = orderly_set f false [] o in orderly_last (with_set false [] f) (Empty f.next_id) s (omega arith) refl
 orderly_canonical f false (l ∷ []) o =
     let s = orderly_unit f l o in
     aside (record (with_unit l f) { last = unit_at l (with_unit l f).units (with_unit l f).last }) (with_canonical false (l ∷ []) f) refl refl refl (ap (unit_at l (with_unit l f).units) (same_last (is_unit f l) (is_unit f (negated l)))) refl (unit_at_orderly (with_unit l f) l (with_unit l f).units s)
@@ -259,3 +259,6 @@ orderly_effect End f a o = aside f (effect End f) refl refl refl refl refl o
 pub orderly : (steps : List Step) → AcceptsAll steps → Orderly (stored_after steps)
 orderly [] a = record { increasing = tt; below = tt; last_below = tt; last_holds = tt }
 orderly (step ∷ earlier) a = orderly_effect step (settled (stored_after earlier)) a.1 (orderly_settled (stored_after earlier) (orderly earlier a.0))
+
+pub empty_is_given : (steps : List Step) (id : ℕ) → AcceptsAll steps → (ready_after steps).last ≡ Empty id → id < (ready_after steps).next_id
+empty_is_given steps id a e = subst (LastBelow (ready_after steps).next_id) e (orderly_settled (stored_after steps) (orderly steps a)).last_below
