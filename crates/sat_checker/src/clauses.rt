@@ -63,7 +63,7 @@ impl Clauses {
         ensures lent { result.now ≡ literals_at self.now place }
         ensures looks { looks.new ≡ looks.old + length (literals_at self.now place) }
     {
-        lend(&self.slots, place, looks)
+        self.slots.literals(place, looks)
     }
 
     pub fn id(&self, place: usize) -> u64
@@ -143,7 +143,7 @@ impl Clauses {
             if self.slots.is_gone(place) {
                 continue;
             }
-            if mentions(lend(&self.slots, place, looks), var) {
+            if mentions(self.slots.literals(place, looks), var) {
                 return true;
             }
         }
@@ -159,7 +159,7 @@ impl Clauses {
             if self.slots.count(place, false) == 0 {
                 continue;
             }
-            if !makes_true(assigned, lend(&self.slots, place, looks)) {
+            if !makes_true(assigned, self.slots.literals(place, looks)) {
                 return false;
             }
         }
@@ -227,18 +227,6 @@ impl Clauses {
     }
 }
 
-/// Lends the literals at a place, which counts as a look at each.
-#[inline(always)]
-fn lend<'a>(slots: &'a Slots, place: usize, looks: &mut Looks) -> &'a [Lit]
-    requires { place < length slots.now }
-    ensures lent { result.now ≡ literals_at slots.now place }
-    ensures looks { looks.new ≡ looks.old + length (literals_at slots.now place) }
-{
-    let literals = slots.literals(place);
-    looks.count(literals.len());
-    literals
-}
-
 /// Files the clauses that aren't gone in an empty index.
 #[tactic(auto, using(crate::proofs::lemmas::store::Rehashing::filing))]
 fn file_all(
@@ -256,7 +244,7 @@ fn file_all(
         if slots.is_gone(place) {
             continue;
         }
-        let hash = hasher.clause_hash(lend(slots, place, looks));
+        let hash = hasher.clause_hash(slots.literals(place, looks));
         index.file(hash, place)?;
     }
     Ok(())
@@ -272,7 +260,7 @@ fn hash_all(slots: &mut Slots, hasher: &ClauseHasher, looks: &mut Looks)
         if slots.is_gone(place) {
             continue;
         }
-        let hash = hasher.clause_hash(lend(slots, place, looks));
+        let hash = hasher.clause_hash(slots.literals(place, looks));
         slots.set_hash(place, hash);
     }
 }

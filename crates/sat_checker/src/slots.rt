@@ -4,6 +4,7 @@ ghost use Rattle.std.specs.List.{AllByRecursion};
 ghost use Rattle.sat_checker.specs.inner.Marks.{IsIncreasing};
 ghost use Rattle.sat_checker.specs.inner.SlotView.{lits_in, LitsWithin, slot_at, literals_at, all_lits, unstored, with_count_at, without_count_at, with_hash_at, count_of, is_gone};
 
+use crate::looks::Looks;
 use sat_base::{ClauseHash, Lit};
 use std::alloc::{AllocError, Global};
 use std::marker::Model;
@@ -94,13 +95,16 @@ impl Slots {
         self.entries.len()
     }
 
-    /// The literals at a place.
+    /// Lends the literals at a place, which counts as a look at each. There is no other way to them.
     #[inline(always)]
-    pub fn literals(&self, place: usize) -> &[Lit]
+    pub fn literals(&self, place: usize, looks: &mut Looks) -> &[Lit]
         requires { place < length self.now }
-        ensures { result.now ≡ literals_at self.now place }
+        ensures lent { result.now ≡ literals_at self.now place }
+        ensures looks { looks.new ≡ looks.old + length (literals_at self.now place) }
     {
-        self.entries[place].lits.slice(&self.buffer)
+        let literals = self.entries[place].lits.slice(&self.buffer);
+        looks.count(literals.len());
+        literals
     }
 
     pub fn hash(&self, place: usize) -> ClauseHash

@@ -21,6 +21,6 @@ loop-place-preserved c =
     record {
       filed = λ q.
           filed_there (solver_name_of c.args.hasher.now) (width_of c.args.hasher.now) (places_in c.loop-place.index) (places_in c.file.new.self) c.args.slots.now c.loop-place.place c.clause_hash-hash.result q inside there
-          (c.clause_hash-hash.ensures ∙ ap (hash_by (solver_name_of c.args.hasher.now) (width_of c.args.hasher.now)) c.lend.ensures.lent) (c.loop-place.invariant.filed q) (c.in_ok-file.ensures.ok q);
-      looks = let left = left_there c.args.slots.now c.loop-place.place inside there in omega (arith, left, c.lend.ensures.looks, c.loop-place.invariant.looks);
+          (c.clause_hash-hash.ensures ∙ ap (hash_by (solver_name_of c.args.hasher.now) (width_of c.args.hasher.now)) c.literals.ensures.lent) (c.loop-place.invariant.filed q) (c.in_ok-file.ensures.ok q);
+      looks = let left = left_there c.args.slots.now c.loop-place.place inside there in omega (arith, left, c.literals.ensures.looks, c.loop-place.invariant.looks);
     }

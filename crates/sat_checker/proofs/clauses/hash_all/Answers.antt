@@ -14,10 +14,10 @@ loop-place-preserved c =
     record {
       hashed =
           hashed_next names width c.args.slots.now c.loop-place.slots c.set_hash.new.self c.loop-place.place c.clause_hash-hash.result inside c.loop-place.invariant.hashed there
-          (c.clause_hash-hash.ensures ∙ ap (hash_by names width) c.lend.ensures.lent) c.set_hash.ensures;
+          (c.clause_hash-hash.ensures ∙ ap (hash_by names width) c.literals.ensures.lent) c.set_hash.ensures;
       looks =
           let same : length (literals_at c.loop-place.slots c.loop-place.place) ≡ length (literals_at c.args.slots.now c.loop-place.place) =
           ap (λ (s : Slot). length s.clause.literals) (ap (λ x. slot_at x c.loop-place.place) c.loop-place.invariant.hashed ∙ slot_left names width c.args.slots.now c.loop-place.place inside) in
           let left = left_there c.args.slots.now c.loop-place.place inside (gone_same names width c.args.slots.now c.loop-place.slots c.loop-place.place _ inside c.loop-place.invariant.hashed there) in
-          omega (arith, left, same, c.lend.ensures.looks, c.loop-place.invariant.looks);
+          omega (arith, left, same, c.literals.ensures.looks, c.loop-place.invariant.looks);
     }
