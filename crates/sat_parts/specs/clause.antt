@@ -5,3 +5,4 @@ pub mod Glue
 pub mod Collected
 pub mod Activity
 pub mod Reduced
+pub mod Filtered

@@ -12,6 +12,7 @@ pub use clause::activity::{ClauseActivity, bump_clause_activity, decay_clause_ac
 pub use clause::db::{
     ClauseDb, add_clause, delete_clause, set_clause_tier, shorten_clause, try_delete_clause,
 };
+pub use clause::filter::filter_clauses;
 pub use clause::gc::collect_garbage;
 pub use clause::iter::{ClausesIter, clauses_iter};
 pub use clause::reduce::{dedup_and_mark_by_tier, reduce_mids};

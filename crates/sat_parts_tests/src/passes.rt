@@ -1,13 +1,14 @@
 //! Passes over clauses, and the calls for one clause.
-ghost use Rattle.std.specs.Prelude.{ℕ, ◌≡◌, ◌≤◌, ◌<◌, IsTrue, OnOk, [], length};
-ghost use Rattle.std.specs.List.{Contains};
+ghost use Rattle.std.specs.Prelude.{ℕ, ◌≡◌, ◌≤◌, ◌<◌, ◌==◌, IsTrue, OnOk, [], length};
+ghost use Rattle.std.specs.List.{Contains, filter};
 ghost use Rattle.sat_store.specs.clause.Buffer.{IsClause, lits_at};
 ghost use Rattle.sat_parts.specs.clause.Db.{HoldsDb, live_refs};
 
 use crate::lists::{counts, store_four};
+use sat_base::{Lit, Var};
 use sat_parts::{
-    Assignment, ClauseActivity, ClauseDb, ImplGraph, Watchlists, bump_clause_activity,
-    decay_clause_activities, dedup_and_mark_by_tier, reduce_mids, shorten_clause,
+    Assignment, ClauseActivity, ClauseDb, ImplGraph, Reason, Watchlists, bump_clause_activity,
+    decay_clause_activities, dedup_and_mark_by_tier, filter_clauses, reduce_mids, shorten_clause,
     try_delete_clause,
 };
 use sat_store::{ClauseAlloc, ClauseRef, StoreError, Tier};
@@ -55,7 +56,7 @@ fn fields(clauses: &ClauseAlloc, db: &ClauseDb, at: usize) -> Option<(Tier, bool
 }
 
 /// Four clauses, one of each tier.
-fn four(
+pub fn four(
     alloc: Global,
     clauses: &mut ClauseAlloc,
     db: &mut ClauseDb,
@@ -127,6 +128,20 @@ fn shortened(
     len
 }
 
+/// Keeps the clauses of three literals.
+fn keep_short(clauses: &mut ClauseAlloc, db: &mut ClauseDb, watchlists: &mut Watchlists)
+    requires { HoldsDb clauses.old db.old }
+    ensures db { HoldsDb clauses.new db.new }
+    ensures short { live_refs clauses.new db.new.refs ≡ filter (λ o. length (lits_at clauses.old o) == 3) (live_refs clauses.old db.old.refs) }
+{
+    filter_clauses(
+        clauses,
+        db,
+        watchlists,
+        |clauses, cref| clauses.len(cref) == 3,
+    );
+}
+
 /// Deletes a clause unless it is a reason. None where it isn't there.
 fn tried(
     clauses: &mut ClauseAlloc,
@@ -173,6 +188,44 @@ fn cut_and_tried(
     Ok(lens == (5, 3) && first == Some(true) && db.garbage_size() == 6 && !watchlists.enabled())
 }
 
+/// Tries to delete the first clause, which is the reason of its first literal.
+fn reason_stays(
+    alloc: Global,
+    clauses: &mut ClauseAlloc,
+    db: &mut ClauseDb,
+    watchlists: &mut Watchlists,
+) -> Result<bool, AllocError>
+    requires { HoldsDb clauses.old db.old }
+{
+    let mut assignment = Assignment::new(alloc);
+    let mut graph = ImplGraph::new(alloc);
+    assignment.set_var_count(7)?;
+    graph.set_var_count(7)?;
+    if db.len() != 4 {
+        return Ok(false);
+    }
+    let first = db.cref(0);
+    assignment.assign_lit(Lit::from_code(0));
+    graph.update_reason(Var::from_index(0), Reason::Long(first));
+    let answer = tried(clauses, db, watchlists, &graph, &assignment, first);
+    Ok(answer == Some(false) && db.garbage_size() == 0 && watchlists.enabled())
+}
+
+fn reason_row(
+    alloc: Global,
+    clauses: &mut ClauseAlloc,
+    db: &mut ClauseDb,
+    watchlists: &mut Watchlists,
+) -> Result<bool, StoreError>
+    requires empty { clauses.old ≡ [] }
+    requires db { HoldsDb clauses.old db.old }
+    requires none { live_refs clauses.old db.old.refs ≡ [] }
+    requires lists { watchlists.old.lists ≡ [] }
+{
+    four(alloc, clauses, db, watchlists)?;
+    Ok(reason_stays(alloc, clauses, db, watchlists)?)
+}
+
 fn activities_row(
     alloc: Global,
     clauses: &mut ClauseAlloc,
@@ -216,6 +269,39 @@ fn passes_row(
 {
     four(alloc, clauses, db, watchlists)?;
     Ok(tiers_and_marks(alloc, clauses, db)?)
+}
+
+fn filter_row(
+    alloc: Global,
+    clauses: &mut ClauseAlloc,
+    db: &mut ClauseDb,
+    watchlists: &mut Watchlists,
+) -> Result<bool, StoreError>
+    requires empty { clauses.old ≡ [] }
+    requires db { HoldsDb clauses.old db.old }
+    requires none { live_refs clauses.old db.old.refs ≡ [] }
+    requires lists { watchlists.old.lists ≡ [] }
+{
+    four(alloc, clauses, db, watchlists)?;
+    keep_short(clauses, db, watchlists);
+    Ok(counts(db) == [1, 1, 1, 0] && db.garbage_size() == 8 && !watchlists.enabled())
+}
+
+#[test]
+fn reason_is_not_deleted(rt: HostRuntime) {
+    let mut clauses = ClauseAlloc::new(rt.alloc());
+    let mut db = ClauseDb::new(rt.alloc());
+    let mut watchlists = Watchlists::new(rt.alloc());
+    assert!(rt; reason_row(rt.alloc(), &mut clauses, &mut db, &mut watchlists) == Ok(true));
+    assert!(rt; counts(&db) == [1, 1, 1, 1]);
+}
+
+#[test]
+fn clauses_are_filtered(rt: HostRuntime) {
+    let mut clauses = ClauseAlloc::new(rt.alloc());
+    let mut db = ClauseDb::new(rt.alloc());
+    let mut watchlists = Watchlists::new(rt.alloc());
+    assert!(rt; filter_row(rt.alloc(), &mut clauses, &mut db, &mut watchlists) == Ok(true));
 }
 
 #[test]

@@ -6,3 +6,4 @@ pub mod GcLemmas
 pub mod HeaderLemmas
 pub mod HeldLemmas
 pub mod IterLemmas
+pub mod FilterLemmas

@@ -1,0 +1,39 @@
+//! A pass over all live clauses that deletes some of them.
+ghost use Rattle.std.specs.Prelude.{◌≡◌, false};
+ghost use Rattle.std.specs.List.Retain.{IsFiltered};
+ghost use Rattle.sat_parts.specs.clause.Db.{HoldsDb, live_refs};
+ghost use Rattle.sat_parts.specs.clause.Filtered.{TakesEach, AnswersAt, AreKept};
+
+use crate::clause::db::{ClauseDb, delete_clause};
+use crate::prop::watch::Watchlists;
+use sat_store::{ClauseAlloc, ClauseRef};
+
+/// Asks a test for each live clause, once and in the order in which they came, and deletes those for which it answers false.
+/// Watch lists aren't kept up from here on, until they are built anew.
+pub fn filter_clauses<F: FnMut(&ClauseAlloc, ClauseRef) -> bool>(
+    clauses: &mut ClauseAlloc,
+    db: &mut ClauseDb,
+    watchlists: &mut Watchlists,
+    mut keep: F,
+)
+    requires db { HoldsDb clauses.old db.old }
+    requires callable { TakesEach F.FnMut clauses.old (live_refs clauses.old db.old.refs) }
+    ensures filtered { IsFiltered (AnswersAt F.FnMut clauses.old) keep
+        (live_refs clauses.old db.old.refs) (live_refs clauses.new db.new.refs) }
+    ensures kept { AreKept clauses.old clauses.new (live_refs clauses.new db.new.refs) }
+    ensures db { HoldsDb clauses.new db.new }
+    ensures refs { db.new.refs ≡ db.old.refs }
+    ensures watches { watchlists.new ≡ record watchlists.old { enabled = false } }
+{
+    watchlists.disable();
+    for at in 0..db.len() {
+        let cref = db.cref(at);
+        if clauses.header(cref).deleted() {
+            continue;
+        }
+        if keep(&*clauses, cref) {
+            continue;
+        }
+        delete_clause(clauses, db, watchlists, cref);
+    }
+}
