@@ -1,8 +1,10 @@
 //! Clauses of two literals.
 ghost use Rattle.std.specs.Prelude.{◌≡◌, ◌+◌, ◌-◌, ◌*◌, ◌<◌, ◌≤◌, ◌^◌, ◌∷◌, ◌++◌, [], length, take, OnOk, OnErr, IfErr, is_ok, if◌then◌else◌, slice_index_or};
 ghost use Rattle.sat_base.specs.values.Literals.{largest, negated};
-ghost use Rattle.sat_parts.specs.prop.Binaries.{implied_by, with_implied, without_last, with_binary, with_literals};
+ghost use Rattle.sat_parts.specs.prop.Values.{is_unset};
+ghost use Rattle.sat_parts.specs.prop.Binaries.{implied_by, with_implied, without_last, with_binary, with_literals, open_among, RemovesAssigned};
 
+use crate::prop::assignment::Assignment;
 use sat_base::Lit;
 use std::alloc::{AllocError, Global};
 use std::marker::Model;
@@ -41,6 +43,30 @@ impl Implied {
         ensures { self.new ≡ take (length self.old - 1) self.old }
     {
         let _ = self.lits.pop();
+    }
+
+    /// Keeps the literals whose variables have no value, and none where the variable that implies them has one. Answers how many
+    /// are left.
+    fn keep_open(&mut self, assignment: &Assignment, index: usize) -> usize
+        ensures kept { self.new ≡ open_among assignment.now.current index self.old }
+        ensures size { result ≡ length self.new }
+    {
+        if is_unset(assignment, index) {
+            self.lits.retain(|lit| is_unset(assignment, lit.index()));
+        } else {
+            self.lits.clear();
+        }
+        self.lits.len()
+    }
+}
+
+/// Whether the variable with this index has no value.
+fn is_unset(assignment: &Assignment, index: usize) -> bool
+    ensures { result ≡ is_unset assignment.now.current index }
+{
+    match assignment.assignment().get(index) {
+        Some(value) => value.is_none(),
+        None => true,
     }
 }
 
@@ -137,5 +163,19 @@ impl BinaryClauses {
         }
         self.count = self.count.saturating_add(1);
         Ok(())
+    }
+
+    /// Removes the clauses of which a variable has a value. The others stay, in order.
+    pub fn remove_assigned(&mut self, assignment: &Assignment)
+        ensures { RemovesAssigned assignment.now.current self.old self.new }
+    {
+        let mut implications: usize = 0;
+        let end = self.by_lit.len();
+        for code in 0..end {
+            let list = &mut self.by_lit[code];
+            let left = list.keep_open(assignment, code / 2);
+            implications = implications.saturating_add(left);
+        }
+        self.count = implications / 2;
     }
 }

@@ -62,6 +62,41 @@ fn implications(binary: &mut BinaryClauses) -> Result<bool, AllocError>
     )
 }
 
+/// What is left of three clauses once a literal is true.
+fn removal(binary: &mut BinaryClauses, values: &mut Assignment) -> Result<bool, AllocError>
+    requires lists { length binary.old.implied ≡ 6 }
+    requires values { length values.old.current ≡ 3 }
+{
+    let (first, second, third) = (Lit::from_code(0), Lit::from_code(3), Lit::from_code(4));
+    binary.add_binary_clause([first, second])?;
+    binary.add_binary_clause([second, third])?;
+    binary.add_binary_clause([!second, third])?;
+    values.assign_lit(!first);
+    binary.remove_assigned(values);
+    Ok(
+        binary.count() == 2
+            && binary.implied(!first).is_empty()
+            && binary.implied(!second) == [third].as_slice()
+            && binary.implied(!third) == [second, !second].as_slice(),
+    )
+}
+
+fn removal_row(alloc: Global, parts: &mut Parts) -> Result<bool, AllocError>
+    requires clauses { HoldsDb parts.old.clauses parts.old.db × (parts.old.db ≡ no_clauses) }
+    requires lists { (parts.old.watchlists.lists ≡ []) × (parts.old.binary.implied ≡ []) }
+    requires values { (parts.old.assignment.current ≡ []) × (parts.old.graph ≡ []) }
+    requires trail { (parts.old.trail ≡ no_trail) × (parts.old.vsids ≡ no_variables) }
+{
+    prepare(alloc, parts, 3)?;
+    removal(&mut parts.binary, &mut parts.assignment)
+}
+
+#[test]
+fn clauses_with_a_value_are_removed(rt: HostRuntime) {
+    let mut parts = no_parts(rt.alloc());
+    assert!(rt; removal_row(rt.alloc(), &mut parts) == Ok(true));
+}
+
 #[test]
 fn parts_are_read_back(rt: HostRuntime) {
     let mut parts = no_parts(rt.alloc());

@@ -1,6 +1,8 @@
 -- Clauses of two literals as lists of implied literals.
-use Rattle.std.specs.Prelude.{ℕ, ◌+◌, ◌-◌, ◌^◌, min, List, [], ◌∷◌, ◌++◌, take, replicate, length, slice_index_or as get_or, slice_set as set}
-use Rattle.sat_base.specs.values.Literals.{negated}
+use Rattle.std.specs.Prelude.{ℕ, ◌≡◌, ◌+◌, ◌-◌, ◌/◌, ◌^◌, min, Bool, Option, if◌then◌else◌, List, [], ◌∷◌, ◌++◌, take, replicate, length, slice_index_or as get_or, slice_set as set}
+use Rattle.std.specs.List.{filter, sum_by}
+use Rattle.sat_base.specs.values.Literals.{negated, variable}
+use Rattle.sat_parts.specs.prop.Values.{is_unset}
 
 -- the lists by code of literal, and the number of clauses (held at 2^64 - 1)
 pub record Binaries : Type 0 where
@@ -29,3 +31,17 @@ with_binary a b x = record {
 -- the lists of so many literals
 abbrev pub with_literals : ℕ → Binaries → Binaries
 with_literals count x = record x { implied = take count x.implied ++ replicate (count - length x.implied) [] }
+
+-- those of these literals whose variables have no value, and none where the variable v has one
+abbrev pub open_among : List (Option Bool) → (v : ℕ) → List ℕ → List ℕ
+open_among values v ls = if is_unset values v then filter (λ l. is_unset values (variable l)) ls else []
+
+-- how many implications there are, two for each clause (held at 2^64 - 1)
+abbrev pub implications : List (List ℕ) → ℕ
+implications implied = min (sum_by (λ (ls : List ℕ). length ls) implied) (2 ^ 64 - 1)
+
+-- the clauses of which a variable has a value are gone, and the others are there, in order
+pub record RemovesAssigned (values : List (Option Bool)) (old new : Binaries) : Type 0 where
+  pub size : length new.implied ≡ length old.implied
+  pub implied : (l : ℕ) → implied_by new.implied l ≡ open_among values (variable l) (implied_by old.implied l)
+  pub count : new.count ≡ implications new.implied / 2

@@ -1,5 +1,5 @@
 -- Which variables are assigned and to what, and so which literals are true, false or open.
-use Rattle.std.specs.Prelude.{ℕ, ◌≡◌, ◌-◌, Bool, false, not, Option, None, Some, List, ◌++◌, take, replicate, length, if◌then◌else◌, slice_index_or as get_or, slice_set as set}
+use Rattle.std.specs.Prelude.{ℕ, ◌≡◌, ◌-◌, Bool, false, not, Option, None, Some, is_none, List, ◌++◌, take, replicate, length, if◌then◌else◌, slice_index_or as get_or, slice_set as set}
 use Rattle.sat_base.specs.values.Literals.{variable, is_positive}
 
 -- by index of variable: the value that it has, and the one that it lost last
@@ -10,6 +10,10 @@ pub record Values : Type 0 where
 -- the value of a variable, None too for one that isn't there
 abbrev pub value_of : List (Option Bool) → ℕ → Option Bool
 value_of values v = get_or values v None
+
+-- whether the variable has no value
+abbrev pub is_unset : List (Option Bool) → ℕ → Bool
+is_unset values v = is_none (value_of values v)
 
 abbrev pub IsTrueLit : List (Option Bool) → ℕ → Type 0
 IsTrueLit values l = value_of values (variable l) ≡ Some (is_positive l)

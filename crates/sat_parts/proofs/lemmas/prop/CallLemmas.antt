@@ -1,9 +1,9 @@
--- For crates above: what propagation asks holds on where clauses are added, deleted or moved between tiers.
-use Rattle.std.proofs.Common.{ℕ, ◌≡◌, ◌*◌, ◌<◌, ◌≤◌, ◌⊎◌, inl, inr, List, [], ◌∷◌, ◌++◌, length, get_or, refl, sym, ap, ◌∙◌, subst, arith, true, length-set}
+-- For crates above: what propagation asks holds on where clauses are added, deleted, removed or moved between tiers.
+use Rattle.std.proofs.Common.{ℕ, ◌≡◌, ◌*◌, ◌<◌, ◌≤◌, ◌⊎◌, inl, inr, List, [], ◌∷◌, ◌++◌, length, get_or, refl, sym, ap, ◌∙◌, subst, arith, Bool, true, Option, length-set}
 use Rattle.std.proofs.lemmas.Bool.{cases_Bool, cond-true, cond-false}
-use Rattle.std.proofs.lemmas.List.Elements.{Contains-append_left, Contains-push, Contains-push_cases}
-use Rattle.std.specs.List.{Contains}
-use Rattle.sat_base.specs.values.Literals.{negated}
+use Rattle.std.proofs.lemmas.List.Elements.{Contains-append_left, Contains-push, Contains-push_cases, All-contains, All-filter, All-contains_itself}
+use Rattle.std.specs.List.{Contains, filter}
+use Rattle.sat_base.specs.values.Literals.{negated, variable}
 use Rattle.sat_store.specs.clause.Buffer.{Laid, lits_at}
 use Rattle.sat_store.proofs.lemmas.clause.Laying.{laid_among}
 use Rattle.sat_parts.specs.declared.prop.graph.Reason.{Reason}
@@ -13,10 +13,13 @@ use Rattle.sat_store.specs.clause.Header.{Header}
 use Rattle.sat_parts.specs.declared.prop.watch.Watch.{Watch}
 use Rattle.sat_parts.specs.clause.Db.{Db, live_refs, AddsClause}
 use Rattle.sat_parts.specs.clause.Stored.{lit_of}
+use Rattle.sat_parts.specs.prop.Values.{is_unset, IsTrueLit}
+use Rattle.sat_parts.specs.prop.Binaries.{Binaries, implied_by, open_among, RemovesAssigned}
 use Rattle.sat_parts.specs.prop.WatchLists.{Watching, no_watch, watch_on, watches_of, more_at, with_watch, with_clause}
 use Rattle.sat_parts.specs.prop.State.{State, node, level, current_level, lit_at, HasLeft, IsSatisfied}
 use Rattle.sat_parts.specs.prop.Ready.{IsGood, HasWatch, AreWatched}
 use Rattle.sat_parts.specs.prop.Asks.{Asks, AsksForReason, IsOwnLong}
+use Rattle.sat_parts.proofs.lemmas.clause.ListLemmas.{place_in, at_place}
 use Rattle.sat_parts.proofs.lemmas.prop.BuildLemmas.{live_in}
 use Rattle.sat_parts.proofs.lemmas.prop.WalkLemmas.{more_watch, new_watch, good_lists, at_two}
 
@@ -164,4 +167,43 @@ asks_added words words' db db' o header lits w implied s top lit r h x apart thr
           (λ q d f g. inl (h.settled q i d b f g)) (own i b) p c;
       ranges = h.ranges;
       binary = λ l k f g b. inl (h.binary l k f g b);
+    }
+
+-- what is kept of the literals that one implies is among them
+open_in : (values : List (Option Bool)) (v m : ℕ) (ls : List ℕ) → Contains (open_among values v ls) m → Contains ls m
+open_in values v m ls c =
+    elim (cases_Bool (is_unset values v)) [
+      | inl on ↦
+          let e : open_among values v ls ≡ filter (λ l. is_unset values (variable l)) ls = cond-true (is_unset values v) (filter (λ l. is_unset values (variable l)) ls) [] on in
+          All-contains (Contains ls) (filter (λ l. is_unset values (variable l)) ls) m
+          (All-filter (λ l. is_unset values (variable l)) (Contains ls) ls (All-contains_itself ls)) (subst (λ (xs : List ℕ). Contains xs m) e c)
+      | inr off ↦
+          let e : open_among values v ls ≡ [] = cond-false (is_unset values v) (filter (λ l. is_unset values (variable l)) ls) [] off in
+          absurd (omega (arith, (subst (λ (xs : List ℕ). Contains xs m) e c).1))
+    ]
+
+-- the clauses of two literals of which a variable has a value are gone
+pub asks_removed : (words refs : List ℕ) (w : Watching) (old new : Binaries) (s : State) (top : ℕ) → Asks words refs w old.implied s top → RemovesAssigned s.values old new →
+    Asks words refs w new.implied s top
+asks_removed words refs w old new s top h x =
+    let was : (l k : ℕ) → k < length (implied_by new.implied l) → Contains (implied_by old.implied l) (get_or (implied_by new.implied l) k 0) = λ l k b.
+    open_in s.values (variable l) (get_or (implied_by new.implied l) k 0) (implied_by old.implied l)
+    (subst (λ (xs : List ℕ). Contains xs (get_or (implied_by new.implied l) k 0)) (x.implied l) (place_in (implied_by new.implied l) k b)) in
+    let at : (l k : ℕ) (b : k < length (implied_by new.implied l)) → get_or (implied_by old.implied l) (was l k b).0 0 ≡ get_or (implied_by new.implied l) k 0 = λ l k b.
+    at_place (implied_by old.implied l) (get_or (implied_by new.implied l) k 0) (was l k b) in
+    record {
+      laid = h.laid;
+      clauses = h.clauses;
+      room = h.room;
+      watches = h.watches;
+      agrees = h.agrees;
+      queue = h.queue;
+      firsts = h.firsts;
+      settled = h.settled;
+      ranges = record {
+        room = x.size ∙ h.ranges.room;
+        below = λ l k b. subst (λ m. m < 2 * length s.values) (at l k b) (h.ranges.below l (was l k b).0 (was l k b).1);
+      };
+      binary = λ l k f d b.
+          subst (λ m. IsTrueLit s.values m × (level s m ≤ level s l)) (at l k b) (h.binary l (was l k b).0 f d (was l k b).1);
     }
