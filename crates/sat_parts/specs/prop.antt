@@ -14,3 +14,4 @@ pub mod Backtracked
 pub mod Implied
 pub mod Lending
 pub mod Causes
+pub mod TrailWord

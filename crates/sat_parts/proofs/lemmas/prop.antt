@@ -14,3 +14,4 @@ pub mod ReasonLemmas
 pub mod ImpliedLemmas
 pub mod CallLemmas
 pub mod CollectedLemmas
+pub mod WordLemmas
