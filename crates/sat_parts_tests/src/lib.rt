@@ -2,11 +2,15 @@
 #![tactic(auto)]
 
 #[cfg(test)]
+mod alone;
+#[cfg(test)]
 mod causes;
 #[cfg(test)]
 mod collection;
 #[cfg(test)]
 mod data;
+#[cfg(test)]
+mod glue;
 #[cfg(test)]
 mod lists;
 #[cfg(test)]
@@ -21,3 +25,5 @@ mod propagation;
 mod search;
 #[cfg(test)]
 mod table;
+#[cfg(test)]
+mod watching;

@@ -5,8 +5,8 @@ ghost use Rattle.sat_parts.specs.clause.Db.{HoldsDb, live_refs};
 
 use sat_base::Lit;
 use sat_parts::{
-    ClauseDb, ImplGraph, Trail, Watchlists, add_clause, collect_garbage, delete_clause,
-    set_clause_tier,
+    ClauseDb, ImplGraph, Trail, Watchlists, add_clause, clauses_iter, collect_garbage,
+    delete_clause, set_clause_tier,
 };
 use sat_store::{ClauseAlloc, ClauseHeader, ClauseRef, StoreError, Tier};
 use std::alloc::Global;
@@ -116,6 +116,17 @@ fn delete_two(
     delete_clause(clauses, db, watchlists, third);
 }
 
+/// The places of the first three live clauses.
+fn offsets(clauses: &ClauseAlloc, db: &ClauseDb) -> (Option<usize>, Option<usize>, Option<usize>)
+    requires { HoldsDb clauses.now db.now }
+{
+    let mut live = clauses_iter(clauses, db);
+    let first = live.next().map(|cref| cref.offset());
+    let second = live.next().map(|cref| cref.offset());
+    let third = live.next().map(|cref| cref.offset());
+    (first, second, third)
+}
+
 /// Whether all holds of a collection that isn't due, and of the one that is once another clause is deleted.
 fn collects(
     alloc: Global,
@@ -166,7 +177,7 @@ fn row(
         return Ok(false);
     }
     delete_two(clauses, db, watchlists, first, third);
-    if counts(db) != [0, 1, 0, 1] {
+    if counts(db) != [0, 1, 0, 1] || offsets(clauses, db) != (Some(6), Some(18), None) {
         return Ok(false);
     }
     collects(alloc, clauses, db, watchlists, second)

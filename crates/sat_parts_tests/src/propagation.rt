@@ -17,7 +17,7 @@ use std::alloc::Global;
 const COUNT: usize = 3;
 
 /// Makes a unit true over these clauses, and answers whether they are clauses over three variables.
-fn assumed(
+pub fn assumed(
     alloc: Global,
     parts: &mut Parts,
     clauses: &[&[i64]],
@@ -79,7 +79,7 @@ fn propagated_twice(
 }
 
 /// Whether the literals are those with these numbers.
-fn reads(lits: &[Lit], numbers: &[i64]) -> bool {
+pub fn reads(lits: &[Lit], numbers: &[i64]) -> bool {
     if lits.len() != numbers.len() {
         return false;
     }

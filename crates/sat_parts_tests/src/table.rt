@@ -102,7 +102,7 @@ fn levels_below(graph: &ImplGraph, lits: &[Lit], bound: usize) -> bool
 }
 
 /// Makes ten flags, all false.
-fn make_flags(flags: &mut TmpFlags) -> Result<(), AllocError>
+pub fn make_flags(flags: &mut TmpFlags) -> Result<(), AllocError>
     requires { flags.old.flags.items ≡ [] }
     ensures clear { OnOk result ((k : ℕ) → slice_index_or flags.new.flags.items k false ≡ false) }
     ensures size { OnOk result (length flags.new.flags.items ≡ 10) }

@@ -1,0 +1,152 @@
+//! The two parts of propagation, each alone, and the building of watch lists.
+ghost use Rattle.std.specs.Prelude.{ℕ, List, ◌≡◌, ◌+◌, ◌<◌, IfOk, IsTrue, OnOk, true, [], length};
+ghost use Rattle.sat_store.specs.heap.Vsids.{no_variables};
+ghost use Rattle.sat_parts.specs.clause.Db.{no_clauses, HoldsDb, live_refs};
+ghost use Rattle.sat_parts.specs.prop.Trails.{no_trail};
+ghost use Rattle.sat_parts.specs.prop.State.{level, current_level};
+ghost use Rattle.sat_parts.specs.prop.Ready.{state_of, LongReady};
+ghost use Rattle.sat_parts_tests.specs.Loading.{Serves};
+
+use crate::parts::{Parts, no_parts};
+use crate::propagation::{assumed, reads};
+use crate::search::enqueue;
+use sat_base::{Lit, Var};
+use sat_parts::{Conflict, Reason, enable_watchlists, propagate_binary, propagate_long};
+use sat_store::StoreError;
+use std::alloc::{AllocError, Global};
+
+/// Makes another literal true, and answers whether it was open.
+fn assumed_too(parts: &mut Parts, lit: Lit) -> bool
+    requires serves { Serves parts.old.clauses parts.old.db parts.old.watchlists parts.old.binary
+        parts.old.assignment parts.old.graph parts.old.trail parts.old.vsids (length parts.old.trail.starts + 1) }
+    ensures serves { Serves parts.new.clauses parts.new.db parts.new.watchlists parts.new.binary
+        parts.new.assignment parts.new.graph parts.new.trail parts.new.vsids (length parts.new.trail.starts + 1) }
+{
+    if lit.index() >= parts.assignment.assignment().len() || !parts.assignment.lit_is_unk(lit) {
+        return false;
+    }
+    enqueue(parts, lit);
+    true
+}
+
+/// Propagates the next literal of the queue over the clauses of two literals. None where the queue is empty.
+fn over_binary(parts: &mut Parts) -> Result<Option<Result<(), Conflict>>, AllocError>
+    requires serves { Serves parts.old.clauses parts.old.db parts.old.watchlists parts.old.binary
+        parts.old.assignment parts.old.graph parts.old.trail parts.old.vsids (length parts.old.trail.starts + 1) }
+{
+    let next = parts.trail.pop_queue();
+    match next {
+        None => Ok(None),
+        Some(lit) => {
+            let found = propagate_binary(
+                &parts.binary,
+                &mut parts.assignment,
+                &mut parts.graph,
+                &mut parts.trail,
+                lit,
+            )?;
+            Ok(Some(found))
+        }
+    }
+}
+
+/// Propagates the next literal of the queue over the long clauses. None where the queue is empty.
+fn over_long(alloc: Global, parts: &mut Parts) -> Result<Option<Result<(), Conflict>>, AllocError>
+    ghost live: { List ℕ }
+    requires { LongReady parts.old.clauses live parts.old.watchlists.lists
+        (state_of parts.old.assignment parts.old.graph parts.old.trail)
+        (λ l. level (state_of parts.old.assignment parts.old.graph parts.old.trail) l
+        < current_level (state_of parts.old.assignment parts.old.graph parts.old.trail) + 1) }
+{
+    let next = parts.trail.pop_queue();
+    match next {
+        None => Ok(None),
+        Some(lit) => {
+            let found = propagate_long(
+                alloc,
+                &mut parts.clauses,
+                &mut parts.watchlists,
+                &mut parts.assignment,
+                &mut parts.graph,
+                &mut parts.trail,
+                lit,
+            )?;
+            Ok(Some(found))
+        }
+    }
+}
+
+/// Builds the watch lists, and propagates the next literal over the long clauses.
+fn built_and_over_long(
+    alloc: Global,
+    parts: &mut Parts,
+) -> Result<Option<Result<(), Conflict>>, AllocError>
+    requires serves { Serves parts.old.clauses parts.old.db parts.old.watchlists parts.old.binary
+        parts.old.assignment parts.old.graph parts.old.trail parts.old.vsids (length parts.old.trail.starts + 1) }
+{
+    enable_watchlists(&mut parts.watchlists, &parts.clauses, &parts.db)?;
+    over_long(alloc, parts)
+}
+
+/// What each part answers alone, with two literals true over these clauses. None where they aren't clauses over three variables.
+fn found_alone(
+    alloc: Global,
+    parts: &mut Parts,
+    clauses: &[&[i64]],
+    is_long: bool,
+) -> Result<Option<Result<(), Conflict>>, StoreError>
+    requires clauses { HoldsDb parts.old.clauses parts.old.db × (parts.old.db ≡ no_clauses) }
+    requires lists { (parts.old.watchlists.lists ≡ []) × (parts.old.binary.implied ≡ []) }
+    requires values { (parts.old.assignment.current ≡ []) × (parts.old.graph ≡ []) }
+    requires trail { (parts.old.trail ≡ no_trail) × (parts.old.vsids ≡ no_variables) }
+{
+    if !assumed(alloc, parts, clauses, Lit::from_code(0))?
+        || !assumed_too(parts, Lit::from_code(2))
+    {
+        return Ok(None);
+    }
+    if is_long {
+        Ok(built_and_over_long(alloc, parts)?)
+    } else {
+        Ok(over_binary(parts)?)
+    }
+}
+
+/// Whether the third variable is true by the first of the long clauses.
+fn third_by_first(parts: &Parts) -> bool {
+    match parts.db.refs().first() {
+        Some(cref) => parts.graph.nodes.len() == 3
+            && parts.graph.reason(Var::from_index(2)) == Reason::Long(*cref),
+        None => false,
+    }
+}
+
+#[test]
+fn long_clauses_alone(rt: HostRuntime) {
+    let mut parts = no_parts(rt.alloc());
+    let clauses: [&[i64]; 2] = [&[3, -1, -2], &[-1, -3]];
+    let found = found_alone(rt.alloc(), &mut parts, &clauses, true);
+    assert!(rt; found == Ok(Some(Ok(()))));
+    assert!(rt; reads(parts.trail.trail(), &[1, 2, 3]));
+    assert!(rt; third_by_first(&parts));
+    assert!(rt; parts.watchlists.enabled());
+}
+
+#[test]
+fn binary_clauses_alone(rt: HostRuntime) {
+    let mut parts = no_parts(rt.alloc());
+    let clauses: [&[i64]; 2] = [&[3, -1, -2], &[-1, -3]];
+    let found = found_alone(rt.alloc(), &mut parts, &clauses, false);
+    assert!(rt; found == Ok(Some(Ok(()))));
+    assert!(rt; reads(parts.trail.trail(), &[1, 2, -3]));
+    assert!(rt; !parts.watchlists.enabled());
+}
+
+#[test]
+fn binary_conflict_alone(rt: HostRuntime) {
+    let mut parts = no_parts(rt.alloc());
+    let clauses: [&[i64]; 1] = [&[-2, -1]];
+    let found = found_alone(rt.alloc(), &mut parts, &clauses, false);
+    let lits = [Lit::from_code(3), Lit::from_code(1)];
+    assert!(rt; found == Ok(Some(Err(Conflict::Binary(lits)))));
+}
