@@ -13,6 +13,7 @@ use std::io;
 
 impl<R: CountedRead> Input<'_, R> {
     /// Reads a number that is at most the largest.
+    #[inline(always)] // each literal and each hash goes through it
     pub(super) fn number(&mut self, largest: u64) -> Result<u64, StepError>
         requires { 0 < largest }
         ensures { Got (IsBelow (largest + 1)) result R.seen self.old self.new }
