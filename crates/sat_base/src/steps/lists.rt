@@ -21,6 +21,7 @@ use std::io;
 const LARGEST_CODE: u64 = 2 * MAX_COUNT as u64 - 1;
 
 impl<R: CountedRead> Input<'_, R> {
+    #[inline(always)] // called for each literal of a list
     fn literal(&mut self) -> Result<Lit, StepError>
         ensures { Got IsLiteral result R.seen self.old self.new }
     {
