@@ -8,8 +8,8 @@ ghost use Rattle.sat_parts.specs.prop.Ready.{state_of, LongReady};
 ghost use Rattle.sat_parts_tests.specs.Loading.{Serves};
 
 use crate::parts::{Parts, no_parts};
-use crate::propagation::{assumed, reads};
-use crate::search::enqueue;
+use crate::propagation::{assumed, names_first, reads};
+use crate::search::{enqueue, propagate_all};
 use sat_base::{Lit, Var};
 use sat_parts::{Conflict, Reason, enable_watchlists, propagate_binary, propagate_long};
 use sat_store::StoreError;
@@ -112,6 +112,26 @@ fn found_alone(
     }
 }
 
+/// What propagation answers with two literals true over these clauses. None where they aren't clauses over three variables.
+fn found_together(
+    alloc: Global,
+    parts: &mut Parts,
+    clauses: &[&[i64]],
+) -> Result<Option<Result<(), Conflict>>, StoreError>
+    requires clauses { HoldsDb parts.old.clauses parts.old.db × (parts.old.db ≡ no_clauses) }
+    requires lists { (parts.old.watchlists.lists ≡ []) × (parts.old.binary.implied ≡ []) }
+    requires values { (parts.old.assignment.current ≡ []) × (parts.old.graph ≡ []) }
+    requires trail { (parts.old.trail ≡ no_trail) × (parts.old.vsids ≡ no_variables) }
+{
+    if !assumed(alloc, parts, clauses, Lit::from_code(0))?
+        || !assumed_too(parts, Lit::from_code(2))
+    {
+        return Ok(None);
+    }
+    let found = propagate_all(alloc, parts)?;
+    Ok(Some(found))
+}
+
 /// Whether the third variable is true by the first of the long clauses.
 fn third_by_first(parts: &Parts) -> bool {
     match parts.db.refs().first() {
@@ -149,4 +169,13 @@ fn binary_conflict_alone(rt: HostRuntime) {
     let found = found_alone(rt.alloc(), &mut parts, &clauses, false);
     let lits = [Lit::from_code(3), Lit::from_code(1)];
     assert!(rt; found == Ok(Some(Err(Conflict::Binary(lits)))));
+}
+
+#[test]
+fn binary_clauses_go_before_long_ones(rt: HostRuntime) {
+    let mut parts = no_parts(rt.alloc());
+    let clauses: [&[i64]; 2] = [&[3, -1, -2], &[-1, -3]];
+    let found = found_together(rt.alloc(), &mut parts, &clauses);
+    assert!(rt; reads(parts.trail.trail(), &[1, 2, -3]));
+    assert!(rt; names_first(&parts.db, &found));
 }

@@ -92,7 +92,10 @@ pub fn reads(lits: &[Lit], numbers: &[i64]) -> bool {
 }
 
 /// Whether the conflict is the first of the long clauses.
-fn names_first(db: &ClauseDb, found: &Result<Option<Result<(), Conflict>>, StoreError>) -> bool {
+pub fn names_first(
+    db: &ClauseDb,
+    found: &Result<Option<Result<(), Conflict>>, StoreError>,
+) -> bool {
     match db.refs().first() {
         Some(cref) => *found == Ok(Some(Err(Conflict::Long(*cref)))),
         None => false,
