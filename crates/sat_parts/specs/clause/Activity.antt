@@ -48,6 +48,13 @@ shifted words p = with_activity (header_at words p) ((header_at words p).activit
 abbrev pub raised : List ℕ → (o bump : ℕ) → ℕ
 raised words o bump = min ((header_at words o).activity + bump) (2 ^ 32 - 1)
 
+-- a bump of the clause at o stays below 2^30, and comes to it or past it
+abbrev pub StaysBelow : List ℕ → ℕ → Scale → Type 0
+StaysBelow words o s = raised words o s.bump < 2 ^ 30
+
+abbrev pub ComesTo : List ℕ → ℕ → Scale → Type 0
+ComesTo words o s = 2 ^ 30 ≤ raised words o s.bump
+
 -- the headers where the clause at o was bumped, and then all on a smaller scale
 abbrev pub bumped_shifted : List ℕ → (o bump : ℕ) → ℕ → Header
 bumped_shifted words o bump p = with_activity (header_at words p) ((if p == o then raised words o bump else (header_at words p).activity) / 2 ^ 16)

@@ -1,5 +1,5 @@
 -- Nodes of the implication graph, by index of variable.
-use Rattle.std.specs.Prelude.{ℕ, ◌+◌, ◌-◌, Bool, true, false, List, ◌++◌, take, replicate, length, slice_index_or as get_or, slice_set as set}
+use Rattle.std.specs.Prelude.{ℕ, ◌≡◌, ◌+◌, ◌-◌, Bool, true, false, List, ◌++◌, take, replicate, length, slice_index_or as get_or, slice_set as set}
 use Rattle.sat_parts.specs.prop.Trails.{Trailed}
 use Rattle.sat_parts.specs.declared.prop.graph.ImplNode.{ImplNode}
 use Rattle.sat_parts.specs.declared.prop.graph.Reason.{Reason}
@@ -35,3 +35,7 @@ with_nodes count nodes = take count nodes ++ replicate (count - length nodes) ne
 -- the node of a unit taken off the trail
 abbrev pub removed_node : ImplNode
 removed_node = record { reason = NoCause; level = 0; depth = 4294967295 }
+
+-- the clause at o is the reason of the variable's literal
+abbrev pub HasReason : List ImplNode → (v o : ℕ) → Type 0
+HasReason nodes v o = (node_of nodes v).reason ≡ Long o

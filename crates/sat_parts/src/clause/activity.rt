@@ -4,7 +4,7 @@ ghost use Rattle.std.specs.List.{Contains};
 ghost use Rattle.sat_store.specs.clause.Buffer.{header_at};
 ghost use Rattle.sat_store.specs.heap.Vsids.{quotient_up};
 ghost use Rattle.sat_parts.specs.clause.Db.{HoldsDb, PutsHeader, live_refs};
-ghost use Rattle.sat_parts.specs.clause.Activity.{PutsHeaders, BumpsOne, BumpsAll, DecaysAll, later_scale, first_scale, later_bump, with_activity, shifted, raised};
+ghost use Rattle.sat_parts.specs.clause.Activity.{PutsHeaders, BumpsOne, BumpsAll, DecaysAll, later_scale, first_scale, later_bump, with_activity, shifted, StaysBelow, ComesTo};
 
 use crate::clause::db::{ClauseDb, put_header};
 use sat_store::{ClauseAlloc, ClauseRef};
@@ -101,9 +101,9 @@ pub fn bump_clause_activity(
 )
     requires db { HoldsDb clauses.old db.now }
     requires there { Contains db.now.refs cref }
-    ensures raised { raised clauses.old cref activity.old.bump < 2 ^ 30 →
+    ensures raised { StaysBelow clauses.old cref activity.old →
         BumpsOne clauses.old clauses.new db.now.refs cref activity.old activity.new }
-    ensures rescaled { 2 ^ 30 ≤ raised clauses.old cref activity.old.bump →
+    ensures rescaled { ComesTo clauses.old cref activity.old →
         BumpsAll clauses.old clauses.new db.now.refs cref activity.old activity.new }
     ensures db { HoldsDb clauses.new db.now }
     ensures live { live_refs clauses.new db.now.refs ≡ live_refs clauses.old db.now.refs }

@@ -6,7 +6,7 @@ ghost use Rattle.sat_store.specs.clause.Buffer.{IsClause, Laid, Adds, header_at,
 ghost use Rattle.sat_parts.specs.clause.Db.{HoldsDb, live_refs};
 ghost use Rattle.sat_parts.specs.clause.Stored.{lit_of, size_of};
 ghost use Rattle.sat_parts.specs.clause.Collected.{CopiesOne, Copying, AreFirsts, FollowsAll, Collects, AllStay, after_collection};
-ghost use Rattle.sat_parts.specs.prop.Graphs.{node_of, with_reason};
+ghost use Rattle.sat_parts.specs.prop.Graphs.{HasReason, with_reason};
 
 use crate::clause::db::ClauseDb;
 use crate::prop::graph::{ImplGraph, Reason};
@@ -61,9 +61,9 @@ fn copy_live(
 
 /// Makes a clause the reason of a literal in the place of another, where that is its reason.
 fn move_reason(graph: &mut ImplGraph, lit: Lit, from: ClauseRef, to: ClauseRef)
-    ensures moved { (node_of graph.old (variable lit)).reason ≡ Reason.Long from →
+    ensures moved { HasReason graph.old (variable lit) from →
         graph.new ≡ with_reason (variable lit) (Reason.Long to) graph.old }
-    ensures kept { ((node_of graph.old (variable lit)).reason ≡ Reason.Long from → ⊥) → graph.new ≡ graph.old }
+    ensures kept { (HasReason graph.old (variable lit) from → ⊥) → graph.new ≡ graph.old }
 {
     if lit.index() >= graph.nodes.len() {
         return;
