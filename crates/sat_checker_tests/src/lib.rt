@@ -8,6 +8,10 @@ mod devices;
 #[cfg(test)]
 mod dimacs;
 #[cfg(test)]
+mod items;
+#[cfg(test)]
 mod proofs;
+#[cfg(test)]
+mod rows;
 #[cfg(test)]
 mod steps;

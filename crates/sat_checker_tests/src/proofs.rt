@@ -1,7 +1,7 @@
 //! Whole proofs, and clauses that come before them.
 
 use crate::devices::by_one;
-use crate::steps::{ROWS, Row};
+use crate::rows::{Row, next_error};
 use sat_base::{CnfFormula, Counted, CountedRead, ExtendFormula, Lit};
 use sat_checker::{Checker, CheckerError, Looks};
 use std::alloc::Global;
@@ -15,12 +15,19 @@ fn read_on<R: CountedRead>(checker: &mut Checker, reader: &mut R) -> Answer {
     (error, checker.unsat(), checker.ended())
 }
 
-fn whole(alloc: Global, text: &[u8]) -> Answer {
-    read_on(&mut Checker::new(alloc), &mut Counted::new(text))
+const END: &[u8] = &[13];
+
+/// What a new checker answers to a proof, and to an end behind it.
+fn answered<R: CountedRead>(alloc: Global, reader: &mut R) -> (Answer, Option<CheckerError>) {
+    let mut checker = Checker::new(alloc);
+    let answer = read_on(&mut checker, reader);
+    (answer, checker.check_proof(&mut Counted::new(END)).err())
 }
 
-fn in_pieces(alloc: Global, text: &[u8]) -> Answer {
-    read_on(&mut Checker::new(alloc), &mut by_one(text, 0))
+/// Whether a text is answered so, read whole and in pieces of one byte.
+fn is_text_answered(alloc: Global, text: &[u8], wanted: &(Answer, Option<CheckerError>)) -> bool {
+    answered(alloc, &mut Counted::new(text)) == *wanted
+        && answered(alloc, &mut by_one(text, 0)) == *wanted
 }
 
 /// What a row's text is answered by as a proof: where its steps are accepted and none is the end, it is incomplete.
@@ -33,21 +40,9 @@ fn proof_answer(row: &Row) -> Answer {
     }
 }
 
-#[test]
-fn proofs_are_answered(rt: HostRuntime) -> Result<(), Fail> {
-    for row in &ROWS {
-        assert!(rt;
-            whole(rt.alloc(), row.0) == proof_answer(row),
-            "{:?}",
-            row.0
-        );
-        assert!(rt;
-            in_pieces(rt.alloc(), row.0) == proof_answer(row),
-            "{:?}",
-            row.0
-        );
-    }
-    Ok(())
+/// Whether the steps of a row are answered so as a proof.
+pub(crate) fn is_answered(alloc: Global, row: &Row) -> bool {
+    is_text_answered(alloc, row.0, &(proof_answer(row), next_error(&row.1)))
 }
 
 const INCOMPLETE: Answer = (Some(CheckerError::ProofIncomplete), false, false);
@@ -57,7 +52,7 @@ const UNREAD: Answer = (Some(CheckerError::ParseError), false, false);
 const ENDED: Answer = (None, false, true);
 
 /// Texts that are no proofs, and what stands behind an end.
-const TEXTS: [(&[u8], Answer); 9] = [
+const TEXTS: [(&[u8], Answer); 10] = [
     (&[], INCOMPLETE),
     (&[5, 1, 0], INCOMPLETE),
     (&[5, 2, 0], INCOMPLETE),
@@ -65,6 +60,7 @@ const TEXTS: [(&[u8], Answer); 9] = [
     (&[14], UNREAD),
     (&[0], UNREAD),
     (&[5, 0x82, 0, 0], UNREAD),
+    (&[9, 65], UNREAD),
     (&[13, 0], ENDED),
     (&[5, 1, 0, 13, 5, 1, 1], ENDED),
 ];
@@ -72,8 +68,10 @@ const TEXTS: [(&[u8], Answer); 9] = [
 #[test]
 fn texts_are_answered(rt: HostRuntime) -> Result<(), Fail> {
     for (text, answer) in &TEXTS {
-        assert!(rt; whole(rt.alloc(), *text) == *answer, "{text:?}");
-        assert!(rt; in_pieces(rt.alloc(), *text) == *answer, "{text:?}");
+        assert!(rt;
+            is_text_answered(rt.alloc(), *text, &(*answer, None)),
+            "{text:?}"
+        );
     }
     Ok(())
 }
@@ -88,8 +86,7 @@ const NAMED_AGAIN: &[u8] = &[
 fn goes_on_behind(alloc: Global, failing: u64) -> bool {
     let mut checker = Checker::new(alloc);
     let answer = read_on(&mut checker, &mut by_one(NAMED_AGAIN, failing));
-    let end: &[u8] = &[13];
-    answer.0 == Some(CheckerError::IoError) && checker.check_proof(&mut Counted::new(end)).is_ok()
+    answer.0 == Some(CheckerError::IoError) && checker.check_proof(&mut Counted::new(END)).is_ok()
 }
 
 #[test]
@@ -130,6 +127,37 @@ fn add_all(alloc: Global, checker: &mut Checker) -> Option<CheckerError> {
         return Some(CheckerError::OutOfMemory);
     }
     checker.add_formula(&formula).err()
+}
+
+fn push_units(formula: &mut CnfFormula) -> bool {
+    let mut added = true;
+    for code in [2, 0, 3] {
+        added = added && formula.add_clause(&[Lit::from_code(code)]).is_ok();
+    }
+    added
+}
+
+fn add_units(alloc: Global, checker: &mut Checker) -> Option<CheckerError> {
+    let mut formula = CnfFormula::new(alloc);
+    if !push_units(&mut formula) {
+        return Some(CheckerError::OutOfMemory);
+    }
+    checker.add_formula(&formula).err()
+}
+
+/// A clause of a hidden variable isn't taken, and neither is one behind it.
+#[test]
+fn refused_clauses_end_a_formula(rt: HostRuntime) -> Result<(), Fail> {
+    let mut checker = Checker::new(rt.alloc());
+    let hidden: &[u8] = &[2, 0, 1, 2, 0, 0];
+    assert!(rt;
+        checker.check_proof(&mut Counted::new(hidden)) == Err(CheckerError::ProofIncomplete)
+    );
+    assert!(rt; add_units(rt.alloc(), &mut checker) == Some(CheckerError::CheckFailed));
+    assert!(rt; !checker.unsat());
+    assert!(rt; checker.add_clause(&[Lit::from_code(3)]) == Ok(()));
+    assert!(rt; checker.unsat());
+    Ok(())
 }
 
 fn refuted(alloc: Global, text: &[u8]) -> (Option<CheckerError>, Answer) {

@@ -1,0 +1,163 @@
+//! Hashes, sets of literals, and what is known of variables.
+
+use sat_base::{ClauseHash, Counted, HashBits, Lit, Var};
+use sat_checker::sorted_lits::{copy_canonical, is_subset};
+use sat_checker::variables::Variables;
+use sat_checker::{Checker, ClauseHasher};
+use std::alloc::Global;
+use std::test::Fail;
+
+/// The hash of [1,2] by width.
+const HASHES: [(u32, ClauseHash); 4] = [(64, 0x449114950295082a), (8, 0x44), (6, 17), (0, 0)];
+
+/// The hash of a clause of two variables, which are variables 1 and 2 by their solver names.
+fn hash_by_names(alloc: Global, width: u32) -> Option<ClauseHash> {
+    let mut hasher = ClauseHasher::new(alloc, HashBits::new(64)?);
+    let (first, second) = (Var::from_index(7), Var::from_index(5));
+    hasher
+        .set_solver_name(first, Some(Var::from_index(1)))
+        .ok()?;
+    hasher
+        .set_solver_name(second, Some(Var::from_index(0)))
+        .ok()?;
+    hasher.set_bits(HashBits::new(width)?);
+    Some(hasher.clause_hash(&[first.positive(), second.positive()]))
+}
+
+fn hash(alloc: Global, width: u32) -> Option<ClauseHash> {
+    let hasher = ClauseHasher::new(alloc, HashBits::new(width)?);
+    Some(hasher.clause_hash(&[Lit::from_code(0), Lit::from_code(2)]))
+}
+
+#[test]
+fn clauses_are_hashed(rt: HostRuntime) -> Result<(), Fail> {
+    for &(width, wanted) in &HASHES {
+        assert!(rt; hash(rt.alloc(), width) == Some(wanted), "{width}");
+        assert!(rt; hash_by_names(rt.alloc(), width) == Some(wanted), "{width}");
+    }
+    Ok(())
+}
+
+fn lits(numbers: [i64; 3]) -> Option<[Lit; 3]> {
+    Some([
+        Lit::from_dimacs(numbers[0])?,
+        Lit::from_dimacs(numbers[1])?,
+        Lit::from_dimacs(numbers[2])?,
+    ])
+}
+
+fn have_numbers(lits: &[Lit], numbers: &[i64]) -> bool {
+    if lits.len() != numbers.len() {
+        return false;
+    }
+    for place in 0..lits.len() {
+        if lits[place].to_dimacs() != numbers[place] {
+            return false;
+        }
+    }
+    true
+}
+
+/// Literals, the sorted set of them, and whether both signs of a variable are among them.
+const SETS: [([i64; 3], &[i64], bool); 4] = [
+    ([2, 1, 1], &[1, 2], false),
+    ([-1, 3, 1], &[1, -1, 3], true),
+    ([2, 2, 2], &[2], false),
+    ([-3, -1, 2], &[-1, 2, -3], false),
+];
+
+/// Whether the sorted set of literals is this one, and the answer of `copy_canonical` this.
+fn is_set_of(alloc: Global, numbers: [i64; 3], wanted: &[i64], both: bool) -> bool {
+    let Some(lits) = lits(numbers) else {
+        return false;
+    };
+    let mut set = Vec::new(alloc);
+    copy_canonical(&mut set, &lits) == Ok(both) && have_numbers(&set, wanted)
+}
+
+#[test]
+fn sets_are_sorted(rt: HostRuntime) -> Result<(), Fail> {
+    for &(numbers, wanted, both) in &SETS {
+        assert!(rt; is_set_of(rt.alloc(), numbers, wanted, both), "{wanted:?}");
+    }
+    Ok(())
+}
+
+/// Two sets, whether the first is a part of the second, and whether a strict one.
+const PARTS: [([i64; 3], [i64; 3], bool, bool); 4] = [
+    ([1, 2, 2], [2, 1, 3], true, true),
+    ([1, 2, 3], [3, 2, 1], true, false),
+    ([1, -2, 3], [3, 2, 1], false, false),
+    ([1, 2, 3], [2, 1, 1], false, false),
+];
+
+/// Whether the sorted set of literals is a part of that of others.
+#[tactic(auto, using(sat_checker::proofs::lemmas::sets::Canonical::canonical_increasing))]
+fn are_part(alloc: Global, first: &[Lit], second: &[Lit], strict: bool) -> Option<bool> {
+    let mut part = Vec::new(alloc);
+    let mut whole = Vec::new(alloc);
+    copy_canonical(&mut part, first).ok()?;
+    copy_canonical(&mut whole, second).ok()?;
+    Some(is_subset(&part, &whole, strict))
+}
+
+fn is_part(alloc: Global, first: [i64; 3], second: [i64; 3], strict: bool) -> Option<bool> {
+    are_part(alloc, &lits(first)?, &lits(second)?, strict)
+}
+
+#[test]
+fn parts_are_told(rt: HostRuntime) -> Result<(), Fail> {
+    for &(first, second, part, strict_part) in &PARTS {
+        assert!(rt; is_part(rt.alloc(), first, second, false) == Some(part));
+        assert!(rt; is_part(rt.alloc(), first, second, true) == Some(strict_part));
+    }
+    Ok(())
+}
+
+/// What a checker tells of the first variable: its name, whether it is known, and whether one was deleted.
+type Told = (Option<usize>, bool, bool);
+
+/// Steps, and what is told then.
+const TOLD: [(&[u8], Told); 8] = [
+    (&[], (None, false, false)),
+    (&[2, 0, 5], (Some(4), true, false)),
+    (&[2, 0, 5, 2, 0, 0], (None, true, false)),
+    (&[2, 0, 5, 2, 0, 0, 2, 1, 5], (None, true, false)),
+    (&[2, 0, 5, 2, 0, 0, 3, 0], (None, false, true)),
+    (&[1, 0, 0], (None, false, false)),
+    (&[1, 0, 5], (None, true, false)),
+    (&[11, 1, 3, 11, 0, 3, 1], (None, false, true)),
+];
+
+fn told(alloc: Global, text: &[u8]) -> Told {
+    let mut checker = Checker::new(alloc);
+    let _incomplete = checker.check_proof(&mut Counted::new(text));
+    let var = Var::from_index(0);
+    let name = checker.user_name(var).map(|name| name.index());
+    (name, checker.knows(var), checker.var_deleted())
+}
+
+#[test]
+fn variables_are_told(rt: HostRuntime) -> Result<(), Fail> {
+    for (text, wanted) in &TOLD {
+        assert!(rt; told(rt.alloc(), *text) == *wanted, "{text:?}");
+    }
+    Ok(())
+}
+
+/// Whether a variable is known, and which one has a name, before and behind its removal.
+fn named(variables: &mut Variables) -> Option<bool> {
+    let (var, name) = (Var::from_index(0), Var::from_index(4));
+    variables.ensure_var(var).ok()?;
+    let given = variables.add_user_mapping(var, name).ok()?;
+    let held = variables.holder(name) == Some(var);
+    let removed = variables.remove_user_mapping(var).ok()?;
+    let free = variables.holder(name).is_none();
+    Some(given && held && removed && free && variables.data(var).known)
+}
+
+#[test]
+fn names_are_held(rt: HostRuntime) {
+    let mut variables = Variables::new(rt.alloc());
+    assert!(rt; named(&mut variables) == Some(true));
+}

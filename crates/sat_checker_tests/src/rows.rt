@@ -1,0 +1,517 @@
+//! Steps in bytes, and what a checker answers to them, by the kind of the last step.
+
+use crate::{proofs, steps};
+use sat_checker::CheckerError;
+use std::alloc::Global;
+use std::test::Fail;
+
+/// What a checker answers to steps: the first error, and whether unsat is recorded and it has ended.
+pub(crate) type Answer = (Option<CheckerError>, bool, bool);
+
+pub(crate) type Row = (&'static [u8], Answer);
+
+const ENDED: Answer = (None, false, true);
+
+const REFUTED: Answer = (None, true, true);
+
+const GOES_ON: Answer = (None, false, false);
+
+const REFUSED: Answer = (Some(CheckerError::CheckFailed), false, false);
+
+const UNSAT: Answer = (None, true, false);
+
+/// Refused where unsat is recorded.
+const UNSAT_REFUSED: Answer = (Some(CheckerError::CheckFailed), true, false);
+
+/// What the next call answers: a refused step is the last.
+pub(crate) fn next_error(answer: &Answer) -> Option<CheckerError> {
+    if answer.0.is_some() {
+        Some(CheckerError::HasFailed)
+    } else {
+        None
+    }
+}
+
+/// Whether steps are answered so, one by one and as a proof, read whole and in pieces of one byte.
+fn is_answered(alloc: Global, row: &Row) -> bool {
+    steps::is_answered(alloc, row) && proofs::is_answered(alloc, row)
+}
+
+/// Whole proofs.
+const PROOFS: [Row; 8] = [
+    (&[0x0d], ENDED),
+    // a name is put again on a hidden variable: the checker alone accepts it
+    (
+        &[
+            0x02, 0x00, 0x01, 0x05, 0x01, 0x00, 0x02, 0x00, 0x00, 0x04, 0x00, 0x01, 0x02, 0x00,
+            0x01, 0x05, 0x01, 0x01, 0x0d,
+        ],
+        REFUTED,
+    ),
+    // the four clauses over two variables, at width 8
+    (
+        &[
+            0x02, 0x00, 0x01, 0x01, 0x00, 0x01, 0x02, 0x01, 0x02, 0x01, 0x01, 0x02, 0x05, 0x02,
+            0x00, 0x02, 0x05, 0x02, 0x00, 0x03, 0x05, 0x02, 0x01, 0x02, 0x05, 0x02, 0x01, 0x03,
+            0x0b, 0x00, 0x09, 0x08, 0x06, 0x00, 0x01, 0x00, 0x02, 0x44, 0xe6, 0x01, 0x07, 0x01,
+            0x02, 0xe6, 0x01, 0x06, 0x00, 0x00, 0x01, 0x44, 0x0b, 0x00, 0x0d,
+        ],
+        REFUTED,
+    ),
+    // the same at width 0, and each derived clause names hash 0 once
+    (
+        &[
+            5, 2, 0, 2, 5, 2, 0, 3, 5, 2, 1, 2, 5, 2, 1, 3, 9, 0, 6, 0, 1, 0, 1, 0, 6, 0, 0, 1, 0,
+        ],
+        UNSAT,
+    ),
+    // at width 0 one walk over the clauses doesn't do, two do
+    (
+        &[
+            5, 3, 3, 4, 6, 5, 2, 0, 2, 5, 2, 3, 7, 9, 0, 6, 0, 2, 0, 4, 1, 0,
+        ],
+        REFUSED,
+    ),
+    (
+        &[
+            5, 3, 3, 4, 6, 5, 2, 0, 2, 5, 2, 3, 7, 9, 0, 6, 0, 2, 0, 4, 2, 0, 0,
+        ],
+        GOES_ON,
+    ),
+    // an end behind an end, and where unsat is recorded
+    (&[13, 13], ENDED),
+    (&[5, 0, 13], REFUTED),
+];
+
+/// Solver names, and the user's names.
+const NAMES: [Row; 25] = [
+    // with a solver name a variable is known, without one it stays unknown
+    (&[1, 0, 1, 4, 0, 1], GOES_ON),
+    (&[1, 0, 0], GOES_ON),
+    (&[1, 0, 0, 4, 0, 1], REFUSED),
+    // set, replaced and removed; two variables may have the same one
+    (&[1, 0, 1, 1, 0, 2, 1, 0, 0], GOES_ON),
+    (&[1, 0, 1, 1, 1, 1], GOES_ON),
+    // clauses are named by it, also those stored before, and no longer once it is removed
+    (
+        &[
+            9, 8, 1, 3, 1, 1, 6, 2, 5, 2, 6, 12, 5, 2, 6, 13, 6, 0, 1, 6, 2, 0x44, 0xe6, 1,
+        ],
+        GOES_ON,
+    ),
+    (
+        &[
+            9, 8, 5, 2, 6, 12, 5, 2, 6, 13, 1, 3, 1, 1, 6, 2, 6, 0, 1, 6, 2, 0x44, 0xe6, 1,
+        ],
+        GOES_ON,
+    ),
+    (
+        &[9, 8, 5, 2, 6, 12, 5, 2, 6, 13, 6, 0, 1, 6, 2, 0x44, 0xe6, 1],
+        REFUSED,
+    ),
+    (
+        &[
+            9, 8, 1, 3, 1, 1, 6, 2, 5, 2, 6, 12, 5, 2, 6, 13, 1, 3, 0, 6, 0, 1, 6, 2, 0x44, 0xe6, 1,
+        ],
+        REFUSED,
+    ),
+    // a deleted variable keeps it
+    (
+        &[
+            9, 8, 1, 3, 1, 1, 6, 2, 3, 3, 3, 6, 5, 2, 6, 12, 5, 2, 6, 13, 6, 0, 1, 6, 2, 0x44,
+            0xe6, 1,
+        ],
+        GOES_ON,
+    ),
+    // a name for an unknown variable, a sampling one and a witness
+    (&[2, 0, 1, 4, 0, 1], GOES_ON),
+    (&[5, 1, 0, 2, 0, 1], GOES_ON),
+    (&[5, 1, 0, 4, 0, 0, 2, 0, 1], GOES_ON),
+    // a name that is taken, a variable that has one, and a hidden one
+    (&[2, 0, 1, 2, 1, 1], REFUSED),
+    (&[2, 0, 1, 2, 0, 2], REFUSED),
+    (&[2, 0, 1, 2, 0, 1], REFUSED),
+    (&[2, 0, 1, 2, 0, 0, 2, 0, 1], REFUSED),
+    // one that is hidden no longer, and a name that is free again
+    (&[2, 0, 1, 2, 0, 0, 4, 0, 1, 2, 0, 2], GOES_ON),
+    (&[2, 0, 1, 2, 0, 0, 2, 1, 1], GOES_ON),
+    (&[2, 0, 1, 2, 0, 0, 3, 0, 2, 1, 1], GOES_ON),
+    // a name is removed: there is one, none, none for a known variable, and none any longer
+    (&[2, 0, 1, 2, 0, 0], GOES_ON),
+    (&[2, 0, 0], REFUSED),
+    (&[5, 1, 0, 2, 0, 0], REFUSED),
+    (&[2, 0, 1, 2, 0, 0, 2, 0, 0], REFUSED),
+    (&[2, 0, 1, 2, 0, 0, 2, 1, 1, 2, 0, 0], REFUSED),
+];
+
+/// Variables that are deleted, and modes.
+const VARIABLES: [Row; 24] = [
+    // unknown, named, in a clause, in a redundant one, assumed
+    (&[3, 0], REFUSED),
+    (&[2, 0, 1, 3, 0], REFUSED),
+    (&[5, 2, 0, 2, 3, 0], REFUSED),
+    (&[5, 2, 0, 2, 3, 1], REFUSED),
+    (&[9, 0, 5, 2, 0, 2, 6, 1, 3, 0, 2, 4, 1, 0, 3, 2], REFUSED),
+    (&[11, 1, 0, 3, 0], REFUSED),
+    (&[11, 2, 2, 1, 3, 0], REFUSED),
+    // known; assumed no longer; in no clause any longer; without its name; with a unit, which is forgotten
+    (&[10, 1, 0, 3, 0], GOES_ON),
+    (&[11, 1, 0, 11, 0, 3, 0], GOES_ON),
+    (
+        &[
+            9, 0, 5, 2, 0, 2, 6, 1, 3, 0, 2, 4, 1, 0, 8, 3, 0, 2, 4, 0, 3, 2,
+        ],
+        GOES_ON,
+    ),
+    (&[5, 2, 0, 1, 3, 0], GOES_ON),
+    (&[2, 0, 1, 2, 0, 0, 3, 0], GOES_ON),
+    (&[5, 1, 0, 3, 0, 5, 1, 1], GOES_ON),
+    (&[5, 1, 0, 5, 1, 1, 3, 0, 5, 1, 0], UNSAT),
+    // unknown again, and a sampling one where it comes back
+    (&[11, 1, 0, 11, 0, 3, 0, 3, 0], REFUSED),
+    (&[11, 1, 0, 11, 0, 3, 0, 4, 0, 1], REFUSED),
+    (&[2, 0, 1, 2, 0, 0, 3, 0, 5, 1, 0], GOES_ON),
+    // modes: unknown variables, known ones, a hidden one and one that has a name
+    (&[4, 0, 1], REFUSED),
+    (&[4, 0, 0], REFUSED),
+    (&[5, 1, 0, 4, 0, 0], GOES_ON),
+    (&[5, 1, 0, 4, 0, 0, 4, 0, 1, 5, 1, 0], GOES_ON),
+    (&[2, 0, 1, 2, 0, 0, 4, 0, 1, 5, 1, 0], GOES_ON),
+    (&[2, 0, 1, 2, 0, 0, 4, 0, 0, 5, 1, 0], REFUSED),
+    (&[2, 0, 1, 4, 0, 0, 4, 0, 1], GOES_ON),
+];
+
+/// Clauses of the formula, derived ones, and units.
+const CLAUSES: [Row; 42] = [
+    // of unknown and sampling variables, of a witness, of a hidden one
+    (&[5, 1, 0, 5, 2, 2, 0], GOES_ON),
+    (&[5, 1, 0, 4, 0, 0, 5, 1, 0], REFUSED),
+    (&[5, 1, 0, 4, 0, 0, 5, 2, 2, 0], REFUSED),
+    (&[2, 0, 1, 2, 0, 0, 5, 1, 0], REFUSED),
+    // behind recorded unsat each is accepted, and has no effect
+    (&[5, 1, 0, 4, 0, 0, 5, 0, 5, 1, 0], UNSAT),
+    (&[5, 0, 5, 1, 0, 4, 0, 1], UNSAT_REFUSED),
+    (&[5, 0, 5, 1, 0, 6, 0, 1, 0, 0], UNSAT_REFUSED),
+    // an empty one, a tautology, one that contradicts another
+    (&[5, 0], UNSAT),
+    (&[5, 2, 0, 1], GOES_ON),
+    (&[5, 1, 0, 5, 1, 1], UNSAT),
+    // a clause that was stored twice is there; another doesn't follow
+    (&[5, 2, 0, 2, 5, 3, 2, 0, 0, 6, 0, 1, 4, 0], REFUSED),
+    // a tautology follows, and isn't stored
+    (&[6, 0, 2, 0, 1, 0], GOES_ON),
+    (&[6, 0, 2, 0, 1, 0, 4, 0, 1], GOES_ON),
+    (&[6, 1, 2, 0, 1, 0, 8, 2, 0, 1, 0], REFUSED),
+    (&[9, 0, 6, 0, 2, 0, 1, 1, 0], GOES_ON),
+    // so does a clause in which a unit is true, also behind an empty bucket; one in which it is false doesn't
+    (&[5, 1, 0, 6, 0, 2, 0, 2, 0], GOES_ON),
+    (&[9, 0, 5, 1, 0, 6, 0, 2, 2, 0, 1, 0], GOES_ON),
+    (&[5, 1, 0, 6, 0, 2, 1, 2, 0], REFUSED),
+    // the clauses of the buckets lead to a conflict, or they don't
+    (
+        &[9, 8, 5, 2, 0, 2, 5, 2, 0, 3, 6, 0, 1, 0, 2, 0x44, 0xe6, 1],
+        GOES_ON,
+    ),
+    (
+        &[9, 8, 5, 2, 0, 2, 5, 2, 0, 3, 6, 0, 1, 0, 2, 0xe6, 1, 0x44],
+        GOES_ON,
+    ),
+    (
+        &[9, 8, 5, 2, 0, 2, 5, 2, 0, 3, 6, 0, 1, 0, 1, 0x44],
+        REFUSED,
+    ),
+    (&[9, 8, 5, 2, 0, 2, 5, 2, 0, 3, 6, 0, 1, 0, 0], REFUSED),
+    // an empty bucket before the conflict, and behind it
+    (
+        &[
+            9, 8, 5, 2, 0, 2, 5, 2, 0, 3, 6, 0, 1, 0, 3, 0, 0x44, 0xe6, 1,
+        ],
+        REFUSED,
+    ),
+    (
+        &[
+            9, 8, 5, 2, 0, 2, 5, 2, 0, 3, 6, 0, 1, 0, 3, 0x44, 0, 0xe6, 1,
+        ],
+        REFUSED,
+    ),
+    (
+        &[
+            9, 8, 5, 2, 0, 2, 5, 2, 0, 3, 6, 0, 1, 0, 3, 0x44, 0xe6, 1, 0,
+        ],
+        GOES_ON,
+    ),
+    // a bucket of two: the second alone is falsified; what a unit satisfies rests
+    (
+        &[9, 0, 5, 2, 4, 6, 5, 2, 0, 2, 6, 0, 2, 0, 2, 1, 0],
+        GOES_ON,
+    ),
+    (&[9, 0, 5, 1, 4, 5, 2, 4, 0, 6, 0, 1, 0, 1, 0], REFUSED),
+    // a clause that was derived twice stands twice
+    (
+        &[
+            9, 0, 5, 2, 0, 2, 6, 1, 3, 0, 2, 4, 1, 0, 6, 1, 3, 4, 2, 0, 1, 0, 8, 3, 0, 2, 4, 0, 8,
+            3, 0, 2, 4, 0,
+        ],
+        GOES_ON,
+    ),
+    // behind a check that passes the units are those of before
+    (&[9, 0, 5, 2, 0, 2, 6, 0, 2, 0, 2, 1, 0, 10, 1, 2], GOES_ON),
+    (
+        &[9, 0, 5, 2, 0, 2, 6, 0, 2, 0, 2, 1, 0, 6, 0, 1, 1, 0],
+        REFUSED,
+    ),
+    // an empty clause is derived
+    (&[9, 0, 5, 2, 0, 2, 5, 1, 1, 5, 1, 3, 6, 0, 0, 1, 0], UNSAT),
+    (&[9, 0, 5, 2, 0, 2, 5, 1, 1, 6, 0, 0, 1, 0], REFUSED),
+    // units, each by its one hash
+    (&[9, 0, 5, 1, 0, 5, 2, 1, 2, 7, 1, 2, 0], GOES_ON),
+    (&[9, 0, 5, 1, 0, 5, 2, 1, 2, 7, 1, 4, 0], REFUSED),
+    (&[7, 0], GOES_ON),
+    // one that is stored already, under an empty bucket, and its negation
+    (&[5, 1, 0, 7, 1, 0, 0], GOES_ON),
+    (&[5, 1, 0, 7, 1, 1, 0], REFUSED),
+    // the second rests on the first
+    (
+        &[
+            9, 8, 1, 2, 1, 5, 1, 0, 5, 2, 1, 2, 5, 2, 3, 5, 7, 2, 2, 0xe6, 1, 5, 0x44,
+        ],
+        GOES_ON,
+    ),
+    (
+        &[
+            9, 8, 1, 2, 1, 5, 1, 0, 5, 2, 1, 2, 5, 2, 3, 5, 7, 2, 5, 0x44, 2, 0xe6, 1,
+        ],
+        REFUSED,
+    ),
+    // of two that contradict each other the second records unsat
+    (
+        &[9, 0, 5, 1, 0, 5, 2, 1, 2, 5, 2, 1, 3, 7, 2, 2, 0, 3, 0],
+        UNSAT,
+    ),
+    // their variables become known
+    (
+        &[9, 0, 5, 2, 0, 2, 5, 1, 1, 5, 1, 3, 7, 1, 8, 0, 4, 4, 0],
+        GOES_ON,
+    ),
+    (
+        &[
+            9, 0, 5, 2, 0, 2, 5, 1, 1, 5, 1, 3, 6, 0, 1, 8, 1, 0, 4, 4, 0,
+        ],
+        GOES_ON,
+    ),
+];
+
+/// Clauses that are deleted.
+const DELETIONS: [Row; 30] = [
+    // redundant: stored as that, in any order, once; as irredundant alone; not stored
+    (
+        &[9, 0, 5, 2, 0, 2, 6, 1, 3, 0, 2, 4, 1, 0, 8, 3, 0, 2, 4, 0],
+        GOES_ON,
+    ),
+    (
+        &[
+            9, 0, 5, 2, 0, 2, 6, 1, 3, 0, 2, 4, 1, 0, 8, 4, 4, 0, 2, 0, 0,
+        ],
+        GOES_ON,
+    ),
+    (
+        &[
+            9, 0, 5, 2, 0, 2, 6, 1, 3, 0, 2, 4, 1, 0, 8, 3, 0, 2, 4, 0, 8, 3, 0, 2, 4, 0,
+        ],
+        REFUSED,
+    ),
+    (&[5, 2, 0, 2, 8, 2, 0, 2, 0], REFUSED),
+    (&[8, 2, 0, 2, 0], REFUSED),
+    (
+        &[9, 0, 5, 2, 0, 2, 6, 1, 2, 0, 2, 1, 0, 8, 2, 0, 3, 0],
+        REFUSED,
+    ),
+    // a unit and an empty clause can't be deleted
+    (&[5, 1, 0, 8, 1, 0, 0], REFUSED),
+    (&[5, 1, 0, 8, 1, 0, 2], REFUSED),
+    (&[5, 0, 8, 0, 0], UNSAT_REFUSED),
+    // satisfied: a unit is true in it; none is; one is false in it
+    (&[5, 2, 0, 2, 5, 1, 0, 8, 2, 0, 2, 2, 3, 1], GOES_ON),
+    (&[5, 2, 0, 2, 8, 2, 0, 2, 2], REFUSED),
+    (&[5, 2, 0, 2, 5, 1, 1, 8, 2, 0, 2, 2], REFUSED),
+    // not stored; as redundant alone; as often as it stands
+    (&[5, 1, 0, 8, 2, 0, 2, 2], REFUSED),
+    (
+        &[
+            9, 0, 5, 2, 0, 2, 6, 1, 3, 0, 2, 4, 1, 0, 5, 1, 4, 8, 3, 0, 2, 4, 2,
+        ],
+        REFUSED,
+    ),
+    (
+        &[
+            5, 2, 0, 2, 5, 2, 2, 0, 5, 1, 0, 8, 2, 0, 2, 2, 8, 2, 0, 2, 2,
+        ],
+        GOES_ON,
+    ),
+    (
+        &[5, 2, 0, 2, 5, 1, 0, 8, 2, 0, 2, 2, 8, 2, 0, 2, 2],
+        REFUSED,
+    ),
+    // with its irredundant count gone it stays as redundant
+    (
+        &[
+            9, 0, 5, 2, 0, 2, 6, 1, 2, 0, 2, 1, 0, 5, 1, 0, 8, 2, 0, 2, 2, 3, 1,
+        ],
+        REFUSED,
+    ),
+    // simplified: the last irredundant clause is a part; the empty one is a part of each
+    (&[5, 2, 0, 2, 5, 1, 0, 8, 2, 0, 2, 1, 3, 1], GOES_ON),
+    (
+        &[5, 3, 0, 2, 4, 5, 2, 4, 0, 8, 3, 0, 2, 4, 1, 3, 1],
+        GOES_ON,
+    ),
+    (
+        &[5, 3, 0, 2, 4, 5, 2, 4, 0, 8, 3, 0, 2, 4, 1, 3, 0],
+        REFUSED,
+    ),
+    (&[5, 2, 0, 2, 5, 0, 8, 2, 0, 2, 1], UNSAT),
+    // with a change of width between
+    (&[5, 2, 0, 2, 5, 1, 0, 9, 8, 8, 2, 0, 2, 1], GOES_ON),
+    // the clause itself, one that is no part, and none
+    (&[5, 2, 0, 2, 8, 2, 0, 2, 1], REFUSED),
+    (&[5, 2, 0, 2, 5, 1, 4, 8, 2, 0, 2, 1], REFUSED),
+    (&[8, 2, 0, 2, 1], REFUSED),
+    // one that is gone; a redundant one isn't the last; an irredundant derived one is
+    (
+        &[
+            5, 1, 0, 5, 3, 0, 2, 4, 5, 2, 0, 2, 8, 2, 0, 2, 2, 8, 3, 0, 2, 4, 1,
+        ],
+        REFUSED,
+    ),
+    (
+        &[
+            9, 0, 5, 3, 0, 2, 4, 5, 3, 0, 2, 5, 6, 1, 2, 0, 2, 1, 0, 8, 3, 0, 2, 4, 1,
+        ],
+        REFUSED,
+    ),
+    (
+        &[
+            9, 0, 5, 3, 0, 2, 4, 5, 3, 0, 2, 5, 6, 0, 2, 0, 2, 1, 0, 8, 3, 0, 2, 4, 1,
+        ],
+        GOES_ON,
+    ),
+    // as redundant alone, and no longer stored
+    (
+        &[
+            9, 0, 5, 2, 0, 2, 6, 1, 3, 0, 2, 4, 1, 0, 5, 1, 0, 8, 3, 0, 2, 4, 1,
+        ],
+        REFUSED,
+    ),
+    (
+        &[5, 2, 0, 2, 5, 1, 0, 8, 2, 0, 2, 1, 8, 2, 0, 2, 1],
+        REFUSED,
+    ),
+];
+
+/// Widths, models, assumptions and failed cores.
+const ANSWERS: [Row; 32] = [
+    (&[9, 0], GOES_ON),
+    (&[9, 64], GOES_ON),
+    // a width counts for clauses of before, and a later one for all
+    (
+        &[5, 2, 0, 2, 5, 2, 0, 3, 9, 8, 6, 0, 1, 0, 2, 0x44, 0xe6, 1],
+        GOES_ON,
+    ),
+    (
+        &[
+            9, 8, 5, 2, 0, 2, 5, 2, 0, 3, 9, 9, 6, 0, 1, 0, 2, 0x44, 0xe6, 1,
+        ],
+        REFUSED,
+    ),
+    // models: one that fits, also with a unit that it leaves out; its variables become known
+    (&[5, 2, 0, 2, 10, 2, 0, 3], GOES_ON),
+    (&[5, 1, 0, 10, 1, 2], GOES_ON),
+    (&[10, 0], GOES_ON),
+    (&[10, 1, 0, 4, 0, 1], GOES_ON),
+    // a variable twice, by its two signs too
+    (&[10, 2, 0, 0], REFUSED),
+    (&[10, 2, 0, 1], REFUSED),
+    (&[10, 3, 0, 2, 0], REFUSED),
+    // a unit contradicted
+    (&[5, 1, 0, 10, 1, 1], REFUSED),
+    (&[5, 1, 0, 5, 1, 2, 10, 2, 0, 3], REFUSED),
+    // an irredundant clause not met, though a unit is true in it; a redundant one needn't be
+    (&[5, 2, 0, 2, 10, 2, 1, 3], REFUSED),
+    (&[5, 2, 0, 2, 10, 0], REFUSED),
+    (&[5, 3, 0, 2, 4, 5, 1, 0, 10, 2, 3, 5], REFUSED),
+    (
+        &[
+            9, 0, 5, 2, 0, 2, 6, 1, 3, 0, 2, 4, 1, 0, 5, 1, 0, 8, 2, 0, 2, 2, 10, 2, 3, 5,
+        ],
+        GOES_ON,
+    ),
+    // unsat is recorded
+    (&[5, 0, 10, 0], UNSAT_REFUSED),
+    (&[5, 1, 0, 5, 1, 1, 10, 1, 2], UNSAT_REFUSED),
+    // assumptions: any, and they become known
+    (&[11, 2, 0, 1], GOES_ON),
+    (&[5, 1, 0, 11, 2, 1, 1], GOES_ON),
+    (&[11, 1, 0, 4, 0, 1], GOES_ON),
+    // cores: not assumed, assumed no longer, assumed in part
+    (&[12, 1, 0, 0], REFUSED),
+    (&[5, 1, 0, 11, 1, 1, 11, 0, 12, 1, 1, 0], REFUSED),
+    (&[5, 1, 0, 11, 1, 2, 12, 2, 1, 2, 0], REFUSED),
+    // both signs, where they are assumed
+    (&[11, 2, 0, 1, 12, 2, 0, 1, 0], GOES_ON),
+    (&[11, 1, 0, 12, 2, 0, 1, 0], REFUSED),
+    // by a unit, by a clause, and where nothing shows that it fails
+    (&[5, 1, 0, 11, 3, 1, 2, 1, 12, 1, 1, 0], GOES_ON),
+    (&[9, 0, 5, 2, 0, 2, 11, 2, 1, 3, 12, 2, 3, 1, 1, 0], GOES_ON),
+    (&[5, 2, 0, 2, 11, 2, 1, 3, 12, 2, 1, 3, 0], REFUSED),
+    (&[12, 0, 0], REFUSED),
+    // the empty core fails by a conflict, and not by recorded unsat alone
+    (&[5, 0, 12, 0, 0], UNSAT_REFUSED),
+];
+
+#[test]
+fn proofs_are_answered(rt: HostRuntime) -> Result<(), Fail> {
+    for row in &PROOFS {
+        assert!(rt; is_answered(rt.alloc(), row), "{:?}", row.0);
+    }
+    Ok(())
+}
+
+#[test]
+fn names_are_answered(rt: HostRuntime) -> Result<(), Fail> {
+    for row in &NAMES {
+        assert!(rt; is_answered(rt.alloc(), row), "{:?}", row.0);
+    }
+    Ok(())
+}
+
+#[test]
+fn variables_are_answered(rt: HostRuntime) -> Result<(), Fail> {
+    for row in &VARIABLES {
+        assert!(rt; is_answered(rt.alloc(), row), "{:?}", row.0);
+    }
+    Ok(())
+}
+
+#[test]
+fn clauses_are_answered(rt: HostRuntime) -> Result<(), Fail> {
+    for row in &CLAUSES {
+        assert!(rt; is_answered(rt.alloc(), row), "{:?}", row.0);
+    }
+    Ok(())
+}
+
+#[test]
+fn deletions_are_answered(rt: HostRuntime) -> Result<(), Fail> {
+    for row in &DELETIONS {
+        assert!(rt; is_answered(rt.alloc(), row), "{:?}", row.0);
+    }
+    Ok(())
+}
+
+#[test]
+fn answers_are_answered(rt: HostRuntime) -> Result<(), Fail> {
+    for row in &ANSWERS {
+        assert!(rt; is_answered(rt.alloc(), row), "{:?}", row.0);
+    }
+    Ok(())
+}
