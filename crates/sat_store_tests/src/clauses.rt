@@ -4,7 +4,7 @@ ghost use Rattle.sat_store.specs.clause.Buffer.{IsClause, Laid, lits_at, swapped
 ghost use Rattle.sat_store_tests.specs.Two.{HasTwo};
 
 use sat_base::Lit;
-use sat_store::{ClauseAlloc, ClauseHeader, ClauseRef, StoreError, Tier};
+use sat_store::{ClauseAlloc, ClauseHeader, ClauseRef, Lits, StoreError, Tier};
 
 /// Stores two clauses in an empty buffer.
 fn store_two(
@@ -276,6 +276,22 @@ fn fields_are_read_through_the_view(rt: HostRuntime) {
 #[test]
 fn too_much_room_is_refused(rt: HostRuntime) {
     assert!(rt; ClauseAlloc::with_capacity(rt.alloc(), 1 << 62).is_err());
+}
+
+/// The lengths of a view of a clause of three literals, of the view without its first literal, and of none, and the literal that
+/// is then the first.
+fn views(buffer: &mut ClauseAlloc) -> Result<([usize; 3], Lit), StoreError> {
+    let codes = [Lit::from_code(4), Lit::from_code(7), Lit::from_code(8)];
+    let cref = buffer.add_clause(ClauseHeader::new(), &codes)?;
+    let lits = buffer.clause(cref).lits();
+    let rest = lits.without_first();
+    Ok(([lits.len(), rest.len(), Lits::none().len()], rest.get(0)))
+}
+
+#[test]
+fn view_without_its_first_literal(rt: HostRuntime) {
+    let mut buffer = ClauseAlloc::new(rt.alloc());
+    assert!(rt; views(&mut buffer) == Ok(([3, 2, 0], Lit::from_code(7))));
 }
 
 #[test]
