@@ -8,7 +8,7 @@ use Rattle.sat_store.specs.clause.Buffer.{Laid, Keeps, header_at}
 use Rattle.sat_store.specs.clause.Header.{Header}
 use Rattle.sat_parts.specs.clause.Db.{AreRising, PutsHeader, is_live, live_refs}
 use Rattle.sat_parts.specs.clause.Filtered.{AreKept, Filtering}
-use Rattle.sat_parts.proofs.lemmas.clause.ListLemmas.{place_in, at_place, rising_distinct, filter_same}
+use Rattle.sat_parts.proofs.lemmas.clause.ListLemmas.{place_in, at_place, in_head, in_tail, there, rising_distinct, filter_same}
 use Rattle.sat_parts.proofs.lemmas.clause.DbLemmas.{live_is}
 use Rattle.sat_parts.proofs.lemmas.prop.BuildLemmas.{live_in, live_place, live_next, live_skip}
 
@@ -151,3 +151,18 @@ filtering_all R f f' old new refs at h e =
           let q : get_or refs d.0 0 ≡ o = at_place refs o d in
           subst (λ p. Keeps old new p) q (h.front d.0 (omega (arith, d.1)) d.1 (ap (λ p. is_live new p) q ∙ live_is new refs o c)),
     )
+
+-- what is picked from a list is among it
+picked_in : (answers : List Bool) (xs : List ℕ) (o : ℕ) → Contains (items_where_true answers xs) o → Contains xs o
+picked_in [] [] o c = absurd (omega (arith, c.1))
+picked_in [] (x ∷ xs) o c = absurd (omega (arith, c.1))
+picked_in (b ∷ bs) [] o c = absurd (omega (arith, c.1))
+picked_in (true ∷ bs) (x ∷ xs) o c = elim (cases_eq x o) [
+  | inl e ↦ subst (λ z. Contains (x ∷ xs) z) e (in_head x xs)
+  | inr n ↦ in_tail x xs o (picked_in bs xs o (there x (items_where_true bs xs) o n c))
+]
+picked_in (false ∷ bs) (x ∷ xs) o c = in_tail x xs o (picked_in bs xs o c)
+
+-- the clauses that a pass keeps are live ones of those before it
+pub filtered_in : {F : Type 0} (R : F → ℕ → Bool → F → Type 0) (f : F) (xs ys : List ℕ) (o : ℕ) → IsFiltered R f xs ys → Contains ys o → Contains xs o
+filtered_in R f xs ys o h c = picked_in h.0 xs o (subst (λ (zs : List ℕ). Contains zs o) h.4 c)

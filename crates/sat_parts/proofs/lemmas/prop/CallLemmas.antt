@@ -1,8 +1,9 @@
 -- For crates above: what propagation asks holds on where clauses are added, deleted, removed or moved between tiers.
-use Rattle.std.proofs.Common.{ℕ, ◌≡◌, ◌*◌, ◌<◌, ◌≤◌, ◌⊎◌, inl, inr, List, [], ◌∷◌, ◌++◌, length, get_or, refl, sym, ap, ◌∙◌, subst, arith, Bool, true, Option, length-set}
+use Rattle.std.proofs.Common.{ℕ, ◌≡◌, ◌*◌, ◌<◌, ◌≤◌, ◌⊎◌, inl, inr, List, [], ◌∷◌, ◌++◌, length, get_or, refl, sym, ap, ◌∙◌, subst, arith, Bool, true, false, Option, length-set}
 use Rattle.std.proofs.lemmas.Bool.{cases_Bool, cond-true, cond-false}
 use Rattle.std.proofs.lemmas.List.Elements.{Contains-append_left, Contains-push, Contains-push_cases, All-contains, All-filter, All-contains_itself}
 use Rattle.std.specs.List.{Contains, filter}
+use Rattle.std.specs.List.Retain.{IsFiltered}
 use Rattle.sat_base.specs.values.Literals.{negated, variable}
 use Rattle.sat_store.specs.clause.Buffer.{Laid, lits_at}
 use Rattle.sat_store.proofs.lemmas.clause.Laying.{laid_among}
@@ -12,6 +13,7 @@ use Rattle.sat_parts.specs.clause.Orders.{AreDistinct}
 use Rattle.sat_store.specs.clause.Header.{Header}
 use Rattle.sat_parts.specs.declared.prop.watch.Watch.{Watch}
 use Rattle.sat_parts.specs.clause.Db.{Db, live_refs, AddsClause}
+use Rattle.sat_parts.specs.clause.Filtered.{AreKept}
 use Rattle.sat_parts.specs.clause.Stored.{lit_of}
 use Rattle.sat_parts.specs.prop.Values.{is_unset, IsTrueLit}
 use Rattle.sat_parts.specs.prop.Binaries.{Binaries, implied_by, open_among, RemovesAssigned}
@@ -20,6 +22,7 @@ use Rattle.sat_parts.specs.prop.State.{State, node, level, current_level, lit_at
 use Rattle.sat_parts.specs.prop.Ready.{IsGood, HasWatch, AreWatched}
 use Rattle.sat_parts.specs.prop.Asks.{Asks, AsksForReason, IsOwnLong}
 use Rattle.sat_parts.proofs.lemmas.clause.ListLemmas.{place_in, at_place}
+use Rattle.sat_parts.proofs.lemmas.clause.FilterLemmas.{filtered_in}
 use Rattle.sat_parts.proofs.lemmas.prop.BuildLemmas.{live_in}
 use Rattle.sat_parts.proofs.lemmas.prop.WalkLemmas.{more_watch, new_watch, good_lists, at_two}
 
@@ -207,3 +210,13 @@ asks_removed words refs w old new s top h x =
       binary = λ l k f d b.
           subst (λ m. IsTrueLit s.values m × (level s m ≤ level s l)) (at l k b) (h.binary l (was l k b).0 f d (was l k b).1);
     }
+
+-- after a pass over the clauses that kept the reasons of the trail
+pub asks_filtered : {F : Type 0} (R : F → ℕ → Bool → F → Type 0) (f : F) (words refs words' : List ℕ) (w : Watching) (implied : List (List ℕ)) (s : State) (top : ℕ) →
+    Asks words refs w implied s top → IsFiltered R f (live_refs words refs) (live_refs words' refs) → AreKept words words' (live_refs words' refs) → Laid words' refs →
+    ((i o : ℕ) → i < length s.trail.lits → (node s (lit_at s i)).reason ≡ Long o → Contains (live_refs words' refs) o) →
+    Asks words' refs (record w { enabled = false }) implied s top
+asks_filtered R f words refs words' w implied s top h x kept laid reasons =
+    let v : Watching = record w { enabled = false } in
+    asks_fewer words refs words' refs w v implied s top h laid
+    (λ o c. (filtered_in R f (live_refs words refs) (live_refs words' refs) o x c, (kept o c).lits)) refl (λ off. absurd (let e : false ≡ true = off in cc)) reasons
