@@ -11,7 +11,6 @@ pub mod Views
 pub mod ConfirmedCommands
 pub mod SpeltLiterals
 pub mod CertificateSteps
-pub mod SourceReading
 pub mod Stepping
 pub mod Dues
 pub mod NextNames

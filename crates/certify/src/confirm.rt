@@ -1,80 +1,83 @@
 //! Confirms that script, answers and certificate belong together.
-ghost use Rattle.std.specs.Prelude.{◌≡◌, ◌+◌, ◌-◌, ◌^◌, ◌≤◌, ◌<◌, ◌⊎◌, [], length, IfOk, IsErrOf};
-ghost use Rattle.std.specs.List.{AllByRecursion};
+ghost use Rattle.std.specs.Prelude.{◌≡◌, ◌+◌, ◌-◌, ◌^◌, ◌≤◌, ◌<◌, ◌⊎◌, length, IfOk, IsErrOf};
 ghost use Rattle.sat_base.specs.device.Device.{most_reads, ReadFails, GaveEnough};
+ghost use Rattle.sat_base.specs.steps.StepReading.{reader_name, reader_source};
+ghost use Rattle.certify.specs.confirm.ConfirmedCommands.{ConfirmsAll, left_of};
+ghost use Rattle.certify.specs.confirm.Decides.{DecidesFrom, said_of};
+ghost use Rattle.certify.specs.confirm.Streams.{Confirms, GoesOn, stream};
 ghost use Rattle.certify.specs.confirm.VerdictPromises.{HasTooMany, IsExact, IsSound, ReadsKept, gave};
-ghost use Rattle.certify.specs.confirm.Decides.{Decides};
-ghost use Rattle.certify.specs.confirm.ConfirmedCommands.{CountFromOne, ConfirmsEnd, DecidesRest};
-ghost use Rattle.certify.specs.confirm.CertificateSteps.{IsFed};
-ghost use Rattle.certify.specs.confirm.Views.{view, session_view};
-ghost use Rattle.sat_base.specs.script.Judge.{start};
 
+pub(crate) mod answers;
 pub(crate) mod certificate;
 pub(crate) mod expected;
 pub(crate) mod session;
 pub(crate) mod sets;
-pub(crate) mod source;
 pub(crate) mod spell;
-pub(crate) mod stepped;
 pub(crate) mod stop;
 #[cfg(test)]
 mod tests;
 
 use crate::script::{Script, read_script};
-use crate::verdict::{ConfirmFault, Verdict, Why};
-use sat_base::{CountedRead, ReadError, read_whole};
+use crate::verdict::{ConfirmFault, Verdict};
+use sat_base::{CountedRead, ReadError, StepReader, read_whole};
 use session::Confirmation;
-use std::alloc::{AllocError, Global};
-
-/// Confirms what is left behind the commands.
-fn confirm_rest(session: &mut Confirmation<'_>, script: &Script) -> Result<Option<Why>, AllocError>
-    requires { length script.now.0 < 2 ^ 64 - 1 }
-    ensures { IfOk result (ConfirmsEnd (session_view session.old) (length script.now.0 + 1) script.now.1) }
-{
-    let number = script.len() as u64 + 1;
-    session.confirm_end(number, script.is_malformed())
-}
+use std::alloc::Global;
+use stop::Stop;
 
 /// Confirms the commands of a script, one after another, and then its end.
-fn decide(session: &mut Confirmation<'_>, script: &Script) -> Result<Verdict, AllocError>
-    requires begun { IsFed (view session.old.certificate) start [] }
+fn confirm_all<R: CountedRead>(
+    session: &mut Confirmation<'_>,
+    script: &Script,
+    steps: &mut StepReader<'_, R>,
+) -> Result<(), Stop>
+    requires goes_on { GoesOn R.seen steps.old }
     requires few { length script.now.0 < 2 ^ 64 - 1 }
-    ensures { IfOk result
-        (λ verdict. AllByRecursion CountFromOne script.now.0 → DecidesRest verdict script.now (session_view session.old)) }
+    ensures same { reader_name steps.new ≡ reader_name steps.old }
+    ensures bound { (reader_source R.seen steps.new).reads ≤ most_reads }
+    ensures confirms { Confirms result (stream R.seen steps.old session.old.certificate) (stream R.seen steps.new session.new.certificate)
+        (ConfirmsAll script.now (left_of session.old)) }
 {
     for index in 0..script.len() {
         let command = script.command(index);
-        if let Some(why) = session.confirm_command(index as u64 + 1, command)? {
-            return Ok(Verdict::No {
-                ask: session.asks.saturating_add(1),
-                why,
-            });
-        }
+        session.confirm_command(steps, index as u64 + 1, command)?;
     }
-    match confirm_rest(session, script)? {
-        None => Ok(Verdict::Yes),
-        Some(why) => Ok(Verdict::No {
-            ask: session.asks.saturating_add(1),
+    session.confirm_end(steps, script.len() as u64 + 1, script.is_malformed())
+}
+
+/// What is said where a confirmation ended so, behind so many asks that were confirmed wholly.
+fn conclude(ended: Result<(), Stop>, asks: u64) -> Result<Verdict, ConfirmFault>
+    ensures { result ≡ said_of ended asks }
+{
+    match ended {
+        Ok(()) => Ok(Verdict::Yes),
+        Err(Stop::No(why)) => Ok(Verdict::No {
+            ask: asks.saturating_add(1),
             why,
         }),
+        Err(Stop::Read) => Err(ConfirmFault::CertificateRead),
+        Err(Stop::OutOfMemory) => Err(ConfirmFault::OutOfMemory),
     }
 }
 
-/// Confirms a script against the bytes of its answers and of a certificate.
-pub(crate) fn confirm_texts(
+/// Confirms a script against the bytes of its answers and a certificate's reader.
+fn decide<R: CountedRead>(
     alloc: Global,
     script: &Script,
     answers: &[u8],
-    certificate: &[u8],
-) -> Result<Verdict, AllocError>
+    certificate: &mut R,
+) -> Result<Verdict, ConfirmFault>
     requires { length script.now.0 < 2 ^ 64 - 1 }
-    ensures { IfOk result (λ verdict. AllByRecursion CountFromOne script.now.0 → Decides verdict script.now answers.now certificate.now) }
+    ensures decides { DecidesFrom script.now answers.now (R.seen certificate.old) (R.seen certificate.new) result }
+    ensures reads { (R.seen certificate.new).calls ≤ (R.seen certificate.old).calls + most_reads }
 {
-    let mut session = Confirmation::new(alloc, answers, certificate);
-    decide(&mut session, script)
+    let mut session = Confirmation::new(alloc, answers);
+    let mut steps = StepReader::new(alloc, certificate);
+    let ended = confirm_all(&mut session, script, &mut steps);
+    conclude(ended, session.asks)
 }
 
-/// Compares a script, answers and a certificate, and says yes exactly where they match. Each is read to its end first.
+/// Compares a script, answers and a certificate, and says yes exactly where they match. Script and answers are read to their ends
+/// first; of the certificate a step is read where the next decision needs it.
 pub fn confirm<S: CountedRead, A: CountedRead, C: CountedRead>(
     alloc: Global,
     script: &mut S,
@@ -111,16 +114,8 @@ pub fn confirm<S: CountedRead, A: CountedRead, C: CountedRead>(
         Err(ReadError::Failed) => return Err(ConfirmFault::AnswersRead),
         Err(ReadError::OutOfMemory) => return Err(ConfirmFault::OutOfMemory),
     };
-    let certificate = match read_whole(alloc, certificate) {
-        Ok(bytes) => bytes,
-        Err(ReadError::Failed) => return Err(ConfirmFault::CertificateRead),
-        Err(ReadError::OutOfMemory) => return Err(ConfirmFault::OutOfMemory),
-    };
     if script.len() as u64 == u64::MAX {
         return Err(ConfirmFault::CounterEnd);
     }
-    match confirm_texts(alloc, &script, &answers, &certificate) {
-        Ok(verdict) => Ok(verdict),
-        Err(_) => Err(ConfirmFault::OutOfMemory),
-    }
+    decide(alloc, &script, &answers, certificate)
 }

@@ -1,7 +1,6 @@
 pub mod NextStep
 pub mod FittingSteps
 pub mod WholeAsks
-pub mod OpenedAsks
 pub mod ComparedSteps
 pub mod DecidedTexts
 pub mod ScriptEnds
@@ -14,10 +13,8 @@ pub mod PlainJudge
 pub mod CommandsConfirmed
 pub mod LiteralSets
 pub mod CertificateSteps
-pub mod SourceFormats
-pub mod SourceNumbers
-pub mod SourceSteps
 pub mod Streams
 pub mod SteppedOn
 pub mod DueSteps
 pub mod NextNames
+pub mod SessionSteps

@@ -1,5 +1,5 @@
 -- Where confirming stands in the certificate, and what each of its steps makes of that.
-use Rattle.std.specs.Prelude.{ℕ, ◌+◌, ◌<◌, ◌≤◌, ◌≡◌, true, false, Result, Ok, Err, Option, Some, None, List, [], ◌∷◌, length, map}
+use Rattle.std.specs.Prelude.{ℕ, ◌+◌, ◌≤◌, ◌≡◌, true, false, Result, Ok, Err, Option, Some, None, List, [], ◌∷◌, length, map}
 use Rattle.sat_base.specs.values.Literals.{largest}
 use Rattle.sat_base.specs.script.Script.{Literal, names_of}
 use Rattle.sat_base.specs.script.Judge.{Judge, with_name, new_names, bring_in, bring_all}
@@ -12,11 +12,9 @@ use Rattle.certify.specs.confirm.Checking.{variable_of}
 use Rattle.certify.specs.confirm.Matches.{Expected, NewName, Opens, Fits, bringing}
 use Rattle.certify.specs.confirm.ListChecking.{the_checking}
 use Rattle.certify.specs.checker.CheckerView.{Keeps}
-use Rattle.certify.specs.confirm.CertificatePlaces.{CanMeet, Leads, Bars, Skips, Stops, Offers, variable_in, IsPlain}
-use Rattle.certify.specs.confirm.Views.{View, place}
+use Rattle.certify.specs.confirm.CertificatePlaces.{CanMeet, Leads, Bars, Skips, Offers, variable_in, IsPlain}
+use Rattle.certify.specs.confirm.Views.{View}
 use Rattle.certify.specs.declared.verdict.Why.{Why}
-use Rattle.certify.specs.declared.confirm.certificate.Awaited.{Awaited}
-use Rattle.certify.specs.declared.confirm.certificate.Awaited.TheVariants as awaited
 
 -- the checker was fed these steps, the names have the variables that they say, and as long as unsat isn't recorded just the names in use have one
 pub record IsFed (c : View) (j : Judge) (earlier : List Step) : Type 0 where
@@ -50,22 +48,11 @@ pub record UnsatIsRecorded (old : View) (j : Judge) (earlier : List Step) (new :
   pub closed : (stored_after later).unsat ≡ true
   pub skips : Skips earlier old.rest later new.rest
 
--- what came where an ordered step is awaited
-abbrev pub Awaits : View → View → Awaited → Type 0
-Awaits old new awaited.Step = (j : Judge) (earlier : List Step) → IsFed old j earlier → StepIsReady old j earlier new
-Awaits old new awaited.Cut = (j : Judge) (earlier : List Step) → IsFed old j earlier → UnsatIsRecorded old j earlier new
-Awaits old new (awaited.No why) = (j : Judge) (earlier : List Step) → IsFed old j earlier → Stops earlier old.rest
-
 -- a step that nobody expects was taken
 pub record StepWasPassed (old : View) (j : Judge) (earlier : List Step) (new : View) : Type 0 where
   pub later : List Step
   pub stands : IsFed new j later
   pub skips : Skips earlier old.rest later new.rest
-
--- what one more step brought
-abbrev pub GoesOneStep : View → View → Option Awaited → Type 0
-GoesOneStep old new None = (length new.rest < length old.rest) × ((j : Judge) (earlier : List Step) → IsFed old j earlier → StepWasPassed old j earlier new)
-GoesOneStep old new (Some a) = Awaits old new a
 
 -- the step that was read is what the judge expects, or isn't
 abbrev pub ReadStepFits : View → (Judge → Expected) → Option Why → Type 0
@@ -77,12 +64,6 @@ abbrev pub NamesNext : View → Result ℕ Why → Type 0
 NamesNext c (Ok v) = (c.step ≡ UserVarName v (Some (length c.variables)))
     × ((j : Judge) (earlier : List Step) → IsFed c j earlier → is_known v (stored_after earlier) ≡ false)
 NamesNext c (Err why) = (j : Judge) (earlier : List Step) → IsFed c j earlier → (stored_after earlier).unsat ≡ false → Fits the_checking earlier (NewName j.first_unused) c.step → ⊥
-
--- all but what a comparison uses stays
-pub record Stays (old new : View) : Type 0 where
-  pub place : place new ≡ place old
-  pub checker : new.checker ≡ old.checker
-  pub variables : new.variables ≡ old.variables
 
 -- the step that was read is accepted, or isn't; it puts no name
 abbrev pub FeedsStep : View → View → Option Why → Type 0

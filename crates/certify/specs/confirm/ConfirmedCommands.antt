@@ -1,42 +1,54 @@
 -- What each part of a session makes of the answers and the certificate that are left.
-use Rattle.std.specs.Prelude.{ℕ, ◌+◌, ◌≤◌, ◌≡◌, true, Option, Some, None, Result, Ok, Err, List, [], ◌∷◌, ◌++◌}
+use Rattle.std.specs.Prelude.{ℕ, ◌+◌, ◌≤◌, ◌≡◌, Bool, true, Option, Some, None, Result, Ok, Err, List, [], ◌∷◌, ◌++◌}
 use Rattle.std.specs.List.{AllByRecursion}
-use Rattle.sat_base.specs.script.Script.{Literal, Command, Clause, Ask, Ending}
-use Rattle.sat_base.specs.script.Judge.{Judge, after_command}
+use Rattle.sat_base.specs.script.Script.{Literal, Command, Clause, Ask, Ending, names_of}
+use Rattle.sat_base.specs.script.Judge.{Judge, start, after_command, refused_name}
 use Rattle.sat_base.specs.steps.Steps.{Step}
 use Rattle.certify.specs.answers.Answers.{Outcome, Unsat, outcome_text}
 use Rattle.certify.specs.answers.AnswerForms.{IsInForm}
 use Rattle.certify.specs.answers.AnswerReading.{outcome_of}
-use Rattle.certify.specs.checker.CheckerView.{Keeps}
 use Rattle.certify.specs.confirm.LeftToMatch.{Left}
-use Rattle.certify.specs.confirm.Matches.{showing}
-use Rattle.certify.specs.confirm.CertificateSteps.{IsFed, MeetsPending}
-use Rattle.certify.specs.checker.Stored.{Stored}
+use Rattle.certify.specs.confirm.Matches.{MatchesCommands, showing}
+use Rattle.certify.specs.confirm.CertificateSteps.{IsFed, MeetsPending, BringsAll, OpensAsk}
 use Rattle.certify.specs.confirm.ListChecking.{the_checking}
+use Rattle.certify.specs.confirm.Streams.{why_of}
+use Rattle.certify.specs.confirm.Views.{View, SessionView, session_at}
+use Rattle.certify.specs.declared.answers.read.AnswerFault.{AnswerFault}
+use Rattle.certify.specs.declared.answers.read.AnswerFault.TheVariants as fault
 use Rattle.certify.specs.declared.answers.read.AnswerKind.{AnswerKind}
+use Rattle.certify.specs.declared.confirm.session.Confirmation.{Confirmation}
+use Rattle.certify.specs.declared.confirm.stop.Stop.{Stop}
+use Rattle.certify.specs.declared.confirm.stop.Stop.TheVariants as stop
 use Rattle.certify.specs.declared.verdict.Why.{Why}
-use Rattle.certify.specs.declared.verdict.Verdict.{Verdict}
-use Rattle.certify.specs.confirm.Decides.{Decides}
-use Rattle.certify.specs.confirm.Views.{SessionView}
+use Rattle.certify.specs.declared.verdict.Why.TheVariants.{AnswerMissing, AnswerText}
 use Rattle.certify.specs.script.CappedNames.{CappedScript}
 
--- the line was taken, or isn't there; the certificate stays
-abbrev pub TakesLine : SessionView → SessionView → List ℕ → Option Why → Type 0
-TakesLine old new line None = (new.certificate ≡ old.certificate) × (old.answers ≡ line ++ new.answers)
-TakesLine old new line (Some why) = (tail : List ℕ) → old.answers ≡ line ++ tail → ⊥
+-- what is left of the answers
+abbrev pub left_of : Confirmation → List ℕ
+left_of s = s.answers.left.now
 
--- an outcome was read, which is the only one where unsat is recorded; or none can be
-abbrev pub ReadsOutcome : SessionView → SessionView → Stored → Result AnswerKind Why → Type 0
-ReadsOutcome old new f (Ok kind) =
-    (old.answers ≡ outcome_text (outcome_of kind new.line) ++ new.answers) × IsInForm (outcome_of kind new.line) × (f.unsat ≡ true → outcome_of kind new.line ≡ Unsat [])
-ReadsOutcome old new f (Err why) = (o : Outcome) (tail : List ℕ) → IsInForm o → (f.unsat ≡ true → o ≡ Unsat []) → old.answers ≡ outcome_text o ++ tail → ⊥
+-- the line was taken, or isn't there
+abbrev pub TakesLine : List ℕ → List ℕ → List ℕ → Result (Unit {0}) Why → Type 0
+TakesLine old new line (Ok x) = old ≡ line ++ new
+TakesLine old new line (Err why) = (tail : List ℕ) → old ≡ line ++ tail → ⊥
 
-abbrev pub ReadsAnswer : SessionView → SessionView → Result AnswerKind Why → Type 0
-ReadsAnswer old new answer = (f : Stored) → Keeps old.certificate.checker f → ReadsOutcome old new f answer
+-- what a call answers where no answer was read
+abbrev pub stop_after : AnswerFault → Stop
+stop_after fault.Missing = stop.No AnswerMissing
+stop_after fault.Text = stop.No AnswerText
+stop_after fault.OutOfMemory = stop.OutOfMemory
+
+-- an answer was read, which is the only one where unsat is recorded; or none can be
+abbrev pub ReadsReply : List ℕ → List ℕ → List Literal → Bool → Result AnswerKind Why → Type 0
+ReadsReply old new line settled (Ok kind) =
+    (old ≡ outcome_text (outcome_of kind line) ++ new) × IsInForm (outcome_of kind line)
+    × (settled ≡ true → outcome_of kind line ≡ Unsat [])
+ReadsReply old new line settled (Err why) =
+    (o : Outcome) (tail : List ℕ) → IsInForm o → (settled ≡ true → o ≡ Unsat []) → old ≡ outcome_text o ++ tail → ⊥
 
 -- what shows the outcome is met, or can't be
-abbrev pub ShowsOutcome : SessionView → SessionView → AnswerKind → List Literal → Option Why → Type 0
-ShowsOutcome old new kind ask why = (j : Judge) → MeetsPending old.certificate new.certificate j (showing j ask (outcome_of kind old.line)) j why
+abbrev pub ShowsOutcome : List Literal → Outcome → View → View → Result (Unit {0}) Why → Type 0
+ShowsOutcome ask o old new r = (j : Judge) → MeetsPending old new j (showing j ask o) j (why_of r)
 
 -- the names of a command are counted from 1
 abbrev pub CountFromOne : Command → Type 0
@@ -66,6 +78,21 @@ abbrev pub ConfirmsEnd : SessionView → ℕ → Ending → Option Why → Type 
 ConfirmsEnd old n ending None = (j : Judge) (earlier : List Step) → IsFed old.certificate j earlier → ToConfirm old j n earlier [] ending
 ConfirmsEnd old n ending (Some why) = (j : Judge) (earlier : List Step) → IsFed old.certificate j earlier → ToConfirm old j n earlier [] ending → ⊥
 
--- a verdict of a script, on the answers and the certificate that are left
-abbrev pub DecidesRest : Verdict → CappedScript → SessionView → Type 0
-DecidesRest verdict script s = Decides verdict script s.answers s.certificate.rest
+-- the same, by what is left of the answers and of the certificate
+abbrev pub ConfirmsNext : ℕ → Command → List ℕ → List ℕ → View → View → Result (Unit {0}) Why → Type 0
+ConfirmsNext n command before behind old new r = ConfirmsCommand (session_at before old) (session_at behind new) n command (why_of r)
+
+abbrev pub ConfirmsOver : ℕ → Ending → List ℕ → View → View → Result (Unit {0}) Why → Type 0
+ConfirmsOver n ending before old new r = ConfirmsEnd (session_at before old) n ending (why_of r)
+
+-- behind the names and the assumptions of an ask its answer confirms it, or can't
+abbrev pub AnswersAsk : List Literal → List ℕ → List ℕ → View → View → Result (Unit {0}) Why → Type 0
+AnswersAsk ask before behind old new r = (first named : View) (n : ℕ) → refused_name (names_of ask) ≡ None
+    → BringsAll first named ask None → OpensAsk named old ask None → ConfirmsNext n (Ask ask) before behind first new r
+
+-- A script is confirmed against the whole of its answers and of a certificate, or can't be.
+abbrev pub ConfirmsAll : CappedScript → List ℕ → View → View → Result (Unit {0}) Why → Type 0
+ConfirmsAll script answers old new (Ok x) =
+    AllByRecursion CountFromOne script.0 → IsFed old start [] → MatchesCommands the_checking script.0 script.1 answers old.rest
+ConfirmsAll script answers old new (Err why) =
+    AllByRecursion CountFromOne script.0 → IsFed old start [] → MatchesCommands the_checking script.0 script.1 answers old.rest → ⊥

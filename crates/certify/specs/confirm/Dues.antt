@@ -56,10 +56,13 @@ Excuses due (Err why) = (j : Judge) (o : Outcome) (ask : List Literal) → Excus
 pub record IsMet (due : Due) (old : View) (j : Judge) (earlier : List Step) (new : View) : Type 0 where
   pub later : List Step
   pub stands : IsFed new j later
-  pub leads : (o : Outcome) (ask : List Literal) → ((stored_after later).unsat ≡ true → Allows (due j o ask)) → Leads earlier old.rest (due j o ask ∷ []) later new.rest
-  pub alone : (o : Outcome) (ask : List Literal) (es : List Expected) → CanMeet earlier (due j o ask ∷ es) old.rest → (stored_after later).unsat ≡ true → Allows (due j o ask)
+  pub leads : (o : Outcome) (ask : List Literal)
+      → ((stored_after later).unsat ≡ true → Allows (due j o ask)) → Leads earlier old.rest (due j o ask ∷ []) later new.rest
+  pub alone : (o : Outcome) (ask : List Literal) (es : List Expected)
+      → CanMeet earlier (due j o ask ∷ es) old.rest → (stored_after later).unsat ≡ true → Allows (due j o ask)
 
 -- what is expected is met, or can't be
 abbrev pub MeetsDue : Due → View → View → Result (Unit {0}) Why → Type 0
 MeetsDue due old new (Ok x) = (j : Judge) (earlier : List Step) → IsFed old j earlier → IsMet due old j earlier new
-MeetsDue due old new (Err why) = (j : Judge) (earlier : List Step) → IsFed old j earlier → (o : Outcome) (ask : List Literal) → Bars earlier old.rest (due j o ask ∷ [])
+MeetsDue due old new (Err why) =
+    (j : Judge) (earlier : List Step) → IsFed old j earlier → (o : Outcome) (ask : List Literal) → Bars earlier old.rest (due j o ask ∷ [])

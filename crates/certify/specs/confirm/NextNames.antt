@@ -10,7 +10,8 @@ use Rattle.certify.specs.declared.verdict.Why.{Why}
 
 -- the step puts the next name on this variable, which isn't known, or it doesn't
 abbrev pub PutsNext : Checker → List ℕ → Step → Result ℕ Why → Type 0
-PutsNext checker variables step r = (rest : List ℕ) → NamesNext (record { checker = checker; variables = variables; step = step; rest = rest }) r
+PutsNext checker variables step r =
+    (rest : List ℕ) → NamesNext (record { checker = checker; variables = variables; step = step; rest = rest }) r
 
 -- the next name
 abbrev pub Brings : View → View → Result (Unit {0}) Why → Type 0

@@ -6,8 +6,8 @@ use Rattle.certify.specs.confirm.CertificatePlaces.{Stops}
 use Rattle.certify.specs.confirm.CertificateSteps.{IsFed, StepIsReady, UnsatIsRecorded, StepWasPassed}
 use Rattle.certify.specs.confirm.ReadSteps.{ReadsStep, BeginsNoStep}
 use Rattle.certify.specs.confirm.Views.{View, place}
-use Rattle.certify.specs.declared.confirm.stepped.Awaited.{Awaited}
-use Rattle.certify.specs.declared.confirm.stepped.Awaited.TheVariants as awaited
+use Rattle.certify.specs.declared.confirm.certificate.Awaited.{Awaited}
+use Rattle.certify.specs.declared.confirm.certificate.Awaited.TheVariants as awaited
 use Rattle.certify.specs.declared.verdict.Why.{Why}
 
 -- a step was read, or none stands there

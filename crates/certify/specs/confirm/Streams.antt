@@ -11,7 +11,7 @@ use Rattle.sat_base.specs.steps.StepReading.{reader_source, has_failed, step_in}
 use Rattle.sat_base.specs.steps.Steps.{Step}
 use Rattle.certify.specs.confirm.Views.{View}
 use Rattle.certify.specs.declared.checker.Checker.{Checker}
-use Rattle.certify.specs.declared.confirm.stepped.Certificate.{Certificate}
+use Rattle.certify.specs.declared.confirm.certificate.Certificate.{Certificate}
 use Rattle.certify.specs.declared.confirm.stop.Stop.{Stop}
 use Rattle.certify.specs.declared.confirm.stop.Stop.TheVariants as stop
 use Rattle.certify.specs.declared.verdict.Why.{Why}

@@ -1,11 +1,8 @@
--- What confirming sees of a certificate and of a session, whatever holds their bytes.
+-- What confirming sees of a certificate and of the answers.
 use Rattle.std.specs.Prelude.{ℕ, List}
-use Rattle.sat_base.specs.script.Script.{Literal}
 use Rattle.sat_base.specs.steps.Steps.{Step}
 use Rattle.certify.specs.confirm.ReadSteps.{Place}
 use Rattle.certify.specs.declared.checker.Checker.{Checker}
-use Rattle.certify.specs.declared.confirm.certificate.Certificate.{Certificate}
-use Rattle.certify.specs.declared.confirm.session.Confirmation.{Confirmation}
 
 -- a certificate as far as its steps were accepted
 pub record View : Type 0 where
@@ -18,14 +15,10 @@ pub record View : Type 0 where
 abbrev pub place : View → Place
 place v = record { step = v.step; rest = v.rest }
 
-abbrev pub view : Certificate → View
-view c = record { checker = c.checker; variables = c.variables.items; step = c.source.step; rest = c.source.rest }
-
--- what is left of a certificate and of the answers, and the literals of the line that was read last
+-- what is left of a certificate and of the answers
 pub record SessionView : Type 0 where
   pub certificate : View
   pub answers : List ℕ
-  pub line : List Literal
 
-abbrev pub session_view : Confirmation → SessionView
-session_view s = record { certificate = view s.certificate; answers = s.answers.now; line = s.line.items }
+abbrev pub session_at : List ℕ → View → SessionView
+session_at answers v = record { certificate = v; answers = answers }

@@ -1,29 +1,30 @@
 //! A certificate as far as its steps were accepted.
-ghost use Rattle.std.specs.Prelude.{◌≡◌, ◌≤◌, List, [], ◌∷◌, Ok, IfOk};
-ghost use Rattle.sat_base.specs.values.Literals.{largest};
+ghost use Rattle.std.specs.Prelude.{◌≡◌, ◌≤◌, ◌<◌, ℕ, List, OnOk, is_ok};
+ghost use Rattle.sat_base.specs.device.Device.{most_reads};
+ghost use Rattle.sat_base.specs.steps.StepReading.{reader_name, reader_source};
 ghost use Rattle.sat_base.specs.steps.StepViews.{step_of};
+ghost use Rattle.certify.specs.checker.CheckerView.{DecidesStep};
 ghost use Rattle.certify.specs.confirm.Checking.{is_ordered as is_ordered_step};
+ghost use Rattle.certify.specs.confirm.NextNames.{PutsNext};
+ghost use Rattle.certify.specs.confirm.Stepping.{ReadsOne};
+ghost use Rattle.certify.specs.confirm.Streams.{Confirms, GoesOn, Says, bytes_left, stream_of};
+ghost use Rattle.certify.specs.declared.checker.Checker.{Checker as CheckerValue};
 
 use crate::checker::Checker;
-use crate::checker::assigned::Assigned;
-use crate::confirm::source::Source;
-use crate::confirm::spell::{are_spelt_by, are_spelt_in, is_line};
+use crate::confirm::expected::{Expected, Scratch, excuse, fits};
+use crate::confirm::stop::{Stop, unread};
 use crate::script::Literal;
 use crate::verdict::Why;
-use sat_base::{Lit, ProofStep, Var};
-use std::alloc::{AllocError, Global};
+use sat_base::{CountedRead, ProofStep, StepReader, Var};
+use std::alloc::Global;
 
-/// What is left of a certificate, the checker that its steps are fed to, and the variables of the names.
+/// The checker that a certificate's steps are fed to, and the variables of the names.
 #[derive(Drop)]
-pub(crate) struct Certificate<'c> {
-    pub(crate) source: Source<'c>,
+pub(crate) struct Certificate {
     pub(crate) checker: Checker,
     /// The variable of each name, from name 1 on.
     pub(crate) variables: Vec<Var>,
-    /// Used within a comparison.
-    pub(crate) marks: Assigned,
-    /// Used within a comparison.
-    pub(crate) spelt: Vec<Lit>,
+    scratch: Scratch,
 }
 
 /// What came where an ordered step is awaited.
@@ -33,8 +34,6 @@ pub(crate) enum Awaited {
     Step,
     /// `unsat` is recorded, and nothing more is read.
     Cut,
-    /// None can come.
-    No(Why),
 }
 
 /// The steps that a script and its answers ask for; the others are fed wherever they stand.
@@ -52,349 +51,194 @@ fn is_ordered(step: &ProofStep<'_>) -> bool
     )
 }
 
-impl<'c> Certificate<'c> {
-    ghost use Rattle.sat_base.specs.script.Judge.{Judge, start};
-    ghost use Rattle.sat_base.specs.script.Script.{Literal as Spelled};
-    ghost use Rattle.certify.specs.answers.Answers.{Outcome};
-    ghost use Rattle.certify.specs.confirm.Matches.{Adds, Closes, Fails, Finish, Opens, showing_model};
-    ghost use Rattle.certify.specs.confirm.CertificateSteps.{IsFed, Stays, MeetsPending, Awaits, GoesOneStep, ReadStepFits, FeedsStep, NamesNext, FeedsName, OpensAsk, BringsNext, BringsName, BringsAll};
-    ghost use Rattle.certify.specs.confirm.Views.{view};
+/// Reads the next step.
+fn read_next<R: CountedRead>(steps: &mut StepReader<'_, R>) -> Result<(), Stop>
+    requires { GoesOn R.seen steps.old }
+    ensures same { reader_name steps.new ≡ reader_name steps.old }
+    ensures bound { (reader_source R.seen steps.new).reads ≤ most_reads }
+    ensures goes_on { OnOk result (GoesOn R.seen steps.new) }
+    ensures takes { OnOk result (bytes_left (reader_source R.seen steps.new) < bytes_left (reader_source R.seen steps.old)) }
+    ensures reads { (checker : CheckerValue) (variables : List ℕ)
+        → Confirms result (stream_of R.seen steps.old checker variables) (stream_of R.seen steps.new checker variables) ReadsOne }
+{
+    match steps.advance() {
+        Ok(()) => Ok(()),
+        Err(error) => Err(unread(error)),
+    }
+}
 
-    pub fn new(alloc: Global, bytes: &'c [u8]) -> Certificate<'c>
-        ensures stands { IsFed (view result) start [] }
-        ensures bytes { (view result).rest ≡ bytes.now }
+/// Feeds a step to the checker.
+fn feed(checker: &mut Checker, step: &ProofStep<'_>) -> Result<(), Stop>
+    ensures { Says result (λ r. DecidesStep checker.old (step_of step.now) checker.new (is_ok r)) }
+{
+    if checker.step(step)? {
+        Ok(())
+    } else {
+        Err(Stop::No(Why::StepRefused))
+    }
+}
+
+/// The variable that a step puts the next name on.
+fn next_name(checker: &Checker, variables: &[Var], step: &ProofStep<'_>) -> Result<Var, Stop>
+    ensures { Says result (PutsNext checker.now variables.now (step_of step.now)) }
+{
+    let ProofStep::UserVarName { global, user } = *step else {
+        return Err(Stop::No(Why::StepOutOfPlace));
+    };
+    let Some(name) = user else {
+        return Err(Stop::No(Why::NameDiffers));
+    };
+    if name.index() != variables.len() {
+        return Err(Stop::No(Why::NameDiffers));
+    }
+    if checker.knows(global) {
+        return Err(Stop::No(Why::NameNotFresh));
+    }
+    Ok(global)
+}
+
+impl Certificate {
+    ghost use Rattle.std.specs.Prelude.{[], IfNone, IfOk};
+    ghost use Rattle.sat_base.specs.script.Judge.{start};
+    ghost use Rattle.sat_base.specs.steps.Steps.{Step};
+    ghost use Rattle.certify.specs.confirm.CertificateSteps.{IsFed};
+    ghost use Rattle.certify.specs.confirm.Dues.{MeetsDue, due_of};
+    ghost use Rattle.certify.specs.confirm.NextNames.{Brings, BringsEach, BringsUpTo};
+    ghost use Rattle.certify.specs.confirm.Stepping.{AwaitsNext, StepsOnce};
+    ghost use Rattle.certify.specs.confirm.Streams.{stream};
+
+    pub fn new(alloc: Global) -> Certificate
+        ensures { (rest : List ℕ) (step : Step) → IsFed
+            (record { checker = result.checker; variables = result.variables.items; step = step; rest = rest }) start [] }
     {
         Certificate {
-            source: Source::new(alloc, bytes),
             checker: Checker::new(alloc),
             variables: Vec::new(alloc),
-            marks: Assigned::new(alloc),
-            spelt: Vec::new(alloc),
+            scratch: Scratch::new(alloc),
         }
     }
 
     /// Takes one step where an ordered one is awaited. None: it was another, and is fed.
-    fn advance(&mut self) -> Result<Option<Awaited>, AllocError>
-        ensures { IfOk result (GoesOneStep (view self.old) (view self.new)) }
+    fn advance<R: CountedRead>(
+        &mut self,
+        steps: &mut StepReader<'_, R>,
+    ) -> Result<Option<Awaited>, Stop>
+        requires { GoesOn R.seen steps.old }
+        ensures same { reader_name steps.new ≡ reader_name steps.old }
+        ensures bound { (reader_source R.seen steps.new).reads ≤ most_reads }
+        ensures goes_on { OnOk result (GoesOn R.seen steps.new) }
+        ensures takes { IfOk result
+            (λ awaited. IfNone awaited (bytes_left (reader_source R.seen steps.new) < bytes_left (reader_source R.seen steps.old))) }
+        ensures confirms { Confirms result (stream R.seen steps.old self.old) (stream R.seen steps.new self.new) StepsOnce }
     {
         if self.checker.unsat() {
             return Ok(Some(Awaited::Cut));
         }
-        if let Some(why) = self.source.read()? {
-            return Ok(Some(Awaited::No(why)));
-        }
-        if is_ordered(&self.source.step()) {
+        read_next(steps)?;
+        let step = steps.step();
+        if is_ordered(&step) {
             return Ok(Some(Awaited::Step));
         }
-        if self.checker.step(&self.source.step())? {
-            Ok(None)
-        } else {
-            Ok(Some(Awaited::No(Why::StepRefused)))
-        }
+        feed(&mut self.checker, &step)?;
+        Ok(None)
     }
 
     /// Feeds the other steps, up to the next ordered one.
-    pub fn await_ordered(&mut self) -> Result<Awaited, AllocError>
-        ensures { IfOk result (Awaits (view self.old) (view self.new)) }
+    fn await_ordered<R: CountedRead>(
+        &mut self,
+        steps: &mut StepReader<'_, R>,
+    ) -> Result<Awaited, Stop>
+        requires { GoesOn R.seen steps.old }
+        ensures same { reader_name steps.new ≡ reader_name steps.old }
+        ensures bound { (reader_source R.seen steps.new).reads ≤ most_reads }
+        ensures goes_on { OnOk result (GoesOn R.seen steps.new) }
+        ensures confirms { Confirms result (stream R.seen steps.old self.old) (stream R.seen steps.new self.new) AwaitsNext }
     {
         loop {
-            if let Some(awaited) = self.advance()? {
+            if let Some(awaited) = self.advance(steps)? {
                 return Ok(awaited);
             }
         }
     }
 
-    /// Feeds the step that was read, where it puts no name.
-    pub fn take(&mut self) -> Result<Option<Why>, AllocError>
-        ensures { IfOk result (FeedsStep (view self.old) (view self.new)) }
+    /// Expects that the next ordered step is this one, and feeds it.
+    pub fn expect<R: CountedRead>(
+        &mut self,
+        steps: &mut StepReader<'_, R>,
+        expected: Expected<'_>,
+    ) -> Result<(), Stop>
+        requires { GoesOn R.seen steps.old }
+        ensures same { reader_name steps.new ≡ reader_name steps.old }
+        ensures bound { (reader_source R.seen steps.new).reads ≤ most_reads }
+        ensures goes_on { OnOk result (GoesOn R.seen steps.new) }
+        ensures confirms { Confirms result (stream R.seen steps.old self.old) (stream R.seen steps.new self.new)
+            (MeetsDue (due_of expected.entry)) }
     {
-        if self.checker.step(&self.source.step())? {
-            Ok(None)
-        } else {
-            Ok(Some(Why::StepRefused))
+        match self.await_ordered(steps)? {
+            Awaited::Cut => return excuse(expected),
+            Awaited::Step => {}
         }
-    }
-
-    /// The variable that the step that was read puts the next name on.
-    fn next_name(&self) -> Result<Var, Why>
-        ensures { NamesNext (view self.now) result }
-    {
-        let ProofStep::UserVarName { global, user } = self.source.step() else {
-            return Err(Why::StepOutOfPlace);
-        };
-        let Some(name) = user else {
-            return Err(Why::NameDiffers);
-        };
-        if name.index() != self.variables.len() {
-            return Err(Why::NameDiffers);
-        }
-        if self.checker.knows(global) {
-            return Err(Why::NameNotFresh);
-        }
-        Ok(global)
-    }
-
-    /// Feeds the step that was read, which puts the next name on the variable.
-    fn put_name(&mut self, variable: Var) -> Result<Option<Why>, AllocError>
-        ensures { IfOk result (λ why. NamesNext (view self.old) (Ok variable) → FeedsName (view self.old) (view self.new) why) }
-    {
-        if self.checker.step(&self.source.step())? {
-            self.variables.push(variable)?;
-            Ok(None)
-        } else {
-            Ok(Some(Why::StepRefused))
-        }
+        let step = steps.step();
+        fits(&self.variables, &step, expected, &mut self.scratch)?;
+        feed(&mut self.checker, &step)
     }
 
     /// Expects the next name on a variable that the checker doesn't know.
-    fn expect_name(&mut self) -> Result<Option<Why>, AllocError>
-        ensures { IfOk result (BringsNext (view self.old) (view self.new)) }
+    fn expect_name<R: CountedRead>(&mut self, steps: &mut StepReader<'_, R>) -> Result<(), Stop>
+        requires { GoesOn R.seen steps.old }
+        ensures same { reader_name steps.new ≡ reader_name steps.old }
+        ensures bound { (reader_source R.seen steps.new).reads ≤ most_reads }
+        ensures goes_on { OnOk result (GoesOn R.seen steps.new) }
+        ensures confirms { Confirms result (stream R.seen steps.old self.old) (stream R.seen steps.new self.new) Brings }
     {
-        match self.await_ordered()? {
-            Awaited::Cut => return Ok(None),
-            Awaited::No(why) => return Ok(Some(why)),
+        match self.await_ordered(steps)? {
+            Awaited::Cut => return Ok(()),
             Awaited::Step => {}
         }
-        match self.next_name() {
-            Ok(variable) => self.put_name(variable),
-            Err(why) => Ok(Some(why)),
-        }
+        let step = steps.step();
+        let variable = next_name(&self.checker, &self.variables, &step)?;
+        feed(&mut self.checker, &step)?;
+        self.variables.push(variable)?;
+        Ok(())
     }
 
     /// Expects the names that come in with this one, from 1 to 2^28.
-    fn bring_name(&mut self, name: usize) -> Result<Option<Why>, AllocError>
-        ensures { IfOk result (BringsName (view self.old) (view self.new) name) }
+    fn bring_name<R: CountedRead>(
+        &mut self,
+        steps: &mut StepReader<'_, R>,
+        name: usize,
+    ) -> Result<(), Stop>
+        requires { GoesOn R.seen steps.old }
+        ensures same { reader_name steps.new ≡ reader_name steps.old }
+        ensures bound { (reader_source R.seen steps.new).reads ≤ most_reads }
+        ensures goes_on { OnOk result (GoesOn R.seen steps.new) }
+        ensures confirms { Confirms result (stream R.seen steps.old self.old) (stream R.seen steps.new self.new) (BringsUpTo name) }
     {
         if self.checker.unsat() {
-            return Ok(None);
+            return Ok(());
         }
         let missing = name.saturating_sub(self.variables.len());
         for done in 0..missing {
-            if let Some(why) = self.expect_name()? {
-                return Ok(Some(why));
-            }
+            self.expect_name(steps)?;
         }
-        Ok(None)
+        Ok(())
     }
 
     /// Expects the names that come in with the literals.
-    pub fn bring_in(&mut self, literals: &[Literal]) -> Result<Option<Why>, AllocError>
-        ensures { IfOk result (BringsAll (view self.old) (view self.new) literals.now) }
+    pub fn bring_in<R: CountedRead>(
+        &mut self,
+        steps: &mut StepReader<'_, R>,
+        literals: &[Literal],
+    ) -> Result<(), Stop>
+        requires { GoesOn R.seen steps.old }
+        ensures same { reader_name steps.new ≡ reader_name steps.old }
+        ensures bound { (reader_source R.seen steps.new).reads ≤ most_reads }
+        ensures goes_on { OnOk result (GoesOn R.seen steps.new) }
+        ensures confirms { Confirms result (stream R.seen steps.old self.old) (stream R.seen steps.new self.new) (BringsEach literals.now) }
     {
         for literal in literals {
-            if let Some(why) = self.bring_name(literal.name as usize)? {
-                return Ok(Some(why));
-            }
+            self.bring_name(steps, literal.name as usize)?;
         }
-        Ok(None)
-    }
-
-    fn adds(&mut self, literals: &[Literal]) -> Result<Option<Why>, AllocError>
-        ensures fits { IfOk result (ReadStepFits (view self.new) (λ _. Adds literals.now)) }
-        ensures stays { Stays (view self.old) (view self.new) }
-    {
-        let ProofStep::AddClause { clause } = self.source.step() else {
-            return Ok(Some(Why::StepOutOfPlace));
-        };
-        if are_spelt_by(
-            &self.variables,
-            literals,
-            clause,
-            &mut self.spelt,
-            &mut self.marks,
-        )? {
-            Ok(None)
-        } else {
-            Ok(Some(Why::ClauseDiffers))
-        }
-    }
-
-    /// Expects a clause of these literals.
-    pub fn expect_clause(&mut self, literals: &[Literal]) -> Result<Option<Why>, AllocError>
-        ensures { IfOk result (λ why. (j : Judge) → MeetsPending (view self.old) (view self.new) j (Adds literals.now ∷ []) j why) }
-    {
-        match self.await_ordered()? {
-            Awaited::Cut => return Ok(None),
-            Awaited::No(why) => return Ok(Some(why)),
-            Awaited::Step => {}
-        }
-        if let Some(why) = self.adds(literals)? {
-            return Ok(Some(why));
-        }
-        self.take()
-    }
-
-    fn opens(&mut self, literals: &[Literal]) -> Result<Option<Why>, AllocError>
-        ensures fits { IfOk result (λ why. (o : Outcome) → ReadStepFits (view self.new) (λ _. Opens literals.now o) why) }
-        ensures stays { Stays (view self.old) (view self.new) }
-    {
-        let ProofStep::Assumptions { assumptions } = self.source.step() else {
-            return Ok(Some(Why::StepOutOfPlace));
-        };
-        if are_spelt_by(
-            &self.variables,
-            literals,
-            assumptions,
-            &mut self.spelt,
-            &mut self.marks,
-        )? {
-            Ok(None)
-        } else {
-            Ok(Some(Why::AskDiffers))
-        }
-    }
-
-    /// Expects the assumptions of an ask.
-    pub fn expect_ask(&mut self, literals: &[Literal]) -> Result<Option<Why>, AllocError>
-        ensures { IfOk result (OpensAsk (view self.old) (view self.new) literals.now) }
-    {
-        match self.await_ordered()? {
-            Awaited::Cut => return Ok(None),
-            Awaited::No(why) => return Ok(Some(why)),
-            Awaited::Step => {}
-        }
-        if let Some(why) = self.opens(literals)? {
-            return Ok(Some(why));
-        }
-        self.take()
-    }
-
-    fn shows(&mut self, ask: &[Literal], line: &[Literal]) -> Result<Option<Why>, AllocError>
-        ensures fits { IfOk result (ReadStepFits (view self.new) (λ j. showing_model j ask.now line.now)) }
-        ensures stays { Stays (view self.old) (view self.new) }
-    {
-        let ProofStep::Model { assignment } = self.source.step() else {
-            return Ok(Some(Why::StepOutOfPlace));
-        };
-        if is_line(line, ask, self.variables.len()) {
-            if are_spelt_in(
-                &self.variables,
-                line,
-                assignment,
-                &mut self.spelt,
-                &mut self.marks,
-            )? {
-                Ok(None)
-            } else {
-                Ok(Some(Why::AnswerDiffers))
-            }
-        } else {
-            Ok(Some(Why::AnswerDiffers))
-        }
-    }
-
-    /// Expects a model that the line of an answer shows.
-    pub fn expect_model(
-        &mut self,
-        ask: &[Literal],
-        line: &[Literal],
-    ) -> Result<Option<Why>, AllocError>
-        ensures { IfOk result
-            (λ why. (j : Judge) → MeetsPending (view self.old) (view self.new) j (showing_model j ask.now line.now ∷ []) j why) }
-    {
-        match self.await_ordered()? {
-            Awaited::Cut => return Ok(Some(Why::AnswerDiffers)),
-            Awaited::No(why) => return Ok(Some(why)),
-            Awaited::Step => {}
-        }
-        if let Some(why) = self.shows(ask, line)? {
-            return Ok(Some(why));
-        }
-        self.take()
-    }
-
-    fn fails(&mut self, core: &[Literal]) -> Result<Option<Why>, AllocError>
-        ensures fits { IfOk result (λ why. (ask : List Spelled) → ReadStepFits (view self.new) (λ _. Fails ask core.now) why) }
-        ensures stays { Stays (view self.old) (view self.new) }
-    {
-        let ProofStep::FailedAssumptions { failed_core, .. } = self.source.step() else {
-            return Ok(Some(Why::StepOutOfPlace));
-        };
-        if are_spelt_by(
-            &self.variables,
-            core,
-            failed_core,
-            &mut self.spelt,
-            &mut self.marks,
-        )? {
-            Ok(None)
-        } else {
-            Ok(Some(Why::AnswerDiffers))
-        }
-    }
-
-    /// Expects that this core fails. Where `unsat` is recorded only the empty one does.
-    pub fn expect_core(&mut self, core: &[Literal]) -> Result<Option<Why>, AllocError>
-        ensures { IfOk result
-            (λ why. (j : Judge) (ask : List Spelled) → MeetsPending (view self.old) (view self.new) j (Fails ask core.now ∷ []) j why) }
-    {
-        match self.await_ordered()? {
-            Awaited::Cut => {
-                if core.is_empty() {
-                    return Ok(None);
-                }
-                return Ok(Some(Why::AnswerDiffers));
-            }
-            Awaited::No(why) => return Ok(Some(why)),
-            Awaited::Step => {}
-        }
-        if let Some(why) = self.fails(core)? {
-            return Ok(Some(why));
-        }
-        self.take()
-    }
-
-    fn closes(&self) -> Option<Why>
-        ensures { ReadStepFits (view self.now) (λ _. Closes) result }
-    {
-        match self.source.step() {
-            ProofStep::Assumptions { assumptions } => {
-                if assumptions.is_empty() {
-                    None
-                } else {
-                    Some(Why::AskDiffers)
-                }
-            }
-            _ => Some(Why::StepOutOfPlace),
-        }
-    }
-
-    /// Expects the end of an ask: assumptions without literals.
-    pub fn close(&mut self) -> Result<Option<Why>, AllocError>
-        ensures { IfOk result (λ why. (j : Judge) → MeetsPending (view self.old) (view self.new) j (Closes ∷ []) j why) }
-    {
-        match self.await_ordered()? {
-            Awaited::Cut => return Ok(None),
-            Awaited::No(why) => return Ok(Some(why)),
-            Awaited::Step => {}
-        }
-        if let Some(why) = self.closes() {
-            return Ok(Some(why));
-        }
-        self.take()
-    }
-
-    fn finishes(&self) -> Option<Why>
-        ensures { ReadStepFits (view self.now) (λ _. Finish) result }
-    {
-        match self.source.step() {
-            ProofStep::End => None,
-            _ => Some(Why::StepOutOfPlace),
-        }
-    }
-
-    /// Expects the end of the certificate.
-    pub fn finish(&mut self) -> Result<Option<Why>, AllocError>
-        ensures { IfOk result (λ why. (j : Judge) → MeetsPending (view self.old) (view self.new) j (Finish ∷ []) j why) }
-    {
-        match self.await_ordered()? {
-            Awaited::Cut => return Ok(None),
-            Awaited::No(why) => return Ok(Some(why)),
-            Awaited::Step => {}
-        }
-        if let Some(why) = self.finishes() {
-            return Ok(Some(why));
-        }
-        self.take()
+        Ok(())
     }
 }

@@ -1,4 +1,4 @@
-//! What ends a confirmation that reads its certificate step by step. Today's `confirm` holds it whole, and doesn't use this yet.
+//! What ends a confirmation that reads its certificate step by step.
 ghost use Rattle.std.specs.Prelude.{◌≡◌};
 ghost use Rattle.certify.specs.confirm.Streams.{stop_of};
 

@@ -489,8 +489,32 @@ fn what_a_run_wrote_is_confirmed(rt: HostRuntime) -> Result<(), Fail> {
     Ok(())
 }
 
-/// Tests whether each read in turn fails, the one that finds the end too, and gives its text's fault, and no further read is made.
-fn each_read_fails(alloc: Global, texts: Texts<'_>) -> bool {
+/// Texts, the read of the certificate that fails, and what is said: nothing is read behind the step that decides.
+const DECIDED_BEFORE: [(Texts<'static>, u64, Verdict); 2] = [
+    (
+        (UNITS, NONE_LEFT, &[0x0d]),
+        2,
+        Verdict::No {
+            ask: 1,
+            why: Why::StepOutOfPlace,
+        },
+    ),
+    ((ROW, ROW_ANSWERS, ROW_STEPS), 20, Verdict::Yes),
+];
+
+#[test]
+fn nothing_is_read_behind_the_decision(rt: HostRuntime) {
+    for &(texts, failing, verdict) in &DECIDED_BEFORE {
+        assert!(rt;
+            said_at(rt.alloc(), texts, (0, 0, failing)) == Ok(verdict),
+            "{texts:?}"
+        );
+    }
+}
+
+/// Tests whether each read in turn fails and gives its text's fault, and no further read is made. Of script and answers the one that
+/// finds the end is among them; of the certificate so many are made.
+fn each_read_fails(alloc: Global, texts: Texts<'_>, reads: u64) -> bool {
     for failing in 1..=(texts.0.len() as u64).saturating_add(1) {
         if said_at(alloc, texts, (failing, 0, 0)) != Err(ConfirmFault::ScriptRead) {
             return false;
@@ -501,7 +525,7 @@ fn each_read_fails(alloc: Global, texts: Texts<'_>) -> bool {
             return false;
         }
     }
-    for failing in 1..=(texts.2.len() as u64).saturating_add(1) {
+    for failing in 1..=reads {
         if said_at(alloc, texts, (0, 0, failing)) != Err(ConfirmFault::CertificateRead) {
             return false;
         }
@@ -509,17 +533,20 @@ fn each_read_fails(alloc: Global, texts: Texts<'_>) -> bool {
     let behind = (
         (texts.0.len() as u64).saturating_add(2),
         (texts.1.len() as u64).saturating_add(2),
-        (texts.2.len() as u64).saturating_add(2),
+        reads.saturating_add(1),
     );
     said_at(alloc, texts, behind) == Ok(Verdict::Yes)
 }
 
+/// Scripts, and how many bytes of the certificates are read: all of one that ends with a model, and those up to recorded `unsat`.
+const READ_IN_TURN: [(&[u8], u64); 2] = [(ROW, 19), (SIXTH, 71)];
+
 #[test]
 fn each_read_fails_in_turn(rt: HostRuntime) -> Result<(), Fail> {
-    for script in [ROW, SIXTH] {
+    for &(script, reads) in &READ_IN_TURN {
         let (answers, certificate) = written(rt.alloc(), script, AMPLE)?;
         let texts = (script, answers.as_slice(), certificate.as_slice());
-        assert!(rt; each_read_fails(rt.alloc(), texts), "{script:?}");
+        assert!(rt; each_read_fails(rt.alloc(), texts, reads), "{script:?}");
     }
     Ok(())
 }

@@ -1,19 +1,18 @@
-use Rattle.certify.proofs.lemmas.confirm.DecidedTexts.{exact, sound}
+use Rattle.certify.proofs.lemmas.confirm.DecidedTexts.{said_exact, said_sound}
 use Rattle.certify.proofs.confirm.confirm.Goals as goal
 
-pub returns-in-Ok-confirm_texts-clause-exact : goal.returns-in-Ok-confirm_texts-clause-exact
-returns-in-Ok-confirm_texts-clause-exact g c =
+pub returns-clause-exact : goal.returns-clause-exact
+returns-clause-exact g c =
     let S = g.S.CountedRead.seen in
     let A = g.A.CountedRead.seen in
     let C = g.C.CountedRead.seen in
-    exact c.in-Ok-confirm_texts.verdict (S c.args.script.now) (S c.read_script.new.reader) (A c.args.answers.now) (A c.read_whole.new.reader) (C c.args.certificate.now) (C c.read_whole-2.new.reader)
-    c.in-Ok.script c.in-Ok-read_whole.bytes.items c.in-Ok-read_whole-2.bytes.items c.in-Ok.ensures.script c.in-Ok-read_whole.ensures.gave c.in-Ok-read_whole-2.ensures.gave
-    (rw (c.deref.ensures.value, c.deref-2.ensures.value) at c.in-Ok-confirm_texts.ensures)
+    said_exact (S c.args.script.now) (S c.read_script.new.reader) (A c.args.answers.now) (A c.read_whole.new.reader) (C c.args.certificate.now) (C c.decide.new.certificate)
+    c.in-Ok.script c.in-Ok-read_whole.bytes.items c.in-Ok.ensures.script c.in-Ok-read_whole.ensures.gave c.decide.result (rw c.deref.ensures.value at c.decide.ensures.decides)
 
-pub returns-in-Ok-confirm_texts-clause-sound : goal.returns-in-Ok-confirm_texts-clause-sound
-returns-in-Ok-confirm_texts-clause-sound g c =
+pub returns-clause-sound : goal.returns-clause-sound
+returns-clause-sound g c =
     let S = g.S.CountedRead.seen in
     let A = g.A.CountedRead.seen in
-    sound c.in-Ok-confirm_texts.verdict (S c.args.script.now) (S c.read_script.new.reader) (A c.args.answers.now) (A c.read_whole.new.reader)
-    c.in-Ok.script c.in-Ok-read_whole.bytes.items c.in-Ok-read_whole-2.bytes.items c.in-Ok.ensures.script c.in-Ok-read_whole.ensures.gave
-    (rw (c.deref.ensures.value, c.deref-2.ensures.value) at c.in-Ok-confirm_texts.ensures)
+    let C = g.C.CountedRead.seen in
+    said_sound (S c.args.script.now) (S c.read_script.new.reader) (A c.args.answers.now) (A c.read_whole.new.reader) (C c.args.certificate.now) (C c.decide.new.certificate)
+    c.in-Ok.script c.in-Ok-read_whole.bytes.items c.in-Ok.ensures.script c.in-Ok-read_whole.ensures.gave c.decide.result (rw c.deref.ensures.value at c.decide.ensures.decides)

@@ -1,10 +1,12 @@
 -- Where no answer is read, none stands.
-use Rattle.std.proofs.Common.{ℕ, ◌≡◌, List, [], ◌++◌, refl, sym, ◌∙◌, ap, subst, append_assoc, arith}
+use Rattle.std.proofs.Common.{ℕ, ◌≡◌, Bool, List, [], ◌++◌, Err, refl, sym, ◌∙◌, ap, subst, append_assoc, arith}
 use Rattle.std.proofs.lemmas.List.{append_cancel_left}
 use Rattle.sat_base.specs.script.Script.{Literal}
 use Rattle.certify.specs.answers.Answers.{Outcome, Sat, Unsat, Unknown, outcome_text, s_satisfiable, s_unsatisfiable, s_unknown, v_line, f_line}
 use Rattle.certify.specs.answers.AnswerForms.{IsInForm}
 use Rattle.certify.specs.answers.AnswerReading.{HasLine, NoKind, NoLine, first_line, second_line, outcome_of}
+use Rattle.certify.specs.confirm.ConfirmedCommands.{ReadsReply, stop_after}
+use Rattle.certify.specs.confirm.Streams.{Says}
 use Rattle.certify.specs.declared.answers.read.AnswerKind.{AnswerKind}
 use Rattle.certify.specs.declared.answers.read.AnswerKind.TheVariants as kind
 use Rattle.certify.specs.declared.answers.read.AnswerFault.{AnswerFault}
@@ -89,3 +91,15 @@ not_alone k line bytes behind rest b s f n o tail u e =
     apart kind.Sat x = cc
     apart kind.Unsat x = n (cc)
     apart kind.Unknown x = cc
+
+-- WHAT IS SAID THEN
+
+pub kind_unread : (old new : List ℕ) (line : List Literal) (settled : Bool) (w : AnswerFault) → NoKind old w → Says {A = AnswerKind} (Err (stop_after w)) (ReadsReply old new line settled)
+kind_unread old new line settled fault.Missing n = λ o tail form alone e. no_kind old fault.Missing n o tail e
+kind_unread old new line settled fault.Text n = λ o tail form alone e. no_kind old fault.Text n o tail e
+kind_unread old new line settled fault.OutOfMemory n = tt
+
+pub line_unread : (k : AnswerKind) (old behind new : List ℕ) (line : List Literal) (settled : Bool) (w : AnswerFault) → old ≡ first_line k ++ behind → NoLine k behind w → Says {A = AnswerKind} (Err (stop_after w)) (ReadsReply old new line settled)
+line_unread k old behind new line settled fault.Missing b n = λ o tail form alone e. no_line k old behind fault.Missing b n (λ x. cc) o tail form e
+line_unread k old behind new line settled fault.Text b n = λ o tail form alone e. no_line k old behind fault.Text b n (λ x. cc) o tail form e
+line_unread k old behind new line settled fault.OutOfMemory b n = tt

@@ -1,5 +1,5 @@
 -- Commands, confirmed one after another.
-use Rattle.std.proofs.Common.{ℕ, ◌+◌, ◌≤◌, ◌≡◌, Bool, true, false, cond, ltb, List, [], ◌∷◌, ◌++◌, Option, Some, None, refl, sym, ◌∙◌, ap, subst}
+use Rattle.std.proofs.Common.{ℕ, ◌+◌, ◌≤◌, ◌≡◌, Bool, true, false, cond, ltb, List, [], ◌∷◌, ◌++◌, Option, Some, None, Result, Ok, Err, refl, sym, ◌∙◌, subst}
 use Rattle.std.proofs.lemmas.Bool.{ltb-false}
 use Rattle.std.proofs.lemmas.List.{append_cancel_left}
 use Rattle.std.specs.List.{AllByRecursion}
@@ -13,10 +13,10 @@ use Rattle.certify.specs.answers.AnswerForms.{HaveNames, IsInForm}
 use Rattle.certify.specs.checker.CheckerView.{Keeps}
 use Rattle.certify.specs.confirm.CertificatePlaces.{IsPlain}
 use Rattle.certify.specs.confirm.Matches.{Adds, Closes, bringing, showing}
-use Rattle.certify.specs.confirm.ConfirmedCommands.{TakesLine, ToConfirm, CountFromOne, Confirmed, ConfirmsCommand}
+use Rattle.certify.specs.confirm.ConfirmedCommands.{TakesLine, ToConfirm, CountFromOne, Confirmed, ConfirmsCommand, ConfirmsNext}
 use Rattle.certify.specs.confirm.CertificateSteps.{IsFed, Onward, MeetsPending, AskIsOpen, OpensAsk}
 use Rattle.certify.specs.checker.Stored.{Stored}
-use Rattle.certify.specs.confirm.Views.{View, SessionView}
+use Rattle.certify.specs.confirm.Views.{View, SessionView, session_at}
 use Rattle.certify.specs.declared.verdict.Why.{Why}
 use Rattle.certify.proofs.lemmas.confirm.LeftByCommand.{Rest, refused_on, refused_back, clause_pending, left_on, left_back, left_barred}
 use Rattle.certify.proofs.lemmas.confirm.PlainJudge.{plain_refused, plain_clause}
@@ -52,25 +52,24 @@ after_accepted : (j : Judge) (c : Command) → refusal_of j c ≡ None → after
 after_accepted j c e = rw e refl
 
 -- a refused command
-refused_command : (old new : SessionView) (n : ℕ) (c : Command) (w : Option Why) → ((j : Judge) → IsPlain j → refusal_of j c ≡ Some PastLimit) → TakesLine old new (refused_line n PastLimit) w → ConfirmsCommand old new n c w
-refused_command old new n c None r t = λ j earlier s k.
+refused_command : (before behind : List ℕ) (u : View) (n : ℕ) (c : Command) (r : Result (Unit {0}) Why) → ((j : Judge) → IsPlain j → refusal_of j c ≡ Some PastLimit) → TakesLine before behind (refused_line n PastLimit) r → ConfirmsNext n c before behind u u r
+refused_command before behind u n c (Ok x) r t = λ j earlier s k.
     let e = r j s.plain in
-    let same : new.certificate.rest ≡ old.certificate.rest = ap (λ (x : View). x.rest) t.0 in
-    confirmed old new j j earlier earlier n c (after_refused j c PastLimit e) (subst (λ x. IsFed x j earlier) (sym t.0) s)
+    confirmed (session_at before u) (session_at behind u) j j earlier earlier n c (after_refused j c PastLimit e) s
     (λ cs ending h.
-    let p = refused_on j n earlier c cs ending old.answers old.certificate.rest PastLimit e h in
-    let tail : p.0 ≡ new.answers = append_cancel_left (refused_line n PastLimit) p.0 new.answers (sym p.1 ∙ t.1) in
-    subst (λ x. Rest j (n + 1) earlier [] cs ending new.answers x) (sym same) (subst (λ x. Rest j (n + 1) earlier [] cs ending x old.certificate.rest) tail p.2))
-    (λ cs ending h. refused_back j n earlier c cs ending old.answers new.answers old.certificate.rest PastLimit e t.1 (subst (λ x. Rest j (n + 1) earlier [] cs ending new.answers x) same h))
-refused_command old new n c (Some why) r t = λ j earlier s k cs ending h.
-    let p = refused_on j n earlier c cs ending old.answers old.certificate.rest PastLimit (r j s.plain) h in
+    let p = refused_on j n earlier c cs ending before u.rest PastLimit e h in
+    let tail : p.0 ≡ behind = append_cancel_left (refused_line n PastLimit) p.0 behind (sym p.1 ∙ t) in
+    subst (λ x. Rest j (n + 1) earlier [] cs ending x u.rest) tail p.2)
+    (λ cs ending h. refused_back j n earlier c cs ending before behind u.rest PastLimit e t h)
+refused_command before behind u n c (Err why) r t = λ j earlier s k cs ending h.
+    let p = refused_on j n earlier c cs ending before u.rest PastLimit (r j s.plain) h in
     t p.0 p.1
 
-pub clause_refused : (old new : SessionView) (n : ℕ) (ls : List Literal) (w : Option Why) → refused_name (names_of ls) ≡ Some PastLimit → TakesLine old new (refused_line n PastLimit) w → ConfirmsCommand old new n (Clause ls) w
-clause_refused old new n ls w e t = refused_command old new n (Clause ls) w (λ j p. is_refused j ls (Some PastLimit) p e) t
+pub clause_refused : (before behind : List ℕ) (u : View) (n : ℕ) (ls : List Literal) (r : Result (Unit {0}) Why) → refused_name (names_of ls) ≡ Some PastLimit → TakesLine before behind (refused_line n PastLimit) r → ConfirmsNext n (Clause ls) before behind u u r
+clause_refused before behind u n ls r e t = refused_command before behind u n (Clause ls) r (λ j p. is_refused j ls (Some PastLimit) p e) t
 
-pub ask_refused : (old new : SessionView) (n : ℕ) (ls : List Literal) (w : Option Why) → refused_name (names_of ls) ≡ Some PastLimit → TakesLine old new (refused_line n PastLimit) w → ConfirmsCommand old new n (Ask ls) w
-ask_refused old new n ls w e t = refused_command old new n (Ask ls) w (λ j p. is_refused j ls (Some PastLimit) p e) t
+pub ask_refused : (before behind : List ℕ) (u : View) (n : ℕ) (ls : List Literal) (r : Result (Unit {0}) Why) → refused_name (names_of ls) ≡ Some PastLimit → TakesLine before behind (refused_line n PastLimit) r → ConfirmsNext n (Ask ls) before behind u u r
+ask_refused before behind u n ls r e t = refused_command before behind u n (Ask ls) r (λ j p. is_refused j ls (Some PastLimit) p e) t
 
 -- a clause
 
@@ -172,8 +171,3 @@ module _ (old : SessionView) (named : View) (n : ℕ) (ls : List Literal) (given
             let x = sh next t.later t.stands in
             left_barred [] next (n + 1) cs ending tail (cl next x.later x.stands) (left_on (Closes ∷ []) next (n + 1) cs ending tail x.leads
             (answered_on j n ls cs ending old.answers e earlier f.later old.certificate.rest named.rest f.leads t.later asked.rest t.leads t.alone t.stands.plain v tail w.1 w.0 h))
-
--- a line that was put together is taken
-pub line_taken : (old mid new : SessionView) (line given : List ℕ) (w : Option Why) → mid.certificate ≡ old.certificate → mid.answers ≡ old.answers → given ≡ line → TakesLine mid new given w → TakesLine old new line w
-line_taken old mid new line given None c a g t = (t.0 ∙ c, sym a ∙ t.1 ∙ ap (λ x. x ++ new.answers) g)
-line_taken old mid new line given (Some why) c a g t = λ tail e. t tail (a ∙ e ∙ ap (λ x. x ++ tail) (sym g))

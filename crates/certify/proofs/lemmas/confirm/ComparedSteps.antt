@@ -73,10 +73,3 @@ module _ (new : View) (vs codes : List ℕ) (x : Step) (v : vs ≡ new.variables
   pub shows_said : (ask line : List Literal) → x ≡ Model codes → (j : Judge) (earlier : List Step) → IsFed new j earlier → (stored_after earlier).unsat ≡ false → Fits the_checking earlier (Shows (map (λ n. n.name) j.in_use) ask line) new.step
       → ((names_of line ≡ names_from (length new.variables) 1) × AllByRecursion (λ l. Among l line) ask) × EachSpelt (variable_in vs) line codes
   shows_said ask line e j earlier s u f = let t = taken ask line e j earlier f in ((t.0 ∙ in_use_are j earlier s u, t.2), subst (λ g. EachSpelt g line codes) (names_are j earlier s) t.1)
-
-  pub shows_unlisted : (ask line : List Literal) (why : Why) → x ≡ Model codes → ((names_of line ≡ names_from (length new.variables) 1) × AllByRecursion (λ l. Among l line) ask → ⊥) → ReadStepFits new (λ j. Shows (map (λ n. n.name) j.in_use) ask line) (Some why)
-  shows_unlisted ask line why e n j earlier s u f = let t = taken ask line e j earlier f in n (t.0 ∙ in_use_are j earlier s u, t.2)
-
-  pub shows_unfit : (ask line : List Literal) (b : Bool) (why : Why) → x ≡ Model codes → b ≡ false → MatchBool b (EachSpelt (variable_in vs) line codes) (EachSpelt (variable_in vs) line codes → ⊥) → ReadStepFits new (λ j. Shows (map (λ n. n.name) j.in_use) ask line) (Some why)
-  shows_unfit ask line b why e t m j earlier s u f =
-      subst (λ w. MatchBool w (EachSpelt (variable_in vs) line codes) (EachSpelt (variable_in vs) line codes → ⊥)) t m (subst (λ g. EachSpelt g line codes) (names_are j earlier s) (taken ask line e j earlier f).1)

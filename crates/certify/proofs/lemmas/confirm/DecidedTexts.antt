@@ -1,19 +1,31 @@
 -- From what is decided of a script whose names are capped, to what is said of the texts that were read.
-use Rattle.std.proofs.Common.{ℕ, ◌-◌, ◌^◌, ◌<◌, ◌≤◌, ◌≡◌, ◌↔◌, length, List, [], ◌∷◌, map, refl, sym, ◌∙◌, subst, arith}
+use Rattle.std.proofs.Common.{ℕ, ◌+◌, ◌-◌, ◌^◌, ◌<◌, ◌≤◌, ◌≡◌, ◌⊎◌, ◌↔◌, min, length, List, [], ◌∷◌, ◌++◌, map, Result, Ok, Err, IfOk, inl, inr, refl, sym, ◌∙◌, subst, arith}
 use Rattle.std.specs.List.{AllByRecursion}
 use Rattle.sat_base.specs.script.Script.{Literal, Command, Clause, Ask, Hide, Witness, Sample, Ending, names_of, reading}
 use Rattle.sat_base.specs.script.Judge.{start}
-use Rattle.sat_base.specs.device.Device.{Reader, GaveAll, GaveEnough}
+use Rattle.sat_base.specs.device.Device.{Reader, GaveAll, GaveEnough, ReadFails, most_reads}
+use Rattle.sat_base.specs.device.Reading.{AtEnd, unread}
+use Rattle.sat_base.specs.steps.Steps.{Step}
 use Rattle.sat_base.proofs.lemmas.device.Given.{enough_all}
 use Rattle.certify.specs.confirm.VerdictPromises.{Exact, IsSound, HasTooMany, AreRightAnswers}
-use Rattle.certify.specs.confirm.Decides.{Decides}
+use Rattle.certify.specs.confirm.Decides.{Decides, DecidesFrom, said_of}
 use Rattle.certify.specs.script.CappedNames.{capped_command, CappedScript, capped_script, IsScriptOf}
 use Rattle.certify.specs.confirm.Matches.{MatchesCommands, Matches, OneEach, Meets, expected}
 use Rattle.certify.specs.run.Running.{IsSimple}
-use Rattle.certify.specs.confirm.ConfirmedCommands.{CountFromOne}
+use Rattle.certify.specs.confirm.ConfirmedCommands.{CountFromOne, ConfirmsAll}
 use Rattle.certify.specs.confirm.ListChecking.{the_checking}
+use Rattle.certify.specs.confirm.CertificateSteps.{IsFed}
+use Rattle.certify.specs.confirm.Streams.{Stream, rest_in, Confirms}
+use Rattle.certify.specs.confirm.Views.{View}
+use Rattle.certify.specs.declared.checker.Checker.{Checker}
+use Rattle.certify.specs.declared.confirm.stop.Stop.{Stop}
+use Rattle.certify.specs.declared.confirm.stop.Stop.TheVariants as stop
+use Rattle.certify.specs.declared.verdict.ConfirmFault.{ConfirmFault}
+use Rattle.certify.specs.declared.verdict.ConfirmFault.TheVariants as fault
 use Rattle.certify.specs.declared.verdict.Verdict.{Verdict}
 use Rattle.certify.specs.declared.verdict.Verdict.TheVariants.{Yes, No}
+use Rattle.certify.specs.declared.verdict.Why.{Why}
+use Rattle.certify.proofs.lemmas.confirm.Streams.{moves_halt, gave_enough, read_fails}
 use Rattle.certify.proofs.lemmas.run.FinishedRuns.{answers_held}
 use Rattle.certify.proofs.lemmas.script.CappedNames.{accepted_of-held}
 use Rattle.certify.proofs.lemmas.laws.ExpectedOutcomes.{matching_right}
@@ -82,24 +94,94 @@ decided_of v script text a c e d =
     let P : CappedScript → Type 0 = λ s. AllByRecursion CountFromOne s.0 → Decides v s a c in
     decided v text a c (subst P e d (read_counts text))
 
-pub exact : (v : Verdict) (x y a b c d : Reader) (script : CappedScript) (answers certificate : List ℕ) → IsScriptOf (GaveAll x y) script → GaveAll a b answers → GaveAll c d certificate
-    → (AllByRecursion CountFromOne script.0 → Decides v script answers certificate) → Exact (x, y) (a, b) (c, d) v
-exact v x y a b c d script answers certificate s ga gc decides =
+-- what is so of what a reader gave
+enough_so : (x y : Reader) (P Q : List ℕ → Type 0) → ((text : List ℕ) → P text → Q text) → GaveEnough x y P → GaveEnough x y Q
+enough_so x y P Q f g = record { text = g.text; front = g.front; over = g.over; few = g.few; holds = λ rest k. f (g.text ++ rest) (g.holds rest k) }
+
+exact : (v : Verdict) (x y a b c d : Reader) (script : CappedScript) (answers : List ℕ) → IsScriptOf (GaveAll x y) script → GaveAll a b answers
+    → GaveEnough c d (λ certificate. AllByRecursion CountFromOne script.0 → Decides v script answers certificate) → Exact (x, y) (a, b) (c, d) v
+exact v x y a b c d script answers s ga decides =
     let S : List ℕ → List ℕ → List ℕ → Type 0 = λ s t u. (v ≡ Yes) ↔ Matches the_checking reading s t u in
     enough_all x y (λ s. GaveEnough a b (λ t. GaveEnough c d (S s t))) s.0 s.1
     (enough_all a b (λ t. GaveEnough c d (S s.0 t)) answers ga
-    (enough_all c d (S s.0 answers) certificate gc (decided_of v script s.0 answers certificate s.2 decides)))
+    (enough_so c d (λ certificate. AllByRecursion CountFromOne script.0 → Decides v script answers certificate) (S s.0 answers) (λ certificate. decided_of v script s.0 answers certificate s.2) decides))
 
-pub sound : (v : Verdict) (x y a b : Reader) (script : CappedScript) (answers certificate : List ℕ) → IsScriptOf (GaveAll x y) script → GaveAll a b answers
-    → (AllByRecursion CountFromOne script.0 → Decides v script answers certificate) → IsSound (x, y) (a, b) v
-sound v x y a b script answers certificate s ga decides = λ said.
-    let m : Matches the_checking reading s.0 answers certificate = (decided_of v script s.0 answers certificate s.2 decides).0 said in
+sound : (v : Verdict) (x y a b c d : Reader) (script : CappedScript) (answers : List ℕ) → IsScriptOf (GaveAll x y) script → GaveAll a b answers
+    → GaveEnough c d (λ certificate. AllByRecursion CountFromOne script.0 → Decides v script answers certificate) → IsSound (x, y) (a, b) v
+sound v x y a b c d script answers s ga decides = λ said.
+    let m : Matches the_checking reading s.0 answers (decides.text ++ []) = (decided_of v script s.0 answers (decides.text ++ []) s.2 (decides.holds [] (λ called ended. refl))).0 said in
     enough_all x y (λ s. GaveEnough a b (AreRightAnswers s)) s.0 s.1
     (enough_all a b (AreRightAnswers s.0) answers ga record {
       outcomes = m.outcomes;
       answered = m.answered;
       right = matching_right the_checking the_checking_sound (reading s.0).0 m.outcomes m.steps m.match;
     })
+
+-- WHAT IS ANSWERED
+
+module _ (x y a b c d : Reader) (script : CappedScript) (answers : List ℕ) (s : IsScriptOf (GaveAll x y) script) (ga : GaveAll a b answers) where
+  pub said_exact : (r : Result Verdict ConfirmFault) → DecidesFrom script answers c d r → IfOk r (Exact (x, y) (a, b) (c, d))
+  said_exact (Ok v) h = exact v x y a b c d script answers s ga h.0
+  said_exact (Err e) h = tt
+
+  pub said_sound : (r : Result Verdict ConfirmFault) → DecidesFrom script answers c d r → IfOk r (IsSound (x, y) (a, b))
+  said_sound (Ok v) h = sound v x y a b c d script answers s ga h.0
+  said_sound (Err e) h = tt
+
+module _ (script : CappedScript) (answers : List ℕ) (c d : Reader) (r : Result Verdict ConfirmFault) (h : DecidesFrom script answers c d r) where
+  pub not_script : r ≡ Err fault.ScriptRead → ⊥
+  not_script e = subst (DecidesFrom script answers c d) e h
+
+  pub not_answers : r ≡ Err fault.AnswersRead → ⊥
+  not_answers e = subst (DecidesFrom script answers c d) e h
+
+  pub not_counter : r ≡ Err fault.CounterEnd → ⊥
+  not_counter e = subst (DecidesFrom script answers c d) e h
+
+  pub fault_read : r ≡ Err fault.CertificateRead → ReadFails c d
+  fault_read e = subst (DecidesFrom script answers c d) e h
+
+pub fault_kept : (script : CappedScript) (answers : List ℕ) (c d : Reader) (r : Result Verdict ConfirmFault) → DecidesFrom script answers c d r → (r ≡ Err fault.CertificateRead) ⊎ (d.failures ≡ c.failures)
+fault_kept script answers c d (Ok v) h = inr h.1
+fault_kept script answers c d (Err fault.CertificateRead) h = inl refl
+fault_kept script answers c d (Err fault.OutOfMemory) h = inr h
+fault_kept script answers c d (Err fault.ScriptRead) h = absurd h
+fault_kept script answers c d (Err fault.AnswersRead) h = absurd h
+fault_kept script answers c d (Err fault.CounterEnd) h = absurd h
+
+-- HOW A CONFIRMATION ENDED
+
+unread_open : (r : Reader) → AtEnd (unread r) → ⊥
+unread_open r h = let k = h.0 in none k
+  where
+    none : 0 < 0 → ⊥
+    none k = absurd (omega arith)
+
+pub decides_from : (ended : Result (Unit {0}) Stop) (asks : ℕ) (script : CappedScript) (answers : List ℕ) (r : Reader) (b : Stream) (checker : Checker) (variables : List ℕ) (step : Step)
+    → ((rest : List ℕ) → IsFed (record { checker = checker; variables = variables; step = step; rest = rest }) start []) → b.source.reads ≤ most_reads
+    → Confirms ended (record { source = unread r; checker = checker; variables = variables; step = step }) b (ConfirmsAll script answers) → DecidesFrom script answers r b.source.reader (said_of ended asks)
+decides_from (Ok x) asks script answers r b checker variables step fed bound p =
+    let a : Stream = record { source = unread r; checker = checker; variables = variables; step = step } in
+    let h = moves_halt a b (unread_open r) p.0 in (
+      gave_enough r b.source h.0.0 (λ certificate. AllByRecursion CountFromOne script.0 → Decides Yes script answers certificate) h.0.1 h.1 (λ total k all. p.1 total k all (fed (rest_in total (unread r)))),
+      h.0.1.failures,
+    )
+decides_from (Err (stop.No why)) asks script answers r b checker variables step fed bound p = (
+  gave_enough r b.source p.0.0.0 (λ certificate. AllByRecursion CountFromOne script.0 → Decides (No (min (asks + 1) (2 ^ 64 - 1)) why) script answers certificate) p.0.0.1 p.0.1 (λ total k all. p.1 total k all (fed (rest_in total (unread r)))),
+  p.0.0.1.failures,
+)
+decides_from (Err stop.Read) asks script answers r b checker variables step fed bound p = read_fails r b.source p.0 bound p.1
+decides_from (Err stop.OutOfMemory) asks script answers r b checker variables step fed bound p = p.0.1.failures
+
+few_calls : (rc tc tr m : ℕ) → tc + 0 ≡ rc + tr → tr ≤ m → tc ≤ rc + m
+few_calls rc tc tr m e h = omega arith
+
+pub reads_few : (ended : Result (Unit {0}) Stop) (r : Reader) (b : Stream) (checker : Checker) (variables : List ℕ) (step : Step) (P : View → View → Result (Unit {0}) Why → Type 0) → b.source.reads ≤ most_reads
+    → Confirms ended (record { source = unread r; checker = checker; variables = variables; step = step }) b P → b.source.reader.calls ≤ r.calls + most_reads
+reads_few (Ok x) r b checker variables step P bound p = few_calls r.calls b.source.reader.calls b.source.reads most_reads p.0.1.calls bound
+reads_few (Err (stop.No why)) r b checker variables step P bound p = few_calls r.calls b.source.reader.calls b.source.reads most_reads p.0.0.1.calls bound
+reads_few (Err stop.Read) r b checker variables step P bound p = few_calls r.calls b.source.reader.calls b.source.reads most_reads p.1.calls bound
+reads_few (Err stop.OutOfMemory) r b checker variables step P bound p = few_calls r.calls b.source.reader.calls b.source.reads most_reads p.0.1.calls bound
 
 -- a script of so many commands
 pub too_many : (x y : Reader) (script : CappedScript) → IsScriptOf (GaveAll x y) script → length script.0 ≡ 2 ^ 64 - 1 → GaveEnough x y HasTooMany

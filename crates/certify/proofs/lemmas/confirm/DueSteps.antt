@@ -1,5 +1,5 @@
 -- A step that was read, compared with what is expected, and what becomes of that.
-use Rattle.std.proofs.Common.{◌≡◌, ℕ, true, false, is_ok, length, List, [], ◌∷◌, Some, None, Result, Ok, Err, refl, sym, ◌∙◌, ap, subst}
+use Rattle.std.proofs.Common.{◌≡◌, ℕ, true, false, is_ok, length, List, [], ◌∷◌, Result, Ok, Err, refl, sym, ◌∙◌, ap, subst}
 use Rattle.std.proofs.lemmas.Bool.{true≢false}
 use Rattle.sat_base.specs.device.Reading.{AtEnd}
 use Rattle.sat_base.specs.script.Script.{Literal}
@@ -8,8 +8,8 @@ use Rattle.sat_base.specs.steps.Steps.{Step, AddClause, Assumptions, Model, Fail
 use Rattle.certify.specs.answers.Answers.{Outcome, Unknown}
 use Rattle.certify.specs.checker.Accepts.{stored_after}
 use Rattle.certify.specs.checker.CheckerView.{DecidesStep}
-use Rattle.certify.specs.confirm.CertificatePlaces.{Leads, variable_in}
-use Rattle.certify.specs.confirm.Dues.{Due, due_of, Allows, SaysSo, Compares, Excuses, IsMet, MeetsDue}
+use Rattle.certify.specs.confirm.CertificatePlaces.{variable_in}
+use Rattle.certify.specs.confirm.Dues.{Due, due_of, Allows, SaysSo, Compares, Excuses, MeetsDue}
 use Rattle.certify.specs.confirm.ListChecking.{the_checking}
 use Rattle.certify.specs.confirm.Matches.{Expected, NewName, NoName, Adds, Opens, Shows, Fails, Closes, Finish, Fits, new_name, no_name, adds, opens, shows, fails, closes, finish, Excused, EachSpelt, SameSet, showing_model}
 use Rattle.certify.specs.confirm.SpeltLiterals.{IsLineOf}
@@ -19,8 +19,8 @@ use Rattle.certify.specs.confirm.Views.{View}
 use Rattle.certify.specs.declared.checker.Checker.{Checker}
 use Rattle.certify.specs.declared.confirm.expected.Expected.{Expected as CodeExpected}
 use Rattle.certify.specs.declared.confirm.expected.Expected.TheVariants as code
-use Rattle.certify.specs.declared.confirm.stepped.Awaited.{Awaited}
-use Rattle.certify.specs.declared.confirm.stepped.Awaited.TheVariants as awaited
+use Rattle.certify.specs.declared.confirm.certificate.Awaited.{Awaited}
+use Rattle.certify.specs.declared.confirm.certificate.Awaited.TheVariants as awaited
 use Rattle.certify.specs.declared.confirm.stop.Stop.{Stop}
 use Rattle.certify.specs.declared.verdict.Why.{Why}
 use Rattle.certify.proofs.lemmas.confirm.CertificatePlaces.{when_cut, leads_skip, leads_step, bars_stop, bars_skip, bars_unfit, bars_refused}

@@ -1,5 +1,5 @@
 -- How names come in.
-use Rattle.std.proofs.Common.{ℕ, zero, suc, ◌+◌, ◌-◌, ◌≤◌, ◌<◌, ◌≡◌, Bool, true, false, cond, eqb, List, [], ◌∷◌, ◌++◌, length, map, take, drop, get_or, Option, Some, None, Result, Ok, Err, refl, sym, ◌∙◌, ap, subst, arith}
+use Rattle.std.proofs.Common.{ℕ, zero, suc, ◌+◌, ◌-◌, ◌≤◌, ◌<◌, ◌≡◌, Bool, true, false, cond, eqb, List, [], ◌∷◌, ◌++◌, length, map, take, drop, get_or, Option, Some, None, Ok, refl, sym, ◌∙◌, ap, subst, arith}
 use Rattle.std.proofs.lemmas.Bool.{true≢false, eqb-true, eqb-false, ne_eqb}
 use Rattle.std.proofs.lemmas.List.{length_push, map-append, take_more, take-append-drop, append-nil}
 use Rattle.std.specs.List.{AllByRecursion, slice_get}
@@ -11,16 +11,13 @@ use Rattle.sat_base.specs.steps.Steps.{Step, UserVarName}
 use Rattle.certify.specs.checker.Accepts.{stored_after}
 use Rattle.certify.specs.answers.AnswerForms.{IsName, HaveNames}
 use Rattle.certify.specs.confirm.Checking.{variable_of}
-use Rattle.certify.specs.confirm.Matches.{NewName, Fits, Excused, new_name, bringing}
-use Rattle.certify.specs.confirm.ListChecking.{the_checking}
+use Rattle.certify.specs.confirm.Matches.{NewName, Excused, bringing}
 use Rattle.certify.specs.checker.CheckerView.{Keeps, DecidesStep}
 use Rattle.certify.specs.confirm.CertificatePlaces.{Leads, Bars, variable_in}
-use Rattle.certify.specs.confirm.CertificateSteps.{IsFed, Onward, MeetsPending, Awaits, NamesNext, FeedsName}
+use Rattle.certify.specs.confirm.CertificateSteps.{IsFed, Onward, MeetsPending, NamesNext, FeedsName}
 use Rattle.certify.specs.confirm.Views.{View}
 use Rattle.certify.specs.declared.verdict.Why.{Why}
-use Rattle.certify.specs.declared.confirm.certificate.Awaited.{Awaited}
-use Rattle.certify.specs.declared.confirm.certificate.Awaited.TheVariants as awaited
-use Rattle.certify.proofs.lemmas.confirm.CertificatePlaces.{leads_nowhere, leads_on, leads_cut, leads_step, bars_behind, bars_more, bars_unfit, bars_refused}
+use Rattle.certify.proofs.lemmas.confirm.CertificatePlaces.{leads_nowhere, leads_on, leads_cut, bars_behind, bars_more}
 use Rattle.certify.proofs.lemmas.confirm.PlainJudge.{plain_name, plain_names, plain_new, plain_bring, unused_next, from_more, from_split, with_names_append, bringing_append, bring_all_append}
 
 got_at : (vs : List ℕ) (v : ℕ) → slice_get (vs ++ v ∷ []) (length vs) ≡ Some v
@@ -60,40 +57,6 @@ puts old new v n a b i = (
         },
       )),
 )
-
-pub put_refused : (old new : View) (why : Why) → DecidesStep old.checker old.step new.checker false → FeedsName old new (Some why)
-put_refused old new why a j earlier s = a (stored_after earlier) s.keeps
-
-module _ (old mid : View) (a : Awaited) (given : Awaits old mid a) where
-  pub name_unfit : (j next : Judge) (new : View) (why : Why) (answer : Result ℕ Why) → a ≡ awaited.Step → answer ≡ Err why → NamesNext mid answer → MeetsPending old new j (NewName j.first_unused ∷ []) next (Some why)
-  name_unfit j next new why answer is e n earlier s = let h = subst (Awaits old mid) is given j earlier s in bars_unfit (NewName j.first_unused) h.offers (subst (NamesNext mid) e n j h.later h.stands h.open_yet)
-
-  pub name_goes : (j : Judge) (new : View) (v : ℕ) (answer : Result ℕ Why) (taken : Option Why) → a ≡ awaited.Step → answer ≡ Ok v → NamesNext mid answer → (NamesNext mid (Ok v) → FeedsName mid new taken) → j.first_unused ≤ largest
-      → MeetsPending old new j (NewName j.first_unused ∷ []) (with_name j.first_unused j) taken
-  name_goes j new v answer None is e n p low = λ earlier s.
-      let h = subst (Awaits old mid) is given j earlier s in
-      let next = subst (NamesNext mid) e n in
-      let put = p next in
-      let taken = put.1 j h.later h.stands h.open_yet low in
-      let fits : Fits the_checking h.later (NewName j.first_unused) mid.step = subst (λ step. Fits the_checking h.later (NewName j.first_unused) step) (sym next.0) (new_name (sym (h.stands.counted h.open_yet)) (next.1 j h.later h.stands)) in
-      record {
-        later = mid.step ∷ h.later;
-        stands = taken.1;
-        leads = subst (λ rest. Leads earlier old.rest (NewName j.first_unused ∷ []) (mid.step ∷ h.later) rest) (sym put.0) (leads_step (NewName j.first_unused) h.offers fits taken.0);
-      }
-  name_goes j new v answer (Some why) is e n p low = λ earlier s.
-      let h = subst (Awaits old mid) is given j earlier s in
-      bars_refused (NewName j.first_unused) h.offers (p (subst (NamesNext mid) e n) j h.later h.stands)
-
-  pub name_cut : (j : Judge) → a ≡ awaited.Cut → j.first_unused ≤ largest → MeetsPending old mid j (NewName j.first_unused ∷ []) (with_name j.first_unused j) None
-  name_cut j is low earlier s =
-      let h = subst (Awaits old mid) is given j earlier s in
-      let l = leads_cut h.later mid.rest (NewName j.first_unused ∷ []) h.closed (tt, tt) in
-      record {
-        later = h.later;
-        stands = record { keeps = h.stands.keeps; named = h.stands.named; plain = plain_name j low h.stands.plain; counted = λ u. absurd (true≢false (sym h.closed ∙ u)) };
-        leads = record { on = λ es m. l.on es (h.skips.on (NewName j.first_unused) es m); back = λ es m. h.skips.back (NewName j.first_unused) es (l.back es m) };
-      }
 
 excused_all : (names : List ℕ) → AllByRecursion Excused (map NewName names)
 excused_all [] = tt

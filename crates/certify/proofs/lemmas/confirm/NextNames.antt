@@ -1,33 +1,33 @@
 -- How names come in by a certificate's next steps.
-use Rattle.std.proofs.Common.{ℕ, ◌+◌, ◌-◌, ◌≤◌, ◌<◌, ◌≡◌, Bool, true, false, is_ok, List, [], ◌∷◌, ◌++◌, length, map, take, get_or, Option, Some, None, Result, Ok, Err, refl, sym, ◌∙◌, subst, arith}
+use Rattle.std.proofs.Common.{ℕ, ◌+◌, ◌-◌, ◌≤◌, ◌<◌, ◌≡◌, Bool, true, false, is_ok, List, [], ◌∷◌, ◌++◌, length, take, get_or, Some, None, Result, Ok, Err, refl, sym, ◌∙◌, subst}
 use Rattle.std.proofs.lemmas.Bool.{true≢false}
 use Rattle.std.proofs.lemmas.List.{take_all}
 use Rattle.sat_base.specs.device.Reading.{AtEnd}
 use Rattle.sat_base.specs.script.Script.{Literal, names_of}
-use Rattle.sat_base.specs.script.Judge.{Judge, with_name, bring_all}
+use Rattle.sat_base.specs.script.Judge.{Judge, bring_all}
 use Rattle.sat_base.specs.steps.Steps.{Step}
 use Rattle.certify.specs.checker.Accepts.{stored_after}
 use Rattle.certify.specs.checker.CheckerView.{Keeps, DecidesStep}
 use Rattle.certify.specs.checker.Stored.{Stored}
 use Rattle.certify.specs.answers.AnswerForms.{HaveNames}
 use Rattle.certify.specs.confirm.CertificatePlaces.{Leads}
-use Rattle.certify.specs.confirm.CertificateSteps.{IsFed, MeetsPending, NamesNext, BringsNext, BringsName, BringsAll}
+use Rattle.certify.specs.confirm.CertificateSteps.{MeetsPending, NamesNext, BringsNext}
 use Rattle.certify.specs.confirm.ListChecking.{the_checking}
 use Rattle.certify.specs.confirm.Matches.{NewName, Fits, new_name, bringing}
 use Rattle.certify.specs.confirm.NextNames.{PutsNext, Brings, BringsUpTo, BringsEach}
 use Rattle.certify.specs.confirm.Stepping.{AwaitsNext}
-use Rattle.certify.specs.confirm.Streams.{Stream, seen_in, Confirms, Says, why_of}
+use Rattle.certify.specs.confirm.Streams.{Stream, seen_in, Confirms, Says}
 use Rattle.certify.specs.confirm.Views.{View}
 use Rattle.certify.specs.declared.checker.Checker.{Checker}
-use Rattle.certify.specs.declared.confirm.stepped.Awaited.{Awaited}
-use Rattle.certify.specs.declared.confirm.stepped.Awaited.TheVariants as awaited
+use Rattle.certify.specs.declared.confirm.certificate.Awaited.{Awaited}
+use Rattle.certify.specs.declared.confirm.certificate.Awaited.TheVariants as awaited
 use Rattle.certify.specs.declared.confirm.stop.Stop.{Stop}
 use Rattle.certify.specs.declared.confirm.stop.Stop.TheVariants as stop
 use Rattle.certify.specs.declared.verdict.Why.{Why}
 use Rattle.certify.proofs.lemmas.confirm.CertificatePlaces.{leads_cut, leads_nowhere, leads_step, bars_stop, bars_unfit, bars_refused}
 use Rattle.certify.proofs.lemmas.confirm.NamesPut.{puts, NamesMet, names_none, names_cut, names_more, names_done, names_barred, brought_more, brought_barred}
 use Rattle.certify.proofs.lemmas.confirm.PlainJudge.{plain_name}
-use Rattle.certify.proofs.lemmas.confirm.Streams.{confirms_none, confirms_so, confirms_stop, confirms_then, then_stop, says_stop, says_then}
+use Rattle.certify.proofs.lemmas.confirm.Streams.{confirms_none, confirms_so, confirms_stop, confirms_then, then_stop, says_stop}
 
 -- THE NEXT NAME
 

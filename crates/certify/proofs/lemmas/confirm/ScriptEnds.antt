@@ -1,5 +1,5 @@
 -- The end of a script, and the way from its beginning.
-use Rattle.std.proofs.Common.{ℕ, IsTrue, rules, zero, suc, ◌+◌, ◌≤◌, ◌≡◌, ◌↔◌, Bool, true, false, List, [], ◌∷◌, ◌++◌, length, drop, Option, Some, None, refl, sym, ◌∙◌, ap, subst, arith}
+use Rattle.std.proofs.Common.{ℕ, IsTrue, rules, zero, suc, ◌+◌, ◌≤◌, ◌≡◌, ◌↔◌, Bool, true, false, List, [], ◌∷◌, ◌++◌, length, drop, Option, Some, None, Ok, Err, refl, sym, ◌∙◌, ap, subst, arith}
 use Rattle.std.proofs.lemmas.List.{append-nil, append_cancel_left, drop_all}
 use Rattle.std.specs.List.{AllByRecursion, slice_get}
 use Rattle.sat_base.specs.script.Judge.{Judge, after_command, start}
@@ -13,7 +13,7 @@ use Rattle.certify.specs.script.ScriptParts.{end_of}
 use Rattle.certify.specs.confirm.ConfirmedCommands.{TakesLine, ToConfirm, CountFromOne, ConfirmsCommand, ConfirmsEnd}
 use Rattle.certify.specs.confirm.CertificateSteps.{IsFed, MeetsPending}
 use Rattle.certify.specs.confirm.ListChecking.{the_checking}
-use Rattle.certify.specs.confirm.Views.{View, SessionView}
+use Rattle.certify.specs.confirm.Views.{View, SessionView, session_at}
 use Rattle.certify.specs.declared.verdict.Why.{Why}
 use Rattle.certify.proofs.lemmas.confirm.CertificatePlaces.{cut_met}
 use Rattle.certify.proofs.lemmas.confirm.LeftByCommand.{Rest, left_begins, end_on, end_back}
@@ -38,21 +38,18 @@ pub over_extra : (old : SessionView) (n : ℕ) (why : Why) → (old.answers ≡ 
 over_extra old n why x j earlier s h = x (end_on j n earlier Clean old.answers old.certificate.rest h).0
 
 -- behind the last line of the answers to a malformed text
-pub malformed_barred : (old new : SessionView) (n : ℕ) (w : Option Why) (why : Why) → w ≡ Some why → TakesLine old new (malformed_line n) w → ConfirmsEnd old n Malformed (Some why)
-malformed_barred old new n w why e t j earlier s h =
-    subst (TakesLine old new (malformed_line n)) e t [] ((end_on j n earlier Malformed old.answers old.certificate.rest h).0 ∙ sym (append-nil (malformed_line n)))
+pub malformed_barred : (before behind : List ℕ) (u : View) (n : ℕ) (why : Why) → TakesLine before behind (malformed_line n) (Err why) → ConfirmsEnd (session_at before u) n Malformed (Some why)
+malformed_barred before behind u n why t j earlier s h = t [] ((end_on j n earlier Malformed before u.rest h).0 ∙ sym (append-nil (malformed_line n)))
 
-pub malformed_then : (old new : SessionView) (n : ℕ) (w last : Option Why) → w ≡ None → TakesLine old new (malformed_line n) w → ConfirmsEnd new n Clean last → ConfirmsEnd old n Malformed last
-malformed_then old new n w None e t k = λ j earlier s.
-    let line = subst (TakesLine old new (malformed_line n)) e t in
-    let p = end_on j n earlier Clean new.answers new.certificate.rest (k j earlier (subst (λ x. IsFed x j earlier) (sym line.0) s)) in
-    end_back j n earlier Malformed old.answers old.certificate.rest (line.1 ∙ ap (λ x. malformed_line n ++ x) p.0 ∙ append-nil (malformed_line n)) (subst (λ x. CanMeet earlier (Finish ∷ []) x) (ap (λ (x : View). x.rest) line.0) p.1)
-malformed_then old new n w (Some why) e t k = λ j earlier s h.
-    let line = subst (TakesLine old new (malformed_line n)) e t in
-    let p = end_on j n earlier Malformed old.answers old.certificate.rest h in
-    k j earlier (subst (λ x. IsFed x j earlier) (sym line.0) s)
-    (end_back j n earlier Clean new.answers new.certificate.rest
-    (append_cancel_left (malformed_line n) new.answers [] (sym line.1 ∙ p.0 ∙ sym (append-nil (malformed_line n)))) (subst (λ x. CanMeet earlier (Finish ∷ []) x) (sym (ap (λ (x : View). x.rest) line.0)) p.1))
+pub malformed_then : (before behind : List ℕ) (u : View) (n : ℕ) (last : Option Why) → TakesLine before behind (malformed_line n) (Ok tt) → ConfirmsEnd (session_at behind u) n Clean last → ConfirmsEnd (session_at before u) n Malformed last
+malformed_then before behind u n None t k = λ j earlier s.
+    let p = end_on j n earlier Clean behind u.rest (k j earlier s) in
+    end_back j n earlier Malformed before u.rest (t ∙ ap (λ x. malformed_line n ++ x) p.0 ∙ append-nil (malformed_line n)) p.1
+malformed_then before behind u n (Some why) t k = λ j earlier s h.
+    let p = end_on j n earlier Malformed before u.rest h in
+    k j earlier s
+    (end_back j n earlier Clean behind u.rest
+    (append_cancel_left (malformed_line n) behind [] (sym t ∙ p.0 ∙ sym (append-nil (malformed_line n)))) p.1)
 
 -- so many commands are confirmed: the texts match exactly if the rest is confirmed
 pub record Reached (s : SessionView) (commands : List Command) (ending : Ending) (answers certificate : List ℕ) (index : ℕ) : Type 0 where

@@ -1,26 +1,22 @@
 -- One step of a certificate that is read step by step, and then another, up to the next ordered one.
-use Rattle.std.proofs.Common.{◌≡◌, ◌<◌, ℕ, Bool, true, false, is_ok, List, Option, Some, None, Result, Ok, Err, refl, sym, ◌∙◌, subst}
+use Rattle.std.proofs.Common.{◌≡◌, ◌<◌, ℕ, Bool, true, false, is_ok, List, Option, Some, None, Result, Ok, Err, refl, sym, ◌∙◌}
 use Rattle.sat_base.specs.declared.steps.error.StepError.{StepError}
 use Rattle.sat_base.specs.declared.steps.reader.Buffers.{Buffers}
 use Rattle.sat_base.specs.declared.steps.reader.StepReader.{StepReader}
 use Rattle.sat_base.specs.device.Device.{Reader}
-use Rattle.sat_base.specs.device.Reading.{AtEnd, Answers, giving}
-use Rattle.sat_base.specs.script.Judge.{Judge}
+use Rattle.sat_base.specs.device.Reading.{AtEnd, Answers}
 use Rattle.sat_base.specs.steps.StepReading.{Next, reader_source, step_in}
-use Rattle.sat_base.specs.steps.Steps.{Step}
 use Rattle.certify.specs.checker.Accepts.{stored_after}
 use Rattle.certify.specs.checker.CheckerView.{Keeps, DecidesStep}
 use Rattle.certify.specs.checker.Stored.{Stored}
 use Rattle.certify.specs.confirm.Checking.{is_ordered}
-use Rattle.certify.specs.confirm.CertificateSteps.{IsFed, StepWasPassed}
 use Rattle.certify.specs.confirm.Stepping.{ReadsOne, AwaitsNext, StepsOnce, Passed}
 use Rattle.certify.specs.confirm.Streams.{Stream, GoesOn, stream_of, bytes_left, seen_in, rest_in, Confirms, Says, stop_of}
 use Rattle.certify.specs.confirm.Views.{View}
 use Rattle.certify.specs.declared.checker.Checker.{Checker}
-use Rattle.certify.specs.declared.confirm.stepped.Awaited.{Awaited}
-use Rattle.certify.specs.declared.confirm.stepped.Awaited.TheVariants as awaited
+use Rattle.certify.specs.declared.confirm.certificate.Awaited.{Awaited}
+use Rattle.certify.specs.declared.confirm.certificate.Awaited.TheVariants as awaited
 use Rattle.certify.specs.declared.confirm.stop.Stop.{Stop}
-use Rattle.certify.specs.declared.confirm.stop.Stop.TheVariants as stop
 use Rattle.certify.specs.declared.verdict.Why.{Why}
 use Rattle.certify.proofs.lemmas.confirm.CertificatePlaces.{no_step, skips_none, skips_on, skips_stop, skips_offer}
 use Rattle.certify.proofs.lemmas.confirm.CertificateSteps.{is_cut, is_step, is_passed, is_refused}
@@ -63,12 +59,12 @@ module _ (a : Stream) (unsat : Bool) (told : (f : Stored) → Keeps a.checker f 
     steps_step p o c v = (p.0, λ total k. is_step (seen_in total a) (seen_in total b) unsat is told (p.1 total k) o c v)
 
     pub steps_passed : (next : Checker) → Confirms (Ok tt) a b ReadsOne → is_ordered b.step ≡ false → DecidesStep a.checker b.step next true → b.variables ≡ a.variables → Confirms (Ok None) a (record b { checker = next }) StepsOnce
-    steps_passed next p o d v = (p.0, λ total k. (is_passed (seen_in total a) (seen_in total (record b { checker = next })) unsat is told (p.1 total k) o d v).1)
+    steps_passed next p o d v = (p.0, λ total k. is_passed (seen_in total a) (seen_in total (record b { checker = next })) unsat is told (p.1 total k) o d v)
 
     pub steps_refused : (e : Stop) (next : Checker) → Confirms (Ok tt) a b ReadsOne → is_ordered b.step ≡ false → Says {A = Unit {0}} (Err e) (λ y. DecidesStep a.checker b.step next (is_ok y)) → Confirms {A = Option Awaited} (Err e) a (record b { checker = next }) StepsOnce
     steps_refused e next p o d =
         says_stop tt e a b next b.variables ReadsOne (λ y. DecidesStep a.checker b.step next (is_ok y)) StepsOnce open_yet
-        (λ total why r h. is_refused (seen_in total a) (seen_in total (record b { checker = next })) why (seen_in total b) unsat is told r o h) p d
+        (λ total why r h. is_refused (seen_in total a) (seen_in total (record b { checker = next })) (seen_in total b) unsat is told r o h) p d
 
 -- ROUNDS FOLLOW ONE ANOTHER
 

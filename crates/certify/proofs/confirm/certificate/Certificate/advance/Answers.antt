@@ -1,21 +1,39 @@
-use Rattle.std.proofs.Common.{true, false, refl, sym, ◌∙◌, ap, subst}
+use Rattle.std.proofs.Common.{Err, true, is_ok, refl, sym, ◌∙◌, ap, subst}
+use Rattle.std.proofs.lemmas.Result.{err_from_is_err_and}
+use Rattle.certify.specs.checker.CheckerView.{DecidesStep}
 use Rattle.certify.specs.confirm.Checking.{is_ordered}
-use Rattle.certify.specs.declared.verdict.Why.TheVariants.{StepRefused}
-use Rattle.certify.specs.confirm.ReadSteps.{ReadsNext}
-use Rattle.certify.proofs.lemmas.confirm.CertificateSteps.{is_none, is_step, is_passed, is_refused, right}
-use Rattle.certify.specs.confirm.Views.{view}
+use Rattle.certify.specs.confirm.Streams.{Says, stream}
+use Rattle.certify.proofs.lemmas.confirm.SteppedOn.{steps_none, steps_step, steps_passed, steps_refused}
 use Rattle.certify.proofs.confirm.certificate.Certificate.advance.Goals as goal
 
-pub returns-in-Some : goal.returns-in-Some
-returns-in-Some c = is_none (view c.args.self.now) (view (record c.args.self.now { source = c.read.new.self })) c.in-Some.why c.unsat.result c.if-unsat.false c.unsat.ensures c.in_ok-why.field-0 c.in-Some.is c.in_ok-why.ensures
+pub returns-in_err-read_next-clause-confirms : goal.returns-in_err-read_next-clause-confirms
+returns-in_err-read_next-clause-confirms g c =
+    let S = g.R.CountedRead.seen in
+    let v = c.args.self.now in
+    let p = err_from_is_err_and c.from_residual.result c.from_residual.ensures.1 in
+    rw (p.1, p.2) (steps_none (stream S c.args.steps.now v) c.unsat.result c.unsat.ensures (stream S c.read_next.new.steps v) c.requires.open_yet c.if-unsat.false c.in_err-read_next.field-0.0
+    (c.in_err-read_next.ensures.reads v.checker v.variables.items))
 
-pub returns-then-is_ordered : goal.returns-then-is_ordered
-returns-then-is_ordered c = is_step (view c.args.self.now) (view (record c.args.self.now { source = c.read.new.self })) c.unsat.result c.if-unsat.false c.unsat.ensures (subst (λ x. ReadsNext x c.args.self.now.source c.read.new.self) c.in_default.is c.in_ok-why.ensures) (ap is_ordered (sym c.step.ensures) ∙ sym c.is_ordered.ensures ∙ c.if-is_ordered.true) refl refl
+pub returns-then-is_ordered-clause-confirms : goal.returns-then-is_ordered-clause-confirms
+returns-then-is_ordered-clause-confirms g c =
+    let S = g.R.CountedRead.seen in
+    let v = c.args.self.now in
+    steps_step (stream S c.args.steps.now v) c.unsat.result c.unsat.ensures (stream S c.read_next.new.steps v) c.requires.open_yet c.if-unsat.false
+    (c.in_ok-read_next.ensures.reads v.checker v.variables.items) (ap is_ordered (sym c.step-step.ensures) ∙ sym c.is_ordered.ensures ∙ c.if-is_ordered.true) refl refl
 
-pub returns-then-branch : goal.returns-then-branch
-returns-then-branch c = is_passed (view c.args.self.now) (view (record c.args.self.now { source = c.read.new.self; checker = c.step-3.new.self })) c.unsat.result c.if-unsat.false c.unsat.ensures (subst (λ x. ReadsNext x c.args.self.now.source c.read.new.self) c.in_default.is c.in_ok-why.ensures) (ap is_ordered (sym c.step.ensures) ∙ sym c.is_ordered.ensures ∙ c.if-is_ordered.false)
-    (right _ _ _ _ _ true c.step-2.ensures c.if-branch.true c.in_ok-step.ensures) refl
+pub returns-in_err-feed-clause-confirms : goal.returns-in_err-feed-clause-confirms
+returns-in_err-feed-clause-confirms g c =
+    let S = g.R.CountedRead.seen in
+    let v = c.args.self.now in
+    let p = err_from_is_err_and c.from_residual-in_err-feed.result c.from_residual-in_err-feed.ensures.1 in
+    rw (p.1, p.2) (steps_refused (stream S c.args.steps.now v) c.unsat.result c.unsat.ensures (stream S c.read_next.new.steps v) c.requires.open_yet c.if-unsat.false c.in_err-feed.field-0.0 c.feed.new.checker
+    (c.in_ok-read_next.ensures.reads v.checker v.variables.items) (ap is_ordered (sym c.step-step.ensures) ∙ sym c.is_ordered.ensures ∙ c.if-is_ordered.false)
+    (subst (λ x. Says {A = Unit {0}} (Err c.in_err-feed.field-0.0) (λ y. DecidesStep v.checker x c.feed.new.checker (is_ok y))) c.step-step.ensures c.in_err-feed.ensures))
 
-pub returns-else-branch : goal.returns-else-branch
-returns-else-branch c = is_refused (view c.args.self.now) (view (record c.args.self.now { source = c.read.new.self; checker = c.step-3.new.self })) StepRefused (view (record c.args.self.now { source = c.read.new.self })) c.unsat.result c.if-unsat.false c.unsat.ensures (subst (λ x. ReadsNext x c.args.self.now.source c.read.new.self) c.in_default.is c.in_ok-why.ensures) (ap is_ordered (sym c.step.ensures) ∙ sym c.is_ordered.ensures ∙ c.if-is_ordered.false)
-    (right _ _ _ _ _ false c.step-2.ensures c.if-branch.false c.in_ok-step.ensures)
+pub returns-clause-confirms : goal.returns-clause-confirms
+returns-clause-confirms g c =
+    let S = g.R.CountedRead.seen in
+    let v = c.args.self.now in
+    steps_passed (stream S c.args.steps.now v) c.unsat.result c.unsat.ensures (stream S c.read_next.new.steps v) c.requires.open_yet c.if-unsat.false c.feed.new.checker
+    (c.in_ok-read_next.ensures.reads v.checker v.variables.items) (ap is_ordered (sym c.step-step.ensures) ∙ sym c.is_ordered.ensures ∙ c.if-is_ordered.false)
+    (subst (λ x. DecidesStep v.checker x c.feed.new.checker true) c.step-step.ensures c.in_ok-feed.ensures) refl

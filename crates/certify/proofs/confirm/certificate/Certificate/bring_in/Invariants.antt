@@ -1,11 +1,12 @@
-use Rattle.std.proofs.Common.{take, None}
-use Rattle.sat_base.specs.script.Script.{names_of}
-use Rattle.sat_base.specs.script.Judge.{Judge, bring_all}
-use Rattle.certify.specs.answers.AnswerForms.{HaveNames}
-use Rattle.certify.specs.confirm.Matches.{bringing}
-use Rattle.certify.specs.confirm.CertificateSteps.{MeetsPending}
-use Rattle.certify.specs.confirm.Views.{view}
+use Rattle.std.proofs.Common.{◌≡◌, Ok}
+use Rattle.sat_base.specs.steps.StepReading.{reader_name}
+use Rattle.certify.specs.confirm.Streams.{Confirms, GoesOn, stream}
+use Rattle.certify.proofs.lemmas.confirm.NextNames.{BroughtIn}
 use Rattle.certify.proofs.confirm.certificate.Certificate.bring_in.Given as goal
 
 abbrev pub invariant-loop-literal : goal.invariant-loop-literal
-invariant-loop-literal l = (j : Judge) → HaveNames l.literals → MeetsPending (view l.fn.self) (view l.self) j (bringing (names_of (take l.literal-index l.literals)) j) (bring_all (names_of (take l.literal-index l.literals)) j) None
+invariant-loop-literal g l = record {
+  same : reader_name l.steps ≡ reader_name l.fn.steps;
+  goes_on : GoesOn g.R.CountedRead.seen l.steps;
+  brought : Confirms (Ok tt) (stream g.R.CountedRead.seen l.fn.steps l.fn.self) (stream g.R.CountedRead.seen l.steps l.self) (BroughtIn l.literals l.literal-index);
+}

@@ -1,21 +1,34 @@
-use Rattle.std.proofs.Common.{◌≡◌, ◌-◌, ◌<◌, length, arith}
-use Rattle.certify.specs.checker.Accepts.{stored_after}
-use Rattle.certify.proofs.lemmas.confirm.NamesPut.{names_cut, names_more, names_barred, names_done}
-use Rattle.certify.specs.confirm.Views.{view}
+use Rattle.std.proofs.Common.{◌≡◌, ◌-◌, ◌<◌, length, refl, ◌∙◌, arith}
+use Rattle.std.proofs.lemmas.Result.{err_from_is_err_and}
+use Rattle.certify.specs.confirm.Streams.{stream}
+use Rattle.certify.proofs.lemmas.confirm.NextNames.{up_to_cut, up_to_stop, up_to_all, met_none, met_more}
 use Rattle.certify.proofs.confirm.certificate.Certificate.bring_name.Goals as goal
 
-pub returns-then-unsat : goal.returns-then-unsat
-returns-then-unsat c = names_cut (view c.args.self.now) c.args.name c.unsat.result c.if-unsat.true (λ earlier k. c.unsat.ensures (stored_after earlier) k)
+pub loop-done-init : goal.loop-done-init
+loop-done-init g c = record { same = refl; goes_on = c.requires; met = met_none (stream g.R.CountedRead.seen c.args.steps.now c.args.self.now) }
+
+pub returns-then-unsat-clause-confirms : goal.returns-then-unsat-clause-confirms
+returns-then-unsat-clause-confirms g c = up_to_cut (stream g.R.CountedRead.seen c.args.steps.now c.args.self.now) c.args.name c.unsat.result c.unsat.ensures c.if-unsat.true
+
+pub returns-in_err-expect_name-clause-confirms : goal.returns-in_err-expect_name-clause-confirms
+returns-in_err-expect_name-clause-confirms g c =
+    let S = g.R.CountedRead.seen in
+    let low : c.loop-done.done < c.args.name - length c.args.self.now.variables.items = omega arith in
+    let p = err_from_is_err_and c.from_residual.result c.from_residual.ensures.1 in
+    rw (p.1, p.2) (up_to_stop (stream S c.args.steps.now c.args.self.now) c.args.name c.unsat.result c.unsat.ensures (stream S c.loop-done.steps c.loop-done.self) c.loop-done.done c.if-unsat.false c.loop-done.invariant.met
+    (stream S c.expect_name.new.steps c.expect_name.new.self) c.in_err-expect_name.field-0.0 c.requires.open_yet low c.in_err-expect_name.ensures.confirms)
 
 pub loop-done-preserved : goal.loop-done-preserved
-loop-done-preserved c = names_more (view c.args.self.now) (view c.loop-done.self) (view c.expect_name.new.self) c.loop-done.done c.in_ok-why.field-0 c.in_default.is c.loop-done.invariant c.in_ok-why.ensures
+loop-done-preserved g c =
+    let S = g.R.CountedRead.seen in
+    record {
+      same = c.in_ok-expect_name.ensures.same ∙ c.loop-done.invariant.same;
+      goes_on = c.in_ok-expect_name.ensures.goes_on;
+      met = met_more (stream S c.args.steps.now c.args.self.now) (stream S c.loop-done.steps c.loop-done.self) (stream S c.expect_name.new.steps c.expect_name.new.self) c.loop-done.done c.requires.open_yet c.loop-done.invariant.met c.in_ok-expect_name.ensures.confirms;
+    }
 
-pub returns-in-Some : goal.returns-in-Some
-returns-in-Some c =
-    let low : c.loop-done.done < c.args.name - length c.args.self.now.variables.items = omega arith in
-    names_barred (view c.args.self.now) (view c.loop-done.self) (view c.expect_name.new.self) (view c.expect_name.new.self) c.args.name c.loop-done.done c.unsat.result c.in_ok-why.field-0 c.in-Some.why c.if-unsat.false (λ earlier k. c.unsat.ensures (stored_after earlier) k) low c.in-Some.is c.loop-done.invariant c.in_ok-why.ensures
-
-pub returns : goal.returns
-returns c =
+pub returns-clause-confirms : goal.returns-clause-confirms
+returns-clause-confirms g c =
+    let S = g.R.CountedRead.seen in
     let all : c.loop-done.done ≡ c.args.name - length c.args.self.now.variables.items = omega arith in
-    names_done (view c.args.self.now) (view c.loop-done.self) c.args.name c.loop-done.done c.unsat.result c.if-unsat.false (λ earlier k. c.unsat.ensures (stored_after earlier) k) all c.loop-done.invariant
+    up_to_all (stream S c.args.steps.now c.args.self.now) c.args.name c.unsat.result c.unsat.ensures (stream S c.loop-done.steps c.loop-done.self) c.loop-done.done c.if-unsat.false c.loop-done.invariant.met all

@@ -1,23 +1,48 @@
-use Rattle.std.proofs.Common.{◌≤◌, ◌∷◌, [], Ok}
-use Rattle.sat_base.specs.values.Literals.{largest}
-use Rattle.sat_base.specs.script.Judge.{Judge, with_name}
-use Rattle.certify.specs.confirm.Matches.{NewName}
-use Rattle.certify.specs.confirm.CertificateSteps.{MeetsPending, NamesNext, FeedsName}
-use Rattle.certify.proofs.lemmas.confirm.CertificateSteps.{none_goes, ok_so}
-use Rattle.certify.proofs.lemmas.confirm.NamesPut.{name_cut, name_goes, name_unfit}
-use Rattle.certify.specs.confirm.Views.{view}
+use Rattle.std.proofs.Common.{Ok, Err, ℕ, subst}
+use Rattle.std.proofs.lemmas.Result.{err_from_is_err_and}
+use Rattle.sat_base.specs.steps.StepViews.{step_of}
+use Rattle.certify.specs.confirm.NextNames.{PutsNext}
+use Rattle.certify.specs.confirm.Stepping.{AwaitsNext}
+use Rattle.certify.specs.confirm.Streams.{Confirms, Says, stream}
+use Rattle.certify.proofs.lemmas.confirm.NextNames.{brings_stop, brings_cut, brings_unfit, brings_refused, brings_put}
 use Rattle.certify.proofs.confirm.certificate.Certificate.expect_name.Goals as goal
 
-pub returns-in-Cut : goal.returns-in-Cut
-returns-in-Cut c = λ j low. name_cut (view c.args.self.now) (view c.await_ordered.new.self) c.in_ok-await_ordered.field-0 c.in_ok-await_ordered.ensures j c.in-Cut.is low
+pub returns-in_err-await_ordered-clause-confirms : goal.returns-in_err-await_ordered-clause-confirms
+returns-in_err-await_ordered-clause-confirms g c =
+    let S = g.R.CountedRead.seen in
+    let p = err_from_is_err_and c.from_residual.result c.from_residual.ensures.1 in
+    rw (p.1, p.2) (brings_stop (stream S c.args.steps.now c.args.self.now) (stream S c.await_ordered.new.steps c.await_ordered.new.self) c.requires.open_yet c.in_err-await_ordered.field-0.0 c.in_err-await_ordered.ensures.confirms)
 
-pub returns-in-No : goal.returns-in-No
-returns-in-No c = λ j low. none_goes (λ k. NewName k.first_unused) (view c.args.self.now) (view c.await_ordered.new.self) c.in_ok-await_ordered.field-0 c.in_ok-await_ordered.ensures j (with_name j.first_unused j) (view c.await_ordered.new.self) c.in-No.why c.in-No.is
+pub returns-in-Cut-clause-confirms : goal.returns-in-Cut-clause-confirms
+returns-in-Cut-clause-confirms g c =
+    let S = g.R.CountedRead.seen in
+    let a = stream S c.args.steps.now c.args.self.now in
+    let b = stream S c.await_ordered.new.steps c.await_ordered.new.self in
+    brings_cut a b c.requires.open_yet (subst (λ x. Confirms (Ok x) a b AwaitsNext) c.in-Cut.is c.in_ok-await_ordered.ensures.confirms)
 
-pub returns-in-Ok : goal.returns-in-Ok
-returns-in-Ok c = ok_so c.put_name.result (λ why. NamesNext (view c.await_ordered.new.self) (Ok c.in-Ok.variable) → FeedsName (view c.await_ordered.new.self) (view c.put_name.new.self) why)
-    (λ why. (j : Judge) → j.first_unused ≤ largest → MeetsPending (view c.args.self.now) (view c.put_name.new.self) j (NewName j.first_unused ∷ []) (with_name j.first_unused j) why)
-    (λ taken p j low. name_goes (view c.args.self.now) (view c.await_ordered.new.self) c.in_ok-await_ordered.field-0 c.in_ok-await_ordered.ensures j (view c.put_name.new.self) c.in-Ok.variable c.next_name.result taken c.in-Step.is c.in-Ok.is c.next_name.ensures p low) c.put_name.ensures
+pub returns-in_err-variable-clause-confirms : goal.returns-in_err-variable-clause-confirms
+returns-in_err-variable-clause-confirms g c =
+    let S = g.R.CountedRead.seen in
+    let a = stream S c.args.steps.now c.args.self.now in
+    let m = c.await_ordered.new.self in
+    let b = stream S c.await_ordered.new.steps m in
+    let p = err_from_is_err_and c.from_residual-in_err-variable.result c.from_residual-in_err-variable.ensures.1 in
+    rw (p.1, p.2) (brings_unfit a b c.requires.open_yet (step_of c.step-step.result) c.step-step.ensures (subst (λ x. Confirms (Ok x) a b AwaitsNext) c.in-Step.is c.in_ok-await_ordered.ensures.confirms) c.in_err-variable.field-0.0
+    (subst (λ vs. Says {A = ℕ} (Err c.in_err-variable.field-0.0) (PutsNext m.checker vs (step_of c.step-step.result))) c.deref.ensures.value c.in_err-variable.ensures))
 
-pub returns-in-Err : goal.returns-in-Err
-returns-in-Err c = λ j low. name_unfit (view c.args.self.now) (view c.await_ordered.new.self) c.in_ok-await_ordered.field-0 c.in_ok-await_ordered.ensures j (with_name j.first_unused j) (view c.await_ordered.new.self) c.in-Err.why c.next_name.result c.in-Step.is c.in-Err.is c.next_name.ensures
+pub returns-in_err-feed-clause-confirms : goal.returns-in_err-feed-clause-confirms
+returns-in_err-feed-clause-confirms g c =
+    let S = g.R.CountedRead.seen in
+    let a = stream S c.args.steps.now c.args.self.now in
+    let b = stream S c.await_ordered.new.steps c.await_ordered.new.self in
+    let p = err_from_is_err_and c.from_residual-in_err-feed.result c.from_residual-in_err-feed.ensures.1 in
+    rw (p.1, p.2) (brings_refused a b c.requires.open_yet (step_of c.step-step.result) c.step-step.ensures (subst (λ x. Confirms (Ok x) a b AwaitsNext) c.in-Step.is c.in_ok-await_ordered.ensures.confirms) c.in_err-feed.field-0.0 c.feed.new.checker c.in_err-feed.ensures)
+
+pub returns-clause-confirms : goal.returns-clause-confirms
+returns-clause-confirms g c =
+    let S = g.R.CountedRead.seen in
+    let a = stream S c.args.steps.now c.args.self.now in
+    let m = c.await_ordered.new.self in
+    let b = stream S c.await_ordered.new.steps m in
+    brings_put a b c.requires.open_yet (step_of c.step-step.result) c.step-step.ensures (subst (λ x. Confirms (Ok x) a b AwaitsNext) c.in-Step.is c.in_ok-await_ordered.ensures.confirms) c.in_ok-variable.variable c.feed.new.checker c.push.new.self.items
+    (subst (λ vs. PutsNext m.checker vs (step_of c.step-step.result) (Ok c.in_ok-variable.variable)) c.deref.ensures.value c.in_ok-variable.ensures) c.in_ok-feed.ensures c.in_ok-push.ensures.items

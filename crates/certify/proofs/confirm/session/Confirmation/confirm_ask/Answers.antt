@@ -1,30 +1,25 @@
-use Rattle.std.proofs.Common.{subst}
-use Rattle.sat_base.specs.script.Script.{Ask}
-use Rattle.sat_base.specs.script.Judge.{Judge}
-use Rattle.certify.specs.answers.AnswerReading.{outcome_of}
-use Rattle.certify.specs.confirm.Matches.{showing}
-use Rattle.certify.specs.confirm.ConfirmedCommands.{ReadsAnswer, ConfirmsCommand}
-use Rattle.certify.specs.confirm.CertificateSteps.{MeetsPending}
-use Rattle.certify.proofs.lemmas.confirm.CommandsConfirmed.{ask_without_names, ask_without_assumptions, ask_without_answer, ask_unshown, ask_confirmed}
-use Rattle.certify.specs.confirm.Views.{view, session_view}
+use Rattle.std.proofs.lemmas.Result.{err_from_is_err_and}
+use Rattle.certify.specs.confirm.Streams.{stream}
+use Rattle.certify.proofs.lemmas.confirm.SessionSteps.{ask_stops, ask_unopened, ask_goes}
 use Rattle.certify.proofs.confirm.session.Confirmation.confirm_ask.Goals as goal
 
-pub returns-in-Some : goal.returns-in-Some
-returns-in-Some c = λ n. ask_without_names (session_view c.args.self.now) (view c.bring_in.new.self) n c.args.literals.now c.in_ok-why.field-0 c.requires c.in_ok-why.ensures (session_view (record c.args.self.now { certificate = c.bring_in.new.self })) c.in-Some.why c.in-Some.is
+pub returns-in_err-bring_in-clause-confirms : goal.returns-in_err-bring_in-clause-confirms
+returns-in_err-bring_in-clause-confirms g c = λ n.
+    let S = g.R.CountedRead.seen in
+    let left = c.args.self.now.answers.left.now in
+    let p = err_from_is_err_and c.from_residual.result c.from_residual.ensures.1 in
+    rw (p.1, p.2) (ask_stops (stream S c.args.steps.now c.args.self.now.certificate) (stream S c.bring_in.new.steps c.bring_in.new.self) n c.args.literals.now c.requires.named left left c.in_err-bring_in.field-0.0 c.in_err-bring_in.ensures.confirms)
 
-pub returns-in-Some-2 : goal.returns-in-Some-2
-returns-in-Some-2 c = λ n. ask_without_assumptions (session_view c.args.self.now) (view c.bring_in.new.self) n c.args.literals.now c.in_ok-why.field-0 c.requires c.in_ok-why.ensures c.in_default.is (view c.expect_ask.new.self) c.in_ok-why-2.field-0 c.in_ok-why-2.ensures (session_view (record c.args.self.now { certificate = c.expect_ask.new.self })) c.in-Some-2.why c.in-Some-2.is
+pub returns-in_err-expect-clause-confirms : goal.returns-in_err-expect-clause-confirms
+returns-in_err-expect-clause-confirms g c = λ n.
+    let S = g.R.CountedRead.seen in
+    let left = c.args.self.now.answers.left.now in
+    let p = err_from_is_err_and c.from_residual-in_err-expect.result c.from_residual-in_err-expect.ensures.1 in
+    rw (p.1, p.2) (ask_unopened (stream S c.args.steps.now c.args.self.now.certificate) (stream S c.bring_in.new.steps c.bring_in.new.self) n c.args.literals.now c.requires.named (stream S c.expect.new.steps c.expect.new.self)
+    c.requires.goes_on.open_yet c.in_ok-bring_in.ensures.confirms left left c.in_err-expect.field-0.0 c.in_err-expect.ensures.confirms)
 
-pub returns-in-Err : goal.returns-in-Err
-returns-in-Err c = λ n. ask_without_answer (session_view c.args.self.now) (view c.bring_in.new.self) n c.args.literals.now c.in_ok-why.field-0 c.requires c.in_ok-why.ensures c.in_default.is (view c.expect_ask.new.self) c.in_ok-why-2.field-0 c.in_ok-why-2.ensures c.in_default-2.is (session_view c.read_answer.new.self) c.in-Err.why (subst (ReadsAnswer (session_view (record c.args.self.now { certificate = c.expect_ask.new.self })) (session_view c.read_answer.new.self)) c.in-Err.is c.in_ok-answer.ensures.answer)
-
-pub returns-in-Some-3 : goal.returns-in-Some-3
-returns-in-Some-3 c = λ n. ask_unshown (session_view c.args.self.now) (view c.bring_in.new.self) n c.args.literals.now c.in_ok-why.field-0 c.requires c.in_ok-why.ensures c.in_default.is (view c.expect_ask.new.self) c.in_ok-why-2.field-0 c.in_ok-why-2.ensures c.in_default-2.is (outcome_of c.in-Ok.kind c.read_answer.new.self.line.items) c.read_answer.new.self.answers.now (subst (ReadsAnswer (session_view (record c.args.self.now { certificate = c.expect_ask.new.self })) (session_view c.read_answer.new.self)) c.in-Ok.is c.in_ok-answer.ensures.answer) (session_view c.show.new.self) (view c.show.new.self.certificate) c.in-Some-3.why (subst (λ w. (j : Judge) → MeetsPending (view c.expect_ask.new.self) (view c.show.new.self.certificate) j (showing j c.args.literals.now (outcome_of c.in-Ok.kind c.read_answer.new.self.line.items)) j w) c.in-Some-3.is (subst (λ x. (j : Judge) → MeetsPending (view x) (view c.show.new.self.certificate) j (showing j c.args.literals.now (outcome_of c.in-Ok.kind c.read_answer.new.self.line.items)) j c.in_ok-why-3.field-0) c.read_answer.ensures.kept c.in_ok-why-3.ensures.shows))
-
-pub returns-in-Some-4 : goal.returns-in-Some-4
-returns-in-Some-4 c = λ n. subst (ConfirmsCommand (session_view c.args.self.now) (session_view (record c.show.new.self { certificate = c.close.new.self })) n (Ask c.args.literals.now)) c.in-Some-4.is
-    (ask_confirmed (session_view c.args.self.now) (view c.bring_in.new.self) n c.args.literals.now c.in_ok-why.field-0 c.requires c.in_ok-why.ensures c.in_default.is (view c.expect_ask.new.self) c.in_ok-why-2.field-0 c.in_ok-why-2.ensures c.in_default-2.is (outcome_of c.in-Ok.kind c.read_answer.new.self.line.items) c.read_answer.new.self.answers.now (subst (ReadsAnswer (session_view (record c.args.self.now { certificate = c.expect_ask.new.self })) (session_view c.read_answer.new.self)) c.in-Ok.is c.in_ok-answer.ensures.answer) (session_view (record c.show.new.self { certificate = c.close.new.self })) (view c.show.new.self.certificate) c.in_ok-why-4.field-0 (subst (λ w. (j : Judge) → MeetsPending (view c.expect_ask.new.self) (view c.show.new.self.certificate) j (showing j c.args.literals.now (outcome_of c.in-Ok.kind c.read_answer.new.self.line.items)) j w) c.in_default-3.is (subst (λ x. (j : Judge) → MeetsPending (view x) (view c.show.new.self.certificate) j (showing j c.args.literals.now (outcome_of c.in-Ok.kind c.read_answer.new.self.line.items)) j c.in_ok-why-3.field-0) c.read_answer.ensures.kept c.in_ok-why-3.ensures.shows)) c.in_ok-why-4.ensures c.show.ensures.kept)
-
-pub returns : goal.returns
-returns c = λ n. subst (ConfirmsCommand (session_view c.args.self.now) (session_view (record c.show.new.self { certificate = c.close.new.self; asks = c.saturating_add-self.result })) n (Ask c.args.literals.now)) c.in_default-4.is
-    (ask_confirmed (session_view c.args.self.now) (view c.bring_in.new.self) n c.args.literals.now c.in_ok-why.field-0 c.requires c.in_ok-why.ensures c.in_default.is (view c.expect_ask.new.self) c.in_ok-why-2.field-0 c.in_ok-why-2.ensures c.in_default-2.is (outcome_of c.in-Ok.kind c.read_answer.new.self.line.items) c.read_answer.new.self.answers.now (subst (ReadsAnswer (session_view (record c.args.self.now { certificate = c.expect_ask.new.self })) (session_view c.read_answer.new.self)) c.in-Ok.is c.in_ok-answer.ensures.answer) (session_view (record c.show.new.self { certificate = c.close.new.self; asks = c.saturating_add-self.result })) (view c.show.new.self.certificate) c.in_ok-why-4.field-0 (subst (λ w. (j : Judge) → MeetsPending (view c.expect_ask.new.self) (view c.show.new.self.certificate) j (showing j c.args.literals.now (outcome_of c.in-Ok.kind c.read_answer.new.self.line.items)) j w) c.in_default-3.is (subst (λ x. (j : Judge) → MeetsPending (view x) (view c.show.new.self.certificate) j (showing j c.args.literals.now (outcome_of c.in-Ok.kind c.read_answer.new.self.line.items)) j c.in_ok-why-3.field-0) c.read_answer.ensures.kept c.in_ok-why-3.ensures.shows)) c.in_ok-why-4.ensures c.show.ensures.kept)
+pub returns-clause-confirms : goal.returns-clause-confirms
+returns-clause-confirms g c = λ n.
+    let S = g.R.CountedRead.seen in
+    ask_goes (stream S c.args.steps.now c.args.self.now.certificate) (stream S c.bring_in.new.steps c.bring_in.new.self) n c.args.literals.now c.requires.named (stream S c.expect.new.steps c.expect.new.self)
+    c.requires.goes_on.open_yet c.in_ok-bring_in.ensures.confirms (stream S c.answer.new.steps c.answer.new.self.certificate) c.args.self.now.answers.left.now c.answer.new.self.answers.left.now c.answer.result c.in_ok-expect.ensures.confirms c.answer.ensures.confirms

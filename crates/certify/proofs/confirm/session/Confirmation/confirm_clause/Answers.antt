@@ -1,18 +1,17 @@
-use Rattle.std.proofs.Common.{ℕ, ◌∷◌, [], refl}
-use Rattle.sat_base.specs.script.Script.{Clause}
-use Rattle.sat_base.specs.script.Judge.{Judge}
-use Rattle.certify.specs.confirm.Matches.{Adds}
-use Rattle.certify.specs.confirm.ConfirmedCommands.{ConfirmsCommand}
-use Rattle.certify.specs.confirm.CertificateSteps.{MeetsPending}
-use Rattle.certify.proofs.lemmas.confirm.CertificateSteps.{ok_so}
-use Rattle.certify.proofs.lemmas.confirm.CommandsConfirmed.{clause_unnamed, clause_confirmed}
-use Rattle.certify.specs.confirm.Views.{view, session_view}
+use Rattle.std.proofs.lemmas.Result.{err_from_is_err_and}
+use Rattle.certify.specs.confirm.Streams.{stream}
+use Rattle.certify.proofs.lemmas.confirm.SessionSteps.{clause_stops, clause_goes}
 use Rattle.certify.proofs.confirm.session.Confirmation.confirm_clause.Goals as goal
 
-pub returns-in-Some : goal.returns-in-Some
-returns-in-Some c = λ n. clause_unnamed (session_view c.args.self.now) (session_view (record c.args.self.now { certificate = c.bring_in.new.self })) (view c.bring_in.new.self) n c.args.literals.now c.in_ok-why.field-0 c.in-Some.why c.requires c.in-Some.is c.in_ok-why.ensures
+pub returns-in_err-bring_in-clause-confirms : goal.returns-in_err-bring_in-clause-confirms
+returns-in_err-bring_in-clause-confirms g c = λ n.
+    let S = g.R.CountedRead.seen in
+    let p = err_from_is_err_and c.from_residual.result c.from_residual.ensures.1 in
+    rw (p.1, p.2) (clause_stops (stream S c.args.steps.now c.args.self.now.certificate) (stream S c.bring_in.new.steps c.bring_in.new.self) n c.args.literals.now c.requires.named c.args.self.now.answers.left.now
+    c.in_err-bring_in.field-0.0 c.in_err-bring_in.ensures.confirms)
 
-pub returns : goal.returns
-returns c = ok_so c.expect_clause.result (λ w. (j : Judge) → MeetsPending (view c.bring_in.new.self) (view c.expect_clause.new.self) j (Adds c.args.literals.now ∷ []) j w)
-    (λ w. (n : ℕ) → ConfirmsCommand (session_view c.args.self.now) (session_view (record c.args.self.now { certificate = c.expect_clause.new.self })) n (Clause c.args.literals.now) w)
-    (λ w a n. clause_confirmed (session_view c.args.self.now) (session_view (record c.args.self.now { certificate = c.expect_clause.new.self })) (view c.bring_in.new.self) n c.args.literals.now c.in_ok-why.field-0 w c.requires c.in_default.is c.in_ok-why.ensures a refl) c.expect_clause.ensures
+pub returns-clause-confirms : goal.returns-clause-confirms
+returns-clause-confirms g c = λ n.
+    let S = g.R.CountedRead.seen in
+    clause_goes (stream S c.args.steps.now c.args.self.now.certificate) (stream S c.bring_in.new.steps c.bring_in.new.self) n c.args.literals.now c.requires.named (stream S c.expect.new.steps c.expect.new.self)
+    c.requires.goes_on.open_yet c.in_ok-bring_in.ensures.confirms c.args.self.now.answers.left.now c.expect.result c.expect.ensures.confirms

@@ -1,14 +1,16 @@
-use Rattle.std.proofs.Common.{ℕ}
-use Rattle.sat_base.specs.script.Script.{Clean, Malformed}
-use Rattle.certify.specs.confirm.ConfirmedCommands.{ConfirmsEnd}
-use Rattle.certify.proofs.lemmas.confirm.CertificateSteps.{ok_so}
-use Rattle.certify.proofs.lemmas.confirm.ScriptEnds.{malformed_barred, malformed_then}
-use Rattle.certify.specs.confirm.Views.{session_view}
+use Rattle.std.proofs.lemmas.Result.{err_from_is_err_and}
+use Rattle.certify.specs.confirm.Streams.{stream}
+use Rattle.certify.proofs.lemmas.confirm.SessionSteps.{rest_refused, rest_goes}
 use Rattle.certify.proofs.confirm.session.Confirmation.confirm_malformed.Goals as goal
 
-pub returns-in-Some : goal.returns-in-Some
-returns-in-Some c = malformed_barred (session_view c.args.self.now) (session_view c.refuse_rest.new.self) c.args.number c.in_ok-why.field-0 c.in-Some.why c.in-Some.is c.in_ok-why.ensures
+pub returns-in_err-refuse_rest-clause-confirms : goal.returns-in_err-refuse_rest-clause-confirms
+returns-in_err-refuse_rest-clause-confirms g c =
+    let S = g.R.CountedRead.seen in
+    let p = err_from_is_err_and c.from_residual.result c.from_residual.ensures.1 in
+    rw (p.1, p.2) (rest_refused (stream S c.args.steps.now c.args.self.now.certificate) c.args.self.now.answers.left.now c.refuse_rest.new.self.left.now c.args.number c.in_err-refuse_rest.field-0.0 c.requires.open_yet c.in_err-refuse_rest.ensures)
 
-pub returns : goal.returns
-returns c = ok_so c.confirm_over.result (λ w. (n : ℕ) → ConfirmsEnd (session_view c.refuse_rest.new.self) n Clean w) (ConfirmsEnd (session_view c.args.self.now) c.args.number Malformed)
-    (λ last k. malformed_then (session_view c.args.self.now) (session_view c.refuse_rest.new.self) c.args.number c.in_ok-why.field-0 last c.in_default.is c.in_ok-why.ensures (k c.args.number)) c.confirm_over.ensures
+pub returns-clause-confirms : goal.returns-clause-confirms
+returns-clause-confirms g c =
+    let S = g.R.CountedRead.seen in
+    rest_goes (stream S c.args.steps.now c.args.self.now.certificate) c.args.self.now.answers.left.now c.refuse_rest.new.self.left.now c.args.number (stream S c.confirm_over.new.steps c.confirm_over.new.self.certificate) c.confirm_over.result
+    c.in_ok-refuse_rest.ensures (c.confirm_over.ensures.confirms c.args.number)

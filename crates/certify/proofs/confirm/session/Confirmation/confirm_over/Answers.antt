@@ -1,14 +1,15 @@
-use Rattle.certify.specs.declared.verdict.Why.TheVariants.{AnswerExtra}
-use Rattle.certify.proofs.lemmas.confirm.CertificateSteps.{nothing_in, something_in}
-use Rattle.certify.proofs.lemmas.confirm.ScriptEnds.{over_barred, over_done, over_extra}
-use Rattle.certify.specs.confirm.Views.{view, session_view}
+use Rattle.std.proofs.lemmas.Result.{err_from_is_err_and}
+use Rattle.certify.specs.confirm.Streams.{stream}
+use Rattle.certify.proofs.lemmas.confirm.SessionSteps.{end_stops, end_goes}
 use Rattle.certify.proofs.confirm.session.Confirmation.confirm_over.Goals as goal
 
-pub returns-in-Some : goal.returns-in-Some
-returns-in-Some c = λ n. over_barred (session_view c.args.self.now) (view c.finish.new.self) c.in_ok-why.field-0 c.in_ok-why.ensures n c.in-Some.why c.in-Some.is
+pub returns-in_err-expect-clause-confirms : goal.returns-in_err-expect-clause-confirms
+returns-in_err-expect-clause-confirms g c = λ n.
+    let S = g.R.CountedRead.seen in
+    let p = err_from_is_err_and c.from_residual.result c.from_residual.ensures.1 in
+    rw (p.1, p.2) (end_stops (stream S c.args.steps.now c.args.self.now.certificate) (stream S c.expect.new.steps c.expect.new.self) c.args.self.now.answers.left.now n c.in_err-expect.field-0.0 c.in_err-expect.ensures.confirms)
 
-pub returns-then-is_empty : goal.returns-then-is_empty
-returns-then-is_empty c = λ n. over_done (session_view c.args.self.now) (view c.finish.new.self) c.in_ok-why.field-0 c.in_ok-why.ensures n c.in_default.is (nothing_in c.args.self.now.answers.now c.is_empty.result c.is_empty.ensures c.if-is_empty.true)
-
-pub returns-else-is_empty : goal.returns-else-is_empty
-returns-else-is_empty c = λ n. over_extra (session_view c.args.self.now) n AnswerExtra (something_in c.args.self.now.answers.now c.is_empty.result c.is_empty.ensures c.if-is_empty.false)
+pub returns-clause-confirms : goal.returns-clause-confirms
+returns-clause-confirms g c = λ n.
+    let S = g.R.CountedRead.seen in
+    end_goes (stream S c.args.steps.now c.args.self.now.certificate) (stream S c.expect.new.steps c.expect.new.self) c.args.self.now.answers.left.now n c.expect_over.result c.requires.open_yet c.in_ok-expect.ensures.confirms c.expect_over.ensures
