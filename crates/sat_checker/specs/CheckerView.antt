@@ -1,5 +1,5 @@
 -- What contracts see of a checker: the steps that it accepted, its input clauses among them, and whether it has failed.
-use Rattle.std.specs.Prelude.{ℕ, ◌≡◌, ◌+◌, ◌≤◌, Bool, true, false, List, ◌∷◌, Result, Ok, Err}
+use Rattle.std.specs.Prelude.{ℕ, ◌≡◌, ◌+◌, ◌≤◌, Bool, true, false, None, List, ◌∷◌, Result, Ok, Err}
 use Rattle.sat_base.specs.steps.Steps.{Step, AddClause}
 use Rattle.sat_checker.specs.Stored.{Stored}
 use Rattle.sat_checker.specs.Storing.{settled}
@@ -17,6 +17,10 @@ has_failed c = c.failed
 
 abbrev pub looks_of : Checker → ℕ
 looks_of c = c.looks
+
+-- no unit conflict waits for the id of its empty clause
+abbrev pub IsSettled : Checker → Type 0
+IsSettled c = c.state.formula.status.conflict ≡ None
 
 -- What these steps leave is kept. A unit conflict that they left pending may be settled by now.
 pub record KeepsAfter (state : State) (steps : List Step) : Type 0 where

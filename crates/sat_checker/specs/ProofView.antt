@@ -8,7 +8,7 @@ use Rattle.sat_base.specs.steps.StepText.{SpellsStep, SpellsSteps}
 use Rattle.sat_checker.specs.Spent.{IsSpent}
 use Rattle.sat_checker.specs.Accepts.{Accepts, stored_after, ready_after}
 use Rattle.sat_checker.specs.Looks.{most_looks}
-use Rattle.sat_checker.specs.CheckerView.{has_failed, looks_of, Stands, Fails}
+use Rattle.sat_checker.specs.CheckerView.{has_failed, looks_of, IsSettled, Stands, Fails}
 use Rattle.sat_checker.specs.inner.StateView.{SpentBy}
 use Rattle.sat_checker.specs.declared.checker.Checker.{Checker}
 use Rattle.sat_checker.specs.declared.error.CheckerError.{CheckerError}
@@ -50,7 +50,7 @@ GoesOn new steps = Stands new steps × (has_failed new ≡ false)
 -- What an answer to a proof means, where these steps were accepted before. `Ok` comes exactly where what was read are accepted steps up to the first end, of which nothing behind is looked at.
 abbrev pub AnswersProof : Result Unit CheckerError → Checker → Checker → Reader → Reader → List Step → Type 0
 AnswersProof (Ok x) old new from to earlier =
-    (passed : List Step) × (rest : List ℕ) × Went old new from to earlier passed (End ∷ []) rest × NoneFailed from to × GoesOn new (End ∷ taken_after passed earlier)
+    (passed : List Step) × (rest : List ℕ) × Went old new from to earlier passed (End ∷ []) rest × NoneFailed from to × GoesOn new (End ∷ taken_after passed earlier) × IsSettled new
 -- the last step read is refused
 AnswersProof (Err errors.CheckFailed) old new from to earlier =
     (passed : List Step) × (step : Step) × (rest : List ℕ) × Went old new from to earlier passed (step ∷ []) rest × NoneFailed from to

@@ -1,5 +1,5 @@
 //! The stored formula: clauses, units, and what is recorded of them.
-ghost use Rattle.std.specs.Prelude.{◌≡◌, ◌+◌, ◌≤◌, ◌*◌, ℕ, [], ◌∷◌, length, IfOk, OnErr, IsErrOf, IsTrue, ◌↔◌, MatchBool, ◌<◌, map, not, ◌&&◌};
+ghost use Rattle.std.specs.Prelude.{◌≡◌, ◌+◌, ◌≤◌, ◌*◌, ℕ, [], ◌∷◌, length, IfOk, OnOk, OnErr, IsErrOf, None, IsTrue, ◌↔◌, MatchBool, ◌<◌, map, not, ◌&&◌};
 ghost use Rattle.sat_base.specs.steps.Steps.{DeleteClause, Redundant, Satisfied, Simplified};
 ghost use Rattle.std.specs.List.{list_any};
 ghost use Rattle.sat_base.specs.values.Literals.{negated};
@@ -62,6 +62,7 @@ impl Formula {
     /// The empty clause of a pending unit conflict takes the next id.
     pub fn settle(&mut self) -> Result<(), StoreError>
         ensures settles { Becomes result self.old settled self.new }
+        ensures none { OnOk result (self.new.status.conflict ≡ None) }
         ensures spent { OnErr result (IsErrOf result CounterEnd) }
     {
         if self.status.conflict.is_some() {

@@ -12,7 +12,7 @@ use Rattle.sat_base.specs.steps.StepText.{SpellsStep, SpellsSteps}
 use Rattle.sat_checker.specs.Spent.{IsSpent}
 use Rattle.sat_checker.specs.Accepts.{Accepts, stored_after, ready_after}
 use Rattle.sat_checker.specs.Looks.{most_looks}
-use Rattle.sat_checker.specs.CheckerView.{looks_of, Fails}
+use Rattle.sat_checker.specs.CheckerView.{looks_of, IsSettled, Fails}
 use Rattle.sat_checker.specs.ProofView.{taken_after, most_looks_behind, GoesOn}
 use Rattle.sat_checker.specs.inner.StateView.{SpentBy}
 use Rattle.sat_checker.specs.declared.checker.Checker.{Checker}
@@ -93,5 +93,5 @@ pub record Passed (a b : Turn) (earlier passed : List Step) : Type 0 where
 
 -- a pending unit conflict is settled, or there is no id for it
 abbrev pub Settles : Result Unit CheckerError → Checker → Checker → List Step → Type 0
-Settles (Ok x) old new steps = (looks_of new ≡ looks_of old) × GoesOn new steps
+Settles (Ok x) old new steps = (looks_of new ≡ looks_of old) × GoesOn new steps × IsSettled new
 Settles (Err e) old new steps = (looks_of new ≡ looks_of old) × (e ≡ errors.CounterEnd) × IsSpent (ready_after steps) × Fails new steps

@@ -48,7 +48,8 @@ fn is_end(step: &ProofStep<'_>) -> bool
 }
 
 impl Checker {
-    /// Reads and checks the steps of a proof up to its `End`; nothing behind that is looked at. One step is held at a time.
+    /// Reads and checks the steps of a proof up to its `End`, where a pending unit conflict is settled; nothing behind that is
+    /// looked at. One step is held at a time.
     /// The steps accepted before an error stand. A proof that can't be read or is cut off leaves the checker going on.
     pub fn check_proof<R: CountedRead>(&mut self, reader: &mut R) -> Result<(), CheckerError>
         ensures { ChecksProof result self.old self.new (R.seen reader.old) (R.seen reader.new) }

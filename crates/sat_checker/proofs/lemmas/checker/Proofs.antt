@@ -286,6 +286,7 @@ finishes a b c d (Ok u) earlier xs x e h k p t is s =
       record { well = w.well; steps = w.steps; unended = w.unended; looks = looks_kept _ (looks_of c.checker) (looks_of d) w.looks s.0 },
       kept_by 0 a b c earlier xs _ p t.passes,
       subst (λ (z : Step). GoesOn d (z ∷ taken_after xs earlier)) is s.1,
+      s.2,
     )
 finishes a b c d (Err g) earlier xs x e h k p t is s =
     let w : Went a.checker c.checker a.source.reader c.source.reader earlier xs (x ∷ []) ([] ++ c.source.waiting) = went_tried a b c earlier xs x e h k p t in
