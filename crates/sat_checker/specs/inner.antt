@@ -12,3 +12,4 @@ pub mod StateView
 pub mod ModelTests
 pub mod ProofSteps
 pub mod DimacsPieces
+pub mod Reasons

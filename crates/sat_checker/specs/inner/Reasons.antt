@@ -1,0 +1,85 @@
+-- What a walk notes of the clauses that it passes, and how that leads to what its conflict rests on.
+use Rattle.std.specs.Prelude.{ℕ, ◌≡◌, ◌+◌, ◌<◌, Bool, true, false, List, [], ◌∷◌, ◌++◌, map, filter, Option, None, Some, length}
+use Rattle.std.specs.List.{AllByRecursion}
+use Rattle.sat_base.specs.values.Literals.{negated}
+use Rattle.sat_checker.specs.Looks.{total_length}
+use Rattle.sat_checker.specs.Stored.{StoredClause}
+use Rattle.sat_checker.specs.announcements.Needed.{Ground, ground}
+use Rattle.sat_checker.specs.announcements.Promises.{Reason}
+use Rattle.sat_checker.specs.announcements.Following.{followed_back}
+use Rattle.sat_checker.specs.inner.SlotView.{Slot, slot_at, literals_at, is_filed}
+use Rattle.sat_checker.specs.declared.passed.Passed.{Passed}
+use Rattle.sat_checker.specs.declared.passed.Reason as noted
+use Rattle.sat_checker.specs.declared.rup.Walked.{Walked}
+use Rattle.sat_checker.specs.declared.rup.Walked.TheVariants.{Empty, Conflict, Open}
+
+abbrev pub clause_at : List Slot → ℕ → StoredClause
+clause_at slots place = (slot_at slots place).clause
+
+-- the clauses of a hash
+abbrev pub filed : ℕ → List Slot → List StoredClause
+filed hash slots = map (λ s. s.clause) (filter (is_filed hash) slots)
+
+-- the clauses of the hashes, in the order named
+abbrev pub named : List ℕ → List Slot → List StoredClause
+named [] slots = []
+named (hash ∷ hashes) slots = filed hash slots ++ named hashes slots
+
+abbrev pub reason_in : List Slot → noted.Reason → Reason
+reason_in slots r = record { clause = clause_at slots r.place; literal = r.lit }
+
+-- the clauses that made a literal true, in the order passed
+abbrev pub reasons_in : List Slot → Passed → List Reason
+reasons_in slots passed = map (reason_in slots) passed.reasons.items
+
+-- what the falsified clause rests on by itself
+abbrev pub conflict_at : List Slot → Option ℕ → Ground
+conflict_at slots None = record { literals = []; clauses = [] }
+conflict_at slots (Some place) = record { literals = map negated (clause_at slots place).literals; clauses = clause_at slots place ∷ [] }
+
+-- each place that was noted is there
+abbrev pub AreThere : List Slot → Passed → Type 0
+AreThere slots passed = AllByRecursion (λ r. r.place < length slots) passed.reasons.items
+
+-- the falsified clause was noted, and is there
+abbrev pub IsThere : List Slot → Option ℕ → Type 0
+IsThere slots None = ⊥
+IsThere slots (Some place) = place < length slots
+
+-- the number of literals of the clauses that were noted
+abbrev pub conflict_length : List Slot → Option ℕ → ℕ
+conflict_length slots None = 0
+conflict_length slots (Some place) = length (literals_at slots place)
+
+abbrev pub noted_length : List Slot → Passed → ℕ
+noted_length slots passed = total_length (map (λ r. literals_at slots r.place) passed.reasons.items) + conflict_length slots passed.conflict
+
+-- From the old notes, under the assumed literals and before these clauses, the walk came to the new notes, under more literals and before those that are left: what the conflict rests on is the same.
+pub record Leads (slots : List Slot) (old : Passed) (assumed : List ℕ) (clauses : List StoredClause) (new : Passed) (more : List ℕ) (left : List StoredClause) : Type 0 where
+  pub same : (rest : List StoredClause) →
+      followed_back (reasons_in slots old) (ground assumed (clauses ++ rest)) ≡ followed_back (reasons_in slots new) (ground more (left ++ rest))
+  pub there : AreThere slots old → AreThere slots new
+
+-- The walk met its conflict in these clauses, and the notes explain it.
+pub record Ends (slots : List Slot) (old : Passed) (assumed : List ℕ) (clauses : List StoredClause) (new : Passed) : Type 0 where
+  pub same : (rest : List StoredClause) →
+      followed_back (reasons_in slots old) (ground assumed (clauses ++ rest)) ≡ followed_back (reasons_in slots new) (conflict_at slots new.conflict)
+  pub there : AreThere slots old → AreThere slots new
+  pub met : IsThere slots new.conflict
+
+-- by whether it met its conflict
+abbrev pub Records : List Slot → Bool → Passed → List ℕ → List StoredClause → Passed → List ℕ → Type 0
+Records slots true old assumed clauses new more = Ends slots old assumed clauses new
+Records slots false old assumed clauses new more = Leads slots old assumed clauses new more []
+
+-- by how it ended over a bucket
+abbrev pub RecordsWalk : List Slot → Walked → Passed → List ℕ → List StoredClause → Passed → List ℕ → Type 0
+RecordsWalk slots Empty old assumed clauses new more = Unit {0}
+RecordsWalk slots Conflict old assumed clauses new more = Ends slots old assumed clauses new
+RecordsWalk slots Open old assumed clauses new more = Leads slots old assumed clauses new more []
+
+-- The notes explain what the conflict of these clauses rests on, under the assumed literals.
+pub record Explains (slots : List Slot) (passed : Passed) (whole : Ground) : Type 0 where
+  pub same : whole ≡ followed_back (reasons_in slots passed) (conflict_at slots passed.conflict)
+  pub there : AreThere slots passed
+  pub met : IsThere slots passed.conflict
