@@ -14,6 +14,7 @@ pub mod laws;
 pub(crate) mod lit_set;
 pub mod looks;
 pub(crate) mod passed;
+pub(crate) mod recording;
 pub mod rup;
 pub mod slots;
 pub mod sorted_lits;

@@ -14,14 +14,14 @@ use std::alloc::AllocError;
 
 /// What a clause says under the assumed literals.
 #[derive(Clone, Copy)]
-enum Look {
+pub(crate) enum Look {
     Falsified,
     Opens(Lit),
     Rests,
 }
 
 #[inline(always)]
-fn look_at(assigned: &Assigned, clause: &[Lit]) -> Look
+pub(crate) fn look_at(assigned: &Assigned, clause: &[Lit]) -> Look
     ensures { verdict_of result ≡ verdict assigned.now clause.now }
 {
     let mut open = None;
@@ -60,7 +60,7 @@ fn meet(assigned: &mut Assigned, clause: &[Lit]) -> Result<bool, AllocError>
 
 /// How a walk over a bucket ended.
 #[derive(Clone, Copy)]
-enum Walked {
+pub(crate) enum Walked {
     Empty,
     Conflict,
     Open,
@@ -115,7 +115,7 @@ fn walk_hashes(
 
 /// Assumes the negations of a clause's literals. The answer is whether a literal was true already.
 #[tactic(auto, using(crate::proofs::lemmas::propagation::Denied::denying))]
-fn deny(assigned: &mut Assigned, clause: &[Lit]) -> Result<bool, AllocError>
+pub(crate) fn deny(assigned: &mut Assigned, clause: &[Lit]) -> Result<bool, AllocError>
     ensures denied { IfOk result (λ met. denied assigned.old clause.now ≡ (if met then None else Some assigned.new)) }
     ensures extends { Extends assigned.old assigned.new }
 {

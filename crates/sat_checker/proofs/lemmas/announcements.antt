@@ -9,3 +9,4 @@ pub mod Backwards
 pub mod Exact
 pub mod Deletions
 pub mod Following
+pub mod Noting

@@ -1,0 +1,200 @@
+-- A walk that notes what it passes leads from what its clauses rest on to what its notes say.
+use Rattle.std.proofs.Common.{ℕ, zero, suc, ◌+◌, ◌<◌, ◌≤◌, ◌≡◌, Bool, true, false, not, ◌||◌, cond, eqb, List, [], ◌∷◌, ◌++◌, length, drop, get_or, map, filter, refl, sym, ◌∙◌, ap, subst, arith, Option, Some, None, ◌⊎◌, inl, inr}
+use Rattle.std.proofs.lemmas.List.{append_assoc, append-nil, map-append, drop_more}
+use Rattle.std.proofs.lemmas.Bool.{both_ways}
+use Rattle.std.specs.List.{AllByRecursion, list_any}
+use Rattle.sat_checker.specs.Looks.{total_length}
+use Rattle.sat_checker.specs.Stored.{StoredClause}
+use Rattle.sat_base.specs.values.Literals.{negated}
+use Rattle.sat_checker.specs.LiteralSets.{is_among, is_tautology}
+use Rattle.sat_checker.specs.inner.Walk.{Verdict, falsified, opens, rests, verdict, verdict_of_open, not_false, denied}
+use Rattle.sat_checker.specs.announcements.Needed.{with_reason, ground_by, ground}
+use Rattle.sat_checker.specs.announcements.Following.{followed_back}
+use Rattle.sat_checker.specs.inner.SlotView.{Slot, slot_at, literals_at, is_filed, places_from, places_of}
+use Rattle.sat_checker.specs.inner.Reasons.{clause_at, filed, named, reason_in, reasons_in, conflict_at, conflict_length, noted_length, AreThere, IsThere, Leads, Ends, Explains}
+use Rattle.sat_checker.specs.declared.passed.Passed.{Passed}
+use Rattle.sat_checker.specs.declared.passed.Reason as noted
+use Rattle.sat_checker.proofs.lemmas.propagation.Walking.{walking}
+use Rattle.sat_checker.proofs.lemmas.propagation.Denied.{denied_none, denied_some}
+use Rattle.sat_checker.proofs.lemmas.announcements.Following.{passed_open, passed_over, passed_conflict}
+
+all_push : (P : noted.Reason → Type 0) (rs : List noted.Reason) (r : noted.Reason) → AllByRecursion P rs → P r → AllByRecursion P (rs ++ r ∷ [])
+all_push P [] r h p = (p, tt)
+all_push P (x ∷ xs) r h p = (h.0, all_push P xs r h.1 p)
+
+length_push : (ss : List Slot) (rs : List noted.Reason) (r : noted.Reason) → total_length (map (λ x. literals_at ss x.place) (rs ++ r ∷ [])) ≡ total_length (map (λ x. literals_at ss x.place) rs) + length (literals_at ss r.place)
+length_push ss [] r = omega arith
+length_push ss (x ∷ xs) r = let e : total_length (map (λ y. literals_at ss y.place) (xs ++ r ∷ [])) ≡ total_length (map (λ y. literals_at ss y.place) xs) + length (literals_at ss r.place) = length_push ss xs r in omega arith
+
+-- one clause, by what it says
+module _ (ss : List Slot) (old new : Passed) (assumed : List ℕ) (place : ℕ) (inside : place < length ss) where
+  pub leads_open : (l : ℕ) → verdict assumed (literals_at ss place) ≡ opens l → new.reasons.items ≡ old.reasons.items ++ (record { place = place; lit = l }) ∷ [] → Leads ss old assumed (clause_at ss place ∷ []) new (l ∷ assumed) []
+  leads_open l v e =
+      let r : noted.Reason = record { place = place; lit = l } in
+      let notes : reasons_in ss new ≡ reasons_in ss old ++ reason_in ss r ∷ [] = ap (map (reason_in ss)) e ∙ map-append (reason_in ss) old.reasons.items (r ∷ []) in
+      record {
+        same = λ rest. passed_open (followed_back (reasons_in ss old) (ground assumed (clause_at ss place ∷ rest))) (reasons_in ss old) assumed (clause_at ss place) rest refl l v
+            ∙ ap (λ rs. followed_back rs (ground (l ∷ assumed) rest)) (sym notes);
+        there = λ h. subst (AllByRecursion (λ x. x.place < length ss)) (sym e) (all_push (λ x. x.place < length ss) old.reasons.items r h inside);
+      }
+
+  pub leads_over : verdict assumed (literals_at ss place) ≡ rests → Leads ss old assumed (clause_at ss place ∷ []) old assumed []
+  leads_over v = record {
+    same = λ rest. passed_over (followed_back (reasons_in ss old) (ground assumed (clause_at ss place ∷ rest))) (reasons_in ss old) assumed (clause_at ss place) rest refl v;
+    there = λ h. h;
+  }
+
+  pub ends_there : verdict assumed (literals_at ss place) ≡ falsified → new.reasons.items ≡ old.reasons.items → new.conflict ≡ Some place → Ends ss old assumed (clause_at ss place ∷ []) new
+  ends_there v e k = record {
+    same = λ rest. passed_conflict (followed_back (reasons_in ss old) (ground assumed (clause_at ss place ∷ rest))) (reasons_in ss old) assumed (clause_at ss place) rest refl v
+        ∙ ap (λ rs. followed_back (map (reason_in ss) rs) (conflict_at ss (Some place))) (sym e) ∙ ap (λ c. followed_back (reasons_in ss new) (conflict_at ss c)) (sym k);
+    there = λ h. subst (AllByRecursion (λ x. x.place < length ss)) (sym e) h;
+    met = subst (IsThere ss) (sym k) inside;
+  }
+
+  pub read_open : (l : ℕ) → new.reasons.items ≡ old.reasons.items ++ (record { place = place; lit = l }) ∷ [] → new.conflict ≡ old.conflict → noted_length ss new ≤ noted_length ss old + length (literals_at ss place)
+  read_open l e k =
+      let r : noted.Reason = record { place = place; lit = l } in
+      let n : total_length (map (λ x. literals_at ss x.place) new.reasons.items) ≡ total_length (map (λ x. literals_at ss x.place) old.reasons.items) + length (literals_at ss place) =
+      ap (λ rs. total_length (map (λ (x : noted.Reason). literals_at ss x.place) rs)) e ∙ length_push ss old.reasons.items r in
+      let c : conflict_length ss new.conflict ≡ conflict_length ss old.conflict = ap (conflict_length ss) k in
+      omega arith
+
+  pub read_conflict : new.reasons.items ≡ old.reasons.items → new.conflict ≡ Some place → noted_length ss new ≤ noted_length ss old + length (literals_at ss place)
+  read_conflict e k =
+      let n : total_length (map (λ x. literals_at ss x.place) new.reasons.items) ≡ total_length (map (λ x. literals_at ss x.place) old.reasons.items) =
+      ap (λ rs. total_length (map (λ (x : noted.Reason). literals_at ss x.place) rs)) e in
+      let c : conflict_length ss new.conflict ≡ length (literals_at ss place) = ap (conflict_length ss) k in
+      omega arith
+
+-- a walk, and a walk over what it left
+module _ (ss : List Slot) (old mid new : Passed) (assumed more most : List ℕ) (cs front left : List StoredClause) (first : Leads ss old assumed cs mid more (front ++ left)) where
+  pub leads_further : Leads ss mid more front new most [] → Leads ss old assumed cs new most left
+  leads_further then = record {
+    same = λ rest. first.same rest ∙ ap (λ xs. followed_back (reasons_in ss mid) (ground more xs)) (append_assoc front left rest) ∙ then.same (left ++ rest);
+    there = λ h. then.there (first.there h);
+  }
+
+  pub ends_further : Ends ss mid more front new → Ends ss old assumed cs new
+  ends_further then = record {
+    same = λ rest. first.same rest ∙ ap (λ xs. followed_back (reasons_in ss mid) (ground more xs)) (append_assoc front left rest) ∙ then.same (left ++ rest);
+    there = λ h. then.there (first.there h);
+    met = then.met;
+  }
+
+pub leads_itself : (ss : List Slot) (passed : Passed) (assumed : List ℕ) (cs : List StoredClause) → Leads ss passed assumed cs passed assumed cs
+leads_itself ss passed assumed cs = record { same = λ rest. refl; there = λ h. h }
+
+-- the clauses of a hash are those at its places
+filed_from : (ss all : List Slot) (k hash : ℕ) → ((i : ℕ) → slot_at all (k + i) ≡ slot_at ss i) → filed hash ss ≡ map (clause_at all) (places_from k hash ss)
+filed_from [] all k hash h = refl
+filed_from (s ∷ ss) all k hash h =
+    let here : clause_at all k ≡ s.clause = let z : k + 0 ≡ k = omega arith in ap (clause_at all) (sym z) ∙ ap (λ (x : Slot). x.clause) (h 0) in
+    go (is_filed hash s) here (filed_from ss all (k + 1) hash (λ i. let z : (k + 1) + i ≡ k + suc i = omega arith in ap (slot_at all) z ∙ h (suc i)))
+  where
+    go : (b : Bool) → clause_at all k ≡ s.clause → filed hash ss ≡ map (clause_at all) (places_from (k + 1) hash ss)
+        → map (λ x. x.clause) (cond b (s ∷ filter (is_filed hash) ss) (filter (is_filed hash) ss)) ≡ map (clause_at all) (cond b (k ∷ places_from (k + 1) hash ss) (places_from (k + 1) hash ss))
+    go true e ih = ap (λ c. c ∷ filed hash ss) (sym e) ∙ ap (λ cs. clause_at all k ∷ cs) ih
+    go false e ih = ih
+
+pub filed_at : (hash : ℕ) (ss : List Slot) (places : List ℕ) → places_of hash ss ≡ places → filed hash ss ≡ map (clause_at ss) places
+filed_at hash ss places e = filed_from ss ss 0 hash (λ i. let z : 0 + i ≡ i = omega arith in ap (slot_at ss) z) ∙ ap (map (clause_at ss)) e
+
+-- places, one after another
+module _ (ss : List Slot) (places : List ℕ) (i : ℕ) (inside : i < length places) where
+  pub next_clause : map (clause_at ss) (drop i places) ≡ clause_at ss (get_or places i 0) ∷ map (clause_at ss) (drop (i + 1) places)
+  next_clause = ap (map (clause_at ss)) (drop_more places i 0 inside)
+
+  pub next_named : named (drop i places) ss ≡ filed (get_or places i 0) ss ++ named (drop (i + 1) places) ss
+  next_named = ap (λ hs. named hs ss) (drop_more places i 0 inside)
+
+module _ (ss : List Slot) (old mid new : Passed) (assumed more most : List ℕ) where
+  -- the first place of a hash, and those behind it
+  module _ (hash place : ℕ) (places : List ℕ) (all : places_of hash ss ≡ place ∷ places) where
+    pub leads_first : Leads ss old assumed (clause_at ss place ∷ []) new most [] → Leads ss old assumed (filed hash ss) new most (map (clause_at ss) places)
+    leads_first h =
+        subst (λ cs. Leads ss old assumed cs new most (map (clause_at ss) places)) (sym (filed_at hash ss (place ∷ places) all))
+        (leads_further ss old old new assumed assumed most (map (clause_at ss) (place ∷ places)) (clause_at ss place ∷ []) (map (clause_at ss) places) (leads_itself ss old assumed (map (clause_at ss) (place ∷ places))) h)
+
+    pub ends_first : Ends ss old assumed (clause_at ss place ∷ []) new → Ends ss old assumed (filed hash ss) new
+    ends_first h =
+        subst (λ cs. Ends ss old assumed cs new) (sym (filed_at hash ss (place ∷ places) all))
+        (ends_further ss old old new assumed assumed most (map (clause_at ss) (place ∷ places)) (clause_at ss place ∷ []) (map (clause_at ss) places) (leads_itself ss old assumed (map (clause_at ss) (place ∷ places))) h)
+
+  -- the place, or the hash, at i is passed next
+  module _ (numbers : List ℕ) (i : ℕ) (inside : i < length numbers) (cs : List StoredClause) where
+    pub leads_next : Leads ss old assumed cs mid more (map (clause_at ss) (drop i numbers)) → Leads ss mid more (clause_at ss (get_or numbers i 0) ∷ []) new most [] → Leads ss old assumed cs new most (map (clause_at ss) (drop (i + 1) numbers))
+    leads_next h k =
+        leads_further ss old mid new assumed more most cs (clause_at ss (get_or numbers i 0) ∷ []) (map (clause_at ss) (drop (i + 1) numbers))
+        (subst (λ xs. Leads ss old assumed cs mid more xs) (next_clause ss numbers i inside) h) k
+
+    pub ends_next : Leads ss old assumed cs mid more (map (clause_at ss) (drop i numbers)) → Ends ss mid more (clause_at ss (get_or numbers i 0) ∷ []) new → Ends ss old assumed cs new
+    ends_next h k =
+        ends_further ss old mid new assumed more most cs (clause_at ss (get_or numbers i 0) ∷ []) (map (clause_at ss) (drop (i + 1) numbers))
+        (subst (λ xs. Leads ss old assumed cs mid more xs) (next_clause ss numbers i inside) h) k
+
+    pub leads_hash : Leads ss old assumed cs mid more (named (drop i numbers) ss) → Leads ss mid more (filed (get_or numbers i 0) ss) new most [] → Leads ss old assumed cs new most (named (drop (i + 1) numbers) ss)
+    leads_hash h k =
+        leads_further ss old mid new assumed more most cs (filed (get_or numbers i 0) ss) (named (drop (i + 1) numbers) ss)
+        (subst (λ xs. Leads ss old assumed cs mid more xs) (next_named ss numbers i inside) h) k
+
+    pub ends_hash : Leads ss old assumed cs mid more (named (drop i numbers) ss) → Ends ss mid more (filed (get_or numbers i 0) ss) new → Ends ss old assumed cs new
+    ends_hash h k =
+        ends_further ss old mid new assumed more most cs (filed (get_or numbers i 0) ss) (named (drop (i + 1) numbers) ss)
+        (subst (λ xs. Leads ss old assumed cs mid more xs) (next_named ss numbers i inside) h) k
+
+pub ruleset noting = (walking, leads_itself, leads_first, ends_first, leads_next, ends_next)
+
+-- What clauses rest on depends on which literals are assumed, not on their order.
+abbrev SameMembers : List ℕ → List ℕ → Type 0
+SameMembers us vs = (l : ℕ) → is_among us l ≡ is_among vs l
+
+not_false_same : (us vs clause : List ℕ) → SameMembers us vs → not_false us clause ≡ not_false vs clause
+not_false_same us vs [] same = refl
+not_false_same us vs (l ∷ ls) same =
+    ap (λ b. cond (not b) (l ∷ not_false us ls) (not_false us ls)) (same (negated l)) ∙ ap (λ xs. cond (not (is_among vs (negated l))) (l ∷ xs) xs) (not_false_same us vs ls same)
+
+open_same : (us vs ls : List ℕ) → SameMembers us vs → verdict_of_open us ls ≡ verdict_of_open vs ls
+open_same us vs [] same = refl
+open_same us vs (l ∷ []) same = ap (λ b. cond b rests (opens l)) (same l)
+open_same us vs (l ∷ m ∷ ls) same = refl
+
+pub ground_same : (cs : List StoredClause) (us vs : List ℕ) → ((l : ℕ) → is_among us l ≡ is_among vs l) → ground us cs ≡ ground vs cs
+ground_same [] us vs same = refl
+ground_same (c ∷ cs) us vs same =
+    ap (λ v. ground_by v c us (λ more. ground more cs)) (ap (verdict_of_open us) (not_false_same us vs c.literals same) ∙ open_same us vs (not_false vs c.literals) same)
+    ∙ go (ground_same cs) (verdict vs c.literals)
+  where
+    go : ((xs ys : List ℕ) → SameMembers xs ys → ground xs cs ≡ ground ys cs) → (v : Verdict) → ground_by v c us (λ more. ground more cs) ≡ ground_by v c vs (λ more. ground more cs)
+    go ih falsified = refl
+    go ih (opens l) = ap (with_reason l c) (ih (l ∷ us) (l ∷ vs) (λ m. ap (λ b. eqb l m || b) (same m)))
+    go ih rests = ih us vs same
+
+both_same : (a b : Bool) → (a ≡ true → b ≡ true) → (b ≡ true → a ≡ true) → a ≡ b
+both_same true b f g = sym (f refl)
+both_same false true f g = g refl
+both_same false false f g = refl
+
+-- nothing is noted yet
+pub nothing_noted : (ss : List Slot) (passed : Passed) → passed.reasons.items ≡ [] → passed.conflict ≡ None → noted_length ss passed ≡ 0
+nothing_noted ss passed e k =
+    let n : total_length (map (λ x. literals_at ss x.place) passed.reasons.items) ≡ 0 = ap (λ rs. total_length (map (λ (x : noted.Reason). literals_at ss x.place) rs)) e in
+    let c : conflict_length ss passed.conflict ≡ 0 = ap (conflict_length ss) k in
+    omega arith
+
+-- A walk that starts with no notes, under the negated clause, ends with notes that explain the ground of its conflict.
+pub explained : (ss : List Slot) (old new : Passed) (units clause more hashes : List ℕ) → old.reasons.items ≡ [] → denied units clause ≡ Some more → Ends ss old more (named hashes ss) new
+    → Explains ss new (ground (map negated clause ++ units) (named hashes ss))
+explained ss old new units clause more hashes e d h =
+    let k = denied_some clause units more d in
+    let none : reasons_in ss old ≡ [] = ap (map (reason_in ss)) e in
+    record {
+      same = ground_same (named hashes ss) (map negated clause ++ units) more (λ l. both_same (is_among (map negated clause ++ units) l) (is_among more l) (k.enough.each l) (k.only.each l))
+          ∙ ap (ground more) (sym (append-nil (named hashes ss))) ∙ ap (λ rs. followed_back rs (ground more (named hashes ss ++ []))) (sym none) ∙ h.same [];
+      there = h.there (subst (AllByRecursion (λ x. x.place < length ss)) (sym e) tt);
+      met = h.met;
+    }
+
+-- all negations can be assumed where no unit is true in the clause and it has no variable with both signs
+pub never_met : (clause units : List ℕ) → denied units clause ≡ None → list_any (is_among units) clause ≡ false → is_tautology clause ≡ false → ⊥
+never_met clause units e u t = elim (denied_none clause units e) [ inl a ↦ both_ways (list_any (is_among units) clause) u a | inr b ↦ both_ways (is_tautology clause) t b ]

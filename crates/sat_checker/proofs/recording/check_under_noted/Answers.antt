@@ -1,0 +1,37 @@
+use Rattle.std.proofs.Common.{◌≡◌, true, Result, Ok, Err, IfOk, map, refl, arith}
+use Rattle.sat_checker.specs.inner.SlotView.{bucket_of}
+use Rattle.sat_checker.specs.inner.Reasons.{noted_length}
+use Rattle.sat_checker.proofs.lemmas.propagation.Denied.{exact_when_met, exact_when_walked}
+use Rattle.sat_checker.proofs.lemmas.store.Buckets.{buckets_once}
+use Rattle.sat_checker.proofs.lemmas.announcements.Noting.{nothing_noted, explained, never_met}
+use Rattle.sat_checker.proofs.recording.check_under_noted.Goals as goal
+
+if_ok : {A E : Type 0} (r : Result A E) (P Q : A → Type 0) → ((x : A) → P x → Q x) → IfOk r P → IfOk r Q
+if_ok (Ok x) P Q w h = w x h
+if_ok (Err e) P Q w h = tt
+
+pub returns-then-branch-clause-exact : goal.returns-then-branch-clause-exact
+returns-then-branch-clause-exact c =
+    exact_when_met c.args.assigned.now c.args.clause.now (map (bucket_of c.args.clauses.now) c.args.hashes.now) true (rw c.if-branch.true at c.in_ok-deny.ensures.denied) refl
+
+pub returns-clause-exact : goal.returns-clause-exact
+returns-clause-exact c =
+    if_ok c.walk_hashes_noted.result _ _
+    (λ answer found. exact_when_walked c.args.assigned.now c.args.clause.now c.deny.new.assigned (map (bucket_of c.args.clauses.now) c.args.hashes.now) answer (buckets_once c.args.clauses.now c.args.hashes.now c.len-count.ensures.increasing) (rw c.if-branch.false at c.in_ok-deny.ensures.denied) found)
+    c.walk_hashes_noted.ensures.found
+
+pub returns-clause-explained : goal.returns-clause-explained
+returns-clause-explained c =
+    if_ok c.walk_hashes_noted.result _ _
+    (λ answer ends. λ yes' _ _. explained c.args.clauses.now c.clear.new.self c.walk_hashes_noted.new.passed c.args.assigned.now c.args.clause.now c.deny.new.assigned c.args.hashes.now c.clear.ensures.reasons (rw c.if-branch.false at c.in_ok-deny.ensures.denied) (ends yes'))
+    c.walk_hashes_noted.ensures.noted
+
+pub returns-clause-read : goal.returns-clause-read
+returns-clause-read c =
+    let n : noted_length c.args.clauses.now c.clear.new.self ≡ 0 = nothing_noted c.args.clauses.now c.clear.new.self c.clear.ensures.reasons c.clear.ensures.conflict in
+    if_ok c.walk_hashes_noted.result _ _ (λ answer read. omega (arith, n, read)) c.walk_hashes_noted.ensures.read
+
+-- a literal was true
+pub returns-then-branch-clause-explained : goal.returns-then-branch-clause-explained
+returns-then-branch-clause-explained c = λ _ u t.
+    absurd (never_met c.args.clause.now c.args.assigned.now (rw c.if-branch.true at c.in_ok-deny.ensures.denied) u t)

@@ -1,0 +1,35 @@
+use Rattle.std.proofs.Common.{length, get_or, ◌∙◌, refl, arith}
+use Rattle.sat_checker.specs.inner.SlotView.{bucket_of}
+use Rattle.sat_checker.specs.inner.Reasons.{named}
+use Rattle.sat_checker.proofs.lemmas.propagation.Walking.{Extends-itself, Extends-further, buckets-open}
+use Rattle.sat_checker.proofs.lemmas.store.Buckets.{walked_more, walked_within}
+use Rattle.sat_checker.proofs.lemmas.announcements.Noting.{leads_itself, leads_hash, ends_hash}
+use Rattle.sat_checker.proofs.recording.walk_hashes_noted.Goals as goal
+
+pub returns-in_err-walk_bucket_noted-clause-looks : goal.returns-in_err-walk_bucket_noted-clause-looks
+returns-in_err-walk_bucket_noted-clause-looks c =
+    walked_within c.args.looks.now c.loop-hash.looks c.walk_bucket_noted.new.looks c.loop-hash.hash-index (length c.args.hashes.now) (get_or c.args.hashes.now c.loop-hash.hash-index 0) c.args.clauses.now
+    c.loop-hash.invariant.looks c.walk_bucket_noted.ensures.looks c.loop-hash-test.true
+
+pub returns-in-Conflict-clause-looks : goal.returns-in-Conflict-clause-looks
+returns-in-Conflict-clause-looks c =
+    walked_within c.args.looks.now c.loop-hash.looks c.walk_bucket_noted.new.looks c.loop-hash.hash-index (length c.args.hashes.now) (get_or c.args.hashes.now c.loop-hash.hash-index 0) c.args.clauses.now
+    c.loop-hash.invariant.looks c.walk_bucket_noted.ensures.looks c.loop-hash-test.true
+
+pub returns-in-Conflict-clause-noted : goal.returns-in-Conflict-clause-noted
+returns-in-Conflict-clause-noted c = λ _.
+    ends_hash c.args.clauses.now c.args.passed.now c.loop-hash.passed c.walk_bucket_noted.new.passed c.args.assigned.now c.loop-hash.assigned c.walk_bucket_noted.new.assigned c.args.hashes.now c.loop-hash.hash-index c.loop-hash-test.true
+    (named c.args.hashes.now c.args.clauses.now) c.loop-hash.invariant.leads (rw c.in-Conflict.is at c.in_ok-walk_bucket_noted.ensures.noted)
+
+pub loop-hash-preserved : goal.loop-hash-preserved
+loop-hash-preserved c =
+    let says = rw c.in-Open.is at c.in_ok-walk_bucket_noted.ensures.says in
+    record {
+      walked = c.loop-hash.invariant.walked ∙ buckets-open (bucket_of c.args.clauses.now) c.args.hashes.now c.loop-hash.hash-index c.loop-hash-test.true c.loop-hash.assigned c.walk_bucket_noted.new.assigned says.0 says.1;
+      extends = Extends-further c.args.assigned.now c.loop-hash.assigned c.walk_bucket_noted.new.assigned c.loop-hash.invariant.extends c.walk_bucket_noted.ensures.extends;
+      looks = walked_more c.args.looks.now c.loop-hash.looks c.walk_bucket_noted.new.looks c.loop-hash.hash-index (get_or c.args.hashes.now c.loop-hash.hash-index 0) c.args.clauses.now
+          c.loop-hash.invariant.looks c.walk_bucket_noted.ensures.looks;
+      leads = leads_hash c.args.clauses.now c.args.passed.now c.loop-hash.passed c.walk_bucket_noted.new.passed c.args.assigned.now c.loop-hash.assigned c.walk_bucket_noted.new.assigned c.args.hashes.now c.loop-hash.hash-index c.loop-hash-test.true
+          (named c.args.hashes.now c.args.clauses.now) c.loop-hash.invariant.leads (rw c.in-Open.is at c.in_ok-walk_bucket_noted.ensures.noted);
+      read = omega (arith, c.loop-hash.invariant.read, c.in_ok-walk_bucket_noted.ensures.read);
+    }

@@ -1,0 +1,157 @@
+//! The propagation check where somebody listens: the same walk, which notes the clauses that it passes.
+ghost use Rattle.std.specs.Prelude.{ℕ, ◌≡◌, ◌+◌, ◌*◌, ◌<◌, ◌≤◌, [], ◌∷◌, ◌++◌, length, IfOk, if◌then◌else◌, None, Some, map, false, IsTrue, ◌↔◌};
+ghost use Rattle.std.specs.List.{list_any};
+ghost use Rattle.sat_base.specs.values.Literals.{negated};
+ghost use Rattle.sat_checker.specs.LiteralSets.{is_among, is_tautology};
+ghost use Rattle.sat_checker.specs.Looks.{total_length};
+ghost use Rattle.sat_checker.specs.Propagation.{PassesCheck};
+ghost use Rattle.sat_checker.specs.announcements.Needed.{ground};
+ghost use Rattle.sat_checker.specs.inner.Look.{Extends, Says};
+ghost use Rattle.sat_checker.specs.inner.Reasons.{clause_at, filed, named, noted_length, Records, RecordsWalk, Ends, Explains};
+ghost use Rattle.sat_checker.specs.inner.SlotView.{literals_at, bucket_in, bucket_of, live_length};
+ghost use Rattle.sat_checker.specs.inner.Walk.{verdict, walk_on, walk_buckets};
+
+use crate::assigned::Assigned;
+use crate::clauses::Clauses;
+use crate::looks::Looks;
+use crate::passed::Passed;
+use crate::rup::{Look, Walked, deny, look_at};
+use sat_base::{ClauseHash, Lit};
+use std::alloc::AllocError;
+
+/// Takes what the clause at a place opens, and notes it. The answer is whether the clause was falsified.
+#[tactic(auto, using(crate::proofs::lemmas::propagation::Walking::meeting))]
+fn meet_noted(
+    clauses: &Clauses,
+    place: usize,
+    assigned: &mut Assigned,
+    passed: &mut Passed,
+    looks: &mut Looks,
+) -> Result<bool, AllocError>
+    requires { place < length clauses.now }
+    ensures met { IfOk result (λ conflict. walk_on (verdict assigned.old (literals_at clauses.now place)) assigned.old
+        ≡ (if conflict then None else Some assigned.new)) }
+    ensures extends { Extends assigned.old assigned.new }
+    ensures looks { looks.new ≡ looks.old + length (literals_at clauses.now place) }
+    ensures noted { IfOk result (λ conflict.
+        Records clauses.now conflict passed.old assigned.old (clause_at clauses.now place ∷ []) passed.new assigned.new) }
+    ensures read { IfOk result
+        (λ _. noted_length clauses.now passed.new ≤ noted_length clauses.now passed.old + length (literals_at clauses.now place)) }
+{
+    match look_at(assigned, clauses.literals(place, looks)) {
+        Look::Falsified => {
+            passed.conflict = Some(place);
+            Ok(true)
+        }
+        Look::Opens(lit) => {
+            assigned.assume(lit)?;
+            passed.note(place, lit)?;
+            Ok(false)
+        }
+        Look::Rests => Ok(false),
+    }
+}
+
+#[tactic(auto, using(crate::proofs::lemmas::announcements::Noting::noting))]
+fn walk_bucket_noted(
+    clauses: &Clauses,
+    hash: ClauseHash,
+    assigned: &mut Assigned,
+    passed: &mut Passed,
+    looks: &mut Looks,
+) -> Result<Walked, AllocError>
+    ensures says { IfOk result (λ b. Says b (bucket_in hash clauses.now) assigned.old assigned.new) }
+    ensures extends { Extends assigned.old assigned.new }
+    ensures looks { looks.new ≤ looks.old + total_length (bucket_in hash clauses.now) }
+    ensures noted { IfOk result
+        (λ b. RecordsWalk clauses.now b passed.old assigned.old (filed hash clauses.now) passed.new assigned.new) }
+    ensures read { IfOk result
+        (λ _. noted_length clauses.now passed.new + looks.old ≤ noted_length clauses.now passed.old + looks.new) }
+{
+    let Some(bucket) = clauses.bucket(hash) else {
+        return Ok(Walked::Empty);
+    };
+    if meet_noted(clauses, bucket.first, assigned, passed, looks)? {
+        return Ok(Walked::Conflict);
+    }
+    for place in &bucket.more {
+        if meet_noted(clauses, *place, assigned, passed, looks)? {
+            return Ok(Walked::Conflict);
+        }
+    }
+    Ok(Walked::Open)
+}
+
+/// Walks over the buckets of the hashes, in their order. The answer is whether a conflict came before an empty bucket.
+#[tactic(auto, using(crate::proofs::lemmas::store::Buckets::over_hashes))]
+fn walk_hashes_noted(
+    clauses: &Clauses,
+    hashes: &[ClauseHash],
+    assigned: &mut Assigned,
+    passed: &mut Passed,
+    looks: &mut Looks,
+) -> Result<bool, AllocError>
+    ensures found { IfOk result (λ yes. yes ≡ walk_buckets assigned.old (map (bucket_of clauses.now) hashes.now)) }
+    ensures extends { Extends assigned.old assigned.new }
+    ensures looks { looks.new ≤ looks.old + length hashes.now * live_length clauses.now }
+    ensures noted { IfOk result (λ yes. IsTrue yes → Ends clauses.now passed.old assigned.old (named hashes.now clauses.now) passed.new) }
+    ensures read { IfOk result
+        (λ _. noted_length clauses.now passed.new + looks.old ≤ noted_length clauses.now passed.old + looks.new) }
+{
+    for hash in hashes {
+        match walk_bucket_noted(clauses, *hash, assigned, passed, looks)? {
+            Walked::Empty => return Ok(false),
+            Walked::Conflict => return Ok(true),
+            Walked::Open => {}
+        }
+    }
+    Ok(false)
+}
+
+fn check_under_noted(
+    clauses: &Clauses,
+    clause: &[Lit],
+    hashes: &[ClauseHash],
+    assigned: &mut Assigned,
+    passed: &mut Passed,
+    looks: &mut Looks,
+) -> Result<bool, AllocError>
+    ensures exact { IfOk result (λ yes. IsTrue yes ↔ PassesCheck assigned.old clause.now (map (bucket_of clauses.now) hashes.now)) }
+    ensures extends { Extends assigned.old assigned.new }
+    ensures looks { looks.new ≤ looks.old + length hashes.now * live_length clauses.now }
+    ensures explained { IfOk result (λ yes. IsTrue yes → list_any (is_among assigned.old) clause.now ≡ false
+        → is_tautology clause.now ≡ false
+        → Explains clauses.now passed.new (ground (map negated clause.now ++ assigned.old) (named hashes.now clauses.now))) }
+    ensures read { IfOk result (λ _. noted_length clauses.now passed.new + looks.old ≤ looks.new) }
+{
+    let _count = clauses.len();
+    passed.clear();
+    if deny(assigned, clause)? {
+        return Ok(true);
+    }
+    walk_hashes_noted(clauses, hashes, assigned, passed, looks)
+}
+
+/// The propagation check of a clause, over the units that are assigned, which stay. Where it passes by a conflict, the notes
+/// explain what the conflict rests on; announcements take the ids of what is needed from them.
+pub(crate) fn check_clause_noted(
+    clauses: &Clauses,
+    clause: &[Lit],
+    hashes: &[ClauseHash],
+    assigned: &mut Assigned,
+    passed: &mut Passed,
+    looks: &mut Looks,
+) -> Result<bool, AllocError>
+    ensures exact { IfOk result (λ yes. IsTrue yes ↔ PassesCheck assigned.old clause.now (map (bucket_of clauses.now) hashes.now)) }
+    ensures units { assigned.new ≡ assigned.old }
+    ensures looks { looks.new ≤ looks.old + length hashes.now * live_length clauses.now }
+    ensures explained { IfOk result (λ yes. IsTrue yes → list_any (is_among assigned.old) clause.now ≡ false
+        → is_tautology clause.now ≡ false
+        → Explains clauses.now passed.new (ground (map negated clause.now ++ assigned.old) (named hashes.now clauses.now))) }
+    ensures read { IfOk result (λ _. noted_length clauses.now passed.new + looks.old ≤ looks.new) }
+{
+    let units = assigned.len();
+    let answer = check_under_noted(clauses, clause, hashes, assigned, passed, looks);
+    assigned.undo_to(units);
+    answer
+}
