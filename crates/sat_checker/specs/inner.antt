@@ -13,3 +13,4 @@ pub mod ModelTests
 pub mod ProofSteps
 pub mod DimacsPieces
 pub mod Reasons
+pub mod NeededView

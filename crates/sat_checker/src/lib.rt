@@ -13,6 +13,7 @@ pub mod law_announcements;
 pub mod laws;
 pub(crate) mod lit_set;
 pub mod looks;
+pub(crate) mod needed;
 pub(crate) mod passed;
 pub(crate) mod recording;
 pub mod rup;

@@ -10,3 +10,4 @@ pub mod Exact
 pub mod Deletions
 pub mod Following
 pub mod Noting
+pub mod Marking

@@ -1,9 +1,9 @@
-use Rattle.std.proofs.Common.{length, get_or, ◌∙◌, refl, arith}
+use Rattle.std.proofs.Common.{length, get_or, ◌∙◌, arith}
 use Rattle.sat_checker.specs.inner.SlotView.{bucket_of}
 use Rattle.sat_checker.specs.inner.Reasons.{named}
-use Rattle.sat_checker.proofs.lemmas.propagation.Walking.{Extends-itself, Extends-further, buckets-open}
+use Rattle.sat_checker.proofs.lemmas.propagation.Walking.{Extends-further, buckets-open}
 use Rattle.sat_checker.proofs.lemmas.store.Buckets.{walked_more, walked_within}
-use Rattle.sat_checker.proofs.lemmas.announcements.Noting.{leads_itself, leads_hash, ends_hash}
+use Rattle.sat_checker.proofs.lemmas.announcements.Noting.{leads_hash, ends_hash}
 use Rattle.sat_checker.proofs.recording.walk_hashes_noted.Goals as goal
 
 pub returns-in_err-walk_bucket_noted-clause-looks : goal.returns-in_err-walk_bucket_noted-clause-looks

@@ -1,0 +1,86 @@
+-- Marks, and what they say of the ground of a conflict.
+use Rattle.std.proofs.Common.{ℕ, ◌+◌, ◌-◌, ◌<◌, ◌≡◌, Bool, true, false, not, ◌||◌, cond, eqb, List, [], ◌∷◌, ◌++◌, length, drop, get_or, map, filter, reverse, refl, sym, ◌∙◌, ap, subst, Some, arith}
+use Rattle.std.proofs.lemmas.Bool.{both_ways, eqb-true, eq-eqb}
+use Rattle.std.proofs.lemmas.List.{drop_more, reverse-append}
+use Rattle.sat_base.specs.values.Literals.{negated}
+use Rattle.sat_checker.specs.LiteralSets.{is_among}
+use Rattle.sat_checker.specs.Stored.{StoredClause}
+use Rattle.sat_checker.specs.announcements.Needed.{Ground, others_denied, with_reason}
+use Rattle.sat_checker.specs.inner.NeededView.{IsFollowed}
+use Rattle.sat_checker.specs.inner.SlotView.{Slot, slot_at, literals_at}
+use Rattle.sat_checker.specs.inner.Reasons.{clause_at, conflict_at}
+use Rattle.sat_checker.specs.declared.needed.Needed.{Needed}
+use Rattle.sat_checker.proofs.lemmas.sets.Order.{among-append}
+
+pub mark_had : (marked : List ℕ) (l : ℕ) → is_among marked l ≡ true → (m : ℕ) → is_among marked m ≡ (eqb l m || is_among marked m)
+mark_had marked l t m = go (eqb l m) refl
+  where
+    go : (b : Bool) → eqb l m ≡ b → is_among marked m ≡ (b || is_among marked m)
+    go true e = subst (λ x. is_among marked x ≡ true) (eqb-true l m e) t
+    go false e = refl
+
+pub mark_new : (marked new : List ℕ) (l : ℕ) → new ≡ l ∷ marked → (m : ℕ) → is_among new m ≡ (eqb l m || is_among marked m)
+mark_new marked new l e m = ap (λ xs. is_among xs m) e
+
+turned : (a b d : Bool) → (b || (a || d)) ≡ ((a || b) || d)
+turned true true d = refl
+turned true false d = refl
+turned false true d = refl
+turned false false d = refl
+
+-- these literals and the marked ones are those from the start
+abbrev pub MarksLeft : List ℕ → List ℕ → List ℕ → List ℕ → Type 0
+MarksLeft left marked all old = (m : ℕ) → (is_among left m || is_among marked m) ≡ (is_among all m || is_among old m)
+
+pub mark_one : (l : ℕ) (left marked new all old : List ℕ) → MarksLeft (l ∷ left) marked all old → ((m : ℕ) → is_among new m ≡ (eqb l m || is_among marked m)) → MarksLeft left new all old
+mark_one l left marked new all old h k m = ap (λ b. is_among left m || b) (k m) ∙ turned (eqb l m) (is_among left m) (is_among marked m) ∙ h m
+
+module _ (clause marked new all old : List ℕ) (i : ℕ) (inside : i < length clause) where
+  pub mark_next : MarksLeft (map negated (drop i clause)) marked all old → ((m : ℕ) → is_among new m ≡ (eqb (negated (get_or clause i 0)) m || is_among marked m)) → MarksLeft (map negated (drop (i + 1) clause)) new all old
+  mark_next h k = mark_one (negated (get_or clause i 0)) (map negated (drop (i + 1) clause)) marked new all old (subst (λ xs. MarksLeft (map negated xs) marked all old) (drop_more clause i 0 inside) h) k
+
+  pub mark_other : (o : ℕ) → MarksLeft (others_denied o (drop i clause)) marked all old → eqb (get_or clause i 0) o ≡ false → ((m : ℕ) → is_among new m ≡ (eqb (negated (get_or clause i 0)) m || is_among marked m)) → MarksLeft (others_denied o (drop (i + 1) clause)) new all old
+  mark_other o h d k =
+      let here : others_denied o (drop i clause) ≡ negated (get_or clause i 0) ∷ others_denied o (drop (i + 1) clause) =
+      ap (others_denied o) (drop_more clause i 0 inside) ∙ ap (λ b. map negated (cond (not b) (get_or clause i 0 ∷ filter (λ m. not (eqb m o)) (drop (i + 1) clause)) (filter (λ m. not (eqb m o)) (drop (i + 1) clause)))) d in
+      mark_one (negated (get_or clause i 0)) (others_denied o (drop (i + 1) clause)) marked new all old (subst (λ xs. MarksLeft xs marked all old) here h) k
+
+  pub mark_open : (o : ℕ) → MarksLeft (others_denied o (drop i clause)) marked all old → eqb (get_or clause i 0) o ≡ true → MarksLeft (others_denied o (drop (i + 1) clause)) marked all old
+  mark_open o h d =
+      let here : others_denied o (drop i clause) ≡ others_denied o (drop (i + 1) clause) =
+      ap (others_denied o) (drop_more clause i 0 inside) ∙ ap (λ b. map negated (cond (not b) (get_or clause i 0 ∷ filter (λ m. not (eqb m o)) (drop (i + 1) clause)) (filter (λ m. not (eqb m o)) (drop (i + 1) clause)))) d in
+      subst (λ xs. MarksLeft xs marked all old) here h
+
+pub ruleset marking = (mark_had, mark_new, mark_next, mark_other, mark_open)
+
+or_none : (b : Bool) → (b || false) ≡ b
+or_none true = refl
+or_none false = refl
+
+drop_whole : (xs : List ℕ) → drop (length xs) xs ≡ []
+drop_whole [] = refl
+drop_whole (x ∷ xs) = drop_whole xs
+
+pub none_left : (xs : List ℕ) → drop (length xs - 0) xs ≡ []
+none_left xs = let e : length xs - 0 ≡ length xs = omega arith in ap (λ n. drop n xs) e ∙ drop_whole xs
+
+pub begins : (ss : List Slot) (place : ℕ) (needed : Needed) (marked : List ℕ) → marked ≡ [] → ((m : ℕ) → is_among needed.marked m ≡ (is_among (map negated (literals_at ss place)) m || is_among marked m)) → needed.ids.items ≡ (clause_at ss place).id ∷ [] → IsFollowed needed (conflict_at ss (Some place))
+begins ss place needed marked e h k = record {
+  marked = λ m. h m ∙ ap (λ xs. is_among (map negated (literals_at ss place)) m || is_among xs m) e ∙ or_none (is_among (map negated (literals_at ss place)) m);
+  ids = k;
+}
+
+module _ (old new : Needed) (c : StoredClause) (l : ℕ) (g : Ground) (f : IsFollowed old g) where
+  pub not_needed : is_among old.marked l ≡ false → IsFollowed old (with_reason l c g)
+  not_needed n = subst (λ b. IsFollowed old (cond b (record { literals = others_denied l c.literals ++ g.literals; clauses = c ∷ g.clauses }) g)) (sym (sym (f.marked l) ∙ n)) f
+
+  pub is_needed : is_among old.marked l ≡ true → ((m : ℕ) → is_among new.marked m ≡ (is_among (others_denied l c.literals) m || is_among old.marked m)) → new.ids.items ≡ old.ids.items ++ c.id ∷ [] → IsFollowed new (with_reason l c g)
+  is_needed t h k = subst (λ b. IsFollowed new (cond b (record { literals = others_denied l c.literals ++ g.literals; clauses = c ∷ g.clauses }) g)) (sym (sym (f.marked l) ∙ t)) (record {
+    marked = λ m. h m ∙ ap (λ b. is_among (others_denied l c.literals) m || b) (f.marked m) ∙ sym (among-append (others_denied l c.literals) g.literals m);
+    ids = k ∙ ap (λ xs. xs ++ c.id ∷ []) f.ids ∙ sym (reverse_more c.id (map (λ x. x.id) g.clauses));
+  })
+    where
+      reverse_more : (x : ℕ) (xs : List ℕ) → reverse (x ∷ xs) ≡ reverse xs ++ x ∷ []
+      reverse_more x xs = reverse-append (x ∷ []) xs
+
+pub ruleset following = (begins, not_needed, is_needed)

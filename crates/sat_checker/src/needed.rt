@@ -1,0 +1,111 @@
+//! What a conflict rests on, followed backwards over the notes of a walk.
+ghost use Rattle.std.specs.Prelude.{ℕ, ◌≡◌, ◌+◌, ◌<◌, ◌≤◌, ◌==◌, ◌||◌, map, length, OnOk, Some};
+ghost use Rattle.sat_base.specs.values.Literals.{negated};
+ghost use Rattle.sat_checker.specs.LiteralSets.{is_among};
+ghost use Rattle.sat_checker.specs.announcements.Needed.{Ground, others_denied, with_reason};
+ghost use Rattle.sat_checker.specs.inner.NeededView.{IsFollowed};
+ghost use Rattle.sat_checker.specs.inner.Reasons.{clause_at, conflict_at};
+ghost use Rattle.sat_checker.specs.inner.SlotView.{literals_at};
+
+use crate::assigned::Assigned;
+use crate::clauses::Clauses;
+use crate::looks::Looks;
+use crate::passed::Reason;
+use sat_base::Lit;
+use std::alloc::{AllocError, Global};
+
+/// Marked literals, and the ids of the clauses needed, the last one first.
+#[derive(Drop)]
+pub(crate) struct Needed {
+    marked: Assigned,
+    ids: Vec<u64>,
+}
+
+#[tactic(auto, using(crate::proofs::lemmas::announcements::Marking::marking))]
+fn mark(marked: &mut Assigned, lit: Lit) -> Result<(), AllocError>
+    ensures marked { OnOk result ((m : ℕ) → is_among marked.new m ≡ (lit == m || is_among marked.old m)) }
+{
+    if marked.is_true(lit) {
+        return Ok(());
+    }
+    marked.assume(lit)
+}
+
+/// Marks the negations of a clause's literals.
+#[tactic(auto, using(crate::proofs::lemmas::announcements::Marking::marking))]
+fn mark_all(marked: &mut Assigned, clause: &[Lit]) -> Result<(), AllocError>
+    ensures marked { OnOk result ((m : ℕ) → is_among marked.new m ≡ (is_among (map negated clause.now) m || is_among marked.old m)) }
+{
+    for lit in clause {
+        mark(marked, !*lit)?;
+    }
+    Ok(())
+}
+
+/// Marks the negations of a clause's literals other than this one.
+#[tactic(auto, using(crate::proofs::lemmas::announcements::Marking::marking))]
+fn mark_others(marked: &mut Assigned, clause: &[Lit], made: Lit) -> Result<(), AllocError>
+    ensures marked { OnOk result
+        ((m : ℕ) → is_among marked.new m ≡ (is_among (others_denied made clause.now) m || is_among marked.old m)) }
+{
+    for lit in clause {
+        if *lit == made {
+            continue;
+        }
+        mark(marked, !*lit)?;
+    }
+    Ok(())
+}
+
+impl Needed {
+    pub fn new(alloc: Global) -> Needed {
+        Needed {
+            marked: Assigned::new(alloc),
+            ids: Vec::new(alloc),
+        }
+    }
+
+    /// Begins at the falsified clause.
+    #[tactic(auto, using(crate::proofs::lemmas::announcements::Marking::following))]
+    pub fn begin(
+        &mut self,
+        clauses: &Clauses,
+        place: usize,
+        looks: &mut Looks,
+    ) -> Result<(), AllocError>
+        requires { place < length clauses.now }
+        ensures followed { OnOk result (IsFollowed self.new (conflict_at clauses.now (Some place))) }
+        ensures looks { looks.new ≡ looks.old + length (literals_at clauses.now place) }
+    {
+        self.ids.clear();
+        self.marked.undo_to(0);
+        mark_all(&mut self.marked, clauses.literals(place, looks))?;
+        self.ids.push(clauses.id(place))?;
+        Ok(())
+    }
+
+    /// Follows a reason: it is needed where its literal is.
+    #[tactic(auto, using(crate::proofs::lemmas::announcements::Marking::following))]
+    pub fn follow(
+        &mut self,
+        clauses: &Clauses,
+        reason: Reason,
+        looks: &mut Looks,
+    ) -> Result<(), AllocError>
+        requires { reason.place < length clauses.now }
+        ensures followed { OnOk result ((g : Ground) → IsFollowed self.old g
+            → IsFollowed self.new (with_reason reason.lit (clause_at clauses.now reason.place) g)) }
+        ensures looks { looks.new ≤ looks.old + length (literals_at clauses.now reason.place) }
+    {
+        if !self.marked.is_true(reason.lit) {
+            return Ok(());
+        }
+        mark_others(
+            &mut self.marked,
+            clauses.literals(reason.place, looks),
+            reason.lit,
+        )?;
+        self.ids.push(clauses.id(reason.place))?;
+        Ok(())
+    }
+}
