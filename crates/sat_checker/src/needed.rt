@@ -4,13 +4,13 @@ ghost use Rattle.sat_base.specs.values.Literals.{negated};
 ghost use Rattle.sat_checker.specs.LiteralSets.{is_among};
 ghost use Rattle.sat_checker.specs.announcements.Needed.{Ground, others_denied, with_reason};
 ghost use Rattle.sat_checker.specs.inner.NeededView.{IsFollowed};
-ghost use Rattle.sat_checker.specs.inner.Reasons.{clause_at, conflict_at};
+ghost use Rattle.sat_checker.specs.inner.Reasons.{clause_at, conflict_at, noted_length, AreThere, IsThere, Explains};
 ghost use Rattle.sat_checker.specs.inner.SlotView.{literals_at};
 
 use crate::assigned::Assigned;
 use crate::clauses::Clauses;
 use crate::looks::Looks;
-use crate::passed::Reason;
+use crate::passed::{Passed, Reason};
 use sat_base::Lit;
 use std::alloc::{AllocError, Global};
 
@@ -106,6 +106,30 @@ impl Needed {
             reason.lit,
         )?;
         self.ids.push(clauses.id(reason.place))?;
+        Ok(())
+    }
+
+    /// Follows the notes of a walk from its conflict back to its start.
+    pub fn follow_all(
+        &mut self,
+        clauses: &Clauses,
+        passed: &Passed,
+        looks: &mut Looks,
+    ) -> Result<(), AllocError>
+        requires there { AreThere clauses.now passed.now }
+        requires met { IsThere clauses.now passed.now.conflict }
+        ensures followed { OnOk result ((whole : Ground) → Explains clauses.now passed.now whole → IsFollowed self.new whole) }
+        ensures looks { looks.new ≤ looks.old + noted_length clauses.now passed.now }
+    {
+        let Some(place) = passed.conflict else {
+            return Ok(());
+        };
+        self.begin(clauses, place, looks)?;
+        let count = passed.reasons.len();
+        for done in 0..count {
+            let reason = passed.reasons[count - 1 - done];
+            self.follow(clauses, reason, looks)?;
+        }
         Ok(())
     }
 }

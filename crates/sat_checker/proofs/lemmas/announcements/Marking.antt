@@ -1,14 +1,19 @@
 -- Marks, and what they say of the ground of a conflict.
-use Rattle.std.proofs.Common.{ℕ, ◌+◌, ◌-◌, ◌<◌, ◌≡◌, Bool, true, false, not, ◌||◌, cond, eqb, List, [], ◌∷◌, ◌++◌, length, drop, get_or, map, filter, reverse, refl, sym, ◌∙◌, ap, subst, Some, arith}
+use Rattle.std.proofs.Common.{ℕ, zero, suc, ◌≤◌, ◌+◌, ◌-◌, ◌<◌, ◌≡◌, Bool, true, false, not, ◌||◌, cond, eqb, List, [], ◌∷◌, ◌++◌, length, drop, get_or, map, filter, reverse, refl, sym, ◌∙◌, ap, subst, Some, arith}
 use Rattle.std.proofs.lemmas.Bool.{both_ways, eqb-true, eq-eqb}
 use Rattle.std.proofs.lemmas.List.{drop_more, reverse-append}
 use Rattle.sat_base.specs.values.Literals.{negated}
+use Rattle.std.specs.List.{AllByRecursion}
+use Rattle.sat_checker.specs.Looks.{total_length}
+use Rattle.sat_checker.specs.announcements.Following.{followed_back}
+use Rattle.sat_checker.specs.declared.passed.Passed.{Passed}
+use Rattle.sat_checker.specs.declared.passed.Reason as noted
 use Rattle.sat_checker.specs.LiteralSets.{is_among}
 use Rattle.sat_checker.specs.Stored.{StoredClause}
 use Rattle.sat_checker.specs.announcements.Needed.{Ground, others_denied, with_reason}
 use Rattle.sat_checker.specs.inner.NeededView.{IsFollowed}
 use Rattle.sat_checker.specs.inner.SlotView.{Slot, slot_at, literals_at}
-use Rattle.sat_checker.specs.inner.Reasons.{clause_at, conflict_at}
+use Rattle.sat_checker.specs.inner.Reasons.{clause_at, reason_in, conflict_at, conflict_length, noted_length}
 use Rattle.sat_checker.specs.declared.needed.Needed.{Needed}
 use Rattle.sat_checker.proofs.lemmas.sets.Order.{among-append}
 
@@ -84,3 +89,38 @@ module _ (old new : Needed) (c : StoredClause) (l : ℕ) (g : Ground) (f : IsFol
       reverse_more x xs = reverse-append (x ∷ []) xs
 
 pub ruleset following = (begins, not_needed, is_needed)
+
+all_drop : (ss : List Slot) (i : ℕ) (xs : List noted.Reason) → AllByRecursion (λ x. x.place < length ss) xs → AllByRecursion (λ x. x.place < length ss) (drop i xs)
+all_drop ss zero xs h = h
+all_drop ss (suc i) [] h = h
+all_drop ss (suc i) (x ∷ xs) h = all_drop ss i xs h.1
+
+-- the notes from a place on, one more of them
+module _ (ss : List Slot) (rs : List noted.Reason) (k n : ℕ) (r : noted.Reason) (next : k + 1 ≡ n) (inside : k < length rs) (there : get_or rs k r ≡ r) where
+  from_here : drop k rs ≡ r ∷ drop n rs
+  from_here = drop_more rs k r inside ∙ ap (λ x. x ∷ drop (k + 1) rs) there ∙ ap (λ i. r ∷ drop i rs) next
+
+  pub back_next : (needed : Needed) (g : Ground) → IsFollowed needed (with_reason r.lit (clause_at ss r.place) (followed_back (map (reason_in ss) (drop n rs)) g)) → IsFollowed needed (followed_back (map (reason_in ss) (drop k rs)) g)
+  back_next needed g h = subst (λ xs. IsFollowed needed (followed_back (map (reason_in ss) xs) g)) (sym from_here) h
+
+  pub read_next : (old looks new base : ℕ) → looks ≤ old + base + total_length (map (λ x. literals_at ss x.place) (drop n rs)) → new ≤ looks + length (literals_at ss r.place) → new ≤ old + base + total_length (map (λ x. literals_at ss x.place) (drop k rs))
+  read_next old looks new base h l =
+      let e : total_length (map (λ x. literals_at ss x.place) (drop k rs)) ≡ length (literals_at ss r.place) + total_length (map (λ x. literals_at ss x.place) (drop n rs)) =
+      ap (λ xs. total_length (map (λ (x : noted.Reason). literals_at ss x.place) xs)) from_here in
+      omega arith
+
+  pub there_at : AllByRecursion (λ x. x.place < length ss) rs → r.place < length ss
+  there_at h =
+      let q : AllByRecursion (λ x. x.place < length ss) (r ∷ drop n rs) = subst (AllByRecursion (λ x. x.place < length ss)) from_here (all_drop ss k rs h) in q.0
+
+total_left : (ss : List Slot) (i : ℕ) (xs : List noted.Reason) → total_length (map (λ x. literals_at ss x.place) (drop i xs)) ≤ total_length (map (λ x. literals_at ss x.place) xs)
+total_left ss zero xs = omega arith
+total_left ss (suc i) [] = omega arith
+total_left ss (suc i) (x ∷ xs) = let h : total_length (map (λ y. literals_at ss y.place) (drop i xs)) ≤ total_length (map (λ y. literals_at ss y.place) xs) = total_left ss i xs in omega arith
+
+-- what was read is no more than what was noted
+pub within_notes : (ss : List Slot) (passed : Passed) (place i old new : ℕ) → passed.conflict ≡ Some place → new ≤ old + length (literals_at ss place) + total_length (map (λ x. literals_at ss x.place) (drop i passed.reasons.items)) → new ≤ old + noted_length ss passed
+within_notes ss passed place i old new e h =
+    let c : conflict_length ss passed.conflict ≡ length (literals_at ss place) = ap (conflict_length ss) e in
+    let t : total_length (map (λ x. literals_at ss x.place) (drop i passed.reasons.items)) ≤ total_length (map (λ x. literals_at ss x.place) passed.reasons.items) = total_left ss i passed.reasons.items in
+    omega arith
