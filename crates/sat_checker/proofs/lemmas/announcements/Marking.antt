@@ -1,6 +1,6 @@
 -- Marks, and what they say of the ground of a conflict.
 use Rattle.std.proofs.Common.{ℕ, zero, suc, ◌≤◌, ◌+◌, ◌-◌, ◌<◌, ◌≡◌, Bool, true, false, not, ◌||◌, cond, eqb, List, [], ◌∷◌, ◌++◌, length, drop, get_or, map, filter, reverse, refl, sym, ◌∙◌, ap, subst, Some, arith}
-use Rattle.std.proofs.lemmas.Bool.{both_ways, eqb-true, eq-eqb}
+use Rattle.std.proofs.lemmas.Bool.{eqb-true}
 use Rattle.std.proofs.lemmas.List.{drop_more, reverse-append}
 use Rattle.sat_base.specs.values.Literals.{negated}
 use Rattle.std.specs.List.{AllByRecursion}
@@ -12,7 +12,7 @@ use Rattle.sat_checker.specs.LiteralSets.{is_among}
 use Rattle.sat_checker.specs.Stored.{StoredClause}
 use Rattle.sat_checker.specs.announcements.Needed.{Ground, others_denied, with_reason}
 use Rattle.sat_checker.specs.inner.NeededView.{IsFollowed}
-use Rattle.sat_checker.specs.inner.SlotView.{Slot, slot_at, literals_at}
+use Rattle.sat_checker.specs.inner.SlotView.{Slot, literals_at}
 use Rattle.sat_checker.specs.inner.Reasons.{clause_at, reason_in, conflict_at, conflict_length, noted_length}
 use Rattle.sat_checker.specs.declared.needed.Needed.{Needed}
 use Rattle.sat_checker.proofs.lemmas.sets.Order.{among-append}

@@ -1,5 +1,5 @@
 -- A walk that notes what it passes leads from what its clauses rest on to what its notes say.
-use Rattle.std.proofs.Common.{ℕ, zero, suc, ◌+◌, ◌<◌, ◌≤◌, ◌≡◌, Bool, true, false, not, ◌||◌, cond, eqb, List, [], ◌∷◌, ◌++◌, length, drop, get_or, map, filter, refl, sym, ◌∙◌, ap, subst, arith, Option, Some, None, ◌⊎◌, inl, inr}
+use Rattle.std.proofs.Common.{ℕ, suc, ◌+◌, ◌<◌, ◌≤◌, ◌≡◌, Bool, true, false, not, ◌||◌, cond, eqb, List, [], ◌∷◌, ◌++◌, length, drop, get_or, map, filter, refl, sym, ◌∙◌, ap, subst, arith, Some, None, inl, inr}
 use Rattle.std.proofs.lemmas.List.{append_assoc, append-nil, map-append, drop_more}
 use Rattle.std.proofs.lemmas.Bool.{both_ways}
 use Rattle.std.specs.List.{AllByRecursion, list_any}
@@ -11,7 +11,7 @@ use Rattle.sat_checker.specs.inner.Walk.{Verdict, falsified, opens, rests, verdi
 use Rattle.sat_checker.specs.announcements.Needed.{with_reason, ground_by, ground}
 use Rattle.sat_checker.specs.announcements.Following.{followed_back}
 use Rattle.sat_checker.specs.inner.SlotView.{Slot, slot_at, literals_at, is_filed, places_from, places_of}
-use Rattle.sat_checker.specs.inner.Reasons.{clause_at, filed, named, reason_in, reasons_in, conflict_at, conflict_length, noted_length, AreThere, IsThere, Leads, Ends, Explains}
+use Rattle.sat_checker.specs.inner.Reasons.{clause_at, filed, named, reason_in, reasons_in, conflict_at, conflict_length, noted_length, IsThere, Leads, Ends, Explains}
 use Rattle.sat_checker.specs.declared.passed.Passed.{Passed}
 use Rattle.sat_checker.specs.declared.passed.Reason as noted
 use Rattle.sat_checker.proofs.lemmas.propagation.Walking.{walking}
