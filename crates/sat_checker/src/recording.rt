@@ -94,7 +94,8 @@ fn walk_hashes_noted(
     ensures found { IfOk result (λ yes. yes ≡ walk_buckets assigned.old (map (bucket_of clauses.now) hashes.now)) }
     ensures extends { Extends assigned.old assigned.new }
     ensures looks { looks.new ≤ looks.old + length hashes.now * live_length clauses.now }
-    ensures noted { IfOk result (λ yes. IsTrue yes → Ends clauses.now passed.old assigned.old (named hashes.now clauses.now) passed.new) }
+    ensures noted { IfOk result
+        (λ yes. IsTrue yes → Ends clauses.now passed.old assigned.old (named hashes.now clauses.now) passed.new) }
     ensures read { IfOk result
         (λ _. noted_length clauses.now passed.new + looks.old ≤ noted_length clauses.now passed.old + looks.new) }
 {
