@@ -47,7 +47,7 @@ impl ClauseHasher {
     }
 
     /// The solver's name of a variable.
-    fn solver_name(&self, var: Var) -> Option<Var>
+    pub(crate) fn solver_name(&self, var: Var) -> Option<Var>
         ensures { result ≡ solver_name_of self.now var }
     {
         let place = var.index();

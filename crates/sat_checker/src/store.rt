@@ -144,7 +144,7 @@ impl Store {
         Ok(())
     }
 
-    /// A variable has this solver name or none from here on.
+    /// A variable has this solver name or none from here on. There is no pass over the clauses where it had the same.
     pub fn set_solver_name(
         &mut self,
         alloc: Global,
@@ -155,6 +155,9 @@ impl Store {
         ensures set { OnOk result ((f : Stored) → KeepsClauses self.old f → KeepsClauses self.new (with_solver_name var name f)) }
         ensures looks { (f : Stored) → KeepsClauses self.old f → looks.new ≤ looks.old + 2 * literal_count f }
     {
+        if self.hasher.solver_name(var) == name {
+            return Ok(());
+        }
         self.hasher.set_solver_name(var, name)?;
         self.clauses.rehash(alloc, &self.hasher, looks)?;
         Ok(())
