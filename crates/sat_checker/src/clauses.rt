@@ -195,11 +195,10 @@ impl Clauses {
         ensures looks { looks.new ≤ looks.old + 2 * live_length self.old }
     {
         self.index.clear();
-        if file_all(&self.slots, hasher, &mut self.index, looks).is_err() {
+        if file_all(&mut self.slots, hasher, &mut self.index, looks).is_err() {
             *self = Clauses::new(alloc);
             return Err(AllocError);
         }
-        hash_all(&mut self.slots, hasher, looks);
         Ok(())
     }
 
@@ -227,33 +226,18 @@ impl Clauses {
     }
 }
 
-/// Files the clauses that aren't gone in an empty index.
+/// Hashes the clauses that aren't gone, and files them in an empty index.
 #[tactic(auto, using(crate::proofs::lemmas::store::Rehashing::filing))]
 fn file_all(
-    slots: &Slots,
+    slots: &mut Slots,
     hasher: &ClauseHasher,
     index: &mut Index,
     looks: &mut Looks,
 ) -> Result<(), AllocError>
     requires { (q : ℕ) → places_in index.old q ≡ [] }
+    ensures hashed { OnOk result (slots.new ≡ all_hashed_by (solver_name_of hasher.now) (width_of hasher.now) slots.old) }
     ensures filed { OnOk result ((q : ℕ) →
-        places_in index.new q ≡ places_of q (all_hashed_by (solver_name_of hasher.now) (width_of hasher.now) slots.now)) }
-    ensures looks { looks.new ≤ looks.old + live_length slots.now }
-{
-    for place in 0..slots.len() {
-        if slots.is_gone(place) {
-            continue;
-        }
-        let hash = hasher.clause_hash(slots.literals(place, looks));
-        index.file(hash, place)?;
-    }
-    Ok(())
-}
-
-/// Sets the hashes of the clauses that aren't gone.
-#[tactic(auto, using(crate::proofs::lemmas::store::Rehashing::hashing))]
-fn hash_all(slots: &mut Slots, hasher: &ClauseHasher, looks: &mut Looks)
-    ensures hashed { slots.new ≡ all_hashed_by (solver_name_of hasher.now) (width_of hasher.now) slots.old }
+        places_in index.new q ≡ places_of q (all_hashed_by (solver_name_of hasher.now) (width_of hasher.now) slots.old)) }
     ensures looks { looks.new ≤ looks.old + live_length slots.old }
 {
     for place in 0..slots.len() {
@@ -261,6 +245,8 @@ fn hash_all(slots: &mut Slots, hasher: &ClauseHasher, looks: &mut Looks)
             continue;
         }
         let hash = hasher.clause_hash(slots.literals(place, looks));
+        index.file(hash, place)?;
         slots.set_hash(place, hash);
     }
+    Ok(())
 }

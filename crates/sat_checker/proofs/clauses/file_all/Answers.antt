@@ -1,26 +1,41 @@
-use Rattle.std.proofs.Common.{◌+◌, ◌<◌, ◌∙◌, ap, sym, length, arith}
+use Rattle.std.proofs.Common.{◌≡◌, ◌+◌, ◌<◌, ◌∙◌, ap, sym, length, arith}
 use Rattle.sat_checker.specs.Stored.{hash_by}
 use Rattle.sat_checker.specs.HasherView.{solver_name_of, width_of}
+use Rattle.sat_checker.specs.inner.SlotView.{Slot, slot_at, literals_at}
 use Rattle.sat_checker.specs.inner.IndexView.{places_in}
-use Rattle.sat_checker.proofs.lemmas.store.Rehashing.{filed_gone, filed_there, left_gone, left_there}
+use Rattle.sat_checker.proofs.lemmas.store.Rehashing.{hashed_next, hashed_skip, gone_same, slot_left, filed_gone, filed_there, left_gone, left_there}
 use Rattle.sat_checker.proofs.clauses.file_all.Goals as goal
 
 pub loop-place-preserved-then-is_gone : goal.loop-place-preserved-then-is_gone
 loop-place-preserved-then-is_gone c =
     let inside : c.loop-place.place < length c.args.slots.now = omega (arith, c.len-place-end.ensures.count) in
-    let gone = sym c.is_gone.ensures ∙ c.if-is_gone.true in
+    let names = solver_name_of c.args.hasher.now in
+    let width = width_of c.args.hasher.now in
+    let now_gone = sym c.is_gone.ensures ∙ c.if-is_gone.true in
+    let gone = gone_same names width c.args.slots.now c.loop-place.slots c.loop-place.place _ inside c.loop-place.invariant.hashed now_gone in
     record {
-      filed = λ q. filed_gone (solver_name_of c.args.hasher.now) (width_of c.args.hasher.now) (places_in c.loop-place.index) c.args.slots.now c.loop-place.place q inside gone (c.loop-place.invariant.filed q);
+      hashed = hashed_skip names width c.args.slots.now c.loop-place.slots c.loop-place.place inside c.loop-place.invariant.hashed now_gone;
+      filed = λ q. filed_gone names width (places_in c.loop-place.index) c.args.slots.now c.loop-place.place q inside gone (c.loop-place.invariant.filed q);
       looks = let left = left_gone c.args.slots.now c.loop-place.place inside gone in ap (λ n. c.loop-place.looks + n) (sym left) ∙ c.loop-place.invariant.looks;
     }
 
 pub loop-place-preserved : goal.loop-place-preserved
 loop-place-preserved c =
     let inside : c.loop-place.place < length c.args.slots.now = omega (arith, c.len-place-end.ensures.count) in
-    let there = sym c.is_gone.ensures ∙ c.if-is_gone.false in
+    let names = solver_name_of c.args.hasher.now in
+    let width = width_of c.args.hasher.now in
+    let now_there = sym c.is_gone.ensures ∙ c.if-is_gone.false in
+    let there = gone_same names width c.args.slots.now c.loop-place.slots c.loop-place.place _ inside c.loop-place.invariant.hashed now_there in
+    let same : literals_at c.loop-place.slots c.loop-place.place ≡ literals_at c.args.slots.now c.loop-place.place =
+        ap (λ (s : Slot). s.clause.literals) (ap (λ x. slot_at x c.loop-place.place) c.loop-place.invariant.hashed ∙ slot_left names width c.args.slots.now c.loop-place.place inside) in
+    let hash_is = c.clause_hash-hash.ensures ∙ ap (hash_by names width) c.literals.ensures.lent in
     record {
+      hashed = hashed_next names width c.args.slots.now c.loop-place.slots c.set_hash.new.self c.loop-place.place c.clause_hash-hash.result inside c.loop-place.invariant.hashed now_there hash_is c.set_hash.ensures;
       filed = λ q.
-          filed_there (solver_name_of c.args.hasher.now) (width_of c.args.hasher.now) (places_in c.loop-place.index) (places_in c.file.new.self) c.args.slots.now c.loop-place.place c.clause_hash-hash.result q inside there
-          (c.clause_hash-hash.ensures ∙ ap (hash_by (solver_name_of c.args.hasher.now) (width_of c.args.hasher.now)) c.literals.ensures.lent) (c.loop-place.invariant.filed q) (c.in_ok-file.ensures.ok q);
-      looks = let left = left_there c.args.slots.now c.loop-place.place inside there in omega (arith, left, c.literals.ensures.looks, c.loop-place.invariant.looks);
+          filed_there names width (places_in c.loop-place.index) (places_in c.file.new.self) c.args.slots.now c.loop-place.place c.clause_hash-hash.result q inside there
+          (hash_is ∙ ap (hash_by names width) same) (c.loop-place.invariant.filed q) (c.in_ok-file.ensures.ok q);
+      looks =
+          let left = left_there c.args.slots.now c.loop-place.place inside there in
+          let count = ap length same in
+          omega (arith, left, count, c.literals.ensures.looks, c.loop-place.invariant.looks);
     }

@@ -133,9 +133,7 @@ left_there ss i l g =
     let m : i + 1 ≡ suc i = omega arith in
     left_at ss i l ∙ ap (λ b. cond b 0 (length (literals_at ss i)) + live_length (drop (suc i) ss)) g ∙ ap (λ k. length (literals_at ss i) + live_length (drop k ss)) (sym m)
 
-pub ruleset filing = (filed_all)
-
-pub ruleset hashing = (hashed_all)
+pub ruleset filing = (filed_all, hashed_all)
 
 -- what is stored, once all is filed anew
 live_hashed : (names : ℕ → Option ℕ) (width : ℕ) (ss : List Slot) → live (all_hashed_by names width ss) ≡ live ss
