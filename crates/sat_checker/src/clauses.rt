@@ -192,7 +192,7 @@ impl Clauses {
         looks: &mut Looks,
     ) -> Result<(), AllocError>
         ensures hashed { OnOk result (self.new ≡ all_hashed_by (solver_name_of hasher.now) (width_of hasher.now) self.old) }
-        ensures looks { looks.new ≤ looks.old + 2 * live_length self.old }
+        ensures looks { looks.new ≤ looks.old + live_length self.old }
     {
         self.index.clear();
         if file_all(&mut self.slots, hasher, &mut self.index, looks).is_err() {

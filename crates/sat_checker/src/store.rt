@@ -137,7 +137,7 @@ impl Store {
         looks: &mut Looks,
     ) -> Result<(), AllocError>
         ensures set { OnOk result ((f : Stored) → KeepsClauses self.old f → KeepsClauses self.new (record f { width = bits })) }
-        ensures looks { (f : Stored) → KeepsClauses self.old f → looks.new ≤ looks.old + 2 * literal_count f }
+        ensures looks { (f : Stored) → KeepsClauses self.old f → looks.new ≤ looks.old + literal_count f }
     {
         self.hasher.set_bits(bits);
         self.clauses.rehash(alloc, &self.hasher, looks)?;
@@ -153,7 +153,7 @@ impl Store {
         looks: &mut Looks,
     ) -> Result<(), AllocError>
         ensures set { OnOk result ((f : Stored) → KeepsClauses self.old f → KeepsClauses self.new (with_solver_name var name f)) }
-        ensures looks { (f : Stored) → KeepsClauses self.old f → looks.new ≤ looks.old + 2 * literal_count f }
+        ensures looks { (f : Stored) → KeepsClauses self.old f → looks.new ≤ looks.old + literal_count f }
     {
         if self.hasher.solver_name(var) == name {
             return Ok(());

@@ -1,5 +1,5 @@
 -- Filing all clauses anew.
-use Rattle.std.proofs.Common.{ℕ, zero, suc, ◌+◌, ◌<◌, ◌≤◌, ◌≡◌, Bool, true, false, not, ◌&&◌, cond, eqb, List, [], ◌∷◌, ◌++◌, length, take, drop, map, Option, refl, sym, ◌∙◌, ap, subst, ◌*◌, arith, slice_set}
+use Rattle.std.proofs.Common.{ℕ, zero, suc, ◌+◌, ◌<◌, ◌≤◌, ◌≡◌, Bool, true, false, not, ◌&&◌, cond, eqb, List, [], ◌∷◌, ◌++◌, length, take, drop, map, Option, refl, sym, ◌∙◌, ap, subst, arith, slice_set}
 use Rattle.std.proofs.lemmas.Bool.{true≢false}
 use Rattle.sat_checker.specs.Stored.{Stored, hash_by}
 use Rattle.sat_checker.specs.Storing.{unless_gone}
@@ -162,5 +162,5 @@ filed_anew store f h new names width k n e w = record {
   width = w;
 }
 
-pub looks_two : (store : Store) (old new : ℕ) → new ≤ old + 2 * live_length store.clauses → (f : Stored) → KeepsClauses store f → new ≤ old + 2 * literal_count f
-looks_two store old new h f k = let b : live_length store.clauses ≡ literal_count f = length_same store f k in omega arith
+pub looks_anew : (store : Store) (old new : ℕ) → new ≤ old + live_length store.clauses → (f : Stored) → KeepsClauses store f → new ≤ old + literal_count f
+looks_anew store old new h f k = let b : live_length store.clauses ≡ literal_count f = length_same store f k in omega arith

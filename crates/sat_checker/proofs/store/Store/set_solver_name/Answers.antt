@@ -1,5 +1,5 @@
 use Rattle.std.proofs.Common.{◌∙◌, ap, cond, eqb}
-use Rattle.sat_checker.proofs.lemmas.store.Rehashing.{filed_anew, looks_two}
+use Rattle.sat_checker.proofs.lemmas.store.Rehashing.{filed_anew, looks_anew}
 use Rattle.sat_checker.proofs.store.Store.set_solver_name.Goals as goal
 
 pub returns-clause-set : goal.returns-clause-set
@@ -8,7 +8,7 @@ returns-clause-set c = λ f k.
     (λ v. c.in_ok-set_solver_name.ensures.names v ∙ ap (λ o. cond (eqb v c.args.var) c.args.name o) (k.names v)) (c.set_solver_name.ensures.width ∙ k.width)
 
 pub returns-clause-looks : goal.returns-clause-looks
-returns-clause-looks c = looks_two c.args.self.now c.args.looks.now c.rehash.new.looks c.rehash.ensures.looks
+returns-clause-looks c = looks_anew c.args.self.now c.args.looks.now c.rehash.new.looks c.rehash.ensures.looks
 
 pub returns-in_err-rehash-clause-looks : goal.returns-in_err-rehash-clause-looks
-returns-in_err-rehash-clause-looks c = looks_two c.args.self.now c.args.looks.now c.rehash.new.looks c.rehash.ensures.looks
+returns-in_err-rehash-clause-looks c = looks_anew c.args.self.now c.args.looks.now c.rehash.new.looks c.rehash.ensures.looks
