@@ -27,7 +27,7 @@ loop-place-preserved c =
     let now_there = sym c.is_gone.ensures ∙ c.if-is_gone.false in
     let there = gone_same names width c.args.slots.now c.loop-place.slots c.loop-place.place _ inside c.loop-place.invariant.hashed now_there in
     let same : literals_at c.loop-place.slots c.loop-place.place ≡ literals_at c.args.slots.now c.loop-place.place =
-        ap (λ (s : Slot). s.clause.literals) (ap (λ x. slot_at x c.loop-place.place) c.loop-place.invariant.hashed ∙ slot_left names width c.args.slots.now c.loop-place.place inside) in
+    ap (λ (s : Slot). s.clause.literals) (ap (λ x. slot_at x c.loop-place.place) c.loop-place.invariant.hashed ∙ slot_left names width c.args.slots.now c.loop-place.place inside) in
     let hash_is = c.clause_hash-hash.ensures ∙ ap (hash_by names width) c.literals.ensures.lent in
     record {
       hashed = hashed_next names width c.args.slots.now c.loop-place.slots c.set_hash.new.self c.loop-place.place c.clause_hash-hash.result inside c.loop-place.invariant.hashed now_there hash_is c.set_hash.ensures;
