@@ -2,6 +2,7 @@
 use Rattle.std.specs.Prelude.{ℕ, ◌≡◌, ◌+◌, ◌≤◌, Bool, true, false, None, List, ◌∷◌, Result, Ok, Err}
 use Rattle.sat_base.specs.steps.Steps.{Step, AddClause}
 use Rattle.sat_checker.specs.Stored.{Stored}
+use Rattle.sat_checker.specs.Spent.{IsSpent}
 use Rattle.sat_checker.specs.Storing.{settled}
 use Rattle.sat_checker.specs.Accepts.{Accepts, AcceptsAll, stored_after, ready_after}
 use Rattle.sat_checker.specs.Looks.{most_looks}
@@ -65,6 +66,20 @@ ChecksStep result old step new = (steps : List Step) → Stands old steps → An
 -- the step takes no more looks than its bound
 abbrev pub LooksAtMost : Checker → Step → Checker → Type 0
 LooksAtMost old step new = (steps : List Step) → Stands old steps → looks_of new ≤ looks_of old + most_looks (ready_after steps) step
+
+-- What an answer means where a pending unit conflict is settled, behind these steps. The empty clause has no id only where the last one was given.
+abbrev pub AnswersDelayed : Result Unit CheckerError → Checker → Checker → List Step → Type 0
+AnswersDelayed (Ok x) old new steps = (has_failed old ≡ false) × (looks_of new ≡ looks_of old) × Stands new steps × (has_failed new ≡ false) × IsSettled new
+AnswersDelayed (Err errors.CounterEnd) old new steps = (has_failed old ≡ false) × (looks_of new ≡ looks_of old) × IsSpent (ready_after steps) × Fails new steps
+AnswersDelayed (Err errors.HasFailed) old new steps = (has_failed old ≡ true) × Fails new steps
+AnswersDelayed (Err errors.CheckFailed) old new steps = ⊥
+AnswersDelayed (Err errors.OutOfMemory) old new steps = ⊥
+AnswersDelayed (Err errors.ProofIncomplete) old new steps = ⊥
+AnswersDelayed (Err errors.IoError) old new steps = ⊥
+AnswersDelayed (Err errors.ParseError) old new steps = ⊥
+
+abbrev pub ChecksDelayed : Result Unit CheckerError → Checker → Checker → Type 0
+ChecksDelayed result old new = (steps : List Step) → Stands old steps → AnswersDelayed result old new steps
 
 -- What an answer to a clause of the formula means. A refused one leaves the checker as it was.
 abbrev pub AnswersClause : Result Unit CheckerError → Checker → List ℕ → Checker → List Step → Type 0

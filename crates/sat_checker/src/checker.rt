@@ -4,7 +4,7 @@ ghost use Rattle.sat_base.specs.steps.Steps.{Step, AddClause};
 ghost use Rattle.sat_base.specs.steps.StepViews.{step_of};
 ghost use Rattle.sat_checker.specs.Stored.{is_known, name_of};
 ghost use Rattle.sat_checker.specs.Accepts.{ready_after};
-ghost use Rattle.sat_checker.specs.CheckerView.{has_failed, looks_of, Stands, ChecksStep, ChecksClause, LooksAtMost};
+ghost use Rattle.sat_checker.specs.CheckerView.{has_failed, looks_of, Stands, ChecksStep, ChecksDelayed, ChecksClause, LooksAtMost};
 
 mod dimacs;
 mod formula;
@@ -136,7 +136,16 @@ impl Checker {
 impl SelfChecker for Checker {
     ghost checks = { λ c step r d. ChecksStep r c step d × LooksAtMost c step d };
 
+    ghost settles = { λ c r d. ChecksDelayed r c d };
+
     fn self_check_step(&mut self, step: &ProofStep<'_>) -> Result<(), CheckerError> {
         self.check_step(step)
+    }
+
+    fn self_check_delayed_steps(&mut self) -> Result<(), CheckerError> {
+        if self.failed {
+            return Err(CheckerError::HasFailed);
+        }
+        self.settle()
     }
 }

@@ -12,7 +12,14 @@ pub trait SelfChecker {
     /// From the state before, this step was answered so, to the state after.
     ghost checks: { Self → Step → Result (Unit {0}) ErrorOfChecker → Self → Type 0 };
 
+    /// From the state before, the settling of what is delayed was answered so, to the state after.
+    ghost settles: { Self → Result (Unit {0}) ErrorOfChecker → Self → Type 0 };
+
     /// Checks the next step, and takes it in if it is accepted.
     fn self_check_step(&mut self, step: &ProofStep<'_>) -> Result<(), CheckerError>
         ensures { checks self.old (step_of step.now) result self.new };
+
+    /// Gives the empty clause of a pending unit conflict its id, which else waits for the next step.
+    fn self_check_delayed_steps(&mut self) -> Result<(), CheckerError>
+        ensures { settles self.old result self.new };
 }

@@ -2,7 +2,7 @@
 
 use crate::devices::by_one;
 use crate::rows::{Answer, Row, next_error};
-use sat_base::{Counted, CountedRead, Lit, StepReader};
+use sat_base::{Counted, CountedRead, Lit, ProofStep, StepReader};
 use sat_checker::{Checker, CheckerError, SelfChecker};
 use std::alloc::Global;
 use std::test::Fail;
@@ -57,5 +57,21 @@ fn failing_is_final(rt: HostRuntime) -> Result<(), Fail> {
     assert!(rt; checker.add_clause(&lit) == Err(CheckerError::CheckFailed));
     assert!(rt; checker.add_clause(&[]) == Ok(()));
     assert!(rt; checker.unsat());
+    Ok(())
+}
+
+/// Contradicting units are settled, which may be asked again; a checker that has failed settles nothing.
+#[test]
+fn delayed_steps_are_settled(rt: HostRuntime) -> Result<(), Fail> {
+    let mut checker = Checker::new(rt.alloc());
+    let lit = Lit::from_code(0);
+    assert!(rt; checker.add_clause(&[lit]) == Ok(()));
+    assert!(rt; checker.add_clause(&[!lit]) == Ok(()));
+    assert!(rt; checker.self_check_delayed_steps() == Ok(()));
+    assert!(rt; checker.self_check_delayed_steps() == Ok(()));
+    let step = ProofStep::DeleteVar { var: lit.var() };
+    assert!(rt; checker.self_check_step(&step) == Ok(()));
+    assert!(rt; checker.self_check_step(&step) == Err(CheckerError::CheckFailed));
+    assert!(rt; checker.self_check_delayed_steps() == Err(CheckerError::HasFailed));
     Ok(())
 }

@@ -104,7 +104,7 @@ impl Checker {
     }
 
     /// The empty clause of a pending unit conflict takes the next id.
-    fn settle(&mut self) -> Result<(), CheckerError>
+    pub(crate) fn settle(&mut self) -> Result<(), CheckerError>
         requires { has_failed self.old ≡ false }
         ensures { (steps : List Step) → Stands self.old steps → Settles result self.old self.new steps }
     {
