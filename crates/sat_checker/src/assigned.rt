@@ -1,7 +1,7 @@
 //! Literals that are assumed, with a mark by code for each.
 ghost use Rattle.std.specs.Prelude.{◌≡◌, ◌+◌, ◌-◌, ◌<◌, ◌≤◌, List, [], ◌∷◌, drop, length, OnOk, OnErr, false, reverse, ℕ, not, filter, ◌==◌, if◌then◌else◌};
 ghost use Rattle.sat_base.specs.values.Literals.{variable};
-ghost use Rattle.sat_checker.specs.inner.Marks.{is_marked};
+ghost use Rattle.sat_checker.specs.inner.Marks.{is_marked, NoRepeats};
 ghost use Rattle.sat_checker.specs.LiteralSets.{is_among};
 
 use sat_base::{Lit, Var};
@@ -44,7 +44,8 @@ impl Assigned {
 
     /// The literals, the oldest first.
     pub fn literals(&self) -> &[Lit]
-        ensures { result.now ≡ reverse self.now }
+        ensures lent { result.now ≡ reverse self.now }
+        ensures once { NoRepeats result.now }
     {
         self.trail.as_slice()
     }

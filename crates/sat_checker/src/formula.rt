@@ -9,6 +9,7 @@ ghost use Rattle.sat_checker.specs.Accepts.{Passes, PassInTurn, IsStrictSubset, 
 ghost use Rattle.sat_checker.specs.Stored.{Stored, nothing_stored};
 ghost use Rattle.sat_checker.specs.Looks.{literal_count};
 ghost use Rattle.sat_checker.specs.Storing.{settled, with_unit, with_contradiction, with_canonical, with_stored, with_input, with_units, clause_with, without_clause, last_literals, without_variable};
+ghost use Rattle.sat_checker.specs.announcements.Needed.{propagations};
 ghost use Rattle.sat_checker.specs.inner.StoreView.{count_in};
 ghost use Rattle.sat_checker.specs.inner.Marks.{IsIncreasing};
 ghost use Rattle.sat_checker.specs.declared.store.StoreError.TheVariants.{CounterEnd};
@@ -16,6 +17,7 @@ ghost use Rattle.sat_checker.specs.inner.FormulaView.{KeepsFormula, Becomes, Tur
 
 use crate::assigned::Assigned;
 use crate::looks::Looks;
+use crate::propagations::Propagations;
 use crate::sorted_lits::{copy_canonical, is_subset};
 use crate::status::{LastClause, Status};
 use crate::store::{Store, StoreError};
@@ -57,6 +59,34 @@ impl Formula {
         ensures looks { (f : Stored) → KeepsFormula self.old f → looks.new ≤ looks.old + length hashes.now * literal_count f }
     {
         self.units.check(&self.store, clause, hashes, looks)
+    }
+
+    /// The same check of a clause, which has these sorted literals. Where it passes, what it rests on is listed.
+    pub fn check_noted(
+        &mut self,
+        clause: &[Lit],
+        literals: &[Lit],
+        hashes: &[ClauseHash],
+        rests_on: &mut Propagations,
+        looks: &mut Looks,
+    ) -> Result<bool, AllocError>
+        requires { literals.now ≡ canonical clause.now }
+        ensures exact { IfOk result
+            (λ passes. (f : Stored) → KeepsFormula self.old f → IsTrue passes ↔ Passes f clause.now hashes.now) }
+        ensures kept { (f : Stored) → KeepsFormula self.old f → KeepsFormula self.new f }
+        ensures listed { IfOk result (λ passes. IsTrue passes → (f : Stored) → KeepsFormula self.old f
+            → IsIncreasing (map (λ u. u.id) f.units) → rests_on.new.ids.items ≡ propagations f clause.now hashes.now) }
+        ensures looks { (f : Stored) → KeepsFormula self.old f
+            → looks.new ≤ looks.old + 2 * length hashes.now * literal_count f }
+    {
+        rests_on.check(
+            &self.store,
+            &mut self.units,
+            clause,
+            literals,
+            hashes,
+            looks,
+        )
     }
 
     /// The empty clause of a pending unit conflict takes the next id.

@@ -15,6 +15,7 @@ pub(crate) mod lit_set;
 pub mod looks;
 pub(crate) mod needed;
 pub(crate) mod passed;
+pub(crate) mod propagations;
 pub(crate) mod recording;
 pub mod rup;
 pub mod slots;

@@ -1,8 +1,9 @@
 //! What a conflict rests on, followed backwards over the notes of a walk.
-ghost use Rattle.std.specs.Prelude.{ℕ, ◌≡◌, ◌+◌, ◌<◌, ◌≤◌, ◌==◌, ◌||◌, map, length, OnOk, Some};
+ghost use Rattle.std.specs.Prelude.{ℕ, ◌≡◌, ◌+◌, ◌<◌, ◌≤◌, ◌==◌, ◌||◌, [], map, length, OnOk, Some};
 ghost use Rattle.sat_base.specs.values.Literals.{negated};
 ghost use Rattle.sat_checker.specs.LiteralSets.{is_among};
-ghost use Rattle.sat_checker.specs.announcements.Needed.{Ground, others_denied, with_reason};
+ghost use Rattle.sat_checker.specs.announcements.Needed.{Ground, others_denied, with_reason, needed_units, conflict_ids};
+ghost use Rattle.sat_checker.specs.inner.Marks.{IsIncreasing};
 ghost use Rattle.sat_checker.specs.inner.NeededView.{IsFollowed};
 ghost use Rattle.sat_checker.specs.inner.Reasons.{clause_at, conflict_at, noted_length, AreThere, IsThere, Explains};
 ghost use Rattle.sat_checker.specs.inner.SlotView.{literals_at};
@@ -11,6 +12,7 @@ use crate::assigned::Assigned;
 use crate::clauses::Clauses;
 use crate::looks::Looks;
 use crate::passed::{Passed, Reason};
+use crate::units::Units;
 use sat_base::Lit;
 use std::alloc::{AllocError, Global};
 
@@ -33,7 +35,7 @@ fn mark(marked: &mut Assigned, lit: Lit) -> Result<(), AllocError>
 
 /// Marks the negations of a clause's literals.
 #[tactic(auto, using(crate::proofs::lemmas::announcements::Marking::marking))]
-fn mark_all(marked: &mut Assigned, clause: &[Lit]) -> Result<(), AllocError>
+pub(crate) fn mark_all(marked: &mut Assigned, clause: &[Lit]) -> Result<(), AllocError>
     ensures marked { OnOk result ((m : ℕ) → is_among marked.new m ≡ (is_among (map negated clause.now) m || is_among marked.old m)) }
 {
     for lit in clause {
@@ -54,6 +56,31 @@ fn mark_others(marked: &mut Assigned, clause: &[Lit], made: Lit) -> Result<(), A
         }
         mark(marked, !*lit)?;
     }
+    Ok(())
+}
+
+/// Lists the ids of those marked literals that are units and aren't denied, in their order.
+#[tactic(auto, using(crate::proofs::lemmas::announcements::Listing::listing))]
+fn list_units(
+    marked: &Assigned,
+    denied: &Assigned,
+    units: &Units,
+    ids: &mut Vec<u64>,
+) -> Result<(), AllocError>
+    requires { ids.old.items ≡ [] }
+    ensures { OnOk result ((g : Ground) → ((m : ℕ) → is_among marked.now m ≡ is_among g.literals m)
+        → IsIncreasing (map (λ u. u.id) units.now) → ids.new.items ≡ map (λ u. u.id) (needed_units denied.now g units.now)) }
+{
+    let _count = units.len();
+    for lit in marked.literals() {
+        if denied.is_true(*lit) {
+            continue;
+        }
+        if let Some(id) = units.id(*lit) {
+            ids.push(id)?;
+        }
+    }
+    ids.sort_unstable();
     Ok(())
 }
 
@@ -131,5 +158,21 @@ impl Needed {
             self.follow(clauses, reason, looks)?;
         }
         Ok(())
+    }
+
+    /// Lists the ids of the units needed, by increasing id, and then those of the clauses, the falsified one last.
+    pub fn list(
+        &mut self,
+        denied: &Assigned,
+        units: &Units,
+        ids: &mut Vec<u64>,
+    ) -> Result<(), AllocError>
+        requires { ids.old.items ≡ [] }
+        ensures { OnOk result ((g : Ground) → IsFollowed self.old g
+            → IsIncreasing (map (λ u. u.id) units.now) → ids.new.items ≡ conflict_ids denied.now g units.now) }
+    {
+        list_units(&self.marked, denied, units, ids)?;
+        self.ids.reverse();
+        ids.extend_from_slice(&self.ids)
     }
 }

@@ -1,5 +1,6 @@
 //! The stored clauses of two literals or more, with the hashes by which steps name them.
-ghost use Rattle.std.specs.Prelude.{◌≡◌, ◌+◌, ◌*◌, ◌≤◌, ◌<◌, ◌^◌, IfOk, OnOk, Err, MatchBool, length, map, IsTrue, ◌↔◌};
+ghost use Rattle.std.specs.Prelude.{◌≡◌, ◌+◌, ◌*◌, ◌≤◌, ◌<◌, ◌^◌, ◌++◌, IfOk, OnOk, Err, MatchBool, length, map, false, IsTrue, ◌↔◌};
+ghost use Rattle.sat_base.specs.values.Literals.{negated};
 ghost use Rattle.sat_checker.specs.Propagation.{PassesCheck};
 ghost use Rattle.sat_checker.specs.inner.Marks.{IsIncreasing};
 ghost use Rattle.sat_checker.specs.Stored.{Stored, bucket, nothing_stored};
@@ -7,7 +8,9 @@ ghost use Rattle.sat_checker.specs.Looks.{literal_count};
 ghost use Rattle.sat_checker.specs.inner.StoreView.{KeepsClauses, Stores, count_in};
 ghost use Rattle.sat_checker.specs.Storing.{clause_numbered, clause_with, with_solver_name, without_clause};
 ghost use Rattle.sat_checker.specs.Accepts.{IsStrictSubset};
-ghost use Rattle.sat_checker.specs.LiteralSets.{mentions};
+ghost use Rattle.sat_checker.specs.LiteralSets.{is_among, is_tautology, mentions};
+ghost use Rattle.sat_checker.specs.announcements.Needed.{ground};
+ghost use Rattle.sat_checker.specs.inner.Reasons.{named, noted_length, Explains};
 ghost use Rattle.sat_checker.specs.inner.ModelTests.{are_all_true};
 ghost use Rattle.std.specs.List.{list_any};
 
@@ -15,6 +18,8 @@ use crate::assigned::Assigned;
 use crate::clauses::Clauses;
 use crate::hash::ClauseHasher;
 use crate::looks::Looks;
+use crate::passed::Passed;
+use crate::recording::check_clause_noted;
 use crate::rup::check_clause_with_hashes;
 use crate::sorted_lits::is_subset;
 use sat_base::{ClauseHash, HashBits, Lit, Var};
@@ -78,6 +83,29 @@ impl Store {
         ensures looks { (f : Stored) → KeepsClauses self.now f → looks.new ≤ looks.old + length hashes.now * literal_count f }
     {
         check_clause_with_hashes(&self.clauses, clause, hashes, units, looks)
+    }
+
+    /// The same check, which notes the clauses that it passes.
+    #[tactic(auto, using(crate::proofs::lemmas::store::Keeping::checking))]
+    pub fn check_noted(
+        &self,
+        clause: &[Lit],
+        hashes: &[ClauseHash],
+        units: &mut Assigned,
+        passed: &mut Passed,
+        looks: &mut Looks,
+    ) -> Result<bool, AllocError>
+        ensures exact { IfOk result (λ passes. (f : Stored) → KeepsClauses self.now f
+            → IsTrue passes ↔ PassesCheck units.old clause.now (map (bucket f) hashes.now)) }
+        ensures units { units.new ≡ units.old }
+        ensures looks { (f : Stored) → KeepsClauses self.now f → looks.new ≤ looks.old + length hashes.now * literal_count f }
+        ensures explained { IfOk result (λ passes. IsTrue passes → list_any (is_among units.old) clause.now ≡ false
+            → is_tautology clause.now ≡ false
+            → Explains self.now.clauses passed.new
+            (ground (map negated clause.now ++ units.old) (named hashes.now self.now.clauses))) }
+        ensures read { IfOk result (λ _. noted_length self.now.clauses passed.new + looks.old ≤ looks.new) }
+    {
+        check_clause_noted(&self.clauses, clause, hashes, units, passed, looks)
     }
 
     /// Stores sorted literals without repeats once more, under this id where they are new. The answer is the id under which they

@@ -2,7 +2,10 @@
 ghost use Rattle.std.specs.Prelude.{◌≡◌, ◌++◌, ◌∷◌, [], ◌+◌, ◌*◌, ◌≤◌, ◌↔◌, false, length, map, IfOk, IsTrue, OnOk, reverse, MatchOption, None, Some, filter, not, ◌==◌};
 ghost use Rattle.sat_base.specs.values.Literals.{negated, variable};
 ghost use Rattle.std.specs.List.{list_any};
-ghost use Rattle.sat_checker.specs.LiteralSets.{is_among};
+ghost use Rattle.sat_checker.specs.LiteralSets.{is_among, is_tautology};
+ghost use Rattle.sat_checker.specs.announcements.Needed.{ground, true_unit};
+ghost use Rattle.sat_checker.specs.inner.Marks.{NoRepeats};
+ghost use Rattle.sat_checker.specs.inner.Reasons.{named, noted_length, Explains};
 ghost use Rattle.sat_checker.specs.Storing.{unit_id, unit_numbered};
 ghost use Rattle.sat_checker.specs.Stored.{Stored};
 ghost use Rattle.sat_checker.specs.Accepts.{Passes};
@@ -11,6 +14,7 @@ ghost use Rattle.sat_checker.specs.inner.StoreView.{KeepsClauses};
 
 use crate::assigned::Assigned;
 use crate::looks::Looks;
+use crate::passed::Passed;
 use crate::store::Store;
 use crate::unit_ids::UnitIds;
 use sat_base::{ClauseHash, Lit, Var};
@@ -55,6 +59,13 @@ impl Units {
         }
     }
 
+    pub fn len(&self) -> usize
+        ensures count { result ≡ length self.now }
+        ensures once { NoRepeats (map (λ u. u.literal) self.now) }
+    {
+        self.assigned.literals().len()
+    }
+
     pub fn is_unit(&self, lit: Lit) -> bool
         ensures { result ≡ is_among (map (λ u. u.literal) self.now) lit }
     {
@@ -92,6 +103,19 @@ impl Units {
         ensures { result ≡ unit_id lit self.now }
     {
         self.ids.get(lit)
+    }
+
+    /// The id of the first of the literals that is a unit.
+    #[tactic(auto, using(crate::proofs::lemmas::announcements::Listing::finding_true))]
+    pub fn true_id(&self, literals: &[Lit]) -> Option<u64>
+        ensures { result ≡ true_unit literals.now self.now }
+    {
+        for lit in literals {
+            if let Some(id) = self.id(*lit) {
+                return Some(id);
+            }
+        }
+        None
     }
 
     /// Forgets the unit of a variable.
@@ -156,5 +180,27 @@ impl Units {
         ensures looks { (f : Stored) → KeepsClauses store.now f → looks.new ≤ looks.old + length hashes.now * literal_count f }
     {
         store.check(clause, hashes, &mut self.assigned, looks)
+    }
+
+    /// The same check, which notes the clauses that it passes.
+    pub fn check_noted(
+        &mut self,
+        store: &Store,
+        clause: &[Lit],
+        hashes: &[ClauseHash],
+        passed: &mut Passed,
+        looks: &mut Looks,
+    ) -> Result<bool, AllocError>
+        ensures exact { IfOk result (λ passes. (f : Stored) → KeepsClauses store.now f → self.old ≡ f.units
+            → IsTrue passes ↔ Passes f clause.now hashes.now) }
+        ensures units { self.new ≡ self.old }
+        ensures looks { (f : Stored) → KeepsClauses store.now f → looks.new ≤ looks.old + length hashes.now * literal_count f }
+        ensures explained { IfOk result (λ passes. IsTrue passes
+            → list_any (is_among (map (λ u. u.literal) self.old)) clause.now ≡ false → is_tautology clause.now ≡ false
+            → Explains store.now.clauses passed.new
+            (ground (map negated clause.now ++ map (λ u. u.literal) self.old) (named hashes.now store.now.clauses))) }
+        ensures read { IfOk result (λ _. noted_length store.now.clauses passed.new + looks.old ≤ looks.new) }
+    {
+        store.check_noted(clause, hashes, &mut self.assigned, passed, looks)
     }
 }

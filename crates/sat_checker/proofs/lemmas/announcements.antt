@@ -11,3 +11,5 @@ pub mod Deletions
 pub mod Following
 pub mod Noting
 pub mod Marking
+pub mod Listing
+pub mod Cases

@@ -4,3 +4,4 @@ pub mod Subsets
 pub mod Hashing
 pub mod Merging
 pub mod Order
+pub mod Distinct

@@ -19,7 +19,7 @@ use Rattle.sat_checker.proofs.lemmas.announcements.Rests.{true_found, named_stor
 use Rattle.sat_checker.proofs.lemmas.announcements.Apart.{apart_units}
 use Rattle.sat_checker.proofs.lemmas.announcements.Backwards.{followed}
 
-one_among : (u : StoredUnit) (us : List StoredUnit) → IsOneOf u us → is_among (map (λ w. w.literal) us) u.literal ≡ true
+pub one_among : (u : StoredUnit) (us : List StoredUnit) → IsOneOf u us → is_among (map (λ w. w.literal) us) u.literal ≡ true
 one_among u [] h = absurd h
 one_among u (w ∷ ws) h =
     elim h [

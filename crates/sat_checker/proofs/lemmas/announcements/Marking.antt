@@ -58,7 +58,7 @@ module _ (clause marked new all old : List ℕ) (i : ℕ) (inside : i < length c
 
 pub ruleset marking = (mark_had, mark_new, mark_next, mark_other, mark_open)
 
-or_none : (b : Bool) → (b || false) ≡ b
+pub or_none : (b : Bool) → (b || false) ≡ b
 or_none true = refl
 or_none false = refl
 

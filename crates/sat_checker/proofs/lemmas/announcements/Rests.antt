@@ -139,7 +139,7 @@ pub record UnitOf (us : List StoredUnit) (l id : ℕ) : Type 0 where
   pub id_is : unit.id ≡ id
   pub literal_is : unit.literal ≡ l
 
-unit_found : (l id : ℕ) (us : List StoredUnit) → unit_id l us ≡ Some id → UnitOf us l id
+pub unit_found : (l id : ℕ) (us : List StoredUnit) → unit_id l us ≡ Some id → UnitOf us l id
 unit_found l id [] e = absurd cc
 unit_found l id (u ∷ us) e = go (unit_found l id us) (eqb u.literal l) refl e
   where
@@ -270,17 +270,17 @@ unnegated (l ∷ ls) m e =
       | inr k ↦ or_right (eqb l m) (is_among ls m) (unnegated ls m k)
     ]
 
-not_both : (b d : Bool) → (b && not d) ≡ true → d ≡ false
+pub not_both : (b d : Bool) → (b && not d) ≡ true → d ≡ false
 not_both true true e = absurd (true≢false (sym e))
 not_both true false e = refl
 not_both false d e = absurd (true≢false (sym e))
 
-both_from : (b d : Bool) → b ≡ true → d ≡ false → (b && not d) ≡ true
+pub both_from : (b d : Bool) → b ≡ true → d ≡ false → (b && not d) ≡ true
 both_from true true e f = absurd (true≢false f)
 both_from true false e f = refl
 both_from false d e f = absurd (true≢false (sym e))
 
-any_none : (p : ℕ → Bool) (ls : List ℕ) → ((m : ℕ) → is_among ls m ≡ true → p m ≡ false) → list_any p ls ≡ false
+pub any_none : (p : ℕ → Bool) (ls : List ℕ) → ((m : ℕ) → is_among ls m ≡ true → p m ≡ false) → list_any p ls ≡ false
 any_none p [] h = refl
 any_none p (l ∷ ls) h = or_from (p l) (list_any p ls) (h l (or_left (eqb l l) (is_among ls l) (eq-eqb l l refl))) (any_none p ls (λ m e. h m (or_right (eqb l m) (is_among ls m) e)))
 

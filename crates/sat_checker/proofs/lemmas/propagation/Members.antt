@@ -32,7 +32,7 @@ same_runs (c ∷ d ∷ ds) us vs same h = (
   same_runs (d ∷ ds) (h.0 ∷ us) (h.0 ∷ vs) (λ l. ap (λ b. eqb h.0 l || b) (same l)) h.2,
 )
 
-same_any : (us vs clause : List ℕ) → SameMembers us vs → list_any (is_among us) clause ≡ list_any (is_among vs) clause
+pub same_any : (us vs clause : List ℕ) → SameMembers us vs → list_any (is_among us) clause ≡ list_any (is_among vs) clause
 same_any us vs [] same = refl
 same_any us vs (l ∷ ls) same = ap (λ b. b || list_any (is_among us) ls) (same l) ∙ ap (λ b. is_among vs l || b) (same_any us vs ls same)
 

@@ -39,7 +39,7 @@ part_past s x ss xs n h k = elim (lower_or_higher s x n) [
       ap (λ b. b && list_all (is_among (x ∷ xs)) ss) far ∙ sym (ap (λ b. b && list_all (is_among xs) ss) near)
 ]
 
-nothing_left : (xs : List ℕ) (i : ℕ) → length xs ≤ i → drop i xs ≡ []
+pub nothing_left : (xs : List ℕ) (i : ℕ) → length xs ≤ i → drop i xs ≡ []
 nothing_left [] zero h = refl
 nothing_left [] (suc i) h = refl
 nothing_left (x ∷ xs) zero h = absurd (omega arith)

@@ -6,6 +6,8 @@ use Rattle.sat_checker.specs.Propagation.{PassesCheck}
 use Rattle.sat_checker.specs.Stored.{Stored, solver_literal, hash_by, bucket}
 use Rattle.sat_checker.specs.Looks.{literal_count, total_length}
 use Rattle.sat_checker.specs.HasherView.{solver_name_of, width_of}
+use Rattle.sat_checker.specs.announcements.Needed.{named_by}
+use Rattle.sat_checker.specs.inner.Reasons.{filed, named}
 use Rattle.sat_checker.specs.inner.SlotView.{Slot, is_gone, is_filed, all_lits, live, live_length, bucket_in, bucket_of}
 use Rattle.sat_checker.specs.inner.StoreView.{AreHashed, KeepsClauses}
 use Rattle.sat_checker.specs.declared.store.Store.{Store}
@@ -46,6 +48,30 @@ bucket_same store f p k = bucket_live store.hasher f k store.clauses p.hashed p.
 buckets_same : (store : Store) (f : Stored) → KeepsClauses store f → (hashes : List ℕ) → map (bucket_of store.clauses) hashes ≡ map (bucket f) hashes
 buckets_same store f p [] = refl
 buckets_same store f p (k ∷ ks) = ap (λ b. b ∷ map (bucket_of store.clauses) ks) (bucket_same store f p k) ∙ ap (λ bs. bucket f k ∷ bs) (buckets_same store f p ks)
+
+-- the clauses that are filed are those that the definition has there
+filed_live : (h : ClauseHasher) (f : Stored) (k : ℕ) (ss : List Slot) → AreHashed h ss → ((v : ℕ) → solver_name_of h v ≡ f.solver_names v) → width_of h ≡ f.width
+    → filed k ss ≡ filter (λ c. eqb (hash_by f.solver_names f.width c.literals) k) (live ss)
+filed_live h f k [] a n w = refl
+filed_live h f k (s ∷ ss) a n w = go (is_gone s) refl (filed_live h f k ss a.1 n w)
+  where
+    go : (b : Bool) → is_gone s ≡ b → filed k ss ≡ filter (λ c. eqb (hash_by f.solver_names f.width c.literals) k) (live ss)
+        → map (λ x. x.clause) (cond (not b && eqb s.hash k) (s ∷ filter (is_filed k) ss) (filter (is_filed k) ss)) ≡ filter (λ c. eqb (hash_by f.solver_names f.width c.literals) k) (cond b [] (s.clause ∷ []) ++ live ss)
+    go true e ih = ih
+    go false e ih =
+        let same : s.hash ≡ hash_by f.solver_names f.width s.clause.literals = a.0 e ∙ hash_same (solver_name_of h) f.solver_names (width_of h) f.width n w s.clause.literals in
+        ap (λ q. map (λ (x : Slot). x.clause) (cond (eqb q k) (s ∷ filter (is_filed k) ss) (filter (is_filed k) ss))) same ∙ pick (eqb (hash_by f.solver_names f.width s.clause.literals) k) ih
+      where
+        pick : (b : Bool) → filed k ss ≡ filter (λ c. eqb (hash_by f.solver_names f.width c.literals) k) (live ss)
+            → map (λ x. x.clause) (cond b (s ∷ filter (is_filed k) ss) (filter (is_filed k) ss)) ≡ cond b (s.clause ∷ filter (λ c. eqb (hash_by f.solver_names f.width c.literals) k) (live ss)) (filter (λ c. eqb (hash_by f.solver_names f.width c.literals) k) (live ss))
+        pick true ih = ap (λ cs. s.clause ∷ cs) ih
+        pick false ih = ih
+
+pub named_same : (store : Store) (f : Stored) → KeepsClauses store f → (hashes : List ℕ) → named hashes store.clauses ≡ named_by hashes f
+named_same store f p [] = refl
+named_same store f p (k ∷ ks) =
+    ap (λ cs. cs ++ named ks store.clauses) (filed_live store.hasher f k store.clauses p.hashed p.names p.width ∙ ap (filter (λ c. eqb (hash_by f.solver_names f.width c.literals) k)) p.clauses)
+    ∙ ap (λ cs. filter (λ c. eqb (hash_by f.solver_names f.width c.literals) k) f.clauses ++ cs) (named_same store f p ks)
 
 pub checked : {E : Type 0} (r : Result Bool E) (store : Store) (units clause hashes : List ℕ) → IfOk r (λ yes'. (yes' ≡ true) ↔ PassesCheck units clause (map (bucket_of store.clauses) hashes)) → IfOk r (λ yes'. (f : Stored) → KeepsClauses store f → (yes' ≡ true) ↔ PassesCheck units clause (map (bucket f) hashes))
 checked (Ok b) store units clause hashes h = λ f k. subst (λ bs. (b ≡ true) ↔ PassesCheck units clause bs) (buckets_same store f k hashes) h

@@ -19,7 +19,7 @@ use Rattle.sat_checker.specs.inner.UnitView.{AreUnits, id_at, unit_of}
 use Rattle.sat_checker.specs.declared.unit_ids.UnitIds.{UnitIds}
 use Rattle.sat_checker.specs.declared.units.Unit.{Unit}
 
-same_literals_of : (us : List Unit) → map (λ u. u.literal) (map unit_of us) ≡ map (λ u. u.lit) us
+pub same_literals_of : (us : List Unit) → map (λ u. u.literal) (map unit_of us) ≡ map (λ u. u.lit) us
 same_literals_of [] = refl
 same_literals_of (u ∷ us) = ap (λ ls. u.lit ∷ ls) (same_literals_of us)
 
@@ -66,7 +66,7 @@ any_at : (test : ℕ → Bool) (us : List StoredUnit) → list_any (λ u. test u
 any_at test [] = refl
 any_at test (u ∷ us) = ap (λ b. test u.literal || b) (any_at test us)
 
-same_tests : (a b : Bool) → (a ≡ true → b ≡ true) → (b ≡ true → a ≡ true) → a ≡ b
+pub same_tests : (a b : Bool) → (a ≡ true → b ≡ true) → (b ≡ true → a ≡ true) → a ≡ b
 same_tests true true f g = refl
 same_tests false false f g = refl
 same_tests true false f g = absurd (true≢false (sym (f refl)))

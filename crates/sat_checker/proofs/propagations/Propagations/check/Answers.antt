@@ -1,0 +1,53 @@
+use Rattle.std.proofs.Common.{[], ◌∷◌, ◌++◌, map, sym, ◌∙◌, ap, subst}
+use Rattle.std.proofs.lemmas.Bool.{true≢false}
+use Rattle.sat_base.specs.values.Literals.{negated}
+use Rattle.sat_checker.specs.Stored.{StoredUnit, unit_literals}
+use Rattle.sat_checker.specs.announcements.Needed.{ground, conflict_ids, true_unit}
+use Rattle.sat_checker.specs.inner.Marks.{IsIncreasing}
+use Rattle.sat_checker.specs.inner.Reasons.{named}
+use Rattle.sat_checker.proofs.lemmas.sets.Canonical.{canonical_increasing}
+use Rattle.sat_checker.proofs.lemmas.store.Keeping.{named_same}
+use Rattle.sat_checker.proofs.lemmas.announcements.Cases.{met_conflict, none_of_signs, unit_of_literals, ids_of_conflict}
+use Rattle.sat_checker.proofs.propagations.Propagations.check.Goals as goal
+
+pub returns-then-not-branch-clause-exact : goal.returns-then-not-branch-clause-exact
+returns-then-not-branch-clause-exact c = λ f k e. (λ t. absurd (true≢false (sym t)), λ p. sym c.if-not-branch.true ∙ (c.in_ok-check_noted.ensures.exact f k e).1 p)
+
+pub has_both_signs-requires : goal.has_both_signs-requires
+has_both_signs-requires c = subst IsIncreasing (sym c.requires) (canonical_increasing c.args.clause.now)
+
+-- both signs of a variable
+pub returns-then-has_both_signs-clause-listed : goal.returns-then-has_both_signs-clause-listed
+returns-then-has_both_signs-clause-listed c = λ _ f k e i.
+    c.clear.ensures.items ∙ sym (none_of_signs c.args.clause.now c.args.literals.now c.requires f c.args.hashes.now (sym c.has_both_signs.ensures ∙ c.if-has_both_signs.true))
+
+-- a unit that is true
+pub returns-in-Some-clause-listed : goal.returns-in-Some-clause-listed
+returns-in-Some-clause-listed c = λ _ f k e i.
+    let found = ap (true_unit c.args.literals.now) (sym e ∙ sym c.check_noted.ensures.units) ∙ sym c.true_id.ensures ∙ c.in-Some.is in
+    c.in_ok-push.ensures.items ∙ ap (λ xs. xs ++ c.in-Some.id ∷ []) c.clear.ensures.items
+    ∙ sym (unit_of_literals c.args.clause.now c.args.literals.now c.requires f c.args.hashes.now c.in-Some.id (sym c.has_both_signs.ensures ∙ c.if-has_both_signs.false) found)
+
+-- a conflict
+pub list_conflict-requires-clause-there : goal.list_conflict-requires-clause-there
+list_conflict-requires-clause-there c =
+    let none = ap (true_unit c.args.literals.now) (sym c.check_noted.ensures.units) ∙ sym c.true_id.ensures ∙ c.in_default.is in
+    (met_conflict c.args.clause.now c.args.literals.now c.requires c.args.units.now c.has_both_signs.result _ c.has_both_signs.ensures c.if-has_both_signs.false none (c.in_ok-check_noted.ensures.explained c.if-not-branch.false)).there
+
+pub list_conflict-requires-clause-met : goal.list_conflict-requires-clause-met
+list_conflict-requires-clause-met c =
+    let none = ap (true_unit c.args.literals.now) (sym c.check_noted.ensures.units) ∙ sym c.true_id.ensures ∙ c.in_default.is in
+    (met_conflict c.args.clause.now c.args.literals.now c.requires c.args.units.now c.has_both_signs.result _ c.has_both_signs.ensures c.if-has_both_signs.false none (c.in_ok-check_noted.ensures.explained c.if-not-branch.false)).met
+
+pub returns-clause-listed : goal.returns-clause-listed
+returns-clause-listed c = λ _ f k e i.
+    let none = ap (true_unit c.args.literals.now) (sym c.check_noted.ensures.units) ∙ sym c.true_id.ensures ∙ c.in_default.is in
+    let explained = met_conflict c.args.clause.now c.args.literals.now c.requires c.args.units.now c.has_both_signs.result _ c.has_both_signs.ensures c.if-has_both_signs.false none (c.in_ok-check_noted.ensures.explained c.if-not-branch.false) in
+    let denied = map negated c.args.clause.now in
+    let noted = named c.args.hashes.now c.args.store.now.clauses in
+    let now = c.check_noted.ensures.units ∙ e in
+    c.in_ok-list_conflict.ensures.listed (ground (denied ++ map (λ u. u.literal) c.args.units.now) noted) explained (subst (λ us. IsIncreasing (map (λ (u : StoredUnit). u.id) us)) (sym now) i)
+    ∙ ap (conflict_ids denied (ground (denied ++ map (λ u. u.literal) c.args.units.now) noted)) now
+    ∙ ap (λ us. conflict_ids denied (ground (denied ++ map (λ (u : StoredUnit). u.literal) us) noted) f.units) e
+    ∙ ap (λ cs. conflict_ids denied (ground (denied ++ unit_literals f) cs) f.units) (named_same c.args.store.now f k c.args.hashes.now)
+    ∙ sym (ids_of_conflict c.args.clause.now c.args.literals.now c.requires f c.args.hashes.now (sym c.has_both_signs.ensures ∙ c.if-has_both_signs.false) (ap (true_unit c.args.literals.now) (sym e) ∙ none))

@@ -1,0 +1,10 @@
+use Rattle.sat_checker.proofs.lemmas.store.Units.{checked_units}
+use Rattle.sat_checker.proofs.lemmas.announcements.Listing.{explained_units}
+use Rattle.sat_checker.proofs.units.Units.check_noted.Goals as goal
+
+pub returns-clause-exact : goal.returns-clause-exact
+returns-clause-exact c = checked_units c.check_noted.result c.args.store.now c.self.inside.list.items c.args.self.now c.self.inside.assigned c.args.clause.now c.args.hashes.now c.self.view_is c.self.invariant.assumed c.check_noted.ensures.exact
+
+pub returns-clause-explained : goal.returns-clause-explained
+returns-clause-explained c =
+    explained_units c.check_noted.result c.args.store.now.clauses c.check_noted.new.passed c.self.inside.list.items c.args.self.now c.self.inside.assigned c.args.clause.now c.args.hashes.now c.self.view_is c.self.invariant.assumed c.check_noted.ensures.explained
