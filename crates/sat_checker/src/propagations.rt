@@ -30,7 +30,9 @@ pub(crate) struct Propagations {
 }
 
 impl Propagations {
-    pub fn new(alloc: Global) -> Propagations {
+    pub fn new(alloc: Global) -> Propagations
+        ensures { result.ids.items ≡ [] }
+    {
         Propagations {
             ids: Vec::new(alloc),
             passed: Passed::new(alloc),
