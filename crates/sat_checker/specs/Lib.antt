@@ -15,3 +15,4 @@ pub mod DimacsView
 pub mod Laws
 pub mod Rows
 pub mod announcements
+pub mod telling

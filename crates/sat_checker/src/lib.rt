@@ -1,6 +1,7 @@
 //! A checker of proof steps.
 #![tactic(auto)]
 
+pub mod announcement;
 pub(crate) mod assigned;
 pub mod checker;
 pub(crate) mod clauses;
@@ -24,13 +25,18 @@ pub(crate) mod state;
 pub(crate) mod status;
 pub(crate) mod store;
 mod tally;
+pub mod transcript;
 pub(crate) mod unit_ids;
 pub(crate) mod units;
 pub(crate) mod valuation;
 pub mod variables;
 
+pub use announcement::{
+    CheckedProofStep, CheckedSamplingMode, CheckedUserVar, CheckerData, ResolutionPropagations,
+};
 pub use checker::Checker;
 pub use error::{CheckerDimacsError, CheckerError};
 pub use hash::ClauseHasher;
 pub use internal::SelfChecker;
 pub use looks::Looks;
+pub use transcript::{ProofTranscriptProcessor, ProofTranscriptStep, Transcript};

@@ -1,0 +1,2 @@
+pub mod AnnouncementView
+pub mod TranscriptView

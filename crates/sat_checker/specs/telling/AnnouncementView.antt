@@ -1,0 +1,42 @@
+-- What an announcement of the code says, and the variables that may be looked up meanwhile.
+use Rattle.std.specs.Prelude.{ℕ, Bool, true, false}
+use Rattle.std.specs.Option.{option_map}
+use Rattle.sat_checker.specs.Stored.{Variable}
+use Rattle.sat_checker.specs.announcements.Announcements.{UserVariable, Announcement, UserVar, AddClause, DuplicatedClause, TautologicalClause, AtClause, MakeIrredundant, DeleteClause, DeleteAtClause, DeleteRatClause, Model, Assumptions, FailedAssumptions, Told}
+use Rattle.sat_checker.specs.inner.VariablesView.{variable_at}
+use Rattle.sat_checker.specs.declared.announcement.CheckedSamplingMode.{CheckedSamplingMode}
+use Rattle.sat_checker.specs.declared.announcement.CheckedSamplingMode.TheVariants as modes
+use Rattle.sat_checker.specs.declared.announcement.CheckedUserVar.{CheckedUserVar}
+use Rattle.sat_checker.specs.declared.announcement.CheckedProofStep.{CheckedProofStep}
+use Rattle.sat_checker.specs.declared.announcement.CheckedProofStep.TheVariants as code
+use Rattle.sat_checker.specs.declared.announcement.CheckerData.{CheckerData}
+
+abbrev pub is_sampling : CheckedSamplingMode → Bool
+is_sampling modes.Sample = true
+is_sampling modes.Witness = false
+
+abbrev pub user_of : CheckedUserVar → UserVariable
+user_of u = record { name = u.user_var; sampling = is_sampling u.sampling_mode; is_new = u.new_var }
+
+-- the announcement without where it lies in memory
+abbrev pub announcement_of : CheckedProofStep → Announcement
+announcement_of (code.UserVar var user) = UserVar var (option_map user_of user)
+announcement_of (code.AddClause id clause) = AddClause id clause.now
+announcement_of (code.DuplicatedClause id same clause) = DuplicatedClause id same clause.now
+announcement_of (code.TautologicalClause id clause) = TautologicalClause id clause.now
+announcement_of (code.AtClause id redundant clause ids) = AtClause id redundant clause.now ids.now
+announcement_of (code.MakeIrredundant id clause) = MakeIrredundant id clause.now
+announcement_of (code.DeleteClause id clause) = DeleteClause id clause.now
+announcement_of (code.DeleteAtClause id kept clause ids) = DeleteAtClause id kept clause.now ids.now
+announcement_of (code.DeleteRatClause id kept clause pivot resolvents) = DeleteRatClause id kept clause.now
+announcement_of (code.Model assignment) = Model assignment.now
+announcement_of (code.Assumptions assumptions) = Assumptions assumptions.now
+announcement_of (code.FailedAssumptions core ids) = FailedAssumptions core.now ids.now
+
+-- the variables that may be looked up
+abbrev pub variables_of : CheckerData → ℕ → Variable
+variables_of names = variable_at names.variables.now
+
+-- what is told by the announcement, with the variables that may be looked up
+abbrev pub told_of : CheckedProofStep → CheckerData → Told
+told_of step names = record { announcement = announcement_of step; variables = variables_of names }

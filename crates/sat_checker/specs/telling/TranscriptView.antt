@@ -1,0 +1,16 @@
+-- What a transcript's step of the code says.
+use Rattle.sat_checker.specs.announcements.Transcripts.{Transcribed, WitnessVar, SampleVar, HideVar, ObserveInternalVar, AddClause, Unsat, Model, Assume, FailedAssumptions}
+use Rattle.sat_checker.specs.declared.transcript.ProofTranscriptStep.{ProofTranscriptStep}
+use Rattle.sat_checker.specs.declared.transcript.ProofTranscriptStep.TheVariants as code
+
+-- the step without where it lies in memory
+abbrev pub transcribed_of : ProofTranscriptStep → Transcribed
+transcribed_of (code.WitnessVar var) = WitnessVar var
+transcribed_of (code.SampleVar var) = SampleVar var
+transcribed_of (code.HideVar var) = HideVar var
+transcribed_of (code.ObserveInternalVar var) = ObserveInternalVar var
+transcribed_of (code.AddClause clause) = AddClause clause.now
+transcribed_of code.Unsat = Unsat
+transcribed_of (code.Model assignment) = Model assignment.now
+transcribed_of (code.Assume assumptions) = Assume assumptions.now
+transcribed_of (code.FailedAssumptions core) = FailedAssumptions core.now

@@ -1,0 +1,137 @@
+//! What the checker announces of the steps that it accepts.
+ghost use Rattle.std.specs.Prelude.{◌≡◌};
+ghost use Rattle.sat_checker.specs.announcements.Transcripts.{user_from_proof_var};
+ghost use Rattle.sat_checker.specs.inner.VariablesView.{variable_at};
+ghost use Rattle.sat_checker.specs.telling.AnnouncementView.{variables_of};
+
+use crate::variables::{SamplingMode, Variables};
+use sat_base::{Lit, Var};
+
+/// The mode of a variable that has a name.
+#[derive(Clone, Copy)]
+pub enum CheckedSamplingMode {
+    /// Models and cores speak of it.
+    Sample,
+    /// No clause of the formula may have it.
+    Witness,
+}
+
+/// What is told of a variable that has a name.
+#[derive(Clone, Copy)]
+pub struct CheckedUserVar {
+    pub user_var: Var,
+    pub sampling_mode: CheckedSamplingMode,
+    /// Whether the variable was unknown till now.
+    pub new_var: bool,
+}
+
+/// Clauses that a resolvent on a pivot follows from. No step has any yet.
+#[derive(Clone, Copy)]
+pub struct ResolutionPropagations {}
+
+/// An announcement. Its lists are lent; clauses and cores are sorted, without repeats. `propagations` are the ids of the clauses
+/// that something follows from by propagation.
+#[derive(Clone, Copy)]
+pub enum CheckedProofStep<'a> {
+    /// A variable gets a name of the user's or another mode, or loses its name.
+    UserVar {
+        var: Var,
+        user_var: Option<CheckedUserVar>,
+    },
+    /// A new clause of the formula.
+    AddClause {
+        id: u64,
+        clause: &'a [Lit],
+    },
+    /// A clause of the formula that was stored before under another id.
+    DuplicatedClause {
+        id: u64,
+        same_as_id: u64,
+        clause: &'a [Lit],
+    },
+    /// A clause of the formula that has both signs of a variable. It isn't stored.
+    TautologicalClause {
+        id: u64,
+        clause: &'a [Lit],
+    },
+    /// A new clause that follows from others.
+    AtClause {
+        id: u64,
+        redundant: bool,
+        clause: &'a [Lit],
+        propagations: &'a [u64],
+    },
+    /// A clause that was redundant alone is irredundant from here on.
+    MakeIrredundant {
+        id: u64,
+        clause: &'a [Lit],
+    },
+    /// A redundant clause is gone.
+    DeleteClause {
+        id: u64,
+        clause: &'a [Lit],
+    },
+    /// A clause that follows from others is no longer irredundant.
+    DeleteAtClause {
+        id: u64,
+        keep_as_redundant: bool,
+        clause: &'a [Lit],
+        propagations: &'a [u64],
+    },
+    /// A clause whose resolvents on a hidden pivot follow from others is no longer irredundant. It is never announced.
+    DeleteRatClause {
+        id: u64,
+        keep_as_redundant: bool,
+        clause: &'a [Lit],
+        pivot: Lit,
+        propagations: &'a ResolutionPropagations,
+    },
+    /// A valuation that satisfies the formula, in the order of its step.
+    Model {
+        assignment: &'a [Lit],
+    },
+    /// What is assumed from here on, in the order of its step.
+    Assumptions {
+        assumptions: &'a [Lit],
+    },
+    /// Assumptions that can't hold together.
+    FailedAssumptions {
+        failed_core: &'a [Lit],
+        propagations: &'a [u64],
+    },
+}
+
+/// What may be looked up while something is announced: the variables as they were before the step.
+#[derive(Clone, Copy)]
+pub struct CheckerData<'a> {
+    variables: &'a Variables,
+}
+
+impl<'a> CheckerData<'a> {
+    pub fn new(variables: &'a Variables) -> CheckerData<'a>
+        ensures { variables_of result ≡ variable_at variables.now }
+    {
+        CheckerData { variables }
+    }
+
+    /// The name that the user gave.
+    pub(crate) fn explicit_name(self, proof_var: Var) -> Option<Var>
+        ensures { result ≡ (variables_of self.entry proof_var).name }
+    {
+        self.variables.data(proof_var).name
+    }
+
+    /// The user's name of a variable: the one that was given, else the variable's own where it is a sampling one.
+    pub fn user_from_proof_var(self, proof_var: Var) -> Option<Var>
+        ensures { result ≡ user_from_proof_var (variables_of self.entry) proof_var }
+    {
+        let data = self.variables.data(proof_var);
+        if let Some(name) = data.name {
+            return Some(name);
+        }
+        match data.mode {
+            SamplingMode::Sample => Some(proof_var),
+            SamplingMode::Witness | SamplingMode::Hide => None,
+        }
+    }
+}
