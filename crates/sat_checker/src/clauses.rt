@@ -1,12 +1,11 @@
 //! The stored clauses of two literals or more.
-ghost use Rattle.std.specs.Prelude.{ℕ, ◌≡◌, ◌+◌, ◌*◌, ◌<◌, ◌≤◌, ◌^◌, [], ◌∷◌, ◌++◌, length, false, MatchOption, OnOk, None, Some};
+ghost use Rattle.std.specs.Prelude.{ℕ, ◌≡◌, ◌+◌, ◌*◌, ◌<◌, ◌≤◌, ◌^◌, [], ◌∷◌, ◌++◌, length, false, MatchOption, OnOk};
 ghost use Rattle.std.specs.List.{AllByRecursion, list_any};
 ghost use Rattle.sat_checker.specs.LiteralSets.{mentions};
-ghost use Rattle.sat_checker.specs.Storing.{clause_numbered};
 ghost use Rattle.sat_checker.specs.inner.ModelTests.{are_all_true};
 ghost use Rattle.sat_checker.specs.Looks.{total_length};
 ghost use Rattle.sat_checker.specs.inner.Marks.{IsIncreasing};
-ghost use Rattle.sat_checker.specs.inner.SlotView.{slot_at, literals_at, all_lits, stored_slot, with_count_at, without_count_at, count_of, is_gone, places_of, bucket_in, is_same_at, found_among, all_hashed_by, live, live_length, IsBucket};
+ghost use Rattle.sat_checker.specs.inner.SlotView.{slot_at, literals_at, all_lits, stored_slot, with_count_at, without_count_at, count_of, is_gone, is_standing, places_of, bucket_in, is_same_at, found_among, all_hashed_by, live, live_length, IsBucket};
 ghost use Rattle.sat_checker.specs.HasherView.{solver_name_of, width_of};
 ghost use Rattle.sat_checker.specs.inner.IndexView.{places_in};
 
@@ -117,21 +116,11 @@ impl Clauses {
         None
     }
 
-    /// The place of the clause with this id.
-    #[tactic(auto, using(crate::proofs::lemmas::state::Living::finding_place))]
-    pub fn place_numbered(&self, id: u64) -> Option<usize>
-        ensures { MatchOption result (clause_numbered id (live self.now) ≡ None)
-            (λ p. (p < length self.now) × (clause_numbered id (live self.now) ≡ Some (literals_at self.now p))) }
+    /// Whether there is a clause at the place, and it isn't gone.
+    pub fn is_standing(&self, place: usize) -> bool
+        ensures { result ≡ is_standing self.now place }
     {
-        for place in 0..self.slots.len() {
-            if self.slots.is_gone(place) {
-                continue;
-            }
-            if self.slots.id(place) == id {
-                return Some(place);
-            }
-        }
-        None
+        place < self.slots.len() && !self.slots.is_gone(place)
     }
 
     /// Whether a clause that isn't gone has a literal of the variable.

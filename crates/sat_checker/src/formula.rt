@@ -139,7 +139,6 @@ impl Formula {
     }
 
     /// Stores a clause of one literal.
-    #[tactic(auto, using(crate::proofs::lemmas::formula::Storing::storing_single))]
     fn store_single(&mut self, redundant: bool, lit: Lit) -> Result<(), StoreError>
         ensures { Becomes result self.old (with_canonical redundant (lit ∷ [])) self.new }
     {
@@ -148,7 +147,7 @@ impl Formula {
             return Ok(());
         }
         if let Some(id) = self.units.id(lit) {
-            self.status.last = LastClause::Single(id);
+            self.status.last = LastClause::Single(id, lit);
         }
         Ok(())
     }
@@ -166,9 +165,10 @@ impl Formula {
         ensures looks { (f : Stored) → KeepsFormula self.old f → looks.new ≤ looks.old + literal_count f }
     {
         let id = self.status.next_id;
-        let (id, is_new) = self.store.store_clause(id, redundant, literals, looks)?;
-        self.status.note_last(redundant, LastClause::Long(id));
-        self.status.take_id_if(is_new)
+        let placed = self.store.store_clause(id, redundant, literals, looks)?;
+        self.status
+            .note_last(redundant, LastClause::Long(placed.id, placed.place));
+        self.status.take_id_if(placed.is_new)
     }
 
     /// Stores sorted literals without repeats.
@@ -304,11 +304,13 @@ impl Formula {
         match self.status.last {
             LastClause::NoneYet => false,
             LastClause::Empty(_) => is_subset(&[], literals, true),
-            LastClause::Single(id) => match self.units.numbered(id) {
-                Some(lit) => is_subset(&[lit], literals, true),
-                None => false,
-            },
-            LastClause::Long(id) => self.store.has_strict_part(id, literals, looks),
+            LastClause::Single(id, lit) => {
+                if self.units.id(lit) != Some(id) {
+                    return false;
+                }
+                is_subset(&[lit], literals, true)
+            }
+            LastClause::Long(_, place) => self.store.has_strict_part(place, literals, looks),
         }
     }
 

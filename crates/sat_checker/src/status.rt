@@ -6,14 +6,16 @@ ghost use Rattle.sat_checker.specs.inner.FormulaView.{standing_in, standing_of};
 ghost use Rattle.sat_checker.specs.declared.store.StoreError.TheVariants.{CounterEnd};
 
 use crate::store::StoreError;
+use sat_base::Lit;
 
-/// The last irredundant clause stored: none yet, or an empty one, a unit or a longer one by its id.
+/// The last irredundant clause stored: none yet, or an empty one, a unit or a longer one by its id. Beside the id stands where it
+/// was put, so that it is found without a search: the unit's literal, or the longer clause's place.
 #[derive(Clone, Copy)]
 pub(crate) enum LastClause {
     NoneYet,
     Empty(u64),
-    Single(u64),
-    Long(u64),
+    Single(u64, Lit),
+    Long(u64, usize),
 }
 
 /// What is recorded of the stored formula as a whole.

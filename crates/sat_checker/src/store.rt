@@ -1,12 +1,13 @@
 //! The stored clauses of two literals or more, with the hashes by which steps name them.
-ghost use Rattle.std.specs.Prelude.{◌≡◌, ◌+◌, ◌*◌, ◌≤◌, ◌<◌, ◌^◌, ◌++◌, IfOk, OnOk, Err, MatchBool, length, map, false, IsTrue, ◌↔◌};
+ghost use Rattle.std.specs.Prelude.{◌≡◌, [], ◌+◌, ◌*◌, ◌≤◌, ◌<◌, ◌^◌, ◌++◌, IfOk, OnOk, Err, MatchBool, length, map, false, IsTrue, ◌↔◌};
 ghost use Rattle.sat_base.specs.values.Literals.{negated};
 ghost use Rattle.sat_checker.specs.Propagation.{PassesCheck};
 ghost use Rattle.sat_checker.specs.inner.Marks.{IsIncreasing};
 ghost use Rattle.sat_checker.specs.Stored.{Stored, bucket, nothing_stored};
 ghost use Rattle.sat_checker.specs.Looks.{literal_count};
-ghost use Rattle.sat_checker.specs.inner.StoreView.{KeepsClauses, Stores, count_in};
-ghost use Rattle.sat_checker.specs.Storing.{clause_numbered, clause_with, with_solver_name, without_clause};
+ghost use Rattle.sat_checker.specs.inner.StoreView.{KeepsClauses, Stores, IsPlaced, count_in};
+ghost use Rattle.sat_checker.specs.inner.SlotView.{slot_ids, literals_left};
+ghost use Rattle.sat_checker.specs.Storing.{clause_with, with_solver_name, without_clause};
 ghost use Rattle.sat_checker.specs.Accepts.{IsStrictSubset};
 ghost use Rattle.sat_checker.specs.LiteralSets.{is_among, is_tautology, mentions};
 ghost use Rattle.sat_checker.specs.announcements.Needed.{ground};
@@ -43,6 +44,14 @@ impl From<AllocError> for StoreError {
     }
 }
 
+/// Where a clause is stored, and whether it is new.
+#[derive(Clone, Copy)]
+pub(crate) struct Placed {
+    pub(crate) id: u64,
+    pub(crate) place: usize,
+    pub(crate) is_new: bool,
+}
+
 /// Clauses, and the hasher of now.
 #[derive(Drop)]
 pub(crate) struct Store {
@@ -60,7 +69,8 @@ fn all_bits() -> HashBits
 impl Store {
     /// No clause, and hashes of 64 bits.
     pub fn new(alloc: Global) -> Store
-        ensures { KeepsClauses result nothing_stored }
+        ensures kept { KeepsClauses result nothing_stored }
+        ensures ids { slot_ids result.clauses ≡ [] }
     {
         Store {
             clauses: Clauses::new(alloc),
@@ -108,34 +118,42 @@ impl Store {
         check_clause_noted(&self.clauses, clause, hashes, units, passed, looks)
     }
 
-    /// Stores sorted literals without repeats once more, under this id where they are new. The answer is the id under which they
-    /// are stored, and whether they are new.
+    /// Stores sorted literals without repeats once more, under this id where they are new. The answer is where they are stored.
     pub fn store_clause(
         &mut self,
         id: u64,
         redundant: bool,
         literals: &[Lit],
         looks: &mut Looks,
-    ) -> Result<(u64, bool), StoreError>
+    ) -> Result<Placed, StoreError>
         requires { IsIncreasing literals.now }
-        ensures ok { IfOk result (λ stored. (f : Stored) → KeepsClauses self.old f
-            → Stores self.new f id redundant literals.now stored.0 stored.1) }
+        ensures ok { IfOk result (λ placed. (f : Stored) → KeepsClauses self.old f
+            → Stores self.new f id redundant literals.now placed.id placed.is_new) }
+        ensures placed { IfOk result (λ placed. IsPlaced self.old.clauses self.new.clauses id placed) }
         // A count is at its end.
         ensures full { result ≡ Err StoreError.CounterEnd → (f : Stored) → KeepsClauses self.old f
             → 2 ^ 64 ≤ count_in redundant (clause_with literals.now f.clauses) + 1 }
         ensures looks { (f : Stored) → KeepsClauses self.old f → looks.new ≤ looks.old + literal_count f }
     {
-        let _count = self.clauses.len();
+        let count = self.clauses.len();
         let hash = self.hasher.clause_hash(literals);
         let Some(place) = self.clauses.find(hash, literals, looks) else {
             self.clauses.push(id, redundant, hash, literals)?;
-            return Ok((id, true));
+            return Ok(Placed {
+                id,
+                place: count,
+                is_new: true,
+            });
         };
         if self.clauses.count(place, redundant) == u64::MAX {
             return Err(StoreError::CounterEnd);
         }
         self.clauses.add_count(place, redundant);
-        Ok((self.clauses.id(place), false))
+        Ok(Placed {
+            id: self.clauses.id(place),
+            place,
+            is_new: false,
+        })
     }
 
     /// Takes a count from sorted literals without repeats. The answer is whether they have one.
@@ -144,6 +162,7 @@ impl Store {
             ((0 < count_in redundant (clause_with literals.now f.clauses))
             × KeepsClauses self.new (record f { clauses = without_clause redundant literals.now f.clauses }))
             (0 < count_in redundant (clause_with literals.now f.clauses) → ⊥) }
+        ensures ids { slot_ids self.new.clauses ≡ slot_ids self.old.clauses }
         ensures looks { (f : Stored) → KeepsClauses self.old f → looks.new ≤ looks.old + literal_count f }
     {
         let hash = self.hasher.clause_hash(literals);
@@ -165,6 +184,7 @@ impl Store {
         looks: &mut Looks,
     ) -> Result<(), AllocError>
         ensures set { OnOk result ((f : Stored) → KeepsClauses self.old f → KeepsClauses self.new (record f { width = bits })) }
+        ensures ids { OnOk result (slot_ids self.new.clauses ≡ slot_ids self.old.clauses) }
         ensures looks { (f : Stored) → KeepsClauses self.old f → looks.new ≤ looks.old + literal_count f }
     {
         self.hasher.set_bits(bits);
@@ -181,6 +201,7 @@ impl Store {
         looks: &mut Looks,
     ) -> Result<(), AllocError>
         ensures set { OnOk result ((f : Stored) → KeepsClauses self.old f → KeepsClauses self.new (with_solver_name var name f)) }
+        ensures ids { OnOk result (slot_ids self.new.clauses ≡ slot_ids self.old.clauses) }
         ensures looks { (f : Stored) → KeepsClauses self.old f → looks.new ≤ looks.old + literal_count f }
     {
         if self.hasher.solver_name(var) == name {
@@ -191,19 +212,19 @@ impl Store {
         Ok(())
     }
 
-    /// Whether the clause with this id is there, and is a part of these sorted literals but not all of them.
-    pub fn has_strict_part(&self, id: u64, literals: &[Lit], looks: &mut Looks) -> bool
+    /// Whether the clause at this place isn't gone, and is a part of these sorted literals but not all of them.
+    pub fn has_strict_part(&self, place: usize, literals: &[Lit], looks: &mut Looks) -> bool
         requires { IsIncreasing literals.now }
-        ensures part { (f : Stored) → KeepsClauses self.now f → MatchBool result
-            (IsStrictSubset (clause_numbered id f.clauses) literals.now)
-            (IsStrictSubset (clause_numbered id f.clauses) literals.now → ⊥) }
+        ensures part { MatchBool result
+            (IsStrictSubset (literals_left self.now.clauses place) literals.now)
+            (IsStrictSubset (literals_left self.now.clauses place) literals.now → ⊥) }
         ensures looks { (f : Stored) → KeepsClauses self.now f → looks.new ≤ looks.old + literal_count f }
     {
         let _count = self.clauses.len();
-        match self.clauses.place_numbered(id) {
-            Some(place) => is_subset(self.clauses.literals(place, looks), literals, true),
-            None => false,
+        if !self.clauses.is_standing(place) {
+            return false;
         }
+        is_subset(self.clauses.literals(place, looks), literals, true)
     }
 
     /// Whether a stored clause has a literal of the variable.

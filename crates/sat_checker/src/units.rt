@@ -1,12 +1,12 @@
 //! The stored units.
-ghost use Rattle.std.specs.Prelude.{◌≡◌, ◌++◌, ◌∷◌, [], ◌+◌, ◌*◌, ◌≤◌, ◌↔◌, false, length, map, IfOk, IsTrue, OnOk, reverse, MatchOption, None, Some, filter, not, ◌==◌};
+ghost use Rattle.std.specs.Prelude.{◌≡◌, ◌++◌, ◌∷◌, [], ◌+◌, ◌*◌, ◌≤◌, ◌↔◌, false, length, map, IfOk, IsTrue, OnOk, reverse, filter, not, ◌==◌};
 ghost use Rattle.sat_base.specs.values.Literals.{negated, variable};
 ghost use Rattle.std.specs.List.{list_any};
 ghost use Rattle.sat_checker.specs.LiteralSets.{is_among, is_tautology};
 ghost use Rattle.sat_checker.specs.announcements.Needed.{ground, true_unit};
 ghost use Rattle.sat_checker.specs.inner.Marks.{NoRepeats};
 ghost use Rattle.sat_checker.specs.inner.Reasons.{named, noted_length, Explains};
-ghost use Rattle.sat_checker.specs.Storing.{unit_id, unit_numbered};
+ghost use Rattle.sat_checker.specs.Storing.{unit_id};
 ghost use Rattle.sat_checker.specs.Stored.{Stored};
 ghost use Rattle.sat_checker.specs.Accepts.{Passes};
 ghost use Rattle.sat_checker.specs.Looks.{literal_count};
@@ -131,19 +131,6 @@ impl Units {
         self.ids.forget(positive);
         self.ids.forget(negative);
         self.list.retain(|unit| unit.lit.var() != var);
-    }
-
-    /// The unit with this id.
-    #[tactic(auto, using(crate::proofs::lemmas::state::Scanning::finding_number))]
-    pub fn numbered(&self, id: u64) -> Option<Lit>
-        ensures { MatchOption result (unit_numbered id self.now ≡ None) (λ l. unit_numbered id self.now ≡ Some (l ∷ [])) }
-    {
-        for unit in &self.list {
-            if unit.id == id {
-                return Some(unit.lit);
-            }
-        }
-        None
     }
 
     /// Whether the negation of a unit is assumed.

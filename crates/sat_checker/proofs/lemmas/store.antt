@@ -1,4 +1,5 @@
 pub mod Buckets
+pub mod Ids
 pub mod Entries
 pub mod Places
 pub mod Finding

@@ -1,5 +1,5 @@
 -- What the store has at each place.
-use Rattle.std.specs.Prelude.{ℕ, ◌+◌, ◌<◌, ◌≤◌, ◌==◌, ◌≡◌, Bool, not, ◌&&◌, List, [], ◌∷◌, ◌++◌, map, filter, find, Option, length, take, nat_le, slice_range, slice_index_or, slice_set, if◌then◌else◌}
+use Rattle.std.specs.Prelude.{ℕ, ◌+◌, ◌<◌, ◌≤◌, ◌==◌, ◌≡◌, Bool, not, ◌&&◌, List, [], ◌∷◌, ◌++◌, map, filter, find, Option, None, Some, length, take, nat_le, nat_lt, slice_range, slice_index_or, slice_set, if◌then◌else◌}
 use Rattle.std.specs.List.{AllByRecursion}
 use Rattle.sat_checker.specs.LiteralSets.{same_literals}
 use Rattle.sat_checker.specs.Looks.{total_length}
@@ -44,6 +44,10 @@ without_count_at redundant place slots = slice_set slots place (record (slot_at 
 abbrev pub with_hash_at : ℕ → ℕ → List Slot → List Slot
 with_hash_at hash place slots = slice_set slots place (record (slot_at slots place) { hash = hash })
 
+-- the ids by place, those of clauses that are gone among them
+abbrev pub slot_ids : List Slot → List ℕ
+slot_ids = map (λ s. s.clause.id)
+
 -- the clauses that aren't gone
 abbrev pub live : List Slot → List StoredClause
 live [] = []
@@ -51,6 +55,14 @@ live (s ∷ ss) = unless_gone s.clause ++ live ss
 
 abbrev pub is_gone : Slot → Bool
 is_gone s = s.clause.irredundant == 0 && s.clause.redundant == 0
+
+-- is there a clause at the place, which isn't gone?
+abbrev pub is_standing : List Slot → ℕ → Bool
+is_standing slots place = nat_lt place (length slots) && not (is_gone (slot_at slots place))
+
+-- the literals of the clause at the place, unless it's gone
+abbrev pub literals_left : List Slot → ℕ → Option (List ℕ)
+literals_left slots place = if is_standing slots place then Some (literals_at slots place) else None
 
 -- a clause that was stored once
 abbrev pub stored_slot : Bool → ℕ → ℕ → List ℕ → Slot

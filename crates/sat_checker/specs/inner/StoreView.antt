@@ -1,11 +1,12 @@
 -- What the store keeps of the definition's state.
-use Rattle.std.specs.Prelude.{ℕ, ◌≡◌, Bool, false, not, List, Option, None, Some, is_some, if◌then◌else◌}
+use Rattle.std.specs.Prelude.{ℕ, ◌<◌, ◌≡◌, Bool, false, not, List, [], ◌∷◌, ◌++◌, length, get_or, Option, None, Some, is_some, if◌then◌else◌}
 use Rattle.std.specs.List.{AllByRecursion}
 use Rattle.sat_checker.specs.Stored.{Stored, StoredClause, hash_by}
 use Rattle.sat_checker.specs.Storing.{clause_with, with_clause, redundant_count, irredundant_count}
 use Rattle.sat_checker.specs.HasherView.{solver_name_of, width_of}
-use Rattle.sat_checker.specs.inner.SlotView.{Slot, is_gone, live}
+use Rattle.sat_checker.specs.inner.SlotView.{Slot, is_gone, live, slot_ids}
 use Rattle.sat_checker.specs.declared.hash.ClauseHasher.{ClauseHasher}
+use Rattle.sat_checker.specs.declared.store.Placed.{Placed}
 use Rattle.sat_checker.specs.declared.store.Store.{Store}
 
 -- each clause that isn't gone has its hash of now
@@ -35,3 +36,13 @@ pub record Stores (store : Store) (f : Stored) (id : ℕ) (redundant : Bool) (li
   pub stored : KeepsClauses store (record f { clauses = with_clause redundant id literals f.clauses })
   pub id_is : stored_id ≡ id_in (clause_with literals f.clauses) id
   pub new_is : is_new ≡ not (is_some (clause_with literals f.clauses))
+
+-- the id at a place
+pub record HasId (ids : List ℕ) (id : ℕ) (place : ℕ) : Type 0 where
+  pub inside : place < length ids
+  pub is : get_or ids place 0 ≡ id
+
+-- A clause has its id at its place. The other ids stay, and a new clause stands behind the others with the next one.
+pub record IsPlaced (old : List Slot) (new : List Slot) (next_id : ℕ) (placed : Placed) : Type 0 where
+  pub ids : slot_ids new ≡ (if placed.is_new then slot_ids old ++ next_id ∷ [] else slot_ids old)
+  pub has : HasId (slot_ids new) placed.id placed.place

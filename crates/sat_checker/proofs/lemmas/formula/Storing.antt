@@ -1,20 +1,23 @@
 -- What storing leaves of the formula.
-use Rattle.std.proofs.Common.{ℕ, ◌+◌, ◌≤◌, ◌^◌, ◌≡◌, Bool, true, false, not, cond, eqb, List, [], ◌∷◌, length, Option, None, Some, is_some, refl, sym, ◌∙◌, ap, subst, arith, Result, Ok, Err, inl, inr, max}
+use Rattle.std.proofs.Common.{ℕ, ◌+◌, ◌≤◌, ◌^◌, ◌≡◌, Bool, true, false, not, cond, eqb, List, [], ◌∷◌, ◌++◌, length, map, Option, None, Some, is_some, refl, sym, ◌∙◌, ap, subst, arith, Result, Ok, Err, inl, inr, max}
 use Rattle.std.proofs.lemmas.Bool.{true≢false, eq-eqb, eqb-true, eqb-false}
 use Rattle.std.specs.Prelude.{MatchResult}
 use Rattle.sat_base.specs.values.Literals.{negated}
-use Rattle.sat_checker.specs.LiteralSets.{same_literals, is_tautology, canonical}
+use Rattle.sat_checker.specs.LiteralSets.{is_among, same_literals, is_tautology, canonical}
 use Rattle.sat_checker.specs.Spent.{CountSpent, IsSpent}
 use Rattle.sat_checker.specs.Stored.{Stored, StoredClause, StoredUnit, Last, UnitClause, LongClause, is_unit}
 use Rattle.sat_checker.specs.Storing.{with_count, new_clause, with_clause, clause_with, irredundant_count, redundant_count, unit_id, unit_at, long_at, with_unit, with_contradiction, with_new_unit, with_set, with_canonical, with_stored, with_input}
-use Rattle.sat_checker.specs.inner.StoreView.{KeepsClauses, Stores, count_in, id_in}
-use Rattle.sat_checker.specs.inner.FormulaView.{Standing, standing_of, standing_in, KeepsFormula, Turns}
+use Rattle.sat_checker.specs.inner.SlotView.{slot_ids}
+use Rattle.sat_checker.specs.inner.StoreView.{KeepsClauses, Stores, IsPlaced, count_in, id_in}
+use Rattle.sat_checker.specs.inner.FormulaView.{Standing, standing_of, standing_in, AreNumbered, KeepsFormula, Turns}
+use Rattle.sat_checker.specs.declared.store.Placed.{Placed}
 use Rattle.sat_checker.specs.declared.store.Store.{Store}
 use Rattle.sat_checker.specs.declared.store.StoreError.{StoreError}
 use Rattle.sat_checker.specs.declared.store.StoreError.TheVariants.{OutOfMemory, CounterEnd}
 use Rattle.sat_checker.specs.declared.status.LastClause.TheVariants as code
 use Rattle.sat_checker.specs.declared.status.Status.{Status}
 use Rattle.sat_checker.specs.declared.formula.Formula.{Formula}
+use Rattle.sat_checker.proofs.lemmas.formula.Numbering.{numbered_more, numbered_placed, numbered_unit, unit_noted}
 
 -- the place of a unit by its id
 unit_there : (l id : ℕ) (us : List StoredUnit) (otherwise : Last) → unit_id l us ≡ Some id → unit_at l us otherwise ≡ UnitClause id
@@ -42,7 +45,7 @@ last_same l f = go (is_unit f l) (is_unit f (negated l))
     go false false = refl
 
 pub single_noted : (F : Formula) (r : Bool) (l id : ℕ) (f : Stored) → r ≡ false → KeepsFormula F (with_unit l f) → unit_id l F.units ≡ Some id
-    → KeepsFormula (record { store = F.store; units = F.units; status = record F.status { last = code.Single id } }) (with_canonical r (l ∷ []) f)
+    → KeepsFormula (record { store = F.store; units = F.units; status = record F.status { last = code.Single id l } }) (with_canonical r (l ∷ []) f)
 single_noted F true l id f e k u = absurd (true≢false e)
 single_noted F false l id f e k u = record {
   clauses = k.clauses;
@@ -50,6 +53,7 @@ single_noted F false l id f e k u = record {
   status =
       ap (λ (s : Standing). record s { last = UnitClause id }) k.status
       ∙ ap (λ o. record (standing_of (with_unit l f)) { last = o }) (sym (unit_there l id (with_unit l f).units f.last (ap (unit_id l) (sym k.units) ∙ u)));
+  numbered = unit_noted (slot_ids F.store.clauses) (with_unit l f).units F.status.last (with_unit l f).next_id l id (ap (unit_id l) (sym k.units) ∙ u) k.numbered;
 }
 
 pub single_passed : (F : Formula) (r : Bool) (l : ℕ) (f : Stored) → r ≡ false → KeepsFormula F (with_unit l f) → unit_id l F.units ≡ None → KeepsFormula F (with_canonical r (l ∷ []) f)
@@ -60,9 +64,8 @@ single_passed F false l f e k u = record {
   status =
       k.status
       ∙ ap (λ o. record (standing_of (with_unit l f)) { last = o }) (last_same l f ∙ sym (unit_none l (with_unit l f).units f.last (ap (unit_id l) (sym k.units) ∙ u)));
+  numbered = k.numbered;
 }
-
-pub ruleset storing_single = (single_noted, single_passed)
 
 -- where a clause is, once it was stored
 itself : (ls : List ℕ) → same_literals ls ls ≡ true
@@ -96,11 +99,25 @@ counts_spent : (f : Stored) (r : Bool) (ls : List ℕ) → 2 ^ 64 ≤ count_in r
 counts_spent f true ls h = record { literals = ls; past = inr h }
 counts_spent f false ls h = record { literals = ls; past = inl h }
 
-abbrev noted : Bool → ℕ → Status → Status
-noted r id s = cond r s (record s { last = code.Long id })
+abbrev noted : Bool → Placed → Status → Status
+noted r p s = cond r s (record s { last = code.Long p.id p.place })
 
 next_of : (F : Formula) (f : Stored) → KeepsFormula F f → F.status.next_id ≡ f.next_id
 next_of F f k = ap (λ (s : Standing). s.next_id) k.status
+
+-- a new unit
+pub unit_stored : (F : Formula) (f : Stored) (l id : ℕ) (units : List StoredUnit) (status : Status) → KeepsFormula F f → is_among (map (λ u. u.literal) F.units) l ≡ false → is_among (map (λ u. u.literal) F.units) (negated l) ≡ false → units ≡ F.units ++ (record { id = id; literal = l }) ∷ []
+    → (id ≡ F.status.next_id) × (status ≡ record F.status { next_id = F.status.next_id + 1 }) → KeepsFormula (record { store = F.store; units = units; status = status }) (with_unit l f)
+unit_stored F f l id units status k a b u s =
+    let e : with_unit l f ≡ with_new_unit l f =
+    ap (λ us. cond (is_among (map (λ (w : StoredUnit). w.literal) us) l) f (cond (is_unit f (negated l)) (with_contradiction l f) (with_new_unit l f))) (sym k.units) ∙ ap (λ b. cond b f (cond (is_unit f (negated l)) (with_contradiction l f) (with_new_unit l f))) a
+    ∙ ap (λ us. cond (is_among (map (λ (w : StoredUnit). w.literal) us) (negated l)) (with_contradiction l f) (with_new_unit l f)) (sym k.units) ∙ ap (λ b. cond b (with_contradiction l f) (with_new_unit l f)) b in
+    subst (KeepsFormula (record { store = F.store; units = units; status = status })) (sym e) (record {
+      clauses = k.clauses;
+      units = u ∙ ap (λ us. us ++ (record { id = id; literal = l }) ∷ []) k.units ∙ ap (λ n. f.units ++ (record { id = n; literal = l }) ∷ []) (s.0 ∙ next_of F f k);
+      status = ap standing_in s.1 ∙ ap (λ (t : Standing). record t { next_id = t.next_id + 1 }) k.status;
+      numbered = subst (λ x. AreNumbered (slot_ids F.store.clauses) (with_new_unit l f).units x (f.next_id + 1)) (sym (ap (λ (t : Status). t.last) s.1)) (numbered_unit (slot_ids F.store.clauses) f.units F.status.last f.next_id l k.numbered);
+    })
 
 next_swap : (b is_new : Bool) (n : ℕ) → is_new ≡ not b → cond is_new (n + 1) n ≡ cond b n (n + 1)
 next_swap true true n e = absurd (true≢false e)
@@ -109,7 +126,7 @@ next_swap false true n e = refl
 next_swap false false n e = absurd (true≢false (sym e))
 
 -- a clause of two literals or more was stored
-module _ (F : Formula) (store : Store) (f : Stored) (x y : ℕ) (ls : List ℕ) (id : ℕ) (is_new : Bool) (k : KeepsFormula F f) where
+module _ (F : Formula) (store : Store) (f : Stored) (x y : ℕ) (ls : List ℕ) (p : Placed) (k : KeepsFormula F f) where
   abbrev all : List ℕ
   all = x ∷ y ∷ ls
 
@@ -119,34 +136,42 @@ module _ (F : Formula) (store : Store) (f : Stored) (x y : ℕ) (ls : List ℕ) 
   kept_so : (r : Bool) → KeepsClauses store (record f { clauses = with_clause r F.status.next_id all f.clauses }) → KeepsClauses store (record f { clauses = with_clause r f.next_id all f.clauses })
   kept_so r h = subst (λ n. KeepsClauses store (record f { clauses = with_clause r n all f.clauses })) (next_of F f k) h
 
-  long_done : (r : Bool) (status : Status) → Stores store f F.status.next_id r all id is_new
-      → status ≡ record (noted r id F.status) { next_id = cond is_new ((noted r id F.status).next_id + 1) (noted r id F.status).next_id }
+  numbered_so : IsPlaced F.store.clauses store.clauses F.status.next_id p → p.is_new ≡ not (is_some there) → AreNumbered (slot_ids store.clauses) f.units F.status.last (cond (is_some there) f.next_id (f.next_id + 1))
+  numbered_so h e =
+      numbered_placed F.store.clauses store.clauses f.units F.status.last f.next_id p (is_some there) (subst (λ n. IsPlaced F.store.clauses store.clauses n p) (next_of F f k) h) e k.numbered
+
+  long_done : (r : Bool) (status : Status) → Stores store f F.status.next_id r all p.id p.is_new → IsPlaced F.store.clauses store.clauses F.status.next_id p
+      → status ≡ record (noted r p F.status) { next_id = cond p.is_new ((noted r p F.status).next_id + 1) (noted r p F.status).next_id }
       → KeepsFormula (record { store = store; units = F.units; status = status }) (with_canonical r all f)
-  long_done true status s e = record {
+  long_done true status s h e = record {
     clauses = kept_so true s.stored;
     units = k.units;
     status =
-        ap standing_in e ∙ ap (λ (t : Standing). record t { next_id = cond is_new (t.next_id + 1) t.next_id }) k.status
-        ∙ ap (λ n. record (standing_of f) { next_id = n }) (next_swap (is_some there) is_new f.next_id s.new_is);
+        ap standing_in e ∙ ap (λ (t : Standing). record t { next_id = cond p.is_new (t.next_id + 1) t.next_id }) k.status
+        ∙ ap (λ n. record (standing_of f) { next_id = n }) (next_swap (is_some there) p.is_new f.next_id s.new_is);
+    numbered = subst (λ l. AreNumbered (slot_ids store.clauses) f.units l (cond (is_some there) f.next_id (f.next_id + 1))) (sym (ap (λ (t : Status). t.last) e)) (numbered_so h s.new_is);
   }
-  long_done false status s e = record {
+  long_done false status s h e = record {
     clauses = kept_so false s.stored;
     units = k.units;
     status =
-        ap standing_in e ∙ ap (λ (t : Standing). record t { last = LongClause id; next_id = cond is_new (t.next_id + 1) t.next_id }) k.status
-        ∙ ap (λ n. record (standing_of f) { last = LongClause id; next_id = n }) (next_swap (is_some there) is_new f.next_id s.new_is)
+        ap standing_in e ∙ ap (λ (t : Standing). record t { last = LongClause p.id; next_id = cond p.is_new (t.next_id + 1) t.next_id }) k.status
+        ∙ ap (λ n. record (standing_of f) { last = LongClause p.id; next_id = n }) (next_swap (is_some there) p.is_new f.next_id s.new_is)
         ∙ ap (λ l. record (standing_of f) { last = l; next_id = cond (is_some there) f.next_id (f.next_id + 1) }) (
         ap LongClause (s.id_is ∙ ap (id_in there) (next_of F f k)) ∙ sym (long_there false f.next_id all f.clauses f.last)
         );
+    numbered =
+        subst (λ l. AreNumbered (slot_ids store.clauses) f.units l (cond (is_some there) f.next_id (f.next_id + 1))) (sym (ap (λ (t : Status). t.last) e))
+        (let n = numbered_so h s.new_is in record { of_clauses = n.of_clauses; of_units = n.of_units; put = h.has });
   }
 
-  next_noted : (r : Bool) → (noted r id F.status).next_id ≡ f.next_id
+  next_noted : (r : Bool) → (noted r p F.status).next_id ≡ f.next_id
   next_noted true = next_of F f k
   next_noted false = next_of F f k
 
-  long_spent : (r : Bool) → is_new ≡ not (is_some there) → is_new ≡ true → 2 ^ 64 ≤ (noted r id F.status).next_id + 1 → IsSpent (with_canonical r all f)
-  long_spent true n t h = inl (let a = next_noted true in let b = next_swap (is_some there) is_new f.next_id n in let d : cond is_new (f.next_id + 1) f.next_id ≡ f.next_id + 1 = ap (λ c. cond c (f.next_id + 1) f.next_id) t in omega (arith, a, b, d, h))
-  long_spent false n t h = inl (let a = next_noted false in let b = next_swap (is_some there) is_new f.next_id n in let d : cond is_new (f.next_id + 1) f.next_id ≡ f.next_id + 1 = ap (λ c. cond c (f.next_id + 1) f.next_id) t in omega (arith, a, b, d, h))
+  long_spent : (r : Bool) → p.is_new ≡ not (is_some there) → p.is_new ≡ true → 2 ^ 64 ≤ (noted r p F.status).next_id + 1 → IsSpent (with_canonical r all f)
+  long_spent true n t h = inl (let a = next_noted true in let b = next_swap (is_some there) p.is_new f.next_id n in let d : cond p.is_new (f.next_id + 1) f.next_id ≡ f.next_id + 1 = ap (λ c. cond c (f.next_id + 1) f.next_id) t in omega (arith, a, b, d, h))
+  long_spent false n t h = inl (let a = next_noted false in let b = next_swap (is_some there) p.is_new f.next_id n in let d : cond p.is_new (f.next_id + 1) f.next_id ≡ f.next_id + 1 = ap (λ c. cond c (f.next_id + 1) f.next_id) t in omega (arith, a, b, d, h))
 
   count_spent : (r : Bool) → 2 ^ 64 ≤ count_in r there + 1 → IsSpent (with_canonical r all f)
   count_spent true h = inr (counts_spent (with_canonical true all f) true all (let e = count_more true f.next_id all f.clauses in omega (arith, e, h)))
@@ -157,23 +182,23 @@ abbrev pub Takes : {T : Type 0} → Result T StoreError → Status → Bool → 
 Takes result old needed new =
     MatchResult result (λ x. new ≡ record old { next_id = cond needed (old.next_id + 1) old.next_id }) (λ e. (e ≡ CounterEnd) × (needed ≡ true) × (2 ^ 64 ≤ old.next_id + 1))
 
-pub long_stored : {T : Type 0} (result : Result T StoreError) (F : Formula) (store : Store) (was status : Status) (f : Stored) (r : Bool) (ls : List ℕ) (id : ℕ) (is_new : Bool) → 2 ≤ length ls → KeepsFormula F f → Stores store f F.status.next_id r ls id is_new
-    → was ≡ noted r id F.status → Takes result was is_new status → Turns result (KeepsFormula (record { store = store; units = F.units; status = status }) (with_canonical r ls f)) (with_canonical r ls f)
-long_stored result F store was status f r [] id is_new l k s w m = absurd (omega arith)
-long_stored result F store was status f r (x ∷ []) id is_new l k s w m = absurd (omega arith)
-long_stored {T = T} result F store was status f r (x ∷ y ∷ ls) id is_new l k s w m = go result (subst (λ t. Takes result t is_new status) w m)
+pub long_stored : {T : Type 0} (result : Result T StoreError) (F : Formula) (store : Store) (was status : Status) (f : Stored) (r : Bool) (ls : List ℕ) (p : Placed) → 2 ≤ length ls → KeepsFormula F f → Stores store f F.status.next_id r ls p.id p.is_new → IsPlaced F.store.clauses store.clauses F.status.next_id p
+    → was ≡ noted r p F.status → Takes result was p.is_new status → Turns result (KeepsFormula (record { store = store; units = F.units; status = status }) (with_canonical r ls f)) (with_canonical r ls f)
+long_stored result F store was status f r [] p l k s h w m = absurd (omega arith)
+long_stored result F store was status f r (x ∷ []) p l k s h w m = absurd (omega arith)
+long_stored {T = T} result F store was status f r (x ∷ y ∷ ls) p l k s h w m = go result (subst (λ t. Takes result t p.is_new status) w m)
   where
-    go : (result : Result T StoreError) → Takes result (noted r id F.status) is_new status → Turns result (KeepsFormula (record { store = store; units = F.units; status = status }) (with_canonical r (x ∷ y ∷ ls) f)) (with_canonical r (x ∷ y ∷ ls) f)
-    go (Ok v) m = long_done F store f x y ls id is_new k r status s m
+    go : (result : Result T StoreError) → Takes result (noted r p F.status) p.is_new status → Turns result (KeepsFormula (record { store = store; units = F.units; status = status }) (with_canonical r (x ∷ y ∷ ls) f)) (with_canonical r (x ∷ y ∷ ls) f)
+    go (Ok v) m = long_done F store f x y ls p k r status s h m
     go (Err e) m =
-        subst (λ d. Turns {T = T} (Err d) (KeepsFormula (record { store = store; units = F.units; status = status }) (with_canonical r (x ∷ y ∷ ls) f)) (with_canonical r (x ∷ y ∷ ls) f)) (sym m.0) (long_spent F store f x y ls id is_new k r s.new_is m.1 m.2)
+        subst (λ d. Turns {T = T} (Err d) (KeepsFormula (record { store = store; units = F.units; status = status }) (with_canonical r (x ∷ y ∷ ls) f)) (with_canonical r (x ∷ y ∷ ls) f)) (sym m.0) (long_spent F store f x y ls p k r s.new_is m.1 m.2)
 
 long_fails : (e : StoreError) (T K : Type 0) (F : Formula) (f : Stored) (r : Bool) (ls : List ℕ) → 2 ≤ length ls → KeepsFormula F f
     → (e ≡ CounterEnd → 2 ^ 64 ≤ count_in r (clause_with ls f.clauses) + 1) → Turns {T = T} (Err e) K (with_canonical r ls f)
 long_fails e T K F f r [] l k h = absurd (omega arith)
 long_fails e T K F f r (x ∷ []) l k h = absurd (omega arith)
 long_fails OutOfMemory T K F f r (x ∷ y ∷ ls) l k h = tt
-long_fails CounterEnd T K F f r (x ∷ y ∷ ls) l k h = count_spent F F.store f x y ls 0 true k r (h refl)
+long_fails CounterEnd T K F f r (x ∷ y ∷ ls) l k h = count_spent F F.store f x y ls (record { id = 0; place = 0; is_new = true }) k r (h refl)
 
 pub long_refused : {T : Type 0} (result : Result T StoreError) (d e : StoreError) → result ≡ Err d → d ≡ e → (K : Type 0) (F : Formula) (f : Stored) (r : Bool) (ls : List ℕ) → 2 ≤ length ls → KeepsFormula F f
     → (e ≡ CounterEnd → 2 ^ 64 ≤ count_in r (clause_with ls f.clauses) + 1) → Turns result K (with_canonical r ls f)
@@ -237,6 +262,9 @@ input_stored {T = T} result F G status f c b k g e m = go result m
       clauses = g.clauses;
       units = g.units;
       status = ap standing_in m ∙ ap (λ (t : Standing). record t { next_id = cond b (t.next_id + 1) t.next_id }) g.status ∙ ap (λ n. record (standing_of (with_stored false c f)) { next_id = n }) same;
+      numbered =
+          subst (λ l. AreNumbered (slot_ids G.store.clauses) (with_stored false c f).units l (with_input c f).next_id) (sym (ap (λ (t : Status). t.last) m))
+          (numbered_more (slot_ids G.store.clauses) (with_stored false c f).units G.status.last (with_stored false c f).next_id (with_input c f).next_id (omega arith) g.numbered);
     }
     go (Err e) m =
         subst (λ d. Turns {T = T} (Err d) (KeepsFormula (record { store = G.store; units = G.units; status = status }) (with_input c f)) (with_input c f)) (sym m.0)

@@ -112,7 +112,7 @@ increasing_push (i ∷ is) n h b = (above is h.0, increasing_push is n h.1 b.1)
     above [] k = (b.0, tt)
     above (j ∷ js) k = (k.0, above js k.1)
 
-below_push : (is : List ℕ) (n : ℕ) → AllByRecursion (λ i. i < n) is → AllByRecursion (λ i. i < n + 1) (is ++ n ∷ [])
+pub below_push : (is : List ℕ) (n : ℕ) → AllByRecursion (λ i. i < n) is → AllByRecursion (λ i. i < n + 1) (is ++ n ∷ [])
 below_push [] n b = (omega arith, tt)
 below_push (i ∷ is) n b = (let h : i < n = b.0 in omega arith, below_push is n b.1)
 

@@ -1,12 +1,12 @@
 -- The clauses that aren't gone, place by place.
-use Rattle.std.proofs.Common.{ℕ, zero, suc, ◌+◌, ◌<◌, ◌≤◌, ◌≡◌, Bool, true, false, ◌||◌, ◌&&◌, cond, eqb, List, [], ◌∷◌, ◌++◌, length, drop, map, Some, refl, sym, ◌∙◌, ap, arith}
+use Rattle.std.proofs.Common.{ℕ, zero, suc, ◌+◌, ◌<◌, ◌≤◌, ◌≡◌, Bool, true, false, ◌||◌, ◌&&◌, cond, eqb, List, [], ◌∷◌, ◌++◌, length, drop, map, refl, sym, ◌∙◌, ap, arith}
 use Rattle.std.proofs.lemmas.Bool.{eq-eqb, ne_eqb}
 use Rattle.std.specs.List.{list_any, AllByRecursion}
 use Rattle.sat_checker.specs.inner.Marks.{IsIncreasing}
 use Rattle.sat_checker.specs.LiteralSets.{is_among}
 use Rattle.sat_checker.specs.Looks.{total_length}
 use Rattle.sat_checker.specs.Stored.{StoredClause}
-use Rattle.sat_checker.specs.Storing.{unless_gone, clause_numbered}
+use Rattle.sat_checker.specs.Storing.{unless_gone}
 use Rattle.sat_checker.specs.inner.ModelTests.{are_all_true}
 use Rattle.sat_checker.specs.inner.SlotView.{Slot, slot_at, literals_at, all_lits, is_gone, live, live_length}
 
@@ -24,15 +24,6 @@ module _ (ss : List Slot) (i : ℕ) (inside : i < length ss) where
 
   pub live_there : is_gone (slot_at ss i) ≡ false → live (drop i ss) ≡ (slot_at ss i).clause ∷ live (drop (i + 1) ss)
   live_there g = live_step ∙ ap (λ b. cond b [] ((slot_at ss i).clause ∷ []) ++ live (drop (i + 1) ss)) g
-
-  pub numbered_gone : (id : ℕ) → is_gone (slot_at ss i) ≡ true → clause_numbered id (live (drop i ss)) ≡ clause_numbered id (live (drop (i + 1) ss))
-  numbered_gone id g = ap (clause_numbered id) (live_gone g)
-
-  pub numbered_here : (id : ℕ) → is_gone (slot_at ss i) ≡ false → (slot_at ss i).clause.id ≡ id → clause_numbered id (live (drop i ss)) ≡ Some (literals_at ss i)
-  numbered_here id g e = ap (clause_numbered id) (live_there g) ∙ ap (λ b. cond b (Some (literals_at ss i)) (clause_numbered id (live (drop (i + 1) ss)))) (eq-eqb (slot_at ss i).clause.id id e)
-
-  pub numbered_other : (id : ℕ) → is_gone (slot_at ss i) ≡ false → ((slot_at ss i).clause.id ≡ id → ⊥) → clause_numbered id (live (drop i ss)) ≡ clause_numbered id (live (drop (i + 1) ss))
-  numbered_other id g e = ap (clause_numbered id) (live_there g) ∙ ap (λ b. cond b (Some (literals_at ss i)) (clause_numbered id (live (drop (i + 1) ss)))) (ne_eqb (slot_at ss i).clause.id id e)
 
   pub any_gone : (test : StoredClause → Bool) → is_gone (slot_at ss i) ≡ true → list_any test (live (drop i ss)) ≡ list_any test (live (drop (i + 1) ss))
   any_gone test g = ap (list_any test) (live_gone g)
@@ -62,18 +53,8 @@ module _ (ss : List Slot) (i : ℕ) (inside : i < length ss) where
       go true e = omega (arith, e)
       go false e = omega (arith, e)
 
-pub ruleset finding_place = (numbered_gone, numbered_here, numbered_other)
-
 -- the literals at a place
 pub at_place : (ss : List Slot) (i : ℕ) → AllByRecursion IsIncreasing (all_lits ss) → i < length ss → IsIncreasing (literals_at ss i)
 at_place [] i h l = absurd (omega arith)
 at_place (s ∷ ss) zero h l = h.0
 at_place (s ∷ ss) (suc i) h l = at_place ss i h.1 (omega arith)
-
-pub numbered_length : (id : ℕ) (ls : List ℕ) (cs : List StoredClause) → clause_numbered id cs ≡ Some ls → length ls ≤ total_length (map (λ c. c.literals) cs)
-numbered_length id ls [] e = absurd cc
-numbered_length id ls (c ∷ cs) e = go (eqb c.id id) e (numbered_length id ls cs)
-  where
-    go : (b : Bool) → cond b (Some c.literals) (clause_numbered id cs) ≡ Some ls → (clause_numbered id cs ≡ Some ls → length ls ≤ total_length (map (λ c. c.literals) cs)) → length ls ≤ length c.literals + total_length (map (λ c. c.literals) cs)
-    go true e ih = let k : c.literals ≡ ls = cc in let m = ap length k in omega (arith, m)
-    go false e ih = let k = ih e in omega (arith, k)

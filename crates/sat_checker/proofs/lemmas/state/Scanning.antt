@@ -1,14 +1,11 @@
 -- Tests along lists of literals.
-use Rattle.std.proofs.Common.{ℕ, zero, suc, ◌+◌, ◌<◌, ◌≤◌, ◌≡◌, Bool, true, false, cond, eqb, List, [], ◌∷◌, ◌++◌, length, drop, take, get_or, map, Some, refl, sym, ap, subst, ◌∙◌, arith, inl, inr}
-use Rattle.std.proofs.lemmas.Bool.{eq-eqb, ne_eqb, eqb-true, or_cases, true≢false}
+use Rattle.std.proofs.Common.{ℕ, zero, suc, ◌+◌, ◌<◌, ◌≤◌, ◌≡◌, Bool, true, false, eqb, List, [], ◌∷◌, ◌++◌, length, drop, take, get_or, map, refl, sym, ap, subst, ◌∙◌, arith, inl, inr}
+use Rattle.std.proofs.lemmas.Bool.{eqb-true, or_cases, true≢false}
 use Rattle.std.proofs.lemmas.List.{drop_more}
 use Rattle.std.specs.List.{list_any, AllByRecursion}
 use Rattle.sat_base.specs.values.Literals.{negated}
 use Rattle.sat_checker.specs.LiteralSets.{is_among, is_part}
 use Rattle.sat_checker.proofs.lemmas.sets.Subsets.{all_true, each_true}
-use Rattle.sat_checker.specs.Storing.{unit_numbered}
-use Rattle.sat_checker.specs.inner.UnitView.{unit_of}
-use Rattle.sat_checker.specs.declared.units.Unit.{Unit}
 
 module _ (test : ℕ → Bool) (ls : List ℕ) (i : ℕ) (inside : i < length ls) where
   pub any_found : test (get_or ls i 0) ≡ true → list_any test (drop i ls) ≡ true
@@ -18,19 +15,6 @@ module _ (test : ℕ → Bool) (ls : List ℕ) (i : ℕ) (inside : i < length ls
   any_passed t = rw (drop_more ls i 0 inside) (rw t refl)
 
 pub ruleset any_literal = (any_found, any_passed)
-
--- along the list of units
-module _ (us : List Unit) (i : ℕ) (d : Unit) (inside : i < length us) where
-  step : drop i us ≡ get_or us i d ∷ drop (i + 1) us
-  step = drop_more us i d inside
-
-  pub number_here : (id : ℕ) → (get_or us i d).id ≡ id → unit_numbered id (map unit_of (drop i us)) ≡ Some ((get_or us i d).lit ∷ [])
-  number_here id e = ap (λ ws. unit_numbered id (map unit_of ws)) step ∙ ap (λ b. cond b (Some ((get_or us i d).lit ∷ [])) (unit_numbered id (map unit_of (drop (i + 1) us)))) (eq-eqb (get_or us i d).id id e)
-
-  pub number_later : (id : ℕ) → ((get_or us i d).id ≡ id → ⊥) → unit_numbered id (map unit_of (drop i us)) ≡ unit_numbered id (map unit_of (drop (i + 1) us))
-  number_later id e = ap (λ ws. unit_numbered id (map unit_of ws)) step ∙ ap (λ b. cond b (Some ((get_or us i d).lit ∷ [])) (unit_numbered id (map unit_of (drop (i + 1) us)))) (ne_eqb (get_or us i d).id id e)
-
-pub ruleset finding_number = (number_here, number_later)
 
 -- one literal more is negated
 pub negated_more : (ls : List ℕ) (i d : ℕ) → i < length ls → map negated (take (i + 1) ls) ≡ map negated (take i ls) ++ negated (get_or ls i d) ∷ []

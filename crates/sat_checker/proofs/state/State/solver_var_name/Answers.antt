@@ -1,14 +1,26 @@
+use Rattle.std.proofs.Common.{sym, subst}
+use Rattle.sat_checker.specs.inner.FormulaView.{AreNumbered}
 use Rattle.sat_checker.proofs.lemmas.state.Keeping.{renamed, unnamed}
 use Rattle.sat_checker.proofs.state.State.solver_var_name.Goals as goal
 
 pub returns-in-Some-clause-decides : goal.returns-in-Some-clause-decides
 returns-in-Some-clause-decides c = λ f k. (
   tt,
-  renamed _ f c.args.var c.args.name c.in-Some.solver c.in-Some.is (record { clauses = c.in_ok-set_solver_name.ensures.set f k.formula.clauses; units = k.formula.units; status = k.formula.status }) (c.in_ok-learn_var.ensures f.variables k.variables) k.assumed,
+  renamed _ f c.args.var c.args.name c.in-Some.solver c.in-Some.is (record {
+    clauses = c.in_ok-set_solver_name.ensures.set f k.formula.clauses;
+    units = k.formula.units;
+    status = k.formula.status;
+    numbered = subst (λ is. AreNumbered is f.units c.args.self.now.formula.status.last f.next_id) (sym c.in_ok-set_solver_name.ensures.ids) k.formula.numbered;
+  }) (c.in_ok-learn_var.ensures f.variables k.variables) k.assumed,
 )
 
 pub returns-clause-decides : goal.returns-clause-decides
 returns-clause-decides c = λ f k. (
   tt,
-  unnamed _ f c.args.var c.args.name c.in_default.is (record { clauses = c.in_ok-set_solver_name-2.ensures.set f k.formula.clauses; units = k.formula.units; status = k.formula.status }) k.variables k.assumed,
+  unnamed _ f c.args.var c.args.name c.in_default.is (record {
+    clauses = c.in_ok-set_solver_name-2.ensures.set f k.formula.clauses;
+    units = k.formula.units;
+    status = k.formula.status;
+    numbered = subst (λ is. AreNumbered is f.units c.args.self.now.formula.status.last f.next_id) (sym c.in_ok-set_solver_name-2.ensures.ids) k.formula.numbered;
+  }) k.variables k.assumed,
 )

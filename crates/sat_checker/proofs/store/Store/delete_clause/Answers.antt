@@ -1,5 +1,7 @@
-use Rattle.std.proofs.Common.{arith}
+use Rattle.std.proofs.Common.{arith, ap, ◌∙◌}
 use Rattle.sat_checker.proofs.lemmas.store.Storing.{is_there, looks_one, count_there, count_none, deleted_one}
+use Rattle.sat_checker.specs.inner.SlotView.{slot_ids}
+use Rattle.sat_checker.proofs.lemmas.store.Ids.{ids_taken}
 use Rattle.sat_checker.proofs.store.Store.delete_clause.Goals as goal
 
 pub returns-in_default-clause-deleted : goal.returns-in_default-clause-deleted
@@ -25,6 +27,9 @@ pub returns-clause-deleted : goal.returns-clause-deleted
 returns-clause-deleted c = λ f k.
     let z = count_there c.args.self.now f k c.args.literals.now c.clause_hash-hash.result c.clause_hash-hash.ensures c.in-Some.place c.in-Some.ensures.found c.args.redundant in
     (omega (arith, z, c.count.ensures, c.if-count-eq0.false), deleted_one c.args.self.now f k c.args.literals.now c.clause_hash-hash.result c.clause_hash-hash.ensures c.in-Some.place c.in-Some.ensures.found c.args.redundant c.take_count.new.self c.take_count.ensures)
+
+pub returns-clause-ids : goal.returns-clause-ids
+returns-clause-ids c = ap slot_ids c.take_count.ensures ∙ ids_taken c.args.redundant c.in-Some.place c.args.self.now.clauses
 
 pub returns-clause-looks : goal.returns-clause-looks
 returns-clause-looks c = looks_one c.args.self.now c.clause_hash-hash.result c.args.looks.now c.find.new.looks c.find.ensures.looks

@@ -1,5 +1,6 @@
 use Rattle.std.proofs.Common.{arith}
 use Rattle.sat_checker.proofs.lemmas.store.Storing.{is_there, inside_more, looks_one, count_there, stored_again, stored_new}
+use Rattle.sat_checker.proofs.lemmas.store.Ids.{placed_new, placed_again}
 use Rattle.sat_checker.proofs.store.Store.store_clause.Goals as goal
 
 pub returns-in_err-push-clause-looks : goal.returns-in_err-push-clause-looks
@@ -8,6 +9,10 @@ returns-in_err-push-clause-looks c = looks_one c.args.self.now c.clause_hash-has
 pub returns-in_default-clause-ok : goal.returns-in_default-clause-ok
 returns-in_default-clause-ok c = λ f k.
     stored_new c.args.self.now f k c.args.literals.now c.clause_hash-hash.result c.clause_hash-hash.ensures c.in_default.ensures.found c.args.redundant c.args.id c.push.new.self c.in_ok-push.ensures
+
+pub returns-in_default-clause-placed : goal.returns-in_default-clause-placed
+returns-in_default-clause-placed c =
+    placed_new c.args.self.now.clauses c.push.new.self c.args.redundant c.args.id c.clause_hash-hash.result c.len-count.result c.args.literals.now c.len-count.ensures.count c.in_ok-push.ensures
 
 pub returns-in_default-clause-looks : goal.returns-in_default-clause-looks
 returns-in_default-clause-looks c = looks_one c.args.self.now c.clause_hash-hash.result c.args.looks.now c.find.new.looks c.find.ensures.looks
@@ -37,6 +42,11 @@ id-requires c =
 pub returns-clause-ok : goal.returns-clause-ok
 returns-clause-ok c = λ f k.
     stored_again c.args.self.now f k c.args.literals.now c.clause_hash-hash.result c.clause_hash-hash.ensures c.in-Some.place c.in-Some.ensures.found c.args.redundant c.args.id c.id.result c.add_count.new.self c.add_count.ensures c.id.ensures
+
+pub returns-clause-placed : goal.returns-clause-placed
+returns-clause-placed c =
+    placed_again c.args.self.now.clauses c.add_count.new.self c.args.redundant c.id.result c.in-Some.place c.args.id
+    (is_there c.args.self.now.clauses c.args.literals.now c.clause_hash-hash.result c.in-Some.place c.in-Some.ensures.found).inside c.add_count.ensures c.id.ensures
 
 pub returns-clause-looks : goal.returns-clause-looks
 returns-clause-looks c = looks_one c.args.self.now c.clause_hash-hash.result c.args.looks.now c.find.new.looks c.find.ensures.looks
