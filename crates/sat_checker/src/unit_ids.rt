@@ -1,14 +1,14 @@
 //! Ids of units, by the code of their literal.
-ghost use Rattle.std.specs.Prelude.{ℕ, ◌≡◌, ◌==◌, ◌<◌, length, OnOk, Some, None, if◌then◌else◌};
+ghost use Rattle.std.specs.Prelude.{ℕ, ◌≡◌, ◌==◌, ◌+◌, ◌^◌, ◌<◌, length, OnOk, Some, None, if◌then◌else◌};
 ghost use Rattle.sat_checker.specs.inner.UnitView.{id_at};
 
 use sat_base::Lit;
 use std::alloc::{AllocError, Global};
 
-/// The id of each unit, by the code of its literal.
+/// The id of each unit, by the code of its literal. Where there is none stands 2^64-1, which is no id.
 #[derive(Drop)]
 pub(crate) struct UnitIds {
-    ids: Vec<Option<u64>>,
+    ids: Vec<u64>,
 }
 
 impl UnitIds {
@@ -24,11 +24,14 @@ impl UnitIds {
         ensures { result ≡ id_at self.now lit }
     {
         let place = lit.code();
-        if place < self.ids.len() {
-            self.ids[place]
-        } else {
-            None
+        if self.ids.len() <= place {
+            return None;
         }
+        let id = self.ids[place];
+        if id == u64::MAX {
+            return None;
+        }
+        Some(id)
     }
 
     /// Makes room for the id of a literal.
@@ -38,16 +41,17 @@ impl UnitIds {
     {
         let place = lit.code();
         if self.ids.len() <= place {
-            self.ids.resize(place + 1, None)?;
+            self.ids.resize(place + 1, u64::MAX)?;
         }
         Ok(())
     }
 
     pub fn put(&mut self, lit: Lit, id: u64)
-        requires { lit < length self.old.ids.items }
+        requires room { lit < length self.old.ids.items }
+        requires id { id + 1 < 2 ^ 64 }
         ensures { (l : ℕ) → id_at self.new l ≡ (if l == lit then Some id else id_at self.old l) }
     {
-        self.ids[lit.code()] = Some(id);
+        self.ids[lit.code()] = id;
     }
 
     pub fn forget(&mut self, lit: Lit)
@@ -55,7 +59,7 @@ impl UnitIds {
     {
         let place = lit.code();
         if place < self.ids.len() {
-            self.ids[place] = None;
+            self.ids[place] = u64::MAX;
         }
     }
 }

@@ -1,5 +1,5 @@
 //! The stored units.
-ghost use Rattle.std.specs.Prelude.{◌≡◌, ◌++◌, ◌∷◌, [], ◌+◌, ◌*◌, ◌≤◌, ◌↔◌, false, length, map, IfOk, IsTrue, OnOk, reverse, filter, not, ◌==◌};
+ghost use Rattle.std.specs.Prelude.{◌≡◌, ◌++◌, ◌∷◌, [], ◌+◌, ◌*◌, ◌^◌, ◌<◌, ◌≤◌, ◌↔◌, false, length, map, IfOk, IsTrue, OnOk, reverse, filter, not, ◌==◌};
 ghost use Rattle.sat_base.specs.values.Literals.{negated, variable};
 ghost use Rattle.std.specs.List.{list_any};
 ghost use Rattle.sat_checker.specs.LiteralSets.{is_among, is_tautology};
@@ -87,7 +87,8 @@ impl Units {
 
     /// Stores a unit behind the others.
     pub fn push(&mut self, id: u64, lit: Lit) -> Result<(), AllocError>
-        requires { is_among (map (λ u. u.literal) self.old) lit ≡ false }
+        requires new { is_among (map (λ u. u.literal) self.old) lit ≡ false }
+        requires id { id + 1 < 2 ^ 64 }
         ensures { OnOk result (self.new ≡ self.old ++ (record { id = id; literal = lit }) ∷ []) }
     {
         self.list.reserve(1)?;

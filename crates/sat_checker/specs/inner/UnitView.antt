@@ -1,5 +1,5 @@
 -- What the store's units mean.
-use Rattle.std.specs.Prelude.{ℕ, ◌≡◌, List, Option, None, map, reverse, slice_index_or}
+use Rattle.std.specs.Prelude.{ℕ, ◌≡◌, ◌==◌, ◌-◌, ◌^◌, List, Option, None, Some, map, reverse, slice_index_or, if◌then◌else◌}
 use Rattle.sat_checker.specs.Stored.{StoredUnit}
 use Rattle.sat_checker.specs.Storing.{unit_id}
 use Rattle.sat_checker.specs.declared.unit_ids.UnitIds.{UnitIds}
@@ -8,9 +8,13 @@ use Rattle.sat_checker.specs.declared.units.Unit.{Unit}
 abbrev pub unit_of : Unit → StoredUnit
 unit_of u = record { id = u.id; literal = u.lit }
 
+-- the largest number of 64 bits is no id
+abbrev pub id_of : ℕ → Option ℕ
+id_of n = if n == 2 ^ 64 - 1 then None else Some n
+
 -- the id that stands by a literal
 abbrev pub id_at : UnitIds → ℕ → Option ℕ
-id_at ids l = slice_index_or ids.ids.items l None
+id_at ids l = id_of (slice_index_or ids.ids.items l (2 ^ 64 - 1))
 
 -- each unit is assumed, and its id stands by its literal
 pub record AreUnits (list : List Unit) (ids : UnitIds) (assigned : List ℕ) : Type 0 where

@@ -47,10 +47,10 @@ ids_pushed r n hash ls ss = map-append (λ (s : Slot). s.clause.id) ss (stored_s
     same true = refl
     same false = refl
 
-id_at : (ss : List Slot) (i : ℕ) → i < length ss → get_or (slot_ids ss) i 0 ≡ (slot_at ss i).clause.id
-id_at [] i l = absurd (omega arith)
-id_at (s ∷ ss) zero l = refl
-id_at (s ∷ ss) (suc i) l = id_at ss i (omega arith)
+slot_id_at : (ss : List Slot) (i : ℕ) → i < length ss → get_or (slot_ids ss) i 0 ≡ (slot_at ss i).clause.id
+slot_id_at [] i l = absurd (omega arith)
+slot_id_at (s ∷ ss) zero l = refl
+slot_id_at (s ∷ ss) (suc i) l = slot_id_at ss i (omega arith)
 
 ids_length : (ss : List Slot) → length (slot_ids ss) ≡ length ss
 ids_length ss = length-map ss (λ (s : Slot). s.clause.id)
@@ -75,7 +75,7 @@ placed_again old new r id p next_id l n i =
       ids = e;
       has = record {
         inside = let a = ids_length new in omega (arith, a, m, l);
-        is = id_at new p (omega (arith, m, l)) ∙ sym i;
+        is = slot_id_at new p (omega (arith, m, l)) ∙ sym i;
       };
     }
 

@@ -6,4 +6,4 @@ use Rattle.sat_checker.proofs.formula.Formula.store_unit.Goals as goal
 pub returns : goal.returns
 returns c = λ f k.
     unit_stored c.args.self.now f c.args.lit c.in_ok-id.id c.push.new.self c.take_id.new.self k (sym c.is_unit.ensures ∙ c.if-is_unit.false)
-    (ap (is_among (map (λ u. u.literal) c.args.self.now.units)) (sym c.not.ensures) ∙ sym c.is_unit-2.ensures ∙ c.if-is_unit-2.false) c.in_ok-push.ensures c.in_ok-id.ensures
+    (ap (is_among (map (λ u. u.literal) c.args.self.now.units)) (sym c.not.ensures) ∙ sym c.is_unit-2.ensures ∙ c.if-is_unit-2.false) c.in_ok-push.ensures c.in_ok-id.ensures.taken

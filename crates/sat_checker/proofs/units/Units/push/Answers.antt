@@ -3,9 +3,9 @@ use Rattle.sat_checker.proofs.lemmas.store.Units.{among_units, units_more}
 use Rattle.sat_checker.proofs.units.Units.push.Goals as goal
 
 pub assume-requires : goal.assume-requires
-assume-requires c = among_units c.self.inside.list.items c.args.self.now c.self.inside.assigned c.args.lit c.self.view_is c.self.invariant.assumed ∙ c.requires
+assume-requires c = among_units c.self.inside.list.items c.args.self.now c.self.inside.assigned c.args.lit c.self.view_is c.self.invariant.assumed ∙ c.requires.new
 
 pub invariant_of-self-2 : goal.invariant_of-self-2
 invariant_of-self-2 c =
     units_more c.self.inside.list.items c.push.new.self.items (record { id = c.args.id; lit = c.args.lit }) c.self.inside.ids c.make_room.new.self c.put.new.self c.self.inside.assigned c.assume.new.self
-    c.self.invariant (among_units c.self.inside.list.items c.args.self.now c.self.inside.assigned c.args.lit c.self.view_is c.self.invariant.assumed ∙ c.requires) c.in_ok-make_room.ensures.same c.put.ensures (search rules) (search rules)
+    c.self.invariant (among_units c.self.inside.list.items c.args.self.now c.self.inside.assigned c.args.lit c.self.view_is c.self.invariant.assumed ∙ c.requires.new) c.in_ok-make_room.ensures.same c.put.ensures (search rules) (search rules)
