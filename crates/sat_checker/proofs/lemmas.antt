@@ -9,3 +9,4 @@ pub mod formula
 pub mod state
 pub mod announcements
 pub mod checker
+pub mod telling

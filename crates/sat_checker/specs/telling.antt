@@ -1,2 +1,4 @@
 pub mod AnnouncementView
 pub mod TranscriptView
+pub mod Telling
+pub mod ProcessingView

@@ -1,0 +1,11 @@
+use Rattle.std.proofs.Common.{◌≡◌, take, drop}
+use Rattle.sat_checker.specs.telling.Telling.{AllTold}
+use Rattle.sat_checker.specs.telling.TranscriptView.{transcribed_of}
+use Rattle.sat_checker.proofs.processing.tell_transcripts.Given as goal
+
+-- those so far were told, and the others are as they were
+abbrev pub invariant-loop-transcript : goal.invariant-loop-transcript
+invariant-loop-transcript g l = record {
+  told : AllTold (λ r b d. (after : _) × (d ≡ record b { value = after }) × (goal.ProofTranscriptProcessor-dyn g (b.vtable, b.value)).reads b.value (transcribed_of l.step) r after) (take l.transcript-index l.initial.transcripts) (take l.transcript-index l.transcripts);
+  rest : drop l.transcript-index l.transcripts ≡ drop l.transcript-index l.initial.transcripts;
+}
