@@ -10,6 +10,8 @@ mod dimacs;
 #[cfg(test)]
 mod items;
 #[cfg(test)]
+mod listeners;
+#[cfg(test)]
 mod proofs;
 #[cfg(test)]
 mod rows;

@@ -1,0 +1,161 @@
+//! Processors and transcripts that are told announcements.
+use anyhow::anyhow;
+use sat_base::{Lit, Var};
+use sat_checker::processing::process_step;
+use sat_checker::variables::Variables;
+use sat_checker::{
+    CheckedProofStep, CheckerData, Processing, Processors, ProofProcessor,
+    ProofTranscriptProcessor, ProofTranscriptStep, Transcript,
+};
+use std::alloc::Global;
+
+/// Answers a fault at one of its calls, counted from 1.
+#[derive(Drop)]
+struct FailsAt {
+    calls: u64,
+    at: u64,
+}
+
+impl FailsAt {
+    fn new(at: u64) -> FailsAt {
+        FailsAt { calls: 0, at }
+    }
+
+    fn call(&mut self) -> anyhow::Result<()> {
+        self.calls = self.calls.saturating_add(1);
+        if self.calls == self.at {
+            return Err(anyhow!("a fault"));
+        }
+        Ok(())
+    }
+}
+
+impl ProofProcessor for FailsAt {
+    ghost use Rattle.std.specs.Prelude.{⊤};
+
+    ghost takes = { λ _ _ _ _. ⊤ };
+
+    fn process_step(
+        &mut self,
+        _step: &CheckedProofStep<'_>,
+        _names: CheckerData<'_>,
+    ) -> anyhow::Result<()> {
+        self.call()
+    }
+}
+
+impl ProofTranscriptProcessor for FailsAt {
+    ghost use Rattle.std.specs.Prelude.{⊤};
+
+    ghost reads = { λ _ _ _ _. ⊤ };
+
+    fn process_step(&mut self, _step: &ProofTranscriptStep<'_>) -> anyhow::Result<()> {
+        self.call()
+    }
+}
+
+/// How often the announcement is told before the first fault, of four times.
+fn told(processing: &mut Processing, variables: &Variables, step: &CheckedProofStep<'_>) -> u64 {
+    for count in 0..4 {
+        if process_step(processing, variables, step).is_err() {
+            return count;
+        }
+    }
+    4
+}
+
+/// Whether two processors that fail at this call, and a transcript, are handed back as the first fault left them: the second processor and
+/// the transcript were called once less.
+fn are_handed_back(alloc: Global, at: u64) -> Option<bool> {
+    let variables = Variables::new(alloc);
+    let mut processing = Processing::new(alloc);
+    processing
+        .add_processor(Box::new(alloc, FailsAt::new(at)).ok()?)
+        .ok()?;
+    processing
+        .add_processor(Box::new(alloc, FailsAt::new(at)).ok()?)
+        .ok()?;
+    processing
+        .add_transcript(Box::new(alloc, FailsAt::new(at)).ok()?)
+        .ok()?;
+    let step = CheckedProofStep::AddClause { id: 0, clause: &[] };
+    let count = told(&mut processing, &variables, &step);
+    Some(count + 1 == at && were_left(processing.into_processors(), &variables, &step)?)
+}
+
+/// Whether the next call of the second processor and of the transcript answers a fault, and that of the first doesn't.
+fn were_left(
+    boxes: Processors,
+    variables: &Variables,
+    step: &CheckedProofStep<'_>,
+) -> Option<bool> {
+    let Processors {
+        mut processors,
+        mut transcripts,
+    } = boxes;
+    let names = CheckerData::new(variables);
+    let mut second = processors.pop()?;
+    let mut first = processors.pop()?;
+    let mut third = transcripts.pop()?;
+    Some(
+        first.process_step(step, names).is_ok()
+            && second.process_step(step, names).is_err()
+            && third.process_step(&ProofTranscriptStep::Unsat).is_err()
+            && processors.is_empty()
+            && transcripts.is_empty(),
+    )
+}
+
+#[test]
+fn failed_processors_are_handed_back(rt: HostRuntime) {
+    for at in 1..5 {
+        assert!(rt; are_handed_back(rt.alloc(), at) == Some(true), "{at}");
+    }
+}
+
+/// Whether a processor of the caller's own that answers a fault ends the step before the others, and one that doesn't lets them be told.
+fn is_told_first(alloc: Global) -> Option<bool> {
+    let step = CheckedProofStep::AddClause { id: 0, clause: &[] };
+    let names_of = Variables::new(alloc);
+    let names = CheckerData::new(&names_of);
+    let mut processing = Processing::new(alloc);
+    let unheard = !processing.has_processors() && !processing.has_transcripts();
+    processing
+        .add_processor(Box::new(alloc, FailsAt::new(1)).ok()?)
+        .ok()?;
+    let heard = processing.has_processors() && !processing.has_transcripts();
+    let mut own = FailsAt::new(1);
+    let first = processing.step_with(&mut own, &step, names).is_err();
+    let only_own = own.calls == 1 && processing.step(&step, names).is_err();
+    let second = processing.step_with(&mut own, &step, names).is_ok();
+    Some(unheard && heard && first && only_own && second && own.calls == 2)
+}
+
+#[test]
+fn own_processor_is_told_first(rt: HostRuntime) {
+    assert!(rt; is_told_first(rt.alloc()) == Some(true));
+}
+
+/// A clause's literals in a transcript, where variable 1 has the name 8 and variable 2 is a witness without a name.
+fn transcribed(alloc: Global, clause: &[Lit]) -> Option<(usize, i64)> {
+    let (first, second) = (Var::from_index(0), Var::from_index(1));
+    let mut variables = Variables::new(alloc);
+    variables.add_user_mapping(first, Var::from_index(7)).ok()?;
+    variables.ensure_var(second).ok()?;
+    variables.set_mode(second, false).ok()?;
+    let mut transcript = Transcript::new(alloc);
+    let step = CheckedProofStep::AddClause { id: 0, clause };
+    match transcript.transcript_step(&step, CheckerData::new(&variables)) {
+        Ok(Some(ProofTranscriptStep::AddClause { clause })) => {
+            Some((clause.len(), clause.first()?.to_dimacs()))
+        }
+        _ => None,
+    }
+}
+
+#[test]
+fn clauses_are_transcribed(rt: HostRuntime) {
+    let (first, second) = (Var::from_index(0), Var::from_index(1));
+    let clause = [first.negative(), second.positive()];
+    assert!(rt; transcribed(rt.alloc(), &clause) == Some((1, -8)));
+}
