@@ -1,6 +1,5 @@
 pub mod laws
 pub mod confirm
-pub mod checker
 pub mod run
 pub mod answers
 pub mod search

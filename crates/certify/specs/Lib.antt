@@ -1,5 +1,4 @@
 pub mod Calls
-pub mod checker
 pub mod answers
 pub mod confirm
 pub mod run

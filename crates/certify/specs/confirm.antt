@@ -1,5 +1,7 @@
 pub mod Checking
-pub mod ListChecking
+pub mod Feeding
+pub mod Walks
+pub mod ProofChecking
 pub mod Matches
 pub mod LeftToMatch
 pub mod VerdictPromises
@@ -10,6 +12,7 @@ pub mod Streams
 pub mod Views
 pub mod ConfirmedCommands
 pub mod SpeltLiterals
+pub mod Marks
 pub mod CertificateSteps
 pub mod Stepping
 pub mod Dues

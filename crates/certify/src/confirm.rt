@@ -1,15 +1,16 @@
 //! Confirms that script, answers and certificate belong together.
 ghost use Rattle.std.specs.Prelude.{◌≡◌, ◌+◌, ◌-◌, ◌^◌, ◌≤◌, ◌<◌, ◌⊎◌, length, IfOk, IsErrOf};
-ghost use Rattle.sat_base.specs.device.Device.{most_reads, ReadFails, GaveEnough};
+ghost use Rattle.sat_base.specs.device.Device.{most_reads, ReadFails};
 ghost use Rattle.sat_base.specs.steps.StepReading.{reader_name, reader_source};
 ghost use Rattle.certify.specs.confirm.ConfirmedCommands.{ConfirmsAll, left_of};
 ghost use Rattle.certify.specs.confirm.Decides.{DecidesFrom, said_of};
 ghost use Rattle.certify.specs.confirm.Streams.{Confirms, GoesOn, stream};
-ghost use Rattle.certify.specs.confirm.VerdictPromises.{HasTooMany, IsExact, IsSound, ReadsKept, gave};
+ghost use Rattle.certify.specs.confirm.VerdictPromises.{HasCounterEnd, IsExact, IsSound, ReadsKept, TakesLooks, gave};
 
 pub(crate) mod answers;
 pub(crate) mod certificate;
 pub(crate) mod expected;
+pub(crate) mod marked;
 pub(crate) mod session;
 pub(crate) mod sets;
 pub(crate) mod spell;
@@ -20,6 +21,7 @@ mod tests;
 use crate::script::{Script, read_script};
 use crate::verdict::{ConfirmFault, Verdict};
 use sat_base::{CountedRead, ReadError, StepReader, read_whole};
+use sat_checker::Looks;
 use session::Confirmation;
 use std::alloc::Global;
 use stop::Stop;
@@ -56,6 +58,7 @@ fn conclude(ended: Result<(), Stop>, asks: u64) -> Result<Verdict, ConfirmFault>
         }),
         Err(Stop::Read) => Err(ConfirmFault::CertificateRead),
         Err(Stop::OutOfMemory) => Err(ConfirmFault::OutOfMemory),
+        Err(Stop::CounterEnd) => Err(ConfirmFault::CounterEnd),
     }
 }
 
@@ -65,24 +68,29 @@ fn decide<R: CountedRead>(
     script: &Script,
     answers: &[u8],
     certificate: &mut R,
+    looks: &mut Looks,
 ) -> Result<Verdict, ConfirmFault>
     requires { length script.now.0 < 2 ^ 64 - 1 }
     ensures decides { DecidesFrom script.now answers.now (R.seen certificate.old) (R.seen certificate.new) result }
     ensures reads { (R.seen certificate.new).calls ≤ (R.seen certificate.old).calls + most_reads }
+    ensures looks { TakesLooks (R.seen certificate.old) (R.seen certificate.new) looks.old looks.new }
 {
     let mut session = Confirmation::new(alloc, answers);
     let mut steps = StepReader::new(alloc, certificate);
     let ended = confirm_all(&mut session, script, &mut steps);
+    looks.add(&session.certificate.checker);
     conclude(ended, session.asks)
 }
 
 /// Compares a script, answers and a certificate, and says yes exactly where they match. Script and answers are read to their ends
-/// first; of the certificate a step is read where the next decision needs it.
+/// first; of the certificate a step is read where the next decision needs it. The looks of the checker that its steps are fed to are
+/// added to `looks`, whatever is answered.
 pub fn confirm<S: CountedRead, A: CountedRead, C: CountedRead>(
     alloc: Global,
     script: &mut S,
     answers: &mut A,
     certificate: &mut C,
+    looks: &mut Looks,
 ) -> Result<Verdict, ConfirmFault>
     // Yes means that the texts that the three readers gave match, whatever would follow, and that these match means yes.
     ensures exact { IsExact result S.seen A.seen C.seen (script.old, answers.old, certificate.old) (script.new, answers.new, certificate.new) }
@@ -93,7 +101,9 @@ pub fn confirm<S: CountedRead, A: CountedRead, C: CountedRead>(
     ensures script_read { IsErrOf result ConfirmFault.ScriptRead → ReadFails (S.seen script.old) (S.seen script.new) }
     ensures answers_read { IsErrOf result ConfirmFault.AnswersRead → ReadFails (A.seen answers.old) (A.seen answers.new) }
     ensures certificate_read { IsErrOf result ConfirmFault.CertificateRead → ReadFails (C.seen certificate.old) (C.seen certificate.new) }
-    ensures counter_end { IsErrOf result ConfirmFault.CounterEnd → GaveEnough (S.seen script.old) (S.seen script.new) HasTooMany }
+    ensures counter_end { IsErrOf result ConfirmFault.CounterEnd → HasCounterEnd (gave S.seen script.old script.new) (gave C.seen certificate.old certificate.new) }
+    // The looks that are added are those of accepted steps from the front of the certificate, and perhaps of one that isn't accepted.
+    ensures looks { TakesLooks (C.seen certificate.old) (C.seen certificate.new) looks.old looks.new }
 
     // A read of a text has failed only where the answer is that text's fault: neither yes nor no comes after one.
     ensures kept_script { IsErrOf result ConfirmFault.ScriptRead ⊎ ReadsKept S.seen script.old script.new }
@@ -117,5 +127,5 @@ pub fn confirm<S: CountedRead, A: CountedRead, C: CountedRead>(
     if script.len() as u64 == u64::MAX {
         return Err(ConfirmFault::CounterEnd);
     }
-    decide(alloc, &script, &answers, certificate)
+    decide(alloc, &script, &answers, certificate, looks)
 }

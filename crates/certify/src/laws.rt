@@ -1,7 +1,7 @@
-//! What holds of the answers, of matching and of the list checker: each law is the contract of a function that does nothing.
+//! What holds of the answers, of matching and of the checker: each law is the contract of a function that does nothing.
 ghost use Rattle.certify.specs.laws.Laws.{AskBindsNothing, AskLeavesNames, GivenIdentitiesSuffice, JudgeIsKept, MatchingIsRight, NotBoth, RepeatChangesNothing, TautologyChangesNothing, TextsTellOutcomes, TextsThatMatchAreRight};
 ghost use Rattle.certify.specs.confirm.Checking.{IsSound};
-ghost use Rattle.certify.specs.confirm.ListChecking.{the_checking};
+ghost use Rattle.certify.specs.confirm.ProofChecking.{the_checking};
 ghost use Rattle.certify.specs.laws.Rows.{AnswersTwice, AskAloneText, BehindEndUncertified, ChainCertified, SearchedEarlyUncertified, UnknownUncertified, ClauseAndAskCertified, ClauseAndAskExpected, ClauseAndAskMatches, ClauseAndAskRight, ClauseAndAskSteps, ClauseAndAskText, ClauseUncertified, CoreUncertified, EarlyUncertified, EmptyMatches, EmptyText, EndAlone, EndAloneUncertified, HiddenAndBackExpected, HiddenAndBackState, HiddenAtOnceState, KnownWithoutRounds, LeftOutCertified, LeftmostRefuses, MalformedText, ModelUncertified, NameOnOldVariable, NoAnswers, TwoUnitsMatches, TwoUnitsRight, TwoUnitsSteps, WitnessRefusedText, WitnessRefusesAsk};
 
 /// Where script, answers and certificate match, the answers are right: by steps and outcomes, and by the three texts.
@@ -10,7 +10,7 @@ pub fn matching_is_right()
     ensures texts { TextsThatMatchAreRight }
 {}
 
-/// What the list checker accepts means what matching takes it to mean.
+/// What the checker of proofs accepts means what matching takes it to mean.
 pub fn checking_is_sound()
     ensures { IsSound the_checking }
 {}

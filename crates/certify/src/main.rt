@@ -2,7 +2,6 @@
 #![tactic(auto)]
 
 pub mod answers;
-pub mod checker;
 pub mod confirm;
 #[cfg(test)]
 mod devices;

@@ -14,6 +14,9 @@ pub mod CommandsConfirmed
 pub mod LiteralSets
 pub mod CertificateSteps
 pub mod Streams
+pub mod Walks
+pub mod Feeding
+pub mod Settled
 pub mod SteppedOn
 pub mod DueSteps
 pub mod NextNames

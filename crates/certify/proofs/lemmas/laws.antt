@@ -5,6 +5,6 @@ pub mod ExpectedOutcomes
 pub mod DefinitionLaws
 pub mod TellingTexts
 pub mod JudgeStates
-pub mod ListCheckerIsSound
+pub mod CheckerIsSound
 pub mod Rows
 pub mod CertifiedRows

@@ -4,24 +4,24 @@ use Rattle.sat_base.specs.values.Literals.{largest}
 use Rattle.sat_base.specs.script.Script.{Literal, names_of}
 use Rattle.sat_base.specs.script.Judge.{Judge, with_name, new_names, bring_in, bring_all}
 use Rattle.sat_base.specs.steps.Steps.{Step, UserVarName}
-use Rattle.certify.specs.checker.Stored.{is_known}
+use Rattle.sat_checker.specs.Stored.{is_known}
 use Rattle.certify.specs.answers.Answers.{Outcome, Unsat}
 use Rattle.certify.specs.answers.AnswerForms.{IsName, HaveNames}
-use Rattle.certify.specs.checker.Accepts.{Accepts, stored_after}
+use Rattle.sat_checker.specs.Accepts.{Accepts, ready_after}
 use Rattle.certify.specs.confirm.Checking.{variable_of}
 use Rattle.certify.specs.confirm.Matches.{Expected, NewName, Opens, Fits, bringing}
-use Rattle.certify.specs.confirm.ListChecking.{the_checking}
-use Rattle.certify.specs.checker.CheckerView.{Keeps}
+use Rattle.certify.specs.confirm.ProofChecking.{the_checking}
+use Rattle.certify.specs.confirm.Feeding.{HasTaken}
 use Rattle.certify.specs.confirm.CertificatePlaces.{CanMeet, Leads, Bars, Skips, Offers, variable_in, IsPlain}
 use Rattle.certify.specs.confirm.Views.{View}
 use Rattle.certify.specs.declared.verdict.Why.{Why}
 
 -- the checker was fed these steps, the names have the variables that they say, and as long as unsat isn't recorded just the names in use have one
 pub record IsFed (c : View) (j : Judge) (earlier : List Step) : Type 0 where
-  pub keeps : Keeps c.checker (stored_after earlier)
+  pub keeps : HasTaken c.checker earlier
   pub named : variable_of earlier ≡ variable_in c.variables
   pub plain : IsPlain j
-  pub counted : (stored_after earlier).unsat ≡ false → j.first_unused ≡ length c.variables + 1
+  pub counted : (ready_after earlier).unsat ≡ false → j.first_unused ≡ length c.variables + 1
 
 -- just what is pending is met, and the judge comes from the one state to the other
 pub record Onward (old : View) (earlier : List Step) (pending : List Expected) (next : Judge) (new : View) : Type 0 where
@@ -38,14 +38,14 @@ MeetsPending old new j pending next (Some why) = (earlier : List Step) → IsFed
 pub record StepIsReady (old : View) (j : Judge) (earlier : List Step) (new : View) : Type 0 where
   pub later : List Step
   pub stands : IsFed new j later
-  pub open_yet : (stored_after later).unsat ≡ false
+  pub open_yet : (ready_after later).unsat ≡ false
   pub offers : Offers earlier old.rest later new.step new.rest
 
 -- unsat is recorded before an ordered step came
 pub record UnsatIsRecorded (old : View) (j : Judge) (earlier : List Step) (new : View) : Type 0 where
   pub later : List Step
   pub stands : IsFed new j later
-  pub closed : (stored_after later).unsat ≡ true
+  pub closed : (ready_after later).unsat ≡ true
   pub skips : Skips earlier old.rest later new.rest
 
 -- a step that nobody expects was taken
@@ -56,36 +56,36 @@ pub record StepWasPassed (old : View) (j : Judge) (earlier : List Step) (new : V
 
 -- the step that was read is what the judge expects, or isn't
 abbrev pub ReadStepFits : View → (Judge → Expected) → Option Why → Type 0
-ReadStepFits c e None = (j : Judge) (earlier : List Step) → IsFed c j earlier → (stored_after earlier).unsat ≡ false → Fits the_checking earlier (e j) c.step
-ReadStepFits c e (Some why) = (j : Judge) (earlier : List Step) → IsFed c j earlier → (stored_after earlier).unsat ≡ false → Fits the_checking earlier (e j) c.step → ⊥
+ReadStepFits c e None = (j : Judge) (earlier : List Step) → IsFed c j earlier → (ready_after earlier).unsat ≡ false → Fits the_checking earlier (e j) c.step
+ReadStepFits c e (Some why) = (j : Judge) (earlier : List Step) → IsFed c j earlier → (ready_after earlier).unsat ≡ false → Fits the_checking earlier (e j) c.step → ⊥
 
 -- the step that was read puts the next name on a variable that isn't known, or doesn't
 abbrev pub NamesNext : View → Result ℕ Why → Type 0
 NamesNext c (Ok v) = (c.step ≡ UserVarName v (Some (length c.variables)))
-    × ((j : Judge) (earlier : List Step) → IsFed c j earlier → is_known v (stored_after earlier) ≡ false)
-NamesNext c (Err why) = (j : Judge) (earlier : List Step) → IsFed c j earlier → (stored_after earlier).unsat ≡ false → Fits the_checking earlier (NewName j.first_unused) c.step → ⊥
+    × ((j : Judge) (earlier : List Step) → IsFed c j earlier → is_known v (ready_after earlier) ≡ false)
+NamesNext c (Err why) = (j : Judge) (earlier : List Step) → IsFed c j earlier → (ready_after earlier).unsat ≡ false → Fits the_checking earlier (NewName j.first_unused) c.step → ⊥
 
 -- the step that was read is accepted, or isn't; it puts no name
 abbrev pub FeedsStep : View → View → Option Why → Type 0
 FeedsStep old new None = (new.rest ≡ old.rest)
-    × ((j : Judge) (earlier : List Step) → IsFed old j earlier → (stored_after earlier).unsat ≡ false
+    × ((j : Judge) (earlier : List Step) → IsFed old j earlier → (ready_after earlier).unsat ≡ false
     → variable_of (old.step ∷ earlier) ≡ variable_of earlier
-    → Accepts (stored_after earlier) old.step × IsFed new j (old.step ∷ earlier))
-FeedsStep old new (Some why) = (j : Judge) (earlier : List Step) → IsFed old j earlier → Accepts (stored_after earlier) old.step → ⊥
+    → Accepts (ready_after earlier) old.step × IsFed new j (old.step ∷ earlier))
+FeedsStep old new (Some why) = (j : Judge) (earlier : List Step) → IsFed old j earlier → Accepts (ready_after earlier) old.step → ⊥
 
 -- the step that was read puts the next name, and is accepted or isn't
 abbrev pub FeedsName : View → View → Option Why → Type 0
 FeedsName old new None = (new.rest ≡ old.rest)
-    × ((j : Judge) (earlier : List Step) → IsFed old j earlier → (stored_after earlier).unsat ≡ false → j.first_unused ≤ largest
-    → Accepts (stored_after earlier) old.step × IsFed new (with_name j.first_unused j) (old.step ∷ earlier))
-FeedsName old new (Some why) = (j : Judge) (earlier : List Step) → IsFed old j earlier → Accepts (stored_after earlier) old.step → ⊥
+    × ((j : Judge) (earlier : List Step) → IsFed old j earlier → (ready_after earlier).unsat ≡ false → j.first_unused ≤ largest
+    → Accepts (ready_after earlier) old.step × IsFed new (with_name j.first_unused j) (old.step ∷ earlier))
+FeedsName old new (Some why) = (j : Judge) (earlier : List Step) → IsFed old j earlier → Accepts (ready_after earlier) old.step → ⊥
 
 -- Behind the assumptions of an ask: once unsat is recorded, it is the only answer.
 pub record AskIsOpen (old : View) (earlier : List Step) (ask : List Literal) (j : Judge) (new : View) : Type 0 where
   pub later : List Step
   pub stands : IsFed new j later
-  pub leads : (o : Outcome) → ((stored_after later).unsat ≡ true → o ≡ Unsat []) → Leads earlier old.rest (Opens ask o ∷ []) later new.rest
-  pub alone : (o : Outcome) (es : List Expected) → CanMeet earlier (Opens ask o ∷ es) old.rest → (stored_after later).unsat ≡ true → o ≡ Unsat []
+  pub leads : (o : Outcome) → ((ready_after later).unsat ≡ true → o ≡ Unsat []) → Leads earlier old.rest (Opens ask o ∷ []) later new.rest
+  pub alone : (o : Outcome) (es : List Expected) → CanMeet earlier (Opens ask o ∷ es) old.rest → (ready_after later).unsat ≡ true → o ≡ Unsat []
 
 abbrev pub OpensAsk : View → View → List Literal → Option Why → Type 0
 OpensAsk old new ask None = (j : Judge) (earlier : List Step) → IsFed old j earlier → AskIsOpen old earlier ask j new

@@ -10,7 +10,7 @@ use Rattle.certify.specs.answers.AnswerReading.{outcome_of}
 use Rattle.certify.specs.confirm.LeftToMatch.{Left}
 use Rattle.certify.specs.confirm.Matches.{MatchesCommands, showing}
 use Rattle.certify.specs.confirm.CertificateSteps.{IsFed, MeetsPending, BringsAll, OpensAsk}
-use Rattle.certify.specs.confirm.ListChecking.{the_checking}
+use Rattle.certify.specs.confirm.ProofChecking.{the_checking}
 use Rattle.certify.specs.confirm.Streams.{why_of}
 use Rattle.certify.specs.confirm.Views.{View, SessionView, session_at}
 use Rattle.certify.specs.declared.answers.read.AnswerFault.{AnswerFault}

@@ -1,11 +1,12 @@
 -- What a verdict says of a script, its answers and a certificate.
-use Rattle.std.specs.Prelude.{ℕ, ◌+◌, ◌-◌, ◌^◌, ◌≡◌, min, List, Result, Ok, Err}
+use Rattle.std.specs.Prelude.{ℕ, ◌+◌, ◌-◌, ◌^◌, ◌≡◌, min, List, [], Result, Ok, Err}
 use Rattle.std.specs.List.{AllByRecursion}
 use Rattle.sat_base.specs.device.Device.{Reader, GaveEnough, ReadFails}
 use Rattle.certify.specs.script.CappedNames.{CappedScript}
 use Rattle.certify.specs.confirm.ConfirmedCommands.{CountFromOne}
 use Rattle.certify.specs.confirm.Matches.{MatchesCommands}
-use Rattle.certify.specs.confirm.ListChecking.{the_checking}
+use Rattle.certify.specs.confirm.ProofChecking.{the_checking}
+use Rattle.certify.specs.confirm.Walks.{Spends}
 use Rattle.certify.specs.declared.confirm.stop.Stop.{Stop}
 use Rattle.certify.specs.declared.confirm.stop.Stop.TheVariants as stop
 use Rattle.certify.specs.declared.verdict.ConfirmFault.{ConfirmFault}
@@ -24,6 +25,7 @@ said_of (Ok x) asks = Ok Yes
 said_of (Err (stop.No why)) asks = Ok (No (min (asks + 1) (2 ^ 64 - 1)) why)
 said_of (Err stop.Read) asks = Err fault.CertificateRead
 said_of (Err stop.OutOfMemory) asks = Err fault.OutOfMemory
+said_of (Err stop.CounterEnd) asks = Err fault.CounterEnd
 
 -- what is said where the certificate's reader was and is such: whatever would follow what it gave
 abbrev pub DecidesFrom : CappedScript → List ℕ → Reader → Reader → Result Verdict ConfirmFault → Type 0
@@ -34,4 +36,4 @@ DecidesFrom script answers old new (Err fault.CertificateRead) = ReadFails old n
 DecidesFrom script answers old new (Err fault.OutOfMemory) = new.failures ≡ old.failures
 DecidesFrom script answers old new (Err fault.ScriptRead) = ⊥
 DecidesFrom script answers old new (Err fault.AnswersRead) = ⊥
-DecidesFrom script answers old new (Err fault.CounterEnd) = ⊥
+DecidesFrom script answers old new (Err fault.CounterEnd) = GaveEnough old new (Spends []) × (new.failures ≡ old.failures)

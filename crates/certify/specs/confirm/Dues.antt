@@ -4,7 +4,7 @@ use Rattle.sat_base.specs.script.Script.{Literal}
 use Rattle.sat_base.specs.script.Judge.{Judge}
 use Rattle.sat_base.specs.steps.Steps.{Step}
 use Rattle.certify.specs.answers.Answers.{Outcome, Unsat}
-use Rattle.certify.specs.checker.Accepts.{stored_after}
+use Rattle.sat_checker.specs.Accepts.{ready_after}
 use Rattle.certify.specs.confirm.CertificatePlaces.{CanMeet, Leads, Bars}
 use Rattle.certify.specs.confirm.CertificateSteps.{IsFed, ReadStepFits}
 use Rattle.certify.specs.confirm.Matches.{Expected, NewName, NoName, Adds, Opens, Shows, Fails, Closes, Finish, Excused, showing_model}
@@ -57,9 +57,9 @@ pub record IsMet (due : Due) (old : View) (j : Judge) (earlier : List Step) (new
   pub later : List Step
   pub stands : IsFed new j later
   pub leads : (o : Outcome) (ask : List Literal)
-      → ((stored_after later).unsat ≡ true → Allows (due j o ask)) → Leads earlier old.rest (due j o ask ∷ []) later new.rest
+      → ((ready_after later).unsat ≡ true → Allows (due j o ask)) → Leads earlier old.rest (due j o ask ∷ []) later new.rest
   pub alone : (o : Outcome) (ask : List Literal) (es : List Expected)
-      → CanMeet earlier (due j o ask ∷ es) old.rest → (stored_after later).unsat ≡ true → Allows (due j o ask)
+      → CanMeet earlier (due j o ask ∷ es) old.rest → (ready_after later).unsat ≡ true → Allows (due j o ask)
 
 -- what is expected is met, or can't be
 abbrev pub MeetsDue : Due → View → View → Result (Unit {0}) Why → Type 0

@@ -5,7 +5,7 @@ use Rattle.sat_base.specs.steps.Steps.{Step}
 use Rattle.certify.specs.confirm.CertificateSteps.{NamesNext, BringsNext, BringsName, BringsAll}
 use Rattle.certify.specs.confirm.Streams.{why_of}
 use Rattle.certify.specs.confirm.Views.{View}
-use Rattle.certify.specs.declared.checker.Checker.{Checker}
+use Rattle.sat_checker.specs.declared.checker.Checker.{Checker}
 use Rattle.certify.specs.declared.verdict.Why.{Why}
 
 -- the step puts the next name on this variable, which isn't known, or it doesn't

@@ -4,7 +4,7 @@ use Rattle.std.specs.Bool.{MatchBool}
 use Rattle.std.specs.List.{AllByRecursion}
 use Rattle.sat_base.specs.script.Script.{Literal, Among, names_of}
 use Rattle.sat_base.specs.script.Judge.{names_from}
-use Rattle.certify.specs.checker.Propagation.{is_among}
+use Rattle.sat_checker.specs.LiteralSets.{is_among}
 use Rattle.certify.specs.confirm.Matches.{Spells, EachSpelt}
 
 -- each of the literals is one of the others

@@ -1,5 +1,5 @@
 -- What a certificate's steps bring, up to the next ordered one.
-use Rattle.std.specs.Prelude.{Option, Some, None, Result, Ok, Err, List}
+use Rattle.std.specs.Prelude.{Bool, true, false, Option, Some, None, Result, Ok, Err, List}
 use Rattle.sat_base.specs.script.Judge.{Judge}
 use Rattle.sat_base.specs.steps.Steps.{Step}
 use Rattle.certify.specs.confirm.CertificatePlaces.{Stops}
@@ -9,6 +9,15 @@ use Rattle.certify.specs.confirm.Views.{View, place}
 use Rattle.certify.specs.declared.confirm.certificate.Awaited.{Awaited}
 use Rattle.certify.specs.declared.confirm.certificate.Awaited.TheVariants as awaited
 use Rattle.certify.specs.declared.verdict.Why.{Why}
+
+-- whether the checker was fed what was read by then
+abbrev pub is_fed : Awaited → Bool
+is_fed awaited.Step = false
+is_fed awaited.Cut = true
+
+abbrev pub is_fed_so_far : Option Awaited → Bool
+is_fed_so_far None = true
+is_fed_so_far (Some a) = is_fed a
 
 -- a step was read, or none stands there
 abbrev pub ReadsOne : View → View → Result (Unit {0}) Why → Type 0

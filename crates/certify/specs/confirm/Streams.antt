@@ -1,5 +1,5 @@
 -- A certificate that is read step by step: what confirming makes of it, whatever would follow.
-use Rattle.std.specs.Prelude.{◌≡◌, ◌+◌, ◌-◌, ◌*◌, ◌≤◌, ℕ, false, List, [], ◌++◌, drop, length, Option, Some, None, Result, Ok, Err}
+use Rattle.std.specs.Prelude.{◌≡◌, ◌+◌, ◌-◌, ◌*◌, ◌≤◌, ℕ, Bool, true, false, List, [], ◌++◌, drop, length, Option, Some, None, Result, Ok, Err}
 use Rattle.std.specs.Io.KnownBytes.{IsAtEnd}
 use Rattle.sat_base.specs.declared.steps.error.StepError.{StepError}
 use Rattle.sat_base.specs.declared.steps.error.StepError.TheVariants as errors
@@ -10,7 +10,8 @@ use Rattle.sat_base.specs.device.Device.{Reader, most_reads, piece_size}
 use Rattle.sat_base.specs.steps.StepReading.{reader_source, has_failed, step_in}
 use Rattle.sat_base.specs.steps.Steps.{Step}
 use Rattle.certify.specs.confirm.Views.{View}
-use Rattle.certify.specs.declared.checker.Checker.{Checker}
+use Rattle.certify.specs.confirm.Walks.{walks_if, Tries, RunsOut}
+use Rattle.sat_checker.specs.declared.checker.Checker.{Checker}
 use Rattle.certify.specs.declared.confirm.certificate.Certificate.{Certificate}
 use Rattle.certify.specs.declared.confirm.stop.Stop.{Stop}
 use Rattle.certify.specs.declared.confirm.stop.Stop.TheVariants as stop
@@ -66,12 +67,26 @@ Moves old new = (text : List ℕ) × Passes old.source new.source text
 abbrev pub Halts : Stream → Stream → Type 0
 Halts old new = ((text : List ℕ) × PassesBut 1 old.source new.source text) × (AtEnd new.source → IsAtEnd new.source.reader.to_come)
 
+-- A call goes on: this is so of what confirming saw and sees, and the checker was fed the steps between them, but for the last one
+-- where that is still to be fed.
+abbrev pub Going : Bool → Stream → Stream → (View → View → Type 0) → Type 0
+Going fed old new P = Moves old new × Over old new P × Over old new (walks_if fed)
+
+-- It stops; P says what a no makes of what confirming saw and sees. Whatever stopped it, the checker took the looks of what it was fed.
+abbrev pub Failing : Stop → Stream → Stream → (View → View → Why → Type 0) → Type 0
+Failing (stop.No why) old new P = Halts old new × Over old new (λ a b. P a b why) × Over old new Tries
+Failing stop.Read old new P = ((text : List ℕ) × Faults old.source new.source text) × Over old new Tries
+Failing stop.OutOfMemory old new P = Halts old new × Over old new Tries
+Failing stop.CounterEnd old new P = Halts old new × Over old new RunsOut × Over old new Tries
+
 -- What a call answers: it goes on, or it stops; P says what an answer makes of what confirming saw and sees.
+abbrev pub Reading : {A : Type 0} → (A → Bool) → Result A Stop → Stream → Stream → (View → View → Result A Why → Type 0) → Type 0
+Reading fed (Ok x) old new P = Going (fed x) old new (λ a b. P a b (Ok x))
+Reading fed (Err e) old new P = Failing e old new (λ a b why. P a b (Err why))
+
+-- where the checker is fed each step that is read
 abbrev pub Confirms : {A : Type 0} → Result A Stop → Stream → Stream → (View → View → Result A Why → Type 0) → Type 0
-Confirms (Ok x) old new P = Moves old new × Over old new (λ a b. P a b (Ok x))
-Confirms (Err (stop.No why)) old new P = Halts old new × Over old new (λ a b. P a b (Err why))
-Confirms (Err stop.Read) old new P = (text : List ℕ) × Faults old.source new.source text
-Confirms (Err stop.OutOfMemory) old new P = Halts old new
+Confirms r old new P = Reading (λ x. true) r old new P
 
 -- why not, if so
 abbrev pub why_of : Result (Unit {0}) Why → Option Why
@@ -84,6 +99,7 @@ Says (Ok x) P = P (Ok x)
 Says (Err (stop.No why)) P = P (Err why)
 Says (Err stop.Read) P = ⊥
 Says (Err stop.OutOfMemory) P = Unit {0}
+Says (Err stop.CounterEnd) P = ⊥
 
 -- what a call answers where no step was read
 abbrev pub stop_of : StepError → Stop

@@ -1,11 +1,12 @@
 -- What a verdict promises of the texts that three readers gave.
-use Rattle.std.specs.Prelude.{ℕ, ◌-◌, ◌^◌, ◌≤◌, ◌≡◌, ◌↔◌, Result, IfOk, List, length}
-use Rattle.sat_base.specs.device.Device.{Reader, GaveEnough}
+use Rattle.std.specs.Prelude.{ℕ, ◌-◌, ◌^◌, ◌≤◌, ◌≡◌, ◌↔◌, ◌⊎◌, Result, IfOk, List, [], ◌++◌, length}
+use Rattle.sat_base.specs.device.Device.{Reader, GaveFront, GaveEnough, CanFollow}
 use Rattle.sat_base.specs.script.Script.{reading}
 use Rattle.certify.specs.answers.Answers.{Outcome, answers_text}
 use Rattle.certify.specs.answers.RightAnswers.{AnswersAreRight}
 use Rattle.certify.specs.confirm.Matches.{Matches}
-use Rattle.certify.specs.confirm.ListChecking.{the_checking}
+use Rattle.certify.specs.confirm.ProofChecking.{the_checking}
+use Rattle.certify.specs.confirm.Walks.{LooksReach, Spends}
 use Rattle.certify.specs.declared.verdict.Verdict.{Verdict}
 use Rattle.certify.specs.declared.verdict.Verdict.TheVariants.{Yes}
 
@@ -42,6 +43,16 @@ pub record AreRightAnswers (script answers : List ℕ) : Type 0 where
 abbrev pub IsSound : Reader × Reader → Reader × Reader → Verdict → Type 0
 IsSound script answers v = v ≡ Yes → Given script (λ s. Given answers (AreRightAnswers s))
 
+-- The reader gave a text, and steps from its front lead from one count of looks to the other, whatever would follow.
+pub record TakesLooks (old new : Reader) (from to : ℕ) : Type 0 where
+  pub text : List ℕ
+  pub front : GaveFront old new text
+  pub reached : (rest : List ℕ) → CanFollow old new rest → LooksReach [] (text ++ rest) from to
+
 -- the text has so many commands that they can't be counted
 abbrev pub HasTooMany : List ℕ → Type 0
 HasTooMany text = 2 ^ 64 - 1 ≤ length (reading text).0
+
+-- a number is past 64 bits: the script has too many commands, or it happens behind steps of the certificate that are accepted
+abbrev pub HasCounterEnd : Reader × Reader → Reader × Reader → Type 0
+HasCounterEnd script certificate = Given script HasTooMany ⊎ Given certificate (Spends [])

@@ -2,7 +2,7 @@
 use Rattle.std.specs.Prelude.{ℕ, List}
 use Rattle.sat_base.specs.steps.Steps.{Step}
 use Rattle.certify.specs.confirm.ReadSteps.{Place}
-use Rattle.certify.specs.declared.checker.Checker.{Checker}
+use Rattle.sat_checker.specs.declared.checker.Checker.{Checker}
 
 -- a certificate as far as its steps were accepted
 pub record View : Type 0 where

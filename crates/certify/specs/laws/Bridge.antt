@@ -6,7 +6,7 @@ use Rattle.sat_base.specs.values.Clauses.{Valuation, EachHolds}
 use Rattle.sat_base.specs.script.Script.{Among}
 use Rattle.sat_base.specs.script.Judge.{Judge, identity_of}
 use Rattle.sat_base.specs.steps.Steps.{Step}
-use Rattle.certify.specs.checker.Fold.{Holds}
+use Rattle.sat_checker.specs.Fold.{Holds}
 use Rattle.certify.specs.confirm.Checking.{variable_of, Checking, Accepted}
 
 -- live proof variables with their identities

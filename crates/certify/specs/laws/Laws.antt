@@ -9,7 +9,7 @@ use Rattle.sat_base.specs.steps.Steps.{Step}
 use Rattle.certify.specs.answers.Answers.{Outcome, Sat, Unsat, Unknown, answers_text}
 use Rattle.certify.specs.answers.RightAnswers.{AnswersAreRight}
 use Rattle.certify.specs.confirm.Matches.{OneEach, StepsMatch, Matches}
-use Rattle.certify.specs.confirm.ListChecking.{the_checking}
+use Rattle.certify.specs.confirm.ProofChecking.{the_checking}
 
 -- no ask has both a right model and a right core
 abbrev pub NotBoth : Type 0
@@ -82,7 +82,7 @@ GivenIdentitiesSuffice =
     (EachHolds a j.clauses ↔ EachHolds (only_below j.next_identity a) j.clauses)
     × ((l : Literal) (i : ℕ) → identity_of j l.name ≡ Some i → literal_true (only_below j.next_identity a) (over j l) ≡ literal_true a (over j l))
 
--- steps that the list checker accepts and that match show right outcomes
+-- steps that the checker accepts and that match show right outcomes
 abbrev pub MatchingIsRight : Type 0
 MatchingIsRight = (commands : List Command) (outcomes : List Outcome) (steps : List Step)
     → StepsMatch the_checking commands outcomes steps → AnswersAreRight commands outcomes

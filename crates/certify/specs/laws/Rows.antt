@@ -3,13 +3,13 @@ use Rattle.std.specs.Prelude.{ℕ, ◌≡◌, Bool, true, false, Some, None, Lis
 use Rattle.sat_base.specs.script.Script.{Literal, Command, Clause, Ask, Hide, Witness, Clean, Malformed}
 use Rattle.sat_base.specs.script.Judge.{Sampled, start, after_script, refusal_of, PastLimit, WitnessName}
 use Rattle.sat_base.specs.steps.Steps.{Step, UserVarName, ChangeSamplingMode, AddClause, AtClause, Model, Assumptions, End}
-use Rattle.certify.specs.checker.Stored.{is_known}
-use Rattle.certify.specs.checker.Accepts.{stored_after}
+use Rattle.sat_checker.specs.Stored.{is_known}
+use Rattle.sat_checker.specs.Accepts.{ready_after}
 use Rattle.certify.specs.answers.Answers.{Outcome, Sat, Unsat, Unknown, answers_text}
 use Rattle.certify.specs.answers.RightAnswers.{AnswersAreRight}
 use Rattle.certify.specs.confirm.Matches.{expected, NewName, NoName, Adds, Opens, Shows, Closes, Finish, StepsMatch, MatchesCommands}
 use Rattle.certify.specs.run.Certifies.{Certifies}
-use Rattle.certify.specs.confirm.ListChecking.{the_checking}
+use Rattle.certify.specs.confirm.ProofChecking.{the_checking}
 
 -- the positive literal of a name, and the negative one
 abbrev pub pos : ℕ → Literal
@@ -119,7 +119,7 @@ EmptyMatches = (rest : List ℕ) → MatchesCommands the_checking [] Clean [] (1
 -- Where the hidden name comes back on its old variable, nothing matches: whatever is answered, and whatever a checker that knows named variables accepts.
 abbrev pub NameOnOldVariable : Type 0
 NameOnOldVariable = (accepts : List Step → Step → Bool) (unsat : List Step → Bool) (outcomes : List Outcome)
-    → StepsMatch (record { Accepts = λ earlier step. accepts earlier step ≡ true; unsat = unsat; knows = λ earlier v. is_known v (stored_after earlier) }) hidden_and_back outcomes
+    → StepsMatch (record { Accepts = λ earlier step. accepts earlier step ≡ true; unsat = unsat; knows = λ earlier v. is_known v (ready_after earlier) }) hidden_and_back outcomes
     (UserVarName 0 (Some 0) ∷ AddClause (0 ∷ []) ∷ UserVarName 0 None ∷ ChangeSamplingMode 0 true ∷ UserVarName 0 (Some 0) ∷ AddClause (1 ∷ []) ∷ End ∷ [])
     → ⊥
 

@@ -4,7 +4,7 @@ use Rattle.sat_base.specs.values.Clauses.{Valuation}
 use Rattle.sat_base.specs.script.Script.{Literal}
 use Rattle.sat_base.specs.steps.Steps.{Step, AtClause, UnitClauses, DeleteClause, ChangeHashBits}
 use Rattle.certify.specs.answers.Answers.{Outcome, Unsat}
-use Rattle.certify.specs.checker.Fold.{Holds}
+use Rattle.sat_checker.specs.Fold.{Holds}
 use Rattle.certify.specs.confirm.Checking.{Checking, is_ordered}
 use Rattle.certify.specs.confirm.Matches.{Expected, Opens, Adds, Shows, Fails, Closes, Fits}
 

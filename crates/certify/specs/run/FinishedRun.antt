@@ -7,7 +7,7 @@ use Rattle.sat_base.specs.steps.Steps.{Step}
 use Rattle.sat_base.specs.steps.StepText.{SpellsSteps}
 use Rattle.certify.specs.answers.Answers.{Outcome, Sat, Unsat, Unknown, answers_text}
 use Rattle.certify.specs.answers.RightAnswers.{AnswersAreRight}
-use Rattle.certify.specs.confirm.ListChecking.{the_checking}
+use Rattle.certify.specs.confirm.ProofChecking.{the_checking}
 use Rattle.certify.specs.confirm.Matches.{expected}
 use Rattle.certify.specs.run.Certifies.{Certifies}
 use Rattle.certify.specs.search.StepsLeft.{steps_left}

@@ -12,11 +12,11 @@ use Rattle.certify.specs.answers.Answers.{Outcome, Sat, Unsat, Unknown, answers_
 use Rattle.certify.specs.answers.AnswerForms.{named_literals}
 use Rattle.certify.specs.answers.RightAnswers.{AreRight}
 use Rattle.certify.specs.run.FinishedRun.{refused_count, kind_of, AreSpent, IsSpent, RunOf, asked_steps, malformed_at}
-use Rattle.certify.specs.checker.Accepts.{stored_after}
-use Rattle.certify.specs.checker.Fold.{Holds}
-use Rattle.certify.specs.checker.Propagation.{is_among}
+use Rattle.sat_checker.specs.Accepts.{ready_after}
+use Rattle.sat_checker.specs.Fold.{Holds}
+use Rattle.sat_checker.specs.Stored.{is_unit}
 use Rattle.certify.specs.confirm.Checking.{variable_of}
-use Rattle.certify.specs.confirm.ListChecking.{the_checking}
+use Rattle.certify.specs.confirm.ProofChecking.{the_checking}
 use Rattle.certify.specs.confirm.Matches.{expected}
 use Rattle.certify.specs.run.Certifies.{Certifies}
 use Rattle.certify.specs.run.Outputs.{Both, Wrote, AnswersAll, both, pair}
@@ -127,8 +127,8 @@ pub record WroteAsk (n : ℕ) (from to : Recording) (answer : Answer) (line : Li
 
 -- of the steps it is recorded what is recorded of the clauses
 pub record Mirrors (earlier : List Step) (r : Recording) : Type 0 where
-  pub unsat : (stored_after earlier).unsat ≡ r.unsat
-  pub units : (l : ℕ) → is_among (stored_after earlier).units l ≡ r.is_unit l
+  pub unsat : (ready_after earlier).unsat ≡ r.unsat
+  pub units : (l : ℕ) → is_unit (ready_after earlier) l ≡ r.is_unit l
 
 -- What the steps so far tell, the newest of which stands first: names 1 to n are those of the variables below n, no other variable
 -- is known, what satisfies their clauses satisfies what the solver holds, and the same is recorded.

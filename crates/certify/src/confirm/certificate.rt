@@ -1,21 +1,22 @@
 //! A certificate as far as its steps were accepted.
-ghost use Rattle.std.specs.Prelude.{◌≡◌, ◌≤◌, ◌<◌, ℕ, List, OnOk, is_ok};
+ghost use Rattle.std.specs.Prelude.{◌≡◌, ◌≤◌, ◌<◌, ℕ, List, OnOk, false};
 ghost use Rattle.sat_base.specs.device.Device.{most_reads};
 ghost use Rattle.sat_base.specs.steps.StepReading.{reader_name, reader_source};
 ghost use Rattle.sat_base.specs.steps.StepViews.{step_of};
-ghost use Rattle.certify.specs.checker.CheckerView.{DecidesStep};
+ghost use Rattle.sat_checker.specs.CheckerView.{LooksAtMost, looks_of};
 ghost use Rattle.certify.specs.confirm.Checking.{is_ordered as is_ordered_step};
+ghost use Rattle.certify.specs.confirm.Feeding.{Feeds, Settles};
 ghost use Rattle.certify.specs.confirm.NextNames.{PutsNext};
 ghost use Rattle.certify.specs.confirm.Stepping.{ReadsOne};
-ghost use Rattle.certify.specs.confirm.Streams.{Confirms, GoesOn, Says, bytes_left, stream_of};
-ghost use Rattle.certify.specs.declared.checker.Checker.{Checker as CheckerValue};
+ghost use Rattle.certify.specs.confirm.Streams.{Confirms, GoesOn, Reading, Says, bytes_left, stream_of};
+ghost use Rattle.sat_checker.specs.declared.checker.Checker.{Checker as CheckerValue};
 
-use crate::checker::Checker;
 use crate::confirm::expected::{Expected, Scratch, excuse, fits};
-use crate::confirm::stop::{Stop, unread};
+use crate::confirm::stop::{Stop, refused, unread};
 use crate::script::Literal;
 use crate::verdict::Why;
 use sat_base::{CountedRead, ProofStep, StepReader, Var};
+use sat_checker::{Checker, SelfChecker};
 use std::alloc::Global;
 
 /// The checker that a certificate's steps are fed to, and the variables of the names.
@@ -59,7 +60,7 @@ fn read_next<R: CountedRead>(steps: &mut StepReader<'_, R>) -> Result<(), Stop>
     ensures goes_on { OnOk result (GoesOn R.seen steps.new) }
     ensures takes { OnOk result (bytes_left (reader_source R.seen steps.new) < bytes_left (reader_source R.seen steps.old)) }
     ensures reads { (checker : CheckerValue) (variables : List ℕ)
-        → Confirms result (stream_of R.seen steps.old checker variables) (stream_of R.seen steps.new checker variables) ReadsOne }
+        → Reading (λ x. false) result (stream_of R.seen steps.old checker variables) (stream_of R.seen steps.new checker variables) ReadsOne }
 {
     match steps.advance() {
         Ok(()) => Ok(()),
@@ -69,12 +70,22 @@ fn read_next<R: CountedRead>(steps: &mut StepReader<'_, R>) -> Result<(), Stop>
 
 /// Feeds a step to the checker.
 fn feed(checker: &mut Checker, step: &ProofStep<'_>) -> Result<(), Stop>
-    ensures { Says result (λ r. DecidesStep checker.old (step_of step.now) checker.new (is_ok r)) }
+    ensures feeds { Feeds result checker.old (step_of step.now) checker.new }
+    ensures looks { LooksAtMost checker.old (step_of step.now) checker.new }
 {
-    if checker.step(step)? {
-        Ok(())
-    } else {
-        Err(Stop::No(Why::StepRefused))
+    match checker.self_check_step(step) {
+        Ok(()) => Ok(()),
+        Err(error) => Err(refused(error)),
+    }
+}
+
+/// Settles a unit conflict that is pending.
+fn settle(checker: &mut Checker) -> Result<(), Stop>
+    ensures { Settles result checker.old checker.new }
+{
+    match checker.self_check_delayed_steps() {
+        Ok(()) => Ok(()),
+        Err(error) => Err(refused(error)),
     }
 }
 
@@ -104,15 +115,17 @@ impl Certificate {
     ghost use Rattle.certify.specs.confirm.CertificateSteps.{IsFed};
     ghost use Rattle.certify.specs.confirm.Dues.{MeetsDue, due_of};
     ghost use Rattle.certify.specs.confirm.NextNames.{Brings, BringsEach, BringsUpTo};
-    ghost use Rattle.certify.specs.confirm.Stepping.{AwaitsNext, StepsOnce};
+    ghost use Rattle.certify.specs.confirm.Stepping.{AwaitsNext, StepsOnce, is_fed, is_fed_so_far};
     ghost use Rattle.certify.specs.confirm.Streams.{stream};
 
     pub fn new(alloc: Global) -> Certificate
-        ensures { (rest : List ℕ) (step : Step) → IsFed
+        ensures stands { (rest : List ℕ) (step : Step) → IsFed
             (record { checker = result.checker; variables = result.variables.items; step = step; rest = rest }) start [] }
+        ensures looks { looks_of result.checker ≡ 0 }
     {
+        let checker = Checker::new(alloc);
         Certificate {
-            checker: Checker::new(alloc),
+            checker,
             variables: Vec::new(alloc),
             scratch: Scratch::new(alloc),
         }
@@ -129,7 +142,7 @@ impl Certificate {
         ensures goes_on { OnOk result (GoesOn R.seen steps.new) }
         ensures takes { IfOk result
             (λ awaited. IfNone awaited (bytes_left (reader_source R.seen steps.new) < bytes_left (reader_source R.seen steps.old))) }
-        ensures confirms { Confirms result (stream R.seen steps.old self.old) (stream R.seen steps.new self.new) StepsOnce }
+        ensures confirms { Reading is_fed_so_far result (stream R.seen steps.old self.old) (stream R.seen steps.new self.new) StepsOnce }
     {
         if self.checker.unsat() {
             return Ok(Some(Awaited::Cut));
@@ -144,6 +157,24 @@ impl Certificate {
     }
 
     /// Feeds the other steps, up to the next ordered one.
+    fn find_ordered<R: CountedRead>(
+        &mut self,
+        steps: &mut StepReader<'_, R>,
+    ) -> Result<Awaited, Stop>
+        requires { GoesOn R.seen steps.old }
+        ensures same { reader_name steps.new ≡ reader_name steps.old }
+        ensures bound { (reader_source R.seen steps.new).reads ≤ most_reads }
+        ensures goes_on { OnOk result (GoesOn R.seen steps.new) }
+        ensures confirms { Reading is_fed result (stream R.seen steps.old self.old) (stream R.seen steps.new self.new) AwaitsNext }
+    {
+        loop {
+            if let Some(awaited) = self.advance(steps)? {
+                return Ok(awaited);
+            }
+        }
+    }
+
+    /// Feeds the other steps, up to the next ordered one, and settles a unit conflict that they left pending.
     fn await_ordered<R: CountedRead>(
         &mut self,
         steps: &mut StepReader<'_, R>,
@@ -152,13 +183,11 @@ impl Certificate {
         ensures same { reader_name steps.new ≡ reader_name steps.old }
         ensures bound { (reader_source R.seen steps.new).reads ≤ most_reads }
         ensures goes_on { OnOk result (GoesOn R.seen steps.new) }
-        ensures confirms { Confirms result (stream R.seen steps.old self.old) (stream R.seen steps.new self.new) AwaitsNext }
+        ensures confirms { Reading is_fed result (stream R.seen steps.old self.old) (stream R.seen steps.new self.new) AwaitsNext }
     {
-        loop {
-            if let Some(awaited) = self.advance(steps)? {
-                return Ok(awaited);
-            }
-        }
+        let awaited = self.find_ordered(steps)?;
+        settle(&mut self.checker)?;
+        Ok(awaited)
     }
 
     /// Expects that the next ordered step is this one, and feeds it.

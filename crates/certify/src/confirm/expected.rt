@@ -7,7 +7,7 @@ ghost use Rattle.certify.specs.confirm.Matches.{EachSpelt, SameSet};
 ghost use Rattle.certify.specs.confirm.SpeltLiterals.{IsLineOf};
 ghost use Rattle.certify.specs.confirm.Streams.{Says};
 
-use crate::checker::assigned::Assigned;
+use crate::confirm::marked::Marked;
 use crate::confirm::spell::{are_spelt_by, are_spelt_in, is_line};
 use crate::confirm::stop::Stop;
 use crate::script::Literal;
@@ -38,14 +38,14 @@ pub(crate) enum Expected<'a> {
 /// Room for comparisons; nothing is kept in it between them.
 #[derive(Drop)]
 pub(crate) struct Scratch {
-    marks: Assigned,
+    marks: Marked,
     spelt: Vec<Lit>,
 }
 
 impl Scratch {
     pub fn new(alloc: Global) -> Scratch {
         Scratch {
-            marks: Assigned::new(alloc),
+            marks: Marked::new(alloc),
             spelt: Vec::new(alloc),
         }
     }

@@ -2,29 +2,29 @@
 ghost use Rattle.std.specs.Prelude.{IfOk, OnOk};
 ghost use Rattle.certify.specs.confirm.SpeltLiterals.{Tells, AllMarked, AllAmong, SameMembers};
 
-use crate::checker::assigned::Assigned;
+use crate::confirm::marked::Marked;
 use sat_base::Lit;
 use std::alloc::AllocError;
 
 /// Marks the literals, and no others.
-fn mark(marks: &mut Assigned, literals: &[Lit]) -> Result<(), AllocError>
+fn mark(marks: &mut Marked, literals: &[Lit]) -> Result<(), AllocError>
     ensures { OnOk result (SameMembers marks.new literals.now) }
 {
     marks.undo_to(0);
     for lit in literals {
-        if marks.is_true(*lit) {
+        if marks.has(*lit) {
             continue;
         }
-        marks.assume(*lit)?;
+        marks.add(*lit)?;
     }
     Ok(())
 }
 
-fn all_marked(marks: &Assigned, literals: &[Lit]) -> bool
+fn all_marked(marks: &Marked, literals: &[Lit]) -> bool
     ensures { Tells result (AllMarked marks.now literals.now) }
 {
     for lit in literals {
-        if !marks.is_true(*lit) {
+        if !marks.has(*lit) {
             return false;
         }
     }
@@ -33,7 +33,7 @@ fn all_marked(marks: &Assigned, literals: &[Lit]) -> bool
 
 /// Whether each of the literals is one of the others.
 pub(crate) fn are_among(
-    marks: &mut Assigned,
+    marks: &mut Marked,
     literals: &[Lit],
     others: &[Lit],
 ) -> Result<bool, AllocError>
@@ -44,7 +44,7 @@ pub(crate) fn are_among(
 }
 
 /// Whether both lists have the same literals.
-pub(crate) fn are_same(marks: &mut Assigned, xs: &[Lit], ys: &[Lit]) -> Result<bool, AllocError>
+pub(crate) fn are_same(marks: &mut Marked, xs: &[Lit], ys: &[Lit]) -> Result<bool, AllocError>
     ensures { IfOk result (λ yes. Tells yes (AllAmong xs.now ys.now × AllAmong ys.now xs.now)) }
 {
     if are_among(marks, xs, ys)? {

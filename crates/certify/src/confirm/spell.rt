@@ -5,7 +5,7 @@ ghost use Rattle.certify.specs.confirm.CertificatePlaces.{variable_in};
 ghost use Rattle.certify.specs.confirm.Matches.{EachSpelt, SameSet};
 ghost use Rattle.certify.specs.confirm.SpeltLiterals.{Tells, SpellsAll, ListsNames, HasEach, IsLineOf};
 
-use crate::checker::assigned::Assigned;
+use crate::confirm::marked::Marked;
 use crate::confirm::sets::{are_among, are_same};
 use crate::script::Literal;
 use sat_base::{Lit, Var};
@@ -41,7 +41,7 @@ pub(crate) fn are_spelt_in(
     literals: &[Literal],
     codes: &[Lit],
     spelt: &mut Vec<Lit>,
-    marks: &mut Assigned,
+    marks: &mut Marked,
 ) -> Result<bool, AllocError>
     ensures { IfOk result (λ yes. Tells yes (EachSpelt (variable_in variables.now) literals.now codes.now)) }
 {
@@ -58,7 +58,7 @@ pub(crate) fn are_spelt_by(
     literals: &[Literal],
     codes: &[Lit],
     spelt: &mut Vec<Lit>,
-    marks: &mut Assigned,
+    marks: &mut Marked,
 ) -> Result<bool, AllocError>
     ensures { IfOk result (λ yes. Tells yes (SameSet (variable_in variables.now) literals.now codes.now)) }
 {

@@ -1,9 +1,11 @@
 //! What ends a confirmation that reads its certificate step by step.
 ghost use Rattle.std.specs.Prelude.{◌≡◌};
+ghost use Rattle.certify.specs.confirm.Feeding.{stop_by};
 ghost use Rattle.certify.specs.confirm.Streams.{stop_of};
 
 use crate::verdict::Why;
 use sat_base::StepError;
+use sat_checker::CheckerError;
 use std::alloc::{AllocError, AllocFailed};
 
 /// Why nothing more is confirmed.
@@ -14,6 +16,8 @@ pub(crate) enum Stop {
     /// The certificate's reader failed, or was read 2^48 times.
     Read,
     OutOfMemory,
+    /// A number of the checker's would be past 64 bits.
+    CounterEnd,
 }
 
 impl From<AllocError> for Stop {
@@ -49,5 +53,20 @@ pub(crate) fn unread(error: StepError) -> Stop
         StepError::Read => Stop::Read,
         StepError::OutOfMemory => Stop::OutOfMemory,
         StepError::HasFailed => Stop::Read,
+    }
+}
+
+/// Why a step wasn't accepted. A checker that goes on answers one of the first three.
+pub(crate) fn refused(error: CheckerError) -> Stop
+    ensures { result ≡ stop_by error }
+{
+    match error {
+        CheckerError::CheckFailed => Stop::No(Why::StepRefused),
+        CheckerError::OutOfMemory => Stop::OutOfMemory,
+        CheckerError::CounterEnd => Stop::CounterEnd,
+        CheckerError::HasFailed => Stop::No(Why::StepRefused),
+        CheckerError::ProofIncomplete => Stop::No(Why::StepRefused),
+        CheckerError::IoError => Stop::No(Why::StepRefused),
+        CheckerError::ParseError => Stop::No(Why::StepRefused),
     }
 }

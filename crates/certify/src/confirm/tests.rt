@@ -5,6 +5,7 @@ use crate::devices::fails_at;
 use crate::run::run;
 use crate::verdict::{ConfirmFault, Verdict, Why};
 use sat_base::Counted;
+use sat_checker::{Checker, Looks};
 use std::alloc::Global;
 use std::test::Fail;
 
@@ -19,6 +20,7 @@ fn said_whole(alloc: Global, texts: Texts<'_>) -> Result<Verdict, ConfirmFault> 
         &mut Counted::new(texts.0),
         &mut Counted::new(texts.1),
         &mut Counted::new(texts.2),
+        &mut Looks::new(),
     )
 }
 
@@ -33,6 +35,7 @@ fn said_at(
         &mut fails_at(texts.0, failing.0),
         &mut fails_at(texts.1, failing.1),
         &mut fails_at(texts.2, failing.2),
+        &mut Looks::new(),
     )
 }
 
@@ -179,40 +182,23 @@ fn is_said_with(alloc: Global, step: &[u8], verdict: Verdict) -> Result<bool, Fa
     is_said_of(alloc, ROW_ANSWERS, texts, verdict)
 }
 
-/// Tests whether the row's certificate is refused with a step before the clause, and ends there if it is cut in that step.
-fn is_refused(alloc: Global, step: &[u8]) -> Result<bool, Fail> {
-    let refused = Verdict::No {
-        ask: 1,
-        why: Why::StepRefused,
-    };
+/// Tests whether the row's certificate ends where it is cut in a step before the clause.
+fn is_cut_in(alloc: Global, step: &[u8]) -> Result<bool, Fail> {
     let ends = Verdict::No {
         ask: 1,
         why: Why::CertificateEnds,
     };
     let cut = (&ROW_STEPS[..6], &step[..step.len().min(1)], b"".as_slice());
-    Ok(is_said_with(alloc, step, refused)? && is_said_of(alloc, ROW_ANSWERS, cut, ends)?)
+    is_said_of(alloc, ROW_ANSWERS, cut, ends)
 }
 
-/// Steps of kinds that the checker doesn't know.
-const OTHER_KINDS: [&[u8]; 6] = [
-    &[1, 0, 1],
-    &[3, 0],
-    &[4, 0, 1],
-    &[7, 1, 0, 9],
-    &[8, 2, 0, 2, 1],
-    &[9, 64],
-];
-
-#[test]
-fn other_kinds_of_step_are_refused(rt: HostRuntime) -> Result<(), Fail> {
-    for &step in &OTHER_KINDS {
-        assert!(rt; is_refused(rt.alloc(), step)?, "{step:?}");
-    }
-    Ok(())
-}
+const REFUSED: Verdict = Verdict::No {
+    ask: 1,
+    why: Why::StepRefused,
+};
 
 /// Steps before the clause, and what is said then.
-const STEPS_BETWEEN: [(&[u8], Verdict); 2] = [
+const STEPS_BETWEEN: [(&[u8], Verdict); 12] = [
     (
         &[12, 0, 0],
         Verdict::No {
@@ -221,14 +207,141 @@ const STEPS_BETWEEN: [(&[u8], Verdict); 2] = [
         },
     ),
     (&[6, 1, 2, 0, 1, 0], Verdict::Yes),
+    // A solver name, a mode and a width.
+    (&[1, 0, 1], Verdict::Yes),
+    (&[4, 0, 1], Verdict::Yes),
+    (&[9, 8], Verdict::Yes),
+    (&[9, 64], Verdict::Yes),
+    // A witness variable stands in no clause.
+    (&[4, 0, 0], REFUSED),
+    // A variable that a tautology mentions is known, and can be deleted; one with a name can't be.
+    (&[6, 1, 2, 10, 11, 0, 3, 5], Verdict::Yes),
+    (&[3, 0], REFUSED),
+    (&[3, 5], REFUSED),
+    // A unit that doesn't follow, and a clause that isn't stored.
+    (&[7, 1, 0, 9], REFUSED),
+    (&[8, 2, 0, 2, 1], REFUSED),
 ];
 
 #[test]
 fn steps_may_stand_between(rt: HostRuntime) -> Result<(), Fail> {
     for &(step, verdict) in &STEPS_BETWEEN {
         assert!(rt; is_said_with(rt.alloc(), step, verdict)?, "{step:?}");
+        assert!(rt; is_cut_in(rt.alloc(), step)?, "{step:?}");
     }
     Ok(())
+}
+
+/// Steps before the first name, and what is said then.
+const STEPS_BEFORE: [(&[u8], Verdict); 2] = [
+    // A variable with a solver name is known, and one that was deleted isn't.
+    (
+        &[1, 0, 1],
+        Verdict::No {
+            ask: 1,
+            why: Why::NameNotFresh,
+        },
+    ),
+    (&[1, 0, 1, 3, 0], Verdict::Yes),
+];
+
+#[test]
+fn names_come_to_unknown_variables(rt: HostRuntime) -> Result<(), Fail> {
+    for &(step, verdict) in &STEPS_BEFORE {
+        let texts = (b"".as_slice(), step, ROW_STEPS);
+        assert!(rt;
+            is_said_of(rt.alloc(), ROW_ANSWERS, texts, verdict)?,
+            "{step:?}"
+        );
+    }
+    Ok(())
+}
+
+/// Four clauses that can't hold together: their certificate at hashes of 8 bits and of 64, each up to the step that records `unsat`.
+const FOUR_AT_8: &[u8] = &[
+    2, 0, 1, 2, 1, 2, 5, 2, 0, 2, 5, 2, 0, 3, 5, 2, 1, 2, 5, 2, 1, 3, 11, 0, 9, 8, 6, 0, 1, 0, 2,
+    68, 230, 1, 7, 1, 2, 230, 1, 6, 0, 0, 1, 68,
+];
+
+const FOUR_AT_64: &[u8] = &[
+    2, 0, 1, 2, 1, 2, 5, 2, 0, 2, 5, 2, 0, 3, 5, 2, 1, 2, 5, 2, 1, 3, 11, 0, 6, 0, 1, 0, 2, 170,
+    144, 212, 148, 208, 146, 197, 200, 68, 193, 152, 142, 147, 200, 235, 167, 245, 230, 1, 7, 1, 2,
+    149, 152, 174, 154, 232, 203, 167, 228, 230, 1, 6, 0, 0, 1, 254, 144, 244, 157, 240, 178, 197,
+    217, 68,
+];
+
+/// Tests what is said of a certificate cut at each byte: yes from this one on.
+fn is_confirmed_from(alloc: Global, certificate: &[u8], from: usize) -> Result<bool, Fail> {
+    let mut whole = Vec::new(alloc);
+    whole.extend_from_slice(certificate)?;
+    whole.extend_from_slice(&[11, 0, 13])?;
+    let ends = Verdict::No {
+        ask: 1,
+        why: Why::CertificateEnds,
+    };
+    for cut in 0..whole.len() {
+        let said = said_whole(alloc, (SIXTH, NONE_LEFT, &whole[..cut]));
+        if said != Ok(if cut < from { ends } else { Verdict::Yes }) {
+            return Ok(false);
+        }
+    }
+    Ok(is_yes(alloc, (SIXTH, NONE_LEFT, &whole)))
+}
+
+#[test]
+fn certificates_count_up_to_unsat(rt: HostRuntime) -> Result<(), Fail> {
+    for &certificate in &[FOUR_AT_8, FOUR_AT_64] {
+        assert!(rt;
+            is_confirmed_from(rt.alloc(), certificate, certificate.len())?,
+            "{certificate:?}"
+        );
+    }
+    Ok(())
+}
+
+/// The same clauses, of which an empty core is shown while `unsat` isn't recorded.
+const EMPTY_CORE_AT_8: &[u8] = &[
+    2, 0, 1, 2, 1, 2, 5, 2, 0, 2, 5, 2, 0, 3, 5, 2, 1, 2, 5, 2, 1, 3, 11, 0, 9, 8, 6, 0, 1, 0, 2,
+    68, 230, 1, 12, 0, 2, 230, 1, 68, 11, 0, 13,
+];
+
+#[test]
+fn cores_are_confirmed(rt: HostRuntime) {
+    assert!(rt; is_yes(rt.alloc(), (SIXTH, NONE_LEFT, EMPTY_CORE_AT_8)));
+}
+
+/// The looks that are added for these texts, behind those of others.
+fn looks_added(alloc: Global, texts: Texts<'_>, looks: &mut Looks) -> u64 {
+    let before = looks.get();
+    let _ = confirm(
+        alloc,
+        &mut Counted::new(texts.0),
+        &mut Counted::new(texts.1),
+        &mut Counted::new(texts.2),
+        looks,
+    );
+    looks.get().saturating_sub(before)
+}
+
+/// The looks of a checker over a certificate.
+fn looks_of(alloc: Global, certificate: &[u8]) -> u64 {
+    let mut checker = Checker::new(alloc);
+    let _ = checker.check_proof(&mut Counted::new(certificate));
+    checker.looks()
+}
+
+#[test]
+fn looks_are_those_of_the_checker(rt: HostRuntime) {
+    let mut looks = Looks::new();
+    for &certificate in &[FOUR_AT_8, FOUR_AT_64, EMPTY_CORE_AT_8] {
+        let counted = looks_of(rt.alloc(), certificate);
+        let texts = (SIXTH, NONE_LEFT, certificate);
+        assert!(rt; counted > 0, "{certificate:?}");
+        assert!(rt;
+            looks_added(rt.alloc(), texts, &mut looks) == counted,
+            "{certificate:?}"
+        );
+    }
 }
 
 /// The answers, how the row's certificate goes on behind the ask's assumptions, and what doesn't match.

@@ -6,6 +6,7 @@ use crate::answers::write::push_number;
 use crate::confirm::confirm;
 use crate::verdict::{ConfirmFault, Verdict, Why};
 use sat_base::Counted;
+use sat_checker::Looks;
 use std::alloc::{AllocError, Global};
 
 /// The word of a cause.
@@ -55,7 +56,14 @@ fn confirm_slices(
     let mut script = Counted::new(script);
     let mut answers = Counted::new(answers);
     let mut certificate = Counted::new(certificate);
-    confirm(alloc, &mut script, &mut answers, &mut certificate)
+    let mut looks = Looks::new();
+    confirm(
+        alloc,
+        &mut script,
+        &mut answers,
+        &mut certificate,
+        &mut looks,
+    )
 }
 
 /// Confirms three texts, and puts the last line of the output behind what `line` holds.

@@ -6,10 +6,10 @@ use Rattle.std.specs.List.{AllByRecursion}
 use Rattle.sat_base.specs.steps.Formats.{OneForm}
 use Rattle.sat_base.specs.steps.Steps.{Step}
 use Rattle.sat_base.specs.steps.StepText.{SpellsStep, SpellsSteps}
-use Rattle.certify.specs.checker.Accepts.{Accepts, stored_after}
+use Rattle.sat_checker.specs.Accepts.{Accepts, ready_after}
 use Rattle.certify.specs.confirm.Checking.{is_ordered}
 use Rattle.certify.specs.confirm.Matches.{Expected, Fits, Meets, Excused, met, cut, other, ordered}
-use Rattle.certify.specs.confirm.ListChecking.{the_checking}
+use Rattle.certify.specs.confirm.ProofChecking.{the_checking}
 use Rattle.certify.specs.confirm.CertificatePlaces.{CanMeet, Leads, Bars, Skips, Stops, Offers}
 use Rattle.certify.proofs.lemmas.confirm.NextStep.{taken, skipped}
 
@@ -29,7 +29,7 @@ pub bars_more : {earlier : List Step} {bytes : List ℕ} {p : List Expected} (q 
 bars_more {earlier} {bytes} {p} q b = record { none = λ es h. b.none (q ++ es) (subst (λ xs. CanMeet earlier xs bytes) (append_assoc p q es) h) }
 
 -- once unsat is recorded, all that counts is what may be left unmet
-pub when_cut : (earlier : List Step) (es : List Expected) (bytes : List ℕ) → (stored_after earlier).unsat ≡ true → CanMeet earlier es bytes → AllByRecursion Excused es
+pub when_cut : (earlier : List Step) (es : List Expected) (bytes : List ℕ) → (ready_after earlier).unsat ≡ true → CanMeet earlier es bytes → AllByRecursion Excused es
 when_cut earlier es bytes u m = go m.steps es m.meets
   where
     go : (steps : List Step) (es : List Expected) → Meets the_checking earlier steps es → AllByRecursion Excused es
@@ -38,7 +38,7 @@ when_cut earlier es bytes u m = go m.steps es m.meets
     go steps es (other v n a k) = absurd (true≢false (sym u ∙ v))
     go steps es (ordered v f a k) = absurd (true≢false (sym u ∙ v))
 
-pub cut_met : (earlier : List Step) (es : List Expected) (bytes : List ℕ) → (stored_after earlier).unsat ≡ true → AllByRecursion Excused es → CanMeet earlier es bytes
+pub cut_met : (earlier : List Step) (es : List Expected) (bytes : List ℕ) → (ready_after earlier).unsat ≡ true → AllByRecursion Excused es → CanMeet earlier es bytes
 cut_met earlier es bytes u x = record { steps = []; text = []; rest = bytes; begins = refl; spelt = refl; meets = cut u x }
 
 all_back : (p es : List Expected) → AllByRecursion Excused p → AllByRecursion Excused es → AllByRecursion Excused (p ++ es)
@@ -53,21 +53,21 @@ all_before : (p es : List Expected) → AllByRecursion Excused (p ++ es) → All
 all_before [] es x = tt
 all_before (e ∷ p) es x = (x.0, all_before p es x.1)
 
-pub leads_cut : (earlier : List Step) (bytes : List ℕ) (p : List Expected) → (stored_after earlier).unsat ≡ true → AllByRecursion Excused p → Leads earlier bytes p earlier bytes
+pub leads_cut : (earlier : List Step) (bytes : List ℕ) (p : List Expected) → (ready_after earlier).unsat ≡ true → AllByRecursion Excused p → Leads earlier bytes p earlier bytes
 leads_cut earlier bytes p u x = record {
   on = λ es h. cut_met earlier es bytes u (all_behind p es (when_cut earlier (p ++ es) bytes u h));
   back = λ es h. cut_met earlier (p ++ es) bytes u (all_back p es x (when_cut earlier es bytes u h));
 }
 
-pub bars_cut : (earlier : List Step) (bytes : List ℕ) (p : List Expected) → (stored_after earlier).unsat ≡ true → (AllByRecursion Excused p → ⊥) → Bars earlier bytes p
+pub bars_cut : (earlier : List Step) (bytes : List ℕ) (p : List Expected) → (ready_after earlier).unsat ≡ true → (AllByRecursion Excused p → ⊥) → Bars earlier bytes p
 bars_cut earlier bytes p u x = record { none = λ es h. x (all_before p es (when_cut earlier (p ++ es) bytes u h)) }
 
 -- nothing is met from a place where nothing can be expected
-not_over : (earlier : List Step) (e : Expected) (es : List Expected) → (stored_after earlier).unsat ≡ false → Meets the_checking earlier [] (e ∷ es) → ⊥
+not_over : (earlier : List Step) (e : Expected) (es : List Expected) → (ready_after earlier).unsat ≡ false → Meets the_checking earlier [] (e ∷ es) → ⊥
 not_over earlier e es u (cut v x) = true≢false (sym v ∙ u)
 
 -- no step's text begins the bytes
-pub no_step : (earlier : List Step) (bytes : List ℕ) → (stored_after earlier).unsat ≡ false → ((step : Step) (text rest : List ℕ) → bytes ≡ text ++ rest → SpellsStep step text → ⊥) → Stops earlier bytes
+pub no_step : (earlier : List Step) (bytes : List ℕ) → (ready_after earlier).unsat ≡ false → ((step : Step) (text rest : List ℕ) → bytes ≡ text ++ rest → SpellsStep step text → ⊥) → Stops earlier bytes
 no_step earlier bytes u none = record { none = λ e es m. go e es m.rest m.steps m.text m.begins m.spelt m.meets }
   where
     go : (e : Expected) (es : List Expected) (behind : List ℕ) (steps : List Step) (text : List ℕ) → bytes ≡ text ++ behind → SpellsSteps steps text → Meets the_checking earlier steps (e ∷ es) → ⊥
@@ -84,7 +84,7 @@ record Begun (earlier : List Step) (step : Step) (es : List Expected) (more : Li
   meets : Meets the_checking earlier (step ∷ steps) es
 
 begun : OneForm SpellsStep → (earlier : List Step) (step : Step) (bytes text more : List ℕ) (e : Expected) (es : List Expected)
-    → (stored_after earlier).unsat ≡ false → bytes ≡ text ++ more → SpellsStep step text → CanMeet earlier (e ∷ es) bytes → Begun earlier step (e ∷ es) more
+    → (ready_after earlier).unsat ≡ false → bytes ≡ text ++ more → SpellsStep step text → CanMeet earlier (e ∷ es) bytes → Begun earlier step (e ∷ es) more
 begun one earlier step bytes text more e es u b s m = go m.steps m.text m.begins m.spelt m.meets
   where
     go : (steps : List Step) (front : List ℕ) → bytes ≡ front ++ m.rest → SpellsSteps steps front → Meets the_checking earlier steps (e ∷ es) → Begun earlier step (e ∷ es) more
@@ -101,8 +101,8 @@ begun one earlier step bytes text more e es u b s m = go m.steps m.text m.begins
           meets = subst (λ x. Meets the_checking earlier (x ∷ steps) (e ∷ es)) (sym same.1) k;
         }
 
-pub skips_step : OneForm SpellsStep → (earlier : List Step) (step : Step) (bytes text more : List ℕ) → (stored_after earlier).unsat ≡ false → bytes ≡ text ++ more → SpellsStep step text → is_ordered step ≡ false
-    → Accepts (stored_after earlier) step → Skips earlier bytes (step ∷ earlier) more
+pub skips_step : OneForm SpellsStep → (earlier : List Step) (step : Step) (bytes text more : List ℕ) → (ready_after earlier).unsat ≡ false → bytes ≡ text ++ more → SpellsStep step text → is_ordered step ≡ false
+    → Accepts (ready_after earlier) step → Skips earlier bytes (step ∷ earlier) more
 skips_step one earlier step bytes text more u b s o a = record {
   on = λ e es m. let g = begun one earlier step bytes text more e es u b s m in record { steps = g.steps; text = g.text; rest = g.rest; begins = g.begins; spelt = g.spelt; meets = (skipped the_checking o g.meets).1 };
   back = λ e es m. record {
@@ -116,11 +116,11 @@ skips_step one earlier step bytes text more u b s o a = record {
 }
 
 -- a step that the checker refuses
-pub stops_at_step : OneForm SpellsStep → (earlier : List Step) (step : Step) (bytes text more : List ℕ) → (stored_after earlier).unsat ≡ false → bytes ≡ text ++ more → SpellsStep step text → is_ordered step ≡ false
-    → (Accepts (stored_after earlier) step → ⊥) → Stops earlier bytes
+pub stops_at_step : OneForm SpellsStep → (earlier : List Step) (step : Step) (bytes text more : List ℕ) → (ready_after earlier).unsat ≡ false → bytes ≡ text ++ more → SpellsStep step text → is_ordered step ≡ false
+    → (Accepts (ready_after earlier) step → ⊥) → Stops earlier bytes
 stops_at_step one earlier step bytes text more u b s o a = record { none = λ e es m. let g = begun one earlier step bytes text more e es u b s m in a (skipped the_checking o g.meets).0 }
 
-pub offers_step : OneForm SpellsStep → (earlier : List Step) (step : Step) (bytes text more : List ℕ) → (stored_after earlier).unsat ≡ false → bytes ≡ text ++ more → SpellsStep step text → is_ordered step ≡ true
+pub offers_step : OneForm SpellsStep → (earlier : List Step) (step : Step) (bytes text more : List ℕ) → (ready_after earlier).unsat ≡ false → bytes ≡ text ++ more → SpellsStep step text → is_ordered step ≡ true
     → Offers earlier bytes earlier step more
 offers_step one earlier step bytes text more u b s o = record {
   on = λ e es m.
@@ -150,22 +150,22 @@ pub skips_offer : {earlier mid later : List Step} {bytes between rest : List ℕ
 skips_offer s o = record { on = λ e es m. o.on e es (s.on e es m); back = λ e es f a m. s.back e es (o.back e es f a m) }
 
 -- the step that was expected
-pub leads_step : {earlier later : List Step} {bytes rest : List ℕ} {step : Step} (e : Expected) → Offers earlier bytes later step rest → Fits the_checking later e step → Accepts (stored_after later) step → Leads earlier bytes (e ∷ []) (step ∷ later) rest
+pub leads_step : {earlier later : List Step} {bytes rest : List ℕ} {step : Step} (e : Expected) → Offers earlier bytes later step rest → Fits the_checking later e step → Accepts (ready_after later) step → Leads earlier bytes (e ∷ []) (step ∷ later) rest
 leads_step e o f a = record { on = λ es m. (o.on e es m).2; back = λ es m. o.back e es f a m }
 
 pub bars_unfit : {earlier later : List Step} {bytes rest : List ℕ} {step : Step} (e : Expected) → Offers earlier bytes later step rest → (Fits the_checking later e step → ⊥) → Bars earlier bytes (e ∷ [])
 bars_unfit e o n = record { none = λ es m. n (o.on e es m).0 }
 
-pub bars_refused : {earlier later : List Step} {bytes rest : List ℕ} {step : Step} (e : Expected) → Offers earlier bytes later step rest → (Accepts (stored_after later) step → ⊥) → Bars earlier bytes (e ∷ [])
+pub bars_refused : {earlier later : List Step} {bytes rest : List ℕ} {step : Step} (e : Expected) → Offers earlier bytes later step rest → (Accepts (ready_after later) step → ⊥) → Bars earlier bytes (e ∷ [])
 bars_refused e o n = record { none = λ es m. n (o.on e es m).1 }
 
 pub bars_stop : {earlier : List Step} {bytes : List ℕ} (e : Expected) → Stops earlier bytes → Bars earlier bytes (e ∷ [])
 bars_stop e s = record { none = λ es m. s.none e es m }
 
 -- unsat was recorded before the step came
-pub leads_skip : {earlier later : List Step} {bytes rest : List ℕ} (e : Expected) → Skips earlier bytes later rest → (stored_after later).unsat ≡ true → Excused e → Leads earlier bytes (e ∷ []) later rest
+pub leads_skip : {earlier later : List Step} {bytes rest : List ℕ} (e : Expected) → Skips earlier bytes later rest → (ready_after later).unsat ≡ true → Excused e → Leads earlier bytes (e ∷ []) later rest
 leads_skip {earlier} {later} {bytes} {rest} e s u x =
     let l = leads_cut later rest (e ∷ []) u (x, tt) in record { on = λ es m. l.on es (s.on e es m); back = λ es m. s.back e es (l.back es m) }
 
-pub bars_skip : {earlier later : List Step} {bytes rest : List ℕ} (e : Expected) → Skips earlier bytes later rest → (stored_after later).unsat ≡ true → (Excused e → ⊥) → Bars earlier bytes (e ∷ [])
+pub bars_skip : {earlier later : List Step} {bytes rest : List ℕ} (e : Expected) → Skips earlier bytes later rest → (ready_after later).unsat ≡ true → (Excused e → ⊥) → Bars earlier bytes (e ∷ [])
 bars_skip {earlier} {later} {bytes} {rest} e s u x = record { none = λ es m. (bars_cut later rest (e ∷ []) u (λ h. x h.0)).none es (s.on e es m) }

@@ -1,16 +1,19 @@
 -- How the certificate goes on.
-use Rattle.std.proofs.Common.{◌+◌, ◌≡◌, Bool, true, false, List, ◌∷◌, length, Result, Ok, Err, IfOk, None, refl, sym, ◌∙◌, ap, subst}
+use Rattle.std.proofs.Common.{ℕ, zero, suc, ◌+◌, ◌≡◌, Bool, true, false, List, [], ◌∷◌, length, Result, Ok, Err, IfOk, None, refl, sym, ◌∙◌, ap, subst}
 use Rattle.std.proofs.lemmas.Bool.{true≢false}
-use Rattle.sat_base.specs.script.Judge.{Judge}
+use mathlib.Core.Path.{fun_ext}
+use Rattle.sat_base.specs.script.Judge.{Judge, start}
 use Rattle.sat_base.specs.steps.Steps.{Step, SolverVarName, UserVarName, DeleteVar, ChangeSamplingMode, AddClause, AtClause, UnitClauses, DeleteClause, ChangeHashBits, Model, Assumptions, FailedAssumptions, End}
-use Rattle.certify.specs.checker.Stored.{Stored}
-use Rattle.certify.specs.checker.Accepts.{stored_after}
+use Rattle.sat_checker.specs.Accepts.{Accepts, ready_after}
 use Rattle.certify.specs.confirm.Checking.{is_ordered, variable_of}
 use Rattle.certify.specs.confirm.Matches.{Expected, NewName, NoName, Fits, new_name, no_name, adds, opens, shows, fails, closes, finish}
-use Rattle.certify.specs.confirm.ListChecking.{the_checking}
-use Rattle.certify.specs.checker.CheckerView.{Keeps, DecidesStep}
+use Rattle.certify.specs.confirm.ProofChecking.{the_checking}
+use Rattle.sat_checker.specs.CheckerView.{Stands, has_failed}
+use Rattle.sat_checker.specs.declared.checker.Checker.{Checker}
+use Rattle.certify.proofs.lemmas.confirm.PlainJudge.{start_plain}
 use Rattle.certify.specs.confirm.CertificatePlaces.{Stops, variable_in}
 use Rattle.certify.specs.confirm.ReadSteps.{ReadsStep}
+use Rattle.certify.specs.confirm.Feeding.{HasTaken, Feeds}
 use Rattle.certify.specs.confirm.CertificateSteps.{IsFed, StepIsReady, UnsatIsRecorded, StepWasPassed, FeedsStep}
 use Rattle.certify.specs.confirm.Views.{View, place}
 use Rattle.certify.proofs.lemmas.confirm.CertificatePlaces.{skips_step, stops_at_step, offers_step, skips_none}
@@ -35,27 +38,27 @@ unordered_names End earlier h = refl
 -- what a round that ends brings
 module _ (old : View) (new : View) where
   -- unsat is recorded
-  pub is_cut : (unsat : Bool) → unsat ≡ true → ((f : Stored) → Keeps old.checker f → unsat ≡ f.unsat) → (j : Judge) (earlier : List Step) → IsFed old j earlier → UnsatIsRecorded old j earlier old
-  is_cut unsat is h j earlier s = record { later = earlier; stands = s; closed = sym (h (stored_after earlier) s.keeps) ∙ is; skips = skips_none earlier old.rest }
+  pub is_cut : (unsat : Bool) → unsat ≡ true → ((steps : List Step) → Stands old.checker steps → unsat ≡ (ready_after steps).unsat) → (j : Judge) (earlier : List Step) → IsFed old j earlier → UnsatIsRecorded old j earlier old
+  is_cut unsat is h j earlier s = record { later = earlier; stands = s; closed = sym (h earlier s.keeps.stands) ∙ is; skips = skips_none earlier old.rest }
 
   -- an ordered step stands there
-  pub is_step : (unsat : Bool) → unsat ≡ false → ((f : Stored) → Keeps old.checker f → unsat ≡ f.unsat) → ReadsStep (place old) (place new) → is_ordered new.step ≡ true
+  pub is_step : (unsat : Bool) → unsat ≡ false → ((steps : List Step) → Stands old.checker steps → unsat ≡ (ready_after steps).unsat) → ReadsStep (place old) (place new) → is_ordered new.step ≡ true
       → new.checker ≡ old.checker → new.variables ≡ old.variables → (j : Judge) (earlier : List Step) → IsFed old j earlier → StepIsReady old j earlier new
   is_step unsat is h r o k v j earlier s =
-      let open_yet = sym (h (stored_after earlier) s.keeps) ∙ is in
+      let open_yet = sym (h earlier s.keeps.stands) ∙ is in
       record {
         later = earlier;
-        stands = record { keeps = subst (λ x. Keeps x (stored_after earlier)) (sym k) s.keeps; named = s.named ∙ ap variable_in (sym v); plain = s.plain; counted = λ u. s.counted u ∙ ap (λ x. length x + 1) (sym v) };
+        stands = record { keeps = subst (λ x. HasTaken x earlier) (sym k) s.keeps; named = s.named ∙ ap variable_in (sym v); plain = s.plain; counted = λ u. s.counted u ∙ ap (λ x. length x + 1) (sym v) };
         open_yet = open_yet;
         offers = offers_step one_step earlier new.step old.rest r.text new.rest open_yet r.front r.spelt o;
       }
 
   -- another one stands there
-  pub is_passed : (unsat : Bool) → unsat ≡ false → ((f : Stored) → Keeps old.checker f → unsat ≡ f.unsat) → ReadsStep (place old) (place new) → is_ordered new.step ≡ false
-      → DecidesStep old.checker new.step new.checker true → new.variables ≡ old.variables → (j : Judge) (earlier : List Step) → IsFed old j earlier → StepWasPassed old j earlier new
+  pub is_passed : (unsat : Bool) → unsat ≡ false → ((steps : List Step) → Stands old.checker steps → unsat ≡ (ready_after steps).unsat) → ReadsStep (place old) (place new) → is_ordered new.step ≡ false
+      → Feeds (Ok tt) old.checker new.step new.checker → new.variables ≡ old.variables → (j : Judge) (earlier : List Step) → IsFed old j earlier → StepWasPassed old j earlier new
   is_passed unsat is h r o a v j earlier s =
-      let open_yet = sym (h (stored_after earlier) s.keeps) ∙ is in
-      let fed = a (stored_after earlier) s.keeps in
+      let open_yet = sym (h earlier s.keeps.stands) ∙ is in
+      let fed = a earlier s.keeps in
       record {
         later = new.step ∷ earlier;
         stands = record { keeps = fed.1; named = unordered_names new.step earlier o ∙ s.named ∙ ap variable_in (sym v); plain = s.plain; counted = λ u. s.counted open_yet ∙ ap (λ x. length x + 1) (sym v) };
@@ -63,18 +66,18 @@ module _ (old : View) (new : View) where
       }
 
   -- it is refused
-  pub is_refused : (mid : View) (unsat : Bool) → unsat ≡ false → ((f : Stored) → Keeps old.checker f → unsat ≡ f.unsat) → ReadsStep (place old) (place mid) → is_ordered mid.step ≡ false
-      → DecidesStep old.checker mid.step new.checker false → (j : Judge) (earlier : List Step) → IsFed old j earlier → Stops earlier old.rest
+  pub is_refused : (mid : View) (unsat : Bool) → unsat ≡ false → ((steps : List Step) → Stands old.checker steps → unsat ≡ (ready_after steps).unsat) → ReadsStep (place old) (place mid) → is_ordered mid.step ≡ false
+      → ((steps : List Step) → HasTaken old.checker steps → Accepts (ready_after steps) mid.step → ⊥) → (j : Judge) (earlier : List Step) → IsFed old j earlier → Stops earlier old.rest
   is_refused mid unsat is h r o a j earlier s =
-      let open_yet = sym (h (stored_after earlier) s.keeps) ∙ is in
-      stops_at_step one_step earlier mid.step old.rest r.text mid.rest open_yet r.front r.spelt o (a (stored_after earlier) s.keeps)
+      let open_yet = sym (h earlier s.keeps.stands) ∙ is in
+      stops_at_step one_step earlier mid.step old.rest r.text mid.rest open_yet r.front r.spelt o (a earlier s.keeps)
 
 -- the step that was read is fed
-pub fed_step : (old new : View) → DecidesStep old.checker old.step new.checker true → new.rest ≡ old.rest → new.variables ≡ old.variables → FeedsStep old new None
+pub fed_step : (old new : View) → Feeds (Ok tt) old.checker old.step new.checker → new.rest ≡ old.rest → new.variables ≡ old.variables → FeedsStep old new None
 fed_step old new a b v = (
   b,
   (λ j earlier s open_yet same.
-      let fed = a (stored_after earlier) s.keeps in
+      let fed = a earlier s.keeps in
       (fed.0, record { keeps = fed.1; named = same ∙ s.named ∙ ap variable_in (sym v); plain = s.plain; counted = λ u. s.counted open_yet ∙ ap (λ x. length x + 1) (sym v) })),
 )
 
@@ -97,3 +100,16 @@ nameless earlier e step h (shows n spelt asked) = refl
 nameless earlier e step h (fails same) = refl
 nameless earlier e step h closes = refl
 nameless earlier e step h finish = refl
+
+-- before the first step
+pub begins_fed : (checker : Checker) (variables rest : List ℕ) (step : Step) → variables ≡ [] → Stands checker [] → has_failed checker ≡ false → IsFed (record { checker = checker; variables = variables; step = step; rest = rest }) start []
+begins_fed checker variables rest step e s g = record {
+  keeps = record { stands = s; goes_on = g };
+  named = fun_ext none_named ∙ ap variable_in (sym e);
+  plain = start_plain;
+  counted = λ u. ap (λ xs. length xs + 1) (sym e);
+}
+  where
+    none_named : (name : ℕ) → variable_of [] name ≡ variable_in [] name
+    none_named zero = refl
+    none_named (suc i) = refl

@@ -7,20 +7,19 @@ use Rattle.sat_base.specs.values.Literals.{largest}
 use Rattle.sat_base.specs.script.Script.{Literal, Command, Clause, Ask, Ending, names_of}
 use Rattle.sat_base.specs.script.Judge.{Judge, Refusal, PastLimit, refused_name, refused_literal, refusal_of, accepted, after_command, bring_all}
 use Rattle.sat_base.specs.steps.Steps.{Step}
-use Rattle.certify.specs.checker.Accepts.{stored_after}
+use Rattle.sat_checker.specs.Accepts.{ready_after}
 use Rattle.certify.specs.answers.Answers.{Outcome, Unsat, outcome_text, refused_line}
 use Rattle.certify.specs.answers.AnswerForms.{HaveNames, IsInForm}
-use Rattle.certify.specs.checker.CheckerView.{Keeps}
+use Rattle.sat_checker.specs.CheckerView.{Stands}
 use Rattle.certify.specs.confirm.CertificatePlaces.{IsPlain}
 use Rattle.certify.specs.confirm.Matches.{Adds, Closes, bringing, showing}
 use Rattle.certify.specs.confirm.ConfirmedCommands.{TakesLine, ToConfirm, CountFromOne, Confirmed, ConfirmsCommand, ConfirmsNext}
 use Rattle.certify.specs.confirm.CertificateSteps.{IsFed, Onward, MeetsPending, AskIsOpen, OpensAsk}
-use Rattle.certify.specs.checker.Stored.{Stored}
 use Rattle.certify.specs.confirm.Views.{View, SessionView, session_at}
 use Rattle.certify.specs.declared.verdict.Why.{Why}
 use Rattle.certify.proofs.lemmas.confirm.LeftByCommand.{Rest, refused_on, refused_back, clause_pending, left_on, left_back, left_barred}
 use Rattle.certify.proofs.lemmas.confirm.PlainJudge.{plain_refused, plain_clause}
-use Rattle.certify.proofs.lemmas.confirm.WholeAsks.{ask_unnamed, ask_unopened, ask_unread, answered_on, answered_back}
+use Rattle.certify.proofs.lemmas.confirm.WholeAsks.{names_within, ask_unnamed, ask_unopened, ask_unread, answered_on, answered_back}
 
 have_names : (ls : List Literal) → refused_name (names_of ls) ≡ None → AllByRecursion (λ l. 1 ≤ l.name) ls → HaveNames ls
 have_names [] e h = tt
@@ -127,24 +126,24 @@ module _ (old : SessionView) (named : View) (n : ℕ) (ls : List Literal) (given
       second j earlier s k = let f = first j earlier s k in subst (OpensAsk named asked ls) o a (bring_all (names_of ls) j) f.later f.stands
 
       pub ask_without_answer : (new : SessionView) (why : Why)
-          → ((f : Stored) → Keeps asked.checker f → (v : Outcome) (tail : List ℕ) → IsInForm v → (f.unsat ≡ true → v ≡ Unsat []) → old.answers ≡ outcome_text v ++ tail → ⊥)
+          → ((steps : List Step) → Stands asked.checker steps → (v : Outcome) (tail : List ℕ) → IsInForm v → ((ready_after steps).unsat ≡ true → v ≡ Unsat []) → old.answers ≡ outcome_text v ++ tail → ⊥)
           → ConfirmsCommand old new n (Ask ls) (Some why)
       ask_without_answer new why none j earlier s k cs ending h =
           let f = first j earlier s k in
           let t = second j earlier s k in
-          ask_unread j n ls cs ending old.answers (is_refused j ls None s.plain r) earlier f.later old.certificate.rest named.rest f.leads t.later asked.rest t.leads t.alone t.stands.plain
-          (none (stored_after t.later) t.stands.keeps) h
+          ask_unread j n ls cs ending old.answers (is_refused j ls None s.plain r) earlier f.later old.certificate.rest named.rest f.leads t.later asked.rest t.leads t.alone t.stands.plain (names_within asked (bring_all (names_of ls) j) t.later t.stands)
+          (none t.later t.stands.keeps.stands) h
 
       module _ (v : Outcome) (tail : List ℕ)
-          (read : (f : Stored) → Keeps asked.checker f → (old.answers ≡ outcome_text v ++ tail) × IsInForm v × (f.unsat ≡ true → v ≡ Unsat [])) where
+          (read : (steps : List Step) → Stands asked.checker steps → (old.answers ≡ outcome_text v ++ tail) × IsInForm v × ((ready_after steps).unsat ≡ true → v ≡ Unsat [])) where
         pub ask_unshown : (new : SessionView) (shown : View) (why : Why) → ((j : Judge) → MeetsPending asked shown j (showing j ls v) j (Some why)) → ConfirmsCommand old new n (Ask ls) (Some why)
         ask_unshown new shown why sh j earlier s k cs ending h =
             let f = first j earlier s k in
             let t = second j earlier s k in
-            let w = read (stored_after t.later) t.stands.keeps in
+            let w = read t.later t.stands.keeps.stands in
             let next = accepted (Ask ls) j in
             left_barred (Closes ∷ []) next (n + 1) cs ending tail (sh next t.later t.stands)
-            (answered_on j n ls cs ending old.answers (is_refused j ls None s.plain r) earlier f.later old.certificate.rest named.rest f.leads t.later asked.rest t.leads t.alone t.stands.plain v tail w.1 w.0 h)
+            (answered_on j n ls cs ending old.answers (is_refused j ls None s.plain r) earlier f.later old.certificate.rest named.rest f.leads t.later asked.rest t.leads t.alone t.stands.plain (names_within asked (bring_all (names_of ls) j) t.later t.stands) v tail w.1 w.0 h)
 
         pub ask_confirmed : (new : SessionView) (shown : View) (closed : Option Why) → ((j : Judge) → MeetsPending asked shown j (showing j ls v) j None) → ((j : Judge) → MeetsPending shown new.certificate j (Closes ∷ []) j closed) → new.answers ≡ tail
             → ConfirmsCommand old new n (Ask ls) closed
@@ -152,22 +151,22 @@ module _ (old : SessionView) (named : View) (n : ℕ) (ls : List Literal) (given
             let e = is_refused j ls None s.plain r in
             let f = first j earlier s k in
             let t = second j earlier s k in
-            let w = read (stored_after t.later) t.stands.keeps in
+            let w = read t.later t.stands.keeps.stands in
             let next = accepted (Ask ls) j in
             let x = sh next t.later t.stands in
             let y = cl next x.later x.stands in
             confirmed old new j next earlier y.later n (Ask ls) (after_accepted j (Ask ls) e) y.stands
             (λ cs ending h. subst (λ z. Rest next (n + 1) y.later [] cs ending z new.certificate.rest) (sym same)
             (left_on [] next (n + 1) cs ending tail y.leads (left_on (Closes ∷ []) next (n + 1) cs ending tail x.leads
-            (answered_on j n ls cs ending old.answers e earlier f.later old.certificate.rest named.rest f.leads t.later asked.rest t.leads t.alone t.stands.plain v tail w.1 w.0 h))))
-            (λ cs ending h. answered_back j n ls cs ending old.answers e earlier f.later old.certificate.rest named.rest f.leads t.later asked.rest t.leads t.alone t.stands.plain v tail w.1 w.0 w.2
+            (answered_on j n ls cs ending old.answers e earlier f.later old.certificate.rest named.rest f.leads t.later asked.rest t.leads t.alone t.stands.plain (names_within asked (bring_all (names_of ls) j) t.later t.stands) v tail w.1 w.0 h))))
+            (λ cs ending h. answered_back j n ls cs ending old.answers e earlier f.later old.certificate.rest named.rest f.leads t.later asked.rest t.leads t.alone t.stands.plain (names_within asked (bring_all (names_of ls) j) t.later t.stands) v tail w.1 w.0 w.2
             (left_back (Closes ∷ []) next (n + 1) cs ending tail x.leads (left_back [] next (n + 1) cs ending tail y.leads (subst (λ z. Rest next (n + 1) y.later [] cs ending z new.certificate.rest) same h))))
         ask_confirmed new shown (Some why) sh cl same = λ j earlier s k cs ending h.
             let e = is_refused j ls None s.plain r in
             let f = first j earlier s k in
             let t = second j earlier s k in
-            let w = read (stored_after t.later) t.stands.keeps in
+            let w = read t.later t.stands.keeps.stands in
             let next = accepted (Ask ls) j in
             let x = sh next t.later t.stands in
             left_barred [] next (n + 1) cs ending tail (cl next x.later x.stands) (left_on (Closes ∷ []) next (n + 1) cs ending tail x.leads
-            (answered_on j n ls cs ending old.answers e earlier f.later old.certificate.rest named.rest f.leads t.later asked.rest t.leads t.alone t.stands.plain v tail w.1 w.0 h))
+            (answered_on j n ls cs ending old.answers e earlier f.later old.certificate.rest named.rest f.leads t.later asked.rest t.leads t.alone t.stands.plain (names_within asked (bring_all (names_of ls) j) t.later t.stands) v tail w.1 w.0 h))

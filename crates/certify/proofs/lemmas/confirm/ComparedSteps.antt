@@ -5,11 +5,11 @@ use Rattle.std.specs.List.{AllByRecursion}
 use Rattle.sat_base.specs.script.Script.{Literal, Among, names_of}
 use Rattle.sat_base.specs.script.Judge.{Judge, names_from}
 use Rattle.sat_base.specs.steps.Steps.{Step, AddClause, Assumptions, Model, FailedAssumptions}
-use Rattle.certify.specs.checker.Accepts.{stored_after}
+use Rattle.sat_checker.specs.Accepts.{ready_after}
 use Rattle.certify.specs.answers.Answers.{Outcome}
 use Rattle.certify.specs.confirm.Checking.{variable_of}
 use Rattle.certify.specs.confirm.Matches.{Adds, Opens, Shows, Fails, Fits, adds, opens, shows, fails, SameSet, EachSpelt}
-use Rattle.certify.specs.confirm.ListChecking.{the_checking}
+use Rattle.certify.specs.confirm.ProofChecking.{the_checking}
 use Rattle.certify.specs.confirm.CertificatePlaces.{variable_in}
 use Rattle.certify.specs.confirm.CertificateSteps.{IsFed, ReadStepFits}
 use Rattle.certify.specs.confirm.Views.{View}
@@ -58,7 +58,7 @@ module _ (new : View) (vs codes : List ℕ) (x : Step) (v : vs ≡ new.variables
       subst (λ w. MatchBool w (SameSet (variable_in vs) core codes) (SameSet (variable_in vs) core codes → ⊥)) t m
       (subst (λ g. SameSet g core codes) (names_are j earlier s) (fails_same earlier ask core codes hashes (subst (λ y. Fits the_checking earlier (Fails ask core) y) (sym held ∙ e) f)))
 
-  in_use_are : (j : Judge) (earlier : List Step) → IsFed new j earlier → (stored_after earlier).unsat ≡ false → map (λ n. n.name) j.in_use ≡ names_from (length new.variables) 1
+  in_use_are : (j : Judge) (earlier : List Step) → IsFed new j earlier → (ready_after earlier).unsat ≡ false → map (λ n. n.name) j.in_use ≡ names_from (length new.variables) 1
   in_use_are j earlier s u = let c = s.counted u in s.plain.used ∙ ap (λ n. names_from n 1) (let e : j.first_unused - 1 ≡ length new.variables = omega arith in e)
 
   pub shows_fit : (ask line : List Literal) (b : Bool) → x ≡ Model codes → (names_of line ≡ names_from (length new.variables) 1) × AllByRecursion (λ l. Among l line) ask → b ≡ true
@@ -70,6 +70,6 @@ module _ (new : View) (vs codes : List ℕ) (x : Step) (v : vs ≡ new.variables
   taken : (ask line : List Literal) → x ≡ Model codes → (j : Judge) (earlier : List Step) → Fits the_checking earlier (Shows (map (λ n. n.name) j.in_use) ask line) new.step → (names_of line ≡ map (λ n. n.name) j.in_use) × EachSpelt (variable_of earlier) line codes × AllByRecursion (λ l. Among l line) ask
   taken ask line e j earlier f = shows_all earlier (map (λ n. n.name) j.in_use) ask line codes (subst (λ y. Fits the_checking earlier (Shows (map (λ n. n.name) j.in_use) ask line) y) (sym held ∙ e) f)
 
-  pub shows_said : (ask line : List Literal) → x ≡ Model codes → (j : Judge) (earlier : List Step) → IsFed new j earlier → (stored_after earlier).unsat ≡ false → Fits the_checking earlier (Shows (map (λ n. n.name) j.in_use) ask line) new.step
+  pub shows_said : (ask line : List Literal) → x ≡ Model codes → (j : Judge) (earlier : List Step) → IsFed new j earlier → (ready_after earlier).unsat ≡ false → Fits the_checking earlier (Shows (map (λ n. n.name) j.in_use) ask line) new.step
       → ((names_of line ≡ names_from (length new.variables) 1) × AllByRecursion (λ l. Among l line) ask) × EachSpelt (variable_in vs) line codes
   shows_said ask line e j earlier s u f = let t = taken ask line e j earlier f in ((t.0 ∙ in_use_are j earlier s u, t.2), subst (λ g. EachSpelt g line codes) (names_are j earlier s) t.1)

@@ -1,22 +1,23 @@
 -- A step that was read, compared with what is expected, and what becomes of that.
-use Rattle.std.proofs.Common.{◌≡◌, ℕ, true, false, is_ok, length, List, [], ◌∷◌, Result, Ok, Err, refl, sym, ◌∙◌, ap, subst}
+use Rattle.std.proofs.Common.{◌≡◌, ℕ, true, false, length, List, [], ◌∷◌, Result, Ok, Err, refl, sym, ◌∙◌, ap, subst}
 use Rattle.std.proofs.lemmas.Bool.{true≢false}
 use Rattle.sat_base.specs.device.Reading.{AtEnd}
 use Rattle.sat_base.specs.script.Script.{Literal}
 use Rattle.sat_base.specs.script.Judge.{Judge}
 use Rattle.sat_base.specs.steps.Steps.{Step, AddClause, Assumptions, Model, FailedAssumptions, End}
 use Rattle.certify.specs.answers.Answers.{Outcome, Unknown}
-use Rattle.certify.specs.checker.Accepts.{stored_after}
-use Rattle.certify.specs.checker.CheckerView.{DecidesStep}
+use Rattle.sat_checker.specs.Accepts.{Accepts, effect, ready_after}
+use Rattle.sat_checker.specs.CheckerView.{LooksAtMost}
+use Rattle.certify.specs.confirm.Feeding.{HasTaken, Feeds}
 use Rattle.certify.specs.confirm.CertificatePlaces.{variable_in}
 use Rattle.certify.specs.confirm.Dues.{Due, due_of, Allows, SaysSo, Compares, Excuses, MeetsDue}
-use Rattle.certify.specs.confirm.ListChecking.{the_checking}
+use Rattle.certify.specs.confirm.ProofChecking.{the_checking}
 use Rattle.certify.specs.confirm.Matches.{Expected, NewName, NoName, Adds, Opens, Shows, Fails, Closes, Finish, Fits, new_name, no_name, adds, opens, shows, fails, closes, finish, Excused, EachSpelt, SameSet, showing_model}
 use Rattle.certify.specs.confirm.SpeltLiterals.{IsLineOf}
-use Rattle.certify.specs.confirm.Stepping.{AwaitsNext}
-use Rattle.certify.specs.confirm.Streams.{Stream, seen_in, Confirms, Says}
+use Rattle.certify.specs.confirm.Stepping.{AwaitsNext, is_fed}
+use Rattle.certify.specs.confirm.Streams.{Stream, seen_in, Reading, Confirms, Says}
 use Rattle.certify.specs.confirm.Views.{View}
-use Rattle.certify.specs.declared.checker.Checker.{Checker}
+use Rattle.sat_checker.specs.declared.checker.Checker.{Checker}
 use Rattle.certify.specs.declared.confirm.expected.Expected.{Expected as CodeExpected}
 use Rattle.certify.specs.declared.confirm.expected.Expected.TheVariants as code
 use Rattle.certify.specs.declared.confirm.certificate.Awaited.{Awaited}
@@ -27,7 +28,8 @@ use Rattle.certify.proofs.lemmas.confirm.CertificatePlaces.{when_cut, leads_skip
 use Rattle.certify.proofs.lemmas.confirm.CertificateSteps.{is_nameless, nameless, fed_step}
 use Rattle.certify.proofs.lemmas.confirm.ComparedSteps.{adds_fit, adds_unfit, opens_fit, opens_unfit, fails_fit, fails_unfit, shows_fit, shows_said}
 use Rattle.certify.proofs.lemmas.confirm.FittingSteps.{fits_closes}
-use Rattle.certify.proofs.lemmas.confirm.Streams.{confirms_stop, says_so, says_stop, says_then}
+use Rattle.certify.proofs.lemmas.confirm.Settled.{settled_unsat}
+use Rattle.certify.proofs.lemmas.confirm.Streams.{confirms_stop, says_so, says_stop, says_then, feeds_on, feeds_stop}
 
 -- A STEP OF ITS KIND
 
@@ -87,8 +89,8 @@ allowed Closes h = tt
 allowed Finish h = tt
 
 -- what is assumed records no unsat
-still_allowed : (earlier : List Step) (e : Expected) (step : Step) → Fits the_checking earlier e step → (stored_after earlier).unsat ≡ false → (stored_after (step ∷ earlier)).unsat ≡ true → Allows e
-still_allowed earlier e step (opens same) u v = absurd (true≢false (sym v ∙ u))
+still_allowed : (earlier : List Step) (e : Expected) (step : Step) → Fits the_checking earlier e step → (ready_after earlier).unsat ≡ false → (ready_after (step ∷ earlier)).unsat ≡ true → Allows e
+still_allowed earlier e step (opens {c = c} same) u v = absurd (true≢false (sym v ∙ settled_unsat (effect (Assumptions c) (ready_after earlier)) ∙ u))
 still_allowed earlier e step (new_name is unknown) u v = tt
 still_allowed earlier e step (no_name at) u v = tt
 still_allowed earlier e step (adds same) u v = tt
@@ -124,9 +126,9 @@ module _ (due : Due) (old mid : View) where
     due_unfit : (why : Why) → Compares due mid.variables mid.step (Err why) → MeetsDue due old mid (Err why)
     due_unfit why x j earlier s o ask = let k = h j earlier s in bars_unfit (due j o ask) k.offers (x mid refl refl o ask j k.later k.stands k.open_yet)
 
-    due_fed : (less : (j : Judge) (o : Outcome) (ask : List Literal) → is_nameless (due j o ask) ≡ true) (next : Checker) (r : Result (Unit {0}) Why) → Compares due mid.variables mid.step (Ok tt) → DecidesStep mid.checker mid.step next (is_ok r)
-        → MeetsDue due old (record mid { checker = next }) r
-    due_fed less next (Ok u) x d = λ j earlier s.
+    due_fed : (less : (j : Judge) (o : Outcome) (ask : List Literal) → is_nameless (due j o ask) ≡ true) (next : Checker) → Compares due mid.variables mid.step (Ok tt) → Feeds (Ok tt) mid.checker mid.step next
+        → MeetsDue due old (record mid { checker = next }) (Ok tt)
+    due_fed less next x d = λ j earlier s.
         let k = h j earlier s in
         let fit = λ (o : Outcome) (ask : List Literal). x mid refl refl o ask j k.later k.stands k.open_yet in
         let fed = (fed_step mid (record mid { checker = next }) d refl refl).1 j k.later k.stands k.open_yet (nameless k.later (due j Unknown []) mid.step (less j Unknown []) (fit Unknown [])) in
@@ -136,22 +138,25 @@ module _ (due : Due) (old mid : View) where
           leads = λ o ask only. leads_step (due j o ask) k.offers (fit o ask) fed.0;
           alone = λ o ask es m v. still_allowed k.later (due j o ask) mid.step (fit o ask) k.open_yet v;
         }
-    due_fed less next (Err why) x d = λ j earlier s o ask. let k = h j earlier s in bars_refused (due j o ask) k.offers (d (stored_after k.later) k.stands.keeps)
+
+    due_refused : (next : Checker) (why : Why) → ((steps : List Step) → HasTaken mid.checker steps → Accepts (ready_after steps) mid.step → ⊥) → MeetsDue due old (record mid { checker = next }) (Err why)
+    due_refused next why d = λ j earlier s o ask. let k = h j earlier s in bars_refused (due j o ask) k.offers (d k.later k.stands.keeps)
 
 module _ (due : Due) (a b : Stream) (open_yet : AtEnd a.source → ⊥) where
   pub expects_stop : (e : Stop) → Confirms {A = Awaited} (Err e) a b AwaitsNext → Confirms {A = Unit {0}} (Err e) a b (MeetsDue due)
   expects_stop e p = confirms_stop e a b AwaitsNext (MeetsDue due) (λ total why. due_stop due (seen_in total a) (seen_in total b) why) p
 
-  pub expects_cut : (r : Result (Unit {0}) Stop) → Confirms (Ok awaited.Cut) a b AwaitsNext → Says r (Excuses due) → Confirms r a b (MeetsDue due)
-  expects_cut r p s = says_then awaited.Cut r a b b.checker b.variables AwaitsNext (Excuses due) (MeetsDue due) open_yet (λ total y. due_cut due (seen_in total a) (seen_in total b) y) p s
+  pub expects_cut : (r : Result (Unit {0}) Stop) → Reading is_fed (Ok awaited.Cut) a b AwaitsNext → Says r (Excuses due) → Confirms r a b (MeetsDue due)
+  expects_cut r p s = says_then r a b (λ u v. AwaitsNext u v (Ok awaited.Cut)) (Excuses due) (MeetsDue due) open_yet (λ total y. due_cut due (seen_in total a) (seen_in total b) y) p s
 
-  module _ (x : Step) (held : x ≡ b.step) (p : Confirms (Ok awaited.Step) a b AwaitsNext) where
+  module _ (x : Step) (held : x ≡ b.step) (p : Reading is_fed (Ok awaited.Step) a b AwaitsNext) where
     pub expects_unfit : (e : Stop) → Says {A = Unit {0}} (Err e) (Compares due b.variables x) → Confirms {A = Unit {0}} (Err e) a b (MeetsDue due)
-    expects_unfit e s = says_stop awaited.Step e a b b.checker b.variables AwaitsNext (Compares due b.variables b.step) (MeetsDue due) open_yet
+    expects_unfit e s = says_stop false e a b (λ u v. AwaitsNext u v (Ok awaited.Step)) (Compares due b.variables b.step) (MeetsDue due) open_yet
         (λ total why h. due_unfit due (seen_in total a) (seen_in total b) h why) p (subst (λ z. Says {A = Unit {0}} (Err e) (Compares due b.variables z)) held s)
 
-    pub expects_fed : ((j : Judge) (o : Outcome) (ask : List Literal) → is_nameless (due j o ask) ≡ true) → (next : Checker) (r : Result (Unit {0}) Stop) → Compares due b.variables x (Ok tt) → Says r (λ y. DecidesStep b.checker x next (is_ok y))
+    pub expects_fed : ((j : Judge) (o : Outcome) (ask : List Literal) → is_nameless (due j o ask) ≡ true) → (next : Checker) (r : Result (Unit {0}) Stop) → Compares due b.variables x (Ok tt) → Feeds r b.checker x next → LooksAtMost b.checker x next
         → Confirms r a (record b { checker = next }) (MeetsDue due)
-    expects_fed less next r k s = says_then awaited.Step r a b next b.variables AwaitsNext (λ y. DecidesStep b.checker b.step next (is_ok y)) (MeetsDue due) open_yet
-        (λ total y h d. due_fed due (seen_in total a) (seen_in total b) h less next y (subst (λ z. Compares due b.variables z (Ok tt)) held k) d)
-        p (subst (λ z. Says r (λ y. DecidesStep b.checker z next (is_ok y))) held s)
+    expects_fed less next (Ok u) k s l = feeds_on a b next b.variables (λ u v. AwaitsNext u v (Ok awaited.Step)) (λ u v. MeetsDue due u v (Ok tt)) (subst (λ z. Feeds (Ok tt) b.checker z next) held s) (subst (λ z. LooksAtMost b.checker z next) held l)
+        (λ total h. due_fed due (seen_in total a) (seen_in total b) h less next (subst (λ z. Compares due b.variables z (Ok tt)) held k) (subst (λ z. Feeds (Ok tt) b.checker z next) held s)) p
+    expects_fed less next (Err e) k s l = feeds_stop e a b next (λ u v. AwaitsNext u v (Ok awaited.Step)) (MeetsDue due) open_yet (subst (λ z. Feeds (Err e) b.checker z next) held s) (subst (λ z. LooksAtMost b.checker z next) held l)
+        (λ total why h d. due_refused due (seen_in total a) (seen_in total b) h next why d) p

@@ -1,14 +1,16 @@
 -- What is left, command by command.
-use Rattle.std.proofs.Common.{ℕ, ◌+◌, ◌≡◌, ◌↔◌, List, [], ◌∷◌, ◌++◌, Some, None, refl, sym, ◌∙◌, ap, subst, append_assoc}
+use Rattle.std.proofs.Common.{ℕ, ◌+◌, ◌≡◌, ◌↔◌, ◌⊎◌, inl, inr, List, [], ◌∷◌, ◌++◌, Option, Some, None, refl, sym, ◌∙◌, ap, subst, append_assoc}
 use Rattle.std.specs.List.{AllByRecursion}
 use Rattle.sat_base.specs.script.Script.{Literal, Command, Clause, Ask, Ending, names_of}
 use Rattle.sat_base.specs.script.Judge.{Judge, Refusal, accepted, accepted_of, refusal_of, start}
 use Rattle.sat_base.specs.steps.Steps.{Step}
 use Rattle.certify.specs.answers.Answers.{Outcome, answers_from, refused_line, outcome_text, outcomes_left, piece, ending_text}
-use Rattle.certify.specs.confirm.Matches.{Expected, Adds, Opens, Shows, Fails, Closes, Finish, bringing, showing, expected, OneEach, InForm, Meets, cut, other, ordered, shows, fails, MatchesCommands}
+use Rattle.certify.specs.confirm.Checking.{variable_of}
+use Rattle.certify.specs.confirm.Matches.{EachSpelt, Expected, Adds, Opens, Shows, Fails, Closes, Finish, bringing, showing, expected, OneEach, InForm, Meets, cut, other, ordered, shows, fails, MatchesCommands}
 use Rattle.certify.specs.confirm.LeftToMatch.{Left, LeftOfAsk}
-use Rattle.certify.specs.confirm.ListChecking.{the_checking}
+use Rattle.certify.specs.confirm.ProofChecking.{the_checking}
 use Rattle.certify.specs.confirm.CertificatePlaces.{CanMeet, Leads, Bars}
+use Rattle.certify.proofs.lemmas.confirm.CertificateSteps.{unordered_names}
 
 -- what is left of the commands from number n on
 abbrev pub Rest : Judge → ℕ → List Step → List Expected → List Command → Ending → List ℕ → List ℕ → Type 0
@@ -120,11 +122,22 @@ shown_names earlier (step ∷ steps) names ask line es (ordered u (shows n s k) 
 pub met_shows : (earlier : List Step) (names : List ℕ) (ask line : List Literal) (es : List Expected) (certificate : List ℕ) → CanMeet earlier (Shows names ask line ∷ es) certificate → names_of line ≡ names
 met_shows earlier names ask line es certificate m = shown_names earlier m.steps names ask line es m.meets
 
--- no core but the empty one is met: failed cores aren't accepted yet
-failed_core : (earlier steps : List Step) (ask core : List Literal) (es : List Expected) → Meets the_checking earlier steps (Fails ask core ∷ es) → core ≡ []
-failed_core earlier steps ask core es (cut u x) = x.0
-failed_core earlier (step ∷ steps) ask core es (other u n a m) = failed_core (step ∷ earlier) steps ask core es m
-failed_core earlier (step ∷ steps) ask core es (ordered u (fails s) a m) = absurd a
+-- the literals of a core whose step is accepted are those of names that have a variable
+abbrev pub HaveVariables : List Step → List Literal → Type 0
+HaveVariables earlier core = AllByRecursion (λ l. (v : ℕ) × (variable_of earlier l.name ≡ Some v)) core
 
-pub met_fails : (earlier : List Step) (ask core : List Literal) (es : List Expected) (certificate : List ℕ) → CanMeet earlier (Fails ask core ∷ es) certificate → core ≡ []
+have_variables : (names : ℕ → Option ℕ) (core : List Literal) (codes : List ℕ) → EachSpelt names core codes → AllByRecursion (λ l. (v : ℕ) × (names l.name ≡ Some v)) core
+have_variables names [] codes s = tt
+have_variables names (l ∷ ls) codes s = ((s.0.1.variable, s.0.1.named), have_variables names ls codes s.1)
+
+failed_core : (earlier steps : List Step) (ask core : List Literal) (es : List Expected) → Meets the_checking earlier steps (Fails ask core ∷ es) → (core ≡ []) ⊎ HaveVariables earlier core
+failed_core earlier steps ask core es (cut u x) = inl x.0
+failed_core earlier (step ∷ steps) ask core es (other u n a m) =
+    elim (failed_core (step ∷ earlier) steps ask core es m) [
+      | inl e ↦ inl e
+      | inr h ↦ inr (subst (λ names. AllByRecursion (λ l. (v : ℕ) × (names l.name ≡ Some v)) core) (unordered_names step earlier n) h)
+    ]
+failed_core earlier (step ∷ steps) ask core es (ordered u (fails {c = c} s) a m) = inr (have_variables (variable_of earlier) core c s.0)
+
+pub met_fails : (earlier : List Step) (ask core : List Literal) (es : List Expected) (certificate : List ℕ) → CanMeet earlier (Fails ask core ∷ es) certificate → (core ≡ []) ⊎ HaveVariables earlier core
 met_fails earlier ask core es certificate m = failed_core earlier m.steps ask core es m.meets

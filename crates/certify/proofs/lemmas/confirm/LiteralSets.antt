@@ -6,7 +6,7 @@ use Rattle.std.specs.Bool.{MatchBool}
 use Rattle.std.specs.List.{AllByRecursion}
 use Rattle.sat_base.specs.values.Literals.{coded}
 use Rattle.sat_base.specs.script.Script.{Literal, Among}
-use Rattle.certify.specs.checker.Propagation.{is_among}
+use Rattle.sat_checker.specs.LiteralSets.{is_among}
 use Rattle.certify.specs.confirm.Matches.{Spells, EachSpelt, SameSet}
 use Rattle.certify.specs.confirm.SpeltLiterals.{AllAmong, SameMembers, AreSpelt}
 

@@ -8,12 +8,13 @@ use Rattle.sat_base.specs.values.Literals.{largest}
 use Rattle.sat_base.specs.script.Script.{Literal, names_of}
 use Rattle.sat_base.specs.script.Judge.{Judge, names_from, new_names, with_name, with_names, bring_in, bring_all}
 use Rattle.sat_base.specs.steps.Steps.{Step, UserVarName}
-use Rattle.certify.specs.checker.Accepts.{stored_after}
+use Rattle.sat_checker.specs.Accepts.{ready_after}
 use Rattle.certify.specs.answers.AnswerForms.{IsName, HaveNames}
 use Rattle.certify.specs.confirm.Checking.{variable_of}
 use Rattle.certify.specs.confirm.Matches.{NewName, Excused, bringing}
-use Rattle.certify.specs.checker.CheckerView.{Keeps, DecidesStep}
+use Rattle.sat_checker.specs.CheckerView.{Stands}
 use Rattle.certify.specs.confirm.CertificatePlaces.{Leads, Bars, variable_in}
+use Rattle.certify.specs.confirm.Feeding.{Feeds}
 use Rattle.certify.specs.confirm.CertificateSteps.{IsFed, Onward, MeetsPending, NamesNext, FeedsName}
 use Rattle.certify.specs.confirm.Views.{View}
 use Rattle.certify.specs.declared.verdict.Why.{Why}
@@ -42,11 +43,11 @@ named_more : (earlier : List Step) (vs : List ℕ) (v : ℕ) → variable_of ear
 named_more earlier vs v e = fun_ext (λ name. ap (λ f. cond (eqb (length vs + 1) name) (Some v) (f name)) e ∙ variable_more vs v name)
 
 -- the next name is put
-pub puts : (old new : View) (v : ℕ) → NamesNext old (Ok v) → DecidesStep old.checker old.step new.checker true → new.rest ≡ old.rest → new.variables ≡ old.variables ++ v ∷ [] → FeedsName old new None
+pub puts : (old new : View) (v : ℕ) → NamesNext old (Ok v) → Feeds (Ok tt) old.checker old.step new.checker → new.rest ≡ old.rest → new.variables ≡ old.variables ++ v ∷ [] → FeedsName old new None
 puts old new v n a b i = (
   b,
   (λ j earlier s open_yet low.
-      let fed = a (stored_after earlier) s.keeps in
+      let fed = a earlier s.keeps in
       let vs = old.variables in (
         fed.0,
         record {
@@ -63,9 +64,9 @@ excused_all [] = tt
 excused_all (n ∷ ns) = (tt, excused_all ns)
 
 -- nothing more is expected once unsat is recorded
-pub names_cut : (c : View) (name : ℕ) (unsat : Bool) → unsat ≡ true → ((earlier : List Step) → Keeps c.checker (stored_after earlier) → unsat ≡ (stored_after earlier).unsat) → (j : Judge) → IsName name → MeetsPending c c j (map NewName (new_names name j)) (bring_in name j) None
+pub names_cut : (c : View) (name : ℕ) (unsat : Bool) → unsat ≡ true → ((earlier : List Step) → Stands c.checker earlier → unsat ≡ (ready_after earlier).unsat) → (j : Judge) → IsName name → MeetsPending c c j (map NewName (new_names name j)) (bring_in name j) None
 names_cut c name unsat is h j n earlier s =
-    let closed : (stored_after earlier).unsat ≡ true = sym (h earlier s.keeps) ∙ is in
+    let closed : (ready_after earlier).unsat ≡ true = sym (h earlier s.keeps.stands) ∙ is in
     record {
       later = earlier;
       stands = record { keeps = s.keeps; named = s.named; plain = (plain_bring name j n.0 n.1 s.plain).0; counted = λ u. absurd (true≢false (sym closed ∙ u)) };
@@ -99,10 +100,10 @@ names_more first old new count why e m g j earlier s low =
     }
 
 -- all the names that come in with this one
-pub names_done : (first new : View) (name count : ℕ) (unsat : Bool) → unsat ≡ false → ((earlier : List Step) → Keeps first.checker (stored_after earlier) → unsat ≡ (stored_after earlier).unsat)
+pub names_done : (first new : View) (name count : ℕ) (unsat : Bool) → unsat ≡ false → ((earlier : List Step) → Stands first.checker earlier → unsat ≡ (ready_after earlier).unsat)
     → count ≡ name - length first.variables → NamesMet first new count → (j : Judge) → IsName name → MeetsPending first new j (map NewName (new_names name j)) (bring_in name j) None
 names_done first new name count unsat is h c m j n earlier s =
-    let f : j.first_unused ≡ length first.variables + 1 = s.counted (sym (h earlier s.keeps) ∙ is) in
+    let f : j.first_unused ≡ length first.variables + 1 = s.counted (sym (h earlier s.keeps.stands) ∙ is) in
     let limit = s.plain.limit in
     let name_low = n.1 in
     let k = m j earlier s (omega arith) in
@@ -114,13 +115,13 @@ names_done first new name count unsat is h c m j n earlier s =
     }
 
 -- a name among them isn't put
-pub names_barred : (first old new next : View) (name count : ℕ) (unsat : Bool) (w : Option Why) (why : Why) → unsat ≡ false → ((earlier : List Step) → Keeps first.checker (stored_after earlier) → unsat ≡ (stored_after earlier).unsat)
+pub names_barred : (first old new next : View) (name count : ℕ) (unsat : Bool) (w : Option Why) (why : Why) → unsat ≡ false → ((earlier : List Step) → Stands first.checker earlier → unsat ≡ (ready_after earlier).unsat)
     → count < name - length first.variables → w ≡ Some why → NamesMet first old count
     → ((j : Judge) → j.first_unused ≤ largest → MeetsPending old new j (NewName j.first_unused ∷ []) (with_name j.first_unused j) w)
     → (j : Judge) → IsName name → MeetsPending first next j (map NewName (new_names name j)) (bring_in name j) (Some why)
 names_barred first old new next name count unsat w why is h c e m g j n earlier s =
     let f = j.first_unused in
-    let at0 : f ≡ length first.variables + 1 = s.counted (sym (h earlier s.keeps) ∙ is) in
+    let at0 : f ≡ length first.variables + 1 = s.counted (sym (h earlier s.keeps.stands) ∙ is) in
     let name_low = n.1 in
     let k = m j earlier s (omega arith) in
     let mid = with_names (names_from count f) j in

@@ -5,23 +5,23 @@ use Rattle.std.specs.List.{AllByRecursion, slice_get}
 use Rattle.sat_base.specs.script.Judge.{Judge, after_command, start}
 use Rattle.sat_base.specs.script.Script.{Command, Ending, Clean, Malformed}
 use Rattle.sat_base.specs.steps.Steps.{Step}
-use Rattle.certify.specs.checker.Accepts.{stored_after}
+use Rattle.sat_checker.specs.Accepts.{ready_after}
 use Rattle.certify.specs.answers.Answers.{malformed_line}
 use Rattle.certify.specs.confirm.CertificatePlaces.{CanMeet}
 use Rattle.certify.specs.confirm.Matches.{Finish, MatchesCommands, met}
 use Rattle.certify.specs.script.ScriptParts.{end_of}
 use Rattle.certify.specs.confirm.ConfirmedCommands.{TakesLine, ToConfirm, CountFromOne, ConfirmsCommand, ConfirmsEnd}
 use Rattle.certify.specs.confirm.CertificateSteps.{IsFed, MeetsPending}
-use Rattle.certify.specs.confirm.ListChecking.{the_checking}
+use Rattle.certify.specs.confirm.ProofChecking.{the_checking}
 use Rattle.certify.specs.confirm.Views.{View, SessionView, session_at}
 use Rattle.certify.specs.declared.verdict.Why.{Why}
 use Rattle.certify.proofs.lemmas.confirm.CertificatePlaces.{cut_met}
 use Rattle.certify.proofs.lemmas.confirm.LeftByCommand.{Rest, left_begins, end_on, end_back}
 
 nothing_met : (earlier : List Step) (bytes : List ℕ) → CanMeet earlier [] bytes
-nothing_met earlier bytes = go (stored_after earlier).unsat refl
+nothing_met earlier bytes = go (ready_after earlier).unsat refl
   where
-    go : (b : Bool) → (stored_after earlier).unsat ≡ b → CanMeet earlier [] bytes
+    go : (b : Bool) → (ready_after earlier).unsat ≡ b → CanMeet earlier [] bytes
     go true u = cut_met earlier [] bytes u tt
     go false u = record { steps = []; text = []; rest = bytes; begins = refl; spelt = refl; meets = met u }
 

@@ -4,11 +4,12 @@ use Rattle.std.specs.List.{AllByRecursion}
 use Rattle.sat_base.specs.device.Reading.{AtEnd}
 use Rattle.sat_base.specs.script.Script.{Literal, Command, Clause, Ask, Clean, Malformed, names_of}
 use Rattle.sat_base.specs.script.Judge.{Judge, PastLimit, start, refused_name}
+use Rattle.sat_base.specs.steps.Steps.{Step}
 use Rattle.certify.specs.answers.Answers.{Outcome, Unsat, outcome_text, refused_line, malformed_line}
 use Rattle.certify.specs.answers.AnswerForms.{IsInForm}
 use Rattle.certify.specs.answers.AnswerReading.{outcome_of}
-use Rattle.certify.specs.checker.CheckerView.{Keeps}
-use Rattle.certify.specs.checker.Stored.{Stored}
+use Rattle.sat_checker.specs.Accepts.{ready_after}
+use Rattle.sat_checker.specs.CheckerView.{Stands}
 use Rattle.certify.specs.confirm.CertificateSteps.{IsFed, MeetsPending, OpensAsk, BringsAll}
 use Rattle.certify.specs.confirm.ConfirmedCommands.{TakesLine, ReadsReply, ShowsOutcome, CountFromOne, ConfirmsNext, ConfirmsOver, AnswersAsk, ConfirmsAll}
 use Rattle.certify.specs.confirm.Dues.{Due, Allows, SaysSo, MeetsDue}
@@ -36,11 +37,11 @@ begun a = confirms_none tt a Begun (λ total. tt)
 
 first_stop : {A B : Type 0} (e : Stop) (a : Stream) (S : Result A Why → Type 0) (R : View → View → Result B Why → Type 0) → (AtEnd a.source → ⊥) → ((total : List ℕ) (why : Why) → S (Err why) → R (seen_in total a) (seen_in total a) (Err why))
     → Says {A = A} (Err e) S → Confirms {A = B} (Err e) a a R
-first_stop e a S R open_yet f s = says_stop tt e a a a.checker a.variables Begun S R open_yet (λ total why u. f total why) (begun a) s
+first_stop e a S R open_yet f s = says_stop true e a a (λ u v. Unit {0}) S R open_yet (λ total why u. f total why) (begun a) s
 
 first_says : (r : Result (Unit {0}) Stop) (a : Stream) (S : Result (Unit {0}) Why → Type 0) (R : View → View → Result (Unit {0}) Why → Type 0) → (AtEnd a.source → ⊥) → ((total : List ℕ) (y : Result (Unit {0}) Why) → S y → R (seen_in total a) (seen_in total a) y)
     → Says r S → Confirms r a a R
-first_says r a S R open_yet f s = says_then tt r a a a.checker a.variables Begun S R open_yet (λ total y u. f total y) (begun a) s
+first_says r a S R open_yet f s = says_then r a a (λ u v. Unit {0}) S R open_yet (λ total y u. f total y) (begun a) s
 
 -- WHAT IS EXPECTED, AS IT IS PENDING
 
@@ -107,14 +108,14 @@ module _ (a b : Stream) (n : ℕ) (ls : List Literal) (accepted : refused_name (
 
 -- ANSWERS
 
-module _ (a : Stream) (open_yet : AtEnd a.source → ⊥) (ls : List Literal) (settled : Bool) (told : (f : Stored) → Keeps a.checker f → settled ≡ f.unsat) (before behind : List ℕ) (line : List Literal) where
+module _ (a : Stream) (open_yet : AtEnd a.source → ⊥) (ls : List Literal) (settled : Bool) (told : (steps : List Step) → Stands a.checker steps → settled ≡ (ready_after steps).unsat) (before behind : List ℕ) (line : List Literal) where
   pub answer_unread : (e : Stop) → Says {A = AnswerKind} (Err e) (ReadsReply before behind line settled) → Confirms {A = Unit {0}} (Err e) a a (AnswersAsk ls before behind)
   answer_unread e s = first_stop e a (ReadsReply before behind line settled) (AnswersAsk ls before behind) open_yet
       (λ total why none u v n accepted named opened. ask_without_answer (session_at before u) v n ls None accepted named refl (seen_in total a) None opened refl (session_at behind (seen_in total a)) why
       (λ f k o tail form alone e. none o tail form (λ closed. alone (sym (told f k) ∙ closed)) e)) s
 
   module _ (k : AnswerKind) (b : Stream) (read : ReadsReply before behind line settled (Ok k)) where
-    facts : (f : Stored) → Keeps a.checker f → (before ≡ outcome_text (outcome_of k line) ++ behind) × IsInForm (outcome_of k line) × (f.unsat ≡ true → outcome_of k line ≡ Unsat [])
+    facts : (steps : List Step) → Stands a.checker steps → (before ≡ outcome_text (outcome_of k line) ++ behind) × IsInForm (outcome_of k line) × ((ready_after steps).unsat ≡ true → outcome_of k line ≡ Unsat [])
     facts f keeps = (read.0, read.1, λ closed. read.2 (told f keeps ∙ closed))
 
     pub answer_unshown : (e : Stop) → Confirms {A = Unit {0}} (Err e) a b (ShowsOutcome ls (outcome_of k line)) → Confirms {A = Unit {0}} (Err e) a b (AnswersAsk ls before behind)
@@ -134,7 +135,7 @@ module _ (a b : Stream) (before : List ℕ) (n : ℕ) where
       (λ total why h. over_barred (session_at before (seen_in total a)) (seen_in total b) (Some why) (λ j. pending_of (λ j o ask. Finish) (λ j o ask. tt) (seen_in total a) (seen_in total b) (Err why) h (Unsat []) [] j) n why refl) p
 
   pub end_goes : (r : Result (Unit {0}) Stop) → (AtEnd a.source → ⊥) → Confirms (Ok tt) a b (MeetsDue (λ j o ask. Finish)) → Says r (SaysSo (before ≡ [])) → Confirms r a b (ConfirmsOver n Clean before)
-  end_goes r open_yet p s = says_then tt r a b b.checker b.variables (MeetsDue (λ j o ask. Finish)) (SaysSo (before ≡ [])) (ConfirmsOver n Clean before) open_yet said p s
+  end_goes r open_yet p s = says_then r a b (λ u v. MeetsDue (λ j o ask. Finish) u v (Ok tt)) (SaysSo (before ≡ [])) (ConfirmsOver n Clean before) open_yet said p s
     where
       said : (total : List ℕ) (y : Result (Unit {0}) Why) → MeetsDue (λ j o ask. Finish) (seen_in total a) (seen_in total b) (Ok tt) → SaysSo (before ≡ []) y → ConfirmsOver n Clean before (seen_in total a) (seen_in total b) y
       said total (Ok x) h none = over_done (session_at before (seen_in total a)) (seen_in total b) None (λ j. pending_of (λ j o ask. Finish) (λ j o ask. tt) (seen_in total a) (seen_in total b) (Ok tt) h (Unsat []) [] j) n refl none

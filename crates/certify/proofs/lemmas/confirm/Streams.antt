@@ -1,5 +1,5 @@
 -- A certificate that is read step by step: how its calls follow one another.
-use Rattle.std.proofs.Common.{◌≡◌, ℕ, ◌+◌, ◌-◌, ◌*◌, ◌<◌, ◌≤◌, true, false, List, [], ◌∷◌, ◌++◌, drop, length, length-append, Option, Some, None, Result, Ok, Err, inl, inr, append_assoc, refl, sym, ap, ◌∙◌, subst, arith}
+use Rattle.std.proofs.Common.{◌≡◌, ℕ, ◌+◌, ◌-◌, ◌*◌, ◌<◌, ◌≤◌, Bool, true, false, List, [], ◌∷◌, ◌++◌, drop, length, length-append, Option, Some, None, Result, Ok, Err, inl, inr, append_assoc, refl, sym, ap, ◌∙◌, subst, arith}
 use Rattle.std.proofs.Math.Seq.{drop-append_seam}
 use Rattle.std.proofs.lemmas.List.{append-nil}
 use Rattle.std.specs.Io.KnownBytes.{Consumes, IsAtEnd, prepend_known}
@@ -13,14 +13,20 @@ use Rattle.sat_base.specs.steps.Steps.{Step}
 use Rattle.sat_base.specs.steps.StepText.{SpellsStep, tag_of}
 use Rattle.sat_base.proofs.lemmas.device.ReadLemmas.{passes_more, faults_later, passes_none}
 use Rattle.certify.specs.confirm.ReadSteps.{BeginsNoStep, ReadsStep}
-use Rattle.certify.specs.confirm.Streams.{Stream, rest_in, seen_in, Covers, Over, Moves, Halts, Confirms, Says, stop_of, bytes_left}
+use Rattle.certify.specs.confirm.Feeding.{HasTaken, Feeds, Settles}
+use Rattle.certify.specs.confirm.Streams.{Stream, rest_in, seen_in, Covers, Over, Moves, Halts, Going, Confirms, Says, stop_of, bytes_left}
+use Rattle.certify.specs.confirm.VerdictPromises.{TakesLooks}
+use Rattle.certify.specs.confirm.Walks.{LooksReach, Walks, walks_if, Tries, RunsOut}
 use Rattle.certify.specs.confirm.Views.{View, place}
-use Rattle.certify.specs.declared.checker.Checker.{Checker}
+use Rattle.sat_checker.specs.Accepts.{Accepts, ready_after}
+use Rattle.sat_checker.specs.CheckerView.{looks_of, LooksAtMost}
+use Rattle.sat_checker.specs.declared.checker.Checker.{Checker}
 use Rattle.certify.specs.declared.confirm.stop.Stop.{Stop}
 use Rattle.certify.specs.declared.confirm.stop.Stop.TheVariants as stop
 use Rattle.certify.specs.declared.verdict.Why.{Why}
 use Rattle.certify.specs.declared.verdict.Why.TheVariants.{CertificateEnds, StepRefused}
 use Rattle.certify.proofs.lemmas.confirm.OneStep.{one_step}
+use Rattle.certify.proofs.lemmas.confirm.Walks.{walks_none, walks_on, tries_on, runs_on, tries_if, tries_none, walks_read, walks_fed, tries_fed, runs_fed, walks_settled, tries_spent, runs_spent, never_settled}
 use Rattle.sat_base.proofs.lemmas.steps.Fronts.{no_whole, no_way}
 
 -- WHAT CAN FOLLOW
@@ -28,6 +34,14 @@ use Rattle.sat_base.proofs.lemmas.steps.Fronts.{no_whole, no_way}
 -- a reader that isn't at its end, and what it gave since, can be followed as then
 pub covers_back : (n : ℕ) (s t : Source) (text total : List ℕ) → (AtEnd s → ⊥) → PassesBut n s t text → Covers t total → Covers s total
 covers_back n s t text total open_yet p c = record {
+  later = p.fresh ++ c.later;
+  whole = c.whole ∙ ap (λ (z : List ℕ). z ++ c.later) p.gave ∙ append_assoc s.reader.given p.fresh c.later;
+  none = λ h. absurd (open_yet h);
+}
+
+-- the same where reading failed
+pub covers_fault : (s t : Source) (text total : List ℕ) → (AtEnd s → ⊥) → Faults s t text → Covers t total → Covers s total
+covers_fault s t text total open_yet p c = record {
   later = p.fresh ++ c.later;
   whole = c.whole ∙ ap (λ (z : List ℕ). z ++ c.later) p.gave ∙ append_assoc s.reader.given p.fresh c.later;
   none = λ h. absurd (open_yet h);
@@ -91,66 +105,147 @@ halts_later a b c m h = ((m.0 ++ h.0.0, passes_more a.source b.source c.source m
 pub moves_halt : (a b : Stream) → (AtEnd a.source → ⊥) → Moves a b → Halts a b
 moves_halt a b open_yet m = ((m.0, weaker a.source b.source m.0 m.1), λ h. absurd (stays_open a.source b.source m.0 open_yet m.1 h))
 
+-- what is so between two views, and then two more
 over_then : (n : ℕ) (a b c : Stream) (text : List ℕ) (P Q R : View → View → Type 0) → (AtEnd b.source → ⊥) → PassesBut n b.source c.source text
     → ((total : List ℕ) → P (seen_in total a) (seen_in total b) → Q (seen_in total b) (seen_in total c) → R (seen_in total a) (seen_in total c)) → Over a b P → Over b c Q → Over a c R
 over_then n a b c text P Q R open_yet p f g h total k = f total (g total (covers_back n b.source c.source text total open_yet p k)) (h total k)
+
+over_fault : (a b c : Stream) (text : List ℕ) (P Q R : View → View → Type 0) → (AtEnd b.source → ⊥) → Faults b.source c.source text
+    → ((total : List ℕ) → P (seen_in total a) (seen_in total b) → Q (seen_in total b) (seen_in total c) → R (seen_in total a) (seen_in total c)) → Over a b P → Over b c Q → Over a c R
+over_fault a b c text P Q R open_yet p f g h total k = f total (g total (covers_fault b.source c.source text total open_yet p k)) (h total k)
+
+-- a call that goes on behind one that went on
+pub going_then : (fed : Bool) (a b c : Stream) (P Q R : View → View → Type 0) → (AtEnd a.source → ⊥)
+    → ((total : List ℕ) → P (seen_in total a) (seen_in total b) → Q (seen_in total b) (seen_in total c) → R (seen_in total a) (seen_in total c)) → Going true a b P → Going fed b c Q → Going fed a c R
+going_then fed a b c P Q R open_yet f p q =
+    let here = stays_open a.source b.source p.0.0 open_yet p.0.1 in (
+      (p.0.0 ++ q.0.0, passes_more a.source b.source c.source p.0.0 q.0.0 p.0.1 q.0.1),
+      over_then 0 a b c q.0.0 P Q R here q.0.1 f p.1 q.1,
+      over_then 0 a b c q.0.0 Walks (walks_if fed) (walks_if fed) here q.0.1 (λ total. walks_on fed (seen_in total a) (seen_in total b) (seen_in total c)) p.2 q.2,
+    )
 
 -- an error behind a call that went on
 pub then_stop : {A B C : Type 0} (x : A) (e : Stop) (a b c : Stream) (P : View → View → Result A Why → Type 0) (Q : View → View → Result B Why → Type 0) (R : View → View → Result C Why → Type 0) → (AtEnd a.source → ⊥)
     → ((total : List ℕ) (why : Why) → P (seen_in total a) (seen_in total b) (Ok x) → Q (seen_in total b) (seen_in total c) (Err why) → R (seen_in total a) (seen_in total c) (Err why))
     → Confirms (Ok x) a b P → Confirms {A = B} (Err e) b c Q → Confirms {A = C} (Err e) a c R
-then_stop x (stop.No why) a b c P Q R open_yet f p q = (
-  halts_later a b c p.0 q.0,
-  over_then 1 a b c q.0.0.0 (λ u v. P u v (Ok x)) (λ u v. Q u v (Err why)) (λ u v. R u v (Err why)) (stays_open a.source b.source p.0.0 open_yet p.0.1) q.0.0.1 (λ total. f total why) p.1 q.1,
-)
-then_stop x stop.Read a b c P Q R open_yet f p q = (p.0.0 ++ q.0, faults_later a.source b.source c.source p.0.0 q.0 p.0.1 q.1)
-then_stop x stop.OutOfMemory a b c P Q R open_yet f p q = halts_later a b c p.0 q
+then_stop x (stop.No why) a b c P Q R open_yet f p q =
+    let here = stays_open a.source b.source p.0.0 open_yet p.0.1 in (
+      halts_later a b c p.0 q.0,
+      over_then 1 a b c q.0.0.0 (λ u v. P u v (Ok x)) (λ u v. Q u v (Err why)) (λ u v. R u v (Err why)) here q.0.0.1 (λ total. f total why) p.1 q.1,
+      over_then 1 a b c q.0.0.0 Walks Tries Tries here q.0.0.1 (λ total. tries_on (seen_in total a) (seen_in total b) (seen_in total c)) p.2 q.2,
+    )
+then_stop x stop.Read a b c P Q R open_yet f p q =
+    let here = stays_open a.source b.source p.0.0 open_yet p.0.1 in (
+      (p.0.0 ++ q.0.0, faults_later a.source b.source c.source p.0.0 q.0.0 p.0.1 q.0.1),
+      over_fault a b c q.0.0 Walks Tries Tries here q.0.1 (λ total. tries_on (seen_in total a) (seen_in total b) (seen_in total c)) p.2 q.1,
+    )
+then_stop x stop.OutOfMemory a b c P Q R open_yet f p q =
+    let here = stays_open a.source b.source p.0.0 open_yet p.0.1 in (
+      halts_later a b c p.0 q.0,
+      over_then 1 a b c q.0.0.0 Walks Tries Tries here q.0.0.1 (λ total. tries_on (seen_in total a) (seen_in total b) (seen_in total c)) p.2 q.1,
+    )
+then_stop x stop.CounterEnd a b c P Q R open_yet f p q =
+    let here = stays_open a.source b.source p.0.0 open_yet p.0.1 in (
+      halts_later a b c p.0 q.0,
+      over_then 1 a b c q.0.0.0 Walks RunsOut RunsOut here q.0.0.1 (λ total. runs_on (seen_in total a) (seen_in total b) (seen_in total c)) p.2 q.1,
+      over_then 1 a b c q.0.0.0 Walks Tries Tries here q.0.0.1 (λ total. tries_on (seen_in total a) (seen_in total b) (seen_in total c)) p.2 q.2,
+    )
 
 -- behind a call that went on
 pub confirms_then : {A B : Type 0} (x : A) (r : Result B Stop) (a b c : Stream) (P : View → View → Result A Why → Type 0) (Q R : View → View → Result B Why → Type 0) → (AtEnd a.source → ⊥)
     → ((total : List ℕ) (y : Result B Why) → P (seen_in total a) (seen_in total b) (Ok x) → Q (seen_in total b) (seen_in total c) y → R (seen_in total a) (seen_in total c) y) → Confirms (Ok x) a b P → Confirms r b c Q → Confirms r a c R
-confirms_then x (Ok y) a b c P Q R open_yet f p q = (
-  (p.0.0 ++ q.0.0, passes_more a.source b.source c.source p.0.0 q.0.0 p.0.1 q.0.1),
-  over_then 0 a b c q.0.0 (λ u v. P u v (Ok x)) (λ u v. Q u v (Ok y)) (λ u v. R u v (Ok y)) (stays_open a.source b.source p.0.0 open_yet p.0.1) q.0.1 (λ total. f total (Ok y)) p.1 q.1,
-)
+confirms_then x (Ok y) a b c P Q R open_yet f p q = going_then true a b c (λ u v. P u v (Ok x)) (λ u v. Q u v (Ok y)) (λ u v. R u v (Ok y)) open_yet (λ total. f total (Ok y)) p q
 confirms_then x (Err e) a b c P Q R open_yet f p q = then_stop x e a b c P Q R open_yet (λ total why. f total (Err why)) p q
 
 -- an error that is handed on
 pub confirms_stop : {A B : Type 0} (e : Stop) (a b : Stream) (P : View → View → Result A Why → Type 0) (R : View → View → Result B Why → Type 0)
     → ((total : List ℕ) (why : Why) → P (seen_in total a) (seen_in total b) (Err why) → R (seen_in total a) (seen_in total b) (Err why)) → Confirms {A = A} (Err e) a b P → Confirms {A = B} (Err e) a b R
-confirms_stop (stop.No why) a b P R f p = (p.0, λ total k. f total why (p.1 total k))
+confirms_stop (stop.No why) a b P R f p = (p.0, (λ total k. f total why (p.1 total k)), p.2)
 confirms_stop stop.Read a b P R f p = p
 confirms_stop stop.OutOfMemory a b P R f p = p
+confirms_stop stop.CounterEnd a b P R f p = p
 
 -- the same of what is said behind it
 pub confirms_so : {A : Type 0} (r : Result A Stop) (a b : Stream) (P R : View → View → Result A Why → Type 0) → ((total : List ℕ) (y : Result A Why) → P (seen_in total a) (seen_in total b) y → R (seen_in total a) (seen_in total b) y) → Confirms r a b P → Confirms r a b R
-confirms_so (Ok x) a b P R f p = (p.0, λ total k. f total (Ok x) (p.1 total k))
+confirms_so (Ok x) a b P R f p = (p.0, (λ total k. f total (Ok x) (p.1 total k)), p.2)
 confirms_so (Err e) a b P R f p = confirms_stop e a b P R (λ total why. f total (Err why)) p
 
 -- WHAT READS NOTHING
 
 pub confirms_none : {A : Type 0} (x : A) (a : Stream) (P : View → View → Result A Why → Type 0) → ((total : List ℕ) → P (seen_in total a) (seen_in total a) (Ok x)) → Confirms (Ok x) a a P
-confirms_none x a P f = (([], passes_none a.source), λ total k. f total)
+confirms_none x a P f = (([], passes_none a.source), (λ total k. f total), (λ total k. walks_none (seen_in total a)))
 
 pub says_so : {A : Type 0} (r : Result A Stop) (P Q : Result A Why → Type 0) → ((y : Result A Why) → P y → Q y) → Says r P → Says r Q
 says_so (Ok x) P Q f h = f (Ok x) h
 says_so (Err (stop.No why)) P Q f h = f (Err why) h
 says_so (Err stop.Read) P Q f h = h
 says_so (Err stop.OutOfMemory) P Q f h = h
+says_so (Err stop.CounterEnd) P Q f h = h
 
--- what is said behind a call that went on: the checker and the variables may change
-pub says_stop : {A B C : Type 0} (x : A) (e : Stop) (a b : Stream) (checker : Checker) (variables : List ℕ) (P : View → View → Result A Why → Type 0) (S : Result B Why → Type 0) (R : View → View → Result C Why → Type 0) → (AtEnd a.source → ⊥)
-    → ((total : List ℕ) (why : Why) → P (seen_in total a) (seen_in total b) (Ok x) → S (Err why) → R (seen_in total a) (seen_in total (record b { checker = checker; variables = variables })) (Err why))
-    → Confirms (Ok x) a b P → Says {A = B} (Err e) S → Confirms {A = C} (Err e) a (record b { checker = checker; variables = variables }) R
-says_stop x (stop.No why) a b checker variables P S R open_yet f p s = (moves_halt a b open_yet p.0, λ total k. f total why (p.1 total k) s)
-says_stop x stop.Read a b checker variables P S R open_yet f p s = absurd s
-says_stop x stop.OutOfMemory a b checker variables P S R open_yet f p s = moves_halt a b open_yet p.0
+-- an error of what reads nothing, behind a call that went on
+pub says_stop : {B C : Type 0} (fed : Bool) (e : Stop) (a b : Stream) (P : View → View → Type 0) (S : Result B Why → Type 0) (R : View → View → Result C Why → Type 0) → (AtEnd a.source → ⊥)
+    → ((total : List ℕ) (why : Why) → P (seen_in total a) (seen_in total b) → S (Err why) → R (seen_in total a) (seen_in total b) (Err why))
+    → Going fed a b P → Says {A = B} (Err e) S → Confirms {A = C} (Err e) a b R
+says_stop fed (stop.No why) a b P S R open_yet f p s = (moves_halt a b open_yet p.0, (λ total k. f total why (p.1 total k) s), (λ total k. tries_if fed (seen_in total a) (seen_in total b) (p.2 total k)))
+says_stop fed stop.Read a b P S R open_yet f p s = absurd s
+says_stop fed stop.OutOfMemory a b P S R open_yet f p s = (moves_halt a b open_yet p.0, (λ total k. tries_if fed (seen_in total a) (seen_in total b) (p.2 total k)))
+says_stop fed stop.CounterEnd a b P S R open_yet f p s = absurd s
 
-pub says_then : {A B : Type 0} (x : A) (r : Result B Stop) (a b : Stream) (checker : Checker) (variables : List ℕ) (P : View → View → Result A Why → Type 0) (S : Result B Why → Type 0) (R : View → View → Result B Why → Type 0) → (AtEnd a.source → ⊥)
-    → ((total : List ℕ) (y : Result B Why) → P (seen_in total a) (seen_in total b) (Ok x) → S y → R (seen_in total a) (seen_in total (record b { checker = checker; variables = variables })) y)
-    → Confirms (Ok x) a b P → Says r S → Confirms r a (record b { checker = checker; variables = variables }) R
-says_then x (Ok y) a b checker variables P S R open_yet f p s = (p.0, λ total k. f total (Ok y) (p.1 total k) s)
-says_then x (Err e) a b checker variables P S R open_yet f p s = says_stop x e a b checker variables P S R open_yet (λ total why. f total (Err why)) p s
+pub says_then : {B : Type 0} (r : Result B Stop) (a b : Stream) (P : View → View → Type 0) (S : Result B Why → Type 0) (R : View → View → Result B Why → Type 0) → (AtEnd a.source → ⊥)
+    → ((total : List ℕ) (y : Result B Why) → P (seen_in total a) (seen_in total b) → S y → R (seen_in total a) (seen_in total b) y)
+    → Going true a b P → Says r S → Confirms r a b R
+says_then (Ok y) a b P S R open_yet f p s = (p.0, (λ total k. f total (Ok y) (p.1 total k) s), p.2)
+says_then (Err e) a b P S R open_yet f p s = says_stop true e a b P S R open_yet (λ total why. f total (Err why)) p s
+
+-- WHAT A CHECKER IS FED
+
+-- the step that was read last is accepted
+pub feeds_on : (a b : Stream) (next : Checker) (variables : List ℕ) (P Q : View → View → Type 0) → Feeds (Ok tt) b.checker b.step next → LooksAtMost b.checker b.step next
+    → ((total : List ℕ) → P (seen_in total a) (seen_in total b) → Q (seen_in total a) (seen_in total (record b { checker = next; variables = variables })))
+    → Going false a b P → Going true a (record b { checker = next; variables = variables }) Q
+feeds_on a b next variables P Q fed looks f p =
+    (p.0, (λ total k. f total (p.1 total k)), (λ total k. walks_fed (seen_in total a) (seen_in total b) (seen_in total (record b { checker = next; variables = variables })) refl fed looks (p.2 total k)))
+
+-- or isn't
+pub feeds_stop : {C : Type 0} (e : Stop) (a b : Stream) (next : Checker) (P : View → View → Type 0) (R : View → View → Result C Why → Type 0) → (AtEnd a.source → ⊥) → Feeds (Err e) b.checker b.step next → LooksAtMost b.checker b.step next
+    → ((total : List ℕ) (why : Why) → P (seen_in total a) (seen_in total b) → ((steps : List Step) → HasTaken b.checker steps → Accepts (ready_after steps) b.step → ⊥) → R (seen_in total a) (seen_in total (record b { checker = next })) (Err why))
+    → Going false a b P → Confirms {A = C} (Err e) a (record b { checker = next }) R
+feeds_stop (stop.No why) a b next P R open_yet fed looks f p =
+    (moves_halt a b open_yet p.0, (λ total k. f total why (p.1 total k) fed), (λ total k. tries_fed (seen_in total a) (seen_in total b) (seen_in total (record b { checker = next })) looks (p.2 total k)))
+feeds_stop stop.Read a b next P R open_yet fed looks f p = absurd fed
+feeds_stop stop.OutOfMemory a b next P R open_yet fed looks f p = (moves_halt a b open_yet p.0, (λ total k. tries_fed (seen_in total a) (seen_in total b) (seen_in total (record b { checker = next })) looks (p.2 total k)))
+feeds_stop stop.CounterEnd a b next P R open_yet fed looks f p = (
+  moves_halt a b open_yet p.0,
+  (λ total k. runs_fed (seen_in total a) (seen_in total b) (seen_in total (record b { checker = next })) next fed (p.2 total k)),
+  (λ total k. tries_fed (seen_in total a) (seen_in total b) (seen_in total (record b { checker = next })) looks (p.2 total k)),
+)
+
+-- a pending unit conflict is settled
+pub settles_on : (fed : Bool) (a b : Stream) (next : Checker) (P Q : View → View → Type 0) → Settles (Ok tt) b.checker next
+    → ((total : List ℕ) → P (seen_in total a) (seen_in total b) → Q (seen_in total a) (seen_in total (record b { checker = next })))
+    → Going fed a b P → Going fed a (record b { checker = next }) Q
+settles_on fed a b next P Q settled f p =
+    (p.0, (λ total k. f total (p.1 total k)), (λ total k. walks_settled fed (seen_in total a) (seen_in total b) (seen_in total (record b { checker = next })) refl refl settled (p.2 total k)))
+
+-- or there is no id for it
+pub settles_stop : {C : Type 0} (e : Stop) (fed : Bool) (a b : Stream) (next : Checker) (P : View → View → Type 0) (R : View → View → Result C Why → Type 0) → (AtEnd a.source → ⊥) → Settles (Err e) b.checker next
+    → ((total : List ℕ) (why : Why) → P (seen_in total a) (seen_in total b) → ((steps : List Step) → HasTaken b.checker steps → ⊥) → R (seen_in total a) (seen_in total (record b { checker = next })) (Err why))
+    → Going fed a b P → Confirms {A = C} (Err e) a (record b { checker = next }) R
+settles_stop (stop.No why) fed a b next P R open_yet settled f p = (
+  moves_halt a b open_yet p.0,
+  (λ total k. f total why (p.1 total k) settled),
+  (λ total k earlier t. never_settled fed (seen_in total a) (seen_in total b) (LooksReach earlier (rest_in total a.source) (looks_of a.checker) (looks_of next)) earlier settled (p.2 total k) t),
+)
+settles_stop stop.Read fed a b next P R open_yet settled f p = absurd settled
+settles_stop stop.OutOfMemory fed a b next P R open_yet settled f p = (
+  moves_halt a b open_yet p.0,
+  (λ total k earlier t. never_settled fed (seen_in total a) (seen_in total b) (LooksReach earlier (rest_in total a.source) (looks_of a.checker) (looks_of next)) earlier settled (p.2 total k) t),
+)
+settles_stop stop.CounterEnd fed a b next P R open_yet settled f p = (
+  moves_halt a b open_yet p.0,
+  (λ total k. runs_spent fed (seen_in total a) (seen_in total b) (seen_in total (record b { checker = next })) settled (p.2 total k)),
+  (λ total k. tries_spent fed (seen_in total a) (seen_in total b) (seen_in total (record b { checker = next })) settled (p.2 total k)),
+)
 
 -- THE NEXT STEP
 
@@ -164,11 +259,13 @@ answered (Err errors.Read) s t e h = h
 answered (Err errors.OutOfMemory) s t e h = h
 answered (Err errors.HasFailed) s t e h = absurd (let k : true ≡ false = e in cc)
 
-pub step_came : (step : Step) (a b : Stream) → b.step ≡ step → Answers (Ok step) a.source b.source → Moves a b × Over a b (λ u v. ReadsStep (place u) (place v))
-step_came step a b e h = (
-  (h.0, h.1),
-  (λ total k. record { text = h.0; spelt = subst (λ (z : Step). SpellsStep z h.0) (sym e) h.2; front = taken_front 0 a.source b.source h.0 total h.1 k }),
-)
+pub step_came : (step : Step) (a b : Stream) → b.step ≡ step → b.checker ≡ a.checker → Answers (Ok step) a.source b.source → Going false a b (λ u v. ReadsStep (place u) (place v))
+step_came step a b e c h =
+    let spelt : SpellsStep b.step h.0 = subst (λ (z : Step). SpellsStep z h.0) (sym e) h.2 in (
+      (h.0, h.1),
+      (λ total k. record { text = h.0; spelt = spelt; front = taken_front 0 a.source b.source h.0 total h.1 k }),
+      (λ total k. walks_read (seen_in total a) (seen_in total b) h.0 spelt (taken_front 0 a.source b.source h.0 total h.1 k) c),
+    )
 
 -- a step takes a byte at least
 less_left : (m a b ls lt lx lf : ℕ) → lf + 4096 * a ≤ 4096 * b → ls + lf ≡ lx + lt → 0 < lx → b ≤ m → 4096 * (m - b) + lt < 4096 * (m - a) + ls
@@ -194,16 +291,16 @@ all_over : (s : Source) → AllTaken s → IsAtEnd s.reader.to_come
 all_over s t = none_waits s.reader.to_come s.waiting t.waiting t.over
 
 -- no step stands there
-pub none_came : {A : Type 0} (e : StepError) (a b : Stream) (P : View → View → Result A Why → Type 0) → (AtEnd a.source → ⊥) → Answers (Err e) a.source b.source
+pub none_came : {A : Type 0} (e : StepError) (a b : Stream) (P : View → View → Result A Why → Type 0) → (AtEnd a.source → ⊥) → b.checker ≡ a.checker → Answers (Err e) a.source b.source
     → ((total : List ℕ) (why : Why) → BeginsNoStep (rest_in total a.source) → P (seen_in total a) (seen_in total b) (Err why)) → Confirms {A = A} (Err (stop_of e)) a b P
-none_came errors.Ends a b P o h f = ((([], h.0), λ _. all_over b.source h.1), λ total k. f total CertificateEnds (no_step_over a.source b.source total h k))
-none_came errors.Cut a b P o h f =
-    (((h.0 ∷ h.1, h.2.0), λ _. all_over b.source h.2.1), λ total k. f total CertificateEnds (no_step_cut a.source b.source (h.0 ∷ h.1) total h.2 h.3 k))
-none_came errors.BadByte a b P o h f =
-    (moves_halt a b o (h.0 ++ h.1 ∷ [], h.2), λ total k. f total StepRefused (no_step_at_byte a.source b.source h.0 h.1 total h.2 h.3 h.4 k))
-none_came errors.Read a b P o h f = (h.0, h.1)
-none_came errors.OutOfMemory a b P o h f = moves_halt a b o (h.0 ∷ h.1, h.2)
-none_came errors.HasFailed a b P o h f = absurd h
+none_came errors.Ends a b P o c h f = ((([], h.0), λ _. all_over b.source h.1), (λ total k. f total CertificateEnds (no_step_over a.source b.source total h k)), (λ total k. tries_none (seen_in total a) (seen_in total b) c))
+none_came errors.Cut a b P o c h f =
+    (((h.0 ∷ h.1, h.2.0), λ _. all_over b.source h.2.1), (λ total k. f total CertificateEnds (no_step_cut a.source b.source (h.0 ∷ h.1) total h.2 h.3 k)), (λ total k. tries_none (seen_in total a) (seen_in total b) c))
+none_came errors.BadByte a b P o c h f =
+    (moves_halt a b o (h.0 ++ h.1 ∷ [], h.2), (λ total k. f total StepRefused (no_step_at_byte a.source b.source h.0 h.1 total h.2 h.3 h.4 k)), (λ total k. tries_none (seen_in total a) (seen_in total b) c))
+none_came errors.Read a b P o c h f = ((h.0, h.1), (λ total k. tries_none (seen_in total a) (seen_in total b) c))
+none_came errors.OutOfMemory a b P o c h f = (moves_halt a b o (h.0 ∷ h.1, h.2), (λ total k. tries_none (seen_in total a) (seen_in total b) c))
+none_came errors.HasFailed a b P o c h f = absurd h
 
 -- WHAT THE READER GAVE
 
@@ -243,3 +340,25 @@ read_fails r t text b p = (
   elim p.cause [ inl h ↦ inl (h.0, h.1) | inr h ↦ inr (h.0, read_out r.calls t.reader.calls t.reads most_reads p.calls h.1 b) ],
   few_of r.calls t.reader.calls t.reads r.given t.reader.given p.fresh p.calls p.few p.gave,
 )
+
+-- what is so of the looks whatever would follow
+pub took_looks : (n : ℕ) (r : Reader) (t : Source) (text : List ℕ) (to : ℕ) → PassesBut n (unread r) t text → ((total : List ℕ) → Covers t total → LooksReach [] (rest_in total (unread r)) 0 to) → TakesLooks r t.reader 0 to
+took_looks n r t text to p f = record {
+  text = p.fresh;
+  front = record { gave = p.gave; told = told_front r.to_come t.reader.to_come t.waiting text p.fresh p.flows p.bytes; loans = p.loans };
+  reached = λ rest k.
+      let whole : t.reader.given ++ rest ≡ r.given ++ (p.fresh ++ rest) = ap (λ (z : List ℕ). z ++ rest) p.gave ∙ append_assoc r.given p.fresh rest in
+      subst (λ bytes. LooksReach [] bytes 0 to) (rest_is (unread r) (t.reader.given ++ rest) (p.fresh ++ rest) whole)
+      (f (t.reader.given ++ rest) (record { later = rest; whole = refl; none = λ h. k (called_some r.calls t.reader.calls t.reads p.calls h.0) h.1 }));
+}
+
+-- the same where reading failed
+pub took_faulted : (r : Reader) (t : Source) (text : List ℕ) (to : ℕ) → Faults (unread r) t text → ((total : List ℕ) → Covers t total → LooksReach [] (rest_in total (unread r)) 0 to) → TakesLooks r t.reader 0 to
+took_faulted r t text to p f = record {
+  text = p.fresh;
+  front = record { gave = p.gave; told = told_front r.to_come t.reader.to_come t.waiting text p.fresh (p.flows ∙ sym (append-nil text) ∙ ap (λ (z : List ℕ). text ++ z) (sym p.none)) p.bytes; loans = p.loans };
+  reached = λ rest k.
+      let whole : t.reader.given ++ rest ≡ r.given ++ (p.fresh ++ rest) = ap (λ (z : List ℕ). z ++ rest) p.gave ∙ append_assoc r.given p.fresh rest in
+      subst (λ bytes. LooksReach [] bytes 0 to) (rest_is (unread r) (t.reader.given ++ rest) (p.fresh ++ rest) whole)
+      (f (t.reader.given ++ rest) (record { later = rest; whole = refl; none = λ h. k (called_some r.calls t.reader.calls t.reads p.calls h.0) h.1 }));
+}

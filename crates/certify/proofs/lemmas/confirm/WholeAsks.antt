@@ -1,17 +1,21 @@
 -- An ask, from its names to its end.
-use Rattle.std.proofs.Common.{ℕ, append_assoc, zero, suc, ◌+◌, ◌-◌, ◌≤◌, ◌≡◌, true, List, [], ◌∷◌, ◌++◌, map, None, sym, ◌∙◌, subst, arith}
+use Rattle.std.proofs.Common.{ℕ, append_assoc, zero, suc, ◌+◌, ◌-◌, ◌<◌, ◌≤◌, ◌≡◌, inl, inr, Bool, true, false, List, [], ◌∷◌, ◌++◌, length, map, Some, None, slice_get, refl, sym, ◌∙◌, ap, subst, arith}
 use Rattle.std.specs.List.{AllByRecursion}
 use Rattle.sat_base.specs.values.Literals.{largest}
 use Rattle.sat_base.specs.script.Script.{Literal, Command, Ask, Ending, names_of}
 use Rattle.sat_base.specs.script.Judge.{Judge, accepted, accepted_of, names_from, refusal_of}
 use Rattle.sat_base.specs.steps.Steps.{Step}
-use Rattle.certify.specs.checker.Accepts.{stored_after}
+use Rattle.sat_checker.specs.Accepts.{ready_after}
 use Rattle.certify.specs.answers.Answers.{Outcome, Sat, Unsat, Unknown, outcome_text}
-use Rattle.certify.specs.answers.AnswerForms.{HaveNames, NamesRise, IsInForm}
+use Rattle.certify.specs.answers.AnswerForms.{IsName, HaveNames, NamesRise, IsInForm}
 use Rattle.certify.specs.laws.Laws.{Prints}
-use Rattle.certify.specs.confirm.Matches.{Expected, Opens, Closes, bringing, showing, expected, InForm}
-use Rattle.certify.specs.confirm.CertificatePlaces.{CanMeet, Leads, Bars, IsPlain}
-use Rattle.certify.proofs.lemmas.confirm.LeftByCommand.{Rest, ask_on, ask_back, left_on, left_back, left_barred, met_shows, met_fails}
+use Rattle.certify.specs.confirm.Matches.{Expected, Fails, Opens, Closes, bringing, showing, expected, InForm}
+use Rattle.certify.specs.confirm.CertificatePlaces.{CanMeet, Leads, Bars, IsPlain, variable_in}
+use Rattle.certify.specs.confirm.CertificateSteps.{IsFed}
+use Rattle.certify.specs.confirm.Checking.{variable_of}
+use Rattle.certify.specs.confirm.Views.{View}
+use Rattle.certify.proofs.lemmas.confirm.CertificatePlaces.{when_cut}
+use Rattle.certify.proofs.lemmas.confirm.LeftByCommand.{Rest, ask_on, ask_back, left_on, left_back, left_barred, HaveVariables, met_shows, met_fails}
 use Rattle.certify.proofs.lemmas.laws.TellingTexts.{same_outcome}
 
 names_in_form : (line : List Literal) (count first : ℕ) → names_of line ≡ names_from count first → 1 ≤ first → first + count ≤ largest + 1 → HaveNames line
@@ -37,15 +41,50 @@ printed (Unsat core) h = all_low core h.0
     all_low (l ∷ ls) h = (h.0.1, all_low ls h.1)
 printed Unknown h = tt
 
+-- names that have a variable are within the limit
+got_within : (vs : List ℕ) (i v : ℕ) → slice_get vs i ≡ Some v → i < length vs
+got_within [] i v e = absurd (cc)
+got_within (x ∷ vs) zero v e = omega arith
+got_within (x ∷ vs) (suc i) v e = let h = got_within vs i v e in omega arith
+
+-- while unsat isn't recorded
+abbrev pub NamesWithin : List Step → Type 0
+NamesWithin earlier = (ready_after earlier).unsat ≡ false → (name v : ℕ) → variable_of earlier name ≡ Some v → IsName name
+
+pub names_within : (c : View) (j : Judge) (earlier : List Step) → IsFed c j earlier → NamesWithin earlier
+names_within c j earlier s u name v e = within name (sym (ap (λ f. f name) s.named) ∙ e)
+  where
+    within : (name : ℕ) → variable_in c.variables name ≡ Some v → IsName name
+    within zero e = absurd (cc)
+    within (suc i) e =
+        let h = got_within c.variables i v e in
+        let k = s.counted u in
+        let l = s.plain.limit in
+        (omega arith, omega arith)
+
+variables_named : (earlier : List Step) (core : List Literal) → ((name v : ℕ) → variable_of earlier name ≡ Some v → IsName name) → HaveVariables earlier core → HaveNames core
+variables_named earlier [] f h = tt
+variables_named earlier (l ∷ ls) f h = (f l.name h.0.0 h.0.1, variables_named earlier ls f h.1)
+
+core_form : (ask core : List Literal) (earlier : List Step) (certificate : List ℕ) (es : List Expected) → NamesWithin earlier → CanMeet earlier (Fails ask core ∷ es) certificate → HaveNames core
+core_form ask core earlier certificate es named m = by_unsat (ready_after earlier).unsat refl
+  where
+    none : core ≡ [] → HaveNames core
+    none e = subst HaveNames (sym e) tt
+
+    by_unsat : (b : Bool) → (ready_after earlier).unsat ≡ b → HaveNames core
+    by_unsat true u = none (when_cut earlier (Fails ask core ∷ es) certificate u m).0
+    by_unsat false u = elim (met_fails earlier ask core es certificate m) [ inl e ↦ none e | inr h ↦ variables_named earlier core (named u) h ]
+
 -- what is met for an outcome is an outcome that can be read
-shown_form : (j : Judge) (ask : List Literal) (o : Outcome) (earlier : List Step) (certificate : List ℕ) (es : List Expected) → IsPlain j → CanMeet earlier (showing j ask o ++ es) certificate → IsInForm o
-shown_form j ask (Sat line) earlier certificate es p m =
+shown_form : (j : Judge) (ask : List Literal) (o : Outcome) (earlier : List Step) (certificate : List ℕ) (es : List Expected) → IsPlain j → NamesWithin earlier → InForm o → CanMeet earlier (showing j ask o ++ es) certificate → IsInForm o
+shown_form j ask (Sat line) earlier certificate es p named form m =
     let b = p.begun in
     let l = p.limit in
     let names = met_shows earlier (map (λ n. n.name) j.in_use) ask line es certificate m ∙ p.used in
     (names_in_form line (j.first_unused - 1) 1 names (omega arith) (omega arith), subst NamesRise (sym names) (names_rise (j.first_unused - 1) 1))
-shown_form j ask (Unsat core) earlier certificate es p m = subst (λ c. IsInForm (Unsat c)) (sym (met_fails earlier ask core es certificate m)) (tt, tt)
-shown_form j ask Unknown earlier certificate es p m = (tt, tt)
+shown_form j ask (Unsat core) earlier certificate es p named form m = (core_form ask core earlier certificate es named m, form)
+shown_form j ask Unknown earlier certificate es p named form m = (tt, tt)
 
 form_of : (o : Outcome) → IsInForm o → InForm o
 form_of (Sat line) h = tt
@@ -59,7 +98,7 @@ pub record Answerable (j : Judge) (n : ℕ) (earlier : List Step) (ask : List Li
   pub answered : answers ≡ outcome_text outcome ++ tail
   pub in_form : InForm outcome
   pub readable : IsInForm outcome
-  pub alone : (stored_after earlier).unsat ≡ true → outcome ≡ Unsat []
+  pub alone : (ready_after earlier).unsat ≡ true → outcome ≡ Unsat []
   pub left : Rest j n earlier (showing j ask outcome ++ (Closes ∷ [])) cs ending tail certificate
 
 module _ (j : Judge) (n : ℕ) (ask : List Literal) (cs : List Command) (ending : Ending) (answers : List ℕ) (e : refusal_of j (Ask ask) ≡ None) where
@@ -79,16 +118,16 @@ module _ (j : Judge) (n : ℕ) (ask : List Literal) (cs : List Command) (ending 
         left_barred more next (n + 1) cs ending a.tail (b a.outcome) (left_on (Opens ask a.outcome ∷ more) next (n + 1) cs ending a.tail named a.left)
 
     module _ (third : List Step) (f : List ℕ)
-        (opened : (o : Outcome) → ((stored_after third).unsat ≡ true → o ≡ Unsat []) → Leads second d (Opens ask o ∷ []) third f)
-        (alone : (o : Outcome) (es : List Expected) → CanMeet second (Opens ask o ∷ es) d → (stored_after third).unsat ≡ true → o ≡ Unsat [])
-        (plain : IsPlain (accepted (Ask ask) j)) where
+        (opened : (o : Outcome) → ((ready_after third).unsat ≡ true → o ≡ Unsat []) → Leads second d (Opens ask o ∷ []) third f)
+        (alone : (o : Outcome) (es : List Expected) → CanMeet second (Opens ask o ∷ es) d → (ready_after third).unsat ≡ true → o ≡ Unsat [])
+        (plain : IsPlain (accepted (Ask ask) j)) (named_within : NamesWithin third) where
       pub answerable : Rest j n first [] (Ask ask ∷ cs) ending answers c → Answerable (accepted (Ask ask) j) (n + 1) third ask cs ending answers f
       answerable l =
           let a = ask_on j n first ask cs ending answers c e l in
           let next = accepted (Ask ask) j in
           let more = showing next ask a.outcome ++ (Closes ∷ []) in
           let here = left_on (Opens ask a.outcome ∷ more) next (n + 1) cs ending a.tail named a.left in
-          let allowed : (stored_after third).unsat ≡ true → a.outcome ≡ Unsat [] = λ u. alone a.outcome (more ++ expected next (accepted_of next cs) here.outcomes) here.certified u in
+          let allowed : (ready_after third).unsat ≡ true → a.outcome ≡ Unsat [] = λ u. alone a.outcome (more ++ expected next (accepted_of next cs) here.outcomes) here.certified u in
           let there = left_on more next (n + 1) cs ending a.tail (opened a.outcome allowed) here in
           let behind = expected next (accepted_of next cs) there.outcomes in
           record {
@@ -96,7 +135,7 @@ module _ (j : Judge) (n : ℕ) (ask : List Literal) (cs : List Command) (ending 
             tail = a.tail;
             answered = a.answered;
             in_form = a.in_form;
-            readable = shown_form next ask a.outcome third f (Closes ∷ behind) plain (subst (λ es. CanMeet third es f) (append_assoc (showing next ask a.outcome) (Closes ∷ []) behind) there.certified);
+            readable = shown_form next ask a.outcome third f (Closes ∷ behind) plain named_within a.in_form (subst (λ es. CanMeet third es f) (append_assoc (showing next ask a.outcome) (Closes ∷ []) behind) there.certified);
             alone = allowed;
             left = there;
           }
@@ -110,7 +149,7 @@ module _ (j : Judge) (n : ℕ) (ask : List Literal) (cs : List Command) (ending 
           subst (λ t. Rest (accepted (Ask ask) j) (n + 1) third (showing (accepted (Ask ask) j) ask o ++ (Closes ∷ [])) cs ending t f) same.1
           (subst (λ v. Rest (accepted (Ask ask) j) (n + 1) third (showing (accepted (Ask ask) j) ask v ++ (Closes ∷ [])) cs ending a.tail f) same.0 a.left)
 
-      pub answered_back : (o : Outcome) (tail : List ℕ) → IsInForm o → answers ≡ outcome_text o ++ tail → ((stored_after third).unsat ≡ true → o ≡ Unsat [])
+      pub answered_back : (o : Outcome) (tail : List ℕ) → IsInForm o → answers ≡ outcome_text o ++ tail → ((ready_after third).unsat ≡ true → o ≡ Unsat [])
           → Rest (accepted (Ask ask) j) (n + 1) third (showing (accepted (Ask ask) j) ask o ++ (Closes ∷ [])) cs ending tail f → Rest j n first [] (Ask ask ∷ cs) ending answers c
       answered_back o tail form answered allowed h =
           let next = accepted (Ask ask) j in
@@ -124,5 +163,5 @@ module _ (j : Judge) (n : ℕ) (ask : List Literal) (cs : List Command) (ending 
           })
 
       -- no outcome can be read
-      pub ask_unread : ((o : Outcome) (tail : List ℕ) → IsInForm o → ((stored_after third).unsat ≡ true → o ≡ Unsat []) → answers ≡ outcome_text o ++ tail → ⊥) → Rest j n first [] (Ask ask ∷ cs) ending answers c → ⊥
+      pub ask_unread : ((o : Outcome) (tail : List ℕ) → IsInForm o → ((ready_after third).unsat ≡ true → o ≡ Unsat []) → answers ≡ outcome_text o ++ tail → ⊥) → Rest j n first [] (Ask ask ∷ cs) ending answers c → ⊥
       ask_unread none l = let a = answerable l in none a.outcome a.tail a.readable a.alone a.answered

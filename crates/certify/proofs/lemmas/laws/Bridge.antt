@@ -7,7 +7,7 @@ use Rattle.sat_base.specs.values.Clauses.{Valuation, literal_true, clause_true, 
 use Rattle.sat_base.specs.script.Script.{Literal, Among}
 use Rattle.sat_base.specs.script.Judge.{Judge, Named, identity_in, identity_of, or_zero, over, with_name, without_name, with_clause, start}
 use Rattle.sat_base.specs.steps.Steps.{Step, UserVarName, AddClause, DeleteVar}
-use Rattle.certify.specs.checker.Fold.{Holds}
+use Rattle.sat_checker.specs.Fold.{Holds}
 use Rattle.certify.specs.confirm.Checking.{is_variable, variable_of, Checking, IsSound}
 use Rattle.certify.specs.confirm.Matches.{Spells, EachSpelt, SameSet}
 use Rattle.certify.specs.laws.Bridge.{Live, Agrees, Apart, IsBridge}

@@ -7,7 +7,7 @@ use Rattle.certify.specs.answers.Answers.{Outcome, Sat, Unsat}
 use Rattle.certify.specs.confirm.Checking.{Checking, is_ordered}
 use Rattle.certify.specs.confirm.Matches.{Expected, NewName, Adds, Opens, Shows, Closes, Finish, Fits, new_name, adds, opens, shows, closes, finish}
 use Rattle.certify.specs.run.Certifies.{Certifies, IsKnown, MayCome, is_derived, complete, left_out, other, ordered, asked, answered}
-use Rattle.certify.specs.confirm.ListChecking.{the_checking}
+use Rattle.certify.specs.confirm.ProofChecking.{the_checking}
 use Rattle.certify.specs.laws.Rows.{BehindEndUncertified, ChainCertified, ClauseAndAskCertified, ClauseUncertified, CoreUncertified, EarlyUncertified, EndAloneUncertified, KnownWithoutRounds, LeftOutCertified, ModelUncertified, SearchedEarlyUncertified, UnknownUncertified, neg, pos}
 use Rattle.certify.proofs.lemmas.confirm.FittingSteps.{fits_new_name, fits_adds, fits_shows}
 

@@ -9,16 +9,16 @@ use Rattle.sat_base.specs.steps.Formats.{Items}
 use Rattle.sat_base.specs.steps.Numbers.{IsNumber, IsBelow}
 use Rattle.sat_base.specs.steps.Steps.{Step, UserVarName, AddClause, Model, Assumptions, End}
 use Rattle.sat_base.specs.steps.StepText.{AreLiterals, SpellsStep, SpellsSteps}
-use Rattle.certify.specs.checker.Stored.{is_known}
-use Rattle.certify.specs.checker.Accepts.{stored_after}
+use Rattle.sat_checker.specs.Stored.{Sample, Variable, unknown, is_known}
+use Rattle.sat_checker.specs.Accepts.{MayGetName, ready_after}
 use Rattle.certify.specs.answers.Answers.{Outcome, Sat, Unsat, Unknown, answers_text, outcome_text}
 use Rattle.certify.specs.confirm.Checking.{Checking}
 use Rattle.certify.specs.confirm.Matches.{Fits, NewName, met, cut, ordered, new_name, adds, opens, shows, closes, finish, OneEach, StepsMatch}
-use Rattle.certify.specs.confirm.ListChecking.{the_checking}
+use Rattle.certify.specs.confirm.ProofChecking.{the_checking}
 use Rattle.certify.specs.laws.Rows.{AskAloneText, clause_and_ask, clause_and_ask_text, ClauseAndAskText, ClauseAndAskExpected, ClauseAndAskRight, ClauseAndAskSteps, ClauseAndAskMatches, TwoUnitsRight, TwoUnitsSteps, TwoUnitsMatches, EmptyMatches, HiddenAndBackState, HiddenAndBackExpected, HiddenAtOnceState, WitnessRefusedText, LeftmostRefuses, WitnessRefusesAsk, MalformedText, EmptyText, NameOnOldVariable, EndAlone, NoAnswers, AnswersTwice, pos, neg}
 use Rattle.certify.proofs.lemmas.confirm.NextStep.{taken, skipped, fits_new}
 use Rattle.certify.proofs.lemmas.laws.ExpectedOutcomes.{matching_right}
-use Rattle.certify.proofs.lemmas.laws.ListCheckerIsSound.{the_checking_sound}
+use Rattle.certify.proofs.lemmas.laws.CheckerIsSound.{the_checking_sound}
 use Rattle.certify.proofs.lemmas.laws.TellingTexts.{same_outcome}
 
 pub ask_alone_text : AskAloneText
@@ -46,12 +46,26 @@ clause_and_ask_right = (
   tt,
 )
 
+-- names that may be put on variables that have none
+some_differs : (m n : ℕ) → Some m ≡ Some n → m ≡ n
+some_differs m n e = cc
+
+first_name : MayGetName (ready_after []) 0 0
+first_name = record { free = λ w e. absurd (cc); nameless = refl; not_hidden = λ e. absurd (cc) }
+
+second_name : MayGetName (ready_after (UserVarName 0 (Some 0) ∷ [])) 1 1
+second_name = record { free = λ w e. taken_by w (eqb w 0) e; nameless = refl; not_hidden = λ e. absurd (cc) }
+  where
+    taken_by : (w : ℕ) (b : Bool) → (cond b (record { known = true; mode = Sample; name = Some 0 }) unknown).name ≡ Some 1 → ⊥
+    taken_by w true e = let d = some_differs 0 1 e in omega arith
+    taken_by w false e = cc
+
 pub clause_and_ask_steps : ClauseAndAskSteps
 clause_and_ask_steps = record {
   one_each = tt;
   in_form = (tt, tt);
-  meets = ordered refl (new_name refl refl) (refl, refl) (ordered refl (new_name refl refl) (refl, refl)
-      (ordered refl (adds (((0, record { variable = 0; named = refl; is = refl }, inl refl), ((2, record { variable = 1; named = refl; is = refl }, inr (inl refl)), tt)), ((pos 1, record { variable = 0; named = refl; is = refl }, inl refl), ((pos 2, record { variable = 1; named = refl; is = refl }, inr (inl refl)), tt)))) tt
+  meets = ordered refl (new_name refl refl) first_name (ordered refl (new_name refl refl) second_name
+      (ordered refl (adds (((0, record { variable = 0; named = refl; is = refl }, inl refl), ((2, record { variable = 1; named = refl; is = refl }, inr (inl refl)), tt)), ((pos 1, record { variable = 0; named = refl; is = refl }, inl refl), ((pos 2, record { variable = 1; named = refl; is = refl }, inr (inl refl)), tt)))) (inr (refl, (refl, tt)))
       (ordered refl (opens (tt, tt)) tt
       (ordered refl (shows {line = neg 1 ∷ pos 2 ∷ []} refl ((1, record { variable = 0; named = refl; is = refl }, inl refl), ((2, record { variable = 1; named = refl; is = refl }, inr (inl refl)), tt)) tt) (record { consistent = refl; apart = (refl, (refl, tt)); units = tt; clauses = (inr refl, tt) })
       (ordered refl closes tt (ordered refl finish tt (met refl)))))));
@@ -124,9 +138,9 @@ pub two_units_steps : TwoUnitsSteps
 two_units_steps = record {
   one_each = tt;
   in_form = (tt, tt);
-  meets = ordered refl (new_name refl refl) (refl, refl)
-      (ordered refl (adds (((0, record { variable = 0; named = refl; is = refl }, inl refl), tt), ((pos 1, record { variable = 0; named = refl; is = refl }, inl refl), tt))) tt
-      (ordered refl (adds (((1, record { variable = 0; named = refl; is = refl }, inl refl), tt), ((neg 1, record { variable = 0; named = refl; is = refl }, inl refl), tt))) tt
+  meets = ordered refl (new_name refl refl) first_name
+      (ordered refl (adds (((0, record { variable = 0; named = refl; is = refl }, inl refl), tt), ((pos 1, record { variable = 0; named = refl; is = refl }, inl refl), tt))) (inr (refl, tt))
+      (ordered refl (adds (((1, record { variable = 0; named = refl; is = refl }, inl refl), tt), ((neg 1, record { variable = 0; named = refl; is = refl }, inl refl), tt))) (inr (refl, tt))
       (cut refl (refl, (refl, (tt, (tt, tt)))))));
 }
 
@@ -180,7 +194,7 @@ malformed_text = refl
 pub name_on_old_variable : NameOnOldVariable
 name_on_old_variable accepts unsat [] m = m.one_each
 name_on_old_variable accepts unsat (o ∷ os) m =
-    let k : Checking = record { Accepts = λ earlier step. accepts earlier step ≡ true; unsat = unsat; knows = λ earlier v. is_known v (stored_after earlier) } in
+    let k : Checking = record { Accepts = λ earlier step. accepts earlier step ≡ true; unsat = unsat; knows = λ earlier v. is_known v (ready_after earlier) } in
     let one = taken k refl m.meets in
     let two = taken k refl one.2 in
     let three = taken k refl two.2 in

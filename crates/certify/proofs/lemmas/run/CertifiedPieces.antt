@@ -5,16 +5,20 @@ use Rattle.std.specs.List.Sorted.{IsStrictlyIncreasing}
 use Rattle.std.proofs.lemmas.Bool.Decides.{nat_tests}
 use Rattle.std.proofs.lemmas.List.{map-append}
 use Rattle.std.proofs.lemmas.List.Elements.{recursion_from_All}
-use Rattle.std.specs.List.{AllByRecursion, list_any}
+use Rattle.std.specs.List.{AllByRecursion}
 use Rattle.sat_base.specs.values.Literals.{coded, variable}
 use Rattle.sat_base.specs.values.Clauses.{Valuation, clause_true}
 use Rattle.sat_base.specs.script.Script.{Literal, Among, names_of}
 use Rattle.sat_base.specs.script.Judge.{Judge, names_from, new_names, bring_in, identity_of}
 use Rattle.sat_base.specs.steps.Steps.{Step, UserVarName, AddClause, AtClause, Model, Assumptions}
-use Rattle.certify.specs.checker.Stored.{Stored, with_stored, with_literals_known, is_known}
-use Rattle.certify.specs.checker.Accepts.{stored_after}
+use Rattle.sat_checker.specs.LiteralSets.{is_among}
+use Rattle.sat_checker.specs.Stored.{Stored, is_known}
+use Rattle.sat_checker.specs.Storing.{with_stored, with_input, with_literals_known}
+use Rattle.sat_checker.specs.Accepts.{effect, ready_after}
+use Rattle.sat_checker.proofs.lemmas.meaning.Names.{stored_same}
+use Rattle.certify.proofs.lemmas.confirm.Settled.{settled_known}
 use Rattle.certify.specs.confirm.Checking.{variable_of}
-use Rattle.certify.specs.confirm.ListChecking.{the_checking}
+use Rattle.certify.specs.confirm.ProofChecking.{the_checking}
 use Rattle.certify.specs.answers.AnswerForms.{named_literal, named_literals}
 use Rattle.certify.specs.answers.Answers.{Outcome, Unsat}
 use Rattle.certify.specs.answers.RightAnswers.{IsRight}
@@ -28,14 +32,13 @@ use Rattle.certify.specs.declared.summary.Answer.{Answer}
 use Rattle.certify.specs.declared.summary.Answer.TheVariants as kind
 use Rattle.certify.specs.declared.summary.AskReport.{AskReport}
 use Rattle.certify.specs.run.Running.{HasFirstNames, Told, WritesClause, unwritten, written, naming, shown_by, reported_outcome, raised, are_within, code_of, IsTrueOf, SaysKnown, Searched}
-use Rattle.certify.proofs.lemmas.checker.SortedLiterals.{among_from_contains, contains_from_among}
-use Rattle.certify.proofs.lemmas.run.MirroredRecords.{mirrors_start, mirrors_same, mirrors_added, mirrors_derived}
+use Rattle.sat_checker.proofs.lemmas.sets.Canonical.{among_from_contains, contains_from_among}
+use Rattle.certify.proofs.lemmas.run.MirroredRecords.{mirrors_start, mirrors_same, mirrors_added, mirrors_derived, mirrors_named, mirrors_model, mirrors_assumed}
 use Rattle.certify.proofs.lemmas.run.NamesOfLiterals.{within_first, raised_least, codes_bounded}
 use Rattle.certify.proofs.lemmas.confirm.PlainJudge.{from_split}
 use Rattle.certify.proofs.lemmas.run.FirstNames.{AreNames, identity_plain, bring_plain}
 use Rattle.certify.proofs.lemmas.search.SolverCalls.{true_with, normal_bounded}
 use Rattle.certify.proofs.lemmas.confirm.LiteralSets.{among_is, is_from_among}
-use Rattle.certify.proofs.lemmas.laws.ListCheckerIsSound.{stored_knows}
 use Rattle.certify.proofs.lemmas.laws.LiteralValues.{all_at, all_from, among_mapped}
 
 -- Behind the earlier steps these are what is expected, of which the asks took so many rounds; then so many names are in use, and this
@@ -68,13 +71,19 @@ brings_nothing {earlier} t = record { later = earlier; told = t; leads = λ more
 pub told_start : Told [] 0 new_solver (recording new_solver)
 told_start = record { named = λ name p q. absurd (omega arith); unknown = λ v q. refl; holds = λ a x. (refl, tt); mirrors = mirrors_start }
 
+-- another variable gets a name
+none_named : (n v : ℕ) (earlier : List Step) → eqb v n ≡ false → is_known v (ready_after earlier) ≡ false → is_known v (ready_after (UserVarName n (Some n) ∷ earlier)) ≡ false
+none_named n v earlier e h =
+    let f = ready_after earlier in
+    settled_known (effect (UserVarName n (Some n)) f) v ∙ ap (λ b. (cond b (record (f.variables n) { known = true; name = Some n }) (f.variables v)).known) e ∙ h
+
 -- the next name
 named_next : (n : ℕ) (earlier : List Step) (s : SolverState) (r : Recording) → Told earlier n s r → Told (UserVarName n (Some n) ∷ earlier) (n + 1) s r
 named_next n earlier s r t = record {
   named = λ name p q. at name p q (eqb (n + 1) name) refl;
-  unknown = λ v q. let e : eqb n v ≡ false = ne_eqb n v (λ x. omega arith) in rw e (t.unknown v (omega arith));
+  unknown = λ v q. none_named n v earlier (ne_eqb v n (λ x. omega arith)) (t.unknown v (omega arith));
   holds = t.holds;
-  mirrors = record { unsat = t.mirrors.unsat; units = t.mirrors.units };
+  mirrors = mirrors_named n n earlier r t.mirrors;
 }
   where
     at : (name : ℕ) → 0 < name → name ≤ n + 1 → (b : Bool) → eqb (n + 1) name ≡ b → cond b (Some n) (variable_of earlier name) ≡ Some (name - 1)
@@ -128,21 +137,24 @@ AreLow n = AllByRecursion (λ l. variable l < n)
 low_from : (n : ℕ) (c : List ℕ) → IsBounded n c → AreLow n c
 low_from n c h = recursion_from_All (λ l. variable l < n) c h
 
-none_known : (n v : ℕ) (c known : List ℕ) → n ≤ v → AreLow n c → list_any (λ w. eqb w v) known ≡ false → list_any (λ w. eqb w v) (map variable c ++ known) ≡ false
-none_known n v [] known q b h = h
-none_known n v (l ∷ ls) known q b h = let low = b.0 in let e : eqb (variable l) v ≡ false = ne_eqb (variable l) v (λ x. omega arith) in rw e (none_known n v ls known q b.1 h)
+none_of : (n v : ℕ) (c : List ℕ) → n ≤ v → AreLow n c → is_among (map variable c) v ≡ false
+none_of n v [] q b = refl
+none_of n v (l ∷ ls) q b = let low = b.0 in let e : eqb (variable l) v ≡ false = ne_eqb (variable l) v (λ x. omega arith) in rw e (none_of n v ls q b.1)
+
+none_known : (n v : ℕ) (c : List ℕ) (f : Stored) → n ≤ v → AreLow n c → is_known v f ≡ false → is_known v (with_literals_known c f) ≡ false
+none_known n v c f q b h = ap (λ x. (cond x (record (f.variables v) { known = true }) (f.variables v)).known) (none_of n v c q b) ∙ h
 
 none_stored : (n v : ℕ) (c : List ℕ) (f : Stored) → n ≤ v → AreLow n c → is_known v f ≡ false → is_known v (with_stored false c (with_literals_known c f)) ≡ false
-none_stored n v c f q b h = ap (list_any (λ w. eqb w v)) (stored_knows false c (with_literals_known c f)) ∙ none_known n v c f.known q b h
+none_stored n v c f q b h = ap (λ k. (k v).known) (stored_same false c (with_literals_known c f)).variables ∙ none_known n v c f q b h
 
-none_added : (n v : ℕ) (c : List ℕ) (f : Stored) (b : Bool) → n ≤ v → AreLow n c → is_known v f ≡ false → is_known v (cond b f (with_stored false c (with_literals_known c f))) ≡ false
+none_added : (n v : ℕ) (c : List ℕ) (f : Stored) (b : Bool) → n ≤ v → AreLow n c → is_known v f ≡ false → is_known v (cond b f (with_input c (with_literals_known c f))) ≡ false
 none_added n v c f true q low h = h
 none_added n v c f false q low h = none_stored n v c f q low h
 
 told_added : (n : ℕ) (c : List ℕ) (earlier : List Step) (s t : SolverState) (q r : Recording) → AreLow n c → IsStrictlyIncreasing c → RecordsClause c q r → ((a : Valuation) → Allows s a → clause_true a c ≡ true → Allows t a) → Told earlier n s q → Told (AddClause c ∷ earlier) n t r
 told_added n c earlier s t q r low increasing kept onwards h = record {
   named = h.named;
-  unknown = λ v q. none_added n v c (stored_after earlier) (stored_after earlier).unsat q low (h.unknown v q);
+  unknown = λ v q. settled_known (effect (AddClause c) (ready_after earlier)) v ∙ none_added n v c (ready_after earlier) (ready_after earlier).unsat q low (h.unknown v q);
   holds = λ a x. onwards a (h.holds a x.0) x.1;
   mirrors = mirrors_added c earlier q r increasing kept h.mirrors;
 }
@@ -150,7 +162,7 @@ told_added n c earlier s t q r low increasing kept onwards h = record {
 told_derived : (n : ℕ) (c hashes : List ℕ) (earlier : List Step) (s : SolverState) (q r : Recording) → AreLow n c → IsStrictlyIncreasing c → RecordsClause c q r → Told earlier n s q → Told (AtClause false c hashes ∷ earlier) n s r
 told_derived n c hashes earlier s q r low increasing kept h = record {
   named = h.named;
-  unknown = λ v q. none_stored n v c (stored_after earlier) q low (h.unknown v q);
+  unknown = λ v q. settled_known (effect (AtClause false c hashes) (ready_after earlier)) v ∙ none_stored n v c (ready_after earlier) q low (h.unknown v q);
   holds = h.holds;
   mirrors = mirrors_derived c hashes earlier q r increasing kept h.mirrors;
 }
@@ -158,13 +170,18 @@ told_derived n c hashes earlier s q r low increasing kept h = record {
 told_model : (n : ℕ) (c : List ℕ) (earlier : List Step) (s : SolverState) (r : Recording) → AreLow n c → Told earlier n s r → Told (Model c ∷ earlier) n s r
 told_model n c earlier s r low h = record {
   named = h.named;
-  unknown = λ v q. none_known n v c (stored_after earlier).known q low (h.unknown v q);
+  unknown = λ v q. settled_known (effect (Model c) (ready_after earlier)) v ∙ none_known n v c (ready_after earlier) q low (h.unknown v q);
   holds = h.holds;
-  mirrors = record { unsat = h.mirrors.unsat; units = h.mirrors.units };
+  mirrors = mirrors_model c earlier r h.mirrors;
 }
 
 told_assumed : (n : ℕ) (earlier : List Step) (s : SolverState) (r : Recording) → Told earlier n s r → Told (Assumptions [] ∷ earlier) n s r
-told_assumed n earlier s r h = record { named = h.named; unknown = h.unknown; holds = h.holds; mirrors = record { unsat = h.mirrors.unsat; units = h.mirrors.units } }
+told_assumed n earlier s r h = record {
+  named = h.named;
+  unknown = λ v q. settled_known (effect (Assumptions []) (ready_after earlier)) v ∙ h.unknown v q;
+  holds = h.holds;
+  mirrors = mirrors_assumed [] earlier r h.mirrors;
+}
 
 -- literals are read through the steps
 spelt : (n : ℕ) (earlier : List Step) (s : SolverState) (r : Recording) → Told earlier n s r → (l : Literal) → 0 < l.name → l.name ≤ n → Spells (variable_of earlier) l (code_of l)

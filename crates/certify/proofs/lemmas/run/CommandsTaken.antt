@@ -23,7 +23,7 @@ use Rattle.certify.specs.script.CappedNames.{CappedScript}
 use Rattle.certify.specs.run.Running.{HasFirstNames, Reached, Refused, Added, Asked, Took, TookAll, Told, IsSimple, IsTrueOf, WritesClause, WroteClauseOf, AnsweredAsk, reported_text, are_within, code_of, naming, reported_outcome, raised, steps_of}
 use Rattle.certify.specs.run.Outputs.{Both, Tells, WritesSteps}
 use Rattle.sat_base.specs.steps.Steps.{Step}
-use Rattle.certify.specs.confirm.ListChecking.{the_checking}
+use Rattle.certify.specs.confirm.ProofChecking.{the_checking}
 use Rattle.certify.specs.confirm.Matches.{Adds, Opens, Closes, bringing, expected, showing}
 use Rattle.certify.specs.run.Certifies.{Certifies}
 use Rattle.certify.specs.search.SearchEnds.{AreDerived}

@@ -1,6 +1,6 @@
 use Rattle.std.proofs.Common.{take, true, ◌≡◌}
 use Rattle.std.specs.List.{AllByRecursion}
-use Rattle.certify.specs.checker.Propagation.{is_among}
+use Rattle.sat_checker.specs.LiteralSets.{is_among}
 use Rattle.certify.proofs.confirm.sets.all_marked.Given as goal
 
 abbrev pub invariant-loop-lit : goal.invariant-loop-lit

@@ -2,8 +2,8 @@ use Rattle.std.proofs.Common.{Ok, Err, subst}
 use Rattle.std.proofs.lemmas.Result.{err_from_is_err_and}
 use Rattle.sat_base.specs.steps.StepViews.{step_of}
 use Rattle.certify.specs.confirm.Dues.{Compares, due_of}
-use Rattle.certify.specs.confirm.Stepping.{AwaitsNext}
-use Rattle.certify.specs.confirm.Streams.{Confirms, Says, stream}
+use Rattle.certify.specs.confirm.Stepping.{AwaitsNext, is_fed}
+use Rattle.certify.specs.confirm.Streams.{Reading, Says, stream}
 use Rattle.certify.proofs.lemmas.confirm.DueSteps.{due_nameless, expects_stop, expects_cut, expects_unfit, expects_fed}
 use Rattle.certify.proofs.confirm.certificate.Certificate.expect.Goals as goal
 
@@ -18,7 +18,7 @@ returns-in-Cut-clause-confirms g c =
     let S = g.R.CountedRead.seen in
     let a = stream S c.args.steps.now c.args.self.now in
     let b = stream S c.await_ordered.new.steps c.await_ordered.new.self in
-    expects_cut (due_of c.args.expected) a b c.requires.open_yet c.excuse.result (subst (λ x. Confirms (Ok x) a b AwaitsNext) c.in-Cut.is c.in_ok-await_ordered.ensures.confirms) c.excuse.ensures
+    expects_cut (due_of c.args.expected) a b c.requires.open_yet c.excuse.result (subst (λ x. Reading is_fed (Ok x) a b AwaitsNext) c.in-Cut.is c.in_ok-await_ordered.ensures.confirms) c.excuse.ensures
 
 pub returns-in_err-fits-clause-confirms : goal.returns-in_err-fits-clause-confirms
 returns-in_err-fits-clause-confirms g c =
@@ -26,7 +26,7 @@ returns-in_err-fits-clause-confirms g c =
     let a = stream S c.args.steps.now c.args.self.now in
     let b = stream S c.await_ordered.new.steps c.await_ordered.new.self in
     let p = err_from_is_err_and c.from_residual-in_err-fits.result c.from_residual-in_err-fits.ensures.1 in
-    rw (p.1, p.2) (expects_unfit (due_of c.args.expected) a b c.requires.open_yet (step_of c.step-step.result) c.step-step.ensures (subst (λ x. Confirms (Ok x) a b AwaitsNext) c.in-Step.is c.in_ok-await_ordered.ensures.confirms) c.in_err-fits.field-0.0
+    rw (p.1, p.2) (expects_unfit (due_of c.args.expected) a b c.requires.open_yet (step_of c.step-step.result) c.step-step.ensures (subst (λ x. Reading is_fed (Ok x) a b AwaitsNext) c.in-Step.is c.in_ok-await_ordered.ensures.confirms) c.in_err-fits.field-0.0
     (subst (λ vs. Says {A = Unit {0}} (Err c.in_err-fits.field-0.0) (Compares (due_of c.args.expected) vs (step_of c.step-step.result))) c.deref.ensures.value c.in_err-fits.ensures))
 
 pub returns-clause-confirms : goal.returns-clause-confirms
@@ -34,5 +34,5 @@ returns-clause-confirms g c =
     let S = g.R.CountedRead.seen in
     let a = stream S c.args.steps.now c.args.self.now in
     let b = stream S c.await_ordered.new.steps c.await_ordered.new.self in
-    expects_fed (due_of c.args.expected) a b c.requires.open_yet (step_of c.step-step.result) c.step-step.ensures (subst (λ x. Confirms (Ok x) a b AwaitsNext) c.in-Step.is c.in_ok-await_ordered.ensures.confirms) (due_nameless c.args.expected) c.feed.new.checker c.feed.result
-    (subst (λ vs. Compares (due_of c.args.expected) vs (step_of c.step-step.result) (Ok tt)) c.deref.ensures.value c.in_ok-fits.ensures) c.feed.ensures
+    expects_fed (due_of c.args.expected) a b c.requires.open_yet (step_of c.step-step.result) c.step-step.ensures (subst (λ x. Reading is_fed (Ok x) a b AwaitsNext) c.in-Step.is c.in_ok-await_ordered.ensures.confirms) (due_nameless c.args.expected) c.feed.new.checker c.feed.result
+    (subst (λ vs. Compares (due_of c.args.expected) vs (step_of c.step-step.result) (Ok tt)) c.deref.ensures.value c.in_ok-fits.ensures) c.feed.ensures.feeds c.feed.ensures.looks

@@ -1,7 +1,0 @@
-use Rattle.std.proofs.Common.{◌≡◌, ◌-◌, drop}
-use Rattle.certify.specs.checker.Propagation.{is_tautology}
-use Rattle.certify.proofs.checker.sorted.has_both_signs.Given as goal
-
--- the literals that are left decide
-abbrev pub invariant-loop-place : goal.invariant-loop-place
-invariant-loop-place l = is_tautology l.literals ≡ is_tautology (drop (l.place - 1) l.literals)

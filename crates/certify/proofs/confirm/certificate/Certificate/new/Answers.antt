@@ -1,0 +1,5 @@
+use Rattle.certify.proofs.lemmas.confirm.CertificateSteps.{begins_fed}
+use Rattle.certify.proofs.confirm.certificate.Certificate.new.Goals as goal
+
+pub returns-clause-stands : goal.returns-clause-stands
+returns-clause-stands c = λ rest step. begins_fed c.new-checker.result c.new.result.items rest step c.new.ensures.items c.new-checker.ensures.stands c.new-checker.ensures.goes_on

@@ -1,0 +1,8 @@
+use Rattle.certify.proofs.lemmas.confirm.Feeding.{settles, unsettled}
+use Rattle.certify.proofs.confirm.certificate.settle.Goals as goal
+
+pub returns-in-Ok : goal.returns-in-Ok
+returns-in-Ok c = settles c.args.checker.now c.self_check_delayed_steps.new.self c.in-Ok.ensures
+
+pub returns-in-Err : goal.returns-in-Err
+returns-in-Err c = rw c.refused.ensures (unsettled c.in-Err.error c.args.checker.now c.self_check_delayed_steps.new.self c.in-Err.ensures)

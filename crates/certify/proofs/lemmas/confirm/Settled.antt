@@ -1,0 +1,22 @@
+-- What a pending unit conflict that is settled leaves as it was.
+use Rattle.std.proofs.Common.{ℕ, ◌≡◌, Bool, Option, Some, None, refl, ap}
+use Rattle.sat_checker.specs.Stored.{Stored, is_unit, is_known}
+use Rattle.sat_checker.specs.Storing.{settled, settled_by}
+use Rattle.sat_checker.proofs.lemmas.meaning.Names.{settled_same}
+
+pub settled_unsat : (f : Stored) → (settled f).unsat ≡ f.unsat
+settled_unsat f = go f.conflict
+  where
+    go : (x : Option (ℕ × ℕ)) → (settled_by x f).unsat ≡ f.unsat
+    go None = refl
+    go (Some units) = refl
+
+pub settled_unit : (f : Stored) (l : ℕ) → is_unit (settled f) l ≡ is_unit f l
+settled_unit f l = go f.conflict
+  where
+    go : (x : Option (ℕ × ℕ)) → is_unit (settled_by x f) l ≡ is_unit f l
+    go None = refl
+    go (Some units) = refl
+
+pub settled_known : (f : Stored) (v : ℕ) → is_known v (settled f) ≡ is_known v f
+settled_known f v = ap (λ k. (k v).known) (settled_same f).variables

@@ -1,0 +1,134 @@
+-- How a checker that is fed the steps of a certificate goes from one view of it to the next.
+use Rattle.std.proofs.Common.{ℕ, ◌+◌, ◌≤◌, ◌≡◌, Bool, true, false, List, [], ◌∷◌, ◌++◌, Ok, Err, refl, sym, subst, arith}
+use Rattle.sat_base.specs.steps.Steps.{Step}
+use Rattle.sat_base.specs.steps.StepText.{SpellsStep}
+use Rattle.sat_checker.specs.Accepts.{Accepts, ready_after}
+use Rattle.sat_checker.specs.CheckerView.{looks_of, LooksAtMost}
+use Rattle.sat_checker.specs.Looks.{most_looks}
+use Rattle.sat_checker.specs.Spent.{IsSpent}
+use Rattle.sat_checker.specs.declared.checker.Checker.{Checker}
+use Rattle.certify.specs.confirm.Feeding.{HasTaken, Feeds, Settles}
+use Rattle.certify.specs.confirm.Views.{View}
+use Rattle.certify.specs.confirm.Walks.{LooksReach, same_looks, looks_tried, looks_taken, Spends, spent_settling, spent_trying, spent_taking, Walked, Walks, WalksBefore, walks_if, Tries, RunsOut}
+use Rattle.certify.specs.declared.confirm.stop.Stop.TheVariants as stop
+
+pub walks_none : (u : View) → Walks u u
+walks_none u earlier t = record { later = earlier; taken = t; reaches = λ n r. r; spends = λ s. s }
+
+-- ONE BEHIND ANOTHER
+
+pub walks_on : (fed : Bool) (u v w : View) → Walks u v → walks_if fed v w → walks_if fed u w
+walks_on true u v w f g = λ earlier t.
+    let x = f earlier t in
+    let y = g x.later x.taken in
+    record { later = y.later; taken = y.taken; reaches = λ n r. x.reaches n (y.reaches n r); spends = λ s. x.spends (y.spends s) }
+walks_on false u v w f g = (
+  g.0,
+  g.1,
+  (λ earlier t.
+      let x = f earlier t in
+      let y = g.2 x.later x.taken in
+      record { later = y.later; taken = y.taken; reaches = λ n r. x.reaches n (y.reaches n r); spends = λ s. x.spends (y.spends s) }),
+)
+
+pub tries_on : (u v w : View) → Walks u v → Tries v w → Tries u w
+tries_on u v w f g earlier t = let x = f earlier t in x.reaches (looks_of w.checker) (g x.later x.taken)
+
+pub runs_on : (u v w : View) → Walks u v → RunsOut v w → RunsOut u w
+runs_on u v w f g earlier t = let x = f earlier t in x.spends (g x.later x.taken)
+
+-- WHERE NOTHING MORE IS FED
+
+pub tries_if : (fed : Bool) (u v : View) → walks_if fed u v → Tries u v
+tries_if true u v f = λ earlier t. let x = f earlier t in x.reaches (looks_of v.checker) same_looks
+tries_if false u v f = λ earlier t. let x = f.2 earlier t in x.reaches (looks_of v.checker) same_looks
+
+pub tries_none : (u v : View) → v.checker ≡ u.checker → Tries u v
+tries_none u v e earlier t = subst (λ (c : Checker). LooksReach earlier u.rest (looks_of u.checker) (looks_of c)) (sym e) same_looks
+
+-- THE NEXT STEP
+
+pub walks_read : (u v : View) (text : List ℕ) → SpellsStep v.step text → u.rest ≡ text ++ v.rest → v.checker ≡ u.checker → WalksBefore u v
+walks_read u v text spelt front same = (
+  text,
+  spelt,
+  (λ earlier t. subst (λ (c : Checker). Walked u.checker u.rest c (text ++ v.rest) earlier) (sym same) (record {
+    later = earlier;
+    taken = t;
+    reaches = λ n r. subst (λ bytes. LooksReach earlier bytes (looks_of u.checker) n) (sym front) r;
+    spends = λ s. subst (Spends earlier) (sym front) s;
+  })),
+)
+
+pub walks_fed : (u v w : View) → w.rest ≡ v.rest → Feeds (Ok tt) v.checker v.step w.checker → LooksAtMost v.checker v.step w.checker → WalksBefore u v → Walks u w
+walks_fed u v w same fed most f earlier t =
+    let x = f.2 earlier t in
+    let y = fed x.later x.taken in
+    let bound = most x.later x.taken.stands in
+    let here : f.0 ++ v.rest ≡ f.0 ++ w.rest = subst (λ bytes. f.0 ++ v.rest ≡ f.0 ++ bytes) (sym same) refl in
+    record {
+      later = v.step ∷ x.later;
+      taken = y.1;
+      reaches = λ n r. x.reaches n (looks_taken v.step f.0 w.rest (looks_of w.checker) here f.1 y.0 bound r);
+      spends = λ s. x.spends (spent_taking v.step f.0 w.rest here f.1 y.0 s);
+    }
+
+pub tries_fed : (u v w : View) → LooksAtMost v.checker v.step w.checker → WalksBefore u v → Tries u w
+tries_fed u v w most f earlier t = let x = f.2 earlier t in x.reaches (looks_of w.checker) (looks_tried v.step f.0 v.rest refl f.1 (most x.later x.taken.stands))
+
+pub runs_fed : (u v w : View) (next : Checker) → Feeds (Err stop.CounterEnd) v.checker v.step next → WalksBefore u v → RunsOut u w
+runs_fed u v w next fed f earlier t = let x = f.2 earlier t in x.spends (spent_trying v.step f.0 v.rest refl f.1 (fed x.later x.taken))
+
+-- A UNIT CONFLICT THAT WAS PENDING
+
+settled_walk : (old : Checker) (bytes : List ℕ) (mid next : Checker) (rest : List ℕ) (earlier : List Step) → Settles (Ok tt) mid next → Walked old bytes mid rest earlier → Walked old bytes next rest earlier
+settled_walk old bytes mid next rest earlier settled x =
+    let y = settled x.later x.taken in
+    record {
+      later = x.later;
+      taken = y.0;
+      reaches = λ n r. x.reaches n (subst (λ k. LooksReach x.later rest k n) y.1 r);
+      spends = x.spends;
+    }
+
+pub walks_settled : (fed : Bool) (u v w : View) → w.rest ≡ v.rest → w.step ≡ v.step → Settles (Ok tt) v.checker w.checker → walks_if fed u v → walks_if fed u w
+walks_settled true u v w r s settled f = λ earlier t.
+    subst (λ bytes. Walked u.checker u.rest w.checker bytes earlier) (sym r) (settled_walk u.checker u.rest v.checker w.checker v.rest earlier settled (f earlier t))
+walks_settled false u v w r s settled f = (
+  f.0,
+  subst (λ step. SpellsStep step f.0) (sym s) f.1,
+  (λ earlier t. subst (λ bytes. Walked u.checker u.rest w.checker (f.0 ++ bytes) earlier) (sym r) (settled_walk u.checker u.rest v.checker w.checker (f.0 ++ v.rest) earlier settled (f.2 earlier t))),
+)
+
+-- where it stands
+pub record Reached (u v : View) (earlier : List Step) : Type 0 where
+  pub later : List Step
+  pub taken : HasTaken v.checker later
+  pub looks : LooksReach earlier u.rest (looks_of u.checker) (looks_of v.checker)
+  pub spent : IsSpent (ready_after later) → Spends earlier u.rest
+
+reached : (fed : Bool) (u v : View) → walks_if fed u v → (earlier : List Step) → HasTaken u.checker earlier → Reached u v earlier
+reached true u v f = λ earlier t. let x = f earlier t in record { later = x.later; taken = x.taken; looks = x.reaches (looks_of v.checker) same_looks; spent = λ s. x.spends (spent_settling s) }
+reached false u v f = λ earlier t. let x = f.2 earlier t in record { later = x.later; taken = x.taken; looks = x.reaches (looks_of v.checker) same_looks; spent = λ s. x.spends (spent_settling s) }
+
+-- there is no id for its empty clause
+pub tries_spent : (fed : Bool) (u v w : View) → Settles (Err stop.CounterEnd) v.checker w.checker → walks_if fed u v → Tries u w
+tries_spent fed u v w settled f earlier t =
+    let x = reached fed u v f earlier t in subst (LooksReach earlier u.rest (looks_of u.checker)) (sym (settled x.later x.taken).1) x.looks
+
+pub runs_spent : (fed : Bool) (u v w : View) → Settles (Err stop.CounterEnd) v.checker w.checker → walks_if fed u v → RunsOut u w
+runs_spent fed u v w settled f earlier t = let x = reached fed u v f earlier t in x.spent (settled x.later x.taken).0
+
+-- what never comes
+pub never_settled : (fed : Bool) (u v : View) (T : Type 0) (earlier : List Step) → ((steps : List Step) → HasTaken v.checker steps → ⊥) → walks_if fed u v → HasTaken u.checker earlier → T
+never_settled fed u v T earlier none f t = let x = reached fed u v f earlier t in absurd (none x.later x.taken)
+
+-- from another count of looks on
+more_looks : (a b m k : ℕ) → b ≤ a + m → b + k ≤ a + k + m
+more_looks a b m k h = omega arith
+
+pub looks_from : (k : ℕ) (earlier : List Step) (bytes : List ℕ) (from to : ℕ) → LooksReach earlier bytes from to → LooksReach earlier bytes (from + k) (to + k)
+looks_from k earlier bytes from to same_looks = same_looks
+looks_from k earlier bytes from to (looks_tried step text rest e s h) = looks_tried step text rest e s (more_looks from to (most_looks (ready_after earlier) step) k h)
+looks_from k earlier bytes from to (looks_taken step text rest between e s a h r) =
+    looks_taken step text rest (between + k) e s a (more_looks from between (most_looks (ready_after earlier) step) k h) (looks_from k (step ∷ earlier) rest between to r)

@@ -1,0 +1,62 @@
+-- How far a checker was fed the steps of a certificate: with how many looks, and where a number got past 64 bits.
+use Rattle.std.specs.Prelude.{ℕ, ◌≡◌, ◌+◌, ◌≤◌, Bool, true, false, List, ◌∷◌, ◌++◌}
+use Rattle.sat_base.specs.steps.Steps.{Step}
+use Rattle.sat_base.specs.steps.StepText.{SpellsStep}
+use Rattle.sat_checker.specs.Accepts.{Accepts, stored_after, ready_after}
+use Rattle.sat_checker.specs.CheckerView.{looks_of}
+use Rattle.sat_checker.specs.Looks.{most_looks}
+use Rattle.sat_checker.specs.Spent.{IsSpent}
+use Rattle.sat_checker.specs.inner.StateView.{SpentBy}
+use Rattle.sat_checker.specs.declared.checker.Checker.{Checker}
+use Rattle.certify.specs.confirm.Feeding.{HasTaken}
+use Rattle.certify.specs.confirm.Views.{View}
+
+-- From one count of looks another can be reached by steps from the front of the bytes: each is accepted behind the earlier ones, the
+-- last perhaps not.
+pub data LooksReach : List Step → List ℕ → ℕ → ℕ → Type 0 where
+  same_looks : {earlier : List Step} {bytes : List ℕ} {looks : ℕ} → LooksReach earlier bytes looks looks
+  looks_tried : {earlier : List Step} {bytes : List ℕ} {from to : ℕ} (step : Step) (text rest : List ℕ)
+      → bytes ≡ text ++ rest → SpellsStep step text → to ≤ from + most_looks (ready_after earlier) step
+      → LooksReach earlier bytes from to
+  looks_taken : {earlier : List Step} {bytes : List ℕ} {from to : ℕ} (step : Step) (text rest : List ℕ) (between : ℕ)
+      → bytes ≡ text ++ rest → SpellsStep step text → Accepts (ready_after earlier) step
+      → between ≤ from + most_looks (ready_after earlier) step → LooksReach (step ∷ earlier) rest between to
+      → LooksReach earlier bytes from to
+
+-- Behind steps from the front of the bytes, each accepted behind the earlier ones, a number is past 64 bits: as a pending unit conflict
+-- is settled, or by the next step.
+pub data Spends : List Step → List ℕ → Type 0 where
+  spent_settling : {earlier : List Step} {bytes : List ℕ} → IsSpent (ready_after earlier) → Spends earlier bytes
+  spent_trying : {earlier : List Step} {bytes : List ℕ} (step : Step) (text rest : List ℕ)
+      → bytes ≡ text ++ rest → SpellsStep step text → SpentBy step (stored_after earlier) → Spends earlier bytes
+  spent_taking : {earlier : List Step} {bytes : List ℕ} (step : Step) (text rest : List ℕ)
+      → bytes ≡ text ++ rest → SpellsStep step text → Accepts (ready_after earlier) step → Spends (step ∷ earlier) rest
+      → Spends earlier bytes
+
+-- The checker was fed steps from the front of the bytes, and these are left: what can be reached from there can be from the beginning.
+pub record Walked (old : Checker) (bytes : List ℕ) (new : Checker) (rest : List ℕ) (earlier : List Step) : Type 0 where
+  pub later : List Step
+  pub taken : HasTaken new later
+  pub reaches : (looks : ℕ) → LooksReach later rest (looks_of new) looks → LooksReach earlier bytes (looks_of old) looks
+  pub spends : Spends later rest → Spends earlier bytes
+
+-- it was fed all steps between two views
+abbrev pub Walks : View → View → Type 0
+Walks old new = (earlier : List Step) → HasTaken old.checker earlier → Walked old.checker old.rest new.checker new.rest earlier
+
+-- it was fed all but the last one
+abbrev pub WalksBefore : View → View → Type 0
+WalksBefore old new = (text : List ℕ) × SpellsStep new.step text
+    × ((earlier : List Step) → HasTaken old.checker earlier → Walked old.checker old.rest new.checker (text ++ new.rest) earlier)
+
+abbrev pub walks_if : Bool → View → View → Type 0
+walks_if true old new = Walks old new
+walks_if false old new = WalksBefore old new
+
+-- it was fed some steps, the last of which it perhaps didn't take
+abbrev pub Tries : View → View → Type 0
+Tries old new = (earlier : List Step) → HasTaken old.checker earlier → LooksReach earlier old.rest (looks_of old.checker) (looks_of new.checker)
+
+-- a number was at its end
+abbrev pub RunsOut : View → View → Type 0
+RunsOut old new = (earlier : List Step) → HasTaken old.checker earlier → Spends earlier old.rest
