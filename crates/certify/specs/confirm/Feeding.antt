@@ -1,5 +1,5 @@
 -- What comes of a step that a checker is fed.
-use Rattle.std.specs.Prelude.{ℕ, ◌≡◌, false, Result, Ok, Err, List, ◌∷◌}
+use Rattle.std.specs.Prelude.{◌≡◌, false, Result, Ok, Err, List, ◌∷◌}
 use Rattle.sat_base.specs.steps.Steps.{Step}
 use Rattle.sat_checker.specs.Accepts.{Accepts, stored_after, ready_after}
 use Rattle.sat_checker.specs.CheckerView.{Stands, has_failed, looks_of}

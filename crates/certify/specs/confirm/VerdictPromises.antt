@@ -43,10 +43,11 @@ pub record AreRightAnswers (script answers : List ℕ) : Type 0 where
 abbrev pub IsSound : Reader × Reader → Reader × Reader → Verdict → Type 0
 IsSound script answers v = v ≡ Yes → Given script (λ s. Given answers (AreRightAnswers s))
 
--- The reader gave a text, and steps from its front lead from one count of looks to the other, whatever would follow.
+-- The reader gave a text, and steps from its front lead from one count of looks up to the other, whatever would follow.
 pub record TakesLooks (old new : Reader) (from to : ℕ) : Type 0 where
   pub text : List ℕ
   pub front : GaveFront old new text
+  pub rises : from ≤ to
   pub reached : (rest : List ℕ) → CanFollow old new rest → LooksReach [] (text ++ rest) from to
 
 -- the text has so many commands that they can't be counted

@@ -208,11 +208,11 @@ module _ (r : Reader) (b : Stream) (checker : Checker) (variables : List ℕ) (s
       let t = took ended p in
       let sum : looks_of b.checker + old ≡ new_looks = omega (arith, e) in
       let zero : 0 + old ≡ old = omega arith in
-      record { text = t.text; front = t.front; reached = λ rest k. subst (λ to. LooksReach [] (t.text ++ rest) old to) sum (subst (λ from. LooksReach [] (t.text ++ rest) from (looks_of b.checker + old)) zero (looks_from old [] (t.text ++ rest) 0 (looks_of b.checker) (t.reached rest k))) }
+      record { text = t.text; front = t.front; rises = omega (arith, e); reached = λ rest k. subst (λ to. LooksReach [] (t.text ++ rest) old to) sum (subst (λ from. LooksReach [] (t.text ++ rest) from (looks_of b.checker + old)) zero (looks_from old [] (t.text ++ rest) 0 (looks_of b.checker) (t.reached rest k))) }
 
 -- none, where no certificate was read
 pub no_looks : (r : Reader) (looks : ℕ) → TakesLooks r r looks looks
-no_looks r looks = record { text = []; front = gave_none r; reached = λ rest k. same_looks }
+no_looks r looks = record { text = []; front = gave_none r; rises = omega arith; reached = λ rest k. same_looks }
 
 few_calls : (rc tc tr m : ℕ) → tc + 0 ≡ rc + tr → tr ≤ m → tc ≤ rc + m
 few_calls rc tc tr m e h = omega arith

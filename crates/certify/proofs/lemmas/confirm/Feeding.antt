@@ -1,12 +1,12 @@
 -- What a checker answers to a step, as confirming takes it.
-use Rattle.std.proofs.Common.{◌≡◌, Bool, true, false, List, ◌∷◌, Ok, Err, sym, ◌∙◌}
+use Rattle.std.proofs.Common.{Ok, Err, sym, ◌∙◌}
 use Rattle.std.proofs.lemmas.Bool.{true≢false}
 use Rattle.sat_base.specs.steps.Steps.{Step}
 use Rattle.sat_checker.specs.CheckerView.{ChecksStep, ChecksDelayed}
 use Rattle.sat_checker.specs.declared.checker.Checker.{Checker}
 use Rattle.sat_checker.specs.declared.error.CheckerError.{CheckerError}
 use Rattle.sat_checker.specs.declared.error.CheckerError.TheVariants as errors
-use Rattle.certify.specs.confirm.Feeding.{HasTaken, stop_by, Feeds, Settles}
+use Rattle.certify.specs.confirm.Feeding.{stop_by, Feeds, Settles}
 
 pub fed : (old : Checker) (step : Step) (new : Checker) → ChecksStep (Ok tt) old step new → Feeds (Ok tt) old step new
 fed old step new h = λ steps t. let x = h steps t.stands in (x.1.accepts, record { stands = x.1.stands; goes_on = x.1.goes_on })

@@ -1,5 +1,5 @@
 -- What a pending unit conflict that is settled leaves as it was.
-use Rattle.std.proofs.Common.{ℕ, ◌≡◌, Bool, Option, Some, None, refl, ap}
+use Rattle.std.proofs.Common.{ℕ, ◌≡◌, Option, Some, None, refl, ap}
 use Rattle.sat_checker.specs.Stored.{Stored, is_unit, is_known}
 use Rattle.sat_checker.specs.Storing.{settled, settled_by}
 use Rattle.sat_checker.proofs.lemmas.meaning.Names.{settled_same}

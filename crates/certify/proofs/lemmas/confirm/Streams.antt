@@ -346,6 +346,7 @@ pub took_looks : (n : ℕ) (r : Reader) (t : Source) (text : List ℕ) (to : ℕ
 took_looks n r t text to p f = record {
   text = p.fresh;
   front = record { gave = p.gave; told = told_front r.to_come t.reader.to_come t.waiting text p.fresh p.flows p.bytes; loans = p.loans };
+  rises = omega arith;
   reached = λ rest k.
       let whole : t.reader.given ++ rest ≡ r.given ++ (p.fresh ++ rest) = ap (λ (z : List ℕ). z ++ rest) p.gave ∙ append_assoc r.given p.fresh rest in
       subst (λ bytes. LooksReach [] bytes 0 to) (rest_is (unread r) (t.reader.given ++ rest) (p.fresh ++ rest) whole)
@@ -357,6 +358,7 @@ pub took_faulted : (r : Reader) (t : Source) (text : List ℕ) (to : ℕ) → Fa
 took_faulted r t text to p f = record {
   text = p.fresh;
   front = record { gave = p.gave; told = told_front r.to_come t.reader.to_come t.waiting text p.fresh (p.flows ∙ sym (append-nil text) ∙ ap (λ (z : List ℕ). text ++ z) (sym p.none)) p.bytes; loans = p.loans };
+  rises = omega arith;
   reached = λ rest k.
       let whole : t.reader.given ++ rest ≡ r.given ++ (p.fresh ++ rest) = ap (λ (z : List ℕ). z ++ rest) p.gave ∙ append_assoc r.given p.fresh rest in
       subst (λ bytes. LooksReach [] bytes 0 to) (rest_is (unread r) (t.reader.given ++ rest) (p.fresh ++ rest) whole)

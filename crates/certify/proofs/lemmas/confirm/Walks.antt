@@ -1,8 +1,8 @@
 -- How a checker that is fed the steps of a certificate goes from one view of it to the next.
-use Rattle.std.proofs.Common.{ℕ, ◌+◌, ◌≤◌, ◌≡◌, Bool, true, false, List, [], ◌∷◌, ◌++◌, Ok, Err, refl, sym, subst, arith}
+use Rattle.std.proofs.Common.{ℕ, ◌+◌, ◌≤◌, ◌≡◌, Bool, true, false, List, ◌∷◌, ◌++◌, Ok, Err, refl, sym, subst, arith}
 use Rattle.sat_base.specs.steps.Steps.{Step}
 use Rattle.sat_base.specs.steps.StepText.{SpellsStep}
-use Rattle.sat_checker.specs.Accepts.{Accepts, ready_after}
+use Rattle.sat_checker.specs.Accepts.{ready_after}
 use Rattle.sat_checker.specs.CheckerView.{looks_of, LooksAtMost}
 use Rattle.sat_checker.specs.Looks.{most_looks}
 use Rattle.sat_checker.specs.Spent.{IsSpent}

@@ -9,7 +9,7 @@ use Rattle.sat_base.specs.steps.Formats.{Items}
 use Rattle.sat_base.specs.steps.Numbers.{IsNumber, IsBelow}
 use Rattle.sat_base.specs.steps.Steps.{Step, UserVarName, AddClause, Model, Assumptions, End}
 use Rattle.sat_base.specs.steps.StepText.{AreLiterals, SpellsStep, SpellsSteps}
-use Rattle.sat_checker.specs.Stored.{Sample, Variable, unknown, is_known}
+use Rattle.sat_checker.specs.Stored.{Sample, unknown, is_known}
 use Rattle.sat_checker.specs.Accepts.{MayGetName, ready_after}
 use Rattle.certify.specs.answers.Answers.{Outcome, Sat, Unsat, Unknown, answers_text, outcome_text}
 use Rattle.certify.specs.confirm.Checking.{Checking}

@@ -8,7 +8,7 @@ use Rattle.sat_base.specs.values.Literals.{negated}
 use Rattle.sat_base.specs.steps.Steps.{Step, UserVarName, AddClause, AtClause, Model, Assumptions}
 use Rattle.sat_checker.specs.Accepts.{effect, stored_after, ready_after}
 use Rattle.sat_checker.specs.LiteralSets.{is_among, is_tautology, canonical}
-use Rattle.sat_checker.specs.Stored.{Stored, StoredUnit, unit_literals, is_unit}
+use Rattle.sat_checker.specs.Stored.{Stored, StoredUnit, is_unit}
 use Rattle.sat_checker.specs.Storing.{with_unit, with_contradiction, with_new_unit, with_canonical, with_stored, with_input, with_literals_known, settled}
 use Rattle.sat_checker.proofs.lemmas.sets.Canonical.{canonical_is, increasing_from_sorted}
 use Rattle.certify.specs.search.SolverState.{Recording, RecordsClause, RecordsSame, new_solver, recording}
