@@ -84,7 +84,7 @@ pub enum CheckedProofStep<'a> {
         keep_as_redundant: bool,
         clause: &'a [Lit],
         pivot: Lit,
-        propagations: &'a ResolutionPropagations,
+        propagations: ResolutionPropagations,
     },
     /// A valuation that satisfies the formula, in the order of its step.
     Model {
