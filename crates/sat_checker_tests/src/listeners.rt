@@ -80,26 +80,23 @@ fn are_handed_back(alloc: Global, at: u64) -> Option<bool> {
         .ok()?;
     let step = CheckedProofStep::AddClause { id: 0, clause: &[] };
     let count = told(&mut processing, &variables, &step);
-    Some(count + 1 == at && were_left(processing.into_processors(), &variables, &step)?)
+    Some(count.saturating_add(1) == at && were_left(processing.into_processors(), &variables)?)
 }
 
 /// Whether the next call of the second processor and of the transcript answers a fault, and that of the first doesn't.
-fn were_left(
-    boxes: Processors,
-    variables: &Variables,
-    step: &CheckedProofStep<'_>,
-) -> Option<bool> {
+fn were_left(boxes: Processors, variables: &Variables) -> Option<bool> {
     let Processors {
         mut processors,
         mut transcripts,
     } = boxes;
+    let step = CheckedProofStep::AddClause { id: 0, clause: &[] };
     let names = CheckerData::new(variables);
     let mut second = processors.pop()?;
     let mut first = processors.pop()?;
     let mut third = transcripts.pop()?;
     Some(
-        first.process_step(step, names).is_ok()
-            && second.process_step(step, names).is_err()
+        first.process_step(&step, names).is_ok()
+            && second.process_step(&step, names).is_err()
             && third.process_step(&ProofTranscriptStep::Unsat).is_err()
             && processors.is_empty()
             && transcripts.is_empty(),
@@ -136,6 +133,16 @@ fn own_processor_is_told_first(rt: HostRuntime) {
     assert!(rt; is_told_first(rt.alloc()) == Some(true));
 }
 
+/// How many literals a clause of a transcript has, and the first.
+fn length_and_first(step: &ProofTranscriptStep<'_>) -> Option<(usize, i64)> {
+    match *step {
+        ProofTranscriptStep::AddClause { clause } => {
+            Some((clause.len(), clause.first()?.to_dimacs()))
+        }
+        _ => None,
+    }
+}
+
 /// A clause's literals in a transcript, where variable 1 has the name 8 and variable 2 is a witness without a name.
 fn transcribed(alloc: Global, clause: &[Lit]) -> Option<(usize, i64)> {
     let (first, second) = (Var::from_index(0), Var::from_index(1));
@@ -146,10 +153,9 @@ fn transcribed(alloc: Global, clause: &[Lit]) -> Option<(usize, i64)> {
     let mut transcript = Transcript::new(alloc);
     let step = CheckedProofStep::AddClause { id: 0, clause };
     match transcript.transcript_step(&step, CheckerData::new(&variables)) {
-        Ok(Some(ProofTranscriptStep::AddClause { clause })) => {
-            Some((clause.len(), clause.first()?.to_dimacs()))
-        }
-        _ => None,
+        Ok(Some(said)) => length_and_first(&said),
+        Ok(None) => None,
+        Err(_) => None,
     }
 }
 
