@@ -2,3 +2,4 @@ pub mod AnnouncementView
 pub mod TranscriptView
 pub mod Telling
 pub mod ProcessingView
+pub mod NewsView

@@ -15,6 +15,7 @@ pub mod laws;
 pub(crate) mod lit_set;
 pub mod looks;
 pub(crate) mod needed;
+pub(crate) mod news;
 pub(crate) mod passed;
 pub mod processing;
 pub(crate) mod propagations;
