@@ -3,10 +3,10 @@ pub mod tally
 pub mod propagation
 pub mod meaning
 pub mod store
+pub mod telling
 pub mod variables
 pub mod rows
 pub mod formula
 pub mod state
 pub mod announcements
 pub mod checker
-pub mod telling

@@ -3,3 +3,4 @@ pub mod TranscriptView
 pub mod Telling
 pub mod ProcessingView
 pub mod NewsView
+pub mod AnnouncingView

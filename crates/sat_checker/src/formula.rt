@@ -172,7 +172,7 @@ impl Formula {
     }
 
     /// Stores sorted literals without repeats.
-    fn store_canonical(
+    pub fn store_canonical(
         &mut self,
         redundant: bool,
         literals: &[Lit],

@@ -2,9 +2,11 @@
 #![tactic(auto)]
 
 pub mod announcement;
+pub(crate) mod announcing;
 pub(crate) mod assigned;
 pub mod checker;
 pub(crate) mod clauses;
+pub(crate) mod derivations;
 pub mod error;
 pub(crate) mod formula;
 pub mod hash;

@@ -5,7 +5,7 @@ ghost use Rattle.sat_checker.specs.Propagation.{PassesCheck};
 ghost use Rattle.sat_checker.specs.inner.Marks.{IsIncreasing};
 ghost use Rattle.sat_checker.specs.Stored.{Stored, bucket, nothing_stored};
 ghost use Rattle.sat_checker.specs.Looks.{literal_count};
-ghost use Rattle.sat_checker.specs.inner.StoreView.{KeepsClauses, Stores, IsPlaced, count_in};
+ghost use Rattle.sat_checker.specs.inner.StoreView.{KeepsClauses, Stores, IsPlaced, count_in, found_in};
 ghost use Rattle.sat_checker.specs.inner.SlotView.{slot_ids, literals_left};
 ghost use Rattle.sat_checker.specs.Storing.{clause_with, with_solver_name, without_clause};
 ghost use Rattle.sat_checker.specs.Accepts.{IsStrictSubset};
@@ -50,6 +50,14 @@ pub(crate) struct Placed {
     pub(crate) id: u64,
     pub(crate) place: usize,
     pub(crate) is_new: bool,
+}
+
+/// A stored clause that was found by its literals.
+#[derive(Clone, Copy)]
+pub(crate) struct Found {
+    pub(crate) id: u64,
+    pub(crate) irredundant: u64,
+    pub(crate) redundant: u64,
 }
 
 /// Clauses, and the hasher of now.
@@ -153,6 +161,22 @@ impl Store {
             id: self.clauses.id(place),
             place,
             is_new: false,
+        })
+    }
+
+    /// The clause with these literals.
+    pub fn stored(&self, literals: &[Lit], looks: &mut Looks) -> Option<Found>
+        ensures found { (f : Stored) → KeepsClauses self.now f → clause_with literals.now f.clauses ≡ found_in literals.now result }
+        ensures looks { (f : Stored) → KeepsClauses self.now f → looks.new ≤ looks.old + literal_count f }
+    {
+        let hash = self.hasher.clause_hash(literals);
+        let Some(place) = self.clauses.find(hash, literals, looks) else {
+            return None;
+        };
+        Some(Found {
+            id: self.clauses.id(place),
+            irredundant: self.clauses.count(place, false),
+            redundant: self.clauses.count(place, true),
         })
     }
 

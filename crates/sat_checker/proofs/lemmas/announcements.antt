@@ -13,3 +13,4 @@ pub mod Noting
 pub mod Marking
 pub mod Listing
 pub mod Cases
+pub mod Long

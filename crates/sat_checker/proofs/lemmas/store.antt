@@ -7,3 +7,4 @@ pub mod Keeping
 pub mod Storing
 pub mod Rehashing
 pub mod Units
+pub mod Looking

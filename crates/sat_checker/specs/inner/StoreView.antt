@@ -6,6 +6,7 @@ use Rattle.sat_checker.specs.Storing.{clause_with, with_clause, redundant_count,
 use Rattle.sat_checker.specs.HasherView.{solver_name_of, width_of}
 use Rattle.sat_checker.specs.inner.SlotView.{Slot, is_gone, live, slot_ids}
 use Rattle.sat_checker.specs.declared.hash.ClauseHasher.{ClauseHasher}
+use Rattle.sat_checker.specs.declared.store.Found.{Found}
 use Rattle.sat_checker.specs.declared.store.Placed.{Placed}
 use Rattle.sat_checker.specs.declared.store.Store.{Store}
 
@@ -25,6 +26,11 @@ KeepsClauses store f = KeepsHashed store f.clauses f.solver_names f.width
 
 abbrev pub count_in : Bool → Option StoredClause → ℕ
 count_in redundant c = if redundant then redundant_count c else irredundant_count c
+
+-- what was found of a clause with these literals
+abbrev pub found_in : List ℕ → Option Found → Option StoredClause
+found_in literals None = None
+found_in literals (Some c) = Some (record { id = c.id; literals = literals; irredundant = c.irredundant; redundant = c.redundant })
 
 -- the id of a clause that was there, or that of a new one
 abbrev pub id_in : Option StoredClause → ℕ → ℕ

@@ -1,0 +1,17 @@
+-- What a step will announce, by what is stored before it.
+use Rattle.std.specs.Prelude.{ℕ, ◌≡◌, Bool, List, [], ◌∷◌, None}
+use Rattle.sat_checker.specs.Stored.{Stored}
+use Rattle.sat_checker.specs.Storing.{clause_with}
+use Rattle.sat_checker.specs.announcements.Announcements.{Announcement, AtClause, MakeIrredundant}
+use Rattle.sat_checker.specs.declared.announcing.Change.{Change}
+use Rattle.sat_checker.specs.declared.announcing.Change.TheVariants as changes
+
+-- a derived clause that changes what is stored so
+abbrev pub stored_as : Change → ℕ → Bool → List ℕ → List ℕ → List Announcement
+stored_as changes.New id redundant literals ids = AtClause id redundant literals ids ∷ []
+stored_as (changes.Irredundant same) id redundant literals ids = MakeIrredundant same literals ∷ []
+stored_as changes.Neither id redundant literals ids = []
+
+-- no clause of one literal stands among those of two literals or more
+abbrev pub AreLong : Stored → Type 0
+AreLong f = (l : ℕ) → clause_with (l ∷ []) f.clauses ≡ None
