@@ -102,7 +102,7 @@ pub fn confirm<S: CountedRead, A: CountedRead, C: CountedRead>(
     ensures answers_read { IsErrOf result ConfirmFault.AnswersRead → ReadFails (A.seen answers.old) (A.seen answers.new) }
     ensures certificate_read { IsErrOf result ConfirmFault.CertificateRead → ReadFails (C.seen certificate.old) (C.seen certificate.new) }
     ensures counter_end { IsErrOf result ConfirmFault.CounterEnd → HasCounterEnd (gave S.seen script.old script.new) (gave C.seen certificate.old certificate.new) }
-    // The looks that are added are those of accepted steps from the front of the certificate, and perhaps of one that isn't accepted.
+    // The looks rise by at most the bounds of accepted steps from the front of the certificate, and perhaps of one that isn't accepted.
     ensures looks { TakesLooks (C.seen certificate.old) (C.seen certificate.new) looks.old looks.new }
 
     // A read of a text has failed only where the answer is that text's fault: neither yes nor no comes after one.
