@@ -330,12 +330,20 @@ fn looks_of(alloc: Global, certificate: &[u8]) -> u64 {
     checker.looks()
 }
 
+/// Answers, the last of which don't match, and a certificate of their script.
+const LOOKED_AT: [(&[u8], &[u8]); 4] = [
+    (NONE_LEFT, FOUR_AT_8),
+    (NONE_LEFT, FOUR_AT_64),
+    (NONE_LEFT, EMPTY_CORE_AT_8),
+    (b"s UNSATISFIABLE\nf 1 0\n", FOUR_AT_8),
+];
+
 #[test]
 fn looks_are_those_of_the_checker(rt: HostRuntime) {
     let mut looks = Looks::new();
-    for &certificate in &[FOUR_AT_8, FOUR_AT_64, EMPTY_CORE_AT_8] {
+    for &(answers, certificate) in &LOOKED_AT {
         let counted = looks_of(rt.alloc(), certificate);
-        let texts = (SIXTH, NONE_LEFT, certificate);
+        let texts = (SIXTH, answers, certificate);
         assert!(rt; counted > 0, "{certificate:?}");
         assert!(rt;
             looks_added(rt.alloc(), texts, &mut looks) == counted,
