@@ -101,7 +101,8 @@ pub fn confirm<S: CountedRead, A: CountedRead, C: CountedRead>(
     ensures script_read { IsErrOf result ConfirmFault.ScriptRead → ReadFails (S.seen script.old) (S.seen script.new) }
     ensures answers_read { IsErrOf result ConfirmFault.AnswersRead → ReadFails (A.seen answers.old) (A.seen answers.new) }
     ensures certificate_read { IsErrOf result ConfirmFault.CertificateRead → ReadFails (C.seen certificate.old) (C.seen certificate.new) }
-    ensures counter_end { IsErrOf result ConfirmFault.CounterEnd → HasCounterEnd (gave S.seen script.old script.new) (gave C.seen certificate.old certificate.new) }
+    ensures counter_end { IsErrOf result ConfirmFault.CounterEnd
+        → HasCounterEnd (gave S.seen script.old script.new) (gave C.seen certificate.old certificate.new) }
     // The looks rise by at most the bounds of accepted steps from the front of the certificate, and perhaps of one that isn't accepted.
     ensures looks { TakesLooks (C.seen certificate.old) (C.seen certificate.new) looks.old looks.new }
 
