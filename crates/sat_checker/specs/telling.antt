@@ -4,3 +4,4 @@ pub mod Telling
 pub mod ProcessingView
 pub mod NewsView
 pub mod AnnouncingView
+pub mod NotedView

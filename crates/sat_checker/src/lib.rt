@@ -18,6 +18,8 @@ pub(crate) mod lit_set;
 pub mod looks;
 pub(crate) mod needed;
 pub(crate) mod news;
+pub(crate) mod noted;
+pub(crate) mod notes;
 pub(crate) mod passed;
 pub mod processing;
 pub(crate) mod propagations;

@@ -1,11 +1,12 @@
 //! The checker's state, and what each step makes of it.
-ghost use Rattle.std.specs.Prelude.{None, Some, ◌≤◌, ◌+◌, MatchBool};
+ghost use Rattle.std.specs.Prelude.{None, Some, ◌≤◌, ◌+◌, ◌*◌, MatchBool};
 ghost use Rattle.sat_checker.specs.Stored.{Stored, nothing_stored};
 ghost use Rattle.sat_checker.specs.Looks.{literal_count, most_looks};
-ghost use Rattle.sat_checker.specs.Storing.{settled};
+ghost use Rattle.sat_checker.specs.Storing.{settled, with_literals_known, with_stored};
 ghost use Rattle.sat_checker.specs.Accepts.{MayBeDeleted, MayBeAdded};
 ghost use Rattle.sat_base.specs.steps.Steps.{SolverVarName, UserVarName, ChangeSamplingMode, AddClause, AtClause, ChangeHashBits, Assumptions, End, UnitClauses, DeleteClause, Model, FailedAssumptions, DeleteVar};
 ghost use Rattle.sat_base.specs.steps.StepViews.{deletion_of, step_of};
+ghost use Rattle.sat_checker.specs.inner.FormulaView.{Turns};
 ghost use Rattle.sat_checker.specs.inner.StateView.{Keeps, Decides, LooksWithin, Judges};
 
 use crate::formula::Formula;
@@ -23,13 +24,13 @@ pub(crate) struct State {
     pub(crate) alloc: Global,
     pub(crate) formula: Formula,
     pub(crate) variables: Variables,
-    assumed: LitSet,
+    pub(crate) assumed: LitSet,
     /// Room for the sorted literals of a clause.
-    buffer: Vec<Lit>,
+    pub(crate) buffer: Vec<Lit>,
 }
 
 impl State {
-    fn solver_var_name(
+    pub fn solver_var_name(
         &mut self,
         var: Var,
         name: Option<Var>,
@@ -51,7 +52,7 @@ impl State {
         Ok(true)
     }
 
-    fn user_var_name(&mut self, var: Var, user: Option<Var>) -> Result<bool, StoreError>
+    pub fn user_var_name(&mut self, var: Var, user: Option<Var>) -> Result<bool, StoreError>
         ensures { Decides result self.old (UserVarName var user) self.new }
     {
         let accepted = match user {
@@ -61,16 +62,16 @@ impl State {
         Ok(accepted)
     }
 
-    fn change_sampling_mode(&mut self, var: Var, sample: bool) -> Result<bool, StoreError>
+    pub fn change_sampling_mode(&mut self, var: Var, sample: bool) -> Result<bool, StoreError>
         ensures { Decides result self.old (ChangeSamplingMode var sample) self.new }
     {
         let accepted = self.variables.set_mode(var, sample)?;
         Ok(accepted)
     }
 
-    fn add_clause(&mut self, clause: &[Lit], looks: &mut Looks) -> Result<bool, StoreError>
+    pub fn add_clause(&mut self, clause: &[Lit], looks: &mut Looks) -> Result<bool, StoreError>
         ensures decides { Decides result self.old (AddClause clause.now) self.new }
-        ensures looks { LooksWithin self.old (AddClause clause.now) looks.old looks.new }
+        ensures looks { (f : Stored) → Keeps self.old f → looks.new ≤ looks.old + literal_count f }
     {
         if self.formula.status.unsat {
             return Ok(true);
@@ -83,7 +84,7 @@ impl State {
         Ok(true)
     }
 
-    fn at_clause(
+    pub fn at_clause(
         &mut self,
         redundant: bool,
         clause: &[Lit],
@@ -96,13 +97,33 @@ impl State {
         if !self.formula.check(clause, hashes, looks)? {
             return Ok(false);
         }
-        self.variables.learn(clause)?;
-        self.formula
-            .store_clause(redundant, clause, &mut self.buffer, looks)?;
+        self.store_derived(redundant, clause, looks)?;
         Ok(true)
     }
 
-    fn change_hash_bits(&mut self, bits: HashBits, looks: &mut Looks) -> Result<bool, StoreError>
+    /// Stores a derived clause that passed the check.
+    pub fn store_derived(
+        &mut self,
+        redundant: bool,
+        clause: &[Lit],
+        looks: &mut Looks,
+    ) -> Result<(), StoreError>
+        ensures stored { (f : Stored) → Keeps self.old f
+            → Turns result (Keeps self.new (with_stored redundant clause.now (with_literals_known clause.now f)))
+            (with_stored redundant clause.now (with_literals_known clause.now f)) }
+        ensures looks { (f : Stored) → Keeps self.old f → looks.new ≤ looks.old + literal_count f }
+    {
+        self.variables.learn(clause)?;
+        self.formula
+            .store_clause(redundant, clause, &mut self.buffer, looks)?;
+        Ok(())
+    }
+
+    pub fn change_hash_bits(
+        &mut self,
+        bits: HashBits,
+        looks: &mut Looks,
+    ) -> Result<bool, StoreError>
         ensures decides { Decides result self.old (ChangeHashBits bits) self.new }
         ensures looks { LooksWithin self.old (ChangeHashBits bits) looks.old looks.new }
     {
@@ -110,7 +131,7 @@ impl State {
         Ok(true)
     }
 
-    fn assumptions(&mut self, literals: &[Lit]) -> Result<bool, StoreError>
+    pub fn assumptions(&mut self, literals: &[Lit]) -> Result<bool, StoreError>
         ensures { Decides result self.old (Assumptions literals.now) self.new }
     {
         self.variables.learn(literals)?;
@@ -118,14 +139,14 @@ impl State {
         Ok(true)
     }
 
-    fn end(&mut self) -> Result<bool, StoreError>
+    pub fn end(&mut self) -> Result<bool, StoreError>
         ensures { Decides result self.old End self.new }
     {
         self.formula.status.ended = true;
         Ok(true)
     }
 
-    fn unit_clauses(
+    pub fn unit_clauses(
         &mut self,
         units: &[(Lit, ClauseHash)],
         looks: &mut Looks,
@@ -140,14 +161,14 @@ impl State {
         Ok(true)
     }
 
-    fn delete_clause(
+    pub fn delete_clause(
         &mut self,
         clause: &[Lit],
         proof: DeleteClauseProof,
         looks: &mut Looks,
     ) -> Result<bool, StoreError>
         ensures decides { Decides result self.old (DeleteClause clause.now (deletion_of proof)) self.new }
-        ensures looks { LooksWithin self.old (DeleteClause clause.now (deletion_of proof)) looks.old looks.new }
+        ensures looks { (f : Stored) → Keeps self.old f → looks.new ≤ looks.old + 2 * literal_count f }
     {
         copy_canonical(&mut self.buffer, clause)?;
         match proof {
@@ -163,7 +184,7 @@ impl State {
         }
     }
 
-    fn model(&mut self, assignment: &[Lit], looks: &mut Looks) -> Result<bool, StoreError>
+    pub fn model(&mut self, assignment: &[Lit], looks: &mut Looks) -> Result<bool, StoreError>
         ensures decides { Decides result self.old (Model assignment.now) self.new }
         ensures looks { LooksWithin self.old (Model assignment.now) looks.old looks.new }
     {
@@ -192,7 +213,7 @@ impl State {
         Ok(passes)
     }
 
-    fn delete_var(&mut self, var: Var, looks: &mut Looks) -> Result<bool, StoreError>
+    pub fn delete_var(&mut self, var: Var, looks: &mut Looks) -> Result<bool, StoreError>
         ensures decides { Decides result self.old (DeleteVar var) self.new }
         ensures looks { LooksWithin self.old (DeleteVar var) looks.old looks.new }
     {

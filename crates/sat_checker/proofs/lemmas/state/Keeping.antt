@@ -39,6 +39,13 @@ decides_err {T = T} first result d e a b s K A L g h w t = subst (λ x. TurnsIf 
     go OutOfMemory t = tt
     go CounterEnd t = w t
 
+pub turned_err : {S T : Type 0} (first : Result S StoreError) (result : Result T StoreError) (d e : StoreError) → first ≡ Err e → result ≡ Err d → d ≡ e → (K L : Type 0) (g : Stored) → Turns first K g → Turns result L g
+turned_err {S = S} {T = T} first result d e a b s K L g t = subst (λ x. Turns x L g) (sym (b ∙ ap Err s)) (go e (subst (λ x. Turns x K g) a t))
+  where
+    go : (e : StoreError) → Turns {T = S} (Err e) K g → Turns {T = T} (Err e) L g
+    go OutOfMemory t = tt
+    go CounterEnd t = t
+
 pub sampling_kept : (vs : Variables) (f : Stored) (ls : List ℕ) → KeepsVariables vs f.variables → AreSampling vs ls → AllByRecursion (λ l. mode_of (variable l) f ≡ Sample) ls
 sampling_kept vs f [] k h = tt
 sampling_kept vs f (l ∷ ls) k h = (sym (ap (λ (x : Variable). x.mode) (k.each (variable l))) ∙ h.0, sampling_kept vs f ls k h.1)

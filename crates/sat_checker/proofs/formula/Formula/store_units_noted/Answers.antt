@@ -1,0 +1,52 @@
+use Rattle.std.proofs.Common.{◌*◌, arith}
+use Rattle.std.proofs.lemmas.Result.{err_from_is_err_and}
+use Rattle.sat_checker.specs.Looks.{literal_count}
+use Rattle.sat_checker.proofs.lemmas.variables.Keeping.{match_true, match_false}
+use Rattle.sat_checker.proofs.lemmas.state.Units.{passed, stopped, spent_then, finished, turns_err}
+use Rattle.sat_checker.proofs.lemmas.telling.NotedUnits.{noted_more, noted_all, twice_then, twice_end}
+use Rattle.sat_checker.proofs.formula.Formula.store_units_noted.Goals as goal
+
+pub returns-in_err-store_noted-clause-decides : goal.returns-in_err-store_noted-clause-decides
+returns-in_err-store_noted-clause-decides c = λ f k.
+    let left = c.loop-unit.invariant.left f k in
+    let p = err_from_is_err_and c.from_residual.result c.from_residual.ensures.1 in
+    turns_err c.store_noted.result _ p.0 _ c.in_err-store_noted.was p.1 p.2 _ _ _ _ _ _
+    (spent_then c.loop-unit.self f c.args.units.now c.loop-unit.unit-index c.unit-item.result c.loop-unit-test.true c.unit-item.is left) (c.store_noted.ensures.decides left.now left.kept)
+
+pub returns-in_err-store_noted-clause-looks : goal.returns-in_err-store_noted-clause-looks
+returns-in_err-store_noted-clause-looks c = λ f k.
+    let left = c.loop-unit.invariant.left f k in
+    twice_end c.args.looks.now c.loop-unit.looks c.store_noted.new.looks c.args.units.now c.loop-unit.unit-index c.loop-unit-test.true (literal_count f) (literal_count left.now) left.count (c.loop-unit.invariant.looks f k) (c.store_noted.ensures.looks left.now left.kept)
+
+pub returns-then-not-branch-clause-decides : goal.returns-then-not-branch-clause-decides
+returns-then-not-branch-clause-decides c = λ f k.
+    let left = c.loop-unit.invariant.left f k in
+    stopped c.loop-unit.self f c.args.units.now c.loop-unit.unit-index c.unit-item.result c.loop-unit-test.true c.unit-item.is left
+    (match_false _ _ _ (c.in_ok-store_noted.ensures.decides left.now left.kept) c.if-not-branch.true)
+
+pub returns-then-not-branch-clause-looks : goal.returns-then-not-branch-clause-looks
+returns-then-not-branch-clause-looks c = λ f k.
+    let left = c.loop-unit.invariant.left f k in
+    twice_end c.args.looks.now c.loop-unit.looks c.store_noted.new.looks c.args.units.now c.loop-unit.unit-index c.loop-unit-test.true (literal_count f) (literal_count left.now) left.count (c.loop-unit.invariant.looks f k) (c.store_noted.ensures.looks left.now left.kept)
+
+pub loop-unit-preserved : goal.loop-unit-preserved
+loop-unit-preserved c = record {
+  left = λ f k.
+      let left = c.loop-unit.invariant.left f k in
+      let m = match_true _ _ _ (c.in_ok-store_noted.ensures.decides left.now left.kept) c.if-not-branch.false in
+      passed c.loop-unit.self f c.args.units.now c.loop-unit.unit-index c.unit-item.result c.loop-unit-test.true c.unit-item.is left c.store_noted.new.self m.0 m.1;
+  noted = λ f k a.
+      let noted = c.loop-unit.invariant.noted f k a in
+      let m = match_true _ _ _ (c.in_ok-store_noted.ensures.decides noted.now noted.kept) c.if-not-branch.false in
+      noted_more c.loop-unit.self f c.args.units.now c.loop-unit.unit-index c.unit-item.result c.loop-unit-test.true c.unit-item.is c.args.notes.now.news c.loop-unit.notes.news noted c.store_noted.new.self c.store_noted.new.notes.news
+      (c.in_ok-store_noted.ensures.noted c.if-not-branch.false noted.now noted.kept noted.long) m.1;
+  looks = λ f k.
+      let left = c.loop-unit.invariant.left f k in
+      twice_then c.args.looks.now c.loop-unit.looks c.store_noted.new.looks c.loop-unit.unit-index (literal_count f) (literal_count left.now) left.count (c.loop-unit.invariant.looks f k) (c.store_noted.ensures.looks left.now left.kept);
+}
+
+pub returns-clause-decides : goal.returns-clause-decides
+returns-clause-decides c = λ f k. finished c.loop-unit.self f c.args.units.now c.loop-unit.unit-index (omega arith) (c.loop-unit.invariant.left f k)
+
+pub returns-clause-noted : goal.returns-clause-noted
+returns-clause-noted c = λ _ f k a. noted_all c.loop-unit.self f c.args.units.now c.loop-unit.unit-index c.args.notes.now.news c.loop-unit.notes.news (omega arith) (c.loop-unit.invariant.noted f k a)
