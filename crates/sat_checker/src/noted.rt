@@ -1,5 +1,6 @@
-//! Steps that are taken in where somebody listens: what they announce is noted.
-ghost use Rattle.std.specs.Prelude.{◌≡◌, ◌++◌, OnOk, IfOk, IsTrue};
+//! Steps that are taken in where somebody listens: what they announce is noted, mostly before they are judged, while all is stored as it
+//! was. What is noted of a step that is refused is of no use.
+ghost use Rattle.std.specs.Prelude.{◌≡◌, IfOk, IsTrue};
 ghost use Rattle.sat_base.specs.steps.Steps.{AddClause, Assumptions, AtClause, ChangeSamplingMode, DeleteClause, FailedAssumptions, Model, UnitClauses, UserVarName};
 ghost use Rattle.sat_base.specs.steps.StepViews.{deletion_of, step_of};
 ghost use Rattle.sat_checker.specs.Stored.{Stored};
@@ -9,13 +10,11 @@ ghost use Rattle.sat_checker.specs.telling.AnnouncingView.{AreLong};
 ghost use Rattle.sat_checker.specs.telling.NotedView.{Announces};
 
 use crate::looks::Looks;
-use crate::news::News;
 use crate::notes::Notes;
 use crate::sorted_lits::copy_canonical;
 use crate::state::State;
 use crate::store::StoreError;
 use sat_base::{ClauseHash, DeleteClauseProof, Lit, ProofStep, Var};
-use std::alloc::AllocError;
 
 impl State {
     fn user_var_name_noted(
@@ -36,15 +35,6 @@ impl State {
         self.user_var_name(var, Some(name))
     }
 
-    /// Notes the mode that a variable gets.
-    fn note_mode(&self, var: Var, sample: bool, news: &mut News) -> Result<(), AllocError>
-        ensures { OnOk result ((f : Stored) → Keeps self.now f
-            → news.new ≡ news.old ++ announced f (ChangeSamplingMode var sample)) }
-    {
-        let before = self.variables.data(var);
-        news.mode_change(var, sample, before)
-    }
-
     fn change_sampling_mode_noted(
         &mut self,
         var: Var,
@@ -54,7 +44,8 @@ impl State {
         ensures decides { Decides result self.old (ChangeSamplingMode var sample) self.new }
         ensures noted { Announces result self.old (ChangeSamplingMode var sample) notes.old.news notes.new.news }
     {
-        self.note_mode(var, sample, &mut notes.news)?;
+        let before = self.variables.data(var);
+        notes.news.mode_change(var, sample, before)?;
         self.change_sampling_mode(var, sample)
     }
 
@@ -159,27 +150,17 @@ impl State {
         ensures looks { LooksWithin self.old (FailedAssumptions core.now hashes.now) looks.old looks.new }
         ensures noted { Announces result self.old (FailedAssumptions core.now hashes.now) notes.old.news notes.new.news }
     {
-        copy_canonical(&mut notes.literals, core)?;
-        if !self.assumed.has_all(&notes.literals) {
+        copy_canonical(&mut self.buffer, core)?;
+        if !self.assumed.has_all(&self.buffer) {
             return Ok(false);
         }
-        if !self.formula.check_negated(
-            core,
-            hashes,
-            &mut self.buffer,
-            &mut notes.negated,
-            &mut notes.rests_on,
-            looks,
-        )? {
-            return Ok(false);
-        }
-        notes
-            .news
-            .failed_assumptions(&notes.literals, notes.rests_on.ids())?;
-        Ok(true)
+        let passes = self
+            .formula
+            .check_core(core, hashes, &mut self.buffer, notes, looks)?;
+        Ok(passes)
     }
 
-    /// As `step`, and where it is accepted notes what it announces, behind what was noted before.
+    /// As `step_noted`, behind what was noted before.
     fn take_noted(
         &mut self,
         step: &ProofStep<'_>,

@@ -1,6 +1,6 @@
-//! What a step announces of clauses, noted while the clauses are as they were before it.
+//! What steps announce of clauses, noted while all is stored as it was before them.
 ghost use Rattle.std.specs.Prelude.{ℕ, false, ◌≡◌, ◌+◌, ◌*◌, ◌≤◌, ◌++◌, ◌∷◌, [], List, OnOk, IfOk, IsTrue, ◌↔◌, length, map, if◌then◌else◌};
-ghost use Rattle.sat_base.specs.steps.Steps.{AddClause, DeleteClause};
+ghost use Rattle.sat_base.specs.steps.Steps.{AddClause, DeleteClause, FailedAssumptions};
 ghost use Rattle.sat_base.specs.steps.StepViews.{deletion_of};
 ghost use Rattle.sat_base.specs.values.Literals.{negated};
 ghost use Rattle.sat_checker.specs.Accepts.{Passes, PassInTurn};
@@ -8,7 +8,6 @@ ghost use Rattle.sat_checker.specs.Looks.{literal_count};
 ghost use Rattle.sat_checker.specs.Stored.{Stored};
 ghost use Rattle.sat_checker.specs.Storing.{with_unit, with_units};
 ghost use Rattle.sat_checker.specs.announcements.Announcements.{announced, derived, derived_set, derived_units, id_of_set};
-ghost use Rattle.sat_checker.specs.announcements.Needed.{propagations};
 ghost use Rattle.sat_checker.specs.inner.FormulaView.{KeepsFormula, TurnsIf};
 ghost use Rattle.sat_checker.specs.telling.AnnouncingView.{stored_as, AreLong};
 
@@ -26,11 +25,9 @@ use std::alloc::{AllocError, Global};
 #[derive(Drop)]
 pub(crate) struct Notes {
     pub(crate) news: News,
-    pub(crate) rests_on: Propagations,
-    /// Room for the sorted literals of a clause.
-    pub(crate) literals: Vec<Lit>,
-    /// Room for the sorted literals of a negated core.
-    pub(crate) negated: Vec<Lit>,
+    rests_on: Propagations,
+    /// Room for sorted literals.
+    literals: Vec<Lit>,
 }
 
 impl Notes {
@@ -41,7 +38,6 @@ impl Notes {
             news: News::new(alloc),
             rests_on: Propagations::new(alloc),
             literals: Vec::new(alloc),
-            negated: Vec::new(alloc),
         }
     }
 }
@@ -146,29 +142,33 @@ impl Formula {
         Ok(true)
     }
 
-    /// The propagation check of a core's negation, whose literals it puts into the buffers as they come and sorted. Where it passes,
-    /// what it rests on is listed.
-    pub fn check_negated(
+    /// The propagation check of a core's negation, which takes up the buffer. Where it passes, what the core announces is noted.
+    pub fn check_core(
         &mut self,
         core: &[Lit],
         hashes: &[ClauseHash],
         buffer: &mut Vec<Lit>,
-        sorted: &mut Vec<Lit>,
-        rests_on: &mut Propagations,
+        notes: &mut Notes,
         looks: &mut Looks,
     ) -> Result<bool, AllocError>
         ensures exact { IfOk result
             (λ passes. (f : Stored) → KeepsFormula self.old f → IsTrue passes ↔ Passes f (map negated core.now) hashes.now) }
         ensures kept { (f : Stored) → KeepsFormula self.old f → KeepsFormula self.new f }
-        ensures listed { IfOk result (λ passes. IsTrue passes → (f : Stored) → KeepsFormula self.old f
-            → rests_on.new.ids.items ≡ propagations f (map negated core.now) hashes.now) }
+        ensures noted { IfOk result (λ passes. IsTrue passes → (f : Stored) → KeepsFormula self.old f
+            → notes.new.news ≡ notes.old.news ++ announced f (FailedAssumptions core.now hashes.now)) }
         ensures looks { (f : Stored) → KeepsFormula self.old f
             → looks.new ≤ looks.old + 2 * length hashes.now * literal_count f }
     {
         copy_negated(buffer, core)?;
-        copy_canonical(sorted, buffer)?;
-        let passes = self.check_noted(buffer, sorted, hashes, rests_on, looks)?;
-        Ok(passes)
+        copy_canonical(&mut notes.literals, buffer)?;
+        if !self.check_noted(buffer, &notes.literals, hashes, &mut notes.rests_on, looks)? {
+            return Ok(false);
+        }
+        copy_canonical(&mut notes.literals, core)?;
+        notes
+            .news
+            .failed_assumptions(&notes.literals, notes.rests_on.ids())?;
+        Ok(true)
     }
 
     /// What storing a unit will change.

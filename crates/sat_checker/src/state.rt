@@ -84,7 +84,7 @@ impl State {
         Ok(true)
     }
 
-    pub fn at_clause(
+    fn at_clause(
         &mut self,
         redundant: bool,
         clause: &[Lit],
@@ -146,7 +146,7 @@ impl State {
         Ok(true)
     }
 
-    pub fn unit_clauses(
+    fn unit_clauses(
         &mut self,
         units: &[(Lit, ClauseHash)],
         looks: &mut Looks,

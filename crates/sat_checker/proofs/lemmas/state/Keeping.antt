@@ -1,5 +1,5 @@
 -- What steps leave of the checker's state.
-use Rattle.std.proofs.Common.{ℕ, ◌+◌, ◌*◌, ◌≤◌, ◌≡◌, Bool, true, false, cond, List, [], ◌∷◌, Option, None, Some, refl, sym, ◌∙◌, ap, subst, arith, Result, Ok, Err, IfOk, ◌↔◌, inl, inr}
+use Rattle.std.proofs.Common.{ℕ, ◌≡◌, Bool, true, false, cond, List, [], ◌∷◌, Option, None, Some, refl, sym, ◌∙◌, ap, subst, Result, Ok, Err, IfOk, ◌↔◌, inl, inr}
 use Rattle.std.specs.List.{AllByRecursion}
 use Rattle.std.specs.Bool.{MatchBool}
 use Rattle.std.proofs.lemmas.Bool.{true≢false}
@@ -39,13 +39,6 @@ decides_err {T = T} first result d e a b s K A L g h w t = subst (λ x. TurnsIf 
     go OutOfMemory t = tt
     go CounterEnd t = w t
 
-pub turned_err : {S T : Type 0} (first : Result S StoreError) (result : Result T StoreError) (d e : StoreError) → first ≡ Err e → result ≡ Err d → d ≡ e → (K L : Type 0) (g : Stored) → Turns first K g → Turns result L g
-turned_err {S = S} {T = T} first result d e a b s K L g t = subst (λ x. Turns x L g) (sym (b ∙ ap Err s)) (go e (subst (λ x. Turns x K g) a t))
-  where
-    go : (e : StoreError) → Turns {T = S} (Err e) K g → Turns {T = T} (Err e) L g
-    go OutOfMemory t = tt
-    go CounterEnd t = t
-
 pub sampling_kept : (vs : Variables) (f : Stored) (ls : List ℕ) → KeepsVariables vs f.variables → AreSampling vs ls → AllByRecursion (λ l. mode_of (variable l) f ≡ Sample) ls
 sampling_kept vs f [] k h = tt
 sampling_kept vs f (l ∷ ls) k h = (sym (ap (λ (x : Variable). x.mode) (k.each (variable l))) ∙ h.0, sampling_kept vs f ls k h.1)
@@ -69,13 +62,6 @@ renamed new f v name n e F V a = subst (λ o. Keeps new (effect (SolverVarName v
 
 pub unnamed : (new : State) (f : Stored) (v : ℕ) (name : Option ℕ) → name ≡ None → KeepsFormula new.formula (with_solver_name v None f) → KeepsVariables new.variables f.variables → new.assumed ≡ canonical f.assumed → Keeps new (effect (SolverVarName v name) f)
 unnamed new f v name e F V a = subst (λ o. Keeps new (effect (SolverVarName v o) f)) (sym e) (record { formula = F; variables = V; assumed = a })
-
--- looks of a check, and of storing
-pub looks_checked : (old one k n : ℕ) → one ≤ old + k * n → one ≤ old + (5 + 2 * k) * n
-looks_checked old one k n h = let e : (5 + 2 * k) * n ≡ 5 * n + k * n + k * n = grind arith in omega arith
-
-pub looks_stored : (old one two k n : ℕ) → one ≤ old + k * n → two ≤ one + n → two ≤ old + (5 + 2 * k) * n
-looks_stored old one two k n h g = let e : (5 + 2 * k) * n ≡ 5 * n + k * n + k * n = grind arith in omega arith
 
 -- the last irredundant clause, beside a clause or its sorted literals
 pub strict_on : (o : Option (List ℕ)) (c ls : List ℕ) → ls ≡ canonical c → IsStrictSubset o c → IsStrictSubset o ls

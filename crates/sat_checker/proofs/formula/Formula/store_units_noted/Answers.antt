@@ -1,4 +1,4 @@
-use Rattle.std.proofs.Common.{◌*◌, arith}
+use Rattle.std.proofs.Common.{arith}
 use Rattle.std.proofs.lemmas.Result.{err_from_is_err_and}
 use Rattle.sat_checker.specs.Looks.{literal_count}
 use Rattle.sat_checker.proofs.lemmas.variables.Keeping.{match_true, match_false}

@@ -4,17 +4,12 @@ use Rattle.sat_checker.specs.Accepts.{Accepts, effect}
 use Rattle.sat_checker.specs.announcements.Announcements.{announced}
 use Rattle.sat_checker.specs.inner.FormulaView.{TurnsIf}
 use Rattle.sat_checker.specs.inner.StateView.{Keeps}
-use Rattle.sat_checker.specs.telling.NotedView.{Announces}
 use Rattle.sat_checker.proofs.lemmas.telling.Noting.{nothing_noted}
 use Rattle.sat_checker.proofs.state.State.take_noted.Goals as goal
 
 pub returns-in-FailedAssumptions-clause-decides : goal.returns-in-FailedAssumptions-clause-decides
 returns-in-FailedAssumptions-clause-decides c = λ f k.
     subst (λ s. TurnsIf c.failed_assumptions_noted.result (Accepts f (step_of s)) (Keeps c.failed_assumptions_noted.new.self (effect (step_of s) f)) (effect (step_of s) f)) (sym c.in-FailedAssumptions.is) (c.failed_assumptions_noted.ensures.decides f k)
-
-pub returns-in-FailedAssumptions-clause-noted : goal.returns-in-FailedAssumptions-clause-noted
-returns-in-FailedAssumptions-clause-noted c =
-    subst (λ s. Announces c.failed_assumptions_noted.result c.args.self.now (step_of s) c.args.notes.now.news c.failed_assumptions_noted.new.notes.news) (sym c.in-FailedAssumptions.is) c.failed_assumptions_noted.ensures.noted
 
 pub returns-in-SolverVarName-clause-noted : goal.returns-in-SolverVarName-clause-noted
 returns-in-SolverVarName-clause-noted c = nothing_noted c.solver_var_name.result c.args.self.now (step_of c.args.step.now) c.args.notes.now.news (λ f. ap (λ s. announced f (step_of s)) c.in-SolverVarName.is)
