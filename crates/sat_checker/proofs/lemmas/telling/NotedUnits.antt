@@ -18,9 +18,6 @@ pub record Noted (F : Formula) (f : Stored) (all left : List (ℕ × ℕ)) (befo
   pub long : AreLong now
   pub told : news ++ derived_units left now ≡ before ++ derived_units all f
 
-pub all_noted : (F : Formula) (f : Stored) (all : List (ℕ × ℕ)) (news : List Announcement) → KeepsFormula F f → AreLong f → Noted F f all all news news
-all_noted F f all news k a = record { now = f; kept = k; long = a; told = refl }
-
 clauses_stay : (l : ℕ) (f : Stored) → (with_unit l f).clauses ≡ f.clauses
 clauses_stay l f = go (is_unit f l) (is_unit f (negated l))
   where
