@@ -1,96 +1,142 @@
--- What contracts see of a checker: the steps that it accepted, its input clauses among them, and whether it has failed.
-use Rattle.std.specs.Prelude.{ℕ, ◌≡◌, ◌+◌, ◌≤◌, Bool, true, false, None, List, ◌∷◌, Result, Ok, Err}
+-- What contracts see of a checker: the steps that it accepted, its input clauses among them, whether it has failed, and what those who listen have heard.
+use Rattle.std.specs.Prelude.{ℕ, ◌≡◌, ◌⊎◌, Bool, true, false, List, ◌∷◌, Result, Ok, Err}
 use Rattle.sat_base.specs.steps.Steps.{Step, AddClause}
-use Rattle.sat_checker.specs.Stored.{Stored}
 use Rattle.sat_checker.specs.Spent.{IsSpent}
-use Rattle.sat_checker.specs.Storing.{settled}
-use Rattle.sat_checker.specs.Accepts.{Accepts, AcceptsAll, stored_after, ready_after}
-use Rattle.sat_checker.specs.Looks.{most_looks}
-use Rattle.sat_checker.specs.inner.StateView.{Keeps, SpentBy}
+use Rattle.sat_checker.specs.Accepts.{Accepts, stored_after, ready_after}
+use Rattle.sat_checker.specs.KernelView as kernels
+use Rattle.sat_checker.specs.inner.StateView.{SpentBy}
+use Rattle.sat_checker.specs.announcements.Announcements.{Told, told_after, all_told_after}
+use Rattle.sat_checker.specs.telling.Hearing.{Hearers, hearers, HearsSince, HearsSinceUpTo, told_by}
+use Rattle.sat_checker.specs.declared.kernel.Kernel.{Kernel}
 use Rattle.sat_checker.specs.declared.checker.Checker.{Checker}
-use Rattle.sat_checker.specs.declared.state.State.{State}
-use Rattle.sat_checker.specs.declared.status.Records.{Records}
+use Rattle.sat_checker.specs.declared.processing.Processing.{Processing}
 use Rattle.sat_checker.specs.declared.error.CheckerError.{CheckerError}
 use Rattle.sat_checker.specs.declared.error.CheckerError.TheVariants as errors
+use Rattle.sat_checker.specs.declared.processing.ProcessingError.{ProcessingError}
+use Rattle.sat_checker.specs.declared.processing.ProcessingError.TheVariants as faults
 
-abbrev pub has_failed : Checker → Bool
-has_failed c = c.failed
+-- what judges the steps, and who listens
+pub record Seen (L : Type 0) : Type 0 where
+  pub kernel : Kernel
+  pub listeners : L
 
-abbrev pub looks_of : Checker → ℕ
-looks_of c = c.looks
+abbrev pub seen : {L : Type 0} → Kernel → L → Seen L
+seen kernel listeners = record { kernel = kernel; listeners = listeners }
+
+-- the part that judges steps
+abbrev pub kernel_of : {P T : Type 0} → Checker P T → Kernel
+kernel_of c = c.kernel
+
+-- with the processors and transcripts that were added
+abbrev pub seen_of : {P T : Type 0} → Checker P T → Seen (Processing P T)
+seen_of c = seen c.kernel c.processing
+
+-- and with one that a single call lends
+abbrev pub seen_with : {V P T : Type 0} → V → Checker P T → Seen (Hearers V (Processing P T))
+seen_with own c = seen c.kernel (hearers own c.processing)
+
+abbrev pub has_failed : {L : Type 0} → Seen L → Bool
+has_failed c = c.kernel.failed
+
+abbrev pub looks_of : {L : Type 0} → Seen L → ℕ
+looks_of c = c.kernel.looks
 
 -- no unit conflict waits for the id of its empty clause
-abbrev pub IsSettled : Checker → Type 0
-IsSettled c = c.state.formula.status.conflict ≡ None
+abbrev pub IsSettled : {L : Type 0} → Seen L → Type 0
+IsSettled c = kernels.IsSettled c.kernel
 
--- What these steps leave is kept. A unit conflict that they left pending may be settled by now.
-pub record KeepsAfter (state : State) (steps : List Step) : Type 0 where
-  pub formula : Stored
-  pub keeps : Keeps state formula
-  pub ready : settled formula ≡ ready_after steps
+-- What an answer to one who would listen from here on means: these listen then, who are those before and that one.
+abbrev pub AddsListener : {L : Type 0} → Result Unit CheckerError → Kernel → Kernel → L → L → L → Type 0
+AddsListener (Ok x) old new listened listen more = (kernels.has_failed old ≡ false) × (new ≡ old) × (listen ≡ more)
+AddsListener (Err errors.OutOfMemory) old new listened listen more = (kernels.has_failed old ≡ false) × (new ≡ record old { failed = true }) × (listen ≡ listened)
+AddsListener (Err errors.HasFailed) old new listened listen more = (kernels.has_failed old ≡ true) × (new ≡ old) × (listen ≡ listened)
+AddsListener (Err errors.CheckFailed) old new listened listen more = ⊥
+AddsListener (Err errors.CounterEnd) old new listened listen more = ⊥
+AddsListener (Err (errors.ProofProcessorError cause)) old new listened listen more = ⊥
+AddsListener (Err errors.ProofIncomplete) old new listened listen more = ⊥
+AddsListener (Err errors.IoError) old new listened listen more = ⊥
+AddsListener (Err errors.ParseError) old new listened listen more = ⊥
 
-abbrev pub records_of : Stored → Records
-records_of f = record { unsat = f.unsat; ended = f.ended; var_deleted = f.var_deleted }
+-- How those who listen take what is told, what was told before they are looked at, and what they were then.
+module _ {L : Type 0} (Hears : L → Told → Result Unit ProcessingError → L → Type 0) (before : List Told) (begun : L) where
+  -- It has accepted these steps, the newest first, and keeps what they leave unless it has failed. Those who listen have heard all that these steps told since.
+  pub record Stands (checker : Seen L) (steps : List Step) : Type 0 where
+    pub kernel : kernels.Stands checker.kernel steps
+    pub heard : has_failed checker ≡ false → HearsSince Hears before (told_by checker.kernel.state.formula.status.conflict steps) begun checker.listeners
 
--- It has accepted these steps, the newest first, and keeps what they leave unless it has failed.
-pub record Stands (checker : Checker) (steps : List Step) : Type 0 where
-  pub accepted : AcceptsAll steps
-  pub records : checker.records ≡ records_of (stored_after steps)
-  pub kept : checker.failed ≡ false → KeepsAfter checker.state steps
+  -- it stands where it stood, and answers nothing but HasFailed from then on
+  pub record Fails (new : Seen L) (steps : List Step) : Type 0 where
+    pub stands : Stands new steps
+    pub failed : has_failed new ≡ true
 
--- it stands where it stood, and answers nothing but HasFailed from then on
-pub record Fails (new : Checker) (steps : List Step) : Type 0 where
-  pub stands : Stands new steps
-  pub failed : has_failed new ≡ true
+  -- no more was told than what waited
+  pub record Refuses (new : Seen L) (steps : List Step) : Type 0 where
+    pub fails : Fails new steps
+    pub heard : HearsSince Hears before (all_told_after steps) begun new.listeners
 
--- the step was accepted, as the definition has it
-pub record Takes (new : Checker) (step : Step) (steps : List Step) : Type 0 where
-  pub accepts : Accepts (ready_after steps) step
-  pub stands : Stands new (step ∷ steps)
-  pub goes_on : has_failed new ≡ false
+  -- nothing more was told, or what waited
+  pub record Stops (new : Seen L) (steps : List Step) : Type 0 where
+    pub fails : Fails new steps
+    pub heard : HearsSince Hears before (told_after steps) begun new.listeners ⊎ HearsSince Hears before (all_told_after steps) begun new.listeners
 
--- What an answer to a step means, where these steps were accepted before. A refused step is one that the definition refuses; the last id or count is told only where it was given.
-abbrev pub AnswersStep : Result Unit CheckerError → Checker → Step → Checker → List Step → Type 0
-AnswersStep (Ok x) old step new steps = (has_failed old ≡ false) × Takes new step steps
-AnswersStep (Err errors.CheckFailed) old step new steps = (has_failed old ≡ false) × (Accepts (ready_after steps) step → ⊥) × Fails new steps
-AnswersStep (Err errors.CounterEnd) old step new steps = (has_failed old ≡ false) × SpentBy step (stored_after steps) × Fails new steps
-AnswersStep (Err errors.OutOfMemory) old step new steps = (has_failed old ≡ false) × Fails new steps
-AnswersStep (Err errors.HasFailed) old step new steps = (has_failed old ≡ true) × Fails new steps
-AnswersStep (Err errors.ProofIncomplete) old step new steps = ⊥
-AnswersStep (Err errors.IoError) old step new steps = ⊥
-AnswersStep (Err errors.ParseError) old step new steps = ⊥
+  -- one of those who listen answered a fault to something among this
+  pub record Breaks (e : ProcessingError) (told : List Told) (new : Seen L) (steps : List Step) : Type 0 where
+    pub fails : Fails new steps
+    pub heard : HearsSinceUpTo Hears e before told begun new.listeners
 
-abbrev pub ChecksStep : Result Unit CheckerError → Checker → Step → Checker → Type 0
-ChecksStep result old step new = (steps : List Step) → Stands old steps → AnswersStep result old step new steps
+  -- to what waited, or to what an accepted step tells
+  abbrev pub BreaksAt : ProcessingError → Seen L → Step → List Step → Type 0
+  BreaksAt e new step steps = Breaks e (all_told_after steps) new steps ⊎ (Accepts (ready_after steps) step × Breaks e (told_after (step ∷ steps)) new steps)
 
--- the step takes no more looks than its bound
-abbrev pub LooksAtMost : Checker → Step → Checker → Type 0
-LooksAtMost old step new = (steps : List Step) → Stands old steps → looks_of new ≤ looks_of old + most_looks (ready_after steps) step
+  -- the step was accepted, as the definition has it
+  pub record Takes (new : Seen L) (step : Step) (steps : List Step) : Type 0 where
+    pub accepts : Accepts (ready_after steps) step
+    pub stands : Stands new (step ∷ steps)
+    pub goes_on : has_failed new ≡ false
 
--- What an answer means where a pending unit conflict is settled, behind these steps. The empty clause has no id only where the last one was given.
-abbrev pub AnswersDelayed : Result Unit CheckerError → Checker → Checker → List Step → Type 0
-AnswersDelayed (Ok x) old new steps = (has_failed old ≡ false) × (looks_of new ≡ looks_of old) × Stands new steps × (has_failed new ≡ false) × IsSettled new
-AnswersDelayed (Err errors.CounterEnd) old new steps = (has_failed old ≡ false) × (looks_of new ≡ looks_of old) × IsSpent (ready_after steps) × Fails new steps
-AnswersDelayed (Err errors.HasFailed) old new steps = (has_failed old ≡ true) × Fails new steps
-AnswersDelayed (Err errors.CheckFailed) old new steps = ⊥
-AnswersDelayed (Err errors.OutOfMemory) old new steps = ⊥
-AnswersDelayed (Err errors.ProofIncomplete) old new steps = ⊥
-AnswersDelayed (Err errors.IoError) old new steps = ⊥
-AnswersDelayed (Err errors.ParseError) old new steps = ⊥
+  -- What an answer to a step means, where these steps were accepted before. A refused step is one that the definition refuses; the last id or count is told only where it was given.
+  abbrev pub AnswersStep : Result Unit CheckerError → Seen L → Step → Seen L → List Step → Type 0
+  AnswersStep (Ok x) old step new steps = (has_failed old ≡ false) × Takes new step steps
+  AnswersStep (Err errors.CheckFailed) old step new steps = (has_failed old ≡ false) × (Accepts (ready_after steps) step → ⊥) × Refuses new steps
+  AnswersStep (Err errors.CounterEnd) old step new steps = (has_failed old ≡ false) × SpentBy step (stored_after steps) × Stops new steps
+  AnswersStep (Err errors.OutOfMemory) old step new steps = (has_failed old ≡ false) × (Stops new steps ⊎ BreaksAt faults.OutOfMemory new step steps)
+  AnswersStep (Err (errors.ProofProcessorError cause)) old step new steps = (has_failed old ≡ false) × BreaksAt (faults.ProofProcessorError cause) new step steps
+  AnswersStep (Err errors.HasFailed) old step new steps = (has_failed old ≡ true) × (new ≡ old)
+  AnswersStep (Err errors.ProofIncomplete) old step new steps = ⊥
+  AnswersStep (Err errors.IoError) old step new steps = ⊥
+  AnswersStep (Err errors.ParseError) old step new steps = ⊥
 
-abbrev pub ChecksDelayed : Result Unit CheckerError → Checker → Checker → Type 0
-ChecksDelayed result old new = (steps : List Step) → Stands old steps → AnswersDelayed result old new steps
+  -- What an answer means where a pending unit conflict is settled, behind these steps. The empty clause has no id only where the last one was given.
+  abbrev pub AnswersDelayed : Result Unit CheckerError → Seen L → Seen L → List Step → Type 0
+  AnswersDelayed (Ok x) old new steps = (has_failed old ≡ false) × (looks_of new ≡ looks_of old) × Stands new steps × (has_failed new ≡ false) × IsSettled new
+  AnswersDelayed (Err errors.CounterEnd) old new steps = (has_failed old ≡ false) × (looks_of new ≡ looks_of old) × IsSpent (ready_after steps) × Stops new steps
+  AnswersDelayed (Err errors.OutOfMemory) old new steps = (has_failed old ≡ false) × (looks_of new ≡ looks_of old) × Breaks faults.OutOfMemory (all_told_after steps) new steps
+  AnswersDelayed (Err (errors.ProofProcessorError cause)) old new steps =
+      (has_failed old ≡ false) × (looks_of new ≡ looks_of old) × Breaks (faults.ProofProcessorError cause) (all_told_after steps) new steps
+  AnswersDelayed (Err errors.HasFailed) old new steps = (has_failed old ≡ true) × (new ≡ old)
+  AnswersDelayed (Err errors.CheckFailed) old new steps = ⊥
+  AnswersDelayed (Err errors.ProofIncomplete) old new steps = ⊥
+  AnswersDelayed (Err errors.IoError) old new steps = ⊥
+  AnswersDelayed (Err errors.ParseError) old new steps = ⊥
 
--- What an answer to a clause of the formula means. A refused one leaves the checker as it was.
-abbrev pub AnswersClause : Result Unit CheckerError → Checker → List ℕ → Checker → List Step → Type 0
-AnswersClause (Ok x) old clause new steps = AnswersStep (Ok x) old (AddClause clause) new steps
-AnswersClause (Err errors.CheckFailed) old clause new steps = (has_failed old ≡ false) × (Accepts (ready_after steps) (AddClause clause) → ⊥) × Stands new steps × (has_failed new ≡ false)
-AnswersClause (Err errors.CounterEnd) old clause new steps = AnswersStep (Err errors.CounterEnd) old (AddClause clause) new steps
-AnswersClause (Err errors.OutOfMemory) old clause new steps = AnswersStep (Err errors.OutOfMemory) old (AddClause clause) new steps
-AnswersClause (Err errors.HasFailed) old clause new steps = AnswersStep (Err errors.HasFailed) old (AddClause clause) new steps
-AnswersClause (Err errors.ProofIncomplete) old clause new steps = ⊥
-AnswersClause (Err errors.IoError) old clause new steps = ⊥
-AnswersClause (Err errors.ParseError) old clause new steps = ⊥
+  -- What an answer to a clause of the formula means. A refused one leaves the checker as it was.
+  abbrev pub AnswersClause : Result Unit CheckerError → Seen L → List ℕ → Seen L → List Step → Type 0
+  AnswersClause (Ok x) old clause new steps = AnswersStep (Ok x) old (AddClause clause) new steps
+  AnswersClause (Err errors.CheckFailed) old clause new steps = (has_failed old ≡ false) × (Accepts (ready_after steps) (AddClause clause) → ⊥) × (new ≡ old)
+  AnswersClause (Err errors.CounterEnd) old clause new steps = AnswersStep (Err errors.CounterEnd) old (AddClause clause) new steps
+  AnswersClause (Err errors.OutOfMemory) old clause new steps = AnswersStep (Err errors.OutOfMemory) old (AddClause clause) new steps
+  AnswersClause (Err (errors.ProofProcessorError cause)) old clause new steps = AnswersStep (Err (errors.ProofProcessorError cause)) old (AddClause clause) new steps
+  AnswersClause (Err errors.HasFailed) old clause new steps = AnswersStep (Err errors.HasFailed) old (AddClause clause) new steps
+  AnswersClause (Err errors.ProofIncomplete) old clause new steps = ⊥
+  AnswersClause (Err errors.IoError) old clause new steps = ⊥
+  AnswersClause (Err errors.ParseError) old clause new steps = ⊥
 
-abbrev pub ChecksClause : Result Unit CheckerError → Checker → List ℕ → Checker → Type 0
-ChecksClause result old clause new = (steps : List Step) → Stands old steps → AnswersClause result old clause new steps
+module _ {L : Type 0} (Hears : L → Told → Result Unit ProcessingError → L → Type 0) where
+  abbrev pub ChecksStep : Result Unit CheckerError → Seen L → Step → Seen L → Type 0
+  ChecksStep result old step new = (before : List Told) (begun : L) (steps : List Step) → Stands Hears before begun old steps → AnswersStep Hears before begun result old step new steps
+
+  abbrev pub ChecksDelayed : Result Unit CheckerError → Seen L → Seen L → Type 0
+  ChecksDelayed result old new = (before : List Told) (begun : L) (steps : List Step) → Stands Hears before begun old steps → AnswersDelayed Hears before begun result old new steps
+
+  abbrev pub ChecksClause : Result Unit CheckerError → Seen L → List ℕ → Seen L → Type 0
+  ChecksClause result old clause new = (before : List Told) (begun : L) (steps : List Step) → Stands Hears before begun old steps → AnswersClause Hears before begun result old clause new steps

@@ -1,20 +1,22 @@
 -- What contracts see of clauses that are added one after another.
-use Rattle.std.specs.Prelude.{ℕ, ◌≡◌, ◌+◌, ◌≤◌, true, false, List, [], ◌∷◌, ◌++◌, map, Result, Ok, Err}
+use Rattle.std.specs.Prelude.{ℕ, ◌≡◌, ◌+◌, ◌≤◌, ◌⊎◌, true, false, List, [], ◌∷◌, ◌++◌, map, Result, Ok, Err}
 use Rattle.sat_base.specs.steps.Steps.{Step, AddClause}
 use Rattle.sat_checker.specs.Accepts.{Accepts, stored_after, ready_after}
-use Rattle.sat_checker.specs.CheckerView.{has_failed, looks_of, Stands, Fails}
+use Rattle.sat_checker.specs.CheckerView.{Seen, has_failed, looks_of, Stands, Stops, BreaksAt}
+use Rattle.sat_checker.specs.announcements.Announcements.{Told}
 use Rattle.sat_checker.specs.ProofView.{taken_after, most_looks_behind, GoesOn}
 use Rattle.sat_checker.specs.inner.StateView.{SpentBy}
-use Rattle.sat_checker.specs.declared.checker.Checker.{Checker}
 use Rattle.sat_checker.specs.declared.error.CheckerError.{CheckerError}
 use Rattle.sat_checker.specs.declared.error.CheckerError.TheVariants as errors
+use Rattle.sat_checker.specs.declared.processing.ProcessingError.{ProcessingError}
+use Rattle.sat_checker.specs.declared.processing.ProcessingError.TheVariants as faults
 
 -- clauses as steps
 abbrev pub additions : List (List ℕ) → List Step
 additions = map AddClause
 
 -- The first of the clauses were added, and these were tried.
-pub record Adds (old new : Checker) (clauses added tried : List (List ℕ)) (earlier : List Step) : Type 0 where
+pub record Adds {L : Type 0} (old new : Seen L) (clauses added tried : List (List ℕ)) (earlier : List Step) : Type 0 where
   pub well : has_failed old ≡ false
   pub left : List (List ℕ)
   pub split : clauses ≡ (added ++ tried) ++ left
@@ -24,21 +26,27 @@ pub record Adds (old new : Checker) (clauses added tried : List (List ℕ)) (ear
 abbrev pub behind : List (List ℕ) → List Step → List Step
 behind clauses earlier = taken_after (additions clauses) earlier
 
--- What an answer to clauses means: each is added as by a call of its own, up to the first that isn't accepted. A refused one leaves the checker as it was.
-abbrev pub AnswersClauses : Result Unit CheckerError → Checker → Checker → List (List ℕ) → List Step → Type 0
-AnswersClauses (Ok x) old new clauses earlier = Adds old new clauses clauses [] earlier × GoesOn new (behind clauses earlier)
-AnswersClauses (Err errors.CheckFailed) old new clauses earlier =
-    (added : List (List ℕ)) × (clause : List ℕ) × Adds old new clauses added (clause ∷ []) earlier
-    × (Accepts (ready_after (behind added earlier)) (AddClause clause) → ⊥) × GoesOn new (behind added earlier)
-AnswersClauses (Err errors.CounterEnd) old new clauses earlier =
-    (added : List (List ℕ)) × (clause : List ℕ) × Adds old new clauses added (clause ∷ []) earlier
-    × SpentBy (AddClause clause) (stored_after (behind added earlier)) × Fails new (behind added earlier)
-AnswersClauses (Err errors.OutOfMemory) old new clauses earlier =
-    (added : List (List ℕ)) × (clause : List ℕ) × Adds old new clauses added (clause ∷ []) earlier × Fails new (behind added earlier)
-AnswersClauses (Err errors.HasFailed) old new clauses earlier = (has_failed old ≡ true) × (new ≡ old)
-AnswersClauses (Err errors.ProofIncomplete) old new clauses earlier = ⊥
-AnswersClauses (Err errors.IoError) old new clauses earlier = ⊥
-AnswersClauses (Err errors.ParseError) old new clauses earlier = ⊥
+module _ {L : Type 0} (Hears : L → Told → Result Unit ProcessingError → L → Type 0) (before : List Told) (begun : L) where
+  -- What an answer to clauses means: each is added as by a call of its own, up to the first that isn't accepted. A refused one leaves the checker as it was.
+  abbrev pub AnswersClauses : Result Unit CheckerError → Seen L → Seen L → List (List ℕ) → List Step → Type 0
+  AnswersClauses (Ok x) old new clauses earlier = Adds old new clauses clauses [] earlier × GoesOn Hears before begun new (behind clauses earlier)
+  AnswersClauses (Err errors.CheckFailed) old new clauses earlier =
+      (added : List (List ℕ)) × (clause : List ℕ) × Adds old new clauses added (clause ∷ []) earlier
+      × (Accepts (ready_after (behind added earlier)) (AddClause clause) → ⊥) × GoesOn Hears before begun new (behind added earlier)
+  AnswersClauses (Err errors.CounterEnd) old new clauses earlier =
+      (added : List (List ℕ)) × (clause : List ℕ) × Adds old new clauses added (clause ∷ []) earlier
+      × SpentBy (AddClause clause) (stored_after (behind added earlier)) × Stops Hears before begun new (behind added earlier)
+  AnswersClauses (Err errors.OutOfMemory) old new clauses earlier =
+      (added : List (List ℕ)) × (clause : List ℕ) × Adds old new clauses added (clause ∷ []) earlier
+      × (Stops Hears before begun new (behind added earlier) ⊎ BreaksAt Hears before begun faults.OutOfMemory new (AddClause clause) (behind added earlier))
+  AnswersClauses (Err (errors.ProofProcessorError cause)) old new clauses earlier =
+      (added : List (List ℕ)) × (clause : List ℕ) × Adds old new clauses added (clause ∷ []) earlier
+      × BreaksAt Hears before begun (faults.ProofProcessorError cause) new (AddClause clause) (behind added earlier)
+  AnswersClauses (Err errors.HasFailed) old new clauses earlier = (has_failed old ≡ true) × (new ≡ old)
+  AnswersClauses (Err errors.ProofIncomplete) old new clauses earlier = ⊥
+  AnswersClauses (Err errors.IoError) old new clauses earlier = ⊥
+  AnswersClauses (Err errors.ParseError) old new clauses earlier = ⊥
 
-abbrev pub AddsClauses : Result Unit CheckerError → Checker → Checker → List (List ℕ) → Type 0
-AddsClauses result old new clauses = (steps : List Step) → Stands old steps → AnswersClauses result old new clauses steps
+module _ {L : Type 0} (Hears : L → Told → Result Unit ProcessingError → L → Type 0) where
+  abbrev pub AddsClauses : Result Unit CheckerError → Seen L → Seen L → List (List ℕ) → Type 0
+  AddsClauses result old new clauses = (before : List Told) (begun : L) (steps : List Step) → Stands Hears before begun old steps → AnswersClauses Hears before begun result old new clauses steps

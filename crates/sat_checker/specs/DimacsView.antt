@@ -7,10 +7,11 @@ use Rattle.sat_base.specs.dimacs.Parsing.{IsSoundText, ParsesShort}
 use Rattle.sat_base.specs.declared.dimacs.error.DimacsError.{DimacsError}
 use Rattle.sat_base.specs.declared.dimacs.error.DimacsError.TheVariants as texts
 use Rattle.sat_base.specs.steps.Steps.{Step}
-use Rattle.sat_checker.specs.CheckerView.{has_failed, Stands, Fails}
+use Rattle.sat_checker.specs.CheckerView.{Seen, has_failed, Stands, Stops}
+use Rattle.sat_checker.specs.announcements.Announcements.{Told}
 use Rattle.sat_checker.specs.ProofView.{NoneFailed, GoesOn}
 use Rattle.sat_checker.specs.ClausesView.{Adds, behind, AnswersClauses}
-use Rattle.sat_checker.specs.declared.checker.Checker.{Checker}
+use Rattle.sat_checker.specs.declared.processing.ProcessingError.{ProcessingError}
 use Rattle.sat_checker.specs.declared.error.CheckerError.TheVariants as errors
 use Rattle.sat_checker.specs.declared.error.CheckerDimacsError.{CheckerDimacsError}
 use Rattle.sat_checker.specs.declared.error.CheckerDimacsError.TheVariants as refused
@@ -40,23 +41,25 @@ abbrev pub FailsBehind : DimacsError → Reader → Reader → List (List ℕ) �
 FailsBehind texts.Read from to clauses = ReadFails from to × (text : List ℕ) × GaveFront from to text × IsSoundText text × (clauses ≡ (dimacs (settled text)).clauses)
 FailsBehind error from to clauses = NoneFailed from to × GaveEnough from to (λ text. FaultBehind error text clauses)
 
--- the checker goes on, but not for want of memory
-abbrev pub StandsBehind : DimacsError → Checker → List Step → Type 0
-StandsBehind texts.OutOfMemory new steps = Fails new steps
-StandsBehind error new steps = GoesOn new steps
+module _ {L : Type 0} (Hears : L → Told → Result Unit ProcessingError → L → Type 0) (before : List Told) (begun : L) where
+  -- the checker goes on, but not for want of memory
+  abbrev pub StandsBehind : DimacsError → Seen L → List Step → Type 0
+  StandsBehind texts.OutOfMemory new steps = Stops Hears before begun new steps
+  StandsBehind error new steps = GoesOn Hears before begun new steps
 
--- What an answer to a text means, where these steps were accepted before. `Ok` comes where all clauses of the text were added. Where the text is at fault, those before the fault were; where a clause isn't accepted, those before it.
-abbrev pub AnswersDimacs : Result Unit CheckerDimacsError → Checker → Checker → Reader → Reader → List Step → Type 0
-AnswersDimacs (Ok x) old new from to earlier =
-    NoneFailed from to × (clauses : List (List ℕ)) × GaveEnough from to (λ text. IsDimacs text clauses Clean) × AnswersClauses (Ok tt) old new clauses earlier
-AnswersDimacs (Err (refused.Dimacs error)) old new from to earlier =
-    (clauses : List (List ℕ)) × FailsBehind error from to clauses × Adds old new clauses clauses [] earlier × StandsBehind error new (behind clauses earlier)
-AnswersDimacs (Err (refused.Checker errors.HasFailed)) old new from to earlier = (has_failed old ≡ true) × (to ≡ from) × (new ≡ old)
-AnswersDimacs (Err (refused.Checker error)) old new from to earlier =
-    NoneFailed from to × (clauses : List (List ℕ)) × GaveEnough from to (λ text. AreRead text clauses) × AnswersClauses (Err error) old new clauses earlier
+  -- What an answer to a text means, where these steps were accepted before. `Ok` comes where all clauses of the text were added. Where the text is at fault, those before the fault were; where a clause isn't accepted, those before it.
+  abbrev pub AnswersDimacs : Result Unit CheckerDimacsError → Seen L → Seen L → Reader → Reader → List Step → Type 0
+  AnswersDimacs (Ok x) old new from to earlier =
+      NoneFailed from to × (clauses : List (List ℕ)) × GaveEnough from to (λ text. IsDimacs text clauses Clean) × AnswersClauses Hears before begun (Ok tt) old new clauses earlier
+  AnswersDimacs (Err (refused.Dimacs error)) old new from to earlier =
+      (clauses : List (List ℕ)) × FailsBehind error from to clauses × Adds old new clauses clauses [] earlier × StandsBehind error new (behind clauses earlier)
+  AnswersDimacs (Err (refused.Checker errors.HasFailed)) old new from to earlier = (has_failed old ≡ true) × (to ≡ from) × (new ≡ old)
+  AnswersDimacs (Err (refused.Checker error)) old new from to earlier =
+      NoneFailed from to × (clauses : List (List ℕ)) × GaveEnough from to (λ text. AreRead text clauses) × AnswersClauses Hears before begun (Err error) old new clauses earlier
 
-abbrev pub AddsDimacs : Result Unit CheckerDimacsError → Checker → Checker → Reader → Reader → Type 0
-AddsDimacs result old new from to = (steps : List Step) → Stands old steps → AnswersDimacs result old new from to steps
+module _ {L : Type 0} (Hears : L → Told → Result Unit ProcessingError → L → Type 0) where
+  abbrev pub AddsDimacs : Result Unit CheckerDimacsError → Seen L → Seen L → Reader → Reader → Type 0
+  AddsDimacs result old new from to = (before : List Told) (begun : L) (steps : List Step) → Stands Hears before begun old steps → AnswersDimacs Hears before begun result old new from to steps
 
 -- the clauses of the words that have ended in a text stay the first, however it goes on
 abbrev pub EndedStayFirst : Type 0

@@ -8,6 +8,7 @@ pub mod Fold
 pub mod Looks
 pub mod inner
 pub mod HasherView
+pub mod KernelView
 pub mod CheckerView
 pub mod ProofView
 pub mod ClausesView

@@ -5,14 +5,15 @@ use Rattle.sat_base.specs.device.Device.{Reader, GaveFront, FewReads, IsOver, Re
 use Rattle.sat_base.specs.steps.Formats.{Live, Spoilt}
 use Rattle.sat_base.specs.steps.Steps.{Step, End}
 use Rattle.sat_base.specs.steps.StepText.{SpellsStep, SpellsSteps}
-use Rattle.sat_checker.specs.Spent.{IsSpent}
 use Rattle.sat_checker.specs.Accepts.{Accepts, stored_after, ready_after}
 use Rattle.sat_checker.specs.Looks.{most_looks}
-use Rattle.sat_checker.specs.CheckerView.{has_failed, looks_of, IsSettled, Stands, Fails}
+use Rattle.sat_checker.specs.CheckerView.{Seen, has_failed, looks_of, IsSettled, Stands, Refuses, Stops, BreaksAt}
+use Rattle.sat_checker.specs.announcements.Announcements.{Told}
 use Rattle.sat_checker.specs.inner.StateView.{SpentBy}
-use Rattle.sat_checker.specs.declared.checker.Checker.{Checker}
 use Rattle.sat_checker.specs.declared.error.CheckerError.{CheckerError}
 use Rattle.sat_checker.specs.declared.error.CheckerError.TheVariants as errors
+use Rattle.sat_checker.specs.declared.processing.ProcessingError.{ProcessingError}
+use Rattle.sat_checker.specs.declared.processing.ProcessingError.TheVariants as faults
 
 -- steps in the order in which they were taken, behind earlier ones, the newest first
 abbrev pub taken_after : List Step → List Step → List Step
@@ -33,7 +34,7 @@ pub record GaveSteps (old new : Reader) (steps : List Step) (rest : List ℕ) : 
   pub reads : new.calls ≤ old.calls + most_reads
 
 -- A proof was read so far: steps that were accepted, none of them an end, then the last step read or none, and bytes behind them.
-pub record Went (old new : Checker) (from to : Reader) (earlier passed last : List Step) (rest : List ℕ) : Type 0 where
+pub record Went {L : Type 0} (old new : Seen L) (from to : Reader) (earlier passed last : List Step) (rest : List ℕ) : Type 0 where
   pub well : has_failed old ≡ false
   pub steps : GaveSteps from to (passed ++ last) rest
   pub unended : AllByRecursion (λ step. step ≢ End) passed
@@ -43,41 +44,47 @@ pub record Went (old new : Checker) (from to : Reader) (earlier passed last : Li
 abbrev pub NoneFailed : Reader → Reader → Type 0
 NoneFailed from to = to.failures ≡ from.failures
 
--- these steps stand, and it goes on
-abbrev pub GoesOn : Checker → List Step → Type 0
-GoesOn new steps = Stands new steps × (has_failed new ≡ false)
+module _ {L : Type 0} (Hears : L → Told → Result Unit ProcessingError → L → Type 0) (before : List Told) (begun : L) where
+  -- these steps stand, and it goes on
+  abbrev pub GoesOn : Seen L → List Step → Type 0
+  GoesOn new steps = Stands Hears before begun new steps × (has_failed new ≡ false)
 
--- What an answer to a proof means, where these steps were accepted before. `Ok` comes exactly where what was read are accepted steps up to the first end, of which nothing behind is looked at.
-abbrev pub AnswersProof : Result Unit CheckerError → Checker → Checker → Reader → Reader → List Step → Type 0
-AnswersProof (Ok x) old new from to earlier =
-    (passed : List Step) × (rest : List ℕ) × Went old new from to earlier passed (End ∷ []) rest × NoneFailed from to × GoesOn new (End ∷ taken_after passed earlier) × IsSettled new
--- the last step read is refused
-AnswersProof (Err errors.CheckFailed) old new from to earlier =
-    (passed : List Step) × (step : Step) × (rest : List ℕ) × Went old new from to earlier passed (step ∷ []) rest × NoneFailed from to
-    × (Accepts (ready_after (taken_after passed earlier)) step → ⊥) × Fails new (taken_after passed earlier)
--- the text is over before an end, between steps or within one
-AnswersProof (Err errors.ProofIncomplete) old new from to earlier =
-    (passed : List Step) × (rest : List ℕ) × Went old new from to earlier passed [] rest × NoneFailed from to
-    × IsOver to × Live SpellsStep rest × GoesOn new (taken_after passed earlier)
--- no step can follow a byte
-AnswersProof (Err errors.ParseError) old new from to earlier =
-    (passed : List Step) × (rest : List ℕ) × Went old new from to earlier passed [] rest × NoneFailed from to
-    × Spoilt SpellsStep rest × GoesOn new (taken_after passed earlier)
--- exactly one read failed, the last, or so many were made and none did
-AnswersProof (Err errors.IoError) old new from to earlier =
-    (passed : List Step) × (rest : List ℕ) × Went old new from to earlier passed [] rest × ReadFails from to
-    × Live SpellsStep rest × GoesOn new (taken_after passed earlier)
--- as a step is read or checked
-AnswersProof (Err errors.OutOfMemory) old new from to earlier =
-    (passed : List Step) × (rest : List ℕ)
-    × (Went old new from to earlier passed [] rest ⊎ ((step : Step) × Went old new from to earlier passed (step ∷ []) rest))
-    × NoneFailed from to × Fails new (taken_after passed earlier)
--- the last id or count was given before, or the empty clause of a unit conflict that is pending at the end has no id
-AnswersProof (Err errors.CounterEnd) old new from to earlier =
-    (passed : List Step) × (step : Step) × (rest : List ℕ) × Went old new from to earlier passed (step ∷ []) rest × NoneFailed from to
-    × ((SpentBy step (stored_after (taken_after passed earlier)) × Fails new (taken_after passed earlier))
-    ⊎ ((step ≡ End) × IsSpent (ready_after (End ∷ taken_after passed earlier)) × Fails new (End ∷ taken_after passed earlier)))
-AnswersProof (Err errors.HasFailed) old new from to earlier = (has_failed old ≡ true) × (to ≡ from) × (new ≡ old)
+  -- What an answer to a proof means, where these steps were accepted before. `Ok` comes exactly where what was read are accepted steps up to the first end, of which nothing behind is looked at.
+  abbrev pub AnswersProof : Result Unit CheckerError → Seen L → Seen L → Reader → Reader → List Step → Type 0
+  AnswersProof (Ok x) old new from to earlier =
+      (passed : List Step) × (rest : List ℕ) × Went old new from to earlier passed (End ∷ []) rest × NoneFailed from to × GoesOn new (End ∷ taken_after passed earlier) × IsSettled new
+  -- the last step read is refused
+  AnswersProof (Err errors.CheckFailed) old new from to earlier =
+      (passed : List Step) × (step : Step) × (rest : List ℕ) × Went old new from to earlier passed (step ∷ []) rest × NoneFailed from to
+      × (Accepts (ready_after (taken_after passed earlier)) step → ⊥) × Refuses Hears before begun new (taken_after passed earlier)
+  -- the text is over before an end, between steps or within one
+  AnswersProof (Err errors.ProofIncomplete) old new from to earlier =
+      (passed : List Step) × (rest : List ℕ) × Went old new from to earlier passed [] rest × NoneFailed from to
+      × IsOver to × Live SpellsStep rest × GoesOn new (taken_after passed earlier)
+  -- no step can follow a byte
+  AnswersProof (Err errors.ParseError) old new from to earlier =
+      (passed : List Step) × (rest : List ℕ) × Went old new from to earlier passed [] rest × NoneFailed from to
+      × Spoilt SpellsStep rest × GoesOn new (taken_after passed earlier)
+  -- exactly one read failed, the last, or so many were made and none did
+  AnswersProof (Err errors.IoError) old new from to earlier =
+      (passed : List Step) × (rest : List ℕ) × Went old new from to earlier passed [] rest × ReadFails from to
+      × Live SpellsStep rest × GoesOn new (taken_after passed earlier)
+  -- as a step is read, checked or told
+  AnswersProof (Err errors.OutOfMemory) old new from to earlier =
+      (passed : List Step) × (rest : List ℕ) × NoneFailed from to
+      × ((Went old new from to earlier passed [] rest × Stops Hears before begun new (taken_after passed earlier))
+      ⊎ ((step : Step) × Went old new from to earlier passed (step ∷ []) rest
+      × (Stops Hears before begun new (taken_after passed earlier) ⊎ BreaksAt Hears before begun faults.OutOfMemory new step (taken_after passed earlier))))
+  -- the last id or count was given before
+  AnswersProof (Err errors.CounterEnd) old new from to earlier =
+      (passed : List Step) × (step : Step) × (rest : List ℕ) × Went old new from to earlier passed (step ∷ []) rest × NoneFailed from to
+      × SpentBy step (stored_after (taken_after passed earlier)) × Stops Hears before begun new (taken_after passed earlier)
+  -- one of those who listen answered a fault
+  AnswersProof (Err (errors.ProofProcessorError cause)) old new from to earlier =
+      (passed : List Step) × (step : Step) × (rest : List ℕ) × Went old new from to earlier passed (step ∷ []) rest × NoneFailed from to
+      × BreaksAt Hears before begun (faults.ProofProcessorError cause) new step (taken_after passed earlier)
+  AnswersProof (Err errors.HasFailed) old new from to earlier = (has_failed old ≡ true) × (to ≡ from) × (new ≡ old)
 
-abbrev pub ChecksProof : Result Unit CheckerError → Checker → Checker → Reader → Reader → Type 0
-ChecksProof result old new from to = (steps : List Step) → Stands old steps → AnswersProof result old new from to steps
+module _ {L : Type 0} (Hears : L → Told → Result Unit ProcessingError → L → Type 0) where
+  abbrev pub ChecksProof : Result Unit CheckerError → Seen L → Seen L → Reader → Reader → Type 0
+  ChecksProof result old new from to = (before : List Told) (begun : L) (steps : List Step) → Stands Hears before begun old steps → AnswersProof Hears before begun result old new from to steps

@@ -14,3 +14,4 @@ pub mod ProofSteps
 pub mod DimacsPieces
 pub mod Reasons
 pub mod NeededView
+pub mod TellingSteps

@@ -5,3 +5,4 @@ pub mod ProcessingView
 pub mod NewsView
 pub mod AnnouncingView
 pub mod NotedView
+pub mod Hearing

@@ -1,10 +1,11 @@
 //! What the checker announces of the steps that it accepts.
 ghost use Rattle.std.specs.Prelude.{◌≡◌};
 ghost use Rattle.sat_checker.specs.announcements.Transcripts.{user_from_proof_var};
-ghost use Rattle.sat_checker.specs.inner.VariablesView.{variable_at};
+ghost use Rattle.sat_checker.specs.inner.TellingSteps.{put_back, was_of};
+ghost use Rattle.sat_checker.specs.inner.VariablesView.{variable_at, variable_of};
 ghost use Rattle.sat_checker.specs.telling.AnnouncementView.{variables_of};
 
-use crate::variables::{SamplingMode, Variables};
+use crate::variables::{SamplingMode, VarData, Variables};
 use sat_base::{Lit, Var};
 
 /// The mode of a variable that has a name.
@@ -101,31 +102,68 @@ pub enum CheckedProofStep<'a> {
     },
 }
 
-/// What may be looked up while something is announced: the variables as they were before the step.
+/// A variable, and what is kept of it.
+#[derive(Drop)]
+pub(crate) struct Was {
+    pub(crate) var: Var,
+    pub(crate) data: VarData,
+}
+
+/// What may be looked up while something is announced: the variables as they were before the step. `known` of their data may be
+/// that of now, which no announcement or name rests on.
 #[derive(Clone, Copy)]
 pub struct CheckerData<'a> {
     variables: &'a Variables,
+    /// The variable whose name or mode has changed by now, with what was kept of it before.
+    was: Option<&'a Was>,
 }
 
 impl<'a> CheckerData<'a> {
     pub fn new(variables: &'a Variables) -> CheckerData<'a>
         ensures { variables_of result ≡ variable_at variables.now }
     {
-        CheckerData { variables }
+        CheckerData {
+            variables,
+            was: None,
+        }
+    }
+
+    /// As `new`, with what was kept of a variable before.
+    pub(crate) fn before(variables: &'a Variables, was: &'a Option<Was>) -> CheckerData<'a>
+        ensures { variables_of result ≡ put_back (was_of was.now) (variable_at variables.now) }
+    {
+        match was {
+            Some(was) => CheckerData {
+                variables,
+                was: Some(was),
+            },
+            None => CheckerData::new(variables),
+        }
+    }
+
+    fn data(self, proof_var: Var) -> VarData
+        ensures { variable_of result ≡ variables_of self.entry proof_var }
+    {
+        if let Some(was) = self.was {
+            if proof_var == was.var {
+                return was.data;
+            }
+        }
+        self.variables.data(proof_var)
     }
 
     /// The name that the user gave.
     pub(crate) fn explicit_name(self, proof_var: Var) -> Option<Var>
         ensures { result ≡ (variables_of self.entry proof_var).name }
     {
-        self.variables.data(proof_var).name
+        self.data(proof_var).name
     }
 
     /// The user's name of a variable: the one that was given, else the variable's own where it is a sampling one.
     pub fn user_from_proof_var(self, proof_var: Var) -> Option<Var>
         ensures { result ≡ user_from_proof_var (variables_of self.entry) proof_var }
     {
-        let data = self.variables.data(proof_var);
+        let data = self.data(proof_var);
         if let Some(name) = data.name {
             return Some(name);
         }

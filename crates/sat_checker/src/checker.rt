@@ -1,10 +1,13 @@
 //! The checker of proof steps.
-ghost use Rattle.std.specs.Prelude.{◌≡◌, ◌-◌, ◌^◌, false, [], List, min, OnOk};
+ghost use Rattle.std.specs.Prelude.{◌≡◌, ◌-◌, ◌^◌, ◌++◌, ◌∷◌, false, [], List, min, None};
 ghost use Rattle.sat_base.specs.steps.Steps.{Step, AddClause};
 ghost use Rattle.sat_base.specs.steps.StepViews.{step_of};
 ghost use Rattle.sat_checker.specs.Stored.{is_known, name_of};
 ghost use Rattle.sat_checker.specs.Accepts.{ready_after};
-ghost use Rattle.sat_checker.specs.CheckerView.{has_failed, looks_of, Stands, ChecksStep, ChecksDelayed, ChecksClause, LooksAtMost};
+ghost use Rattle.sat_checker.specs.KernelView as kernels;
+ghost use Rattle.sat_checker.specs.KernelView.{has_failed, looks_of, LooksAtMost, Stands};
+ghost use Rattle.sat_checker.specs.CheckerView.{kernel_of, seen_of, AddsListener, ChecksStep, ChecksDelayed, ChecksClause};
+ghost use Rattle.sat_checker.specs.telling.ProcessingView.{listeners_of, HearsEach};
 
 mod dimacs;
 mod formula;
@@ -12,140 +15,193 @@ mod proof;
 
 use crate::error::CheckerError;
 use crate::internal::SelfChecker;
+use crate::kernel::Kernel;
 use crate::looks::Looks;
-use crate::state::State;
-use crate::status::{Records, Status};
-use crate::store::StoreError;
+use crate::processing::{Nobody, Processing, Processors, ProofProcessor};
+use crate::transcript::ProofTranscriptProcessor;
 use sat_base::{Lit, ProofStep, Var};
 use std::alloc::Global;
 
-/// A checker, which takes clauses of a formula and the steps of a proof in turn. Once it has refused a step, or had no memory or
-/// no id left, it only answers that it has failed.
+/// A checker, which takes clauses of a formula and the steps of a proof in turn, and tells processors and transcripts what it
+/// announces. Once it has refused a step, had no memory or no id left, or one of them answered a fault, it only answers that it has
+/// failed.
 #[derive(Drop)]
-pub struct Checker {
-    state: State,
-    /// What was recorded after the last step that was accepted.
-    records: Records,
-    failed: bool,
-    pub(crate) looks: Looks,
+pub struct Checker<P: ProofProcessor = Nobody, T: ProofTranscriptProcessor = Nobody> {
+    pub(crate) kernel: Kernel,
+    processing: Processing<P, T>,
 }
 
-impl Checker {
-    /// No clause and no step yet. Nothing is allocated.
-    pub fn new(alloc: Global) -> Checker
-        ensures stands { Stands result [] }
-        ensures goes_on { has_failed result ≡ false }
-        ensures looks { looks_of result ≡ 0 }
+impl Checker<Nobody, Nobody> {
+    /// No clause and no step yet, and nobody will listen. Nothing is allocated.
+    pub fn new(alloc: Global) -> Checker<Nobody, Nobody>
+        ensures stands { Stands (kernel_of result) [] }
+        ensures goes_on { has_failed (kernel_of result) ≡ false }
+        ensures settled { kernels.IsSettled (kernel_of result) }
+        ensures looks { looks_of (kernel_of result) ≡ 0 }
+        ensures listeners { listeners_of result.processing ≡ record { processors = []; transcripts = [] } }
+    {
+        Checker::telling(alloc)
+    }
+}
+
+impl<P: ProofProcessor, T: ProofTranscriptProcessor> Checker<P, T> {
+    /// As `new`, for processors and transcripts of these types. Nobody listens yet.
+    pub fn telling(alloc: Global) -> Checker<P, T>
+        ensures stands { Stands (kernel_of result) [] }
+        ensures goes_on { has_failed (kernel_of result) ≡ false }
+        ensures settled { kernels.IsSettled (kernel_of result) }
+        ensures looks { looks_of (kernel_of result) ≡ 0 }
+        ensures listeners { listeners_of result.processing ≡ record { processors = []; transcripts = [] } }
     {
         Checker {
-            state: State::new(alloc),
-            records: Status::new().records(),
-            failed: false,
-            looks: Looks::new(),
+            kernel: Kernel::new(alloc),
+            processing: Processing::new(alloc),
         }
+    }
+
+    /// A processor, which is told all announcements from here on. Without memory it is dropped, and the checker has failed.
+    pub fn add_processor(&mut self, processor: P) -> Result<(), CheckerError>
+        ensures { AddsListener result (kernel_of self.old) (kernel_of self.new)
+            (listeners_of self.old.processing) (listeners_of self.new.processing)
+            (record (listeners_of self.old.processing) {
+              processors = (listeners_of self.old.processing).processors ++ processor ∷ [];
+            }) }
+    {
+        if self.kernel.failed {
+            return Err(CheckerError::HasFailed);
+        }
+        if self.processing.add_processor(processor).is_err() {
+            self.kernel.failed = true;
+            return Err(CheckerError::OutOfMemory);
+        }
+        Ok(())
+    }
+
+    /// A transcript, which is told all its steps from here on. Without memory it is dropped, and the checker has failed.
+    pub fn add_transcript(&mut self, transcript: T) -> Result<(), CheckerError>
+        ensures { AddsListener result (kernel_of self.old) (kernel_of self.new)
+            (listeners_of self.old.processing) (listeners_of self.new.processing)
+            (record (listeners_of self.old.processing) {
+              transcripts = (listeners_of self.old.processing).transcripts ++ transcript ∷ [];
+            }) }
+    {
+        if self.kernel.failed {
+            return Err(CheckerError::HasFailed);
+        }
+        if self.processing.add_transcript(transcript).is_err() {
+            self.kernel.failed = true;
+            return Err(CheckerError::OutOfMemory);
+        }
+        Ok(())
+    }
+
+    /// Those who listen, each list in the order in which they were added, also after a failure.
+    pub fn into_processors(self) -> Processors<P, T>
+        ensures processors { result.processors.items ≡ (listeners_of self.processing).processors }
+        ensures transcripts { result.transcripts.items ≡ (listeners_of self.processing).transcripts }
+    {
+        let Checker {
+            kernel: _,
+            processing,
+        } = self;
+        processing.into_processors()
     }
 
     /// Takes a clause of the formula, unless it has a variable that is hidden or a witness. A refused one changes nothing.
     pub fn add_clause(&mut self, clause: &[Lit]) -> Result<(), CheckerError>
-        ensures checks { ChecksClause result self.old clause.now self.new }
-        ensures looks { LooksAtMost self.old (AddClause clause.now) self.new }
+        ensures checks { ChecksClause (HearsEach P.takes T.reads)
+            result (seen_of self.old) clause.now (seen_of self.new) }
+        ensures looks { LooksAtMost (kernel_of self.old) (AddClause clause.now) (kernel_of self.new) }
     {
-        if self.failed {
+        if self.kernel.failed {
             return Err(CheckerError::HasFailed);
         }
-        if !self.state.may_add(clause) {
+        if !self.kernel.state.may_add(clause) {
             return Err(CheckerError::CheckFailed);
         }
         self.check_step(&ProofStep::AddClause { clause })
     }
 
     /// Checks the next step, and takes it in if it is accepted.
-    pub(crate) fn check_step(&mut self, step: &ProofStep<'_>) -> Result<(), CheckerError>
-        ensures checks { ChecksStep result self.old (step_of step.now) self.new }
-        ensures goes_on { OnOk result (has_failed self.new ≡ false) }
-        ensures looks { LooksAtMost self.old (step_of step.now) self.new }
+    fn check_step(&mut self, step: &ProofStep<'_>) -> Result<(), CheckerError>
+        ensures judges { kernels.ChecksStep result (kernel_of self.old) (step_of step.now) (kernel_of self.new) }
+        ensures tells { ChecksStep (HearsEach P.takes T.reads)
+            result (seen_of self.old) (step_of step.now) (seen_of self.new) }
+        ensures looks { LooksAtMost (kernel_of self.old) (step_of step.now) (kernel_of self.new) }
     {
-        if self.failed {
-            return Err(CheckerError::HasFailed);
-        }
-        match self.state.check_step(step, &mut self.looks) {
-            Ok(true) => {
-                self.records = self.state.formula.status.records();
-                Ok(())
-            }
-            Ok(false) => {
-                self.failed = true;
-                Err(CheckerError::CheckFailed)
-            }
-            Err(StoreError::OutOfMemory) => {
-                self.failed = true;
-                Err(CheckerError::OutOfMemory)
-            }
-            Err(StoreError::CounterEnd) => {
-                self.failed = true;
-                Err(CheckerError::CounterEnd)
-            }
-        }
+        let mut nobody = Nobody {};
+        self.kernel
+            .check_step(step, &mut nobody, false, &mut self.processing)
     }
 
     /// Whether the steps so far leave no valuation: a clause among them is empty, or units contradict each other.
     pub fn unsat(&self) -> bool
-        ensures { (steps : List Step) → Stands self.now steps → result ≡ (ready_after steps).unsat }
+        ensures { (steps : List Step) → Stands (kernel_of self.now) steps → result ≡ (ready_after steps).unsat }
     {
-        self.records.unsat
+        self.kernel.records.unsat
     }
 
     /// Whether `End` was accepted.
     pub fn ended(&self) -> bool
-        ensures { (steps : List Step) → Stands self.now steps → result ≡ (ready_after steps).ended }
+        ensures { (steps : List Step) → Stands (kernel_of self.now) steps → result ≡ (ready_after steps).ended }
     {
-        self.records.ended
+        self.kernel.records.ended
     }
 
     /// Whether a `DeleteVar` was accepted.
     pub fn var_deleted(&self) -> bool
-        ensures { (steps : List Step) → Stands self.now steps → result ≡ (ready_after steps).var_deleted }
+        ensures { (steps : List Step) → Stands (kernel_of self.now) steps → result ≡ (ready_after steps).var_deleted }
     {
-        self.records.var_deleted
+        self.kernel.records.var_deleted
     }
 
     /// The user's name of a variable, while the checker hasn't failed.
     pub fn user_name(&self, var: Var) -> Option<Var>
-        ensures { has_failed self.now ≡ false
-            → (steps : List Step) → Stands self.now steps → result ≡ name_of var (ready_after steps) }
+        ensures { has_failed (kernel_of self.now) ≡ false
+            → (steps : List Step) → Stands (kernel_of self.now) steps → result ≡ name_of var (ready_after steps) }
     {
-        self.state.variables.data(var).name
+        self.kernel.state.variables.data(var).name
     }
 
     /// Whether the variable is known, while the checker hasn't failed.
     pub fn knows(&self, var: Var) -> bool
-        ensures { has_failed self.now ≡ false
-            → (steps : List Step) → Stands self.now steps → result ≡ is_known var (ready_after steps) }
+        ensures { has_failed (kernel_of self.now) ≡ false
+            → (steps : List Step) → Stands (kernel_of self.now) steps → result ≡ is_known var (ready_after steps) }
     {
-        self.state.variables.data(var).known
+        self.kernel.state.variables.data(var).known
     }
 
     /// How many literals of stored clauses were looked at, held at 2^64-1.
     pub fn looks(&self) -> u64
-        ensures { result ≡ min (looks_of self.now) (2 ^ 64 - 1) }
+        ensures { result ≡ min (looks_of (kernel_of self.now)) (2 ^ 64 - 1) }
     {
-        self.looks.get()
+        self.kernel.looks.get()
     }
 }
 
-impl SelfChecker for Checker {
-    ghost checks = { λ c step r d. ChecksStep r c step d × LooksAtMost c step d };
+impl<P: ProofProcessor, T: ProofTranscriptProcessor> SelfChecker for Checker<P, T> {
+    ghost checks = { λ c step r d. kernels.ChecksStep r (kernel_of c) step (kernel_of d) × LooksAtMost (kernel_of c) step (kernel_of d) };
 
-    ghost settles = { λ c r d. ChecksDelayed r c d };
+    ghost settles = { λ c r d. kernels.ChecksDelayed r (kernel_of c) (kernel_of d) };
 
-    fn self_check_step(&mut self, step: &ProofStep<'_>) -> Result<(), CheckerError> {
+    fn self_check_step(&mut self, step: &ProofStep<'_>) -> Result<(), CheckerError>
+        ensures checks { kernels.ChecksStep result (kernel_of self.old) (step_of step.now) (kernel_of self.new)
+            × LooksAtMost (kernel_of self.old) (step_of step.now) (kernel_of self.new) }
+        ensures tells { ChecksStep (HearsEach P.takes T.reads)
+            result (seen_of self.old) (step_of step.now) (seen_of self.new) }
+    {
         self.check_step(step)
     }
 
-    fn self_check_delayed_steps(&mut self) -> Result<(), CheckerError> {
-        if self.failed {
+    fn self_check_delayed_steps(&mut self) -> Result<(), CheckerError>
+        ensures judges { kernels.ChecksDelayed result (kernel_of self.old) (kernel_of self.new) }
+        ensures tells { ChecksDelayed (HearsEach P.takes T.reads)
+            result (seen_of self.old) (seen_of self.new) }
+    {
+        if self.kernel.failed {
             return Err(CheckerError::HasFailed);
         }
-        self.settle()
+        let mut nobody = Nobody {};
+        self.kernel.settle(&mut nobody, &mut self.processing)
     }
 }

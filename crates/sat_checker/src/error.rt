@@ -1,10 +1,11 @@
 //! What can go wrong as a proof is checked.
 
+use crate::store::StoreError;
 use sat_base::DimacsError;
 use thiserror::Error;
 
 /// Why a proof, a step or a clause wasn't accepted.
-#[derive(Clone, Copy, Debug, Drop, PartialEq, Eq, Error)]
+#[derive(Debug, Drop, Error)]
 pub enum CheckerError {
     /// The text ends before `End`.
     #[error("the proof ends before its end step")]
@@ -18,6 +19,9 @@ pub enum CheckerError {
     /// A step or a clause is refused.
     #[error("a proof step is refused")]
     CheckFailed,
+    /// A processor or a transcript answered a fault.
+    #[error("Error in proof processor: {cause}")]
+    ProofProcessorError { cause: anyhow::Error },
     #[error("out of memory")]
     OutOfMemory,
     /// The last id, 2^64-2, was given, or a clause was stored 2^64-1 times.
@@ -28,8 +32,22 @@ pub enum CheckerError {
     HasFailed,
 }
 
+impl From<StoreError> for CheckerError {
+    ghost use Rattle.std.specs.Prelude.{◌≡◌};
+    ghost use Rattle.sat_checker.specs.inner.TellingSteps.{failure_of};
+
+    ghost from_gives = { λ s e. e ≡ failure_of s };
+
+    fn from(error: StoreError) -> CheckerError {
+        match error {
+            StoreError::OutOfMemory => CheckerError::OutOfMemory,
+            StoreError::CounterEnd => CheckerError::CounterEnd,
+        }
+    }
+}
+
 /// Why a formula's text wasn't taken whole.
-#[derive(Clone, Copy, Debug, Drop, PartialEq, Eq, Error)]
+#[derive(Debug, Drop, Error)]
 pub enum CheckerDimacsError {
     #[error("{0}")]
     Dimacs(DimacsError),

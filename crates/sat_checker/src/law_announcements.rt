@@ -1,6 +1,10 @@
 //! What holds of announcements: each law is the contract of a function that does nothing.
 ghost use Rattle.sat_checker.specs.announcements.Promises.{ConflictIsFollowedBackwards, DeletionsRest, PropagationsInTurn, TautologiesRestOnNothing, ToldInOrder};
 ghost use Rattle.sat_checker.specs.announcements.Rows.{AnswersRead, Assumed, CollidingTold, ConflictAndUnitTold, Contradiction, CoreFailed, CoreOfBothSigns, DerivedIrredundant, DerivedIrredundantAgain, DerivedNew, DerivedRedundantAgain, DerivedTautology, DerivedUnitAgain, InputBehindUnsat, InputDuplicate, InputNew, InputRedundant, InputTautology, InputUnitAgain, InputsRead, ModeChanged, ModeLeft, ModeOfNameless, Modelled, ModesRead, NameNew, NameNewRead, NameOfKnown, NameOfKnownRead, NameRemoved, NameRemovedRead, NamedTwiceTold, OthersRead, OthersTell, PassedNotNeeded, RedundantGone, RedundantStays, RefutedAtZeroTold, RefutedRead, RefutedTold, SatisfiedGone, SatisfiedKept, SatisfiedStays, SimplifiedByEmpty, SimplifiedGone, SolverNameSet, UnitAlone, UnitsFirst, UnitsHeld};
+ghost use Rattle.sat_checker.specs.telling.ProcessingView.{NobodyFails};
+
+use crate::processing::ProofProcessor;
+use crate::transcript::ProofTranscriptProcessor;
 
 /// What a clause that passes the check rests on.
 pub fn propagations_run_to_conflict()
@@ -13,6 +17,11 @@ pub fn propagations_run_to_conflict()
 /// In which order steps and delayed conflicts are announced.
 pub fn announcements_are_in_order()
     ensures { ToldInOrder }
+{}
+
+/// A fault, or want of memory as something is told, comes only of somebody who listens.
+pub fn nobody_answers_a_fault<P: ProofProcessor, T: ProofTranscriptProcessor>()
+    ensures { NobodyFails P.takes T.reads }
 {}
 
 /// Worked rows of what derived clauses rest on, at widths 64, 8 and 0.

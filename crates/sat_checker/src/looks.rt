@@ -1,9 +1,12 @@
 //! The count of looks at literals of stored clauses.
 ghost use Rattle.std.specs.Prelude.{◌≡◌, ◌+◌, ◌-◌, ◌^◌, min};
-ghost use Rattle.sat_checker.specs.CheckerView.{looks_of};
+ghost use Rattle.sat_checker.specs.CheckerView.{kernel_of};
+ghost use Rattle.sat_checker.specs.KernelView.{looks_of};
 
 use crate::checker::Checker;
+use crate::processing::ProofProcessor;
 use crate::tally::LookTally;
+use crate::transcript::ProofTranscriptProcessor;
 use std::marker::Model;
 
 /// How many literals of stored clauses were looked at, which contracts see without a largest value.
@@ -42,10 +45,10 @@ impl Looks {
     }
 
     /// Those of the checker, too.
-    pub fn add(&mut self, checker: &Checker)
-        ensures { self.new ≡ self.old + looks_of checker.now }
+    pub fn add<P: ProofProcessor, T: ProofTranscriptProcessor>(&mut self, checker: &Checker<P, T>)
+        ensures { self.new ≡ self.old + looks_of (kernel_of checker.now) }
     {
-        self.join(&checker.looks);
+        self.join(&checker.kernel.looks);
     }
 
     fn join(&mut self, other: &Looks)

@@ -1,13 +1,14 @@
 //! Who is told what the checker announces: processors, and transcripts.
-ghost use Rattle.std.specs.Prelude.{◌≡◌, ◌++◌, ◌∷◌, ◌<◌, [], length, IfErr, MatchBool, OnOk, OnErr, Result, Some};
+ghost use Rattle.std.specs.Prelude.{◌≡◌, ◌++◌, ◌∷◌, [], true, IfErr, OnOk, OnErr, Result, Some};
 ghost use Rattle.anyhow.specs.declared.error.Error.{Error as Cause};
 ghost use Rattle.sat_checker.specs.announcements.Announcements.{Told};
 ghost use Rattle.sat_checker.specs.announcements.Transcripts.{Transcribed, transcript};
 ghost use Rattle.sat_checker.specs.inner.VariablesView.{variable_at};
 ghost use Rattle.sat_checker.specs.telling.AnnouncementView.{announcement_of, told_of, variables_of};
+ghost use Rattle.sat_checker.specs.telling.Hearing.{hearers, takes_all, HearsFirst};
 ghost use Rattle.sat_checker.specs.telling.TranscriptView.{transcribed_of};
-ghost use Rattle.sat_checker.specs.telling.Telling.{AllTold, SomeTold, Tells, TellsFirst, Transcribes};
-ghost use Rattle.sat_checker.specs.telling.ProcessingView.{listeners_of};
+ghost use Rattle.sat_checker.specs.telling.Telling.{AllTold, SomeTold, Transcribes};
+ghost use Rattle.sat_checker.specs.telling.ProcessingView.{listeners_of, HearsEach};
 
 use crate::announcement::{CheckedProofStep, CheckerData};
 use crate::transcript::{ProofTranscriptProcessor, ProofTranscriptStep, Transcript};
@@ -28,32 +29,17 @@ pub trait ProofProcessor: Drop {
         ensures { takes self.old (told_of step.now names.entry) result self.new };
 }
 
-fn tell_processor(
-    processor: &mut Box<dyn ProofProcessor>,
+fn tell_processors<P: ProofProcessor>(
+    processors: &mut [P],
     step: &CheckedProofStep<'_>,
     names: CheckerData<'_>,
 ) -> anyhow::Result<()>
-    ensures { (after : _) × (processor.new ≡ record processor.old { value = after })
-        × takes processor.old (told_of step.now names.entry) result after }
-{
-    let object = processor.as_mut();
-    object.process_step(step, names)
-}
-
-fn tell_processors(
-    processors: &mut [Box<dyn ProofProcessor>],
-    step: &CheckedProofStep<'_>,
-    names: CheckerData<'_>,
-) -> anyhow::Result<()>
-    ensures ok { OnOk result (AllTold
-        (λ r b d. (after : _) × (d ≡ record b { value = after }) × takes b (told_of step.now names.entry) r after)
-        processors.old processors.new) }
-    ensures err { IfErr result (λ cause. SomeTold
-        (λ r b d. (after : _) × (d ≡ record b { value = after }) × takes b (told_of step.now names.entry) r after)
-        cause processors.old processors.new) }
+    ensures ok { OnOk result (AllTold (λ r b d. P.takes b (told_of step.now names.entry) r d) processors.old processors.new) }
+    ensures err { IfErr result
+        (λ cause. SomeTold (λ r b d. P.takes b (told_of step.now names.entry) r d) cause processors.old processors.new) }
 {
     for processor in processors.iter_mut() {
-        match tell_processor(processor, step, names) {
+        match processor.process_step(step, names) {
             Ok(()) => {}
             Err(cause) => return Err(cause),
         }
@@ -61,30 +47,16 @@ fn tell_processors(
     Ok(())
 }
 
-fn tell_transcript(
-    transcript: &mut Box<dyn ProofTranscriptProcessor>,
+fn tell_transcripts<T: ProofTranscriptProcessor>(
+    transcripts: &mut [T],
     step: &ProofTranscriptStep<'_>,
 ) -> anyhow::Result<()>
-    ensures { (after : _) × (transcript.new ≡ record transcript.old { value = after })
-        × reads transcript.old (transcribed_of step.now) result after }
-{
-    let object = transcript.as_mut();
-    object.process_step(step)
-}
-
-fn tell_transcripts(
-    transcripts: &mut [Box<dyn ProofTranscriptProcessor>],
-    step: &ProofTranscriptStep<'_>,
-) -> anyhow::Result<()>
-    ensures ok { OnOk result (AllTold
-        (λ r b d. (after : _) × (d ≡ record b { value = after }) × reads b (transcribed_of step.now) r after)
-        transcripts.old transcripts.new) }
-    ensures err { IfErr result (λ cause. SomeTold
-        (λ r b d. (after : _) × (d ≡ record b { value = after }) × reads b (transcribed_of step.now) r after)
-        cause transcripts.old transcripts.new) }
+    ensures ok { OnOk result (AllTold (λ r b d. T.reads b (transcribed_of step.now) r d) transcripts.old transcripts.new) }
+    ensures err { IfErr result
+        (λ cause. SomeTold (λ r b d. T.reads b (transcribed_of step.now) r d) cause transcripts.old transcripts.new) }
 {
     for transcript in transcripts.iter_mut() {
-        match tell_transcript(transcript, step) {
+        match transcript.process_step(step) {
             Ok(()) => {}
             Err(cause) => return Err(cause),
         }
@@ -114,12 +86,11 @@ impl From<AllocError> for ProcessingError {
 }
 
 /// As `tell_transcripts`, with the error of an announcement.
-fn tell_all(
-    transcripts: &mut [Box<dyn ProofTranscriptProcessor>],
+fn tell_all<T: ProofTranscriptProcessor>(
+    transcripts: &mut [T],
     step: &ProofTranscriptStep<'_>,
 ) -> Result<(), ProcessingError>
-    ensures { Transcribes
-        (λ said r b d. (after : _) × (d ≡ record b { value = after }) × reads b said r after)
+    ensures { Transcribes (λ said r b d. T.reads b said r d)
         (Some (transcribed_of step.now)) result transcripts.old transcripts.new }
 {
     match tell_transcripts(transcripts, step) {
@@ -129,14 +100,13 @@ fn tell_all(
 }
 
 /// Tells the transcripts what they say of an announcement.
-fn transcribe(
+fn transcribe<T: ProofTranscriptProcessor>(
     made: &mut Transcript,
-    transcripts: &mut [Box<dyn ProofTranscriptProcessor>],
+    transcripts: &mut [T],
     step: &CheckedProofStep<'_>,
     names: CheckerData<'_>,
 ) -> Result<(), ProcessingError>
-    ensures { Transcribes
-        (λ said r b d. (after : _) × (d ≡ record b { value = after }) × reads b said r after)
+    ensures { Transcribes (λ said r b d. T.reads b said r d)
         (transcript (variables_of names.entry) (announcement_of step.now)) result transcripts.old transcripts.new }
 {
     if transcripts.is_empty() {
@@ -151,22 +121,22 @@ fn transcribe(
 
 /// Processors and transcripts, each in the order in which they were added.
 #[derive(Drop)]
-pub struct Processors {
-    pub processors: Vec<Box<dyn ProofProcessor>>,
-    pub transcripts: Vec<Box<dyn ProofTranscriptProcessor>>,
+pub struct Processors<P: ProofProcessor, T: ProofTranscriptProcessor> {
+    pub processors: Vec<P>,
+    pub transcripts: Vec<T>,
 }
 
 /// Who listens to a checker.
 #[derive(Drop)]
-pub struct Processing {
-    processors: Vec<Box<dyn ProofProcessor>>,
-    transcripts: Vec<Box<dyn ProofTranscriptProcessor>>,
+pub struct Processing<P: ProofProcessor, T: ProofTranscriptProcessor> {
+    processors: Vec<P>,
+    transcripts: Vec<T>,
     transcript: Transcript,
 }
 
-impl Processing {
+impl<P: ProofProcessor, T: ProofTranscriptProcessor> Processing<P, T> {
     /// Nobody listens yet. Nothing is allocated.
-    pub fn new(alloc: Global) -> Processing
+    pub fn new(alloc: Global) -> Processing<P, T>
         ensures { listeners_of result ≡ record { processors = []; transcripts = [] } }
     {
         Processing {
@@ -176,8 +146,8 @@ impl Processing {
         }
     }
 
-    /// Without memory the box is dropped.
-    pub fn add_processor(&mut self, processor: Box<dyn ProofProcessor>) -> Result<(), AllocError>
+    /// Without memory the processor is dropped.
+    pub fn add_processor(&mut self, processor: P) -> Result<(), AllocError>
         ensures ok { OnOk result (listeners_of self.new
             ≡ record (listeners_of self.old) { processors = (listeners_of self.old).processors ++ processor ∷ [] }) }
         ensures err { OnErr result (listeners_of self.new ≡ listeners_of self.old) }
@@ -186,11 +156,8 @@ impl Processing {
         Ok(())
     }
 
-    /// Without memory the box is dropped.
-    pub fn add_transcript(
-        &mut self,
-        transcript: Box<dyn ProofTranscriptProcessor>,
-    ) -> Result<(), AllocError>
+    /// Without memory the transcript is dropped.
+    pub fn add_transcript(&mut self, transcript: T) -> Result<(), AllocError>
         ensures ok { OnOk result (listeners_of self.new
             ≡ record (listeners_of self.old) { transcripts = (listeners_of self.old).transcripts ++ transcript ∷ [] }) }
         ensures err { OnErr result (listeners_of self.new ≡ listeners_of self.old) }
@@ -199,17 +166,11 @@ impl Processing {
         Ok(())
     }
 
-    /// Whether there is a processor. Propagations are told to processors alone.
-    pub fn has_processors(&self) -> bool
-        ensures { MatchBool result (0 < length (listeners_of self.now).processors) ((listeners_of self.now).processors ≡ []) }
+    /// Whether nobody listens.
+    pub fn is_quiet(&self) -> bool
+        ensures { result ≡ true → listeners_of self.now ≡ record { processors = []; transcripts = [] } }
     {
-        !self.processors.is_empty()
-    }
-
-    pub fn has_transcripts(&self) -> bool
-        ensures { MatchBool result (0 < length (listeners_of self.now).transcripts) ((listeners_of self.now).transcripts ≡ []) }
-    {
-        !self.transcripts.is_empty()
+        self.processors.is_empty() && self.transcripts.is_empty()
     }
 
     /// Tells an announcement to the processors, and its transcript to the transcripts, in the order in which they were added. The first
@@ -219,11 +180,7 @@ impl Processing {
         step: &CheckedProofStep<'_>,
         names: CheckerData<'_>,
     ) -> Result<(), ProcessingError>
-        ensures { Tells
-            (λ r b d. (after : _) × (d ≡ record b { value = after }) × takes b (told_of step.now names.entry) r after)
-            (λ said r b d. (after : _) × (d ≡ record b { value = after }) × reads b said r after)
-            (transcript (variables_of names.entry) (announcement_of step.now))
-            result (listeners_of self.old) (listeners_of self.new) }
+        ensures { HearsEach P.takes T.reads self.old (told_of step.now names.entry) result self.new }
     {
         match tell_processors(&mut self.processors, step, names) {
             Ok(()) => transcribe(&mut self.transcript, &mut self.transcripts, step, names),
@@ -232,20 +189,14 @@ impl Processing {
     }
 
     /// Tells an announcement to a processor of the caller's own, and then as `step` does.
-    pub fn step_with<P: ProofProcessor>(
+    pub fn step_with<O: ProofProcessor>(
         &mut self,
-        own: &mut P,
+        own: &mut O,
         step: &CheckedProofStep<'_>,
         names: CheckerData<'_>,
     ) -> Result<(), ProcessingError>
-        ensures { TellsFirst (P.takes own.old (told_of step.now names.entry))
-            (Tells
-            (λ r b d. (after : _) × (d ≡ record b { value = after })
-            × (⟦<dyn ProofProcessor as ProofProcessor>⟧ b.vtable).takes b.value (told_of step.now names.entry) r after)
-            (λ said r b d. (after : _) × (d ≡ record b { value = after }) × reads b said r after)
-            (transcript (variables_of names.entry) (announcement_of step.now))
-            result (listeners_of self.old) (listeners_of self.new))
-            result own.new (listeners_of self.old) (listeners_of self.new) }
+        ensures { HearsFirst O.takes (HearsEach P.takes T.reads)
+            (hearers own.old self.old) (told_of step.now names.entry) result (hearers own.new self.new) }
     {
         match own.process_step(step, names) {
             Ok(()) => self.step(step, names),
@@ -253,8 +204,8 @@ impl Processing {
         }
     }
 
-    /// The boxes, each list in the order in which they were added.
-    pub fn into_processors(self) -> Processors
+    /// Those who listen, each list in the order in which they were added.
+    pub fn into_processors(self) -> Processors<P, T>
         ensures processors { result.processors.items ≡ (listeners_of self).processors }
         ensures transcripts { result.transcripts.items ≡ (listeners_of self).transcripts }
     {
@@ -270,18 +221,40 @@ impl Processing {
     }
 }
 
+/// A processor and a transcript that takes everything and does nothing.
+#[derive(Drop)]
+pub struct Nobody {}
+
+impl ProofProcessor for Nobody {
+    ghost takes = { takes_all };
+
+    fn process_step(
+        &mut self,
+        _step: &CheckedProofStep<'_>,
+        _names: CheckerData<'_>,
+    ) -> anyhow::Result<()> {
+        Ok(())
+    }
+}
+
+impl ProofTranscriptProcessor for Nobody {
+    ghost use Rattle.std.specs.Prelude.{◌≡◌, Ok};
+
+    ghost reads = { λ old said r new. (r ≡ Ok tt) × (new ≡ old) };
+
+    fn process_step(&mut self, _step: &ProofTranscriptStep<'_>) -> anyhow::Result<()> {
+        Ok(())
+    }
+}
+
 /// Tells an announcement to all who listen, while these variables may be looked up.
-pub fn process_step(
-    processing: &mut Processing,
+pub fn process_step<P: ProofProcessor, T: ProofTranscriptProcessor>(
+    processing: &mut Processing<P, T>,
     variables: &Variables,
     step: &CheckedProofStep<'_>,
 ) -> Result<(), ProcessingError>
-    ensures { Tells
-        (λ r b d. (after : _) × (d ≡ record b { value = after })
-        × takes b (record { announcement = announcement_of step.now; variables = variable_at variables.now }) r after)
-        (λ said r b d. (after : _) × (d ≡ record b { value = after }) × reads b said r after)
-        (transcript (variable_at variables.now) (announcement_of step.now))
-        result (listeners_of processing.old) (listeners_of processing.new) }
+    ensures { HearsEach P.takes T.reads processing.old
+        (record { announcement = announcement_of step.now; variables = variable_at variables.now }) result processing.new }
 {
     processing.step(step, CheckerData::new(variables))
 }

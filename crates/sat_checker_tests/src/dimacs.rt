@@ -1,16 +1,17 @@
 //! Formulas' texts.
 
 use crate::devices::by_one;
+use crate::kinds::{DimacsKind, Kind, dimacs_failure, failure};
 use sat_base::{Counted, CountedRead, DimacsError, Lit};
 use sat_checker::{Checker, CheckerDimacsError, CheckerError};
 use std::alloc::Global;
 use std::test::Fail;
 
 /// What a checker answers to a text: the error, and whether unsat is recorded.
-type Answer = (Option<CheckerDimacsError>, bool);
+type Answer = (Option<DimacsKind>, bool);
 
 fn read_on<R: CountedRead>(checker: &mut Checker, reader: &mut R) -> Answer {
-    let error = checker.add_dimacs_cnf(reader).err();
+    let error = dimacs_failure(&checker.add_dimacs_cnf(reader));
     (error, checker.unsat())
 }
 
@@ -27,11 +28,11 @@ const TAKEN: Answer = (None, false);
 const REFUTED: Answer = (None, true);
 
 fn at_fault(error: DimacsError, unsat: bool) -> Answer {
-    (Some(CheckerDimacsError::Dimacs(error)), unsat)
+    (Some(DimacsKind::Dimacs(error)), unsat)
 }
 
 /// The clauses over two variables, with each pair of signs.
-const PAIRS: &[u8] = b"c four clauses\np cnf 2 4\n1 2 0\n1 -2 0\n-1 2 0\n-1 -2 0\n";
+pub(crate) const PAIRS: &[u8] = b"c four clauses\np cnf 2 4\n1 2 0\n1 -2 0\n-1 2 0\n-1 -2 0\n";
 
 const TEXTS: [(&[u8], Answer); 6] = [
     (b"", TAKEN),
@@ -117,10 +118,10 @@ const REFUTATIONS: [&[u8]; 2] = [
 ];
 
 /// What a checker answers to a proof behind a text, both in pieces of one byte.
-fn refuted(alloc: Global, proof: &[u8]) -> (Answer, Option<CheckerError>, bool) {
+fn refuted(alloc: Global, proof: &[u8]) -> (Answer, Option<Kind>, bool) {
     let mut checker = Checker::new(alloc);
     let taken = read_on(&mut checker, &mut by_one(PAIRS, 0));
-    let error = checker.check_proof(&mut by_one(proof, 0)).err();
+    let error = failure(&checker.check_proof(&mut by_one(proof, 0)));
     (taken, error, checker.unsat())
 }
 
@@ -141,12 +142,12 @@ fn refused_clauses_end_a_text(rt: HostRuntime) -> Result<(), Fail> {
     let mut checker = Checker::new(rt.alloc());
     let hidden: &[u8] = &[2, 0, 1, 2, 0, 0];
     let text: &[u8] = b"2 0\n1 0\n-2 0\n";
-    let refused = Some(CheckerDimacsError::Checker(CheckerError::CheckFailed));
+    let refused = Some(DimacsKind::Checker(Kind::CheckFailed));
     assert!(rt;
-        checker.check_proof(&mut Counted::new(hidden)) == Err(CheckerError::ProofIncomplete)
+        failure(&checker.check_proof(&mut Counted::new(hidden))) == Some(Kind::ProofIncomplete)
     );
     assert!(rt; read_on(&mut checker, &mut Counted::new(text)) == (refused, false));
-    assert!(rt; checker.add_clause(&[Lit::from_code(3)]) == Ok(()));
+    assert!(rt; checker.add_clause(&[Lit::from_code(3)]).is_ok());
     assert!(rt; checker.unsat());
     Ok(())
 }
@@ -156,8 +157,10 @@ fn refused_clauses_end_a_text(rt: HostRuntime) -> Result<(), Fail> {
 fn failing_is_final(rt: HostRuntime) -> Result<(), Fail> {
     let mut checker = Checker::new(rt.alloc());
     let refused: &[u8] = &[3, 0];
-    let failed = Some(CheckerDimacsError::Checker(CheckerError::HasFailed));
-    assert!(rt; checker.check_proof(&mut Counted::new(refused)) == Err(CheckerError::CheckFailed));
+    let failed = Some(DimacsKind::Checker(Kind::HasFailed));
+    assert!(rt;
+        failure(&checker.check_proof(&mut Counted::new(refused))) == Some(Kind::CheckFailed)
+    );
     assert!(rt; read_on(&mut checker, &mut by_one(PAIRS, 1)) == (failed, false));
     Ok(())
 }

@@ -46,7 +46,8 @@ fn lits(numbers: [i64; 3]) -> Option<[Lit; 3]> {
     ])
 }
 
-fn have_numbers(lits: &[Lit], numbers: &[i64]) -> bool {
+/// Whether literals have these numbers in DIMACS, in this order.
+pub(crate) fn have_numbers(lits: &[Lit], numbers: &[i64]) -> bool {
     if lits.len() != numbers.len() {
         return false;
     }

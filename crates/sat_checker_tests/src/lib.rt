@@ -2,13 +2,21 @@
 #![tactic(auto)]
 
 #[cfg(test)]
+mod announcements;
+#[cfg(test)]
 mod caller;
 #[cfg(test)]
 mod devices;
 #[cfg(test)]
 mod dimacs;
 #[cfg(test)]
+mod failures;
+#[cfg(test)]
+mod hearing;
+#[cfg(test)]
 mod items;
+#[cfg(test)]
+mod kinds;
 #[cfg(test)]
 mod listeners;
 #[cfg(test)]

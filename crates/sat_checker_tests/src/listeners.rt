@@ -4,14 +4,14 @@ use sat_base::{Lit, Var};
 use sat_checker::processing::process_step;
 use sat_checker::variables::Variables;
 use sat_checker::{
-    CheckedProofStep, CheckerData, Processing, Processors, ProofProcessor,
+    CheckedProofStep, Checker, CheckerData, Processing, Processors, ProofProcessor,
     ProofTranscriptProcessor, ProofTranscriptStep, Transcript,
 };
 use std::alloc::Global;
 
 /// Answers a fault at one of its calls, counted from 1.
 #[derive(Drop)]
-struct FailsAt {
+pub(crate) struct FailsAt {
     calls: u64,
     at: u64,
 }
@@ -54,8 +54,19 @@ impl ProofTranscriptProcessor for FailsAt {
     }
 }
 
+/// Adds a processor and a transcript that take everything. The answer is whether there was memory.
+pub(crate) fn add_quiet(checker: &mut Checker<FailsAt, FailsAt>) -> bool {
+    let processor = checker.add_processor(FailsAt::new(0));
+    let transcript = checker.add_transcript(FailsAt::new(0));
+    processor.is_ok() && transcript.is_ok()
+}
+
 /// How often the announcement is told before the first fault, of four times.
-fn told(processing: &mut Processing, variables: &Variables, step: &CheckedProofStep<'_>) -> u64 {
+fn told(
+    processing: &mut Processing<FailsAt, FailsAt>,
+    variables: &Variables,
+    step: &CheckedProofStep<'_>,
+) -> u64 {
     for count in 0..4 {
         if process_step(processing, variables, step).is_err() {
             return count;
@@ -68,39 +79,22 @@ fn told(processing: &mut Processing, variables: &Variables, step: &CheckedProofS
 /// the transcript were called once less.
 fn are_handed_back(alloc: Global, at: u64) -> Option<bool> {
     let variables = Variables::new(alloc);
-    let mut processing = Processing::new(alloc);
-    processing
-        .add_processor(Box::new(alloc, FailsAt::new(at)).ok()?)
-        .ok()?;
-    processing
-        .add_processor(Box::new(alloc, FailsAt::new(at)).ok()?)
-        .ok()?;
-    processing
-        .add_transcript(Box::new(alloc, FailsAt::new(at)).ok()?)
-        .ok()?;
+    let mut processing: Processing<FailsAt, FailsAt> = Processing::new(alloc);
+    processing.add_processor(FailsAt::new(at)).ok()?;
+    processing.add_processor(FailsAt::new(at)).ok()?;
+    processing.add_transcript(FailsAt::new(at)).ok()?;
     let step = CheckedProofStep::AddClause { id: 0, clause: &[] };
     let count = told(&mut processing, &variables, &step);
-    Some(count.saturating_add(1) == at && were_left(processing.into_processors(), &variables)?)
+    Some(count.saturating_add(1) == at && were_left(&processing.into_processors(), at))
 }
 
-/// Whether the next call of the second processor and of the transcript answers a fault, and that of the first doesn't.
-fn were_left(boxes: Processors, variables: &Variables) -> Option<bool> {
-    let Processors {
-        mut processors,
-        mut transcripts,
-    } = boxes;
-    let step = CheckedProofStep::AddClause { id: 0, clause: &[] };
-    let names = CheckerData::new(variables);
-    let mut second = processors.pop()?;
-    let mut first = processors.pop()?;
-    let mut third = transcripts.pop()?;
-    Some(
-        first.process_step(&step, names).is_ok()
-            && second.process_step(&step, names).is_err()
-            && third.process_step(&ProofTranscriptStep::Unsat).is_err()
-            && processors.is_empty()
-            && transcripts.is_empty(),
-    )
+/// Whether the first processor was called so often, and the second and the transcript once less.
+fn were_left(given_back: &Processors<FailsAt, FailsAt>, at: u64) -> bool {
+    given_back.processors.len() == 2
+        && given_back.transcripts.len() == 1
+        && given_back.processors[0].calls == at
+        && given_back.processors[1].calls.saturating_add(1) == at
+        && given_back.transcripts[0].calls.saturating_add(1) == at
 }
 
 #[test]
@@ -115,12 +109,10 @@ fn is_told_first(alloc: Global) -> Option<bool> {
     let step = CheckedProofStep::AddClause { id: 0, clause: &[] };
     let names_of = Variables::new(alloc);
     let names = CheckerData::new(&names_of);
-    let mut processing = Processing::new(alloc);
-    let unheard = !processing.has_processors() && !processing.has_transcripts();
-    processing
-        .add_processor(Box::new(alloc, FailsAt::new(1)).ok()?)
-        .ok()?;
-    let heard = processing.has_processors() && !processing.has_transcripts();
+    let mut processing: Processing<FailsAt, FailsAt> = Processing::new(alloc);
+    let unheard = processing.is_quiet();
+    processing.add_processor(FailsAt::new(1)).ok()?;
+    let heard = !processing.is_quiet();
     let mut own = FailsAt::new(1);
     let first = processing.step_with(&mut own, &step, names).is_err();
     let only_own = own.calls == 1 && processing.step(&step, names).is_err();

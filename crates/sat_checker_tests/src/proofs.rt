@@ -1,31 +1,35 @@
 //! Whole proofs, and clauses that come before them.
 
 use crate::devices::by_one;
+use crate::kinds::{Kind, failure};
 use crate::rows::{Row, next_error};
 use sat_base::{CnfFormula, Counted, CountedRead, ExtendFormula, Lit};
-use sat_checker::{Checker, CheckerError, Looks};
+use sat_checker::{Checker, Looks, ProofProcessor, ProofTranscriptProcessor};
 use std::alloc::Global;
 use std::test::Fail;
 
 /// What a checker answers to a proof: the error, whether unsat is recorded, and whether it has ended.
-type Answer = (Option<CheckerError>, bool, bool);
+type Answer = (Option<Kind>, bool, bool);
 
 fn read_on<R: CountedRead>(checker: &mut Checker, reader: &mut R) -> Answer {
-    let error = checker.check_proof(reader).err();
+    let error = failure(&checker.check_proof(reader));
     (error, checker.unsat(), checker.ended())
 }
 
 const END: &[u8] = &[13];
 
 /// What a new checker answers to a proof, and to an end behind it.
-fn answered<R: CountedRead>(alloc: Global, reader: &mut R) -> (Answer, Option<CheckerError>) {
+fn answered<R: CountedRead>(alloc: Global, reader: &mut R) -> (Answer, Option<Kind>) {
     let mut checker = Checker::new(alloc);
     let answer = read_on(&mut checker, reader);
-    (answer, checker.check_proof(&mut Counted::new(END)).err())
+    (
+        answer,
+        failure(&checker.check_proof(&mut Counted::new(END))),
+    )
 }
 
 /// Whether a text is answered so, read whole and in pieces of one byte.
-fn is_text_answered(alloc: Global, text: &[u8], wanted: &(Answer, Option<CheckerError>)) -> bool {
+fn is_text_answered(alloc: Global, text: &[u8], wanted: &(Answer, Option<Kind>)) -> bool {
     answered(alloc, &mut Counted::new(text)) == *wanted
         && answered(alloc, &mut by_one(text, 0)) == *wanted
 }
@@ -34,7 +38,7 @@ fn is_text_answered(alloc: Global, text: &[u8], wanted: &(Answer, Option<Checker
 fn proof_answer(row: &Row) -> Answer {
     let (error, unsat, ended) = row.1;
     if error.is_none() && !ended {
-        (Some(CheckerError::ProofIncomplete), unsat, ended)
+        (Some(Kind::ProofIncomplete), unsat, ended)
     } else {
         (error, unsat, ended)
     }
@@ -45,9 +49,9 @@ pub(crate) fn is_answered(alloc: Global, row: &Row) -> bool {
     is_text_answered(alloc, row.0, &(proof_answer(row), next_error(&row.1)))
 }
 
-const INCOMPLETE: Answer = (Some(CheckerError::ProofIncomplete), false, false);
+const INCOMPLETE: Answer = (Some(Kind::ProofIncomplete), false, false);
 
-const UNREAD: Answer = (Some(CheckerError::ParseError), false, false);
+const UNREAD: Answer = (Some(Kind::ParseError), false, false);
 
 const ENDED: Answer = (None, false, true);
 
@@ -86,7 +90,7 @@ const NAMED_AGAIN: &[u8] = &[
 fn goes_on_behind(alloc: Global, failing: u64) -> bool {
     let mut checker = Checker::new(alloc);
     let answer = read_on(&mut checker, &mut by_one(NAMED_AGAIN, failing));
-    answer.0 == Some(CheckerError::IoError) && checker.check_proof(&mut Counted::new(END)).is_ok()
+    answer.0 == Some(Kind::IoError) && checker.check_proof(&mut Counted::new(END)).is_ok()
 }
 
 #[test]
@@ -121,12 +125,15 @@ fn add_pairs(formula: &mut CnfFormula) -> bool {
     added
 }
 
-fn add_all(alloc: Global, checker: &mut Checker) -> Option<CheckerError> {
+pub(crate) fn add_all<P: ProofProcessor, T: ProofTranscriptProcessor>(
+    alloc: Global,
+    checker: &mut Checker<P, T>,
+) -> Option<Kind> {
     let mut formula = CnfFormula::new(alloc);
     if !add_pairs(&mut formula) {
-        return Some(CheckerError::OutOfMemory);
+        return Some(Kind::OutOfMemory);
     }
-    checker.add_formula(&formula).err()
+    failure(&checker.add_formula(&formula))
 }
 
 fn push_units(formula: &mut CnfFormula) -> bool {
@@ -137,12 +144,12 @@ fn push_units(formula: &mut CnfFormula) -> bool {
     added
 }
 
-fn add_units(alloc: Global, checker: &mut Checker) -> Option<CheckerError> {
+fn add_units(alloc: Global, checker: &mut Checker) -> Option<Kind> {
     let mut formula = CnfFormula::new(alloc);
     if !push_units(&mut formula) {
-        return Some(CheckerError::OutOfMemory);
+        return Some(Kind::OutOfMemory);
     }
-    checker.add_formula(&formula).err()
+    failure(&checker.add_formula(&formula))
 }
 
 /// A clause of a hidden variable isn't taken, and neither is one behind it.
@@ -151,16 +158,16 @@ fn refused_clauses_end_a_formula(rt: HostRuntime) -> Result<(), Fail> {
     let mut checker = Checker::new(rt.alloc());
     let hidden: &[u8] = &[2, 0, 1, 2, 0, 0];
     assert!(rt;
-        checker.check_proof(&mut Counted::new(hidden)) == Err(CheckerError::ProofIncomplete)
+        failure(&checker.check_proof(&mut Counted::new(hidden))) == Some(Kind::ProofIncomplete)
     );
-    assert!(rt; add_units(rt.alloc(), &mut checker) == Some(CheckerError::CheckFailed));
+    assert!(rt; add_units(rt.alloc(), &mut checker) == Some(Kind::CheckFailed));
     assert!(rt; !checker.unsat());
-    assert!(rt; checker.add_clause(&[Lit::from_code(3)]) == Ok(()));
+    assert!(rt; checker.add_clause(&[Lit::from_code(3)]).is_ok());
     assert!(rt; checker.unsat());
     Ok(())
 }
 
-fn refuted(alloc: Global, text: &[u8]) -> (Option<CheckerError>, Answer) {
+fn refuted(alloc: Global, text: &[u8]) -> (Option<Kind>, Answer) {
     let mut checker = Checker::new(alloc);
     let added = add_all(alloc, &mut checker);
     (added, read_on(&mut checker, &mut Counted::new(text)))
@@ -190,14 +197,12 @@ fn formulas_are_refuted(rt: HostRuntime) -> Result<(), Fail> {
 fn clauses_come_twice(rt: HostRuntime) -> Result<(), Fail> {
     let mut checker = Checker::new(rt.alloc());
     let (first, second) = (Lit::from_code(0), Lit::from_code(2));
-    assert!(rt; checker.add_clause(&[first, second]) == Ok(()));
-    assert!(rt; checker.add_clause(&[second, first, first]) == Ok(()));
+    assert!(rt; checker.add_clause(&[first, second]).is_ok());
+    assert!(rt; checker.add_clause(&[second, first, first]).is_ok());
     let third: &[u8] = &[6, 0, 1, 4, 0, 13];
-    assert!(rt;
-        read_on(&mut checker, &mut Counted::new(third)).0 == Some(CheckerError::CheckFailed)
-    );
-    assert!(rt; read_on(&mut checker, &mut Counted::new(third)).0 == Some(CheckerError::HasFailed));
-    assert!(rt; checker.add_clause(&[first]) == Err(CheckerError::HasFailed));
+    assert!(rt; read_on(&mut checker, &mut Counted::new(third)).0 == Some(Kind::CheckFailed));
+    assert!(rt; read_on(&mut checker, &mut Counted::new(third)).0 == Some(Kind::HasFailed));
+    assert!(rt; failure(&checker.add_clause(&[first])) == Some(Kind::HasFailed));
     Ok(())
 }
 

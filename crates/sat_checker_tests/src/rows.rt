@@ -1,12 +1,12 @@
 //! Steps in bytes, and what a checker answers to them, by the kind of the last step.
 
+use crate::kinds::Kind;
 use crate::{proofs, steps};
-use sat_checker::CheckerError;
 use std::alloc::Global;
 use std::test::Fail;
 
 /// What a checker answers to steps: the first error, and whether unsat is recorded and it has ended.
-pub(crate) type Answer = (Option<CheckerError>, bool, bool);
+pub(crate) type Answer = (Option<Kind>, bool, bool);
 
 pub(crate) type Row = (&'static [u8], Answer);
 
@@ -16,17 +16,17 @@ const REFUTED: Answer = (None, true, true);
 
 const GOES_ON: Answer = (None, false, false);
 
-const REFUSED: Answer = (Some(CheckerError::CheckFailed), false, false);
+const REFUSED: Answer = (Some(Kind::CheckFailed), false, false);
 
 const UNSAT: Answer = (None, true, false);
 
 /// Refused where unsat is recorded.
-const UNSAT_REFUSED: Answer = (Some(CheckerError::CheckFailed), true, false);
+const UNSAT_REFUSED: Answer = (Some(Kind::CheckFailed), true, false);
 
 /// What the next call answers: a refused step is the last.
-pub(crate) fn next_error(answer: &Answer) -> Option<CheckerError> {
+pub(crate) fn next_error(answer: &Answer) -> Option<Kind> {
     if answer.0.is_some() {
-        Some(CheckerError::HasFailed)
+        Some(Kind::HasFailed)
     } else {
         None
     }

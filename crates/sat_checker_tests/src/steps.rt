@@ -1,50 +1,63 @@
 //! Steps that are accepted and refused, read from their bytes.
 
 use crate::devices::by_one;
+use crate::kinds::{Kind, failure};
+use crate::listeners::{FailsAt, add_quiet};
 use crate::rows::{Answer, Row, next_error};
 use sat_base::{Counted, CountedRead, Lit, ProofStep, StepReader};
 use sat_checker::{Checker, CheckerError, SelfChecker};
 use std::alloc::Global;
 use std::test::Fail;
 
-/// Feeds a checker the steps of a text, up to the first that is refused. Gives that one's error, or None.
+/// Feeds a checker the steps of a text, up to the first that is refused.
 fn fed<C: SelfChecker, R: CountedRead>(
     checker: &mut C,
     steps: &mut StepReader<'_, R>,
-) -> Option<CheckerError> {
+) -> Result<(), CheckerError> {
     for _ in 0..100 {
         if steps.advance().is_err() {
-            return None;
+            return Ok(());
         }
-        if let Err(error) = checker.self_check_step(&steps.step()) {
-            return Some(error);
-        }
+        checker.self_check_step(&steps.step())?;
     }
-    None
+    Ok(())
 }
 
-/// Feeds a checker the steps of a reader.
-fn read_by<R: CountedRead>(
+/// Feeds a checker the steps of a reader, up to the first that is refused.
+pub(crate) fn read_by<C: SelfChecker, R: CountedRead>(
     alloc: Global,
-    checker: &mut Checker,
+    checker: &mut C,
     reader: &mut R,
-) -> Option<CheckerError> {
+) -> Result<(), CheckerError> {
     fed(checker, &mut StepReader::new(alloc, reader))
 }
 
 /// What a checker answers to the steps of a reader, and to an empty clause behind them.
-fn answered<R: CountedRead>(alloc: Global, reader: &mut R) -> (Answer, Option<CheckerError>) {
+fn answered<R: CountedRead>(alloc: Global, reader: &mut R) -> (Answer, Option<Kind>) {
     let mut checker = Checker::new(alloc);
-    let error = read_by(alloc, &mut checker, reader);
+    let error = failure(&read_by(alloc, &mut checker, reader));
     let answer = (error, checker.unsat(), checker.ended());
-    (answer, checker.add_clause(&[]).err())
+    (answer, failure(&checker.add_clause(&[])))
 }
 
-/// Whether the steps of a row are answered so, read whole and in pieces of one byte.
+/// What a checker answers to steps where a processor and a transcript take everything that it announces.
+fn answered_to_listeners(alloc: Global, text: &[u8]) -> Option<Answer> {
+    let mut checker: Checker<FailsAt, FailsAt> = Checker::telling(alloc);
+    let added = add_quiet(&mut checker);
+    let error = failure(&read_by(alloc, &mut checker, &mut Counted::new(text)));
+    if added {
+        Some((error, checker.unsat(), checker.ended()))
+    } else {
+        None
+    }
+}
+
+/// Whether the steps of a row are answered so, read whole and in pieces of one byte, and whether or not somebody listens.
 pub(crate) fn is_answered(alloc: Global, row: &Row) -> bool {
     let wanted = (row.1, next_error(&row.1));
     answered(alloc, &mut Counted::new(row.0)) == wanted
         && answered(alloc, &mut by_one(row.0, 0)) == wanted
+        && answered_to_listeners(alloc, row.0) == Some(row.1)
 }
 
 /// A refused step is the last, a refused clause isn't.
@@ -53,9 +66,9 @@ fn failing_is_final(rt: HostRuntime) -> Result<(), Fail> {
     let mut checker = Checker::new(rt.alloc());
     let lit = [Lit::from_code(0)];
     let hidden: &[u8] = &[2, 0, 1, 2, 0, 0];
-    assert!(rt; read_by(rt.alloc(), &mut checker, &mut Counted::new(hidden)).is_none());
-    assert!(rt; checker.add_clause(&lit) == Err(CheckerError::CheckFailed));
-    assert!(rt; checker.add_clause(&[]) == Ok(()));
+    assert!(rt; read_by(rt.alloc(), &mut checker, &mut Counted::new(hidden)).is_ok());
+    assert!(rt; failure(&checker.add_clause(&lit)) == Some(Kind::CheckFailed));
+    assert!(rt; checker.add_clause(&[]).is_ok());
     assert!(rt; checker.unsat());
     Ok(())
 }
@@ -65,13 +78,13 @@ fn failing_is_final(rt: HostRuntime) -> Result<(), Fail> {
 fn delayed_steps_are_settled(rt: HostRuntime) -> Result<(), Fail> {
     let mut checker = Checker::new(rt.alloc());
     let lit = Lit::from_code(0);
-    assert!(rt; checker.add_clause(&[lit]) == Ok(()));
-    assert!(rt; checker.add_clause(&[!lit]) == Ok(()));
-    assert!(rt; checker.self_check_delayed_steps() == Ok(()));
-    assert!(rt; checker.self_check_delayed_steps() == Ok(()));
+    assert!(rt; checker.add_clause(&[lit]).is_ok());
+    assert!(rt; checker.add_clause(&[!lit]).is_ok());
+    assert!(rt; checker.self_check_delayed_steps().is_ok());
+    assert!(rt; checker.self_check_delayed_steps().is_ok());
     let step = ProofStep::DeleteVar { var: lit.var() };
-    assert!(rt; checker.self_check_step(&step) == Ok(()));
-    assert!(rt; checker.self_check_step(&step) == Err(CheckerError::CheckFailed));
-    assert!(rt; checker.self_check_delayed_steps() == Err(CheckerError::HasFailed));
+    assert!(rt; checker.self_check_step(&step).is_ok());
+    assert!(rt; failure(&checker.self_check_step(&step)) == Some(Kind::CheckFailed));
+    assert!(rt; failure(&checker.self_check_delayed_steps()) == Some(Kind::HasFailed));
     Ok(())
 }

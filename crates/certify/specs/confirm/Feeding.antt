@@ -2,10 +2,10 @@
 use Rattle.std.specs.Prelude.{◌≡◌, false, Result, Ok, Err, List, ◌∷◌}
 use Rattle.sat_base.specs.steps.Steps.{Step}
 use Rattle.sat_checker.specs.Accepts.{Accepts, stored_after, ready_after}
-use Rattle.sat_checker.specs.CheckerView.{Stands, has_failed, looks_of}
+use Rattle.sat_checker.specs.KernelView.{Stands, has_failed, looks_of}
 use Rattle.sat_checker.specs.Spent.{IsSpent}
 use Rattle.sat_checker.specs.inner.StateView.{SpentBy}
-use Rattle.sat_checker.specs.declared.checker.Checker.{Checker}
+use Rattle.sat_checker.specs.declared.kernel.Kernel.{Kernel}
 use Rattle.sat_checker.specs.declared.error.CheckerError.{CheckerError}
 use Rattle.sat_checker.specs.declared.error.CheckerError.TheVariants as errors
 use Rattle.certify.specs.declared.confirm.stop.Stop.{Stop}
@@ -13,7 +13,7 @@ use Rattle.certify.specs.declared.confirm.stop.Stop.TheVariants as stop
 use Rattle.certify.specs.declared.verdict.Why.TheVariants.{StepRefused}
 
 -- it accepted these steps, the newest first, and goes on
-pub record HasTaken (checker : Checker) (steps : List Step) : Type 0 where
+pub record HasTaken (checker : Kernel) (steps : List Step) : Type 0 where
   pub stands : Stands checker steps
   pub goes_on : has_failed checker ≡ false
 
@@ -27,9 +27,11 @@ stop_by errors.HasFailed = stop.No StepRefused
 stop_by errors.ProofIncomplete = stop.No StepRefused
 stop_by errors.IoError = stop.No StepRefused
 stop_by errors.ParseError = stop.No StepRefused
+-- nobody listens
+stop_by (errors.ProofProcessorError cause) = stop.OutOfMemory
 
 -- The step is accepted behind those taken before, or isn't, or a number is past 64 bits.
-abbrev pub Feeds : Result (Unit {0}) Stop → Checker → Step → Checker → Type 0
+abbrev pub Feeds : Result (Unit {0}) Stop → Kernel → Step → Kernel → Type 0
 Feeds (Ok x) old step new = (steps : List Step) → HasTaken old steps → Accepts (ready_after steps) step × HasTaken new (step ∷ steps)
 Feeds (Err (stop.No why)) old step new = (steps : List Step) → HasTaken old steps → Accepts (ready_after steps) step → ⊥
 Feeds (Err stop.Read) old step new = ⊥
@@ -37,9 +39,9 @@ Feeds (Err stop.OutOfMemory) old step new = Unit {0}
 Feeds (Err stop.CounterEnd) old step new = (steps : List Step) → HasTaken old steps → SpentBy step (stored_after steps)
 
 -- A pending unit conflict is settled, or there is no id for it: no step and no look more.
-abbrev pub Settles : Result (Unit {0}) Stop → Checker → Checker → Type 0
+abbrev pub Settles : Result (Unit {0}) Stop → Kernel → Kernel → Type 0
 Settles (Ok x) old new = (steps : List Step) → HasTaken old steps → HasTaken new steps × (looks_of new ≡ looks_of old)
 Settles (Err (stop.No why)) old new = (steps : List Step) → HasTaken old steps → ⊥
 Settles (Err stop.Read) old new = ⊥
-Settles (Err stop.OutOfMemory) old new = (steps : List Step) → HasTaken old steps → ⊥
+Settles (Err stop.OutOfMemory) old new = (steps : List Step) → HasTaken old steps → looks_of new ≡ looks_of old
 Settles (Err stop.CounterEnd) old new = (steps : List Step) → HasTaken old steps → IsSpent (ready_after steps) × (looks_of new ≡ looks_of old)

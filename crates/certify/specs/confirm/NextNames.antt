@@ -5,11 +5,11 @@ use Rattle.sat_base.specs.steps.Steps.{Step}
 use Rattle.certify.specs.confirm.CertificateSteps.{NamesNext, BringsNext, BringsName, BringsAll}
 use Rattle.certify.specs.confirm.Streams.{why_of}
 use Rattle.certify.specs.confirm.Views.{View}
-use Rattle.sat_checker.specs.declared.checker.Checker.{Checker}
+use Rattle.sat_checker.specs.declared.kernel.Kernel.{Kernel}
 use Rattle.certify.specs.declared.verdict.Why.{Why}
 
 -- the step puts the next name on this variable, which isn't known, or it doesn't
-abbrev pub PutsNext : Checker → List ℕ → Step → Result ℕ Why → Type 0
+abbrev pub PutsNext : Kernel → List ℕ → Step → Result ℕ Why → Type 0
 PutsNext checker variables step r =
     (rest : List ℕ) → NamesNext (record { checker = checker; variables = variables; step = step; rest = rest }) r
 

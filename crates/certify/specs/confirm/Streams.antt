@@ -11,7 +11,8 @@ use Rattle.sat_base.specs.steps.StepReading.{reader_source, has_failed, step_in}
 use Rattle.sat_base.specs.steps.Steps.{Step}
 use Rattle.certify.specs.confirm.Views.{View}
 use Rattle.certify.specs.confirm.Walks.{walks_if, Tries, RunsOut}
-use Rattle.sat_checker.specs.declared.checker.Checker.{Checker}
+use Rattle.sat_checker.specs.CheckerView.{kernel_of}
+use Rattle.sat_checker.specs.declared.kernel.Kernel.{Kernel}
 use Rattle.certify.specs.declared.confirm.certificate.Certificate.{Certificate}
 use Rattle.certify.specs.declared.confirm.stop.Stop.{Stop}
 use Rattle.certify.specs.declared.confirm.stop.Stop.TheVariants as stop
@@ -21,15 +22,15 @@ use Rattle.certify.specs.declared.verdict.Why.TheVariants.{CertificateEnds, Step
 -- what its steps are read from, and what else confirming sees
 pub record Stream : Type 0 where
   pub source : Source
-  pub checker : Checker
+  pub checker : Kernel
   pub variables : List ℕ
   pub step : Step
 
-abbrev pub stream_of : {R : Type 0} → (R → Reader) → StepReader R Buffers → Checker → List ℕ → Stream
+abbrev pub stream_of : {R : Type 0} → (R → Reader) → StepReader R Buffers → Kernel → List ℕ → Stream
 stream_of seen r checker variables = record { source = reader_source seen r; checker = checker; variables = variables; step = step_in r }
 
 abbrev pub stream : {R : Type 0} → (R → Reader) → StepReader R Buffers → Certificate → Stream
-stream seen r c = stream_of seen r c.checker c.variables.items
+stream seen r c = stream_of seen r (kernel_of c.checker) c.variables.items
 
 -- a reader of steps that goes on: it hasn't failed, and isn't at its end
 pub record GoesOn {R : Type 0} (seen : R → Reader) (r : StepReader R Buffers) : Type 0 where

@@ -2,11 +2,11 @@
 use Rattle.std.specs.Prelude.{ℕ, List}
 use Rattle.sat_base.specs.steps.Steps.{Step}
 use Rattle.certify.specs.confirm.ReadSteps.{Place}
-use Rattle.sat_checker.specs.declared.checker.Checker.{Checker}
+use Rattle.sat_checker.specs.declared.kernel.Kernel.{Kernel}
 
 -- a certificate as far as its steps were accepted
 pub record View : Type 0 where
-  pub checker : Checker  -- what the steps are fed to
+  pub checker : Kernel  -- what the steps are fed to
   pub variables : List ℕ  -- the variable of each name, from name 1 on
   pub step : Step  -- the step that was read last
   pub rest : List ℕ  -- the bytes still to come

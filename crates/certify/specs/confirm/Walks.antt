@@ -3,11 +3,11 @@ use Rattle.std.specs.Prelude.{ℕ, ◌≡◌, ◌+◌, ◌≤◌, Bool, true, fa
 use Rattle.sat_base.specs.steps.Steps.{Step}
 use Rattle.sat_base.specs.steps.StepText.{SpellsStep}
 use Rattle.sat_checker.specs.Accepts.{Accepts, stored_after, ready_after}
-use Rattle.sat_checker.specs.CheckerView.{looks_of}
+use Rattle.sat_checker.specs.KernelView.{looks_of}
 use Rattle.sat_checker.specs.Looks.{most_looks}
 use Rattle.sat_checker.specs.Spent.{IsSpent}
 use Rattle.sat_checker.specs.inner.StateView.{SpentBy}
-use Rattle.sat_checker.specs.declared.checker.Checker.{Checker}
+use Rattle.sat_checker.specs.declared.kernel.Kernel.{Kernel}
 use Rattle.certify.specs.confirm.Feeding.{HasTaken}
 use Rattle.certify.specs.confirm.Views.{View}
 
@@ -34,7 +34,7 @@ pub data Spends : List Step → List ℕ → Type 0 where
       → Spends earlier bytes
 
 -- The checker was fed steps from the front of the bytes, and these are left: what can be reached from there can be from the beginning.
-pub record Walked (old : Checker) (bytes : List ℕ) (new : Checker) (rest : List ℕ) (earlier : List Step) : Type 0 where
+pub record Walked (old : Kernel) (bytes : List ℕ) (new : Kernel) (rest : List ℕ) (earlier : List Step) : Type 0 where
   pub later : List Step
   pub taken : HasTaken new later
   pub reaches : (looks : ℕ) → LooksReach later rest (looks_of new) looks → LooksReach earlier bytes (looks_of old) looks

@@ -3,13 +3,14 @@ ghost use Rattle.std.specs.Prelude.{◌≡◌, ◌≤◌, ◌<◌, ℕ, List, On
 ghost use Rattle.sat_base.specs.device.Device.{most_reads};
 ghost use Rattle.sat_base.specs.steps.StepReading.{reader_name, reader_source};
 ghost use Rattle.sat_base.specs.steps.StepViews.{step_of};
-ghost use Rattle.sat_checker.specs.CheckerView.{LooksAtMost, looks_of};
+ghost use Rattle.sat_checker.specs.KernelView.{LooksAtMost, looks_of};
 ghost use Rattle.certify.specs.confirm.Checking.{is_ordered as is_ordered_step};
 ghost use Rattle.certify.specs.confirm.Feeding.{Feeds, Settles};
 ghost use Rattle.certify.specs.confirm.NextNames.{PutsNext};
 ghost use Rattle.certify.specs.confirm.Stepping.{ReadsOne};
 ghost use Rattle.certify.specs.confirm.Streams.{Confirms, GoesOn, Reading, Says, bytes_left, stream_of};
-ghost use Rattle.sat_checker.specs.declared.checker.Checker.{Checker as CheckerValue};
+ghost use Rattle.sat_checker.specs.CheckerView.{kernel_of};
+ghost use Rattle.sat_checker.specs.declared.kernel.Kernel.{Kernel};
 
 use crate::confirm::expected::{Expected, Scratch, excuse, fits};
 use crate::confirm::stop::{Stop, refused, unread};
@@ -59,7 +60,7 @@ fn read_next<R: CountedRead>(steps: &mut StepReader<'_, R>) -> Result<(), Stop>
     ensures bound { (reader_source R.seen steps.new).reads ≤ most_reads }
     ensures goes_on { OnOk result (GoesOn R.seen steps.new) }
     ensures takes { OnOk result (bytes_left (reader_source R.seen steps.new) < bytes_left (reader_source R.seen steps.old)) }
-    ensures reads { (checker : CheckerValue) (variables : List ℕ)
+    ensures reads { (checker : Kernel) (variables : List ℕ)
         → Reading (λ x. false) result (stream_of R.seen steps.old checker variables) (stream_of R.seen steps.new checker variables) ReadsOne }
 {
     match steps.advance() {
@@ -70,8 +71,8 @@ fn read_next<R: CountedRead>(steps: &mut StepReader<'_, R>) -> Result<(), Stop>
 
 /// Feeds a step to the checker.
 fn feed(checker: &mut Checker, step: &ProofStep<'_>) -> Result<(), Stop>
-    ensures feeds { Feeds result checker.old (step_of step.now) checker.new }
-    ensures looks { LooksAtMost checker.old (step_of step.now) checker.new }
+    ensures feeds { Feeds result (kernel_of checker.old) (step_of step.now) (kernel_of checker.new) }
+    ensures looks { LooksAtMost (kernel_of checker.old) (step_of step.now) (kernel_of checker.new) }
 {
     match checker.self_check_step(step) {
         Ok(()) => Ok(()),
@@ -81,7 +82,7 @@ fn feed(checker: &mut Checker, step: &ProofStep<'_>) -> Result<(), Stop>
 
 /// Settles a unit conflict that is pending.
 fn settle(checker: &mut Checker) -> Result<(), Stop>
-    ensures { Settles result checker.old checker.new }
+    ensures { Settles result (kernel_of checker.old) (kernel_of checker.new) }
 {
     match checker.self_check_delayed_steps() {
         Ok(()) => Ok(()),
@@ -91,7 +92,7 @@ fn settle(checker: &mut Checker) -> Result<(), Stop>
 
 /// The variable that a step puts the next name on.
 fn next_name(checker: &Checker, variables: &[Var], step: &ProofStep<'_>) -> Result<Var, Stop>
-    ensures { Says result (PutsNext checker.now variables.now (step_of step.now)) }
+    ensures { Says result (PutsNext (kernel_of checker.now) variables.now (step_of step.now)) }
 {
     let ProofStep::UserVarName { global, user } = *step else {
         return Err(Stop::No(Why::StepOutOfPlace));
@@ -120,8 +121,8 @@ impl Certificate {
 
     pub fn new(alloc: Global) -> Certificate
         ensures stands { (rest : List ℕ) (step : Step) → IsFed
-            (record { checker = result.checker; variables = result.variables.items; step = step; rest = rest }) start [] }
-        ensures looks { looks_of result.checker ≡ 0 }
+            (record { checker = kernel_of result.checker; variables = result.variables.items; step = step; rest = rest }) start [] }
+        ensures looks { looks_of (kernel_of result.checker) ≡ 0 }
     {
         let checker = Checker::new(alloc);
         Certificate {

@@ -5,7 +5,8 @@ ghost use Rattle.sat_base.specs.device.Device.{most_reads};
 ghost use Rattle.sat_base.specs.script.Script.{names_of};
 ghost use Rattle.sat_base.specs.script.Judge.{PastLimit, refused_name};
 ghost use Rattle.sat_base.specs.steps.StepReading.{reader_name, reader_source};
-ghost use Rattle.sat_checker.specs.CheckerView.{looks_of};
+ghost use Rattle.sat_checker.specs.CheckerView.{kernel_of};
+ghost use Rattle.sat_checker.specs.KernelView.{looks_of};
 ghost use Rattle.certify.specs.answers.AnswerReading.{outcome_of};
 ghost use Rattle.certify.specs.confirm.ConfirmedCommands.{ShowsOutcome};
 ghost use Rattle.certify.specs.confirm.Streams.{Confirms, GoesOn, stream};
@@ -73,8 +74,8 @@ impl<'a> Confirmation<'a> {
 
     pub fn new(alloc: Global, answers: &'a [u8]) -> Confirmation<'a>
         ensures stands { (rest : List ℕ) (step : Step) → IsFed (record
-            { checker = result.certificate.checker; variables = result.certificate.variables.items; step = step; rest = rest }) start [] }
-        ensures looks { looks_of result.certificate.checker ≡ 0 }
+            { checker = kernel_of result.certificate.checker; variables = result.certificate.variables.items; step = step; rest = rest }) start [] }
+        ensures looks { looks_of (kernel_of result.certificate.checker) ≡ 0 }
         ensures answers { left_of result ≡ answers.now }
     {
         Confirmation {

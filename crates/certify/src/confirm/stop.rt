@@ -56,7 +56,8 @@ pub(crate) fn unread(error: StepError) -> Stop
     }
 }
 
-/// Why a step wasn't accepted. A checker that goes on answers one of the first three.
+/// Why a step wasn't accepted. A checker that goes on answers one of the first three; nobody listens to this one, so the last never
+/// comes.
 pub(crate) fn refused(error: CheckerError) -> Stop
     ensures { result ≡ stop_by error }
 {
@@ -68,5 +69,6 @@ pub(crate) fn refused(error: CheckerError) -> Stop
         CheckerError::ProofIncomplete => Stop::No(Why::StepRefused),
         CheckerError::IoError => Stop::No(Why::StepRefused),
         CheckerError::ParseError => Stop::No(Why::StepRefused),
+        CheckerError::ProofProcessorError { .. } => Stop::OutOfMemory,
     }
 }

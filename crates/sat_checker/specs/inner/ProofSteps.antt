@@ -9,15 +9,16 @@ use Rattle.sat_base.specs.device.Reading.{Source, Passes, PassesToEnd, Faults}
 use Rattle.sat_base.specs.steps.Formats.{Live, Open}
 use Rattle.sat_base.specs.steps.Steps.{Step, End}
 use Rattle.sat_base.specs.steps.StepText.{SpellsStep, SpellsSteps}
-use Rattle.sat_checker.specs.Spent.{IsSpent}
 use Rattle.sat_checker.specs.Accepts.{Accepts, stored_after, ready_after}
 use Rattle.sat_checker.specs.Looks.{most_looks}
-use Rattle.sat_checker.specs.CheckerView.{looks_of, IsSettled, Fails}
+use Rattle.sat_checker.specs.CheckerView.{Seen, looks_of, Stands, Refuses, Stops, BreaksAt}
+use Rattle.sat_checker.specs.announcements.Announcements.{Told}
 use Rattle.sat_checker.specs.ProofView.{taken_after, most_looks_behind, GoesOn}
 use Rattle.sat_checker.specs.inner.StateView.{SpentBy}
-use Rattle.sat_checker.specs.declared.checker.Checker.{Checker}
 use Rattle.sat_checker.specs.declared.error.CheckerError.{CheckerError}
 use Rattle.sat_checker.specs.declared.error.CheckerError.TheVariants as errors
+use Rattle.sat_checker.specs.declared.processing.ProcessingError.{ProcessingError}
+use Rattle.sat_checker.specs.declared.processing.ProcessingError.TheVariants as faults
 
 -- what is answered where no step was read
 abbrev pub error_of : StepError → CheckerError
@@ -42,56 +43,59 @@ abbrev pub bytes_left : Source → ℕ
 bytes_left s = piece_size * (most_reads - s.reads) + length s.waiting
 
 -- a checker, and the source of its steps
-pub record Turn : Type 0 where
-  pub checker : Checker
+pub record Turn (L : Type 0) : Type 0 where
+  pub checker : Seen L
   pub source : Source
 
-abbrev pub turn : Checker → Source → Turn
+abbrev pub turn : {L : Type 0} → Seen L → Source → Turn L
 turn c s = record { checker = c; source = s }
 
 -- this step was read and checked
-pub record Tries (a b : Turn) (earlier : List Step) (step : Step) : Type 0 where
+pub record Tries {L : Type 0} (a b : Turn L) (earlier : List Step) (step : Step) : Type 0 where
   pub text : List ℕ
   pub passes : Passes a.source b.source text
   pub spelt : SpellsStep step text
   pub looks : looks_of b.checker ≤ looks_of a.checker + most_looks (ready_after earlier) step
 
--- no step was read, and nothing is changed
-pub record Waits (a b : Turn) (earlier : List Step) : Type 0 where
-  pub goes_on : GoesOn b.checker earlier
-  pub looks : looks_of b.checker ≡ looks_of a.checker
-
 -- none was, for want of memory
-pub record Starves (a b : Turn) : Type 0 where
+pub record Starves {L : Type 0} (a b : Turn L) : Type 0 where
   pub tag : ℕ
   pub more : List ℕ
   pub passes : Passes a.source b.source (tag ∷ more)
   pub looks : looks_of b.checker ≡ looks_of a.checker
 
--- The next step is taken, and the answer is whether it is the end.
-abbrev pub StepsOn : Result Bool CheckerError → Turn → Turn → List Step → Type 0
-StepsOn (Ok ended) a b earlier = (step : Step) × Tries a b earlier step × MatchBool ended (step ≡ End) (step ≢ End) × GoesOn b.checker (step ∷ earlier)
-StepsOn (Err errors.CheckFailed) a b earlier = (step : Step) × Tries a b earlier step × (Accepts (ready_after earlier) step → ⊥) × Fails b.checker earlier
-StepsOn (Err errors.CounterEnd) a b earlier = (step : Step) × Tries a b earlier step × SpentBy step (stored_after earlier) × Fails b.checker earlier
-StepsOn (Err errors.OutOfMemory) a b earlier = (Starves a b ⊎ ((step : Step) × Tries a b earlier step)) × Fails b.checker earlier
-StepsOn (Err errors.ProofIncomplete) a b earlier =
-    (text : List ℕ) × PassesToEnd a.source b.source text × Live SpellsStep text × Waits a b earlier
-StepsOn (Err errors.ParseError) a b earlier =
-    (front : List ℕ) × (byte : ℕ) × Passes a.source b.source (front ++ byte ∷ []) × Live SpellsStep front
-    × (Open SpellsStep (front ++ byte ∷ []) → ⊥) × Waits a b earlier
-StepsOn (Err errors.IoError) a b earlier = (text : List ℕ) × Faults a.source b.source text × Live SpellsStep text × Waits a b earlier
-StepsOn (Err errors.HasFailed) a b earlier = ⊥
+module _ {L : Type 0} (Hears : L → Told → Result Unit ProcessingError → L → Type 0) (before : List Told) (begun : L) where
+  -- no step was read, and nothing is changed
+  pub record Waits (a b : Turn L) (earlier : List Step) : Type 0 where
+    pub goes_on : GoesOn Hears before begun b.checker earlier
+    pub looks : looks_of b.checker ≡ looks_of a.checker
 
--- These steps were taken, none of them the end.
-pub record Passed (a b : Turn) (earlier passed : List Step) : Type 0 where
-  pub text : List ℕ
-  pub passes : Passes a.source b.source text
-  pub spelt : SpellsSteps passed text
-  pub unended : AllByRecursion (λ step. step ≢ End) passed
-  pub goes_on : GoesOn b.checker (taken_after passed earlier)
-  pub looks : looks_of b.checker ≤ looks_of a.checker + most_looks_behind passed earlier
+  -- The next step is taken, and the answer is whether it is the end.
+  abbrev pub StepsOn : Result Bool CheckerError → Turn L → Turn L → List Step → Type 0
+  StepsOn (Ok ended) a b earlier = (step : Step) × Tries a b earlier step × MatchBool ended (step ≡ End) (step ≢ End) × GoesOn Hears before begun b.checker (step ∷ earlier)
+  StepsOn (Err errors.CheckFailed) a b earlier = (step : Step) × Tries a b earlier step × (Accepts (ready_after earlier) step → ⊥) × Refuses Hears before begun b.checker earlier
+  StepsOn (Err errors.CounterEnd) a b earlier = (step : Step) × Tries a b earlier step × SpentBy step (stored_after earlier) × Stops Hears before begun b.checker earlier
+  StepsOn (Err errors.OutOfMemory) a b earlier =
+      (Starves a b × Stops Hears before begun b.checker earlier)
+      ⊎ ((step : Step) × Tries a b earlier step × (Stops Hears before begun b.checker earlier ⊎ BreaksAt Hears before begun faults.OutOfMemory b.checker step earlier))
+  StepsOn (Err (errors.ProofProcessorError cause)) a b earlier = (step : Step) × Tries a b earlier step × BreaksAt Hears before begun (faults.ProofProcessorError cause) b.checker step earlier
+  StepsOn (Err errors.ProofIncomplete) a b earlier =
+      (text : List ℕ) × PassesToEnd a.source b.source text × Live SpellsStep text × Waits a b earlier
+  StepsOn (Err errors.ParseError) a b earlier =
+      (front : List ℕ) × (byte : ℕ) × Passes a.source b.source (front ++ byte ∷ []) × Live SpellsStep front
+      × (Open SpellsStep (front ++ byte ∷ []) → ⊥) × Waits a b earlier
+  StepsOn (Err errors.IoError) a b earlier = (text : List ℕ) × Faults a.source b.source text × Live SpellsStep text × Waits a b earlier
+  StepsOn (Err errors.HasFailed) a b earlier = ⊥
 
--- a pending unit conflict is settled, or there is no id for it
-abbrev pub Settles : Result Unit CheckerError → Checker → Checker → List Step → Type 0
-Settles (Ok x) old new steps = (looks_of new ≡ looks_of old) × GoesOn new steps × IsSettled new
-Settles (Err e) old new steps = (looks_of new ≡ looks_of old) × (e ≡ errors.CounterEnd) × IsSpent (ready_after steps) × Fails new steps
+  -- These steps were taken, none of them the end.
+  pub record Passed (a b : Turn L) (earlier passed : List Step) : Type 0 where
+    pub text : List ℕ
+    pub passes : Passes a.source b.source text
+    pub spelt : SpellsSteps passed text
+    pub unended : AllByRecursion (λ step. step ≢ End) passed
+    pub goes_on : GoesOn Hears before begun b.checker (taken_after passed earlier)
+    pub looks : looks_of b.checker ≤ looks_of a.checker + most_looks_behind passed earlier
+
+module _ {L : Type 0} (Hears : L → Told → Result Unit ProcessingError → L → Type 0) where
+  abbrev pub TurnsOn : Result Bool CheckerError → Turn L → Turn L → Type 0
+  TurnsOn result a b = (before : List Told) (begun : L) (earlier : List Step) → Stands Hears before begun a.checker earlier → StepsOn Hears before begun result a b earlier

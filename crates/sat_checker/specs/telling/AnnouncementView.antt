@@ -1,15 +1,17 @@
 -- What an announcement of the code says, and the variables that may be looked up meanwhile.
-use Rattle.std.specs.Prelude.{ℕ, Bool, true, false}
+use Rattle.std.specs.Prelude.{ℕ, ◌==◌, Bool, true, false, Option, None, Some, if◌then◌else◌}
+use Rattle.std.specs.Borrow.{Bor}
 use Rattle.std.specs.Option.{option_map}
 use Rattle.sat_checker.specs.Stored.{Variable}
 use Rattle.sat_checker.specs.announcements.Announcements.{UserVariable, Announcement, UserVar, AddClause, DuplicatedClause, TautologicalClause, AtClause, MakeIrredundant, DeleteClause, DeleteAtClause, DeleteRatClause, Model, Assumptions, FailedAssumptions, Told}
-use Rattle.sat_checker.specs.inner.VariablesView.{variable_at}
+use Rattle.sat_checker.specs.inner.VariablesView.{variable_at, variable_of}
 use Rattle.sat_checker.specs.declared.announcement.CheckedSamplingMode.{CheckedSamplingMode}
 use Rattle.sat_checker.specs.declared.announcement.CheckedSamplingMode.TheVariants as modes
 use Rattle.sat_checker.specs.declared.announcement.CheckedUserVar.{CheckedUserVar}
 use Rattle.sat_checker.specs.declared.announcement.CheckedProofStep.{CheckedProofStep}
 use Rattle.sat_checker.specs.declared.announcement.CheckedProofStep.TheVariants as code
 use Rattle.sat_checker.specs.declared.announcement.CheckerData.{CheckerData}
+use Rattle.sat_checker.specs.declared.announcement.Was.{Was}
 
 abbrev pub is_sampling : CheckedSamplingMode → Bool
 is_sampling modes.Sample = true
@@ -33,9 +35,14 @@ announcement_of (code.Model assignment) = Model assignment.now
 announcement_of (code.Assumptions assumptions) = Assumptions assumptions.now
 announcement_of (code.FailedAssumptions core ids) = FailedAssumptions core.now ids.now
 
+-- the variables, but for one that is as it was
+abbrev pub looked_up : Option (Bor Was) → (ℕ → Variable) → ℕ → Variable
+looked_up None variables = variables
+looked_up (Some was) variables = λ v. if v == was.now.var then variable_of was.now.data else variables v
+
 -- the variables that may be looked up
 abbrev pub variables_of : CheckerData → ℕ → Variable
-variables_of names = variable_at names.variables.now
+variables_of names = looked_up names.was (variable_at names.variables.now)
 
 -- what is told by the announcement, with the variables that may be looked up
 abbrev pub told_of : CheckedProofStep → CheckerData → Told

@@ -1,8 +1,20 @@
 -- Who listens to a checker.
-use Rattle.std.specs.declared.dyn_box.DynBox.{DynBox}
-use Rattle.std.specs.declared.alloc.Global.{Global}
-use Rattle.sat_checker.specs.telling.Telling.{Listeners}
+use Rattle.std.specs.Prelude.{◌≡◌, List, [], Result}
+use Rattle.anyhow.specs.declared.error.Error.{Error}
+use Rattle.sat_checker.specs.announcements.Announcements.{Told}
+use Rattle.sat_checker.specs.announcements.Transcripts.{Transcribed, transcript}
+use Rattle.sat_checker.specs.telling.Hearing.{HearsUpTo}
+use Rattle.sat_checker.specs.telling.Telling.{Listeners, Tells}
 use Rattle.sat_checker.specs.declared.processing.Processing.{Processing}
+use Rattle.sat_checker.specs.declared.processing.ProcessingError.{ProcessingError}
 
-abbrev pub listeners_of : {X Y : Type 0} {F : X → Type 0} {G : Y → Type 0} → Processing X Y F G → Listeners (DynBox X Global F) (DynBox Y Global G)
+abbrev pub listeners_of : {P T : Type 0} → Processing P T → Listeners P T
 listeners_of p = record { processors = p.processors.items; transcripts = p.transcripts.items }
+
+-- Each processor hears this, and each transcript what it says of it.
+abbrev pub HearsEach : {P T : Type 0} → (P → Told → Result Unit Error → P → Type 0) → (T → Transcribed → Result Unit Error → T → Type 0) → Processing P T → Told → Result Unit ProcessingError → Processing P T → Type 0
+HearsEach Takes Reads old t result new = Tells (λ r b d. Takes b t r d) (λ said r b d. Reads b said r d) (transcript t.variables t.announcement) result (listeners_of old) (listeners_of new)
+
+-- where nobody listens nobody answers a fault
+abbrev pub NobodyFails : {P T : Type 0} → (P → Told → Result Unit Error → P → Type 0) → (T → Transcribed → Result Unit Error → T → Type 0) → Type 0
+NobodyFails {P = P} {T = T} Takes Reads = (e : ProcessingError) (told : List Told) (old new : Processing P T) → listeners_of old ≡ record { processors = []; transcripts = [] } → HearsUpTo (HearsEach Takes Reads) e told old new → ⊥

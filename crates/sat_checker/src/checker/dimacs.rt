@@ -1,11 +1,15 @@
 //! Formulas' texts, clause by clause.
 ghost use Rattle.std.specs.Prelude.{◌≡◌};
 ghost use Rattle.sat_base.specs.dimacs.Parsing.{all_taken};
+ghost use Rattle.sat_checker.specs.CheckerView.{seen_of};
 ghost use Rattle.sat_checker.specs.DimacsView.{AddsDimacs};
 ghost use Rattle.sat_checker.specs.inner.DimacsPieces.{AddsRead, is_want};
+ghost use Rattle.sat_checker.specs.telling.ProcessingView.{HearsEach};
 
 use crate::checker::Checker;
 use crate::error::{CheckerDimacsError, CheckerError};
+use crate::processing::ProofProcessor;
+use crate::transcript::ProofTranscriptProcessor;
 use sat_base::{CountedRead, DimacsError, DimacsParser};
 
 /// How many bytes are asked for at a time.
@@ -27,19 +31,20 @@ fn is_want(error: DimacsError) -> bool
     }
 }
 
-impl Checker {
+impl<P: ProofProcessor, T: ProofTranscriptProcessor> Checker<P, T> {
     /// Takes the clauses of a formula's text in DIMACS CNF, in order, as the text is read in pieces of 4,096 bytes. Those before a
     /// fault stand, and those before a clause that is refused. A text that can't be read leaves the checker going on.
     pub fn add_dimacs_cnf<R: CountedRead>(
         &mut self,
         reader: &mut R,
     ) -> Result<(), CheckerDimacsError>
-        ensures { AddsDimacs result self.old self.new (R.seen reader.old) (R.seen reader.new) }
+        ensures { AddsDimacs (HearsEach P.takes T.reads)
+            result (seen_of self.old) (seen_of self.new) (R.seen reader.old) (R.seen reader.new) }
     {
-        if self.failed {
+        if self.kernel.failed {
             return Err(CheckerDimacsError::Checker(CheckerError::HasFailed));
         }
-        let mut parser = DimacsParser::new(self.state.alloc);
+        let mut parser = DimacsParser::new(self.kernel.state.alloc);
         let mut piece = [0; PIECE];
         for _ in 0..MAX_READS {
             match reader.read_counted(&mut piece) {
@@ -64,14 +69,15 @@ impl Checker {
         answer: Result<(), DimacsError>,
     ) -> Result<(), CheckerDimacsError>
         ensures taken { parser.new ≡ all_taken parser.old }
-        ensures adds { AddsRead result answer parser.old self.old self.new }
+        ensures adds { AddsRead (HearsEach P.takes T.reads)
+            result answer parser.old (seen_of self.old) (seen_of self.new) }
     {
         let formula = parser.take_formula();
         if let Err(error) = self.add_formula(&formula) {
             return Err(CheckerDimacsError::Checker(error));
         }
         if let Err(error) = answer {
-            self.failed = is_want(error);
+            self.kernel.failed = is_want(error);
             return Err(CheckerDimacsError::Dimacs(error));
         }
         Ok(())

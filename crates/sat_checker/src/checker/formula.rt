@@ -1,17 +1,21 @@
 //! Formulas, clause by clause.
-ghost use Rattle.sat_checker.specs.CheckerView.{has_failed};
+ghost use Rattle.sat_checker.specs.CheckerView.{seen_of};
+ghost use Rattle.sat_checker.specs.telling.ProcessingView.{HearsEach};
 ghost use Rattle.sat_checker.specs.ClausesView.{AddsClauses};
 
 use crate::checker::Checker;
 use crate::error::CheckerError;
+use crate::processing::ProofProcessor;
+use crate::transcript::ProofTranscriptProcessor;
 use sat_base::CnfFormula;
 
-impl Checker {
+impl<P: ProofProcessor, T: ProofTranscriptProcessor> Checker<P, T> {
     /// Takes the clauses of a formula, in order, up to the first that is refused. Those before it stand.
     pub fn add_formula(&mut self, formula: &CnfFormula) -> Result<(), CheckerError>
-        ensures { AddsClauses result self.old self.new formula.now.clauses }
+        ensures { AddsClauses (HearsEach P.takes T.reads)
+            result (seen_of self.old) (seen_of self.new) formula.now.clauses }
     {
-        if self.failed {
+        if self.kernel.failed {
             return Err(CheckerError::HasFailed);
         }
         for clause in formula {

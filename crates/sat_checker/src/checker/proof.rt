@@ -1,16 +1,22 @@
 //! Whole proofs, read step by step.
-ghost use Rattle.std.specs.Prelude.{◌≡◌, ◌≢◌, ◌≤◌, ◌<◌, false, List, MatchBool, OnOk};
+ghost use Rattle.std.specs.Prelude.{◌≡◌, ◌≢◌, ◌≤◌, ◌<◌, false, MatchBool, Ok, OnOk};
 ghost use Rattle.sat_base.specs.device.Device.{most_reads};
 ghost use Rattle.sat_base.specs.device.Reading.{unread};
-ghost use Rattle.sat_base.specs.steps.Steps.{Step, End};
+ghost use Rattle.sat_base.specs.steps.Steps.{End};
 ghost use Rattle.sat_base.specs.steps.StepReading.{reader_source, reader_name, has_failed as is_stopped};
 ghost use Rattle.sat_base.specs.steps.StepViews.{step_of};
-ghost use Rattle.sat_checker.specs.CheckerView.{has_failed, Stands};
+ghost use Rattle.sat_checker.specs.KernelView.{has_failed};
+ghost use Rattle.sat_checker.specs.CheckerView.{kernel_of, seen_of, seen_with};
+ghost use Rattle.sat_checker.specs.announcements.Announcements.{Told};
 ghost use Rattle.sat_checker.specs.ProofView.{ChecksProof};
-ghost use Rattle.sat_checker.specs.inner.ProofSteps.{StepsOn, Settles, error_of, is_final, turn, bytes_left};
+ghost use Rattle.sat_checker.specs.inner.ProofSteps.{TurnsOn, error_of, is_final, turn, bytes_left};
+ghost use Rattle.sat_checker.specs.telling.Hearing.{HearsFirst};
+ghost use Rattle.sat_checker.specs.telling.ProcessingView.{HearsEach};
 
 use crate::checker::Checker;
 use crate::error::CheckerError;
+use crate::processing::{Nobody, ProofProcessor};
+use crate::transcript::ProofTranscriptProcessor;
 use sat_base::{CountedRead, ProofStep, StepError, StepReader};
 
 /// What a checker answers where no step was read.
@@ -47,71 +53,94 @@ fn is_end(step: &ProofStep<'_>) -> bool
     matches!(step, ProofStep::End)
 }
 
-impl Checker {
-    /// Reads and checks the steps of a proof up to its `End`, where a pending unit conflict is settled; nothing behind that is
-    /// looked at. One step is held at a time.
+impl<P: ProofProcessor, T: ProofTranscriptProcessor> Checker<P, T> {
+    /// Reads and checks the steps of a proof up to its `End`; nothing behind that is looked at. One step is held at a time.
     /// The steps accepted before an error stand. A proof that can't be read or is cut off leaves the checker going on.
     pub fn check_proof<R: CountedRead>(&mut self, reader: &mut R) -> Result<(), CheckerError>
-        ensures { ChecksProof result self.old self.new (R.seen reader.old) (R.seen reader.new) }
+        ensures { ChecksProof (HearsEach P.takes T.reads)
+            result (seen_of self.old) (seen_of self.new) (R.seen reader.old) (R.seen reader.new) }
     {
-        if self.failed {
+        let mut nobody = Nobody {};
+        self.check_proof_by(reader, &mut nobody, false)
+    }
+
+    /// As `check_proof`, and tells each announcement to this processor first.
+    pub fn check_proof_with<R: CountedRead, O: ProofProcessor>(
+        &mut self,
+        reader: &mut R,
+        own: &mut O,
+    ) -> Result<(), CheckerError>
+        ensures { ChecksProof (HearsFirst O.takes (HearsEach P.takes T.reads))
+            result (seen_with own.old self.old) (seen_with own.new self.new) (R.seen reader.old) (R.seen reader.new) }
+    {
+        self.check_proof_by(reader, own, true)
+    }
+
+    fn check_proof_by<R: CountedRead, O: ProofProcessor>(
+        &mut self,
+        reader: &mut R,
+        own: &mut O,
+        has_own: bool,
+    ) -> Result<(), CheckerError>
+        requires { has_own ≡ false → (v : _) (t : Told) → O.takes v t (Ok tt) v }
+        ensures { ChecksProof (HearsFirst O.takes (HearsEach P.takes T.reads))
+            result (seen_with own.old self.old) (seen_with own.new self.new) (R.seen reader.old) (R.seen reader.new) }
+    {
+        if self.kernel.failed {
             return Err(CheckerError::HasFailed);
         }
-        let mut steps = StepReader::new(self.state.alloc, reader);
-        self.check_steps(&mut steps)
+        let mut steps = StepReader::new(self.kernel.state.alloc, reader);
+        self.check_steps(&mut steps, own, has_own)
     }
 
     /// Checks the steps that a reader of steps reads first.
-    fn check_steps<R: CountedRead>(
+    fn check_steps<R: CountedRead, O: ProofProcessor>(
         &mut self,
         steps: &mut StepReader<'_, R>,
+        own: &mut O,
+        has_own: bool,
     ) -> Result<(), CheckerError>
-        requires well { has_failed self.old ≡ false }
+        requires quiet { has_own ≡ false → (v : _) (t : Told) → O.takes v t (Ok tt) v }
+        requires well { has_failed (kernel_of self.old) ≡ false }
         requires fresh { reader_source R.seen steps.old ≡ unread (reader_source R.seen steps.old).reader }
         requires open_yet { is_stopped steps.old ≡ false }
         ensures same { reader_name steps.new ≡ reader_name steps.old }
-        ensures proof { ChecksProof result self.old self.new
+        ensures proof { ChecksProof (HearsFirst O.takes (HearsEach P.takes T.reads))
+            result (seen_with own.old self.old) (seen_with own.new self.new)
             (reader_source R.seen steps.old).reader (reader_source R.seen steps.new).reader }
     {
         loop {
-            if self.check_next(steps)? {
-                return self.settle();
+            if self.check_next(steps, own, has_own)? {
+                return Ok(());
             }
         }
     }
 
     /// Reads and checks the next step. The answer is whether it is the end.
-    fn check_next<R: CountedRead>(
+    fn check_next<R: CountedRead, O: ProofProcessor>(
         &mut self,
         steps: &mut StepReader<'_, R>,
+        own: &mut O,
+        has_own: bool,
     ) -> Result<bool, CheckerError>
-        requires well { has_failed self.old ≡ false }
+        requires quiet { has_own ≡ false → (v : _) (t : Told) → O.takes v t (Ok tt) v }
+        requires well { has_failed (kernel_of self.old) ≡ false }
         requires open_yet { is_stopped steps.old ≡ false }
         ensures same { reader_name steps.new ≡ reader_name steps.old }
         ensures bound { (reader_source R.seen steps.new).reads ≤ most_reads }
-        ensures goes_on { OnOk result ((has_failed self.new ≡ false) × (is_stopped steps.new ≡ false)) }
+        ensures goes_on { OnOk result ((has_failed (kernel_of self.new) ≡ false) × (is_stopped steps.new ≡ false)) }
         ensures takes { OnOk result (bytes_left (reader_source R.seen steps.new) < bytes_left (reader_source R.seen steps.old)) }
-        ensures steps_on { (earlier : List Step) → Stands self.old earlier
-            → StepsOn result (turn self.old (reader_source R.seen steps.old)) (turn self.new (reader_source R.seen steps.new)) earlier }
+        ensures steps_on { TurnsOn (HearsFirst O.takes (HearsEach P.takes T.reads))
+            result (turn (seen_with own.old self.old) (reader_source R.seen steps.old))
+            (turn (seen_with own.new self.new) (reader_source R.seen steps.new)) }
     {
         if let Err(error) = steps.advance() {
-            self.failed = is_final(error);
+            self.kernel.failed = is_final(error);
             return Err(unread_error(error));
         }
         let step = steps.step();
-        self.check_step(&step)?;
+        self.kernel
+            .check_step(&step, own, has_own, &mut self.processing)?;
         Ok(is_end(&step))
-    }
-
-    /// The empty clause of a pending unit conflict takes the next id.
-    pub(crate) fn settle(&mut self) -> Result<(), CheckerError>
-        requires { has_failed self.old ≡ false }
-        ensures { (steps : List Step) → Stands self.old steps → Settles result self.old self.new steps }
-    {
-        if self.state.formula.settle().is_err() {
-            self.failed = true;
-            return Err(CheckerError::CounterEnd);
-        }
-        Ok(())
     }
 }

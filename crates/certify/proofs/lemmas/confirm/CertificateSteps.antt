@@ -8,8 +8,8 @@ use Rattle.sat_checker.specs.Accepts.{Accepts, ready_after}
 use Rattle.certify.specs.confirm.Checking.{is_ordered, variable_of}
 use Rattle.certify.specs.confirm.Matches.{Expected, NewName, NoName, Fits, new_name, no_name, adds, opens, shows, fails, closes, finish}
 use Rattle.certify.specs.confirm.ProofChecking.{the_checking}
-use Rattle.sat_checker.specs.CheckerView.{Stands, has_failed}
-use Rattle.sat_checker.specs.declared.checker.Checker.{Checker}
+use Rattle.sat_checker.specs.KernelView.{Stands, has_failed}
+use Rattle.sat_checker.specs.declared.kernel.Kernel.{Kernel}
 use Rattle.certify.proofs.lemmas.confirm.PlainJudge.{start_plain}
 use Rattle.certify.specs.confirm.CertificatePlaces.{Stops, variable_in}
 use Rattle.certify.specs.confirm.ReadSteps.{ReadsStep}
@@ -102,7 +102,7 @@ nameless earlier e step h closes = refl
 nameless earlier e step h finish = refl
 
 -- before the first step
-pub begins_fed : (checker : Checker) (variables rest : List ℕ) (step : Step) → variables ≡ [] → Stands checker [] → has_failed checker ≡ false → IsFed (record { checker = checker; variables = variables; step = step; rest = rest }) start []
+pub begins_fed : (checker : Kernel) (variables rest : List ℕ) (step : Step) → variables ≡ [] → Stands checker [] → has_failed checker ≡ false → IsFed (record { checker = checker; variables = variables; step = step; rest = rest }) start []
 begins_fed checker variables rest step e s g = record {
   keeps = record { stands = s; goes_on = g };
   named = fun_ext none_named ∙ ap variable_in (sym e);

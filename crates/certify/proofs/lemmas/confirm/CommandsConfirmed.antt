@@ -10,7 +10,7 @@ use Rattle.sat_base.specs.steps.Steps.{Step}
 use Rattle.sat_checker.specs.Accepts.{ready_after}
 use Rattle.certify.specs.answers.Answers.{Outcome, Unsat, outcome_text, refused_line}
 use Rattle.certify.specs.answers.AnswerForms.{HaveNames, IsInForm}
-use Rattle.sat_checker.specs.CheckerView.{Stands}
+use Rattle.sat_checker.specs.KernelView.{Stands}
 use Rattle.certify.specs.confirm.CertificatePlaces.{IsPlain}
 use Rattle.certify.specs.confirm.Matches.{Adds, Closes, bringing, showing}
 use Rattle.certify.specs.confirm.ConfirmedCommands.{TakesLine, ToConfirm, CountFromOne, Confirmed, ConfirmsCommand, ConfirmsNext}

@@ -19,8 +19,8 @@ use Rattle.certify.specs.confirm.Streams.{Stream, seen_in, rest_in, Confirms}
 use Rattle.certify.specs.confirm.Feeding.{HasTaken}
 use Rattle.certify.specs.confirm.Views.{View}
 use Rattle.certify.specs.confirm.Walks.{LooksReach, same_looks, Spends, Tries}
-use Rattle.sat_checker.specs.CheckerView.{looks_of}
-use Rattle.sat_checker.specs.declared.checker.Checker.{Checker}
+use Rattle.sat_checker.specs.KernelView.{looks_of}
+use Rattle.sat_checker.specs.declared.kernel.Kernel.{Kernel}
 use Rattle.certify.specs.declared.confirm.stop.Stop.{Stop}
 use Rattle.certify.specs.declared.confirm.stop.Stop.TheVariants as stop
 use Rattle.certify.specs.declared.verdict.ConfirmFault.{ConfirmFault}
@@ -165,7 +165,7 @@ unread_open r h = let k = h.0 in none k
     none : 0 < 0 → ⊥
     none k = absurd (omega arith)
 
-pub decides_from : (ended : Result (Unit {0}) Stop) (asks : ℕ) (script : CappedScript) (answers : List ℕ) (r : Reader) (b : Stream) (checker : Checker) (variables : List ℕ) (step : Step)
+pub decides_from : (ended : Result (Unit {0}) Stop) (asks : ℕ) (script : CappedScript) (answers : List ℕ) (r : Reader) (b : Stream) (checker : Kernel) (variables : List ℕ) (step : Step)
     → ((rest : List ℕ) → IsFed (record { checker = checker; variables = variables; step = step; rest = rest }) start []) → b.source.reads ≤ most_reads
     → Confirms ended (record { source = unread r; checker = checker; variables = variables; step = step }) b (ConfirmsAll script answers) → DecidesFrom script answers r b.source.reader (said_of ended asks)
 decides_from (Ok x) asks script answers r b checker variables step fed bound p =
@@ -188,7 +188,7 @@ decides_from (Err stop.CounterEnd) asks script answers r b checker variables ste
 -- HOW MANY LOOKS IT TOOK
 
 -- from a checker that has taken no step and no look
-module _ (r : Reader) (b : Stream) (checker : Checker) (variables : List ℕ) (step : Step) (P : View → View → Result (Unit {0}) Why → Type 0) (new : HasTaken checker []) (none : looks_of checker ≡ 0) where
+module _ (r : Reader) (b : Stream) (checker : Kernel) (variables : List ℕ) (step : Step) (P : View → View → Result (Unit {0}) Why → Type 0) (new : HasTaken checker []) (none : looks_of checker ≡ 0) where
   reached_by : (bytes : List ℕ) → LooksReach [] bytes (looks_of checker) (looks_of b.checker) → LooksReach [] bytes 0 (looks_of b.checker)
   reached_by bytes h = subst (λ k. LooksReach [] bytes k (looks_of b.checker)) none h
 
@@ -217,7 +217,7 @@ no_looks r looks = record { text = []; front = gave_none r; rises = omega arith;
 few_calls : (rc tc tr m : ℕ) → tc + 0 ≡ rc + tr → tr ≤ m → tc ≤ rc + m
 few_calls rc tc tr m e h = omega arith
 
-pub reads_few : (ended : Result (Unit {0}) Stop) (r : Reader) (b : Stream) (checker : Checker) (variables : List ℕ) (step : Step) (P : View → View → Result (Unit {0}) Why → Type 0) → b.source.reads ≤ most_reads
+pub reads_few : (ended : Result (Unit {0}) Stop) (r : Reader) (b : Stream) (checker : Kernel) (variables : List ℕ) (step : Step) (P : View → View → Result (Unit {0}) Why → Type 0) → b.source.reads ≤ most_reads
     → Confirms ended (record { source = unread r; checker = checker; variables = variables; step = step }) b P → b.source.reader.calls ≤ r.calls + most_reads
 reads_few (Ok x) r b checker variables step P bound p = few_calls r.calls b.source.reader.calls b.source.reads most_reads p.0.1.calls bound
 reads_few (Err (stop.No why)) r b checker variables step P bound p = few_calls r.calls b.source.reader.calls b.source.reads most_reads p.0.0.1.calls bound

@@ -7,7 +7,7 @@ use Rattle.sat_base.specs.script.Judge.{Judge}
 use Rattle.sat_base.specs.steps.Steps.{Step, AddClause, Assumptions, Model, FailedAssumptions, End}
 use Rattle.certify.specs.answers.Answers.{Outcome, Unknown}
 use Rattle.sat_checker.specs.Accepts.{Accepts, effect, ready_after}
-use Rattle.sat_checker.specs.CheckerView.{LooksAtMost}
+use Rattle.sat_checker.specs.KernelView.{LooksAtMost}
 use Rattle.certify.specs.confirm.Feeding.{HasTaken, Feeds}
 use Rattle.certify.specs.confirm.CertificatePlaces.{variable_in}
 use Rattle.certify.specs.confirm.Dues.{Due, due_of, Allows, SaysSo, Compares, Excuses, MeetsDue}
@@ -17,7 +17,7 @@ use Rattle.certify.specs.confirm.SpeltLiterals.{IsLineOf}
 use Rattle.certify.specs.confirm.Stepping.{AwaitsNext, is_fed}
 use Rattle.certify.specs.confirm.Streams.{Stream, seen_in, Reading, Confirms, Says}
 use Rattle.certify.specs.confirm.Views.{View}
-use Rattle.sat_checker.specs.declared.checker.Checker.{Checker}
+use Rattle.sat_checker.specs.declared.kernel.Kernel.{Kernel}
 use Rattle.certify.specs.declared.confirm.expected.Expected.{Expected as CodeExpected}
 use Rattle.certify.specs.declared.confirm.expected.Expected.TheVariants as code
 use Rattle.certify.specs.declared.confirm.certificate.Awaited.{Awaited}
@@ -126,7 +126,7 @@ module _ (due : Due) (old mid : View) where
     due_unfit : (why : Why) → Compares due mid.variables mid.step (Err why) → MeetsDue due old mid (Err why)
     due_unfit why x j earlier s o ask = let k = h j earlier s in bars_unfit (due j o ask) k.offers (x mid refl refl o ask j k.later k.stands k.open_yet)
 
-    due_fed : (less : (j : Judge) (o : Outcome) (ask : List Literal) → is_nameless (due j o ask) ≡ true) (next : Checker) → Compares due mid.variables mid.step (Ok tt) → Feeds (Ok tt) mid.checker mid.step next
+    due_fed : (less : (j : Judge) (o : Outcome) (ask : List Literal) → is_nameless (due j o ask) ≡ true) (next : Kernel) → Compares due mid.variables mid.step (Ok tt) → Feeds (Ok tt) mid.checker mid.step next
         → MeetsDue due old (record mid { checker = next }) (Ok tt)
     due_fed less next x d = λ j earlier s.
         let k = h j earlier s in
@@ -139,7 +139,7 @@ module _ (due : Due) (old mid : View) where
           alone = λ o ask es m v. still_allowed k.later (due j o ask) mid.step (fit o ask) k.open_yet v;
         }
 
-    due_refused : (next : Checker) (why : Why) → ((steps : List Step) → HasTaken mid.checker steps → Accepts (ready_after steps) mid.step → ⊥) → MeetsDue due old (record mid { checker = next }) (Err why)
+    due_refused : (next : Kernel) (why : Why) → ((steps : List Step) → HasTaken mid.checker steps → Accepts (ready_after steps) mid.step → ⊥) → MeetsDue due old (record mid { checker = next }) (Err why)
     due_refused next why d = λ j earlier s o ask. let k = h j earlier s in bars_refused (due j o ask) k.offers (d k.later k.stands.keeps)
 
 module _ (due : Due) (a b : Stream) (open_yet : AtEnd a.source → ⊥) where
@@ -154,7 +154,7 @@ module _ (due : Due) (a b : Stream) (open_yet : AtEnd a.source → ⊥) where
     expects_unfit e s = says_stop false e a b (λ u v. AwaitsNext u v (Ok awaited.Step)) (Compares due b.variables b.step) (MeetsDue due) open_yet
         (λ total why h. due_unfit due (seen_in total a) (seen_in total b) h why) p (subst (λ z. Says {A = Unit {0}} (Err e) (Compares due b.variables z)) held s)
 
-    pub expects_fed : ((j : Judge) (o : Outcome) (ask : List Literal) → is_nameless (due j o ask) ≡ true) → (next : Checker) (r : Result (Unit {0}) Stop) → Compares due b.variables x (Ok tt) → Feeds r b.checker x next → LooksAtMost b.checker x next
+    pub expects_fed : ((j : Judge) (o : Outcome) (ask : List Literal) → is_nameless (due j o ask) ≡ true) → (next : Kernel) (r : Result (Unit {0}) Stop) → Compares due b.variables x (Ok tt) → Feeds r b.checker x next → LooksAtMost b.checker x next
         → Confirms r a (record b { checker = next }) (MeetsDue due)
     expects_fed less next (Ok u) k s l = feeds_on a b next b.variables (λ u v. AwaitsNext u v (Ok awaited.Step)) (λ u v. MeetsDue due u v (Ok tt)) (subst (λ z. Feeds (Ok tt) b.checker z next) held s) (subst (λ z. LooksAtMost b.checker z next) held l)
         (λ total h. due_fed due (seen_in total a) (seen_in total b) h less next (subst (λ z. Compares due b.variables z (Ok tt)) held k) (subst (λ z. Feeds (Ok tt) b.checker z next) held s)) p

@@ -12,7 +12,7 @@ use Rattle.sat_checker.specs.Accepts.{ready_after}
 use Rattle.certify.specs.answers.AnswerForms.{IsName, HaveNames}
 use Rattle.certify.specs.confirm.Checking.{variable_of}
 use Rattle.certify.specs.confirm.Matches.{NewName, Excused, bringing}
-use Rattle.sat_checker.specs.CheckerView.{Stands}
+use Rattle.sat_checker.specs.KernelView.{Stands}
 use Rattle.certify.specs.confirm.CertificatePlaces.{Leads, Bars, variable_in}
 use Rattle.certify.specs.confirm.Feeding.{Feeds}
 use Rattle.certify.specs.confirm.CertificateSteps.{IsFed, Onward, MeetsPending, NamesNext, FeedsName}

@@ -7,7 +7,7 @@ use Rattle.sat_base.specs.script.Script.{Literal, names_of}
 use Rattle.sat_base.specs.script.Judge.{Judge, bring_all}
 use Rattle.sat_base.specs.steps.Steps.{Step}
 use Rattle.sat_checker.specs.Accepts.{Accepts, ready_after}
-use Rattle.sat_checker.specs.CheckerView.{Stands, LooksAtMost}
+use Rattle.sat_checker.specs.KernelView.{Stands, LooksAtMost}
 use Rattle.certify.specs.answers.AnswerForms.{HaveNames}
 use Rattle.certify.specs.confirm.CertificatePlaces.{Leads}
 use Rattle.certify.specs.confirm.CertificateSteps.{MeetsPending, NamesNext, BringsNext}
@@ -18,7 +18,7 @@ use Rattle.certify.specs.confirm.NextNames.{PutsNext, Brings, BringsUpTo, Brings
 use Rattle.certify.specs.confirm.Stepping.{AwaitsNext, is_fed}
 use Rattle.certify.specs.confirm.Streams.{Stream, seen_in, Reading, Confirms, Says}
 use Rattle.certify.specs.confirm.Views.{View}
-use Rattle.sat_checker.specs.declared.checker.Checker.{Checker}
+use Rattle.sat_checker.specs.declared.kernel.Kernel.{Kernel}
 use Rattle.certify.specs.declared.confirm.certificate.Awaited.{Awaited}
 use Rattle.certify.specs.declared.confirm.certificate.Awaited.TheVariants as awaited
 use Rattle.certify.specs.declared.confirm.stop.Stop.{Stop}
@@ -76,11 +76,11 @@ module _ (a b : Stream) (open_yet : AtEnd a.source → ⊥) where
     brings_unfit e s = says_stop false e a b (λ u v. AwaitsNext u v (Ok awaited.Step)) (PutsNext b.checker b.variables b.step) Brings open_yet
         (λ total why h n. next_unfit (seen_in total a) (seen_in total b) h why (n (seen_in total b).rest)) p (subst (λ z. Says {A = ℕ} (Err e) (PutsNext b.checker b.variables z)) held s)
 
-    pub brings_refused : (e : Stop) (next : Checker) → Feeds (Err e) b.checker x next → LooksAtMost b.checker x next → Confirms {A = Unit {0}} (Err e) a (record b { checker = next }) Brings
+    pub brings_refused : (e : Stop) (next : Kernel) → Feeds (Err e) b.checker x next → LooksAtMost b.checker x next → Confirms {A = Unit {0}} (Err e) a (record b { checker = next }) Brings
     brings_refused e next s l = feeds_stop e a b next (λ u v. AwaitsNext u v (Ok awaited.Step)) Brings open_yet (subst (λ z. Feeds (Err e) b.checker z next) held s) (subst (λ z. LooksAtMost b.checker z next) held l)
         (λ total why h d. next_refused (seen_in total a) (seen_in total b) h (seen_in total (record b { checker = next })) why d) p
 
-    module _ (next : Checker) (fed : Feeds (Ok tt) b.checker x next) (most : LooksAtMost b.checker x next) (variables : List ℕ) where
+    module _ (next : Kernel) (fed : Feeds (Ok tt) b.checker x next) (most : LooksAtMost b.checker x next) (variables : List ℕ) where
       -- there is no room for it
       pub brings_short : Confirms {A = Unit {0}} (Err stop.OutOfMemory) a (record b { checker = next; variables = variables }) Brings
       brings_short = says_stop {B = ℕ} true stop.OutOfMemory a (record b { checker = next; variables = variables }) (λ u v. Unit {0}) (λ y. ⊥) Brings open_yet (λ total why h n. absurd n)

@@ -9,7 +9,7 @@ use Rattle.certify.specs.answers.Answers.{Outcome, Unsat, outcome_text, refused_
 use Rattle.certify.specs.answers.AnswerForms.{IsInForm}
 use Rattle.certify.specs.answers.AnswerReading.{outcome_of}
 use Rattle.sat_checker.specs.Accepts.{ready_after}
-use Rattle.sat_checker.specs.CheckerView.{Stands}
+use Rattle.sat_checker.specs.KernelView.{Stands}
 use Rattle.certify.specs.confirm.CertificateSteps.{IsFed, MeetsPending, OpensAsk, BringsAll}
 use Rattle.certify.specs.confirm.ConfirmedCommands.{TakesLine, ReadsReply, ShowsOutcome, CountFromOne, ConfirmsNext, ConfirmsOver, AnswersAsk, ConfirmsAll}
 use Rattle.certify.specs.confirm.Dues.{Due, Allows, SaysSo, MeetsDue}

@@ -8,13 +8,13 @@ use Rattle.sat_base.specs.device.Reading.{AtEnd, Answers}
 use Rattle.sat_base.specs.steps.Steps.{Step}
 use Rattle.sat_base.specs.steps.StepReading.{Next, reader_source, step_in}
 use Rattle.sat_checker.specs.Accepts.{Accepts, ready_after}
-use Rattle.sat_checker.specs.CheckerView.{Stands, LooksAtMost}
+use Rattle.sat_checker.specs.KernelView.{Stands, LooksAtMost}
 use Rattle.certify.specs.confirm.Checking.{is_ordered}
 use Rattle.certify.specs.confirm.Feeding.{HasTaken, Feeds, Settles}
 use Rattle.certify.specs.confirm.Stepping.{ReadsOne, AwaitsNext, StepsOnce, Passed, is_fed, is_fed_so_far}
 use Rattle.certify.specs.confirm.Streams.{Stream, GoesOn, stream_of, bytes_left, seen_in, rest_in, Reading, Confirms, stop_of}
 use Rattle.certify.specs.confirm.Views.{View}
-use Rattle.sat_checker.specs.declared.checker.Checker.{Checker}
+use Rattle.sat_checker.specs.declared.kernel.Kernel.{Kernel}
 use Rattle.certify.specs.declared.confirm.certificate.Awaited.{Awaited}
 use Rattle.certify.specs.declared.confirm.certificate.Awaited.TheVariants as awaited
 use Rattle.certify.specs.declared.confirm.stop.Stop.{Stop}
@@ -39,10 +39,10 @@ module _ {R : Type 0} (seen : R → Reader) (old new : StepReader R Buffers) (go
   pub read_takes : Next seen old new (Ok (step_in new)) → bytes_left (reader_source seen new) < bytes_left (reader_source seen old)
   read_takes n = step_takes (step_in new) (reader_source seen old) (reader_source seen new) n.bound (came n)
 
-  pub read_one : Next seen old new (Ok (step_in new)) → (checker : Checker) (variables : List ℕ) → Reading {A = Unit {0}} (λ x. false) (Ok tt) (stream_of seen old checker variables) (stream_of seen new checker variables) ReadsOne
+  pub read_one : Next seen old new (Ok (step_in new)) → (checker : Kernel) (variables : List ℕ) → Reading {A = Unit {0}} (λ x. false) (Ok tt) (stream_of seen old checker variables) (stream_of seen new checker variables) ReadsOne
   read_one n checker variables = step_came (step_in new) (stream_of seen old checker variables) (stream_of seen new checker variables) refl refl (came n)
 
-  pub read_none : (e : StepError) → Next seen old new (Err e) → (checker : Checker) (variables : List ℕ) → Confirms {A = Unit {0}} (Err (stop_of e)) (stream_of seen old checker variables) (stream_of seen new checker variables) ReadsOne
+  pub read_none : (e : StepError) → Next seen old new (Err e) → (checker : Kernel) (variables : List ℕ) → Confirms {A = Unit {0}} (Err (stop_of e)) (stream_of seen old checker variables) (stream_of seen new checker variables) ReadsOne
   read_none e n checker variables = none_came e (stream_of seen old checker variables) (stream_of seen new checker variables) ReadsOne goes_on.open_yet refl
       (answered (Err e) (reader_source seen old) (reader_source seen new) (sym n.was ∙ goes_on.well) n.answer) (λ total why none. none)
 
@@ -60,14 +60,14 @@ module _ (a : Stream) (unsat : Bool) (told : (steps : List Step) → Stands a.ch
       pub steps_step : is_ordered b.step ≡ true → b.variables ≡ a.variables → Reading is_fed_so_far (Ok (Some awaited.Step)) a b StepsOnce
       steps_step o v = (p.0, (λ total k. is_step (seen_in total a) (seen_in total b) unsat is told (p.1 total k) o c v), p.2)
 
-      pub steps_passed : (next : Checker) → is_ordered b.step ≡ false → Feeds (Ok tt) b.checker b.step next → LooksAtMost b.checker b.step next → b.variables ≡ a.variables → Reading is_fed_so_far (Ok None) a (record b { checker = next }) StepsOnce
+      pub steps_passed : (next : Kernel) → is_ordered b.step ≡ false → Feeds (Ok tt) b.checker b.step next → LooksAtMost b.checker b.step next → b.variables ≡ a.variables → Reading is_fed_so_far (Ok None) a (record b { checker = next }) StepsOnce
       steps_passed next o d l v = feeds_on a b next b.variables (λ x y. ReadsOne x y (Ok tt)) (λ x y. StepsOnce x y (Ok None)) d l
-          (λ total r. is_passed (seen_in total a) (seen_in total (record b { checker = next })) unsat is told r o (subst (λ (x : Checker). Feeds (Ok tt) x b.step next) c d) v) p
+          (λ total r. is_passed (seen_in total a) (seen_in total (record b { checker = next })) unsat is told r o (subst (λ (x : Kernel). Feeds (Ok tt) x b.step next) c d) v) p
 
-      pub steps_refused : (e : Stop) (next : Checker) → is_ordered b.step ≡ false → Feeds (Err e) b.checker b.step next → LooksAtMost b.checker b.step next → Confirms {A = Option Awaited} (Err e) a (record b { checker = next }) StepsOnce
+      pub steps_refused : (e : Stop) (next : Kernel) → is_ordered b.step ≡ false → Feeds (Err e) b.checker b.step next → LooksAtMost b.checker b.step next → Confirms {A = Option Awaited} (Err e) a (record b { checker = next }) StepsOnce
       steps_refused e next o d l = feeds_stop e a b next (λ x y. ReadsOne x y (Ok tt)) StepsOnce open_yet d l
           (λ total why r h. is_refused (seen_in total a) (seen_in total (record b { checker = next })) (seen_in total b) unsat is told r o
-          (subst (λ (x : Checker). (steps : List Step) → HasTaken x steps → Accepts (ready_after steps) b.step → ⊥) c h)) p
+          (subst (λ (x : Kernel). (steps : List Step) → HasTaken x steps → Accepts (ready_after steps) b.step → ⊥) c h)) p
 
 -- ROUNDS FOLLOW ONE ANOTHER
 
@@ -98,7 +98,7 @@ module _ (a b c : Stream) (open_yet : AtEnd a.source → ⊥) (p : Confirms (Ok 
 -- A UNIT CONFLICT IS SETTLED
 
 -- what waits is so of a checker that settled one, too
-awaits_settled : (x : Awaited) (u v : View) (next : Checker) → Settles (Ok tt) v.checker next → AwaitsNext u v (Ok x) → AwaitsNext u (record v { checker = next }) (Ok x)
+awaits_settled : (x : Awaited) (u v : View) (next : Kernel) → Settles (Ok tt) v.checker next → AwaitsNext u v (Ok x) → AwaitsNext u (record v { checker = next }) (Ok x)
 awaits_settled awaited.Step u v next settled h = λ j earlier s.
     let y = h j earlier s in
     let t = y.stands in
@@ -113,7 +113,7 @@ awaits_never : (x : Awaited) (u v w : View) (why : Why) → AwaitsNext u v (Ok x
 awaits_never awaited.Step u v w why h none = λ j earlier s. let y = h j earlier s in absurd (none y.later y.stands.keeps)
 awaits_never awaited.Cut u v w why h none = λ j earlier s. let y = h j earlier s in absurd (none y.later y.stands.keeps)
 
-module _ (a b : Stream) (x : Awaited) (p : Reading is_fed (Ok x) a b AwaitsNext) (next : Checker) where
+module _ (a b : Stream) (x : Awaited) (p : Reading is_fed (Ok x) a b AwaitsNext) (next : Kernel) where
   pub settled_goes : Settles (Ok tt) b.checker next → Reading is_fed (Ok x) a (record b { checker = next }) AwaitsNext
   settled_goes settled = settles_on (is_fed x) a b next (λ u v. AwaitsNext u v (Ok x)) (λ u v. AwaitsNext u v (Ok x)) settled (λ total h. awaits_settled x (seen_in total a) (seen_in total b) next settled h) p
 

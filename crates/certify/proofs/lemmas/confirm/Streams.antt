@@ -19,14 +19,14 @@ use Rattle.certify.specs.confirm.VerdictPromises.{TakesLooks}
 use Rattle.certify.specs.confirm.Walks.{LooksReach, Walks, walks_if, Tries, RunsOut}
 use Rattle.certify.specs.confirm.Views.{View, place}
 use Rattle.sat_checker.specs.Accepts.{Accepts, ready_after}
-use Rattle.sat_checker.specs.CheckerView.{looks_of, LooksAtMost}
-use Rattle.sat_checker.specs.declared.checker.Checker.{Checker}
+use Rattle.sat_checker.specs.KernelView.{looks_of, LooksAtMost}
+use Rattle.sat_checker.specs.declared.kernel.Kernel.{Kernel}
 use Rattle.certify.specs.declared.confirm.stop.Stop.{Stop}
 use Rattle.certify.specs.declared.confirm.stop.Stop.TheVariants as stop
 use Rattle.certify.specs.declared.verdict.Why.{Why}
 use Rattle.certify.specs.declared.verdict.Why.TheVariants.{CertificateEnds, StepRefused}
 use Rattle.certify.proofs.lemmas.confirm.OneStep.{one_step}
-use Rattle.certify.proofs.lemmas.confirm.Walks.{walks_none, walks_on, tries_on, runs_on, tries_if, tries_none, walks_read, walks_fed, tries_fed, runs_fed, walks_settled, tries_spent, runs_spent, never_settled}
+use Rattle.certify.proofs.lemmas.confirm.Walks.{walks_none, walks_on, tries_on, runs_on, tries_if, tries_none, walks_read, walks_fed, tries_fed, runs_fed, walks_settled, tries_kept, tries_spent, runs_spent, never_settled}
 use Rattle.sat_base.proofs.lemmas.steps.Fronts.{no_whole, no_way}
 
 -- WHAT CAN FOLLOW
@@ -200,14 +200,14 @@ says_then (Err e) a b P S R open_yet f p s = says_stop true e a b P S R open_yet
 -- WHAT A CHECKER IS FED
 
 -- the step that was read last is accepted
-pub feeds_on : (a b : Stream) (next : Checker) (variables : List ℕ) (P Q : View → View → Type 0) → Feeds (Ok tt) b.checker b.step next → LooksAtMost b.checker b.step next
+pub feeds_on : (a b : Stream) (next : Kernel) (variables : List ℕ) (P Q : View → View → Type 0) → Feeds (Ok tt) b.checker b.step next → LooksAtMost b.checker b.step next
     → ((total : List ℕ) → P (seen_in total a) (seen_in total b) → Q (seen_in total a) (seen_in total (record b { checker = next; variables = variables })))
     → Going false a b P → Going true a (record b { checker = next; variables = variables }) Q
 feeds_on a b next variables P Q fed looks f p =
     (p.0, (λ total k. f total (p.1 total k)), (λ total k. walks_fed (seen_in total a) (seen_in total b) (seen_in total (record b { checker = next; variables = variables })) refl fed looks (p.2 total k)))
 
 -- or isn't
-pub feeds_stop : {C : Type 0} (e : Stop) (a b : Stream) (next : Checker) (P : View → View → Type 0) (R : View → View → Result C Why → Type 0) → (AtEnd a.source → ⊥) → Feeds (Err e) b.checker b.step next → LooksAtMost b.checker b.step next
+pub feeds_stop : {C : Type 0} (e : Stop) (a b : Stream) (next : Kernel) (P : View → View → Type 0) (R : View → View → Result C Why → Type 0) → (AtEnd a.source → ⊥) → Feeds (Err e) b.checker b.step next → LooksAtMost b.checker b.step next
     → ((total : List ℕ) (why : Why) → P (seen_in total a) (seen_in total b) → ((steps : List Step) → HasTaken b.checker steps → Accepts (ready_after steps) b.step → ⊥) → R (seen_in total a) (seen_in total (record b { checker = next })) (Err why))
     → Going false a b P → Confirms {A = C} (Err e) a (record b { checker = next }) R
 feeds_stop (stop.No why) a b next P R open_yet fed looks f p =
@@ -221,14 +221,14 @@ feeds_stop stop.CounterEnd a b next P R open_yet fed looks f p = (
 )
 
 -- a pending unit conflict is settled
-pub settles_on : (fed : Bool) (a b : Stream) (next : Checker) (P Q : View → View → Type 0) → Settles (Ok tt) b.checker next
+pub settles_on : (fed : Bool) (a b : Stream) (next : Kernel) (P Q : View → View → Type 0) → Settles (Ok tt) b.checker next
     → ((total : List ℕ) → P (seen_in total a) (seen_in total b) → Q (seen_in total a) (seen_in total (record b { checker = next })))
     → Going fed a b P → Going fed a (record b { checker = next }) Q
 settles_on fed a b next P Q settled f p =
     (p.0, (λ total k. f total (p.1 total k)), (λ total k. walks_settled fed (seen_in total a) (seen_in total b) (seen_in total (record b { checker = next })) refl refl settled (p.2 total k)))
 
 -- or there is no id for it
-pub settles_stop : {C : Type 0} (e : Stop) (fed : Bool) (a b : Stream) (next : Checker) (P : View → View → Type 0) (R : View → View → Result C Why → Type 0) → (AtEnd a.source → ⊥) → Settles (Err e) b.checker next
+pub settles_stop : {C : Type 0} (e : Stop) (fed : Bool) (a b : Stream) (next : Kernel) (P : View → View → Type 0) (R : View → View → Result C Why → Type 0) → (AtEnd a.source → ⊥) → Settles (Err e) b.checker next
     → ((total : List ℕ) (why : Why) → P (seen_in total a) (seen_in total b) → ((steps : List Step) → HasTaken b.checker steps → ⊥) → R (seen_in total a) (seen_in total (record b { checker = next })) (Err why))
     → Going fed a b P → Confirms {A = C} (Err e) a (record b { checker = next }) R
 settles_stop (stop.No why) fed a b next P R open_yet settled f p = (
@@ -239,7 +239,7 @@ settles_stop (stop.No why) fed a b next P R open_yet settled f p = (
 settles_stop stop.Read fed a b next P R open_yet settled f p = absurd settled
 settles_stop stop.OutOfMemory fed a b next P R open_yet settled f p = (
   moves_halt a b open_yet p.0,
-  (λ total k earlier t. never_settled fed (seen_in total a) (seen_in total b) (LooksReach earlier (rest_in total a.source) (looks_of a.checker) (looks_of next)) earlier settled (p.2 total k) t),
+  (λ total k. tries_kept fed (seen_in total a) (seen_in total b) (seen_in total (record b { checker = next })) settled (p.2 total k)),
 )
 settles_stop stop.CounterEnd fed a b next P R open_yet settled f p = (
   moves_halt a b open_yet p.0,

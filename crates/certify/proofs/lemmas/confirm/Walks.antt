@@ -3,10 +3,10 @@ use Rattle.std.proofs.Common.{ℕ, ◌+◌, ◌≤◌, ◌≡◌, Bool, true, fa
 use Rattle.sat_base.specs.steps.Steps.{Step}
 use Rattle.sat_base.specs.steps.StepText.{SpellsStep}
 use Rattle.sat_checker.specs.Accepts.{ready_after}
-use Rattle.sat_checker.specs.CheckerView.{looks_of, LooksAtMost}
+use Rattle.sat_checker.specs.KernelView.{looks_of, LooksAtMost}
 use Rattle.sat_checker.specs.Looks.{most_looks}
 use Rattle.sat_checker.specs.Spent.{IsSpent}
-use Rattle.sat_checker.specs.declared.checker.Checker.{Checker}
+use Rattle.sat_checker.specs.declared.kernel.Kernel.{Kernel}
 use Rattle.certify.specs.confirm.Feeding.{HasTaken, Feeds, Settles}
 use Rattle.certify.specs.confirm.Views.{View}
 use Rattle.certify.specs.confirm.Walks.{LooksReach, same_looks, looks_tried, looks_taken, Spends, spent_settling, spent_trying, spent_taking, Walked, Walks, WalksBefore, walks_if, Tries, RunsOut}
@@ -44,7 +44,7 @@ tries_if true u v f = λ earlier t. let x = f earlier t in x.reaches (looks_of v
 tries_if false u v f = λ earlier t. let x = f.2 earlier t in x.reaches (looks_of v.checker) same_looks
 
 pub tries_none : (u v : View) → v.checker ≡ u.checker → Tries u v
-tries_none u v e earlier t = subst (λ (c : Checker). LooksReach earlier u.rest (looks_of u.checker) (looks_of c)) (sym e) same_looks
+tries_none u v e earlier t = subst (λ (c : Kernel). LooksReach earlier u.rest (looks_of u.checker) (looks_of c)) (sym e) same_looks
 
 -- THE NEXT STEP
 
@@ -52,7 +52,7 @@ pub walks_read : (u v : View) (text : List ℕ) → SpellsStep v.step text → u
 walks_read u v text spelt front same = (
   text,
   spelt,
-  (λ earlier t. subst (λ (c : Checker). Walked u.checker u.rest c (text ++ v.rest) earlier) (sym same) (record {
+  (λ earlier t. subst (λ (c : Kernel). Walked u.checker u.rest c (text ++ v.rest) earlier) (sym same) (record {
     later = earlier;
     taken = t;
     reaches = λ n r. subst (λ bytes. LooksReach earlier bytes (looks_of u.checker) n) (sym front) r;
@@ -76,12 +76,12 @@ walks_fed u v w same fed most f earlier t =
 pub tries_fed : (u v w : View) → LooksAtMost v.checker v.step w.checker → WalksBefore u v → Tries u w
 tries_fed u v w most f earlier t = let x = f.2 earlier t in x.reaches (looks_of w.checker) (looks_tried v.step f.0 v.rest refl f.1 (most x.later x.taken.stands))
 
-pub runs_fed : (u v w : View) (next : Checker) → Feeds (Err stop.CounterEnd) v.checker v.step next → WalksBefore u v → RunsOut u w
+pub runs_fed : (u v w : View) (next : Kernel) → Feeds (Err stop.CounterEnd) v.checker v.step next → WalksBefore u v → RunsOut u w
 runs_fed u v w next fed f earlier t = let x = f.2 earlier t in x.spends (spent_trying v.step f.0 v.rest refl f.1 (fed x.later x.taken))
 
 -- A UNIT CONFLICT THAT WAS PENDING
 
-settled_walk : (old : Checker) (bytes : List ℕ) (mid next : Checker) (rest : List ℕ) (earlier : List Step) → Settles (Ok tt) mid next → Walked old bytes mid rest earlier → Walked old bytes next rest earlier
+settled_walk : (old : Kernel) (bytes : List ℕ) (mid next : Kernel) (rest : List ℕ) (earlier : List Step) → Settles (Ok tt) mid next → Walked old bytes mid rest earlier → Walked old bytes next rest earlier
 settled_walk old bytes mid next rest earlier settled x =
     let y = settled x.later x.taken in
     record {
@@ -110,6 +110,11 @@ pub record Reached (u v : View) (earlier : List Step) : Type 0 where
 reached : (fed : Bool) (u v : View) → walks_if fed u v → (earlier : List Step) → HasTaken u.checker earlier → Reached u v earlier
 reached true u v f = λ earlier t. let x = f earlier t in record { later = x.later; taken = x.taken; looks = x.reaches (looks_of v.checker) same_looks; spent = λ s. x.spends (spent_settling s) }
 reached false u v f = λ earlier t. let x = f.2 earlier t in record { later = x.later; taken = x.taken; looks = x.reaches (looks_of v.checker) same_looks; spent = λ s. x.spends (spent_settling s) }
+
+-- there is no memory
+pub tries_kept : (fed : Bool) (u v w : View) → Settles (Err stop.OutOfMemory) v.checker w.checker → walks_if fed u v → Tries u w
+tries_kept fed u v w settled f earlier t =
+    let x = reached fed u v f earlier t in subst (LooksReach earlier u.rest (looks_of u.checker)) (sym (settled x.later x.taken)) x.looks
 
 -- there is no id for its empty clause
 pub tries_spent : (fed : Bool) (u v w : View) → Settles (Err stop.CounterEnd) v.checker w.checker → walks_if fed u v → Tries u w

@@ -1,23 +1,22 @@
 -- Clauses that are added one after another.
-use Rattle.std.proofs.Common.{ℕ, ◌+◌, ◌≤◌, ◌≡◌, Bool, true, false, List, [], ◌∷◌, ◌++◌, append_assoc, Ok, Err, refl, sym, ap, subst, ◌∙◌, arith}
+use Rattle.std.proofs.Common.{ℕ, ◌+◌, ◌≤◌, ◌≡◌, Bool, true, false, List, [], ◌∷◌, ◌++◌, append_assoc, Option, None, Some, Result, Ok, Err, refl, sym, ap, subst, ◌∙◌, arith}
 use Rattle.std.proofs.lemmas.List.{append-nil}
 use Rattle.sat_base.specs.steps.Steps.{Step, AddClause}
-use Rattle.sat_checker.specs.Accepts.{ready_after}
+use Rattle.sat_checker.specs.Stored.{Stored}
+use Rattle.sat_checker.specs.Storing.{settled, settled_by}
+use Rattle.sat_checker.specs.Accepts.{MayBeAdded, ready_after}
 use Rattle.sat_checker.specs.Looks.{most_looks}
-use Rattle.sat_checker.specs.CheckerView.{has_failed, looks_of, Stands, AnswersClause, LooksAtMost}
+use Rattle.sat_checker.specs.KernelView.{LooksAtMost, KeepsAfter}
+use Rattle.sat_checker.specs.CheckerView.{Seen, has_failed, looks_of, Stands, AnswersStep, AnswersClause}
 use Rattle.sat_checker.specs.ProofView.{taken_after, most_looks_behind, GoesOn}
 use Rattle.sat_checker.specs.ClausesView.{additions, Adds, behind, AnswersClauses}
-use Rattle.sat_checker.specs.declared.checker.Checker.{Checker}
+use Rattle.sat_checker.specs.announcements.Announcements.{Told}
+use Rattle.sat_checker.specs.declared.processing.ProcessingError.{ProcessingError}
 use Rattle.sat_checker.specs.declared.error.CheckerError.{CheckerError}
 use Rattle.sat_checker.specs.declared.error.CheckerError.TheVariants as errors
+use Rattle.sat_checker.specs.declared.state.State.{State}
 use Rattle.sat_checker.proofs.lemmas.checker.Proofs.{taken_one, looks_one, looks_more}
-
--- these clauses were added, and those are left
-pub record Added (old new : Checker) (clauses rest : List (List ℕ)) (earlier : List Step) : Type 0 where
-  pub added : List (List ℕ)
-  pub split : clauses ≡ added ++ rest
-  pub goes_on : GoesOn new (behind added earlier)
-  pub looks : looks_of new ≤ looks_of old + most_looks_behind (additions added) earlier
+use Rattle.sat_checker.proofs.lemmas.telling.Settling.{ready_of}
 
 additions_one : (cs : List (List ℕ)) (c : List ℕ) → additions (cs ++ c ∷ []) ≡ additions cs ++ AddClause c ∷ []
 additions_one [] c = refl
@@ -32,48 +31,80 @@ cost_one cs c earlier = ap (λ (z : List Step). most_looks_behind z earlier) (ad
 none_more : (n : ℕ) → n ≤ n + 0
 none_more n = omega arith
 
-pub added_none : (c : Checker) (clauses rest : List (List ℕ)) (earlier : List Step) → clauses ≡ rest → has_failed c ≡ false → Stands c earlier → Added c c clauses rest earlier
-added_none c clauses rest earlier e h s = record { added = []; split = e; goes_on = (s, h); looks = none_more (looks_of c) }
+-- a unit conflict that is settled is no bar
+may_settle : (f : Stored) (c : List ℕ) → MayBeAdded f c → MayBeAdded (settled f) c
+may_settle f c h = go f.conflict
+  where
+    go : (x : Option (ℕ × ℕ)) → MayBeAdded (settled_by x f) c
+    go None = h
+    go (Some units) = h
 
-tried_cost : (a b d : Checker) (clauses rest : List (List ℕ)) (c : List ℕ) (earlier : List Step) → (p : Added a b clauses rest earlier) → LooksAtMost b (AddClause c) d
-    → looks_of d ≤ looks_of a + most_looks_behind (additions (p.added ++ c ∷ [])) earlier
-tried_cost a b d clauses rest c earlier p l = looks_more (looks_of a) (looks_of b) (looks_of d) _ _ _ p.looks (l (behind p.added earlier) p.goes_on.0) (cost_one p.added c earlier)
+pub may_add : (state : State) (steps : List Step) (kept : KeepsAfter state steps) (c : List ℕ) → MayBeAdded kept.formula c → MayBeAdded (ready_after steps) c
+may_add state steps kept c h = subst (λ f. MayBeAdded f c) (ready_of state steps kept) (may_settle kept.formula c h)
 
-split_one : (clauses added rest more : List (List ℕ)) (c : List ℕ) → clauses ≡ added ++ rest → rest ≡ c ∷ more → clauses ≡ (added ++ c ∷ []) ++ more
-split_one clauses added rest more c e f = e ∙ ap (λ (z : List (List ℕ)). added ++ z) f ∙ sym (append_assoc added (c ∷ []) more)
+module _ {L : Type 0} (Hears : L → Told → Result Unit ProcessingError → L → Type 0) (before : List Told) (begun : L) where
+  -- these clauses were added, and those are left
+  pub record Added (old new : Seen L) (clauses rest : List (List ℕ)) (earlier : List Step) : Type 0 where
+    pub added : List (List ℕ)
+    pub split : clauses ≡ added ++ rest
+    pub goes_on : GoesOn Hears before begun new (behind added earlier)
+    pub looks : looks_of new ≤ looks_of old + most_looks_behind (additions added) earlier
 
-pub added_one : (a b d : Checker) (clauses rest more : List (List ℕ)) (c : List ℕ) (earlier : List Step) → rest ≡ c ∷ more → (p : Added a b clauses rest earlier) → LooksAtMost b (AddClause c) d
-    → AnswersClause (Ok tt) b c d (behind p.added earlier) → Added a d clauses more earlier
-added_one a b d clauses rest more c earlier e p l k = record {
-  added = p.added ++ c ∷ [];
-  split = split_one clauses p.added rest more c p.split e;
-  goes_on = subst (GoesOn d) (sym (behind_one p.added c earlier)) (k.1.stands, k.1.goes_on);
-  looks = tried_cost a b d clauses rest c earlier p l;
-}
+  pub added_none : (c : Seen L) (clauses rest : List (List ℕ)) (earlier : List Step) → clauses ≡ rest → has_failed c ≡ false → Stands Hears before begun c earlier → Added c c clauses rest earlier
+  added_none c clauses rest earlier e h s = record { added = []; split = e; goes_on = (s, h); looks = none_more (looks_of c) }
 
-adds_tried : (a b d : Checker) (clauses rest more : List (List ℕ)) (c : List ℕ) (earlier : List Step) → has_failed a ≡ false → rest ≡ c ∷ more → (p : Added a b clauses rest earlier) → LooksAtMost b (AddClause c) d
-    → Adds a d clauses p.added (c ∷ []) earlier
-adds_tried a b d clauses rest more c earlier h e p l = record { well = h; left = more; split = split_one clauses p.added rest more c p.split e; looks = tried_cost a b d clauses rest c earlier p l }
+  tried_cost : (a b d : Seen L) (clauses rest : List (List ℕ)) (c : List ℕ) (earlier : List Step) → (p : Added a b clauses rest earlier) → LooksAtMost b.kernel (AddClause c) d.kernel
+      → looks_of d ≤ looks_of a + most_looks_behind (additions (p.added ++ c ∷ [])) earlier
+  tried_cost a b d clauses rest c earlier p l = looks_more (looks_of a) (looks_of b) (looks_of d) _ _ _ p.looks (l (behind p.added earlier) p.goes_on.0.kernel) (cost_one p.added c earlier)
 
-pub added_stops : (a b d : Checker) (g : CheckerError) (clauses rest more : List (List ℕ)) (c : List ℕ) (earlier : List Step) → has_failed a ≡ false → rest ≡ c ∷ more → (p : Added a b clauses rest earlier) → LooksAtMost b (AddClause c) d
-    → AnswersClause (Err g) b c d (behind p.added earlier) → AnswersClauses (Err g) a d clauses earlier
-added_stops a b d errors.CheckFailed clauses rest more c earlier h e p l k = (p.added, c, adds_tried a b d clauses rest more c earlier h e p l, k.1, (k.2, k.3))
-added_stops a b d errors.CounterEnd clauses rest more c earlier h e p l k = (p.added, c, adds_tried a b d clauses rest more c earlier h e p l, k.1, k.2)
-added_stops a b d errors.OutOfMemory clauses rest more c earlier h e p l k = (p.added, c, adds_tried a b d clauses rest more c earlier h e p l, k.1)
-added_stops a b d errors.HasFailed clauses rest more c earlier h e p l k = absurd (let g : ◌≡◌ {A = Bool} true false = sym k.0 ∙ p.goes_on.1 in cc)
-added_stops a b d errors.ProofIncomplete clauses rest more c earlier h e p l k = absurd k
-added_stops a b d errors.IoError clauses rest more c earlier h e p l k = absurd k
-added_stops a b d errors.ParseError clauses rest more c earlier h e p l k = absurd k
+  split_one : (clauses added rest more : List (List ℕ)) (c : List ℕ) → clauses ≡ added ++ rest → rest ≡ c ∷ more → clauses ≡ (added ++ c ∷ []) ++ more
+  split_one clauses added rest more c e f = e ∙ ap (λ (z : List (List ℕ)). added ++ z) f ∙ sym (append_assoc added (c ∷ []) more)
 
-pub added_all : (a b : Checker) (clauses rest : List (List ℕ)) (earlier : List Step) → has_failed a ≡ false → rest ≡ [] → Added a b clauses rest earlier → AnswersClauses (Ok tt) a b clauses earlier
-added_all a b clauses rest earlier h e p =
-    let all : clauses ≡ p.added = p.split ∙ ap (λ (z : List (List ℕ)). p.added ++ z) e ∙ append-nil p.added in
-    let cost : additions p.added ≡ additions (clauses ++ []) = ap additions (sym all ∙ sym (append-nil clauses)) in (
-      record {
-        well = h;
-        left = [];
-        split = sym (append-nil clauses) ∙ sym (append-nil (clauses ++ []));
-        looks = subst (λ (z : List Step). looks_of b ≤ looks_of a + most_looks_behind z earlier) cost p.looks;
-      },
-      subst (λ (z : List (List ℕ)). GoesOn b (behind z earlier)) (sym all) p.goes_on,
-    )
+  pub added_one : (a b d : Seen L) (clauses rest more : List (List ℕ)) (c : List ℕ) (earlier : List Step) → rest ≡ c ∷ more → (p : Added a b clauses rest earlier) → LooksAtMost b.kernel (AddClause c) d.kernel
+      → AnswersClause Hears before begun (Ok tt) b c d (behind p.added earlier) → Added a d clauses more earlier
+  added_one a b d clauses rest more c earlier e p l k = record {
+    added = p.added ++ c ∷ [];
+    split = split_one clauses p.added rest more c p.split e;
+    goes_on = subst (GoesOn Hears before begun d) (sym (behind_one p.added c earlier)) (k.1.stands, k.1.goes_on);
+    looks = tried_cost a b d clauses rest c earlier p l;
+  }
+
+  adds_tried : (a b d : Seen L) (clauses rest more : List (List ℕ)) (c : List ℕ) (earlier : List Step) → has_failed a ≡ false → rest ≡ c ∷ more → (p : Added a b clauses rest earlier) → LooksAtMost b.kernel (AddClause c) d.kernel
+      → Adds a d clauses p.added (c ∷ []) earlier
+  adds_tried a b d clauses rest more c earlier h e p l = record { well = h; left = more; split = split_one clauses p.added rest more c p.split e; looks = tried_cost a b d clauses rest c earlier p l }
+
+  pub added_stops : (a b d : Seen L) (g : CheckerError) (clauses rest more : List (List ℕ)) (c : List ℕ) (earlier : List Step) → has_failed a ≡ false → rest ≡ c ∷ more → (p : Added a b clauses rest earlier) → LooksAtMost b.kernel (AddClause c) d.kernel
+      → AnswersClause Hears before begun (Err g) b c d (behind p.added earlier) → AnswersClauses Hears before begun (Err g) a d clauses earlier
+  added_stops a b d errors.CheckFailed clauses rest more c earlier h e p l k = (p.added, c, adds_tried a b d clauses rest more c earlier h e p l, k.1, subst (λ z. GoesOn Hears before begun z (behind p.added earlier)) (sym k.2) p.goes_on)
+  added_stops a b d errors.CounterEnd clauses rest more c earlier h e p l k = (p.added, c, adds_tried a b d clauses rest more c earlier h e p l, k.1, k.2)
+  added_stops a b d errors.OutOfMemory clauses rest more c earlier h e p l k = (p.added, c, adds_tried a b d clauses rest more c earlier h e p l, k.1)
+  added_stops a b d (errors.ProofProcessorError cause) clauses rest more c earlier h e p l k = (p.added, c, adds_tried a b d clauses rest more c earlier h e p l, k.1)
+  added_stops a b d errors.HasFailed clauses rest more c earlier h e p l k = absurd (let g : ◌≡◌ {A = Bool} true false = sym k.0 ∙ p.goes_on.1 in cc)
+  added_stops a b d errors.ProofIncomplete clauses rest more c earlier h e p l k = absurd k
+  added_stops a b d errors.IoError clauses rest more c earlier h e p l k = absurd k
+  added_stops a b d errors.ParseError clauses rest more c earlier h e p l k = absurd k
+
+  pub added_all : (a b : Seen L) (clauses rest : List (List ℕ)) (earlier : List Step) → has_failed a ≡ false → rest ≡ [] → Added a b clauses rest earlier → AnswersClauses Hears before begun (Ok tt) a b clauses earlier
+  added_all a b clauses rest earlier h e p =
+      let all : clauses ≡ p.added = p.split ∙ ap (λ (z : List (List ℕ)). p.added ++ z) e ∙ append-nil p.added in
+      let cost : additions p.added ≡ additions (clauses ++ []) = ap additions (sym all ∙ sym (append-nil clauses)) in (
+        record {
+          well = h;
+          left = [];
+          split = sym (append-nil clauses) ∙ sym (append-nil (clauses ++ []));
+          looks = subst (λ (z : List Step). looks_of b ≤ looks_of a + most_looks_behind z earlier) cost p.looks;
+        },
+        subst (λ (z : List (List ℕ)). GoesOn Hears before begun b (behind z earlier)) (sym all) p.goes_on,
+      )
+
+  -- a clause that may be added is accepted
+  pub clause_checked : (r : Result Unit CheckerError) (a b : Seen L) (c : List ℕ) (steps : List Step) → MayBeAdded (ready_after steps) c → AnswersStep Hears before begun r a (AddClause c) b steps → AnswersClause Hears before begun r a c b steps
+  clause_checked (Ok x) a b c steps m k = k
+  clause_checked (Err errors.CheckFailed) a b c steps m k = absurd (k.1 m)
+  clause_checked (Err errors.CounterEnd) a b c steps m k = k
+  clause_checked (Err errors.OutOfMemory) a b c steps m k = k
+  clause_checked (Err (errors.ProofProcessorError cause)) a b c steps m k = k
+  clause_checked (Err errors.HasFailed) a b c steps m k = k
+  clause_checked (Err errors.ProofIncomplete) a b c steps m k = k
+  clause_checked (Err errors.IoError) a b c steps m k = k
+  clause_checked (Err errors.ParseError) a b c steps m k = k

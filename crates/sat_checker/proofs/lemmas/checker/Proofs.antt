@@ -1,6 +1,7 @@
 -- What a proof that is read and checked step by step is answered by.
 use Rattle.std.proofs.Common.{ℕ, ◌+◌, ◌-◌, ◌*◌, ◌<◌, ◌≤◌, ◌≡◌, Bool, true, false, List, [], ◌∷◌, ◌++◌, length, length-append, append_assoc, Option, Some, None, Result, Ok, Err, inl, inr, refl, sym, ap, subst, ◌∙◌, arith}
 use Rattle.std.specs.Prelude.{◌≢◌}
+use Rattle.std.proofs.lemmas.Bool.{true≢false}
 use Rattle.std.proofs.lemmas.List.{append-nil}
 use Rattle.std.specs.Bool.{MatchBool}
 use Rattle.std.specs.List.{AllByRecursion}
@@ -17,13 +18,16 @@ use Rattle.sat_base.specs.steps.StepReading as reading
 use Rattle.sat_base.specs.steps.Steps.{Step, End}
 use Rattle.sat_base.specs.steps.StepText.{tag_of, SpellsStep, SpellsSteps}
 use Rattle.sat_base.proofs.lemmas.device.ReadLemmas.{passes_none, passes_more, faults_later}
-use Rattle.sat_checker.specs.Spent.{IsSpent}
 use Rattle.sat_checker.specs.Accepts.{ready_after}
 use Rattle.sat_checker.specs.Looks.{most_looks}
-use Rattle.sat_checker.specs.CheckerView.{has_failed, looks_of, Stands, Fails}
+use Rattle.sat_checker.specs.CheckerView.{Seen, has_failed, looks_of, IsSettled, Stands, Stops, AnswersStep}
+use Rattle.sat_checker.specs.inner.DimacsPieces.{with_flag}
 use Rattle.sat_checker.specs.ProofView.{taken_after, most_looks_behind, GaveSteps, Went, GoesOn, AnswersProof}
-use Rattle.sat_checker.specs.inner.ProofSteps.{Turn, turn, Tries, StepsOn, Passed, Settles, error_of, is_final, bytes_left}
-use Rattle.sat_checker.specs.declared.checker.Checker.{Checker}
+use Rattle.sat_checker.specs.inner.ProofSteps.{Turn, turn, Tries, StepsOn, Passed, error_of, is_final, bytes_left}
+use Rattle.sat_checker.specs.announcements.Announcements.{Told}
+use Rattle.sat_checker.specs.declared.processing.ProcessingError.{ProcessingError}
+use Rattle.sat_checker.proofs.lemmas.telling.Heard.{heard_some}
+use Rattle.sat_checker.proofs.lemmas.telling.Settling.{none_pending, end_settled}
 use Rattle.sat_checker.specs.declared.error.CheckerError.{CheckerError}
 use Rattle.sat_checker.specs.declared.error.CheckerError.TheVariants as errors
 
@@ -31,24 +35,6 @@ use Rattle.sat_checker.specs.declared.error.CheckerError.TheVariants as errors
 
 live_none : Live SpellsStep []
 live_none = (End, 13, [], ([], refl, refl))
-
--- the checker with its flag as it was
-unfailed : (c : Checker) (steps : List Step) → c.failed ≡ false → Stands c steps → GoesOn (record c { failed = false }) steps
-unfailed c steps h s = (record { accepted = s.accepted; records = s.records; kept = λ e. s.kept h }, refl)
-
-failed_now : (c : Checker) (steps : List Step) → Stands c steps → Stands (record c { failed = true }) steps
-failed_now c steps s = record { accepted = s.accepted; records = s.records; kept = λ e. absurd (let g : ◌≡◌ {A = Bool} true false = e in cc) }
-
-pub unread_answer : {R : Type 0} (seen : R → Reader) (c : Checker) (s t : StepReader R Buffers) (e : StepError) (step : Step) (earlier : List Step)
-    → has_failed c ≡ false → reading.has_failed s ≡ false → Next seen s t (giving step (Err e)) → Stands c earlier
-    → StepsOn (Err (error_of e)) (turn c (reader_source seen s)) (turn (record c { failed = is_final e }) (reader_source seen t)) earlier
-unread_answer seen c s t unread_by.Ends step earlier h k n stands = ([], n.answer, live_none, record { goes_on = unfailed c earlier h stands; looks = refl })
-unread_answer seen c s t unread_by.Cut step earlier h k n stands = let a = n.answer in (a.0 ∷ a.1, a.2, a.3, record { goes_on = unfailed c earlier h stands; looks = refl })
-unread_answer seen c s t unread_by.BadByte step earlier h k n stands = let a = n.answer in (a.0, a.1, a.2, a.3, a.4, record { goes_on = unfailed c earlier h stands; looks = refl })
-unread_answer seen c s t unread_by.Read step earlier h k n stands = let a = n.answer in (a.0, a.1, a.2, record { goes_on = unfailed c earlier h stands; looks = refl })
-unread_answer seen c s t unread_by.OutOfMemory step earlier h k n stands =
-    let a = n.answer in (inl (record { tag = a.0; more = a.1; passes = a.2; looks = refl }), record { stands = failed_now c earlier stands; failed = refl })
-unread_answer seen c s t unread_by.HasFailed step earlier h k n stands = absurd (let g : ◌≡◌ {A = Bool} true false = sym n.was ∙ k in cc)
 
 -- STEPS ONE AFTER ANOTHER
 
@@ -76,22 +62,6 @@ looks_one (y ∷ ys) x earlier = apart (most_looks (ready_after earlier) y) (mos
 
 pub looks_more : (a b c m n k : ℕ) → b ≤ a + m → c ≤ b + n → k ≡ m + n → c ≤ a + k
 looks_more a b c m n k h l e = omega arith
-
-tried_looks : (a b c : Turn) (earlier xs : List Step) (x : Step) → Passed a b earlier xs → Tries b c (taken_after xs earlier) x → looks_of c.checker ≤ looks_of a.checker + most_looks_behind (xs ++ x ∷ []) earlier
-tried_looks a b c earlier xs x p t = looks_more (looks_of a.checker) (looks_of b.checker) (looks_of c.checker) _ _ _ p.looks t.looks (looks_one xs x earlier)
-
-pub passed_none : (a : Turn) (earlier : List Step) → has_failed a.checker ≡ false → Stands a.checker earlier → Passed a a earlier []
-passed_none a earlier h s = record { text = []; passes = passes_none a.source; spelt = refl; unended = tt; goes_on = (s, h); looks = omega arith }
-
-pub passed_one : (a b c : Turn) (earlier xs : List Step) (x : Step) → Passed a b earlier xs → Tries b c (taken_after xs earlier) x → (x ≢ End) → GoesOn c.checker (x ∷ taken_after xs earlier) → Passed a c earlier (xs ++ x ∷ [])
-passed_one a b c earlier xs x p t n g = record {
-  text = p.text ++ t.text;
-  passes = passes_more a.source b.source c.source p.text t.text p.passes t.passes;
-  spelt = items_one SpellsStep xs x p.text t.text p.spelt t.spelt;
-  unended = all_one (λ step. step ≢ End) xs x p.unended n;
-  goes_on = subst (GoesOn c.checker) (sym (taken_one xs x earlier)) g;
-  looks = tried_looks a b c earlier xs x p t;
-}
 
 -- the loop ends: a step takes a byte at least
 less_left : (m a b ls lt lx lf : ℕ) → lf + 4096 * a ≤ 4096 * b → ls + lf ≡ lx + lt → 0 < lx → b ≤ m → 4096 * (m - b) + lt < 4096 * (m - a) + ls
@@ -176,52 +146,11 @@ read_fails r t text b p = (
 from_start : (P : Source → Type 0) (s : Source) → s ≡ unread s.reader → P s → P (unread s.reader)
 from_start P s e h = subst P e h
 
--- steps that were taken, and then the last one, behind which bytes may wait
-went_tried : (a b c : Turn) (earlier xs : List Step) (x : Step) → a.source ≡ unread a.source.reader → has_failed a.checker ≡ false → c.source.reads ≤ most_reads
-    → Passed a b earlier xs → Tries b c (taken_after xs earlier) x → Went a.checker c.checker a.source.reader c.source.reader earlier xs (x ∷ []) ([] ++ c.source.waiting)
-went_tried a b c earlier xs x e h k p t =
-    let both : Passes a.source c.source (p.text ++ t.text) = passes_more a.source b.source c.source p.text t.text p.passes t.passes in
-    record {
-      well = h;
-      steps = gave_steps 0 a.source.reader c.source (xs ++ x ∷ []) (p.text ++ t.text) [] (omega arith) k
-          (subst (PassesBut 0 (unread a.source.reader) c.source) (sym (append-nil (p.text ++ t.text))) (from_start (λ s. Passes s c.source (p.text ++ t.text)) a.source e both))
-          (items_one SpellsStep xs x p.text t.text p.spelt t.spelt);
-      unended = p.unended;
-      looks = tried_looks a b c earlier xs x p t;
-    }
-
 looks_still : (a b c m n : ℕ) → b ≤ a + m → c ≡ b → n ≡ m → c ≤ a + n
 looks_still a b c m n h e f = omega arith
 
 none_behind : (xs earlier : List Step) → most_looks_behind (xs ++ []) earlier ≡ most_looks_behind xs earlier
 none_behind xs earlier = ap (λ (z : List Step). most_looks_behind z earlier) (append-nil xs)
-
--- and then bytes of which no step was read
-went_waiting : (n : ℕ) (a b c : Turn) (earlier xs : List Step) (more : List ℕ) → n ≤ 1 → a.source ≡ unread a.source.reader → has_failed a.checker ≡ false → c.source.reads ≤ most_reads
-    → looks_of c.checker ≡ looks_of b.checker → Passed a b earlier xs → PassesBut n b.source c.source more → Went a.checker c.checker a.source.reader c.source.reader earlier xs [] (more ++ c.source.waiting)
-went_waiting n a b c earlier xs more m e h k l p w = record {
-  well = h;
-  steps = gave_steps n a.source.reader c.source (xs ++ []) p.text more m k
-      (from_start (λ s. PassesBut n s c.source (p.text ++ more)) a.source e (passes_more a.source b.source c.source p.text more p.passes w))
-      (subst (λ (z : List Step). SpellsSteps z p.text) (sym (append-nil xs)) p.spelt);
-  unended = p.unended;
-  looks = looks_still (looks_of a.checker) (looks_of b.checker) (looks_of c.checker) _ _ p.looks l (none_behind xs earlier);
-}
-
-went_faulted : (a b c : Turn) (earlier xs : List Step) (more : List ℕ) → a.source ≡ unread a.source.reader → has_failed a.checker ≡ false → c.source.reads ≤ most_reads
-    → looks_of c.checker ≡ looks_of b.checker → Passed a b earlier xs → Faults b.source c.source more → Went a.checker c.checker a.source.reader c.source.reader earlier xs [] more
-went_faulted a b c earlier xs more e h k l p w = record {
-  well = h;
-  steps = faulted_steps a.source.reader c.source (xs ++ []) p.text more k
-      (from_start (λ s. Faults s c.source (p.text ++ more)) a.source e (faults_later a.source b.source c.source p.text more p.passes w))
-      (subst (λ (z : List Step). SpellsSteps z p.text) (sym (append-nil xs)) p.spelt);
-  unended = p.unended;
-  looks = looks_still (looks_of a.checker) (looks_of b.checker) (looks_of c.checker) _ _ p.looks l (none_behind xs earlier);
-}
-
--- no read failed
-kept_by : (n : ℕ) (a b c : Turn) (earlier xs : List Step) (more : List ℕ) → Passed a b earlier xs → PassesBut n b.source c.source more → c.source.reader.failures ≡ a.source.reader.failures
-kept_by n a b c earlier xs more p w = w.failures ∙ p.passes.failures
 
 live_still : (more waiting : List ℕ) → waiting ≡ [] → Live SpellsStep more → Live SpellsStep (more ++ waiting)
 live_still more waiting e h = subst (Live SpellsStep) (sym (ap (λ (z : List ℕ). more ++ z) e ∙ append-nil more)) h
@@ -230,76 +159,156 @@ none_waits : (known : Option (List ℕ)) (ws : List ℕ) → ws ≡ [] → IsAtE
 none_waits None ws e h = tt
 none_waits (Some xs) ws e h = sym (ap (λ (z : List ℕ). z ++ xs) e) ∙ h
 
--- an error behind steps that were taken
-pub stops : (a b c : Turn) (e : CheckerError) (earlier xs : List Step) → a.source ≡ unread a.source.reader → has_failed a.checker ≡ false → c.source.reads ≤ most_reads
-    → Passed a b earlier xs → StepsOn (Err e) b c (taken_after xs earlier) → AnswersProof (Err e) a.checker c.checker a.source.reader c.source.reader earlier
-stops a b c errors.CheckFailed earlier xs e h k p s =
-    (xs, s.0, [] ++ c.source.waiting, went_tried a b c earlier xs s.0 e h k p s.1, kept_by 0 a b c earlier xs _ p s.1.passes, s.2, s.3)
-stops a b c errors.CounterEnd earlier xs e h k p s =
-    (xs, s.0, [] ++ c.source.waiting, went_tried a b c earlier xs s.0 e h k p s.1, kept_by 0 a b c earlier xs _ p s.1.passes, inl (s.2, s.3))
-stops a b c errors.OutOfMemory earlier xs e h k p s =
-    elim s.0 [
-      | inl w ↦ (xs, (w.tag ∷ w.more) ++ c.source.waiting, inl (went_waiting 0 a b c earlier xs (w.tag ∷ w.more) (omega arith) e h k w.looks p w.passes), kept_by 0 a b c earlier xs _ p w.passes, s.1)
-      | inr t ↦ (xs, [] ++ c.source.waiting, inr (t.0, went_tried a b c earlier xs t.0 e h k p t.1), kept_by 0 a b c earlier xs _ p t.1.passes, s.1)
-    ]
-stops a b c errors.ProofIncomplete earlier xs e h k p s = (
-  xs,
-  s.0 ++ c.source.waiting,
-  went_waiting 1 a b c earlier xs s.0 (omega arith) e h k s.3.looks p s.1.0,
-  kept_by 1 a b c earlier xs s.0 p s.1.0,
-  over c.source s.1.1,
-  live_still s.0 c.source.waiting s.1.1.waiting s.2,
-  s.3.goes_on,
-)
-  where
-    over : (s : Source) → AllTaken s → IsOver s.reader
-    over s t = record { ends = t.ended; over = none_waits s.reader.to_come s.waiting t.waiting t.over }
-stops a b c errors.ParseError earlier xs e h k p s = (
-  xs,
-  (s.0 ++ s.1 ∷ []) ++ c.source.waiting,
-  went_waiting 0 a b c earlier xs (s.0 ++ s.1 ∷ []) (omega arith) e h k s.5.looks p s.2,
-  kept_by 0 a b c earlier xs _ p s.2,
-  record { front = s.0; byte = s.1; behind = c.source.waiting; whole = append_assoc s.0 (s.1 ∷ []) c.source.waiting; live = s.3; shut = s.4 },
-  s.5.goes_on,
-)
-stops a b c errors.IoError earlier xs e h k p s = (
-  xs,
-  s.0,
-  went_faulted a b c earlier xs s.0 e h k s.3.looks p s.1,
-  read_fails a.source.reader c.source (p.text ++ s.0) k (from_start (λ z. Faults z c.source (p.text ++ s.0)) a.source e (faults_later a.source b.source c.source p.text s.0 p.passes s.1)),
-  s.2,
-  s.3.goes_on,
-)
-stops a b c errors.HasFailed earlier xs e h k p s = absurd s
+module _ {L : Type 0} (Hears : L → Told → Result Unit ProcessingError → L → Type 0) (before : List Told) (begun : L) where
+  -- the checker with its flag as it was
+  unfailed : (c : Seen L) (steps : List Step) → has_failed c ≡ false → Stands Hears before begun c steps → GoesOn Hears before begun (with_flag false c) steps
+  unfailed c steps h s = (record { kernel = record { accepted = s.kernel.accepted; records = s.kernel.records; kept = λ e. s.kernel.kept h }; heard = λ e. s.heard h }, refl)
 
-looks_kept : (a b c : ℕ) → b ≤ a → c ≡ b → c ≤ a
-looks_kept a b c h e = omega arith
+  pub failed_now : (c : Seen L) (steps : List Step) → has_failed c ≡ false → Stands Hears before begun c steps → Stops Hears before begun (with_flag true c) steps
+  failed_now c steps h s = record {
+    fails = record {
+      stands = record { kernel = record { accepted = s.kernel.accepted; records = s.kernel.records; kept = λ e. absurd (true≢false e) }; heard = λ e. absurd (true≢false e) };
+      failed = refl;
+    };
+    heard = heard_some Hears c.kernel.state.formula.status.conflict steps before begun c.listeners (s.heard h);
+  }
 
--- the end behind steps that were taken, and what was pending is settled
-pub finishes : (a b c : Turn) (d : Checker) (r : Result (Unit {0}) CheckerError) (earlier xs : List Step) (x : Step) → a.source ≡ unread a.source.reader → has_failed a.checker ≡ false → c.source.reads ≤ most_reads
-    → Passed a b earlier xs → Tries b c (taken_after xs earlier) x → x ≡ End → Settles r c.checker d (x ∷ taken_after xs earlier) → AnswersProof r a.checker d a.source.reader c.source.reader earlier
-finishes a b c d (Ok u) earlier xs x e h k p t is s =
-    let w : Went a.checker c.checker a.source.reader c.source.reader earlier xs (End ∷ []) ([] ++ c.source.waiting) =
-    subst (λ (z : Step). Went a.checker c.checker a.source.reader c.source.reader earlier xs (z ∷ []) ([] ++ c.source.waiting)) is (went_tried a b c earlier xs x e h k p t) in (
-      xs,
-      [] ++ c.source.waiting,
-      record { well = w.well; steps = w.steps; unended = w.unended; looks = looks_kept _ (looks_of c.checker) (looks_of d) w.looks s.0 },
-      kept_by 0 a b c earlier xs _ p t.passes,
-      subst (λ (z : Step). GoesOn d (z ∷ taken_after xs earlier)) is s.1,
-      s.2,
-    )
-finishes a b c d (Err g) earlier xs x e h k p t is s =
-    let w : Went a.checker c.checker a.source.reader c.source.reader earlier xs (x ∷ []) ([] ++ c.source.waiting) = went_tried a b c earlier xs x e h k p t in
-    let whole : Went a.checker d a.source.reader c.source.reader earlier xs (x ∷ []) ([] ++ c.source.waiting) =
-    record { well = w.well; steps = w.steps; unended = w.unended; looks = looks_kept _ (looks_of c.checker) (looks_of d) w.looks s.0 } in
-    subst (λ (z : CheckerError). AnswersProof (Err z) a.checker d a.source.reader c.source.reader earlier) (sym s.1) (
-      xs,
-      x,
-      [] ++ c.source.waiting,
-      whole,
-      kept_by 0 a b c earlier xs _ p t.passes,
-      inr (is, spent_at x is s.2, subst (λ (z : Step). Fails d (z ∷ taken_after xs earlier)) is s.3),
-    )
-  where
-    spent_at : (x : Step) → x ≡ End → IsSpent (ready_after (x ∷ taken_after xs earlier)) → IsSpent (ready_after (End ∷ taken_after xs earlier))
-    spent_at x is s = subst (λ (z : Step). IsSpent (ready_after (z ∷ taken_after xs earlier))) is s
+  pub unread_answer : {R : Type 0} (seen : R → Reader) (c : Seen L) (s t : StepReader R Buffers) (e : StepError) (step : Step) (earlier : List Step)
+      → has_failed c ≡ false → reading.has_failed s ≡ false → Next seen s t (giving step (Err e)) → Stands Hears before begun c earlier
+      → StepsOn Hears before begun (Err (error_of e)) (turn c (reader_source seen s)) (turn (with_flag (is_final e) c) (reader_source seen t)) earlier
+  unread_answer seen c s t unread_by.Ends step earlier h k n stands = ([], n.answer, live_none, record { goes_on = unfailed c earlier h stands; looks = refl })
+  unread_answer seen c s t unread_by.Cut step earlier h k n stands = let a = n.answer in (a.0 ∷ a.1, a.2, a.3, record { goes_on = unfailed c earlier h stands; looks = refl })
+  unread_answer seen c s t unread_by.BadByte step earlier h k n stands = let a = n.answer in (a.0, a.1, a.2, a.3, a.4, record { goes_on = unfailed c earlier h stands; looks = refl })
+  unread_answer seen c s t unread_by.Read step earlier h k n stands = let a = n.answer in (a.0, a.1, a.2, record { goes_on = unfailed c earlier h stands; looks = refl })
+  unread_answer seen c s t unread_by.OutOfMemory step earlier h k n stands =
+      let a = n.answer in inl (record { tag = a.0; more = a.1; passes = a.2; looks = refl }, failed_now c earlier h stands)
+  unread_answer seen c s t unread_by.HasFailed step earlier h k n stands = absurd (true≢false (sym n.was ∙ k))
+
+  tried_looks : (a b c : Turn L) (earlier xs : List Step) (x : Step) → Passed Hears before begun a b earlier xs → Tries b c (taken_after xs earlier) x → looks_of c.checker ≤ looks_of a.checker + most_looks_behind (xs ++ x ∷ []) earlier
+  tried_looks a b c earlier xs x p t = looks_more (looks_of a.checker) (looks_of b.checker) (looks_of c.checker) _ _ _ p.looks t.looks (looks_one xs x earlier)
+
+  pub passed_none : (a : Turn L) (earlier : List Step) → has_failed a.checker ≡ false → Stands Hears before begun a.checker earlier → Passed Hears before begun a a earlier []
+  passed_none a earlier h s = record { text = []; passes = passes_none a.source; spelt = refl; unended = tt; goes_on = (s, h); looks = omega arith }
+
+  pub passed_one : (a b c : Turn L) (earlier xs : List Step) (x : Step) → Passed Hears before begun a b earlier xs → Tries b c (taken_after xs earlier) x → (x ≢ End) → GoesOn Hears before begun c.checker (x ∷ taken_after xs earlier) → Passed Hears before begun a c earlier (xs ++ x ∷ [])
+  passed_one a b c earlier xs x p t n g = record {
+    text = p.text ++ t.text;
+    passes = passes_more a.source b.source c.source p.text t.text p.passes t.passes;
+    spelt = items_one SpellsStep xs x p.text t.text p.spelt t.spelt;
+    unended = all_one (λ step. step ≢ End) xs x p.unended n;
+    goes_on = subst (GoesOn Hears before begun c.checker) (sym (taken_one xs x earlier)) g;
+    looks = tried_looks a b c earlier xs x p t;
+  }
+
+  -- steps that were taken, and then the last one, behind which bytes may wait
+  went_tried : (a b c : Turn L) (earlier xs : List Step) (x : Step) → a.source ≡ unread a.source.reader → has_failed a.checker ≡ false → c.source.reads ≤ most_reads
+      → Passed Hears before begun a b earlier xs → Tries b c (taken_after xs earlier) x → Went a.checker c.checker a.source.reader c.source.reader earlier xs (x ∷ []) ([] ++ c.source.waiting)
+  went_tried a b c earlier xs x e h k p t =
+      let both : Passes a.source c.source (p.text ++ t.text) = passes_more a.source b.source c.source p.text t.text p.passes t.passes in
+      record {
+        well = h;
+        steps = gave_steps 0 a.source.reader c.source (xs ++ x ∷ []) (p.text ++ t.text) [] (omega arith) k
+            (subst (PassesBut 0 (unread a.source.reader) c.source) (sym (append-nil (p.text ++ t.text))) (from_start (λ s. Passes s c.source (p.text ++ t.text)) a.source e both))
+            (items_one SpellsStep xs x p.text t.text p.spelt t.spelt);
+        unended = p.unended;
+        looks = tried_looks a b c earlier xs x p t;
+      }
+
+  -- and then bytes of which no step was read
+  went_waiting : (n : ℕ) (a b c : Turn L) (earlier xs : List Step) (more : List ℕ) → n ≤ 1 → a.source ≡ unread a.source.reader → has_failed a.checker ≡ false → c.source.reads ≤ most_reads
+      → looks_of c.checker ≡ looks_of b.checker → Passed Hears before begun a b earlier xs → PassesBut n b.source c.source more → Went a.checker c.checker a.source.reader c.source.reader earlier xs [] (more ++ c.source.waiting)
+  went_waiting n a b c earlier xs more m e h k l p w = record {
+    well = h;
+    steps = gave_steps n a.source.reader c.source (xs ++ []) p.text more m k
+        (from_start (λ s. PassesBut n s c.source (p.text ++ more)) a.source e (passes_more a.source b.source c.source p.text more p.passes w))
+        (subst (λ (z : List Step). SpellsSteps z p.text) (sym (append-nil xs)) p.spelt);
+    unended = p.unended;
+    looks = looks_still (looks_of a.checker) (looks_of b.checker) (looks_of c.checker) _ _ p.looks l (none_behind xs earlier);
+  }
+
+  went_faulted : (a b c : Turn L) (earlier xs : List Step) (more : List ℕ) → a.source ≡ unread a.source.reader → has_failed a.checker ≡ false → c.source.reads ≤ most_reads
+      → looks_of c.checker ≡ looks_of b.checker → Passed Hears before begun a b earlier xs → Faults b.source c.source more → Went a.checker c.checker a.source.reader c.source.reader earlier xs [] more
+  went_faulted a b c earlier xs more e h k l p w = record {
+    well = h;
+    steps = faulted_steps a.source.reader c.source (xs ++ []) p.text more k
+        (from_start (λ s. Faults s c.source (p.text ++ more)) a.source e (faults_later a.source b.source c.source p.text more p.passes w))
+        (subst (λ (z : List Step). SpellsSteps z p.text) (sym (append-nil xs)) p.spelt);
+    unended = p.unended;
+    looks = looks_still (looks_of a.checker) (looks_of b.checker) (looks_of c.checker) _ _ p.looks l (none_behind xs earlier);
+  }
+
+  -- no read failed
+  kept_by : (n : ℕ) (a b c : Turn L) (earlier xs : List Step) (more : List ℕ) → Passed Hears before begun a b earlier xs → PassesBut n b.source c.source more → c.source.reader.failures ≡ a.source.reader.failures
+  kept_by n a b c earlier xs more p w = w.failures ∙ p.passes.failures
+
+  -- an error behind steps that were taken
+  pub stops : (a b c : Turn L) (e : CheckerError) (earlier xs : List Step) → a.source ≡ unread a.source.reader → has_failed a.checker ≡ false → c.source.reads ≤ most_reads
+      → Passed Hears before begun a b earlier xs → StepsOn Hears before begun (Err e) b c (taken_after xs earlier) → AnswersProof Hears before begun (Err e) a.checker c.checker a.source.reader c.source.reader earlier
+  stops a b c errors.CheckFailed earlier xs e h k p s =
+      (xs, s.0, [] ++ c.source.waiting, went_tried a b c earlier xs s.0 e h k p s.1, kept_by 0 a b c earlier xs _ p s.1.passes, s.2, s.3)
+  stops a b c errors.CounterEnd earlier xs e h k p s =
+      (xs, s.0, [] ++ c.source.waiting, went_tried a b c earlier xs s.0 e h k p s.1, kept_by 0 a b c earlier xs _ p s.1.passes, s.2, s.3)
+  stops a b c (errors.ProofProcessorError cause) earlier xs e h k p s =
+      (xs, s.0, [] ++ c.source.waiting, went_tried a b c earlier xs s.0 e h k p s.1, kept_by 0 a b c earlier xs _ p s.1.passes, s.2)
+  stops a b c errors.OutOfMemory earlier xs e h k p s =
+      elim s [
+        | inl w ↦ (xs, (w.0.tag ∷ w.0.more) ++ c.source.waiting, kept_by 0 a b c earlier xs _ p w.0.passes, inl (went_waiting 0 a b c earlier xs (w.0.tag ∷ w.0.more) (omega arith) e h k w.0.looks p w.0.passes, w.1))
+        | inr t ↦ (xs, [] ++ c.source.waiting, kept_by 0 a b c earlier xs _ p t.1.passes, inr (t.0, went_tried a b c earlier xs t.0 e h k p t.1, t.2))
+      ]
+  stops a b c errors.ProofIncomplete earlier xs e h k p s = (
+    xs,
+    s.0 ++ c.source.waiting,
+    went_waiting 1 a b c earlier xs s.0 (omega arith) e h k s.3.looks p s.1.0,
+    kept_by 1 a b c earlier xs s.0 p s.1.0,
+    over c.source s.1.1,
+    live_still s.0 c.source.waiting s.1.1.waiting s.2,
+    s.3.goes_on,
+  )
+    where
+      over : (s : Source) → AllTaken s → IsOver s.reader
+      over s t = record { ends = t.ended; over = none_waits s.reader.to_come s.waiting t.waiting t.over }
+  stops a b c errors.ParseError earlier xs e h k p s = (
+    xs,
+    (s.0 ++ s.1 ∷ []) ++ c.source.waiting,
+    went_waiting 0 a b c earlier xs (s.0 ++ s.1 ∷ []) (omega arith) e h k s.5.looks p s.2,
+    kept_by 0 a b c earlier xs _ p s.2,
+    record { front = s.0; byte = s.1; behind = c.source.waiting; whole = append_assoc s.0 (s.1 ∷ []) c.source.waiting; live = s.3; shut = s.4 },
+    s.5.goes_on,
+  )
+  stops a b c errors.IoError earlier xs e h k p s = (
+    xs,
+    s.0,
+    went_faulted a b c earlier xs s.0 e h k s.3.looks p s.1,
+    read_fails a.source.reader c.source (p.text ++ s.0) k (from_start (λ z. Faults z c.source (p.text ++ s.0)) a.source e (faults_later a.source b.source c.source p.text s.0 p.passes s.1)),
+    s.2,
+    s.3.goes_on,
+  )
+  stops a b c errors.HasFailed earlier xs e h k p s = absurd s
+
+  -- behind an end nothing is pending
+  settled_end : (steps : List Step) (c : Seen L) → has_failed c ≡ false → Stands Hears before begun c (End ∷ steps) → IsSettled c
+  settled_end steps c h s = let k = s.kernel.kept h in none_pending c.kernel (End ∷ steps) k (end_settled steps)
+
+  -- the end behind steps that were taken
+  pub finishes : (a b c : Turn L) (earlier xs : List Step) (x : Step) → a.source ≡ unread a.source.reader → has_failed a.checker ≡ false → c.source.reads ≤ most_reads
+      → Passed Hears before begun a b earlier xs → Tries b c (taken_after xs earlier) x → x ≡ End → GoesOn Hears before begun c.checker (x ∷ taken_after xs earlier) → AnswersProof Hears before begun (Ok tt) a.checker c.checker a.source.reader c.source.reader earlier
+  finishes a b c earlier xs x e h k p t is g =
+      let on : GoesOn Hears before begun c.checker (End ∷ taken_after xs earlier) = subst (λ (z : Step). GoesOn Hears before begun c.checker (z ∷ taken_after xs earlier)) is g in (
+        xs,
+        [] ++ c.source.waiting,
+        subst (λ (z : Step). Went a.checker c.checker a.source.reader c.source.reader earlier xs (z ∷ []) ([] ++ c.source.waiting)) is (went_tried a b c earlier xs x e h k p t),
+        kept_by 0 a b c earlier xs _ p t.passes,
+        on,
+        settled_end (taken_after xs earlier) c.checker on.1 on.0,
+      )
+
+  -- a step that was read and isn't accepted
+  pub step_stops : (a b : Turn L) (e : CheckerError) (earlier : List Step) (x : Step) → has_failed a.checker ≡ false → Tries a b earlier x → AnswersStep Hears before begun (Err e) a.checker x b.checker earlier → StepsOn Hears before begun (Err e) a b earlier
+  step_stops a b errors.CheckFailed earlier x h t k = (x, t, k.1, k.2)
+  step_stops a b errors.CounterEnd earlier x h t k = (x, t, k.1, k.2)
+  step_stops a b errors.OutOfMemory earlier x h t k = inr (x, t, k.1)
+  step_stops a b (errors.ProofProcessorError cause) earlier x h t k = (x, t, k.1)
+  step_stops a b errors.HasFailed earlier x h t k = absurd (true≢false (sym k.0 ∙ h))
+  step_stops a b errors.ProofIncomplete earlier x h t k = absurd k
+  step_stops a b errors.IoError earlier x h t k = absurd k
+  step_stops a b errors.ParseError earlier x h t k = absurd k

@@ -1,5 +1,5 @@
 -- Clauses of a text that are added, piece by piece.
-use Rattle.std.proofs.Common.{ℕ, ◌+◌, ◌≤◌, ◌≡◌, true, false, List, [], ◌∷◌, ◌++◌, append_assoc, length, Result, Ok, Err, OnOk, inl, inr, refl, sym, ap, subst, ◌∙◌, arith}
+use Rattle.std.proofs.Common.{ℕ, ◌+◌, ◌≤◌, ◌≡◌, true, false, List, [], ◌∷◌, ◌++◌, append_assoc, length, Result, Ok, Err, OnOk, ◌⊎◌, inl, inr, refl, sym, ap, subst, ◌∙◌, arith}
 use Rattle.std.proofs.lemmas.Bool.{true≢false}
 use Rattle.std.proofs.lemmas.List.{append-nil, map-append}
 use Rattle.sat_base.specs.device.Device.{Reader, GaveAll, GaveEnough, GaveFront, ReadFails}
@@ -12,18 +12,20 @@ use Rattle.sat_base.proofs.lemmas.device.Given.{enough_all, enough_front}
 use Rattle.sat_base.proofs.lemmas.dimacs.Parsed.{Stands as HasFed, stops_on, ends_by}
 use Rattle.sat_base.specs.steps.Steps.{Step, AddClause}
 use Rattle.sat_checker.specs.Accepts.{Accepts, stored_after, ready_after}
-use Rattle.sat_checker.specs.CheckerView.{has_failed, looks_of, Stands, Fails}
+use Rattle.sat_checker.specs.CheckerView.{Seen, has_failed, looks_of, Stands, Stops, BreaksAt}
+use Rattle.sat_checker.specs.announcements.Announcements.{Told}
 use Rattle.sat_checker.specs.ProofView.{taken_after, most_looks_behind, NoneFailed, GoesOn}
 use Rattle.sat_checker.specs.ClausesView.{additions, Adds, behind, AnswersClauses}
 use Rattle.sat_checker.specs.DimacsView.{AreOfFront, AreRead, FailsBehind, StandsBehind, AnswersDimacs, AddsDimacs}
-use Rattle.sat_checker.specs.inner.DimacsPieces.{is_want, AddsRead}
+use Rattle.sat_checker.specs.inner.DimacsPieces.{is_want, with_flag, AddsRead}
 use Rattle.sat_checker.specs.inner.StateView.{SpentBy}
-use Rattle.sat_checker.specs.declared.checker.Checker.{Checker}
+use Rattle.sat_checker.specs.declared.processing.ProcessingError.{ProcessingError}
+use Rattle.sat_checker.specs.declared.processing.ProcessingError.TheVariants as faults
 use Rattle.sat_checker.specs.declared.error.CheckerError.{CheckerError}
 use Rattle.sat_checker.specs.declared.error.CheckerError.TheVariants as errors
 use Rattle.sat_checker.specs.declared.error.CheckerDimacsError.{CheckerDimacsError}
 use Rattle.sat_checker.specs.declared.error.CheckerDimacsError.TheVariants as refused
-use Rattle.sat_checker.proofs.lemmas.checker.Proofs.{looks_more}
+use Rattle.sat_checker.proofs.lemmas.checker.Proofs.{looks_more, failed_now}
 
 -- CLAUSES BEHIND CLAUSES
 
@@ -47,42 +49,8 @@ behind_joined cs ds earlier = ap (λ (z : List Step). taken_after z earlier) (ma
 cost_joined : (cs ds : List (List ℕ)) (earlier : List Step) → most_looks_behind (additions (cs ++ ds)) earlier ≡ most_looks_behind (additions cs) earlier + most_looks_behind (additions ds) (behind cs earlier)
 cost_joined cs ds earlier = ap (λ (z : List Step). most_looks_behind z earlier) (map-append AddClause cs ds) ∙ looks_joined (additions cs) (additions ds) earlier
 
-adds_joined : (a b d : Checker) (cs ds added tried : List (List ℕ)) (earlier : List Step) → Adds a b cs cs [] earlier → Adds b d ds added tried (behind cs earlier) → Adds a d (cs ++ ds) (cs ++ added) tried earlier
-adds_joined a b d cs ds added tried earlier p q = record {
-  well = p.well;
-  left = q.left;
-  split = ap (λ (z : List (List ℕ)). cs ++ z) q.split ∙ sym (append_assoc cs (added ++ tried) q.left) ∙ ap (λ (z : List (List ℕ)). z ++ q.left) (sym (append_assoc cs added tried));
-  looks = looks_more (looks_of a) (looks_of b) (looks_of d) _ _ _ (subst (λ (z : List (List ℕ)). looks_of b ≤ looks_of a + most_looks_behind (additions z) earlier) (append-nil cs) p.looks) q.looks
-      (ap (λ (z : List (List ℕ)). most_looks_behind (additions z) earlier) (append_assoc cs added tried) ∙ cost_joined cs (added ++ tried) earlier);
-}
-
-joined : (r : Result Unit CheckerError) (a b d : Checker) (cs ds : List (List ℕ)) (earlier : List Step) → AnswersClauses (Ok tt) a b cs earlier → AnswersClauses r b d ds (behind cs earlier) → AnswersClauses r a d (cs ++ ds) earlier
-joined (Ok x) a b d cs ds earlier p q = (adds_joined a b d cs ds ds [] earlier p.0 q.0, subst (GoesOn d) (sym (behind_joined cs ds earlier)) q.1)
-joined (Err errors.CheckFailed) a b d cs ds earlier p q = (
-  cs ++ q.0,
-  q.1,
-  adds_joined a b d cs ds q.0 (q.1 ∷ []) earlier p.0 q.2,
-  subst (λ (z : List Step). Accepts (ready_after z) (AddClause q.1) → ⊥) (sym (behind_joined cs q.0 earlier)) q.3,
-  subst (GoesOn d) (sym (behind_joined cs q.0 earlier)) q.4,
-)
-joined (Err errors.CounterEnd) a b d cs ds earlier p q = (
-  cs ++ q.0,
-  q.1,
-  adds_joined a b d cs ds q.0 (q.1 ∷ []) earlier p.0 q.2,
-  subst (λ (z : List Step). SpentBy (AddClause q.1) (stored_after z)) (sym (behind_joined cs q.0 earlier)) q.3,
-  subst (Fails d) (sym (behind_joined cs q.0 earlier)) q.4,
-)
-joined (Err errors.OutOfMemory) a b d cs ds earlier p q = (cs ++ q.0, q.1, adds_joined a b d cs ds q.0 (q.1 ∷ []) earlier p.0 q.2, subst (Fails d) (sym (behind_joined cs q.0 earlier)) q.3)
-joined (Err errors.HasFailed) a b d cs ds earlier p q = absurd (true≢false (sym q.0 ∙ p.1.1))
-joined (Err errors.ProofIncomplete) a b d cs ds earlier p q = absurd q
-joined (Err errors.IoError) a b d cs ds earlier p q = absurd q
-joined (Err errors.ParseError) a b d cs ds earlier p q = absurd q
-
 none_more : (n : ℕ) → n ≤ n + 0
 none_more n = omega arith
-
-pub none_added : (c : Checker) (earlier : List Step) → has_failed c ≡ false → Stands c earlier → AnswersClauses (Ok tt) c c [] earlier
-none_added c earlier h s = (record { well = h; left = []; split = refl; looks = none_more (looks_of c) }, (s, h))
 
 -- WHAT A PIECE LEAVES
 
@@ -172,46 +140,7 @@ fails_by_end texts.HasFailed from to text p q is f n g = stopped_not _ text p is
 
 -- WHAT IS ANSWERED
 
-set_failed : (e : DimacsError) (mid : Checker) (steps : List Step) → GoesOn mid steps → StandsBehind e (record mid { failed = is_want e }) steps
-set_failed (texts.Malformed line) mid steps g = (record { accepted = g.0.accepted; records = g.0.records; kept = λ h. g.0.kept g.1 }, refl)
-set_failed (texts.Limit line) mid steps g = (record { accepted = g.0.accepted; records = g.0.records; kept = λ h. g.0.kept g.1 }, refl)
-set_failed texts.Read mid steps g = (record { accepted = g.0.accepted; records = g.0.records; kept = λ h. g.0.kept g.1 }, refl)
-set_failed texts.HasFailed mid steps g = (record { accepted = g.0.accepted; records = g.0.records; kept = λ h. g.0.kept g.1 }, refl)
-set_failed texts.OutOfMemory mid steps g = record { stands = record { accepted = g.0.accepted; records = g.0.records; kept = λ h. absurd (true≢false h) }; failed = refl }
-
--- those that were read before were added, and these are tried
-module _ (old cur new : Checker) (q : Progress) (earlier : List Step) (clauses : List (List ℕ)) (first : AnswersClauses (Ok tt) old cur q.taken earlier) (split : clauses_read q ≡ q.taken ++ clauses) where
-  pub behind_first : (r : Result Unit CheckerError) (last : Checker) → ((steps : List Step) → Stands cur steps → AnswersClauses r cur last clauses steps) → AnswersClauses r old last (clauses_read q) earlier
-  behind_first r last a = subst (λ (z : List (List ℕ)). AnswersClauses r old last z earlier) (sym split) (joined r old cur last q.taken clauses earlier first (a (behind q.taken earlier) first.1.0))
-
-pub answers_dimacs : (result : Result Unit CheckerDimacsError) (answer : Result Unit DimacsError) (old cur new : Checker) (from to : Reader) (q : Progress) (earlier : List Step) → NoneFailed from to
-    → AnswersClauses (Ok tt) old cur q.taken earlier → (result ≡ Ok tt → answer ≡ Ok tt → GaveEnough from to (λ text. IsDimacs text (clauses_read q) Clean))
-    → ((e : DimacsError) → answer ≡ Err e → FailsBehind e from to (clauses_read q)) → GaveEnough from to (λ text. AreRead text (clauses_read q)) → AddsRead result answer q cur new → AnswersDimacs result old new from to earlier
-answers_dimacs (Ok x) answer old cur new from to q earlier n first clean fails read a = (n, clauses_read q, clean refl a.2.0, behind_first old cur new q earlier a.0 first a.1 (Ok tt) new a.2.1)
-answers_dimacs (Err (refused.Dimacs e)) answer old cur new from to q earlier n first clean fails read a =
-    let mid : Checker = a.2.1 in
-    let all = behind_first old cur new q earlier a.0 first a.1 (Ok tt) mid a.2.2 in (
-      clauses_read q,
-      fails e a.2.0,
-      subst (λ (z : Checker). Adds old z (clauses_read q) (clauses_read q) [] earlier) (sym a.2.3) (record { well = all.0.well; left = all.0.left; split = all.0.split; looks = all.0.looks }),
-      subst (λ (z : Checker). StandsBehind e z (behind (clauses_read q) earlier)) (sym a.2.3) (set_failed e mid (behind (clauses_read q) earlier) all.1),
-    )
-answers_dimacs (Err (refused.Checker errors.HasFailed)) answer old cur new from to q earlier n first clean fails read a = absurd (true≢false (sym (a.2 (behind q.taken earlier) first.1.0).0 ∙ first.1.1))
-answers_dimacs (Err (refused.Checker errors.CheckFailed)) answer old cur new from to q earlier n first clean fails read a = (n, clauses_read q, read, behind_first old cur new q earlier a.0 first a.1 (Err errors.CheckFailed) new a.2)
-answers_dimacs (Err (refused.Checker errors.CounterEnd)) answer old cur new from to q earlier n first clean fails read a = (n, clauses_read q, read, behind_first old cur new q earlier a.0 first a.1 (Err errors.CounterEnd) new a.2)
-answers_dimacs (Err (refused.Checker errors.OutOfMemory)) answer old cur new from to q earlier n first clean fails read a = (n, clauses_read q, read, behind_first old cur new q earlier a.0 first a.1 (Err errors.OutOfMemory) new a.2)
-answers_dimacs (Err (refused.Checker errors.ProofIncomplete)) answer old cur new from to q earlier n first clean fails read a = absurd (a.2 (behind q.taken earlier) first.1.0)
-answers_dimacs (Err (refused.Checker errors.IoError)) answer old cur new from to q earlier n first clean fails read a = absurd (a.2 (behind q.taken earlier) first.1.0)
-answers_dimacs (Err (refused.Checker errors.ParseError)) answer old cur new from to q earlier n first clean fails read a = absurd (a.2 (behind q.taken earlier) first.1.0)
-
 -- WHAT IS ANSWERED OF A READER
-
--- the clauses of what was given before were added
-abbrev pub AddedBefore : Checker → Checker → Progress → Type 0
-AddedBefore old cur p = (earlier : List Step) → Stands old earlier → AnswersClauses (Ok tt) old cur p.taken earlier
-
-pub start : (c : Checker) (p : Progress) → has_failed c ≡ false → p ≡ no_progress → AddedBefore c c p
-start c p h is = λ earlier stands. subst (λ (z : List (List ℕ)). AnswersClauses (Ok tt) c c z earlier) (sym (ap (λ (z : Progress). z.taken) is)) (none_added c earlier h stands)
 
 taken_by_piece : (answer : Result Unit DimacsError) (text piece : List ℕ) (p q : Progress) → HasFed text p → Feeds answer piece p q → q.taken ≡ p.taken
 taken_by_piece (Ok x) text piece p q is f = ap (λ (z : Progress). z.taken) f.1
@@ -229,42 +158,132 @@ taken_by_end (Err texts.OutOfMemory) p q f = ap (λ (z : Progress). z.taken) f.1
 taken_by_end (Err texts.Read) p q f = absurd f
 taken_by_end (Err texts.HasFailed) p q f = ap (λ (z : Progress). z.taken) f.1
 
-first_of : (old cur : Checker) (p q : Progress) → AddedBefore old cur p → q.taken ≡ p.taken → (earlier : List Step) → Stands old earlier → AnswersClauses (Ok tt) old cur q.taken earlier
-first_of old cur p q added e earlier stands = subst (λ (z : List (List ℕ)). AnswersClauses (Ok tt) old cur z earlier) (sym e) (added earlier stands)
-
--- a piece without a fault
-pub piece_added : (old cur new : Checker) (text piece : List ℕ) (p q r : Progress) (answer : Result Unit DimacsError) → HasFed text p → Feeds answer piece p q → r ≡ all_taken q → AddsRead (Ok tt) answer q cur new → AddedBefore old cur p
-    → HasFed (text ++ piece) r × (r.taken ≡ (dimacs (settled (text ++ piece))).clauses) × AddedBefore old new r
-piece_added old cur new text piece p q r answer is f t a added =
-    let fed : q ≡ with_fed piece p = (subst (λ (z : Result Unit DimacsError). Feeds z piece p q) a.2.0 f).1 in (
-      fed_more text piece p q r is fed t,
-      ap (λ (z : Progress). z.taken) t ∙ open_read text piece p q is fed,
-      λ earlier stands. subst (λ (z : List (List ℕ)). AnswersClauses (Ok tt) old new z earlier) (sym (ap (λ (z : Progress). z.taken) t))
-          (behind_first old cur new q earlier a.0 (first_of old cur p q added (ap (λ (z : Progress). z.taken) fed) earlier stands) a.1 (Ok tt) new a.2.1),
-    )
-
 pub sound_after : (answer : Result Unit DimacsError) (q r : Progress) → answer ≡ Ok tt → OnOk answer (IsSound q) → r ≡ all_taken q → IsSound r
 sound_after answer q r e s t = subst IsSound (sym t) (subst (λ (z : Result Unit DimacsError). OnOk z (IsSound q)) e s)
 
--- one at which reading stops
-pub piece_answers : (e : CheckerDimacsError) (answer : Result Unit DimacsError) (old cur new : Checker) (from to : Reader) (text piece : List ℕ) (p q : Progress) → HasFed text p → Feeds answer piece p q → NoneFailed from to
-    → GaveFront from to (text ++ piece) → to.ended ≡ false → to.calls ≤ from.calls + length (text ++ piece) + 1 → AddedBefore old cur p → AddsRead (Err e) answer q cur new → AddsDimacs (Err e) old new from to
-piece_answers e answer old cur new from to text piece p q is f n g o few added a = λ earlier stands. answers_dimacs (Err e) answer old cur new from to q earlier n (first_of old cur p q added (taken_by_piece answer text piece p q is f) earlier stands)
-    (λ no. let k : ◌≡◌ {A = Result Unit CheckerDimacsError} (Err e) (Ok tt) = no in absurd cc)
-    (λ d s. fails_by_piece d from to text piece p q is (subst (λ (z : Result Unit DimacsError). Feeds z piece p q) s f) n g o few)
-    (enough_front from to _ (text ++ piece) g o few (λ rest. read_by_piece answer text piece p q is f rest))
-    a
+module _ {L : Type 0} (Hears : L → Told → Result Unit ProcessingError → L → Type 0) (before : List Told) (begun : L) where
+  adds_joined : (a b d : Seen L) (cs ds added tried : List (List ℕ)) (earlier : List Step) → Adds a b cs cs [] earlier → Adds b d ds added tried (behind cs earlier) → Adds a d (cs ++ ds) (cs ++ added) tried earlier
+  adds_joined a b d cs ds added tried earlier p q = record {
+    well = p.well;
+    left = q.left;
+    split = ap (λ (z : List (List ℕ)). cs ++ z) q.split ∙ sym (append_assoc cs (added ++ tried) q.left) ∙ ap (λ (z : List (List ℕ)). z ++ q.left) (sym (append_assoc cs added tried));
+    looks = looks_more (looks_of a) (looks_of b) (looks_of d) _ _ _ (subst (λ (z : List (List ℕ)). looks_of b ≤ looks_of a + most_looks_behind (additions z) earlier) (append-nil cs) p.looks) q.looks
+        (ap (λ (z : List (List ℕ)). most_looks_behind (additions z) earlier) (append_assoc cs added tried) ∙ cost_joined cs (added ++ tried) earlier);
+  }
 
--- the end of the text
-pub end_answers : (result : Result Unit CheckerDimacsError) (answer : Result Unit DimacsError) (old cur new : Checker) (from to : Reader) (text : List ℕ) (p q : Progress) → HasFed text p → Finishes answer p q → NoneFailed from to
-    → GaveAll from to text → AddedBefore old cur p → AddsRead result answer q cur new → AddsDimacs result old new from to
-end_answers result answer old cur new from to text p q is f n g added a = λ earlier stands. answers_dimacs result answer old cur new from to q earlier n (first_of old cur p q added (taken_by_end answer p q f) earlier stands)
-    (λ ok s. enough_all from to _ text g (clean_by_end text p q is (subst (λ (z : Result Unit DimacsError). Finishes z p q) s f)))
-    (λ d s. fails_by_end d from to text p q is (subst (λ (z : Result Unit DimacsError). Finishes z p q) s f) n g)
-    (enough_all from to _ text g (read_by_end answer text p q is f))
-    a
+  joined : (r : Result Unit CheckerError) (a b d : Seen L) (cs ds : List (List ℕ)) (earlier : List Step) → AnswersClauses Hears before begun (Ok tt) a b cs earlier → AnswersClauses Hears before begun r b d ds (behind cs earlier) → AnswersClauses Hears before begun r a d (cs ++ ds) earlier
+  joined (Ok x) a b d cs ds earlier p q = (adds_joined a b d cs ds ds [] earlier p.0 q.0, subst (GoesOn Hears before begun d) (sym (behind_joined cs ds earlier)) q.1)
+  joined (Err errors.CheckFailed) a b d cs ds earlier p q = (
+    cs ++ q.0,
+    q.1,
+    adds_joined a b d cs ds q.0 (q.1 ∷ []) earlier p.0 q.2,
+    subst (λ (z : List Step). Accepts (ready_after z) (AddClause q.1) → ⊥) (sym (behind_joined cs q.0 earlier)) q.3,
+    subst (GoesOn Hears before begun d) (sym (behind_joined cs q.0 earlier)) q.4,
+  )
+  joined (Err errors.CounterEnd) a b d cs ds earlier p q = (
+    cs ++ q.0,
+    q.1,
+    adds_joined a b d cs ds q.0 (q.1 ∷ []) earlier p.0 q.2,
+    subst (λ (z : List Step). SpentBy (AddClause q.1) (stored_after z)) (sym (behind_joined cs q.0 earlier)) q.3,
+    subst (Stops Hears before begun d) (sym (behind_joined cs q.0 earlier)) q.4,
+  )
+  joined (Err errors.OutOfMemory) a b d cs ds earlier p q = (
+    cs ++ q.0,
+    q.1,
+    adds_joined a b d cs ds q.0 (q.1 ∷ []) earlier p.0 q.2,
+    subst (λ (z : List Step). Stops Hears before begun d z ⊎ BreaksAt Hears before begun faults.OutOfMemory d (AddClause q.1) z) (sym (behind_joined cs q.0 earlier)) q.3,
+  )
+  joined (Err (errors.ProofProcessorError cause)) a b d cs ds earlier p q = (
+    cs ++ q.0,
+    q.1,
+    adds_joined a b d cs ds q.0 (q.1 ∷ []) earlier p.0 q.2,
+    subst (λ (z : List Step). BreaksAt Hears before begun (faults.ProofProcessorError cause) d (AddClause q.1) z) (sym (behind_joined cs q.0 earlier)) q.3,
+  )
+  joined (Err errors.HasFailed) a b d cs ds earlier p q = absurd (true≢false (sym q.0 ∙ p.1.1))
+  joined (Err errors.ProofIncomplete) a b d cs ds earlier p q = absurd q
+  joined (Err errors.IoError) a b d cs ds earlier p q = absurd q
+  joined (Err errors.ParseError) a b d cs ds earlier p q = absurd q
 
--- a read that failed
-pub read_answers : (old cur : Checker) (from to : Reader) (text : List ℕ) (p : Progress) → HasFed text p → ReadFails from to → GaveFront from to text → IsSound p → p.taken ≡ (dimacs (settled text)).clauses → AddedBefore old cur p
-    → AddsDimacs (Err (refused.Dimacs texts.Read)) old cur from to
-read_answers old cur from to text p is r g s t added = λ earlier stands. let all = added earlier stands in (p.taken, (r, text, g, subst IsSoundText (fed_of text p is) s, t), all.0, all.1)
+  pub none_added : (c : Seen L) (earlier : List Step) → has_failed c ≡ false → Stands Hears before begun c earlier → AnswersClauses Hears before begun (Ok tt) c c [] earlier
+  none_added c earlier h s = (record { well = h; left = []; split = refl; looks = none_more (looks_of c) }, (s, h))
+
+  unflagged : (mid : Seen L) (steps : List Step) → GoesOn Hears before begun mid steps → GoesOn Hears before begun (with_flag false mid) steps
+  unflagged mid steps g = (record { kernel = record { accepted = g.0.kernel.accepted; records = g.0.kernel.records; kept = λ h. g.0.kernel.kept g.1 }; heard = λ h. g.0.heard g.1 }, refl)
+
+  set_failed : (e : DimacsError) (mid : Seen L) (steps : List Step) → GoesOn Hears before begun mid steps → StandsBehind Hears before begun e (with_flag (is_want e) mid) steps
+  set_failed (texts.Malformed line) mid steps g = unflagged mid steps g
+  set_failed (texts.Limit line) mid steps g = unflagged mid steps g
+  set_failed texts.Read mid steps g = unflagged mid steps g
+  set_failed texts.HasFailed mid steps g = unflagged mid steps g
+  set_failed texts.OutOfMemory mid steps g = failed_now Hears before begun mid steps g.1 g.0
+
+  -- those that were read before were added, and these are tried
+  module _ (old cur new : Seen L) (q : Progress) (earlier : List Step) (clauses : List (List ℕ)) (first : AnswersClauses Hears before begun (Ok tt) old cur q.taken earlier) (split : clauses_read q ≡ q.taken ++ clauses) where
+    pub behind_first : (r : Result Unit CheckerError) (last : Seen L) → ((steps : List Step) → Stands Hears before begun cur steps → AnswersClauses Hears before begun r cur last clauses steps) → AnswersClauses Hears before begun r old last (clauses_read q) earlier
+    behind_first r last a = subst (λ (z : List (List ℕ)). AnswersClauses Hears before begun r old last z earlier) (sym split) (joined r old cur last q.taken clauses earlier first (a (behind q.taken earlier) first.1.0))
+
+  pub answers_dimacs : (result : Result Unit CheckerDimacsError) (answer : Result Unit DimacsError) (old cur new : Seen L) (from to : Reader) (q : Progress) (earlier : List Step) → NoneFailed from to
+      → AnswersClauses Hears before begun (Ok tt) old cur q.taken earlier → (result ≡ Ok tt → answer ≡ Ok tt → GaveEnough from to (λ text. IsDimacs text (clauses_read q) Clean))
+      → ((e : DimacsError) → answer ≡ Err e → FailsBehind e from to (clauses_read q)) → GaveEnough from to (λ text. AreRead text (clauses_read q)) → AddsRead Hears result answer q cur new → AnswersDimacs Hears before begun result old new from to earlier
+  answers_dimacs (Ok x) answer old cur new from to q earlier n first clean fails read a = (n, clauses_read q, clean refl a.2.0, behind_first old cur new q earlier a.0 first a.1 (Ok tt) new (a.2.1 before begun))
+  answers_dimacs (Err (refused.Dimacs e)) answer old cur new from to q earlier n first clean fails read a =
+      let mid : Seen L = a.2.1 in
+      let all = behind_first old cur new q earlier a.0 first a.1 (Ok tt) mid (a.2.2 before begun) in (
+        clauses_read q,
+        fails e a.2.0,
+        subst (λ (z : Seen L). Adds old z (clauses_read q) (clauses_read q) [] earlier) (sym a.2.3) (record { well = all.0.well; left = all.0.left; split = all.0.split; looks = all.0.looks }),
+        subst (λ (z : Seen L). StandsBehind Hears before begun e z (behind (clauses_read q) earlier)) (sym a.2.3) (set_failed e mid (behind (clauses_read q) earlier) all.1),
+      )
+  answers_dimacs (Err (refused.Checker errors.HasFailed)) answer old cur new from to q earlier n first clean fails read a = absurd (true≢false (sym (a.2 before begun (behind q.taken earlier) first.1.0).0 ∙ first.1.1))
+  answers_dimacs (Err (refused.Checker errors.CheckFailed)) answer old cur new from to q earlier n first clean fails read a = (n, clauses_read q, read, behind_first old cur new q earlier a.0 first a.1 (Err errors.CheckFailed) new (a.2 before begun))
+  answers_dimacs (Err (refused.Checker errors.CounterEnd)) answer old cur new from to q earlier n first clean fails read a = (n, clauses_read q, read, behind_first old cur new q earlier a.0 first a.1 (Err errors.CounterEnd) new (a.2 before begun))
+  answers_dimacs (Err (refused.Checker errors.OutOfMemory)) answer old cur new from to q earlier n first clean fails read a = (n, clauses_read q, read, behind_first old cur new q earlier a.0 first a.1 (Err errors.OutOfMemory) new (a.2 before begun))
+  answers_dimacs (Err (refused.Checker (errors.ProofProcessorError cause))) answer old cur new from to q earlier n first clean fails read a = (n, clauses_read q, read, behind_first old cur new q earlier a.0 first a.1 (Err (errors.ProofProcessorError cause)) new (a.2 before begun))
+  answers_dimacs (Err (refused.Checker errors.ProofIncomplete)) answer old cur new from to q earlier n first clean fails read a = absurd (a.2 before begun (behind q.taken earlier) first.1.0)
+  answers_dimacs (Err (refused.Checker errors.IoError)) answer old cur new from to q earlier n first clean fails read a = absurd (a.2 before begun (behind q.taken earlier) first.1.0)
+  answers_dimacs (Err (refused.Checker errors.ParseError)) answer old cur new from to q earlier n first clean fails read a = absurd (a.2 before begun (behind q.taken earlier) first.1.0)
+
+module _ {L : Type 0} (Hears : L → Told → Result Unit ProcessingError → L → Type 0) where
+  -- the clauses of what was given before were added
+  abbrev pub AddedBefore : Seen L → Seen L → Progress → Type 0
+  AddedBefore old cur p = (before : List Told) (begun : L) (earlier : List Step) → Stands Hears before begun old earlier → AnswersClauses Hears before begun (Ok tt) old cur p.taken earlier
+
+  pub start : (c : Seen L) (p : Progress) → has_failed c ≡ false → p ≡ no_progress → AddedBefore c c p
+  start c p h is = λ before begun earlier stands. subst (λ (z : List (List ℕ)). AnswersClauses Hears before begun (Ok tt) c c z earlier) (sym (ap (λ (z : Progress). z.taken) is)) (none_added Hears before begun c earlier h stands)
+
+  first_of : (old cur : Seen L) (p q : Progress) → AddedBefore old cur p → q.taken ≡ p.taken → (before : List Told) (begun : L) (earlier : List Step) → Stands Hears before begun old earlier → AnswersClauses Hears before begun (Ok tt) old cur q.taken earlier
+  first_of old cur p q added e before begun earlier stands = subst (λ (z : List (List ℕ)). AnswersClauses Hears before begun (Ok tt) old cur z earlier) (sym e) (added before begun earlier stands)
+
+  -- a piece without a fault
+  pub piece_added : (old cur new : Seen L) (text piece : List ℕ) (p q r : Progress) (answer : Result Unit DimacsError) → HasFed text p → Feeds answer piece p q → r ≡ all_taken q → AddsRead Hears (Ok tt) answer q cur new → AddedBefore old cur p
+      → HasFed (text ++ piece) r × (r.taken ≡ (dimacs (settled (text ++ piece))).clauses) × AddedBefore old new r
+  piece_added old cur new text piece p q r answer is f t a added =
+      let fed : q ≡ with_fed piece p = (subst (λ (z : Result Unit DimacsError). Feeds z piece p q) a.2.0 f).1 in (
+        fed_more text piece p q r is fed t,
+        ap (λ (z : Progress). z.taken) t ∙ open_read text piece p q is fed,
+        λ before begun earlier stands. subst (λ (z : List (List ℕ)). AnswersClauses Hears before begun (Ok tt) old new z earlier) (sym (ap (λ (z : Progress). z.taken) t))
+            (behind_first Hears before begun old cur new q earlier a.0 (first_of old cur p q added (ap (λ (z : Progress). z.taken) fed) before begun earlier stands) a.1 (Ok tt) new (a.2.1 before begun)),
+      )
+
+  -- one at which reading stops
+  pub piece_answers : (e : CheckerDimacsError) (answer : Result Unit DimacsError) (old cur new : Seen L) (from to : Reader) (text piece : List ℕ) (p q : Progress) → HasFed text p → Feeds answer piece p q → NoneFailed from to
+      → GaveFront from to (text ++ piece) → to.ended ≡ false → to.calls ≤ from.calls + length (text ++ piece) + 1 → AddedBefore old cur p → AddsRead Hears (Err e) answer q cur new → AddsDimacs Hears (Err e) old new from to
+  piece_answers e answer old cur new from to text piece p q is f n g o few added a = λ before begun earlier stands. answers_dimacs Hears before begun (Err e) answer old cur new from to q earlier n (first_of old cur p q added (taken_by_piece answer text piece p q is f) before begun earlier stands)
+      (λ no. let k : ◌≡◌ {A = Result Unit CheckerDimacsError} (Err e) (Ok tt) = no in absurd cc)
+      (λ d s. fails_by_piece d from to text piece p q is (subst (λ (z : Result Unit DimacsError). Feeds z piece p q) s f) n g o few)
+      (enough_front from to _ (text ++ piece) g o few (λ rest. read_by_piece answer text piece p q is f rest))
+      a
+
+  -- the end of the text
+  pub end_answers : (result : Result Unit CheckerDimacsError) (answer : Result Unit DimacsError) (old cur new : Seen L) (from to : Reader) (text : List ℕ) (p q : Progress) → HasFed text p → Finishes answer p q → NoneFailed from to
+      → GaveAll from to text → AddedBefore old cur p → AddsRead Hears result answer q cur new → AddsDimacs Hears result old new from to
+  end_answers result answer old cur new from to text p q is f n g added a = λ before begun earlier stands. answers_dimacs Hears before begun result answer old cur new from to q earlier n (first_of old cur p q added (taken_by_end answer p q f) before begun earlier stands)
+      (λ ok s. enough_all from to _ text g (clean_by_end text p q is (subst (λ (z : Result Unit DimacsError). Finishes z p q) s f)))
+      (λ d s. fails_by_end d from to text p q is (subst (λ (z : Result Unit DimacsError). Finishes z p q) s f) n g)
+      (enough_all from to _ text g (read_by_end answer text p q is f))
+      a
+
+  -- a read that failed
+  pub read_answers : (old cur : Seen L) (from to : Reader) (text : List ℕ) (p : Progress) → HasFed text p → ReadFails from to → GaveFront from to text → IsSound p → p.taken ≡ (dimacs (settled text)).clauses → AddedBefore old cur p
+      → AddsDimacs Hears (Err (refused.Dimacs texts.Read)) old cur from to
+  read_answers old cur from to text p is r g s t added = λ before begun earlier stands. let all = added before begun earlier stands in (p.taken, (r, text, g, subst IsSoundText (fed_of text p is) s, t), all.0, all.1)

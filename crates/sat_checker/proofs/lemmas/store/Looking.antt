@@ -1,5 +1,5 @@
 -- The clause that a look-up finds.
-use Rattle.std.proofs.Common.{ℕ, ◌≡◌, Bool, true, false, cond, List, [], ◌∷◌, Option, None, Some, refl, sym, ◌∙◌, ap}
+use Rattle.std.proofs.Common.{ℕ, ◌≡◌, Bool, true, false, cond, List, [], ◌∷◌, None, Some, refl, sym, ◌∙◌, ap}
 use Rattle.sat_checker.specs.LiteralSets.{same_literals}
 use Rattle.sat_checker.specs.Stored.{Stored, StoredClause, hash_by}
 use Rattle.sat_checker.specs.Storing.{clause_with}
@@ -7,7 +7,6 @@ use Rattle.sat_checker.specs.HasherView.{solver_name_of, width_of}
 use Rattle.sat_checker.specs.inner.SlotView.{slot_at, count_of, places_of, found_among}
 use Rattle.sat_checker.specs.inner.StoreView.{KeepsClauses, found_in}
 use Rattle.sat_checker.specs.declared.store.Store.{Store}
-use Rattle.sat_checker.specs.declared.store.Found.{Found}
 use Rattle.sat_checker.proofs.lemmas.meaning.Clauses.{same}
 use Rattle.sat_checker.proofs.lemmas.store.Storing.{stands_found, stands_none}
 

@@ -40,10 +40,6 @@ module _ {B : Type 0} (Called : Result Unit Error → B → B → Type 0) (xs ys
         failed = h;
       }
 
--- a call on one of two equal objects is one on the other
-pub moved : {I X : Type 0} {F : I → Type 0} (Called : (i : I) → F i → F i → Type 0) (whole : (i : I) × F i → X) (p q : (i : I) × F i) → p ≡ q → (w : F p.0) → Called p.0 p.1 w → (v : F q.0) × (whole (p.0, w) ≡ whole (q.0, v)) × Called q.0 q.1 v
-moved {I} {X} {F} Called whole p q e w h = subst (λ (r : (i : I) × F i). (v : F r.0) × (whole (p.0, w) ≡ whole (r.0, v)) × Called r.0 r.1 v) e (w, refl, h)
-
 -- a vector whose items were all written anew has just these
 module _ {A : Type 0} (n : ℕ) (before seen after : List A) (whole : seen ≡ before) (same : length after ≡ n) where
   refilled : after ≡ take n (after ++ drop (length after) before)
@@ -51,3 +47,6 @@ module _ {A : Type 0} (n : ℕ) (before seen after : List A) (whole : seen ≡ b
 
   pub some_refilled : (Called : Result Unit Error → A → A → Type 0) (cause : Error) → SomeTold Called cause seen after → SomeTold Called cause before (take n (after ++ drop (length after) before))
   some_refilled Called cause h = subst (λ xs. SomeTold Called cause xs (take n (after ++ drop (length after) before))) whole (subst (λ ys. SomeTold Called cause seen ys) refilled h)
+
+  pub refilled_by : (P : List A → List A → Type 0) → P seen after → P before (take n (after ++ drop (length after) before))
+  refilled_by P h = subst (λ xs. P xs (take n (after ++ drop (length after) before))) whole (subst (λ ys. P seen ys) refilled h)

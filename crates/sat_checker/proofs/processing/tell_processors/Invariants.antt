@@ -6,6 +6,6 @@ use Rattle.sat_checker.proofs.processing.tell_processors.Given as goal
 -- those so far were told, and the others are as they were
 abbrev pub invariant-loop-processor : goal.invariant-loop-processor
 invariant-loop-processor g l = record {
-  told : AllTold (λ r b d. (after : _) × (d ≡ record b { value = after }) × (goal.ProofProcessor-dyn g (b.vtable, b.value)).takes b.value (told_of l.step l.names) r after) (take l.processor-index l.initial.processors) (take l.processor-index l.processors);
+  told : AllTold (λ r b d. g.P.ProofProcessor.takes b (told_of l.step l.names) r d) (take l.processor-index l.initial.processors) (take l.processor-index l.processors);
   rest : drop l.processor-index l.processors ≡ drop l.processor-index l.initial.processors;
 }

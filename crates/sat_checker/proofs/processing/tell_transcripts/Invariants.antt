@@ -6,6 +6,6 @@ use Rattle.sat_checker.proofs.processing.tell_transcripts.Given as goal
 -- those so far were told, and the others are as they were
 abbrev pub invariant-loop-transcript : goal.invariant-loop-transcript
 invariant-loop-transcript g l = record {
-  told : AllTold (λ r b d. (after : _) × (d ≡ record b { value = after }) × (goal.ProofTranscriptProcessor-dyn g (b.vtable, b.value)).reads b.value (transcribed_of l.step) r after) (take l.transcript-index l.initial.transcripts) (take l.transcript-index l.transcripts);
+  told : AllTold (λ r b d. g.T.ProofTranscriptProcessor.reads b (transcribed_of l.step) r d) (take l.transcript-index l.initial.transcripts) (take l.transcript-index l.transcripts);
   rest : drop l.transcript-index l.transcripts ≡ drop l.transcript-index l.initial.transcripts;
 }

@@ -1,4 +1,4 @@
-use Rattle.std.proofs.Common.{[], ◌∷◌, sym, ◌∙◌}
+use Rattle.std.proofs.Common.{[], ◌∷◌, refl, sym, ◌∙◌}
 use Rattle.sat_base.specs.steps.Steps.{End}
 use Rattle.sat_checker.specs.ProofView.{taken_after}
 use Rattle.sat_checker.specs.ClausesView.{behind}
@@ -7,10 +7,11 @@ use Rattle.sat_checker_tests.proofs.caller.is_refuted.Goals as goal
 
 pub returns : goal.returns
 returns g c =
-    let added = c.in_ok-add_formula.ensures [] c.new-checker.ensures.stands in
-    let read = c.in_ok-check_proof.ensures (behind c.args.formula.now.clauses []) added.1.0 in (
+    let added = c.in_ok-add_formula.ensures [] c.new-checker.result.processing [] (record { kernel = c.new-checker.ensures.stands; heard = λ _. ([], rw c.new-checker.ensures.settled refl, refl) }) in
+    let read = c.in_ok-check_proof.ensures [] c.new-checker.result.processing (behind c.args.formula.now.clauses []) added.1.0 in
+    let stands = read.4.0.kernel in (
       read.0,
       read.1,
       read.2.steps,
-      λ u a h. unsat_means_none (End ∷ taken_after read.0 (behind c.args.formula.now.clauses [])) a read.4.0.accepted (sym (c.unsat.ensures (End ∷ taken_after read.0 (behind c.args.formula.now.clauses [])) read.4.0) ∙ u) h,
+      λ u a h. unsat_means_none (End ∷ taken_after read.0 (behind c.args.formula.now.clauses [])) a stands.accepted (sym (c.unsat.ensures (End ∷ taken_after read.0 (behind c.args.formula.now.clauses [])) stands) ∙ u) h,
     )

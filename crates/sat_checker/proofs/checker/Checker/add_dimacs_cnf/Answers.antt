@@ -3,6 +3,8 @@ use Rattle.std.proofs.lemmas.Result.{err_from_is_err_and}
 use Rattle.sat_base.specs.dimacs.Parsing.{Progress, IsSound}
 use Rattle.sat_base.proofs.lemmas.device.Given.{gave_none, gave_more, gave_still, gave_to_end, not_ended, few_front}
 use Rattle.sat_base.proofs.lemmas.dimacs.Parsed.{stands_of, piece_given, sound_none}
+use Rattle.sat_checker.specs.CheckerView.{seen_of}
+use Rattle.sat_checker.specs.telling.ProcessingView.{HearsEach}
 use Rattle.sat_checker.proofs.lemmas.checker.Texts.{start, no_clauses, piece_added, sound_after, piece_answers, end_answers, read_answers}
 use Rattle.sat_checker.proofs.checker.Checker.add_dimacs_cnf.Goals as goal
 
@@ -14,7 +16,7 @@ loop-init g c = record {
   open_yet = λ h. absurd (omega arith);
   failures = refl;
   calls = omega arith;
-  added = start c.args.self.now c.new-parser.result (search rules) c.new-parser.ensures;
+  added = start (HearsEach g.P.ProofProcessor.takes g.T.ProofTranscriptProcessor.reads) (seen_of c.args.self.now) c.new-parser.result (search rules) c.new-parser.ensures;
 }
 
 pub loop-preserved : goal.loop-preserved
@@ -24,7 +26,7 @@ loop-preserved g c =
     let piece = take c.in-Ok.count c.read_counted.new.buf in
     let once = c.in-Ok.ensures.once in
     let a = c.in_ok-add_read-in-Ok.ensures.adds in
-    let more = piece_added c.args.self.now c.loop.self c.add_read-in-Ok.new.self b.0 piece c.loop.parser c.feed-answer.new.self c.add_read-in-Ok.new.parser c.feed-answer.result b.1 c.feed-answer.ensures.answer c.in_ok-add_read-in-Ok.ensures.taken a c.loop.invariant.added in
+    let more = piece_added (HearsEach g.P.ProofProcessor.takes g.T.ProofTranscriptProcessor.reads) (seen_of c.args.self.now) (seen_of c.loop.self) (seen_of c.add_read-in-Ok.new.self) b.0 piece c.loop.parser c.feed-answer.new.self c.add_read-in-Ok.new.parser c.feed-answer.result b.1 c.feed-answer.ensures.answer c.in_ok-add_read-in-Ok.ensures.taken a c.loop.invariant.added in
     record {
       well = c.loop.invariant.well;
       bytes = (b.0 ++ piece, more.0, gave_more (S c.args.reader.now) (S c.loop.reader) (S c.read_counted.new.self) b.0 c.in-Ok.count c.read_counted.new.buf b.2 once, omega (arith, b.3, length-append b.0 piece, piece_given c.in-Ok.count c.read_counted.new.buf (search rules) (search rules)), more.1);
@@ -41,7 +43,7 @@ returns-in-Ok-eq0 g c =
     let b = c.loop.invariant.bytes in
     let once = c.in-Ok-eq0.ensures.once in
     let all = gave_to_end (S c.args.reader.now) (S c.loop.reader) (S c.read_counted.new.self) b.0 c.in-Ok-eq0.field-0 c.read_counted.new.buf b.2 once (search rules) (search rules) (omega (arith, c.loop.invariant.calls)) (omega (arith, c.loop.invariant.calls, b.3)) in
-    end_answers c.add_read.result c.finish-answer.result c.args.self.now c.loop.self c.add_read.new.self (S c.args.reader.now) (S c.read_counted.new.self) b.0 c.loop.parser c.finish-answer.new.self b.1 c.finish-answer.ensures
+    end_answers (HearsEach g.P.ProofProcessor.takes g.T.ProofTranscriptProcessor.reads) c.add_read.result c.finish-answer.result (seen_of c.args.self.now) (seen_of c.loop.self) (seen_of c.add_read.new.self) (S c.args.reader.now) (S c.read_counted.new.self) b.0 c.loop.parser c.finish-answer.new.self b.1 c.finish-answer.ensures
     (once.failures.0 ∙ c.loop.invariant.failures) all c.loop.invariant.added c.add_read.ensures.adds
 
 pub returns-in_err-add_read-in-Ok : goal.returns-in_err-add_read-in-Ok
@@ -51,7 +53,7 @@ returns-in_err-add_read-in-Ok g c =
     let b = c.loop.invariant.bytes in
     let piece = take c.in-Ok.count c.read_counted.new.buf in
     let once = c.in-Ok.ensures.once in
-    rw (p.1, p.2) (piece_answers c.in_err-add_read-in-Ok.field-0.0 c.feed-answer.result c.args.self.now c.loop.self c.add_read-in-Ok.new.self (S c.args.reader.now) (S c.read_counted.new.self) b.0 piece c.loop.parser c.feed-answer.new.self b.1 c.feed-answer.ensures.answer
+    rw (p.1, p.2) (piece_answers (HearsEach g.P.ProofProcessor.takes g.T.ProofTranscriptProcessor.reads) c.in_err-add_read-in-Ok.field-0.0 c.feed-answer.result (seen_of c.args.self.now) (seen_of c.loop.self) (seen_of c.add_read-in-Ok.new.self) (S c.args.reader.now) (S c.read_counted.new.self) b.0 piece c.loop.parser c.feed-answer.new.self b.1 c.feed-answer.ensures.answer
     (once.failures.0 ∙ c.loop.invariant.failures)
     (gave_more (S c.args.reader.now) (S c.loop.reader) (S c.read_counted.new.self) b.0 c.in-Ok.count c.read_counted.new.buf b.2 once)
     (not_ended (S c.loop.reader) (S c.read_counted.new.self) c.in-Ok.count c.read_counted.new.buf once (search rules))
@@ -64,7 +66,7 @@ returns-in-Err g c =
     let b = c.loop.invariant.bytes in
     let once = c.in-Err.ensures.once in
     let front = gave_still _ (S c.args.reader.now) (S c.loop.reader) (S c.read_counted.new.self) b.0 c.read_counted.new.buf b.2 once in
-    read_answers c.args.self.now c.loop.self (S c.args.reader.now) (S c.read_counted.new.self) b.0 c.loop.parser b.1
+    read_answers (HearsEach g.P.ProofProcessor.takes g.T.ProofTranscriptProcessor.reads) (seen_of c.args.self.now) (seen_of c.loop.self) (S c.args.reader.now) (S c.read_counted.new.self) b.0 c.loop.parser b.1
     (inl (once.failures.0 ∙ ap (λ (n : ℕ). n + 1) c.loop.invariant.failures, once.failures.1), few_front _ _ b.0 front (omega (arith, once.calls, c.loop.invariant.calls, b.3)))
     front c.loop.invariant.sound b.4 c.loop.invariant.added
 
@@ -72,6 +74,6 @@ pub returns : goal.returns
 returns g c =
     let S = g.R.CountedRead.seen in
     let b = c.loop.invariant.bytes in
-    read_answers c.args.self.now c.loop.self (S c.args.reader.now) (S c.loop.reader) b.0 c.loop.parser b.1
+    read_answers (HearsEach g.P.ProofProcessor.takes g.T.ProofTranscriptProcessor.reads) (seen_of c.args.self.now) (seen_of c.loop.self) (S c.args.reader.now) (S c.loop.reader) b.0 c.loop.parser b.1
     (inr (c.loop.invariant.failures, omega (arith, c.loop.invariant.calls)), few_front _ _ b.0 b.2 (omega (arith, c.loop.invariant.calls, b.3)))
     b.2 c.loop.invariant.sound b.4 c.loop.invariant.added

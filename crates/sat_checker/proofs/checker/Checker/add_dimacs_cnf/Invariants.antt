@@ -4,19 +4,20 @@ use Rattle.sat_base.specs.dimacs.Dimacs.{dimacs, settled}
 use Rattle.sat_base.specs.dimacs.Parsing.{IsSound}
 use Rattle.sat_base.specs.steps.Steps.{Step}
 use Rattle.sat_base.proofs.lemmas.dimacs.Parsed.{Stands as HasFed}
-use Rattle.sat_checker.specs.CheckerView.{has_failed, Stands}
+use Rattle.sat_checker.specs.CheckerView.{has_failed, seen_of, Stands}
+use Rattle.sat_checker.specs.telling.ProcessingView.{HearsEach}
 use Rattle.sat_checker.specs.ClausesView.{AnswersClauses}
 use Rattle.sat_checker.proofs.checker.Checker.add_dimacs_cnf.Given as goal
 
 -- so much of the text was given, and its clauses were added
 abbrev pub invariant-loop : goal.invariant-loop
 invariant-loop g l = record {
-  well : has_failed l.fn.self ≡ false;
+  well : has_failed (seen_of l.fn.self) ≡ false;
   bytes : (text : List ℕ) × HasFed text l.parser × GaveFront (g.R.CountedRead.seen l.fn.reader) (g.R.CountedRead.seen l.reader) text × (l.counter ≤ length text)
       × (l.parser.taken ≡ (dimacs (settled text)).clauses);
   sound : IsSound l.parser;
   open_yet : 0 < l.counter → (g.R.CountedRead.seen l.reader).ended ≡ false;
   failures : (g.R.CountedRead.seen l.reader).failures ≡ (g.R.CountedRead.seen l.fn.reader).failures;
   calls : (g.R.CountedRead.seen l.reader).calls ≡ (g.R.CountedRead.seen l.fn.reader).calls + l.counter;
-  added : (earlier : List Step) → Stands l.fn.self earlier → AnswersClauses (Ok tt) l.fn.self l.self l.parser.taken earlier;
+  added : (before : _) (begun : _) (earlier : List Step) → Stands (HearsEach g.P.ProofProcessor.takes g.T.ProofTranscriptProcessor.reads) before begun (seen_of l.fn.self) earlier → AnswersClauses (HearsEach g.P.ProofProcessor.takes g.T.ProofTranscriptProcessor.reads) before begun (Ok tt) (seen_of l.fn.self) (seen_of l.self) l.parser.taken earlier;
 }

@@ -1,9 +1,36 @@
-use Rattle.sat_base.specs.steps.StepReading.{step_in}
-use Rattle.sat_checker.proofs.lemmas.checker.Proofs.{unread_answer}
+use Rattle.std.proofs.Common.{sym, subst}
+use Rattle.std.proofs.lemmas.Result.{err_from_is_err_and}
+use Rattle.sat_base.specs.steps.StepReading.{reader_source, step_in}
+use Rattle.sat_base.specs.steps.StepText.{SpellsStep}
+use Rattle.sat_base.specs.steps.StepViews.{step_of}
+use Rattle.sat_checker.specs.inner.ProofSteps.{turn}
+use Rattle.sat_checker.specs.CheckerView.{seen_with}
+use Rattle.sat_checker.specs.telling.Hearing.{HearsFirst}
+use Rattle.sat_checker.specs.telling.ProcessingView.{HearsEach}
+use Rattle.sat_checker.proofs.lemmas.checker.Proofs.{unread_answer, step_stops}
 use Rattle.sat_checker.proofs.checker.Checker.check_next.Goals as goal
 
 pub returns-in-Err-clause-steps_on : goal.returns-in-Err-clause-steps_on
-returns-in-Err-clause-steps_on g c = λ earlier stands.
+returns-in-Err-clause-steps_on g c = λ before begun earlier stands.
     let S = g.R.CountedRead.seen in
     rw (c.unread_error.ensures, c.is_final-self.ensures)
-    (unread_answer S c.args.self.now c.args.steps.now c.advance.new.self c.in-Err.error (step_in c.advance.new.self) earlier c.requires.well c.requires.open_yet c.in-Err.ensures stands)
+    (unread_answer (HearsFirst g.O.ProofProcessor.takes (HearsEach g.P.ProofProcessor.takes g.T.ProofTranscriptProcessor.reads)) before begun S (seen_with c.args.own.now c.args.self.now) c.args.steps.now c.advance.new.self c.in-Err.error (step_in c.advance.new.self) earlier c.requires.well c.requires.open_yet c.in-Err.ensures stands)
+
+pub returns-in_err-check_step-clause-steps_on : goal.returns-in_err-check_step-clause-steps_on
+returns-in_err-check_step-clause-steps_on g c = λ before begun earlier stands.
+    let S = g.R.CountedRead.seen in
+    let n = c.in_default.ensures.answer in
+    let p = err_from_is_err_and c.from_residual.result c.from_residual.ensures.1 in
+    rw (p.1, p.2) (step_stops (HearsFirst g.O.ProofProcessor.takes (HearsEach g.P.ProofProcessor.takes g.T.ProofTranscriptProcessor.reads)) before begun (turn (seen_with c.args.own.now c.args.self.now) (reader_source S c.args.steps.now)) (turn _ (reader_source S c.advance.new.self)) c.in_err-check_step.field-0.0 earlier (step_of c.step-step.result) c.requires.well
+    (record { text = n.0; passes = n.1; spelt = subst (λ z. SpellsStep z n.0) (sym c.step-step.ensures) n.2; looks = c.in_err-check_step.ensures.looks earlier stands.kernel })
+    (c.in_err-check_step.ensures.tells before begun earlier stands))
+
+pub returns-clause-steps_on : goal.returns-clause-steps_on
+returns-clause-steps_on g c = λ before begun earlier stands.
+    let n = c.in_default.ensures.answer in
+    let a = c.in_ok-check_step.ensures.tells before begun earlier stands in (
+      step_of c.step-step.result,
+      record { text = n.0; passes = n.1; spelt = subst (λ z. SpellsStep z n.0) (sym c.step-step.ensures) n.2; looks = c.in_ok-check_step.ensures.looks earlier stands.kernel },
+      c.is_end.ensures,
+      (a.1.stands, a.1.goes_on),
+    )

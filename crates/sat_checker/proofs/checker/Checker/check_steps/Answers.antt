@@ -1,53 +1,56 @@
 use Rattle.std.proofs.Common.{[], ◌∷◌, ◌++◌, refl, ◌∙◌}
 use Rattle.std.proofs.lemmas.Result.{err_from_is_err_and}
 use Rattle.sat_base.specs.steps.StepReading.{reader_source}
+use Rattle.sat_checker.specs.CheckerView.{seen_with}
+use Rattle.sat_checker.specs.telling.Hearing.{HearsFirst}
+use Rattle.sat_checker.specs.telling.ProcessingView.{HearsEach}
 use Rattle.sat_checker.specs.inner.ProofSteps.{turn}
 use Rattle.sat_checker.specs.ProofView.{taken_after}
 use Rattle.sat_checker.proofs.lemmas.checker.Proofs.{passed_none, passed_one, stops, finishes, none_read, ended, not_ended}
 use Rattle.sat_checker.proofs.checker.Checker.check_steps.Goals as goal
 
-pub loop-self-init : goal.loop-self-init
-loop-self-init g c =
+pub loop-init : goal.loop-init
+loop-init g c =
     let S = g.R.CountedRead.seen in
     record {
       well = c.requires.well;
       open_yet = c.requires.open_yet;
       same = refl;
       bound = none_read (reader_source S c.args.steps.now) c.requires.fresh;
-      passed = λ earlier stands. ([], passed_none (turn c.args.self.now (reader_source S c.args.steps.now)) earlier c.requires.well stands);
+      passed = λ before begun earlier stands. ([], passed_none (HearsFirst g.O.ProofProcessor.takes (HearsEach g.P.ProofProcessor.takes g.T.ProofTranscriptProcessor.reads)) before begun (turn (seen_with c.args.own.now c.args.self.now) (reader_source S c.args.steps.now)) earlier c.requires.well stands);
     }
 
 pub returns-in_err-check_next-clause-proof : goal.returns-in_err-check_next-clause-proof
-returns-in_err-check_next-clause-proof g c = λ earlier stands.
+returns-in_err-check_next-clause-proof g c = λ before begun earlier stands.
     let S = g.R.CountedRead.seen in
     let p = err_from_is_err_and c.from_residual.result c.from_residual.ensures.1 in
-    let passed = c.loop-self.invariant.passed earlier stands in
-    rw (p.1, p.2) (stops (turn c.args.self.now (reader_source S c.args.steps.now)) (turn c.loop-self.self (reader_source S c.loop-self.steps)) (turn c.check_next.new.self (reader_source S c.check_next.new.steps))
+    let passed = c.loop.invariant.passed before begun earlier stands in
+    rw (p.1, p.2) (stops (HearsFirst g.O.ProofProcessor.takes (HearsEach g.P.ProofProcessor.takes g.T.ProofTranscriptProcessor.reads)) before begun (turn (seen_with c.args.own.now c.args.self.now) (reader_source S c.args.steps.now)) (turn (seen_with c.loop.own c.loop.self) (reader_source S c.loop.steps)) (turn (seen_with c.check_next.new.own c.check_next.new.self) (reader_source S c.check_next.new.steps))
     c.in_err-check_next.field-0.0 earlier passed.0 c.requires.fresh c.requires.well c.check_next.ensures.bound passed.1
-    (c.in_err-check_next.ensures.steps_on (taken_after passed.0 earlier) passed.1.goes_on.0))
+    (c.in_err-check_next.ensures.steps_on before begun (taken_after passed.0 earlier) passed.1.goes_on.0))
 
 pub returns-then-branch-clause-proof : goal.returns-then-branch-clause-proof
-returns-then-branch-clause-proof g c = λ earlier stands.
+returns-then-branch-clause-proof g c = λ before begun earlier stands.
     let S = g.R.CountedRead.seen in
-    let passed = c.loop-self.invariant.passed earlier stands in
-    let on = c.in_ok-check_next.ensures.steps_on (taken_after passed.0 earlier) passed.1.goes_on.0 in
-    finishes (turn c.args.self.now (reader_source S c.args.steps.now)) (turn c.loop-self.self (reader_source S c.loop-self.steps)) (turn c.check_next.new.self (reader_source S c.check_next.new.steps))
-    c.settle.new.self c.settle.result earlier passed.0 on.0 c.requires.fresh c.requires.well c.check_next.ensures.bound passed.1 on.1 (ended _ _ c.if-branch.true on.2) (c.settle.ensures (on.0 ∷ taken_after passed.0 earlier) on.3.0)
+    let passed = c.loop.invariant.passed before begun earlier stands in
+    let on = c.in_ok-check_next.ensures.steps_on before begun (taken_after passed.0 earlier) passed.1.goes_on.0 in
+    finishes (HearsFirst g.O.ProofProcessor.takes (HearsEach g.P.ProofProcessor.takes g.T.ProofTranscriptProcessor.reads)) before begun (turn (seen_with c.args.own.now c.args.self.now) (reader_source S c.args.steps.now)) (turn (seen_with c.loop.own c.loop.self) (reader_source S c.loop.steps)) (turn (seen_with c.check_next.new.own c.check_next.new.self) (reader_source S c.check_next.new.steps))
+    earlier passed.0 on.0 c.requires.fresh c.requires.well c.check_next.ensures.bound passed.1 on.1 (ended _ _ c.if-branch.true on.2) on.3
 
-pub loop-self-preserved : goal.loop-self-preserved
-loop-self-preserved g c =
+pub loop-preserved : goal.loop-preserved
+loop-preserved g c =
     let S = g.R.CountedRead.seen in
     let goes = c.in_ok-check_next.ensures.goes_on in
     record {
       well = goes.0;
       open_yet = goes.1;
-      same = c.check_next.ensures.same ∙ c.loop-self.invariant.same;
+      same = c.check_next.ensures.same ∙ c.loop.invariant.same;
       bound = c.check_next.ensures.bound;
-      passed = λ earlier stands.
-          let passed = c.loop-self.invariant.passed earlier stands in
-          let on = c.in_ok-check_next.ensures.steps_on (taken_after passed.0 earlier) passed.1.goes_on.0 in (
+      passed = λ before begun earlier stands.
+          let passed = c.loop.invariant.passed before begun earlier stands in
+          let on = c.in_ok-check_next.ensures.steps_on before begun (taken_after passed.0 earlier) passed.1.goes_on.0 in (
             passed.0 ++ on.0 ∷ [],
-            passed_one (turn c.args.self.now (reader_source S c.args.steps.now)) (turn c.loop-self.self (reader_source S c.loop-self.steps)) (turn c.check_next.new.self (reader_source S c.check_next.new.steps))
+            passed_one (HearsFirst g.O.ProofProcessor.takes (HearsEach g.P.ProofProcessor.takes g.T.ProofTranscriptProcessor.reads)) before begun (turn (seen_with c.args.own.now c.args.self.now) (reader_source S c.args.steps.now)) (turn (seen_with c.loop.own c.loop.self) (reader_source S c.loop.steps)) (turn (seen_with c.check_next.new.own c.check_next.new.self) (reader_source S c.check_next.new.steps))
                 earlier passed.0 on.0 passed.1 on.1 (not_ended _ _ c.if-branch.false on.2) on.3,
           );
     }

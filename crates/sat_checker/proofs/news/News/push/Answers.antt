@@ -1,4 +1,4 @@
-use Rattle.std.proofs.Common.{[], ◌∷◌, ◌++◌, ◌∙◌, sym, refl}
+use Rattle.std.proofs.Common.{[], ◌∷◌, ◌∙◌, sym, refl}
 use Rattle.std.proofs.lemmas.List.{append-nil}
 use Rattle.sat_checker.proofs.lemmas.store.Entries.{on_err}
 use Rattle.sat_checker.proofs.lemmas.telling.News.{seen_more, seen_pushed}

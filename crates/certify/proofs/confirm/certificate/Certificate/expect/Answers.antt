@@ -34,5 +34,5 @@ returns-clause-confirms g c =
     let S = g.R.CountedRead.seen in
     let a = stream S c.args.steps.now c.args.self.now in
     let b = stream S c.await_ordered.new.steps c.await_ordered.new.self in
-    expects_fed (due_of c.args.expected) a b c.requires.open_yet (step_of c.step-step.result) c.step-step.ensures (subst (λ x. Reading is_fed (Ok x) a b AwaitsNext) c.in-Step.is c.in_ok-await_ordered.ensures.confirms) (due_nameless c.args.expected) c.feed.new.checker c.feed.result
+    expects_fed (due_of c.args.expected) a b c.requires.open_yet (step_of c.step-step.result) c.step-step.ensures (subst (λ x. Reading is_fed (Ok x) a b AwaitsNext) c.in-Step.is c.in_ok-await_ordered.ensures.confirms) (due_nameless c.args.expected) c.feed.new.checker.kernel c.feed.result
     (subst (λ vs. Compares (due_of c.args.expected) vs (step_of c.step-step.result) (Ok tt)) c.deref.ensures.value c.in_ok-fits.ensures) c.feed.ensures.feeds c.feed.ensures.looks

@@ -28,7 +28,7 @@ returns-in_err-variable-clause-confirms g c =
     let b = stream S c.await_ordered.new.steps m in
     let p = err_from_is_err_and c.from_residual-in_err-variable.result c.from_residual-in_err-variable.ensures.1 in
     rw (p.1, p.2) (brings_unfit a b c.requires.open_yet (step_of c.step-step.result) c.step-step.ensures (subst (λ x. Reading is_fed (Ok x) a b AwaitsNext) c.in-Step.is c.in_ok-await_ordered.ensures.confirms) c.in_err-variable.field-0.0
-    (subst (λ vs. Says {A = ℕ} (Err c.in_err-variable.field-0.0) (PutsNext m.checker vs (step_of c.step-step.result))) c.deref.ensures.value c.in_err-variable.ensures))
+    (subst (λ vs. Says {A = ℕ} (Err c.in_err-variable.field-0.0) (PutsNext m.checker.kernel vs (step_of c.step-step.result))) c.deref.ensures.value c.in_err-variable.ensures))
 
 pub returns-in_err-feed-clause-confirms : goal.returns-in_err-feed-clause-confirms
 returns-in_err-feed-clause-confirms g c =
@@ -36,7 +36,7 @@ returns-in_err-feed-clause-confirms g c =
     let a = stream S c.args.steps.now c.args.self.now in
     let b = stream S c.await_ordered.new.steps c.await_ordered.new.self in
     let p = err_from_is_err_and c.from_residual-in_err-feed.result c.from_residual-in_err-feed.ensures.1 in
-    rw (p.1, p.2) (brings_refused a b c.requires.open_yet (step_of c.step-step.result) c.step-step.ensures (subst (λ x. Reading is_fed (Ok x) a b AwaitsNext) c.in-Step.is c.in_ok-await_ordered.ensures.confirms) c.in_err-feed.field-0.0 c.feed.new.checker c.in_err-feed.ensures.feeds c.in_err-feed.ensures.looks)
+    rw (p.1, p.2) (brings_refused a b c.requires.open_yet (step_of c.step-step.result) c.step-step.ensures (subst (λ x. Reading is_fed (Ok x) a b AwaitsNext) c.in-Step.is c.in_ok-await_ordered.ensures.confirms) c.in_err-feed.field-0.0 c.feed.new.checker.kernel c.in_err-feed.ensures.feeds c.in_err-feed.ensures.looks)
 
 pub returns-in_err-push-clause-confirms : goal.returns-in_err-push-clause-confirms
 returns-in_err-push-clause-confirms g c =
@@ -44,7 +44,7 @@ returns-in_err-push-clause-confirms g c =
     let a = stream S c.args.steps.now c.args.self.now in
     let b = stream S c.await_ordered.new.steps c.await_ordered.new.self in
     let p = err_from_is_err_and c.from_residual-in_err-push.result c.from_residual-in_err-push.ensures.1 in
-    rw (p.1, p.2) (brings_short a b c.requires.open_yet (step_of c.step-step.result) c.step-step.ensures (subst (λ x. Reading is_fed (Ok x) a b AwaitsNext) c.in-Step.is c.in_ok-await_ordered.ensures.confirms) c.feed.new.checker c.in_ok-feed.ensures.feeds c.in_ok-feed.ensures.looks c.push.new.self.items)
+    rw (p.1, p.2) (brings_short a b c.requires.open_yet (step_of c.step-step.result) c.step-step.ensures (subst (λ x. Reading is_fed (Ok x) a b AwaitsNext) c.in-Step.is c.in_ok-await_ordered.ensures.confirms) c.feed.new.checker.kernel c.in_ok-feed.ensures.feeds c.in_ok-feed.ensures.looks c.push.new.self.items)
 
 pub returns-clause-confirms : goal.returns-clause-confirms
 returns-clause-confirms g c =
@@ -52,5 +52,5 @@ returns-clause-confirms g c =
     let a = stream S c.args.steps.now c.args.self.now in
     let m = c.await_ordered.new.self in
     let b = stream S c.await_ordered.new.steps m in
-    brings_put a b c.requires.open_yet (step_of c.step-step.result) c.step-step.ensures (subst (λ x. Reading is_fed (Ok x) a b AwaitsNext) c.in-Step.is c.in_ok-await_ordered.ensures.confirms) c.feed.new.checker c.in_ok-feed.ensures.feeds c.in_ok-feed.ensures.looks c.push.new.self.items
-    c.in_ok-variable.variable (subst (λ vs. PutsNext m.checker vs (step_of c.step-step.result) (Ok c.in_ok-variable.variable)) c.deref.ensures.value c.in_ok-variable.ensures) c.in_ok-push.ensures.items
+    brings_put a b c.requires.open_yet (step_of c.step-step.result) c.step-step.ensures (subst (λ x. Reading is_fed (Ok x) a b AwaitsNext) c.in-Step.is c.in_ok-await_ordered.ensures.confirms) c.feed.new.checker.kernel c.in_ok-feed.ensures.feeds c.in_ok-feed.ensures.looks c.push.new.self.items
+    c.in_ok-variable.variable (subst (λ vs. PutsNext m.checker.kernel vs (step_of c.step-step.result) (Ok c.in_ok-variable.variable)) c.deref.ensures.value c.in_ok-variable.ensures) c.in_ok-push.ensures.items

@@ -1,0 +1,24 @@
+use Rattle.std.proofs.Common.{refl, sym, ap, inl, rules}
+use Rattle.sat_checker.specs.Storing.{settled}
+use Rattle.sat_checker.specs.telling.AnnouncementView.{variables_of}
+use Rattle.sat_checker.specs.telling.Hearing.{hearers, HearsFirst}
+use Rattle.sat_checker.specs.telling.ProcessingView.{HearsEach}
+use Rattle.sat_checker.proofs.lemmas.telling.Heard.{same_itself}
+use Rattle.sat_checker.proofs.lemmas.telling.Taken.{settled_stands, turned, conflict_heard, conflict_broken, delayed_ok, delayed_err}
+use Rattle.sat_checker.proofs.kernel.Kernel.settle.Goals as goal
+
+pub returns-in-Ok-clause-tells : goal.returns-in-Ok-clause-tells
+returns-in-Ok-clause-tells g c = λ before begun steps s.
+    let k = s.kernel.kept c.requires in
+    let stands = settled_stands c.args.self.now steps s.kernel c.requires c.in-Some.stored c.in-Some.contradicting c.in-Some.is _ (λ f. turned c.settle.result _ (settled k.formula) (sym c.if-is_err.ensures.value) (c.settle.ensures.settles k.formula f)) refl refl refl in
+    let heard = conflict_heard c.args.self.now steps s.kernel c.requires c.in-Some.stored c.in-Some.contradicting c.in-Some.is (HearsFirst g.O.ProofProcessor.takes (HearsEach g.P.ProofProcessor.takes g.T.ProofTranscriptProcessor.reads)) before begun (hearers c.args.own.now c.args.others.now) (s.heard c.requires) (variables_of c.new.result)
+    (λ v. ap (λ z. z v) c.new.ensures) (hearers c.step_with.new.own c.step_with.new.self) (hearers c.step_with.new.own c.step_with.new.self, (_, same_itself _, c.in-Ok.ensures), refl) in
+    delayed_ok (HearsFirst g.O.ProofProcessor.takes (HearsEach g.P.ProofProcessor.takes g.T.ProofTranscriptProcessor.reads)) before begun c.args.self.now _ (hearers c.args.own.now c.args.others.now) (hearers c.step_with.new.own c.step_with.new.self) steps c.requires refl stands c.requires (search rules) heard
+
+pub returns-in-Err-clause-tells : goal.returns-in-Err-clause-tells
+returns-in-Err-clause-tells g c = λ before begun steps s.
+    let k = s.kernel.kept c.requires in
+    let stands = settled_stands c.args.self.now steps s.kernel c.requires c.in-Some.stored c.in-Some.contradicting c.in-Some.is _ (λ f. turned c.settle.result _ (settled k.formula) (sym c.if-is_err.ensures.value) (c.settle.ensures.settles k.formula f)) refl refl refl in
+    let heard = conflict_broken c.args.self.now steps s.kernel c.requires c.in-Some.stored c.in-Some.contradicting c.in-Some.is (HearsFirst g.O.ProofProcessor.takes (HearsEach g.P.ProofProcessor.takes g.T.ProofTranscriptProcessor.reads)) before begun (hearers c.args.own.now c.args.others.now) (s.heard c.requires) (variables_of c.new.result)
+    (λ v. ap (λ z. z v) c.new.ensures) c.in-Err.error (hearers c.step_with.new.own c.step_with.new.self) (inl (_, same_itself _, c.in-Err.ensures)) in
+    rw c.fault.ensures (delayed_err (HearsFirst g.O.ProofProcessor.takes (HearsEach g.P.ProofProcessor.takes g.T.ProofTranscriptProcessor.reads)) before begun c.args.self.now _ (hearers c.args.own.now c.args.others.now) (hearers c.step_with.new.own c.step_with.new.self) steps c.requires refl (record { stands = stands; failed = refl }) c.in-Err.error heard)

@@ -1,0 +1,54 @@
+-- A unit conflict that waits, and one that doesn't.
+use Rattle.std.proofs.Common.{ℕ, ◌≡◌, Option, None, Some, List, ◌∷◌, inl, inr, refl, sym, ap, ◌∙◌}
+use Rattle.sat_base.specs.steps.Steps.{Step, End}
+use Rattle.sat_checker.specs.Stored.{Stored}
+use Rattle.sat_checker.specs.Storing.{settled, settled_by}
+use Rattle.sat_checker.specs.Accepts.{stored_after, ready_after}
+use Rattle.sat_checker.specs.KernelView.{KeepsAfter}
+use Rattle.sat_checker.specs.inner.FormulaView.{Standing}
+use Rattle.sat_checker.specs.declared.kernel.Kernel.{Kernel}
+use Rattle.sat_checker.specs.declared.state.State.{State}
+
+pub settled_none : (f : Stored) → (settled f).conflict ≡ None
+settled_none f = go f.conflict refl
+  where
+    go : (c : Option (ℕ × ℕ)) → f.conflict ≡ c → (settled_by c f).conflict ≡ None
+    go None e = e
+    go (Some units) e = refl
+
+pub settled_already : (f : Stored) → f.conflict ≡ None → settled f ≡ f
+settled_already f e = ap (λ (c : Option (ℕ × ℕ)). settled_by c f) e
+
+pub end_settled : (steps : List Step) → (stored_after (End ∷ steps)).conflict ≡ None
+end_settled steps = settled_none (stored_after steps)
+
+module _ (k : Kernel) (steps : List Step) (kept : KeepsAfter k.state steps) where
+  pub conflict_of : k.state.formula.status.conflict ≡ kept.formula.conflict
+  conflict_of = ap (λ (s : Standing). s.conflict) kept.keeps.formula.status
+
+  pub none_pending : (stored_after steps).conflict ≡ None → k.state.formula.status.conflict ≡ None
+  none_pending n = elim kept.left [
+    | inl e ↦ conflict_of ∙ ap (λ (f : Stored). f.conflict) e ∙ n
+    | inr e ↦ conflict_of ∙ ap (λ (f : Stored). f.conflict) e ∙ settled_none (stored_after steps)
+  ]
+
+  -- nothing waits
+  pub ready_is : k.state.formula.status.conflict ≡ None → kept.formula ≡ ready_after steps
+  ready_is n = elim kept.left [
+    | inl e ↦ e ∙ sym (settled_already (stored_after steps) (sym (ap (λ (f : Stored). f.conflict) e) ∙ sym conflict_of ∙ n))
+    | inr e ↦ e
+  ]
+
+  -- a unit conflict waits
+  pub stored_is : (units : ℕ × ℕ) → k.state.formula.status.conflict ≡ Some units → kept.formula ≡ stored_after steps
+  stored_is units s = elim kept.left [
+    | inl e ↦ e
+    | inr e ↦ absurd (let g : ◌≡◌ {A = Option (ℕ × ℕ)} None (Some units) = sym (settled_none (stored_after steps)) ∙ sym (ap (λ (f : Stored). f.conflict) e) ∙ sym conflict_of ∙ s in cc)
+  ]
+
+-- what the next step is judged by
+pub ready_of : (state : State) (steps : List Step) (kept : KeepsAfter state steps) → settled kept.formula ≡ ready_after steps
+ready_of state steps kept = elim kept.left [
+  | inl e ↦ ap settled e
+  | inr e ↦ ap settled e ∙ settled_already (ready_after steps) (settled_none (stored_after steps))
+]

@@ -1,0 +1,307 @@
+-- A unit conflict is settled and told, and a step is taken in and told.
+use Rattle.std.proofs.Common.{ℕ, ◌≡◌, true, false, List, [], ◌∷◌, ◌++◌, Option, None, Some, Result, Ok, Err, ◌⊎◌, inl, inr, refl, sym, ap, subst, ◌∙◌}
+use Rattle.std.proofs.lemmas.Bool.{true≢false}
+use Rattle.std.specs.Result.{is_err}
+use Rattle.std.proofs.lemmas.List.{append-nil}
+use Rattle.sat_base.specs.steps.Steps.{Step, SolverVarName, UserVarName, DeleteVar, ChangeSamplingMode, AddClause, UnitClauses, DeleteClause, ChangeHashBits, Model, Assumptions, FailedAssumptions, End}
+use Rattle.sat_base.specs.steps.Steps as kinds
+use Rattle.sat_checker.specs.Stored.{Stored, Variable}
+use Rattle.sat_checker.specs.Spent.{IsSpent}
+use Rattle.sat_checker.specs.Storing.{settled}
+use Rattle.sat_checker.specs.Accepts.{Accepts, effect, stored_after, ready_after}
+use Rattle.sat_checker.specs.KernelView as kernels
+use Rattle.sat_checker.specs.KernelView.{KeepsAfter, records_of}
+use Rattle.sat_checker.specs.CheckerView.{Seen, seen, has_failed, Fails, AnswersStep, AnswersDelayed}
+use Rattle.sat_checker.specs.announcements.Announcements.{Announcement, AtClause, Told, announced, delayed, delayed_by, told_over, told_after, all_told_after}
+use Rattle.sat_checker.specs.inner.FormulaView.{KeepsFormula, Standing, Turns, TurnsIf}
+use Rattle.sat_checker.specs.inner.StateView.{Keeps, SpentBy, Answers}
+use Rattle.sat_checker.specs.inner.TellingSteps.{announced_by, changed_by, put_back, failure_of, fault_of, records_in, TakesIn}
+use Rattle.sat_checker.specs.inner.VariablesView.{variable_at}
+use Rattle.sat_checker.specs.telling.Hearing.{SameTold, HearsSame, HearsAll, HearsUpTo, HearsSince, HearsSinceUpTo, told_by}
+use Rattle.sat_checker.specs.declared.kernel.Kernel.{Kernel}
+use Rattle.sat_checker.specs.declared.state.State.{State}
+use Rattle.sat_checker.specs.declared.error.CheckerError.{CheckerError}
+use Rattle.sat_checker.specs.declared.error.CheckerError.TheVariants as errors
+use Rattle.sat_checker.specs.declared.processing.ProcessingError.{ProcessingError}
+use Rattle.sat_checker.specs.declared.store.StoreError.{StoreError}
+use Rattle.sat_checker.specs.declared.store.StoreError.TheVariants as stores
+use Rattle.sat_checker.specs.declared.processing.ProcessingError.TheVariants as faults
+use Rattle.sat_checker.proofs.lemmas.state.Keeping.{settled_kept}
+use Rattle.sat_checker.proofs.lemmas.telling.Heard.{told_step, since_more, since_up_to_more, failing}
+use Rattle.sat_checker.proofs.lemmas.telling.Lookups.{Alike, steps_alike}
+use Rattle.sat_checker.proofs.lemmas.telling.Settling.{conflict_of, ready_is, stored_is, ready_of}
+
+-- THE SAME IS TOLD
+
+module _ {L : Type 0} (Hears : L → Told → Result Unit ProcessingError → L → Type 0) (g h : ℕ → Variable) (same : (v : ℕ) → Alike (g v) (h v)) where
+  told_alike : (a : Announcement) → SameTold (record { announcement = a; variables = g }) (record { announcement = a; variables = h })
+  told_alike a = record { announcement = refl; names = λ v. (same v).name; modes = λ v. (same v).mode }
+
+  same_more : (t u w : Told) → SameTold t u → SameTold u w → SameTold t w
+  same_more t u w s r = record { announcement = s.announcement ∙ r.announcement; names = λ v. s.names v ∙ r.names v; modes = λ v. s.modes v ∙ r.modes v }
+
+  hears_alike : (xs : List Announcement) (a : Announcement) (l m : L) (r : Result Unit ProcessingError) → HearsSame Hears l (record { announcement = a; variables = g }) r m → HearsSame Hears l (record { announcement = a; variables = h }) r m
+  hears_alike xs a l m r x = (x.0, same_more x.0 _ _ x.1 (told_alike a), x.2)
+
+  pub all_alike : (xs : List Announcement) (l m : L) → HearsAll Hears (announced_by g xs) l m → HearsAll Hears (announced_by h xs) l m
+  all_alike [] l m x = x
+  all_alike (a ∷ xs) l m x = (x.0, hears_alike xs a l x.0 (Ok tt) x.1, all_alike xs x.0 m x.2)
+
+  pub up_to_alike : (e : ProcessingError) (xs : List Announcement) (l m : L) → HearsUpTo Hears e (announced_by g xs) l m → HearsUpTo Hears e (announced_by h xs) l m
+  up_to_alike e [] l m x = x
+  up_to_alike e (a ∷ xs) l m x = elim x [
+    | inl y ↦ inl (hears_alike xs a l m (Err e) y)
+    | inr y ↦ inr (y.0, hears_alike xs a l y.0 (Ok tt) y.1, up_to_alike e xs y.0 m y.2)
+  ]
+
+equal_alike : (g h : ℕ → Variable) → ((v : ℕ) → g v ≡ h v) → (v : ℕ) → Alike (g v) (h v)
+equal_alike g h e v = record { name = ap (λ (x : Variable). x.name) (e v); mode = ap (λ (x : Variable). x.mode) (e v) }
+
+-- A UNIT CONFLICT
+
+module _ (old : Kernel) (steps : List Step) (s : kernels.Stands old steps) (well : kernels.has_failed old ≡ false) (one other : ℕ) (waits : old.state.formula.status.conflict ≡ Some (one, other)) where
+  abbrev kept : KeepsAfter old.state steps
+  kept = s.kept well
+
+  is_stored : kept.formula ≡ stored_after steps
+  is_stored = stored_is old steps kept (one, other) waits
+
+  -- what is stored then
+  pub settled_stands : (new : Kernel) → (KeepsFormula old.state.formula kept.formula → KeepsFormula new.state.formula (settled kept.formula))
+      → new.state.variables ≡ old.state.variables → new.state.assumed ≡ old.state.assumed → new.records ≡ old.records → kernels.Stands new steps
+  settled_stands new k v a r = record {
+    accepted = s.accepted;
+    records = r ∙ s.records;
+    kept = λ e. record {
+      formula = settled kept.formula;
+      keeps = settled_kept old.state new.state kept.formula kept.keeps (k kept.keeps.formula) v a;
+      left = inr (ap settled is_stored);
+    };
+  }
+
+  pub settled_spent : IsSpent (settled kept.formula) → IsSpent (ready_after steps)
+  settled_spent h = subst (λ f. IsSpent (settled f)) is_stored h
+
+  conflict_told : delayed (stored_after steps) ≡ AtClause old.state.formula.status.next_id false [] (one ∷ other ∷ []) ∷ []
+  conflict_told =
+      subst (λ f. delayed f ≡ AtClause old.state.formula.status.next_id false [] (one ∷ other ∷ []) ∷ []) is_stored
+      (ap (λ c. delayed_by kept.formula.next_id c) (sym (conflict_of old steps kept) ∙ waits)
+      ∙ ap (λ n. AtClause n false [] (one ∷ other ∷ []) ∷ []) (sym (ap (λ (z : Standing). z.next_id) kept.keeps.formula.status)))
+
+  module _ {L : Type 0} (Hears : L → Told → Result Unit ProcessingError → L → Type 0) (before : List Told) (begun l : L) (heard : HearsSince Hears before (told_by old.state.formula.status.conflict steps) begun l) (names : ℕ → Variable) (each : (v : ℕ) → names v ≡ variable_at old.state.variables v) where
+    so_far : HearsSince Hears before (told_after steps) begun l
+    so_far = subst (λ c. HearsSince Hears before (told_by c steps) begun l) waits heard
+
+    abbrev one_told : List Told
+    one_told = announced_by names (AtClause old.state.formula.status.next_id false [] (one ∷ other ∷ []) ∷ [])
+
+    lookups : (v : ℕ) → Alike (names v) ((stored_after steps).variables v)
+    lookups v = subst (λ f. Alike (names v) (f.variables v)) is_stored (equal_alike names kept.formula.variables (λ w. each w ∙ kept.keeps.variables.each w) v)
+
+    pub conflict_heard : (m : L) → HearsAll Hears one_told l m → HearsSince Hears before (all_told_after steps) begun m
+    conflict_heard m h = since_more Hears before (told_after steps) (told_over (stored_after steps) (delayed (stored_after steps))) begun l m so_far
+        (subst (λ xs. HearsAll Hears (told_over (stored_after steps) xs) l m) (sym conflict_told) (all_alike Hears names (stored_after steps).variables lookups (AtClause old.state.formula.status.next_id false [] (one ∷ other ∷ []) ∷ []) l m h))
+
+    pub conflict_broken : (e : ProcessingError) (m : L) → HearsUpTo Hears e one_told l m → HearsSinceUpTo Hears e before (all_told_after steps) begun m
+    conflict_broken e m h = since_up_to_more Hears e before (told_after steps) (told_over (stored_after steps) (delayed (stored_after steps))) begun l m so_far
+        (subst (λ xs. HearsUpTo Hears e (told_over (stored_after steps) xs) l m) (sym conflict_told) (up_to_alike Hears names (stored_after steps).variables lookups e (AtClause old.state.formula.status.next_id false [] (one ∷ other ∷ []) ∷ []) l m h))
+
+-- A STEP
+
+changed_same : (x : Step) (g h : ℕ → Variable) → ((v : ℕ) → g v ≡ h v) → changed_by g x ≡ changed_by h x
+changed_same (UserVarName v name) g h e = ap (λ (x : Variable). Some (v, x)) (e v)
+changed_same (DeleteVar v) g h e = ap (λ (x : Variable). Some (v, x)) (e v)
+changed_same (ChangeSamplingMode v sample) g h e = ap (λ (x : Variable). Some (v, x)) (e v)
+changed_same (SolverVarName v name) g h e = refl
+changed_same (AddClause c) g h e = refl
+changed_same (kinds.AtClause r c hs) g h e = refl
+changed_same (UnitClauses us) g h e = refl
+changed_same (DeleteClause c proof) g h e = refl
+changed_same (ChangeHashBits bits) g h e = refl
+changed_same (Model ls) g h e = refl
+changed_same (Assumptions ls) g h e = refl
+changed_same (FailedAssumptions core hs) g h e = refl
+changed_same End g h e = refl
+
+records_same : (new : Kernel) (g : Stored) → KeepsFormula new.state.formula g → records_in new.state.formula.status ≡ records_of g
+records_same new g k = ap (λ (z : Standing). record { unsat = z.unsat; ended = z.ended; var_deleted = z.var_deleted }) k.status
+
+-- nothing waits, so all was told
+told_now : (c : Option (ℕ × ℕ)) (steps : List Step) → (stored_after steps).conflict ≡ c → told_after steps ≡ told_by c steps
+told_now (Some units) steps e = refl
+told_now None steps e =
+    sym (ap (λ d. told_after steps ++ told_over (stored_after steps) (delayed_by (stored_after steps).next_id d)) e ∙ append-nil (told_after steps))
+
+module _ (old : Kernel) (steps : List Step) (s : kernels.Stands old steps) (well : kernels.has_failed old ≡ false) (none : old.state.formula.status.conflict ≡ None) where
+  pub ready_kept : Keeps old.state (ready_after steps)
+  ready_kept = let k = s.kept well in subst (Keeps old.state) (ready_is old steps k none) k.keeps
+
+  module _ (step : Step) where
+    pub step_stands : (new : Kernel) → Accepts (ready_after steps) step → Keeps new.state (effect step (ready_after steps)) → new.records ≡ records_in new.state.formula.status → kernels.Stands new (step ∷ steps)
+    step_stands new a k r = record {
+      accepted = (s.accepted, a);
+      records = r ∙ records_same new (effect step (ready_after steps)) k.formula;
+      kept = λ e. record { formula = effect step (ready_after steps); keeps = k; left = inl refl };
+    }
+
+    pub step_fails : (new : Kernel) → new.records ≡ old.records → kernels.has_failed new ≡ true → kernels.Fails new steps
+    step_fails new r f = record { stands = record { accepted = s.accepted; records = r ∙ s.records; kept = λ e. absurd (true≢false (sym f ∙ e)) }; failed = f }
+
+    module _ {L : Type 0} (Hears : L → Told → Result Unit ProcessingError → L → Type 0) (before : List Told) (begun l : L) (heard : HearsSince Hears before (told_by old.state.formula.status.conflict steps) begun l) where
+      pub all_before : HearsSince Hears before (all_told_after steps) begun l
+      all_before = subst (λ c. HearsSince Hears before (told_by c steps) begun l) none heard
+
+      module _ (new : Kernel) (k : Keeps new.state (effect step (ready_after steps))) (news : List Announcement) (noted : news ≡ announced (ready_after steps) step) (was : Option (ℕ × Variable)) (put : was ≡ changed_by (variable_at old.state.variables) step) where
+        abbrev names : ℕ → Variable
+        names = put_back was (variable_at new.state.variables)
+
+        put_alike : (o : Option (ℕ × Variable)) (g h : ℕ → Variable) → ((v : ℕ) → g v ≡ h v) → (v : ℕ) → Alike (put_back o g v) (put_back o h v)
+        put_alike None g h e v = equal_alike g h e v
+        put_alike (Some was) g h e v = equal_alike (put_back (Some was) g) (put_back (Some was) h) (λ w. ap (λ (x : Variable). put_back (Some was) (λ u. x) w) (e w)) v
+
+        alike_more : (x y z : Variable) → Alike x y → Alike y z → Alike x z
+        alike_more x y z a b = record { name = a.name ∙ b.name; mode = a.mode ∙ b.mode }
+
+        looked : (v : ℕ) → Alike (names v) ((ready_after steps).variables v)
+        looked v =
+            let same : was ≡ changed_by (ready_after steps).variables step = put ∙ changed_same step (variable_at old.state.variables) (ready_after steps).variables ready_kept.variables.each in
+            alike_more _ _ _ (subst (λ o. Alike (names v) (put_back o (effect step (ready_after steps)).variables v)) same (put_alike was (variable_at new.state.variables) (effect step (ready_after steps)).variables k.variables.each v))
+            (steps_alike step (ready_after steps) v)
+
+        pub step_heard : (c : Option (ℕ × ℕ)) (m : L) → new.state.formula.status.conflict ≡ c → HearsAll Hears (announced_by names news) l m → HearsSince Hears before (told_by c (step ∷ steps)) begun m
+        step_heard c m e h =
+            let told : HearsAll Hears (told_over (ready_after steps) (announced (ready_after steps) step)) l m =
+            subst (λ xs. HearsAll Hears (told_over (ready_after steps) xs) l m) noted (all_alike Hears names (ready_after steps).variables looked news l m h) in
+            subst (λ ts. HearsSince Hears before ts begun m) (told_step step steps ∙ told_now c (step ∷ steps) (sym (ap (λ (z : Standing). z.conflict) k.formula.status) ∙ e))
+            (since_more Hears before (all_told_after steps) (told_over (ready_after steps) (announced (ready_after steps) step)) begun l m all_before told)
+
+        pub step_broken : (e : ProcessingError) (m : L) → HearsUpTo Hears e (announced_by names news) l m → HearsSinceUpTo Hears e before (told_after (step ∷ steps)) begun m
+        step_broken e m h =
+            let told : HearsUpTo Hears e (told_over (ready_after steps) (announced (ready_after steps) step)) l m =
+            subst (λ xs. HearsUpTo Hears e (told_over (ready_after steps) xs) l m) noted (up_to_alike Hears names (ready_after steps).variables looked e news l m h) in
+            subst (λ ts. HearsSinceUpTo Hears e before ts begun m) (told_step step steps) (since_up_to_more Hears e before (all_told_after steps) (told_over (ready_after steps) (announced (ready_after steps) step)) begun l m all_before told)
+
+-- A STEP THAT NOBODY HEARS
+
+module _ (old : Kernel) (steps : List Step) (s : kernels.Stands old steps) (well : kernels.has_failed old ≡ false) (step : Step) where
+  pub judged_stands : (new : Kernel) → Accepts (settled (s.kept well).formula) step × Keeps new.state (effect step (settled (s.kept well).formula)) → new.records ≡ records_in new.state.formula.status → kernels.has_failed new ≡ false
+      → kernels.AnswersStep (Ok tt) old step new steps
+  judged_stands new h r g =
+      let same : settled (s.kept well).formula ≡ ready_after steps = ready_of old.state steps (s.kept well) in
+      let a : Accepts (ready_after steps) step = subst (λ f. Accepts f step) same h.0 in
+      let k : Keeps new.state (effect step (ready_after steps)) = subst (λ f. Keeps new.state (effect step f)) same h.1 in (
+        well,
+        record {
+          accepts = a;
+          stands = record {
+            accepted = (s.accepted, a);
+            records = r ∙ records_same new (effect step (ready_after steps)) k.formula;
+            kept = λ e. record { formula = effect step (ready_after steps); keeps = k; left = inl refl };
+          };
+          goes_on = g;
+        },
+      )
+
+  pub judged_fails : (new : Kernel) → new.records ≡ old.records → kernels.has_failed new ≡ true → kernels.Fails new steps
+  judged_fails new r f = record { stands = record { accepted = s.accepted; records = r ∙ s.records; kept = λ e. absurd (true≢false (sym f ∙ e)) }; failed = f }
+
+  pub judged_short : (new : Kernel) (error : StoreError) → Answers (Err error) (Accepts (settled (s.kept well).formula) step) (Keeps new.state (effect step (settled (s.kept well).formula))) (SpentBy step (s.kept well).formula)
+      → new.records ≡ old.records → kernels.has_failed new ≡ true → kernels.AnswersStep (Err (failure_of error)) old step new steps
+  judged_short new stores.OutOfMemory h r f = (well, judged_fails new r f)
+  judged_short new stores.CounterEnd h r f =
+      (well, subst (λ g. IsSpent g ⊎ IsSpent (effect step g)) (ready_of old.state steps (s.kept well)) h, judged_fails new r f)
+
+-- A STEP THAT IS TOLD
+
+module _ (old : Kernel) (steps : List Step) (s : kernels.Stands old steps) (well : kernels.has_failed old ≡ false) (none : old.state.formula.status.conflict ≡ None) (step : Step) where
+  -- it couldn't be stored
+  pub short_judges : (new : Kernel) (error : StoreError) → TurnsIf (Err error) (Accepts (ready_after steps) step) (Keeps new.state (effect step (ready_after steps))) (effect step (ready_after steps)) → new.records ≡ old.records → kernels.has_failed new ≡ true
+      → kernels.AnswersStep (Err (failure_of error)) old step new steps
+  short_judges new stores.OutOfMemory h r f = (well, step_fails old steps s well none step new r f)
+  short_judges new stores.CounterEnd h r f = (well, inr h, step_fails old steps s well none step new r f)
+
+  module _ {L : Type 0} (Hears : L → Told → Result Unit ProcessingError → L → Type 0) (told : List Told) (mid : Kernel) (l : L) (same : mid.records ≡ old.records) (accepts : Accepts (ready_after steps) step) (k : Keeps mid.state (effect step (ready_after steps))) where
+    pub taken_judges : (new : Kernel) (m : L) (r : Result Unit CheckerError) → TakesIn Hears told r (seen mid l) (seen new m) → kernels.AnswersStep r old step new steps
+    taken_judges new m (Ok x) t = (
+      well,
+      record { accepts = accepts; stands = step_stands old steps s well none step new accepts (subst (λ z. Keeps z (effect step (ready_after steps))) (sym t.0.state) k) t.1.1; goes_on = t.1.0 },
+    )
+    taken_judges new m (Err e) t = subst (λ z. kernels.AnswersStep (Err z) old step new steps) (sym t.1.3) (go t.1.2)
+      where
+        go : (f : ProcessingError) → kernels.AnswersStep (Err (fault_of f)) old step new steps
+        go faults.OutOfMemory = (well, step_fails old steps s well none step new (t.1.1 ∙ same) t.1.0)
+        go (faults.ProofProcessorError cause) = (well, step_fails old steps s well none step new (t.1.1 ∙ same) t.1.0)
+
+  module _ {L : Type 0} (Hears : L → Told → Result Unit ProcessingError → L → Type 0) (before : List Told) (begun l : L) (heard : HearsSince Hears before (told_by old.state.formula.status.conflict steps) begun l) where
+    before_it : HearsSince Hears before (all_told_after steps) begun l
+    before_it = all_before old steps s well none step Hears before begun l heard
+
+    failed_with : (new : Kernel) (m : L) → new.records ≡ old.records → kernels.has_failed new ≡ true → Fails Hears before begun (seen new m) steps
+    failed_with new m r f = failing Hears before begun (seen new m) steps (step_fails old steps s well none step new r f)
+
+    pub short_tells : (new : Kernel) (error : StoreError) → TurnsIf (Err error) (Accepts (ready_after steps) step) (Keeps new.state (effect step (ready_after steps))) (effect step (ready_after steps)) → new.records ≡ old.records → kernels.has_failed new ≡ true
+        → AnswersStep Hears before begun (Err (failure_of error)) (seen old l) step (seen new l) steps
+    short_tells new stores.OutOfMemory h r f = (well, inl (record { fails = failed_with new l r f; heard = inr before_it }))
+    short_tells new stores.CounterEnd h r f = (well, inr h, record { fails = failed_with new l r f; heard = inr before_it })
+
+    module _ (mid : Kernel) (same : mid.records ≡ old.records) (accepts : Accepts (ready_after steps) step) (k : Keeps mid.state (effect step (ready_after steps))) (news : List Announcement) (noted : news ≡ announced (ready_after steps) step) (was : Option (ℕ × Variable)) (put : was ≡ changed_by (variable_at old.state.variables) step) where
+      abbrev told : List Told
+      told = announced_by (put_back was (variable_at mid.state.variables)) news
+
+      pub taken_tells : (new : Kernel) (m : L) (r : Result Unit CheckerError) → TakesIn Hears told r (seen mid l) (seen new m) → AnswersStep Hears before begun r (seen old l) step (seen new m) steps
+      taken_tells new m (Ok x) t = (
+        well,
+        record {
+          accepts = accepts;
+          stands = record {
+            kernel = step_stands old steps s well none step new accepts (subst (λ z. Keeps z (effect step (ready_after steps))) (sym t.0.state) k) t.1.1;
+            heard = λ e. step_heard old steps s well none step Hears before begun l heard mid k news noted was put new.state.formula.status.conflict m (ap (λ (z : State). z.formula.status.conflict) (sym t.0.state)) t.1.2;
+          };
+          goes_on = t.1.0;
+        },
+      )
+      taken_tells new m (Err e) t = subst (λ z. AnswersStep Hears before begun (Err z) (seen old l) step (seen new m) steps) (sym t.1.3) (go t.1.2 t.1.4)
+        where
+          go : (f : ProcessingError) → HearsUpTo Hears f told l m → AnswersStep Hears before begun (Err (fault_of f)) (seen old l) step (seen new m) steps
+          go faults.OutOfMemory u = (well, inr (inr (accepts, record { fails = failed_with new m (t.1.1 ∙ same) t.1.0; heard = step_broken old steps s well none step Hears before begun l heard mid k news noted was put faults.OutOfMemory m u })))
+          go (faults.ProofProcessorError cause) u = (well, inr (accepts, record { fails = failed_with new m (t.1.1 ∙ same) t.1.0; heard = step_broken old steps s well none step Hears before begun l heard mid k news noted was put (faults.ProofProcessorError cause) m u }))
+
+-- an answer that is no error
+pub turned : (r : Result Unit StoreError) (K : Type 0) (g : Stored) → is_err r ≡ false → Turns r K g → K
+turned (Ok x) K g e t = t
+turned (Err d) K g e t = absurd (true≢false e)
+
+-- what an answer to the settling of a unit conflict says
+module _ {L : Type 0} (Hears : L → Told → Result Unit ProcessingError → L → Type 0) (before : List Told) (begun : L) (old new : Kernel) (l m : L) (steps : List Step) (well : kernels.has_failed old ≡ false) (looks : kernels.looks_of new ≡ kernels.looks_of old) where
+  pub delayed_ok : kernels.Stands new steps → kernels.has_failed new ≡ false → new.state.formula.status.conflict ≡ None → HearsSince Hears before (all_told_after steps) begun m → AnswersDelayed Hears before begun (Ok tt) (seen old l) (seen new m) steps
+  delayed_ok k f n h = (well, looks, record { kernel = k; heard = λ e. subst (λ c. HearsSince Hears before (told_by c steps) begun m) (sym n) h }, f, n)
+
+  pub delayed_err : kernels.Fails new steps → (f : ProcessingError) → HearsSinceUpTo Hears f before (all_told_after steps) begun m → AnswersDelayed Hears before begun (Err (fault_of f)) (seen old l) (seen new m) steps
+  delayed_err k faults.OutOfMemory h = (well, looks, record { fails = failing Hears before begun (seen new m) steps k; heard = h })
+  delayed_err k (faults.ProofProcessorError cause) h = (well, looks, record { fails = failing Hears before begun (seen new m) steps k; heard = h })
+
+-- A UNIT CONFLICT BEFORE A STEP
+
+module _ {L : Type 0} (Hears : L → Told → Result Unit ProcessingError → L → Type 0) (before : List Told) (begun : L) (steps : List Step) (step : Step) where
+  -- it couldn't be settled, or not be told
+  pub delayed_stops : (old new : Seen L) (e : CheckerError) → AnswersDelayed Hears before begun (Err e) old new steps → AnswersStep Hears before begun (Err e) old step new steps
+  delayed_stops old new errors.CounterEnd a = (a.0, inl a.2, a.3)
+  delayed_stops old new errors.OutOfMemory a = (a.0, inr (inl a.2))
+  delayed_stops old new (errors.ProofProcessorError cause) a = (a.0, inl a.2)
+  delayed_stops old new errors.HasFailed a = a
+  delayed_stops old new errors.CheckFailed a = absurd a
+  delayed_stops old new errors.ProofIncomplete a = absurd a
+  delayed_stops old new errors.IoError a = absurd a
+  delayed_stops old new errors.ParseError a = absurd a
+
+  -- and the step behind it
+  pub settled_goes_on : (old mid new : Seen L) (r : Result Unit CheckerError) → has_failed old ≡ false → has_failed mid ≡ false → AnswersStep Hears before begun r mid step new steps → AnswersStep Hears before begun r old step new steps
+  settled_goes_on old mid new (Ok x) h k a = (h, a.1)
+  settled_goes_on old mid new (Err errors.CheckFailed) h k a = (h, a.1, a.2)
+  settled_goes_on old mid new (Err errors.CounterEnd) h k a = (h, a.1, a.2)
+  settled_goes_on old mid new (Err errors.OutOfMemory) h k a = (h, a.1)
+  settled_goes_on old mid new (Err (errors.ProofProcessorError cause)) h k a = (h, a.1)
+  settled_goes_on old mid new (Err errors.HasFailed) h k a = absurd (true≢false (sym a.0 ∙ k))
+  settled_goes_on old mid new (Err errors.ProofIncomplete) h k a = absurd a
+  settled_goes_on old mid new (Err errors.IoError) h k a = absurd a
+  settled_goes_on old mid new (Err errors.ParseError) h k a = absurd a

@@ -1,0 +1,85 @@
+-- What contracts see of the part of a checker that judges steps: those that it accepted, input clauses among them, and whether it has failed. Who listens is left out.
+use Rattle.std.specs.Prelude.{ℕ, ◌≡◌, ◌⊎◌, ◌+◌, ◌≤◌, Bool, true, false, None, List, ◌∷◌, Result, Ok, Err}
+use Rattle.sat_base.specs.steps.Steps.{Step}
+use Rattle.sat_checker.specs.Stored.{Stored}
+use Rattle.sat_checker.specs.Spent.{IsSpent}
+use Rattle.sat_checker.specs.Accepts.{Accepts, AcceptsAll, stored_after, ready_after}
+use Rattle.sat_checker.specs.Looks.{most_looks}
+use Rattle.sat_checker.specs.inner.StateView.{Keeps, SpentBy}
+use Rattle.sat_checker.specs.declared.kernel.Kernel.{Kernel}
+use Rattle.sat_checker.specs.declared.state.State.{State}
+use Rattle.sat_checker.specs.declared.status.Records.{Records}
+use Rattle.sat_checker.specs.declared.error.CheckerError.{CheckerError}
+use Rattle.sat_checker.specs.declared.error.CheckerError.TheVariants as errors
+
+abbrev pub has_failed : Kernel → Bool
+has_failed k = k.failed
+
+abbrev pub looks_of : Kernel → ℕ
+looks_of k = k.looks
+
+-- no unit conflict waits for the id of its empty clause
+abbrev pub IsSettled : Kernel → Type 0
+IsSettled k = k.state.formula.status.conflict ≡ None
+
+-- What these steps leave is kept. A unit conflict that they left pending may be settled by now.
+pub record KeepsAfter (state : State) (steps : List Step) : Type 0 where
+  pub formula : Stored
+  pub keeps : Keeps state formula
+  pub left : (formula ≡ stored_after steps) ⊎ (formula ≡ ready_after steps)
+
+abbrev pub records_of : Stored → Records
+records_of f = record { unsat = f.unsat; ended = f.ended; var_deleted = f.var_deleted }
+
+-- It has accepted these steps, the newest first, and keeps what they leave unless it has failed.
+pub record Stands (kernel : Kernel) (steps : List Step) : Type 0 where
+  pub accepted : AcceptsAll steps
+  pub records : kernel.records ≡ records_of (stored_after steps)
+  pub kept : kernel.failed ≡ false → KeepsAfter kernel.state steps
+
+-- it stands where it stood, and answers nothing but HasFailed from then on
+pub record Fails (new : Kernel) (steps : List Step) : Type 0 where
+  pub stands : Stands new steps
+  pub failed : has_failed new ≡ true
+
+-- the step was accepted, as the definition has it
+pub record Takes (new : Kernel) (step : Step) (steps : List Step) : Type 0 where
+  pub accepts : Accepts (ready_after steps) step
+  pub stands : Stands new (step ∷ steps)
+  pub goes_on : has_failed new ≡ false
+
+-- What an answer to a step means, where these steps were accepted before. A refused step is one that the definition refuses; the last id or count is told only where it was given.
+abbrev pub AnswersStep : Result Unit CheckerError → Kernel → Step → Kernel → List Step → Type 0
+AnswersStep (Ok x) old step new steps = (has_failed old ≡ false) × Takes new step steps
+AnswersStep (Err errors.CheckFailed) old step new steps = (has_failed old ≡ false) × (Accepts (ready_after steps) step → ⊥) × Fails new steps
+AnswersStep (Err errors.CounterEnd) old step new steps = (has_failed old ≡ false) × SpentBy step (stored_after steps) × Fails new steps
+AnswersStep (Err errors.OutOfMemory) old step new steps = (has_failed old ≡ false) × Fails new steps
+AnswersStep (Err errors.HasFailed) old step new steps = (has_failed old ≡ true) × Fails new steps
+AnswersStep (Err errors.ProofIncomplete) old step new steps = ⊥
+AnswersStep (Err errors.IoError) old step new steps = ⊥
+AnswersStep (Err errors.ParseError) old step new steps = ⊥
+-- one of those who listen answered a fault
+AnswersStep (Err (errors.ProofProcessorError cause)) old step new steps = (has_failed old ≡ false) × Fails new steps
+
+abbrev pub ChecksStep : Result Unit CheckerError → Kernel → Step → Kernel → Type 0
+ChecksStep result old step new = (steps : List Step) → Stands old steps → AnswersStep result old step new steps
+
+-- the step takes no more looks than its bound
+abbrev pub LooksAtMost : Kernel → Step → Kernel → Type 0
+LooksAtMost old step new = (steps : List Step) → Stands old steps → looks_of new ≤ looks_of old + most_looks (ready_after steps) step
+
+-- What an answer means where a pending unit conflict is settled, behind these steps. The empty clause has no id only where the last one was given.
+abbrev pub AnswersDelayed : Result Unit CheckerError → Kernel → Kernel → List Step → Type 0
+AnswersDelayed (Ok x) old new steps = (has_failed old ≡ false) × (looks_of new ≡ looks_of old) × Stands new steps × (has_failed new ≡ false) × IsSettled new
+AnswersDelayed (Err errors.CounterEnd) old new steps = (has_failed old ≡ false) × (looks_of new ≡ looks_of old) × IsSpent (ready_after steps) × Fails new steps
+AnswersDelayed (Err errors.HasFailed) old new steps = (has_failed old ≡ true) × Fails new steps
+AnswersDelayed (Err errors.CheckFailed) old new steps = ⊥
+-- as it is told
+AnswersDelayed (Err errors.OutOfMemory) old new steps = (has_failed old ≡ false) × (looks_of new ≡ looks_of old) × Fails new steps
+AnswersDelayed (Err (errors.ProofProcessorError cause)) old new steps = (has_failed old ≡ false) × (looks_of new ≡ looks_of old) × Fails new steps
+AnswersDelayed (Err errors.ProofIncomplete) old new steps = ⊥
+AnswersDelayed (Err errors.IoError) old new steps = ⊥
+AnswersDelayed (Err errors.ParseError) old new steps = ⊥
+
+abbrev pub ChecksDelayed : Result Unit CheckerError → Kernel → Kernel → Type 0
+ChecksDelayed result old new = (steps : List Step) → Stands old steps → AnswersDelayed result old new steps

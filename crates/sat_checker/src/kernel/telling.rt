@@ -1,0 +1,200 @@
+//! Steps whose announcements are told.
+ghost use Rattle.std.specs.Prelude.{ℕ, ◌≡◌, false, true, None, Option, Ok, Err, OnOk, MatchResult, map, take};
+ghost use Rattle.sat_base.specs.steps.StepViews.{step_of};
+ghost use Rattle.sat_checker.specs.KernelView as kernels;
+ghost use Rattle.sat_checker.specs.KernelView.{has_failed};
+ghost use Rattle.sat_checker.specs.CheckerView.{seen, ChecksStep, ChecksDelayed};
+ghost use Rattle.sat_checker.specs.announcements.Announcements.{Told};
+ghost use Rattle.sat_checker.specs.inner.TellingSteps.{announced_by, changed_by, put_back, was_of, fault_of, TakesIn};
+ghost use Rattle.sat_checker.specs.inner.VariablesView.{variable_at};
+ghost use Rattle.sat_checker.specs.telling.AnnouncementView.{variables_of};
+ghost use Rattle.sat_checker.specs.telling.Hearing.{hearers, HearsAll, HearsFirst, HearsUpTo};
+ghost use Rattle.sat_checker.specs.telling.ProcessingView.{HearsEach};
+
+use crate::announcement::{CheckedProofStep, CheckerData, Was};
+use crate::error::CheckerError;
+use crate::kernel::Kernel;
+use crate::news::News;
+use crate::processing::{Processing, ProcessingError, ProofProcessor};
+use crate::transcript::ProofTranscriptProcessor;
+use crate::variables::Variables;
+use sat_base::ProofStep;
+
+/// What a checker answers where not everybody was told.
+fn fault(error: ProcessingError) -> CheckerError
+    ensures { result ≡ fault_of error }
+{
+    match error {
+        ProcessingError::OutOfMemory => CheckerError::OutOfMemory,
+        ProcessingError::ProofProcessorError { cause } => {
+            CheckerError::ProofProcessorError { cause }
+        }
+    }
+}
+
+/// The variable whose name or mode a step may change, with what is kept of it.
+fn changed(variables: &Variables, step: &ProofStep<'_>) -> Option<Was>
+    ensures { was_of result ≡ changed_by (variable_at variables.now) (step_of step.now) }
+{
+    match *step {
+        ProofStep::UserVarName { global: var, .. }
+        | ProofStep::DeleteVar { var }
+        | ProofStep::ChangeSamplingMode { var, .. } => {
+            let data = variables.data(var);
+            Some(Was { var, data })
+        }
+        ProofStep::SolverVarName { .. }
+        | ProofStep::AddClause { .. }
+        | ProofStep::AtClause { .. }
+        | ProofStep::UnitClauses { .. }
+        | ProofStep::DeleteClause { .. }
+        | ProofStep::ChangeHashBits { .. }
+        | ProofStep::Model { .. }
+        | ProofStep::Assumptions { .. }
+        | ProofStep::FailedAssumptions { .. }
+        | ProofStep::End => None,
+    }
+}
+
+/// Tells announcements in order, up to the first fault.
+fn tell_news<O: ProofProcessor, P: ProofProcessor, T: ProofTranscriptProcessor>(
+    news: &News,
+    names: CheckerData<'_>,
+    own: &mut O,
+    others: &mut Processing<P, T>,
+) -> Result<(), ProcessingError>
+    ensures { MatchResult result
+        (λ _. HearsAll (HearsFirst O.takes (HearsEach P.takes T.reads))
+        (announced_by (variables_of names.entry) news.now) (hearers own.old others.old) (hearers own.new others.new))
+        (λ e. HearsUpTo (HearsFirst O.takes (HearsEach P.takes T.reads))
+        e (announced_by (variables_of names.entry) news.now) (hearers own.old others.old) (hearers own.new others.new)) }
+{
+    for place in 0..news.len() {
+        match others.step_with(own, &news.get(place), names) {
+            Ok(()) => {}
+            Err(error) => return Err(error),
+        }
+    }
+    Ok(())
+}
+
+impl Kernel {
+    /// Checks the next step, takes it in if it is accepted, and tells what it announces: first to a processor of the caller's own, where
+    /// it has one.
+    pub fn check_step<O: ProofProcessor, P: ProofProcessor, T: ProofTranscriptProcessor>(
+        &mut self,
+        step: &ProofStep<'_>,
+        own: &mut O,
+        has_own: bool,
+        others: &mut Processing<P, T>,
+    ) -> Result<(), CheckerError>
+        // Who is no processor of the caller's own takes everything and stays as it was.
+        requires { has_own ≡ false → (v : _) (t : Told) → O.takes v t (Ok tt) v }
+        ensures judges { kernels.ChecksStep result self.old (step_of step.now) self.new }
+        ensures goes_on { OnOk result (has_failed self.new ≡ false) }
+        ensures tells { ChecksStep (HearsFirst O.takes (HearsEach P.takes T.reads))
+            result (seen self.old (hearers own.old others.old)) (step_of step.now) (seen self.new (hearers own.new others.new)) }
+        ensures looks { kernels.LooksAtMost self.old (step_of step.now) self.new }
+    {
+        if self.failed {
+            return Err(CheckerError::HasFailed);
+        }
+        if !has_own && others.is_quiet() {
+            return self.judge(step);
+        }
+        self.settle(own, others)?;
+        self.step(step, own, others)
+    }
+
+    /// The empty clause of a pending unit conflict takes the next id, and is told.
+    pub fn settle<O: ProofProcessor, P: ProofProcessor, T: ProofTranscriptProcessor>(
+        &mut self,
+        own: &mut O,
+        others: &mut Processing<P, T>,
+    ) -> Result<(), CheckerError>
+        requires { has_failed self.old ≡ false }
+        ensures judges { kernels.ChecksDelayed result self.old self.new }
+        ensures goes_on { OnOk result ((has_failed self.new ≡ false) × (self.new.state.formula.status.conflict ≡ None)) }
+        ensures tells { ChecksDelayed (HearsFirst O.takes (HearsEach P.takes T.reads))
+            result (seen self.old (hearers own.old others.old)) (seen self.new (hearers own.new others.new)) }
+    {
+        let Some((stored, contradicting)) = self.state.formula.status.conflict else {
+            return Ok(());
+        };
+        let id = self.state.formula.status.next_id;
+        if self.state.formula.settle().is_err() {
+            self.failed = true;
+            return Err(CheckerError::CounterEnd);
+        }
+        let step = CheckedProofStep::AtClause {
+            id,
+            redundant: false,
+            clause: &[],
+            propagations: &[stored, contradicting],
+        };
+        match others.step_with(own, &step, CheckerData::new(&self.state.variables)) {
+            Ok(()) => Ok(()),
+            Err(error) => {
+                self.failed = true;
+                Err(fault(error))
+            }
+        }
+    }
+
+    /// Checks the next step, where no unit conflict is pending.
+    fn step<O: ProofProcessor, P: ProofProcessor, T: ProofTranscriptProcessor>(
+        &mut self,
+        step: &ProofStep<'_>,
+        own: &mut O,
+        others: &mut Processing<P, T>,
+    ) -> Result<(), CheckerError>
+        requires well { has_failed self.old ≡ false }
+        requires settled { self.old.state.formula.status.conflict ≡ None }
+        ensures judges { kernels.ChecksStep result self.old (step_of step.now) self.new }
+        ensures goes_on { OnOk result (has_failed self.new ≡ false) }
+        ensures tells { ChecksStep (HearsFirst O.takes (HearsEach P.takes T.reads))
+            result (seen self.old (hearers own.old others.old)) (step_of step.now) (seen self.new (hearers own.new others.new)) }
+        ensures looks { kernels.LooksAtMost self.old (step_of step.now) self.new }
+    {
+        let was = changed(&self.state.variables, step);
+        match self
+            .state
+            .step_noted(step, &mut self.notes, &mut self.looks)
+        {
+            Ok(true) => self.take_in(&was, own, others),
+            Ok(false) => {
+                self.failed = true;
+                Err(CheckerError::CheckFailed)
+            }
+            Err(error) => {
+                self.failed = true;
+                Err(CheckerError::from(error))
+            }
+        }
+    }
+
+    /// Tells what an accepted step has noted, and records what is to be told later.
+    fn take_in<O: ProofProcessor, P: ProofProcessor, T: ProofTranscriptProcessor>(
+        &mut self,
+        was: &Option<Was>,
+        own: &mut O,
+        others: &mut Processing<P, T>,
+    ) -> Result<(), CheckerError>
+        requires { has_failed self.old ≡ false }
+        ensures { TakesIn (HearsFirst O.takes (HearsEach P.takes T.reads))
+            (announced_by (put_back (was_of was.now) (variable_at self.old.state.variables)) self.old.notes.news)
+            result (seen self.old (hearers own.old others.old)) (seen self.new (hearers own.new others.new)) }
+    {
+        let names = CheckerData::before(&self.state.variables, was);
+        match tell_news(&self.notes.news, names, own, others) {
+            Ok(()) => {
+                self.records = self.state.formula.status.records();
+                Ok(())
+            }
+            Err(error) => {
+                self.failed = true;
+                Err(fault(error))
+            }
+        }
+    }
+}

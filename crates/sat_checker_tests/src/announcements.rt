@@ -1,0 +1,989 @@
+//! What is announced of accepted steps, and what transcripts say of it.
+
+use crate::hearing::{
+    GONE, Heard, IRREDUNDANT, KEPT, KNOWN, Listener, NEW, REDUNDANT, SAMPLE, Said, Told, WITNESS,
+    add_listener, add_reader, are_done,
+};
+use crate::kinds::{Kind, failure};
+use crate::steps::read_by;
+use anyhow::anyhow;
+use sat_base::{Counted, Lit, Var};
+use sat_checker::{CheckedProofStep, CheckerData, ProofProcessor, SelfChecker};
+use std::alloc::Global;
+use std::test::Fail;
+
+/// Steps in bytes, what is announced of them, and its transcript.
+type Row = (&'static [u8], &'static [Told], &'static [Said]);
+
+fn add_both(checker: &mut Heard, row: &Row) -> bool {
+    add_listener(checker, row.1) && add_reader(checker, row.2)
+}
+
+/// Whether a processor and a transcript that were added are told this, the steps being fed one by one.
+fn is_told_to_added(alloc: Global, row: &Row) -> bool {
+    let mut checker = Heard::telling(alloc);
+    let taken = add_both(&mut checker, row)
+        && read_by(alloc, &mut checker, &mut Counted::new(row.0)).is_ok();
+    taken && are_done(checker.into_processors(), 1)
+}
+
+/// Whether a processor of the caller's own is told this, the steps being a proof's, with its end or cut off before it.
+fn is_told_to_own(alloc: Global, row: &Row) -> bool {
+    let mut checker = Heard::telling(alloc);
+    let mut own = Listener::new(row.1);
+    let error = failure(&checker.check_proof_with(&mut Counted::new(row.0), &mut own));
+    let read = error.is_none() && checker.ended() || error == Some(Kind::ProofIncomplete);
+    read && own.is_done()
+}
+
+fn is_announced(alloc: Global, row: &Row) -> bool {
+    is_told_to_added(alloc, row) && is_told_to_own(alloc, row)
+}
+
+/// The four clauses over two variables, two clauses that follow from them, and what is told of that.
+pub(crate) const REFUTED: &[Told] = &[
+    Told::AddClause(0, &[1, 2]),
+    Told::AddClause(1, &[1, -2]),
+    Told::AddClause(2, &[-1, 2]),
+    Told::AddClause(3, &[-1, -2]),
+    Told::AtClause(4, IRREDUNDANT, &[1], &[0, 1]),
+    Told::AtClause(5, IRREDUNDANT, &[], &[4, 2, 3]),
+];
+
+pub(crate) const REFUTED_SAID: &[Said] = &[
+    Said::AddClause(&[1, 2]),
+    Said::AddClause(&[1, -2]),
+    Said::AddClause(&[-1, 2]),
+    Said::AddClause(&[-1, -2]),
+    Said::Unsat,
+];
+
+/// The four clauses, and [1] and [] by the whole hashes of two of them each.
+pub(crate) const REFUTATION: &[u8] = &[
+    5, 2, 0, 2, 5, 2, 0, 3, 5, 2, 1, 2, 5, 2, 1, 3, //
+    6, 0, 1, 0, 2, 0xaa, 0x90, 0xd4, 0x94, 0xd0, 0x92, 0xc5, 0xc8, 0x44, 0xc1, 0x98, 0x8e, 0x93,
+    0xc8, 0xeb, 0xa7, 0xf5, 0xe6, 0x01, //
+    6, 0, 0, 2, 0x95, 0x98, 0xae, 0x9a, 0xe8, 0xcb, 0xa7, 0xe4, 0xe6, 0x01, 0xfe, 0x90, 0xf4, 0x9d,
+    0xf0, 0xb2, 0xc5, 0xd9, 0x44,
+];
+
+/// Derived clauses over named buckets.
+const PROPAGATIONS: [Row; 4] = [
+    (REFUTATION, REFUTED, REFUTED_SAID),
+    // at width 8
+    (
+        &[
+            5, 2, 0, 2, 5, 2, 0, 3, 5, 2, 1, 2, 5, 2, 1, 3, 9, 8, 6, 0, 1, 0, 2, 0x44, 0xe6, 1, 6,
+            0, 0, 2, 0xe6, 1, 0x44,
+        ],
+        REFUTED,
+        REFUTED_SAID,
+    ),
+    // at width 0 one bucket has all clauses
+    (
+        &[
+            5, 2, 0, 2, 5, 2, 0, 3, 5, 2, 1, 2, 5, 2, 1, 3, 9, 0, 6, 0, 1, 0, 1, 0, 6, 0, 0, 1, 0,
+        ],
+        REFUTED,
+        REFUTED_SAID,
+    ),
+    // in the order passed: the first clause is falsified as the bucket is passed again
+    (
+        &[
+            5, 3, 3, 4, 6, 5, 2, 0, 2, 5, 2, 3, 7, 9, 0, 6, 0, 2, 0, 4, 2, 0, 0,
+        ],
+        &[
+            Told::AddClause(0, &[-2, 3, 4]),
+            Told::AddClause(1, &[1, 2]),
+            Told::AddClause(2, &[-2, -4]),
+            Told::AtClause(3, IRREDUNDANT, &[1, 3], &[1, 2, 0]),
+        ],
+        &[
+            Said::AddClause(&[-2, 3, 4]),
+            Said::AddClause(&[1, 2]),
+            Said::AddClause(&[-2, -4]),
+        ],
+    ),
+];
+
+#[test]
+fn propagations_are_announced(rt: HostRuntime) -> Result<(), Fail> {
+    for row in &PROPAGATIONS {
+        assert!(rt; is_announced(rt.alloc(), row), "{:?}", row.0);
+    }
+    Ok(())
+}
+
+/// Names and modes.
+const NAMES: [Row; 13] = [
+    // of an unknown variable, which stays so without a solver index
+    (&[2, 0, 5], &[Told::UserVar(1, 5, SAMPLE, NEW)], &[]),
+    (
+        &[1, 0, 0, 2, 0, 5],
+        &[Told::UserVar(1, 5, SAMPLE, NEW)],
+        &[],
+    ),
+    // of a known one: of a clause, a witness, and by its solver index
+    (
+        &[5, 1, 0, 2, 0, 5],
+        &[Told::AddClause(0, &[1]), Told::UserVar(1, 5, SAMPLE, KNOWN)],
+        &[Said::AddClause(&[1]), Said::ObserveInternalVar(5)],
+    ),
+    (
+        &[5, 1, 0, 4, 0, 0, 2, 0, 5],
+        &[
+            Told::AddClause(0, &[1]),
+            Told::UserVar(1, 5, WITNESS, KNOWN),
+        ],
+        &[Said::AddClause(&[1]), Said::ObserveInternalVar(5)],
+    ),
+    (
+        &[1, 0, 1, 2, 0, 5],
+        &[Told::UserVar(1, 5, SAMPLE, KNOWN)],
+        &[Said::ObserveInternalVar(5)],
+    ),
+    // removed, also from a witness
+    (
+        &[2, 0, 5, 2, 0, 0],
+        &[Told::UserVar(1, 5, SAMPLE, NEW), Told::NoName(1)],
+        &[Said::HideVar(5)],
+    ),
+    (
+        &[2, 0, 5, 4, 0, 0, 2, 0, 0],
+        &[
+            Told::UserVar(1, 5, SAMPLE, NEW),
+            Told::UserVar(1, 5, WITNESS, KNOWN),
+            Told::NoName(1),
+        ],
+        &[Said::WitnessVar(5), Said::HideVar(5)],
+    ),
+    // modes that change
+    (
+        &[2, 0, 5, 4, 0, 0, 4, 0, 1],
+        &[
+            Told::UserVar(1, 5, SAMPLE, NEW),
+            Told::UserVar(1, 5, WITNESS, KNOWN),
+            Told::UserVar(1, 5, SAMPLE, KNOWN),
+        ],
+        &[Said::WitnessVar(5), Said::SampleVar(5)],
+    ),
+    // modes that stay
+    (
+        &[2, 0, 5, 4, 0, 1, 4, 0, 0, 4, 0, 0],
+        &[
+            Told::UserVar(1, 5, SAMPLE, NEW),
+            Told::UserVar(1, 5, WITNESS, KNOWN),
+        ],
+        &[Said::WitnessVar(5)],
+    ),
+    // modes of a variable without a name: one that never had any, and a hidden one
+    (
+        &[5, 1, 0, 4, 0, 0, 4, 0, 1],
+        &[Told::AddClause(0, &[1])],
+        &[Said::AddClause(&[1])],
+    ),
+    (
+        &[2, 0, 5, 2, 0, 0, 4, 0, 1, 4, 0, 0],
+        &[Told::UserVar(1, 5, SAMPLE, NEW), Told::NoName(1)],
+        &[Said::HideVar(5)],
+    ),
+    // another name for one that is hidden no longer, and one for a deleted variable
+    (
+        &[2, 0, 5, 2, 0, 0, 4, 0, 1, 2, 0, 6],
+        &[
+            Told::UserVar(1, 5, SAMPLE, NEW),
+            Told::NoName(1),
+            Told::UserVar(1, 6, SAMPLE, KNOWN),
+        ],
+        &[Said::HideVar(5), Said::ObserveInternalVar(6)],
+    ),
+    (
+        &[2, 0, 5, 2, 0, 0, 3, 0, 2, 0, 5],
+        &[
+            Told::UserVar(1, 5, SAMPLE, NEW),
+            Told::NoName(1),
+            Told::UserVar(1, 5, SAMPLE, NEW),
+        ],
+        &[Said::HideVar(5)],
+    ),
+];
+
+#[test]
+fn names_are_announced(rt: HostRuntime) -> Result<(), Fail> {
+    for row in &NAMES {
+        assert!(rt; is_announced(rt.alloc(), row), "{:?}", row.0);
+    }
+    Ok(())
+}
+
+/// Clauses of the formula.
+const INPUTS: [Row; 11] = [
+    // new, as a sorted set
+    (
+        &[5, 3, 2, 0, 2],
+        &[Told::AddClause(0, &[1, 2])],
+        &[Said::AddClause(&[1, 2])],
+    ),
+    // stored before: a long one, a unit
+    (
+        &[5, 2, 0, 2, 5, 3, 2, 0, 0],
+        &[
+            Told::AddClause(0, &[1, 2]),
+            Told::DuplicatedClause(1, 0, &[1, 2]),
+        ],
+        &[Said::AddClause(&[1, 2]), Said::AddClause(&[1, 2])],
+    ),
+    (
+        &[5, 1, 0, 5, 2, 0, 0],
+        &[Told::AddClause(0, &[1]), Told::DuplicatedClause(1, 0, &[1])],
+        &[Said::AddClause(&[1]), Said::AddClause(&[1])],
+    ),
+    // as a redundant clause, which is irredundant from there on
+    (
+        &[
+            9, 0, 5, 2, 0, 2, 6, 1, 3, 0, 2, 4, 1, 0, 5, 3, 0, 2, 4, 6, 0, 3, 0, 2, 4, 1, 0,
+        ],
+        &[
+            Told::AddClause(0, &[1, 2]),
+            Told::AtClause(1, REDUNDANT, &[1, 2, 3], &[0]),
+            Told::DuplicatedClause(2, 1, &[1, 2, 3]),
+        ],
+        &[Said::AddClause(&[1, 2]), Said::AddClause(&[1, 2, 3])],
+    ),
+    // as a derived unit
+    (
+        &[9, 0, 5, 2, 0, 2, 5, 2, 0, 3, 6, 0, 1, 0, 1, 0, 5, 1, 0],
+        &[
+            Told::AddClause(0, &[1, 2]),
+            Told::AddClause(1, &[1, -2]),
+            Told::AtClause(2, IRREDUNDANT, &[1], &[0, 1]),
+            Told::DuplicatedClause(3, 2, &[1]),
+        ],
+        &[
+            Said::AddClause(&[1, 2]),
+            Said::AddClause(&[1, -2]),
+            Said::AddClause(&[1]),
+        ],
+    ),
+    // one that is gone is new again
+    (
+        &[5, 2, 0, 2, 5, 1, 0, 8, 2, 0, 2, 2, 5, 2, 0, 2],
+        &[
+            Told::AddClause(0, &[1, 2]),
+            Told::AddClause(1, &[1]),
+            Told::DeleteAtClause(0, GONE, &[1, 2], &[1]),
+            Told::AddClause(2, &[1, 2]),
+        ],
+        &[
+            Said::AddClause(&[1, 2]),
+            Said::AddClause(&[1]),
+            Said::AddClause(&[1, 2]),
+        ],
+    ),
+    // both signs of a variable, which takes an id and isn't stored
+    (
+        &[5, 3, 2, 1, 0, 5, 3, 0, 1, 2, 5, 1, 2],
+        &[
+            Told::TautologicalClause(0, &[1, -1, 2]),
+            Told::TautologicalClause(1, &[1, -1, 2]),
+            Told::AddClause(2, &[2]),
+        ],
+        &[
+            Said::AddClause(&[1, -1, 2]),
+            Said::AddClause(&[1, -1, 2]),
+            Said::AddClause(&[2]),
+        ],
+    ),
+    // an empty one, behind which no clause has an effect
+    (
+        &[5, 0, 5, 0, 5, 1, 0, 5, 2, 0, 1],
+        &[Told::AddClause(0, &[])],
+        &[Said::AddClause(&[])],
+    ),
+    // in the user's names: a variable that has one, and one that is its own
+    (
+        &[2, 0, 5, 5, 2, 0, 3],
+        &[
+            Told::UserVar(1, 5, SAMPLE, NEW),
+            Told::AddClause(0, &[1, -2]),
+        ],
+        &[Said::AddClause(&[5, -2])],
+    ),
+    (
+        &[2, 0, 5, 5, 1, 1, 5, 1, 1, 5, 2, 1, 0],
+        &[
+            Told::UserVar(1, 5, SAMPLE, NEW),
+            Told::AddClause(0, &[-1]),
+            Told::DuplicatedClause(1, 0, &[-1]),
+            Told::TautologicalClause(2, &[1, -1]),
+        ],
+        &[
+            Said::AddClause(&[-5]),
+            Said::AddClause(&[-5]),
+            Said::AddClause(&[5, -5]),
+        ],
+    ),
+    // steps of which nothing is announced
+    (&[9, 8, 1, 0, 1, 1, 0, 0, 9, 64, 13], &[], &[]),
+];
+
+#[test]
+fn inputs_are_announced(rt: HostRuntime) -> Result<(), Fail> {
+    for row in &INPUTS {
+        assert!(rt; is_announced(rt.alloc(), row), "{:?}", row.0);
+    }
+    Ok(())
+}
+
+/// Clauses that follow from others.
+const DERIVED: [Row; 11] = [
+    // a redundant one, as a sorted set
+    (
+        &[9, 0, 5, 2, 0, 2, 6, 1, 4, 4, 2, 0, 0, 1, 0],
+        &[
+            Told::AddClause(0, &[1, 2]),
+            Told::AtClause(1, REDUNDANT, &[1, 2, 3], &[0]),
+        ],
+        &[Said::AddClause(&[1, 2])],
+    ),
+    // stored already, as that or as irredundant: no announcement and no id
+    (
+        &[
+            9, 0, 5, 2, 0, 2, 6, 1, 3, 0, 2, 4, 1, 0, 6, 1, 3, 0, 2, 4, 1, 0, 6, 1, 2, 0, 2, 1, 0,
+            6, 0, 2, 0, 2, 1, 0, 5, 1, 6,
+        ],
+        &[
+            Told::AddClause(0, &[1, 2]),
+            Told::AtClause(1, REDUNDANT, &[1, 2, 3], &[0]),
+            Told::AddClause(2, &[4]),
+        ],
+        &[Said::AddClause(&[1, 2]), Said::AddClause(&[4])],
+    ),
+    // irredundant for the first time, and once more
+    (
+        &[
+            9, 0, 5, 2, 0, 2, 6, 1, 3, 0, 2, 4, 1, 0, 6, 0, 3, 0, 2, 4, 1, 0, 6, 0, 3, 0, 2, 4, 1,
+            0,
+        ],
+        &[
+            Told::AddClause(0, &[1, 2]),
+            Told::AtClause(1, REDUNDANT, &[1, 2, 3], &[0]),
+            Told::MakeIrredundant(1, &[1, 2, 3]),
+        ],
+        &[Said::AddClause(&[1, 2])],
+    ),
+    // both signs of a variable; a unit that is stored already; one that is true in the clause
+    (&[6, 0, 2, 0, 1, 0], &[], &[]),
+    (
+        &[5, 1, 0, 6, 0, 1, 0, 0, 7, 1, 0, 0],
+        &[Told::AddClause(0, &[1])],
+        &[Said::AddClause(&[1])],
+    ),
+    (
+        &[5, 1, 0, 6, 0, 2, 0, 2, 0],
+        &[
+            Told::AddClause(0, &[1]),
+            Told::AtClause(1, IRREDUNDANT, &[1, 2], &[0]),
+        ],
+        &[Said::AddClause(&[1])],
+    ),
+    // units, of which the second rests on the first
+    (
+        &[9, 0, 5, 1, 0, 5, 2, 1, 2, 5, 2, 3, 5, 7, 2, 2, 0, 5, 0],
+        &[
+            Told::AddClause(0, &[1]),
+            Told::AddClause(1, &[-1, 2]),
+            Told::AddClause(2, &[-2, -3]),
+            Told::AtClause(3, IRREDUNDANT, &[2], &[0, 1]),
+            Told::AtClause(4, IRREDUNDANT, &[-3], &[3, 2]),
+        ],
+        &[
+            Said::AddClause(&[1]),
+            Said::AddClause(&[-1, 2]),
+            Said::AddClause(&[-2, -3]),
+        ],
+    ),
+    // a clause that is passed, and isn't needed
+    (
+        &[9, 0, 5, 2, 0, 4, 5, 2, 0, 2, 5, 2, 0, 3, 6, 0, 1, 0, 1, 0],
+        &[
+            Told::AddClause(0, &[1, 3]),
+            Told::AddClause(1, &[1, 2]),
+            Told::AddClause(2, &[1, -2]),
+            Told::AtClause(3, IRREDUNDANT, &[1], &[1, 2]),
+        ],
+        &[
+            Said::AddClause(&[1, 3]),
+            Said::AddClause(&[1, 2]),
+            Said::AddClause(&[1, -2]),
+        ],
+    ),
+    // units come first, by their ids, where the falsified clause needs the later one
+    (
+        &[
+            9, 0, 5, 1, 0, 5, 1, 2, 5, 2, 1, 4, 5, 2, 3, 5, 6, 0, 1, 6, 1, 0,
+        ],
+        &[
+            Told::AddClause(0, &[1]),
+            Told::AddClause(1, &[2]),
+            Told::AddClause(2, &[-1, 3]),
+            Told::AddClause(3, &[-2, -3]),
+            Told::AtClause(4, IRREDUNDANT, &[4], &[0, 1, 2, 3]),
+        ],
+        &[
+            Said::AddClause(&[1]),
+            Said::AddClause(&[2]),
+            Said::AddClause(&[-1, 3]),
+            Said::AddClause(&[-2, -3]),
+        ],
+    ),
+    // a unit that the negated clause holds itself isn't needed; the derived one contradicts it
+    (
+        &[
+            9, 0, 5, 1, 1, 5, 2, 0, 2, 5, 2, 0, 3, 6, 0, 1, 0, 1, 0, 11, 0,
+        ],
+        &[
+            Told::AddClause(0, &[-1]),
+            Told::AddClause(1, &[1, 2]),
+            Told::AddClause(2, &[1, -2]),
+            Told::AtClause(3, IRREDUNDANT, &[1], &[1, 2]),
+            Told::AtClause(4, IRREDUNDANT, &[], &[0, 3]),
+            Told::Assumptions(&[]),
+        ],
+        &[
+            Said::AddClause(&[-1]),
+            Said::AddClause(&[1, 2]),
+            Said::AddClause(&[1, -2]),
+            Said::Unsat,
+            Said::Assume(&[]),
+        ],
+    ),
+    // each empty one is new
+    (
+        &[
+            9, 0, 5, 2, 0, 2, 5, 1, 1, 5, 1, 3, 6, 0, 0, 1, 0, 6, 1, 0, 1, 0,
+        ],
+        &[
+            Told::AddClause(0, &[1, 2]),
+            Told::AddClause(1, &[-1]),
+            Told::AddClause(2, &[-2]),
+            Told::AtClause(3, IRREDUNDANT, &[], &[1, 2, 0]),
+            Told::AtClause(4, REDUNDANT, &[], &[1, 2, 0]),
+        ],
+        &[
+            Said::AddClause(&[1, 2]),
+            Said::AddClause(&[-1]),
+            Said::AddClause(&[-2]),
+            Said::Unsat,
+            Said::Unsat,
+        ],
+    ),
+];
+
+#[test]
+fn derived_clauses_are_announced(rt: HostRuntime) -> Result<(), Fail> {
+    for row in &DERIVED {
+        assert!(rt; is_announced(rt.alloc(), row), "{:?}", row.0);
+    }
+    Ok(())
+}
+
+/// Clauses that are deleted.
+const DELETED: [Row; 12] = [
+    // redundant: gone; there once more; irredundant as well
+    (
+        &[9, 0, 5, 2, 0, 2, 6, 1, 3, 0, 2, 4, 1, 0, 8, 3, 4, 2, 0, 0],
+        &[
+            Told::AddClause(0, &[1, 2]),
+            Told::AtClause(1, REDUNDANT, &[1, 2, 3], &[0]),
+            Told::DeleteClause(1, &[1, 2, 3]),
+        ],
+        &[Said::AddClause(&[1, 2])],
+    ),
+    (
+        &[
+            9, 0, 5, 2, 0, 2, 6, 1, 3, 0, 2, 4, 1, 0, 6, 1, 3, 0, 2, 4, 1, 0, 8, 3, 0, 2, 4, 0, 11,
+            0, 8, 3, 0, 2, 4, 0,
+        ],
+        &[
+            Told::AddClause(0, &[1, 2]),
+            Told::AtClause(1, REDUNDANT, &[1, 2, 3], &[0]),
+            Told::Assumptions(&[]),
+            Told::DeleteClause(1, &[1, 2, 3]),
+        ],
+        &[Said::AddClause(&[1, 2]), Said::Assume(&[])],
+    ),
+    (
+        &[9, 0, 5, 2, 0, 2, 6, 1, 2, 0, 2, 1, 0, 8, 2, 0, 2, 0],
+        &[Told::AddClause(0, &[1, 2])],
+        &[Said::AddClause(&[1, 2])],
+    ),
+    // satisfied: gone; there once more; kept as redundant, and gone then
+    (
+        &[5, 2, 0, 2, 5, 1, 0, 8, 2, 2, 0, 2],
+        &[
+            Told::AddClause(0, &[1, 2]),
+            Told::AddClause(1, &[1]),
+            Told::DeleteAtClause(0, GONE, &[1, 2], &[1]),
+        ],
+        &[Said::AddClause(&[1, 2]), Said::AddClause(&[1])],
+    ),
+    (
+        &[
+            5, 2, 0, 2, 5, 2, 0, 2, 5, 1, 0, 8, 2, 0, 2, 2, 11, 0, 8, 2, 0, 2, 2,
+        ],
+        &[
+            Told::AddClause(0, &[1, 2]),
+            Told::DuplicatedClause(1, 0, &[1, 2]),
+            Told::AddClause(2, &[1]),
+            Told::Assumptions(&[]),
+            Told::DeleteAtClause(0, GONE, &[1, 2], &[2]),
+        ],
+        &[
+            Said::AddClause(&[1, 2]),
+            Said::AddClause(&[1, 2]),
+            Said::AddClause(&[1]),
+            Said::Assume(&[]),
+        ],
+    ),
+    (
+        &[
+            9, 0, 5, 2, 0, 2, 6, 1, 2, 0, 2, 1, 0, 5, 1, 0, 8, 2, 0, 2, 2, 8, 2, 0, 2, 0,
+        ],
+        &[
+            Told::AddClause(0, &[1, 2]),
+            Told::AddClause(1, &[1]),
+            Told::DeleteAtClause(0, KEPT, &[1, 2], &[1]),
+            Told::DeleteClause(0, &[1, 2]),
+        ],
+        &[Said::AddClause(&[1, 2]), Said::AddClause(&[1])],
+    ),
+    // simplified: gone; there once more; kept as redundant
+    (
+        &[5, 3, 0, 2, 4, 5, 2, 4, 0, 8, 3, 0, 2, 4, 1],
+        &[
+            Told::AddClause(0, &[1, 2, 3]),
+            Told::AddClause(1, &[1, 3]),
+            Told::DeleteAtClause(0, GONE, &[1, 2, 3], &[1]),
+        ],
+        &[Said::AddClause(&[1, 2, 3]), Said::AddClause(&[1, 3])],
+    ),
+    (
+        &[
+            5, 3, 0, 2, 4, 5, 3, 0, 2, 4, 5, 2, 0, 4, 8, 3, 0, 2, 4, 1, 11, 0, 8, 3, 0, 2, 4, 1,
+        ],
+        &[
+            Told::AddClause(0, &[1, 2, 3]),
+            Told::DuplicatedClause(1, 0, &[1, 2, 3]),
+            Told::AddClause(2, &[1, 3]),
+            Told::Assumptions(&[]),
+            Told::DeleteAtClause(0, GONE, &[1, 2, 3], &[2]),
+        ],
+        &[
+            Said::AddClause(&[1, 2, 3]),
+            Said::AddClause(&[1, 2, 3]),
+            Said::AddClause(&[1, 3]),
+            Said::Assume(&[]),
+        ],
+    ),
+    (
+        &[
+            9, 0, 5, 2, 0, 2, 6, 1, 3, 0, 2, 4, 1, 0, 5, 3, 0, 2, 4, 5, 2, 0, 4, 8, 3, 0, 2, 4, 1,
+        ],
+        &[
+            Told::AddClause(0, &[1, 2]),
+            Told::AtClause(1, REDUNDANT, &[1, 2, 3], &[0]),
+            Told::DuplicatedClause(2, 1, &[1, 2, 3]),
+            Told::AddClause(3, &[1, 3]),
+            Told::DeleteAtClause(1, KEPT, &[1, 2, 3], &[3]),
+        ],
+        &[
+            Said::AddClause(&[1, 2]),
+            Said::AddClause(&[1, 2, 3]),
+            Said::AddClause(&[1, 3]),
+        ],
+    ),
+    // by a unit, by the empty clause, and by a clause that was stored before
+    (
+        &[5, 2, 0, 2, 5, 1, 0, 8, 2, 0, 2, 1],
+        &[
+            Told::AddClause(0, &[1, 2]),
+            Told::AddClause(1, &[1]),
+            Told::DeleteAtClause(0, GONE, &[1, 2], &[1]),
+        ],
+        &[Said::AddClause(&[1, 2]), Said::AddClause(&[1])],
+    ),
+    (
+        &[5, 2, 0, 2, 5, 0, 8, 2, 0, 2, 1],
+        &[
+            Told::AddClause(0, &[1, 2]),
+            Told::AddClause(1, &[]),
+            Told::DeleteAtClause(0, GONE, &[1, 2], &[1]),
+        ],
+        &[Said::AddClause(&[1, 2]), Said::AddClause(&[])],
+    ),
+    (
+        &[5, 2, 0, 4, 5, 3, 0, 2, 4, 5, 2, 0, 4, 8, 3, 0, 2, 4, 1],
+        &[
+            Told::AddClause(0, &[1, 3]),
+            Told::AddClause(1, &[1, 2, 3]),
+            Told::DuplicatedClause(2, 0, &[1, 3]),
+            Told::DeleteAtClause(1, GONE, &[1, 2, 3], &[0]),
+        ],
+        &[
+            Said::AddClause(&[1, 3]),
+            Said::AddClause(&[1, 2, 3]),
+            Said::AddClause(&[1, 3]),
+        ],
+    ),
+];
+
+#[test]
+fn deletions_are_announced(rt: HostRuntime) -> Result<(), Fail> {
+    for row in &DELETED {
+        assert!(rt; is_announced(rt.alloc(), row), "{:?}", row.0);
+    }
+    Ok(())
+}
+
+/// Models, assumptions and failed cores.
+const ANSWERS: [Row; 13] = [
+    // in the order of their steps
+    (
+        &[5, 2, 0, 2, 10, 2, 2, 1],
+        &[Told::AddClause(0, &[1, 2]), Told::Model(&[2, -1])],
+        &[Said::AddClause(&[1, 2]), Said::Model(&[2, -1])],
+    ),
+    (
+        &[11, 2, 2, 1, 11, 0],
+        &[Told::Assumptions(&[2, -1]), Told::Assumptions(&[])],
+        &[Said::Assume(&[2, -1]), Said::Assume(&[])],
+    ),
+    // cores: by a unit, by a clause, by both, of no literal, and of both signs
+    (
+        &[5, 1, 0, 11, 2, 1, 2, 12, 1, 1, 0],
+        &[
+            Told::AddClause(0, &[1]),
+            Told::Assumptions(&[-1, 2]),
+            Told::FailedAssumptions(&[-1], &[0]),
+        ],
+        &[
+            Said::AddClause(&[1]),
+            Said::Assume(&[-1, 2]),
+            Said::FailedAssumptions(&[-1]),
+        ],
+    ),
+    (
+        &[9, 0, 5, 2, 0, 2, 11, 2, 1, 3, 12, 2, 1, 3, 1, 0],
+        &[
+            Told::AddClause(0, &[1, 2]),
+            Told::Assumptions(&[-1, -2]),
+            Told::FailedAssumptions(&[-1, -2], &[0]),
+        ],
+        &[
+            Said::AddClause(&[1, 2]),
+            Said::Assume(&[-1, -2]),
+            Said::FailedAssumptions(&[-1, -2]),
+        ],
+    ),
+    (
+        &[9, 0, 5, 1, 1, 5, 2, 0, 2, 11, 1, 3, 12, 1, 3, 1, 0],
+        &[
+            Told::AddClause(0, &[-1]),
+            Told::AddClause(1, &[1, 2]),
+            Told::Assumptions(&[-2]),
+            Told::FailedAssumptions(&[-2], &[0, 1]),
+        ],
+        &[
+            Said::AddClause(&[-1]),
+            Said::AddClause(&[1, 2]),
+            Said::Assume(&[-2]),
+            Said::FailedAssumptions(&[-2]),
+        ],
+    ),
+    (
+        &[9, 0, 5, 1, 1, 5, 1, 3, 5, 2, 0, 2, 12, 0, 1, 0],
+        &[
+            Told::AddClause(0, &[-1]),
+            Told::AddClause(1, &[-2]),
+            Told::AddClause(2, &[1, 2]),
+            Told::FailedAssumptions(&[], &[0, 1, 2]),
+        ],
+        &[
+            Said::AddClause(&[-1]),
+            Said::AddClause(&[-2]),
+            Said::AddClause(&[1, 2]),
+            Said::FailedAssumptions(&[]),
+        ],
+    ),
+    (
+        &[11, 2, 0, 1, 12, 2, 0, 1, 0],
+        &[
+            Told::Assumptions(&[1, -1]),
+            Told::FailedAssumptions(&[1, -1], &[]),
+        ],
+        &[Said::Assume(&[1, -1]), Said::FailedAssumptions(&[1, -1])],
+    ),
+    // in the user's names
+    (
+        &[2, 0, 5, 5, 1, 0, 11, 1, 1, 12, 1, 1, 0],
+        &[
+            Told::UserVar(1, 5, SAMPLE, NEW),
+            Told::AddClause(0, &[1]),
+            Told::Assumptions(&[-1]),
+            Told::FailedAssumptions(&[-1], &[0]),
+        ],
+        &[
+            Said::AddClause(&[5]),
+            Said::Assume(&[-5]),
+            Said::FailedAssumptions(&[-5]),
+        ],
+    ),
+    (
+        &[2, 0, 5, 10, 2, 1, 2],
+        &[Told::UserVar(1, 5, SAMPLE, NEW), Told::Model(&[-1, 2])],
+        &[Said::Model(&[-5, 2])],
+    ),
+    (
+        &[2, 0, 5, 4, 0, 0, 11, 1, 1],
+        &[
+            Told::UserVar(1, 5, SAMPLE, NEW),
+            Told::UserVar(1, 5, WITNESS, KNOWN),
+            Told::Assumptions(&[-1]),
+        ],
+        &[Said::WitnessVar(5), Said::Assume(&[-5])],
+    ),
+    // without literals of variables that have no name: a hidden one, which is its own once it is sampled again, and a witness
+    (
+        &[
+            2, 0, 5, 2, 0, 0, 11, 3, 0, 1, 3, 12, 2, 0, 1, 0, 10, 2, 1, 2,
+        ],
+        &[
+            Told::UserVar(1, 5, SAMPLE, NEW),
+            Told::NoName(1),
+            Told::Assumptions(&[1, -1, -2]),
+            Told::FailedAssumptions(&[1, -1], &[]),
+            Told::Model(&[-1, 2]),
+        ],
+        &[
+            Said::HideVar(5),
+            Said::Assume(&[-2]),
+            Said::FailedAssumptions(&[]),
+            Said::Model(&[2]),
+        ],
+    ),
+    (
+        &[2, 0, 5, 2, 0, 0, 4, 0, 1, 11, 1, 1],
+        &[
+            Told::UserVar(1, 5, SAMPLE, NEW),
+            Told::NoName(1),
+            Told::Assumptions(&[-1]),
+        ],
+        &[Said::HideVar(5), Said::Assume(&[-1])],
+    ),
+    (
+        &[5, 1, 0, 4, 0, 0, 11, 2, 1, 2, 10, 1, 0],
+        &[
+            Told::AddClause(0, &[1]),
+            Told::Assumptions(&[-1, 2]),
+            Told::Model(&[1]),
+        ],
+        &[Said::AddClause(&[1]), Said::Assume(&[2]), Said::Model(&[])],
+    ),
+];
+
+#[test]
+fn answers_are_announced(rt: HostRuntime) -> Result<(), Fail> {
+    for row in &ANSWERS {
+        assert!(rt; is_announced(rt.alloc(), row), "{:?}", row.0);
+    }
+    Ok(())
+}
+
+/// A name, and units that contradict each other.
+pub(crate) const UNITS: &[u8] = &[2, 0, 1, 5, 1, 0, 5, 1, 1];
+
+/// What is told of them till what is delayed is settled.
+pub(crate) const CONFLICT_BEFORE: &[Told] = &[
+    Told::UserVar(1, 1, SAMPLE, NEW),
+    Told::AddClause(0, &[1]),
+    Told::AddClause(1, &[-1]),
+];
+
+pub(crate) const CONFLICT_SAID_BEFORE: &[Said] = &[Said::AddClause(&[1]), Said::AddClause(&[-1])];
+
+pub(crate) const CONFLICT: &[Told] = &[
+    Told::UserVar(1, 1, SAMPLE, NEW),
+    Told::AddClause(0, &[1]),
+    Told::AddClause(1, &[-1]),
+    Told::AtClause(2, IRREDUNDANT, &[], &[0, 1]),
+];
+
+const CONFLICT_SAID: &[Said] = &[Said::AddClause(&[1]), Said::AddClause(&[-1]), Said::Unsat];
+
+/// The empty clause of a unit conflict, told by the next step.
+const CONFLICTS: [Row; 5] = [
+    (&[2, 0, 1, 5, 1, 0, 5, 1, 1, 13], CONFLICT, CONFLICT_SAID),
+    (
+        &[2, 0, 1, 5, 1, 0, 5, 1, 1, 5, 1, 2, 5, 2, 0, 2],
+        CONFLICT,
+        CONFLICT_SAID,
+    ),
+    (
+        &[2, 0, 1, 5, 1, 0, 5, 1, 1, 11, 1, 1],
+        &[
+            Told::UserVar(1, 1, SAMPLE, NEW),
+            Told::AddClause(0, &[1]),
+            Told::AddClause(1, &[-1]),
+            Told::AtClause(2, IRREDUNDANT, &[], &[0, 1]),
+            Told::Assumptions(&[-1]),
+        ],
+        &[
+            Said::AddClause(&[1]),
+            Said::AddClause(&[-1]),
+            Said::Unsat,
+            Said::Assume(&[-1]),
+        ],
+    ),
+    // under another name
+    (
+        &[2, 0, 5, 5, 1, 0, 5, 1, 1, 13],
+        &[
+            Told::UserVar(1, 5, SAMPLE, NEW),
+            Told::AddClause(0, &[1]),
+            Told::AddClause(1, &[-1]),
+            Told::AtClause(2, IRREDUNDANT, &[], &[0, 1]),
+        ],
+        &[Said::AddClause(&[5]), Said::AddClause(&[-5]), Said::Unsat],
+    ),
+    // of derived units, one step's
+    (
+        &[9, 0, 5, 1, 0, 5, 2, 1, 2, 5, 2, 1, 3, 7, 2, 2, 0, 3, 0, 13],
+        &[
+            Told::AddClause(0, &[1]),
+            Told::AddClause(1, &[-1, 2]),
+            Told::AddClause(2, &[-1, -2]),
+            Told::AtClause(3, IRREDUNDANT, &[2], &[0, 1]),
+            Told::AtClause(4, IRREDUNDANT, &[-2], &[0, 2]),
+            Told::AtClause(5, IRREDUNDANT, &[], &[3, 4]),
+        ],
+        &[
+            Said::AddClause(&[1]),
+            Said::AddClause(&[-1, 2]),
+            Said::AddClause(&[-1, -2]),
+            Said::Unsat,
+        ],
+    ),
+];
+
+#[test]
+fn conflicts_are_announced(rt: HostRuntime) -> Result<(), Fail> {
+    for row in &CONFLICTS {
+        assert!(rt; is_announced(rt.alloc(), row), "{:?}", row.0);
+    }
+    Ok(())
+}
+
+/// Whether so many announcements and steps of a transcript are told of the contradicting units, where delayed steps are settled or not.
+fn is_told_by(alloc: Global, settled: bool, told: &'static [Told], said: &'static [Said]) -> bool {
+    let mut checker = Heard::telling(alloc);
+    let taken = add_both(&mut checker, &(UNITS, told, said))
+        && read_by(alloc, &mut checker, &mut Counted::new(UNITS)).is_ok()
+        && (!settled || checker.self_check_delayed_steps().is_ok());
+    taken && checker.unsat() && are_done(checker.into_processors(), 1)
+}
+
+#[test]
+fn delayed_steps_are_announced(rt: HostRuntime) {
+    assert!(rt; is_told_by(rt.alloc(), true, CONFLICT, CONFLICT_SAID));
+    assert!(rt; is_told_by(rt.alloc(), false, CONFLICT_BEFORE, CONFLICT_SAID_BEFORE));
+}
+
+/// Whether a clause that comes twice is told so, and nothing is told of a step that is refused.
+fn is_told_twice(alloc: Global) -> bool {
+    let (first, second) = (Lit::from_code(0), Lit::from_code(2));
+    let mut checker = Heard::telling(alloc);
+    let taken = add_both(&mut checker, &TWICE)
+        && checker.add_clause(&[first, second]).is_ok()
+        && checker.add_clause(&[second, first, first]).is_ok();
+    let refused: &[u8] = &[6, 0, 1, 4, 0];
+    let error = failure(&checker.check_proof(&mut Counted::new(refused)));
+    taken && error == Some(Kind::CheckFailed) && are_done(checker.into_processors(), 1)
+}
+
+const TWICE: Row = (
+    &[],
+    &[
+        Told::AddClause(0, &[1, 2]),
+        Told::DuplicatedClause(1, 0, &[1, 2]),
+    ],
+    &[Said::AddClause(&[1, 2]), Said::AddClause(&[1, 2])],
+);
+
+#[test]
+fn added_clauses_are_announced(rt: HostRuntime) {
+    assert!(rt; is_told_twice(rt.alloc()));
+}
+
+/// A processor that looks up the name of the first variable, and waits for these.
+#[derive(Drop)]
+struct Names {
+    awaited: &'static [Option<i64>],
+}
+
+impl ProofProcessor for Names {
+    ghost use Rattle.std.specs.Prelude.{⊤};
+
+    ghost takes = { λ _ _ _ _. ⊤ };
+
+    fn process_step(
+        &mut self,
+        _step: &CheckedProofStep<'_>,
+        names: CheckerData<'_>,
+    ) -> anyhow::Result<()> {
+        let name = names.user_from_proof_var(Var::from_index(0));
+        match self.awaited.split_first() {
+            None => Err(anyhow!("no more is awaited")),
+            Some((first, rest)) => {
+                if name.map(|name| name.to_dimacs()) == *first {
+                    self.awaited = rest;
+                    Ok(())
+                } else {
+                    Err(anyhow!("another name is awaited"))
+                }
+            }
+        }
+    }
+}
+
+/// A variable that is known, gets a name, becomes a witness, is hidden, is sampled again and becomes a witness without a name; behind each
+/// step assumptions are announced.
+const LOOKED_UP: &[u8] = &[
+    1, 0, 1, 11, 0, 2, 0, 5, 11, 0, 4, 0, 0, 11, 0, 2, 0, 0, 11, 0, 4, 0, 1, 11, 0, 4, 0, 0, 11, 0,
+    13,
+];
+
+/// Its name from before each step that is announced: a sampling one without a name is its own, no other is.
+const FOUND: &[Option<i64>] = &[
+    Some(1),
+    Some(1),
+    Some(5),
+    Some(5),
+    Some(5),
+    Some(5),
+    None,
+    Some(1),
+    None,
+];
+
+#[test]
+fn names_are_looked_up(rt: HostRuntime) {
+    let mut checker = Heard::telling(rt.alloc());
+    let mut own = Names { awaited: FOUND };
+    assert!(rt;
+        checker
+            .check_proof_with(&mut Counted::new(LOOKED_UP), &mut own)
+            .is_ok()
+    );
+    assert!(rt; own.awaited.is_empty());
+}
