@@ -59,7 +59,7 @@ AddsListener (Err errors.ParseError) old new listened listen more = ⊥
 
 -- How those who listen take what is told, what was told before they are looked at, and what they were then.
 module _ {L : Type 0} (Hears : L → Told → Result Unit ProcessingError → L → Type 0) (before : List Told) (begun : L) where
-  -- It has accepted these steps, the newest first, and keeps what they leave unless it has failed. Those who listen have heard all that these steps told since.
+  -- It has accepted these steps, the newest first, and keeps what they leave unless it has failed. Those who listen have heard all that these steps told behind what was told before.
   pub record Stands (checker : Seen L) (steps : List Step) : Type 0 where
     pub kernel : kernels.Stands checker.kernel steps
     pub heard : has_failed checker ≡ false → HearsSince Hears before (told_by checker.kernel.state.formula.status.conflict steps) begun checker.listeners
@@ -69,7 +69,7 @@ module _ {L : Type 0} (Hears : L → Told → Result Unit ProcessingError → L 
     pub stands : Stands new steps
     pub failed : has_failed new ≡ true
 
-  -- no more was told than what waited
+  -- what waited was told, and no more
   pub record Refuses (new : Seen L) (steps : List Step) : Type 0 where
     pub fails : Fails new steps
     pub heard : HearsSince Hears before (all_told_after steps) begun new.listeners
@@ -94,7 +94,7 @@ module _ {L : Type 0} (Hears : L → Told → Result Unit ProcessingError → L 
     pub stands : Stands new (step ∷ steps)
     pub goes_on : has_failed new ≡ false
 
-  -- What an answer to a step means, where these steps were accepted before. A refused step is one that the definition refuses; the last id or count is told only where it was given.
+  -- What an answer to a step means, where these steps were accepted before. A refused step is one that the definition refuses; `CounterEnd` is answered only where the last id or count was given.
   abbrev pub AnswersStep : Result Unit CheckerError → Seen L → Step → Seen L → List Step → Type 0
   AnswersStep (Ok x) old step new steps = (has_failed old ≡ false) × Takes new step steps
   AnswersStep (Err errors.CheckFailed) old step new steps = (has_failed old ≡ false) × (Accepts (ready_after steps) step → ⊥) × Refuses new steps

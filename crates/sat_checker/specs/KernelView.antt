@@ -48,7 +48,7 @@ pub record Takes (new : Kernel) (step : Step) (steps : List Step) : Type 0 where
   pub stands : Stands new (step ∷ steps)
   pub goes_on : has_failed new ≡ false
 
--- What an answer to a step means, where these steps were accepted before. A refused step is one that the definition refuses; the last id or count is told only where it was given.
+-- What an answer to a step means, where these steps were accepted before. A refused step is one that the definition refuses; `CounterEnd` is answered only where the last id or count was given.
 abbrev pub AnswersStep : Result Unit CheckerError → Kernel → Step → Kernel → List Step → Type 0
 AnswersStep (Ok x) old step new steps = (has_failed old ≡ false) × Takes new step steps
 AnswersStep (Err errors.CheckFailed) old step new steps = (has_failed old ≡ false) × (Accepts (ready_after steps) step → ⊥) × Fails new steps
