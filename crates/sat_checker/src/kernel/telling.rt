@@ -1,5 +1,5 @@
 //! Steps whose announcements are told.
-ghost use Rattle.std.specs.Prelude.{ℕ, ◌≡◌, false, true, None, Option, Ok, Err, OnOk, MatchResult, map, take};
+ghost use Rattle.std.specs.Prelude.{◌≡◌, false, None, Ok, OnOk, MatchResult};
 ghost use Rattle.sat_base.specs.steps.StepViews.{step_of};
 ghost use Rattle.sat_checker.specs.KernelView as kernels;
 ghost use Rattle.sat_checker.specs.KernelView.{has_failed};
