@@ -1,5 +1,5 @@
 //! What holds of announcements: each law is the contract of a function that does nothing.
-ghost use Rattle.sat_checker.specs.announcements.Promises.{ConflictIsFollowedBackwards, DeletionsRest, PropagationsInTurn, TautologiesRestOnNothing, ToldInOrder};
+ghost use Rattle.sat_checker.specs.announcements.Promises.{ConflictIsAnnounced, ConflictIsFollowedBackwards, DeletionsRest, IdsAreAnnounced, PropagationsInTurn, SimplifiedIsAnnounced, TautologiesRestOnNothing, ToldInOrder};
 ghost use Rattle.sat_checker.specs.announcements.Rows.{AnswersRead, Assumed, CollidingTold, ConflictAndUnitTold, Contradiction, CoreFailed, CoreOfBothSigns, DerivedIrredundant, DerivedIrredundantAgain, DerivedNew, DerivedRedundantAgain, DerivedTautology, DerivedUnitAgain, InputBehindUnsat, InputDuplicate, InputNew, InputRedundant, InputTautology, InputUnitAgain, InputsRead, ModeChanged, ModeLeft, ModeOfNameless, Modelled, ModesRead, NameNew, NameNewRead, NameOfKnown, NameOfKnownRead, NameRemoved, NameRemovedRead, NamedTwiceTold, OthersRead, OthersTell, PassedNotNeeded, RedundantGone, RedundantStays, RefutedAtZeroTold, RefutedRead, RefutedTold, SatisfiedGone, SatisfiedKept, SatisfiedStays, SimplifiedByEmpty, SimplifiedGone, SolverNameSet, UnitAlone, UnitsFirst, UnitsHeld};
 ghost use Rattle.sat_checker.specs.telling.ProcessingView.{NobodyFails};
 
@@ -12,6 +12,13 @@ pub fn propagations_run_to_conflict()
     ensures exact { ConflictIsFollowedBackwards }
     ensures tautology { TautologiesRestOnNothing }
     ensures deleted { DeletionsRest }
+{}
+
+/// What is stored was announced under its id, so an id that is named is that of a clause announced before.
+pub fn ids_are_announced()
+    ensures stored { IdsAreAnnounced }
+    ensures delayed { ConflictIsAnnounced }
+    ensures simplified { SimplifiedIsAnnounced }
 {}
 
 /// In which order steps and delayed conflicts are announced.

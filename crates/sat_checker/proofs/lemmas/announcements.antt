@@ -8,6 +8,7 @@ pub mod Apart
 pub mod Backwards
 pub mod Exact
 pub mod Deletions
+pub mod Identified
 pub mod Following
 pub mod Noting
 pub mod Marking

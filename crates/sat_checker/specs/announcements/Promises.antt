@@ -1,16 +1,16 @@
 -- What is promised of announcements.
-use Rattle.std.specs.Prelude.{ℕ, ◌≡◌, ◌≢◌, ◌⊎◌, ◌↔◌, true, false, List, [], ◌∷◌, ◌++◌, map, filter}
+use Rattle.std.specs.Prelude.{ℕ, ◌≡◌, ◌≢◌, ◌⊎◌, ◌↔◌, true, false, Some, List, [], ◌∷◌, ◌++◌, map, filter}
 use Rattle.std.specs.List.{AllByRecursion, list_any}
 use Rattle.sat_base.specs.values.Literals.{negated}
 use Rattle.sat_base.specs.steps.Steps.{Step, DeleteClause, Simplified, Satisfied}
-use Rattle.sat_checker.specs.LiteralSets.{is_among, is_tautology, canonical}
+use Rattle.sat_checker.specs.LiteralSets.{is_among, is_part, is_tautology, canonical}
 use Rattle.sat_checker.specs.inner.Marks.{IsIncreasing}
 use Rattle.sat_checker.specs.Propagation.{IsFalsified, IsUnit, UnitInTurn}
 use Rattle.sat_checker.specs.Stored.{StoredClause, StoredUnit, Last, Empty, Stored, unit_literals}
 use Rattle.sat_checker.specs.Storing.{with_units}
-use Rattle.sat_checker.specs.Accepts.{Passes, Accepts, AcceptsAll, ready_after}
+use Rattle.sat_checker.specs.Accepts.{Passes, Accepts, AcceptsAll, stored_after, ready_after}
 use Rattle.sat_checker.specs.announcements.Needed.{Ground, ground, named_by, conflict_ids, true_unit, propagations}
-use Rattle.sat_checker.specs.announcements.Announcements.{one, last_id, announced, delayed, told_over, told_after, all_told_after}
+use Rattle.sat_checker.specs.announcements.Announcements.{Announcement, AddClause, AtClause, one, last_id, announced, delayed, Told, told_over, told_after, all_told_after}
 
 -- it's in the list
 abbrev pub IsOneOf : {A : Type 0} → A → List A → Type 0
@@ -84,3 +84,34 @@ DeletionsRest = (steps : List Step) (clause : List ℕ) → AcceptsAll steps →
 abbrev pub ToldInOrder : Type 0
 ToldInOrder = (steps : List Step) (step : Step) →
     (told_after (step ∷ steps) ≡ all_told_after steps ++ told_over (ready_after steps) (announced (ready_after steps) step)) × (delayed (ready_after steps) ≡ [])
+
+-- the clause was announced under this id: as one of the formula, or as a derived one
+abbrev pub Announces : ℕ → List ℕ → Announcement → Type 0
+Announces id clause (AddClause i ls) = (i ≡ id) × (ls ≡ clause)
+Announces id clause (AtClause i redundant ls ids) = (i ≡ id) × (ls ≡ clause)
+Announces id clause other = ⊥
+
+-- one of these announcements is of the clause, under this id
+abbrev pub IsAnnounced : ℕ → List ℕ → List Told → Type 0
+IsAnnounced id clause told = (t : Told) × IsOneOf t told × Announces id clause t.announcement
+
+-- What is stored was announced under its id, an empty clause too that is the last irredundant one. A unit conflict is one of a stored unit and of one that was announced as its negation.
+pub record AreAnnounced (f : Stored) (told : List Told) : Type 0 where
+  pub clauses : AllByRecursion (λ c. IsAnnounced c.id c.literals told) f.clauses
+  pub units : AllByRecursion (λ u. IsAnnounced u.id (u.literal ∷ []) told) f.units
+  pub last : (id : ℕ) → f.last ≡ Empty id → IsAnnounced id [] told
+  pub conflict : (ids : ℕ × ℕ) → f.conflict ≡ Some ids → (u : StoredUnit) × IsOneOf u f.units × (u.id ≡ ids.0) × IsAnnounced ids.1 (negated u.literal ∷ []) told
+
+-- so each id that an announcement names is that of a clause that was announced before
+abbrev pub IdsAreAnnounced : Type 0
+IdsAreAnnounced = (steps : List Step) → AreAnnounced (stored_after steps) (told_after steps)
+
+-- the empty clause of a unit conflict names two units that were announced, one the negation of the other
+abbrev pub ConflictIsAnnounced : Type 0
+ConflictIsAnnounced = (steps : List Step) (id i j : ℕ) → delayed (stored_after steps) ≡ AtClause id false [] (i ∷ j ∷ []) ∷ [] →
+    (l : ℕ) × IsAnnounced i (l ∷ []) (told_after steps) × IsAnnounced j (negated l ∷ []) (told_after steps)
+
+-- a clause that is deleted as simplified names one that was announced, an empty one too, and that is a part of it
+abbrev pub SimplifiedIsAnnounced : Type 0
+SimplifiedIsAnnounced = (steps : List Step) (clause : List ℕ) → Accepts (ready_after steps) (DeleteClause clause Simplified) →
+    (id : ℕ) × (part : List ℕ) × (one (last_id (ready_after steps).last) ≡ id ∷ []) × (is_part part clause ≡ true) × IsAnnounced id part (all_told_after steps)

@@ -19,13 +19,13 @@ use Rattle.sat_checker.proofs.lemmas.announcements.Grounds.{among_negated}
 use Rattle.sat_checker.proofs.lemmas.announcements.Rests.{rests_on_unit, true_missing}
 
 -- the unit and the clause of an id
-record UnitNumbered (us : List StoredUnit) (id : ℕ) (ls : List ℕ) : Type 0 where
-  unit : StoredUnit
-  stored : IsOneOf unit us
-  id_is : unit.id ≡ id
-  literals_are : unit.literal ∷ [] ≡ ls
+pub record UnitNumbered (us : List StoredUnit) (id : ℕ) (ls : List ℕ) : Type 0 where
+  pub unit : StoredUnit
+  pub stored : IsOneOf unit us
+  pub id_is : unit.id ≡ id
+  pub literals_are : unit.literal ∷ [] ≡ ls
 
-unit_of : (id : ℕ) (ls : List ℕ) (us : List StoredUnit) → unit_numbered id us ≡ Some ls → UnitNumbered us id ls
+pub unit_of : (id : ℕ) (ls : List ℕ) (us : List StoredUnit) → unit_numbered id us ≡ Some ls → UnitNumbered us id ls
 unit_of id ls [] e = absurd cc
 unit_of id ls (u ∷ us) e = go (unit_of id ls us) (eqb u.id id) refl e
   where
@@ -33,13 +33,13 @@ unit_of id ls (u ∷ us) e = go (unit_of id ls us) (eqb u.id id) refl e
     go ih true s k = record { unit = u; stored = inl refl; id_is = eqb-true u.id id s; literals_are = cc }
     go ih false s k = let w = ih k in record { unit = w.unit; stored = inr w.stored; id_is = w.id_is; literals_are = w.literals_are }
 
-record ClauseNumbered (cs : List StoredClause) (id : ℕ) (ls : List ℕ) : Type 0 where
-  clause : StoredClause
-  stored : IsOneOf clause cs
-  id_is : clause.id ≡ id
-  literals_are : clause.literals ≡ ls
+pub record ClauseNumbered (cs : List StoredClause) (id : ℕ) (ls : List ℕ) : Type 0 where
+  pub clause : StoredClause
+  pub stored : IsOneOf clause cs
+  pub id_is : clause.id ≡ id
+  pub literals_are : clause.literals ≡ ls
 
-clause_of : (id : ℕ) (ls : List ℕ) (cs : List StoredClause) → clause_numbered id cs ≡ Some ls → ClauseNumbered cs id ls
+pub clause_of : (id : ℕ) (ls : List ℕ) (cs : List StoredClause) → clause_numbered id cs ≡ Some ls → ClauseNumbered cs id ls
 clause_of id ls [] e = absurd cc
 clause_of id ls (c ∷ cs) e = go (clause_of id ls cs) (eqb c.id id) refl e
   where

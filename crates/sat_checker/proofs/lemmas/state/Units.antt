@@ -112,7 +112,7 @@ known_unit vs l f = go (is_unit f l) (is_unit f (negated l))
     go false true = refl
     go false false = refl
 
-known_units : (vs ls : List ℕ) (f : Stored) → with_units ls (with_known vs f) ≡ with_known vs (with_units ls f)
+pub known_units : (vs ls : List ℕ) (f : Stored) → with_units ls (with_known vs f) ≡ with_known vs (with_units ls f)
 known_units vs [] f = refl
 known_units vs (l ∷ ls) f = ap (with_units ls) (known_unit vs l f) ∙ known_units vs ls (with_unit l f)
 
