@@ -1,2 +1,3 @@
 pub mod Vsids
 pub mod Heap
+pub mod Rows

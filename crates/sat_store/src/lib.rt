@@ -3,6 +3,7 @@
 
 pub mod clause;
 pub mod data;
+pub mod law_vsids;
 pub mod level_abstraction;
 pub mod luby;
 pub mod tmp;

@@ -244,6 +244,3 @@ fn rescale(activities: &mut Vec<u64>, bump: u64) -> u64
     }
     (bump >> 40).max(1)
 }
-
-#[cfg(test)]
-mod tests;

@@ -85,6 +85,50 @@ fn most_active_first(rt: HostRuntime) {
     assert!(rt; picked == [0, 1, 2, 3, 9]);
 }
 
+fn decay_times(vsids: &mut Vsids, times: usize)
+    requires { length vsids.old.available ≡ COUNT }
+    ensures { length vsids.new.available ≡ COUNT }
+{
+    for _ in 0..times {
+        vsids.decay();
+    }
+}
+
+/// What is picked first once all activities are too small to tell apart.
+#[test]
+fn equal_activities_go_by_index(rt: HostRuntime) {
+    let mut vsids = Vsids::new(rt.alloc());
+    if bumped_by_index(&mut vsids).is_err() {
+        panic!(rt; "no memory");
+    }
+    decay_times(&mut vsids, 60);
+    let mut picked = [0; 4];
+    next_indices(&mut vsids, &mut picked);
+    assert!(rt; picked == [0, 1, 2, 3]);
+}
+
+/// Bumps the last variable until all are brought to a smaller scale.
+fn bump_past_the_limit(vsids: &mut Vsids)
+    requires { length vsids.old.available ≡ COUNT }
+    ensures { length vsids.new.available ≡ COUNT }
+{
+    decay_times(vsids, 39);
+    vsids.bump(Var::from_index(COUNT - 1));
+    vsids.bump(Var::from_index(COUNT - 1));
+}
+
+#[test]
+fn bumped_variable_goes_first_on_a_smaller_scale(rt: HostRuntime) {
+    let mut vsids = Vsids::new(rt.alloc());
+    if bumped_by_index(&mut vsids).is_err() {
+        panic!(rt; "no memory");
+    }
+    bump_past_the_limit(&mut vsids);
+    let mut picked = [0; 4];
+    next_indices(&mut vsids, &mut picked);
+    assert!(rt; picked == [7, 0, 1, 2]);
+}
+
 /// Whether a variable that was reset goes behind one that was bumped less.
 fn reset_goes_last(vsids: &mut Vsids) -> bool
     requires { vsids.old ≡ no_variables }
