@@ -100,10 +100,8 @@ impl<P: ProofProcessor, T: ProofTranscriptProcessor> Checker<P, T> {
         ensures processors { result.processors.items ≡ (listeners_of self.processing).processors }
         ensures transcripts { result.transcripts.items ≡ (listeners_of self.processing).transcripts }
     {
-        let Checker {
-            kernel: _,
-            processing,
-        } = self;
+        let Checker { kernel, processing } = self;
+        drop(kernel);
         processing.into_processors()
     }
 
@@ -180,13 +178,15 @@ impl<P: ProofProcessor, T: ProofTranscriptProcessor> Checker<P, T> {
 }
 
 impl<P: ProofProcessor, T: ProofTranscriptProcessor> SelfChecker for Checker<P, T> {
-    ghost checks = { λ c step r d. kernels.ChecksStep r (kernel_of c) step (kernel_of d) × LooksAtMost (kernel_of c) step (kernel_of d) };
+    ghost checks = { λ c step r d. kernels.ChecksStep r (kernel_of c) step (kernel_of d)
+        × LooksAtMost (kernel_of c) step (kernel_of d) × ChecksStep (HearsEach P.takes T.reads) r (seen_of c) step (seen_of d) };
 
-    ghost settles = { λ c r d. kernels.ChecksDelayed r (kernel_of c) (kernel_of d) };
+    ghost settles = { λ c r d. kernels.ChecksDelayed r (kernel_of c) (kernel_of d)
+        × ChecksDelayed (HearsEach P.takes T.reads) r (seen_of c) (seen_of d) };
 
     fn self_check_step(&mut self, step: &ProofStep<'_>) -> Result<(), CheckerError>
-        ensures checks { kernels.ChecksStep result (kernel_of self.old) (step_of step.now) (kernel_of self.new)
-            × LooksAtMost (kernel_of self.old) (step_of step.now) (kernel_of self.new) }
+        ensures judges { kernels.ChecksStep result (kernel_of self.old) (step_of step.now) (kernel_of self.new) }
+        ensures looks { LooksAtMost (kernel_of self.old) (step_of step.now) (kernel_of self.new) }
         ensures tells { ChecksStep (HearsEach P.takes T.reads)
             result (seen_of self.old) (step_of step.now) (seen_of self.new) }
     {
