@@ -79,7 +79,9 @@ fn decide<R: CountedRead>(
     let mut steps = StepReader::new(alloc, certificate);
     let ended = confirm_all(&mut session, script, &mut steps);
     looks.add(&session.certificate.checker);
-    conclude(ended, session.asks)
+    let asks = session.asks;
+    drop(session);
+    conclude(ended, asks)
 }
 
 /// Compares a script, answers and a certificate, and says yes exactly where they match. Script and answers are read to their ends

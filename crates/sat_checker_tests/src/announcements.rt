@@ -24,7 +24,8 @@ fn is_told_to_added(alloc: Global, row: &Row) -> bool {
     let mut checker = Heard::telling(alloc);
     let taken = add_both(&mut checker, row)
         && read_by(alloc, &mut checker, &mut Counted::new(row.0)).is_ok();
-    taken && are_done(checker.into_processors(), 1)
+    let told = are_done(checker.into_processors(), 1);
+    taken && told
 }
 
 /// Whether a processor of the caller's own is told this, the steps being a proof's, with its end or cut off before it.
@@ -33,6 +34,7 @@ fn is_told_to_own(alloc: Global, row: &Row) -> bool {
     let mut own = Listener::new(row.1);
     let error = failure(&checker.check_proof_with(&mut Counted::new(row.0), &mut own));
     let read = error.is_none() && checker.ended() || error == Some(Kind::ProofIncomplete);
+    drop(checker);
     read && own.is_done()
 }
 
@@ -889,8 +891,10 @@ fn is_told_by(alloc: Global, settled: bool, told: &'static [Told], said: &'stati
     let mut checker = Heard::telling(alloc);
     let taken = add_both(&mut checker, &(UNITS, told, said))
         && read_by(alloc, &mut checker, &mut Counted::new(UNITS)).is_ok()
-        && (!settled || checker.self_check_delayed_steps().is_ok());
-    taken && checker.unsat() && are_done(checker.into_processors(), 1)
+        && (!settled || checker.self_check_delayed_steps().is_ok())
+        && checker.unsat();
+    let told = are_done(checker.into_processors(), 1);
+    taken && told
 }
 
 #[test]
@@ -908,7 +912,8 @@ fn is_told_twice(alloc: Global) -> bool {
         && checker.add_clause(&[second, first, first]).is_ok();
     let refused: &[u8] = &[6, 0, 1, 4, 0];
     let error = failure(&checker.check_proof(&mut Counted::new(refused)));
-    taken && error == Some(Kind::CheckFailed) && are_done(checker.into_processors(), 1)
+    let told = are_done(checker.into_processors(), 1);
+    taken && error == Some(Kind::CheckFailed) && told
 }
 
 const TWICE: Row = (
@@ -980,10 +985,8 @@ const FOUND: &[Option<i64>] = &[
 fn names_are_looked_up(rt: HostRuntime) {
     let mut checker = Heard::telling(rt.alloc());
     let mut own = Names { awaited: FOUND };
-    assert!(rt;
-        checker
-            .check_proof_with(&mut Counted::new(LOOKED_UP), &mut own)
-            .is_ok()
-    );
+    let error = failure(&checker.check_proof_with(&mut Counted::new(LOOKED_UP), &mut own));
+    drop(checker);
+    assert!(rt; error.is_none());
     assert!(rt; own.awaited.is_empty());
 }

@@ -15,12 +15,19 @@ fn read_on<R: CountedRead>(checker: &mut Checker, reader: &mut R) -> Answer {
     (error, checker.unsat())
 }
 
+fn read<R: CountedRead>(alloc: Global, reader: &mut R) -> Answer {
+    let mut checker = Checker::new(alloc);
+    let answer = read_on(&mut checker, reader);
+    drop(checker);
+    answer
+}
+
 fn whole(alloc: Global, text: &[u8]) -> Answer {
-    read_on(&mut Checker::new(alloc), &mut Counted::new(text))
+    read(alloc, &mut Counted::new(text))
 }
 
 fn in_pieces(alloc: Global, text: &[u8]) -> Answer {
-    read_on(&mut Checker::new(alloc), &mut by_one(text, 0))
+    read(alloc, &mut by_one(text, 0))
 }
 
 const TAKEN: Answer = (None, false);
@@ -85,6 +92,7 @@ fn faults_leave_the_checker(rt: HostRuntime) -> Result<(), Fail> {
     let fault = at_fault(DimacsError::Malformed { line: 1 }, false);
     assert!(rt; read_on(&mut checker, &mut Counted::new(text)) == fault);
     assert!(rt; read_on(&mut checker, &mut Counted::new(rest)) == REFUTED);
+    drop(checker);
     Ok(())
 }
 
@@ -92,7 +100,9 @@ fn faults_leave_the_checker(rt: HostRuntime) -> Result<(), Fail> {
 fn goes_on_behind(alloc: Global, failing: u64) -> bool {
     let mut checker = Checker::new(alloc);
     let answer = read_on(&mut checker, &mut by_one(b"1 2 0\n-1 0\n", failing));
-    answer == at_fault(DimacsError::Read, false) && checker.add_clause(&[]).is_ok()
+    let added = checker.add_clause(&[]).is_ok();
+    drop(checker);
+    answer == at_fault(DimacsError::Read, false) && added
 }
 
 #[test]
@@ -100,12 +110,7 @@ fn failed_reads_are_answered(rt: HostRuntime) -> Result<(), Fail> {
     for failing in 1..13 {
         assert!(rt; goes_on_behind(rt.alloc(), failing), "{failing}");
     }
-    assert!(rt;
-        read_on(
-            &mut Checker::new(rt.alloc()),
-            &mut by_one(b"1 2 0\n-1 0\n", 13)
-        ) == TAKEN
-    );
+    assert!(rt; read(rt.alloc(), &mut by_one(b"1 2 0\n-1 0\n", 13)) == TAKEN);
     Ok(())
 }
 
@@ -122,7 +127,9 @@ fn refuted(alloc: Global, proof: &[u8]) -> (Answer, Option<Kind>, bool) {
     let mut checker = Checker::new(alloc);
     let taken = read_on(&mut checker, &mut by_one(PAIRS, 0));
     let error = failure(&checker.check_proof(&mut by_one(proof, 0)));
-    (taken, error, checker.unsat())
+    let unsat = checker.unsat();
+    drop(checker);
+    (taken, error, unsat)
 }
 
 #[test]
@@ -149,6 +156,7 @@ fn refused_clauses_end_a_text(rt: HostRuntime) -> Result<(), Fail> {
     assert!(rt; read_on(&mut checker, &mut Counted::new(text)) == (refused, false));
     assert!(rt; checker.add_clause(&[Lit::from_code(3)]).is_ok());
     assert!(rt; checker.unsat());
+    drop(checker);
     Ok(())
 }
 
@@ -162,6 +170,7 @@ fn failing_is_final(rt: HostRuntime) -> Result<(), Fail> {
         failure(&checker.check_proof(&mut Counted::new(refused))) == Some(Kind::CheckFailed)
     );
     assert!(rt; read_on(&mut checker, &mut by_one(PAIRS, 1)) == (failed, false));
+    drop(checker);
     Ok(())
 }
 

@@ -68,7 +68,8 @@ fn ends_with_own(alloc: Global, failing: usize, at: usize) -> bool {
     let added = add_four(&mut checker, failing, at);
     let answer = checker.check_proof_with(&mut Counted::new(REFUTATION), &mut own);
     let ended = added && is_ended(alloc, &mut checker, &answer) && own.is_done();
-    ended && are_done(checker.into_processors(), 2)
+    let left = are_done(checker.into_processors(), 2);
+    ended && left
 }
 
 /// As `ends_with_own`, where the steps are fed one by one, to those that were added alone.
@@ -77,7 +78,8 @@ fn ends_added(alloc: Global, failing: usize, at: usize) -> bool {
     let added = add_four(&mut checker, failing, at);
     let answer = read_by(alloc, &mut checker, &mut Counted::new(REFUTATION));
     let ended = added && is_ended(alloc, &mut checker, &answer);
-    ended && are_done(checker.into_processors(), 2)
+    let left = are_done(checker.into_processors(), 2);
+    ended && left
 }
 
 /// The places, and each announcement at which the one there is called.
@@ -128,7 +130,8 @@ fn hears_formula(alloc: Global, count: usize) -> bool {
     let added = add_front(&mut checker, count);
     let error = add_all(alloc, &mut checker);
     let ended = added && is_taken_or_ended(&mut checker, count, error);
-    ended && are_done(checker.into_processors(), 1)
+    let left = are_done(checker.into_processors(), 1);
+    ended && left
 }
 
 /// The kind of the checker's own error, of those that a formula's text may be answered by.
@@ -145,7 +148,8 @@ fn hears_text(alloc: Global, count: usize) -> bool {
     let added = add_front(&mut checker, count);
     let error = own_error(&checker.add_dimacs_cnf(&mut Counted::new(PAIRS)));
     let ended = added && is_taken_or_ended(&mut checker, count, error);
-    ended && are_done(checker.into_processors(), 1)
+    let left = are_done(checker.into_processors(), 1);
+    ended && left
 }
 
 /// A formula's clauses are told, whether they come as a formula or as its text, up to a fault.
@@ -166,7 +170,8 @@ fn ends_delayed(alloc: Global, told: &'static [Told], said: &'static [Said]) -> 
         && read_by(alloc, &mut checker, &mut Counted::new(UNITS)).is_ok();
     let answer = checker.self_check_delayed_steps();
     let ended = taken && is_ended(alloc, &mut checker, &answer);
-    ended && are_done(checker.into_processors(), 1)
+    let left = are_done(checker.into_processors(), 1);
+    ended && left
 }
 
 /// As `ends_delayed`, by the end of a proof.
@@ -177,7 +182,8 @@ fn ends_proof(alloc: Global, told: &'static [Told], said: &'static [Said]) -> bo
         && read_by(alloc, &mut checker, &mut Counted::new(UNITS)).is_ok();
     let answer = checker.check_proof(&mut Counted::new(END));
     let ended = taken && is_ended(alloc, &mut checker, &answer) && !checker.ended();
-    ended && are_done(checker.into_processors(), 1)
+    let left = are_done(checker.into_processors(), 1);
+    ended && left
 }
 
 /// A processor answers a fault to the empty clause, and a transcript does.

@@ -135,7 +135,9 @@ fn told(alloc: Global, text: &[u8]) -> Told {
     let _incomplete = checker.check_proof(&mut Counted::new(text));
     let var = Var::from_index(0);
     let name = checker.user_name(var).map(|name| name.index());
-    (name, checker.knows(var), checker.var_deleted())
+    let told = (name, checker.knows(var), checker.var_deleted());
+    drop(checker);
+    told
 }
 
 #[test]

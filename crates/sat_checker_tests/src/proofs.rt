@@ -22,10 +22,9 @@ const END: &[u8] = &[13];
 fn answered<R: CountedRead>(alloc: Global, reader: &mut R) -> (Answer, Option<Kind>) {
     let mut checker = Checker::new(alloc);
     let answer = read_on(&mut checker, reader);
-    (
-        answer,
-        failure(&checker.check_proof(&mut Counted::new(END))),
-    )
+    let error = failure(&checker.check_proof(&mut Counted::new(END)));
+    drop(checker);
+    (answer, error)
 }
 
 /// Whether a text is answered so, read whole and in pieces of one byte.
@@ -90,7 +89,9 @@ const NAMED_AGAIN: &[u8] = &[
 fn goes_on_behind(alloc: Global, failing: u64) -> bool {
     let mut checker = Checker::new(alloc);
     let answer = read_on(&mut checker, &mut by_one(NAMED_AGAIN, failing));
-    answer.0 == Some(Kind::IoError) && checker.check_proof(&mut Counted::new(END)).is_ok()
+    let ended = checker.check_proof(&mut Counted::new(END)).is_ok();
+    drop(checker);
+    answer.0 == Some(Kind::IoError) && ended
 }
 
 #[test]
@@ -98,9 +99,7 @@ fn failed_reads_are_answered(rt: HostRuntime) -> Result<(), Fail> {
     for failing in 1..20 {
         assert!(rt; goes_on_behind(rt.alloc(), failing), "{failing}");
     }
-    assert!(rt;
-        read_on(&mut Checker::new(rt.alloc()), &mut by_one(NAMED_AGAIN, 20)) == (None, true, true)
-    );
+    assert!(rt; answered(rt.alloc(), &mut by_one(NAMED_AGAIN, 20)).0 == (None, true, true));
     Ok(())
 }
 
@@ -112,6 +111,7 @@ fn proofs_follow_proofs(rt: HostRuntime) -> Result<(), Fail> {
     let second: &[u8] = &[5, 1, 2, 13];
     assert!(rt; read_on(&mut checker, &mut Counted::new(first)) == (None, true, true));
     assert!(rt; read_on(&mut checker, &mut Counted::new(second)) == (None, true, true));
+    drop(checker);
     Ok(())
 }
 
@@ -164,13 +164,16 @@ fn refused_clauses_end_a_formula(rt: HostRuntime) -> Result<(), Fail> {
     assert!(rt; !checker.unsat());
     assert!(rt; checker.add_clause(&[Lit::from_code(3)]).is_ok());
     assert!(rt; checker.unsat());
+    drop(checker);
     Ok(())
 }
 
 fn refuted(alloc: Global, text: &[u8]) -> (Option<Kind>, Answer) {
     let mut checker = Checker::new(alloc);
     let added = add_all(alloc, &mut checker);
-    (added, read_on(&mut checker, &mut Counted::new(text)))
+    let answer = read_on(&mut checker, &mut Counted::new(text));
+    drop(checker);
+    (added, answer)
 }
 
 /// Proofs that the four clauses have no model, at widths 8 and 0.
@@ -203,6 +206,7 @@ fn clauses_come_twice(rt: HostRuntime) -> Result<(), Fail> {
     assert!(rt; read_on(&mut checker, &mut Counted::new(third)).0 == Some(Kind::CheckFailed));
     assert!(rt; read_on(&mut checker, &mut Counted::new(third)).0 == Some(Kind::HasFailed));
     assert!(rt; failure(&checker.add_clause(&[first])) == Some(Kind::HasFailed));
+    drop(checker);
     Ok(())
 }
 
@@ -215,7 +219,9 @@ fn looks_add_up(rt: HostRuntime) -> Result<(), Fail> {
     let mut looks = Looks::new();
     looks.add(&checker);
     looks.add(&checker);
+    let once = checker.looks();
+    drop(checker);
     assert!(rt; (added, answer.0) == (None, None));
-    assert!(rt; looks.get() == 2 * checker.looks().min(1000) && looks.get() > 0);
+    assert!(rt; looks.get() == 2 * once.min(1000) && looks.get() > 0);
     Ok(())
 }

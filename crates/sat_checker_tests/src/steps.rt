@@ -37,7 +37,9 @@ fn answered<R: CountedRead>(alloc: Global, reader: &mut R) -> (Answer, Option<Ki
     let mut checker = Checker::new(alloc);
     let error = failure(&read_by(alloc, &mut checker, reader));
     let answer = (error, checker.unsat(), checker.ended());
-    (answer, failure(&checker.add_clause(&[])))
+    let next = failure(&checker.add_clause(&[]));
+    drop(checker);
+    (answer, next)
 }
 
 /// What a checker answers to steps where a processor and a transcript take everything that it announces.
@@ -45,11 +47,9 @@ fn answered_to_listeners(alloc: Global, text: &[u8]) -> Option<Answer> {
     let mut checker: Checker<FailsAt, FailsAt> = Checker::telling(alloc);
     let added = add_quiet(&mut checker);
     let error = failure(&read_by(alloc, &mut checker, &mut Counted::new(text)));
-    if added {
-        Some((error, checker.unsat(), checker.ended()))
-    } else {
-        None
-    }
+    let answer = (error, checker.unsat(), checker.ended());
+    drop(checker);
+    if added { Some(answer) } else { None }
 }
 
 /// Whether the steps of a row are answered so, read whole and in pieces of one byte, and whether or not somebody listens.
@@ -70,6 +70,7 @@ fn failing_is_final(rt: HostRuntime) -> Result<(), Fail> {
     assert!(rt; failure(&checker.add_clause(&lit)) == Some(Kind::CheckFailed));
     assert!(rt; checker.add_clause(&[]).is_ok());
     assert!(rt; checker.unsat());
+    drop(checker);
     Ok(())
 }
 
@@ -86,5 +87,6 @@ fn delayed_steps_are_settled(rt: HostRuntime) -> Result<(), Fail> {
     assert!(rt; checker.self_check_step(&step).is_ok());
     assert!(rt; failure(&checker.self_check_step(&step)) == Some(Kind::CheckFailed));
     assert!(rt; failure(&checker.self_check_delayed_steps()) == Some(Kind::HasFailed));
+    drop(checker);
     Ok(())
 }

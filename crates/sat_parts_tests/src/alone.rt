@@ -150,6 +150,7 @@ fn long_clauses_alone(rt: HostRuntime) {
     assert!(rt; reads(parts.trail.trail(), &[1, 2, 3]));
     assert!(rt; third_by_first(&parts));
     assert!(rt; parts.watchlists.enabled());
+    drop(parts);
 }
 
 #[test]
@@ -160,6 +161,7 @@ fn binary_clauses_alone(rt: HostRuntime) {
     assert!(rt; found == Ok(Some(Ok(()))));
     assert!(rt; reads(parts.trail.trail(), &[1, 2, -3]));
     assert!(rt; !parts.watchlists.enabled());
+    drop(parts);
 }
 
 #[test]
@@ -169,6 +171,7 @@ fn binary_conflict_alone(rt: HostRuntime) {
     let found = found_alone(rt.alloc(), &mut parts, &clauses, false);
     let lits = [Lit::from_code(3), Lit::from_code(1)];
     assert!(rt; found == Ok(Some(Err(Conflict::Binary(lits)))));
+    drop(parts);
 }
 
 #[test]
@@ -178,4 +181,5 @@ fn binary_clauses_go_before_long_ones(rt: HostRuntime) {
     let found = found_together(rt.alloc(), &mut parts, &clauses);
     assert!(rt; reads(parts.trail.trail(), &[1, 2, -3]));
     assert!(rt; names_first(&parts.db, &found));
+    drop(parts);
 }

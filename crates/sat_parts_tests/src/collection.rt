@@ -148,4 +148,7 @@ fn reason_follows_its_clause(rt: HostRuntime) {
     let mut watchlists = Watchlists::new(rt.alloc());
     assert!(rt; row(rt.alloc(), &mut clauses, &mut db, &mut watchlists) == Ok(true));
     assert!(rt; db.count_by_tier(Tier::Core) == 1);
+    drop(clauses);
+    drop(db);
+    drop(watchlists);
 }

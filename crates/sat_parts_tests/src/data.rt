@@ -95,6 +95,7 @@ fn removal_row(alloc: Global, parts: &mut Parts) -> Result<bool, AllocError>
 fn clauses_with_a_value_are_removed(rt: HostRuntime) {
     let mut parts = no_parts(rt.alloc());
     assert!(rt; removal_row(rt.alloc(), &mut parts) == Ok(true));
+    drop(parts);
 }
 
 #[test]
@@ -106,6 +107,7 @@ fn parts_are_read_back(rt: HostRuntime) {
     assert!(rt; values(&mut parts.assignment));
     assert!(rt; nodes(&mut parts.graph));
     assert!(rt; implications(&mut parts.binary) == Ok(true));
+    drop(parts);
 }
 
 /// Whether the queue and the count of level 0 have a unit, and what is left of it once the trail is cleared.
@@ -144,4 +146,5 @@ fn clear_row(alloc: Global, parts: &mut Parts) -> Result<bool, AllocError>
 fn cleared_literals_stay_counted(rt: HostRuntime) {
     let mut parts = no_parts(rt.alloc());
     assert!(rt; clear_row(rt.alloc(), &mut parts) == Ok(true));
+    drop(parts);
 }

@@ -99,4 +99,9 @@ fn levels_of_a_clause_are_counted(rt: HostRuntime) {
     );
     assert!(rt; glue == Ok(Some(2)));
     assert!(rt; flags.flags.as_slice() == [false; 10].as_slice());
+    drop(clauses);
+    drop(db);
+    drop(watchlists);
+    drop(graph);
+    drop(flags);
 }

@@ -190,4 +190,7 @@ fn tiers_deletions_and_collections(rt: HostRuntime) {
     let mut watchlists = Watchlists::new(rt.alloc());
     assert!(rt; row(rt.alloc(), &mut clauses, &mut db, &mut watchlists) == Ok(true));
     assert!(rt; counts(&db) == [0, 1, 0, 0]);
+    drop(clauses);
+    drop(db);
+    drop(watchlists);
 }

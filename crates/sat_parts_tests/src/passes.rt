@@ -294,6 +294,9 @@ fn reason_is_not_deleted(rt: HostRuntime) {
     let mut watchlists = Watchlists::new(rt.alloc());
     assert!(rt; reason_row(rt.alloc(), &mut clauses, &mut db, &mut watchlists) == Ok(true));
     assert!(rt; counts(&db) == [1, 1, 1, 1]);
+    drop(clauses);
+    drop(db);
+    drop(watchlists);
 }
 
 #[test]
@@ -302,6 +305,9 @@ fn clauses_are_filtered(rt: HostRuntime) {
     let mut db = ClauseDb::new(rt.alloc());
     let mut watchlists = Watchlists::new(rt.alloc());
     assert!(rt; filter_row(rt.alloc(), &mut clauses, &mut db, &mut watchlists) == Ok(true));
+    drop(clauses);
+    drop(db);
+    drop(watchlists);
 }
 
 #[test]
@@ -310,6 +316,9 @@ fn tiers_and_marks_of_passes(rt: HostRuntime) {
     let mut db = ClauseDb::new(rt.alloc());
     let mut watchlists = Watchlists::new(rt.alloc());
     assert!(rt; passes_row(rt.alloc(), &mut clauses, &mut db, &mut watchlists) == Ok(true));
+    drop(clauses);
+    drop(db);
+    drop(watchlists);
 }
 
 #[test]
@@ -318,6 +327,9 @@ fn bumped_clause_is_raised(rt: HostRuntime) {
     let mut db = ClauseDb::new(rt.alloc());
     let mut watchlists = Watchlists::new(rt.alloc());
     assert!(rt; activities_row(rt.alloc(), &mut clauses, &mut db, &mut watchlists) == Ok(true));
+    drop(clauses);
+    drop(db);
+    drop(watchlists);
 }
 
 #[test]
@@ -326,4 +338,7 @@ fn clause_is_shortened_and_deleted(rt: HostRuntime) {
     let mut db = ClauseDb::new(rt.alloc());
     let mut watchlists = Watchlists::new(rt.alloc());
     assert!(rt; cut_row(rt.alloc(), &mut clauses, &mut db, &mut watchlists) == Ok(true));
+    drop(clauses);
+    drop(db);
+    drop(watchlists);
 }

@@ -111,6 +111,7 @@ fn long_clause_behind_binary(rt: HostRuntime) {
     assert!(rt; reads(parts.trail.trail(), &[1, 2, 3]));
     assert!(rt; parts.trail.fully_propagated());
     assert!(rt; parts.watchlists.enabled());
+    drop(parts);
 }
 
 #[test]
@@ -120,6 +121,7 @@ fn falsified_clause_is_named(rt: HostRuntime) {
     let found = propagated(rt.alloc(), &mut parts, &clauses, Lit::from_index(0, true));
     assert!(rt; reads(parts.trail.trail(), &[1, 2, -3]));
     assert!(rt; names_first(&parts.db, &found));
+    drop(parts);
 }
 
 #[test]
@@ -129,6 +131,7 @@ fn falsified_binary_clause_is_named(rt: HostRuntime) {
     let found = propagated(rt.alloc(), &mut parts, &clauses, Lit::from_index(0, true));
     let lits = [Lit::from_index(1, false), Lit::from_index(0, false)];
     assert!(rt; found == Ok(Some(Err(Conflict::Binary(lits)))));
+    drop(parts);
 }
 
 #[test]
@@ -138,4 +141,5 @@ fn nothing_is_left_to_propagate(rt: HostRuntime) {
     let found = propagated_twice(rt.alloc(), &mut parts, &clauses, Lit::from_index(0, true));
     assert!(rt; found == Ok(Some(Ok(()))));
     assert!(rt; reads(parts.trail.trail(), &[1, 2, 3]));
+    drop(parts);
 }

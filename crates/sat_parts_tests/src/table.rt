@@ -176,4 +176,6 @@ fn levels_are_entered_and_undone(rt: HostRuntime) {
     assert!(rt; !has_lost(&parts, 0, true));
     assert!(rt; parts.vsids.next() == Some(Var::from_index(1)));
     assert!(rt; flags.flags.as_slice() == [false; 10].as_slice());
+    drop(parts);
+    drop(flags);
 }

@@ -65,4 +65,6 @@ fn list_is_lent_and_written(rt: HostRuntime) {
     let mut clauses = ClauseAlloc::new(rt.alloc());
     let mut watchlists = Watchlists::new(rt.alloc());
     assert!(rt; row(rt.alloc(), &mut clauses, &mut watchlists) == Ok(true));
+    drop(clauses);
+    drop(watchlists);
 }
