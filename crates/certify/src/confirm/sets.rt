@@ -1,5 +1,6 @@
 //! Lists of literals, compared as sets.
-ghost use Rattle.std.specs.Prelude.{IfOk, OnOk};
+ghost use Rattle.std.specs.Prelude.{◌≡◌, IfOk, OnOk};
+ghost use Rattle.sat_checker.specs.LiteralSets.{is_among};
 ghost use Rattle.certify.specs.confirm.SpeltLiterals.{Tells, AllMarked, AllAmong, SameMembers};
 
 use crate::confirm::marked::Marked;
@@ -31,6 +32,27 @@ fn all_marked(marks: &Marked, literals: &[Lit]) -> bool
     true
 }
 
+/// Lists of at most so many literals are compared without marks.
+const FEW: usize = 8;
+
+fn is_found(literals: &[Lit], lit: Lit) -> bool
+    ensures { result ≡ is_among literals.now lit }
+{
+    literals.contains(&lit)
+}
+
+/// As `all_marked` where all of the others are marked, which are looked through for each literal.
+fn all_found(literals: &[Lit], others: &[Lit]) -> bool
+    ensures { Tells result (AllMarked others.now literals.now) }
+{
+    for lit in literals {
+        if !is_found(others, *lit) {
+            return false;
+        }
+    }
+    true
+}
+
 /// Whether each of the literals is one of the others.
 pub(crate) fn are_among(
     marks: &mut Marked,
@@ -39,6 +61,9 @@ pub(crate) fn are_among(
 ) -> Result<bool, AllocError>
     ensures { IfOk result (λ yes. Tells yes (AllAmong literals.now others.now)) }
 {
+    if literals.len() <= FEW && others.len() <= FEW {
+        return Ok(all_found(literals, others));
+    }
     mark(marks, others)?;
     Ok(all_marked(marks, literals))
 }

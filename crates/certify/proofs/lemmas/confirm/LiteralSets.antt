@@ -3,7 +3,7 @@ use Rattle.std.proofs.Common.{ℕ, zero, suc, ◌+◌, ◌<◌, ◌≡◌, ◌||
 use Rattle.std.proofs.lemmas.Bool.{true≢false, eqb-true, or_cases}
 use Rattle.std.proofs.lemmas.List.{take_more}
 use Rattle.std.specs.Bool.{MatchBool}
-use Rattle.std.specs.List.{AllByRecursion}
+use Rattle.std.specs.List.{AllByRecursion, list_any}
 use Rattle.sat_base.specs.values.Literals.{coded}
 use Rattle.sat_base.specs.script.Script.{Literal, Among}
 use Rattle.sat_checker.specs.LiteralSets.{is_among}
@@ -69,6 +69,11 @@ marked_all marks (x ∷ xs) ys s h = (s x ∙ is_from_among ys x h.0, marked_all
 pub among_answer : (marks xs ys : List ℕ) (yes : Bool) → SameMembers marks ys → MatchBool yes (AllByRecursion (λ l. is_among marks l ≡ true) xs) (AllByRecursion (λ l. is_among marks l ≡ true) xs → ⊥) → MatchBool yes (AllAmong xs ys) (AllAmong xs ys → ⊥)
 among_answer marks xs ys true s h = all_marked marks xs ys s h
 among_answer marks xs ys false s h = λ a. h (marked_all marks xs ys s a)
+
+-- looked through
+pub found : (xs : List ℕ) (l : ℕ) → list_any (λ x. eqb x l) xs ≡ is_among xs l
+found [] l = refl
+found (x ∷ xs) l = ap (λ b. eqb x l || b) (found xs l)
 
 pub all_at : (P : ℕ → Type 0) (xs : List ℕ) (i d : ℕ) → i < length xs → AllByRecursion P xs → P (get_or xs i d)
 all_at P [] i d h a = absurd (omega arith)
