@@ -2,8 +2,9 @@
 # Refuses each allocation in turn, and looks at what is answered: bench/faults/run.sh
 #
 # First for calls.rt.txt, a program over sat_base: the call whose allocation is refused has to say that it is out of memory, what it leaves
-# behind has to be what its documentation says, and all other lines have to be those of a run with all memory. Then for certify, on two
-# scripts: it has to end with `certify: OutOfMemory` and status 3, and what it printed by then has to be the beginning of what it prints
+# behind has to be what its documentation says, and all other lines have to be those of a run with all memory. Then for feeds.rt.txt, a
+# program over sat_checker: the call has to say so, each later one has to answer that the checker has failed, and all who listen have to be
+# handed back, with no more told than in a run with all memory. Then for certify, on two scripts: it has to end with `certify: OutOfMemory` and status 3, and what it printed by then has to be the beginning of what it prints
 # with all memory. A line says for each N which call was out of memory. It isn't part of the gate, and takes some minutes.
 #
 # `rt try --fail-alloc N` refuses the Nth allocation. Since a build takes longer than a run, one build serves for each N: it always
@@ -14,19 +15,21 @@ here=$(cd "$(dirname "$0")" && pwd)
 top=$(cd "$here/../.." && pwd)
 work=$(mktemp -d)
 trap 'rm -rf "$work"' EXIT
-most=100
+most=200
 
-# A repository of three crates: ours, and the program over sat_base.
-mkdir -p "$work/repo/crates/calls/src"
-cp -r "$top/crates/sat_base" "$top/crates/certify" "$work/repo/crates/"
+# A repository of our crates, and the programs over sat_base and sat_checker.
+mkdir -p "$work/repo/crates/calls/src" "$work/repo/crates/feeds/src"
+cp -r "$top/crates/sat_base" "$top/crates/sat_checker" "$top/crates/certify" "$work/repo/crates/"
 cp "$top/HANDLES" "$work/repo/"
-printf 'sat_base: thiserror\ncertify: sat_base thiserror\ncalls: sat_base\n' > "$work/repo/crates.txt"
+printf 'sat_base: thiserror\nsat_checker: sat_base thiserror anyhow\ncertify: sat_base sat_checker thiserror\ncalls: sat_base\nfeeds: sat_checker sat_base anyhow\n' > "$work/repo/crates.txt"
 git init -q "$work/repo"
 cp "$here/calls.rt.txt" "$work/repo/crates/calls/src/main.rt"
+cp "$here/feeds.rt.txt" "$work/repo/crates/feeds/src/main.rt"
 
 # The texts on standard input: none, and two scripts.
-mkdir -p "$work/texts/calls" "$work/texts/certify"
+mkdir -p "$work/texts/calls" "$work/texts/feeds" "$work/texts/certify"
 printf '' > "$work/texts/calls/none"
+printf '' > "$work/texts/feeds/none"
 printf '1 2 0\na 0\n' > "$work/texts/certify/sat"
 printf '1 2 0\n1 -2 0\n-1 2 0\n-1 -2 0\na 0\n' > "$work/texts/certify/unsat"
 
@@ -126,6 +129,41 @@ directly calls "$work/calls-plain" "$count"
 directly calls "$work/calls-plain" $((count + 1))
 echo "calls: $count allocations"
 sed 's/^[0-9]*: //' "$work/calls.txt" | sort | uniq -c
+
+# A run of feeds.rt.txt beside the one with all memory. Prints which call was out of memory, or nothing where none was.
+failing='
+    function bad(why) { print FILENAME ", line " FNR ", " why ": " $0 > "/dev/stderr"; failed = 1; exit 1 }
+    function told(value) { sub(/.*told /, "", value); return value + 0 }
+    { at = index($0, ":"); name = substr($0, 1, at - 1); value = substr($0, at + 1) }
+    FNR == NR { all[FNR] = value; count = FNR; next }
+    { line = FNR }
+    !call && value == " out of memory" { call = name; next }
+    !call || name == "made" { if (value != all[FNR]) bad("another line"); next }
+    name ~ /^(unsat|ended)$/ { if (value != " false" && value != all[FNR]) bad("another record"); next }
+    name ~ /^(own|processors|transcripts)$/ { if (told(value) > told(all[FNR])) bad("more was told"); next }
+    value != " the checker has failed before" { bad("no failure") }
+    END { if (!failed && line != count) { print FILENAME ", lines are missing" > "/dev/stderr"; failed = 1 }
+        if (failed) exit 1
+        print call }
+'
+
+mkdir "$work/feeds-plain"
+behind "$work/texts/feeds/none" 0 > "$work/feeds-plain/none"
+run feeds "$work/feeds-plain" "$work/feeds-all"
+sweep feeds
+for n in $(seq "$most"); do
+    it=$work/feeds-runs/none-$n
+    [ "$(cat "$it.end")" = "run=ended status=0" ] || fail "feeds $n: $(cat "$it.end")"
+    [ ! -s "$it.err" ] || fail "feeds $n: $(cat "$it.err")"
+    call=$(awk "$failing" "$work/feeds-all/none.out" "$it.out")
+    [ -z "$call" ] || echo "$n: $call"
+done | tee "$work/feeds.txt"
+count=$(tail -n 1 "$work/feeds.txt" | cut -d : -f 1)
+[ "$count" -lt "$most" ] || fail "feeds: more than $most allocations"
+directly feeds "$work/feeds-plain" "$count"
+directly feeds "$work/feeds-plain" $((count + 1))
+echo "feeds: $(wc -l < "$work/feeds.txt") allocations"
+sed 's/^[0-9]*: //' "$work/feeds.txt" | sort | uniq -c
 
 run certify "$work/texts/certify" "$work/certify-all"
 main=$work/repo/crates/certify/src/main.rt
