@@ -1,0 +1,62 @@
+#!/usr/bin/env bash
+# Measures confirm beside check_proof on the same certificates: bench/checker/confirm.sh FOLDER [NAME..]
+#
+# FOLDER/NAME.cnf, FOLDER/answers and FOLDER/NAME.certificate match as script, answers and certificate. One program runs `confirm` on the
+# three files, the other `check_proof` on the certificate from standard input; both run five times, in turn, on each certificate of the
+# folder or on those that are named. It prints what they say, the medians of seconds and of peak memory with their ratios, and the geometric
+# mean of the ratios of time. It fails where a certificate isn't confirmed. The program of `confirm` is certify with another `main`, which
+# also runs scripts: `certify run S A C`. It isn't part of the gate, and needs GNU time.
+set -euo pipefail
+here=$(cd "$(dirname "$0")" && pwd)
+top=$(cd "$here/../.." && pwd)
+folder=$1
+shift
+work=$(mktemp -d)
+trap 'rm -rf "$work"' EXIT
+
+mkdir -p "$work/repo/crates/checks/src"
+for crate in sat_base sat_checker certify; do
+    cp -r "$top/crates/$crate" "$work/repo/crates/"
+done
+cp "$top/HANDLES" "$work/repo/"
+printf 'sat_base: thiserror\nsat_checker: sat_base thiserror anyhow\ncertify: sat_base sat_checker thiserror\nchecks: sat_checker sat_base\n' \
+    > "$work/repo/crates.txt"
+git init -q "$work/repo"
+cp "$here/checks.rt.txt" "$work/repo/crates/checks/src/main.rt"
+sed '/^use /,$d' "$top/crates/certify/src/main.rt" > "$work/repo/crates/certify/src/main.rt"
+cat "$here/confirms.rt.txt" >> "$work/repo/crates/certify/src/main.rt"
+for crate in checks certify; do
+    (cd "$work/repo/crates/$crate" && rt run < /dev/null > "$work/build.log" 2>&1) || [ -x "$work/repo/crates/$crate/out/$crate" ] ||
+        { tail -n 20 "$work/build.log"; exit 1; }
+done
+checks=$work/repo/crates/checks/out/checks confirms=$work/repo/crates/certify/out/certify
+
+median() {
+    sort -n | awk '{ t[NR] = $1 } END { print t[int((NR + 1) / 2)] }'
+}
+
+took() {
+    "$(command -v time)" -f '%e %M' -o "$work/took" "${@:2}" > "$work/$1.said" 2>&1
+    tail -n 1 "$work/took" >> "$work/$1.took"
+}
+
+[ $# -gt 0 ] || set -- $(cd "$folder" && for file in *.certificate; do echo "${file%.certificate}"; done)
+for name; do
+    rm -f "$work"/*.took
+    for _ in 1 2 3 4 5; do
+        took checks "$checks" < "$folder/$name.certificate"
+        took confirms "$confirms" confirm "$folder/$name.cnf" "$folder/answers" "$folder/$name.certificate"
+        grep -q '^confirmed true, ' "$work/confirms.said" || { cat "$work/confirms.said"; exit 1; }
+    done
+    echo "$name: check_proof $(cat "$work/checks.said"); confirm $(cat "$work/confirms.said")"
+    for column in 1 2; do
+        for kind in checks confirms; do
+            awk -v column="$column" '{ print $column }' "$work/$kind.took" | median > "$work/$kind.median"
+        done
+        paste "$work/confirms.median" "$work/checks.median" | awk -v what="$([ "$column" = 1 ] && echo seconds || echo KiB)" \
+            '{ printf "   %s: confirm %s, check_proof %s, ratio %.2f\n", what, $1, $2, $1 / ($2 > 0 ? $2 : 0.005) }'
+        paste "$work/confirms.median" "$work/checks.median" | awk '{ print $1 / ($2 > 0 ? $2 : 0.005) }' >> "$work/$column.ratios"
+    done
+done
+awk '{ all += log($1); if ($1 > most) most = $1 } END { printf "time: geometric mean %.2f, highest %.2f\n", exp(all / NR), most }' "$work/1.ratios"
+awk '{ if ($1 > most) most = $1 } END { printf "peak memory: highest %.2f\n", most }' "$work/2.ratios"
