@@ -31,14 +31,7 @@ for crate in checks certify; do
 done
 checks=$work/repo/crates/checks/out/checks confirms=$work/repo/crates/certify/out/certify
 
-median() {
-    sort -n | awk '{ t[NR] = $1 } END { print t[int((NR + 1) / 2)] }'
-}
-
-took() {
-    "$(command -v time)" -f '%e %M' -o "$work/took" "${@:2}" > "$work/$1.said" 2>&1
-    tail -n 1 "$work/took" >> "$work/$1.took"
-}
+. "$here/timing.sh"
 
 [ $# -gt 0 ] || set -- $(cd "$folder" && for file in *.certificate; do echo "${file%.certificate}"; done)
 for name; do

@@ -25,14 +25,7 @@ cp "$here/checks.rt.txt" "$work/repo/crates/checks/src/main.rt"
 (cd "$work/repo/crates/checks" && rt run < /dev/null > "$work/build.log" 2>&1) || { tail -n 20 "$work/build.log"; exit 1; }
 proved=$work/repo/crates/checks/out/checks
 
-median() {
-    sort -n | awk '{ t[NR] = $1 } END { print t[int((NR + 1) / 2)] }'
-}
-
-took() {
-    "$(command -v time)" -f '%e %M' -o "$work/took" "${@:2}" > "$work/$1.said" 2>&1
-    tail -n 1 "$work/took" >> "$work/$1.took"
-}
+. "$here/timing.sh"
 
 [ $# -gt 0 ] || set -- $(cd "$folder" && for file in *.certificate; do echo "${file%.certificate}"; done)
 for name; do

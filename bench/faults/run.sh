@@ -3,9 +3,10 @@
 #
 # First for calls.rt.txt, a program over sat_base: the call whose allocation is refused has to say that it is out of memory, what it leaves
 # behind has to be what its documentation says, and all other lines have to be those of a run with all memory. Then for feeds.rt.txt, a
-# program over sat_checker: the call has to say so, each later one has to answer that the checker has failed, and all who listen have to be
-# handed back, with no more told than in a run with all memory. Then for certify, on two scripts: it has to end with `certify: OutOfMemory` and status 3, and what it printed by then has to be the beginning of what it prints
-# with all memory. A line says for each N which call was out of memory. It isn't part of the gate, and takes some minutes.
+# program over sat_checker: the call has to say so, each later one has to answer that the checker has failed, and all who listen have to
+# be handed back, with no more told than in a run with all memory. Then for certify, on two scripts: it has to end with `certify:
+# OutOfMemory` and status 3, and what it printed by then has to be the beginning of what it prints with all memory. A line says for each N
+# which call was out of memory. It isn't part of the gate, and takes some minutes.
 #
 # `rt try --fail-alloc N` refuses the Nth allocation. Since a build takes longer than a run, one build serves for each N: it always
 # refuses the same allocation, the `most`th, and the program first makes as many of no use as the first byte of its standard input

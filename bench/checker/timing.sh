@@ -1,0 +1,12 @@
+# For scripts that measure two programs in turn, with their folder for work in `work`. Needs GNU time.
+
+# The median of the numbers on standard input.
+median() {
+    sort -n | awk '{ t[NR] = $1 } END { print t[int((NR + 1) / 2)] }'
+}
+
+# Runs a command by this name: what it said is in $work/NAME.said, and its seconds and KiB are a further line of $work/NAME.took.
+took() { # NAME COMMAND [ARGUMENT..]
+    "$(command -v time)" -f '%e %M' -o "$work/took" "${@:2}" > "$work/$1.said" 2>&1
+    tail -n 1 "$work/took" >> "$work/$1.took"
+}
