@@ -14,7 +14,7 @@ pub fn propagations_run_to_conflict()
     ensures deleted { DeletionsRest }
 {}
 
-/// What is stored was announced under its id, so an id that is named is that of a clause announced before.
+/// What is stored was announced under its id, and so was what an empty clause of a conflict and a simplified deletion name.
 pub fn ids_are_announced()
     ensures stored { IdsAreAnnounced }
     ensures delayed { ConflictIsAnnounced }

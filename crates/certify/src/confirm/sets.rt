@@ -41,7 +41,7 @@ fn is_found(literals: &[Lit], lit: Lit) -> bool
     literals.contains(&lit)
 }
 
-/// As `all_marked` where all of the others are marked, which are looked through for each literal.
+/// Whether each of the literals is one of the others, which are looked through for each.
 fn all_found(literals: &[Lit], others: &[Lit]) -> bool
     ensures { Tells result (AllMarked others.now literals.now) }
 {

@@ -102,7 +102,7 @@ pub record AreAnnounced (f : Stored) (told : List Told) : Type 0 where
   pub last : (id : ℕ) → f.last ≡ Empty id → IsAnnounced id [] told
   pub conflict : (ids : ℕ × ℕ) → f.conflict ≡ Some ids → (u : StoredUnit) × IsOneOf u f.units × (u.id ≡ ids.0) × IsAnnounced ids.1 (negated u.literal ∷ []) told
 
--- so each id that an announcement names is that of a clause that was announced before
+-- whatever the steps, accepted or not
 abbrev pub IdsAreAnnounced : Type 0
 IdsAreAnnounced = (steps : List Step) → AreAnnounced (stored_after steps) (told_after steps)
 
