@@ -1,11 +1,13 @@
 -- The solver's calls.
-use Rattle.std.proofs.Common.{ℕ, zero, suc, ◌≡◌, ◌<◌, ◌≤◌, Bool, true, false, Option, Some, None, List, [], ◌∷◌, ◌++◌, length, get_or, refl, sym, ◌∙◌, ap, subst, arith, inl, inr}
-use Rattle.std.specs.List.{Contains}
+use Rattle.std.proofs.Common.{ℕ, zero, suc, ◌≡◌, ◌<◌, ◌≤◌, Bool, true, false, Option, Some, None, List, [], ◌∷◌, ◌++◌, length, get_or, take, drop, refl, sym, ◌∙◌, ap, subst, arith, inl, inr}
+use Rattle.std.specs.List.{Contains, length_refill}
 use Rattle.std.proofs.lemmas.Bool.{or_cases, false≢true}
 use Rattle.std.proofs.lemmas.List.{get_or_default}
 use Rattle.std.proofs.lemmas.List.Elements.{All-weaker, All-nil, All-contains, Contains-get_or}
 use Rattle.sat_base.specs.values.Literals.{variable}
 use Rattle.sat_base.specs.values.Clauses.{Valuation, literal_true, clause_true, EachHolds}
+use Rattle.certify.specs.declared.search.Solver.TheInside.{Inside}
+use Rattle.certify.specs.search.SolverView.{IsSolver}
 use Rattle.certify.specs.search.Search.{IsBounded, AreBounded, Implies, AllAssigned, valuation_of}
 use Rattle.certify.specs.search.KeptClauses.{IsNormalOf, UnitsFollow, KeepsClause}
 use Rattle.std.specs.List.Sorted.{IsStrictlyIncreasing}
@@ -108,5 +110,28 @@ finds_model before old new e clauses unsat units h = subst (λ s. FindsModel s n
 
 pub has_model : (s : SolverState) → s.unsat ≡ false → length s.values ≡ s.var_count → EachHolds (valuation_of s.values) s.clauses → AllAssigned s.values → HasModel s
 has_model s going long h assigned = record { long = long; assigned = assigned; holds = (going, h) }
+
+-- writing values twice keeps how many there are
+pub refilled_twice : {X : Type 0} (n : ℕ) (xs once twice : List X) → n ≡ length xs
+    → n ≡ length (take n (twice ++ drop (length twice) (take n (once ++ drop (length once) xs))))
+refilled_twice n xs once twice long = length_refill n (take n (once ++ drop (length once) xs)) twice (length_refill n xs once long)
+
+-- the values were written anew
+pub values_written : (s t : Inside) → IsSolver s → length t.values.items ≡ length s.values.items → t.clauses ≡ s.clauses → t.units.items ≡ s.units.items → IsSolver t
+values_written s t is same clauses units = record {
+  few = omega (arith, same, is.few);
+  long = ap length units ∙ is.long ∙ sym same;
+  bounded = rw (same, clauses) is.bounded;
+  follow = rw (clauses, units) is.follow;
+}
+
+-- and so were clauses and units
+pub clauses_kept : (s t : Inside) → IsSolver s → length t.values.items ≡ length s.values.items → length t.units.items ≡ length s.units.items → AreBounded (length s.values.items) t.clauses → UnitsFollow t.clauses t.units.items → IsSolver t
+clauses_kept s t is same long bounded follow = record {
+  few = omega (arith, same, is.few);
+  long = long ∙ is.long ∙ sym same;
+  bounded = rw same bounded;
+  follow = follow;
+}
 
 pub ruleset solving = (none_follow, none_bounded, more_bounded, more_follow, normal_bounded)

@@ -1,10 +1,14 @@
-use Rattle.std.proofs.Common.{ℕ, ◌≡◌, ◌++◌, ◌∙◌, Bool, Option, List, length, take, drop, refl, sym, ap, subst, arith}
+use Rattle.std.proofs.Common.{rules, ℕ, ◌≡◌, ◌++◌, ◌∙◌, Bool, Option, List, length, take, drop, refl, sym, ap, subst, arith}
+use Rattle.std.specs.List.{length_refill}
+use Rattle.std.specs.Vec.{with_items}
+use Rattle.certify.specs.search.Search.{AreBounded}
+use Rattle.std.proofs.lemmas.List.{with_items_is}
 use Rattle.std.proofs.lemmas.Grind.{common_steps}
 use Rattle.certify.specs.search.SolverState.{SolverState, records_unsat, records_unit, unit_test}
 use Rattle.certify.specs.search.SolverView.{state_of}
 use Rattle.certify.specs.search.ScanEnds.{EndSays}
-use Rattle.certify.specs.search.KeptClauses.{KeepsClause}
-use Rattle.certify.proofs.lemmas.search.SolverCalls.{learned_viewed}
+use Rattle.certify.specs.search.KeptClauses.{KeepsClause, UnitsFollow}
+use Rattle.certify.proofs.lemmas.search.SolverCalls.{clauses_kept, finds_model, has_model, learned_viewed, refilled_twice, values_written}
 use Rattle.certify.proofs.search.Solver.round.Goals as goal
 
 pub returns-in_ok-self-inside-in-Conflict-clause-says : goal.returns-in_ok-self-inside-in-Conflict-clause-says
@@ -22,3 +26,41 @@ returns-in_ok-self-inside-in-Conflict-clause-says c =
     (subst (λ ls. (l : ℕ) → unit_test c.keep.new.units l ≡ records_unit (unit_test c.deref_mut-in-Conflict.result.now) ls l) c.deref.ensures.value kept.units) in
     learned_viewed before c.args.self.now _ unsat c.self.view_is implied c.in_ok-end.ensures.learned_increasing going refl keeps unsat_is
     (subst (λ (us : List (Option Bool)). (l : ℕ) → unit_test us l ≡ records_unit (unit_test before.units) learned l) (sym back) units_are)
+
+-- the values keep their number
+pub invariant_of-self : goal.invariant_of-self
+invariant_of-self c =
+    let v = c.self.inside.values in
+    values_written c.self.inside _ c.self.invariant (sym (refilled_twice v.len v.items c.reset.new.values c.search.new.values v.ok.0) ∙ v.ok.0) refl refl
+
+pub invariant_of-self-in-Model : goal.invariant_of-self-in-Model
+invariant_of-self-in-Model c =
+    let v = c.self.inside.values in
+    values_written c.self.inside _ c.self.invariant (sym (refilled_twice v.len v.items c.reset.new.values c.search.new.values v.ok.0) ∙ v.ok.0) refl refl
+
+pub invariant_of-self-in_err-self-inside-in-Conflict : goal.invariant_of-self-in_err-self-inside-in-Conflict
+invariant_of-self-in_err-self-inside-in-Conflict c =
+    let v = c.self.inside.values in
+    let u = c.self.inside.units in
+    let kept = c.in_err-self-inside-in-Conflict.ensures in
+    clauses_kept c.self.inside _ c.self.invariant (sym (refilled_twice v.len v.items c.reset.new.values c.search.new.values v.ok.0) ∙ v.ok.0)
+    (sym (length_refill u.len u.items c.keep.new.units u.ok.0) ∙ u.ok.0)
+    (subst (λ n. AreBounded n c.keep.new.clauses) (ap length c.deref_mut-in-Conflict.ensures.value ∙ c.self.invariant.long) kept.all_bounded)
+    (subst (UnitsFollow c.keep.new.clauses) (sym (with_items_is u c.keep.new.units (search rules))) kept.units_follow)
+
+pub invariant_of-self-in-Conflict : goal.invariant_of-self-in-Conflict
+invariant_of-self-in-Conflict c =
+    let v = c.self.inside.values in
+    let u = c.self.inside.units in
+    let kept = c.in_ok-self-inside-in-Conflict.ensures in
+    clauses_kept c.self.inside _ c.self.invariant (sym (refilled_twice v.len v.items c.reset.new.values c.search.new.values v.ok.0) ∙ v.ok.0)
+    (sym (length_refill u.len u.items c.keep.new.units u.ok.0) ∙ u.ok.0)
+    (subst (λ n. AreBounded n c.keep.new.clauses) (ap length c.deref_mut-in-Conflict.ensures.value ∙ c.self.invariant.long) kept.all_bounded)
+    (subst (UnitsFollow c.keep.new.clauses) (sym (with_items_is u c.keep.new.units (search rules))) kept.units_follow)
+
+pub returns-in-Model-clause-says : goal.returns-in-Model-clause-says
+returns-in-Model-clause-says c =
+    let back = with_items_is (with_items c.self.inside.values c.reset.new.values) c.search.new.values (search rules) in
+    let says = subst (λ end. EndSays end c.self.inside.clauses c.search.new.learned.items c.search.new.values) c.in-Model.is c.in_ok-end.ensures.says in
+    finds_model (state_of c.self.inside) c.args.self.now _ c.self.view_is refl refl refl
+    (has_model _ (ap (λ (h : SolverState). h.unsat) c.self.view_is ∙ c.requires.going) refl (rw back says.0) (rw back says.1))
