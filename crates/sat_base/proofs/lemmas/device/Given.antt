@@ -65,6 +65,31 @@ gave_to_end a b c xs n room p r e h some few =
       loans = g.loans;
     }
 
+-- where so many reads had each given some
+pub end_after : {E : Type 0} (a b c : Reader) (xs : List ℕ) (n k : ℕ) (room : List ℕ) → GaveFront a b xs → ReadsOnce {E = E} (Ok n) room b c → n ≡ 0 → 0 < length room
+    → b.calls ≡ a.calls + k → k ≤ length xs → GaveAll a c xs
+end_after a b c xs n k room p r e h calls some = gave_to_end a b c xs n room p r e h (omega arith) (omega arith)
+
+pub few_after : (a b c : Reader) (xs : List ℕ) (k : ℕ) → GaveFront a c xs → c.calls ≡ b.calls + 1 → b.calls ≡ a.calls + k → k ≤ length xs → FewReads a c
+few_after a b c xs k g once calls some = few_front a c xs g (omega arith)
+
+pub few_before : (a b : Reader) (xs : List ℕ) (k : ℕ) → GaveFront a b xs → b.calls ≡ a.calls + k → k ≤ length xs → FewReads a b
+few_before a b xs k g calls some = few_front a b xs g (omega arith)
+
+-- some was given
+pub some_given : (a c : Reader) (xs ys : List ℕ) → GaveFront a c (xs ++ ys) → 0 < length ys → length a.given < length c.given
+some_given a c xs ys g h = let e = ap length g.gave in let f = length-append a.given (xs ++ ys) in let k = length-append xs ys in omega arith
+
+-- a call more
+pub calls_after : (a b c k : ℕ) → c ≡ b + 1 → b ≡ a + k → c ≡ a + (k + 1)
+calls_after a b c k e f = omega arith
+
+pub longer_by : (xs ys zs : List ℕ) (k : ℕ) → zs ≡ xs ++ ys → k ≤ length xs → 0 < length ys → k + 1 ≤ length zs
+longer_by xs ys zs k e h some = let f = ap length e in let n = length-append xs ys in omega arith
+
+pub no_less : (xs ys : List ℕ) (k : ℕ) → k ≤ length xs → k ≤ length (xs ++ ys)
+no_less xs ys k h = let n = length-append xs ys in omega arith
+
 pub not_ended : {E : Type 0} (b c : Reader) (n : ℕ) (room : List ℕ) → ReadsOnce {E = E} (Ok n) room b c → 0 < n → c.ended ≡ false
 not_ended b c n room r h = r.ended ∙ not_at_end n room h
 
