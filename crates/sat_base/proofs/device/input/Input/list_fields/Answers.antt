@@ -1,4 +1,4 @@
-use Rattle.std.proofs.Common.{rules}
+use Rattle.std.proofs.Common.{◌≡◌, sym, rules}
 use Rattle.std.proofs.lemmas.Result.{err_from_is_err_and}
 use Rattle.sat_base.specs.device.Reading.{source_of}
 use Rattle.sat_base.proofs.lemmas.steps.TagForms.{stops_behind, clause_form, at_form, units_form, deletion_form, model_form, assumptions_form, failed_form}
@@ -45,3 +45,29 @@ returns-in_err-both_lists g c =
     let S = source_of g.R.CountedRead.seen in
     let p = err_from_is_err_and c.from_residual-in_err-both_lists.result c.from_residual-in_err-both_lists.ensures.1 in
     stops_behind 12 c.args.tag _ _ failed_form _ c.from_residual-in_err-both_lists.result _ c.in_err-both_lists.field-0.0 (S c.args.self.now) (S c.both_lists.new.self) p.1 p.2 (grind rules) c.in_err-both_lists.ensures
+
+-- WHERE ALL WAS READ
+
+pub returns-in_ok-literals : goal.returns-in_ok-literals
+returns-in_ok-literals g c = let e = c.in_ok-literals.ensures in (e.0, e.1, (sym c.if-tag-eq5.true, e.2))
+
+pub returns-in_ok-redundant : goal.returns-in_ok-redundant
+returns-in_ok-redundant g c = let e = c.in_ok-redundant.ensures in (e.0, e.1, (sym c.if-tag-eq6.true, e.2))
+
+pub returns-in_ok-units : goal.returns-in_ok-units
+returns-in_ok-units g c = let e = c.in_ok-units.ensures in (e.0, e.1, (sym c.if-tag-eq7.true, e.2))
+
+pub returns-in_ok-proof : goal.returns-in_ok-proof
+returns-in_ok-proof g c = let e = c.in_ok-proof.ensures in (e.0, e.1, (sym c.if-tag-eq8.true, e.2))
+
+pub returns-in_ok-literals-2 : goal.returns-in_ok-literals-2
+returns-in_ok-literals-2 g c = let e = c.in_ok-literals-2.ensures in (e.0, e.1, (sym c.if-tag-eq10.true, e.2))
+
+pub returns-in_ok-literals-3 : goal.returns-in_ok-literals-3
+returns-in_ok-literals-3 g c = let e = c.in_ok-literals-3.ensures in (e.0, e.1, (sym c.if-tag-eq11.true, e.2))
+
+pub returns-in_ok-both_lists : goal.returns-in_ok-both_lists
+returns-in_ok-both_lists g c =
+    let i : 12 ≡ c.args.tag = grind rules in
+    let e = c.in_ok-both_lists.ensures in
+    (e.0, e.1, (i, e.2))
