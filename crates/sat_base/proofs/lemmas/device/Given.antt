@@ -4,7 +4,7 @@ use Rattle.std.proofs.lemmas.List.{append-nil}
 use Rattle.std.proofs.lemmas.Grind.{common_steps}
 use Rattle.std.specs.Prelude.{IfSome}
 use Rattle.std.specs.Io.KnownBytes.{Consumes, Keeps, IsAtEnd}
-use Rattle.sat_base.specs.device.Device.{Reader, ReadsOnce, FewReads, GaveFront, GaveAll, GaveEnough}
+use Rattle.sat_base.specs.device.Device.{Reader, ReadsOnce, FewReads, GaveFront, GaveAll, GaveEnough, most_reads}
 use Rattle.sat_base.proofs.lemmas.device.Known.{consumes_none, consumes_more}
 
 pub gave_none : (r : Reader) → GaveFront r r []
@@ -83,6 +83,25 @@ some_given a c xs ys g h = let e = ap length g.gave in let f = length-append a.g
 -- a call more
 pub calls_after : (a b c k : ℕ) → c ≡ b + 1 → b ≡ a + k → c ≡ a + (k + 1)
 calls_after a b c k e f = omega arith
+
+pub calls_within : (a b c k : ℕ) → c ≡ b + 1 → b ≡ a + k → k < most_reads → c ≤ a + most_reads
+calls_within a b c k e f h = omega arith
+
+pub calls_upto : (a b k : ℕ) → b ≡ a + k → k ≤ most_reads → b ≤ a + most_reads
+calls_upto a b k f h = omega arith
+
+pub calls_few : (a b c k : ℕ) (xs : List ℕ) → c ≡ b + 1 → b ≡ a + k → k ≤ length xs → c ≤ a + length xs + 1
+calls_few a b c k xs e f h = omega arith
+
+pub calls_few_yet : (a b k : ℕ) (xs : List ℕ) → b ≡ a + k → k ≤ length xs → b ≤ a + length xs + 1
+calls_few_yet a b k xs f h = omega arith
+
+-- for so many pieces
+pub least_calls : (a b c k n : ℕ) → c ≡ b + 1 → b ≡ a + k → n ≡ k → a + n ≤ c
+least_calls a b c k n e f h = omega arith
+
+pub most_calls : (a b c k n : ℕ) → c ≡ b + 1 → b ≡ a + k → n ≡ k → c ≤ a + n + 1
+most_calls a b c k n e f h = omega arith
 
 pub longer_by : (xs ys zs : List ℕ) (k : ℕ) → zs ≡ xs ++ ys → k ≤ length xs → 0 < length ys → k + 1 ≤ length zs
 longer_by xs ys zs k e h some = let f = ap length e in let n = length-append xs ys in omega arith

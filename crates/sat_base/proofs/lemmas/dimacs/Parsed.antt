@@ -6,6 +6,8 @@ use Rattle.std.proofs.lemmas.List.Folds.{concat-append}
 use Rattle.std.specs.Borrow.{MutBor}
 use Rattle.sat_base.specs.declared.dimacs.error.DimacsError.{DimacsError}
 use Rattle.sat_base.specs.declared.dimacs.error.DimacsError.TheVariants as errors
+use Rattle.sat_base.specs.declared.dimacs.error.IncrementalError.{IncrementalError}
+use Rattle.sat_base.specs.declared.dimacs.error.IncrementalError.TheVariants as parts
 use Rattle.sat_base.specs.dimacs.Dimacs.{Clean, Dimacs, Ending, Limit, Malformed, dimacs, settled}
 use Rattle.sat_base.specs.dimacs.Parsing.{Calls, EndsWell, FallsShort, Faults, Feeds, Finishes, GoesWell, HasRead, IsSoundText, IsWhole, KeepsText, Parses, ParsesInParts, Progress, at_its_end, clauses_read, no_progress, with_fed, words_read}
 use Rattle.std.specs.Io.KnownBytes.{IsAtEnd}
@@ -126,3 +128,17 @@ counted_of E a c p count h over few e =
     let read = h.2 in
     let words : words_read p ≡ h.0 = ap (λ (b : Bool). if b then p.fed else settled p.fed) read.2 ∙ read.0 in
     record { text = h.0; front = h.1; over = λ called. over; few = few; holds = λ rest k. e ∙ ap (λ (z : List ℕ). held (length (dimacs z).clauses)) words ∙ sym (ap (λ (d : Dimacs). held (length d.clauses)) (h.3 rest k).0) }
+
+-- WHERE THE ANSWER IS NO FAILED READ
+
+pub no_read : {T E X : Type 0} (r : Result T (IncrementalError E)) (x : T) → r ≡ Ok x → r ≡ Err (parts.Dimacs errors.Read) → X
+no_read r x k h = absurd cc
+
+pub no_read_called : {T E X : Type 0} (r : Result T (IncrementalError E)) (e : E) → r ≡ Err (parts.Caller e) → r ≡ Err (parts.Dimacs errors.Read) → X
+no_read_called r e k h = absurd cc
+
+pub no_read_ended : {T E X : Type 0} (r : Result T (IncrementalError E)) (e : DimacsError) (p q : Progress) → Finishes (Err e) p q → r ≡ Err (parts.Dimacs e) → r ≡ Err (parts.Dimacs errors.Read) → X
+no_read_ended r e p q f k h = absurd (let i : e ≡ errors.Read = cc in subst (λ (z : DimacsError). Finishes (Err z) p q) i f)
+
+pub no_read_fed : {T E X : Type 0} (r : Result T (IncrementalError E)) (e : DimacsError) (piece : List ℕ) (p q : Progress) → Feeds (Err e) piece p q → r ≡ Err (parts.Dimacs e) → r ≡ Err (parts.Dimacs errors.Read) → X
+no_read_fed r e piece p q f k h = absurd (let i : e ≡ errors.Read = cc in subst (λ (z : DimacsError). Feeds (Err z) piece p q) i f)
