@@ -162,6 +162,15 @@ deletion_back d t h = (deletion_code d, deletion_below d t h)
 pub deletion_fails : (e : StepError) (old new : Source) → Reads (IsBelow 3) (Err e) old new → Reads IsDeletion (Err e) old new
 deletion_fails e old new h = reads_as (IsBelow 3) IsDeletion deletion_at deletion_to deletion_back (Err e) old new h
 
+pub deletion_redundant : (n : ℕ) (old new : Source) → n ≡ 0 → Reads (IsBelow 3) (Ok n) old new → Reads IsDeletion (Ok Redundant) old new
+deletion_redundant n old new e h = (h.0, h.1, subst (λ (k : ℕ). IsBelow 3 k h.0) e h.2)
+
+pub deletion_simplified : (n : ℕ) (old new : Source) → n ≡ 1 → Reads (IsBelow 3) (Ok n) old new → Reads IsDeletion (Ok Simplified) old new
+deletion_simplified n old new e h = (h.0, h.1, subst (λ (k : ℕ). IsBelow 3 k h.0) e h.2)
+
+pub deletion_satisfied : (n : ℕ) (old new : Source) → (n ≡ 0 → ⊥) → (n ≡ 1 → ⊥) → Reads (IsBelow 3) (Ok n) old new → Reads IsDeletion (Ok Satisfied) old new
+deletion_satisfied n old new d e h = let f : n ≡ 2 = omega (arith, h.2.1) in (h.0, h.1, subst (λ (k : ℕ). IsBelow 3 k h.0) f h.2)
+
 -- THE TAG AND THE FIELDS
 spelled : (tag : ℕ) (step : Step) (b : List ℕ) → Behind tag step b → SpellsStep step (tag ∷ b)
 spelled tag step b h = (b, ap (λ (n : ℕ). n ∷ b) (sym h.0), h.1)
