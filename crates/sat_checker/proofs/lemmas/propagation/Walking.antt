@@ -1,6 +1,6 @@
 -- Steps of the walk.
-use Rattle.std.proofs.Common.{ℕ, zero, suc, ◌+◌, ◌-◌, ◌<◌, ◌≤◌, ◌≡◌, ◌≢◌, Bool, true, false, cond, List, [], ◌∷◌, length, drop, get_or, map, refl, sym, ◌∙◌, ap, subst, arith, Some, None}
-use Rattle.std.proofs.lemmas.List.{drop_more, drop-drop}
+use Rattle.std.proofs.Common.{ℕ, zero, suc, ◌+◌, ◌-◌, ◌<◌, ◌≤◌, ◌≡◌, ◌≢◌, Bool, true, false, cond, List, [], ◌∷◌, length, drop, get_or, map, refl, sym, ◌∙◌, ap, subst, arith, Option, Some, None}
+use Rattle.std.proofs.lemmas.List.{drop_more, drop_all, drop-drop}
 use Rattle.std.specs.List.{AllByRecursion}
 use Rattle.std.specs.Prelude.{find}
 use Rattle.sat_checker.specs.Looks.{total_length}
@@ -55,6 +55,27 @@ walk-met assumed clause rest more e = ap (λ o. and_then o (λ m. walk m rest)) 
 
 pub walk-conflict : (assumed clause : List ℕ) (rest : List (List ℕ)) → walk_on (verdict assumed clause) assumed ≡ None → walk assumed (clause ∷ rest) ≡ None
 walk-conflict assumed clause rest e = ap (λ o. and_then o (λ m. walk m rest)) e
+
+-- the clause at a place is walked over, and those behind it are left
+module _ (literals : ℕ → List ℕ) (places : List ℕ) (i : ℕ) (inside : i < length places) where
+  pub walk_more : (whole : Option (List ℕ)) (mid more : List ℕ) → whole ≡ walk mid (map literals (drop i places)) → walk_on (verdict mid (literals (get_or places i 0))) mid ≡ Some more → whole ≡ walk more (map literals (drop (i + 1) places))
+  walk_more whole mid more h e = h ∙ walk_next literals places i inside mid ∙ walk-met mid (literals (get_or places i 0)) (map literals (drop (i + 1) places)) more e
+
+  pub walk_ends : (whole : Option (List ℕ)) (mid : List ℕ) → whole ≡ walk mid (map literals (drop i places)) → walk_on (verdict mid (literals (get_or places i 0))) mid ≡ None → whole ≡ None
+  walk_ends whole mid h e = h ∙ walk_next literals places i inside mid ∙ walk-conflict mid (literals (get_or places i 0)) (map literals (drop (i + 1) places)) e
+
+  pub looks_more : (most before after : ℕ) → before + total_length (map literals (drop i places)) ≡ most → after ≡ before + length (literals (get_or places i 0)) → after + total_length (map literals (drop (i + 1) places)) ≡ most
+  looks_more most before after h e = omega (arith, sum_next literals places i inside)
+
+  pub looks_ended : (most before after : ℕ) → before + total_length (map literals (drop i places)) ≡ most → after ≡ before + length (literals (get_or places i 0)) → after ≤ most
+  looks_ended most before after h e = omega (arith, sum_next literals places i inside)
+
+-- no place is left
+pub walk_over : (literals : ℕ → List ℕ) (places : List ℕ) (i : ℕ) → length places ≤ i → (whole : Option (List ℕ)) (mid : List ℕ) → whole ≡ walk mid (map literals (drop i places)) → whole ≡ Some mid
+walk_over literals places i l whole mid h = h ∙ ap (λ ps. walk mid (map literals ps)) (drop_all i places l)
+
+pub looks_over : (most before left : ℕ) → before + left ≡ most → before ≤ most
+looks_over most before left h = omega arith
 
 pub Extends-further : (xs ys zs : List ℕ) → Extends xs ys → Extends ys zs → Extends xs zs
 Extends-further xs ys zs h k =

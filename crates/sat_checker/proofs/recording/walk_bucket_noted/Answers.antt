@@ -1,7 +1,70 @@
-use Rattle.sat_checker.proofs.lemmas.announcements.Noting.{ends_first}
+use Rattle.std.proofs.Common.{◌∷◌, sym, subst, get_or}
+use Rattle.sat_checker.specs.inner.SlotView.{IsBucket, literals_at}
+use Rattle.sat_checker.proofs.lemmas.propagation.Walking.{Extends-further, walk_more, walk_ends, walk_over, looks_more, looks_ended, looks_over}
+use Rattle.sat_checker.proofs.lemmas.store.Finding.{walk_first, looks_first, is_full}
+use Rattle.sat_checker.proofs.lemmas.announcements.Noting.{leads_first, ends_first, leads_next, ends_next, leads_over_all, read_on, read_further}
 use Rattle.sat_checker.proofs.recording.walk_bucket_noted.Goals as goal
 
 pub returns-then-branch-clause-noted : goal.returns-then-branch-clause-noted
 returns-then-branch-clause-noted c =
     ends_first c.args.clauses.now c.args.passed.now c.args.passed.now c.meet_noted.new.passed c.args.assigned.now c.args.assigned.now c.args.assigned.now c.args.hash c.in-Some.bucket.now.first c.in-Some.bucket.now.more.items
     c.in-Some.ensures.all (rw c.if-branch.true at c.in_ok-meet_noted.ensures.noted)
+
+pub loop-place-init : goal.loop-place-init
+loop-place-init c =
+    let b : IsBucket c.args.hash c.args.clauses.now (c.in-Some.bucket.now.first ∷ c.deref-place-items.result.now) =
+    subst (λ xs. IsBucket c.args.hash c.args.clauses.now (c.in-Some.bucket.now.first ∷ xs)) (sym c.deref-place-items.ensures.value) c.in-Some.ensures in
+    record {
+      walked = walk_first c.args.hash c.args.clauses.now c.in-Some.bucket.now.first c.deref-place-items.result.now b c.args.assigned.now c.meet_noted.new.assigned (rw c.if-branch.false at c.in_ok-meet_noted.ensures.met);
+      extends = c.meet_noted.ensures.extends;
+      looks = looks_first c.args.hash c.args.clauses.now c.in-Some.bucket.now.first c.deref-place-items.result.now b c.args.looks.now c.meet_noted.new.looks c.meet_noted.ensures.looks;
+      leads = leads_first c.args.clauses.now c.args.passed.now c.args.passed.now c.meet_noted.new.passed c.args.assigned.now c.args.assigned.now c.meet_noted.new.assigned c.args.hash c.in-Some.bucket.now.first c.deref-place-items.result.now
+          b.all (rw c.if-branch.false at c.in_ok-meet_noted.ensures.noted);
+      read = read_on _ _ c.args.looks.now c.meet_noted.new.looks _ c.meet_noted.ensures.looks c.in_ok-meet_noted.ensures.read;
+    }
+
+pub loop-place-preserved : goal.loop-place-preserved
+loop-place-preserved c = record {
+  walked = walk_more (literals_at c.args.clauses.now) c.deref-place-items.result.now c.loop-place.place-index c.loop-place-test.true _ c.loop-place.assigned c.meet_noted-in-loop-place.new.assigned
+      c.loop-place.invariant.walked (rw c.if-branch-2.false at c.in_ok-meet_noted-2.ensures.met);
+  extends = Extends-further c.args.assigned.now c.loop-place.assigned c.meet_noted-in-loop-place.new.assigned c.loop-place.invariant.extends c.meet_noted-in-loop-place.ensures.extends;
+  looks = looks_more (literals_at c.args.clauses.now) c.deref-place-items.result.now c.loop-place.place-index c.loop-place-test.true _ c.loop-place.looks c.meet_noted-in-loop-place.new.looks
+      c.loop-place.invariant.looks c.meet_noted-in-loop-place.ensures.looks;
+  leads = leads_next c.args.clauses.now c.args.passed.now c.loop-place.passed c.meet_noted-in-loop-place.new.passed c.args.assigned.now c.loop-place.assigned c.meet_noted-in-loop-place.new.assigned
+      c.deref-place-items.result.now c.loop-place.place-index c.loop-place-test.true _ c.loop-place.invariant.leads (rw c.if-branch-2.false at c.in_ok-meet_noted-2.ensures.noted);
+  read = read_further _ _ _ c.args.looks.now c.loop-place.looks c.meet_noted-in-loop-place.new.looks _ c.loop-place.invariant.read c.meet_noted-in-loop-place.ensures.looks c.in_ok-meet_noted-2.ensures.read;
+}
+
+pub returns-then-branch-2-clause-says : goal.returns-then-branch-2-clause-says
+returns-then-branch-2-clause-says c = (
+  is_full c.args.hash c.args.clauses.now c.in-Some.bucket.now.first c.in-Some.bucket.now.more.items c.in-Some.ensures,
+  walk_ends (literals_at c.args.clauses.now) c.deref-place-items.result.now c.loop-place.place-index c.loop-place-test.true _ c.loop-place.assigned
+      c.loop-place.invariant.walked (rw c.if-branch-2.true at c.in_ok-meet_noted-2.ensures.met),
+)
+
+pub returns-then-branch-2-clause-looks : goal.returns-then-branch-2-clause-looks
+returns-then-branch-2-clause-looks c =
+    looks_ended (literals_at c.args.clauses.now) c.deref-place-items.result.now c.loop-place.place-index c.loop-place-test.true _ c.loop-place.looks c.meet_noted-in-loop-place.new.looks
+    c.loop-place.invariant.looks c.meet_noted-in-loop-place.ensures.looks
+
+pub returns-then-branch-2-clause-noted : goal.returns-then-branch-2-clause-noted
+returns-then-branch-2-clause-noted c =
+    ends_next c.args.clauses.now c.args.passed.now c.loop-place.passed c.meet_noted-in-loop-place.new.passed c.args.assigned.now c.loop-place.assigned c.meet_noted-in-loop-place.new.assigned
+    c.deref-place-items.result.now c.loop-place.place-index c.loop-place-test.true _ c.loop-place.invariant.leads (rw c.if-branch-2.true at c.in_ok-meet_noted-2.ensures.noted)
+
+pub returns-then-branch-2-clause-read : goal.returns-then-branch-2-clause-read
+returns-then-branch-2-clause-read c =
+    read_further _ _ _ c.args.looks.now c.loop-place.looks c.meet_noted-in-loop-place.new.looks _ c.loop-place.invariant.read c.meet_noted-in-loop-place.ensures.looks c.in_ok-meet_noted-2.ensures.read
+
+pub returns-clause-says : goal.returns-clause-says
+returns-clause-says c = (
+  is_full c.args.hash c.args.clauses.now c.in-Some.bucket.now.first c.in-Some.bucket.now.more.items c.in-Some.ensures,
+  walk_over (literals_at c.args.clauses.now) c.deref-place-items.result.now c.loop-place.place-index c.loop-place-test.false _ c.loop-place.assigned c.loop-place.invariant.walked,
+)
+
+pub returns-clause-looks : goal.returns-clause-looks
+returns-clause-looks c = looks_over _ c.loop-place.looks _ c.loop-place.invariant.looks
+
+pub returns-clause-noted : goal.returns-clause-noted
+returns-clause-noted c =
+    leads_over_all c.args.clauses.now c.args.passed.now c.loop-place.passed c.args.assigned.now c.loop-place.assigned c.deref-place-items.result.now c.loop-place.place-index c.loop-place-test.false _ c.loop-place.invariant.leads

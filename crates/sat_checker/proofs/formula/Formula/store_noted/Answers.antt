@@ -1,0 +1,30 @@
+use Rattle.std.proofs.lemmas.Bool.{both_ways}
+use Rattle.std.proofs.lemmas.Result.{err_from_is_err_and}
+use Rattle.sat_checker.proofs.lemmas.state.Keeping.{decides_err}
+use Rattle.sat_checker.proofs.formula.Formula.store_noted.Goals as goal
+
+pub returns-then-not-branch-clause-decides : goal.returns-then-not-branch-clause-decides
+returns-then-not-branch-clause-decides c = λ f k p. both_ways c.in_ok-check_unit.field-0 c.if-not-branch.true ((c.in_ok-check_unit.ensures.exact f k).1 p)
+
+pub returns-then-not-branch-clause-looks : goal.returns-then-not-branch-clause-looks
+returns-then-not-branch-clause-looks c = c.check_unit.ensures.looks
+
+pub returns-in_err-check_unit-clause-looks : goal.returns-in_err-check_unit-clause-looks
+returns-in_err-check_unit-clause-looks c = c.check_unit.ensures.looks
+
+pub returns-in_err-store_unit-clause-decides : goal.returns-in_err-store_unit-clause-decides
+returns-in_err-store_unit-clause-decides c = λ f k.
+    let p = err_from_is_err_and c.from_residual-in_err-store_unit.result c.from_residual-in_err-store_unit.ensures.1 in
+    decides_err c.store_unit.result _ p.0 _ c.in_err-store_unit.was p.1 p.2 _ _ _ _ _ (λ s. s) (c.store_unit.ensures f (c.check_unit.ensures.kept f k))
+
+pub returns-in_err-store_unit-clause-looks : goal.returns-in_err-store_unit-clause-looks
+returns-in_err-store_unit-clause-looks c = c.check_unit.ensures.looks
+
+pub returns-clause-decides : goal.returns-clause-decides
+returns-clause-decides c = λ f k. ((c.in_ok-check_unit.ensures.exact f k).0 c.if-not-branch.false, c.in_ok-store_unit.ensures f (c.check_unit.ensures.kept f k))
+
+pub returns-clause-noted : goal.returns-clause-noted
+returns-clause-noted c = λ _ f k long. c.in_ok-check_unit.ensures.noted c.if-not-branch.false f k long
+
+pub returns-clause-looks : goal.returns-clause-looks
+returns-clause-looks c = c.check_unit.ensures.looks

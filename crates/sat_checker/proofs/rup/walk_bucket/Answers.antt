@@ -1,0 +1,47 @@
+use Rattle.std.proofs.Common.{◌≡◌, ◌∷◌, sym, subst, Some, None}
+use Rattle.sat_checker.specs.inner.SlotView.{IsBucket, literals_at}
+use Rattle.sat_checker.specs.inner.Walk.{verdict, walk_on}
+use Rattle.sat_checker.proofs.lemmas.propagation.Walking.{Extends-further, walk_more, walk_ends, walk_over, looks_more, looks_ended, looks_over}
+use Rattle.sat_checker.proofs.lemmas.store.Finding.{walk_first, looks_first, is_full}
+use Rattle.sat_checker.proofs.rup.walk_bucket.Goals as goal
+
+pub loop-place-init : goal.loop-place-init
+loop-place-init c =
+    let b : IsBucket c.args.hash c.args.clauses.now (c.in-Some.bucket.now.first ∷ c.deref-place-items.result.now) =
+    subst (λ xs. IsBucket c.args.hash c.args.clauses.now (c.in-Some.bucket.now.first ∷ xs)) (sym c.deref-place-items.ensures.value) c.in-Some.ensures in
+    record {
+      walked = walk_first c.args.hash c.args.clauses.now c.in-Some.bucket.now.first c.deref-place-items.result.now b c.args.assigned.now c.meet.new.assigned
+          (subst (λ ls. walk_on (verdict c.args.assigned.now ls) c.args.assigned.now ≡ Some c.meet.new.assigned) c.literals.ensures.lent (rw c.if-branch.false at c.in_ok-meet.ensures.met));
+      extends = c.meet.ensures.extends;
+      looks = looks_first c.args.hash c.args.clauses.now c.in-Some.bucket.now.first c.deref-place-items.result.now b c.args.looks.now c.literals.new.looks c.literals.ensures.looks;
+    }
+
+pub loop-place-preserved : goal.loop-place-preserved
+loop-place-preserved c = record {
+  walked = walk_more (literals_at c.args.clauses.now) c.deref-place-items.result.now c.loop-place.place-index c.loop-place-test.true _ c.loop-place.assigned c.meet-in-loop-place.new.assigned c.loop-place.invariant.walked
+      (subst (λ ls. walk_on (verdict c.loop-place.assigned ls) c.loop-place.assigned ≡ Some c.meet-in-loop-place.new.assigned) c.literals-in-loop-place.ensures.lent (rw c.if-branch-2.false at c.in_ok-meet-2.ensures.met));
+  extends = Extends-further c.args.assigned.now c.loop-place.assigned c.meet-in-loop-place.new.assigned c.loop-place.invariant.extends c.meet-in-loop-place.ensures.extends;
+  looks = looks_more (literals_at c.args.clauses.now) c.deref-place-items.result.now c.loop-place.place-index c.loop-place-test.true _ c.loop-place.looks c.literals-in-loop-place.new.looks
+      c.loop-place.invariant.looks c.literals-in-loop-place.ensures.looks;
+}
+
+pub returns-then-branch-2-clause-says : goal.returns-then-branch-2-clause-says
+returns-then-branch-2-clause-says c = (
+  is_full c.args.hash c.args.clauses.now c.in-Some.bucket.now.first c.in-Some.bucket.now.more.items c.in-Some.ensures,
+  walk_ends (literals_at c.args.clauses.now) c.deref-place-items.result.now c.loop-place.place-index c.loop-place-test.true _ c.loop-place.assigned c.loop-place.invariant.walked
+      (subst (λ ls. walk_on (verdict c.loop-place.assigned ls) c.loop-place.assigned ≡ None) c.literals-in-loop-place.ensures.lent (rw c.if-branch-2.true at c.in_ok-meet-2.ensures.met)),
+)
+
+pub returns-then-branch-2-clause-looks : goal.returns-then-branch-2-clause-looks
+returns-then-branch-2-clause-looks c =
+    looks_ended (literals_at c.args.clauses.now) c.deref-place-items.result.now c.loop-place.place-index c.loop-place-test.true _ c.loop-place.looks c.literals-in-loop-place.new.looks
+    c.loop-place.invariant.looks c.literals-in-loop-place.ensures.looks
+
+pub returns-clause-says : goal.returns-clause-says
+returns-clause-says c = (
+  is_full c.args.hash c.args.clauses.now c.in-Some.bucket.now.first c.in-Some.bucket.now.more.items c.in-Some.ensures,
+  walk_over (literals_at c.args.clauses.now) c.deref-place-items.result.now c.loop-place.place-index c.loop-place-test.false _ c.loop-place.assigned c.loop-place.invariant.walked,
+)
+
+pub returns-clause-looks : goal.returns-clause-looks
+returns-clause-looks c = looks_over _ c.loop-place.looks _ c.loop-place.invariant.looks
