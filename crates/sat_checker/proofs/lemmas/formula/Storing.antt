@@ -1,5 +1,5 @@
 -- What storing leaves of the formula.
-use Rattle.std.proofs.Common.{ℕ, ◌+◌, ◌≤◌, ◌^◌, ◌≡◌, Bool, true, false, not, cond, eqb, List, [], ◌∷◌, ◌++◌, length, map, Option, None, Some, is_some, refl, sym, ◌∙◌, ap, subst, arith, Result, Ok, Err, inl, inr, max}
+use Rattle.std.proofs.Common.{ℕ, ◌+◌, ◌≤◌, get_or, ◌^◌, ◌≡◌, Bool, true, false, not, cond, eqb, List, [], ◌∷◌, ◌++◌, length, map, Option, None, Some, is_some, refl, sym, ◌∙◌, ap, subst, arith, Result, Ok, Err, inl, inr, max}
 use Rattle.std.proofs.lemmas.Bool.{true≢false, eq-eqb, eqb-true, eqb-false}
 use Rattle.std.specs.Prelude.{MatchResult}
 use Rattle.sat_base.specs.values.Literals.{negated}
@@ -269,3 +269,21 @@ input_stored {T = T} result F G status f c b k g e m = go result m
     go (Err e) m =
         subst (λ d. Turns {T = T} (Err d) (KeepsFormula (record { store = G.store; units = G.units; status = status }) (with_input c f)) (with_input c f)) (sym m.0)
         (inl (let a = next_of G (with_stored false c f) g in let t = ap (λ x. cond x ((with_stored false c f).next_id + 1) (with_stored false c f).next_id) m.1 in omega (arith, a, t, same, m.2)))
+
+-- by their number
+pub is_none : (ls : List ℕ) (b : Bool) → eqb (length ls) 0 ≡ b → b ≡ true → ls ≡ []
+is_none [] b e t = refl
+is_none (l ∷ ls) b e t = let k : length (l ∷ ls) ≡ 0 = eqb-true (length (l ∷ ls)) 0 (e ∙ t) in absurd (omega arith)
+
+pub is_single : (ls : List ℕ) (x : ℕ) → length ls ≡ 1 → x ≡ get_or ls 0 x → x ∷ [] ≡ ls
+is_single [] x e is = absurd (omega arith)
+is_single (l ∷ []) x e is = ap (λ y. y ∷ []) is
+is_single (l ∷ m ∷ ls) x e is = absurd (omega arith)
+
+pub is_long : (ls : List ℕ) (b : Bool) → eqb (length ls) 0 ≡ b → b ≡ false → (length ls ≡ 1 → ⊥) → 2 ≤ length ls
+is_long [] b e f n = absurd cc
+is_long (l ∷ []) b e f n = absurd (n refl)
+is_long (l ∷ m ∷ ls) b e f n = omega arith
+
+pub none_more : (looks n : ℕ) → looks ≤ looks + n
+none_more looks n = omega arith

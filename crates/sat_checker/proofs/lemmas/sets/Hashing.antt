@@ -7,7 +7,7 @@ use Rattle.sat_base.specs.values.Literals.{coded, is_positive, variable}
 use Rattle.sat_base.specs.values.Hashes.{hash_of, literal_hash}
 use Rattle.sat_checker.specs.Stored.{solver_literal}
 
-sign_of : (l v : ℕ) → coded v (is_positive l) ≡ 2 * v + l % 2
+pub sign_of : (l v : ℕ) → coded v (is_positive l) ≡ 2 * v + l % 2
 sign_of l v = go (eqb (l % 2) 0) refl
   where
     go : (b : Bool) → eqb (l % 2) 0 ≡ b → 2 * v + cond b 0 1 ≡ 2 * v + l % 2

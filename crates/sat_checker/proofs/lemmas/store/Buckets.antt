@@ -46,6 +46,9 @@ walked_more old looks new i h ss a b = looks_more old looks new i (live_length s
 pub walked_within : (old looks new i m h : ℕ) (ss : List Slot) → looks ≤ old + i * live_length ss → new ≤ looks + total_length (bucket_in h ss) → i < m → new ≤ old + m * live_length ss
 walked_within old looks new i m h ss a b l = looks_within old new (i + 1) m (live_length ss) (walked_more old looks new i h ss a b) (omega arith)
 
+pub walked_all : (old looks i m : ℕ) (ss : List Slot) → looks ≤ old + i * live_length ss → i ≤ m → looks ≤ old + m * live_length ss
+walked_all old looks i m ss a l = looks_within old looks i m (live_length ss) a l
+
 -- in no clause of a bucket a literal stands twice
 pub buckets_once : (ss : List Slot) (hashes : List ℕ) → AllByRecursion IsIncreasing (all_lits ss) → AllByRecursion (AllByRecursion NoRepeats) (map (bucket_of ss) hashes)
 buckets_once ss [] h = tt

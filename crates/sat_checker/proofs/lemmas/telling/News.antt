@@ -1,5 +1,5 @@
 -- Announcements that wait, as their literals and ids are put behind those of others.
-use Rattle.std.proofs.Common.{ℕ, suc, ◌<◌, ◌≡◌, List, [], ◌∷◌, ◌++◌, length, take, get_or, map, refl, sym, ◌∙◌, ap, subst, arith, length-append}
+use Rattle.std.proofs.Common.{ℕ, zero, suc, ◌<◌, ◌≡◌, List, [], ◌∷◌, ◌++◌, length, take, get_or, map, refl, sym, ◌∙◌, ap, subst, arith, length-append}
 use Rattle.std.proofs.lemmas.List.{get_or-map, get_or_append_left, get_or_at, length-map, map-append, take-map}
 use Rattle.std.specs.List.{All}
 use Rattle.sat_checker.specs.announcements.Announcements.{Announcement}
@@ -24,6 +24,23 @@ same_item ls ids more less i h =
 
 pub items_more : (ls ids more less : Lists) (is : List Item) → All (IsItem ls ids) is → All (IsItem (ls ++ more) (ids ++ less)) is
 items_more ls ids more less is right = λ k d l. item_more ls ids more less (get_or is k d) (right k d l)
+
+pub items_kept : (ls ids new newer more less : Lists) (is js : List Item) → All (IsItem ls ids) is → new ≡ ls ++ more → newer ≡ ids ++ less → js ≡ is → All (IsItem new newer) js
+items_kept ls ids new newer more less is js right n m j = rw (n, m, j) (items_more ls ids more less is right)
+
+-- one more item behind them
+all_pushed : (P : Item → Type 0) (is : List Item) (i : Item) → All P is → P i → All P (is ++ i ∷ [])
+all_pushed P [] i right p zero d l = p
+all_pushed P [] i right p (suc k) d l = absurd (omega arith)
+all_pushed P (x ∷ is) i right p zero d l = right 0 d (omega arith)
+all_pushed P (x ∷ is) i right p (suc k) d l = all_pushed P is i (λ j e m. right (suc j) e (omega arith)) p k d (omega arith)
+
+pub items_pushed : (ls ids new newer : Lists) (l p : List ℕ) (kind : Kind) (a b : ℕ) (is js : List Item) → All (IsItem ls ids) is → new ≡ ls ++ l ∷ [] → newer ≡ ids ++ p ∷ [] → a ≡ length ls → b ≡ length ids
+    → js ≡ is ++ (record { kind = kind; literals = a; ids = b }) ∷ [] → All (IsItem new newer) js
+items_pushed ls ids new newer l p kind a b is js right n m e f j =
+    rw (n, m, j)
+    (all_pushed (IsItem (ls ++ l ∷ []) (ids ++ p ∷ [])) is (record { kind = kind; literals = a; ids = b }) (items_more ls ids (l ∷ []) (p ∷ []) is right)
+    (record { literals_within = omega (arith, length-append ls (l ∷ [])); ids_within = omega (arith, length-append ids (p ∷ [])) }))
 
 same_items : (ls ids more less : Lists) (is : List Item) → All (IsItem ls ids) is → map (announcement_at (ls ++ more) (ids ++ less)) is ≡ map (announcement_at ls ids) is
 same_items ls ids more less [] right = refl

@@ -1,4 +1,4 @@
-use Rattle.std.proofs.Common.{◌∷◌, sym, subst, get_or}
+use Rattle.std.proofs.Common.{◌∷◌, sym, subst}
 use Rattle.sat_checker.specs.inner.SlotView.{IsBucket, literals_at}
 use Rattle.sat_checker.proofs.lemmas.propagation.Walking.{Extends-further, walk_more, walk_ends, walk_over, looks_more, looks_ended, looks_over}
 use Rattle.sat_checker.proofs.lemmas.store.Finding.{walk_first, looks_first, is_full}

@@ -1,8 +1,10 @@
-use Rattle.std.proofs.Common.{length, get_or, ◌∙◌, arith}
+use Rattle.std.proofs.Common.{length, get_or, map, sym, ap, ◌∙◌, arith}
+use Rattle.std.proofs.lemmas.List.{drop_all}
 use Rattle.sat_checker.specs.inner.SlotView.{bucket_of}
+use Rattle.sat_checker.specs.inner.Walk.{walk_buckets}
 use Rattle.sat_checker.specs.inner.Reasons.{named}
-use Rattle.sat_checker.proofs.lemmas.propagation.Walking.{Extends-further, buckets-open}
-use Rattle.sat_checker.proofs.lemmas.store.Buckets.{walked_more, walked_within}
+use Rattle.sat_checker.proofs.lemmas.propagation.Walking.{Extends-further, buckets-open, buckets-conflict, buckets-empty}
+use Rattle.sat_checker.proofs.lemmas.store.Buckets.{walked_more, walked_within, walked_all}
 use Rattle.sat_checker.proofs.lemmas.announcements.Noting.{leads_hash, ends_hash}
 use Rattle.sat_checker.proofs.recording.walk_hashes_noted.Goals as goal
 
@@ -33,3 +35,33 @@ loop-hash-preserved c =
           (named c.args.hashes.now c.args.clauses.now) c.loop-hash.invariant.leads (rw c.in-Open.is at c.in_ok-walk_bucket_noted.ensures.noted);
       read = omega (arith, c.loop-hash.invariant.read, c.in_ok-walk_bucket_noted.ensures.read);
     }
+
+pub returns-in_err-walk_bucket_noted-clause-extends : goal.returns-in_err-walk_bucket_noted-clause-extends
+returns-in_err-walk_bucket_noted-clause-extends c = Extends-further c.args.assigned.now c.loop-hash.assigned c.walk_bucket_noted.new.assigned c.loop-hash.invariant.extends c.walk_bucket_noted.ensures.extends
+
+pub returns-in-Empty-clause-found : goal.returns-in-Empty-clause-found
+returns-in-Empty-clause-found c =
+    let says = rw c.in-Empty.is at c.in_ok-walk_bucket_noted.ensures.says in
+    sym (c.loop-hash.invariant.walked ∙ buckets-empty (bucket_of c.args.clauses.now) c.args.hashes.now c.loop-hash.hash-index c.loop-hash-test.true c.loop-hash.assigned c.loop-hash.assigned says.0)
+
+pub returns-in-Empty-clause-extends : goal.returns-in-Empty-clause-extends
+returns-in-Empty-clause-extends c = Extends-further c.args.assigned.now c.loop-hash.assigned c.walk_bucket_noted.new.assigned c.loop-hash.invariant.extends c.walk_bucket_noted.ensures.extends
+
+pub returns-in-Empty-clause-looks : goal.returns-in-Empty-clause-looks
+returns-in-Empty-clause-looks c =
+    walked_within c.args.looks.now c.loop-hash.looks c.walk_bucket_noted.new.looks c.loop-hash.hash-index (length c.args.hashes.now) (get_or c.args.hashes.now c.loop-hash.hash-index 0) c.args.clauses.now
+    c.loop-hash.invariant.looks c.walk_bucket_noted.ensures.looks c.loop-hash-test.true
+
+pub returns-in-Conflict-clause-found : goal.returns-in-Conflict-clause-found
+returns-in-Conflict-clause-found c =
+    let says = rw c.in-Conflict.is at c.in_ok-walk_bucket_noted.ensures.says in
+    sym (c.loop-hash.invariant.walked ∙ buckets-conflict (bucket_of c.args.clauses.now) c.args.hashes.now c.loop-hash.hash-index c.loop-hash-test.true c.loop-hash.assigned c.loop-hash.assigned says.1)
+
+pub returns-in-Conflict-clause-extends : goal.returns-in-Conflict-clause-extends
+returns-in-Conflict-clause-extends c = Extends-further c.args.assigned.now c.loop-hash.assigned c.walk_bucket_noted.new.assigned c.loop-hash.invariant.extends c.walk_bucket_noted.ensures.extends
+
+pub returns-clause-found : goal.returns-clause-found
+returns-clause-found c = sym (c.loop-hash.invariant.walked ∙ ap (λ hs. walk_buckets c.loop-hash.assigned (map (bucket_of c.args.clauses.now) hs)) (drop_all c.loop-hash.hash-index c.args.hashes.now c.loop-hash-test.false))
+
+pub returns-clause-looks : goal.returns-clause-looks
+returns-clause-looks c = walked_all c.args.looks.now c.loop-hash.looks c.loop-hash.hash-index (length c.args.hashes.now) c.args.clauses.now c.loop-hash.invariant.looks c.loop-hash.auto.hash-index-end
