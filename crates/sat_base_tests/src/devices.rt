@@ -105,47 +105,70 @@ pub(crate) fn by_few(alloc: Global, most: usize, failing: u64) -> Counted<ByFew>
     })
 }
 
+/// Writes a text whole, flushes, and tests whether the device was given the text.
+fn is_passed_on(alloc: Global, text: &[u8]) -> Result<bool, io::Error> {
+    let mut writer = Counted::new(Vec::new(alloc));
+    writer.write_all_counted(text)?;
+    writer.flush_counted()?;
+    Ok(writer.into_inner().as_slice() == text)
+}
+
+/// Tests whether a reader is read whole to this text.
+fn is_read<R: CountedRead>(alloc: Global, reader: &mut R, text: &[u8]) -> Result<bool, ReadError> {
+    Ok(read_whole(alloc, reader)?.as_slice() == text)
+}
+
+/// Reads a text whole, byte by byte, of which one read fails, counted from 1. Gives whether the text was read, or the fault, and
+/// how many calls were made.
+fn read_by_one(alloc: Global, text: &[u8], failing: u64) -> (Result<bool, ReadError>, u64) {
+    let mut reader = by_one(text, failing);
+    let answer = is_read(alloc, &mut reader, text);
+    (answer, reader.into_inner().calls)
+}
+
 #[test]
 fn devices_pass_on_what_they_are_given(rt: HostRuntime) -> Result<(), Fail> {
-    let mut writer = Counted::new(Vec::new(rt.alloc()));
-    writer.write_all_counted(b"abc")?;
-    writer.flush_counted()?;
-    let text = writer.into_inner();
-    assert!(rt; text.as_slice() == b"abc".as_slice());
-    let mut full = Counted::new(Full {});
-    assert!(rt; full.write_all_counted(b"abc").is_err());
-    let mut reader = by_one(text.as_slice(), 0);
-    let whole = read_whole(rt.alloc(), &mut reader)?;
-    assert!(rt; whole.as_slice() == b"abc".as_slice());
+    assert!(rt; is_passed_on(rt.alloc(), b"abc")?);
+    assert!(rt; Counted::new(Full {}).write_all_counted(b"abc").is_err());
+    assert!(rt; read_by_one(rt.alloc(), b"abc", 0).0 == Ok(true));
     Ok(())
 }
 
 #[test]
-fn each_read_of_a_whole_text_may_fail(rt: HostRuntime) -> Result<(), Fail> {
+fn each_read_of_a_whole_text_may_fail(rt: HostRuntime) {
     for failing in 1..5 {
-        let mut reader = by_one(b"abc", failing);
-        assert!(rt; read_whole(rt.alloc(), &mut reader).err() == Some(ReadError::Failed));
-        assert!(rt; reader.into_inner().calls == failing);
+        let answer = read_by_one(rt.alloc(), b"abc", failing);
+        assert!(rt; answer == (Err(ReadError::Failed), failing));
     }
-    let mut reader = by_one(b"abc", 5);
-    let whole = read_whole(rt.alloc(), &mut reader)?;
-    assert!(rt; whole.as_slice() == b"abc".as_slice());
-    assert!(rt; reader.into_inner().calls == 4);
-    Ok(())
+    assert!(rt; read_by_one(rt.alloc(), b"abc", 5) == (Ok(true), 4));
+}
+
+/// Writes a text by one call. Gives how many bytes were taken, and tests whether the device was given the text.
+fn written_once(alloc: Global, text: &[u8]) -> Result<(usize, bool), io::Error> {
+    let mut writer = Counted::new(Vec::new(alloc));
+    let taken = writer.write(text)?;
+    Ok((taken, writer.into_inner().as_slice() == text))
+}
+
+/// Flushes by both calls. Gives how often the device was.
+fn flushed_twice() -> Result<u64, io::Error> {
+    let mut writer = Counted::new(Flushed { flushes: 0 });
+    writer.flush()?;
+    writer.flush_counted()?;
+    Ok(writer.into_inner().flushes)
+}
+
+/// Reads a piece of a text by one call. Gives how many bytes were read, and the first.
+fn read_once(text: &[u8]) -> Result<(usize, u8), io::Error> {
+    let mut piece = [0; 4];
+    let count = by_one(text, 0).read(&mut piece)?;
+    Ok((count, piece[0]))
 }
 
 #[test]
 fn calls_by_the_standard_traits_reach_the_device(rt: HostRuntime) -> Result<(), Fail> {
-    let mut writer = Counted::new(Vec::new(rt.alloc()));
-    assert!(rt; writer.write(b"abc")? == 3);
-    assert!(rt; writer.into_inner().as_slice() == b"abc".as_slice());
-    let mut writer = Counted::new(Flushed { flushes: 0 });
-    writer.flush()?;
-    writer.flush_counted()?;
-    assert!(rt; writer.into_inner().flushes == 2);
-    let mut reader = by_one(b"ab", 0);
-    let mut piece = [0; 4];
-    assert!(rt; reader.read(&mut piece)? == 1);
-    assert!(rt; piece[0] == b'a');
+    assert!(rt; written_once(rt.alloc(), b"abc")? == (3, true));
+    assert!(rt; flushed_twice()? == 2);
+    assert!(rt; read_once(b"ab")? == (1, b'a'));
     Ok(())
 }

@@ -12,7 +12,7 @@ use sat_base::{
     CnfFormula, Counted, CountedRead, DimacsError, DimacsParser, ExtendFormula, IncrementalError,
     Lit, write_dimacs,
 };
-use std::alloc::Global;
+use std::alloc::{AllocError, Global};
 use std::test::*;
 
 const MALFORMED: DimacsError = DimacsError::Malformed { line: 2 };
@@ -38,15 +38,21 @@ fn state(parser: &DimacsParser) -> State {
     (parser.header(), parser.clause_count(), parser.var_count())
 }
 
-/// The numbers of a formula's literals, with a 0 behind each clause.
-fn numbers(alloc: Global, formula: &CnfFormula) -> Result<Vec<i64>, Fail> {
-    let mut all = Vec::new(alloc);
+/// Adds the numbers of a formula's literals, with a 0 behind each clause.
+fn add_numbers(all: &mut Vec<i64>, formula: &CnfFormula) -> Result<(), AllocError> {
     for clause in formula {
         for lit in clause {
             all.push(lit.to_dimacs())?;
         }
         all.push(0)?;
     }
+    Ok(())
+}
+
+/// The numbers of a formula's literals, with a 0 behind each clause.
+fn numbers(alloc: Global, formula: &CnfFormula) -> Result<Vec<i64>, Fail> {
+    let mut all = Vec::new(alloc);
+    add_numbers(&mut all, formula)?;
     Ok(all)
 }
 
@@ -87,7 +93,7 @@ type Row = (
     usize,
 );
 
-const ROWS: [Row; 11] = [
+static ROWS: [Row; 11] = [
     (b"", Ok(()), &[], None, 0),
     (b"p cnf 2 1\n1 -2 0\n", Ok(()), &[1, -2, 0], Some((2, 1)), 2),
     (b"p cnf 9 5\n-4 0\n", Ok(()), &[-4, 0], Some((9, 5)), 4),
@@ -122,12 +128,20 @@ fn says(alloc: Global, row: &Row, piece: usize) -> Result<bool, Fail>
     Ok(read(&mut parser, row.0, piece) == row.1 && has_read(alloc, &mut parser, row)?)
 }
 
+/// The first of some lengths of pieces in which a row's text doesn't say what the row says.
+fn wrong_length(alloc: Global, row: &Row) -> Result<Option<usize>, Fail> {
+    for piece in [1, 3, 100] {
+        if !says(alloc, row, piece)? {
+            return Ok(Some(piece));
+        }
+    }
+    Ok(None)
+}
+
 #[test]
 fn texts_say_clauses_and_faults(rt: HostRuntime) -> Result<(), Fail> {
     for row in &ROWS {
-        for piece in [1, 3, 100] {
-            assert!(rt; says(rt.alloc(), row, piece)?, "{row:?} by {piece}");
-        }
+        assert!(rt; wrong_length(rt.alloc(), row)? == None, "{row:?}");
     }
     Ok(())
 }
@@ -135,7 +149,7 @@ fn texts_say_clauses_and_faults(rt: HostRuntime) -> Result<(), Fail> {
 /// A piece, the state behind it, the clauses that wait then, and the highest variable of those and the ones before.
 type Piece = (&'static [u8], State, &'static [i64], u64, usize);
 
-const PIECES: [Piece; 3] = [
+static PIECES: [Piece; 3] = [
     (
         b"p cnf 7 2\n-5 1 0 9",
         (Some((7, 2)), 1, 5),
@@ -152,15 +166,37 @@ fn goes_on(alloc: Global, parser: &mut DimacsParser, piece: &Piece) -> Result<bo
     Ok(state(parser) == piece.1 && take(alloc, parser, piece.2)? == (true, piece.3, piece.4))
 }
 
+/// The first piece behind which a parser that is fed them isn't as the piece says.
+fn wrong_piece(alloc: Global, parser: &mut DimacsParser) -> Result<Option<Piece>, Fail> {
+    for piece in &PIECES {
+        if !goes_on(alloc, parser, piece)? {
+            return Ok(Some(*piece));
+        }
+    }
+    Ok(None)
+}
+
+/// Tests whether nothing waits behind the pieces, and the state stays when the text is said to be over.
+fn ends(alloc: Global, parser: &mut DimacsParser) -> Result<bool, Fail> {
+    let is_empty = take(alloc, parser, &[])? == (true, 0, 9);
+    Ok(is_empty && read(parser, b"", 1) == Ok(()) && state(parser) == (Some((7, 2)), 3, 9))
+}
+
+/// The first piece behind which a parser is wrong, and whether it ends as it should.
+fn taken(alloc: Global, parser: &mut DimacsParser) -> Result<(Option<Piece>, bool), Fail> {
+    let wrong = wrong_piece(alloc, parser)?;
+    Ok((wrong, ends(alloc, parser)?))
+}
+
+fn taken_by_new(alloc: Global) -> Result<(Option<Piece>, bool), Fail> {
+    let mut parser = DimacsParser::new(alloc);
+    taken(alloc, &mut parser)
+}
+
 #[test]
 fn clauses_are_taken_as_they_come(rt: HostRuntime) -> Result<(), Fail> {
-    let mut parser = DimacsParser::new(rt.alloc());
-    for piece in &PIECES {
-        assert!(rt; goes_on(rt.alloc(), &mut parser, piece)?, "{piece:?}");
-    }
-    assert!(rt; take(rt.alloc(), &mut parser, &[])? == (true, 0, 9));
-    assert!(rt; read(&mut parser, b"", 1) == Ok(()));
-    assert!(rt; state(&parser) == (Some((7, 2)), 3, 9));
+    let (wrong, ends) = taken_by_new(rt.alloc())?;
+    assert!(rt; wrong == None && ends, "{wrong:?}");
     Ok(())
 }
 
@@ -210,13 +246,7 @@ fn look(seen: &mut Seen, parser: &mut DimacsParser, refused: u64) -> Result<(), 
     if seen.calls == refused {
         return Err(Refused(refused));
     }
-    for clause in &parser.take_formula() {
-        for lit in clause {
-            seen.numbers.push(lit.to_dimacs()).map_err(|_| Refused(0))?;
-        }
-        seen.numbers.push(0).map_err(|_| Refused(0))?;
-    }
-    Ok(())
+    add_numbers(&mut seen.numbers, &parser.take_formula()).map_err(|_| Refused(0))
 }
 
 /// Reads a text, of which one call of the closure refuses, counted from 1.
@@ -297,20 +327,25 @@ fn whole(alloc: Global, text: &[u8]) -> Result<(Vec<i64>, usize), Fail> {
     Ok((numbers(alloc, &formula)?, formula.var_count()))
 }
 
+/// Parses a text, and reads it again with a closure, called 4 times. Gives how many numbers the clauses have, and tests whether
+/// the closure saw them, and the parser ends as the text says.
+fn seen_again(alloc: Global, text: &[u8]) -> Result<(usize, bool), Fail> {
+    let (clauses, highest) = whole(alloc, text)?;
+    let answer = looked(alloc, &mut Counted::new(text), clauses.as_slice(), 4);
+    let end = Some((Some((1_000, 1_000)), 1_000, highest));
+    Ok((clauses.len(), answer == (true, Ok(end))))
+}
+
 #[test]
 fn a_caller_sees_each_clause_of_a_long_text(rt: HostRuntime) -> Result<(), Fail> {
     let text = long_text(rt.alloc())?;
     assert!(rt; text.len() == 8_909);
-    let (clauses, highest) = whole(rt.alloc(), text.as_slice())?;
-    assert!(rt; clauses.len() == 3_000);
-    let mut reader = Counted::new(text.as_slice());
-    let answer = looked(rt.alloc(), &mut reader, clauses.as_slice(), 4);
-    assert!(rt; answer == (true, Ok(Some((Some((1_000, 1_000)), 1_000, highest)))));
+    assert!(rt; seen_again(rt.alloc(), text.as_slice())? == (3_000, true));
     Ok(())
 }
 
 /// A text, its fault, the clauses before it, and how often the closure is called.
-const FAULTS: [(&[u8], DimacsError, &[i64], u64); 3] = [
+static FAULTS: [(&[u8], DimacsError, &[i64], u64); 3] = [
     (b"1 2\n-0 0\n", MALFORMED, &[], 7),
     (
         b"1 0\n268435457 0\n",
@@ -403,7 +438,7 @@ fn clauses_are_counted_in_parts(rt: HostRuntime) -> Result<(), Fail> {
 }
 
 /// Errors, and how they are printed.
-const PRINTED: [(IncrementalError<DimacsError>, &str); 5] = [
+static PRINTED: [(IncrementalError<DimacsError>, &str); 5] = [
     (IncrementalError::Dimacs(MALFORMED), "line 2 is malformed"),
     (
         IncrementalError::Dimacs(DimacsError::Limit { line: 3 }),
@@ -423,13 +458,18 @@ const PRINTED: [(IncrementalError<DimacsError>, &str); 5] = [
     ),
 ];
 
+fn is_printed(
+    alloc: Global,
+    error: &IncrementalError<DimacsError>,
+    text: &str,
+) -> Result<bool, Fail> {
+    Ok(format!(in alloc; "{error}")?.as_str() == text)
+}
+
 #[test]
 fn errors_are_printed(rt: HostRuntime) -> Result<(), Fail> {
     for (error, text) in &PRINTED {
-        assert!(rt;
-            format!(in rt.alloc(); "{error}")?.as_str() == *text,
-            "{text}"
-        );
+        assert!(rt; is_printed(rt.alloc(), error, *text)?, "{text}");
     }
     Ok(())
 }

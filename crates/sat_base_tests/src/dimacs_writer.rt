@@ -3,7 +3,7 @@
 //! Where a formula is owned, little more than one `?` stands: that is dear to prove.
 
 use crate::devices::by_few;
-use sat_base::{CnfFormula, Counted, ExtendFormula, Lit, Var, write_dimacs};
+use sat_base::{CnfFormula, Counted, ExtendFormula, FormulaError, Lit, Var, write_dimacs};
 use std::alloc::Global;
 use std::io;
 use std::test::Fail;
@@ -15,7 +15,7 @@ fn written(alloc: Global, formula: &CnfFormula) -> Result<Vec<u8>, io::Error> {
 }
 
 /// Adds nothing, a clause and a variable that stands in none, or that and the last variable.
-fn fill(formula: &mut CnfFormula, stage: u64) -> Result<(), Fail> {
+fn fill(formula: &mut CnfFormula, stage: u64) -> Result<(), FormulaError> {
     if stage == 0 {
         return Ok(());
     }
@@ -68,7 +68,7 @@ fn by_few_calls(
     (is_written, device.calls, device.taken.as_slice() == text)
 }
 
-fn add_thousand(formula: &mut CnfFormula) -> Result<(), Fail> {
+fn add_thousand(formula: &mut CnfFormula) -> Result<(), FormulaError> {
     for index in 0..1000 {
         formula.add_clause(&[Lit::from_index(index, true), Lit::from_index(1, false)])?;
     }
@@ -85,32 +85,42 @@ fn calls(alloc: Global, formula: &CnfFormula, most: usize, failing: u64) -> (boo
     (is_written, calls)
 }
 
-#[test]
-fn a_failed_write_is_not_tried_again(rt: HostRuntime) -> Result<(), Fail> {
-    let mut formula = CnfFormula::new(rt.alloc());
-    add_thousand(&mut formula)?;
-    assert!(rt; length(rt.alloc(), &formula) == Some(8_909));
+/// The first of three calls whose failing doesn't end the writing.
+fn wrong_call(alloc: Global, formula: &CnfFormula) -> Option<u64> {
     for failing in [1, 2, 3] {
-        assert!(rt;
-            calls(rt.alloc(), &formula, 4096, failing) == (false, failing),
-            "{failing}"
-        );
+        if calls(alloc, formula, 4096, failing) != (false, failing) {
+            return Some(failing);
+        }
     }
-    assert!(rt; calls(rt.alloc(), &formula, 4096, 4) == (true, 3));
-    Ok(())
+    None
 }
 
 #[test]
-fn a_text_may_be_taken_byte_by_byte(rt: HostRuntime) -> Result<(), Fail> {
-    let text: &[u8] = TEXTS[1].1;
+fn a_failed_write_is_not_tried_again(rt: HostRuntime) {
     let mut formula = CnfFormula::new(rt.alloc());
-    fill(&mut formula, 1)?;
+    assert!(rt; add_thousand(&mut formula) == Ok(()));
+    assert!(rt; length(rt.alloc(), &formula) == Some(8_909));
+    assert!(rt; wrong_call(rt.alloc(), &formula) == None);
+    assert!(rt; calls(rt.alloc(), &formula, 4096, 4) == (true, 3));
+}
+
+/// The first byte, counted from 1, of which a failed call doesn't leave the bytes before it.
+fn wrong_byte(alloc: Global, formula: &CnfFormula, text: &[u8]) -> Option<u64> {
     for failing in 1..18 {
         let front = text.get(..(failing - 1) as usize).unwrap_or(&[]);
-        let answer = by_few_calls(rt.alloc(), &formula, (1, failing), front);
-        assert!(rt; answer == (false, failing, true), "{failing}");
+        if by_few_calls(alloc, formula, (1, failing), front) != (false, failing, true) {
+            return Some(failing);
+        }
     }
+    None
+}
+
+#[test]
+fn a_text_may_be_taken_byte_by_byte(rt: HostRuntime) {
+    let text: &[u8] = TEXTS[1].1;
+    let mut formula = CnfFormula::new(rt.alloc());
+    assert!(rt; fill(&mut formula, 1) == Ok(()));
+    assert!(rt; wrong_byte(rt.alloc(), &formula, text) == None);
     assert!(rt; by_few_calls(rt.alloc(), &formula, (1, 18), text) == (true, 17, true));
     assert!(rt; calls(rt.alloc(), &formula, 0, 0) == (false, 1));
-    Ok(())
 }

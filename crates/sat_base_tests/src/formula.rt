@@ -5,7 +5,7 @@ ghost use Rattle.std.specs.Prelude.{◌≡◌, ◌≤◌, ◌∷◌, [], ℕ, tr
 ghost use Rattle.sat_base.specs.values.Literals.{coded, largest};
 
 use sat_base::{CnfFormula, ExtendFormula, FormulaError, Lit, Var};
-use std::alloc::{AllocError, Global};
+use std::alloc::Global;
 use std::mem;
 use std::test::*;
 
@@ -18,31 +18,23 @@ fn add_unit<F: ExtendFormula>(formula: &mut F) -> Result<Lit, F::Error>
     Ok(lit)
 }
 
-fn clause(alloc: Global, numbers: &[i64]) -> Result<Vec<Lit>, AllocError> {
-    let mut lits = Vec::new(alloc);
-    for number in numbers {
-        if let Some(lit) = Lit::from_dimacs(*number) {
-            lits.push(lit)?;
-        }
-    }
-    Ok(lits)
-}
-
 /// The number of clauses, whether there is none, and the count of variables.
 fn counts(formula: &CnfFormula) -> (usize, bool, usize) {
     (formula.len(), formula.is_empty(), formula.var_count())
 }
 
 /// Tests whether an iterator gives a clause, an empty one, another, and no more.
-fn gives_three(formula: &CnfFormula, first: &[Lit], last: &[Lit]) -> bool {
+fn gives_three<'x>(formula: &'x CnfFormula, first: &'x [Lit], last: &'x [Lit]) -> bool {
     let mut clauses = formula.iter();
-    clauses.len() == 3
-        && clauses.size_hint() == (3, Some(3))
-        && clauses.next() == Some(first)
-        && clauses.next().map(|lits| lits.len()) == Some(0)
-        && clauses.next() == Some(last)
-        && clauses.next().is_none()
-        && clauses.next().is_none()
+    let is_sized = clauses.len() == 3 && clauses.size_hint() == (3, Some(3));
+    let found = [
+        clauses.next(),
+        clauses.next(),
+        clauses.next(),
+        clauses.next(),
+        clauses.next(),
+    ];
+    is_sized && found == [Some(first), Some(&[]), Some(last), None, None]
 }
 
 fn longest(formula: &CnfFormula) -> usize {
@@ -53,19 +45,24 @@ fn longest(formula: &CnfFormula) -> usize {
     longest
 }
 
+/// Adds a clause, an empty one, and another.
+fn add_three(formula: &mut CnfFormula, first: &[Lit], last: &[Lit]) -> Result<(), FormulaError> {
+    formula.add_clause(first)?;
+    formula.add_clause(&[])?;
+    formula.add_clause(last)
+}
+
 #[test]
-fn clauses_come_in_order(rt: HostRuntime) -> Result<(), FormulaError> {
-    let first = clause(rt.alloc(), &[1, -2])?;
-    let last = clause(rt.alloc(), &[-3, 2, 1])?;
+fn clauses_come_in_order(rt: HostRuntime) {
+    let (one, two, three) = (Var::from_index(0), Var::from_index(1), Var::from_index(2));
+    let first = [one.positive(), two.negative()];
+    let last = [three.negative(), two.positive(), one.positive()];
     let mut formula = CnfFormula::new(rt.alloc());
     assert!(rt; counts(&formula) == (0, true, 0));
-    assert!(rt; formula.add_clause(&first) == Ok(()));
-    assert!(rt; formula.add_clause(&[]) == Ok(()));
-    assert!(rt; formula.add_clause(&last) == Ok(()));
+    assert!(rt; add_three(&mut formula, &first, &last) == Ok(()));
     assert!(rt; counts(&formula) == (3, false, 3));
     assert!(rt; gives_three(&formula, &first, &last));
     assert!(rt; longest(&formula) == 3);
-    Ok(())
 }
 
 /// Sets a count, and gives the count that there is then.
@@ -76,15 +73,20 @@ fn set(formula: &mut CnfFormula, count: usize) -> usize
     formula.var_count()
 }
 
+/// Tests whether an empty formula's variables are counted, where some are new and the count is set.
+fn counts_variables(formula: &mut CnfFormula) -> bool {
+    formula.var_count() == 0
+        && formula.new_var() == Ok(Var::from_index(0))
+        && set(formula, 7) == 7
+        && set(formula, 5) == 7
+        && formula.new_lit() == Ok(Lit::from_index(7, true))
+        && formula.var_count() == 8
+}
+
 #[test]
 fn variables_are_counted(rt: HostRuntime) {
     let mut formula = CnfFormula::new(rt.alloc());
-    assert!(rt; formula.var_count() == 0);
-    assert!(rt; formula.new_var() == Ok(Var::from_index(0)));
-    assert!(rt; set(&mut formula, 7) == 7);
-    assert!(rt; set(&mut formula, 5) == 7);
-    assert!(rt; formula.new_lit() == Ok(Lit::from_index(7, true)));
-    assert!(rt; formula.var_count() == 8);
+    assert!(rt; counts_variables(&mut formula));
     assert!(rt; formula.add_clause(&[Lit::from_index(20, false)]) == Ok(()));
     assert!(rt; formula.new_var() == Ok(Var::from_index(21)));
 }
@@ -117,16 +119,19 @@ fn a_formula_is_taken_out(rt: HostRuntime) {
     assert!(rt; counts(&formula) == (0, true, 0));
 }
 
+fn is_printed(alloc: Global, error: FormulaError, text: &str) -> Result<bool, Fail> {
+    Ok(format!(in alloc; "{error}")?.as_str() == text)
+}
+
 #[test]
-fn errors_are_printed(rt: HostRuntime) -> Result<(), FormulaError> {
-    for (error, text) in [
-        (FormulaError::VariableLimit, "no variable is left"),
-        (FormulaError::OutOfMemory, "out of memory"),
-    ] {
-        assert!(rt;
-            format!(in rt.alloc(); "{error}")?.as_str() == text,
-            "{text}"
-        );
-    }
+fn errors_are_printed(rt: HostRuntime) -> Result<(), Fail> {
+    assert!(rt;
+        is_printed(
+            rt.alloc(),
+            FormulaError::VariableLimit,
+            "no variable is left"
+        )?
+    );
+    assert!(rt; is_printed(rt.alloc(), FormulaError::OutOfMemory, "out of memory")?);
     Ok(())
 }

@@ -39,19 +39,21 @@ fn numbers_of_literals(rt: HostRuntime) {
 fn literals(rt: HostRuntime) {
     let var = Var::from_index(4);
     let lit = Lit::from_var(var, false);
-    assert!(rt; lit == var.negative());
-    assert!(rt; lit == Lit::negative(var));
-    assert!(rt; !lit == Lit::positive(var));
-    assert!(rt; !lit == var.positive());
-    assert!(rt; lit ^ true == var.lit(true));
-    assert!(rt; lit ^ false == Lit::from_index(4, false));
-    assert!(rt; lit.var() == var);
-    assert!(rt; lit.index() == 4);
-    assert!(rt; lit.is_negative());
-    assert!(rt; !lit.is_positive());
-    assert!(rt; lit.map_var(|v| Var::from_index(v.index() / 2)) == Lit::from_index(2, false));
-    assert!(rt; var.positive() < lit);
-    assert!(rt; lit < Var::from_index(5).positive());
+    let halved = lit.map_var(|v| Var::from_index(v.index() / 2));
+    for (found, wanted) in [
+        (lit, var.negative()),
+        (lit, Lit::negative(var)),
+        (!lit, Lit::positive(var)),
+        (!lit, var.positive()),
+        (lit ^ true, var.lit(true)),
+        (lit ^ false, Lit::from_index(4, false)),
+        (halved, Lit::from_index(2, false)),
+    ] {
+        assert!(rt; found == wanted, "{found:?} for {wanted:?}");
+    }
+    assert!(rt; (lit.var(), lit.index()) == (var, 4));
+    assert!(rt; lit.is_negative() && !lit.is_positive());
+    assert!(rt; var.positive() < lit && lit < Var::from_index(5).positive());
 }
 
 fn hash_of<T: Hash>(value: &T) -> u64 {

@@ -141,11 +141,21 @@ fn rows_about_variables(first: Var, last: Var) -> [Row<'static>; 6] {
     ]
 }
 
+/// The first text of some rows that isn't the step's, or from which the step isn't read again.
+fn wrong_text(alloc: Global, rows: &[Row<'_>]) -> Result<Option<&'static [u8]>, Fail> {
+    for (step, text) in rows {
+        if !has_text(alloc, step, *text)? {
+            return Ok(Some(*text));
+        }
+    }
+    Ok(None)
+}
+
 #[test]
 fn steps_about_variables_have_these_bytes(rt: HostRuntime) -> Result<(), Fail> {
-    for (step, text) in &rows_about_variables(Var::from_index(0), Var::from_index(268435455)) {
-        assert!(rt; has_text(rt.alloc(), step, *text)?, "{text:?}");
-    }
+    let rows = rows_about_variables(Var::from_index(0), Var::from_index(268435455));
+    let wrong = wrong_text(rt.alloc(), &rows)?;
+    assert!(rt; wrong == None, "{wrong:?}");
     Ok(())
 }
 
@@ -194,9 +204,10 @@ fn steps_about_clauses_have_these_bytes(rt: HostRuntime) -> Result<(), Fail> {
     let first = Lit::from_index(0, true);
     let both = [first, Lit::from_index(1, true)];
     let clause = [first, Lit::from_index(1, false)];
-    for (step, text) in &rows_about_clauses(&both, &clause, &[(first, 0x44)]) {
-        assert!(rt; has_text(rt.alloc(), step, *text)?, "{text:?}");
-    }
+    let units = [(first, 0x44)];
+    let rows = rows_about_clauses(&both, &clause, &units);
+    let wrong = wrong_text(rt.alloc(), &rows)?;
+    assert!(rt; wrong == None, "{wrong:?}");
     Ok(())
 }
 
@@ -219,9 +230,8 @@ fn other_rows(lits: &[Lit], bits: HashBits) -> [Row<'_>; 5] {
 #[test]
 fn other_steps_have_these_bytes(rt: HostRuntime) -> Result<(), Fail> {
     let bits = HashBits::new(64).ok_or("no width of 64")?;
-    for (step, text) in &other_rows(&[Lit::from_index(1, false)], bits) {
-        assert!(rt; has_text(rt.alloc(), step, *text)?, "{text:?}");
-    }
+    let wrong = wrong_text(rt.alloc(), &other_rows(&[Lit::from_index(1, false)], bits))?;
+    assert!(rt; wrong == None, "{wrong:?}");
     Ok(())
 }
 
@@ -253,12 +263,16 @@ fn steps_before(byte: u64) -> &'static [u8] {
     FOUR_STEPS.get(..whole as usize).unwrap_or(&[])
 }
 
+/// Tests whether a reader whose read of this number fails gives the steps before it, and is called no more.
+fn is_a_fault(alloc: Global, failing: u64) -> Result<bool, Fail> {
+    let steps = steps_before(failing);
+    Ok(pieces_give(alloc, FOUR_STEPS, failing, steps, FAULT)? == (true, failing))
+}
+
 #[test]
 fn each_read_of_steps_may_fail(rt: HostRuntime) -> Result<(), Fail> {
     for failing in 1..18 {
-        let steps = steps_before(failing);
-        let answer = pieces_give(rt.alloc(), FOUR_STEPS, failing, steps, FAULT)?;
-        assert!(rt; answer == (true, failing), "{failing}");
+        assert!(rt; is_a_fault(rt.alloc(), failing)?, "{failing}");
     }
     // The end was found before the read that fails, which the call behind makes.
     let late = (StepError::Ends, Some(StepError::Read));
@@ -266,7 +280,7 @@ fn each_read_of_steps_may_fail(rt: HostRuntime) -> Result<(), Fail> {
     Ok(())
 }
 
-const BAD_TEXTS: [&[u8]; 17] = [
+static BAD_TEXTS: [&[u8]; 17] = [
     &[0],
     &[14],
     &[0x82],
@@ -288,18 +302,22 @@ const BAD_TEXTS: [&[u8]; 17] = [
     &[12, 0, 0x80, 0],
 ];
 
+/// Tests whether a text is refused, whole and by one byte, once its last byte is read.
+fn is_refused(alloc: Global, text: &[u8]) -> Result<bool, Fail> {
+    let is_right = whole_gives(alloc, text, &[], BAD)?;
+    Ok(is_right && pieces_give(alloc, text, 0, &[], BAD)? == (true, text.len() as u64))
+}
+
 #[test]
 fn wrong_texts_are_refused(rt: HostRuntime) -> Result<(), Fail> {
     for &text in &BAD_TEXTS {
-        assert!(rt; whole_gives(rt.alloc(), text, &[], BAD)?, "{text:?}");
-        let answer = pieces_give(rt.alloc(), text, 0, &[], BAD)?;
-        assert!(rt; answer == (true, text.len() as u64), "{text:?}");
+        assert!(rt; is_refused(rt.alloc(), text)?, "{text:?}");
     }
     Ok(())
 }
 
 /// A text, its whole steps, and the errors behind them.
-const ENDS: [(&[u8], &[u8], Errors); 9] = [
+static ENDS: [(&[u8], &[u8], Errors); 9] = [
     (&[3], &[], CUT),
     (&[3, 0x80], &[], CUT),
     (&[4, 0], &[], CUT),
@@ -336,7 +354,7 @@ fn what_waits_is_lost_with_a_writer_of_steps(rt: HostRuntime) {
 }
 
 /// Texts that promise 2^63 items, and then have none, or one: memory is for items that came.
-const PROMISES: [&[u8]; 7] = [
+static PROMISES: [&[u8]; 7] = [
     &[5, 0x80, 0x80, 0x80, 0x80, 0x80, 0x80, 0x80, 0x80, 0x80, 1],
     &[
         6, 0, 0x80, 0x80, 0x80, 0x80, 0x80, 0x80, 0x80, 0x80, 0x80, 1,
@@ -489,15 +507,26 @@ fn each_write_of_a_short_step_may_fail(rt: HostRuntime) -> Result<(), Fail> {
     Ok(())
 }
 
+/// Tests whether a step is an error where the writer takes nothing, after one call.
+fn is_not_taken(alloc: Global, step: &ProofStep<'_>) -> bool {
+    let (is_written, calls, _, _) = by_few_calls(alloc, step, (0, 0), &[]);
+    !is_written && calls == 1
+}
+
+/// The length of a long step's text, and whether the step is taken by a writer that takes few bytes a call, and not by one that
+/// takes none.
+fn taken(alloc: Global, step: &ProofStep<'_>) -> Result<(Option<usize>, bool, bool), Fail> {
+    let length = length_again(alloc, step)?;
+    let is_taken = is_taken_by_few(alloc, step, 7)?;
+    Ok((length, is_taken, is_not_taken(alloc, step)))
+}
+
 #[test]
 fn each_write_of_a_long_step_may_fail(rt: HostRuntime) -> Result<(), Fail> {
     let lits = many_lits(rt.alloc(), 0)?;
     let long = ProofStep::AddClause {
         clause: lits.as_slice(),
     };
-    assert!(rt; length_again(rt.alloc(), &long)? == Some(5939));
-    assert!(rt; is_taken_by_few(rt.alloc(), &long, 7)?);
-    let (is_written, calls, _, _) = by_few_calls(rt.alloc(), &long, (0, 0), &[]);
-    assert!(rt; !is_written && calls == 1);
+    assert!(rt; taken(rt.alloc(), &long)? == (Some(5939), true, true));
     Ok(())
 }

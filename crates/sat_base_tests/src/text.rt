@@ -1,15 +1,27 @@
 use sat_base::{Token, Tokenizer};
+use std::slice::Iter;
 use std::test::*;
 
 fn number(negative: bool, value: u64) -> Option<Token> {
     Some(Token::Number { negative, value })
 }
 
+/// The first of some bytes, with its line, behind which the tokenizer doesn't give this token, or none, and stand on this line.
+fn wrong_byte(tokenizer: &mut Tokenizer, rows: &[(u8, Option<Token>, u64)]) -> Option<(u8, u64)> {
+    for &(byte, token, line) in rows {
+        let found = tokenizer.push(byte);
+        if found != token || tokenizer.line() != line {
+            return Some((byte, line));
+        }
+    }
+    None
+}
+
 #[test]
 fn gives_tokens_where_they_end(rt: HostRuntime) {
     let mut tokenizer = Tokenizer::new();
     assert!(rt; tokenizer.line() == 0);
-    for (byte, token, line) in [
+    let rows = [
         (b'c', None, 1),
         (b'1', None, 1),
         (b'\n', None, 1),
@@ -31,141 +43,169 @@ fn gives_tokens_where_they_end(rt: HostRuntime) {
         (b' ', Some(Token::Wrong), 5),
         (b'c', None, 5),
         (b' ', Some(Token::Letter(b'c')), 5),
-    ] {
-        assert!(rt; tokenizer.push(byte) == token, "at {byte}, line {line}");
-        assert!(rt; tokenizer.line() == line);
-    }
+    ];
+    let wrong = wrong_byte(&mut tokenizer, &rows);
+    assert!(rt; wrong == None, "{wrong:?}");
     assert!(rt; tokenizer.finish() == None);
 }
 
-/// Whether a text gives these tokens, each behind its line, and ends on this line.
-fn gives(text: &[u8], tokens: &[(u64, Token)], last: u64) -> bool {
-    let mut tokenizer = Tokenizer::new();
-    let mut left = tokens.iter();
-    for byte in text {
-        if let Some(token) = tokenizer.push(*byte) {
-            if left.next() != Some(&(tokenizer.line(), token)) {
-                return false;
-            }
-        }
+/// A text, the tokens that it gives, each behind its line, and the line on which it ends.
+type Row = (&'static [u8], &'static [(u64, Token)], u64);
+
+/// Tests whether a token, if there is one, is the next of these.
+fn is_next(left: &mut Iter<'_, (u64, Token)>, line: u64, token: Option<Token>) -> bool {
+    match token {
+        Some(token) => left.next() == Some(&(line, token)),
+        None => true,
     }
-    if let Some(token) = tokenizer.finish() {
-        if left.next() != Some(&(tokenizer.line(), token)) {
+}
+
+/// Tests whether a text gives what its row says.
+fn gives(row: &Row) -> bool {
+    let mut tokenizer = Tokenizer::new();
+    let mut left = row.1.iter();
+    for byte in row.0 {
+        let token = tokenizer.push(*byte);
+        if !is_next(&mut left, tokenizer.line(), token) {
             return false;
         }
     }
-    left.next() == None && tokenizer.line() == last
+    let token = tokenizer.finish();
+    is_next(&mut left, tokenizer.line(), token) && left.next() == None && tokenizer.line() == row.2
+}
+
+/// The first text of some rows that doesn't give what its row says.
+fn wrong_text(rows: &[Row]) -> Option<&'static [u8]> {
+    for row in rows {
+        if !gives(row) {
+            return Some(row.0);
+        }
+    }
+    None
+}
+
+/// Tests whether bytes give no token.
+fn give_nothing(tokenizer: &mut Tokenizer, bytes: &[u8]) -> bool {
+    for byte in bytes {
+        if tokenizer.push(*byte) != None {
+            return false;
+        }
+    }
+    true
 }
 
 #[test]
 fn gives_headers_where_their_lines_end(rt: HostRuntime) {
-    let mut tokenizer = Tokenizer::new();
-    for byte in b"c 1\n\n p\tcnf  007 18446744073709551616 " {
-        assert!(rt; tokenizer.push(*byte) == None);
-    }
+    let front = b"c 1\n\n p\tcnf  007 18446744073709551616 ";
     let header = Some(Token::Header {
         vars: 7,
         clauses: u64::MAX,
     });
-    assert!(rt; tokenizer.finish() == header);
-    assert!(rt; tokenizer.line() == 3);
-    assert!(rt; tokenizer.push(b'\n') == header);
-    assert!(rt; tokenizer.line() == 3);
-    assert!(rt; tokenizer.push(b'1') == None);
-    assert!(rt; tokenizer.line() == 4);
-    assert!(rt; tokenizer.push(b' ') == number(false, 1));
+    let mut tokenizer = Tokenizer::new();
+    assert!(rt; give_nothing(&mut tokenizer, front));
+    assert!(rt; (tokenizer.finish(), tokenizer.line()) == (header, 3));
+    let rows = [
+        (b'\n', header, 3),
+        (b'1', None, 4),
+        (b' ', number(false, 1), 4),
+    ];
+    let wrong = wrong_byte(&mut tokenizer, &rows);
+    assert!(rt; wrong == None, "{wrong:?}");
 }
+
+const ONE: Token = Token::Number {
+    negative: false,
+    value: 1,
+};
+
+const THREE: Token = Token::Number {
+    negative: false,
+    value: 3,
+};
+
+const HEADER: Token = Token::Header {
+    vars: 2,
+    clauses: 1,
+};
+
+/// Lines that begin with p, and are no headers.
+static OTHER_LINES: [Row; 18] = [
+    (b"p", &[(1, Token::Wrong)], 1),
+    (b"p ", &[(1, Token::Wrong)], 1),
+    (b"pcnf 1 1", &[(1, Token::Wrong)], 1),
+    (b"px cnf 1 1", &[(1, Token::Wrong)], 1),
+    (b"p c", &[(1, Token::Wrong)], 1),
+    (b"p cn 1 1", &[(1, Token::Wrong)], 1),
+    (b"p dnf 1 1", &[(1, Token::Wrong)], 1),
+    (b"p cnfx 1 1", &[(1, Token::Wrong)], 1),
+    (b"p cnf", &[(1, Token::Wrong)], 1),
+    (b"p cnf 1", &[(1, Token::Wrong)], 1),
+    (b"p cnf 1 ", &[(1, Token::Wrong)], 1),
+    (b"p cnf -1 1", &[(1, Token::Wrong)], 1),
+    (b"p cnf 1 +1", &[(1, Token::Wrong)], 1),
+    (b"p cnf 1x 1", &[(1, Token::Wrong)], 1),
+    (b"p cnf 1 1 1", &[(1, Token::Wrong)], 1),
+    // The rest of such a line gives nothing more, and the next line is read.
+    (b"p cnf -1 1 x 2\n3", &[(1, Token::Wrong), (2, THREE)], 2),
+    (b"px cnf 1 1 x 2\n3", &[(1, Token::Wrong), (2, THREE)], 2),
+    (b"p cnf 1 1 x y\n3", &[(1, Token::Wrong), (2, THREE)], 2),
+];
 
 #[test]
 fn refuses_other_lines_that_begin_with_p(rt: HostRuntime) {
-    let lines: [&[u8]; 15] = [
-        b"p",
-        b"p ",
-        b"pcnf 1 1",
-        b"px cnf 1 1",
-        b"p c",
-        b"p cn 1 1",
-        b"p dnf 1 1",
-        b"p cnfx 1 1",
-        b"p cnf",
-        b"p cnf 1",
-        b"p cnf 1 ",
-        b"p cnf -1 1",
-        b"p cnf 1 +1",
-        b"p cnf 1x 1",
-        b"p cnf 1 1 1",
-    ];
-    for line in lines {
-        assert!(rt; gives(line, &[(1, Token::Wrong)], 1));
-    }
-    // The rest of such a line gives nothing more, and the next line is read.
-    let three = Token::Number {
-        negative: false,
-        value: 3,
-    };
-    let texts: [&[u8]; 3] = [
-        b"p cnf -1 1 x 2\n3",
-        b"px cnf 1 1 x 2\n3",
-        b"p cnf 1 1 x y\n3",
-    ];
-    for text in texts {
-        assert!(rt; gives(text, &[(1, Token::Wrong), (2, three)], 2));
-    }
+    let wrong = wrong_text(&OTHER_LINES);
+    assert!(rt; wrong == None, "{wrong:?}");
 }
+
+static HEADERS: [Row; 6] = [
+    (b"p cnf 2 1\n1\n", &[(1, HEADER), (2, ONE)], 2),
+    (b"c p\n \r\n  p cnf 2 1\r\n1\n", &[(3, HEADER), (4, ONE)], 4),
+    (
+        b"p cnf 2 1\nc\n p cnf 2 1\n1",
+        &[(1, HEADER), (3, Token::Wrong), (4, ONE)],
+        4,
+    ),
+    (
+        b"1\np cnf 2 1\n1",
+        &[(1, ONE), (2, Token::Wrong), (3, ONE)],
+        3,
+    ),
+    (
+        b"p dnf 2 1\np cnf 2 1",
+        &[(1, Token::Wrong), (2, Token::Wrong)],
+        2,
+    ),
+    (
+        b"1 p cnf",
+        &[(1, ONE), (1, Token::Letter(b'p')), (1, Token::Wrong)],
+        1,
+    ),
+];
 
 #[test]
 fn a_header_comes_once_and_before_words(rt: HostRuntime) {
-    let header = Token::Header {
-        vars: 2,
-        clauses: 1,
-    };
-    let one = Token::Number {
-        negative: false,
-        value: 1,
-    };
-    assert!(rt; gives(b"p cnf 2 1\n1\n", &[(1, header), (2, one)], 2));
-    assert!(rt; gives(b"c p\n \r\n  p cnf 2 1\r\n1\n", &[(3, header), (4, one)], 4));
-    assert!(rt;
-        gives(
-            b"p cnf 2 1\nc\n p cnf 2 1\n1",
-            &[(1, header), (3, Token::Wrong), (4, one)],
-            4
-        )
-    );
-    assert!(rt;
-        gives(
-            b"1\np cnf 2 1\n1",
-            &[(1, one), (2, Token::Wrong), (3, one)],
-            3
-        )
-    );
-    assert!(rt;
-        gives(
-            b"p dnf 2 1\np cnf 2 1",
-            &[(1, Token::Wrong), (2, Token::Wrong)],
-            2
-        )
-    );
-    assert!(rt;
-        gives(
-            b"1 p cnf",
-            &[(1, one), (1, Token::Letter(b'p')), (1, Token::Wrong)],
-            1
-        )
-    );
+    let wrong = wrong_text(&HEADERS);
+    assert!(rt; wrong == None, "{wrong:?}");
 }
+
+static PERCENT_LINES: [Row; 5] = [
+    (b"1\n%\n0\np x\nc\n", &[(1, ONE)], 2),
+    (b"1\n\n \t%1 x", &[(1, ONE)], 3),
+    (b"%", &[], 1),
+    (b"c\n%\n", &[], 2),
+    (b"1 %\n1", &[(1, ONE), (1, Token::Wrong), (2, ONE)], 2),
+];
 
 #[test]
 fn a_percent_line_ends_the_text(rt: HostRuntime) {
-    let one = Token::Number {
-        negative: false,
-        value: 1,
-    };
-    assert!(rt; gives(b"1\n%\n0\np x\nc\n", &[(1, one)], 2));
-    assert!(rt; gives(b"1\n\n \t%1 x", &[(1, one)], 3));
-    assert!(rt; gives(b"%", &[], 1));
-    assert!(rt; gives(b"c\n%\n", &[], 2));
-    assert!(rt; gives(b"1 %\n1", &[(1, one), (1, Token::Wrong), (2, one)], 2));
+    let wrong = wrong_text(&PERCENT_LINES);
+    assert!(rt; wrong == None, "{wrong:?}");
+}
+
+/// Tests whether a word on the first line gives its token once the text ends, and nothing before.
+fn is_told_at_the_end(word: &[u8], token: Option<Token>) -> bool {
+    let mut tokenizer = Tokenizer::new();
+    give_nothing(&mut tokenizer, word) && tokenizer.line() == 1 && tokenizer.finish() == token
 }
 
 #[test]
@@ -187,12 +227,7 @@ fn tells_numbers_from_wrong_words(rt: HostRuntime) {
         (b"-99999999999999999999999", number(true, u64::MAX)),
     ];
     for (word, token) in words {
-        let mut tokenizer = Tokenizer::new();
-        for byte in word {
-            assert!(rt; tokenizer.push(*byte) == None);
-        }
-        assert!(rt; tokenizer.line() == 1);
-        assert!(rt; tokenizer.finish() == token);
+        assert!(rt; is_told_at_the_end(word, token), "{word:?}");
     }
 }
 
