@@ -1,8 +1,8 @@
 //! What is announced of accepted steps, and what transcripts say of it.
 
 use crate::hearing::{
-    GONE, Heard, IRREDUNDANT, KEPT, KNOWN, Listener, NEW, REDUNDANT, SAMPLE, Said, Told, WITNESS,
-    add_listener, add_reader, are_done,
+    GONE, Heard, IRREDUNDANT, KEPT, KNOWN, Listener, NEW, NO_MORE, REDUNDANT, SAMPLE, Said, Told,
+    WITNESS, add_listener, add_reader, are_done,
 };
 use crate::kinds::{Kind, failure};
 use crate::steps::read_by;
@@ -10,7 +10,6 @@ use anyhow::anyhow;
 use sat_base::{Counted, Lit, Var};
 use sat_checker::{CheckedProofStep, CheckerData, ProofProcessor, SelfChecker};
 use std::alloc::Global;
-use std::test::Fail;
 
 /// Steps in bytes, what is announced of them, and its transcript.
 type Row = (&'static [u8], &'static [Told], &'static [Said]);
@@ -42,6 +41,16 @@ fn is_announced(alloc: Global, row: &Row) -> bool {
     is_told_to_added(alloc, row) && is_told_to_own(alloc, row)
 }
 
+/// The first steps of some rows of which something else is announced.
+fn first_unannounced(alloc: Global, rows: &[Row]) -> Option<&'static [u8]> {
+    for row in rows {
+        if !is_announced(alloc, row) {
+            return Some(row.0);
+        }
+    }
+    None
+}
+
 /// The four clauses over two variables, two clauses that follow from them, and what is told of that.
 pub(crate) const REFUTED: &[Told] = &[
     Told::AddClause(0, &[1, 2]),
@@ -70,7 +79,7 @@ pub(crate) const REFUTATION: &[u8] = &[
 ];
 
 /// Derived clauses over named buckets.
-const PROPAGATIONS: [Row; 4] = [
+static PROPAGATIONS: [Row; 4] = [
     (REFUTATION, REFUTED, REFUTED_SAID),
     // at width 8
     (
@@ -109,15 +118,13 @@ const PROPAGATIONS: [Row; 4] = [
 ];
 
 #[test]
-fn propagations_are_announced(rt: HostRuntime) -> Result<(), Fail> {
-    for row in &PROPAGATIONS {
-        assert!(rt; is_announced(rt.alloc(), row), "{:?}", row.0);
-    }
-    Ok(())
+fn propagations_are_announced(rt: HostRuntime) {
+    let wrong = first_unannounced(rt.alloc(), &PROPAGATIONS);
+    assert!(rt; wrong == None, "{wrong:?}");
 }
 
 /// Names and modes.
-const NAMES: [Row; 13] = [
+static NAMES: [Row; 13] = [
     // of an unknown variable, which stays so without a solver index
     (&[2, 0, 5], &[Told::UserVar(1, 5, SAMPLE, NEW)], &[]),
     (
@@ -211,15 +218,13 @@ const NAMES: [Row; 13] = [
 ];
 
 #[test]
-fn names_are_announced(rt: HostRuntime) -> Result<(), Fail> {
-    for row in &NAMES {
-        assert!(rt; is_announced(rt.alloc(), row), "{:?}", row.0);
-    }
-    Ok(())
+fn names_are_announced(rt: HostRuntime) {
+    let wrong = first_unannounced(rt.alloc(), &NAMES);
+    assert!(rt; wrong == None, "{wrong:?}");
 }
 
 /// Clauses of the formula.
-const INPUTS: [Row; 11] = [
+static INPUTS: [Row; 11] = [
     // new, as a sorted set
     (
         &[5, 3, 2, 0, 2],
@@ -330,15 +335,13 @@ const INPUTS: [Row; 11] = [
 ];
 
 #[test]
-fn inputs_are_announced(rt: HostRuntime) -> Result<(), Fail> {
-    for row in &INPUTS {
-        assert!(rt; is_announced(rt.alloc(), row), "{:?}", row.0);
-    }
-    Ok(())
+fn inputs_are_announced(rt: HostRuntime) {
+    let wrong = first_unannounced(rt.alloc(), &INPUTS);
+    assert!(rt; wrong == None, "{wrong:?}");
 }
 
 /// Clauses that follow from others.
-const DERIVED: [Row; 11] = [
+static DERIVED: [Row; 11] = [
     // a redundant one, as a sorted set
     (
         &[9, 0, 5, 2, 0, 2, 6, 1, 4, 4, 2, 0, 0, 1, 0],
@@ -483,15 +486,13 @@ const DERIVED: [Row; 11] = [
 ];
 
 #[test]
-fn derived_clauses_are_announced(rt: HostRuntime) -> Result<(), Fail> {
-    for row in &DERIVED {
-        assert!(rt; is_announced(rt.alloc(), row), "{:?}", row.0);
-    }
-    Ok(())
+fn derived_clauses_are_announced(rt: HostRuntime) {
+    let wrong = first_unannounced(rt.alloc(), &DERIVED);
+    assert!(rt; wrong == None, "{wrong:?}");
 }
 
 /// Clauses that are deleted.
-const DELETED: [Row; 12] = [
+static DELETED: [Row; 12] = [
     // redundant: gone; there once more; irredundant as well
     (
         &[9, 0, 5, 2, 0, 2, 6, 1, 3, 0, 2, 4, 1, 0, 8, 3, 4, 2, 0, 0],
@@ -641,15 +642,13 @@ const DELETED: [Row; 12] = [
 ];
 
 #[test]
-fn deletions_are_announced(rt: HostRuntime) -> Result<(), Fail> {
-    for row in &DELETED {
-        assert!(rt; is_announced(rt.alloc(), row), "{:?}", row.0);
-    }
-    Ok(())
+fn deletions_are_announced(rt: HostRuntime) {
+    let wrong = first_unannounced(rt.alloc(), &DELETED);
+    assert!(rt; wrong == None, "{wrong:?}");
 }
 
 /// Models, assumptions and failed cores.
-const ANSWERS: [Row; 13] = [
+static ANSWERS: [Row; 13] = [
     // in the order of their steps
     (
         &[5, 2, 0, 2, 10, 2, 2, 1],
@@ -795,11 +794,9 @@ const ANSWERS: [Row; 13] = [
 ];
 
 #[test]
-fn answers_are_announced(rt: HostRuntime) -> Result<(), Fail> {
-    for row in &ANSWERS {
-        assert!(rt; is_announced(rt.alloc(), row), "{:?}", row.0);
-    }
-    Ok(())
+fn answers_are_announced(rt: HostRuntime) {
+    let wrong = first_unannounced(rt.alloc(), &ANSWERS);
+    assert!(rt; wrong == None, "{wrong:?}");
 }
 
 /// A name, and units that contradict each other.
@@ -824,7 +821,7 @@ pub(crate) const CONFLICT: &[Told] = &[
 const CONFLICT_SAID: &[Said] = &[Said::AddClause(&[1]), Said::AddClause(&[-1]), Said::Unsat];
 
 /// The empty clause of a unit conflict, told by the next step.
-const CONFLICTS: [Row; 5] = [
+static CONFLICTS: [Row; 5] = [
     (&[2, 0, 1, 5, 1, 0, 5, 1, 1, 13], CONFLICT, CONFLICT_SAID),
     (
         &[2, 0, 1, 5, 1, 0, 5, 1, 1, 5, 1, 2, 5, 2, 0, 2],
@@ -879,20 +876,23 @@ const CONFLICTS: [Row; 5] = [
 ];
 
 #[test]
-fn conflicts_are_announced(rt: HostRuntime) -> Result<(), Fail> {
-    for row in &CONFLICTS {
-        assert!(rt; is_announced(rt.alloc(), row), "{:?}", row.0);
-    }
-    Ok(())
+fn conflicts_are_announced(rt: HostRuntime) {
+    let wrong = first_unannounced(rt.alloc(), &CONFLICTS);
+    assert!(rt; wrong == None, "{wrong:?}");
+}
+
+/// Whether the contradicting units are taken, and delayed steps settled, if that is asked for.
+fn takes_units(alloc: Global, checker: &mut Heard, settled: bool) -> bool {
+    read_by(alloc, checker, &mut Counted::new(UNITS)).is_ok()
+        && (!settled || checker.self_check_delayed_steps().is_ok())
+        && checker.unsat()
 }
 
 /// Whether so many announcements and steps of a transcript are told of the contradicting units, where delayed steps are settled or not.
 fn is_told_by(alloc: Global, settled: bool, told: &'static [Told], said: &'static [Said]) -> bool {
     let mut checker = Heard::telling(alloc);
     let taken = add_both(&mut checker, &(UNITS, told, said))
-        && read_by(alloc, &mut checker, &mut Counted::new(UNITS)).is_ok()
-        && (!settled || checker.self_check_delayed_steps().is_ok())
-        && checker.unsat();
+        && takes_units(alloc, &mut checker, settled);
     let told = are_done(checker.into_processors(), 1);
     taken && told
 }
@@ -903,15 +903,20 @@ fn delayed_steps_are_announced(rt: HostRuntime) {
     assert!(rt; is_told_by(rt.alloc(), false, CONFLICT_BEFORE, CONFLICT_SAID_BEFORE));
 }
 
+/// Whether a clause is taken twice.
+fn takes_twice(checker: &mut Heard) -> bool {
+    let (first, second) = (Lit::from_code(0), Lit::from_code(2));
+    checker.add_clause(&[first, second]).is_ok()
+        && checker.add_clause(&[second, first, first]).is_ok()
+}
+
+const UNFOUNDED: &[u8] = &[6, 0, 1, 4, 0];
+
 /// Whether a clause that comes twice is told so, and nothing is told of a step that is refused.
 fn is_told_twice(alloc: Global) -> bool {
-    let (first, second) = (Lit::from_code(0), Lit::from_code(2));
     let mut checker = Heard::telling(alloc);
-    let taken = add_both(&mut checker, &TWICE)
-        && checker.add_clause(&[first, second]).is_ok()
-        && checker.add_clause(&[second, first, first]).is_ok();
-    let refused: &[u8] = &[6, 0, 1, 4, 0];
-    let error = failure(&checker.check_proof(&mut Counted::new(refused)));
+    let taken = add_both(&mut checker, &TWICE) && takes_twice(&mut checker);
+    let error = failure(&checker.check_proof(&mut Counted::new(UNFOUNDED)));
     let told = are_done(checker.into_processors(), 1);
     taken && error == Some(Kind::CheckFailed) && told
 }
@@ -936,6 +941,20 @@ struct Names {
     awaited: &'static [Option<i64>],
 }
 
+impl Names {
+    /// Takes a name, unless it is another one than is awaited.
+    fn fault(&mut self, name: Option<i64>) -> Option<&'static str> {
+        let Some((first, rest)) = self.awaited.split_first() else {
+            return Some(NO_MORE);
+        };
+        if name != *first {
+            return Some("another name is awaited");
+        }
+        self.awaited = rest;
+        None
+    }
+}
+
 impl ProofProcessor for Names {
     ghost use Rattle.std.specs.Prelude.{⊤};
 
@@ -947,16 +966,9 @@ impl ProofProcessor for Names {
         names: CheckerData<'_>,
     ) -> anyhow::Result<()> {
         let name = names.user_from_proof_var(Var::from_index(0));
-        match self.awaited.split_first() {
-            None => Err(anyhow!("no more is awaited")),
-            Some((first, rest)) => {
-                if name.map(|name| name.to_dimacs()) == *first {
-                    self.awaited = rest;
-                    Ok(())
-                } else {
-                    Err(anyhow!("another name is awaited"))
-                }
-            }
+        match self.fault(name.map(|name| name.to_dimacs())) {
+            None => Ok(()),
+            Some(fault) => Err(anyhow!(fault)),
         }
     }
 }

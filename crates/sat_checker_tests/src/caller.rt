@@ -3,6 +3,8 @@ ghost use Rattle.std.specs.Prelude.{ℕ, ◌≡◌, ◌++◌, ◌∷◌, [], tru
 ghost use Rattle.sat_base.specs.steps.Steps.{Step, End};
 ghost use Rattle.sat_base.specs.values.Clauses.{Valuation};
 ghost use Rattle.sat_checker.specs.Fold.{Holds};
+ghost use Rattle.sat_checker.specs.CheckerView.{kernel_of};
+ghost use Rattle.sat_checker.specs.KernelView.{Stands, IsSettled};
 ghost use Rattle.sat_checker.specs.ProofView.{GaveSteps, taken_after};
 ghost use Rattle.sat_checker.specs.ClausesView.{behind};
 
@@ -21,16 +23,36 @@ fn is_refuted<R: CountedRead>(
         × (refuted ≡ true → (a : Valuation) → Holds (taken_after passed (behind formula.now.clauses [])) a → ⊥)) }
 {
     let mut checker = Checker::new(alloc);
+    let answer = is_refuted_by(&mut checker, formula, proof);
+    drop(checker);
+    answer
+}
+
+/// The same by a checker that has accepted nothing yet.
+fn is_refuted_by<R: CountedRead>(
+    checker: &mut Checker,
+    formula: &CnfFormula,
+    proof: &mut R,
+) -> Result<bool, CheckerError>
+    requires stands { Stands (kernel_of checker.old) [] }
+    requires settled { IsSettled (kernel_of checker.old) }
+    ensures { IfOk result (λ refuted. (passed : List Step) × (rest : List ℕ)
+        × GaveSteps (R.seen proof.old) (R.seen proof.new) (passed ++ End ∷ []) rest
+        × (refuted ≡ true → (a : Valuation) → Holds (taken_after passed (behind formula.now.clauses [])) a → ⊥)) }
+{
     checker.add_formula(formula)?;
     checker.check_proof(proof)?;
     Ok(checker.unsat())
 }
 
+/// What is answered to a proof where the formula has no clause.
+fn answered(alloc: Global, proof: &[u8]) -> Option<bool> {
+    let formula = CnfFormula::new(alloc);
+    is_refuted(alloc, &formula, &mut Counted::new(proof)).ok()
+}
+
 #[test]
 fn proofs_refute(rt: HostRuntime) {
-    let formula = CnfFormula::new(rt.alloc());
-    let refutation: &[u8] = &[5, 0, 13];
-    let end: &[u8] = &[13];
-    assert!(rt; is_refuted(rt.alloc(), &formula, &mut Counted::new(refutation)).ok() == Some(true));
-    assert!(rt; is_refuted(rt.alloc(), &formula, &mut Counted::new(end)).ok() == Some(false));
+    assert!(rt; answered(rt.alloc(), &[5, 0, 13]) == Some(true));
+    assert!(rt; answered(rt.alloc(), &[13]) == Some(false));
 }

@@ -50,13 +50,16 @@ const TEXTS: [(&[u8], Answer); 6] = [
     (b"1 0\n2 0 -2 0 3 0\n", REFUTED),
 ];
 
+/// Whether a text is answered so, read whole and in pieces of one byte.
+fn is_answered(alloc: Global, text: &[u8], answer: &Answer) -> bool {
+    whole(alloc, text) == *answer && in_pieces(alloc, text) == *answer
+}
+
 #[test]
-fn texts_are_taken(rt: HostRuntime) -> Result<(), Fail> {
+fn texts_are_taken(rt: HostRuntime) {
     for (text, answer) in &TEXTS {
-        assert!(rt; whole(rt.alloc(), *text) == *answer, "{text:?}");
-        assert!(rt; in_pieces(rt.alloc(), *text) == *answer, "{text:?}");
+        assert!(rt; is_answered(rt.alloc(), *text, answer), "{text:?}");
     }
-    Ok(())
 }
 
 /// Texts at fault, the faults, and whether the clauses before them contradict each other.
@@ -69,31 +72,27 @@ const FAULTS: [(&[u8], DimacsError, bool); 5] = [
 ];
 
 #[test]
-fn faults_are_answered(rt: HostRuntime) -> Result<(), Fail> {
+fn faults_are_answered(rt: HostRuntime) {
     for &(text, error, unsat) in &FAULTS {
-        assert!(rt;
-            whole(rt.alloc(), text) == at_fault(error, unsat),
-            "{text:?}"
-        );
-        assert!(rt;
-            in_pieces(rt.alloc(), text) == at_fault(error, unsat),
-            "{text:?}"
-        );
+        let answer = at_fault(error, unsat);
+        assert!(rt; is_answered(rt.alloc(), text, &answer), "{text:?}");
     }
-    Ok(())
+}
+
+/// What a checker answers to a text and to another behind it.
+fn read_both(alloc: Global, text: &[u8], rest: &[u8]) -> (Answer, Answer) {
+    let mut checker = Checker::new(alloc);
+    let first = read_on(&mut checker, &mut Counted::new(text));
+    let second = read_on(&mut checker, &mut Counted::new(rest));
+    drop(checker);
+    (first, second)
 }
 
 /// Whether a clause before a fault stands, and the checker goes on behind the fault.
 #[test]
-fn faults_leave_the_checker(rt: HostRuntime) -> Result<(), Fail> {
-    let mut checker = Checker::new(rt.alloc());
-    let text: &[u8] = b"1 0 2";
-    let rest: &[u8] = b"-1 0";
+fn faults_leave_the_checker(rt: HostRuntime) {
     let fault = at_fault(DimacsError::Malformed { line: 1 }, false);
-    assert!(rt; read_on(&mut checker, &mut Counted::new(text)) == fault);
-    assert!(rt; read_on(&mut checker, &mut Counted::new(rest)) == REFUTED);
-    drop(checker);
-    Ok(())
+    assert!(rt; read_both(rt.alloc(), b"1 0 2", b"-1 0") == (fault, REFUTED));
 }
 
 /// Whether a read that fails is answered, and the checker goes on then.
@@ -106,12 +105,11 @@ fn goes_on_behind(alloc: Global, failing: u64) -> bool {
 }
 
 #[test]
-fn failed_reads_are_answered(rt: HostRuntime) -> Result<(), Fail> {
+fn failed_reads_are_answered(rt: HostRuntime) {
     for failing in 1..13 {
         assert!(rt; goes_on_behind(rt.alloc(), failing), "{failing}");
     }
     assert!(rt; read(rt.alloc(), &mut by_one(b"1 2 0\n-1 0\n", 13)) == TAKEN);
-    Ok(())
 }
 
 /// Proofs that the four clauses have no model, at widths 8 and 0.
@@ -133,45 +131,59 @@ fn refuted(alloc: Global, proof: &[u8]) -> (Answer, Option<Kind>, bool) {
 }
 
 #[test]
-fn texts_are_refuted(rt: HostRuntime) -> Result<(), Fail> {
+fn texts_are_refuted(rt: HostRuntime) {
     for proof in &REFUTATIONS {
-        assert!(rt;
-            refuted(rt.alloc(), *proof) == (TAKEN, None, true),
-            "{proof:?}"
-        );
+        let answer = refuted(rt.alloc(), *proof);
+        assert!(rt; answer == (TAKEN, None, true), "{proof:?}");
     }
-    Ok(())
+}
+
+/// What a checker answers to a proof and to a text behind it, and whether a clause is taken then.
+fn read_behind<R: CountedRead>(
+    checker: &mut Checker,
+    proof: &[u8],
+    text: &mut R,
+) -> (Option<Kind>, Answer, bool) {
+    let error = failure(&checker.check_proof(&mut Counted::new(proof)));
+    let answer = read_on(checker, text);
+    let taken = checker.add_clause(&[Lit::from_code(3)]).is_ok();
+    (error, answer, taken)
+}
+
+/// The same of a new checker, and whether unsat is recorded then.
+fn answered_behind<R: CountedRead>(
+    alloc: Global,
+    proof: &[u8],
+    text: &mut R,
+) -> ((Option<Kind>, Answer, bool), bool) {
+    let mut checker = Checker::new(alloc);
+    let answers = read_behind(&mut checker, proof, text);
+    let unsat = checker.unsat();
+    drop(checker);
+    (answers, unsat)
 }
 
 /// A clause of a hidden variable isn't taken, and neither is one behind it.
 #[test]
-fn refused_clauses_end_a_text(rt: HostRuntime) -> Result<(), Fail> {
-    let mut checker = Checker::new(rt.alloc());
-    let hidden: &[u8] = &[2, 0, 1, 2, 0, 0];
+fn refused_clauses_end_a_text(rt: HostRuntime) {
     let text: &[u8] = b"2 0\n1 0\n-2 0\n";
-    let refused = Some(DimacsKind::Checker(Kind::CheckFailed));
-    assert!(rt;
-        failure(&checker.check_proof(&mut Counted::new(hidden))) == Some(Kind::ProofIncomplete)
+    let (answers, unsat) = answered_behind(
+        rt.alloc(),
+        &[2, 0, 1, 2, 0, 0],
+        &mut Counted::new(text),
     );
-    assert!(rt; read_on(&mut checker, &mut Counted::new(text)) == (refused, false));
-    assert!(rt; checker.add_clause(&[Lit::from_code(3)]).is_ok());
-    assert!(rt; checker.unsat());
-    drop(checker);
-    Ok(())
+    let refused = Some(DimacsKind::Checker(Kind::CheckFailed));
+    assert!(rt; answers == (Some(Kind::ProofIncomplete), (refused, false), true));
+    assert!(rt; unsat);
 }
 
 /// Nothing is read once a step was refused.
 #[test]
-fn failing_is_final(rt: HostRuntime) -> Result<(), Fail> {
-    let mut checker = Checker::new(rt.alloc());
-    let refused: &[u8] = &[3, 0];
+fn failing_is_final(rt: HostRuntime) {
+    let (answers, unsat) = answered_behind(rt.alloc(), &[3, 0], &mut by_one(PAIRS, 1));
     let failed = Some(DimacsKind::Checker(Kind::HasFailed));
-    assert!(rt;
-        failure(&checker.check_proof(&mut Counted::new(refused))) == Some(Kind::CheckFailed)
-    );
-    assert!(rt; read_on(&mut checker, &mut by_one(PAIRS, 1)) == (failed, false));
-    drop(checker);
-    Ok(())
+    assert!(rt; answers == (Some(Kind::CheckFailed), (failed, false), false));
+    assert!(rt; !unsat);
 }
 
 /// Errors, and how they are printed.
@@ -186,13 +198,14 @@ const PRINTED: [(CheckerDimacsError, &str); 2] = [
     ),
 ];
 
+fn is_printed(alloc: Global, error: &CheckerDimacsError, text: &str) -> Result<bool, Fail> {
+    Ok(format!(in alloc; "{error}")?.as_str() == text)
+}
+
 #[test]
 fn errors_are_printed(rt: HostRuntime) -> Result<(), Fail> {
     for (error, text) in &PRINTED {
-        assert!(rt;
-            format!(in rt.alloc(); "{error}")?.as_str() == *text,
-            "{text}"
-        );
+        assert!(rt; is_printed(rt.alloc(), error, *text)?, "{text}");
     }
     Ok(())
 }

@@ -13,7 +13,6 @@ use crate::steps::read_by;
 use sat_base::Counted;
 use sat_checker::{CheckerDimacsError, CheckerError, SelfChecker};
 use std::alloc::Global;
-use std::test::Fail;
 
 /// How many steps a transcript has of so many announcements of the refutation: the fifth has none.
 const STEPS: [usize; 7] = [0, 1, 2, 3, 4, 4, 5];
@@ -102,14 +101,11 @@ fn first_unended(alloc: Global, failing: usize, announcements: &[usize]) -> Opti
 }
 
 #[test]
-fn faults_end_steps(rt: HostRuntime) -> Result<(), Fail> {
+fn faults_end_steps(rt: HostRuntime) {
     for &(place, announcements) in &FAULTS {
-        assert!(rt;
-            first_unended(rt.alloc(), place, announcements).is_none(),
-            "{place}"
-        );
+        let unended = first_unended(rt.alloc(), place, announcements);
+        assert!(rt; unended == None, "{place}");
     }
-    Ok(())
 }
 
 /// Adds a processor and a transcript that take so many clauses of the formula.
@@ -154,20 +150,29 @@ fn hears_text(alloc: Global, count: usize) -> bool {
 
 /// A formula's clauses are told, whether they come as a formula or as its text, up to a fault.
 #[test]
-fn faults_end_formulas(rt: HostRuntime) -> Result<(), Fail> {
+fn faults_end_formulas(rt: HostRuntime) {
     for count in 0..5 {
         assert!(rt; hears_formula(rt.alloc(), count), "{count}");
         assert!(rt; hears_text(rt.alloc(), count), "{count}");
     }
-    Ok(())
+}
+
+/// Adds a processor and a transcript, and feeds the contradicting units.
+fn takes_units(
+    alloc: Global,
+    checker: &mut Heard,
+    told: &'static [Told],
+    said: &'static [Said],
+) -> bool {
+    add_listener(checker, told)
+        && add_reader(checker, said)
+        && read_by(alloc, checker, &mut Counted::new(UNITS)).is_ok()
 }
 
 /// Whether a fault at the empty clause of a unit conflict ends what is delayed.
 fn ends_delayed(alloc: Global, told: &'static [Told], said: &'static [Said]) -> bool {
     let mut checker = Heard::telling(alloc);
-    let taken = add_listener(&mut checker, told)
-        && add_reader(&mut checker, said)
-        && read_by(alloc, &mut checker, &mut Counted::new(UNITS)).is_ok();
+    let taken = takes_units(alloc, &mut checker, told, said);
     let answer = checker.self_check_delayed_steps();
     let ended = taken && is_ended(alloc, &mut checker, &answer);
     let left = are_done(checker.into_processors(), 1);
@@ -177,9 +182,7 @@ fn ends_delayed(alloc: Global, told: &'static [Told], said: &'static [Said]) -> 
 /// As `ends_delayed`, by the end of a proof.
 fn ends_proof(alloc: Global, told: &'static [Told], said: &'static [Said]) -> bool {
     let mut checker = Heard::telling(alloc);
-    let taken = add_listener(&mut checker, told)
-        && add_reader(&mut checker, said)
-        && read_by(alloc, &mut checker, &mut Counted::new(UNITS)).is_ok();
+    let taken = takes_units(alloc, &mut checker, told, said);
     let answer = checker.check_proof(&mut Counted::new(END));
     let ended = taken && is_ended(alloc, &mut checker, &answer) && !checker.ended();
     let left = are_done(checker.into_processors(), 1);
@@ -193,10 +196,9 @@ const DELAYED: [(&[Told], &[Said]); 2] = [
 ];
 
 #[test]
-fn faults_end_delayed_steps(rt: HostRuntime) -> Result<(), Fail> {
+fn faults_end_delayed_steps(rt: HostRuntime) {
     for &(told, said) in &DELAYED {
         assert!(rt; ends_delayed(rt.alloc(), told, said));
         assert!(rt; ends_proof(rt.alloc(), told, said));
     }
-    Ok(())
 }

@@ -177,10 +177,9 @@ fn is_failed_core(told: Told, core: &[Lit], ids: &[u64]) -> bool {
     }
 }
 
-/// Whether this is announced.
-fn is_told(step: &CheckedProofStep<'_>, told: Told) -> bool {
+/// Whether this is announced of a clause that comes.
+fn is_told_of_new(step: &CheckedProofStep<'_>, told: Told) -> bool {
     match *step {
-        CheckedProofStep::UserVar { var, user_var } => is_user_var(told, var, user_var),
         CheckedProofStep::AddClause { id, clause } => is_added(told, id, clause),
         CheckedProofStep::DuplicatedClause {
             id,
@@ -194,6 +193,13 @@ fn is_told(step: &CheckedProofStep<'_>, told: Told) -> bool {
             clause,
             propagations,
         } => is_derived(told, id, redundant, clause, propagations),
+        _ => false,
+    }
+}
+
+/// Whether this is announced of a clause that is stored.
+fn is_told_of_stored(step: &CheckedProofStep<'_>, told: Told) -> bool {
+    match *step {
         CheckedProofStep::MakeIrredundant { id, clause } => is_made_irredundant(told, id, clause),
         CheckedProofStep::DeleteClause { id, clause } => is_deleted(told, id, clause),
         CheckedProofStep::DeleteAtClause {
@@ -202,14 +208,27 @@ fn is_told(step: &CheckedProofStep<'_>, told: Told) -> bool {
             clause,
             propagations,
         } => is_deleted_by(told, id, keep_as_redundant, clause, propagations),
-        CheckedProofStep::DeleteRatClause { .. } => false,
+        _ => false,
+    }
+}
+
+/// Whether this is announced of a variable's name or of an answer.
+fn is_told_of_other(step: &CheckedProofStep<'_>, told: Told) -> bool {
+    match *step {
+        CheckedProofStep::UserVar { var, user_var } => is_user_var(told, var, user_var),
         CheckedProofStep::Model { assignment } => is_model(told, assignment),
         CheckedProofStep::Assumptions { assumptions } => is_assumed(told, assumptions),
         CheckedProofStep::FailedAssumptions {
             failed_core,
             propagations,
         } => is_failed_core(told, failed_core, propagations),
+        _ => false,
     }
+}
+
+/// Whether this is announced.
+fn is_told(step: &CheckedProofStep<'_>, told: Told) -> bool {
+    is_told_of_new(step, told) || is_told_of_stored(step, told) || is_told_of_other(step, told)
 }
 
 fn is_witness(said: Said, var: Var) -> bool {
@@ -309,6 +328,18 @@ impl Listener {
     pub(crate) fn is_done(&self) -> bool {
         self.awaited.is_empty()
     }
+
+    /// Takes an announcement, unless it is another one than is awaited.
+    fn fault(&mut self, step: &CheckedProofStep<'_>) -> Option<&'static str> {
+        let Some((first, rest)) = self.awaited.split_first() else {
+            return Some(NO_MORE);
+        };
+        if !is_told(step, *first) {
+            return Some(ANOTHER);
+        }
+        self.awaited = rest;
+        None
+    }
 }
 
 impl ProofProcessor for Listener {
@@ -321,16 +352,9 @@ impl ProofProcessor for Listener {
         step: &CheckedProofStep<'_>,
         _names: CheckerData<'_>,
     ) -> anyhow::Result<()> {
-        match self.awaited.split_first() {
-            None => Err(anyhow!(NO_MORE)),
-            Some((first, rest)) => {
-                if is_told(step, *first) {
-                    self.awaited = rest;
-                    Ok(())
-                } else {
-                    Err(anyhow!(ANOTHER))
-                }
-            }
+        match self.fault(step) {
+            None => Ok(()),
+            Some(fault) => Err(anyhow!(fault)),
         }
     }
 }
@@ -349,6 +373,18 @@ impl Reader {
     fn is_done(&self) -> bool {
         self.awaited.is_empty()
     }
+
+    /// Takes a step, unless it is another one than is awaited.
+    fn fault(&mut self, step: &ProofTranscriptStep<'_>) -> Option<&'static str> {
+        let Some((first, rest)) = self.awaited.split_first() else {
+            return Some(NO_MORE);
+        };
+        if !is_said(step, *first) {
+            return Some(ANOTHER);
+        }
+        self.awaited = rest;
+        None
+    }
 }
 
 impl ProofTranscriptProcessor for Reader {
@@ -357,16 +393,9 @@ impl ProofTranscriptProcessor for Reader {
     ghost reads = { λ _ _ _ _. ⊤ };
 
     fn process_step(&mut self, step: &ProofTranscriptStep<'_>) -> anyhow::Result<()> {
-        match self.awaited.split_first() {
-            None => Err(anyhow!(NO_MORE)),
-            Some((first, rest)) => {
-                if is_said(step, *first) {
-                    self.awaited = rest;
-                    Ok(())
-                } else {
-                    Err(anyhow!(ANOTHER))
-                }
-            }
+        match self.fault(step) {
+            None => Ok(()),
+            Some(fault) => Err(anyhow!(fault)),
         }
     }
 }

@@ -6,7 +6,6 @@ use crate::rows::{Row, next_error};
 use sat_base::{CnfFormula, Counted, CountedRead, ExtendFormula, Lit};
 use sat_checker::{Checker, Looks, ProofProcessor, ProofTranscriptProcessor};
 use std::alloc::Global;
-use std::test::Fail;
 
 /// What a checker answers to a proof: the error, whether unsat is recorded, and whether it has ended.
 type Answer = (Option<Kind>, bool, bool);
@@ -69,14 +68,11 @@ const TEXTS: [(&[u8], Answer); 10] = [
 ];
 
 #[test]
-fn texts_are_answered(rt: HostRuntime) -> Result<(), Fail> {
+fn texts_are_answered(rt: HostRuntime) {
     for (text, answer) in &TEXTS {
-        assert!(rt;
-            is_text_answered(rt.alloc(), *text, &(*answer, None)),
-            "{text:?}"
-        );
+        let answered = is_text_answered(rt.alloc(), *text, &(*answer, None));
+        assert!(rt; answered, "{text:?}");
     }
-    Ok(())
 }
 
 /// A name is put again on a hidden variable, and unsat is recorded.
@@ -95,24 +91,27 @@ fn goes_on_behind(alloc: Global, failing: u64) -> bool {
 }
 
 #[test]
-fn failed_reads_are_answered(rt: HostRuntime) -> Result<(), Fail> {
+fn failed_reads_are_answered(rt: HostRuntime) {
     for failing in 1..20 {
         assert!(rt; goes_on_behind(rt.alloc(), failing), "{failing}");
     }
     assert!(rt; answered(rt.alloc(), &mut by_one(NAMED_AGAIN, 20)).0 == (None, true, true));
-    Ok(())
+}
+
+/// What a checker answers to a proof and to another behind it.
+fn answered_both(alloc: Global, first: &[u8], second: &[u8]) -> (Answer, Answer) {
+    let mut checker = Checker::new(alloc);
+    let answer = read_on(&mut checker, &mut Counted::new(first));
+    let next = read_on(&mut checker, &mut Counted::new(second));
+    drop(checker);
+    (answer, next)
 }
 
 /// A unit conflict whose empty clause is settled at the end, and a proof behind it.
 #[test]
-fn proofs_follow_proofs(rt: HostRuntime) -> Result<(), Fail> {
-    let mut checker = Checker::new(rt.alloc());
-    let first: &[u8] = &[5, 1, 0, 5, 1, 1, 13];
-    let second: &[u8] = &[5, 1, 2, 13];
-    assert!(rt; read_on(&mut checker, &mut Counted::new(first)) == (None, true, true));
-    assert!(rt; read_on(&mut checker, &mut Counted::new(second)) == (None, true, true));
-    drop(checker);
-    Ok(())
+fn proofs_follow_proofs(rt: HostRuntime) {
+    let answers = answered_both(rt.alloc(), &[5, 1, 0, 5, 1, 1, 13], &[5, 1, 2, 13]);
+    assert!(rt; answers == ((None, true, true), (None, true, true)));
 }
 
 /// The clauses over two variables, with each pair of signs.
@@ -152,20 +151,24 @@ fn add_units(alloc: Global, checker: &mut Checker) -> Option<Kind> {
     failure(&checker.add_formula(&formula))
 }
 
-/// A clause of a hidden variable isn't taken, and neither is one behind it.
+/// The first variable is hidden.
+const HIDDEN: &[u8] = &[2, 0, 1, 2, 0, 0];
+
+/// Whether a clause of a hidden variable isn't taken, and neither is one behind it.
+fn refuses_units(alloc: Global, checker: &mut Checker) -> bool {
+    failure(&checker.check_proof(&mut Counted::new(HIDDEN))) == Some(Kind::ProofIncomplete)
+        && add_units(alloc, checker) == Some(Kind::CheckFailed)
+        && !checker.unsat()
+        && checker.add_clause(&[Lit::from_code(3)]).is_ok()
+        && checker.unsat()
+}
+
 #[test]
-fn refused_clauses_end_a_formula(rt: HostRuntime) -> Result<(), Fail> {
+fn refused_clauses_end_a_formula(rt: HostRuntime) {
     let mut checker = Checker::new(rt.alloc());
-    let hidden: &[u8] = &[2, 0, 1, 2, 0, 0];
-    assert!(rt;
-        failure(&checker.check_proof(&mut Counted::new(hidden))) == Some(Kind::ProofIncomplete)
-    );
-    assert!(rt; add_units(rt.alloc(), &mut checker) == Some(Kind::CheckFailed));
-    assert!(rt; !checker.unsat());
-    assert!(rt; checker.add_clause(&[Lit::from_code(3)]).is_ok());
-    assert!(rt; checker.unsat());
+    let refused = refuses_units(rt.alloc(), &mut checker);
     drop(checker);
-    Ok(())
+    assert!(rt; refused);
 }
 
 fn refuted(alloc: Global, text: &[u8]) -> (Option<Kind>, Answer) {
@@ -185,34 +188,43 @@ const REFUTATIONS: [&[u8]; 2] = [
 ];
 
 #[test]
-fn formulas_are_refuted(rt: HostRuntime) -> Result<(), Fail> {
+fn formulas_are_refuted(rt: HostRuntime) {
     for text in &REFUTATIONS {
-        assert!(rt;
-            refuted(rt.alloc(), *text) == (None, (None, true, true)),
-            "{text:?}"
-        );
+        let answer = refuted(rt.alloc(), *text);
+        assert!(rt; answer == (None, (None, true, true)), "{text:?}");
     }
-    Ok(())
 }
 
-/// The same clause again, and then one that doesn't follow.
-#[test]
-fn clauses_come_twice(rt: HostRuntime) -> Result<(), Fail> {
-    let mut checker = Checker::new(rt.alloc());
+/// Whether the same clause is taken twice.
+fn takes_twice(checker: &mut Checker) -> bool {
     let (first, second) = (Lit::from_code(0), Lit::from_code(2));
-    assert!(rt; checker.add_clause(&[first, second]).is_ok());
-    assert!(rt; checker.add_clause(&[second, first, first]).is_ok());
-    let third: &[u8] = &[6, 0, 1, 4, 0, 13];
-    assert!(rt; read_on(&mut checker, &mut Counted::new(third)).0 == Some(Kind::CheckFailed));
-    assert!(rt; read_on(&mut checker, &mut Counted::new(third)).0 == Some(Kind::HasFailed));
-    assert!(rt; failure(&checker.add_clause(&[first])) == Some(Kind::HasFailed));
+    checker.add_clause(&[first, second]).is_ok()
+        && checker.add_clause(&[second, first, first]).is_ok()
+}
+
+/// A clause that doesn't follow.
+const UNFOUNDED: &[u8] = &[6, 0, 1, 4, 0, 13];
+
+/// Whether a clause that doesn't follow is the last step.
+fn ends_with_third(checker: &mut Checker) -> bool {
+    let failed = Some(Kind::HasFailed);
+    read_on(checker, &mut Counted::new(UNFOUNDED)).0 == Some(Kind::CheckFailed)
+        && read_on(checker, &mut Counted::new(UNFOUNDED)).0 == failed
+        && failure(&checker.add_clause(&[Lit::from_code(0)])) == failed
+}
+
+#[test]
+fn clauses_come_twice(rt: HostRuntime) {
+    let mut checker = Checker::new(rt.alloc());
+    let taken = takes_twice(&mut checker);
+    let ended = ends_with_third(&mut checker);
     drop(checker);
-    Ok(())
+    assert!(rt; taken && ended);
 }
 
 /// Looks of two checkers are one count.
 #[test]
-fn looks_add_up(rt: HostRuntime) -> Result<(), Fail> {
+fn looks_add_up(rt: HostRuntime) {
     let mut checker = Checker::new(rt.alloc());
     let added = add_all(rt.alloc(), &mut checker);
     let answer = read_on(&mut checker, &mut Counted::new(REFUTATIONS[1]));
@@ -223,5 +235,4 @@ fn looks_add_up(rt: HostRuntime) -> Result<(), Fail> {
     drop(checker);
     assert!(rt; (added, answer.0) == (None, None));
     assert!(rt; looks.get() == 2 * once.min(1000) && looks.get() > 0);
-    Ok(())
 }

@@ -3,7 +3,6 @@
 use crate::kinds::Kind;
 use crate::{proofs, steps};
 use std::alloc::Global;
-use std::test::Fail;
 
 /// What a checker answers to steps: the first error, and whether unsat is recorded and it has ended.
 pub(crate) type Answer = (Option<Kind>, bool, bool);
@@ -37,8 +36,18 @@ fn is_answered(alloc: Global, row: &Row) -> bool {
     steps::is_answered(alloc, row) && proofs::is_answered(alloc, row)
 }
 
+/// The first steps of some rows that are answered otherwise.
+fn first_unanswered(alloc: Global, rows: &[Row]) -> Option<&'static [u8]> {
+    for row in rows {
+        if !is_answered(alloc, row) {
+            return Some(row.0);
+        }
+    }
+    None
+}
+
 /// Whole proofs.
-const PROOFS: [Row; 8] = [
+static PROOFS: [Row; 8] = [
     (&[0x0d], ENDED),
     // a name is put again on a hidden variable: the checker alone accepts it
     (
@@ -84,7 +93,7 @@ const PROOFS: [Row; 8] = [
 ];
 
 /// Solver names, and the user's names.
-const NAMES: [Row; 25] = [
+static NAMES: [Row; 25] = [
     // with a solver name a variable is known, without one it stays unknown
     (&[1, 0, 1, 4, 0, 1], GOES_ON),
     (&[1, 0, 0], GOES_ON),
@@ -145,7 +154,7 @@ const NAMES: [Row; 25] = [
 ];
 
 /// Variables that are deleted, and modes.
-const VARIABLES: [Row; 24] = [
+static VARIABLES: [Row; 24] = [
     // unknown, named, in a clause, in a redundant one, assumed
     (&[3, 0], REFUSED),
     (&[2, 0, 1, 3, 0], REFUSED),
@@ -182,7 +191,7 @@ const VARIABLES: [Row; 24] = [
 ];
 
 /// Clauses of the formula, derived ones, and units.
-const CLAUSES: [Row; 42] = [
+static CLAUSES: [Row; 42] = [
     // of unknown and sampling variables, of a witness, of a hidden one
     (&[5, 1, 0, 5, 2, 2, 0], GOES_ON),
     (&[5, 1, 0, 4, 0, 0, 5, 1, 0], REFUSED),
@@ -302,7 +311,7 @@ const CLAUSES: [Row; 42] = [
 ];
 
 /// Clauses that are deleted.
-const DELETIONS: [Row; 30] = [
+static DELETIONS: [Row; 30] = [
     // redundant: stored as that, in any order, once; as irredundant alone; not stored
     (
         &[9, 0, 5, 2, 0, 2, 6, 1, 3, 0, 2, 4, 1, 0, 8, 3, 0, 2, 4, 0],
@@ -409,7 +418,7 @@ const DELETIONS: [Row; 30] = [
 ];
 
 /// Widths, models, assumptions and failed cores.
-const ANSWERS: [Row; 32] = [
+static ANSWERS: [Row; 32] = [
     (&[9, 0], GOES_ON),
     (&[9, 64], GOES_ON),
     // a width counts for clauses of before, and a later one for all
@@ -469,49 +478,37 @@ const ANSWERS: [Row; 32] = [
 ];
 
 #[test]
-fn proofs_are_answered(rt: HostRuntime) -> Result<(), Fail> {
-    for row in &PROOFS {
-        assert!(rt; is_answered(rt.alloc(), row), "{:?}", row.0);
-    }
-    Ok(())
+fn proofs_are_answered(rt: HostRuntime) {
+    let wrong = first_unanswered(rt.alloc(), &PROOFS);
+    assert!(rt; wrong == None, "{wrong:?}");
 }
 
 #[test]
-fn names_are_answered(rt: HostRuntime) -> Result<(), Fail> {
-    for row in &NAMES {
-        assert!(rt; is_answered(rt.alloc(), row), "{:?}", row.0);
-    }
-    Ok(())
+fn names_are_answered(rt: HostRuntime) {
+    let wrong = first_unanswered(rt.alloc(), &NAMES);
+    assert!(rt; wrong == None, "{wrong:?}");
 }
 
 #[test]
-fn variables_are_answered(rt: HostRuntime) -> Result<(), Fail> {
-    for row in &VARIABLES {
-        assert!(rt; is_answered(rt.alloc(), row), "{:?}", row.0);
-    }
-    Ok(())
+fn variables_are_answered(rt: HostRuntime) {
+    let wrong = first_unanswered(rt.alloc(), &VARIABLES);
+    assert!(rt; wrong == None, "{wrong:?}");
 }
 
 #[test]
-fn clauses_are_answered(rt: HostRuntime) -> Result<(), Fail> {
-    for row in &CLAUSES {
-        assert!(rt; is_answered(rt.alloc(), row), "{:?}", row.0);
-    }
-    Ok(())
+fn clauses_are_answered(rt: HostRuntime) {
+    let wrong = first_unanswered(rt.alloc(), &CLAUSES);
+    assert!(rt; wrong == None, "{wrong:?}");
 }
 
 #[test]
-fn deletions_are_answered(rt: HostRuntime) -> Result<(), Fail> {
-    for row in &DELETIONS {
-        assert!(rt; is_answered(rt.alloc(), row), "{:?}", row.0);
-    }
-    Ok(())
+fn deletions_are_answered(rt: HostRuntime) {
+    let wrong = first_unanswered(rt.alloc(), &DELETIONS);
+    assert!(rt; wrong == None, "{wrong:?}");
 }
 
 #[test]
-fn answers_are_answered(rt: HostRuntime) -> Result<(), Fail> {
-    for row in &ANSWERS {
-        assert!(rt; is_answered(rt.alloc(), row), "{:?}", row.0);
-    }
-    Ok(())
+fn answers_are_answered(rt: HostRuntime) {
+    let wrong = first_unanswered(rt.alloc(), &ANSWERS);
+    assert!(rt; wrong == None, "{wrong:?}");
 }
