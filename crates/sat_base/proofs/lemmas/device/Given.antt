@@ -103,9 +103,6 @@ least_calls a b c k n e f h = omega arith
 pub most_calls : (a b c k n : ℕ) → c ≡ b + 1 → b ≡ a + k → n ≡ k → c ≤ a + n + 1
 most_calls a b c k n e f h = omega arith
 
-pub longer_by : (xs ys zs : List ℕ) (k : ℕ) → zs ≡ xs ++ ys → k ≤ length xs → 0 < length ys → k + 1 ≤ length zs
-longer_by xs ys zs k e h some = let f = ap length e in let n = length-append xs ys in omega arith
-
 pub no_less : (xs ys : List ℕ) (k : ℕ) → k ≤ length xs → k ≤ length (xs ++ ys)
 no_less xs ys k h = let n = length-append xs ys in omega arith
 
