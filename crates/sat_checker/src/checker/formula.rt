@@ -18,7 +18,7 @@ impl<P: ProofProcessor, T: ProofTranscriptProcessor> Checker<P, T> {
         if self.kernel.failed {
             return Err(CheckerError::HasFailed);
         }
-        for clause in formula {
+        for clause in formula.iter() {
             self.add_clause(clause)?;
         }
         Ok(())
