@@ -52,17 +52,22 @@ fn add_three(formula: &mut CnfFormula, first: &[Lit], last: &[Lit]) -> Result<()
     formula.add_clause(last)
 }
 
-#[test]
-fn clauses_come_in_order(rt: HostRuntime) {
+/// Tests whether three clauses that are added to an empty formula come in order.
+fn keeps_order(formula: &mut CnfFormula) -> bool {
     let (one, two, three) = (Var::from_index(0), Var::from_index(1), Var::from_index(2));
     let first = [one.positive(), two.negative()];
     let last = [three.negative(), two.positive(), one.positive()];
+    counts(formula) == (0, true, 0)
+        && add_three(formula, &first, &last) == Ok(())
+        && counts(formula) == (3, false, 3)
+        && gives_three(formula, &first, &last)
+        && longest(formula) == 3
+}
+
+#[test]
+fn clauses_come_in_order(rt: HostRuntime) {
     let mut formula = CnfFormula::new(rt.alloc());
-    assert!(rt; counts(&formula) == (0, true, 0));
-    assert!(rt; add_three(&mut formula, &first, &last) == Ok(()));
-    assert!(rt; counts(&formula) == (3, false, 3));
-    assert!(rt; gives_three(&formula, &first, &last));
-    assert!(rt; longest(&formula) == 3);
+    assert!(rt; keeps_order(&mut formula));
 }
 
 /// Sets a count, and gives the count that there is then.
@@ -91,32 +96,47 @@ fn variables_are_counted(rt: HostRuntime) {
     assert!(rt; formula.new_var() == Ok(Var::from_index(21)));
 }
 
+/// Tests whether a formula whose count of variables is the limit gives no new one, and takes a clause of the last.
+fn gives_no_more(formula: &mut CnfFormula) -> bool {
+    formula.new_var() == Err(FormulaError::VariableLimit)
+        && formula.new_lit() == Err(FormulaError::VariableLimit)
+        && counts(formula) == (0, true, 268_435_456)
+        && formula.add_clause(&[Lit::from_index(268_435_455, true)]) == Ok(())
+        && formula.var_count() == 268_435_456
+}
+
 #[test]
 fn no_variable_is_left(rt: HostRuntime) {
     let mut formula = CnfFormula::new(rt.alloc());
     formula.set_var_count(Var::max_count());
-    assert!(rt; formula.new_var() == Err(FormulaError::VariableLimit));
-    assert!(rt; formula.new_lit() == Err(FormulaError::VariableLimit));
-    assert!(rt; counts(&formula) == (0, true, 268_435_456));
-    assert!(rt; formula.add_clause(&[Lit::from_index(268_435_455, true)]) == Ok(()));
-    assert!(rt; formula.var_count() == 268_435_456);
+    assert!(rt; gives_no_more(&mut formula));
+}
+
+/// Tests whether a unit clause is added to a formula of one clause.
+fn takes_unit(formula: &mut CnfFormula) -> bool {
+    formula.add_clause(&[Lit::from_index(2, true)]) == Ok(())
+        && add_unit(formula) == Ok(Lit::from_index(3, true))
+        && counts(formula) == (2, false, 4)
 }
 
 #[test]
 fn a_generic_caller(rt: HostRuntime) {
     let mut formula = CnfFormula::new(rt.alloc());
-    assert!(rt; formula.add_clause(&[Lit::from_index(2, true)]) == Ok(()));
-    assert!(rt; add_unit(&mut formula) == Ok(Lit::from_index(3, true)));
-    assert!(rt; counts(&formula) == (2, false, 4));
+    assert!(rt; takes_unit(&mut formula));
+}
+
+/// Tests whether a clause goes with a formula that another, empty one takes the place of.
+fn is_taken_out(formula: &mut CnfFormula, empty: &mut CnfFormula) -> bool {
+    let is_added = formula.add_clause(&[Lit::from_index(2, true)]) == Ok(());
+    mem::swap(formula, empty);
+    is_added && counts(empty) == (1, false, 3) && counts(formula) == (0, true, 0)
 }
 
 #[test]
 fn a_formula_is_taken_out(rt: HostRuntime) {
     let mut formula = CnfFormula::new(rt.alloc());
-    assert!(rt; formula.add_clause(&[Lit::from_index(2, true)]) == Ok(()));
-    let taken = mem::replace(&mut formula, CnfFormula::new(rt.alloc()));
-    assert!(rt; counts(&taken) == (1, false, 3));
-    assert!(rt; counts(&formula) == (0, true, 0));
+    let mut empty = CnfFormula::new(rt.alloc());
+    assert!(rt; is_taken_out(&mut formula, &mut empty));
 }
 
 fn is_printed(alloc: Global, error: FormulaError, text: &str) -> Result<bool, Fail> {

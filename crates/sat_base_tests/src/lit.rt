@@ -36,23 +36,28 @@ fn numbers_of_literals(rt: HostRuntime) {
 }
 
 #[test]
-fn literals(rt: HostRuntime) {
+fn literals_of_a_variable(rt: HostRuntime) {
     let var = Var::from_index(4);
     let lit = Lit::from_var(var, false);
-    let halved = lit.map_var(|v| Var::from_index(v.index() / 2));
     for (found, wanted) in [
         (lit, var.negative()),
         (lit, Lit::negative(var)),
         (!lit, Lit::positive(var)),
         (!lit, var.positive()),
-        (lit ^ true, var.lit(true)),
-        (lit ^ false, Lit::from_index(4, false)),
-        (halved, Lit::from_index(2, false)),
     ] {
         assert!(rt; found == wanted, "{found:?} for {wanted:?}");
     }
     assert!(rt; (lit.var(), lit.index()) == (var, 4));
-    assert!(rt; lit.is_negative() && !lit.is_positive());
+    assert!(rt; (lit.is_negative(), lit.is_positive()) == (true, false));
+}
+
+#[test]
+fn changed_literals(rt: HostRuntime) {
+    let var = Var::from_index(4);
+    let lit = var.negative();
+    assert!(rt; [lit ^ true, lit ^ false] == [var.lit(true), Lit::from_index(4, false)]);
+    let halved = lit.map_var(|v| Var::from_index(v.index() / 2));
+    assert!(rt; halved == Lit::from_index(2, false));
     assert!(rt; var.positive() < lit && lit < Var::from_index(5).positive());
 }
 
