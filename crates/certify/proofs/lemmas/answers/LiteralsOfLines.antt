@@ -1,6 +1,6 @@
 -- The literals of a line, one by one.
-use Rattle.std.proofs.Common.{ℕ, ◌<◌, ◌≤◌, ◌≡◌, ◌∷◌, ◌++◌, [], List, length, length-append, append-nil, append_assoc, sym, ◌∙◌, ap, subst, arith}
-use Rattle.std.proofs.lemmas.List.{map-append}
+use Rattle.std.proofs.Common.{ℕ, ◌+◌, ◌<◌, ◌≤◌, ◌≡◌, ◌∷◌, ◌++◌, [], List, length, drop, get_or, length-append, append-nil, append_assoc, sym, ◌∙◌, ap, subst, arith}
+use Rattle.std.proofs.lemmas.List.{map-append, drop_more}
 use Rattle.std.specs.List.{AllByRecursion}
 use Rattle.sat_base.specs.values.Literals.{largest}
 use Rattle.sat_base.specs.script.Script.{Literal}
@@ -66,3 +66,11 @@ not_read bytes line rest r none end ls tail h e = let more = r.forth ls tail h e
 
 pub shorter : (w rest behind : List ℕ) → rest ≡ w ++ (32 ∷ behind) → length behind < length rest
 shorter w rest behind e = let f = ap length e ∙ length-append w (32 ∷ behind) in omega arith
+
+-- a literal and a space are pushed in front of the rest
+pub literal_pushed : (whole : List ℕ) (ls : List ℕ) (i d : ℕ) (out word spaced : List ℕ) → i < length ls → word ≡ out ++ word_of (named_literal (get_or ls i d)) → spaced ≡ word ++ 32 ∷ [] → out ++ literals_text (named_literals (drop i ls)) ≡ whole → spaced ++ literals_text (named_literals (drop (i + 1) ls)) ≡ whole
+literal_pushed whole ls i d out word spaced h w s before =
+    let text = word_of (named_literal (get_or ls i d)) in
+    let rest = literals_text (named_literals (drop (i + 1) ls)) in
+    ap (λ xs. xs ++ rest) (s ∙ ap (λ xs. xs ++ 32 ∷ []) w) ∙ append_assoc (out ++ text) (32 ∷ []) rest ∙ append_assoc out text (32 ∷ rest)
+    ∙ sym (ap (λ xs. out ++ literals_text (named_literals xs)) (drop_more ls i d h)) ∙ before
