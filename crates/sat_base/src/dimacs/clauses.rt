@@ -14,7 +14,7 @@ use std::mem;
 const LARGEST: u64 = MAX_COUNT as u64;
 
 /// Why a token wasn't taken.
-#[derive(Clone, Copy, Debug, Drop, PartialEq, Eq)]
+#[derive(Clone, Copy, Drop)]
 pub(crate) enum Refusal {
     Malformed,
     Limit,
@@ -44,7 +44,7 @@ impl<T: Drop> From<AllocFailed<T>> for Refusal {
 }
 
 /// The header and the clauses that were read, and the literals of the one in hand.
-#[derive(Debug, Drop)]
+#[derive(Drop)]
 pub(crate) struct Clauses {
     /// The clauses that wait to be handed over, with the number of variables of all that were read.
     pub(crate) formula: CnfFormula,
