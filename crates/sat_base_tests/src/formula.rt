@@ -125,7 +125,7 @@ fn a_generic_caller(rt: HostRuntime) {
     assert!(rt; takes_unit(&mut formula));
 }
 
-/// Tests whether a clause goes with a formula that another, empty one takes the place of.
+/// Tests whether a formula that is swapped with an empty one takes its clause along.
 fn is_taken_out(formula: &mut CnfFormula, empty: &mut CnfFormula) -> bool {
     let is_added = formula.add_clause(&[Lit::from_index(2, true)]) == Ok(());
     mem::swap(formula, empty);
