@@ -59,7 +59,8 @@ pub struct Tokenizer {
 }
 
 // Each byte goes through several of the functions below, which pass places by value: unasked none is inlined into the others, and
-// a place is then written to memory and read again for each.
+// a place is then written to memory and read again for each. With all of them inlined, a tokenizer that its owner lends to nobody else
+// stays in registers.
 
 fn is_blank(byte: u8) -> bool
     ensures { result ≡ is_blank byte }
@@ -283,6 +284,7 @@ impl Tokenizer {
     }
 
     /// LF.
+    #[inline(always)]
     fn end_line(&mut self) -> Option<Token>
         ensures takes { Takes self.old 10 result self.new }
         ensures ended { (after : List ℕ → Scan) → Stands self.new after → (after []).tokens ≡ [] }
