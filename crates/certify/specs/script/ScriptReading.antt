@@ -10,7 +10,6 @@ use Rattle.sat_base.specs.declared.text.Token.{Token as CodeToken}
 use Rattle.sat_base.specs.declared.text.Token.TheVariants as code
 use Rattle.sat_base.specs.text.Text.{Token, Number, Letter, Header, Wrong, Scan}
 use Rattle.sat_base.specs.text.Tokenizing.{Stands}
-use Rattle.sat_base.specs.text.Chunks.{Follows}
 use Rattle.sat_base.specs.script.Script.{Literal, Command, Ask, Clean, Malformed, Hand, Nothing, InClause, InAsk, Turn, GoesOn, Fails, command_in, Reading, onto_commands, commands_of, spoken, has_ask, is_clean}
 
 -- a token with its name capped; a header's numbers are compared with nothing
@@ -95,9 +94,3 @@ pub record Means (parser : Parser) (script_of : List ℕ → CappedScript) : Typ
   pub left_of : List ℕ → Scan
   pub stands : Stands parser.tokenizer left_of
   pub reads : (rest : List ℕ) → script_of rest ≡ meaning parser.commands (capped_tokens (left_of rest))
-
--- what a byte leaves
-abbrev pub TakesByte : Bool → Parser → ℕ → Parser → Type 0
-TakesByte true old byte new = Follows Means old (byte ∷ []) new
-TakesByte false old byte new = AreCommands new.commands
-    × ((before : List ℕ → CappedScript) → Means old before → (rest : List ℕ) → before (byte ∷ rest) ≡ malformed_behind new.commands)

@@ -5,7 +5,7 @@ ghost use Rattle.sat_base.specs.text.Text.{Token as SpelledToken};
 ghost use Rattle.sat_base.specs.script.Script.{Literal as Spelled, Ask, Clean, Nothing, command_in, with_literal, with_letter, at_end, commands_of, has_ask};
 ghost use Rattle.certify.specs.script.CappedNames.{CappedScript, capped_script, IsScriptOf};
 ghost use Rattle.certify.specs.script.ScriptParts.{command_of, end_of};
-ghost use Rattle.certify.specs.script.ScriptReading.{token_of, hand_of, commands_read, hand_in, AreCommands, Turns, EndsCommand, any_header, asked_if, meaning, malformed_behind, TakesToken, Means, TakesByte};
+ghost use Rattle.certify.specs.script.ScriptReading.{token_of, hand_of, commands_read, hand_in, AreCommands, Turns, EndsCommand, any_header, asked_if, meaning, malformed_behind, TakesToken, Means};
 
 use super::{CommandKind, Literal, Part, Script, any_ask};
 use sat_base::{CountedRead, ReadError, Token, Tokenizer, read_whole};
@@ -32,7 +32,7 @@ struct Commands {
     headed: bool,
 }
 
-/// A reader of a script that is fed byte by byte.
+/// What is behind the bytes so far.
 #[derive(Drop)]
 struct Parser {
     tokenizer: Tokenizer,
@@ -185,26 +185,6 @@ impl Commands {
 }
 
 impl Parser {
-    fn new(alloc: Global) -> Parser
-        ensures { Means result capped_script }
-    {
-        Parser {
-            tokenizer: Tokenizer::new(),
-            commands: Commands::new(alloc),
-        }
-    }
-
-    /// The next byte. Says whether the text goes on; it ends where it is malformed.
-    fn push(&mut self, byte: u8) -> Result<bool, AllocError>
-        requires { AreCommands self.old.commands }
-        ensures { IfOk result (λ goes. TakesByte goes self.old byte self.new) }
-    {
-        match self.tokenizer.push(byte) {
-            None => Ok(true),
-            Some(token) => self.commands.take(token),
-        }
-    }
-
     /// The text ends here.
     fn finish(mut self) -> Result<Script, AllocError>
         requires { AreCommands self.commands }
@@ -227,13 +207,22 @@ impl Parser {
 pub(crate) fn parse(alloc: Global, text: &[u8]) -> Result<Script, AllocError>
     ensures { IfOk result (λ script. script ≡ capped_script text.now) }
 {
-    let mut parser = Parser::new(alloc);
+    // Apart, so that the commands are handed on and the tokenizer isn't: it then stays in registers from byte to byte.
+    let mut tokenizer = Tokenizer::new();
+    let mut commands = Commands::new(alloc);
     for byte in text {
-        if !parser.push(*byte)? {
-            return Ok(parser.commands.into_script(true));
+        let Some(token) = tokenizer.push(*byte) else {
+            continue;
+        };
+        if !commands.take(token)? {
+            return Ok(commands.into_script(true));
         }
     }
-    parser.finish()
+    Parser {
+        tokenizer,
+        commands,
+    }
+    .finish()
 }
 
 /// Reads a script to the end of its text.

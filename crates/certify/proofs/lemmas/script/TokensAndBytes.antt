@@ -9,6 +9,7 @@ use Rattle.sat_base.specs.declared.text.Token.{Token as CodeToken}
 use Rattle.sat_base.specs.declared.text.Tokenizer.{Tokenizer}
 use Rattle.sat_base.specs.text.Text.{Token, Number, Header, Wrong, Scan, scan}
 use Rattle.sat_base.specs.text.Tokenizing.{Takes, Stands, GivesLast}
+use Rattle.sat_base.specs.text.Chunks.{Follows}
 use Rattle.sat_base.specs.script.Script.{Literal, Command, Ask, Ending, Clean, Malformed, Hand, Nothing, InClause, InAsk, Turn, GoesOn, Ends, Fails, command_in, with_literal, turn, Reading, onto_commands, at_end, behind_turn, commands_of, has_ask}
 use Rattle.certify.specs.declared.script.CommandKind.{CommandKind}
 use Rattle.certify.specs.declared.script.CommandKind.TheVariants as kind
@@ -19,7 +20,7 @@ use Rattle.certify.specs.declared.script.reader.Commands.{Commands}
 use Rattle.certify.specs.declared.script.reader.Parser.{Parser}
 use Rattle.certify.specs.script.CappedNames.{capped_name, CappedScript, capped_script}
 use Rattle.certify.specs.script.ScriptParts.{command_of, commands_in}
-use Rattle.certify.specs.script.ScriptReading.{capped_token, token_of, hand_of, commands_read, literals_left, hand_in, AreCommands, Turns, EndsCommand, is_header, any_header, asked_if, meaning, malformed_behind, TakesToken, capped_tokens, Means, TakesByte}
+use Rattle.certify.specs.script.ScriptReading.{capped_token, token_of, hand_of, commands_read, literals_left, hand_in, AreCommands, Turns, EndsCommand, is_header, any_header, asked_if, meaning, malformed_behind, TakesToken, capped_tokens, Means}
 use Rattle.certify.proofs.lemmas.script.ScriptParts.{commands_in-more, literals_behind-more, AreParts-more, commands_in-part, literals_behind-part, AreParts-part}
 use Rattle.certify.proofs.lemmas.script.CappedReading.{commands_of_cons, reading-held, token_of-held}
 
@@ -123,8 +124,14 @@ if_ok (Ok x) P Q f p = f x p
 if_ok (Err e) P Q f p = tt
 
 -- BYTES
-abbrev parser : Tokenizer → Commands → Parser
+abbrev pub parser : Tokenizer → Commands → Parser
 parser tokenizer commands = record { tokenizer = tokenizer; commands = commands }
+
+-- what a byte leaves
+abbrev pub TakesByte : Bool → Parser → ℕ → Parser → Type 0
+TakesByte true old byte new = Follows Means old (byte ∷ []) new
+TakesByte false old byte new = AreCommands new.commands
+    × ((before : List ℕ → CappedScript) → Means old before → (rest : List ℕ) → before (byte ∷ rest) ≡ malformed_behind new.commands)
 
 pub byte_goes : (old : Parser) (b : ℕ) (next : Tokenizer) → Takes old.tokenizer b None next → TakesByte true old b (parser next old.commands)
 byte_goes old b next t before m =
