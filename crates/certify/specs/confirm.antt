@@ -6,6 +6,7 @@ pub mod Matches
 pub mod LeftToMatch
 pub mod VerdictPromises
 pub mod CertificatePlaces
+pub mod NamesInOrder
 pub mod Decides
 pub mod ReadSteps
 pub mod Streams

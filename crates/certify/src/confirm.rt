@@ -11,6 +11,7 @@ pub(crate) mod answers;
 pub(crate) mod certificate;
 pub(crate) mod expected;
 pub(crate) mod marked;
+pub(crate) mod named;
 pub(crate) mod session;
 pub(crate) mod sets;
 pub(crate) mod spell;

@@ -30,7 +30,7 @@ abbrev pub stream_of : {R : Type 0} → (R → Reader) → StepReader R Buffers 
 stream_of seen r checker variables = record { source = reader_source seen r; checker = checker; variables = variables; step = step_in r }
 
 abbrev pub stream : {R : Type 0} → (R → Reader) → StepReader R Buffers → Certificate → Stream
-stream seen r c = stream_of seen r (kernel_of c.checker) c.variables.items
+stream seen r c = stream_of seen r (kernel_of c.checker) c.variables
 
 -- a reader of steps that goes on: it hasn't failed, and isn't at its end
 pub record GoesOn {R : Type 0} (seen : R → Reader) (r : StepReader R Buffers) : Type 0 where

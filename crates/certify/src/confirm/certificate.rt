@@ -13,6 +13,7 @@ ghost use Rattle.sat_checker.specs.CheckerView.{kernel_of};
 ghost use Rattle.sat_checker.specs.declared.kernel.Kernel.{Kernel};
 
 use crate::confirm::expected::{Expected, Scratch, excuse, fits};
+use crate::confirm::named::NamedVars;
 use crate::confirm::stop::{Stop, refused, unread};
 use crate::script::Literal;
 use crate::verdict::Why;
@@ -24,8 +25,7 @@ use std::alloc::Global;
 #[derive(Drop)]
 pub(crate) struct Certificate {
     pub(crate) checker: Checker,
-    /// The variable of each name, from name 1 on.
-    pub(crate) variables: Vec<Var>,
+    pub(crate) variables: NamedVars,
     scratch: Scratch,
 }
 
@@ -91,7 +91,7 @@ fn settle(checker: &mut Checker) -> Result<(), Stop>
 }
 
 /// The variable that a step puts the next name on.
-fn next_name(checker: &Checker, variables: &[Var], step: &ProofStep<'_>) -> Result<Var, Stop>
+fn next_name(checker: &Checker, variables: &NamedVars, step: &ProofStep<'_>) -> Result<Var, Stop>
     ensures { Says result (PutsNext (kernel_of checker.now) variables.now (step_of step.now)) }
 {
     let ProofStep::UserVarName { global, user } = *step else {
@@ -121,13 +121,13 @@ impl Certificate {
 
     pub fn new(alloc: Global) -> Certificate
         ensures stands { (rest : List ℕ) (step : Step) → IsFed
-            (record { checker = kernel_of result.checker; variables = result.variables.items; step = step; rest = rest }) start [] }
+            (record { checker = kernel_of result.checker; variables = result.variables; step = step; rest = rest }) start [] }
         ensures looks { looks_of (kernel_of result.checker) ≡ 0 }
     {
         let checker = Checker::new(alloc);
         Certificate {
             checker,
-            variables: Vec::new(alloc),
+            variables: NamedVars::new(alloc),
             scratch: Scratch::new(alloc),
         }
     }

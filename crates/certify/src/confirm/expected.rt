@@ -8,11 +8,12 @@ ghost use Rattle.certify.specs.confirm.SpeltLiterals.{IsLineOf};
 ghost use Rattle.certify.specs.confirm.Streams.{Says};
 
 use crate::confirm::marked::Marked;
+use crate::confirm::named::NamedVars;
 use crate::confirm::spell::{are_spelt_by, are_spelt_in, is_line};
 use crate::confirm::stop::Stop;
 use crate::script::Literal;
 use crate::verdict::Why;
-use sat_base::{Lit, ProofStep, Var};
+use sat_base::{Lit, ProofStep};
 use std::alloc::Global;
 
 /// What the next ordered step has to be, by names; a name that comes in is none of these.
@@ -78,7 +79,7 @@ fn expect_none<T>(list: &[T], why: Why) -> Result<(), Stop>
 
 /// Expects that literals and codes are the same sets.
 fn compare(
-    variables: &[Var],
+    variables: &NamedVars,
     literals: &[Literal],
     codes: &[Lit],
     scratch: &mut Scratch,
@@ -101,7 +102,7 @@ fn compare(
 
 /// Expects that a line lists all names and has an ask's literals, and that its literals are among the codes.
 fn compare_model(
-    variables: &[Var],
+    variables: &NamedVars,
     ask: &[Literal],
     line: &[Literal],
     codes: &[Lit],
@@ -128,7 +129,7 @@ fn compare_model(
 
 /// Compares a step with what is expected, by the variables of the names.
 pub(crate) fn fits(
-    variables: &[Var],
+    variables: &NamedVars,
     step: &ProofStep<'_>,
     expected: Expected<'_>,
     scratch: &mut Scratch,

@@ -74,7 +74,7 @@ impl<'a> Confirmation<'a> {
 
     pub fn new(alloc: Global, answers: &'a [u8]) -> Confirmation<'a>
         ensures stands { (rest : List ℕ) (step : Step) → IsFed (record
-            { checker = kernel_of result.certificate.checker; variables = result.certificate.variables.items; step = step; rest = rest }) start [] }
+            { checker = kernel_of result.certificate.checker; variables = result.certificate.variables; step = step; rest = rest }) start [] }
         ensures looks { looks_of (kernel_of result.certificate.checker) ≡ 0 }
         ensures answers { left_of result ≡ answers.now }
     {

@@ -6,28 +6,23 @@ ghost use Rattle.certify.specs.confirm.Matches.{EachSpelt, SameSet};
 ghost use Rattle.certify.specs.confirm.SpeltLiterals.{Tells, SpellsAll, ListsNames, HasEach, IsLineOf};
 
 use crate::confirm::marked::Marked;
+use crate::confirm::named::NamedVars;
 use crate::confirm::sets::{are_among, are_same};
 use crate::script::Literal;
-use sat_base::{Lit, Var};
+use sat_base::Lit;
 use std::alloc::AllocError;
 
-/// The variable of a name, of variables by name from name 1 on.
-fn variable_of(variables: &[Var], name: u32) -> Option<Var>
-    ensures { result ≡ variable_in variables.now name }
-{
-    if name == 0 {
-        return None;
-    }
-    variables.get(name as usize - 1).copied()
-}
-
 /// Spells the literals by the names' variables. The answer is whether each name has one.
-fn spell(variables: &[Var], literals: &[Literal], spelt: &mut Vec<Lit>) -> Result<bool, AllocError>
+fn spell(
+    variables: &NamedVars,
+    literals: &[Literal],
+    spelt: &mut Vec<Lit>,
+) -> Result<bool, AllocError>
     ensures { IfOk result (λ yes. SpellsAll yes (variable_in variables.now) literals.now spelt.new.items) }
 {
     spelt.clear();
     for literal in literals {
-        let Some(variable) = variable_of(variables, literal.name) else {
+        let Some(variable) = variables.get(literal.name) else {
             return Ok(false);
         };
         spelt.push(variable.lit(literal.positive))?;
@@ -37,7 +32,7 @@ fn spell(variables: &[Var], literals: &[Literal], spelt: &mut Vec<Lit>) -> Resul
 
 /// Whether all of the literals stand among the codes.
 pub(crate) fn are_spelt_in(
-    variables: &[Var],
+    variables: &NamedVars,
     literals: &[Literal],
     codes: &[Lit],
     spelt: &mut Vec<Lit>,
@@ -54,7 +49,7 @@ pub(crate) fn are_spelt_in(
 
 /// Whether the literals and the codes are the same sets.
 pub(crate) fn are_spelt_by(
-    variables: &[Var],
+    variables: &NamedVars,
     literals: &[Literal],
     codes: &[Lit],
     spelt: &mut Vec<Lit>,

@@ -13,14 +13,14 @@ returns-in_err-read_next-clause-confirms g c =
     let v = c.args.self.now in
     let p = err_from_is_err_and c.from_residual.result c.from_residual.ensures.1 in
     rw (p.1, p.2) (steps_none (stream S c.args.steps.now v) c.unsat.result c.unsat.ensures (stream S c.read_next.new.steps v) c.requires.open_yet c.if-unsat.false c.in_err-read_next.field-0.0
-    (c.in_err-read_next.ensures.reads v.checker.kernel v.variables.items))
+    (c.in_err-read_next.ensures.reads v.checker.kernel v.variables))
 
 pub returns-then-is_ordered-clause-confirms : goal.returns-then-is_ordered-clause-confirms
 returns-then-is_ordered-clause-confirms g c =
     let S = g.R.CountedRead.seen in
     let v = c.args.self.now in
     steps_step (stream S c.args.steps.now v) c.unsat.result c.unsat.ensures (stream S c.read_next.new.steps v) c.requires.open_yet c.if-unsat.false
-    (c.in_ok-read_next.ensures.reads v.checker.kernel v.variables.items) refl (ap is_ordered (sym c.step-step.ensures) ∙ sym c.is_ordered.ensures ∙ c.if-is_ordered.true) refl
+    (c.in_ok-read_next.ensures.reads v.checker.kernel v.variables) refl (ap is_ordered (sym c.step-step.ensures) ∙ sym c.is_ordered.ensures ∙ c.if-is_ordered.true) refl
 
 pub returns-in_err-feed-clause-confirms : goal.returns-in_err-feed-clause-confirms
 returns-in_err-feed-clause-confirms g c =
@@ -28,7 +28,7 @@ returns-in_err-feed-clause-confirms g c =
     let v = c.args.self.now in
     let p = err_from_is_err_and c.from_residual-in_err-feed.result c.from_residual-in_err-feed.ensures.1 in
     rw (p.1, p.2) (steps_refused (stream S c.args.steps.now v) c.unsat.result c.unsat.ensures (stream S c.read_next.new.steps v) c.requires.open_yet c.if-unsat.false
-    (c.in_ok-read_next.ensures.reads v.checker.kernel v.variables.items) refl c.in_err-feed.field-0.0 c.feed.new.checker.kernel (ap is_ordered (sym c.step-step.ensures) ∙ sym c.is_ordered.ensures ∙ c.if-is_ordered.false)
+    (c.in_ok-read_next.ensures.reads v.checker.kernel v.variables) refl c.in_err-feed.field-0.0 c.feed.new.checker.kernel (ap is_ordered (sym c.step-step.ensures) ∙ sym c.is_ordered.ensures ∙ c.if-is_ordered.false)
     (subst (λ x. Feeds (Err c.in_err-feed.field-0.0) v.checker.kernel x c.feed.new.checker.kernel) c.step-step.ensures c.in_err-feed.ensures.feeds)
     (subst (λ x. LooksAtMost v.checker.kernel x c.feed.new.checker.kernel) c.step-step.ensures c.in_err-feed.ensures.looks))
 
@@ -37,6 +37,6 @@ returns-clause-confirms g c =
     let S = g.R.CountedRead.seen in
     let v = c.args.self.now in
     steps_passed (stream S c.args.steps.now v) c.unsat.result c.unsat.ensures (stream S c.read_next.new.steps v) c.requires.open_yet c.if-unsat.false
-    (c.in_ok-read_next.ensures.reads v.checker.kernel v.variables.items) refl c.feed.new.checker.kernel (ap is_ordered (sym c.step-step.ensures) ∙ sym c.is_ordered.ensures ∙ c.if-is_ordered.false)
+    (c.in_ok-read_next.ensures.reads v.checker.kernel v.variables) refl c.feed.new.checker.kernel (ap is_ordered (sym c.step-step.ensures) ∙ sym c.is_ordered.ensures ∙ c.if-is_ordered.false)
     (subst (λ x. Feeds (Ok tt) v.checker.kernel x c.feed.new.checker.kernel) c.step-step.ensures c.in_ok-feed.ensures.feeds)
     (subst (λ x. LooksAtMost v.checker.kernel x c.feed.new.checker.kernel) c.step-step.ensures c.in_ok-feed.ensures.looks) refl

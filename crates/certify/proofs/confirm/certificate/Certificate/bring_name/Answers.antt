@@ -13,7 +13,7 @@ returns-then-unsat-clause-confirms g c = up_to_cut (stream g.R.CountedRead.seen 
 pub returns-in_err-expect_name-clause-confirms : goal.returns-in_err-expect_name-clause-confirms
 returns-in_err-expect_name-clause-confirms g c =
     let S = g.R.CountedRead.seen in
-    let low : c.loop-done.done < c.args.name - length c.args.self.now.variables.items = omega arith in
+    let low : c.loop-done.done < c.args.name - length c.args.self.now.variables = omega arith in
     let p = err_from_is_err_and c.from_residual.result c.from_residual.ensures.1 in
     rw (p.1, p.2) (up_to_stop (stream S c.args.steps.now c.args.self.now) c.args.name c.unsat.result c.unsat.ensures (stream S c.loop-done.steps c.loop-done.self) c.loop-done.done c.if-unsat.false c.loop-done.invariant.met
     (stream S c.expect_name.new.steps c.expect_name.new.self) c.in_err-expect_name.field-0.0 c.requires.open_yet low c.in_err-expect_name.ensures.confirms)
@@ -30,5 +30,5 @@ loop-done-preserved g c =
 pub returns-clause-confirms : goal.returns-clause-confirms
 returns-clause-confirms g c =
     let S = g.R.CountedRead.seen in
-    let all : c.loop-done.done ≡ c.args.name - length c.args.self.now.variables.items = omega arith in
+    let all : c.loop-done.done ≡ c.args.name - length c.args.self.now.variables = omega arith in
     up_to_all (stream S c.args.steps.now c.args.self.now) c.args.name c.unsat.result c.unsat.ensures (stream S c.loop-done.steps c.loop-done.self) c.loop-done.done c.if-unsat.false c.loop-done.invariant.met all

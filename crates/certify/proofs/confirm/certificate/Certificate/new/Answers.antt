@@ -3,4 +3,4 @@ use Rattle.certify.proofs.lemmas.confirm.CertificateSteps.{begins_fed}
 use Rattle.certify.proofs.confirm.certificate.Certificate.new.Goals as goal
 
 pub returns-clause-stands : goal.returns-clause-stands
-returns-clause-stands c = λ rest step. begins_fed (kernel_of c.new-checker.result) c.new.result.items rest step c.new.ensures.items c.new-checker.ensures.stands c.new-checker.ensures.goes_on
+returns-clause-stands c = λ rest step. begins_fed (kernel_of c.new-checker.result) c.new.result rest step c.new.ensures c.new-checker.ensures.stands c.new-checker.ensures.goes_on
