@@ -9,7 +9,7 @@ use std::marker::Model;
 /// The variable of each name, from name 1 on. Contracts see the variables.
 ///
 /// Most certificates name their variables in order, name 1 for variable 0 and so on. As far as one does, a name's variable is told
-/// without a look at the list: literals come in any order, and the list of a large script is no longer in the cache.
+/// without a look at the list: literals come in any order, and the list of a large script is larger than the cache.
 #[derive(Drop)]
 pub(crate) struct NamedVars {
     variables: Vec<Var>,

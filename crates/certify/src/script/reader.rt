@@ -32,7 +32,7 @@ struct Commands {
     headed: bool,
 }
 
-/// What is behind the bytes so far.
+/// A reader of a script, as it stands behind the bytes that it was fed.
 #[derive(Drop)]
 struct Parser {
     tokenizer: Tokenizer,
