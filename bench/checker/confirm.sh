@@ -4,8 +4,8 @@
 # FOLDER/NAME.cnf, FOLDER/answers and FOLDER/NAME.certificate match as script, answers and certificate. One program runs `confirm` on the
 # three files, the other `check_proof` on the certificate from standard input; both run five times, in turn, on each certificate of the
 # folder or on those that are named. It prints what they say, the medians of seconds and of peak memory with their ratios, and the geometric
-# mean of the ratios of time. It fails where a certificate isn't confirmed. The program of `confirm` is certify with another `main`, which
-# also runs scripts: `certify run S A C`. It isn't part of the gate, and needs GNU time.
+# mean of the ratios of time. It fails where a certificate isn't confirmed. The program of `confirm`, over certify, also runs scripts:
+# `confirms run S A C`. It isn't part of the gate, and needs GNU time.
 set -euo pipefail
 here=$(cd "$(dirname "$0")" && pwd)
 top=$(cd "$here/../.." && pwd)
@@ -14,22 +14,21 @@ shift
 work=$(mktemp -d)
 trap 'rm -rf "$work"' EXIT
 
-mkdir -p "$work/repo/crates/checks/src"
+mkdir -p "$work/repo/crates/checks/src" "$work/repo/crates/confirms/src"
 for crate in sat_base sat_checker certify; do
     cp -r "$top/crates/$crate" "$work/repo/crates/"
 done
 cp "$top/HANDLES" "$work/repo/"
-printf 'sat_base: thiserror\nsat_checker: sat_base thiserror anyhow\ncertify: sat_base sat_checker thiserror\nchecks: sat_checker sat_base\n' \
-    > "$work/repo/crates.txt"
+printf '%s\n' 'sat_base: thiserror' 'sat_checker: sat_base thiserror anyhow' 'certify: sat_base sat_checker thiserror' \
+    'checks: sat_checker sat_base' 'confirms: certify sat_checker sat_base' > "$work/repo/crates.txt"
 git init -q "$work/repo"
 cp "$here/checks.rt.txt" "$work/repo/crates/checks/src/main.rt"
-sed '/^use /,$d' "$top/crates/certify/src/main.rt" > "$work/repo/crates/certify/src/main.rt"
-cat "$here/confirms.rt.txt" >> "$work/repo/crates/certify/src/main.rt"
-for crate in checks certify; do
+cp "$here/confirms.rt.txt" "$work/repo/crates/confirms/src/main.rt"
+for crate in checks confirms; do
     (cd "$work/repo/crates/$crate" && rt run < /dev/null > "$work/build.log" 2>&1) || [ -x "$work/repo/crates/$crate/out/$crate" ] ||
         { tail -n 20 "$work/build.log"; exit 1; }
 done
-checks=$work/repo/crates/checks/out/checks confirms=$work/repo/crates/certify/out/certify
+checks=$work/repo/crates/checks/out/checks confirms=$work/repo/crates/confirms/out/confirms
 
 . "$here/timing.sh"
 

@@ -4,7 +4,7 @@
 # First for calls.rt.txt, a program over sat_base: the call whose allocation is refused has to say that it is out of memory, what it leaves
 # behind has to be what its documentation says, and all other lines have to be those of a run with all memory. Then for feeds.rt.txt, a
 # program over sat_checker: the call has to say so, each later one has to answer that the checker has failed, and all who listen have to
-# be handed back, with no more told than in a run with all memory. Then for certify, on two scripts: it has to end with `certify:
+# be handed back, with no more told than in a run with all memory. Then for the program certify, on two scripts: it has to end with `certify:
 # OutOfMemory` and status 3, and what it printed by then has to be the beginning of what it prints with all memory. A line says for each N
 # which call was out of memory. It isn't part of the gate, and takes some minutes.
 #
@@ -20,19 +20,19 @@ most=200
 
 # A repository of our crates, and the programs over sat_base and sat_checker.
 mkdir -p "$work/repo/crates/calls/src" "$work/repo/crates/feeds/src"
-cp -r "$top/crates/sat_base" "$top/crates/sat_checker" "$top/crates/certify" "$work/repo/crates/"
+cp -r "$top/crates/sat_base" "$top/crates/sat_checker" "$top/crates/certify" "$top/crates/certify_cli" "$work/repo/crates/"
 cp "$top/HANDLES" "$work/repo/"
-printf 'sat_base: thiserror\nsat_checker: sat_base thiserror anyhow\ncertify: sat_base sat_checker thiserror\ncalls: sat_base\nfeeds: sat_checker sat_base anyhow\n' > "$work/repo/crates.txt"
+printf 'sat_base: thiserror\nsat_checker: sat_base thiserror anyhow\ncertify: sat_base sat_checker thiserror\ncertify_cli: certify sat_base\ncalls: sat_base\nfeeds: sat_checker sat_base anyhow\n' > "$work/repo/crates.txt"
 git init -q "$work/repo"
 cp "$here/calls.rt.txt" "$work/repo/crates/calls/src/main.rt"
 cp "$here/feeds.rt.txt" "$work/repo/crates/feeds/src/main.rt"
 
 # The texts on standard input: none, and two scripts.
-mkdir -p "$work/texts/calls" "$work/texts/feeds" "$work/texts/certify"
+mkdir -p "$work/texts/calls" "$work/texts/feeds" "$work/texts/certify_cli"
 printf '' > "$work/texts/calls/none"
 printf '' > "$work/texts/feeds/none"
-printf '1 2 0\na 0\n' > "$work/texts/certify/sat"
-printf '1 2 0\n1 -2 0\n-1 2 0\n-1 -2 0\na 0\n' > "$work/texts/certify/unsat"
+printf '1 2 0\na 0\n' > "$work/texts/certify_cli/sat"
+printf '1 2 0\n1 -2 0\n-1 2 0\n-1 -2 0\na 0\n' > "$work/texts/certify_cli/unsat"
 
 fail() {
     echo "$*" >&2
@@ -166,19 +166,19 @@ directly feeds "$work/feeds-plain" $((count + 1))
 echo "feeds: $(wc -l < "$work/feeds.txt") allocations"
 sed 's/^[0-9]*: //' "$work/feeds.txt" | sort | uniq -c
 
-run certify "$work/texts/certify" "$work/certify-all"
-main=$work/repo/crates/certify/src/main.rt
+run certify_cli "$work/texts/certify_cli" "$work/certify_cli-all"
+main=$work/repo/crates/certify_cli/src/main.rt
 cp "$main" "$work/main.rt"
 sed 's/^fn main(.*{$/&\n    spend(\&rt);/' "$work/main.rt" > "$main"
 sed -n '/^fn spend(/,/^}/p' "$here/calls.rt.txt" >> "$main"
-sweep certify
+sweep certify_cli
 cp "$work/main.rt" "$main"
 for text in sat unsat; do
-    all=$work/certify-all/$text
+    all=$work/certify_cli-all/$text
     [ "$(cat "$all.end")" = "run=ended status=0" ] || fail "certify $text: $(cat "$all.end")"
     count=0
     for n in $(seq "$most"); do
-        it=$work/certify-runs/$text-$n
+        it=$work/certify_cli-runs/$text-$n
         if cmp -s "$it.out" "$all.out" && cmp -s "$it.err" "$all.err" && cmp -s "$it.end" "$all.end"; then
             continue
         fi
@@ -191,7 +191,7 @@ for text in sat unsat; do
     done | tee "$work/$text.txt"
     count=$(wc -l < "$work/$text.txt")
     [ "$count" -lt "$most" ] || fail "certify $text: more than $most allocations"
-    directly certify "$work/texts/certify" "$count"
-    directly certify "$work/texts/certify" $((count + 1))
+    directly certify_cli "$work/texts/certify_cli" "$count"
+    directly certify_cli "$work/texts/certify_cli" $((count + 1))
     echo "certify $text: $count allocations"
 done

@@ -1,6 +1,4 @@
 //! The text of answers, written and read.
 
 pub mod read;
-#[cfg(test)]
-mod tests;
 pub mod write;

@@ -16,8 +16,6 @@ pub(crate) mod session;
 pub(crate) mod sets;
 pub(crate) mod spell;
 pub(crate) mod stop;
-#[cfg(test)]
-mod tests;
 
 use crate::script::{Script, read_script};
 use crate::verdict::{ConfirmFault, Verdict};

@@ -3,7 +3,7 @@ ghost use Rattle.std.specs.Prelude.{◌≡◌, ◌≤◌, ◌↔◌, IfOk, OnOk,
 ghost use Rattle.sat_base.specs.device.Device.{Takes};
 ghost use Rattle.certify.specs.run.FinishedRun.{gave, took};
 ghost use Rattle.certify.specs.declared.verdict.Verdict.TheVariants.{Yes};
-ghost use Rattle.certify.specs.program.Printing.{Prints, PrintsVerdict, is_malformed};
+ghost use Rattle.certify.specs.program.Printing.{Prints, PrintsVerdict, confirm_fault_text, is_malformed, run_fault_text};
 ghost use Rattle.sat_base.specs.script.Script.{reading};
 
 mod verdict_line;
@@ -44,7 +44,9 @@ impl Fault {
     }
 }
 
-fn run_fault_name(fault: RunFault) -> &'static str {
+fn run_fault_name(fault: RunFault) -> &'static str
+    ensures { result.now ≡ run_fault_text fault }
+{
     match fault {
         RunFault::ScriptRead => "ScriptRead",
         RunFault::AnswersWrite => "AnswersWrite",
@@ -55,7 +57,9 @@ fn run_fault_name(fault: RunFault) -> &'static str {
     }
 }
 
-fn confirm_fault_name(fault: ConfirmFault) -> &'static str {
+fn confirm_fault_name(fault: ConfirmFault) -> &'static str
+    ensures { result.now ≡ confirm_fault_text fault }
+{
     match fault {
         ConfirmFault::ScriptRead => "ScriptRead",
         ConfirmFault::AnswersRead => "AnswersRead",
@@ -237,6 +241,3 @@ fn flush_out<O: CountedWrite>(output: &mut O) -> Result<(), Fault>
         Err(_) => Err(Fault::Run(RunFault::AnswersWrite)),
     }
 }
-
-#[cfg(test)]
-mod tests;

@@ -15,8 +15,6 @@ mod outputs;
 mod session;
 mod solving;
 mod taking;
-#[cfg(test)]
-mod tests;
 
 use crate::fault::RunFault;
 use crate::run::finish::{finish, malformed_number};

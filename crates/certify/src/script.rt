@@ -4,8 +4,6 @@ ghost use Rattle.sat_base.specs.script.Script.{Malformed};
 ghost use Rattle.certify.specs.script.ScriptParts.{commands_in, end_of, AreParts, start_of, is_ask, any_ask, shown};
 
 mod reader;
-#[cfg(test)]
-mod tests;
 
 pub use reader::read_script;
 use std::marker::Model;

@@ -10,8 +10,6 @@ mod keep;
 mod look;
 mod propagate;
 pub(crate) mod solve;
-#[cfg(test)]
-mod tests;
 
 use crate::search::keep::{keep, normalize};
 use crate::search::propagate::{RoundEnd, reset, search};

@@ -8,6 +8,10 @@ use Rattle.certify.specs.declared.verdict.Verdict.{Verdict}
 use Rattle.certify.specs.declared.verdict.Verdict.TheVariants.{Yes, No}
 use Rattle.certify.specs.declared.verdict.Why.{Why}
 use Rattle.certify.specs.declared.verdict.Why.TheVariants as why
+use Rattle.certify.specs.declared.verdict.ConfirmFault.{ConfirmFault}
+use Rattle.certify.specs.declared.verdict.ConfirmFault.TheVariants as confirm_fault
+use Rattle.certify.specs.declared.fault.RunFault.{RunFault}
+use Rattle.certify.specs.declared.fault.RunFault.TheVariants as run_fault
 
 -- the word of each cause
 abbrev pub why_text : Why → List ℕ
@@ -22,6 +26,23 @@ why_text why.AnswerDiffers = codes "AnswerDiffers"
 why_text why.StepRefused = codes "StepRefused"
 why_text why.CertificateEnds = codes "CertificateEnds"
 why_text why.StepOutOfPlace = codes "StepOutOfPlace"
+
+-- the word of each fault of `run`
+abbrev pub run_fault_text : RunFault → List ℕ
+run_fault_text run_fault.ScriptRead = codes "ScriptRead"
+run_fault_text run_fault.AnswersWrite = codes "AnswersWrite"
+run_fault_text run_fault.CertificateWrite = codes "CertificateWrite"
+run_fault_text run_fault.OutOfMemory = codes "OutOfMemory"
+run_fault_text run_fault.StoreFull = codes "StoreFull"
+run_fault_text run_fault.CounterEnd = codes "CounterEnd"
+
+-- the word of each fault of `confirm`
+abbrev pub confirm_fault_text : ConfirmFault → List ℕ
+confirm_fault_text confirm_fault.ScriptRead = codes "ScriptRead"
+confirm_fault_text confirm_fault.AnswersRead = codes "AnswersRead"
+confirm_fault_text confirm_fault.CertificateRead = codes "CertificateRead"
+confirm_fault_text confirm_fault.OutOfMemory = codes "OutOfMemory"
+confirm_fault_text confirm_fault.CounterEnd = codes "CounterEnd"
 
 -- `c confirmed`, or `c not confirmed ASK WHY`, with LF
 abbrev pub verdict_text : Verdict → List ℕ

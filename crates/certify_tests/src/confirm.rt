@@ -1,9 +1,9 @@
 //! Verdicts of worked texts, each whole and read by one byte.
 
-use crate::confirm::confirm;
 use crate::devices::fails_at;
-use crate::run::run;
-use crate::verdict::{ConfirmFault, Verdict, Why};
+use certify::confirm::confirm;
+use certify::run::run;
+use certify::verdict::{ConfirmFault, Verdict, Why};
 use sat_base::Counted;
 use sat_checker::{Checker, Looks};
 use std::alloc::Global;

@@ -1,22 +1,7 @@
-//! Answers scripts of clauses and asks, with a certificate that is checked.
+//! The program `certify`: hands its arguments and its standard streams to `certify::program`.
 #![tactic(auto)]
 
-pub mod answers;
-pub mod confirm;
-#[cfg(test)]
-mod devices;
-pub mod fault;
-pub mod law_script;
-pub mod laws;
-pub mod names;
-pub mod program;
-pub mod run;
-pub mod script;
-mod search;
-pub mod summary;
-pub mod verdict;
-
-use crate::program::program;
+use certify::program::program;
 use sat_base::Counted;
 use std::process::ExitCode;
 use std::rt::Env;

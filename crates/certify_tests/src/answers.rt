@@ -1,7 +1,9 @@
 //! Answers written and read.
 
-use super::read::{AnswerFault, AnswerKind, read_kind, read_line, read_outcome, take_text};
-use super::write::{
+use certify::answers::read::{
+    AnswerFault, AnswerKind, read_kind, read_line, read_outcome, take_text,
+};
+use certify::answers::write::{
     push_literal, push_malformed, push_refused_limit, push_sat, push_unknown, push_unsat,
 };
 use sat_base::Lit;

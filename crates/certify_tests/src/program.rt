@@ -1,10 +1,7 @@
 //! Statuses and printed words.
 
 use crate::devices::fails_at;
-use crate::fault::RunFault;
-use crate::program::verdict_line::confirm_texts;
-use crate::program::{Fault, program, status};
-use crate::verdict::{ConfirmFault, Verdict, Why};
+use certify::program::program;
 use sat_base::{Counted, CountedRead};
 use std::alloc::{AllocError, Global};
 use std::io;
@@ -167,80 +164,5 @@ fn errors_fail(rt: &HostRuntime, failing: u64) -> (u8, bool) {
 fn standard_error_fails(rt: HostRuntime) {
     for failing in 1..5 {
         assert!(rt; errors_fail(&rt, failing) == (3, true), "{failing}");
-    }
-}
-
-/// The verdict on three texts, and whether this is its line and this the status behind a script that isn't malformed.
-fn confirms(
-    alloc: Global,
-    texts: (&[u8], &[u8], &[u8]),
-    words: &str,
-    wanted: u8,
-) -> Result<bool, ConfirmFault> {
-    let mut line = Vec::new(alloc);
-    let verdict = confirm_texts(alloc, texts.0, texts.1, texts.2, &mut line)?;
-    Ok(line.as_slice() == words.as_bytes() && status(verdict, false) == wanted)
-}
-
-/// Script, answers and certificate, the last line, and the status.
-type Line<'a> = ((&'a [u8], &'a [u8], &'a [u8]), &'a str, u8);
-
-const LINES: [Line<'static>; 3] = [
-    ((b"", b"", &[13]), "c confirmed\n", 0),
-    (
-        (b"1 0\n-1 0\na 0\n", b"s UNSATISFIABLE\nf 0\n", &[13]),
-        "c not confirmed 1 StepOutOfPlace\n",
-        1,
-    ),
-    (
-        (b"a 0\n", b"s UNKNOWN\n", &[11, 0, 11, 0]),
-        "c not confirmed 2 CertificateEnds\n",
-        1,
-    ),
-];
-
-#[test]
-fn verdicts_are_printed(rt: HostRuntime) -> Result<(), Fail> {
-    for &(texts, line, status) in &LINES {
-        assert!(rt; confirms(rt.alloc(), texts, line, status)?, "{line}");
-    }
-    Ok(())
-}
-
-/// A malformed script has the status 1 even where its answers are confirmed.
-#[test]
-fn statuses_follow(rt: HostRuntime) {
-    let why = Why::AnswerExtra;
-    let no = Verdict::No { ask: 2, why };
-    let found = (
-        status(Verdict::Yes, false),
-        status(Verdict::Yes, true),
-        status(no, false),
-        status(no, true),
-    );
-    assert!(rt; found == (0, 1, 1, 1));
-}
-
-const NAMES: [(Fault, &str); 11] = [
-    (Fault::Run(RunFault::ScriptRead), "ScriptRead"),
-    (Fault::Run(RunFault::AnswersWrite), "AnswersWrite"),
-    (Fault::Run(RunFault::CertificateWrite), "CertificateWrite"),
-    (Fault::Run(RunFault::OutOfMemory), "OutOfMemory"),
-    (Fault::Run(RunFault::StoreFull), "StoreFull"),
-    (Fault::Run(RunFault::CounterEnd), "CounterEnd"),
-    (Fault::Confirm(ConfirmFault::ScriptRead), "ScriptRead"),
-    (Fault::Confirm(ConfirmFault::AnswersRead), "AnswersRead"),
-    (
-        Fault::Confirm(ConfirmFault::CertificateRead),
-        "CertificateRead",
-    ),
-    (Fault::Confirm(ConfirmFault::OutOfMemory), "OutOfMemory"),
-    (Fault::Confirm(ConfirmFault::CounterEnd), "CounterEnd"),
-];
-
-#[test]
-fn faults_have_names(rt: HostRuntime) {
-    for &(fault, name) in &NAMES {
-        assert!(rt; fault.name() == name, "{name}");
     }
 }

@@ -1,9 +1,9 @@
 //! Runs over worked texts, whole and by one byte, and each call of a device failing in turn.
 
-use super::run;
 use crate::devices::fails_at;
-use crate::fault::RunFault;
-use crate::summary::{Answer, AskReport};
+use certify::fault::RunFault;
+use certify::run::run;
+use certify::summary::{Answer, AskReport};
 use sat_base::{Counted, CountedRead};
 use std::alloc::Global;
 use std::test::Fail;
@@ -23,7 +23,7 @@ fn is_answered<S: CountedRead>(alloc: Global, script: &mut S, budget: u64, answe
 }
 
 /// A text, a budget, and the answers.
-const ANSWERS: [(&[u8], u64, &[u8]); 31] = [
+const ANSWERS: [(&[u8], u64, &[u8]); 32] = [
     (
         b"1 2 0\n3 4 0\n5 6 0\n-1 -3 0\n-1 -5 0\n-3 -5 0\n-2 -4 0\n-2 -6 0\n-4 -6 0\na 0\n",
         AMPLE,
@@ -36,6 +36,7 @@ const ANSWERS: [(&[u8], u64, &[u8]); 31] = [
     (SIXTH, AMPLE, b"s UNSATISFIABLE\nf 0\n"),
     (SIXTH, 2, b"s UNSATISFIABLE\nf 0\n"),
     (SIXTH, 1, b"s UNKNOWN\n"),
+    (SIXTH, 0, b"s UNKNOWN\n"),
     (b"1 -1 0\na 0\n", AMPLE, b"s SATISFIABLE\nv -1 0\n"),
     (b"1 0\n-1 0\na 0\n", AMPLE, b"s UNSATISFIABLE\nf 0\n"),
     (b"0\na 0\n", AMPLE, b"s UNSATISFIABLE\nf 0\n"),
@@ -112,9 +113,23 @@ fn is_certified(alloc: Global, text: &[u8], certificate: &[u8]) -> bool {
     done && written.into_inner().as_slice() == certificate
 }
 
+/// The four clauses, and what two rounds learn: the unit 1 by the first two, the empty clause by the others.
+const SIXTH_STEPS: &[u8] = &[
+    2, 0, 1, 2, 1, 2, 5, 2, 0, 2, 5, 2, 0, 3, 5, 2, 1, 2, 5, 2, 1, 3, 11, 0, 6, 0, 1, 0, 2, 170,
+    144, 212, 148, 208, 146, 197, 200, 68, 193, 152, 142, 147, 200, 235, 167, 245, 230, 1, 6, 0, 0,
+    2, 149, 152, 174, 154, 232, 203, 167, 228, 230, 1, 254, 144, 244, 157, 240, 178, 197, 217, 68,
+    11, 0, 13,
+];
+
 /// A text, and its certificate.
-const CERTIFICATES: [(&[u8], &[u8]); 3] = [
+const CERTIFICATES: [(&[u8], &[u8]); 5] = [
     (b"", b"\x0d"),
+    // A clause's literals are sorted, repeats dropped.
+    (
+        b"-3 1 -2 1 -3 0\n",
+        b"\x02\x00\x01\x02\x01\x02\x02\x02\x03\x05\x03\x00\x03\x05\x0d",
+    ),
+    (SIXTH, SIXTH_STEPS),
     // Once `unsat` is recorded names come in, no clause is written, and nothing for an ask but its assumptions.
     (
         b"1 0\na 0\n-1 0\n2 0\na 0\n",

@@ -1,4 +1,7 @@
-use super::{Command, Literal, Script, read_script};
+//! Scripts read, and their laws.
+
+use certify::law_script::holding_laws;
+use certify::script::{Command, Literal, Script, read_script};
 use sat_base::Counted;
 use std::alloc::Global;
 
@@ -109,5 +112,5 @@ fn scripts_are_read(rt: HostRuntime) {
 
 #[test]
 fn laws_are_proved(_rt: HostRuntime) {
-    crate::law_script::holding_laws();
+    holding_laws();
 }

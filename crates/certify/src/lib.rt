@@ -1,0 +1,15 @@
+//! Answers scripts of clauses and asks, with a certificate that is checked.
+#![tactic(auto)]
+
+pub mod answers;
+pub mod confirm;
+pub mod fault;
+pub mod law_script;
+pub mod laws;
+pub mod names;
+pub mod program;
+pub mod run;
+pub mod script;
+mod search;
+pub mod summary;
+pub mod verdict;

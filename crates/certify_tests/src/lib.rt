@@ -1,0 +1,17 @@
+//! Tests of `certify` by its public calls, in a crate of their own so that the library is proved once.
+#![tactic(auto)]
+
+#[cfg(test)]
+mod answers;
+#[cfg(test)]
+mod caller;
+#[cfg(test)]
+mod confirm;
+#[cfg(test)]
+mod devices;
+#[cfg(test)]
+mod program;
+#[cfg(test)]
+mod run;
+#[cfg(test)]
+mod script;
