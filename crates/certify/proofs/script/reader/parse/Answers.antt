@@ -2,7 +2,7 @@ use Rattle.std.proofs.Common.{◌≡◌, ◌+◌, ◌∙◌, ◌++◌, List, [],
 use Rattle.std.proofs.lemmas.List.{take_more}
 use Rattle.certify.specs.script.CappedNames.{CappedScript, capped_script}
 use Rattle.certify.specs.script.ScriptReading.{Means, TakesToken, token_of}
-use Rattle.certify.proofs.lemmas.script.TokensAndBytes.{parser, Reached, byte_takes, means_first, reached_more, reached_stop, reached_end, split_at, if_ok}
+use Rattle.certify.proofs.lemmas.script.TokensAndBytes.{parser, Reached, byte_takes, means_first, reached_more, reached_stop, byte_goes, reached_end, split_at, if_ok}
 use Rattle.certify.proofs.script.reader.parse.Goals as goal
 
 pub loop-byte-init : goal.loop-byte-init
@@ -31,3 +31,11 @@ loop-byte-preserved c =
     let new = parser c.push.new.self c.take.new.self in
     let t : TakesToken true c.loop-byte.commands (token_of c.in-Some.token) c.take.new.self = subst (λ (b : Bool). TakesToken b c.loop-byte.commands (token_of c.in-Some.token) c.take.new.self) c.if-not-branch.false c.in_ok-take.ensures in
     subst (λ fed. Reached fed new) (sym (take_more xs i 0 (omega arith))) (reached_more (take i xs) (get_or xs i 0) old new c.loop-byte.invariant (byte_takes true old (get_or xs i 0) c.in-Some.token c.push.new.self c.take.new.self c.in-Some.ensures.takes t))
+
+pub loop-byte-preserved-in_default : goal.loop-byte-preserved-in_default
+loop-byte-preserved-in_default c =
+    let i = c.loop-byte.byte-index in
+    let xs = c.args.text.now in
+    let old = parser c.loop-byte.tokenizer c.loop-byte.commands in
+    let new = parser c.push.new.self c.loop-byte.commands in
+    subst (λ fed. Reached fed new) (sym (take_more xs i 0 (omega arith))) (reached_more (take i xs) (get_or xs i 0) old new c.loop-byte.invariant (byte_goes old (get_or xs i 0) c.push.new.self c.in_default.ensures.takes))
