@@ -29,7 +29,7 @@ fn lits(alloc: Global, numbers: &[i64]) -> Result<Vec<Lit>, Fail> {
 /// An answer's kind, the numbers of its line, and its text.
 type Answer = (AnswerKind, &'static [i64], &'static [u8]);
 
-const ANSWERS: [Answer; 6] = [
+static ANSWERS: [Answer; 6] = [
     (AnswerKind::Sat, &[-1, 2], b"s SATISFIABLE\nv -1 2 0\n"),
     (AnswerKind::Unsat, &[1, -1], b"s UNSATISFIABLE\nf 1 -1 0\n"),
     (AnswerKind::Sat, &[], b"s SATISFIABLE\nv 0\n"),
@@ -96,7 +96,7 @@ fn fault_of(alloc: Global, bytes: &[u8]) -> Option<AnswerFault> {
     read_outcome(bytes, &mut line).err()
 }
 
-const OUT_OF_FORM: [&[u8]; 13] = [
+static OUT_OF_FORM: [&[u8]; 13] = [
     b"s UNSATISFIABLE\nf -1 1 0\n",
     b"s UNSATISFIABLE\nf 1 1 0\n",
     b"s SATISFIABLE\nv 2 1 0\n",
@@ -112,7 +112,7 @@ const OUT_OF_FORM: [&[u8]; 13] = [
     b"s SATISFIABLE\nv -268435457 0\n",
 ];
 
-const MISSING: [&[u8]; 3] = [b"", b"s SATISFIABLE\n", b"s UNSATISFIABLE\n"];
+static MISSING: [&[u8]; 3] = [b"", b"s SATISFIABLE\n", b"s UNSATISFIABLE\n"];
 
 #[test]
 fn other_texts_are_no_answers(rt: HostRuntime) {
@@ -164,7 +164,7 @@ fn other_lines_are_written(rt: HostRuntime) {
     assert!(rt; out.as_slice() == text);
 }
 
-const WORDS: [(AnswerFault, &str); 3] = [
+static WORDS: [(AnswerFault, &str); 3] = [
     (AnswerFault::Missing, "a line of the answers is missing"),
     (
         AnswerFault::Text,

@@ -67,7 +67,7 @@ const UNITS: &[u8] = b"1 0\n-1 0\na 0\n";
 
 const NONE_LEFT: &[u8] = b"s UNSATISFIABLE\nf 0\n";
 
-const CONFIRMED: [Texts<'static>; 10] = [
+static CONFIRMED: [Texts<'static>; 10] = [
     (UNITS, NONE_LEFT, &[2, 0, 1, 5, 1, 0, 5, 1, 1]),
     (ROW, ROW_ANSWERS, ROW_STEPS),
     // Bytes behind the end.
@@ -96,7 +96,7 @@ fn texts_that_match(rt: HostRuntime) {
 }
 
 /// Texts, the ask, and what doesn't match there.
-const NOT_CONFIRMED: [(Texts<'static>, u64, Why); 12] = [
+static NOT_CONFIRMED: [(Texts<'static>, u64, Why); 12] = [
     ((UNITS, NONE_LEFT, &[0x0d]), 1, Why::StepOutOfPlace),
     ((UNITS, NONE_LEFT, &[]), 1, Why::CertificateEnds),
     ((ROW, b"", ROW_STEPS), 1, Why::AnswerMissing),
@@ -198,7 +198,7 @@ const REFUSED: Verdict = Verdict::No {
 };
 
 /// Steps before the clause, and what is said then.
-const STEPS_BETWEEN: [(&[u8], Verdict); 12] = [
+static STEPS_BETWEEN: [(&[u8], Verdict); 12] = [
     (
         &[12, 0, 0],
         Verdict::No {
@@ -233,7 +233,7 @@ fn steps_may_stand_between(rt: HostRuntime) -> Result<(), Fail> {
 }
 
 /// Steps before the first name, and what is said then.
-const STEPS_BEFORE: [(&[u8], Verdict); 2] = [
+static STEPS_BEFORE: [(&[u8], Verdict); 2] = [
     // A variable with a solver name is known, and one that was deleted isn't.
     (
         &[1, 0, 1],
@@ -326,12 +326,19 @@ fn looks_added(alloc: Global, texts: Texts<'_>, looks: &mut Looks) -> u64 {
 /// The looks of a checker over a certificate.
 fn looks_of(alloc: Global, certificate: &[u8]) -> u64 {
     let mut checker = Checker::new(alloc);
+    let looks = looks_by(&mut checker, certificate);
+    drop(checker);
+    looks
+}
+
+/// The same by a checker that has accepted nothing yet.
+fn looks_by(checker: &mut Checker, certificate: &[u8]) -> u64 {
     let _ = checker.check_proof(&mut Counted::new(certificate));
     checker.looks()
 }
 
 /// Answers, the last of which don't match, and a certificate of their script.
-const LOOKED_AT: [(&[u8], &[u8]); 4] = [
+static LOOKED_AT: [(&[u8], &[u8]); 4] = [
     (NONE_LEFT, FOUR_AT_8),
     (NONE_LEFT, FOUR_AT_64),
     (NONE_LEFT, EMPTY_CORE_AT_8),
@@ -353,7 +360,7 @@ fn looks_are_those_of_the_checker(rt: HostRuntime) {
 }
 
 /// The answers, how the row's certificate goes on behind the ask's assumptions, and what doesn't match.
-const CORES: [(&[u8], &[u8], Why); 10] = [
+static CORES: [(&[u8], &[u8], Why); 10] = [
     (b"s UNSATISFIABLE\nf 0\n", &[12, 0, 0], Why::StepRefused),
     (
         b"s UNSATISFIABLE\nf 0\n",
@@ -415,7 +422,7 @@ const THIRD_ANSWER: &[u8] = b"s SATISFIABLE\nv -1 2 3 0\n";
 type Tail<'a> = (&'a [u8], &'a [u8], Option<(u64, Why)>);
 
 /// Each cause of a no, at the third ask or behind it.
-const THIRD_ASKS: [Tail<'static>; 13] = [
+static THIRD_ASKS: [Tail<'static>; 13] = [
     (THIRD_ANSWER, THIRD_STEPS, None),
     (b"", THIRD_STEPS, Some((3, Why::AnswerMissing))),
     (
@@ -473,7 +480,7 @@ const THIRD_STEPS: &[u8] = &[2, 2, 3, 5, 1, 4, 11, 0, 10, 3, 1, 2, 4, 11, 0, 13]
 const EMPTY_THIRD: &[u8] = b"1 2 0\na 0\na 0\n0\na 0\na 0\n";
 
 /// Once the empty clause has recorded `unsat`, nothing more of the certificate counts.
-const EMPTY_ASKS: [Tail<'static>; 7] = [
+static EMPTY_ASKS: [Tail<'static>; 7] = [
     (
         b"s UNSATISFIABLE\nf 0\ns UNSATISFIABLE\nf 0\n",
         &[5, 0],
@@ -573,7 +580,7 @@ const PIGEONS: &[u8] =
     b"1 2 0\n3 4 0\n5 6 0\n-1 -3 0\n-1 -5 0\n-3 -5 0\n-2 -4 0\n-2 -6 0\n-4 -6 0\na 0\n";
 
 /// A script, and a budget.
-const RUNS: [(&[u8], u64); 26] = [
+static RUNS: [(&[u8], u64); 26] = [
     (PIGEONS, AMPLE),
     (b"1 0\na 0\n-1 0\n2 0\na 0\n", AMPLE),
     (b"", AMPLE),
@@ -611,7 +618,7 @@ fn what_a_run_wrote_is_confirmed(rt: HostRuntime) -> Result<(), Fail> {
 }
 
 /// Texts, the read of the certificate that fails, and what is said: nothing is read behind the step that decides.
-const DECIDED_BEFORE: [(Texts<'static>, u64, Verdict); 2] = [
+static DECIDED_BEFORE: [(Texts<'static>, u64, Verdict); 2] = [
     (
         (UNITS, NONE_LEFT, &[0x0d]),
         2,
@@ -660,7 +667,7 @@ fn each_read_fails(alloc: Global, texts: Texts<'_>, reads: u64) -> bool {
 }
 
 /// Scripts, and how many bytes of the certificates are read: all of one that ends with a model, and those up to recorded `unsat`.
-const READ_IN_TURN: [(&[u8], u64); 2] = [(ROW, 19), (SIXTH, 71)];
+static READ_IN_TURN: [(&[u8], u64); 2] = [(ROW, 19), (SIXTH, 71)];
 
 #[test]
 fn each_read_fails_in_turn(rt: HostRuntime) -> Result<(), Fail> {
@@ -672,7 +679,7 @@ fn each_read_fails_in_turn(rt: HostRuntime) -> Result<(), Fail> {
     Ok(())
 }
 
-const WORDS_OF_A_NO: [(Why, &str); 11] = [
+static WORDS_OF_A_NO: [(Why, &str); 11] = [
     (Why::AnswerMissing, "AnswerMissing"),
     (Why::AnswerExtra, "AnswerExtra"),
     (Why::AnswerText, "AnswerText"),
@@ -697,7 +704,7 @@ fn a_no_has_words(rt: HostRuntime) -> Result<(), Fail> {
     Ok(())
 }
 
-const WORDS_OF_A_FAULT: [(ConfirmFault, &str); 5] = [
+static WORDS_OF_A_FAULT: [(ConfirmFault, &str); 5] = [
     (ConfirmFault::ScriptRead, "ScriptRead"),
     (ConfirmFault::AnswersRead, "AnswersRead"),
     (ConfirmFault::CertificateRead, "CertificateRead"),

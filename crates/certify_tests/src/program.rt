@@ -33,7 +33,7 @@ const PIGEONS: &str = "\
     -6 -12 0\n-9 -12 0\na 0\n";
 
 /// A script, the printed text, and the status.
-const SCRIPTS: [(&str, &str, u8); 14] = [
+static SCRIPTS: [(&str, &str, u8); 14] = [
     (PIGEONS, "s UNSATISFIABLE\nf 0\nc confirmed\n", 0),
     ("1 2 0\na 0\n", "s SATISFIABLE\nv -1 2 0\nc confirmed\n", 0),
     ("", "c confirmed\n", 0),
@@ -86,7 +86,7 @@ fn is_told(rt: &HostRuntime, words: Words, status: u8, told: &str) -> bool {
 
 const USAGE: &str = "usage: certify [run S A C [STEPS] | confirm S A C | hints C H | check H]\n";
 
-const MISUSES: [&[&str]; 5] = [
+static MISUSES: [&[&str]; 5] = [
     &["confirm", "s", "a", "c", "x"],
     &["check"],
     &[""],
@@ -138,7 +138,7 @@ fn output_fails(rt: &HostRuntime, failing: u64, told: &str) -> (u8, u64, usize, 
 }
 
 /// The call of the output that fails, and the bytes taken before.
-const TAKEN: [(u64, usize); 3] = [(1, 0), (2, 23), (3, 35)];
+static TAKEN: [(u64, usize); 3] = [(1, 0), (2, 23), (3, 35)];
 
 /// The write of the answers fails, then that of the last line, behind the answers, then the flush. Nothing more is written then.
 #[test]

@@ -23,7 +23,7 @@ fn is_answered<S: CountedRead>(alloc: Global, script: &mut S, budget: u64, answe
 }
 
 /// A text, a budget, and the answers.
-const ANSWERS: [(&[u8], u64, &[u8]); 32] = [
+static ANSWERS: [(&[u8], u64, &[u8]); 32] = [
     (
         b"1 2 0\n3 4 0\n5 6 0\n-1 -3 0\n-1 -5 0\n-3 -5 0\n-2 -4 0\n-2 -6 0\n-4 -6 0\na 0\n",
         AMPLE,
@@ -122,7 +122,7 @@ const SIXTH_STEPS: &[u8] = &[
 ];
 
 /// A text, and its certificate.
-const CERTIFICATES: [(&[u8], &[u8]); 5] = [
+static CERTIFICATES: [(&[u8], &[u8]); 5] = [
     (b"", b"\x0d"),
     // A clause's literals are sorted, repeats dropped.
     (
@@ -186,7 +186,7 @@ const UNSAT_AT_ONCE: AskReport = AskReport {
 };
 
 /// A text, what a run counts, and what it reports of each ask. An ask at the end of a text is reported, and is no command of it.
-const SUMMARIES: [(&[u8], Counts, &[AskReport]); 8] = [
+static SUMMARIES: [(&[u8], Counts, &[AskReport]); 8] = [
     // Units stay from one ask to the next.
     (
         b"1 0\na 0\n-1 0\n2 0\na 0\n",
@@ -235,7 +235,7 @@ fn fault_at(alloc: Global, text: &[u8], failing: Calls) -> Option<RunFault> {
 }
 
 /// A text, and how many calls a run over it makes. The certificate's writer is written to and flushed before an answer, and at the end.
-const CALLS: [(&[u8], Calls); 3] = [
+static CALLS: [(&[u8], Calls); 3] = [
     (b"a 0\n", (5, 2, 4)),
     (FOURTH, (11, 2, 4)),
     (SIXTH, (33, 2, 4)),
@@ -294,7 +294,7 @@ fn short_writers_are_told(rt: HostRuntime) {
     );
 }
 
-const WORDS: [(RunFault, &str); 6] = [
+static WORDS: [(RunFault, &str); 6] = [
     (RunFault::ScriptRead, "the script can't be read"),
     (RunFault::AnswersWrite, "the answers can't be written"),
     (

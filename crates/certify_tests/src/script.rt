@@ -58,7 +58,7 @@ fn is_read(
 }
 
 /// A text, its commands, whether it is malformed behind them, and how many of them stand in it.
-const SCRIPTS: [(&[u8], &[Told], bool, usize); 24] = [
+static SCRIPTS: [(&[u8], &[Told], bool, usize); 24] = [
     (b"", &[], false, 0),
     (b"1 2 0\na 0\n", &[(&[1, 2], false), (&[], true)], false, 2),
     (b"1\nc x\n -2 0\n", &[(&[1, -2], false)], false, 1),
