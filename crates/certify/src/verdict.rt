@@ -1,6 +1,9 @@
 //! What confirming answers.
+ghost use Rattle.std.specs.Prelude.{◌≡◌};
+ghost use Rattle.certify.specs.program.Printing.{why_text};
 
 use std::alloc::AllocError;
+use std::fmt;
 use thiserror::Error;
 
 /// What `confirm` says of a script, answers and a certificate.
@@ -13,41 +16,57 @@ pub enum Verdict {
 }
 
 /// What was met first that doesn't match.
-#[derive(Clone, Copy, Debug, Drop, PartialEq, Eq, Error)]
+#[derive(Clone, Copy, Debug, Drop, PartialEq, Eq)]
 pub enum Why {
     /// The answers are over where a line is due.
-    #[error("AnswerMissing")]
     AnswerMissing,
     /// The answers go on behind the last line that is due.
-    #[error("AnswerExtra")]
     AnswerExtra,
     /// The answers' bytes aren't a line that may stand there.
-    #[error("AnswerText")]
     AnswerText,
     /// An added clause isn't the script's.
-    #[error("ClauseDiffers")]
     ClauseDiffers,
     /// Another name comes in than the script's next one.
-    #[error("NameDiffers")]
     NameDiffers,
     /// A name is put on a variable that the checker knows.
-    #[error("NameNotFresh")]
     NameNotFresh,
     /// What is assumed isn't what the script asks.
-    #[error("AskDiffers")]
     AskDiffers,
     /// An answer isn't the one that the certificate shows.
-    #[error("AnswerDiffers")]
     AnswerDiffers,
     /// The checker refuses a step, or the bytes are none.
-    #[error("StepRefused")]
     StepRefused,
     /// The certificate is over where a step is expected.
-    #[error("CertificateEnds")]
     CertificateEnds,
     /// A step of another kind than the expected one.
-    #[error("StepOutOfPlace")]
     StepOutOfPlace,
+}
+
+impl Why {
+    /// The variant's name, by which a no is printed.
+    pub fn word(self) -> &'static str
+        ensures { result.now ≡ why_text self }
+    {
+        match self {
+            Why::AnswerMissing => "AnswerMissing",
+            Why::AnswerExtra => "AnswerExtra",
+            Why::AnswerText => "AnswerText",
+            Why::ClauseDiffers => "ClauseDiffers",
+            Why::NameDiffers => "NameDiffers",
+            Why::NameNotFresh => "NameNotFresh",
+            Why::AskDiffers => "AskDiffers",
+            Why::AnswerDiffers => "AnswerDiffers",
+            Why::StepRefused => "StepRefused",
+            Why::CertificateEnds => "CertificateEnds",
+            Why::StepOutOfPlace => "StepOutOfPlace",
+        }
+    }
+}
+
+impl fmt::Display for Why {
+    fn fmt<W: fmt::Write>(&self, f: &mut fmt::Formatter<W>) -> fmt::Result {
+        f.write_str(self.word())
+    }
 }
 
 /// Why nothing is said.

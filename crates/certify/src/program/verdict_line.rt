@@ -1,32 +1,13 @@
 //! The verdict on three texts, and the last line that the program prints.
 ghost use Rattle.std.specs.Prelude.{◌≡◌, ◌++◌, IfOk, OnOk};
-ghost use Rattle.certify.specs.program.Printing.{SaysExactly, verdict_text, why_text};
+ghost use Rattle.certify.specs.program.Printing.{SaysExactly, verdict_text};
 
 use crate::answers::write::push_number;
 use crate::confirm::confirm;
-use crate::verdict::{ConfirmFault, Verdict, Why};
+use crate::verdict::{ConfirmFault, Verdict};
 use sat_base::Counted;
 use sat_checker::Looks;
 use std::alloc::{AllocError, Global};
-
-/// The word of a cause.
-fn why_word(why: Why) -> &'static [u8]
-    ensures { result.now ≡ why_text why }
-{
-    match why {
-        Why::AnswerMissing => b"AnswerMissing",
-        Why::AnswerExtra => b"AnswerExtra",
-        Why::AnswerText => b"AnswerText",
-        Why::ClauseDiffers => b"ClauseDiffers",
-        Why::NameDiffers => b"NameDiffers",
-        Why::NameNotFresh => b"NameNotFresh",
-        Why::AskDiffers => b"AskDiffers",
-        Why::AnswerDiffers => b"AnswerDiffers",
-        Why::StepRefused => b"StepRefused",
-        Why::CertificateEnds => b"CertificateEnds",
-        Why::StepOutOfPlace => b"StepOutOfPlace",
-    }
-}
 
 /// Appends `c confirmed` or `c not confirmed ASK WHY`.
 fn push_verdict(out: &mut Vec<u8>, verdict: Verdict) -> Result<(), AllocError>
@@ -38,7 +19,7 @@ fn push_verdict(out: &mut Vec<u8>, verdict: Verdict) -> Result<(), AllocError>
             out.extend_from_slice(b"c not confirmed ")?;
             push_number(out, ask)?;
             out.extend_from_slice(b" ")?;
-            out.extend_from_slice(why_word(why))?;
+            out.extend_from_slice(why.word().as_bytes())?;
             out.extend_from_slice(b"\n")
         }
     }

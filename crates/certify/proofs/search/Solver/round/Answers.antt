@@ -64,3 +64,9 @@ returns-in-Model-clause-says c =
     let says = subst (λ end. EndSays end c.self.inside.clauses c.search.new.learned.items c.search.new.values) c.in-Model.is c.in_ok-end.ensures.says in
     finds_model (state_of c.self.inside) c.args.self.now _ c.self.view_is refl refl refl
     (has_model _ (ap (λ (h : SolverState). h.unsat) c.self.view_is ∙ c.requires.going) refl (rw back says.0) (rw back says.1))
+
+pub keep-requires-clause-all_bounded : goal.keep-requires-clause-all_bounded
+keep-requires-clause-all_bounded c = subst (λ n. AreBounded n c.self.inside.clauses) (sym (ap length c.deref_mut-in-Conflict.ensures.value ∙ c.self.invariant.long)) c.self.invariant.bounded
+
+pub keep-requires-clause-units_follow : goal.keep-requires-clause-units_follow
+keep-requires-clause-units_follow c = subst (UnitsFollow c.self.inside.clauses) (sym c.deref_mut-in-Conflict.ensures.value) c.self.invariant.follow

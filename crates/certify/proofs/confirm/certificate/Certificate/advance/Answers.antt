@@ -40,3 +40,6 @@ returns-clause-confirms g c =
     (c.in_ok-read_next.ensures.reads v.checker.kernel v.variables) refl c.feed.new.checker.kernel (ap is_ordered (sym c.step-step.ensures) ∙ sym c.is_ordered.ensures ∙ c.if-is_ordered.false)
     (subst (λ x. Feeds (Ok tt) v.checker.kernel x c.feed.new.checker.kernel) c.step-step.ensures c.in_ok-feed.ensures.feeds)
     (subst (λ x. LooksAtMost v.checker.kernel x c.feed.new.checker.kernel) c.step-step.ensures c.in_ok-feed.ensures.looks) refl
+
+pub returns-clause-takes : goal.returns-clause-takes
+returns-clause-takes g c = c.in_ok-read_next.ensures.takes
