@@ -2,8 +2,8 @@ use Rattle.std.proofs.Common.{ℕ, ◌≡◌, ◌++◌, ◌∙◌, Bool, Option,
 use Rattle.std.proofs.lemmas.Grind.{common_steps}
 use Rattle.certify.specs.search.SolverState.{SolverState, records_unsat, records_unit, unit_test}
 use Rattle.certify.specs.search.SolverView.{state_of}
-use Rattle.certify.specs.search.Search.{IsBounded}
-use Rattle.certify.specs.search.KeptClauses.{KeepsClause}
+use Rattle.certify.specs.search.Search.{AreBounded, IsBounded}
+use Rattle.certify.specs.search.KeptClauses.{KeepsClause, UnitsFollow}
 use Rattle.certify.proofs.lemmas.search.SolverCalls.{keeps_recorded, normal_bounded, takes_viewed}
 use Rattle.certify.proofs.search.Solver.add_clause.Goals as goal
 
@@ -35,3 +35,9 @@ returns-clause-records c going =
     (subst (λ ls. (l : ℕ) → unit_test c.keep.new.units l ≡ records_unit (unit_test c.deref_mut.result.now) ls l) c.deref.ensures.value kept.units) in
     keeps_recorded before c.args.self.now _ unsat clause c.self.view_is was refl unsat_is
     (subst (λ (us : List (Option Bool)). (l : ℕ) → unit_test us l ≡ records_unit (unit_test before.units) clause l) (sym back) units_are)
+
+pub keep-requires-clause-all_bounded : goal.keep-requires-clause-all_bounded
+keep-requires-clause-all_bounded c = subst (λ n. AreBounded n c.self.inside.clauses) (sym (ap length c.deref_mut.ensures.value ∙ c.self.invariant.long)) c.self.invariant.bounded
+
+pub keep-requires-clause-units_follow : goal.keep-requires-clause-units_follow
+keep-requires-clause-units_follow c = subst (UnitsFollow c.self.inside.clauses) (sym c.deref_mut.ensures.value) c.self.invariant.follow

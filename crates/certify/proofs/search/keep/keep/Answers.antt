@@ -2,10 +2,10 @@ use Rattle.std.proofs.Common.{◌≡◌, ◌<◌, ◌++◌, ◌∙◌, ◌∷◌
 use Rattle.std.proofs.lemmas.Bool.Decides.{nat_tests}
 use Rattle.std.proofs.lemmas.List.{get_or_read}
 use Rattle.sat_base.specs.values.Literals.{is_positive, variable}
-use Rattle.certify.specs.search.Search.{value_of, is_false}
+use Rattle.certify.specs.search.Search.{AreBounded, value_of, is_false}
 use Rattle.certify.specs.search.KeptClauses.{UnitsFollow}
 use Rattle.certify.specs.search.SolverState.{unit_test}
-use Rattle.certify.proofs.lemmas.search.KeptClauses.{keeps_contradiction, unit_denied, unit_kept, units_set, unsat_denied}
+use Rattle.certify.proofs.lemmas.search.KeptClauses.{bounded_push, keeps_contradiction, unit_denied, unit_kept, units_set, unsat_denied}
 use Rattle.certify.proofs.search.keep.keep.Goals as goal
 
 pub returns-then-is_false-clause-keeps : goal.returns-then-is_false-clause-keeps
@@ -74,3 +74,6 @@ returns-clause-units c =
     let known : variable l < length units = subst (λ x. variable x < length units) (sym first) (c.requires.bounded 0 0 inside) in
     let written : set units c.index.result (Some c.is_positive.result) ≡ set units (variable l) (Some (is_positive l)) = cc (c.index.ensures.value, c.is_positive.ensures) in
     λ k. ap (λ us. unit_test us k) written ∙ unit_kept units clause l k one first known free
+
+pub returns-clause-all_bounded : goal.returns-clause-all_bounded
+returns-clause-all_bounded c = subst (AreBounded (length c.args.units.now)) (sym c.in_ok-push-2.ensures.ok) (bounded_push (length c.args.units.now) c.args.clauses.now c.args.clause.now c.requires.all_bounded c.requires.bounded)
