@@ -5,6 +5,7 @@ ghost use Rattle.sat_base.specs.values.Literals.{largest};
 ghost use Rattle.sat_base.specs.text.Text.{header_of};
 ghost use Rattle.sat_base.specs.text.Tokenizing.{held};
 ghost use Rattle.sat_base.specs.values.Formulas.{vars_of};
+ghost use Rattle.sat_base.specs.dimacs.ParserPlaces.{with_parser};
 ghost use Rattle.sat_base.specs.dimacs.Parsing.{no_progress, clauses_read, lines_read, held_numbers, all_taken, Feeds, IsSound, GaveSound, Finishes, Parses, KeepsText, ParsesInParts, VisitsAll};
 
 mod clauses;
@@ -115,14 +116,27 @@ impl DimacsParser {
         ensures fresh { IsErrOf result DimacsError.HasFailed → ⊥ }
     {
         let mut parser = DimacsParser::new(alloc);
+        parser.read_formula(reader)
+    }
+
+    /// Takes a reader's text to its end, and hands over all of it.
+    fn read_formula<R: CountedRead>(&mut self, reader: &mut R) -> Result<CnfFormula, DimacsError>
+        requires { self.old ≡ no_progress }
+        ensures given { GaveEnough (R.seen reader.old) (R.seen reader.new) (Parses result) }
+        ensures kept { IsErrOf result DimacsError.Read ⊎ ((R.seen reader.new).failures ≡ (R.seen reader.old).failures) }
+        ensures read { IsErrOf result DimacsError.Read → ReadFails (R.seen reader.old) (R.seen reader.new) }
+        ensures sound { IsErrOf result DimacsError.Read → GaveSound (R.seen reader.old) (R.seen reader.new) }
+        ensures reads { (R.seen reader.new).calls ≤ (R.seen reader.old).calls + most_reads }
+        ensures fresh { IsErrOf result DimacsError.HasFailed → ⊥ }
+    {
         let mut piece = [0; PIECE];
         for _ in 0..MAX_READS {
             match reader.read_counted(&mut piece) {
                 Ok(0) => {
-                    parser.finish()?;
-                    return Ok(parser.take_formula());
+                    self.finish()?;
+                    return Ok(self.take_formula());
                 }
-                Ok(count) => parser.feed(&piece[..count])?,
+                Ok(count) => self.feed(&piece[..count])?,
                 Err(_) => return Err(DimacsError::Read),
             }
         }
@@ -135,7 +149,7 @@ impl DimacsParser {
     pub fn parse_incremental<R: CountedRead, E: Drop, F: FnMut(&mut DimacsParser) -> Result<(), E>>(
         alloc: Global,
         reader: &mut R,
-        mut closure: F,
+        closure: F,
     ) -> Result<DimacsParser, IncrementalError<E>>
         requires { F.IsAlwaysCallable closure }
         // Where no call does more than take clauses, the answer is that of the text that was given, whatever would follow. The
@@ -151,22 +165,46 @@ impl DimacsParser {
         ensures reads { (R.seen reader.new).calls ≤ (R.seen reader.old).calls + most_reads }
     {
         let mut parser = DimacsParser::new(alloc);
+        match parser.read_parts(reader, closure) {
+            Ok(()) => Ok(parser),
+            Err(e) => Err(e),
+        }
+    }
+
+    /// Takes a reader's text to its end, and lends itself to the closure after each piece and after the end.
+    fn read_parts<R: CountedRead, E: Drop, F: FnMut(&mut DimacsParser) -> Result<(), E>>(
+        &mut self,
+        reader: &mut R,
+        mut closure: F,
+    ) -> Result<(), IncrementalError<E>>
+        requires fresh { self.old ≡ no_progress }
+        requires callable { F.IsAlwaysCallable closure }
+        ensures given { KeepsText (λ f p r q g. F.step f p r q g) closure
+            → ParsesInParts (R.seen reader.old) (R.seen reader.new) (with_parser self.new result) }
+        ensures visited { VisitsAll (λ f p r q g. F.step f p r q g) closure (R.seen reader.old) (R.seen reader.new)
+            (with_parser self.new result) }
+        ensures kept { IsErrOf (with_parser self.new result) (IncrementalError.Dimacs DimacsError.Read)
+            ⊎ ((R.seen reader.new).failures ≡ (R.seen reader.old).failures) }
+        ensures read { IsErrOf (with_parser self.new result) (IncrementalError.Dimacs DimacsError.Read)
+            → ReadFails (R.seen reader.old) (R.seen reader.new) }
+        ensures reads { (R.seen reader.new).calls ≤ (R.seen reader.old).calls + most_reads }
+    {
         let mut piece = [0; PIECE];
         for _ in 0..MAX_READS {
             match reader.read_counted(&mut piece) {
                 Ok(0) => {
-                    let answer = parser.finish();
-                    if let Err(e) = closure(&mut parser) {
+                    let answer = self.finish();
+                    if let Err(e) = closure(self) {
                         return Err(IncrementalError::Caller(e));
                     }
                     if let Err(e) = answer {
                         return Err(IncrementalError::Dimacs(e));
                     }
-                    return Ok(parser);
+                    return Ok(());
                 }
                 Ok(count) => {
-                    let answer = parser.feed(&piece[..count]);
-                    if let Err(e) = closure(&mut parser) {
+                    let answer = self.feed(&piece[..count]);
+                    if let Err(e) = closure(self) {
                         return Err(IncrementalError::Caller(e));
                     }
                     if let Err(e) = answer {

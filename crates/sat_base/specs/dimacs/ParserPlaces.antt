@@ -14,6 +14,11 @@ use Rattle.sat_base.specs.dimacs.Parsing.{Progress, NoFault, clauses_read, lines
 abbrev pub progress_of : Parser → Progress
 progress_of p = record { fed = p.history.fed; taken = p.history.taken; stopped = p.stopped; ended = p.ended }
 
+-- the answer of a call that a parser is lent to, with what the call leaves of it
+abbrev pub with_parser : {E : Type 0} → Progress → Result (Unit {0}) E → Result Progress E
+with_parser p (Ok u) = Ok p
+with_parser p (Err e) = Err e
+
 -- the clauses handed over and those that wait
 abbrev pub all_in : Parser → List (List ℕ)
 all_in p = p.history.taken ++ p.clauses.formula.clauses

@@ -3,10 +3,10 @@ use Rattle.std.proofs.lemmas.Result.{err_from_is_err_and}
 use Rattle.sat_base.specs.dimacs.Parsing.{Progress, Parses, no_progress, with_fed, IsSound, IsSoundText}
 use Rattle.sat_base.proofs.lemmas.device.Given.{gave_none, gave_more, gave_still, gave_to_end, not_ended, enough_all, enough_front, few_front}
 use Rattle.sat_base.proofs.lemmas.dimacs.Parsed.{stops_on, ends_by, stands_of, piece_given, sound_none}
-use Rattle.sat_base.proofs.dimacs.DimacsParser.parse.Goals as goal
+use Rattle.sat_base.proofs.dimacs.DimacsParser.read_formula.Goals as goal
 
 pub loop-init : goal.loop-init
-loop-init g c = record { bytes = ([], c.new-parser.ensures, gave_none _, omega arith); sound = subst IsSound (sym c.new-parser.ensures) sound_none; open_yet = λ h. absurd (omega arith); failures = refl; calls = omega arith }
+loop-init g c = record { bytes = ([], c.requires, gave_none _, omega arith); sound = subst IsSound (sym c.requires) sound_none; open_yet = λ h. absurd (omega arith); failures = refl; calls = omega arith }
 
 pub loop-preserved : goal.loop-preserved
 loop-preserved g c =
@@ -35,7 +35,7 @@ returns-in_err-finish-in-Ok-eq0-clause-given g c =
     let p = err_from_is_err_and c.from_residual.result c.from_residual.ensures.1 in
     let b = c.loop.invariant.bytes in
     let all = gave_to_end (S c.args.reader.now) (S c.loop.reader) (S c.read_counted.new.self) b.0 c.in-Ok-eq0.field-0 c.read_counted.new.buf b.2 c.in-Ok-eq0.ensures.once (search rules) (search rules) (omega (arith, c.loop.invariant.calls)) (omega (arith, c.loop.invariant.calls, b.3)) in
-    rw (p.1, p.2) (enough_all _ _ (Parses (Err c.in_err-finish-in-Ok-eq0.field-0.0)) b.0 all (ends_by c.in_err-finish-in-Ok-eq0.field-0.0 b.0 c.loop.parser c.finish.new.self (stands_of b.0 c.loop.parser b.1) c.in_err-finish-in-Ok-eq0.ensures))
+    rw (p.1, p.2) (enough_all _ _ (Parses (Err c.in_err-finish-in-Ok-eq0.field-0.0)) b.0 all (ends_by c.in_err-finish-in-Ok-eq0.field-0.0 b.0 c.loop.self c.finish.new.self (stands_of b.0 c.loop.self b.1) c.in_err-finish-in-Ok-eq0.ensures))
 
 pub returns-in_err-feed-in-Ok-clause-given : goal.returns-in_err-feed-in-Ok-clause-given
 returns-in_err-feed-in-Ok-clause-given g c =
@@ -47,7 +47,7 @@ returns-in_err-feed-in-Ok-clause-given g c =
     rw (p.1, p.2) (enough_front _ _ (Parses (Err c.in_err-feed-in-Ok.field-0.0)) (b.0 ++ piece) (gave_more (S c.args.reader.now) (S c.loop.reader) (S c.read_counted.new.self) b.0 c.in-Ok.count c.read_counted.new.buf b.2 once)
     (not_ended (S c.loop.reader) (S c.read_counted.new.self) c.in-Ok.count c.read_counted.new.buf once (search rules))
     (omega (arith, once.calls, c.loop.invariant.calls, b.3, length-append b.0 piece))
-    (λ rest. stops_on c.in_err-feed-in-Ok.field-0.0 b.0 piece c.loop.parser c.feed.new.self (ap (λ (k : Progress). k.fed) b.1) (ap (λ (k : Progress). k.stopped) b.1) c.in_err-feed-in-Ok.ensures.answer rest))
+    (λ rest. stops_on c.in_err-feed-in-Ok.field-0.0 b.0 piece c.loop.self c.feed.new.self (ap (λ (k : Progress). k.fed) b.1) (ap (λ (k : Progress). k.stopped) b.1) c.in_err-feed-in-Ok.ensures.answer rest))
 
 pub returns-in-Err-clause-given : goal.returns-in-Err-clause-given
 returns-in-Err-clause-given g c =
@@ -67,10 +67,10 @@ pub returns-in-Err-clause-sound : goal.returns-in-Err-clause-sound
 returns-in-Err-clause-sound g c =
     let S = g.R.CountedRead.seen in
     let b = c.loop.invariant.bytes in
-    λ _. (b.0, gave_still _ (S c.args.reader.now) (S c.loop.reader) (S c.read_counted.new.self) b.0 c.read_counted.new.buf b.2 c.in-Err.ensures.once, sound_of c.loop.parser b.0 b.1 c.loop.invariant.sound)
+    λ _. (b.0, gave_still _ (S c.args.reader.now) (S c.loop.reader) (S c.read_counted.new.self) b.0 c.read_counted.new.buf b.2 c.in-Err.ensures.once, sound_of c.loop.self b.0 b.1 c.loop.invariant.sound)
 
 pub returns-clause-sound : goal.returns-clause-sound
-returns-clause-sound g c = let b = c.loop.invariant.bytes in λ _. (b.0, b.2, sound_of c.loop.parser b.0 b.1 c.loop.invariant.sound)
+returns-clause-sound g c = let b = c.loop.invariant.bytes in λ _. (b.0, b.2, sound_of c.loop.self b.0 b.1 c.loop.invariant.sound)
 
 pub returns-in-Err-clause-read : goal.returns-in-Err-clause-read
 returns-in-Err-clause-read g c =

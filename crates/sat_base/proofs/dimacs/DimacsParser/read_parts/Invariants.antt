@@ -4,14 +4,14 @@ use denote.Param.Always.{always_mut}
 use Rattle.sat_base.specs.device.Device.{GaveFront}
 use Rattle.sat_base.specs.dimacs.Parsing.{no_progress, KeepsText, FeedsAndVisits}
 use Rattle.sat_base.proofs.lemmas.dimacs.Parsed.{Stands}
-use Rattle.sat_base.proofs.dimacs.DimacsParser.parse_incremental.Given as goal
+use Rattle.sat_base.proofs.dimacs.DimacsParser.read_parts.Given as goal
 
 abbrev pub invariant-loop : goal.invariant-loop
 invariant-loop g l = record {
   always : always_mut g.F.FnMut l.initial.closure → always_mut g.F.FnMut l.closure;
-  visited : (pieces : List (List ℕ)) × FoldsTo (FeedsAndVisits (λ f p r q h. goal.F-step g f p r q h)) (l.initial.closure, no_progress) pieces (l.closure, l.parser)
+  visited : (pieces : List (List ℕ)) × FoldsTo (FeedsAndVisits (λ f p r q h. goal.F-step g f p r q h)) (l.initial.closure, no_progress) pieces (l.closure, l.self)
       × GaveFront (g.R.CountedRead.seen l.fn.reader) (g.R.CountedRead.seen l.reader) (concat pieces)
-      × (KeepsText (λ f p r q h. goal.F-step g f p r q h) l.initial.closure → KeepsText (λ f p r q h. goal.F-step g f p r q h) l.closure × Stands (concat pieces) l.parser)
+      × (KeepsText (λ f p r q h. goal.F-step g f p r q h) l.initial.closure → KeepsText (λ f p r q h. goal.F-step g f p r q h) l.closure × Stands (concat pieces) l.self)
       × (length pieces ≡ l.counter) × (l.counter ≤ length (concat pieces));
   open_yet : 0 < l.counter → (g.R.CountedRead.seen l.reader).ended ≡ false;
   failures : (g.R.CountedRead.seen l.reader).failures ≡ (g.R.CountedRead.seen l.fn.reader).failures;
