@@ -3,4 +3,5 @@ pub mod Known
 pub mod Makers
 pub mod ReadLemmas
 pub mod Sending
+pub mod WholeAnswers
 pub mod Writes

@@ -1,6 +1,7 @@
 //! Reading a reader to its end.
-ghost use Rattle.std.specs.Prelude.{◌≡◌, ◌+◌, ◌<◌, ◌≤◌, ◌⊎◌, length, IfOk, OnOk, IsErrOf};
-ghost use Rattle.sat_base.specs.device.Device.{most_reads, ReadFails, GaveAll, Grew};
+ghost use Rattle.std.specs.Prelude.{◌≡◌, ◌+◌, ◌<◌, ◌≤◌, ◌⊎◌, length, IfOk, IfErr, OnOk, IsErrOf};
+ghost use Rattle.std.specs.Io.{ReadsAtMost};
+ghost use Rattle.sat_base.specs.device.Device.{most_reads, ReadFails, ReadsOnce, GaveAll, Grew};
 
 use crate::CountedRead;
 use crate::device::ahead::PIECE;
@@ -31,6 +32,18 @@ impl From<AllocError> for ReadError {
     }
 }
 
+/// One read.
+fn read_piece<R: CountedRead>(reader: &mut R, room: &mut [u8]) -> Result<usize, ReadError>
+    ensures bound { ReadsAtMost result room.new }
+    ensures once { ReadsOnce result room.new (R.seen reader.old) (R.seen reader.new) }
+    ensures failed { IfErr result (λ e. e ≡ ReadError.Failed) }
+{
+    match reader.read_counted(room) {
+        Ok(count) => Ok(count),
+        Err(_) => Err(ReadError::Failed),
+    }
+}
+
 /// Reads to the end, in pieces of at most 4,096 bytes, and gives all bytes. The first failed read ends it. After an error what was
 /// read is gone.
 pub fn read_whole<R: CountedRead>(alloc: Global, reader: &mut R) -> Result<Vec<u8>, ReadError>
@@ -47,10 +60,10 @@ pub fn read_whole<R: CountedRead>(alloc: Global, reader: &mut R) -> Result<Vec<u
     let mut whole = Vec::new(alloc);
     let mut piece = [0; PIECE];
     for _ in 0..MAX_READS {
-        match reader.read_counted(&mut piece) {
+        match read_piece(reader, &mut piece) {
             Ok(0) => return Ok(whole),
             Ok(count) => whole.extend_from_slice(&piece[..count])?,
-            Err(_) => return Err(ReadError::Failed),
+            Err(e) => return Err(e),
         }
     }
     Err(ReadError::Failed)

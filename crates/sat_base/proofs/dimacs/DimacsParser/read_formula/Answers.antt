@@ -1,8 +1,10 @@
 use Rattle.std.proofs.Common.{◌≡◌, ◌+◌, ℕ, List, [], ◌++◌, inl, inr, Ok, Err, refl, ap, sym, subst, ◌∙◌, take, length-append, rules, arith}
 use Rattle.std.proofs.lemmas.Result.{err_from_is_err_and}
 use Rattle.sat_base.specs.dimacs.Parsing.{Progress, Parses, no_progress, with_fed, IsSound, IsSoundText}
-use Rattle.sat_base.proofs.lemmas.device.Given.{gave_none, gave_more, gave_still, gave_to_end, not_ended, enough_all, enough_front, few_front}
+use Rattle.sat_base.proofs.lemmas.device.Given.{gave_none, gave_more, gave_still, gave_to_end, not_ended, enough_all, enough_front, few_front, calls_within, calls_upto}
 use Rattle.sat_base.proofs.lemmas.dimacs.Parsed.{stops_on, ends_by, stands_of, piece_given, sound_none}
+use Rattle.sat_base.proofs.lemmas.dimacs.ParseAnswers.{finish_no_read, finish_no_stop, feed_no_read, feed_no_stop, read_is_no_stop}
+use Rattle.sat_base.proofs.lemmas.device.WholeAnswers.{ok_is_no_err}
 use Rattle.sat_base.proofs.dimacs.DimacsParser.read_formula.Goals as goal
 
 pub loop-init : goal.loop-init
@@ -84,3 +86,84 @@ pub returns-clause-read : goal.returns-clause-read
 returns-clause-read g c =
     let b = c.loop.invariant.bytes in
     λ _. (inr (c.loop.invariant.failures, omega (arith, c.loop.invariant.calls)), few_front _ _ b.0 b.2 (omega (arith, c.loop.invariant.calls, b.3)))
+
+-- WHERE THE ANSWER IS NO FAILED READ
+
+pub returns-in-Ok-eq0-clause-kept : goal.returns-in-Ok-eq0-clause-kept
+returns-in-Ok-eq0-clause-kept g c = inr (c.in-Ok-eq0.ensures.once.failures.0 ∙ c.loop.invariant.failures)
+
+pub returns-in_err-finish-in-Ok-eq0-clause-kept : goal.returns-in_err-finish-in-Ok-eq0-clause-kept
+returns-in_err-finish-in-Ok-eq0-clause-kept g c = inr (c.in-Ok-eq0.ensures.once.failures.0 ∙ c.loop.invariant.failures)
+
+pub returns-in_err-feed-in-Ok-clause-kept : goal.returns-in_err-feed-in-Ok-clause-kept
+returns-in_err-feed-in-Ok-clause-kept g c = inr (c.in-Ok.ensures.once.failures.0 ∙ c.loop.invariant.failures)
+
+pub returns-in-Err-clause-kept : goal.returns-in-Err-clause-kept
+returns-in-Err-clause-kept g c = inl refl
+
+pub returns-clause-kept : goal.returns-clause-kept
+returns-clause-kept g c = inl refl
+
+pub returns-in-Ok-eq0-clause-read : goal.returns-in-Ok-eq0-clause-read
+returns-in-Ok-eq0-clause-read g c = λ h. ok_is_no_err _ _ h
+
+pub returns-in-Ok-eq0-clause-sound : goal.returns-in-Ok-eq0-clause-sound
+returns-in-Ok-eq0-clause-sound g c = λ h. ok_is_no_err _ _ h
+
+pub returns-in_err-finish-in-Ok-eq0-clause-read : goal.returns-in_err-finish-in-Ok-eq0-clause-read
+returns-in_err-finish-in-Ok-eq0-clause-read g c =
+    let p = err_from_is_err_and c.from_residual.result c.from_residual.ensures.1 in
+    λ h. finish_no_read _ _ _ _ _ p.1 p.2 c.in_err-finish-in-Ok-eq0.ensures h
+
+pub returns-in_err-finish-in-Ok-eq0-clause-sound : goal.returns-in_err-finish-in-Ok-eq0-clause-sound
+returns-in_err-finish-in-Ok-eq0-clause-sound g c =
+    let p = err_from_is_err_and c.from_residual.result c.from_residual.ensures.1 in
+    λ h. finish_no_read _ _ _ _ _ p.1 p.2 c.in_err-finish-in-Ok-eq0.ensures h
+
+pub returns-in_err-feed-in-Ok-clause-read : goal.returns-in_err-feed-in-Ok-clause-read
+returns-in_err-feed-in-Ok-clause-read g c =
+    let p = err_from_is_err_and c.from_residual-in_err-feed-in-Ok.result c.from_residual-in_err-feed-in-Ok.ensures.1 in
+    λ h. feed_no_read _ _ _ _ _ _ p.1 p.2 c.in_err-feed-in-Ok.ensures.answer h
+
+pub returns-in_err-feed-in-Ok-clause-sound : goal.returns-in_err-feed-in-Ok-clause-sound
+returns-in_err-feed-in-Ok-clause-sound g c =
+    let p = err_from_is_err_and c.from_residual-in_err-feed-in-Ok.result c.from_residual-in_err-feed-in-Ok.ensures.1 in
+    λ h. feed_no_read _ _ _ _ _ _ p.1 p.2 c.in_err-feed-in-Ok.ensures.answer h
+
+-- WHERE THE PARSER HAD NOT STOPPED
+
+pub returns-in-Ok-eq0-clause-fresh : goal.returns-in-Ok-eq0-clause-fresh
+returns-in-Ok-eq0-clause-fresh g c = λ h. ok_is_no_err _ _ h
+
+pub returns-in_err-finish-in-Ok-eq0-clause-fresh : goal.returns-in_err-finish-in-Ok-eq0-clause-fresh
+returns-in_err-finish-in-Ok-eq0-clause-fresh g c =
+    let p = err_from_is_err_and c.from_residual.result c.from_residual.ensures.1 in
+    λ h. finish_no_stop _ _ _ _ _ p.1 p.2 (ap (λ (k : Progress). k.stopped) c.loop.invariant.bytes.1) c.in_err-finish-in-Ok-eq0.ensures h
+
+pub returns-in_err-feed-in-Ok-clause-fresh : goal.returns-in_err-feed-in-Ok-clause-fresh
+returns-in_err-feed-in-Ok-clause-fresh g c =
+    let p = err_from_is_err_and c.from_residual-in_err-feed-in-Ok.result c.from_residual-in_err-feed-in-Ok.ensures.1 in
+    λ h. feed_no_stop _ _ _ _ _ _ p.1 p.2 (ap (λ (k : Progress). k.stopped) c.loop.invariant.bytes.1) c.in_err-feed-in-Ok.ensures.answer h
+
+pub returns-in-Err-clause-fresh : goal.returns-in-Err-clause-fresh
+returns-in-Err-clause-fresh g c = λ h. read_is_no_stop h
+
+pub returns-clause-fresh : goal.returns-clause-fresh
+returns-clause-fresh g c = λ h. read_is_no_stop h
+
+-- HOW OFTEN IT WAS READ
+
+pub returns-in-Ok-eq0-clause-reads : goal.returns-in-Ok-eq0-clause-reads
+returns-in-Ok-eq0-clause-reads g c = calls_within _ _ _ c.loop.counter c.in-Ok-eq0.ensures.once.calls c.loop.invariant.calls c.loop-test.true
+
+pub returns-in_err-finish-in-Ok-eq0-clause-reads : goal.returns-in_err-finish-in-Ok-eq0-clause-reads
+returns-in_err-finish-in-Ok-eq0-clause-reads g c = calls_within _ _ _ c.loop.counter c.in-Ok-eq0.ensures.once.calls c.loop.invariant.calls c.loop-test.true
+
+pub returns-in_err-feed-in-Ok-clause-reads : goal.returns-in_err-feed-in-Ok-clause-reads
+returns-in_err-feed-in-Ok-clause-reads g c = calls_within _ _ _ c.loop.counter c.in-Ok.ensures.once.calls c.loop.invariant.calls c.loop-test.true
+
+pub returns-in-Err-clause-reads : goal.returns-in-Err-clause-reads
+returns-in-Err-clause-reads g c = calls_within _ _ _ c.loop.counter c.in-Err.ensures.once.calls c.loop.invariant.calls c.loop-test.true
+
+pub returns-clause-reads : goal.returns-clause-reads
+returns-clause-reads g c = calls_upto _ _ c.loop.counter c.loop.invariant.calls c.loop.auto.counter-end

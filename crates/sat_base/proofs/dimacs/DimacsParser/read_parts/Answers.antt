@@ -107,7 +107,13 @@ returns-in-Err-answer-clause-given g c k =
     let all = end_after (S c.args.reader.now) (S c.loop.reader) (S c.read_counted.new.self) (concat v.0) c.in-Ok-eq0.field-0 c.loop.counter c.read_counted.new.buf v.2 c.in-Ok-eq0.ensures.once c.in-Ok-eq0.field-0-test (search rules) c.loop.invariant.calls v.5 in
     enough_all _ _ (Parses (Err c.in-Err-answer.e)) (concat v.0) all (ends_by c.in-Err-answer.e (concat v.0) c.loop.self c.finish-answer.new.self (v.3 k).1 c.in-Err-answer.ensures)
 
+pub returns-in-Err-closure-clause-given : goal.returns-in-Err-closure-clause-given
+returns-in-Err-closure-clause-given g c k = tt
+
 -- AT A PIECE
+
+pub returns-in-Err-closure-2-clause-given : goal.returns-in-Err-closure-2-clause-given
+returns-in-Err-closure-2-clause-given g c k = tt
 
 pub returns-in-Err-closure-2-clause-visited : goal.returns-in-Err-closure-2-clause-visited
 returns-in-Err-closure-2-clause-visited g c =
