@@ -1,13 +1,10 @@
-use Rattle.std.proofs.Common.{ℕ, ◌+◌, ◌++◌, inl, inr, refl, ap, sym, subst, ◌∙◌, take, rules, arith}
+use Rattle.std.proofs.Common.{ℕ, ◌+◌, ◌++◌, inl, inr, ap, sym, subst, ◌∙◌, take, rules, arith}
 use Rattle.std.proofs.lemmas.Result.{err_from_is_err_and}
 use Rattle.sat_base.specs.device.Device.{GaveAll, GaveFront}
-use Rattle.sat_base.proofs.lemmas.device.Given.{gave_none, gave_more, end_after, few_after, few_before, some_given, no_less, gave_still, calls_after, calls_within, calls_upto}
+use Rattle.sat_base.proofs.lemmas.device.Given.{gave_more, end_after, few_after, few_before, some_given, no_less, gave_still, calls_after, calls_within, calls_upto}
 use Rattle.sat_base.proofs.lemmas.device.WholeAnswers.{one_more, if_err, ok_is_no_err, want_is_no_failure, failed_is_no_want, failure_is_no_want}
 use Rattle.sat_base.proofs.lemmas.dimacs.Parsed.{piece_given}
 use Rattle.sat_base.proofs.device.whole.read_whole.Goals as goal
-
-pub loop-init : goal.loop-init
-loop-init g c = record { front = subst (GaveFront (g.R.CountedRead.seen c.args.reader.now) (g.R.CountedRead.seen c.args.reader.now)) (sym c.new-whole.ensures.items) (gave_none _); some = omega arith; failures = refl; calls = omega arith }
 
 -- AT THE END
 
