@@ -1,9 +1,10 @@
-use Rattle.std.proofs.Common.{◌≡◌, ◌+◌, ◌<◌, ◌∙◌, ap, sym, length, arith}
+use Rattle.std.proofs.Common.{◌≡◌, ◌+◌, ◌<◌, ◌≤◌, ◌∙◌, refl, ap, sym, length, arith}
 use Rattle.sat_checker.specs.Stored.{hash_by}
 use Rattle.sat_checker.specs.HasherView.{solver_name_of, width_of}
 use Rattle.sat_checker.specs.inner.SlotView.{Slot, slot_at, literals_at}
 use Rattle.sat_checker.specs.inner.IndexView.{places_in}
-use Rattle.sat_checker.proofs.lemmas.store.Rehashing.{hashed_next, hashed_skip, gone_same, slot_left, filed_gone, filed_there, left_gone, left_there}
+use Rattle.sat_checker.proofs.lemmas.propagation.Walking.{looks_over}
+use Rattle.sat_checker.proofs.lemmas.store.Rehashing.{hashed_all, filed_all, hashed_next, hashed_skip, gone_same, slot_left, filed_gone, filed_there, left_gone, left_there}
 use Rattle.sat_checker.proofs.clauses.file_all.Goals as goal
 
 pub loop-place-preserved-then-is_gone : goal.loop-place-preserved-then-is_gone
@@ -39,3 +40,31 @@ loop-place-preserved c =
           let count = ap length same in
           omega (arith, left, count, c.literals.ensures.looks, c.loop-place.invariant.looks);
     }
+
+pub loop-place-init : goal.loop-place-init
+loop-place-init c = record { hashed = refl; filed = λ q. c.requires q; looks = refl }
+
+pub returns-in_err-file-clause-looks : goal.returns-in_err-file-clause-looks
+returns-in_err-file-clause-looks c =
+    let inside : c.loop-place.place < length c.args.slots.now = omega (arith, c.len-place-end.ensures.count) in
+    let names = solver_name_of c.args.hasher.now in
+    let width = width_of c.args.hasher.now in
+    let there = gone_same names width c.args.slots.now c.loop-place.slots c.loop-place.place _ inside c.loop-place.invariant.hashed (sym c.is_gone.ensures ∙ c.if-is_gone.false) in
+    let same : literals_at c.loop-place.slots c.loop-place.place ≡ literals_at c.args.slots.now c.loop-place.place =
+    ap (λ (s : Slot). s.clause.literals) (ap (λ x. slot_at x c.loop-place.place) c.loop-place.invariant.hashed ∙ slot_left names width c.args.slots.now c.loop-place.place inside) in
+    let left = left_there c.args.slots.now c.loop-place.place inside there in
+    let count = ap length same in
+    omega (arith, left, count, c.literals.ensures.looks, c.loop-place.invariant.looks)
+
+pub returns-clause-hashed : goal.returns-clause-hashed
+returns-clause-hashed c =
+    let over : length c.args.slots.now ≤ c.loop-place.place = omega (arith, c.len-place-end.ensures.count) in
+    c.loop-place.invariant.hashed ∙ hashed_all (solver_name_of c.args.hasher.now) (width_of c.args.hasher.now) c.args.slots.now c.loop-place.place over
+
+pub returns-clause-filed : goal.returns-clause-filed
+returns-clause-filed c = λ q.
+    let over : length c.args.slots.now ≤ c.loop-place.place = omega (arith, c.len-place-end.ensures.count) in
+    c.loop-place.invariant.filed q ∙ filed_all (solver_name_of c.args.hasher.now) (width_of c.args.hasher.now) c.args.slots.now c.loop-place.place q over
+
+pub returns-clause-looks : goal.returns-clause-looks
+returns-clause-looks c = looks_over _ c.loop-place.looks _ c.loop-place.invariant.looks

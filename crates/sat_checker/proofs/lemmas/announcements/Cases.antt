@@ -1,5 +1,6 @@
 -- What a clause that passes rests on, by cases: both signs of a variable, a unit that is true in it, or a conflict.
-use Rattle.std.proofs.Common.{ℕ, ◌≡◌, Bool, true, false, cond, List, [], ◌∷◌, ◌++◌, map, Some, None, sym, ◌∙◌, ap}
+use Rattle.std.proofs.Common.{ℕ, ◌+◌, ◌*◌, ◌≤◌, ◌≡◌, Bool, true, false, cond, List, [], ◌∷◌, ◌++◌, map, Some, None, sym, ◌∙◌, ap, arith}
+use Rattle.std.proofs.Math.Nat.{mul_assoc}
 use Rattle.std.specs.List.{list_any}
 use Rattle.sat_base.specs.values.Literals.{negated}
 use Rattle.sat_checker.specs.LiteralSets.{is_among, is_tautology, canonical}
@@ -36,3 +37,7 @@ module _ (clause literals : List ℕ) (set : literals ≡ canonical clause) wher
     ids_of_conflict t e =
         let ids : List ℕ = conflict_ids (map negated clause) (ground (map negated clause ++ unit_literals f) (named_by hashes f)) f.units in
         ap (λ b. cond b [] (unit_alone (true_unit (canonical clause) f.units) ids)) (sym signs_of ∙ t) ∙ ap (λ o. unit_alone o ids) (ap (λ ls. true_unit ls f.units) (sym set) ∙ e)
+
+-- what was noted is looked at once more
+pub looks_followed : (old mid new noted n l : ℕ) → mid ≤ old + n * l → noted + old ≤ mid → new ≤ mid + noted → new ≤ old + 2 * n * l
+looks_followed old mid new noted n l h k j = let e : 2 * n * l ≡ 2 * (n * l) = mul_assoc 2 n l in omega arith

@@ -1,12 +1,12 @@
 -- The clauses of a bucket, by their places.
-use Rattle.std.proofs.Common.{ℕ, suc, ◌+◌, ◌<◌, ◌≡◌, ◌≢◌, Bool, true, false, cond, List, [], ◌∷◌, length, drop, get_or, map, filter, Option, None, Some, refl, sym, ◌∙◌, ap, subst, arith}
+use Rattle.std.proofs.Common.{ℕ, suc, ◌+◌, ◌<◌, ◌≤◌, ◌≡◌, ◌≢◌, Bool, true, false, cond, List, [], ◌∷◌, length, drop, get_or, map, filter, Option, None, Some, refl, sym, ◌∙◌, ap, subst, arith}
 use Rattle.std.specs.Prelude.{MatchOption}
 use Rattle.std.specs.List.{AllByRecursion}
 use Rattle.sat_checker.specs.inner.SlotView.{Slot, slot_at, literals_at, is_filed, all_lits, bucket_in, places_from, places_of, is_same_at, found_among, IsBucket}
 use Rattle.sat_checker.proofs.lemmas.store.Places.{places_below}
 use Rattle.sat_checker.specs.Looks.{total_length}
 use Rattle.sat_checker.specs.inner.Walk.{verdict, walk_on, walk}
-use Rattle.sat_checker.proofs.lemmas.propagation.Walking.{next_place, find_next, sum_next, walk-met}
+use Rattle.sat_checker.proofs.lemmas.propagation.Walking.{next_place, find_next, sum_next, walk-met, walk-conflict}
 
 places_literals : (all ss : List Slot) (k h : ℕ) → ((j : ℕ) → slot_at all (k + j) ≡ slot_at ss j) → map (literals_at all) (places_from k h ss) ≡ bucket_in h ss
 places_literals all [] k h same = refl
@@ -38,10 +38,16 @@ module _ (h : ℕ) (ss : List Slot) (place : ℕ) (places : List ℕ) (bucket : 
   pub walk_first : (assumed more : List ℕ) → walk_on (verdict assumed (literals_at ss place)) assumed ≡ Some more → walk assumed (bucket_in h ss) ≡ walk more (map (literals_at ss) places)
   walk_first assumed more e = ap (walk assumed) bucket.literals ∙ walk-met assumed (literals_at ss place) (map (literals_at ss) places) more e
 
+  pub walk_first_ends : (assumed : List ℕ) → walk_on (verdict assumed (literals_at ss place)) assumed ≡ None → walk assumed (bucket_in h ss) ≡ None
+  walk_first_ends assumed e = ap (walk assumed) bucket.literals ∙ walk-conflict assumed (literals_at ss place) (map (literals_at ss) places) e
+
   pub looks_first : (before after : ℕ) → after ≡ before + length (literals_at ss place) → after + total_length (map (literals_at ss) places) ≡ before + total_length (bucket_in h ss)
   looks_first before after e =
       let b : total_length (bucket_in h ss) ≡ length (literals_at ss place) + total_length (map (literals_at ss) places) = ap total_length bucket.literals in
       omega arith
+
+  pub looks_first_ended : (before after : ℕ) → after ≡ before + length (literals_at ss place) → after ≤ before + total_length (bucket_in h ss)
+  looks_first_ended before after e = let whole = looks_first before after e in omega arith
 
 module _ (ss : List Slot) (literals : List ℕ) where
   pub found_first : (p : ℕ) (ps : List ℕ) → is_same_at ss literals p ≡ true → found_among ss literals (p ∷ ps) ≡ Some p

@@ -30,11 +30,20 @@ derived_noted new old change id redundant both clause literals hashes ids f e ne
 one_pass_more : (n l : ℕ) → (2 * n + 1) * l ≡ 2 * n * l + l
 one_pass_more n l = grind arith
 
+four_passes_more : (n l : ℕ) → (5 + 2 * n) * l ≡ (2 * n + 1) * l + 4 * l
+four_passes_more n l = grind arith
+
 pub looks_before : (looks n l : ℕ) → looks ≤ looks + (2 * n + 1) * l
 looks_before looks n l = omega arith
 
 pub looks_checked : (old looks n l : ℕ) → looks ≤ old + 2 * n * l → looks ≤ old + (2 * n + 1) * l
 looks_checked old looks n l h = let e = one_pass_more n l in omega arith
+
+pub looks_alone : (old mid n l : ℕ) → mid ≤ old + (2 * n + 1) * l → mid ≤ old + (5 + 2 * n) * l
+looks_alone old mid n l h = let e = four_passes_more n l in omega arith
+
+pub looks_stored : (old mid new n l : ℕ) → mid ≤ old + (2 * n + 1) * l → new ≤ mid + l → new ≤ old + (5 + 2 * n) * l
+looks_stored old mid new n l h k = let e = four_passes_more n l in omega arith
 
 pub looks_changed : (old mid new n l : ℕ) → mid ≤ old + 2 * n * l → new ≤ mid + l → new ≤ old + (2 * n + 1) * l
 looks_changed old mid new n l h k = let e = one_pass_more n l in omega arith

@@ -1,7 +1,7 @@
 -- A unit conflict is settled and told, and a step is taken in and told.
-use Rattle.std.proofs.Common.{ℕ, ◌≡◌, true, false, List, [], ◌∷◌, ◌++◌, Option, None, Some, Result, Ok, Err, ◌⊎◌, inl, inr, refl, sym, ap, subst, ◌∙◌}
+use Rattle.std.proofs.Common.{ℕ, ◌+◌, ◌≤◌, ◌≡◌, true, false, List, [], ◌∷◌, ◌++◌, Option, None, Some, Result, Ok, Err, ◌⊎◌, inl, inr, refl, sym, ap, subst, ◌∙◌, arith}
 use Rattle.std.proofs.lemmas.Bool.{true≢false}
-use Rattle.std.specs.Result.{is_err}
+use Rattle.std.specs.Result.{is_err, OnOk, OnErr, IsErrOf}
 use Rattle.std.proofs.lemmas.List.{append-nil}
 use Rattle.sat_base.specs.steps.Steps.{Step, SolverVarName, UserVarName, DeleteVar, ChangeSamplingMode, AddClause, UnitClauses, DeleteClause, ChangeHashBits, Model, Assumptions, FailedAssumptions, End}
 use Rattle.sat_base.specs.steps.Steps as kinds
@@ -81,6 +81,30 @@ module _ (old : Kernel) (steps : List Step) (s : kernels.Stands old steps) (well
 
   pub settled_spent : IsSpent (settled kept.formula) → IsSpent (ready_after steps)
   settled_spent h = subst (λ f. IsSpent (settled f)) is_stored h
+
+  settled_fails : (new : Kernel) → new.records ≡ old.records → kernels.has_failed new ≡ true → kernels.Fails new steps
+  settled_fails new r f = record { stands = record { accepted = s.accepted; records = r ∙ s.records; kept = λ e. absurd (true≢false (sym f ∙ e)) }; failed = f }
+
+  -- it wasn't settled, or not told
+  module _ (new : Kernel) (looks : kernels.looks_of new ≡ kernels.looks_of old) (same : new.records ≡ old.records) (failed : kernels.has_failed new ≡ true) where
+    pub unsettled_judges : IsSpent (settled kept.formula) → kernels.AnswersDelayed (Err errors.CounterEnd) old new steps
+    unsettled_judges h = (well, looks, settled_spent h, settled_fails new same failed)
+
+    pub untold_judges : (f : ProcessingError) → kernels.AnswersDelayed (Err (fault_of f)) old new steps
+    untold_judges faults.OutOfMemory = (well, looks, settled_fails new same failed)
+    untold_judges (faults.ProofProcessorError cause) = (well, looks, settled_fails new same failed)
+
+    pub unsettled_tells : {L : Type 0} (Hears : L → Told → Result Unit ProcessingError → L → Type 0) (before : List Told) (begun l : L) → HearsSince Hears before (told_by old.state.formula.status.conflict steps) begun l → IsSpent (settled kept.formula)
+        → AnswersDelayed Hears before begun (Err errors.CounterEnd) (seen old l) (seen new l) steps
+    unsettled_tells Hears before begun l heard h = (
+      well,
+      looks,
+      settled_spent h,
+      record {
+        fails = failing Hears before begun (seen new l) steps (settled_fails new same failed);
+        heard = inl (subst (λ c. HearsSince Hears before (told_by c steps) begun l) waits heard);
+      },
+    )
 
   conflict_told : delayed (stored_after steps) ≡ AtClause old.state.formula.status.next_id false [] (one ∷ other ∷ []) ∷ []
   conflict_told =
@@ -220,6 +244,10 @@ module _ (old : Kernel) (steps : List Step) (s : kernels.Stands old steps) (well
   short_judges new stores.OutOfMemory h r f = (well, step_fails old steps s well none step new r f)
   short_judges new stores.CounterEnd h r f = (well, inr h, step_fails old steps s well none step new r f)
 
+  -- it was refused
+  pub refused_judges : (new : Kernel) → (Accepts (ready_after steps) step → ⊥) → new.records ≡ old.records → kernels.has_failed new ≡ true → kernels.AnswersStep (Err errors.CheckFailed) old step new steps
+  refused_judges new h r f = (well, h, step_fails old steps s well none step new r f)
+
   module _ {L : Type 0} (Hears : L → Told → Result Unit ProcessingError → L → Type 0) (told : List Told) (mid : Kernel) (l : L) (same : mid.records ≡ old.records) (accepts : Accepts (ready_after steps) step) (k : Keeps mid.state (effect step (ready_after steps))) where
     pub taken_judges : (new : Kernel) (m : L) (r : Result Unit CheckerError) → TakesIn Hears told r (seen mid l) (seen new m) → kernels.AnswersStep r old step new steps
     taken_judges new m (Ok x) t = (
@@ -243,6 +271,9 @@ module _ (old : Kernel) (steps : List Step) (s : kernels.Stands old steps) (well
         → AnswersStep Hears before begun (Err (failure_of error)) (seen old l) step (seen new l) steps
     short_tells new stores.OutOfMemory h r f = (well, inl (record { fails = failed_with new l r f; heard = inr before_it }))
     short_tells new stores.CounterEnd h r f = (well, inr h, record { fails = failed_with new l r f; heard = inr before_it })
+
+    pub refused_tells : (new : Kernel) → (Accepts (ready_after steps) step → ⊥) → new.records ≡ old.records → kernels.has_failed new ≡ true → AnswersStep Hears before begun (Err errors.CheckFailed) (seen old l) step (seen new l) steps
+    refused_tells new h r f = (well, h, record { fails = failed_with new l r f; heard = before_it })
 
     module _ (mid : Kernel) (same : mid.records ≡ old.records) (accepts : Accepts (ready_after steps) step) (k : Keeps mid.state (effect step (ready_after steps))) (news : List Announcement) (noted : news ≡ announced (ready_after steps) step) (was : Option (ℕ × Variable)) (put : was ≡ changed_by (variable_at old.state.variables) step) where
       abbrev told : List Told
@@ -270,6 +301,15 @@ module _ (old : Kernel) (steps : List Step) (s : kernels.Stands old steps) (well
 pub turned : (r : Result Unit StoreError) (K : Type 0) (g : Stored) → is_err r ≡ false → Turns r K g → K
 turned (Ok x) K g e t = t
 turned (Err d) K g e t = absurd (true≢false e)
+
+pub turned_none : (r : Result Unit StoreError) (P : Type 0) → is_err r ≡ false → OnOk r P → P
+turned_none (Ok x) P e p = p
+turned_none (Err d) P e p = absurd (true≢false e)
+
+pub turned_spent : (r : Result Unit StoreError) (K : Type 0) (g : Stored) → is_err r ≡ true → OnErr r (IsErrOf r stores.CounterEnd) → Turns r K g → IsSpent g
+turned_spent (Ok x) K g e h t = absurd (true≢false (sym e))
+turned_spent (Err stores.OutOfMemory) K g e h t = absurd cc
+turned_spent (Err stores.CounterEnd) K g e h t = t
 
 -- what an answer to the settling of a unit conflict says
 module _ {L : Type 0} (Hears : L → Told → Result Unit ProcessingError → L → Type 0) (before : List Told) (begun : L) (old new : Kernel) (l m : L) (steps : List Step) (well : kernels.has_failed old ≡ false) (looks : kernels.looks_of new ≡ kernels.looks_of old) where
@@ -305,3 +345,37 @@ module _ {L : Type 0} (Hears : L → Told → Result Unit ProcessingError → L 
   settled_goes_on old mid new (Err errors.ProofIncomplete) h k a = absurd a
   settled_goes_on old mid new (Err errors.IoError) h k a = absurd a
   settled_goes_on old mid new (Err errors.ParseError) h k a = absurd a
+
+-- the same without those who listen
+module _ (steps : List Step) (step : Step) where
+  pub stops_judges : (old new : Kernel) (e : CheckerError) → kernels.AnswersDelayed (Err e) old new steps → kernels.AnswersStep (Err e) old step new steps
+  stops_judges old new errors.CounterEnd a = (a.0, inl a.2, a.3)
+  stops_judges old new errors.OutOfMemory a = (a.0, a.2)
+  stops_judges old new (errors.ProofProcessorError cause) a = (a.0, a.2)
+  stops_judges old new errors.HasFailed a = a
+  stops_judges old new errors.CheckFailed a = absurd a
+  stops_judges old new errors.ProofIncomplete a = absurd a
+  stops_judges old new errors.IoError a = absurd a
+  stops_judges old new errors.ParseError a = absurd a
+
+  pub goes_on_judges : (old mid new : Kernel) (r : Result Unit CheckerError) → kernels.has_failed old ≡ false → kernels.has_failed mid ≡ false → kernels.AnswersStep r mid step new steps → kernels.AnswersStep r old step new steps
+  goes_on_judges old mid new (Ok x) h k a = (h, a.1)
+  goes_on_judges old mid new (Err errors.CheckFailed) h k a = (h, a.1, a.2)
+  goes_on_judges old mid new (Err errors.CounterEnd) h k a = (h, a.1, a.2)
+  goes_on_judges old mid new (Err errors.OutOfMemory) h k a = (h, a.1)
+  goes_on_judges old mid new (Err (errors.ProofProcessorError cause)) h k a = (h, a.1)
+  goes_on_judges old mid new (Err errors.HasFailed) h k a = absurd (true≢false (sym a.0 ∙ k))
+  goes_on_judges old mid new (Err errors.ProofIncomplete) h k a = absurd a
+  goes_on_judges old mid new (Err errors.IoError) h k a = absurd a
+  goes_on_judges old mid new (Err errors.ParseError) h k a = absurd a
+
+-- nothing is looked at
+pub stops_looks : (steps : List Step) (old new : Kernel) (e : CheckerError) (n : ℕ) → kernels.has_failed old ≡ false → kernels.AnswersDelayed (Err e) old new steps → kernels.looks_of new ≤ kernels.looks_of old + n
+stops_looks steps old new errors.CounterEnd n h a = let q = a.1 in omega arith
+stops_looks steps old new errors.OutOfMemory n h a = let q = a.1 in omega arith
+stops_looks steps old new (errors.ProofProcessorError cause) n h a = let q = a.1 in omega arith
+stops_looks steps old new errors.HasFailed n h a = absurd (true≢false (sym a.0 ∙ h))
+stops_looks steps old new errors.CheckFailed n h a = absurd a
+stops_looks steps old new errors.ProofIncomplete n h a = absurd a
+stops_looks steps old new errors.IoError n h a = absurd a
+stops_looks steps old new errors.ParseError n h a = absurd a

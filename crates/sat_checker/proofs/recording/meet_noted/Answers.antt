@@ -1,9 +1,10 @@
-use Rattle.std.proofs.Common.{◌≡◌, [], ◌∷◌, ap, sym, subst, ◌∙◌}
-use Rattle.sat_checker.specs.inner.Look.{verdict_of}
+use Rattle.std.proofs.Common.{◌≡◌, [], ◌∷◌, Some, refl, ap, sym, subst, ◌∙◌}
+use Rattle.sat_checker.specs.inner.Look.{verdict_of, Extends}
 use Rattle.sat_checker.specs.inner.Reasons.{clause_at, Leads}
 use Rattle.sat_checker.specs.inner.SlotView.{literals_at}
-use Rattle.sat_checker.specs.inner.Walk.{opens, verdict}
-use Rattle.sat_checker.proofs.lemmas.announcements.Noting.{leads_open, read_open}
+use Rattle.sat_checker.specs.inner.Walk.{falsified, opens, rests, verdict, walk_on}
+use Rattle.sat_checker.proofs.lemmas.propagation.Walking.{Extends-itself, Extends-more}
+use Rattle.sat_checker.proofs.lemmas.announcements.Noting.{leads_open, leads_over, ends_there, read_open, read_conflict}
 use Rattle.sat_checker.proofs.recording.meet_noted.Goals as goal
 
 pub returns-in_ok-note-in-Opens-clause-noted : goal.returns-in_ok-note-in-Opens-clause-noted
@@ -16,3 +17,39 @@ returns-in_ok-note-in-Opens-clause-noted c =
 pub returns-in_ok-note-in-Opens-clause-read : goal.returns-in_ok-note-in-Opens-clause-read
 returns-in_ok-note-in-Opens-clause-read c =
     read_open c.args.clauses.now c.args.passed.now c.note.new.self c.args.assigned.now c.args.place c.requires c.in-Opens.lit c.in_ok-note-in-Opens.ensures.noted c.in_ok-note-in-Opens.ensures.conflict
+
+pub returns-in-Falsified-clause-met : goal.returns-in-Falsified-clause-met
+returns-in-Falsified-clause-met c =
+    let v : verdict c.args.assigned.now (literals_at c.args.clauses.now c.args.place) ≡ falsified = ap (verdict c.args.assigned.now) (sym c.literals.ensures.lent) ∙ sym c.look_at.ensures ∙ ap verdict_of c.in-Falsified.is in
+    ap (λ x. walk_on x c.args.assigned.now) v
+
+pub returns-in-Falsified-clause-noted : goal.returns-in-Falsified-clause-noted
+returns-in-Falsified-clause-noted c =
+    let v : verdict c.args.assigned.now (literals_at c.args.clauses.now c.args.place) ≡ falsified = ap (verdict c.args.assigned.now) (sym c.literals.ensures.lent) ∙ sym c.look_at.ensures ∙ ap verdict_of c.in-Falsified.is in
+    ends_there c.args.clauses.now c.args.passed.now (record c.args.passed.now { conflict = Some c.args.place }) c.args.assigned.now c.args.place c.requires v refl refl
+
+pub returns-in-Falsified-clause-read : goal.returns-in-Falsified-clause-read
+returns-in-Falsified-clause-read c = read_conflict c.args.clauses.now c.args.passed.now (record c.args.passed.now { conflict = Some c.args.place }) c.args.assigned.now c.args.place c.requires refl refl
+
+pub returns-in_err-note-in-Opens-clause-extends : goal.returns-in_err-note-in-Opens-clause-extends
+returns-in_err-note-in-Opens-clause-extends c =
+    subst (Extends c.args.assigned.now) (sym c.in_ok-assume-in-Opens.ensures.ok) (Extends-more c.args.assigned.now c.args.assigned.now c.in-Opens.lit (Extends-itself c.args.assigned.now))
+
+pub returns-in_ok-note-in-Opens-clause-met : goal.returns-in_ok-note-in-Opens-clause-met
+returns-in_ok-note-in-Opens-clause-met c =
+    let v : verdict c.args.assigned.now (literals_at c.args.clauses.now c.args.place) ≡ opens c.in-Opens.lit = ap (verdict c.args.assigned.now) (sym c.literals.ensures.lent) ∙ sym c.look_at.ensures ∙ ap verdict_of c.in-Opens.is in
+    ap (λ x. walk_on x c.args.assigned.now) v ∙ ap Some (sym c.in_ok-assume-in-Opens.ensures.ok)
+
+pub returns-in_ok-note-in-Opens-clause-extends : goal.returns-in_ok-note-in-Opens-clause-extends
+returns-in_ok-note-in-Opens-clause-extends c =
+    subst (Extends c.args.assigned.now) (sym c.in_ok-assume-in-Opens.ensures.ok) (Extends-more c.args.assigned.now c.args.assigned.now c.in-Opens.lit (Extends-itself c.args.assigned.now))
+
+pub returns-in-Rests-clause-met : goal.returns-in-Rests-clause-met
+returns-in-Rests-clause-met c =
+    let v : verdict c.args.assigned.now (literals_at c.args.clauses.now c.args.place) ≡ rests = ap (verdict c.args.assigned.now) (sym c.literals.ensures.lent) ∙ sym c.look_at.ensures ∙ ap verdict_of c.in-Rests.is in
+    ap (λ x. walk_on x c.args.assigned.now) v
+
+pub returns-in-Rests-clause-noted : goal.returns-in-Rests-clause-noted
+returns-in-Rests-clause-noted c =
+    let v : verdict c.args.assigned.now (literals_at c.args.clauses.now c.args.place) ≡ rests = ap (verdict c.args.assigned.now) (sym c.literals.ensures.lent) ∙ sym c.look_at.ensures ∙ ap verdict_of c.in-Rests.is in
+    leads_over c.args.clauses.now c.args.passed.now c.args.passed.now c.args.assigned.now c.args.place c.requires v

@@ -1,9 +1,38 @@
-use Rattle.std.proofs.Common.{◌∷◌, sym, subst}
+use Rattle.std.proofs.Common.{◌∷◌, refl, sym, subst}
 use Rattle.sat_checker.specs.inner.SlotView.{IsBucket, literals_at}
-use Rattle.sat_checker.proofs.lemmas.propagation.Walking.{Extends-further, walk_more, walk_ends, walk_over, looks_more, looks_ended, looks_over}
-use Rattle.sat_checker.proofs.lemmas.store.Finding.{walk_first, looks_first, is_full}
+use Rattle.sat_checker.proofs.lemmas.propagation.Walking.{Extends-itself, Extends-further, walk_more, walk_ends, walk_over, looks_more, looks_ended, looks_over}
+use Rattle.sat_checker.proofs.lemmas.store.Finding.{walk_first, walk_first_ends, looks_first, looks_first_ended, is_full}
 use Rattle.sat_checker.proofs.lemmas.announcements.Noting.{leads_first, ends_first, leads_next, ends_next, leads_over_all, read_on, read_further}
 use Rattle.sat_checker.proofs.recording.walk_bucket_noted.Goals as goal
+
+pub returns-in_default-clause-says : goal.returns-in_default-clause-says
+returns-in_default-clause-says c = (c.in_default.ensures.literals, refl)
+
+pub returns-in_default-clause-extends : goal.returns-in_default-clause-extends
+returns-in_default-clause-extends c = Extends-itself c.args.assigned.now
+
+pub returns-in_err-meet_noted-clause-extends : goal.returns-in_err-meet_noted-clause-extends
+returns-in_err-meet_noted-clause-extends c = c.meet_noted.ensures.extends
+
+pub returns-in_err-meet_noted-clause-looks : goal.returns-in_err-meet_noted-clause-looks
+returns-in_err-meet_noted-clause-looks c =
+    looks_first_ended c.args.hash c.args.clauses.now c.in-Some.bucket.now.first c.in-Some.bucket.now.more.items c.in-Some.ensures c.args.looks.now c.meet_noted.new.looks c.meet_noted.ensures.looks
+
+pub returns-then-branch-clause-says : goal.returns-then-branch-clause-says
+returns-then-branch-clause-says c = (
+  is_full c.args.hash c.args.clauses.now c.in-Some.bucket.now.first c.in-Some.bucket.now.more.items c.in-Some.ensures,
+  walk_first_ends c.args.hash c.args.clauses.now c.in-Some.bucket.now.first c.in-Some.bucket.now.more.items c.in-Some.ensures c.args.assigned.now (rw c.if-branch.true at c.in_ok-meet_noted.ensures.met),
+)
+
+pub returns-then-branch-clause-extends : goal.returns-then-branch-clause-extends
+returns-then-branch-clause-extends c = c.meet_noted.ensures.extends
+
+pub returns-then-branch-clause-looks : goal.returns-then-branch-clause-looks
+returns-then-branch-clause-looks c =
+    looks_first_ended c.args.hash c.args.clauses.now c.in-Some.bucket.now.first c.in-Some.bucket.now.more.items c.in-Some.ensures c.args.looks.now c.meet_noted.new.looks c.meet_noted.ensures.looks
+
+pub returns-then-branch-clause-read : goal.returns-then-branch-clause-read
+returns-then-branch-clause-read c = read_on _ _ c.args.looks.now c.meet_noted.new.looks _ c.meet_noted.ensures.looks c.in_ok-meet_noted.ensures.read
 
 pub returns-then-branch-clause-noted : goal.returns-then-branch-clause-noted
 returns-then-branch-clause-noted c =
@@ -34,6 +63,17 @@ loop-place-preserved c = record {
       c.deref-place-items.result.now c.loop-place.place-index c.loop-place-test.true _ c.loop-place.invariant.leads (rw c.if-branch-2.false at c.in_ok-meet_noted-2.ensures.noted);
   read = read_further _ _ _ c.args.looks.now c.loop-place.looks c.meet_noted-in-loop-place.new.looks _ c.loop-place.invariant.read c.meet_noted-in-loop-place.ensures.looks c.in_ok-meet_noted-2.ensures.read;
 }
+
+pub returns-in_err-meet_noted-2-clause-extends : goal.returns-in_err-meet_noted-2-clause-extends
+returns-in_err-meet_noted-2-clause-extends c = Extends-further c.args.assigned.now c.loop-place.assigned c.meet_noted-in-loop-place.new.assigned c.loop-place.invariant.extends c.meet_noted-in-loop-place.ensures.extends
+
+pub returns-in_err-meet_noted-2-clause-looks : goal.returns-in_err-meet_noted-2-clause-looks
+returns-in_err-meet_noted-2-clause-looks c =
+    looks_ended (literals_at c.args.clauses.now) c.deref-place-items.result.now c.loop-place.place-index c.loop-place-test.true _ c.loop-place.looks c.meet_noted-in-loop-place.new.looks
+    c.loop-place.invariant.looks c.meet_noted-in-loop-place.ensures.looks
+
+pub returns-then-branch-2-clause-extends : goal.returns-then-branch-2-clause-extends
+returns-then-branch-2-clause-extends c = Extends-further c.args.assigned.now c.loop-place.assigned c.meet_noted-in-loop-place.new.assigned c.loop-place.invariant.extends c.meet_noted-in-loop-place.ensures.extends
 
 pub returns-then-branch-2-clause-says : goal.returns-then-branch-2-clause-says
 returns-then-branch-2-clause-says c = (
@@ -68,3 +108,9 @@ returns-clause-looks c = looks_over _ c.loop-place.looks _ c.loop-place.invarian
 pub returns-clause-noted : goal.returns-clause-noted
 returns-clause-noted c =
     leads_over_all c.args.clauses.now c.args.passed.now c.loop-place.passed c.args.assigned.now c.loop-place.assigned c.deref-place-items.result.now c.loop-place.place-index c.loop-place-test.false _ c.loop-place.invariant.leads
+
+pub returns-clause-extends : goal.returns-clause-extends
+returns-clause-extends c = c.loop-place.invariant.extends
+
+pub returns-clause-read : goal.returns-clause-read
+returns-clause-read c = c.loop-place.invariant.read

@@ -1,9 +1,36 @@
-use Rattle.std.proofs.Common.{◌≡◌, ◌∷◌, sym, subst, Some, None}
+use Rattle.std.proofs.Common.{◌≡◌, ◌∷◌, refl, sym, subst, Some, None}
 use Rattle.sat_checker.specs.inner.SlotView.{IsBucket, literals_at}
 use Rattle.sat_checker.specs.inner.Walk.{verdict, walk_on}
-use Rattle.sat_checker.proofs.lemmas.propagation.Walking.{Extends-further, walk_more, walk_ends, walk_over, looks_more, looks_ended, looks_over}
-use Rattle.sat_checker.proofs.lemmas.store.Finding.{walk_first, looks_first, is_full}
+use Rattle.sat_checker.proofs.lemmas.propagation.Walking.{Extends-itself, Extends-further, walk_more, walk_ends, walk_over, looks_more, looks_ended, looks_over}
+use Rattle.sat_checker.proofs.lemmas.store.Finding.{walk_first, walk_first_ends, looks_first, looks_first_ended, is_full}
 use Rattle.sat_checker.proofs.rup.walk_bucket.Goals as goal
+
+pub returns-in_default-clause-says : goal.returns-in_default-clause-says
+returns-in_default-clause-says c = (c.in_default.ensures.literals, refl)
+
+pub returns-in_default-clause-extends : goal.returns-in_default-clause-extends
+returns-in_default-clause-extends c = Extends-itself c.args.assigned.now
+
+pub returns-in_err-meet-clause-extends : goal.returns-in_err-meet-clause-extends
+returns-in_err-meet-clause-extends c = c.meet.ensures.extends
+
+pub returns-in_err-meet-clause-looks : goal.returns-in_err-meet-clause-looks
+returns-in_err-meet-clause-looks c =
+    looks_first_ended c.args.hash c.args.clauses.now c.in-Some.bucket.now.first c.in-Some.bucket.now.more.items c.in-Some.ensures c.args.looks.now c.literals.new.looks c.literals.ensures.looks
+
+pub returns-then-branch-clause-says : goal.returns-then-branch-clause-says
+returns-then-branch-clause-says c = (
+  is_full c.args.hash c.args.clauses.now c.in-Some.bucket.now.first c.in-Some.bucket.now.more.items c.in-Some.ensures,
+  walk_first_ends c.args.hash c.args.clauses.now c.in-Some.bucket.now.first c.in-Some.bucket.now.more.items c.in-Some.ensures c.args.assigned.now
+      (subst (λ ls. walk_on (verdict c.args.assigned.now ls) c.args.assigned.now ≡ None) c.literals.ensures.lent (rw c.if-branch.true at c.in_ok-meet.ensures.met)),
+)
+
+pub returns-then-branch-clause-extends : goal.returns-then-branch-clause-extends
+returns-then-branch-clause-extends c = c.meet.ensures.extends
+
+pub returns-then-branch-clause-looks : goal.returns-then-branch-clause-looks
+returns-then-branch-clause-looks c =
+    looks_first_ended c.args.hash c.args.clauses.now c.in-Some.bucket.now.first c.in-Some.bucket.now.more.items c.in-Some.ensures c.args.looks.now c.literals.new.looks c.literals.ensures.looks
 
 pub loop-place-init : goal.loop-place-init
 loop-place-init c =
@@ -25,6 +52,17 @@ loop-place-preserved c = record {
       c.loop-place.invariant.looks c.literals-in-loop-place.ensures.looks;
 }
 
+pub returns-in_err-meet-2-clause-extends : goal.returns-in_err-meet-2-clause-extends
+returns-in_err-meet-2-clause-extends c = Extends-further c.args.assigned.now c.loop-place.assigned c.meet-in-loop-place.new.assigned c.loop-place.invariant.extends c.meet-in-loop-place.ensures.extends
+
+pub returns-in_err-meet-2-clause-looks : goal.returns-in_err-meet-2-clause-looks
+returns-in_err-meet-2-clause-looks c =
+    looks_ended (literals_at c.args.clauses.now) c.deref-place-items.result.now c.loop-place.place-index c.loop-place-test.true _ c.loop-place.looks c.literals-in-loop-place.new.looks
+    c.loop-place.invariant.looks c.literals-in-loop-place.ensures.looks
+
+pub returns-then-branch-2-clause-extends : goal.returns-then-branch-2-clause-extends
+returns-then-branch-2-clause-extends c = Extends-further c.args.assigned.now c.loop-place.assigned c.meet-in-loop-place.new.assigned c.loop-place.invariant.extends c.meet-in-loop-place.ensures.extends
+
 pub returns-then-branch-2-clause-says : goal.returns-then-branch-2-clause-says
 returns-then-branch-2-clause-says c = (
   is_full c.args.hash c.args.clauses.now c.in-Some.bucket.now.first c.in-Some.bucket.now.more.items c.in-Some.ensures,
@@ -45,3 +83,6 @@ returns-clause-says c = (
 
 pub returns-clause-looks : goal.returns-clause-looks
 returns-clause-looks c = looks_over _ c.loop-place.looks _ c.loop-place.invariant.looks
+
+pub returns-clause-extends : goal.returns-clause-extends
+returns-clause-extends c = c.loop-place.invariant.extends

@@ -1,4 +1,4 @@
-use Rattle.std.proofs.Common.{◌≡◌, [], ◌∷◌, ◌++◌, true, false, IsTrue, ◌↔◌, ◌∙◌, ap, subst, map}
+use Rattle.std.proofs.Common.{◌≡◌, [], ◌∷◌, ◌++◌, true, false, IsTrue, ◌↔◌, sym, ◌∙◌, ap, subst, map}
 use Rattle.sat_base.specs.values.Literals.{negated}
 use Rattle.sat_checker.specs.Accepts.{Passes}
 use Rattle.sat_checker.specs.LiteralSets.{canonical}
@@ -31,3 +31,12 @@ returns-clause-noted c = λ _ f k.
 
 pub returns-clause-looks : goal.returns-clause-looks
 returns-clause-looks c = c.check_noted.ensures.looks
+
+pub check_noted-requires : goal.check_noted-requires
+check_noted-requires c = c.deref-3.ensures.value ∙ c.in_ok-copy_canonical.ensures.set ∙ ap canonical (c.deref.ensures.value ∙ sym c.deref-2.ensures.value)
+
+pub returns-in_err-copy_canonical-2-clause-looks : goal.returns-in_err-copy_canonical-2-clause-looks
+returns-in_err-copy_canonical-2-clause-looks c = c.check_noted.ensures.looks
+
+pub returns-in_err-failed_assumptions-clause-looks : goal.returns-in_err-failed_assumptions-clause-looks
+returns-in_err-failed_assumptions-clause-looks c = c.check_noted.ensures.looks

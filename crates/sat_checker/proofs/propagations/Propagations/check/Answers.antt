@@ -1,4 +1,4 @@
-use Rattle.std.proofs.Common.{[], ◌∷◌, ◌++◌, map, sym, ◌∙◌, ap, subst}
+use Rattle.std.proofs.Common.{[], ◌∷◌, ◌++◌, length, map, sym, ◌∙◌, ap, subst}
 use Rattle.std.proofs.lemmas.Bool.{true≢false}
 use Rattle.sat_base.specs.values.Literals.{negated}
 use Rattle.sat_checker.specs.Stored.{StoredUnit, unit_literals}
@@ -6,8 +6,9 @@ use Rattle.sat_checker.specs.announcements.Needed.{ground, conflict_ids, true_un
 use Rattle.sat_checker.specs.inner.Marks.{IsIncreasing}
 use Rattle.sat_checker.specs.inner.Reasons.{named}
 use Rattle.sat_checker.proofs.lemmas.sets.Canonical.{canonical_increasing}
+use Rattle.sat_checker.specs.Looks.{literal_count}
 use Rattle.sat_checker.proofs.lemmas.store.Keeping.{named_same}
-use Rattle.sat_checker.proofs.lemmas.announcements.Cases.{met_conflict, none_of_signs, unit_of_literals, ids_of_conflict}
+use Rattle.sat_checker.proofs.lemmas.announcements.Cases.{looks_followed, met_conflict, none_of_signs, unit_of_literals, ids_of_conflict}
 use Rattle.sat_checker.proofs.propagations.Propagations.check.Goals as goal
 
 pub returns-then-not-branch-clause-exact : goal.returns-then-not-branch-clause-exact
@@ -51,3 +52,10 @@ returns-clause-listed c = λ _ f k e i.
     ∙ ap (λ us. conflict_ids denied (ground (denied ++ map (λ (u : StoredUnit). u.literal) us) noted) f.units) e
     ∙ ap (λ cs. conflict_ids denied (ground (denied ++ unit_literals f) cs) f.units) (named_same c.args.store.now f k c.args.hashes.now)
     ∙ sym (ids_of_conflict c.args.clause.now c.args.literals.now c.requires f c.args.hashes.now (sym c.has_both_signs.ensures ∙ c.if-has_both_signs.false) (ap (true_unit c.args.literals.now) (sym e) ∙ none))
+
+-- the looks of the check are taken once more at most
+pub returns-in_err-list_conflict-clause-looks : goal.returns-in_err-list_conflict-clause-looks
+returns-in_err-list_conflict-clause-looks c = λ f k. looks_followed c.args.looks.now c.check_noted.new.looks c.list_conflict.new.looks _ (length c.args.hashes.now) (literal_count f) (c.check_noted.ensures.looks f k) c.in_ok-check_noted.ensures.read c.list_conflict.ensures.looks
+
+pub returns-clause-looks : goal.returns-clause-looks
+returns-clause-looks c = λ f k. looks_followed c.args.looks.now c.check_noted.new.looks c.list_conflict.new.looks _ (length c.args.hashes.now) (literal_count f) (c.check_noted.ensures.looks f k) c.in_ok-check_noted.ensures.read c.list_conflict.ensures.looks
