@@ -1,12 +1,17 @@
 -- Worked rows of names, modes, answers and propagations, and of transcripts, by computing.
-use Rattle.std.proofs.Common.{◌≢◌, ◌||◌, Bool, true, false, cond, eqb, [], ◌∷◌, refl, inr, Some, None}
+use Rattle.std.proofs.Common.{ℕ, ◌≡◌, ◌≢◌, ◌||◌, Bool, true, false, cond, eqb, List, [], ◌∷◌, ◌++◌, map, refl, sym, ◌∙◌, ap, subst, inr, Some, None}
+use Rattle.std.proofs.lemmas.List.{append-nil, map-append}
+use Rattle.sat_base.specs.values.Literals.{negated}
 use Rattle.sat_base.specs.values.Hashes.{hash_of}
-use Rattle.sat_base.specs.steps.Steps.{AddClause, Assumptions}
-use Rattle.sat_checker.specs.Accepts.{MayGetName}
-use Rattle.sat_checker.specs.Stored.{Sample, Witness, unknown}
+use Rattle.sat_base.specs.steps.Steps.{Step, AddClause, AtClause, Assumptions}
+use Rattle.sat_checker.specs.Accepts.{Passes, MayGetName, stored_after, ready_after}
+use Rattle.sat_checker.specs.Stored.{Sample, Witness, Stored, StoredClause, bucket, unit_literals, unknown}
 use Rattle.sat_checker.specs.Propagation.{unit_true, tautology}
-use Rattle.sat_checker.specs.Rows.{ready_by}
-use Rattle.sat_checker.specs.announcements.Rows.{NameNew, as_witness, NameOfKnown, NameRemoved, SolverNameSet, ModeChanged, ModeLeft, ModeOfNameless, Modelled, Assumed, CoreFailed, CoreOfBothSigns, OthersTell, units_and_clauses, UnitsFirst, UnitsHeld, PassedNotNeeded, UnitAlone, NameNewRead, NameOfKnownRead, NameRemovedRead, ModesRead, InputsRead, RefutedRead, OthersRead, AnswersRead}
+use Rattle.sat_checker.specs.Rows.{AllAccepted, behind, ready_by}
+use Rattle.sat_checker.specs.inner.Walk.{walk_buckets}
+use Rattle.sat_checker.specs.announcements.Announcements as tells
+use Rattle.sat_checker.specs.announcements.Announcements.{Announcement, Told, announced, delayed, told_after, told_over}
+use Rattle.sat_checker.specs.announcements.Rows.{announcements_of, NameNew, as_witness, NameOfKnown, NameRemoved, SolverNameSet, ModeChanged, ModeLeft, ModeOfNameless, Modelled, Assumed, CoreFailed, CoreOfBothSigns, OthersTell, units_and_clauses, UnitsFirst, UnitsHeld, PassedNotNeeded, UnitAlone, NameNewRead, NameOfKnownRead, NameRemovedRead, ModesRead, InputsRead, RefutedRead, OthersRead, AnswersRead}
 use Rattle.sat_checker.proofs.lemmas.rows.Accepted.{walked}
 use Rattle.sat_checker.proofs.lemmas.announcements.Told.{first_name}
 use Rattle.sat_checker.proofs.lemmas.announcements.Clauses.{input_new, input_duplicate, input_tautology, derived_irredundant, redundant_gone, satisfied_kept}
@@ -55,23 +60,51 @@ both_signs = ((((tt, inr (refl, tt)), tt), (refl, tautology refl)), refl)
 pub others_tell : OthersTell
 others_tell = (((tt, tt), refl), ((tt, tt), refl), (((tt, inr (refl, tt)), record { known = refl; nameless = refl; unused = refl; not_assumed = refl }), refl))
 
+-- what is told over any variables is what was to be told
+told_again : (f : Stored) (xs : List Announcement) → announcements_of (told_over f xs) ≡ xs
+told_again f [] = refl
+told_again f (x ∷ xs) = ap (λ ys. x ∷ ys) (told_again f xs)
+
+-- the last step's announcements come behind those before it, where nothing was delayed
+tells_last : (earlier : List Step) (last : Step) (told : List Announcement) → delayed (stored_after earlier) ≡ [] → announced (ready_after earlier) last ≡ told → announcements_of (told_after (last ∷ earlier)) ≡ announcements_of (told_after earlier) ++ told
+tells_last earlier last told d a =
+    let s : Stored = stored_after earlier in
+    let r : Stored = ready_after earlier in
+    let waiting = map-append (λ (t : Told). t.announcement) (told_after earlier) (told_over s (delayed s)) ∙ ap (λ xs. announcements_of (told_after earlier) ++ xs) (told_again s (delayed s) ∙ d) ∙ append-nil (announcements_of (told_after earlier)) in
+    map-append (λ (t : Told). t.announcement) (told_after earlier ++ told_over s (delayed s)) (told_over r (announced r last)) ∙ ap (λ xs. xs ++ announcements_of (told_over r (announced r last))) waiting
+    ∙ ap (λ xs. announcements_of (told_after earlier) ++ xs) (told_again r (announced r last) ∙ a)
+
+abbrev long : ℕ → List ℕ → StoredClause
+long id literals = record { id = id; literals = literals; irredundant = 1; redundant = 0 }
+
+-- what units_and_clauses leaves, computed once
+abbrev held : Stored
+held = record (ready_by units_and_clauses) {
+  clauses = long 2 (3 ∷ 4 ∷ 8 ∷ []) ∷ long 3 (1 ∷ 6 ∷ []) ∷ long 4 (10 ∷ 12 ∷ []) ∷ long 5 (5 ∷ 7 ∷ 8 ∷ []) ∷ [];
+  units = (record { id = 0; literal = 0 }) ∷ (record { id = 1; literal = 2 }) ∷ [];
+  next_id = 6;
+}
+
+held_is : ready_by units_and_clauses ≡ held
+held_is = refl
+
+all_taken : AllAccepted units_and_clauses
+all_taken = (((((((tt, inr (refl, tt)), inr (refl, tt)), inr (refl, (refl, (refl, tt)))), inr (refl, (refl, tt))), inr (refl, (refl, tt))), inr (refl, (refl, (refl, tt)))), tt)
+
+behind_them : (last : Step) (told : List Announcement) → announced held last ≡ told → announcements_of (told_after (last ∷ behind units_and_clauses [])) ≡ announcements_of (told_after (behind units_and_clauses [])) ++ told
+behind_them last told a = tells_last (behind units_and_clauses []) last told refl (ap (λ f. announced f last) held_is ∙ a)
+
+passes_there : (clause : List ℕ) → walk_buckets (map negated clause ++ unit_literals held) (map (bucket held) (0 ∷ [])) ≡ true → Passes (ready_by units_and_clauses) clause (0 ∷ [])
+passes_there clause e = subst (λ f. Passes f clause (0 ∷ [])) (sym held_is) (walked held clause (0 ∷ []) e)
+
 pub units_first : UnitsFirst
-units_first = (
-  ((((((((tt, inr (refl, tt)), inr (refl, tt)), inr (refl, (refl, (refl, tt)))), inr (refl, (refl, tt))), inr (refl, (refl, tt))), inr (refl, (refl, (refl, tt)))), tt), walked (ready_by units_and_clauses) (8 ∷ 14 ∷ []) (0 ∷ []) refl),
-  refl,
-)
+units_first = ((all_taken, passes_there (8 ∷ 14 ∷ []) refl), behind_them (AtClause true (8 ∷ 14 ∷ []) (0 ∷ [])) (tells.AtClause 6 true (8 ∷ 14 ∷ []) (0 ∷ 1 ∷ 2 ∷ 3 ∷ 5 ∷ []) ∷ []) refl)
 
 pub units_held : UnitsHeld
-units_held = (
-  (units_first.0.0, walked (ready_by units_and_clauses) (8 ∷ 1 ∷ 3 ∷ []) (0 ∷ []) refl),
-  refl,
-)
+units_held = ((all_taken, passes_there (8 ∷ 1 ∷ 3 ∷ []) refl), behind_them (AtClause true (8 ∷ 1 ∷ 3 ∷ []) (0 ∷ [])) (tells.AtClause 6 true (1 ∷ 3 ∷ 8 ∷ []) (2 ∷ 3 ∷ 5 ∷ []) ∷ []) refl)
 
 pub not_needed : PassedNotNeeded
-not_needed = (
-  (units_first.0.0, walked (ready_by units_and_clauses) (8 ∷ 10 ∷ []) (0 ∷ []) refl),
-  refl,
-)
+not_needed = ((all_taken, passes_there (8 ∷ 10 ∷ []) refl), behind_them (AtClause true (8 ∷ 10 ∷ []) (0 ∷ [])) (tells.AtClause 6 true (8 ∷ 10 ∷ []) (0 ∷ 1 ∷ 2 ∷ 3 ∷ 5 ∷ []) ∷ []) refl)
 
 pub unit_alone : UnitAlone
 unit_alone = (((((tt, inr (refl, tt)), inr (refl, tt)), inr (refl, (refl, tt))), unit_true refl), refl)
