@@ -27,7 +27,7 @@ use sat_base::{ClauseHash, HashBits, Lit, Var};
 use std::alloc::{AllocError, Global};
 
 /// Why a clause can't be stored.
-#[derive(Clone, Copy, Debug, Drop)]
+#[derive(Clone, Copy, Drop)]
 pub(crate) enum StoreError {
     OutOfMemory,
     CounterEnd,
