@@ -4,3 +4,4 @@ pub mod Units
 pub mod Living
 pub mod Models
 pub mod Forgetting
+pub mod Kinds

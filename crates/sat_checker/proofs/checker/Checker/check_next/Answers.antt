@@ -34,3 +34,21 @@ returns-clause-steps_on g c = λ before begun earlier stands.
       c.is_end.ensures,
       (a.1.stands, a.1.goes_on),
     )
+
+pub returns-in-Err-clause-same : goal.returns-in-Err-clause-same
+returns-in-Err-clause-same g c = c.advance.ensures.same
+
+pub returns-in-Err-clause-bound : goal.returns-in-Err-clause-bound
+returns-in-Err-clause-bound g c = c.advance.ensures.bound
+
+pub returns-in_err-check_step-clause-same : goal.returns-in_err-check_step-clause-same
+returns-in_err-check_step-clause-same g c = c.advance.ensures.same
+
+pub returns-in_err-check_step-clause-bound : goal.returns-in_err-check_step-clause-bound
+returns-in_err-check_step-clause-bound g c = c.advance.ensures.bound
+
+pub returns-clause-same : goal.returns-clause-same
+returns-clause-same g c = c.advance.ensures.same
+
+pub returns-clause-bound : goal.returns-clause-bound
+returns-clause-bound g c = c.advance.ensures.bound

@@ -1,7 +1,8 @@
-use Rattle.std.proofs.Common.{◌∷◌, ◌∙◌, ap, sym, subst}
+use Rattle.std.proofs.Common.{◌<◌, ◌∷◌, length, ◌∙◌, ap, sym, subst, arith}
+use Rattle.std.specs.List.{AllByRecursion}
 use Rattle.std.proofs.lemmas.List.{drop_all}
 use Rattle.sat_checker.specs.inner.SlotView.{IsBucket, literals_at, found_among}
-use Rattle.sat_checker.proofs.lemmas.propagation.Walking.{looks_more, looks_ended, looks_over}
+use Rattle.sat_checker.proofs.lemmas.propagation.Walking.{each_place, looks_more, looks_ended, looks_over}
 use Rattle.sat_checker.proofs.lemmas.store.Finding.{found_first, found_behind, found_here, found_later, looks_first}
 use Rattle.sat_checker.proofs.clauses.Clauses.find.Goals as goal
 
@@ -47,3 +48,14 @@ returns-clause-found c = sym (c.loop-place.invariant.found ∙ ap (found_among c
 
 pub returns-clause-looks : goal.returns-clause-looks
 returns-clause-looks c = looks_over _ c.loop-place.looks _ c.loop-place.invariant.looks
+
+pub is_same-requires : goal.is_same-requires
+is_same-requires c = c.in-Some.ensures.within.0
+
+pub is_same-requires-in-loop-place : goal.is_same-requires-in-loop-place
+is_same-requires-in-loop-place c =
+    each_place (λ p. p < length c.args.self.now) c.deref-place-items.result.now c.loop-place.place-index
+    (subst (AllByRecursion (λ p. p < length c.args.self.now)) (sym c.deref-place-items.ensures.value) c.in-Some.ensures.within.1) c.loop-place-test.true
+
+pub returns-in_default-clause-looks : goal.returns-in_default-clause-looks
+returns-in_default-clause-looks c = omega arith
