@@ -139,8 +139,12 @@ impl<P: ProofProcessor, T: ProofTranscriptProcessor> Checker<P, T> {
             return Err(unread_error(error));
         }
         let step = steps.step();
-        self.kernel
-            .check_step(&step, own, has_own, &mut self.processing)?;
-        Ok(is_end(&step))
+        match self
+            .kernel
+            .check_step(&step, own, has_own, &mut self.processing)
+        {
+            Ok(()) => Ok(is_end(&step)),
+            Err(error) => Err(error),
+        }
     }
 }

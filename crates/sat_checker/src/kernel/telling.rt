@@ -102,8 +102,10 @@ impl Kernel {
         if !has_own && others.is_quiet() {
             return self.judge(step);
         }
-        self.settle(own, others)?;
-        self.step(step, own, others)
+        match self.settle(own, others) {
+            Ok(()) => self.step(step, own, others),
+            Err(error) => Err(error),
+        }
     }
 
     /// The empty clause of a pending unit conflict takes the next id, and is told.

@@ -1,5 +1,4 @@
 use Rattle.std.proofs.Common.{sym, subst}
-use Rattle.std.proofs.lemmas.Result.{err_from_is_err_and}
 use Rattle.sat_base.specs.steps.StepReading.{reader_source, step_in}
 use Rattle.sat_base.specs.steps.StepText.{SpellsStep}
 use Rattle.sat_base.specs.steps.StepViews.{step_of}
@@ -16,21 +15,20 @@ returns-in-Err-clause-steps_on g c = λ before begun earlier stands.
     rw (c.unread_error.ensures, c.is_final-self.ensures)
     (unread_answer (HearsFirst g.O.ProofProcessor.takes (HearsEach g.P.ProofProcessor.takes g.T.ProofTranscriptProcessor.reads)) before begun S (seen_with c.args.own.now c.args.self.now) c.args.steps.now c.advance.new.self c.in-Err.error (step_in c.advance.new.self) earlier c.requires.well c.requires.open_yet c.in-Err.ensures stands)
 
-pub returns-in_err-check_step-clause-steps_on : goal.returns-in_err-check_step-clause-steps_on
-returns-in_err-check_step-clause-steps_on g c = λ before begun earlier stands.
+pub returns-in-Err-check_step-clause-steps_on : goal.returns-in-Err-check_step-clause-steps_on
+returns-in-Err-check_step-clause-steps_on g c = λ before begun earlier stands.
     let S = g.R.CountedRead.seen in
     let n = c.in_default.ensures.answer in
-    let p = err_from_is_err_and c.from_residual.result c.from_residual.ensures.1 in
-    rw (p.1, p.2) (step_stops (HearsFirst g.O.ProofProcessor.takes (HearsEach g.P.ProofProcessor.takes g.T.ProofTranscriptProcessor.reads)) before begun (turn (seen_with c.args.own.now c.args.self.now) (reader_source S c.args.steps.now)) (turn _ (reader_source S c.advance.new.self)) c.in_err-check_step.field-0.0 earlier (step_of c.step-step.result) c.requires.well
-    (record { text = n.0; passes = n.1; spelt = subst (λ z. SpellsStep z n.0) (sym c.step-step.ensures) n.2; looks = c.in_err-check_step.ensures.looks earlier stands.kernel })
-    (c.in_err-check_step.ensures.tells before begun earlier stands))
+    step_stops (HearsFirst g.O.ProofProcessor.takes (HearsEach g.P.ProofProcessor.takes g.T.ProofTranscriptProcessor.reads)) before begun (turn (seen_with c.args.own.now c.args.self.now) (reader_source S c.args.steps.now)) (turn _ (reader_source S c.advance.new.self)) c.in-Err-check_step.error earlier (step_of c.step-step.result) c.requires.well
+    (record { text = n.0; passes = n.1; spelt = subst (λ z. SpellsStep z n.0) (sym c.step-step.ensures) n.2; looks = c.in-Err-check_step.ensures.looks earlier stands.kernel })
+    (c.in-Err-check_step.ensures.tells before begun earlier stands)
 
-pub returns-clause-steps_on : goal.returns-clause-steps_on
-returns-clause-steps_on g c = λ before begun earlier stands.
+pub returns-in-Ok-clause-steps_on : goal.returns-in-Ok-clause-steps_on
+returns-in-Ok-clause-steps_on g c = λ before begun earlier stands.
     let n = c.in_default.ensures.answer in
-    let a = c.in_ok-check_step.ensures.tells before begun earlier stands in (
+    let a = c.in-Ok.ensures.tells before begun earlier stands in (
       step_of c.step-step.result,
-      record { text = n.0; passes = n.1; spelt = subst (λ z. SpellsStep z n.0) (sym c.step-step.ensures) n.2; looks = c.in_ok-check_step.ensures.looks earlier stands.kernel },
+      record { text = n.0; passes = n.1; spelt = subst (λ z. SpellsStep z n.0) (sym c.step-step.ensures) n.2; looks = c.in-Ok.ensures.looks earlier stands.kernel },
       c.is_end.ensures,
       (a.1.stands, a.1.goes_on),
     )
@@ -41,14 +39,14 @@ returns-in-Err-clause-same g c = c.advance.ensures.same
 pub returns-in-Err-clause-bound : goal.returns-in-Err-clause-bound
 returns-in-Err-clause-bound g c = c.advance.ensures.bound
 
-pub returns-in_err-check_step-clause-same : goal.returns-in_err-check_step-clause-same
-returns-in_err-check_step-clause-same g c = c.advance.ensures.same
+pub returns-in-Err-check_step-clause-same : goal.returns-in-Err-check_step-clause-same
+returns-in-Err-check_step-clause-same g c = c.advance.ensures.same
 
-pub returns-in_err-check_step-clause-bound : goal.returns-in_err-check_step-clause-bound
-returns-in_err-check_step-clause-bound g c = c.advance.ensures.bound
+pub returns-in-Err-check_step-clause-bound : goal.returns-in-Err-check_step-clause-bound
+returns-in-Err-check_step-clause-bound g c = c.advance.ensures.bound
 
-pub returns-clause-same : goal.returns-clause-same
-returns-clause-same g c = c.advance.ensures.same
+pub returns-in-Ok-clause-same : goal.returns-in-Ok-clause-same
+returns-in-Ok-clause-same g c = c.advance.ensures.same
 
-pub returns-clause-bound : goal.returns-clause-bound
-returns-clause-bound g c = c.advance.ensures.bound
+pub returns-in-Ok-clause-bound : goal.returns-in-Ok-clause-bound
+returns-in-Ok-clause-bound g c = c.advance.ensures.bound
