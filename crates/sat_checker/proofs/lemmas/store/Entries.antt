@@ -91,7 +91,7 @@ slots_set buffer es value i e s is same = map-set (slot_of buffer) es i e ∙ ap
 
 -- what the setting functions leave
 module _ (buffer : List ℕ) (es : List Entry) (value : List Slot) (i : ℕ) (x : Entry) (is : map (slot_of buffer) es ≡ value) (inside : i < length value) (read : x ≡ get_or es i x) where
-  the_slot : slot_of buffer x ≡ slot_at value i
+  pub the_slot : slot_of buffer x ≡ slot_at value i
   the_slot = slot_read buffer es value i x is inside read
 
   pub counted_true : map (slot_of buffer) (slice_set es i (record x { redundant = x.redundant + 1 })) ≡ with_count_at true i value
