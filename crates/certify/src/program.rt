@@ -3,7 +3,7 @@ ghost use Rattle.std.specs.Prelude.{◌≡◌, ◌≤◌, ◌↔◌, IfOk, OnOk,
 ghost use Rattle.sat_base.specs.device.Device.{Takes};
 ghost use Rattle.certify.specs.run.FinishedRun.{gave, took};
 ghost use Rattle.certify.specs.declared.verdict.Verdict.TheVariants.{Yes};
-ghost use Rattle.certify.specs.program.Printing.{Prints, PrintsVerdict, confirm_fault_text, is_malformed, run_fault_text};
+ghost use Rattle.certify.specs.program.Printing.{Prints, PrintsVerdict, confirm_fault_text, fault_text, is_malformed, run_fault_text};
 ghost use Rattle.sat_base.specs.script.Script.{reading};
 
 mod verdict_line;
@@ -36,7 +36,9 @@ enum Fault {
 
 impl Fault {
     /// The word that standard error has for it.
-    fn name(&self) -> &'static str {
+    fn name(&self) -> &'static str
+        ensures { result.now ≡ fault_text self.now }
+    {
         match *self {
             Fault::Run(fault) => run_fault_name(fault),
             Fault::Confirm(fault) => confirm_fault_name(fault),

@@ -12,6 +12,8 @@ use Rattle.certify.specs.declared.verdict.ConfirmFault.{ConfirmFault}
 use Rattle.certify.specs.declared.verdict.ConfirmFault.TheVariants as confirm_fault
 use Rattle.certify.specs.declared.fault.RunFault.{RunFault}
 use Rattle.certify.specs.declared.fault.RunFault.TheVariants as run_fault
+use Rattle.certify.specs.declared.program.Fault.{Fault}
+use Rattle.certify.specs.declared.program.Fault.TheVariants as fault
 
 -- the word of each cause
 abbrev pub why_text : Why → List ℕ
@@ -43,6 +45,11 @@ confirm_fault_text confirm_fault.AnswersRead = codes "AnswersRead"
 confirm_fault_text confirm_fault.CertificateRead = codes "CertificateRead"
 confirm_fault_text confirm_fault.OutOfMemory = codes "OutOfMemory"
 confirm_fault_text confirm_fault.CounterEnd = codes "CounterEnd"
+
+-- the word of each fault of the program
+abbrev pub fault_text : Fault → List ℕ
+fault_text (fault.Run f) = run_fault_text f
+fault_text (fault.Confirm f) = confirm_fault_text f
 
 -- `c confirmed`, or `c not confirmed ASK WHY`, with LF
 abbrev pub verdict_text : Verdict → List ℕ
