@@ -1,5 +1,5 @@
 //! Formulas' texts, read in any pieces.
-ghost use Rattle.std.specs.Prelude.{◌≡◌, ◌≤◌, ◌<◌, ◌+◌, ◌++◌, ◌⊎◌, length, OnOk, IsErrOf};
+ghost use Rattle.std.specs.Prelude.{◌≡◌, ◌≤◌, ◌<◌, ◌+◌, ◌++◌, ◌⊎◌, length, Ok, Err, IfOk, IfErr, OnOk, IsErrOf};
 ghost use Rattle.sat_base.specs.device.Device.{most_reads, ReadFails, GaveEnough};
 ghost use Rattle.sat_base.specs.values.Literals.{largest};
 ghost use Rattle.sat_base.specs.text.Text.{header_of};
@@ -41,6 +41,24 @@ impl Model for DimacsParser {
     ghost view = { λ d. progress_of d.parser };
 
     ghost invariant = { λ d. IsParser d.parser };
+}
+
+/// The closure's refusal, or else the parser's answer.
+fn refusal_or<E: Drop>(
+    seen: Result<(), E>,
+    answer: Result<(), DimacsError>,
+) -> Result<(), IncrementalError<E>>
+    ensures refused { IfErr seen (λ e. result ≡ Err (IncrementalError.Caller e)) }
+    ensures fault { OnOk seen (IfErr answer (λ e. result ≡ Err (IncrementalError.Dimacs e))) }
+    ensures well { OnOk seen (IfOk answer (λ u. result ≡ Ok u)) }
+{
+    match seen {
+        Err(e) => Err(IncrementalError::Caller(e)),
+        Ok(()) => match answer {
+            Err(e) => Err(IncrementalError::Dimacs(e)),
+            Ok(()) => Ok(()),
+        },
+    }
 }
 
 impl DimacsParser {
@@ -194,22 +212,11 @@ impl DimacsParser {
             match reader.read_counted(&mut piece) {
                 Ok(0) => {
                     let answer = self.finish();
-                    if let Err(e) = closure(self) {
-                        return Err(IncrementalError::Caller(e));
-                    }
-                    if let Err(e) = answer {
-                        return Err(IncrementalError::Dimacs(e));
-                    }
-                    return Ok(());
+                    return refusal_or(closure(self), answer);
                 }
                 Ok(count) => {
                     let answer = self.feed(&piece[..count]);
-                    if let Err(e) = closure(self) {
-                        return Err(IncrementalError::Caller(e));
-                    }
-                    if let Err(e) = answer {
-                        return Err(IncrementalError::Dimacs(e));
-                    }
+                    refusal_or(closure(self), answer)?;
                 }
                 Err(_) => return Err(IncrementalError::Dimacs(DimacsError::Read)),
             }

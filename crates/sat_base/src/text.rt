@@ -21,7 +21,7 @@ pub enum Token {
 }
 
 /// Where a tokenizer is in the text. A flag says whether a header may still come; where there is none, none may.
-#[derive(Clone, Copy, Debug, Drop)]
+#[derive(Clone, Copy, Drop)]
 enum Place {
     /// At the start of a line.
     Fresh(bool),
@@ -51,7 +51,7 @@ enum Place {
 /// Blanks are space, tab, CR and LF, and a word is a longest run of other bytes. A line ends at LF. A line whose first byte
 /// that is no blank is `c` is a comment, one whose first is `%` ends the text, and one whose first is `p` is a header line, which
 /// gives one token. A header may stand once, before the first word of other lines.
-#[derive(Debug, Drop)]
+#[derive(Drop)]
 pub struct Tokenizer {
     place: Place,
     /// The lines that have ended, held at 2^64-1.

@@ -6,3 +6,4 @@ pub mod ParseAnswers
 pub mod Parsed
 pub mod DimacsRowsComputed
 pub mod DimacsSpellings
+pub mod Parts

@@ -84,10 +84,7 @@ impl<R: CountedRead> Input<'_, R> {
         requires { IsTrue (has_lists tag) }
         ensures { Got (Behind tag) (valued (step_held lists.new) result) R.seen self.old self.new }
     {
-        if tag == 5 {
-            self.literals(&mut lists.literals)?;
-            Ok(Kind::AddClause)
-        } else if tag == 6 {
+        if tag == 6 {
             let redundant = self.flag_and_lists(lists)?;
             Ok(Kind::AtClause { redundant })
         } else if tag == 7 {
@@ -96,15 +93,18 @@ impl<R: CountedRead> Input<'_, R> {
         } else if tag == 8 {
             let proof = self.clause_and_deletion(lists)?;
             Ok(Kind::DeleteClause { proof })
-        } else if tag == 10 {
-            self.literals(&mut lists.literals)?;
-            Ok(Kind::Model)
-        } else if tag == 11 {
-            self.literals(&mut lists.literals)?;
-            Ok(Kind::Assumptions)
-        } else {
+        } else if tag == 12 {
             self.both_lists(lists)?;
             Ok(Kind::FailedAssumptions)
+        } else {
+            self.literals(&mut lists.literals)?;
+            if tag == 5 {
+                Ok(Kind::AddClause)
+            } else if tag == 10 {
+                Ok(Kind::Model)
+            } else {
+                Ok(Kind::Assumptions)
+            }
         }
     }
 

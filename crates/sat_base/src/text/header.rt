@@ -7,7 +7,7 @@ ghost use Rattle.sat_base.specs.text.Tokenizing.{BeganHeader, MovesHeader, IsAtH
 use super::{grown, is_digit};
 
 /// The words of the line that have ended. Numbers are held at 2^64-1.
-#[derive(Clone, Copy, Debug, Drop)]
+#[derive(Clone, Copy, Drop)]
 pub(crate) enum Stage {
     /// `p`.
     Named,
@@ -20,7 +20,7 @@ pub(crate) enum Stage {
 }
 
 /// Where a tokenizer is in the line. Numbers are held at 2^64-1.
-#[derive(Clone, Copy, Debug, Drop)]
+#[derive(Clone, Copy, Drop)]
 pub(crate) enum HeaderPlace {
     /// Behind the blanks that ended these words.
     Between(Stage),

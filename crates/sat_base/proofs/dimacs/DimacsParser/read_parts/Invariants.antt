@@ -8,7 +8,7 @@ use Rattle.sat_base.proofs.dimacs.DimacsParser.read_parts.Given as goal
 
 abbrev pub invariant-loop : goal.invariant-loop
 invariant-loop g l = record {
-  always : always_mut g.F.FnMut l.initial.closure → always_mut g.F.FnMut l.closure;
+  always : always_mut g.F.FnMut l.closure;
   visited : (pieces : List (List ℕ)) × FoldsTo (FeedsAndVisits (λ f p r q h. goal.F-step g f p r q h)) (l.initial.closure, no_progress) pieces (l.closure, l.self)
       × GaveFront (g.R.CountedRead.seen l.fn.reader) (g.R.CountedRead.seen l.reader) (concat pieces)
       × (KeepsText (λ f p r q h. goal.F-step g f p r q h) l.initial.closure → KeepsText (λ f p r q h. goal.F-step g f p r q h) l.closure × Stands (concat pieces) l.self)

@@ -1,20 +1,32 @@
-use Rattle.std.proofs.Common.{◌≡◌, sym, rules}
+use Rattle.std.proofs.Common.{◌≡◌, ℕ, Bool, true, false, Result, Err, nat_eq, refl, sym, rules, arith}
+use Rattle.std.proofs.lemmas.Bool.Decides.{nat_tests}
 use Rattle.std.proofs.lemmas.Result.{err_from_is_err_and}
-use Rattle.sat_base.specs.device.Reading.{source_of}
+use Rattle.sat_base.specs.declared.steps.error.StepError.{StepError}
+use Rattle.sat_base.specs.steps.Steps.{Step}
+use Rattle.sat_base.specs.steps.StepText.{AreLiterals}
+use Rattle.sat_base.specs.device.Reading.{Source, Reads, Behind, source_of, valued}
 use Rattle.sat_base.proofs.lemmas.steps.TagForms.{stops_behind, clause_form, at_form, units_form, deletion_form, model_form, assumptions_form, failed_form}
 use Rattle.sat_base.proofs.device.input.Input.list_fields.Goals as goal
+
+-- behind a tag with literals alone
+literals_stop : {X : Type 0} (tag : ℕ) (five ten : Bool) → nat_eq tag 5 ≡ five → nat_eq tag 10 ≡ ten → (nat_eq tag 5 ≡ false → nat_eq tag 10 ≡ false → 11 ≡ tag)
+    → (g : X → Step) (r : Result X StepError) (d e : StepError) (old new : Source) → r ≡ Err d → d ≡ e → Reads AreLiterals (Err e) old new → Reads (Behind tag) (valued g r) old new
+literals_stop tag true ten f t other g r d e old new p q h = stops_behind 5 tag _ _ clause_form g r d e old new p q (grind (arith, nat_tests)) h
+literals_stop tag false true f t other g r d e old new p q h = stops_behind 10 tag _ _ model_form g r d e old new p q (grind (arith, nat_tests)) h
+literals_stop tag false false f t other g r d e old new p q h = stops_behind 11 tag _ _ assumptions_form g r d e old new p q (sym (other f t)) h
 
 pub returns-in_err-literals : goal.returns-in_err-literals
 returns-in_err-literals g c =
     let S = source_of g.R.CountedRead.seen in
-    let p = err_from_is_err_and c.from_residual.result c.from_residual.ensures.1 in
-    stops_behind 5 c.args.tag _ _ clause_form _ c.from_residual.result _ c.in_err-literals.field-0.0 (S c.args.self.now) (S c.literals.new.self) p.1 p.2 c.if-tag-eq5.true c.in_err-literals.ensures
+    let p = err_from_is_err_and c.from_residual-in_err-literals.result c.from_residual-in_err-literals.ensures.1 in
+    let other : nat_eq c.args.tag 5 ≡ false → nat_eq c.args.tag 10 ≡ false → 11 ≡ c.args.tag = λ f t. grind rules in
+    literals_stop c.args.tag _ _ refl refl other _ c.from_residual-in_err-literals.result _ c.in_err-literals.field-0.0 (S c.args.self.now) (S c.literals.new.self) p.1 p.2 c.in_err-literals.ensures
 
 pub returns-in_err-redundant : goal.returns-in_err-redundant
 returns-in_err-redundant g c =
     let S = source_of g.R.CountedRead.seen in
-    let p = err_from_is_err_and c.from_residual-in_err-redundant.result c.from_residual-in_err-redundant.ensures.1 in
-    stops_behind 6 c.args.tag _ _ at_form _ c.from_residual-in_err-redundant.result _ c.in_err-redundant.field-0.0 (S c.args.self.now) (S c.flag_and_lists.new.self) p.1 p.2 c.if-tag-eq6.true c.in_err-redundant.ensures
+    let p = err_from_is_err_and c.from_residual.result c.from_residual.ensures.1 in
+    stops_behind 6 c.args.tag _ _ at_form _ c.from_residual.result _ c.in_err-redundant.field-0.0 (S c.args.self.now) (S c.flag_and_lists.new.self) p.1 p.2 c.if-tag-eq6.true c.in_err-redundant.ensures
 
 pub returns-in_err-units : goal.returns-in_err-units
 returns-in_err-units g c =
@@ -28,28 +40,13 @@ returns-in_err-proof g c =
     let p = err_from_is_err_and c.from_residual-in_err-proof.result c.from_residual-in_err-proof.ensures.1 in
     stops_behind 8 c.args.tag _ _ deletion_form _ c.from_residual-in_err-proof.result _ c.in_err-proof.field-0.0 (S c.args.self.now) (S c.clause_and_deletion.new.self) p.1 p.2 c.if-tag-eq8.true c.in_err-proof.ensures
 
-pub returns-in_err-literals-2 : goal.returns-in_err-literals-2
-returns-in_err-literals-2 g c =
-    let S = source_of g.R.CountedRead.seen in
-    let p = err_from_is_err_and c.from_residual-in_err-literals-2.result c.from_residual-in_err-literals-2.ensures.1 in
-    stops_behind 10 c.args.tag _ _ model_form _ c.from_residual-in_err-literals-2.result _ c.in_err-literals-2.field-0.0 (S c.args.self.now) (S c.literals-then-tag-eq10.new.self) p.1 p.2 c.if-tag-eq10.true c.in_err-literals-2.ensures
-
-pub returns-in_err-literals-3 : goal.returns-in_err-literals-3
-returns-in_err-literals-3 g c =
-    let S = source_of g.R.CountedRead.seen in
-    let p = err_from_is_err_and c.from_residual-in_err-literals-3.result c.from_residual-in_err-literals-3.ensures.1 in
-    stops_behind 11 c.args.tag _ _ assumptions_form _ c.from_residual-in_err-literals-3.result _ c.in_err-literals-3.field-0.0 (S c.args.self.now) (S c.literals-then-tag-eq11.new.self) p.1 p.2 c.if-tag-eq11.true c.in_err-literals-3.ensures
-
 pub returns-in_err-both_lists : goal.returns-in_err-both_lists
 returns-in_err-both_lists g c =
     let S = source_of g.R.CountedRead.seen in
     let p = err_from_is_err_and c.from_residual-in_err-both_lists.result c.from_residual-in_err-both_lists.ensures.1 in
-    stops_behind 12 c.args.tag _ _ failed_form _ c.from_residual-in_err-both_lists.result _ c.in_err-both_lists.field-0.0 (S c.args.self.now) (S c.both_lists.new.self) p.1 p.2 (grind rules) c.in_err-both_lists.ensures
+    stops_behind 12 c.args.tag _ _ failed_form _ c.from_residual-in_err-both_lists.result _ c.in_err-both_lists.field-0.0 (S c.args.self.now) (S c.both_lists.new.self) p.1 p.2 c.if-tag-eq12.true c.in_err-both_lists.ensures
 
 -- WHERE ALL WAS READ
-
-pub returns-in_ok-literals : goal.returns-in_ok-literals
-returns-in_ok-literals g c = let e = c.in_ok-literals.ensures in (e.0, e.1, (sym c.if-tag-eq5.true, e.2))
 
 pub returns-in_ok-redundant : goal.returns-in_ok-redundant
 returns-in_ok-redundant g c = let e = c.in_ok-redundant.ensures in (e.0, e.1, (sym c.if-tag-eq6.true, e.2))
@@ -60,14 +57,17 @@ returns-in_ok-units g c = let e = c.in_ok-units.ensures in (e.0, e.1, (sym c.if-
 pub returns-in_ok-proof : goal.returns-in_ok-proof
 returns-in_ok-proof g c = let e = c.in_ok-proof.ensures in (e.0, e.1, (sym c.if-tag-eq8.true, e.2))
 
-pub returns-in_ok-literals-2 : goal.returns-in_ok-literals-2
-returns-in_ok-literals-2 g c = let e = c.in_ok-literals-2.ensures in (e.0, e.1, (sym c.if-tag-eq10.true, e.2))
-
-pub returns-in_ok-literals-3 : goal.returns-in_ok-literals-3
-returns-in_ok-literals-3 g c = let e = c.in_ok-literals-3.ensures in (e.0, e.1, (sym c.if-tag-eq11.true, e.2))
-
 pub returns-in_ok-both_lists : goal.returns-in_ok-both_lists
-returns-in_ok-both_lists g c =
-    let i : 12 ≡ c.args.tag = grind rules in
-    let e = c.in_ok-both_lists.ensures in
+returns-in_ok-both_lists g c = let e = c.in_ok-both_lists.ensures in (e.0, e.1, (sym c.if-tag-eq12.true, e.2))
+
+pub returns-then-tag-eq5 : goal.returns-then-tag-eq5
+returns-then-tag-eq5 g c = let e = c.in_ok-literals.ensures in (e.0, e.1, (sym c.if-tag-eq5.true, e.2))
+
+pub returns-then-tag-eq10 : goal.returns-then-tag-eq10
+returns-then-tag-eq10 g c = let e = c.in_ok-literals.ensures in (e.0, e.1, (sym c.if-tag-eq10.true, e.2))
+
+pub returns-else-tag-eq10 : goal.returns-else-tag-eq10
+returns-else-tag-eq10 g c =
+    let i : 11 ≡ c.args.tag = grind rules in
+    let e = c.in_ok-literals.ensures in
     (e.0, e.1, (i, e.2))

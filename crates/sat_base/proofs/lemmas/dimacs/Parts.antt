@@ -1,0 +1,75 @@
+-- A text that is read in parts, and seen after each: what is answered by.
+use Rattle.std.proofs.Common.{◌≡◌, ℕ, List, [], ◌++◌, false, Result, Ok, Err, inl, inr, refl, ap, length, ◌+◌, ◌<◌, ◌≤◌}
+use Rattle.std.specs.Result.{IfOk, IfErr, OnOk}
+use Rattle.sat_base.specs.declared.dimacs.error.DimacsError.{DimacsError}
+use Rattle.sat_base.specs.declared.dimacs.error.DimacsError.TheVariants as errors
+use Rattle.sat_base.specs.declared.dimacs.error.IncrementalError.{IncrementalError}
+use Rattle.sat_base.specs.declared.dimacs.error.IncrementalError.TheVariants as parts
+use Rattle.sat_base.specs.device.Device.{Reader, GaveAll, GaveFront}
+use Rattle.sat_base.specs.dimacs.Parsing.{Calls, Feeds, Finishes, IsSound, IsWhole, LastVisit, Parses, ParsesInParts, Progress, Visits}
+use Rattle.sat_base.specs.dimacs.ParserPlaces.{with_parser}
+use Rattle.sat_base.proofs.lemmas.device.Given.{enough_all, enough_front}
+use Rattle.sat_base.proofs.lemmas.dimacs.Parsed.{Stands, ends_by, stops_on, parts_clean, whole_at_end, no_read, no_read_called, no_read_ended, no_read_fed}
+
+-- the closure's refusal, or else the parser's answer
+abbrev pub refusal_or : {E : Type 0} → Result (Unit {0}) E → Result (Unit {0}) DimacsError → Result (Unit {0}) (IncrementalError E)
+refusal_or (Err e) answer = Err (parts.Caller e)
+refusal_or (Ok u) (Err e) = Err (parts.Dimacs e)
+refusal_or (Ok u) (Ok v) = Ok v
+
+pub refusal_is : {E : Type 0} (seen : Result (Unit {0}) E) (answer : Result (Unit {0}) DimacsError) (r : Result (Unit {0}) (IncrementalError E))
+    → IfErr seen (λ e. r ≡ Err (parts.Caller e)) → OnOk seen (IfErr answer (λ e. r ≡ Err (parts.Dimacs e))) → OnOk seen (IfOk answer (λ u. r ≡ Ok u)) → r ≡ refusal_or seen answer
+refusal_is (Err e) answer r h k l = h
+refusal_is (Ok u) (Err e) r h k l = k
+refusal_is (Ok u) (Ok v) r h k l = l
+
+-- AT THE END
+
+pub last_at_end : {F E : Type 0} (calls : Calls F E) (seen : Result (Unit {0}) E) (answer : Result (Unit {0}) DimacsError) (r : Result (Unit {0}) (IncrementalError E)) (reader : Reader × Reader) (f h : F) (p q s : Progress)
+    → r ≡ refusal_or seen answer → IsWhole reader.0 reader.1 p.fed → Finishes answer p q → Visits calls (f, q) seen (h, s) → LastVisit calls [] reader (with_parser s r) (f, p)
+last_at_end calls (Err e) answer r reader f h p q s is whole ends seen = rw is (answer, q, (h, s), inr (refl, whole, ends), seen)
+last_at_end calls (Ok u) (Err e) r reader f h p q s is whole ends seen = rw is (inr (q, (h, s), inr (refl, whole, ends), seen))
+last_at_end calls (Ok u) (Ok v) r reader f h p q s is whole ends seen = rw is (refl, whole, q, h, ends, seen)
+
+pub parsed_at_end : {E : Type 0} (seen : Result (Unit {0}) E) (answer : Result (Unit {0}) DimacsError) (r : Result (Unit {0}) (IncrementalError E)) (a c : Reader) (fed : List ℕ) (p q s : Progress)
+    → r ≡ refusal_or seen answer → GaveAll a c fed → Stands fed p → s ≡ record q { taken = s.taken } → Finishes answer p q → ParsesInParts a c (with_parser s r)
+parsed_at_end (Err e) answer r a c fed p q s is all stands kept ends = rw is tt
+parsed_at_end (Ok u) (Err e) r a c fed p q s is all stands kept ends = rw is (enough_all a c (Parses (Err e)) fed all (ends_by e fed p q stands ends))
+parsed_at_end (Ok u) (Ok v) r a c fed p q s is all stands kept ends =
+    rw is (fed, record { gave = all.gave; told = all.told; loans = all.loans }, parts_clean fed p q s stands kept (ends.1, ends.2), whole_at_end a c fed all.called all.ends)
+
+pub no_read_at_end : {E X : Type 0} (seen : Result (Unit {0}) E) (answer : Result (Unit {0}) DimacsError) (r : Result (Unit {0}) (IncrementalError E)) (p q s : Progress)
+    → r ≡ refusal_or seen answer → Finishes answer p q → with_parser s r ≡ Err (parts.Dimacs errors.Read) → X
+no_read_at_end (Err e) answer r p q s is ends h = no_read_called (with_parser s r) e (ap (with_parser s) is) h
+no_read_at_end (Ok u) (Err e) r p q s is ends h = no_read_ended (with_parser s r) e p q ends (ap (with_parser s) is) h
+no_read_at_end (Ok u) (Ok v) r p q s is ends h = no_read (with_parser s r) s (ap (with_parser s) is) h
+
+-- AT A PIECE
+
+pub last_at_piece : {F E : Type 0} (calls : Calls F E) (seen : Result (Unit {0}) E) (answer : Result (Unit {0}) DimacsError) (r : Result (Unit {0}) (IncrementalError E)) (e : IncrementalError E) (reader : Reader × Reader)
+    (piece : List ℕ) (f h : F) (p q s : Progress)
+    → r ≡ refusal_or seen answer → r ≡ Err e → 0 < length piece → Feeds answer piece p q → Visits calls (f, q) seen (h, s) → LastVisit calls piece reader (with_parser s r) (f, p)
+last_at_piece calls (Err d) answer r e reader piece f h p q s is err some feeds seen = rw is (answer, q, (h, s), inl (some, feeds), seen)
+last_at_piece calls (Ok u) (Err d) r e reader piece f h p q s is err some feeds seen = rw is (inr (q, (h, s), inl (some, feeds), seen))
+last_at_piece calls (Ok u) (Ok v) r e reader piece f h p q s is err some feeds seen = absurd cc
+
+pub parsed_at_piece : {E : Type 0} (seen : Result (Unit {0}) E) (answer : Result (Unit {0}) DimacsError) (r : Result (Unit {0}) (IncrementalError E)) (e : IncrementalError E) (a c : Reader) (fed piece : List ℕ) (p q s : Progress)
+    → r ≡ refusal_or seen answer → r ≡ Err e → GaveFront a c (fed ++ piece) → c.ended ≡ false → c.calls ≤ a.calls + length (fed ++ piece) + 1 → Stands fed p → Feeds answer piece p q
+    → ParsesInParts a c (with_parser s r)
+parsed_at_piece (Err d) answer r e a c fed piece p q s is err front going few stands feeds = rw is tt
+parsed_at_piece (Ok u) (Err d) r e a c fed piece p q s is err front going few stands feeds =
+    rw is (enough_front a c (Parses (Err d)) (fed ++ piece) front going few (λ rest. stops_on d fed piece p q (ap (λ (z : Progress). z.fed) stands) (ap (λ (z : Progress). z.stopped) stands) feeds rest))
+parsed_at_piece (Ok u) (Ok v) r e a c fed piece p q s is err front going few stands feeds = absurd cc
+
+pub no_read_at_piece : {E X : Type 0} (seen : Result (Unit {0}) E) (answer : Result (Unit {0}) DimacsError) (r : Result (Unit {0}) (IncrementalError E)) (piece : List ℕ) (p q s : Progress)
+    → r ≡ refusal_or seen answer → Feeds answer piece p q → with_parser s r ≡ Err (parts.Dimacs errors.Read) → X
+no_read_at_piece (Err e) answer r piece p q s is feeds h = no_read_called (with_parser s r) e (ap (with_parser s) is) h
+no_read_at_piece (Ok u) (Err e) r piece p q s is feeds h = no_read_fed (with_parser s r) e piece p q feeds (ap (with_parser s) is) h
+no_read_at_piece (Ok u) (Ok v) r piece p q s is feeds h = no_read (with_parser s r) s (ap (with_parser s) is) h
+
+-- where it goes on, the piece was taken and seen
+pub seen_piece : {F E : Type 0} (calls : Calls F E) (seen : Result (Unit {0}) E) (answer : Result (Unit {0}) DimacsError) (r : Result (Unit {0}) (IncrementalError E)) (x : Unit {0}) (piece : List ℕ) (f h : F) (p q s : Progress)
+    → r ≡ refusal_or seen answer → r ≡ Ok x → Feeds answer piece p q → OnOk answer (IsSound q) → Visits calls (f, q) seen (h, s) → Feeds (Ok tt) piece p q × IsSound q × Visits calls (f, q) (Ok tt) (h, s)
+seen_piece calls (Err d) answer r x piece f h p q s is ok feeds sound seen = absurd cc
+seen_piece calls (Ok u) (Err d) r x piece f h p q s is ok feeds sound seen = absurd cc
+seen_piece calls (Ok u) (Ok v) r x piece f h p q s is ok feeds sound seen = (feeds, sound, seen)
