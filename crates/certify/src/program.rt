@@ -28,7 +28,7 @@ const FAILED: u8 = 3;
 const USAGE: &str = "usage: certify [run S A C [STEPS] | confirm S A C | hints C H | check H]\n";
 
 /// Why the program could not do what it was asked.
-#[derive(Clone, Copy, Debug, Drop, PartialEq, Eq)]
+#[derive(Clone, Copy, Drop)]
 enum Fault {
     Run(RunFault),
     Confirm(ConfirmFault),

@@ -25,14 +25,14 @@ impl Model for Literal {
     ghost inverse = { λ l. record { name = l.name; positive = l.positive } };
 }
 
-#[derive(Clone, Copy, Debug)]
+#[derive(Clone, Copy)]
 enum CommandKind {
     Clause,
     Ask,
 }
 
 /// A command's kind, and where its literals end. They begin where those of the command before it end.
-#[derive(Clone, Copy, Debug)]
+#[derive(Clone, Copy)]
 struct Part {
     kind: CommandKind,
     end: usize,

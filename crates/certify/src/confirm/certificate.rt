@@ -30,7 +30,7 @@ pub(crate) struct Certificate {
 }
 
 /// What came where an ordered step is awaited.
-#[derive(Clone, Copy, Debug)]
+#[derive(Clone, Copy)]
 pub(crate) enum Awaited {
     /// The step that was read, which is not yet fed.
     Step,

@@ -9,7 +9,7 @@ use sat_checker::CheckerError;
 use std::alloc::{AllocError, AllocFailed};
 
 /// Why nothing more is confirmed.
-#[derive(Clone, Copy, Debug, Drop, PartialEq, Eq)]
+#[derive(Clone, Copy, Drop)]
 pub(crate) enum Stop {
     /// What was met first that doesn't match.
     No(Why),

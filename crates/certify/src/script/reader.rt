@@ -15,7 +15,7 @@ use std::alloc::{AllocError, Global};
 const LARGEST: u64 = 1 << 28;
 
 /// What is in hand between two words.
-#[derive(Clone, Copy, Debug)]
+#[derive(Clone, Copy)]
 enum Hand {
     Nothing,
     Clause,

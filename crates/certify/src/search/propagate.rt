@@ -18,7 +18,7 @@ enum Met {
 }
 
 /// How a round of search ended.
-#[derive(Clone, Copy, Debug, PartialEq, Eq)]
+#[derive(Clone, Copy)]
 pub(crate) enum RoundEnd {
     Conflict,
     Model,

@@ -9,7 +9,7 @@ use sat_base::{CountedWrite, ProofStep, StepWriter};
 use std::alloc::AllocError;
 
 /// What an ask is answered.
-#[derive(Clone, Copy, Debug, Drop, PartialEq, Eq)]
+#[derive(Clone, Copy, Drop)]
 pub(crate) enum SearchEnd {
     Sat,
     Unsat,
@@ -18,7 +18,7 @@ pub(crate) enum SearchEnd {
 }
 
 /// Why an ask isn't answered. The solver isn't used any more.
-#[derive(Clone, Copy, Debug, Drop, PartialEq, Eq)]
+#[derive(Clone, Copy, Drop)]
 pub(crate) enum SolveFault {
     Write,
     OutOfMemory,

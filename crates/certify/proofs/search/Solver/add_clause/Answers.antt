@@ -1,10 +1,14 @@
-use Rattle.std.proofs.Common.{ℕ, ◌≡◌, ◌++◌, ◌∙◌, Bool, Option, List, length, take, drop, refl, sym, ap, subst, arith}
+use Rattle.std.proofs.Common.{ℕ, ◌≡◌, ◌++◌, ◌∙◌, true, Bool, not, Option, List, length, take, drop, refl, sym, ap, subst, arith, rules}
+use Rattle.std.specs.List.{length_refill}
+use Rattle.std.proofs.lemmas.Bool.{false≢true}
 use Rattle.std.proofs.lemmas.Grind.{common_steps}
+use Rattle.std.proofs.lemmas.List.{with_items_is}
+use Rattle.std.proofs.lemmas.Result.{err_from_is_err_and}
 use Rattle.certify.specs.search.SolverState.{SolverState, records_unsat, records_unit, unit_test}
 use Rattle.certify.specs.search.SolverView.{state_of}
 use Rattle.certify.specs.search.Search.{AreBounded, IsBounded}
 use Rattle.certify.specs.search.KeptClauses.{KeepsClause, UnitsFollow}
-use Rattle.certify.proofs.lemmas.search.SolverCalls.{keeps_recorded, normal_bounded, takes_viewed}
+use Rattle.certify.proofs.lemmas.search.SolverCalls.{clauses_kept, keeps_recorded, normal_bounded, takes_nothing, takes_viewed}
 use Rattle.certify.proofs.search.Solver.add_clause.Goals as goal
 
 pub keep-requires-clause-bounded : goal.keep-requires-clause-bounded
@@ -41,3 +45,80 @@ keep-requires-clause-all_bounded c = subst (λ n. AreBounded n c.self.inside.cla
 
 pub keep-requires-clause-units_follow : goal.keep-requires-clause-units_follow
 keep-requires-clause-units_follow c = subst (UnitsFollow c.self.inside.clauses) (sym c.deref_mut.ensures.value) c.self.invariant.follow
+
+pub returns-then-self : goal.returns-then-self
+returns-then-self c =
+    let now = c.args.self.now in
+    let unsat : now.unsat ≡ true = sym (ap (λ (h : SolverState). h.unsat) c.self.view_is) ∙ c.if-self.true in
+    record {
+      step = sym (ap not unsat);
+      written = λ going. absurd (false≢true (sym going ∙ unsat));
+      takes = takes_nothing now now c.args.lits.now unsat unsat;
+      records = λ going. absurd (false≢true (sym going ∙ unsat));
+      known = λ e. refl;
+      var_count = refl;
+      rounds = refl;
+    }
+
+-- only the clause last added is another
+pub invariant_of-self : goal.invariant_of-self
+invariant_of-self c = let is = c.self.invariant in record { few = is.few; long = is.long; bounded = is.bounded; follow = is.follow }
+
+pub returns-in_err-normalize : goal.returns-in_err-normalize
+returns-in_err-normalize c =
+    let failed = (err_from_is_err_and c.from_residual.result c.from_residual.ensures.1).1 in
+    let going = sym (ap (λ (h : SolverState). h.unsat) c.self.view_is) ∙ c.if-self.false in
+    record {
+      step = rw failed tt;
+      written = λ e. rw failed tt;
+      takes = rw failed tt;
+      records = λ e. rw failed tt;
+      known = λ unsat. absurd (false≢true (sym going ∙ unsat));
+      var_count = ap (λ (h : SolverState). h.var_count) c.self.view_is;
+      rounds = ap (λ (h : SolverState). h.rounds) c.self.view_is;
+    }
+
+pub returns-in_err-self-inside : goal.returns-in_err-self-inside
+returns-in_err-self-inside c =
+    let failed = (err_from_is_err_and c.from_residual-in_err-self-inside.result c.from_residual-in_err-self-inside.ensures.1).1 in
+    let going = sym (ap (λ (h : SolverState). h.unsat) c.self.view_is) ∙ c.if-self.false in
+    record {
+      step = rw failed tt;
+      written = λ e. rw failed tt;
+      takes = rw failed tt;
+      records = λ e. rw failed tt;
+      known = λ unsat. absurd (false≢true (sym going ∙ unsat));
+      var_count = ap (λ (h : SolverState). h.var_count) c.self.view_is;
+      rounds = ap (λ (h : SolverState). h.rounds) c.self.view_is;
+    }
+
+pub invariant_of-self-in_err-self-inside : goal.invariant_of-self-in_err-self-inside
+invariant_of-self-in_err-self-inside c =
+    let u = c.self.inside.units in
+    let kept = c.in_err-self-inside.ensures in
+    clauses_kept c.self.inside _ c.self.invariant refl (sym (length_refill u.len u.items c.keep.new.units u.ok.0) ∙ u.ok.0)
+    (subst (λ n. AreBounded n c.keep.new.clauses) (ap length c.deref_mut.ensures.value ∙ c.self.invariant.long) kept.all_bounded)
+    (subst (UnitsFollow c.keep.new.clauses) (sym (with_items_is u c.keep.new.units (search rules))) kept.units_follow)
+
+pub invariant_of-self-2 : goal.invariant_of-self-2
+invariant_of-self-2 c =
+    let u = c.self.inside.units in
+    let kept = c.in_ok-self-inside.ensures in
+    clauses_kept c.self.inside _ c.self.invariant refl (sym (length_refill u.len u.items c.keep.new.units u.ok.0) ∙ u.ok.0)
+    (subst (λ n. AreBounded n c.keep.new.clauses) (ap length c.deref_mut.ensures.value ∙ c.self.invariant.long) kept.all_bounded)
+    (subst (UnitsFollow c.keep.new.clauses) (sym (with_items_is u c.keep.new.units (search rules))) kept.units_follow)
+
+pub returns-clause-step : goal.returns-clause-step
+returns-clause-step c = sym (ap not (sym (ap (λ (h : SolverState). h.unsat) c.self.view_is) ∙ c.if-self.false))
+
+pub returns-clause-written : goal.returns-clause-written
+returns-clause-written c e = c.in_ok-normalize.ensures
+
+pub returns-clause-known : goal.returns-clause-known
+returns-clause-known c unsat = absurd (false≢true (sym c.if-self.false ∙ ap (λ (h : SolverState). h.unsat) c.self.view_is ∙ unsat))
+
+pub returns-clause-var_count : goal.returns-clause-var_count
+returns-clause-var_count c = ap (λ (h : SolverState). h.var_count) c.self.view_is
+
+pub returns-clause-rounds : goal.returns-clause-rounds
+returns-clause-rounds c = ap (λ (h : SolverState). h.rounds) c.self.view_is

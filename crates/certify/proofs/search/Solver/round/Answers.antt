@@ -1,12 +1,14 @@
-use Rattle.std.proofs.Common.{rules, ℕ, ◌≡◌, ◌++◌, ◌∙◌, Bool, Option, List, length, take, drop, refl, sym, ap, subst, arith}
+use Rattle.std.proofs.Common.{rules, ℕ, ◌≡◌, ◌++◌, ◌∙◌, ◌+◌, ◌≤◌, Bool, Option, List, length, take, drop, refl, sym, ap, subst, arith}
 use Rattle.std.specs.List.{length_refill}
 use Rattle.std.specs.Vec.{with_items}
-use Rattle.certify.specs.search.Search.{AreBounded}
+use Rattle.certify.specs.search.Search.{AllOpen, AreBounded, IsBounded}
 use Rattle.std.proofs.lemmas.List.{with_items_is}
+use Rattle.std.proofs.lemmas.Result.{err_from_is_err_and}
 use Rattle.std.proofs.lemmas.Grind.{common_steps}
 use Rattle.certify.specs.search.SolverState.{SolverState, records_unsat, records_unit, unit_test}
 use Rattle.certify.specs.search.SolverView.{state_of}
 use Rattle.certify.specs.search.ScanEnds.{EndSays}
+use Rattle.sat_base.specs.values.Literals.{largest}
 use Rattle.certify.specs.search.KeptClauses.{KeepsClause, UnitsFollow}
 use Rattle.certify.proofs.lemmas.search.SolverCalls.{clauses_kept, finds_model, has_model, learned_viewed, refilled_twice, values_written}
 use Rattle.certify.proofs.search.Solver.round.Goals as goal
@@ -70,3 +72,75 @@ keep-requires-clause-all_bounded c = subst (λ n. AreBounded n c.self.inside.cla
 
 pub keep-requires-clause-units_follow : goal.keep-requires-clause-units_follow
 keep-requires-clause-units_follow c = subst (UnitsFollow c.self.inside.clauses) (sym c.deref_mut-in-Conflict.ensures.value) c.self.invariant.follow
+
+pub returns-in_err-end : goal.returns-in_err-end
+returns-in_err-end c =
+    let v = c.self.inside.values in
+    let failed = (err_from_is_err_and c.from_residual.result c.from_residual.ensures.1).1 in
+    record {
+      says = rw failed tt;
+      learned = rw failed tt;
+      rounds = rw failed tt;
+      var_count = sym (refilled_twice v.len v.items c.reset.new.values c.search.new.values v.ok.0) ∙ v.ok.0 ∙ ap (λ (h : SolverState). h.var_count) c.self.view_is;
+    }
+
+pub returns-in_err-self-inside-in-Conflict : goal.returns-in_err-self-inside-in-Conflict
+returns-in_err-self-inside-in-Conflict c =
+    let v = c.self.inside.values in
+    let failed = (err_from_is_err_and c.from_residual-in_err-self-inside-in-Conflict.result c.from_residual-in_err-self-inside-in-Conflict.ensures.1).1 in
+    record {
+      says = rw failed tt;
+      learned = rw failed tt;
+      rounds = rw failed tt;
+      var_count = sym (refilled_twice v.len v.items c.reset.new.values c.search.new.values v.ok.0) ∙ v.ok.0 ∙ ap (λ (h : SolverState). h.var_count) c.self.view_is;
+    }
+
+pub returns-in-Model-clause-learned : goal.returns-in-Model-clause-learned
+returns-in-Model-clause-learned c =
+    let back = with_items_is (with_items c.self.inside.values c.reset.new.values) c.search.new.values (search rules) in
+    subst (λ (vs : List (Option Bool)). IsBounded (length vs) c.search.new.learned.items) (sym back) c.in_ok-end.ensures.learned_bounded
+
+pub returns-in-Model-clause-rounds : goal.returns-in-Model-clause-rounds
+returns-in-Model-clause-rounds c = ap (λ (h : SolverState). h.rounds + 1) c.self.view_is
+
+pub returns-in-Model-clause-var_count : goal.returns-in-Model-clause-var_count
+returns-in-Model-clause-var_count c =
+    let v = c.self.inside.values in
+    sym (refilled_twice v.len v.items c.reset.new.values c.search.new.values v.ok.0) ∙ v.ok.0 ∙ ap (λ (h : SolverState). h.var_count) c.self.view_is
+
+pub returns-in_ok-self-inside-in-Conflict-clause-learned : goal.returns-in_ok-self-inside-in-Conflict-clause-learned
+returns-in_ok-self-inside-in-Conflict-clause-learned c =
+    let back = with_items_is (with_items c.self.inside.values c.reset.new.values) c.search.new.values (search rules) in
+    subst (λ (vs : List (Option Bool)). IsBounded (length vs) c.search.new.learned.items) (sym back) c.in_ok-end.ensures.learned_bounded
+
+pub returns-in_ok-self-inside-in-Conflict-clause-rounds : goal.returns-in_ok-self-inside-in-Conflict-clause-rounds
+returns-in_ok-self-inside-in-Conflict-clause-rounds c = ap (λ (h : SolverState). h.rounds + 1) c.self.view_is
+
+pub returns-in_ok-self-inside-in-Conflict-clause-var_count : goal.returns-in_ok-self-inside-in-Conflict-clause-var_count
+returns-in_ok-self-inside-in-Conflict-clause-var_count c =
+    let v = c.self.inside.values in
+    sym (refilled_twice v.len v.items c.reset.new.values c.search.new.values v.ok.0) ∙ v.ok.0 ∙ ap (λ (h : SolverState). h.var_count) c.self.view_is
+
+pub search-requires-clause-bounded : goal.search-requires-clause-bounded
+search-requires-clause-bounded c =
+    let v = c.self.inside.values in
+    let same : length c.deref_mut-2.result.now ≡ length v.items = ap length c.deref_mut-2.ensures.value ∙ sym (length_refill v.len v.items c.reset.new.values v.ok.0) ∙ v.ok.0 in
+    subst (λ n. AreBounded n c.self.inside.clauses) (sym same) c.self.invariant.bounded
+
+pub search-requires-clause-few : goal.search-requires-clause-few
+search-requires-clause-few c =
+    let v = c.self.inside.values in
+    let same : length c.deref_mut-2.result.now ≡ length v.items = ap length c.deref_mut-2.ensures.value ∙ sym (length_refill v.len v.items c.reset.new.values v.ok.0) ∙ v.ok.0 in
+    subst (λ n. n ≤ largest) (sym same) c.self.invariant.few
+
+pub search-requires-clause-all_open : goal.search-requires-clause-all_open
+search-requires-clause-all_open c = subst AllOpen (sym (c.deref_mut-2.ensures.value ∙ with_items_is c.self.inside.values c.reset.new.values (search rules))) c.reset.ensures
+
+pub keep-requires-clause-bounded : goal.keep-requires-clause-bounded
+keep-requires-clause-bounded c =
+    let v = c.self.inside.values in
+    let back = with_items_is (with_items c.self.inside.values c.reset.new.values) c.search.new.values (search rules) in
+    let units : length c.deref_mut-in-Conflict.result.now ≡ length v.items = ap length c.deref_mut-in-Conflict.ensures.value ∙ c.self.invariant.long in
+    let values : length c.search.new.values ≡ length v.items = sym (ap length back) ∙ (sym (refilled_twice v.len v.items c.reset.new.values c.search.new.values v.ok.0) ∙ v.ok.0) in
+    subst (IsBounded (length c.deref_mut-in-Conflict.result.now)) (sym c.deref.ensures.value)
+    (subst (λ n. IsBounded n c.search.new.learned.items) (values ∙ sym units) c.in_ok-end.ensures.learned_bounded)
