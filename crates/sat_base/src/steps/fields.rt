@@ -59,18 +59,27 @@ impl<R: CountedRead> Input<'_, R> {
         ensures { (literals hashes : List ℕ) (units : List (ℕ × ℕ))
             → Got (Behind tag) (valued (λ k. step_with k literals hashes units) result) R.seen self.old self.new }
     {
-        if tag == 1 {
-            let (global, solver) = self.variables()?;
-            Ok(Kind::SolverVarName { global, solver })
-        } else if tag == 2 {
-            let (global, user) = self.variables()?;
-            Ok(Kind::UserVarName { global, user })
-        } else if tag == 3 {
+        if tag < 5 {
             let var = self.variable()?;
-            Ok(Kind::DeleteVar { var })
-        } else if tag == 4 {
-            let (var, sample) = self.variable_and_flag()?;
-            Ok(Kind::ChangeSamplingMode { var, sample })
+            if tag == 3 {
+                Ok(Kind::DeleteVar { var })
+            } else if tag == 4 {
+                let sample = self.flag()?;
+                Ok(Kind::ChangeSamplingMode { var, sample })
+            } else {
+                let named = self.optional()?;
+                if tag == 1 {
+                    Ok(Kind::SolverVarName {
+                        global: var,
+                        solver: named,
+                    })
+                } else {
+                    Ok(Kind::UserVarName {
+                        global: var,
+                        user: named,
+                    })
+                }
+            }
         } else if tag == 9 {
             let bits = self.width()?;
             Ok(Kind::ChangeHashBits { bits })

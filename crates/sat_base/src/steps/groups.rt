@@ -5,7 +5,7 @@ ghost use Rattle.std.specs.Prelude.{◌++◌};
 ghost use Rattle.sat_base.specs.device.Reading.{Got, valued};
 ghost use Rattle.sat_base.specs.steps.Kinds.{both_held};
 ghost use Rattle.sat_base.specs.steps.Formats.{Both};
-ghost use Rattle.sat_base.specs.steps.StepText.{IsVariable, IsOptionalVariable, IsFlag, IsDeletion, AreLiterals, AreHashes};
+ghost use Rattle.sat_base.specs.steps.StepText.{IsFlag, IsDeletion, AreLiterals, AreHashes};
 ghost use Rattle.sat_base.specs.steps.Spellings as spelling;
 ghost use Rattle.sat_base.specs.steps.StepBytes.{number_bytes, optional_bytes, flag_bytes, deletion_bytes, list_bytes};
 ghost use Rattle.sat_base.specs.steps.StepViews.{deletion_of};
@@ -18,23 +18,6 @@ use crate::{ClauseHash, CountedRead, CountedWrite, DeleteClauseProof, Lit, StepE
 use std::io;
 
 impl<R: CountedRead> Input<'_, R> {
-    /// Reads a variable, and then one that may be none.
-    pub(super) fn variables(&mut self) -> Result<(Var, Option<Var>), StepError>
-        ensures { Got (Both IsVariable IsOptionalVariable) result R.seen self.old self.new }
-    {
-        let first = self.variable()?;
-        let second = self.optional()?;
-        Ok((first, second))
-    }
-
-    pub(super) fn variable_and_flag(&mut self) -> Result<(Var, bool), StepError>
-        ensures { Got (Both IsVariable IsFlag) result R.seen self.old self.new }
-    {
-        let var = self.variable()?;
-        let flag = self.flag()?;
-        Ok((var, flag))
-    }
-
     pub(super) fn flag_and_lists(&mut self, lists: &mut Lists) -> Result<bool, StepError>
         ensures { Got (Both IsFlag (Both AreLiterals AreHashes)) (valued (λ f. (f, both_held lists.new)) result) R.seen self.old self.new }
     {

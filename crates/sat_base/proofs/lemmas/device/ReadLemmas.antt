@@ -1,9 +1,9 @@
 -- Reading, step by step.
-use Rattle.std.proofs.Common.{◌≡◌, ℕ, ◌+◌, ◌*◌, ◌-◌, ◌/◌, Bool, true, false, nat_lt, ◌<◌, ◌≤◌, List, length, length-append, take, drop, Option, Some, None, [], ◌∷◌, ◌++◌, ◌⊎◌, inl, inr, Ok, Err, refl, sym, subst, ap, append_assoc, ◌∙◌, arith}
-use Rattle.std.proofs.lemmas.List.{append-nil, drop_all, length-take}
+use Rattle.std.proofs.Common.{◌≡◌, ℕ, ◌+◌, ◌*◌, ◌-◌, ◌/◌, Bool, true, false, nat_eq, nat_lt, ◌&&◌, if◌then◌else◌, ◌<◌, ◌≤◌, zero, suc, List, length, length-append, take, drop, Option, Some, None, [], ◌∷◌, ◌++◌, ◌⊎◌, inl, inr, Ok, Err, refl, sym, subst, ap, append_assoc, ◌∙◌, arith}
+use Rattle.std.proofs.lemmas.List.{append-nil, drop_all, length-take, length-take-le}
 use Rattle.std.proofs.lemmas.Grind.{common_steps}
 use Rattle.std.proofs.Math.Nat.{mul-le-mul_left}
-use Rattle.std.specs.Io.KnownBytes.{Consumes, Keeps, prepend_known}
+use Rattle.std.specs.Io.KnownBytes.{Consumes, IsAtEnd, Keeps, prepend_known}
 use Rattle.sat_base.specs.device.Device.{Reader, ReadsOnce, most_reads}
 use Rattle.sat_base.specs.declared.steps.error.StepError.{StepError}
 use Rattle.sat_base.specs.declared.steps.error.StepError.TheVariants as errors
@@ -113,6 +113,51 @@ faults_spent s d h = record {
   loans = refl;
   names = refl;
 }
+
+-- A READ THAT FAILS NOT
+
+fills_known : (a b : Option (List ℕ)) (ws xs : List ℕ) → ws ≡ [] → Consumes a b xs → Consumes (prepend_known ws a) (prepend_known xs b) []
+fills_known None b ws xs e h = tt
+fills_known (Some x) None ws xs e h = absurd h
+fills_known (Some x) (Some y) ws xs e h = ap (λ (z : List ℕ). z ++ x) e ∙ h
+
+over_known : (b : Option (List ℕ)) (xs : List ℕ) → xs ≡ [] → IsAtEnd b → IsAtEnd (prepend_known xs b)
+over_known None xs e h = tt
+over_known (Some y) xs e h = ap (λ (z : List ℕ). z ++ y) e ∙ h
+
+few_given : (count reads m : ℕ) → m ≡ count → reads + 1 ≤ reads + m + none_given count
+few_given zero reads m e = omega arith
+few_given (suc n) reads m e = omega arith
+
+no_end : (none ended room : Bool) → ended ≡ (none && room) → ◌≡◌ {A = ℕ} (if none then 1 else 0) 0 → ended ≡ true → ⊥
+no_end true ended room e h k = omega (arith, h)
+no_end false ended room e h k = let f : ended ≡ false = e in cc
+
+pub refilled : {E : Type 0} (count : ℕ) (a b : Reader) (ws room names : List ℕ) (n : ℕ) → ReadsOnce {E = E} (Ok count) room a b → count ≤ length room → length room ≡ 4096 → ws ≡ []
+    → Refills (Ok tt) count (record { reader = a; waiting = ws; reads = n; names = names }) (record { reader = b; waiting = drop 0 (take count room); reads = n + 1; names = names })
+refilled count a b ws room names n r within size e =
+    let l = length-take-le count room within in
+    let none : count ≡ 0 → take count room ≡ [] = λ h. ap (λ (k : ℕ). take k room) h in (
+      record {
+        fresh = take count room;
+        gave = r.given;
+        flows = ap (λ (z : List ℕ). z ++ take count room) e;
+        bytes = fills_known a.to_come b.to_come ws (take count room) e r.told.0;
+        failures = r.failures.0;
+        calls = omega (arith, r.calls);
+        room = omega (arith, l, within, size);
+        few = few_given count n (length (take count room)) l;
+        loans = r.loans;
+        names = refl;
+        going = λ z h. absurd (no_end (nat_eq count 0) b.ended (nat_lt 0 (length room)) r.ended z h.1);
+      },
+      λ h. record {
+        read = omega arith;
+        ended = subst (λ (m : ℕ). b.ended ≡ (nat_eq 0 0 && nat_lt 0 m)) size (subst (λ (k : ℕ). b.ended ≡ (nat_eq k 0 && nat_lt 0 (length room))) h r.ended);
+        waiting = none h;
+        over = over_known b.to_come (take count room) (none h) (r.told.1 h (omega (arith, size)));
+      },
+    )
 
 pub none_waits : (at end : ℕ) (piece : List ℕ) → end ≤ at → drop at (take end piece) ≡ []
 none_waits at end piece h = drop_all at (take end piece) (let e = length-take end piece in omega arith)

@@ -1,4 +1,4 @@
-use Rattle.std.proofs.Common.{◌≡◌, false, arith}
+use Rattle.std.proofs.Common.{◌≡◌, false, inl, arith}
 use Rattle.std.specs.Prelude.{nat_eq}
 use Rattle.std.proofs.lemmas.Bool.Decides.{nat_tests}
 use Rattle.sat_base.proofs.lemmas.text.TextRuns.{takes_byte, takes_blank, quiet_behind}
@@ -10,6 +10,15 @@ returns-then-is_digit-clause-takes c =
 
 pub returns-then-not-is_blank-clause-takes : goal.returns-then-not-is_blank-clause-takes
 returns-then-not-is_blank-clause-takes c = takes_byte c.args.self.now c.args.byte c.next-self.result c.next-self.ensures
+
+pub returns-then-byte-eq10-clause-takes : goal.returns-then-byte-eq10-clause-takes
+returns-then-byte-eq10-clause-takes c = rw c.if-byte-eq10.true c.end_line.ensures.takes
+
+pub returns-then-byte-eq10-clause-quiet : goal.returns-then-byte-eq10-clause-quiet
+returns-then-byte-eq10-clause-quiet c blank after stands = inl (c.end_line.ensures.ended after stands)
+
+pub returns-then-byte-eq10-clause-ended : goal.returns-then-byte-eq10-clause-ended
+returns-then-byte-eq10-clause-ended c e = c.end_line.ensures.ended
 
 pub returns-clause-takes : goal.returns-clause-takes
 returns-clause-takes c =

@@ -3,8 +3,11 @@ use Rattle.std.proofs.lemmas.Result.{err_from_is_err_and}
 use Rattle.sat_base.specs.device.Reading.{source_of}
 use Rattle.sat_base.specs.steps.StepText.{IsHash}
 use Rattle.sat_base.proofs.lemmas.steps.Numbers.{one_below, some_below}
-use Rattle.sat_base.proofs.lemmas.steps.FormatReads.{counted_more, counted_fails, counted_no_room, counted_all}
+use Rattle.sat_base.proofs.lemmas.steps.FormatReads.{counted_start, counted_more, counted_fails, counted_no_room, counted_all}
 use Rattle.sat_base.proofs.device.input.Input.hash_items.Goals as goal
+
+pub loop-init : goal.loop-init
+loop-init g c = counted_start IsHash c.args.count (c.args.count - 0) c.args.hashes.now.items (source_of g.R.CountedRead.seen c.args.self.now) (omega arith) c.requires
 
 pub returns-in_err-hash : goal.returns-in_err-hash
 returns-in_err-hash g c =

@@ -4,8 +4,11 @@ use Rattle.sat_base.specs.values.Literals.{largest}
 use Rattle.sat_base.specs.device.Reading.{source_of}
 use Rattle.sat_base.specs.steps.StepText.{IsLiteral}
 use Rattle.sat_base.proofs.lemmas.steps.Numbers.{one_below, some_below}
-use Rattle.sat_base.proofs.lemmas.steps.FormatReads.{counted_more, counted_fails, counted_no_room, counted_all}
+use Rattle.sat_base.proofs.lemmas.steps.FormatReads.{counted_start, counted_more, counted_fails, counted_no_room, counted_all}
 use Rattle.sat_base.proofs.device.input.Input.literal_items.Goals as goal
+
+pub loop-init : goal.loop-init
+loop-init g c = counted_start IsLiteral c.args.count (c.args.count - 0) c.args.lits.now.items (source_of g.R.CountedRead.seen c.args.self.now) (omega arith) c.requires
 
 pub returns-in_err-lit : goal.returns-in_err-lit
 returns-in_err-lit g c =

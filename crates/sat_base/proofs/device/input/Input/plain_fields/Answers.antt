@@ -1,32 +1,61 @@
-use Rattle.std.proofs.Common.{◌≡◌, sym, rules}
+use Rattle.std.proofs.Common.{◌≡◌, ℕ, Bool, true, false, Result, Ok, Err, nat_eq, refl, sym, rules, arith}
+use Rattle.std.proofs.lemmas.Bool.Decides.{nat_tests}
 use Rattle.std.proofs.lemmas.Result.{err_from_is_err_and}
-use Rattle.sat_base.specs.device.Reading.{source_of}
+use Rattle.sat_base.specs.declared.steps.error.StepError.{StepError}
+use Rattle.sat_base.specs.values.Literals.{largest}
+use Rattle.sat_base.specs.steps.Formats.{Both}
+use Rattle.sat_base.specs.steps.Steps.{Step}
+use Rattle.sat_base.specs.steps.StepText.{IsVariable, IsOptionalVariable, IsFlag}
+use Rattle.sat_base.specs.device.Reading.{Source, Reads, Behind, source_of, valued}
+use Rattle.sat_base.proofs.lemmas.steps.FormatReads.{first_fails, second_gives}
+use Rattle.sat_base.proofs.lemmas.steps.Numbers.{one_below}
+use Rattle.sat_base.proofs.lemmas.steps.StepReads.{some_flag, some_optional}
 use Rattle.sat_base.proofs.lemmas.steps.TagForms.{stops_behind, solver_form, user_form, variable_form, mode_form, width_form, end_read}
 use Rattle.sat_base.proofs.device.input.Input.plain_fields.Goals as goal
 
-pub returns-in_err-global : goal.returns-in_err-global
-returns-in_err-global g c =
-    let S = source_of g.R.CountedRead.seen in
-    let p = err_from_is_err_and c.from_residual.result c.from_residual.ensures.1 in
-    λ literals hashes units. stops_behind 1 c.args.tag _ _ solver_form _ c.from_residual.result _ c.in_err-global.field-0.0 (S c.args.self.now) (S c.variables.new.self) p.1 p.2 c.if-tag-eq1.true c.in_err-global.ensures
+-- behind a tag with a variable and one that may be none
+names_stop : {X : Type 0} (tag : ℕ) (one : Bool) → nat_eq tag 1 ≡ one → (nat_eq tag 1 ≡ false → 2 ≡ tag)
+    → (g : X → Step) (r : Result X StepError) (d e : StepError) (old new : Source) → r ≡ Err d → d ≡ e → Reads (Both IsVariable IsOptionalVariable) (Err e) old new
+    → Reads (Behind tag) (valued g r) old new
+names_stop tag true t other g r d e old new p q h = stops_behind 1 tag _ _ solver_form g r d e old new p q (grind (arith, nat_tests)) h
+names_stop tag false t other g r d e old new p q h = stops_behind 2 tag _ _ user_form g r d e old new p q (sym (other t)) h
 
-pub returns-in_err-global-2 : goal.returns-in_err-global-2
-returns-in_err-global-2 g c =
-    let S = source_of g.R.CountedRead.seen in
-    let p = err_from_is_err_and c.from_residual-in_err-global-2.result c.from_residual-in_err-global-2.ensures.1 in
-    λ literals hashes units. stops_behind 2 c.args.tag _ _ user_form _ c.from_residual-in_err-global-2.result _ c.in_err-global-2.field-0.0 (S c.args.self.now) (S c.variables-then-tag-eq2.new.self) p.1 p.2 c.if-tag-eq2.true c.in_err-global-2.ensures
+-- behind a tag with a variable
+variable_stops : {X : Type 0} (tag : ℕ) (three four : Bool) → nat_eq tag 3 ≡ three → nat_eq tag 4 ≡ four
+    → (nat_eq tag 3 ≡ false → nat_eq tag 4 ≡ false → nat_eq tag 1 ≡ false → 2 ≡ tag)
+    → (g : X → Step) (r : Result X StepError) (d e : StepError) (old new : Source) → r ≡ Err d → d ≡ e → Reads IsVariable (Err e) old new
+    → Reads (Behind tag) (valued g r) old new
+variable_stops tag true four t f other g r d e old new p q h = stops_behind 3 tag _ _ variable_form g r d e old new p q (grind (arith, nat_tests)) h
+variable_stops tag false true t f other g r d e old new p q h =
+    stops_behind 4 tag _ _ mode_form g r d e old new p q (grind (arith, nat_tests)) (first_fails IsVariable (λ _. IsFlag) (one_below largest) (λ _. some_flag) e old new h)
+variable_stops tag false false t f other g r d e old new p q h =
+    names_stop tag _ refl (other t f) g r d e old new p q (first_fails IsVariable (λ _. IsOptionalVariable) (one_below largest) (λ _. some_optional) e old new h)
 
 pub returns-in_err-var : goal.returns-in_err-var
 returns-in_err-var g c =
     let S = source_of g.R.CountedRead.seen in
-    let p = err_from_is_err_and c.from_residual-in_err-var.result c.from_residual-in_err-var.ensures.1 in
-    λ literals hashes units. stops_behind 3 c.args.tag _ _ variable_form _ c.from_residual-in_err-var.result _ c.in_err-var.field-0.0 (S c.args.self.now) (S c.variable.new.self) p.1 p.2 c.if-tag-eq3.true c.in_err-var.ensures
+    let p = err_from_is_err_and c.from_residual.result c.from_residual.ensures.1 in
+    let other : nat_eq c.args.tag 3 ≡ false → nat_eq c.args.tag 4 ≡ false → nat_eq c.args.tag 1 ≡ false → 2 ≡ c.args.tag = λ t f o. grind rules in
+    λ literals hashes units. variable_stops c.args.tag _ _ refl refl other _ c.from_residual.result _ c.in_err-var.field-0.0 (S c.args.self.now) (S c.variable.new.self) p.1 p.2 c.in_err-var.ensures
 
-pub returns-in_err-var-2 : goal.returns-in_err-var-2
-returns-in_err-var-2 g c =
+pub returns-in_err-sample : goal.returns-in_err-sample
+returns-in_err-sample g c =
     let S = source_of g.R.CountedRead.seen in
-    let p = err_from_is_err_and c.from_residual-in_err-var-2.result c.from_residual-in_err-var-2.ensures.1 in
-    λ literals hashes units. stops_behind 4 c.args.tag _ _ mode_form _ c.from_residual-in_err-var-2.result _ c.in_err-var-2.field-0.0 (S c.args.self.now) (S c.variable_and_flag.new.self) p.1 p.2 c.if-tag-eq4.true c.in_err-var-2.ensures
+    let k = c.in_ok-var.ensures in
+    let e = c.in_err-sample.field-0.0 in
+    let p = err_from_is_err_and c.from_residual-in_err-sample.result c.from_residual-in_err-sample.ensures.1 in
+    let h = second_gives IsVariable (λ _. IsFlag) (one_below largest) c.in_ok-var.var k.0 (S c.args.self.now) (S c.variable.new.self) (S c.flag.new.self) k.2 k.1 (Err e) c.in_err-sample.ensures in
+    λ literals hashes units. stops_behind 4 c.args.tag _ _ mode_form _ c.from_residual-in_err-sample.result _ e (S c.args.self.now) (S c.flag.new.self) p.1 p.2 c.if-tag-eq4.true h
+
+pub returns-in_err-named : goal.returns-in_err-named
+returns-in_err-named g c =
+    let S = source_of g.R.CountedRead.seen in
+    let k = c.in_ok-var.ensures in
+    let e = c.in_err-named.field-0.0 in
+    let p = err_from_is_err_and c.from_residual-in_err-named.result c.from_residual-in_err-named.ensures.1 in
+    let other : nat_eq c.args.tag 1 ≡ false → 2 ≡ c.args.tag = λ o. grind rules in
+    let h = second_gives IsVariable (λ _. IsOptionalVariable) (one_below largest) c.in_ok-var.var k.0 (S c.args.self.now) (S c.variable.new.self) (S c.optional.new.self) k.2 k.1 (Err e) c.in_err-named.ensures in
+    λ literals hashes units. names_stop c.args.tag _ refl other _ c.from_residual-in_err-named.result _ e (S c.args.self.now) (S c.optional.new.self) p.1 p.2 h
 
 pub returns-in_err-bits : goal.returns-in_err-bits
 returns-in_err-bits g c =
@@ -36,17 +65,30 @@ returns-in_err-bits g c =
 
 -- WHERE ALL WAS READ
 
-pub returns-in_ok-global : goal.returns-in_ok-global
-returns-in_ok-global g c = λ literals hashes units. let e = c.in_ok-global.ensures in (e.0, e.1, (sym c.if-tag-eq1.true, e.2))
+pub returns-then-tag-eq3 : goal.returns-then-tag-eq3
+returns-then-tag-eq3 g c = λ literals hashes units. let e = c.in_ok-var.ensures in (e.0, e.1, (sym c.if-tag-eq3.true, e.2))
 
-pub returns-in_ok-global-2 : goal.returns-in_ok-global-2
-returns-in_ok-global-2 g c = λ literals hashes units. let e = c.in_ok-global-2.ensures in (e.0, e.1, (sym c.if-tag-eq2.true, e.2))
+pub returns-in_ok-sample : goal.returns-in_ok-sample
+returns-in_ok-sample g c =
+    let S = source_of g.R.CountedRead.seen in
+    let k = c.in_ok-var.ensures in
+    let e = second_gives IsVariable (λ _. IsFlag) (one_below largest) c.in_ok-var.var k.0 (S c.args.self.now) (S c.variable.new.self) (S c.flag.new.self) k.2 k.1 (Ok c.in_ok-sample.sample) c.in_ok-sample.ensures in
+    λ literals hashes units. (e.0, e.1, (sym c.if-tag-eq4.true, e.2))
 
-pub returns-in_ok-var : goal.returns-in_ok-var
-returns-in_ok-var g c = λ literals hashes units. let e = c.in_ok-var.ensures in (e.0, e.1, (sym c.if-tag-eq3.true, e.2))
+pub returns-then-tag-eq1 : goal.returns-then-tag-eq1
+returns-then-tag-eq1 g c =
+    let S = source_of g.R.CountedRead.seen in
+    let k = c.in_ok-var.ensures in
+    let e = second_gives IsVariable (λ _. IsOptionalVariable) (one_below largest) c.in_ok-var.var k.0 (S c.args.self.now) (S c.variable.new.self) (S c.optional.new.self) k.2 k.1 (Ok c.in_ok-named.named) c.in_ok-named.ensures in
+    λ literals hashes units. (e.0, e.1, (sym c.if-tag-eq1.true, e.2))
 
-pub returns-in_ok-var-2 : goal.returns-in_ok-var-2
-returns-in_ok-var-2 g c = λ literals hashes units. let e = c.in_ok-var-2.ensures in (e.0, e.1, (sym c.if-tag-eq4.true, e.2))
+pub returns-else-tag-eq1 : goal.returns-else-tag-eq1
+returns-else-tag-eq1 g c =
+    let S = source_of g.R.CountedRead.seen in
+    let k = c.in_ok-var.ensures in
+    let i : 2 ≡ c.args.tag = grind rules in
+    let e = second_gives IsVariable (λ _. IsOptionalVariable) (one_below largest) c.in_ok-var.var k.0 (S c.args.self.now) (S c.variable.new.self) (S c.optional.new.self) k.2 k.1 (Ok c.in_ok-named.named) c.in_ok-named.ensures in
+    λ literals hashes units. (e.0, e.1, (i, e.2))
 
 pub returns-in_ok-bits : goal.returns-in_ok-bits
 returns-in_ok-bits g c = λ literals hashes units. let e = c.in_ok-bits.ensures in (e.0, e.1, (sym c.if-tag-eq9.true, e.2))

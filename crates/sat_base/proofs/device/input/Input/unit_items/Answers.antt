@@ -4,8 +4,11 @@ use Rattle.sat_base.specs.device.Reading.{source_of}
 use Rattle.sat_base.specs.steps.Formats.{Both}
 use Rattle.sat_base.specs.steps.StepText.{IsLiteral, IsHash}
 use Rattle.sat_base.proofs.lemmas.steps.StepReads.{one_unit, some_unit}
-use Rattle.sat_base.proofs.lemmas.steps.FormatReads.{counted_more, counted_fails, counted_no_room, counted_all}
+use Rattle.sat_base.proofs.lemmas.steps.FormatReads.{counted_start, counted_more, counted_fails, counted_no_room, counted_all}
 use Rattle.sat_base.proofs.device.input.Input.unit_items.Goals as goal
+
+pub loop-init : goal.loop-init
+loop-init g c = counted_start (Both IsLiteral IsHash) c.args.count (c.args.count - 0) c.args.units.now.items (source_of g.R.CountedRead.seen c.args.self.now) (omega arith) c.requires
 
 pub returns-in_err-unit : goal.returns-in_err-unit
 returns-in_err-unit g c =
