@@ -1,8 +1,8 @@
 //! What is announced of accepted steps, and what transcripts say of it.
 
 use crate::hearing::{
-    GONE, Heard, IRREDUNDANT, KEPT, KNOWN, Listener, NEW, NO_MORE, REDUNDANT, SAMPLE, Said, Told,
-    WITNESS, add_listener, add_reader, are_done,
+    GONE, Heard, IRREDUNDANT, KEPT, KNOWN, Listener, NEW, NO, NO_MORE, REDUNDANT, SAMPLE, Said,
+    Told, WITNESS, add_listener, add_reader, are_done,
 };
 use crate::kinds::{Kind, failure};
 use crate::steps::read_by;
@@ -53,19 +53,19 @@ fn first_unannounced(alloc: Global, rows: &[Row]) -> Option<&'static [u8]> {
 
 /// The four clauses over two variables, two clauses that follow from them, and what is told of that.
 pub(crate) const REFUTED: &[Told] = &[
-    Told::AddClause(0, &[1, 2]),
-    Told::AddClause(1, &[1, -2]),
-    Told::AddClause(2, &[-1, 2]),
-    Told::AddClause(3, &[-1, -2]),
-    Told::AtClause(4, IRREDUNDANT, &[1], &[0, 1]),
-    Told::AtClause(5, IRREDUNDANT, &[], &[4, 2, 3]),
+    Told::AddClause(0, [1, 2, 0]),
+    Told::AddClause(1, [1, -2, 0]),
+    Told::AddClause(2, [-1, 2, 0]),
+    Told::AddClause(3, [-1, -2, 0]),
+    Told::AtClause(4, IRREDUNDANT, [1, 0, 0], [0, 1, NO, NO]),
+    Told::AtClause(5, IRREDUNDANT, [0, 0, 0], [4, 2, 3, NO]),
 ];
 
 pub(crate) const REFUTED_SAID: &[Said] = &[
-    Said::AddClause(&[1, 2]),
-    Said::AddClause(&[1, -2]),
-    Said::AddClause(&[-1, 2]),
-    Said::AddClause(&[-1, -2]),
+    Said::AddClause([1, 2, 0]),
+    Said::AddClause([1, -2, 0]),
+    Said::AddClause([-1, 2, 0]),
+    Said::AddClause([-1, -2, 0]),
     Said::Unsat,
 ];
 
@@ -104,24 +104,18 @@ static PROPAGATIONS: [Row; 4] = [
             5, 3, 3, 4, 6, 5, 2, 0, 2, 5, 2, 3, 7, 9, 0, 6, 0, 2, 0, 4, 2, 0, 0,
         ],
         &[
-            Told::AddClause(0, &[-2, 3, 4]),
-            Told::AddClause(1, &[1, 2]),
-            Told::AddClause(2, &[-2, -4]),
-            Told::AtClause(3, IRREDUNDANT, &[1, 3], &[1, 2, 0]),
+            Told::AddClause(0, [-2, 3, 4]),
+            Told::AddClause(1, [1, 2, 0]),
+            Told::AddClause(2, [-2, -4, 0]),
+            Told::AtClause(3, IRREDUNDANT, [1, 3, 0], [1, 2, 0, NO]),
         ],
         &[
-            Said::AddClause(&[-2, 3, 4]),
-            Said::AddClause(&[1, 2]),
-            Said::AddClause(&[-2, -4]),
+            Said::AddClause([-2, 3, 4]),
+            Said::AddClause([1, 2, 0]),
+            Said::AddClause([-2, -4, 0]),
         ],
     ),
 ];
-
-#[test]
-fn propagations_are_announced(rt: HostRuntime) {
-    let wrong = first_unannounced(rt.alloc(), &PROPAGATIONS);
-    assert!(rt; wrong == None, "{wrong:?}");
-}
 
 /// Names and modes.
 static NAMES: [Row; 13] = [
@@ -135,16 +129,19 @@ static NAMES: [Row; 13] = [
     // of a known one: of a clause, a witness, and by its solver index
     (
         &[5, 1, 0, 2, 0, 5],
-        &[Told::AddClause(0, &[1]), Told::UserVar(1, 5, SAMPLE, KNOWN)],
-        &[Said::AddClause(&[1]), Said::ObserveInternalVar(5)],
+        &[
+            Told::AddClause(0, [1, 0, 0]),
+            Told::UserVar(1, 5, SAMPLE, KNOWN),
+        ],
+        &[Said::AddClause([1, 0, 0]), Said::ObserveInternalVar(5)],
     ),
     (
         &[5, 1, 0, 4, 0, 0, 2, 0, 5],
         &[
-            Told::AddClause(0, &[1]),
+            Told::AddClause(0, [1, 0, 0]),
             Told::UserVar(1, 5, WITNESS, KNOWN),
         ],
-        &[Said::AddClause(&[1]), Said::ObserveInternalVar(5)],
+        &[Said::AddClause([1, 0, 0]), Said::ObserveInternalVar(5)],
     ),
     (
         &[1, 0, 1, 2, 0, 5],
@@ -188,8 +185,8 @@ static NAMES: [Row; 13] = [
     // modes of a variable without a name: one that never had any, and a hidden one
     (
         &[5, 1, 0, 4, 0, 0, 4, 0, 1],
-        &[Told::AddClause(0, &[1])],
-        &[Said::AddClause(&[1])],
+        &[Told::AddClause(0, [1, 0, 0])],
+        &[Said::AddClause([1, 0, 0])],
     ),
     (
         &[2, 0, 5, 2, 0, 0, 4, 0, 1, 4, 0, 0],
@@ -217,33 +214,30 @@ static NAMES: [Row; 13] = [
     ),
 ];
 
-#[test]
-fn names_are_announced(rt: HostRuntime) {
-    let wrong = first_unannounced(rt.alloc(), &NAMES);
-    assert!(rt; wrong == None, "{wrong:?}");
-}
-
 /// Clauses of the formula.
 static INPUTS: [Row; 11] = [
     // new, as a sorted set
     (
         &[5, 3, 2, 0, 2],
-        &[Told::AddClause(0, &[1, 2])],
-        &[Said::AddClause(&[1, 2])],
+        &[Told::AddClause(0, [1, 2, 0])],
+        &[Said::AddClause([1, 2, 0])],
     ),
     // stored before: a long one, a unit
     (
         &[5, 2, 0, 2, 5, 3, 2, 0, 0],
         &[
-            Told::AddClause(0, &[1, 2]),
-            Told::DuplicatedClause(1, 0, &[1, 2]),
+            Told::AddClause(0, [1, 2, 0]),
+            Told::DuplicatedClause(1, 0, [1, 2, 0]),
         ],
-        &[Said::AddClause(&[1, 2]), Said::AddClause(&[1, 2])],
+        &[Said::AddClause([1, 2, 0]), Said::AddClause([1, 2, 0])],
     ),
     (
         &[5, 1, 0, 5, 2, 0, 0],
-        &[Told::AddClause(0, &[1]), Told::DuplicatedClause(1, 0, &[1])],
-        &[Said::AddClause(&[1]), Said::AddClause(&[1])],
+        &[
+            Told::AddClause(0, [1, 0, 0]),
+            Told::DuplicatedClause(1, 0, [1, 0, 0]),
+        ],
+        &[Said::AddClause([1, 0, 0]), Said::AddClause([1, 0, 0])],
     ),
     // as a redundant clause, which is irredundant from there on
     (
@@ -251,94 +245,88 @@ static INPUTS: [Row; 11] = [
             9, 0, 5, 2, 0, 2, 6, 1, 3, 0, 2, 4, 1, 0, 5, 3, 0, 2, 4, 6, 0, 3, 0, 2, 4, 1, 0,
         ],
         &[
-            Told::AddClause(0, &[1, 2]),
-            Told::AtClause(1, REDUNDANT, &[1, 2, 3], &[0]),
-            Told::DuplicatedClause(2, 1, &[1, 2, 3]),
+            Told::AddClause(0, [1, 2, 0]),
+            Told::AtClause(1, REDUNDANT, [1, 2, 3], [0, NO, NO, NO]),
+            Told::DuplicatedClause(2, 1, [1, 2, 3]),
         ],
-        &[Said::AddClause(&[1, 2]), Said::AddClause(&[1, 2, 3])],
+        &[Said::AddClause([1, 2, 0]), Said::AddClause([1, 2, 3])],
     ),
     // as a derived unit
     (
         &[9, 0, 5, 2, 0, 2, 5, 2, 0, 3, 6, 0, 1, 0, 1, 0, 5, 1, 0],
         &[
-            Told::AddClause(0, &[1, 2]),
-            Told::AddClause(1, &[1, -2]),
-            Told::AtClause(2, IRREDUNDANT, &[1], &[0, 1]),
-            Told::DuplicatedClause(3, 2, &[1]),
+            Told::AddClause(0, [1, 2, 0]),
+            Told::AddClause(1, [1, -2, 0]),
+            Told::AtClause(2, IRREDUNDANT, [1, 0, 0], [0, 1, NO, NO]),
+            Told::DuplicatedClause(3, 2, [1, 0, 0]),
         ],
         &[
-            Said::AddClause(&[1, 2]),
-            Said::AddClause(&[1, -2]),
-            Said::AddClause(&[1]),
+            Said::AddClause([1, 2, 0]),
+            Said::AddClause([1, -2, 0]),
+            Said::AddClause([1, 0, 0]),
         ],
     ),
     // one that is gone is new again
     (
         &[5, 2, 0, 2, 5, 1, 0, 8, 2, 0, 2, 2, 5, 2, 0, 2],
         &[
-            Told::AddClause(0, &[1, 2]),
-            Told::AddClause(1, &[1]),
-            Told::DeleteAtClause(0, GONE, &[1, 2], &[1]),
-            Told::AddClause(2, &[1, 2]),
+            Told::AddClause(0, [1, 2, 0]),
+            Told::AddClause(1, [1, 0, 0]),
+            Told::DeleteAtClause(0, GONE, [1, 2, 0], [1, NO, NO, NO]),
+            Told::AddClause(2, [1, 2, 0]),
         ],
         &[
-            Said::AddClause(&[1, 2]),
-            Said::AddClause(&[1]),
-            Said::AddClause(&[1, 2]),
+            Said::AddClause([1, 2, 0]),
+            Said::AddClause([1, 0, 0]),
+            Said::AddClause([1, 2, 0]),
         ],
     ),
     // both signs of a variable, which takes an id and isn't stored
     (
         &[5, 3, 2, 1, 0, 5, 3, 0, 1, 2, 5, 1, 2],
         &[
-            Told::TautologicalClause(0, &[1, -1, 2]),
-            Told::TautologicalClause(1, &[1, -1, 2]),
-            Told::AddClause(2, &[2]),
+            Told::TautologicalClause(0, [1, -1, 2]),
+            Told::TautologicalClause(1, [1, -1, 2]),
+            Told::AddClause(2, [2, 0, 0]),
         ],
         &[
-            Said::AddClause(&[1, -1, 2]),
-            Said::AddClause(&[1, -1, 2]),
-            Said::AddClause(&[2]),
+            Said::AddClause([1, -1, 2]),
+            Said::AddClause([1, -1, 2]),
+            Said::AddClause([2, 0, 0]),
         ],
     ),
     // an empty one, behind which no clause has an effect
     (
         &[5, 0, 5, 0, 5, 1, 0, 5, 2, 0, 1],
-        &[Told::AddClause(0, &[])],
-        &[Said::AddClause(&[])],
+        &[Told::AddClause(0, [0, 0, 0])],
+        &[Said::AddClause([0, 0, 0])],
     ),
     // in the user's names: a variable that has one, and one that is its own
     (
         &[2, 0, 5, 5, 2, 0, 3],
         &[
             Told::UserVar(1, 5, SAMPLE, NEW),
-            Told::AddClause(0, &[1, -2]),
+            Told::AddClause(0, [1, -2, 0]),
         ],
-        &[Said::AddClause(&[5, -2])],
+        &[Said::AddClause([5, -2, 0])],
     ),
     (
         &[2, 0, 5, 5, 1, 1, 5, 1, 1, 5, 2, 1, 0],
         &[
             Told::UserVar(1, 5, SAMPLE, NEW),
-            Told::AddClause(0, &[-1]),
-            Told::DuplicatedClause(1, 0, &[-1]),
-            Told::TautologicalClause(2, &[1, -1]),
+            Told::AddClause(0, [-1, 0, 0]),
+            Told::DuplicatedClause(1, 0, [-1, 0, 0]),
+            Told::TautologicalClause(2, [1, -1, 0]),
         ],
         &[
-            Said::AddClause(&[-5]),
-            Said::AddClause(&[-5]),
-            Said::AddClause(&[5, -5]),
+            Said::AddClause([-5, 0, 0]),
+            Said::AddClause([-5, 0, 0]),
+            Said::AddClause([5, -5, 0]),
         ],
     ),
     // steps of which nothing is announced
     (&[9, 8, 1, 0, 1, 1, 0, 0, 9, 64, 13], &[], &[]),
 ];
-
-#[test]
-fn inputs_are_announced(rt: HostRuntime) {
-    let wrong = first_unannounced(rt.alloc(), &INPUTS);
-    assert!(rt; wrong == None, "{wrong:?}");
-}
 
 /// Clauses that follow from others.
 static DERIVED: [Row; 11] = [
@@ -346,10 +334,10 @@ static DERIVED: [Row; 11] = [
     (
         &[9, 0, 5, 2, 0, 2, 6, 1, 4, 4, 2, 0, 0, 1, 0],
         &[
-            Told::AddClause(0, &[1, 2]),
-            Told::AtClause(1, REDUNDANT, &[1, 2, 3], &[0]),
+            Told::AddClause(0, [1, 2, 0]),
+            Told::AtClause(1, REDUNDANT, [1, 2, 3], [0, NO, NO, NO]),
         ],
-        &[Said::AddClause(&[1, 2])],
+        &[Said::AddClause([1, 2, 0])],
     ),
     // stored already, as that or as irredundant: no announcement and no id
     (
@@ -358,11 +346,11 @@ static DERIVED: [Row; 11] = [
             6, 0, 2, 0, 2, 1, 0, 5, 1, 6,
         ],
         &[
-            Told::AddClause(0, &[1, 2]),
-            Told::AtClause(1, REDUNDANT, &[1, 2, 3], &[0]),
-            Told::AddClause(2, &[4]),
+            Told::AddClause(0, [1, 2, 0]),
+            Told::AtClause(1, REDUNDANT, [1, 2, 3], [0, NO, NO, NO]),
+            Told::AddClause(2, [4, 0, 0]),
         ],
-        &[Said::AddClause(&[1, 2]), Said::AddClause(&[4])],
+        &[Said::AddClause([1, 2, 0]), Said::AddClause([4, 0, 0])],
     ),
     // irredundant for the first time, and once more
     (
@@ -371,56 +359,56 @@ static DERIVED: [Row; 11] = [
             0,
         ],
         &[
-            Told::AddClause(0, &[1, 2]),
-            Told::AtClause(1, REDUNDANT, &[1, 2, 3], &[0]),
-            Told::MakeIrredundant(1, &[1, 2, 3]),
+            Told::AddClause(0, [1, 2, 0]),
+            Told::AtClause(1, REDUNDANT, [1, 2, 3], [0, NO, NO, NO]),
+            Told::MakeIrredundant(1, [1, 2, 3]),
         ],
-        &[Said::AddClause(&[1, 2])],
+        &[Said::AddClause([1, 2, 0])],
     ),
     // both signs of a variable; a unit that is stored already; one that is true in the clause
     (&[6, 0, 2, 0, 1, 0], &[], &[]),
     (
         &[5, 1, 0, 6, 0, 1, 0, 0, 7, 1, 0, 0],
-        &[Told::AddClause(0, &[1])],
-        &[Said::AddClause(&[1])],
+        &[Told::AddClause(0, [1, 0, 0])],
+        &[Said::AddClause([1, 0, 0])],
     ),
     (
         &[5, 1, 0, 6, 0, 2, 0, 2, 0],
         &[
-            Told::AddClause(0, &[1]),
-            Told::AtClause(1, IRREDUNDANT, &[1, 2], &[0]),
+            Told::AddClause(0, [1, 0, 0]),
+            Told::AtClause(1, IRREDUNDANT, [1, 2, 0], [0, NO, NO, NO]),
         ],
-        &[Said::AddClause(&[1])],
+        &[Said::AddClause([1, 0, 0])],
     ),
     // units, of which the second rests on the first
     (
         &[9, 0, 5, 1, 0, 5, 2, 1, 2, 5, 2, 3, 5, 7, 2, 2, 0, 5, 0],
         &[
-            Told::AddClause(0, &[1]),
-            Told::AddClause(1, &[-1, 2]),
-            Told::AddClause(2, &[-2, -3]),
-            Told::AtClause(3, IRREDUNDANT, &[2], &[0, 1]),
-            Told::AtClause(4, IRREDUNDANT, &[-3], &[3, 2]),
+            Told::AddClause(0, [1, 0, 0]),
+            Told::AddClause(1, [-1, 2, 0]),
+            Told::AddClause(2, [-2, -3, 0]),
+            Told::AtClause(3, IRREDUNDANT, [2, 0, 0], [0, 1, NO, NO]),
+            Told::AtClause(4, IRREDUNDANT, [-3, 0, 0], [3, 2, NO, NO]),
         ],
         &[
-            Said::AddClause(&[1]),
-            Said::AddClause(&[-1, 2]),
-            Said::AddClause(&[-2, -3]),
+            Said::AddClause([1, 0, 0]),
+            Said::AddClause([-1, 2, 0]),
+            Said::AddClause([-2, -3, 0]),
         ],
     ),
     // a clause that is passed, and isn't needed
     (
         &[9, 0, 5, 2, 0, 4, 5, 2, 0, 2, 5, 2, 0, 3, 6, 0, 1, 0, 1, 0],
         &[
-            Told::AddClause(0, &[1, 3]),
-            Told::AddClause(1, &[1, 2]),
-            Told::AddClause(2, &[1, -2]),
-            Told::AtClause(3, IRREDUNDANT, &[1], &[1, 2]),
+            Told::AddClause(0, [1, 3, 0]),
+            Told::AddClause(1, [1, 2, 0]),
+            Told::AddClause(2, [1, -2, 0]),
+            Told::AtClause(3, IRREDUNDANT, [1, 0, 0], [1, 2, NO, NO]),
         ],
         &[
-            Said::AddClause(&[1, 3]),
-            Said::AddClause(&[1, 2]),
-            Said::AddClause(&[1, -2]),
+            Said::AddClause([1, 3, 0]),
+            Said::AddClause([1, 2, 0]),
+            Said::AddClause([1, -2, 0]),
         ],
     ),
     // units come first, by their ids, where the falsified clause needs the later one
@@ -429,17 +417,17 @@ static DERIVED: [Row; 11] = [
             9, 0, 5, 1, 0, 5, 1, 2, 5, 2, 1, 4, 5, 2, 3, 5, 6, 0, 1, 6, 1, 0,
         ],
         &[
-            Told::AddClause(0, &[1]),
-            Told::AddClause(1, &[2]),
-            Told::AddClause(2, &[-1, 3]),
-            Told::AddClause(3, &[-2, -3]),
-            Told::AtClause(4, IRREDUNDANT, &[4], &[0, 1, 2, 3]),
+            Told::AddClause(0, [1, 0, 0]),
+            Told::AddClause(1, [2, 0, 0]),
+            Told::AddClause(2, [-1, 3, 0]),
+            Told::AddClause(3, [-2, -3, 0]),
+            Told::AtClause(4, IRREDUNDANT, [4, 0, 0], [0, 1, 2, 3]),
         ],
         &[
-            Said::AddClause(&[1]),
-            Said::AddClause(&[2]),
-            Said::AddClause(&[-1, 3]),
-            Said::AddClause(&[-2, -3]),
+            Said::AddClause([1, 0, 0]),
+            Said::AddClause([2, 0, 0]),
+            Said::AddClause([-1, 3, 0]),
+            Said::AddClause([-2, -3, 0]),
         ],
     ),
     // a unit that the negated clause holds itself isn't needed; the derived one contradicts it
@@ -448,19 +436,19 @@ static DERIVED: [Row; 11] = [
             9, 0, 5, 1, 1, 5, 2, 0, 2, 5, 2, 0, 3, 6, 0, 1, 0, 1, 0, 11, 0,
         ],
         &[
-            Told::AddClause(0, &[-1]),
-            Told::AddClause(1, &[1, 2]),
-            Told::AddClause(2, &[1, -2]),
-            Told::AtClause(3, IRREDUNDANT, &[1], &[1, 2]),
-            Told::AtClause(4, IRREDUNDANT, &[], &[0, 3]),
-            Told::Assumptions(&[]),
+            Told::AddClause(0, [-1, 0, 0]),
+            Told::AddClause(1, [1, 2, 0]),
+            Told::AddClause(2, [1, -2, 0]),
+            Told::AtClause(3, IRREDUNDANT, [1, 0, 0], [1, 2, NO, NO]),
+            Told::AtClause(4, IRREDUNDANT, [0, 0, 0], [0, 3, NO, NO]),
+            Told::Assumptions([0, 0, 0]),
         ],
         &[
-            Said::AddClause(&[-1]),
-            Said::AddClause(&[1, 2]),
-            Said::AddClause(&[1, -2]),
+            Said::AddClause([-1, 0, 0]),
+            Said::AddClause([1, 2, 0]),
+            Said::AddClause([1, -2, 0]),
             Said::Unsat,
-            Said::Assume(&[]),
+            Said::Assume([0, 0, 0]),
         ],
     ),
     // each empty one is new
@@ -469,27 +457,21 @@ static DERIVED: [Row; 11] = [
             9, 0, 5, 2, 0, 2, 5, 1, 1, 5, 1, 3, 6, 0, 0, 1, 0, 6, 1, 0, 1, 0,
         ],
         &[
-            Told::AddClause(0, &[1, 2]),
-            Told::AddClause(1, &[-1]),
-            Told::AddClause(2, &[-2]),
-            Told::AtClause(3, IRREDUNDANT, &[], &[1, 2, 0]),
-            Told::AtClause(4, REDUNDANT, &[], &[1, 2, 0]),
+            Told::AddClause(0, [1, 2, 0]),
+            Told::AddClause(1, [-1, 0, 0]),
+            Told::AddClause(2, [-2, 0, 0]),
+            Told::AtClause(3, IRREDUNDANT, [0, 0, 0], [1, 2, 0, NO]),
+            Told::AtClause(4, REDUNDANT, [0, 0, 0], [1, 2, 0, NO]),
         ],
         &[
-            Said::AddClause(&[1, 2]),
-            Said::AddClause(&[-1]),
-            Said::AddClause(&[-2]),
+            Said::AddClause([1, 2, 0]),
+            Said::AddClause([-1, 0, 0]),
+            Said::AddClause([-2, 0, 0]),
             Said::Unsat,
             Said::Unsat,
         ],
     ),
 ];
-
-#[test]
-fn derived_clauses_are_announced(rt: HostRuntime) {
-    let wrong = first_unannounced(rt.alloc(), &DERIVED);
-    assert!(rt; wrong == None, "{wrong:?}");
-}
 
 /// Clauses that are deleted.
 static DELETED: [Row; 12] = [
@@ -497,11 +479,11 @@ static DELETED: [Row; 12] = [
     (
         &[9, 0, 5, 2, 0, 2, 6, 1, 3, 0, 2, 4, 1, 0, 8, 3, 4, 2, 0, 0],
         &[
-            Told::AddClause(0, &[1, 2]),
-            Told::AtClause(1, REDUNDANT, &[1, 2, 3], &[0]),
-            Told::DeleteClause(1, &[1, 2, 3]),
+            Told::AddClause(0, [1, 2, 0]),
+            Told::AtClause(1, REDUNDANT, [1, 2, 3], [0, NO, NO, NO]),
+            Told::DeleteClause(1, [1, 2, 3]),
         ],
-        &[Said::AddClause(&[1, 2])],
+        &[Said::AddClause([1, 2, 0])],
     ),
     (
         &[
@@ -509,44 +491,44 @@ static DELETED: [Row; 12] = [
             0, 8, 3, 0, 2, 4, 0,
         ],
         &[
-            Told::AddClause(0, &[1, 2]),
-            Told::AtClause(1, REDUNDANT, &[1, 2, 3], &[0]),
-            Told::Assumptions(&[]),
-            Told::DeleteClause(1, &[1, 2, 3]),
+            Told::AddClause(0, [1, 2, 0]),
+            Told::AtClause(1, REDUNDANT, [1, 2, 3], [0, NO, NO, NO]),
+            Told::Assumptions([0, 0, 0]),
+            Told::DeleteClause(1, [1, 2, 3]),
         ],
-        &[Said::AddClause(&[1, 2]), Said::Assume(&[])],
+        &[Said::AddClause([1, 2, 0]), Said::Assume([0, 0, 0])],
     ),
     (
         &[9, 0, 5, 2, 0, 2, 6, 1, 2, 0, 2, 1, 0, 8, 2, 0, 2, 0],
-        &[Told::AddClause(0, &[1, 2])],
-        &[Said::AddClause(&[1, 2])],
+        &[Told::AddClause(0, [1, 2, 0])],
+        &[Said::AddClause([1, 2, 0])],
     ),
     // satisfied: gone; there once more; kept as redundant, and gone then
     (
         &[5, 2, 0, 2, 5, 1, 0, 8, 2, 2, 0, 2],
         &[
-            Told::AddClause(0, &[1, 2]),
-            Told::AddClause(1, &[1]),
-            Told::DeleteAtClause(0, GONE, &[1, 2], &[1]),
+            Told::AddClause(0, [1, 2, 0]),
+            Told::AddClause(1, [1, 0, 0]),
+            Told::DeleteAtClause(0, GONE, [1, 2, 0], [1, NO, NO, NO]),
         ],
-        &[Said::AddClause(&[1, 2]), Said::AddClause(&[1])],
+        &[Said::AddClause([1, 2, 0]), Said::AddClause([1, 0, 0])],
     ),
     (
         &[
             5, 2, 0, 2, 5, 2, 0, 2, 5, 1, 0, 8, 2, 0, 2, 2, 11, 0, 8, 2, 0, 2, 2,
         ],
         &[
-            Told::AddClause(0, &[1, 2]),
-            Told::DuplicatedClause(1, 0, &[1, 2]),
-            Told::AddClause(2, &[1]),
-            Told::Assumptions(&[]),
-            Told::DeleteAtClause(0, GONE, &[1, 2], &[2]),
+            Told::AddClause(0, [1, 2, 0]),
+            Told::DuplicatedClause(1, 0, [1, 2, 0]),
+            Told::AddClause(2, [1, 0, 0]),
+            Told::Assumptions([0, 0, 0]),
+            Told::DeleteAtClause(0, GONE, [1, 2, 0], [2, NO, NO, NO]),
         ],
         &[
-            Said::AddClause(&[1, 2]),
-            Said::AddClause(&[1, 2]),
-            Said::AddClause(&[1]),
-            Said::Assume(&[]),
+            Said::AddClause([1, 2, 0]),
+            Said::AddClause([1, 2, 0]),
+            Said::AddClause([1, 0, 0]),
+            Said::Assume([0, 0, 0]),
         ],
     ),
     (
@@ -554,39 +536,39 @@ static DELETED: [Row; 12] = [
             9, 0, 5, 2, 0, 2, 6, 1, 2, 0, 2, 1, 0, 5, 1, 0, 8, 2, 0, 2, 2, 8, 2, 0, 2, 0,
         ],
         &[
-            Told::AddClause(0, &[1, 2]),
-            Told::AddClause(1, &[1]),
-            Told::DeleteAtClause(0, KEPT, &[1, 2], &[1]),
-            Told::DeleteClause(0, &[1, 2]),
+            Told::AddClause(0, [1, 2, 0]),
+            Told::AddClause(1, [1, 0, 0]),
+            Told::DeleteAtClause(0, KEPT, [1, 2, 0], [1, NO, NO, NO]),
+            Told::DeleteClause(0, [1, 2, 0]),
         ],
-        &[Said::AddClause(&[1, 2]), Said::AddClause(&[1])],
+        &[Said::AddClause([1, 2, 0]), Said::AddClause([1, 0, 0])],
     ),
     // simplified: gone; there once more; kept as redundant
     (
         &[5, 3, 0, 2, 4, 5, 2, 4, 0, 8, 3, 0, 2, 4, 1],
         &[
-            Told::AddClause(0, &[1, 2, 3]),
-            Told::AddClause(1, &[1, 3]),
-            Told::DeleteAtClause(0, GONE, &[1, 2, 3], &[1]),
+            Told::AddClause(0, [1, 2, 3]),
+            Told::AddClause(1, [1, 3, 0]),
+            Told::DeleteAtClause(0, GONE, [1, 2, 3], [1, NO, NO, NO]),
         ],
-        &[Said::AddClause(&[1, 2, 3]), Said::AddClause(&[1, 3])],
+        &[Said::AddClause([1, 2, 3]), Said::AddClause([1, 3, 0])],
     ),
     (
         &[
             5, 3, 0, 2, 4, 5, 3, 0, 2, 4, 5, 2, 0, 4, 8, 3, 0, 2, 4, 1, 11, 0, 8, 3, 0, 2, 4, 1,
         ],
         &[
-            Told::AddClause(0, &[1, 2, 3]),
-            Told::DuplicatedClause(1, 0, &[1, 2, 3]),
-            Told::AddClause(2, &[1, 3]),
-            Told::Assumptions(&[]),
-            Told::DeleteAtClause(0, GONE, &[1, 2, 3], &[2]),
+            Told::AddClause(0, [1, 2, 3]),
+            Told::DuplicatedClause(1, 0, [1, 2, 3]),
+            Told::AddClause(2, [1, 3, 0]),
+            Told::Assumptions([0, 0, 0]),
+            Told::DeleteAtClause(0, GONE, [1, 2, 3], [2, NO, NO, NO]),
         ],
         &[
-            Said::AddClause(&[1, 2, 3]),
-            Said::AddClause(&[1, 2, 3]),
-            Said::AddClause(&[1, 3]),
-            Said::Assume(&[]),
+            Said::AddClause([1, 2, 3]),
+            Said::AddClause([1, 2, 3]),
+            Said::AddClause([1, 3, 0]),
+            Said::Assume([0, 0, 0]),
         ],
     ),
     (
@@ -594,165 +576,162 @@ static DELETED: [Row; 12] = [
             9, 0, 5, 2, 0, 2, 6, 1, 3, 0, 2, 4, 1, 0, 5, 3, 0, 2, 4, 5, 2, 0, 4, 8, 3, 0, 2, 4, 1,
         ],
         &[
-            Told::AddClause(0, &[1, 2]),
-            Told::AtClause(1, REDUNDANT, &[1, 2, 3], &[0]),
-            Told::DuplicatedClause(2, 1, &[1, 2, 3]),
-            Told::AddClause(3, &[1, 3]),
-            Told::DeleteAtClause(1, KEPT, &[1, 2, 3], &[3]),
+            Told::AddClause(0, [1, 2, 0]),
+            Told::AtClause(1, REDUNDANT, [1, 2, 3], [0, NO, NO, NO]),
+            Told::DuplicatedClause(2, 1, [1, 2, 3]),
+            Told::AddClause(3, [1, 3, 0]),
+            Told::DeleteAtClause(1, KEPT, [1, 2, 3], [3, NO, NO, NO]),
         ],
         &[
-            Said::AddClause(&[1, 2]),
-            Said::AddClause(&[1, 2, 3]),
-            Said::AddClause(&[1, 3]),
+            Said::AddClause([1, 2, 0]),
+            Said::AddClause([1, 2, 3]),
+            Said::AddClause([1, 3, 0]),
         ],
     ),
     // by a unit, by the empty clause, and by a clause that was stored before
     (
         &[5, 2, 0, 2, 5, 1, 0, 8, 2, 0, 2, 1],
         &[
-            Told::AddClause(0, &[1, 2]),
-            Told::AddClause(1, &[1]),
-            Told::DeleteAtClause(0, GONE, &[1, 2], &[1]),
+            Told::AddClause(0, [1, 2, 0]),
+            Told::AddClause(1, [1, 0, 0]),
+            Told::DeleteAtClause(0, GONE, [1, 2, 0], [1, NO, NO, NO]),
         ],
-        &[Said::AddClause(&[1, 2]), Said::AddClause(&[1])],
+        &[Said::AddClause([1, 2, 0]), Said::AddClause([1, 0, 0])],
     ),
     (
         &[5, 2, 0, 2, 5, 0, 8, 2, 0, 2, 1],
         &[
-            Told::AddClause(0, &[1, 2]),
-            Told::AddClause(1, &[]),
-            Told::DeleteAtClause(0, GONE, &[1, 2], &[1]),
+            Told::AddClause(0, [1, 2, 0]),
+            Told::AddClause(1, [0, 0, 0]),
+            Told::DeleteAtClause(0, GONE, [1, 2, 0], [1, NO, NO, NO]),
         ],
-        &[Said::AddClause(&[1, 2]), Said::AddClause(&[])],
+        &[Said::AddClause([1, 2, 0]), Said::AddClause([0, 0, 0])],
     ),
     (
         &[5, 2, 0, 4, 5, 3, 0, 2, 4, 5, 2, 0, 4, 8, 3, 0, 2, 4, 1],
         &[
-            Told::AddClause(0, &[1, 3]),
-            Told::AddClause(1, &[1, 2, 3]),
-            Told::DuplicatedClause(2, 0, &[1, 3]),
-            Told::DeleteAtClause(1, GONE, &[1, 2, 3], &[0]),
+            Told::AddClause(0, [1, 3, 0]),
+            Told::AddClause(1, [1, 2, 3]),
+            Told::DuplicatedClause(2, 0, [1, 3, 0]),
+            Told::DeleteAtClause(1, GONE, [1, 2, 3], [0, NO, NO, NO]),
         ],
         &[
-            Said::AddClause(&[1, 3]),
-            Said::AddClause(&[1, 2, 3]),
-            Said::AddClause(&[1, 3]),
+            Said::AddClause([1, 3, 0]),
+            Said::AddClause([1, 2, 3]),
+            Said::AddClause([1, 3, 0]),
         ],
     ),
 ];
-
-#[test]
-fn deletions_are_announced(rt: HostRuntime) {
-    let wrong = first_unannounced(rt.alloc(), &DELETED);
-    assert!(rt; wrong == None, "{wrong:?}");
-}
 
 /// Models, assumptions and failed cores.
 static ANSWERS: [Row; 13] = [
     // in the order of their steps
     (
         &[5, 2, 0, 2, 10, 2, 2, 1],
-        &[Told::AddClause(0, &[1, 2]), Told::Model(&[2, -1])],
-        &[Said::AddClause(&[1, 2]), Said::Model(&[2, -1])],
+        &[Told::AddClause(0, [1, 2, 0]), Told::Model([2, -1, 0])],
+        &[Said::AddClause([1, 2, 0]), Said::Model([2, -1, 0])],
     ),
     (
         &[11, 2, 2, 1, 11, 0],
-        &[Told::Assumptions(&[2, -1]), Told::Assumptions(&[])],
-        &[Said::Assume(&[2, -1]), Said::Assume(&[])],
+        &[Told::Assumptions([2, -1, 0]), Told::Assumptions([0, 0, 0])],
+        &[Said::Assume([2, -1, 0]), Said::Assume([0, 0, 0])],
     ),
     // cores: by a unit, by a clause, by both, of no literal, and of both signs
     (
         &[5, 1, 0, 11, 2, 1, 2, 12, 1, 1, 0],
         &[
-            Told::AddClause(0, &[1]),
-            Told::Assumptions(&[-1, 2]),
-            Told::FailedAssumptions(&[-1], &[0]),
+            Told::AddClause(0, [1, 0, 0]),
+            Told::Assumptions([-1, 2, 0]),
+            Told::FailedAssumptions([-1, 0, 0], [0, NO, NO, NO]),
         ],
         &[
-            Said::AddClause(&[1]),
-            Said::Assume(&[-1, 2]),
-            Said::FailedAssumptions(&[-1]),
+            Said::AddClause([1, 0, 0]),
+            Said::Assume([-1, 2, 0]),
+            Said::FailedAssumptions([-1, 0, 0]),
         ],
     ),
     (
         &[9, 0, 5, 2, 0, 2, 11, 2, 1, 3, 12, 2, 1, 3, 1, 0],
         &[
-            Told::AddClause(0, &[1, 2]),
-            Told::Assumptions(&[-1, -2]),
-            Told::FailedAssumptions(&[-1, -2], &[0]),
+            Told::AddClause(0, [1, 2, 0]),
+            Told::Assumptions([-1, -2, 0]),
+            Told::FailedAssumptions([-1, -2, 0], [0, NO, NO, NO]),
         ],
         &[
-            Said::AddClause(&[1, 2]),
-            Said::Assume(&[-1, -2]),
-            Said::FailedAssumptions(&[-1, -2]),
+            Said::AddClause([1, 2, 0]),
+            Said::Assume([-1, -2, 0]),
+            Said::FailedAssumptions([-1, -2, 0]),
         ],
     ),
     (
         &[9, 0, 5, 1, 1, 5, 2, 0, 2, 11, 1, 3, 12, 1, 3, 1, 0],
         &[
-            Told::AddClause(0, &[-1]),
-            Told::AddClause(1, &[1, 2]),
-            Told::Assumptions(&[-2]),
-            Told::FailedAssumptions(&[-2], &[0, 1]),
+            Told::AddClause(0, [-1, 0, 0]),
+            Told::AddClause(1, [1, 2, 0]),
+            Told::Assumptions([-2, 0, 0]),
+            Told::FailedAssumptions([-2, 0, 0], [0, 1, NO, NO]),
         ],
         &[
-            Said::AddClause(&[-1]),
-            Said::AddClause(&[1, 2]),
-            Said::Assume(&[-2]),
-            Said::FailedAssumptions(&[-2]),
+            Said::AddClause([-1, 0, 0]),
+            Said::AddClause([1, 2, 0]),
+            Said::Assume([-2, 0, 0]),
+            Said::FailedAssumptions([-2, 0, 0]),
         ],
     ),
     (
         &[9, 0, 5, 1, 1, 5, 1, 3, 5, 2, 0, 2, 12, 0, 1, 0],
         &[
-            Told::AddClause(0, &[-1]),
-            Told::AddClause(1, &[-2]),
-            Told::AddClause(2, &[1, 2]),
-            Told::FailedAssumptions(&[], &[0, 1, 2]),
+            Told::AddClause(0, [-1, 0, 0]),
+            Told::AddClause(1, [-2, 0, 0]),
+            Told::AddClause(2, [1, 2, 0]),
+            Told::FailedAssumptions([0, 0, 0], [0, 1, 2, NO]),
         ],
         &[
-            Said::AddClause(&[-1]),
-            Said::AddClause(&[-2]),
-            Said::AddClause(&[1, 2]),
-            Said::FailedAssumptions(&[]),
+            Said::AddClause([-1, 0, 0]),
+            Said::AddClause([-2, 0, 0]),
+            Said::AddClause([1, 2, 0]),
+            Said::FailedAssumptions([0, 0, 0]),
         ],
     ),
     (
         &[11, 2, 0, 1, 12, 2, 0, 1, 0],
         &[
-            Told::Assumptions(&[1, -1]),
-            Told::FailedAssumptions(&[1, -1], &[]),
+            Told::Assumptions([1, -1, 0]),
+            Told::FailedAssumptions([1, -1, 0], [NO, NO, NO, NO]),
         ],
-        &[Said::Assume(&[1, -1]), Said::FailedAssumptions(&[1, -1])],
+        &[
+            Said::Assume([1, -1, 0]),
+            Said::FailedAssumptions([1, -1, 0]),
+        ],
     ),
     // in the user's names
     (
         &[2, 0, 5, 5, 1, 0, 11, 1, 1, 12, 1, 1, 0],
         &[
             Told::UserVar(1, 5, SAMPLE, NEW),
-            Told::AddClause(0, &[1]),
-            Told::Assumptions(&[-1]),
-            Told::FailedAssumptions(&[-1], &[0]),
+            Told::AddClause(0, [1, 0, 0]),
+            Told::Assumptions([-1, 0, 0]),
+            Told::FailedAssumptions([-1, 0, 0], [0, NO, NO, NO]),
         ],
         &[
-            Said::AddClause(&[5]),
-            Said::Assume(&[-5]),
-            Said::FailedAssumptions(&[-5]),
+            Said::AddClause([5, 0, 0]),
+            Said::Assume([-5, 0, 0]),
+            Said::FailedAssumptions([-5, 0, 0]),
         ],
     ),
     (
         &[2, 0, 5, 10, 2, 1, 2],
-        &[Told::UserVar(1, 5, SAMPLE, NEW), Told::Model(&[-1, 2])],
-        &[Said::Model(&[-5, 2])],
+        &[Told::UserVar(1, 5, SAMPLE, NEW), Told::Model([-1, 2, 0])],
+        &[Said::Model([-5, 2, 0])],
     ),
     (
         &[2, 0, 5, 4, 0, 0, 11, 1, 1],
         &[
             Told::UserVar(1, 5, SAMPLE, NEW),
             Told::UserVar(1, 5, WITNESS, KNOWN),
-            Told::Assumptions(&[-1]),
+            Told::Assumptions([-1, 0, 0]),
         ],
-        &[Said::WitnessVar(5), Said::Assume(&[-5])],
+        &[Said::WitnessVar(5), Said::Assume([-5, 0, 0])],
     ),
     // without literals of variables that have no name: a hidden one, which is its own once it is sampled again, and a witness
     (
@@ -762,15 +741,15 @@ static ANSWERS: [Row; 13] = [
         &[
             Told::UserVar(1, 5, SAMPLE, NEW),
             Told::NoName(1),
-            Told::Assumptions(&[1, -1, -2]),
-            Told::FailedAssumptions(&[1, -1], &[]),
-            Told::Model(&[-1, 2]),
+            Told::Assumptions([1, -1, -2]),
+            Told::FailedAssumptions([1, -1, 0], [NO, NO, NO, NO]),
+            Told::Model([-1, 2, 0]),
         ],
         &[
             Said::HideVar(5),
-            Said::Assume(&[-2]),
-            Said::FailedAssumptions(&[]),
-            Said::Model(&[2]),
+            Said::Assume([-2, 0, 0]),
+            Said::FailedAssumptions([0, 0, 0]),
+            Said::Model([2, 0, 0]),
         ],
     ),
     (
@@ -778,26 +757,24 @@ static ANSWERS: [Row; 13] = [
         &[
             Told::UserVar(1, 5, SAMPLE, NEW),
             Told::NoName(1),
-            Told::Assumptions(&[-1]),
+            Told::Assumptions([-1, 0, 0]),
         ],
-        &[Said::HideVar(5), Said::Assume(&[-1])],
+        &[Said::HideVar(5), Said::Assume([-1, 0, 0])],
     ),
     (
         &[5, 1, 0, 4, 0, 0, 11, 2, 1, 2, 10, 1, 0],
         &[
-            Told::AddClause(0, &[1]),
-            Told::Assumptions(&[-1, 2]),
-            Told::Model(&[1]),
+            Told::AddClause(0, [1, 0, 0]),
+            Told::Assumptions([-1, 2, 0]),
+            Told::Model([1, 0, 0]),
         ],
-        &[Said::AddClause(&[1]), Said::Assume(&[2]), Said::Model(&[])],
+        &[
+            Said::AddClause([1, 0, 0]),
+            Said::Assume([2, 0, 0]),
+            Said::Model([0, 0, 0]),
+        ],
     ),
 ];
-
-#[test]
-fn answers_are_announced(rt: HostRuntime) {
-    let wrong = first_unannounced(rt.alloc(), &ANSWERS);
-    assert!(rt; wrong == None, "{wrong:?}");
-}
 
 /// A name, and units that contradict each other.
 pub(crate) const UNITS: &[u8] = &[2, 0, 1, 5, 1, 0, 5, 1, 1];
@@ -805,20 +782,27 @@ pub(crate) const UNITS: &[u8] = &[2, 0, 1, 5, 1, 0, 5, 1, 1];
 /// What is told of them till what is delayed is settled.
 pub(crate) const CONFLICT_BEFORE: &[Told] = &[
     Told::UserVar(1, 1, SAMPLE, NEW),
-    Told::AddClause(0, &[1]),
-    Told::AddClause(1, &[-1]),
+    Told::AddClause(0, [1, 0, 0]),
+    Told::AddClause(1, [-1, 0, 0]),
 ];
 
-pub(crate) const CONFLICT_SAID_BEFORE: &[Said] = &[Said::AddClause(&[1]), Said::AddClause(&[-1])];
+pub(crate) const CONFLICT_SAID_BEFORE: &[Said] = &[
+    Said::AddClause([1, 0, 0]),
+    Said::AddClause([-1, 0, 0]),
+];
 
 pub(crate) const CONFLICT: &[Told] = &[
     Told::UserVar(1, 1, SAMPLE, NEW),
-    Told::AddClause(0, &[1]),
-    Told::AddClause(1, &[-1]),
-    Told::AtClause(2, IRREDUNDANT, &[], &[0, 1]),
+    Told::AddClause(0, [1, 0, 0]),
+    Told::AddClause(1, [-1, 0, 0]),
+    Told::AtClause(2, IRREDUNDANT, [0, 0, 0], [0, 1, NO, NO]),
 ];
 
-const CONFLICT_SAID: &[Said] = &[Said::AddClause(&[1]), Said::AddClause(&[-1]), Said::Unsat];
+const CONFLICT_SAID: &[Said] = &[
+    Said::AddClause([1, 0, 0]),
+    Said::AddClause([-1, 0, 0]),
+    Said::Unsat,
+];
 
 /// The empty clause of a unit conflict, told by the next step.
 static CONFLICTS: [Row; 5] = [
@@ -832,16 +816,16 @@ static CONFLICTS: [Row; 5] = [
         &[2, 0, 1, 5, 1, 0, 5, 1, 1, 11, 1, 1],
         &[
             Told::UserVar(1, 1, SAMPLE, NEW),
-            Told::AddClause(0, &[1]),
-            Told::AddClause(1, &[-1]),
-            Told::AtClause(2, IRREDUNDANT, &[], &[0, 1]),
-            Told::Assumptions(&[-1]),
+            Told::AddClause(0, [1, 0, 0]),
+            Told::AddClause(1, [-1, 0, 0]),
+            Told::AtClause(2, IRREDUNDANT, [0, 0, 0], [0, 1, NO, NO]),
+            Told::Assumptions([-1, 0, 0]),
         ],
         &[
-            Said::AddClause(&[1]),
-            Said::AddClause(&[-1]),
+            Said::AddClause([1, 0, 0]),
+            Said::AddClause([-1, 0, 0]),
             Said::Unsat,
-            Said::Assume(&[-1]),
+            Said::Assume([-1, 0, 0]),
         ],
     ),
     // under another name
@@ -849,36 +833,51 @@ static CONFLICTS: [Row; 5] = [
         &[2, 0, 5, 5, 1, 0, 5, 1, 1, 13],
         &[
             Told::UserVar(1, 5, SAMPLE, NEW),
-            Told::AddClause(0, &[1]),
-            Told::AddClause(1, &[-1]),
-            Told::AtClause(2, IRREDUNDANT, &[], &[0, 1]),
+            Told::AddClause(0, [1, 0, 0]),
+            Told::AddClause(1, [-1, 0, 0]),
+            Told::AtClause(2, IRREDUNDANT, [0, 0, 0], [0, 1, NO, NO]),
         ],
-        &[Said::AddClause(&[5]), Said::AddClause(&[-5]), Said::Unsat],
+        &[
+            Said::AddClause([5, 0, 0]),
+            Said::AddClause([-5, 0, 0]),
+            Said::Unsat,
+        ],
     ),
     // of derived units, one step's
     (
         &[9, 0, 5, 1, 0, 5, 2, 1, 2, 5, 2, 1, 3, 7, 2, 2, 0, 3, 0, 13],
         &[
-            Told::AddClause(0, &[1]),
-            Told::AddClause(1, &[-1, 2]),
-            Told::AddClause(2, &[-1, -2]),
-            Told::AtClause(3, IRREDUNDANT, &[2], &[0, 1]),
-            Told::AtClause(4, IRREDUNDANT, &[-2], &[0, 2]),
-            Told::AtClause(5, IRREDUNDANT, &[], &[3, 4]),
+            Told::AddClause(0, [1, 0, 0]),
+            Told::AddClause(1, [-1, 2, 0]),
+            Told::AddClause(2, [-1, -2, 0]),
+            Told::AtClause(3, IRREDUNDANT, [2, 0, 0], [0, 1, NO, NO]),
+            Told::AtClause(4, IRREDUNDANT, [-2, 0, 0], [0, 2, NO, NO]),
+            Told::AtClause(5, IRREDUNDANT, [0, 0, 0], [3, 4, NO, NO]),
         ],
         &[
-            Said::AddClause(&[1]),
-            Said::AddClause(&[-1, 2]),
-            Said::AddClause(&[-1, -2]),
+            Said::AddClause([1, 0, 0]),
+            Said::AddClause([-1, 2, 0]),
+            Said::AddClause([-1, -2, 0]),
             Said::Unsat,
         ],
     ),
 ];
 
 #[test]
-fn conflicts_are_announced(rt: HostRuntime) {
-    let wrong = first_unannounced(rt.alloc(), &CONFLICTS);
-    assert!(rt; wrong == None, "{wrong:?}");
+fn steps_are_announced(rt: HostRuntime) {
+    let tables: [&[Row]; 7] = [
+        &PROPAGATIONS,
+        &NAMES,
+        &INPUTS,
+        &DERIVED,
+        &DELETED,
+        &ANSWERS,
+        &CONFLICTS,
+    ];
+    for rows in tables {
+        let wrong = first_unannounced(rt.alloc(), rows);
+        assert!(rt; wrong == None, "{wrong:?}");
+    }
 }
 
 /// Whether the contradicting units are taken, and delayed steps settled, if that is asked for.
@@ -924,10 +923,10 @@ fn is_told_twice(alloc: Global) -> bool {
 const TWICE: Row = (
     &[],
     &[
-        Told::AddClause(0, &[1, 2]),
-        Told::DuplicatedClause(1, 0, &[1, 2]),
+        Told::AddClause(0, [1, 2, 0]),
+        Told::DuplicatedClause(1, 0, [1, 2, 0]),
     ],
-    &[Said::AddClause(&[1, 2]), Said::AddClause(&[1, 2])],
+    &[Said::AddClause([1, 2, 0]), Said::AddClause([1, 2, 0])],
 );
 
 #[test]

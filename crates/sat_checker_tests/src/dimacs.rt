@@ -5,7 +5,6 @@ use crate::kinds::{DimacsKind, Kind, dimacs_failure, failure};
 use sat_base::{Counted, CountedRead, DimacsError, Lit};
 use sat_checker::{Checker, CheckerDimacsError, CheckerError};
 use std::alloc::Global;
-use std::test::Fail;
 
 /// What a checker answers to a text: the error, and whether unsat is recorded.
 type Answer = (Option<DimacsKind>, bool);
@@ -198,14 +197,16 @@ const PRINTED: [(CheckerDimacsError, &str); 2] = [
     ),
 ];
 
-fn is_printed(alloc: Global, error: &CheckerDimacsError, text: &str) -> Result<bool, Fail> {
-    Ok(format!(in alloc; "{error}")?.as_str() == text)
+fn is_printed(alloc: Global, error: &CheckerDimacsError, text: &str) -> bool {
+    match format!(in alloc; "{error}") {
+        Ok(printed) => printed.as_str() == text,
+        Err(_) => false,
+    }
 }
 
 #[test]
-fn errors_are_printed(rt: HostRuntime) -> Result<(), Fail> {
+fn errors_are_printed(rt: HostRuntime) {
     for (error, text) in &PRINTED {
-        assert!(rt; is_printed(rt.alloc(), error, *text)?, "{text}");
+        assert!(rt; is_printed(rt.alloc(), error, *text), "{text}");
     }
-    Ok(())
 }

@@ -1,6 +1,5 @@
 //! Who waits for a list of announcements, or of steps of a transcript, and answers a fault to any other.
 
-use crate::items::have_numbers;
 use anyhow::anyhow;
 use sat_base::{Lit, Var};
 use sat_checker::variables::Variables;
@@ -11,6 +10,15 @@ use sat_checker::{
 };
 use std::alloc::Global;
 
+/// The numbers of at most three literals, and zeros behind them.
+type Numbers = [i64; 3];
+
+/// At most four ids, and `NO` behind them.
+type Ids = [u64; 4];
+
+/// No id.
+pub(crate) const NO: u64 = u64::MAX;
+
 /// An announcement. Variables, names and literals are numbers of DIMACS.
 #[derive(Clone, Copy)]
 pub(crate) enum Told {
@@ -18,19 +26,19 @@ pub(crate) enum Told {
     UserVar(i64, i64, bool, bool),
     /// A variable, which has no name any longer.
     NoName(i64),
-    AddClause(u64, &'static [i64]),
+    AddClause(u64, Numbers),
     /// An id, and that of the same clause.
-    DuplicatedClause(u64, u64, &'static [i64]),
-    TautologicalClause(u64, &'static [i64]),
+    DuplicatedClause(u64, u64, Numbers),
+    TautologicalClause(u64, Numbers),
     /// An id, whether it is redundant, the clause, and its propagations.
-    AtClause(u64, bool, &'static [i64], &'static [u64]),
-    MakeIrredundant(u64, &'static [i64]),
-    DeleteClause(u64, &'static [i64]),
+    AtClause(u64, bool, Numbers, Ids),
+    MakeIrredundant(u64, Numbers),
+    DeleteClause(u64, Numbers),
     /// An id, whether it is kept as redundant, the clause, and its propagations.
-    DeleteAtClause(u64, bool, &'static [i64], &'static [u64]),
-    Model(&'static [i64]),
-    Assumptions(&'static [i64]),
-    FailedAssumptions(&'static [i64], &'static [u64]),
+    DeleteAtClause(u64, bool, Numbers, Ids),
+    Model(Numbers),
+    Assumptions(Numbers),
+    FailedAssumptions(Numbers, Ids),
 }
 
 pub(crate) const SAMPLE: bool = true;
@@ -56,11 +64,37 @@ pub(crate) enum Said {
     SampleVar(i64),
     HideVar(i64),
     ObserveInternalVar(i64),
-    AddClause(&'static [i64]),
+    AddClause(Numbers),
     Unsat,
-    Model(&'static [i64]),
-    Assume(&'static [i64]),
-    FailedAssumptions(&'static [i64]),
+    Model(Numbers),
+    Assume(Numbers),
+    FailedAssumptions(Numbers),
+}
+
+/// The number of the literal at this place, if there is one, and zero.
+fn number_at(lits: &[Lit], place: usize) -> i64 {
+    match lits.get(place) {
+        Some(lit) => lit.to_dimacs(),
+        None => 0,
+    }
+}
+
+fn are_numbers(lits: &[Lit], numbers: Numbers) -> bool {
+    let found = [number_at(lits, 0), number_at(lits, 1), number_at(lits, 2)];
+    lits.len() <= 3 && found == numbers
+}
+
+/// The id at this place, if there is one.
+fn id_at(ids: &[u64], place: usize) -> u64 {
+    match ids.get(place) {
+        Some(id) => *id,
+        None => NO,
+    }
+}
+
+fn are_ids(ids: &[u64], wanted: Ids) -> bool {
+    let found = [id_at(ids, 0), id_at(ids, 1), id_at(ids, 2), id_at(ids, 3)];
+    ids.len() <= 4 && found == wanted
 }
 
 fn samples(mode: CheckedSamplingMode) -> bool {
@@ -98,7 +132,7 @@ fn is_user_var(told: Told, var: Var, user_var: Option<CheckedUserVar>) -> bool {
 
 fn is_added(told: Told, id: u64, clause: &[Lit]) -> bool {
     match told {
-        Told::AddClause(wanted, numbers) => id == wanted && have_numbers(clause, numbers),
+        Told::AddClause(wanted, numbers) => id == wanted && are_numbers(clause, numbers),
         _ => false,
     }
 }
@@ -106,7 +140,7 @@ fn is_added(told: Told, id: u64, clause: &[Lit]) -> bool {
 fn is_duplicated(told: Told, id: u64, same_as_id: u64, clause: &[Lit]) -> bool {
     match told {
         Told::DuplicatedClause(wanted, same, numbers) => {
-            id == wanted && same_as_id == same && have_numbers(clause, numbers)
+            id == wanted && same_as_id == same && are_numbers(clause, numbers)
         }
         _ => false,
     }
@@ -114,7 +148,7 @@ fn is_duplicated(told: Told, id: u64, same_as_id: u64, clause: &[Lit]) -> bool {
 
 fn is_tautological(told: Told, id: u64, clause: &[Lit]) -> bool {
     match told {
-        Told::TautologicalClause(wanted, numbers) => id == wanted && have_numbers(clause, numbers),
+        Told::TautologicalClause(wanted, numbers) => id == wanted && are_numbers(clause, numbers),
         _ => false,
     }
 }
@@ -124,8 +158,8 @@ fn is_derived(told: Told, id: u64, redundant: bool, clause: &[Lit], ids: &[u64])
         Told::AtClause(wanted, flag, numbers, propagations) => {
             id == wanted
                 && redundant == flag
-                && have_numbers(clause, numbers)
-                && ids == propagations
+                && are_numbers(clause, numbers)
+                && are_ids(ids, propagations)
         }
         _ => false,
     }
@@ -133,14 +167,14 @@ fn is_derived(told: Told, id: u64, redundant: bool, clause: &[Lit], ids: &[u64])
 
 fn is_made_irredundant(told: Told, id: u64, clause: &[Lit]) -> bool {
     match told {
-        Told::MakeIrredundant(wanted, numbers) => id == wanted && have_numbers(clause, numbers),
+        Told::MakeIrredundant(wanted, numbers) => id == wanted && are_numbers(clause, numbers),
         _ => false,
     }
 }
 
 fn is_deleted(told: Told, id: u64, clause: &[Lit]) -> bool {
     match told {
-        Told::DeleteClause(wanted, numbers) => id == wanted && have_numbers(clause, numbers),
+        Told::DeleteClause(wanted, numbers) => id == wanted && are_numbers(clause, numbers),
         _ => false,
     }
 }
@@ -148,7 +182,10 @@ fn is_deleted(told: Told, id: u64, clause: &[Lit]) -> bool {
 fn is_deleted_by(told: Told, id: u64, kept: bool, clause: &[Lit], ids: &[u64]) -> bool {
     match told {
         Told::DeleteAtClause(wanted, flag, numbers, propagations) => {
-            id == wanted && kept == flag && have_numbers(clause, numbers) && ids == propagations
+            id == wanted
+                && kept == flag
+                && are_numbers(clause, numbers)
+                && are_ids(ids, propagations)
         }
         _ => false,
     }
@@ -156,14 +193,14 @@ fn is_deleted_by(told: Told, id: u64, kept: bool, clause: &[Lit], ids: &[u64]) -
 
 fn is_model(told: Told, assignment: &[Lit]) -> bool {
     match told {
-        Told::Model(numbers) => have_numbers(assignment, numbers),
+        Told::Model(numbers) => are_numbers(assignment, numbers),
         _ => false,
     }
 }
 
 fn is_assumed(told: Told, assumptions: &[Lit]) -> bool {
     match told {
-        Told::Assumptions(numbers) => have_numbers(assumptions, numbers),
+        Told::Assumptions(numbers) => are_numbers(assumptions, numbers),
         _ => false,
     }
 }
@@ -171,7 +208,7 @@ fn is_assumed(told: Told, assumptions: &[Lit]) -> bool {
 fn is_failed_core(told: Told, core: &[Lit], ids: &[u64]) -> bool {
     match told {
         Told::FailedAssumptions(numbers, propagations) => {
-            have_numbers(core, numbers) && ids == propagations
+            are_numbers(core, numbers) && are_ids(ids, propagations)
         }
         _ => false,
     }
@@ -261,7 +298,7 @@ fn is_observed(said: Said, var: Var) -> bool {
 
 fn is_input(said: Said, clause: &[Lit]) -> bool {
     match said {
-        Said::AddClause(numbers) => have_numbers(clause, numbers),
+        Said::AddClause(numbers) => are_numbers(clause, numbers),
         _ => false,
     }
 }
@@ -275,21 +312,21 @@ fn is_unsat(said: Said) -> bool {
 
 fn is_modelled(said: Said, assignment: &[Lit]) -> bool {
     match said {
-        Said::Model(numbers) => have_numbers(assignment, numbers),
+        Said::Model(numbers) => are_numbers(assignment, numbers),
         _ => false,
     }
 }
 
 fn is_assuming(said: Said, assumptions: &[Lit]) -> bool {
     match said {
-        Said::Assume(numbers) => have_numbers(assumptions, numbers),
+        Said::Assume(numbers) => are_numbers(assumptions, numbers),
         _ => false,
     }
 }
 
 fn is_failing(said: Said, core: &[Lit]) -> bool {
     match said {
-        Said::FailedAssumptions(numbers) => have_numbers(core, numbers),
+        Said::FailedAssumptions(numbers) => are_numbers(core, numbers),
         _ => false,
     }
 }

@@ -5,7 +5,6 @@ use sat_checker::sorted_lits::{copy_canonical, is_subset};
 use sat_checker::variables::Variables;
 use sat_checker::{Checker, ClauseHasher};
 use std::alloc::Global;
-use std::test::Fail;
 
 /// The hash of [1,2] by width.
 const HASHES: [(u32, ClauseHash); 4] = [(64, 0x449114950295082a), (8, 0x44), (6, 17), (0, 0)];
@@ -79,11 +78,10 @@ fn is_set_of(alloc: Global, numbers: [i64; 3], wanted: &[i64], both: bool) -> bo
 }
 
 #[test]
-fn sets_are_sorted(rt: HostRuntime) -> Result<(), Fail> {
+fn sets_are_sorted(rt: HostRuntime) {
     for &(numbers, wanted, both) in &SETS {
         assert!(rt; is_set_of(rt.alloc(), numbers, wanted, both), "{wanted:?}");
     }
-    Ok(())
 }
 
 /// Two sets, whether the first is a part of the second, and whether a strict one.
@@ -109,12 +107,11 @@ fn is_part(alloc: Global, first: [i64; 3], second: [i64; 3], strict: bool) -> Op
 }
 
 #[test]
-fn parts_are_told(rt: HostRuntime) -> Result<(), Fail> {
+fn parts_are_told(rt: HostRuntime) {
     for &(first, second, part, strict_part) in &PARTS {
         assert!(rt; is_part(rt.alloc(), first, second, false) == Some(part));
         assert!(rt; is_part(rt.alloc(), first, second, true) == Some(strict_part));
     }
-    Ok(())
 }
 
 /// What a checker tells of the first variable: its name, whether it is known, and whether one was deleted.
@@ -143,26 +140,25 @@ fn told(alloc: Global, text: &[u8]) -> Told {
 }
 
 #[test]
-fn variables_are_told(rt: HostRuntime) -> Result<(), Fail> {
+fn variables_are_told(rt: HostRuntime) {
     for (text, wanted) in &TOLD {
         assert!(rt; told(rt.alloc(), *text) == *wanted, "{text:?}");
     }
-    Ok(())
 }
 
-/// Whether a variable is known, and which one has a name, before and behind its removal.
-fn named(variables: &mut Variables) -> Option<bool> {
+/// Whether a variable holds a name up to its removal, and is known behind it.
+fn is_held(variables: &mut Variables) -> bool {
     let (var, name) = (Var::from_index(0), Var::from_index(4));
-    variables.ensure_var(var).ok()?;
-    let given = variables.add_user_mapping(var, name).ok()?;
-    let held = variables.holder(name) == Some(var);
-    let removed = variables.remove_user_mapping(var).ok()?;
-    let free = variables.holder(name).is_none();
-    Some(given && held && removed && free && variables.data(var).known)
+    variables.ensure_var(var) == Ok(())
+        && variables.add_user_mapping(var, name) == Ok(true)
+        && variables.holder(name) == Some(var)
+        && variables.remove_user_mapping(var) == Ok(true)
+        && variables.holder(name).is_none()
+        && variables.data(var).known
 }
 
 #[test]
 fn names_are_held(rt: HostRuntime) {
     let mut variables = Variables::new(rt.alloc());
-    assert!(rt; named(&mut variables) == Some(true));
+    assert!(rt; is_held(&mut variables));
 }

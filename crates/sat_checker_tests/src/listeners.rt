@@ -75,17 +75,23 @@ fn told(
     4
 }
 
+/// Adds two processors and a transcript that fail at this call.
+fn add_three(processing: &mut Processing<FailsAt, FailsAt>, at: u64) -> bool {
+    processing.add_processor(FailsAt::new(at)).is_ok()
+        && processing.add_processor(FailsAt::new(at)).is_ok()
+        && processing.add_transcript(FailsAt::new(at)).is_ok()
+}
+
 /// Whether two processors that fail at this call, and a transcript, are handed back as the first fault left them: the second processor and
 /// the transcript were called once less.
-fn are_handed_back(alloc: Global, at: u64) -> Option<bool> {
+fn are_handed_back(alloc: Global, at: u64) -> bool {
     let variables = Variables::new(alloc);
     let mut processing: Processing<FailsAt, FailsAt> = Processing::new(alloc);
-    processing.add_processor(FailsAt::new(at)).ok()?;
-    processing.add_processor(FailsAt::new(at)).ok()?;
-    processing.add_transcript(FailsAt::new(at)).ok()?;
+    let added = add_three(&mut processing, at);
     let step = CheckedProofStep::AddClause { id: 0, clause: &[] };
     let count = told(&mut processing, &variables, &step);
-    Some(count.saturating_add(1) == at && were_left(&processing.into_processors(), at))
+    let left = were_left(&processing.into_processors(), at);
+    added && count.saturating_add(1) == at && left
 }
 
 /// Whether the first processor was called so often, and the second and the transcript once less.
@@ -100,29 +106,34 @@ fn were_left(given_back: &Processors<FailsAt, FailsAt>, at: u64) -> bool {
 #[test]
 fn failed_processors_are_handed_back(rt: HostRuntime) {
     for at in 1..5 {
-        assert!(rt; are_handed_back(rt.alloc(), at) == Some(true), "{at}");
+        assert!(rt; are_handed_back(rt.alloc(), at), "{at}");
     }
 }
 
 /// Whether a processor of the caller's own that answers a fault ends the step before the others, and one that doesn't lets them be told.
-fn is_told_first(alloc: Global) -> Option<bool> {
+fn is_told_before(processing: &mut Processing<FailsAt, FailsAt>, names: CheckerData<'_>) -> bool {
     let step = CheckedProofStep::AddClause { id: 0, clause: &[] };
-    let names_of = Variables::new(alloc);
-    let names = CheckerData::new(&names_of);
-    let mut processing: Processing<FailsAt, FailsAt> = Processing::new(alloc);
-    let unheard = processing.is_quiet();
-    processing.add_processor(FailsAt::new(1)).ok()?;
-    let heard = !processing.is_quiet();
     let mut own = FailsAt::new(1);
-    let first = processing.step_with(&mut own, &step, names).is_err();
-    let only_own = own.calls == 1 && processing.step(&step, names).is_err();
-    let second = processing.step_with(&mut own, &step, names).is_ok();
-    Some(unheard && heard && first && only_own && second && own.calls == 2)
+    processing.step_with(&mut own, &step, names).is_err()
+        && own.calls == 1
+        && processing.step(&step, names).is_err()
+        && processing.step_with(&mut own, &step, names).is_ok()
+        && own.calls == 2
+}
+
+/// Whether somebody listens once a processor was added, and the caller's own is told before it.
+fn is_told_first(alloc: Global) -> bool {
+    let variables = Variables::new(alloc);
+    let mut processing: Processing<FailsAt, FailsAt> = Processing::new(alloc);
+    processing.is_quiet()
+        && processing.add_processor(FailsAt::new(1)).is_ok()
+        && !processing.is_quiet()
+        && is_told_before(&mut processing, CheckerData::new(&variables))
 }
 
 #[test]
 fn own_processor_is_told_first(rt: HostRuntime) {
-    assert!(rt; is_told_first(rt.alloc()) == Some(true));
+    assert!(rt; is_told_first(rt.alloc()));
 }
 
 /// How many literals a clause of a transcript has, and the first.
@@ -135,25 +146,33 @@ fn length_and_first(step: &ProofTranscriptStep<'_>) -> Option<(usize, i64)> {
     }
 }
 
-/// A clause's literals in a transcript, where variable 1 has the name 8 and variable 2 is a witness without a name.
-fn transcribed(alloc: Global, clause: &[Lit]) -> Option<(usize, i64)> {
+/// Gives variable 1 the name 8, and makes variable 2 a witness without a name.
+fn name_first(variables: &mut Variables) -> bool {
     let (first, second) = (Var::from_index(0), Var::from_index(1));
-    let mut variables = Variables::new(alloc);
-    variables.add_user_mapping(first, Var::from_index(7)).ok()?;
-    variables.ensure_var(second).ok()?;
-    variables.set_mode(second, false).ok()?;
+    variables
+        .add_user_mapping(first, Var::from_index(7))
+        .is_ok()
+        && variables.ensure_var(second).is_ok()
+        && variables.set_mode(second, false).is_ok()
+}
+
+/// A clause's literals in a transcript.
+fn transcribed(alloc: Global, variables: &Variables, clause: &[Lit]) -> Option<(usize, i64)> {
     let mut transcript = Transcript::new(alloc);
     let step = CheckedProofStep::AddClause { id: 0, clause };
-    match transcript.transcript_step(&step, CheckerData::new(&variables)) {
+    match transcript.transcript_step(&step, CheckerData::new(variables)) {
         Ok(Some(said)) => length_and_first(&said),
-        Ok(None) => None,
-        Err(_) => None,
+        _ => None,
     }
 }
 
 #[test]
 fn clauses_are_transcribed(rt: HostRuntime) {
+    let mut variables = Variables::new(rt.alloc());
+    let named = name_first(&mut variables);
     let (first, second) = (Var::from_index(0), Var::from_index(1));
     let clause = [first.negative(), second.positive()];
-    assert!(rt; transcribed(rt.alloc(), &clause) == Some((1, -8)));
+    let said = transcribed(rt.alloc(), &variables, &clause);
+    drop(variables);
+    assert!(rt; named && said == Some((1, -8)));
 }

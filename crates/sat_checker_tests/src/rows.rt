@@ -478,37 +478,10 @@ static ANSWERS: [Row; 32] = [
 ];
 
 #[test]
-fn proofs_are_answered(rt: HostRuntime) {
-    let wrong = first_unanswered(rt.alloc(), &PROOFS);
-    assert!(rt; wrong == None, "{wrong:?}");
-}
-
-#[test]
-fn names_are_answered(rt: HostRuntime) {
-    let wrong = first_unanswered(rt.alloc(), &NAMES);
-    assert!(rt; wrong == None, "{wrong:?}");
-}
-
-#[test]
-fn variables_are_answered(rt: HostRuntime) {
-    let wrong = first_unanswered(rt.alloc(), &VARIABLES);
-    assert!(rt; wrong == None, "{wrong:?}");
-}
-
-#[test]
-fn clauses_are_answered(rt: HostRuntime) {
-    let wrong = first_unanswered(rt.alloc(), &CLAUSES);
-    assert!(rt; wrong == None, "{wrong:?}");
-}
-
-#[test]
-fn deletions_are_answered(rt: HostRuntime) {
-    let wrong = first_unanswered(rt.alloc(), &DELETIONS);
-    assert!(rt; wrong == None, "{wrong:?}");
-}
-
-#[test]
-fn answers_are_answered(rt: HostRuntime) {
-    let wrong = first_unanswered(rt.alloc(), &ANSWERS);
-    assert!(rt; wrong == None, "{wrong:?}");
+fn steps_are_answered(rt: HostRuntime) {
+    let tables: [&[Row]; 6] = [&PROOFS, &NAMES, &VARIABLES, &CLAUSES, &DELETIONS, &ANSWERS];
+    for rows in tables {
+        let wrong = first_unanswered(rt.alloc(), rows);
+        assert!(rt; wrong == None, "{wrong:?}");
+    }
 }

@@ -7,7 +7,6 @@ use crate::rows::{Answer, Row, next_error};
 use sat_base::{Counted, CountedRead, Lit, ProofStep, StepReader};
 use sat_checker::{Checker, CheckerError, SelfChecker};
 use std::alloc::Global;
-use std::test::Fail;
 
 /// Feeds a checker the steps of a text, up to the first that is refused.
 fn fed<C: SelfChecker, R: CountedRead>(
@@ -60,33 +59,48 @@ pub(crate) fn is_answered(alloc: Global, row: &Row) -> bool {
         && answered_to_listeners(alloc, row.0) == Some(row.1)
 }
 
+/// The first variable is hidden.
+const HIDDEN: &[u8] = &[2, 0, 1, 2, 0, 0];
+
+/// Whether a clause is refused, and one behind it is taken.
+fn refuses_one(alloc: Global, checker: &mut Checker) -> bool {
+    read_by(alloc, checker, &mut Counted::new(HIDDEN)).is_ok()
+        && failure(&checker.add_clause(&[Lit::from_code(0)])) == Some(Kind::CheckFailed)
+        && checker.add_clause(&[]).is_ok()
+        && checker.unsat()
+}
+
 /// A refused step is the last, a refused clause isn't.
 #[test]
-fn failing_is_final(rt: HostRuntime) -> Result<(), Fail> {
+fn failing_is_final(rt: HostRuntime) {
     let mut checker = Checker::new(rt.alloc());
-    let lit = [Lit::from_code(0)];
-    let hidden: &[u8] = &[2, 0, 1, 2, 0, 0];
-    assert!(rt; read_by(rt.alloc(), &mut checker, &mut Counted::new(hidden)).is_ok());
-    assert!(rt; failure(&checker.add_clause(&lit)) == Some(Kind::CheckFailed));
-    assert!(rt; checker.add_clause(&[]).is_ok());
-    assert!(rt; checker.unsat());
+    let refused = refuses_one(rt.alloc(), &mut checker);
     drop(checker);
-    Ok(())
+    assert!(rt; refused);
+}
+
+/// Whether contradicting units are settled twice.
+fn settles_twice(checker: &mut Checker, lit: Lit) -> bool {
+    checker.add_clause(&[lit]).is_ok()
+        && checker.add_clause(&[!lit]).is_ok()
+        && checker.self_check_delayed_steps().is_ok()
+        && checker.self_check_delayed_steps().is_ok()
+}
+
+/// Whether a step is taken once, and nothing is settled behind its refusal.
+fn settles_no_more(checker: &mut Checker, step: &ProofStep<'_>) -> bool {
+    checker.self_check_step(step).is_ok()
+        && failure(&checker.self_check_step(step)) == Some(Kind::CheckFailed)
+        && failure(&checker.self_check_delayed_steps()) == Some(Kind::HasFailed)
 }
 
 /// Contradicting units are settled, which may be asked again; a checker that has failed settles nothing.
 #[test]
-fn delayed_steps_are_settled(rt: HostRuntime) -> Result<(), Fail> {
+fn delayed_steps_are_settled(rt: HostRuntime) {
     let mut checker = Checker::new(rt.alloc());
     let lit = Lit::from_code(0);
-    assert!(rt; checker.add_clause(&[lit]).is_ok());
-    assert!(rt; checker.add_clause(&[!lit]).is_ok());
-    assert!(rt; checker.self_check_delayed_steps().is_ok());
-    assert!(rt; checker.self_check_delayed_steps().is_ok());
-    let step = ProofStep::DeleteVar { var: lit.var() };
-    assert!(rt; checker.self_check_step(&step).is_ok());
-    assert!(rt; failure(&checker.self_check_step(&step)) == Some(Kind::CheckFailed));
-    assert!(rt; failure(&checker.self_check_delayed_steps()) == Some(Kind::HasFailed));
+    let settled = settles_twice(&mut checker, lit);
+    let ended = settles_no_more(&mut checker, &ProofStep::DeleteVar { var: lit.var() });
     drop(checker);
-    Ok(())
+    assert!(rt; settled && ended);
 }
