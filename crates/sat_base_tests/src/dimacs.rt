@@ -9,8 +9,8 @@ ghost use Rattle.sat_base.specs.dimacs.Dimacs.{dimacs};
 
 use crate::devices::by_one;
 use sat_base::{
-    CnfFormula, Counted, CountedRead, DimacsError, DimacsParser, ExtendFormula, IncrementalError,
-    Lit, write_dimacs,
+    CnfFormula, Counted, CountedRead, DimacsError, DimacsParser, ExtendFormula, FormulaError,
+    IncrementalError, Lit, write_dimacs,
 };
 use std::alloc::{AllocError, Global};
 use std::test::*;
@@ -50,26 +50,25 @@ fn add_numbers(all: &mut Vec<i64>, formula: &CnfFormula) -> Result<(), AllocErro
 }
 
 /// The numbers of a formula's literals, with a 0 behind each clause.
-fn numbers(alloc: Global, formula: &CnfFormula) -> Result<Vec<i64>, Fail> {
+fn numbers(alloc: Global, formula: &CnfFormula) -> Result<Vec<i64>, AllocError> {
     let mut all = Vec::new(alloc);
     add_numbers(&mut all, formula)?;
     Ok(all)
 }
 
 /// Tests whether a formula has these clauses.
-fn has(alloc: Global, formula: &CnfFormula, clauses: &[i64]) -> Result<bool, Fail> {
-    Ok(numbers(alloc, formula)?.as_slice() == clauses)
+fn has(alloc: Global, formula: &CnfFormula, clauses: &[i64]) -> bool {
+    match numbers(alloc, formula) {
+        Ok(all) => all.as_slice() == clauses,
+        Err(_) => false,
+    }
 }
 
 /// Takes the clauses that wait. Gives whether they are these, how many there are, and the highest variable.
-fn take(
-    alloc: Global,
-    parser: &mut DimacsParser,
-    clauses: &[i64],
-) -> Result<(bool, u64, usize), Fail> {
+fn take(alloc: Global, parser: &mut DimacsParser, clauses: &[i64]) -> (bool, u64, usize) {
     let formula = parser.take_formula();
-    let is_right = has(alloc, &formula, clauses)?;
-    Ok((is_right, formula.len() as u64, formula.var_count()))
+    let is_right = has(alloc, &formula, clauses);
+    (is_right, formula.len() as u64, formula.var_count())
 }
 
 /// Tests whether nothing waits, and the text was said to be over.
@@ -114,36 +113,35 @@ static ROWS: [Row; 11] = [
 ];
 
 /// Tests whether a parser that has read a row's text has what the row says, also when its clauses are taken, and is over.
-fn has_read(alloc: Global, parser: &mut DimacsParser, row: &Row) -> Result<bool, Fail> {
+fn has_read(alloc: Global, parser: &mut DimacsParser, row: &Row) -> bool {
     let found = state(parser);
-    let (is_right, count, _) = take(alloc, parser, row.2)?;
-    Ok(is_right && found == (row.3, count, row.4) && state(parser) == found && is_over(parser))
+    let (is_right, count, _) = take(alloc, parser, row.2);
+    is_right && found == (row.3, count, row.4) && state(parser) == found && is_over(parser)
 }
 
 /// Tests whether a row's text, in pieces of this length, says what the row says.
-fn says(alloc: Global, row: &Row, piece: usize) -> Result<bool, Fail>
+fn says(alloc: Global, row: &Row, piece: usize) -> bool
     requires { 0 < piece }
 {
     let mut parser = DimacsParser::new(alloc);
-    Ok(read(&mut parser, row.0, piece) == row.1 && has_read(alloc, &mut parser, row)?)
+    read(&mut parser, row.0, piece) == row.1 && has_read(alloc, &mut parser, row)
 }
 
 /// The first of some lengths of pieces in which a row's text doesn't say what the row says.
-fn wrong_length(alloc: Global, row: &Row) -> Result<Option<usize>, Fail> {
+fn wrong_length(alloc: Global, row: &Row) -> Option<usize> {
     for piece in [1, 3, 100] {
-        if !says(alloc, row, piece)? {
-            return Ok(Some(piece));
+        if !says(alloc, row, piece) {
+            return Some(piece);
         }
     }
-    Ok(None)
+    None
 }
 
 #[test]
-fn texts_say_clauses_and_faults(rt: HostRuntime) -> Result<(), Fail> {
+fn texts_say_clauses_and_faults(rt: HostRuntime) {
     for row in &ROWS {
-        assert!(rt; wrong_length(rt.alloc(), row)? == None, "{row:?}");
+        assert!(rt; wrong_length(rt.alloc(), row) == None, "{row:?}");
     }
-    Ok(())
 }
 
 /// A piece, the state behind it, the clauses that wait then, and the highest variable of those and the ones before.
@@ -161,49 +159,52 @@ static PIECES: [Piece; 3] = [
     (b"", (Some((7, 2)), 3, 9), &[], 0, 9),
 ];
 
-fn goes_on(alloc: Global, parser: &mut DimacsParser, piece: &Piece) -> Result<bool, Fail> {
-    feed(parser, piece.0)?;
-    Ok(state(parser) == piece.1 && take(alloc, parser, piece.2)? == (true, piece.3, piece.4))
+fn goes_on(alloc: Global, parser: &mut DimacsParser, piece: &Piece) -> bool {
+    feed(parser, piece.0) == Ok(())
+        && state(parser) == piece.1
+        && take(alloc, parser, piece.2) == (true, piece.3, piece.4)
 }
 
 /// The first piece behind which a parser that is fed them isn't as the piece says.
-fn wrong_piece(alloc: Global, parser: &mut DimacsParser) -> Result<Option<Piece>, Fail> {
+fn wrong_piece(alloc: Global, parser: &mut DimacsParser) -> Option<Piece> {
     for piece in &PIECES {
-        if !goes_on(alloc, parser, piece)? {
-            return Ok(Some(*piece));
+        if !goes_on(alloc, parser, piece) {
+            return Some(*piece);
         }
     }
-    Ok(None)
+    None
 }
 
 /// Tests whether nothing waits behind the pieces, and the state stays when the text is said to be over.
-fn ends(alloc: Global, parser: &mut DimacsParser) -> Result<bool, Fail> {
-    let is_empty = take(alloc, parser, &[])? == (true, 0, 9);
-    Ok(is_empty && read(parser, b"", 1) == Ok(()) && state(parser) == (Some((7, 2)), 3, 9))
+fn ends(alloc: Global, parser: &mut DimacsParser) -> bool {
+    take(alloc, parser, &[]) == (true, 0, 9)
+        && read(parser, b"", 1) == Ok(())
+        && state(parser) == (Some((7, 2)), 3, 9)
 }
 
 /// The first piece behind which a parser is wrong, and whether it ends as it should.
-fn taken(alloc: Global, parser: &mut DimacsParser) -> Result<(Option<Piece>, bool), Fail> {
-    let wrong = wrong_piece(alloc, parser)?;
-    Ok((wrong, ends(alloc, parser)?))
+fn taken(alloc: Global, parser: &mut DimacsParser) -> (Option<Piece>, bool) {
+    let wrong = wrong_piece(alloc, parser);
+    (wrong, ends(alloc, parser))
 }
 
-fn taken_by_new(alloc: Global) -> Result<(Option<Piece>, bool), Fail> {
+fn taken_by_new(alloc: Global) -> (Option<Piece>, bool) {
     let mut parser = DimacsParser::new(alloc);
     taken(alloc, &mut parser)
 }
 
 #[test]
-fn clauses_are_taken_as_they_come(rt: HostRuntime) -> Result<(), Fail> {
-    let (wrong, ends) = taken_by_new(rt.alloc())?;
+fn clauses_are_taken_as_they_come(rt: HostRuntime) {
+    let (wrong, ends) = taken_by_new(rt.alloc());
     assert!(rt; wrong == None && ends, "{wrong:?}");
-    Ok(())
 }
 
 /// Tests whether a formula with these clauses and this highest variable is read from a text.
-fn is_parsed(alloc: Global, text: &[u8], clauses: &[i64], highest: usize) -> Result<bool, Fail> {
-    let formula = DimacsParser::parse(alloc, &mut Counted::new(text))?;
-    Ok(formula.var_count() == highest && has(alloc, &formula, clauses)?)
+fn is_parsed(alloc: Global, text: &[u8], clauses: &[i64], highest: usize) -> bool {
+    match DimacsParser::parse(alloc, &mut Counted::new(text)) {
+        Ok(formula) => formula.var_count() == highest && has(alloc, &formula, clauses),
+        Err(_) => false,
+    }
 }
 
 /// How many clauses are read from a text, or the fault.
@@ -212,12 +213,11 @@ fn parsed<R: CountedRead>(alloc: Global, reader: &mut R) -> Result<usize, Dimacs
 }
 
 #[test]
-fn a_reader_is_read_to_its_end(rt: HostRuntime) -> Result<(), Fail> {
+fn a_reader_is_read_to_its_end(rt: HostRuntime) {
     let text: &[u8] = b"p cnf 3 2\n1 -3 0\n2 0\n";
-    assert!(rt; is_parsed(rt.alloc(), text, &[1, -3, 0, 2, 0], 3)?);
+    assert!(rt; is_parsed(rt.alloc(), text, &[1, -3, 0, 2, 0], 3));
     let cut: &[u8] = b"1 0\n2 x";
     assert!(rt; parsed(rt.alloc(), &mut Counted::new(cut)) == Err(MALFORMED));
-    Ok(())
 }
 
 #[test]
@@ -306,19 +306,20 @@ fn a_caller_sees_each_piece(rt: HostRuntime) {
 }
 
 /// Adds a clause for each of the first thousand variables.
-fn add_thousand(formula: &mut CnfFormula) -> Result<(), Fail> {
+fn add_thousand(formula: &mut CnfFormula) -> Result<(), FormulaError> {
     for index in 0..1000 {
         formula.add_clause(&[Lit::from_index(index, true), Lit::from_index(1, false)])?;
     }
     Ok(())
 }
 
-fn long_text(alloc: Global) -> Result<Vec<u8>, Fail> {
+/// Whether a thousand clauses are written, and their text.
+fn long_text(alloc: Global) -> (bool, Vec<u8>) {
     let mut formula = CnfFormula::new(alloc);
-    add_thousand(&mut formula)?;
     let mut writer = Counted::new(Vec::new(alloc));
-    write_dimacs(&mut writer, &formula)?;
-    Ok(writer.into_inner())
+    let is_written = add_thousand(&mut formula).is_ok()
+        && write_dimacs(&mut writer, &formula).is_ok();
+    (is_written, writer.into_inner())
 }
 
 /// The clauses that a text is parsed to, and the highest variable.
@@ -338,8 +339,8 @@ fn seen_again(alloc: Global, text: &[u8]) -> Result<(usize, bool), Fail> {
 
 #[test]
 fn a_caller_sees_each_clause_of_a_long_text(rt: HostRuntime) -> Result<(), Fail> {
-    let text = long_text(rt.alloc())?;
-    assert!(rt; text.len() == 8_909);
+    let (is_written, text) = long_text(rt.alloc());
+    assert!(rt; is_written && text.len() == 8_909);
     assert!(rt; seen_again(rt.alloc(), text.as_slice())? == (3_000, true));
     Ok(())
 }
@@ -431,10 +432,9 @@ fn count_in_parts<R: CountedRead>(
 }
 
 #[test]
-fn clauses_are_counted_in_parts(rt: HostRuntime) -> Result<(), Fail> {
+fn clauses_are_counted_in_parts(rt: HostRuntime) {
     let answer = count_in_parts(rt.alloc(), &mut by_one(b"p cnf 2 2\n1 0 2 0\n", 0));
     assert!(rt; answer == Ok(2));
-    Ok(())
 }
 
 /// Errors, and how they are printed.
@@ -458,20 +458,18 @@ static PRINTED: [(IncrementalError<DimacsError>, &str); 5] = [
     ),
 ];
 
-fn is_printed(
-    alloc: Global,
-    error: &IncrementalError<DimacsError>,
-    text: &str,
-) -> Result<bool, Fail> {
-    Ok(format!(in alloc; "{error}")?.as_str() == text)
+fn is_printed(alloc: Global, error: &IncrementalError<DimacsError>, text: &str) -> bool {
+    match format!(in alloc; "{error}") {
+        Ok(printed) => printed.as_str() == text,
+        Err(_) => false,
+    }
 }
 
 #[test]
-fn errors_are_printed(rt: HostRuntime) -> Result<(), Fail> {
+fn errors_are_printed(rt: HostRuntime) {
     for (error, text) in &PRINTED {
-        assert!(rt; is_printed(rt.alloc(), error, *text)?, "{text}");
+        assert!(rt; is_printed(rt.alloc(), error, *text), "{text}");
     }
-    Ok(())
 }
 
 #[test]

@@ -139,19 +139,16 @@ fn a_formula_is_taken_out(rt: HostRuntime) {
     assert!(rt; is_taken_out(&mut formula, &mut empty));
 }
 
-fn is_printed(alloc: Global, error: FormulaError, text: &str) -> Result<bool, Fail> {
-    Ok(format!(in alloc; "{error}")?.as_str() == text)
+fn is_printed(alloc: Global, error: FormulaError, text: &str) -> bool {
+    match format!(in alloc; "{error}") {
+        Ok(printed) => printed.as_str() == text,
+        Err(_) => false,
+    }
 }
 
 #[test]
-fn errors_are_printed(rt: HostRuntime) -> Result<(), Fail> {
-    assert!(rt;
-        is_printed(
-            rt.alloc(),
-            FormulaError::VariableLimit,
-            "no variable is left"
-        )?
-    );
-    assert!(rt; is_printed(rt.alloc(), FormulaError::OutOfMemory, "out of memory")?);
-    Ok(())
+fn errors_are_printed(rt: HostRuntime) {
+    let limit = FormulaError::VariableLimit;
+    assert!(rt; is_printed(rt.alloc(), limit, "no variable is left"));
+    assert!(rt; is_printed(rt.alloc(), FormulaError::OutOfMemory, "out of memory"));
 }

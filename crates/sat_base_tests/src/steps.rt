@@ -13,10 +13,12 @@ use std::alloc::Global;
 use std::io;
 use std::test::Fail;
 
-fn written(alloc: Global, step: &ProofStep<'_>) -> Result<Vec<u8>, io::Error> {
+/// A step's text, if there is memory.
+fn written(alloc: Global, step: &ProofStep<'_>) -> Option<Vec<u8>> {
     let mut writer = Counted::new(Vec::new(alloc));
-    write_step(&mut writer, step)?;
-    Ok(writer.into_inner())
+    let is_written = write_step(&mut writer, step).is_ok();
+    let text = writer.into_inner();
+    if is_written { Some(text) } else { None }
 }
 
 /// The errors of two calls.
@@ -30,34 +32,32 @@ const BAD: Errors = (StepError::BadByte, Some(StepError::HasFailed));
 
 const FAULT: Errors = (StepError::Read, Some(StepError::HasFailed));
 
-/// Reads steps and writes them again, up to the first error. Gives that, and the error of the call behind it.
+/// Reads steps and writes them again, up to the first error. Gives that, and the error of the call behind it,
+/// unless there is no memory, or too many steps come.
 fn copied<R: CountedRead>(
     steps: &mut StepReader<'_, R>,
     copy: &mut Counted<Vec<u8>>,
-) -> Result<Errors, Fail> {
+) -> Option<Errors> {
     for _ in 0..100 {
         if let Err(error) = steps.advance() {
-            return Ok((error, steps.advance().err()));
+            return Some((error, steps.advance().err()));
         }
-        write_step(copy, &steps.step())?;
+        if write_step(copy, &steps.step()).is_err() {
+            return None;
+        }
     }
-    Err(Fail::new("too many steps"))
+    None
 }
 
 /// Tests whether a reader gives the steps of this text, and then these errors.
-fn gives<R: CountedRead>(
-    alloc: Global,
-    reader: &mut R,
-    text: &[u8],
-    errors: Errors,
-) -> Result<bool, Fail> {
+fn gives<R: CountedRead>(alloc: Global, reader: &mut R, text: &[u8], errors: Errors) -> bool {
     let mut copy = Counted::new(Vec::new(alloc));
-    let found = copied(&mut StepReader::new(alloc, reader), &mut copy)?;
-    Ok(found == errors && copy.into_inner().as_slice() == text)
+    let found = copied(&mut StepReader::new(alloc, reader), &mut copy);
+    found == Some(errors) && copy.into_inner().as_slice() == text
 }
 
 /// The same of a text that is given whole.
-fn whole_gives(alloc: Global, text: &[u8], steps: &[u8], errors: Errors) -> Result<bool, Fail> {
+fn whole_gives(alloc: Global, text: &[u8], steps: &[u8], errors: Errors) -> bool {
     gives(alloc, &mut Counted::new(text), steps, errors)
 }
 
@@ -68,28 +68,31 @@ fn pieces_give(
     failing: u64,
     steps: &[u8],
     errors: Errors,
-) -> Result<(bool, u64), Fail> {
+) -> (bool, u64) {
     let mut pieces = by_one(text, failing);
-    let is_right = gives(alloc, &mut pieces, steps, errors)?;
-    Ok((is_right, pieces.into_inner().calls))
+    let is_right = gives(alloc, &mut pieces, steps, errors);
+    (is_right, pieces.into_inner().calls)
 }
 
 /// Tests whether a text that is given whole or by one byte gives these steps and then these errors.
-fn both_give(alloc: Global, text: &[u8], steps: &[u8], errors: Errors) -> Result<bool, Fail> {
-    let is_right = whole_gives(alloc, text, steps, errors)?;
-    Ok(is_right && pieces_give(alloc, text, 0, steps, errors)?.0)
+fn both_give(alloc: Global, text: &[u8], steps: &[u8], errors: Errors) -> bool {
+    whole_gives(alloc, text, steps, errors) && pieces_give(alloc, text, 0, steps, errors).0
 }
 
 /// Tests whether a step has this text, and is read again from it, whole and by one byte.
-fn has_text(alloc: Global, step: &ProofStep<'_>, text: &[u8]) -> Result<bool, Fail> {
-    let is_right = written(alloc, step)?.as_slice() == text;
-    Ok(is_right && both_give(alloc, text, text, AT_THE_END)?)
+fn has_text(alloc: Global, step: &ProofStep<'_>, text: &[u8]) -> bool {
+    match written(alloc, step) {
+        Some(found) => found.as_slice() == text && both_give(alloc, text, text, AT_THE_END),
+        None => false,
+    }
 }
 
 /// Tests whether a step is read again, whole and by one byte.
-fn is_read_again(alloc: Global, step: &ProofStep<'_>) -> Result<bool, Fail> {
-    let text = written(alloc, step)?;
-    has_text(alloc, step, text.as_slice())
+fn is_read_again(alloc: Global, step: &ProofStep<'_>) -> bool {
+    match written(alloc, step) {
+        Some(text) => has_text(alloc, step, text.as_slice()),
+        None => false,
+    }
 }
 
 /// A step and its text.
@@ -142,21 +145,13 @@ fn rows_about_variables(first: Var, last: Var) -> [Row<'static>; 6] {
 }
 
 /// The first text of some rows that isn't the step's, or from which the step isn't read again.
-fn wrong_text(alloc: Global, rows: &[Row<'_>]) -> Result<Option<&'static [u8]>, Fail> {
+fn wrong_text(alloc: Global, rows: &[Row<'_>]) -> Option<&'static [u8]> {
     for (step, text) in rows {
-        if !has_text(alloc, step, *text)? {
-            return Ok(Some(*text));
+        if !has_text(alloc, step, *text) {
+            return Some(*text);
         }
     }
-    Ok(None)
-}
-
-#[test]
-fn steps_about_variables_have_these_bytes(rt: HostRuntime) -> Result<(), Fail> {
-    let rows = rows_about_variables(Var::from_index(0), Var::from_index(268435455));
-    let wrong = wrong_text(rt.alloc(), &rows)?;
-    assert!(rt; wrong == None, "{wrong:?}");
-    Ok(())
+    None
 }
 
 fn rows_about_clauses<'a>(
@@ -199,16 +194,11 @@ fn rows_about_clauses<'a>(
     ]
 }
 
-#[test]
-fn steps_about_clauses_have_these_bytes(rt: HostRuntime) -> Result<(), Fail> {
+fn wrong_about_clauses(alloc: Global) -> Option<&'static [u8]> {
     let first = Lit::from_index(0, true);
     let both = [first, Lit::from_index(1, true)];
     let clause = [first, Lit::from_index(1, false)];
-    let units = [(first, 0x44)];
-    let rows = rows_about_clauses(&both, &clause, &units);
-    let wrong = wrong_text(rt.alloc(), &rows)?;
-    assert!(rt; wrong == None, "{wrong:?}");
-    Ok(())
+    wrong_text(alloc, &rows_about_clauses(&both, &clause, &[(first, 0x44)]))
 }
 
 fn other_rows(lits: &[Lit], bits: HashBits) -> [Row<'_>; 5] {
@@ -228,10 +218,15 @@ fn other_rows(lits: &[Lit], bits: HashBits) -> [Row<'_>; 5] {
 }
 
 #[test]
-fn other_steps_have_these_bytes(rt: HostRuntime) -> Result<(), Fail> {
+fn steps_have_these_bytes(rt: HostRuntime) -> Result<(), Fail> {
     let bits = HashBits::new(64).ok_or("no width of 64")?;
-    let wrong = wrong_text(rt.alloc(), &other_rows(&[Lit::from_index(1, false)], bits))?;
-    assert!(rt; wrong == None, "{wrong:?}");
+    let (first, last) = (Var::from_index(0), Var::from_index(268435455));
+    let wrong = [
+        wrong_text(rt.alloc(), &rows_about_variables(first, last)),
+        wrong_about_clauses(rt.alloc()),
+        wrong_text(rt.alloc(), &other_rows(&[Lit::from_index(1, false)], bits)),
+    ];
+    assert!(rt; wrong == [None; 3], "{wrong:?}");
     Ok(())
 }
 
@@ -242,12 +237,11 @@ fn a_hash_has_at_most_64_bits(rt: HostRuntime) {
 }
 
 #[test]
-fn the_room_of_lists_is_used_again(rt: HostRuntime) -> Result<(), Fail> {
+fn the_room_of_lists_is_used_again(rt: HostRuntime) {
     let text: &[u8] = &[
         7, 2, 0, 0x44, 3, 1, 12, 1, 3, 1, 9, 7, 1, 5, 0, 5, 0, 7, 0, 6, 0, 0, 2, 3, 4, 13,
     ];
-    assert!(rt; both_give(rt.alloc(), text, text, AT_THE_END)?);
-    Ok(())
+    assert!(rt; both_give(rt.alloc(), text, text, AT_THE_END));
 }
 
 const FOUR_STEPS: &[u8] = &[5, 2, 0, 3, 12, 1, 3, 2, 0xe6, 1, 9, 1, 0x80, 1, 0, 13];
@@ -264,20 +258,19 @@ fn steps_before(byte: u64) -> &'static [u8] {
 }
 
 /// Tests whether a reader whose read of this number fails gives the steps before it, and is called no more.
-fn is_a_fault(alloc: Global, failing: u64) -> Result<bool, Fail> {
+fn is_a_fault(alloc: Global, failing: u64) -> bool {
     let steps = steps_before(failing);
-    Ok(pieces_give(alloc, FOUR_STEPS, failing, steps, FAULT)? == (true, failing))
+    pieces_give(alloc, FOUR_STEPS, failing, steps, FAULT) == (true, failing)
 }
 
 #[test]
-fn each_read_of_steps_may_fail(rt: HostRuntime) -> Result<(), Fail> {
+fn each_read_of_steps_may_fail(rt: HostRuntime) {
     for failing in 1..18 {
-        assert!(rt; is_a_fault(rt.alloc(), failing)?, "{failing}");
+        assert!(rt; is_a_fault(rt.alloc(), failing), "{failing}");
     }
     // The end was found before the read that fails, which the call behind makes.
     let late = (StepError::Ends, Some(StepError::Read));
-    assert!(rt; pieces_give(rt.alloc(), FOUR_STEPS, 18, FOUR_STEPS, late)?.0);
-    Ok(())
+    assert!(rt; pieces_give(rt.alloc(), FOUR_STEPS, 18, FOUR_STEPS, late).0);
 }
 
 static BAD_TEXTS: [&[u8]; 17] = [
@@ -303,17 +296,16 @@ static BAD_TEXTS: [&[u8]; 17] = [
 ];
 
 /// Tests whether a text is refused, whole and by one byte, once its last byte is read.
-fn is_refused(alloc: Global, text: &[u8]) -> Result<bool, Fail> {
-    let is_right = whole_gives(alloc, text, &[], BAD)?;
-    Ok(is_right && pieces_give(alloc, text, 0, &[], BAD)? == (true, text.len() as u64))
+fn is_refused(alloc: Global, text: &[u8]) -> bool {
+    whole_gives(alloc, text, &[], BAD)
+        && pieces_give(alloc, text, 0, &[], BAD) == (true, text.len() as u64)
 }
 
 #[test]
-fn wrong_texts_are_refused(rt: HostRuntime) -> Result<(), Fail> {
+fn wrong_texts_are_refused(rt: HostRuntime) {
     for &text in &BAD_TEXTS {
-        assert!(rt; is_refused(rt.alloc(), text)?, "{text:?}");
+        assert!(rt; is_refused(rt.alloc(), text), "{text:?}");
     }
-    Ok(())
 }
 
 /// A text, its whole steps, and the errors behind them.
@@ -373,26 +365,23 @@ static PROMISES: [&[u8]; 7] = [
 ];
 
 #[test]
-fn no_memory_is_taken_for_promised_items(rt: HostRuntime) -> Result<(), Fail> {
+fn no_memory_is_taken_for_promised_items(rt: HostRuntime) {
     for &text in &PROMISES {
-        assert!(rt; both_give(rt.alloc(), text, &[], CUT)?, "{text:?}");
+        assert!(rt; both_give(rt.alloc(), text, &[], CUT), "{text:?}");
     }
-    Ok(())
 }
 
 #[test]
-fn a_text_ends_between_steps(rt: HostRuntime) -> Result<(), Fail> {
+fn a_text_ends_between_steps(rt: HostRuntime) {
     for &(text, steps, errors) in &ENDS {
-        assert!(rt; both_give(rt.alloc(), text, steps, errors)?, "{text:?}");
+        assert!(rt; both_give(rt.alloc(), text, steps, errors), "{text:?}");
     }
-    Ok(())
 }
 
 #[test]
-fn a_failed_read_is_not_tried_again(rt: HostRuntime) -> Result<(), Fail> {
-    let answer = pieces_give(rt.alloc(), &[5, 2, 0, 3], 3, &[], FAULT)?;
+fn a_failed_read_is_not_tried_again(rt: HostRuntime) {
+    let answer = pieces_give(rt.alloc(), &[5, 2, 0, 3], 3, &[], FAULT);
     assert!(rt; answer == (true, 3));
-    Ok(())
 }
 
 fn more_steps<'a>(last: Var, lits: &'a [Lit], hashes: &'a [u64]) -> [ProofStep<'a>; 7] {
@@ -418,41 +407,41 @@ fn more_steps<'a>(last: Var, lits: &'a [Lit], hashes: &'a [u64]) -> [ProofStep<'
 }
 
 #[test]
-fn steps_are_read_again(rt: HostRuntime) -> Result<(), Fail> {
+fn steps_are_read_again(rt: HostRuntime) {
     let last = Var::from_index(268435455);
     let lits = [Lit::from_index(0, true), last.negative()];
     for step in &more_steps(last, &lits, &[0, 230, 18446744073709551615]) {
-        assert!(rt; is_read_again(rt.alloc(), step)?, "{step:?}");
+        assert!(rt; is_read_again(rt.alloc(), step), "{step:?}");
     }
-    Ok(())
 }
 
-/// The positive literals of 3,000 variables.
-fn many_lits(alloc: Global, first: usize) -> Result<Vec<Lit>, Fail>
+/// The positive literals of 3,000 variables, or of fewer where memory ends.
+fn many_lits(alloc: Global, first: usize) -> Vec<Lit>
     requires { first ≤ 268000000 }
 {
     let mut lits = Vec::new(alloc);
     for index in 0..3000 {
-        lits.push(Lit::from_index(first + index, true))?;
+        if lits.push(Lit::from_index(first + index, true)).is_err() {
+            break;
+        }
     }
-    Ok(lits)
+    lits
 }
 
 /// The length of a step's text, if the step is read again from it, whole.
-fn length_again(alloc: Global, step: &ProofStep<'_>) -> Result<Option<usize>, Fail> {
+fn length_again(alloc: Global, step: &ProofStep<'_>) -> Option<usize> {
     let text = written(alloc, step)?;
-    let is_right = whole_gives(alloc, text.as_slice(), text.as_slice(), AT_THE_END)?;
-    Ok(is_right.then_some(text.len()))
+    let is_right = whole_gives(alloc, text.as_slice(), text.as_slice(), AT_THE_END);
+    is_right.then_some(text.len())
 }
 
 #[test]
-fn a_long_step_is_read_again(rt: HostRuntime) -> Result<(), Fail> {
-    let lits = many_lits(rt.alloc(), 268000000)?;
+fn a_long_step_is_read_again(rt: HostRuntime) {
+    let lits = many_lits(rt.alloc(), 268000000);
     let long = ProofStep::Model {
         assignment: lits.as_slice(),
     };
-    assert!(rt; length_again(rt.alloc(), &long)? == Some(15003));
-    Ok(())
+    assert!(rt; length_again(rt.alloc(), &long) == Some(15003));
 }
 
 /// Writes a step to a writer that takes so many bytes a call, of which one fails, counted from 1. Gives whether the step was
@@ -487,14 +476,16 @@ fn may_fail(alloc: Global, step: &ProofStep<'_>, most: usize, calls: u64, text: 
 }
 
 /// Tests whether a step is written whole to a writer that takes so many bytes a call, and is an error where one of the calls fails.
-fn is_taken_by_few(alloc: Global, step: &ProofStep<'_>, most: usize) -> Result<bool, Fail> {
-    let text = written(alloc, step)?;
+fn is_taken_by_few(alloc: Global, step: &ProofStep<'_>, most: usize) -> bool {
+    let Some(text) = written(alloc, step) else {
+        return false;
+    };
     let (is_written, calls, _, is_whole) = by_few_calls(alloc, step, (most, 0), text.as_slice());
-    Ok(is_written && is_whole && may_fail(alloc, step, most, calls, text.as_slice()))
+    is_written && is_whole && may_fail(alloc, step, most, calls, text.as_slice())
 }
 
 #[test]
-fn each_write_of_a_short_step_may_fail(rt: HostRuntime) -> Result<(), Fail> {
+fn each_write_of_a_short_step_may_fail(rt: HostRuntime) {
     let clause = [Lit::from_index(0, true), Lit::from_index(1, false)];
     let short = ProofStep::AtClause {
         redundant: true,
@@ -502,9 +493,8 @@ fn each_write_of_a_short_step_may_fail(rt: HostRuntime) -> Result<(), Fail> {
         propagation_hashes: &[0, 230],
     };
     for most in [1, 4] {
-        assert!(rt; is_taken_by_few(rt.alloc(), &short, most)?, "{most}");
+        assert!(rt; is_taken_by_few(rt.alloc(), &short, most), "{most}");
     }
-    Ok(())
 }
 
 /// Tests whether a step is an error where the writer takes nothing, after one call.
@@ -515,18 +505,17 @@ fn is_not_taken(alloc: Global, step: &ProofStep<'_>) -> bool {
 
 /// The length of a long step's text, and whether the step is taken by a writer that takes few bytes a call, and not by one that
 /// takes none.
-fn taken(alloc: Global, step: &ProofStep<'_>) -> Result<(Option<usize>, bool, bool), Fail> {
-    let length = length_again(alloc, step)?;
-    let is_taken = is_taken_by_few(alloc, step, 7)?;
-    Ok((length, is_taken, is_not_taken(alloc, step)))
+fn taken(alloc: Global, step: &ProofStep<'_>) -> (Option<usize>, bool, bool) {
+    let length = length_again(alloc, step);
+    let is_taken = is_taken_by_few(alloc, step, 7);
+    (length, is_taken, is_not_taken(alloc, step))
 }
 
 #[test]
-fn each_write_of_a_long_step_may_fail(rt: HostRuntime) -> Result<(), Fail> {
-    let lits = many_lits(rt.alloc(), 0)?;
+fn each_write_of_a_long_step_may_fail(rt: HostRuntime) {
+    let lits = many_lits(rt.alloc(), 0);
     let long = ProofStep::AddClause {
         clause: lits.as_slice(),
     };
-    assert!(rt; taken(rt.alloc(), &long)? == (Some(5939), true, true));
-    Ok(())
+    assert!(rt; taken(rt.alloc(), &long) == (Some(5939), true, true));
 }
