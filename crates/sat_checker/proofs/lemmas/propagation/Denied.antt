@@ -142,14 +142,14 @@ pub exact_when_walked : (units clause more : List ℕ) (buckets : List (List (Li
 exact_when_walked units clause more buckets answer sets e w =
     ((λ t. passes_when_walked units clause more buckets sets e (sym w ∙ t)), (λ p. w ∙ walked_when_passes units clause more buckets sets e p))
 
-module _ (clause : List ℕ) (i : ℕ) (inside : i < length clause) (assumed : List ℕ) where
-  pub denied-true : is_among assumed (get_or clause i 0) ≡ true → denied assumed (drop i clause) ≡ None
-  denied-true t = rw (drop_more clause i 0 inside) (rw t refl)
+module _ (clause : List ℕ) (i d : ℕ) (inside : i < length clause) (assumed : List ℕ) where
+  pub denied-true : is_among assumed (get_or clause i d) ≡ true → denied assumed (drop i clause) ≡ None
+  denied-true t = rw (drop_more clause i d inside) (rw t refl)
 
-  pub denied-had : is_among assumed (get_or clause i 0) ≡ false → is_among assumed (negated (get_or clause i 0)) ≡ true → denied assumed (drop i clause) ≡ denied assumed (drop (i + 1) clause)
-  denied-had f t = rw (drop_more clause i 0 inside) (rw (f, t) refl)
+  pub denied-had : is_among assumed (get_or clause i d) ≡ false → is_among assumed (negated (get_or clause i d)) ≡ true → denied assumed (drop i clause) ≡ denied assumed (drop (i + 1) clause)
+  denied-had f t = rw (drop_more clause i d inside) (rw (f, t) refl)
 
-  pub denied-new : is_among assumed (get_or clause i 0) ≡ false → is_among assumed (negated (get_or clause i 0)) ≡ false → denied assumed (drop i clause) ≡ denied (negated (get_or clause i 0) ∷ assumed) (drop (i + 1) clause)
-  denied-new f t = rw (drop_more clause i 0 inside) (rw (f, t) refl)
+  pub denied-new : is_among assumed (get_or clause i d) ≡ false → is_among assumed (negated (get_or clause i d)) ≡ false → denied assumed (drop i clause) ≡ denied (negated (get_or clause i d) ∷ assumed) (drop (i + 1) clause)
+  denied-new f t = rw (drop_more clause i d inside) (rw (f, t) refl)
 
 pub ruleset denying = (Extends-itself, Extends-more, denied-true, denied-had, denied-new)

@@ -1,4 +1,5 @@
-use Rattle.std.proofs.Common.{◌≡◌, [], ◌∷◌, Some, refl, ap, sym, subst, ◌∙◌}
+use Rattle.std.proofs.Common.{ℕ, ◌≡◌, ◌+◌, ◌≤◌, [], ◌∷◌, length, Some, refl, ap, sym, subst, ◌∙◌, arith}
+use Rattle.std.proofs.lemmas.Result.{IfOk-from_err}
 use Rattle.sat_checker.specs.inner.Look.{verdict_of, Extends}
 use Rattle.sat_checker.specs.inner.Reasons.{clause_at, Leads}
 use Rattle.sat_checker.specs.inner.SlotView.{literals_at}
@@ -6,6 +7,51 @@ use Rattle.sat_checker.specs.inner.Walk.{falsified, opens, rests, verdict, walk_
 use Rattle.sat_checker.proofs.lemmas.propagation.Walking.{Extends-itself, Extends-more}
 use Rattle.sat_checker.proofs.lemmas.announcements.Noting.{leads_open, leads_over, ends_there, read_open, read_conflict}
 use Rattle.sat_checker.proofs.recording.meet_noted.Goals as goal
+
+no_less : (a b : ℕ) → a ≤ a + b
+no_less a b = omega arith
+
+pub returns-in_err-assume-in-Opens-clause-met : goal.returns-in_err-assume-in-Opens-clause-met
+returns-in_err-assume-in-Opens-clause-met c = IfOk-from_err c.from_residual.result _ c.from_residual.ensures.0
+
+pub returns-in_err-note-in-Opens-clause-met : goal.returns-in_err-note-in-Opens-clause-met
+returns-in_err-note-in-Opens-clause-met c = IfOk-from_err c.from_residual-in_err-note-in-Opens.result _ c.from_residual-in_err-note-in-Opens.ensures.0
+
+pub returns-in_err-assume-in-Opens-clause-noted : goal.returns-in_err-assume-in-Opens-clause-noted
+returns-in_err-assume-in-Opens-clause-noted c = IfOk-from_err c.from_residual.result _ c.from_residual.ensures.0
+
+pub returns-in_err-note-in-Opens-clause-noted : goal.returns-in_err-note-in-Opens-clause-noted
+returns-in_err-note-in-Opens-clause-noted c = IfOk-from_err c.from_residual-in_err-note-in-Opens.result _ c.from_residual-in_err-note-in-Opens.ensures.0
+
+pub returns-in_err-assume-in-Opens-clause-read : goal.returns-in_err-assume-in-Opens-clause-read
+returns-in_err-assume-in-Opens-clause-read c = IfOk-from_err c.from_residual.result _ c.from_residual.ensures.0
+
+pub returns-in_err-note-in-Opens-clause-read : goal.returns-in_err-note-in-Opens-clause-read
+returns-in_err-note-in-Opens-clause-read c = IfOk-from_err c.from_residual-in_err-note-in-Opens.result _ c.from_residual-in_err-note-in-Opens.ensures.0
+
+pub returns-in_err-assume-in-Opens-clause-looks : goal.returns-in_err-assume-in-Opens-clause-looks
+returns-in_err-assume-in-Opens-clause-looks c = c.literals.ensures.looks
+
+pub returns-in_err-note-in-Opens-clause-looks : goal.returns-in_err-note-in-Opens-clause-looks
+returns-in_err-note-in-Opens-clause-looks c = c.literals.ensures.looks
+
+pub returns-in-Falsified-clause-looks : goal.returns-in-Falsified-clause-looks
+returns-in-Falsified-clause-looks c = c.literals.ensures.looks
+
+pub returns-in_ok-note-in-Opens-clause-looks : goal.returns-in_ok-note-in-Opens-clause-looks
+returns-in_ok-note-in-Opens-clause-looks c = c.literals.ensures.looks
+
+pub returns-in-Rests-clause-looks : goal.returns-in-Rests-clause-looks
+returns-in-Rests-clause-looks c = c.literals.ensures.looks
+
+pub returns-in-Falsified-clause-extends : goal.returns-in-Falsified-clause-extends
+returns-in-Falsified-clause-extends c = Extends-itself c.args.assigned.now
+
+pub returns-in-Rests-clause-extends : goal.returns-in-Rests-clause-extends
+returns-in-Rests-clause-extends c = Extends-itself c.args.assigned.now
+
+pub returns-in-Rests-clause-read : goal.returns-in-Rests-clause-read
+returns-in-Rests-clause-read c = no_less _ (length (literals_at c.args.clauses.now c.args.place))
 
 pub returns-in_ok-note-in-Opens-clause-noted : goal.returns-in_ok-note-in-Opens-clause-noted
 returns-in_ok-note-in-Opens-clause-noted c =

@@ -1,9 +1,52 @@
-use Rattle.std.proofs.Common.{◌∷◌, refl, sym, subst}
+use Rattle.std.proofs.Common.{◌+◌, ◌<◌, ◌≤◌, ℕ, ◌∷◌, length, refl, sym, subst, arith}
+use Rattle.std.proofs.lemmas.Result.{IfOk-from_err}
 use Rattle.sat_checker.specs.inner.SlotView.{IsBucket, literals_at}
-use Rattle.sat_checker.proofs.lemmas.propagation.Walking.{Extends-itself, Extends-further, walk_more, walk_ends, walk_over, looks_more, looks_ended, looks_over}
+use Rattle.sat_checker.proofs.lemmas.propagation.Walking.{Extends-itself, Extends-further, each_place, walk_more, walk_ends, walk_over, looks_more, looks_ended, looks_over}
 use Rattle.sat_checker.proofs.lemmas.store.Finding.{walk_first, walk_first_ends, looks_first, looks_first_ended, is_full}
 use Rattle.sat_checker.proofs.lemmas.announcements.Noting.{leads_first, ends_first, leads_next, ends_next, leads_over_all, read_on, read_further}
 use Rattle.sat_checker.proofs.recording.walk_bucket_noted.Goals as goal
+
+no_less : (a b : ℕ) → a ≤ a + b
+no_less a b = omega arith
+
+as_much : (a : ℕ) → a ≤ a
+as_much a = omega arith
+
+pub returns-in_default-clause-looks : goal.returns-in_default-clause-looks
+returns-in_default-clause-looks c = no_less c.args.looks.now _
+
+pub returns-in_default-clause-noted : goal.returns-in_default-clause-noted
+returns-in_default-clause-noted c = tt
+
+pub returns-in_default-clause-read : goal.returns-in_default-clause-read
+returns-in_default-clause-read c = as_much _
+
+pub meet_noted-requires : goal.meet_noted-requires
+meet_noted-requires c = c.in-Some.ensures.within.0
+
+pub meet_noted-requires-in-loop-place : goal.meet_noted-requires-in-loop-place
+meet_noted-requires-in-loop-place c =
+    let b : IsBucket c.args.hash c.args.clauses.now (c.in-Some.bucket.now.first ∷ c.deref-place-items.result.now) =
+    subst (λ xs. IsBucket c.args.hash c.args.clauses.now (c.in-Some.bucket.now.first ∷ xs)) (sym c.deref-place-items.ensures.value) c.in-Some.ensures in
+    each_place (λ p. p < length c.args.clauses.now) c.deref-place-items.result.now c.loop-place.place-index b.within.1 c.loop-place-test.true
+
+pub returns-in_err-meet_noted-clause-says : goal.returns-in_err-meet_noted-clause-says
+returns-in_err-meet_noted-clause-says c = IfOk-from_err c.from_residual.result _ c.from_residual.ensures.0
+
+pub returns-in_err-meet_noted-2-clause-says : goal.returns-in_err-meet_noted-2-clause-says
+returns-in_err-meet_noted-2-clause-says c = IfOk-from_err c.from_residual-in_err-meet_noted-2.result _ c.from_residual-in_err-meet_noted-2.ensures.0
+
+pub returns-in_err-meet_noted-clause-noted : goal.returns-in_err-meet_noted-clause-noted
+returns-in_err-meet_noted-clause-noted c = IfOk-from_err c.from_residual.result _ c.from_residual.ensures.0
+
+pub returns-in_err-meet_noted-2-clause-noted : goal.returns-in_err-meet_noted-2-clause-noted
+returns-in_err-meet_noted-2-clause-noted c = IfOk-from_err c.from_residual-in_err-meet_noted-2.result _ c.from_residual-in_err-meet_noted-2.ensures.0
+
+pub returns-in_err-meet_noted-clause-read : goal.returns-in_err-meet_noted-clause-read
+returns-in_err-meet_noted-clause-read c = IfOk-from_err c.from_residual.result _ c.from_residual.ensures.0
+
+pub returns-in_err-meet_noted-2-clause-read : goal.returns-in_err-meet_noted-2-clause-read
+returns-in_err-meet_noted-2-clause-read c = IfOk-from_err c.from_residual-in_err-meet_noted-2.result _ c.from_residual-in_err-meet_noted-2.ensures.0
 
 pub returns-in_default-clause-says : goal.returns-in_default-clause-says
 returns-in_default-clause-says c = (c.in_default.ensures.literals, refl)

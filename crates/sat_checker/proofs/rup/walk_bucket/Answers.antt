@@ -1,9 +1,31 @@
-use Rattle.std.proofs.Common.{◌≡◌, ◌∷◌, refl, sym, subst, Some, None}
+use Rattle.std.proofs.Common.{◌≡◌, ◌+◌, ◌<◌, ◌≤◌, ℕ, ◌∷◌, length, refl, sym, subst, Some, None, arith}
+use Rattle.std.proofs.lemmas.Result.{IfOk-from_err}
 use Rattle.sat_checker.specs.inner.SlotView.{IsBucket, literals_at}
 use Rattle.sat_checker.specs.inner.Walk.{verdict, walk_on}
-use Rattle.sat_checker.proofs.lemmas.propagation.Walking.{Extends-itself, Extends-further, walk_more, walk_ends, walk_over, looks_more, looks_ended, looks_over}
+use Rattle.sat_checker.proofs.lemmas.propagation.Walking.{Extends-itself, Extends-further, each_place, walk_more, walk_ends, walk_over, looks_more, looks_ended, looks_over}
 use Rattle.sat_checker.proofs.lemmas.store.Finding.{walk_first, walk_first_ends, looks_first, looks_first_ended, is_full}
 use Rattle.sat_checker.proofs.rup.walk_bucket.Goals as goal
+
+no_less : (a b : ℕ) → a ≤ a + b
+no_less a b = omega arith
+
+pub returns-in_default-clause-looks : goal.returns-in_default-clause-looks
+returns-in_default-clause-looks c = no_less c.args.looks.now _
+
+pub literals-requires : goal.literals-requires
+literals-requires c = c.in-Some.ensures.within.0
+
+pub literals-requires-in-loop-place : goal.literals-requires-in-loop-place
+literals-requires-in-loop-place c =
+    let b : IsBucket c.args.hash c.args.clauses.now (c.in-Some.bucket.now.first ∷ c.deref-place-items.result.now) =
+    subst (λ xs. IsBucket c.args.hash c.args.clauses.now (c.in-Some.bucket.now.first ∷ xs)) (sym c.deref-place-items.ensures.value) c.in-Some.ensures in
+    each_place (λ p. p < length c.args.clauses.now) c.deref-place-items.result.now c.loop-place.place-index b.within.1 c.loop-place-test.true
+
+pub returns-in_err-meet-clause-says : goal.returns-in_err-meet-clause-says
+returns-in_err-meet-clause-says c = IfOk-from_err c.from_residual.result _ c.from_residual.ensures.0
+
+pub returns-in_err-meet-2-clause-says : goal.returns-in_err-meet-2-clause-says
+returns-in_err-meet-2-clause-says c = IfOk-from_err c.from_residual-in_err-meet-2.result _ c.from_residual-in_err-meet-2.ensures.0
 
 pub returns-in_default-clause-says : goal.returns-in_default-clause-says
 returns-in_default-clause-says c = (c.in_default.ensures.literals, refl)

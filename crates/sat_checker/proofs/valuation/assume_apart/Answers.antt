@@ -1,6 +1,29 @@
-use Rattle.std.proofs.Common.{◌-◌, arith}
-use Rattle.sat_checker.proofs.lemmas.state.Models.{met_same, met_negated}
+use Rattle.std.proofs.Common.{ℕ, ◌≡◌, ◌+◌, ◌-◌, ◌<◌, List, ◌∷◌, length, drop, get_or, sym, subst, ap, ◌∙◌, arith}
+use Rattle.std.proofs.lemmas.List.{drop_all}
+use Rattle.std.proofs.lemmas.Result.{IfOk-from_err}
+use Rattle.sat_checker.specs.Accepts.{VariablesApart}
+use Rattle.sat_checker.proofs.lemmas.state.Models.{drop_back, met_same, met_negated}
 use Rattle.sat_checker.proofs.valuation.assume_apart.Goals as goal
+
+-- one literal more is assumed
+set_more : (ls assigned new : List ℕ) (i p l : ℕ) → i + 1 ≡ p → i < length ls → l ≡ get_or ls i 0 → assigned ≡ drop p ls → new ≡ l ∷ assigned → new ≡ drop i ls
+set_more ls assigned new i p l e inside read set n = n ∙ ap (λ x. x ∷ assigned) read ∙ ap (λ xs. get_or ls i 0 ∷ xs) (set ∙ ap (λ k. drop k ls) (sym e)) ∙ sym (drop_back ls i inside)
+
+pub loop-place-init : goal.loop-place-init
+loop-place-init c =
+    let none = drop_all (length c.args.literals.now) c.args.literals.now (omega arith) in
+    record { set = c.requires ∙ sym none; apart = subst VariablesApart (sym none) tt }
+
+pub assume-requires : goal.assume-requires
+assume-requires c = sym c.is_true.ensures ∙ c.if-is_true.false
+
+pub returns-in_err-assume : goal.returns-in_err-assume
+returns-in_err-assume c = IfOk-from_err c.from_residual.result _ c.from_residual.ensures.0
+
+pub returns : goal.returns
+returns c =
+    let none : c.loop-place.place ≡ 0 = omega arith in
+    (subst (λ n. VariablesApart (drop n c.args.literals.now)) none c.loop-place.invariant.apart, c.loop-place.invariant.set ∙ ap (λ n. drop n c.args.literals.now) none)
 
 pub returns-then-is_true : goal.returns-then-is_true
 returns-then-is_true c = met_same c.args.literals.now c.loop-place.assigned (c.loop-place.place - 1) c.loop-place.place c.index-literals-place.result (omega arith) (omega arith) c.index-literals-place.is c.loop-place.invariant.set c.if-is_true.ensures

@@ -1,4 +1,6 @@
-use Rattle.std.proofs.Common.{[], ◌∷◌, ◌++◌, length, map, sym, ◌∙◌, ap, subst}
+use Rattle.std.proofs.Common.{ℕ, ◌+◌, ◌*◌, ◌≤◌, ◌≡◌, [], ◌∷◌, ◌++◌, length, map, refl, sym, ◌∙◌, ap, subst, arith}
+use Rattle.std.proofs.Math.Nat.{mul_assoc}
+use Rattle.std.proofs.lemmas.Result.{IfOk-from_err}
 use Rattle.std.proofs.lemmas.Bool.{true≢false}
 use Rattle.sat_base.specs.values.Literals.{negated}
 use Rattle.sat_checker.specs.Stored.{StoredUnit, unit_literals}
@@ -10,6 +12,79 @@ use Rattle.sat_checker.specs.Looks.{literal_count}
 use Rattle.sat_checker.proofs.lemmas.store.Keeping.{named_same}
 use Rattle.sat_checker.proofs.lemmas.announcements.Cases.{looks_followed, met_conflict, none_of_signs, unit_of_literals, ids_of_conflict}
 use Rattle.sat_checker.proofs.propagations.Propagations.check.Goals as goal
+
+-- the looks of the check are half of those that it may take
+looks_once : (old new n l : ℕ) → new ≤ old + n * l → new ≤ old + 2 * n * l
+looks_once old new n l h = let e : 2 * n * l ≡ 2 * (n * l) = mul_assoc 2 n l in omega arith
+
+pub returns-in_err-check_noted-clause-exact : goal.returns-in_err-check_noted-clause-exact
+returns-in_err-check_noted-clause-exact c = IfOk-from_err c.from_residual.result _ c.from_residual.ensures.0
+
+pub returns-in_err-check_noted-clause-units : goal.returns-in_err-check_noted-clause-units
+returns-in_err-check_noted-clause-units c = c.check_noted.ensures.units
+
+pub returns-in_err-check_noted-clause-listed : goal.returns-in_err-check_noted-clause-listed
+returns-in_err-check_noted-clause-listed c = IfOk-from_err c.from_residual.result _ c.from_residual.ensures.0
+
+pub returns-in_err-push-clause-exact : goal.returns-in_err-push-clause-exact
+returns-in_err-push-clause-exact c = IfOk-from_err c.from_residual-in_err-push.result _ c.from_residual-in_err-push.ensures.0
+
+pub returns-in_err-push-clause-units : goal.returns-in_err-push-clause-units
+returns-in_err-push-clause-units c = c.check_noted.ensures.units
+
+pub returns-in_err-push-clause-listed : goal.returns-in_err-push-clause-listed
+returns-in_err-push-clause-listed c = IfOk-from_err c.from_residual-in_err-push.result _ c.from_residual-in_err-push.ensures.0
+
+pub returns-in_err-list_conflict-clause-exact : goal.returns-in_err-list_conflict-clause-exact
+returns-in_err-list_conflict-clause-exact c = IfOk-from_err c.from_residual-in_err-list_conflict.result _ c.from_residual-in_err-list_conflict.ensures.0
+
+pub returns-in_err-list_conflict-clause-units : goal.returns-in_err-list_conflict-clause-units
+returns-in_err-list_conflict-clause-units c = c.check_noted.ensures.units
+
+pub returns-in_err-list_conflict-clause-listed : goal.returns-in_err-list_conflict-clause-listed
+returns-in_err-list_conflict-clause-listed c = IfOk-from_err c.from_residual-in_err-list_conflict.result _ c.from_residual-in_err-list_conflict.ensures.0
+
+pub returns-in_err-check_noted-clause-looks : goal.returns-in_err-check_noted-clause-looks
+returns-in_err-check_noted-clause-looks c = λ f k. looks_once c.args.looks.now c.check_noted.new.looks (length c.args.hashes.now) (literal_count f) (c.check_noted.ensures.looks f k)
+
+pub returns-in_err-push-clause-looks : goal.returns-in_err-push-clause-looks
+returns-in_err-push-clause-looks c = λ f k. looks_once c.args.looks.now c.check_noted.new.looks (length c.args.hashes.now) (literal_count f) (c.check_noted.ensures.looks f k)
+
+pub returns-then-not-branch-clause-looks : goal.returns-then-not-branch-clause-looks
+returns-then-not-branch-clause-looks c = λ f k. looks_once c.args.looks.now c.check_noted.new.looks (length c.args.hashes.now) (literal_count f) (c.check_noted.ensures.looks f k)
+
+pub returns-then-has_both_signs-clause-looks : goal.returns-then-has_both_signs-clause-looks
+returns-then-has_both_signs-clause-looks c = λ f k. looks_once c.args.looks.now c.check_noted.new.looks (length c.args.hashes.now) (literal_count f) (c.check_noted.ensures.looks f k)
+
+pub returns-in-Some-clause-looks : goal.returns-in-Some-clause-looks
+returns-in-Some-clause-looks c = λ f k. looks_once c.args.looks.now c.check_noted.new.looks (length c.args.hashes.now) (literal_count f) (c.check_noted.ensures.looks f k)
+
+pub returns-then-not-branch-clause-units : goal.returns-then-not-branch-clause-units
+returns-then-not-branch-clause-units c = c.check_noted.ensures.units
+
+pub returns-then-has_both_signs-clause-units : goal.returns-then-has_both_signs-clause-units
+returns-then-has_both_signs-clause-units c = c.check_noted.ensures.units
+
+pub returns-in-Some-clause-units : goal.returns-in-Some-clause-units
+returns-in-Some-clause-units c = c.check_noted.ensures.units
+
+pub returns-clause-units : goal.returns-clause-units
+returns-clause-units c = c.check_noted.ensures.units
+
+pub returns-then-has_both_signs-clause-exact : goal.returns-then-has_both_signs-clause-exact
+returns-then-has_both_signs-clause-exact c = λ f k e. (λ _. (c.in_ok-check_noted.ensures.exact f k e).0 c.if-not-branch.false, λ _. refl)
+
+pub returns-in-Some-clause-exact : goal.returns-in-Some-clause-exact
+returns-in-Some-clause-exact c = λ f k e. (λ _. (c.in_ok-check_noted.ensures.exact f k e).0 c.if-not-branch.false, λ _. refl)
+
+pub returns-clause-exact : goal.returns-clause-exact
+returns-clause-exact c = λ f k e. (λ _. (c.in_ok-check_noted.ensures.exact f k e).0 c.if-not-branch.false, λ _. refl)
+
+pub returns-then-not-branch-clause-listed : goal.returns-then-not-branch-clause-listed
+returns-then-not-branch-clause-listed c = λ t. absurd (true≢false (sym t))
+
+pub list_conflict-requires-clause-empty : goal.list_conflict-requires-clause-empty
+list_conflict-requires-clause-empty c = c.clear.ensures.items
 
 pub returns-then-not-branch-clause-exact : goal.returns-then-not-branch-clause-exact
 returns-then-not-branch-clause-exact c = λ f k e. (λ t. absurd (true≢false (sym t)), λ p. sym c.if-not-branch.true ∙ (c.in_ok-check_noted.ensures.exact f k e).1 p)

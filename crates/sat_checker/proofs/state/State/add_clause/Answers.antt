@@ -1,8 +1,26 @@
-use Rattle.std.proofs.Common.{sym, ap, ◌∙◌, inr}
+use Rattle.std.proofs.Common.{ℕ, ◌+◌, ◌≤◌, sym, ap, ◌∙◌, inr, arith}
 use Rattle.sat_checker.specs.Storing.{with_literals_known}
 use Rattle.sat_checker.specs.inner.FormulaView.{Standing}
 use Rattle.sat_checker.proofs.lemmas.state.Keeping.{sampling_kept, added}
 use Rattle.sat_checker.proofs.state.State.add_clause.Goals as goal
+
+no_less : (a b : ℕ) → a ≤ a + b
+no_less a b = omega arith
+
+pub returns-then-self-clause-looks : goal.returns-then-self-clause-looks
+returns-then-self-clause-looks c = λ f k. no_less c.args.looks.now _
+
+pub returns-then-not-are_sampling-clause-looks : goal.returns-then-not-are_sampling-clause-looks
+returns-then-not-are_sampling-clause-looks c = λ f k. no_less c.args.looks.now _
+
+pub returns-in_err-learn-clause-looks : goal.returns-in_err-learn-clause-looks
+returns-in_err-learn-clause-looks c = λ f k. no_less c.args.looks.now _
+
+pub returns-in_err-store_input-clause-looks : goal.returns-in_err-store_input-clause-looks
+returns-in_err-store_input-clause-looks c = λ f k. c.store_input.ensures.looks f k.formula
+
+pub returns-clause-looks : goal.returns-clause-looks
+returns-clause-looks c = λ f k. c.store_input.ensures.looks f k.formula
 
 pub returns-clause-decides : goal.returns-clause-decides
 returns-clause-decides c = λ f k. (

@@ -1,6 +1,19 @@
 use Rattle.std.proofs.Common.{rules, ◌∙◌}
 use Rattle.sat_checker.proofs.lemmas.store.Units.{among_units, units_more}
+use Rattle.std.proofs.lemmas.Result.{IfOk-from_err}
 use Rattle.sat_checker.proofs.units.Units.push.Goals as goal
+
+pub returns-in_err-reserve : goal.returns-in_err-reserve
+returns-in_err-reserve c = IfOk-from_err c.from_residual.result _ c.from_residual.ensures.0
+
+pub returns-in_err-make_room : goal.returns-in_err-make_room
+returns-in_err-make_room c = IfOk-from_err c.from_residual-in_err-make_room.result _ c.from_residual-in_err-make_room.ensures.0
+
+pub returns-in_err-assume : goal.returns-in_err-assume
+returns-in_err-assume c = IfOk-from_err c.from_residual-in_err-assume.result _ c.from_residual-in_err-assume.ensures.0
+
+pub returns-in_err-push : goal.returns-in_err-push
+returns-in_err-push c = IfOk-from_err c.from_residual-in_err-push.result _ c.from_residual-in_err-push.ensures.0
 
 pub assume-requires : goal.assume-requires
 assume-requires c = among_units c.self.inside.list.items c.args.self.now c.self.inside.assigned c.args.lit c.self.view_is c.self.invariant.assumed ∙ c.requires.new
