@@ -48,7 +48,7 @@ fn lits(numbers: [i64; 3]) -> Option<[Lit; 3]> {
 }
 
 /// Whether literals have these numbers in DIMACS, in this order.
-pub(crate) fn have_numbers(lits: &[Lit], numbers: &[i64]) -> bool {
+fn have_numbers(lits: &[Lit], numbers: &[i64]) -> bool {
     if lits.len() != numbers.len() {
         return false;
     }
