@@ -1,7 +1,8 @@
 //! The words of a text, from its bytes. Formulas and scripts are both made of them.
-ghost use Rattle.std.specs.Prelude.{◌≡◌, ◌+◌, ◌*◌, ◌-◌, ◌<◌, ℕ, List, [], ◌∷◌, true, false, None, Some};
+ghost use Rattle.std.specs.Prelude.{◌≡◌, ◌+◌, ◌*◌, ◌-◌, ◌<◌, ◌≤◌, ℕ, List, [], ◌∷◌, Bool, true, false, None, Some, IfSome, length, take};
 ghost use Rattle.sat_base.specs.text.Text.{is_blank, is_digit, is_letter, Scan, scan};
-ghost use Rattle.sat_base.specs.text.Tokenizing.{grown, held, may_come, Began, Moves, Says, SaysAtBlank, LeadsBehind, IsQuiet, Stands, Takes, Quiet, GivesLast};
+ghost use Rattle.sat_base.specs.text.Chunks.{Follows};
+ghost use Rattle.sat_base.specs.text.Tokenizing.{grown, held, may_come, Began, Moves, MovesBy, BeginsWord, Says, SaysAtBlank, LeadsBehind, IsQuiet, Stands, Takes, TakesFront, Quiet, GivesLast};
 
 mod header;
 
@@ -85,6 +86,10 @@ fn grown(value: u64, digit: u8) -> u64
     requires { is_digit digit ≡ true }
     ensures { result ≡ grown value digit }
 {
+    // Most numbers are far from the bound, and times without one takes half as long.
+    if value < 1 << 60 {
+        return value * 10 + (digit - 48) as u64;
+    }
     value.saturating_mul(10).saturating_add((digit - 48) as u64)
 }
 
@@ -144,6 +149,67 @@ fn number_goes_on(negative: bool, value: u64, byte: u8) -> Place
     } else {
         Place::Bad
     }
+}
+
+/// The value behind the digits at the front of these bytes, and how many digits there are.
+#[inline(always)]
+fn digits_in(value: u64, bytes: &[u8]) -> (u64, usize)
+    ensures within { result.1 ≤ length bytes.now }
+    ensures moves { (negative : Bool) → MovesBy (Place.Digits negative value) (take result.1 bytes.now) (Place.Digits negative result.0) }
+{
+    let mut value = value;
+    for (count, byte) in bytes.iter().enumerate() {
+        if !is_digit(*byte) {
+            return (value, count);
+        }
+        value = grown(value, *byte);
+    }
+    (value, bytes.len())
+}
+
+/// The value of the digits at the front of these bytes, and how many there are, if there are some.
+#[inline(always)]
+fn some_digits_in(bytes: &[u8]) -> Option<(u64, usize)>
+    ensures within { IfSome result (λ r. r.1 ≤ length bytes.now) }
+    ensures plain { IfSome result (λ r. (old : Place) → BeginsWord old → MovesBy old (take r.1 bytes.now) (Place.Digits false r.0)) }
+    ensures negative { IfSome result (λ r. MovesBy Place.Minus (take r.1 bytes.now) (Place.Digits true r.0)) }
+{
+    if bytes.is_empty() {
+        return None;
+    }
+    let first = bytes[0];
+    if !is_digit(first) {
+        return None;
+    }
+    let (value, count) = digits_in((first - 48) as u64, &bytes[1..]);
+    Some((value, count + 1))
+}
+
+/// The place behind a sign and digits at the front of these bytes, and how many bytes they are, if there are some.
+#[inline(always)]
+fn number_in(bytes: &[u8]) -> Option<(Place, usize)>
+    ensures within { IfSome result (λ r. r.1 ≤ length bytes.now) }
+    ensures moves { IfSome result (λ r. (old : Place) → BeginsWord old → MovesBy old (take r.1 bytes.now) r.0) }
+{
+    if bytes.is_empty() {
+        return None;
+    }
+    if bytes[0] != b'-' {
+        let (value, count) = some_digits_in(bytes)?;
+        let negative = false;
+        return Some((Place::Digits { negative, value }, count));
+    }
+    let (value, count) = some_digits_in(&bytes[1..])?;
+    let negative = true;
+    Some((Place::Digits { negative, value }, count + 1))
+}
+
+/// Whether a word begins with the next byte, unless that begins a comment or a header, or ends the text.
+#[inline(always)]
+fn begins_word(place: Place) -> bool
+    ensures { result ≡ true → BeginsWord place }
+{
+    matches!(place, Place::Between | Place::Fresh(_) | Place::Leading(_))
 }
 
 /// The place behind a minus sign and this byte.
@@ -326,6 +392,38 @@ impl Tokenizer {
         let token = token_at_blank(self.place);
         self.place = after_blank(self.place);
         token
+    }
+
+    /// Takes the front of a number from the bytes, where a word begins with them. Says how many bytes it took.
+    #[inline(always)]
+    fn push_number(&mut self, bytes: &[u8]) -> usize
+        ensures within { result ≤ length bytes.now }
+        ensures takes { Follows Stands self.old (take result bytes.now) self.new }
+    {
+        if !begins_word(self.place) {
+            return 0;
+        }
+        let Some((place, count)) = number_in(bytes) else {
+            return 0;
+        };
+        self.place = place;
+        count
+    }
+
+    /// Takes bytes up to the next that ends a token, or all of them. Says how many it took, and gives the token.
+    #[inline(always)]
+    pub fn next_token(&mut self, bytes: &[u8]) -> (usize, Option<Token>)
+        ensures within { result.0 ≤ length bytes.now }
+        ensures takes { TakesFront self.old (take result.0 bytes.now) result.1 self.new }
+        ensures all { result.1 ≡ None → result.0 ≡ length bytes.now }
+    {
+        for at in self.push_number(bytes)..bytes.len() {
+            let token = self.push(bytes[at]);
+            if token.is_some() {
+                return (at + 1, token);
+            }
+        }
+        (bytes.len(), None)
     }
 
     /// The token in hand where the text ends here, if there is one.

@@ -5,5 +5,6 @@ pub mod Places
 pub mod HeaderPlaces
 pub mod TextRuns
 pub mod ChunkLemmas
+pub mod SeveralBytes
 pub mod HeaderFirst
 pub mod PlainTokens

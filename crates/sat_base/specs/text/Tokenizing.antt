@@ -83,6 +83,18 @@ Leads old byte new = (n : ℕ) (rest : List ℕ) → left old n (byte ∷ rest) 
 abbrev pub Moves : Place → ℕ → Place → Type 0
 Moves old byte new = (spot : Spot) → IsAt old spot → (next : Spot) × IsAt new next × Leads spot byte next
 
+-- bytes lead from a place to a place
+abbrev pub MovesBy : Place → List ℕ → Place → Type 0
+MovesBy old bytes new = (spot : Spot) → IsAt old spot
+    → (next : Spot) × IsAt new next × ((n : ℕ) (rest : List ℕ) → left spot n (bytes ++ rest) ≡ left next n rest)
+
+-- a word may begin here
+abbrev pub BeginsWord : Place → Type 0
+BeginsWord (at.Fresh may) = Unit {0}
+BeginsWord (at.Leading may) = Unit {0}
+BeginsWord at.Between = Unit {0}
+BeginsWord place = ⊥
+
 -- so in a header line, unless the word in hand may then not stand there
 abbrev pub MovesHeader : HeaderPlace → ℕ → Option HeaderPlace → Type 0
 MovesHeader old byte None = (spot : Spot) → IsAtHeader old spot → Leads spot byte Spoilt
@@ -157,6 +169,16 @@ Gives (Some t) byte old new = (given : Token) × (t ≡ held_token given)
 abbrev pub Takes : Tokenizer → ℕ → Option CodeToken → Tokenizer → Type 0
 Takes old byte given new = (before : List ℕ → Scan) → Stands old before
     → (after : List ℕ → Scan) × Stands new after × Gives given byte before after
+
+-- so it is with several bytes, of which only the last may end a token
+abbrev pub GivesBehind : Option CodeToken → List ℕ → (List ℕ → Scan) → (List ℕ → Scan) → Type 0
+GivesBehind None bytes old new = (rest : List ℕ) → old (bytes ++ rest) ≡ new rest
+GivesBehind (Some t) bytes old new = (given : Token) × (t ≡ held_token given)
+    × ((rest : List ℕ) → old (bytes ++ rest) ≡ onto (((new []).last, given) ∷ []) (new rest))
+
+abbrev pub TakesFront : Tokenizer → List ℕ → Option CodeToken → Tokenizer → Type 0
+TakesFront old bytes given new = (before : List ℕ → Scan) → Stands old before
+    → (after : List ℕ → Scan) × Stands new after × GivesBehind given bytes before after
 
 -- a header, or a word that is wrong
 abbrev pub IsOfHeader : Token → Type 0

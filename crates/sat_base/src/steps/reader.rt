@@ -1,8 +1,9 @@
 //! A reader of proof steps.
-ghost use Rattle.std.specs.Prelude.{◌≡◌, false};
+ghost use Rattle.std.specs.Prelude.{◌≡◌, ℕ, List, false};
+ghost use Rattle.sat_base.specs.steps.StepText.{tag_of};
 ghost use Rattle.sat_base.specs.steps.StepViews.{step_of};
 ghost use Rattle.sat_base.specs.device.Reading.{Answers, giving, source, unread, valued};
-ghost use Rattle.sat_base.specs.steps.Kinds.{step_held};
+ghost use Rattle.sat_base.specs.steps.Kinds.{step_held, step_with};
 ghost use Rattle.sat_base.specs.steps.StepReading.{reader_source, has_failed, reader_name, step_in, is_stop, Next};
 
 use crate::device::ahead::Ahead;
@@ -51,6 +52,28 @@ fn stops(error: StepError) -> bool
         StepError::Read => true,
         StepError::OutOfMemory => true,
         StepError::HasFailed => true,
+    }
+}
+
+/// The tag of a step of this kind.
+#[inline(always)] // a caller that asks for one tag compares once
+fn tag(kind: Kind) -> u8
+    ensures { (literals hashes : List ℕ) (units : List (ℕ × ℕ)) → result ≡ tag_of (step_with kind literals hashes units) }
+{
+    match kind {
+        Kind::SolverVarName { .. } => 1,
+        Kind::UserVarName { .. } => 2,
+        Kind::DeleteVar { .. } => 3,
+        Kind::ChangeSamplingMode { .. } => 4,
+        Kind::AddClause => 5,
+        Kind::AtClause { .. } => 6,
+        Kind::UnitClauses => 7,
+        Kind::DeleteClause { .. } => 8,
+        Kind::ChangeHashBits { .. } => 9,
+        Kind::Model => 10,
+        Kind::Assumptions => 11,
+        Kind::FailedAssumptions => 12,
+        Kind::End => 13,
     }
 }
 
@@ -103,6 +126,13 @@ impl<'r, R: CountedRead> StepReader<'r, R, Buffers> {
                 Err(error)
             }
         }
+    }
+
+    /// The tag of the step that `advance` has read, from 1 to 13, after an `Ok`. It is told without the step.
+    pub fn tag(&self) -> u8
+        ensures { result ≡ tag_of (step_in self.now) }
+    {
+        tag(self.buffers.kind)
     }
 
     /// The step that `advance` has read, after an `Ok`. After an error it says nothing.
