@@ -3,3 +3,4 @@ pub mod Device
 pub mod Reading
 pub mod Sink
 pub mod Waiting
+pub mod Fed

@@ -14,7 +14,7 @@ mod tally;
 pub(crate) mod whole;
 
 pub use self::counted::Counted;
-pub use self::whole::{ReadError, read_whole};
+pub use self::whole::{Feed, ReadError, read_into, read_whole};
 use std::io;
 use std::io::{ErrorKind, Read, Write};
 

@@ -18,7 +18,7 @@ mod steps;
 mod text;
 mod var;
 
-pub use device::{Counted, CountedRead, CountedWrite, ReadError, read_whole};
+pub use device::{Counted, CountedRead, CountedWrite, Feed, ReadError, read_into, read_whole};
 pub use dimacs::DimacsParser;
 pub use dimacs::error::{DimacsError, IncrementalError};
 pub use dimacs_writer::write_dimacs;

@@ -1,5 +1,5 @@
 //! Reading a reader to its end.
-ghost use Rattle.std.specs.Prelude.{◌≡◌, ◌+◌, ◌<◌, ◌≤◌, ◌⊎◌, length, IfOk, IfErr, OnOk, IsErrOf};
+ghost use Rattle.std.specs.Prelude.{◌≡◌, ◌+◌, ◌<◌, ◌≤◌, ◌⊎◌, ◌++◌, ℕ, List, [], length, IfOk, IfErr, OnOk, IsErrOf};
 ghost use Rattle.std.specs.Io.{ReadsAtMost};
 ghost use Rattle.sat_base.specs.device.Device.{most_reads, ReadFails, ReadsOnce, GaveAll, Grew};
 
@@ -44,6 +44,50 @@ fn read_piece<R: CountedRead>(reader: &mut R, room: &mut [u8]) -> Result<usize, 
     }
 }
 
+/// What takes the bytes of a text, in any pieces.
+pub trait Feed {
+    /// It was fed this text, and nothing more.
+    ghost was_fed: { Self → List ℕ → Type 0 };
+
+    /// Takes the next bytes.
+    fn feed(&mut self, piece: &[u8]) -> Result<(), AllocError>
+        ensures { (text : List ℕ) → was_fed self.old text → OnOk result (was_fed self.new (text ++ piece.now)) };
+}
+
+/// The bytes are held.
+impl Feed for Vec<u8> {
+    ghost was_fed = { λ v text. v.items ≡ text };
+
+    fn feed(&mut self, piece: &[u8]) -> Result<(), AllocError> {
+        self.extend_from_slice(piece)
+    }
+}
+
+/// Reads to the end, in pieces of at most 4,096 bytes, and feeds each as it comes. The first failed read ends it, and so does the
+/// first piece for which there is no memory.
+pub fn read_into<R: CountedRead, F: Feed>(reader: &mut R, taker: &mut F) -> Result<(), ReadError>
+    requires { F.was_fed taker.old [] }
+    ensures gave { OnOk result ((text : List ℕ) × GaveAll (R.seen reader.old) (R.seen reader.new) text × F.was_fed taker.new text) }
+    ensures front { Grew (R.seen reader.old) (R.seen reader.new) }
+    ensures kept { OnOk result ((R.seen reader.new).failures ≡ (R.seen reader.old).failures) }
+    // None is tried again.
+    ensures failed { IsErrOf result ReadError.Failed → ReadFails (R.seen reader.old) (R.seen reader.new) }
+    ensures memory { IsErrOf result ReadError.OutOfMemory → (R.seen reader.new).failures ≡ (R.seen reader.old).failures }
+    // Memory is asked for by bytes alone.
+    ensures some { IsErrOf result ReadError.OutOfMemory → length (R.seen reader.old).given < length (R.seen reader.new).given }
+    ensures reads { (R.seen reader.new).calls ≤ (R.seen reader.old).calls + most_reads }
+{
+    let mut piece = [0; PIECE];
+    for _ in 0..MAX_READS {
+        match read_piece(reader, &mut piece) {
+            Ok(0) => return Ok(()),
+            Ok(count) => taker.feed(&piece[..count])?,
+            Err(e) => return Err(e),
+        }
+    }
+    Err(ReadError::Failed)
+}
+
 /// Reads to the end, in pieces of at most 4,096 bytes, and gives all bytes. The first failed read ends it. After an error what was
 /// read is gone.
 pub fn read_whole<R: CountedRead>(alloc: Global, reader: &mut R) -> Result<Vec<u8>, ReadError>
@@ -58,13 +102,8 @@ pub fn read_whole<R: CountedRead>(alloc: Global, reader: &mut R) -> Result<Vec<u
     ensures reads { (R.seen reader.new).calls ≤ (R.seen reader.old).calls + most_reads }
 {
     let mut whole = Vec::new(alloc);
-    let mut piece = [0; PIECE];
-    for _ in 0..MAX_READS {
-        match read_piece(reader, &mut piece) {
-            Ok(0) => return Ok(whole),
-            Ok(count) => whole.extend_from_slice(&piece[..count])?,
-            Err(e) => return Err(e),
-        }
+    match read_into(reader, &mut whole) {
+        Ok(()) => Ok(whole),
+        Err(e) => Err(e),
     }
-    Err(ReadError::Failed)
 }

@@ -1,10 +1,9 @@
-use Rattle.std.proofs.Common.{ℕ, ◌+◌, ◌++◌, inl, inr, ap, sym, subst, ◌∙◌, take, rules, arith}
+use Rattle.std.proofs.Common.{ℕ, ◌+◌, ◌++◌, inl, inr, ap, refl, ◌∙◌, take, rules, arith}
 use Rattle.std.proofs.lemmas.Result.{err_from_is_err_and}
-use Rattle.sat_base.specs.device.Device.{GaveAll, GaveFront}
 use Rattle.sat_base.proofs.lemmas.device.Given.{gave_more, end_after, few_after, few_before, some_given, no_less, gave_still, calls_after, calls_within, calls_upto}
 use Rattle.sat_base.proofs.lemmas.device.WholeAnswers.{one_more, if_err, ok_is_no_err, want_is_no_failure, failed_is_no_want, failure_is_no_want}
 use Rattle.sat_base.proofs.lemmas.dimacs.Parsed.{piece_given}
-use Rattle.sat_base.proofs.device.whole.read_whole.Goals as goal
+use Rattle.sat_base.proofs.device.whole.read_into.Goals as goal
 
 -- AT THE END
 
@@ -12,13 +11,13 @@ pub returns-in-Ok-eq0-clause-gave : goal.returns-in-Ok-eq0-clause-gave
 returns-in-Ok-eq0-clause-gave g c =
     let S = g.R.CountedRead.seen in
     let l = c.loop in
-    end_after (S c.args.reader.now) (S l.reader) (S c.read_piece.new.reader) l.whole.items c.in-Ok-eq0.field-0 l.counter c.read_piece.new.room l.invariant.front c.in-Ok-eq0.ensures.once c.in-Ok-eq0.field-0-test (search rules) l.invariant.calls l.invariant.some
+    (l.invariant.text, end_after (S c.args.reader.now) (S l.reader) (S c.read_piece.new.reader) l.invariant.text c.in-Ok-eq0.field-0 l.counter c.read_piece.new.room l.invariant.front c.in-Ok-eq0.ensures.once c.in-Ok-eq0.field-0-test (search rules) l.invariant.calls l.invariant.some, l.invariant.fed)
 
 pub returns-in-Ok-eq0-clause-front : goal.returns-in-Ok-eq0-clause-front
 returns-in-Ok-eq0-clause-front g c =
-    let S = g.R.CountedRead.seen in
-    let all : GaveAll (S c.args.reader.now) (S c.read_piece.new.reader) c.loop.whole.items = returns-in-Ok-eq0-clause-gave g c in
-    (c.loop.whole.items, record { gave = all.gave; told = all.told; loans = all.loans }, all.few)
+    let gave = returns-in-Ok-eq0-clause-gave g c in
+    let all = gave.1 in
+    (gave.0, record { gave = all.gave; told = all.told; loans = all.loans }, all.few)
 
 pub returns-in-Ok-eq0-clause-kept : goal.returns-in-Ok-eq0-clause-kept
 returns-in-Ok-eq0-clause-kept g c = c.in-Ok-eq0.ensures.once.failures.0 ∙ c.loop.invariant.failures
@@ -37,43 +36,43 @@ returns-in-Ok-eq0-clause-reads g c = calls_within _ _ _ c.loop.counter c.in-Ok-e
 
 -- WHERE THERE IS NO MEMORY
 
-pub returns-in_err-extend_from_slice-in-Ok-clause-gave : goal.returns-in_err-extend_from_slice-in-Ok-clause-gave
-returns-in_err-extend_from_slice-in-Ok-clause-gave g c = let p = err_from_is_err_and c.from_residual.result c.from_residual.ensures.1 in if_err _ p.0 _ p.1
+pub returns-in_err-feed-in-Ok-clause-gave : goal.returns-in_err-feed-in-Ok-clause-gave
+returns-in_err-feed-in-Ok-clause-gave g c = let p = err_from_is_err_and c.from_residual.result c.from_residual.ensures.1 in if_err _ p.0 _ p.1
 
-pub returns-in_err-extend_from_slice-in-Ok-clause-kept : goal.returns-in_err-extend_from_slice-in-Ok-clause-kept
-returns-in_err-extend_from_slice-in-Ok-clause-kept g c = let p = err_from_is_err_and c.from_residual.result c.from_residual.ensures.1 in if_err _ p.0 _ p.1
+pub returns-in_err-feed-in-Ok-clause-kept : goal.returns-in_err-feed-in-Ok-clause-kept
+returns-in_err-feed-in-Ok-clause-kept g c = let p = err_from_is_err_and c.from_residual.result c.from_residual.ensures.1 in if_err _ p.0 _ p.1
 
-pub returns-in_err-extend_from_slice-in-Ok-clause-failed : goal.returns-in_err-extend_from_slice-in-Ok-clause-failed
-returns-in_err-extend_from_slice-in-Ok-clause-failed g c = let p = err_from_is_err_and c.from_residual.result c.from_residual.ensures.1 in λ h. want_is_no_failure _ _ p.1 p.2 h
+pub returns-in_err-feed-in-Ok-clause-failed : goal.returns-in_err-feed-in-Ok-clause-failed
+returns-in_err-feed-in-Ok-clause-failed g c = let p = err_from_is_err_and c.from_residual.result c.from_residual.ensures.1 in λ h. want_is_no_failure _ _ p.1 p.2 h
 
-pub returns-in_err-extend_from_slice-in-Ok-clause-reads : goal.returns-in_err-extend_from_slice-in-Ok-clause-reads
-returns-in_err-extend_from_slice-in-Ok-clause-reads g c = calls_within _ _ _ c.loop.counter c.in-Ok.ensures.once.calls c.loop.invariant.calls c.loop-test.true
+pub returns-in_err-feed-in-Ok-clause-reads : goal.returns-in_err-feed-in-Ok-clause-reads
+returns-in_err-feed-in-Ok-clause-reads g c = calls_within _ _ _ c.loop.counter c.in-Ok.ensures.once.calls c.loop.invariant.calls c.loop-test.true
 
-pub returns-in_err-extend_from_slice-in-Ok-clause-front : goal.returns-in_err-extend_from_slice-in-Ok-clause-front
-returns-in_err-extend_from_slice-in-Ok-clause-front g c =
+pub returns-in_err-feed-in-Ok-clause-front : goal.returns-in_err-feed-in-Ok-clause-front
+returns-in_err-feed-in-Ok-clause-front g c =
     let S = g.R.CountedRead.seen in
     let l = c.loop in
     let room = c.read_piece.new.room in
     let once = c.in-Ok.ensures.once in
     let piece = take c.in-Ok.count room in
-    let front = gave_more (S c.args.reader.now) (S l.reader) (S c.read_piece.new.reader) l.whole.items c.in-Ok.count room l.invariant.front once in
-    (l.whole.items ++ piece, front, few_after _ (S l.reader) _ _ l.counter front once.calls l.invariant.calls (no_less l.whole.items piece l.counter l.invariant.some))
+    let front = gave_more (S c.args.reader.now) (S l.reader) (S c.read_piece.new.reader) l.invariant.text c.in-Ok.count room l.invariant.front once in
+    (l.invariant.text ++ piece, front, few_after _ (S l.reader) _ _ l.counter front once.calls l.invariant.calls (no_less l.invariant.text piece l.counter l.invariant.some))
 
-pub returns-in_err-extend_from_slice-in-Ok-clause-memory : goal.returns-in_err-extend_from_slice-in-Ok-clause-memory
-returns-in_err-extend_from_slice-in-Ok-clause-memory g c = λ _. c.in-Ok.ensures.once.failures.0 ∙ c.loop.invariant.failures
+pub returns-in_err-feed-in-Ok-clause-memory : goal.returns-in_err-feed-in-Ok-clause-memory
+returns-in_err-feed-in-Ok-clause-memory g c = λ _. c.in-Ok.ensures.once.failures.0 ∙ c.loop.invariant.failures
 
-pub returns-in_err-extend_from_slice-in-Ok-clause-some : goal.returns-in_err-extend_from_slice-in-Ok-clause-some
-returns-in_err-extend_from_slice-in-Ok-clause-some g c =
+pub returns-in_err-feed-in-Ok-clause-some : goal.returns-in_err-feed-in-Ok-clause-some
+returns-in_err-feed-in-Ok-clause-some g c =
     let S = g.R.CountedRead.seen in
     let l = c.loop in
     let room = c.read_piece.new.room in
-    let front = gave_more (S c.args.reader.now) (S l.reader) (S c.read_piece.new.reader) l.whole.items c.in-Ok.count room l.invariant.front c.in-Ok.ensures.once in
-    λ _. some_given _ _ l.whole.items (take c.in-Ok.count room) front (piece_given c.in-Ok.count room (search rules) (search rules))
+    let front = gave_more (S c.args.reader.now) (S l.reader) (S c.read_piece.new.reader) l.invariant.text c.in-Ok.count room l.invariant.front c.in-Ok.ensures.once in
+    λ _. some_given _ _ l.invariant.text (take c.in-Ok.count room) front (piece_given c.in-Ok.count room (search rules) (search rules))
 
 -- WHERE READING FAILS
 
 pub returns-clause-front : goal.returns-clause-front
-returns-clause-front g c = let l = c.loop in (l.whole.items, l.invariant.front, few_before _ _ _ l.counter l.invariant.front l.invariant.calls l.invariant.some)
+returns-clause-front g c = let l = c.loop in (l.invariant.text, l.invariant.front, few_before _ _ _ l.counter l.invariant.front l.invariant.calls l.invariant.some)
 
 pub returns-clause-failed : goal.returns-clause-failed
 returns-clause-failed g c = let l = c.loop in λ _. (inr (l.invariant.failures, omega (arith, l.invariant.calls)), (returns-clause-front g c).2)
@@ -112,8 +111,8 @@ returns-in-Err-clause-front g c =
     let S = g.R.CountedRead.seen in
     let l = c.loop in
     let once = c.in-Err.ensures.once in
-    let front = gave_still _ (S c.args.reader.now) (S l.reader) (S c.read_piece.new.reader) l.whole.items c.read_piece.new.room l.invariant.front once in
-    (l.whole.items, front, few_after _ (S l.reader) _ _ l.counter front once.calls l.invariant.calls l.invariant.some)
+    let front = gave_still _ (S c.args.reader.now) (S l.reader) (S c.read_piece.new.reader) l.invariant.text c.read_piece.new.room l.invariant.front once in
+    (l.invariant.text, front, few_after _ (S l.reader) _ _ l.counter front once.calls l.invariant.calls l.invariant.some)
 
 pub returns-in-Err-clause-failed : goal.returns-in-Err-clause-failed
 returns-in-Err-clause-failed g c =
@@ -132,10 +131,11 @@ loop-preserved g c =
     let room = c.read_piece.new.room in
     let once = c.in-Ok.ensures.once in
     let piece = take c.in-Ok.count room in
-    let is = c.in_ok-extend_from_slice-in-Ok.ensures.items in
     record {
-      front = subst (GaveFront (S c.args.reader.now) (S c.read_piece.new.reader)) (sym is) (gave_more (S c.args.reader.now) (S l.reader) (S c.read_piece.new.reader) l.whole.items c.in-Ok.count room l.invariant.front once);
-      some = one_more l.whole.items piece _ l.counter is l.invariant.some (piece_given c.in-Ok.count room (search rules) (search rules));
+      text = l.invariant.text ++ piece;
+      front = gave_more (S c.args.reader.now) (S l.reader) (S c.read_piece.new.reader) l.invariant.text c.in-Ok.count room l.invariant.front once;
+      fed = c.in_ok-feed-in-Ok.ensures l.invariant.text l.invariant.fed;
+      some = one_more l.invariant.text piece _ l.counter refl l.invariant.some (piece_given c.in-Ok.count room (search rules) (search rules));
       failures = once.failures.0 ∙ l.invariant.failures;
       calls = calls_after _ _ _ l.counter once.calls l.invariant.calls;
     }
