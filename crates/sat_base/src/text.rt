@@ -416,6 +416,7 @@ impl Tokenizer {
         ensures within { result.0 ≤ length bytes.now }
         ensures takes { TakesFront self.old (take result.0 bytes.now) result.1 self.new }
         ensures all { result.1 ≡ None → result.0 ≡ length bytes.now }
+        ensures some { 0 < length bytes.now → 0 < result.0 }
     {
         for at in self.push_number(bytes)..bytes.len() {
             let token = self.push(bytes[at]);

@@ -5,10 +5,11 @@ use Rattle.certify.specs.declared.script.reader.Hand.TheVariants as at
 use Rattle.certify.specs.declared.script.reader.Commands.{Commands}
 use Rattle.certify.specs.declared.script.reader.Parser.{Parser}
 use Rattle.certify.specs.script.ScriptParts.{commands_in, literals_behind, AreParts}
-use Rattle.certify.specs.script.CappedNames.{capped_name, CappedScript}
+use Rattle.certify.specs.script.CappedNames.{capped_name, CappedScript, capped_script}
 use Rattle.sat_base.specs.declared.text.Token.{Token as CodeToken}
 use Rattle.sat_base.specs.declared.text.Token.TheVariants as code
 use Rattle.sat_base.specs.text.Text.{Token, Number, Letter, Header, Wrong, Scan}
+use Rattle.sat_base.specs.text.Chunks.{Follows}
 use Rattle.sat_base.specs.text.Tokenizing.{Stands}
 use Rattle.sat_base.specs.script.Script.{Literal, Command, Ask, Clean, Malformed, Hand, Nothing, InClause, InAsk, Turn, GoesOn, Fails, command_in, Reading, onto_commands, commands_of, spoken, has_ask, is_clean}
 
@@ -94,3 +95,14 @@ pub record Means (parser : Parser) (script_of : List ℕ → CappedScript) : Typ
   pub left_of : List ℕ → Scan
   pub stands : Stands parser.tokenizer left_of
   pub reads : (rest : List ℕ) → script_of rest ≡ meaning parser.commands (capped_tokens (left_of rest))
+
+-- what bytes leave: the text goes on, or is malformed whatever follows
+abbrev pub TakesBytes : Bool → Parser → List ℕ → Parser → Type 0
+TakesBytes true old bytes new = Follows Means old bytes new
+TakesBytes false old bytes new = (before : List ℕ → CappedScript) → Means old before
+    → AreCommands new.commands × ((rest : List ℕ) → before (bytes ++ rest) ≡ malformed_behind new.commands)
+
+-- a parser was fed this text, which is malformed behind its commands, or else goes on
+abbrev pub IsFed : Bool → Parser → List ℕ → Type 0
+IsFed true parser text = AreCommands parser.commands × ((rest : List ℕ) → capped_script (text ++ rest) ≡ malformed_behind parser.commands)
+IsFed false parser text = Means parser (λ rest. capped_script (text ++ rest))

@@ -1,14 +1,14 @@
 //! Reading scripts.
-ghost use Rattle.std.specs.Prelude.{◌≡◌, ◌+◌, ◌≤◌, ◌<◌, ◌⊎◌, ◌++◌, ◌∷◌, ◌&&◌, not, length, ℕ, List, [], IfOk, OnOk, IsErrOf};
+ghost use Rattle.std.specs.Prelude.{◌≡◌, ◌+◌, ◌≤◌, ◌<◌, ◌⊎◌, ◌++◌, ◌∷◌, ◌&&◌, not, length, ℕ, List, [], false, IfOk, OnOk, IsErrOf};
 ghost use Rattle.sat_base.specs.device.Device.{most_reads, ReadFails, GaveAll};
 ghost use Rattle.sat_base.specs.text.Text.{Token as SpelledToken};
 ghost use Rattle.sat_base.specs.script.Script.{Literal as Spelled, Ask, Clean, Nothing, command_in, with_literal, with_letter, at_end, commands_of, has_ask};
 ghost use Rattle.certify.specs.script.CappedNames.{CappedScript, capped_script, IsScriptOf};
 ghost use Rattle.certify.specs.script.ScriptParts.{command_of, end_of};
-ghost use Rattle.certify.specs.script.ScriptReading.{token_of, hand_of, commands_read, hand_in, AreCommands, Turns, EndsCommand, any_header, asked_if, meaning, malformed_behind, TakesToken, Means};
+ghost use Rattle.certify.specs.script.ScriptReading.{token_of, hand_of, commands_read, hand_in, AreCommands, Turns, EndsCommand, any_header, asked_if, meaning, malformed_behind, TakesToken, TakesBytes, Means, IsFed};
 
 use super::{CommandKind, Literal, Part, Script, any_ask};
-use sat_base::{CountedRead, ReadError, Token, Tokenizer, read_whole};
+use sat_base::{CountedRead, Feed, ReadError, Token, Tokenizer, read_into};
 use std::alloc::{AllocError, Global};
 
 /// The largest name.
@@ -32,7 +32,7 @@ struct Commands {
     headed: bool,
 }
 
-/// A reader of a script, as it stands behind the bytes that it was fed.
+/// A parser of a script, as it stands behind the bytes that it took.
 #[derive(Drop)]
 struct Parser {
     tokenizer: Tokenizer,
@@ -185,6 +185,34 @@ impl Commands {
 }
 
 impl Parser {
+    fn new(alloc: Global) -> Parser
+        ensures { IsFed false result [] }
+    {
+        Parser {
+            tokenizer: Tokenizer::new(),
+            commands: Commands::new(alloc),
+        }
+    }
+
+    /// The next bytes of the text. Says whether they may stand there.
+    fn push(&mut self, bytes: &[u8]) -> Result<bool, AllocError>
+        requires { AreCommands self.old.commands }
+        ensures { IfOk result (λ goes. TakesBytes goes self.old bytes.now self.new) }
+    {
+        let mut at = 0;
+        while at < bytes.len() {
+            let (count, token) = self.tokenizer.next_token(&bytes[at..]);
+            at += count;
+            let Some(token) = token else {
+                continue;
+            };
+            if !self.commands.take(token)? {
+                return Ok(false);
+            }
+        }
+        Ok(true)
+    }
+
     /// The text ends here.
     fn finish(mut self) -> Result<Script, AllocError>
         requires { AreCommands self.commands }
@@ -203,29 +231,51 @@ impl Parser {
     }
 }
 
-/// The script that a text spells.
-pub(crate) fn parse(alloc: Global, text: &[u8]) -> Result<Script, AllocError>
-    ensures { IfOk result (λ script. script ≡ capped_script text.now) }
-{
-    // Apart, so that the commands are handed on and the tokenizer isn't: it then stays in registers from byte to byte.
-    let mut tokenizer = Tokenizer::new();
-    let mut commands = Commands::new(alloc);
-    for byte in text {
-        let Some(token) = tokenizer.push(*byte) else {
-            continue;
-        };
-        if !commands.take(token)? {
-            return Ok(commands.into_script(true));
-        }
-    }
-    Parser {
-        tokenizer,
-        commands,
-    }
-    .finish()
+/// A parser that is fed a text, and takes no more of it behind what makes it malformed.
+#[derive(Drop)]
+struct Reading {
+    parser: Parser,
+    malformed: bool,
 }
 
-/// Reads a script to the end of its text.
+impl Reading {
+    fn new(alloc: Global) -> Reading
+        ensures { IsFed result.malformed result.parser [] }
+    {
+        Reading {
+            parser: Parser::new(alloc),
+            malformed: false,
+        }
+    }
+
+    /// The text ends here.
+    fn finish(self) -> Result<Script, AllocError>
+        requires { (text : List ℕ) × IsFed self.malformed self.parser text }
+        ensures { IfOk result (λ script. (text : List ℕ) → IsFed self.malformed self.parser text → script ≡ capped_script text) }
+    {
+        if self.malformed {
+            Ok(self.parser.commands.into_script(true))
+        } else {
+            self.parser.finish()
+        }
+    }
+}
+
+impl Feed for Reading {
+    ghost use Rattle.certify.specs.script.ScriptReading.{IsFed};
+
+    ghost was_fed = { λ r text. IsFed r.malformed r.parser text };
+
+    fn feed(&mut self, piece: &[u8]) -> Result<(), AllocError> {
+        if self.malformed {
+            return Ok(());
+        }
+        self.malformed = !self.parser.push(piece)?;
+        Ok(())
+    }
+}
+
+/// Reads a script to the end of its text, of which it holds no more than the commands.
 pub fn read_script<R: CountedRead>(alloc: Global, reader: &mut R) -> Result<Script, ReadError>
     // The script is what the bytes that were given spell, with names past 2^28 capped at 2^28+1.
     ensures script { IfOk result (IsScriptOf (GaveAll (R.seen reader.old) (R.seen reader.new))) }
@@ -235,6 +285,9 @@ pub fn read_script<R: CountedRead>(alloc: Global, reader: &mut R) -> Result<Scri
     ensures memory { IsErrOf result ReadError.OutOfMemory → (R.seen reader.new).failures ≡ (R.seen reader.old).failures }
     ensures reads { (R.seen reader.new).calls ≤ (R.seen reader.old).calls + most_reads }
 {
-    let text = read_whole(alloc, reader)?;
-    Ok(parse(alloc, &text)?)
+    let mut reading = Reading::new(alloc);
+    match read_into(reader, &mut reading) {
+        Ok(()) => Ok(reading.finish()?),
+        Err(e) => Err(e),
+    }
 }

@@ -51,6 +51,7 @@ pub trait Feed {
 
     /// Takes the next bytes.
     fn feed(&mut self, piece: &[u8]) -> Result<(), AllocError>
+        requires { (text : List ℕ) × was_fed self.old text }
         ensures { (text : List ℕ) → was_fed self.old text → OnOk result (was_fed self.new (text ++ piece.now)) };
 }
 

@@ -1,14 +1,14 @@
 -- What a reader of scripts makes of tokens and bytes.
-use Rattle.std.proofs.Common.{◌≡◌, ℕ, ◌+◌, ◌<◌, ◌≤◌, List, [], ◌∷◌, ◌++◌, Bool, true, false, length, get_or, take, drop, map, Some, None, Result, Ok, Err, refl, sym, ap, subst, ◌∙◌, append_assoc, arith}
+use Rattle.std.proofs.Common.{◌≡◌, ℕ, ◌+◌, ◌-◌, ◌<◌, ◌≤◌, List, [], ◌∷◌, ◌++◌, Bool, true, false, length, take, drop, map, Some, None, Result, Ok, Err, refl, sym, ap, subst, ◌∙◌, append_assoc, arith}
 use Rattle.std.specs.Prelude.{nat_eq, not, ◌&&◌, ◌||◌, IfOk}
 use Rattle.std.proofs.Common.{cond}
-use Rattle.std.proofs.lemmas.List.{append-nil, length-append, take_all}
-use Rattle.std.proofs.lemmas.Grind.{common_steps}
+use Rattle.std.proofs.Math.Seq.{take-add}
+use Rattle.std.proofs.lemmas.List.{append-nil, length-append, length-take, take-take}
 use Rattle.std.proofs.lemmas.Bool.Decides.{nat_tests}
 use Rattle.sat_base.specs.declared.text.Token.{Token as CodeToken}
 use Rattle.sat_base.specs.declared.text.Tokenizer.{Tokenizer}
 use Rattle.sat_base.specs.text.Text.{Token, Number, Header, Wrong, Scan, scan}
-use Rattle.sat_base.specs.text.Tokenizing.{Takes, Stands, GivesLast}
+use Rattle.sat_base.specs.text.Tokenizing.{TakesFront, Stands, GivesLast}
 use Rattle.sat_base.specs.text.Chunks.{Follows}
 use Rattle.sat_base.specs.script.Script.{Literal, Command, Ask, Ending, Clean, Malformed, Hand, Nothing, InClause, InAsk, Turn, GoesOn, Ends, Fails, command_in, with_literal, turn, Reading, onto_commands, at_end, behind_turn, commands_of, has_ask}
 use Rattle.certify.specs.declared.script.CommandKind.{CommandKind}
@@ -20,7 +20,7 @@ use Rattle.certify.specs.declared.script.reader.Commands.{Commands}
 use Rattle.certify.specs.declared.script.reader.Parser.{Parser}
 use Rattle.certify.specs.script.CappedNames.{capped_name, CappedScript, capped_script}
 use Rattle.certify.specs.script.ScriptParts.{command_of, commands_in}
-use Rattle.certify.specs.script.ScriptReading.{capped_token, token_of, hand_of, commands_read, literals_left, hand_in, AreCommands, Turns, EndsCommand, is_header, any_header, asked_if, meaning, malformed_behind, TakesToken, capped_tokens, Means}
+use Rattle.certify.specs.script.ScriptReading.{capped_token, token_of, hand_of, commands_read, literals_left, hand_in, AreCommands, Turns, EndsCommand, is_header, any_header, asked_if, meaning, malformed_behind, TakesToken, capped_tokens, TakesBytes, Means, IsFed}
 use Rattle.certify.proofs.lemmas.script.ScriptParts.{commands_in-more, literals_behind-more, AreParts-more, commands_in-part, literals_behind-part, AreParts-part}
 use Rattle.certify.proofs.lemmas.script.CappedReading.{commands_of_cons, reading-held, token_of-held}
 
@@ -127,39 +127,64 @@ if_ok (Err e) P Q f p = tt
 abbrev pub parser : Tokenizer → Commands → Parser
 parser tokenizer commands = record { tokenizer = tokenizer; commands = commands }
 
--- what a byte leaves
-abbrev pub TakesByte : Bool → Parser → ℕ → Parser → Type 0
-TakesByte true old byte new = Follows Means old (byte ∷ []) new
-TakesByte false old byte new = AreCommands new.commands
-    × ((before : List ℕ → CappedScript) → Means old before → (rest : List ℕ) → before (byte ∷ rest) ≡ malformed_behind new.commands)
-
-pub byte_goes : (old : Parser) (b : ℕ) (next : Tokenizer) → Takes old.tokenizer b None next → TakesByte true old b (parser next old.commands)
-byte_goes old b next t before m =
+pub bytes_go : (old : Parser) (bytes : List ℕ) (next : Tokenizer) → TakesFront old.tokenizer bytes None next → TakesBytes true old bytes (parser next old.commands)
+bytes_go old bytes next t before m =
     let h = t m.left_of m.stands in (
       λ rest. meaning old.commands (capped_tokens (h.0 rest)),
       record { commands = m.commands; left_of = h.0; stands = h.1; reads = λ rest. refl },
-      λ rest. m.reads (b ∷ rest) ∙ ap (λ (s : Scan). meaning old.commands (capped_tokens s)) (h.2 rest),
+      λ rest. m.reads (bytes ++ rest) ∙ ap (λ (s : Scan). meaning old.commands (capped_tokens s)) (h.2 rest),
     )
 
 same_token : (given : Token) (t : CodeToken) (old : Commands) (ts : List Token) → token_of t ≡ capped_token given → meaning old (capped_token given ∷ ts) ≡ meaning old (token_of t ∷ ts)
 same_token given t old ts e = ap (λ (u : Token). meaning old (u ∷ ts)) (sym e)
 
-pub byte_takes : (goes : Bool) (old : Parser) (b : ℕ) (t : CodeToken) (next : Tokenizer) (new : Commands) → Takes old.tokenizer b (Some t) next → TakesToken goes old.commands (token_of t) new → TakesByte goes old b (parser next new)
-byte_takes true old b t next new k r = λ before m.
+pub bytes_take : (goes : Bool) (old : Parser) (bytes : List ℕ) (t : CodeToken) (next : Tokenizer) (new : Commands) → TakesFront old.tokenizer bytes (Some t) next → TakesToken goes old.commands (token_of t) new → TakesBytes goes old bytes (parser next new)
+bytes_take true old bytes t next new k r = λ before m.
     let h = k m.left_of m.stands in
     let given = h.2.0 in
     let same : token_of t ≡ capped_token given = ap token_of h.2.1 ∙ token_of-held given in (
       λ rest. meaning new (capped_tokens (h.0 rest)),
       record { commands = r.0; left_of = h.0; stands = h.1; reads = λ rest. refl },
-      λ rest. m.reads (b ∷ rest) ∙ ap (λ (s : Scan). meaning old.commands (capped_tokens s)) (h.2.2 rest) ∙ same_token given t old.commands (capped_tokens (h.0 rest)) same ∙ r.1 (capped_tokens (h.0 rest)),
+      λ rest. m.reads (bytes ++ rest) ∙ ap (λ (s : Scan). meaning old.commands (capped_tokens s)) (h.2.2 rest) ∙ same_token given t old.commands (capped_tokens (h.0 rest)) same ∙ r.1 (capped_tokens (h.0 rest)),
     )
-byte_takes false old b t next new k r =
-    let stops : (before : List ℕ → CappedScript) → Means old before → (rest : List ℕ) → before (b ∷ rest) ≡ malformed_behind new = λ before m rest.
-    let h = k m.left_of m.stands in
-    let given = h.2.0 in
-    let same : token_of t ≡ capped_token given = ap token_of h.2.1 ∙ token_of-held given in
-    m.reads (b ∷ rest) ∙ ap (λ (s : Scan). meaning old.commands (capped_tokens s)) (h.2.2 rest) ∙ same_token given t old.commands (capped_tokens (h.0 rest)) same ∙ r.1 (capped_tokens (h.0 rest)) in
-    (r.0, stops)
+bytes_take false old bytes t next new k r = λ before m. (
+  r.0,
+  λ rest. let h = k m.left_of m.stands in
+      let given = h.2.0 in
+      let same : token_of t ≡ capped_token given = ap token_of h.2.1 ∙ token_of-held given in
+      m.reads (bytes ++ rest) ∙ ap (λ (s : Scan). meaning old.commands (capped_tokens s)) (h.2.2 rest) ∙ same_token given t old.commands (capped_tokens (h.0 rest)) same ∙ r.1 (capped_tokens (h.0 rest)),
+)
+
+-- some bytes, and then others
+pub followed : (goes : Bool) (a b c : Parser) (xs ys : List ℕ) → Follows Means a xs b → TakesBytes goes b ys c → TakesBytes goes a (xs ++ ys) c
+followed true a b c xs ys f t = λ before m.
+    let h = f before m in
+    let k = t h.0 h.1 in
+    (k.0, k.1, λ rest. ap before (append_assoc xs ys rest) ∙ h.2 (ys ++ rest) ∙ k.2 rest)
+followed false a b c xs ys f t = λ before m.
+    let h = f before m in
+    let k = t h.0 h.1 in
+    (k.0, λ rest. ap before (append_assoc xs ys rest) ∙ h.2 (ys ++ rest) ∙ k.1 rest)
+
+pub no_more : (xs : List ℕ) (n k : ℕ) → n ≤ length xs → k ≤ length (take (length xs - n) (drop n xs)) → n + k ≤ length xs
+no_more xs n k h i = let l = length-take (length xs - n) (drop n xs) in omega arith
+
+-- behind what stops it the others count for nothing
+pub stopped : (a c : Parser) (xs ys : List ℕ) → TakesBytes false a xs c → TakesBytes false a (xs ++ ys) c
+stopped a c xs ys t before m =
+    let h = t before m in
+    (h.0, λ rest. ap before (append_assoc xs ys rest) ∙ h.1 (ys ++ rest))
+
+pub goes_nowhere : (a : Parser) → Follows Means a [] a
+goes_nowhere a before m = (before, m, λ rest. refl)
+
+-- the first bytes, and then some of those behind them
+front_and : (n k : ℕ) (xs : List ℕ) → n ≤ length xs → k ≤ length (take (length xs - n) (drop n xs)) → take (n + k) xs ≡ take n xs ++ take k (take (length xs - n) (drop n xs))
+front_and n k xs h i = take-add n k xs ∙ ap (λ (ys : List ℕ). take n xs ++ ys) (sym (take-take k (length xs - n) (drop n xs) (let l = length-take (length xs - n) (drop n xs) in omega arith)))
+
+pub followed_front : (goes : Bool) (a b c : Parser) (xs : List ℕ) (n k : ℕ) → n ≤ length xs → k ≤ length (take (length xs - n) (drop n xs)) → Follows Means a (take n xs) b → TakesBytes goes b (take k (take (length xs - n) (drop n xs))) c → TakesBytes goes a (take (n + k) xs) c
+followed_front goes a b c xs n k h i f t =
+    subst (λ (bs : List ℕ). TakesBytes goes a bs c) (sym (front_and n k xs h i)) (followed goes a b c (take n xs) (take k (take (length xs - n) (drop n xs))) f t)
 
 -- THE END
 pub ends_none : (old : Parser) (before : List ℕ → CappedScript) → ((left_of : List ℕ → Scan) → Stands old.tokenizer left_of → GivesLast None (left_of [])) → Means old before → meaning old.commands [] ≡ before []
@@ -190,23 +215,29 @@ means_first tokenizer commands s a n = record {
   reads = λ text. reading-held text ∙ sym (n (capped_tokens (scan text)));
 }
 
--- the bytes taken so far lead here
-abbrev pub Reached : List ℕ → Parser → Type 0
-Reached fed p = Means p (λ rest. capped_script (fed ++ rest))
-
-pub reached_more : (fed : List ℕ) (b : ℕ) (p q : Parser) → Reached fed p → TakesByte true p b q → Reached (fed ++ b ∷ []) q
-reached_more fed b p q r t =
-    let h = t (λ rest. capped_script (fed ++ rest)) r in
+-- the text so far, and a piece more
+pub fed_more : (goes : Bool) (text piece : List ℕ) (p q : Parser) → IsFed false p text → TakesBytes goes p piece q → IsFed (not goes) q (text ++ piece)
+fed_more true text piece p q m t =
+    let h = t (λ rest. capped_script (text ++ rest)) m in
     record {
       commands = h.1.commands;
       left_of = h.1.left_of;
       stands = h.1.stands;
-      reads = λ rest. ap capped_script (append_assoc fed (b ∷ []) rest) ∙ h.2 rest ∙ h.1.reads rest;
+      reads = λ rest. ap capped_script (append_assoc text piece rest) ∙ h.2 rest ∙ h.1.reads rest;
     }
+fed_more false text piece p q m t =
+    let h = t (λ rest. capped_script (text ++ rest)) m in
+    (h.0, λ rest. ap capped_script (append_assoc text piece rest) ∙ h.1 rest)
 
-pub reached_stop : (fed : List ℕ) (b : ℕ) (rest all : List ℕ) (p q : Parser) → all ≡ (fed ++ b ∷ []) ++ rest → Reached fed p → TakesByte false p b q → malformed_behind q.commands ≡ capped_script all
-reached_stop fed b rest all p q e r t =
-    sym (ap capped_script (e ∙ append_assoc fed (b ∷ []) rest) ∙ t.1 (λ rest. capped_script (fed ++ rest)) r rest)
+pub fed_still : (text piece : List ℕ) (p : Parser) → IsFed true p text → IsFed true p (text ++ piece)
+fed_still text piece p m = (m.0, λ rest. ap capped_script (append_assoc text piece rest) ∙ m.1 (piece ++ rest))
+
+pub commands_fed : (malformed : Bool) (p : Parser) (text : List ℕ) → IsFed malformed p text → AreCommands p.commands
+commands_fed true p text m = m.0
+commands_fed false p text m = m.commands
+
+pub fed_whole : (text : List ℕ) → capped_script (text ++ []) ≡ capped_script text
+fed_whole text = ap capped_script (append-nil text)
 
 pub literal_taken : (goes : Bool) (t : Token) (l : Literal) (old new : Commands) → is_header t ≡ false → turn (hand_in old) t ≡ with_literal (hand_in old) l → Turns goes (with_literal (hand_in old) l) old new → TakesToken goes old t new
 literal_taken goes t l old new w e h = turn_taken goes t old new w (subst (λ (k : Turn). Turns goes k old new) (sym e) h)
@@ -251,9 +282,3 @@ asked_parts commands p a n k e =
     no_hand at.Nothing ls e = refl
     no_hand at.Clause ls e = absurd (cc)
     no_hand at.Ask ls e = absurd (cc)
-
-pub split_at : (xs : List ℕ) (i : ℕ) → i < length xs → xs ≡ (take i xs ++ get_or xs i 0 ∷ []) ++ drop (i + 1) xs
-split_at xs i h = grind (arith, common_steps)
-
-pub reached_end : (xs : List ℕ) (i : ℕ) → length xs ≤ i → capped_script (take i xs ++ []) ≡ capped_script xs
-reached_end xs i h = ap capped_script (append-nil (take i xs) ∙ take_all i xs h)

@@ -124,6 +124,9 @@ returns-in-Err-clause-reads g c = calls_within _ _ _ c.loop.counter c.in-Err.ens
 
 -- ANOTHER PIECE
 
+pub feed-requires : goal.feed-requires
+feed-requires g c = (c.loop.invariant.text, c.loop.invariant.fed)
+
 pub loop-preserved : goal.loop-preserved
 loop-preserved g c =
     let S = g.R.CountedRead.seen in
