@@ -21,3 +21,4 @@ pub mod SteppedOn
 pub mod DueSteps
 pub mod NextNames
 pub mod SessionSteps
+pub mod StepTags

@@ -1,5 +1,5 @@
 -- What a certificate's steps bring, up to the next ordered one.
-use Rattle.std.specs.Prelude.{Bool, true, false, Option, Some, None, Result, Ok, Err, List}
+use Rattle.std.specs.Prelude.{ℕ, ◌==◌, ◌||◌, Bool, true, false, Option, Some, None, Result, Ok, Err, List}
 use Rattle.sat_base.specs.script.Judge.{Judge}
 use Rattle.sat_base.specs.steps.Steps.{Step}
 use Rattle.certify.specs.confirm.CertificatePlaces.{Stops}
@@ -9,6 +9,10 @@ use Rattle.certify.specs.confirm.Views.{View, place}
 use Rattle.certify.specs.declared.confirm.certificate.Awaited.{Awaited}
 use Rattle.certify.specs.declared.confirm.certificate.Awaited.TheVariants as awaited
 use Rattle.certify.specs.declared.verdict.Why.{Why}
+
+-- the tags of ordered steps
+abbrev pub is_ordered_tag : ℕ → Bool
+is_ordered_tag tag = tag == 2 || tag == 5 || tag == 10 || tag == 11 || tag == 12 || tag == 13
 
 -- whether the checker was fed what was read by then
 abbrev pub is_fed : Awaited → Bool

@@ -4,10 +4,9 @@ ghost use Rattle.sat_base.specs.device.Device.{most_reads};
 ghost use Rattle.sat_base.specs.steps.StepReading.{reader_name, reader_source};
 ghost use Rattle.sat_base.specs.steps.StepViews.{step_of};
 ghost use Rattle.sat_checker.specs.KernelView.{LooksAtMost, looks_of};
-ghost use Rattle.certify.specs.confirm.Checking.{is_ordered as is_ordered_step};
 ghost use Rattle.certify.specs.confirm.Feeding.{Feeds, Settles};
 ghost use Rattle.certify.specs.confirm.NextNames.{PutsNext};
-ghost use Rattle.certify.specs.confirm.Stepping.{ReadsOne};
+ghost use Rattle.certify.specs.confirm.Stepping.{ReadsOne, is_ordered_tag};
 ghost use Rattle.certify.specs.confirm.Streams.{Confirms, GoesOn, Reading, Says, bytes_left, stream_of};
 ghost use Rattle.sat_checker.specs.CheckerView.{kernel_of};
 ghost use Rattle.sat_checker.specs.declared.kernel.Kernel.{Kernel};
@@ -38,19 +37,11 @@ pub(crate) enum Awaited {
     Cut,
 }
 
-/// The steps that a script and its answers ask for; the others are fed wherever they stand.
-fn is_ordered(step: &ProofStep<'_>) -> bool
-    ensures { result ≡ is_ordered_step (step_of step.now) }
+/// The tags of steps that a script and its answers ask for; the others are fed wherever they stand.
+fn is_ordered(tag: u8) -> bool
+    ensures { result ≡ is_ordered_tag tag }
 {
-    matches!(
-        step,
-        ProofStep::UserVarName { .. }
-            | ProofStep::AddClause { .. }
-            | ProofStep::Model { .. }
-            | ProofStep::Assumptions { .. }
-            | ProofStep::FailedAssumptions { .. }
-            | ProofStep::End
-    )
+    tag == 2 || tag == 5 || tag == 10 || tag == 11 || tag == 12 || tag == 13
 }
 
 /// Reads the next step.
@@ -149,10 +140,10 @@ impl Certificate {
             return Ok(Some(Awaited::Cut));
         }
         read_next(steps)?;
-        let step = steps.step();
-        if is_ordered(&step) {
+        if is_ordered(steps.tag()) {
             return Ok(Some(Awaited::Step));
         }
+        let step = steps.step();
         feed(&mut self.checker, &step)?;
         Ok(None)
     }

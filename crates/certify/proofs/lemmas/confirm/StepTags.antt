@@ -1,0 +1,24 @@
+-- Which steps are ordered, by their tags.
+use Rattle.std.proofs.Common.{◌≡◌, ℕ, Bool, refl, sym, ap, ◌∙◌}
+use Rattle.sat_base.specs.steps.Steps.{Step, SolverVarName, UserVarName, DeleteVar, ChangeSamplingMode, AddClause, AtClause, UnitClauses, DeleteClause, ChangeHashBits, Model, Assumptions, FailedAssumptions, End}
+use Rattle.sat_base.specs.steps.StepText.{tag_of}
+use Rattle.certify.specs.confirm.Checking.{is_ordered}
+use Rattle.certify.specs.confirm.Stepping.{is_ordered_tag}
+
+tag_is_ordered : (s : Step) → is_ordered_tag (tag_of s) ≡ is_ordered s
+tag_is_ordered (SolverVarName global solver) = refl
+tag_is_ordered (UserVarName global user) = refl
+tag_is_ordered (DeleteVar v) = refl
+tag_is_ordered (ChangeSamplingMode v sample) = refl
+tag_is_ordered (AddClause clause) = refl
+tag_is_ordered (AtClause redundant clause hashes) = refl
+tag_is_ordered (UnitClauses units) = refl
+tag_is_ordered (DeleteClause clause proof) = refl
+tag_is_ordered (ChangeHashBits bits) = refl
+tag_is_ordered (Model assignment) = refl
+tag_is_ordered (Assumptions assumptions) = refl
+tag_is_ordered (FailedAssumptions core hashes) = refl
+tag_is_ordered End = refl
+
+pub ordered_by_tag : (s : Step) (tag : ℕ) (answer b : Bool) → tag ≡ tag_of s → answer ≡ is_ordered_tag tag → answer ≡ b → is_ordered s ≡ b
+ordered_by_tag s tag answer b e f g = sym (tag_is_ordered s) ∙ ap is_ordered_tag (sym e) ∙ sym f ∙ g
