@@ -170,7 +170,7 @@ fn digits_in(value: u64, bytes: &[u8]) -> (u64, usize)
 /// The value of the digits at the front of these bytes, and how many there are, if there are some.
 #[inline(always)]
 fn some_digits_in(bytes: &[u8]) -> Option<(u64, usize)>
-    ensures within { IfSome result (λ r. r.1 ≤ length bytes.now) }
+    ensures within { IfSome result (λ r. (0 < r.1) × (r.1 ≤ length bytes.now)) }
     ensures plain { IfSome result (λ r. (old : Place) → BeginsWord old → MovesBy old (take r.1 bytes.now) (Place.Digits false r.0)) }
     ensures negative { IfSome result (λ r. MovesBy Place.Minus (take r.1 bytes.now) (Place.Digits true r.0)) }
 {
@@ -188,7 +188,7 @@ fn some_digits_in(bytes: &[u8]) -> Option<(u64, usize)>
 /// The place behind a sign and digits at the front of these bytes, and how many bytes they are, if there are some.
 #[inline(always)]
 fn number_in(bytes: &[u8]) -> Option<(Place, usize)>
-    ensures within { IfSome result (λ r. r.1 ≤ length bytes.now) }
+    ensures within { IfSome result (λ r. (0 < r.1) × (r.1 ≤ length bytes.now)) }
     ensures moves { IfSome result (λ r. (old : Place) → BeginsWord old → MovesBy old (take r.1 bytes.now) r.0) }
 {
     if bytes.is_empty() {
@@ -394,37 +394,38 @@ impl Tokenizer {
         token
     }
 
-    /// Takes the front of a number from the bytes, where a word begins with them. Says how many bytes it took.
+    /// Takes a sign and digits at the front of the bytes, where a word begins with them. Says how many bytes they are.
     #[inline(always)]
-    fn push_number(&mut self, bytes: &[u8]) -> usize
-        ensures within { result ≤ length bytes.now }
-        ensures takes { Follows Stands self.old (take result bytes.now) self.new }
+    fn push_number(&mut self, bytes: &[u8]) -> Option<usize>
+        ensures none { result ≡ None → self.new ≡ self.old }
+        ensures within { IfSome result (λ n. (0 < n) × (n ≤ length bytes.now)) }
+        ensures takes { IfSome result (λ n. Follows Stands self.old (take n bytes.now) self.new) }
     {
         if !begins_word(self.place) {
-            return 0;
+            return None;
         }
-        let Some((place, count)) = number_in(bytes) else {
-            return 0;
-        };
+        let (place, count) = number_in(bytes)?;
         self.place = place;
-        count
+        Some(count)
     }
 
-    /// Takes bytes up to the next that ends a token, or all of them. Says how many it took, and gives the token.
+    /// Takes one byte or more, of which only the last may end a token. Says how many, and gives the token. It takes all digits of a
+    /// number at once; how many bytes it takes matters for nothing else.
     #[inline(always)]
-    pub fn next_token(&mut self, bytes: &[u8]) -> (usize, Option<Token>)
+    pub fn push_some(&mut self, bytes: &[u8]) -> (usize, Option<Token>)
+        requires { 0 < length bytes.now }
+        ensures some { 0 < result.0 }
         ensures within { result.0 ≤ length bytes.now }
         ensures takes { TakesFront self.old (take result.0 bytes.now) result.1 self.new }
-        ensures all { result.1 ≡ None → result.0 ≡ length bytes.now }
-        ensures some { 0 < length bytes.now → 0 < result.0 }
     {
-        for at in self.push_number(bytes)..bytes.len() {
-            let token = self.push(bytes[at]);
-            if token.is_some() {
-                return (at + 1, token);
-            }
+        let Some(count) = self.push_number(bytes) else {
+            return (1, self.push(bytes[0]));
+        };
+        // A number is mostly followed by the blank that ends it.
+        if count == bytes.len() {
+            return (count, None);
         }
-        (bytes.len(), None)
+        (count + 1, self.push(bytes[count]))
     }
 
     /// The token in hand where the text ends here, if there is one.

@@ -50,6 +50,7 @@ fn kind_of(hand: Hand) -> CommandKind
     }
 }
 
+// Each token goes through `take`, and with it inlined a literal is never written as a token.
 impl Commands {
     fn new(alloc: Global) -> Commands
         ensures commands { AreCommands result }
@@ -64,6 +65,7 @@ impl Commands {
     }
 
     /// A zero.
+    #[inline(always)]
     fn end_command(&mut self) -> Result<(), AllocError>
         requires { AreCommands self.old }
         ensures { OnOk result (EndsCommand self.old self.new) }
@@ -76,6 +78,7 @@ impl Commands {
     }
 
     /// A literal. Says whether it may stand there.
+    #[inline(always)]
     fn add_literal(&mut self, literal: Literal) -> Result<bool, AllocError>
         requires { AreCommands self.old }
         ensures { IfOk result (λ goes. Turns goes (with_literal (hand_in self.old) literal) self.old self.new) }
@@ -108,6 +111,7 @@ impl Commands {
     }
 
     /// The next token. Says whether it may stand there.
+    #[inline(always)]
     fn take(&mut self, token: Token) -> Result<bool, AllocError>
         requires { AreCommands self.old }
         ensures { IfOk result (λ goes. TakesToken goes self.old (token_of token) self.new) }
@@ -201,7 +205,7 @@ impl Parser {
     {
         let mut at = 0;
         while at < bytes.len() {
-            let (count, token) = self.tokenizer.next_token(&bytes[at..]);
+            let (count, token) = self.tokenizer.push_some(&bytes[at..]);
             at += count;
             let Some(token) = token else {
                 continue;

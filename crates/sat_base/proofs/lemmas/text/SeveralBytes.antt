@@ -98,3 +98,7 @@ takes_front a b c xs i given small f t = subst (λ (bs : List ℕ). TakesFront a
         let h = f before m in
         let j = k h.0 h.1 in
         (j.0, j.1, (j.2.0, j.2.1, λ rest. ap before (append_assoc (take i xs) (get_or xs i 0 ∷ []) rest) ∙ h.2 (get_or xs i 0 ∷ rest) ∙ j.2.2 rest))
+
+-- the first byte
+pub takes_first : (a c : Tokenizer) (xs : List ℕ) (given : Option CodeToken) → 0 < length xs → Takes a (get_or xs 0 0) given c → TakesFront a (take 1 xs) given c
+takes_first a c xs given some t = takes_front a a c xs 0 given some (λ before m. (before, m, λ rest. refl)) t

@@ -14,7 +14,7 @@ pub loop-at-preserved-in_default : goal.loop-at-preserved-in_default
 loop-at-preserved-in_default c =
     let l = c.loop-at in
     let xs = c.args.bytes.now in
-    let n = c.next_token-count in
+    let n = c.push_some-count in
     let front = take n.result.0 (take (length xs - l.at) (drop l.at xs)) in
     let none : TakesFront l.self.tokenizer front None n.new.self = subst (λ (t : Option Token). TakesFront l.self.tokenizer front t n.new.self) c.in_default.is n.ensures.takes in
     record {
@@ -27,7 +27,7 @@ pub returns-then-not-branch : goal.returns-then-not-branch
 returns-then-not-branch c =
     let l = c.loop-at in
     let xs = c.args.bytes.now in
-    let n = c.next_token-count in
+    let n = c.push_some-count in
     let front = take n.result.0 (take (length xs - l.at) (drop l.at xs)) in
     let new = parser n.new.self c.take.new.self in
     let some : TakesFront l.self.tokenizer front (Some c.in-Some.token) n.new.self = subst (λ (t : Option Token). TakesFront l.self.tokenizer front t n.new.self) c.in-Some.is n.ensures.takes in
@@ -40,7 +40,7 @@ pub loop-at-preserved : goal.loop-at-preserved
 loop-at-preserved c =
     let l = c.loop-at in
     let xs = c.args.bytes.now in
-    let n = c.next_token-count in
+    let n = c.push_some-count in
     let front = take n.result.0 (take (length xs - l.at) (drop l.at xs)) in
     let some : TakesFront l.self.tokenizer front (Some c.in-Some.token) n.new.self = subst (λ (t : Option Token). TakesFront l.self.tokenizer front t n.new.self) c.in-Some.is n.ensures.takes in
     let t : TakesToken true l.self.commands (token_of c.in-Some.token) c.take.new.self = subst (λ (b : Bool). TakesToken b l.self.commands (token_of c.in-Some.token) c.take.new.self) c.if-not-branch.false c.in_ok-take.ensures in
