@@ -1,6 +1,6 @@
 //! Devices.
 
-use sat_base::{Counted, CountedRead, CountedWrite, ReadError, read_whole};
+use sat_base::{Counted, CountedRead, CountedWrite, ReadError, read_into, read_whole};
 use std::alloc::Global;
 use std::io;
 use std::io::{ErrorKind, Read, Write};
@@ -118,6 +118,13 @@ fn is_read<R: CountedRead>(alloc: Global, reader: &mut R, text: &[u8]) -> Result
     Ok(read_whole(alloc, reader)?.as_slice() == text)
 }
 
+/// Tests whether a reader's bytes are fed as this text.
+fn is_fed<R: CountedRead>(alloc: Global, reader: &mut R, text: &[u8]) -> Result<bool, ReadError> {
+    let mut held = Vec::new(alloc);
+    read_into(reader, &mut held)?;
+    Ok(held.as_slice() == text)
+}
+
 /// Reads a text whole, byte by byte, of which one read fails, counted from 1. Gives whether the text was read, or the fault, and
 /// how many calls were made.
 fn read_by_one(alloc: Global, text: &[u8], failing: u64) -> (Result<bool, ReadError>, u64) {
@@ -131,6 +138,7 @@ fn devices_pass_on_what_they_are_given(rt: HostRuntime) -> Result<(), Fail> {
     assert!(rt; is_passed_on(rt.alloc(), b"abc")?);
     assert!(rt; Counted::new(Full {}).write_all_counted(b"abc").is_err());
     assert!(rt; read_by_one(rt.alloc(), b"abc", 0).0 == Ok(true));
+    assert!(rt; is_fed(rt.alloc(), &mut by_one(b"abc", 0), b"abc")?);
     Ok(())
 }
 

@@ -74,10 +74,29 @@ fn gives(row: &Row) -> bool {
     is_next(&mut left, tokenizer.line(), token) && left.next() == None && tokenizer.line() == row.2
 }
 
+/// Tests the same where all of a text is handed over.
+fn gives_at_once(row: &Row) -> bool {
+    let mut tokenizer = Tokenizer::new();
+    let mut left = row.1.iter();
+    let mut rest = row.0;
+    for _ in 0..row.0.len() {
+        if rest.is_empty() {
+            break;
+        }
+        let (count, token) = tokenizer.push_some(rest);
+        rest = &rest[count..];
+        if !is_next(&mut left, tokenizer.line(), token) {
+            return false;
+        }
+    }
+    let token = tokenizer.finish();
+    is_next(&mut left, tokenizer.line(), token) && left.next() == None && tokenizer.line() == row.2
+}
+
 /// The first text of some rows that doesn't give what its row says.
 fn wrong_text(rows: &[Row]) -> Option<&'static [u8]> {
     for row in rows {
-        if !gives(row) {
+        if !gives(row) || !gives_at_once(row) {
             return Some(row.0);
         }
     }
