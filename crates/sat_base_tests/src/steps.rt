@@ -79,10 +79,32 @@ fn both_give(alloc: Global, text: &[u8], steps: &[u8], errors: Errors) -> bool {
     whole_gives(alloc, text, steps, errors) && pieces_give(alloc, text, 0, steps, errors).0
 }
 
-/// Tests whether a step has this text, and is read again from it, whole and by one byte.
+/// The tag of the next step.
+fn next_tag<R: CountedRead>(steps: &mut StepReader<'_, R>) -> Option<u8> {
+    match steps.advance() {
+        Ok(()) => Some(steps.tag()),
+        Err(_) => None,
+    }
+}
+
+/// The tag of the first step that a reader gives.
+fn first_tag<R: CountedRead>(alloc: Global, reader: &mut R) -> Option<u8> {
+    next_tag(&mut StepReader::new(alloc, reader))
+}
+
+/// Tests whether the tag of the step with this text is its first byte.
+fn begins_with_tag(alloc: Global, text: &[u8]) -> bool {
+    first_tag(alloc, &mut Counted::new(text)) == text.first().copied()
+}
+
+/// Tests whether a step has this text, and is read again from it, whole and by one byte, and whether the text begins with its tag.
 fn has_text(alloc: Global, step: &ProofStep<'_>, text: &[u8]) -> bool {
     match written(alloc, step) {
-        Some(found) => found.as_slice() == text && both_give(alloc, text, text, AT_THE_END),
+        Some(found) => {
+            found.as_slice() == text
+                && both_give(alloc, text, text, AT_THE_END)
+                && begins_with_tag(alloc, text)
+        }
         None => false,
     }
 }
