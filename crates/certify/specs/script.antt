@@ -1,3 +1,4 @@
 pub mod CappedNames
+pub mod LiteralCodes
 pub mod ScriptParts
 pub mod ScriptReading

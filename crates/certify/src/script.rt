@@ -1,5 +1,5 @@
 //! Scripts: the commands of a text.
-ghost use Rattle.std.specs.Prelude.{◌≡◌, ◌<◌, ◌↔◌, IsTrue, [], length, slice_get, vec_len};
+ghost use Rattle.std.specs.Prelude.{◌≡◌, ◌<◌, ◌^◌, ◌↔◌, IsTrue, [], length, slice_get, vec_len};
 ghost use Rattle.sat_base.specs.script.Script.{Malformed};
 ghost use Rattle.certify.specs.script.ScriptParts.{commands_in, end_of, AreParts, start_of, is_ask, any_ask, shown};
 
@@ -11,18 +11,49 @@ use std::marker::Model;
 /// A name, counted from 1, and a sign. Names past 2^28 are capped at 2^28+1.
 #[derive(Clone, Copy, Debug, PartialEq, Eq)]
 pub struct Literal {
-    pub name: u32,
-    pub positive: bool,
+    /// Twice the name, plus one if the literal is negative: four bytes, of which a script holds many.
+    code: u32,
 }
 
 impl Model for Literal {
+    ghost use Rattle.sat_base.specs.values.Literals.{coded, is_positive, variable};
     ghost use Rattle.sat_base.specs.script.Script.{Literal as Spelled};
+    ghost use Rattle.certify.specs.script.LiteralCodes.{code_of_parts};
+    ghost use Rattle.std.proofs.Common.{ap};
 
     ghost Value = { Spelled };
 
-    ghost view = { λ l. record { name = l.name; positive = l.positive } };
+    ghost view = { λ l. record { name = variable l.code; positive = is_positive l.code } };
 
-    ghost inverse = { λ l. record { name = l.name; positive = l.positive } };
+    ghost inverse = { λ l. record { code = coded l.name l.positive } };
+
+    ghost inverse_ok = { λ l _. ap (λ code. record { code = code }) (code_of_parts l.code) };
+}
+
+impl Literal {
+    pub fn new(name: u32, positive: bool) -> Literal
+        requires { name < 2 ^ 31 }
+        ensures { result ≡ record { name = name; positive = positive } }
+    {
+        let sign = if positive { 0 } else { 1 };
+        Literal {
+            code: 2 * name + sign,
+        }
+    }
+
+    #[inline(always)]
+    pub fn name(self) -> u32
+        ensures { result ≡ self.name }
+    {
+        self.code / 2
+    }
+
+    #[inline(always)]
+    pub fn is_positive(self) -> bool
+        ensures { result ≡ self.positive }
+    {
+        self.code % 2 == 0
+    }
 }
 
 #[derive(Clone, Copy)]

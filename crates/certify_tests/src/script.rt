@@ -10,8 +10,8 @@ fn are(literals: &[Literal], numbers: &[i64]) -> bool {
         return false;
     }
     for (literal, number) in literals.iter().zip(numbers) {
-        let name = i64::from(literal.name);
-        if *number != (if literal.positive { name } else { -name }) {
+        let name = i64::from(literal.name());
+        if *number != (if literal.is_positive() { name } else { -name }) {
             return false;
         }
     }

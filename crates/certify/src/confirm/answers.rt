@@ -33,10 +33,7 @@ fn name_all(codes: &[Lit], line: &mut Vec<Literal>) -> Result<(), AllocError>
 {
     line.clear();
     for code in codes {
-        line.push(Literal {
-            name: code.index() as u32 + 1,
-            positive: code.is_positive(),
-        })?;
+        line.push(Literal::new(code.index() as u32 + 1, code.is_positive()))?;
     }
     Ok(())
 }

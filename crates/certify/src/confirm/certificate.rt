@@ -258,7 +258,7 @@ impl Certificate {
         ensures confirms { Confirms result (stream R.seen steps.old self.old) (stream R.seen steps.new self.new) (BringsEach literals.now) }
     {
         for literal in literals {
-            self.bring_name(steps, literal.name as usize)?;
+            self.bring_name(steps, literal.name() as usize)?;
         }
         Ok(())
     }

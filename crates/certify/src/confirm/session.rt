@@ -34,7 +34,7 @@ fn is_refused(literals: &[Literal]) -> bool
     ensures { MatchBool result (refused_name (names_of literals.now) ≡ Some PastLimit) (refused_name (names_of literals.now) ≡ None) }
 {
     for literal in literals {
-        if literal.name as usize > Var::max_count() {
+        if literal.name() as usize > Var::max_count() {
             return true;
         }
     }

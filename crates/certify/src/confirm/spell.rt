@@ -22,10 +22,10 @@ fn spell(
 {
     spelt.clear();
     for literal in literals {
-        let Some(variable) = variables.get(literal.name) else {
+        let Some(variable) = variables.get(literal.name()) else {
             return Ok(false);
         };
-        spelt.push(variable.lit(literal.positive))?;
+        spelt.push(variable.lit(literal.is_positive()))?;
     }
     Ok(true)
 }
@@ -70,7 +70,7 @@ fn lists_all(line: &[Literal], count: usize) -> bool
 {
     for i in 0..line.len() {
         let literal = line[i];
-        if literal.name as usize != i + 1 {
+        if literal.name() as usize != i + 1 {
             return false;
         }
     }
@@ -81,14 +81,15 @@ fn lists_all(line: &[Literal], count: usize) -> bool
 fn has(line: &[Literal], literal: Literal) -> bool
     ensures { ListsNames line.now (length line.now) → Tells result (Among literal line.now) }
 {
-    if literal.name == 0 {
+    let name = literal.name() as usize;
+    if name == 0 {
         return false;
     }
-    if literal.name as usize > line.len() {
+    if name > line.len() {
         return false;
     }
-    let named = line[literal.name as usize - 1];
-    named.positive == literal.positive
+    let named = line[name - 1];
+    named.is_positive() == literal.is_positive()
 }
 
 /// Whether a line of all names has each of the literals.

@@ -12,7 +12,7 @@ pub(crate) fn are_within(literals: &[Literal]) -> bool
     ensures { result ≡ are_within (names_of literals.now) }
 {
     for literal in literals {
-        let name = literal.name as usize;
+        let name = literal.name() as usize;
         if name < 1 || name > Var::max_count() {
             return false;
         }
@@ -27,7 +27,7 @@ pub(crate) fn fill(lits: &mut Vec<Lit>, literals: &[Literal]) -> Result<(), Allo
 {
     lits.clear();
     for literal in literals {
-        lits.push(Lit::from_index(literal.name as usize - 1, literal.positive))?;
+        lits.push(Lit::from_index(literal.name() as usize - 1, literal.is_positive()))?;
     }
     Ok(())
 }

@@ -77,7 +77,7 @@ pub(crate) fn bring_all<C: CountedWrite>(
     ensures certificate { WritesTo C.seen result (λ _. Wrote (brought names.old names.new)) certificate.old certificate.new }
 {
     for literal in literals {
-        bring_in(names, solver, certificate, literal.name)?;
+        bring_in(names, solver, certificate, literal.name())?;
     }
     Ok(())
 }

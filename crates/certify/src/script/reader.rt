@@ -122,10 +122,8 @@ impl Commands {
                     self.end_command()?;
                     return Ok(true);
                 }
-                self.add_literal(Literal {
-                    name: value.min(LARGEST + 1) as u32,
-                    positive: !negative,
-                })
+                let name = value.min(LARGEST + 1) as u32;
+                self.add_literal(Literal::new(name, !negative))
             }
             Token::Letter(byte) => Ok(self.begin(byte)),
             Token::Header { .. } => {

@@ -12,7 +12,7 @@ loop-literal-preserved g c =
     let l = c.literal-item.result in
     let i = c.loop-literal.literal-index in
     let ls = c.args.literals.now in
-    let named : c.bring_in.new.names ≡ max c.loop-literal.names l.name = c.in_ok-bring_in.ensures.names ∙ ap (λ m. max c.loop-literal.names m.name) c.literal.view_is in
+    let named : c.bring_in.new.names ≡ max c.loop-literal.names l.name = c.in_ok-bring_in.ensures.names ∙ ap (max c.loop-literal.names) c.name.ensures in
     record {
       names = ap (λ n. raised n (names_of (drop (i + 1) ls))) named ∙ sym (raised_next c.loop-literal.names ls i l c.loop-literal-test.true c.literal-item.is) ∙ c.loop-literal.invariant.names;
       least = omega (arith, named, c.loop-literal.invariant.least);
@@ -31,5 +31,5 @@ returns-clause-names g c =
 pub bring_in-requires : goal.bring_in-requires
 bring_in-requires g c =
     let w = within_at c.args.literals.now c.loop-literal.literal-index c.literal-item.result c.loop-literal-test.true c.literal-item.is c.loop-literal.invariant.within in
-    let e = ap (λ m. m.name) c.literal.view_is in
+    let e = c.name.ensures in
     record { within = omega (arith, w.small, e); same = c.loop-literal.invariant.variables }

@@ -14,7 +14,7 @@ returns-in_err-bring_name-clause-confirms g c =
     let S = g.R.CountedRead.seen in
     let b = stream S c.loop-literal.steps c.loop-literal.self in
     let d = stream S c.bring_name.new.steps c.bring_name.new.self in
-    let e : c.literal.inside.name ≡ (get_or c.args.literals.now c.loop-literal.literal-index c.literal-item.result).name = ap (λ (x : Literal). x.name) c.literal.view_is ∙ ap (λ (x : Literal). x.name) c.literal-item.is in
+    let e : c.name.result ≡ (get_or c.args.literals.now c.loop-literal.literal-index c.literal-item.result).name = c.name.ensures ∙ ap (λ (x : Literal). x.name) c.literal-item.is in
     let p = err_from_is_err_and c.from_residual.result c.from_residual.ensures.1 in
     rw (p.1, p.2) (brought_stop c.args.literals.now c.loop-literal.literal-index c.literal-item.result c.loop-literal-test.true (stream S c.args.steps.now c.args.self.now) b d c.requires.open_yet c.loop-literal.invariant.brought
     c.in_err-bring_name.field-0.0 (subst (λ n. Confirms (Err c.in_err-bring_name.field-0.0) b d (BringsUpTo n)) e c.in_err-bring_name.ensures.confirms))
@@ -24,7 +24,7 @@ loop-literal-preserved g c =
     let S = g.R.CountedRead.seen in
     let b = stream S c.loop-literal.steps c.loop-literal.self in
     let d = stream S c.bring_name.new.steps c.bring_name.new.self in
-    let e : c.literal.inside.name ≡ (get_or c.args.literals.now c.loop-literal.literal-index c.literal-item.result).name = ap (λ (x : Literal). x.name) c.literal.view_is ∙ ap (λ (x : Literal). x.name) c.literal-item.is in
+    let e : c.name.result ≡ (get_or c.args.literals.now c.loop-literal.literal-index c.literal-item.result).name = c.name.ensures ∙ ap (λ (x : Literal). x.name) c.literal-item.is in
     record {
       same = c.in_ok-bring_name.ensures.same ∙ c.loop-literal.invariant.same;
       goes_on = c.in_ok-bring_name.ensures.goes_on;

@@ -1,5 +1,4 @@
-use Rattle.std.proofs.Common.{◌≡◌, ◌<◌, refl, arith}
-use Rattle.std.specs.Prelude.{not}
+use Rattle.std.proofs.Common.{◌≡◌, ◌<◌, ◌∙◌, refl, ap, arith}
 use Rattle.sat_base.specs.text.Text.{Token, Number, Letter}
 use Rattle.sat_base.specs.script.Script.{Literal, turn, with_literal}
 use Rattle.certify.specs.script.CappedNames.{capped_name}
@@ -18,10 +17,10 @@ returns-else-value-eq0 c =
     let new = c.add_literal.new.self in
     let negative = c.in-Number.negative in
     let value = c.in-Number.value in
-    let l : Literal = record { name = c.min.result; positive = not negative } in
+    let l = c.new.result in
     let some : 0 < value = omega arith in
     let t : Token = Number negative (capped_name value) in
-    let same : turn (hand_in old) t ≡ with_literal (hand_in old) l = turn_literal (hand_in old) negative value l some c.min.ensures refl in
+    let same : turn (hand_in old) t ≡ with_literal (hand_in old) l = turn_literal (hand_in old) negative value l some (ap (λ (x : Literal). x.name) c.new.ensures ∙ c.min-name.ensures) (ap (λ (x : Literal). x.positive) c.new.ensures) in
     rw c.in-Number.is (if_ok c.add_literal.result (λ goes. Turns goes (with_literal (hand_in old) l) old new) (λ goes. TakesToken goes old t new) (λ goes h. literal_taken goes t l old new refl same h) c.add_literal.ensures)
 
 pub returns-in-Letter : goal.returns-in-Letter
