@@ -1,5 +1,5 @@
 //! The checker of proof steps.
-ghost use Rattle.std.specs.Prelude.{◌≡◌, ◌-◌, ◌^◌, ◌++◌, ◌∷◌, false, [], List, min, None};
+ghost use Rattle.std.specs.Prelude.{◌≡◌, ◌-◌, ◌^◌, ◌++◌, ◌∷◌, ◌↔◌, IsTrue, false, [], List, min, None};
 ghost use Rattle.sat_base.specs.steps.Steps.{Step, AddClause};
 ghost use Rattle.sat_base.specs.steps.StepViews.{step_of};
 ghost use Rattle.sat_checker.specs.Stored.{is_known, name_of};
@@ -137,6 +137,13 @@ impl<P: ProofProcessor, T: ProofTranscriptProcessor> Checker<P, T> {
         ensures { (steps : List Step) → Stands (kernel_of self.now) steps → result ≡ (ready_after steps).unsat }
     {
         self.kernel.records.unsat
+    }
+
+    /// Whether no unit conflict waits for its id, which `self_check_delayed_steps` gives it.
+    pub fn is_settled(&self) -> bool
+        ensures { IsTrue result ↔ kernels.IsSettled (kernel_of self.now) }
+    {
+        self.kernel.state.formula.status.conflict.is_none()
     }
 
     /// Whether `End` was accepted.

@@ -75,6 +75,10 @@ fn feed(checker: &mut Checker, step: &ProofStep<'_>) -> Result<(), Stop>
 fn settle(checker: &mut Checker) -> Result<(), Stop>
     ensures { Settles result (kernel_of checker.old) (kernel_of checker.new) }
 {
+    // Room for an answer is cleared where one is asked for, which is seldom.
+    if checker.is_settled() {
+        return Ok(());
+    }
     match checker.self_check_delayed_steps() {
         Ok(()) => Ok(()),
         Err(error) => Err(refused(error)),
