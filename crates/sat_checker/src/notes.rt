@@ -131,15 +131,20 @@ impl Formula {
     {
         let both_signs = copy_canonical(&mut notes.literals, clause)?;
         let literals = notes.literals.as_slice();
-        if !self.check_noted(clause, literals, hashes, &mut notes.rests_on, looks)? {
-            return Ok(false);
+        match self.check_noted(clause, literals, hashes, &mut notes.rests_on, looks) {
+            Ok(true) => {}
+            Ok(false) => return Ok(false),
+            Err(error) => return Err(error),
         }
         let change = self.clause_change(redundant, both_signs, literals, looks);
         let id = self.status.next_id;
-        notes
+        match notes
             .news
-            .derived(change, id, redundant, literals, notes.rests_on.ids())?;
-        Ok(true)
+            .derived(change, id, redundant, literals, notes.rests_on.ids())
+        {
+            Ok(()) => Ok(true),
+            Err(error) => Err(error),
+        }
     }
 
     /// The propagation check of a core's negation, which takes up the buffer. Where it passes, what the core announces is noted.
@@ -161,14 +166,19 @@ impl Formula {
     {
         copy_negated(buffer, core)?;
         copy_canonical(&mut notes.literals, buffer)?;
-        if !self.check_noted(buffer, &notes.literals, hashes, &mut notes.rests_on, looks)? {
-            return Ok(false);
+        match self.check_noted(buffer, &notes.literals, hashes, &mut notes.rests_on, looks) {
+            Ok(true) => {}
+            Ok(false) => return Ok(false),
+            Err(error) => return Err(error),
         }
         copy_canonical(&mut notes.literals, core)?;
-        notes
+        match notes
             .news
-            .failed_assumptions(&notes.literals, notes.rests_on.ids())?;
-        Ok(true)
+            .failed_assumptions(&notes.literals, notes.rests_on.ids())
+        {
+            Ok(()) => Ok(true),
+            Err(error) => Err(error),
+        }
     }
 
     /// What storing a unit will change.
@@ -198,15 +208,20 @@ impl Formula {
             → notes.new.news ≡ notes.old.news ++ derived false (lit ∷ []) (hash ∷ []) f) }
         ensures looks { (f : Stored) → KeepsFormula self.old f → looks.new ≤ looks.old + 2 * literal_count f }
     {
-        if !self.check_noted(&[lit], &[lit], &[hash], &mut notes.rests_on, looks)? {
-            return Ok(false);
+        match self.check_noted(&[lit], &[lit], &[hash], &mut notes.rests_on, looks) {
+            Ok(true) => {}
+            Ok(false) => return Ok(false),
+            Err(error) => return Err(error),
         }
         let change = self.unit_change(lit);
         let id = self.status.next_id;
-        notes
+        match notes
             .news
-            .derived(change, id, false, &[lit], notes.rests_on.ids())?;
-        Ok(true)
+            .derived(change, id, false, &[lit], notes.rests_on.ids())
+        {
+            Ok(()) => Ok(true),
+            Err(error) => Err(error),
+        }
     }
 
     /// Checks a unit under its one hash, notes what it announces, and stores it. The answer is whether it passes.

@@ -1,7 +1,7 @@
 //! Formulas' texts, clause by clause.
-ghost use Rattle.std.specs.Prelude.{◌≡◌};
-ghost use Rattle.sat_base.specs.dimacs.Parsing.{all_taken};
-ghost use Rattle.sat_checker.specs.CheckerView.{seen_of};
+ghost use Rattle.std.specs.Prelude.{◌≡◌, false};
+ghost use Rattle.sat_base.specs.dimacs.Parsing.{all_taken, no_progress};
+ghost use Rattle.sat_checker.specs.CheckerView.{has_failed, seen_of};
 ghost use Rattle.sat_checker.specs.DimacsView.{AddsDimacs};
 ghost use Rattle.sat_checker.specs.inner.DimacsPieces.{AddsRead, is_want};
 ghost use Rattle.sat_checker.specs.telling.ProcessingView.{HearsEach};
@@ -45,16 +45,30 @@ impl<P: ProofProcessor, T: ProofTranscriptProcessor> Checker<P, T> {
             return Err(CheckerDimacsError::Checker(CheckerError::HasFailed));
         }
         let mut parser = DimacsParser::new(self.kernel.state.alloc);
+        self.add_text(&mut parser, reader)
+    }
+
+    /// Takes the clauses of a text that a parser reads from its beginning.
+    fn add_text<R: CountedRead>(
+        &mut self,
+        parser: &mut DimacsParser,
+        reader: &mut R,
+    ) -> Result<(), CheckerDimacsError>
+        requires well { has_failed (seen_of self.old) ≡ false }
+        requires fresh { parser.old ≡ no_progress }
+        ensures { AddsDimacs (HearsEach P.takes T.reads)
+            result (seen_of self.old) (seen_of self.new) (R.seen reader.old) (R.seen reader.new) }
+    {
         let mut piece = [0; PIECE];
         for _ in 0..MAX_READS {
             match reader.read_counted(&mut piece) {
                 Ok(0) => {
                     let answer = parser.finish();
-                    return self.add_read(&mut parser, answer);
+                    return self.add_read(parser, answer);
                 }
                 Ok(count) => {
                     let answer = parser.feed(&piece[..count]);
-                    self.add_read(&mut parser, answer)?;
+                    self.add_read(parser, answer)?;
                 }
                 Err(_) => return Err(CheckerDimacsError::Dimacs(DimacsError::Read)),
             }

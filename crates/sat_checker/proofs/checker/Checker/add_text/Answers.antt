@@ -6,17 +6,17 @@ use Rattle.sat_base.proofs.lemmas.dimacs.Parsed.{stands_of, piece_given, sound_n
 use Rattle.sat_checker.specs.CheckerView.{seen_of}
 use Rattle.sat_checker.specs.telling.ProcessingView.{HearsEach}
 use Rattle.sat_checker.proofs.lemmas.checker.Texts.{start, no_clauses, piece_added, sound_after, piece_answers, end_answers, read_answers}
-use Rattle.sat_checker.proofs.checker.Checker.add_dimacs_cnf.Goals as goal
+use Rattle.sat_checker.proofs.checker.Checker.add_text.Goals as goal
 
 pub loop-init : goal.loop-init
 loop-init g c = record {
-  well = search rules;
-  bytes = ([], stands_of [] c.new-parser.result c.new-parser.ensures, gave_none _, omega arith, ap (λ (z : Progress). z.taken) c.new-parser.ensures ∙ sym no_clauses);
-  sound = subst IsSound (sym c.new-parser.ensures) sound_none;
+  well = c.requires.well;
+  bytes = ([], stands_of [] c.args.parser.now c.requires.fresh, gave_none _, omega arith, ap (λ (z : Progress). z.taken) c.requires.fresh ∙ sym no_clauses);
+  sound = subst IsSound (sym c.requires.fresh) sound_none;
   open_yet = λ h. absurd (omega arith);
   failures = refl;
   calls = omega arith;
-  added = start (HearsEach g.P.ProofProcessor.takes g.T.ProofTranscriptProcessor.reads) (seen_of c.args.self.now) c.new-parser.result (search rules) c.new-parser.ensures;
+  added = start (HearsEach g.P.ProofProcessor.takes g.T.ProofTranscriptProcessor.reads) (seen_of c.args.self.now) c.args.parser.now c.requires.well c.requires.fresh;
 }
 
 pub loop-preserved : goal.loop-preserved

@@ -7,7 +7,7 @@ use Rattle.sat_base.proofs.lemmas.dimacs.Parsed.{Stands as HasFed}
 use Rattle.sat_checker.specs.CheckerView.{has_failed, seen_of, Stands}
 use Rattle.sat_checker.specs.telling.ProcessingView.{HearsEach}
 use Rattle.sat_checker.specs.ClausesView.{AnswersClauses}
-use Rattle.sat_checker.proofs.checker.Checker.add_dimacs_cnf.Given as goal
+use Rattle.sat_checker.proofs.checker.Checker.add_text.Given as goal
 
 -- so much of the text was given, and its clauses were added
 abbrev pub invariant-loop : goal.invariant-loop
