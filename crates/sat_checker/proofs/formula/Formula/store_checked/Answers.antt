@@ -9,3 +9,6 @@ returns-in_err-store_unit-clause-decides c = λ f k.
 
 pub returns-clause-decides : goal.returns-clause-decides
 returns-clause-decides c = λ f k. ((c.in_ok-check.ensures.exact f k).0 c.if-not-branch.false, c.in_ok-store_unit.ensures f (c.check.ensures.kept f k))
+
+pub returns-in_err-check-clause-decides : goal.returns-in_err-check-clause-decides
+returns-in_err-check-clause-decides c = let p = err_from_is_err_and c.from_residual.result c.from_residual.ensures.1 in rw (p.1, p.2) (λ f k. tt)

@@ -1,6 +1,7 @@
-use Rattle.std.proofs.lemmas.Bool.{both_ways}
-use Rattle.std.proofs.lemmas.Result.{err_from_is_err_and}
+use Rattle.std.proofs.lemmas.Bool.{both_ways, true≢false}
+use Rattle.std.proofs.lemmas.Result.{err_from_is_err_and, IfOk-from_err}
 use Rattle.sat_checker.proofs.lemmas.state.Keeping.{decides_err}
+use Rattle.std.proofs.Common.{sym}
 use Rattle.sat_checker.proofs.formula.Formula.store_noted.Goals as goal
 
 pub returns-then-not-branch-clause-decides : goal.returns-then-not-branch-clause-decides
@@ -28,3 +29,15 @@ returns-clause-noted c = λ _ f k long. c.in_ok-check_unit.ensures.noted c.if-no
 
 pub returns-clause-looks : goal.returns-clause-looks
 returns-clause-looks c = c.check_unit.ensures.looks
+
+pub returns-in_err-check_unit-clause-decides : goal.returns-in_err-check_unit-clause-decides
+returns-in_err-check_unit-clause-decides c = let p = err_from_is_err_and c.from_residual.result c.from_residual.ensures.1 in rw (p.1, p.2) (λ f k. tt)
+
+pub returns-in_err-check_unit-clause-noted : goal.returns-in_err-check_unit-clause-noted
+returns-in_err-check_unit-clause-noted c = IfOk-from_err c.from_residual.result _ c.from_residual.ensures.0
+
+pub returns-in_err-store_unit-clause-noted : goal.returns-in_err-store_unit-clause-noted
+returns-in_err-store_unit-clause-noted c = IfOk-from_err c.from_residual-in_err-store_unit.result _ c.from_residual-in_err-store_unit.ensures.0
+
+pub returns-then-not-branch-clause-noted : goal.returns-then-not-branch-clause-noted
+returns-then-not-branch-clause-noted c = λ t. absurd (true≢false (sym t))

@@ -2,6 +2,7 @@ use Rattle.std.proofs.Common.{ℕ, ◌+◌, ◌≤◌, sym, ap, ◌∙◌, inr, 
 use Rattle.sat_checker.specs.Storing.{with_literals_known}
 use Rattle.sat_checker.specs.inner.FormulaView.{Standing}
 use Rattle.sat_checker.proofs.lemmas.state.Keeping.{sampling_kept, added}
+use Rattle.std.proofs.lemmas.Result.{err_from_is_err_and}
 use Rattle.sat_checker.proofs.state.State.add_clause.Goals as goal
 
 no_less : (a b : ℕ) → a ≤ a + b
@@ -28,3 +29,6 @@ returns-clause-decides c = λ f k. (
   added _ f c.args.clause.now (sym (ap (λ (s : Standing). s.unsat) k.formula.status) ∙ c.if-self.false)
       (c.in_ok-store_input.ensures.stored (with_literals_known c.args.clause.now f) k.formula) (c.in_ok-learn.ensures f.variables k.variables) k.assumed,
 )
+
+pub returns-in_err-learn-clause-decides : goal.returns-in_err-learn-clause-decides
+returns-in_err-learn-clause-decides c = let p = err_from_is_err_and c.from_residual.result c.from_residual.ensures.1 in rw (p.1, p.2) (λ f k. tt)

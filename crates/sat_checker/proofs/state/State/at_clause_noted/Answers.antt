@@ -2,6 +2,8 @@ use Rattle.std.proofs.Common.{sym, ◌∙◌, length}
 use Rattle.std.proofs.lemmas.Bool.{true≢false}
 use Rattle.sat_checker.specs.Looks.{literal_count}
 use Rattle.sat_checker.proofs.lemmas.telling.Noting.{looks_stored, looks_alone}
+use Rattle.sat_checker.proofs.lemmas.state.Keeping.{decides_err}
+use Rattle.std.proofs.lemmas.Result.{err_from_is_err_and, IfOk-from_err}
 use Rattle.sat_checker.proofs.state.State.at_clause_noted.Goals as goal
 
 pub returns-clause-decides : goal.returns-clause-decides
@@ -29,3 +31,20 @@ returns-clause-looks c = λ f k.
 
 pub returns-clause-noted : goal.returns-clause-noted
 returns-clause-noted c = λ t f k long. c.in_ok-check_derived.ensures.noted c.if-not-branch.false f k.formula long
+
+pub returns-in_err-check_derived-clause-decides : goal.returns-in_err-check_derived-clause-decides
+returns-in_err-check_derived-clause-decides c = let p = err_from_is_err_and c.from_residual.result c.from_residual.ensures.1 in rw (p.1, p.2) (λ f k. tt)
+
+pub returns-in_err-check_derived-clause-noted : goal.returns-in_err-check_derived-clause-noted
+returns-in_err-check_derived-clause-noted c = IfOk-from_err c.from_residual.result _ c.from_residual.ensures.0
+
+pub returns-in_err-store_derived-clause-noted : goal.returns-in_err-store_derived-clause-noted
+returns-in_err-store_derived-clause-noted c = IfOk-from_err c.from_residual-in_err-store_derived.result _ c.from_residual-in_err-store_derived.ensures.0
+
+pub returns-then-not-branch-clause-noted : goal.returns-then-not-branch-clause-noted
+returns-then-not-branch-clause-noted c = λ t. absurd (true≢false (sym t))
+
+pub returns-in_err-store_derived-clause-decides : goal.returns-in_err-store_derived-clause-decides
+returns-in_err-store_derived-clause-decides c = λ f k.
+    let p = err_from_is_err_and c.from_residual-in_err-store_derived.result c.from_residual-in_err-store_derived.ensures.1 in
+    decides_err c.store_derived.result _ p.0 _ c.in_err-store_derived.was p.1 p.2 _ _ _ _ _ (λ s. s) (c.store_derived.ensures.stored f (record { formula = c.check_derived.ensures.kept f k.formula; variables = k.variables; assumed = k.assumed }))

@@ -1,6 +1,7 @@
 use Rattle.std.proofs.Common.{sym, subst}
 use Rattle.sat_checker.specs.inner.FormulaView.{AreNumbered}
 use Rattle.sat_checker.proofs.lemmas.state.Keeping.{renamed, unnamed}
+use Rattle.std.proofs.lemmas.Result.{err_from_is_err_and}
 use Rattle.sat_checker.proofs.state.State.solver_var_name.Goals as goal
 
 pub returns-in-Some-clause-decides : goal.returns-in-Some-clause-decides
@@ -24,3 +25,12 @@ returns-clause-decides c = λ f k. (
     numbered = subst (λ is. AreNumbered is f.units c.args.self.now.formula.status.last f.next_id) (sym c.in_ok-set_solver_name-2.ensures.ids) k.formula.numbered;
   }) k.variables k.assumed,
 )
+
+pub returns-in_err-learn_var-clause-decides : goal.returns-in_err-learn_var-clause-decides
+returns-in_err-learn_var-clause-decides c = let p = err_from_is_err_and c.from_residual.result c.from_residual.ensures.1 in rw (p.1, p.2) (λ f k. tt)
+
+pub returns-in_err-set_solver_name-clause-decides : goal.returns-in_err-set_solver_name-clause-decides
+returns-in_err-set_solver_name-clause-decides c = let p = err_from_is_err_and c.from_residual-in_err-set_solver_name.result c.from_residual-in_err-set_solver_name.ensures.1 in rw (p.1, p.2) (λ f k. tt)
+
+pub returns-in_err-set_solver_name-2-clause-decides : goal.returns-in_err-set_solver_name-2-clause-decides
+returns-in_err-set_solver_name-2-clause-decides c = let p = err_from_is_err_and c.from_residual-in_err-set_solver_name-2.result c.from_residual-in_err-set_solver_name-2.ensures.1 in rw (p.1, p.2) (λ f k. tt)

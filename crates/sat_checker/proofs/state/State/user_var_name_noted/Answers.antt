@@ -1,0 +1,14 @@
+use Rattle.std.proofs.lemmas.Result.{err_from_is_err_and, IfOk-from_err}
+use Rattle.sat_checker.proofs.state.State.user_var_name_noted.Goals as goal
+
+pub returns-in_err-user_var-clause-decides : goal.returns-in_err-user_var-clause-decides
+returns-in_err-user_var-clause-decides c = let p = err_from_is_err_and c.from_residual.result c.from_residual.ensures.1 in rw (p.1, p.2) (λ f k. tt)
+
+pub returns-in_err-naming-clause-decides : goal.returns-in_err-naming-clause-decides
+returns-in_err-naming-clause-decides c = let p = err_from_is_err_and c.from_residual-in_err-naming.result c.from_residual-in_err-naming.ensures.1 in rw (p.1, p.2) (λ f k. tt)
+
+pub returns-in_err-user_var-clause-noted : goal.returns-in_err-user_var-clause-noted
+returns-in_err-user_var-clause-noted c = IfOk-from_err c.from_residual.result _ c.from_residual.ensures.0
+
+pub returns-in_err-naming-clause-noted : goal.returns-in_err-naming-clause-noted
+returns-in_err-naming-clause-noted c = IfOk-from_err c.from_residual-in_err-naming.result _ c.from_residual-in_err-naming.ensures.0
