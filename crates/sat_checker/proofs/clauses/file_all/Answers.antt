@@ -1,10 +1,11 @@
-use Rattle.std.proofs.Common.{◌≡◌, ◌+◌, ◌<◌, ◌≤◌, ◌∙◌, refl, ap, sym, length, arith}
+use Rattle.std.proofs.Common.{◌≡◌, ◌+◌, ◌<◌, ◌≤◌, ◌∙◌, refl, ap, sym, length, arith, subst}
 use Rattle.sat_checker.specs.Stored.{hash_by}
 use Rattle.sat_checker.specs.HasherView.{solver_name_of, width_of}
 use Rattle.sat_checker.specs.inner.SlotView.{Slot, slot_at, literals_at}
 use Rattle.sat_checker.specs.inner.IndexView.{places_in}
 use Rattle.sat_checker.proofs.lemmas.propagation.Walking.{looks_over}
-use Rattle.sat_checker.proofs.lemmas.store.Rehashing.{hashed_all, filed_all, hashed_next, hashed_skip, gone_same, slot_left, filed_gone, filed_there, left_gone, left_there}
+use Rattle.sat_checker.proofs.lemmas.store.Rehashing.{hashed_all, filed_all, hashed_next, hashed_skip, gone_same, slot_left, filed_gone, filed_there, left_gone, left_there, length_left}
+use Rattle.std.proofs.lemmas.Result.{IfOk-from_err}
 use Rattle.sat_checker.proofs.clauses.file_all.Goals as goal
 
 pub loop-place-preserved-then-is_gone : goal.loop-place-preserved-then-is_gone
@@ -68,3 +69,24 @@ returns-clause-filed c = λ q.
 
 pub returns-clause-looks : goal.returns-clause-looks
 returns-clause-looks c = looks_over _ c.loop-place.looks _ c.loop-place.invariant.looks
+
+pub returns-in_err-file-clause-hashed : goal.returns-in_err-file-clause-hashed
+returns-in_err-file-clause-hashed c = IfOk-from_err c.from_residual.result _ c.from_residual.ensures.0
+
+pub returns-in_err-file-clause-filed : goal.returns-in_err-file-clause-filed
+returns-in_err-file-clause-filed c = IfOk-from_err c.from_residual.result _ c.from_residual.ensures.0
+
+pub is_gone-requires : goal.is_gone-requires
+is_gone-requires c =
+    let inside : c.loop-place.place < length c.args.slots.now = omega (arith, c.len-place-end.ensures.count) in
+    subst (λ n. c.loop-place.place < n) (sym (ap length c.loop-place.invariant.hashed ∙ length_left (solver_name_of c.args.hasher.now) (width_of c.args.hasher.now) c.args.slots.now c.loop-place.place)) inside
+
+pub literals-requires : goal.literals-requires
+literals-requires c =
+    let inside : c.loop-place.place < length c.args.slots.now = omega (arith, c.len-place-end.ensures.count) in
+    subst (λ n. c.loop-place.place < n) (sym (ap length c.loop-place.invariant.hashed ∙ length_left (solver_name_of c.args.hasher.now) (width_of c.args.hasher.now) c.args.slots.now c.loop-place.place)) inside
+
+pub set_hash-requires : goal.set_hash-requires
+set_hash-requires c =
+    let inside : c.loop-place.place < length c.args.slots.now = omega (arith, c.len-place-end.ensures.count) in
+    subst (λ n. c.loop-place.place < n) (sym (ap length c.loop-place.invariant.hashed ∙ length_left (solver_name_of c.args.hasher.now) (width_of c.args.hasher.now) c.args.slots.now c.loop-place.place)) inside

@@ -50,3 +50,21 @@ returns-in-Ok-clause-same g c = c.advance.ensures.same
 
 pub returns-in-Ok-clause-bound : goal.returns-in-Ok-clause-bound
 returns-in-Ok-clause-bound g c = c.advance.ensures.bound
+
+pub check_step-requires : goal.check_step-requires
+check_step-requires g c = c.requires.quiet
+
+pub returns-in-Err-clause-goes_on : goal.returns-in-Err-clause-goes_on
+returns-in-Err-clause-goes_on g c = tt
+
+pub returns-in-Err-clause-takes : goal.returns-in-Err-clause-takes
+returns-in-Err-clause-takes g c = tt
+
+pub returns-in-Err-check_step-clause-goes_on : goal.returns-in-Err-check_step-clause-goes_on
+returns-in-Err-check_step-clause-goes_on g c = tt
+
+pub returns-in-Err-check_step-clause-takes : goal.returns-in-Err-check_step-clause-takes
+returns-in-Err-check_step-clause-takes g c = tt
+
+pub returns-in-Ok-clause-goes_on : goal.returns-in-Ok-clause-goes_on
+returns-in-Ok-clause-goes_on g c = (c.in-Ok.ensures.goes_on, c.in_default.ensures.is)

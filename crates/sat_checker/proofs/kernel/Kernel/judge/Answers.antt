@@ -1,7 +1,11 @@
-use Rattle.std.proofs.Common.{refl, rules}
+use Rattle.std.proofs.Common.{refl, rules, ◌+◌, ◌≤◌, subst}
 use Rattle.sat_base.specs.steps.StepViews.{step_of}
-use Rattle.sat_checker.proofs.lemmas.variables.Keeping.{match_true}
-use Rattle.sat_checker.proofs.lemmas.telling.Taken.{judged_stands, judged_short}
+use Rattle.sat_checker.proofs.lemmas.variables.Keeping.{match_true, match_false}
+use Rattle.sat_checker.proofs.lemmas.telling.Taken.{judged_stands, judged_short, judged_fails}
+use Rattle.sat_checker.specs.KernelView.{looks_of}
+use Rattle.sat_checker.specs.Looks.{most_looks}
+use Rattle.sat_checker.specs.Accepts.{Accepts}
+use Rattle.sat_checker.proofs.lemmas.telling.Settling.{ready_of}
 use Rattle.sat_checker.proofs.kernel.Kernel.judge.Goals as goal
 
 pub returns-in-Ok-true-clause-checks : goal.returns-in-Ok-true-clause-checks
@@ -13,3 +17,41 @@ pub returns-in-Err-clause-checks : goal.returns-in-Err-clause-checks
 returns-in-Err-clause-checks c = λ steps s.
     let k = s.kept c.requires in
     rw c.from.ensures (judged_short c.args.self.now steps s c.requires (step_of c.args.step.now) _ c.in-Err.error (c.in-Err.ensures.judges k.formula k.keeps) refl refl)
+
+pub returns-in-Ok-true-clause-told : goal.returns-in-Ok-true-clause-told
+returns-in-Ok-true-clause-told c = λ cause e. cc
+
+pub returns-in-Ok-false-clause-told : goal.returns-in-Ok-false-clause-told
+returns-in-Ok-false-clause-told c = λ cause e. cc
+
+pub returns-in-Ok-true-clause-goes_on : goal.returns-in-Ok-true-clause-goes_on
+returns-in-Ok-true-clause-goes_on c = c.requires
+
+pub returns-in-Ok-false-clause-goes_on : goal.returns-in-Ok-false-clause-goes_on
+returns-in-Ok-false-clause-goes_on c = tt
+
+pub returns-in-Err-clause-goes_on : goal.returns-in-Err-clause-goes_on
+returns-in-Err-clause-goes_on c = tt
+
+pub returns-in-Ok-true-clause-looks : goal.returns-in-Ok-true-clause-looks
+returns-in-Ok-true-clause-looks c = λ steps s.
+    let k = s.kept c.requires in
+    subst (λ z. c.check_step.new.looks ≤ looks_of c.args.self.now + most_looks z (step_of c.args.step.now)) (ready_of c.args.self.now.state steps k) (c.check_step.ensures.looks k.formula k.keeps)
+
+pub returns-in-Ok-false-clause-looks : goal.returns-in-Ok-false-clause-looks
+returns-in-Ok-false-clause-looks c = λ steps s.
+    let k = s.kept c.requires in
+    subst (λ z. c.check_step.new.looks ≤ looks_of c.args.self.now + most_looks z (step_of c.args.step.now)) (ready_of c.args.self.now.state steps k) (c.check_step.ensures.looks k.formula k.keeps)
+
+pub returns-in-Err-clause-looks : goal.returns-in-Err-clause-looks
+returns-in-Err-clause-looks c = λ steps s.
+    let k = s.kept c.requires in
+    subst (λ z. c.check_step.new.looks ≤ looks_of c.args.self.now + most_looks z (step_of c.args.step.now)) (ready_of c.args.self.now.state steps k) (c.check_step.ensures.looks k.formula k.keeps)
+
+pub returns-in-Ok-false-clause-checks : goal.returns-in-Ok-false-clause-checks
+returns-in-Ok-false-clause-checks c = λ steps s.
+    let k = s.kept c.requires in (
+      c.requires,
+      subst (λ z. Accepts z (step_of c.args.step.now) → ⊥) (ready_of c.args.self.now.state steps k) (match_false c.in-Ok-false.field-0 _ _ (c.in-Ok-false.ensures.judges k.formula k.keeps) c.in-Ok-false.field-0-test),
+      judged_fails c.args.self.now steps s c.requires (step_of c.args.step.now) _ refl refl,
+    )
