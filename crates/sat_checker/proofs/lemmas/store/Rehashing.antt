@@ -1,7 +1,9 @@
 -- Filing all clauses anew.
-use Rattle.std.proofs.Common.{ℕ, zero, suc, ◌+◌, ◌<◌, ◌≤◌, ◌≡◌, Bool, true, false, not, ◌&&◌, cond, eqb, List, [], ◌∷◌, ◌++◌, length, take, drop, map, Option, refl, sym, ◌∙◌, ap, subst, arith, slice_set}
+use Rattle.std.proofs.Common.{ℕ, zero, suc, ◌+◌, ◌<◌, ◌≤◌, ◌≡◌, Bool, true, false, not, ◌&&◌, cond, eqb, List, [], ◌∷◌, ◌++◌, length, take, drop, map, Option, refl, sym, ◌∙◌, ap, subst, arith, slice_set, ◌||◌}
 use Rattle.std.proofs.lemmas.Bool.{true≢false}
-use Rattle.sat_checker.specs.Stored.{Stored, hash_by}
+use Rattle.std.specs.List.{list_any}
+use Rattle.std.proofs.lemmas.List.{drop_more}
+use Rattle.sat_checker.specs.Stored.{Stored, hash_by, StoredClause}
 use Rattle.sat_checker.specs.Storing.{unless_gone}
 use Rattle.sat_checker.specs.Looks.{total_length, literal_count}
 use Rattle.sat_checker.specs.HasherView.{solver_name_of, width_of}
@@ -9,7 +11,7 @@ use Rattle.sat_checker.specs.inner.StoreView.{AreHashed, KeepsClauses}
 use Rattle.sat_checker.specs.declared.hash.ClauseHasher.{ClauseHasher}
 use Rattle.sat_checker.specs.declared.store.Store.{Store}
 use Rattle.sat_checker.proofs.lemmas.store.Keeping.{length_same}
-use Rattle.sat_checker.specs.inner.SlotView.{Slot, slot_at, literals_at, is_gone, is_filed, live, live_length, places_of, with_hash_at, hashed_by, all_hashed_by}
+use Rattle.sat_checker.specs.inner.SlotView.{Slot, slot_at, literals_at, is_gone, is_filed, live, live_length, places_of, with_hash_at, hashed_by, all_hashed_by, unstored}
 use Rattle.sat_checker.proofs.lemmas.store.Places.{places_push, append_none, eqb_comm}
 
 module _ (names : ℕ → Option ℕ) (width : ℕ) where
@@ -132,6 +134,22 @@ pub left_there : (ss : List Slot) (i : ℕ) → i < length ss → is_gone (slot_
 left_there ss i l g =
     let m : i + 1 ≡ suc i = omega arith in
     left_at ss i l ∙ ap (λ b. cond b 0 (length (literals_at ss i)) + live_length (drop (suc i) ss)) g ∙ ap (λ k. length (literals_at ss i) + live_length (drop k ss)) (sym m)
+
+-- of the clauses from a place on that aren't gone, does any pass a test?
+any_at : (P : StoredClause → Bool) (ss : List Slot) (i : ℕ) → i < length ss → list_any P (live (drop i ss)) ≡ list_any P (cond (is_gone (slot_at ss i)) [] ((slot_at ss i).clause ∷ []) ++ live (drop (i + 1) ss))
+any_at P ss i l = ap (λ xs. list_any P (live xs)) (drop_more ss i (unstored 0 0 []) l)
+
+pub any_gone : (P : StoredClause → Bool) (ss : List Slot) (i : ℕ) → i < length ss → is_gone (slot_at ss i) ≡ true → list_any P (live (drop i ss)) ≡ list_any P (live (drop (i + 1) ss))
+any_gone P ss i l g = any_at P ss i l ∙ ap (λ b. list_any P (cond b [] ((slot_at ss i).clause ∷ []) ++ live (drop (i + 1) ss))) g
+
+any_there : (P : StoredClause → Bool) (ss : List Slot) (i : ℕ) → i < length ss → is_gone (slot_at ss i) ≡ false → list_any P (live (drop i ss)) ≡ (P (slot_at ss i).clause || list_any P (live (drop (i + 1) ss)))
+any_there P ss i l g = any_at P ss i l ∙ ap (λ b. list_any P (cond b [] ((slot_at ss i).clause ∷ []) ++ live (drop (i + 1) ss))) g
+
+pub any_here : (P : StoredClause → Bool) (ss : List Slot) (i : ℕ) → i < length ss → is_gone (slot_at ss i) ≡ false → P (slot_at ss i).clause ≡ true → list_any P (live (drop i ss)) ≡ true
+any_here P ss i l g t = any_there P ss i l g ∙ ap (λ b. b || list_any P (live (drop (i + 1) ss))) t
+
+pub any_later : (P : StoredClause → Bool) (ss : List Slot) (i : ℕ) → i < length ss → is_gone (slot_at ss i) ≡ false → P (slot_at ss i).clause ≡ false → list_any P (live (drop i ss)) ≡ list_any P (live (drop (i + 1) ss))
+any_later P ss i l g t = any_there P ss i l g ∙ ap (λ b. b || list_any P (live (drop (i + 1) ss))) t
 
 pub ruleset filing = (filed_all, hashed_all)
 
