@@ -1,5 +1,5 @@
 -- Tests along lists of literals.
-use Rattle.std.proofs.Common.{ℕ, zero, suc, ◌+◌, ◌<◌, ◌≤◌, ◌≡◌, Bool, true, false, eqb, List, [], ◌∷◌, ◌++◌, length, drop, take, get_or, map, refl, sym, ap, subst, ◌∙◌, arith, inl, inr}
+use Rattle.std.proofs.Common.{ℕ, zero, suc, ◌+◌, ◌<◌, ◌≤◌, ◌≡◌, Bool, true, false, eqb, List, [], ◌∷◌, ◌++◌, length, drop, take, get_or, map, refl, sym, ap, subst, ◌∙◌, arith, inl, inr, ◌||◌}
 use Rattle.std.proofs.lemmas.Bool.{eqb-true, or_cases, true≢false}
 use Rattle.std.proofs.lemmas.List.{drop_more}
 use Rattle.std.specs.List.{list_any, AllByRecursion}
@@ -13,6 +13,10 @@ module _ (test : ℕ → Bool) (ls : List ℕ) (i : ℕ) (inside : i < length ls
 
   pub any_passed : test (get_or ls i 0) ≡ false → list_any test (drop i ls) ≡ list_any test (drop (i + 1) ls)
   any_passed t = rw (drop_more ls i 0 inside) (rw t refl)
+
+-- the first of those that are left decides, or the others do
+pub first_test : (test : ℕ → Bool) (ls : List ℕ) (i l : ℕ) → i < length ls → l ≡ get_or ls i l → list_any test (drop i ls) ≡ (test l || list_any test (drop (i + 1) ls))
+first_test test ls i l inside e = ap (list_any test) (drop_more ls i l inside) ∙ ap (λ m. test m || list_any test (drop (i + 1) ls)) (sym e)
 
 pub ruleset any_literal = (any_found, any_passed)
 

@@ -3,6 +3,8 @@ use Rattle.std.proofs.Common.{ℕ, zero, suc, ◌+◌, ◌<◌, ◌≤◌, ◌�
 use Rattle.std.proofs.lemmas.Bool.{true≢false}
 use Rattle.std.specs.List.{list_any}
 use Rattle.std.proofs.lemmas.List.{drop_more}
+use Rattle.sat_checker.specs.inner.ModelTests.{are_all_true}
+use Rattle.sat_checker.specs.LiteralSets.{is_among}
 use Rattle.sat_checker.specs.Stored.{Stored, hash_by, StoredClause}
 use Rattle.sat_checker.specs.Storing.{unless_gone}
 use Rattle.sat_checker.specs.Looks.{total_length, literal_count}
@@ -150,6 +152,36 @@ any_here P ss i l g t = any_there P ss i l g ∙ ap (λ b. b || list_any P (live
 
 pub any_later : (P : StoredClause → Bool) (ss : List Slot) (i : ℕ) → i < length ss → is_gone (slot_at ss i) ≡ false → P (slot_at ss i).clause ≡ false → list_any P (live (drop i ss)) ≡ list_any P (live (drop (i + 1) ss))
 any_later P ss i l g t = any_there P ss i l g ∙ ap (λ b. b || list_any P (live (drop (i + 1) ss))) t
+
+-- are all of them true? One that is no irredundant clause doesn't matter.
+pub all_skip : (ls : List ℕ) (ss : List Slot) (i : ℕ) → i < length ss → (slot_at ss i).clause.irredundant ≡ 0 → are_all_true ls (live (drop i ss)) ≡ are_all_true ls (live (drop (i + 1) ss))
+all_skip ls ss i l z = ap (λ xs. are_all_true ls (live xs)) (drop_more ss i (unstored 0 0 []) l) ∙ go (is_gone (slot_at ss i))
+  where
+    go : (b : Bool) → are_all_true ls (cond b [] ((slot_at ss i).clause ∷ []) ++ live (drop (i + 1) ss)) ≡ are_all_true ls (live (drop (i + 1) ss))
+    go true = refl
+    go false = ap (λ n. (eqb n 0 || list_any (is_among ls) (literals_at ss i)) && are_all_true ls (live (drop (i + 1) ss))) z
+
+all_there : (ls : List ℕ) (ss : List Slot) (i : ℕ) → i < length ss → eqb (slot_at ss i).clause.irredundant 0 ≡ false → are_all_true ls (live (drop i ss)) ≡ (list_any (is_among ls) (literals_at ss i) && are_all_true ls (live (drop (i + 1) ss)))
+all_there ls ss i l n =
+    ap (λ xs. are_all_true ls (live xs)) (drop_more ss i (unstored 0 0 []) l)
+    ∙ ap (λ b. are_all_true ls (cond (b && eqb (slot_at ss i).clause.redundant 0) [] ((slot_at ss i).clause ∷ []) ++ live (drop (i + 1) ss))) n
+    ∙ ap (λ b. (b || list_any (is_among ls) (literals_at ss i)) && are_all_true ls (live (drop (i + 1) ss))) n
+
+pub all_met : (ls : List ℕ) (ss : List Slot) (i : ℕ) → i < length ss → eqb (slot_at ss i).clause.irredundant 0 ≡ false → list_any (is_among ls) (literals_at ss i) ≡ true → are_all_true ls (live (drop i ss)) ≡ are_all_true ls (live (drop (i + 1) ss))
+all_met ls ss i l n t = all_there ls ss i l n ∙ ap (λ b. b && are_all_true ls (live (drop (i + 1) ss))) t
+
+pub all_failed : (ls : List ℕ) (ss : List Slot) (i : ℕ) → i < length ss → eqb (slot_at ss i).clause.irredundant 0 ≡ false → list_any (is_among ls) (literals_at ss i) ≡ false → are_all_true ls (live (drop i ss)) ≡ false
+all_failed ls ss i l n f = all_there ls ss i l n ∙ ap (λ b. b && are_all_true ls (live (drop (i + 1) ss))) f
+
+pub left_fewer : (ss : List Slot) (i : ℕ) → i < length ss → live_length (drop (i + 1) ss) ≤ live_length (drop i ss)
+left_fewer ss i l =
+    let m : i + 1 ≡ suc i = omega arith in
+    let e : live_length (drop i ss) ≡ cond (is_gone (slot_at ss i)) 0 (length (literals_at ss i)) + live_length (drop (suc i) ss) = left_at ss i l in
+    let k : live_length (drop (i + 1) ss) ≡ live_length (drop (suc i) ss) = ap (λ n. live_length (drop n ss)) m in
+    omega arith
+
+pub not_gone : (s : Slot) → eqb s.clause.irredundant 0 ≡ false → is_gone s ≡ false
+not_gone s n = ap (λ b. b && eqb s.clause.redundant 0) n
 
 pub ruleset filing = (filed_all, hashed_all)
 

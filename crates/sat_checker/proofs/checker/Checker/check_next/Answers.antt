@@ -6,7 +6,7 @@ use Rattle.sat_checker.specs.inner.ProofSteps.{turn}
 use Rattle.sat_checker.specs.CheckerView.{seen_with}
 use Rattle.sat_checker.specs.telling.Hearing.{HearsFirst}
 use Rattle.sat_checker.specs.telling.ProcessingView.{HearsEach}
-use Rattle.sat_checker.proofs.lemmas.checker.Proofs.{unread_answer, step_stops}
+use Rattle.sat_checker.proofs.lemmas.checker.Proofs.{unread_answer, step_stops, step_takes}
 use Rattle.sat_checker.proofs.checker.Checker.check_next.Goals as goal
 
 pub returns-in-Err-clause-steps_on : goal.returns-in-Err-clause-steps_on
@@ -68,3 +68,9 @@ returns-in-Err-check_step-clause-takes g c = tt
 
 pub returns-in-Ok-clause-goes_on : goal.returns-in-Ok-clause-goes_on
 returns-in-Ok-clause-goes_on g c = (c.in-Ok.ensures.goes_on, c.in_default.ensures.is)
+
+pub returns-in-Ok-clause-takes : goal.returns-in-Ok-clause-takes
+returns-in-Ok-clause-takes g c =
+    let S = g.R.CountedRead.seen in
+    let n = c.in_default.ensures.answer in
+    step_takes (reader_source S c.args.steps.now) (reader_source S c.advance.new.self) (step_in c.advance.new.self) n.0 n.1 n.2 c.advance.ensures.bound
