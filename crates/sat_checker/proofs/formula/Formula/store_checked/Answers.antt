@@ -1,5 +1,6 @@
 use Rattle.std.proofs.lemmas.Result.{err_from_is_err_and}
 use Rattle.sat_checker.proofs.lemmas.state.Keeping.{decides_err}
+use Rattle.std.proofs.Common.{arith}
 use Rattle.sat_checker.proofs.formula.Formula.store_checked.Goals as goal
 
 pub returns-in_err-store_unit-clause-decides : goal.returns-in_err-store_unit-clause-decides
@@ -12,3 +13,15 @@ returns-clause-decides c = λ f k. ((c.in_ok-check.ensures.exact f k).0 c.if-not
 
 pub returns-in_err-check-clause-decides : goal.returns-in_err-check-clause-decides
 returns-in_err-check-clause-decides c = let p = err_from_is_err_and c.from_residual.result c.from_residual.ensures.1 in rw (p.1, p.2) (λ f k. tt)
+
+pub returns-in_err-check-clause-looks : goal.returns-in_err-check-clause-looks
+returns-in_err-check-clause-looks c = λ f k. let h = c.check.ensures.looks f k in omega arith
+
+pub returns-then-not-branch-clause-looks : goal.returns-then-not-branch-clause-looks
+returns-then-not-branch-clause-looks c = λ f k. let h = c.check.ensures.looks f k in omega arith
+
+pub returns-in_err-store_unit-clause-looks : goal.returns-in_err-store_unit-clause-looks
+returns-in_err-store_unit-clause-looks c = λ f k. let h = c.check.ensures.looks f k in omega arith
+
+pub returns-clause-looks : goal.returns-clause-looks
+returns-clause-looks c = λ f k. let h = c.check.ensures.looks f k in omega arith

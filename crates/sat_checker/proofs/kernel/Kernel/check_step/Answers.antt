@@ -1,4 +1,4 @@
-use Rattle.std.proofs.Common.{◌+◌, ◌≤◌, inl, refl, subst, rules}
+use Rattle.std.proofs.Common.{◌+◌, ◌≤◌, inl, refl, subst, rules, arith}
 use Rattle.sat_base.specs.steps.StepViews.{step_of}
 use Rattle.sat_checker.specs.Accepts.{ready_after}
 use Rattle.sat_checker.specs.KernelView.{looks_of}
@@ -48,3 +48,30 @@ pub returns-in-Ok-clause-looks : goal.returns-in-Ok-clause-looks
 returns-in-Ok-clause-looks g c = λ steps s.
     let a = c.in-Ok.ensures.judges steps s in
     subst (λ n. looks_of c.step.new.self ≤ n + most_looks (ready_after steps) (step_of c.args.step.now)) a.1 (c.step.ensures.looks steps a.2)
+
+pub returns-then-self-clause-goes_on : goal.returns-then-self-clause-goes_on
+returns-then-self-clause-goes_on g c = tt
+
+pub returns-then-self-clause-looks : goal.returns-then-self-clause-looks
+returns-then-self-clause-looks g c = λ steps s. omega arith
+
+pub returns-then-is_quiet-clause-judges : goal.returns-then-is_quiet-clause-judges
+returns-then-is_quiet-clause-judges g c = c.judge.ensures.checks
+
+pub returns-then-is_quiet-clause-goes_on : goal.returns-then-is_quiet-clause-goes_on
+returns-then-is_quiet-clause-goes_on g c = c.judge.ensures.goes_on
+
+pub returns-then-is_quiet-clause-looks : goal.returns-then-is_quiet-clause-looks
+returns-then-is_quiet-clause-looks g c = c.judge.ensures.looks
+
+pub step-requires-clause-well : goal.step-requires-clause-well
+step-requires-clause-well g c = c.in-Ok.ensures.goes_on.0
+
+pub step-requires-clause-settled : goal.step-requires-clause-settled
+step-requires-clause-settled g c = c.in-Ok.ensures.goes_on.1
+
+pub returns-in-Ok-clause-goes_on : goal.returns-in-Ok-clause-goes_on
+returns-in-Ok-clause-goes_on g c = c.step.ensures.goes_on
+
+pub returns-in-Err-clause-goes_on : goal.returns-in-Err-clause-goes_on
+returns-in-Err-clause-goes_on g c = tt

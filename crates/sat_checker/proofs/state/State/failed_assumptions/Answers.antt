@@ -1,4 +1,4 @@
-use Rattle.std.proofs.Common.{◌≡◌, true, sym, subst, ◌∙◌, ◌↔◌}
+use Rattle.std.proofs.Common.{◌≡◌, true, sym, subst, ◌∙◌, ◌↔◌, arith}
 use Rattle.std.proofs.lemmas.Bool.{true≢false}
 use Rattle.sat_checker.specs.Accepts.{Passes}
 use Rattle.sat_checker.specs.inner.Marks.{IsIncreasing}
@@ -29,3 +29,18 @@ returns-in_err-copy_negated-clause-decides c = let p = err_from_is_err_and c.fro
 
 pub returns-in_err-passes-clause-decides : goal.returns-in_err-passes-clause-decides
 returns-in_err-passes-clause-decides c = let p = err_from_is_err_and c.from_residual-in_err-passes.result c.from_residual-in_err-passes.ensures.1 in rw (p.1, p.2) (λ f k. tt)
+
+pub returns-in_err-copy_canonical-clause-looks : goal.returns-in_err-copy_canonical-clause-looks
+returns-in_err-copy_canonical-clause-looks c = λ f k. omega arith
+
+pub returns-then-not-has_all-clause-looks : goal.returns-then-not-has_all-clause-looks
+returns-then-not-has_all-clause-looks c = λ f k. omega arith
+
+pub returns-in_err-copy_negated-clause-looks : goal.returns-in_err-copy_negated-clause-looks
+returns-in_err-copy_negated-clause-looks c = λ f k. omega arith
+
+pub returns-in_err-passes-clause-looks : goal.returns-in_err-passes-clause-looks
+returns-in_err-passes-clause-looks c = λ f k. let h = c.check.ensures.looks f k.formula in omega arith
+
+pub returns-clause-looks : goal.returns-clause-looks
+returns-clause-looks c = λ f k. let h = c.check.ensures.looks f k.formula in omega arith

@@ -1,4 +1,4 @@
-use Rattle.std.proofs.Common.{sym, subst, ◌∙◌}
+use Rattle.std.proofs.Common.{sym, subst, ◌∙◌, arith}
 use Rattle.std.proofs.lemmas.Bool.{true≢false}
 use Rattle.sat_checker.specs.inner.Marks.{IsIncreasing}
 use Rattle.sat_checker.proofs.lemmas.sets.Canonical.{canonical_increasing}
@@ -36,3 +36,15 @@ returns-then-not-has_all-clause-noted c = λ t. absurd (true≢false (sym t))
 
 pub returns-clause-noted : goal.returns-clause-noted
 returns-clause-noted c = λ t f k _. c.in_ok-passes.ensures.noted t f k.formula
+
+pub returns-in_err-copy_canonical-clause-looks : goal.returns-in_err-copy_canonical-clause-looks
+returns-in_err-copy_canonical-clause-looks c = λ f k. omega arith
+
+pub returns-then-not-has_all-clause-looks : goal.returns-then-not-has_all-clause-looks
+returns-then-not-has_all-clause-looks c = λ f k. omega arith
+
+pub returns-in_err-passes-clause-looks : goal.returns-in_err-passes-clause-looks
+returns-in_err-passes-clause-looks c = λ f k. let h = c.check_core.ensures.looks f k.formula in omega arith
+
+pub returns-clause-looks : goal.returns-clause-looks
+returns-clause-looks c = λ f k. let h = c.check_core.ensures.looks f k.formula in omega arith

@@ -1,4 +1,5 @@
 use Rattle.std.proofs.lemmas.Result.{err_from_is_err_and}
+use Rattle.std.proofs.Common.{arith}
 use Rattle.sat_checker.proofs.state.State.model.Goals as goal
 
 pub returns-clause-decides : goal.returns-clause-decides
@@ -12,3 +13,15 @@ returns-in_err-fits-clause-decides c = let p = err_from_is_err_and c.from_residu
 
 pub returns-in_err-learn-clause-decides : goal.returns-in_err-learn-clause-decides
 returns-in_err-learn-clause-decides c = let p = err_from_is_err_and c.from_residual-in_err-learn.result c.from_residual-in_err-learn.ensures.1 in rw (p.1, p.2) (λ f k. tt)
+
+pub returns-in_err-fits-clause-looks : goal.returns-in_err-fits-clause-looks
+returns-in_err-fits-clause-looks c = λ f k. let h = c.fits.ensures.looks f k.formula in omega arith
+
+pub returns-then-not-branch-clause-looks : goal.returns-then-not-branch-clause-looks
+returns-then-not-branch-clause-looks c = λ f k. let h = c.fits.ensures.looks f k.formula in omega arith
+
+pub returns-in_err-learn-clause-looks : goal.returns-in_err-learn-clause-looks
+returns-in_err-learn-clause-looks c = λ f k. let h = c.fits.ensures.looks f k.formula in omega arith
+
+pub returns-clause-looks : goal.returns-clause-looks
+returns-clause-looks c = λ f k. let h = c.fits.ensures.looks f k.formula in omega arith

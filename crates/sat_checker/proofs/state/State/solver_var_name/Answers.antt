@@ -1,4 +1,4 @@
-use Rattle.std.proofs.Common.{sym, subst}
+use Rattle.std.proofs.Common.{sym, subst, arith}
 use Rattle.sat_checker.specs.inner.FormulaView.{AreNumbered}
 use Rattle.sat_checker.proofs.lemmas.state.Keeping.{renamed, unnamed}
 use Rattle.std.proofs.lemmas.Result.{err_from_is_err_and}
@@ -34,3 +34,18 @@ returns-in_err-set_solver_name-clause-decides c = let p = err_from_is_err_and c.
 
 pub returns-in_err-set_solver_name-2-clause-decides : goal.returns-in_err-set_solver_name-2-clause-decides
 returns-in_err-set_solver_name-2-clause-decides c = let p = err_from_is_err_and c.from_residual-in_err-set_solver_name-2.result c.from_residual-in_err-set_solver_name-2.ensures.1 in rw (p.1, p.2) (λ f k. tt)
+
+pub returns-in_err-learn_var-clause-looks : goal.returns-in_err-learn_var-clause-looks
+returns-in_err-learn_var-clause-looks c = λ f k. omega arith
+
+pub returns-in_err-set_solver_name-clause-looks : goal.returns-in_err-set_solver_name-clause-looks
+returns-in_err-set_solver_name-clause-looks c = λ f k. let h = c.set_solver_name.ensures.looks f k.formula.clauses in omega arith
+
+pub returns-in-Some-clause-looks : goal.returns-in-Some-clause-looks
+returns-in-Some-clause-looks c = λ f k. let h = c.set_solver_name.ensures.looks f k.formula.clauses in omega arith
+
+pub returns-in_err-set_solver_name-2-clause-looks : goal.returns-in_err-set_solver_name-2-clause-looks
+returns-in_err-set_solver_name-2-clause-looks c = λ f k. let h = c.set_solver_name-2.ensures.looks f k.formula.clauses in omega arith
+
+pub returns-clause-looks : goal.returns-clause-looks
+returns-clause-looks c = λ f k. let h = c.set_solver_name-2.ensures.looks f k.formula.clauses in omega arith

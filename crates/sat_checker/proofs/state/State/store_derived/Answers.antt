@@ -1,6 +1,7 @@
 use Rattle.sat_checker.specs.Storing.{with_literals_known}
 use Rattle.sat_checker.proofs.lemmas.state.Keeping.{derived}
 use Rattle.std.proofs.lemmas.Result.{err_from_is_err_and}
+use Rattle.std.proofs.Common.{arith}
 use Rattle.sat_checker.proofs.state.State.store_derived.Goals as goal
 
 pub returns-clause-stored : goal.returns-clause-stored
@@ -15,3 +16,6 @@ returns-clause-looks c = λ f k. c.store_clause.ensures.looks f k.formula
 
 pub returns-in_err-store_clause-clause-looks : goal.returns-in_err-store_clause-clause-looks
 returns-in_err-store_clause-clause-looks c = λ f k. c.store_clause.ensures.looks f k.formula
+
+pub returns-in_err-learn-clause-looks : goal.returns-in_err-learn-clause-looks
+returns-in_err-learn-clause-looks c = λ f k. omega arith

@@ -1,6 +1,7 @@
 use Rattle.sat_checker.proofs.lemmas.state.Units.{units_stored}
 use Rattle.sat_checker.proofs.lemmas.variables.Keeping.{match_true}
 use Rattle.std.proofs.lemmas.Result.{err_from_is_err_and}
+use Rattle.std.proofs.Common.{arith}
 use Rattle.sat_checker.proofs.state.State.unit_clauses.Goals as goal
 
 pub returns-clause-decides : goal.returns-clause-decides
@@ -10,3 +11,15 @@ returns-clause-decides c = λ f k.
 
 pub returns-in_err-learn_units-clause-decides : goal.returns-in_err-learn_units-clause-decides
 returns-in_err-learn_units-clause-decides c = let p = err_from_is_err_and c.from_residual-in_err-learn_units.result c.from_residual-in_err-learn_units.ensures.1 in rw (p.1, p.2) (λ f k. tt)
+
+pub returns-in_err-store_units-clause-looks : goal.returns-in_err-store_units-clause-looks
+returns-in_err-store_units-clause-looks c = λ f k. let h = c.store_units.ensures.looks f k.formula in omega arith
+
+pub returns-then-not-branch-clause-looks : goal.returns-then-not-branch-clause-looks
+returns-then-not-branch-clause-looks c = λ f k. let h = c.store_units.ensures.looks f k.formula in omega arith
+
+pub returns-in_err-learn_units-clause-looks : goal.returns-in_err-learn_units-clause-looks
+returns-in_err-learn_units-clause-looks c = λ f k. let h = c.store_units.ensures.looks f k.formula in omega arith
+
+pub returns-clause-looks : goal.returns-clause-looks
+returns-clause-looks c = λ f k. let h = c.store_units.ensures.looks f k.formula in omega arith

@@ -2,7 +2,7 @@ use Rattle.sat_checker.proofs.lemmas.state.Units.{units_stored}
 use Rattle.sat_checker.proofs.lemmas.variables.Keeping.{match_true}
 use Rattle.std.proofs.lemmas.Result.{err_from_is_err_and, IfOk-from_err}
 use Rattle.std.proofs.lemmas.Bool.{true≢false}
-use Rattle.std.proofs.Common.{sym}
+use Rattle.std.proofs.Common.{sym, arith}
 use Rattle.sat_checker.proofs.state.State.unit_clauses_noted.Goals as goal
 
 pub returns-clause-decides : goal.returns-clause-decides
@@ -24,3 +24,15 @@ returns-then-not-branch-clause-noted c = λ t. absurd (true≢false (sym t))
 
 pub returns-clause-noted : goal.returns-clause-noted
 returns-clause-noted c = λ _ f k long. c.in_ok-store_units_noted.ensures.noted c.if-not-branch.false f k.formula long
+
+pub returns-in_err-store_units_noted-clause-looks : goal.returns-in_err-store_units_noted-clause-looks
+returns-in_err-store_units_noted-clause-looks c = λ f k. let h = c.store_units_noted.ensures.looks f k.formula in omega arith
+
+pub returns-then-not-branch-clause-looks : goal.returns-then-not-branch-clause-looks
+returns-then-not-branch-clause-looks c = λ f k. let h = c.store_units_noted.ensures.looks f k.formula in omega arith
+
+pub returns-in_err-learn_units-clause-looks : goal.returns-in_err-learn_units-clause-looks
+returns-in_err-learn_units-clause-looks c = λ f k. let h = c.store_units_noted.ensures.looks f k.formula in omega arith
+
+pub returns-clause-looks : goal.returns-clause-looks
+returns-clause-looks c = λ f k. let h = c.store_units_noted.ensures.looks f k.formula in omega arith

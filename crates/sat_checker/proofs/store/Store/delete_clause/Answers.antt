@@ -1,4 +1,4 @@
-use Rattle.std.proofs.Common.{arith, ap, ◌∙◌}
+use Rattle.std.proofs.Common.{arith, ap, ◌∙◌, refl}
 use Rattle.sat_checker.proofs.lemmas.store.Storing.{is_there, looks_one, count_there, count_none, deleted_one}
 use Rattle.sat_checker.specs.inner.SlotView.{slot_ids}
 use Rattle.sat_checker.proofs.lemmas.store.Ids.{ids_taken}
@@ -33,3 +33,15 @@ returns-clause-ids c = ap slot_ids c.take_count.ensures ∙ ids_taken c.args.red
 
 pub returns-clause-looks : goal.returns-clause-looks
 returns-clause-looks c = looks_one c.args.self.now c.clause_hash-hash.result c.args.looks.now c.find.new.looks c.find.ensures.looks
+
+pub returns-in_default-clause-ids : goal.returns-in_default-clause-ids
+returns-in_default-clause-ids c = refl
+
+pub returns-then-count-eq0-clause-ids : goal.returns-then-count-eq0-clause-ids
+returns-then-count-eq0-clause-ids c = refl
+
+pub take_count-requires-clause-inside : goal.take_count-requires-clause-inside
+take_count-requires-clause-inside c = (is_there c.args.self.now.clauses c.args.literals.now c.clause_hash-hash.result c.in-Some.place c.in-Some.ensures.found).inside
+
+pub take_count-requires-clause-some : goal.take_count-requires-clause-some
+take_count-requires-clause-some c = omega (arith, c.count.ensures, c.if-count-eq0.false)

@@ -1,8 +1,9 @@
-use Rattle.std.proofs.Common.{◌∙◌, ap, cond, eqb}
+use Rattle.std.proofs.Common.{◌∙◌, ap, cond, eqb, arith, refl}
 use Rattle.sat_checker.specs.HasherView.{solver_name_of, width_of}
 use Rattle.sat_checker.specs.inner.SlotView.{slot_ids}
 use Rattle.sat_checker.proofs.lemmas.store.Rehashing.{filed_anew, looks_anew}
 use Rattle.sat_checker.proofs.lemmas.store.Ids.{ids_hashed}
+use Rattle.std.proofs.lemmas.Result.{IfOk-from_err}
 use Rattle.sat_checker.proofs.store.Store.set_solver_name.Goals as goal
 
 pub returns-clause-set : goal.returns-clause-set
@@ -18,3 +19,24 @@ returns-clause-looks c = looks_anew c.args.self.now c.args.looks.now c.rehash.ne
 
 pub returns-in_err-rehash-clause-looks : goal.returns-in_err-rehash-clause-looks
 returns-in_err-rehash-clause-looks c = looks_anew c.args.self.now c.args.looks.now c.rehash.new.looks c.rehash.ensures.looks
+
+pub returns-then-eq-clause-ids : goal.returns-then-eq-clause-ids
+returns-then-eq-clause-ids c = refl
+
+pub returns-then-eq-clause-looks : goal.returns-then-eq-clause-looks
+returns-then-eq-clause-looks c = λ f k. omega arith
+
+pub returns-in_err-set_solver_name-clause-set : goal.returns-in_err-set_solver_name-clause-set
+returns-in_err-set_solver_name-clause-set c = IfOk-from_err c.from_residual.result _ c.from_residual.ensures.0
+
+pub returns-in_err-set_solver_name-clause-ids : goal.returns-in_err-set_solver_name-clause-ids
+returns-in_err-set_solver_name-clause-ids c = IfOk-from_err c.from_residual.result _ c.from_residual.ensures.0
+
+pub returns-in_err-set_solver_name-clause-looks : goal.returns-in_err-set_solver_name-clause-looks
+returns-in_err-set_solver_name-clause-looks c = λ f k. omega arith
+
+pub returns-in_err-rehash-clause-set : goal.returns-in_err-rehash-clause-set
+returns-in_err-rehash-clause-set c = IfOk-from_err c.from_residual-in_err-rehash.result _ c.from_residual-in_err-rehash.ensures.0
+
+pub returns-in_err-rehash-clause-ids : goal.returns-in_err-rehash-clause-ids
+returns-in_err-rehash-clause-ids c = IfOk-from_err c.from_residual-in_err-rehash.result _ c.from_residual-in_err-rehash.ensures.0
