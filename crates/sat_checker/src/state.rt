@@ -115,8 +115,7 @@ impl State {
     {
         self.variables.learn(clause)?;
         self.formula
-            .store_clause(redundant, clause, &mut self.buffer, looks)?;
-        Ok(())
+            .store_clause(redundant, clause, &mut self.buffer, looks)
     }
 
     pub fn change_hash_bits(

@@ -212,8 +212,7 @@ impl Store {
         ensures looks { (f : Stored) → KeepsClauses self.old f → looks.new ≤ looks.old + literal_count f }
     {
         self.hasher.set_bits(bits);
-        self.clauses.rehash(alloc, &self.hasher, looks)?;
-        Ok(())
+        self.clauses.rehash(alloc, &self.hasher, looks)
     }
 
     /// A variable has this solver name or none from here on. There is no pass over the clauses where it had the same.
@@ -232,8 +231,7 @@ impl Store {
             return Ok(());
         }
         self.hasher.set_solver_name(var, name)?;
-        self.clauses.rehash(alloc, &self.hasher, looks)?;
-        Ok(())
+        self.clauses.rehash(alloc, &self.hasher, looks)
     }
 
     /// Whether the clause at this place isn't gone, and is a part of these sorted literals but not all of them.

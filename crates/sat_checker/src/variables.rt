@@ -158,8 +158,7 @@ impl Variables {
         ensures { OnOk result ((g : ℕ → Variable) → KeepsVariables self.old g
             → KeepsVariables self.new (λ v. known_if (is_among (map variable literals.now) v) (g v))) }
     {
-        self.ensure_vars(literals)?;
-        Ok(())
+        self.ensure_vars(literals)
     }
 
     /// Unknown variables of units become sampling ones.
@@ -178,8 +177,7 @@ impl Variables {
         ensures { OnOk result ((g : ℕ → Variable) → KeepsVariables self.old g
             → KeepsVariables self.new (λ v. known_if (is_among (var ∷ []) v) (g v))) }
     {
-        self.ensure_var(var)?;
-        Ok(())
+        self.ensure_var(var)
     }
 
     /// Gives a variable a name. The answer is whether it may have it: the name is free, the variable has none and isn't hidden.
@@ -253,8 +251,7 @@ impl Variables {
         ensures { OnOk result ((g : ℕ → Variable) → KeepsVariables self.old g → (g var).name ≡ None
             → KeepsVariables self.new (λ w. if w == var then unknown else g w)) }
     {
-        self.set(var, VarData::unknown())?;
-        Ok(())
+        self.set(var, VarData::unknown())
     }
 
     /// Whether the variables of the literals are all sampling or unknown.

@@ -43,6 +43,12 @@ pub sampling_kept : (vs : Variables) (f : Stored) (ls : List ℕ) → KeepsVaria
 sampling_kept vs f [] k h = tt
 sampling_kept vs f (l ∷ ls) k h = (sym (ap (λ (x : Variable). x.mode) (k.each (variable l))) ∙ h.0, sampling_kept vs f ls k h.1)
 
+-- what is kept says more
+pub turns_then : {T : Type 0} (result : Result T StoreError) (K L : Type 0) (g : Stored) → (K → L) → Turns result K g → Turns result L g
+turns_then (Ok x) K L g f k = f k
+turns_then (Err OutOfMemory) K L g f k = tt
+turns_then (Err CounterEnd) K L g f k = k
+
 -- a clause that was derived
 pub derived : (new : State) (f : Stored) (r : Bool) (c : List ℕ) → KeepsFormula new.formula (with_stored r c (with_literals_known c f)) → KeepsVariables new.variables (with_literals_known c f).variables → new.assumed ≡ canonical f.assumed
     → Keeps new (with_stored r c (with_literals_known c f))

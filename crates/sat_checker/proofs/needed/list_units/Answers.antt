@@ -4,6 +4,7 @@ use Rattle.sat_checker.specs.LiteralSets.{is_among}
 use Rattle.sat_checker.specs.Storing.{unit_id}
 use Rattle.sat_checker.proofs.lemmas.announcements.Listing.{unit_ids_of, id_denied, id_of_none, id_taken, all_taken, units_listed}
 use Rattle.sat_checker.proofs.needed.list_units.Goals.{in-Some+in_ok-push, in_default}
+use Rattle.std.proofs.lemmas.Result.{IfOk-from_err}
 use Rattle.sat_checker.proofs.needed.list_units.Goals as goal
 
 pub returns : goal.returns
@@ -30,3 +31,6 @@ loop-lit-preserved c =
       | in_default w ↦ rw w.ids-is (id_of_none c.args.denied.now c.args.units.now c.literals-lit-items.result.now c.loop-lit.lit-index c.loop-lit-test.true c.loop-lit.ids.items _ c.loop-lit.invariant
           allowed (id_is ∙ w.in_default.is))
     ]
+
+pub returns-in_err-push : goal.returns-in_err-push
+returns-in_err-push c = IfOk-from_err c.from_residual.result _ c.from_residual.ensures.0

@@ -4,6 +4,8 @@ use Rattle.sat_checker.specs.inner.Reasons.{noted_length}
 use Rattle.sat_checker.proofs.lemmas.propagation.Denied.{exact_when_met, exact_when_walked}
 use Rattle.sat_checker.proofs.lemmas.store.Buckets.{buckets_once}
 use Rattle.sat_checker.proofs.lemmas.announcements.Noting.{nothing_noted, explained, never_met}
+use Rattle.sat_checker.proofs.lemmas.propagation.Walking.{Extends-further}
+use Rattle.std.proofs.lemmas.Result.{IfOk-from_err}
 use Rattle.sat_checker.proofs.recording.check_under_noted.Goals as goal
 
 if_ok : {A E : Type 0} (r : Result A E) (P Q : A → Type 0) → ((x : A) → P x → Q x) → IfOk r P → IfOk r Q
@@ -35,3 +37,33 @@ returns-clause-read c =
 pub returns-then-branch-clause-explained : goal.returns-then-branch-clause-explained
 returns-then-branch-clause-explained c = λ _ u t.
     absurd (never_met c.args.clause.now c.args.assigned.now (rw c.if-branch.true at c.in_ok-deny.ensures.denied) u t)
+
+pub returns-in_err-deny-clause-exact : goal.returns-in_err-deny-clause-exact
+returns-in_err-deny-clause-exact c = IfOk-from_err c.from_residual.result _ c.from_residual.ensures.0
+
+pub returns-in_err-deny-clause-explained : goal.returns-in_err-deny-clause-explained
+returns-in_err-deny-clause-explained c = IfOk-from_err c.from_residual.result _ c.from_residual.ensures.0
+
+pub returns-in_err-deny-clause-read : goal.returns-in_err-deny-clause-read
+returns-in_err-deny-clause-read c = IfOk-from_err c.from_residual.result _ c.from_residual.ensures.0
+
+pub returns-in_err-deny-clause-extends : goal.returns-in_err-deny-clause-extends
+returns-in_err-deny-clause-extends c = c.deny.ensures.extends
+
+pub returns-in_err-deny-clause-looks : goal.returns-in_err-deny-clause-looks
+returns-in_err-deny-clause-looks c = omega arith
+
+pub returns-then-branch-clause-extends : goal.returns-then-branch-clause-extends
+returns-then-branch-clause-extends c = c.deny.ensures.extends
+
+pub returns-then-branch-clause-looks : goal.returns-then-branch-clause-looks
+returns-then-branch-clause-looks c = omega arith
+
+pub returns-then-branch-clause-read : goal.returns-then-branch-clause-read
+returns-then-branch-clause-read c = let n = nothing_noted c.args.clauses.now c.clear.new.self c.clear.ensures.reasons c.clear.ensures.conflict in omega (arith, n)
+
+pub returns-clause-extends : goal.returns-clause-extends
+returns-clause-extends c = Extends-further c.args.assigned.now c.deny.new.assigned c.walk_hashes_noted.new.assigned c.deny.ensures.extends c.walk_hashes_noted.ensures.extends
+
+pub returns-clause-looks : goal.returns-clause-looks
+returns-clause-looks c = c.walk_hashes_noted.ensures.looks

@@ -1,7 +1,9 @@
-use Rattle.std.proofs.Common.{true, Result, Ok, Err, IfOk, map, refl}
+use Rattle.std.proofs.Common.{true, Result, Ok, Err, IfOk, map, refl, arith}
 use Rattle.sat_checker.specs.inner.SlotView.{bucket_of}
 use Rattle.sat_checker.proofs.lemmas.propagation.Denied.{exact_when_met, exact_when_walked}
 use Rattle.sat_checker.proofs.lemmas.store.Buckets.{buckets_once}
+use Rattle.sat_checker.proofs.lemmas.propagation.Walking.{Extends-further}
+use Rattle.std.proofs.lemmas.Result.{IfOk-from_err}
 use Rattle.sat_checker.proofs.rup.check_under.Goals as goal
 
 if_ok : {A E : Type 0} (r : Result A E) (P Q : A → Type 0) → ((x : A) → P x → Q x) → IfOk r P → IfOk r Q
@@ -17,3 +19,24 @@ returns-clause-exact c =
     if_ok c.walk_hashes.result _ _
     (λ answer found. exact_when_walked c.args.assigned.now c.args.clause.now c.deny.new.assigned (map (bucket_of c.args.clauses.now) c.args.hashes.now) answer (buckets_once c.args.clauses.now c.args.hashes.now c.len-count.ensures.increasing) (rw c.if-branch.false at c.in_ok-deny.ensures.denied) found)
     c.walk_hashes.ensures.found
+
+pub returns-in_err-deny-clause-exact : goal.returns-in_err-deny-clause-exact
+returns-in_err-deny-clause-exact c = IfOk-from_err c.from_residual.result _ c.from_residual.ensures.0
+
+pub returns-in_err-deny-clause-extends : goal.returns-in_err-deny-clause-extends
+returns-in_err-deny-clause-extends c = c.deny.ensures.extends
+
+pub returns-in_err-deny-clause-looks : goal.returns-in_err-deny-clause-looks
+returns-in_err-deny-clause-looks c = omega arith
+
+pub returns-then-branch-clause-extends : goal.returns-then-branch-clause-extends
+returns-then-branch-clause-extends c = c.deny.ensures.extends
+
+pub returns-then-branch-clause-looks : goal.returns-then-branch-clause-looks
+returns-then-branch-clause-looks c = omega arith
+
+pub returns-clause-extends : goal.returns-clause-extends
+returns-clause-extends c = Extends-further c.args.assigned.now c.deny.new.assigned c.walk_hashes.new.assigned c.deny.ensures.extends c.walk_hashes.ensures.extends
+
+pub returns-clause-looks : goal.returns-clause-looks
+returns-clause-looks c = c.walk_hashes.ensures.looks

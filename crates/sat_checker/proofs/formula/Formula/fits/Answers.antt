@@ -1,10 +1,26 @@
-use Rattle.std.proofs.Common.{sym, ap, ◌∙◌}
+use Rattle.std.proofs.Common.{sym, ap, ◌∙◌, arith}
 use Rattle.sat_checker.specs.inner.FormulaView.{Standing}
 use Rattle.sat_checker.proofs.lemmas.state.Models.{met_fits}
 use Rattle.sat_checker.proofs.lemmas.variables.Keeping.{match_true}
+use Rattle.std.proofs.lemmas.Result.{IfOk-from_err}
 use Rattle.sat_checker.proofs.formula.Formula.fits.Goals as goal
 
 pub returns-clause-exact : goal.returns-clause-exact
 returns-clause-exact c = λ f k.
     let m = match_true _ _ _ c.in_ok-assume_apart.ensures c.if-not-branch.false in
     met_fits c.are_met.result f c.args.literals.now c.assume_apart.new.assigned (sym (ap (λ (s : Standing). s.unsat) k.status) ∙ c.if-self.false) m.0 m.1 (c.are_met.ensures.met f k)
+
+pub returns-in_err-assume_apart-clause-exact : goal.returns-in_err-assume_apart-clause-exact
+returns-in_err-assume_apart-clause-exact c = IfOk-from_err c.from_residual.result _ c.from_residual.ensures.0
+
+pub returns-in_err-assume_apart-clause-looks : goal.returns-in_err-assume_apart-clause-looks
+returns-in_err-assume_apart-clause-looks c = λ f k. omega arith
+
+pub returns-then-self-clause-looks : goal.returns-then-self-clause-looks
+returns-then-self-clause-looks c = λ f k. omega arith
+
+pub returns-then-not-branch-clause-looks : goal.returns-then-not-branch-clause-looks
+returns-then-not-branch-clause-looks c = λ f k. omega arith
+
+pub returns-clause-looks : goal.returns-clause-looks
+returns-clause-looks c = c.are_met.ensures.looks

@@ -3,6 +3,7 @@ use Rattle.sat_checker.specs.Stored.{Variable, Mode}
 use Rattle.sat_checker.specs.Accepts.{MayGetName}
 use Rattle.sat_checker.specs.inner.VariablesView.{mode_in, variable_at}
 use Rattle.sat_checker.proofs.lemmas.variables.Keeping.{refused_taken, refused_named, refused_hidden, may_get, named_kept, match_true, match_false}
+use Rattle.std.proofs.lemmas.Result.{IfOk-from_err}
 use Rattle.sat_checker.proofs.variables.Variables.add_user_mapping.Goals as goal
 
 pub returns-then-is_some : goal.returns-then-is_some
@@ -25,3 +26,9 @@ returns c = λ f k.
           (λ w. c.in_ok-set.ensures.variables w ∙ ap (λ (m : Mode). cond (eqb w c.args.var) (record { known = true; mode = m; name = Some c.args.name }) (variable_at c.args.self.now w)) mode)
           c.in_ok-set.ensures.holders c.in_ok-set_holder.ensures.variables c.in_ok-set_holder.ensures.holders,
     )
+
+pub returns-in_err-set : goal.returns-in_err-set
+returns-in_err-set c = IfOk-from_err c.from_residual.result _ c.from_residual.ensures.0
+
+pub returns-in_err-set_holder : goal.returns-in_err-set_holder
+returns-in_err-set_holder c = IfOk-from_err c.from_residual-in_err-set_holder.result _ c.from_residual-in_err-set_holder.ensures.0

@@ -2,6 +2,7 @@ use Rattle.std.proofs.Common.{◌≡◌, ◌∙◌, ap, sym, refl, cond, eqb, So
 use Rattle.sat_checker.specs.Stored.{Variable, Hide}
 use Rattle.sat_checker.specs.inner.VariablesView.{variable_at}
 use Rattle.sat_checker.proofs.lemmas.variables.Keeping.{unnamed_kept, some_none}
+use Rattle.std.proofs.lemmas.Result.{IfOk-from_err}
 use Rattle.sat_checker.proofs.variables.Variables.remove_user_mapping.Goals as goal
 
 pub returns-in_default : goal.returns-in_default
@@ -16,3 +17,9 @@ returns c = λ f k.
           (λ w. c.in_ok-set.ensures.variables w ∙ ap (λ (x : Variable). cond (eqb w c.args.var) (record { known = x.known; mode = Hide; name = None }) (variable_at c.args.self.now w)) same)
           c.in_ok-set.ensures.holders c.in_ok-set_holder.ensures.variables c.in_ok-set_holder.ensures.holders,
     )
+
+pub returns-in_err-set : goal.returns-in_err-set
+returns-in_err-set c = IfOk-from_err c.from_residual.result _ c.from_residual.ensures.0
+
+pub returns-in_err-set_holder : goal.returns-in_err-set_holder
+returns-in_err-set_holder c = IfOk-from_err c.from_residual-in_err-set_holder.result _ c.from_residual-in_err-set_holder.ensures.0

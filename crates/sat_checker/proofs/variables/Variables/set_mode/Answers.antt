@@ -2,6 +2,7 @@ use Rattle.std.proofs.Common.{◌∙◌, ap, sym, refl, cond, eqb}
 use Rattle.sat_checker.specs.Stored.{Variable, Mode, Sample, Witness}
 use Rattle.sat_checker.specs.inner.VariablesView.{mode_in, variable_at}
 use Rattle.sat_checker.proofs.lemmas.variables.Keeping.{set_kept, was_true}
+use Rattle.std.proofs.lemmas.Result.{IfOk-from_err}
 use Rattle.sat_checker.proofs.variables.Variables.set_mode.Goals as goal
 
 pub returns : goal.returns
@@ -13,3 +14,6 @@ returns c = λ f k.
           ∙ ap (λ (m : Mode). cond (eqb w c.args.var) (record (f.variables c.args.var) { mode = m }) (variable_at c.args.self.now w)) c.mode_from-mode.ensures)
           c.in_ok-set.ensures.holders,
     )
+
+pub returns-in_err-set : goal.returns-in_err-set
+returns-in_err-set c = IfOk-from_err c.from_residual.result _ c.from_residual.ensures.0
