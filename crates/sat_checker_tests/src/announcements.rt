@@ -1,37 +1,46 @@
 //! What is announced of accepted steps, and what transcripts say of it.
 
+use crate::calls::{Answer, Call, error_of};
 use crate::hearing::{
-    GONE, Heard, IRREDUNDANT, KEPT, KNOWN, Listener, NEW, NO, NO_MORE, REDUNDANT, SAMPLE, Said,
-    Told, WITNESS, add_listener, add_reader, are_done,
+    GONE, Heard, HeardCalls, IRREDUNDANT, KEPT, KNOWN, Listener, NEW, NO, REDUNDANT, SAMPLE, Said,
+    Told, WITNESS, add_listener, add_reader, are_done, first_unheard,
 };
 use crate::kinds::{Kind, failure};
-use crate::steps::read_by;
-use anyhow::anyhow;
-use sat_base::{Counted, Lit, Var};
-use sat_checker::{CheckedProofStep, CheckerData, ProofProcessor, SelfChecker};
+use sat_base::{Counted, Var};
+use sat_checker::{CheckedProofStep, CheckerData, ProofProcessor};
 use std::alloc::Global;
 
 /// Steps in bytes, what is announced of them, and its transcript.
 type Row = (&'static [u8], &'static [Told], &'static [Said]);
 
-fn add_both(checker: &mut Heard, row: &Row) -> bool {
-    add_listener(checker, row.1) && add_reader(checker, row.2)
-}
-
 /// Whether a processor and a transcript that were added are told this, the steps being fed one by one.
 fn is_told_to_added(alloc: Global, row: &Row) -> bool {
     let mut checker = Heard::telling(alloc);
-    let taken = add_both(&mut checker, row)
-        && read_by(alloc, &mut checker, &mut Counted::new(row.0)).is_ok();
+    let taken = add_listener(&mut checker, row.1)
+        && add_reader(&mut checker, row.2)
+        && error_of(alloc, &mut checker, Call::Steps(row.0)).is_none();
     let told = are_done(checker.into_processors(), 1);
     taken && told
+}
+
+/// The error of a proof that a processor of the caller's own hears.
+pub(crate) fn check_with<O: ProofProcessor>(
+    alloc: Global,
+    checker: &mut Heard,
+    text: &[u8],
+    own: &mut O,
+) -> Option<Kind> {
+    failure(
+        alloc,
+        &checker.check_proof_with(&mut Counted::new(text), own),
+    )
 }
 
 /// Whether a processor of the caller's own is told this, the steps being a proof's, with its end or cut off before it.
 fn is_told_to_own(alloc: Global, row: &Row) -> bool {
     let mut checker = Heard::telling(alloc);
     let mut own = Listener::new(row.1);
-    let error = failure(&checker.check_proof_with(&mut Counted::new(row.0), &mut own));
+    let error = check_with(alloc, &mut checker, row.0, &mut own);
     let read = error.is_none() && checker.ended() || error == Some(Kind::ProofIncomplete);
     drop(checker);
     read && own.is_done()
@@ -863,16 +872,44 @@ static CONFLICTS: [Row; 5] = [
     ),
 ];
 
+fn propagations_rows() -> &'static [Row] {
+    &PROPAGATIONS
+}
+
+fn names_rows() -> &'static [Row] {
+    &NAMES
+}
+
+fn inputs_rows() -> &'static [Row] {
+    &INPUTS
+}
+
+fn derived_rows() -> &'static [Row] {
+    &DERIVED
+}
+
+fn deleted_rows() -> &'static [Row] {
+    &DELETED
+}
+
+fn answers_rows() -> &'static [Row] {
+    &ANSWERS
+}
+
+fn conflicts_rows() -> &'static [Row] {
+    &CONFLICTS
+}
+
 #[test]
 fn steps_are_announced(rt: HostRuntime) {
-    let tables: [&[Row]; 7] = [
-        &PROPAGATIONS,
-        &NAMES,
-        &INPUTS,
-        &DERIVED,
-        &DELETED,
-        &ANSWERS,
-        &CONFLICTS,
+    let tables = [
+        propagations_rows(),
+        names_rows(),
+        inputs_rows(),
+        derived_rows(),
+        deleted_rows(),
+        answers_rows(),
+        conflicts_rows(),
     ];
     for rows in tables {
         let wrong = first_unannounced(rt.alloc(), rows);
@@ -880,77 +917,68 @@ fn steps_are_announced(rt: HostRuntime) {
     }
 }
 
-/// Whether the contradicting units are taken, and delayed steps settled, if that is asked for.
-fn takes_units(alloc: Global, checker: &mut Heard, settled: bool) -> bool {
-    read_by(alloc, checker, &mut Counted::new(UNITS)).is_ok()
-        && (!settled || checker.self_check_delayed_steps().is_ok())
-        && checker.unsat()
-}
+const UNSAT: Answer = (None, true, false);
 
-/// Whether so many announcements and steps of a transcript are told of the contradicting units, where delayed steps are settled or not.
-fn is_told_by(alloc: Global, settled: bool, told: &'static [Told], said: &'static [Said]) -> bool {
-    let mut checker = Heard::telling(alloc);
-    let taken = add_both(&mut checker, &(UNITS, told, said))
-        && takes_units(alloc, &mut checker, settled);
-    let told = are_done(checker.into_processors(), 1);
-    taken && told
+const TAKEN: Answer = (None, false, false);
+
+static HEARD: [HeardCalls; 3] = [
+    (
+        "the empty clause of contradicting units is told once it is settled",
+        CONFLICT,
+        CONFLICT_SAID,
+        &[(Call::Steps(UNITS), UNSAT), (Call::Settle, UNSAT)],
+    ),
+    (
+        "the empty clause of contradicting units isn't told before",
+        CONFLICT_BEFORE,
+        CONFLICT_SAID_BEFORE,
+        &[(Call::Steps(UNITS), UNSAT)],
+    ),
+    (
+        "a clause that comes twice is told so, and nothing is told of a step that is refused",
+        &[
+            Told::AddClause(0, [1, 2, 0]),
+            Told::DuplicatedClause(1, 0, [1, 2, 0]),
+        ],
+        &[Said::AddClause([1, 2, 0]), Said::AddClause([1, 2, 0])],
+        &[
+            (Call::Clause(&[1, 2]), TAKEN),
+            (Call::Clause(&[2, 1, 1]), TAKEN),
+            (
+                Call::Proof(&[6, 0, 1, 4, 0]),
+                (Some(Kind::CheckFailed), false, false),
+            ),
+        ],
+    ),
+];
+
+fn heard() -> &'static [HeardCalls] {
+    &HEARD
 }
 
 #[test]
-fn delayed_steps_are_announced(rt: HostRuntime) {
-    assert!(rt; is_told_by(rt.alloc(), true, CONFLICT, CONFLICT_SAID));
-    assert!(rt; is_told_by(rt.alloc(), false, CONFLICT_BEFORE, CONFLICT_SAID_BEFORE));
+fn calls_are_announced(rt: HostRuntime) {
+    let wrong = first_unheard(rt.alloc(), heard());
+    assert!(rt; wrong == None, "{wrong:?}");
 }
 
-/// Whether a clause is taken twice.
-fn takes_twice(checker: &mut Heard) -> bool {
-    let (first, second) = (Lit::from_code(0), Lit::from_code(2));
-    checker.add_clause(&[first, second]).is_ok()
-        && checker.add_clause(&[second, first, first]).is_ok()
-}
-
-const UNFOUNDED: &[u8] = &[6, 0, 1, 4, 0];
-
-/// Whether a clause that comes twice is told so, and nothing is told of a step that is refused.
-fn is_told_twice(alloc: Global) -> bool {
-    let mut checker = Heard::telling(alloc);
-    let taken = add_both(&mut checker, &TWICE) && takes_twice(&mut checker);
-    let error = failure(&checker.check_proof(&mut Counted::new(UNFOUNDED)));
-    let told = are_done(checker.into_processors(), 1);
-    taken && error == Some(Kind::CheckFailed) && told
-}
-
-const TWICE: Row = (
-    &[],
-    &[
-        Told::AddClause(0, [1, 2, 0]),
-        Told::DuplicatedClause(1, 0, [1, 2, 0]),
-    ],
-    &[Said::AddClause([1, 2, 0]), Said::AddClause([1, 2, 0])],
-);
-
-#[test]
-fn added_clauses_are_announced(rt: HostRuntime) {
-    assert!(rt; is_told_twice(rt.alloc()));
-}
-
-/// A processor that looks up the name of the first variable, and waits for these.
+/// A processor that looks up the name of the first variable, and waits for these, where 0 is no name.
 #[derive(Drop)]
 struct Names {
-    awaited: &'static [Option<i64>],
+    awaited: &'static [i64],
+    wrong: bool,
 }
 
 impl Names {
-    /// Takes a name, unless it is another one than is awaited.
-    fn fault(&mut self, name: Option<i64>) -> Option<&'static str> {
-        let Some((first, rest)) = self.awaited.split_first() else {
-            return Some(NO_MORE);
-        };
-        if name != *first {
-            return Some("another name is awaited");
+    /// Takes a name, and notes whether it is another one than is awaited.
+    fn take(&mut self, name: i64) {
+        match self.awaited.split_first() {
+            Some((first, rest)) => {
+                self.wrong = self.wrong || name != *first;
+                self.awaited = rest;
+            }
+            None => self.wrong = true,
         }
-        self.awaited = rest;
-        None
     }
 }
 
@@ -964,11 +992,11 @@ impl ProofProcessor for Names {
         _step: &CheckedProofStep<'_>,
         names: CheckerData<'_>,
     ) -> anyhow::Result<()> {
-        let name = names.user_from_proof_var(Var::from_index(0));
-        match self.fault(name.map(|name| name.to_dimacs())) {
-            None => Ok(()),
-            Some(fault) => Err(anyhow!(fault)),
+        match names.user_from_proof_var(Var::from_index(0)) {
+            Some(name) => self.take(name.to_dimacs()),
+            None => self.take(0),
         }
+        Ok(())
     }
 }
 
@@ -980,24 +1008,21 @@ const LOOKED_UP: &[u8] = &[
 ];
 
 /// Its name from before each step that is announced: a sampling one without a name is its own, no other is.
-const FOUND: &[Option<i64>] = &[
-    Some(1),
-    Some(1),
-    Some(5),
-    Some(5),
-    Some(5),
-    Some(5),
-    None,
-    Some(1),
-    None,
-];
+const FOUND: &[i64] = &[1, 1, 5, 5, 5, 5, 0, 1, 0];
+
+fn are_looked_up(alloc: Global, own: &mut Names) -> bool {
+    let mut checker = Heard::telling(alloc);
+    let error = check_with(alloc, &mut checker, LOOKED_UP, own);
+    drop(checker);
+    error.is_none()
+}
 
 #[test]
 fn names_are_looked_up(rt: HostRuntime) {
-    let mut checker = Heard::telling(rt.alloc());
-    let mut own = Names { awaited: FOUND };
-    let error = failure(&checker.check_proof_with(&mut Counted::new(LOOKED_UP), &mut own));
-    drop(checker);
-    assert!(rt; error.is_none());
-    assert!(rt; own.awaited.is_empty());
+    let mut own = Names {
+        awaited: FOUND,
+        wrong: false,
+    };
+    let taken = are_looked_up(rt.alloc(), &mut own);
+    assert!(rt; taken && own.awaited.is_empty() && !own.wrong);
 }

@@ -1,192 +1,189 @@
 //! Formulas' texts.
 
-use crate::devices::by_one;
-use crate::kinds::{DimacsKind, Kind, dimacs_failure, failure};
-use sat_base::{Counted, CountedRead, DimacsError, Lit};
-use sat_checker::{Checker, CheckerDimacsError, CheckerError};
+use crate::calls::{Answer, Call, Calls, are_answered, first_wrong};
+use crate::kinds::Kind;
+use sat_base::DimacsError;
+use sat_checker::{CheckerDimacsError, CheckerError};
 use std::alloc::Global;
 
-/// What a checker answers to a text: the error, and whether unsat is recorded.
-type Answer = (Option<DimacsKind>, bool);
+const TAKEN: Answer = (None, false, false);
 
-fn read_on<R: CountedRead>(checker: &mut Checker, reader: &mut R) -> Answer {
-    let error = dimacs_failure(&checker.add_dimacs_cnf(reader));
-    (error, checker.unsat())
-}
+const REFUTED: Answer = (None, true, false);
 
-fn read<R: CountedRead>(alloc: Global, reader: &mut R) -> Answer {
-    let mut checker = Checker::new(alloc);
-    let answer = read_on(&mut checker, reader);
-    drop(checker);
-    answer
-}
+/// At fault in the first line, in the second, and by a number past the limit in the third; whether unsat is recorded then.
+const FIRST_LINE: Answer = (
+    Some(Kind::Dimacs(DimacsError::Malformed { line: 1 })),
+    false,
+    false,
+);
 
-fn whole(alloc: Global, text: &[u8]) -> Answer {
-    read(alloc, &mut Counted::new(text))
-}
+const SECOND_LINE: Answer = (
+    Some(Kind::Dimacs(DimacsError::Malformed { line: 2 })),
+    false,
+    false,
+);
 
-fn in_pieces(alloc: Global, text: &[u8]) -> Answer {
-    read(alloc, &mut by_one(text, 0))
-}
+const SECOND_LINE_REFUTED: Answer = (
+    Some(Kind::Dimacs(DimacsError::Malformed { line: 2 })),
+    true,
+    false,
+);
 
-const TAKEN: Answer = (None, false);
+const PAST_LIMIT_REFUTED: Answer = (
+    Some(Kind::Dimacs(DimacsError::Limit { line: 3 })),
+    true,
+    false,
+);
 
-const REFUTED: Answer = (None, true);
-
-fn at_fault(error: DimacsError, unsat: bool) -> Answer {
-    (Some(DimacsKind::Dimacs(error)), unsat)
-}
+const UNREAD: Answer = (Some(Kind::Dimacs(DimacsError::Read)), false, false);
 
 /// The clauses over two variables, with each pair of signs.
 pub(crate) const PAIRS: &[u8] = b"c four clauses\np cnf 2 4\n1 2 0\n1 -2 0\n-1 2 0\n-1 -2 0\n";
 
-const TEXTS: [(&[u8], Answer); 6] = [
+type Row = (&'static [u8], Answer);
+
+/// Texts, and among them some at fault behind clauses that contradict each other or don't.
+static TEXTS: [Row; 11] = [
     (b"", TAKEN),
     (PAIRS, TAKEN),
     (b"1 -1 0", TAKEN),
     (b"0", REFUTED),
     (b"1 0 -1 0", REFUTED),
     (b"1 0\n2 0 -2 0 3 0\n", REFUTED),
+    (b"1 0\nx", SECOND_LINE),
+    (b"1 0\n2", SECOND_LINE),
+    (b"1 0 -1 0\n1x", SECOND_LINE_REFUTED),
+    (b"1 0 -1 0\nx 0", SECOND_LINE_REFUTED),
+    (b"0\n\n268435457 0", PAST_LIMIT_REFUTED),
 ];
+
+fn texts() -> &'static [Row] {
+    &TEXTS
+}
 
 /// Whether a text is answered so, read whole and in pieces of one byte.
-fn is_answered(alloc: Global, text: &[u8], answer: &Answer) -> bool {
-    whole(alloc, text) == *answer && in_pieces(alloc, text) == *answer
+fn is_answered(alloc: Global, row: &Row) -> bool {
+    are_answered(alloc, &[(Call::Dimacs(row.0), row.1)])
+        && are_answered(alloc, &[(Call::DimacsByOne(row.0, 0), row.1)])
 }
 
-#[test]
-fn texts_are_taken(rt: HostRuntime) {
-    for (text, answer) in &TEXTS {
-        assert!(rt; is_answered(rt.alloc(), *text, answer), "{text:?}");
+/// The first text that is answered otherwise.
+fn first_unanswered(alloc: Global) -> Option<&'static [u8]> {
+    for row in texts() {
+        if !is_answered(alloc, row) {
+            return Some(row.0);
+        }
     }
+    None
 }
 
-/// Texts at fault, the faults, and whether the clauses before them contradict each other.
-const FAULTS: [(&[u8], DimacsError, bool); 5] = [
-    (b"1 0\nx", DimacsError::Malformed { line: 2 }, false),
-    (b"1 0\n2", DimacsError::Malformed { line: 2 }, false),
-    (b"1 0 -1 0\n1x", DimacsError::Malformed { line: 2 }, true),
-    (b"1 0 -1 0\nx 0", DimacsError::Malformed { line: 2 }, true),
-    (b"0\n\n268435457 0", DimacsError::Limit { line: 3 }, true),
-];
-
 #[test]
-fn faults_are_answered(rt: HostRuntime) {
-    for &(text, error, unsat) in &FAULTS {
-        let answer = at_fault(error, unsat);
-        assert!(rt; is_answered(rt.alloc(), text, &answer), "{text:?}");
+fn texts_are_answered(rt: HostRuntime) {
+    let wrong = first_unanswered(rt.alloc());
+    assert!(rt; wrong == None, "{wrong:?}");
+}
+
+const UNITS: &[u8] = b"1 2 0\n-1 0\n";
+
+/// The first read whose fault isn't answered, or behind which the checker doesn't go on.
+fn first_unanswered_read(alloc: Global) -> Option<u64> {
+    for failing in 1..13 {
+        let calls = [
+            (Call::DimacsByOne(UNITS, failing), UNREAD),
+            (Call::Clause(&[]), REFUTED),
+        ];
+        if !are_answered(alloc, &calls) {
+            return Some(failing);
+        }
     }
-}
-
-/// What a checker answers to a text and to another behind it.
-fn read_both(alloc: Global, text: &[u8], rest: &[u8]) -> (Answer, Answer) {
-    let mut checker = Checker::new(alloc);
-    let first = read_on(&mut checker, &mut Counted::new(text));
-    let second = read_on(&mut checker, &mut Counted::new(rest));
-    drop(checker);
-    (first, second)
-}
-
-/// Whether a clause before a fault stands, and the checker goes on behind the fault.
-#[test]
-fn faults_leave_the_checker(rt: HostRuntime) {
-    let fault = at_fault(DimacsError::Malformed { line: 1 }, false);
-    assert!(rt; read_both(rt.alloc(), b"1 0 2", b"-1 0") == (fault, REFUTED));
-}
-
-/// Whether a read that fails is answered, and the checker goes on then.
-fn goes_on_behind(alloc: Global, failing: u64) -> bool {
-    let mut checker = Checker::new(alloc);
-    let answer = read_on(&mut checker, &mut by_one(b"1 2 0\n-1 0\n", failing));
-    let added = checker.add_clause(&[]).is_ok();
-    drop(checker);
-    answer == at_fault(DimacsError::Read, false) && added
+    None
 }
 
 #[test]
 fn failed_reads_are_answered(rt: HostRuntime) {
-    for failing in 1..13 {
-        assert!(rt; goes_on_behind(rt.alloc(), failing), "{failing}");
-    }
-    assert!(rt; read(rt.alloc(), &mut by_one(b"1 2 0\n-1 0\n", 13)) == TAKEN);
+    let wrong = first_unanswered_read(rt.alloc());
+    assert!(rt; wrong == None, "{wrong:?}");
 }
 
-/// Proofs that the four clauses have no model, at widths 8 and 0.
-const REFUTATIONS: [&[u8]; 2] = [
-    &[
-        9, 8, 6, 0, 1, 0, 2, 0x44, 0xe6, 1, 6, 0, 0, 2, 0xe6, 1, 0x44, 13,
-    ],
-    &[9, 0, 6, 0, 1, 0, 1, 0, 6, 0, 0, 1, 0, 13],
+static CALLS: [Calls; 6] = [
+    (
+        "a clause before a fault stands, and the checker goes on behind the fault",
+        &[
+            (Call::Dimacs(b"1 0 2"), FIRST_LINE),
+            (Call::Dimacs(b"-1 0"), REFUTED),
+        ],
+    ),
+    (
+        "a text has no more reads than these",
+        &[(Call::DimacsByOne(UNITS, 13), TAKEN)],
+    ),
+    (
+        "the four clauses have no model, at width 8",
+        &[
+            (Call::DimacsByOne(PAIRS, 0), TAKEN),
+            (
+                Call::ProofByOne(
+                    &[
+                        9, 8, 6, 0, 1, 0, 2, 0x44, 0xe6, 1, 6, 0, 0, 2, 0xe6, 1, 0x44, 13,
+                    ],
+                    0,
+                ),
+                (None, true, true),
+            ),
+        ],
+    ),
+    (
+        "the four clauses have no model, at width 0",
+        &[
+            (Call::DimacsByOne(PAIRS, 0), TAKEN),
+            (
+                Call::ProofByOne(&[9, 0, 6, 0, 1, 0, 1, 0, 6, 0, 0, 1, 0, 13], 0),
+                (None, true, true),
+            ),
+        ],
+    ),
+    (
+        "a clause of a hidden variable isn't taken, and neither is one behind it",
+        &[
+            (
+                Call::Proof(&[2, 0, 1, 2, 0, 0]),
+                (Some(Kind::ProofIncomplete), false, false),
+            ),
+            (
+                Call::Dimacs(b"2 0\n1 0\n-2 0\n"),
+                (Some(Kind::CheckFailed), false, false),
+            ),
+            (Call::Clause(&[-2]), REFUTED),
+        ],
+    ),
+    (
+        "nothing is read once a step was refused",
+        &[
+            (
+                Call::Proof(&[3, 0]),
+                (Some(Kind::CheckFailed), false, false),
+            ),
+            (
+                Call::DimacsByOne(PAIRS, 1),
+                (Some(Kind::HasFailed), false, false),
+            ),
+            (Call::Clause(&[-2]), (Some(Kind::HasFailed), false, false)),
+        ],
+    ),
 ];
 
-/// What a checker answers to a proof behind a text, both in pieces of one byte.
-fn refuted(alloc: Global, proof: &[u8]) -> (Answer, Option<Kind>, bool) {
-    let mut checker = Checker::new(alloc);
-    let taken = read_on(&mut checker, &mut by_one(PAIRS, 0));
-    let error = failure(&checker.check_proof(&mut by_one(proof, 0)));
-    let unsat = checker.unsat();
-    drop(checker);
-    (taken, error, unsat)
+fn all_calls() -> &'static [Calls] {
+    &CALLS
 }
 
 #[test]
-fn texts_are_refuted(rt: HostRuntime) {
-    for proof in &REFUTATIONS {
-        let answer = refuted(rt.alloc(), *proof);
-        assert!(rt; answer == (TAKEN, None, true), "{proof:?}");
-    }
-}
-
-/// What a checker answers to a proof and to a text behind it, and whether a clause is taken then.
-fn read_behind<R: CountedRead>(
-    checker: &mut Checker,
-    proof: &[u8],
-    text: &mut R,
-) -> (Option<Kind>, Answer, bool) {
-    let error = failure(&checker.check_proof(&mut Counted::new(proof)));
-    let answer = read_on(checker, text);
-    let taken = checker.add_clause(&[Lit::from_code(3)]).is_ok();
-    (error, answer, taken)
-}
-
-/// The same of a new checker, and whether unsat is recorded then.
-fn answered_behind<R: CountedRead>(
-    alloc: Global,
-    proof: &[u8],
-    text: &mut R,
-) -> ((Option<Kind>, Answer, bool), bool) {
-    let mut checker = Checker::new(alloc);
-    let answers = read_behind(&mut checker, proof, text);
-    let unsat = checker.unsat();
-    drop(checker);
-    (answers, unsat)
-}
-
-/// A clause of a hidden variable isn't taken, and neither is one behind it.
-#[test]
-fn refused_clauses_end_a_text(rt: HostRuntime) {
-    let text: &[u8] = b"2 0\n1 0\n-2 0\n";
-    let (answers, unsat) = answered_behind(
-        rt.alloc(),
-        &[2, 0, 1, 2, 0, 0],
-        &mut Counted::new(text),
-    );
-    let refused = Some(DimacsKind::Checker(Kind::CheckFailed));
-    assert!(rt; answers == (Some(Kind::ProofIncomplete), (refused, false), true));
-    assert!(rt; unsat);
-}
-
-/// Nothing is read once a step was refused.
-#[test]
-fn failing_is_final(rt: HostRuntime) {
-    let (answers, unsat) = answered_behind(rt.alloc(), &[3, 0], &mut by_one(PAIRS, 1));
-    let failed = Some(DimacsKind::Checker(Kind::HasFailed));
-    assert!(rt; answers == (Some(Kind::CheckFailed), (failed, false), false));
-    assert!(rt; !unsat);
+fn calls_behind_texts_are_answered(rt: HostRuntime) {
+    let wrong = first_wrong(rt.alloc(), all_calls());
+    assert!(rt; wrong == None, "{wrong:?}");
 }
 
 /// Errors, and how they are printed.
-const PRINTED: [(CheckerDimacsError, &str); 2] = [
+static PRINTED: [(CheckerDimacsError, &str); 2] = [
     (
         CheckerDimacsError::Dimacs(DimacsError::Read),
         "the formula can't be read",
@@ -197,6 +194,10 @@ const PRINTED: [(CheckerDimacsError, &str); 2] = [
     ),
 ];
 
+fn printed() -> &'static [(CheckerDimacsError, &'static str)] {
+    &PRINTED
+}
+
 fn is_printed(alloc: Global, error: &CheckerDimacsError, text: &str) -> bool {
     match format!(in alloc; "{error}") {
         Ok(printed) => printed.as_str() == text,
@@ -206,7 +207,7 @@ fn is_printed(alloc: Global, error: &CheckerDimacsError, text: &str) -> bool {
 
 #[test]
 fn errors_are_printed(rt: HostRuntime) {
-    for (error, text) in &PRINTED {
+    for (error, text) in printed() {
         assert!(rt; is_printed(rt.alloc(), error, *text), "{text}");
     }
 }

@@ -2,16 +2,16 @@
 
 use crate::announcements::{
     CONFLICT, CONFLICT_BEFORE, CONFLICT_SAID_BEFORE, REFUTATION, REFUTED, REFUTED_SAID, UNITS,
+    check_with,
 };
+use crate::calls::{Answer, Answered, Call, END, error_of};
 use crate::dimacs::PAIRS;
 use crate::hearing::{
-    Heard, Listener, NO_MORE, Said, Told, add_listener, add_reader, are_done, is_fault,
+    Heard, HeardCalls, Listener, Said, Told, add_listener, add_reader, are_done, are_heard,
+    first_unheard,
 };
-use crate::kinds::{DimacsKind, Kind, dimacs_failure, failure};
-use crate::proofs::add_all;
-use crate::steps::read_by;
-use sat_base::Counted;
-use sat_checker::{CheckerDimacsError, CheckerError, SelfChecker};
+use crate::kinds::Kind;
+use crate::proofs;
 use std::alloc::Global;
 
 /// How many steps a transcript has of so many announcements of the refutation: the fifth has none.
@@ -45,44 +45,44 @@ fn add_four(checker: &mut Heard, failing: usize, at: usize) -> bool {
         && add_reader(checker, said(4, failing, at))
 }
 
-const END: &[u8] = &[13];
+/// Whether a checker answers to this call by the fault of somebody who waits for no more.
+fn is_ended(alloc: Global, checker: &mut Heard, call: Call) -> bool {
+    error_of(alloc, checker, call) == Some(Kind::NoMore)
+}
+
+/// Whether a proof is ended by such a fault, a processor of the caller's own being the first, at place 0.
+fn is_ended_with_own(alloc: Global, checker: &mut Heard, awaited: &'static [Told]) -> bool {
+    let mut own = Listener::new(awaited);
+    check_with(alloc, checker, REFUTATION, &mut own) == Some(Kind::NoMore) && own.is_done()
+}
 
 /// Whether a checker answers that it has failed, and nothing else.
-fn has_failed(checker: &mut Heard) -> bool {
-    let failed = Some(Kind::HasFailed);
-    failure(&checker.check_proof(&mut Counted::new(END))) == failed
-        && failure(&checker.add_clause(&[])) == failed
-        && failure(&checker.self_check_delayed_steps()) == failed
+fn has_failed(alloc: Global, checker: &mut Heard) -> bool {
+    for call in [Call::Proof(END), Call::Clause(&[]), Call::Settle] {
+        if error_of(alloc, checker, call) != Some(Kind::HasFailed) {
+            return false;
+        }
+    }
+    true
 }
 
-/// Whether a step was ended by a fault of somebody who listens, and the checker has failed since.
-fn is_ended(alloc: Global, checker: &mut Heard, answer: &Result<(), CheckerError>) -> bool {
-    is_fault(alloc, answer, NO_MORE) && has_failed(checker)
-}
-
-/// Whether a fault at this place ends the proof at this announcement, a processor of the caller's own being the first, at place 0.
-fn ends_with_own(alloc: Global, failing: usize, at: usize) -> bool {
+/// Whether a fault at this place ends the steps at this announcement: those of a proof with a processor of the caller's own, or else those
+/// that are fed one by one.
+fn ends(alloc: Global, failing: usize, at: usize, with_own: bool) -> bool {
     let mut checker = Heard::telling(alloc);
-    let mut own = Listener::new(told(0, failing, at));
-    let added = add_four(&mut checker, failing, at);
-    let answer = checker.check_proof_with(&mut Counted::new(REFUTATION), &mut own);
-    let ended = added && is_ended(alloc, &mut checker, &answer) && own.is_done();
-    let left = are_done(checker.into_processors(), 2);
-    ended && left
-}
-
-/// As `ends_with_own`, where the steps are fed one by one, to those that were added alone.
-fn ends_added(alloc: Global, failing: usize, at: usize) -> bool {
-    let mut checker = Heard::telling(alloc);
-    let added = add_four(&mut checker, failing, at);
-    let answer = read_by(alloc, &mut checker, &mut Counted::new(REFUTATION));
-    let ended = added && is_ended(alloc, &mut checker, &answer);
+    let ended = add_four(&mut checker, failing, at)
+        && (if with_own {
+            is_ended_with_own(alloc, &mut checker, told(0, failing, at))
+        } else {
+            is_ended(alloc, &mut checker, Call::Steps(REFUTATION))
+        })
+        && has_failed(alloc, &mut checker);
     let left = are_done(checker.into_processors(), 2);
     ended && left
 }
 
 /// The places, and each announcement at which the one there is called.
-const FAULTS: [(usize, &[usize]); 5] = [
+static FAULTS: [(usize, &[usize]); 5] = [
     (0, &[1, 2, 3, 4, 5, 6]),
     (1, &[1, 2, 3, 4, 5, 6]),
     (2, &[1, 2, 3, 4, 5, 6]),
@@ -90,10 +90,14 @@ const FAULTS: [(usize, &[usize]); 5] = [
     (4, &[1, 2, 3, 4, 6]),
 ];
 
+fn faults() -> &'static [(usize, &'static [usize])] {
+    &FAULTS
+}
+
 /// The first announcement at which a fault doesn't end the steps as it should.
 fn first_unended(alloc: Global, failing: usize, announcements: &[usize]) -> Option<usize> {
     for at in announcements {
-        if !ends_with_own(alloc, failing, *at) || failing > 0 && !ends_added(alloc, failing, *at) {
+        if !ends(alloc, failing, *at, true) || failing > 0 && !ends(alloc, failing, *at, false) {
             return Some(*at);
         }
     }
@@ -102,103 +106,118 @@ fn first_unended(alloc: Global, failing: usize, announcements: &[usize]) -> Opti
 
 #[test]
 fn faults_end_steps(rt: HostRuntime) {
-    for &(place, announcements) in &FAULTS {
+    for &(place, announcements) in faults() {
         let unended = first_unended(rt.alloc(), place, announcements);
         assert!(rt; unended == None, "{place}");
     }
 }
 
-/// Adds a processor and a transcript that take so many clauses of the formula.
-fn add_front(checker: &mut Heard, count: usize) -> bool {
-    add_listener(checker, told(0, 1, count)) && add_reader(checker, said(0, 1, count))
+const TAKEN: Answer = (None, false, false);
+
+const FAULT: Answer = (Some(Kind::NoMore), false, false);
+
+const HAS_FAILED: Answer = (Some(Kind::HasFailed), false, false);
+
+/// A formula of four clauses is taken, and the checker goes on.
+fn taken(call: Call) -> [Answered; 2] {
+    [(call, TAKEN), (Call::Proof(END), (None, false, true))]
 }
 
-/// Whether a formula of four clauses is taken whole, or ended by a fault behind so many.
-fn is_taken_or_ended(checker: &mut Heard, count: usize, error: Option<Kind>) -> bool {
+/// A formula is ended by a fault, and the checker has failed.
+fn ended(call: Call) -> [Answered; 4] {
+    [
+        (call, FAULT),
+        (Call::Proof(END), HAS_FAILED),
+        (Call::Clause(&[]), HAS_FAILED),
+        (Call::Settle, HAS_FAILED),
+    ]
+}
+
+/// Whether a formula's clauses are told up to the first that isn't awaited, where so many are.
+fn is_told_up_to(alloc: Global, call: Call, count: usize) -> bool {
+    let (told, said) = (told(0, 1, count), said(0, 1, count));
     if count == 4 {
-        return error.is_none() && !has_failed(checker);
-    }
-    error == Some(Kind::ProofProcessorError) && has_failed(checker)
-}
-
-fn hears_formula(alloc: Global, count: usize) -> bool {
-    let mut checker = Heard::telling(alloc);
-    let added = add_front(&mut checker, count);
-    let error = add_all(alloc, &mut checker);
-    let ended = added && is_taken_or_ended(&mut checker, count, error);
-    let left = are_done(checker.into_processors(), 1);
-    ended && left
-}
-
-/// The kind of the checker's own error, of those that a formula's text may be answered by.
-fn own_error(answer: &Result<(), CheckerDimacsError>) -> Option<Kind> {
-    match dimacs_failure(answer) {
-        None => None,
-        Some(DimacsKind::Checker(kind)) => Some(kind),
-        Some(DimacsKind::Dimacs(_)) => Some(Kind::ParseError),
+        are_heard(alloc, told, said, &taken(call))
+    } else {
+        are_heard(alloc, told, said, &ended(call))
     }
 }
 
-fn hears_text(alloc: Global, count: usize) -> bool {
-    let mut checker = Heard::telling(alloc);
-    let added = add_front(&mut checker, count);
-    let error = own_error(&checker.add_dimacs_cnf(&mut Counted::new(PAIRS)));
-    let ended = added && is_taken_or_ended(&mut checker, count, error);
-    let left = are_done(checker.into_processors(), 1);
-    ended && left
+/// The first number of clauses behind which a fault doesn't end a formula, as such or as its text.
+fn first_untold(alloc: Global) -> Option<usize> {
+    for count in 0..5 {
+        if !is_told_up_to(alloc, Call::Formula(proofs::PAIRS), count)
+            || !is_told_up_to(alloc, Call::Dimacs(PAIRS), count)
+        {
+            return Some(count);
+        }
+    }
+    None
 }
 
-/// A formula's clauses are told, whether they come as a formula or as its text, up to a fault.
 #[test]
 fn faults_end_formulas(rt: HostRuntime) {
-    for count in 0..5 {
-        assert!(rt; hears_formula(rt.alloc(), count), "{count}");
-        assert!(rt; hears_text(rt.alloc(), count), "{count}");
-    }
+    let wrong = first_untold(rt.alloc());
+    assert!(rt; wrong == None, "{wrong:?}");
 }
 
-/// Adds a processor and a transcript, and feeds the contradicting units.
-fn takes_units(
-    alloc: Global,
-    checker: &mut Heard,
-    told: &'static [Told],
-    said: &'static [Said],
-) -> bool {
-    add_listener(checker, told)
-        && add_reader(checker, said)
-        && read_by(alloc, checker, &mut Counted::new(UNITS)).is_ok()
-}
+const UNSAT: Answer = (None, true, false);
 
-/// Whether a fault at the empty clause of a unit conflict ends what is delayed.
-fn ends_delayed(alloc: Global, told: &'static [Told], said: &'static [Said]) -> bool {
-    let mut checker = Heard::telling(alloc);
-    let taken = takes_units(alloc, &mut checker, told, said);
-    let answer = checker.self_check_delayed_steps();
-    let ended = taken && is_ended(alloc, &mut checker, &answer);
-    let left = are_done(checker.into_processors(), 1);
-    ended && left
-}
+const UNSAT_FAULT: Answer = (Some(Kind::NoMore), true, false);
 
-/// As `ends_delayed`, by the end of a proof.
-fn ends_proof(alloc: Global, told: &'static [Told], said: &'static [Said]) -> bool {
-    let mut checker = Heard::telling(alloc);
-    let taken = takes_units(alloc, &mut checker, told, said);
-    let answer = checker.check_proof(&mut Counted::new(END));
-    let ended = taken && is_ended(alloc, &mut checker, &answer) && !checker.ended();
-    let left = are_done(checker.into_processors(), 1);
-    ended && left
-}
+const UNSAT_HAS_FAILED: Answer = (Some(Kind::HasFailed), true, false);
 
-/// A processor answers a fault to the empty clause, and a transcript does.
-const DELAYED: [(&[Told], &[Said]); 2] = [
-    (CONFLICT_BEFORE, CONFLICT_SAID_BEFORE),
-    (CONFLICT, CONFLICT_SAID_BEFORE),
+/// A fault at the empty clause of a unit conflict ends what is delayed.
+const SETTLED: &[Answered] = &[
+    (Call::Steps(UNITS), UNSAT),
+    (Call::Settle, UNSAT_FAULT),
+    (Call::Proof(END), UNSAT_HAS_FAILED),
+    (Call::Clause(&[]), UNSAT_HAS_FAILED),
+    (Call::Settle, UNSAT_HAS_FAILED),
 ];
+
+/// The same by the end of a proof.
+const ENDED: &[Answered] = &[
+    (Call::Steps(UNITS), UNSAT),
+    (Call::Proof(END), UNSAT_FAULT),
+    (Call::Proof(END), UNSAT_HAS_FAILED),
+    (Call::Clause(&[]), UNSAT_HAS_FAILED),
+    (Call::Settle, UNSAT_HAS_FAILED),
+];
+
+static DELAYED: [HeardCalls; 4] = [
+    (
+        "a processor answers a fault to the empty clause that is settled",
+        CONFLICT_BEFORE,
+        CONFLICT_SAID_BEFORE,
+        SETTLED,
+    ),
+    (
+        "a processor answers a fault to the empty clause at the end",
+        CONFLICT_BEFORE,
+        CONFLICT_SAID_BEFORE,
+        ENDED,
+    ),
+    (
+        "a transcript answers a fault to the empty clause that is settled",
+        CONFLICT,
+        CONFLICT_SAID_BEFORE,
+        SETTLED,
+    ),
+    (
+        "a transcript answers a fault to the empty clause at the end",
+        CONFLICT,
+        CONFLICT_SAID_BEFORE,
+        ENDED,
+    ),
+];
+
+fn delayed() -> &'static [HeardCalls] {
+    &DELAYED
+}
 
 #[test]
 fn faults_end_delayed_steps(rt: HostRuntime) {
-    for &(told, said) in &DELAYED {
-        assert!(rt; ends_delayed(rt.alloc(), told, said));
-        assert!(rt; ends_proof(rt.alloc(), told, said));
-    }
+    let wrong = first_unheard(rt.alloc(), delayed());
+    assert!(rt; wrong == None, "{wrong:?}");
 }

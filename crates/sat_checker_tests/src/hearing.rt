@@ -1,12 +1,13 @@
 //! Who waits for a list of announcements, or of steps of a transcript, and answers a fault to any other.
 
+use crate::calls::{Answered, answers};
+use crate::kinds::NO_MORE;
 use anyhow::anyhow;
 use sat_base::{Lit, Var};
 use sat_checker::variables::Variables;
 use sat_checker::{
-    CheckedProofStep, CheckedSamplingMode, CheckedUserVar, Checker, CheckerData, CheckerError,
-    Processors, ProofProcessor, ProofTranscriptProcessor, ProofTranscriptStep,
-    ResolutionPropagations,
+    CheckedProofStep, CheckedSamplingMode, CheckedUserVar, Checker, CheckerData, Processors,
+    ProofProcessor, ProofTranscriptProcessor, ProofTranscriptStep, ResolutionPropagations,
 };
 use std::alloc::Global;
 
@@ -130,224 +131,145 @@ fn is_user_var(told: Told, var: Var, user_var: Option<CheckedUserVar>) -> bool {
     }
 }
 
-fn is_added(told: Told, id: u64, clause: &[Lit]) -> bool {
-    match told {
-        Told::AddClause(wanted, numbers) => id == wanted && are_numbers(clause, numbers),
-        _ => false,
-    }
-}
+/// What an announcement is.
+const NAMED: u8 = 0;
 
-fn is_duplicated(told: Told, id: u64, same_as_id: u64, clause: &[Lit]) -> bool {
-    match told {
-        Told::DuplicatedClause(wanted, same, numbers) => {
-            id == wanted && same_as_id == same && are_numbers(clause, numbers)
-        }
-        _ => false,
-    }
-}
+const ADDED: u8 = 1;
 
-fn is_tautological(told: Told, id: u64, clause: &[Lit]) -> bool {
-    match told {
-        Told::TautologicalClause(wanted, numbers) => id == wanted && are_numbers(clause, numbers),
-        _ => false,
-    }
-}
+const DUPLICATED: u8 = 2;
 
-fn is_derived(told: Told, id: u64, redundant: bool, clause: &[Lit], ids: &[u64]) -> bool {
-    match told {
-        Told::AtClause(wanted, flag, numbers, propagations) => {
-            id == wanted
-                && redundant == flag
-                && are_numbers(clause, numbers)
-                && are_ids(ids, propagations)
-        }
-        _ => false,
-    }
-}
+const TAUTOLOGICAL: u8 = 3;
 
-fn is_made_irredundant(told: Told, id: u64, clause: &[Lit]) -> bool {
-    match told {
-        Told::MakeIrredundant(wanted, numbers) => id == wanted && are_numbers(clause, numbers),
-        _ => false,
-    }
-}
+const DERIVED: u8 = 4;
 
-fn is_deleted(told: Told, id: u64, clause: &[Lit]) -> bool {
-    match told {
-        Told::DeleteClause(wanted, numbers) => id == wanted && are_numbers(clause, numbers),
-        _ => false,
-    }
-}
+const MADE_IRREDUNDANT: u8 = 5;
 
-fn is_deleted_by(told: Told, id: u64, kept: bool, clause: &[Lit], ids: &[u64]) -> bool {
-    match told {
-        Told::DeleteAtClause(wanted, flag, numbers, propagations) => {
-            id == wanted
-                && kept == flag
-                && are_numbers(clause, numbers)
-                && are_ids(ids, propagations)
-        }
-        _ => false,
-    }
-}
+const DELETED: u8 = 6;
 
-fn is_model(told: Told, assignment: &[Lit]) -> bool {
-    match told {
-        Told::Model(numbers) => are_numbers(assignment, numbers),
-        _ => false,
-    }
-}
+const DELETED_BY: u8 = 7;
 
-fn is_assumed(told: Told, assumptions: &[Lit]) -> bool {
-    match told {
-        Told::Assumptions(numbers) => are_numbers(assumptions, numbers),
-        _ => false,
-    }
-}
+const MODEL: u8 = 8;
 
-fn is_failed_core(told: Told, core: &[Lit], ids: &[u64]) -> bool {
-    match told {
-        Told::FailedAssumptions(numbers, propagations) => {
-            are_numbers(core, numbers) && are_ids(ids, propagations)
-        }
-        _ => false,
-    }
-}
+const ASSUMED: u8 = 9;
 
-/// Whether this is announced of a clause that comes.
-fn is_told_of_new(step: &CheckedProofStep<'_>, told: Told) -> bool {
+const FAILED: u8 = 10;
+
+/// None of these.
+const OTHER: u8 = 11;
+
+const NONE: Ids = [NO; 4];
+
+/// What an announcement is, its id, another id, a flag, its literals and its propagations.
+type Found<'a> = (u8, u64, u64, bool, &'a [Lit], &'a [u64]);
+
+/// The same of one that is awaited.
+type Awaited = (u8, u64, u64, bool, Numbers, Ids);
+
+fn parts_of<'a>(step: &CheckedProofStep<'a>) -> Found<'a> {
     match *step {
-        CheckedProofStep::AddClause { id, clause } => is_added(told, id, clause),
+        CheckedProofStep::AddClause { id, clause } => (ADDED, id, 0, false, clause, &[]),
         CheckedProofStep::DuplicatedClause {
             id,
             same_as_id,
             clause,
-        } => is_duplicated(told, id, same_as_id, clause),
-        CheckedProofStep::TautologicalClause { id, clause } => is_tautological(told, id, clause),
+        } => (DUPLICATED, id, same_as_id, false, clause, &[]),
+        CheckedProofStep::TautologicalClause { id, clause } => {
+            (TAUTOLOGICAL, id, 0, false, clause, &[])
+        }
         CheckedProofStep::AtClause {
             id,
             redundant,
             clause,
             propagations,
-        } => is_derived(told, id, redundant, clause, propagations),
-        _ => false,
-    }
-}
-
-/// Whether this is announced of a clause that is stored.
-fn is_told_of_stored(step: &CheckedProofStep<'_>, told: Told) -> bool {
-    match *step {
-        CheckedProofStep::MakeIrredundant { id, clause } => is_made_irredundant(told, id, clause),
-        CheckedProofStep::DeleteClause { id, clause } => is_deleted(told, id, clause),
+        } => (DERIVED, id, 0, redundant, clause, propagations),
+        CheckedProofStep::MakeIrredundant { id, clause } => {
+            (MADE_IRREDUNDANT, id, 0, false, clause, &[])
+        }
+        CheckedProofStep::DeleteClause { id, clause } => (DELETED, id, 0, false, clause, &[]),
         CheckedProofStep::DeleteAtClause {
             id,
             keep_as_redundant,
             clause,
             propagations,
-        } => is_deleted_by(told, id, keep_as_redundant, clause, propagations),
-        _ => false,
-    }
-}
-
-/// Whether this is announced of a variable's name or of an answer.
-fn is_told_of_other(step: &CheckedProofStep<'_>, told: Told) -> bool {
-    match *step {
-        CheckedProofStep::UserVar { var, user_var } => is_user_var(told, var, user_var),
-        CheckedProofStep::Model { assignment } => is_model(told, assignment),
-        CheckedProofStep::Assumptions { assumptions } => is_assumed(told, assumptions),
+        } => (DELETED_BY, id, 0, keep_as_redundant, clause, propagations),
+        CheckedProofStep::Model { assignment } => (MODEL, 0, 0, false, assignment, &[]),
+        CheckedProofStep::Assumptions { assumptions } => (ASSUMED, 0, 0, false, assumptions, &[]),
         CheckedProofStep::FailedAssumptions {
             failed_core,
             propagations,
-        } => is_failed_core(told, failed_core, propagations),
-        _ => false,
+        } => (FAILED, 0, 0, false, failed_core, propagations),
+        _ => (OTHER, 0, 0, false, &[], &[]),
     }
+}
+
+fn awaited_parts(told: Told) -> Awaited {
+    match told {
+        Told::UserVar(..) | Told::NoName(_) => (NAMED, 0, 0, false, [0; 3], NONE),
+        Told::AddClause(id, clause) => (ADDED, id, 0, false, clause, NONE),
+        Told::DuplicatedClause(id, same, clause) => (DUPLICATED, id, same, false, clause, NONE),
+        Told::TautologicalClause(id, clause) => (TAUTOLOGICAL, id, 0, false, clause, NONE),
+        Told::AtClause(id, redundant, clause, ids) => (DERIVED, id, 0, redundant, clause, ids),
+        Told::MakeIrredundant(id, clause) => (MADE_IRREDUNDANT, id, 0, false, clause, NONE),
+        Told::DeleteClause(id, clause) => (DELETED, id, 0, false, clause, NONE),
+        Told::DeleteAtClause(id, kept, clause, ids) => (DELETED_BY, id, 0, kept, clause, ids),
+        Told::Model(assignment) => (MODEL, 0, 0, false, assignment, NONE),
+        Told::Assumptions(assumptions) => (ASSUMED, 0, 0, false, assumptions, NONE),
+        Told::FailedAssumptions(core, ids) => (FAILED, 0, 0, false, core, ids),
+    }
+}
+
+fn are_same(found: Found<'_>, awaited: Awaited) -> bool {
+    let (what, id, same, flag, lits, ids) = found;
+    let (wanted, wanted_id, wanted_same, wanted_flag, numbers, wanted_ids) = awaited;
+    (what, id, same, flag) == (wanted, wanted_id, wanted_same, wanted_flag)
+        && are_numbers(lits, numbers)
+        && are_ids(ids, wanted_ids)
 }
 
 /// Whether this is announced.
 fn is_told(step: &CheckedProofStep<'_>, told: Told) -> bool {
-    is_told_of_new(step, told) || is_told_of_stored(step, told) || is_told_of_other(step, told)
-}
-
-fn is_witness(said: Said, var: Var) -> bool {
-    match said {
-        Said::WitnessVar(number) => var.to_dimacs() == number,
-        _ => false,
+    match *step {
+        CheckedProofStep::UserVar { var, user_var } => is_user_var(told, var, user_var),
+        _ => are_same(parts_of(step), awaited_parts(told)),
     }
 }
 
-fn is_sampled(said: Said, var: Var) -> bool {
-    match said {
-        Said::SampleVar(number) => var.to_dimacs() == number,
-        _ => false,
+/// What a transcript says, of which variable, and its literals.
+fn said_parts<'a>(step: &ProofTranscriptStep<'a>) -> (u8, i64, &'a [Lit]) {
+    match *step {
+        ProofTranscriptStep::WitnessVar { var } => (0, var.to_dimacs(), &[]),
+        ProofTranscriptStep::SampleVar { var } => (1, var.to_dimacs(), &[]),
+        ProofTranscriptStep::HideVar { var } => (2, var.to_dimacs(), &[]),
+        ProofTranscriptStep::ObserveInternalVar { var } => (3, var.to_dimacs(), &[]),
+        ProofTranscriptStep::AddClause { clause } => (4, 0, clause),
+        ProofTranscriptStep::Unsat => (5, 0, &[]),
+        ProofTranscriptStep::Model { assignment } => (6, 0, assignment),
+        ProofTranscriptStep::Assume { assumptions } => (7, 0, assumptions),
+        ProofTranscriptStep::FailedAssumptions { failed_core } => (8, 0, failed_core),
     }
 }
 
-fn is_hidden(said: Said, var: Var) -> bool {
+/// The same of what is awaited.
+fn awaited_said(said: Said) -> (u8, i64, Numbers) {
     match said {
-        Said::HideVar(number) => var.to_dimacs() == number,
-        _ => false,
-    }
-}
-
-fn is_observed(said: Said, var: Var) -> bool {
-    match said {
-        Said::ObserveInternalVar(number) => var.to_dimacs() == number,
-        _ => false,
-    }
-}
-
-fn is_input(said: Said, clause: &[Lit]) -> bool {
-    match said {
-        Said::AddClause(numbers) => are_numbers(clause, numbers),
-        _ => false,
-    }
-}
-
-fn is_unsat(said: Said) -> bool {
-    match said {
-        Said::Unsat => true,
-        _ => false,
-    }
-}
-
-fn is_modelled(said: Said, assignment: &[Lit]) -> bool {
-    match said {
-        Said::Model(numbers) => are_numbers(assignment, numbers),
-        _ => false,
-    }
-}
-
-fn is_assuming(said: Said, assumptions: &[Lit]) -> bool {
-    match said {
-        Said::Assume(numbers) => are_numbers(assumptions, numbers),
-        _ => false,
-    }
-}
-
-fn is_failing(said: Said, core: &[Lit]) -> bool {
-    match said {
-        Said::FailedAssumptions(numbers) => are_numbers(core, numbers),
-        _ => false,
+        Said::WitnessVar(number) => (0, number, [0; 3]),
+        Said::SampleVar(number) => (1, number, [0; 3]),
+        Said::HideVar(number) => (2, number, [0; 3]),
+        Said::ObserveInternalVar(number) => (3, number, [0; 3]),
+        Said::AddClause(clause) => (4, 0, clause),
+        Said::Unsat => (5, 0, [0; 3]),
+        Said::Model(assignment) => (6, 0, assignment),
+        Said::Assume(assumptions) => (7, 0, assumptions),
+        Said::FailedAssumptions(core) => (8, 0, core),
     }
 }
 
 /// Whether a transcript says this.
 fn is_said(step: &ProofTranscriptStep<'_>, said: Said) -> bool {
-    match *step {
-        ProofTranscriptStep::WitnessVar { var } => is_witness(said, var),
-        ProofTranscriptStep::SampleVar { var } => is_sampled(said, var),
-        ProofTranscriptStep::HideVar { var } => is_hidden(said, var),
-        ProofTranscriptStep::ObserveInternalVar { var } => is_observed(said, var),
-        ProofTranscriptStep::AddClause { clause } => is_input(said, clause),
-        ProofTranscriptStep::Unsat => is_unsat(said),
-        ProofTranscriptStep::Model { assignment } => is_modelled(said, assignment),
-        ProofTranscriptStep::Assume { assumptions } => is_assuming(said, assumptions),
-        ProofTranscriptStep::FailedAssumptions { failed_core } => is_failing(said, failed_core),
-    }
+    let (what, number, lits) = said_parts(step);
+    let (wanted, wanted_number, numbers) = awaited_said(said);
+    what == wanted && number == wanted_number && are_numbers(lits, numbers)
 }
-
-/// What a listener answers where it waits for nothing more.
-pub(crate) const NO_MORE: &str = "no more is awaited";
 
 const ANOTHER: &str = "another one is awaited";
 
@@ -450,21 +372,6 @@ pub(crate) fn add_reader(checker: &mut Heard, awaited: &'static [Said]) -> bool 
     checker.add_transcript(Reader::new(awaited)).is_ok()
 }
 
-fn is_text(alloc: Global, cause: &anyhow::Error, text: &str) -> bool {
-    match format!(in alloc; "{cause}") {
-        Ok(printed) => printed.as_str() == text,
-        Err(_) => false,
-    }
-}
-
-/// Whether somebody who listens has answered this fault.
-pub(crate) fn is_fault(alloc: Global, answer: &Result<(), CheckerError>, text: &str) -> bool {
-    match answer {
-        Err(CheckerError::ProofProcessorError { cause }) => is_text(alloc, cause, text),
-        _ => false,
-    }
-}
-
 fn processors_are_done(processors: &[Listener]) -> bool {
     for processor in processors {
         if !processor.is_done() {
@@ -489,4 +396,37 @@ pub(crate) fn are_done(given_back: Processors<Listener, Reader>, count: usize) -
         && given_back.transcripts.len() == count
         && processors_are_done(&given_back.processors)
         && transcripts_are_done(&given_back.transcripts)
+}
+
+/// Whether a processor and a transcript that listen to a new checker are told this, and no more, of calls that are answered so.
+pub(crate) fn are_heard(
+    alloc: Global,
+    told: &'static [Told],
+    said: &'static [Said],
+    calls: &[Answered],
+) -> bool {
+    let mut checker = Heard::telling(alloc);
+    let right = add_listener(&mut checker, told)
+        && add_reader(&mut checker, said)
+        && answers(alloc, &mut checker, calls);
+    let left = are_done(checker.into_processors(), 1);
+    right && left
+}
+
+/// What some calls are about, what is told and said of them, and the calls.
+pub(crate) type HeardCalls = (
+    &'static str,
+    &'static [Told],
+    &'static [Said],
+    &'static [Answered],
+);
+
+/// What the first calls are about of which something else is told or said, or that are answered otherwise.
+pub(crate) fn first_unheard(alloc: Global, rows: &[HeardCalls]) -> Option<&'static str> {
+    for row in rows {
+        if !are_heard(alloc, row.1, row.2, row.3) {
+            return Some(row.0);
+        }
+    }
+    None
 }

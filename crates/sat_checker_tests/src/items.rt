@@ -1,13 +1,14 @@
 //! Hashes, sets of literals, and what is known of variables.
 
-use sat_base::{ClauseHash, Counted, HashBits, Lit, Var};
+use crate::calls::{Call, error_of};
+use sat_base::{ClauseHash, HashBits, Lit, Var};
 use sat_checker::sorted_lits::{copy_canonical, is_subset};
 use sat_checker::variables::Variables;
 use sat_checker::{Checker, ClauseHasher};
 use std::alloc::Global;
 
 /// The hash of [1,2] by width.
-const HASHES: [(u32, ClauseHash); 4] = [(64, 0x449114950295082a), (8, 0x44), (6, 17), (0, 0)];
+static HASHES: [(u32, ClauseHash); 4] = [(64, 0x449114950295082a), (8, 0x44), (6, 17), (0, 0)];
 
 /// Names two variables, sets the width, and hashes a clause of the two.
 fn named_hash(hasher: &mut ClauseHasher, bits: HashBits) -> Option<ClauseHash> {
@@ -61,12 +62,16 @@ fn have_numbers(lits: &[Lit], numbers: &[i64]) -> bool {
 }
 
 /// Literals, the sorted set of them, and whether both signs of a variable are among them.
-const SETS: [([i64; 3], &[i64], bool); 4] = [
+static SETS: [([i64; 3], &[i64], bool); 4] = [
     ([2, 1, 1], &[1, 2], false),
     ([-1, 3, 1], &[1, -1, 3], true),
     ([2, 2, 2], &[2], false),
     ([-3, -1, 2], &[-1, 2, -3], false),
 ];
+
+fn sets() -> &'static [([i64; 3], &'static [i64], bool)] {
+    &SETS
+}
 
 /// Whether the sorted set of literals is this one, and the answer of `copy_canonical` this.
 fn is_set_of(alloc: Global, numbers: [i64; 3], wanted: &[i64], both: bool) -> bool {
@@ -79,18 +84,22 @@ fn is_set_of(alloc: Global, numbers: [i64; 3], wanted: &[i64], both: bool) -> bo
 
 #[test]
 fn sets_are_sorted(rt: HostRuntime) {
-    for &(numbers, wanted, both) in &SETS {
+    for &(numbers, wanted, both) in sets() {
         assert!(rt; is_set_of(rt.alloc(), numbers, wanted, both), "{wanted:?}");
     }
 }
 
 /// Two sets, whether the first is a part of the second, and whether a strict one.
-const PARTS: [([i64; 3], [i64; 3], bool, bool); 4] = [
+static PARTS: [([i64; 3], [i64; 3], bool, bool); 4] = [
     ([1, 2, 2], [2, 1, 3], true, true),
     ([1, 2, 3], [3, 2, 1], true, false),
     ([1, -2, 3], [3, 2, 1], false, false),
     ([1, 2, 3], [2, 1, 1], false, false),
 ];
+
+fn parts() -> &'static [([i64; 3], [i64; 3], bool, bool)] {
+    &PARTS
+}
 
 /// Whether the sorted set of literals is a part of that of others.
 #[tactic(auto, using(sat_checker::proofs::lemmas::sets::Canonical::canonical_increasing))]
@@ -108,7 +117,7 @@ fn is_part(alloc: Global, first: [i64; 3], second: [i64; 3], strict: bool) -> Op
 
 #[test]
 fn parts_are_told(rt: HostRuntime) {
-    for &(first, second, part, strict_part) in &PARTS {
+    for &(first, second, part, strict_part) in parts() {
         assert!(rt; is_part(rt.alloc(), first, second, false) == Some(part));
         assert!(rt; is_part(rt.alloc(), first, second, true) == Some(strict_part));
     }
@@ -118,7 +127,7 @@ fn parts_are_told(rt: HostRuntime) {
 type Told = (Option<usize>, bool, bool);
 
 /// Steps, and what is told then.
-const TOLD: [(&[u8], Told); 8] = [
+static TOLD: [(&[u8], Told); 8] = [
     (&[], (None, false, false)),
     (&[2, 0, 5], (Some(4), true, false)),
     (&[2, 0, 5, 2, 0, 0], (None, true, false)),
@@ -129,9 +138,13 @@ const TOLD: [(&[u8], Told); 8] = [
     (&[11, 1, 3, 11, 0, 3, 1], (None, false, true)),
 ];
 
-fn told(alloc: Global, text: &[u8]) -> Told {
+fn rows_of_told() -> &'static [(&'static [u8], Told)] {
+    &TOLD
+}
+
+fn told(alloc: Global, text: &'static [u8]) -> Told {
     let mut checker = Checker::new(alloc);
-    let _incomplete = checker.check_proof(&mut Counted::new(text));
+    let _incomplete = error_of(alloc, &mut checker, Call::Proof(text));
     let var = Var::from_index(0);
     let name = checker.user_name(var).map(|name| name.index());
     let told = (name, checker.knows(var), checker.var_deleted());
@@ -141,7 +154,7 @@ fn told(alloc: Global, text: &[u8]) -> Told {
 
 #[test]
 fn variables_are_told(rt: HostRuntime) {
-    for (text, wanted) in &TOLD {
+    for (text, wanted) in rows_of_told() {
         assert!(rt; told(rt.alloc(), *text) == *wanted, "{text:?}");
     }
 }

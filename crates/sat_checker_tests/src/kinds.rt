@@ -2,8 +2,12 @@
 
 use sat_base::DimacsError;
 use sat_checker::{CheckerDimacsError, CheckerError};
+use std::alloc::Global;
 
-/// What a `CheckerError` is, whatever its cause.
+/// What somebody who listens answers where nothing more is awaited.
+pub(crate) const NO_MORE: &str = "no more is awaited";
+
+/// What a `CheckerError` or a `CheckerDimacsError` is, whatever its cause.
 #[derive(Clone, Copy, PartialEq)]
 pub(crate) enum Kind {
     ProofIncomplete,
@@ -11,50 +15,56 @@ pub(crate) enum Kind {
     ParseError,
     CheckFailed,
     ProofProcessorError,
+    /// The same, caused by the fault that nothing more is awaited.
+    NoMore,
     OutOfMemory,
     CounterEnd,
     HasFailed,
+    Dimacs(DimacsError),
 }
 
-pub(crate) fn kind_of(error: &CheckerError) -> Kind {
+fn kind_of_cause(alloc: Global, cause: &anyhow::Error) -> Kind {
+    match format!(in alloc; "{cause}") {
+        Ok(text) => {
+            if text.as_str() == NO_MORE {
+                Kind::NoMore
+            } else {
+                Kind::ProofProcessorError
+            }
+        }
+        Err(_) => Kind::OutOfMemory,
+    }
+}
+
+fn kind_of(alloc: Global, error: &CheckerError) -> Kind {
     match error {
         CheckerError::ProofIncomplete => Kind::ProofIncomplete,
         CheckerError::IoError => Kind::IoError,
         CheckerError::ParseError => Kind::ParseError,
         CheckerError::CheckFailed => Kind::CheckFailed,
-        CheckerError::ProofProcessorError { .. } => Kind::ProofProcessorError,
+        CheckerError::ProofProcessorError { cause } => kind_of_cause(alloc, cause),
         CheckerError::OutOfMemory => Kind::OutOfMemory,
         CheckerError::CounterEnd => Kind::CounterEnd,
         CheckerError::HasFailed => Kind::HasFailed,
     }
 }
 
-/// What a `CheckerDimacsError` is, whatever its cause.
-#[derive(Clone, Copy, PartialEq)]
-pub(crate) enum DimacsKind {
-    Dimacs(DimacsError),
-    Checker(Kind),
-}
-
-pub(crate) fn kind_of_dimacs(error: &CheckerDimacsError) -> DimacsKind {
-    match error {
-        CheckerDimacsError::Dimacs(error) => DimacsKind::Dimacs(*error),
-        CheckerDimacsError::Checker(error) => DimacsKind::Checker(kind_of(error)),
+/// The kind of an answer's error, if it is one.
+pub(crate) fn failure(alloc: Global, answer: &Result<(), CheckerError>) -> Option<Kind> {
+    match answer {
+        Ok(()) => None,
+        Err(error) => Some(kind_of(alloc, error)),
     }
 }
 
 /// The kind of an answer's error, if it is one.
-pub(crate) fn failure(answer: &Result<(), CheckerError>) -> Option<Kind> {
+pub(crate) fn dimacs_failure(
+    alloc: Global,
+    answer: &Result<(), CheckerDimacsError>,
+) -> Option<Kind> {
     match answer {
         Ok(()) => None,
-        Err(error) => Some(kind_of(error)),
-    }
-}
-
-/// The kind of an answer's error, if it is one.
-pub(crate) fn dimacs_failure(answer: &Result<(), CheckerDimacsError>) -> Option<DimacsKind> {
-    match answer {
-        Ok(()) => None,
-        Err(error) => Some(kind_of_dimacs(error)),
+        Err(CheckerDimacsError::Dimacs(error)) => Some(Kind::Dimacs(*error)),
+        Err(CheckerDimacsError::Checker(error)) => Some(kind_of(alloc, error)),
     }
 }

@@ -1,12 +1,11 @@
 //! Steps in bytes, and what a checker answers to them, by the kind of the last step.
 
+use crate::calls::Answer;
 use crate::kinds::Kind;
 use crate::{proofs, steps};
 use std::alloc::Global;
 
-/// What a checker answers to steps: the first error, and whether unsat is recorded and it has ended.
-pub(crate) type Answer = (Option<Kind>, bool, bool);
-
+/// Steps, and what is answered to them: the first error, and whether unsat is recorded and the checker has ended.
 pub(crate) type Row = (&'static [u8], Answer);
 
 const ENDED: Answer = (None, false, true);
@@ -22,18 +21,30 @@ const UNSAT: Answer = (None, true, false);
 /// Refused where unsat is recorded.
 const UNSAT_REFUSED: Answer = (Some(Kind::CheckFailed), true, false);
 
-/// What the next call answers: a refused step is the last.
-pub(crate) fn next_error(answer: &Answer) -> Option<Kind> {
-    if answer.0.is_some() {
-        Some(Kind::HasFailed)
+/// What steps are answered by as a proof: where they are accepted and none is the end, it is incomplete.
+fn proof_answer((error, unsat, ended): Answer) -> Answer {
+    if error.is_none() && !ended {
+        (Some(Kind::ProofIncomplete), unsat, ended)
     } else {
-        None
+        (error, unsat, ended)
     }
 }
 
-/// Whether steps are answered so, one by one and as a proof, read whole and in pieces of one byte.
+/// What is answered then to an empty clause, and to an end: a refused step is the last.
+fn behind((error, unsat, ended): Answer) -> (Answer, Answer) {
+    if error.is_some() {
+        let failed = (Some(Kind::HasFailed), unsat, ended);
+        (failed, failed)
+    } else {
+        ((None, true, ended), (None, unsat, true))
+    }
+}
+
+/// Whether steps are answered so, one by one and as a proof, and so what comes behind them.
 fn is_answered(alloc: Global, row: &Row) -> bool {
-    steps::is_answered(alloc, row) && proofs::is_answered(alloc, row)
+    let (clause, end) = behind(row.1);
+    steps::is_answered(alloc, row.0, row.1, clause)
+        && proofs::is_answered(alloc, row.0, proof_answer(row.1), end)
 }
 
 /// The first steps of some rows that are answered otherwise.
@@ -477,9 +488,40 @@ static ANSWERS: [Row; 32] = [
     (&[5, 0, 12, 0, 0], UNSAT_REFUSED),
 ];
 
+fn proofs_rows() -> &'static [Row] {
+    &PROOFS
+}
+
+fn names_rows() -> &'static [Row] {
+    &NAMES
+}
+
+fn variables_rows() -> &'static [Row] {
+    &VARIABLES
+}
+
+fn clauses_rows() -> &'static [Row] {
+    &CLAUSES
+}
+
+fn deletions_rows() -> &'static [Row] {
+    &DELETIONS
+}
+
+fn answers_rows() -> &'static [Row] {
+    &ANSWERS
+}
+
 #[test]
 fn steps_are_answered(rt: HostRuntime) {
-    let tables: [&[Row]; 6] = [&PROOFS, &NAMES, &VARIABLES, &CLAUSES, &DELETIONS, &ANSWERS];
+    let tables = [
+        proofs_rows(),
+        names_rows(),
+        variables_rows(),
+        clauses_rows(),
+        deletions_rows(),
+        answers_rows(),
+    ];
     for rows in tables {
         let wrong = first_unanswered(rt.alloc(), rows);
         assert!(rt; wrong == None, "{wrong:?}");

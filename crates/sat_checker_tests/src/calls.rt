@@ -1,0 +1,206 @@
+//! Calls of a checker, one behind another, and what it answers to each.
+//!
+//! Tests are lists of calls, and one function makes them: that is cheap to prove.
+
+use crate::devices::by_one;
+use crate::kinds::{Kind, dimacs_failure, failure};
+use crate::steps::read_by;
+use sat_base::{CnfFormula, Counted, ExtendFormula, Lit};
+use sat_checker::{Checker, ProofProcessor, ProofTranscriptProcessor, SelfChecker};
+use std::alloc::Global;
+
+/// Clauses, by the numbers of their literals.
+pub(crate) type Clauses = &'static [&'static [i64]];
+
+/// A call of a checker. Of a text that is given byte by byte one read fails, counted from 1, or none where that is 0.
+#[derive(Clone, Copy)]
+pub(crate) enum Call {
+    Clause(&'static [i64]),
+    Formula(Clauses),
+    /// A formula's text.
+    Dimacs(&'static [u8]),
+    DimacsByOne(&'static [u8], u64),
+    /// Steps that are fed one by one.
+    Steps(&'static [u8]),
+    StepsByOne(&'static [u8]),
+    /// Steps that are fed as a proof.
+    Proof(&'static [u8]),
+    ProofByOne(&'static [u8], u64),
+    /// What is delayed is settled.
+    Settle,
+}
+
+/// What is answered to a call: the error, and whether unsat is recorded and the checker has ended then.
+pub(crate) type Answer = (Option<Kind>, bool, bool);
+
+/// A call, and what is answered to it.
+pub(crate) type Answered = (Call, Answer);
+
+/// What some calls of a new checker are about, and the calls.
+pub(crate) type Calls = (&'static str, &'static [Answered]);
+
+/// The end of a proof.
+pub(crate) const END: &[u8] = &[13];
+
+/// Adds the literals of these numbers. The answer is whether there was memory for them.
+fn push_lits(lits: &mut Vec<Lit>, numbers: &[i64]) -> bool {
+    for number in numbers {
+        let pushed = match Lit::from_dimacs(*number) {
+            Some(lit) => lits.push(lit).is_ok(),
+            None => false,
+        };
+        if !pushed {
+            return false;
+        }
+    }
+    true
+}
+
+/// A clause, if there is memory.
+fn clause_of(alloc: Global, numbers: &[i64]) -> Option<Vec<Lit>> {
+    let mut lits = Vec::new(alloc);
+    if push_lits(&mut lits, numbers) {
+        Some(lits)
+    } else {
+        None
+    }
+}
+
+fn add_clause<P: ProofProcessor, T: ProofTranscriptProcessor>(
+    alloc: Global,
+    checker: &mut Checker<P, T>,
+    numbers: &[i64],
+) -> Option<Kind> {
+    match clause_of(alloc, numbers) {
+        Some(lits) => failure(alloc, &checker.add_clause(lits.as_slice())),
+        None => Some(Kind::OutOfMemory),
+    }
+}
+
+/// Adds clauses to a formula. The answer is whether there was memory for them.
+fn fill(alloc: Global, formula: &mut CnfFormula, clauses: Clauses) -> bool {
+    for numbers in clauses {
+        let added = match clause_of(alloc, *numbers) {
+            Some(lits) => formula.add_clause(lits.as_slice()).is_ok(),
+            None => false,
+        };
+        if !added {
+            return false;
+        }
+    }
+    true
+}
+
+fn add_formula<P: ProofProcessor, T: ProofTranscriptProcessor>(
+    alloc: Global,
+    checker: &mut Checker<P, T>,
+    clauses: Clauses,
+) -> Option<Kind> {
+    let mut formula = CnfFormula::new(alloc);
+    if !fill(alloc, &mut formula, clauses) {
+        return Some(Kind::OutOfMemory);
+    }
+    failure(alloc, &checker.add_formula(&formula))
+}
+
+fn read<P: ProofProcessor, T: ProofTranscriptProcessor>(
+    alloc: Global,
+    checker: &mut Checker<P, T>,
+    text: &[u8],
+) -> Option<Kind> {
+    dimacs_failure(alloc, &checker.add_dimacs_cnf(&mut Counted::new(text)))
+}
+
+fn read_by_one<P: ProofProcessor, T: ProofTranscriptProcessor>(
+    alloc: Global,
+    checker: &mut Checker<P, T>,
+    text: &[u8],
+    failing: u64,
+) -> Option<Kind> {
+    dimacs_failure(alloc, &checker.add_dimacs_cnf(&mut by_one(text, failing)))
+}
+
+fn feed<P: ProofProcessor, T: ProofTranscriptProcessor>(
+    alloc: Global,
+    checker: &mut Checker<P, T>,
+    text: &[u8],
+) -> Option<Kind> {
+    failure(alloc, &read_by(alloc, checker, &mut Counted::new(text)))
+}
+
+fn feed_by_one<P: ProofProcessor, T: ProofTranscriptProcessor>(
+    alloc: Global,
+    checker: &mut Checker<P, T>,
+    text: &[u8],
+) -> Option<Kind> {
+    failure(alloc, &read_by(alloc, checker, &mut by_one(text, 0)))
+}
+
+fn check<P: ProofProcessor, T: ProofTranscriptProcessor>(
+    alloc: Global,
+    checker: &mut Checker<P, T>,
+    text: &[u8],
+) -> Option<Kind> {
+    failure(alloc, &checker.check_proof(&mut Counted::new(text)))
+}
+
+fn check_by_one<P: ProofProcessor, T: ProofTranscriptProcessor>(
+    alloc: Global,
+    checker: &mut Checker<P, T>,
+    text: &[u8],
+    failing: u64,
+) -> Option<Kind> {
+    failure(alloc, &checker.check_proof(&mut by_one(text, failing)))
+}
+
+/// The error that is answered to a call.
+pub(crate) fn error_of<P: ProofProcessor, T: ProofTranscriptProcessor>(
+    alloc: Global,
+    checker: &mut Checker<P, T>,
+    call: Call,
+) -> Option<Kind> {
+    match call {
+        Call::Clause(numbers) => add_clause(alloc, checker, numbers),
+        Call::Formula(clauses) => add_formula(alloc, checker, clauses),
+        Call::Dimacs(text) => read(alloc, checker, text),
+        Call::DimacsByOne(text, failing) => read_by_one(alloc, checker, text, failing),
+        Call::Steps(text) => feed(alloc, checker, text),
+        Call::StepsByOne(text) => feed_by_one(alloc, checker, text),
+        Call::Proof(text) => check(alloc, checker, text),
+        Call::ProofByOne(text, failing) => check_by_one(alloc, checker, text, failing),
+        Call::Settle => failure(alloc, &checker.self_check_delayed_steps()),
+    }
+}
+
+/// Whether a checker answers so to calls, one behind another.
+pub(crate) fn answers<P: ProofProcessor, T: ProofTranscriptProcessor>(
+    alloc: Global,
+    checker: &mut Checker<P, T>,
+    calls: &[Answered],
+) -> bool {
+    for (call, answer) in calls {
+        let error = error_of(alloc, checker, *call);
+        if (error, checker.unsat(), checker.ended()) != *answer {
+            return false;
+        }
+    }
+    true
+}
+
+/// Whether a new checker answers so to calls, one behind another.
+pub(crate) fn are_answered(alloc: Global, calls: &[Answered]) -> bool {
+    let mut checker = Checker::new(alloc);
+    let right = answers(alloc, &mut checker, calls);
+    drop(checker);
+    right
+}
+
+/// What the first calls are about that are answered otherwise.
+pub(crate) fn first_wrong(alloc: Global, rows: &[Calls]) -> Option<&'static str> {
+    for row in rows {
+        if !are_answered(alloc, row.1) {
+            return Some(row.0);
+        }
+    }
+    None
+}
