@@ -1,5 +1,6 @@
 //! Answers written and read.
 
+use crate::devices::is_printed;
 use certify::answers::read::{
     AnswerFault, AnswerKind, read_kind, read_line, read_outcome, take_text,
 };
@@ -8,22 +9,19 @@ use certify::answers::write::{
 };
 use sat_base::Lit;
 use std::alloc::{AllocError, Global};
-use std::test::Fail;
 
-/// Adds the literals of these numbers, 0 and numbers past the limit left out.
-fn push_lits(lits: &mut Vec<Lit>, numbers: &[i64]) -> Result<(), Fail> {
+/// Adds the literals of these numbers, 0 and numbers past the limit left out. The answer is whether there was memory.
+fn push_lits(lits: &mut Vec<Lit>, numbers: &[i64]) -> bool {
     for number in numbers {
-        if let Some(lit) = Lit::from_dimacs(*number) {
-            lits.push(lit)?;
+        let pushed = match Lit::from_dimacs(*number) {
+            Some(lit) => lits.push(lit).is_ok(),
+            None => true,
+        };
+        if !pushed {
+            return false;
         }
     }
-    Ok(())
-}
-
-fn lits(alloc: Global, numbers: &[i64]) -> Result<Vec<Lit>, Fail> {
-    let mut found = Vec::new(alloc);
-    push_lits(&mut found, numbers)?;
-    Ok(found)
+    true
 }
 
 /// An answer's kind, the numbers of its line, and its text.
@@ -42,6 +40,10 @@ static ANSWERS: [Answer; 6] = [
     ),
 ];
 
+fn all_answers() -> &'static [Answer] {
+    &ANSWERS
+}
+
 fn push(out: &mut Vec<u8>, kind: AnswerKind, line: &[Lit]) -> Result<(), AllocError> {
     match kind {
         AnswerKind::Sat => push_sat(out, line),
@@ -57,37 +59,33 @@ fn is_written(alloc: Global, kind: AnswerKind, line: &[Lit], text: &[u8]) -> boo
 }
 
 /// Tests whether an answer of these literals is read from the front of a text, and leaves this rest. A literal stands in the line before.
-fn is_read(
-    alloc: Global,
-    text: &[u8],
-    kind: AnswerKind,
-    line: &[Lit],
-    rest: &[u8],
-) -> Result<bool, Fail> {
-    let mut found = lits(alloc, &[7])?;
-    let is_so = read_outcome(text, &mut found) == Ok((kind, rest));
-    Ok(is_so && found.as_slice() == line)
+fn is_read(alloc: Global, text: &[u8], kind: AnswerKind, line: &[Lit], rest: &[u8]) -> bool {
+    let mut found = Vec::new(alloc);
+    push_lits(&mut found, &[7])
+        && read_outcome(text, &mut found) == Ok((kind, rest))
+        && found.as_slice() == line
 }
 
-/// Tests whether an answer is written so, and read again, alone and with a line behind it.
-fn has_text(alloc: Global, (kind, numbers, text): Answer) -> Result<bool, Fail> {
-    let line = lits(alloc, numbers)?;
+/// Tests whether an answer of these literals is written so, and read again, alone and with a line behind it.
+fn is_text_of(alloc: Global, kind: AnswerKind, line: &[Lit], text: &[u8]) -> bool {
     let mut longer = Vec::new(alloc);
-    longer.extend_from_slice(text)?;
-    push_unknown(&mut longer)?;
-    Ok(
-        is_written(alloc, kind, &line, text)
-            && is_read(alloc, text, kind, &line, b"")?
-            && is_read(alloc, &longer, kind, &line, b"s UNKNOWN\n")?,
-    )
+    longer.extend_from_slice(text).is_ok()
+        && push_unknown(&mut longer).is_ok()
+        && is_written(alloc, kind, line, text)
+        && is_read(alloc, text, kind, line, b"")
+        && is_read(alloc, longer.as_slice(), kind, line, b"s UNKNOWN\n")
+}
+
+fn has_text(alloc: Global, (kind, numbers, text): Answer) -> bool {
+    let mut line = Vec::new(alloc);
+    push_lits(&mut line, numbers) && is_text_of(alloc, kind, line.as_slice(), text)
 }
 
 #[test]
-fn answers_are_written_and_read(rt: HostRuntime) -> Result<(), Fail> {
-    for &answer in &ANSWERS {
-        assert!(rt; has_text(rt.alloc(), answer)?, "{answer:?}");
+fn answers_are_written_and_read(rt: HostRuntime) {
+    for &answer in all_answers() {
+        assert!(rt; has_text(rt.alloc(), answer), "{answer:?}");
     }
-    Ok(())
 }
 
 /// Why an answer isn't read, if so.
@@ -112,11 +110,15 @@ static OUT_OF_FORM: [&[u8]; 13] = [
     b"s SATISFIABLE\nv -268435457 0\n",
 ];
 
+fn out_of_form() -> &'static [&'static [u8]] {
+    &OUT_OF_FORM
+}
+
 static MISSING: [&[u8]; 3] = [b"", b"s SATISFIABLE\n", b"s UNSATISFIABLE\n"];
 
 #[test]
 fn other_texts_are_no_answers(rt: HostRuntime) {
-    for &text in &OUT_OF_FORM {
+    for &text in out_of_form() {
         assert!(rt;
             fault_of(rt.alloc(), text) == Some(AnswerFault::Text),
             "{text:?}"
@@ -131,22 +133,23 @@ fn other_texts_are_no_answers(rt: HostRuntime) {
 }
 
 /// Tests whether the line of a core is read from the front of a text, and leaves this rest.
-fn core_is_read(alloc: Global, text: &[u8], core: &[i64], rest: &[u8]) -> Result<bool, Fail> {
-    let core = lits(alloc, core)?;
+fn core_is_read(alloc: Global, text: &[u8], core: &[i64], rest: &[u8]) -> bool {
+    let mut wanted = Vec::new(alloc);
     let mut line = Vec::new(alloc);
-    let is_so = read_line(AnswerKind::Unsat, text, &mut line) == Ok(rest);
-    Ok(is_so && line.as_slice() == core.as_slice())
+    push_lits(&mut wanted, core)
+        && read_line(AnswerKind::Unsat, text, &mut line) == Ok(rest)
+        && line.as_slice() == wanted.as_slice()
 }
 
+const CORE: &[u8] = b"f 3 0\nrest";
+
+const REST: &[u8] = b"rest";
+
 #[test]
-fn single_lines_are_read(rt: HostRuntime) -> Result<(), Fail> {
-    let behind: &[u8] = b"f 3 0\nrest";
-    let rest: &[u8] = b"rest";
-    assert!(rt; read_kind(b"s UNSATISFIABLE\nf 3 0\nrest") == Ok((AnswerKind::Unsat, behind)));
-    assert!(rt; core_is_read(rt.alloc(), behind, &[3], rest)?);
-    assert!(rt; take_text(behind, b"f 3 0\n") == Some(rest));
-    assert!(rt; take_text(behind, b"f 4 0\n") == None);
-    Ok(())
+fn single_lines_are_read(rt: HostRuntime) {
+    assert!(rt; read_kind(b"s UNSATISFIABLE\nf 3 0\nrest") == Ok((AnswerKind::Unsat, CORE)));
+    assert!(rt; core_is_read(rt.alloc(), CORE, &[3], REST));
+    assert!(rt; (take_text(CORE, b"f 3 0\n"), take_text(CORE, b"f 4 0\n")) == (Some(REST), None));
 }
 
 fn push_others(out: &mut Vec<u8>) -> Result<(), AllocError> {
@@ -173,13 +176,13 @@ static WORDS: [(AnswerFault, &str); 3] = [
     (AnswerFault::OutOfMemory, "out of memory"),
 ];
 
+fn words() -> &'static [(AnswerFault, &'static str)] {
+    &WORDS
+}
+
 #[test]
-fn faults_have_words(rt: HostRuntime) -> Result<(), Fail> {
-    for &(fault, words) in &WORDS {
-        assert!(rt;
-            format!(in rt.alloc(); "{fault}")?.as_str() == words,
-            "{words}"
-        );
+fn faults_have_words(rt: HostRuntime) {
+    for (fault, words) in words() {
+        assert!(rt; is_printed(rt.alloc(), fault, *words), "{words}");
     }
-    Ok(())
 }

@@ -1,27 +1,31 @@
 //! Verdicts of worked texts, each whole and read by one byte.
 
-use crate::devices::fails_at;
+use crate::devices::{append, fails_at, is_printed};
 use certify::confirm::confirm;
 use certify::run::run;
 use certify::verdict::{ConfirmFault, Verdict, Why};
 use sat_base::Counted;
 use sat_checker::{Checker, Looks};
 use std::alloc::Global;
-use std::test::Fail;
 
 const AMPLE: u64 = 1 << 20;
 
 /// A script, answers and a certificate.
 type Texts<'a> = (&'a [u8], &'a [u8], &'a [u8]);
 
-fn said_whole(alloc: Global, texts: Texts<'_>) -> Result<Verdict, ConfirmFault> {
+/// What is said of texts that are read whole, and the looks are added to those of others.
+fn said_by(alloc: Global, texts: Texts<'_>, looks: &mut Looks) -> Result<Verdict, ConfirmFault> {
     confirm(
         alloc,
         &mut Counted::new(texts.0),
         &mut Counted::new(texts.1),
         &mut Counted::new(texts.2),
-        &mut Looks::new(),
+        looks,
     )
+}
+
+fn said_whole(alloc: Global, texts: Texts<'_>) -> Result<Verdict, ConfirmFault> {
+    said_by(alloc, texts, &mut Looks::new())
 }
 
 /// What is said of texts that are read by one byte, where one read of each fails; none where that is 0.
@@ -88,9 +92,13 @@ static CONFIRMED: [Texts<'static>; 10] = [
     (b"1 2 0\na 0\n%\n1 0\n", ROW_ANSWERS, ROW_STEPS),
 ];
 
+fn confirmed() -> &'static [Texts<'static>] {
+    &CONFIRMED
+}
+
 #[test]
 fn texts_that_match(rt: HostRuntime) {
-    for &texts in &CONFIRMED {
+    for &texts in confirmed() {
         assert!(rt; is_yes(rt.alloc(), texts), "{texts:?}");
     }
 }
@@ -155,9 +163,13 @@ static NOT_CONFIRMED: [(Texts<'static>, u64, Why); 12] = [
     ),
 ];
 
+fn not_confirmed() -> &'static [(Texts<'static>, u64, Why)] {
+    &NOT_CONFIRMED
+}
+
 #[test]
 fn texts_that_do_not_match(rt: HostRuntime) {
-    for &(texts, ask, why) in &NOT_CONFIRMED {
+    for &(texts, ask, why) in not_confirmed() {
         assert!(rt; is_no(rt.alloc(), texts, ask, why), "{texts:?}");
     }
 }
@@ -168,22 +180,20 @@ fn is_said_of(
     answers: &[u8],
     (front, steps, behind): Texts<'_>,
     verdict: Verdict,
-) -> Result<bool, Fail> {
+) -> bool {
     let mut certificate = Vec::new(alloc);
-    certificate.extend_from_slice(front)?;
-    certificate.extend_from_slice(steps)?;
-    certificate.extend_from_slice(behind)?;
-    Ok(is_said(alloc, (ROW, answers, &certificate), verdict))
+    append(&mut certificate, &[front, steps, behind])
+        && is_said(alloc, (ROW, answers, certificate.as_slice()), verdict)
 }
 
 /// Tests whether this is said of the row's certificate with a step before the clause.
-fn is_said_with(alloc: Global, step: &[u8], verdict: Verdict) -> Result<bool, Fail> {
+fn is_said_with(alloc: Global, step: &[u8], verdict: Verdict) -> bool {
     let texts = (&ROW_STEPS[..6], step, &ROW_STEPS[6..]);
     is_said_of(alloc, ROW_ANSWERS, texts, verdict)
 }
 
 /// Tests whether the row's certificate ends where it is cut in a step before the clause.
-fn is_cut_in(alloc: Global, step: &[u8]) -> Result<bool, Fail> {
+fn is_cut_in(alloc: Global, step: &[u8]) -> bool {
     let ends = Verdict::No {
         ask: 1,
         why: Why::CertificateEnds,
@@ -223,13 +233,16 @@ static STEPS_BETWEEN: [(&[u8], Verdict); 12] = [
     (&[8, 2, 0, 2, 1], REFUSED),
 ];
 
+fn steps_between() -> &'static [(&'static [u8], Verdict)] {
+    &STEPS_BETWEEN
+}
+
 #[test]
-fn steps_may_stand_between(rt: HostRuntime) -> Result<(), Fail> {
-    for &(step, verdict) in &STEPS_BETWEEN {
-        assert!(rt; is_said_with(rt.alloc(), step, verdict)?, "{step:?}");
-        assert!(rt; is_cut_in(rt.alloc(), step)?, "{step:?}");
+fn steps_may_stand_between(rt: HostRuntime) {
+    for &(step, verdict) in steps_between() {
+        let right = is_said_with(rt.alloc(), step, verdict) && is_cut_in(rt.alloc(), step);
+        assert!(rt; right, "{step:?}");
     }
-    Ok(())
 }
 
 /// Steps before the first name, and what is said then.
@@ -245,16 +258,20 @@ static STEPS_BEFORE: [(&[u8], Verdict); 2] = [
     (&[1, 0, 1, 3, 0], Verdict::Yes),
 ];
 
+fn steps_before() -> &'static [(&'static [u8], Verdict)] {
+    &STEPS_BEFORE
+}
+
+/// Tests whether this is said of the row's certificate with a step before the first name.
+fn is_said_before(alloc: Global, step: &[u8], verdict: Verdict) -> bool {
+    is_said_of(alloc, ROW_ANSWERS, (b"", step, ROW_STEPS), verdict)
+}
+
 #[test]
-fn names_come_to_unknown_variables(rt: HostRuntime) -> Result<(), Fail> {
-    for &(step, verdict) in &STEPS_BEFORE {
-        let texts = (b"".as_slice(), step, ROW_STEPS);
-        assert!(rt;
-            is_said_of(rt.alloc(), ROW_ANSWERS, texts, verdict)?,
-            "{step:?}"
-        );
+fn names_come_to_unknown_variables(rt: HostRuntime) {
+    for &(step, verdict) in steps_before() {
+        assert!(rt; is_said_before(rt.alloc(), step, verdict), "{step:?}");
     }
-    Ok(())
 }
 
 /// Four clauses that can't hold together: their certificate at hashes of 8 bits and of 64, each up to the step that records `unsat`.
@@ -271,10 +288,7 @@ const FOUR_AT_64: &[u8] = &[
 ];
 
 /// Tests what is said of a certificate cut at each byte: yes from this one on.
-fn is_confirmed_from(alloc: Global, certificate: &[u8], from: usize) -> Result<bool, Fail> {
-    let mut whole = Vec::new(alloc);
-    whole.extend_from_slice(certificate)?;
-    whole.extend_from_slice(&[11, 0, 13])?;
+fn counts_from(alloc: Global, whole: &[u8], from: usize) -> bool {
     let ends = Verdict::No {
         ask: 1,
         why: Why::CertificateEnds,
@@ -282,21 +296,25 @@ fn is_confirmed_from(alloc: Global, certificate: &[u8], from: usize) -> Result<b
     for cut in 0..whole.len() {
         let said = said_whole(alloc, (SIXTH, NONE_LEFT, &whole[..cut]));
         if said != Ok(if cut < from { ends } else { Verdict::Yes }) {
-            return Ok(false);
+            return false;
         }
     }
-    Ok(is_yes(alloc, (SIXTH, NONE_LEFT, &whole)))
+    is_yes(alloc, (SIXTH, NONE_LEFT, whole))
+}
+
+/// Tests the same of a certificate behind which an ask and the end come: yes from its last byte on.
+fn is_confirmed_from_its_end(alloc: Global, certificate: &[u8]) -> bool {
+    let mut whole = Vec::new(alloc);
+    append(&mut whole, &[certificate, &[11, 0, 13]])
+        && counts_from(alloc, whole.as_slice(), certificate.len())
 }
 
 #[test]
-fn certificates_count_up_to_unsat(rt: HostRuntime) -> Result<(), Fail> {
+fn certificates_count_up_to_unsat(rt: HostRuntime) {
     for &certificate in &[FOUR_AT_8, FOUR_AT_64] {
-        assert!(rt;
-            is_confirmed_from(rt.alloc(), certificate, certificate.len())?,
-            "{certificate:?}"
-        );
+        let right = is_confirmed_from_its_end(rt.alloc(), certificate);
+        assert!(rt; right, "{certificate:?}");
     }
-    Ok(())
 }
 
 /// The same clauses, of which an empty core is shown while `unsat` isn't recorded.
@@ -313,13 +331,7 @@ fn cores_are_confirmed(rt: HostRuntime) {
 /// The looks that are added for these texts, behind those of others.
 fn looks_added(alloc: Global, texts: Texts<'_>, looks: &mut Looks) -> u64 {
     let before = looks.get();
-    let _ = confirm(
-        alloc,
-        &mut Counted::new(texts.0),
-        &mut Counted::new(texts.1),
-        &mut Counted::new(texts.2),
-        looks,
-    );
+    let _ = said_by(alloc, texts, looks);
     looks.get().saturating_sub(before)
 }
 
@@ -345,17 +357,22 @@ static LOOKED_AT: [(&[u8], &[u8]); 4] = [
     (b"s UNSATISFIABLE\nf 1 0\n", FOUR_AT_8),
 ];
 
+fn looked_at() -> &'static [(&'static [u8], &'static [u8])] {
+    &LOOKED_AT
+}
+
+/// Tests whether the looks that are added for these texts are those of the checker, and some.
+fn are_counted(alloc: Global, answers: &[u8], certificate: &[u8], looks: &mut Looks) -> bool {
+    let counted = looks_of(alloc, certificate);
+    counted > 0 && looks_added(alloc, (SIXTH, answers, certificate), looks) == counted
+}
+
 #[test]
 fn looks_are_those_of_the_checker(rt: HostRuntime) {
     let mut looks = Looks::new();
-    for &(answers, certificate) in &LOOKED_AT {
-        let counted = looks_of(rt.alloc(), certificate);
-        let texts = (SIXTH, answers, certificate);
-        assert!(rt; counted > 0, "{certificate:?}");
-        assert!(rt;
-            looks_added(rt.alloc(), texts, &mut looks) == counted,
-            "{certificate:?}"
-        );
+    for &(answers, certificate) in looked_at() {
+        let right = are_counted(rt.alloc(), answers, certificate, &mut looks);
+        assert!(rt; right, "{certificate:?}");
     }
 }
 
@@ -393,17 +410,22 @@ static CORES: [(&[u8], &[u8], Why); 10] = [
     ),
 ];
 
+fn cores() -> &'static [(&'static [u8], &'static [u8], Why)] {
+    &CORES
+}
+
+/// Tests whether a no is said where the row's certificate goes on so behind the ask's assumptions.
+fn is_refused_behind(alloc: Global, answers: &[u8], behind: &[u8], why: Why) -> bool {
+    let verdict = Verdict::No { ask: 1, why };
+    is_said_of(alloc, answers, (&ROW_STEPS[..12], behind, b""), verdict)
+}
+
 #[test]
-fn cores_are_compared(rt: HostRuntime) -> Result<(), Fail> {
-    for &(answers, behind, why) in &CORES {
-        let texts = (&ROW_STEPS[..12], behind, b"".as_slice());
-        let verdict = Verdict::No { ask: 1, why };
-        assert!(rt;
-            is_said_of(rt.alloc(), answers, texts, verdict)?,
-            "{behind:?}"
-        );
+fn cores_are_compared(rt: HostRuntime) {
+    for &(answers, behind, why) in cores() {
+        let right = is_refused_behind(rt.alloc(), answers, behind, why);
+        assert!(rt; right, "{behind:?}");
     }
-    Ok(())
 }
 
 /// Three asks: behind the first two, which have a model and an unknown, a clause comes and the third one.
@@ -474,6 +496,10 @@ static THIRD_ASKS: [Tail<'static>; 13] = [
     ),
 ];
 
+fn third_asks() -> &'static [Tail<'static>] {
+    &THIRD_ASKS
+}
+
 const THIRD_STEPS: &[u8] = &[2, 2, 3, 5, 1, 4, 11, 0, 10, 3, 1, 2, 4, 11, 0, 13];
 
 /// The same two asks, and then the empty clause and two asks more.
@@ -518,34 +544,35 @@ static EMPTY_ASKS: [Tail<'static>; 7] = [
     ),
 ];
 
+fn empty_asks() -> &'static [Tail<'static>] {
+    &EMPTY_ASKS
+}
+
 /// Tests whether this is said of a script of which two asks are answered so.
-fn is_said_behind(
-    alloc: Global,
-    script: &[u8],
-    (answers, steps, no): Tail<'_>,
-) -> Result<bool, Fail> {
+fn is_said_behind(alloc: Global, script: &[u8], (answers, steps, no): Tail<'_>) -> bool {
     let mut answered = Vec::new(alloc);
-    answered.extend_from_slice(TWO_ANSWERS)?;
-    answered.extend_from_slice(answers)?;
     let mut certificate = Vec::new(alloc);
-    certificate.extend_from_slice(TWO_ASKS)?;
-    certificate.extend_from_slice(steps)?;
     let verdict = match no {
         None => Verdict::Yes,
         Some((ask, why)) => Verdict::No { ask, why },
     };
-    Ok(is_said(alloc, (script, &answered, &certificate), verdict))
+    append(&mut answered, &[TWO_ANSWERS, answers])
+        && append(&mut certificate, &[TWO_ASKS, steps])
+        && is_said(
+            alloc,
+            (script, answered.as_slice(), certificate.as_slice()),
+            verdict,
+        )
 }
 
 #[test]
-fn later_asks_are_named(rt: HostRuntime) -> Result<(), Fail> {
-    for &tail in &THIRD_ASKS {
-        assert!(rt; is_said_behind(rt.alloc(), THIRD, tail)?, "{tail:?}");
+fn later_asks_are_named(rt: HostRuntime) {
+    for &tail in third_asks() {
+        assert!(rt; is_said_behind(rt.alloc(), THIRD, tail), "{tail:?}");
     }
-    for &tail in &EMPTY_ASKS {
-        assert!(rt; is_said_behind(rt.alloc(), EMPTY_THIRD, tail)?, "{tail:?}");
+    for &tail in empty_asks() {
+        assert!(rt; is_said_behind(rt.alloc(), EMPTY_THIRD, tail), "{tail:?}");
     }
-    Ok(())
 }
 
 /// Memory is asked for items that came, and never for a count: here 2^63-1 literals are promised, and none comes.
@@ -556,23 +583,24 @@ fn counts_promise_nothing(rt: HostRuntime) {
     assert!(rt; is_no(rt.alloc(), texts, 1, Why::CertificateEnds));
 }
 
-/// Answers a script that is read by one byte. Gives the answers and the certificate.
-fn written(alloc: Global, script: &[u8], budget: u64) -> Result<(Vec<u8>, Vec<u8>), Fail> {
+/// Answers a script that is read by one byte. Gives whether that was done, the answers and the certificate.
+fn written(alloc: Global, script: &[u8], budget: u64) -> (bool, Vec<u8>, Vec<u8>) {
     let mut answers = Counted::new(Vec::new(alloc));
     let mut certificate = Counted::new(Vec::new(alloc));
-    run(
+    let done = run(
         alloc,
         &mut fails_at(script, 0),
         &mut answers,
         &mut certificate,
         budget,
-    )?;
-    Ok((answers.into_inner(), certificate.into_inner()))
+    )
+    .is_ok();
+    (done, answers.into_inner(), certificate.into_inner())
 }
 
-fn is_confirmed(alloc: Global, script: &[u8], budget: u64) -> Result<bool, Fail> {
-    let (answers, certificate) = written(alloc, script, budget)?;
-    Ok(is_yes(alloc, (script, &answers, &certificate)))
+fn is_confirmed(alloc: Global, script: &[u8], budget: u64) -> bool {
+    let (done, answers, certificate) = written(alloc, script, budget);
+    done && is_yes(alloc, (script, answers.as_slice(), certificate.as_slice()))
 }
 
 /// Three pigeons in two holes: pigeon k is in the first hole where 2k-1 is true, in the second where 2k is.
@@ -609,12 +637,15 @@ static RUNS: [(&[u8], u64); 26] = [
     (b"1 0\n%\na 0\n", AMPLE),
 ];
 
+fn runs() -> &'static [(&'static [u8], u64)] {
+    &RUNS
+}
+
 #[test]
-fn what_a_run_wrote_is_confirmed(rt: HostRuntime) -> Result<(), Fail> {
-    for &(script, budget) in &RUNS {
-        assert!(rt; is_confirmed(rt.alloc(), script, budget)?, "{script:?}");
+fn what_a_run_wrote_is_confirmed(rt: HostRuntime) {
+    for &(script, budget) in runs() {
+        assert!(rt; is_confirmed(rt.alloc(), script, budget), "{script:?}");
     }
-    Ok(())
 }
 
 /// Texts, the read of the certificate that fails, and what is said: nothing is read behind the step that decides.
@@ -630,9 +661,13 @@ static DECIDED_BEFORE: [(Texts<'static>, u64, Verdict); 2] = [
     ((ROW, ROW_ANSWERS, ROW_STEPS), 20, Verdict::Yes),
 ];
 
+fn decided_before() -> &'static [(Texts<'static>, u64, Verdict)] {
+    &DECIDED_BEFORE
+}
+
 #[test]
 fn nothing_is_read_behind_the_decision(rt: HostRuntime) {
-    for &(texts, failing, verdict) in &DECIDED_BEFORE {
+    for &(texts, failing, verdict) in decided_before() {
         assert!(rt;
             said_at(rt.alloc(), texts, (0, 0, failing)) == Ok(verdict),
             "{texts:?}"
@@ -640,43 +675,56 @@ fn nothing_is_read_behind_the_decision(rt: HostRuntime) {
     }
 }
 
+/// Tests whether each of so many reads of a text in turn fails, and gives this fault.
+fn each_fails(alloc: Global, texts: Texts<'_>, text: u8, reads: u64, fault: ConfirmFault) -> bool {
+    for failing in 1..=reads {
+        let reads = match text {
+            0 => (failing, 0, 0),
+            1 => (0, failing, 0),
+            _ => (0, 0, failing),
+        };
+        if said_at(alloc, texts, reads) != Err(fault) {
+            return false;
+        }
+    }
+    true
+}
+
 /// Tests whether each read in turn fails and gives its text's fault, and no further read is made. Of script and answers the one that
 /// finds the end is among them; of the certificate so many are made.
 fn each_read_fails(alloc: Global, texts: Texts<'_>, reads: u64) -> bool {
-    for failing in 1..=(texts.0.len() as u64).saturating_add(1) {
-        if said_at(alloc, texts, (failing, 0, 0)) != Err(ConfirmFault::ScriptRead) {
-            return false;
-        }
-    }
-    for failing in 1..=(texts.1.len() as u64).saturating_add(1) {
-        if said_at(alloc, texts, (0, failing, 0)) != Err(ConfirmFault::AnswersRead) {
-            return false;
-        }
-    }
-    for failing in 1..=reads {
-        if said_at(alloc, texts, (0, 0, failing)) != Err(ConfirmFault::CertificateRead) {
-            return false;
-        }
-    }
+    let script = (texts.0.len() as u64).saturating_add(1);
+    let answers = (texts.1.len() as u64).saturating_add(1);
     let behind = (
-        (texts.0.len() as u64).saturating_add(2),
-        (texts.1.len() as u64).saturating_add(2),
+        script.saturating_add(1),
+        answers.saturating_add(1),
         reads.saturating_add(1),
     );
-    said_at(alloc, texts, behind) == Ok(Verdict::Yes)
+    each_fails(alloc, texts, 0, script, ConfirmFault::ScriptRead)
+        && each_fails(alloc, texts, 1, answers, ConfirmFault::AnswersRead)
+        && each_fails(alloc, texts, 2, reads, ConfirmFault::CertificateRead)
+        && said_at(alloc, texts, behind) == Ok(Verdict::Yes)
+}
+
+/// The same of what a run writes for a script.
+fn each_read_of_run_fails(alloc: Global, script: &[u8], reads: u64) -> bool {
+    let (done, answers, certificate) = written(alloc, script, AMPLE);
+    done && each_read_fails(
+        alloc,
+        (script, answers.as_slice(), certificate.as_slice()),
+        reads,
+    )
 }
 
 /// Scripts, and how many bytes of the certificates are read: all of one that ends with a model, and those up to recorded `unsat`.
 static READ_IN_TURN: [(&[u8], u64); 2] = [(ROW, 19), (SIXTH, 71)];
 
 #[test]
-fn each_read_fails_in_turn(rt: HostRuntime) -> Result<(), Fail> {
+fn each_read_fails_in_turn(rt: HostRuntime) {
     for &(script, reads) in &READ_IN_TURN {
-        let (answers, certificate) = written(rt.alloc(), script, AMPLE)?;
-        let texts = (script, answers.as_slice(), certificate.as_slice());
-        assert!(rt; each_read_fails(rt.alloc(), texts, reads), "{script:?}");
+        let right = each_read_of_run_fails(rt.alloc(), script, reads);
+        assert!(rt; right, "{script:?}");
     }
-    Ok(())
 }
 
 static WORDS_OF_A_NO: [(Why, &str); 11] = [
@@ -693,15 +741,15 @@ static WORDS_OF_A_NO: [(Why, &str); 11] = [
     (Why::StepOutOfPlace, "StepOutOfPlace"),
 ];
 
+fn words_of_a_no() -> &'static [(Why, &'static str)] {
+    &WORDS_OF_A_NO
+}
+
 #[test]
-fn a_no_has_words(rt: HostRuntime) -> Result<(), Fail> {
-    for &(why, words) in &WORDS_OF_A_NO {
-        assert!(rt;
-            format!(in rt.alloc(); "{why}")?.as_str() == words,
-            "{words}"
-        );
+fn a_no_has_words(rt: HostRuntime) {
+    for (why, words) in words_of_a_no() {
+        assert!(rt; is_printed(rt.alloc(), why, *words), "{words}");
     }
-    Ok(())
 }
 
 static WORDS_OF_A_FAULT: [(ConfirmFault, &str); 5] = [
@@ -712,13 +760,13 @@ static WORDS_OF_A_FAULT: [(ConfirmFault, &str); 5] = [
     (ConfirmFault::CounterEnd, "CounterEnd"),
 ];
 
+fn words_of_a_fault() -> &'static [(ConfirmFault, &'static str)] {
+    &WORDS_OF_A_FAULT
+}
+
 #[test]
-fn a_fault_has_words(rt: HostRuntime) -> Result<(), Fail> {
-    for &(fault, words) in &WORDS_OF_A_FAULT {
-        assert!(rt;
-            format!(in rt.alloc(); "{fault}")?.as_str() == words,
-            "{words}"
-        );
+fn a_fault_has_words(rt: HostRuntime) {
+    for (fault, words) in words_of_a_fault() {
+        assert!(rt; is_printed(rt.alloc(), fault, *words), "{words}");
     }
-    Ok(())
 }

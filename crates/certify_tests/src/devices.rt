@@ -1,6 +1,8 @@
 //! Devices for tests.
 
 use sat_base::Counted;
+use std::alloc::Global;
+use std::fmt::Display;
 use std::io;
 use std::io::{ErrorKind, Read, Write};
 
@@ -59,4 +61,22 @@ pub(crate) fn fails_at(text: &[u8], failing: u64) -> Counted<FailsAt<'_>> {
         taken: 0,
         failing,
     })
+}
+
+/// Adds parts to bytes, one behind another. The answer is whether there was memory.
+pub(crate) fn append(bytes: &mut Vec<u8>, parts: &[&[u8]]) -> bool {
+    for part in parts {
+        if bytes.extend_from_slice(*part).is_err() {
+            return false;
+        }
+    }
+    true
+}
+
+/// Tests whether a value is printed so.
+pub(crate) fn is_printed<T: Display>(alloc: Global, value: &T, words: &str) -> bool {
+    match format!(in alloc; "{value}") {
+        Ok(printed) => printed.as_str() == words,
+        Err(_) => false,
+    }
 }

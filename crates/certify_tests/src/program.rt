@@ -6,7 +6,6 @@ use sat_base::{Counted, CountedRead};
 use std::alloc::{AllocError, Global};
 use std::io;
 use std::io::ErrorKind;
-use std::test::Fail;
 
 /// Arguments of the program.
 type Words = io::Result<Vec<String>>;
@@ -58,9 +57,13 @@ static SCRIPTS: [(&str, &str, u8); 14] = [
     ),
 ];
 
+fn scripts() -> &'static [(&'static str, &'static str, u8)] {
+    &SCRIPTS
+}
+
 #[test]
 fn answers_are_printed_and_confirmed(rt: HostRuntime) {
-    for &(script, printed, status) in &SCRIPTS {
+    for &(script, printed, status) in scripts() {
         let mut input = Counted::new(script.as_bytes());
         let wanted = (status, printed, "");
         assert!(rt;
@@ -94,15 +97,25 @@ static MISUSES: [&[&str]; 5] = [
     &["run", "s", "a", "c", "-1"],
 ];
 
+fn misuses() -> &'static [&'static [&'static str]] {
+    &MISUSES
+}
+
+/// Tests whether these arguments give the usage.
+fn is_misuse(rt: &HostRuntime, list: &[&str]) -> bool {
+    match words(rt.alloc(), list) {
+        Ok(words) => is_told(rt, Ok(words), 2, USAGE),
+        Err(_) => false,
+    }
+}
+
 #[test]
-fn other_arguments_give_the_usage(rt: HostRuntime) -> Result<(), Fail> {
-    for &list in &MISUSES {
-        let words = words(rt.alloc(), list)?;
-        assert!(rt; is_told(&rt, Ok(words), 2, USAGE), "{list:?}");
+fn other_arguments_give_the_usage(rt: HostRuntime) {
+    for &list in misuses() {
+        assert!(rt; is_misuse(&rt, list), "{list:?}");
     }
     let no_text = Err(io::Error::from(ErrorKind::InvalidData));
     assert!(rt; is_told(&rt, no_text, 2, USAGE));
-    Ok(())
 }
 
 #[test]

@@ -1,12 +1,11 @@
 //! Runs over worked texts, whole and by one byte, and each call of a device failing in turn.
 
-use crate::devices::fails_at;
+use crate::devices::{fails_at, is_printed};
 use certify::fault::RunFault;
 use certify::run::run;
 use certify::summary::{Answer, AskReport};
 use sat_base::{Counted, CountedRead};
 use std::alloc::Global;
-use std::test::Fail;
 
 const AMPLE: u64 = 1 << 20;
 
@@ -78,9 +77,13 @@ static ANSWERS: [(&[u8], u64, &[u8]); 32] = [
     (b"1 0\n%\na 0\n", AMPLE, b""),
 ];
 
+fn all_answers() -> &'static [(&'static [u8], u64, &'static [u8])] {
+    &ANSWERS
+}
+
 #[test]
 fn scripts_are_answered(rt: HostRuntime) {
-    for &(text, budget, answers) in &ANSWERS {
+    for &(text, budget, answers) in all_answers() {
         assert!(rt;
             is_answered(rt.alloc(), &mut Counted::new(text), budget, answers),
             "{text:?}"
@@ -90,7 +93,7 @@ fn scripts_are_answered(rt: HostRuntime) {
 
 #[test]
 fn scripts_are_answered_by_one_byte(rt: HostRuntime) {
-    for &(text, budget, answers) in &ANSWERS {
+    for &(text, budget, answers) in all_answers() {
         assert!(rt;
             is_answered(rt.alloc(), &mut fails_at(text, 0), budget, answers),
             "{text:?}"
@@ -141,9 +144,13 @@ static CERTIFICATES: [(&[u8], &[u8]); 5] = [
     ),
 ];
 
+fn certificates() -> &'static [(&'static [u8], &'static [u8])] {
+    &CERTIFICATES
+}
+
 #[test]
 fn certificates_are_written(rt: HostRuntime) {
-    for &(text, certificate) in &CERTIFICATES {
+    for &(text, certificate) in certificates() {
         assert!(rt; is_certified(rt.alloc(), text, certificate), "{text:?}");
     }
 }
@@ -206,9 +213,13 @@ static SUMMARIES: [(&[u8], Counts, &[AskReport]); 8] = [
     (b"1 0\na 0\n%", (2, 0, None), &[SAT]),
 ];
 
+fn summaries() -> &'static [(&'static [u8], Counts, &'static [AskReport])] {
+    &SUMMARIES
+}
+
 #[test]
 fn runs_are_summed_up(rt: HostRuntime) {
-    for &(text, counts, asks) in &SUMMARIES {
+    for &(text, counts, asks) in summaries() {
         assert!(rt; is_summed_up(rt.alloc(), text, counts, asks), "{text:?}");
     }
 }
@@ -230,10 +241,6 @@ fn run_at(alloc: Global, text: &[u8], failing: Calls) -> (Option<RunFault>, Call
     (fault, calls)
 }
 
-fn fault_at(alloc: Global, text: &[u8], failing: Calls) -> Option<RunFault> {
-    run_at(alloc, text, failing).0
-}
-
 /// A text, and how many calls a run over it makes. The certificate's writer is written to and flushed before an answer, and at the end.
 static CALLS: [(&[u8], Calls); 3] = [
     (b"a 0\n", (5, 2, 4)),
@@ -241,9 +248,13 @@ static CALLS: [(&[u8], Calls); 3] = [
     (SIXTH, (33, 2, 4)),
 ];
 
+fn all_calls() -> &'static [(&'static [u8], Calls)] {
+    &CALLS
+}
+
 #[test]
 fn calls_are_as_many_as_this(rt: HostRuntime) {
-    for &(text, calls) in &CALLS {
+    for &(text, calls) in all_calls() {
         assert!(rt;
             run_at(rt.alloc(), text, (0, 0, 0)) == (None, calls),
             "{text:?}"
@@ -251,22 +262,32 @@ fn calls_are_as_many_as_this(rt: HostRuntime) {
     }
 }
 
+/// Tests whether each of so many calls of a device in turn fails, and gives this fault.
+fn each_fails(alloc: Global, text: &[u8], device: u8, calls: u64, fault: RunFault) -> bool {
+    for failing in 1..=calls {
+        let failing = match device {
+            0 => (failing, 0, 0),
+            1 => (0, failing, 0),
+            _ => (0, 0, failing),
+        };
+        if run_at(alloc, text, failing).0 != Some(fault) {
+            return false;
+        }
+    }
+    true
+}
+
+fn each_call_fails(alloc: Global, text: &[u8], (reads, answered, certified): Calls) -> bool {
+    each_fails(alloc, text, 0, reads, RunFault::ScriptRead)
+        && each_fails(alloc, text, 1, answered, RunFault::AnswersWrite)
+        && each_fails(alloc, text, 2, certified, RunFault::CertificateWrite)
+}
+
 /// Each call of a device fails in turn, the flushes too, and gives that text's fault.
 #[test]
 fn each_call_fails_in_turn(rt: HostRuntime) {
-    for &(text, (reads, answered, certified)) in &CALLS {
-        for failing in 1..=reads {
-            let fault = fault_at(rt.alloc(), text, (failing, 0, 0));
-            assert!(rt; fault == Some(RunFault::ScriptRead), "{failing}");
-        }
-        for failing in 1..=answered {
-            let fault = fault_at(rt.alloc(), text, (0, failing, 0));
-            assert!(rt; fault == Some(RunFault::AnswersWrite), "{failing}");
-        }
-        for failing in 1..=certified {
-            let fault = fault_at(rt.alloc(), text, (0, 0, failing));
-            assert!(rt; fault == Some(RunFault::CertificateWrite), "{failing}");
-        }
+    for &(text, calls) in all_calls() {
+        assert!(rt; each_call_fails(rt.alloc(), text, calls), "{text:?}");
     }
 }
 
@@ -306,13 +327,13 @@ static WORDS: [(RunFault, &str); 6] = [
     (RunFault::CounterEnd, "a counter is at its end"),
 ];
 
+fn words() -> &'static [(RunFault, &'static str)] {
+    &WORDS
+}
+
 #[test]
-fn faults_have_words(rt: HostRuntime) -> Result<(), Fail> {
-    for &(fault, words) in &WORDS {
-        assert!(rt;
-            format!(in rt.alloc(); "{fault}")?.as_str() == words,
-            "{words}"
-        );
+fn faults_have_words(rt: HostRuntime) {
+    for (fault, words) in words() {
+        assert!(rt; is_printed(rt.alloc(), fault, *words), "{words}");
     }
-    Ok(())
 }

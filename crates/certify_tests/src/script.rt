@@ -100,9 +100,13 @@ static SCRIPTS: [(&[u8], &[Told], bool, usize); 24] = [
     (b"1\n%\n0\n", &[], true, 0),
 ];
 
+fn scripts() -> &'static [(&'static [u8], &'static [Told], bool, usize)] {
+    &SCRIPTS
+}
+
 #[test]
 fn scripts_are_read(rt: HostRuntime) {
-    for &(text, commands, is_malformed, count) in &SCRIPTS {
+    for &(text, commands, is_malformed, count) in scripts() {
         assert!(rt;
             is_read(rt.alloc(), text, commands, is_malformed, count),
             "{text:?}"
