@@ -3,7 +3,7 @@
 use crate::calls::{Answer, Answered, Call, Calls, answers, are_answered, first_wrong};
 use crate::kinds::Kind;
 use crate::listeners::{FailsAt, add_quiet};
-use sat_base::{CountedRead, StepReader};
+use sat_base::{CountedRead, Lit, StepReader};
 use sat_checker::{Checker, CheckerError, SelfChecker};
 use std::alloc::Global;
 
@@ -94,4 +94,22 @@ fn all_calls() -> &'static [Calls] {
 fn calls_around_steps_are_answered(rt: HostRuntime) {
     let wrong = first_wrong(rt.alloc(), all_calls());
     assert!(rt; wrong == None, "{wrong:?}");
+}
+
+/// Whether a conflict of two units is pending until it is settled.
+fn is_pending_once(checker: &mut Checker, lit: Lit) -> bool {
+    checker.is_settled()
+        && checker.add_clause(&[lit]).is_ok()
+        && checker.add_clause(&[!lit]).is_ok()
+        && !checker.is_settled()
+        && checker.self_check_delayed_steps().is_ok()
+        && checker.is_settled()
+}
+
+#[test]
+fn conflicts_are_pending_until_settled(rt: HostRuntime) {
+    let mut checker = Checker::new(rt.alloc());
+    let right = is_pending_once(&mut checker, Lit::from_code(0));
+    drop(checker);
+    assert!(rt; right);
 }
