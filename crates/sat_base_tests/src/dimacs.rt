@@ -112,6 +112,10 @@ static ROWS: [Row; 11] = [
     (b"p cnf 7 1\n3 x", Err(MALFORMED), &[], Some((7, 1)), 0),
 ];
 
+fn rows() -> &'static [Row] {
+    &ROWS
+}
+
 /// Tests whether a parser that has read a row's text has what the row says, also when its clauses are taken, and is over.
 fn has_read(alloc: Global, parser: &mut DimacsParser, row: &Row) -> bool {
     let found = state(parser);
@@ -139,7 +143,7 @@ fn wrong_length(alloc: Global, row: &Row) -> Option<usize> {
 
 #[test]
 fn texts_say_clauses_and_faults(rt: HostRuntime) {
-    for row in &ROWS {
+    for row in rows() {
         assert!(rt; wrong_length(rt.alloc(), row) == None, "{row:?}");
     }
 }
@@ -159,6 +163,10 @@ static PIECES: [Piece; 3] = [
     (b"", (Some((7, 2)), 3, 9), &[], 0, 9),
 ];
 
+fn pieces() -> &'static [Piece] {
+    &PIECES
+}
+
 fn goes_on(alloc: Global, parser: &mut DimacsParser, piece: &Piece) -> bool {
     feed(parser, piece.0) == Ok(())
         && state(parser) == piece.1
@@ -167,7 +175,7 @@ fn goes_on(alloc: Global, parser: &mut DimacsParser, piece: &Piece) -> bool {
 
 /// The first piece behind which a parser that is fed them isn't as the piece says.
 fn wrong_piece(alloc: Global, parser: &mut DimacsParser) -> Option<Piece> {
-    for piece in &PIECES {
+    for piece in pieces() {
         if !goes_on(alloc, parser, piece) {
             return Some(*piece);
         }
@@ -298,13 +306,6 @@ fn in_parts(
     (seen.calls, answer.err())
 }
 
-#[test]
-fn a_caller_sees_each_piece(rt: HostRuntime) {
-    let text: &[u8] = b"p cnf 3 2\n1 -3 0\n2 0\n";
-    let answer = looked(rt.alloc(), &mut by_one(text, 0), &[1, -3, 0, 2, 0], 22);
-    assert!(rt; answer == (true, Ok(Some((Some((3, 2)), 2, 3)))));
-}
-
 /// Adds a clause for each of the first thousand variables.
 fn add_thousand(formula: &mut CnfFormula) -> Result<(), FormulaError> {
     for index in 0..1000 {
@@ -322,49 +323,77 @@ fn long_text(alloc: Global) -> (bool, Vec<u8>) {
     (is_written, writer.into_inner())
 }
 
-/// The clauses that a text is parsed to, and the highest variable.
-fn whole(alloc: Global, text: &[u8]) -> Result<(Vec<i64>, usize), Fail> {
-    let formula = DimacsParser::parse(alloc, &mut Counted::new(text))?;
-    Ok((numbers(alloc, &formula)?, formula.var_count()))
+/// Tests whether a text's clauses have so many numbers, a closure that is called 4 times sees them, and the parser ends as the text says.
+fn are_seen_again(alloc: Global, text: &[u8], formula: &CnfFormula, length: usize) -> bool {
+    let end = Some((Some((1_000, 1_000)), 1_000, formula.var_count()));
+    match numbers(alloc, formula) {
+        Ok(clauses) => {
+            clauses.len() == length
+                && looked(alloc, &mut Counted::new(text), clauses.as_slice(), 4) == (true, Ok(end))
+        }
+        Err(_) => false,
+    }
 }
 
-/// Parses a text, and reads it again with a closure, called 4 times. Gives how many numbers the clauses have, and tests whether
-/// the closure saw them, and the parser ends as the text says.
-fn seen_again(alloc: Global, text: &[u8]) -> Result<(usize, bool), Fail> {
-    let (clauses, highest) = whole(alloc, text)?;
-    let answer = looked(alloc, &mut Counted::new(text), clauses.as_slice(), 4);
-    let end = Some((Some((1_000, 1_000)), 1_000, highest));
-    Ok((clauses.len(), answer == (true, Ok(end))))
+/// Parses a text, and tests that.
+fn is_seen_again(alloc: Global, text: &[u8], length: usize) -> bool {
+    match DimacsParser::parse(alloc, &mut Counted::new(text)) {
+        Ok(formula) => are_seen_again(alloc, text, &formula, length),
+        Err(_) => false,
+    }
 }
 
 #[test]
-fn a_caller_sees_each_clause_of_a_long_text(rt: HostRuntime) -> Result<(), Fail> {
+fn a_caller_sees_each_clause_of_a_long_text(rt: HostRuntime) {
     let (is_written, text) = long_text(rt.alloc());
     assert!(rt; is_written && text.len() == 8_909);
-    assert!(rt; seen_again(rt.alloc(), text.as_slice())? == (3_000, true));
-    Ok(())
+    assert!(rt; is_seen_again(rt.alloc(), text.as_slice(), 3_000));
 }
 
-/// A text, its fault, the clauses before it, and how often the closure is called.
-static FAULTS: [(&[u8], DimacsError, &[i64], u64); 3] = [
-    (b"1 2\n-0 0\n", MALFORMED, &[], 7),
+/// A text, the clauses that a caller sees, how often the closure is called, and the parser's end or the fault.
+type Seeing = (&'static [u8], &'static [i64], u64, End);
+
+static SEEN: [Seeing; 4] = [
+    (
+        b"p cnf 3 2\n1 -3 0\n2 0\n",
+        &[1, -3, 0, 2, 0],
+        22,
+        Ok(Some((Some((3, 2)), 2, 3))),
+    ),
+    (
+        b"1 2\n-0 0\n",
+        &[],
+        7,
+        Err(IncrementalError::Dimacs(MALFORMED)),
+    ),
     (
         b"1 0\n268435457 0\n",
-        DimacsError::Limit { line: 2 },
         &[1, 0],
         14,
+        Err(IncrementalError::Dimacs(DimacsError::Limit { line: 2 })),
     ),
-    (b"1 0\n2", MALFORMED, &[1, 0], 6),
+    (
+        b"1 0\n2",
+        &[1, 0],
+        6,
+        Err(IncrementalError::Dimacs(MALFORMED)),
+    ),
 ];
 
+fn all_seen() -> &'static [Seeing] {
+    &SEEN
+}
+
+/// Tests whether a caller sees this of a text that is given byte by byte.
+fn is_seen(alloc: Global, row: &Seeing) -> bool {
+    let (is_right, end) = looked(alloc, &mut by_one(row.0, 0), row.1, row.2);
+    is_right && end == row.3
+}
+
 #[test]
-fn a_caller_sees_the_clauses_before_a_fault(rt: HostRuntime) {
-    for &(text, fault, clauses, calls) in &FAULTS {
-        let answer = looked(rt.alloc(), &mut by_one(text, 0), clauses, calls);
-        assert!(rt;
-            answer == (true, Err(IncrementalError::Dimacs(fault))),
-            "{text:?}"
-        );
+fn a_caller_sees_each_piece_and_the_clauses_before_a_fault(rt: HostRuntime) {
+    for row in all_seen() {
+        assert!(rt; is_seen(rt.alloc(), row), "{row:?}");
     }
 }
 
@@ -458,6 +487,10 @@ static PRINTED: [(IncrementalError<DimacsError>, &str); 5] = [
     ),
 ];
 
+fn printed() -> &'static [(IncrementalError<DimacsError>, &'static str)] {
+    &PRINTED
+}
+
 fn is_printed(alloc: Global, error: &IncrementalError<DimacsError>, text: &str) -> bool {
     match format!(in alloc; "{error}") {
         Ok(printed) => printed.as_str() == text,
@@ -467,7 +500,7 @@ fn is_printed(alloc: Global, error: &IncrementalError<DimacsError>, text: &str) 
 
 #[test]
 fn errors_are_printed(rt: HostRuntime) {
-    for (error, text) in &PRINTED {
+    for (error, text) in printed() {
         assert!(rt; is_printed(rt.alloc(), error, *text), "{text}");
     }
 }

@@ -48,9 +48,13 @@ const TEXTS: [(u64, &[u8]); 3] = [
     (2, b"p cnf 268435456 3\n1 -2 0\n0\n-268435456 0\n"),
 ];
 
+fn texts() -> &'static [(u64, &'static [u8])] {
+    &TEXTS
+}
+
 #[test]
 fn formulas_have_these_texts(rt: HostRuntime) {
-    for &(stage, text) in &TEXTS {
+    for &(stage, text) in texts() {
         assert!(rt; stage_has_text(rt.alloc(), stage, text), "{stage}");
     }
 }

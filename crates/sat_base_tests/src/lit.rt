@@ -1,18 +1,52 @@
 //! Outside values, and each call once.
+ghost use Rattle.std.specs.Prelude.{◌<◌, ◌*◌};
+ghost use Rattle.sat_base.specs.values.Literals.{largest};
+
 use sat_base::{Lit, Var, clause_hash, lit_hash, order_of_literals, order_of_variables};
 use std::cmp::Ordering;
 use std::hash::{DefaultHasher, Hash, Hasher};
 use std::test::*;
 
+fn index_of(number: i64) -> Option<usize> {
+    Some(Var::from_dimacs(number)?.index())
+}
+
+/// The first of some numbers that is a variable's.
+fn first_of_variable(numbers: &[i64]) -> Option<i64> {
+    for &number in numbers {
+        if Var::from_dimacs(number).is_some() {
+            return Some(number);
+        }
+    }
+    None
+}
+
 #[test]
 fn numbers_of_variables(rt: HostRuntime) {
-    assert!(rt; Var::from_dimacs(1).map(|v| v.index()) == Some(0));
-    assert!(rt; Var::from_dimacs(268_435_456).map(|v| v.index()) == Some(268_435_455));
-    for number in [0, -1, 268_435_457, i64::MAX, i64::MIN] {
-        assert!(rt; Var::from_dimacs(number).is_none(), "{number}");
+    assert!(rt; (index_of(1), index_of(268_435_456)) == (Some(0), Some(268_435_455)));
+    let wrong = first_of_variable(&[0, -1, 268_435_457, i64::MAX, i64::MIN]);
+    assert!(rt; wrong == None, "{wrong:?}");
+    assert!(rt; (Var::from_index(6).to_dimacs(), Var::max_count()) == (7, 268_435_456));
+}
+
+/// The first of some numbers that is a literal's.
+fn first_of_literal(numbers: &[i64]) -> Option<i64> {
+    for &number in numbers {
+        if Lit::from_dimacs(number).is_some() {
+            return Some(number);
+        }
     }
-    assert!(rt; Var::from_index(6).to_dimacs() == 7);
-    assert!(rt; Var::max_count() == 268_435_456);
+    None
+}
+
+/// Tests whether the literal of this number has this code, and that of the code the number.
+fn have(number: i64, code: usize) -> bool
+    requires { code < 2 * largest }
+{
+    match Lit::from_dimacs(number) {
+        Some(lit) => lit.code() == code && Lit::from_code(code).to_dimacs() == number,
+        None => false,
+    }
 }
 
 #[test]
@@ -24,31 +58,26 @@ fn numbers_of_literals(rt: HostRuntime) {
         (-2, 3),
         (-268_435_456, 536_870_911),
     ] {
-        assert!(rt;
-            Lit::from_dimacs(number).map(|l| l.code()) == Some(code),
-            "{number}"
-        );
-        assert!(rt; Lit::from_code(code).to_dimacs() == number);
+        assert!(rt; have(number, code), "{number}");
     }
-    for number in [0, 268_435_457, -268_435_457, i64::MAX, i64::MIN] {
-        assert!(rt; Lit::from_dimacs(number).is_none(), "{number}");
-    }
+    let wrong = first_of_literal(&[0, 268_435_457, -268_435_457, i64::MAX, i64::MIN]);
+    assert!(rt; wrong == None, "{wrong:?}");
 }
 
 #[test]
 fn literals_of_a_variable(rt: HostRuntime) {
     let var = Var::from_index(4);
     let lit = Lit::from_var(var, false);
-    for (found, wanted) in [
-        (lit, var.negative()),
-        (lit, Lit::negative(var)),
-        (!lit, Lit::positive(var)),
-        (!lit, var.positive()),
-    ] {
-        assert!(rt; found == wanted, "{found:?} for {wanted:?}");
-    }
-    assert!(rt; (lit.var(), lit.index()) == (var, 4));
-    assert!(rt; (lit.is_negative(), lit.is_positive()) == (true, false));
+    let found = [lit, lit, !lit, !lit];
+    let wanted = [
+        var.negative(),
+        Lit::negative(var),
+        Lit::positive(var),
+        var.positive(),
+    ];
+    assert!(rt; found == wanted, "{found:?} for {wanted:?}");
+    let parts = (lit.var(), lit.index(), lit.is_negative(), lit.is_positive());
+    assert!(rt; parts == (var, 4, true, false));
 }
 
 #[test]
@@ -67,14 +96,18 @@ fn hash_of<T: Hash>(value: &T) -> u64 {
     hasher.finish()
 }
 
+/// Tests whether a variable comes before the next, and so do their literals, positive ones first.
+fn are_ordered(var: Var, next: Var) -> bool {
+    order_of_variables(var, next) == Ordering::Less
+        && order_of_literals(var.positive(), var.negative()) == Ordering::Less
+        && order_of_literals(var.negative(), next.positive()) == Ordering::Less
+        && order_of_literals(!var.positive(), var.negative()) == Ordering::Equal
+}
+
 #[test]
 fn order_and_hash(rt: HostRuntime) {
     let var = Var::from_index(4);
-    let next = Var::from_index(5);
-    assert!(rt; order_of_variables(var, next) == Ordering::Less);
-    assert!(rt; order_of_literals(var.positive(), var.negative()) == Ordering::Less);
-    assert!(rt; order_of_literals(var.negative(), next.positive()) == Ordering::Less);
-    assert!(rt; order_of_literals(!var.positive(), var.negative()) == Ordering::Equal);
+    assert!(rt; are_ordered(var, Var::from_index(5)));
     assert!(rt; hash_of(&Lit::from_code(9).var()) == hash_of(&var));
     assert!(rt; hash_of(&!var.positive()) == hash_of(&var.negative()));
 }

@@ -11,7 +11,6 @@ use sat_base::{
 };
 use std::alloc::Global;
 use std::io;
-use std::test::Fail;
 
 /// A step's text, if there is memory.
 fn written(alloc: Global, step: &ProofStep<'_>) -> Option<Vec<u8>> {
@@ -239,17 +238,26 @@ fn other_rows(lits: &[Lit], bits: HashBits) -> [Row<'_>; 5] {
     ]
 }
 
-#[test]
-fn steps_have_these_bytes(rt: HostRuntime) -> Result<(), Fail> {
-    let bits = HashBits::new(64).ok_or("no width of 64")?;
+fn wrong_about_variables(alloc: Global) -> Option<&'static [u8]> {
     let (first, last) = (Var::from_index(0), Var::from_index(268435455));
+    wrong_text(alloc, &rows_about_variables(first, last))
+}
+
+fn wrong_of_others(alloc: Global) -> Option<&'static [u8]> {
+    match HashBits::new(64) {
+        Some(bits) => wrong_text(alloc, &other_rows(&[Lit::from_index(1, false)], bits)),
+        None => Some(b"no width of 64"),
+    }
+}
+
+#[test]
+fn steps_have_these_bytes(rt: HostRuntime) {
     let wrong = [
-        wrong_text(rt.alloc(), &rows_about_variables(first, last)),
+        wrong_about_variables(rt.alloc()),
         wrong_about_clauses(rt.alloc()),
-        wrong_text(rt.alloc(), &other_rows(&[Lit::from_index(1, false)], bits)),
+        wrong_of_others(rt.alloc()),
     ];
     assert!(rt; wrong == [None; 3], "{wrong:?}");
-    Ok(())
 }
 
 #[test]
@@ -317,6 +325,10 @@ static BAD_TEXTS: [&[u8]; 17] = [
     &[12, 0, 0x80, 0],
 ];
 
+fn bad_texts() -> &'static [&'static [u8]] {
+    &BAD_TEXTS
+}
+
 /// Tests whether a text is refused, whole and by one byte, once its last byte is read.
 fn is_refused(alloc: Global, text: &[u8]) -> bool {
     whole_gives(alloc, text, &[], BAD)
@@ -325,7 +337,7 @@ fn is_refused(alloc: Global, text: &[u8]) -> bool {
 
 #[test]
 fn wrong_texts_are_refused(rt: HostRuntime) {
-    for &text in &BAD_TEXTS {
+    for &text in bad_texts() {
         assert!(rt; is_refused(rt.alloc(), text), "{text:?}");
     }
 }
@@ -342,6 +354,10 @@ static ENDS: [(&[u8], &[u8], Errors); 9] = [
     (&[], &[], AT_THE_END),
     (&[13], &[13], AT_THE_END),
 ];
+
+fn ends() -> &'static [(&'static [u8], &'static [u8], Errors)] {
+    &ENDS
+}
 
 /// Writes a step, flushes, and writes it again.
 fn write_twice(
@@ -386,16 +402,20 @@ static PROMISES: [&[u8]; 7] = [
     ],
 ];
 
+fn promises() -> &'static [&'static [u8]] {
+    &PROMISES
+}
+
 #[test]
 fn no_memory_is_taken_for_promised_items(rt: HostRuntime) {
-    for &text in &PROMISES {
+    for &text in promises() {
         assert!(rt; both_give(rt.alloc(), text, &[], CUT), "{text:?}");
     }
 }
 
 #[test]
 fn a_text_ends_between_steps(rt: HostRuntime) {
-    for &(text, steps, errors) in &ENDS {
+    for &(text, steps, errors) in ends() {
         assert!(rt; both_give(rt.alloc(), text, steps, errors), "{text:?}");
     }
 }

@@ -2,12 +2,59 @@ use sat_base::{Token, Tokenizer};
 use std::slice::Iter;
 use std::test::*;
 
-fn number(negative: bool, value: u64) -> Option<Token> {
-    Some(Token::Number { negative, value })
-}
+const ONE: Token = Token::Number {
+    negative: false,
+    value: 1,
+};
+
+const THREE: Token = Token::Number {
+    negative: false,
+    value: 3,
+};
+
+const ZERO: Option<Token> = Some(Token::Number {
+    negative: false,
+    value: 0,
+});
+
+const SEVEN: Option<Token> = Some(Token::Number {
+    negative: false,
+    value: 7,
+});
+
+const MINUS_SEVEN: Option<Token> = Some(Token::Number {
+    negative: true,
+    value: 7,
+});
+
+const MINUS_TWELVE: Option<Token> = Some(Token::Number {
+    negative: true,
+    value: 12,
+});
+
+/// The highest number that is given as it is, and one past it that is given as the limit.
+const HIGHEST: Option<Token> = Some(Token::Number {
+    negative: false,
+    value: u64::MAX - 1,
+});
+
+const MINUS_LIMIT: Option<Token> = Some(Token::Number {
+    negative: true,
+    value: u64::MAX,
+});
+
+const WRONG: Option<Token> = Some(Token::Wrong);
+
+const LIMIT_HEADER: Option<Token> = Some(Token::Header {
+    vars: 7,
+    clauses: u64::MAX,
+});
+
+/// A byte, the token that it ends, and the line on which the tokenizer stands behind it.
+type Step = (u8, Option<Token>, u64);
 
 /// The first of some bytes, with its line, behind which the tokenizer doesn't give this token, or none, and stand on this line.
-fn wrong_byte(tokenizer: &mut Tokenizer, rows: &[(u8, Option<Token>, u64)]) -> Option<(u8, u64)> {
+fn wrong_byte(tokenizer: &mut Tokenizer, rows: &[Step]) -> Option<(u8, u64)> {
     for &(byte, token, line) in rows {
         let found = tokenizer.push(byte);
         if found != token || tokenizer.line() != line {
@@ -17,35 +64,40 @@ fn wrong_byte(tokenizer: &mut Tokenizer, rows: &[(u8, Option<Token>, u64)]) -> O
     None
 }
 
+static STEPS: [Step; 21] = [
+    (b'c', None, 1),
+    (b'1', None, 1),
+    (b'\n', None, 1),
+    (b'-', None, 2),
+    (b'7', None, 2),
+    (b'\t', MINUS_SEVEN, 2),
+    (b'0', None, 2),
+    (b'0', None, 2),
+    (b'\r', ZERO, 2),
+    (b'\n', None, 2),
+    (b' ', None, 3),
+    (b'c', None, 3),
+    (b' ', None, 3),
+    (b'\n', None, 3),
+    (b'a', None, 4),
+    (b'\n', Some(Token::Letter(b'a')), 4),
+    (b'x', None, 5),
+    (b'c', None, 5),
+    (b' ', WRONG, 5),
+    (b'c', None, 5),
+    (b' ', Some(Token::Letter(b'c')), 5),
+];
+
+fn steps() -> &'static [Step] {
+    &STEPS
+}
+
 #[test]
 fn gives_tokens_where_they_end(rt: HostRuntime) {
     let mut tokenizer = Tokenizer::new();
-    assert!(rt; tokenizer.line() == 0);
-    let rows = [
-        (b'c', None, 1),
-        (b'1', None, 1),
-        (b'\n', None, 1),
-        (b'-', None, 2),
-        (b'7', None, 2),
-        (b'\t', number(true, 7), 2),
-        (b'0', None, 2),
-        (b'0', None, 2),
-        (b'\r', number(false, 0), 2),
-        (b'\n', None, 2),
-        (b' ', None, 3),
-        (b'c', None, 3),
-        (b' ', None, 3),
-        (b'\n', None, 3),
-        (b'a', None, 4),
-        (b'\n', Some(Token::Letter(b'a')), 4),
-        (b'x', None, 5),
-        (b'c', None, 5),
-        (b' ', Some(Token::Wrong), 5),
-        (b'c', None, 5),
-        (b' ', Some(Token::Letter(b'c')), 5),
-    ];
-    let wrong = wrong_byte(&mut tokenizer, &rows);
-    assert!(rt; wrong == None, "{wrong:?}");
+    let line = tokenizer.line();
+    let wrong = wrong_byte(&mut tokenizer, steps());
+    assert!(rt; line == 0 && wrong == None, "{wrong:?}");
     assert!(rt; tokenizer.finish() == None);
 }
 
@@ -60,6 +112,12 @@ fn is_next(left: &mut Iter<'_, (u64, Token)>, line: u64, token: Option<Token>) -
     }
 }
 
+/// Tests whether a text that ends gives the last of these tokens, if there is one left, and ends on this line.
+fn ends_on(tokenizer: &mut Tokenizer, left: &mut Iter<'_, (u64, Token)>, line: u64) -> bool {
+    let token = tokenizer.finish();
+    is_next(left, tokenizer.line(), token) && left.next() == None && tokenizer.line() == line
+}
+
 /// Tests whether a text gives what its row says.
 fn gives(row: &Row) -> bool {
     let mut tokenizer = Tokenizer::new();
@@ -70,8 +128,7 @@ fn gives(row: &Row) -> bool {
             return false;
         }
     }
-    let token = tokenizer.finish();
-    is_next(&mut left, tokenizer.line(), token) && left.next() == None && tokenizer.line() == row.2
+    ends_on(&mut tokenizer, &mut left, row.2)
 }
 
 /// Tests the same where all of a text is handed over.
@@ -89,8 +146,7 @@ fn gives_at_once(row: &Row) -> bool {
             return false;
         }
     }
-    let token = tokenizer.finish();
-    is_next(&mut left, tokenizer.line(), token) && left.next() == None && tokenizer.line() == row.2
+    ends_on(&mut tokenizer, &mut left, row.2)
 }
 
 /// The first text of some rows that doesn't give what its row says.
@@ -113,34 +169,31 @@ fn give_nothing(tokenizer: &mut Tokenizer, bytes: &[u8]) -> bool {
     true
 }
 
-#[test]
-fn gives_headers_where_their_lines_end(rt: HostRuntime) {
-    let front = b"c 1\n\n p\tcnf  007 18446744073709551616 ";
-    let header = Some(Token::Header {
-        vars: 7,
-        clauses: u64::MAX,
-    });
-    let mut tokenizer = Tokenizer::new();
-    assert!(rt; give_nothing(&mut tokenizer, front));
-    assert!(rt; (tokenizer.finish(), tokenizer.line()) == (header, 3));
-    let rows = [
-        (b'\n', header, 3),
-        (b'1', None, 4),
-        (b' ', number(false, 1), 4),
-    ];
-    let wrong = wrong_byte(&mut tokenizer, &rows);
-    assert!(rt; wrong == None, "{wrong:?}");
+/// A front with a header that waits for the end of its line, and what comes behind it.
+const FRONT: &[u8] = b"c 1\n\n p\tcnf  007 18446744073709551616 ";
+
+static BEHIND: [Step; 3] = [
+    (b'\n', LIMIT_HEADER, 3),
+    (b'1', None, 4),
+    (b' ', Some(ONE), 4),
+];
+
+fn behind() -> &'static [Step] {
+    &BEHIND
 }
 
-const ONE: Token = Token::Number {
-    negative: false,
-    value: 1,
-};
+/// Tests whether the front gives nothing, and a header once the text ends.
+fn gives_header_at_the_end(tokenizer: &mut Tokenizer) -> bool {
+    give_nothing(tokenizer, FRONT) && tokenizer.finish() == LIMIT_HEADER && tokenizer.line() == 3
+}
 
-const THREE: Token = Token::Number {
-    negative: false,
-    value: 3,
-};
+#[test]
+fn gives_headers_where_their_lines_end(rt: HostRuntime) {
+    let mut tokenizer = Tokenizer::new();
+    assert!(rt; gives_header_at_the_end(&mut tokenizer));
+    let wrong = wrong_byte(&mut tokenizer, behind());
+    assert!(rt; wrong == None, "{wrong:?}");
+}
 
 const HEADER: Token = Token::Header {
     vars: 2,
@@ -170,9 +223,13 @@ static OTHER_LINES: [Row; 18] = [
     (b"p cnf 1 1 x y\n3", &[(1, Token::Wrong), (2, THREE)], 2),
 ];
 
+fn other_lines() -> &'static [Row] {
+    &OTHER_LINES
+}
+
 #[test]
 fn refuses_other_lines_that_begin_with_p(rt: HostRuntime) {
-    let wrong = wrong_text(&OTHER_LINES);
+    let wrong = wrong_text(other_lines());
     assert!(rt; wrong == None, "{wrong:?}");
 }
 
@@ -201,9 +258,13 @@ static HEADERS: [Row; 6] = [
     ),
 ];
 
+fn headers() -> &'static [Row] {
+    &HEADERS
+}
+
 #[test]
 fn a_header_comes_once_and_before_words(rt: HostRuntime) {
-    let wrong = wrong_text(&HEADERS);
+    let wrong = wrong_text(headers());
     assert!(rt; wrong == None, "{wrong:?}");
 }
 
@@ -215,9 +276,13 @@ static PERCENT_LINES: [Row; 5] = [
     (b"1 %\n1", &[(1, ONE), (1, Token::Wrong), (2, ONE)], 2),
 ];
 
+fn percent_lines() -> &'static [Row] {
+    &PERCENT_LINES
+}
+
 #[test]
 fn a_percent_line_ends_the_text(rt: HostRuntime) {
-    let wrong = wrong_text(&PERCENT_LINES);
+    let wrong = wrong_text(percent_lines());
     assert!(rt; wrong == None, "{wrong:?}");
 }
 
@@ -227,27 +292,41 @@ fn is_told_at_the_end(word: &[u8], token: Option<Token>) -> bool {
     give_nothing(&mut tokenizer, word) && tokenizer.line() == 1 && tokenizer.finish() == token
 }
 
+static WORDS: [(&[u8], Option<Token>); 14] = [
+    (b"0", ZERO),
+    (b"007", SEVEN),
+    (b"-12", MINUS_TWELVE),
+    (b"-0", WRONG),
+    (b"-00", WRONG),
+    (b"+1", WRONG),
+    (b"-", WRONG),
+    (b"--1", WRONG),
+    (b"1-", WRONG),
+    (b"1a", WRONG),
+    (b"#", WRONG),
+    (b"Z", Some(Token::Letter(b'Z'))),
+    (b"18446744073709551614", HIGHEST),
+    (b"-99999999999999999999999", MINUS_LIMIT),
+];
+
+fn words() -> &'static [(&'static [u8], Option<Token>)] {
+    &WORDS
+}
+
+/// The first word that doesn't give its token at the end of the text.
+fn wrong_word() -> Option<&'static [u8]> {
+    for row in words() {
+        if !is_told_at_the_end(row.0, row.1) {
+            return Some(row.0);
+        }
+    }
+    None
+}
+
 #[test]
 fn tells_numbers_from_wrong_words(rt: HostRuntime) {
-    let words: [(&[u8], Option<Token>); 14] = [
-        (b"0", number(false, 0)),
-        (b"007", number(false, 7)),
-        (b"-12", number(true, 12)),
-        (b"-0", Some(Token::Wrong)),
-        (b"-00", Some(Token::Wrong)),
-        (b"+1", Some(Token::Wrong)),
-        (b"-", Some(Token::Wrong)),
-        (b"--1", Some(Token::Wrong)),
-        (b"1-", Some(Token::Wrong)),
-        (b"1a", Some(Token::Wrong)),
-        (b"#", Some(Token::Wrong)),
-        (b"Z", Some(Token::Letter(b'Z'))),
-        (b"18446744073709551614", number(false, u64::MAX - 1)),
-        (b"-99999999999999999999999", number(true, u64::MAX)),
-    ];
-    for (word, token) in words {
-        assert!(rt; is_told_at_the_end(word, token), "{word:?}");
-    }
+    let wrong = wrong_word();
+    assert!(rt; wrong == None, "{wrong:?}");
 }
 
 #[test]
