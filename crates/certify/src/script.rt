@@ -6,10 +6,11 @@ ghost use Rattle.certify.specs.script.ScriptParts.{commands_in, end_of, AreParts
 mod reader;
 
 pub use reader::read_script;
+use std::fmt;
 use std::marker::Model;
 
 /// A name, counted from 1, and a sign. Names past 2^28 are capped at 2^28+1.
-#[derive(Clone, Copy, Debug, PartialEq, Eq)]
+#[derive(Clone, Copy, PartialEq, Eq)]
 pub struct Literal {
     /// Twice the name, plus one if the literal is negative: four bytes, of which a script holds many.
     code: u32,
@@ -30,7 +31,18 @@ impl Model for Literal {
     ghost inverse_ok = { λ l _. ap (λ code. record { code = code }) (code_of_parts l.code) };
 }
 
+/// By name and sign.
+impl fmt::Debug for Literal {
+    fn fmt<W: fmt::Write>(&self, f: &mut fmt::Formatter<W>) -> fmt::Result {
+        f.debug_struct("Literal")
+            .field("name", &self.name())
+            .field("positive", &self.is_positive())
+            .finish()
+    }
+}
+
 impl Literal {
+    /// The literal of this name, below 2^31, with this sign.
     pub fn new(name: u32, positive: bool) -> Literal
         requires { name < 2 ^ 31 }
         ensures { result ≡ record { name = name; positive = positive } }

@@ -118,3 +118,16 @@ fn scripts_are_read(rt: HostRuntime) {
 fn laws_are_proved(_rt: HostRuntime) {
     holding_laws();
 }
+
+fn is_shown(alloc: Global, literal: Literal, text: &str) -> bool {
+    match format!(in alloc; "{literal:?}") {
+        Ok(shown) => shown.as_str() == text,
+        Err(_) => false,
+    }
+}
+
+#[test]
+fn literals_are_shown_by_name_and_sign(rt: HostRuntime) {
+    let literal = Literal::new(3, false);
+    assert!(rt; is_shown(rt.alloc(), literal, "Literal { name: 3, positive: false }"));
+}

@@ -154,7 +154,7 @@ const ASSUMED: u8 = 9;
 
 const FAILED: u8 = 10;
 
-/// None of these.
+/// None of these: a variable's name, which `is_user_var` compares, or what no test awaits.
 const OTHER: u8 = 11;
 
 const NONE: Ids = [NO; 4];
@@ -198,7 +198,9 @@ fn parts_of<'a>(step: &CheckedProofStep<'a>) -> Found<'a> {
             failed_core,
             propagations,
         } => (FAILED, 0, 0, false, failed_core, propagations),
-        _ => (OTHER, 0, 0, false, &[], &[]),
+        CheckedProofStep::UserVar { .. } | CheckedProofStep::DeleteRatClause { .. } => {
+            (OTHER, 0, 0, false, &[], &[])
+        }
     }
 }
 
@@ -234,7 +236,7 @@ fn is_told(step: &CheckedProofStep<'_>, told: Told) -> bool {
     }
 }
 
-/// What a transcript says, of which variable, and its literals.
+/// What a transcript says, by the place of its kind in the list below, of which variable, and its literals.
 fn said_parts<'a>(step: &ProofTranscriptStep<'a>) -> (u8, i64, &'a [Lit]) {
     match *step {
         ProofTranscriptStep::WitnessVar { var } => (0, var.to_dimacs(), &[]),

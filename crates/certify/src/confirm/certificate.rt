@@ -75,7 +75,7 @@ fn feed(checker: &mut Checker, step: &ProofStep<'_>) -> Result<(), Stop>
 fn settle(checker: &mut Checker) -> Result<(), Stop>
     ensures { Settles result (kernel_of checker.old) (kernel_of checker.new) }
 {
-    // Room for an answer is cleared where one is asked for, which is seldom.
+    // Mostly none is pending, and then nothing is cleared for what the call may answer, which is large.
     if checker.is_settled() {
         return Ok(());
     }
