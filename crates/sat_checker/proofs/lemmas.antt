@@ -10,3 +10,6 @@ pub mod formula
 pub mod state
 pub mod announcements
 pub mod checker
+pub mod contents
+pub mod leading
+pub mod invariants

@@ -4,7 +4,7 @@ use Rattle.std.specs.List.{AllByRecursion}
 use Rattle.sat_base.specs.values.Literals.{negated}
 use Rattle.sat_base.specs.values.Clauses.{Valuation, EachTrue}
 use Rattle.sat_base.specs.steps.Steps.{Step, UserVarName, DeleteVar, Model, FailedAssumptions}
-use Rattle.sat_checker.specs.LiteralSets.{is_among, is_tautology, canonical}
+use Rattle.sat_checker.specs.LiteralSets.{is_among, is_tautology, canonical, same_literals}
 use Rattle.sat_checker.specs.inner.Marks.{IsIncreasing}
 use Rattle.sat_checker.specs.Stored.{Empty, Stored, unknown, unit_literals, is_known, name_of, Satisfies}
 use Rattle.sat_checker.specs.Accepts.{Accepts, AcceptsAll, effect, ready_after}
@@ -72,3 +72,11 @@ CanonicalIsSortedSet = (ls : List ℕ) → IsIncreasing (canonical ls) × ((l : 
 -- a tautology has both signs of a variable
 abbrev pub TautologyHasBothSigns : Type 0
 TautologyHasBothSigns = (ls : List ℕ) → (is_tautology ls ≡ true) ↔ ((l : ℕ) × (is_among ls l ≡ true) × (is_among ls (negated l) ≡ true))
+
+-- sorted sets with the same literals are equal
+abbrev pub SortedSetsAreEqual : Type 0
+SortedSetsAreEqual = (xs ys : List ℕ) → IsIncreasing xs → IsIncreasing ys → ((l : ℕ) → is_among xs l ≡ is_among ys l) → xs ≡ ys
+
+-- lists are compared as they stand
+abbrev pub SameLiteralsAreEqual : Type 0
+SameLiteralsAreEqual = (xs ys : List ℕ) → (same_literals xs ys ≡ true) ↔ (xs ≡ ys)

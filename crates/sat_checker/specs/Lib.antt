@@ -13,6 +13,9 @@ pub mod CheckerView
 pub mod ProofView
 pub mod ClausesView
 pub mod DimacsView
+pub mod Leading
+pub mod Contents
+pub mod Invariants
 pub mod Laws
 pub mod Rows
 pub mod announcements

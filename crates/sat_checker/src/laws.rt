@@ -1,12 +1,14 @@
 //! What holds of the definitions: each law is the contract of a function that does nothing.
 ghost use Rattle.sat_checker.specs.DimacsView.{EndedStayFirst, ReadAreFirst};
-ghost use Rattle.sat_checker.specs.Laws.{CanonicalIsSortedSet, CoresAssumed, CoresFail, DeletedIsNameless, DeletionIsSeen, EmptyIsGiven, FormulaIsFold, KnownStays, ModelsExtend, NamedIsKnown, NamesApart, TautologyHasBothSigns, UnknownIsUnknown, UnsatMeansNone};
+ghost use Rattle.sat_checker.specs.Laws.{CanonicalIsSortedSet, CoresAssumed, CoresFail, DeletedIsNameless, DeletionIsSeen, EmptyIsGiven, FormulaIsFold, KnownStays, ModelsExtend, NamedIsKnown, NamesApart, SameLiteralsAreEqual, SortedSetsAreEqual, TautologyHasBothSigns, UnknownIsUnknown, UnsatMeansNone};
 ghost use Rattle.sat_checker.specs.Rows.{Assumed, BehindUnsat, BothSigns, ByDuplicate, ByNameLeft, ByOneCount, BySolverName, Colliding, ConflictAndUnit, EmptyBefore, EmptyBehind, EndAlone, FourClauses, HashesOfOneTwo, HiddenAdded, HiddenNamed, InClause, LastBehindConflict, LastUnit, ModelAgainstUnit, ModelTwice, ModelWithoutClause, Modelled, NameTaken, NamedAgain, NamedOnce, NamedTwice, NamedTwiceOver, NoNameTaken, NoRedundantCount, NotAssumed, Refuted, RefutedAtZero, SimplifiedByGone, SimplifiedByItself, SimplifiedByPart, SolverNamesHash, StoredTwice, Tautologies, TwoCounts, TwoUnits, UnitConflict, UnitForgotten, UnitsTurned, Unknown, UnknownMode, WithName, WitnessAdded, WitnessNamed};
 
 /// What clauses as sets are: the sorted form, and both signs of a variable.
 pub fn clauses_are_sets()
     ensures sorted { CanonicalIsSortedSet }
     ensures signs { TautologyHasBothSigns }
+    ensures sets { SortedSetsAreEqual }
+    ensures same { SameLiteralsAreEqual }
 {}
 
 /// After every list of accepted steps, what is stored means what the steps mean.

@@ -14,6 +14,7 @@ pub(crate) mod index;
 pub mod internal;
 pub(crate) mod kernel;
 pub mod law_announcements;
+pub mod law_stored;
 pub mod laws;
 pub(crate) mod lit_set;
 pub mod looks;

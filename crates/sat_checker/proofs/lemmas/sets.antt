@@ -5,3 +5,4 @@ pub mod Hashing
 pub mod Merging
 pub mod Order
 pub mod Distinct
+pub mod Members

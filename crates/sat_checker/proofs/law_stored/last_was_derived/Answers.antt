@@ -1,0 +1,5 @@
+use Rattle.sat_checker.proofs.lemmas.invariants.Last.{derived_is_last, last_stays, last_is_settled}
+use Rattle.sat_checker.proofs.law_stored.last_was_derived.Goals as goal
+
+pub returns : goal.returns
+returns c = record { derived = derived_is_last; stays = last_stays; settled = last_is_settled }

@@ -1,0 +1,21 @@
+-- Whatever steps there were, their contents are those of what is stored behind them.
+use Rattle.std.proofs.Common.{ℕ, ◌≡◌, Bool, true, false, List, [], ◌∷◌, refl, ◌∙◌, ap, None}
+use Rattle.sat_base.specs.steps.Steps.{Step}
+use Rattle.sat_checker.specs.Stored.{Stored, nothing_stored, unknown}
+use Rattle.sat_checker.specs.Accepts.{effect, stored_after, ready_after}
+use Rattle.sat_checker.specs.Contents.{Contents, contents, count_in, contents_after, contents_of}
+use Rattle.sat_checker.specs.Invariants.{ContentsOfSteps}
+use Rattle.sat_checker.proofs.lemmas.contents.Views.{contents_follow, contents_are_settled}
+use Rattle.sat_checker.proofs.lemmas.invariants.Counted.{TidyClauses, tidy_clauses}
+
+none_counts : (r : Bool) → count_in r None ≡ 0
+none_counts true = refl
+none_counts false = refl
+
+stored : (steps : List Step) → contents (stored_after steps) ≡ contents_of steps
+stored [] = λ i. record { counts = λ r set. none_counts r i; units = λ l. false; unsat = false; variables = nothing_stored.variables; solver_names = nothing_stored.solver_names; width = 64; assumed = []; ended = false; var_deleted = false }
+stored (step ∷ earlier) =
+    contents_follow (ready_after earlier) step (tidy_clauses earlier).once ∙ ap (contents_after step) (contents_are_settled (stored_after earlier) ∙ stored earlier)
+
+pub contents_of_steps : ContentsOfSteps
+contents_of_steps steps = contents_are_settled (stored_after steps) ∙ stored steps

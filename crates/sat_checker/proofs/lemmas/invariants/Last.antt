@@ -1,0 +1,58 @@
+-- Which clause is the last irredundant one behind a step.
+use Rattle.std.proofs.Common.{ℕ, ◌+◌, ◌<◌, ◌≤◌, ◌≡◌, Bool, true, false, cond, List, [], ◌∷◌, length, refl, sym, ◌∙◌, ap, subst, arith, Option, None, Some}
+use Rattle.sat_base.specs.steps.Steps.{Step, SolverVarName, UserVarName, DeleteVar, ChangeSamplingMode, AddClause, AtClause, UnitClauses, DeleteClause, ChangeHashBits, Model, Assumptions, FailedAssumptions, End}
+use Rattle.sat_checker.specs.LiteralSets.{is_tautology, canonical}
+use Rattle.sat_checker.specs.Stored.{StoredClause, Last, NoneYet, Empty, UnitClause, LongClause, Stored}
+use Rattle.sat_checker.specs.Storing.{clause_with, irredundant_count, settled_by, settled, with_canonical, with_clause, with_literals_known, last_literals, long_at, clause_numbered, unit_numbered}
+use Rattle.sat_checker.specs.Accepts.{AcceptsAll, effect, stored_after, ready_after}
+use Rattle.sat_checker.specs.Invariants.{DerivedIsLast, leaves_last, LastStays, LastIsSettled}
+use Rattle.sat_checker.proofs.lemmas.meaning.Orderly.{Orderly, numbered_itself, stored_count}
+use Rattle.sat_checker.proofs.lemmas.meaning.OrderlySteps.{orderly}
+
+last_same : (last : Last) (f g : Stored) → f.units ≡ g.units → f.clauses ≡ g.clauses → last_literals last f ≡ last_literals last g
+last_same NoneYet f g u c = refl
+last_same (Empty id) f g u c = refl
+last_same (UnitClause id) f g u c = ap (unit_numbered id) u
+last_same (LongClause id) f g u c = ap (clause_numbered id) c
+
+pub last_is_settled : LastIsSettled
+last_is_settled f = go f.conflict
+  where
+    go : (o : Option (ℕ × ℕ)) → last_literals (settled_by o f).last (settled_by o f) ≡ last_literals f.last f
+    go None = refl
+    go (Some units) = last_same f.last (record f { conflict = None; next_id = f.next_id + 1 }) f refl refl
+
+pub last_stays : LastStays
+last_stays f (SolverVarName v None) e = last_same f.last (effect (SolverVarName v None) f) f refl refl
+last_stays f (SolverVarName v (Some name)) e = last_same f.last (effect (SolverVarName v (Some name)) f) f refl refl
+last_stays f (UserVarName v (Some name)) e = last_same f.last (effect (UserVarName v (Some name)) f) f refl refl
+last_stays f (UserVarName v None) e = last_same f.last (effect (UserVarName v None) f) f refl refl
+last_stays f (ChangeSamplingMode v sample) e = last_same f.last (effect (ChangeSamplingMode v sample) f) f refl refl
+last_stays f (ChangeHashBits bits) e = last_same f.last (record f { width = bits }) f refl refl
+last_stays f (Model ls) e = last_same f.last (with_literals_known ls f) f refl refl
+last_stays f (Assumptions ls) e = last_same f.last (effect (Assumptions ls) f) f refl refl
+last_stays f (FailedAssumptions core hashes) e = refl
+last_stays f End e = last_same f.last (effect End f) f refl refl
+last_stays f (DeleteVar v) e = absurd cc
+last_stays f (AddClause clause) e = absurd cc
+last_stays f (AtClause r clause hashes) e = absurd cc
+last_stays f (UnitClauses us) e = absurd cc
+last_stays f (DeleteClause clause proof) e = absurd cc
+
+derived : (set : List ℕ) (g : Stored) → 2 ≤ length set → Orderly (with_canonical false set g) → last_literals (with_canonical false set g).last (with_canonical false set g) ≡ Some set
+derived [] g n o = absurd (omega arith)
+derived (l ∷ []) g n o = absurd (omega arith)
+derived (l ∷ m ∷ ls) g n o = go (clause_with (l ∷ m ∷ ls) (with_clause false g.next_id (l ∷ m ∷ ls) g.clauses)) refl (stored_count g.next_id (l ∷ m ∷ ls) g.clauses)
+  where
+    go : (d : Option StoredClause) → clause_with (l ∷ m ∷ ls) (with_clause false g.next_id (l ∷ m ∷ ls) g.clauses) ≡ d → 0 < irredundant_count d → last_literals (long_at d g.last) (with_canonical false (l ∷ m ∷ ls) g) ≡ Some (l ∷ m ∷ ls)
+    go None k n = absurd (omega arith)
+    go (Some d) k n = numbered_itself (l ∷ m ∷ ls) d (with_clause false g.next_id (l ∷ m ∷ ls) g.clauses) o.increasing k
+
+pub derived_is_last : DerivedIsLast
+derived_is_last steps clause hashes ok e n =
+    last_is_settled (stored_after (AtClause false clause hashes ∷ steps)) ∙ go (is_tautology clause) e (orderly (AtClause false clause hashes ∷ steps) ok)
+  where
+    go : (b : Bool) → b ≡ false → Orderly (cond b (with_literals_known clause (ready_after steps)) (with_canonical false (canonical clause) (with_literals_known clause (ready_after steps))))
+        → last_literals (cond b (with_literals_known clause (ready_after steps)) (with_canonical false (canonical clause) (with_literals_known clause (ready_after steps)))).last (cond b (with_literals_known clause (ready_after steps)) (with_canonical false (canonical clause) (with_literals_known clause (ready_after steps)))) ≡ Some (canonical clause)
+    go true k o = absurd cc
+    go false k o = derived (canonical clause) (with_literals_known clause (ready_after steps)) n o

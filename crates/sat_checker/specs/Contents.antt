@@ -1,0 +1,126 @@
+-- What is stored, when ids, the order of clauses and a pending unit conflict are left aside, and what each step makes of that.
+use Rattle.std.specs.Prelude.{ℕ, ◌+◌, ◌-◌, ◌==◌, ◌≡◌, Bool, true, false, not, ◌&&◌, ◌||◌, Option, None, Some, List, [], ◌∷◌, map, if◌then◌else◌}
+use Rattle.sat_base.specs.values.Literals.{variable, negated}
+use Rattle.sat_base.specs.steps.Steps.{Redundant, Step, SolverVarName, UserVarName, DeleteVar, ChangeSamplingMode, AddClause, AtClause, UnitClauses, DeleteClause, ChangeHashBits, Model, Assumptions, FailedAssumptions, End}
+use Rattle.sat_checker.specs.LiteralSets.{is_among, is_tautology, canonical, same_literals}
+use Rattle.sat_checker.specs.Stored.{Sample, Witness, Hide, Variable, unknown, StoredClause, Stored, is_unit}
+use Rattle.sat_checker.specs.Storing.{clause_with, irredundant_count, redundant_count}
+
+abbrev pub count_in : Bool → Option StoredClause → ℕ
+count_in true c = redundant_count c
+count_in false c = irredundant_count c
+
+-- how often a set of literals stands among clauses, as redundant (true) or as irredundant
+abbrev pub count_of : Bool → List ℕ → List StoredClause → ℕ
+count_of redundant set clauses = count_in redundant (clause_with set clauses)
+
+pub record Contents : Type 0 where
+  pub counts : Bool → List ℕ → ℕ  -- of each set of literals, redundant (true) or irredundant
+  pub units : ℕ → Bool
+  pub unsat : Bool
+  pub variables : ℕ → Variable
+  pub solver_names : ℕ → Option ℕ
+  pub width : ℕ
+  pub assumed : List ℕ
+  pub ended : Bool
+  pub var_deleted : Bool
+
+abbrev pub contents : Stored → Contents
+contents f = record {
+  counts = λ redundant set. count_of redundant set f.clauses;
+  units = is_unit f;
+  unsat = f.unsat;
+  variables = f.variables;
+  solver_names = f.solver_names;
+  width = f.width;
+  assumed = f.assumed;
+  ended = f.ended;
+  var_deleted = f.var_deleted;
+}
+
+abbrev pub same_side : Bool → Bool → Bool
+same_side true redundant = redundant
+same_side false redundant = not redundant
+
+-- one more where it's this one
+abbrev pub more_if : Bool → ℕ → ℕ
+more_if b n = if b then n + 1 else n
+
+abbrev pub less_if : Bool → ℕ → ℕ
+less_if b n = if b then n - 1 else n
+
+abbrev pub one_more : Bool → List ℕ → Contents → Contents
+one_more redundant set c = record c { counts = λ r other. more_if (same_side redundant r && same_literals set other) (c.counts r other) }
+
+abbrev pub one_less : Bool → List ℕ → Contents → Contents
+one_less redundant set c = record c { counts = λ r other. less_if (same_side redundant r && same_literals set other) (c.counts r other) }
+
+-- a unit: nothing where it is one, unsat where its negation is one
+abbrev pub unit_more : ℕ → Contents → Contents
+unit_more l c = if c.units l then c else (if c.units (negated l) then record c { unsat = true } else record c { units = λ m. l == m || c.units m })
+
+abbrev pub units_more : List ℕ → Contents → Contents
+units_more [] c = c
+units_more (l ∷ ls) c = units_more ls (unit_more l c)
+
+-- a sorted set of literals
+abbrev pub set_more : Bool → List ℕ → Contents → Contents
+set_more redundant [] c = record c { unsat = true }
+set_more redundant (l ∷ []) c = unit_more l c
+set_more redundant (l ∷ m ∷ ls) c = one_more redundant (l ∷ m ∷ ls) c
+
+-- a clause: a tautology changes nothing
+abbrev pub clause_more : Bool → List ℕ → Contents → Contents
+clause_more redundant clause c = if is_tautology clause then c else set_more redundant (canonical clause) c
+
+abbrev pub variable_set : ℕ → Variable → Contents → Contents
+variable_set v x c = record c { variables = λ w. if w == v then x else c.variables w }
+
+abbrev pub known_more : List ℕ → Contents → Contents
+known_more vs c = record c { variables = λ v. if is_among vs v then record (c.variables v) { known = true } else c.variables v }
+
+abbrev pub literals_known : List ℕ → Contents → Contents
+literals_known ls = known_more (map variable ls)
+
+abbrev pub solver_name_set : ℕ → Option ℕ → Contents → Contents
+solver_name_set v name c = record c { solver_names = λ w. if w == v then name else c.solver_names w }
+
+abbrev pub variable_less : ℕ → Contents → Contents
+variable_less v c = record (variable_set v unknown c) { units = λ l. c.units l && not (variable l == v); var_deleted = true }
+
+-- behind a step, whether it's accepted or not
+abbrev pub contents_after : Step → Contents → Contents
+contents_after (SolverVarName v None) c = solver_name_set v None c
+contents_after (SolverVarName v (Some name)) c = solver_name_set v (Some name) (known_more (v ∷ []) c)
+contents_after (UserVarName v (Some name)) c = variable_set v (record (c.variables v) { known = true; name = Some name }) c
+contents_after (UserVarName v None) c = variable_set v (record (c.variables v) { mode = Hide; name = None }) c
+contents_after (DeleteVar v) c = variable_less v c
+contents_after (ChangeSamplingMode v sample) c = variable_set v (record (c.variables v) { mode = (if sample then Sample else Witness) }) c
+contents_after (AddClause clause) c = if c.unsat then c else clause_more false clause (literals_known clause c)
+contents_after (AtClause redundant clause hashes) c = clause_more redundant clause (literals_known clause c)
+contents_after (UnitClauses us) c = let ls : List ℕ = map (λ u. u.0) us in units_more ls (literals_known ls c)
+contents_after (DeleteClause clause Redundant) c = one_less true (canonical clause) c
+contents_after (DeleteClause clause proof) c = one_less false (canonical clause) c
+contents_after (ChangeHashBits bits) c = record c { width = bits }
+contents_after (Model ls) c = literals_known ls c
+contents_after (Assumptions ls) c = record (literals_known ls c) { assumed = ls }
+contents_after (FailedAssumptions core hashes) c = c
+contents_after End c = record c { ended = true }
+
+abbrev pub no_contents : Contents
+no_contents = record {
+  counts = λ redundant set. 0;
+  units = λ l. false;
+  unsat = false;
+  variables = λ v. unknown;
+  solver_names = λ v. None;
+  width = 64;
+  assumed = [];
+  ended = false;
+  var_deleted = false;
+}
+
+-- the newest step first
+abbrev pub contents_of : List Step → Contents
+contents_of [] = no_contents
+contents_of (step ∷ earlier) = contents_after step (contents_of earlier)

@@ -1,0 +1,104 @@
+-- What always holds of what is stored, and what steps leave as it was.
+use Rattle.std.specs.Prelude.{ℕ, ◌+◌, ◌<◌, ◌≤◌, ◌≡◌, ◌↔◌, Bool, true, false, ◌&&◌, Option, None, Some, List, [], ◌∷◌, map, length}
+use Rattle.std.specs.List.{AllByRecursion}
+use Rattle.sat_base.specs.values.Literals.{variable}
+use Rattle.sat_base.specs.values.Clauses.{Valuation, EachHolds}
+use Rattle.sat_base.specs.steps.Steps.{Step, SolverVarName, UserVarName, ChangeSamplingMode, AtClause, ChangeHashBits, Model, Assumptions, FailedAssumptions, End}
+use Rattle.sat_checker.specs.LiteralSets.{is_tautology, canonical, same_literals}
+use Rattle.sat_checker.specs.inner.Marks.{IsIncreasing}
+use Rattle.sat_checker.specs.Stored.{StoredClause, Stored, unit_literals, long_clauses, is_known}
+use Rattle.sat_checker.specs.Storing.{clause_with, without_clause, settled, last_literals}
+use Rattle.sat_checker.specs.Accepts.{VariablesApart, Accepts, AcceptsAll, effect, stored_after, ready_after}
+use Rattle.sat_checker.specs.Fold.{Holds}
+use Rattle.sat_checker.specs.Contents.{count_of, same_side, more_if, less_if, contents, contents_after, contents_of}
+
+-- no set of literals is stored twice
+abbrev pub EachOnce : List StoredClause → Type 0
+EachOnce [] = Unit {0}
+EachOnce (c ∷ cs) = (clause_with c.literals cs ≡ None) × EachOnce cs
+
+-- each has a count
+abbrev pub EachCounted : List StoredClause → Type 0
+EachCounted = AllByRecursion (λ c. 0 < c.irredundant + c.redundant)
+
+-- in order of ids, all of which were given
+pub record IdsRise (f : Stored) : Type 0 where
+  pub rising : IsIncreasing (map (λ c. c.id) f.clauses)
+  pub given : AllByRecursion (λ id. id < f.next_id) (map (λ c. c.id) f.clauses)
+
+-- two different literals or more, sorted, and not both signs of a variable
+pub record IsProper (literals : List ℕ) : Type 0 where
+  pub two : 2 ≤ length literals
+  pub sorted : IsIncreasing literals
+  pub apart : is_tautology literals ≡ false
+
+abbrev pub AllKnown : Stored → List ℕ → Type 0
+AllKnown f = AllByRecursion (λ l. is_known (variable l) f ≡ true)
+
+pub record IsTidy (f : Stored) : Type 0 where
+  pub proper : AllByRecursion IsProper (long_clauses f)
+  pub once : EachOnce f.clauses
+  pub counted : EachCounted f.clauses
+  pub ids : IdsRise f
+  pub units_apart : VariablesApart (unit_literals f)
+  pub clauses_known : AllByRecursion (AllKnown f) (long_clauses f)
+  pub units_known : AllKnown f (unit_literals f)
+  pub assumed_known : AllKnown f f.assumed
+
+-- it's so after every list of accepted steps
+abbrev pub AlwaysTidy : Type 0
+AlwaysTidy = (steps : List Step) → AcceptsAll steps → IsTidy (ready_after steps)
+
+-- once unsat is recorded, it stays so
+abbrev pub UnsatStays : Type 0
+UnsatStays = (f : Stored) (step : Step) → f.unsat ≡ true → (effect step f).unsat ≡ true
+
+-- a pending unit conflict changes nothing in what is accepted
+abbrev pub PendingChangesNothing : Type 0
+PendingChangesNothing = (f : Stored) (step : Step) → Accepts f step ↔ Accepts (settled f) step
+
+-- redundant clauses hold wherever the others do
+abbrev pub AllClausesHold : Type 0
+AllClausesHold = (steps : List Step) (a : Valuation) → AcceptsAll steps → Holds steps a → EachHolds a (long_clauses (ready_after steps))
+
+-- each step makes of the contents what it says, and a settled unit conflict changes nothing of them
+abbrev pub ContentsFollow : Type 0
+ContentsFollow = (f : Stored) (step : Step) → EachOnce f.clauses → contents (effect step f) ≡ contents_after step (contents f)
+
+abbrev pub ContentsAreSettled : Type 0
+ContentsAreSettled = (f : Stored) → contents (settled f) ≡ contents f
+
+abbrev pub ContentsOfSteps : Type 0
+ContentsOfSteps = (steps : List Step) → contents (ready_after steps) ≡ contents_of steps
+
+-- a count that is taken is one of this set and this side, and no other
+abbrev pub TakingCounts : Type 0
+TakingCounts = (redundant side : Bool) (set other : List ℕ) (cs : List StoredClause) → EachOnce cs →
+    count_of side other (without_clause redundant set cs) ≡ less_if (same_side redundant side && same_literals set other) (count_of side other cs)
+
+-- a set is stored exactly if it has a count
+abbrev pub CountedIsStored : Type 0
+CountedIsStored = (set : List ℕ) (cs : List StoredClause) → EachCounted cs → (clause_with set cs ≡ None) ↔ (count_of false set cs + count_of true set cs ≡ 0)
+
+-- an irredundant derived clause of two literals or more is the last one stored
+abbrev pub DerivedIsLast : Type 0
+DerivedIsLast = (steps : List Step) (clause hashes : List ℕ) → AcceptsAll (AtClause false clause hashes ∷ steps) → is_tautology clause ≡ false → 2 ≤ length (canonical clause) →
+    last_literals (ready_after (AtClause false clause hashes ∷ steps)).last (ready_after (AtClause false clause hashes ∷ steps)) ≡ Some (canonical clause)
+
+-- a step that stores no clause and no unit, and takes none
+abbrev pub leaves_last : Step → Bool
+leaves_last (SolverVarName v name) = true
+leaves_last (UserVarName v name) = true
+leaves_last (ChangeSamplingMode v sample) = true
+leaves_last (ChangeHashBits bits) = true
+leaves_last (Model ls) = true
+leaves_last (Assumptions ls) = true
+leaves_last (FailedAssumptions core hashes) = true
+leaves_last End = true
+leaves_last step = false
+
+abbrev pub LastStays : Type 0
+LastStays = (f : Stored) (step : Step) → leaves_last step ≡ true → last_literals (effect step f).last (effect step f) ≡ last_literals f.last f
+
+abbrev pub LastIsSettled : Type 0
+LastIsSettled = (f : Stored) → last_literals (settled f).last (settled f) ≡ last_literals f.last f

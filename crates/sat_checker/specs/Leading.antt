@@ -1,0 +1,55 @@
+-- How stored clauses that hashes name lead to a conflict. Their literals stand in any order, and what else a bucket holds doesn't matter.
+use Rattle.std.specs.Prelude.{ℕ, ◌≡◌, ◌⊎◌, ◌==◌, ◌||◌, Bool, true, Option, is_some, List, [], ◌∷◌, map}
+use Rattle.std.specs.List.{AllByRecursion}
+use Rattle.sat_base.specs.values.Literals.{negated}
+use Rattle.sat_base.specs.values.Clauses.{Valuation, EachTrue, EachHolds}
+use Rattle.sat_checker.specs.LiteralSets.{is_among, canonical}
+use Rattle.sat_checker.specs.inner.Marks.{NoRepeats}
+use Rattle.sat_checker.specs.Propagation.{UnitInTurn}
+use Rattle.sat_checker.specs.Stored.{Stored, is_unit, hash_by}
+use Rattle.sat_checker.specs.Storing.{clause_with}
+use Rattle.sat_checker.specs.Accepts.{Passes}
+
+-- Each clause in turn has no literal but one that isn't false by then, and that one is true from there on; of the last all are false. Nothing is asked of the one literal: it may be true or false already.
+abbrev pub Leads : (ℕ → Bool) → List (List ℕ) → Type 0
+Leads holds [] = ⊥
+Leads holds (c ∷ []) = AllByRecursion (λ l. holds (negated l) ≡ true) c
+Leads holds (c ∷ d ∷ cs) =
+    (open_literal : ℕ) × AllByRecursion (λ l. (l ≡ open_literal) ⊎ (holds (negated l) ≡ true)) c × (is_among c open_literal ≡ true) × Leads (λ l. open_literal == l || holds l) (d ∷ cs)
+
+-- a stored clause, its literals in any order, and its hash
+pub record IsNamed (f : Stored) (clause : List ℕ) (name : ℕ) : Type 0 where
+  pub once : NoRepeats clause
+  pub stored : is_some (clause_with (canonical clause) f.clauses) ≡ true
+  pub hash : name ≡ hash_by f.solver_names f.width clause
+
+-- stored clauses, and the hash of each
+abbrev pub AreNamed : Stored → List (List ℕ) → List ℕ → Type 0
+AreNamed f [] [] = Unit {0}
+AreNamed f [] (h ∷ hs) = ⊥
+AreNamed f (c ∷ cs) [] = ⊥
+AreNamed f (c ∷ cs) (h ∷ hs) = IsNamed f c h × AreNamed f cs hs
+
+-- what the check of a clause begins with: its literals are false, and the units are true
+abbrev pub denied : Stored → List ℕ → ℕ → Bool
+denied f clause l = is_among (map negated clause) l || is_unit f l
+
+-- stored clauses that are named and lead to a conflict make a clause pass
+abbrev pub LeadingPasses : Type 0
+LeadingPasses = (f : Stored) (clause hashes : List ℕ) (named : List (List ℕ)) → AreNamed f named hashes → Leads (denied f clause) named → Passes f clause hashes
+
+-- clauses that are unit in turn lead to a conflict
+abbrev pub TurnsLead : Type 0
+TurnsLead = (assumed : List ℕ) (clauses : List (List ℕ)) → UnitInTurn assumed clauses → Leads (is_among assumed) clauses
+
+-- and can't all be true where the assumed literals are
+abbrev pub TurnsConflict : Type 0
+TurnsConflict = (a : Valuation) (assumed : List ℕ) (clauses : List (List ℕ)) → UnitInTurn assumed clauses → EachTrue a assumed → EachHolds a clauses → ⊥
+
+-- what leads to a conflict does so where more holds
+abbrev pub LeadsOnMore : Type 0
+LeadsOnMore = (clauses : List (List ℕ)) (p q : ℕ → Bool) → ((l : ℕ) → p l ≡ true → q l ≡ true) → Leads p clauses → Leads q clauses
+
+-- the hash of literals without repeats is that of their sorted set
+abbrev pub HashOfAnyOrder : Type 0
+HashOfAnyOrder = (names : ℕ → Option ℕ) (width : ℕ) (literals : List ℕ) → NoRepeats literals → hash_by names width (canonical literals) ≡ hash_by names width literals

@@ -1,0 +1,37 @@
+//! What makes a clause pass, what each step leaves of what is stored, and what always holds of it: each law is the contract of a function that
+//! does nothing.
+ghost use Rattle.sat_checker.specs.Invariants.{AllClausesHold, AlwaysTidy, ContentsAreSettled, ContentsFollow, ContentsOfSteps, CountedIsStored, DerivedIsLast, LastIsSettled, LastStays, PendingChangesNothing, TakingCounts, UnsatStays};
+ghost use Rattle.sat_checker.specs.Leading.{HashOfAnyOrder, LeadingPasses, LeadsOnMore, TurnsConflict, TurnsLead};
+
+/// Stored clauses that hashes name make a clause pass where they lead to a conflict, whatever else the buckets hold.
+pub fn named_clauses_pass()
+    ensures passes { LeadingPasses }
+    ensures turns { TurnsLead }
+    ensures conflict { TurnsConflict }
+    ensures more { LeadsOnMore }
+    ensures order { HashOfAnyOrder }
+{}
+
+/// What each step makes of the contents of what is stored: counts of clauses, units, names and settings.
+pub fn contents_follow_steps()
+    ensures step { ContentsFollow }
+    ensures settled { ContentsAreSettled }
+    ensures steps { ContentsOfSteps }
+    ensures taking { TakingCounts }
+    ensures counted { CountedIsStored }
+{}
+
+/// What holds of what is stored behind every list of accepted steps.
+pub fn stored_is_tidy()
+    ensures tidy { AlwaysTidy }
+    ensures unsat { UnsatStays }
+    ensures pending { PendingChangesNothing }
+    ensures clauses { AllClausesHold }
+{}
+
+/// Which clause is the last irredundant one stored.
+pub fn last_was_derived()
+    ensures derived { DerivedIsLast }
+    ensures stays { LastStays }
+    ensures settled { LastIsSettled }
+{}
