@@ -18,5 +18,6 @@ pub mod Contents
 pub mod Invariants
 pub mod Laws
 pub mod Rows
+pub mod MeaningRows
 pub mod announcements
 pub mod telling

@@ -1,6 +1,7 @@
 //! What holds of the definitions: each law is the contract of a function that does nothing.
 ghost use Rattle.sat_checker.specs.DimacsView.{EndedStayFirst, ReadAreFirst};
 ghost use Rattle.sat_checker.specs.Laws.{CanonicalIsSortedSet, CoresAssumed, CoresFail, DeletedIsNameless, DeletionIsSeen, EmptyIsGiven, FormulaIsFold, KnownStays, ModelsExtend, NamedIsKnown, NamesApart, SameLiteralsAreEqual, SortedSetsAreEqual, TautologyHasBothSigns, UnknownIsUnknown, UnsatMeansNone};
+ghost use Rattle.sat_checker.specs.MeaningRows.{DeletedIsFree, EitherHolds, FourHaveNone, LooksOfAll, LooksOfKinds, OnlyAddedAsk, StoredAsk, UnsatAsks};
 ghost use Rattle.sat_checker.specs.Rows.{Assumed, BehindUnsat, BothSigns, ByDuplicate, ByNameLeft, ByOneCount, BySolverName, Colliding, ConflictAndUnit, EmptyBefore, EmptyBehind, EndAlone, FourClauses, HashesOfOneTwo, HiddenAdded, HiddenNamed, InClause, LastBehindConflict, LastUnit, ModelAgainstUnit, ModelTwice, ModelWithoutClause, Modelled, NameTaken, NamedAgain, NamedOnce, NamedTwice, NamedTwiceOver, NoNameTaken, NoRedundantCount, NotAssumed, Refuted, RefutedAtZero, SimplifiedByGone, SimplifiedByItself, SimplifiedByPart, SolverNamesHash, StoredTwice, Tautologies, TwoCounts, TwoUnits, UnitConflict, UnitForgotten, UnitsTurned, Unknown, UnknownMode, WithName, WitnessAdded, WitnessNamed};
 
 /// What clauses as sets are: the sorted form, and both signs of a variable.
@@ -124,4 +125,16 @@ pub fn rows_of_effects()
     ensures tautologies { Tautologies }
     ensures witness { WitnessNamed }
     ensures unknown { UnknownMode }
+{}
+
+/// Worked rows of what steps mean, of what satisfies the stored formula, and of looks.
+pub fn rows_of_meaning()
+    ensures either { EitherHolds }
+    ensures four { FourHaveNone }
+    ensures deleted { DeletedIsFree }
+    ensures added { OnlyAddedAsk }
+    ensures stored { StoredAsk }
+    ensures unsat { UnsatAsks }
+    ensures kinds { LooksOfKinds }
+    ensures all { LooksOfAll }
 {}

@@ -1,3 +1,4 @@
 pub mod Accepted
 pub mod Others
 pub mod More
+pub mod Meanings

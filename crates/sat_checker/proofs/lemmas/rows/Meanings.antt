@@ -1,0 +1,43 @@
+-- Worked rows of what steps mean.
+use Rattle.std.proofs.Common.{ℕ, ◌≡◌, Bool, true, false, not, cond, ◌||◌, refl, sym, inl, inr}
+use Rattle.std.proofs.lemmas.Bool.{cases_Bool, true≢false}
+use Rattle.sat_base.specs.values.Clauses.{Valuation}
+use Rattle.sat_checker.specs.MeaningRows.{EitherHolds, FourHaveNone, DeletedIsFree, OnlyAddedAsk, StoredAsk, UnsatAsks, LooksOfKinds, LooksOfAll}
+
+no : false ≡ true → ⊥
+no e = true≢false (sym e)
+
+pub either_holds : EitherHolds
+either_holds = ((tt, refl), (tt, refl), λ h. no h.1)
+
+pub four_have_none : FourHaveNone
+four_have_none a h = go (a 0) (a 1) h.0.0.0.1 h.0.0.1 h.0.1 h.1
+  where
+    go : (x y : Bool) → (x || (y || false)) ≡ true → (x || (not y || false)) ≡ true → (not x || (y || false)) ≡ true → (not x || (not y || false)) ≡ true → ⊥
+    go true true p q r s = no s
+    go true false p q r s = no r
+    go false true p q r s = no q
+    go false false p q r s = no p
+
+pub deleted_is_free : DeletedIsFree
+deleted_is_free = (inr (tt, refl), (inr (tt, refl), refl), λ h. no h.1)
+
+pub only_added_ask : OnlyAddedAsk
+only_added_ask = (tt, refl)
+
+pub stored_ask : StoredAsk
+stored_ask = (
+  record { consistent = refl; kept = (inr refl, tt); units = tt },
+  (λ s. elim s.kept.0 [ inl z ↦ absurd cc | inr t ↦ no t ]),
+  record { consistent = refl; kept = (inl refl, tt); units = tt },
+  (λ s. no s.units.0),
+)
+
+pub unsat_asks : UnsatAsks
+unsat_asks a s = true≢false s.consistent
+
+pub looks_of_kinds : LooksOfKinds
+looks_of_kinds = refl
+
+pub looks_of_all : LooksOfAll
+looks_of_all = refl

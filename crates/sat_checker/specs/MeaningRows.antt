@@ -1,0 +1,60 @@
+-- Worked rows of what steps mean, of what is satisfied, and of looks.
+use Rattle.std.specs.Prelude.{ℕ, ◌==◌, ◌≡◌, Bool, true, false, List, [], ◌∷◌, map}
+use Rattle.sat_base.specs.values.Clauses.{Valuation}
+use Rattle.sat_base.specs.steps.Steps.{Redundant, Step, DeleteVar, AddClause, AtClause, UnitClauses, DeleteClause, FailedAssumptions, End}
+use Rattle.sat_checker.specs.Stored.{Satisfies}
+use Rattle.sat_checker.specs.Fold.{Holds}
+use Rattle.sat_checker.specs.Looks.{most_looks, most_looks_of}
+use Rattle.sat_checker.specs.Rows.{behind, ready_by, four_clauses}
+
+-- this variable alone is true
+abbrev pub only : ℕ → Valuation
+only v w = w == v
+
+abbrev pub none_true : Valuation
+none_true v = false
+
+abbrev pub HoldsBehind : List Step → Valuation → Type 0
+HoldsBehind steps = Holds (behind steps [])
+
+-- [1, 2] is true by either literal, and false by none
+abbrev pub EitherHolds : Type 0
+EitherHolds =
+    HoldsBehind (AddClause (0 ∷ 2 ∷ []) ∷ []) (only 0) × HoldsBehind (AddClause (0 ∷ 2 ∷ []) ∷ []) (only 1)
+    × (HoldsBehind (AddClause (0 ∷ 2 ∷ []) ∷ []) none_true → ⊥)
+
+-- no valuation satisfies the four clauses over two variables
+abbrev pub FourHaveNone : Type 0
+FourHaveNone = (a : Valuation) → HoldsBehind four_clauses a → ⊥
+
+-- [1], and then its variable is deleted: it may be false, and so may it be where [2] is added then
+abbrev pub DeletedIsFree : Type 0
+DeletedIsFree =
+    HoldsBehind (AddClause (0 ∷ []) ∷ DeleteVar 0 ∷ []) none_true × HoldsBehind (AddClause (0 ∷ []) ∷ DeleteVar 0 ∷ AddClause (2 ∷ []) ∷ []) (only 1)
+    × (HoldsBehind (AddClause (0 ∷ []) ∷ DeleteVar 0 ∷ AddClause (2 ∷ []) ∷ []) none_true → ⊥)
+
+-- derived clauses, and those that are deleted, ask for nothing
+abbrev pub OnlyAddedAsk : Type 0
+OnlyAddedAsk = HoldsBehind (AtClause false (0 ∷ []) [] ∷ AddClause (2 ∷ []) ∷ DeleteClause (2 ∷ []) Redundant ∷ []) (only 1)
+
+-- a stored clause asks for a true literal, a redundant one for nothing, and a unit for itself
+abbrev pub StoredAsk : Type 0
+StoredAsk =
+    Satisfies (ready_by (AddClause (0 ∷ 2 ∷ []) ∷ [])) (only 0)
+    × (Satisfies (ready_by (AddClause (0 ∷ 2 ∷ []) ∷ [])) none_true → ⊥)
+    × Satisfies (ready_by (AtClause true (0 ∷ 2 ∷ []) [] ∷ [])) none_true
+    × (Satisfies (ready_by (AddClause (0 ∷ []) ∷ [])) none_true → ⊥)
+
+-- recorded unsat leaves none
+abbrev pub UnsatAsks : Type 0
+UnsatAsks = (a : Valuation) → Satisfies (ready_by (AddClause [] ∷ [])) a → ⊥
+
+-- Eight literals are stored: 40 looks, and 16 more for each hash that is named.
+abbrev pub LooksOfKinds : Type 0
+LooksOfKinds =
+    map (most_looks (ready_by four_clauses)) (AddClause (0 ∷ []) ∷ AtClause true (0 ∷ []) (1 ∷ 2 ∷ []) ∷ UnitClauses ((0, 1) ∷ []) ∷ FailedAssumptions [] (1 ∷ []) ∷ End ∷ [])
+    ≡ 40 ∷ 72 ∷ 56 ∷ 56 ∷ 40 ∷ []
+
+-- of none, of one clause of two literals, and of both
+abbrev pub LooksOfAll : Type 0
+LooksOfAll = most_looks_of (behind (AddClause (0 ∷ 2 ∷ []) ∷ AddClause (4 ∷ []) ∷ End ∷ []) []) ≡ 20
