@@ -4,6 +4,7 @@
 pub mod announcement;
 pub(crate) mod announcing;
 pub(crate) mod assigned;
+mod boxes;
 pub mod checker;
 pub(crate) mod clauses;
 pub(crate) mod derivations;
