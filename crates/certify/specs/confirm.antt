@@ -1,7 +1,5 @@
-pub mod Checking
 pub mod Feeding
 pub mod Walks
-pub mod ProofChecking
 pub mod Matches
 pub mod LeftToMatch
 pub mod VerdictPromises

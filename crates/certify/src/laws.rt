@@ -1,7 +1,7 @@
 //! What holds of the answers, of matching and of the checker: each law is the contract of a function that does nothing.
 ghost use Rattle.certify.specs.laws.Laws.{AskBindsNothing, AskLeavesNames, GivenIdentitiesSuffice, JudgeIsKept, MatchingIsRight, NotBoth, RepeatChangesNothing, TautologyChangesNothing, TextsTellOutcomes, TextsThatMatchAreRight};
-ghost use Rattle.certify.specs.confirm.Checking.{IsSound};
-ghost use Rattle.certify.specs.confirm.ProofChecking.{the_checking};
+ghost use Rattle.sat_checker.specs.matching.Checking.{IsSound};
+ghost use Rattle.sat_checker.specs.matching.ProofChecking.{the_checking};
 ghost use Rattle.certify.specs.laws.Rows.{AnswersTwice, AskAloneText, BehindEndUncertified, ChainCertified, SearchedEarlyUncertified, UnknownUncertified, ClauseAndAskCertified, ClauseAndAskExpected, ClauseAndAskMatches, ClauseAndAskRight, ClauseAndAskSteps, ClauseAndAskText, ClauseUncertified, CoreUncertified, EarlyUncertified, EmptyMatches, EmptyText, EndAlone, EndAloneUncertified, HiddenAndBackExpected, HiddenAndBackState, HiddenAtOnceState, KnownWithoutRounds, LeftOutCertified, LeftmostRefuses, MalformedText, ModelUncertified, NameOnOldVariable, NoAnswers, TwoUnitsMatches, TwoUnitsRight, TwoUnitsSteps, WitnessRefusedText, WitnessRefusesAsk};
 
 /// Where script, answers and certificate match, the answers are right: by steps and outcomes, and by the three texts.

@@ -13,3 +13,4 @@ pub mod checker
 pub mod contents
 pub mod leading
 pub mod invariants
+pub mod matching

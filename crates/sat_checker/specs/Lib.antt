@@ -21,3 +21,4 @@ pub mod Rows
 pub mod MeaningRows
 pub mod announcements
 pub mod telling
+pub mod matching

@@ -1,10 +1,7 @@
-pub mod LiteralValues
-pub mod Bridge
 pub mod MatchingSteps
 pub mod ExpectedOutcomes
 pub mod DefinitionLaws
 pub mod TellingTexts
 pub mod JudgeStates
-pub mod CheckerIsSound
 pub mod Rows
 pub mod CertifiedRows

@@ -3,7 +3,7 @@ use Rattle.std.specs.Prelude.{ℕ, ◌+◌, ◌<◌, ◌≤◌, List, [], ◌∷
 use Rattle.std.specs.List.{AllByRecursion}
 use Rattle.sat_base.specs.values.Literals.{largest, variable, is_positive}
 use Rattle.sat_base.specs.script.Script.{Literal, names_of, InOrder}
-use Rattle.certify.specs.answers.Answers.{Outcome, Sat, Unsat, Unknown}
+use Rattle.sat_checker.specs.matching.Expected.{Outcome, Sat, Unsat, Unknown}
 
 -- the literal under the name that is the number of its variable, counted from 1
 abbrev pub named_literal : ℕ → Literal

@@ -2,7 +2,8 @@
 use Rattle.std.specs.Prelude.{ℕ, zero, suc, ◌≡◌, ◌≢◌, ◌⊎◌, List, [], ◌∷◌, ◌++◌, decimal}
 use Rattle.sat_base.specs.values.Literals.{variable}
 use Rattle.sat_base.specs.script.Script.{Literal}
-use Rattle.certify.specs.answers.Answers.{Outcome, Sat, Unsat, Unknown, s_satisfiable, s_unsatisfiable, s_unknown, v_line, f_line, word_of, literals_text, outcome_text}
+use Rattle.certify.specs.answers.Answers.{s_satisfiable, s_unsatisfiable, s_unknown, v_line, f_line, word_of, literals_text, outcome_text}
+use Rattle.sat_checker.specs.matching.Expected.{Outcome, Sat, Unsat, Unknown}
 use Rattle.certify.specs.answers.AnswerForms.{IsName, IsInForm, named_literal, named_literals}
 use Rattle.certify.specs.declared.answers.read.AnswerKind.{AnswerKind}
 use Rattle.certify.specs.declared.answers.read.AnswerKind.TheVariants as kind

@@ -1,13 +1,8 @@
 -- What is answered, and the answers' text.
 use Rattle.std.specs.Prelude.{ℕ, ◌+◌, Option, Some, None, List, [], ◌∷◌, ◌++◌, decimal, if◌then◌else◌}
 use Rattle.sat_base.specs.script.Script.{Literal, Command, Ask, Ending, Clean, Malformed}
+use Rattle.sat_checker.specs.matching.Expected.{Outcome, Sat, Unsat, Unknown}
 use Rattle.sat_base.specs.script.Judge.{Judge, Refusal, PastLimit, WitnessName, refusal_of, after_command, start}
-
--- one for each accepted ask
-pub data Outcome : Type 0 where
-  Sat : List Literal → Outcome  -- with a model's line
-  Unsat : List Literal → Outcome  -- with a core
-  Unknown : Outcome
 
 -- a sign and a number
 abbrev pub word_of : Literal → List ℕ

@@ -2,7 +2,7 @@
 use Rattle.std.specs.Prelude.{List, [], ◌∷◌}
 use Rattle.sat_base.specs.script.Script.{Literal, Command, Clause, Ask, Hide, Witness, Sample}
 use Rattle.sat_base.specs.script.Judge.{Judge, IsRightModel, IsRightCore, accepted, start, accepted_of}
-use Rattle.certify.specs.answers.Answers.{Outcome, Sat, Unsat, Unknown}
+use Rattle.sat_checker.specs.matching.Expected.{Outcome, Sat, Unsat, Unknown}
 
 -- of an ask, j being the state after its names came in
 abbrev pub IsRight : Judge → List Literal → Outcome → Type 0

@@ -5,9 +5,9 @@ use Rattle.sat_base.specs.values.Literals.{largest}
 use Rattle.sat_base.specs.script.Judge.{Judge, Sampled, names_from}
 use Rattle.sat_base.specs.steps.Steps.{Step}
 use Rattle.sat_checker.specs.Accepts.{Accepts, ready_after}
-use Rattle.certify.specs.confirm.Matches.{Expected, Fits}
+use Rattle.sat_checker.specs.matching.Expected.{Expected, Fits}
 use Rattle.certify.specs.confirm.LeftToMatch.{CertificateMeets}
-use Rattle.certify.specs.confirm.ProofChecking.{the_checking}
+use Rattle.sat_checker.specs.matching.ProofChecking.{the_checking}
 
 -- what is left of the certificate meets what is expected
 abbrev pub CanMeet : List Step → List Expected → List ℕ → Type 0
@@ -33,8 +33,8 @@ pub record Stops (earlier : List Step) (certificate : List ℕ) : Type 0 where
 
 -- the next ordered step is this one: what is expected next is met exactly if the step is that and is accepted
 pub record Offers (earlier : List Step) (certificate : List ℕ) (later : List Step) (step : Step) (rest : List ℕ) : Type 0 where
-  pub on : (e : Expected) (es : List Expected) → CanMeet earlier (e ∷ es) certificate → Fits the_checking later e step × Accepts (ready_after later) step × CanMeet (step ∷ later) es rest
-  pub back : (e : Expected) (es : List Expected) → Fits the_checking later e step → Accepts (ready_after later) step → CanMeet (step ∷ later) es rest → CanMeet earlier (e ∷ es) certificate
+  pub on : (e : Expected) (es : List Expected) → CanMeet earlier (e ∷ es) certificate → Fits (the_checking.knows later) later e step × Accepts (ready_after later) step × CanMeet (step ∷ later) es rest
+  pub back : (e : Expected) (es : List Expected) → Fits (the_checking.knows later) later e step → Accepts (ready_after later) step → CanMeet (step ∷ later) es rest → CanMeet earlier (e ∷ es) certificate
 
 -- the variable of a name, by a list of the names' variables that begins with name 1
 abbrev pub variable_in : List ℕ → ℕ → Option ℕ

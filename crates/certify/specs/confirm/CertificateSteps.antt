@@ -5,12 +5,11 @@ use Rattle.sat_base.specs.script.Script.{Literal, names_of}
 use Rattle.sat_base.specs.script.Judge.{Judge, with_name, new_names, bring_in, bring_all}
 use Rattle.sat_base.specs.steps.Steps.{Step, UserVarName}
 use Rattle.sat_checker.specs.Stored.{is_known}
-use Rattle.certify.specs.answers.Answers.{Outcome, Unsat}
+use Rattle.sat_checker.specs.matching.Expected.{Outcome, Unsat, Expected, NewName, Opens, Fits, bringing}
 use Rattle.certify.specs.answers.AnswerForms.{IsName, HaveNames}
 use Rattle.sat_checker.specs.Accepts.{Accepts, ready_after}
-use Rattle.certify.specs.confirm.Checking.{variable_of}
-use Rattle.certify.specs.confirm.Matches.{Expected, NewName, Opens, Fits, bringing}
-use Rattle.certify.specs.confirm.ProofChecking.{the_checking}
+use Rattle.sat_checker.specs.matching.Checking.{variable_of}
+use Rattle.sat_checker.specs.matching.ProofChecking.{the_checking}
 use Rattle.certify.specs.confirm.Feeding.{HasTaken}
 use Rattle.certify.specs.confirm.CertificatePlaces.{CanMeet, Leads, Bars, Skips, Offers, variable_in, IsPlain}
 use Rattle.certify.specs.confirm.Views.{View}
@@ -56,14 +55,14 @@ pub record StepWasPassed (old : View) (j : Judge) (earlier : List Step) (new : V
 
 -- the step that was read is what the judge expects, or isn't
 abbrev pub ReadStepFits : View → (Judge → Expected) → Option Why → Type 0
-ReadStepFits c e None = (j : Judge) (earlier : List Step) → IsFed c j earlier → (ready_after earlier).unsat ≡ false → Fits the_checking earlier (e j) c.step
-ReadStepFits c e (Some why) = (j : Judge) (earlier : List Step) → IsFed c j earlier → (ready_after earlier).unsat ≡ false → Fits the_checking earlier (e j) c.step → ⊥
+ReadStepFits c e None = (j : Judge) (earlier : List Step) → IsFed c j earlier → (ready_after earlier).unsat ≡ false → Fits (the_checking.knows earlier) earlier (e j) c.step
+ReadStepFits c e (Some why) = (j : Judge) (earlier : List Step) → IsFed c j earlier → (ready_after earlier).unsat ≡ false → Fits (the_checking.knows earlier) earlier (e j) c.step → ⊥
 
 -- the step that was read puts the next name on a variable that isn't known, or doesn't
 abbrev pub NamesNext : View → Result ℕ Why → Type 0
 NamesNext c (Ok v) = (c.step ≡ UserVarName v (Some (length c.variables)))
     × ((j : Judge) (earlier : List Step) → IsFed c j earlier → is_known v (ready_after earlier) ≡ false)
-NamesNext c (Err why) = (j : Judge) (earlier : List Step) → IsFed c j earlier → (ready_after earlier).unsat ≡ false → Fits the_checking earlier (NewName j.first_unused) c.step → ⊥
+NamesNext c (Err why) = (j : Judge) (earlier : List Step) → IsFed c j earlier → (ready_after earlier).unsat ≡ false → Fits (the_checking.knows earlier) earlier (NewName j.first_unused) c.step → ⊥
 
 -- the step that was read is accepted, or isn't; it puts no name
 abbrev pub FeedsStep : View → View → Option Why → Type 0

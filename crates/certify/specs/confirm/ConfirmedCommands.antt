@@ -4,13 +4,14 @@ use Rattle.std.specs.List.{AllByRecursion}
 use Rattle.sat_base.specs.script.Script.{Literal, Command, Clause, Ask, Ending, names_of}
 use Rattle.sat_base.specs.script.Judge.{Judge, start, after_command, refused_name}
 use Rattle.sat_base.specs.steps.Steps.{Step}
-use Rattle.certify.specs.answers.Answers.{Outcome, Unsat, outcome_text}
+use Rattle.certify.specs.answers.Answers.{outcome_text}
+use Rattle.sat_checker.specs.matching.Expected.{Outcome, Unsat, showing}
 use Rattle.certify.specs.answers.AnswerForms.{IsInForm}
 use Rattle.certify.specs.answers.AnswerReading.{outcome_of}
 use Rattle.certify.specs.confirm.LeftToMatch.{Left}
-use Rattle.certify.specs.confirm.Matches.{MatchesCommands, showing}
+use Rattle.certify.specs.confirm.Matches.{MatchesCommands}
 use Rattle.certify.specs.confirm.CertificateSteps.{IsFed, MeetsPending, BringsAll, OpensAsk}
-use Rattle.certify.specs.confirm.ProofChecking.{the_checking}
+use Rattle.sat_checker.specs.matching.ProofChecking.{the_checking}
 use Rattle.certify.specs.confirm.Streams.{why_of}
 use Rattle.certify.specs.confirm.Views.{View, SessionView, session_at}
 use Rattle.certify.specs.declared.answers.read.AnswerFault.{AnswerFault}

@@ -5,7 +5,7 @@ use Rattle.sat_base.specs.device.Device.{Reader, GaveEnough, ReadFails}
 use Rattle.certify.specs.script.CappedNames.{CappedScript}
 use Rattle.certify.specs.confirm.ConfirmedCommands.{CountFromOne}
 use Rattle.certify.specs.confirm.Matches.{MatchesCommands}
-use Rattle.certify.specs.confirm.ProofChecking.{the_checking}
+use Rattle.sat_checker.specs.matching.ProofChecking.{the_checking}
 use Rattle.certify.specs.confirm.Walks.{Spends}
 use Rattle.certify.specs.declared.confirm.stop.Stop.{Stop}
 use Rattle.certify.specs.declared.confirm.stop.Stop.TheVariants as stop

@@ -3,11 +3,11 @@ use Rattle.std.specs.Prelude.{◌≡◌, ℕ, true, Result, Ok, Err, List, [], �
 use Rattle.sat_base.specs.script.Script.{Literal}
 use Rattle.sat_base.specs.script.Judge.{Judge}
 use Rattle.sat_base.specs.steps.Steps.{Step}
-use Rattle.certify.specs.answers.Answers.{Outcome, Unsat}
+use Rattle.sat_checker.specs.matching.Expected.{Outcome, Unsat, Expected, NewName, NoName, Adds, Opens, Shows, Fails, Closes, Finish, showing_model}
 use Rattle.sat_checker.specs.Accepts.{ready_after}
 use Rattle.certify.specs.confirm.CertificatePlaces.{CanMeet, Leads, Bars}
 use Rattle.certify.specs.confirm.CertificateSteps.{IsFed, ReadStepFits}
-use Rattle.certify.specs.confirm.Matches.{Expected, NewName, NoName, Adds, Opens, Shows, Fails, Closes, Finish, Excused, showing_model}
+use Rattle.certify.specs.confirm.Matches.{Excused}
 use Rattle.certify.specs.confirm.Streams.{why_of}
 use Rattle.certify.specs.confirm.Views.{View}
 use Rattle.certify.specs.declared.confirm.expected.Expected.{Expected as CodeExpected}

@@ -5,9 +5,10 @@ use Rattle.sat_base.specs.script.Script.{Literal, Command, Ending}
 use Rattle.sat_base.specs.script.Judge.{Judge, accepted_of}
 use Rattle.sat_base.specs.steps.Steps.{Step}
 use Rattle.sat_base.specs.steps.StepText.{SpellsSteps}
-use Rattle.certify.specs.answers.Answers.{Outcome, outcome_text, answers_from}
-use Rattle.certify.specs.confirm.Checking.{Checking}
-use Rattle.certify.specs.confirm.Matches.{Expected, Opens, Closes, showing, expected, OneEach, InForm, Meets}
+use Rattle.certify.specs.answers.Answers.{outcome_text, answers_from}
+use Rattle.sat_checker.specs.matching.Expected.{Outcome, Expected, Opens, Closes, showing, expected}
+use Rattle.sat_checker.specs.matching.Checking.{Checking}
+use Rattle.certify.specs.confirm.Matches.{OneEach, InForm, Meets}
 
 -- what is left of the certificate begins with steps that are what is expected behind the earlier ones
 pub record CertificateMeets (k : Checking) (earlier : List Step) (es : List Expected) (certificate : List ℕ) : Type 0 where

@@ -5,7 +5,7 @@ use Rattle.std.specs.List.{AllByRecursion}
 use Rattle.sat_base.specs.script.Script.{Literal, Among, names_of}
 use Rattle.sat_base.specs.script.Judge.{names_from}
 use Rattle.sat_checker.specs.LiteralSets.{is_among}
-use Rattle.certify.specs.confirm.Matches.{Spells, EachSpelt}
+use Rattle.sat_checker.specs.matching.Expected.{Spells, EachSpelt}
 
 -- each of the literals is one of the others
 abbrev pub AllAmong : List ℕ → List ℕ → Type 0

@@ -2,10 +2,11 @@
 use Rattle.std.specs.Prelude.{ℕ, ◌-◌, ◌^◌, ◌≤◌, ◌≡◌, ◌↔◌, ◌⊎◌, Result, IfOk, List, [], ◌++◌, length}
 use Rattle.sat_base.specs.device.Device.{Reader, GaveFront, GaveEnough, CanFollow}
 use Rattle.sat_base.specs.script.Script.{reading}
-use Rattle.certify.specs.answers.Answers.{Outcome, answers_text}
+use Rattle.certify.specs.answers.Answers.{answers_text}
+use Rattle.sat_checker.specs.matching.Expected.{Outcome}
 use Rattle.certify.specs.answers.RightAnswers.{AnswersAreRight}
 use Rattle.certify.specs.confirm.Matches.{Matches}
-use Rattle.certify.specs.confirm.ProofChecking.{the_checking}
+use Rattle.sat_checker.specs.matching.ProofChecking.{the_checking}
 use Rattle.certify.specs.confirm.Walks.{LooksReach, Spends}
 use Rattle.certify.specs.declared.verdict.Verdict.{Verdict}
 use Rattle.certify.specs.declared.verdict.Verdict.TheVariants.{Yes}

@@ -6,10 +6,11 @@ use Rattle.sat_base.specs.values.Clauses.{Valuation, literal_true, EachHolds}
 use Rattle.sat_base.specs.script.Script.{Literal, Command, Ask, Ending, Among, names_of}
 use Rattle.sat_base.specs.script.Judge.{Judge, Named, IsRightModel, IsRightCore, with_clause, accepted, accepted_of, after_script, start, identity_of, over}
 use Rattle.sat_base.specs.steps.Steps.{Step}
-use Rattle.certify.specs.answers.Answers.{Outcome, Sat, Unsat, Unknown, answers_text}
+use Rattle.certify.specs.answers.Answers.{answers_text}
+use Rattle.sat_checker.specs.matching.Expected.{Outcome, Sat, Unsat, Unknown}
 use Rattle.certify.specs.answers.RightAnswers.{AnswersAreRight}
 use Rattle.certify.specs.confirm.Matches.{OneEach, StepsMatch, Matches}
-use Rattle.certify.specs.confirm.ProofChecking.{the_checking}
+use Rattle.sat_checker.specs.matching.ProofChecking.{the_checking}
 
 -- no ask has both a right model and a right core
 abbrev pub NotBoth : Type 0

@@ -5,11 +5,12 @@ use Rattle.sat_base.specs.script.Judge.{Sampled, start, after_script, refusal_of
 use Rattle.sat_base.specs.steps.Steps.{Step, UserVarName, ChangeSamplingMode, AddClause, AtClause, Model, Assumptions, End}
 use Rattle.sat_checker.specs.Stored.{is_known}
 use Rattle.sat_checker.specs.Accepts.{ready_after}
-use Rattle.certify.specs.answers.Answers.{Outcome, Sat, Unsat, Unknown, answers_text}
+use Rattle.certify.specs.answers.Answers.{answers_text}
+use Rattle.sat_checker.specs.matching.Expected.{Outcome, Sat, Unsat, Unknown, expected, NewName, NoName, Adds, Opens, Shows, Closes, Finish}
 use Rattle.certify.specs.answers.RightAnswers.{AnswersAreRight}
-use Rattle.certify.specs.confirm.Matches.{expected, NewName, NoName, Adds, Opens, Shows, Closes, Finish, StepsMatch, MatchesCommands}
+use Rattle.certify.specs.confirm.Matches.{StepsMatch, MatchesCommands}
 use Rattle.certify.specs.run.Certifies.{Certifies}
-use Rattle.certify.specs.confirm.ProofChecking.{the_checking}
+use Rattle.sat_checker.specs.matching.ProofChecking.{the_checking}
 
 -- the positive literal of a name, and the negative one
 abbrev pub pos : ℕ → Literal

@@ -3,10 +3,9 @@ use Rattle.std.specs.Prelude.{ℕ, ◌≡◌, ◌↔◌, Bool, true, false, Opti
 use Rattle.sat_base.specs.values.Clauses.{Valuation}
 use Rattle.sat_base.specs.script.Script.{Literal}
 use Rattle.sat_base.specs.steps.Steps.{Step, AtClause, UnitClauses, DeleteClause, ChangeHashBits}
-use Rattle.certify.specs.answers.Answers.{Outcome, Unsat}
+use Rattle.sat_checker.specs.matching.Expected.{Outcome, Unsat, Expected, Opens, Adds, Shows, Fails, Closes, Fits}
 use Rattle.sat_checker.specs.Fold.{Holds}
-use Rattle.certify.specs.confirm.Checking.{Checking, is_ordered}
-use Rattle.certify.specs.confirm.Matches.{Expected, Opens, Adds, Shows, Fails, Closes, Fits}
+use Rattle.sat_checker.specs.matching.Checking.{Checking, is_ordered}
 
 -- A checker that was fed these steps has recorded unsat, and no valuation satisfies their clauses.
 pub record IsRecorded (k : Checking) (earlier : List Step) : Type 0 where
@@ -69,14 +68,14 @@ pub data Certifies (k : Checking) : Option Outcome → List Step → List Step �
       → Certifies k current (step ∷ earlier) steps (e ∷ es) counts
       → Certifies k current earlier (step ∷ steps) (e ∷ es) counts
   ordered : {current : Option Outcome} {earlier steps : List Step} {step : Step} {e : Expected} {es : List Expected} {counts : List ℕ}
-      → MayStand (k.unsat earlier) e → Fits k earlier e step
+      → MayStand (k.unsat earlier) e → Fits (k.knows earlier) earlier e step
       → Certifies k current (step ∷ earlier) steps es counts
       → Certifies k current earlier (step ∷ steps) (e ∷ es) counts
   asked : {earlier steps : List Step} {step : Step} {ask : List Literal} {o : Outcome} {n : ℕ} {es : List Expected} {counts : List ℕ}
-      → (k.unsat earlier ≡ true → IsKnown o n) → Fits k earlier (Opens ask o) step
+      → (k.unsat earlier ≡ true → IsKnown o n) → Fits (k.knows earlier) earlier (Opens ask o) step
       → Certifies k (Some o) (step ∷ earlier) steps es counts
       → Certifies k None earlier (step ∷ steps) (Opens ask o ∷ es) (n ∷ counts)
   answered : {earlier steps : List Step} {step : Step} {o : Outcome} {es : List Expected} {counts : List ℕ}
-      → (k.unsat earlier ≡ true → o ≡ Unsat []) → Fits k earlier Closes step
+      → (k.unsat earlier ≡ true → o ≡ Unsat []) → Fits (k.knows earlier) earlier Closes step
       → Certifies k None (step ∷ earlier) steps es counts
       → Certifies k (Some o) earlier (step ∷ steps) (Closes ∷ es) counts

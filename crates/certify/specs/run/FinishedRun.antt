@@ -5,10 +5,10 @@ use Rattle.sat_base.specs.script.Script.{Command, Ending, Clean, Malformed, writ
 use Rattle.sat_base.specs.script.Judge.{Judge, refusal_of, after_command, accepted_of, start}
 use Rattle.sat_base.specs.steps.Steps.{Step}
 use Rattle.sat_base.specs.steps.StepText.{SpellsSteps}
-use Rattle.certify.specs.answers.Answers.{Outcome, Sat, Unsat, Unknown, answers_text}
+use Rattle.certify.specs.answers.Answers.{answers_text}
+use Rattle.sat_checker.specs.matching.Expected.{Outcome, Sat, Unsat, Unknown, expected}
 use Rattle.certify.specs.answers.RightAnswers.{AnswersAreRight}
-use Rattle.certify.specs.confirm.ProofChecking.{the_checking}
-use Rattle.certify.specs.confirm.Matches.{expected}
+use Rattle.sat_checker.specs.matching.ProofChecking.{the_checking}
 use Rattle.certify.specs.run.Certifies.{Certifies}
 use Rattle.certify.specs.search.StepsLeft.{steps_left}
 use Rattle.certify.specs.declared.fault.RunFault.{RunFault}

@@ -8,16 +8,16 @@ use Rattle.sat_base.specs.values.Clauses.{Valuation, EachTrue, EachHolds}
 use Rattle.sat_base.specs.script.Script.{Literal, Command, Clause, Ask, Ending, Malformed, names_of}
 use Rattle.sat_base.specs.script.Judge.{Judge, Named, Mode, Sampled, names_from, accepted_of, start}
 use Rattle.sat_base.specs.steps.Steps.{Step, UserVarName, AddClause, Model, Assumptions}
-use Rattle.certify.specs.answers.Answers.{Outcome, Sat, Unsat, Unknown, answers_from, malformed_line, outcome_text}
+use Rattle.certify.specs.answers.Answers.{answers_from, malformed_line, outcome_text}
+use Rattle.sat_checker.specs.matching.Expected.{Outcome, Sat, Unsat, Unknown, expected}
 use Rattle.certify.specs.answers.AnswerForms.{named_literals}
 use Rattle.certify.specs.answers.RightAnswers.{AreRight}
 use Rattle.certify.specs.run.FinishedRun.{refused_count, kind_of, AreSpent, IsSpent, RunOf, asked_steps, malformed_at}
 use Rattle.sat_checker.specs.Accepts.{ready_after}
 use Rattle.sat_checker.specs.Fold.{Holds}
 use Rattle.sat_checker.specs.Stored.{is_unit}
-use Rattle.certify.specs.confirm.Checking.{variable_of}
-use Rattle.certify.specs.confirm.ProofChecking.{the_checking}
-use Rattle.certify.specs.confirm.Matches.{expected}
+use Rattle.sat_checker.specs.matching.Checking.{variable_of}
+use Rattle.sat_checker.specs.matching.ProofChecking.{the_checking}
 use Rattle.certify.specs.run.Certifies.{Certifies}
 use Rattle.certify.specs.run.Outputs.{Both, Wrote, AnswersAll, both, pair}
 use Rattle.certify.specs.search.KeptClauses.{IsNormalOf}

@@ -3,7 +3,7 @@ ghost use Rattle.std.specs.Prelude.{◌≡◌, length, []};
 ghost use Rattle.sat_base.specs.steps.StepViews.{step_of};
 ghost use Rattle.certify.specs.confirm.CertificatePlaces.{variable_in};
 ghost use Rattle.certify.specs.confirm.Dues.{Compares, Excuses, SaysSo, due_of};
-ghost use Rattle.certify.specs.confirm.Matches.{EachSpelt, SameSet};
+ghost use Rattle.sat_checker.specs.matching.Expected.{EachSpelt, SameSet};
 ghost use Rattle.certify.specs.confirm.SpeltLiterals.{IsLineOf};
 ghost use Rattle.certify.specs.confirm.Streams.{Says};
 

@@ -2,7 +2,7 @@
 ghost use Rattle.std.specs.Prelude.{◌≡◌, length, IfOk};
 ghost use Rattle.sat_base.specs.script.Script.{Among};
 ghost use Rattle.certify.specs.confirm.CertificatePlaces.{variable_in};
-ghost use Rattle.certify.specs.confirm.Matches.{EachSpelt, SameSet};
+ghost use Rattle.sat_checker.specs.matching.Expected.{EachSpelt, SameSet};
 ghost use Rattle.certify.specs.confirm.SpeltLiterals.{Tells, SpellsAll, ListsNames, HasEach, IsLineOf};
 
 use crate::confirm::marked::Marked;

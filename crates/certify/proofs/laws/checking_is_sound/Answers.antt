@@ -1,4 +1,4 @@
-use Rattle.certify.proofs.lemmas.laws.CheckerIsSound.{the_checking_sound}
+use Rattle.sat_checker.proofs.lemmas.matching.CheckerIsSound.{the_checking_sound}
 use Rattle.certify.proofs.laws.checking_is_sound.Goals as goal
 
 pub returns : goal.returns

@@ -1,6 +1,6 @@
-use Rattle.certify.specs.confirm.ProofChecking.{the_checking}
+use Rattle.sat_checker.specs.matching.ProofChecking.{the_checking}
 use Rattle.certify.proofs.lemmas.laws.ExpectedOutcomes.{matching_right}
-use Rattle.certify.proofs.lemmas.laws.CheckerIsSound.{the_checking_sound}
+use Rattle.sat_checker.proofs.lemmas.matching.CheckerIsSound.{the_checking_sound}
 use Rattle.certify.proofs.laws.matching_is_right.Goals as goal
 
 pub returns-clause-steps : goal.returns-clause-steps

@@ -2,7 +2,8 @@
 use Rattle.std.proofs.Common.{ℕ, ◌≡◌, Bool, List, [], ◌++◌, Err, refl, sym, ◌∙◌, ap, subst, append_assoc, arith}
 use Rattle.std.proofs.lemmas.List.{append_cancel_left}
 use Rattle.sat_base.specs.script.Script.{Literal}
-use Rattle.certify.specs.answers.Answers.{Outcome, Sat, Unsat, Unknown, outcome_text, s_satisfiable, s_unsatisfiable, s_unknown, v_line, f_line}
+use Rattle.certify.specs.answers.Answers.{outcome_text, s_satisfiable, s_unsatisfiable, s_unknown, v_line, f_line}
+use Rattle.sat_checker.specs.matching.Expected.{Outcome, Sat, Unsat, Unknown}
 use Rattle.certify.specs.answers.AnswerForms.{IsInForm}
 use Rattle.certify.specs.answers.AnswerReading.{HasLine, NoKind, NoLine, first_line, second_line, outcome_of}
 use Rattle.certify.specs.confirm.ConfirmedCommands.{ReadsReply, stop_after}

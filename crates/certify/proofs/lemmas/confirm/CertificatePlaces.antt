@@ -7,9 +7,10 @@ use Rattle.sat_base.specs.steps.Formats.{OneForm}
 use Rattle.sat_base.specs.steps.Steps.{Step}
 use Rattle.sat_base.specs.steps.StepText.{SpellsStep, SpellsSteps}
 use Rattle.sat_checker.specs.Accepts.{Accepts, ready_after}
-use Rattle.certify.specs.confirm.Checking.{is_ordered}
-use Rattle.certify.specs.confirm.Matches.{Expected, Fits, Meets, Excused, met, cut, other, ordered}
-use Rattle.certify.specs.confirm.ProofChecking.{the_checking}
+use Rattle.sat_checker.specs.matching.Checking.{is_ordered}
+use Rattle.certify.specs.confirm.Matches.{Meets, Excused, met, cut, other, ordered}
+use Rattle.sat_checker.specs.matching.Expected.{Expected, Fits}
+use Rattle.sat_checker.specs.matching.ProofChecking.{the_checking}
 use Rattle.certify.specs.confirm.CertificatePlaces.{CanMeet, Leads, Bars, Skips, Stops, Offers}
 use Rattle.certify.proofs.lemmas.confirm.NextStep.{taken, skipped}
 
@@ -150,10 +151,10 @@ pub skips_offer : {earlier mid later : List Step} {bytes between rest : List ℕ
 skips_offer s o = record { on = λ e es m. o.on e es (s.on e es m); back = λ e es f a m. s.back e es (o.back e es f a m) }
 
 -- the step that was expected
-pub leads_step : {earlier later : List Step} {bytes rest : List ℕ} {step : Step} (e : Expected) → Offers earlier bytes later step rest → Fits the_checking later e step → Accepts (ready_after later) step → Leads earlier bytes (e ∷ []) (step ∷ later) rest
+pub leads_step : {earlier later : List Step} {bytes rest : List ℕ} {step : Step} (e : Expected) → Offers earlier bytes later step rest → Fits (the_checking.knows later) later e step → Accepts (ready_after later) step → Leads earlier bytes (e ∷ []) (step ∷ later) rest
 leads_step e o f a = record { on = λ es m. (o.on e es m).2; back = λ es m. o.back e es f a m }
 
-pub bars_unfit : {earlier later : List Step} {bytes rest : List ℕ} {step : Step} (e : Expected) → Offers earlier bytes later step rest → (Fits the_checking later e step → ⊥) → Bars earlier bytes (e ∷ [])
+pub bars_unfit : {earlier later : List Step} {bytes rest : List ℕ} {step : Step} (e : Expected) → Offers earlier bytes later step rest → (Fits (the_checking.knows later) later e step → ⊥) → Bars earlier bytes (e ∷ [])
 bars_unfit e o n = record { none = λ es m. n (o.on e es m).0 }
 
 pub bars_refused : {earlier later : List Step} {bytes rest : List ℕ} {step : Step} (e : Expected) → Offers earlier bytes later step rest → (Accepts (ready_after later) step → ⊥) → Bars earlier bytes (e ∷ [])

@@ -5,9 +5,9 @@ use mathlib.Core.Path.{fun_ext}
 use Rattle.sat_base.specs.script.Judge.{Judge, start}
 use Rattle.sat_base.specs.steps.Steps.{Step, SolverVarName, UserVarName, DeleteVar, ChangeSamplingMode, AddClause, AtClause, UnitClauses, DeleteClause, ChangeHashBits, Model, Assumptions, FailedAssumptions, End}
 use Rattle.sat_checker.specs.Accepts.{Accepts, ready_after}
-use Rattle.certify.specs.confirm.Checking.{is_ordered, variable_of}
-use Rattle.certify.specs.confirm.Matches.{Expected, NewName, NoName, Fits, new_name, no_name, adds, opens, shows, fails, closes, finish}
-use Rattle.certify.specs.confirm.ProofChecking.{the_checking}
+use Rattle.sat_checker.specs.matching.Checking.{is_ordered, variable_of}
+use Rattle.sat_checker.specs.matching.Expected.{Expected, NewName, NoName, Fits, new_name, no_name, adds, opens, shows, fails, closes, finish}
+use Rattle.sat_checker.specs.matching.ProofChecking.{the_checking}
 use Rattle.sat_checker.specs.KernelView.{Stands, has_failed}
 use Rattle.sat_checker.specs.declared.kernel.Kernel.{Kernel}
 use Rattle.certify.proofs.lemmas.confirm.PlainJudge.{start_plain}
@@ -91,7 +91,7 @@ is_nameless (NewName name) = false
 is_nameless (NoName name) = false
 is_nameless e = true
 
-pub nameless : (earlier : List Step) (e : Expected) (step : Step) → is_nameless e ≡ true → Fits the_checking earlier e step → variable_of (step ∷ earlier) ≡ variable_of earlier
+pub nameless : (earlier : List Step) (e : Expected) (step : Step) → is_nameless e ≡ true → Fits (the_checking.knows earlier) earlier e step → variable_of (step ∷ earlier) ≡ variable_of earlier
 nameless earlier e step h (new_name is unknown) = absurd (true≢false (sym h))
 nameless earlier e step h (no_name at) = absurd (true≢false (sym h))
 nameless earlier e step h (adds same) = refl

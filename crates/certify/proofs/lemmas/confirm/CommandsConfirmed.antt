@@ -8,11 +8,11 @@ use Rattle.sat_base.specs.script.Script.{Literal, Command, Clause, Ask, Ending, 
 use Rattle.sat_base.specs.script.Judge.{Judge, Refusal, PastLimit, refused_name, refused_literal, refusal_of, accepted, after_command, bring_all}
 use Rattle.sat_base.specs.steps.Steps.{Step}
 use Rattle.sat_checker.specs.Accepts.{ready_after}
-use Rattle.certify.specs.answers.Answers.{Outcome, Unsat, outcome_text, refused_line}
+use Rattle.certify.specs.answers.Answers.{outcome_text, refused_line}
+use Rattle.sat_checker.specs.matching.Expected.{Outcome, Unsat, Adds, Closes, bringing, showing}
 use Rattle.certify.specs.answers.AnswerForms.{HaveNames, IsInForm}
 use Rattle.sat_checker.specs.KernelView.{Stands}
 use Rattle.certify.specs.confirm.CertificatePlaces.{IsPlain}
-use Rattle.certify.specs.confirm.Matches.{Adds, Closes, bringing, showing}
 use Rattle.certify.specs.confirm.ConfirmedCommands.{TakesLine, ToConfirm, CountFromOne, Confirmed, ConfirmsCommand, ConfirmsNext}
 use Rattle.certify.specs.confirm.CertificateSteps.{IsFed, Onward, MeetsPending, AskIsOpen, OpensAsk}
 use Rattle.certify.specs.confirm.Views.{View, SessionView, session_at}

@@ -10,10 +10,11 @@ use Rattle.sat_base.proofs.lemmas.device.Given.{enough_all, gave_none}
 use Rattle.certify.specs.confirm.VerdictPromises.{Exact, IsSound, HasTooMany, HasCounterEnd, AreRightAnswers, TakesLooks}
 use Rattle.certify.specs.confirm.Decides.{Decides, DecidesFrom, said_of}
 use Rattle.certify.specs.script.CappedNames.{capped_command, CappedScript, capped_script, IsScriptOf}
-use Rattle.certify.specs.confirm.Matches.{MatchesCommands, Matches, OneEach, Meets, expected}
+use Rattle.certify.specs.confirm.Matches.{MatchesCommands, Matches, OneEach, Meets}
+use Rattle.sat_checker.specs.matching.Expected.{expected}
 use Rattle.certify.specs.run.Running.{IsSimple}
 use Rattle.certify.specs.confirm.ConfirmedCommands.{CountFromOne, ConfirmsAll}
-use Rattle.certify.specs.confirm.ProofChecking.{the_checking}
+use Rattle.sat_checker.specs.matching.ProofChecking.{the_checking}
 use Rattle.certify.specs.confirm.CertificateSteps.{IsFed}
 use Rattle.certify.specs.confirm.Streams.{Stream, seen_in, rest_in, Confirms}
 use Rattle.certify.specs.confirm.Feeding.{HasTaken}
@@ -35,7 +36,7 @@ use Rattle.certify.proofs.lemmas.script.CappedNames.{accepted_of-held}
 use Rattle.certify.proofs.lemmas.laws.ExpectedOutcomes.{matching_right}
 use Rattle.certify.proofs.lemmas.script.CappedReading.{counted}
 use Rattle.certify.proofs.lemmas.script.SimpleCommands.{held_good}
-use Rattle.certify.proofs.lemmas.laws.CheckerIsSound.{the_checking_sound}
+use Rattle.sat_checker.proofs.lemmas.matching.CheckerIsSound.{the_checking_sound}
 
 -- names that are positive count from 1
 from_one : (ls : List Literal) → AllByRecursion (λ name. 0 < name) (names_of ls) → AllByRecursion (λ l. 1 ≤ l.name) ls

@@ -5,14 +5,14 @@ use Rattle.sat_base.specs.device.Reading.{AtEnd}
 use Rattle.sat_base.specs.script.Script.{Literal}
 use Rattle.sat_base.specs.script.Judge.{Judge}
 use Rattle.sat_base.specs.steps.Steps.{Step, AddClause, Assumptions, Model, FailedAssumptions, End}
-use Rattle.certify.specs.answers.Answers.{Outcome, Unknown}
+use Rattle.sat_checker.specs.matching.Expected.{Outcome, Unknown, Expected, NewName, NoName, Adds, Opens, Shows, Fails, Closes, Finish, Fits, new_name, no_name, adds, opens, shows, fails, closes, finish, EachSpelt, SameSet, showing_model}
 use Rattle.sat_checker.specs.Accepts.{Accepts, effect, ready_after}
 use Rattle.sat_checker.specs.KernelView.{LooksAtMost}
 use Rattle.certify.specs.confirm.Feeding.{HasTaken, Feeds}
 use Rattle.certify.specs.confirm.CertificatePlaces.{variable_in}
 use Rattle.certify.specs.confirm.Dues.{Due, due_of, Allows, SaysSo, Compares, Excuses, MeetsDue}
-use Rattle.certify.specs.confirm.ProofChecking.{the_checking}
-use Rattle.certify.specs.confirm.Matches.{Expected, NewName, NoName, Adds, Opens, Shows, Fails, Closes, Finish, Fits, new_name, no_name, adds, opens, shows, fails, closes, finish, Excused, EachSpelt, SameSet, showing_model}
+use Rattle.sat_checker.specs.matching.ProofChecking.{the_checking}
+use Rattle.certify.specs.confirm.Matches.{Excused}
 use Rattle.certify.specs.confirm.SpeltLiterals.{IsLineOf}
 use Rattle.certify.specs.confirm.Stepping.{AwaitsNext, is_fed}
 use Rattle.certify.specs.confirm.Streams.{Stream, seen_in, Reading, Confirms, Says}
@@ -70,11 +70,11 @@ module _ (r : Result (Unit {0}) Stop) (vs codes : List ℕ) (x : Step) where
   compares_close e = says_so r (SaysSo (codes ≡ [])) (Compares (λ j o ask. Closes) vs x) said
     where
       said : (y : Result (Unit {0}) Why) → SaysSo (codes ≡ []) y → Compares (λ j o ask. Closes) vs x y
-      said (Ok u) p = λ c v h o ask j earlier s open_yet. subst (λ z. Fits the_checking earlier Closes z) (ap Assumptions (sym p) ∙ sym e ∙ sym h) closes
+      said (Ok u) p = λ c v h o ask j earlier s open_yet. subst (λ z. Fits (the_checking.knows earlier) earlier Closes z) (ap Assumptions (sym p) ∙ sym e ∙ sym h) closes
       said (Err why) p = λ c v h o ask j earlier s open_yet f. p (assumes_none codes (sym e ∙ sym h ∙ (fits_closes the_checking earlier c.step).0 f))
 
 pub compares_end : (vs : List ℕ) (x : Step) → x ≡ End → Compares (λ j o ask. Finish) vs x (Ok tt)
-compares_end vs x e c v h o ask j earlier s open_yet = subst (λ z. Fits the_checking earlier Finish z) (sym e ∙ sym h) finish
+compares_end vs x e c v h o ask j earlier s open_yet = subst (λ z. Fits (the_checking.knows earlier) earlier Finish z) (sym e ∙ sym h) finish
 
 -- WHAT BECOMES OF WHAT IS EXPECTED
 
@@ -89,7 +89,7 @@ allowed Closes h = tt
 allowed Finish h = tt
 
 -- what is assumed records no unsat
-still_allowed : (earlier : List Step) (e : Expected) (step : Step) → Fits the_checking earlier e step → (ready_after earlier).unsat ≡ false → (ready_after (step ∷ earlier)).unsat ≡ true → Allows e
+still_allowed : (earlier : List Step) (e : Expected) (step : Step) → Fits (the_checking.knows earlier) earlier e step → (ready_after earlier).unsat ≡ false → (ready_after (step ∷ earlier)).unsat ≡ true → Allows e
 still_allowed earlier e step (opens {c = c} same) u v = absurd (true≢false (sym v ∙ settled_unsat (effect (Assumptions c) (ready_after earlier)) ∙ u))
 still_allowed earlier e step (new_name is unknown) u v = tt
 still_allowed earlier e step (no_name at) u v = tt

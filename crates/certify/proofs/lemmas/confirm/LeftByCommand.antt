@@ -4,11 +4,12 @@ use Rattle.std.specs.List.{AllByRecursion}
 use Rattle.sat_base.specs.script.Script.{Literal, Command, Clause, Ask, Ending, names_of}
 use Rattle.sat_base.specs.script.Judge.{Judge, Refusal, accepted, accepted_of, refusal_of, start}
 use Rattle.sat_base.specs.steps.Steps.{Step}
-use Rattle.certify.specs.answers.Answers.{Outcome, answers_from, refused_line, outcome_text, outcomes_left, piece, ending_text}
-use Rattle.certify.specs.confirm.Checking.{variable_of}
-use Rattle.certify.specs.confirm.Matches.{EachSpelt, Expected, Adds, Opens, Shows, Fails, Closes, Finish, bringing, showing, expected, OneEach, InForm, Meets, cut, other, ordered, shows, fails, MatchesCommands}
+use Rattle.certify.specs.answers.Answers.{answers_from, refused_line, outcome_text, outcomes_left, piece, ending_text}
+use Rattle.sat_checker.specs.matching.Expected.{Outcome, EachSpelt, Expected, Adds, Opens, Shows, Fails, Closes, Finish, bringing, showing, expected, shows, fails}
+use Rattle.sat_checker.specs.matching.Checking.{variable_of}
+use Rattle.certify.specs.confirm.Matches.{OneEach, InForm, Meets, cut, other, ordered, MatchesCommands}
 use Rattle.certify.specs.confirm.LeftToMatch.{Left, LeftOfAsk}
-use Rattle.certify.specs.confirm.ProofChecking.{the_checking}
+use Rattle.sat_checker.specs.matching.ProofChecking.{the_checking}
 use Rattle.certify.specs.confirm.CertificatePlaces.{CanMeet, Leads, Bars}
 use Rattle.certify.proofs.lemmas.confirm.CertificateSteps.{unordered_names}
 

@@ -7,7 +7,7 @@ use Rattle.std.specs.List.{AllByRecursion, list_any}
 use Rattle.sat_base.specs.values.Literals.{coded}
 use Rattle.sat_base.specs.script.Script.{Literal, Among}
 use Rattle.sat_checker.specs.LiteralSets.{is_among}
-use Rattle.certify.specs.confirm.Matches.{Spells, EachSpelt, SameSet}
+use Rattle.sat_checker.specs.matching.Expected.{Spells, EachSpelt, SameSet}
 use Rattle.certify.specs.confirm.SpeltLiterals.{AllAmong, SameMembers, AreSpelt}
 
 eqb_refl : (n : ℕ) → eqb n n ≡ true

@@ -10,8 +10,9 @@ use Rattle.sat_base.specs.script.Judge.{Judge, names_from, new_names, with_name,
 use Rattle.sat_base.specs.steps.Steps.{Step, UserVarName}
 use Rattle.sat_checker.specs.Accepts.{ready_after}
 use Rattle.certify.specs.answers.AnswerForms.{IsName, HaveNames}
-use Rattle.certify.specs.confirm.Checking.{variable_of}
-use Rattle.certify.specs.confirm.Matches.{NewName, Excused, bringing}
+use Rattle.sat_checker.specs.matching.Checking.{variable_of}
+use Rattle.certify.specs.confirm.Matches.{Excused}
+use Rattle.sat_checker.specs.matching.Expected.{NewName, bringing}
 use Rattle.sat_checker.specs.KernelView.{Stands}
 use Rattle.certify.specs.confirm.CertificatePlaces.{Leads, Bars, variable_in}
 use Rattle.certify.specs.confirm.Feeding.{Feeds}

@@ -11,8 +11,8 @@ use Rattle.sat_checker.specs.KernelView.{Stands, LooksAtMost}
 use Rattle.certify.specs.answers.AnswerForms.{HaveNames}
 use Rattle.certify.specs.confirm.CertificatePlaces.{Leads}
 use Rattle.certify.specs.confirm.CertificateSteps.{MeetsPending, NamesNext, BringsNext}
-use Rattle.certify.specs.confirm.ProofChecking.{the_checking}
-use Rattle.certify.specs.confirm.Matches.{NewName, Fits, new_name, bringing}
+use Rattle.sat_checker.specs.matching.ProofChecking.{the_checking}
+use Rattle.sat_checker.specs.matching.Expected.{NewName, Fits, new_name, bringing}
 use Rattle.certify.specs.confirm.Feeding.{HasTaken, Feeds}
 use Rattle.certify.specs.confirm.NextNames.{PutsNext, Brings, BringsUpTo, BringsEach}
 use Rattle.certify.specs.confirm.Stepping.{AwaitsNext, is_fed}
@@ -57,7 +57,7 @@ module _ (old mid : View) where
         let k = h j earlier s in
         let put = puts mid new v n d b i in
         let taken = put.1 j k.later k.stands k.open_yet low in
-        let fits : Fits the_checking k.later (NewName j.first_unused) mid.step = subst (λ step. Fits the_checking k.later (NewName j.first_unused) step) (sym n.0) (new_name (sym (k.stands.counted k.open_yet)) (n.1 j k.later k.stands)) in
+        let fits : Fits (the_checking.knows k.later) k.later (NewName j.first_unused) mid.step = subst (λ step. Fits (the_checking.knows k.later) k.later (NewName j.first_unused) step) (sym n.0) (new_name (sym (k.stands.counted k.open_yet)) (n.1 j k.later k.stands)) in
         record {
           later = mid.step ∷ k.later;
           stands = taken.1;

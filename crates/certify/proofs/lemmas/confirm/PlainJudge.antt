@@ -5,7 +5,7 @@ use Rattle.std.specs.List.{AllByRecursion}
 use Rattle.sat_base.specs.values.Literals.{largest}
 use Rattle.sat_base.specs.script.Script.{Literal}
 use Rattle.sat_base.specs.script.Judge.{Judge, Named, Mode, Sampled, identity_in, identity_of, placed, with_name, with_names, names_from, new_names, bring_in, bring_all, with_clause, is_witness, refused_literal, refused_name, has_witness, start}
-use Rattle.certify.specs.confirm.Matches.{NewName, bringing}
+use Rattle.sat_checker.specs.matching.Expected.{NewName, bringing}
 use Rattle.certify.specs.confirm.CertificatePlaces.{IsPlain}
 
 abbrev name_in : Named → ℕ

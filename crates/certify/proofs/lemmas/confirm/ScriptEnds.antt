@@ -8,11 +8,12 @@ use Rattle.sat_base.specs.steps.Steps.{Step}
 use Rattle.sat_checker.specs.Accepts.{ready_after}
 use Rattle.certify.specs.answers.Answers.{malformed_line}
 use Rattle.certify.specs.confirm.CertificatePlaces.{CanMeet}
-use Rattle.certify.specs.confirm.Matches.{Finish, MatchesCommands, met}
+use Rattle.certify.specs.confirm.Matches.{MatchesCommands, met}
+use Rattle.sat_checker.specs.matching.Expected.{Finish}
 use Rattle.certify.specs.script.ScriptParts.{end_of}
 use Rattle.certify.specs.confirm.ConfirmedCommands.{TakesLine, ToConfirm, CountFromOne, ConfirmsCommand, ConfirmsEnd}
 use Rattle.certify.specs.confirm.CertificateSteps.{IsFed, MeetsPending}
-use Rattle.certify.specs.confirm.ProofChecking.{the_checking}
+use Rattle.sat_checker.specs.matching.ProofChecking.{the_checking}
 use Rattle.certify.specs.confirm.Views.{View, SessionView, session_at}
 use Rattle.certify.specs.declared.verdict.Why.{Why}
 use Rattle.certify.proofs.lemmas.confirm.CertificatePlaces.{cut_met}

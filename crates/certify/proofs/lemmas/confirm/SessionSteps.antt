@@ -5,7 +5,8 @@ use Rattle.sat_base.specs.device.Reading.{AtEnd}
 use Rattle.sat_base.specs.script.Script.{Literal, Command, Clause, Ask, Clean, Malformed, names_of}
 use Rattle.sat_base.specs.script.Judge.{Judge, PastLimit, start, refused_name}
 use Rattle.sat_base.specs.steps.Steps.{Step}
-use Rattle.certify.specs.answers.Answers.{Outcome, Unsat, outcome_text, refused_line, malformed_line}
+use Rattle.certify.specs.answers.Answers.{outcome_text, refused_line, malformed_line}
+use Rattle.sat_checker.specs.matching.Expected.{Outcome, Unsat, Adds, Opens, Fails, Closes, Finish, showing, showing_model}
 use Rattle.certify.specs.answers.AnswerForms.{IsInForm}
 use Rattle.certify.specs.answers.AnswerReading.{outcome_of}
 use Rattle.sat_checker.specs.Accepts.{ready_after}
@@ -13,7 +14,6 @@ use Rattle.sat_checker.specs.KernelView.{Stands}
 use Rattle.certify.specs.confirm.CertificateSteps.{IsFed, MeetsPending, OpensAsk, BringsAll}
 use Rattle.certify.specs.confirm.ConfirmedCommands.{TakesLine, ReadsReply, ShowsOutcome, CountFromOne, ConfirmsNext, ConfirmsOver, AnswersAsk, ConfirmsAll}
 use Rattle.certify.specs.confirm.Dues.{Due, Allows, SaysSo, MeetsDue}
-use Rattle.certify.specs.confirm.Matches.{Adds, Opens, Fails, Closes, Finish, showing, showing_model}
 use Rattle.certify.specs.confirm.NextNames.{BringsEach}
 use Rattle.certify.specs.confirm.Streams.{Stream, seen_in, Confirms, Says, why_of}
 use Rattle.certify.specs.confirm.Views.{View, session_at}

@@ -2,7 +2,7 @@
 use Rattle.std.proofs.Common.{◌≡◌, ℕ, Bool, refl, sym, ap, ◌∙◌}
 use Rattle.sat_base.specs.steps.Steps.{Step, SolverVarName, UserVarName, DeleteVar, ChangeSamplingMode, AddClause, AtClause, UnitClauses, DeleteClause, ChangeHashBits, Model, Assumptions, FailedAssumptions, End}
 use Rattle.sat_base.specs.steps.StepText.{tag_of}
-use Rattle.certify.specs.confirm.Checking.{is_ordered}
+use Rattle.sat_checker.specs.matching.Checking.{is_ordered}
 use Rattle.certify.specs.confirm.Stepping.{is_ordered_tag}
 
 tag_is_ordered : (s : Step) → is_ordered_tag (tag_of s) ≡ is_ordered s

@@ -9,7 +9,7 @@ use Rattle.sat_base.specs.steps.Steps.{Step}
 use Rattle.sat_base.specs.steps.StepReading.{Next, reader_source, step_in}
 use Rattle.sat_checker.specs.Accepts.{Accepts, ready_after}
 use Rattle.sat_checker.specs.KernelView.{Stands, LooksAtMost}
-use Rattle.certify.specs.confirm.Checking.{is_ordered}
+use Rattle.sat_checker.specs.matching.Checking.{is_ordered}
 use Rattle.certify.specs.confirm.Feeding.{HasTaken, Feeds, Settles}
 use Rattle.certify.specs.confirm.Stepping.{ReadsOne, AwaitsNext, StepsOnce, Passed, is_fed, is_fed_so_far}
 use Rattle.certify.specs.confirm.Streams.{Stream, GoesOn, stream_of, bytes_left, seen_in, rest_in, Reading, Confirms, stop_of}

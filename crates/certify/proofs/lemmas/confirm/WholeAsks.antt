@@ -6,13 +6,14 @@ use Rattle.sat_base.specs.script.Script.{Literal, Command, Ask, Ending, names_of
 use Rattle.sat_base.specs.script.Judge.{Judge, accepted, accepted_of, names_from, refusal_of}
 use Rattle.sat_base.specs.steps.Steps.{Step}
 use Rattle.sat_checker.specs.Accepts.{ready_after}
-use Rattle.certify.specs.answers.Answers.{Outcome, Sat, Unsat, Unknown, outcome_text}
+use Rattle.certify.specs.answers.Answers.{outcome_text}
+use Rattle.sat_checker.specs.matching.Expected.{Outcome, Sat, Unsat, Unknown, Expected, Fails, Opens, Closes, bringing, showing, expected}
 use Rattle.certify.specs.answers.AnswerForms.{IsName, HaveNames, NamesRise, IsInForm}
 use Rattle.certify.specs.laws.Laws.{Prints}
-use Rattle.certify.specs.confirm.Matches.{Expected, Fails, Opens, Closes, bringing, showing, expected, InForm}
+use Rattle.certify.specs.confirm.Matches.{InForm}
 use Rattle.certify.specs.confirm.CertificatePlaces.{CanMeet, Leads, Bars, IsPlain, variable_in}
 use Rattle.certify.specs.confirm.CertificateSteps.{IsFed}
-use Rattle.certify.specs.confirm.Checking.{variable_of}
+use Rattle.sat_checker.specs.matching.Checking.{variable_of}
 use Rattle.certify.specs.confirm.Views.{View}
 use Rattle.certify.proofs.lemmas.confirm.CertificatePlaces.{when_cut}
 use Rattle.certify.proofs.lemmas.confirm.LeftByCommand.{Rest, ask_on, ask_back, left_on, left_back, left_barred, HaveVariables, met_shows, met_fails}

@@ -3,11 +3,10 @@ use Rattle.std.proofs.Common.{ℕ, Bool, true, false, not, ◌||◌, ◌≡◌, 
 use Rattle.std.proofs.lemmas.Bool.{true≢false}
 use Rattle.sat_base.specs.script.Script.{Literal}
 use Rattle.sat_base.specs.steps.Steps.{Step, UserVarName, Assumptions, End}
-use Rattle.certify.specs.answers.Answers.{Outcome, Sat, Unsat}
-use Rattle.certify.specs.confirm.Checking.{Checking, is_ordered}
-use Rattle.certify.specs.confirm.Matches.{Expected, NewName, Adds, Opens, Shows, Closes, Finish, Fits, new_name, adds, opens, shows, closes, finish}
+use Rattle.sat_checker.specs.matching.Expected.{Outcome, Sat, Unsat, Expected, NewName, Adds, Opens, Shows, Closes, Finish, Fits, new_name, adds, opens, shows, closes, finish}
+use Rattle.sat_checker.specs.matching.Checking.{Checking, is_ordered}
 use Rattle.certify.specs.run.Certifies.{Certifies, IsKnown, MayCome, is_derived, complete, left_out, other, ordered, asked, answered}
-use Rattle.certify.specs.confirm.ProofChecking.{the_checking}
+use Rattle.sat_checker.specs.matching.ProofChecking.{the_checking}
 use Rattle.certify.specs.laws.Rows.{BehindEndUncertified, ChainCertified, ClauseAndAskCertified, ClauseUncertified, CoreUncertified, EarlyUncertified, EndAloneUncertified, KnownWithoutRounds, LeftOutCertified, ModelUncertified, SearchedEarlyUncertified, UnknownUncertified, neg, pos}
 use Rattle.certify.proofs.lemmas.confirm.FittingSteps.{fits_new_name, fits_adds, fits_shows}
 
@@ -57,7 +56,7 @@ next_name (other o s c) i = absurd (true≢false (sym i ∙ o))
 next_name (ordered s f c) i = c
 
 next_added : {current : Option Outcome} {earlier steps : List Step} {step : Step} {ls : List Literal} {es : List Expected} {counts : List ℕ} → Certifies the_checking current earlier (step ∷ steps) (Adds ls ∷ es) counts → is_ordered step ≡ true → the_checking.unsat earlier ≡ false
-    → Fits the_checking earlier (Adds ls) step × Certifies the_checking current (step ∷ earlier) steps es counts
+    → Fits (the_checking.knows earlier) earlier (Adds ls) step × Certifies the_checking current (step ∷ earlier) steps es counts
 next_added (left_out m r c) i u = absurd (true≢false (sym r.recorded ∙ u))
 next_added (other o s c) i u = absurd (true≢false (sym i ∙ o))
 next_added (ordered s f c) i u = (f, c)
@@ -81,10 +80,10 @@ next_asked (other o s c) i = absurd (true≢false (sym i ∙ o))
 next_asked (ordered s f c) i = absurd s
 next_asked {counts = n ∷ rest} (asked k f c) i = record { rounds = n; rest = rest; counts_are = refl; known = k; leads = c }
 
-closes_ordered : {k : Checking} {earlier : List Step} {step : Step} → Fits k earlier Closes step → is_ordered step ≡ true
+closes_ordered : {knows : ℕ → Bool} {earlier : List Step} {step : Step} → Fits knows earlier Closes step → is_ordered step ≡ true
 closes_ordered closes = refl
 
-opens_ordered : {k : Checking} {earlier : List Step} {step : Step} {ask : List Literal} {o : Outcome} → Fits k earlier (Opens ask o) step → is_ordered step ≡ true
+opens_ordered : {knows : ℕ → Bool} {earlier : List Step} {step : Step} {ask : List Literal} {o : Outcome} → Fits knows earlier (Opens ask o) step → is_ordered step ≡ true
 opens_ordered (opens same) = refl
 
 -- another step within an ask

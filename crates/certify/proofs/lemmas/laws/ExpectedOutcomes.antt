@@ -4,11 +4,11 @@ use Rattle.std.specs.List.{AllByRecursion}
 use Rattle.sat_base.specs.script.Script.{Literal, Command, Clause, Ask, Hide, Witness, Sample, names_of}
 use Rattle.sat_base.specs.script.Judge.{Judge, Mode, Sampled, Witnessed, with_name, with_names, new_names, bring_in, bring_all, without_name, with_mode, with_clause, hide_all, set_all, accepted, accepted_of, start}
 use Rattle.sat_base.specs.steps.Steps.{Step}
-use Rattle.certify.specs.answers.Answers.{Outcome, Sat, Unsat, Unknown}
+use Rattle.sat_checker.specs.matching.Expected.{Outcome, Sat, Unsat, Unknown, Expected, NewName, NoName, Adds, Opens, Shows, Fails, Closes, Finish, bringing, hiding, setting, showing, expected}
 use Rattle.certify.specs.answers.RightAnswers.{IsRight, AreRight, AnswersAreRight}
-use Rattle.certify.specs.confirm.Checking.{Checking, IsSound}
-use Rattle.certify.specs.confirm.Matches.{Expected, NewName, NoName, Adds, Opens, Shows, Fails, Closes, Finish, bringing, hiding, setting, showing, expected, OneEach, InForm, StepsMatch}
-use Rattle.certify.proofs.lemmas.laws.Bridge.{begun}
+use Rattle.sat_checker.specs.matching.Checking.{Checking, IsSound}
+use Rattle.certify.specs.confirm.Matches.{OneEach, InForm, StepsMatch}
+use Rattle.sat_checker.proofs.lemmas.matching.Bridge.{begun}
 use Rattle.certify.proofs.lemmas.laws.MatchingSteps.{RightFor, right_for}
 
 -- modes show in no ordered step

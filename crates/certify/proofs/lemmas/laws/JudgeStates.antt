@@ -8,7 +8,7 @@ use Rattle.sat_base.specs.values.Clauses.{Valuation, literal_true, clause_true, 
 use Rattle.sat_base.specs.script.Script.{Literal, Command, Clause, Ask, Hide, Witness, Sample, names_of}
 use Rattle.sat_base.specs.script.Judge.{Judge, Named, Mode, Sampled, Witnessed, identity_in, identity_of, placed, or_zero, with_name, with_names, names_from, new_names, over, bring_in, bring_all, without_name, with_mode, hide_all, set_all, accepted, Refusal, PastLimit, WitnessName, refused_literal, refused_name, has_witness, refusal_of, after_command, after_script, start}
 use Rattle.certify.specs.laws.Laws.{NamesIncrease, IsKept, JudgeIsKept, only_below, GivenIdentitiesSuffice}
-use Rattle.certify.proofs.lemmas.laws.LiteralValues.{all_map, coded_half}
+use Rattle.sat_checker.proofs.lemmas.matching.LiteralValues.{all_map, coded_half}
 
 placed_all : (P : Named → Type 0) (new : Named) (ns : List Named) → P new → AllByRecursion P ns → AllByRecursion P (placed new ns)
 placed_all P new [] p h = (p, tt)

@@ -6,11 +6,12 @@ use Rattle.sat_base.specs.values.Clauses.{Valuation, literal_true, EachTrue, Eac
 use Rattle.sat_base.specs.script.Script.{Literal, names_of, Among}
 use Rattle.sat_base.specs.script.Judge.{Judge, over, with_name, without_name, with_clause, IsRightModel}
 use Rattle.sat_base.specs.steps.Steps.{Step, SolverVarName, UserVarName, DeleteVar, ChangeSamplingMode, AddClause, AtClause, UnitClauses, DeleteClause, ChangeHashBits, Model, Assumptions, FailedAssumptions, End}
-use Rattle.certify.specs.confirm.Checking.{variable_of, assumed, is_ordered, Checking, IsSound}
-use Rattle.certify.specs.confirm.Matches.{Expected, NewName, NoName, Adds, Opens, Shows, Fails, Closes, Finish, Spells, EachSpelt, SameSet, new_name, no_name, adds, opens, shows, fails, closes, finish, Excused, Meets, met, cut, other, ordered}
-use Rattle.certify.specs.laws.Bridge.{Live, IsBridge}
-use Rattle.certify.proofs.lemmas.laws.LiteralValues.{all_at, all_map, true_mapped, mapped_true, coded_same}
-use Rattle.certify.proofs.lemmas.laws.Bridge.{line_true, core_true, pulled, pulled_agrees, without, nothing_new, added, named_new, unnamed, deleted}
+use Rattle.sat_checker.specs.matching.Checking.{variable_of, assumed, is_ordered, Checking, IsSound}
+use Rattle.certify.specs.confirm.Matches.{Excused, Meets, met, cut, other, ordered}
+use Rattle.sat_checker.specs.matching.Expected.{Expected, NewName, NoName, Adds, Opens, Shows, Fails, Closes, Finish, Spells, EachSpelt, SameSet, new_name, no_name, adds, opens, shows, fails, closes, finish}
+use Rattle.sat_checker.specs.matching.Bridge.{Live, IsBridge}
+use Rattle.sat_checker.proofs.lemmas.matching.LiteralValues.{all_at, all_map, true_mapped, mapped_true, coded_same}
+use Rattle.sat_checker.proofs.lemmas.matching.Bridge.{line_true, core_true, pulled, pulled_agrees, without, nothing_new, added, named_new, unnamed, deleted}
 
 -- a right core, but for its order
 pub record IsCore (j : Judge) (ask core : List Literal) : Type 0 where

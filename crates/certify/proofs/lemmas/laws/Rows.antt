@@ -11,14 +11,15 @@ use Rattle.sat_base.specs.steps.Steps.{Step, UserVarName, AddClause, Model, Assu
 use Rattle.sat_base.specs.steps.StepText.{AreLiterals, SpellsStep, SpellsSteps}
 use Rattle.sat_checker.specs.Stored.{Sample, unknown, is_known}
 use Rattle.sat_checker.specs.Accepts.{MayGetName, ready_after}
-use Rattle.certify.specs.answers.Answers.{Outcome, Sat, Unsat, Unknown, answers_text, outcome_text}
-use Rattle.certify.specs.confirm.Checking.{Checking}
-use Rattle.certify.specs.confirm.Matches.{Fits, NewName, met, cut, ordered, new_name, adds, opens, shows, closes, finish, OneEach, StepsMatch}
-use Rattle.certify.specs.confirm.ProofChecking.{the_checking}
+use Rattle.certify.specs.answers.Answers.{answers_text, outcome_text}
+use Rattle.sat_checker.specs.matching.Expected.{Outcome, Sat, Unsat, Unknown, Fits, NewName, new_name, adds, opens, shows, closes, finish}
+use Rattle.sat_checker.specs.matching.Checking.{Checking}
+use Rattle.certify.specs.confirm.Matches.{met, cut, ordered, OneEach, StepsMatch}
+use Rattle.sat_checker.specs.matching.ProofChecking.{the_checking}
 use Rattle.certify.specs.laws.Rows.{AskAloneText, clause_and_ask, clause_and_ask_text, ClauseAndAskText, ClauseAndAskExpected, ClauseAndAskRight, ClauseAndAskSteps, ClauseAndAskMatches, TwoUnitsRight, TwoUnitsSteps, TwoUnitsMatches, EmptyMatches, HiddenAndBackState, HiddenAndBackExpected, HiddenAtOnceState, WitnessRefusedText, LeftmostRefuses, WitnessRefusesAsk, MalformedText, EmptyText, NameOnOldVariable, EndAlone, NoAnswers, AnswersTwice, pos, neg}
 use Rattle.certify.proofs.lemmas.confirm.NextStep.{taken, skipped, fits_new}
 use Rattle.certify.proofs.lemmas.laws.ExpectedOutcomes.{matching_right}
-use Rattle.certify.proofs.lemmas.laws.CheckerIsSound.{the_checking_sound}
+use Rattle.sat_checker.proofs.lemmas.matching.CheckerIsSound.{the_checking_sound}
 use Rattle.certify.proofs.lemmas.laws.TellingTexts.{same_outcome}
 
 pub ask_alone_text : AskAloneText
@@ -206,7 +207,7 @@ pub end_alone : EndAlone
 end_alone [] m = m.one_each
 end_alone (o ∷ os) m = no (taken the_checking refl m.meets).0
   where
-    no : Fits the_checking [] (NewName 1) End → ⊥
+    no : Fits (the_checking.knows []) [] (NewName 1) End → ⊥
     no f = elim f [ ]
 
 no_text : (o : Outcome) → [] ≡ outcome_text o ++ [] → ⊥

@@ -8,7 +8,8 @@ use Rattle.std.specs.List.{AllByRecursion}
 use Rattle.sat_base.specs.values.Literals.{largest}
 use Rattle.sat_base.specs.script.Script.{Literal, Command, Clause, Ask, Hide, Witness, Sample, Ending, names_of}
 use Rattle.sat_base.specs.script.Judge.{Judge, Refusal, refusal_of, accepted, accepted_of, start, with_names, new_names, bring_in, bring_all, with_name}
-use Rattle.certify.specs.answers.Answers.{Outcome, Sat, Unsat, Unknown, word_of, literals_text, outcome_text, answers_from, piece, outcomes_left}
+use Rattle.certify.specs.answers.Answers.{word_of, literals_text, outcome_text, answers_from, piece, outcomes_left}
+use Rattle.sat_checker.specs.matching.Expected.{Outcome, Sat, Unsat, Unknown}
 use Rattle.certify.specs.confirm.Matches.{OneEach}
 use Rattle.certify.specs.laws.Laws.{Prints, TextsTellOutcomes, AskBindsNothing}
 

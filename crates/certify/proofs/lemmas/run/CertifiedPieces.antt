@@ -17,12 +17,11 @@ use Rattle.sat_checker.specs.Storing.{with_stored, with_input, with_literals_kno
 use Rattle.sat_checker.specs.Accepts.{effect, ready_after}
 use Rattle.sat_checker.proofs.lemmas.meaning.Names.{stored_same}
 use Rattle.certify.proofs.lemmas.confirm.Settled.{settled_known}
-use Rattle.certify.specs.confirm.Checking.{variable_of}
-use Rattle.certify.specs.confirm.ProofChecking.{the_checking}
+use Rattle.sat_checker.specs.matching.Checking.{variable_of}
+use Rattle.sat_checker.specs.matching.ProofChecking.{the_checking}
 use Rattle.certify.specs.answers.AnswerForms.{named_literal, named_literals}
-use Rattle.certify.specs.answers.Answers.{Outcome, Unsat}
+use Rattle.sat_checker.specs.matching.Expected.{Outcome, Unsat, Expected, NewName, Adds, Opens, Shows, Fails, Closes, bringing, showing, Spells, SameSet, EachSpelt, new_name, adds, opens, shows, closes}
 use Rattle.certify.specs.answers.RightAnswers.{IsRight}
-use Rattle.certify.specs.confirm.Matches.{Expected, NewName, Adds, Opens, Shows, Fails, Closes, bringing, showing, Spells, SameSet, EachSpelt, new_name, adds, opens, shows, closes}
 use Rattle.certify.specs.run.Certifies.{Certifies, IsKnown, MayCome, left_out, other, ordered, asked, answered}
 use Rattle.certify.specs.search.Search.{IsBounded}
 use Rattle.certify.specs.search.KeptClauses.{IsNormalOf}
@@ -39,7 +38,7 @@ use Rattle.certify.proofs.lemmas.confirm.PlainJudge.{from_split}
 use Rattle.certify.proofs.lemmas.run.FirstNames.{AreNames, identity_plain, bring_plain}
 use Rattle.certify.proofs.lemmas.search.SolverCalls.{true_with, normal_bounded}
 use Rattle.certify.proofs.lemmas.confirm.LiteralSets.{among_is, is_from_among}
-use Rattle.certify.proofs.lemmas.laws.LiteralValues.{all_at, all_from, among_mapped}
+use Rattle.sat_checker.proofs.lemmas.matching.LiteralValues.{all_at, all_from, among_mapped}
 
 -- Behind the earlier steps these are what is expected, of which the asks took so many rounds; then so many names are in use, and this
 -- is recorded; whatever comes.

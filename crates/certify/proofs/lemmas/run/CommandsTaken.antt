@@ -14,7 +14,8 @@ use Rattle.certify.specs.declared.run.session.Session.{Session}
 use Rattle.certify.specs.declared.summary.Answer.{Answer}
 use Rattle.certify.specs.declared.summary.Answer.TheVariants as kind
 use Rattle.certify.specs.declared.summary.AskReport.{AskReport}
-use Rattle.certify.specs.answers.Answers.{Outcome, refused_line, outcome_text, answers_from}
+use Rattle.certify.specs.answers.Answers.{refused_line, outcome_text, answers_from}
+use Rattle.sat_checker.specs.matching.Expected.{Outcome, Adds, Opens, Closes, bringing, expected, showing}
 use Rattle.certify.specs.answers.AnswerForms.{named_literal, named_literals}
 use Rattle.certify.specs.answers.RightAnswers.{IsRight, AreRight}
 use Rattle.certify.specs.run.FinishedRun.{refused_count, kind_of, IsSpent, AreSpent, asked_steps}
@@ -23,8 +24,7 @@ use Rattle.certify.specs.script.CappedNames.{CappedScript}
 use Rattle.certify.specs.run.Running.{HasFirstNames, Reached, Refused, Added, Asked, Took, TookAll, Told, IsSimple, IsTrueOf, WritesClause, WroteClauseOf, AnsweredAsk, reported_text, are_within, code_of, naming, reported_outcome, raised, steps_of}
 use Rattle.certify.specs.run.Outputs.{Both, Tells, WritesSteps}
 use Rattle.sat_base.specs.steps.Steps.{Step}
-use Rattle.certify.specs.confirm.ProofChecking.{the_checking}
-use Rattle.certify.specs.confirm.Matches.{Adds, Opens, Closes, bringing, expected, showing}
+use Rattle.sat_checker.specs.matching.ProofChecking.{the_checking}
 use Rattle.certify.specs.run.Certifies.{Certifies}
 use Rattle.certify.specs.search.SearchEnds.{AreDerived}
 use Rattle.certify.proofs.lemmas.run.CertifiedPieces.{Brings, brings_nothing, brings_added, brings_ask, ask_steps, code_back, further}

@@ -13,10 +13,10 @@ use Rattle.sat_base.specs.steps.StepText.{SpellsSteps}
 use Rattle.certify.specs.declared.fault.RunFault.{RunFault}
 use Rattle.certify.specs.declared.run.session.Session.{Session}
 use Rattle.certify.specs.declared.summary.Summary.{Summary}
-use Rattle.certify.specs.answers.Answers.{Outcome, piece, outcomes_left, refused_line, answers_from, ending_text}
+use Rattle.certify.specs.answers.Answers.{piece, outcomes_left, refused_line, answers_from, ending_text}
+use Rattle.sat_checker.specs.matching.Expected.{Outcome, expected, finish}
 use Rattle.certify.specs.answers.RightAnswers.{AreRight}
-use Rattle.certify.specs.confirm.ProofChecking.{the_checking}
-use Rattle.certify.specs.confirm.Matches.{expected, finish}
+use Rattle.sat_checker.specs.matching.ProofChecking.{the_checking}
 use Rattle.certify.specs.run.Certifies.{Certifies, complete, ordered}
 use Rattle.certify.specs.script.CappedNames.{capped_command, CappedScript, capped_script, IsScriptOf}
 use Rattle.std.specs.Prelude.{OnOk, IsOk, IsErr, IsErrOf, ◌⊎◌}

@@ -1,7 +1,7 @@
 use Rattle.std.proofs.Common.{List, ℕ}
 use Rattle.std.specs.Bool.{MatchBool}
 use Rattle.certify.specs.confirm.CertificatePlaces.{variable_in}
-use Rattle.certify.specs.confirm.Matches.{EachSpelt}
+use Rattle.sat_checker.specs.matching.Expected.{EachSpelt}
 use Rattle.certify.specs.confirm.SpeltLiterals.{AllAmong, AreSpelt}
 use Rattle.certify.proofs.lemmas.confirm.LiteralSets.{each_answer, unspelt_each}
 use Rattle.certify.proofs.lemmas.confirm.CertificateSteps.{ok_so}

@@ -8,10 +8,10 @@ use Rattle.sat_base.specs.script.Script.{Literal, Among}
 use Rattle.sat_base.specs.script.Judge.{Judge, Named, identity_in, identity_of, or_zero, over, with_name, without_name, with_clause, start}
 use Rattle.sat_base.specs.steps.Steps.{Step, UserVarName, AddClause, DeleteVar}
 use Rattle.sat_checker.specs.Fold.{Holds}
-use Rattle.certify.specs.confirm.Checking.{is_variable, variable_of, Checking, IsSound}
-use Rattle.certify.specs.confirm.Matches.{Spells, EachSpelt, SameSet}
-use Rattle.certify.specs.laws.Bridge.{Live, Agrees, Apart, IsBridge}
-use Rattle.certify.proofs.lemmas.laws.LiteralValues.{coded_half, literal_same, among_true, some_true, some_mapped, among_mapped, all_at, all_map, updated, Below, updated_clauses, placed_found, removed_found, removed_gone}
+use Rattle.sat_checker.specs.matching.Checking.{is_variable, variable_of, Checking, IsSound}
+use Rattle.sat_checker.specs.matching.Expected.{Spells, EachSpelt, SameSet}
+use Rattle.sat_checker.specs.matching.Bridge.{Live, Agrees, Apart, IsBridge}
+use Rattle.sat_checker.proofs.lemmas.matching.LiteralValues.{coded_half, literal_same, among_true, some_true, some_mapped, among_mapped, all_at, all_map, updated, Below, updated_clauses, placed_found, removed_found, removed_gone}
 
 pub begun : (k : Checking) → IsBridge k start [] []
 begun k = record {

@@ -7,7 +7,7 @@ use Rattle.sat_base.specs.script.Script.{Among}
 use Rattle.sat_base.specs.script.Judge.{Judge, identity_of}
 use Rattle.sat_base.specs.steps.Steps.{Step}
 use Rattle.sat_checker.specs.Fold.{Holds}
-use Rattle.certify.specs.confirm.Checking.{variable_of, Checking, Accepted}
+use Rattle.sat_checker.specs.matching.Checking.{variable_of, Checking, Accepted}
 
 -- live proof variables with their identities
 abbrev pub Live : Type 0

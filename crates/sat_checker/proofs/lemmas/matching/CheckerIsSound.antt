@@ -11,8 +11,8 @@ use Rattle.sat_checker.specs.Stored.{Stored, Variable, Sample, Witness, Hide, un
 use Rattle.sat_checker.specs.Storing.{settled, with_stored, with_input, with_units, with_literals_known}
 use Rattle.sat_checker.proofs.lemmas.meaning.Answers.{unsat_means_none, models_extend, cores_fail, cores_assumed}
 use Rattle.sat_checker.proofs.lemmas.meaning.Names.{SameVariables, stored_same, units_same, settled_same, named_is_known, known_stays}
-use Rattle.certify.specs.confirm.Checking.{is_variable, variable_of, assumed, Accepted, IsSound}
-use Rattle.certify.specs.confirm.ProofChecking.{the_checking}
+use Rattle.sat_checker.specs.matching.Checking.{is_variable, variable_of, assumed, Accepted, IsSound}
+use Rattle.sat_checker.specs.matching.ProofChecking.{the_checking}
 
 pub all_accepted : (steps : List Step) → Accepted the_checking steps → AcceptsAll steps
 all_accepted [] h = tt

@@ -1,0 +1,3 @@
+pub mod LiteralValues
+pub mod Bridge
+pub mod CheckerIsSound

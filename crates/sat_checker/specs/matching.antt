@@ -1,0 +1,4 @@
+pub mod Checking
+pub mod ProofChecking
+pub mod Bridge
+pub mod Expected
