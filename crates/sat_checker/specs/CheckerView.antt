@@ -1,10 +1,9 @@
 -- What contracts see of a checker: the steps that it accepted, its input clauses among them, whether it has failed, and what those who listen have heard.
 use Rattle.std.specs.Prelude.{ℕ, ◌≡◌, ◌⊎◌, Bool, true, false, List, ◌∷◌, Result, Ok, Err}
 use Rattle.sat_base.specs.steps.Steps.{Step, AddClause}
-use Rattle.sat_checker.specs.Spent.{IsSpent}
+use Rattle.sat_checker.specs.Spent.{IsSpent, SpentBy}
 use Rattle.sat_checker.specs.Accepts.{Accepts, stored_after, ready_after}
 use Rattle.sat_checker.specs.KernelView as kernels
-use Rattle.sat_checker.specs.inner.StateView.{SpentBy}
 use Rattle.sat_checker.specs.announcements.Announcements.{Told, told_after, all_told_after}
 use Rattle.sat_checker.specs.telling.Hearing.{Hearers, hearers, HearsSince, HearsSinceUpTo, told_by}
 use Rattle.sat_checker.specs.declared.kernel.Kernel.{Kernel}
@@ -84,9 +83,9 @@ module _ {L : Type 0} (Hears : L → Told → Result Unit ProcessingError → L 
     pub fails : Fails new steps
     pub heard : HearsSinceUpTo Hears e before told begun new.listeners
 
-  -- to what waited, or to what an accepted step tells
+  -- to what waited, or to what an accepted step tells, which is among the accepted ones then
   abbrev pub BreaksAt : ProcessingError → Seen L → Step → List Step → Type 0
-  BreaksAt e new step steps = Breaks e (all_told_after steps) new steps ⊎ (Accepts (ready_after steps) step × Breaks e (told_after (step ∷ steps)) new steps)
+  BreaksAt e new step steps = Breaks e (all_told_after steps) new steps ⊎ (Accepts (ready_after steps) step × Breaks e (told_after (step ∷ steps)) new (step ∷ steps))
 
   -- the step was accepted, as the definition has it
   pub record Takes (new : Seen L) (step : Step) (steps : List Step) : Type 0 where

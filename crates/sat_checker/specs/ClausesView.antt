@@ -5,7 +5,7 @@ use Rattle.sat_checker.specs.Accepts.{Accepts, stored_after, ready_after}
 use Rattle.sat_checker.specs.CheckerView.{Seen, has_failed, looks_of, Stands, Stops, BreaksAt}
 use Rattle.sat_checker.specs.announcements.Announcements.{Told}
 use Rattle.sat_checker.specs.ProofView.{taken_after, most_looks_behind, GoesOn}
-use Rattle.sat_checker.specs.inner.StateView.{SpentBy}
+use Rattle.sat_checker.specs.Spent.{SpentBy}
 use Rattle.sat_checker.specs.declared.error.CheckerError.{CheckerError}
 use Rattle.sat_checker.specs.declared.error.CheckerError.TheVariants as errors
 use Rattle.sat_checker.specs.declared.processing.ProcessingError.{ProcessingError}

@@ -1,16 +1,16 @@
 -- What always holds of what is stored, and what steps leave as it was.
-use Rattle.std.specs.Prelude.{ℕ, ◌+◌, ◌<◌, ◌≤◌, ◌≡◌, ◌↔◌, Bool, true, false, ◌&&◌, Option, None, Some, List, [], ◌∷◌, map, length}
+use Rattle.std.specs.Prelude.{ℕ, ◌+◌, ◌<◌, ◌≤◌, ◌≡◌, ◌↔◌, Bool, true, false, ◌&&◌, None, Some, List, [], ◌∷◌, map, length}
 use Rattle.std.specs.List.{AllByRecursion}
 use Rattle.sat_base.specs.values.Literals.{variable}
 use Rattle.sat_base.specs.values.Clauses.{Valuation, EachHolds}
 use Rattle.sat_base.specs.steps.Steps.{Step, SolverVarName, UserVarName, ChangeSamplingMode, AtClause, ChangeHashBits, Model, Assumptions, FailedAssumptions, End}
 use Rattle.sat_checker.specs.LiteralSets.{is_tautology, canonical, same_literals}
-use Rattle.sat_checker.specs.inner.Marks.{IsIncreasing}
+use Rattle.sat_checker.specs.SortedSets.{IsIncreasing}
 use Rattle.sat_checker.specs.Stored.{StoredClause, Stored, unit_literals, long_clauses, is_known}
 use Rattle.sat_checker.specs.Storing.{clause_with, without_clause, settled, last_literals}
-use Rattle.sat_checker.specs.Accepts.{VariablesApart, Accepts, AcceptsAll, effect, stored_after, ready_after}
+use Rattle.sat_checker.specs.Accepts.{VariablesApart, Accepts, AcceptsAll, effect, ready_after}
 use Rattle.sat_checker.specs.Fold.{Holds}
-use Rattle.sat_checker.specs.Contents.{count_of, same_side, more_if, less_if, contents, contents_after, contents_of}
+use Rattle.sat_checker.specs.Contents.{count_of, same_side, less_if, contents, contents_after, contents_of}
 
 -- no set of literals is stored twice
 abbrev pub EachOnce : List StoredClause → Type 0

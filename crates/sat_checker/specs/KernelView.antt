@@ -2,10 +2,10 @@
 use Rattle.std.specs.Prelude.{ℕ, ◌≡◌, ◌⊎◌, ◌+◌, ◌≤◌, Bool, true, false, None, List, ◌∷◌, Result, Ok, Err}
 use Rattle.sat_base.specs.steps.Steps.{Step}
 use Rattle.sat_checker.specs.Stored.{Stored}
-use Rattle.sat_checker.specs.Spent.{IsSpent}
+use Rattle.sat_checker.specs.Spent.{IsSpent, SpentBy}
 use Rattle.sat_checker.specs.Accepts.{Accepts, AcceptsAll, stored_after, ready_after}
 use Rattle.sat_checker.specs.Looks.{most_looks}
-use Rattle.sat_checker.specs.inner.StateView.{Keeps, SpentBy}
+use Rattle.sat_checker.specs.inner.StateView.{Keeps}
 use Rattle.sat_checker.specs.declared.kernel.Kernel.{Kernel}
 use Rattle.sat_checker.specs.declared.state.State.{State}
 use Rattle.sat_checker.specs.declared.status.Records.{Records}
@@ -53,13 +53,14 @@ abbrev pub AnswersStep : Result Unit CheckerError → Kernel → Step → Kernel
 AnswersStep (Ok x) old step new steps = (has_failed old ≡ false) × Takes new step steps
 AnswersStep (Err errors.CheckFailed) old step new steps = (has_failed old ≡ false) × (Accepts (ready_after steps) step → ⊥) × Fails new steps
 AnswersStep (Err errors.CounterEnd) old step new steps = (has_failed old ≡ false) × SpentBy step (stored_after steps) × Fails new steps
-AnswersStep (Err errors.OutOfMemory) old step new steps = (has_failed old ≡ false) × Fails new steps
+-- before the step was taken, or as it was told: then it's among the accepted ones
+AnswersStep (Err errors.OutOfMemory) old step new steps = (has_failed old ≡ false) × (Fails new steps ⊎ (Accepts (ready_after steps) step × Fails new (step ∷ steps)))
 AnswersStep (Err errors.HasFailed) old step new steps = (has_failed old ≡ true) × Fails new steps
 AnswersStep (Err errors.ProofIncomplete) old step new steps = ⊥
 AnswersStep (Err errors.IoError) old step new steps = ⊥
 AnswersStep (Err errors.ParseError) old step new steps = ⊥
--- one of those who listen answered a fault
-AnswersStep (Err (errors.ProofProcessorError cause)) old step new steps = (has_failed old ≡ false) × Fails new steps
+-- one of those who listen answered a fault, to what waited or to the step
+AnswersStep (Err (errors.ProofProcessorError cause)) old step new steps = (has_failed old ≡ false) × (Fails new steps ⊎ (Accepts (ready_after steps) step × Fails new (step ∷ steps)))
 
 abbrev pub ChecksStep : Result Unit CheckerError → Kernel → Step → Kernel → Type 0
 ChecksStep result old step new = (steps : List Step) → Stands old steps → AnswersStep result old step new steps

@@ -5,7 +5,7 @@ use Rattle.sat_base.specs.values.Literals.{negated}
 use Rattle.sat_base.specs.values.Clauses.{Valuation, EachTrue}
 use Rattle.sat_base.specs.steps.Steps.{Step, UserVarName, DeleteVar, Model, FailedAssumptions}
 use Rattle.sat_checker.specs.LiteralSets.{is_among, is_tautology, canonical, same_literals}
-use Rattle.sat_checker.specs.inner.Marks.{IsIncreasing}
+use Rattle.sat_checker.specs.SortedSets.{IsIncreasing}
 use Rattle.sat_checker.specs.Stored.{Empty, Stored, unknown, unit_literals, is_known, name_of, Satisfies}
 use Rattle.sat_checker.specs.Accepts.{Accepts, AcceptsAll, effect, ready_after}
 use Rattle.sat_checker.specs.Fold.{Holds}

@@ -4,7 +4,7 @@ use Rattle.std.specs.List.{AllByRecursion}
 use Rattle.sat_base.specs.values.Literals.{negated}
 use Rattle.sat_base.specs.values.Clauses.{Valuation, EachTrue, EachHolds}
 use Rattle.sat_checker.specs.LiteralSets.{is_among, canonical}
-use Rattle.sat_checker.specs.inner.Marks.{NoRepeats}
+use Rattle.sat_checker.specs.SortedSets.{NoRepeats}
 use Rattle.sat_checker.specs.Propagation.{UnitInTurn}
 use Rattle.sat_checker.specs.Stored.{Stored, is_unit, hash_by}
 use Rattle.sat_checker.specs.Storing.{clause_with}

@@ -1,4 +1,5 @@
 pub mod LiteralSets
+pub mod SortedSets
 pub mod Propagation
 pub mod Stored
 pub mod Storing

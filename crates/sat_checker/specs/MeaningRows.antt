@@ -1,5 +1,5 @@
 -- Worked rows of what steps mean, of what is satisfied, and of looks.
-use Rattle.std.specs.Prelude.{ℕ, ◌==◌, ◌≡◌, Bool, true, false, List, [], ◌∷◌, map}
+use Rattle.std.specs.Prelude.{ℕ, ◌==◌, ◌≡◌, true, false, List, [], ◌∷◌, map}
 use Rattle.sat_base.specs.values.Clauses.{Valuation}
 use Rattle.sat_base.specs.steps.Steps.{Redundant, Step, DeleteVar, AddClause, AtClause, UnitClauses, DeleteClause, FailedAssumptions, End}
 use Rattle.sat_checker.specs.Stored.{Satisfies}

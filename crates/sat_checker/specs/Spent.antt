@@ -1,7 +1,9 @@
 -- When a number that the checker would keep is past 64 bits.
 use Rattle.std.specs.Prelude.{ℕ, ◌≤◌, ◌^◌, ◌⊎◌, List}
+use Rattle.sat_base.specs.steps.Steps.{Step}
 use Rattle.sat_checker.specs.Stored.{Stored}
-use Rattle.sat_checker.specs.Storing.{clause_with, irredundant_count, redundant_count}
+use Rattle.sat_checker.specs.Storing.{clause_with, irredundant_count, redundant_count, settled}
+use Rattle.sat_checker.specs.Accepts.{effect}
 
 -- a count of a stored clause is past 64 bits
 pub record CountSpent (f : Stored) : Type 0 where
@@ -11,3 +13,7 @@ pub record CountSpent (f : Stored) : Type 0 where
 -- the last id, 2^64-2, was given, and one more would be; or a count is past 64 bits
 abbrev pub IsSpent : Stored → Type 0
 IsSpent f = (2 ^ 64 ≤ f.next_id) ⊎ CountSpent f
+
+-- a number is past 64 bits once a pending unit conflict is settled, or in what the step would leave
+abbrev pub SpentBy : Step → Stored → Type 0
+SpentBy step f = IsSpent (settled f) ⊎ IsSpent (effect step (settled f))

@@ -33,6 +33,7 @@ impl Formula {
     pub fn id_of_set(&self, literals: &[Lit], looks: &mut Looks) -> Option<u64>
         ensures id { (f : Stored) → KeepsFormula self.now f → result ≡ id_of_set literals.now f }
         ensures looks { (f : Stored) → KeepsFormula self.now f → looks.new ≤ looks.old + literal_count f }
+        ensures rise { looks.old ≤ looks.new }
     {
         if literals.is_empty() {
             return None;
@@ -52,6 +53,7 @@ impl Formula {
             stored_as result f.next_id redundant literals.now ids
             ≡ derived_set redundant literals.now ids f (id_of_set literals.now f) }
         ensures looks { (f : Stored) → KeepsFormula self.now f → looks.new ≤ looks.old + literal_count f }
+        ensures rise { looks.old ≤ looks.new }
     {
         if literals.len() < 2 {
             return match self.id_of_set(literals, looks) {

@@ -1,5 +1,5 @@
 //! The checker of proof steps.
-ghost use Rattle.std.specs.Prelude.{◌≡◌, ◌-◌, ◌^◌, ◌++◌, ◌∷◌, ◌↔◌, IsTrue, false, [], List, min, None};
+ghost use Rattle.std.specs.Prelude.{◌≤◌, ◌≡◌, ◌-◌, ◌^◌, ◌++◌, ◌∷◌, ◌↔◌, IsTrue, false, [], List, min, None};
 ghost use Rattle.sat_base.specs.steps.Steps.{Step, AddClause};
 ghost use Rattle.sat_base.specs.steps.StepViews.{step_of};
 ghost use Rattle.sat_checker.specs.Stored.{is_known, name_of};
@@ -110,6 +110,7 @@ impl<P: ProofProcessor, T: ProofTranscriptProcessor> Checker<P, T> {
         ensures checks { ChecksClause (HearsEach P.takes T.reads)
             result (seen_of self.old) clause.now (seen_of self.new) }
         ensures looks { LooksAtMost (kernel_of self.old) (AddClause clause.now) (kernel_of self.new) }
+        ensures rise { looks_of (kernel_of self.old) ≤ looks_of (kernel_of self.new) }
     {
         if self.kernel.failed {
             return Err(CheckerError::HasFailed);
@@ -126,6 +127,7 @@ impl<P: ProofProcessor, T: ProofTranscriptProcessor> Checker<P, T> {
         ensures tells { ChecksStep (HearsEach P.takes T.reads)
             result (seen_of self.old) (step_of step.now) (seen_of self.new) }
         ensures looks { LooksAtMost (kernel_of self.old) (step_of step.now) (kernel_of self.new) }
+        ensures rise { looks_of (kernel_of self.old) ≤ looks_of (kernel_of self.new) }
     {
         let mut nobody = Nobody {};
         self.kernel
@@ -194,6 +196,7 @@ impl<P: ProofProcessor, T: ProofTranscriptProcessor> SelfChecker for Checker<P, 
     fn self_check_step(&mut self, step: &ProofStep<'_>) -> Result<(), CheckerError>
         ensures judges { kernels.ChecksStep result (kernel_of self.old) (step_of step.now) (kernel_of self.new) }
         ensures looks { LooksAtMost (kernel_of self.old) (step_of step.now) (kernel_of self.new) }
+        ensures rise { looks_of (kernel_of self.old) ≤ looks_of (kernel_of self.new) }
         ensures tells { ChecksStep (HearsEach P.takes T.reads)
             result (seen_of self.old) (step_of step.now) (seen_of self.new) }
     {

@@ -1,8 +1,8 @@
 //! The stored clauses of two literals or more.
-ghost use Rattle.std.specs.Prelude.{ℕ, ◌≡◌, ◌+◌, ◌*◌, ◌<◌, ◌≤◌, ◌^◌, [], ◌∷◌, ◌++◌, length, false, MatchOption, OnOk};
+ghost use Rattle.std.specs.Prelude.{ℕ, ◌≡◌, ◌+◌, ◌*◌, ◌<◌, ◌≤◌, ◌^◌, [], ◌∷◌, ◌++◌, length, true, false, MatchOption, OnOk};
 ghost use Rattle.std.specs.List.{AllByRecursion, list_any};
 ghost use Rattle.sat_checker.specs.LiteralSets.{mentions};
-ghost use Rattle.sat_checker.specs.inner.ModelTests.{are_all_true};
+ghost use Rattle.sat_checker.specs.inner.ModelTests.{are_all_true, irredundant_length};
 ghost use Rattle.sat_checker.specs.Looks.{total_length};
 ghost use Rattle.sat_checker.specs.inner.Marks.{IsIncreasing};
 ghost use Rattle.sat_checker.specs.inner.SlotView.{slot_at, literals_at, all_lits, stored_slot, with_count_at, without_count_at, count_of, is_gone, is_standing, places_of, bucket_in, is_same_at, found_among, all_hashed_by, live, live_length, IsBucket};
@@ -101,6 +101,7 @@ impl Clauses {
     pub fn find(&self, hash: ClauseHash, literals: &[Lit], looks: &mut Looks) -> Option<usize>
         ensures found { result ≡ found_among self.now literals.now (places_of hash self.now) }
         ensures looks { looks.new ≤ looks.old + total_length (bucket_in hash self.now) }
+        ensures rise { looks.old ≤ looks.new }
     {
         let Some(bucket) = self.bucket(hash) else {
             return None;
@@ -127,6 +128,9 @@ impl Clauses {
     pub fn mention(&self, var: Var, looks: &mut Looks) -> bool
         ensures found { result ≡ list_any (λ c. mentions c.literals var) (live self.now) }
         ensures looks { looks.new ≤ looks.old + live_length self.now }
+        // All were looked at where none has one.
+        ensures all { result ≡ false → looks.new ≡ looks.old + live_length self.now }
+        ensures rise { looks.old ≤ looks.new }
     {
         for place in 0..self.slots.len() {
             if self.slots.is_gone(place) {
@@ -143,6 +147,9 @@ impl Clauses {
     pub fn are_satisfied(&self, assigned: &Assigned, looks: &mut Looks) -> bool
         ensures found { result ≡ are_all_true assigned.now (live self.now) }
         ensures looks { looks.new ≤ looks.old + live_length self.now }
+        // All irredundant ones were looked at where they are.
+        ensures all { result ≡ true → looks.new ≡ looks.old + irredundant_length (live self.now) }
+        ensures rise { looks.old ≤ looks.new }
     {
         for place in 0..self.slots.len() {
             if self.slots.count(place, false) == 0 {
@@ -182,6 +189,7 @@ impl Clauses {
     ) -> Result<(), AllocError>
         ensures hashed { OnOk result (self.new ≡ all_hashed_by (solver_name_of hasher.now) (width_of hasher.now) self.old) }
         ensures looks { looks.new ≤ looks.old + live_length self.old }
+        ensures rise { looks.old ≤ looks.new }
     {
         self.index.clear();
         if file_all(&mut self.slots, hasher, &mut self.index, looks).is_err() {
@@ -228,6 +236,7 @@ fn file_all(
     ensures filed { OnOk result ((q : ℕ) →
         places_in index.new q ≡ places_of q (all_hashed_by (solver_name_of hasher.now) (width_of hasher.now) slots.old)) }
     ensures looks { looks.new ≤ looks.old + live_length slots.old }
+    ensures rise { looks.old ≤ looks.new }
 {
     for place in 0..slots.len() {
         if slots.is_gone(place) {

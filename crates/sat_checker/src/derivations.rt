@@ -30,6 +30,7 @@ impl Formula {
             → news.new ≡ news.old ++ derived_set redundant literals.now ids.now f (id_of_set literals.now f)) }
         ensures untold { OnErr result (news.new ≡ news.old) }
         ensures looks { (f : Stored) → KeepsFormula self.old f → looks.new ≤ looks.old + 2 * literal_count f }
+        ensures rise { looks.old ≤ looks.new }
     {
         let id = self.status.next_id;
         let change = self.change(redundant, literals, looks);

@@ -1,5 +1,5 @@
 //! The stored formula: clauses, units, and what is recorded of them.
-ghost use Rattle.std.specs.Prelude.{◌≡◌, ◌+◌, ◌≤◌, ◌*◌, ℕ, [], ◌∷◌, length, IfOk, OnOk, OnErr, IsErrOf, None, IsTrue, ◌↔◌, MatchBool, ◌<◌, map, not, ◌&&◌};
+ghost use Rattle.std.specs.Prelude.{◌≡◌, ◌+◌, ◌≤◌, ◌*◌, ℕ, [], ◌∷◌, length, IfOk, OnOk, OnErr, IsErrOf, None, IsTrue, ◌↔◌, MatchBool, ◌<◌, map, not, ◌&&◌, ◌++◌};
 ghost use Rattle.sat_base.specs.steps.Steps.{DeleteClause, Redundant, Satisfied, Simplified};
 ghost use Rattle.std.specs.List.{list_any};
 ghost use Rattle.sat_base.specs.values.Literals.{negated};
@@ -9,7 +9,8 @@ ghost use Rattle.sat_checker.specs.Accepts.{Passes, PassInTurn, IsStrictSubset, 
 ghost use Rattle.sat_checker.specs.Stored.{Stored, nothing_stored};
 ghost use Rattle.sat_checker.specs.Looks.{literal_count};
 ghost use Rattle.sat_checker.specs.Storing.{settled, with_unit, with_contradiction, with_canonical, with_stored, with_input, with_units, clause_with, without_clause, last_literals, without_variable};
-ghost use Rattle.sat_checker.specs.announcements.Needed.{propagations};
+ghost use Rattle.sat_checker.specs.announcements.Needed.{ground, propagations};
+ghost use Rattle.sat_checker.specs.inner.Reasons.{named, noted_length, ExplainsUnless};
 ghost use Rattle.sat_checker.specs.inner.StoreView.{count_in};
 ghost use Rattle.sat_checker.specs.inner.Marks.{IsIncreasing};
 ghost use Rattle.sat_checker.specs.declared.store.StoreError.TheVariants.{CounterEnd};
@@ -17,6 +18,7 @@ ghost use Rattle.sat_checker.specs.inner.FormulaView.{KeepsFormula, Becomes, Tur
 
 use crate::assigned::Assigned;
 use crate::looks::Looks;
+use crate::passed::Passed;
 use crate::propagations::Propagations;
 use crate::sorted_lits::{copy_canonical, is_subset};
 use crate::status::{LastClause, Status};
@@ -32,6 +34,8 @@ pub(crate) struct Formula {
     pub(crate) store: Store,
     pub(crate) units: Units,
     pub(crate) status: Status,
+    /// What the last propagation check noted.
+    pub(crate) passed: Passed,
 }
 
 impl Formula {
@@ -43,10 +47,11 @@ impl Formula {
             store: Store::new(alloc),
             units: Units::new(alloc),
             status: Status::new(),
+            passed: Passed::new(alloc),
         }
     }
 
-    /// The propagation check of a clause under hashes.
+    /// The propagation check of a clause under hashes. What it notes is kept.
     pub fn check(
         &mut self,
         clause: &[Lit],
@@ -57,11 +62,18 @@ impl Formula {
             (λ passes. (f : Stored) → KeepsFormula self.old f → IsTrue passes ↔ Passes f clause.now hashes.now) }
         ensures kept { (f : Stored) → KeepsFormula self.old f → KeepsFormula self.new f }
         ensures looks { (f : Stored) → KeepsFormula self.old f → looks.new ≤ looks.old + length hashes.now * literal_count f }
+        ensures rise { looks.old ≤ looks.new }
+        ensures rest { self.new ≡ record self.old { passed = self.new.passed } }
+        ensures explained { IfOk result (λ passes. IsTrue passes → ExplainsUnless self.old.store.clauses self.new.passed
+            (map (λ u. u.literal) self.old.units) clause.now
+            (ground (map negated clause.now ++ map (λ u. u.literal) self.old.units) (named hashes.now self.old.store.clauses))) }
+        ensures read { IfOk result (λ _. noted_length self.old.store.clauses self.new.passed + looks.old ≤ looks.new) }
     {
-        self.units.check(&self.store, clause, hashes, looks)
+        self.units
+            .check(&self.store, clause, hashes, &mut self.passed, looks)
     }
 
-    /// The same check of a clause, which has these sorted literals. Where it passes, what it rests on is listed.
+    /// The same check of a clause, which has these sorted literals. Where it passes, what it rests on is listed then.
     pub fn check_noted(
         &mut self,
         clause: &[Lit],
@@ -78,15 +90,20 @@ impl Formula {
             → IsIncreasing (map (λ u. u.id) f.units) → rests_on.new.ids.items ≡ propagations f clause.now hashes.now) }
         ensures looks { (f : Stored) → KeepsFormula self.old f
             → looks.new ≤ looks.old + 2 * length hashes.now * literal_count f }
+        ensures rise { looks.old ≤ looks.new }
     {
-        rests_on.check(
+        if !self.check(clause, hashes, looks)? {
+            return Ok(false);
+        }
+        rests_on.list(
             &self.store,
-            &mut self.units,
+            &self.units,
+            &self.passed,
             clause,
             literals,
-            hashes,
             looks,
-        )
+        )?;
+        Ok(true)
     }
 
     /// The empty clause of a pending unit conflict takes the next id.
@@ -163,6 +180,7 @@ impl Formula {
         requires long { 2 ≤ length literals.now }
         ensures stored { Becomes result self.old (with_canonical redundant literals.now) self.new }
         ensures looks { (f : Stored) → KeepsFormula self.old f → looks.new ≤ looks.old + literal_count f }
+        ensures rise { looks.old ≤ looks.new }
     {
         let id = self.status.next_id;
         let placed = self.store.store_clause(id, redundant, literals, looks)?;
@@ -181,6 +199,7 @@ impl Formula {
         requires { IsIncreasing literals.now }
         ensures stored { Becomes result self.old (with_canonical redundant literals.now) self.new }
         ensures looks { (f : Stored) → KeepsFormula self.old f → looks.new ≤ looks.old + literal_count f }
+        ensures rise { looks.old ≤ looks.new }
     {
         if literals.is_empty() {
             return self.store_empty(redundant);
@@ -202,6 +221,7 @@ impl Formula {
     ) -> Result<(), StoreError>
         ensures stored { Becomes result self.old (with_stored redundant clause.now) self.new }
         ensures looks { (f : Stored) → KeepsFormula self.old f → looks.new ≤ looks.old + literal_count f }
+        ensures rise { looks.old ≤ looks.new }
     {
         if copy_canonical(buffer, clause)? {
             return Ok(());
@@ -218,6 +238,7 @@ impl Formula {
     ) -> Result<(), StoreError>
         ensures stored { Becomes result self.old (with_input clause.now) self.new }
         ensures looks { (f : Stored) → KeepsFormula self.old f → looks.new ≤ looks.old + literal_count f }
+        ensures rise { looks.old ≤ looks.new }
     {
         let id = self.status.next_id;
         self.store_clause(false, clause, buffer, looks)?;
@@ -235,6 +256,7 @@ impl Formula {
         ensures decides { (f : Stored) → KeepsFormula self.old f
             → TurnsIf result (Passes f (lit ∷ []) (hash ∷ [])) (KeepsFormula self.new (with_unit lit f)) (with_unit lit f) }
         ensures looks { (f : Stored) → KeepsFormula self.old f → looks.new ≤ looks.old + literal_count f }
+        ensures rise { looks.old ≤ looks.new }
     {
         if !self.check(&[lit], &[hash], looks)? {
             return Ok(false);
@@ -253,6 +275,7 @@ impl Formula {
             → TurnsIf result (PassInTurn f units.now)
             (KeepsFormula self.new (with_units (map (λ u. u.0) units.now) f)) (with_units (map (λ u. u.0) units.now) f) }
         ensures looks { (f : Stored) → KeepsFormula self.old f → looks.new ≤ looks.old + length units.now * literal_count f }
+        ensures rise { looks.old ≤ looks.new }
     {
         for unit in units {
             if !self.store_checked(unit.0, unit.1, looks)? {
@@ -269,6 +292,7 @@ impl Formula {
             × KeepsFormula self.new (record f { clauses = without_clause redundant literals.now f.clauses }))
             (0 < count_in redundant (clause_with literals.now f.clauses) → ⊥) }
         ensures looks { (f : Stored) → KeepsFormula self.old f → looks.new ≤ looks.old + literal_count f }
+        ensures rise { looks.old ≤ looks.new }
     {
         self.store.delete_clause(redundant, literals, looks)
     }
@@ -278,6 +302,7 @@ impl Formula {
         requires { literals.now ≡ canonical clause.now }
         ensures decides { Deletes result self.old (DeleteClause clause.now Redundant) self.new }
         ensures looks { (f : Stored) → KeepsFormula self.old f → looks.new ≤ looks.old + literal_count f }
+        ensures rise { looks.old ≤ looks.new }
     {
         self.take_count(true, literals, looks)
     }
@@ -287,6 +312,7 @@ impl Formula {
         requires { literals.now ≡ canonical clause.now }
         ensures decides { Deletes result self.old (DeleteClause clause.now Satisfied) self.new }
         ensures looks { (f : Stored) → KeepsFormula self.old f → looks.new ≤ looks.old + literal_count f }
+        ensures rise { looks.old ≤ looks.new }
     {
         if !self.units.has_any(clause) {
             return false;
@@ -300,6 +326,7 @@ impl Formula {
         ensures part { (f : Stored) → KeepsFormula self.now f → MatchBool result
             (IsStrictSubset (last_literals f.last f) literals.now) (IsStrictSubset (last_literals f.last f) literals.now → ⊥) }
         ensures looks { (f : Stored) → KeepsFormula self.now f → looks.new ≤ looks.old + literal_count f }
+        ensures rise { looks.old ≤ looks.new }
     {
         match self.status.last {
             LastClause::NoneYet => false,
@@ -319,6 +346,7 @@ impl Formula {
         requires { literals.now ≡ canonical clause.now }
         ensures decides { Deletes result self.old (DeleteClause clause.now Simplified) self.new }
         ensures looks { (f : Stored) → KeepsFormula self.old f → looks.new ≤ looks.old + 2 * literal_count f }
+        ensures rise { looks.old ≤ looks.new }
     {
         if !self.has_last_within(literals, looks) {
             return false;
@@ -343,6 +371,7 @@ impl Formula {
     ) -> Result<bool, AllocError>
         ensures exact { IfOk result (λ fits. (f : Stored) → KeepsFormula self.now f → IsTrue fits ↔ FitsModel f literals.now) }
         ensures looks { (f : Stored) → KeepsFormula self.now f → looks.new ≤ looks.old + literal_count f }
+        ensures rise { looks.old ≤ looks.new }
     {
         if self.status.unsat {
             return Ok(false);
@@ -360,6 +389,7 @@ impl Formula {
             → result
             ≡ (not (list_any (λ u. is_among assigned.now (negated u.literal)) f.units) && are_all_true assigned.now f.clauses) }
         ensures looks { (f : Stored) → KeepsFormula self.now f → looks.new ≤ looks.old + literal_count f }
+        ensures rise { looks.old ≤ looks.new }
     {
         !self.units.are_contradicted(assigned) && self.store.are_satisfied(assigned, looks)
     }

@@ -1,7 +1,8 @@
 //! The part of a checker that judges steps.
-ghost use Rattle.std.specs.Prelude.{◌≡◌, ◌≢◌, false, [], Err, None, OnOk};
+ghost use Rattle.std.specs.Prelude.{List, ◌≤◌, ◌≡◌, ◌≢◌, false, [], Err, None, OnOk};
+ghost use Rattle.sat_base.specs.steps.Steps.{Step};
 ghost use Rattle.sat_base.specs.steps.StepViews.{step_of};
-ghost use Rattle.sat_checker.specs.KernelView.{has_failed, looks_of, Stands, ChecksStep, LooksAtMost};
+ghost use Rattle.sat_checker.specs.KernelView.{has_failed, looks_of, Stands, Fails, ChecksStep, LooksAtMost};
 ghost use Rattle.sat_checker.specs.declared.error.CheckerError.TheVariants as errors;
 ghost use Rattle.anyhow.specs.declared.error.Error.{Error as Cause};
 
@@ -51,7 +52,10 @@ impl Kernel {
         ensures checks { ChecksStep result self.old (step_of step.now) self.new }
         ensures goes_on { OnOk result (has_failed self.new ≡ false) }
         ensures told { (cause : Cause) → result ≢ Err (errors.ProofProcessorError cause) }
+        // Want of memory comes before the step is taken.
+        ensures short { result ≡ Err errors.OutOfMemory → (steps : List Step) → Stands self.old steps → Fails self.new steps }
         ensures looks { LooksAtMost self.old (step_of step.now) self.new }
+        ensures rise { looks_of self.old ≤ looks_of self.new }
     {
         match self.state.check_step(step, &mut self.looks) {
             Ok(true) => {

@@ -26,7 +26,6 @@ pub(crate) mod notes;
 pub(crate) mod passed;
 pub mod processing;
 pub(crate) mod propagations;
-pub(crate) mod recording;
 pub mod rup;
 pub mod slots;
 pub mod sorted_lits;

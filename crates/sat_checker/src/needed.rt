@@ -123,6 +123,7 @@ impl Needed {
         ensures followed { OnOk result ((g : Ground) → IsFollowed self.old g
             → IsFollowed self.new (with_reason reason.lit (clause_at clauses.now reason.place) g)) }
         ensures looks { looks.new ≤ looks.old + length (literals_at clauses.now reason.place) }
+        ensures rise { looks.old ≤ looks.new }
     {
         if !self.marked.is_true(reason.lit) {
             return Ok(());
@@ -147,6 +148,7 @@ impl Needed {
         requires met { IsThere clauses.now passed.now.conflict }
         ensures followed { OnOk result ((whole : Ground) → Explains clauses.now passed.now whole → IsFollowed self.new whole) }
         ensures looks { looks.new ≤ looks.old + noted_length clauses.now passed.now }
+        ensures rise { looks.old ≤ looks.new }
     {
         let Some(place) = passed.conflict else {
             return Ok(());

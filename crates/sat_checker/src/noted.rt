@@ -1,6 +1,6 @@
 //! Steps that are taken in where somebody listens: what they announce is noted, mostly before they are judged, while all is stored as it
 //! was. What is noted of a step that is refused is of no use.
-ghost use Rattle.std.specs.Prelude.{◌≡◌, IfOk, IsTrue};
+ghost use Rattle.std.specs.Prelude.{◌≤◌, ◌≡◌, IfOk, IsTrue};
 ghost use Rattle.sat_base.specs.steps.Steps.{AddClause, Assumptions, AtClause, ChangeSamplingMode, DeleteClause, FailedAssumptions, Model, UnitClauses, UserVarName};
 ghost use Rattle.sat_base.specs.steps.StepViews.{deletion_of, step_of};
 ghost use Rattle.sat_checker.specs.Stored.{Stored};
@@ -57,6 +57,7 @@ impl State {
     ) -> Result<bool, StoreError>
         ensures decides { Decides result self.old (AddClause clause.now) self.new }
         ensures looks { LooksWithin self.old (AddClause clause.now) looks.old looks.new }
+        ensures rise { looks.old ≤ looks.new }
         ensures noted { Announces result self.old (AddClause clause.now) notes.old.news notes.new.news }
     {
         self.formula.note_input(clause, notes, looks)?;
@@ -73,6 +74,7 @@ impl State {
     ) -> Result<bool, StoreError>
         ensures decides { Decides result self.old (AtClause redundant clause.now hashes.now) self.new }
         ensures looks { LooksWithin self.old (AtClause redundant clause.now hashes.now) looks.old looks.new }
+        ensures rise { looks.old ≤ looks.new }
         ensures noted { Announces result self.old (AtClause redundant clause.now hashes.now) notes.old.news notes.new.news }
     {
         if !self
@@ -93,6 +95,7 @@ impl State {
     ) -> Result<bool, StoreError>
         ensures decides { Decides result self.old (UnitClauses units.now) self.new }
         ensures looks { LooksWithin self.old (UnitClauses units.now) looks.old looks.new }
+        ensures rise { looks.old ≤ looks.new }
         ensures noted { Announces result self.old (UnitClauses units.now) notes.old.news notes.new.news }
     {
         if !self.formula.store_units_noted(units, notes, looks)? {
@@ -111,6 +114,7 @@ impl State {
     ) -> Result<bool, StoreError>
         ensures decides { Decides result self.old (DeleteClause clause.now (deletion_of proof)) self.new }
         ensures looks { LooksWithin self.old (DeleteClause clause.now (deletion_of proof)) looks.old looks.new }
+        ensures rise { looks.old ≤ looks.new }
         ensures noted { Announces result self.old (DeleteClause clause.now (deletion_of proof)) notes.old.news notes.new.news }
     {
         self.formula.note_deletion(clause, proof, notes, looks)?;
@@ -125,6 +129,7 @@ impl State {
     ) -> Result<bool, StoreError>
         ensures decides { Decides result self.old (Model assignment.now) self.new }
         ensures looks { LooksWithin self.old (Model assignment.now) looks.old looks.new }
+        ensures rise { looks.old ≤ looks.new }
         ensures noted { Announces result self.old (Model assignment.now) notes.old.news notes.new.news }
     {
         notes.news.model(assignment)?;
@@ -148,6 +153,7 @@ impl State {
     ) -> Result<bool, StoreError>
         ensures decides { Decides result self.old (FailedAssumptions core.now hashes.now) self.new }
         ensures looks { LooksWithin self.old (FailedAssumptions core.now hashes.now) looks.old looks.new }
+        ensures rise { looks.old ≤ looks.new }
         ensures noted { Announces result self.old (FailedAssumptions core.now hashes.now) notes.old.news notes.new.news }
     {
         copy_canonical(&mut self.buffer, core)?;
@@ -169,6 +175,7 @@ impl State {
     ) -> Result<bool, StoreError>
         ensures decides { Decides result self.old (step_of step.now) self.new }
         ensures looks { LooksWithin self.old (step_of step.now) looks.old looks.new }
+        ensures rise { looks.old ≤ looks.new }
         ensures noted { Announces result self.old (step_of step.now) notes.old.news notes.new.news }
     {
         match *step {
@@ -212,6 +219,7 @@ impl State {
     ) -> Result<bool, StoreError>
         ensures decides { Decides result self.old (step_of step.now) self.new }
         ensures looks { LooksWithin self.old (step_of step.now) looks.old looks.new }
+        ensures rise { looks.old ≤ looks.new }
         ensures noted { IfOk result (λ accepted. IsTrue accepted → (f : Stored) → Keeps self.old f → AreLong f
             → notes.new.news ≡ announced f (step_of step.now)) }
     {

@@ -53,6 +53,7 @@ impl Formula {
         ensures noted { OnOk result ((f : Stored) → KeepsFormula self.now f
             → notes.new.news ≡ notes.old.news ++ announced f (AddClause clause.now)) }
         ensures looks { (f : Stored) → KeepsFormula self.now f → looks.new ≤ looks.old + literal_count f }
+        ensures rise { looks.old ≤ looks.new }
     {
         if self.status.unsat {
             return Ok(());
@@ -76,6 +77,7 @@ impl Formula {
         ensures noted { OnOk result ((f : Stored) → KeepsFormula self.now f
             → notes.new.news ≡ notes.old.news ++ announced f (DeleteClause clause.now (deletion_of proof))) }
         ensures looks { (f : Stored) → KeepsFormula self.now f → looks.new ≤ looks.old + literal_count f }
+        ensures rise { looks.old ≤ looks.new }
     {
         copy_canonical(&mut notes.literals, clause)?;
         let literals = notes.literals.as_slice();
@@ -105,6 +107,7 @@ impl Formula {
             stored_as result f.next_id redundant literals.now ids
             ≡ (if both_signs then [] else derived_set redundant literals.now ids f (id_of_set literals.now f)) }
         ensures looks { (f : Stored) → KeepsFormula self.now f → looks.new ≤ looks.old + literal_count f }
+        ensures rise { looks.old ≤ looks.new }
     {
         if both_signs {
             return Change::Neither;
@@ -128,6 +131,7 @@ impl Formula {
             → notes.new.news ≡ notes.old.news ++ derived redundant clause.now hashes.now f) }
         ensures looks { (f : Stored) → KeepsFormula self.old f
             → looks.new ≤ looks.old + (2 * length hashes.now + 1) * literal_count f }
+        ensures rise { looks.old ≤ looks.new }
     {
         let both_signs = copy_canonical(&mut notes.literals, clause)?;
         let literals = notes.literals.as_slice();
@@ -163,6 +167,7 @@ impl Formula {
             → notes.new.news ≡ notes.old.news ++ announced f (FailedAssumptions core.now hashes.now)) }
         ensures looks { (f : Stored) → KeepsFormula self.old f
             → looks.new ≤ looks.old + 2 * length hashes.now * literal_count f }
+        ensures rise { looks.old ≤ looks.new }
     {
         copy_negated(buffer, core)?;
         copy_canonical(&mut notes.literals, buffer)?;
@@ -207,6 +212,7 @@ impl Formula {
         ensures noted { IfOk result (λ passes. IsTrue passes → (f : Stored) → KeepsFormula self.old f → AreLong f
             → notes.new.news ≡ notes.old.news ++ derived false (lit ∷ []) (hash ∷ []) f) }
         ensures looks { (f : Stored) → KeepsFormula self.old f → looks.new ≤ looks.old + 2 * literal_count f }
+        ensures rise { looks.old ≤ looks.new }
     {
         match self.check_noted(&[lit], &[lit], &[hash], &mut notes.rests_on, looks) {
             Ok(true) => {}
@@ -237,6 +243,7 @@ impl Formula {
         ensures noted { IfOk result (λ passes. IsTrue passes → (f : Stored) → KeepsFormula self.old f → AreLong f
             → notes.new.news ≡ notes.old.news ++ derived false (lit ∷ []) (hash ∷ []) f) }
         ensures looks { (f : Stored) → KeepsFormula self.old f → looks.new ≤ looks.old + 2 * literal_count f }
+        ensures rise { looks.old ≤ looks.new }
     {
         if !self.check_unit(lit, hash, notes, looks)? {
             return Ok(false);
@@ -259,6 +266,7 @@ impl Formula {
             → notes.new.news ≡ notes.old.news ++ derived_units units.now f) }
         ensures looks { (f : Stored) → KeepsFormula self.old f
             → looks.new ≤ looks.old + length units.now * (2 * literal_count f) }
+        ensures rise { looks.old ≤ looks.new }
     {
         for unit in units {
             if !self.store_noted(unit.0, unit.1, notes, looks)? {

@@ -1,14 +1,20 @@
-//! The propagation check of a clause under the hashes that a step names.
-ghost use Rattle.std.specs.Prelude.{ℕ, ◌≡◌, ◌+◌, ◌*◌, ◌≤◌, List, [], ◌∷◌, length, OnOk, IfOk, if◌then◌else◌, None, Some, map, IsTrue, ◌↔◌};
-ghost use Rattle.sat_checker.specs.Propagation.{PassesCheck};
+//! The propagation check of a clause under the hashes that a step names: a walk over the clauses, which notes those that it takes.
+ghost use Rattle.std.specs.Prelude.{ℕ, ◌≡◌, ◌+◌, ◌*◌, ◌<◌, ◌≤◌, [], ◌∷◌, ◌++◌, length, IfOk, if◌then◌else◌, None, Some, map, false, IsTrue, ◌↔◌};
+ghost use Rattle.std.specs.List.{list_any};
+ghost use Rattle.sat_base.specs.values.Literals.{negated};
+ghost use Rattle.sat_checker.specs.LiteralSets.{is_among, is_tautology};
 ghost use Rattle.sat_checker.specs.Looks.{total_length};
+ghost use Rattle.sat_checker.specs.Propagation.{PassesCheck};
+ghost use Rattle.sat_checker.specs.announcements.Needed.{ground};
 ghost use Rattle.sat_checker.specs.inner.Look.{verdict_of, Extends, Says};
-ghost use Rattle.sat_checker.specs.inner.SlotView.{bucket_in, bucket_of, live_length};
+ghost use Rattle.sat_checker.specs.inner.Reasons.{clause_at, filed, named, noted_length, Records, RecordsWalk, Ends, Explains};
+ghost use Rattle.sat_checker.specs.inner.SlotView.{literals_at, bucket_in, bucket_of, live_length};
 ghost use Rattle.sat_checker.specs.inner.Walk.{verdict, walk_on, walk_buckets, denied};
 
 use crate::assigned::Assigned;
 use crate::clauses::Clauses;
 use crate::looks::Looks;
+use crate::passed::Passed;
 use sat_base::{ClauseHash, Lit};
 use std::alloc::AllocError;
 
@@ -21,7 +27,7 @@ pub(crate) enum Look {
 }
 
 #[inline(always)]
-pub(crate) fn look_at(assigned: &Assigned, clause: &[Lit]) -> Look
+fn look_at(assigned: &Assigned, clause: &[Lit]) -> Look
     ensures { verdict_of result ≡ verdict assigned.now clause.now }
 {
     let mut open = None;
@@ -40,18 +46,33 @@ pub(crate) fn look_at(assigned: &Assigned, clause: &[Lit]) -> Look
     }
 }
 
-/// Takes what a clause opens. The answer is whether the clause was falsified.
-#[inline(always)]
+/// Takes what the clause at a place opens, and notes it. The answer is whether the clause was falsified.
 #[tactic(auto, using(crate::proofs::lemmas::propagation::Walking::meeting))]
-fn meet(assigned: &mut Assigned, clause: &[Lit]) -> Result<bool, AllocError>
-    ensures met { IfOk result
-        (λ conflict. walk_on (verdict assigned.old clause.now) assigned.old ≡ (if conflict then None else Some assigned.new)) }
+fn meet(
+    clauses: &Clauses,
+    place: usize,
+    assigned: &mut Assigned,
+    passed: &mut Passed,
+    looks: &mut Looks,
+) -> Result<bool, AllocError>
+    requires { place < length clauses.now }
+    ensures met { IfOk result (λ conflict. walk_on (verdict assigned.old (literals_at clauses.now place)) assigned.old
+        ≡ (if conflict then None else Some assigned.new)) }
     ensures extends { Extends assigned.old assigned.new }
+    ensures looks { looks.new ≡ looks.old + length (literals_at clauses.now place) }
+    ensures noted { IfOk result (λ conflict.
+        Records clauses.now conflict passed.old assigned.old (clause_at clauses.now place ∷ []) passed.new assigned.new) }
+    ensures read { IfOk result
+        (λ _. noted_length clauses.now passed.new ≤ noted_length clauses.now passed.old + length (literals_at clauses.now place)) }
 {
-    match look_at(assigned, clause) {
-        Look::Falsified => Ok(true),
+    match look_at(assigned, clauses.literals(place, looks)) {
+        Look::Falsified => {
+            passed.conflict = Some(place);
+            Ok(true)
+        }
         Look::Opens(lit) => {
             assigned.assume(lit)?;
+            passed.note(place, lit)?;
             Ok(false)
         }
         Look::Rests => Ok(false),
@@ -66,25 +87,31 @@ pub(crate) enum Walked {
     Open,
 }
 
-#[tactic(auto, using(crate::proofs::lemmas::propagation::Walking::walking))]
+#[tactic(auto, using(crate::proofs::lemmas::announcements::Noting::noting))]
 fn walk_bucket(
     clauses: &Clauses,
     hash: ClauseHash,
     assigned: &mut Assigned,
+    passed: &mut Passed,
     looks: &mut Looks,
 ) -> Result<Walked, AllocError>
     ensures says { IfOk result (λ b. Says b (bucket_in hash clauses.now) assigned.old assigned.new) }
     ensures extends { Extends assigned.old assigned.new }
     ensures looks { looks.new ≤ looks.old + total_length (bucket_in hash clauses.now) }
+    ensures rise { looks.old ≤ looks.new }
+    ensures noted { IfOk result
+        (λ b. RecordsWalk clauses.now b passed.old assigned.old (filed hash clauses.now) passed.new assigned.new) }
+    ensures read { IfOk result
+        (λ _. noted_length clauses.now passed.new + looks.old ≤ noted_length clauses.now passed.old + looks.new) }
 {
     let Some(bucket) = clauses.bucket(hash) else {
         return Ok(Walked::Empty);
     };
-    if meet(assigned, clauses.literals(bucket.first, looks))? {
+    if meet(clauses, bucket.first, assigned, passed, looks)? {
         return Ok(Walked::Conflict);
     }
     for place in &bucket.more {
-        if meet(assigned, clauses.literals(*place, looks))? {
+        if meet(clauses, *place, assigned, passed, looks)? {
             return Ok(Walked::Conflict);
         }
     }
@@ -97,14 +124,20 @@ fn walk_hashes(
     clauses: &Clauses,
     hashes: &[ClauseHash],
     assigned: &mut Assigned,
+    passed: &mut Passed,
     looks: &mut Looks,
 ) -> Result<bool, AllocError>
     ensures found { IfOk result (λ yes. yes ≡ walk_buckets assigned.old (map (bucket_of clauses.now) hashes.now)) }
     ensures extends { Extends assigned.old assigned.new }
     ensures looks { looks.new ≤ looks.old + length hashes.now * live_length clauses.now }
+    ensures rise { looks.old ≤ looks.new }
+    ensures noted { IfOk result
+        (λ yes. IsTrue yes → Ends clauses.now passed.old assigned.old (named hashes.now clauses.now) passed.new) }
+    ensures read { IfOk result
+        (λ _. noted_length clauses.now passed.new + looks.old ≤ noted_length clauses.now passed.old + looks.new) }
 {
     for hash in hashes {
-        match walk_bucket(clauses, *hash, assigned, looks)? {
+        match walk_bucket(clauses, *hash, assigned, passed, looks)? {
             Walked::Empty => return Ok(false),
             Walked::Conflict => return Ok(true),
             Walked::Open => {}
@@ -115,7 +148,7 @@ fn walk_hashes(
 
 /// Assumes the negations of a clause's literals. The answer is whether a literal was true already.
 #[tactic(auto, using(crate::proofs::lemmas::propagation::Denied::denying))]
-pub(crate) fn deny(assigned: &mut Assigned, clause: &[Lit]) -> Result<bool, AllocError>
+fn deny(assigned: &mut Assigned, clause: &[Lit]) -> Result<bool, AllocError>
     ensures denied { IfOk result (λ met. denied assigned.old clause.now ≡ (if met then None else Some assigned.new)) }
     ensures extends { Extends assigned.old assigned.new }
 {
@@ -137,33 +170,47 @@ fn check_under(
     clause: &[Lit],
     hashes: &[ClauseHash],
     assigned: &mut Assigned,
+    passed: &mut Passed,
     looks: &mut Looks,
 ) -> Result<bool, AllocError>
     ensures exact { IfOk result (λ yes. IsTrue yes ↔ PassesCheck assigned.old clause.now (map (bucket_of clauses.now) hashes.now)) }
     ensures extends { Extends assigned.old assigned.new }
     ensures looks { looks.new ≤ looks.old + length hashes.now * live_length clauses.now }
+    ensures rise { looks.old ≤ looks.new }
+    ensures explained { IfOk result (λ yes. IsTrue yes → list_any (is_among assigned.old) clause.now ≡ false
+        → is_tautology clause.now ≡ false
+        → Explains clauses.now passed.new (ground (map negated clause.now ++ assigned.old) (named hashes.now clauses.now))) }
+    ensures read { IfOk result (λ _. noted_length clauses.now passed.new + looks.old ≤ looks.new) }
 {
     let _count = clauses.len();
+    passed.clear();
     if deny(assigned, clause)? {
         return Ok(true);
     }
-    walk_hashes(clauses, hashes, assigned, looks)
+    walk_hashes(clauses, hashes, assigned, passed, looks)
 }
 
-/// The propagation check of a clause, over the units that are assigned, which stay.
+/// The propagation check of a clause, over the units that are assigned, which stay. Where it passes by a conflict, the notes
+/// explain what the conflict rests on, which is followed where somebody listens.
 pub(crate) fn check_clause_with_hashes(
     clauses: &Clauses,
     clause: &[Lit],
     hashes: &[ClauseHash],
     assigned: &mut Assigned,
+    passed: &mut Passed,
     looks: &mut Looks,
 ) -> Result<bool, AllocError>
     ensures exact { IfOk result (λ yes. IsTrue yes ↔ PassesCheck assigned.old clause.now (map (bucket_of clauses.now) hashes.now)) }
     ensures units { assigned.new ≡ assigned.old }
     ensures looks { looks.new ≤ looks.old + length hashes.now * live_length clauses.now }
+    ensures rise { looks.old ≤ looks.new }
+    ensures explained { IfOk result (λ yes. IsTrue yes → list_any (is_among assigned.old) clause.now ≡ false
+        → is_tautology clause.now ≡ false
+        → Explains clauses.now passed.new (ground (map negated clause.now ++ assigned.old) (named hashes.now clauses.now))) }
+    ensures read { IfOk result (λ _. noted_length clauses.now passed.new + looks.old ≤ looks.new) }
 {
     let units = assigned.len();
-    let answer = check_under(clauses, clause, hashes, assigned, looks);
+    let answer = check_under(clauses, clause, hashes, assigned, passed, looks);
     assigned.undo_to(units);
     answer
 }

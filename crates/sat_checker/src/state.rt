@@ -38,6 +38,7 @@ impl State {
     ) -> Result<bool, StoreError>
         ensures decides { Decides result self.old (SolverVarName var name) self.new }
         ensures looks { LooksWithin self.old (SolverVarName var name) looks.old looks.new }
+        ensures rise { looks.old ≤ looks.new }
     {
         if let Some(solver) = name {
             self.variables.learn_var(var)?;
@@ -72,6 +73,7 @@ impl State {
     pub fn add_clause(&mut self, clause: &[Lit], looks: &mut Looks) -> Result<bool, StoreError>
         ensures decides { Decides result self.old (AddClause clause.now) self.new }
         ensures looks { (f : Stored) → Keeps self.old f → looks.new ≤ looks.old + literal_count f }
+        ensures rise { looks.old ≤ looks.new }
     {
         if self.formula.status.unsat {
             return Ok(true);
@@ -93,6 +95,7 @@ impl State {
     ) -> Result<bool, StoreError>
         ensures decides { Decides result self.old (AtClause redundant clause.now hashes.now) self.new }
         ensures looks { LooksWithin self.old (AtClause redundant clause.now hashes.now) looks.old looks.new }
+        ensures rise { looks.old ≤ looks.new }
     {
         if !self.formula.check(clause, hashes, looks)? {
             return Ok(false);
@@ -112,6 +115,7 @@ impl State {
             → Turns result (Keeps self.new (with_stored redundant clause.now (with_literals_known clause.now f)))
             (with_stored redundant clause.now (with_literals_known clause.now f)) }
         ensures looks { (f : Stored) → Keeps self.old f → looks.new ≤ looks.old + literal_count f }
+        ensures rise { looks.old ≤ looks.new }
     {
         self.variables.learn(clause)?;
         self.formula
@@ -125,6 +129,7 @@ impl State {
     ) -> Result<bool, StoreError>
         ensures decides { Decides result self.old (ChangeHashBits bits) self.new }
         ensures looks { LooksWithin self.old (ChangeHashBits bits) looks.old looks.new }
+        ensures rise { looks.old ≤ looks.new }
     {
         self.formula.store.set_bits(self.alloc, bits, looks)?;
         Ok(true)
@@ -152,6 +157,7 @@ impl State {
     ) -> Result<bool, StoreError>
         ensures decides { Decides result self.old (UnitClauses units.now) self.new }
         ensures looks { LooksWithin self.old (UnitClauses units.now) looks.old looks.new }
+        ensures rise { looks.old ≤ looks.new }
     {
         if !self.formula.store_units(units, looks)? {
             return Ok(false);
@@ -168,6 +174,7 @@ impl State {
     ) -> Result<bool, StoreError>
         ensures decides { Decides result self.old (DeleteClause clause.now (deletion_of proof)) self.new }
         ensures looks { (f : Stored) → Keeps self.old f → looks.new ≤ looks.old + 2 * literal_count f }
+        ensures rise { looks.old ≤ looks.new }
     {
         copy_canonical(&mut self.buffer, clause)?;
         match proof {
@@ -186,6 +193,7 @@ impl State {
     pub fn model(&mut self, assignment: &[Lit], looks: &mut Looks) -> Result<bool, StoreError>
         ensures decides { Decides result self.old (Model assignment.now) self.new }
         ensures looks { LooksWithin self.old (Model assignment.now) looks.old looks.new }
+        ensures rise { looks.old ≤ looks.new }
     {
         if !self.formula.fits(self.alloc, assignment, looks)? {
             return Ok(false);
@@ -202,6 +210,7 @@ impl State {
     ) -> Result<bool, StoreError>
         ensures decides { Decides result self.old (FailedAssumptions core.now hashes.now) self.new }
         ensures looks { LooksWithin self.old (FailedAssumptions core.now hashes.now) looks.old looks.new }
+        ensures rise { looks.old ≤ looks.new }
     {
         copy_canonical(&mut self.buffer, core)?;
         if !self.assumed.has_all(&self.buffer) {
@@ -215,6 +224,7 @@ impl State {
     pub fn delete_var(&mut self, var: Var, looks: &mut Looks) -> Result<bool, StoreError>
         ensures decides { Decides result self.old (DeleteVar var) self.new }
         ensures looks { LooksWithin self.old (DeleteVar var) looks.old looks.new }
+        ensures rise { looks.old ≤ looks.new }
     {
         if !self.may_delete(var, looks) {
             return Ok(false);
@@ -228,6 +238,7 @@ impl State {
     fn may_delete(&self, var: Var, looks: &mut Looks) -> bool
         ensures exact { (f : Stored) → Keeps self.now f → MatchBool result (MayBeDeleted f var) (MayBeDeleted f var → ⊥) }
         ensures looks { (f : Stored) → Keeps self.now f → looks.new ≤ looks.old + literal_count f }
+        ensures rise { looks.old ≤ looks.new }
     {
         let data = self.variables.data(var);
         if !data.known {
@@ -259,6 +270,7 @@ impl State {
     fn step(&mut self, step: &ProofStep<'_>, looks: &mut Looks) -> Result<bool, StoreError>
         ensures decides { Decides result self.old (step_of step.now) self.new }
         ensures looks { LooksWithin self.old (step_of step.now) looks.old looks.new }
+        ensures rise { looks.old ≤ looks.new }
     {
         match *step {
             ProofStep::SolverVarName { global, solver } => {
@@ -296,6 +308,7 @@ impl State {
     ) -> Result<bool, StoreError>
         ensures judges { Judges result self.old (step_of step.now) self.new }
         ensures looks { (f : Stored) → Keeps self.old f → looks.new ≤ looks.old + most_looks (settled f) (step_of step.now) }
+        ensures rise { looks.old ≤ looks.new }
     {
         self.formula.settle()?;
         self.step(step, looks)

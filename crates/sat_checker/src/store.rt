@@ -1,29 +1,22 @@
 //! The stored clauses of two literals or more, with the hashes by which steps name them.
-ghost use Rattle.std.specs.Prelude.{◌≡◌, [], ◌+◌, ◌*◌, ◌≤◌, ◌<◌, ◌^◌, ◌++◌, IfOk, OnOk, Err, MatchBool, length, map, false, IsTrue, ◌↔◌};
-ghost use Rattle.sat_base.specs.values.Literals.{negated};
-ghost use Rattle.sat_checker.specs.Propagation.{PassesCheck};
+ghost use Rattle.std.specs.Prelude.{true, false, length, ◌≡◌, [], ◌+◌, ◌≤◌, ◌<◌, ◌^◌, IfOk, OnOk, Err, MatchBool};
 ghost use Rattle.sat_checker.specs.inner.Marks.{IsIncreasing};
-ghost use Rattle.sat_checker.specs.Stored.{Stored, bucket, nothing_stored};
+ghost use Rattle.sat_checker.specs.Stored.{Stored, nothing_stored};
 ghost use Rattle.sat_checker.specs.Looks.{literal_count};
 ghost use Rattle.sat_checker.specs.inner.StoreView.{KeepsClauses, Stores, IsPlaced, count_in, found_in};
-ghost use Rattle.sat_checker.specs.inner.SlotView.{slot_ids, literals_left};
+ghost use Rattle.sat_checker.specs.inner.SlotView.{slot_ids, literals_at, literals_left, is_standing};
 ghost use Rattle.sat_checker.specs.Storing.{clause_with, with_solver_name, without_clause};
 ghost use Rattle.sat_checker.specs.Accepts.{IsStrictSubset};
-ghost use Rattle.sat_checker.specs.LiteralSets.{is_among, is_tautology, mentions};
-ghost use Rattle.sat_checker.specs.announcements.Needed.{ground};
-ghost use Rattle.sat_checker.specs.inner.Reasons.{named, noted_length, Explains};
-ghost use Rattle.sat_checker.specs.inner.ModelTests.{are_all_true};
+ghost use Rattle.sat_checker.specs.LiteralSets.{mentions};
+ghost use Rattle.sat_checker.specs.inner.ModelTests.{are_all_true, irredundant_length};
 ghost use Rattle.std.specs.List.{list_any};
 
 use crate::assigned::Assigned;
 use crate::clauses::Clauses;
 use crate::hash::ClauseHasher;
 use crate::looks::Looks;
-use crate::passed::Passed;
-use crate::recording::check_clause_noted;
-use crate::rup::check_clause_with_hashes;
 use crate::sorted_lits::is_subset;
-use sat_base::{ClauseHash, HashBits, Lit, Var};
+use sat_base::{HashBits, Lit, Var};
 use std::alloc::{AllocError, Global};
 
 /// Why a clause can't be stored.
@@ -86,46 +79,6 @@ impl Store {
         }
     }
 
-    /// The propagation check of a clause under hashes, over the units that are assigned, which stay.
-    #[tactic(auto, using(crate::proofs::lemmas::store::Keeping::checking))]
-    pub fn check(
-        &self,
-        clause: &[Lit],
-        hashes: &[ClauseHash],
-        units: &mut Assigned,
-        looks: &mut Looks,
-    ) -> Result<bool, AllocError>
-        ensures exact { IfOk result (λ passes. (f : Stored) → KeepsClauses self.now f
-            → IsTrue passes ↔ PassesCheck units.old clause.now (map (bucket f) hashes.now)) }
-        ensures units { units.new ≡ units.old }
-        ensures looks { (f : Stored) → KeepsClauses self.now f → looks.new ≤ looks.old + length hashes.now * literal_count f }
-    {
-        check_clause_with_hashes(&self.clauses, clause, hashes, units, looks)
-    }
-
-    /// The same check, which notes the clauses that it passes.
-    #[tactic(auto, using(crate::proofs::lemmas::store::Keeping::checking))]
-    pub fn check_noted(
-        &self,
-        clause: &[Lit],
-        hashes: &[ClauseHash],
-        units: &mut Assigned,
-        passed: &mut Passed,
-        looks: &mut Looks,
-    ) -> Result<bool, AllocError>
-        ensures exact { IfOk result (λ passes. (f : Stored) → KeepsClauses self.now f
-            → IsTrue passes ↔ PassesCheck units.old clause.now (map (bucket f) hashes.now)) }
-        ensures units { units.new ≡ units.old }
-        ensures looks { (f : Stored) → KeepsClauses self.now f → looks.new ≤ looks.old + length hashes.now * literal_count f }
-        ensures explained { IfOk result (λ passes. IsTrue passes → list_any (is_among units.old) clause.now ≡ false
-            → is_tautology clause.now ≡ false
-            → Explains self.now.clauses passed.new
-            (ground (map negated clause.now ++ units.old) (named hashes.now self.now.clauses))) }
-        ensures read { IfOk result (λ _. noted_length self.now.clauses passed.new + looks.old ≤ looks.new) }
-    {
-        check_clause_noted(&self.clauses, clause, hashes, units, passed, looks)
-    }
-
     /// Stores sorted literals without repeats once more, under this id where they are new. The answer is where they are stored.
     pub fn store_clause(
         &mut self,
@@ -142,6 +95,7 @@ impl Store {
         ensures full { result ≡ Err StoreError.CounterEnd → (f : Stored) → KeepsClauses self.old f
             → 2 ^ 64 ≤ count_in redundant (clause_with literals.now f.clauses) + 1 }
         ensures looks { (f : Stored) → KeepsClauses self.old f → looks.new ≤ looks.old + literal_count f }
+        ensures rise { looks.old ≤ looks.new }
     {
         let count = self.clauses.len();
         let hash = self.hasher.clause_hash(literals);
@@ -168,6 +122,7 @@ impl Store {
     pub fn stored(&self, literals: &[Lit], looks: &mut Looks) -> Option<Found>
         ensures found { (f : Stored) → KeepsClauses self.now f → clause_with literals.now f.clauses ≡ found_in literals.now result }
         ensures looks { (f : Stored) → KeepsClauses self.now f → looks.new ≤ looks.old + literal_count f }
+        ensures rise { looks.old ≤ looks.new }
     {
         let hash = self.hasher.clause_hash(literals);
         let Some(place) = self.clauses.find(hash, literals, looks) else {
@@ -188,6 +143,7 @@ impl Store {
             (0 < count_in redundant (clause_with literals.now f.clauses) → ⊥) }
         ensures ids { slot_ids self.new.clauses ≡ slot_ids self.old.clauses }
         ensures looks { (f : Stored) → KeepsClauses self.old f → looks.new ≤ looks.old + literal_count f }
+        ensures rise { looks.old ≤ looks.new }
     {
         let hash = self.hasher.clause_hash(literals);
         let Some(place) = self.clauses.find(hash, literals, looks) else {
@@ -210,6 +166,7 @@ impl Store {
         ensures set { OnOk result ((f : Stored) → KeepsClauses self.old f → KeepsClauses self.new (record f { width = bits })) }
         ensures ids { OnOk result (slot_ids self.new.clauses ≡ slot_ids self.old.clauses) }
         ensures looks { (f : Stored) → KeepsClauses self.old f → looks.new ≤ looks.old + literal_count f }
+        ensures rise { looks.old ≤ looks.new }
     {
         self.hasher.set_bits(bits);
         self.clauses.rehash(alloc, &self.hasher, looks)
@@ -226,6 +183,7 @@ impl Store {
         ensures set { OnOk result ((f : Stored) → KeepsClauses self.old f → KeepsClauses self.new (with_solver_name var name f)) }
         ensures ids { OnOk result (slot_ids self.new.clauses ≡ slot_ids self.old.clauses) }
         ensures looks { (f : Stored) → KeepsClauses self.old f → looks.new ≤ looks.old + literal_count f }
+        ensures rise { looks.old ≤ looks.new }
     {
         if self.hasher.solver_name(var) == name {
             return Ok(());
@@ -241,6 +199,9 @@ impl Store {
             (IsStrictSubset (literals_left self.now.clauses place) literals.now)
             (IsStrictSubset (literals_left self.now.clauses place) literals.now → ⊥) }
         ensures looks { (f : Stored) → KeepsClauses self.now f → looks.new ≤ looks.old + literal_count f }
+        // The clause is looked at where it stands.
+        ensures lent { is_standing self.now.clauses place ≡ true → looks.new ≡ looks.old + length (literals_at self.now.clauses place) }
+        ensures rise { looks.old ≤ looks.new }
     {
         let _count = self.clauses.len();
         if !self.clauses.is_standing(place) {
@@ -253,6 +214,9 @@ impl Store {
     pub fn mention(&self, var: Var, looks: &mut Looks) -> bool
         ensures found { (f : Stored) → KeepsClauses self.now f → result ≡ list_any (λ c. mentions c.literals var) f.clauses }
         ensures looks { (f : Stored) → KeepsClauses self.now f → looks.new ≤ looks.old + literal_count f }
+        // All were looked at where none has one.
+        ensures all { (f : Stored) → KeepsClauses self.now f → result ≡ false → looks.new ≡ looks.old + literal_count f }
+        ensures rise { looks.old ≤ looks.new }
     {
         self.clauses.mention(var, looks)
     }
@@ -261,6 +225,9 @@ impl Store {
     pub fn are_satisfied(&self, assigned: &Assigned, looks: &mut Looks) -> bool
         ensures found { (f : Stored) → KeepsClauses self.now f → result ≡ are_all_true assigned.now f.clauses }
         ensures looks { (f : Stored) → KeepsClauses self.now f → looks.new ≤ looks.old + literal_count f }
+        // All irredundant ones were looked at where they are.
+        ensures all { (f : Stored) → KeepsClauses self.now f → result ≡ true → looks.new ≡ looks.old + irredundant_length f.clauses }
+        ensures rise { looks.old ≤ looks.new }
     {
         self.clauses.are_satisfied(assigned, looks)
     }

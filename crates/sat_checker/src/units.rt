@@ -15,6 +15,7 @@ ghost use Rattle.sat_checker.specs.inner.StoreView.{KeepsClauses};
 use crate::assigned::Assigned;
 use crate::looks::Looks;
 use crate::passed::Passed;
+use crate::rup::check_clause_with_hashes;
 use crate::store::Store;
 use crate::unit_ids::UnitIds;
 use sat_base::{ClauseHash, Lit, Var};
@@ -154,24 +155,9 @@ impl Units {
         false
     }
 
-    /// The propagation check of a clause under hashes, over the units, which stay.
+    /// The propagation check of a clause under hashes, over the units, which stay. The notes are of the clauses that it took.
+    #[tactic(auto, using(crate::proofs::lemmas::store::Keeping::checking))]
     pub fn check(
-        &mut self,
-        store: &Store,
-        clause: &[Lit],
-        hashes: &[ClauseHash],
-        looks: &mut Looks,
-    ) -> Result<bool, AllocError>
-        ensures exact { IfOk result (λ passes. (f : Stored) → KeepsClauses store.now f → self.old ≡ f.units
-            → IsTrue passes ↔ Passes f clause.now hashes.now) }
-        ensures units { self.new ≡ self.old }
-        ensures looks { (f : Stored) → KeepsClauses store.now f → looks.new ≤ looks.old + length hashes.now * literal_count f }
-    {
-        store.check(clause, hashes, &mut self.assigned, looks)
-    }
-
-    /// The same check, which notes the clauses that it passes.
-    pub fn check_noted(
         &mut self,
         store: &Store,
         clause: &[Lit],
@@ -183,12 +169,20 @@ impl Units {
             → IsTrue passes ↔ Passes f clause.now hashes.now) }
         ensures units { self.new ≡ self.old }
         ensures looks { (f : Stored) → KeepsClauses store.now f → looks.new ≤ looks.old + length hashes.now * literal_count f }
+        ensures rise { looks.old ≤ looks.new }
         ensures explained { IfOk result (λ passes. IsTrue passes
             → list_any (is_among (map (λ u. u.literal) self.old)) clause.now ≡ false → is_tautology clause.now ≡ false
             → Explains store.now.clauses passed.new
             (ground (map negated clause.now ++ map (λ u. u.literal) self.old) (named hashes.now store.now.clauses))) }
         ensures read { IfOk result (λ _. noted_length store.now.clauses passed.new + looks.old ≤ looks.new) }
     {
-        store.check_noted(clause, hashes, &mut self.assigned, passed, looks)
+        check_clause_with_hashes(
+            &store.clauses,
+            clause,
+            hashes,
+            &mut self.assigned,
+            passed,
+            looks,
+        )
     }
 }

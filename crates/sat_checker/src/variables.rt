@@ -1,5 +1,5 @@
 //! Which variables are known, their modes, and the user's names for them.
-ghost use Rattle.std.specs.Prelude.{ℕ, true, ◌≡◌, ◌==◌, ◌↔◌, IsTrue, Option, None, Some, OnOk, IfOk, MatchBool, map, [], ◌∷◌, if◌then◌else◌};
+ghost use Rattle.std.specs.Prelude.{ℕ, true, false, ◌≡◌, ◌==◌, ◌↔◌, IsTrue, Option, None, Some, OnOk, IfOk, MatchBool, map, [], ◌∷◌, if◌then◌else◌};
 ghost use Rattle.std.specs.List.{AllByRecursion};
 ghost use Rattle.sat_base.specs.values.Literals.{variable};
 ghost use Rattle.sat_checker.specs.LiteralSets.{is_among};
@@ -182,7 +182,8 @@ impl Variables {
 
     /// Gives a variable a name. The answer is whether it may have it: the name is free, the variable has none and isn't hidden.
     pub fn add_user_mapping(&mut self, var: Var, name: Var) -> Result<bool, AllocError>
-        ensures { IfOk result (VariablesAnswer self.old (UserVarName var (Some name)) self.new) }
+        ensures answers { IfOk result (VariablesAnswer self.old (UserVarName var (Some name)) self.new) }
+        ensures refused { IfOk result (λ given. given ≡ false → self.new ≡ self.old) }
     {
         if self.holder(name).is_some() {
             return Ok(false);
@@ -208,7 +209,8 @@ impl Variables {
 
     /// Takes a variable's name away and hides it. The answer is whether it has one.
     pub fn remove_user_mapping(&mut self, var: Var) -> Result<bool, AllocError>
-        ensures { IfOk result (VariablesAnswer self.old (UserVarName var None) self.new) }
+        ensures answers { IfOk result (VariablesAnswer self.old (UserVarName var None) self.new) }
+        ensures refused { IfOk result (λ taken. taken ≡ false → self.new ≡ self.old) }
     {
         let old = self.data(var);
         let Some(name) = old.name else {
@@ -228,7 +230,8 @@ impl Variables {
 
     /// Sets the mode of a known variable. The answer is whether it is known.
     pub fn set_mode(&mut self, var: Var, sample: bool) -> Result<bool, AllocError>
-        ensures { IfOk result (VariablesAnswer self.old (ChangeSamplingMode var sample) self.new) }
+        ensures answers { IfOk result (VariablesAnswer self.old (ChangeSamplingMode var sample) self.new) }
+        ensures refused { IfOk result (λ set. set ≡ false → self.new ≡ self.old) }
     {
         let old = self.data(var);
         if !old.known {

@@ -3,8 +3,7 @@ use Rattle.std.specs.Prelude.{◌≡◌, false, Result, Ok, Err, List, ◌∷◌
 use Rattle.sat_base.specs.steps.Steps.{Step}
 use Rattle.sat_checker.specs.Accepts.{Accepts, stored_after, ready_after}
 use Rattle.sat_checker.specs.KernelView.{Stands, has_failed, looks_of}
-use Rattle.sat_checker.specs.Spent.{IsSpent}
-use Rattle.sat_checker.specs.inner.StateView.{SpentBy}
+use Rattle.sat_checker.specs.Spent.{IsSpent, SpentBy}
 use Rattle.sat_checker.specs.declared.kernel.Kernel.{Kernel}
 use Rattle.sat_checker.specs.declared.error.CheckerError.{CheckerError}
 use Rattle.sat_checker.specs.declared.error.CheckerError.TheVariants as errors

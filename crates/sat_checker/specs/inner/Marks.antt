@@ -1,21 +1,11 @@
--- Lists of literals in which none stands twice, and marks by number.
-use Rattle.std.specs.Prelude.{ℕ, ◌≡◌, ◌<◌, Bool, false, List, [], ◌∷◌, slice_index_or}
-use Rattle.std.specs.List.{AllByRecursion}
+-- Marks by number.
+use Rattle.std.specs.Prelude.{ℕ, ◌≡◌, Bool, false, List, slice_index_or}
 use Rattle.sat_checker.specs.LiteralSets.{is_among}
+pub use Rattle.sat_checker.specs.SortedSets.{NoRepeats, IsIncreasing}
 
 -- is the number marked? None is past the end.
 abbrev pub is_marked : List Bool → ℕ → Bool
 is_marked marks i = slice_index_or marks i false
-
--- no literal stands twice
-abbrev pub NoRepeats : List ℕ → Type 0
-NoRepeats [] = Unit {0}
-NoRepeats (l ∷ ls) = (is_among ls l ≡ false) × NoRepeats ls
-
--- each literal is below all later ones
-abbrev pub IsIncreasing : List ℕ → Type 0
-IsIncreasing [] = Unit {0}
-IsIncreasing (l ∷ ls) = AllByRecursion (λ m. l < m) ls × IsIncreasing ls
 
 -- just the codes of the literals are marked, and no literal stands twice
 pub record AreMarks (marks : List Bool) (literals : List ℕ) : Type 0 where

@@ -1,5 +1,5 @@
 -- What a list of literals says of clauses, as a test.
-use Rattle.std.specs.Prelude.{ℕ, ◌==◌, Bool, true, ◌||◌, ◌&&◌, List, [], ◌∷◌}
+use Rattle.std.specs.Prelude.{ℕ, ◌+◌, ◌==◌, Bool, true, ◌||◌, ◌&&◌, List, [], ◌∷◌, length, if◌then◌else◌}
 use Rattle.std.specs.List.{list_any}
 use Rattle.sat_checker.specs.LiteralSets.{is_among}
 use Rattle.sat_checker.specs.Stored.{StoredClause}
@@ -8,3 +8,8 @@ use Rattle.sat_checker.specs.Stored.{StoredClause}
 abbrev pub are_all_true : List ℕ → List StoredClause → Bool
 are_all_true ls [] = true
 are_all_true ls (c ∷ cs) = (c.irredundant == 0 || list_any (is_among ls) c.literals) && are_all_true ls cs
+
+-- the number of their literals
+abbrev pub irredundant_length : List StoredClause → ℕ
+irredundant_length [] = 0
+irredundant_length (c ∷ cs) = (if c.irredundant == 0 then 0 else length c.literals) + irredundant_length cs

@@ -1,7 +1,8 @@
 -- What a walk notes of the clauses that it passes, and how that leads to what its conflict rests on.
 use Rattle.std.specs.Prelude.{ℕ, ◌≡◌, ◌+◌, ◌<◌, Bool, true, false, List, [], ◌∷◌, ◌++◌, map, filter, Option, None, Some, length}
-use Rattle.std.specs.List.{AllByRecursion}
+use Rattle.std.specs.List.{AllByRecursion, list_any}
 use Rattle.sat_base.specs.values.Literals.{negated}
+use Rattle.sat_checker.specs.LiteralSets.{is_among, is_tautology}
 use Rattle.sat_checker.specs.Looks.{total_length}
 use Rattle.sat_checker.specs.Stored.{StoredClause}
 use Rattle.sat_checker.specs.announcements.Needed.{Ground, ground}
@@ -83,3 +84,7 @@ pub record Explains (slots : List Slot) (passed : Passed) (whole : Ground) : Typ
   pub same : whole ≡ followed_back (reasons_in slots passed) (conflict_at slots passed.conflict)
   pub there : AreThere slots passed
   pub met : IsThere slots passed.conflict
+
+-- They do so unless the clause has both signs of a variable or a unit in it.
+abbrev pub ExplainsUnless : List Slot → Passed → List ℕ → List ℕ → Ground → Type 0
+ExplainsUnless slots passed units clause whole = list_any (is_among units) clause ≡ false → is_tautology clause ≡ false → Explains slots passed whole

@@ -1,7 +1,7 @@
 -- What the checker's state keeps of the definition's, and when its answer to a step is right.
-use Rattle.std.specs.Prelude.{ℕ, ◌≡◌, ◌+◌, ◌≤◌, ◌⊎◌, Bool, Result, Ok, Err}
+use Rattle.std.specs.Prelude.{ℕ, ◌≡◌, ◌+◌, ◌≤◌, Bool, Result, Ok, Err}
 use Rattle.std.specs.Bool.{MatchBool}
-use Rattle.sat_checker.specs.Spent.{IsSpent}
+use Rattle.sat_checker.specs.Spent.{SpentBy}
 use Rattle.sat_checker.specs.Storing.{settled}
 use Rattle.sat_checker.specs.declared.store.StoreError.TheVariants.{OutOfMemory, CounterEnd}
 use Rattle.sat_base.specs.steps.Steps.{Step}
@@ -32,10 +32,6 @@ abbrev pub Answers : Result Bool StoreError → Type 0 → Type 0 → Type 0 →
 Answers (Ok accepted) accepts kept spent = MatchBool accepted (accepts × kept) (accepts → ⊥)
 Answers (Err OutOfMemory) accepts kept spent = Unit {0}
 Answers (Err CounterEnd) accepts kept spent = spent
-
--- a number is past 64 bits once a pending unit conflict is settled, or in what the step would leave
-abbrev pub SpentBy : Step → Stored → Type 0
-SpentBy step f = IsSpent (settled f) ⊎ IsSpent (effect step (settled f))
 
 -- a pending unit conflict is settled before the step is judged
 abbrev pub Judges : Result Bool StoreError → State → Step → State → Type 0

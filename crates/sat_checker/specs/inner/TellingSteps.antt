@@ -56,10 +56,10 @@ pub record SameState {L : Type 0} (old new : Seen L) : Type 0 where
   pub looks : looks_of new ≡ looks_of old
 
 module _ {L : Type 0} (Hears : L → Told → Result Unit ProcessingError → L → Type 0) (told : List Told) where
-  -- all was told, and what is recorded is so
+  -- all was told, or up to a fault, and what is recorded is so
   abbrev pub TakenIn : Result Unit CheckerError → Seen L → Seen L → Type 0
   TakenIn (Ok x) old new = (has_failed new ≡ false) × (new.kernel.records ≡ records_in new.kernel.state.formula.status) × HearsAll Hears told old.listeners new.listeners
-  TakenIn (Err e) old new = (has_failed new ≡ true) × (new.kernel.records ≡ old.kernel.records) × (f : ProcessingError) × (e ≡ fault_of f) × HearsUpTo Hears f told old.listeners new.listeners
+  TakenIn (Err e) old new = (has_failed new ≡ true) × (new.kernel.records ≡ records_in new.kernel.state.formula.status) × (f : ProcessingError) × (e ≡ fault_of f) × HearsUpTo Hears f told old.listeners new.listeners
 
   abbrev pub TakesIn : Result Unit CheckerError → Seen L → Seen L → Type 0
   TakesIn result old new = SameState old new × TakenIn result old new

@@ -1,5 +1,5 @@
 //! Steps whose announcements are told.
-ghost use Rattle.std.specs.Prelude.{◌≡◌, false, None, Ok, OnOk, MatchResult};
+ghost use Rattle.std.specs.Prelude.{◌≤◌, ◌≡◌, false, None, Ok, OnOk, MatchResult};
 ghost use Rattle.sat_base.specs.steps.StepViews.{step_of};
 ghost use Rattle.sat_checker.specs.KernelView as kernels;
 ghost use Rattle.sat_checker.specs.KernelView.{has_failed};
@@ -95,6 +95,7 @@ impl Kernel {
         ensures tells { ChecksStep (HearsFirst O.takes (HearsEach P.takes T.reads))
             result (seen self.old (hearers own.old others.old)) (step_of step.now) (seen self.new (hearers own.new others.new)) }
         ensures looks { kernels.LooksAtMost self.old (step_of step.now) self.new }
+        ensures rise { kernels.looks_of self.old ≤ kernels.looks_of self.new }
     {
         if self.failed {
             return Err(CheckerError::HasFailed);
@@ -117,6 +118,7 @@ impl Kernel {
         requires { has_failed self.old ≡ false }
         ensures judges { kernels.ChecksDelayed result self.old self.new }
         ensures goes_on { OnOk result ((has_failed self.new ≡ false) × (self.new.state.formula.status.conflict ≡ None)) }
+        ensures looks { kernels.looks_of self.new ≡ kernels.looks_of self.old }
         ensures tells { ChecksDelayed (HearsFirst O.takes (HearsEach P.takes T.reads))
             result (seen self.old (hearers own.old others.old)) (seen self.new (hearers own.new others.new)) }
     {
@@ -157,6 +159,7 @@ impl Kernel {
         ensures tells { ChecksStep (HearsFirst O.takes (HearsEach P.takes T.reads))
             result (seen self.old (hearers own.old others.old)) (step_of step.now) (seen self.new (hearers own.new others.new)) }
         ensures looks { kernels.LooksAtMost self.old (step_of step.now) self.new }
+        ensures rise { kernels.looks_of self.old ≤ kernels.looks_of self.new }
     {
         let was = changed(&self.state.variables, step);
         match self
@@ -175,7 +178,7 @@ impl Kernel {
         }
     }
 
-    /// Tells what an accepted step has noted, and records what is to be told later.
+    /// Records what an accepted step leaves, and tells what it has noted.
     fn take_in<O: ProofProcessor, P: ProofProcessor, T: ProofTranscriptProcessor>(
         &mut self,
         was: &Option<Was>,
@@ -187,12 +190,10 @@ impl Kernel {
             (announced_by (put_back (was_of was.now) (variable_at self.old.state.variables)) self.old.notes.news)
             result (seen self.old (hearers own.old others.old)) (seen self.new (hearers own.new others.new)) }
     {
+        self.records = self.state.formula.status.records();
         let names = CheckerData::before(&self.state.variables, was);
         match tell_news(&self.notes.news, names, own, others) {
-            Ok(()) => {
-                self.records = self.state.formula.status.records();
-                Ok(())
-            }
+            Ok(()) => Ok(()),
             Err(error) => {
                 self.failed = true;
                 Err(fault(error))

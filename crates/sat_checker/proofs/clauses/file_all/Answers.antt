@@ -19,6 +19,7 @@ loop-place-preserved-then-is_gone c =
       hashed = hashed_skip names width c.args.slots.now c.loop-place.slots c.loop-place.place inside c.loop-place.invariant.hashed now_gone;
       filed = λ q. filed_gone names width (places_in c.loop-place.index) c.args.slots.now c.loop-place.place q inside gone (c.loop-place.invariant.filed q);
       looks = let left = left_gone c.args.slots.now c.loop-place.place inside gone in ap (λ n. c.loop-place.looks + n) (sym left) ∙ c.loop-place.invariant.looks;
+      rise = c.loop-place.invariant.rise;
     }
 
 pub loop-place-preserved : goal.loop-place-preserved
@@ -40,10 +41,11 @@ loop-place-preserved c =
           let left = left_there c.args.slots.now c.loop-place.place inside there in
           let count = ap length same in
           omega (arith, left, count, c.literals.ensures.looks, c.loop-place.invariant.looks);
+      rise = omega (arith, c.literals.ensures.looks, c.loop-place.invariant.rise);
     }
 
 pub loop-place-init : goal.loop-place-init
-loop-place-init c = record { hashed = refl; filed = λ q. c.requires q; looks = refl }
+loop-place-init c = record { hashed = refl; filed = λ q. c.requires q; looks = refl; rise = omega arith }
 
 pub returns-in_err-file-clause-looks : goal.returns-in_err-file-clause-looks
 returns-in_err-file-clause-looks c =

@@ -18,7 +18,7 @@ use Rattle.sat_checker.specs.ProofView.{taken_after, most_looks_behind, NoneFail
 use Rattle.sat_checker.specs.ClausesView.{additions, Adds, behind, AnswersClauses}
 use Rattle.sat_checker.specs.DimacsView.{AreOfFront, AreRead, FailsBehind, StandsBehind, AnswersDimacs, AddsDimacs}
 use Rattle.sat_checker.specs.inner.DimacsPieces.{is_want, with_flag, AddsRead}
-use Rattle.sat_checker.specs.inner.StateView.{SpentBy}
+use Rattle.sat_checker.specs.Spent.{SpentBy}
 use Rattle.sat_checker.specs.declared.processing.ProcessingError.{ProcessingError}
 use Rattle.sat_checker.specs.declared.processing.ProcessingError.TheVariants as faults
 use Rattle.sat_checker.specs.declared.error.CheckerError.{CheckerError}

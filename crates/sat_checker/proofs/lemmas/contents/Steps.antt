@@ -1,12 +1,12 @@
 -- Whatever steps there were, their contents are those of what is stored behind them.
-use Rattle.std.proofs.Common.{ℕ, ◌≡◌, Bool, true, false, List, [], ◌∷◌, refl, ◌∙◌, ap, None}
+use Rattle.std.proofs.Common.{◌≡◌, Bool, true, false, List, [], ◌∷◌, refl, ◌∙◌, ap, None}
 use Rattle.sat_base.specs.steps.Steps.{Step}
-use Rattle.sat_checker.specs.Stored.{Stored, nothing_stored, unknown}
-use Rattle.sat_checker.specs.Accepts.{effect, stored_after, ready_after}
-use Rattle.sat_checker.specs.Contents.{Contents, contents, count_in, contents_after, contents_of}
+use Rattle.sat_checker.specs.Stored.{nothing_stored}
+use Rattle.sat_checker.specs.Accepts.{stored_after, ready_after}
+use Rattle.sat_checker.specs.Contents.{contents, count_in, contents_after, contents_of}
 use Rattle.sat_checker.specs.Invariants.{ContentsOfSteps}
 use Rattle.sat_checker.proofs.lemmas.contents.Views.{contents_follow, contents_are_settled}
-use Rattle.sat_checker.proofs.lemmas.invariants.Counted.{TidyClauses, tidy_clauses}
+use Rattle.sat_checker.proofs.lemmas.invariants.Counted.{tidy_clauses}
 
 none_counts : (r : Bool) → count_in r None ≡ 0
 none_counts true = refl

@@ -7,7 +7,7 @@ use Rattle.sat_checker.specs.LiteralSets.{is_among, is_tautology, canonical}
 use Rattle.sat_checker.specs.Stored.{StoredUnit, unknown, Stored, is_unit}
 use Rattle.sat_checker.specs.Storing.{with_contradiction, with_new_unit, with_unit, with_units, settled_by, settled, with_set, with_canonical, with_stored, with_input, with_literals_known}
 use Rattle.sat_checker.specs.Accepts.{effect}
-use Rattle.sat_checker.specs.Contents.{Contents, contents, unit_more, units_more, set_more, clause_more, literals_known, contents_after}
+use Rattle.sat_checker.specs.Contents.{contents, unit_more, units_more, set_more, clause_more, literals_known, contents_after}
 use Rattle.sat_checker.specs.Invariants.{EachOnce, ContentsFollow, ContentsAreSettled}
 use Rattle.sat_checker.proofs.lemmas.contents.Counts.{count_more, count_less}
 

@@ -45,7 +45,7 @@ last_same l f = go (is_unit f l) (is_unit f (negated l))
     go false false = refl
 
 pub single_noted : (F : Formula) (r : Bool) (l id : ℕ) (f : Stored) → r ≡ false → KeepsFormula F (with_unit l f) → unit_id l F.units ≡ Some id
-    → KeepsFormula (record { store = F.store; units = F.units; status = record F.status { last = code.Single id l } }) (with_canonical r (l ∷ []) f)
+    → KeepsFormula (record F { status = record F.status { last = code.Single id l } }) (with_canonical r (l ∷ []) f)
 single_noted F true l id f e k u = absurd (true≢false e)
 single_noted F false l id f e k u = record {
   clauses = k.clauses;
@@ -107,12 +107,12 @@ next_of F f k = ap (λ (s : Standing). s.next_id) k.status
 
 -- a new unit
 pub unit_stored : (F : Formula) (f : Stored) (l id : ℕ) (units : List StoredUnit) (status : Status) → KeepsFormula F f → is_among (map (λ u. u.literal) F.units) l ≡ false → is_among (map (λ u. u.literal) F.units) (negated l) ≡ false → units ≡ F.units ++ (record { id = id; literal = l }) ∷ []
-    → (id ≡ F.status.next_id) × (status ≡ record F.status { next_id = F.status.next_id + 1 }) → KeepsFormula (record { store = F.store; units = units; status = status }) (with_unit l f)
+    → (id ≡ F.status.next_id) × (status ≡ record F.status { next_id = F.status.next_id + 1 }) → KeepsFormula (record F { units = units; status = status }) (with_unit l f)
 unit_stored F f l id units status k a b u s =
     let e : with_unit l f ≡ with_new_unit l f =
     ap (λ us. cond (is_among (map (λ (w : StoredUnit). w.literal) us) l) f (cond (is_unit f (negated l)) (with_contradiction l f) (with_new_unit l f))) (sym k.units) ∙ ap (λ b. cond b f (cond (is_unit f (negated l)) (with_contradiction l f) (with_new_unit l f))) a
     ∙ ap (λ us. cond (is_among (map (λ (w : StoredUnit). w.literal) us) (negated l)) (with_contradiction l f) (with_new_unit l f)) (sym k.units) ∙ ap (λ b. cond b (with_contradiction l f) (with_new_unit l f)) b in
-    subst (KeepsFormula (record { store = F.store; units = units; status = status })) (sym e) (record {
+    subst (KeepsFormula (record F { units = units; status = status })) (sym e) (record {
       clauses = k.clauses;
       units = u ∙ ap (λ us. us ++ (record { id = id; literal = l }) ∷ []) k.units ∙ ap (λ n. f.units ++ (record { id = n; literal = l }) ∷ []) (s.0 ∙ next_of F f k);
       status = ap standing_in s.1 ∙ ap (λ (t : Standing). record t { next_id = t.next_id + 1 }) k.status;
@@ -142,7 +142,7 @@ module _ (F : Formula) (store : Store) (f : Stored) (x y : ℕ) (ls : List ℕ) 
 
   long_done : (r : Bool) (status : Status) → Stores store f F.status.next_id r all p.id p.is_new → IsPlaced F.store.clauses store.clauses F.status.next_id p
       → status ≡ record (noted r p F.status) { next_id = cond p.is_new ((noted r p F.status).next_id + 1) (noted r p F.status).next_id }
-      → KeepsFormula (record { store = store; units = F.units; status = status }) (with_canonical r all f)
+      → KeepsFormula (record F { store = store; status = status }) (with_canonical r all f)
   long_done true status s h e = record {
     clauses = kept_so true s.stored;
     units = k.units;
@@ -183,15 +183,15 @@ Takes result old needed new =
     MatchResult result (λ x. new ≡ record old { next_id = cond needed (old.next_id + 1) old.next_id }) (λ e. (e ≡ CounterEnd) × (needed ≡ true) × (2 ^ 64 ≤ old.next_id + 1))
 
 pub long_stored : {T : Type 0} (result : Result T StoreError) (F : Formula) (store : Store) (was status : Status) (f : Stored) (r : Bool) (ls : List ℕ) (p : Placed) → 2 ≤ length ls → KeepsFormula F f → Stores store f F.status.next_id r ls p.id p.is_new → IsPlaced F.store.clauses store.clauses F.status.next_id p
-    → was ≡ noted r p F.status → Takes result was p.is_new status → Turns result (KeepsFormula (record { store = store; units = F.units; status = status }) (with_canonical r ls f)) (with_canonical r ls f)
+    → was ≡ noted r p F.status → Takes result was p.is_new status → Turns result (KeepsFormula (record F { store = store; status = status }) (with_canonical r ls f)) (with_canonical r ls f)
 long_stored result F store was status f r [] p l k s h w m = absurd (omega arith)
 long_stored result F store was status f r (x ∷ []) p l k s h w m = absurd (omega arith)
 long_stored {T = T} result F store was status f r (x ∷ y ∷ ls) p l k s h w m = go result (subst (λ t. Takes result t p.is_new status) w m)
   where
-    go : (result : Result T StoreError) → Takes result (noted r p F.status) p.is_new status → Turns result (KeepsFormula (record { store = store; units = F.units; status = status }) (with_canonical r (x ∷ y ∷ ls) f)) (with_canonical r (x ∷ y ∷ ls) f)
+    go : (result : Result T StoreError) → Takes result (noted r p F.status) p.is_new status → Turns result (KeepsFormula (record F { store = store; status = status }) (with_canonical r (x ∷ y ∷ ls) f)) (with_canonical r (x ∷ y ∷ ls) f)
     go (Ok v) m = long_done F store f x y ls p k r status s h m
     go (Err e) m =
-        subst (λ d. Turns {T = T} (Err d) (KeepsFormula (record { store = store; units = F.units; status = status }) (with_canonical r (x ∷ y ∷ ls) f)) (with_canonical r (x ∷ y ∷ ls) f)) (sym m.0) (long_spent F store f x y ls p k r s.new_is m.1 m.2)
+        subst (λ d. Turns {T = T} (Err d) (KeepsFormula (record F { store = store; status = status }) (with_canonical r (x ∷ y ∷ ls) f)) (with_canonical r (x ∷ y ∷ ls) f)) (sym m.0) (long_spent F store f x y ls p k r s.new_is m.1 m.2)
 
 long_fails : (e : StoreError) (T K : Type 0) (F : Formula) (f : Stored) (r : Bool) (ls : List ℕ) → 2 ≤ length ls → KeepsFormula F f
     → (e ≡ CounterEnd → 2 ^ 64 ≤ count_in r (clause_with ls f.clauses) + 1) → Turns {T = T} (Err e) K (with_canonical r ls f)
@@ -251,13 +251,13 @@ input_spent c f (inl h) = inl (omega arith)
 input_spent c f (inr s) = inr (record { literals = s.literals; past = s.past })
 
 pub input_stored : {T : Type 0} (result : Result T StoreError) (F G : Formula) (status : Status) (f : Stored) (c : List ℕ) (b : Bool) → KeepsFormula F f → KeepsFormula G (with_stored false c f) → b ≡ eqb G.status.next_id F.status.next_id
-    → Takes result G.status b status → Turns result (KeepsFormula (record { store = G.store; units = G.units; status = status }) (with_input c f)) (with_input c f)
+    → Takes result G.status b status → Turns result (KeepsFormula (record G { status = status }) (with_input c f)) (with_input c f)
 input_stored {T = T} result F G status f c b k g e m = go result m
   where
     same : cond b ((with_stored false c f).next_id + 1) (with_stored false c f).next_id ≡ max (with_stored false c f).next_id (f.next_id + 1)
     same = next_input f.next_id (with_stored false c f).next_id b (next_stored false c f) (e ∙ ap (λ n. eqb n F.status.next_id) (next_of G (with_stored false c f) g) ∙ ap (eqb (with_stored false c f).next_id) (next_of F f k))
 
-    go : (result : Result T StoreError) → Takes result G.status b status → Turns result (KeepsFormula (record { store = G.store; units = G.units; status = status }) (with_input c f)) (with_input c f)
+    go : (result : Result T StoreError) → Takes result G.status b status → Turns result (KeepsFormula (record G { status = status }) (with_input c f)) (with_input c f)
     go (Ok v) m = record {
       clauses = g.clauses;
       units = g.units;
@@ -267,7 +267,7 @@ input_stored {T = T} result F G status f c b k g e m = go result m
           (numbered_more (slot_ids G.store.clauses) (with_stored false c f).units G.status.last (with_stored false c f).next_id (with_input c f).next_id (omega arith) g.numbered);
     }
     go (Err e) m =
-        subst (λ d. Turns {T = T} (Err d) (KeepsFormula (record { store = G.store; units = G.units; status = status }) (with_input c f)) (with_input c f)) (sym m.0)
+        subst (λ d. Turns {T = T} (Err d) (KeepsFormula (record G { status = status }) (with_input c f)) (with_input c f)) (sym m.0)
         (inl (let a = next_of G (with_stored false c f) g in let t = ap (λ x. cond x ((with_stored false c f).next_id + 1) (with_stored false c f).next_id) m.1 in omega (arith, a, t, same, m.2)))
 
 -- by their number

@@ -1,17 +1,17 @@
 -- Each variable of a stored clause, of a unit and of an assumption is known.
-use Rattle.std.proofs.Common.{ℕ, ◌≡◌, Bool, true, false, not, ◌||◌, cond, eqb, List, [], ◌∷◌, map, filter, Option, None, Some, refl, sym, ◌∙◌, ap, subst, inl, inr}
-use Rattle.std.proofs.lemmas.Bool.{or_cases, or_left, or_right, or_parts, both_ways, true≢false, eqb-true, eq-eqb}
+use Rattle.std.proofs.Common.{ℕ, ◌≡◌, Bool, true, false, not, cond, eqb, List, [], ◌∷◌, map, filter, Option, None, Some, refl, sym, ◌∙◌, ap, subst, inl, inr}
+use Rattle.std.proofs.lemmas.Bool.{or_cases, or_left, or_right, or_parts, eqb-true, eq-eqb}
 use Rattle.std.specs.List.{AllByRecursion, list_any}
 use Rattle.sat_base.specs.values.Literals.{variable}
 use Rattle.sat_base.specs.steps.Steps.{Redundant, Simplified, Satisfied, Step, SolverVarName, UserVarName, DeleteVar, ChangeSamplingMode, AddClause, AtClause, UnitClauses, DeleteClause, ChangeHashBits, Model, Assumptions, FailedAssumptions, End}
 use Rattle.sat_checker.specs.LiteralSets.{is_among, mentions, canonical}
-use Rattle.sat_checker.specs.Stored.{StoredClause, StoredUnit, Variable, unknown, Stored, unit_literals, long_clauses, is_known}
+use Rattle.sat_checker.specs.Stored.{StoredClause, StoredUnit, unknown, Stored, unit_literals, long_clauses, is_known}
 use Rattle.sat_checker.specs.Storing.{settled_by, settled, with_stored, with_input, with_units, with_literals_known, without_variable}
 use Rattle.sat_checker.specs.Accepts.{MayBeDeleted, Accepts, AcceptsAll, effect, stored_after, ready_after}
 use Rattle.sat_checker.specs.Invariants.{AllKnown}
 use Rattle.sat_checker.proofs.lemmas.sets.Members.{canonical_each, each_member, each_weaker}
 use Rattle.sat_checker.proofs.lemmas.meaning.Clauses.{literals_of}
-use Rattle.sat_checker.proofs.lemmas.meaning.Names.{SameVariables, stored_same, units_same, settled_same, known_stays}
+use Rattle.sat_checker.proofs.lemmas.meaning.Names.{stored_same, units_same, known_stays}
 use Rattle.sat_checker.proofs.lemmas.invariants.Each.{each_without, each_units, each_stored, units_units, units_stored}
 
 -- these variables are known, by what says of a variable whether it is

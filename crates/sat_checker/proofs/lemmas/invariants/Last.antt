@@ -1,11 +1,11 @@
 -- Which clause is the last irredundant one behind a step.
-use Rattle.std.proofs.Common.{ℕ, ◌+◌, ◌<◌, ◌≤◌, ◌≡◌, Bool, true, false, cond, List, [], ◌∷◌, length, refl, sym, ◌∙◌, ap, subst, arith, Option, None, Some}
-use Rattle.sat_base.specs.steps.Steps.{Step, SolverVarName, UserVarName, DeleteVar, ChangeSamplingMode, AddClause, AtClause, UnitClauses, DeleteClause, ChangeHashBits, Model, Assumptions, FailedAssumptions, End}
+use Rattle.std.proofs.Common.{ℕ, ◌+◌, ◌<◌, ◌≤◌, ◌≡◌, Bool, true, false, cond, List, [], ◌∷◌, length, refl, ◌∙◌, ap, arith, Option, None, Some}
+use Rattle.sat_base.specs.steps.Steps.{SolverVarName, UserVarName, DeleteVar, ChangeSamplingMode, AddClause, AtClause, UnitClauses, DeleteClause, ChangeHashBits, Model, Assumptions, FailedAssumptions, End}
 use Rattle.sat_checker.specs.LiteralSets.{is_tautology, canonical}
 use Rattle.sat_checker.specs.Stored.{StoredClause, Last, NoneYet, Empty, UnitClause, LongClause, Stored}
-use Rattle.sat_checker.specs.Storing.{clause_with, irredundant_count, settled_by, settled, with_canonical, with_clause, with_literals_known, last_literals, long_at, clause_numbered, unit_numbered}
-use Rattle.sat_checker.specs.Accepts.{AcceptsAll, effect, stored_after, ready_after}
-use Rattle.sat_checker.specs.Invariants.{DerivedIsLast, leaves_last, LastStays, LastIsSettled}
+use Rattle.sat_checker.specs.Storing.{clause_with, irredundant_count, settled_by, with_canonical, with_clause, with_literals_known, last_literals, long_at, clause_numbered, unit_numbered}
+use Rattle.sat_checker.specs.Accepts.{effect, stored_after, ready_after}
+use Rattle.sat_checker.specs.Invariants.{DerivedIsLast, LastStays, LastIsSettled}
 use Rattle.sat_checker.proofs.lemmas.meaning.Orderly.{Orderly, numbered_itself, stored_count}
 use Rattle.sat_checker.proofs.lemmas.meaning.OrderlySteps.{orderly}
 

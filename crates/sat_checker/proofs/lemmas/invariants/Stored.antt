@@ -1,14 +1,13 @@
 -- What always holds of what is stored.
-use Rattle.std.proofs.Common.{ℕ, ◌+◌, ◌<◌, ◌≡◌, Bool, true, false, cond, List, [], ◌∷◌, map, ◌↔◌, Option, None, Some, refl, arith}
-use Rattle.std.specs.List.{AllByRecursion}
+use Rattle.std.proofs.Common.{ℕ, ◌+◌, ◌<◌, ◌≡◌, Bool, true, false, cond, List, [], ◌∷◌, map, ◌↔◌, None, Some, refl, arith}
 use Rattle.sat_base.specs.values.Literals.{negated}
-use Rattle.sat_base.specs.steps.Steps.{Redundant, Simplified, Satisfied, Step, SolverVarName, UserVarName, DeleteVar, ChangeSamplingMode, AddClause, AtClause, UnitClauses, DeleteClause, ChangeHashBits, Model, Assumptions, FailedAssumptions, End}
+use Rattle.sat_base.specs.steps.Steps.{Redundant, Simplified, Satisfied, SolverVarName, UserVarName, DeleteVar, ChangeSamplingMode, AddClause, AtClause, UnitClauses, DeleteClause, ChangeHashBits, Model, Assumptions, FailedAssumptions, End}
 use Rattle.sat_checker.specs.LiteralSets.{is_tautology, canonical, same_literals}
-use Rattle.sat_checker.specs.Stored.{StoredClause, Stored, is_unit}
+use Rattle.sat_checker.specs.Stored.{Stored, is_unit}
 use Rattle.sat_checker.specs.Storing.{clause_with, irredundant_count, redundant_count, with_contradiction, with_new_unit, with_unit, with_units, with_set, with_canonical, with_stored, with_input, with_literals_known}
-use Rattle.sat_checker.specs.Accepts.{effect, stored_after, ready_after}
+use Rattle.sat_checker.specs.Accepts.{stored_after}
 use Rattle.sat_checker.specs.Contents.{count_of}
-use Rattle.sat_checker.specs.Invariants.{AlwaysTidy, UnsatStays, AllClausesHold, TakingCounts, EachCounted, CountedIsStored}
+use Rattle.sat_checker.specs.Invariants.{AlwaysTidy, UnsatStays, AllClausesHold, TakingCounts, CountedIsStored}
 use Rattle.sat_checker.proofs.lemmas.meaning.Meaning.{means_ready}
 use Rattle.sat_checker.proofs.lemmas.meaning.Orderly.{orderly_settled}
 use Rattle.sat_checker.proofs.lemmas.meaning.OrderlySteps.{orderly}

@@ -1,12 +1,12 @@
 -- The hash of literals doesn't depend on their order.
-use Rattle.std.proofs.Common.{ℕ, ◌-◌, ◌/◌, ◌^◌, ◌≡◌, Bool, true, false, ◌||◌, cond, eqb, ltb, List, [], ◌∷◌, map, bit_xor, Option, refl, sym, ◌∙◌, ap}
+use Rattle.std.proofs.Common.{ℕ, ◌-◌, ◌/◌, ◌^◌, ◌≡◌, Bool, true, false, ◌||◌, cond, eqb, ltb, List, [], ◌∷◌, map, bit_xor, refl, sym, ◌∙◌, ap}
 use Rattle.std.proofs.lemmas.Bool.{both_ways, eqb-true, eq-eqb, true≢false}
 use Rattle.std.proofs.lemmas.Nat.{xor_comm}
 use Rattle.std.specs.Int.Bits.{xor_assoc}
 use Rattle.sat_base.specs.values.Hashes.{literal_hash, hash_of}
 use Rattle.sat_checker.specs.LiteralSets.{is_among, with_literal, canonical}
-use Rattle.sat_checker.specs.inner.Marks.{NoRepeats}
-use Rattle.sat_checker.specs.Stored.{solver_literal, hash_by}
+use Rattle.sat_checker.specs.SortedSets.{NoRepeats}
+use Rattle.sat_checker.specs.Stored.{solver_literal}
 use Rattle.sat_checker.specs.Leading.{HashOfAnyOrder}
 use Rattle.sat_checker.proofs.lemmas.sets.Canonical.{canonical_among}
 

@@ -1,5 +1,5 @@
 -- Stored clauses that hashes name stand in the buckets of these hashes, whatever else does, and make a clause pass where they lead to a conflict.
-use Rattle.std.proofs.Common.{ℕ, ◌≡◌, ◌≢◌, Bool, true, false, cond, eqb, List, [], ◌∷◌, ◌++◌, map, filter, refl, sym, ◌∙◌, subst, ◌⊎◌, inl, inr, append-nil, Option, None, Some, is_some}
+use Rattle.std.proofs.Common.{ℕ, ◌≡◌, ◌≢◌, Bool, true, false, cond, eqb, List, [], ◌∷◌, ◌++◌, map, filter, refl, sym, ◌∙◌, subst, ◌⊎◌, inl, inr, append-nil, Some, is_some}
 use Rattle.std.proofs.lemmas.Bool.{both_ways, eq-eqb, true≢false}
 use Rattle.std.specs.List.{AllByRecursion}
 use Rattle.sat_base.specs.values.Literals.{negated}

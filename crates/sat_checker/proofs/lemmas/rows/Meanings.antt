@@ -1,7 +1,6 @@
 -- Worked rows of what steps mean.
-use Rattle.std.proofs.Common.{ℕ, ◌≡◌, Bool, true, false, not, cond, ◌||◌, refl, sym, inl, inr}
-use Rattle.std.proofs.lemmas.Bool.{cases_Bool, true≢false}
-use Rattle.sat_base.specs.values.Clauses.{Valuation}
+use Rattle.std.proofs.Common.{◌≡◌, Bool, true, false, not, ◌||◌, refl, sym, inl, inr}
+use Rattle.std.proofs.lemmas.Bool.{true≢false}
 use Rattle.sat_checker.specs.MeaningRows.{EitherHolds, FourHaveNone, DeletedIsFree, OnlyAddedAsk, StoredAsk, UnsatAsks, LooksOfKinds, LooksOfAll}
 
 no : false ≡ true → ⊥

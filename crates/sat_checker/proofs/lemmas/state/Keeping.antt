@@ -11,10 +11,10 @@ use Rattle.sat_checker.specs.LiteralSets.{canonical, is_part}
 use Rattle.sat_checker.specs.Stored.{Stored, Variable, Sample, mode_of}
 use Rattle.sat_checker.specs.Storing.{settled, with_stored, with_input, with_literals_known, with_solver_name, with_known}
 use Rattle.sat_checker.specs.Accepts.{Passes, Accepts, effect, IsStrictSubset}
-use Rattle.sat_checker.specs.Spent.{IsSpent}
+use Rattle.sat_checker.specs.Spent.{IsSpent, SpentBy}
 use Rattle.sat_checker.specs.inner.StoreView.{KeepsClauses}
 use Rattle.sat_checker.specs.inner.FormulaView.{KeepsFormula, Turns, TurnsIf}
-use Rattle.sat_checker.specs.inner.StateView.{Keeps, Answers, SpentBy}
+use Rattle.sat_checker.specs.inner.StateView.{Keeps, Answers}
 use Rattle.sat_checker.specs.inner.VariablesView.{KeepsVariables, AreSampling}
 use Rattle.sat_checker.specs.declared.store.StoreError.{StoreError}
 use Rattle.sat_checker.specs.declared.store.StoreError.TheVariants.{OutOfMemory, CounterEnd}

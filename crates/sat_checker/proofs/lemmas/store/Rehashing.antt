@@ -3,7 +3,7 @@ use Rattle.std.proofs.Common.{ℕ, zero, suc, ◌+◌, ◌<◌, ◌≤◌, ◌�
 use Rattle.std.proofs.lemmas.Bool.{true≢false}
 use Rattle.std.specs.List.{list_any}
 use Rattle.std.proofs.lemmas.List.{drop_more}
-use Rattle.sat_checker.specs.inner.ModelTests.{are_all_true}
+use Rattle.sat_checker.specs.inner.ModelTests.{are_all_true, irredundant_length}
 use Rattle.sat_checker.specs.LiteralSets.{is_among}
 use Rattle.sat_checker.specs.Stored.{Stored, hash_by, StoredClause}
 use Rattle.sat_checker.specs.Storing.{unless_gone}
@@ -172,6 +172,23 @@ all_met ls ss i l n t = all_there ls ss i l n ∙ ap (λ b. b && are_all_true ls
 
 pub all_failed : (ls : List ℕ) (ss : List Slot) (i : ℕ) → i < length ss → eqb (slot_at ss i).clause.irredundant 0 ≡ false → list_any (is_among ls) (literals_at ss i) ≡ false → are_all_true ls (live (drop i ss)) ≡ false
 all_failed ls ss i l n f = all_there ls ss i l n ∙ ap (λ b. b && are_all_true ls (live (drop (i + 1) ss))) f
+
+-- the literals of the irredundant ones from a place on
+pub lengths_skip : (ss : List Slot) (i : ℕ) → i < length ss → (slot_at ss i).clause.irredundant ≡ 0 → irredundant_length (live (drop i ss)) ≡ irredundant_length (live (drop (i + 1) ss))
+lengths_skip ss i l z = ap (λ xs. irredundant_length (live xs)) (drop_more ss i (unstored 0 0 []) l) ∙ go (is_gone (slot_at ss i))
+  where
+    nothing : (n : ℕ) → 0 + n ≡ n
+    nothing n = omega arith
+
+    go : (b : Bool) → irredundant_length (cond b [] ((slot_at ss i).clause ∷ []) ++ live (drop (i + 1) ss)) ≡ irredundant_length (live (drop (i + 1) ss))
+    go true = refl
+    go false = ap (λ n. cond (eqb n 0) 0 (length (literals_at ss i)) + irredundant_length (live (drop (i + 1) ss))) z ∙ nothing (irredundant_length (live (drop (i + 1) ss)))
+
+pub lengths_there : (ss : List Slot) (i : ℕ) → i < length ss → eqb (slot_at ss i).clause.irredundant 0 ≡ false → irredundant_length (live (drop i ss)) ≡ length (literals_at ss i) + irredundant_length (live (drop (i + 1) ss))
+lengths_there ss i l n =
+    ap (λ xs. irredundant_length (live xs)) (drop_more ss i (unstored 0 0 []) l)
+    ∙ ap (λ b. irredundant_length (cond (b && eqb (slot_at ss i).clause.redundant 0) [] ((slot_at ss i).clause ∷ []) ++ live (drop (i + 1) ss))) n
+    ∙ ap (λ b. cond b 0 (length (literals_at ss i)) + irredundant_length (live (drop (i + 1) ss))) n
 
 pub left_fewer : (ss : List Slot) (i : ℕ) → i < length ss → live_length (drop (i + 1) ss) ≤ live_length (drop i ss)
 left_fewer ss i l =

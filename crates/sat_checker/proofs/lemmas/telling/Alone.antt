@@ -70,7 +70,7 @@ module _ {V L : Type 0} (Hears : L → Told → Result Unit ProcessingError → 
     breaks_down e ts c steps f = record { fails = fails_down c steps f.fails; heard = since_down_to e before ts (hearers nobody begun) c.listeners f.heard }
 
     breaks_at_down : (e : ProcessingError) (c : Seen (Hearers V L)) (step : Step) (steps : List Step) → BreaksAt (HearsFirst takes_all Hears) before (hearers nobody begun) e c step steps → BreaksAt Hears before begun e (others_of c) step steps
-    breaks_at_down e c step steps f = elim f [ inl b ↦ inl (breaks_down e _ c steps b) | inr b ↦ inr (b.0, breaks_down e _ c steps b.1) ]
+    breaks_at_down e c step steps f = elim f [ inl b ↦ inl (breaks_down e _ c steps b) | inr b ↦ inr (b.0, breaks_down e _ c (step ∷ steps) b.1) ]
 
     same_down : (c d : Seen (Hearers V L)) → d ≡ c → others_of d ≡ others_of c
     same_down c d e = ap (λ (x : Seen (Hearers V L)). others_of x) e

@@ -103,9 +103,9 @@ module _ {L : Type 0} (Hears : L → Told → Result Unit ProcessingError → L 
       by_now (Some conflict) steps h = h
       by_now None steps h = more (told_after steps) _ h
 
-      pub judged_quietly : (old new : Kernel) (r : Result Unit CheckerError) (step : Step) (steps : List Step) → kernels.has_failed old ≡ false → ((cause : Error) → r ≡ Err (errors.ProofProcessorError cause) → ⊥)
+      pub judged_quietly : (old new : Kernel) (r : Result Unit CheckerError) (step : Step) (steps : List Step) → kernels.has_failed old ≡ false → ((cause : Error) → r ≡ Err (errors.ProofProcessorError cause) → ⊥) → (r ≡ Err errors.OutOfMemory → kernels.Fails new steps)
           → kernels.AnswersStep r old step new steps → Stands Hears before begun (seen old l) steps → AnswersStep Hears before begun r (seen old l) step (seen new l) steps
-      judged_quietly old new (Ok x) step steps h n a s = (
+      judged_quietly old new (Ok x) step steps h n w a s = (
         a.0,
         record {
           accepts = a.1.accepts;
@@ -113,14 +113,14 @@ module _ {L : Type 0} (Hears : L → Told → Result Unit ProcessingError → L 
           goes_on = a.1.goes_on;
         },
       )
-      judged_quietly old new (Err errors.CheckFailed) step steps h n a s = (a.0, a.1, record { fails = failing before begun (seen new l) steps a.2; heard = settled_too old.state.formula.status.conflict steps (s.heard h) })
-      judged_quietly old new (Err errors.CounterEnd) step steps h n a s = (a.0, a.1, record { fails = failing before begun (seen new l) steps a.2; heard = inr (settled_too old.state.formula.status.conflict steps (s.heard h)) })
-      judged_quietly old new (Err errors.OutOfMemory) step steps h n a s = (a.0, inl (record { fails = failing before begun (seen new l) steps a.1; heard = inr (settled_too old.state.formula.status.conflict steps (s.heard h)) }))
-      judged_quietly old new (Err errors.HasFailed) step steps h n a s = absurd (true≢false (sym a.0 ∙ h))
-      judged_quietly old new (Err (errors.ProofProcessorError cause)) step steps h n a s = absurd (n cause refl)
-      judged_quietly old new (Err errors.ProofIncomplete) step steps h n a s = absurd a
-      judged_quietly old new (Err errors.IoError) step steps h n a s = absurd a
-      judged_quietly old new (Err errors.ParseError) step steps h n a s = absurd a
+      judged_quietly old new (Err errors.CheckFailed) step steps h n w a s = (a.0, a.1, record { fails = failing before begun (seen new l) steps a.2; heard = settled_too old.state.formula.status.conflict steps (s.heard h) })
+      judged_quietly old new (Err errors.CounterEnd) step steps h n w a s = (a.0, a.1, record { fails = failing before begun (seen new l) steps a.2; heard = inr (settled_too old.state.formula.status.conflict steps (s.heard h)) })
+      judged_quietly old new (Err errors.OutOfMemory) step steps h n w a s = (a.0, inl (record { fails = failing before begun (seen new l) steps (w refl); heard = inr (settled_too old.state.formula.status.conflict steps (s.heard h)) }))
+      judged_quietly old new (Err errors.HasFailed) step steps h n w a s = absurd (true≢false (sym a.0 ∙ h))
+      judged_quietly old new (Err (errors.ProofProcessorError cause)) step steps h n w a s = absurd (n cause refl)
+      judged_quietly old new (Err errors.ProofIncomplete) step steps h n w a s = absurd a
+      judged_quietly old new (Err errors.IoError) step steps h n w a s = absurd a
+      judged_quietly old new (Err errors.ParseError) step steps h n w a s = absurd a
 
 -- NOBODY IS THERE
 

@@ -6,7 +6,7 @@ use Rattle.std.proofs.lemmas.List.{append-nil}
 use Rattle.sat_base.specs.steps.Steps.{Step, SolverVarName, UserVarName, DeleteVar, ChangeSamplingMode, AddClause, UnitClauses, DeleteClause, ChangeHashBits, Model, Assumptions, FailedAssumptions, End}
 use Rattle.sat_base.specs.steps.Steps as kinds
 use Rattle.sat_checker.specs.Stored.{Stored, Variable}
-use Rattle.sat_checker.specs.Spent.{IsSpent}
+use Rattle.sat_checker.specs.Spent.{IsSpent, SpentBy}
 use Rattle.sat_checker.specs.Storing.{settled}
 use Rattle.sat_checker.specs.Accepts.{Accepts, effect, stored_after, ready_after}
 use Rattle.sat_checker.specs.KernelView as kernels
@@ -14,7 +14,7 @@ use Rattle.sat_checker.specs.KernelView.{KeepsAfter, records_of}
 use Rattle.sat_checker.specs.CheckerView.{Seen, seen, has_failed, Fails, AnswersStep, AnswersDelayed}
 use Rattle.sat_checker.specs.announcements.Announcements.{Announcement, AtClause, Told, announced, delayed, delayed_by, told_over, told_after, all_told_after}
 use Rattle.sat_checker.specs.inner.FormulaView.{KeepsFormula, Standing, Turns, TurnsIf}
-use Rattle.sat_checker.specs.inner.StateView.{Keeps, SpentBy, Answers}
+use Rattle.sat_checker.specs.inner.StateView.{Keeps, Answers}
 use Rattle.sat_checker.specs.inner.TellingSteps.{announced_by, changed_by, put_back, failure_of, fault_of, records_in, TakesIn}
 use Rattle.sat_checker.specs.inner.VariablesView.{variable_at}
 use Rattle.sat_checker.specs.telling.Hearing.{SameTold, HearsSame, HearsAll, HearsUpTo, HearsSince, HearsSinceUpTo, told_by}
@@ -231,7 +231,7 @@ module _ (old : Kernel) (steps : List Step) (s : kernels.Stands old steps) (well
 
   pub judged_short : (new : Kernel) (error : StoreError) → Answers (Err error) (Accepts (settled (s.kept well).formula) step) (Keeps new.state (effect step (settled (s.kept well).formula))) (SpentBy step (s.kept well).formula)
       → new.records ≡ old.records → kernels.has_failed new ≡ true → kernels.AnswersStep (Err (failure_of error)) old step new steps
-  judged_short new stores.OutOfMemory h r f = (well, judged_fails new r f)
+  judged_short new stores.OutOfMemory h r f = (well, inl (judged_fails new r f))
   judged_short new stores.CounterEnd h r f =
       (well, subst (λ g. IsSpent g ⊎ IsSpent (effect step g)) (ready_of old.state steps (s.kept well)) h, judged_fails new r f)
 
@@ -241,14 +241,14 @@ module _ (old : Kernel) (steps : List Step) (s : kernels.Stands old steps) (well
   -- it couldn't be stored
   pub short_judges : (new : Kernel) (error : StoreError) → TurnsIf (Err error) (Accepts (ready_after steps) step) (Keeps new.state (effect step (ready_after steps))) (effect step (ready_after steps)) → new.records ≡ old.records → kernels.has_failed new ≡ true
       → kernels.AnswersStep (Err (failure_of error)) old step new steps
-  short_judges new stores.OutOfMemory h r f = (well, step_fails old steps s well none step new r f)
+  short_judges new stores.OutOfMemory h r f = (well, inl (step_fails old steps s well none step new r f))
   short_judges new stores.CounterEnd h r f = (well, inr h, step_fails old steps s well none step new r f)
 
   -- it was refused
   pub refused_judges : (new : Kernel) → (Accepts (ready_after steps) step → ⊥) → new.records ≡ old.records → kernels.has_failed new ≡ true → kernels.AnswersStep (Err errors.CheckFailed) old step new steps
   refused_judges new h r f = (well, h, step_fails old steps s well none step new r f)
 
-  module _ {L : Type 0} (Hears : L → Told → Result Unit ProcessingError → L → Type 0) (told : List Told) (mid : Kernel) (l : L) (same : mid.records ≡ old.records) (accepts : Accepts (ready_after steps) step) (k : Keeps mid.state (effect step (ready_after steps))) where
+  module _ {L : Type 0} (Hears : L → Told → Result Unit ProcessingError → L → Type 0) (told : List Told) (mid : Kernel) (l : L) (accepts : Accepts (ready_after steps) step) (k : Keeps mid.state (effect step (ready_after steps))) where
     pub taken_judges : (new : Kernel) (m : L) (r : Result Unit CheckerError) → TakesIn Hears told r (seen mid l) (seen new m) → kernels.AnswersStep r old step new steps
     taken_judges new m (Ok x) t = (
       well,
@@ -256,9 +256,12 @@ module _ (old : Kernel) (steps : List Step) (s : kernels.Stands old steps) (well
     )
     taken_judges new m (Err e) t = subst (λ z. kernels.AnswersStep (Err z) old step new steps) (sym t.1.3) (go t.1.2)
       where
+        fails : kernels.Fails new (step ∷ steps)
+        fails = record { stands = step_stands old steps s well none step new accepts (subst (λ z. Keeps z (effect step (ready_after steps))) (sym t.0.state) k) t.1.1; failed = t.1.0 }
+
         go : (f : ProcessingError) → kernels.AnswersStep (Err (fault_of f)) old step new steps
-        go faults.OutOfMemory = (well, step_fails old steps s well none step new (t.1.1 ∙ same) t.1.0)
-        go (faults.ProofProcessorError cause) = (well, step_fails old steps s well none step new (t.1.1 ∙ same) t.1.0)
+        go faults.OutOfMemory = (well, inr (accepts, fails))
+        go (faults.ProofProcessorError cause) = (well, inr (accepts, fails))
 
   module _ {L : Type 0} (Hears : L → Told → Result Unit ProcessingError → L → Type 0) (before : List Told) (begun l : L) (heard : HearsSince Hears before (told_by old.state.formula.status.conflict steps) begun l) where
     before_it : HearsSince Hears before (all_told_after steps) begun l
@@ -275,7 +278,7 @@ module _ (old : Kernel) (steps : List Step) (s : kernels.Stands old steps) (well
     pub refused_tells : (new : Kernel) → (Accepts (ready_after steps) step → ⊥) → new.records ≡ old.records → kernels.has_failed new ≡ true → AnswersStep Hears before begun (Err errors.CheckFailed) (seen old l) step (seen new l) steps
     refused_tells new h r f = (well, h, record { fails = failed_with new l r f; heard = before_it })
 
-    module _ (mid : Kernel) (same : mid.records ≡ old.records) (accepts : Accepts (ready_after steps) step) (k : Keeps mid.state (effect step (ready_after steps))) (news : List Announcement) (noted : news ≡ announced (ready_after steps) step) (was : Option (ℕ × Variable)) (put : was ≡ changed_by (variable_at old.state.variables) step) where
+    module _ (mid : Kernel) (accepts : Accepts (ready_after steps) step) (k : Keeps mid.state (effect step (ready_after steps))) (news : List Announcement) (noted : news ≡ announced (ready_after steps) step) (was : Option (ℕ × Variable)) (put : was ≡ changed_by (variable_at old.state.variables) step) where
       abbrev told : List Told
       told = announced_by (put_back was (variable_at mid.state.variables)) news
 
@@ -293,9 +296,12 @@ module _ (old : Kernel) (steps : List Step) (s : kernels.Stands old steps) (well
       )
       taken_tells new m (Err e) t = subst (λ z. AnswersStep Hears before begun (Err z) (seen old l) step (seen new m) steps) (sym t.1.3) (go t.1.2 t.1.4)
         where
+          fails : Fails Hears before begun (seen new m) (step ∷ steps)
+          fails = failing Hears before begun (seen new m) (step ∷ steps) (record { stands = step_stands old steps s well none step new accepts (subst (λ z. Keeps z (effect step (ready_after steps))) (sym t.0.state) k) t.1.1; failed = t.1.0 })
+
           go : (f : ProcessingError) → HearsUpTo Hears f told l m → AnswersStep Hears before begun (Err (fault_of f)) (seen old l) step (seen new m) steps
-          go faults.OutOfMemory u = (well, inr (inr (accepts, record { fails = failed_with new m (t.1.1 ∙ same) t.1.0; heard = step_broken old steps s well none step Hears before begun l heard mid k news noted was put faults.OutOfMemory m u })))
-          go (faults.ProofProcessorError cause) u = (well, inr (accepts, record { fails = failed_with new m (t.1.1 ∙ same) t.1.0; heard = step_broken old steps s well none step Hears before begun l heard mid k news noted was put (faults.ProofProcessorError cause) m u }))
+          go faults.OutOfMemory u = (well, inr (inr (accepts, record { fails = fails; heard = step_broken old steps s well none step Hears before begun l heard mid k news noted was put faults.OutOfMemory m u })))
+          go (faults.ProofProcessorError cause) u = (well, inr (accepts, record { fails = fails; heard = step_broken old steps s well none step Hears before begun l heard mid k news noted was put (faults.ProofProcessorError cause) m u }))
 
 -- an answer that is no error
 pub turned : (r : Result Unit StoreError) (K : Type 0) (g : Stored) → is_err r ≡ false → Turns r K g → K
@@ -350,8 +356,8 @@ module _ {L : Type 0} (Hears : L → Told → Result Unit ProcessingError → L 
 module _ (steps : List Step) (step : Step) where
   pub stops_judges : (old new : Kernel) (e : CheckerError) → kernels.AnswersDelayed (Err e) old new steps → kernels.AnswersStep (Err e) old step new steps
   stops_judges old new errors.CounterEnd a = (a.0, inl a.2, a.3)
-  stops_judges old new errors.OutOfMemory a = (a.0, a.2)
-  stops_judges old new (errors.ProofProcessorError cause) a = (a.0, a.2)
+  stops_judges old new errors.OutOfMemory a = (a.0, inl a.2)
+  stops_judges old new (errors.ProofProcessorError cause) a = (a.0, inl a.2)
   stops_judges old new errors.HasFailed a = a
   stops_judges old new errors.CheckFailed a = absurd a
   stops_judges old new errors.ProofIncomplete a = absurd a

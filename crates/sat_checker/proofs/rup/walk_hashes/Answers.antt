@@ -1,9 +1,11 @@
-use Rattle.std.proofs.Common.{length, get_or, map, sym, ap, ◌∙◌}
+use Rattle.std.proofs.Common.{length, get_or, map, sym, ap, ◌∙◌, arith}
 use Rattle.std.proofs.lemmas.List.{drop_all}
 use Rattle.sat_checker.specs.inner.SlotView.{bucket_of}
 use Rattle.sat_checker.specs.inner.Walk.{walk_buckets}
+use Rattle.sat_checker.specs.inner.Reasons.{named}
 use Rattle.sat_checker.proofs.lemmas.propagation.Walking.{Extends-further, buckets-open, buckets-conflict, buckets-empty}
 use Rattle.sat_checker.proofs.lemmas.store.Buckets.{walked_more, walked_within, walked_all}
+use Rattle.sat_checker.proofs.lemmas.announcements.Noting.{leads_hash, ends_hash}
 use Rattle.sat_checker.proofs.rup.walk_hashes.Goals as goal
 
 pub returns-in_err-walk_bucket-clause-looks : goal.returns-in_err-walk_bucket-clause-looks
@@ -16,6 +18,11 @@ returns-in-Conflict-clause-looks c =
     walked_within c.args.looks.now c.loop-hash.looks c.walk_bucket.new.looks c.loop-hash.hash-index (length c.args.hashes.now) (get_or c.args.hashes.now c.loop-hash.hash-index 0) c.args.clauses.now
     c.loop-hash.invariant.looks c.walk_bucket.ensures.looks c.loop-hash-test.true
 
+pub returns-in-Conflict-clause-noted : goal.returns-in-Conflict-clause-noted
+returns-in-Conflict-clause-noted c = λ _.
+    ends_hash c.args.clauses.now c.args.passed.now c.loop-hash.passed c.walk_bucket.new.passed c.args.assigned.now c.loop-hash.assigned c.walk_bucket.new.assigned c.args.hashes.now c.loop-hash.hash-index c.loop-hash-test.true
+    (named c.args.hashes.now c.args.clauses.now) c.loop-hash.invariant.leads (rw c.in-Conflict.is at c.in_ok-walk_bucket.ensures.noted)
+
 pub loop-hash-preserved : goal.loop-hash-preserved
 loop-hash-preserved c =
     let says = rw c.in-Open.is at c.in_ok-walk_bucket.ensures.says in
@@ -24,6 +31,10 @@ loop-hash-preserved c =
       extends = Extends-further c.args.assigned.now c.loop-hash.assigned c.walk_bucket.new.assigned c.loop-hash.invariant.extends c.walk_bucket.ensures.extends;
       looks = walked_more c.args.looks.now c.loop-hash.looks c.walk_bucket.new.looks c.loop-hash.hash-index (get_or c.args.hashes.now c.loop-hash.hash-index 0) c.args.clauses.now
           c.loop-hash.invariant.looks c.walk_bucket.ensures.looks;
+      leads = leads_hash c.args.clauses.now c.args.passed.now c.loop-hash.passed c.walk_bucket.new.passed c.args.assigned.now c.loop-hash.assigned c.walk_bucket.new.assigned c.args.hashes.now c.loop-hash.hash-index c.loop-hash-test.true
+          (named c.args.hashes.now c.args.clauses.now) c.loop-hash.invariant.leads (rw c.in-Open.is at c.in_ok-walk_bucket.ensures.noted);
+      read = omega (arith, c.loop-hash.invariant.read, c.in_ok-walk_bucket.ensures.read);
+      rise = omega (arith, c.loop-hash.invariant.rise, c.walk_bucket.ensures.rise);
     }
 
 pub returns-in_err-walk_bucket-clause-extends : goal.returns-in_err-walk_bucket-clause-extends

@@ -21,3 +21,12 @@ returns-then-not-may_add-clause-looks g c = λ steps s. omega arith
 
 pub returns-clause-looks : goal.returns-clause-looks
 returns-clause-looks g c = c.check_step.ensures.looks
+
+pub returns-then-self-clause-rise : goal.returns-then-self-clause-rise
+returns-then-self-clause-rise g c = omega arith
+
+pub returns-then-not-may_add-clause-rise : goal.returns-then-not-may_add-clause-rise
+returns-then-not-may_add-clause-rise g c = omega arith
+
+pub returns-clause-rise : goal.returns-clause-rise
+returns-clause-rise g c = c.check_step.ensures.rise

@@ -7,3 +7,6 @@ use Rattle.sat_checker.proofs.checker.Checker.check_step.Goals as goal
 pub returns-clause-tells : goal.returns-clause-tells
 returns-clause-tells g c = λ before begun steps s.
     step_down (HearsEach g.P.ProofProcessor.takes g.T.ProofTranscriptProcessor.reads) _ before begun c.check_step.result _ (step_of c.args.step.now) _ steps (c.check_step.ensures.tells before (hearers _ begun) steps (stands_up (HearsEach g.P.ProofProcessor.takes g.T.ProofTranscriptProcessor.reads) _ before begun c.args.self.now.kernel c.args.self.now.processing steps s))
+
+pub returns-clause-rise : goal.returns-clause-rise
+returns-clause-rise g c = c.check_step.ensures.rise

@@ -25,6 +25,7 @@ loop-place-init c =
       found = ap (found_among c.args.self.now c.args.literals.now) b.all
           ∙ found_behind c.args.self.now c.args.literals.now c.in-Some.bucket.now.first c.deref-place-items.result.now (sym c.is_same.ensures.same ∙ c.if-is_same.false);
       looks = looks_first c.args.hash c.args.self.now c.in-Some.bucket.now.first c.deref-place-items.result.now b c.args.looks.now c.is_same.new.looks c.is_same.ensures.looks;
+      rise = omega (arith, c.is_same.ensures.looks);
     }
 
 pub loop-place-preserved : goal.loop-place-preserved
@@ -33,6 +34,7 @@ loop-place-preserved c = record {
       ∙ found_later c.args.self.now c.args.literals.now c.deref-place-items.result.now c.loop-place.place-index c.loop-place-test.true (sym c.is_same-in-loop-place.ensures.same ∙ c.if-is_same-2.false);
   looks = looks_more (literals_at c.args.self.now) c.deref-place-items.result.now c.loop-place.place-index c.loop-place-test.true _ c.loop-place.looks c.is_same-in-loop-place.new.looks
       c.loop-place.invariant.looks c.is_same-in-loop-place.ensures.looks;
+  rise = omega (arith, c.loop-place.invariant.rise, c.is_same-in-loop-place.ensures.looks);
 }
 
 pub returns-then-is_same-2-clause-found : goal.returns-then-is_same-2-clause-found

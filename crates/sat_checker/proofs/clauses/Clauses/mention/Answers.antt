@@ -1,14 +1,15 @@
-use Rattle.std.proofs.Common.{◌≡◌, ◌+◌, ◌<◌, ◌≤◌, ◌∙◌, length, refl, sym, ap, subst, arith}
+use Rattle.std.proofs.Common.{◌≡◌, drop, ◌+◌, ◌<◌, ◌≤◌, ◌∙◌, length, refl, sym, ap, subst, arith}
 use Rattle.std.specs.List.{list_any}
+use Rattle.std.proofs.lemmas.Bool.{true≢false}
 use Rattle.std.proofs.lemmas.List.{drop_all}
 use Rattle.sat_checker.specs.LiteralSets.{mentions}
-use Rattle.sat_checker.specs.inner.SlotView.{slot_at, literals_at, is_gone, live}
+use Rattle.sat_checker.specs.inner.SlotView.{slot_at, literals_at, is_gone, live, live_length}
 use Rattle.sat_checker.proofs.lemmas.propagation.Walking.{looks_over}
 use Rattle.sat_checker.proofs.lemmas.store.Rehashing.{any_gone, any_here, any_later, left_gone, left_there}
 use Rattle.sat_checker.proofs.clauses.Clauses.mention.Goals as goal
 
 pub loop-place-init : goal.loop-place-init
-loop-place-init c = record { found = refl; looks = refl }
+loop-place-init c = record { found = refl; looks = refl; rise = omega arith }
 
 pub is_gone-requires : goal.is_gone-requires
 is_gone-requires c = omega (arith, c.len-place-end.ensures.count)
@@ -23,6 +24,7 @@ loop-place-preserved-then-is_gone c =
     record {
       found = c.loop-place.invariant.found ∙ any_gone _ c.args.self.now c.loop-place.place inside state;
       looks = ap (λ n. c.loop-place.looks + n) (sym (left_gone c.args.self.now c.loop-place.place inside state)) ∙ c.loop-place.invariant.looks;
+      rise = c.loop-place.invariant.rise;
     }
 
 pub loop-place-preserved : goal.loop-place-preserved
@@ -36,6 +38,7 @@ loop-place-preserved c =
     record {
       found = c.loop-place.invariant.found ∙ any_later _ c.args.self.now c.loop-place.place inside state met;
       looks = omega (arith, left, count, c.literals.ensures.looks, c.loop-place.invariant.looks);
+      rise = omega (arith, c.literals.ensures.looks, c.loop-place.invariant.rise);
     }
 
 pub returns-then-mentions-clause-found : goal.returns-then-mentions-clause-found
@@ -61,3 +64,12 @@ returns-clause-found c =
 
 pub returns-clause-looks : goal.returns-clause-looks
 returns-clause-looks c = looks_over _ c.loop-place.looks _ c.loop-place.invariant.looks
+
+pub returns-then-mentions-clause-all : goal.returns-then-mentions-clause-all
+returns-then-mentions-clause-all c = λ e. absurd (true≢false e)
+
+pub returns-clause-all : goal.returns-clause-all
+returns-clause-all c = λ _.
+    let over : length c.args.self.now ≤ c.loop-place.place = subst (λ ss. length ss ≤ c.loop-place.place) c.self.view_is (omega (arith, c.len-place-end.ensures.count)) in
+    let none : live_length (drop c.loop-place.place c.args.self.now) ≡ 0 = ap live_length (drop_all c.loop-place.place c.args.self.now over) in
+    omega (arith, none, c.loop-place.invariant.looks)

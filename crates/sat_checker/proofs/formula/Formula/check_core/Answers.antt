@@ -8,6 +8,9 @@ use Rattle.sat_checker.specs.announcements.Announcements.{FailedAssumptions}
 use Rattle.sat_checker.specs.announcements.Needed.{propagations}
 use Rattle.sat_checker.proofs.formula.Formula.check_core.Goals as goal
 
+as_much : (a : ℕ) → a ≤ a
+as_much a = omega arith
+
 no_less : (a b : ℕ) → a ≤ a + b
 no_less a b = omega arith
 
@@ -17,6 +20,7 @@ returns-in_err-copy_negated c = record {
   kept = λ f k. k;
   noted = IfOk-from_err c.from_residual.result _ c.from_residual.ensures.0;
   looks = λ f k. no_less c.args.looks.now _;
+  rise = as_much c.args.looks.now;
 }
 
 pub returns-in_err-copy_canonical : goal.returns-in_err-copy_canonical
@@ -25,13 +29,14 @@ returns-in_err-copy_canonical c = record {
   kept = λ f k. k;
   noted = IfOk-from_err c.from_residual-in_err-copy_canonical.result _ c.from_residual-in_err-copy_canonical.ensures.0;
   looks = λ f k. no_less c.args.looks.now _;
+  rise = as_much c.args.looks.now;
 }
 
 pub check_noted-requires : goal.check_noted-requires
 check_noted-requires c = c.deref-3.ensures.value ∙ c.in_ok-copy_canonical.ensures.set ∙ ap canonical (c.deref.ensures.value ∙ sym c.deref-2.ensures.value)
 
 pub returns-in-Err : goal.returns-in-Err
-returns-in-Err c = record { exact = tt; kept = c.check_noted.ensures.kept; noted = tt; looks = c.check_noted.ensures.looks }
+returns-in-Err c = record { exact = tt; kept = c.check_noted.ensures.kept; noted = tt; looks = c.check_noted.ensures.looks; rise = c.check_noted.ensures.rise }
 
 pub returns-in-Ok-false : goal.returns-in-Ok-false
 returns-in-Ok-false c = record {
@@ -41,6 +46,7 @@ returns-in-Ok-false c = record {
   kept = c.check_noted.ensures.kept;
   noted = λ t. absurd (true≢false (sym t));
   looks = c.check_noted.ensures.looks;
+  rise = c.check_noted.ensures.rise;
 }
 
 pub returns-in_err-copy_canonical-2 : goal.returns-in_err-copy_canonical-2
@@ -49,10 +55,11 @@ returns-in_err-copy_canonical-2 c = record {
   kept = c.check_noted.ensures.kept;
   noted = IfOk-from_err c.from_residual-in_err-copy_canonical-2.result _ c.from_residual-in_err-copy_canonical-2.ensures.0;
   looks = c.check_noted.ensures.looks;
+  rise = c.check_noted.ensures.rise;
 }
 
 pub returns-in-Err-failed_assumptions : goal.returns-in-Err-failed_assumptions
-returns-in-Err-failed_assumptions c = record { exact = tt; kept = c.check_noted.ensures.kept; noted = tt; looks = c.check_noted.ensures.looks }
+returns-in-Err-failed_assumptions c = record { exact = tt; kept = c.check_noted.ensures.kept; noted = tt; looks = c.check_noted.ensures.looks; rise = c.check_noted.ensures.rise }
 
 pub returns-in-Ok : goal.returns-in-Ok
 returns-in-Ok c = record {
@@ -66,4 +73,5 @@ returns-in-Ok c = record {
       c.in-Ok.ensures.ok ∙ ap (λ ls. c.args.notes.now.news ++ FailedAssumptions ls c.ids.result.now ∷ []) (c.deref-4.ensures.value ∙ c.in_ok-copy_canonical-2.ensures.set)
       ∙ ap (λ ids. c.args.notes.now.news ++ FailedAssumptions (canonical c.args.core.now) ids ∷ []) listed;
   looks = c.check_noted.ensures.looks;
+  rise = c.check_noted.ensures.rise;
 }

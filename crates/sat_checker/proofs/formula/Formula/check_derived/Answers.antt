@@ -1,4 +1,4 @@
-use Rattle.std.proofs.Common.{IsTrue, ◌↔◌, ◌∙◌, ap, subst, sym, length}
+use Rattle.std.proofs.Common.{ℕ, ◌≤◌, arith, IsTrue, ◌↔◌, ◌∙◌, ap, subst, sym, length}
 use Rattle.std.proofs.lemmas.Bool.{true≢false}
 use Rattle.std.proofs.lemmas.Result.{IfOk-from_err}
 use Rattle.sat_checker.specs.Accepts.{Passes}
@@ -7,12 +7,19 @@ use Rattle.sat_checker.specs.inner.FormulaView.{Standing}
 use Rattle.sat_checker.proofs.lemmas.telling.Noting.{derived_noted, looks_before, looks_checked, looks_changed}
 use Rattle.sat_checker.proofs.formula.Formula.check_derived.Goals as goal
 
+as_much : (a : ℕ) → a ≤ a
+as_much a = omega arith
+
+rises : (a b c : ℕ) → a ≤ b → b ≤ c → a ≤ c
+rises a b c h k = omega arith
+
 pub returns-in_err-both_signs : goal.returns-in_err-both_signs
 returns-in_err-both_signs c = record {
   exact = IfOk-from_err c.from_residual.result _ c.from_residual.ensures.0;
   kept = λ f k. k;
   noted = IfOk-from_err c.from_residual.result _ c.from_residual.ensures.0;
   looks = λ f k. looks_before c.args.looks.now (length c.args.hashes.now) (literal_count f);
+  rise = rises c.args.looks.now c.args.looks.now c.args.looks.now (as_much c.args.looks.now) (as_much c.args.looks.now);
 }
 
 pub check_noted-requires : goal.check_noted-requires
@@ -24,6 +31,7 @@ returns-in-Err c = record {
   kept = c.check_noted.ensures.kept;
   noted = tt;
   looks = λ f k. looks_checked c.args.looks.now c.check_noted.new.looks (length c.args.hashes.now) (literal_count f) (c.check_noted.ensures.looks f k);
+  rise = c.check_noted.ensures.rise;
 }
 
 pub returns-in-Ok-false : goal.returns-in-Ok-false
@@ -32,6 +40,7 @@ returns-in-Ok-false c = record {
   kept = c.check_noted.ensures.kept;
   noted = λ t. absurd (true≢false (sym t));
   looks = λ f k. looks_checked c.args.looks.now c.check_noted.new.looks (length c.args.hashes.now) (literal_count f) (c.check_noted.ensures.looks f k);
+  rise = c.check_noted.ensures.rise;
 }
 
 pub returns-in-Err-derived : goal.returns-in-Err-derived
@@ -41,6 +50,7 @@ returns-in-Err-derived c = record {
   noted = tt;
   looks = λ f k.
       looks_changed c.args.looks.now c.check_noted.new.looks c.clause_change-change.new.looks (length c.args.hashes.now) (literal_count f) (c.check_noted.ensures.looks f k) (c.clause_change-change.ensures.looks f (c.check_noted.ensures.kept f k));
+  rise = rises c.args.looks.now c.check_noted.new.looks c.clause_change-change.new.looks c.check_noted.ensures.rise c.clause_change-change.ensures.rise;
 }
 
 pub returns-in-Ok : goal.returns-in-Ok
@@ -54,4 +64,5 @@ returns-in-Ok c = record {
       (c.ids.ensures ∙ c.in-Ok-true.ensures.listed c.in-Ok-true.field-0-test f k k.numbered.of_units.increasing);
   looks = λ f k.
       looks_changed c.args.looks.now c.check_noted.new.looks c.clause_change-change.new.looks (length c.args.hashes.now) (literal_count f) (c.check_noted.ensures.looks f k) (c.clause_change-change.ensures.looks f (c.check_noted.ensures.kept f k));
+  rise = rises c.args.looks.now c.check_noted.new.looks c.clause_change-change.new.looks c.check_noted.ensures.rise c.clause_change-change.ensures.rise;
 }

@@ -6,7 +6,7 @@ use Rattle.sat_checker.proofs.lemmas.telling.Noting.{derived_noted}
 use Rattle.sat_checker.proofs.formula.Formula.check_unit.Goals as goal
 
 pub returns-in-Err : goal.returns-in-Err
-returns-in-Err c = record { exact = tt; kept = c.check_noted.ensures.kept; noted = tt; looks = c.check_noted.ensures.looks }
+returns-in-Err c = record { exact = tt; kept = c.check_noted.ensures.kept; noted = tt; looks = c.check_noted.ensures.looks; rise = c.check_noted.ensures.rise }
 
 pub returns-in-Ok-false : goal.returns-in-Ok-false
 returns-in-Ok-false c = record {
@@ -14,10 +14,11 @@ returns-in-Ok-false c = record {
   kept = c.check_noted.ensures.kept;
   noted = λ t. absurd (true≢false (sym t));
   looks = c.check_noted.ensures.looks;
+  rise = c.check_noted.ensures.rise;
 }
 
 pub returns-in-Err-derived : goal.returns-in-Err-derived
-returns-in-Err-derived c = record { exact = tt; kept = c.check_noted.ensures.kept; noted = tt; looks = c.check_noted.ensures.looks }
+returns-in-Err-derived c = record { exact = tt; kept = c.check_noted.ensures.kept; noted = tt; looks = c.check_noted.ensures.looks; rise = c.check_noted.ensures.rise }
 
 pub returns-in-Ok : goal.returns-in-Ok
 returns-in-Ok c = record {
@@ -29,4 +30,5 @@ returns-in-Ok c = record {
       c.in-Ok.ensures.ok (ap (λ (s : Standing). s.next_id) kept.status) (c.unit_change-change.ensures f kept long c.ids.result.now) refl refl
       (c.ids.ensures ∙ c.in-Ok-true.ensures.listed c.in-Ok-true.field-0-test f k k.numbered.of_units.increasing);
   looks = c.check_noted.ensures.looks;
+  rise = c.check_noted.ensures.rise;
 }

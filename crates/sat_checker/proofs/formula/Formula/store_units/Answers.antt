@@ -39,6 +39,7 @@ loop-unit-preserved c = record {
       let left = c.loop-unit.invariant.left f k in
       looks_then c.loop-unit.self f c.args.units.now c.loop-unit.unit-index c.unit-item.result c.loop-unit-test.true c.unit-item.is left c.args.looks.now c.loop-unit.looks c.store_checked.new.looks (c.loop-unit.invariant.looks f k)
       (c.store_checked.ensures.looks left.now left.kept);
+  rise = omega (arith, c.loop-unit.invariant.rise, c.store_checked.ensures.rise);
 }
 
 pub returns-clause-decides : goal.returns-clause-decides

@@ -10,4 +10,5 @@ abbrev pub invariant-loop-unit : goal.invariant-loop-unit
 invariant-loop-unit l = record {
   left : (f : Stored) → KeepsFormula l.fn.self f → Left l.self f l.units (drop l.unit-index l.units);
   looks : (f : Stored) → KeepsFormula l.fn.self f → l.looks ≤ l.fn.looks + l.unit-index * literal_count f;
+  rise : l.fn.looks ≤ l.looks;
 }

@@ -43,6 +43,7 @@ loop-unit-preserved c = record {
   looks = λ f k.
       let left = c.loop-unit.invariant.left f k in
       twice_then c.args.looks.now c.loop-unit.looks c.store_noted.new.looks c.loop-unit.unit-index (literal_count f) (literal_count left.now) left.count (c.loop-unit.invariant.looks f k) (c.store_noted.ensures.looks left.now left.kept);
+  rise = omega (arith, c.loop-unit.invariant.rise, c.store_noted.ensures.rise);
 }
 
 pub returns-clause-decides : goal.returns-clause-decides

@@ -13,4 +13,5 @@ invariant-loop-unit l = record {
   left : (f : Stored) → KeepsFormula l.fn.self f → Left l.self f l.units (drop l.unit-index l.units);
   noted : (f : Stored) → KeepsFormula l.fn.self f → AreLong f → Noted l.self f l.units (drop l.unit-index l.units) l.fn.notes.news l.notes.news;
   looks : (f : Stored) → KeepsFormula l.fn.self f → l.looks ≤ l.fn.looks + l.unit-index * (2 * literal_count f);
+  rise : l.fn.looks ≤ l.looks;
 }

@@ -1,4 +1,4 @@
-use Rattle.std.proofs.Common.{◌+◌, ◌≤◌, inl, refl, subst, rules, arith}
+use Rattle.std.proofs.Common.{ℕ, sym, ◌+◌, ◌≤◌, inl, refl, subst, rules, arith}
 use Rattle.sat_base.specs.steps.StepViews.{step_of}
 use Rattle.sat_checker.specs.Accepts.{ready_after}
 use Rattle.sat_checker.specs.KernelView.{looks_of}
@@ -14,7 +14,7 @@ pub returns-then-is_quiet-clause-tells : goal.returns-then-is_quiet-clause-tells
 returns-then-is_quiet-clause-tells g c = λ before begun steps s.
     let quiet = none_there g.P.ProofProcessor.takes g.T.ProofTranscriptProcessor.reads c.args.others.now (c.is_quiet.ensures (search rules)) in
     judged_quietly (HearsFirst g.O.ProofProcessor.takes (HearsEach g.P.ProofProcessor.takes g.T.ProofTranscriptProcessor.reads)) (hearers c.args.own.now c.args.others.now) (λ t. inl (c.requires (search rules) c.args.own.now t, quiet t)) before begun c.args.self.now c.judge.new.self c.judge.result (step_of c.args.step.now) steps c.if-self.false
-    (λ cause. c.judge.ensures.told cause) (c.judge.ensures.checks steps s.kernel) s
+    (λ cause. c.judge.ensures.told cause) (λ e. c.judge.ensures.short e steps s.kernel) (c.judge.ensures.checks steps s.kernel) s
 
 pub returns-in-Err-clause-tells : goal.returns-in-Err-clause-tells
 returns-in-Err-clause-tells g c = λ before begun steps s.
@@ -75,3 +75,18 @@ returns-in-Ok-clause-goes_on g c = c.step.ensures.goes_on
 
 pub returns-in-Err-clause-goes_on : goal.returns-in-Err-clause-goes_on
 returns-in-Err-clause-goes_on g c = tt
+
+as_much : (a : ℕ) → a ≤ a
+as_much a = omega arith
+
+pub returns-then-self-clause-rise : goal.returns-then-self-clause-rise
+returns-then-self-clause-rise g c = as_much (looks_of c.args.self.now)
+
+pub returns-then-is_quiet-clause-rise : goal.returns-then-is_quiet-clause-rise
+returns-then-is_quiet-clause-rise g c = c.judge.ensures.rise
+
+pub returns-in-Err-clause-rise : goal.returns-in-Err-clause-rise
+returns-in-Err-clause-rise g c = subst (λ n. looks_of c.args.self.now ≤ n) (sym c.settle.ensures.looks) (as_much (looks_of c.args.self.now))
+
+pub returns-in-Ok-clause-rise : goal.returns-in-Ok-clause-rise
+returns-in-Ok-clause-rise g c = subst (λ n. n ≤ looks_of c.step.new.self) c.settle.ensures.looks c.step.ensures.rise

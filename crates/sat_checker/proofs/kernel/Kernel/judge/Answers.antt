@@ -55,3 +55,21 @@ returns-in-Ok-false-clause-checks c = λ steps s.
       subst (λ z. Accepts z (step_of c.args.step.now) → ⊥) (ready_of c.args.self.now.state steps k) (match_false c.in-Ok-false.field-0 _ _ (c.in-Ok-false.ensures.judges k.formula k.keeps) c.in-Ok-false.field-0-test),
       judged_fails c.args.self.now steps s c.requires (step_of c.args.step.now) _ refl refl,
     )
+
+pub returns-in-Ok-true-clause-rise : goal.returns-in-Ok-true-clause-rise
+returns-in-Ok-true-clause-rise c = c.check_step.ensures.rise
+
+pub returns-in-Ok-false-clause-rise : goal.returns-in-Ok-false-clause-rise
+returns-in-Ok-false-clause-rise c = c.check_step.ensures.rise
+
+pub returns-in-Err-clause-rise : goal.returns-in-Err-clause-rise
+returns-in-Err-clause-rise c = c.check_step.ensures.rise
+
+pub returns-in-Ok-true-clause-short : goal.returns-in-Ok-true-clause-short
+returns-in-Ok-true-clause-short c = λ e. absurd cc
+
+pub returns-in-Ok-false-clause-short : goal.returns-in-Ok-false-clause-short
+returns-in-Ok-false-clause-short c = λ e. absurd cc
+
+pub returns-in-Err-clause-short : goal.returns-in-Err-clause-short
+returns-in-Err-clause-short c = λ e steps s. judged_fails c.args.self.now steps s c.requires (step_of c.args.step.now) _ refl refl

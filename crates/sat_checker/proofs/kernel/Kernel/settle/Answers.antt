@@ -53,3 +53,15 @@ returns-in-Ok-clause-judges g c = λ steps s.
 
 pub returns-in-Err-clause-judges : goal.returns-in-Err-clause-judges
 returns-in-Err-clause-judges g c = λ steps s. rw c.fault.ensures (untold_judges c.args.self.now steps s c.requires c.in-Some.stored c.in-Some.contradicting c.in-Some.is _ refl refl refl c.in-Err.error)
+
+pub returns-in-Err-clause-looks : goal.returns-in-Err-clause-looks
+returns-in-Err-clause-looks g c = refl
+
+pub returns-in-Ok-clause-looks : goal.returns-in-Ok-clause-looks
+returns-in-Ok-clause-looks g c = refl
+
+pub returns-in_default-clause-looks : goal.returns-in_default-clause-looks
+returns-in_default-clause-looks g c = refl
+
+pub returns-then-is_err-clause-looks : goal.returns-then-is_err-clause-looks
+returns-then-is_err-clause-looks g c = refl

@@ -13,5 +13,5 @@ returns-in-Ok g c = (
 pub returns-in-Err : goal.returns-in-Err
 returns-in-Err g c = (
   record { state = refl; looks = refl },
-  (refl, refl, c.in-Err.error, c.fault.ensures, subst (λ v. HearsUpTo (HearsFirst g.O.ProofProcessor.takes (HearsEach g.P.ProofProcessor.takes g.T.ProofTranscriptProcessor.reads)) c.in-Err.error (announced_by v c.args.self.now.notes.news) (hearers c.args.own.now c.args.others.now) (hearers c.tell_news.new.own c.tell_news.new.others)) c.before-names.ensures c.in-Err.ensures),
+  (refl, search rules, c.in-Err.error, c.fault.ensures, subst (λ v. HearsUpTo (HearsFirst g.O.ProofProcessor.takes (HearsEach g.P.ProofProcessor.takes g.T.ProofTranscriptProcessor.reads)) c.in-Err.error (announced_by v c.args.self.now.notes.news) (hearers c.args.own.now c.args.others.now) (hearers c.tell_news.new.own c.tell_news.new.others)) c.before-names.ensures c.in-Err.ensures),
 )

@@ -31,6 +31,7 @@ loop-done-preserved c =
       followed = back_next c.args.clauses.now rs k n c.index-reason.result.now next inside there c.follow.new.self (conflict_at c.args.clauses.now (Some c.in-Some.place))
           (c.in_ok-follow.ensures.followed (followed_back (map (reason_in c.args.clauses.now) (drop n rs)) (conflict_at c.args.clauses.now (Some c.in-Some.place))) c.loop-done.invariant.followed);
       looks = read_next c.args.clauses.now rs k n c.index-reason.result.now next inside there c.args.looks.now c.loop-done.looks c.follow.new.looks (length (literals_at c.args.clauses.now c.in-Some.place)) c.loop-done.invariant.looks c.follow.ensures.looks;
+      rise = omega (arith, c.loop-done.invariant.rise, c.follow.ensures.rise);
     }
 
 pub begin-requires : goal.begin-requires

@@ -11,4 +11,5 @@ abbrev pub invariant-loop-done : goal.invariant-loop-done
 invariant-loop-done l = let so_far = drop (l.count - l.done) l.passed.reasons.items in record {
   followed : IsFollowed l.self (followed_back (map (reason_in l.clauses) so_far) (conflict_at l.clauses (Some l.place)));
   looks : l.looks ≤ l.fn.looks + length (literals_at l.clauses l.place) + total_length (map (λ r. literals_at l.clauses r.place) so_far);
+  rise : l.fn.looks ≤ l.looks;
 }

@@ -1,4 +1,5 @@
 use Rattle.std.proofs.Common.{sym, subst, arith, ◌∙◌}
+use Rattle.std.proofs.lemmas.Bool.{true≢false}
 use Rattle.sat_checker.specs.inner.Marks.{IsIncreasing}
 use Rattle.sat_checker.proofs.lemmas.store.Ids.{standing_inside, standing_length}
 use Rattle.sat_checker.proofs.lemmas.store.Keeping.{length_same}
@@ -17,3 +18,9 @@ returns-clause-looks c = λ f k.
     let a = standing_length c.args.self.now.clauses c.args.place (sym c.is_standing.ensures ∙ c.if-not-is_standing.false) in
     let b = length_same c.args.self.now f k in
     omega (arith, a, b, c.literals.ensures.looks)
+
+pub returns-then-not-is_standing-clause-lent : goal.returns-then-not-is_standing-clause-lent
+returns-then-not-is_standing-clause-lent c = λ e. absurd (true≢false (sym e ∙ sym c.is_standing.ensures ∙ c.if-not-is_standing.true))
+
+pub returns-clause-lent : goal.returns-clause-lent
+returns-clause-lent c = λ _. c.literals.ensures.looks

@@ -3,20 +3,21 @@ use Rattle.sat_checker.specs.Stored.{Variable, Mode}
 use Rattle.sat_checker.specs.Accepts.{MayGetName}
 use Rattle.sat_checker.specs.inner.VariablesView.{mode_in, variable_at}
 use Rattle.sat_checker.proofs.lemmas.variables.Keeping.{refused_taken, refused_named, refused_hidden, may_get, named_kept, match_true, match_false}
+use Rattle.std.proofs.lemmas.Bool.{true≢false}
 use Rattle.std.proofs.lemmas.Result.{IfOk-from_err}
 use Rattle.sat_checker.proofs.variables.Variables.add_user_mapping.Goals as goal
 
-pub returns-then-is_some : goal.returns-then-is_some
-returns-then-is_some c = λ f k. refused_taken c.args.self.now f k c.args.var c.args.name c.holder.result c.holder.ensures (sym c.is_some.ensures ∙ c.if-is_some.true)
+pub returns-then-is_some-clause-answers : goal.returns-then-is_some-clause-answers
+returns-then-is_some-clause-answers c = λ f k. refused_taken c.args.self.now f k c.args.var c.args.name c.holder.result c.holder.ensures (sym c.is_some.ensures ∙ c.if-is_some.true)
 
-pub returns-then-is_some-2 : goal.returns-then-is_some-2
-returns-then-is_some-2 c = λ f k. refused_named c.args.self.now f k c.args.var c.args.name c.data-old.result c.data-old.ensures (sym c.is_some-2.ensures ∙ c.if-is_some-2.true)
+pub returns-then-is_some-2-clause-answers : goal.returns-then-is_some-2-clause-answers
+returns-then-is_some-2-clause-answers c = λ f k. refused_named c.args.self.now f k c.args.var c.args.name c.data-old.result c.data-old.ensures (sym c.is_some-2.ensures ∙ c.if-is_some-2.true)
 
-pub returns-then-is_hidden : goal.returns-then-is_hidden
-returns-then-is_hidden c = λ f k. refused_hidden c.args.self.now f k c.args.var c.args.name c.data-old.result c.data-old.ensures (match_true _ _ _ c.is_hidden.ensures c.if-is_hidden.true)
+pub returns-then-is_hidden-clause-answers : goal.returns-then-is_hidden-clause-answers
+returns-then-is_hidden-clause-answers c = λ f k. refused_hidden c.args.self.now f k c.args.var c.args.name c.data-old.result c.data-old.ensures (match_true _ _ _ c.is_hidden.ensures c.if-is_hidden.true)
 
-pub returns : goal.returns
-returns c = λ f k.
+pub returns-clause-answers : goal.returns-clause-answers
+returns-clause-answers c = λ f k.
     let may : MayGetName f c.args.var c.args.name =
     may_get c.args.self.now f k c.args.var c.args.name c.holder.result c.data-old.result c.holder.ensures (sym c.is_some.ensures ∙ c.if-is_some.false) c.data-old.ensures (sym c.is_some-2.ensures ∙ c.if-is_some-2.false)
     (match_false _ _ _ c.is_hidden.ensures c.if-is_hidden.false) in
@@ -27,8 +28,26 @@ returns c = λ f k.
           c.in_ok-set.ensures.holders c.in_ok-set_holder.ensures.variables c.in_ok-set_holder.ensures.holders,
     )
 
-pub returns-in_err-set : goal.returns-in_err-set
-returns-in_err-set c = IfOk-from_err c.from_residual.result _ c.from_residual.ensures.0
+pub returns-in_err-set-clause-answers : goal.returns-in_err-set-clause-answers
+returns-in_err-set-clause-answers c = IfOk-from_err c.from_residual.result _ c.from_residual.ensures.0
 
-pub returns-in_err-set_holder : goal.returns-in_err-set_holder
-returns-in_err-set_holder c = IfOk-from_err c.from_residual-in_err-set_holder.result _ c.from_residual-in_err-set_holder.ensures.0
+pub returns-in_err-set_holder-clause-answers : goal.returns-in_err-set_holder-clause-answers
+returns-in_err-set_holder-clause-answers c = IfOk-from_err c.from_residual-in_err-set_holder.result _ c.from_residual-in_err-set_holder.ensures.0
+
+pub returns-then-is_some-clause-refused : goal.returns-then-is_some-clause-refused
+returns-then-is_some-clause-refused c = λ e. refl
+
+pub returns-then-is_some-2-clause-refused : goal.returns-then-is_some-2-clause-refused
+returns-then-is_some-2-clause-refused c = λ e. refl
+
+pub returns-then-is_hidden-clause-refused : goal.returns-then-is_hidden-clause-refused
+returns-then-is_hidden-clause-refused c = λ e. refl
+
+pub returns-clause-refused : goal.returns-clause-refused
+returns-clause-refused c = λ e. absurd (true≢false e)
+
+pub returns-in_err-set-clause-refused : goal.returns-in_err-set-clause-refused
+returns-in_err-set-clause-refused c = IfOk-from_err c.from_residual.result _ c.from_residual.ensures.0
+
+pub returns-in_err-set_holder-clause-refused : goal.returns-in_err-set_holder-clause-refused
+returns-in_err-set_holder-clause-refused c = IfOk-from_err c.from_residual-in_err-set_holder.result _ c.from_residual-in_err-set_holder.ensures.0

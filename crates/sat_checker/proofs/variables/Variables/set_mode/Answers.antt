@@ -2,11 +2,12 @@ use Rattle.std.proofs.Common.{◌∙◌, ap, sym, refl, cond, eqb}
 use Rattle.sat_checker.specs.Stored.{Variable, Mode, Sample, Witness}
 use Rattle.sat_checker.specs.inner.VariablesView.{mode_in, variable_at}
 use Rattle.sat_checker.proofs.lemmas.variables.Keeping.{set_kept, was_true}
+use Rattle.std.proofs.lemmas.Bool.{true≢false}
 use Rattle.std.proofs.lemmas.Result.{IfOk-from_err}
 use Rattle.sat_checker.proofs.variables.Variables.set_mode.Goals as goal
 
-pub returns : goal.returns
-returns c = λ f k.
+pub returns-clause-answers : goal.returns-clause-answers
+returns-clause-answers c = λ f k.
     let same = c.data-old.ensures ∙ k.each c.args.var in (
       sym (ap (λ (x : Variable). x.known) same) ∙ was_true c.data-old.result.known c.if-not-old.false,
       set_kept c.args.self.now c.set.new.self f.variables c.args.var (record (f.variables c.args.var) { mode = cond c.args.sample Sample Witness }) k refl
@@ -15,5 +16,11 @@ returns c = λ f k.
           c.in_ok-set.ensures.holders,
     )
 
-pub returns-in_err-set : goal.returns-in_err-set
-returns-in_err-set c = IfOk-from_err c.from_residual.result _ c.from_residual.ensures.0
+pub returns-in_err-set-clause-answers : goal.returns-in_err-set-clause-answers
+returns-in_err-set-clause-answers c = IfOk-from_err c.from_residual.result _ c.from_residual.ensures.0
+
+pub returns-clause-refused : goal.returns-clause-refused
+returns-clause-refused c = λ e. absurd (true≢false e)
+
+pub returns-in_err-set-clause-refused : goal.returns-in_err-set-clause-refused
+returns-in_err-set-clause-refused c = IfOk-from_err c.from_residual.result _ c.from_residual.ensures.0
