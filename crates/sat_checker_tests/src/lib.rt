@@ -7,6 +7,8 @@
 #[cfg(test)]
 mod announcements;
 #[cfg(test)]
+mod boxes;
+#[cfg(test)]
 mod caller;
 #[cfg(test)]
 mod calls;
@@ -23,7 +25,11 @@ mod items;
 #[cfg(test)]
 mod kinds;
 #[cfg(test)]
+mod law_callers;
+#[cfg(test)]
 mod listeners;
+#[cfg(test)]
+mod looks;
 #[cfg(test)]
 mod proofs;
 #[cfg(test)]

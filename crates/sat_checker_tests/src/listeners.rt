@@ -17,7 +17,7 @@ pub(crate) struct FailsAt {
 }
 
 impl FailsAt {
-    fn new(at: u64) -> FailsAt {
+    pub(crate) fn new(at: u64) -> FailsAt {
         FailsAt { calls: 0, at }
     }
 

@@ -1,0 +1,67 @@
+//! Listeners of several types, in boxes.
+use crate::listeners::FailsAt;
+use sat_base::Lit;
+use sat_checker::{
+    CheckedProofStep, Checker, CheckerData, CheckerError, ProofProcessor, ProofTranscriptProcessor,
+};
+use std::alloc::Global;
+
+type BoxChecker = Checker<Box<dyn ProofProcessor>, Box<dyn ProofTranscriptProcessor>>;
+
+/// Takes everything.
+#[derive(Drop)]
+struct Quiet {}
+
+impl ProofProcessor for Quiet {
+    ghost use Rattle.std.specs.Prelude.{⊤};
+
+    ghost takes = { λ _ _ _ _. ⊤ };
+
+    fn process_step(
+        &mut self,
+        _step: &CheckedProofStep<'_>,
+        _names: CheckerData<'_>,
+    ) -> anyhow::Result<()> {
+        Ok(())
+    }
+}
+
+/// Adds two boxes of different types, of which the second answers a fault at this call.
+fn add_boxes(checker: &mut BoxChecker, alloc: Global, at: u64) -> bool {
+    let Ok(quiet) = Box::new(alloc, Quiet {}) else {
+        return false;
+    };
+    let Ok(fails) = Box::new(alloc, FailsAt::new(at)) else {
+        return false;
+    };
+    let first = checker.add_processor(quiet);
+    let second = checker.add_processor(fails);
+    first.is_ok() && second.is_ok()
+}
+
+/// Whether a clause is added, by the error.
+fn is_added(checker: &mut BoxChecker, lit: Lit) -> Option<bool> {
+    match checker.add_clause(&[lit]) {
+        Ok(()) => Some(true),
+        Err(CheckerError::ProofProcessorError { cause: _ }) => Some(false),
+        Err(_) => None,
+    }
+}
+
+/// What comes of two clauses where the second box answers a fault at this call, and how many boxes come back.
+fn told_boxes(alloc: Global, at: u64) -> (bool, Option<bool>, Option<bool>, usize) {
+    let mut checker: BoxChecker = Checker::telling(alloc);
+    let added = add_boxes(&mut checker, alloc, at);
+    let first = is_added(&mut checker, Lit::from_code(0));
+    let second = is_added(&mut checker, Lit::from_code(2));
+    let back = checker.into_processors();
+    (added, first, second, back.processors.len())
+}
+
+#[test]
+fn boxes_are_told_in_order(rt: HostRuntime) {
+    let quiet = told_boxes(rt.alloc(), 0);
+    assert!(rt; quiet == (true, Some(true), Some(true), 2));
+    let fails = told_boxes(rt.alloc(), 2);
+    assert!(rt; fails == (true, Some(true), Some(false), 2));
+}

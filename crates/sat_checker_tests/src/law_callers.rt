@@ -1,0 +1,53 @@
+//! What follows from the laws of what is stored.
+ghost use Rattle.std.specs.Prelude.{ℕ, ◌≡◌, ◌<◌, Bool, true, false, List, [], ◌∷◌, map};
+ghost use Rattle.std.specs.List.{AllByRecursion};
+ghost use Rattle.sat_base.specs.steps.Steps.{AtClause, DeleteClause, Redundant, Step};
+ghost use Rattle.sat_checker.specs.Accepts.{AcceptsAll, IsStrictSubset, Passes, ready_after};
+ghost use Rattle.sat_checker.specs.Contents.{contents};
+ghost use Rattle.sat_checker.specs.Leading.{IsNamed};
+ghost use Rattle.sat_checker.specs.Stored.{Stored};
+ghost use Rattle.sat_checker.specs.Storing.{last_literals};
+
+use sat_checker::law_stored::{
+    contents_follow_steps, last_was_derived, named_clauses_pass, stored_is_tidy,
+};
+
+/// [1] passes under the hashes of [1,2] and [1,-2], whatever else has these hashes.
+fn resolvent_passes()
+    ensures { (f : Stored) (g h : ℕ) → IsNamed f (0 ∷ 2 ∷ []) g → IsNamed f (0 ∷ 3 ∷ []) h → Passes f (0 ∷ []) (g ∷ h ∷ []) }
+{
+    named_clauses_pass();
+}
+
+/// A redundant clause that is derived and deleted leaves all counts as they were.
+fn counts_return()
+    ensures { (earlier : List Step) (hashes : List ℕ) (side : Bool) (set : List ℕ) →
+        (contents (ready_after (DeleteClause (0 ∷ 2 ∷ []) Redundant ∷ AtClause true (0 ∷ 2 ∷ []) hashes ∷ earlier))).counts side set
+        ≡ (contents (ready_after earlier)).counts side set }
+{
+    contents_follow_steps();
+}
+
+/// The ids of stored clauses were given.
+fn ids_were_given()
+    ensures { (steps : List Step) → AcceptsAll steps
+        → AllByRecursion (λ id. id < (ready_after steps).next_id) (map (λ c. c.id) (ready_after steps).clauses) }
+{
+    stored_is_tidy();
+}
+
+/// A derived clause may stand for one that it is a strict part of.
+fn derived_is_part()
+    ensures { (steps : List Step) (hashes : List ℕ) → AcceptsAll (AtClause false (0 ∷ 2 ∷ []) hashes ∷ steps)
+        → let f = ready_after (AtClause false (0 ∷ 2 ∷ []) hashes ∷ steps) in IsStrictSubset (last_literals f.last f) (0 ∷ 2 ∷ 4 ∷ []) }
+{
+    last_was_derived();
+}
+
+#[test]
+fn laws_are_called(_rt: HostRuntime) {
+    resolvent_passes();
+    counts_return();
+    ids_were_given();
+    derived_is_part();
+}

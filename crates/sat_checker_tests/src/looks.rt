@@ -1,0 +1,112 @@
+//! How many looks each kind of step takes, over the four clauses of two variables and with a third variable that is known and unused.
+use sat_base::{ClauseHash, DeleteClauseProof, HashBits, Lit, ProofStep, Var};
+use sat_checker::{Checker, SelfChecker};
+use std::alloc::Global;
+
+/// The hash of [1,2].
+const HASH: ClauseHash = 0x449114950295082a;
+
+/// Steps, and the looks that each takes.
+fn kinds<'a>(
+    one: &'a [Lit],
+    two: &'a [Lit],
+    hashes: &'a [ClauseHash],
+    units: &'a [(Lit, ClauseHash)],
+    bits: HashBits,
+) -> [(ProofStep<'a>, u64); 14] {
+    let (first, third) = (Var::from_index(0), Var::from_index(2));
+    [
+        (
+            ProofStep::SolverVarName {
+                global: first,
+                solver: Some(third),
+            },
+            8,
+        ),
+        (
+            ProofStep::UserVarName {
+                global: third,
+                user: Some(first),
+            },
+            0,
+        ),
+        (ProofStep::DeleteVar { var: third }, 8),
+        (ProofStep::DeleteVar { var: first }, 2),
+        (
+            ProofStep::ChangeSamplingMode {
+                var: first,
+                sample: false,
+            },
+            0,
+        ),
+        (ProofStep::AddClause { clause: two }, 2),
+        (
+            ProofStep::AtClause {
+                redundant: false,
+                clause: one,
+                propagation_hashes: hashes,
+            },
+            2,
+        ),
+        (ProofStep::UnitClauses { units }, 2),
+        (
+            ProofStep::DeleteClause {
+                clause: two,
+                proof: DeleteClauseProof::Redundant,
+            },
+            2,
+        ),
+        (ProofStep::ChangeHashBits { bits }, 8),
+        (ProofStep::Model { assignment: two }, 8),
+        (ProofStep::Assumptions { assumptions: two }, 0),
+        (
+            ProofStep::FailedAssumptions {
+                failed_core: &[],
+                propagation_hashes: hashes,
+            },
+            2,
+        ),
+        (ProofStep::End, 0),
+    ]
+}
+
+/// Adds the clauses, and makes the third variable known. The answer is whether all was accepted.
+fn is_ready(checker: &mut Checker) -> bool {
+    for (first, second) in [(0, 2), (0, 3), (1, 2), (1, 3)] {
+        if checker
+            .add_clause(&[Lit::from_code(first), Lit::from_code(second)])
+            .is_err()
+        {
+            return false;
+        }
+    }
+    let third = [Lit::from_code(4)];
+    let known = ProofStep::Assumptions {
+        assumptions: &third,
+    };
+    let none = ProofStep::Assumptions { assumptions: &[] };
+    checker.self_check_step(&known).is_ok() && checker.self_check_step(&none).is_ok()
+}
+
+/// The looks that a step takes, whether it is accepted or not.
+fn looks_of(alloc: Global, step: &ProofStep<'_>) -> Option<u64> {
+    let mut checker = Checker::new(alloc);
+    if !is_ready(&mut checker) {
+        return None;
+    }
+    let before = checker.looks();
+    let _answer = checker.self_check_step(step);
+    checker.looks().checked_sub(before)
+}
+
+#[test]
+fn looks_of_each_kind(rt: HostRuntime) {
+    let two = [Lit::from_code(0), Lit::from_code(2)];
+    let units = [(two[0], HASH)];
+    let Some(bits) = HashBits::new(8) else {
+        return;
+    };
+    for (step, wanted) in &kinds(&two[..1], &two, &[HASH], &units, bits) {
+        assert!(rt; looks_of(rt.alloc(), step) == Some(*wanted));
+    }
+}
