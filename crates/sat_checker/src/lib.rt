@@ -7,7 +7,6 @@ pub(crate) mod assigned;
 mod boxes;
 pub mod checker;
 pub(crate) mod clauses;
-pub(crate) mod derivations;
 pub mod error;
 pub(crate) mod formula;
 pub mod hash;

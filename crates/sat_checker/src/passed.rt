@@ -1,4 +1,4 @@
-//! What a walk notes where somebody listens: the clauses that it passed.
+//! What a walk notes: the clauses that it took.
 ghost use Rattle.std.specs.Prelude.{◌≡◌, ◌++◌, ◌∷◌, [], None, OnOk};
 
 use sat_base::Lit;
