@@ -1,0 +1,10 @@
+pub mod Digits
+pub mod Words
+pub mod Spelling
+pub mod Listed
+pub mod Courses
+pub mod Signs
+pub mod Taken
+pub mod Finding
+pub mod Holding
+pub mod Sound

@@ -1,0 +1,208 @@
+-- What the course of clauses under assumed literals says.
+use Rattle.std.proofs.Common.{ℕ, ◌+◌, ◌<◌, ◌≡◌, Bool, true, false, not, ◌||◌, cond, eqb, List, [], ◌∷◌, length, drop, get_or, map, Option, None, Some, refl, sym, ◌∙◌, ap, subst, arith, ◌⊎◌, inl, inr}
+use Rattle.std.proofs.lemmas.Bool.{or_cases, or_left, or_right, both_ways, eqb-true, eq-eqb, true≢false, or_parts}
+use Rattle.std.proofs.lemmas.List.{drop_more, drop_all}
+use Rattle.std.specs.List.{AllByRecursion}
+use Rattle.sat_base.specs.values.Literals.{negated}
+use Rattle.sat_checker.specs.LiteralSets.{is_among}
+use Rattle.sat_checker.specs.Propagation.{IsFalsified, IsUnit, UnitInTurn}
+use Rattle.sat_checker.specs.inner.Marks.{NoRepeats}
+use Rattle.sat_checker.specs.inner.Walk.{Verdict, falsified, opens, rests, verdict, verdict_of_open, not_false}
+use Rattle.sat_hints.specs.Checks.{SomeIsNotUnit, LastIsNotFalsified}
+use Rattle.sat_hints.specs.declared.answer.HintWhy.{HintWhy}
+use Rattle.sat_hints.specs.declared.answer.HintWhy.TheVariants.{Syntax, IdOrder, UnknownId, NotUnit, NotFalsified}
+use Rattle.sat_hints.specs.inner.Course.{at_last, at_turn, course}
+
+abbrev IsFalse : List ℕ → ℕ → Type 0
+IsFalse assumed l = is_among assumed (negated l) ≡ true
+
+-- no literal is left open
+none_open : (assumed clause : List ℕ) → not_false assumed clause ≡ [] → IsFalsified assumed clause
+none_open assumed [] e = tt
+none_open assumed (l ∷ ls) e = go (none_open assumed ls) (is_among assumed (negated l)) refl e
+  where
+    go : (not_false assumed ls ≡ [] → IsFalsified assumed ls) → (b : Bool) → is_among assumed (negated l) ≡ b → cond (not b) (l ∷ not_false assumed ls) (not_false assumed ls) ≡ [] → IsFalsified assumed (l ∷ ls)
+    go ih true h e' = (h, ih e')
+    go ih false h e' = absurd cc
+
+all_false : (assumed clause : List ℕ) → IsFalsified assumed clause → not_false assumed clause ≡ []
+all_false assumed [] h = refl
+all_false assumed (l ∷ ls) h = rw h.0 (all_false assumed ls h.1)
+
+others_from : (assumed clause : List ℕ) (o : ℕ) → IsFalsified assumed clause → AllByRecursion (λ l. (l ≡ o) ⊎ IsFalse assumed l) clause
+others_from assumed [] o h = tt
+others_from assumed (l ∷ ls) o h = (inr h.0, others_from assumed ls o h.1)
+
+-- one literal is left open
+record OneOpen (assumed clause : List ℕ) (o : ℕ) : Type 0 where
+  within : is_among clause o ≡ true
+  not_false : is_among assumed (negated o) ≡ false
+  others : AllByRecursion (λ l. (l ≡ o) ⊎ IsFalse assumed l) clause
+
+one_open : (assumed clause : List ℕ) (o : ℕ) → not_false assumed clause ≡ o ∷ [] → OneOpen assumed clause o
+one_open assumed [] o e = absurd cc
+one_open assumed (l ∷ ls) o e = go (one_open assumed ls o) (is_among assumed (negated l)) refl e
+  where
+    go : (not_false assumed ls ≡ o ∷ [] → OneOpen assumed ls o) → (b : Bool) → is_among assumed (negated l) ≡ b → cond (not b) (l ∷ not_false assumed ls) (not_false assumed ls) ≡ o ∷ [] → OneOpen assumed (l ∷ ls) o
+    go ih true h e' = let k = ih e' in record { within = or_right (eqb l o) (is_among ls o) k.within; not_false = k.not_false; others = (inr h, k.others) }
+    go ih false h e' =
+        let same : l ≡ o = cc in
+        let rest : not_false assumed ls ≡ [] = cc in
+        record {
+          within = or_left (eqb l o) (is_among ls o) (eq-eqb l o same);
+          not_false = subst (λ x. is_among assumed (negated x) ≡ false) same h;
+          others = (inl same, others_from assumed ls o (none_open assumed ls rest));
+        }
+
+-- where o isn't in the clause, each literal is false
+away : (assumed : List ℕ) (o : ℕ) (ms : List ℕ) → is_among ms o ≡ false → AllByRecursion (λ m. (m ≡ o) ⊎ IsFalse assumed m) ms → IsFalsified assumed ms
+away assumed o [] k a = tt
+away assumed o (m ∷ ms) k a = (
+  elim a.0 [ inl e ↦ absurd (both_ways (eqb m o || is_among ms o) k (or_left (eqb m o) (is_among ms o) (eq-eqb m o e))) | inr f ↦ f ],
+  away assumed o ms (or_parts (eqb m o) (is_among ms o) k).1 a.1,
+)
+
+-- with none twice, that one alone can be left
+only_open : (assumed clause : List ℕ) (o : ℕ) → NoRepeats clause → AllByRecursion (λ l. (l ≡ o) ⊎ IsFalse assumed l) clause → (not_false assumed clause ≡ []) ⊎ (not_false assumed clause ≡ o ∷ [])
+only_open assumed [] o n h = inl refl
+only_open assumed (l ∷ ls) o n h = go (only_open assumed ls o n.1 h.1) (is_among assumed (negated l)) refl
+  where
+    go : (not_false assumed ls ≡ []) ⊎ (not_false assumed ls ≡ o ∷ []) → (b : Bool) → is_among assumed (negated l) ≡ b → (cond (not b) (l ∷ not_false assumed ls) (not_false assumed ls) ≡ []) ⊎ (cond (not b) (l ∷ not_false assumed ls) (not_false assumed ls) ≡ o ∷ [])
+    go ih true e = ih
+    go ih false e = elim h.0 [
+      | inl same ↦ let gone : is_among ls o ≡ false = subst (λ x. is_among ls x ≡ false) same n.0 in
+          inr (ap (λ ms. l ∷ ms) (all_false assumed ls (away assumed o ls gone h.1)) ∙ ap (λ x. x ∷ []) same)
+      | inr f ↦ absurd (both_ways (is_among assumed (negated l)) e f)
+    ]
+
+-- a literal of a falsified clause is false
+member_false : (assumed clause : List ℕ) (o : ℕ) → IsFalsified assumed clause → is_among clause o ≡ true → IsFalse assumed o
+member_false assumed [] o h m = absurd (true≢false (sym m))
+member_false assumed (l ∷ ls) o h m = elim (or_cases (eqb l o) (is_among ls o) m) [
+  | inl e ↦ subst (λ x. is_among assumed (negated x) ≡ true) (eqb-true l o e) h.0
+  | inr k ↦ member_false assumed ls o h.1 k
+]
+
+-- WHAT A VERDICT SAYS
+falsified_from : (assumed ls : List ℕ) → verdict_of_open assumed ls ≡ falsified → ls ≡ []
+falsified_from assumed [] e = refl
+falsified_from assumed (l ∷ []) e = go (is_among assumed l) e
+  where
+    go : (b : Bool) → cond b rests (opens l) ≡ falsified → (l ∷ []) ≡ []
+    go true e = absurd cc
+    go false e = absurd cc
+falsified_from assumed (l ∷ m ∷ ls) e = absurd cc
+
+pub is_falsified : (assumed clause : List ℕ) → verdict assumed clause ≡ falsified → IsFalsified assumed clause
+is_falsified assumed clause e = none_open assumed clause (falsified_from assumed (not_false assumed clause) e)
+
+pub falsifies : (assumed clause : List ℕ) → IsFalsified assumed clause → verdict assumed clause ≡ falsified
+falsifies assumed clause h = ap (verdict_of_open assumed) (all_false assumed clause h)
+
+record Opens (assumed ls : List ℕ) (l : ℕ) : Type 0 where
+  one : ls ≡ l ∷ []
+  new : is_among assumed l ≡ false
+
+opens_from : (assumed ls : List ℕ) (l : ℕ) → verdict_of_open assumed ls ≡ opens l → Opens assumed ls l
+opens_from assumed [] l e = absurd cc
+opens_from assumed (m ∷ []) l e = go (is_among assumed m) refl e
+  where
+    go : (b : Bool) → is_among assumed m ≡ b → cond b rests (opens m) ≡ opens l → Opens assumed (m ∷ []) l
+    go true h e' = absurd cc
+    go false h e' = let same : m ≡ l = cc in record { one = ap (λ x. x ∷ []) same; new = subst (λ x. is_among assumed x ≡ false) same h }
+opens_from assumed (m ∷ n ∷ ls) l e = absurd cc
+
+pub is_unit : (assumed clause : List ℕ) (l : ℕ) → verdict assumed clause ≡ opens l → IsUnit assumed clause l
+is_unit assumed clause l e =
+    let o = opens_from assumed (not_false assumed clause) l e in
+    let k = one_open assumed clause l o.one in
+    record { within = k.within; not_true = o.new; not_false = k.not_false; others = k.others }
+
+pub unit_opens : (assumed clause : List ℕ) (l : ℕ) → NoRepeats clause → IsUnit assumed clause l → verdict assumed clause ≡ opens l
+unit_opens assumed clause l n u = elim (only_open assumed clause l n u.others) [
+  | inl e ↦ absurd (both_ways (is_among assumed (negated l)) u.not_false (member_false assumed clause l (none_open assumed clause e) u.within))
+  | inr e ↦ ap (verdict_of_open assumed) e ∙ ap (λ b. cond b rests (opens l)) u.not_true
+]
+
+-- WHAT A COURSE SAYS
+abbrev pub Says : Option HintWhy → List ℕ → List (List ℕ) → Type 0
+Says None assumed cs = UnitInTurn assumed cs
+Says (Some NotUnit) assumed cs = SomeIsNotUnit assumed cs
+Says (Some NotFalsified) assumed cs = LastIsNotFalsified assumed cs
+Says (Some Syntax) assumed cs = ⊥
+Says (Some IdOrder) assumed cs = ⊥
+Says (Some UnknownId) assumed cs = ⊥
+
+says_further : (why : Option HintWhy) (assumed c d : List ℕ) (ds : List (List ℕ)) (l : ℕ) → IsUnit assumed c l → Says why (l ∷ assumed) (d ∷ ds) → Says why assumed (c ∷ d ∷ ds)
+says_further None assumed c d ds l u h = (l, u, h)
+says_further (Some NotUnit) assumed c d ds l u h = inr (l, u, h)
+says_further (Some NotFalsified) assumed c d ds l u h = (l, u, h)
+says_further (Some Syntax) assumed c d ds l u h = h
+says_further (Some IdOrder) assumed c d ds l u h = h
+says_further (Some UnknownId) assumed c d ds l u h = h
+
+pub course_says : (cs : List (List ℕ)) (assumed : List ℕ) → AllByRecursion NoRepeats cs → Says (course assumed cs) assumed cs
+course_says [] assumed n = tt
+course_says (c ∷ []) assumed n = go (verdict assumed c) refl
+  where
+    go : (v : Verdict) → verdict assumed c ≡ v → Says (at_last v) assumed (c ∷ [])
+    go falsified e = is_falsified assumed c e
+    go (opens l) e = λ f. let g = falsifies assumed c f in absurd cc
+    go rests e = λ f. let g = falsifies assumed c f in absurd cc
+course_says (c ∷ d ∷ ds) assumed n = go (λ l. course_says (d ∷ ds) (l ∷ assumed) n.1) (verdict assumed c) refl
+  where
+    go : ((l : ℕ) → Says (course (l ∷ assumed) (d ∷ ds)) (l ∷ assumed) (d ∷ ds)) → (v : Verdict) → verdict assumed c ≡ v → Says (at_turn v (λ l. course (l ∷ assumed) (d ∷ ds))) assumed (c ∷ d ∷ ds)
+    go ih falsified e = inl (λ l u. let g = unit_opens assumed c l n.0 u in absurd cc)
+    go ih (opens l) e = says_further (course (l ∷ assumed) (d ∷ ds)) assumed c d ds l (is_unit assumed c l e) (ih l)
+    go ih rests e = inl (λ l u. let g = unit_opens assumed c l n.0 u in absurd cc)
+
+-- IT DEPENDS ON WHICH LITERALS ARE ASSUMED, NOT ON THEIR ORDER
+abbrev pub SameMembers : List ℕ → List ℕ → Type 0
+SameMembers us vs = (l : ℕ) → is_among us l ≡ is_among vs l
+
+same_open : (us vs clause : List ℕ) → SameMembers us vs → not_false us clause ≡ not_false vs clause
+same_open us vs [] same = refl
+same_open us vs (l ∷ ls) same = ap (λ b. cond (not b) (l ∷ not_false us ls) (not_false us ls)) (same (negated l)) ∙ ap (λ ms. cond (not (is_among vs (negated l))) (l ∷ ms) ms) (same_open us vs ls same)
+
+same_of_open : (us vs ls : List ℕ) → SameMembers us vs → verdict_of_open us ls ≡ verdict_of_open vs ls
+same_of_open us vs [] same = refl
+same_of_open us vs (l ∷ []) same = ap (λ b. cond b rests (opens l)) (same l)
+same_of_open us vs (l ∷ m ∷ ls) same = refl
+
+same_verdict : (us vs clause : List ℕ) → SameMembers us vs → verdict us clause ≡ verdict vs clause
+same_verdict us vs clause same = ap (verdict_of_open us) (same_open us vs clause same) ∙ same_of_open us vs (not_false vs clause) same
+
+pub same_course : (cs : List (List ℕ)) (us vs : List ℕ) → SameMembers us vs → course us cs ≡ course vs cs
+same_course [] us vs same = refl
+same_course (c ∷ []) us vs same = ap at_last (same_verdict us vs c same)
+same_course (c ∷ d ∷ ds) us vs same = ap (λ v. at_turn v (λ l. course (l ∷ us) (d ∷ ds))) (same_verdict us vs c same) ∙ go (λ l. same_course (d ∷ ds) (l ∷ us) (l ∷ vs) (λ m. ap (λ b. eqb l m || b) (same m))) (verdict vs c)
+  where
+    go : ((l : ℕ) → course (l ∷ us) (d ∷ ds) ≡ course (l ∷ vs) (d ∷ ds)) → (v : Verdict) → at_turn v (λ l. course (l ∷ us) (d ∷ ds)) ≡ at_turn v (λ l. course (l ∷ vs) (d ∷ ds))
+    go ih falsified = refl
+    go ih (opens l) = ih l
+    go ih rests = refl
+
+-- AT PLACES
+module _ (clause_at : ℕ → List ℕ) (places : List ℕ) (i : ℕ) where
+  next_place : i < length places → map clause_at (drop i places) ≡ clause_at (get_or places i 0) ∷ map clause_at (drop (i + 1) places)
+  next_place inside = ap (map clause_at) (drop_more places i 0 inside)
+
+  next_two : i + 1 < length places → map clause_at (drop i places) ≡ clause_at (get_or places i 0) ∷ clause_at (get_or places (i + 1) 0) ∷ map clause_at (drop (i + 1 + 1) places)
+  next_two more = next_place (omega arith) ∙ ap (λ ps. clause_at (get_or places i 0) ∷ map clause_at ps) (drop_more places (i + 1) 0 more)
+
+  pub course_opens : (whole : Option HintWhy) (mid : List ℕ) (l : ℕ) → i + 1 < length places → whole ≡ course mid (map clause_at (drop i places)) → verdict mid (clause_at (get_or places i 0)) ≡ opens l → whole ≡ course (l ∷ mid) (map clause_at (drop (i + 1) places))
+  course_opens whole mid l more h e =
+      h ∙ ap (course mid) (next_two more) ∙ ap (λ v. at_turn v (λ l. course (l ∷ mid) (clause_at (get_or places (i + 1) 0) ∷ map clause_at (drop (i + 1 + 1) places)))) e
+      ∙ ap (λ ps. course (l ∷ mid) (map clause_at ps)) (sym (drop_more places (i + 1) 0 more))
+
+  pub course_stops : (whole : Option HintWhy) (mid : List ℕ) → i + 1 < length places → whole ≡ course mid (map clause_at (drop i places)) → (verdict mid (clause_at (get_or places i 0)) ≡ falsified) ⊎ (verdict mid (clause_at (get_or places i 0)) ≡ rests) → Some NotUnit ≡ whole
+  course_stops whole mid more h e = sym (h ∙ ap (course mid) (next_two more) ∙ go e)
+    where
+      go : (verdict mid (clause_at (get_or places i 0)) ≡ falsified) ⊎ (verdict mid (clause_at (get_or places i 0)) ≡ rests) → course mid (clause_at (get_or places i 0) ∷ clause_at (get_or places (i + 1) 0) ∷ map clause_at (drop (i + 1 + 1) places)) ≡ Some NotUnit
+      go (inl f) = ap (λ v. at_turn v (λ l. course (l ∷ mid) (clause_at (get_or places (i + 1) 0) ∷ map clause_at (drop (i + 1 + 1) places)))) f
+      go (inr f) = ap (λ v. at_turn v (λ l. course (l ∷ mid) (clause_at (get_or places (i + 1) 0) ∷ map clause_at (drop (i + 1 + 1) places)))) f
+
+  pub course_ends : (whole : Option HintWhy) (mid : List ℕ) → i + 1 ≡ length places → whole ≡ course mid (map clause_at (drop i places)) → whole ≡ at_last (verdict mid (clause_at (get_or places i 0)))
+  course_ends whole mid last h =
+      let none : drop (i + 1) places ≡ [] = drop_all (i + 1) places (omega arith) in
+      h ∙ ap (course mid) (next_place (omega arith)) ∙ ap (λ ps. course mid (clause_at (get_or places i 0) ∷ map clause_at ps)) none

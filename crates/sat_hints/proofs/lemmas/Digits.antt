@@ -1,0 +1,136 @@
+-- Numbers, digit by digit, in front of a space.
+use Rattle.std.proofs.Common.{ℕ, zero, suc, ◌+◌, ◌-◌, ◌*◌, ◌/◌, ◌%◌, ◌^◌, ◌<◌, ◌≤◌, ◌≡◌, ◌∷◌, ◌++◌, [], List, length, take, get_or, decimal, append-nil, refl, sym, ◌∙◌, ap, subst, arith, append_assoc}
+use Rattle.std.proofs.lemmas.Fmt.{decimal_digit, decimal_step, decimal_is_IsNumeral, first_decimal, decimal_nonempty}
+use Rattle.std.proofs.lemmas.Str.Parse.{digit_from_value, digits_value-take-le}
+use Rattle.std.proofs.Math.Seq.{take-append_seam}
+use Rattle.std.specs.List.{AllByRecursion}
+use Rattle.std.specs.Str.Parse.{AllDigits, digits_value}
+use Rattle.std.proofs.lemmas.Int.Digits.{digits_value_push}
+use Rattle.std.proofs.lemmas.Str.{digit_value_digit}
+use Rattle.sat_hints.specs.inner.LineReading.{IsNumber, digits_so_far, NoDigit, NoWord}
+
+-- no space
+abbrev pub Plain : List ℕ → Type 0
+Plain = AllByRecursion (λ c. c ≡ 32 → ⊥)
+
+pub plain_digits : (ds : List ℕ) → AllDigits 10 ds → Plain ds
+plain_digits [] d = tt
+plain_digits (c ∷ cs) d = ((λ e. let r = digit_from_value c d.0 in omega arith), plain_digits cs d.1)
+
+pub are_digits : (n : ℕ) → n < 2 ^ 64 → AllDigits 10 (decimal n)
+are_digits n h = (decimal_is_IsNumeral n h).0.1
+
+pub plain_number : (n : ℕ) → n < 2 ^ 64 → Plain (decimal n)
+plain_number n h = plain_digits (decimal n) (are_digits n h)
+
+digit_behind : (ds : List ℕ) (b : ℕ) (more : List ℕ) → AllDigits 10 (ds ++ (b ∷ more)) → (48 ≤ b) × (b ≤ 57)
+digit_behind [] b more d = digit_from_value b d.0
+digit_behind (c ∷ ds) b more d = digit_behind ds b more d.1
+
+module _ (limit : ℕ) (fits : limit < 2 ^ 64) where
+  -- a byte that is no digit
+  pub no_digit : (number b : ℕ) → ((48 ≤ b) × (b ≤ 57) → ⊥) → NoDigit limit number b
+  no_digit number b wrong n more h e = let k : n < 2 ^ 64 = omega arith in wrong (digit_behind (digits_so_far number) b more (subst (AllDigits 10) e (are_digits n k)))
+
+  -- a leading zero
+  pub no_zero : (number b : ℕ) → 48 ≤ b → 10 * number + (b - 48) ≡ 0 → NoDigit limit number b
+  no_zero zero b low z n more h e =
+      let k : n < 2 ^ 64 = omega arith in
+      let f : 48 < get_or (decimal n) 0 0 = first_decimal n h.0 k in
+      let g : get_or (decimal n) 0 0 ≡ b = ap (λ ds. get_or ds 0 0) e in
+      omega arith
+  no_zero (suc number) b low z n more h e = absurd (omega arith)
+
+  -- a digit behind those of a number
+  pub next_digit : (number b : ℕ) → 48 ≤ b → b ≤ 57 → 10 * number + (b - 48) < 2 ^ 64 → 0 < 10 * number + (b - 48) → decimal (10 * number + (b - 48)) ≡ digits_so_far number ++ (b ∷ [])
+  next_digit zero b low high small more =
+      let e : 10 * 0 + (b - 48) ≡ b - 48 = omega arith in
+      let f : 48 + (b - 48) ≡ b = omega arith in
+      let one : b - 48 < 10 = omega arith in
+      ap decimal e ∙ decimal_digit (b - 48) one ∙ ap (λ d. d ∷ []) f
+  next_digit (suc number) b low high small more =
+      let e : (10 * suc number + (b - 48)) / 10 ≡ suc number = omega arith in
+      let f : 48 + (10 * suc number + (b - 48)) % 10 ≡ b = omega arith in
+      let g = decimal_step (10 * suc number + (b - 48)) (omega arith) small in
+      g ∙ ap (λ n. decimal n ++ ((48 + (10 * suc number + (b - 48)) % 10) ∷ [])) e ∙ ap (λ d. decimal (suc number) ++ (d ∷ [])) f
+
+  -- a number whose first digits are those of another is no less, and with one digit more no less than ten times that
+  value_of : (n : ℕ) → n < 2 ^ 64 → digits_value 10 (decimal n) ≡ n
+  value_of n h = (decimal_is_IsNumeral n h).1
+
+  begun_below : (ds : List ℕ) (n : ℕ) (more : List ℕ) → n < 2 ^ 64 → decimal n ≡ ds ++ more → digits_value 10 ds ≤ n
+  begun_below ds n more k e =
+      let p : digits_value 10 (take (length ds) (decimal n)) ≤ digits_value 10 (decimal n) = digits_value-take-le 10 (decimal n) (length ds) (omega arith) in
+      let q : take (length ds) (decimal n) ≡ ds = ap (take (length ds)) e ∙ take-append_seam ds more in
+      let r : digits_value 10 (take (length ds) (decimal n)) ≡ digits_value 10 ds = ap (digits_value 10) q in
+      let s = value_of n k in
+      omega arith
+
+  begun_value : (number : ℕ) → number < 2 ^ 64 → digits_value 10 (digits_so_far number) ≡ number
+  begun_value zero h = refl
+  begun_value (suc number) h = value_of (suc number) h
+
+  -- a number past the limit
+  pub past_limit : (number b : ℕ) → number ≤ limit → 48 ≤ b → b ≤ 57 → limit < 10 * number + (b - 48) → NoDigit limit number b
+  past_limit number b h low high past n more k e =
+      let small : n < 2 ^ 64 = omega arith in
+      let f : decimal n ≡ (digits_so_far number ++ (b ∷ [])) ++ more = e ∙ sym (append_assoc (digits_so_far number) (b ∷ []) more) in
+      let g = begun_below (digits_so_far number ++ (b ∷ [])) n more small f in
+      let p = digits_value_push 10 (digits_so_far number) b in
+      let v = begun_value number (omega arith) in
+      let d = digit_value_digit b (low, high) in
+      let i : n ≤ limit = k.1 in
+      omega arith
+
+-- a number that has begun has its digits
+pub begun : (number : ℕ) → 0 < number → digits_so_far number ≡ decimal number
+begun zero h = absurd (omega arith)
+begun (suc number) h = refl
+
+plain_so_far : (number : ℕ) → number < 2 ^ 64 → Plain (digits_so_far number)
+plain_so_far zero h = tt
+plain_so_far (suc number) h = plain_number (suc number) h
+
+-- a word before a space, and another text without a space
+no_space : (ds es y : List ℕ) → Plain ds → ds ≡ es ++ (32 ∷ y) → ⊥
+no_space [] [] y p e = cc
+no_space [] (c ∷ es) y p e = cc
+no_space (d ∷ ds) [] y p e = p.0 (let r : d ≡ 32 = cc in r)
+no_space (d ∷ ds) (c ∷ es) y p e = no_space ds es y p.1 (let r : ds ≡ es ++ (32 ∷ y) = cc in r)
+
+-- a word that goes on behind another's bytes
+goes_on : (ds es : List ℕ) (b : ℕ) (x y : List ℕ) → Plain ds → (b ≡ 32 → ⊥) → ds ++ (b ∷ x) ≡ es ++ (32 ∷ y) → (more : List ℕ) × (es ≡ ds ++ (b ∷ more))
+goes_on [] [] b x y p other e = absurd (other (let r : b ≡ 32 = cc in r))
+goes_on [] (c ∷ es) b x y p other e = (es, let r : c ≡ b = cc in ap (λ c. c ∷ es) r)
+goes_on (d ∷ ds) [] b x y p other e = absurd (p.0 (let r : d ≡ 32 = cc in r))
+goes_on (d ∷ ds) (c ∷ es) b x y p other e =
+    let t : ds ++ (b ∷ x) ≡ es ++ (32 ∷ y) = cc in
+    let r : c ≡ d = cc in
+    let more = goes_on ds es b x y p.1 other t in
+    (more.0, pair c d es (ds ++ (b ∷ more.0)) r more.1)
+  where
+    pair : (c d : ℕ) (es ds : List ℕ) → c ≡ d → es ≡ ds → (c ∷ es) ≡ (d ∷ ds)
+    pair c d es ds h t = cc
+
+-- the first byte of a number
+first_byte : (ds : List ℕ) (b : ℕ) (x y : List ℕ) → 0 < length ds → b ∷ x ≡ ds ++ (32 ∷ y) → (more : List ℕ) × (ds ≡ b ∷ more)
+first_byte [] b x y h e = absurd (omega arith)
+first_byte (c ∷ cs) b x y h e = (cs, let r : c ≡ b = cc in ap (λ c. c ∷ cs) r)
+
+module _ (limit : ℕ) (fits : limit < 2 ^ 64) where
+  -- where no digit of a number comes next
+  pub no_number_so : (number b : ℕ) (bytes x : List ℕ) → number ≤ limit → (b ≡ 32 → number ≡ 0) → NoDigit limit number b → bytes ≡ digits_so_far number ++ (b ∷ x) → NoWord decimal (IsNumber limit) bytes
+  no_number_so zero b bytes x h space none e n tail k f =
+      let small : n < 2 ^ 64 = omega arith in
+      let r = first_byte (decimal n) b x tail (decimal_nonempty n small) (sym e ∙ f) in
+      none n r.0 k r.1
+  no_number_so (suc number) b bytes x h space none e n tail k f =
+      let small : suc number < 2 ^ 64 = omega arith in
+      let r = goes_on (decimal (suc number)) (decimal n) b x tail (plain_so_far (suc number) small) (λ s. let z : suc number ≡ 0 = space s in omega arith) (sym e ∙ f) in
+      none n r.0 k r.1
+
+  -- where the bytes are over
+  pub no_number_end : (number : ℕ) (bytes : List ℕ) → number ≤ limit → bytes ≡ digits_so_far number ++ [] → NoWord decimal (IsNumber limit) bytes
+  no_number_end number bytes h e n tail k f =
+      let small : number < 2 ^ 64 = omega arith in
+      no_space (digits_so_far number) (decimal n) tail (plain_so_far number small) (sym (append-nil (digits_so_far number)) ∙ sym e ∙ f)

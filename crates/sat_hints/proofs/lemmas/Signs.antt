@@ -1,0 +1,119 @@
+-- Literals, or their negations, that are assumed in turn.
+use Rattle.std.proofs.Common.{ℕ, zero, suc, ◌+◌, ◌<◌, ◌≤◌, ◌≡◌, ◌≢◌, Bool, true, false, ◌||◌, eqb, List, [], ◌∷◌, length, take, drop, get_or, refl, sym, ◌∙◌, ap, subst, arith, ◌⊎◌, inl, inr}
+use Rattle.std.proofs.lemmas.Bool.{or_cases, or_left, or_right, both_ways, eqb-true, eq-eqb, true≢false}
+use Rattle.std.proofs.lemmas.List.{take_more, take_all, take-append-drop}
+use Rattle.sat_base.specs.values.Literals.{negated, negated_if}
+use Rattle.sat_checker.specs.LiteralSets.{is_among, is_tautology}
+use Rattle.sat_checker.proofs.lemmas.sets.Canonical.{tautology_from, both_signs}
+use Rattle.sat_checker.proofs.lemmas.sets.Order.{among-append}
+use Rattle.sat_hints.specs.inner.Course.{signed, Assumes}
+
+-- the first so many literals are assumed, of each variable one sign
+pub record AssumesFirst (ls : List ℕ) (count : ℕ) (assumed : List ℕ) : Type 0 where
+  pub are : Assumes (take count ls) assumed
+  pub one_sign : (l : ℕ) → is_among (take count ls) l ≡ true → is_among (take count ls) (negated l) ≡ true → ⊥
+
+pub assumes_none : (ls assumed : List ℕ) → assumed ≡ [] → AssumesFirst ls 0 assumed
+assumes_none ls assumed e = rw e (record { are = λ l. refl; one_sign = λ l a b. true≢false (sym a) })
+
+negated-negated : (l : ℕ) → negated (negated l) ≡ l
+negated-negated l = omega arith
+
+negated_other : (l : ℕ) → negated l ≢ l
+negated_other l e = omega arith
+
+pub signed-at : (negate : Bool) (ls : List ℕ) (i : ℕ) → i < length ls → get_or (signed negate ls) i 0 ≡ negated_if negate (get_or ls i 0)
+signed-at negate [] i h = absurd (omega arith)
+signed-at negate (l ∷ ls) zero h = refl
+signed-at negate (l ∷ ls) (suc i) h = signed-at negate ls i (omega arith)
+
+pub length-signed : (negate : Bool) (ls : List ℕ) → length (signed negate ls) ≡ length ls
+length-signed negate [] = refl
+length-signed negate (l ∷ ls) = let e = length-signed negate ls in omega arith
+
+among_take : (ls : List ℕ) (i m : ℕ) → is_among (take i ls) m ≡ true → is_among ls m ≡ true
+among_take ls i m h = ap (λ xs. is_among xs m) (sym (take-append-drop i ls)) ∙ among-append (take i ls) (drop i ls) m ∙ or_left (is_among (take i ls) m) (is_among (drop i ls) m) h
+
+or_false : (b : Bool) → (b || (false || false)) ≡ b
+or_false true = refl
+or_false false = refl
+
+-- another default is as good within the list
+pub same_default : {A : Type 0} (xs : List A) (i : ℕ) (d e : A) → i < length xs → get_or xs i d ≡ get_or xs i e
+same_default [] i d e h = absurd (omega arith)
+same_default (x ∷ xs) zero d e h = refl
+same_default (x ∷ xs) (suc i) d e h = same_default xs i d e (omega arith)
+
+-- the literal at a place, or its negation
+pub lit_at : (negate : Bool) (ls : List ℕ) (i item lit : ℕ) → i < length ls → item ≡ get_or ls i item → lit ≡ negated_if negate item → lit ≡ get_or (signed negate ls) i 0
+lit_at negate ls i item lit h is e = e ∙ ap (negated_if negate) (is ∙ same_default ls i item 0 h) ∙ sym (signed-at negate ls i h)
+
+-- what is among the first, with one more
+module _ (ls : List ℕ) (i : ℕ) (inside : i < length ls) where
+  among_more : (m : ℕ) → is_among (take (i + 1) ls) m ≡ (is_among (take i ls) m || (eqb (get_or ls i 0) m || false))
+  among_more m = ap (λ xs. is_among xs m) (take_more ls i 0 inside) ∙ among-append (take i ls) (get_or ls i 0 ∷ []) m
+
+  or_none : (b : Bool) → (b || false) ≡ true → b ≡ true
+  or_none true e = refl
+  or_none false e = e
+
+  among_split : (m : ℕ) → is_among (take (i + 1) ls) m ≡ true → (is_among (take i ls) m ≡ true) ⊎ (get_or ls i 0 ≡ m)
+  among_split m h = elim (or_cases (is_among (take i ls) m) (eqb (get_or ls i 0) m || false) (sym (among_more m) ∙ h)) [
+    | inl a ↦ inl a
+    | inr b ↦ inr (eqb-true (get_or ls i 0) m (or_none (eqb (get_or ls i 0) m) b))
+  ]
+
+  among_at : is_among ls (get_or ls i 0) ≡ true
+  among_at = among_take ls (i + 1) (get_or ls i 0) (among_more (get_or ls i 0) ∙ or_right (is_among (take i ls) (get_or ls i 0)) (eqb (get_or ls i 0) (get_or ls i 0) || false) (or_left (eqb (get_or ls i 0) (get_or ls i 0)) false (eq-eqb (get_or ls i 0) (get_or ls i 0) refl)))
+
+module _ (ls assumed : List ℕ) (i : ℕ) (inside : i < length ls) (so_far : AssumesFirst ls i assumed) where
+  -- the other sign of its variable is assumed
+  pub both_met : is_among assumed (negated (get_or ls i 0)) ≡ true → is_tautology ls ≡ true
+  both_met h = tautology_from ls (get_or ls i 0) (among_at ls i inside) (among_take ls i (negated (get_or ls i 0)) (sym (so_far.are (negated (get_or ls i 0))) ∙ h))
+
+  one_sign_more : is_among assumed (negated (get_or ls i 0)) ≡ false → (m : ℕ) → is_among (take (i + 1) ls) m ≡ true → is_among (take (i + 1) ls) (negated m) ≡ true → ⊥
+  one_sign_more fresh m a b = elim (among_split ls i inside m a) [
+    | inl c ↦ elim (among_split ls i inside (negated m) b) [
+      | inl d ↦ so_far.one_sign m c d
+      | inr e ↦ let f : m ≡ negated (get_or ls i 0) = sym (negated-negated m) ∙ ap negated (sym e) in
+          both_ways (is_among assumed (negated (get_or ls i 0))) fresh (so_far.are (negated (get_or ls i 0)) ∙ subst (λ x. is_among (take i ls) x ≡ true) f c)
+    ]
+    | inr e ↦ elim (among_split ls i inside (negated m) b) [
+      | inl d ↦ both_ways (is_among assumed (negated (get_or ls i 0))) fresh (so_far.are (negated (get_or ls i 0)) ∙ subst (λ x. is_among (take i ls) x ≡ true) (ap negated (sym e)) d)
+      | inr f ↦ negated_other m (sym f ∙ e)
+    ]
+  ]
+
+  -- it is assumed already
+  pub assumes_same : is_among assumed (negated (get_or ls i 0)) ≡ false → is_among assumed (get_or ls i 0) ≡ true → AssumesFirst ls (i + 1) assumed
+  assumes_same fresh had = record { are = λ m. so_far.are m ∙ go m (eqb (get_or ls i 0) m) refl ∙ sym (among_more ls i inside m); one_sign = one_sign_more fresh }
+    where
+      go : (m : ℕ) (b : Bool) → eqb (get_or ls i 0) m ≡ b → is_among (take i ls) m ≡ (is_among (take i ls) m || (eqb (get_or ls i 0) m || false))
+      go m true e =
+          let k : is_among (take i ls) m ≡ true = subst (λ x. is_among (take i ls) x ≡ true) (eqb-true (get_or ls i 0) m e) (sym (so_far.are (get_or ls i 0)) ∙ had) in
+          k ∙ sym (or_left (is_among (take i ls) m) (eqb (get_or ls i 0) m || false) k)
+      go m false e = sym (ap (λ b. is_among (take i ls) m || (b || false)) e ∙ or_false (is_among (take i ls) m))
+
+  -- it is assumed now
+  pub assumes_more : (new : List ℕ) → new ≡ get_or ls i 0 ∷ assumed → is_among assumed (negated (get_or ls i 0)) ≡ false → AssumesFirst ls (i + 1) new
+  assumes_more new is fresh = rw is (record { are = λ m. ap (λ b. eqb (get_or ls i 0) m || b) (so_far.are m) ∙ turn (eqb (get_or ls i 0) m) (is_among (take i ls) m) ∙ sym (among_more ls i inside m); one_sign = one_sign_more fresh })
+    where
+      turn : (a b : Bool) → (a || b) ≡ (b || (a || false))
+      turn true true = refl
+      turn true false = refl
+      turn false true = refl
+      turn false false = refl
+
+-- all are assumed
+pub record AssumesAll (ls assumed : List ℕ) : Type 0 where
+  pub consistent : is_tautology ls ≡ false
+  pub are : Assumes ls assumed
+
+pub assumes_all : (ls assumed : List ℕ) (i : ℕ) → length ls ≤ i → AssumesFirst ls i assumed → AssumesAll ls assumed
+assumes_all ls assumed i h so_far =
+    let e : take i ls ≡ ls = take_all i ls h in
+    record { consistent = go (is_tautology ls) refl (subst (λ xs. (l : ℕ) → is_among xs l ≡ true → is_among xs (negated l) ≡ true → ⊥) e so_far.one_sign); are = subst (λ xs. Assumes xs assumed) e so_far.are }
+  where
+    go : (b : Bool) → is_tautology ls ≡ b → ((l : ℕ) → is_among ls l ≡ true → is_among ls (negated l) ≡ true → ⊥) → b ≡ false
+    go true t one = let s = both_signs ls t in absurd (one s.literal s.within s.negation)
+    go false t one = refl

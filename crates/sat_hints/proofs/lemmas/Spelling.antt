@@ -1,0 +1,145 @@
+-- Which bytes are a line.
+use Rattle.std.proofs.Common.{ℕ, ◌≡◌, Bool, true, false, MatchBool, List, [], ◌∷◌, ◌++◌, refl, sym, ◌∙◌, ap, subst, arith, append_assoc}
+use Rattle.sat_base.specs.dimacs.DimacsText.{number_text}
+use Rattle.sat_hints.specs.Lines.{Input, Derived, Gone, Core, id_text, id_words, literal_words, Spells}
+use Rattle.sat_hints.specs.inner.LineReading.{IsId, IsLiteral, NoWord, BeginsWithWord, BeginsWithWords, IsOne, IsBoth, IsNoLine}
+use Rattle.sat_hints.proofs.lemmas.Words.{ended_words, same_word, ids_are_words, literals_are_words}
+
+abbrev end : List ℕ
+end = 48 ∷ 10 ∷ []
+
+-- `LITS 0` and LF
+pub one_read : (bytes ls rest : List ℕ) → BeginsWithWords number_text IsLiteral bytes ls rest → rest ≡ end → IsOne bytes ls
+one_read bytes ls rest r e = (r.are, r.whole ∙ ap (λ t. literal_words ls ++ t) e)
+
+pub one_refused : (bytes ls rest : List ℕ) → BeginsWithWords number_text IsLiteral bytes ls rest → (rest ≡ end → ⊥) → (ks : List ℕ) → IsOne bytes ks → ⊥
+one_refused bytes ls rest r never ks o = never (ended_words number_text IsLiteral literals_are_words bytes ls rest r ks (10 ∷ []) o.0 o.1).rests
+
+-- `LITS 0 IDS 0` and LF
+pub both_read : (bytes ls rest behind ids last : List ℕ) → BeginsWithWords number_text IsLiteral bytes ls rest → rest ≡ 48 ∷ 32 ∷ behind → BeginsWithWords id_text IsId behind ids last → last ≡ end → IsBoth bytes ls ids
+both_read bytes ls rest behind ids last r e s f = (
+  r.are,
+  s.are,
+  r.whole ∙ ap (λ t. literal_words ls ++ t) (e ∙ ap (λ t. 48 ∷ 32 ∷ t) (s.whole ∙ ap (λ t. id_words ids ++ t) f)),
+)
+
+pub both_no_middle : (bytes ls rest : List ℕ) → BeginsWithWords number_text IsLiteral bytes ls rest → ((tail : List ℕ) → rest ≡ 48 ∷ 32 ∷ tail → ⊥) → (ks is : List ℕ) → IsBoth bytes ks is → ⊥
+both_no_middle bytes ls rest r never ks is o = never (id_words is ++ end) (ended_words number_text IsLiteral literals_are_words bytes ls rest r ks (32 ∷ (id_words is ++ end)) o.0 o.2).rests
+
+pub both_no_end : (bytes ls rest behind ids last : List ℕ) → BeginsWithWords number_text IsLiteral bytes ls rest → rest ≡ 48 ∷ 32 ∷ behind → BeginsWithWords id_text IsId behind ids last → (last ≡ end → ⊥) → (ks is : List ℕ) → IsBoth bytes ks is → ⊥
+both_no_end bytes ls rest behind ids last r e s never ks is o =
+    let m = (ended_words number_text IsLiteral literals_are_words bytes ls rest r ks (32 ∷ (id_words is ++ end)) o.0 o.2).rests in
+    let f : 48 ∷ 32 ∷ behind ≡ 48 ∷ 32 ∷ (id_words is ++ end) = sym e ∙ m in
+    let g : behind ≡ id_words is ++ end = cc in
+    never (ended_words id_text IsId ids_are_words behind ids last s is (10 ∷ []) o.1 g).rests
+
+pub one_answer : (b : Bool) (bytes ls rest : List ℕ) → BeginsWithWords number_text IsLiteral bytes ls rest → MatchBool b (rest ≡ end) (rest ≡ end → ⊥) → MatchBool b (IsOne bytes ls) ((ks : List ℕ) → IsOne bytes ks → ⊥)
+one_answer true bytes ls rest r e = one_read bytes ls rest r e
+one_answer false bytes ls rest r e = one_refused bytes ls rest r e
+
+pub both_answer : (b : Bool) (bytes ls rest behind ids last : List ℕ) → BeginsWithWords number_text IsLiteral bytes ls rest → rest ≡ 48 ∷ 32 ∷ behind → BeginsWithWords id_text IsId behind ids last → MatchBool b (last ≡ end) (last ≡ end → ⊥)
+    → MatchBool b (IsBoth bytes ls ids) ((ks is : List ℕ) → IsBoth bytes ks is → ⊥)
+both_answer true bytes ls rest behind ids last r e s f = both_read bytes ls rest behind ids last r e s f
+both_answer false bytes ls rest behind ids last r e s f = both_no_end bytes ls rest behind ids last r e s f
+
+-- one id in front
+one_id : (id : ℕ) (rest : List ℕ) → id_words (id ∷ []) ++ rest ≡ id_text id ++ (32 ∷ rest)
+one_id id rest = append_assoc (id_text id) (32 ∷ []) rest
+
+pub input_spelt : (bytes rest ls : List ℕ) (id : ℕ) → BeginsWithWord id_text IsId bytes id rest → IsOne rest ls → Spells (105 ∷ 32 ∷ bytes) (Input id ls)
+input_spelt bytes rest ls id b o = (
+  ((b.0, tt), o.0),
+  ap (λ t. 105 ∷ 32 ∷ t) (b.1 ∙ ap (λ t. id_text id ++ (32 ∷ t)) o.1 ∙ sym (one_id id (literal_words ls ++ end))),
+)
+
+pub derived_spelt : (bytes rest ls ids : List ℕ) (id : ℕ) → BeginsWithWord id_text IsId bytes id rest → IsBoth rest ls ids → Spells (100 ∷ 32 ∷ bytes) (Derived id ls ids)
+derived_spelt bytes rest ls ids id b o = (
+  ((b.0, tt), o.0, o.1),
+  ap (λ t. 100 ∷ 32 ∷ t) (b.1 ∙ ap (λ t. id_text id ++ (32 ∷ t)) o.2 ∙ sym (one_id id (literal_words ls ++ (48 ∷ 32 ∷ (id_words ids ++ end))))),
+)
+
+pub gone_spelt : (bytes rest : List ℕ) (id : ℕ) → BeginsWithWord id_text IsId bytes id rest → rest ≡ end → Spells (120 ∷ 32 ∷ bytes) (Gone id)
+gone_spelt bytes rest id b e = ((b.0, tt), ap (λ t. 120 ∷ 32 ∷ t) (b.1 ∙ ap (λ t. id_text id ++ (32 ∷ t)) e ∙ sym (one_id id end)))
+
+pub core_spelt : (bytes ls ids : List ℕ) → IsBoth bytes ls ids → Spells (102 ∷ 32 ∷ bytes) (Core ls ids)
+core_spelt bytes ls ids o = ((o.0, o.1), ap (λ t. 102 ∷ 32 ∷ t) o.2)
+
+-- what a line of each kind is
+abbrev IsInput : List ℕ → Type 0
+IsInput bytes = (id : ℕ) × (rest : List ℕ) × (ls : List ℕ) × BeginsWithWord id_text IsId bytes id rest × IsOne rest ls
+
+abbrev IsDerived : List ℕ → Type 0
+IsDerived bytes = (id : ℕ) × (rest : List ℕ) × (ls : List ℕ) × (ids : List ℕ) × BeginsWithWord id_text IsId bytes id rest × IsBoth rest ls ids
+
+abbrev IsGone : List ℕ → Type 0
+IsGone bytes = (id : ℕ) × BeginsWithWord id_text IsId bytes id end
+
+abbrev IsCore : List ℕ → Type 0
+IsCore bytes = (ls : List ℕ) × (ids : List ℕ) × IsBoth bytes ls ids
+
+pub not_input : (bytes : List ℕ) → (IsInput bytes → ⊥) → IsNoLine (105 ∷ 32 ∷ bytes)
+not_input bytes never (Input id ls) s =
+    let f = s.1 in let t : bytes ≡ id_words (id ∷ []) ++ (literal_words ls ++ end) = cc in
+    never (id, literal_words ls ++ end, ls, (s.0.0.0, t ∙ one_id id (literal_words ls ++ end)), (s.0.1, refl))
+not_input bytes never (Derived id ls ids) s = let f = s.1 in let r : ◌≡◌ {A = ℕ} 105 100 = cc in omega arith
+not_input bytes never (Gone id) s = let f = s.1 in let r : ◌≡◌ {A = ℕ} 105 120 = cc in omega arith
+not_input bytes never (Core ls ids) s = let f = s.1 in let r : ◌≡◌ {A = ℕ} 105 102 = cc in omega arith
+
+pub not_derived : (bytes : List ℕ) → (IsDerived bytes → ⊥) → IsNoLine (100 ∷ 32 ∷ bytes)
+not_derived bytes never (Derived id ls ids) s =
+    let f = s.1 in let t : bytes ≡ id_words (id ∷ []) ++ (literal_words ls ++ (48 ∷ 32 ∷ (id_words ids ++ end))) = cc in
+    never (id, literal_words ls ++ (48 ∷ 32 ∷ (id_words ids ++ end)), ls, ids, (s.0.0.0, t ∙ one_id id (literal_words ls ++ (48 ∷ 32 ∷ (id_words ids ++ end)))), (s.0.1, s.0.2, refl))
+not_derived bytes never (Input id ls) s = let f = s.1 in let r : ◌≡◌ {A = ℕ} 100 105 = cc in omega arith
+not_derived bytes never (Gone id) s = let f = s.1 in let r : ◌≡◌ {A = ℕ} 100 120 = cc in omega arith
+not_derived bytes never (Core ls ids) s = let f = s.1 in let r : ◌≡◌ {A = ℕ} 100 102 = cc in omega arith
+
+pub not_gone : (bytes : List ℕ) → (IsGone bytes → ⊥) → IsNoLine (120 ∷ 32 ∷ bytes)
+not_gone bytes never (Gone id) s =
+    let f = s.1 in let t : bytes ≡ id_words (id ∷ []) ++ end = cc in
+    never (id, (s.0.0, t ∙ one_id id end))
+not_gone bytes never (Input id ls) s = let f = s.1 in let r : ◌≡◌ {A = ℕ} 120 105 = cc in omega arith
+not_gone bytes never (Derived id ls ids) s = let f = s.1 in let r : ◌≡◌ {A = ℕ} 120 100 = cc in omega arith
+not_gone bytes never (Core ls ids) s = let f = s.1 in let r : ◌≡◌ {A = ℕ} 120 102 = cc in omega arith
+
+pub not_core : (bytes : List ℕ) → (IsCore bytes → ⊥) → IsNoLine (102 ∷ 32 ∷ bytes)
+not_core bytes never (Core ls ids) s =
+    let f = s.1 in let t : bytes ≡ literal_words ls ++ (48 ∷ 32 ∷ (id_words ids ++ end)) = cc in
+    never (ls, ids, (s.0.0, s.0.1, t))
+not_core bytes never (Input id ls) s = let f = s.1 in let r : ◌≡◌ {A = ℕ} 102 105 = cc in omega arith
+not_core bytes never (Derived id ls ids) s = let f = s.1 in let r : ◌≡◌ {A = ℕ} 102 100 = cc in omega arith
+not_core bytes never (Gone id) s = let f = s.1 in let r : ◌≡◌ {A = ℕ} 102 120 = cc in omega arith
+
+-- the id, and what is behind it, is read in one way
+pub no_id : {A : Type 0} (bytes : List ℕ) → NoWord id_text IsId bytes → (id : ℕ) (rest : List ℕ) → BeginsWithWord id_text IsId bytes id rest → A
+no_id bytes none id rest b = absurd (none id rest b.0 b.1)
+
+pub same_id : (bytes : List ℕ) (x y : ℕ) (r s : List ℕ) → BeginsWithWord id_text IsId bytes x r → BeginsWithWord id_text IsId bytes y s → s ≡ r
+same_id bytes x y r s b c = sym (same_word id_text IsId ids_are_words bytes x y r s b c.0 c.1).1
+
+pub input_no_id : (bytes : List ℕ) → NoWord id_text IsId bytes → IsNoLine (105 ∷ 32 ∷ bytes)
+input_no_id bytes none = not_input bytes (λ i. none i.0 i.1 i.3.0 i.3.1)
+
+pub input_refused : (bytes rest : List ℕ) (id : ℕ) → BeginsWithWord id_text IsId bytes id rest → ((ls : List ℕ) → IsOne rest ls → ⊥) → IsNoLine (105 ∷ 32 ∷ bytes)
+input_refused bytes rest id b never = not_input bytes (λ i. never i.2 (subst (λ t. IsOne t i.2) (same_id bytes id i.0 rest i.1 b i.3) i.4))
+
+pub derived_no_id : (bytes : List ℕ) → NoWord id_text IsId bytes → IsNoLine (100 ∷ 32 ∷ bytes)
+derived_no_id bytes none = not_derived bytes (λ i. none i.0 i.1 i.4.0 i.4.1)
+
+pub derived_refused : (bytes rest : List ℕ) (id : ℕ) → BeginsWithWord id_text IsId bytes id rest → ((ls ids : List ℕ) → IsBoth rest ls ids → ⊥) → IsNoLine (100 ∷ 32 ∷ bytes)
+derived_refused bytes rest id b never = not_derived bytes (λ i. never i.2 i.3 (subst (λ t. IsBoth t i.2 i.3) (same_id bytes id i.0 rest i.1 b i.4) i.5))
+
+pub gone_no_id : (bytes : List ℕ) → NoWord id_text IsId bytes → IsNoLine (120 ∷ 32 ∷ bytes)
+gone_no_id bytes none = not_gone bytes (λ i. none i.0 end i.1.0 i.1.1)
+
+pub gone_refused : (bytes rest : List ℕ) (id : ℕ) → BeginsWithWord id_text IsId bytes id rest → (rest ≡ end → ⊥) → IsNoLine (120 ∷ 32 ∷ bytes)
+gone_refused bytes rest id b never = not_gone bytes (λ i. never (sym (same_id bytes id i.0 rest end b i.1)))
+
+pub core_refused : (bytes : List ℕ) → ((ls ids : List ℕ) → IsBoth bytes ls ids → ⊥) → IsNoLine (102 ∷ 32 ∷ bytes)
+core_refused bytes never = not_core bytes (λ i. never i.0 i.1 i.2)
+
+-- no other kind
+pub no_kind : (bytes : List ℕ) → ((t : List ℕ) → bytes ≡ 100 ∷ 32 ∷ t → ⊥) → ((t : List ℕ) → bytes ≡ 120 ∷ 32 ∷ t → ⊥) → ((t : List ℕ) → bytes ≡ 105 ∷ 32 ∷ t → ⊥) → ((t : List ℕ) → bytes ≡ 102 ∷ 32 ∷ t → ⊥) → IsNoLine bytes
+no_kind bytes d x i f (Input id ls) s = i (id_words (id ∷ []) ++ (literal_words ls ++ end)) s.1
+no_kind bytes d x i f (Derived id ls ids) s = d (id_words (id ∷ []) ++ (literal_words ls ++ (48 ∷ 32 ∷ (id_words ids ++ end)))) s.1
+no_kind bytes d x i f (Gone id) s = x (id_words (id ∷ []) ++ end) s.1
+no_kind bytes d x i f (Core ls ids) s = f (literal_words ls ++ (48 ∷ 32 ∷ (id_words ids ++ end))) s.1

@@ -1,0 +1,220 @@
+-- What it is for a judge to take a line.
+use Rattle.std.proofs.Common.{ℕ, suc, ◌+◌, ◌-◌, ◌^◌, ◌<◌, ◌≤◌, ◌≡◌, ◌≢◌, Bool, true, false, cond, eqb, ◌||◌, List, [], ◌∷◌, length, min, map, Option, None, Some, refl, sym, ◌∙◌, ap, subst, arith, inl, inr}
+use Rattle.std.proofs.lemmas.Bool.{eqb-true}
+use Rattle.std.specs.List.{AllByRecursion}
+use Rattle.sat_base.specs.text.Tokenizing.{held}
+use Rattle.sat_base.specs.values.Literals.{negated}
+use Rattle.sat_checker.specs.LiteralSets.{canonical, is_tautology}
+use Rattle.sat_checker.specs.inner.Marks.{NoRepeats}
+use Rattle.sat_checker.proofs.lemmas.sets.Canonical.{canonical_increasing}
+use Rattle.sat_checker.proofs.lemmas.sets.Marks.{once}
+use Rattle.sat_hints.specs.Lines.{Line, Input, Derived, Gone, Core}
+use Rattle.sat_hints.specs.Hints.{and_clauses, clause_under, clauses_under, least_id, IsInOrder, named_ids, assumed_by, ConflictsIf, Conflicts, Follows, is_empty, derives_empty, count_of_cores}
+use Rattle.sat_hints.specs.Checks.{IsFaultOf}
+use Rattle.sat_hints.specs.inner.Clauses.{clause_in, clauses_in, AllBelow, IsStore, Loses}
+use Rattle.sat_hints.specs.inner.Course.{course, signed, Runs}
+use Rattle.sat_hints.specs.inner.Judging.{IsReady, HasTaken, IsSame, Refutes, StoresClause, TakesOne, TakesLine}
+use Rattle.sat_hints.specs.declared.answer.HintWhy.{HintWhy}
+use Rattle.sat_hints.specs.declared.answer.HintWhy.TheVariants.{Syntax, IdOrder, UnknownId, NotUnit, NotFalsified}
+use Rattle.sat_hints.specs.declared.judging.Judge.{Judge}
+use Rattle.sat_hints.specs.declared.present.Present.{Present}
+use Rattle.sat_hints.proofs.lemmas.Courses.{Says, course_says}
+
+-- the same clauses under ids
+clauses_same : (p : Present) (lines : List Line) → ((id : ℕ) → clause_in p id ≡ clause_under id lines) → (ids : List ℕ) → clauses_in p ids ≡ clauses_under ids lines
+clauses_same p lines h [] = refl
+clauses_same p lines h (id ∷ ids) = ap (λ c. and_clauses c (clauses_in p ids)) (h id) ∙ ap (and_clauses (clause_under id lines)) (clauses_same p lines h ids)
+
+-- a clause under an id is a sorted set
+set_once : (ls c : List ℕ) → Some (canonical ls) ≡ Some c → NoRepeats c
+set_once ls c e = let f : canonical ls ≡ c = cc in subst NoRepeats f (once (canonical ls) (canonical_increasing ls))
+
+one_once : (id : ℕ) (lines : List Line) (c : List ℕ) → clause_under id lines ≡ Some c → NoRepeats c
+one_once id [] c e = absurd cc
+one_once id (Input i ls ∷ lines) c e = go (eqb id i) (one_once id lines c) e
+  where
+    go : (b : Bool) → (clause_under id lines ≡ Some c → NoRepeats c) → cond b (Some (canonical ls)) (clause_under id lines) ≡ Some c → NoRepeats c
+    go true ih e = set_once ls c e
+    go false ih e = ih e
+one_once id (Derived i ls ids ∷ lines) c e = go (eqb id i) (one_once id lines c) e
+  where
+    go : (b : Bool) → (clause_under id lines ≡ Some c → NoRepeats c) → cond b (Some (canonical ls)) (clause_under id lines) ≡ Some c → NoRepeats c
+    go true ih e = set_once ls c e
+    go false ih e = ih e
+one_once id (Gone i ∷ lines) c e = go (eqb id i) (one_once id lines c) e
+  where
+    go : (b : Bool) → (clause_under id lines ≡ Some c → NoRepeats c) → cond b None (clause_under id lines) ≡ Some c → NoRepeats c
+    go true ih e = absurd cc
+    go false ih e = ih e
+one_once id (Core ls ids ∷ lines) c e = one_once id lines c e
+
+sets_once : (ids : List ℕ) (lines : List Line) (cs : List (List ℕ)) → clauses_under ids lines ≡ Some cs → AllByRecursion NoRepeats cs
+sets_once [] lines cs e = let f : [] ≡ cs = cc in subst (AllByRecursion NoRepeats) f tt
+sets_once (id ∷ ids) lines cs e = go (λ ds. sets_once ids lines ds) (clause_under id lines) refl (clauses_under ids lines) refl e
+  where
+    go : ((ds : List (List ℕ)) → clauses_under ids lines ≡ Some ds → AllByRecursion NoRepeats ds) → (c : Option (List ℕ)) → clause_under id lines ≡ c → (ds : Option (List (List ℕ))) → clauses_under ids lines ≡ ds → and_clauses c ds ≡ Some cs → AllByRecursion NoRepeats cs
+    go ih None h ds k e = absurd cc
+    go ih (Some c) h None k e = absurd cc
+    go ih (Some c) h (Some ds) k e = let f : c ∷ ds ≡ cs = cc in subst (AllByRecursion NoRepeats) f (one_once id lines c h, ih ds k)
+
+-- what a line that has to run into a conflict is
+abbrev Says_of : Option HintWhy → List Line → Line → Type 0
+Says_of None lines line = Follows lines line
+Says_of (Some why) lines line = IsFaultOf lines line why
+
+conflict_of : (a : Option (List ℕ)) (assumed : List ℕ) (clauses : List (List ℕ)) → a ≡ Some assumed → Conflicts assumed clauses → ConflictsIf a clauses
+conflict_of None assumed clauses e h = absurd cc
+conflict_of (Some b) assumed clauses e h = let f : assumed ≡ b = cc in subst (λ x. Conflicts x clauses) f h
+
+module _ (lines : List Line) (line : Line) (assumed : List ℕ) (in_order : IsInOrder lines line) (assumes : assumed_by line ≡ Some assumed) where
+  by_course : (clauses : List (List ℕ)) → clauses_under (named_ids line) lines ≡ Some clauses → is_tautology assumed ≡ false → (why : Option HintWhy) → Says why assumed clauses → Says_of why lines line
+  by_course clauses present t None s = record { in_order = in_order; clauses = clauses; present = present; conflict = conflict_of (assumed_by line) assumed clauses assumes (inr s) }
+  by_course clauses present t (Some NotUnit) s = record { in_order = in_order; clauses = clauses; present = present; assumed = assumed; assumes = assumes; consistent = t; fails = s }
+  by_course clauses present t (Some NotFalsified) s = record { in_order = in_order; clauses = clauses; present = present; assumed = assumed; assumes = assumes; consistent = t; fails = s }
+  by_course clauses present t (Some Syntax) s = absurd s
+  by_course clauses present t (Some IdOrder) s = absurd s
+  by_course clauses present t (Some UnknownId) s = absurd s
+
+  refuted : (p : Present) (why : Option HintWhy) → ((id : ℕ) → clause_in p id ≡ clause_under id lines) → Refutes p assumed (named_ids line) why → Says_of why lines line
+  refuted p why same (inl h) = subst (λ w. Says_of w lines line) (sym h.1) (in_order, sym (clauses_same p lines same (named_ids line)) ∙ h.0)
+  refuted p why same (inr h) = go h.2
+    where
+      present : clauses_under (named_ids line) lines ≡ Some h.0
+      present = sym (clauses_same p lines same (named_ids line)) ∙ h.1
+
+      go : Runs assumed h.0 why → Says_of why lines line
+      go (inl r) = subst (λ w. Says_of w lines line) (sym r.1) (record { in_order = in_order; clauses = h.0; present = present; conflict = conflict_of (assumed_by line) assumed h.0 assumes (inl r.0) })
+      go (inr r) = subst (λ w. Says_of w lines line) (sym r.1) (by_course h.0 present r.0 (course assumed h.0) (course_says h.0 assumed (sets_once (named_ids line) lines h.0 present)))
+
+signed_true : (ls : List ℕ) → signed true ls ≡ map negated ls
+signed_true [] = refl
+signed_true (l ∷ ls) = ap (λ ms. negated l ∷ ms) (signed_true ls)
+
+signed_false : (ls : List ℕ) → signed false ls ≡ ls
+signed_false [] = refl
+signed_false (l ∷ ls) = ap (λ ms. l ∷ ms) (signed_false ls)
+
+-- A CLAUSE OF THE FORMULA
+pub out_of_order : (old new : Judge) (id : ℕ) (clause : List ℕ) → new ≡ old → id < old.least_id → TakesOne (Some IdOrder) old new (Input id clause)
+out_of_order old new id clause e l = (ap (λ j. j.lines) e, λ lines t. λ h. let k : old.least_id ≡ least_id lines = t.least in omega arith)
+
+stored_ready : (old new : Judge) (id : ℕ) (clause : List ℕ) → StoresClause old new id clause → IsReady new
+stored_ready old new id clause s = record { store = s.adds.store; below = subst (AllBelow new.present.ids.items) (sym s.least) (s.adds.below (id + 1) (omega arith)); nothing = s.nothing }
+
+pub input_taken : (old new : Judge) (id : ℕ) (clause : List ℕ) → old.least_id ≤ id → StoresClause old new id clause → TakesOne None old new (Input id clause)
+input_taken old new id clause l s = (
+  stored_ready old new id clause s,
+  s.lines,
+  λ lines t. record {
+    follows = record { in_order = subst (λ n. n ≤ id) t.least l; clauses = []; present = refl; conflict = tt };
+    clauses = λ j. s.adds.clauses j ∙ ap (λ o. cond (eqb j id) (Some (canonical clause)) o) (t.clauses j);
+    least = s.least;
+    says_empty = s.empty ∙ t.says_empty;
+    counts_cores = s.cores ∙ t.counts_cores;
+  },
+)
+
+-- A CLAUSE THAT FOLLOWS
+pub derived_out_of_order : (old new : Judge) (id : ℕ) (clause ids : List ℕ) → new ≡ old → id < old.least_id → TakesOne (Some IdOrder) old new (Derived id clause ids)
+derived_out_of_order old new id clause ids e l = (ap (λ j. j.lines) e, λ lines t. λ h. let k : old.least_id ≡ least_id lines = t.least in omega arith)
+
+derived_refuted : (old : Judge) (id : ℕ) (clause ids : List ℕ) (why : Option HintWhy) → old.least_id ≤ id → Refutes old.present (signed true clause) ids why → (lines : List Line) → HasTaken old lines → Says_of why lines (Derived id clause ids)
+derived_refuted old id clause ids why l r lines t =
+    refuted lines (Derived id clause ids) (map negated clause) (subst (λ n. n ≤ id) t.least l) refl old.present why t.clauses (subst (λ a. Refutes old.present a ids why) (signed_true clause) r)
+
+pub derived_faulty : (old new : Judge) (id : ℕ) (clause ids : List ℕ) (why : HintWhy) → old.least_id ≤ id → Refutes old.present (signed true clause) ids (Some why) → IsSame old new → TakesOne (Some why) old new (Derived id clause ids)
+derived_faulty old new id clause ids why l r s = (s.lines, derived_refuted old id clause ids (Some why) l r)
+
+empty_length : (ls : List ℕ) → is_empty ls ≡ eqb (length ls) 0
+empty_length [] = refl
+empty_length (l ∷ ls) = sym (never (eqb (length (l ∷ ls)) 0) refl)
+  where
+    never : (b : Bool) → eqb (length (l ∷ ls)) 0 ≡ b → eqb (length (l ∷ ls)) 0 ≡ false
+    never true e = absurd (let f : length (l ∷ ls) ≡ 0 = eqb-true (length (l ∷ ls)) 0 e in omega arith)
+    never false e = e
+
+pub derived_taken : (old mid last new : Judge) (id : ℕ) (clause ids : List ℕ) (e : Bool) → old.least_id ≤ id → Refutes old.present (signed true clause) ids None → IsSame old mid → StoresClause mid last id clause → e ≡ (eqb (length clause) 0 || last.empty) → new ≡ record last { empty = e } → TakesOne None old new (Derived id clause ids)
+derived_taken old mid last new id clause ids e l r m s f n = (
+  subst IsReady (sym n) (let k = stored_ready mid last id clause s in record { store = k.store; below = k.below; nothing = k.nothing }),
+  ap (λ j. j.lines) n ∙ s.lines ∙ m.lines,
+  λ lines t. record {
+    follows = derived_refuted old id clause ids None l r lines t;
+    clauses = λ j. ap (λ k. clause_in k.present j) n ∙ s.adds.clauses j ∙ ap (λ o. cond (eqb j id) (Some (canonical clause)) o) (ap (λ p. clause_in p j) m.present ∙ t.clauses j);
+    least = ap (λ j. j.least_id) n ∙ s.least;
+    says_empty = ap (λ j. j.empty) n ∙ f ∙ ap (λ b. eqb (length clause) 0 || b) (s.empty ∙ m.empty ∙ t.says_empty) ∙ ap (λ b. b || derives_empty lines) (sym (empty_length clause));
+    counts_cores = ap (λ j. j.cores) n ∙ s.cores ∙ m.cores ∙ t.counts_cores;
+  },
+)
+
+-- A CLAUSE THAT IS GONE
+some_clause : (o : Option (List ℕ)) → o ≢ None → (c : List ℕ) × (o ≡ Some c)
+some_clause None h = absurd (h refl)
+some_clause (Some c) h = (c, refl)
+
+pub gone_taken : (old new : Judge) (id : ℕ) (p : Present) → IsReady old → clause_in old.present id ≢ None → Loses old.present p id → new ≡ record old { present = p } → TakesOne None old new (Gone id)
+gone_taken old new id p r h l n = (
+  subst IsReady (sym n) (record { store = l.store; below = l.below old.least_id r.below; nothing = r.nothing }),
+  ap (λ j. j.lines) n,
+  λ lines t.
+      let c = some_clause (clause_in old.present id) h in
+      record {
+        follows = record { in_order = tt; clauses = c.0 ∷ []; present = ap (λ o. and_clauses o (Some [])) (sym (t.clauses id) ∙ c.1); conflict = tt };
+        clauses = λ j. ap (λ k. clause_in k.present j) n ∙ l.clauses j ∙ ap (λ o. cond (eqb j id) None o) (t.clauses j);
+        least = ap (λ j. j.least_id) n ∙ t.least;
+        says_empty = ap (λ j. j.empty) n ∙ t.says_empty;
+        counts_cores = ap (λ j. j.cores) n ∙ t.counts_cores;
+      },
+)
+
+pub gone_faulty : (old new : Judge) (id : ℕ) → clause_in old.present id ≡ None → new.lines ≡ old.lines → TakesOne (Some UnknownId) old new (Gone id)
+gone_faulty old new id h n = (n, λ lines t. (tt, ap (λ o. and_clauses o (Some [])) (sym (t.clauses id) ∙ h)))
+
+-- A CORE
+core_refuted : (old : Judge) (core ids : List ℕ) (why : Option HintWhy) → Refutes old.present (signed false core) ids why → (lines : List Line) → HasTaken old lines → Says_of why lines (Core core ids)
+core_refuted old core ids why r lines t = refuted lines (Core core ids) core tt refl old.present why t.clauses (subst (λ a. Refutes old.present a ids why) (signed_false core) r)
+
+pub core_faulty : (old new : Judge) (core ids : List ℕ) (why : HintWhy) → Refutes old.present (signed false core) ids (Some why) → IsSame old new → TakesOne (Some why) old new (Core core ids)
+core_faulty old new core ids why r s = (s.lines, core_refuted old core ids (Some why) r)
+
+one_more : (n count m : ℕ) → n ≡ held count → m ≡ min (n + 1) (2 ^ 64 - 1) → m ≡ held (1 + count)
+one_more n count m e f = omega arith
+
+pub core_taken : (old mid new : Judge) (core ids : List ℕ) (n : ℕ) → IsReady old → Refutes old.present (signed false core) ids None → IsSame old mid → n ≡ min (mid.cores + 1) (2 ^ 64 - 1) → new ≡ record mid { cores = n } → TakesOne None old new (Core core ids)
+core_taken old mid new core ids n r h m f e = (
+  subst IsReady (sym e) (record {
+    store = subst IsStore (sym m.present) r.store;
+    below = subst (λ p. AllBelow p.ids.items mid.least_id) (sym m.present) (subst (AllBelow old.present.ids.items) (sym m.least) r.below);
+    nothing = m.nothing;
+  }),
+  ap (λ j. j.lines) e ∙ m.lines,
+  λ lines t. record {
+    follows = core_refuted old core ids None h lines t;
+    clauses = λ j. ap (λ k. clause_in k.present j) e ∙ ap (λ p. clause_in p j) m.present ∙ t.clauses j;
+    least = ap (λ j. j.least_id) e ∙ m.least ∙ t.least;
+    says_empty = ap (λ j. j.empty) e ∙ m.empty ∙ t.says_empty;
+    counts_cores = ap (λ j. j.cores) e ∙ one_more mid.cores (count_of_cores lines) n (m.cores ∙ t.counts_cores) f;
+  },
+)
+
+-- THE NUMBER OF A LINE
+one_longer : (n count m : ℕ) → n ≡ held count → m ≡ min (n + 1) (2 ^ 64 - 1) → m ≡ held (suc count)
+one_longer n count m e f = omega arith
+
+pub line_taken : (old mid new : Judge) (line : Line) (n : ℕ) → TakesOne None old mid line → n ≡ min (mid.lines + 1) (2 ^ 64 - 1) → new ≡ record mid { lines = n } → (lines : List Line) → HasTaken old lines → TakesLine None old new lines line
+line_taken old mid new line n h f e lines t =
+    let k = h.2 lines t in (
+      k.follows,
+      record {
+        clauses = λ j. ap (λ k. clause_in k.present j) e ∙ k.clauses j;
+        least = ap (λ j. j.least_id) e ∙ k.least;
+        says_empty = ap (λ j. j.empty) e ∙ k.says_empty;
+        counts_cores = ap (λ j. j.cores) e ∙ k.counts_cores;
+        counts_lines = ap (λ j. j.lines) e ∙ one_longer mid.lines (length lines) n (h.1 ∙ t.counts_lines) f;
+      },
+    )
+
+pub line_ready : (old mid new : Judge) (line : Line) (n : ℕ) → TakesOne None old mid line → new ≡ record mid { lines = n } → IsReady new
+line_ready old mid new line n h e = subst IsReady (sym e) (record { store = h.0.store; below = h.0.below; nothing = h.0.nothing })
+
+pub line_faulty : (old new : Judge) (line : Line) (why : HintWhy) → TakesOne (Some why) old new line → (lines : List Line) → HasTaken old lines → TakesLine (Some why) old new lines line
+line_faulty old new line why h lines t = (h.1 lines t, h.0)

@@ -1,0 +1,168 @@
+-- Words, each with a space behind it, are read in one way.
+use Rattle.std.proofs.Common.{ℕ, ◌+◌, ◌*◌, ◌/◌, ◌%◌, ◌^◌, ◌<◌, ◌≡◌, Bool, true, false, cond, eqb, List, [], ◌∷◌, ◌++◌, length, get_or, decimal, refl, sym, ◌∙◌, ap, subst, arith, append_assoc}
+use Rattle.std.proofs.lemmas.Fmt.{decimal_injective, decimal_nonempty, first_decimal}
+use Rattle.std.proofs.lemmas.Str.Parse.{digit_from_value}
+use Rattle.std.specs.List.{AllByRecursion}
+use Rattle.std.specs.Str.Parse.{AllDigits}
+use Rattle.sat_base.specs.values.Literals.{largest, variable, is_positive, coded}
+use Rattle.sat_base.specs.dimacs.DimacsText.{number_text}
+use Rattle.sat_hints.specs.Lines.{words, id_text}
+use Rattle.sat_hints.specs.inner.LineReading.{IsId, IsVariable, IsLiteral, NoWord, BeginsWithWord, BeginsWithWords}
+use Rattle.sat_hints.proofs.lemmas.Digits.{Plain, plain_number, are_digits}
+
+-- words that a space ends, each of one value, and none that begins with `0`
+pub record AreWords (word : ℕ → List ℕ) (P : ℕ → Type 0) : Type 0 where
+  pub plain : (x : ℕ) → P x → Plain (word x)
+  pub one : (x y : ℕ) → P x → P y → word x ≡ word y → x ≡ y
+  pub no_zero : (x : ℕ) (rest tail : List ℕ) → P x → 48 ∷ rest ≡ word x ++ (32 ∷ tail) → ⊥
+
+-- two words before spaces
+pub at_space : (ds es x y : List ℕ) → Plain ds → Plain es → ds ++ (32 ∷ x) ≡ es ++ (32 ∷ y) → (ds ≡ es) × (x ≡ y)
+at_space [] [] x y p q e = (refl, cc)
+at_space [] (c ∷ cs) x y p q e = absurd (q.0 (let r : c ≡ 32 = cc in r))
+at_space (d ∷ ds) [] x y p q e = absurd (p.0 (let r : d ≡ 32 = cc in r))
+at_space (d ∷ ds) (c ∷ cs) x y p q e =
+    let h : d ≡ c = cc in
+    let t : ds ++ (32 ∷ x) ≡ cs ++ (32 ∷ y) = cc in
+    let r = at_space ds cs x y p.1 q.1 t in
+    (pair d c ds cs h r.0, r.1)
+  where
+    pair : (d c : ℕ) (ds cs : List ℕ) → d ≡ c → ds ≡ cs → (d ∷ ds) ≡ (c ∷ cs)
+    pair d c ds cs h t = cc
+
+pub record SameWords (xs ys r s : List ℕ) : Type 0 where
+  pub items : xs ≡ ys
+  pub rests : r ≡ s
+
+module _ (word : ℕ → List ℕ) (P : ℕ → Type 0) (w : AreWords word P) where
+  -- as many words as there are can be read in one way
+  pub same_words : (xs ys r s : List ℕ) → AllByRecursion P xs → AllByRecursion P ys → NoWord word P r → NoWord word P s → words word xs ++ r ≡ words word ys ++ s → SameWords xs ys r s
+  same_words [] [] r s p q m n e = record { items = refl; rests = e }
+  same_words [] (y ∷ ys) r s p q m n e = absurd (m y (words word ys ++ s) q.0 (e ∙ append_assoc (word y) (32 ∷ words word ys) s))
+  same_words (x ∷ xs) [] r s p q m n e = absurd (n x (words word xs ++ r) p.0 (sym e ∙ append_assoc (word x) (32 ∷ words word xs) r))
+  same_words (x ∷ xs) (y ∷ ys) r s p q m n e =
+      let f : word x ++ (32 ∷ (words word xs ++ r)) ≡ word y ++ (32 ∷ (words word ys ++ s)) = sym (append_assoc (word x) (32 ∷ words word xs) r) ∙ e ∙ append_assoc (word y) (32 ∷ words word ys) s in
+      let g = at_space (word x) (word y) (words word xs ++ r) (words word ys ++ s) (w.plain x p.0) (w.plain y q.0) f in
+      let h = same_words xs ys r s p.1 q.1 m n g.1 in
+      record { items = pair x y xs ys (w.one x y p.0 q.0 g.0) h.items; rests = h.rests }
+    where
+      pair : (x y : ℕ) (xs ys : List ℕ) → x ≡ y → xs ≡ ys → (x ∷ xs) ≡ (y ∷ ys)
+      pair x y xs ys h t = cc
+
+  -- a list that `0` ends is the one that was read
+  pub ended_words : (bytes xs rest : List ℕ) → BeginsWithWords word P bytes xs rest → (ys tail : List ℕ) → AllByRecursion P ys → bytes ≡ words word ys ++ (48 ∷ tail) → SameWords xs ys rest (48 ∷ tail)
+  ended_words bytes xs rest r ys tail q e = same_words xs ys rest (48 ∷ tail) r.are q r.no_more (λ x t p f. w.no_zero x tail t p f) (sym r.whole ∙ e)
+
+  -- one word is read in one way
+  pub same_word : (bytes : List ℕ) (x y : ℕ) (r s : List ℕ) → BeginsWithWord word P bytes x r → P y → bytes ≡ word y ++ (32 ∷ s) → (x ≡ y) × (r ≡ s)
+  same_word bytes x y r s b q e = let g = at_space (word x) (word y) r s (w.plain x b.0) (w.plain y q) (sym b.1 ∙ e) in (w.one x y b.0 q g.0, g.1)
+
+module _ (word : ℕ → List ℕ) (P : ℕ → Type 0) where
+  pub words-snoc : (xs : List ℕ) (x : ℕ) (rest : List ℕ) → words word (xs ++ (x ∷ [])) ++ rest ≡ words word xs ++ (word x ++ (32 ∷ rest))
+  words-snoc [] x rest = append_assoc (word x) (32 ∷ []) rest
+  words-snoc (y ∷ ys) x rest =
+      append_assoc (word y) (32 ∷ words word (ys ++ (x ∷ []))) rest ∙ ap (λ t. word y ++ (32 ∷ t)) (words-snoc ys x rest) ∙ sym (append_assoc (word y) (32 ∷ words word ys) (word x ++ (32 ∷ rest)))
+
+  all-snoc : (xs : List ℕ) (x : ℕ) → AllByRecursion P xs → P x → AllByRecursion P (xs ++ (x ∷ []))
+  all-snoc [] x p q = (q, tt)
+  all-snoc (y ∷ ys) x p q = (p.0, all-snoc ys x p.1 q)
+
+  -- so far
+  pub record ReadSoFar (bytes xs rest : List ℕ) : Type 0 where
+    pub are : AllByRecursion P xs
+    pub whole : bytes ≡ words word xs ++ rest
+
+  pub read_none : (bytes xs : List ℕ) → xs ≡ [] → ReadSoFar bytes xs bytes
+  read_none bytes xs e = record { are = rw e tt; whole = rw e refl }
+
+  pub read_one : (bytes xs rest : List ℕ) (x : ℕ) (behind ys : List ℕ) → ReadSoFar bytes xs rest → BeginsWithWord word P rest x behind → ys ≡ xs ++ (x ∷ []) → ReadSoFar bytes ys behind
+  read_one bytes xs rest x behind ys r b e = rw e (record {
+    are = all-snoc xs x r.are b.0;
+    whole = r.whole ∙ ap (λ t. words word xs ++ t) b.1 ∙ sym (words-snoc xs x behind);
+  })
+
+  pub read_all : (bytes xs rest : List ℕ) → ReadSoFar bytes xs rest → NoWord word P rest → BeginsWithWords word P bytes xs rest
+  read_all bytes xs rest r n = record { are = r.are; whole = r.whole; no_more = n }
+
+-- IDs
+id_first : (ds : List ℕ) (rest tail : List ℕ) → 0 < length ds → 48 < get_or ds 0 0 → 48 ∷ rest ≡ ds ++ (32 ∷ tail) → ⊥
+id_first [] rest tail h k e = omega arith
+id_first (d ∷ ds) rest tail h k e = let r : d ≡ 48 = cc in omega arith
+
+pub ids_are_words : AreWords id_text IsId
+ids_are_words = record {
+  plain = λ id p. plain_number (id + 1) (omega arith);
+  one = λ x y p q e. let r : x + 1 ≡ y + 1 = decimal_injective (x + 1) (y + 1) (omega arith) (omega arith) e in omega arith;
+  no_zero = λ x rest tail p e. id_first (decimal (x + 1)) rest tail (decimal_nonempty (x + 1) (omega arith)) (first_decimal (x + 1) (omega arith) (omega arith)) e;
+}
+
+-- literals
+plain_signed : (s : Bool) (n : ℕ) → n < 2 ^ 64 → Plain (cond s [] (45 ∷ []) ++ decimal n)
+plain_signed true n h = plain_number n h
+plain_signed false n h = ((λ e. omega arith), plain_number n h)
+
+no_minus : (n : ℕ) (ds : List ℕ) → n < 2 ^ 64 → decimal n ≡ 45 ∷ ds → ⊥
+no_minus n ds h e = let r = digit_from_value 45 (subst (AllDigits 10) e (are_digits n h)).0 in omega arith
+
+same_signed : (s t : Bool) (m n : ℕ) → m < 2 ^ 64 → n < 2 ^ 64 → cond s [] (45 ∷ []) ++ decimal m ≡ cond t [] (45 ∷ []) ++ decimal n → (s ≡ t) × (m ≡ n)
+same_signed true true m n h k e = (refl, decimal_injective m n h k e)
+same_signed true false m n h k e = absurd (no_minus m (decimal n) h e)
+same_signed false true m n h k e = absurd (no_minus n (decimal m) k (sym e))
+same_signed false false m n h k e = (refl, decimal_injective m n h k (let r : decimal m ≡ decimal n = cc in r))
+
+signed_first : (s : Bool) (n : ℕ) (rest tail : List ℕ) → 0 < n → n < 2 ^ 64 → 48 ∷ rest ≡ (cond s [] (45 ∷ []) ++ decimal n) ++ (32 ∷ tail) → ⊥
+signed_first true n rest tail p h e = id_first (decimal n) rest tail (decimal_nonempty n h) (first_decimal n p h) e
+signed_first false n rest tail p h e = let r : ◌≡◌ {A = ℕ} 48 45 = cc in omega arith
+
+same_literal : (x y : ℕ) → eqb (x % 2) 0 ≡ eqb (y % 2) 0 → x / 2 ≡ y / 2 → x ≡ y
+same_literal x y s v = grind arith
+
+pub literals_are_words : AreWords number_text IsLiteral
+literals_are_words = record {
+  plain = λ l p. plain_signed (is_positive l) (variable l + 1) (omega arith);
+  one = λ x y p q e. let r = same_signed (is_positive x) (is_positive y) (variable x + 1) (variable y + 1) (omega arith) (omega arith) e in
+      let v : x / 2 ≡ y / 2 = (let k : x / 2 + 1 ≡ y / 2 + 1 = r.1 in omega arith) in same_literal x y r.0 v;
+  no_zero = λ x rest tail p e. signed_first (is_positive x) (variable x + 1) rest tail (omega arith) (omega arith) e;
+}
+
+-- a literal's number is one more than the index of its variable
+no_sign : (n : ℕ) (x y : List ℕ) → n < 2 ^ 64 → decimal n ++ (32 ∷ x) ≡ 45 ∷ y → ⊥
+no_sign n x y h e = go (decimal n) (are_digits n h) (decimal_nonempty n h) e
+  where
+    go : (ds : List ℕ) → AllDigits 10 ds → 0 < length ds → ds ++ (32 ∷ x) ≡ 45 ∷ y → ⊥
+    go [] d k e = omega arith
+    go (c ∷ cs) d k e = let r = digit_from_value c d.0 in let s : c ≡ 45 = cc in omega arith
+
+pub no_negative_word : (bytes behind : List ℕ) → bytes ≡ 45 ∷ behind → NoWord id_text IsVariable behind → NoWord number_text IsLiteral bytes
+no_negative_word bytes behind e none l tail p f = go (is_positive l) f
+  where
+    go : (s : Bool) → bytes ≡ (cond s [] (45 ∷ []) ++ decimal (l / 2 + 1)) ++ (32 ∷ tail) → ⊥
+    go true f = no_sign (l / 2 + 1) tail behind (omega arith) (sym f ∙ e)
+    go false f = none (l / 2) tail (omega arith) (let r : 45 ∷ behind ≡ 45 ∷ (decimal (l / 2 + 1) ++ (32 ∷ tail)) = sym e ∙ f in let t : behind ≡ decimal (l / 2 + 1) ++ (32 ∷ tail) = cc in t)
+
+pub no_positive_word : (bytes : List ℕ) → ((tail : List ℕ) → bytes ≡ 45 ∷ tail → ⊥) → NoWord id_text IsVariable bytes → NoWord number_text IsLiteral bytes
+no_positive_word bytes sign none l tail p f = go (is_positive l) f
+  where
+    go : (s : Bool) → bytes ≡ (cond s [] (45 ∷ []) ++ decimal (l / 2 + 1)) ++ (32 ∷ tail) → ⊥
+    go true f = none (l / 2) tail (omega arith) f
+    go false f = sign (decimal (l / 2 + 1) ++ (32 ∷ tail)) f
+
+coded_text : (v : ℕ) (s : Bool) → number_text (coded v s) ≡ cond s [] (45 ∷ []) ++ decimal (v + 1)
+coded_text v true =
+    let e : (2 * v + 0) % 2 ≡ 0 = omega arith in
+    let f : (2 * v + 0) / 2 ≡ v = omega arith in
+    rw (e, f) refl
+coded_text v false =
+    let e : (2 * v + 1) % 2 ≡ 1 = omega arith in
+    let f : (2 * v + 1) / 2 ≡ v = omega arith in
+    rw (e, f) refl
+
+coded_small : (v : ℕ) (s : Bool) → v < largest → coded v s < 2 * largest
+coded_small v true h = omega arith
+coded_small v false h = omega arith
+
+pub positive_word : (v l : ℕ) (bytes rest : List ℕ) → l ≡ coded v true → BeginsWithWord id_text IsVariable bytes v rest → BeginsWithWord number_text IsLiteral bytes l rest
+positive_word v l bytes rest e b = rw e (coded_small v true b.0, b.1 ∙ ap (λ t. t ++ (32 ∷ rest)) (sym (coded_text v true)))
+
+pub negative_word : (v l : ℕ) (bytes behind rest : List ℕ) → bytes ≡ 45 ∷ behind → l ≡ coded v false → BeginsWithWord id_text IsVariable behind v rest → BeginsWithWord number_text IsLiteral bytes l rest
+negative_word v l bytes behind rest d e b = rw e (coded_small v false b.0, d ∙ ap (λ t. 45 ∷ t) b.1 ∙ ap (λ t. t ++ (32 ∷ rest)) (sym (coded_text v false)))

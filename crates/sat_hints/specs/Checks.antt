@@ -1,0 +1,76 @@
+-- What an answer to a hint text means.
+use Rattle.std.specs.Prelude.{ℕ, ◌+◌, ◌≡◌, ◌⊎◌, Bool, false, None, Some, List, [], ◌∷◌, ◌++◌, length}
+use Rattle.sat_base.specs.text.Tokenizing.{held}
+use Rattle.sat_checker.specs.LiteralSets.{is_tautology}
+use Rattle.sat_checker.specs.Propagation.{IsFalsified, IsUnit}
+use Rattle.sat_hints.specs.Lines.{Line, AreLines, text_of, Spells, BeginsWithLine}
+use Rattle.sat_hints.specs.Hints.{clauses_under, IsInOrder, named_ids, assumed_by, IsHintDerivation, derives_empty, count_of_cores}
+use Rattle.sat_hints.specs.declared.answer.HintWhy.{HintWhy}
+use Rattle.sat_hints.specs.declared.answer.HintWhy.TheVariants.{Syntax, IdOrder, UnknownId, NotUnit, NotFalsified}
+use Rattle.sat_hints.specs.declared.answer.HintVerdict.{HintVerdict}
+use Rattle.sat_hints.specs.declared.answer.HintVerdict.TheVariants.{Proved, Bad}
+
+-- a clause before the last isn't unit in its turn
+abbrev pub SomeIsNotUnit : List ℕ → List (List ℕ) → Type 0
+SomeIsNotUnit assumed [] = ⊥
+SomeIsNotUnit assumed (clause ∷ []) = ⊥
+SomeIsNotUnit assumed (clause ∷ next ∷ rest) =
+    ((l : ℕ) → IsUnit assumed clause l → ⊥) ⊎ ((l : ℕ) × IsUnit assumed clause l × SomeIsNotUnit (l ∷ assumed) (next ∷ rest))
+
+-- those before the last are unit in turn, and the last isn't falsified; or there is none
+abbrev pub LastIsNotFalsified : List ℕ → List (List ℕ) → Type 0
+LastIsNotFalsified assumed [] = Unit {0}
+LastIsNotFalsified assumed (clause ∷ []) = IsFalsified assumed clause → ⊥
+LastIsNotFalsified assumed (clause ∷ next ∷ rest) = (l : ℕ) × IsUnit assumed clause l × LastIsNotFalsified (l ∷ assumed) (next ∷ rest)
+
+-- a line that is in order, whose clauses are all present, and which assumes no two signs of a variable
+pub record Tries (earlier : List Line) (line : Line) (Fails : List ℕ → List (List ℕ) → Type 0) : Type 0 where
+  pub in_order : IsInOrder earlier line
+  pub clauses : List (List ℕ)
+  pub present : clauses_under (named_ids line) earlier ≡ Some clauses
+  pub assumed : List ℕ
+  pub assumes : assumed_by line ≡ Some assumed
+  pub consistent : is_tautology assumed ≡ false
+  pub fails : Fails assumed clauses
+
+-- Why a line is at fault behind earlier ones, the first reason of these: its id isn't above all before,
+abbrev pub IsFaultOf : List Line → Line → HintWhy → Type 0
+IsFaultOf earlier line IdOrder = IsInOrder earlier line → ⊥
+-- a clause that it names isn't present,
+IsFaultOf earlier line UnknownId = IsInOrder earlier line × (clauses_under (named_ids line) earlier ≡ None)
+-- or these don't run into a conflict.
+IsFaultOf earlier line NotUnit = Tries earlier line SomeIsNotUnit
+IsFaultOf earlier line NotFalsified = Tries earlier line LastIsNotFalsified
+IsFaultOf earlier line Syntax = ⊥
+
+-- why bytes are: before all these, they are no line
+abbrev pub IsAtFault : List Line → List ℕ → HintWhy → Type 0
+IsAtFault earlier bytes Syntax = (line : Line) → Spells bytes line → ⊥
+IsAtFault earlier bytes why = (line : Line) × Spells bytes line × IsFaultOf earlier line why
+
+-- a line at fault, behind a derivation
+pub record IsBadAt (text : List ℕ) (line : ℕ) (why : HintWhy) : Type 0 where
+  pub earlier : List Line
+  pub bytes : List ℕ
+  pub rest : List ℕ
+  pub whole : text ≡ text_of earlier ++ (bytes ++ rest)
+  pub are : AreLines earlier
+  pub derivation : IsHintDerivation earlier
+  pub first : BeginsWithLine bytes rest
+  pub fault : IsAtFault earlier bytes why
+  pub number : line ≡ held (length earlier + 1)
+
+-- the text of a derivation
+pub record IsProof (text : List ℕ) (empty : Bool) (cores lines : ℕ) : Type 0 where
+  pub all : List Line
+  pub whole : text ≡ text_of all
+  pub are : AreLines all
+  pub derivation : IsHintDerivation all
+  pub says_empty : empty ≡ derives_empty all
+  pub counts_cores : cores ≡ held (count_of_cores all)
+  pub counts_lines : lines ≡ held (length all)
+
+-- what a verdict says of a text
+abbrev pub Judges : HintVerdict → List ℕ → Type 0
+Judges (Proved empty cores lines) text = IsProof text empty cores lines
+Judges (Bad line why) text = IsBadAt text line why

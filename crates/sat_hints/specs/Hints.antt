@@ -1,0 +1,94 @@
+-- What the lines of a hint text mean, and when they are a derivation. Lists of lines have the newest first.
+use Rattle.std.specs.Prelude.{ℕ, ◌+◌, ◌==◌, ◌≤◌, ◌≡◌, ◌⊎◌, Bool, true, false, ◌||◌, Option, None, Some, List, [], ◌∷◌, map, if◌then◌else◌}
+use Rattle.sat_base.specs.values.Literals.{negated}
+use Rattle.sat_checker.specs.LiteralSets.{canonical, is_tautology}
+use Rattle.sat_checker.specs.Propagation.{UnitInTurn}
+use Rattle.sat_hints.specs.Lines.{Line, Input, Derived, Gone, Core}
+
+-- The clause under an id, a sorted set of literals: none where no line brought one, or where it is gone.
+abbrev pub clause_under : ℕ → List Line → Option (List ℕ)
+clause_under id [] = None
+clause_under id (Input i clause ∷ earlier) = if id == i then Some (canonical clause) else clause_under id earlier
+clause_under id (Derived i clause ids ∷ earlier) = if id == i then Some (canonical clause) else clause_under id earlier
+clause_under id (Gone i ∷ earlier) = if id == i then None else clause_under id earlier
+clause_under id (Core core ids ∷ earlier) = clause_under id earlier
+
+-- with one more in front
+abbrev pub and_clauses : Option (List ℕ) → Option (List (List ℕ)) → Option (List (List ℕ))
+and_clauses None cs = None
+and_clauses (Some c) None = None
+and_clauses (Some c) (Some cs) = Some (c ∷ cs)
+
+-- the clauses under these ids, in their order, if each is present
+abbrev pub clauses_under : List ℕ → List Line → Option (List (List ℕ))
+clauses_under [] earlier = Some []
+clauses_under (id ∷ ids) earlier = and_clauses (clause_under id earlier) (clauses_under ids earlier)
+
+-- the least id that may come: one more than the last that a clause came under
+abbrev pub least_id : List Line → ℕ
+least_id [] = 0
+least_id (Input id clause ∷ earlier) = id + 1
+least_id (Derived id clause ids ∷ earlier) = id + 1
+least_id (Gone id ∷ earlier) = least_id earlier
+least_id (Core core ids ∷ earlier) = least_id earlier
+
+-- ids of clauses increase
+abbrev pub IsInOrder : List Line → Line → Type 0
+IsInOrder earlier (Input id clause) = least_id earlier ≤ id
+IsInOrder earlier (Derived id clause ids) = least_id earlier ≤ id
+IsInOrder earlier (Gone id) = Unit {0}
+IsInOrder earlier (Core core ids) = Unit {0}
+
+-- the ids that a line names
+abbrev pub named_ids : Line → List ℕ
+named_ids (Input id clause) = []
+named_ids (Derived id clause ids) = ids
+named_ids (Gone id) = id ∷ []
+named_ids (Core core ids) = ids
+
+-- what is assumed where clauses have to run into a conflict: a clause's negation, or a core
+abbrev pub assumed_by : Line → Option (List ℕ)
+assumed_by (Input id clause) = None
+assumed_by (Derived id clause ids) = Some (map negated clause)
+assumed_by (Gone id) = None
+assumed_by (Core core ids) = Some core
+
+-- both signs of a variable are assumed, or the clauses are unit in turn, the last falsified
+abbrev pub Conflicts : List ℕ → List (List ℕ) → Type 0
+Conflicts assumed clauses = (is_tautology assumed ≡ true) ⊎ UnitInTurn assumed clauses
+
+abbrev pub ConflictsIf : Option (List ℕ) → List (List ℕ) → Type 0
+ConflictsIf None clauses = Unit {0}
+ConflictsIf (Some assumed) clauses = Conflicts assumed clauses
+
+-- A line may follow earlier ones: its id is in order, each clause that it names is present, and these conflict with what it assumes.
+pub record Follows (earlier : List Line) (line : Line) : Type 0 where
+  pub in_order : IsInOrder earlier line
+  pub clauses : List (List ℕ)
+  pub present : clauses_under (named_ids line) earlier ≡ Some clauses
+  pub conflict : ConflictsIf (assumed_by line) clauses
+
+-- each line follows those before it
+abbrev pub IsHintDerivation : List Line → Type 0
+IsHintDerivation [] = Unit {0}
+IsHintDerivation (line ∷ earlier) = IsHintDerivation earlier × Follows earlier line
+
+abbrev pub is_empty : List ℕ → Bool
+is_empty [] = true
+is_empty (l ∷ ls) = false
+
+-- is an empty clause derived?
+abbrev pub derives_empty : List Line → Bool
+derives_empty [] = false
+derives_empty (Input id clause ∷ earlier) = derives_empty earlier
+derives_empty (Derived id clause ids ∷ earlier) = is_empty clause || derives_empty earlier
+derives_empty (Gone id ∷ earlier) = derives_empty earlier
+derives_empty (Core core ids ∷ earlier) = derives_empty earlier
+
+-- how many cores there are
+abbrev pub count_of_cores : List Line → ℕ
+count_of_cores [] = 0
+count_of_cores (Input id clause ∷ earlier) = count_of_cores earlier
+count_of_cores (Derived id clause ids ∷ earlier) = count_of_cores earlier
+count_of_cores (Gone id ∷ earlier) = count_of_cores earlier
+count_of_cores (Core core ids ∷ earlier) = 1 + count_of_cores earlier

@@ -1,0 +1,5 @@
+pub mod Lines
+pub mod Hints
+pub mod Checks
+pub mod inner
+pub mod Laws

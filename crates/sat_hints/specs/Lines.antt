@@ -1,0 +1,70 @@
+-- The lines of a hint text, and their bytes. Lists of lines have the newest first.
+use Rattle.std.specs.Prelude.{ℕ, ◌+◌, ◌*◌, ◌-◌, ◌^◌, ◌<◌, ◌≡◌, List, [], ◌∷◌, ◌++◌, decimal, codes}
+use Rattle.std.specs.List.{AllByRecursion}
+use Rattle.sat_base.specs.values.Literals.{largest}
+use Rattle.sat_base.specs.dimacs.DimacsText.{number_text}
+
+-- A clause has an id, and a literal is its code.
+pub data Line : Type 0 where
+  Input : ℕ → List ℕ → Line  -- a clause of the formula, under this id
+  Derived : ℕ → List ℕ → List ℕ → Line  -- a clause under this id, and the ids of those that it follows from
+  Gone : ℕ → Line  -- the clause under this id is gone
+  Core : List ℕ → List ℕ → Line  -- literals that fail together, and the ids of the clauses by which they do
+
+-- an id is below 2^64-1
+abbrev pub AreIds : List ℕ → Type 0
+AreIds = AllByRecursion (λ id. id < 2 ^ 64 - 1)
+
+abbrev pub AreLiterals : List ℕ → Type 0
+AreLiterals = AllByRecursion (λ l. l < 2 * largest)
+
+-- its ids and literals are within their limits
+abbrev pub IsLine : Line → Type 0
+IsLine (Input id clause) = AreIds (id ∷ []) × AreLiterals clause
+IsLine (Derived id clause ids) = AreIds (id ∷ []) × AreLiterals clause × AreIds ids
+IsLine (Gone id) = AreIds (id ∷ [])
+IsLine (Core core ids) = AreLiterals core × AreIds ids
+
+abbrev pub AreLines : List Line → Type 0
+AreLines = AllByRecursion IsLine
+
+-- the word of each item, and a space behind it
+abbrev pub words : (ℕ → List ℕ) → List ℕ → List ℕ
+words word [] = []
+words word (x ∷ xs) = word x ++ (32 ∷ words word xs)
+
+-- an id in a text is one more, in decimal, so that `0` can end a list
+abbrev pub id_text : ℕ → List ℕ
+id_text id = decimal (id + 1)
+
+abbrev pub id_words : List ℕ → List ℕ
+id_words = words id_text
+
+-- a literal is its number in DIMACS
+abbrev pub literal_words : List ℕ → List ℕ
+literal_words = words number_text
+
+-- `i ID LITS 0`, `d ID LITS 0 IDS 0`, `x ID 0` or `f LITS 0 IDS 0`, with LF
+abbrev pub line_text : Line → List ℕ
+line_text (Input id clause) = codes "i " ++ (id_words (id ∷ []) ++ (literal_words clause ++ codes "0\n"))
+line_text (Derived id clause ids) = codes "d " ++ (id_words (id ∷ []) ++ (literal_words clause ++ (codes "0 " ++ (id_words ids ++ codes "0\n"))))
+line_text (Gone id) = codes "x " ++ (id_words (id ∷ []) ++ codes "0\n")
+line_text (Core core ids) = codes "f " ++ (literal_words core ++ (codes "0 " ++ (id_words ids ++ codes "0\n")))
+
+-- the text of lines
+abbrev pub text_of : List Line → List ℕ
+text_of [] = []
+text_of (line ∷ earlier) = text_of earlier ++ line_text line
+
+-- the bytes are those of this line
+abbrev pub Spells : List ℕ → Line → Type 0
+Spells bytes line = IsLine line × (bytes ≡ line_text line)
+
+-- no LF is among them
+abbrev pub HasNoEnd : List ℕ → Type 0
+HasNoEnd = AllByRecursion (λ b. b ≡ 10 → ⊥)
+
+-- What stands first in a text is this line, whatever it says, with the LF that ends it; or all of the text that is left, which has none.
+pub data BeginsWithLine (bytes rest : List ℕ) : Type 0 where
+  ended : (front : List ℕ) → HasNoEnd front → bytes ≡ front ++ (10 ∷ []) → BeginsWithLine bytes rest
+  cut_off : HasNoEnd bytes → (bytes ≡ [] → ⊥) → rest ≡ [] → BeginsWithLine bytes rest

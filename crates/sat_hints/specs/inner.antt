@@ -1,0 +1,5 @@
+pub mod LineReading
+pub mod Clauses
+pub mod Course
+pub mod Judging
+pub mod Holding

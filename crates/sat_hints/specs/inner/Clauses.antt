@@ -1,0 +1,63 @@
+-- The clauses that are kept, by their ids.
+use Rattle.std.specs.Prelude.{ℕ, ◌==◌, ◌≡◌, ◌<◌, Bool, Option, None, Some, List, [], ◌∷◌, map, length, slice_index, slice_index_or, if◌then◌else◌}
+use Rattle.std.specs.List.{AllByRecursion}
+use Rattle.sat_hints.specs.Hints.{and_clauses}
+use Rattle.sat_hints.specs.declared.present.Present.{Present}
+
+-- the clause under an id in lists of ids, of clauses and of whether these are gone
+abbrev pub listed : ℕ → List ℕ → List (List ℕ) → List Bool → Option (List ℕ)
+listed id [] cs gs = None
+listed id (i ∷ is) [] gs = None
+listed id (i ∷ is) (c ∷ cs) [] = None
+listed id (i ∷ is) (c ∷ cs) (g ∷ gs) = if id == i then (if g then None else Some c) else listed id is cs gs
+
+abbrev pub clause_in : Present → ℕ → Option (List ℕ)
+clause_in p id = listed id p.ids.items p.clauses p.gone.items
+
+-- the clauses under these ids, if all are present
+abbrev pub clauses_in : Present → List ℕ → Option (List (List ℕ))
+clauses_in p [] = Some []
+clauses_in p (id ∷ ids) = and_clauses (clause_in p id) (clauses_in p ids)
+
+-- the clause at a place
+abbrev pub clause_at : Present → ℕ → List ℕ
+clause_at p place = slice_index_or p.clauses place []
+
+-- all ids are below this
+abbrev pub AllBelow : List ℕ → ℕ → Type 0
+AllBelow ids bound = (i : ℕ) → i < length ids → slice_index ids i < bound
+
+-- each id has a clause, and the ids rise
+pub record IsStore (p : Present) : Type 0 where
+  pub clauses : length p.clauses ≡ length p.ids.items
+  pub gone : length p.gone.items ≡ length p.ids.items
+  pub rises : (i j : ℕ) → i < j → j < length p.ids.items → slice_index p.ids.items i < slice_index p.ids.items j
+
+-- it is at this place
+pub record FindsOne (p : Present) (id place : ℕ) : Type 0 where
+  pub within : place < length p.clauses
+  pub named : slice_index p.ids.items place ≡ id
+  pub clause : clause_in p id ≡ Some (clause_at p place)
+
+-- one more clause, with an id above all others
+pub record Adds (old new : Present) (id : ℕ) (clause : List ℕ) : Type 0 where
+  pub store : IsStore new
+  pub below : (k : ℕ) → id < k → AllBelow new.ids.items k
+  pub clauses : (j : ℕ) → clause_in new j ≡ (if j == id then Some clause else clause_in old j)
+
+-- one less
+pub record Loses (old new : Present) (id : ℕ) : Type 0 where
+  pub store : IsStore new
+  pub below : (k : ℕ) → AllBelow old.ids.items k → AllBelow new.ids.items k
+  pub clauses : (j : ℕ) → clause_in new j ≡ (if j == id then None else clause_in old j)
+
+-- the same clauses
+pub record Keeps (old new : Present) : Type 0 where
+  pub store : IsStore new
+  pub below : (k : ℕ) → AllBelow old.ids.items k → AllBelow new.ids.items k
+  pub clauses : (j : ℕ) → clause_in new j ≡ clause_in old j
+
+-- the clauses under these ids are those at these places
+pub record Finds (p : Present) (ids places : List ℕ) : Type 0 where
+  pub within : AllByRecursion (λ place. place < length p.clauses) places
+  pub clauses : clauses_in p ids ≡ Some (map (clause_at p) places)

@@ -1,0 +1,45 @@
+-- How clauses run, in turn, under assumed literals.
+use Rattle.std.specs.Prelude.{ℕ, ◌≡◌, ◌⊎◌, Bool, true, false, Option, None, Some, List, [], ◌∷◌, map}
+use Rattle.sat_base.specs.values.Literals.{negated_if}
+use Rattle.sat_checker.specs.LiteralSets.{is_among, is_tautology}
+use Rattle.sat_checker.specs.inner.Walk.{Verdict, falsified, opens, rests, verdict}
+use Rattle.sat_hints.specs.declared.answer.HintWhy.{HintWhy}
+use Rattle.sat_hints.specs.declared.answer.HintWhy.TheVariants.{NotUnit, NotFalsified}
+use Rattle.sat_hints.specs.declared.propagating.Look.{Look}
+use Rattle.sat_hints.specs.declared.propagating.Look.TheVariants as look
+
+abbrev pub verdict_of : Look → Verdict
+verdict_of look.Falsified = falsified
+verdict_of (look.Opens l) = opens l
+verdict_of look.Rests = rests
+
+-- the last clause has to be falsified
+abbrev pub at_last : Verdict → Option HintWhy
+at_last falsified = None
+at_last (opens l) = Some NotFalsified
+at_last rests = Some NotFalsified
+
+-- one before it has to be unit
+abbrev pub at_turn : Verdict → (ℕ → Option HintWhy) → Option HintWhy
+at_turn falsified more = Some NotUnit
+at_turn (opens l) more = more l
+at_turn rests more = Some NotUnit
+
+-- why clauses don't run into a conflict, if they don't
+abbrev pub course : List ℕ → List (List ℕ) → Option HintWhy
+course assumed [] = Some NotFalsified
+course assumed (c ∷ []) = at_last (verdict assumed c)
+course assumed (c ∷ d ∷ cs) = at_turn (verdict assumed c) (λ l. course (l ∷ assumed) (d ∷ cs))
+
+-- literals, or their negations
+abbrev pub signed : Bool → List ℕ → List ℕ
+signed negate ls = map (negated_if negate) ls
+
+-- just these are assumed
+abbrev pub Assumes : List ℕ → List ℕ → Type 0
+Assumes ls assumed = (l : ℕ) → is_among assumed l ≡ is_among ls l
+
+-- why literals, or their negations, and clauses don't run into a conflict, if they don't
+abbrev pub Runs : List ℕ → List (List ℕ) → Option HintWhy → Type 0
+Runs assumed clauses why =
+    ((is_tautology assumed ≡ true) × (why ≡ None)) ⊎ ((is_tautology assumed ≡ false) × (why ≡ course assumed clauses))

@@ -1,0 +1,62 @@
+-- How far a hint text was read, and what its lines say so far.
+use Rattle.std.specs.Prelude.{ℕ, ◌≡◌, ◌+◌, Option, None, Some, Result, Ok, Err, List, [], ◌∷◌, ◌++◌}
+use Rattle.sat_base.specs.text.Tokenizing.{held}
+use Rattle.sat_hints.specs.Lines.{Line, AreLines, text_of, Spells, HasNoEnd}
+use Rattle.sat_hints.specs.Hints.{IsHintDerivation, Follows}
+use Rattle.sat_hints.specs.Checks.{IsAtFault, Judges}
+use Rattle.sat_hints.specs.inner.Judging.{HasTaken, IsReady}
+use Rattle.sat_hints.specs.declared.answer.HintWhy.{HintWhy}
+use Rattle.sat_hints.specs.declared.answer.HintVerdict.{HintVerdict}
+use Rattle.sat_hints.specs.declared.answer.HintVerdict.TheVariants.{Bad}
+use Rattle.sat_hints.specs.declared.answer.HintFault.{HintFault}
+use Rattle.sat_hints.specs.declared.judging.Judge.{Judge}
+use Rattle.sat_hints.specs.declared.checking.Checking.{Checking}
+
+-- bytes of one line, with its LF
+pub record IsWholeLine (bytes : List ℕ) : Type 0 where
+  pub front : List ℕ
+  pub inside : HasNoEnd front
+  pub ended : bytes ≡ front ++ (10 ∷ [])
+
+-- What an answer to a line's bytes means, where the judge was behind these lines.
+abbrev pub TakesBytes : Option HintWhy → Judge → Judge → List Line → List ℕ → Type 0
+TakesBytes None old new lines bytes = (line : Line) × Spells bytes line × Follows lines line × HasTaken new (line ∷ lines)
+TakesBytes (Some why) old new lines bytes = IsAtFault lines bytes why × (new.lines ≡ old.lines)
+
+-- The text so far: lines that are a derivation, and the front of one more.
+pub record HasRead (c : Checking) (text : List ℕ) : Type 0 where
+  pub lines : List Line
+  pub whole : text ≡ text_of lines ++ c.held.items
+  pub inside : HasNoEnd c.held.items
+  pub are : AreLines lines
+  pub derivation : IsHintDerivation lines
+  pub taken : HasTaken c.judge lines
+
+-- A line at fault is in the text, and whatever comes the verdict is this one.
+pub record HasFault (c : Checking) (text : List ℕ) (why : HintWhy) : Type 0 where
+  pub count : ℕ
+  pub number : c.judge.lines ≡ held count
+  pub bad : (rest : List ℕ) → Judges (Bad (held (count + 1)) why) (text ++ rest)
+
+-- it goes on behind a text, or has met a fault
+abbrev pub GoesOn : Option HintWhy → Checking → List ℕ → Type 0
+GoesOn None c text = HasRead c text
+GoesOn (Some why) c text = HasFault c text why
+
+abbrev pub IsReadyIf : Option HintWhy → Judge → Type 0
+IsReadyIf None judge = IsReady judge
+IsReadyIf (Some why) judge = Unit {0}
+
+-- what was read leads from one state to another
+abbrev pub Reads : Option HintWhy → Checking → List ℕ → Checking → Type 0
+Reads why old bytes new = (text : List ℕ) → HasRead old text → GoesOn why new (text ++ bytes)
+
+-- the next bytes of a text were taken, or decide the verdict
+abbrev pub TakesPiece : Option HintVerdict → Checking → List ℕ → Checking → Type 0
+TakesPiece None old bytes new = IsReady new.judge × ((text : List ℕ) → HasRead old text → HasRead new (text ++ bytes))
+TakesPiece (Some verdict) old bytes new = (text : List ℕ) → HasRead old text → (rest : List ℕ) → Judges verdict ((text ++ bytes) ++ rest)
+
+-- a verdict is right about a text; a fault says nothing of it
+abbrev pub Says : Result HintVerdict HintFault → List ℕ → Type 0
+Says (Ok verdict) text = Judges verdict text
+Says (Err fault) text = Unit {0}

@@ -1,0 +1,67 @@
+-- How a judge stands behind lines.
+use Rattle.std.specs.Prelude.{ℕ, ◌≡◌, ◌⊎◌, ◌+◌, Option, None, Some, List, [], ◌∷◌, length}
+use Rattle.sat_base.specs.text.Tokenizing.{held}
+use Rattle.sat_checker.specs.LiteralSets.{canonical}
+use Rattle.sat_hints.specs.Lines.{Line}
+use Rattle.sat_hints.specs.Hints.{clause_under, least_id, derives_empty, count_of_cores, Follows}
+use Rattle.sat_hints.specs.Checks.{IsFaultOf}
+use Rattle.sat_hints.specs.inner.Clauses.{clause_in, clauses_in, Adds, AllBelow, IsStore}
+use Rattle.sat_hints.specs.inner.Course.{Runs}
+use Rattle.sat_hints.specs.declared.answer.HintWhy.{HintWhy}
+use Rattle.sat_hints.specs.declared.answer.HintWhy.TheVariants.{UnknownId}
+use Rattle.sat_hints.specs.declared.present.Present.{Present}
+use Rattle.sat_hints.specs.declared.judging.Judge.{Judge}
+
+-- it can go on
+pub record IsReady (j : Judge) : Type 0 where
+  pub store : IsStore j.present
+  pub below : AllBelow j.present.ids.items j.least_id
+  pub nothing : j.assumed ≡ []
+
+-- it has taken these lines
+pub record HasTaken (j : Judge) (lines : List Line) : Type 0 where
+  pub clauses : (id : ℕ) → clause_in j.present id ≡ clause_under id lines
+  pub least : j.least_id ≡ least_id lines
+  pub says_empty : j.empty ≡ derives_empty lines
+  pub counts_cores : j.cores ≡ held (count_of_cores lines)
+  pub counts_lines : j.lines ≡ held (length lines)
+
+-- what it keeps from line to line is the same
+pub record IsSame (old new : Judge) : Type 0 where
+  pub present : new.present ≡ old.present
+  pub nothing : new.assumed ≡ []
+  pub least : new.least_id ≡ old.least_id
+  pub empty : new.empty ≡ old.empty
+  pub cores : new.cores ≡ old.cores
+  pub lines : new.lines ≡ old.lines
+
+-- why assumed literals and the clauses under these ids don't run into a conflict, if they don't
+abbrev pub Refutes : Present → List ℕ → List ℕ → Option HintWhy → Type 0
+Refutes p assumed ids why =
+    ((clauses_in p ids ≡ None) × (why ≡ Some UnknownId)) ⊎ ((clauses : List (List ℕ)) × (clauses_in p ids ≡ Some clauses) × Runs assumed clauses why)
+
+-- a clause is stored under an id
+pub record StoresClause (old new : Judge) (id : ℕ) (clause : List ℕ) : Type 0 where
+  pub adds : Adds old.present new.present id (canonical clause)
+  pub nothing : new.assumed ≡ []
+  pub least : new.least_id ≡ id + 1
+  pub empty : new.empty ≡ old.empty
+  pub cores : new.cores ≡ old.cores
+  pub lines : new.lines ≡ old.lines
+
+-- the line was taken, but not numbered
+pub record HasTakenOne (old new : Judge) (lines : List Line) (line : Line) : Type 0 where
+  pub follows : Follows lines line
+  pub clauses : (id : ℕ) → clause_in new.present id ≡ clause_under id (line ∷ lines)
+  pub least : new.least_id ≡ least_id (line ∷ lines)
+  pub says_empty : new.empty ≡ derives_empty (line ∷ lines)
+  pub counts_cores : new.cores ≡ held (count_of_cores (line ∷ lines))
+
+abbrev pub TakesOne : Option HintWhy → Judge → Judge → Line → Type 0
+TakesOne None old new line = IsReady new × (new.lines ≡ old.lines) × ((lines : List Line) → HasTaken old lines → HasTakenOne old new lines line)
+TakesOne (Some why) old new line = (new.lines ≡ old.lines) × ((lines : List Line) → HasTaken old lines → IsFaultOf lines line why)
+
+-- What an answer to a line means, where it was behind these: none is that it follows them.
+abbrev pub TakesLine : Option HintWhy → Judge → Judge → List Line → Line → Type 0
+TakesLine None old new lines line = Follows lines line × HasTaken new (line ∷ lines)
+TakesLine (Some why) old new lines line = IsFaultOf lines line why × (new.lines ≡ old.lines)

@@ -1,0 +1,71 @@
+-- What is read at the front of a line's bytes, and where nothing is.
+use Rattle.std.specs.Prelude.{ℕ, zero, suc, ◌*◌, ◌-◌, ◌^◌, ◌<◌, ◌≤◌, ◌≡◌, List, [], ◌∷◌, ◌++◌, decimal, codes}
+use Rattle.std.specs.List.{AllByRecursion}
+use Rattle.sat_base.specs.values.Literals.{largest}
+use Rattle.sat_hints.specs.Lines.{Line, Input, Derived, Gone, Core, AreIds, AreLiterals, words, id_words, literal_words, Spells}
+use Rattle.sat_hints.specs.declared.line.HintLine.{HintLine}
+use Rattle.sat_hints.specs.declared.line.HintLine.TheVariants as code
+use Rattle.sat_hints.specs.declared.reading.Head.{Head}
+use Rattle.sat_hints.specs.declared.reading.Head.TheVariants as head
+
+-- numbers are counted from 1 up to a limit
+abbrev pub IsNumber : ℕ → ℕ → Type 0
+IsNumber limit n = (1 ≤ n) × (n ≤ limit)
+
+abbrev pub IsId : ℕ → Type 0
+IsId id = id < 2 ^ 64 - 1
+
+abbrev pub IsVariable : ℕ → Type 0
+IsVariable v = v < largest
+
+abbrev pub IsLiteral : ℕ → Type 0
+IsLiteral l = l < 2 * largest
+
+-- the digits of a number that has begun; 0 where none has been read
+abbrev pub digits_so_far : ℕ → List ℕ
+digits_so_far zero = []
+digits_so_far (suc n) = decimal (suc n)
+
+-- no number goes on with this byte
+abbrev pub NoDigit : ℕ → ℕ → ℕ → Type 0
+NoDigit limit number byte = (n : ℕ) (more : List ℕ) → IsNumber limit n → decimal n ≡ digits_so_far number ++ (byte ∷ more) → ⊥
+
+-- the bytes begin with no word and a space
+abbrev pub NoWord : (ℕ → List ℕ) → (ℕ → Type 0) → List ℕ → Type 0
+NoWord word P bytes = (x : ℕ) (tail : List ℕ) → P x → bytes ≡ word x ++ (32 ∷ tail) → ⊥
+
+-- they begin with this word and a space
+abbrev pub BeginsWithWord : (ℕ → List ℕ) → (ℕ → Type 0) → List ℕ → ℕ → List ℕ → Type 0
+BeginsWithWord word P bytes x rest = P x × (bytes ≡ word x ++ (32 ∷ rest))
+
+-- words, each with a space behind it, as many as there are
+pub record BeginsWithWords (word : ℕ → List ℕ) (P : ℕ → Type 0) (bytes xs rest : List ℕ) : Type 0 where
+  pub are : AllByRecursion P xs
+  pub whole : bytes ≡ words word xs ++ rest
+  pub no_more : NoWord word P rest
+
+-- `LITS 0` and LF
+abbrev pub IsOne : List ℕ → List ℕ → Type 0
+IsOne bytes ls = AreLiterals ls × (bytes ≡ literal_words ls ++ codes "0\n")
+
+-- `LITS 0 IDS 0` and LF
+abbrev pub IsBoth : List ℕ → List ℕ → List ℕ → Type 0
+IsBoth bytes ls ids = AreLiterals ls × AreIds ids × (bytes ≡ literal_words ls ++ (codes "0 " ++ (id_words ids ++ codes "0\n")))
+
+-- a line without where its lists lie in memory
+abbrev pub line_of : HintLine → Line
+line_of (code.Input id clause) = Input id clause.now
+line_of (code.Derived id clause ids) = Derived id clause.now ids.now
+line_of (code.Gone id) = Gone id
+line_of (code.Core core ids) = Core core.now ids.now
+
+-- the line of this head that has these lists
+abbrev pub line_with : Head → List ℕ → List ℕ → Line
+line_with (head.Input id) ls ids = Input id ls
+line_with (head.Derived id) ls ids = Derived id ls ids
+line_with (head.Gone id) ls ids = Gone id
+line_with head.Core ls ids = Core ls ids
+
+-- the bytes are no line
+abbrev pub IsNoLine : List ℕ → Type 0
+IsNoLine bytes = (line : Line) → Spells bytes line → ⊥

@@ -1,0 +1,159 @@
+//! Checking a hint text, line by line.
+ghost use Rattle.std.specs.Prelude.{◌≡◌, ◌<◌, ◌≤◌, ◌+◌, ◌⊎◌, List, ℕ, [], length, take, IfErr, IfOk, IsErrOf, MatchOption};
+ghost use Rattle.sat_base.specs.device.Device.{GaveEnough, ReadFails, most_reads};
+ghost use Rattle.sat_hints.specs.Lines.{Line, HasNoEnd};
+ghost use Rattle.sat_hints.specs.Checks.{Judges};
+ghost use Rattle.sat_hints.specs.inner.Judging.{HasTaken, IsReady};
+ghost use Rattle.sat_hints.specs.inner.Holding.{HasRead, IsReadyIf, IsWholeLine, Reads, Says, TakesBytes, TakesPiece};
+
+use crate::answer::{HintFault, HintVerdict, HintWhy};
+use crate::judging::Judge;
+use crate::reading::Lists;
+use sat_base::CountedRead;
+use std::alloc::{AllocError, Global};
+
+/// How many bytes are asked for at a time.
+const PIECE: usize = 4096;
+
+/// A reader is read at most so often.
+const MAX_READS: u64 = 1 << 48;
+
+/// The line in hand, and what the lines before it leave.
+#[derive(Drop)]
+struct Checking {
+    /// The bytes of a line whose LF has not come yet.
+    held: Vec<u8>,
+    lists: Lists,
+    judge: Judge,
+}
+
+/// How many bytes the first line has with its LF, if that is among them.
+#[inline(always)]
+fn line_end(bytes: &[u8]) -> Option<usize>
+    ensures { MatchOption result (HasNoEnd bytes.now) (λ end. (0 < end) × (end ≤ length bytes.now) × IsWholeLine (take end bytes.now)) }
+{
+    for (place, byte) in bytes.iter().enumerate() {
+        if *byte == b'\n' {
+            return Some(place + 1);
+        }
+    }
+    None
+}
+
+/// Reads and judges a line from its bytes. The answer is why it is at fault, if it is.
+fn take_line(
+    lists: &mut Lists,
+    judge: &mut Judge,
+    bytes: &[u8],
+) -> Result<Option<HintWhy>, AllocError>
+    requires { IsReady judge.old }
+    ensures ready { IfOk result (λ why. IsReadyIf why judge.new) }
+    ensures takes { IfOk result (λ why. (lines : List Line) → HasTaken judge.old lines → TakesBytes why judge.old judge.new lines bytes.now) }
+{
+    match lists.read_line(bytes)? {
+        Some(head) => judge.take(&lists.line(head)),
+        None => Ok(Some(HintWhy::Syntax)),
+    }
+}
+
+impl Checking {
+    fn new(alloc: Global) -> Checking
+        ensures ready { IsReady result.judge }
+        ensures read { HasRead result [] }
+    {
+        Checking {
+            held: Vec::new(alloc),
+            lists: Lists::new(alloc),
+            judge: Judge::new(alloc),
+        }
+    }
+
+    /// Judges the line whose last bytes are these.
+    fn end_line(&mut self, bytes: &[u8]) -> Result<Option<HintWhy>, AllocError>
+        requires ready { IsReady self.old.judge }
+        requires ends { IsWholeLine bytes.now }
+        ensures ready { IfOk result (λ why. IsReadyIf why self.new.judge) }
+        ensures reads { IfOk result (λ why. Reads why self.old bytes.now self.new) }
+    {
+        self.held.extend_from_slice(bytes)?;
+        let why = take_line(&mut self.lists, &mut self.judge, &self.held)?;
+        self.held.clear();
+        Ok(why)
+    }
+
+    /// Takes the next bytes of the text. The answer is why the first line at fault is, if there is one.
+    fn feed(&mut self, piece: &[u8]) -> Result<Option<HintWhy>, AllocError>
+        requires { IsReady self.old.judge }
+        ensures ready { IfOk result (λ why. IsReadyIf why self.new.judge) }
+        ensures reads { IfOk result (λ why. Reads why self.old piece.now self.new) }
+    {
+        let mut rest = piece;
+        while let Some(end) = line_end(rest) {
+            let (line, behind) = rest.split_at(end);
+            match self.end_line(line)? {
+                Some(why) => return Ok(Some(why)),
+                None => {}
+            }
+            rest = behind;
+        }
+        self.held.extend_from_slice(rest)?;
+        Ok(None)
+    }
+
+    /// As `feed`, with the verdict on the first line at fault.
+    fn take_piece(&mut self, piece: &[u8]) -> Result<Option<HintVerdict>, HintFault>
+        requires { IsReady self.old.judge }
+        ensures memory { IfErr result (λ e. e ≡ HintFault.OutOfMemory) }
+        ensures takes { IfOk result (λ verdict. TakesPiece verdict self.old piece.now self.new) }
+    {
+        match self.feed(piece)? {
+            Some(why) => Ok(Some(self.judge.bad(why))),
+            None => Ok(None),
+        }
+    }
+
+    /// The verdict where the text is over.
+    fn finish(&self) -> HintVerdict
+        ensures { (text : List ℕ) → HasRead self.now text → Judges result text }
+    {
+        if self.held.is_empty() {
+            return self.judge.proved();
+        }
+        self.judge.bad(HintWhy::Syntax)
+    }
+
+    fn check_text<R: CountedRead>(&mut self, text: &mut R) -> Result<HintVerdict, HintFault>
+        requires ready { IsReady self.old.judge }
+        requires fresh { HasRead self.old [] }
+        ensures given { GaveEnough (R.seen text.old) (R.seen text.new) (Says result) }
+        ensures kept { IsErrOf result HintFault.Read ⊎ ((R.seen text.new).failures ≡ (R.seen text.old).failures) }
+        ensures read { IsErrOf result HintFault.Read → ReadFails (R.seen text.old) (R.seen text.new) }
+        ensures reads { (R.seen text.new).calls ≤ (R.seen text.old).calls + most_reads }
+    {
+        let mut piece = [0; PIECE];
+        for _ in 0..MAX_READS {
+            match text.read_counted(&mut piece) {
+                Ok(0) => return Ok(self.finish()),
+                Ok(count) => match self.take_piece(&piece[..count])? {
+                    Some(verdict) => return Ok(verdict),
+                    None => {}
+                },
+                Err(_) => return Err(HintFault::Read),
+            }
+        }
+        Err(HintFault::Read)
+    }
+}
+
+/// Checks a hint text, which is read in pieces of 4,096 bytes up to the first line at fault.
+pub fn check<R: CountedRead>(alloc: Global, text: &mut R) -> Result<HintVerdict, HintFault>
+    // The verdict is that on the text that was given, whatever would follow.
+    ensures given { GaveEnough (R.seen text.old) (R.seen text.new) (Says result) }
+    // A read has failed only where the answer is that, and none is tried again.
+    ensures kept { IsErrOf result HintFault.Read ⊎ ((R.seen text.new).failures ≡ (R.seen text.old).failures) }
+    ensures read { IsErrOf result HintFault.Read → ReadFails (R.seen text.old) (R.seen text.new) }
+    ensures reads { (R.seen text.new).calls ≤ (R.seen text.old).calls + most_reads }
+{
+    let mut checking = Checking::new(alloc);
+    checking.check_text(text)
+}

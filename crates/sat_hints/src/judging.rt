@@ -1,0 +1,193 @@
+//! Judging one line after another.
+ghost use Rattle.std.specs.Prelude.{◌≡◌, ◌≤◌, ◌+◌, ◌^◌, ◌-◌, ◌<◌, ℕ, List, [], None, Some, IfOk, OnOk};
+ghost use Rattle.sat_base.specs.text.Tokenizing.{held};
+ghost use Rattle.sat_checker.specs.LiteralSets.{canonical};
+ghost use Rattle.sat_hints.specs.Lines.{Line, Input, Derived, Gone, Core, IsLine};
+ghost use Rattle.sat_hints.specs.inner.LineReading.{line_of, IsId};
+ghost use Rattle.sat_hints.specs.inner.Clauses.{Adds};
+ghost use Rattle.sat_hints.specs.inner.Course.{signed};
+ghost use Rattle.sat_hints.specs.inner.Judging.{HasTaken, IsReady, IsSame, Refutes, StoresClause, TakesLine, TakesOne};
+
+use crate::answer::{HintVerdict, HintWhy};
+use crate::assumed::Assumed;
+use crate::line::HintLine;
+use crate::naming::find_all;
+use crate::present::Present;
+use crate::propagating::conflict;
+use sat_base::Lit;
+use sat_checker::sorted_lits::copy_canonical;
+use std::alloc::{AllocError, Global};
+
+/// What the lines so far leave, and room that is used again.
+#[derive(Drop)]
+pub(crate) struct Judge {
+    present: Present,
+    assumed: Assumed,
+    /// The literals of a clause that comes, as a sorted set.
+    set: Vec<Lit>,
+    /// Where the clauses are that a line names.
+    places: Vec<usize>,
+    least_id: u64,
+    empty: bool,
+    cores: u64,
+    lines: u64,
+}
+
+impl Judge {
+    pub(crate) fn new(alloc: Global) -> Judge
+        ensures ready { IsReady result }
+        ensures taken { HasTaken result [] }
+    {
+        Judge {
+            present: Present::new(alloc),
+            assumed: Assumed::new(alloc),
+            set: Vec::new(alloc),
+            places: Vec::new(alloc),
+            least_id: 0,
+            empty: false,
+            cores: 0,
+            lines: 0,
+        }
+    }
+
+    /// Stores a clause under an id that is above all before.
+    fn store(&mut self, id: u64, clause: &[Lit]) -> Result<(), AllocError>
+        requires ready { IsReady self.old }
+        requires in_order { self.old.least_id ≤ id }
+        requires within { IsId id }
+        ensures { OnOk result (StoresClause self.old self.new id clause.now) }
+    {
+        copy_canonical(&mut self.set, clause)?;
+        self.present.push(id, &self.set)?;
+        self.least_id = id + 1;
+        Ok(())
+    }
+
+    /// Why the clauses under these ids don't run into a conflict with literals, or with their negations, if they don't.
+    fn refute(
+        &mut self,
+        literals: &[Lit],
+        negate: bool,
+        ids: &[u64],
+    ) -> Result<Option<HintWhy>, AllocError>
+        requires { IsReady self.old }
+        ensures same { OnOk result (IsSame self.old self.new) }
+        ensures refutes { IfOk result (λ why. Refutes self.old.present (signed negate literals.now) ids.now why) }
+    {
+        if !find_all(&self.present, ids, &mut self.places)? {
+            return Ok(Some(HintWhy::UnknownId));
+        }
+        conflict(
+            &self.present,
+            &self.places,
+            literals,
+            negate,
+            &mut self.assumed,
+        )
+    }
+
+    fn input(&mut self, id: u64, clause: &[Lit]) -> Result<Option<HintWhy>, AllocError>
+        requires ready { IsReady self.old }
+        requires within { IsId id }
+        ensures { IfOk result (λ why. TakesOne why self.old self.new (Input id clause.now)) }
+    {
+        if id < self.least_id {
+            return Ok(Some(HintWhy::IdOrder));
+        }
+        self.store(id, clause)?;
+        Ok(None)
+    }
+
+    fn derived(
+        &mut self,
+        id: u64,
+        clause: &[Lit],
+        ids: &[u64],
+    ) -> Result<Option<HintWhy>, AllocError>
+        requires ready { IsReady self.old }
+        requires within { IsId id }
+        ensures { IfOk result (λ why. TakesOne why self.old self.new (Derived id clause.now ids.now)) }
+    {
+        if id < self.least_id {
+            return Ok(Some(HintWhy::IdOrder));
+        }
+        match self.refute(clause, true, ids)? {
+            Some(why) => return Ok(Some(why)),
+            None => {}
+        }
+        self.store(id, clause)?;
+        self.empty = clause.is_empty() || self.empty;
+        Ok(None)
+    }
+
+    fn gone(&mut self, id: u64) -> Result<Option<HintWhy>, AllocError>
+        requires { IsReady self.old }
+        ensures { IfOk result (λ why. TakesOne why self.old self.new (Gone id)) }
+    {
+        if self.present.remove(id)? {
+            return Ok(None);
+        }
+        Ok(Some(HintWhy::UnknownId))
+    }
+
+    fn core(&mut self, core: &[Lit], ids: &[u64]) -> Result<Option<HintWhy>, AllocError>
+        requires { IsReady self.old }
+        ensures { IfOk result (λ why. TakesOne why self.old self.new (Core core.now ids.now)) }
+    {
+        match self.refute(core, false, ids)? {
+            Some(why) => return Ok(Some(why)),
+            None => {}
+        }
+        self.cores = self.cores.saturating_add(1);
+        Ok(None)
+    }
+
+    /// Takes the next line, but for its number.
+    fn take_unnumbered(&mut self, line: &HintLine<'_>) -> Result<Option<HintWhy>, AllocError>
+        requires ready { IsReady self.old }
+        requires within { IsLine (line_of line.now) }
+        ensures { IfOk result (λ why. TakesOne why self.old self.new (line_of line.now)) }
+    {
+        match line {
+            HintLine::Input { id, clause } => self.input(*id, clause),
+            HintLine::Derived { id, clause, ids } => self.derived(*id, clause, ids),
+            HintLine::Gone { id } => self.gone(*id),
+            HintLine::Core { core, ids } => self.core(core, ids),
+        }
+    }
+
+    /// Takes the next line. The answer is why it is at fault, if it is.
+    pub(crate) fn take(&mut self, line: &HintLine<'_>) -> Result<Option<HintWhy>, AllocError>
+        requires ready { IsReady self.old }
+        requires within { IsLine (line_of line.now) }
+        ensures ready { IfOk result (λ why. why ≡ None → IsReady self.new) }
+        ensures takes { IfOk result (λ why. (lines : List Line) → HasTaken self.old lines → TakesLine why self.old self.new lines (line_of line.now)) }
+    {
+        let why = self.take_unnumbered(line)?;
+        if why.is_none() {
+            self.lines = self.lines.saturating_add(1);
+        }
+        Ok(why)
+    }
+
+    /// The verdict on a text that these lines are all of.
+    pub(crate) fn proved(&self) -> HintVerdict
+        ensures { result ≡ HintVerdict.Proved self.now.empty self.now.cores self.now.lines }
+    {
+        HintVerdict::Proved {
+            empty: self.empty,
+            cores: self.cores,
+            lines: self.lines,
+        }
+    }
+
+    /// The verdict on a text whose next line is at fault.
+    pub(crate) fn bad(&self, why: HintWhy) -> HintVerdict
+        ensures { (count : ℕ) → self.now.lines ≡ held count → result ≡ HintVerdict.Bad (held (count + 1)) why }
+    {
+        HintVerdict::Bad {
+            line: self.lines.saturating_add(1),
+            why,
+        }
+    }
+}

@@ -1,0 +1,18 @@
+//! The text of hints: a proof that is checked without search.
+#![tactic(auto)]
+
+mod answer;
+mod assumed;
+mod checking;
+mod judging;
+pub mod laws;
+mod line;
+mod naming;
+mod numbers;
+mod present;
+mod propagating;
+mod reading;
+
+pub use answer::{HintFault, HintVerdict, HintWhy};
+pub use checking::check;
+pub use line::HintLine;

@@ -1,0 +1,29 @@
+//! The lines of a hint text.
+
+use sat_base::Lit;
+
+/// A line. An id is below 2^64-1; the ID that the text has in its place is one more.
+#[derive(Clone, Copy)]
+pub enum HintLine<'a> {
+    /// `i ID LITS 0`: a clause of the formula.
+    Input {
+        id: u64,
+        clause: &'a [Lit],
+    },
+    /// `d ID LITS 0 IDS 0`: a clause that follows. The clauses that are named are unit in turn under its negation, the last
+    /// falsified.
+    Derived {
+        id: u64,
+        clause: &'a [Lit],
+        ids: &'a [u64],
+    },
+    /// `x ID 0`: the clause is gone.
+    Gone {
+        id: u64,
+    },
+    /// `f LITS 0 IDS 0`: literals that fail together. The clauses that are named run into a conflict when they are all true.
+    Core {
+        core: &'a [Lit],
+        ids: &'a [u64],
+    },
+}

@@ -1,0 +1,89 @@
+//! Numbers and literals at the front of a line's bytes: decimal, without leading zeros, in front of a single space.
+ghost use Rattle.std.specs.Prelude.{◌≡◌, ◌++◌, ◌∷◌, [], ◌<◌, ◌≤◌, ◌^◌, decimal, List, ℕ, MatchOption};
+ghost use Rattle.sat_base.specs.dimacs.DimacsText.{number_text};
+ghost use Rattle.sat_hints.specs.Lines.{id_text};
+ghost use Rattle.sat_hints.specs.inner.LineReading.{BeginsWithWord, IsId, IsLiteral, IsNumber, IsVariable, NoDigit, NoWord, digits_so_far};
+
+use sat_base::{Lit, Var};
+
+/// What is behind the text, where the bytes begin with it.
+#[inline(always)]
+pub(crate) fn take_text<'a>(bytes: &'a [u8], text: &[u8]) -> Option<&'a [u8]>
+    ensures { MatchOption result ((tail : List ℕ) → bytes.now ≡ text.now ++ tail → ⊥) (λ rest. bytes.now ≡ text.now ++ rest.now) }
+{
+    bytes.strip_prefix(text)
+}
+
+/// The number with one more digit, or the first digit where it is still 0. `None` for another byte, a leading zero, and a number
+/// past the limit.
+#[inline(always)]
+fn with_digit(number: u64, byte: u8, limit: u64) -> Option<u64>
+    requires within { number ≤ limit }
+    requires digits { 9 ≤ limit }
+    ensures { MatchOption result (NoDigit limit number byte) (λ more. IsNumber limit more × (decimal more ≡ digits_so_far number ++ byte ∷ [])) }
+{
+    if byte < b'0' || byte > b'9' {
+        return None;
+    }
+    let digit = (byte - b'0') as u64;
+    if number > (limit - digit) / 10 {
+        return None;
+    }
+    let more = 10 * number + digit;
+    if more == 0 {
+        return None;
+    }
+    Some(more)
+}
+
+/// The number from 1 to the limit in front of a space, and what is behind the space.
+#[inline(always)]
+pub(crate) fn read_number(bytes: &[u8], limit: u64) -> Option<(u64, &[u8])>
+    requires { 9 ≤ limit }
+    ensures { MatchOption result (NoWord decimal (IsNumber limit) bytes.now) (λ x. BeginsWithWord decimal (IsNumber limit) bytes.now x.0 x.1.now) }
+{
+    let mut number = 0;
+    for i in 0..bytes.len() {
+        let byte = bytes[i];
+        if byte == b' ' && number > 0 {
+            return Some((number, &bytes[i + 1..]));
+        }
+        number = with_digit(number, byte, limit)?;
+    }
+    None
+}
+
+/// The id whose ID stands in front of a space, and what is behind the space.
+#[inline(always)]
+pub(crate) fn read_id(bytes: &[u8]) -> Option<(u64, &[u8])>
+    ensures { MatchOption result (NoWord id_text IsId bytes.now) (λ x. BeginsWithWord id_text IsId bytes.now x.0 x.1.now) }
+{
+    let (number, rest) = read_number(bytes, u64::MAX)?;
+    Some((number - 1, rest))
+}
+
+/// The index of the variable whose number stands in front of a space, and what is behind the space.
+#[inline(always)]
+fn read_variable(bytes: &[u8]) -> Option<(usize, &[u8])>
+    ensures { MatchOption result (NoWord id_text IsVariable bytes.now) (λ x. BeginsWithWord id_text IsVariable bytes.now x.0 x.1.now) }
+{
+    let (number, rest) = read_number(bytes, Var::max_count() as u64)?;
+    Some((number as usize - 1, rest))
+}
+
+/// The literal in front of a space, and what is behind the space.
+#[inline(always)]
+pub(crate) fn read_literal(bytes: &[u8]) -> Option<(Lit, &[u8])>
+    ensures { MatchOption result (NoWord number_text IsLiteral bytes.now) (λ x. BeginsWithWord number_text IsLiteral bytes.now x.0 x.1.now) }
+{
+    match take_text(bytes, b"-") {
+        Some(behind) => {
+            let (index, rest) = read_variable(behind)?;
+            Some((Lit::from_index(index, false), rest))
+        }
+        None => {
+            let (index, rest) = read_variable(bytes)?;
+            Some((Lit::from_index(index, true), rest))
+        }
+    }
+}

@@ -1,0 +1,135 @@
+//! The clauses that are present, by their ids.
+ghost use Rattle.std.specs.Prelude.{◌≡◌, ◌≢◌, ◌<◌, ℕ, [], None, length, slice_index, IfOk, OnOk, MatchBool, MatchOption};
+ghost use Rattle.sat_hints.specs.inner.Clauses.{clause_at, clause_in, Adds, AllBelow, FindsOne, IsStore, Keeps, Loses};
+
+use sat_base::{FlatLists, Lit};
+use std::alloc::{AllocError, Global};
+
+/// Clauses in the order of their ids, their literals one after another. Those that are gone are kept until they take more than
+/// half of the room.
+#[derive(Drop)]
+pub(crate) struct Present {
+    ids: Vec<u64>,
+    clauses: FlatLists<Lit>,
+    gone: Vec<bool>,
+    /// Clauses and literals, and how many of these are gone.
+    total: usize,
+    unused: usize,
+    alloc: Global,
+}
+
+impl Present {
+    pub(crate) fn new(alloc: Global) -> Present
+        ensures store { IsStore result }
+        ensures none { result.ids.items ≡ [] }
+        ensures clauses { (id : ℕ) → clause_in result id ≡ None }
+    {
+        Present {
+            ids: Vec::new(alloc),
+            clauses: FlatLists::new(alloc),
+            gone: Vec::new(alloc),
+            total: 0,
+            unused: 0,
+            alloc,
+        }
+    }
+
+    /// The place of the clause under this id, if it is present.
+    pub(crate) fn find(&self, id: u64) -> Option<usize>
+        requires { IsStore self.now }
+        ensures { MatchOption result (clause_in self.now id ≡ None)
+            (FindsOne self.now id) }
+    {
+        let Ok(place) = self.ids.binary_search(&id) else {
+            return None;
+        };
+        if self.gone[place] {
+            return None;
+        }
+        Some(place)
+    }
+
+    pub(crate) fn clause(&self, place: usize) -> &[Lit]
+        requires { place < length self.now.clauses }
+        ensures { result.now ≡ clause_at self.now place }
+    {
+        self.clauses.get(place)
+    }
+
+    /// Adds a clause, whose id is above all before.
+    pub(crate) fn push(&mut self, id: u64, clause: &[Lit]) -> Result<(), AllocError>
+        requires store { IsStore self.old }
+        requires above { AllBelow self.old.ids.items id }
+        ensures { OnOk result (Adds self.old self.new id clause.now) }
+    {
+        self.ids.push(id)?;
+        self.gone.push(false)?;
+        self.clauses.push(clause)?;
+        self.total = self.total.saturating_add(clause.len()).saturating_add(1);
+        Ok(())
+    }
+
+    /// Takes away the clause under this id. The answer is whether it was present.
+    pub(crate) fn remove(&mut self, id: u64) -> Result<bool, AllocError>
+        requires { IsStore self.old }
+        ensures { IfOk result (λ was. MatchBool was ((clause_in self.old id ≢ None) × Loses self.old self.new id)
+            ((clause_in self.old id ≡ None) × (self.new ≡ self.old))) }
+    {
+        let Some(place) = self.find(id) else {
+            return Ok(false);
+        };
+        self.take_out(place);
+        self.compact_if_sparse()?;
+        Ok(true)
+    }
+
+    /// Takes away the clause at a place.
+    fn take_out(&mut self, place: usize)
+        requires store { IsStore self.old }
+        requires within { place < length self.old.clauses }
+        ensures { Loses self.old self.new (slice_index self.old.ids.items place) }
+    {
+        self.gone[place] = true;
+        let count = self.clauses.get(place).len();
+        self.unused = self.unused.saturating_add(count).saturating_add(1);
+    }
+
+    /// Lets go of the clauses that are gone, where they take more than half of the room.
+    fn compact_if_sparse(&mut self) -> Result<(), AllocError>
+        requires { IsStore self.old }
+        ensures { OnOk result (Keeps self.old self.new) }
+    {
+        if self.unused <= self.total / 2 {
+            return Ok(());
+        }
+        self.compact()
+    }
+
+    /// Lets go of the clauses that are gone.
+    fn compact(&mut self) -> Result<(), AllocError>
+        requires { IsStore self.old }
+        ensures { OnOk result (Keeps self.old self.new) }
+    {
+        let mut kept = Present::new(self.alloc);
+        self.keep_in(&mut kept)?;
+        *self = kept;
+        Ok(())
+    }
+
+    /// Adds the clauses that are present to others, in order.
+    fn keep_in(&self, kept: &mut Present) -> Result<(), AllocError>
+        requires store { IsStore self.now }
+        requires none { kept.old.ids.items ≡ [] }
+        requires empty { IsStore kept.old }
+        requires clauses { (id : ℕ) → clause_in kept.old id ≡ None }
+        ensures { OnOk result (Keeps self.now kept.new) }
+    {
+        for place in 0..self.ids.len() {
+            if self.gone[place] {
+                continue;
+            }
+            kept.push(self.ids[place], self.clauses.get(place))?;
+        }
+        Ok(())
+    }
+}
