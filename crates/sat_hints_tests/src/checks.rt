@@ -1,0 +1,120 @@
+//! Rows of hint texts, whole and in pieces of one byte.
+
+use crate::devices::OneByOne;
+use sat_base::Counted;
+use sat_hints::{HintFault, HintVerdict, HintWhy, check};
+use std::alloc::Global;
+use std::test::*;
+
+const fn proved(empty: bool, cores: u64, lines: u64) -> HintVerdict {
+    HintVerdict::Proved {
+        empty,
+        cores,
+        lines,
+    }
+}
+
+type Row = (&'static [u8], HintVerdict);
+
+const fn bad(line: u64, why: HintWhy) -> HintVerdict {
+    HintVerdict::Bad { line, why }
+}
+
+fn rows() -> [Row; 40] {
+    [
+        (b"", proved(false, 0, 0)),
+        (b"i 1 1 0\ni 2 -1 0\nd 3 0 1 2 0\n", proved(true, 0, 3)),
+        (b"f 1 -1 0 0\n", proved(false, 1, 1)),
+        (b"i 1 1 2 0\nd 2 1 0 1 0\n", bad(2, HintWhy::NotFalsified)),
+        (
+            b"i 1 1 2 3 0\ni 2 1 0\nd 3 1 0 1 2 0\n",
+            bad(3, HintWhy::NotUnit),
+        ),
+        (b"i 1 1 0\ni 1 2 0\n", bad(2, HintWhy::IdOrder)),
+        (b"i 1 1 0\nx 1 0\nd 2 1 0 1 0\n", bad(3, HintWhy::UnknownId)),
+        (b"i 01 1 0\n", bad(1, HintWhy::Syntax)),
+        (
+            b"i 1 1 2 0\ni 2 1 -2 0\ni 3 -1 2 0\ni 4 -1 -2 0\nd 5 1 0 1 2 0\nd 6 2 0 5 3 0\nd 7 0 5 6 4 0\n",
+            proved(true, 0, 7),
+        ),
+        // Each reason at a line that isn't the first, with one behind it that would be another.
+        (b"i 1 1 0\ni 2 1\ni 1 1 0\n", bad(2, HintWhy::Syntax)),
+        (b"i 2 1 0\ni 1 1 0\nx 9 0\n", bad(2, HintWhy::IdOrder)),
+        (b"i 1 1 0\nx 9 0\ni 1 1 0\n", bad(2, HintWhy::UnknownId)),
+        (
+            b"i 1 1 2 0\ni 2 3 0\nd 3 3 0 1 2 0\nx 9 0\n",
+            bad(3, HintWhy::NotUnit),
+        ),
+        (
+            b"i 1 1 2 0\ni 2 3 0\nd 3 1 0 2 0\nx 9 0\n",
+            bad(3, HintWhy::NotFalsified),
+        ),
+        (b"i 1 1 0\nd 2 1 0 0\n", bad(2, HintWhy::NotFalsified)),
+        // Several reasons at one line.
+        (b"i 1 1 2 0\nd 1 3 0 9 0\n", bad(2, HintWhy::IdOrder)),
+        (b"i 1 1 2 0\nd 2 3 0 1 9 0\n", bad(2, HintWhy::UnknownId)),
+        // A clause that is falsified before its turn.
+        (
+            b"i 1 1 0\ni 2 2 0\nd 3 1 0 1 2 0\n",
+            bad(3, HintWhy::NotUnit),
+        ),
+        // Both signs of a variable.
+        (b"d 1 1 -1 0 0\n", proved(false, 0, 1)),
+        (
+            b"i 1 2 3 0\nd 2 1 -1 0 1 0\nf 4 -4 0 1 2 0\n",
+            proved(false, 1, 3),
+        ),
+        (b"d 1 1 -1 0 5 0\n", bad(1, HintWhy::UnknownId)),
+        // Lists are read as sets.
+        (b"i 1 1 1 0\nd 2 1 1 0 1 0\n", proved(false, 0, 2)),
+        (
+            b"i 1 1 1 2 2 0\ni 2 -2 -2 0\nd 3 1 0 2 1 0\n",
+            proved(false, 0, 3),
+        ),
+        // IDs and literals at their limits and past them.
+        (b"i 18446744073709551615 1 0\n", proved(false, 0, 1)),
+        (b"i 18446744073709551616 1 0\n", bad(1, HintWhy::Syntax)),
+        (b"i 0 1 0\n", bad(1, HintWhy::Syntax)),
+        (b"i 1 268435456 -268435456 0\n", proved(false, 0, 1)),
+        (b"i 1 268435457 0\n", bad(1, HintWhy::Syntax)),
+        (b"i 1 -268435457 0\n", bad(1, HintWhy::Syntax)),
+        (b"i 1 +1 0\n", bad(1, HintWhy::Syntax)),
+        (b"i 1 -0 0\n", bad(1, HintWhy::Syntax)),
+        // Without LF at the end; blank lines; CR; spaces.
+        (b"i 1 1 0", bad(1, HintWhy::Syntax)),
+        (b"i 1 1 0\n\ni 2 2 0\n", bad(2, HintWhy::Syntax)),
+        (b"i 1 1 0\r\n", bad(1, HintWhy::Syntax)),
+        (b"i  1 1 0\n", bad(1, HintWhy::Syntax)),
+        (b"i 1 1 0 \n", bad(1, HintWhy::Syntax)),
+        (b"i 1 0\n", proved(false, 0, 1)),
+        (b"e 7 0\n", bad(1, HintWhy::Syntax)),
+        (b"f 0 0\n", bad(1, HintWhy::NotFalsified)),
+        (b"x 1 0\n", bad(1, HintWhy::UnknownId)),
+    ]
+}
+
+fn whole(alloc: Global, text: &[u8]) -> Result<HintVerdict, HintFault> {
+    let mut reader = Counted::new(text);
+    check(alloc, &mut reader)
+}
+
+fn by_one(alloc: Global, text: &[u8]) -> Result<HintVerdict, HintFault> {
+    let mut reader = Counted::new(OneByOne { rest: text });
+    check(alloc, &mut reader)
+}
+
+#[test]
+fn rows_whole(rt: HostRuntime) {
+    for row in &rows() {
+        let verdict = whole(rt.alloc(), row.0);
+        assert!(rt; verdict == Ok(row.1));
+    }
+}
+
+#[test]
+fn rows_by_one(rt: HostRuntime) {
+    for row in &rows() {
+        let verdict = by_one(rt.alloc(), row.0);
+        assert!(rt; verdict == Ok(row.1));
+    }
+}
