@@ -8,3 +8,7 @@ pub mod Taken
 pub mod Finding
 pub mod Holding
 pub mod Sound
+pub mod Putting
+pub mod Heard
+pub mod Written
+pub mod Finished

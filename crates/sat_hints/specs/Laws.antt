@@ -1,9 +1,9 @@
 -- What a derivation shows.
-use Rattle.std.specs.Prelude.{ℕ, List, [], ◌∷◌}
+use Rattle.std.specs.Prelude.{◌≡◌, true, ℕ, List, [], ◌∷◌}
 use Rattle.std.specs.List.{AllByRecursion}
 use Rattle.sat_base.specs.values.Clauses.{Valuation, EachTrue, EachHolds}
 use Rattle.sat_hints.specs.Lines.{Line, Input, Derived, Gone, Core}
-use Rattle.sat_hints.specs.Hints.{IsHintDerivation}
+use Rattle.sat_hints.specs.Hints.{IsHintDerivation, derives_empty}
 
 -- the clauses of the formula
 abbrev pub inputs_of : List Line → List (List ℕ)
@@ -35,3 +35,7 @@ DerivedFollow = (lines : List Line) (a : Valuation) → IsHintDerivation lines �
 -- and no core is true there as a whole
 abbrev pub CoresFail : Type 0
 CoresFail = (lines : List Line) (a : Valuation) → IsHintDerivation lines → EachHolds a (inputs_of lines) → AllByRecursion (λ core. EachTrue a core → ⊥) (cores_of lines)
+
+-- so a derivation of the empty clause says that no valuation satisfies the formula
+abbrev pub EmptyMeansNone : Type 0
+EmptyMeansNone = (lines : List Line) (a : Valuation) → IsHintDerivation lines → derives_empty lines ≡ true → EachHolds a (inputs_of lines) → ⊥

@@ -3,3 +3,5 @@ pub mod Hints
 pub mod Checks
 pub mod inner
 pub mod Laws
+pub mod Conversion
+pub mod Converts

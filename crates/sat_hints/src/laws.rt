@@ -1,9 +1,10 @@
 //! What holds of the definitions: each law is the contract of a function that does nothing.
-ghost use Rattle.sat_hints.specs.Laws.{CoresFail, DerivedFollow};
+ghost use Rattle.sat_hints.specs.Laws.{CoresFail, DerivedFollow, EmptyMeansNone};
 
 /// What a derivation shows: each derived clause holds in every valuation in which the clauses of the formula do, and there no core
-/// is true as a whole.
+/// is true as a whole. One that derives the empty clause says that no valuation satisfies the formula.
 pub fn derivations_are_sound()
     ensures derived { DerivedFollow }
     ensures cores { CoresFail }
+    ensures empty { EmptyMeansNone }
 {}

@@ -4,9 +4,12 @@
 mod answer;
 mod assumed;
 mod checking;
+mod converting;
+mod error;
 mod judging;
 pub mod laws;
 mod line;
+mod line_writer;
 mod naming;
 mod numbers;
 mod present;
@@ -15,4 +18,6 @@ mod reading;
 
 pub use answer::{HintFault, HintVerdict, HintWhy};
 pub use checking::check;
+pub use converting::convert;
+pub use error::HintError;
 pub use line::HintLine;

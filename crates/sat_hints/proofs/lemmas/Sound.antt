@@ -1,6 +1,6 @@
 -- A derivation shows what it derives.
-use Rattle.std.proofs.Common.{ℕ, ◌≡◌, Bool, true, false, cond, eqb, not, List, [], ◌∷◌, map, Option, None, Some, refl, ◌∙◌, ap, subst, inl, inr}
-use Rattle.std.proofs.lemmas.Bool.{cases_Bool, both_ways, or_parts}
+use Rattle.std.proofs.Common.{ℕ, ◌≡◌, Bool, true, false, cond, eqb, not, List, [], ◌∷◌, map, Option, None, Some, refl, sym, ◌∙◌, ap, subst, inl, inr}
+use Rattle.std.proofs.lemmas.Bool.{cases_Bool, both_ways, or_parts, true≢false}
 use Rattle.sat_base.specs.values.Literals.{negated}
 use Rattle.sat_base.specs.values.Clauses.{Valuation, literal_true, clause_true, EachTrue, EachHolds}
 use Rattle.sat_checker.specs.LiteralSets.{canonical}
@@ -8,8 +8,8 @@ use Rattle.sat_checker.proofs.lemmas.propagation.Soundness.{negated_value, true_
 use Rattle.sat_checker.proofs.lemmas.sets.Canonical.{both_signs}
 use Rattle.sat_checker.proofs.lemmas.sets.Subsets.{subset_canonical, superset_true}
 use Rattle.sat_hints.specs.Lines.{Line, Input, Derived, Gone, Core}
-use Rattle.sat_hints.specs.Hints.{and_clauses, clause_under, clauses_under, Conflicts}
-use Rattle.sat_hints.specs.Laws.{inputs_of, derived_of, DerivedFollow, CoresFail}
+use Rattle.sat_hints.specs.Hints.{and_clauses, clause_under, clauses_under, Conflicts, derives_empty}
+use Rattle.sat_hints.specs.Laws.{inputs_of, derived_of, DerivedFollow, CoresFail, EmptyMeansNone}
 
 -- where a clause is false, the negations of its literals are true
 negations_true : (a : Valuation) (clause : List ℕ) → clause_true a clause ≡ false → EachTrue a (map negated clause)
@@ -83,3 +83,14 @@ cores_fail (Gone id ∷ lines) a d h = cores_fail lines a d.0 h
 cores_fail (Core core ids ∷ lines) a d h =
     let q = derived_follow lines a d.0 h in
     (conflicts_never a core d.1.clauses (named_hold lines a h q ids d.1.clauses d.1.present) d.1.conflict, cores_fail lines a d.0 h)
+
+empty_holds_never : (lines : List Line) (a : Valuation) → derives_empty lines ≡ true → EachHolds a (derived_of lines) → ⊥
+empty_holds_never [] a e h = true≢false (sym e)
+empty_holds_never (Input id clause ∷ lines) a e h = empty_holds_never lines a e h
+empty_holds_never (Derived id [] ids ∷ lines) a e h = true≢false (sym h.0)
+empty_holds_never (Derived id (l ∷ ls) ids ∷ lines) a e h = empty_holds_never lines a e h.1
+empty_holds_never (Gone id ∷ lines) a e h = empty_holds_never lines a e h
+empty_holds_never (Core core ids ∷ lines) a e h = empty_holds_never lines a e h
+
+pub empty_means_none : EmptyMeansNone
+empty_means_none lines a d e h = empty_holds_never lines a e (derived_follow lines a d h)

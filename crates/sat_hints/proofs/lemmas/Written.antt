@@ -1,0 +1,97 @@
+-- What the checker's answer to a certificate means for the lines written.
+use Rattle.std.proofs.Common.{ℕ, ◌≡◌, true, false, List, [], ◌∷◌, Result, Ok, Err, inl, inr}
+use Rattle.std.proofs.lemmas.Bool.{both_ways}
+use Rattle.anyhow.specs.declared.error.Error.{Error}
+use Rattle.sat_base.specs.device.Device.{Reader, Writer}
+use Rattle.sat_base.specs.device.Sink.{Broken}
+use Rattle.sat_base.specs.steps.Steps.{Step, End}
+use Rattle.sat_checker.specs.Accepts.{AcceptsAll}
+use Rattle.sat_checker.specs.CheckerView.{Seen, has_failed, Stops, BreaksAt}
+use Rattle.sat_checker.specs.Laws.{has_delete_var}
+use Rattle.sat_checker.specs.ProofView.{Went, taken_after, AnswersProof}
+use Rattle.sat_checker.specs.announcements.Announcements.{Told}
+use Rattle.sat_checker.specs.announcements.Transcripts.{Transcribed}
+use Rattle.sat_checker.specs.telling.Hearing.{Hearers, HearsFirst}
+use Rattle.sat_checker.specs.telling.ProcessingView.{listeners_of, HearsEach}
+use Rattle.sat_checker.specs.declared.error.CheckerError.{CheckerError}
+use Rattle.sat_checker.specs.declared.error.CheckerError.TheVariants as errors
+use Rattle.sat_checker.specs.declared.processing.Processing.{Processing}
+use Rattle.sat_checker.specs.declared.processing.ProcessingError.{ProcessingError}
+use Rattle.sat_checker.specs.declared.processing.ProcessingError.TheVariants as faults
+use Rattle.sat_hints.specs.Conversion.{hint_text}
+use Rattle.sat_hints.specs.Converts.{Gave, IsAccepted}
+use Rattle.sat_hints.specs.declared.error.HintError.TheVariants.{HasDeleteVar}
+use Rattle.sat_hints.specs.declared.line_writer.LineWriter.{LineWriter}
+use Rattle.sat_hints.specs.inner.LineWriting.{outlet}
+use Rattle.sat_hints.specs.inner.LinesWritten.{hint_of, SentAll, SentFront, WritesLines}
+use Rattle.sat_hints.specs.inner.Telling.{TakesTold}
+use Rattle.sat_hints.proofs.lemmas.Heard.{since_sent, since_broken, front_all, front_told, front_by, all_by, broken_all, broken_told}
+
+module _ {W P T : Type 0} (seen : W → Writer) (Takes : P → Told → Result Unit Error → P → Type 0) (Reads : T → Transcribed → Result Unit Error → T → Type 0)
+    (begun : Hearers (LineWriter W) (Processing P T)) (well : begun.own.failed ≡ false) (none : listeners_of begun.others ≡ record { processors = []; transcripts = [] }) where
+  abbrev Hears : Hearers (LineWriter W) (Processing P T) → Told → Result Unit ProcessingError → Hearers (LineWriter W) (Processing P T) → Type 0
+  Hears = HearsFirst (TakesTold seen) (HearsEach Takes Reads)
+
+  abbrev Checker : Type 0
+  Checker = Seen (Hearers (LineWriter W) (Processing P T))
+
+  gave_of : {old new : Checker} {from to : Reader} {passed last : List Step} {rest : List ℕ} → Went old new from to [] passed last rest → AcceptsAll (taken_after passed []) → Gave from to passed last rest
+  gave_of w a = record { steps = w.steps; unended = w.unended; accepted = a }
+
+  stopped : (new : Checker) (steps : List Step) → Stops Hears [] begun new steps → SentFront (outlet seen begun.own) (outlet seen new.listeners.own) (hint_text steps)
+  stopped new steps s = elim s.heard [
+    | inl h ↦ front_told (outlet seen begun.own) (outlet seen new.listeners.own) steps (since_sent seen Takes Reads _ begun new.listeners well h)
+    | inr h ↦ front_all (outlet seen begun.own) (outlet seen new.listeners.own) steps (since_sent seen Takes Reads _ begun new.listeners well h)
+  ]
+
+  abbrev BrokenBy : ProcessingError → Checker → Type 0
+  BrokenBy f new = (cause : Error) × (f ≡ faults.ProofProcessorError cause) × (steps : List Step) × AcceptsAll steps × Broken (outlet seen begun.own).sink (outlet seen new.listeners.own).sink (hint_text steps)
+
+  broken_at : (f : ProcessingError) (new : Checker) (step : Step) (steps : List Step) → BreaksAt Hears [] begun f new step steps → BrokenBy f new
+  broken_at f new step steps b = elim b [
+    | inl h ↦
+        let k = since_broken seen Takes Reads f _ begun new.listeners well none h.heard in
+        (k.0, k.1, steps, h.fails.stands.kernel.accepted, broken_all (outlet seen begun.own).sink (outlet seen new.listeners.own).sink steps k.2)
+    | inr h ↦
+        let k = since_broken seen Takes Reads f _ begun new.listeners well none h.1.heard in
+        (k.0, k.1, step ∷ steps, (h.1.fails.stands.kernel.accepted, h.0), broken_told (outlet seen begun.own).sink (outlet seen new.listeners.own).sink (step ∷ steps) k.2)
+  ]
+
+  no_memory : {A : Type 0} (new : Checker) → BrokenBy faults.OutOfMemory new → A
+  no_memory new b = absurd (let e : ◌≡◌ {A = ProcessingError} faults.OutOfMemory (faults.ProofProcessorError b.0) = b.1 in cc)
+
+  pub errs_written : (e : CheckerError) (old new : Checker) (from to : Reader) → has_failed old ≡ false → AnswersProof Hears [] begun (Err e) old new from to [] → WritesLines (Err (hint_of e)) from to (outlet seen begun.own) (outlet seen new.listeners.own)
+  errs_written errors.CheckFailed old new from to f k =
+      (k.0, k.4, (k.1, k.2, gave_of k.3 k.6.fails.stands.kernel.accepted, k.5), front_all (outlet seen begun.own) (outlet seen new.listeners.own) (taken_after k.0 []) (since_sent seen Takes Reads _ begun new.listeners well k.6.heard))
+  errs_written errors.ProofIncomplete old new from to f k =
+      (k.0, k.3, (k.1, gave_of k.2 k.6.0.kernel.accepted, k.4, k.5), front_by (outlet seen begun.own) (outlet seen new.listeners.own) _ (taken_after k.0 []) (since_sent seen Takes Reads _ begun new.listeners well (k.6.0.heard k.6.1)))
+  errs_written errors.ParseError old new from to f k =
+      (k.0, k.3, (k.1, gave_of k.2 k.5.0.kernel.accepted, k.4), front_by (outlet seen begun.own) (outlet seen new.listeners.own) _ (taken_after k.0 []) (since_sent seen Takes Reads _ begun new.listeners well (k.5.0.heard k.5.1)))
+  errs_written errors.IoError old new from to f k =
+      (k.0, k.1, k.3, gave_of k.2 k.5.0.kernel.accepted, k.4, front_by (outlet seen begun.own) (outlet seen new.listeners.own) _ (taken_after k.0 []) (since_sent seen Takes Reads _ begun new.listeners well (k.5.0.heard k.5.1)))
+  errs_written errors.OutOfMemory old new from to f k = elim k.3 [
+    | inl h ↦ (taken_after k.0 [], k.2, h.1.fails.stands.kernel.accepted, stopped new (taken_after k.0 []) h.1)
+    | inr h ↦ elim h.2 [
+      | inl s ↦ (taken_after k.0 [], k.2, s.fails.stands.kernel.accepted, stopped new (taken_after k.0 []) s)
+      | inr b ↦ no_memory new (broken_at faults.OutOfMemory new h.0 (taken_after k.0 []) b)
+    ]
+  ]
+  errs_written errors.CounterEnd old new from to f k =
+      (k.0, k.4, (k.1, k.2, gave_of k.3 k.6.fails.stands.kernel.accepted, k.5), stopped new (taken_after k.0 []) k.6)
+  errs_written (errors.ProofProcessorError cause) old new from to f k =
+      let b = broken_at (faults.ProofProcessorError cause) new k.1 (taken_after k.0 []) k.5 in
+      (b.2, k.4, b.3, b.4)
+  errs_written errors.HasFailed old new from to f k = absurd (both_ways (has_failed old) f k.0)
+
+  -- accepted to its end
+  ends_of : (old new : Checker) (from to : Reader) → (k : AnswersProof Hears [] begun (Ok tt) old new from to []) → IsAccepted from to k.0 k.1
+  ends_of old new from to k = record { gave = gave_of k.2 k.4.0.kernel.accepted.0; none_failed = k.3; ends = k.4.0.kernel.accepted.1 }
+
+  all_of : (old new : Checker) (from to : Reader) → (k : AnswersProof Hears [] begun (Ok tt) old new from to []) → SentAll (outlet seen begun.own) (outlet seen new.listeners.own) (hint_text (End ∷ taken_after k.0 []))
+  all_of old new from to k = all_by (outlet seen begun.own) (outlet seen new.listeners.own) _ (End ∷ taken_after k.0 []) k.5 (since_sent seen Takes Reads _ begun new.listeners well (k.4.0.heard k.4.1))
+
+  pub ok_written : (old new : Checker) (from to : Reader) → (k : AnswersProof Hears [] begun (Ok tt) old new from to []) → has_delete_var (taken_after k.0 []) ≡ false → WritesLines (Ok tt) from to (outlet seen begun.own) (outlet seen new.listeners.own)
+  ok_written old new from to k d = (k.0, k.1, ends_of old new from to k, d, all_of old new from to k)
+
+  pub deleted_written : (old new : Checker) (from to : Reader) → (k : AnswersProof Hears [] begun (Ok tt) old new from to []) → has_delete_var (taken_after k.0 []) ≡ true → WritesLines (Err HasDeleteVar) from to (outlet seen begun.own) (outlet seen new.listeners.own)
+  deleted_written old new from to k d = (k.0, k.1, ends_of old new from to k, d, front_by (outlet seen begun.own) (outlet seen new.listeners.own) _ (End ∷ taken_after k.0 []) (since_sent seen Takes Reads _ begun new.listeners well (k.4.0.heard k.4.1)))

@@ -1,0 +1,11 @@
+use Rattle.std.proofs.Common.{◌∷◌, []}
+use Rattle.sat_hints.specs.Lines.{id_words, literal_words}
+use Rattle.sat_hints.specs.inner.LineWriting.{outlet}
+use Rattle.sat_hints.proofs.lemmas.Putting.{put_four}
+use Rattle.sat_hints.proofs.line_writer.LineWriter.put_input.Goals as goal
+
+pub returns : goal.returns
+returns g c =
+    let S = g.W.CountedWrite.seen in
+    put_four (105 ∷ 32 ∷ []) (id_words (c.args.id ∷ [])) (literal_words c.args.clause.now) (48 ∷ 10 ∷ []) (outlet S c.args.self.now) (outlet S c.put_all.new.self) (outlet S c.put_id.new.self) (outlet S c.put_literals.new.self) (outlet S c.put_all-2.new.self)
+    c.put_all.ensures c.put_id.ensures c.put_literals.ensures c.put_all-2.ensures

@@ -1,0 +1,68 @@
+-- What an answer to a certificate means that is turned into a hint text.
+use Rattle.std.specs.Prelude.{ℕ, ◌≡◌, ◌≢◌, true, false, List, [], ◌∷◌, ◌++◌, Result, Ok, Err}
+use Rattle.std.specs.List.{AllByRecursion}
+use Rattle.sat_base.specs.device.Device.{Reader, Writer, IsOver, ReadFails, Takes, Breaks}
+use Rattle.sat_base.specs.steps.Formats.{Live, Spoilt}
+use Rattle.sat_base.specs.steps.Steps.{Step, End}
+use Rattle.sat_base.specs.steps.StepText.{SpellsStep}
+use Rattle.sat_checker.specs.Accepts.{Accepts, AcceptsAll, stored_after, ready_after}
+use Rattle.sat_checker.specs.Laws.{has_delete_var}
+use Rattle.sat_checker.specs.ProofView.{GaveSteps, taken_after, NoneFailed}
+use Rattle.sat_checker.specs.inner.StateView.{SpentBy}
+use Rattle.sat_checker.specs.declared.error.CheckerError.{CheckerError}
+use Rattle.sat_checker.specs.declared.error.CheckerError.TheVariants as errors
+use Rattle.sat_hints.specs.Conversion.{hint_text}
+use Rattle.sat_hints.specs.declared.error.HintError.{HintError}
+use Rattle.sat_hints.specs.declared.error.HintError.TheVariants.{Refused, HasDeleteVar, Read, Write, OutOfMemory}
+
+-- A reader gave the text of steps that are accepted, in the order in which they were taken, then that of one more or none, and then these bytes.
+pub record Gave (from to : Reader) (passed last : List Step) (rest : List ℕ) : Type 0 where
+  pub steps : GaveSteps from to (passed ++ last) rest
+  pub unended : AllByRecursion (λ step. step ≢ End) passed
+  pub accepted : AcceptsAll (taken_after passed [])
+
+-- a writer took a front of a text, and no write failed
+pub record TookFront (old new : Writer) (text : List ℕ) : Type 0 where
+  pub front : List ℕ
+  pub behind : List ℕ
+  pub whole : text ≡ front ++ behind
+  pub takes : Takes old new front
+
+-- the certificate was read and accepted to its end
+pub record IsAccepted (from to : Reader) (passed : List Step) (rest : List ℕ) : Type 0 where
+  pub gave : Gave from to passed (End ∷ []) rest
+  pub none_failed : NoneFailed from to
+  pub ends : Accepts (ready_after (taken_after passed [])) End
+
+-- why the checker refuses it
+abbrev pub RefusesBy : CheckerError → Reader → Reader → List Step → Type 0
+-- a step isn't accepted,
+RefusesBy errors.CheckFailed from to passed = (step : Step) × (rest : List ℕ) × Gave from to passed (step ∷ []) rest × (Accepts (ready_after (taken_after passed [])) step → ⊥)
+-- the text is over before an end,
+RefusesBy errors.ProofIncomplete from to passed = (rest : List ℕ) × Gave from to passed [] rest × IsOver to × Live SpellsStep rest
+-- no step can follow a byte,
+RefusesBy errors.ParseError from to passed = (rest : List ℕ) × Gave from to passed [] rest × Spoilt SpellsStep rest
+-- or the last id or count was given before
+RefusesBy errors.CounterEnd from to passed = (step : Step) × (rest : List ℕ) × Gave from to passed (step ∷ []) rest × SpentBy step (stored_after (taken_after passed []))
+RefusesBy errors.IoError from to passed = ⊥
+RefusesBy errors.OutOfMemory from to passed = ⊥
+RefusesBy errors.HasFailed from to passed = ⊥
+RefusesBy (errors.ProofProcessorError cause) from to passed = ⊥
+
+-- What an answer means, from what the certificate's reader and the text's writer were before to what they are then.
+abbrev pub Converts : Result (Unit {0}) HintError → Reader → Reader → Writer → Writer → Type 0
+-- the text is that of the lines of all steps,
+Converts (Ok x) from to old new = (passed : List Step) × (rest : List ℕ) × IsAccepted from to passed rest
+    × (has_delete_var (taken_after passed []) ≡ false) × Takes old new (hint_text (End ∷ taken_after passed []))
+-- a step deletes a variable,
+Converts (Err HasDeleteVar) from to old new = (passed : List Step) × (rest : List ℕ) × IsAccepted from to passed rest
+    × (has_delete_var (taken_after passed []) ≡ true) × TookFront old new (hint_text (End ∷ taken_after passed []))
+Converts (Err (Refused e)) from to old new = (passed : List Step) × NoneFailed from to × RefusesBy e from to passed
+    × TookFront old new (hint_text (taken_after passed []))
+-- exactly one read failed, the last, or so many were made and none did,
+Converts (Err Read) from to old new = (passed : List Step) × (rest : List ℕ) × ReadFails from to × Gave from to passed [] rest × Live SpellsStep rest
+    × TookFront old new (hint_text (taken_after passed []))
+-- a write of the lines of accepted steps failed, the last,
+Converts (Err Write) from to old new = (steps : List Step) × NoneFailed from to × AcceptsAll steps × Breaks old new (hint_text steps)
+-- or memory was refused
+Converts (Err OutOfMemory) from to old new = (steps : List Step) × NoneFailed from to × AcceptsAll steps × TookFront old new (hint_text steps)

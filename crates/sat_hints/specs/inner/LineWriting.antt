@@ -1,0 +1,26 @@
+-- How lines are written through bytes that wait.
+use Rattle.std.specs.Prelude.{ℕ, ◌≡◌, Bool, true, false, List, take}
+use Rattle.sat_base.specs.device.Device.{Writer}
+use Rattle.sat_base.specs.device.Sink.{Sink, Sent, Broken}
+use Rattle.sat_hints.specs.declared.line_writer.LineWriter.{LineWriter}
+
+-- a writer with the bytes that wait for it, and whether a write has failed
+pub record Outlet : Type 0 where
+  pub sink : Sink
+  pub failed : Bool
+
+abbrev pub outlet : {W : Type 0} → (W → Writer) → LineWriter W → Outlet
+outlet seen w = record { sink = record { writer = seen w.writer; waiting = take w.len w.bytes }; failed = w.failed }
+
+-- a text was put behind what waited, or a write has failed by now
+abbrev pub PutBy : Bool → List ℕ → Sink → Sink → Type 0
+PutBy false text old new = Sent old new text
+PutBy true text old new = Broken old new text
+
+-- once one has failed nothing is done
+abbrev pub PutFrom : Bool → List ℕ → Outlet → Outlet → Type 0
+PutFrom true text old new = new ≡ old
+PutFrom false text old new = PutBy new.failed text old.sink new.sink
+
+abbrev pub Put : List ℕ → Outlet → Outlet → Type 0
+Put text old new = PutFrom old.failed text old new

@@ -1,0 +1,52 @@
+-- What an answer means where the lines of a certificate are written through bytes that wait.
+use Rattle.std.specs.Prelude.{ℕ, ◌≡◌, true, false, List, [], ◌∷◌, ◌++◌, Result, Ok, Err}
+use Rattle.sat_base.specs.device.Device.{Reader, ReadFails}
+use Rattle.sat_base.specs.device.Sink.{Sent, Broken}
+use Rattle.sat_base.specs.steps.Formats.{Live}
+use Rattle.sat_base.specs.steps.Steps.{Step, End}
+use Rattle.sat_base.specs.steps.StepText.{SpellsStep}
+use Rattle.sat_checker.specs.Accepts.{AcceptsAll}
+use Rattle.sat_checker.specs.Laws.{has_delete_var}
+use Rattle.sat_checker.specs.ProofView.{taken_after, NoneFailed}
+use Rattle.sat_checker.specs.declared.error.CheckerError.{CheckerError}
+use Rattle.sat_checker.specs.declared.error.CheckerError.TheVariants as errors
+use Rattle.sat_hints.specs.Conversion.{hint_text}
+use Rattle.sat_hints.specs.Converts.{Gave, IsAccepted, RefusesBy}
+use Rattle.sat_hints.specs.declared.error.HintError.{HintError}
+use Rattle.sat_hints.specs.declared.error.HintError.TheVariants.{Refused, HasDeleteVar, Read, Write, OutOfMemory}
+use Rattle.sat_hints.specs.inner.LineWriting.{Outlet}
+
+-- what is answered where the checker answers this
+abbrev pub hint_of : CheckerError → HintError
+hint_of errors.IoError = Read
+hint_of errors.OutOfMemory = OutOfMemory
+hint_of (errors.ProofProcessorError cause) = Write
+hint_of errors.ProofIncomplete = Refused errors.ProofIncomplete
+hint_of errors.ParseError = Refused errors.ParseError
+hint_of errors.CheckFailed = Refused errors.CheckFailed
+hint_of errors.CounterEnd = Refused errors.CounterEnd
+hint_of errors.HasFailed = Refused errors.HasFailed
+
+-- a text was put, and no write failed
+pub record SentAll (old new : Outlet) (text : List ℕ) : Type 0 where
+  pub well : new.failed ≡ false
+  pub sent : Sent old.sink new.sink text
+
+-- or a front of it
+pub record SentFront (old new : Outlet) (text : List ℕ) : Type 0 where
+  pub front : List ℕ
+  pub behind : List ℕ
+  pub whole : text ≡ front ++ behind
+  pub sent : SentAll old new front
+
+abbrev pub WritesLines : Result (Unit {0}) HintError → Reader → Reader → Outlet → Outlet → Type 0
+WritesLines (Ok x) from to old new = (passed : List Step) × (rest : List ℕ) × IsAccepted from to passed rest
+    × (has_delete_var (taken_after passed []) ≡ false) × SentAll old new (hint_text (End ∷ taken_after passed []))
+WritesLines (Err HasDeleteVar) from to old new = (passed : List Step) × (rest : List ℕ) × IsAccepted from to passed rest
+    × (has_delete_var (taken_after passed []) ≡ true) × SentFront old new (hint_text (End ∷ taken_after passed []))
+WritesLines (Err (Refused e)) from to old new = (passed : List Step) × NoneFailed from to × RefusesBy e from to passed
+    × SentFront old new (hint_text (taken_after passed []))
+WritesLines (Err Read) from to old new = (passed : List Step) × (rest : List ℕ) × ReadFails from to × Gave from to passed [] rest × Live SpellsStep rest
+    × SentFront old new (hint_text (taken_after passed []))
+WritesLines (Err Write) from to old new = (steps : List Step) × NoneFailed from to × AcceptsAll steps × Broken old.sink new.sink (hint_text steps)
+WritesLines (Err OutOfMemory) from to old new = (steps : List Step) × NoneFailed from to × AcceptsAll steps × SentFront old new (hint_text steps)

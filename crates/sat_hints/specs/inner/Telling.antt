@@ -1,0 +1,28 @@
+-- What a writer of lines makes of what it is told.
+use Rattle.std.specs.Prelude.{◌≡◌, Bool, true, false, Option, None, Some, List, [], Result, Ok, Err, ℕ}
+use Rattle.anyhow.specs.declared.error.Error.{Error}
+use Rattle.sat_base.specs.device.Device.{Writer}
+use Rattle.sat_checker.specs.announcements.Announcements.{Told}
+use Rattle.sat_hints.specs.Lines.{Line, line_text}
+use Rattle.sat_hints.specs.Conversion.{line_told}
+use Rattle.sat_hints.specs.declared.line_writer.LineWriter.{LineWriter}
+use Rattle.sat_hints.specs.inner.LineWriting.{outlet, Put}
+
+-- a line's text, where there is one
+abbrev pub text_if : Option Line → List ℕ
+text_if None = []
+text_if (Some line) = line_text line
+
+abbrev pub told_text : Told → List ℕ
+told_text t = text_if (line_told t.announcement)
+
+-- a fault is answered exactly where a write has failed
+abbrev pub AnswersIf : Bool → Result (Unit {0}) Error → Type 0
+AnswersIf false result = result ≡ Ok tt
+AnswersIf true (Ok x) = ⊥
+AnswersIf true (Err e) = Unit {0}
+
+-- the line was put, or a write has failed
+pub record TakesTold {W : Type 0} (seen : W → Writer) (old : LineWriter W) (t : Told) (result : Result (Unit {0}) Error) (new : LineWriter W) : Type 0 where
+  pub puts : Put (told_text t) (outlet seen old) (outlet seen new)
+  pub answers : AnswersIf new.failed result

@@ -1,0 +1,186 @@
+//! Writing the hint text of a certificate.
+ghost use Rattle.std.specs.Prelude.{◌≡◌, [], false};
+ghost use Rattle.std.specs.Option.{option_map};
+ghost use Rattle.sat_checker.specs.CheckerView.{kernel_of, seen_of};
+ghost use Rattle.sat_checker.specs.KernelView.{has_failed, IsSettled, Stands};
+ghost use Rattle.sat_checker.specs.telling.AnnouncementView.{announcement_of};
+ghost use Rattle.sat_checker.specs.telling.ProcessingView.{listeners_of};
+ghost use Rattle.sat_hints.specs.Conversion.{line_told};
+ghost use Rattle.sat_hints.specs.Converts.{Converts};
+ghost use Rattle.sat_hints.specs.inner.LineReading.{line_of};
+ghost use Rattle.sat_hints.specs.inner.LineWriting.{outlet, Put};
+ghost use Rattle.sat_hints.specs.inner.LinesWritten.{hint_of, WritesLines};
+ghost use Rattle.sat_hints.specs.inner.Telling.{text_if, TakesTold};
+
+use crate::error::HintError;
+use crate::line::HintLine;
+use crate::line_writer::LineWriter;
+use sat_base::{CountedRead, CountedWrite};
+use sat_checker::{CheckedProofStep, Checker, CheckerData, CheckerError, ProofProcessor};
+use std::alloc::Global;
+
+/// The line of an announcement, if it has one. Clauses that were stored before, tautologies, names, models and assumptions have
+/// none.
+fn line_told<'a>(step: &CheckedProofStep<'a>) -> Option<HintLine<'a>>
+    ensures { option_map line_of result ≡ line_told (announcement_of step.now) }
+{
+    match step {
+        CheckedProofStep::AddClause { id, clause } => Some(HintLine::Input { id: *id, clause }),
+        CheckedProofStep::AtClause {
+            id,
+            redundant: _,
+            clause,
+            propagations,
+        } => Some(HintLine::Derived {
+            id: *id,
+            clause,
+            ids: propagations,
+        }),
+        CheckedProofStep::DeleteClause { id, clause: _ } => Some(HintLine::Gone { id: *id }),
+        CheckedProofStep::DeleteAtClause {
+            id,
+            keep_as_redundant,
+            clause: _,
+            propagations: _,
+        } => {
+            if *keep_as_redundant {
+                None
+            } else {
+                Some(HintLine::Gone { id: *id })
+            }
+        }
+        CheckedProofStep::FailedAssumptions {
+            failed_core,
+            propagations,
+        } => Some(HintLine::Core {
+            core: failed_core,
+            ids: propagations,
+        }),
+        CheckedProofStep::UserVar { .. } => None,
+        CheckedProofStep::DuplicatedClause { .. } => None,
+        CheckedProofStep::TautologicalClause { .. } => None,
+        CheckedProofStep::MakeIrredundant { .. } => None,
+        CheckedProofStep::DeleteRatClause { .. } => None,
+        CheckedProofStep::Model { .. } => None,
+        CheckedProofStep::Assumptions { .. } => None,
+    }
+}
+
+impl<W: CountedWrite> LineWriter<W> {
+    /// Lets the line of an announcement wait, if it has one.
+    fn put_told(&mut self, step: &CheckedProofStep<'_>)
+        ensures { Put (text_if (line_told (announcement_of step.now))) (outlet W.seen self.old) (outlet W.seen self.new) }
+    {
+        match line_told(step) {
+            Some(line) => self.put_line(&line),
+            None => {}
+        }
+    }
+}
+
+impl<W: CountedWrite + Drop> ProofProcessor for LineWriter<W> {
+    ghost takes = { TakesTold W.seen };
+
+    fn process_step(
+        &mut self,
+        step: &CheckedProofStep<'_>,
+        _names: CheckerData<'_>,
+    ) -> anyhow::Result<()> {
+        self.put_told(step);
+        if self.has_failed() {
+            return Err(anyhow::Error::msg("a write failed"));
+        }
+        Ok(())
+    }
+}
+
+/// What is answered where the checker answers this. The writer of lines is the only one that is told.
+fn hint_error(error: CheckerError) -> HintError
+    ensures { result ≡ hint_of error }
+{
+    match error {
+        CheckerError::IoError => HintError::Read,
+        CheckerError::OutOfMemory => HintError::OutOfMemory,
+        CheckerError::ProofProcessorError { cause: _ } => HintError::Write,
+        CheckerError::ProofIncomplete => HintError::Refused(CheckerError::ProofIncomplete),
+        CheckerError::ParseError => HintError::Refused(CheckerError::ParseError),
+        CheckerError::CheckFailed => HintError::Refused(CheckerError::CheckFailed),
+        CheckerError::CounterEnd => HintError::Refused(CheckerError::CounterEnd),
+        CheckerError::HasFailed => HintError::Refused(CheckerError::HasFailed),
+    }
+}
+
+/// Writes the lines of a certificate that this checker checks, but for those that wait at its end.
+fn write_checked<R: CountedRead, W: CountedWrite + Drop>(
+    checker: &mut Checker,
+    certificate: &mut R,
+    lines: &mut LineWriter<W>,
+) -> Result<(), HintError>
+    requires stands { Stands (kernel_of checker.old) [] }
+    requires goes_on { has_failed (kernel_of checker.old) ≡ false }
+    requires settled { IsSettled (kernel_of checker.old) }
+    requires listeners { listeners_of (seen_of checker.old).listeners ≡ record { processors = []; transcripts = [] } }
+    requires well { lines.old.failed ≡ false }
+    ensures { WritesLines result (R.seen certificate.old) (R.seen certificate.new) (outlet W.seen lines.old) (outlet W.seen lines.new) }
+{
+    match checker.check_proof_with(certificate, lines) {
+        Err(error) => Err(hint_error(error)),
+        Ok(()) => {
+            if checker.var_deleted() {
+                return Err(HintError::HasDeleteVar);
+            }
+            Ok(())
+        }
+    }
+}
+
+/// Writes the lines of a certificate, but for those that wait at its end.
+fn write_lines<R: CountedRead, W: CountedWrite + Drop>(
+    alloc: Global,
+    certificate: &mut R,
+    lines: &mut LineWriter<W>,
+) -> Result<(), HintError>
+    requires { lines.old.failed ≡ false }
+    ensures { WritesLines result (R.seen certificate.old) (R.seen certificate.new) (outlet W.seen lines.old) (outlet W.seen lines.new) }
+{
+    let mut checker = Checker::new(alloc);
+    write_checked(&mut checker, certificate, lines)
+}
+
+/// Writes the lines of a certificate, where nothing waits before.
+fn write_text<R: CountedRead, W: CountedWrite + Drop>(
+    alloc: Global,
+    certificate: &mut R,
+    lines: &mut LineWriter<W>,
+) -> Result<(), HintError>
+    requires well { lines.old.failed ≡ false }
+    requires none { (outlet W.seen lines.old).sink.waiting ≡ [] }
+    ensures { Converts result (R.seen certificate.old) (R.seen certificate.new)
+        (outlet W.seen lines.old).sink.writer (outlet W.seen lines.new).sink.writer }
+{
+    match write_lines(alloc, certificate, lines) {
+        Err(error) => Err(error),
+        Ok(()) => {
+            lines.write_out();
+            if lines.has_failed() {
+                return Err(HintError::Write);
+            }
+            Ok(())
+        }
+    }
+}
+
+/// Writes the hint text of a certificate, which is checked meanwhile. It writes in pieces of 4,096 bytes, and takes the memory of a
+/// checker, and none for a line.
+pub fn convert<R: CountedRead, W: CountedWrite>(
+    alloc: Global,
+    certificate: &mut R,
+    out: &mut W,
+) -> Result<(), HintError>
+    ensures { Converts result (R.seen certificate.old) (R.seen certificate.new) (W.seen out.old) (W.seen out.new) }
+{
+    let mut lines: LineWriter<&mut W> = LineWriter::new(out);
+    let result = write_text(alloc, certificate, &mut lines);
+    let _out = lines.into_writer();
+    result
+}

@@ -1,0 +1,23 @@
+//! Why a certificate gave no whole hint text.
+
+use sat_checker::CheckerError;
+use thiserror::Error;
+
+/// What was written by then is unfinished.
+#[derive(Debug, Drop, Error)]
+pub enum HintError {
+    /// The checker refuses the certificate: a step, a byte, its end, or a count.
+    #[error("the certificate is refused: {0}")]
+    Refused(CheckerError),
+    /// The certificate is accepted to its end, and deletes a variable.
+    #[error("the certificate deletes a variable")]
+    HasDeleteVar,
+    /// A read failed, or there were 2^48 of them.
+    #[error("a read failed")]
+    Read,
+    /// A write failed.
+    #[error("a write failed")]
+    Write,
+    #[error("out of memory")]
+    OutOfMemory,
+}

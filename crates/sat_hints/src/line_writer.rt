@@ -1,0 +1,222 @@
+//! Writing lines of a hint text, through bytes that wait.
+ghost use Rattle.std.specs.Prelude.{◌≡◌, ◌+◌, ◌<◌, ◌∷◌, ◌++◌, [], false, decimal, codes};
+ghost use Rattle.sat_base.specs.dimacs.DimacsText.{number_text};
+ghost use Rattle.sat_hints.specs.Lines.{Input, Derived, Gone, Core, id_text, id_words, line_text, literal_words};
+ghost use Rattle.sat_hints.specs.inner.LineReading.{line_of};
+ghost use Rattle.sat_hints.specs.inner.LineWriting.{outlet, Put};
+
+use crate::line::HintLine;
+use sat_base::{CountedWrite, Lit};
+
+/// How many bytes wait at most.
+const PIECE: usize = 4096;
+
+/// A writer, and bytes that wait until there is no room for more, or nothing more comes. Once a write has failed nothing more is
+/// written.
+#[derive(Drop)]
+pub(crate) struct LineWriter<W> {
+    writer: W,
+    bytes: [u8; PIECE],
+    /// How many of them wait.
+    len: usize,
+    failed: bool,
+}
+
+// Each byte goes through `put`.
+impl<W: CountedWrite> LineWriter<W> {
+    /// Nothing waits.
+    pub(crate) fn new(writer: W) -> LineWriter<W>
+        ensures writer { (outlet W.seen result).sink.writer ≡ W.seen writer }
+        ensures none { (outlet W.seen result).sink.waiting ≡ [] }
+        ensures well { result.failed ≡ false }
+    {
+        LineWriter {
+            writer,
+            bytes: [0; PIECE],
+            len: 0,
+            failed: false,
+        }
+    }
+
+    /// The writer. What waits is lost.
+    pub(crate) fn into_writer(self) -> W
+        ensures { result ≡ self.writer }
+    {
+        let LineWriter {
+            writer,
+            bytes: _bytes,
+            len: _len,
+            failed: _failed,
+        } = self;
+        writer
+    }
+
+    /// Whether a write has failed.
+    pub(crate) fn has_failed(&self) -> bool
+        ensures { result ≡ self.now.failed }
+    {
+        self.failed
+    }
+
+    /// Writes out what waits.
+    pub(crate) fn write_out(&mut self)
+        requires { self.old.failed ≡ false }
+        ensures puts { Put [] (outlet W.seen self.old) (outlet W.seen self.new) }
+        ensures none { self.new.len ≡ 0 }
+    {
+        let count = self.len.min(PIECE);
+        let waiting = &self.bytes[..count];
+        self.failed = self.writer.write_all_counted(waiting).is_err();
+        self.len = 0;
+    }
+
+    /// Lets a byte wait. What waits is written out first where there is no room.
+    #[inline(always)]
+    fn put(&mut self, byte: u8)
+        ensures { Put (byte ∷ []) (outlet W.seen self.old) (outlet W.seen self.new) }
+    {
+        if self.failed {
+            return;
+        }
+        if self.len >= PIECE {
+            self.put_behind(byte);
+            return;
+        }
+        self.bytes[self.len] = byte;
+        self.len += 1;
+    }
+
+    /// Writes out what waits, and lets a byte wait.
+    fn put_behind(&mut self, byte: u8)
+        requires { self.old.failed ≡ false }
+        ensures { Put (byte ∷ []) (outlet W.seen self.old) (outlet W.seen self.new) }
+    {
+        self.write_out();
+        if self.failed {
+            return;
+        }
+        self.bytes[0] = byte;
+        self.len = 1;
+    }
+
+    fn put_all(&mut self, bytes: &[u8])
+        ensures { Put bytes.now (outlet W.seen self.old) (outlet W.seen self.new) }
+    {
+        for byte in bytes {
+            self.put(*byte);
+        }
+    }
+
+    fn put_decimal(&mut self, number: u64)
+        ensures { Put (decimal number) (outlet W.seen self.old) (outlet W.seen self.new) }
+    {
+        if number < 10 {
+            self.put(b'0' + number as u8);
+            return;
+        }
+        self.put_decimal(number / 10);
+        self.put(b'0' + (number % 10) as u8);
+    }
+
+    /// The ID of this id.
+    fn put_number(&mut self, id: u64)
+        ensures { Put (id_text id) (outlet W.seen self.old) (outlet W.seen self.new) }
+    {
+        match id.checked_add(1) {
+            Some(number) => self.put_decimal(number),
+            None => self.put_all(b"18446744073709551616"),
+        }
+    }
+
+    fn put_ids(&mut self, ids: &[u64])
+        ensures { Put (id_words ids.now) (outlet W.seen self.old) (outlet W.seen self.new) }
+    {
+        for id in ids {
+            self.put_number(*id);
+            self.put(b' ');
+        }
+    }
+
+    fn put_id(&mut self, id: u64)
+        ensures { Put (id_words (id ∷ [])) (outlet W.seen self.old) (outlet W.seen self.new) }
+    {
+        self.put_number(id);
+        self.put(b' ');
+    }
+
+    /// The number of this literal.
+    fn put_literal(&mut self, literal: Lit)
+        ensures { Put (number_text literal) (outlet W.seen self.old) (outlet W.seen self.new) }
+    {
+        let number = literal.index() as u64 + 1;
+        if literal.is_positive() {
+            self.put_decimal(number);
+            return;
+        }
+        self.put(b'-');
+        self.put_decimal(number);
+    }
+
+    fn put_literals(&mut self, literals: &[Lit])
+        ensures { Put (literal_words literals.now) (outlet W.seen self.old) (outlet W.seen self.new) }
+    {
+        for literal in literals {
+            self.put_literal(*literal);
+            self.put(b' ');
+        }
+    }
+
+    /// `LITS 0 IDS 0` and LF.
+    fn put_both(&mut self, literals: &[Lit], ids: &[u64])
+        ensures { Put (literal_words literals.now ++ (codes "0 " ++ (id_words ids.now ++ codes "0\n"))) (outlet W.seen self.old) (outlet W.seen self.new) }
+    {
+        self.put_literals(literals);
+        self.put_all(b"0 ");
+        self.put_ids(ids);
+        self.put_all(b"0\n");
+    }
+
+    fn put_input(&mut self, id: u64, clause: &[Lit])
+        ensures { Put (line_text (Input id clause.now)) (outlet W.seen self.old) (outlet W.seen self.new) }
+    {
+        self.put_all(b"i ");
+        self.put_id(id);
+        self.put_literals(clause);
+        self.put_all(b"0\n");
+    }
+
+    fn put_derived(&mut self, id: u64, clause: &[Lit], ids: &[u64])
+        ensures { Put (line_text (Derived id clause.now ids.now)) (outlet W.seen self.old) (outlet W.seen self.new) }
+    {
+        self.put_all(b"d ");
+        self.put_id(id);
+        self.put_both(clause, ids);
+    }
+
+    fn put_gone(&mut self, id: u64)
+        ensures { Put (line_text (Gone id)) (outlet W.seen self.old) (outlet W.seen self.new) }
+    {
+        self.put_all(b"x ");
+        self.put_id(id);
+        self.put_all(b"0\n");
+    }
+
+    fn put_core(&mut self, core: &[Lit], ids: &[u64])
+        ensures { Put (line_text (Core core.now ids.now)) (outlet W.seen self.old) (outlet W.seen self.new) }
+    {
+        self.put_all(b"f ");
+        self.put_both(core, ids);
+    }
+
+    /// Lets a line wait.
+    pub(crate) fn put_line(&mut self, line: &HintLine<'_>)
+        ensures { Put (line_text (line_of line.now)) (outlet W.seen self.old) (outlet W.seen self.new) }
+    {
+        match line {
+            HintLine::Input { id, clause } => self.put_input(*id, clause),
+            HintLine::Derived { id, clause, ids } => self.put_derived(*id, clause, ids),
+            HintLine::Gone { id } => self.put_gone(*id),
+            HintLine::Core { core, ids } => self.put_core(core, ids),
+        }
+    }
+}
