@@ -1,6 +1,6 @@
 //! Rows of hint texts, whole and in pieces of one byte.
 
-use crate::devices::OneByOne;
+use crate::devices::by_one;
 use sat_base::Counted;
 use sat_hints::{HintFault, HintVerdict, HintWhy, check};
 use std::alloc::Global;
@@ -98,8 +98,9 @@ fn whole(alloc: Global, text: &[u8]) -> Result<HintVerdict, HintFault> {
     check(alloc, &mut reader)
 }
 
-fn by_one(alloc: Global, text: &[u8]) -> Result<HintVerdict, HintFault> {
-    let mut reader = Counted::new(OneByOne { rest: text });
+/// One byte a read, of which one fails, or none where that is 0.
+fn in_bytes(alloc: Global, text: &[u8], failing: u64) -> Result<HintVerdict, HintFault> {
+    let mut reader = by_one(text, failing);
     check(alloc, &mut reader)
 }
 
@@ -114,7 +115,19 @@ fn rows_whole(rt: HostRuntime) {
 #[test]
 fn rows_by_one(rt: HostRuntime) {
     for row in &rows() {
-        let verdict = by_one(rt.alloc(), row.0);
+        let verdict = in_bytes(rt.alloc(), row.0, 0);
         assert!(rt; verdict == Ok(row.1));
     }
+}
+
+/// Each read fails in turn, also the one that would find the end.
+#[test]
+fn reads_fail(rt: HostRuntime) {
+    let text = b"i 1 1 0\nx 1 0\n";
+    for failing in 1..16 {
+        let verdict = in_bytes(rt.alloc(), text, failing);
+        assert!(rt; verdict == Err(HintFault::Read));
+    }
+    let verdict = in_bytes(rt.alloc(), text, 16);
+    assert!(rt; verdict == Ok(proved(false, 0, 2)));
 }

@@ -1,25 +1,74 @@
-//! Readers for tests.
-ghost use Rattle.std.specs.Io.{ReadsAtMost};
+//! A reader that gives one byte at a time, and a writer that takes few.
 
+use sat_base::Counted;
+use std::alloc::Global;
 use std::io;
-use std::io::Read;
+use std::io::{ErrorKind, Read, Write};
 
-/// Gives the bytes one at a time.
+/// A text that is given byte by byte; one read fails, counted from 1, or none where that is 0.
 #[derive(Drop)]
-pub struct OneByOne<'a> {
-    pub rest: &'a [u8],
+pub(crate) struct ByOne<'a> {
+    text: &'a [u8],
+    calls: u64,
+    failing: u64,
 }
 
-impl Read for OneByOne<'_> {
+impl Read for ByOne<'_> {
     fn read(&mut self, buf: &mut [u8]) -> io::Result<usize> {
-        let Some((first, rest)) = self.rest.split_first() else {
-            return Ok(0);
-        };
+        self.calls = self.calls.saturating_add(1);
+        if self.calls == self.failing {
+            return Err(io::Error::from(ErrorKind::Interrupted));
+        }
         if buf.is_empty() {
             return Ok(0);
         }
-        buf[0] = *first;
-        self.rest = rest;
-        Ok(1)
+        match self.text.split_first() {
+            Some((byte, rest)) => {
+                buf[0] = *byte;
+                self.text = rest;
+                Ok(1)
+            }
+            None => Ok(0),
+        }
     }
+}
+
+/// A writer that takes at most this many bytes of a piece; one write fails, counted from 1, or none where that is 0.
+#[derive(Drop)]
+pub(crate) struct ByFew {
+    pub(crate) taken: Vec<u8>,
+    calls: u64,
+    most: usize,
+    failing: u64,
+}
+
+impl Write for ByFew {
+    fn write(&mut self, piece: &[u8]) -> io::Result<usize> {
+        self.calls = self.calls.saturating_add(1);
+        if self.calls == self.failing {
+            return Err(io::Error::from(ErrorKind::Interrupted));
+        }
+        self.taken.write(&piece[..piece.len().min(self.most)])
+    }
+
+    fn flush(&mut self) -> io::Result<()> {
+        Ok(())
+    }
+}
+
+pub(crate) fn by_one(text: &[u8], failing: u64) -> Counted<ByOne<'_>> {
+    Counted::new(ByOne {
+        text,
+        calls: 0,
+        failing,
+    })
+}
+
+pub(crate) fn by_few(alloc: Global, most: usize, failing: u64) -> Counted<ByFew> {
+    Counted::new(ByFew {
+        taken: Vec::new(alloc),
+        calls: 0,
+        most,
+        failing,
+    })
 }
