@@ -12,3 +12,4 @@ pub mod Putting
 pub mod Heard
 pub mod Written
 pub mod Finished
+pub mod OneVerdict

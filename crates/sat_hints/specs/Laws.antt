@@ -1,9 +1,11 @@
 -- What a derivation shows.
-use Rattle.std.specs.Prelude.{◌≡◌, true, ℕ, List, [], ◌∷◌}
+use Rattle.std.specs.Prelude.{◌≡◌, Bool, true, ℕ, List, [], ◌∷◌}
 use Rattle.std.specs.List.{AllByRecursion}
 use Rattle.sat_base.specs.values.Clauses.{Valuation, EachTrue, EachHolds}
 use Rattle.sat_hints.specs.Lines.{Line, Input, Derived, Gone, Core}
 use Rattle.sat_hints.specs.Hints.{IsHintDerivation, derives_empty}
+use Rattle.sat_hints.specs.Checks.{IsBadAt, IsProof}
+use Rattle.sat_hints.specs.declared.answer.HintWhy.{HintWhy}
 
 -- the clauses of the formula
 abbrev pub inputs_of : List Line → List (List ℕ)
@@ -39,3 +41,7 @@ CoresFail = (lines : List Line) (a : Valuation) → IsHintDerivation lines → E
 -- so a derivation of the empty clause says that no valuation satisfies the formula
 abbrev pub EmptyMeansNone : Type 0
 EmptyMeansNone = (lines : List Line) (a : Valuation) → IsHintDerivation lines → derives_empty lines ≡ true → EachHolds a (inputs_of lines) → ⊥
+
+-- a text that is proved is at fault on no line
+abbrev pub ProvedIsNotBad : Type 0
+ProvedIsNotBad = (text : List ℕ) (empty : Bool) (cores lines line : ℕ) (why : HintWhy) → IsProof text empty cores lines → IsBadAt text line why → ⊥

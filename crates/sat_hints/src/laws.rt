@@ -1,5 +1,5 @@
 //! What holds of the definitions: each law is the contract of a function that does nothing.
-ghost use Rattle.sat_hints.specs.Laws.{CoresFail, DerivedFollow, EmptyMeansNone};
+ghost use Rattle.sat_hints.specs.Laws.{CoresFail, DerivedFollow, EmptyMeansNone, ProvedIsNotBad};
 
 /// What a derivation shows: each derived clause holds in every valuation in which the clauses of the formula do, and there no core
 /// is true as a whole. One that derives the empty clause says that no valuation satisfies the formula.
@@ -7,4 +7,9 @@ pub fn derivations_are_sound()
     ensures derived { DerivedFollow }
     ensures cores { CoresFail }
     ensures empty { EmptyMeansNone }
+{}
+
+/// A text that is proved is bad at no line, so the two verdicts exclude each other.
+pub fn verdicts_exclude()
+    ensures { ProvedIsNotBad }
 {}

@@ -1,0 +1,5 @@
+use Rattle.sat_hints.proofs.lemmas.OneVerdict.{proved_is_not_bad}
+use Rattle.sat_hints.proofs.laws.verdicts_exclude.Goals as goal
+
+pub returns : goal.returns
+returns c = proved_is_not_bad
