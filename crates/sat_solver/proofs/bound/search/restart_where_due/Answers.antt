@@ -1,0 +1,12 @@
+use Rattle.std.proofs.Common.{sym, subst, arith, ◌+◌}
+use Rattle.sat_store.specs.schedule.Luby.{behind}
+use Rattle.sat_solver.specs.bound.Climbing.{HasCome}
+use Rattle.sat_solver.proofs.lemmas.bound.ProgressLemmas.{come_restarts}
+use Rattle.sat_solver.proofs.bound.search.restart_where_due.Goals as goal
+
+pub returns-clause-come : goal.returns-clause-come
+returns-clause-come g c = λ n start h.
+    let begun = come_restarts g.R.Rounds.words c.args.rounds.now c.restart.new.self n start c.args.round c.args.restarts.now.next c.args.restarts.now.sequence c.args.restarts.now.scale
+    c.restart.ensures.words (omega (arith, c.requires.counts)) (omega (arith, c.if-round-restarts.false)) c.requires.scale h in
+    subst (λ z. HasCome g.R.Rounds.words c.restart.new.self n start c.args.round c.begin_gap.new.restarts.next z) (sym c.begin_gap.ensures.given)
+    (subst (λ z. HasCome g.R.Rounds.words c.restart.new.self n start c.args.round z (behind (c.args.restarts.now.sequence + 1))) (sym c.begin_gap.ensures.next) begun)

@@ -1,0 +1,81 @@
+use Rattle.std.proofs.Common.{ℕ, ◌+◌, ◌-◌, ◌≤◌, ◌≡◌, ◌∙◌, subst, refl, arith}
+use Rattle.sat_solver.specs.bound.Climbing.{Climbs}
+use Rattle.sat_solver.proofs.lemmas.bound.ProgressLemmas.{come_begins, come_climbs, come_keeps, few_rounds, none_left}
+use Rattle.sat_solver.proofs.bound.search.search.Goals as goal
+
+-- no count has gone on by itself
+from_start : (A : ℕ → Type 0) (n : ℕ) → A 0 → A (n - n)
+from_start A n h = subst A (let e : 0 ≡ n - n = omega arith in e) h
+
+one_more : (A : ℕ → Type 0) (m n : ℕ) → n ≤ m → A (m - n + 1) → A (m + 1 - n)
+one_more A m n le h = subst A (let e : m - n + 1 ≡ m + 1 - n = omega arith in e) h
+
+pub loop-steps-init : goal.loop-steps-init
+loop-steps-init g c = record {
+  sound = c.requires.1.1.0;
+  scale = c.requires.1.1.1.1;
+  same = refl;
+  most = refl;
+  before = omega arith;
+  within = omega (arith, c.saturating_add-end.ensures);
+  come = λ few. come_begins g.R.Rounds.words c.args.rounds.now (g.R.Rounds.most c.args.rounds.now) c.args.steps.now c.args.restarts.now.next c.args.restarts.now.sequence g.word c.requires.1.1.1.0 few;
+  goes = λ s h. from_start (λ k. g.R.Rounds.goes s k c.args.rounds.now) c.args.steps.now h;
+}
+
+pub loop-steps-preserved : goal.loop-steps-preserved
+loop-steps-preserved g c =
+    let n : ℕ = g.R.Rounds.most c.args.rounds.now in
+    let learned = c.if-not-is_learned.ensures.0 refl in
+    let due = c.restart_where_due.ensures.most ∙ c.loop-steps.invariant.most in
+    let reduced = c.in_ok-reduce.ensures.most ∙ due in
+    let most = c.in_ok-outcome.ensures.most learned ∙ reduced in
+    record {
+      sound = c.in_ok-outcome.ensures.sound learned;
+      scale = omega (arith, c.restart_where_due.ensures.scale, c.loop-steps.invariant.scale);
+      same = c.restart_where_due.ensures.scale ∙ c.loop-steps.invariant.same;
+      most = most;
+      before = omega (arith, c.loop-steps.invariant.before);
+      within = omega (arith, c.loop-steps-test.true);
+      come = λ few.
+          come_climbs g.R.Rounds.words c.reduce.new.self c.round.new.self n c.args.steps.now c.loop-steps.steps c.restart_where_due.new.restarts.next c.restart_where_due.new.restarts.sequence
+          (subst (λ m. Climbs g.R.Rounds.words m c.reduce.new.self c.round.new.self) reduced (c.in_ok-outcome.ensures.words learned))
+          (come_keeps g.R.Rounds.words c.restart_where_due.new.rounds c.reduce.new.self n c.args.steps.now c.loop-steps.steps c.restart_where_due.new.restarts.next c.restart_where_due.new.restarts.sequence
+          c.in_ok-reduce.ensures.words (c.restart_where_due.ensures.come n c.args.steps.now (c.loop-steps.invariant.come few)));
+      goes = λ s h.
+          one_more (λ k. g.R.Rounds.goes s k c.round.new.self) c.loop-steps.steps c.args.steps.now c.loop-steps.invariant.before
+          (c.in_ok-outcome.ensures.goes learned s (c.loop-steps.steps - c.args.steps.now)
+          (c.in_ok-reduce.ensures.goes s (c.loop-steps.steps - c.args.steps.now) (c.restart_where_due.ensures.goes s (c.loop-steps.steps - c.args.steps.now) (c.loop-steps.invariant.goes s h))));
+    }
+
+pub returns-then-not-is_learned-clause-few : goal.returns-then-not-is_learned-clause-few
+returns-then-not-is_learned-clause-few g c =
+    few_rounds g.R.Rounds.words c.loop-steps.rounds (g.R.Rounds.most c.args.rounds.now) c.args.steps.now c.loop-steps.steps c.loop-steps.restarts.next c.loop-steps.restarts.sequence
+    (omega (arith, c.loop-steps-test.true, c.saturating_add-end.ensures)) c.loop-steps.invariant.come
+
+pub returns : goal.returns
+returns g c =
+    let few = few_rounds g.R.Rounds.words c.loop-steps.rounds (g.R.Rounds.most c.args.rounds.now) c.args.steps.now c.loop-steps.steps c.loop-steps.restarts.next c.loop-steps.restarts.sequence
+    (omega (arith, c.loop-steps.invariant.within, c.saturating_add-end.ensures)) c.loop-steps.invariant.come in
+    record {
+      scale = c.loop-steps.invariant.same;
+      counted = c.loop-steps.invariant.before;
+      few = omega (arith, few);
+      interrupted = λ e. omega (arith, c.loop-steps-test.false, c.saturating_add-end.ensures, c.loop-steps.invariant.within);
+      answered = λ n le left e. none_left n (g.R.Rounds.most c.args.rounds.now) c.args.steps.now c.loop-steps.steps c.args.max_steps le (omega (arith, few)) c.loop-steps.invariant.before left
+          (omega (arith, c.loop-steps-test.false, c.saturating_add-end.ensures));
+      goes = λ e. (c.loop-steps.invariant.sound, c.loop-steps.invariant.most, λ s h. c.loop-steps.invariant.goes s h);
+      ends = tt;
+      fails = tt;
+    }
+
+pub returns-in_err-reduce-clause-few : goal.returns-in_err-reduce-clause-few
+returns-in_err-reduce-clause-few g c =
+    let few = few_rounds g.R.Rounds.words c.loop-steps.rounds (g.R.Rounds.most c.args.rounds.now) c.args.steps.now c.loop-steps.steps c.loop-steps.restarts.next c.loop-steps.restarts.sequence
+    (omega (arith, c.loop-steps-test.true, c.saturating_add-end.ensures)) c.loop-steps.invariant.come in
+    omega (arith, few)
+
+pub returns-in_err-outcome-clause-few : goal.returns-in_err-outcome-clause-few
+returns-in_err-outcome-clause-few g c =
+    let few = few_rounds g.R.Rounds.words c.loop-steps.rounds (g.R.Rounds.most c.args.rounds.now) c.args.steps.now c.loop-steps.steps c.loop-steps.restarts.next c.loop-steps.restarts.sequence
+    (omega (arith, c.loop-steps-test.true, c.saturating_add-end.ensures)) c.loop-steps.invariant.come in
+    omega (arith, few)

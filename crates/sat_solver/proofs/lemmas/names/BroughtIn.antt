@@ -1,0 +1,68 @@
+-- A name that is brought in: which names become new variables.
+use Rattle.std.proofs.Common.{ℕ, ◌+◌, ◌-◌, ◌<◌, ◌≤◌, ◌≡◌, Bool, true, false, not, ◌&&◌, cond, ltb, lt-ltb, List, [], ◌∷◌, map, Option, Some, None, is_some, refl, sym, ◌∙◌, ap, subst, arith, Result, Ok, Err, IfOk, OnOk}
+use Rattle.std.proofs.lemmas.Bool.{le-ltb, ltb-true}
+use Rattle.sat_base.specs.script.Judge.{Judge, identity_of, with_names, names_from, new_names}
+use Rattle.sat_base.specs.steps.Steps.{Step}
+use Rattle.sat_solver.specs.names.Free.{is_free}
+use Rattle.sat_solver.specs.names.Live.{Live, given_of}
+use Rattle.sat_solver.specs.names.Variables.{data_at, global_of, names_used, AreTidy, AreJudged}
+use Rattle.sat_solver.specs.names.Expected.{NewName}
+use Rattle.sat_solver.specs.names.Calls.{Stands, Kept, NamesOne, NamesAll, BringsIn, Brought}
+use Rattle.sat_solver.specs.declared.names.Variables.{Variables}
+use Rattle.sat_solver.proofs.lemmas.names.NamingSteps.{none_brought, one_then}
+use Rattle.sat_solver.proofs.lemmas.names.Extending.{extends_same}
+use Rattle.sat_solver.proofs.lemmas.names.Giving.{unseen_same}
+
+as_new : (old new : Variables) (from to : List Step) (user : ℕ) (names : List ℕ) → ((j : Judge) (live : Live) → AreJudged old j live → new_names (user + 1) j ≡ names) → NamesAll old new from to names → BringsIn old new from to user
+as_new old new from to user names is all = record {
+  stands = all.stands;
+  kept = λ j live a. subst (λ ns. Kept new from to (with_names ns j) (map NewName ns)) (sym (is j live a.judged)) (all.kept j live a);
+}
+
+pub brings_new : (old new : Variables) (from to : List Step) (user : ℕ) → names_used old ≤ user → NamesAll old new from to (names_from (user + 1 - names_used old) (names_used old + 1)) → BringsIn old new from to user
+brings_new old new from to user le all = as_new old new from to user (names_from (user + 1 - names_used old) (names_used old + 1)) is all
+  where
+    is : (j : Judge) (live : Live) → AreJudged old j live → new_names (user + 1) j ≡ names_from (user + 1 - names_used old) (names_used old + 1)
+    is j live judged =
+        let f = judged.first_unused in
+        ap (λ b. cond b (cond (is_some (identity_of j (user + 1))) [] ((user + 1) ∷ [])) (names_from (user + 1 + 1 - j.first_unused) j.first_unused)) (le-ltb (user + 1) j.first_unused (omega arith))
+        ∙ ap (λ k. names_from (user + 1 + 1 - k) k) f ∙ ap (λ k. names_from k (names_used old + 1)) (omega arith)
+
+below : (old : Variables) (user : ℕ) → user < names_used old → (j : Judge) (live : Live) → AreJudged old j live → new_names (user + 1) j ≡ cond (is_some (given_of live (global_of old user))) [] ((user + 1) ∷ [])
+below old user lt j live judged =
+    let f = judged.first_unused in
+    ap (λ b. cond b (cond (is_some (identity_of j (user + 1))) [] ((user + 1) ∷ [])) (names_from (user + 1 + 1 - j.first_unused) j.first_unused)) (lt-ltb (user + 1) j.first_unused (omega arith))
+    ∙ ap (λ o. cond (is_some o) [] ((user + 1) ∷ [])) (judged.names user)
+
+pub brings_none : (old : Variables) (from : List Step) (user v : ℕ) → Stands old from → user < names_used old → global_of old user ≡ Some v → BringsIn old old from from user
+brings_none old from user v stands lt e = as_new old old from from user [] is (none_brought old from stands)
+  where
+    is : (j : Judge) (live : Live) → AreJudged old j live → new_names (user + 1) j ≡ []
+    is j live judged =
+        let alive : (data_at old v).deleted ≡ false = stands.tidy.named v user (stands.tidy.users.back user v e) in
+        below old user lt j live judged ∙ ap (λ o. cond (is_some (given_of live o)) [] ((user + 1) ∷ [])) e ∙ ap (λ b. cond b [] ((user + 1) ∷ [])) (judged.in_use v ∙ ap not alive)
+
+pub brings_again : (old new : Variables) (from to : List Step) (user v : ℕ) → user < names_used old → global_of old user ≡ None → NamesOne old new from to user v → BringsIn old new from to user
+brings_again old new from to user v lt e one = as_new old new from to user ((user + 1) ∷ []) is (one_then old new new from to to user v [] one (none_brought new to one.stands))
+  where
+    is : (j : Judge) (live : Live) → AreJudged old j live → new_names (user + 1) j ≡ (user + 1) ∷ []
+    is j live judged = below old user lt j live judged ∙ ap (λ o. cond (is_some (given_of live o)) [] ((user + 1) ∷ [])) e
+
+pub brought_none : (old : Variables) (from : List Step) (user v : ℕ) → Stands old from → user < names_used old → global_of old user ≡ Some v → Brought old old from from user
+brought_none old from user v stands lt e = record { brings = brings_none old from user v stands lt e; extends = extends_same old; unseen = unseen_same old from }
+
+pub ok_new : {A E : Type 0} (r : Result A E) (old new : Variables) (from to : List Step) (user : ℕ) → names_used old ≤ user → OnOk r (NamesAll old new from to (names_from (user + 1 - names_used old) (names_used old + 1))) → OnOk r (Brought old new from to user)
+ok_new (Ok x) old new from to user le p = record { brings = brings_new old new from to user le p; extends = p.extends; unseen = p.unseen }
+ok_new (Err e) old new from to user le p = tt
+
+pub ok_again : {E : Type 0} (r : Result ℕ E) (old new : Variables) (from to : List Step) (user : ℕ) → user < names_used old → global_of old user ≡ None → IfOk r (λ v. NamesOne old new from to user v) → OnOk r (Brought old new from to user)
+ok_again (Ok v) old new from to user lt e p = record { brings = brings_again old new from to user v lt e p; extends = p.extends; unseen = p.unseen }
+ok_again (Err x) old new from to user lt e p = tt
+
+pub hidden_name : (n : Variables) (u : ℕ) → AreTidy n → is_free n.free_users u ≡ true → (global_of n u ≡ None) × (u ≤ names_used n)
+hidden_name n u tidy e = go (ltb u (names_used n)) refl (global_of n u) refl (sym (tidy.free_users u) ∙ e)
+  where
+    go : (b : Bool) → ltb u (names_used n) ≡ b → (o : Option ℕ) → global_of n u ≡ o → (b && not (is_some o)) ≡ true → (global_of n u ≡ None) × (u ≤ names_used n)
+    go true x None y f = let lt = ltb-true u (names_used n) x in (y, omega arith)
+    go true x (Some w) y f = absurd (cc)
+    go false x o y f = absurd (cc)

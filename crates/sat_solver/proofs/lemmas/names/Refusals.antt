@@ -1,0 +1,80 @@
+-- Names of mode witness.
+use Rattle.std.proofs.Common.{ℕ, ◌+◌, ◌<◌, ◌≡◌, ◌≢◌, Bool, true, false, not, cond, List, ◌∷◌, get_or, Option, Some, None, is_some, refl, sym, ◌∙◌, ap, arith}
+use Rattle.std.proofs.lemmas.Bool.{le-ltb, true≢false}
+use Rattle.sat_base.specs.values.Literals.{largest, variable}
+use Rattle.sat_base.specs.script.Judge.{Judge, Sampled, Witnessed, Refusal, PastLimit, WitnessName, identity_of, is_witness, has_witness, refused_literal}
+use Rattle.sat_base.specs.script.Judge as judged
+use Rattle.sat_store.specs.declared.data.SamplingMode.{SamplingMode}
+use Rattle.sat_store.specs.declared.data.SamplingMode.TheVariants as kept
+use Rattle.sat_solver.specs.names.Live.{Live, given, given_of}
+use Rattle.sat_solver.specs.names.Variables.{data_at, global_of, AreTidy, IsModeOf, AreJudged, is_witness_kept}
+use Rattle.sat_solver.specs.names.Refusing.{names_in, as_refusal, IsAssumed}
+use Rattle.sat_solver.specs.names.Adding.{IsSampled, NoWitness}
+use Rattle.sat_solver.specs.declared.names.Variables.{Variables}
+use Rattle.sat_solver.proofs.lemmas.names.NewName.{none_or}
+
+mode_same : (m : SamplingMode) (q : judged.Mode) → m ≢ kept.Hide → IsModeOf m q → is_witness_kept m ≡ is_witness q
+mode_same kept.Sample q n h = sym (ap is_witness h)
+mode_same kept.Witness q n h = sym (ap is_witness h)
+mode_same kept.Hide q n h = absurd (n refl)
+
+pub witness_none : (n : Variables) (user : ℕ) → global_of n user ≡ None → (j : Judge) (live : Live) → AreJudged n j live → false ≡ has_witness j (identity_of j (user + 1))
+witness_none n user e j live judged = sym (ap (has_witness j) (judged.names user ∙ ap (given_of live) e))
+
+pub witness_some : (n : Variables) (user v : ℕ) → AreTidy n → global_of n user ≡ Some v → (j : Judge) (live : Live) → AreJudged n j live → is_witness_kept (data_at n v).sampling_mode ≡ has_witness j (identity_of j (user + 1))
+witness_some n user v tidy e j live judged =
+    let name = tidy.users.back user v e in
+    let i = none_or (given live v) (λ x. true≢false (sym (judged.in_use v ∙ ap not (tidy.named v user name)) ∙ ap is_some x)) in
+    mode_same (data_at n v).sampling_mode (get_or j.modes i.0 Sampled) (tidy.shown v user name) (judged.modes v i.0 i.1)
+    ∙ sym (ap (has_witness j) (judged.names user ∙ ap (given_of live) e ∙ i.1))
+
+-- what is left of the literals decides
+abbrev pub IsLeft : Variables → List ℕ → List ℕ → Type 0
+IsLeft n all rest = (j : Judge) (live : Live) → AreJudged n j live → refused_literal j (names_in all) ≡ refused_literal j (names_in rest)
+
+first_of : (j : Judge) (l : ℕ) (ls : List ℕ) (b : Bool) → variable l < largest → b ≡ has_witness j (identity_of j (variable l + 1)) → refused_literal j (names_in (l ∷ ls)) ≡ cond b (Some (WitnessName (variable l + 1))) (refused_literal j (names_in ls))
+first_of j l ls b small e =
+    ap (λ t. cond t (Some PastLimit) (cond (has_witness j (identity_of j (variable l + 1))) (Some (WitnessName (variable l + 1))) (refused_literal j (names_in ls)))) (le-ltb largest (variable l + 1) (omega arith))
+    ∙ ap (λ t. cond t (Some (WitnessName (variable l + 1))) (refused_literal j (names_in ls))) (sym e)
+
+pub passes_on : (n : Variables) (all ls : List ℕ) (l : ℕ) (b : Bool) → IsLeft n all (l ∷ ls) → variable l < largest → ((j : Judge) (live : Live) → AreJudged n j live → b ≡ has_witness j (identity_of j (variable l + 1))) → b ≡ false → IsLeft n all ls
+passes_on n all ls l b h small w e j live judged = h j live judged ∙ first_of j l ls b small (w j live judged) ∙ ap (λ t. cond t (Some (WitnessName (variable l + 1))) (refused_literal j (names_in ls))) e
+
+pub stops_at : (n : Variables) (all ls : List ℕ) (l : ℕ) (b : Bool) → IsLeft n all (l ∷ ls) → variable l < largest → ((j : Judge) (live : Live) → AreJudged n j live → b ≡ has_witness j (identity_of j (variable l + 1))) → b ≡ true → (j : Judge) (live : Live) → AreJudged n j live → refused_literal j (names_in all) ≡ as_refusal (Some (variable l))
+stops_at n all ls l b h small w e j live judged = h j live judged ∙ first_of j l ls b small (w j live judged) ∙ ap (λ t. cond t (Some (WitnessName (variable l + 1))) (refused_literal j (names_in ls))) e
+
+sampled_kept : (m : SamplingMode) → m ≢ kept.Hide → is_witness_kept m ≡ false → m ≡ kept.Sample
+sampled_kept kept.Sample n e = refl
+sampled_kept kept.Witness n e = absurd (true≢false e)
+sampled_kept kept.Hide n e = absurd (n refl)
+
+pub sampled_some : (n : Variables) (user v : ℕ) → AreTidy n → global_of n user ≡ Some v → is_witness_kept (data_at n v).sampling_mode ≡ false → IsSampled n user
+sampled_some n user v tidy e w x f =
+    let same : v ≡ x = some_same e f in
+    ap (λ k. (data_at n k).sampling_mode) (sym same) ∙ sampled_kept (data_at n v).sampling_mode (tidy.shown v user (tidy.users.back user v e)) w
+  where
+    some_same : {a b : ℕ} {o : Option ℕ} → o ≡ Some a → o ≡ Some b → a ≡ b
+    some_same f g = cc
+
+pub sampled_none : (n : Variables) (user : ℕ) → global_of n user ≡ None → IsSampled n user
+sampled_none n user e v f = absurd (none_some e f)
+  where
+    none_some : {x : ℕ} {o : Option ℕ} → o ≡ None → o ≡ Some x → ⊥
+    none_some e f = cc
+
+pub sampled_on : (n : Variables) (all ls : List ℕ) (l : ℕ) → (NoWitness n (l ∷ ls) → NoWitness n all) → IsSampled n (variable l) → NoWitness n ls → NoWitness n all
+sampled_on n all ls l f h rest = f (h, rest)
+
+-- ASSUMED NAMES
+
+pub not_assumed : (n : Variables) (user v : ℕ) → global_of n user ≡ Some v → (data_at n v).assumed ≡ false → IsAssumed n user → ⊥
+not_assumed n user v e f a = true≢false (sym a.marked ∙ ap (λ k. (data_at n k).assumed) (some_same a.named e) ∙ f)
+  where
+    some_same : {x y : ℕ} {o : Option ℕ} → o ≡ Some x → o ≡ Some y → x ≡ y
+    some_same g h = cc
+
+pub none_assumed : (n : Variables) (user : ℕ) → global_of n user ≡ None → IsAssumed n user → ⊥
+none_assumed n user e a = none_some e a.named
+  where
+    none_some : {x : ℕ} {o : Option ℕ} → o ≡ None → o ≡ Some x → ⊥
+    none_some g h = cc

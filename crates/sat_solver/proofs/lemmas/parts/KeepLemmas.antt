@@ -1,0 +1,108 @@
+-- What stays of the levels up to one, as steps are made.
+use Rattle.std.proofs.Common.{ℕ, ◌≡◌, ◌+◌, ◌<◌, ◌≤◌, List, [], ◌∷◌, ◌++◌, length, get_or, take, refl, sym, ap, ◌∙◌, subst, arith}
+use Rattle.std.proofs.lemmas.List.{length_push, get_or_append_left, get_or-take, length-take-le}
+use Rattle.sat_base.specs.values.Literals.{variable}
+use Rattle.sat_parts.specs.declared.prop.graph.ImplNode.{ImplNode}
+use Rattle.sat_parts.specs.declared.prop.graph.Reason.{Reason}
+use Rattle.sat_parts.specs.declared.prop.graph.Reason.TheVariants.{Unit as NoCause}
+use Rattle.sat_parts.specs.prop.Values.{Values, IsOpenLit}
+use Rattle.sat_parts.specs.prop.Trails.{Trailed, with_level, cut_to}
+use Rattle.sat_parts.specs.prop.Undone.{undone_to}
+use Rattle.sat_parts.specs.prop.State.{State, lit_at, Agrees, Grows, enqueued}
+use Rattle.sat_parts.specs.prop.Ready.{state_of}
+use Rattle.sat_parts.specs.prop.TrailWord.{IsLevelled, decided_on}
+use Rattle.sat_parts.specs.prop.Backtracked.{KeepsLow}
+use Rattle.sat_parts.proofs.lemmas.prop.StateLemmas.{grows_enqueued}
+use Rattle.sat_parts.proofs.lemmas.prop.BacktrackLemmas.{keeps_low}
+use Rattle.sat_parts.proofs.lemmas.prop.RoomLemmas.{room_for}
+use Rattle.sat_store.specs.clause.Header.{Header}
+use Rattle.sat_solver.specs.declared.parts.Parts.{Parts}
+use Rattle.sat_solver.specs.parts.Whole.{state, Holds}
+use Rattle.sat_solver.specs.parts.Learned.{IsPending}
+use Rattle.sat_solver.specs.parts.Frame.{Carries, Clears, KeepsTo, Learnt, learnt_unit, learnt_binary, learnt_long}
+
+pub keeps_refl : (top : ℕ) (s : State) → KeepsTo top s s
+keeps_refl top s = record { low = λ l t b. (t, refl); begun = λ j b lt. (lt, refl) }
+
+pub keeps_trans : (top : ℕ) (a b c : State) → KeepsTo top a b → KeepsTo top b c → KeepsTo top a c
+keeps_trans top a b c x y = record {
+  low = λ l t le. (let p = x.low l t le in let q = y.low l p.0 (omega (arith, p.1)) in (q.0, q.1 ∙ p.1));
+  begun = λ j lt b. (let p = x.begun j lt b in let q = y.begun j lt p.0 in (q.0, q.1 ∙ p.1));
+}
+
+-- up to a lower level
+pub keeps_lower : (top low : ℕ) (a b : State) → low ≤ top → KeepsTo top a b → KeepsTo low a b
+keeps_lower top low a b le x = record { low = λ l t c. x.low l t (omega arith); begun = λ j lt c. x.begun j (omega arith) c }
+
+-- literals of level 0 stay
+pub keeps_carries : (a b : State) → Carries a b → KeepsTo 0 a b
+keeps_carries a b x = record {
+  low = λ l t le. (let p = x.bottom l t (omega arith) in (p.0, omega (arith, p.1)));
+  begun = λ j lt c. absurd (omega arith);
+}
+
+-- open literals become true behind the others
+pub keeps_grown : (top : ℕ) (a b : State) → Grows a b → IsLevelled a → KeepsTo top a b
+keeps_grown top a b g x = record {
+  low = λ l t le. (g.kept l t, ap (λ (n : ImplNode). n.level) (g.nodes l t));
+  begun = λ j lt c. (subst (λ (xs : List ℕ). j < length xs) (sym g.starts) c, ap (λ (xs : List ℕ). lit_at b (get_or xs j 0)) g.starts ∙ g.front (get_or a.trail.starts j 0) (x.begun j c));
+}
+
+pub keeps_enqueued : (top : ℕ) (s : State) (l : ℕ) (r : Reason) → Agrees s → IsLevelled s → IsOpenLit s.values l → variable l < length s.values → KeepsTo top s (enqueued l r s)
+keeps_enqueued top s l r a x free below = keeps_grown top s (enqueued l r s) (grows_enqueued s l r a free below (room_for s l r a free below)) x
+
+-- a level begins
+pub keeps_level : (top : ℕ) (s : State) → KeepsTo top s (record s { trail = with_level s.trail })
+keeps_level top s =
+    let size : length (s.trail.starts ++ length s.trail.lits ∷ []) ≡ length s.trail.starts + 1 = length_push s.trail.starts (length s.trail.lits) in
+    record {
+      low = λ l t le. (t, refl);
+      begun = λ j lt c. (omega arith, ap (λ i. lit_at s i) (get_or_append_left s.trail.starts (length s.trail.lits ∷ []) 0 j c));
+    }
+
+-- a level begins with an open literal
+pub keeps_decided : (top : ℕ) (s : State) (l : ℕ) → Agrees (record s { trail = with_level s.trail }) → IsLevelled s → IsOpenLit s.values l → variable l < length s.values → KeepsTo top s (decided_on l s)
+keeps_decided top s l a x free below =
+    let r : State = record s { trail = with_level s.trail } in
+    let size : length (s.trail.starts ++ length s.trail.lits ∷ []) ≡ length s.trail.starts + 1 = length_push s.trail.starts (length s.trail.lits) in
+    let g : Grows r (decided_on l s) = grows_enqueued r l NoCause a free below (room_for r l NoCause a free below) in
+    record {
+      low = λ m t le. (g.kept m t, ap (λ (n : ImplNode). n.level) (g.nodes m t));
+      begun = λ j lt c. (
+        omega arith,
+        ap (λ i. lit_at (decided_on l s) i) (get_or_append_left s.trail.starts (length s.trail.lits ∷ []) 0 j c) ∙ g.front (get_or s.trail.starts j 0) (x.begun j c),
+      );
+    }
+
+-- levels above it are undone
+pub keeps_undone : (v : ℕ) (a : Values) (g : List ImplNode) (t : Trailed) → Agrees (state_of a g t) → IsLevelled (state_of a g t) → v < length t.starts → KeepsTo v (state_of a g t) (state_of (undone_to v t a) g (cut_to v t))
+keeps_undone v a g t h x lt =
+    let k : KeepsLow v (state_of a g t) (state_of (undone_to v t a) g (cut_to v t)) = keeps_low v a g t h lt in
+    let size : length (take v t.starts) ≡ v = length-take-le v t.starts (omega arith) in
+    record {
+      low = λ l b le. (k.low_kept l b le, refl);
+      begun = λ j b c. (
+        omega arith,
+        ap (λ i. lit_at (state_of (undone_to v t a) g (cut_to v t)) i) (get_or-take v t.starts j 0 b)
+            ∙ k.places (get_or t.starts j 0) (let e : length (take (get_or t.starts v 0) t.lits) ≡ get_or t.starts v 0 = length-take-le (get_or t.starts v 0) t.lits (omega (arith, x.begun v lt)) in omega (arith, x.strict j v b lt)),
+      );
+    }
+
+-- units are taken off the trail
+pub keeps_clears : (a b : State) → Clears a b → KeepsTo 0 a b
+keeps_clears a b x = record {
+  low = λ l t le. (let p = x.bottom l t (omega arith) in (p.0, omega (arith, p.1)));
+  begun = λ j lt c. absurd (omega arith);
+}
+
+learnt_keeps : (top : ℕ) (p p' : Parts) (l : ℕ) (r : Reason) → Holds p → IsOpenLit p.assignment.current l → variable l < length p.assignment.current → state p' ≡ enqueued l r (state p) → KeepsTo top (state p) (state p') × (p'.trail.starts ≡ p.trail.starts)
+learnt_keeps top p p' l r h free below is = (
+  subst (λ (z : State). KeepsTo top (state p) z) (sym is) (keeps_enqueued top (state p) l r h.below.asks.agrees h.below.levelled free below),
+  ap (λ (z : State). z.trail.starts) is,
+)
+
+-- a clause is learned
+pub keeps_learnt : (top : ℕ) (p p' : Parts) (header : Header) (ls : List ℕ) → Holds p → IsPending (state p) p.vsids ls → Learnt p p' header ls → KeepsTo top (state p) (state p') × (p'.trail.starts ≡ p.trail.starts)
+keeps_learnt top p p' header ls h x (learnt_unit size same r unit is) = learnt_keeps top p p' (get_or ls 0 0) r h x.open_first x.there is
+keeps_learnt top p p' header ls h x (learnt_binary size words db binary r unit is) = learnt_keeps top p p' (get_or ls 0 0) r h x.open_first x.there is
+keeps_learnt top p p' header ls h x (learnt_long size o added binary r unit is) = learnt_keeps top p p' (get_or ls 0 0) r h x.open_first x.there is

@@ -1,0 +1,133 @@
+-- Calls that make steps of a search, one after another.
+use Rattle.std.proofs.Common.{◌≡◌, true, Result, Ok, Err, List, [], ◌∷◌, ◌++◌}
+use Rattle.std.specs.Prelude.{MatchResult}
+use Rattle.std.specs.List.{AllByRecursion}
+use Rattle.sat_base.specs.device.Device.{Writer}
+use Rattle.sat_base.specs.steps.Steps.{Step}
+use Rattle.sat_solver.specs.session.ProofView.{Adds, Records, Keeps, steps_of}
+use Rattle.sat_solver.specs.declared.session.proof.Proof.{Proof}
+use Rattle.sat_solver.specs.declared.session.proof.ProofError.{ProofError}
+use Rattle.sat_solver.specs.declared.session.proof.ProofError.TheVariants.{Write}
+use Rattle.sat_solver.proofs.lemmas.session.ProofLemmas.{adds_none, adds_more, fails_later}
+use Rattle.sat_store.specs.declared.clause.alloc.StoreError.{StoreError}
+use Rattle.sat_store.specs.declared.clause.alloc.StoreError.TheVariants as stores
+use Rattle.sat_solver.specs.Recovery.{failure_of}
+use Rattle.sat_solver.specs.declared.error.SolverError.{SolverError}
+use Rattle.sat_solver.specs.declared.error.SolverError.TheVariants as errors
+use Rattle.sat_solver.specs.search.Going.{is_searched, fault_of, IsFault, Went, Goes}
+
+abbrev pub AreSearched : List Step → Type 0
+AreSearched = AllByRecursion (λ step. is_searched step ≡ true)
+
+searched_both : (ys xs : List Step) → AreSearched ys → AreSearched xs → AreSearched (ys ++ xs)
+searched_both [] xs h k = k
+searched_both (y ∷ ys) xs h k = (h.0, searched_both ys xs h.1 k)
+
+module _ {W : Type 0} (seen : W → Writer) where
+  -- nothing was written
+  pub goes_none : {A : Type 0} (x : A) (p : Proof W) (P : A → List Step → Type 0) → Keeps p → P x [] → Goes seen (Ok x) p p P
+  goes_none x p P keeps h = record { steps = []; went = adds_none seen p; searched = tt; keeps = keeps; ends = h }
+
+  -- no memory was left before anything was written
+  pub goes_starved : {A : Type 0} (p : Proof W) (P : A → List Step → Type 0) → Keeps p → Goes seen (Err errors.OutOfMemory) p p P
+  goes_starved p P keeps = record { steps = []; went = adds_none seen p; searched = tt; keeps = keeps; ends = tt }
+
+  -- one step was written
+  pub goes_step : {A : Type 0} (x : A) (p q : Proof W) (step : Step) (P : A → List Step → Type 0) → is_searched step ≡ true → Keeps q → Adds seen (step ∷ []) p q → P x (step ∷ []) → Goes seen (Ok x) p q P
+  goes_step x p q step P s keeps adds h = record { steps = step ∷ []; went = adds; searched = (s, tt); keeps = keeps; ends = h }
+
+  -- a step was made, and the target failed at it
+  pub goes_broken : {A : Type 0} (e : ProofError) (p q : Proof W) (step : Step) (P : A → List Step → Type 0) → is_searched step ≡ true → Keeps q → Records {T = Unit {0}} seen (Err e) (step ∷ []) p q → Goes seen (Err (fault_of e)) p q P
+  goes_broken (Write cause) p q step P s keeps fails = record { steps = step ∷ []; went = fails; searched = (s, tt); keeps = keeps; ends = tt }
+
+  -- a step was made, and then the clause buffer refused
+  pub goes_refused : {A : Type 0} (s : StoreError) (p q : Proof W) (step : Step) (P : A → List Step → Type 0) → is_searched step ≡ true → Keeps q → Adds seen (step ∷ []) p q → Goes seen (Err (failure_of s)) p q P
+  goes_refused stores.StoreFull p q step P s keeps adds = record { steps = step ∷ []; went = adds; searched = (s, tt); keeps = keeps; ends = tt }
+  goes_refused stores.OutOfMemory p q step P s keeps adds = record { steps = step ∷ []; went = adds; searched = (s, tt); keeps = keeps; ends = tt }
+
+  went_later : {A : Type 0} (r : Result A SolverError) (xs ys : List Step) (a b c : Proof W) → Adds seen xs a b → Went seen r ys b c → Went seen r (ys ++ xs) a c
+  went_later (Ok x) xs ys a b c h k = adds_more seen xs ys a b c h k
+  went_later (Err (errors.ProofIoError cause)) xs ys a b c h k = fails_later seen xs ys a b c h k
+  went_later (Err errors.Interrupted) xs ys a b c h k = adds_more seen xs ys a b c h k
+  went_later (Err (errors.ProofProcessorError cause)) xs ys a b c h k = adds_more seen xs ys a b c h k
+  went_later (Err errors.OutOfMemory) xs ys a b c h k = adds_more seen xs ys a b c h k
+  went_later (Err errors.WitnessVariable) xs ys a b c h k = adds_more seen xs ys a b c h k
+  went_later (Err errors.AssumedVariable) xs ys a b c h k = adds_more seen xs ys a b c h k
+  went_later (Err errors.TooLate) xs ys a b c h k = adds_more seen xs ys a b c h k
+  went_later (Err errors.NotInDrat) xs ys a b c h k = adds_more seen xs ys a b c h k
+  went_later (Err errors.StoreFull) xs ys a b c h k = adds_more seen xs ys a b c h k
+  went_later (Err errors.VariableLimit) xs ys a b c h k = adds_more seen xs ys a b c h k
+  went_later (Err errors.CounterEnd) xs ys a b c h k = adds_more seen xs ys a b c h k
+  went_later (Err errors.HasFailed) xs ys a b c h k = adds_more seen xs ys a b c h k
+  went_later (Err errors.Read) xs ys a b c h k = adds_more seen xs ys a b c h k
+  went_later (Err errors.Malformed) xs ys a b c h k = adds_more seen xs ys a b c h k
+  went_later (Err errors.OutOfRange) xs ys a b c h k = adds_more seen xs ys a b c h k
+
+  ends_with : {A : Type 0} (r : Result A SolverError) (P Q : A → Type 0) → ((x : A) → P x → Q x) → MatchResult r P IsFault → MatchResult r Q IsFault
+  ends_with (Ok x) P Q f h = f x h
+  ends_with (Err e) P Q f h = h
+
+  -- what was answered says more
+  pub goes_map : {A : Type 0} (r : Result A SolverError) (p q : Proof W) (P Q : A → List Step → Type 0) → ((x : A) (steps : List Step) → P x steps → Q x steps) → Goes seen r p q P → Goes seen r p q Q
+  goes_map r p q P Q f h = record { steps = h.steps; went = h.went; searched = h.searched; keeps = h.keeps; ends = ends_with r (λ x. P x h.steps) (λ x. Q x h.steps) (λ x. f x h.steps) h.ends }
+
+  -- one call after another
+  pub goes_then : {A B : Type 0} (x : A) (r : Result B SolverError) (a b c : Proof W) (P : A → List Step → Type 0) (Q R : B → List Step → Type 0) → Goes seen (Ok x) a b P → Goes seen r b c Q →
+      ((xs ys : List Step) (y : B) → P x xs → Q y ys → R y (ys ++ xs)) → Goes seen r a c R
+  goes_then x r a b c P Q R h k f = record {
+    steps = k.steps ++ h.steps;
+    went = went_later r h.steps k.steps a b c h.went k.went;
+    searched = searched_both k.steps h.steps k.searched h.searched;
+    keeps = k.keeps;
+    ends = ends_with r (λ y. Q y k.steps) (λ y. R y (k.steps ++ h.steps)) (λ y. f h.steps k.steps y h.ends) k.ends;
+  }
+
+  went_failing : (A B : Type 0) (e : SolverError) (steps : List Step) (a b : Proof W) → Went {A = A} seen (Err e) steps a b → Went {A = B} seen (Err e) steps a b
+  went_failing A B (errors.ProofIoError cause) steps a b h = h
+  went_failing A B errors.Interrupted steps a b h = h
+  went_failing A B (errors.ProofProcessorError cause) steps a b h = h
+  went_failing A B errors.OutOfMemory steps a b h = h
+  went_failing A B errors.WitnessVariable steps a b h = h
+  went_failing A B errors.AssumedVariable steps a b h = h
+  went_failing A B errors.TooLate steps a b h = h
+  went_failing A B errors.NotInDrat steps a b h = h
+  went_failing A B errors.StoreFull steps a b h = h
+  went_failing A B errors.VariableLimit steps a b h = h
+  went_failing A B errors.CounterEnd steps a b h = h
+  went_failing A B errors.HasFailed steps a b h = h
+  went_failing A B errors.Read steps a b h = h
+  went_failing A B errors.Malformed steps a b h = h
+  went_failing A B errors.OutOfRange steps a b h = h
+
+  -- the same, where the second call's answer speaks of the steps before it
+  pub goes_behind : {A B : Type 0} (x : A) (r : Result B SolverError) (a b c : Proof W) (P : A → List Step → Type 0) (Q R : B → List Step → Type 0) → Goes seen (Ok x) a b P → Goes seen r b c Q →
+      ((xs ys : List Step) (y : B) → steps_of b ≡ xs ++ steps_of a → P x xs → Q y ys → R y (ys ++ xs)) → Goes seen r a c R
+  goes_behind x r a b c P Q R h k f = record {
+    steps = k.steps ++ h.steps;
+    went = went_later r h.steps k.steps a b c h.went k.went;
+    searched = searched_both k.steps h.steps k.searched h.searched;
+    keeps = k.keeps;
+    ends = ends_with r (λ y. Q y k.steps) (λ y. R y (k.steps ++ h.steps)) (λ y. f h.steps k.steps y h.went.history h.ends) k.ends;
+  }
+
+  -- one call after another, which fails
+  pub goes_then_fails : {A B C : Type 0} (x : A) (e : SolverError) (a b c : Proof W) (P : A → List Step → Type 0) (Q : B → List Step → Type 0) (R : C → List Step → Type 0) → Goes seen (Ok x) a b P → Goes seen (Err e) b c Q → Goes seen (Err e) a c R
+  goes_then_fails {A = A} {B = B} {C = C} x e a b c P Q R h k = record {
+    steps = k.steps ++ h.steps;
+    went = went_later {A = C} (Err e) h.steps k.steps a b c h.went (went_failing B C e k.steps b c k.went);
+    searched = searched_both k.steps h.steps k.searched h.searched;
+    keeps = k.keeps;
+    ends = k.ends;
+  }
+
+  -- it went well, and something else is answered
+  pub goes_on : {A B : Type 0} (x : A) (y : B) (a b : Proof W) (P : A → List Step → Type 0) (Q : B → List Step → Type 0) → ((steps : List Step) → P x steps → Q y steps) → Goes seen (Ok x) a b P → Goes seen (Ok y) a b Q
+  goes_on x y a b P Q f h = record { steps = h.steps; went = h.went; searched = h.searched; keeps = h.keeps; ends = f h.steps h.ends }
+
+  -- it failed, and the fault is passed on
+  pub goes_failing : {A B : Type 0} (e : SolverError) (a b : Proof W) (P : A → List Step → Type 0) (Q : B → List Step → Type 0) → Goes seen (Err e) a b P → Goes seen (Err e) a b Q
+  goes_failing {A = A} {B = B} e a b P Q h = record { steps = h.steps; went = went_failing A B e h.steps a b h.went; searched = h.searched; keeps = h.keeps; ends = h.ends }
+
+  -- no memory is left, or no room for a clause, behind a call that went well
+  pub goes_short : {A B : Type 0} (x : A) (e : SolverError) (a b : Proof W) (P : A → List Step → Type 0) (Q : B → List Step → Type 0) → ((steps : List Step) → Adds seen steps a b → Went {A = B} seen (Err e) steps a b) → IsFault e → Goes seen (Ok x) a b P → Goes seen (Err e) a b Q
+  goes_short x e a b P Q w f h = record { steps = h.steps; went = w h.steps h.went; searched = h.searched; keeps = h.keeps; ends = f }

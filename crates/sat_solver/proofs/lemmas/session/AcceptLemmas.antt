@@ -1,0 +1,104 @@
+-- What a session may write is accepted, by the view that the session is of the checker.
+use Rattle.std.proofs.Common.{ℕ, ◌+◌, ◌<◌, ◌≡◌, Bool, true, false, ◌||◌, eqb, List, [], ◌∷◌, ◌++◌, map, refl, sym, ◌∙◌, ap, subst, arith, ◌⊎◌, inl, inr, Option, None, Some, append-nil, eq-zero-or-pos}
+use Rattle.std.proofs.lemmas.Bool.{or_left, or_right, eq-eqb}
+use Rattle.std.specs.List.{AllByRecursion, list_any}
+use Rattle.sat_base.specs.values.Literals.{negated}
+use Rattle.sat_base.specs.steps.Steps.{Redundant, Simplified, Satisfied, Step, SolverVarName, UserVarName, DeleteVar, ChangeSamplingMode, AddClause, AtClause, UnitClauses, DeleteClause, ChangeHashBits, Model, Assumptions, FailedAssumptions, End}
+use Rattle.sat_checker.specs.LiteralSets.{is_among, mentions, canonical}
+use Rattle.sat_checker.specs.Propagation.{LeadToConflict, tautology, unit_true, conflict}
+use Rattle.sat_checker.specs.Stored.{StoredClause, Stored, unit_literals, bucket}
+use Rattle.sat_checker.specs.Storing.{clause_with, with_unit, last_literals}
+use Rattle.sat_checker.specs.Accepts.{Passes, PassInTurn, IsStrictSubset, Accepts}
+use Rattle.sat_checker.proofs.lemmas.sets.Order.{among-append}
+use Rattle.sat_solver.specs.session.Session.{AreNamed, Leads, denied, MayDerive, by_signs, by_unit, by_clauses, MayProve, MayForget, MayShow, MayReplace, May}
+use Rattle.sat_solver.specs.session.Agrees.{count_in, EachCounted}
+use Rattle.sat_solver.proofs.lemmas.session.Counts.{found}
+use Rattle.sat_solver.proofs.lemmas.session.Buckets.{picked_from, sorted_lead, hash_any_order, has_live, in_bucket, StandIn, none_empty, chosen_from}
+use Rattle.sat_solver.proofs.lemmas.session.Views.{view, view_unit}
+use Rattle.sat_solver.proofs.lemmas.session.TidyLemmas.{Tidy, LastIs}
+
+-- WHAT MAY BE WRITTEN IS ACCEPTED
+
+module _ (f : Stored) (last : Option (List ℕ)) where
+  -- named clauses stand in the buckets of their hashes
+  stand_in : (named : List (List ℕ)) (hashes : List ℕ) → AreNamed (view last f) named hashes → StandIn f (map canonical named) hashes
+  stand_in [] [] h = tt
+  stand_in [] (k ∷ ks) h = absurd h
+  stand_in (c ∷ cs) [] h = absurd h
+  stand_in (c ∷ cs) (k ∷ ks) h =
+      (in_bucket f (canonical c) k (has_live f (canonical c) h.0.counted) (hash_any_order f.solver_names f.width c h.0.once ∙ sym h.1), stand_in cs ks h.2)
+
+  -- clauses that lead to a conflict are among the buckets
+  passes_by : (clause hashes : List ℕ) (named : List (List ℕ)) → AreNamed (view last f) named hashes → Leads (denied (view last f) clause) named → LeadToConflict (map negated clause ++ unit_literals f) (map (bucket f) hashes)
+  passes_by clause hashes named n lead =
+      let r = picked_from (map canonical named) (denied (view last f) clause) (map negated clause ++ unit_literals f) (λ l. sym (among-append (map negated clause) (unit_literals f) l)) (sorted_lead named (denied (view last f) clause) lead) in
+      let s = stand_in named hashes n in
+      record {
+        first = map (bucket f) hashes;
+        rest = [];
+        picked = r.picked;
+        split = sym (append-nil (map (bucket f) hashes));
+        none_empty = none_empty f (map canonical named) hashes s;
+        chosen = chosen_from f r.picked (map canonical named) hashes r.chosen s;
+        conflict = r.conflict;
+      }
+
+  -- a clause that may be derived passes the check
+  pub passes : (clause hashes : List ℕ) → MayDerive (view last f) clause hashes → Passes f clause hashes
+  passes clause hashes (by_signs t) = tautology t
+  passes clause hashes (by_unit t) = unit_true t
+  passes clause hashes (by_clauses named n lead) = conflict (passes_by clause hashes named n lead)
+
+-- units that may be proved pass in turn
+pub pass_in_turn : (us : List (ℕ × ℕ)) (last : Option (List ℕ)) (f : Stored) → MayProve (view last f) us → PassInTurn f us
+pass_in_turn [] last f h = tt
+pass_in_turn (u ∷ us) last f h = (passes f last (u.0 ∷ []) (u.1 ∷ []) h.0, pass_in_turn us last (with_unit u.0 f) (subst (λ s. MayProve s us) (sym (view_unit last u.0 f)) h.1))
+
+-- each stored clause counts in the session
+module _ (f : Stored) (last : Option (List ℕ)) where
+  -- a stored clause's count is the session's
+  is_counted : (r : Bool) (c : StoredClause) → clause_with c.literals f.clauses ≡ Some c → 0 < count_in r (Some c) → 0 < (view last f).live r c.literals
+  is_counted r c e n = subst (λ o. 0 < count_in r o) (sym e) n
+
+  -- a variable that may be forgotten is in no stored clause
+  unused_by : (v : ℕ) → MayForget (view last f) v → (cs : List StoredClause) → AllByRecursion (λ c. clause_with c.literals f.clauses ≡ Some c) cs → EachCounted cs → list_any (λ c. mentions c.literals v) cs ≡ false
+  unused_by v m [] e n = refl
+  unused_by v m (c ∷ cs) e n =
+      let here : mentions c.literals v ≡ false = elim (eq-zero-or-pos c.irredundant) [
+        | inl z ↦ m.unused true c.literals (is_counted true c e.0 (let k : c.irredundant ≡ 0 = z in let j : 0 < c.irredundant + c.redundant = n.0 in omega arith))
+        | inr p ↦ m.unused false c.literals (is_counted false c e.0 p)
+      ] in
+      ap (λ b. b || list_any (λ c. mentions c.literals v) cs) here ∙ unused_by v m cs e.1 n.1
+
+  -- a model that may be shown satisfies each stored clause
+  modelled : (ls : List ℕ) → MayShow (view last f) ls → (cs : List StoredClause) → AllByRecursion (λ c. clause_with c.literals f.clauses ≡ Some c) cs → AllByRecursion (λ c. (c.irredundant ≡ 0) ⊎ (list_any (is_among ls) c.literals ≡ true)) cs
+  modelled ls m [] e = tt
+  modelled ls m (c ∷ cs) e = (elim (eq-zero-or-pos c.irredundant) [ inl z ↦ inl z | inr p ↦ inr (m.clauses c.literals (is_counted false c e.0 p)) ], modelled ls m cs e.1)
+
+-- what holds of each that is among them holds of each
+pub each_member : (P : ℕ → Type 0) (us : List ℕ) → ((l : ℕ) → is_among us l ≡ true → P l) → AllByRecursion P us
+each_member P [] h = tt
+each_member P (u ∷ us) h = (h u (or_left (eqb u u) (is_among us u) (eq-eqb u u refl)), each_member P us (λ l k. h l (or_right (eqb u l) (is_among us l) k)))
+
+-- the last clause is a strict part of one that it may replace
+strict_by : (last : Option (List ℕ)) (f : Stored) (clause : List ℕ) → LastIs last f → MayReplace (view last f) clause → IsStrictSubset (last_literals f.last f) clause
+strict_by last f clause h m = subst (λ o. IsStrictSubset o clause) (sym (h m.part m.last)) (m.within, m.strict)
+
+-- a step that may be written by the session's view is accepted
+pub accepts_view : (step : Step) (last : Option (List ℕ)) (f : Stored) → Tidy f.clauses → LastIs last f → May (view last f) step → Accepts f step
+accepts_view (SolverVarName v name) last f t l m = tt
+accepts_view (UserVarName v (Some name)) last f t l m = record { free = m.free; nameless = m.nameless; not_hidden = m.not_hidden }
+accepts_view (UserVarName v None) last f t l m = m
+accepts_view (DeleteVar v) last f t l m = record { known = m.known; nameless = m.nameless; unused = unused_by f last v m f.clauses (found f.clauses t.once) t.counted; not_assumed = m.not_assumed }
+accepts_view (ChangeSamplingMode v sample) last f t l m = m
+accepts_view (AddClause clause) last f t l m = m
+accepts_view (AtClause r clause hashes) last f t l m = passes f last clause hashes m
+accepts_view (UnitClauses us) last f t l m = pass_in_turn us last f m
+accepts_view (DeleteClause clause Redundant) last f t l m = m
+accepts_view (DeleteClause clause Satisfied) last f t l m = m
+accepts_view (DeleteClause clause Simplified) last f t l m = (m.0, strict_by last f clause l m.1)
+accepts_view (ChangeHashBits bits) last f t l m = tt
+accepts_view (Model ls) last f t l m = record { consistent = m.consistent; apart = m.apart; units = each_member (λ u. is_among ls (negated u) ≡ false) (unit_literals f) m.units; clauses = modelled f last ls m f.clauses (found f.clauses t.once) }
+accepts_view (Assumptions ls) last f t l m = tt
+accepts_view (FailedAssumptions core hashes) last f t l m = (m.0, passes f last (map negated core) hashes m.1)
+accepts_view End last f t l m = tt

@@ -1,0 +1,8 @@
+use Rattle.sat_solver.proofs.lemmas.names.LeftOut.{Bringing}
+use Rattle.sat_solver.proofs.names.adding.leave_out_clause.Given as goal
+
+abbrev pub invariant-loop-lit : goal.invariant-loop-lit
+invariant-loop-lit g l = record {
+  keeps : g.W.StepWriter.keeps l.writer;
+  bringing : Bringing l.fn.variables l.variables (g.W.StepWriter.steps l.fn.writer) (g.W.StepWriter.steps l.writer) l.lits l.lit-index;
+}

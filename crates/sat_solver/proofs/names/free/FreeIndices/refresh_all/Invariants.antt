@@ -1,0 +1,6 @@
+use Rattle.std.proofs.Common.{◌≡◌}
+use Rattle.sat_solver.proofs.lemmas.names.Trees.{Renews}
+use Rattle.sat_solver.proofs.names.free.FreeIndices.refresh_all.Given as goal
+
+abbrev pub invariant-loop-at : goal.invariant-loop-at
+invariant-loop-at l = (l.self.room ≡ l.fn.self.room) × (l.self.height ≡ l.fn.self.height) × Renews l.fn.self.room l.fn.self.nodes.items l.self.nodes.items l.at

@@ -1,0 +1,25 @@
+use Rattle.std.proofs.Common.{◌+◌, [], ◌∷◌, ◌++◌, map}
+use Rattle.sat_base.specs.script.Judge.{without_name, bring_in, new_names}
+use Rattle.sat_solver.specs.names.Expected.{NewName, NoName}
+use Rattle.sat_solver.proofs.lemmas.names.Doing.{does_both, ok_after}
+use Rattle.sat_solver.proofs.lemmas.names.Giving.{alike_unseen, alike_both, ok_alike}
+use Rattle.sat_solver.proofs.names.modes.hide_var.Goals as goal
+
+pub forget_idle-requires-clause-stands : goal.forget_idle-requires-clause-stands
+forget_idle-requires-clause-stands g c = c.in_ok-hide_global.ensures.does.stands
+
+pub returns-clause-does : goal.returns-clause-does
+returns-clause-does g c =
+    ok_after c.forget_idle.result c.args.variables.now c.hide_global.new.variables c.forget_idle.new.variables (g.W.StepWriter.steps c.args.writer.now) (g.W.StepWriter.steps c.hide_global.new.writer) (g.W.StepWriter.steps c.forget_idle.new.writer)
+    (λ j. without_name (c.args.user + 1) (bring_in (c.args.user + 1) j)) (λ j. map NewName (new_names (c.args.user + 1) j) ++ (NoName (c.args.user + 1) ∷ []))
+    (does_both c.args.variables.now c.global_from_user.new.variables c.hide_global.new.variables (g.W.StepWriter.steps c.args.writer.now) (g.W.StepWriter.steps c.global_from_user.new.writer) (g.W.StepWriter.steps c.hide_global.new.writer)
+    (bring_in (c.args.user + 1)) (without_name (c.args.user + 1)) (λ j. map NewName (new_names (c.args.user + 1) j)) (λ j. NoName (c.args.user + 1) ∷ []) c.in_ok-global.ensures.brought.brings c.in_ok-hide_global.ensures.does)
+    c.forget_idle.ensures.does
+
+pub returns-clause-alike : goal.returns-clause-alike
+returns-clause-alike g c =
+    ok_alike c.forget_idle.result c.args.variables.now c.hide_global.new.variables c.forget_idle.new.variables (g.W.StepWriter.steps c.args.writer.now) (g.W.StepWriter.steps c.hide_global.new.writer) (g.W.StepWriter.steps c.forget_idle.new.writer)
+    (alike_both c.args.variables.now c.global_from_user.new.variables c.hide_global.new.variables (g.W.StepWriter.steps c.args.writer.now) (g.W.StepWriter.steps c.global_from_user.new.writer) (g.W.StepWriter.steps c.hide_global.new.writer)
+    (alike_unseen c.args.variables.now c.global_from_user.new.variables (g.W.StepWriter.steps c.args.writer.now) (g.W.StepWriter.steps c.global_from_user.new.writer) c.in_ok-global.ensures.brought.unseen)
+    (alike_unseen c.global_from_user.new.variables c.hide_global.new.variables (g.W.StepWriter.steps c.global_from_user.new.writer) (g.W.StepWriter.steps c.hide_global.new.writer) c.in_ok-hide_global.ensures.unseen))
+    c.forget_idle.ensures.alike

@@ -1,0 +1,14 @@
+use Rattle.std.proofs.Common.{◌+◌, [], map}
+use Rattle.sat_base.specs.script.Judge.{with_mode, bring_in, new_names}
+use Rattle.sat_solver.specs.names.Variables.{judged_mode}
+use Rattle.sat_solver.specs.names.Expected.{NewName}
+use Rattle.sat_solver.proofs.lemmas.names.Doing.{ok_both}
+use Rattle.sat_solver.proofs.lemmas.names.Giving.{ok_unseen}
+use Rattle.sat_solver.proofs.names.modes.set_sampling_mode.Goals as goal
+
+pub returns-clause-does : goal.returns-clause-does
+returns-clause-does g c = ok_both c.set_global_mode.result c.args.variables.now c.global_from_user.new.variables c.set_global_mode.new.variables (g.W.StepWriter.steps c.args.writer.now) (g.W.StepWriter.steps c.global_from_user.new.writer) (g.W.StepWriter.steps c.set_global_mode.new.writer)
+    (bring_in (c.args.user + 1)) (with_mode (judged_mode c.args.sample) (c.args.user + 1)) (λ j. map NewName (new_names (c.args.user + 1) j)) (λ j. []) c.in_ok-global.ensures.brought.brings c.set_global_mode.ensures.does
+
+pub returns-clause-unseen : goal.returns-clause-unseen
+returns-clause-unseen g c = ok_unseen c.set_global_mode.result c.args.variables.now c.global_from_user.new.variables c.set_global_mode.new.variables (g.W.StepWriter.steps c.args.writer.now) (g.W.StepWriter.steps c.global_from_user.new.writer) (g.W.StepWriter.steps c.set_global_mode.new.writer) c.in_ok-global.ensures.brought.unseen c.set_global_mode.ensures.unseen

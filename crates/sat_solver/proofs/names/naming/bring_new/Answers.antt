@@ -1,0 +1,30 @@
+use Rattle.std.proofs.Common.{◌≡◌, ◌<◌, ◌+◌, ◌-◌, sym, ◌∙◌, subst, arith}
+use Rattle.sat_base.specs.script.Judge.{names_from}
+use Rattle.sat_solver.specs.names.Variables.{names_used}
+use Rattle.sat_solver.specs.names.Calls.{NamesOne, NamesAll}
+use Rattle.sat_solver.proofs.lemmas.names.NamingSteps.{Coming, unused, one_came, last_came, on_one}
+use Rattle.sat_solver.proofs.names.naming.bring_new.Goals as goal
+
+pub new_name-requires-clause-free : goal.new_name-requires-clause-free
+new_name-requires-clause-free g c = unused c.loop-index.variables c.from_index.result (c.loop-index.invariant.0.used ∙ sym c.from_index.ensures)
+
+pub loop-index-preserved : goal.loop-index-preserved
+loop-index-preserved g c = (
+  one_came c.args.variables.now c.loop-index.variables c.new_name.new.variables (g.W.StepWriter.steps c.args.writer.now) (g.W.StepWriter.steps c.loop-index.writer) (g.W.StepWriter.steps c.new_name.new.writer) c.args.user c.in_ok-new_name.field-0 c.loop-index.index
+      c.loop-index.invariant.0 (subst (λ e. c.loop-index.index < e) c.index-index-end.ensures.value c.loop-index-test.true)
+      (subst (λ i. NamesOne c.loop-index.variables c.new_name.new.variables (g.W.StepWriter.steps c.loop-index.writer) (g.W.StepWriter.steps c.new_name.new.writer) i c.in_ok-new_name.field-0) c.from_index.ensures c.in_ok-new_name.ensures.names),
+  c.in_ok-new_name.ensures.keeps,
+)
+
+pub new_name-requires-2-clause-free : goal.new_name-requires-2-clause-free
+new_name-requires-2-clause-free g c =
+    let at : c.loop-index.index ≡ c.args.user = (let a = c.loop-index-test.false in let b = c.loop-index.invariant.0.low in let e = c.index-index-end.ensures.value in omega arith) in
+    unused c.loop-index.variables c.args.user (c.loop-index.invariant.0.used ∙ at)
+
+pub returns-clause-names : goal.returns-clause-names
+returns-clause-names g c =
+    let at : c.loop-index.index ≡ c.args.user = (let a = c.loop-index-test.false in let b = c.loop-index.invariant.0.low in let e = c.index-index-end.ensures.value in omega arith) in
+    let came : Coming c.args.variables.now c.loop-index.variables (g.W.StepWriter.steps c.args.writer.now) (g.W.StepWriter.steps c.loop-index.writer) c.args.user c.args.user = subst (Coming c.args.variables.now c.loop-index.variables (g.W.StepWriter.steps c.args.writer.now) (g.W.StepWriter.steps c.loop-index.writer) c.args.user) at c.loop-index.invariant.0 in
+    on_one c.new_name-2.result (λ v. NamesOne c.loop-index.variables c.new_name-2.new.variables (g.W.StepWriter.steps c.loop-index.writer) (g.W.StepWriter.steps c.new_name-2.new.writer) c.args.user v)
+    (NamesAll c.args.variables.now c.new_name-2.new.variables (g.W.StepWriter.steps c.args.writer.now) (g.W.StepWriter.steps c.new_name-2.new.writer) (names_from (c.args.user + 1 - names_used c.args.variables.now) (names_used c.args.variables.now + 1)))
+    c.new_name-2.ensures.names (λ v one. last_came c.args.variables.now c.loop-index.variables c.new_name-2.new.variables (g.W.StepWriter.steps c.args.writer.now) (g.W.StepWriter.steps c.loop-index.writer) (g.W.StepWriter.steps c.new_name-2.new.writer) c.args.user v came one)

@@ -1,0 +1,48 @@
+use Rattle.std.proofs.Common.{◌≡◌, get_or, sym, ◌∙◌, ap, subst, refl}
+use Rattle.sat_base.specs.values.Literals.{variable, coded, is_positive}
+use Rattle.sat_solver.specs.names.Calls.{Brought}
+use Rattle.sat_solver.specs.names.Variables.{global_of}
+use Rattle.sat_solver.proofs.lemmas.names.TakenNames.{none_taken, one_taken, all_taken, any_default}
+use Rattle.sat_solver.proofs.names.taking.take_names.Goals as goal
+
+pub loop-lit-init : goal.loop-lit-init
+loop-lit-init g c = record {
+  globals = refl;
+  keeps = c.requires.keeps;
+  taking = none_taken c.args.variables.now (g.W.StepWriter.steps c.args.writer.now) c.args.lits.now c.clear.new.self.items c.clear-2.new.self.items c.requires.stands c.clear.ensures.items c.clear-2.ensures.items;
+}
+
+pub global_from_user-requires-clause-stands : goal.global_from_user-requires-clause-stands
+global_from_user-requires-clause-stands g c = c.loop-lit.invariant.taking.stands
+
+pub global_from_user-requires-clause-keeps : goal.global_from_user-requires-clause-keeps
+global_from_user-requires-clause-keeps g c = c.loop-lit.invariant.keeps
+
+pub solver_from_global-requires-clause-live : goal.solver_from_global-requires-clause-live
+solver_from_global-requires-clause-live g c =
+    let stands = c.in_ok-global.ensures.brought.brings.stands in
+    stands.tidy.named c.in_ok-global.global c.var.result (stands.tidy.users.back c.var.result c.in_ok-global.global c.in_ok-global.ensures.variable)
+
+pub loop-lit-preserved : goal.loop-lit-preserved
+loop-lit-preserved g c =
+    let user : c.var.result ≡ variable (get_or c.args.lits.now c.loop-lit.lit-index 0) = c.var.ensures ∙ ap variable (c.lit-item.is ∙ any_default c.args.lits.now c.loop-lit.lit-index c.lit-item.result 0 c.loop-lit-test.true) in
+    let sign : c.is_positive.result ≡ is_positive (get_or c.args.lits.now c.loop-lit.lit-index 0) = c.is_positive.ensures ∙ ap is_positive (c.lit-item.is ∙ any_default c.args.lits.now c.loop-lit.lit-index c.lit-item.result 0 c.loop-lit-test.true) in
+    record {
+      globals = c.loop-lit.invariant.globals;
+      keeps = c.in_ok-solver.ensures.keeps;
+      taking = one_taken c.args.variables.now c.loop-lit.variables c.global_from_user.new.variables c.solver_from_global.new.variables
+          (g.W.StepWriter.steps c.args.writer.now) (g.W.StepWriter.steps c.loop-lit.writer) (g.W.StepWriter.steps c.global_from_user.new.writer) (g.W.StepWriter.steps c.solver_from_global.new.writer)
+          c.args.lits.now c.loop-lit.taken.order.items c.push.new.self.items c.loop-lit.taken.given.items c.solver_from_global.new.given.items c.loop-lit.lit-index (get_or c.args.lits.now c.loop-lit.lit-index 0) c.in_ok-global.global c.in_ok-solver.solver c.lit.result
+          c.loop-lit.invariant.taking c.loop-lit-test.true refl
+          (subst (λ u. Brought c.loop-lit.variables c.global_from_user.new.variables (g.W.StepWriter.steps c.loop-lit.writer) (g.W.StepWriter.steps c.global_from_user.new.writer) u) user c.in_ok-global.ensures.brought)
+          (ap (global_of c.global_from_user.new.variables) (sym user) ∙ c.in_ok-global.ensures.variable) c.in_ok-solver.ensures.indexes (c.lit.ensures ∙ ap (coded c.in_ok-solver.solver) sign) c.in_ok-push.ensures.items;
+    }
+
+pub returns-clause-takes : goal.returns-clause-takes
+returns-clause-takes g c = all_taken c.args.variables.now c.loop-lit.variables (g.W.StepWriter.steps c.args.writer.now) (g.W.StepWriter.steps c.loop-lit.writer) c.args.lits.now c.loop-lit.taken c.loop-lit.lit-index c.loop-lit-test.false c.loop-lit.auto.lit-index-end c.loop-lit.invariant.taking
+
+pub returns-clause-globals : goal.returns-clause-globals
+returns-clause-globals g c = c.loop-lit.invariant.globals
+
+pub returns-clause-keeps : goal.returns-clause-keeps
+returns-clause-keeps g c = c.loop-lit.invariant.keeps

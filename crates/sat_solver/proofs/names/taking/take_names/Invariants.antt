@@ -1,0 +1,10 @@
+use Rattle.std.proofs.Common.{◌≡◌}
+use Rattle.sat_solver.proofs.lemmas.names.TakenNames.{Taking}
+use Rattle.sat_solver.proofs.names.taking.take_names.Given as goal
+
+abbrev pub invariant-loop-lit : goal.invariant-loop-lit
+invariant-loop-lit g l = record {
+  globals : l.taken.globals ≡ l.fn.taken.globals;
+  keeps : g.W.StepWriter.keeps l.writer;
+  taking : Taking l.fn.variables l.variables (g.W.StepWriter.steps l.fn.writer) (g.W.StepWriter.steps l.writer) l.lits l.lit-index l.taken.order.items l.taken.given.items;
+}

@@ -1,0 +1,28 @@
+-- Which errors a solver goes on after.
+use Rattle.std.specs.Prelude.{Bool, true, false}
+use Rattle.sat_store.specs.declared.clause.alloc.StoreError.{StoreError}
+use Rattle.sat_store.specs.declared.clause.alloc.StoreError.TheVariants as stores
+use Rattle.sat_solver.specs.declared.error.SolverError.{SolverError}
+use Rattle.sat_solver.specs.declared.error.SolverError.TheVariants as errors
+
+abbrev pub is_recoverable : SolverError → Bool
+is_recoverable errors.Interrupted = true
+is_recoverable (errors.ProofProcessorError cause) = false
+is_recoverable (errors.ProofIoError cause) = false
+is_recoverable errors.OutOfMemory = false
+is_recoverable errors.WitnessVariable = true
+is_recoverable errors.AssumedVariable = true
+is_recoverable errors.TooLate = true
+is_recoverable errors.NotInDrat = true
+is_recoverable errors.StoreFull = false
+is_recoverable errors.VariableLimit = true
+is_recoverable errors.CounterEnd = false
+is_recoverable errors.HasFailed = false
+is_recoverable errors.Read = true
+is_recoverable errors.Malformed = true
+is_recoverable errors.OutOfRange = true
+
+-- what a refusal of the clause buffer is to a solver
+abbrev pub failure_of : StoreError → SolverError
+failure_of stores.StoreFull = errors.StoreFull
+failure_of stores.OutOfMemory = errors.OutOfMemory

@@ -1,0 +1,51 @@
+-- The clauses of the parts as one list: those of two literals, each once, and the long ones.
+use Rattle.std.specs.Prelude.{ℕ, ◌+◌, ◌≡◌, Bool, false, Option, nat_lt, List, [], ◌∷◌, ◌++◌, take, drop, if◌then◌else◌}
+use Rattle.std.specs.List.{filter, list_all}
+use Rattle.sat_base.specs.values.Literals.{variable, negated}
+use Rattle.sat_store.specs.clause.Buffer.{lits_at}
+use Rattle.sat_parts.specs.prop.Values.{is_unset}
+use Rattle.sat_parts.specs.prop.Binaries.{implied_by}
+use Rattle.sat_solver.specs.session.LiveClauses.{LiveClause}
+
+-- The literals of a clause of two, the lower one first. All of them are irredundant.
+abbrev pub pair : ℕ → ℕ → LiveClause
+pair a b = record { redundant = false; literals = a ∷ b ∷ [] }
+
+-- those of a lower literal a, whose negation implies these
+abbrev pub pairs_of : ℕ → List ℕ → List LiveClause
+pairs_of a [] = []
+pairs_of a (m ∷ ms) = if nat_lt a m then pair a m ∷ pairs_of a ms else pairs_of a ms
+
+abbrev pub pairs_from : ℕ → List (List ℕ) → List LiveClause
+pairs_from l [] = []
+pairs_from l (ms ∷ rest) = pairs_of (negated l) ms ++ pairs_from (l + 1) rest
+
+abbrev pub binaries : List (List ℕ) → List LiveClause
+binaries = pairs_from 0
+
+-- the long ones, redundant or not as the test says
+abbrev pub longs : (ℕ → Bool) → List ℕ → List ℕ → List LiveClause
+longs redundant words [] = []
+longs redundant words (o ∷ os) = record { redundant = redundant o; literals = lits_at words o } ∷ longs redundant words os
+
+abbrev pub solver_clauses : (ℕ → Bool) → List ℕ → List ℕ → List (List ℕ) → List LiveClause
+solver_clauses redundant words live implied = binaries implied ++ longs redundant words live
+
+-- one clause came to stand among the others
+pub record Inserted (old new : List LiveClause) (c : LiveClause) : Type 0 where
+  pub before : List LiveClause
+  pub behind : List LiveClause
+  pub was : old ≡ before ++ behind
+  pub is : new ≡ before ++ c ∷ behind
+
+-- whether no variable of the clause has a value
+abbrev pub is_open_clause : List (Option Bool) → LiveClause → Bool
+is_open_clause values c = list_all (λ l. is_unset values (variable l)) c.literals
+
+-- The clauses of two literals while those with a variable that has a value go, one after the other in the order of the lists: the first
+-- k ones of the list l and all of those before it were looked at.
+abbrev pub binaries_left : List (Option Bool) → List (List ℕ) → (l k : ℕ) → List LiveClause
+binaries_left values implied l k =
+    let ms : List ℕ = implied_by implied l in
+    filter (is_open_clause values) (pairs_from 0 (take l implied))
+    ++ (filter (is_open_clause values) (pairs_of (negated l) (take k ms)) ++ (pairs_of (negated l) (drop k ms) ++ pairs_from (l + 1) (drop (l + 1) implied)))

@@ -1,0 +1,4 @@
+pub mod Ranks
+pub mod Gaps
+pub mod Progress
+pub mod Climbing

@@ -1,0 +1,9 @@
+pub mod Fits
+pub mod Laws
+pub mod Naming
+pub mod Learning
+pub mod Units
+pub mod Going
+pub mod Advancing
+pub mod Listed
+pub mod Loads

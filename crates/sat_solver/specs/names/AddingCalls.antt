@@ -1,0 +1,30 @@
+-- A clause over names, as it is taken and written.
+use Rattle.std.specs.Prelude.{ℕ, ◌≡◌, ◌∷◌, ◌++◌, [], Bool, List, map}
+use Rattle.sat_base.specs.script.Judge.{bring_all, with_clause}
+use Rattle.sat_base.specs.steps.Steps.{Step, AddClause}
+use Rattle.sat_checker.specs.LiteralSets.{is_tautology}
+use Rattle.sat_solver.specs.session.Session.{session_after}
+use Rattle.sat_solver.specs.names.Refusing.{names_in}
+use Rattle.sat_solver.specs.names.Expected.{Adds, bringing}
+use Rattle.sat_solver.specs.names.Adding.{named_literal, Images, MapsClause}
+use Rattle.sat_solver.specs.names.Search.{KeepsSearch, IsUnseen, Gives}
+use Rattle.sat_solver.specs.names.Calls.{Does}
+use Rattle.sat_solver.specs.declared.names.Variables.{Variables}
+use Rattle.sat_solver.specs.declared.names.taking.Taken.{Taken}
+
+-- Its names came in, their variables have indices, and it was written.
+pub record AddsClause (old new : Variables) (from to : List Step) (user : List ℕ) (t : Taken) (both_signs : Bool) : Type 0 where
+  pub does : Does old new from to (λ j. with_clause (map named_literal user) (bring_all (names_in user) j)) (λ j. bringing (names_in user) j ++ (Adds (map named_literal user) ∷ []))
+  pub signs : both_signs ≡ is_tautology t.order.items
+  pub images : Images new user t.order.items
+  pub clause : MapsClause new t
+  pub gives : Gives old new (session_after from) t.given.items
+  -- the steps before the clause's, which the search doesn't see
+  pub between : List Step
+  pub written : to ≡ AddClause t.globals.items ∷ between
+  pub search : KeepsSearch (session_after from) (session_after between)
+
+-- Its names came in, and it was not written, which the clauses' being unsatisfiable allows.
+pub record LeavesOut (old new : Variables) (from to : List Step) (user : List ℕ) : Type 0 where
+  pub does : Does old new from to (λ j. with_clause (map named_literal user) (bring_all (names_in user) j)) (bringing (names_in user))
+  pub unseen : IsUnseen old new from to

@@ -1,0 +1,26 @@
+-- The bridge between the variables of a certificate and the judge's identities.
+use Rattle.std.specs.Prelude.{ℕ, ◌<◌, ◌≡◌, true, Some, List}
+use Rattle.std.specs.List.{AllByRecursion}
+use Rattle.sat_base.specs.values.Literals.{variable}
+use Rattle.sat_base.specs.values.Clauses.{Valuation}
+use Rattle.sat_base.specs.script.Script.{Among}
+use Rattle.sat_base.specs.script.Judge.{Judge, identity_of}
+use Rattle.sat_base.specs.steps.Steps.{Step}
+use Rattle.sat_checker.specs.Fold.{Holds}
+use Rattle.sat_solver.specs.names.Live.{Live, Apart, Meant}
+use Rattle.sat_solver.specs.names.Checking.{variable_of, Checking, Accepted}
+
+-- of the names in use, and of what the steps mean
+pub record IsBridge (k : Checking) (j : Judge) (earlier : List Step) (live : Live) : Type 0 where
+  pub accepted : Accepted k earlier
+  pub once : Apart live
+  pub known : AllByRecursion (λ p. k.knows earlier p.0 ≡ true) live
+  pub below : AllByRecursion (λ p. p.1 < j.next_identity) live
+  pub clauses_below : AllByRecursion (AllByRecursion (λ l. variable l < j.next_identity)) j.clauses
+  -- a name's variable is live, with the name's identity
+  pub named : (name v : ℕ) → variable_of earlier name ≡ Some v → (i : ℕ) × (identity_of j name ≡ Some i) × Among (v, i) live
+  -- each name in use has one
+  pub in_use : (name i : ℕ) → identity_of j name ≡ Some i → (v : ℕ) × (variable_of earlier name ≡ Some v) × Among (v, i) live
+  pub distinct : (m n v : ℕ) → variable_of earlier m ≡ Some v → variable_of earlier n ≡ Some v → m ≡ n
+  pub to : (a : Valuation) → Holds earlier a → Meant j live a
+  pub back : (a : Valuation) → Meant j live a → Holds earlier a

@@ -1,0 +1,15 @@
+-- How many of the first numbers pass a test.
+use Rattle.std.specs.Prelude.{ℕ, zero, suc, ◌+◌, ◌≡◌, Bool, is_some, List, Option, length, if◌then◌else◌}
+use Rattle.sat_store.specs.variables.Maps.{Both, target}
+
+unfoldable pub count_to : ℕ → (ℕ → Bool) → ℕ
+count_to zero f = 0
+count_to (suc n) f = count_to n f + (if f n then 1 else 0)
+
+-- how many are mapped
+abbrev pub mapped_count : List (Option ℕ) → ℕ
+mapped_count map = count_to (length map) (λ v. is_some (target map v))
+
+-- as many as have a target are a target
+abbrev pub IsEven : Both → Type 0
+IsEven maps = mapped_count maps.fwd ≡ mapped_count maps.bwd

@@ -1,0 +1,65 @@
+-- Ordered steps that a script's commands expect, by names.
+use Rattle.std.specs.Prelude.{ℕ, ◌+◌, ◌≡◌, false, Bool, Option, Some, None, List, [], ◌∷◌, ◌++◌, map}
+use Rattle.std.specs.List.{AllByRecursion}
+use Rattle.sat_base.specs.values.Literals.{coded}
+use Rattle.sat_base.specs.script.Script.{Literal, names_of, Among}
+use Rattle.sat_base.specs.script.Judge.{Judge, Mode, new_names, bring_in, without_name, with_mode}
+use Rattle.sat_base.specs.steps.Steps.{Step, UserVarName, AddClause, Model, Assumptions, FailedAssumptions, End}
+use Rattle.sat_solver.specs.names.Checking.{variable_of}
+
+-- an ordered step that is expected, by names
+pub data Expected : Type 0 where
+  NewName : ℕ → Expected  -- the name goes to an unknown variable
+  NoName : ℕ → Expected  -- the name's variable loses it
+  Adds : List Literal → Expected  -- a clause
+  Opens : List Literal → Expected  -- an ask
+  Shows : List ℕ → List Literal → List Literal → Expected  -- a model: the names in use, the ask, the line
+  Fails : List Literal → List Literal → Expected  -- a core: the ask, the core
+  Closes : Expected  -- the end of an ask
+  Finish : Expected
+
+-- for names that come in from left to right
+abbrev pub bringing : List ℕ → Judge → List Expected
+bringing [] j = []
+bringing (name ∷ names) j = map NewName (new_names name j) ++ bringing names (bring_in name j)
+
+-- for names that are hidden
+abbrev pub hiding : List ℕ → Judge → List Expected
+hiding [] j = []
+hiding (name ∷ names) j = map NewName (new_names name j) ++ (NoName name ∷ hiding names (without_name name (bring_in name j)))
+
+-- for names whose mode is set
+abbrev pub setting : Mode → List ℕ → Judge → List Expected
+setting mode [] j = []
+setting mode (name ∷ names) j = map NewName (new_names name j) ++ setting mode names (with_mode mode name (bring_in name j))
+
+-- the literal of a proof variable that stands for this one: variables are read through explicit names alone
+pub record Spells (variable_of : ℕ → Option ℕ) (l : Literal) (code : ℕ) : Type 0 where
+  pub variable : ℕ
+  pub named : variable_of l.name ≡ Some variable
+  pub is : code ≡ coded variable l.positive
+
+-- each literal of the list is there
+abbrev pub EachSpelt : (ℕ → Option ℕ) → List Literal → List ℕ → Type 0
+EachSpelt names ls codes = AllByRecursion (λ l. (code : ℕ) × Spells names l code × Among code codes) ls
+
+-- and nothing else
+abbrev pub SameSet : (ℕ → Option ℕ) → List Literal → List ℕ → Type 0
+SameSet names ls codes = EachSpelt names ls codes × AllByRecursion (λ code. (l : Literal) × Spells names l code × Among l ls) codes
+
+-- the step is what is expected
+pub data Fits (knows : ℕ → Bool) (earlier : List Step) : Expected → Step → Type 0 where
+  new_name : {name v index : ℕ} → index + 1 ≡ name → knows v ≡ false
+      → Fits knows earlier (NewName name) (UserVarName v (Some index))
+  no_name : {name v : ℕ} → variable_of earlier name ≡ Some v → Fits knows earlier (NoName name) (UserVarName v None)
+  adds : {ls : List Literal} {c : List ℕ} → SameSet (variable_of earlier) ls c → Fits knows earlier (Adds ls) (AddClause c)
+  opens : {ls : List Literal} {c : List ℕ} → SameSet (variable_of earlier) ls c
+      → Fits knows earlier (Opens ls) (Assumptions c)
+  -- the line lists exactly the names in use, the model has its literals, and the ask's are among them
+  shows : {names : List ℕ} {ask line : List Literal} {c : List ℕ}
+      → names_of line ≡ names → EachSpelt (variable_of earlier) line c → AllByRecursion (λ l. Among l line) ask
+      → Fits knows earlier (Shows names ask line) (Model c)
+  fails : {ask core : List Literal} {c hashes : List ℕ} → SameSet (variable_of earlier) core c
+      → Fits knows earlier (Fails ask core) (FailedAssumptions c hashes)
+  closes : Fits knows earlier Closes (Assumptions [])
+  finish : Fits knows earlier Finish End

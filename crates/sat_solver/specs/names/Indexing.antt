@@ -1,0 +1,29 @@
+-- A variable that has an index of the search from here on.
+use Rattle.std.specs.Prelude.{ℕ, ◌==◌, ◌≡◌, ◌++◌, Some, None, List, if◌then◌else◌}
+use Rattle.sat_base.specs.steps.Steps.{Step}
+use Rattle.sat_solver.specs.session.Session.{session_after}
+use Rattle.sat_solver.specs.names.Variables.{solver_of}
+use Rattle.sat_solver.specs.names.Calls.{DoesNothing}
+use Rattle.sat_solver.specs.names.Search.{KeepsSearch, Gives}
+use Rattle.sat_solver.specs.declared.names.indexing.Given.{Given}
+use Rattle.sat_solver.specs.declared.names.Variables.{Variables}
+
+-- The variable has the index, and where it was given it just now, it stands at the end of the list of those given.
+pub record Indexes (old new : Variables) (from to : List Step) (before after : List Given) (v x : ℕ) : Type 0 where
+  pub does : DoesNothing old new from to
+  pub has : solver_of new v ≡ Some x
+  pub users : new.global_from_user ≡ old.global_from_user
+  pub kept : new.var_data ≡ old.var_data
+  pub search : KeepsSearch (session_after from) (session_after to)
+  pub fresh : List Given
+  pub listed : after ≡ before ++ fresh
+  pub gives : Gives old new (session_after from) fresh
+
+-- The variable has no index from here on.
+pub record Unindexes (old new : Variables) (from to : List Step) (v x : ℕ) : Type 0 where
+  pub does : DoesNothing old new from to
+  pub solvers : (w : ℕ) → solver_of new w ≡ (if w == v then None else solver_of old w)
+  pub globals : new.globals ≡ old.globals
+  pub users : new.global_from_user ≡ old.global_from_user
+  pub kept : new.var_data ≡ old.var_data
+  pub search : KeepsSearch (session_after from) (session_after to)

@@ -1,0 +1,12 @@
+pub mod Round
+pub mod Learned
+pub mod Levels
+pub mod Units
+pub mod Whole
+pub mod Loadable
+pub mod Loading
+pub mod Reducing
+pub mod Using
+pub mod Words
+pub mod Frame
+pub mod Assumed

@@ -1,0 +1,35 @@
+-- A clause that was learned from a conflict, before and after levels are undone.
+use Rattle.std.specs.Prelude.{ℕ, ◌≡◌, ◌^◌, ◌<◌, ◌≤◌, true, List, [], length, slice_index_or as get_or}
+use Rattle.sat_base.specs.values.Literals.{variable}
+use Rattle.sat_store.specs.heap.Vsids.{Queue, may_pick}
+use Rattle.sat_parts.specs.clause.Orders.{AreDistinct}
+use Rattle.sat_parts.specs.prop.Values.{IsFalseLit, IsOpenLit}
+use Rattle.sat_parts.specs.prop.State.{State, level, current_level}
+use Rattle.sat_parts.specs.prop.Ready.{IsFalsified}
+
+-- what an analysis gives: literals that are false, none of level 0, of which the first alone is of the current level, and the second
+-- of the highest level of the others, which is the level that is gone back to
+pub record IsLearned (s : State) (ls : List ℕ) (to : ℕ) : Type 0 where
+  pub some : 1 ≤ length ls
+  pub fits : length ls < 2 ^ 32
+  pub distinct : AreDistinct ls
+  pub falsified : IsFalsified s.values ls
+  pub first : level s (get_or ls 0 0) ≡ current_level s
+  pub below : to < current_level s
+  pub others : (k : ℕ) → 1 ≤ k → k < length ls → level s (get_or ls k 0) ≤ to
+  pub above : (k : ℕ) → k < length ls → 0 < level s (get_or ls k 0)
+  pub second : 1 < length ls → level s (get_or ls 1 0) ≡ to
+  pub unit : length ls ≡ 1 → to ≡ 0
+
+-- the same once levels are undone: the first literal is open, and the others are false, the second at the current level
+pub record IsPending (s : State) (q : Queue) (ls : List ℕ) : Type 0 where
+  pub some : 1 ≤ length ls
+  pub fits : length ls < 2 ^ 32
+  pub distinct : AreDistinct ls
+  pub there : variable (get_or ls 0 0) < length s.values
+  pub open_first : IsOpenLit s.values (get_or ls 0 0)
+  pub ready : may_pick q (variable (get_or ls 0 0)) ≡ true
+  pub rest : (k : ℕ) → 1 ≤ k → k < length ls → IsFalseLit s.values (get_or ls k 0)
+  pub second : 1 < length ls → level s (get_or ls 1 0) ≡ current_level s
+  pub above : 1 < length ls → 0 < current_level s
+  pub unit : length ls ≡ 1 → s.trail.starts ≡ []

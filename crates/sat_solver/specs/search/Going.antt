@@ -1,0 +1,43 @@
+-- What a call that makes steps of a search leaves of the proof. Lists of steps have the newest first.
+use Rattle.std.specs.Prelude.{◌≡◌, Bool, true, false, List, MatchResult, Result, Ok, Err}
+use Rattle.std.specs.List.{AllByRecursion}
+use Rattle.sat_base.specs.device.Device.{Writer}
+use Rattle.sat_base.specs.steps.Steps.{Step, AtClause, UnitClauses, DeleteClause}
+use Rattle.sat_solver.specs.session.ProofView.{Adds, Fails, Keeps}
+use Rattle.sat_solver.specs.declared.session.proof.Proof.{Proof}
+use Rattle.sat_solver.specs.declared.session.proof.ProofError.{ProofError}
+use Rattle.sat_solver.specs.declared.session.proof.ProofError.TheVariants.{Write}
+use Rattle.sat_solver.specs.declared.error.SolverError.{SolverError}
+use Rattle.sat_solver.specs.declared.error.SolverError.TheVariants as errors
+
+-- the kinds of step that a search makes by itself
+abbrev pub is_searched : Step → Bool
+is_searched (AtClause redundant clause hashes) = true
+is_searched (UnitClauses units) = true
+is_searched (DeleteClause clause proof) = true
+is_searched step = false
+
+-- the fault of a proof's target
+abbrev pub fault_of : ProofError → SolverError
+fault_of (Write cause) = errors.ProofIoError cause
+
+-- what a search may fail of
+abbrev pub IsFault : SolverError → Type 0
+IsFault errors.OutOfMemory = Unit {0}
+IsFault errors.StoreFull = Unit {0}
+IsFault (errors.ProofIoError cause) = Unit {0}
+IsFault e = ⊥
+
+-- these steps were made; where a call of the target failed, that was at their text
+abbrev pub Went : {A W : Type 0} → (W → Writer) → Result A SolverError → List Step → Proof W → Proof W → Type 0
+Went seen (Ok x) steps old new = Adds seen steps old new
+Went seen (Err (errors.ProofIoError cause)) steps old new = Fails seen steps old new
+Went seen (Err e) steps old new = Adds seen steps old new
+
+-- It made steps of a search, and came to an answer of which this holds, or failed.
+pub record Goes {A W : Type 0} (seen : W → Writer) (result : Result A SolverError) (old new : Proof W) (Answers : A → List Step → Type 0) : Type 0 where
+  pub steps : List Step
+  pub went : Went seen result steps old new
+  pub searched : AllByRecursion (λ step. is_searched step ≡ true) steps
+  pub keeps : Keeps new
+  pub ends : MatchResult result (λ x. Answers x steps) IsFault

@@ -1,0 +1,36 @@
+-- How a round ends.
+use Rattle.std.specs.Prelude.{◌≡◌, true, List}
+use Rattle.sat_base.specs.steps.Steps.{Step}
+use Rattle.sat_solver.specs.parts.Words.{RisesFor}
+use Rattle.sat_solver.specs.session.Session.{Session}
+use Rattle.sat_solver.specs.declared.bound.search.Outcome.{Outcome}
+use Rattle.sat_solver.specs.declared.bound.search.Outcome.TheVariants as outcomes
+use Rattle.sat_solver.specs.declared.search.work.Search.{Search}
+use Rattle.sat_solver.specs.search.Joint.{assumed_in, IsSearch, Moved}
+use Rattle.sat_solver.specs.search.Learning.{LastAdvances}
+use Rattle.sat_solver.specs.search.Turns.{IsComplete, IsFailing}
+
+-- a clause was learned, by a step that advances, and the word of the trail rose
+pub record RoundLearns (earlier steps : List Step) (s : Session) (c c' : Search) : Type 0 where
+  pub search : IsSearch s c'
+  pub moved : Moved c c'
+  pub rises : RisesFor (assumed_in c) c.parts c'.parts
+  pub last : LastAdvances earlier steps
+
+-- an assumption failed
+pub record RoundFails (s : Session) (c c' : Search) : Type 0 where
+  pub search : IsSearch s c'
+  pub moved : Moved c c'
+  pub failing : IsFailing c'.assumptions.lits.items c'.parts c'.failed
+
+-- no variable of a clause is open
+pub record RoundShows (s : Session) (c c' : Search) : Type 0 where
+  pub search : IsSearch s c'
+  pub moved : Moved c c'
+  pub complete : IsComplete c'.assumptions.lits.items c'.parts
+
+abbrev pub RoundSays : Outcome → (earlier steps : List Step) → Session → Search → Search → Type 0
+RoundSays outcomes.Learned earlier steps s c c' = RoundLearns earlier steps s c c'
+RoundSays outcomes.Model earlier steps s c c' = RoundShows s c c'
+RoundSays outcomes.Unsat earlier steps s c c' = s.unsat ≡ true
+RoundSays outcomes.Failed earlier steps s c c' = RoundFails s c c'

@@ -1,0 +1,14 @@
+pub mod Session
+pub mod Agrees
+pub mod LiveClauses
+pub mod Widths
+pub mod Promises
+pub mod SessionRows
+pub mod Feeding
+pub mod LogView
+pub mod WritingView
+pub mod ProofView
+pub mod ProofTexts
+pub mod Due
+pub mod Making
+pub mod NamedMeaning

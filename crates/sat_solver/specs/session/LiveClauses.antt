@@ -1,0 +1,37 @@
+-- A solver's live clauses as a list, in whatever order, each with its literals in whatever order, and over solver variables.
+use Rattle.std.specs.Prelude.{ℕ, ◌+◌, ◌*◌, ◌/◌, ◌%◌, ◌≡◌, ◌⊎◌, ◌&&◌, Bool, Option, Some, List, [], ◌∷◌, map}
+use Rattle.std.specs.List.{AllByRecursion}
+use Rattle.sat_base.specs.values.Literals.{variable}
+use Rattle.sat_checker.specs.LiteralSets.{canonical, same_literals}
+use Rattle.sat_checker.specs.inner.Marks.{NoRepeats}
+use Rattle.sat_solver.specs.session.Session.{Session, same_side, more}
+
+pub record LiveClause : Type 0 where
+  pub redundant : Bool
+  pub literals : List ℕ
+
+-- how many of them have this set
+abbrev pub count_of : List LiveClause → Bool → List ℕ → ℕ
+count_of [] r set = 0
+count_of (c ∷ cs) r set = more (same_side c.redundant r && same_literals (canonical c.literals) set) (count_of cs r set)
+
+abbrev pub IsIn : LiveClause → List LiveClause → Type 0
+IsIn c [] = ⊥
+IsIn c (d ∷ ds) = (c ≡ d) ⊎ IsIn c ds
+
+-- a literal over solver variables as one over proof variables
+abbrev pub with_var : (ℕ → ℕ) → ℕ → ℕ
+with_var global l = 2 * global (l / 2) + l % 2
+
+abbrev pub mapped : (ℕ → ℕ) → LiveClause → LiveClause
+mapped global c = record c { literals = map (with_var global) c.literals }
+
+-- each variable is the solver name of the proof variable that it is mapped to
+abbrev pub AreMapped : (ℕ → ℕ) → (ℕ → Option ℕ) → List ℕ → Type 0
+AreMapped global names = AllByRecursion (λ l. names (global (variable l)) ≡ Some (variable l))
+
+-- The live clauses of a solver are those of the session: different literals over variables that have solver names, and the same counts of each set.
+pub record AreOf (s : Session) (global : ℕ → ℕ) (cs : List LiveClause) : Type 0 where
+  pub named : (c : LiveClause) → IsIn c cs → AreMapped global s.solver_names c.literals
+  pub once : (c : LiveClause) → IsIn c cs → NoRepeats c.literals
+  pub counts : (r : Bool) (set : List ℕ) → s.live r set ≡ count_of (map (mapped global) cs) r set

@@ -1,0 +1,35 @@
+-- What holds of sessions.
+use Rattle.std.specs.Prelude.{ℕ, ◌≡◌, true, List, [], ◌∷◌}
+use Rattle.sat_base.specs.values.Clauses.{Valuation, literal_true, EachTrue, EachHolds}
+use Rattle.sat_base.specs.steps.Steps.{Step, AddClause, Model, FailedAssumptions}
+use Rattle.sat_checker.specs.Fold.{Holds}
+use Rattle.sat_checker.specs.Stored.{Stored}
+use Rattle.sat_checker.specs.Accepts.{Accepts, AcceptsAll, ready_after}
+use Rattle.sat_solver.specs.session.Session.{Session, May, MayAll, session_after}
+use Rattle.sat_solver.specs.session.Agrees.{Agrees}
+
+-- what a session may write, the checker accepts
+abbrev pub MayIsAccepted : Type 0
+MayIsAccepted = (s : Session) (f : Stored) (step : Step) → Agrees s f → May s step → Accepts f step
+
+-- steps that may be written in their turn are accepted in their turn, and session and checker agree behind them
+abbrev pub SessionsAreAccepted : Type 0
+SessionsAreAccepted = (steps : List Step) → MayAll steps → AcceptsAll steps × Agrees (session_after steps) (ready_after steps)
+
+-- the clauses that were added, the newest first
+abbrev pub added : List Step → List (List ℕ)
+added [] = []
+added (AddClause clause ∷ earlier) = clause ∷ added earlier
+added (step ∷ earlier) = added earlier
+
+-- no valuation that satisfies the added clauses satisfies a core that may be written
+abbrev pub CoresAreRight : Type 0
+CoresAreRight = (steps : List Step) (core hashes : List ℕ) (a : Valuation) → MayAll (FailedAssumptions core hashes ∷ steps) → EachHolds a (added steps) → EachTrue a core → ⊥
+
+-- none satisfies them once unsat is recorded
+abbrev pub UnsatIsRight : Type 0
+UnsatIsRight = (steps : List Step) (a : Valuation) → MayAll steps → (session_after steps).unsat ≡ true → EachHolds a (added steps) → ⊥
+
+-- a model that may be written extends to a valuation that the steps leave, by every completion that has the units
+abbrev pub ModelsAreRight : Type 0
+ModelsAreRight = (steps : List Step) (ls : List ℕ) (a : Valuation) → MayAll (Model ls ∷ steps) → EachTrue a ls → ((l : ℕ) → (session_after steps).units l ≡ true → literal_true a l ≡ true) → Holds steps a

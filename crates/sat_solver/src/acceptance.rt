@@ -1,0 +1,3 @@
+//! What the parts of a solver keep, and what acceptance asks.
+pub mod laws;
+pub mod learning;

@@ -1,0 +1,133 @@
+//! The parameters of a search.
+ghost use Rattle.std.specs.Prelude.{ℕ, ◌≡◌, true, false, None, Some, nat_le, OnOk, IfErr};
+ghost use Rattle.sat_solver.specs.Configs.{is_decay, passes, in_range, updated};
+
+use crate::error::SolverError;
+
+/// The parameters of a search. Decays are in thousandths.
+#[derive(Clone, Copy, Debug, Drop, PartialEq, Eq)]
+pub struct SolverConfig {
+    /// What is left of the activity of a variable from one conflict to the next: 500 to 999, at first 950.
+    pub vsids_decay: u32,
+    /// The same of clauses: 500 to 999, at first 999.
+    pub clause_activity_decay: u32,
+    /// Rounds between reductions of the clauses of tier Local: at least 1, at first 15000.
+    pub reduce_locals_interval: u64,
+    /// Rounds between reductions of the clauses of tier Mid: at least 1, at first 10000.
+    pub reduce_mids_interval: u64,
+    /// Rounds for each unit of the Luby sequence of restarts: at least 1, at first 128.
+    pub luby_restart_interval_scale: u64,
+    /// The most rounds of one `solve`: at first 2^64-1. With 0 it answers only what is known already.
+    pub max_steps: u64,
+}
+
+impl Default for SolverConfig {
+    fn default() -> SolverConfig
+        ensures vsids { result.vsids_decay ≡ 950 }
+        ensures clauses { result.clause_activity_decay ≡ 999 }
+        ensures locals { result.reduce_locals_interval ≡ 15000 }
+        ensures mids { result.reduce_mids_interval ≡ 10000 }
+        ensures scale { result.luby_restart_interval_scale ≡ 128 }
+        ensures steps { result.max_steps ≡ 18446744073709551615 }
+    {
+        SolverConfig {
+            vsids_decay: 950,
+            clause_activity_decay: 999,
+            reduce_locals_interval: 15000,
+            reduce_mids_interval: 10000,
+            luby_restart_interval_scale: 128,
+            max_steps: u64::MAX,
+        }
+    }
+}
+
+/// Changes of some parameters: those that are `Some`.
+#[derive(Clone, Copy, Debug, Drop, PartialEq, Eq, Default)]
+pub struct SolverConfigUpdate {
+    pub vsids_decay: Option<u32>,
+    pub clause_activity_decay: Option<u32>,
+    pub reduce_locals_interval: Option<u64>,
+    pub reduce_mids_interval: Option<u64>,
+    pub luby_restart_interval_scale: Option<u64>,
+    pub max_steps: Option<u64>,
+}
+
+/// Whether a change of a decay keeps it in its range.
+fn may_decay(change: Option<u32>) -> bool
+    ensures { result ≡ passes is_decay change }
+{
+    match change {
+        None => true,
+        Some(thousandths) => thousandths >= 500 && thousandths <= 999,
+    }
+}
+
+/// Whether a change keeps a number at least 1.
+fn may_count(change: Option<u64>) -> bool
+    ensures { result ≡ passes (nat_le 1) change }
+{
+    match change {
+        None => true,
+        Some(count) => count >= 1,
+    }
+}
+
+impl SolverConfigUpdate {
+    /// No change.
+    pub fn new() -> SolverConfigUpdate
+        ensures vsids { result.vsids_decay ≡ None }
+        ensures clauses { result.clause_activity_decay ≡ None }
+        ensures locals { result.reduce_locals_interval ≡ None }
+        ensures mids { result.reduce_mids_interval ≡ None }
+        ensures scale { result.luby_restart_interval_scale ≡ None }
+        ensures steps { result.max_steps ≡ None }
+    {
+        SolverConfigUpdate {
+            vsids_decay: None,
+            clause_activity_decay: None,
+            reduce_locals_interval: None,
+            reduce_mids_interval: None,
+            luby_restart_interval_scale: None,
+            max_steps: None,
+        }
+    }
+
+    /// Whether each field that is changed is in its range.
+    fn is_in_range(&self) -> bool
+        ensures { result ≡ in_range self.now }
+    {
+        may_decay(self.vsids_decay)
+            && may_decay(self.clause_activity_decay)
+            && may_count(self.reduce_locals_interval)
+            && may_count(self.reduce_mids_interval)
+            && may_count(self.luby_restart_interval_scale)
+    }
+
+    /// Changes the parameters. All fields are tested before any changes: OutOfRange is answered exactly where one is out of its
+    /// range, and then nothing changes.
+    pub fn apply(&self, config: &mut SolverConfig) -> Result<(), SolverError>
+        ensures ok { OnOk result ((in_range self.now ≡ true) × (config.new ≡ updated self.now config.old)) }
+        ensures err { IfErr result (λ e. (e ≡ SolverError.OutOfRange) × (in_range self.now ≡ false) × (config.new ≡ config.old)) }
+    {
+        if !self.is_in_range() {
+            return Err(SolverError::OutOfRange);
+        }
+        *config = SolverConfig {
+            vsids_decay: self.vsids_decay.unwrap_or(config.vsids_decay),
+            clause_activity_decay: self
+                .clause_activity_decay
+                .unwrap_or(config.clause_activity_decay),
+            reduce_locals_interval: self
+                .reduce_locals_interval
+                .unwrap_or(config.reduce_locals_interval),
+            reduce_mids_interval: self
+                .reduce_mids_interval
+                .unwrap_or(config.reduce_mids_interval),
+            luby_restart_interval_scale: self
+                .luby_restart_interval_scale
+                .unwrap_or(config.luby_restart_interval_scale),
+            max_steps: self.max_steps.unwrap_or(config.max_steps),
+        };
+        Ok(())
+    }
+}

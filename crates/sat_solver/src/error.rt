@@ -1,0 +1,107 @@
+//! What can go wrong in a solver.
+ghost use Rattle.std.specs.Prelude.{◌≡◌};
+ghost use Rattle.sat_solver.specs.Recovery.{is_recoverable};
+
+use sat_store::StoreError;
+use std::alloc::AllocError;
+use std::io;
+use thiserror::Error;
+
+/// Why a call of a solver wasn't carried out.
+///
+/// After an error that isn't recoverable the solver answers only `HasFailed`.
+#[derive(Debug, Drop, Error)]
+pub enum SolverError {
+    /// The rounds of this `solve` are spent, or the count of all rounds is.
+    #[error("The solver was interrupted")]
+    Interrupted,
+    /// A processor of proof steps answered a fault.
+    #[error("Error in proof processor: {cause}")]
+    ProofProcessorError { cause: anyhow::Error },
+    /// A write to the proof's target failed.
+    #[error("Error writing proof file: {cause}")]
+    ProofIoError { cause: io::Error },
+    #[error("out of memory")]
+    OutOfMemory,
+    /// A clause or an assumption has a name of mode witness.
+    #[error("a clause or an assumption has a witness variable")]
+    WitnessVariable,
+    /// A name that is assumed can't change its mode.
+    #[error("an assumed variable can't change its mode")]
+    AssumedVariable,
+    /// A proof begins before the first clause, name, assumption and `solve`.
+    #[error("a proof can't begin once the solver was used")]
+    TooLate,
+    /// A DRAT proof has no assumptions, and no clauses behind the first `solve`.
+    #[error("the proof format has no assumptions and no later clauses")]
+    NotInDrat,
+    /// The clause buffer holds more than 2^32-1 words.
+    #[error("the store of clauses is full")]
+    StoreFull,
+    /// No index of a variable is left, which are 2^28, or a number of a formula's text is past that limit.
+    #[error("a variable is past the limit")]
+    VariableLimit,
+    #[error("a counter is at its end")]
+    CounterEnd,
+    #[error("the solver has failed before")]
+    HasFailed,
+    /// The formula's reader failed, or was read 2^48 times.
+    #[error("the formula can't be read")]
+    Read,
+    /// The formula's text is malformed.
+    #[error("the formula's text is malformed")]
+    Malformed,
+    /// A parameter is out of its range.
+    #[error("a parameter is out of its range")]
+    OutOfRange,
+}
+
+impl SolverError {
+    /// Whether the solver goes on after this error.
+    pub fn is_recoverable(&self) -> bool
+        ensures { result ≡ is_recoverable self.now }
+    {
+        match self {
+            SolverError::Interrupted => true,
+            SolverError::WitnessVariable => true,
+            SolverError::AssumedVariable => true,
+            SolverError::TooLate => true,
+            SolverError::NotInDrat => true,
+            SolverError::VariableLimit => true,
+            SolverError::Read => true,
+            SolverError::Malformed => true,
+            SolverError::OutOfRange => true,
+            SolverError::ProofProcessorError { .. } => false,
+            SolverError::ProofIoError { .. } => false,
+            SolverError::OutOfMemory => false,
+            SolverError::StoreFull => false,
+            SolverError::CounterEnd => false,
+            SolverError::HasFailed => false,
+        }
+    }
+}
+
+impl From<AllocError> for SolverError {
+    ghost use Rattle.std.specs.Prelude.{◌≡◌};
+    ghost use Rattle.sat_solver.specs.declared.error.SolverError.TheVariants.{OutOfMemory};
+
+    ghost from_gives = { λ _ e. e ≡ OutOfMemory };
+
+    fn from(_e: AllocError) -> SolverError {
+        SolverError::OutOfMemory
+    }
+}
+
+impl From<StoreError> for SolverError {
+    ghost use Rattle.std.specs.Prelude.{◌≡◌};
+    ghost use Rattle.sat_solver.specs.Recovery.{failure_of};
+
+    ghost from_gives = { λ s e. e ≡ failure_of s };
+
+    fn from(error: StoreError) -> SolverError {
+        match error {
+            StoreError::StoreFull => SolverError::StoreFull,
+            StoreError::OutOfMemory => SolverError::OutOfMemory,
+        }
+    }
+}

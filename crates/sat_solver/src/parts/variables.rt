@@ -1,0 +1,60 @@
+//! Variables that are given up and used again.
+ghost use Rattle.std.specs.Prelude.{ℕ, List, ◌≡◌, ◌<◌, None, length, [], true, false};
+ghost use Rattle.std.specs.List.{Contains};
+ghost use Rattle.sat_base.specs.values.Literals.{variable};
+ghost use Rattle.sat_store.specs.heap.Vsids.{may_pick, with_available};
+ghost use Rattle.sat_parts.specs.clause.Db.{live_refs};
+ghost use Rattle.sat_parts.specs.prop.State.{IsRemoved};
+ghost use Rattle.sat_parts.specs.prop.Values.{IsOpenLit, value_of};
+ghost use Rattle.sat_solver.specs.parts.Round.{IsUnused};
+ghost use Rattle.sat_solver.specs.parts.Whole.{state, Holds};
+ghost use Rattle.sat_solver.specs.parts.Frame.{SameClauses, SameState, Gains, Freed};
+ghost use Rattle.sat_solver.specs.parts.Words.{ExtendsFor};
+
+use crate::parts::Parts;
+use sat_base::{Lit, Var};
+
+/// Gives up a variable that no clause has, while nothing is on the trail.
+pub fn free_variable(parts: &mut Parts, var: Var)
+    requires holds { Holds parts.old }
+    requires bottom { parts.old.trail.starts ≡ [] }
+    requires empty { parts.old.trail.lits ≡ [] }
+    requires there { var < length parts.old.assignment.current }
+    requires unused { IsUnused parts.old.clauses (live_refs parts.old.clauses parts.old.db.refs) parts.old.binary.implied var }
+    ensures holds { Holds parts.new }
+    ensures open { value_of parts.new.assignment.current var ≡ None }
+    ensures freed { Freed parts.old parts.new var }
+    ensures word { (assumed : List ℕ) → (Contains assumed var → ⊥) → ExtendsFor assumed parts.old parts.new }
+{
+    parts.assignment.set_var(var, None);
+    parts.vsids.make_unavailable(var);
+}
+
+/// Lets a variable that was given up be picked again.
+pub fn use_variable(parts: &mut Parts, var: Var)
+    requires holds { Holds parts.old }
+    requires there { var < length parts.old.assignment.current }
+    ensures holds { Holds parts.new }
+    ensures same { SameClauses parts.old parts.new × SameState parts.old parts.new }
+    ensures queue { parts.new.vsids ≡ with_available var true parts.old.vsids }
+{
+    parts.vsids.make_available(var);
+}
+
+/// Gives a variable that was given up the value that makes a unit true, as it had when the unit was taken off the trail.
+pub fn restore_unit(parts: &mut Parts, lit: Lit)
+    requires holds { Holds parts.old }
+    requires bottom { parts.old.trail.starts ≡ [] }
+    requires there { variable lit < length parts.old.assignment.current }
+    requires open { IsOpenLit parts.old.assignment.current lit }
+    requires given_up { may_pick parts.old.vsids (variable lit) ≡ false }
+    ensures holds { Holds parts.new }
+    ensures same { SameClauses parts.old parts.new }
+    ensures gains { Gains lit (state parts.old) (state parts.new) }
+    ensures removed { IsRemoved (state parts.new) lit }
+    ensures queue { parts.new.vsids ≡ parts.old.vsids }
+    ensures trail { parts.new.trail ≡ parts.old.trail }
+{
+    parts.assignment.assign_lit(lit);
+    parts.graph.update_removed_unit(lit.var());
+}

@@ -1,0 +1,172 @@
+//! A clause is learned from a conflict: its step is written, and it comes to the others.
+ghost use Rattle.std.specs.Prelude.{ℕ, ◌≡◌, ◌<◌, ◌≤◌, length, map, true, false, OnOk, IfOk};
+ghost use Rattle.sat_store.specs.clause.Header.{is_learned};
+ghost use Rattle.sat_parts.specs.clause.Glue.{HaveNodes, HaveFlags, AreClear};
+ghost use Rattle.sat_parts.specs.prop.Causes.{falsified};
+ghost use Rattle.sat_solver.specs.session.LiveClauses.{with_var};
+ghost use Rattle.sat_solver.specs.session.ProofView.{Keeps, steps_of, session_of};
+ghost use Rattle.sat_solver.specs.analysis.Derivation.{Learns};
+ghost use Rattle.sat_solver.specs.parts.Round.{AreUnits, IsBased};
+ghost use Rattle.sat_solver.specs.parts.Learned.{IsLearned};
+ghost use Rattle.sat_solver.specs.parts.Whole.{state, Holds, HoldsBelow, IsRefuted};
+ghost use Rattle.sat_solver.specs.parts.Words.{Rises};
+ghost use Rattle.sat_solver.specs.joint.Laws.{named_hashes};
+ghost use Rattle.sat_solver.specs.joint.Fits.{FitsParts, FlagFits};
+ghost use Rattle.sat_solver.specs.joint.Learning.{TakesIn};
+ghost use Rattle.sat_solver.specs.search.Going.{Goes};
+ghost use Rattle.sat_solver.specs.search.Joint.{global_in, IsFree};
+ghost use Rattle.sat_solver.specs.search.Learning.{Learned};
+ghost use Rattle.sat_solver.specs.search.Turns.{IsStopped};
+ghost use Rattle.sat_solver.specs.parts.Frame.{KeepsTo};
+
+use crate::SolverError;
+use crate::analysis::learn_from_conflict;
+use crate::joint::naming::{map_lits, name_clauses};
+use crate::parts::Parts;
+use crate::parts::steps::{learn, undo};
+use crate::search::fault::proof_fault;
+use crate::search::work::Search;
+use crate::session::proof::Proof;
+use sat_base::{CountedWrite, Lit, ProofStep};
+use sat_parts::{Conflict, ImplGraph, compute_glue};
+use sat_store::{ClauseHeader, StoreError, Tier, TmpFlags};
+use std::alloc::AllocError;
+
+/// Puts the step of a learned clause together: its literals and the hashes of the clauses that it follows from, in proof variables.
+fn name_learned(search: &mut Search, _level: usize, conflict: &Conflict) -> Result<(), AllocError>
+    requires refuted { IsRefuted search.old.parts conflict.now }
+    requires names { length search.old.parts.assignment.current ≤ length search.old.globals.items }
+    requires learns { Learns search.old.parts.clauses (state search.old.parts) (falsified search.old.parts.clauses conflict.now) search.old.analysis _level }
+    ensures same { search.new ≡ record search.old { scratch = search.new.scratch } }
+    ensures clause { OnOk result (search.new.scratch.clause.items ≡ map (with_var (global_in search.old)) search.old.analysis.clause) }
+    ensures hashes { OnOk result (search.new.scratch.hashes.items ≡ named_hashes search.old.parts.clauses (state search.old.parts) search.old.analysis.used conflict.now) }
+{
+    map_lits(
+        &search.globals,
+        search.analysis.clause(),
+        &mut search.scratch.clause,
+    )?;
+    name_clauses(
+        &search.parts,
+        search.analysis.used(),
+        conflict,
+        &mut search.scratch.hashes,
+    )
+}
+
+/// Takes over what was learned from a conflict.
+fn take_in(
+    parts: &mut Parts,
+    header: ClauseHeader,
+    lits: &[Lit],
+    level: usize,
+) -> Result<(), StoreError>
+    requires holds { HoldsBelow (length parts.old.trail.starts) parts.old }
+    requires units { AreUnits (state parts.old) }
+    requires base { IsBased parts.old.trail }
+    requires live { header.deleted ≡ false }
+    requires learned { IsLearned (state parts.old) lits.now level }
+    ensures holds { OnOk result (Holds parts.new) }
+    ensures fits { OnOk result (TakesIn parts.old parts.new header lits.now) }
+    ensures rises { OnOk result (Rises parts.old parts.new) }
+    ensures size { OnOk result (length parts.new.assignment.current ≡ length parts.old.assignment.current) }
+    ensures keeps { OnOk result (KeepsTo level (state parts.old) (state parts.new)) }
+    ensures starts { OnOk result (length parts.new.trail.starts ≡ level) }
+{
+    undo(parts, level);
+    learn(parts, header, lits)
+}
+
+/// The tier of a learned clause of this glue.
+fn tier_of(glue: usize) -> Tier
+    ensures { is_learned result ≡ true }
+{
+    if glue <= 2 {
+        return Tier::Core;
+    }
+    if glue <= 6 { Tier::Mid } else { Tier::Local }
+}
+
+/// The header of a learned clause: its glue is the number of its levels, less one.
+fn assess(flags: &mut TmpFlags, graph: &ImplGraph, lits: &[Lit]) -> ClauseHeader
+    requires nodes { HaveNodes graph.now lits.now }
+    requires levels { HaveFlags graph.now flags.old.flags.items lits.now }
+    requires clear { AreClear flags.old.flags.items }
+    ensures live { result.deleted ≡ false }
+    ensures learned { is_learned result.tier ≡ true }
+    ensures clear { flags.new.flags.items ≡ flags.old.flags.items }
+{
+    let glue = compute_glue(flags, graph, lits).saturating_sub(1);
+    let mut header = ClauseHeader::new();
+    header.set_glue(glue);
+    header.set_tier(tier_of(glue));
+    header
+}
+
+/// Whether the step of a clause of this header says that it is redundant.
+fn says_redundant(header: &ClauseHeader, lits: &[Lit]) -> bool
+    ensures { FlagFits result header.now lits.now }
+{
+    if lits.len() < 3 {
+        return false;
+    }
+    header.redundant()
+}
+
+/// Analyses a conflict above level 0, and puts the step of what is learned together. Gives the level to go back to, and the header.
+fn analyze(search: &mut Search, conflict: &Conflict) -> Result<(usize, ClauseHeader), AllocError>
+    requires refuted { IsRefuted search.old.parts conflict.now }
+    requires above { 0 < length search.old.parts.trail.starts }
+    requires free { IsFree search.old }
+    ensures same { search.new ≡ record search.old { analysis = search.new.analysis; flags = search.new.flags; scratch = search.new.scratch } }
+    ensures free { OnOk result (IsFree search.new) }
+    ensures learns { IfOk result (λ r. Learns search.old.parts.clauses (state search.old.parts) (falsified search.old.parts.clauses conflict.now) search.new.analysis r.0) }
+    ensures header { IfOk result (λ r. (r.1.deleted ≡ false) × (is_learned r.1.tier ≡ true)) }
+    ensures clause { OnOk result (search.new.scratch.clause.items ≡ map (with_var (global_in search.old)) search.new.analysis.clause) }
+    ensures hashes { OnOk result (search.new.scratch.hashes.items ≡ named_hashes search.old.parts.clauses (state search.old.parts) search.new.analysis.used conflict.now) }
+{
+    let parts = &search.parts;
+    let level = learn_from_conflict(
+        &mut search.analysis,
+        &parts.clauses,
+        &parts.db,
+        &parts.watchlists,
+        &parts.binary,
+        &parts.assignment,
+        &parts.graph,
+        &parts.trail,
+        conflict,
+    )?;
+    let header = assess(
+        &mut search.flags,
+        &search.parts.graph,
+        search.analysis.clause(),
+    );
+    name_learned(search, level, conflict)?;
+    Ok((level, header))
+}
+
+/// Learns a clause from a conflict above level 0, writes its step, and takes it over.
+pub fn learn_from<W: CountedWrite + Drop>(
+    proof: &mut Proof<W>,
+    search: &mut Search,
+    conflict: &Conflict,
+) -> Result<(), SolverError>
+    requires keeps { Keeps proof.old }
+    requires stopped { IsStopped (session_of proof.old) search.old conflict.now }
+    requires above { 0 < length search.old.parts.trail.starts }
+    ensures { Goes W.seen result proof.old proof.new (λ _ steps. Learned (steps_of proof.old) steps (session_of proof.new) search.old search.new) }
+{
+    let (level, header) = analyze(search, conflict)?;
+    let step = ProofStep::AtClause {
+        redundant: says_redundant(&header, search.analysis.clause()),
+        clause: &search.scratch.clause,
+        propagation_hashes: &search.scratch.hashes,
+    };
+    if let Err(error) = proof.step(&step) {
+        return Err(proof_fault(error));
+    }
+    take_in(&mut search.parts, header, search.analysis.clause(), level)?;
+    search.assumptions.cut(level);
+    Ok(())
+}

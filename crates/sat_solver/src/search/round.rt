@@ -1,0 +1,97 @@
+//! A round of the search: up to a conflict and what is learned from it, or an answer.
+ghost use Rattle.std.specs.Prelude.{ℕ, ◌≡◌, ◌<◌, ◌≤◌, length, true};
+ghost use Rattle.sat_solver.specs.session.ProofView.{Keeps, steps_of, session_of};
+ghost use Rattle.sat_solver.specs.parts.Whole.{IsRefuted};
+ghost use Rattle.sat_solver.specs.joint.Naming.{global_of};
+ghost use Rattle.sat_solver.specs.joint.Fits.{FitsParts};
+ghost use Rattle.sat_solver.specs.search.Going.{Goes};
+ghost use Rattle.sat_solver.specs.search.Joint.{IsSearch};
+ghost use Rattle.sat_solver.specs.search.Turns.{IsStopped};
+ghost use Rattle.sat_solver.specs.search.Rounds.{RoundSays};
+
+use crate::SolverError;
+use crate::bound::search::Outcome;
+use crate::joint::naming::name_clauses;
+use crate::parts::Parts;
+use crate::search::advance::{Stop, find_stop};
+use crate::search::fault::proof_fault;
+use crate::search::learning::learn_from;
+use crate::search::units::write_units;
+use crate::search::work::{Scratch, Search};
+use crate::session::proof::Proof;
+use sat_base::{CountedWrite, ProofStep, Var};
+use sat_parts::Conflict;
+
+/// Writes the empty clause, which follows from a conflict at level 0.
+fn refute<W: CountedWrite + Drop>(
+    proof: &mut Proof<W>,
+    parts: &Parts,
+    globals: &[Var],
+    scratch: &mut Scratch,
+    conflict: &Conflict,
+) -> Result<(), SolverError>
+    requires keeps { Keeps proof.old }
+    requires refuted { IsRefuted parts.now conflict.now }
+    requires bottom { length parts.now.trail.starts ≡ 0 }
+    requires fits { FitsParts parts.now (session_of proof.old) (global_of globals.now) }
+    requires names { length parts.now.assignment.current ≤ length globals.now }
+    ensures { Goes W.seen result proof.old proof.new (λ _ _. (session_of proof.new).unsat ≡ true) }
+{
+    write_units(proof, parts, globals, &mut scratch.units)?;
+    if name_clauses(parts, &[], conflict, &mut scratch.hashes).is_err() {
+        return Err(SolverError::OutOfMemory);
+    }
+    let step = ProofStep::AtClause {
+        redundant: false,
+        clause: &[],
+        propagation_hashes: &scratch.hashes,
+    };
+    match proof.step(&step) {
+        Ok(()) => Ok(()),
+        Err(error) => Err(proof_fault(error)),
+    }
+}
+
+/// Learns from a conflict, or writes that no valuation is left.
+fn resolve<W: CountedWrite + Drop>(
+    proof: &mut Proof<W>,
+    search: &mut Search,
+    conflict: &Conflict,
+) -> Result<Outcome, SolverError>
+    requires keeps { Keeps proof.old }
+    requires stopped { IsStopped (session_of proof.old) search.old conflict.now }
+    ensures { Goes W.seen result proof.old proof.new (λ outcome steps. RoundSays outcome (steps_of proof.old) steps (session_of proof.new) search.old search.new) }
+{
+    if search.parts.trail.current_level() > 0 {
+        learn_from(proof, search, conflict)?;
+        return Ok(Outcome::Learned);
+    }
+    refute(
+        proof,
+        &search.parts,
+        &search.globals,
+        &mut search.scratch,
+        conflict,
+    )?;
+    Ok(Outcome::Unsat)
+}
+
+/// A round: up to a conflict and what is learned from it, or an answer.
+pub fn round<W: CountedWrite + Drop>(
+    proof: &mut Proof<W>,
+    search: &mut Search,
+) -> Result<Outcome, SolverError>
+    requires keeps { Keeps proof.old }
+    requires search { IsSearch (session_of proof.old) search.old }
+    ensures { Goes W.seen result proof.old proof.new (λ outcome steps. RoundSays outcome (steps_of proof.old) steps (session_of proof.new) search.old search.new) }
+{
+    let stop = find_stop(proof, search)?;
+    match stop {
+        Stop::Complete => Ok(Outcome::Model),
+        Stop::Failed(lit) => {
+            search.failed = lit;
+            Ok(Outcome::Failed)
+        }
+        Stop::Falsified(conflict) => resolve(proof, search, &conflict),
+    }
+}

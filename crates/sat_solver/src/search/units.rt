@@ -1,0 +1,71 @@
+//! Units of level 0 are written, and taken off the trail.
+ghost use Rattle.std.specs.Prelude.{ℕ, ◌≡◌, ◌+◌, ◌<◌, ◌≤◌, length};
+ghost use Rattle.sat_solver.specs.session.ProofView.{Keeps, session_of};
+ghost use Rattle.sat_solver.specs.parts.Round.{AreUnits, IsBased};
+ghost use Rattle.sat_solver.specs.parts.Whole.{state, HoldsBelow, IsDone};
+ghost use Rattle.sat_solver.specs.joint.Naming.{global_of};
+ghost use Rattle.sat_solver.specs.joint.Fits.{FitsParts};
+ghost use Rattle.sat_solver.specs.joint.Going.{IsOrderly};
+ghost use Rattle.sat_solver.specs.search.Going.{Goes};
+ghost use Rattle.sat_solver.specs.search.Left.{AllUnits, IsSettled};
+
+use crate::SolverError;
+use crate::joint::naming::collect_units;
+use crate::parts::Parts;
+use crate::parts::units::clear_units;
+use crate::search::fault::proof_fault;
+use crate::session::proof::Proof;
+use sat_base::{ClauseHash, CountedWrite, Lit, ProofStep, Var};
+
+/// Writes the units of the trail that have a clause as their reason.
+pub fn write_units<W: CountedWrite + Drop>(
+    proof: &mut Proof<W>,
+    parts: &Parts,
+    globals: &[Var],
+    units: &mut Vec<(Lit, ClauseHash)>,
+) -> Result<(), SolverError>
+    requires keeps { Keeps proof.old }
+    requires orderly { IsOrderly parts.now }
+    requires bottom { length parts.now.trail.starts ≡ 0 }
+    requires fits { FitsParts parts.now (session_of proof.old) (global_of globals.now) }
+    requires names { length parts.now.assignment.current ≤ length globals.now }
+    ensures { Goes W.seen result proof.old proof.new (λ _ _. AllUnits parts.now (session_of proof.new) (global_of globals.now)) }
+{
+    if collect_units(parts, globals, units).is_err() {
+        return Err(SolverError::OutOfMemory);
+    }
+    if units.is_empty() {
+        return Ok(());
+    }
+    match proof.step(&ProofStep::UnitClauses { units }) {
+        Ok(()) => Ok(()),
+        Err(error) => Err(proof_fault(error)),
+    }
+}
+
+/// Where all is of level 0, writes the units and takes them off the trail.
+pub fn settle<W: CountedWrite + Drop>(
+    proof: &mut Proof<W>,
+    parts: &mut Parts,
+    globals: &[Var],
+    units: &mut Vec<(Lit, ClauseHash)>,
+) -> Result<(), SolverError>
+    requires keeps { Keeps proof.old }
+    requires holds { HoldsBelow (length parts.old.trail.starts + 1) parts.old }
+    requires done { IsDone parts.old }
+    requires units { 0 < length parts.old.trail.starts → AreUnits (state parts.old) × IsBased parts.old.trail }
+    requires fits { FitsParts parts.old (session_of proof.old) (global_of globals.now) }
+    requires names { length parts.old.assignment.current ≤ length globals.now }
+    ensures { Goes W.seen result proof.old proof.new (λ _ _. IsSettled parts.old parts.new (session_of proof.new) (global_of globals.now)) }
+{
+    if parts.trail.current_level() > 0 {
+        return Ok(());
+    }
+    match write_units(proof, parts, globals, units) {
+        Err(error) => Err(error),
+        Ok(()) => {
+            clear_units(parts);
+            Ok(())
+        }
+    }
+}

@@ -1,0 +1,7 @@
+//! What ties a solver that writes a proof to the checker that reads it.
+pub mod feeding;
+pub mod history;
+pub mod laws;
+pub mod log;
+pub mod proof;
+pub mod writing;
