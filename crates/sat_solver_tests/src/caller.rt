@@ -1,0 +1,36 @@
+//! A caller of a proof, over a target that it is lent.
+ghost use Rattle.sat_base.specs.device.Device.{Puts};
+ghost use Rattle.sat_solver.specs.session.ProofView.{text_of};
+ghost use Rattle.sat_solver_tests.specs.Calling.{made, PutsOwned};
+
+use sat_base::{CountedWrite, ProofStep};
+use sat_solver::session::proof::{Proof, ProofError};
+
+/// Writes an ask for nothing, and the last step, into a target of its own, which comes back.
+fn write_owned<W: CountedWrite + Drop>(target: W) -> (Option<W>, Result<(), ProofError>)
+    ensures { PutsOwned W.seen result.1 target result.0 }
+{
+    let mut proof = Proof::new();
+    proof.open(target);
+    if let Err(error) = proof.step(&ProofStep::Assumptions { assumptions: &[] }) {
+        return (proof.take_target(), Err(error));
+    }
+    match proof.close() {
+        Ok(target) => (target, Ok(())),
+        Err(error) => (proof.take_target(), Err(error)),
+    }
+}
+
+/// The same, into a target that is lent.
+pub fn write_lent<C: CountedWrite>(target: &mut C) -> Result<(), ProofError>
+    ensures { Puts (text_of made) result (C.seen target.old) (C.seen target.new) }
+{
+    let (lent, result) = write_owned(target);
+    match lent {
+        Some(lent) => {
+            let _target: &mut C = lent;
+            result
+        }
+        None => result,
+    }
+}
