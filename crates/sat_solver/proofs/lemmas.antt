@@ -6,3 +6,4 @@ pub mod joint
 pub mod names
 pub mod bound
 pub mod search
+pub mod loading

@@ -6,5 +6,6 @@ pub mod joint
 pub mod names
 pub mod bound
 pub mod search
+pub mod loading
 pub mod Configs
 pub mod Recovery

@@ -1,6 +1,10 @@
+pub mod Failing
 pub mod Going
 pub mod Joint
 pub mod Learning
 pub mod Left
+pub mod Reducing
 pub mod Rounds
+pub mod Showing
+pub mod Solving
 pub mod Turns

@@ -7,6 +7,7 @@ pub mod bound;
 pub mod config;
 pub mod error;
 pub mod joint;
+pub mod loading;
 pub mod names;
 pub mod parts;
 pub mod progress;

@@ -1,7 +1,11 @@
 //! The search of a solver that writes a proof.
 pub mod advance;
+pub mod failing;
 pub mod fault;
 pub mod learning;
+pub mod reducing;
 pub mod round;
+pub mod showing;
+pub mod solving;
 pub mod units;
 pub mod work;

@@ -1,7 +1,11 @@
 pub mod AskedLemmas
+pub mod FailingLemmas
 pub mod GlueLemmas
 pub mod GoingLemmas
 pub mod LearningLemmas
 pub mod LeftLemmas
+pub mod ReducingLemmas
 pub mod RoundLemmas
+pub mod ShowingLemmas
+pub mod SolvingLemmas
 pub mod TurnLemmas

@@ -1,5 +1,5 @@
 //! What conflict analysis works on.
-ghost use Rattle.std.specs.Prelude.{ℕ, ◌≡◌, ◌<◌, ◌≤◌, ◌++◌, length, slice_index, slice_index_or, true, false, [], ◌∷◌, reverse, take, slice_set, OnOk};
+ghost use Rattle.std.specs.Prelude.{ℕ, ◌≡◌, ◌-◌, replicate, ◌<◌, ◌≤◌, ◌++◌, length, slice_index, slice_index_or, true, false, [], ◌∷◌, reverse, take, slice_set, OnOk};
 ghost use Rattle.std.specs.List.Sorted.{IsPermutation, IsNonDecreasingBy};
 ghost use Rattle.sat_base.specs.values.Literals.{variable};
 ghost use Rattle.sat_parts.specs.clause.Glue.{AreClear};
@@ -52,7 +52,15 @@ impl Analysis {
 
     /// Makes the variables those with an index below the count.
     pub fn set_var_count(&mut self, count: usize) -> Result<(), AllocError>
-        ensures { OnOk result (length self.new.flags ≡ count) }
+        ensures size { OnOk result (length self.new.flags ≡ count) }
+        ensures clear { OnOk result (AreClear self.old.flags → AreClear self.new.flags) }
+    {
+        self.resize_flags(count)
+    }
+
+    fn resize_flags(&mut self, count: usize) -> Result<(), AllocError>
+        ensures size { OnOk result (length self.new.flags ≡ count) }
+        ensures flags { OnOk result (self.new.flags ≡ take count self.old.flags ++ replicate (count - length self.old.flags) false) }
     {
         self.flags.resize(count, false)
     }

@@ -19,7 +19,7 @@ use Rattle.sat_solver.specs.search.Going.{is_searched, fault_of, IsFault, Went, 
 abbrev pub AreSearched : List Step → Type 0
 AreSearched = AllByRecursion (λ step. is_searched step ≡ true)
 
-searched_both : (ys xs : List Step) → AreSearched ys → AreSearched xs → AreSearched (ys ++ xs)
+pub searched_both : (ys xs : List Step) → AreSearched ys → AreSearched xs → AreSearched (ys ++ xs)
 searched_both [] xs h k = k
 searched_both (y ∷ ys) xs h k = (h.0, searched_both ys xs h.1 k)
 
@@ -31,6 +31,11 @@ module _ {W : Type 0} (seen : W → Writer) where
   -- no memory was left before anything was written
   pub goes_starved : {A : Type 0} (p : Proof W) (P : A → List Step → Type 0) → Keeps p → Goes seen (Err errors.OutOfMemory) p p P
   goes_starved p P keeps = record { steps = []; went = adds_none seen p; searched = tt; keeps = keeps; ends = tt }
+
+  -- the clause buffer refused before anything was written
+  pub goes_unstored : {A : Type 0} (s : StoreError) (p : Proof W) (P : A → List Step → Type 0) → Keeps p → Goes seen (Err (failure_of s)) p p P
+  goes_unstored stores.StoreFull p P keeps = record { steps = []; went = adds_none seen p; searched = tt; keeps = keeps; ends = tt }
+  goes_unstored stores.OutOfMemory p P keeps = record { steps = []; went = adds_none seen p; searched = tt; keeps = keeps; ends = tt }
 
   -- one step was written
   pub goes_step : {A : Type 0} (x : A) (p q : Proof W) (step : Step) (P : A → List Step → Type 0) → is_searched step ≡ true → Keeps q → Adds seen (step ∷ []) p q → P x (step ∷ []) → Goes seen (Ok x) p q P

@@ -1,0 +1,7 @@
+pub mod AlikeLemmas
+pub mod BottomLemmas
+pub mod GivenLemmas
+pub mod IndexLemmas
+pub mod LoadingLemmas
+pub mod ManyLemmas
+pub mod TakenLemmas

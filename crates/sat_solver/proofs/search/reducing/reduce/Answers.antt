@@ -1,0 +1,15 @@
+use Rattle.sat_solver.specs.session.ProofView.{session_of}
+use Rattle.sat_solver.proofs.lemmas.search.GoingLemmas.{goes_on}
+use Rattle.sat_solver.proofs.lemmas.search.ReducingLemmas.{reduced_trans}
+use Rattle.sat_solver.proofs.search.reducing.reduce.Goals as goal
+
+pub returns : goal.returns
+returns g c =
+    let s = session_of c.reduce_locals.new.proof in
+    goes_on g.W.CountedWrite.seen c.in_ok-reduce_locals.field-0 tt c.args.proof.now c.reduce_locals.new.proof _ _
+    (λ steps x.
+    let y = c.reduce_mids.ensures.reduced s x.search in
+    let z = c.in_ok-collect_deleted.ensures s y.search in
+    reduced_trans s s c.args.search.now c.reduce_locals.new.search c.collect_deleted.new.search x
+    (reduced_trans s s c.reduce_locals.new.search c.reduce_mids.new.search c.collect_deleted.new.search y z))
+    c.in_ok-reduce_locals.ensures

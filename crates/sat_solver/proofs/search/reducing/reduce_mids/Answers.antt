@@ -1,0 +1,9 @@
+use Rattle.std.proofs.Common.{refl}
+use Rattle.sat_solver.proofs.lemmas.search.ReducingLemmas.{reduced_refl, reduced_headed}
+use Rattle.sat_solver.proofs.search.reducing.reduce_mids.Goals as goal
+
+pub returns-then-not-is_due-clause-reduced : goal.returns-then-not-is_due-clause-reduced
+returns-then-not-is_due-clause-reduced c = λ s search. reduced_refl s c.args.search.now search
+
+pub returns-clause-reduced : goal.returns-clause-reduced
+returns-clause-reduced c = λ s search. reduced_headed s c.args.search.now _ search refl refl refl refl c.reduce_middle.ensures.holds c.reduce_middle.ensures.headed c.reduce_middle.ensures.word

@@ -1,0 +1,48 @@
+-- Which assumptions can't be true together, as a step tells it.
+use Rattle.std.specs.Prelude.{ℕ, ◌≡◌, ◌<◌, Bool, true, false, List, [], ◌∷◌, map, length, MatchResult, Result, slice_index_or as get_or}
+use Rattle.std.specs.List.{AllByRecursion, Contains}
+use Rattle.sat_base.specs.device.Device.{Writer}
+use Rattle.sat_base.specs.values.Hashes.{hash_of}
+use Rattle.sat_base.specs.steps.Steps.{Step, FailedAssumptions}
+use Rattle.sat_solver.specs.session.LiveClauses.{with_var}
+use Rattle.sat_solver.specs.session.ProofView.{Keeps, session_of}
+use Rattle.sat_solver.specs.session.Session.{Session}
+use Rattle.sat_solver.specs.declared.session.proof.Proof.{Proof}
+use Rattle.sat_solver.specs.analysis.Derivation.{clause_of}
+use Rattle.sat_solver.specs.declared.parts.Parts.{Parts}
+use Rattle.sat_solver.specs.parts.Whole.{state}
+use Rattle.sat_solver.specs.declared.error.SolverError.{SolverError}
+use Rattle.sat_solver.specs.declared.search.work.Search.{Search}
+use Rattle.sat_solver.specs.search.Going.{IsFault, Went}
+use Rattle.sat_solver.specs.search.Joint.{global_in, IsSearch, Moved}
+
+-- the hashes of the clauses by which these literals are true
+abbrev pub causes_hashes : Parts → List ℕ → List ℕ
+causes_hashes p used = map (λ l. hash_of (clause_of p.clauses (state p) l)) used
+
+-- does the step tell a core?
+abbrev pub is_core : Step → Bool
+is_core (FailedAssumptions core hashes) = true
+is_core step = false
+
+-- the assumption that failed comes first, and all are assumptions
+pub record AreFailed (assumed : List ℕ) (failed : ℕ) (core : List ℕ) : Type 0 where
+  pub some : 0 < length core
+  pub first : get_or core 0 0 ≡ failed
+  pub among : (k : ℕ) → k < length core → Contains assumed (get_or core k 0)
+
+-- a core was told by one step
+pub record ToldCore (steps : List Step) (s : Session) (c c' : Search) : Type 0 where
+  pub is : steps ≡ FailedAssumptions (map (with_var (global_in c)) c'.analysis.core) (causes_hashes c.parts c'.analysis.used) ∷ []
+  pub failed : AreFailed c.assumptions.lits.items c.failed c'.analysis.core
+  pub search : IsSearch s c'
+  pub moved : Moved c c'
+  pub same : c'.parts ≡ c.parts
+
+-- It made the step of a core, or failed.
+pub record TellsCore {W : Type 0} (seen : W → Writer) (result : Result (Unit {0}) SolverError) (old new : Proof W) (c c' : Search) : Type 0 where
+  pub steps : List Step
+  pub went : Went seen result steps old new
+  pub core : AllByRecursion (λ step. is_core step ≡ true) steps
+  pub keeps : Keeps new
+  pub ends : MatchResult result (λ _. ToldCore steps (session_of new) c c') IsFault

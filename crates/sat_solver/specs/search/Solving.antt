@@ -1,0 +1,71 @@
+-- What rounds come to, one after another.
+use Rattle.std.specs.Prelude.{ℕ, ◌≡◌, ◌+◌, ◌<◌, ◌⊎◌, true, List, [], ◌∷◌, ◌++◌, length, Err}
+use Rattle.std.specs.List.{AllByRecursion}
+use Rattle.sat_base.specs.device.Device.{Writer}
+use Rattle.sat_base.specs.steps.Steps.{Step, AtClause}
+use Rattle.sat_parts.specs.prop.TrailWord.{Letter}
+use Rattle.sat_solver.specs.session.ProofView.{Adds, Keeps, steps_of, session_of}
+use Rattle.sat_solver.specs.session.Session.{Session, session_after}
+use Rattle.sat_solver.specs.parts.Words.{Words}
+use Rattle.sat_solver.specs.joint.Advancing.{Advances}
+use Rattle.sat_solver.specs.declared.bound.search.Outcome.{Outcome}
+use Rattle.sat_solver.specs.declared.bound.search.Outcome.TheVariants as outcomes
+use Rattle.sat_solver.specs.declared.error.SolverError.{SolverError}
+use Rattle.sat_solver.specs.declared.search.solving.Core.{Core}
+use Rattle.sat_solver.specs.declared.search.work.Search.{Search}
+use Rattle.sat_solver.specs.search.Going.{is_searched, Goes}
+use Rattle.sat_solver.specs.search.Joint.{assumed_in, IsSearch, Moved}
+use Rattle.sat_solver.specs.search.Rounds.{RoundFails, RoundShows}
+
+-- the step is a derived clause that advances
+abbrev pub IsAdvancing : Session → Step → Type 0
+IsAdvancing s (AtClause redundant clause hashes) = Advances s clause
+IsAdvancing s step = ⊥
+
+-- at least so many of these steps are derived clauses that advance, each behind the steps before it
+abbrev pub AdvanceTimes : (earlier steps : List Step) → ℕ → Type 0
+AdvanceTimes earlier [] k = k ≡ 0
+AdvanceTimes earlier (step ∷ steps) k = AdvanceTimes earlier steps k ⊎ ((j : ℕ) × (k ≡ j + 1) × IsAdvancing (session_after (steps ++ earlier)) step × AdvanceTimes earlier steps j)
+
+-- what holds between rounds
+pub record IsCore {W : Type 0} (c : Core W) : Type 0 where
+  pub keeps : Keeps c.proof
+  pub search : IsSearch (session_of c.proof) c.search
+  pub locals : 0 < c.config.reduce_locals_interval
+  pub mids : 0 < c.config.reduce_mids_interval
+
+-- the words of the trail since the ask began
+abbrev pub words_in : {W : Type 0} → Core W → List Letter → Type 0
+words_in c w = Words (assumed_in c.search) c.search.parts w
+
+-- the number of variables
+abbrev pub values_in : {W : Type 0} → Core W → ℕ
+values_in c = length c.search.parts.assignment.current
+
+-- it came there by so many rounds that ended in a conflict: from each of them comes a step that advances
+pub record Gone {W : Type 0} (seen : W → Writer) (a : Core W) (k : ℕ) (b : Core W) : Type 0 where
+  pub steps : List Step
+  pub adds : Adds seen steps a.proof b.proof
+  pub searched : AllByRecursion (λ step. is_searched step ≡ true) steps
+  pub moved : Moved a.search b.search
+  pub config : b.config ≡ a.config
+  pub times : AdvanceTimes (steps_of a.proof) steps k
+
+abbrev pub EndSays : Outcome → Session → Search → Search → Type 0
+EndSays outcomes.Learned s c c' = ⊥
+EndSays outcomes.Model s c c' = RoundShows s c c'
+EndSays outcomes.Unsat s c c' = s.unsat ≡ true
+EndSays outcomes.Failed s c c' = RoundFails s c c'
+
+-- it came to this answer
+pub record Ended {W : Type 0} (seen : W → Writer) (a : Core W) (outcome : Outcome) (b : Core W) : Type 0 where
+  pub steps : List Step
+  pub adds : Adds seen steps a.proof b.proof
+  pub searched : AllByRecursion (λ step. is_searched step ≡ true) steps
+  pub keeps : Keeps b.proof
+  pub config : b.config ≡ a.config
+  pub says : EndSays outcome (session_of b.proof) a.search b.search
+
+-- it came to this fault
+abbrev pub Broke : {W : Type 0} → (W → Writer) → Core W → SolverError → Core W → Type 0
+Broke seen a e b = Goes {A = Unit {0}} seen (Err e) a.proof b.proof (λ _ _. ⊥)

@@ -1,0 +1,8 @@
+//! Clauses that are added, variables and assumptions come to a search.
+pub mod assuming;
+pub mod bottom;
+pub mod clause;
+pub mod indices;
+pub mod many;
+pub mod ready;
+pub mod writing;

@@ -1,0 +1,95 @@
+//! A clause comes to a search.
+ghost use Rattle.std.specs.Prelude.{ℕ, ◌≡◌, ◌<◌, ◌∷◌, length, map, slice_index_or, true};
+ghost use Rattle.sat_base.specs.values.Literals.{variable};
+ghost use Rattle.sat_base.specs.steps.Steps.{DeleteClause, Satisfied};
+ghost use Rattle.sat_solver.specs.session.Session.{May};
+ghost use Rattle.sat_solver.specs.session.LiveClauses.{with_var};
+ghost use Rattle.sat_solver.specs.session.ProofView.{Keeps, steps_of, session_of};
+ghost use Rattle.sat_solver.specs.joint.Naming.{global_of};
+ghost use Rattle.sat_solver.specs.search.Going.{Goes};
+ghost use Rattle.sat_solver.specs.search.Joint.{global_in};
+ghost use Rattle.sat_solver.specs.loading.Loaded.{MayLoad, IsAdded, IsLoaded};
+
+use crate::SolverError;
+use crate::joint::naming::map_lits;
+use crate::loading::bottom::back_to_bottom;
+use crate::loading::ready::make_ready;
+use crate::parts::load::{Loaded, load};
+use crate::parts::sorting::Sorting;
+use crate::search::fault::proof_fault;
+use crate::search::work::Search;
+use crate::session::proof::Proof;
+use sat_base::{CountedWrite, DeleteClauseProof, Lit, ProofStep, Var};
+
+/// Deletes a clause that has a true literal.
+fn delete_satisfied<W: CountedWrite + Drop>(
+    proof: &mut Proof<W>,
+    globals: &[Var],
+    lits: &[Lit],
+    clause: &mut Vec<Lit>,
+) -> Result<(), SolverError>
+    requires keeps { Keeps proof.old }
+    requires names { (k : ℕ) → k < length lits.now → variable (slice_index_or lits.now k 0) < length globals.now }
+    requires may { May (session_of proof.old) (DeleteClause (map (with_var (global_of globals.now)) lits.now) Satisfied) }
+    ensures { Goes W.seen result proof.old proof.new (λ _ _. steps_of proof.new ≡ DeleteClause (map (with_var (global_of globals.now)) lits.now) Satisfied ∷ steps_of proof.old) }
+{
+    if map_lits(globals, lits, clause).is_err() {
+        return Err(SolverError::OutOfMemory);
+    }
+    let step = ProofStep::DeleteClause {
+        clause,
+        proof: DeleteClauseProof::Satisfied,
+    };
+    match proof.step(&step) {
+        Ok(()) => Ok(()),
+        Err(error) => Err(proof_fault(error)),
+    }
+}
+
+/// Deletes a clause that has a true literal, and answers that a valuation may be left.
+fn delete_true<W: CountedWrite + Drop>(
+    proof: &mut Proof<W>,
+    search: &mut Search,
+    lits: &[Lit],
+) -> Result<bool, SolverError>
+    requires keeps { Keeps proof.old }
+    requires names { (k : ℕ) → k < length lits.now → variable (slice_index_or lits.now k 0) < length search.old.globals.items }
+    requires may { May (session_of proof.old) (DeleteClause (map (with_var (global_in search.old)) lits.now) Satisfied) }
+    ensures same { search.new ≡ record search.old { scratch = search.new.scratch } }
+    ensures deletes { Goes W.seen result proof.old proof.new (λ left _. (left ≡ true) × (steps_of proof.new ≡ DeleteClause (map (with_var (global_in search.old)) lits.now) Satisfied ∷ steps_of proof.old)) }
+{
+    let clause = &mut search.scratch.clause;
+    match delete_satisfied(proof, &search.globals, lits, clause) {
+        Ok(()) => Ok(true),
+        Err(error) => Err(error),
+    }
+}
+
+/// Loads a clause, at level 0, that the last step added. One with a true literal and another one is deleted at once. Answers
+/// whether a valuation may be left: for a clause without literals, or whose one literal is false, it's not, and unsat is recorded.
+pub fn load_clause<W: CountedWrite + Drop>(
+    proof: &mut Proof<W>,
+    search: &mut Search,
+    lits: &[Lit],
+    sorting: &mut Sorting,
+) -> Result<bool, SolverError>
+    requires keeps { Keeps proof.old }
+    requires added { IsAdded (steps_of proof.old) search.old lits.now }
+    requires may { MayLoad search.old lits.now }
+    ensures { Goes W.seen result proof.old proof.new (λ left _. IsLoaded left (session_of proof.new) search.old search.new) }
+{
+    make_ready(&mut search.parts, lits);
+    let loaded = load(&mut search.parts, lits, sorting)?;
+    back_to_bottom(search);
+    match loaded {
+        Loaded::Stored => Ok(true),
+        Loaded::Unit => Ok(true),
+        Loaded::Falsified => Ok(false),
+        Loaded::Satisfied => {
+            if sorting.lits.len() < 2 {
+                return Ok(true);
+            }
+            delete_true(proof, search, &sorting.lits)
+        }
+    }
+}

@@ -1,0 +1,28 @@
+//! Variables that may be picked.
+ghost use Rattle.std.specs.Prelude.{ℕ, ◌≡◌, ◌<◌, None, true, length, slice_index_or};
+ghost use Rattle.sat_base.specs.values.Literals.{variable};
+ghost use Rattle.sat_store.specs.heap.Vsids.{may_pick};
+ghost use Rattle.sat_parts.specs.prop.Values.{value_of};
+ghost use Rattle.sat_solver.specs.parts.Whole.{Holds};
+ghost use Rattle.sat_solver.specs.parts.Frame.{SameClauses, SameState};
+
+use crate::parts::Parts;
+use crate::parts::variables::use_variable;
+use sat_base::Lit;
+
+/// Lets the variables of these literals be picked, where they have no value.
+pub fn make_ready(parts: &mut Parts, lits: &[Lit])
+    requires holds { Holds parts.old }
+    requires there { (k : ℕ) → k < length lits.now → variable (slice_index_or lits.now k 0) < length parts.old.assignment.current }
+    ensures holds { Holds parts.new }
+    ensures same { SameClauses parts.old parts.new × SameState parts.old parts.new }
+    ensures ready { (k : ℕ) → k < length lits.now → value_of parts.old.assignment.current (variable (slice_index_or lits.now k 0)) ≡ None →
+        may_pick parts.new.vsids (variable (slice_index_or lits.now k 0)) ≡ true }
+{
+    for at in 0..lits.len() {
+        let var = lits[at].var();
+        if parts.assignment.var_value(var).is_none() {
+            use_variable(parts, var);
+        }
+    }
+}

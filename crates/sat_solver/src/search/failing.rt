@@ -1,0 +1,87 @@
+//! Which assumptions can't be true together is told by a step.
+ghost use Rattle.std.specs.Prelude.{◌≡◌, ◌≤◌, map, length, OnOk};
+ghost use Rattle.sat_solver.specs.session.LiveClauses.{with_var};
+ghost use Rattle.sat_solver.specs.session.ProofView.{Keeps, session_of};
+ghost use Rattle.sat_solver.specs.analysis.Failing.{Fails};
+ghost use Rattle.sat_solver.specs.parts.Assumed.{AreThere};
+ghost use Rattle.sat_solver.specs.parts.Whole.{state, Holds};
+ghost use Rattle.sat_solver.specs.search.Failing.{causes_hashes, TellsCore};
+ghost use Rattle.sat_solver.specs.search.Joint.{global_in, IsFree, IsSearch};
+ghost use Rattle.sat_solver.specs.search.Turns.{IsFailing};
+
+use crate::SolverError;
+use crate::analysis::analyze_assumption;
+use crate::joint::naming::{map_lits, name_reasons};
+use crate::search::fault::proof_fault;
+use crate::search::work::Search;
+use crate::session::proof::Proof;
+use sat_base::{CountedWrite, ProofStep};
+use std::alloc::AllocError;
+
+/// Puts the step of a core together: its literals and the hashes of the clauses that it follows from, in proof variables.
+fn name_core(search: &mut Search) -> Result<(), AllocError>
+    requires holds { Holds search.old.parts }
+    requires names { length search.old.parts.assignment.current ≤ length search.old.globals.items }
+    requires there { AreThere search.old.assumptions.lits.items search.old.parts }
+    requires failing { IsFailing search.old.assumptions.lits.items search.old.parts search.old.failed }
+    requires fails { Fails search.old.parts.clauses (state search.old.parts) search.old.failed search.old.analysis.core search.old.analysis.used }
+    ensures same { search.new ≡ record search.old { scratch = search.new.scratch } }
+    ensures clause { OnOk result (search.new.scratch.clause.items ≡ map (with_var (global_in search.old)) search.old.analysis.core) }
+    ensures hashes { OnOk result (search.new.scratch.hashes.items ≡ causes_hashes search.old.parts search.old.analysis.used) }
+{
+    map_lits(
+        &search.globals,
+        search.analysis.core(),
+        &mut search.scratch.clause,
+    )?;
+    name_reasons(
+        &search.parts,
+        search.analysis.used(),
+        &mut search.scratch.hashes,
+    )
+}
+
+/// Finds the assumptions that can't be true together with the failed one, and puts their step together.
+fn find_core(search: &mut Search) -> Result<(), AllocError>
+    requires holds { Holds search.old.parts }
+    requires free { IsFree search.old }
+    requires there { AreThere search.old.assumptions.lits.items search.old.parts }
+    requires failing { IsFailing search.old.assumptions.lits.items search.old.parts search.old.failed }
+    ensures same { search.new ≡ record search.old { analysis = search.new.analysis; scratch = search.new.scratch } }
+    ensures free { OnOk result (IsFree search.new) }
+    ensures fails { OnOk result (Fails search.old.parts.clauses (state search.old.parts) search.old.failed search.new.analysis.core search.new.analysis.used) }
+    ensures clause { OnOk result (search.new.scratch.clause.items ≡ map (with_var (global_in search.old)) search.new.analysis.core) }
+    ensures hashes { OnOk result (search.new.scratch.hashes.items ≡ causes_hashes search.old.parts search.new.analysis.used) }
+{
+    let parts = &search.parts;
+    analyze_assumption(
+        &mut search.analysis,
+        &parts.clauses,
+        &parts.assignment,
+        &parts.graph,
+        &parts.trail,
+        search.failed,
+    )?;
+    name_core(search)
+}
+
+/// Writes the step of the assumptions that can't be true together, of which one failed. They stand in the analysis behind it.
+pub fn tell_core<W: CountedWrite + Drop>(
+    proof: &mut Proof<W>,
+    search: &mut Search,
+) -> Result<(), SolverError>
+    requires keeps { Keeps proof.old }
+    requires search { IsSearch (session_of proof.old) search.old }
+    requires failing { IsFailing search.old.assumptions.lits.items search.old.parts search.old.failed }
+    ensures { TellsCore W.seen result proof.old proof.new search.old search.new }
+{
+    find_core(search)?;
+    let step = ProofStep::FailedAssumptions {
+        failed_core: &search.scratch.clause,
+        propagation_hashes: &search.scratch.hashes,
+    };
+    match proof.step(&step) {
+        Ok(()) => Ok(()),
+        Err(error) => Err(proof_fault(error)),
+    }
+}

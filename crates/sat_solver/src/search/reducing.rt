@@ -1,0 +1,142 @@
+//! Learned clauses that are used least are deleted, and the room of deleted clauses is taken back.
+ghost use Rattle.std.specs.Prelude.{ℕ, ◌≡◌, ◌<◌, OnOk, length, map, slice_index_or};
+ghost use Rattle.sat_base.specs.values.Literals.{variable};
+ghost use Rattle.sat_store.specs.clause.Buffer.{IsClause, lits_at};
+ghost use Rattle.sat_solver.specs.session.LiveClauses.{with_var};
+ghost use Rattle.sat_solver.specs.session.ProofView.{Keeps, session_of};
+ghost use Rattle.sat_solver.specs.session.Session.{Session};
+ghost use Rattle.sat_solver.specs.parts.Whole.{Holds};
+ghost use Rattle.sat_solver.specs.joint.Naming.{global_of};
+ghost use Rattle.sat_solver.specs.search.Going.{Goes};
+ghost use Rattle.sat_solver.specs.search.Joint.{IsSearch};
+ghost use Rattle.sat_solver.specs.search.Reducing.{IsLearnt, Deleted, Reduced};
+
+use crate::parts::Parts;
+use crate::parts::clauses::{collect, drop_clause, reduce_middle};
+use crate::parts::reduce::list_locals;
+use crate::search::fault::proof_fault;
+use crate::search::work::Search;
+use crate::session::proof::Proof;
+use crate::{SolverConfig, SolverError};
+use sat_base::{CountedWrite, DeleteClauseProof, Lit, ProofStep, Var};
+use sat_store::{ClauseRef, StoreError};
+use std::alloc::AllocError;
+
+/// Puts the literals of a long clause, in proof variables, into a list in place of what it had.
+fn map_clause(
+    parts: &Parts,
+    globals: &[Var],
+    cref: ClauseRef,
+    clause: &mut Vec<Lit>,
+) -> Result<(), AllocError>
+    requires clause { IsClause parts.now.clauses cref }
+    requires names { (k : ℕ) → k < length (lits_at parts.now.clauses cref) → variable (slice_index_or (lits_at parts.now.clauses cref) k 0) < length globals.now }
+    ensures { OnOk result (clause.new.items ≡ map (with_var (global_of globals.now)) (lits_at parts.now.clauses cref)) }
+{
+    let lits = parts.clauses.clause(cref).lits();
+    clause.clear();
+    for at in 0..lits.len() {
+        let lit = lits.get(at);
+        let var = globals[lit.index()];
+        clause.push(Lit::from_var(var, lit.is_positive()))?;
+    }
+    Ok(())
+}
+
+/// Deletes a learned clause that no value depends on, and writes its step. Answers whether it did.
+fn delete_learned<W: CountedWrite + Drop>(
+    proof: &mut Proof<W>,
+    search: &mut Search,
+    cref: ClauseRef,
+) -> Result<bool, SolverError>
+    requires keeps { Keeps proof.old }
+    requires search { IsSearch (session_of proof.old) search.old }
+    requires learned { IsLearnt search.old.parts cref }
+    ensures { Goes W.seen result proof.old proof.new (λ _ _. Deleted cref (session_of proof.new) search.old search.new) }
+{
+    map_clause(
+        &search.parts,
+        &search.globals,
+        cref,
+        &mut search.scratch.clause,
+    )?;
+    if !drop_clause(&mut search.parts, cref) {
+        return Ok(false);
+    }
+    let step = ProofStep::DeleteClause {
+        clause: &search.scratch.clause,
+        proof: DeleteClauseProof::Redundant,
+    };
+    match proof.step(&step) {
+        Ok(()) => Ok(true),
+        Err(error) => Err(proof_fault(error)),
+    }
+}
+
+/// Deletes half of the clauses of tier Local where that is due: those that were used least, without those that values depend on.
+fn reduce_locals<W: CountedWrite + Drop>(
+    proof: &mut Proof<W>,
+    search: &mut Search,
+    is_due: bool,
+) -> Result<(), SolverError>
+    requires keeps { Keeps proof.old }
+    requires search { IsSearch (session_of proof.old) search.old }
+    ensures { Goes W.seen result proof.old proof.new (λ _ _. Reduced (session_of proof.new) search.old search.new) }
+{
+    if !is_due {
+        return Ok(());
+    }
+    let mut list = Vec::new(search.alloc);
+    list_locals(search.alloc, &search.parts, &mut list)?;
+    let mut left = list.len() / 2;
+    for at in 0..list.len() {
+        if left == 0 {
+            return Ok(());
+        }
+        if delete_learned(proof, search, list[at])? {
+            left -= 1;
+        }
+    }
+    Ok(())
+}
+
+/// Moves unused clauses of tier Mid to Local where that is due.
+fn reduce_mids(search: &mut Search, is_due: bool)
+    requires holds { Holds search.old.parts }
+    ensures holds { Holds search.new.parts }
+    ensures reduced { (s : Session) → IsSearch s search.old → Reduced s search.old search.new }
+{
+    if !is_due {
+        return;
+    }
+    reduce_middle(&mut search.parts);
+}
+
+/// Collects deleted clauses.
+fn collect_deleted(search: &mut Search) -> Result<(), StoreError>
+    requires holds { Holds search.old.parts }
+    ensures { OnOk result ((s : Session) → IsSearch s search.old → Reduced s search.old search.new) }
+{
+    collect(search.alloc, &mut search.parts)
+}
+
+/// Reduces the learned clauses where that is due before this round: first those of tier Local, then those of tier Mid. Then it
+/// collects deleted clauses.
+pub fn reduce<W: CountedWrite + Drop>(
+    proof: &mut Proof<W>,
+    search: &mut Search,
+    config: &SolverConfig,
+    round: u64,
+) -> Result<(), SolverError>
+    requires keeps { Keeps proof.old }
+    requires search { IsSearch (session_of proof.old) search.old }
+    requires locals { 0 < config.now.reduce_locals_interval }
+    requires mids { 0 < config.now.reduce_mids_interval }
+    ensures { Goes W.seen result proof.old proof.new (λ _ _. Reduced (session_of proof.new) search.old search.new) }
+{
+    let are_locals_due = round % config.reduce_locals_interval == 0;
+    reduce_locals(proof, search, are_locals_due)?;
+    reduce_mids(search, round % config.reduce_mids_interval == 0);
+    collect_deleted(search)?;
+    Ok(())
+}

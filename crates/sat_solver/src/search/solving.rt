@@ -1,0 +1,73 @@
+//! Rounds up to an answer.
+ghost use Rattle.std.specs.Prelude.{ℕ, ◌≡◌, ◌+◌, ◌-◌, ◌*◌, ◌^◌, ◌<◌, ◌≤◌, min, IfOk, IfErr, MatchOption, None};
+ghost use Rattle.sat_solver.specs.search.Solving.{IsCore, words_in, values_in, Gone, Ended, Broke};
+
+use crate::bound::restarts::Restarts;
+use crate::bound::search::{Outcome, Rounds, search};
+use crate::parts::assumptions::restart;
+use crate::search::reducing::reduce;
+use crate::search::round::round;
+use crate::search::work::Search;
+use crate::session::proof::Proof;
+use crate::{SolverConfig, SolverError};
+use sat_base::CountedWrite;
+
+/// What a solver works with.
+#[derive(Drop)]
+pub struct Core<W: CountedWrite + Drop> {
+    pub proof: Proof<W>,
+    pub search: Search,
+    pub config: SolverConfig,
+}
+
+impl<W: CountedWrite + Drop> Rounds for Core<W> {
+    ghost use Rattle.sat_solver.specs.search.Solving.{IsCore, words_in, values_in, Gone, Ended, Broke};
+
+    type Fault = SolverError;
+
+    ghost sound = { IsCore };
+
+    ghost words = { words_in };
+
+    ghost most = { values_in };
+
+    ghost goes = { Gone W.seen };
+
+    ghost ends = { Ended W.seen };
+
+    ghost fails = { Broke W.seen };
+
+    fn restart(&mut self) {
+        restart(&mut self.search.parts, &self.search.assumptions);
+    }
+
+    fn reduce(&mut self, number: u64) -> Result<(), SolverError> {
+        reduce(&mut self.proof, &mut self.search, &self.config, number)
+    }
+
+    fn round(&mut self) -> Result<Outcome, SolverError> {
+        round(&mut self.proof, &mut self.search)
+    }
+}
+
+/// Rounds up to an answer, at most so many. None where there is no answer by then.
+#[tactic(auto, using(crate::proofs::lemmas::search::SolvingLemmas::core_word))]
+pub fn solve<W: CountedWrite + Drop>(
+    core: &mut Core<W>,
+    restarts: &mut Restarts,
+    steps: &mut u64,
+    max_steps: u64,
+) -> Result<Option<Outcome>, SolverError>
+    requires core { IsCore core.old }
+    requires scale { 0 < restarts.old.scale }
+    ensures scale { restarts.new.scale ≡ restarts.old.scale }
+    ensures counted { steps.old ≤ steps.new }
+    ensures few { steps.new < steps.old + 2 ^ (2 * values_in core.old + 3) }
+    ensures interrupted { IfOk result (λ r. r ≡ None → steps.new ≡ min (steps.old + max_steps) (2 ^ 64 - 1)) }
+    ensures answered { (n : ℕ) → values_in core.old ≤ n → 2 ^ (2 * n + 3) ≤ min max_steps (2 ^ 64 - 1 - steps.old) → IfOk result (λ r. r ≡ None → ⊥) }
+    ensures goes { IfOk result (λ r. r ≡ None → IsCore core.new × Gone W.seen core.old (steps.new - steps.old) core.new) }
+    ensures ends { IfOk result (λ r. MatchOption r (Unit {0}) (λ o. Ended W.seen core.old o core.new)) }
+    ensures fails { IfErr result (λ e. Broke W.seen core.old e core.new) }
+{
+    search(core, restarts, steps, max_steps)
+}
