@@ -54,7 +54,7 @@ module _ {W P T : Type 0} (seen : W → Writer) (Takes : P → Told → Result U
         (k.0, k.1, steps, h.fails.stands.kernel.accepted, broken_all (outlet seen begun.own).sink (outlet seen new.listeners.own).sink steps k.2)
     | inr h ↦
         let k = since_broken seen Takes Reads f _ begun new.listeners well none h.1.heard in
-        (k.0, k.1, step ∷ steps, (h.1.fails.stands.kernel.accepted, h.0), broken_told (outlet seen begun.own).sink (outlet seen new.listeners.own).sink (step ∷ steps) k.2)
+        (k.0, k.1, step ∷ steps, h.1.fails.stands.kernel.accepted, broken_told (outlet seen begun.own).sink (outlet seen new.listeners.own).sink (step ∷ steps) k.2)
   ]
 
   no_memory : {A : Type 0} (new : Checker) → BrokenBy faults.OutOfMemory new → A
