@@ -128,6 +128,7 @@ impl Checking {
         ensures given { GaveEnough (R.seen text.old) (R.seen text.new) (Says result) }
         ensures kept { IsErrOf result HintFault.Read ⊎ ((R.seen text.new).failures ≡ (R.seen text.old).failures) }
         ensures read { IsErrOf result HintFault.Read → ReadFails (R.seen text.old) (R.seen text.new) }
+        ensures some { IsErrOf result HintFault.OutOfMemory → length (R.seen text.old).given < length (R.seen text.new).given }
         ensures reads { (R.seen text.new).calls ≤ (R.seen text.old).calls + most_reads }
     {
         let mut piece = [0; PIECE];
@@ -152,6 +153,8 @@ pub fn check<R: CountedRead>(alloc: Global, text: &mut R) -> Result<HintVerdict,
     // A read has failed only where the answer is that, and none is tried again.
     ensures kept { IsErrOf result HintFault.Read ⊎ ((R.seen text.new).failures ≡ (R.seen text.old).failures) }
     ensures read { IsErrOf result HintFault.Read → ReadFails (R.seen text.old) (R.seen text.new) }
+    // Memory is asked for by bytes alone.
+    ensures some { IsErrOf result HintFault.OutOfMemory → length (R.seen text.old).given < length (R.seen text.new).given }
     ensures reads { (R.seen text.new).calls ≤ (R.seen text.old).calls + most_reads }
 {
     let mut checking = Checking::new(alloc);
