@@ -1,5 +1,5 @@
 -- What an answer to a certificate means that is turned into a hint text.
-use Rattle.std.specs.Prelude.{ℕ, ◌≡◌, ◌≢◌, true, false, List, [], ◌∷◌, ◌++◌, Result, Ok, Err}
+use Rattle.std.specs.Prelude.{ℕ, ◌≡◌, ◌≢◌, ◌⊎◌, true, false, List, [], ◌∷◌, ◌++◌, Result, Ok, Err}
 use Rattle.std.specs.List.{AllByRecursion}
 use Rattle.sat_base.specs.device.Device.{Reader, Writer, IsOver, ReadFails, Takes, Breaks}
 use Rattle.sat_base.specs.steps.Formats.{Live, Spoilt}
@@ -27,6 +27,14 @@ pub record TookFront (old new : Writer) (text : List ℕ) : Type 0 where
   pub behind : List ℕ
   pub whole : text ≡ front ++ behind
   pub takes : Takes old new front
+
+-- a write failed, the last, of the lines of accepted steps, or of theirs and those of the step behind them, which is accepted, too
+abbrev pub BreaksBehind : Writer → Writer → Step → List Step → Type 0
+BreaksBehind old new step steps = Breaks old new (hint_text steps) ⊎ (Accepts (ready_after steps) step × Breaks old new (hint_text (step ∷ steps)))
+
+-- the steps that passed are all that were read, or one more was
+abbrev pub GaveUpTo : Reader → Reader → List Step → List ℕ → Type 0
+GaveUpTo from to passed rest = Gave from to passed [] rest ⊎ ((step : Step) × Gave from to passed (step ∷ []) rest)
 
 -- the certificate was read and accepted to its end
 pub record IsAccepted (from to : Reader) (passed : List Step) (rest : List ℕ) : Type 0 where
@@ -62,7 +70,9 @@ Converts (Err (Refused e)) from to old new = (passed : List Step) × NoneFailed 
 -- exactly one read failed, the last, or so many were made and none did,
 Converts (Err Read) from to old new = (passed : List Step) × (rest : List ℕ) × ReadFails from to × Gave from to passed [] rest × Live SpellsStep rest
     × TookFront old new (hint_text (taken_after passed []))
--- a write of the lines of accepted steps failed, the last,
-Converts (Err Write) from to old new = (steps : List Step) × NoneFailed from to × AcceptsAll steps × Breaks old new (hint_text steps)
--- or memory was refused
-Converts (Err OutOfMemory) from to old new = (steps : List Step) × NoneFailed from to × AcceptsAll steps × TookFront old new (hint_text steps)
+-- a write of the lines failed, the last, as the last step read was checked or told,
+Converts (Err Write) from to old new = (passed : List Step) × (step : Step) × (rest : List ℕ) × NoneFailed from to × Gave from to passed (step ∷ []) rest
+    × BreaksBehind old new step (taken_after passed [])
+-- or memory was refused, as a step was read, checked or told
+Converts (Err OutOfMemory) from to old new = (passed : List Step) × (rest : List ℕ) × NoneFailed from to × GaveUpTo from to passed rest
+    × TookFront old new (hint_text (taken_after passed []))

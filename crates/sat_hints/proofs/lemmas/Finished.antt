@@ -1,19 +1,19 @@
 -- Where nothing waited before, and what waits is written out at the end.
-use Rattle.std.proofs.Common.{ℕ, ◌≡◌, Bool, true, false, List, [], ◌∷◌, ◌++◌, Result, Ok, Err, sym, ◌∙◌, ap, subst, append_assoc, append-nil}
+use Rattle.std.proofs.Common.{ℕ, ◌≡◌, Bool, true, false, List, [], ◌∷◌, ◌++◌, Result, Ok, Err, sym, ◌∙◌, ap, subst, append_assoc, append-nil, inl, inr}
 use Rattle.std.specs.Borrow.{MutBor}
 use Rattle.sat_base.specs.device.Device.{Reader, Writer, Breaks, lent_writer}
 use Rattle.sat_base.specs.device.Sink.{Sent, Broken}
-use Rattle.sat_base.specs.steps.Steps.{End}
+use Rattle.sat_base.specs.steps.Steps.{Step, End}
 use Rattle.sat_base.proofs.lemmas.device.Sending.{sent_more, sends_breaks, all_out}
 use Rattle.sat_base.proofs.lemmas.device.Writes.{lent_puts}
 use Rattle.sat_checker.specs.ProofView.{taken_after}
 use Rattle.sat_hints.specs.Conversion.{hint_text}
-use Rattle.sat_hints.specs.Converts.{TookFront, Converts}
+use Rattle.sat_hints.specs.Converts.{BreaksBehind, TookFront, Converts}
 use Rattle.sat_hints.specs.declared.error.HintError.{HintError}
 use Rattle.sat_hints.specs.declared.error.HintError.TheVariants.{Refused, HasDeleteVar, Read, Write, OutOfMemory}
 use Rattle.sat_hints.specs.declared.line_writer.LineWriter.{LineWriter}
 use Rattle.sat_hints.specs.inner.LineWriting.{Outlet, outlet, Put, PutFrom, PutBy}
-use Rattle.sat_hints.specs.inner.LinesWritten.{SentFront, WritesLines}
+use Rattle.sat_hints.specs.inner.LinesWritten.{BrokenBehind, SentFront, WritesLines}
 
 -- a front was put, so a front was taken
 front_took : (a b : Outlet) (text : List ℕ) → a.sink.waiting ≡ [] → SentFront a b text → TookFront a.sink.writer b.sink.writer text
@@ -27,12 +27,21 @@ front_took a b text e s =
       takes = w.takes;
     }
 
+breaks_of : (a b : Outlet) (text : List ℕ) → a.sink.waiting ≡ [] → Broken a.sink b.sink text → Breaks a.sink.writer b.sink.writer text
+breaks_of a b text e k = subst (λ x. Breaks a.sink.writer b.sink.writer (x ++ text)) e k.breaks
+
+breaks_behind : (a b : Outlet) (step : Step) (steps : List Step) → a.sink.waiting ≡ [] → BrokenBehind a b step steps → BreaksBehind a.sink.writer b.sink.writer step steps
+breaks_behind a b step steps e k = elim k [
+  | inl h ↦ inl (breaks_of a b (hint_text steps) e h)
+  | inr h ↦ inr (h.0, breaks_of a b (hint_text (step ∷ steps)) e h.1)
+]
+
 pub errs_convert : (e : HintError) (from to : Reader) (a b : Outlet) → a.sink.waiting ≡ [] → WritesLines (Err e) from to a b → Converts (Err e) from to a.sink.writer b.sink.writer
 errs_convert HasDeleteVar from to a b e w = (w.0, w.1, w.2, w.3, front_took a b _ e w.4)
 errs_convert (Refused r) from to a b e w = (w.0, w.1, w.2, front_took a b _ e w.3)
 errs_convert Read from to a b e w = (w.0, w.1, w.2, w.3, w.4, front_took a b _ e w.5)
-errs_convert Write from to a b e w = (w.0, w.1, w.2, subst (λ x. Breaks a.sink.writer b.sink.writer (x ++ hint_text w.0)) e w.3.breaks)
-errs_convert OutOfMemory from to a b e w = (w.0, w.1, w.2, front_took a b _ e w.3)
+errs_convert Write from to a b e w = (w.0, w.1, w.2, w.3, w.4, breaks_behind a b w.1 (taken_after w.0 []) e w.5)
+errs_convert OutOfMemory from to a b e w = (w.0, w.1, w.2, w.3, front_took a b _ e w.4)
 
 put_by : (text : List ℕ) (a b : Outlet) (f : Bool) → a.failed ≡ false → b.failed ≡ f → Put text a b → PutBy f text a.sink b.sink
 put_by text a b f e d h = subst (λ x. PutBy x text a.sink b.sink) d (subst (λ x. PutFrom x text a b) e h)
@@ -48,20 +57,26 @@ pub write_converts : (from to : Reader) (a b c : Outlet) → a.sink.waiting ≡ 
 write_converts from to a b c e w p f =
     let text : List ℕ = hint_text (End ∷ taken_after w.0 []) in
     let k : Broken a.sink c.sink (text ++ []) = sends_breaks a.sink b.sink c.sink text [] w.4.sent (put_by [] b c true w.4.well f p) in
-    (End ∷ taken_after w.0 [], w.2.none_failed, (w.2.gave.accepted, w.2.ends), subst (Breaks a.sink.writer c.sink.writer) (ap (λ x. x ++ (text ++ [])) e ∙ append-nil text) k.breaks)
+    (w.0, End, w.1, w.2.none_failed, w.2.gave, inr (w.2.ends, subst (Breaks a.sink.writer c.sink.writer) (ap (λ x. x ++ (text ++ [])) e ∙ append-nil text) k.breaks))
 
 -- A LENT WRITER
 module _ {W : Type 0} (seen : W → Writer) (a z v : W) (given back : ℕ) (same : given ≡ back → z ≡ v) where
   lent_took : (text : List ℕ) → TookFront (lent_writer given (seen a)) (lent_writer back (seen v)) text → TookFront (seen a) (seen z) text
   lent_took text t = record { front = t.front; behind = t.behind; whole = t.whole; takes = lent_puts {E = HintError} seen a z v given back t.front (Ok tt) same t.takes }
 
+  lent_breaks : (step : Step) (steps : List Step) → BreaksBehind (lent_writer given (seen a)) (lent_writer back (seen v)) step steps → BreaksBehind (seen a) (seen z) step steps
+  lent_breaks step steps k = elim k [
+    | inl h ↦ inl (lent_puts {E = HintError} seen a z v given back (hint_text steps) (Err Write) same h)
+    | inr h ↦ inr (h.0, lent_puts {E = HintError} seen a z v given back (hint_text (step ∷ steps)) (Err Write) same h.1)
+  ]
+
   pub lent_converts : (result : Result (Unit {0}) HintError) (from to : Reader) → Converts result from to (lent_writer given (seen a)) (lent_writer back (seen v)) → Converts result from to (seen a) (seen z)
   lent_converts (Ok x) from to c = (c.0, c.1, c.2, c.3, lent_puts {E = HintError} seen a z v given back _ (Ok tt) same c.4)
   lent_converts (Err HasDeleteVar) from to c = (c.0, c.1, c.2, c.3, lent_took _ c.4)
   lent_converts (Err (Refused r)) from to c = (c.0, c.1, c.2, lent_took _ c.3)
   lent_converts (Err Read) from to c = (c.0, c.1, c.2, c.3, c.4, lent_took _ c.5)
-  lent_converts (Err Write) from to c = (c.0, c.1, c.2, lent_puts {E = HintError} seen a z v given back _ (Err Write) same c.3)
-  lent_converts (Err OutOfMemory) from to c = (c.0, c.1, c.2, lent_took _ c.3)
+  lent_converts (Err Write) from to c = (c.0, c.1, c.2, c.3, c.4, lent_breaks c.1 (taken_after c.0 []) c.5)
+  lent_converts (Err OutOfMemory) from to c = (c.0, c.1, c.2, c.3, lent_took _ c.4)
 
 -- through a writer that is lent
 pub lent_text : {W : Type 0} (seen : W → Writer) (a z : W) (r : MutBor W) (first last : LineWriter (MutBor W)) (given : ℕ) (result : Result (Unit {0}) HintError) (from to : Reader) → (given ≡ r.ghost_name → z ≡ r.now)

@@ -3,7 +3,6 @@ use Rattle.std.proofs.Common.{ℕ, ◌≡◌, true, false, List, [], ◌∷◌, 
 use Rattle.std.proofs.lemmas.Bool.{both_ways}
 use Rattle.anyhow.specs.declared.error.Error.{Error}
 use Rattle.sat_base.specs.device.Device.{Reader, Writer}
-use Rattle.sat_base.specs.device.Sink.{Broken}
 use Rattle.sat_base.specs.steps.Steps.{Step, End}
 use Rattle.sat_checker.specs.Accepts.{AcceptsAll}
 use Rattle.sat_checker.specs.CheckerView.{Seen, has_failed, Stops, BreaksAt}
@@ -23,7 +22,7 @@ use Rattle.sat_hints.specs.Converts.{Gave, IsAccepted}
 use Rattle.sat_hints.specs.declared.error.HintError.TheVariants.{HasDeleteVar}
 use Rattle.sat_hints.specs.declared.line_writer.LineWriter.{LineWriter}
 use Rattle.sat_hints.specs.inner.LineWriting.{outlet}
-use Rattle.sat_hints.specs.inner.LinesWritten.{hint_of, SentAll, SentFront, WritesLines}
+use Rattle.sat_hints.specs.inner.LinesWritten.{hint_of, BrokenBehind, SentAll, SentFront, WritesLines}
 use Rattle.sat_hints.specs.inner.Telling.{TakesTold}
 use Rattle.sat_hints.proofs.lemmas.Heard.{since_sent, since_broken, front_all, front_told, front_by, all_by, broken_all, broken_told}
 
@@ -44,21 +43,21 @@ module _ {W P T : Type 0} (seen : W → Writer) (Takes : P → Told → Result U
     | inr h ↦ front_all (outlet seen begun.own) (outlet seen new.listeners.own) steps (since_sent seen Takes Reads _ begun new.listeners well h)
   ]
 
-  abbrev BrokenBy : ProcessingError → Checker → Type 0
-  BrokenBy f new = (cause : Error) × (f ≡ faults.ProofProcessorError cause) × (steps : List Step) × AcceptsAll steps × Broken (outlet seen begun.own).sink (outlet seen new.listeners.own).sink (hint_text steps)
+  abbrev BrokenBy : ProcessingError → Checker → Step → List Step → Type 0
+  BrokenBy f new step steps = (cause : Error) × (f ≡ faults.ProofProcessorError cause) × AcceptsAll steps × BrokenBehind (outlet seen begun.own) (outlet seen new.listeners.own) step steps
 
-  broken_at : (f : ProcessingError) (new : Checker) (step : Step) (steps : List Step) → BreaksAt Hears [] begun f new step steps → BrokenBy f new
+  broken_at : (f : ProcessingError) (new : Checker) (step : Step) (steps : List Step) → BreaksAt Hears [] begun f new step steps → BrokenBy f new step steps
   broken_at f new step steps b = elim b [
     | inl h ↦
         let k = since_broken seen Takes Reads f _ begun new.listeners well none h.heard in
-        (k.0, k.1, steps, h.fails.stands.kernel.accepted, broken_all (outlet seen begun.own).sink (outlet seen new.listeners.own).sink steps k.2)
+        (k.0, k.1, h.fails.stands.kernel.accepted, inl (broken_all (outlet seen begun.own).sink (outlet seen new.listeners.own).sink steps k.2))
     | inr h ↦
         let k = since_broken seen Takes Reads f _ begun new.listeners well none h.1.heard in
-        (k.0, k.1, step ∷ steps, h.1.fails.stands.kernel.accepted, broken_told (outlet seen begun.own).sink (outlet seen new.listeners.own).sink (step ∷ steps) k.2)
+        (k.0, k.1, h.1.fails.stands.kernel.accepted.0, inr (h.0, broken_told (outlet seen begun.own).sink (outlet seen new.listeners.own).sink (step ∷ steps) k.2))
   ]
 
-  no_memory : {A : Type 0} (new : Checker) → BrokenBy faults.OutOfMemory new → A
-  no_memory new b = absurd (let e : ◌≡◌ {A = ProcessingError} faults.OutOfMemory (faults.ProofProcessorError b.0) = b.1 in cc)
+  no_memory : {A : Type 0} (new : Checker) (step : Step) (steps : List Step) → BrokenBy faults.OutOfMemory new step steps → A
+  no_memory new step steps b = absurd (let e : ◌≡◌ {A = ProcessingError} faults.OutOfMemory (faults.ProofProcessorError b.0) = b.1 in cc)
 
   pub errs_written : (e : CheckerError) (old new : Checker) (from to : Reader) → has_failed old ≡ false → AnswersProof Hears [] begun (Err e) old new from to [] → WritesLines (Err (hint_of e)) from to (outlet seen begun.own) (outlet seen new.listeners.own)
   errs_written errors.CheckFailed old new from to f k =
@@ -70,17 +69,17 @@ module _ {W P T : Type 0} (seen : W → Writer) (Takes : P → Told → Result U
   errs_written errors.IoError old new from to f k =
       (k.0, k.1, k.3, gave_of k.2 k.5.0.kernel.accepted, k.4, front_by (outlet seen begun.own) (outlet seen new.listeners.own) _ (taken_after k.0 []) (since_sent seen Takes Reads _ begun new.listeners well (k.5.0.heard k.5.1)))
   errs_written errors.OutOfMemory old new from to f k = elim k.3 [
-    | inl h ↦ (taken_after k.0 [], k.2, h.1.fails.stands.kernel.accepted, stopped new (taken_after k.0 []) h.1)
+    | inl h ↦ (k.0, k.1, k.2, inl (gave_of h.0 h.1.fails.stands.kernel.accepted), stopped new (taken_after k.0 []) h.1)
     | inr h ↦ elim h.2 [
-      | inl s ↦ (taken_after k.0 [], k.2, s.fails.stands.kernel.accepted, stopped new (taken_after k.0 []) s)
-      | inr b ↦ no_memory new (broken_at faults.OutOfMemory new h.0 (taken_after k.0 []) b)
+      | inl s ↦ (k.0, k.1, k.2, inr (h.0, gave_of h.1 s.fails.stands.kernel.accepted), stopped new (taken_after k.0 []) s)
+      | inr b ↦ no_memory new h.0 (taken_after k.0 []) (broken_at faults.OutOfMemory new h.0 (taken_after k.0 []) b)
     ]
   ]
   errs_written errors.CounterEnd old new from to f k =
       (k.0, k.4, (k.1, k.2, gave_of k.3 k.6.fails.stands.kernel.accepted, k.5), stopped new (taken_after k.0 []) k.6)
   errs_written (errors.ProofProcessorError cause) old new from to f k =
       let b = broken_at (faults.ProofProcessorError cause) new k.1 (taken_after k.0 []) k.5 in
-      (b.2, k.4, b.3, b.4)
+      (k.0, k.1, k.2, k.4, gave_of k.3 b.2, b.3)
   errs_written errors.HasFailed old new from to f k = absurd (both_ways (has_failed old) f k.0)
 
   -- accepted to its end

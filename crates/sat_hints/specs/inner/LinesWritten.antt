@@ -1,17 +1,17 @@
 -- What an answer means where the lines of a certificate are written through bytes that wait.
-use Rattle.std.specs.Prelude.{ℕ, ◌≡◌, true, false, List, [], ◌∷◌, ◌++◌, Result, Ok, Err}
+use Rattle.std.specs.Prelude.{ℕ, ◌≡◌, ◌⊎◌, true, false, List, [], ◌∷◌, ◌++◌, Result, Ok, Err}
 use Rattle.sat_base.specs.device.Device.{Reader, ReadFails}
 use Rattle.sat_base.specs.device.Sink.{Sent, Broken}
 use Rattle.sat_base.specs.steps.Formats.{Live}
 use Rattle.sat_base.specs.steps.Steps.{Step, End}
 use Rattle.sat_base.specs.steps.StepText.{SpellsStep}
-use Rattle.sat_checker.specs.Accepts.{AcceptsAll}
+use Rattle.sat_checker.specs.Accepts.{Accepts, ready_after}
 use Rattle.sat_checker.specs.Laws.{has_delete_var}
 use Rattle.sat_checker.specs.ProofView.{taken_after, NoneFailed}
 use Rattle.sat_checker.specs.declared.error.CheckerError.{CheckerError}
 use Rattle.sat_checker.specs.declared.error.CheckerError.TheVariants as errors
 use Rattle.sat_hints.specs.Conversion.{hint_text}
-use Rattle.sat_hints.specs.Converts.{Gave, IsAccepted, RefusesBy}
+use Rattle.sat_hints.specs.Converts.{Gave, GaveUpTo, IsAccepted, RefusesBy}
 use Rattle.sat_hints.specs.declared.error.HintError.{HintError}
 use Rattle.sat_hints.specs.declared.error.HintError.TheVariants.{Refused, HasDeleteVar, Read, Write, OutOfMemory}
 use Rattle.sat_hints.specs.inner.LineWriting.{Outlet}
@@ -39,6 +39,10 @@ pub record SentFront (old new : Outlet) (text : List ℕ) : Type 0 where
   pub whole : text ≡ front ++ behind
   pub sent : SentAll old new front
 
+-- a write failed of the lines of accepted steps, or of theirs and those of the step behind them, which is accepted, too
+abbrev pub BrokenBehind : Outlet → Outlet → Step → List Step → Type 0
+BrokenBehind old new step steps = Broken old.sink new.sink (hint_text steps) ⊎ (Accepts (ready_after steps) step × Broken old.sink new.sink (hint_text (step ∷ steps)))
+
 abbrev pub WritesLines : Result (Unit {0}) HintError → Reader → Reader → Outlet → Outlet → Type 0
 WritesLines (Ok x) from to old new = (passed : List Step) × (rest : List ℕ) × IsAccepted from to passed rest
     × (has_delete_var (taken_after passed []) ≡ false) × SentAll old new (hint_text (End ∷ taken_after passed []))
@@ -48,5 +52,7 @@ WritesLines (Err (Refused e)) from to old new = (passed : List Step) × NoneFail
     × SentFront old new (hint_text (taken_after passed []))
 WritesLines (Err Read) from to old new = (passed : List Step) × (rest : List ℕ) × ReadFails from to × Gave from to passed [] rest × Live SpellsStep rest
     × SentFront old new (hint_text (taken_after passed []))
-WritesLines (Err Write) from to old new = (steps : List Step) × NoneFailed from to × AcceptsAll steps × Broken old.sink new.sink (hint_text steps)
-WritesLines (Err OutOfMemory) from to old new = (steps : List Step) × NoneFailed from to × AcceptsAll steps × SentFront old new (hint_text steps)
+WritesLines (Err Write) from to old new = (passed : List Step) × (step : Step) × (rest : List ℕ) × NoneFailed from to × Gave from to passed (step ∷ []) rest
+    × BrokenBehind old new step (taken_after passed [])
+WritesLines (Err OutOfMemory) from to old new = (passed : List Step) × (rest : List ℕ) × NoneFailed from to × GaveUpTo from to passed rest
+    × SentFront old new (hint_text (taken_after passed []))
