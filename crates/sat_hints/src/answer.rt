@@ -8,7 +8,7 @@ use thiserror::Error;
 pub enum HintWhy {
     /// It is no line of a hint text, or the last one without its LF.
     Syntax,
-    /// Its ID is not above those of all clauses before.
+    /// It gives a clause an ID that is not above those of all clauses before.
     IdOrder,
     /// It names an ID under which no clause is present.
     UnknownId,
