@@ -1,3 +1,4 @@
+pub mod Bumping
 pub mod Failing
 pub mod Going
 pub mod Joint

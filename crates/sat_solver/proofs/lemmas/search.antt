@@ -1,4 +1,5 @@
 pub mod AskedLemmas
+pub mod BumpingLemmas
 pub mod FailingLemmas
 pub mod GlueLemmas
 pub mod GoingLemmas

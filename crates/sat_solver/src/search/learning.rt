@@ -13,6 +13,7 @@ ghost use Rattle.sat_solver.specs.parts.Words.{Rises};
 ghost use Rattle.sat_solver.specs.joint.Laws.{named_hashes};
 ghost use Rattle.sat_solver.specs.joint.Fits.{FitsParts, FlagFits};
 ghost use Rattle.sat_solver.specs.joint.Learning.{TakesIn};
+ghost use Rattle.sat_solver.specs.search.Bumping.{AreBelow};
 ghost use Rattle.sat_solver.specs.search.Going.{Goes};
 ghost use Rattle.sat_solver.specs.search.Joint.{global_in, IsFree};
 ghost use Rattle.sat_solver.specs.search.Learning.{Learned};
@@ -24,6 +25,7 @@ use crate::analysis::learn_from_conflict;
 use crate::joint::naming::{map_lits, name_clauses};
 use crate::parts::Parts;
 use crate::parts::steps::{learn, undo};
+use crate::search::bumping::bump_met;
 use crate::search::fault::proof_fault;
 use crate::search::work::Search;
 use crate::session::proof::Proof;
@@ -122,6 +124,7 @@ fn analyze(search: &mut Search, conflict: &Conflict) -> Result<(usize, ClauseHea
     ensures free { OnOk result (IsFree search.new) }
     ensures learns { IfOk result (λ r. Learns search.old.parts.clauses (state search.old.parts) (falsified search.old.parts.clauses conflict.now) search.new.analysis r.0) }
     ensures header { IfOk result (λ r. (r.1.deleted ≡ false) × (is_learned r.1.tier ≡ true)) }
+    ensures met { OnOk result (AreBelow search.new.analysis.met (length search.old.parts.assignment.current)) }
     ensures clause { OnOk result (search.new.scratch.clause.items ≡ map (with_var (global_in search.old)) search.new.analysis.clause) }
     ensures hashes { OnOk result (search.new.scratch.hashes.items ≡ named_hashes search.old.parts.clauses (state search.old.parts) search.new.analysis.used conflict.now) }
 {
@@ -147,7 +150,7 @@ fn analyze(search: &mut Search, conflict: &Conflict) -> Result<(usize, ClauseHea
 }
 
 /// Learns a clause from a conflict above level 0, writes its step, and takes it over.
-pub fn learn_from<W: CountedWrite + Drop>(
+fn learn_clause<W: CountedWrite + Drop>(
     proof: &mut Proof<W>,
     search: &mut Search,
     conflict: &Conflict,
@@ -155,7 +158,8 @@ pub fn learn_from<W: CountedWrite + Drop>(
     requires keeps { Keeps proof.old }
     requires stopped { IsStopped (session_of proof.old) search.old conflict.now }
     requires above { 0 < length search.old.parts.trail.starts }
-    ensures { Goes W.seen result proof.old proof.new (λ _ steps. Learned (steps_of proof.old) steps (session_of proof.new) search.old search.new) }
+    ensures learned { Goes W.seen result proof.old proof.new (λ _ steps. Learned (steps_of proof.old) steps (session_of proof.new) search.old search.new) }
+    ensures met { OnOk result (AreBelow search.new.analysis.met (length search.new.parts.assignment.current)) }
 {
     let (level, header) = analyze(search, conflict)?;
     let step = ProofStep::AtClause {
@@ -168,5 +172,21 @@ pub fn learn_from<W: CountedWrite + Drop>(
     }
     take_in(&mut search.parts, header, search.analysis.clause(), level)?;
     search.assumptions.cut(level);
+    Ok(())
+}
+
+/// Learns a clause from a conflict above level 0, with its step, and raises the activity of the variables that the conflict met.
+pub fn learn_from<W: CountedWrite + Drop>(
+    proof: &mut Proof<W>,
+    search: &mut Search,
+    conflict: &Conflict,
+) -> Result<(), SolverError>
+    requires keeps { Keeps proof.old }
+    requires stopped { IsStopped (session_of proof.old) search.old conflict.now }
+    requires above { 0 < length search.old.parts.trail.starts }
+    ensures { Goes W.seen result proof.old proof.new (λ _ steps. Learned (steps_of proof.old) steps (session_of proof.new) search.old search.new) }
+{
+    learn_clause(proof, search, conflict)?;
+    bump_met(search);
     Ok(())
 }

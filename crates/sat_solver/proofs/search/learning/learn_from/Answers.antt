@@ -1,67 +1,11 @@
-use Rattle.std.proofs.Common.{◌≡◌, ◌∙◌, refl, ap, arith}
-use Rattle.std.proofs.lemmas.Result.{err_from_is_err_and}
-use Rattle.sat_base.specs.steps.Steps.{AtClause}
-use Rattle.sat_parts.specs.prop.Causes.{falsified}
-use Rattle.sat_solver.specs.declared.parts.assumptions.Assumptions.{Assumptions}
-use Rattle.sat_solver.specs.parts.Assumed.{ArePlaced}
-use Rattle.sat_solver.proofs.lemmas.search.TurnLemmas.{free_moved}
-use Rattle.sat_solver.specs.session.ProofView.{steps_of}
-use Rattle.sat_solver.specs.parts.Whole.{state}
-use Rattle.sat_solver.proofs.lemmas.joint.LearnedLemmas.{is_learned_clause}
-use Rattle.sat_solver.specs.declared.search.work.Search.{Search}
-use Rattle.sat_solver.specs.search.Joint.{global_in}
-use Rattle.sat_solver.proofs.lemmas.search.GoingLemmas.{goes_starved, goes_step, goes_broken, goes_refused}
-use Rattle.sat_solver.proofs.lemmas.search.LearningLemmas.{learned_allowed, learned_stands, learned_last, learned_whole}
+use Rattle.sat_solver.specs.session.ProofView.{steps_of, session_of}
+use Rattle.sat_solver.proofs.lemmas.search.BumpingLemmas.{learned_on}
+use Rattle.sat_solver.proofs.lemmas.search.GoingLemmas.{goes_on}
 use Rattle.sat_solver.proofs.search.learning.learn_from.Goals as goal
-
-pub returns-in_err-level : goal.returns-in_err-level
-returns-in_err-level g c =
-    let p = err_from_is_err_and c.from_residual.result c.from_residual.ensures.1 in
-    rw (p.1, p.2) (goes_starved g.W.CountedWrite.seen c.args.proof.now _ c.requires.keeps)
-
-pub step-requires-clause-may : goal.step-requires-clause-may
-step-requires-clause-may g c =
-    let x = c.in_ok-level.ensures in
-    learned_allowed c.args.search.now.parts c.args.conflict.now c.analyze.new.search.analysis c.in_ok-level.level (steps_of c.args.proof.now) (global_in c.args.search.now) c.requires.stopped.refuted c.requires.above c.requires.stopped.fits x.learns
-    c.deref.result.now c.deref-2.result.now (c.deref.ensures.value ∙ x.clause) (c.deref-2.ensures.value ∙ x.hashes)
-
-pub returns-in-Err : goal.returns-in-Err
-returns-in-Err g c =
-    rw c.proof_fault.ensures
-    (goes_broken g.W.CountedWrite.seen c.in-Err.error c.args.proof.now c.step.new.self _ _ refl c.in-Err.ensures.keeps c.in-Err.ensures.records)
-
-pub take_in-requires-clause-learned : goal.take_in-requires-clause-learned
-take_in-requires-clause-learned g c =
-    let p = c.args.search.now.parts in
-    let same : c.analyze.new.search.parts ≡ c.args.search.now.parts = ap (λ (s : Search). s.parts) c.in_ok-level.ensures.same in
-    rw (c.clause-2.ensures, same) (is_learned_clause p.clauses (state p) (falsified p.clauses c.args.conflict.now) c.analyze.new.search.analysis c.in_ok-level.level c.requires.stopped.refuted.0.asks.agrees c.in_ok-level.ensures.learns)
-
-pub returns-in_err-take_in : goal.returns-in_err-take_in
-returns-in_err-take_in g c =
-    let p = err_from_is_err_and c.from_residual-in_err-take_in.result c.from_residual-in_err-take_in.ensures.1 in
-    rw (p.1, p.2) (goes_refused g.W.CountedWrite.seen c.in_err-take_in.field-0.0 c.args.proof.now c.step.new.self _ _ refl c.in_default.ensures.keeps c.in_default.ensures.records)
 
 pub returns : goal.returns
 returns g c =
-    let x = c.in_ok-level.ensures in
-    let y = c.in_ok-take_in.ensures in
-    let r = c.requires.stopped in
-    let flags = rw c.clause.ensures at c.says_redundant.ensures in
-    let same : c.analyze.new.search.parts ≡ c.args.search.now.parts = ap (λ (s : Search). s.parts) x.same in
-    let assumptions : c.analyze.new.search.assumptions ≡ c.args.search.now.assumptions = ap (λ (s : Search). s.assumptions) x.same in
-    let fits = rw (c.clause-2.ensures, same) at y.fits in
-    let rises = rw same at y.rises in
-    let size = rw same at y.size in
-    let keeps = rw same at y.keeps in
-    let lits : c.cut.new.self.lits ≡ c.args.search.now.assumptions.lits = c.cut.ensures.lits ∙ ap (λ (a : Assumptions). a.lits) assumptions in
-    let before : ArePlaced c.analyze.new.search.assumptions (state c.args.search.now.parts) = rw assumptions r.ready.placed in
-    let placed = c.cut.ensures.placed (state c.args.search.now.parts) (state c.take_in.new.parts) before (omega (arith, x.learns.below)) keeps y.starts in
-    goes_step g.W.CountedWrite.seen tt c.args.proof.now c.step.new.self _ _ refl c.in_default.ensures.keeps c.in_default.ensures.records
-    (learned_whole (steps_of c.args.proof.now) (steps_of c.step.new.self) (AtClause c.says_redundant.result c.deref.result.now c.deref-2.result.now) c.args.search.now _ r.ready refl c.in_default.ensures.records.history
-    (learned_stands c.args.search.now.parts c.args.conflict.now c.analyze.new.search.analysis c.in_ok-level.level (steps_of c.args.proof.now) (global_in c.args.search.now) r.refuted c.requires.above r.fits x.learns
-    c.take_in.new.parts c.in_ok-level.header c.deref.result.now c.deref-2.result.now c.says_redundant.result (steps_of c.step.new.self) (c.deref.ensures.value ∙ x.clause) flags c.in_default.ensures.records.history y.holds fits)
-    rises size
-    (learned_last c.args.search.now.parts c.args.conflict.now c.analyze.new.search.analysis c.in_ok-level.level (steps_of c.args.proof.now) (global_in c.args.search.now) r.refuted c.requires.above r.fits x.learns
-    c.deref.result.now c.deref-2.result.now c.says_redundant.result (c.deref.ensures.value ∙ x.clause))
-    (ap (λ (s : Search). s.globals) x.same) lits placed
-    (free_moved c.analyze.new.search _ x.free (record { globals = refl; lits = c.cut.ensures.lits; size = y.size }) refl refl))
+    let s = session_of c.learn_clause.new.proof in
+    goes_on g.W.CountedWrite.seen tt tt c.args.proof.now c.learn_clause.new.proof _ _
+    (λ steps x. learned_on (steps_of c.args.proof.now) steps s c.args.search.now c.learn_clause.new.search c.bump_met.new.search x (c.bump_met.ensures s x.search))
+    c.in_ok-learn_clause.ensures.learned

@@ -1,0 +1,56 @@
+-- Raised activities leave what is searched.
+use Rattle.std.proofs.Common.{◌≡◌, ◌∙◌, List, [], ◌∷◌, ◌++◌, length, refl, sym, ap, subst}
+use Rattle.sat_base.specs.steps.Steps.{Step}
+use Rattle.sat_parts.specs.prop.TrailWord.{Letter, D, P, IsBelow}
+use Rattle.sat_solver.specs.session.Session.{Session}
+use Rattle.sat_solver.specs.declared.parts.Parts.{Parts}
+use Rattle.sat_solver.specs.parts.Frame.{SameClauses, SameState}
+use Rattle.sat_solver.specs.parts.Whole.{state, Holds}
+use Rattle.sat_solver.specs.parts.Words.{Extends, Rises}
+use Rattle.sat_solver.proofs.lemmas.parts.LoadFrames.{carries_same}
+use Rattle.sat_solver.proofs.lemmas.joint.LearnedLemmas.{fits_undone}
+use Rattle.sat_solver.specs.declared.search.work.Search.{Search}
+use Rattle.sat_solver.specs.search.Bumping.{Bumped}
+use Rattle.sat_solver.specs.search.Joint.{global_in, IsSearch}
+use Rattle.sat_solver.specs.search.Learning.{Learned}
+use Rattle.sat_solver.specs.search.Left.{SameSize}
+use Rattle.sat_solver.proofs.lemmas.search.ReducingLemmas.{still, still_moved}
+use Rattle.sat_solver.proofs.lemmas.search.TurnLemmas.{moved_trans}
+
+same_state : (p p' : Parts) → SameState p p' → state p' ≡ state p
+same_state p p' x = rw (x.0, x.1, x.2) refl
+
+pub bumped_same : (s : Session) (c c' : Search) → IsSearch s c → c'.globals ≡ c.globals → c'.assumptions ≡ c.assumptions → c'.analysis ≡ c.analysis → c'.flags ≡ c.flags →
+    Holds c'.parts → SameClauses c.parts c'.parts → SameState c.parts c'.parts → Extends c.parts c'.parts → Bumped s c c'
+bumped_same s c c' search globals assumptions analysis flags holds clauses states word =
+    let size : SameSize c.parts c'.parts = ap (λ a. length a.current) states.0 in
+    record {
+      search = still s s c c' search globals assumptions analysis flags refl holds (fits_undone c.parts c'.parts s (global_in c) clauses (carries_same c.parts c'.parts states) search.stands.fits) size (rw (same_state c.parts c'.parts states) search.ready.placed);
+      moved = still_moved s s c c' search globals assumptions analysis flags size;
+      word = word;
+    }
+
+-- what a word is below of may go on
+below_more : (u v z : List Letter) → IsBelow u v → IsBelow u (v ++ z)
+below_more [] [] z h = absurd h
+below_more [] (y ∷ v) z h = tt
+below_more (x ∷ u) [] z h = absurd h
+below_more (D ∷ u) (P ∷ v) z h = tt
+below_more (P ∷ u) (D ∷ v) z h = absurd h
+below_more (D ∷ u) (D ∷ v) z h = below_more u v z h
+below_more (P ∷ u) (P ∷ v) z h = below_more u v z h
+
+rises_on : (p q r : Parts) → Rises p q → Extends q r → Rises p r
+rises_on p q r x y = λ am. (
+  (y am).0 ∙ (x am).0,
+  λ w h. let v = (x am).1 w h in let u = (y am).1 v.0 v.1.0 in (u.0, (u.1.0, subst (λ z. IsBelow w z) (sym u.1.1.1) (below_more w v.0 u.1.1.0 v.1.1))),
+)
+
+-- a learned clause stands when activities were raised
+pub learned_on : (earlier steps : List Step) (s : Session) (a b c : Search) → Learned earlier steps s a b → Bumped s b c → Learned earlier steps s a c
+learned_on earlier steps s a b c x y = record {
+  search = y.search;
+  moved = moved_trans a b c x.moved y.moved;
+  rises = rises_on a.parts b.parts c.parts x.rises y.word;
+  last = x.last;
+}
