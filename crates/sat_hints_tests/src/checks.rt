@@ -20,7 +20,8 @@ const fn bad(line: u64, why: HintWhy) -> HintVerdict {
     HintVerdict::Bad { line, why }
 }
 
-fn rows() -> [Row; 40] {
+/// Derivations, and lines at fault, each for one reason.
+fn derivations() -> [Row; 15] {
     [
         (b"", proved(false, 0, 0)),
         (b"i 1 1 0\ni 2 -1 0\nd 3 0 1 2 0\n", proved(true, 0, 3)),
@@ -50,6 +51,12 @@ fn rows() -> [Row; 40] {
             bad(3, HintWhy::NotFalsified),
         ),
         (b"i 1 1 0\nd 2 1 0 0\n", bad(2, HintWhy::NotFalsified)),
+    ]
+}
+
+/// Several reasons at a line, clauses and assumptions of both signs, lists with repeats.
+fn faults() -> [Row; 8] {
+    [
         // Several reasons at one line.
         (b"i 1 1 2 0\nd 1 3 0 9 0\n", bad(2, HintWhy::IdOrder)),
         (b"i 1 1 2 0\nd 2 3 0 1 9 0\n", bad(2, HintWhy::UnknownId)),
@@ -71,6 +78,12 @@ fn rows() -> [Row; 40] {
             b"i 1 1 1 2 2 0\ni 2 -2 -2 0\nd 3 1 0 2 1 0\n",
             proved(false, 0, 3),
         ),
+    ]
+}
+
+/// Numbers at their limits, and lines that aren't of the grammar.
+fn spellings() -> [Row; 17] {
+    [
         // IDs and literals at their limits and past them.
         (b"i 18446744073709551615 1 0\n", proved(false, 0, 1)),
         (b"i 18446744073709551616 1 0\n", bad(1, HintWhy::Syntax)),
@@ -104,20 +117,30 @@ fn in_bytes(alloc: Global, text: &[u8], failing: u64) -> Result<HintVerdict, Hin
     check(alloc, &mut reader)
 }
 
-#[test]
-fn rows_whole(rt: HostRuntime) {
-    for row in &rows() {
-        let verdict = whole(rt.alloc(), row.0);
-        assert!(rt; verdict == Ok(row.1));
+/// Whether each text has its verdict, read whole and one byte at a time.
+fn hold(alloc: Global, rows: &[Row]) -> bool {
+    for row in rows {
+        let verdict = Ok(row.1);
+        if whole(alloc, row.0) != verdict || in_bytes(alloc, row.0, 0) != verdict {
+            return false;
+        }
     }
+    true
 }
 
 #[test]
-fn rows_by_one(rt: HostRuntime) {
-    for row in &rows() {
-        let verdict = in_bytes(rt.alloc(), row.0, 0);
-        assert!(rt; verdict == Ok(row.1));
-    }
+fn derivations_are_proved(rt: HostRuntime) {
+    assert!(rt; hold(rt.alloc(), &derivations()));
+}
+
+#[test]
+fn faults_have_their_reasons(rt: HostRuntime) {
+    assert!(rt; hold(rt.alloc(), &faults()));
+}
+
+#[test]
+fn spellings_are_exact(rt: HostRuntime) {
+    assert!(rt; hold(rt.alloc(), &spellings()));
 }
 
 /// Each read fails in turn, also the one that would find the end.
