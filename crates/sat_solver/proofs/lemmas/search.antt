@@ -5,6 +5,7 @@ pub mod GlueLemmas
 pub mod GoingLemmas
 pub mod LearningLemmas
 pub mod LeftLemmas
+pub mod NamedLemmas
 pub mod ReducingLemmas
 pub mod RoundLemmas
 pub mod ShowingLemmas

@@ -1,9 +1,10 @@
 -- What a call that makes steps of a search leaves of the proof. Lists of steps have the newest first.
-use Rattle.std.specs.Prelude.{◌≡◌, Bool, true, false, List, MatchResult, Result, Ok, Err}
+use Rattle.std.specs.Prelude.{ℕ, ◌≡◌, Bool, true, false, Option, Some, List, map, MatchResult, Result, Ok, Err}
 use Rattle.std.specs.List.{AllByRecursion}
 use Rattle.sat_base.specs.device.Device.{Writer}
+use Rattle.sat_base.specs.values.Literals.{variable}
 use Rattle.sat_base.specs.steps.Steps.{Step, AtClause, UnitClauses, DeleteClause}
-use Rattle.sat_solver.specs.session.ProofView.{Adds, Fails, Keeps}
+use Rattle.sat_solver.specs.session.ProofView.{Adds, Fails, Keeps, session_of}
 use Rattle.sat_solver.specs.declared.session.proof.Proof.{Proof}
 use Rattle.sat_solver.specs.declared.session.proof.ProofError.{ProofError}
 use Rattle.sat_solver.specs.declared.session.proof.ProofError.TheVariants.{Write}
@@ -16,6 +17,20 @@ is_searched (AtClause redundant clause hashes) = true
 is_searched (UnitClauses units) = true
 is_searched (DeleteClause clause proof) = true
 is_searched step = false
+
+-- each literal is over a variable that has a solver name
+abbrev pub AreNamed : (ℕ → Option ℕ) → List ℕ → Type 0
+AreNamed names = AllByRecursion (λ l. (x : ℕ) × (names (variable l) ≡ Some x))
+
+-- a step that a search makes by itself, over variables that have solver names
+abbrev pub IsSearched : (ℕ → Option ℕ) → Step → Type 0
+IsSearched names (AtClause redundant clause hashes) = AreNamed names clause
+IsSearched names (UnitClauses units) = AreNamed names (map (λ u. u.0) units)
+IsSearched names (DeleteClause clause proof) = Unit {0}
+IsSearched names step = ⊥
+
+abbrev pub AreSearched : (ℕ → Option ℕ) → List Step → Type 0
+AreSearched names = AllByRecursion (IsSearched names)
 
 -- the fault of a proof's target
 abbrev pub fault_of : ProofError → SolverError
@@ -38,6 +53,6 @@ Went seen (Err e) steps old new = Adds seen steps old new
 pub record Goes {A W : Type 0} (seen : W → Writer) (result : Result A SolverError) (old new : Proof W) (Answers : A → List Step → Type 0) : Type 0 where
   pub steps : List Step
   pub went : Went seen result steps old new
-  pub searched : AllByRecursion (λ step. is_searched step ≡ true) steps
+  pub searched : AreSearched (session_of old).solver_names steps
   pub keeps : Keeps new
   pub ends : MatchResult result (λ x. Answers x steps) IsFault

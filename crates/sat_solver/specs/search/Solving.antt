@@ -1,6 +1,5 @@
 -- What rounds come to, one after another.
 use Rattle.std.specs.Prelude.{ℕ, ◌≡◌, ◌+◌, ◌<◌, ◌⊎◌, true, List, [], ◌∷◌, ◌++◌, length, Err}
-use Rattle.std.specs.List.{AllByRecursion}
 use Rattle.sat_base.specs.device.Device.{Writer}
 use Rattle.sat_base.specs.steps.Steps.{Step, AtClause}
 use Rattle.sat_parts.specs.prop.TrailWord.{Letter}
@@ -13,7 +12,7 @@ use Rattle.sat_solver.specs.declared.bound.search.Outcome.TheVariants as outcome
 use Rattle.sat_solver.specs.declared.error.SolverError.{SolverError}
 use Rattle.sat_solver.specs.declared.search.solving.Core.{Core}
 use Rattle.sat_solver.specs.declared.search.work.Search.{Search}
-use Rattle.sat_solver.specs.search.Going.{is_searched, Goes}
+use Rattle.sat_solver.specs.search.Going.{AreSearched, Goes}
 use Rattle.sat_solver.specs.search.Joint.{assumed_in, IsSearch, Moved}
 use Rattle.sat_solver.specs.search.Rounds.{RoundFails, RoundShows}
 
@@ -46,7 +45,7 @@ values_in c = length c.search.parts.assignment.current
 pub record Gone {W : Type 0} (seen : W → Writer) (a : Core W) (k : ℕ) (b : Core W) : Type 0 where
   pub steps : List Step
   pub adds : Adds seen steps a.proof b.proof
-  pub searched : AllByRecursion (λ step. is_searched step ≡ true) steps
+  pub searched : AreSearched (session_of a.proof).solver_names steps
   pub moved : Moved a.search b.search
   pub config : b.config ≡ a.config
   pub times : AdvanceTimes (steps_of a.proof) steps k
@@ -61,7 +60,7 @@ EndSays outcomes.Failed s c c' = RoundFails s c c'
 pub record Ended {W : Type 0} (seen : W → Writer) (a : Core W) (outcome : Outcome) (b : Core W) : Type 0 where
   pub steps : List Step
   pub adds : Adds seen steps a.proof b.proof
-  pub searched : AllByRecursion (λ step. is_searched step ≡ true) steps
+  pub searched : AreSearched (session_of a.proof).solver_names steps
   pub keeps : Keeps b.proof
   pub config : b.config ≡ a.config
   pub says : EndSays outcome (session_of b.proof) a.search b.search

@@ -1,10 +1,10 @@
 -- Calls that make steps of a search, one after another.
-use Rattle.std.proofs.Common.{◌≡◌, true, Result, Ok, Err, List, [], ◌∷◌, ◌++◌}
+use Rattle.std.proofs.Common.{ℕ, ◌≡◌, Result, Ok, Err, Option, List, [], ◌∷◌, ◌++◌, subst}
 use Rattle.std.specs.Prelude.{MatchResult}
-use Rattle.std.specs.List.{AllByRecursion}
 use Rattle.sat_base.specs.device.Device.{Writer}
 use Rattle.sat_base.specs.steps.Steps.{Step}
-use Rattle.sat_solver.specs.session.ProofView.{Adds, Records, Keeps, steps_of}
+use Rattle.sat_solver.specs.session.ProofView.{Adds, Records, Keeps, steps_of, session_of}
+use Rattle.sat_solver.specs.session.Session.{session_after}
 use Rattle.sat_solver.specs.declared.session.proof.Proof.{Proof}
 use Rattle.sat_solver.specs.declared.session.proof.ProofError.{ProofError}
 use Rattle.sat_solver.specs.declared.session.proof.ProofError.TheVariants.{Write}
@@ -14,14 +14,17 @@ use Rattle.sat_store.specs.declared.clause.alloc.StoreError.TheVariants as store
 use Rattle.sat_solver.specs.Recovery.{failure_of}
 use Rattle.sat_solver.specs.declared.error.SolverError.{SolverError}
 use Rattle.sat_solver.specs.declared.error.SolverError.TheVariants as errors
-use Rattle.sat_solver.specs.search.Going.{is_searched, fault_of, IsFault, Went, Goes}
+use Rattle.sat_solver.specs.search.Going.{AreSearched, IsSearched, fault_of, IsFault, Went, Goes}
+use Rattle.sat_solver.proofs.lemmas.search.AskedLemmas.{names_behind}
 
-abbrev pub AreSearched : List Step → Type 0
-AreSearched = AllByRecursion (λ step. is_searched step ≡ true)
+both : (names : ℕ → Option ℕ) (ys xs : List Step) → AreSearched names ys → AreSearched names xs → AreSearched names (ys ++ xs)
+both names [] xs h k = k
+both names (y ∷ ys) xs h k = (h.0, both names ys xs h.1 k)
 
-pub searched_both : (ys xs : List Step) → AreSearched ys → AreSearched xs → AreSearched (ys ++ xs)
-searched_both [] xs h k = k
-searched_both (y ∷ ys) xs h k = (h.0, searched_both ys xs h.1 k)
+-- Steps of a search, and then later ones of it: the solver names are the same.
+pub searched_both : (ys xs later earlier : List Step) → later ≡ xs ++ earlier → AreSearched (session_after later).solver_names ys → AreSearched (session_after earlier).solver_names xs → AreSearched (session_after earlier).solver_names (ys ++ xs)
+searched_both ys xs later earlier written h k =
+    both (session_after earlier).solver_names ys xs (subst (λ names. AreSearched names ys) (names_behind xs later earlier (session_after earlier).solver_names written k) h) k
 
 module _ {W : Type 0} (seen : W → Writer) where
   -- nothing was written
@@ -38,15 +41,15 @@ module _ {W : Type 0} (seen : W → Writer) where
   goes_unstored stores.OutOfMemory p P keeps = record { steps = []; went = adds_none seen p; searched = tt; keeps = keeps; ends = tt }
 
   -- one step was written
-  pub goes_step : {A : Type 0} (x : A) (p q : Proof W) (step : Step) (P : A → List Step → Type 0) → is_searched step ≡ true → Keeps q → Adds seen (step ∷ []) p q → P x (step ∷ []) → Goes seen (Ok x) p q P
+  pub goes_step : {A : Type 0} (x : A) (p q : Proof W) (step : Step) (P : A → List Step → Type 0) → IsSearched (session_of p).solver_names step → Keeps q → Adds seen (step ∷ []) p q → P x (step ∷ []) → Goes seen (Ok x) p q P
   goes_step x p q step P s keeps adds h = record { steps = step ∷ []; went = adds; searched = (s, tt); keeps = keeps; ends = h }
 
   -- a step was made, and the target failed at it
-  pub goes_broken : {A : Type 0} (e : ProofError) (p q : Proof W) (step : Step) (P : A → List Step → Type 0) → is_searched step ≡ true → Keeps q → Records {T = Unit {0}} seen (Err e) (step ∷ []) p q → Goes seen (Err (fault_of e)) p q P
+  pub goes_broken : {A : Type 0} (e : ProofError) (p q : Proof W) (step : Step) (P : A → List Step → Type 0) → IsSearched (session_of p).solver_names step → Keeps q → Records {T = Unit {0}} seen (Err e) (step ∷ []) p q → Goes seen (Err (fault_of e)) p q P
   goes_broken (Write cause) p q step P s keeps fails = record { steps = step ∷ []; went = fails; searched = (s, tt); keeps = keeps; ends = tt }
 
   -- a step was made, and then the clause buffer refused
-  pub goes_refused : {A : Type 0} (s : StoreError) (p q : Proof W) (step : Step) (P : A → List Step → Type 0) → is_searched step ≡ true → Keeps q → Adds seen (step ∷ []) p q → Goes seen (Err (failure_of s)) p q P
+  pub goes_refused : {A : Type 0} (s : StoreError) (p q : Proof W) (step : Step) (P : A → List Step → Type 0) → IsSearched (session_of p).solver_names step → Keeps q → Adds seen (step ∷ []) p q → Goes seen (Err (failure_of s)) p q P
   goes_refused stores.StoreFull p q step P s keeps adds = record { steps = step ∷ []; went = adds; searched = (s, tt); keeps = keeps; ends = tt }
   goes_refused stores.OutOfMemory p q step P s keeps adds = record { steps = step ∷ []; went = adds; searched = (s, tt); keeps = keeps; ends = tt }
 
@@ -82,7 +85,7 @@ module _ {W : Type 0} (seen : W → Writer) where
   goes_then x r a b c P Q R h k f = record {
     steps = k.steps ++ h.steps;
     went = went_later r h.steps k.steps a b c h.went k.went;
-    searched = searched_both k.steps h.steps k.searched h.searched;
+    searched = searched_both k.steps h.steps (steps_of b) (steps_of a) h.went.history k.searched h.searched;
     keeps = k.keeps;
     ends = ends_with r (λ y. Q y k.steps) (λ y. R y (k.steps ++ h.steps)) (λ y. f h.steps k.steps y h.ends) k.ends;
   }
@@ -110,7 +113,7 @@ module _ {W : Type 0} (seen : W → Writer) where
   goes_behind x r a b c P Q R h k f = record {
     steps = k.steps ++ h.steps;
     went = went_later r h.steps k.steps a b c h.went k.went;
-    searched = searched_both k.steps h.steps k.searched h.searched;
+    searched = searched_both k.steps h.steps (steps_of b) (steps_of a) h.went.history k.searched h.searched;
     keeps = k.keeps;
     ends = ends_with r (λ y. Q y k.steps) (λ y. R y (k.steps ++ h.steps)) (λ y. f h.steps k.steps y h.went.history h.ends) k.ends;
   }
@@ -120,7 +123,7 @@ module _ {W : Type 0} (seen : W → Writer) where
   goes_then_fails {A = A} {B = B} {C = C} x e a b c P Q R h k = record {
     steps = k.steps ++ h.steps;
     went = went_later {A = C} (Err e) h.steps k.steps a b c h.went (went_failing B C e k.steps b c k.went);
-    searched = searched_both k.steps h.steps k.searched h.searched;
+    searched = searched_both k.steps h.steps (steps_of b) (steps_of a) h.went.history k.searched h.searched;
     keeps = k.keeps;
     ends = k.ends;
   }

@@ -19,13 +19,13 @@ use Rattle.sat_solver.specs.declared.bound.search.Outcome.TheVariants as outcome
 use Rattle.sat_solver.specs.declared.error.SolverError.{SolverError}
 use Rattle.sat_solver.specs.declared.search.solving.Core.{Core}
 use Rattle.sat_solver.specs.declared.search.work.Search.{Search}
-use Rattle.sat_solver.specs.search.Going.{Goes}
+use Rattle.sat_solver.specs.search.Going.{AreSearched, Goes}
 use Rattle.sat_solver.specs.search.Joint.{assumed_in, Moved}
 use Rattle.sat_solver.specs.search.Learning.{LastAdvances}
 use Rattle.sat_solver.specs.search.Reducing.{Reduced}
 use Rattle.sat_solver.specs.search.Rounds.{RoundLearns, RoundSays}
 use Rattle.sat_solver.specs.search.Solving.{AdvanceTimes, words_in, values_in, Gone, EndSays, Ended, Broke}
-use Rattle.sat_solver.proofs.lemmas.search.GoingLemmas.{AreSearched, searched_both, goes_then_fails}
+use Rattle.sat_solver.proofs.lemmas.search.GoingLemmas.{searched_both, goes_then_fails}
 use Rattle.sat_solver.proofs.lemmas.search.TurnLemmas.{moved_refl, moved_trans}
 
 -- STEPS THAT ADVANCE
@@ -69,11 +69,11 @@ module _ {W : Type 0} (seen : W → Writer) where
   gone_none a = record { steps = []; adds = adds_none seen a.proof; searched = tt; moved = moved_refl a.search; config = refl; times = refl }
 
   module _ (a b : Core W) (config : b.config ≡ a.config) where
-    gone_on : (ys : List Step) → Adds seen ys a.proof b.proof → AreSearched ys → Moved a.search b.search → (s : Core W) (j k : ℕ) → (g : Gone seen s k a) → AdvanceTimes (steps_of s.proof) (ys ++ g.steps) j → Gone seen s j b
+    gone_on : (ys : List Step) → Adds seen ys a.proof b.proof → AreSearched (session_of a.proof).solver_names ys → Moved a.search b.search → (s : Core W) (j k : ℕ) → (g : Gone seen s k a) → AdvanceTimes (steps_of s.proof) (ys ++ g.steps) j → Gone seen s j b
     gone_on ys adds searched moved s j k g times = record {
       steps = ys ++ g.steps;
       adds = adds_more seen g.steps ys s.proof a.proof b.proof g.adds adds;
-      searched = searched_both ys g.steps searched g.searched;
+      searched = searched_both ys g.steps (steps_of a.proof) (steps_of s.proof) g.adds.history searched g.searched;
       moved = moved_trans s.search a.search b.search g.moved moved;
       config = config ∙ g.config;
       times = times;
@@ -127,7 +127,7 @@ module _ {W : Type 0} (seen : W → Writer) where
     round_ends (Ok o) g = λ n s k gone. record {
       steps = g.steps ++ gone.steps;
       adds = adds_more seen gone.steps g.steps s.proof a.proof b.proof gone.adds g.went;
-      searched = searched_both g.steps gone.steps g.searched gone.searched;
+      searched = searched_both g.steps gone.steps (steps_of a.proof) (steps_of s.proof) gone.adds.history g.searched gone.searched;
       keeps = g.keeps;
       config = config ∙ gone.config;
       says = end_says o (steps_of a.proof) g.steps (session_of b.proof) s.search n gone.moved g.ends;

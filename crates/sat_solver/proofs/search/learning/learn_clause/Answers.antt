@@ -6,13 +6,14 @@ use Rattle.sat_parts.specs.prop.Causes.{falsified}
 use Rattle.sat_solver.specs.declared.parts.assumptions.Assumptions.{Assumptions}
 use Rattle.sat_solver.specs.parts.Assumed.{ArePlaced}
 use Rattle.sat_solver.proofs.lemmas.search.TurnLemmas.{free_moved}
-use Rattle.sat_solver.specs.session.ProofView.{steps_of}
+use Rattle.sat_solver.specs.session.ProofView.{steps_of, session_of}
 use Rattle.sat_solver.specs.parts.Whole.{state}
 use Rattle.sat_solver.proofs.lemmas.joint.LearnedLemmas.{is_learned_clause}
 use Rattle.sat_solver.specs.declared.search.work.Search.{Search}
 use Rattle.sat_solver.specs.search.Joint.{global_in}
 use Rattle.sat_solver.proofs.lemmas.search.GoingLemmas.{goes_starved, goes_step, goes_broken, goes_refused}
 use Rattle.sat_solver.proofs.lemmas.search.LearningLemmas.{learned_allowed, learned_stands, learned_last, learned_whole}
+use Rattle.sat_solver.proofs.lemmas.search.NamedLemmas.{learned_named}
 use Rattle.sat_solver.proofs.search.learning.learn_clause.Goals as goal
 
 pub returns-in_err-level : goal.returns-in_err-level
@@ -28,8 +29,13 @@ step-requires-clause-may g c =
 
 pub returns-in-Err : goal.returns-in-Err
 returns-in-Err g c =
+    let x = c.in_ok-level.ensures in
     rw c.proof_fault.ensures
-    (record { learned = goes_broken g.W.CountedWrite.seen c.in-Err.error c.args.proof.now c.step.new.self _ _ refl c.in-Err.ensures.keeps c.in-Err.ensures.records; met = tt })
+    (record {
+      learned = goes_broken g.W.CountedWrite.seen c.in-Err.error c.args.proof.now c.step.new.self (AtClause c.says_redundant.result c.deref.result.now c.deref-2.result.now) _
+          (learned_named c.args.search.now.parts c.args.conflict.now c.analyze.new.search.analysis c.in_ok-level.level (session_of c.args.proof.now) (global_in c.args.search.now) c.requires.stopped.fits x.learns c.deref.result.now (c.deref.ensures.value ∙ x.clause)) c.in-Err.ensures.keeps c.in-Err.ensures.records;
+      met = tt;
+    })
 
 pub take_in-requires-clause-learned : goal.take_in-requires-clause-learned
 take_in-requires-clause-learned g c =
@@ -40,7 +46,12 @@ take_in-requires-clause-learned g c =
 pub returns-in_err-take_in : goal.returns-in_err-take_in
 returns-in_err-take_in g c =
     let p = err_from_is_err_and c.from_residual-in_err-take_in.result c.from_residual-in_err-take_in.ensures.1 in
-    rw (p.1, p.2) (record { learned = goes_refused g.W.CountedWrite.seen c.in_err-take_in.field-0.0 c.args.proof.now c.step.new.self _ _ refl c.in_default.ensures.keeps c.in_default.ensures.records; met = tt })
+    let x = c.in_ok-level.ensures in
+    rw (p.1, p.2) (record {
+      learned = goes_refused g.W.CountedWrite.seen c.in_err-take_in.field-0.0 c.args.proof.now c.step.new.self (AtClause c.says_redundant.result c.deref.result.now c.deref-2.result.now) _
+          (learned_named c.args.search.now.parts c.args.conflict.now c.analyze.new.search.analysis c.in_ok-level.level (session_of c.args.proof.now) (global_in c.args.search.now) c.requires.stopped.fits x.learns c.deref.result.now (c.deref.ensures.value ∙ x.clause)) c.in_default.ensures.keeps c.in_default.ensures.records;
+      met = tt;
+    })
 
 pub returns-clause-learned : goal.returns-clause-learned
 returns-clause-learned g c =
@@ -57,7 +68,8 @@ returns-clause-learned g c =
     let lits : c.cut.new.self.lits ≡ c.args.search.now.assumptions.lits = c.cut.ensures.lits ∙ ap (λ (a : Assumptions). a.lits) assumptions in
     let before : ArePlaced c.analyze.new.search.assumptions (state c.args.search.now.parts) = rw assumptions r.ready.placed in
     let placed = c.cut.ensures.placed (state c.args.search.now.parts) (state c.take_in.new.parts) before (omega (arith, x.learns.below)) keeps y.starts in
-    goes_step g.W.CountedWrite.seen tt c.args.proof.now c.step.new.self _ _ refl c.in_default.ensures.keeps c.in_default.ensures.records
+    goes_step g.W.CountedWrite.seen tt c.args.proof.now c.step.new.self (AtClause c.says_redundant.result c.deref.result.now c.deref-2.result.now) _
+    (learned_named c.args.search.now.parts c.args.conflict.now c.analyze.new.search.analysis c.in_ok-level.level (session_of c.args.proof.now) (global_in c.args.search.now) c.requires.stopped.fits x.learns c.deref.result.now (c.deref.ensures.value ∙ x.clause)) c.in_default.ensures.keeps c.in_default.ensures.records
     (learned_whole (steps_of c.args.proof.now) (steps_of c.step.new.self) (AtClause c.says_redundant.result c.deref.result.now c.deref-2.result.now) c.args.search.now _ r.ready refl c.in_default.ensures.records.history
     (learned_stands c.args.search.now.parts c.args.conflict.now c.analyze.new.search.analysis c.in_ok-level.level (steps_of c.args.proof.now) (global_in c.args.search.now) r.refuted c.requires.above r.fits x.learns
     c.take_in.new.parts c.in_ok-level.header c.deref.result.now c.deref-2.result.now c.says_redundant.result (steps_of c.step.new.self) (c.deref.ensures.value ∙ x.clause) flags c.in_default.ensures.records.history y.holds fits)

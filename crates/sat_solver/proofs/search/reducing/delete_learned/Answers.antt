@@ -24,11 +24,11 @@ step-requires-clause-may g c =
 
 pub returns-in-Ok : goal.returns-in-Ok
 returns-in-Ok g c =
-    goes_step g.W.CountedWrite.seen true c.args.proof.now c.step.new.self (DeleteClause c.deref-2.result.now Redundant) _ refl c.in-Ok.ensures.keeps c.in-Ok.ensures.records
+    goes_step g.W.CountedWrite.seen true c.args.proof.now c.step.new.self (DeleteClause c.deref-2.result.now Redundant) _ tt c.in-Ok.ensures.keeps c.in-Ok.ensures.records
     (deleted_one (session_of c.args.proof.now) c.args.search.now _ c.requires.search refl refl refl refl c.args.cref c.requires.learned (c.drop_clause.ensures.dropped c.if-not-drop_clause.false)
     (session_of c.step.new.self) c.deref-2.result.now (c.deref-2.ensures.value ∙ rw c.deref.ensures.value at c.in_ok-map_clause.ensures) (ap (λ ss. session_after ss) c.in-Ok.ensures.records.history) c.drop_clause.ensures.holds c.drop_clause.ensures.word c.drop_clause.ensures.others)
 
 pub returns-in-Err : goal.returns-in-Err
 returns-in-Err g c =
     rw c.proof_fault.ensures
-    (goes_broken g.W.CountedWrite.seen c.in-Err.error c.args.proof.now c.step.new.self (DeleteClause c.deref-2.result.now Redundant) _ refl c.in-Err.ensures.keeps c.in-Err.ensures.records)
+    (goes_broken g.W.CountedWrite.seen c.in-Err.error c.args.proof.now c.step.new.self (DeleteClause c.deref-2.result.now Redundant) _ tt c.in-Err.ensures.keeps c.in-Err.ensures.records)

@@ -30,11 +30,11 @@ step-requires-clause-may g c =
 pub returns-in-Ok : goal.returns-in-Ok
 returns-in-Ok g c =
     goes_then g.W.CountedWrite.seen c.in_ok-write_units.field-0 (Ok tt) c.args.proof.now c.write_units.new.proof c.step.new.self _ (λ _ _. (session_of c.step.new.self).unsat ≡ true) (λ _ _. (session_of c.step.new.self).unsat ≡ true) c.in_ok-write_units.ensures
-    (goes_step g.W.CountedWrite.seen tt c.write_units.new.proof c.step.new.self (AtClause false [] c.deref.result.now) _ refl c.in-Ok.ensures.keeps c.in-Ok.ensures.records (ap (λ ss. (session_after ss).unsat) c.in-Ok.ensures.records.history))
+    (goes_step g.W.CountedWrite.seen tt c.write_units.new.proof c.step.new.self (AtClause false [] c.deref.result.now) _ tt c.in-Ok.ensures.keeps c.in-Ok.ensures.records (ap (λ ss. (session_after ss).unsat) c.in-Ok.ensures.records.history))
     (λ xs ys y a b. b)
 
 pub returns-in-Err : goal.returns-in-Err
 returns-in-Err g c =
     rw c.proof_fault.ensures
     (goes_then_fails g.W.CountedWrite.seen c.in_ok-write_units.field-0 (fault_of c.in-Err.error) c.args.proof.now c.write_units.new.proof c.step.new.self _ (λ (_ : Unit {0}) _. Unit {0}) _ c.in_ok-write_units.ensures
-    (goes_broken g.W.CountedWrite.seen c.in-Err.error c.write_units.new.proof c.step.new.self (AtClause false [] c.deref.result.now) _ refl c.in-Err.ensures.keeps c.in-Err.ensures.records))
+    (goes_broken g.W.CountedWrite.seen c.in-Err.error c.write_units.new.proof c.step.new.self (AtClause false [] c.deref.result.now) _ tt c.in-Err.ensures.keeps c.in-Err.ensures.records))

@@ -12,6 +12,7 @@ use Rattle.sat_solver.proofs.lemmas.joint.UnitLemmas.{units_may}
 use Rattle.sat_solver.specs.search.Left.{AllUnits}
 use Rattle.sat_solver.proofs.lemmas.search.GoingLemmas.{goes_none, goes_starved, goes_step, goes_broken}
 use Rattle.sat_solver.proofs.lemmas.search.LeftLemmas.{units_step, units_none, none_left}
+use Rattle.sat_solver.proofs.lemmas.search.NamedLemmas.{units_named}
 use Rattle.sat_solver.proofs.search.units.write_units.Goals as goal
 
 pub returns-then-is_err : goal.returns-then-is_err
@@ -36,11 +37,15 @@ pub returns-in-Ok : goal.returns-in-Ok
 returns-in-Ok g c =
     let same : c.deref.result.now ≡ written_units c.args.parts.now.clauses (state c.args.parts.now) 64 (global_of c.args.globals.now) c.args.parts.now.trail.lits =
     c.deref.ensures.value ∙ ok_part c.collect_units.result _ (sym c.is_err.ensures.value ∙ c.if-is_err.false) c.collect_units.ensures in
-    goes_step g.W.CountedWrite.seen tt c.args.proof.now c.step.new.self (UnitClauses c.deref.result.now) (λ _ _. AllUnits c.args.parts.now (session_of c.step.new.self) (global_of c.args.globals.now)) refl c.in-Ok.ensures.keeps c.in-Ok.ensures.records
+    goes_step g.W.CountedWrite.seen tt c.args.proof.now c.step.new.self (UnitClauses c.deref.result.now) (λ _ _. AllUnits c.args.parts.now (session_of c.step.new.self) (global_of c.args.globals.now))
+    (units_named c.args.parts.now (session_of c.args.proof.now) (global_of c.args.globals.now) c.requires.fits c.requires.orderly c.deref.result.now same) c.in-Ok.ensures.keeps c.in-Ok.ensures.records
     (subst (λ ss. AllUnits c.args.parts.now (session_after ss) (global_of c.args.globals.now)) (sym c.in-Ok.ensures.records.history ∙ refl)
     (rw same (units_step c.args.parts.now (session_of c.args.proof.now) (global_of c.args.globals.now) c.requires.orderly c.requires.bottom c.requires.fits)))
 
 pub returns-in-Err : goal.returns-in-Err
 returns-in-Err g c =
+    let same : c.deref.result.now ≡ written_units c.args.parts.now.clauses (state c.args.parts.now) 64 (global_of c.args.globals.now) c.args.parts.now.trail.lits =
+    c.deref.ensures.value ∙ ok_part c.collect_units.result _ (sym c.is_err.ensures.value ∙ c.if-is_err.false) c.collect_units.ensures in
     rw c.proof_fault.ensures
-    (goes_broken g.W.CountedWrite.seen c.in-Err.error c.args.proof.now c.step.new.self (UnitClauses c.deref.result.now) (λ _ _. AllUnits c.args.parts.now (session_of c.step.new.self) (global_of c.args.globals.now)) refl c.in-Err.ensures.keeps c.in-Err.ensures.records)
+    (goes_broken g.W.CountedWrite.seen c.in-Err.error c.args.proof.now c.step.new.self (UnitClauses c.deref.result.now) (λ _ _. AllUnits c.args.parts.now (session_of c.step.new.self) (global_of c.args.globals.now))
+    (units_named c.args.parts.now (session_of c.args.proof.now) (global_of c.args.globals.now) c.requires.fits c.requires.orderly c.deref.result.now same) c.in-Err.ensures.keeps c.in-Err.ensures.records)
