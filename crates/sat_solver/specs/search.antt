@@ -1,6 +1,7 @@
 pub mod Bumping
 pub mod Failing
 pub mod Going
+pub mod Grading
 pub mod Joint
 pub mod Learning
 pub mod Left

@@ -3,6 +3,7 @@ pub mod advance;
 pub mod bumping;
 pub mod failing;
 pub mod fault;
+pub mod grading;
 pub mod learning;
 pub mod reducing;
 pub mod round;

@@ -3,6 +3,8 @@ pub mod BumpingLemmas
 pub mod FailingLemmas
 pub mod GlueLemmas
 pub mod GoingLemmas
+pub mod GradingLemmas
+pub mod InvolvedLemmas
 pub mod LearningLemmas
 pub mod LeftLemmas
 pub mod NamedLemmas
@@ -10,4 +12,5 @@ pub mod ReducingLemmas
 pub mod RoundLemmas
 pub mod ShowingLemmas
 pub mod SolvingLemmas
+pub mod TakingLemmas
 pub mod TurnLemmas

@@ -1,11 +1,23 @@
 -- What learning a clause leaves.
-use Rattle.std.specs.Prelude.{ℕ, ◌≡◌, Bool, List, ◌∷◌, ◌++◌}
+use Rattle.std.specs.Prelude.{ℕ, ◌≡◌, Bool, List, ◌∷◌, ◌++◌, length}
 use Rattle.sat_base.specs.steps.Steps.{Step, AtClause}
+use Rattle.sat_store.specs.clause.Header.{Header}
+use Rattle.sat_store.specs.heap.Vsids.{decayed}
+use Rattle.sat_parts.specs.clause.Activity.{Scale}
+use Rattle.sat_parts.specs.clause.Glue.{levels_of, different}
+use Rattle.sat_solver.specs.analysis.Work.{Work}
+use Rattle.sat_solver.specs.declared.parts.Parts.{Parts}
+use Rattle.sat_solver.specs.parts.Frame.{SameClauses, KeepsTo, Learnt}
+use Rattle.sat_solver.specs.parts.Whole.{state, Holds}
 use Rattle.sat_solver.specs.parts.Words.{Rises}
 use Rattle.sat_solver.specs.session.Session.{Session, session_after}
 use Rattle.sat_solver.specs.joint.Advancing.{Advances}
+use Rattle.sat_solver.specs.joint.Learning.{TakesIn}
 use Rattle.sat_solver.specs.declared.search.work.Search.{Search}
+use Rattle.sat_solver.specs.search.Bumping.{all_bumped}
+use Rattle.sat_solver.specs.search.Grading.{graded, levels_in, TakePart}
 use Rattle.sat_solver.specs.search.Joint.{IsSearch, Moved}
+use Rattle.sat_solver.specs.search.Left.{SameSize}
 
 -- the newest of these steps is a derived clause that advances behind the others and the earlier ones
 pub record LastAdvances (earlier steps : List Step) : Type 0 where
@@ -22,3 +34,32 @@ pub record Learned (earlier steps : List Step) (s : Session) (c c' : Search) : T
   pub moved : Moved c c'
   pub rises : Rises c.parts c'.parts
   pub last : LastAdvances earlier steps
+
+-- the levels above this one were undone, and what was learned came in
+pub record Taken (p p' : Parts) (header : Header) (ls : List ℕ) (level : ℕ) : Type 0 where
+  pub holds : Holds p'
+  pub fits : TakesIn p p' header ls
+  pub rises : Rises p p'
+  pub size : SameSize p p'
+  pub keeps : KeepsTo level (state p) (state p')
+  pub starts : length p'.trail.starts ≡ level
+
+-- The long clauses that took part, the one that was found false first, were raised and improved by the levels that were, and
+-- activities decayed. Then a clause of this header came in, of activity 0.
+pub record Rated (p : Parts) (s : Scale) (w : Work) (header : Header) (p' : Parts) (s' : Scale) : Type 0 where
+  pub between : Parts
+  pub take : TakePart (levels_in p) p.db.refs w.involved p.clauses s between.clauses s'
+  pub refs : between.db.refs ≡ p.db.refs
+  pub learnt : Learnt between p' header w.clause
+
+-- the same of a search: a learned clause has the glue of its levels
+abbrev pub IsRated : Search → Search → Type 0
+IsRated c c' = Rated c.parts c.activity c'.analysis (graded (different (levels_of c.parts.graph c'.analysis.clause))) c'.parts c'.activity
+
+-- and then the variables that were met were raised, each once, and their activities decayed; clauses stayed as they were
+pub record IsRaised (c c' : Search) : Type 0 where
+  pub behind : Search
+  pub rated : IsRated c behind
+  pub rest : c' ≡ record behind { parts = c'.parts }
+  pub clauses : SameClauses behind.parts c'.parts
+  pub queue : c'.parts.vsids ≡ decayed (all_bumped behind.analysis.met behind.parts.vsids)

@@ -98,6 +98,7 @@ pub fn put_header(parts: &mut Parts, cref: ClauseRef, header: ClauseHeader)
     requires len { header.len ≡ (header_at parts.old.clauses cref).len }
     ensures holds { Holds parts.new }
     ensures put { PutsHeader parts.old.clauses parts.new.clauses parts.old.db.refs cref header }
+    ensures db { parts.new.db ≡ parts.old.db }
     ensures headed { Headed parts.old parts.new }
     ensures word { Extends parts.old parts.new }
 {
@@ -170,6 +171,7 @@ pub fn bump_clause(parts: &mut Parts, activity: &mut ClauseActivity, cref: Claus
     ensures holds { Holds parts.new }
     ensures raised { StaysBelow parts.old.clauses cref activity.old → BumpsOne parts.old.clauses parts.new.clauses parts.old.db.refs cref activity.old activity.new }
     ensures rescaled { ComesTo parts.old.clauses cref activity.old → BumpsAll parts.old.clauses parts.new.clauses parts.old.db.refs cref activity.old activity.new }
+    ensures db { parts.new.db ≡ parts.old.db }
     ensures headed { Headed parts.old parts.new }
     ensures word { Extends parts.old parts.new }
 {
@@ -195,6 +197,7 @@ pub fn decay_clauses(parts: &mut Parts, activity: &mut ClauseActivity)
     ensures holds { Holds parts.new }
     ensures later { later_bump activity.old < 2 ^ 30 → (activity.new ≡ later_scale activity.old) × (parts.new.clauses ≡ parts.old.clauses) }
     ensures rescaled { 2 ^ 30 ≤ later_bump activity.old → DecaysAll parts.old.clauses parts.new.clauses parts.old.db.refs activity.old activity.new }
+    ensures db { parts.new.db ≡ parts.old.db }
     ensures headed { Headed parts.old parts.new }
     ensures word { Extends parts.old parts.new }
 {

@@ -197,6 +197,7 @@ pub fn undo(parts: &mut Parts, level: usize)
     ensures pending { (ls : List ℕ) → IsLearned (state parts.old) ls level → IsPending (state parts.new) parts.new.vsids ls }
     ensures starts { length parts.new.trail.starts ≡ level }
     ensures trail { parts.new.trail ≡ cut_to level parts.old.trail }
+    ensures graph { parts.new.graph ≡ parts.old.graph }
     ensures same { SameClauses parts.old parts.new }
     ensures carries { Carries (state parts.old) (state parts.new) }
     ensures keeps { KeepsTo level (state parts.old) (state parts.new) }

@@ -1,16 +1,26 @@
-//! The variables that a conflict met are picked sooner from there on.
-ghost use Rattle.std.specs.Prelude.{length};
+//! What an analysis met counts for more from there on: variables are picked sooner, and clauses are kept longer.
+ghost use Rattle.std.specs.Prelude.{◌≡◌, ℕ, length};
+ghost use Rattle.std.specs.List.{Contains};
+ghost use Rattle.sat_store.specs.clause.Buffer.{lits_at};
+ghost use Rattle.sat_store.specs.heap.Vsids.{decayed};
+ghost use Rattle.sat_parts.specs.clause.Db.{live_refs};
+ghost use Rattle.sat_parts.specs.clause.Glue.{HaveFlags, AreClear};
 ghost use Rattle.sat_solver.specs.session.Session.{Session};
 ghost use Rattle.sat_solver.specs.parts.Frame.{SameClauses, SameState};
 ghost use Rattle.sat_solver.specs.parts.Whole.{Holds};
 ghost use Rattle.sat_solver.specs.parts.Words.{Extends};
-ghost use Rattle.sat_solver.specs.search.Bumping.{AreBelow, Bumped};
+ghost use Rattle.sat_solver.specs.search.Bumping.{AreBelow, AreDecays, all_bumped, Bumped};
+ghost use Rattle.sat_solver.specs.search.Grading.{levels_in, TakesPart, TakePart, Rates, AreInvolved};
 ghost use Rattle.sat_solver.specs.search.Joint.{IsSearch};
 
+use crate::SolverConfig;
 use crate::parts::Parts;
-use crate::parts::clauses::{bump_variable, decay_variables};
+use crate::parts::clauses::{bump_clause, bump_variable, decay_clauses, decay_variables};
+use crate::search::grading::improve;
 use crate::search::work::Search;
 use sat_base::Var;
+use sat_parts::{ClauseActivity, compute_clause_glue};
+use sat_store::{ClauseRef, TmpFlags};
 
 /// Raises the activity of each of these variables, and lets later bumps raise more.
 fn bump_all(parts: &mut Parts, vars: &[Var])
@@ -19,6 +29,7 @@ fn bump_all(parts: &mut Parts, vars: &[Var])
     ensures holds { Holds parts.new }
     ensures same { SameClauses parts.old parts.new × SameState parts.old parts.new }
     ensures word { Extends parts.old parts.new }
+    ensures queue { parts.new.vsids ≡ decayed (all_bumped vars.now parts.old.vsids) }
 {
     for var in vars {
         bump_variable(parts, *var);
@@ -30,7 +41,57 @@ fn bump_all(parts: &mut Parts, vars: &[Var])
 pub fn bump_met(search: &mut Search)
     requires holds { Holds search.old.parts }
     requires there { AreBelow search.old.analysis.met (length search.old.parts.assignment.current) }
-    ensures { (s : Session) → IsSearch s search.old → Bumped s search.old search.new }
+    ensures bumped { (s : Session) → IsSearch s search.old → Bumped s search.old search.new }
+    ensures rest { search.new ≡ record search.old { parts = search.new.parts } }
+    ensures clauses { SameClauses search.old.parts search.new.parts }
+    ensures queue { search.new.parts.vsids ≡ decayed (all_bumped search.old.analysis.met search.old.parts.vsids) }
 {
     bump_all(&mut search.parts, search.analysis.met());
+}
+
+/// Lets activities decay as the parameters say.
+pub fn set_decays(search: &mut Search, config: &SolverConfig)
+    requires holds { Holds search.old.parts }
+    requires decays { AreDecays config.now }
+    ensures bumped { (s : Session) → IsSearch s search.old → Bumped s search.old search.new }
+    ensures rest { search.new ≡ record search.old { parts = search.new.parts; activity = search.new.activity } }
+    ensures parts { search.new.parts ≡ record search.old.parts { vsids = record search.old.parts.vsids { decay = config.now.vsids_decay } } }
+    ensures activity { search.new.activity ≡ record search.old.activity { decay = config.now.clause_activity_decay } }
+{
+    search.parts.vsids.set_decay(config.vsids_decay);
+    search.activity.set_decay(config.clause_activity_decay);
+}
+
+/// Raises the activity of a clause that took part in an analysis, and improves its header by the levels of its literals.
+fn bump_one(parts: &mut Parts, activity: &mut ClauseActivity, flags: &mut TmpFlags, cref: ClauseRef)
+    requires holds { Holds parts.old }
+    requires live { Contains (live_refs parts.old.clauses parts.old.db.refs) cref }
+    requires levels { HaveFlags parts.old.graph flags.old.flags.items (lits_at parts.old.clauses cref) }
+    requires clear { AreClear flags.old.flags.items }
+    ensures rates { Rates parts.old parts.new }
+    ensures flags { flags.new.flags.items ≡ flags.old.flags.items }
+    ensures takes { TakesPart (levels_in parts.old cref) parts.old.clauses parts.new.clauses parts.old.db.refs cref activity.old activity.new }
+{
+    bump_clause(parts, activity, cref);
+    let levels = compute_clause_glue(flags, &parts.graph, &parts.clauses, cref);
+    improve(parts, cref, levels);
+}
+
+/// Raises the activity of these clauses, which took part in an analysis, and improves their headers. Then activities decay.
+pub fn bump_clauses(
+    parts: &mut Parts,
+    activity: &mut ClauseActivity,
+    flags: &mut TmpFlags,
+    crefs: &[ClauseRef],
+)
+    requires holds { Holds parts.old }
+    requires involved { AreInvolved parts.old flags.old.flags.items crefs.now }
+    ensures rates { Rates parts.old parts.new }
+    ensures flags { flags.new.flags.items ≡ flags.old.flags.items }
+    ensures take { TakePart (levels_in parts.old) parts.old.db.refs crefs.now parts.old.clauses activity.old parts.new.clauses activity.new }
+{
+    for cref in crefs {
+        bump_one(parts, activity, flags, *cref);
+    }
+    decay_clauses(parts, activity);
 }

@@ -1,37 +1,34 @@
 //! A clause is learned from a conflict: its step is written, and it comes to the others.
 ghost use Rattle.std.specs.Prelude.{ℕ, ◌≡◌, ◌<◌, ◌≤◌, length, map, true, false, OnOk, IfOk};
-ghost use Rattle.sat_store.specs.clause.Header.{is_learned};
-ghost use Rattle.sat_parts.specs.clause.Glue.{HaveNodes, HaveFlags, AreClear};
+ghost use Rattle.sat_parts.specs.clause.Glue.{levels_of, different};
 ghost use Rattle.sat_parts.specs.prop.Causes.{falsified};
 ghost use Rattle.sat_solver.specs.session.LiveClauses.{with_var};
 ghost use Rattle.sat_solver.specs.session.ProofView.{Keeps, steps_of, session_of};
 ghost use Rattle.sat_solver.specs.analysis.Derivation.{Learns};
 ghost use Rattle.sat_solver.specs.parts.Round.{AreUnits, IsBased};
 ghost use Rattle.sat_solver.specs.parts.Learned.{IsLearned};
-ghost use Rattle.sat_solver.specs.parts.Whole.{state, Holds, HoldsBelow, IsRefuted};
-ghost use Rattle.sat_solver.specs.parts.Words.{Rises};
+ghost use Rattle.sat_solver.specs.parts.Whole.{state, HoldsBelow, IsRefuted};
 ghost use Rattle.sat_solver.specs.joint.Laws.{named_hashes};
-ghost use Rattle.sat_solver.specs.joint.Fits.{FitsParts, FlagFits};
-ghost use Rattle.sat_solver.specs.joint.Learning.{TakesIn};
+ghost use Rattle.sat_solver.specs.joint.Fits.{FlagFits};
 ghost use Rattle.sat_solver.specs.search.Bumping.{AreBelow};
 ghost use Rattle.sat_solver.specs.search.Going.{Goes};
+ghost use Rattle.sat_solver.specs.search.Grading.{graded, AreInvolved};
 ghost use Rattle.sat_solver.specs.search.Joint.{global_in, IsFree};
-ghost use Rattle.sat_solver.specs.search.Learning.{Learned};
+ghost use Rattle.sat_solver.specs.search.Learning.{Learned, Taken, Rated, IsRated, IsRaised};
 ghost use Rattle.sat_solver.specs.search.Turns.{IsStopped};
-ghost use Rattle.sat_solver.specs.parts.Frame.{KeepsTo};
 
 use crate::SolverError;
 use crate::analysis::learn_from_conflict;
 use crate::joint::naming::{map_lits, name_clauses};
-use crate::parts::Parts;
 use crate::parts::steps::{learn, undo};
-use crate::search::bumping::bump_met;
+use crate::search::bumping::{bump_clauses, bump_met};
 use crate::search::fault::proof_fault;
+use crate::search::grading::assess;
 use crate::search::work::Search;
 use crate::session::proof::Proof;
 use sat_base::{CountedWrite, Lit, ProofStep};
-use sat_parts::{Conflict, ImplGraph, compute_glue};
-use sat_store::{ClauseHeader, StoreError, Tier, TmpFlags};
+use sat_parts::Conflict;
+use sat_store::{ClauseHeader, StoreError};
 use std::alloc::AllocError;
 
 /// Puts the step of a learned clause together: its literals and the hashes of the clauses that it follows from, in proof variables.
@@ -56,53 +53,28 @@ fn name_learned(search: &mut Search, _level: usize, conflict: &Conflict) -> Resu
     )
 }
 
-/// Takes over what was learned from a conflict.
-fn take_in(
-    parts: &mut Parts,
-    header: ClauseHeader,
-    lits: &[Lit],
-    level: usize,
-) -> Result<(), StoreError>
-    requires holds { HoldsBelow (length parts.old.trail.starts) parts.old }
-    requires units { AreUnits (state parts.old) }
-    requires base { IsBased parts.old.trail }
+/// Goes back to a level, and takes over what was learned from a conflict. Before it comes in, the clauses that took part are raised
+/// and improved, by the levels that were.
+fn take_in(search: &mut Search, header: ClauseHeader, level: usize) -> Result<(), StoreError>
+    requires holds { HoldsBelow (length search.old.parts.trail.starts) search.old.parts }
+    requires units { AreUnits (state search.old.parts) }
+    requires base { IsBased search.old.parts.trail }
     requires live { header.deleted ≡ false }
-    requires learned { IsLearned (state parts.old) lits.now level }
-    ensures holds { OnOk result (Holds parts.new) }
-    ensures fits { OnOk result (TakesIn parts.old parts.new header lits.now) }
-    ensures rises { OnOk result (Rises parts.old parts.new) }
-    ensures size { OnOk result (length parts.new.assignment.current ≡ length parts.old.assignment.current) }
-    ensures keeps { OnOk result (KeepsTo level (state parts.old) (state parts.new)) }
-    ensures starts { OnOk result (length parts.new.trail.starts ≡ level) }
+    requires learned { IsLearned (state search.old.parts) search.old.analysis.clause level }
+    requires involved { AreInvolved search.old.parts search.old.flags.flags.items search.old.analysis.involved }
+    ensures same { search.new ≡ record search.old { parts = search.new.parts; activity = search.new.activity; flags = search.new.flags } }
+    ensures flags { search.new.flags.flags.items ≡ search.old.flags.flags.items }
+    ensures taken { OnOk result (Taken search.old.parts search.new.parts header search.old.analysis.clause level) }
+    ensures rated { OnOk result (Rated search.old.parts search.old.activity search.old.analysis header search.new.parts search.new.activity) }
 {
-    undo(parts, level);
-    learn(parts, header, lits)
-}
-
-/// The tier of a learned clause of this glue.
-fn tier_of(glue: usize) -> Tier
-    ensures { is_learned result ≡ true }
-{
-    if glue <= 2 {
-        return Tier::Core;
-    }
-    if glue <= 6 { Tier::Mid } else { Tier::Local }
-}
-
-/// The header of a learned clause: its glue is the number of its levels, less one.
-fn assess(flags: &mut TmpFlags, graph: &ImplGraph, lits: &[Lit]) -> ClauseHeader
-    requires nodes { HaveNodes graph.now lits.now }
-    requires levels { HaveFlags graph.now flags.old.flags.items lits.now }
-    requires clear { AreClear flags.old.flags.items }
-    ensures live { result.deleted ≡ false }
-    ensures learned { is_learned result.tier ≡ true }
-    ensures clear { flags.new.flags.items ≡ flags.old.flags.items }
-{
-    let glue = compute_glue(flags, graph, lits).saturating_sub(1);
-    let mut header = ClauseHeader::new();
-    header.set_glue(glue);
-    header.set_tier(tier_of(glue));
-    header
+    undo(&mut search.parts, level);
+    bump_clauses(
+        &mut search.parts,
+        &mut search.activity,
+        &mut search.flags,
+        search.analysis.involved(),
+    );
+    learn(&mut search.parts, header, search.analysis.clause())
 }
 
 /// Whether the step of a clause of this header says that it is redundant.
@@ -123,7 +95,8 @@ fn analyze(search: &mut Search, conflict: &Conflict) -> Result<(usize, ClauseHea
     ensures same { search.new ≡ record search.old { analysis = search.new.analysis; flags = search.new.flags; scratch = search.new.scratch } }
     ensures free { OnOk result (IsFree search.new) }
     ensures learns { IfOk result (λ r. Learns search.old.parts.clauses (state search.old.parts) (falsified search.old.parts.clauses conflict.now) search.new.analysis r.0) }
-    ensures header { IfOk result (λ r. (r.1.deleted ≡ false) × (is_learned r.1.tier ≡ true)) }
+    ensures header { IfOk result (λ r. r.1 ≡ graded (different (levels_of search.old.parts.graph search.new.analysis.clause))) }
+    ensures involved { OnOk result (AreInvolved search.old.parts search.new.flags.flags.items search.new.analysis.involved) }
     ensures met { OnOk result (AreBelow search.new.analysis.met (length search.old.parts.assignment.current)) }
     ensures clause { OnOk result (search.new.scratch.clause.items ≡ map (with_var (global_in search.old)) search.new.analysis.clause) }
     ensures hashes { OnOk result (search.new.scratch.hashes.items ≡ named_hashes search.old.parts.clauses (state search.old.parts) search.new.analysis.used conflict.now) }
@@ -160,6 +133,7 @@ fn learn_clause<W: CountedWrite + Drop>(
     requires above { 0 < length search.old.parts.trail.starts }
     ensures learned { Goes W.seen result proof.old proof.new (λ _ steps. Learned (steps_of proof.old) steps (session_of proof.new) search.old search.new) }
     ensures met { OnOk result (AreBelow search.new.analysis.met (length search.new.parts.assignment.current)) }
+    ensures rated { OnOk result (IsRated search.old search.new) }
 {
     let (level, header) = analyze(search, conflict)?;
     let step = ProofStep::AtClause {
@@ -170,12 +144,13 @@ fn learn_clause<W: CountedWrite + Drop>(
     if let Err(error) = proof.step(&step) {
         return Err(proof_fault(error));
     }
-    take_in(&mut search.parts, header, search.analysis.clause(), level)?;
+    take_in(search, header, level)?;
     search.assumptions.cut(level);
     Ok(())
 }
 
-/// Learns a clause from a conflict above level 0, with its step, and raises the activity of the variables that the conflict met.
+/// Learns a clause from a conflict above level 0, with its step, and raises the activity of the clauses and variables that the
+/// conflict met.
 pub fn learn_from<W: CountedWrite + Drop>(
     proof: &mut Proof<W>,
     search: &mut Search,
@@ -184,7 +159,8 @@ pub fn learn_from<W: CountedWrite + Drop>(
     requires keeps { Keeps proof.old }
     requires stopped { IsStopped (session_of proof.old) search.old conflict.now }
     requires above { 0 < length search.old.parts.trail.starts }
-    ensures { Goes W.seen result proof.old proof.new (λ _ steps. Learned (steps_of proof.old) steps (session_of proof.new) search.old search.new) }
+    ensures learned { Goes W.seen result proof.old proof.new (λ _ steps. Learned (steps_of proof.old) steps (session_of proof.new) search.old search.new) }
+    ensures raised { OnOk result (IsRaised search.old search.new) }
 {
     learn_clause(proof, search, conflict)?;
     bump_met(search);

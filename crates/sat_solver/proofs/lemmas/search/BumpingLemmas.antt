@@ -1,5 +1,7 @@
 -- Raised activities leave what is searched.
-use Rattle.std.proofs.Common.{◌≡◌, ◌∙◌, List, [], ◌∷◌, ◌++◌, length, refl, sym, ap, subst}
+use Rattle.std.proofs.Common.{ℕ, zero, suc, ◌+◌, ◌<◌, ◌≤◌, ◌≡◌, ◌∙◌, List, [], ◌∷◌, ◌++◌, length, drop, get_or, refl, sym, ap, subst, arith}
+use Rattle.std.proofs.lemmas.List.{at_drop_more}
+use Rattle.sat_store.specs.heap.Vsids.{Queue, bumped}
 use Rattle.sat_base.specs.steps.Steps.{Step}
 use Rattle.sat_parts.specs.prop.TrailWord.{Letter, D, P, IsBelow}
 use Rattle.sat_solver.specs.session.Session.{Session}
@@ -10,7 +12,7 @@ use Rattle.sat_solver.specs.parts.Words.{Extends, Rises}
 use Rattle.sat_solver.proofs.lemmas.parts.LoadFrames.{carries_same}
 use Rattle.sat_solver.proofs.lemmas.joint.LearnedLemmas.{fits_undone}
 use Rattle.sat_solver.specs.declared.search.work.Search.{Search}
-use Rattle.sat_solver.specs.search.Bumping.{Bumped}
+use Rattle.sat_solver.specs.search.Bumping.{all_bumped, Bumped}
 use Rattle.sat_solver.specs.search.Joint.{global_in, IsSearch}
 use Rattle.sat_solver.specs.search.Learning.{Learned}
 use Rattle.sat_solver.specs.search.Left.{SameSize}
@@ -54,3 +56,14 @@ learned_on earlier steps s a b c x y = record {
   rises = rises_on a.parts b.parts c.parts x.rises y.word;
   last = x.last;
 }
+
+-- VARIABLES, ONE AFTER ANOTHER
+
+pub bumped_next : (vs : List ℕ) (i : ℕ) (q : Queue) → i < length vs → all_bumped (drop i vs) q ≡ all_bumped (drop (i + 1) vs) (bumped (get_or vs i 0) q)
+bumped_next vs i q lt = at_drop_more (λ us. all_bumped us q) vs i 0 lt
+
+pub bumped_last : (vs : List ℕ) (i : ℕ) (q : Queue) → length vs ≤ i → all_bumped (drop i vs) q ≡ q
+bumped_last [] zero q le = refl
+bumped_last [] (suc i) q le = refl
+bumped_last (v ∷ vs) zero q le = absurd (omega arith)
+bumped_last (v ∷ vs) (suc i) q le = bumped_last vs i q (omega arith)

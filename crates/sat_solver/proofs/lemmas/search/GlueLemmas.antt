@@ -36,13 +36,21 @@ starts_few p h =
     let fits : length (standing p.trail) ≤ length p.assignment.current = word_fits [] (state p) p.vsids (standing p.trail) h.below.asks.agrees (word_begins [] p) in
     levels_few p (length p.assignment.current) h.below.levelled (omega (arith, fits, letters_counted p.trail.starts p.trail.lits 0))
 
+-- above a conflict, too
+starts_refuted : (p : Parts) (e : Conflict) → IsRefuted p e → length p.trail.starts ≤ length p.assignment.current
+starts_refuted p e refuted =
+    let fits : length (standing p.trail) ≤ length p.assignment.current = word_fits [] (state p) p.vsids (standing p.trail) refuted.0.asks.agrees (word_begins [] p) in
+    levels_few p (length p.assignment.current) refuted.0.levelled (omega (arith, fits, letters_counted p.trail.starts p.trail.lits 0))
+
+-- there is a flag for a level up to the current one
+pub levels_below : (p : Parts) (e : Conflict) (count : ℕ) → IsRefuted p e → 0 < length p.assignment.current → 2 * length p.assignment.current ≤ count → (level : ℕ) → level ≤ length p.trail.starts → level < count
+levels_below p e count refuted some le level low = omega (arith, starts_refuted p e refuted)
+
 pub levels_flagged : (p : Parts) (e : Conflict) (w : Work) (back count : ℕ) → IsRefuted p e → Learns p.clauses (state p) (falsified p.clauses e) w back → 2 * length p.assignment.current ≤ count →
     (k : ℕ) → k < length w.clause → (node_of p.graph (variable (get_or w.clause k 0))).level < count
 levels_flagged p e w back count refuted learns le k lt =
     let there : variable (get_or w.clause k 0) < length p.assignment.current = below_from_value p.assignment.current (variable (get_or w.clause k 0)) _ (learns.asserting.fails k lt) in
-    let fits : length (standing p.trail) ≤ length p.assignment.current = word_fits [] (state p) p.vsids (standing p.trail) refuted.0.asks.agrees (word_begins [] p) in
-    let lits : length p.trail.lits ≤ length p.assignment.current = omega (arith, fits, letters_counted p.trail.starts p.trail.lits 0) in
-    let few : length p.trail.starts ≤ length p.assignment.current = levels_few p (length p.assignment.current) refuted.0.levelled lits in
+    let few : length p.trail.starts ≤ length p.assignment.current = starts_refuted p e refuted in
     elim (cases_eq k 0) [
       | inl z ↦ subst (λ j. (node_of p.graph (variable (get_or w.clause j 0))).level < count) (sym z) (omega (arith, learns.asserting.top, few, there))
       | inr d ↦ omega (arith, learns.asserting.lower k (omega arith) lt, few, there)

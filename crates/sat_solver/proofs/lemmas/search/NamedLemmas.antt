@@ -1,5 +1,5 @@
 -- Steps of a search are over variables that have solver names.
-use Rattle.std.proofs.Common.{ℕ, zero, suc, ◌-◌, ◌/◌, ◌^◌, ◌<◌, ◌≤◌, ◌≡◌, ◌∙◌, Bool, true, false, cond, Option, Some, List, [], ◌∷◌, length, map, get_or, ap, sym, subst, arith}
+use Rattle.std.proofs.Common.{ℕ, suc, ◌-◌, ◌/◌, ◌^◌, ◌<◌, ◌≡◌, ◌∙◌, Bool, true, false, cond, Option, Some, List, [], ◌∷◌, length, map, get_or, ap, arith}
 use Rattle.sat_base.specs.values.Literals.{variable}
 use Rattle.sat_base.specs.values.Hashes.{hash_of}
 use Rattle.sat_parts.specs.declared.prop.graph.Conflict.{Conflict}

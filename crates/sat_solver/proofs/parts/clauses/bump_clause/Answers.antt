@@ -17,6 +17,7 @@ returns c =
       holds = sound_clause_bumped p.clauses n.clauses p.db p.watchlists p.binary p.assignment p.graph p.trail p.vsids c.args.cref c.args.activity.now n.activity c.requires.holds e.raised e.rescaled e.db e.live;
       raised = e.raised;
       rescaled = e.rescaled;
+      db = refl;
       headed = headed_by p (record p { clauses = n.clauses }) e.live (sides_bumped p.clauses n.clauses p.db.refs c.args.cref c.args.activity.now n.activity e.raised e.rescaled) ((refl, refl, refl), refl, refl);
       word = extends_refl p;
     }

@@ -13,6 +13,7 @@ returns c =
       holds = sound_clause_decayed p.clauses n.clauses p.db p.watchlists p.binary p.assignment p.graph p.trail p.vsids c.args.activity.now n.activity c.requires.holds (λ lt. (e.later lt).1) e.rescaled e.db e.live;
       later = e.later;
       rescaled = e.rescaled;
+      db = refl;
       headed = headed_by p (record p { clauses = n.clauses }) e.live (sides_decayed p.clauses n.clauses p.db.refs c.args.activity.now n.activity (λ lt. (e.later lt).1) e.rescaled) ((refl, refl, refl), refl, refl);
       word = extends_refl p;
     }

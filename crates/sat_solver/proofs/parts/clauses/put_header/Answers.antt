@@ -30,6 +30,7 @@ returns c =
     record {
       holds = sound_put_one p.clauses n p.db p.watchlists p.binary p.assignment p.graph p.trail p.vsids c.args.cref h c.requires.holds put kept.0 kept.1;
       put = put;
+      db = refl;
       headed = headed_by p (record p { clauses = n }) kept.1 (sides_one p.clauses n p.db.refs c.args.cref h put (ap (λ (t : Tier). is_learned t) c.requires.tier)) ((refl, refl, refl), refl, refl);
       word = extends_refl p;
     }

@@ -1,16 +1,18 @@
-use Rattle.std.proofs.Common.{◌≡◌, ◌<◌, ◌∙◌, length, refl, ap, arith}
+use Rattle.std.proofs.Common.{◌≡◌, ◌<◌, ◌∙◌, length, refl, sym, ap, arith}
 use Rattle.sat_solver.specs.declared.parts.Parts.{Parts}
 use Rattle.std.proofs.lemmas.Result.{err_from_is_err_and}
 use Rattle.sat_base.specs.steps.Steps.{AtClause}
 use Rattle.sat_parts.specs.prop.Causes.{falsified}
 use Rattle.sat_solver.specs.declared.parts.assumptions.Assumptions.{Assumptions}
 use Rattle.sat_solver.specs.parts.Assumed.{ArePlaced}
-use Rattle.sat_solver.proofs.lemmas.search.TurnLemmas.{free_moved}
 use Rattle.sat_solver.specs.session.ProofView.{steps_of, session_of}
 use Rattle.sat_solver.specs.parts.Whole.{state}
 use Rattle.sat_solver.proofs.lemmas.joint.LearnedLemmas.{is_learned_clause}
 use Rattle.sat_solver.specs.declared.search.work.Search.{Search}
-use Rattle.sat_solver.specs.search.Joint.{global_in}
+use Rattle.sat_solver.specs.search.Joint.{global_in, Moved}
+use Rattle.sat_solver.specs.search.Learning.{Taken}
+use Rattle.sat_solver.proofs.lemmas.search.TakingLemmas.{free_taken}
+use Rattle.sat_store.specs.clause.Header.{Header}
 use Rattle.sat_solver.proofs.lemmas.search.GoingLemmas.{goes_starved, goes_step, goes_broken, goes_refused}
 use Rattle.sat_solver.proofs.lemmas.search.LearningLemmas.{learned_allowed, learned_stands, learned_last, learned_whole}
 use Rattle.sat_solver.proofs.lemmas.search.NamedLemmas.{learned_named}
@@ -19,7 +21,7 @@ use Rattle.sat_solver.proofs.search.learning.learn_clause.Goals as goal
 pub returns-in_err-level : goal.returns-in_err-level
 returns-in_err-level g c =
     let p = err_from_is_err_and c.from_residual.result c.from_residual.ensures.1 in
-    rw (p.1, p.2) (record { learned = goes_starved g.W.CountedWrite.seen c.args.proof.now _ c.requires.keeps; met = tt })
+    rw (p.1, p.2) (record { learned = goes_starved g.W.CountedWrite.seen c.args.proof.now _ c.requires.keeps; met = tt; rated = tt })
 
 pub step-requires-clause-may : goal.step-requires-clause-may
 step-requires-clause-may g c =
@@ -35,13 +37,20 @@ returns-in-Err g c =
       learned = goes_broken g.W.CountedWrite.seen c.in-Err.error c.args.proof.now c.step.new.self (AtClause c.says_redundant.result c.deref.result.now c.deref-2.result.now) _
           (learned_named c.args.search.now.parts c.args.conflict.now c.analyze.new.search.analysis c.in_ok-level.level (session_of c.args.proof.now) (global_in c.args.search.now) c.requires.stopped.fits x.learns c.deref.result.now (c.deref.ensures.value ∙ x.clause)) c.in-Err.ensures.keeps c.in-Err.ensures.records;
       met = tt;
+      rated = tt;
     })
 
 pub take_in-requires-clause-learned : goal.take_in-requires-clause-learned
 take_in-requires-clause-learned g c =
     let p = c.args.search.now.parts in
     let same : c.analyze.new.search.parts ≡ c.args.search.now.parts = ap (λ (s : Search). s.parts) c.in_ok-level.ensures.same in
-    rw (c.clause-2.ensures, same) (is_learned_clause p.clauses (state p) (falsified p.clauses c.args.conflict.now) c.analyze.new.search.analysis c.in_ok-level.level c.requires.stopped.refuted.0.asks.agrees c.in_ok-level.ensures.learns)
+    rw same (is_learned_clause p.clauses (state p) (falsified p.clauses c.args.conflict.now) c.analyze.new.search.analysis c.in_ok-level.level c.requires.stopped.refuted.0.asks.agrees c.in_ok-level.ensures.learns)
+
+pub take_in-requires-clause-live : goal.take_in-requires-clause-live
+take_in-requires-clause-live g c = ap (λ (h : Header). h.deleted) c.in_ok-level.ensures.header
+
+pub take_in-requires-clause-involved : goal.take_in-requires-clause-involved
+take_in-requires-clause-involved g c = rw (ap (λ (s : Search). s.parts) c.in_ok-level.ensures.same) c.in_ok-level.ensures.involved
 
 pub returns-in_err-take_in : goal.returns-in_err-take_in
 returns-in_err-take_in g c =
@@ -51,6 +60,7 @@ returns-in_err-take_in g c =
       learned = goes_refused g.W.CountedWrite.seen c.in_err-take_in.field-0.0 c.args.proof.now c.step.new.self (AtClause c.says_redundant.result c.deref.result.now c.deref-2.result.now) _
           (learned_named c.args.search.now.parts c.args.conflict.now c.analyze.new.search.analysis c.in_ok-level.level (session_of c.args.proof.now) (global_in c.args.search.now) c.requires.stopped.fits x.learns c.deref.result.now (c.deref.ensures.value ∙ x.clause)) c.in_default.ensures.keeps c.in_default.ensures.records;
       met = tt;
+      rated = tt;
     })
 
 pub returns-clause-learned : goal.returns-clause-learned
@@ -61,28 +71,35 @@ returns-clause-learned g c =
     let flags = rw c.clause.ensures at c.says_redundant.ensures in
     let same : c.analyze.new.search.parts ≡ c.args.search.now.parts = ap (λ (s : Search). s.parts) x.same in
     let assumptions : c.analyze.new.search.assumptions ≡ c.args.search.now.assumptions = ap (λ (s : Search). s.assumptions) x.same in
-    let fits = rw (c.clause-2.ensures, same) at y.fits in
-    let rises = rw same at y.rises in
-    let size = rw same at y.size in
-    let keeps = rw same at y.keeps in
-    let lits : c.cut.new.self.lits ≡ c.args.search.now.assumptions.lits = c.cut.ensures.lits ∙ ap (λ (a : Assumptions). a.lits) assumptions in
-    let before : ArePlaced c.analyze.new.search.assumptions (state c.args.search.now.parts) = rw assumptions r.ready.placed in
-    let placed = c.cut.ensures.placed (state c.args.search.now.parts) (state c.take_in.new.parts) before (omega (arith, x.learns.below)) keeps y.starts in
+    let n = c.take_in.new.search in
+    let taken : Taken c.args.search.now.parts c.take_in.new.search.parts c.in_ok-level.header c.analyze.new.search.analysis.clause c.in_ok-level.level = rw same at y.taken in
+    let assumed : c.take_in.new.search.assumptions ≡ c.args.search.now.assumptions = ap (λ (s : Search). s.assumptions) y.same ∙ assumptions in
+    let lits : c.cut.new.self.lits ≡ c.args.search.now.assumptions.lits = c.cut.ensures.lits ∙ ap (λ (a : Assumptions). a.lits) assumed in
+    let before : ArePlaced c.take_in.new.search.assumptions (state c.args.search.now.parts) = rw assumed r.ready.placed in
+    let placed = c.cut.ensures.placed (state c.args.search.now.parts) (state c.take_in.new.search.parts) before (omega (arith, x.learns.below)) taken.keeps taken.starts in
+    let moved : Moved c.analyze.new.search (record c.take_in.new.search { assumptions = c.cut.new.self }) =
+    record { globals = ap (λ (s : Search). s.globals) y.same; lits = c.cut.ensures.lits ∙ ap (λ (s : Search). s.assumptions.lits) y.same; size = y.taken.size } in
     goes_step g.W.CountedWrite.seen tt c.args.proof.now c.step.new.self (AtClause c.says_redundant.result c.deref.result.now c.deref-2.result.now) _
     (learned_named c.args.search.now.parts c.args.conflict.now c.analyze.new.search.analysis c.in_ok-level.level (session_of c.args.proof.now) (global_in c.args.search.now) c.requires.stopped.fits x.learns c.deref.result.now (c.deref.ensures.value ∙ x.clause)) c.in_default.ensures.keeps c.in_default.ensures.records
     (learned_whole (steps_of c.args.proof.now) (steps_of c.step.new.self) (AtClause c.says_redundant.result c.deref.result.now c.deref-2.result.now) c.args.search.now _ r.ready refl c.in_default.ensures.records.history
     (learned_stands c.args.search.now.parts c.args.conflict.now c.analyze.new.search.analysis c.in_ok-level.level (steps_of c.args.proof.now) (global_in c.args.search.now) r.refuted c.requires.above r.fits x.learns
-    c.take_in.new.parts c.in_ok-level.header c.deref.result.now c.deref-2.result.now c.says_redundant.result (steps_of c.step.new.self) (c.deref.ensures.value ∙ x.clause) flags c.in_default.ensures.records.history y.holds fits)
-    rises size
+    c.take_in.new.search.parts c.in_ok-level.header c.deref.result.now c.deref-2.result.now c.says_redundant.result (steps_of c.step.new.self) (c.deref.ensures.value ∙ x.clause) flags c.in_default.ensures.records.history taken.holds taken.fits)
+    taken.rises taken.size
     (learned_last c.args.search.now.parts c.args.conflict.now c.analyze.new.search.analysis c.in_ok-level.level (steps_of c.args.proof.now) (global_in c.args.search.now) r.refuted c.requires.above r.fits x.learns
     c.deref.result.now c.deref-2.result.now c.says_redundant.result (c.deref.ensures.value ∙ x.clause))
-    (ap (λ (s : Search). s.globals) x.same) lits placed
-    (free_moved c.analyze.new.search _ x.free (record { globals = refl; lits = c.cut.ensures.lits; size = y.size }) refl refl))
+    (moved.globals ∙ ap (λ (s : Search). s.globals) x.same) lits placed
+    (free_taken c.analyze.new.search (record n { assumptions = c.cut.new.self }) x.free moved (ap (λ (s : Search). s.analysis) y.same) y.flags))
 
 pub returns-clause-met : goal.returns-clause-met
 returns-clause-met g c =
     let x = c.in_ok-level.ensures in
     let y = c.in_ok-take_in.ensures in
     let same : c.analyze.new.search.parts ≡ c.args.search.now.parts = ap (λ (s : Search). s.parts) x.same in
-    let size : length c.take_in.new.parts.assignment.current ≡ length c.args.search.now.parts.assignment.current = y.size ∙ ap (λ (p : Parts). length p.assignment.current) same in
-    λ v k. (let b : v < length c.args.search.now.parts.assignment.current = x.met v k in omega (arith, b, size))
+    let size : length c.take_in.new.search.parts.assignment.current ≡ length c.args.search.now.parts.assignment.current = y.taken.size ∙ ap (λ (p : Parts). length p.assignment.current) same in
+    rw (ap (λ (s : Search). s.analysis) y.same) (λ v k. (let b : v < length c.args.search.now.parts.assignment.current = x.met v k in omega (arith, b, size)))
+
+pub returns-clause-rated : goal.returns-clause-rated
+returns-clause-rated g c =
+    let x = c.in_ok-level.ensures in
+    let y = c.in_ok-take_in.ensures in
+    rw (ap (λ (s : Search). s.analysis) y.same, sym x.header) (rw (ap (λ (s : Search). s.parts) x.same, ap (λ (s : Search). s.activity) x.same) at y.rated)

@@ -6,4 +6,4 @@ use Rattle.sat_solver.proofs.search.round.resolve.Goals as goal
 pub returns-then-current_level-gt0 : goal.returns-then-current_level-gt0
 returns-then-current_level-gt0 g c =
     goes_on g.W.CountedWrite.seen c.in_ok-learn_from.field-0 Learned c.args.proof.now c.learn_from.new.proof _ _
-    (λ steps l. record { search = l.search; moved = l.moved; rises = l.rises (assumed_in c.args.search.now); last = l.last }) c.in_ok-learn_from.ensures
+    (λ steps l. record { search = l.search; moved = l.moved; rises = l.rises (assumed_in c.args.search.now); last = l.last }) c.in_ok-learn_from.ensures.learned
