@@ -13,3 +13,4 @@ pub mod Heard
 pub mod Written
 pub mod Finished
 pub mod OneVerdict
+pub mod OneFault

@@ -4,7 +4,8 @@ use Rattle.std.specs.List.{AllByRecursion}
 use Rattle.sat_base.specs.values.Clauses.{Valuation, EachTrue, EachHolds}
 use Rattle.sat_hints.specs.Lines.{Line, Input, Derived, Gone, Core}
 use Rattle.sat_hints.specs.Hints.{IsHintDerivation, derives_empty}
-use Rattle.sat_hints.specs.Checks.{IsBadAt, IsProof}
+use Rattle.sat_hints.specs.Checks.{IsBadAt, IsProof, Judges}
+use Rattle.sat_hints.specs.declared.answer.HintVerdict.{HintVerdict}
 use Rattle.sat_hints.specs.declared.answer.HintWhy.{HintWhy}
 
 -- the clauses of the formula
@@ -45,3 +46,7 @@ EmptyMeansNone = (lines : List Line) (a : Valuation) → IsHintDerivation lines 
 -- a text that is proved is at fault on no line
 abbrev pub ProvedIsNotBad : Type 0
 ProvedIsNotBad = (text : List ℕ) (empty : Bool) (cores lines line : ℕ) (why : HintWhy) → IsProof text empty cores lines → IsBadAt text line why → ⊥
+
+-- and a text has one verdict at most
+abbrev pub OneVerdict : Type 0
+OneVerdict = (text : List ℕ) (v w : HintVerdict) → Judges v text → Judges w text → v ≡ w

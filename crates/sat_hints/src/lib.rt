@@ -20,4 +20,3 @@ pub use answer::{HintFault, HintVerdict, HintWhy};
 pub use checking::check;
 pub use converting::convert;
 pub use error::HintError;
-pub use line::HintLine;

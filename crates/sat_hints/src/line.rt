@@ -4,7 +4,7 @@ use sat_base::Lit;
 
 /// A line. An id is below 2^64-1; the ID that the text has in its place is one more.
 #[derive(Clone, Copy)]
-pub enum HintLine<'a> {
+pub(crate) enum HintLine<'a> {
     /// `i ID LITS 0`: a clause of the formula.
     Input {
         id: u64,

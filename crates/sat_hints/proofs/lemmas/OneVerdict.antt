@@ -25,7 +25,7 @@ all_at : (P : ℕ → Type 0) (ls : List ℕ) (l : ℕ) → AllByRecursion P ls 
 all_at P [] l h m = absurd (true≢false (sym m))
 all_at P (x ∷ xs) l h m = elim (or_cases (eqb x l) (is_among xs l) m) [ inl e ↦ subst P (eqb-true x l e) h.0 | inr k ↦ all_at P xs l h.1 k ]
 
-same_unit : (assumed clause : List ℕ) (l m : ℕ) → IsUnit assumed clause l → IsUnit assumed clause m → m ≡ l
+pub same_unit : (assumed clause : List ℕ) (l m : ℕ) → IsUnit assumed clause l → IsUnit assumed clause m → m ≡ l
 same_unit assumed clause l m u v = elim (all_at (λ x. (x ≡ l) ⊎ (is_among assumed (negated x) ≡ true)) clause m u.others v.within) [
   | inl e ↦ e
   | inr k ↦ absurd (both_ways (is_among assumed (negated m)) v.not_false k)
@@ -100,7 +100,7 @@ same_both ls ks is js a b c d e =
 other_kind : {A : Type 0} (x y : ℕ) (xs ys : List ℕ) → (x ≡ y → ⊥) → x ∷ xs ≡ y ∷ ys → A
 other_kind x y xs ys differ e = absurd (differ (let f : x ≡ y = cc in f))
 
-one_line : (k l : Line) → IsLine k → IsLine l → line_text k ≡ line_text l → k ≡ l
+pub one_line : (k l : Line) → IsLine k → IsLine l → line_text k ≡ line_text l → k ≡ l
 one_line (Input i ls) (Input j ks) p q e =
     let f : id_words (i ∷ []) ++ (literal_words ls ++ (48 ∷ 10 ∷ [])) ≡ id_words (j ∷ []) ++ (literal_words ks ++ (48 ∷ 10 ∷ [])) = cc in
     let g = same_first i j _ _ p.0.0 q.0.0 f in
@@ -205,24 +205,24 @@ split_last [] h some = absurd (some refl)
 split_last (b ∷ []) h some = rw (not_ten b h.0) refl
 split_last (b ∷ c ∷ cs) h some = rw (not_ten b h.0) (ap (onto_first b) (split_last (c ∷ cs) h.1 (λ e. cc)))
 
-lines_none : lines [] ≡ []
+pub lines_none : lines [] ≡ []
 unfolding lines
 lines_none = refl
 
 -- the texts of lines, the oldest first
-texts_in : List Line → List (List ℕ)
+pub texts_in : List Line → List (List ℕ)
 texts_in [] = []
 texts_in (l ∷ ls) = texts_in ls ++ (line_text l ∷ [])
 
-texts_in-cons : (l : Line) (ls : List Line) → texts_in (l ∷ ls) ≡ texts_in ls ++ (line_text l ∷ [])
+pub texts_in-cons : (l : Line) (ls : List Line) → texts_in (l ∷ ls) ≡ texts_in ls ++ (line_text l ∷ [])
 unfolding texts_in
 texts_in-cons l ls = refl
 
-texts_in-none : texts_in [] ≡ []
+pub texts_in-none : texts_in [] ≡ []
 unfolding texts_in
 texts_in-none = refl
 
-lines_of_text : (ls : List Line) (more : List ℕ) → AreLines ls → lines (text_of ls ++ more) ≡ texts_in ls ++ lines more
+pub lines_of_text : (ls : List Line) (more : List ℕ) → AreLines ls → lines (text_of ls ++ more) ≡ texts_in ls ++ lines more
 lines_of_text [] more h = sym (ap (λ t. t ++ lines more) texts_in-none)
 lines_of_text (l ∷ ls) more h =
     ap lines (append_assoc (text_of ls) (line_text l) more) ∙ lines_of_text ls (line_text l ++ more) h.1 ∙ ap (λ t. texts_in ls ++ t) (split_ended (line_text l) more (line_ended l h.0))
@@ -261,12 +261,12 @@ all_second P [] ys h = h
 all_second P (x ∷ xs) ys h = all_second P xs ys h.1
 
 -- lines whose texts begin with those of others are these, and later ones
-record Later (all earlier : List Line) (more : List (List ℕ)) : Type 0 where
-  later : List Line
-  are : all ≡ later ++ earlier
-  others : texts_in later ≡ more
+pub record Later (all earlier : List Line) (more : List (List ℕ)) : Type 0 where
+  pub later : List Line
+  pub are : all ≡ later ++ earlier
+  pub others : texts_in later ≡ more
 
-later_than : (earlier all : List Line) (more : List (List ℕ)) → AreLines earlier → AreLines all → texts_in all ≡ texts_in earlier ++ more → Later all earlier more
+pub later_than : (earlier all : List Line) (more : List (List ℕ)) → AreLines earlier → AreLines all → texts_in all ≡ texts_in earlier ++ more → Later all earlier more
 later_than [] all more p q e = record { later = all; are = sym (append-nil all); others = e ∙ ap (λ x. x ++ more) texts_in-none }
 later_than (l ∷ ls) all more p q e =
     let a = later_than ls all (line_text l ∷ more) p.1 q (e ∙ ap (λ x. x ++ more) (texts_in-cons l ls) ∙ append_assoc (texts_in ls) (line_text l ∷ []) more) in
@@ -281,7 +281,7 @@ derived_second [] ys h = h
 derived_second (x ∷ xs) ys h = derived_second xs ys h.0
 
 -- the lines of a text that begins so
-bad_lines : (earlier : List Line) (bytes rest : List ℕ) → AreLines earlier → BeginsWithLine bytes rest → (more : List (List ℕ)) × (lines (text_of earlier ++ (bytes ++ rest)) ≡ texts_in earlier ++ (bytes ∷ more))
+pub bad_lines : (earlier : List Line) (bytes rest : List ℕ) → AreLines earlier → BeginsWithLine bytes rest → (more : List (List ℕ)) × (lines (text_of earlier ++ (bytes ++ rest)) ≡ texts_in earlier ++ (bytes ∷ more))
 bad_lines earlier bytes rest p (ended front inside e) = (lines rest, lines_of_text earlier (bytes ++ rest) p ∙ ap (λ x. texts_in earlier ++ x) (split_ended bytes rest (record { front = front; inside = inside; ended = e })))
 bad_lines earlier bytes rest p (cut_off inside some e) = ([], lines_of_text earlier (bytes ++ rest) p ∙ ap (λ x. texts_in earlier ++ x) (ap lines (ap (λ x. bytes ++ x) e ∙ append-nil bytes) ∙ split_last bytes inside some))
 
@@ -294,7 +294,7 @@ at_no_fault earlier bytes NotUnit l e p f h = never_at_fault earlier l f NotUnit
 at_no_fault earlier bytes NotFalsified l e p f h = never_at_fault earlier l f NotFalsified (subst (λ x. IsFaultOf earlier x NotFalsified) (one_line h.0 l h.1.0 p (sym h.1.1 ∙ e)) h.2)
 
 -- so a derivation has no line at fault
-derivation_has_none : (all earlier : List Line) (bytes : List ℕ) (more : List (List ℕ)) (why : HintWhy) → AreLines all → IsHintDerivation all → AreLines earlier → texts_in all ≡ texts_in earlier ++ (bytes ∷ more) → IsAtFault earlier bytes why → ⊥
+pub derivation_has_none : (all earlier : List Line) (bytes : List ℕ) (more : List (List ℕ)) (why : HintWhy) → AreLines all → IsHintDerivation all → AreLines earlier → texts_in all ≡ texts_in earlier ++ (bytes ∷ more) → IsAtFault earlier bytes why → ⊥
 derivation_has_none all earlier bytes more why p d q e h =
     let a = later_than earlier all (bytes ∷ more) q p e in
     let o = oldest a.later bytes more a.others in
