@@ -13,6 +13,8 @@ mod confirm;
 #[cfg(test)]
 mod devices;
 #[cfg(test)]
+mod files;
+#[cfg(test)]
 mod program;
 #[cfg(test)]
 mod run;

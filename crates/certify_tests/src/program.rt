@@ -89,12 +89,20 @@ fn is_told(rt: &HostRuntime, words: Words, status: u8, told: &str) -> bool {
 
 const USAGE: &str = "usage: certify [run S A C [STEPS] | confirm S A C | hints C H | check H]\n";
 
-static MISUSES: [&[&str]; 5] = [
-    &["confirm", "s", "a", "c", "x"],
+static MISUSES: [&[&str]; 13] = [
+    &["confirm", "s", "a", "c", "1"],
+    &["confirm", "s", "a"],
     &["check"],
+    &["check", "h", "h"],
+    &["hints", "c"],
+    &["hints", "c", "h", "h"],
     &[""],
-    &["check", "h"],
+    &["run", "s", "a"],
+    &["run", "s", "a", "c", "1", "1"],
     &["run", "s", "a", "c", "-1"],
+    &["run", "s", "a", "c", "+1"],
+    &["run", "s", "a", "c", ""],
+    &["run", "s", "a", "c", "18446744073709551616"],
 ];
 
 fn misuses() -> &'static [&'static [&'static str]] {

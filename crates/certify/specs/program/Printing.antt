@@ -1,9 +1,12 @@
 -- What the program prints.
-use Rattle.std.specs.Prelude.{ℕ, ◌≡◌, ◌↔◌, true, Bool, false, List, [], ◌∷◌, ◌++◌, codes, decimal}
+use Rattle.std.specs.Prelude.{ℕ, ◌≡◌, ◌↔◌, true, Bool, false, None, List, [], ◌∷◌, ◌++◌, codes, decimal}
 use Rattle.sat_base.specs.device.Device.{Reader, Writer, GaveEnough, Takes}
 use Rattle.sat_base.specs.script.Script.{Ending, Clean, Malformed, reading}
 use Rattle.sat_checker.specs.matching.ProofChecking.{the_checking}
 use Rattle.certify.specs.confirm.Matches.{Matches}
+use Rattle.certify.specs.confirm.VerdictPromises.{Exact}
+use Rattle.certify.specs.run.FinishedRun.{Answered}
+use Rattle.certify.specs.declared.summary.Summary.{Summary}
 use Rattle.certify.specs.declared.verdict.Verdict.{Verdict}
 use Rattle.certify.specs.declared.verdict.Verdict.TheVariants.{Yes, No}
 use Rattle.certify.specs.declared.verdict.Why.{Why}
@@ -12,8 +15,10 @@ use Rattle.certify.specs.declared.verdict.ConfirmFault.{ConfirmFault}
 use Rattle.certify.specs.declared.verdict.ConfirmFault.TheVariants as confirm_fault
 use Rattle.certify.specs.declared.fault.RunFault.{RunFault}
 use Rattle.certify.specs.declared.fault.RunFault.TheVariants as run_fault
-use Rattle.certify.specs.declared.program.Fault.{Fault}
-use Rattle.certify.specs.declared.program.Fault.TheVariants as fault
+use Rattle.certify.specs.declared.program.fault.Fault.{Fault}
+use Rattle.certify.specs.declared.program.fault.Fault.TheVariants as fault
+use Rattle.certify.specs.declared.program.fault.HintsFault.{HintsFault}
+use Rattle.certify.specs.declared.program.fault.HintsFault.TheVariants as hints_fault
 
 -- the word of each cause
 abbrev pub why_text : Why → List ℕ
@@ -46,15 +51,31 @@ confirm_fault_text confirm_fault.CertificateRead = codes "CertificateRead"
 confirm_fault_text confirm_fault.OutOfMemory = codes "OutOfMemory"
 confirm_fault_text confirm_fault.CounterEnd = codes "CounterEnd"
 
+-- the word of each fault of writing or checking hints
+abbrev pub hints_fault_text : HintsFault → List ℕ
+hints_fault_text hints_fault.Read = codes "Read"
+hints_fault_text hints_fault.Write = codes "Write"
+hints_fault_text hints_fault.OutOfMemory = codes "OutOfMemory"
+
 -- the word of each fault of the program
 abbrev pub fault_text : Fault → List ℕ
 fault_text (fault.Run f) = run_fault_text f
 fault_text (fault.Confirm f) = confirm_fault_text f
+fault_text (fault.Hints f) = hints_fault_text f
+
+-- the ask and the cause of a no, with LF
+abbrev pub no_text : ℕ → Why → List ℕ
+no_text ask why = decimal ask ++ 32 ∷ [] ++ why_text why ++ 10 ∷ []
 
 -- `c confirmed`, or `c not confirmed ASK WHY`, with LF
 abbrev pub verdict_text : Verdict → List ℕ
 verdict_text Yes = codes "c confirmed" ++ 10 ∷ []
-verdict_text (No ask why) = codes "c not confirmed " ++ decimal ask ++ 32 ∷ [] ++ why_text why ++ 10 ∷ []
+verdict_text (No ask why) = codes "c not confirmed " ++ no_text ask why
+
+-- `yes`, or `no ASK WHY`, with LF
+abbrev pub yes_or_no_text : Verdict → List ℕ
+yes_or_no_text Yes = codes "yes" ++ 10 ∷ []
+yes_or_no_text (No ask why) = codes "no " ++ no_text ask why
 
 -- the verdict is yes exactly where the three texts match
 abbrev pub SaysExactly : Verdict → List ℕ → List ℕ → List ℕ → Type 0
@@ -78,3 +99,21 @@ pub record Prints (status : ℕ) (text : List ℕ) (old new : Writer) : Type 0 w
 -- the same of the text that a reader gave, whatever would follow
 abbrev pub PrintsVerdict : ℕ → Reader × Reader → Writer × Writer → Type 0
 PrintsVerdict status input output = GaveEnough input.0 input.1 (λ text. Prints status text output.0 output.1)
+
+-- A line was printed. The status is 0 exactly where this is so.
+pub record PrintsLine (status : ℕ) (line : List ℕ) (IsSo : Type 0) (old new : Writer) : Type 0 where
+  pub printed : Takes old new line
+  pub flushed : new.flushed ≡ true
+  pub done : (status ≡ 0) ↔ IsSo
+
+-- Whether the texts that three readers gave match, whatever would follow, was printed.
+pub record PrintsYesOrNo (status : ℕ) (script answers certificate : Reader × Reader) (output : Writer × Writer) : Type 0 where
+  pub verdict : Verdict
+  pub exact : Exact script answers certificate verdict
+  pub printed : PrintsLine status (yes_or_no_text verdict) (verdict ≡ Yes) output.0 output.1
+
+-- The answers to the text that a reader gave were written. The status is 0 exactly where it isn't malformed.
+pub record Ran (status budget : ℕ) (script : Reader × Reader) (answers : Writer × Writer) : Type 0 where
+  pub summary : Summary
+  pub answered : Answered budget summary script answers
+  pub done : (status ≡ 0) ↔ (summary.malformed ≡ None)

@@ -1,13 +1,25 @@
-//! The verdict on three texts, and the last line that the program prints.
-ghost use Rattle.std.specs.Prelude.{◌≡◌, ◌++◌, IfOk, OnOk};
-ghost use Rattle.certify.specs.program.Printing.{SaysExactly, verdict_text};
+//! The verdict on three texts, its line, and the status behind it.
+ghost use Rattle.std.specs.Prelude.{◌≡◌, ◌≤◌, ◌↔◌, ◌++◌, IfOk, OnOk, false};
+ghost use Rattle.certify.specs.declared.verdict.Verdict.TheVariants.{Yes};
+ghost use Rattle.certify.specs.program.Printing.{SaysExactly, no_text, verdict_text, yes_or_no_text};
 
 use crate::answers::write::push_number;
 use crate::confirm::confirm;
-use crate::verdict::{ConfirmFault, Verdict};
+use crate::program::printing::{DONE, REFUSED};
+use crate::verdict::{ConfirmFault, Verdict, Why};
 use sat_base::Counted;
 use sat_checker::Looks;
 use std::alloc::{AllocError, Global};
+
+/// Appends the ask and the cause of a no, with LF.
+fn push_no(out: &mut Vec<u8>, ask: u64, why: Why) -> Result<(), AllocError>
+    ensures { OnOk result (out.new.items ≡ out.old.items ++ no_text ask why) }
+{
+    push_number(out, ask)?;
+    out.extend_from_slice(b" ")?;
+    out.extend_from_slice(why.word().as_bytes())?;
+    out.extend_from_slice(b"\n")
+}
 
 /// Appends `c confirmed` or `c not confirmed ASK WHY`.
 fn push_verdict(out: &mut Vec<u8>, verdict: Verdict) -> Result<(), AllocError>
@@ -17,11 +29,32 @@ fn push_verdict(out: &mut Vec<u8>, verdict: Verdict) -> Result<(), AllocError>
         Verdict::Yes => out.extend_from_slice(b"c confirmed\n"),
         Verdict::No { ask, why } => {
             out.extend_from_slice(b"c not confirmed ")?;
-            push_number(out, ask)?;
-            out.extend_from_slice(b" ")?;
-            out.extend_from_slice(why.word().as_bytes())?;
-            out.extend_from_slice(b"\n")
+            push_no(out, ask, why)
         }
+    }
+}
+
+/// Appends `yes` or `no ASK WHY`.
+pub(super) fn push_yes_or_no(out: &mut Vec<u8>, verdict: Verdict) -> Result<(), AllocError>
+    ensures { OnOk result (out.new.items ≡ out.old.items ++ yes_or_no_text verdict) }
+{
+    match verdict {
+        Verdict::Yes => out.extend_from_slice(b"yes\n"),
+        Verdict::No { ask, why } => {
+            out.extend_from_slice(b"no ")?;
+            push_no(out, ask, why)
+        }
+    }
+}
+
+/// The status behind a verdict.
+pub(super) fn status(verdict: Verdict, malformed: bool) -> u8
+    ensures small { result ≤ 1 }
+    ensures done { (result ≡ 0) ↔ ((verdict ≡ Yes) × (malformed ≡ false)) }
+{
+    match verdict {
+        Verdict::Yes => { if malformed { REFUSED } else { DONE } }
+        Verdict::No { .. } => REFUSED,
     }
 }
 
@@ -48,7 +81,7 @@ fn confirm_slices(
 }
 
 /// Confirms three texts, and puts the last line of the output behind what `line` holds.
-pub(crate) fn confirm_texts(
+pub(super) fn confirm_texts(
     alloc: Global,
     script: &[u8],
     answers: &[u8],

@@ -1,28 +1,29 @@
 -- What is printed of texts in memory.
-use Rattle.std.proofs.Common.{ℕ, ◌≡◌, List, [], ◌∷◌, ◌++◌, Some, Result, Ok, Err, IfOk, OnOk, decimal, refl, sym, ◌∙◌, ap, subst, append_assoc}
-use Rattle.std.specs.Prelude.{◌+◌, IfSome, codes, is_ok, is_some, length, if◌then◌else◌}
+use Rattle.std.proofs.Common.{ℕ, ◌≡◌, List, ◌++◌, Some, Result, Ok, Err, IfOk, OnOk, refl, ◌∙◌, ap, subst, append_assoc}
+use Rattle.std.specs.Prelude.{◌+◌, IfSome, is_ok, is_some, length, if◌then◌else◌}
 use Rattle.sat_base.specs.device.Device.{Reader, Writer, GaveAll, GaveEnough}
 use Rattle.sat_base.proofs.lemmas.device.Given.{enough_all, enough_told}
 use Rattle.sat_base.specs.script.Script.{Ending, Clean, Malformed, reading}
 use Rattle.certify.specs.confirm.VerdictPromises.{Exact, Given}
-use Rattle.certify.specs.program.Printing.{Prints, PrintsVerdict, SaysExactly, is_malformed, verdict_text, why_text}
+use Rattle.certify.specs.program.Printing.{Prints, PrintsVerdict, SaysExactly, is_malformed}
 use Rattle.certify.specs.run.FinishedRun.{malformed_at}
 use Rattle.certify.specs.declared.summary.Summary.{Summary}
 use Rattle.certify.specs.declared.verdict.Verdict.{Verdict}
-use Rattle.certify.specs.declared.verdict.Verdict.TheVariants.{No}
-use Rattle.certify.specs.declared.verdict.Why.{Why}
 
-joined : (z a d s w l : List ℕ) → ((((z ++ a) ++ d) ++ s) ++ w) ++ l ≡ z ++ ((((a ++ d) ++ s) ++ w) ++ l)
-joined z a d s w l = simp append_assoc
+-- WHAT IS APPENDED PIECE BY PIECE
+-- the last piece
+last_piece : {E : Type 0} (r : Result (Unit {0}) E) (before after tail whole : List ℕ) → after ≡ (if is_ok r then before ++ tail else before) → before ++ tail ≡ whole → OnOk r (after ≡ whole)
+last_piece (Ok u) before after tail whole e w = e ∙ w
+last_piece (Err e) before after tail whole k w = tt
 
--- the line of a no, piece by piece
-pub no_line : {E : Type 0} (r : Result (Unit {0}) E) (zero one two three four five word : List ℕ) (ask : ℕ) (why : Why) (v : Verdict) → v ≡ No ask why → one ≡ zero ++ codes "c not confirmed " → two ≡ one ++ decimal ask → three ≡ two ++ 32 ∷ []
-    → word ≡ why_text why → four ≡ three ++ word → five ≡ (if is_ok r then four ++ 10 ∷ [] else four) → OnOk r (five ≡ zero ++ verdict_text v)
-no_line (Ok u) zero one two three four five word ask why v is a d s w l e =
-    e ∙ ap (λ (x : List ℕ). x ++ 10 ∷ []) (l ∙ ap (λ (x : List ℕ). x ++ word) (s ∙ ap (λ (x : List ℕ). x ++ 32 ∷ []) (d ∙ ap (λ (x : List ℕ). x ++ decimal ask) a)) ∙ ap (λ (x : List ℕ). (((zero ++ codes "c not confirmed ") ++ decimal ask) ++ 32 ∷ []) ++ x) w)
-    ∙ joined zero (codes "c not confirmed ") (decimal ask) (32 ∷ []) (why_text why) (10 ∷ [])
-    ∙ ap (λ (x : Verdict). zero ++ verdict_text x) (sym is)
-no_line (Err e) zero one two three four five word ask why v is a d s w l k = tt
+joined_seven : (z a b c d e f g : List ℕ) → ((((((z ++ a) ++ b) ++ c) ++ d) ++ e) ++ f) ++ g ≡ z ++ ((((((a ++ b) ++ c) ++ d) ++ e) ++ f) ++ g)
+joined_seven z a b c d e f g = simp append_assoc
+
+pub seven_pieces : {E : Type 0} (r : Result (Unit {0}) E) (zero one two three four five six seven a b c d e f g : List ℕ) → one ≡ zero ++ a → two ≡ one ++ b → three ≡ two ++ c → four ≡ three ++ d → five ≡ four ++ e → six ≡ five ++ f
+    → seven ≡ (if is_ok r then six ++ g else six) → OnOk r (seven ≡ zero ++ ((((((a ++ b) ++ c) ++ d) ++ e) ++ f) ++ g))
+seven_pieces r zero one two three four five six seven a b c d e f g h i k l m n o =
+    let p = l ∙ ap (λ (x : List ℕ). x ++ d) (k ∙ ap (λ (x : List ℕ). x ++ c) (i ∙ ap (λ (x : List ℕ). x ++ b) h)) in
+    last_piece r six seven g _ o (ap (λ (x : List ℕ). x ++ g) (n ∙ ap (λ (x : List ℕ). x ++ f) (m ∙ ap (λ (x : List ℕ). x ++ e) p)) ∙ joined_seven zero a b c d e f g)
 
 -- what is said of a text that is told
 told : (a b : Reader) (P : List ℕ → Type 0) (text : List ℕ) → a.to_come ≡ Some text → GaveEnough a b P → P text

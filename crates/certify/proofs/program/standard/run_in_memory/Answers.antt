@@ -2,7 +2,7 @@ use Rattle.std.proofs.Common.{ℕ, ◌∙◌, List, Some, Bor, ap}
 use Rattle.sat_base.specs.device.Device.{Reader}
 use Rattle.sat_base.specs.device.Counting.{reader_of}
 use Rattle.certify.proofs.lemmas.program.PrintedVerdicts.{malformed_told}
-use Rattle.certify.proofs.program.run_in_memory.Goals as goal
+use Rattle.certify.proofs.program.standard.run_in_memory.Goals as goal
 
 pub returns-in-Ok : goal.returns-in-Ok
 returns-in-Ok c =

@@ -2,7 +2,7 @@ use Rattle.std.proofs.Common.{◌++◌, ◌∙◌, List, ℕ, [], append-nil, ap
 use Rattle.sat_base.specs.device.Device.{Takes}
 use Rattle.sat_base.proofs.lemmas.device.Writes.{took_more}
 use Rattle.certify.specs.program.Printing.{verdict_text}
-use Rattle.certify.proofs.program.print_confirmed.Goals as goal
+use Rattle.certify.proofs.program.standard.print_confirmed.Goals as goal
 
 pub returns-clause-printed : goal.returns-clause-printed
 returns-clause-printed g c =

@@ -1,0 +1,62 @@
+-- What the program prints of hint texts.
+use Rattle.std.specs.Prelude.{ℕ, ◌≡◌, true, Bool, false, Option, None, Some, Result, Ok, Err, List, [], ◌∷◌, ◌++◌, codes, decimal}
+use Rattle.sat_base.specs.device.Device.{Reader, Writer, GaveEnough}
+use Rattle.sat_hints.specs.Checks.{Judges}
+use Rattle.sat_hints.specs.Converts.{Converts}
+use Rattle.sat_hints.specs.declared.error.HintError.{HintError}
+use Rattle.sat_hints.specs.declared.error.HintError.TheVariants as error
+use Rattle.sat_hints.specs.declared.answer.HintVerdict.{HintVerdict}
+use Rattle.sat_hints.specs.declared.answer.HintVerdict.TheVariants.{Proved, Bad}
+use Rattle.sat_hints.specs.declared.answer.HintWhy.{HintWhy}
+use Rattle.sat_hints.specs.declared.answer.HintWhy.TheVariants as why
+use Rattle.certify.specs.program.Printing.{PrintsLine}
+
+-- the word of each cause
+abbrev pub hint_why_text : HintWhy → List ℕ
+hint_why_text why.Syntax = codes "Syntax"
+hint_why_text why.IdOrder = codes "IdOrder"
+hint_why_text why.UnknownId = codes "UnknownId"
+hint_why_text why.NotUnit = codes "NotUnit"
+hint_why_text why.NotFalsified = codes "NotFalsified"
+
+abbrev pub digit_of : Bool → List ℕ
+digit_of true = codes "1"
+digit_of false = codes "0"
+
+-- `proved empty=E cores=K lines=L`, with LF
+abbrev pub proved_text : Bool → ℕ → ℕ → List ℕ
+proved_text empty cores lines =
+    codes "proved empty=" ++ digit_of empty ++ codes " cores=" ++ decimal cores ++ codes " lines=" ++ decimal lines ++ 10 ∷ []
+
+-- `bad LINE WHY`, with LF
+abbrev pub bad_text : ℕ → HintWhy → List ℕ
+bad_text line cause = codes "bad " ++ decimal line ++ 32 ∷ [] ++ hint_why_text cause ++ 10 ∷ []
+
+abbrev pub hint_verdict_text : HintVerdict → List ℕ
+hint_verdict_text (Proved empty cores lines) = proved_text empty cores lines
+hint_verdict_text (Bad line cause) = bad_text line cause
+
+abbrev pub is_proved : HintVerdict → Bool
+is_proved (Proved empty cores lines) = true
+is_proved (Bad line cause) = false
+
+-- What the text is that a reader gave, whatever would follow, was printed. The status is 0 exactly where it is proved.
+pub record PrintsHintVerdict (status : ℕ) (input : Reader × Reader) (output : Writer × Writer) : Type 0 where
+  pub verdict : HintVerdict
+  pub judges : GaveEnough input.0 input.1 (Judges verdict)
+  pub printed : PrintsLine status (hint_verdict_text verdict) (is_proved verdict ≡ true) output.0 output.1
+
+-- the status behind an answer of `convert`: the faults have another one
+abbrev pub status_behind : Result (Unit {0}) HintError → Option ℕ
+status_behind (Ok x) = Some 0
+status_behind (Err (error.Refused e)) = Some 1
+status_behind (Err error.HasDeleteVar) = Some 1
+status_behind (Err error.Read) = None
+status_behind (Err error.Write) = None
+status_behind (Err error.OutOfMemory) = None
+
+-- A certificate was read and its hint text written, or it has none.
+pub record WritesHints (status : ℕ) (certificate : Reader × Reader) (hints : Writer × Writer) : Type 0 where
+  pub answer : Result (Unit {0}) HintError
+  pub converts : Converts answer certificate.0 certificate.1 hints.0 hints.1
+  pub behind : status_behind answer ≡ Some status

@@ -1,0 +1,88 @@
+//! What the arguments of the program ask for.
+
+/// The files of a run: a script, its answers and their certificate.
+#[derive(Clone, Copy)]
+pub(super) struct RunFiles<'a> {
+    pub(super) script: &'a str,
+    pub(super) answers: &'a str,
+    pub(super) certificate: &'a str,
+}
+
+/// A call with files.
+#[derive(Clone, Copy)]
+pub(super) enum Call<'a> {
+    /// `run S A C [STEPS]`
+    Run {
+        files: RunFiles<'a>,
+        budget: u64,
+    },
+    /// `confirm S A C`
+    Confirm {
+        files: RunFiles<'a>,
+    },
+    /// `hints C H`
+    Hints {
+        certificate: &'a str,
+        hints: &'a str,
+    },
+    /// `check H`
+    Check {
+        hints: &'a str,
+    },
+}
+
+/// The number that a word of digits spells, where it is below 2^64.
+fn steps_of(word: &str) -> Option<u64> {
+    for byte in word.as_bytes() {
+        if !byte.is_ascii_digit() {
+            return None;
+        }
+    }
+    word.parse::<u64>().ok()
+}
+
+/// The call of a script, its answers and their certificate, with no word behind them or one.
+fn call_on<'a>(name: &str, files: RunFiles<'a>, steps: Option<&str>) -> Option<Call<'a>> {
+    match (name, steps) {
+        ("run", None) => Some(Call::Run {
+            files,
+            budget: u64::MAX,
+        }),
+        ("run", Some(word)) => match steps_of(word) {
+            Some(budget) => Some(Call::Run { files, budget }),
+            None => None,
+        },
+        ("confirm", None) => Some(Call::Confirm { files }),
+        _ => None,
+    }
+}
+
+/// The call that these words are, if they are one with files.
+pub(super) fn call_of(words: &[String]) -> Option<Call<'_>> {
+    match words {
+        [name, hints] if name.as_str() == "check" => Some(Call::Check {
+            hints: hints.as_str(),
+        }),
+        [name, certificate, hints] if name.as_str() == "hints" => Some(Call::Hints {
+            certificate: certificate.as_str(),
+            hints: hints.as_str(),
+        }),
+        [name, script, answers, certificate] => {
+            let files = RunFiles {
+                script: script.as_str(),
+                answers: answers.as_str(),
+                certificate: certificate.as_str(),
+            };
+            call_on(name.as_str(), files, None)
+        }
+        [name, script, answers, certificate, steps] => {
+            let files = RunFiles {
+                script: script.as_str(),
+                answers: answers.as_str(),
+                certificate: certificate.as_str(),
+            };
+            call_on(name.as_str(), files, Some(steps.as_str()))
+        }
+        _ => None,
+    }
+}

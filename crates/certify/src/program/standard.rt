@@ -1,0 +1,85 @@
+//! The call without arguments: a script from standard input, its certificate kept in memory.
+ghost use Rattle.std.specs.Prelude.{◌≡◌, ◌≤◌, IfOk};
+ghost use Rattle.sat_base.specs.script.Script.{reading};
+ghost use Rattle.certify.specs.run.FinishedRun.{gave, took};
+ghost use Rattle.certify.specs.program.Printing.{Prints, PrintsVerdict, is_malformed};
+
+use crate::fault::RunFault;
+use crate::program::fault::Fault;
+use crate::program::printing::{flush_out, write_out};
+use crate::program::verdict_line::{confirm_texts, status};
+use crate::run::run;
+use sat_base::{Counted, CountedRead, CountedWrite, read_whole};
+use std::alloc::Global;
+
+/// What a run over texts in memory wrote.
+#[derive(Drop)]
+struct Written {
+    answers: Vec<u8>,
+    certificate: Vec<u8>,
+    malformed: bool,
+}
+
+/// Prints what was answered to a script, and the verdict on it. The answer is the status.
+fn print_confirmed<O: CountedWrite>(
+    alloc: Global,
+    script: &[u8],
+    written: &Written,
+    output: &mut O,
+) -> Result<u8, Fault>
+    requires { written.now.malformed ≡ is_malformed (reading script.now).1 }
+    ensures small { IfOk result (λ status. status ≤ 1) }
+    ensures printed { IfOk result (λ status. Prints status script.now (O.seen output.old) (O.seen output.new)) }
+{
+    write_out(output, &written.answers)?;
+    let mut line = Vec::new(alloc);
+    let verdict = confirm_texts(
+        alloc,
+        script,
+        &written.answers,
+        &written.certificate,
+        &mut line,
+    )?;
+    write_out(output, &line)?;
+    flush_out(output)?;
+    Ok(status(verdict, written.malformed))
+}
+
+/// Answers a script, and confirms the answers. The answer is the status.
+pub(super) fn answer<I: CountedRead, O: CountedWrite>(
+    alloc: Global,
+    input: &mut I,
+    output: &mut O,
+) -> Result<u8, Fault>
+    ensures small { IfOk result (λ status. status ≤ 1) }
+    ensures printed { IfOk result (λ s. PrintsVerdict s (gave I.seen input.old input.new) (took O.seen output.old output.new)) }
+{
+    let script = read_whole(alloc, input)?;
+    let written = run_in_memory(alloc, &script)?;
+    print_confirmed(alloc, &script, &written, output)
+}
+
+/// Runs a script with all rounds allowed. A failed write into memory is want of memory.
+fn run_in_memory(alloc: Global, script: &[u8]) -> Result<Written, Fault>
+    ensures { IfOk result (λ w. w.malformed ≡ is_malformed (reading script.now).1) }
+{
+    let mut answers = Counted::new(Vec::new(alloc));
+    let mut certificate = Counted::new(Vec::new(alloc));
+    match run(
+        alloc,
+        &mut Counted::new(script),
+        &mut answers,
+        &mut certificate,
+        u64::MAX,
+    ) {
+        Ok(summary) => Ok(Written {
+            answers: answers.into_inner(),
+            certificate: certificate.into_inner(),
+            malformed: summary.malformed.is_some(),
+        }),
+        Err(RunFault::AnswersWrite | RunFault::CertificateWrite) => {
+            Err(Fault::Run(RunFault::OutOfMemory))
+        }
+        Err(fault) => Err(Fault::Run(fault)),
+    }
+}

@@ -1,0 +1,146 @@
+//! What the calls with files do, over any readers and writers. The answer of each is the status.
+ghost use Rattle.std.specs.Prelude.{◌≡◌, ◌≤◌, ◌↔◌, None, [], IfOk, OnOk, true};
+ghost use Rattle.sat_base.specs.device.Device.{Takes};
+ghost use Rattle.certify.specs.run.FinishedRun.{gave, took};
+ghost use Rattle.certify.specs.declared.verdict.Verdict.TheVariants.{Yes};
+ghost use Rattle.certify.specs.program.HintPrinting.{PrintsHintVerdict, WritesHints, hint_verdict_text, is_proved};
+ghost use Rattle.certify.specs.program.Printing.{PrintsLine, PrintsYesOrNo, Ran, yes_or_no_text};
+
+use crate::confirm::confirm;
+use crate::program::fault::{Fault, HintsFault};
+use crate::program::hint_line::{hint_status, push_hint_verdict};
+use crate::program::printing::{DONE, REFUSED, print_line, tell};
+use crate::program::verdict_line::{push_yes_or_no, status};
+use crate::run::run;
+use crate::summary::Summary;
+use crate::verdict::{ConfirmFault, Verdict};
+use sat_base::{CountedRead, CountedWrite};
+use sat_checker::Looks;
+use sat_hints::{HintError, HintFault, HintVerdict, check, convert};
+use std::alloc::Global;
+
+/// The status behind a finished run.
+fn run_status(summary: &Summary) -> u8
+    ensures small { result ≤ 1 }
+    ensures done { (result ≡ 0) ↔ (summary.now.malformed ≡ None) }
+{
+    match summary.malformed {
+        Some(_) => REFUSED,
+        None => DONE,
+    }
+}
+
+/// Answers a script.
+pub(super) fn run_text<S: CountedRead, A: CountedWrite, C: CountedWrite>(
+    alloc: Global,
+    script: &mut S,
+    answers: &mut A,
+    certificate: &mut C,
+    budget: u64,
+) -> Result<u8, Fault>
+    ensures small { IfOk result (λ status. status ≤ 1) }
+    ensures ran { IfOk result (λ s. Ran s budget (gave S.seen script.old script.new) (took A.seen answers.old answers.new)) }
+{
+    let summary = run(alloc, script, answers, certificate, budget)?;
+    Ok(run_status(&summary))
+}
+
+fn print_yes_or_no<O: CountedWrite>(
+    alloc: Global,
+    verdict: Verdict,
+    output: &mut O,
+) -> Result<u8, Fault>
+    ensures small { IfOk result (λ status. status ≤ 1) }
+    ensures printed { IfOk result (λ s. PrintsLine s (yes_or_no_text verdict) (verdict ≡ Yes) (O.seen output.old) (O.seen output.new)) }
+{
+    let mut line = Vec::new(alloc);
+    if push_yes_or_no(&mut line, verdict).is_err() {
+        return Err(Fault::Confirm(ConfirmFault::OutOfMemory));
+    }
+    print_line(output, &line)?;
+    Ok(status(verdict, false))
+}
+
+/// Confirms answers to a script, and prints `yes` or `no ASK WHY`.
+pub(super) fn confirm_given<S: CountedRead, A: CountedRead, C: CountedRead, O: CountedWrite>(
+    alloc: Global,
+    script: &mut S,
+    answers: &mut A,
+    certificate: &mut C,
+    output: &mut O,
+) -> Result<u8, Fault>
+    ensures small { IfOk result (λ status. status ≤ 1) }
+    ensures printed { IfOk result (λ s. PrintsYesOrNo s (gave S.seen script.old script.new) (gave A.seen answers.old answers.new)
+        (gave C.seen certificate.old certificate.new) (took O.seen output.old output.new)) }
+{
+    let mut looks = Looks::new();
+    let verdict = confirm(alloc, script, answers, certificate, &mut looks)?;
+    print_yes_or_no(alloc, verdict, output)
+}
+
+/// Writes the hint text of a certificate. Where it has none, the name of the cause goes to `errors`.
+pub(super) fn write_hints<C: CountedRead, H: CountedWrite, E: CountedWrite>(
+    alloc: Global,
+    certificate: &mut C,
+    hints: &mut H,
+    errors: &mut E,
+) -> Result<u8, Fault>
+    ensures small { IfOk result (λ status. status ≤ 1) }
+    ensures written { IfOk result (λ s. WritesHints s (gave C.seen certificate.old certificate.new) (took H.seen hints.old hints.new)) }
+{
+    match convert(alloc, certificate, hints) {
+        Ok(()) => finish_hints(hints),
+        Err(HintError::Refused(_)) => {
+            tell(errors, "Refused");
+            Ok(REFUSED)
+        }
+        Err(HintError::HasDeleteVar) => {
+            tell(errors, "HasDeleteVar");
+            Ok(REFUSED)
+        }
+        Err(HintError::Read) => Err(Fault::Hints(HintsFault::Read)),
+        Err(HintError::Write) => Err(Fault::Hints(HintsFault::Write)),
+        Err(HintError::OutOfMemory) => Err(Fault::Hints(HintsFault::OutOfMemory)),
+    }
+}
+
+/// Flushes a hint text.
+fn finish_hints<H: CountedWrite>(hints: &mut H) -> Result<u8, Fault>
+    ensures done { IfOk result (λ status. status ≡ 0) }
+    ensures took { OnOk result (Takes (H.seen hints.old) (H.seen hints.new) []) }
+{
+    match hints.flush_counted() {
+        Ok(()) => Ok(DONE),
+        Err(_) => Err(Fault::Hints(HintsFault::Write)),
+    }
+}
+
+fn print_hint_verdict<O: CountedWrite>(
+    alloc: Global,
+    verdict: HintVerdict,
+    output: &mut O,
+) -> Result<u8, Fault>
+    ensures small { IfOk result (λ status. status ≤ 1) }
+    ensures printed { IfOk result (λ s. PrintsLine s (hint_verdict_text verdict) (is_proved verdict ≡ true)
+        (O.seen output.old) (O.seen output.new)) }
+{
+    let mut line = Vec::new(alloc);
+    if push_hint_verdict(&mut line, verdict).is_err() {
+        return Err(Fault::Hints(HintsFault::OutOfMemory));
+    }
+    print_line(output, &line)?;
+    Ok(hint_status(verdict))
+}
+
+/// Checks a hint text, and prints what it is.
+pub(super) fn check_text<H: CountedRead, O: CountedWrite>(
+    alloc: Global,
+    text: &mut H,
+    output: &mut O,
+) -> Result<u8, Fault>
+    ensures small { IfOk result (λ status. status ≤ 1) }
+    ensures printed { IfOk result (λ s. PrintsHintVerdict s (gave H.seen text.old text.new) (took O.seen output.old output.new)) }
+{
+    let verdict = check(alloc, text)?;
+    print_hint_verdict(alloc, verdict, output)
+}
