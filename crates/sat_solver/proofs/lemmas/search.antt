@@ -1,5 +1,6 @@
 pub mod AskedLemmas
 pub mod BumpingLemmas
+pub mod DeletingLemmas
 pub mod FailingLemmas
 pub mod GlueLemmas
 pub mod GoingLemmas

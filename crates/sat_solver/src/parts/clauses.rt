@@ -1,5 +1,5 @@
 //! Clauses that are deleted, moved or collected between rounds.
-ghost use Rattle.std.specs.Prelude.{ℕ, ◌≡◌, ◌^◌, ◌<◌, ◌≢◌, ◌≤◌, ◌↔◌, IsTrue, length, [], true, false};
+ghost use Rattle.std.specs.Prelude.{ℕ, ◌≡◌, ◌^◌, ◌<◌, ◌≢◌, ◌≤◌, ◌/◌, ◌↔◌, IsTrue, OnOk, length, [], true, false};
 ghost use Rattle.sat_base.specs.values.Literals.{negated};
 ghost use Rattle.sat_store.specs.clause.Buffer.{header_at};
 ghost use Rattle.sat_store.specs.clause.Header.{is_learned};
@@ -47,6 +47,7 @@ pub fn drop_clause(parts: &mut Parts, cref: ClauseRef) -> bool
     requires live { Contains (live_refs parts.old.clauses parts.old.db.refs) cref }
     ensures holds { Holds parts.new }
     ensures dropped { result ≡ true → Dropped parts.old parts.new cref }
+    ensures free { result ≡ true → IsAsserting parts.old.clauses parts.old.assignment.current parts.old.graph cref → ⊥ }
     ensures kept { result ≡ false → IsAsserting parts.old.clauses parts.old.assignment.current parts.old.graph cref × (parts.new ≡ parts.old) }
     ensures others { (p : ℕ) → p ≢ cref → Contains (live_refs parts.old.clauses parts.old.db.refs) p → Contains (live_refs parts.new.clauses parts.new.db.refs) p }
     ensures word { Extends parts.old parts.new }
@@ -77,6 +78,8 @@ pub fn collect(alloc: Global, parts: &mut Parts) -> Result<(), StoreError>
     requires holds { Holds parts.old }
     ensures holds { Holds parts.new }
     ensures copied { Copied parts.old parts.new }
+    ensures due { length parts.old.clauses / 2 < parts.old.db.garbage → OnOk result (parts.new.db.garbage ≡ 0) }
+    ensures not_due { parts.old.db.garbage ≤ length parts.old.clauses / 2 → parts.new ≡ parts.old }
     ensures word { Extends parts.old parts.new }
 {
     collect_garbage(

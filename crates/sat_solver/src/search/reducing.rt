@@ -1,5 +1,5 @@
 //! Learned clauses that are used least are deleted, and the room of deleted clauses is taken back.
-ghost use Rattle.std.specs.Prelude.{ℕ, ◌≡◌, ◌<◌, OnOk, length, map, slice_index_or};
+ghost use Rattle.std.specs.Prelude.{ℕ, ◌≡◌, ◌-◌, ◌<◌, if◌then◌else◌, OnOk, length, map, slice_index_or};
 ghost use Rattle.sat_base.specs.values.Literals.{variable};
 ghost use Rattle.sat_store.specs.clause.Buffer.{IsClause, lits_at};
 ghost use Rattle.sat_solver.specs.session.LiveClauses.{with_var};
@@ -9,7 +9,7 @@ ghost use Rattle.sat_solver.specs.parts.Whole.{Holds};
 ghost use Rattle.sat_solver.specs.joint.Naming.{global_of};
 ghost use Rattle.sat_solver.specs.search.Going.{Goes};
 ghost use Rattle.sat_solver.specs.search.Joint.{IsSearch};
-ghost use Rattle.sat_solver.specs.search.Reducing.{IsLearnt, Deleted, Reduced};
+ghost use Rattle.sat_solver.specs.search.Reducing.{IsLearnt, Deleted, Reduced, ReducesLocals, ReducesMids, CollectsWhereDue, Reduces};
 
 use crate::parts::Parts;
 use crate::parts::clauses::{collect, drop_clause, reduce_middle};
@@ -52,7 +52,7 @@ fn delete_learned<W: CountedWrite + Drop>(
     requires keeps { Keeps proof.old }
     requires search { IsSearch (session_of proof.old) search.old }
     requires learned { IsLearnt search.old.parts cref }
-    ensures { Goes W.seen result proof.old proof.new (λ _ _. Deleted cref (session_of proof.new) search.old search.new) }
+    ensures { Goes W.seen result proof.old proof.new (λ deleted _. Deleted deleted cref (session_of proof.new) search.old search.new) }
 {
     map_clause(
         &search.parts,
@@ -73,6 +73,14 @@ fn delete_learned<W: CountedWrite + Drop>(
     }
 }
 
+/// How many clauses are still to be deleted.
+fn left_after(left: usize, deleted: bool) -> usize
+    requires { 0 < left }
+    ensures { result ≡ (if deleted then left - 1 else left) }
+{
+    if deleted { left - 1 } else { left }
+}
+
 /// Deletes half of the clauses of tier Local where that is due: those that were used least, without those that values depend on.
 fn reduce_locals<W: CountedWrite + Drop>(
     proof: &mut Proof<W>,
@@ -81,7 +89,7 @@ fn reduce_locals<W: CountedWrite + Drop>(
 ) -> Result<(), SolverError>
     requires keeps { Keeps proof.old }
     requires search { IsSearch (session_of proof.old) search.old }
-    ensures { Goes W.seen result proof.old proof.new (λ _ _. Reduced (session_of proof.new) search.old search.new) }
+    ensures { Goes W.seen result proof.old proof.new (λ _ _. Reduced (session_of proof.new) search.old search.new × ReducesLocals is_due search.old.parts search.new.parts) }
 {
     if !is_due {
         return Ok(());
@@ -93,9 +101,8 @@ fn reduce_locals<W: CountedWrite + Drop>(
         if left == 0 {
             return Ok(());
         }
-        if delete_learned(proof, search, list[at])? {
-            left -= 1;
-        }
+        let deleted = delete_learned(proof, search, list[at])?;
+        left = left_after(left, deleted);
     }
     Ok(())
 }
@@ -105,6 +112,7 @@ fn reduce_mids(search: &mut Search, is_due: bool)
     requires holds { Holds search.old.parts }
     ensures holds { Holds search.new.parts }
     ensures reduced { (s : Session) → IsSearch s search.old → Reduced s search.old search.new }
+    ensures mids { ReducesMids is_due search.old.parts search.new.parts }
 {
     if !is_due {
         return;
@@ -115,7 +123,8 @@ fn reduce_mids(search: &mut Search, is_due: bool)
 /// Collects deleted clauses.
 fn collect_deleted(search: &mut Search) -> Result<(), StoreError>
     requires holds { Holds search.old.parts }
-    ensures { OnOk result ((s : Session) → IsSearch s search.old → Reduced s search.old search.new) }
+    ensures reduced { OnOk result ((s : Session) → IsSearch s search.old → Reduced s search.old search.new) }
+    ensures collects { OnOk result (CollectsWhereDue search.old.parts search.new.parts) }
 {
     collect(search.alloc, &mut search.parts)
 }
@@ -132,7 +141,7 @@ pub fn reduce<W: CountedWrite + Drop>(
     requires search { IsSearch (session_of proof.old) search.old }
     requires locals { 0 < config.now.reduce_locals_interval }
     requires mids { 0 < config.now.reduce_mids_interval }
-    ensures { Goes W.seen result proof.old proof.new (λ _ _. Reduced (session_of proof.new) search.old search.new) }
+    ensures { Goes W.seen result proof.old proof.new (λ _ _. Reduced (session_of proof.new) search.old search.new × Reduces config.now round search.old.parts search.new.parts) }
 {
     let are_locals_due = round % config.reduce_locals_interval == 0;
     reduce_locals(proof, search, are_locals_due)?;

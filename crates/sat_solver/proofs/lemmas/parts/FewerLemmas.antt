@@ -68,7 +68,7 @@ sound_fewer words words' db db' w w' b a g t q h held same reasons size watched 
     }
 
 -- what is in a list and isn't another number is in the list without that
-without_there : (o p : ℕ) (xs : List ℕ) → p ≢ o → Contains xs p → Contains (without o xs) p
+pub without_there : (o p : ℕ) (xs : List ℕ) → p ≢ o → Contains xs p → Contains (without o xs) p
 without_there o p [] n c = absurd (omega (arith, c.1))
 without_there o p (x ∷ xs) n c = elim (cases_eq x o) [
   | inl e ↦

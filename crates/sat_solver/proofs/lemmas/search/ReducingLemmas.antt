@@ -29,7 +29,7 @@ use Rattle.sat_solver.proofs.lemmas.joint.FramedParts.{fits_headed, fits_copied,
 use Rattle.sat_solver.specs.declared.search.work.Search.{Search}
 use Rattle.sat_solver.specs.search.Joint.{global_in, assumed_in, IsSearch, Moved}
 use Rattle.sat_solver.specs.search.Left.{SameSize}
-use Rattle.sat_solver.specs.search.Reducing.{IsLearnt, Deleted, Reduced}
+use Rattle.sat_solver.specs.search.Reducing.{IsLearnt, IsReason, Deleted, Reduced}
 use Rattle.sat_solver.proofs.lemmas.search.TurnLemmas.{moved_refl, moved_trans, ready_moved, free_moved}
 
 same_state : (p p' : Parts) → SameState p p' → state p' ≡ state p
@@ -78,8 +78,8 @@ reduced_trans s s' a b c x y = record {
   word = extends_after (assumed_in a) a.parts b.parts c.parts x.word (rw x.moved.lits at y.word);
 }
 
-pub reduced_deleted : (o : ℕ) (s : Session) (c c' : Search) → Deleted o s c c' → Reduced s c c'
-reduced_deleted o s c c' d = record { search = d.search; moved = d.moved; word = d.word (assumed_in c) }
+pub reduced_deleted : (b : Bool) (o : ℕ) (s : Session) (c c' : Search) → Deleted b o s c c' → Reduced s c c'
+reduced_deleted b o s c c' d = record { search = d.search; moved = d.moved; word = d.word (assumed_in c) }
 
 module _ (s s' : Session) (c c' : Search) (search : IsSearch s c) (globals : c'.globals ≡ c.globals) (assumptions : c'.assumptions ≡ c.assumptions) (analysis : c'.analysis ≡ c.analysis) (flags : c'.flags ≡ c.flags) where
   pub still_moved : SameSize c.parts c'.parts → Moved c c'
@@ -115,14 +115,15 @@ module _ (s : Session) (c c' : Search) (search : IsSearch s c) (globals : c'.glo
       }
 
   -- nothing was deleted
-  pub deleted_none : (o : ℕ) → c'.parts ≡ c.parts → Deleted o s c c'
-  deleted_none o parts =
+  pub deleted_none : (o : ℕ) → IsReason c.parts o → c'.parts ≡ c.parts → Deleted false o s c c'
+  deleted_none o reason parts =
       let size : SameSize c.parts c'.parts = ap (λ p. length p.assignment.current) parts in
       record {
         search = still s s c c' search globals assumptions analysis flags refl (rw parts search.stands.holds) (rw parts search.stands.fits) size (rw parts search.ready.placed);
         moved = still_moved s s c c' search globals assumptions analysis flags size;
         word = rw parts (extends_refl c.parts);
         others = λ p ne x. rw parts x;
+        tried = (reason, parts);
       }
 
   module _ (o : ℕ) (learnt : IsLearnt c.parts o) (dropped : Dropped c.parts c'.parts o) where
@@ -139,13 +140,14 @@ module _ (s : Session) (c c' : Search) (search : IsSearch s c) (globals : c'.glo
 
     -- and leaves what is searched
     pub deleted_one : (s' : Session) (clause : List ℕ) → clause ≡ map (with_var (global_in c)) (lits_at c.parts.clauses o) → s' ≡ after (DeleteClause clause Redundant) s → Holds c'.parts → Extends c.parts c'.parts →
-        ((p : ℕ) → p ≢ o → Contains (live_refs c.parts.clauses c.parts.db.refs) p → Contains (live_refs c'.parts.clauses c'.parts.db.refs) p) → Deleted o s' c c'
-    deleted_one s' clause e its holds word others =
+        ((p : ℕ) → p ≢ o → Contains (live_refs c.parts.clauses c.parts.db.refs) p → Contains (live_refs c'.parts.clauses c'.parts.db.refs) p) → (IsReason c.parts o → ⊥) → Deleted true o s' c c'
+    deleted_one s' clause e its holds word others free =
         let size : SameSize c.parts c'.parts = ap (λ a. length a.current) dropped.same.0.0 in
         record {
           search = still s s' c c' search globals assumptions analysis flags (ap (λ (t : Session). t.assumed) its) holds (rw (its, e) both.1) size (rw (same_state c.parts c'.parts dropped.same.0) search.ready.placed);
           moved = still_moved s s c c' search globals assumptions analysis flags size;
           word = word;
+          tried = (free, dropped);
           others = λ p ne x. record {
             live = others p ne x.live;
             learned = ap (λ h. is_learned h.tier) (dropped.deletes.put.others p (filter_in (is_live c.parts.clauses) c.parts.db.refs p x.live).0 ne).header ∙ x.learned;

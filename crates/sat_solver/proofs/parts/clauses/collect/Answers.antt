@@ -1,3 +1,5 @@
+use Rattle.std.proofs.Common.{refl}
+use Rattle.std.proofs.lemmas.Result.{on_ok_weaker}
 use Rattle.sat_solver.proofs.lemmas.parts.WordSteps.{extends_collect}
 use Rattle.sat_solver.proofs.lemmas.parts.FewerLemmas.{sound_collect}
 use Rattle.sat_solver.proofs.lemmas.parts.HeaderFrames.{copied_collect}
@@ -11,5 +13,7 @@ returns c =
     record {
       holds = sound_collect p.clauses n.clauses p.db n.db p.watchlists n.watchlists p.binary p.assignment p.graph n.graph p.trail p.vsids c.collect_garbage.result c.requires.holds e.collected e.watches e.not_due e.same;
       copied = copied_collect p n.clauses n.db n.watchlists n.graph c.collect_garbage.result e.collected e.not_due e.same;
+      due = λ lt. on_ok_weaker c.collect_garbage.result (λ x. x.clean) (e.collected lt);
+      not_due = λ le. (let same = e.not_due le in rw (same.0, same.1, same.2, same.3) refl);
       word = λ am. extends_collect am p.clauses n.clauses p.db n.db p.watchlists n.watchlists p.assignment p.graph n.graph p.trail p.vsids c.collect_garbage.result e.collected e.not_due e.same;
     }

@@ -8,8 +8,16 @@ returns g c =
     let s = session_of c.reduce_locals.new.proof in
     goes_on g.W.CountedWrite.seen c.in_ok-reduce_locals.field-0 tt c.args.proof.now c.reduce_locals.new.proof _ _
     (λ steps x.
-    let y = c.reduce_mids.ensures.reduced s x.search in
-    let z = c.in_ok-collect_deleted.ensures s y.search in
-    reduced_trans s s c.args.search.now c.reduce_locals.new.search c.collect_deleted.new.search x
-    (reduced_trans s s c.reduce_locals.new.search c.reduce_mids.new.search c.collect_deleted.new.search y z))
+    let y = c.reduce_mids.ensures.reduced s x.0.search in
+    let z = c.in_ok-collect_deleted.ensures.reduced s y.search in (
+      reduced_trans s s c.args.search.now c.reduce_locals.new.search c.collect_deleted.new.search x.0
+          (reduced_trans s s c.reduce_locals.new.search c.reduce_mids.new.search c.collect_deleted.new.search y z),
+      record {
+        behind_locals = c.reduce_locals.new.search.parts;
+        behind_mids = c.reduce_mids.new.search.parts;
+        locals = x.1;
+        mids = c.reduce_mids.ensures.mids;
+        collection = c.in_ok-collect_deleted.ensures.collects;
+      },
+    ))
     c.in_ok-reduce_locals.ensures
