@@ -1,7 +1,7 @@
 pub mod Alike
 pub mod Bottom
 pub mod Loaded
-pub mod Many
 pub mod Faults
-pub mod Indexed
+pub mod Indices
+pub mod Shared
 pub mod Assuming

@@ -3,6 +3,5 @@ pub mod assuming;
 pub mod bottom;
 pub mod clause;
 pub mod indices;
-pub mod many;
 pub mod ready;
 pub mod writing;

@@ -25,7 +25,6 @@ pub mod PartLemmas
 pub mod ReplacedLemmas
 pub mod PairLemmas
 pub mod RemovedLemmas
-pub mod NamedParts
 pub mod ForgottenLemmas
 pub mod RemovedParts
 pub mod AnswerParts

@@ -3,5 +3,5 @@ pub mod BottomLemmas
 pub mod GivenLemmas
 pub mod IndexLemmas
 pub mod LoadingLemmas
-pub mod ManyLemmas
+pub mod SharedLemmas
 pub mod TakenLemmas

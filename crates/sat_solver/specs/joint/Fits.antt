@@ -1,5 +1,5 @@
 -- What the parts of a search and the session behind its steps have to do with each other.
-use Rattle.std.specs.Prelude.{ℕ, ◌≡◌, ◌≢◌, ◌<◌, ◌≤◌, Bool, true, false, Some, List, length}
+use Rattle.std.specs.Prelude.{ℕ, ◌≡◌, ◌≢◌, ◌≤◌, Bool, true, false, Option, Some, List, length}
 use Rattle.std.specs.List.{Contains}
 use Rattle.sat_base.specs.values.Literals.{variable, negated}
 use Rattle.sat_store.specs.clause.Buffer.{header_at}
@@ -29,11 +29,14 @@ is_redundant words o = is_learned (header_at words o).tier
 pub record Fits (words live : List ℕ) (implied : List (List ℕ)) (st : State) (s : Session) (global : ℕ → ℕ) : Type 0 where
   pub clauses : AreOf s global (solver_clauses (is_redundant words) words live implied)
   pub paired : ArePaired implied
-  pub named : (v : ℕ) → v < length st.values → s.solver_names (global v) ≡ Some v
   pub known : (l : ℕ) → IsUnitLit st l → s.units (with_var global l) ≡ true
   pub sound : (l : ℕ) → s.solver_names (global (variable l)) ≡ Some (variable l) → s.units (with_var global l) ≡ true → IsTrueLit st.values l × (level st l ≡ 0)
   pub consistent : s.unsat ≡ false
   pub width : s.width ≡ 64
+
+-- each literal that is true is of a variable that has its solver name
+abbrev pub HaveNames : List (Option Bool) → Session → (ℕ → ℕ) → Type 0
+HaveNames values s global = (l : ℕ) → IsTrueLit values l → s.solver_names (global (variable l)) ≡ Some (variable l)
 
 -- the same of the struct of parts
 abbrev pub FitsParts : Parts → Session → (ℕ → ℕ) → Type 0

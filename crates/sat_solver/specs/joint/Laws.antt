@@ -23,7 +23,7 @@ use Rattle.sat_solver.specs.analysis.Advances.{IsStored, LeadTo, StaysOpen}
 use Rattle.sat_solver.specs.declared.parts.Parts.{Parts}
 use Rattle.sat_solver.specs.parts.Whole.{state, Holds, AllAssigned, IsModelled, IsRefuted}
 use Rattle.sat_solver.specs.joint.Units.{AreTrueLits}
-use Rattle.sat_solver.specs.joint.Fits.{Fits, FitsParts}
+use Rattle.sat_solver.specs.joint.Fits.{Fits, FitsParts, HaveNames}
 
 -- the clauses that an analysis names: those that were used, in order, and the one that was found false
 abbrev pub named_clauses : List ℕ → State → List ℕ → Conflict → List (List ℕ)
@@ -43,7 +43,7 @@ LearnedMay =
 -- all of its clauses are in the session, and all is assigned: its true literals may be shown as a model, in whatever order
 abbrev pub ModelMay : Type 0
 ModelMay =
-    (p : Parts) (s : Session) (global : ℕ → ℕ) (ls : List ℕ) → FitsParts p s global → Holds p → AreTrueLits p.assignment.current ls → AllAssigned p → IsModelled p → May s (Model (map (with_var global) ls))
+    (p : Parts) (s : Session) (global : ℕ → ℕ) (ls : List ℕ) → FitsParts p s global → HaveNames p.assignment.current s global → Holds p → AreTrueLits p.assignment.current ls → AllAssigned p → IsModelled p → May s (Model (map (with_var global) ls))
 
 -- after a conflict above level 0 no stored clauses that are unit in turn, under the units and the negations of the learned clause's other
 -- literals, assign its first literal, and none of them is falsified

@@ -1,5 +1,5 @@
 -- What holds of a session and a list of live clauses, while steps are written of which the parts don't know yet.
-use Rattle.std.specs.Prelude.{ℕ, ◌≡◌, ◌<◌, Bool, true, false, Some, List, ◌++◌, length}
+use Rattle.std.specs.Prelude.{ℕ, ◌≡◌, ◌<◌, Bool, true, false, Some, List, ◌++◌}
 use Rattle.sat_base.specs.values.Literals.{variable}
 use Rattle.sat_base.specs.steps.Steps.{Step, UserVarName, ChangeSamplingMode, Model, Assumptions, FailedAssumptions, End}
 use Rattle.sat_checker.specs.LiteralSets.{is_tautology}
@@ -8,21 +8,16 @@ use Rattle.sat_parts.specs.prop.Values.{IsTrueLit}
 use Rattle.sat_parts.specs.prop.State.{State, level}
 use Rattle.sat_solver.specs.session.Session.{Session}
 use Rattle.sat_solver.specs.session.LiveClauses.{LiveClause, with_var, AreOf}
-use Rattle.sat_solver.specs.acceptance.SolverClauses.{longs, solver_clauses, binaries_left}
+use Rattle.sat_solver.specs.acceptance.SolverClauses.{longs, binaries_left}
 use Rattle.sat_solver.specs.declared.parts.Parts.{Parts}
 use Rattle.sat_solver.specs.parts.Whole.{state}
 use Rattle.sat_solver.specs.parts.Frame.{IsUnitLit}
-use Rattle.sat_solver.specs.joint.Fits.{ArePaired, is_redundant}
+use Rattle.sat_solver.specs.joint.Fits.{is_redundant}
 
--- a variable of the search
-abbrev pub IsVariable : State → ℕ → Type 0
-IsVariable st v = v < length st.values
-
--- the live clauses of the session are these, the variables that are meant have their solver names, and its units are literals of
--- level 0, among them those that no clause of the trail makes true
-pub record FitsList (cs : List LiveClause) (meant : ℕ → Type 0) (st : State) (s : Session) (global : ℕ → ℕ) : Type 0 where
+-- the live clauses of the session are these, and its units are literals of level 0, among them those that no clause of the trail
+-- makes true
+pub record FitsList (cs : List LiveClause) (st : State) (s : Session) (global : ℕ → ℕ) : Type 0 where
   pub clauses : AreOf s global cs
-  pub named : (v : ℕ) → meant v → s.solver_names (global v) ≡ Some v
   pub known : (l : ℕ) → IsUnitLit st l → s.units (with_var global l) ≡ true
   pub sound : (l : ℕ) → s.solver_names (global (variable l)) ≡ Some (variable l) → s.units (with_var global l) ≡ true → IsTrueLit st.values l × (level st l ≡ 0)
   pub consistent : s.unsat ≡ false
@@ -49,12 +44,7 @@ Rests (FailedAssumptions core hashes) = Unit {0}
 Rests End = Unit {0}
 Rests step = ⊥
 
--- the struct of parts fits, where the variables below n have their solver names: more of them, or fewer, than there are
-pub record FitsBelow (p : Parts) (n : ℕ) (s : Session) (global : ℕ → ℕ) : Type 0 where
-  pub list : FitsList (solver_clauses (is_redundant p.clauses) p.clauses (live_refs p.clauses p.db.refs) p.binary.implied) (λ v. v < n) (state p) s global
-  pub paired : ArePaired p.binary.implied
-
 -- the struct of parts fits, but for clauses of two literals with a variable that has a value: these are gone from the session, as
 -- far as the first k literals of the list l and all lists before it were looked at
 abbrev pub LeftParts : Parts → Session → (ℕ → ℕ) → (l k : ℕ) → Type 0
-LeftParts p s global l k = FitsList (binaries_left p.assignment.current p.binary.implied l k ++ longs (is_redundant p.clauses) p.clauses (live_refs p.clauses p.db.refs)) (IsVariable (state p)) (state p) s global
+LeftParts p s global l k = FitsList (binaries_left p.assignment.current p.binary.implied l k ++ longs (is_redundant p.clauses) p.clauses (live_refs p.clauses p.db.refs)) (state p) s global

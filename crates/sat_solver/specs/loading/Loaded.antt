@@ -4,7 +4,7 @@ use Rattle.sat_base.specs.steps.Steps.{Step, AddClause}
 use Rattle.sat_checker.specs.LiteralSets.{is_tautology}
 use Rattle.sat_parts.specs.clause.Orders.{AreDistinct}
 use Rattle.sat_solver.specs.session.Session.{Session, session_after}
-use Rattle.sat_solver.specs.session.LiveClauses.{with_var}
+use Rattle.sat_solver.specs.session.LiveClauses.{with_var, AreMapped}
 use Rattle.sat_solver.specs.search.Joint.{global_in, IsSearch, Moved}
 use Rattle.sat_solver.specs.declared.search.work.Search.{Search}
 
@@ -15,11 +15,12 @@ pub record MayLoad (c : Search) (ls : List ℕ) : Type 0 where
   pub plain : is_tautology ls ≡ false
   pub below : (k : ℕ) → k < length ls → get_or ls k 0 < 2 * length c.parts.assignment.current
 
--- the last step added the clause, and before it the search fitted the session
+-- the last step added the clause, whose variables have solver names, and before it the search fitted the session
 pub record IsAdded (steps : List Step) (c : Search) (ls : List ℕ) : Type 0 where
   pub earlier : List Step
   pub added : steps ≡ AddClause (map (with_var (global_in c)) ls) ∷ earlier
   pub search : IsSearch (session_after earlier) c
+  pub named : AreMapped (global_in c) (session_after earlier).solver_names ls
 
 -- the search goes on, or unsat is recorded
 abbrev pub GoesOn : Bool → Session → Search → Type 0

@@ -19,15 +19,19 @@ Begins u v = (w : List Letter) × (v ≡ u ++ w)
 abbrev pub standing : Trailed → List Letter
 standing t = letters t.starts t.lits 0
 
--- the variable has a value and its literal was taken off the trail; or it has none, isn't to be picked, and isn't assumed
-abbrev pub IsGone : List ℕ → State → Queue → ℕ → Type 0
-IsGone assumed s q v =
-    (v < length s.values)
-    × (((l : ℕ) × ((variable l ≡ v) × IsRemoved s l)) ⊎ ((value_of s.values v ≡ None) × (may_pick q v ≡ false) × (Contains assumed v → ⊥)))
+-- the variable has no value, isn't to be picked, and isn't assumed
+abbrev pub IsIdle : List ℕ → State → Queue → ℕ → Type 0
+IsIdle assumed s q v = (value_of s.values v ≡ None) × (may_pick q v ≡ false) × (Contains assumed v → ⊥)
 
--- what is gone stays so, and the variables are as many
-abbrev pub GoesOn : (assumed : List ℕ) (s : State) (q : Queue) (s' : State) (q' : Queue) → Type 0
-GoesOn assumed s q s' q' = (length s'.values ≡ length s.values) × ((v : ℕ) → IsGone assumed s q v → IsGone assumed s' q' v)
+-- the variable has a value and its literal was taken off the trail, or it is idle
+abbrev pub IsGone : List ℕ → State → Queue → ℕ → Type 0
+IsGone assumed s q v = (v < length s.values) × (((l : ℕ) × ((variable l ≡ v) × IsRemoved s l)) ⊎ IsIdle assumed s q v)
+
+-- what is gone stays so, and so does what is idle, and the variables are as many
+pub record GoesOn (assumed : List ℕ) (s : State) (q : Queue) (s' : State) (q' : Queue) : Type 0 where
+  pub size : length s'.values ≡ length s.values
+  pub gone : (v : ℕ) → IsGone assumed s q v → IsGone assumed s' q' v
+  pub idle : (v : ℕ) → IsIdle assumed s q v → IsIdle assumed s' q' v
 
 -- a word of the trail since an ask began that assumes these variables: a P for each of some variables that are gone, those of units
 -- taken off since then, and the letters of the trail
@@ -40,12 +44,12 @@ pub record IsWord (assumed : List ℕ) (s : State) (q : Queue) (w : List Letter)
 -- each word goes on to one that it begins
 abbrev pub WordExtends : (assumed : List ℕ) (s : State) (q : Queue) (s' : State) (q' : Queue) → Type 0
 WordExtends assumed s q s' q' =
-    (length s'.values ≡ length s.values) × ((w : List Letter) → IsWord assumed s q w → (v : List Letter) × (IsWord assumed s' q' v × Begins w v))
+    GoesOn assumed s q s' q' × ((w : List Letter) → IsWord assumed s q w → (v : List Letter) × (IsWord assumed s' q' v × Begins w v))
 
 -- each word goes on to a higher one
 abbrev pub WordRises : (assumed : List ℕ) (s : State) (q : Queue) (s' : State) (q' : Queue) → Type 0
 WordRises assumed s q s' q' =
-    (length s'.values ≡ length s.values) × ((w : List Letter) → IsWord assumed s q w → (v : List Letter) × (IsWord assumed s' q' v × IsBelow w v))
+    GoesOn assumed s q s' q' × ((w : List Letter) → IsWord assumed s q w → (v : List Letter) × (IsWord assumed s' q' v × IsBelow w v))
 
 -- the same of parts
 abbrev pub Words : List ℕ → Parts → List Letter → Type 0

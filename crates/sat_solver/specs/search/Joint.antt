@@ -1,8 +1,9 @@
 -- What holds of a search and the session behind its proof.
-use Rattle.std.specs.Prelude.{ℕ, ◌≡◌, ◌≤◌, ◌*◌, List, map, length}
+use Rattle.std.specs.Prelude.{ℕ, ◌≡◌, ◌≤◌, ◌<◌, ◌*◌, ◌⊎◌, Some, List, map, length}
 use Rattle.sat_parts.specs.clause.Glue.{AreClear}
 use Rattle.sat_solver.specs.parts.Assumed.{AreThere, ArePlaced, variables}
 use Rattle.sat_solver.specs.parts.Whole.{state}
+use Rattle.sat_solver.specs.parts.Words.{IsIdle}
 use Rattle.sat_solver.specs.session.Session.{Session}
 use Rattle.sat_solver.specs.session.LiveClauses.{with_var}
 use Rattle.sat_solver.specs.joint.Naming.{global_of}
@@ -30,12 +31,22 @@ pub record IsFree (c : Search) : Type 0 where
 abbrev pub AreAsked : Session → Search → Type 0
 AreAsked s c = s.assumed ≡ map (with_var (global_in c)) c.assumptions.lits.items
 
+-- what is assumed, and the solver names, are as they were
+pub record Leaves (s t : Session) : Type 0 where
+  pub assumed : t.assumed ≡ s.assumed
+  pub names : (v : ℕ) → t.solver_names v ≡ s.solver_names v
+
+-- each variable has its solver name, or is idle
+abbrev pub AreUsed : Session → Search → Type 0
+AreUsed s c = (v : ℕ) → v < length c.parts.assignment.current → (s.solver_names (global_in c v) ≡ Some v) ⊎ IsIdle (assumed_in c) (state c.parts) c.parts.vsids v
+
 -- all but parts and clauses
 pub record IsReady (s : Session) (c : Search) : Type 0 where
   pub free : IsFree c
   pub placed : ArePlaced c.assumptions (state c.parts)
   pub there : AreThere c.assumptions.lits.items c.parts
   pub asked : AreAsked s c
+  pub used : AreUsed s c
 
 -- what holds between the turns of a search
 pub record IsSearch (s : Session) (c : Search) : Type 0 where

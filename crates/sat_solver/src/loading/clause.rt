@@ -22,7 +22,7 @@ use crate::session::proof::Proof;
 use sat_base::{CountedWrite, DeleteClauseProof, Lit, ProofStep, Var};
 
 /// Deletes a clause that has a true literal.
-fn delete_satisfied<W: CountedWrite + Drop>(
+pub fn delete_satisfied<W: CountedWrite + Drop>(
     proof: &mut Proof<W>,
     globals: &[Var],
     lits: &[Lit],

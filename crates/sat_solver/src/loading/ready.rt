@@ -1,7 +1,8 @@
 //! Variables that may be picked.
-ghost use Rattle.std.specs.Prelude.{ℕ, ◌≡◌, ◌<◌, None, true, length, slice_index_or};
+ghost use Rattle.std.specs.Prelude.{ℕ, ◌≡◌, ◌<◌, None, true, false, length, slice_index_or};
 ghost use Rattle.sat_base.specs.values.Literals.{variable};
 ghost use Rattle.sat_store.specs.heap.Vsids.{may_pick};
+ghost use Rattle.sat_checker.specs.LiteralSets.{mentions};
 ghost use Rattle.sat_parts.specs.prop.Values.{value_of};
 ghost use Rattle.sat_solver.specs.parts.Whole.{Holds};
 ghost use Rattle.sat_solver.specs.parts.Frame.{SameClauses, SameState};
@@ -18,6 +19,7 @@ pub fn make_ready(parts: &mut Parts, lits: &[Lit])
     ensures same { SameClauses parts.old parts.new × SameState parts.old parts.new }
     ensures ready { (k : ℕ) → k < length lits.now → value_of parts.old.assignment.current (variable (slice_index_or lits.now k 0)) ≡ None →
         may_pick parts.new.vsids (variable (slice_index_or lits.now k 0)) ≡ true }
+    ensures others { (v : ℕ) → mentions lits.now v ≡ false → may_pick parts.new.vsids v ≡ may_pick parts.old.vsids v }
 {
     for at in 0..lits.len() {
         let var = lits[at].var();

@@ -18,7 +18,7 @@ use crate::parts::Parts;
 use sat_base::Var;
 use sat_parts::{
     ClauseActivity, Reason, bump_clause_activity, collect_garbage, decay_clause_activities,
-    reduce_mids, set_clause_tier, shorten_clause, try_delete_clause,
+    delete_clause, reduce_mids, set_clause_tier, shorten_clause, try_delete_clause,
 };
 use sat_store::{ClauseHeader, ClauseRef, StoreError, Tier};
 use std::alloc::Global;
@@ -60,6 +60,23 @@ pub fn drop_clause(parts: &mut Parts, cref: ClauseRef) -> bool
         &parts.assignment,
         cref,
     )
+}
+
+/// Deletes a live clause while nothing is on the trail.
+pub fn delete_long(parts: &mut Parts, cref: ClauseRef)
+    requires holds { Holds parts.old }
+    requires empty { parts.old.trail.lits ≡ [] }
+    requires live { Contains (live_refs parts.old.clauses parts.old.db.refs) cref }
+    ensures holds { Holds parts.new }
+    ensures dropped { Dropped parts.old parts.new cref }
+    ensures word { Extends parts.old parts.new }
+{
+    delete_clause(
+        &mut parts.clauses,
+        &mut parts.db,
+        &mut parts.watchlists,
+        cref,
+    );
 }
 
 /// Moves unused clauses of tier Mid to Local.
@@ -131,6 +148,7 @@ pub fn swap_behind(parts: &mut Parts, cref: ClauseRef, i: usize, j: usize)
     requires second_within { j < size_of parts.old.clauses cref }
     ensures holds { Holds parts.new }
     ensures swapped { Swapped parts.old parts.new cref i j }
+    ensures db { parts.new.db ≡ parts.old.db }
     ensures word { Extends parts.old parts.new }
 {
     parts.clauses.swap_lits(cref, i, j);

@@ -45,6 +45,7 @@ pub fn load_long(parts: &mut Parts, lits: &[Lit]) -> Result<(), StoreError>
     requires loadable { IsLoadable (state parts.old) parts.old.vsids lits.now }
     ensures holds { OnOk result (Holds parts.new) }
     ensures stores { OnOk result (Stores parts.old parts.new lits.now) }
+    ensures kept { OnOk result ((parts.new.vsids ≡ parts.old.vsids) × (parts.new.trail ≡ parts.old.trail)) }
 {
     let header = ClauseHeader::new();
     let cref = add_clause(
@@ -65,6 +66,7 @@ pub fn load_binary(parts: &mut Parts, lits: &[Lit]) -> Result<(), AllocError>
     requires loadable { IsLoadable (state parts.old) parts.old.vsids lits.now }
     ensures holds { OnOk result (Holds parts.new) }
     ensures stores { OnOk result (Stores parts.old parts.new lits.now) }
+    ensures kept { OnOk result ((parts.new.vsids ≡ parts.old.vsids) × (parts.new.trail ≡ parts.old.trail)) }
 {
     parts.binary.add_binary_clause([lits[0], lits[1]])?;
     Ok(())
@@ -81,6 +83,7 @@ pub fn load_unit(parts: &mut Parts, lit: Lit)
     ensures same { SameClauses parts.old parts.new }
     ensures comes { state parts.new ≡ enqueued lit NoCause (state parts.old) }
     ensures gains { Gains lit (state parts.old) (state parts.new) }
+    ensures queue { parts.new.vsids ≡ parts.old.vsids }
 {
     enqueue_assignment(
         &mut parts.assignment,
@@ -118,6 +121,7 @@ fn load_some(parts: &mut Parts, lits: &[Lit]) -> Result<(), StoreError>
     requires loadable { IsLoadable (state parts.old) parts.old.vsids lits.now }
     ensures holds { OnOk result (Holds parts.new) }
     ensures stores { OnOk result (Stores parts.old parts.new lits.now) }
+    ensures kept { OnOk result ((parts.new.vsids ≡ parts.old.vsids) × (parts.new.trail ≡ parts.old.trail)) }
 {
     if lits.len() == 2 {
         load_binary(parts, lits)?;
@@ -134,6 +138,7 @@ fn load_sorted(parts: &mut Parts, lits: &[Lit], kept: usize) -> Result<Loaded, S
     requires sorted { IsSorted (state parts.old) parts.old.vsids lits.now kept }
     ensures holds { OnOk result (Holds parts.new) }
     ensures says { IfOk result (λ r. LoadSays r parts.old parts.new lits.now) }
+    ensures kept { OnOk result ((parts.new.vsids ≡ parts.old.vsids) × (parts.new.trail.starts ≡ [])) }
 {
     if lits.len() > 1 {
         load_some(parts, lits)?;
@@ -159,6 +164,7 @@ pub fn load(parts: &mut Parts, given: &[Lit], sorting: &mut Sorting) -> Result<L
     ensures holds { OnOk result (Holds parts.new) }
     ensures order { OnOk result (sorting.new.lits.items ≡ false_last parts.old.assignment.current given.now) }
     ensures says { IfOk result (λ r. LoadSays r parts.old parts.new (false_last parts.old.assignment.current given.now)) }
+    ensures kept { OnOk result ((parts.new.vsids ≡ parts.old.vsids) × (parts.new.trail.starts ≡ [])) }
 {
     let found = split_false(sorting, given, &parts.assignment)?;
     let kept = join_false(sorting)?;

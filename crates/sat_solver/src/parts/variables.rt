@@ -1,11 +1,11 @@
 //! Variables that are given up and used again.
-ghost use Rattle.std.specs.Prelude.{ℕ, List, ◌≡◌, ◌<◌, None, length, [], true, false};
+ghost use Rattle.std.specs.Prelude.{ℕ, List, ◌≡◌, ◌<◌, None, length, [], true, false, slice_set};
 ghost use Rattle.std.specs.List.{Contains};
 ghost use Rattle.sat_base.specs.values.Literals.{variable};
 ghost use Rattle.sat_store.specs.heap.Vsids.{may_pick, with_available};
 ghost use Rattle.sat_parts.specs.clause.Db.{live_refs};
 ghost use Rattle.sat_parts.specs.prop.State.{IsRemoved};
-ghost use Rattle.sat_parts.specs.prop.Values.{IsOpenLit, value_of};
+ghost use Rattle.sat_parts.specs.prop.Values.{IsOpenLit, value_of, made_true};
 ghost use Rattle.sat_solver.specs.parts.Round.{IsUnused};
 ghost use Rattle.sat_solver.specs.parts.Whole.{state, Holds};
 ghost use Rattle.sat_solver.specs.parts.Frame.{SameClauses, SameState, Gains, Freed};
@@ -41,6 +41,18 @@ pub fn use_variable(parts: &mut Parts, var: Var)
     parts.vsids.make_available(var);
 }
 
+/// Sets the activity of a variable that was given up to 0.
+pub fn reset_activity(parts: &mut Parts, var: Var)
+    requires holds { Holds parts.old }
+    requires there { var < length parts.old.assignment.current }
+    requires given_up { may_pick parts.old.vsids var ≡ false }
+    ensures holds { Holds parts.new }
+    ensures same { SameClauses parts.old parts.new × SameState parts.old parts.new }
+    ensures queue { parts.new.vsids ≡ record parts.old.vsids { activities = slice_set parts.old.vsids.activities var 0 } }
+{
+    parts.vsids.reset(var);
+}
+
 /// Gives a variable that was given up the value that makes a unit true, as it had when the unit was taken off the trail.
 pub fn restore_unit(parts: &mut Parts, lit: Lit)
     requires holds { Holds parts.old }
@@ -52,6 +64,7 @@ pub fn restore_unit(parts: &mut Parts, lit: Lit)
     ensures same { SameClauses parts.old parts.new }
     ensures gains { Gains lit (state parts.old) (state parts.new) }
     ensures removed { IsRemoved (state parts.new) lit }
+    ensures values { parts.new.assignment ≡ made_true lit parts.old.assignment }
     ensures queue { parts.new.vsids ≡ parts.old.vsids }
     ensures trail { parts.new.trail ≡ parts.old.trail }
 {

@@ -3,7 +3,7 @@ ghost use Rattle.std.specs.Prelude.{ℕ, ◌≡◌, ◌<◌, ◌≤◌, length, 
 ghost use Rattle.sat_solver.specs.session.ProofView.{Keeps, steps_of, session_of};
 ghost use Rattle.sat_solver.specs.parts.Whole.{IsRefuted};
 ghost use Rattle.sat_solver.specs.joint.Naming.{global_of};
-ghost use Rattle.sat_solver.specs.joint.Fits.{FitsParts};
+ghost use Rattle.sat_solver.specs.joint.Fits.{FitsParts, HaveNames};
 ghost use Rattle.sat_solver.specs.search.Going.{Goes};
 ghost use Rattle.sat_solver.specs.search.Joint.{IsSearch};
 ghost use Rattle.sat_solver.specs.search.Turns.{IsStopped};
@@ -34,6 +34,7 @@ fn refute<W: CountedWrite + Drop>(
     requires refuted { IsRefuted parts.now conflict.now }
     requires bottom { length parts.now.trail.starts ≡ 0 }
     requires fits { FitsParts parts.now (session_of proof.old) (global_of globals.now) }
+    requires named { HaveNames parts.now.assignment.current (session_of proof.old) (global_of globals.now) }
     requires names { length parts.now.assignment.current ≤ length globals.now }
     ensures { Goes W.seen result proof.old proof.new (λ _ _. (session_of proof.new).unsat ≡ true) }
 {

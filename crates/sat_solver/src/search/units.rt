@@ -4,7 +4,7 @@ ghost use Rattle.sat_solver.specs.session.ProofView.{Keeps, session_of};
 ghost use Rattle.sat_solver.specs.parts.Round.{AreUnits, IsBased};
 ghost use Rattle.sat_solver.specs.parts.Whole.{state, HoldsBelow, IsDone};
 ghost use Rattle.sat_solver.specs.joint.Naming.{global_of};
-ghost use Rattle.sat_solver.specs.joint.Fits.{FitsParts};
+ghost use Rattle.sat_solver.specs.joint.Fits.{FitsParts, HaveNames};
 ghost use Rattle.sat_solver.specs.joint.Going.{IsOrderly};
 ghost use Rattle.sat_solver.specs.search.Going.{Goes};
 ghost use Rattle.sat_solver.specs.search.Left.{AllUnits, IsSettled};
@@ -28,6 +28,7 @@ pub fn write_units<W: CountedWrite + Drop>(
     requires orderly { IsOrderly parts.now }
     requires bottom { length parts.now.trail.starts ≡ 0 }
     requires fits { FitsParts parts.now (session_of proof.old) (global_of globals.now) }
+    requires named { HaveNames parts.now.assignment.current (session_of proof.old) (global_of globals.now) }
     requires names { length parts.now.assignment.current ≤ length globals.now }
     ensures { Goes W.seen result proof.old proof.new (λ _ _. AllUnits parts.now (session_of proof.new) (global_of globals.now)) }
 {
@@ -55,6 +56,7 @@ pub fn settle<W: CountedWrite + Drop>(
     requires done { IsDone parts.old }
     requires units { 0 < length parts.old.trail.starts → AreUnits (state parts.old) × IsBased parts.old.trail }
     requires fits { FitsParts parts.old (session_of proof.old) (global_of globals.now) }
+    requires named { HaveNames parts.old.assignment.current (session_of proof.old) (global_of globals.now) }
     requires names { length parts.old.assignment.current ≤ length globals.now }
     ensures { Goes W.seen result proof.old proof.new (λ _ _. IsSettled parts.old parts.new (session_of proof.new) (global_of globals.now)) }
 {

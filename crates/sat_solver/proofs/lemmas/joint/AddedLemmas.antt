@@ -1,5 +1,5 @@
 -- Clauses of the formula come in: each case of loading a clause, at level 0.
-use Rattle.std.proofs.Common.{ℕ, zero, suc, ◌*◌, ◌<◌, ◌≤◌, ◌≡◌, ◌≢◌, true, false, ◌||◌, cond, eqb, List, [], ◌∷◌, map, length, get_or, refl, sym, ◌∙◌, ap, subst, arith, inl, inr, Some}
+use Rattle.std.proofs.Common.{ℕ, ◌*◌, ◌<◌, ◌≤◌, ◌≡◌, ◌≢◌, true, false, ◌||◌, cond, eqb, List, [], ◌∷◌, map, length, refl, sym, ◌∙◌, ap, subst, arith, inl, inr, Some}
 use Rattle.std.proofs.lemmas.Bool.{true≢false, false_from_ne_true}
 use Rattle.sat_base.specs.values.Literals.{variable, negated}
 use Rattle.sat_base.specs.steps.Steps.{AddClause, AtClause, DeleteClause, Satisfied}
@@ -15,7 +15,6 @@ use Rattle.sat_parts.specs.prop.Values.{IsTrueLit, IsFalseLit}
 use Rattle.sat_parts.specs.prop.State.{State, node, level, lit_at, Agrees}
 use Rattle.sat_parts.proofs.lemmas.clause.OrderLemmas.{shuffled_trans}
 use Rattle.sat_parts.proofs.lemmas.prop.StateLemmas.{negated_variable, negated_twice, false_from_true, not_both}
-use Rattle.sat_parts.proofs.lemmas.prop.RoomLemmas.{below_from_value}
 use Rattle.sat_solver.specs.session.Session.{Session, with_fact, with_clause, with_sorted, knowing_literals, after, May}
 use Rattle.sat_solver.specs.session.LiveClauses.{LiveClause, with_var, AreMapped}
 use Rattle.sat_solver.proofs.lemmas.session.Mapped.{negated_mapped, apart}
@@ -26,8 +25,8 @@ use Rattle.sat_solver.proofs.lemmas.acceptance.InsertedLemmas.{inserted_first}
 use Rattle.sat_solver.specs.parts.Round.{AreUnits as AreBare}
 use Rattle.sat_solver.specs.parts.Frame.{IsUnitLit}
 use Rattle.sat_solver.specs.joint.Fits.{is_redundant, Fits}
-use Rattle.sat_solver.specs.joint.Listed.{IsVariable, FitsList}
-use Rattle.sat_solver.proofs.lemmas.joint.FitLemmas.{fact_unsat, all_mapped, taut_mapped, paired_binary}
+use Rattle.sat_solver.specs.joint.Listed.{FitsList}
+use Rattle.sat_solver.proofs.lemmas.joint.FitLemmas.{fact_unsat, mapped_shuffled, taut_mapped, paired_binary}
 use Rattle.sat_solver.proofs.lemmas.joint.SetLemmas.{same_shuffled, taut_carried, once_shuffled}
 use Rattle.sat_solver.proofs.lemmas.joint.ListedLemmas.{listed, fits_listed, listed_stays, listed_by, listed_derived, listed_satisfied, some_unit, MayCome}
 use Rattle.sat_solver.proofs.lemmas.joint.ChangedLemmas.{added_there, two_came}
@@ -50,44 +49,41 @@ module _ (words live : List ℕ) (implied : List (List ℕ)) (st : State) (s : S
   abbrev all : List LiveClause
   all = solver_clauses (is_redundant words) words live implied
 
-  its : FitsList all (IsVariable st) st s global
+  its : FitsList all st s global
   its = listed words live implied st s global fits
 
   -- A UNIT
 
   -- one that is true at level 0
-  pub fits_added_true : (l : ℕ) → IsTrueLit st.values l → level st l ≡ 0 → Fits words live implied st (after (AddClause (with_var global l ∷ [])) s) global
-  fits_added_true l holds bottom =
+  pub fits_added_true : (l : ℕ) → s.solver_names (global (variable l)) ≡ Some (variable l) → IsTrueLit st.values l → level st l ≡ 0 → Fits words live implied st (after (AddClause (with_var global l ∷ [])) s) global
+  fits_added_true l own holds bottom =
       let w : ℕ = with_var global l in
       let known : Session = knowing_literals (with_var global l ∷ []) s in
-      let below : variable l < length st.values = below_from_value st.values (variable l) _ holds in
       let none : s.units (negated (with_var global l)) ≡ false = false_from_ne_true (s.units (negated w)) (λ u.
-      let x = fits.sound (negated l) (fits.named (variable (negated l)) (subst (λ v. v < length st.values) (sym (negated_variable l)) below)) (subst (λ z. s.units z ≡ true) (sym (negated_mapped global l)) u) in
+      let x = fits.sound (negated l) (subst (λ v. s.solver_names (global v) ≡ Some v) (sym (negated_variable l)) own) (subst (λ z. s.units z ≡ true) (sym (negated_mapped global l)) u) in
       not_both st.values (negated l) x.0 (false_from_true st.values l holds)) in
-      let derived : FitsList all (IsVariable st) st (after (AtClause false (with_var global l ∷ []) []) s) global = record {
+      let derived : FitsList all st (after (AtClause false (with_var global l ∷ []) []) s) global = record {
         clauses = short_leaves s global all false (w ∷ []) [] (refl, tt) (omega arith) refl fits.clauses;
-        named = λ v m. fact_names known w (global v) ∙ fits.named v m;
         known = λ m u. fact_keeps known w (with_var global m) (fits.known m u);
         sound = λ m n u.
             let old : s.solver_names (global (variable m)) ≡ Some (variable m) = sym (fact_names known w (global (variable m))) ∙ n in
             elim (fact_only known w (with_var global m) u) [
-              | inl e ↦ subst (λ z. IsTrueLit st.values z × (level st z ≡ 0)) (apart global s.solver_names l m (fits.named (variable l) below) old e) (holds, bottom)
+              | inl e ↦ subst (λ z. IsTrueLit st.values z × (level st z ≡ 0)) (apart global s.solver_names l m own old e) (holds, bottom)
               | inr k ↦ fits.sound m old k
             ];
         consistent = fact_unsat w known none ∙ fits.consistent;
         width = fact_width known w ∙ fits.width;
       } in
-      fits_listed words live implied st (after (AddClause (w ∷ [])) s) global (listed_by all (IsVariable st) st s global (w ∷ []) [] fits.consistent derived) fits.paired
+      fits_listed words live implied st (after (AddClause (w ∷ [])) s) global (listed_by all st s global (w ∷ []) [] fits.consistent derived) fits.paired
 
   -- one that is false by a unit: unsat is recorded
-  pub added_refutes : (l : ℕ) → IsUnitLit st (negated l) → (after (AddClause (with_var global l ∷ [])) s).unsat ≡ true
-  added_refutes l unit =
+  pub added_refutes : (l : ℕ) → s.solver_names (global (variable l)) ≡ Some (variable l) → IsUnitLit st (negated l) → (after (AddClause (with_var global l ∷ [])) s).unsat ≡ true
+  added_refutes l own unit =
       let w : ℕ = with_var global l in
       let known : Session = knowing_literals (w ∷ []) s in
       let x = unit_true st (negated l) agrees unit in
-      let below : variable l < length st.values = subst (λ v. v < length st.values) (negated_variable l) (below_from_value st.values (variable (negated l)) _ x.0) in
       let open_here : s.units (with_var global l) ≡ false = false_from_ne_true (s.units (with_var global l)) (λ u.
-      not_both st.values l (fits.sound l (fits.named (variable l) below) u).0 (subst (λ z. IsFalseLit st.values z) (negated_twice l) (false_from_true st.values (negated l) x.0))) in
+      not_both st.values l (fits.sound l own u).0 (subst (λ z. IsFalseLit st.values z) (negated_twice l) (false_from_true st.values (negated l) x.0))) in
       let other : s.units (negated (with_var global l)) ≡ true = subst (λ z. s.units z ≡ true) (negated_mapped global l) (fits.known (negated l) unit) in
       ap (λ b. (cond b s (with_fact w known)).unsat) fits.consistent
       ∙ ap (λ b. (cond b known (cond (s.units (negated w)) (record known { unsat = true }) (record known { units = λ m. eqb w m || s.units m }))).unsat) open_here
@@ -104,7 +100,7 @@ module _ (words live : List ℕ) (implied : List (List ℕ)) (st : State) (s : S
       let same : cond s.unsat s (with_clause false ks (knowing_literals ks s)) ≡ knowing_literals ks s =
       ap (λ b. cond b s (with_clause false ks (knowing_literals ks s))) fits.consistent ∙ ap (λ b. cond b (knowing_literals ks s) (with_sorted false (canonical ks) (knowing_literals ks s))) (taut_carried global ls taut) in
       fits_listed words live implied st (after (AddClause ks) s) global
-      (listed_stays all (IsVariable st) st s (after (AddClause ks) s) global its
+      (listed_stays all st s (after (AddClause ks) s) global its
       (record {
         names = λ v. ap (λ (x : Session). x.solver_names v) same;
         units = λ l. ap (λ (x : Session). x.units l) same;
@@ -115,15 +111,13 @@ module _ (words live : List ℕ) (implied : List (List ℕ)) (st : State) (s : S
 
   -- TWO LITERALS OR MORE: the step has them as ls, the parts store them as ms
 
-  module _ (ls ms : List ℕ) (order : Shuffled ls ms) (differ : AreDistinct ls) (below : (k : ℕ) → k < length ms → variable (get_or ms k 0) < length st.values) (two : 2 ≤ length ms) (taut : is_tautology ms ≡ false) where
+  module _ (ls ms : List ℕ) (order : Shuffled ls ms) (differ : AreDistinct ls) (names : AreMapped global s.solver_names ms) (two : 2 ≤ length ms) (taut : is_tautology ms ≡ false) where
     pub come : MayCome s.solver_names global ls ms
-    come =
-        let names : AreMapped global s.solver_names ms = all_mapped words live implied st s global agrees fits ms below in
-        record { order = order; mapped = names; once = once_shuffled ls ms order differ; long = omega arith; plain = taut_mapped global s.solver_names ms names taut }
+    come = record { order = order; mapped = names; once = once_shuffled ls ms order differ; long = omega arith; plain = taut_mapped global s.solver_names ms names taut }
 
     -- a list of clauses that has it beside the others
-    pub listed_added : (new : List LiveClause) → Inserted all new (record { redundant = false; literals = ms }) → FitsList new (IsVariable st) st (after (AddClause (map (with_var global) ls)) s) global
-    listed_added new i = listed_by new (IsVariable st) st s global (map (with_var global) ls) [] fits.consistent (listed_derived s global ls ms come (IsVariable st) st all new false i its [])
+    pub listed_added : (new : List LiveClause) → Inserted all new (record { redundant = false; literals = ms }) → FitsList new st (after (AddClause (map (with_var global) ls)) s) global
+    listed_added new i = listed_by new st s global (map (with_var global) ls) [] fits.consistent (listed_derived s global ls ms come st all new false i its [])
 
     -- true by a unit: it comes in and goes at once, its literals in whatever order both times
     pub satisfied_at_once : (ns : List ℕ) (l : ℕ) → Shuffled ns ms → is_among ns l ≡ true → IsUnitLit st l →
@@ -133,39 +127,33 @@ module _ (words live : List ℕ) (implied : List (List ℕ)) (st : State) (s : S
         let t : Session = after (AddClause (map (with_var global) ls)) s in
         let c : LiveClause = record { redundant = false; literals = ms } in
         let i : Inserted all (c ∷ all) c = inserted_first all c in
-        let h : FitsList (c ∷ all) (IsVariable st) st t global = listed_added (c ∷ all) i in
-        let x = listed_satisfied t global (IsVariable st) st (c ∷ all) all false ns ms again i h refl (some_unit t global (IsVariable st) st (c ∷ all) all false ns ms again i h l there (h.known l unit)) in
+        let h : FitsList (c ∷ all) st t global = listed_added (c ∷ all) i in
+        let x = listed_satisfied t global st (c ∷ all) all false ns ms again i h refl (some_unit t global st (c ∷ all) all false ns ms again i h l there (h.known l unit)) in
         (x.0, fits_listed words live implied st (after (DeleteClause (map (with_var global) ns) Satisfied) t) global x.1 fits.paired)
 
 -- a clause of two literals
 pub fits_added_binary : (words live : List ℕ) (x : Binaries) (st : State) (s : Session) (global : ℕ → ℕ) → Agrees st → Fits words live x.implied st s global →
-    (ls : List ℕ) (a b : ℕ) → Shuffled ls (a ∷ b ∷ []) → AreDistinct ls → a < 2 * length st.values → b < 2 * length st.values → length x.implied ≡ 2 * length st.values → is_tautology ls ≡ false →
+    (ls : List ℕ) (a b : ℕ) → Shuffled ls (a ∷ b ∷ []) → AreDistinct ls → a < 2 * length st.values → b < 2 * length st.values → AreMapped global s.solver_names (a ∷ b ∷ []) → length x.implied ≡ 2 * length st.values → is_tautology ls ≡ false →
     Fits words live (with_binary a b x).implied st (after (AddClause (map (with_var global) ls)) s) global
-fits_added_binary words live x st s global agrees fits ls a b order differ small_a small_b room taut =
+fits_added_binary words live x st s global agrees fits ls a b order differ small_a small_b names room taut =
     let first : negated a < length x.implied = omega arith in
     let second : negated b < length x.implied = omega arith in
     let apart_ab : a ≢ b = λ e. true≢false (ap (λ i. eqb 0 i) (order.apart differ 0 1 (omega arith) (omega arith) e)) in
     let came = two_came (is_redundant words) words live x a b first second apart_ab in
     let kept : Shuffled ls came.lits = shuffled_trans ls (a ∷ b ∷ []) came.lits order came.order in
     let size : length came.lits ≡ 2 = came.order.size in
-    let below : (k : ℕ) → k < length came.lits → variable (get_or came.lits k 0) < length st.values = λ k lt.
-    let j = came.order.back k (omega arith) in subst (λ z. variable z < length st.values) j.1.1 (each_below j.0 j.1.0) in
+    let these : AreMapped global s.solver_names came.lits = mapped_shuffled global s.solver_names (a ∷ b ∷ []) came.lits came.order names in
     fits_listed words live (with_binary a b x).implied st (after (AddClause (map (with_var global) ls)) s) global
-    (listed_added words live x.implied st s global agrees fits ls came.lits kept differ below (omega arith) (sym (same_tautology ls came.lits (same_shuffled ls came.lits kept)) ∙ taut)
+    (listed_added words live x.implied st s global agrees fits ls came.lits kept differ these (omega arith) (sym (same_tautology ls came.lits (same_shuffled ls came.lits kept)) ∙ taut)
     (solver_clauses (is_redundant words) words live (with_binary a b x).implied) came.inserted)
     (paired_binary x a b first second apart_ab fits.paired)
-  where
-    each_below : (j : ℕ) → j < length (a ∷ b ∷ []) → variable (get_or (a ∷ b ∷ []) j 0) < length st.values
-    each_below zero lt = omega arith
-    each_below (suc zero) lt = omega arith
-    each_below (suc (suc j)) lt = absurd (omega arith)
 
 -- a long one
 pub fits_added_long_as : (words words' : List ℕ) (db db' : Db) (implied : List (List ℕ)) (st : State) (s : Session) (global : ℕ → ℕ) → Agrees st → Fits words (live_refs words db.refs) implied st s global →
     (ls ms : List ℕ) (o : ℕ) (header : Header) → HoldsDb words db → AddsClause words db words' db' o header ms → is_learned header.tier ≡ false → Shuffled ls ms → AreDistinct ls → 3 ≤ length ms →
-    ((k : ℕ) → k < length ms → variable (get_or ms k 0) < length st.values) → is_tautology ls ≡ false →
+    AreMapped global s.solver_names ms → is_tautology ls ≡ false →
     Fits words' (live_refs words' db'.refs) implied st (after (AddClause (map (with_var global) ls)) s) global
-fits_added_long_as words words' db db' implied st s global agrees fits ls ms o header held adds side order differ three below taut =
+fits_added_long_as words words' db db' implied st s global agrees fits ls ms o header held adds side order differ three names taut =
     fits_listed words' (live_refs words' db'.refs) implied st (after (AddClause (map (with_var global) ls)) s) global
-    (listed_added words (live_refs words db.refs) implied st s global agrees fits ls ms order differ below (omega arith) (sym (same_tautology ls ms (same_shuffled ls ms order)) ∙ taut)
+    (listed_added words (live_refs words db.refs) implied st s global agrees fits ls ms order differ names (omega arith) (sym (same_tautology ls ms (same_shuffled ls ms order)) ∙ taut)
     (solver_clauses (is_redundant words') words' (live_refs words' db'.refs) implied) (added_there words words' db db' implied o header ms false held adds side)) fits.paired

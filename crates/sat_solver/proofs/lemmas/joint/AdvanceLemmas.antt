@@ -14,7 +14,6 @@ use Rattle.sat_parts.specs.prop.Graphs.{node_of}
 use Rattle.sat_parts.specs.prop.State.{level}
 use Rattle.sat_parts.proofs.lemmas.clause.ListLemmas.{place_in}
 use Rattle.sat_parts.proofs.lemmas.prop.StateLemmas.{negated_variable, negated_twice, true_from_false}
-use Rattle.sat_parts.proofs.lemmas.prop.RoomLemmas.{below_from_value}
 use Rattle.sat_solver.specs.session.Session.{Session, IsLive, denied}
 use Rattle.sat_solver.specs.session.LiveClauses.{LiveClause, IsIn, with_var, mapped, AreMapped}
 use Rattle.sat_solver.proofs.lemmas.session.Lists.{counts_in}
@@ -26,7 +25,7 @@ use Rattle.sat_solver.specs.analysis.Advances.{IsStored, stored_long, stored_pai
 use Rattle.sat_solver.proofs.lemmas.analysis.Advancing.{IsLow, OthersLow, stored_low}
 use Rattle.sat_solver.specs.declared.parts.Parts.{Parts}
 use Rattle.sat_solver.specs.parts.Whole.{state, IsRefuted}
-use Rattle.sat_solver.specs.joint.Fits.{is_redundant, FitsParts}
+use Rattle.sat_solver.specs.joint.Fits.{is_redundant, FitsParts, HaveNames}
 use Rattle.sat_solver.specs.joint.Advancing.{LeadsOn, StaysNew, Advances, LearnedAdvancesIn}
 use Rattle.sat_solver.proofs.lemmas.joint.UsableLemmas.{among_place}
 use Rattle.sat_solver.proofs.lemmas.joint.FitLemmas.{among_at, among_back, in_either, long_of}
@@ -36,7 +35,7 @@ each : (P : ℕ → Type 0) (xs : List ℕ) (m : ℕ) → AllByRecursion P xs �
 each P [] m a e = absurd (true≢false (sym e))
 each P (x ∷ xs) m a e = elim (or_cases (eqb x m) (is_among xs m) e) [ inl q ↦ subst P (eqb-true x m q) a.0 | inr k ↦ each P xs m a.1 k ]
 
-module _ (p : Parts) (e : Conflict) (w : Work) (back : ℕ) (s : Session) (global : ℕ → ℕ) (refuted : IsRefuted p e) (fits : FitsParts p s global) (learns : Learns p.clauses (state p) (falsified p.clauses e) w back) where
+module _ (p : Parts) (e : Conflict) (w : Work) (back : ℕ) (s : Session) (global : ℕ → ℕ) (refuted : IsRefuted p e) (fits : FitsParts p s global) (named_lits : HaveNames p.assignment.current s global) (learns : Learns p.clauses (state p) (falsified p.clauses e) w back) where
   abbrev all : List LiveClause
   all = solver_clauses (is_redundant p.clauses) p.clauses (live_refs p.clauses p.db.refs) p.binary.implied
 
@@ -48,6 +47,9 @@ module _ (p : Parts) (e : Conflict) (w : Work) (back : ℕ) (s : Session) (globa
 
   other_named : (l : ℕ) → IsNamed l → IsNamed (negated l)
   other_named l n = subst (λ v. s.solver_names (global v) ≡ Some v) (sym (negated_variable l)) n
+
+  false_named : (l : ℕ) → IsFalseLit p.assignment.current l → IsNamed l
+  false_named l f = subst (λ v. s.solver_names (global v) ≡ Some v) (negated_variable l) (named_lits (negated l) (true_from_false p.assignment.current l f))
 
   -- a live clause of the session as one of the search
   record Found (c : List ℕ) : Type 0 where
@@ -122,7 +124,7 @@ module _ (p : Parts) (e : Conflict) (w : Work) (back : ℕ) (s : Session) (globa
         let lt : 1 + k.0 < length w.clause = omega (arith, k.1.0, length-drop 1 w.clause) in
         let at : get_or w.clause (1 + k.0) 0 ≡ y.0 = sym (get_or-drop 1 w.clause k.0 0) ∙ k.1.1 in
         let fails : IsFalseLit p.assignment.current y.0 = subst (λ z. IsFalseLit p.assignment.current z) at (learns.asserting.fails (1 + k.0) lt) in
-        let named : IsNamed y.0 = fits.named (variable r) (below_from_value p.assignment.current (variable r) _ fails) in
+        let named : IsNamed y.0 = false_named y.0 fails in
         let same : negated y.0 ≡ l = apart global s.solver_names (negated r) l (other_named r named) n (negated_mapped global r ∙ ap negated y.1.1 ∙ x.1.1) in
         let high : level (state p) y.0 ≤ back = subst (λ z. level (state p) z ≤ back) at (learns.highest (1 + k.0) (omega arith) lt) in
         subst (λ z. IsLow (state p) back z) same
@@ -131,7 +133,7 @@ module _ (p : Parts) (e : Conflict) (w : Work) (back : ℕ) (s : Session) (globa
   ]
 
   top_named : IsNamed (get_or w.clause 0 0)
-  top_named = fits.named (variable (get_or w.clause 0 0)) (below_from_value p.assignment.current (variable (get_or w.clause 0 0)) _ (learns.asserting.fails 0 learns.asserting.some))
+  top_named = false_named (get_or w.clause 0 0) (learns.asserting.fails 0 learns.asserting.some)
 
   not_low : (l : ℕ) → level (state p) l ≡ level (state p) (get_or w.clause 0 0) → IsLow (state p) back l → ⊥
   not_low l e x = omega (arith, x.low, learns.below, learns.asserting.top)
@@ -154,13 +156,13 @@ module _ (p : Parts) (e : Conflict) (w : Work) (back : ℕ) (s : Session) (globa
       all_of (m ∷ ms) x = (inr x.0, all_of ms x.1)
 
 pub learned_advances_in : LearnedAdvancesIn
-learned_advances_in p e w back s global picked reached refuted fits learns h = advances p e w back s global refuted fits learns picked reached h
+learned_advances_in p e w back s global picked reached refuted fits names learns h = advances p e w back s global refuted fits names learns picked reached h
 
 -- the same of the clause as it is written
-pub learned_clause_advances : (p : Parts) (e : Conflict) (w : Work) (back : ℕ) (s : Session) (global : ℕ → ℕ) → IsRefuted p e → FitsParts p s global → Learns p.clauses (state p) (falsified p.clauses e) w back → Advances s (map (with_var global) w.clause)
-learned_clause_advances p e w back s global refuted fits learns picked reached h =
+pub learned_clause_advances : (p : Parts) (e : Conflict) (w : Work) (back : ℕ) (s : Session) (global : ℕ → ℕ) → IsRefuted p e → FitsParts p s global → HaveNames p.assignment.current s global → Learns p.clauses (state p) (falsified p.clauses e) w back → Advances s (map (with_var global) w.clause)
+learned_clause_advances p e w back s global refuted fits names learns picked reached h =
     subst (λ l. StaysNew s l reached) (sym (first_of (with_var global) w.clause learns.asserting.some))
-    (advances p e w back s global refuted fits learns picked reached (subst (λ ls. LeadsOn s (denied s ls) picked reached) (rest_of (with_var global) w.clause) h))
+    (advances p e w back s global refuted fits names learns picked reached (subst (λ ls. LeadsOn s (denied s ls) picked reached) (rest_of (with_var global) w.clause) h))
   where
     first_of : (f : ℕ → ℕ) (ls : List ℕ) → 0 < length ls → get_or (map f ls) 0 0 ≡ f (get_or ls 0 0)
     first_of f [] n = absurd (omega arith)

@@ -10,7 +10,7 @@ use Rattle.sat_solver.specs.session.Session.{Session, after}
 use Rattle.sat_solver.specs.session.LiveClauses.{LiveClause, with_var}
 use Rattle.sat_solver.specs.acceptance.SolverClauses.{solver_clauses}
 use Rattle.sat_solver.specs.joint.Fits.{is_redundant, Fits}
-use Rattle.sat_solver.specs.joint.Listed.{IsVariable, FitsList, SameFacts, Rests}
+use Rattle.sat_solver.specs.joint.Listed.{FitsList, SameFacts, Rests}
 use Rattle.sat_solver.proofs.lemmas.joint.UsableLemmas.{among_place}
 use Rattle.sat_solver.proofs.lemmas.joint.ListedLemmas.{listed, fits_listed, listed_stays}
 use Rattle.sat_solver.proofs.lemmas.joint.SetLemmas.{part_mapped}
@@ -27,19 +27,18 @@ rests End s h = (record { names = λ w. refl; units = λ l. refl; unsat = refl; 
 rests step s h = absurd h
 
 module _ (st : State) (s : Session) (global : ℕ → ℕ) (step : Step) (quiet : Rests step) where
-  pub listed_rests : (cs : List LiveClause) (meant : ℕ → Type 0) → FitsList cs meant st s global → FitsList cs meant st (after step s) global
-  listed_rests cs meant h = let x = rests step s quiet in listed_stays cs meant st s (after step s) global h x.0 x.1.1 x.1.0
+  pub listed_rests : (cs : List LiveClause) → FitsList cs st s global → FitsList cs st (after step s) global
+  listed_rests cs h = let x = rests step s quiet in listed_stays cs st s (after step s) global h x.0 x.1.1 x.1.0
 
   pub fits_rests : (words live : List ℕ) (implied : List (List ℕ)) → Fits words live implied st s global → Fits words live implied st (after step s) global
   fits_rests words live implied fits =
-      fits_listed words live implied st (after step s) global (listed_rests (solver_clauses (is_redundant words) words live implied) (IsVariable st) (listed words live implied st s global fits)) fits.paired
+      fits_listed words live implied st (after step s) global (listed_rests (solver_clauses (is_redundant words) words live implied) (listed words live implied st s global fits)) fits.paired
 
 -- the width of whole hashes again
 pub fits_whole : (words live : List ℕ) (implied : List (List ℕ)) (st : State) (s : Session) (global : ℕ → ℕ) → Fits words live implied st s global → Fits words live implied st (after (ChangeHashBits 64) s) global
 fits_whole words live implied st s global h = record {
   clauses = record { named = h.clauses.named; once = h.clauses.once; counts = h.clauses.counts };
   paired = h.paired;
-  named = h.named;
   known = h.known;
   sound = h.sound;
   consistent = h.consistent;

@@ -12,7 +12,7 @@ use Rattle.sat_solver.specs.session.LiveClauses.{LiveClause, with_var}
 use Rattle.sat_solver.specs.acceptance.SolverClauses.{solver_clauses, Inserted}
 use Rattle.sat_solver.specs.parts.Frame.{IsUnitLit}
 use Rattle.sat_solver.specs.joint.Fits.{is_redundant, Fits}
-use Rattle.sat_solver.specs.joint.Listed.{IsVariable, FitsList}
+use Rattle.sat_solver.specs.joint.Listed.{FitsList}
 use Rattle.sat_solver.proofs.lemmas.joint.ListedLemmas.{listed, fits_listed, listed_redundant, listed_satisfied, some_unit}
 use Rattle.sat_solver.proofs.lemmas.joint.ChangedLemmas.{deleted_there}
 
@@ -24,7 +24,7 @@ module _ (words words' : List ℕ) (db db' : Db) (implied : List (List ℕ)) (st
   abbrev new : List LiveClause
   new = solver_clauses (is_redundant words') words' (live_refs words' db'.refs) implied
 
-  its : FitsList old (IsVariable st) st s global
+  its : FitsList old st s global
   its = listed words (live_refs words db.refs) implied st s global fits
 
   inserted : Inserted new old (record { redundant = is_redundant words o; literals = lits_at words o })
@@ -33,12 +33,12 @@ module _ (words words' : List ℕ) (db db' : Db) (implied : List (List ℕ)) (st
   pub fits_deleted_redundant : is_redundant words o ≡ true →
       May s (DeleteClause (map (with_var global) ls) Redundant) × Fits words' (live_refs words' db'.refs) implied st (after (DeleteClause (map (with_var global) ls) Redundant) s) global
   fits_deleted_redundant r =
-      let x = listed_redundant s global (IsVariable st) st old new (is_redundant words o) ls (lits_at words o) order inserted its r in
+      let x = listed_redundant s global st old new (is_redundant words o) ls (lits_at words o) order inserted its r in
       (x.0, fits_listed words' (live_refs words' db'.refs) implied st (after (DeleteClause (map (with_var global) ls) Redundant) s) global x.1 fits.paired)
 
   pub fits_deleted_satisfied : is_redundant words o ≡ false → (l : ℕ) → is_among ls l ≡ true → IsUnitLit st l →
       May s (DeleteClause (map (with_var global) ls) Satisfied) × Fits words' (live_refs words' db'.refs) implied st (after (DeleteClause (map (with_var global) ls) Satisfied) s) global
   fits_deleted_satisfied r l t unit =
-      let u = some_unit s global (IsVariable st) st old new (is_redundant words o) ls (lits_at words o) order inserted its l t (fits.known l unit) in
-      let x = listed_satisfied s global (IsVariable st) st old new (is_redundant words o) ls (lits_at words o) order inserted its r u in
+      let u = some_unit s global st old new (is_redundant words o) ls (lits_at words o) order inserted its l t (fits.known l unit) in
+      let x = listed_satisfied s global st old new (is_redundant words o) ls (lits_at words o) order inserted its r u in
       (x.0, fits_listed words' (live_refs words' db'.refs) implied st (after (DeleteClause (map (with_var global) ls) Satisfied) s) global x.1 fits.paired)

@@ -1,5 +1,5 @@
 -- Sessions fit on as the parts take their steps.
-use Rattle.std.proofs.Common.{ℕ, zero, suc, ◌+◌, ◌*◌, ◌<◌, ◌≡◌, ◌≢◌, Bool, true, false, ◌||◌, cond, eqb, List, [], ◌∷◌, ◌++◌, map, length, get_or, refl, sym, ◌∙◌, ap, subst, arith, ◌⊎◌, inl, inr, Option, Some, None, length-set, ◌&&◌}
+use Rattle.std.proofs.Common.{ℕ, zero, suc, ◌+◌, ◌<◌, ◌≡◌, ◌≢◌, Bool, true, false, ◌||◌, cond, eqb, List, [], ◌∷◌, ◌++◌, map, length, get_or, refl, sym, ◌∙◌, ap, subst, arith, ◌⊎◌, inl, inr, Option, Some, None, length-set, ◌&&◌}
 use Rattle.std.proofs.lemmas.Bool.{or_cases, or_left, or_right, eqb-true, eq-eqb, true≢false, false_from_ne_true, or_from, or_parts, cases_lt}
 use Rattle.std.proofs.lemmas.List.{length_push}
 use Rattle.std.specs.List.{Contains, AllByRecursion}
@@ -13,7 +13,7 @@ use Rattle.sat_checker.proofs.lemmas.sets.Canonical.{canonical_among, canonical_
 use Rattle.sat_parts.specs.declared.prop.graph.ImplNode.{ImplNode}
 use Rattle.sat_parts.specs.declared.prop.graph.Reason.{Reason}
 use Rattle.sat_parts.specs.clause.Orders.{Shuffled, Kept}
-use Rattle.sat_parts.specs.clause.Stored.{AreClauses, lit_of}
+use Rattle.sat_parts.specs.clause.Stored.{AreClauses}
 use Rattle.sat_parts.specs.prop.Graphs.{is_unit}
 use Rattle.sat_parts.specs.prop.Binaries.{Binaries, implied_by, with_implied, with_binary}
 use Rattle.sat_parts.specs.prop.Values.{value_of, IsTrueLit, IsOpenLit}
@@ -31,6 +31,7 @@ use Rattle.sat_solver.specs.parts.Frame.{IsUnitLit, Carries}
 use Rattle.sat_solver.proofs.lemmas.parts.BinaryLemmas.{binary_all, binary_kept, binary_new, implied_kept, implied_new}
 use Rattle.sat_solver.specs.joint.Fits.{ArePaired, is_redundant, Fits}
 use Rattle.sat_solver.proofs.lemmas.joint.UsableLemmas.{among_place, once_distinct}
+use Rattle.sat_solver.proofs.lemmas.acceptance.ClauseLemmas.{in_behind, long_there}
 
 -- WHERE NO UNIT IS NEW
 
@@ -38,7 +39,6 @@ pub fits_carried : (words live : List ℕ) (implied : List (List ℕ)) (st st' :
 fits_carried words live implied st st' s global c h = record {
   clauses = h.clauses;
   paired = h.paired;
-  named = λ v lt. h.named v (subst (λ n. v < n) c.size lt);
   known = λ l u. h.known l (c.units l u);
   sound = λ l n e. let x = h.sound l n e in c.bottom l x.0 x.1;
   consistent = h.consistent;
@@ -120,15 +120,29 @@ counts_kept global a b words words' (o ∷ os) r set h =
     ∙ ap (λ ks. more (same_side (b o) r && same_literals ks set) (count_of (map (mapped global) (longs a words os)) r set)) (canonical_shuffled (with_var global) (lits_at words o) (lits_at words' o) x.1)
     ∙ ap (more (same_side (b o) r && same_literals (canonical (map (with_var global) (lits_at words' o))) set)) rest
 
-pub of_reordered : (words words' live : List ℕ) (implied : List (List ℕ)) (s : Session) (global : ℕ → ℕ) (count : ℕ) → ((v : ℕ) → v < count → s.solver_names (global v) ≡ Some v) → AreClauses words' live count → Kept words words' live →
+-- a literal of a clause has its solver name
+pub mapped_at : (global : ℕ → ℕ) (names : ℕ → Option ℕ) (ls : List ℕ) (k : ℕ) → AreMapped global names ls → k < length ls → names (global (variable (get_or ls k 0))) ≡ Some (variable (get_or ls k 0))
+mapped_at global names [] k h lt = absurd (omega arith)
+mapped_at global names (l ∷ ls) zero h lt = h.0
+mapped_at global names (l ∷ ls) (suc k) h lt = mapped_at global names ls k h.1 (omega arith)
+
+-- in whatever order
+pub mapped_shuffled : (global : ℕ → ℕ) (names : ℕ → Option ℕ) (ls ms : List ℕ) → Shuffled ls ms → AreMapped global names ls → AreMapped global names ms
+mapped_shuffled global names ls ms order h = all_at (λ l. names (global (variable l)) ≡ Some (variable l)) ms (λ k lt.
+    let j = order.back k (omega (arith, order.size)) in
+    subst (λ l. names (global (variable l)) ≡ Some (variable l)) j.1.1 (mapped_at global names ls j.0 h j.1.0))
+
+pub of_reordered : (words words' live : List ℕ) (implied : List (List ℕ)) (s : Session) (global : ℕ → ℕ) (count : ℕ) → AreClauses words' live count → Kept words words' live →
     AreOf s global (solver_clauses (is_redundant words) words live implied) → AreOf s global (solver_clauses (is_redundant words') words' live implied)
-of_reordered words words' live implied s global count named clauses kept h = record {
+of_reordered words words' live implied s global count clauses kept h = record {
   named = λ c k. elim (in_either c (binaries implied) (longs (is_redundant words') words' live) k) [
     | inl a ↦ h.named c (in_front c (binaries implied) (longs (is_redundant words) words live) a)
     | inr b ↦
         let x = long_of (is_redundant words') words' live c b in
+        let old : LiveClause = record { redundant = is_redundant words x.place; literals = lits_at words x.place } in
         subst (λ (d : LiveClause). AreMapped global s.solver_names d.literals) (sym x.same)
-        (all_at (λ l. s.solver_names (global (variable l)) ≡ Some (variable l)) (lits_at words' x.place) (λ i lt. named (variable (lit_of words' x.place i)) (let b : lit_of words' x.place i < 2 * count = clauses.below x.place i x.there lt in omega arith)))
+        (mapped_shuffled global s.solver_names (lits_at words x.place) (lits_at words' x.place) (kept.lits x.place x.there)
+        (h.named old (in_behind old (binaries implied) (longs (is_redundant words) words live) (long_there (is_redundant words) words live x.place x.there))))
   ];
   once = λ c k. elim (in_either c (binaries implied) (longs (is_redundant words') words' live) k) [
     | inl a ↦ h.once c (in_front c (binaries implied) (longs (is_redundant words) words live) a)
@@ -143,9 +157,8 @@ of_reordered words words' live implied s global count named clauses kept h = rec
 pub fits_reordered : (words words' live : List ℕ) (implied : List (List ℕ)) (st : State) (s : Session) (global : ℕ → ℕ) → AreClauses words' live (length st.values) → Kept words words' live →
     Fits words live implied st s global → Fits words' live implied st s global
 fits_reordered words words' live implied st s global clauses kept h = record {
-  clauses = of_reordered words words' live implied s global (length st.values) h.named clauses kept h.clauses;
+  clauses = of_reordered words words' live implied s global (length st.values) clauses kept h.clauses;
   paired = h.paired;
-  named = h.named;
   known = h.known;
   sound = h.sound;
   consistent = h.consistent;
@@ -223,28 +236,26 @@ fact_unsat l s n = go (s.units l) (s.units (negated l)) n
 
 module _ (words live : List ℕ) (implied : List (List ℕ)) (st : State) (s : Session) (global : ℕ → ℕ) (agrees : Agrees st) (fits : Fits words live implied st s global) where
   -- a unit, at level 0
-  pub fits_unit : (l : ℕ) (r : Reason) (flag : Bool) (hashes : List ℕ) → IsOpenLit st.values l → variable l < length st.values → st.trail.starts ≡ [] →
+  pub fits_unit : (l : ℕ) (r : Reason) (flag : Bool) (hashes : List ℕ) → s.solver_names (global (variable l)) ≡ Some (variable l) → IsOpenLit st.values l → variable l < length st.values → st.trail.starts ≡ [] →
       Fits words live implied (enqueued l r st) (after (AtClause flag (with_var global l ∷ []) hashes) s) global
-  fits_unit l r flag hashes free below bottom =
+  fits_unit l r flag hashes its free below bottom =
       let g : Grows st (enqueued l r st) = grows_enqueued st l r agrees free below (room_for st l r agrees free below) in
       let known : Session = knowing_literals (with_var global l ∷ []) s in
       let none : s.units (negated (with_var global l)) ≡ false = false_from_ne_true (s.units (negated (with_var global l))) (λ u.
-      let x = fits.sound (negated l) (fits.named (variable (negated l)) (subst (λ v. v < length st.values) (sym (negated_variable l)) below)) (subst (λ z. s.units z ≡ true) (sym (negated_mapped global l)) u) in
+      let x = fits.sound (negated l) (subst (λ v. s.solver_names (global v) ≡ Some v) (sym (negated_variable l)) its) (subst (λ z. s.units z ≡ true) (sym (negated_mapped global l)) u) in
       let e : None ≡ Some (is_positive (negated l)) = sym free ∙ ap (λ v. value_of st.values v) (sym (negated_variable l)) ∙ x.0 in
       absurd cc) in
-      let named : (v : ℕ) → v < length st.values → (with_fact (with_var global l) known).solver_names (global v) ≡ Some v = λ v lt. fact_names known (with_var global l) (global v) ∙ fits.named v lt in
       let zero_level : level (enqueued l r st) l ≡ 0 = ap (λ (n : ImplNode). n.level) (node_new st l r (omega (arith, agrees.nodes))) ∙ ap (λ (xs : List ℕ). length xs) bottom in
       record {
         clauses = short_leaves s global (solver_clauses (is_redundant words) words live implied) flag (with_var global l ∷ []) hashes (refl, tt) (omega arith) refl fits.clauses;
         paired = fits.paired;
-        named = λ v lt. named v (subst (λ n. v < n) g.size lt);
         known = λ m u. elim (units_enqueued st l r agrees free below m u) [
           | inl o ↦ fact_keeps known (with_var global l) (with_var global m) (fits.known m o)
           | inr e ↦ subst (λ z. (with_fact (with_var global l) known).units (with_var global z) ≡ true) (sym e.0) (fact_gives known (with_var global l) none)
         ];
         sound = λ m n u. elim (fact_only known (with_var global l) (with_var global m) u) [
           | inl e ↦
-              let same : l ≡ m = apart global s.solver_names l m (fits.named (variable l) below) (sym (fact_names known (with_var global l) (global (variable m))) ∙ n) e in
+              let same : l ≡ m = apart global s.solver_names l m its (sym (fact_names known (with_var global l) (global (variable m))) ∙ n) e in
               subst (λ z. IsTrueLit (enqueued l r st).values z × (level (enqueued l r st) z ≡ 0)) same (true_new st l r below, zero_level)
           | inr k ↦
               let x = fits.sound m (sym (fact_names known (with_var global l) (global (variable m))) ∙ n) k in
@@ -265,7 +276,6 @@ module _ (words live : List ℕ) (implied : List (List ℕ)) (st : State) (s : S
       record {
         clauses = clauses;
         paired = paired;
-        named = λ v lt. ap (λ (x : Session). x.solver_names (global v)) same ∙ fits.named v (subst (λ n. v < n) g.size lt);
         known = λ m u. elim (units_enqueued st l r agrees free below m u) [
           | inl o ↦ ap (λ (x : Session). x.units (with_var global m)) same ∙ fits.known m o
           | inr e ↦ absurd (true≢false (sym e.1 ∙ caused))
@@ -276,10 +286,6 @@ module _ (words live : List ℕ) (implied : List (List ℕ)) (st : State) (s : S
         consistent = ap (λ (x : Session). x.unsat) same ∙ fits.consistent;
         width = ap (λ (x : Session). x.width) same ∙ fits.width;
       }
-
-  -- literals of the search have solver names
-  pub all_mapped : (ls : List ℕ) → ((k : ℕ) → k < length ls → variable (get_or ls k 0) < length st.values) → AreMapped global s.solver_names ls
-  all_mapped ls below = all_at (λ l. s.solver_names (global (variable l)) ≡ Some (variable l)) ls (λ k lt. fits.named (variable (get_or ls k 0)) (below k lt))
 
 -- no two of them are negations of each other
 pub no_signs : (values : List (Option Bool)) (ls : List ℕ) → ((j k : ℕ) → j < length ls → k < length ls → get_or ls k 0 ≢ negated (get_or ls j 0)) → is_tautology ls ≡ false

@@ -24,7 +24,7 @@ none_mentions names global v (l ∷ ls) none h =
     or_from (eqb (variable (with_var global l)) v) (mentions (map (with_var global) ls) v)
     (ne_eqb (variable (with_var global l)) v (λ e. none_some (variable l) (sym none ∙ ap names (sym (sym half ∙ e)) ∙ h.0))) (none_mentions names global v ls none h.1)
 
-module _ (cs : List LiveClause) (meant : ℕ → Type 0) (st : State) (s : Session) (global : ℕ → ℕ) (h : FitsList cs meant st s global) (v : ℕ) (none : s.solver_names v ≡ None) where
+module _ (cs : List LiveClause) (st : State) (s : Session) (global : ℕ → ℕ) (h : FitsList cs st s global) (v : ℕ) (none : s.solver_names v ≡ None) where
   unused : (r : Bool) (set : List ℕ) → 0 < s.live r set → mentions set v ≡ false
   unused r set n =
       unused_in_all (map (mapped global) cs) v (λ c k.
@@ -35,14 +35,13 @@ module _ (cs : List LiveClause) (meant : ℕ → Type 0) (st : State) (s : Sessi
   may_forget known nameless free = record { known = known; nameless = nameless; unused = unused; not_assumed = free }
 
   -- the literals that are units of the search are of variables that have names
-  pub listed_forgotten : ((l : ℕ) → IsUnitLit st l → meant (variable l)) → FitsList cs meant st (after (DeleteVar v) s) global
+  pub listed_forgotten : ((l : ℕ) → IsUnitLit st l → s.solver_names (global (variable l)) ≡ Some (variable l)) → FitsList cs st (after (DeleteVar v) s) global
   listed_forgotten units = record {
     clauses = still_of s (after (DeleteVar v) s) global cs (λ r set. refl) refl h.clauses;
-    named = h.named;
     known = λ l u.
         let half : variable (with_var global l) ≡ global (l / 2) = omega arith in
         and_from (s.units (with_var global l)) (not (eqb (variable (with_var global l)) v)) (h.known l u)
-        (not_from_false (eqb (variable (with_var global l)) v) (ne_eqb (variable (with_var global l)) v (λ e. none_some (variable l) (sym none ∙ ap s.solver_names (sym (sym half ∙ e)) ∙ h.named (variable l) (units l u)))));
+        (not_from_false (eqb (variable (with_var global l)) v) (ne_eqb (variable (with_var global l)) v (λ e. none_some (variable l) (sym none ∙ ap s.solver_names (sym (sym half ∙ e)) ∙ units l u))));
     sound = λ l n u. h.sound l n (and_parts (s.units (with_var global l)) (not (eqb (variable (with_var global l)) v)) u).0;
     consistent = h.consistent;
     width = h.width;

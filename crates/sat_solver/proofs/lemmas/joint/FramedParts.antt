@@ -1,5 +1,5 @@
 -- The struct of parts fits on by what the rest of a solver sees of a step.
-use Rattle.std.proofs.Common.{ℕ, ◌*◌, ◌<◌, ◌≤◌, ◌≡◌, ◌≢◌, true, false, List, [], ◌∷◌, ◌++◌, map, take, length, get_or, refl, sym, ◌∙◌, ap, subst, arith, Some, None}
+use Rattle.std.proofs.Common.{ℕ, ◌*◌, ◌<◌, ◌≤◌, ◌≡◌, true, false, List, [], ◌∷◌, ◌++◌, map, take, length, get_or, refl, sym, ◌∙◌, ap, subst, arith, Some, None}
 use Rattle.std.specs.List.{Contains}
 use Rattle.sat_base.specs.values.Literals.{negated}
 use Rattle.sat_base.specs.values.Hashes.{hash_of}
@@ -23,7 +23,7 @@ use Rattle.sat_solver.specs.parts.Whole.{state, Holds}
 use Rattle.sat_solver.specs.parts.Frame.{Carries, SameState, Headed, Dropped, Shortened, Swapped, Copied, Removed, Grown, Freed, Stores, stores_binary, stores_long, IsUnitLit}
 use Rattle.sat_solver.proofs.lemmas.parts.FrameLemmas.{carries_refl}
 use Rattle.sat_solver.specs.joint.Fits.{ArePaired, is_redundant, FitsParts}
-use Rattle.sat_solver.specs.joint.Listed.{FitsList, FitsBelow, LeftParts, ArePlain}
+use Rattle.sat_solver.specs.joint.Listed.{LeftParts, ArePlain}
 use Rattle.sat_solver.proofs.lemmas.joint.FitLemmas.{longs_same, fits_carried, two_of}
 use Rattle.sat_solver.proofs.lemmas.joint.StepLemmas.{fits_propagated}
 use Rattle.sat_solver.proofs.lemmas.joint.MovedLemmas.{fits_longs, longs_copied}
@@ -34,6 +34,7 @@ use Rattle.sat_solver.proofs.lemmas.joint.ReplacedLemmas.{fits_shortened, fits_s
 use Rattle.sat_solver.proofs.lemmas.joint.AddedLemmas.{true_unit}
 use Rattle.sat_solver.proofs.lemmas.joint.DeletedLemmas.{fits_deleted_redundant, fits_deleted_satisfied}
 use Rattle.sat_solver.proofs.lemmas.joint.RemovedParts.{parts_removal_ends}
+use Rattle.sat_solver.proofs.lemmas.joint.ListedLemmas.{listed, fits_listed}
 
 abbrev clauses_of : Parts → List LiveClause
 clauses_of p = solver_clauses (is_redundant p.clauses) p.clauses (live_refs p.clauses p.db.refs) p.binary.implied
@@ -51,7 +52,7 @@ bottom_unit p l holds bottom t =
     let none : length p.trail.starts ≡ 0 = ap (λ (xs : List ℕ). length xs) bottom in
     true_unit (state p) l agrees holds.units t (let z : level (state p) l ≤ current_level (state p) = level_low (state p) l agrees t in omega arith)
 
-same_state : (p p' : Parts) → SameState p p' → state p' ≡ state p
+pub same_state : (p p' : Parts) → SameState p p' → state p' ≡ state p
 same_state p p' x = rw (x.0, x.1, x.2) refl
 
 module _ (p p' : Parts) (s : Session) (global : ℕ → ℕ) (fits : FitsParts p s global) where
@@ -144,31 +145,31 @@ module _ (p p' : Parts) (s : Session) (global : ℕ → ℕ) (fits : FitsParts p
 pub fits_removed : (p p' : Parts) (s : Session) (global : ℕ → ℕ) → Holds p → ArePaired p.binary.implied → p.trail.starts ≡ [] → p.trail.lits ≡ [] → LeftParts p s global (length p.binary.implied) 0 → Removed p p' → FitsParts p' s global
 fits_removed p p' s global holds paired bottom empty h r = parts_removal_ends p global holds paired bottom empty p' s h r.removes r.clauses r.db (same_state p p' r.state)
 
--- more variables, where those below m have their names
-pub below_more : (p p' : Parts) (count m : ℕ) (s : Session) (global : ℕ → ℕ) → Holds p → length p.assignment.current ≤ count → Grown p p' count → FitsBelow p m s global → FitsBelow p' m s global
-below_more p p' count m s global holds more g h =
+-- more variables
+pub fits_grown : (p p' : Parts) (count : ℕ) (s : Session) (global : ℕ → ℕ) → Holds p → length p.assignment.current ≤ count → Grown p p' count → FitsParts p s global → FitsParts p' s global
+fits_grown p p' count s global holds more g h =
     let room : length p.binary.implied ≡ 2 * length p.assignment.current = holds.below.asks.ranges.room in
     let fewer : length p.binary.implied ≤ 2 * count = omega arith in
     record {
-      list = record {
-        clauses = rw (g.clauses, g.db, g.binary) (subst (λ cs. AreOf s global (cs ++ longs (is_redundant p.clauses) p.clauses (live_refs p.clauses p.db.refs))) (sym (binaries_grown (2 * count) p.binary fewer)) h.list.clauses);
-        named = h.list.named;
-        known = λ l u. h.list.known l (g.units l u);
-        sound = λ l n u.
-            let x = h.list.sound l n u in
-            let k = (g.keeps 0).low l x.0 (omega (arith, x.1)) in
-            (k.0, k.1 ∙ x.1);
-        consistent = h.list.consistent;
-        width = h.list.width;
-      };
+      clauses = rw (g.clauses, g.db, g.binary) (subst (λ cs. AreOf s global (cs ++ longs (is_redundant p.clauses) p.clauses (live_refs p.clauses p.db.refs))) (sym (binaries_grown (2 * count) p.binary fewer)) h.clauses);
       paired = subst (λ (x : Binaries). ArePaired x.implied) (sym g.binary) (paired_grown (2 * count) p.binary fewer h.paired);
+      known = λ l u. h.known l (g.units l u);
+      sound = λ l n u.
+          let x = h.sound l n u in
+          let k = (g.keeps 0).low l x.0 (omega (arith, x.1)) in
+          (k.0, k.1 ∙ x.1);
+      consistent = h.consistent;
+      width = h.width;
     }
 
 -- a variable that no clause has loses its name and its value
-pub listed_freed : (p p' : Parts) (meant meant' : ℕ → Type 0) (s : Session) (global : ℕ → ℕ) (w x : ℕ) → FitsList (clauses_of p) meant (state p) s global → Freed p p' x → IsUnused p.clauses (live_refs p.clauses p.db.refs) p.binary.implied x → s.solver_names w ≡ Some x → global x ≡ w →
-    ((v : ℕ) → meant' v → (v ≢ x) × meant v) → FitsList (clauses_of p') meant' (state p') (after (SolverVarName w None) s) global
-listed_freed p p' meant meant' s global w x h f unused its there fewer =
+pub fits_freed : (p p' : Parts) (s : Session) (global : ℕ → ℕ) (w x : ℕ) → FitsParts p s global → Freed p p' x → IsUnused p.clauses (live_refs p.clauses p.db.refs) p.binary.implied x → s.solver_names w ≡ Some x → global x ≡ w →
+    FitsParts p' (after (SolverVarName w None) s) global
+fits_freed p p' s global w x fits f unused its there =
+    let live : List ℕ = live_refs p.clauses p.db.refs in
     let t : Session = after (SolverVarName w None) s in
     let loses : LosesName (state p) (state p') s global w x = record { its = its; there = there; units = λ l u. (f.units l u).0; kept = f.bottom } in
     rw (f.clauses.0, f.clauses.1, f.clauses.2)
-    (listed_unnamed (clauses_of p) meant meant' (state p) (state p') s global w x h loses (unused_in (is_redundant p.clauses) p.clauses (live_refs p.clauses p.db.refs) p.binary.implied x unused) fewer)
+    (fits_listed p.clauses live p.binary.implied (state p') t global
+    (listed_unnamed (clauses_of p) (state p) (state p') s global w x (listed p.clauses live p.binary.implied (state p) s global fits) loses (unused_in (is_redundant p.clauses) p.clauses live p.binary.implied x unused))
+    fits.paired)

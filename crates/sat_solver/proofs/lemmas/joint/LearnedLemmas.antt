@@ -41,7 +41,7 @@ use Rattle.sat_solver.specs.parts.Frame.{SameClauses, Learnt, learnt_unit, learn
 use Rattle.sat_solver.proofs.lemmas.parts.LearnLemmas.{pending_below}
 use Rattle.sat_solver.specs.joint.Fits.{is_redundant, Fits, FitsParts, FlagFits}
 use Rattle.sat_solver.proofs.lemmas.joint.UsableLemmas.{once_distinct}
-use Rattle.sat_solver.proofs.lemmas.joint.FitLemmas.{fits_carried, fits_unit, fits_long_by, all_mapped, no_signs, taut_mapped, longs_same, longs_push, alone, two_of, paired_binary}
+use Rattle.sat_solver.proofs.lemmas.joint.FitLemmas.{fits_carried, fits_unit, fits_long_by, mapped_at, no_signs, taut_mapped, longs_same, longs_push, alone, two_of, paired_binary}
 
 -- different numbers below a bound are at most as many
 few_distinct : (ls : List ℕ) (n : ℕ) → AreDistinct ls → ((k : ℕ) → k < length ls → get_or ls k 0 < n) → length ls ≤ n
@@ -80,7 +80,7 @@ false_signs values ls h = no_signs values ls (λ j k a b e. not_both values (neg
 
 -- THE CLAUSE COMES IN
 
-module _ (s : Session) (global : ℕ → ℕ) (header : Header) (ls hashes : List ℕ) (flag : Bool) (flags : FlagFits flag header ls) (taut : is_tautology ls ≡ false) where
+module _ (s : Session) (global : ℕ → ℕ) (header : Header) (ls hashes : List ℕ) (flag : Bool) (flags : FlagFits flag header ls) (taut : is_tautology ls ≡ false) (mapped_here : AreMapped global s.solver_names ls) where
   abbrev now : Session
   now = after (AtClause flag (map (with_var global) ls) hashes) s
 
@@ -88,16 +88,13 @@ module _ (s : Session) (global : ℕ → ℕ) (header : Header) (ls hashes : Lis
   mapped_long lt = (let e : length (map (with_var global) ls) ≡ length ls = length_mapped (with_var global) ls in omega arith)
 
   module _ (words : List ℕ) (db : Db) (x : Binaries) (st : State) (q : Queue) (agrees : Agrees st) (fits : Fits words (live_refs words db.refs) x.implied st s global) (pending : IsPending st q ls) where
-    mapped_here : AreMapped global s.solver_names ls
-    mapped_here = all_mapped words (live_refs words db.refs) x.implied st s global agrees fits ls (λ k lt. (let b : get_or ls k 0 < 2 * length st.values = pending_below st q ls pending k lt in omega arith))
-
     once_here : NoRepeats ls
     once_here = once_distinct ls pending.distinct
 
     pub learnt_as_unit : (r : Reason) → length ls ≡ 1 → Fits words (live_refs words db.refs) x.implied (enqueued (get_or ls 0 0) r st) now global
     learnt_as_unit r one =
         subst (λ (c : List ℕ). Fits words (live_refs words db.refs) x.implied (enqueued (get_or ls 0 0) r st) (after (AtClause flag (map (with_var global) c) hashes) s) global) (sym (alone ls one))
-        (fits_unit words (live_refs words db.refs) x.implied st s global agrees fits (get_or ls 0 0) r flag hashes pending.open_first pending.there (pending.unit one))
+        (fits_unit words (live_refs words db.refs) x.implied st s global agrees fits (get_or ls 0 0) r flag hashes (mapped_at global s.solver_names ls 0 mapped_here (omega arith)) pending.open_first pending.there (pending.unit one))
 
     pub learnt_as_binary : (r : Reason) → is_unit r ≡ false → length ls ≡ 2 → length x.implied ≡ 2 * length st.values →
         Fits words (live_refs words db.refs) (with_binary (get_or ls 0 0) (get_or ls 1 0) x).implied (enqueued (get_or ls 0 0) r st) now global
@@ -146,14 +143,14 @@ module _ (s : Session) (global : ℕ → ℕ) (header : Header) (ls hashes : Lis
         pending.open_first pending.there caused (once_mapped global s.solver_names ls mapped_here once_here) (mapped_long (omega arith)) plain fits.paired comes
 
 -- whatever the clause's length
-pub fits_learnt : (p p' : Parts) (s : Session) (global : ℕ → ℕ) (header : Header) (ls hashes : List ℕ) (flag : Bool) → FlagFits flag header ls → is_tautology ls ≡ false → Holds p → IsPending (state p) p.vsids ls →
+pub fits_learnt : (p p' : Parts) (s : Session) (global : ℕ → ℕ) (header : Header) (ls hashes : List ℕ) (flag : Bool) → FlagFits flag header ls → is_tautology ls ≡ false → AreMapped global s.solver_names ls → Holds p → IsPending (state p) p.vsids ls →
     Learnt p p' header ls → FitsParts p s global → FitsParts p' (after (AtClause flag (map (with_var global) ls) hashes) s) global
-fits_learnt p p' s global header ls hashes flag flags taut holds pending (learnt_unit one same r bare is) fits =
-    rw (is, same.0, same.1, same.2) (learnt_as_unit s global header ls hashes flag flags taut p.clauses p.db p.binary (state p) p.vsids holds.below.asks.agrees fits pending r one)
-fits_learnt p p' s global header ls hashes flag flags taut holds pending (learnt_binary two a b c r caused is) fits =
-    rw (is, a, b, c) (learnt_as_binary s global header ls hashes flag flags taut p.clauses p.db p.binary (state p) p.vsids holds.below.asks.agrees fits pending r caused two holds.below.asks.ranges.room)
-fits_learnt p p' s global header ls hashes flag flags taut holds pending (learnt_long three o adds b r caused is) fits =
-    rw (is, b) (learnt_as_long s global header ls hashes flag flags taut p.clauses p.db p.binary (state p) p.vsids holds.below.asks.agrees fits pending r p'.clauses p'.db o caused three holds.below.held adds)
+fits_learnt p p' s global header ls hashes flag flags taut names holds pending (learnt_unit one same r bare is) fits =
+    rw (is, same.0, same.1, same.2) (learnt_as_unit s global header ls hashes flag flags taut names p.clauses p.db p.binary (state p) p.vsids holds.below.asks.agrees fits pending r one)
+fits_learnt p p' s global header ls hashes flag flags taut names holds pending (learnt_binary two a b c r caused is) fits =
+    rw (is, a, b, c) (learnt_as_binary s global header ls hashes flag flags taut names p.clauses p.db p.binary (state p) p.vsids holds.below.asks.agrees fits pending r caused two holds.below.asks.ranges.room)
+fits_learnt p p' s global header ls hashes flag flags taut names holds pending (learnt_long three o adds b r caused is) fits =
+    rw (is, b) (learnt_as_long s global header ls hashes flag flags taut names p.clauses p.db p.binary (state p) p.vsids holds.below.asks.agrees fits pending r p'.clauses p'.db o caused three holds.below.held adds)
 
 -- levels that are undone
 pub fits_undone : (p p' : Parts) (s : Session) (global : ℕ → ℕ) → SameClauses p p' → Carries (state p) (state p') → FitsParts p s global → FitsParts p' s global

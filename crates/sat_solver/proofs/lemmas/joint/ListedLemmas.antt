@@ -17,22 +17,21 @@ use Rattle.sat_solver.proofs.lemmas.session.StepsOfClauses.{length_sorted, lengt
 use Rattle.sat_solver.specs.acceptance.SolverClauses.{solver_clauses, Inserted}
 use Rattle.sat_solver.specs.parts.Frame.{Carries}
 use Rattle.sat_solver.specs.joint.Fits.{ArePaired, is_redundant, Fits}
-use Rattle.sat_solver.specs.joint.Listed.{IsVariable, FitsList, SameFacts}
+use Rattle.sat_solver.specs.joint.Listed.{FitsList, SameFacts}
 use Rattle.sat_solver.proofs.lemmas.joint.SetLemmas.{set_shuffled, taut_shuffled, clause_of_set}
 
 module _ (words live : List ℕ) (implied : List (List ℕ)) (st : State) (s : Session) (global : ℕ → ℕ) where
-  pub listed : Fits words live implied st s global → FitsList (solver_clauses (is_redundant words) words live implied) (IsVariable st) st s global
-  listed h = record { clauses = h.clauses; named = h.named; known = h.known; sound = h.sound; consistent = h.consistent; width = h.width }
+  pub listed : Fits words live implied st s global → FitsList (solver_clauses (is_redundant words) words live implied) st s global
+  listed h = record { clauses = h.clauses; known = h.known; sound = h.sound; consistent = h.consistent; width = h.width }
 
-  pub fits_listed : FitsList (solver_clauses (is_redundant words) words live implied) (IsVariable st) st s global → ArePaired implied → Fits words live implied st s global
-  fits_listed h p = record { clauses = h.clauses; paired = p; named = h.named; known = h.known; sound = h.sound; consistent = h.consistent; width = h.width }
+  pub fits_listed : FitsList (solver_clauses (is_redundant words) words live implied) st s global → ArePaired implied → Fits words live implied st s global
+  fits_listed h p = record { clauses = h.clauses; paired = p; known = h.known; sound = h.sound; consistent = h.consistent; width = h.width }
 
-module _ (cs : List LiveClause) (meant : ℕ → Type 0) (st : State) (s : Session) (global : ℕ → ℕ) (h : FitsList cs meant st s global) where
+module _ (cs : List LiveClause) (st : State) (s : Session) (global : ℕ → ℕ) (h : FitsList cs st s global) where
   -- the session has other clauses
-  pub listed_as : (t : Session) (ds : List LiveClause) → SameFacts s t → AreOf t global ds → FitsList ds meant st t global
+  pub listed_as : (t : Session) (ds : List LiveClause) → SameFacts s t → AreOf t global ds → FitsList ds st t global
   listed_as t ds f a = record {
     clauses = a;
-    named = λ v m. f.names (global v) ∙ h.named v m;
     known = λ l u. f.units (with_var global l) ∙ h.known l u;
     sound = λ l n u. h.sound l (sym (f.names (global (variable l))) ∙ n) (sym (f.units (with_var global l)) ∙ u);
     consistent = f.unsat ∙ h.consistent;
@@ -40,24 +39,19 @@ module _ (cs : List LiveClause) (meant : ℕ → Type 0) (st : State) (s : Sessi
   }
 
   -- the search goes on where no unit is new
-  pub listed_carried : (st' : State) → Carries st st' → FitsList cs meant st' s global
+  pub listed_carried : (st' : State) → Carries st st' → FitsList cs st' s global
   listed_carried st' c = record {
     clauses = h.clauses;
-    named = h.named;
     known = λ l u. h.known l (c.units l u);
     sound = λ l n u. let x = h.sound l n u in c.bottom l x.0 x.1;
     consistent = h.consistent;
     width = h.width;
   }
 
-  -- other variables are meant
-  pub listed_meaning : (meant' : ℕ → Type 0) → ((v : ℕ) → meant' v → meant v) → FitsList cs meant' st s global
-  listed_meaning meant' f = record { clauses = h.clauses; named = λ v m. h.named v (f v m); known = h.known; sound = h.sound; consistent = h.consistent; width = h.width }
-
 -- a step that changes live clauses alone
-pub listed_stays : (cs : List LiveClause) (meant : ℕ → Type 0) (st : State) (s t : Session) (global : ℕ → ℕ) → FitsList cs meant st s global → SameFacts s t → t.solver_names ≡ s.solver_names → ((r : Bool) (set : List ℕ) → t.live r set ≡ s.live r set) →
-    FitsList cs meant st t global
-listed_stays cs meant st s t global h f n e = listed_as cs meant st s global h t cs f (still_of s t global cs e n h.clauses)
+pub listed_stays : (cs : List LiveClause) (st : State) (s t : Session) (global : ℕ → ℕ) → FitsList cs st s global → SameFacts s t → t.solver_names ≡ s.solver_names → ((r : Bool) (set : List ℕ) → t.live r set ≡ s.live r set) →
+    FitsList cs st t global
+listed_stays cs st s t global h f n e = listed_as cs st s global h t cs f (still_of s t global cs e n h.clauses)
 
 -- CLAUSES COME IN AND GO
 
@@ -85,14 +79,14 @@ module _ (s : Session) (global : ℕ → ℕ) (ls ms : List ℕ) (c : MayCome s.
       let n : 1 < length ms = c.long in omega arith)
       (taut_shuffled (with_var global) ls ms c.order ∙ c.plain)
 
-  module _ (meant : ℕ → Type 0) (st : State) (old new : List LiveClause) (r : Bool) (i : Inserted old new (record { redundant = r; literals = ms })) (h : FitsList old meant st s global) where
-    pub listed_derived : (hashes : List ℕ) → FitsList new meant st (after (AtClause r ks hashes) s) global
+  module _ (st : State) (old new : List LiveClause) (r : Bool) (i : Inserted old new (record { redundant = r; literals = ms })) (h : FitsList old st s global) where
+    pub listed_derived : (hashes : List ℕ) → FitsList new st (after (AtClause r ks hashes) s) global
     listed_derived hashes =
         let d : LiveClause = record { redundant = r; literals = ms } in
         let t : Session = after (AtClause r ks hashes) s in
         let same : with_clause r ks (knowing_literals ks s) ≡ with_live r set (knowing_literals ks s) = comes_as r (knowing_literals ks s) in
         let from : AreOf s global (i.before ++ i.behind) = subst (λ cs. AreOf s global cs) i.was h.clauses in
-        listed_as old meant st s global h t new
+        listed_as old st s global h t new
         (record {
           names = λ v. ap (λ (x : Session). x.solver_names v) same;
           units = λ l. ap (λ (x : Session). x.units l) same;
@@ -104,11 +98,11 @@ module _ (s : Session) (global : ℕ → ℕ) (ls ms : List ℕ) (c : MayCome s.
         (comes_in s global i.before i.behind d from c.mapped c.once)))
 
 -- a clause of the formula does what an irredundant derived one does, while unsat isn't recorded
-pub listed_by : (cs : List LiveClause) (meant : ℕ → Type 0) (st : State) (s : Session) (global : ℕ → ℕ) (ks hashes : List ℕ) → s.unsat ≡ false →
-    FitsList cs meant st (after (AtClause false ks hashes) s) global → FitsList cs meant st (after (AddClause ks) s) global
-listed_by cs meant st s global ks hashes u h =
+pub listed_by : (cs : List LiveClause) (st : State) (s : Session) (global : ℕ → ℕ) (ks hashes : List ℕ) → s.unsat ≡ false →
+    FitsList cs st (after (AtClause false ks hashes) s) global → FitsList cs st (after (AddClause ks) s) global
+listed_by cs st s global ks hashes u h =
     let same : cond s.unsat s (with_clause false ks (knowing_literals ks s)) ≡ with_clause false ks (knowing_literals ks s) = ap (λ b. cond b s (with_clause false ks (knowing_literals ks s))) u in
-    listed_stays cs meant st (after (AtClause false ks hashes) s) (after (AddClause ks) s) global h
+    listed_stays cs st (after (AtClause false ks hashes) s) (after (AddClause ks) s) global h
     (record {
       names = λ v. ap (λ (x : Session). x.solver_names v) same;
       units = λ l. ap (λ (x : Session). x.units l) same;
@@ -121,7 +115,7 @@ in_mapped_middle : (global : ℕ → ℕ) (xs ys : List LiveClause) (c : LiveCla
 in_mapped_middle global [] ys c = inl refl
 in_mapped_middle global (x ∷ xs) ys c = inr (in_mapped_middle global xs ys c)
 
-module _ (s : Session) (global : ℕ → ℕ) (meant : ℕ → Type 0) (st : State) (old new : List LiveClause) (r : Bool) (ls ms : List ℕ) (order : Shuffled ls ms) (i : Inserted new old (record { redundant = r; literals = ms })) (h : FitsList old meant st s global) where
+module _ (s : Session) (global : ℕ → ℕ) (st : State) (old new : List LiveClause) (r : Bool) (ls ms : List ℕ) (order : Shuffled ls ms) (i : Inserted new old (record { redundant = r; literals = ms })) (h : FitsList old st s global) where
   abbrev d : LiveClause
   d = record { redundant = r; literals = ms }
 
@@ -139,27 +133,27 @@ module _ (s : Session) (global : ℕ → ℕ) (meant : ℕ → Type 0) (st : Sta
       subst (λ n. 0 < n) (sym (ap (s.live r) same_set ∙ from.counts r (canonical (map (with_var global) ms)))) (in_counts (map (mapped global) (i.before ++ d ∷ i.behind)) (mapped global d) (in_mapped_middle global i.before i.behind d))
 
   -- without it, whatever else the step changes
-  listed_without : (t : Session) → SameFacts s t → t.solver_names ≡ s.solver_names → ((q : Bool) (set : List ℕ) → t.live q set ≡ (without_live r its s).live q set) → FitsList new meant st t global
+  listed_without : (t : Session) → SameFacts s t → t.solver_names ≡ s.solver_names → ((q : Bool) (set : List ℕ) → t.live q set ≡ (without_live r its s).live q set) → FitsList new st t global
   listed_without t f n e =
-      listed_as old meant st s global h t new f
+      listed_as old st s global h t new f
       (subst (λ cs. AreOf t global cs) (sym i.was)
       (still_of (without_live r (canonical (map (with_var global) ms)) s) t global (i.before ++ i.behind) (λ q set. e q set ∙ ap (λ k. (without_live r k s).live q set) same_set) n (goes s global i.before i.behind d from)))
 
-  pub listed_redundant : r ≡ true → May s (DeleteClause (map (with_var global) ls) Redundant) × FitsList new meant st (after (DeleteClause (map (with_var global) ls) Redundant) s) global
+  pub listed_redundant : r ≡ true → May s (DeleteClause (map (with_var global) ls) Redundant) × FitsList new st (after (DeleteClause (map (with_var global) ls) Redundant) s) global
   listed_redundant e = (
     subst (λ b. 0 < s.live b its) e is_counted,
     listed_without (after (DeleteClause (map (with_var global) ls) Redundant) s) (record { names = λ v. refl; units = λ l. refl; unsat = refl; width = refl }) refl
         (λ q set. ap (λ b. (without_live b its s).live q set) (sym e)),
   )
 
-  pub listed_satisfied : r ≡ false → list_any s.units (map (with_var global) ls) ≡ true → May s (DeleteClause (map (with_var global) ls) Satisfied) × FitsList new meant st (after (DeleteClause (map (with_var global) ls) Satisfied) s) global
+  pub listed_satisfied : r ≡ false → list_any s.units (map (with_var global) ls) ≡ true → May s (DeleteClause (map (with_var global) ls) Satisfied) × FitsList new st (after (DeleteClause (map (with_var global) ls) Satisfied) s) global
   listed_satisfied e u = (
     (subst (λ b. 0 < s.live b its) e is_counted, u),
     listed_without (after (DeleteClause (map (with_var global) ls) Satisfied) s) (record { names = λ v. refl; units = λ l. refl; unsat = refl; width = refl }) refl
         (λ q set. ap (λ b. (without_live b its s).live q set) (sym e)),
   )
 
-  pub listed_simplified : r ≡ false → MayReplace s (map (with_var global) ls) → May s (DeleteClause (map (with_var global) ls) Simplified) × FitsList new meant st (after (DeleteClause (map (with_var global) ls) Simplified) s) global
+  pub listed_simplified : r ≡ false → MayReplace s (map (with_var global) ls) → May s (DeleteClause (map (with_var global) ls) Simplified) × FitsList new st (after (DeleteClause (map (with_var global) ls) Simplified) s) global
   listed_simplified e p = (
     (subst (λ b. 0 < s.live b its) e is_counted, p),
     listed_without (after (DeleteClause (map (with_var global) ls) Simplified) s) (record { names = λ v. refl; units = λ l. refl; unsat = refl; width = refl }) refl

@@ -1,5 +1,5 @@
 -- Clauses of the formula come in at level 0.
-use Rattle.std.proofs.Common.{ℕ, ◌<◌, ◌≤◌, ◌≡◌, true, false, cond, List, [], ◌∷◌, ◌++◌, map, length, get_or, refl, sym, ◌∙◌, ap, subst, arith, inl, inr, append_assoc}
+use Rattle.std.proofs.Common.{ℕ, ◌<◌, ◌≤◌, ◌≡◌, true, false, cond, List, [], ◌∷◌, ◌++◌, map, length, refl, sym, ◌∙◌, ap, subst, arith, inl, inr, append_assoc}
 use Rattle.std.proofs.lemmas.List.{append-nil}
 use Rattle.sat_base.specs.values.Literals.{variable}
 use Rattle.sat_base.specs.steps.Steps.{AddClause, DeleteClause, Redundant}
@@ -19,17 +19,16 @@ use Rattle.sat_solver.proofs.lemmas.session.StepsOfClauses.{added_comes, redunda
 use Rattle.sat_solver.specs.acceptance.SolverClauses.{binaries, longs, solver_clauses}
 use Rattle.sat_solver.specs.joint.Fits.{ArePaired, is_redundant, Fits}
 use Rattle.sat_solver.proofs.lemmas.joint.UsableLemmas.{once_distinct}
-use Rattle.sat_solver.proofs.lemmas.joint.FitLemmas.{all_mapped, taut_mapped, longs_same, longs_push}
+use Rattle.sat_solver.proofs.lemmas.joint.FitLemmas.{taut_mapped, longs_same, longs_push}
 
 -- an irredundant long clause that is added, where the state of the search stays
 pub fits_added_long : (words words' : List ℕ) (db db' : Db) (implied : List (List ℕ)) (st : State) (s : Session) (global : ℕ → ℕ) (ls : List ℕ) (o : ℕ) (header : Header) → Agrees st → Fits words (live_refs words db.refs) implied st s global →
-    HoldsDb words db → AddsClause words db words' db' o header ls → is_learned header.tier ≡ false → 3 ≤ length ls → AreDistinct ls → ((k : ℕ) → k < length ls → variable (get_or ls k 0) < length st.values) → is_tautology ls ≡ false →
+    HoldsDb words db → AddsClause words db words' db' o header ls → is_learned header.tier ≡ false → 3 ≤ length ls → AreDistinct ls → AreMapped global s.solver_names ls → is_tautology ls ≡ false →
     Fits words' (live_refs words' db'.refs) implied st (after (AddClause (map (with_var global) ls)) s) global
-fits_added_long words words' db db' implied st s global ls o header agrees fits held adds side three differ below taut =
+fits_added_long words words' db db' implied st s global ls o header agrees fits held adds side three differ names taut =
     let live : List ℕ = live_refs words db.refs in
     let c : LiveClause = record { redundant = false; literals = ls } in
     let w : List ℕ = map (with_var global) ls in
-    let names : AreMapped global s.solver_names ls = all_mapped words (live_refs words db.refs) implied st s global agrees fits ls below in
     let once : NoRepeats ls = once_distinct ls differ in
     let plain : is_tautology (map (with_var global) ls) ≡ false = taut_mapped global s.solver_names ls names taut in
     let long : 1 < length (map (with_var global) ls) = (let e : length (map (with_var global) ls) ≡ length ls = length_mapped (with_var global) ls in omega arith) in
@@ -51,7 +50,6 @@ fits_added_long words words' db db' implied st s global ls o header agrees fits 
     record {
       clauses = subst (λ ds. AreOf t global ds) (append_assoc (binaries implied) (longs (is_redundant words) words (live_refs words db.refs)) (c ∷ []) ∙ ap (λ ds. binaries implied ++ ds) (sym new)) came;
       paired = fits.paired;
-      named = λ v lt. ap (λ (x : Session). x.solver_names (global v)) same ∙ fits.named v lt;
       known = λ l u. ap (λ (x : Session). x.units (with_var global l)) same ∙ fits.known l u;
       sound = λ l n u. fits.sound l (sym (ap (λ (x : Session). x.solver_names (global (variable l))) same) ∙ n) (sym (ap (λ (x : Session). x.units (with_var global l)) same) ∙ u);
       consistent = ap (λ (x : Session). x.unsat) same ∙ fits.consistent;
@@ -76,7 +74,6 @@ fits_deleted words words' live live' implied implied' st s global xs ys ls fits 
       record {
         clauses = subst (λ ds. AreOf (after (DeleteClause (map (with_var global) ls) Redundant) s) global ds) (sym is) (redundant_goes s global xs ys ls from);
         paired = paired;
-        named = fits.named;
         known = fits.known;
         sound = fits.sound;
         consistent = fits.consistent;

@@ -14,7 +14,7 @@ use Rattle.sat_parts.specs.prop.State.{State, level, current_level, Agrees}
 use Rattle.sat_parts.proofs.lemmas.clause.OrderLemmas.{shuffled_refl}
 use Rattle.sat_parts.proofs.lemmas.prop.StateLemmas.{negated_variable, true_from_false, level_low}
 use Rattle.sat_solver.specs.session.Session.{Session, with_fact, knowing_literals, after}
-use Rattle.sat_solver.specs.session.LiveClauses.{LiveClause, with_var}
+use Rattle.sat_solver.specs.session.LiveClauses.{LiveClause, with_var, AreMapped}
 use Rattle.sat_solver.proofs.lemmas.session.Mapped.{negated_mapped, apart}
 use Rattle.sat_solver.proofs.lemmas.session.StepsOfClauses.{short_leaves}
 use Rattle.sat_solver.specs.acceptance.SolverClauses.{solver_clauses}
@@ -26,28 +26,27 @@ use Rattle.sat_solver.specs.parts.Whole.{state, Holds}
 use Rattle.sat_solver.specs.parts.Frame.{Gains, Stores, stores_binary, stores_long, IsUnitLit}
 use Rattle.sat_solver.specs.parts.Loading.{LoadSays}
 use Rattle.sat_solver.specs.joint.Fits.{is_redundant, Fits, FitsParts}
-use Rattle.sat_solver.specs.joint.Listed.{IsVariable, FitsList}
+use Rattle.sat_solver.specs.joint.Listed.{FitsList}
 use Rattle.sat_solver.specs.joint.Loads.{LoadFits}
-use Rattle.sat_solver.proofs.lemmas.joint.FitLemmas.{fits_carried, fact_unsat, alone, two_of, among_at}
+use Rattle.sat_solver.proofs.lemmas.joint.FitLemmas.{mapped_at, mapped_shuffled, fits_carried, fact_unsat, alone, two_of, among_at}
 use Rattle.sat_solver.proofs.lemmas.joint.LearnedLemmas.{fits_undone}
 use Rattle.sat_solver.proofs.lemmas.joint.SetLemmas.{same_shuffled}
 use Rattle.sat_solver.proofs.lemmas.joint.ListedLemmas.{fits_listed, listed_by}
 use Rattle.sat_solver.proofs.lemmas.joint.AddedLemmas.{true_unit, fits_added_true, added_refutes, added_empty, satisfied_at_once, fits_added_binary, fits_added_long_as}
 
 -- a unit that the search gains
-pub fits_gained : (words live : List ℕ) (implied : List (List ℕ)) (st st' : State) (s : Session) (global : ℕ → ℕ) (l : ℕ) → Fits words live implied st s global → IsOpenLit st.values l → variable l < length st.values → Gains l st st' →
+pub fits_gained : (words live : List ℕ) (implied : List (List ℕ)) (st st' : State) (s : Session) (global : ℕ → ℕ) (l : ℕ) → Fits words live implied st s global → s.solver_names (global (variable l)) ≡ Some (variable l) → IsOpenLit st.values l → Gains l st st' →
     Fits words live implied st' (after (AddClause (with_var global l ∷ [])) s) global
-fits_gained words live implied st st' s global l fits free below g =
+fits_gained words live implied st st' s global l fits own free g =
     let all : List LiveClause = solver_clauses (is_redundant words) words live implied in
     let w : ℕ = with_var global l in
     let known : Session = knowing_literals (with_var global l ∷ []) s in
     let none : s.units (negated (with_var global l)) ≡ false = false_from_ne_true (s.units (negated w)) (λ u.
-    let x = fits.sound (negated l) (fits.named (variable (negated l)) (subst (λ v. v < length st.values) (sym (negated_variable l)) below)) (subst (λ z. s.units z ≡ true) (sym (negated_mapped global l)) u) in
+    let x = fits.sound (negated l) (subst (λ v. s.solver_names (global v) ≡ Some v) (sym (negated_variable l)) own) (subst (λ z. s.units z ≡ true) (sym (negated_mapped global l)) u) in
     let e : None ≡ Some (is_positive (negated l)) = sym free ∙ ap (value_of st.values) (sym (negated_variable l)) ∙ x.0 in
     absurd cc) in
-    let derived : FitsList all (IsVariable st') st' (after (AtClause false (with_var global l ∷ []) []) s) global = record {
+    let derived : FitsList all st' (after (AtClause false (with_var global l ∷ []) []) s) global = record {
       clauses = short_leaves s global all false (w ∷ []) [] (refl, tt) (omega arith) refl fits.clauses;
-      named = λ v m. fact_names known w (global v) ∙ fits.named v (subst (λ n. v < n) g.size m);
       known = λ m u. elim (g.units m u) [
         | inl o ↦ fact_keeps known w (with_var global m) (fits.known m o)
         | inr e ↦ subst (λ z. (with_fact w known).units (with_var global z) ≡ true) (sym e) (fact_gives known w none)
@@ -55,13 +54,13 @@ fits_gained words live implied st st' s global l fits free below g =
       sound = λ m n u.
           let old : s.solver_names (global (variable m)) ≡ Some (variable m) = sym (fact_names known w (global (variable m))) ∙ n in
           elim (fact_only known w (with_var global m) u) [
-            | inl e ↦ subst (λ z. IsTrueLit st'.values z × (level st' z ≡ 0)) (apart global s.solver_names l m (fits.named (variable l) below) old e) g.holds
+            | inl e ↦ subst (λ z. IsTrueLit st'.values z × (level st' z ≡ 0)) (apart global s.solver_names l m own old e) g.holds
             | inr k ↦ let x = fits.sound m old k in g.bottom m x.0 x.1
           ];
       consistent = fact_unsat w known none ∙ fits.consistent;
       width = fact_width known w ∙ fits.width;
     } in
-    fits_listed words live implied st' (after (AddClause (w ∷ [])) s) global (listed_by all (IsVariable st') st' s global (w ∷ []) [] fits.consistent derived) fits.paired
+    fits_listed words live implied st' (after (AddClause (w ∷ [])) s) global (listed_by all st' s global (w ∷ []) [] fits.consistent derived) fits.paired
 
 no_more : (ls : List ℕ) → length ls ≡ 0 → ls ≡ []
 no_more [] e = refl
@@ -76,7 +75,7 @@ alone_shuffled ls ms h one =
     alone ls n ∙ ap (λ l. l ∷ []) (sym j.1.1 ∙ ap (λ k. get_or ms k 0) z)
 
 -- as it was given, and as it is stored
-module _ (p p' : Parts) (s : Session) (global : ℕ → ℕ) (holds : Holds p) (fits : FitsParts p s global) (bottom : p.trail.starts ≡ []) (given ls : List ℕ) (order : Shuffled given ls) (differ : AreDistinct given) (small : (k : ℕ) → k < length given → get_or given k 0 < 2 * length p.assignment.current) (plain : is_tautology given ≡ false) where
+module _ (p p' : Parts) (s : Session) (global : ℕ → ℕ) (holds : Holds p) (fits : FitsParts p s global) (bottom : p.trail.starts ≡ []) (given ls : List ℕ) (order : Shuffled given ls) (differ : AreDistinct given) (small : (k : ℕ) → k < length given → get_or given k 0 < 2 * length p.assignment.current) (plain : is_tautology given ≡ false) (names : AreMapped global s.solver_names given) where
   abbrev live : List ℕ
   live = live_refs p.clauses p.db.refs
 
@@ -86,8 +85,8 @@ module _ (p p' : Parts) (s : Session) (global : ℕ → ℕ) (holds : Holds p) (
   small_too : (k : ℕ) → k < length ls → get_or ls k 0 < 2 * length p.assignment.current
   small_too k lt = let j = order.back k (omega (arith, order.size)) in subst (λ z. z < 2 * length p.assignment.current) j.1.1 (small j.0 j.1.0)
 
-  below : (k : ℕ) → k < length ls → variable (get_or ls k 0) < length p.assignment.current
-  below k lt = (let z : get_or ls k 0 < 2 * length p.assignment.current = small_too k lt in omega arith)
+  names_too : AreMapped global s.solver_names ls
+  names_too = mapped_shuffled global s.solver_names given ls order names
 
   low : (l : ℕ) → IsTrueLit p.assignment.current l → level (state p) l ≡ 0
   low l t =
@@ -105,11 +104,11 @@ module _ (p p' : Parts) (s : Session) (global : ℕ → ℕ) (holds : Holds p) (
       let is : Shuffled given (get_or ls 0 0 ∷ get_or ls 1 0 ∷ []) = subst (λ ms. Shuffled given ms) (two_of ls two) order in
       rw (words, list, pairs)
       (fits_carried p.clauses live (with_binary (get_or ls 0 0) (get_or ls 1 0) p.binary).implied (state p) (state p') added global carries
-      (fits_added_binary p.clauses live p.binary (state p) s global agrees fits given (get_or ls 0 0) (get_or ls 1 0) is differ (small_too 0 (omega arith)) (small_too 1 (omega arith)) holds.below.asks.ranges.room plain))
+      (fits_added_binary p.clauses live p.binary (state p) s global agrees fits given (get_or ls 0 0) (get_or ls 1 0) is differ (small_too 0 (omega arith)) (small_too 1 (omega arith)) (subst (λ ms. AreMapped global s.solver_names ms) (two_of ls two) names_too) holds.below.asks.ranges.room plain))
   fits_stored (stores_long three o adds pairs carries) =
       rw pairs
       (fits_carried p'.clauses (live_refs p'.clauses p'.db.refs) p.binary.implied (state p) (state p') added global carries
-      (fits_added_long_as p.clauses p'.clauses p.db p'.db p.binary.implied (state p) s global agrees fits given ls o no_header holds.below.held adds refl order differ three below plain))
+      (fits_added_long_as p.clauses p'.clauses p.db p'.db p.binary.implied (state p) s global agrees fits given ls o no_header holds.below.held adds refl order differ three names_too plain))
 
   taut : is_tautology ls ≡ false
   taut = sym (same_tautology given ls (same_shuffled given ls order)) ∙ plain
@@ -120,7 +119,7 @@ module _ (p p' : Parts) (s : Session) (global : ℕ → ℕ) (holds : Holds p) (
       let l : ℕ = get_or ls 0 0 in
       let z : 0 < length ls = omega (arith, says.0) in
       rw (alone_shuffled given ls order says.0, says.2.0, says.2.1, says.2.2)
-      (fits_gained p.clauses live p.binary.implied (state p) (state p') s global l fits says.1 (below 0 z) says.3)
+      (fits_gained p.clauses live p.binary.implied (state p) (state p') s global l fits (mapped_at global s.solver_names ls 0 names_too z) says.1 says.3)
   fits_loaded Satisfied says =
       let k = says.2 in
       let l : ℕ = get_or ls k.0 0 in (
@@ -128,9 +127,9 @@ module _ (p p' : Parts) (s : Session) (global : ℕ → ℕ) (holds : Holds p) (
             let e : get_or ls k.0 0 ≡ get_or ls 0 0 = (let z : k.0 ≡ 0 = omega (arith, k.1.0) in ap (λ i. get_or ls i 0) z) in
             let first : IsTrueLit p.assignment.current (get_or ls 0 0) = subst (λ m. IsTrueLit p.assignment.current m) e k.1.1 in
             fits_undone p p' added global says.0 says.1
-            (rw (alone_shuffled given ls order one) (fits_added_true p.clauses live p.binary.implied (state p) s global agrees fits (get_or ls 0 0) first (low (get_or ls 0 0) first))),
+            (rw (alone_shuffled given ls order one) (fits_added_true p.clauses live p.binary.implied (state p) s global agrees fits (get_or ls 0 0) (mapped_at global s.solver_names ls 0 names_too (omega arith)) first (low (get_or ls 0 0) first))),
         λ two.
-            let x = satisfied_at_once p.clauses live p.binary.implied (state p) s global agrees fits given ls order differ below two taut ls l (shuffled_refl ls) (among_at ls k.0 k.1.0) (unit l k.1.1) in
+            let x = satisfied_at_once p.clauses live p.binary.implied (state p) s global agrees fits given ls order differ names_too two taut ls l (shuffled_refl ls) (among_at ls k.0 k.1.0) (unit l k.1.1) in
             (x.0, fits_undone p p' (after (DeleteClause (map (with_var global) ls) True) added) global says.0 says.1 x.1),
       )
   fits_loaded Falsified says = elim (cases_eq (length ls) 0) [
@@ -138,5 +137,5 @@ module _ (p p' : Parts) (s : Session) (global : ℕ → ℕ) (holds : Holds p) (
     | inr n ↦
         let one : length ls ≡ 1 = omega (arith, says.0) in
         rw (alone_shuffled given ls order one)
-        (added_refutes p.clauses live p.binary.implied (state p) s global agrees fits (get_or ls 0 0) (unit (negated (get_or ls 0 0)) (true_from_false p.assignment.current (get_or ls 0 0) (says.1 0 (omega arith)))))
+        (added_refutes p.clauses live p.binary.implied (state p) s global agrees fits (get_or ls 0 0) (mapped_at global s.solver_names ls 0 names_too (omega arith)) (unit (negated (get_or ls 0 0)) (true_from_false p.assignment.current (get_or ls 0 0) (says.1 0 (omega arith)))))
   ]

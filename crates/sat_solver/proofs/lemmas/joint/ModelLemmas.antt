@@ -14,7 +14,6 @@ use Rattle.sat_parts.specs.clause.Stored.{lit_of}
 use Rattle.sat_parts.specs.prop.Binaries.{implied_by}
 use Rattle.sat_parts.specs.prop.Values.{value_of, IsTrueLit}
 use Rattle.sat_parts.proofs.lemmas.prop.StateLemmas.{negated_variable, negated_twice, false_from_true, not_both, lit_from_parts}
-use Rattle.sat_parts.proofs.lemmas.prop.RoomLemmas.{below_from_value}
 use Rattle.sat_solver.specs.session.Session.{Session, MayShow}
 use Rattle.sat_solver.specs.session.LiveClauses.{LiveClause, IsIn, with_var, mapped}
 use Rattle.sat_solver.proofs.lemmas.session.Lists.{shows_all}
@@ -24,7 +23,7 @@ use Rattle.sat_solver.specs.declared.parts.Parts.{Parts}
 use Rattle.sat_solver.specs.parts.Whole.{AllAssigned, IsModelled}
 use Rattle.sat_solver.proofs.lemmas.parts.ValueLemmas.{open_or_true}
 use Rattle.sat_solver.specs.joint.Units.{AreTrueLits}
-use Rattle.sat_solver.specs.joint.Fits.{is_redundant, FitsParts}
+use Rattle.sat_solver.specs.joint.Fits.{is_redundant, FitsParts, HaveNames}
 use Rattle.sat_solver.proofs.lemmas.joint.FitLemmas.{among_at, among_back, long_of, in_either}
 
 -- a clause of the list of those of two literals stands in a list of implied literals
@@ -85,9 +84,9 @@ among_in : (xs : List ℕ) (a b l : ℕ) → xs ≡ a ∷ b ∷ [] → (l ≡ a)
 among_in xs a b l e (inl q) = subst (λ ys. is_among ys l ≡ true) (sym e) (or_left (eqb a l) (is_among (b ∷ []) l) (eq-eqb a l (sym q)))
 among_in xs a b l e (inr q) = subst (λ ys. is_among ys l ≡ true) (sym e) (or_right (eqb a l) (is_among (b ∷ []) l) (or_left (eqb b l) false (eq-eqb b l (sym q))))
 
-module _ (p : Parts) (s : Session) (global : ℕ → ℕ) (fits : FitsParts p s global) (room : length p.binary.implied ≡ 2 * length p.assignment.current) where
+module _ (p : Parts) (s : Session) (global : ℕ → ℕ) (fits : FitsParts p s global) (names : HaveNames p.assignment.current s global) (room : length p.binary.implied ≡ 2 * length p.assignment.current) where
   named_true : (l : ℕ) → IsTrueLit p.assignment.current l → s.solver_names (global (variable l)) ≡ Some (variable l)
-  named_true l t = fits.named (variable l) (below_from_value p.assignment.current (variable l) _ t)
+  named_true l t = names l t
 
   same_lit : (l m : ℕ) → IsTrueLit p.assignment.current l → IsTrueLit p.assignment.current m → variable (with_var global l) ≡ variable (with_var global m) → l ≡ m
   same_lit l m t u e =

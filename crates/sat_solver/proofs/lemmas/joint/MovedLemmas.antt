@@ -15,7 +15,6 @@ pub fits_longs : (words words' live live' : List ℕ) (implied : List (List ℕ)
 fits_longs words words' live live' implied st s global e h = record {
   clauses = subst (λ ds. AreOf s global (binaries implied ++ ds)) (sym e) h.clauses;
   paired = h.paired;
-  named = h.named;
   known = h.known;
   sound = h.sound;
   consistent = h.consistent;

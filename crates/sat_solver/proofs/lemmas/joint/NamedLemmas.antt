@@ -77,9 +77,9 @@ pub record GetsName (st st' : State) (s : Session) (global global' : ℕ → ℕ
   pub kept : (l : ℕ) → variable l ≢ x → IsTrueLit st.values l → level st l ≡ 0 → IsTrueLit st'.values l × (level st' l ≡ 0)
   pub its : (l : ℕ) → variable l ≡ x → s.units (with_var global' l) ≡ true → IsTrueLit st'.values l × (level st' l ≡ 0)
 
-pub listed_named : (cs : List LiveClause) (meant meant' : ℕ → Type 0) (st st' : State) (s : Session) (global global' : ℕ → ℕ) (x : ℕ) → FitsList cs meant st s global → GetsName st st' s global global' x →
-    ((c : LiveClause) → IsIn c cs → mentions c.literals x ≡ false) → ((v : ℕ) → meant' v → v ≢ x → meant v) → FitsList cs meant' st' (after (SolverVarName (global' x) (Some x)) s) global'
-listed_named cs meant meant' st st' s global global' x h g unused fewer =
+pub listed_named : (cs : List LiveClause) (st st' : State) (s : Session) (global global' : ℕ → ℕ) (x : ℕ) → FitsList cs st s global → GetsName st st' s global global' x →
+    ((c : LiveClause) → IsIn c cs → mentions c.literals x ≡ false) → FitsList cs st' (after (SolverVarName (global' x) (Some x)) s) global'
+listed_named cs st st' s global global' x h g unused =
     let w : ℕ = global' x in
     let t : Session = after (SolverVarName (global' x) (Some x)) s in
     let moved : (l : ℕ) → variable l ≢ x → with_var global' l ≡ with_var global l = λ l n. ap (λ v. 2 * v + l % 2) (sym (g.same (variable l) n)) in
@@ -89,12 +89,6 @@ listed_named cs meant meant' st st' s global global' x h g unused fewer =
     ] in
     record {
       clauses = still_of (with_solver_name w (Some x) s) t global' cs (λ r set. refl) refl (gets_name s global global' w x cs h.clauses g.free g.same unused);
-      named = λ v m. elim (cases_eq v x) [
-        | inl e ↦ name_there s.solver_names w (global' v) (Some x) (ap global' e) ∙ ap (λ z. Some z) (sym e)
-        | inr n ↦
-            let e : s.solver_names (global v) ≡ Some v = h.named v (fewer v m n) in
-            name_other s.solver_names w (global' v) (Some x) (λ q. none_some v (sym g.free ∙ ap s.solver_names (sym (g.same v n ∙ q)) ∙ e)) ∙ ap s.solver_names (sym (g.same v n)) ∙ e
-      ];
       known = λ l u. elim (g.units l u) [ inl o ↦ subst (λ z. s.units z ≡ true) (sym (moved l o.0)) (h.known l o.1) | inr k ↦ k ];
       sound = λ l n u. elim (cases_eq (variable l) x) [
         | inl e ↦ g.its l e u
@@ -127,9 +121,9 @@ pub record LosesName (st st' : State) (s : Session) (global : ℕ → ℕ) (w x 
   pub units : (l : ℕ) → IsUnitLit st' l → IsUnitLit st l
   pub kept : (l : ℕ) → variable l ≢ x → IsTrueLit st.values l → level st l ≡ 0 → IsTrueLit st'.values l × (level st' l ≡ 0)
 
-pub listed_unnamed : (cs : List LiveClause) (meant meant' : ℕ → Type 0) (st st' : State) (s : Session) (global : ℕ → ℕ) (w x : ℕ) → FitsList cs meant st s global → LosesName st st' s global w x →
-    ((c : LiveClause) → IsIn c cs → mentions c.literals x ≡ false) → ((v : ℕ) → meant' v → (v ≢ x) × meant v) → FitsList cs meant' st' (after (SolverVarName w None) s) global
-listed_unnamed cs meant meant' st st' s global w x h g unused fewer =
+pub listed_unnamed : (cs : List LiveClause) (st st' : State) (s : Session) (global : ℕ → ℕ) (w x : ℕ) → FitsList cs st s global → LosesName st st' s global w x →
+    ((c : LiveClause) → IsIn c cs → mentions c.literals x ≡ false) → FitsList cs st' (after (SolverVarName w None) s) global
+listed_unnamed cs st st' s global w x h g unused =
     let t : Session = after (SolverVarName w None) s in
     let old : (v : ℕ) → t.solver_names (global v) ≡ Some v → (v ≢ x) × (s.solver_names (global v) ≡ Some v) = λ v e. elim (cases_eq (global v) w) [
       | inl q ↦ absurd (none_some v (sym (name_there s.solver_names w (global v) None q) ∙ e))
@@ -137,10 +131,6 @@ listed_unnamed cs meant meant' st st' s global w x h g unused fewer =
     ] in
     record {
       clauses = still_of (with_solver_name w None s) t global cs (λ r set. refl) refl (loses_name s global w x cs h.clauses g.its unused);
-      named = λ v m.
-          let k = fewer v m in
-          let e : s.solver_names (global v) ≡ Some v = h.named v k.1 in
-          name_other s.solver_names w (global v) None (λ q. k.0 (some_same v x (sym e ∙ ap s.solver_names q ∙ g.its))) ∙ e;
       known = λ l u. h.known l (g.units l u);
       sound = λ l n u.
           let o = old (variable l) n in

@@ -18,7 +18,7 @@ use Rattle.sat_solver.specs.session.LiveClauses.{LiveClause, with_var}
 use Rattle.sat_solver.specs.acceptance.SolverClauses.{solver_clauses, Inserted}
 use Rattle.sat_solver.specs.parts.Frame.{IsUnitLit}
 use Rattle.sat_solver.specs.joint.Fits.{is_redundant, Fits}
-use Rattle.sat_solver.specs.joint.Listed.{IsVariable, FitsList, ArePlain}
+use Rattle.sat_solver.specs.joint.Listed.{FitsList, ArePlain}
 use Rattle.sat_solver.proofs.lemmas.joint.UsableLemmas.{among_place}
 use Rattle.sat_solver.proofs.lemmas.joint.FitLemmas.{among_at, paired_binary}
 use Rattle.sat_solver.proofs.lemmas.joint.SetLemmas.{same_shuffled}
@@ -143,9 +143,9 @@ module _ (words words' : List ℕ) (db db' : Db) (x : Binaries) (st : State) (s 
   abbrev now : List LiveClause
   now = solver_clauses (is_redundant words') words' live' (with_binary a b x).implied
 
-  middle : FitsList (solver_clauses (is_redundant words) words live (with_binary a b x).implied) (IsVariable st) st (after step s) global
+  middle : FitsList (solver_clauses (is_redundant words) words live (with_binary a b x).implied) st (after step s) global
   middle =
-      listed_derived s global part d (come_shorter words live x.implied st s global agrees fits clauses plain o there part d its_order differ long within) (IsVariable st) st (solver_clauses (is_redundant words) words live x.implied)
+      listed_derived s global part d (come_shorter words live x.implied st s global agrees fits clauses plain o there part d its_order differ long within) st (solver_clauses (is_redundant words) words live x.implied)
       (solver_clauses (is_redundant words) words live (with_binary a b x).implied) false came.inserted (listed words live x.implied st s global fits) (hash ∷ [])
 
   derive : May s step
@@ -157,12 +157,12 @@ module _ (words words' : List ℕ) (db db' : Db) (x : Binaries) (st : State) (s 
   pub fits_paired : is_redundant words o ≡ false → Both words' live' (with_binary a b x).implied st s global step (DeleteClause (map (with_var global) ls) Simplified)
   fits_paired side =
       let t : Session = after step s in
-      let y = listed_simplified t global (IsVariable st) st (solver_clauses (is_redundant words) words live (with_binary a b x).implied) now (is_redundant words o) ls c order goes middle side
+      let y = listed_simplified t global st (solver_clauses (is_redundant words) words live (with_binary a b x).implied) now (is_redundant words o) ls c order goes middle side
       (replace_shorter words live x.implied st s global agrees fits clauses plain o there part d its_order differ long within ls (get_or c other.place 0) (hash ∷ []) order (among_at c other.place other.within) missing) in
       record { derive = derive; delete = y.0; fits = fits_listed words' live' (with_binary a b x).implied st (after (DeleteClause (map (with_var global) ls) Simplified) t) global y.1 (paired_binary x a b first second two.apart fits.paired) }
 
   pub fits_paired_redundant : is_redundant words o ≡ true → Both words' live' (with_binary a b x).implied st s global step (DeleteClause (map (with_var global) ls) Redundant)
   fits_paired_redundant side =
       let t : Session = after step s in
-      let y = listed_redundant t global (IsVariable st) st (solver_clauses (is_redundant words) words live (with_binary a b x).implied) now (is_redundant words o) ls c order goes middle side in
+      let y = listed_redundant t global st (solver_clauses (is_redundant words) words live (with_binary a b x).implied) now (is_redundant words o) ls c order goes middle side in
       record { derive = derive; delete = y.0; fits = fits_listed words' live' (with_binary a b x).implied st (after (DeleteClause (map (with_var global) ls) Redundant) t) global y.1 (paired_binary x a b first second two.apart fits.paired) }

@@ -1,5 +1,5 @@
 -- A part of a live clause that takes its place.
-use Rattle.std.proofs.Common.{ℕ, ◌-◌, ◌*◌, ◌/◌, ◌^◌, ◌<◌, ◌≡◌, true, false, eqb, List, [], ◌∷◌, map, length, get_or, sym, ◌∙◌, ap, subst, arith, ◌⊎◌, inl, inr, Some}
+use Rattle.std.proofs.Common.{ℕ, ◌-◌, ◌/◌, ◌^◌, ◌<◌, ◌≡◌, true, false, eqb, List, [], ◌∷◌, map, length, get_or, sym, ◌∙◌, ap, subst, arith, ◌⊎◌, inl, inr, Some}
 use Rattle.std.proofs.lemmas.Bool.{or_right}
 use Rattle.std.specs.List.{Contains}
 use Rattle.sat_base.specs.values.Literals.{variable, negated}
@@ -10,7 +10,7 @@ use Rattle.sat_checker.specs.LiteralSets.{is_among, is_part, canonical}
 use Rattle.sat_checker.proofs.lemmas.sets.Canonical.{same_tautology}
 use Rattle.sat_checker.proofs.lemmas.sets.Subsets.{all_true}
 use Rattle.sat_parts.specs.clause.Orders.{AreDistinct, Shuffled}
-use Rattle.sat_parts.specs.clause.Stored.{AreClauses, lit_of}
+use Rattle.sat_parts.specs.clause.Stored.{AreClauses}
 use Rattle.sat_parts.specs.prop.State.{State, Agrees}
 use Rattle.sat_solver.specs.session.Session.{Session, after, MayDerive, MayReplace}
 use Rattle.sat_solver.specs.session.LiveClauses.{with_var, AreMapped}
@@ -22,8 +22,8 @@ use Rattle.sat_solver.specs.acceptance.TrailUnits.{IsUsable}
 use Rattle.sat_solver.specs.parts.Frame.{IsUnitLit}
 use Rattle.sat_solver.specs.joint.Fits.{Fits}
 use Rattle.sat_solver.specs.joint.Listed.{ArePlain}
-use Rattle.sat_solver.proofs.lemmas.joint.UsableLemmas.{long_usable, once_distinct, among_place}
-use Rattle.sat_solver.proofs.lemmas.joint.FitLemmas.{among_at}
+use Rattle.sat_solver.proofs.lemmas.joint.UsableLemmas.{long_usable, long_named, once_distinct, among_place}
+use Rattle.sat_solver.proofs.lemmas.joint.FitLemmas.{among_at, mapped_at}
 use Rattle.sat_solver.proofs.lemmas.joint.SetLemmas.{same_shuffled, same_mapped, set_shuffled, part_mapped}
 use Rattle.sat_solver.proofs.lemmas.joint.PlainLemmas.{part_plain}
 use Rattle.sat_solver.proofs.lemmas.joint.ListedLemmas.{MayCome}
@@ -40,8 +40,7 @@ module _ (words live : List ℕ) (implied : List (List ℕ)) (st : State) (s : S
   named_in : (l : ℕ) → is_among c l ≡ true → s.solver_names (global (variable l)) ≡ Some (variable l)
   named_in l t =
       let p = among_place c l t in
-      let b : lit_of words o p.0 < 2 * length st.values = clauses.below o p.0 there p.1.0 in
-      subst (λ z. s.solver_names (global (variable z)) ≡ Some (variable z)) p.1.1 (fits.named (variable (lit_of words o p.0)) (omega arith))
+      subst (λ z. s.solver_names (global (variable z)) ≡ Some (variable z)) p.1.1 (mapped_at global s.solver_names c p.0 (long_named words live implied s global fits.clauses fits.paired o there) p.1.0)
 
   all_named : (ls : List ℕ) → ((l : ℕ) → is_among ls l ≡ true → is_among c l ≡ true) → AreMapped global s.solver_names ls
   all_named [] h = tt

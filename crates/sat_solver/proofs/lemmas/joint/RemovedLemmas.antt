@@ -21,7 +21,7 @@ use Rattle.sat_solver.proofs.lemmas.acceptance.LeftLemmas.{left_start, left_list
 use Rattle.sat_solver.specs.parts.Round.{AreUnits as AreBare}
 use Rattle.sat_solver.proofs.lemmas.parts.ValueLemmas.{open_or_true}
 use Rattle.sat_solver.specs.joint.Fits.{ArePaired, is_redundant, Fits}
-use Rattle.sat_solver.specs.joint.Listed.{IsVariable, FitsList}
+use Rattle.sat_solver.specs.joint.Listed.{FitsList}
 use Rattle.sat_solver.proofs.lemmas.joint.ListedLemmas.{listed, fits_listed, listed_satisfied, some_unit}
 use Rattle.sat_solver.proofs.lemmas.joint.AddedLemmas.{true_unit}
 
@@ -75,7 +75,7 @@ paired_open values x y h p =
 
 -- the first k literals of the list l were looked at, and all lists before it
 abbrev pub LeftFits : (words live : List ℕ) (x : Binaries) (st : State) (global : ℕ → ℕ) → Session → (l k : ℕ) → Type 0
-LeftFits words live x st global t l k = FitsList (binaries_left st.values x.implied l k ++ longs (is_redundant words) words live) (IsVariable st) st t global
+LeftFits words live x st global t l k = FitsList (binaries_left st.values x.implied l k ++ longs (is_redundant words) words live) st t global
 
 module _ (words live : List ℕ) (x : Binaries) (st : State) (global : ℕ → ℕ) (agrees : Agrees st) (bare : AreBare st) (bottom : length st.trail.starts ≡ 0) (paired : ArePaired x.implied) (complete : (l k : ℕ) → k < length (implied_by x.implied l) → IsTrueLit st.values l → IsTrueLit st.values (get_or (implied_by x.implied l) k 0)) where
   -- what a clause of two literals makes true where one of its variables has a value
@@ -103,8 +103,8 @@ module _ (words live : List ℕ) (x : Binaries) (st : State) (global : ℕ → �
     ]
   ]
 
-  same_left : (t : Session) (ds es : List LiveClause) → ds ≡ es → FitsList (ds ++ longs (is_redundant words) words live) (IsVariable st) st t global → FitsList (es ++ longs (is_redundant words) words live) (IsVariable st) st t global
-  same_left t ds es e h = subst (λ cs. FitsList (cs ++ longs (is_redundant words) words live) (IsVariable st) st t global) e h
+  same_left : (t : Session) (ds es : List LiveClause) → ds ≡ es → FitsList (ds ++ longs (is_redundant words) words live) st t global → FitsList (es ++ longs (is_redundant words) words live) st t global
+  same_left t ds es e h = subst (λ cs. FitsList (cs ++ longs (is_redundant words) words live) st t global) e h
 
   pub removal_begins : (s : Session) → Fits words live x.implied st s global → LeftFits words live x st global s 0 0
   removal_begins s fits = same_left s (binaries x.implied) (binaries_left st.values x.implied 0 0) (sym (left_start st.values x.implied)) (listed words live x.implied st s global fits)
@@ -141,8 +141,8 @@ module _ (words live : List ℕ) (x : Binaries) (st : State) (global : ℕ → �
         let c : Contains (implied_by x.implied (negated (negated l))) m = subst (λ z. Contains (implied_by x.implied z) m) (sym (negated_twice l)) (place_in (implied_by x.implied l) k lt) in
         let unit : (z : ℕ) → is_among (negated l ∷ m ∷ []) z ≡ true → IsTrueLit st.values z → May t (DeleteClause (map (with_var global) (negated l ∷ m ∷ [])) Satisfied) × LeftFits words live x st global (after (DeleteClause (map (with_var global) (negated l ∷ m ∷ [])) Satisfied) t) l (k + 1) = λ z there holds.
         let low : level st z ≡ 0 = (let e : level st z ≤ current_level st = level_low st z agrees holds in omega arith) in
-        let u = some_unit t global (IsVariable st) st old new false ls ls (shuffled_refl ls) i h z there (h.known z (true_unit st z agrees bare holds low)) in
-        listed_satisfied t global (IsVariable st) st old new false ls ls (shuffled_refl ls) i h refl u in
+        let u = some_unit t global st old new false ls ls (shuffled_refl ls) i h z there (h.known z (true_unit st z agrees bare holds low)) in
+        listed_satisfied t global st old new false ls ls (shuffled_refl ls) i h refl u in
         elim (some_true a m c n) [
           | inl holds ↦ unit a (or_left (eqb a a) (is_among (m ∷ []) a) (eq-eqb a a refl)) holds
           | inr holds ↦ unit m (or_right (eqb a m) (is_among (m ∷ []) m) (or_left (eqb m m) false (eq-eqb m m refl))) holds

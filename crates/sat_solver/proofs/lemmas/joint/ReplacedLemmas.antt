@@ -20,7 +20,7 @@ use Rattle.sat_solver.specs.acceptance.SolverClauses.{binaries, longs, solver_cl
 use Rattle.sat_solver.proofs.lemmas.acceptance.InsertedLemmas.{Splits, splits, longs_both, replaces}
 use Rattle.sat_solver.specs.parts.Frame.{IsUnitLit}
 use Rattle.sat_solver.specs.joint.Fits.{is_redundant, Fits}
-use Rattle.sat_solver.specs.joint.Listed.{IsVariable, FitsList, ArePlain}
+use Rattle.sat_solver.specs.joint.Listed.{FitsList, ArePlain}
 use Rattle.sat_solver.proofs.lemmas.joint.UsableLemmas.{among_place}
 use Rattle.sat_solver.proofs.lemmas.joint.FitLemmas.{among_at, longs_same}
 use Rattle.sat_solver.proofs.lemmas.joint.ListedLemmas.{MayCome, listed, fits_listed, listed_derived, listed_redundant, listed_simplified}
@@ -118,13 +118,13 @@ module _ (words words' : List ℕ) (db : Db) (implied : List (List ℕ)) (st : S
   step flag = AtClause flag (map (with_var global) part) (hash ∷ [])
 
   -- the flag of the derived clause is that of the old one
-  middle : (flag : Bool) → is_redundant words o ≡ flag → (mid : List LiveClause) × (FitsList mid (IsVariable st) st (after (step flag) s) global × Inserted (solver_clauses (is_redundant words') words' live' implied) mid (record { redundant = flag; literals = c }))
+  middle : (flag : Bool) → is_redundant words o ≡ flag → (mid : List LiveClause) × (FitsList mid st (after (step flag) s) global × Inserted (solver_clauses (is_redundant words') words' live' implied) mid (record { redundant = flag; literals = c }))
   middle flag side =
       let x = shortened_there words words' db implied o len held there short in
       let old : List LiveClause = solver_clauses (is_redundant words) words live implied in (
         x.0,
         (
-          listed_derived s global part d come (IsVariable st) st old x.0 flag (subst (λ b. Inserted old x.0 (record { redundant = b; literals = d })) side x.1.comes) (listed words live implied st s global fits) (hash ∷ []),
+          listed_derived s global part d come st old x.0 flag (subst (λ b. Inserted old x.0 (record { redundant = b; literals = d })) side x.1.comes) (listed words live implied st s global fits) (hash ∷ []),
           subst (λ b. Inserted (solver_clauses (is_redundant words') words' live' implied) x.0 (record { redundant = b; literals = c })) side x.1.goes,
         ),
       )
@@ -133,7 +133,7 @@ module _ (words words' : List ℕ) (db : Db) (implied : List (List ℕ)) (st : S
   fits_shortened side =
       let m = middle false side in
       let t : Session = after (step false) s in
-      let x = listed_simplified t global (IsVariable st) st m.0 (solver_clauses (is_redundant words') words' live' implied) false ls c order m.1.1 m.1.0 refl
+      let x = listed_simplified t global st m.0 (solver_clauses (is_redundant words') words' live' implied) false ls c order m.1.1 m.1.0 refl
       (replace_shorter words live implied st s global agrees fits clauses plain o there part d part_order differ (omega (arith, size)) within ls (get_or c len 0) (hash ∷ []) order (among_at c len fewer) missing) in
       record { derive = derive false; delete = x.0; fits = fits_listed words' live' implied st (after (DeleteClause (map (with_var global) ls) Simplified) t) global x.1 fits.paired }
 
@@ -141,5 +141,5 @@ module _ (words words' : List ℕ) (db : Db) (implied : List (List ℕ)) (st : S
   fits_shortened_redundant side =
       let m = middle true side in
       let t : Session = after (step true) s in
-      let x = listed_redundant t global (IsVariable st) st m.0 (solver_clauses (is_redundant words') words' live' implied) true ls c order m.1.1 m.1.0 refl in
+      let x = listed_redundant t global st m.0 (solver_clauses (is_redundant words') words' live' implied) true ls c order m.1.1 m.1.0 refl in
       record { derive = derive true; delete = x.0; fits = fits_listed words' live' implied st (after (DeleteClause (map (with_var global) ls) Redundant) t) global x.1 fits.paired }

@@ -15,7 +15,6 @@ use Rattle.sat_parts.specs.prop.State.{State, node, level, lit_at, current_level
 use Rattle.sat_parts.specs.prop.Reasons.{AreInTurn}
 use Rattle.sat_parts.specs.prop.Ready.{IsConflict}
 use Rattle.sat_parts.proofs.lemmas.prop.StateLemmas.{negated_variable, true_from_false, false_from_true, not_both, level_low}
-use Rattle.sat_parts.proofs.lemmas.prop.RoomLemmas.{below_from_value}
 use Rattle.sat_solver.specs.session.Session.{Session, with_fact, with_facts, knowing_literals, after, MayProve, MayDerive, by_clauses, denied}
 use Rattle.sat_solver.specs.session.LiveClauses.{with_var}
 use Rattle.sat_solver.proofs.lemmas.session.Mapped.{negated_mapped, apart}
@@ -27,7 +26,7 @@ use Rattle.sat_solver.specs.acceptance.TrailEntries.{reason_clause}
 use Rattle.sat_solver.proofs.lemmas.joint.MayLemmas.{whole}
 use Rattle.sat_solver.proofs.lemmas.acceptance.UnitLemmas.{trail_units_may, fact_keeps, fact_gives, fact_only, fact_names, fact_width}
 use Rattle.sat_solver.specs.parts.Frame.{Clears}
-use Rattle.sat_solver.specs.joint.Fits.{is_redundant, Fits}
+use Rattle.sat_solver.specs.joint.Fits.{is_redundant, Fits, HaveNames}
 use Rattle.sat_solver.specs.joint.Units.{written_lits, FitsAll}
 use Rattle.sat_solver.proofs.lemmas.joint.UsableLemmas.{reason_usable, conflict_usable}
 use Rattle.sat_solver.proofs.lemmas.joint.FitLemmas.{fact_unsat, all_at}
@@ -126,12 +125,12 @@ module _ (st : State) (global : ℕ → ℕ) where
       go true ih = ih
       go false ih = or_right (eqb l (get_or ls k 0)) (is_among (written_lits st ls) (get_or ls k 0)) ih
 
-module _ (words live : List ℕ) (implied : List (List ℕ)) (st : State) (s : Session) (global : ℕ → ℕ) (fits : Fits words live implied st s global) (agrees : Agrees st) (clauses : AreClauses words live (length st.values)) (turns : AreInTurn words live implied st 0) (bottom : length st.trail.starts ≡ 0) where
+module _ (words live : List ℕ) (implied : List (List ℕ)) (st : State) (s : Session) (global : ℕ → ℕ) (fits : Fits words live implied st s global) (names : HaveNames st.values s global) (agrees : Agrees st) (clauses : AreClauses words live (length st.values)) (turns : AreInTurn words live implied st 0) (bottom : length st.trail.starts ≡ 0) where
   low : (l : ℕ) → IsTrueLit st.values l → level st l ≡ 0
   low l t = (let h : level st l ≤ current_level st = level_low st l agrees t in omega arith)
 
   named_at : (i : ℕ) → i < length st.trail.lits → s.solver_names (global (variable (lit_at st i))) ≡ Some (variable (lit_at st i))
-  named_at i lt = fits.named (variable (lit_at st i)) (below_from_value st.values (variable (lit_at st i)) _ (agrees.holds i lt))
+  named_at i lt = names (lit_at st i) (agrees.holds i lt)
 
   bare_known : (i : ℕ) → i < length st.trail.lits → is_unit (node st (lit_at st i)).reason ≡ true → s.units (with_var global (lit_at st i)) ≡ true
   bare_known i lt u = fits.known (lit_at st i) (inr (record { place = i; within = lt; there = refl; bottom = low (lit_at st i) (agrees.holds i lt); none = u }))
@@ -164,7 +163,6 @@ module _ (words live : List ℕ) (implied : List (List ℕ)) (st : State) (s : S
         fits = record {
           clauses = units_leave s global (solver_clauses (is_redundant words) words live implied) us fits.clauses;
           paired = fits.paired;
-          named = λ v lt. f.names (global v) ∙ fits.named v lt;
           known = λ l u. f.keeps (with_var global l) (fits.known l u);
           sound = f.sound.sound;
           consistent = f.unsat ∙ fits.consistent;
@@ -189,7 +187,6 @@ pub fits_cleared : (words live : List ℕ) (implied : List (List ℕ)) (st st' :
 fits_cleared words live implied st st' s global c h = record {
   clauses = h.fits.clauses;
   paired = h.fits.paired;
-  named = λ v lt. h.fits.named v (subst (λ n. v < n) c.size lt);
   known = λ l u. let x = c.units l u in h.all l x.0 x.1;
   sound = λ l n u. let x = h.fits.sound l n u in c.bottom l x.0 x.1;
   consistent = h.fits.consistent;

@@ -107,6 +107,11 @@ module _ (words live : List ℕ) (implied : List (List ℕ)) (s : Session) (glob
       usable_in (record { redundant = is_redundant words o; literals = lits_at words o })
       (in_behind (record { redundant = is_redundant words o; literals = lits_at words o }) (binaries implied) (longs (is_redundant words) words live) (long_there (is_redundant words) words live o c))
 
+  pub long_named : (o : ℕ) → Contains live o → AreMapped global s.solver_names (lits_at words o)
+  long_named o c =
+      let it : LiveClause = record { redundant = is_redundant words o; literals = lits_at words o } in
+      clauses.named it (in_behind it (binaries implied) (longs (is_redundant words) words live) (long_there (is_redundant words) words live o c))
+
   -- the clause by which a literal of the trail is true
   pub reason_usable : (st : State) (i : ℕ) (r : Reason) → is_unit r ≡ false → Implies words live implied st i r → IsUsable s global (reason_clause words (lit_at st i) r)
   reason_usable st i NoCause u h = absurd (true≢false u)

@@ -1,5 +1,5 @@
 -- A search fits each session that it can't tell from one that it fits, and it sees nothing of a tautology.
-use Rattle.std.proofs.Common.{ℕ, ◌≡◌, ◌∙◌, true, Option, List, [], ◌∷◌, map, sym}
+use Rattle.std.proofs.Common.{inl, inr, ℕ, ◌≡◌, ◌∙◌, true, Option, List, [], ◌∷◌, map, sym}
 use Rattle.sat_base.specs.values.Literals.{variable}
 use Rattle.sat_base.specs.steps.Steps.{Step}
 use Rattle.sat_checker.specs.LiteralSets.{is_tautology}
@@ -12,7 +12,7 @@ use Rattle.sat_solver.specs.declared.search.work.Search.{Search}
 use Rattle.sat_solver.specs.search.Joint.{global_in, IsSearch}
 use Rattle.sat_solver.specs.loading.Alike.{LooksAlike}
 use Rattle.sat_solver.specs.loading.Loaded.{IsAdded}
-use Rattle.sat_solver.proofs.lemmas.loading.LoadingLemmas.{asked_added}
+use Rattle.sat_solver.proofs.lemmas.loading.LoadingLemmas.{asked_added, leaves_added}
 
 mapped_alike : (global : ℕ → ℕ) (f h : ℕ → Option ℕ) (ls : List ℕ) → ((v : ℕ) → h v ≡ f v) → AreMapped global f ls → AreMapped global h ls
 mapped_alike global f h [] same m = m
@@ -31,14 +31,19 @@ search_alike s t c x a =
             counts = λ r set. a.live r set ∙ fits.clauses.counts r set;
           };
           paired = fits.paired;
-          named = λ v lt. a.names (global_in c v) ∙ fits.named v lt;
           known = λ l u. a.units (with_var (global_in c) l) ∙ fits.known l u;
           sound = λ l n u. fits.sound l (sym (a.names (global_in c (variable l))) ∙ n) (sym (a.units (with_var (global_in c) l)) ∙ u);
           consistent = a.unsat ∙ fits.consistent;
           width = a.width ∙ fits.width;
         };
       };
-      ready = record { free = x.ready.free; placed = x.ready.placed; there = x.ready.there; asked = a.assumed ∙ x.ready.asked };
+      ready = record {
+        free = x.ready.free;
+        placed = x.ready.placed;
+        there = x.ready.there;
+        asked = a.assumed ∙ x.ready.asked;
+        used = λ v lt. elim (x.ready.used v lt) [ inl own ↦ inl (a.names (global_in c v) ∙ own) | inr idle ↦ inr idle ];
+      };
     }
 
 -- a clause with both signs of a variable was added
@@ -53,5 +58,9 @@ tautology_loads steps c ls added both =
         placed = x.ready.placed;
         there = x.ready.there;
         asked = asked_added (map (with_var (global_in c)) ls) added.earlier x.stands.fits.consistent ∙ x.ready.asked;
+        used = λ v lt. elim (x.ready.used v lt) [
+          | inl own ↦ inl ((leaves_added (map (with_var (global_in c)) ls) added.earlier x.stands.fits.consistent).names (global_in c v) ∙ own)
+          | inr idle ↦ inr idle
+        ];
       };
     })

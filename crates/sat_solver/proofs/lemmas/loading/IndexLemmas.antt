@@ -1,117 +1,187 @@
--- The next index is a proof variable's.
-use Rattle.std.proofs.Common.{ℕ, suc, ◌+◌, ◌*◌, ◌/◌, ◌%◌, ◌<◌, ◌≡◌, ◌≢◌, ◌∙◌, true, false, Some, List, [], ◌∷◌, ◌++◌, map, length, get_or, refl, sym, ap, arith, inl, inr}
-use Rattle.std.proofs.lemmas.Bool.{cases_lt}
-use Rattle.std.proofs.lemmas.List.{get_or_past, get_or_append_left, length-append, get_or-set_same}
-use Rattle.std.proofs.Math.Seq.{get_or-append_seam}
-use Rattle.sat_base.specs.values.Literals.{variable}
-use Rattle.sat_base.specs.steps.Steps.{SolverVarName}
+-- Indices are taken, one after another.
+use Rattle.std.proofs.Common.{ℕ, zero, suc, ◌≤◌, ◌+◌, ◌*◌, ◌%◌, eqb, drop, ◌≡◌, ◌≢◌, ◌<◌, ◌∙◌, ◌⊎◌, inl, inr, Bool, true, false, Some, None, List, [], ◌∷◌, set, length, get_or, refl, sym, ap, subst, arith, get_or-set_same, length-set}
+use Rattle.std.proofs.lemmas.Bool.{cases_eq}
+use Rattle.std.proofs.lemmas.List.{get_or-set_other}
+use Rattle.std.specs.List.{AllByRecursion}
+use Rattle.sat_base.specs.values.Literals.{coded, variable, is_positive}
 use Rattle.sat_store.specs.heap.Vsids.{may_pick, with_available}
-use Rattle.sat_store.specs.variables.Flags.{GrowsFlags}
-use Rattle.sat_parts.specs.clause.Glue.{AreClear}
+use Rattle.sat_parts.specs.prop.Values.{value_of, IsTrueLit, made_true}
+use Rattle.sat_parts.specs.prop.State.{level}
+use Rattle.sat_parts.proofs.lemmas.prop.StateLemmas.{lit_from_parts}
 use Rattle.sat_solver.specs.declared.parts.Parts.{Parts}
-use Rattle.sat_solver.specs.parts.Frame.{SameClauses, SameState, Grown}
-use Rattle.sat_solver.specs.parts.Whole.{Holds}
-use Rattle.sat_solver.specs.session.Session.{Session, after}
-use Rattle.sat_solver.specs.session.LiveClauses.{with_var}
-use Rattle.sat_solver.specs.joint.Fits.{FitsParts}
-use Rattle.sat_solver.proofs.lemmas.joint.FramedParts.{below_more}
-use Rattle.sat_solver.proofs.lemmas.joint.LearnedLemmas.{fits_undone}
-use Rattle.sat_solver.proofs.lemmas.joint.NamedParts.{below_all, below_next, fits_below}
-use Rattle.sat_solver.specs.declared.search.work.Search.{Search}
-use Rattle.sat_solver.specs.search.Joint.{global_in, IsFree, IsSearch}
-use Rattle.sat_solver.proofs.lemmas.search.TurnLemmas.{free_moved}
-use Rattle.sat_solver.specs.loading.Bottom.{AtBottom}
-use Rattle.sat_solver.specs.loading.Indexed.{IsNameless, IsIndexed}
-use Rattle.sat_solver.proofs.lemmas.loading.LoadingLemmas.{same_carries}
+use Rattle.sat_solver.specs.parts.Whole.{state, Holds}
+use Rattle.sat_solver.specs.parts.Frame.{SameClauses, SameState, Gains, IsUnitLit}
+use Rattle.sat_solver.specs.names.Search.{HasGiven}
+use Rattle.sat_solver.specs.declared.names.indexing.Given.{Given}
+use Rattle.sat_solver.specs.loading.Indices.{GivesLit, IsVacant, TakesIndices, Renames}
 
--- two maps of literals agree where their variables do
-pub mapped_same : (f h : ℕ → ℕ) (ls : List ℕ) → ((k : ℕ) → k < length ls → f (variable (get_or ls k 0)) ≡ h (variable (get_or ls k 0))) → map (with_var f) ls ≡ map (with_var h) ls
-mapped_same f h [] same = refl
-mapped_same f h (l ∷ ls) same =
-    let e : f (l / 2) ≡ h (l / 2) = same 0 (omega arith) in
-    ap (λ v. (2 * v + l % 2) ∷ map (with_var f) ls) e ∙ ap (λ ms. with_var h l ∷ ms) (mapped_same f h ls (λ k lt. same (suc k) (omega arith)))
+pub given_or_not : (gs : List Given) (v : ℕ) → HasGiven gs v ⊎ (HasGiven gs v → ⊥)
+given_or_not [] v = inr (λ x. x)
+given_or_not (g ∷ gs) v = elim (cases_eq g.solver v) [
+  | inl e ↦ inl (inl e)
+  | inr n ↦ elim (given_or_not gs v) [ inl k ↦ inl (inr k) | inr m ↦ inr (λ x. elim x [ inl e ↦ n e | inr k ↦ m k ]) ]
+]
 
-module _ (c c1 c2 : Search) (p3 : Parts) (g : ℕ) (holds : Holds c.parts) (next : length c.globals.items ≡ length c.parts.assignment.current) (holds1 : Holds c1.parts) (grown : Grown c.parts c1.parts (length c.parts.assignment.current + 1)) (assumptions1 : c1.assumptions ≡ c.assumptions)
-    (flags1 : length c1.analysis.flags ≡ length c.parts.assignment.current + 1) (clear1 : AreClear c.analysis.flags → AreClear c1.analysis.flags) (glue1 : GrowsFlags (length c.parts.assignment.current + 1) c.flags.flags.items c1.flags.flags.items) (globals1 : c1.globals.items ≡ c.globals.items ++ g ∷ [])
-    (back : AtBottom c1 c2) (holds3 : Holds p3) (same3 : SameClauses c2.parts p3 × SameState c2.parts p3) (queue3 : p3.vsids ≡ with_available (length c.parts.assignment.current) true c2.parts.vsids) where
-  abbrev n : ℕ
-  n = length c.parts.assignment.current
+pub lit_given : (gs : List Given) (l : ℕ) → GivesLit gs l → HasGiven gs (variable l)
+lit_given [] l h = h
+lit_given (g ∷ gs) l (inl e) = inl e.0
+lit_given (g ∷ gs) l (inr k) = inr (lit_given gs l k)
 
-  abbrev c3 : Search
-  c3 = record c2 { parts = p3 }
+not_given : (gs : List Given) (x v : ℕ) → AllByRecursion (λ h. h.solver ≢ x) gs → x ≡ v → HasGiven gs v → ⊥
+not_given [] x v apart e h = h
+not_given (g ∷ gs) x v apart e (inl f) = apart.0 (f ∙ sym e)
+not_given (g ∷ gs) x v apart e (inr k) = not_given gs x v apart.1 e k
 
-  size2 : length c2.parts.assignment.current ≡ n + 1
-  size2 = back.moved.size ∙ grown.size
+none_other : (g : Given) (v : ℕ) → g.solver ≢ v → HasGiven (g ∷ []) v → ⊥
+none_other g v n (inl e) = n e
+none_other g v n (inr k) = k
 
-  size3 : length p3.assignment.current ≡ n + 1
-  size3 = ap (λ a. length a.current) same3.1.0 ∙ size2
+pub takes_none : (p : Parts) → Holds p → p.trail.starts ≡ [] → TakesIndices [] p p
+takes_none p holds bottom = record {
+  holds = holds;
+  bottom = bottom;
+  same = (refl, refl, refl);
+  size = refl;
+  values = λ v n. refl;
+  picks = λ v n. refl;
+  ready = λ v h none. absurd h;
+  units = λ l u. inl u;
+  kept = λ l t z. (t, z);
+  its = λ l h. absurd h;
+}
 
-  globals3 : c2.globals.items ≡ c.globals.items ++ g ∷ []
-  globals3 = ap (λ v. v.items) back.moved.globals ∙ globals1
+pub takes_cons : (g : Given) (gs : List Given) (p m q : Parts) → AllByRecursion (λ h. h.solver ≢ g.solver) gs → TakesIndices (g ∷ []) p m → TakesIndices gs m q → TakesIndices (g ∷ gs) p q
+takes_cons g gs p m q apart x y = record {
+  holds = y.holds;
+  bottom = y.bottom;
+  same = (y.same.0 ∙ x.same.0, y.same.1 ∙ x.same.1, y.same.2 ∙ x.same.2);
+  size = y.size ∙ x.size;
+  values = λ v out. y.values v (λ k. out (inr k)) ∙ x.values v (λ k. elim k [ inl e ↦ out (inl e) | inr z ↦ z ]);
+  picks = λ v out. y.picks v (λ k. out (inr k)) ∙ x.picks v (λ k. elim k [ inl e ↦ out (inl e) | inr z ↦ z ]);
+  ready = λ v h none. elim h [
+    | inl e ↦
+        let out : HasGiven gs v → ⊥ = not_given gs g.solver v apart e in
+        y.picks v out ∙ x.ready v (inl e) (sym (y.values v out) ∙ none)
+    | inr k ↦ y.ready v k none
+  ];
+  units = λ l u. elim (y.units l u) [
+    | inl o ↦ elim (x.units l o) [ inl w ↦ inl w | inr k ↦ elim k [ inl e ↦ inr (inl e) | inr z ↦ absurd z ] ]
+    | inr k ↦ inr (inr k)
+  ];
+  kept = λ l t z. (let w = x.kept l t z in y.kept l w.0 w.1);
+  its = λ l h. elim h [ inl e ↦ (let w = x.its l (inl e) in y.kept l w.0 w.1) | inr k ↦ y.its l k ];
+}
 
-  globals_size : length c2.globals.items ≡ n + 1
-  globals_size = ap (λ (xs : List ℕ). length xs) globals3 ∙ length-append c.globals.items (g ∷ []) ∙ ap (λ k. k + 1) next
+-- the others are vacant still
+pub vacant_on : (g : Given) (gs : List Given) (p m : Parts) (count : ℕ) → AllByRecursion (λ h. h.solver ≢ g.solver) gs → TakesIndices (g ∷ []) p m → AllByRecursion (IsVacant p count) gs → AllByRecursion (IsVacant m count) gs
+vacant_on g [] p m count apart x h = tt
+vacant_on g (k ∷ ks) p m count apart x h =
+    let out : HasGiven (g ∷ []) k.solver → ⊥ = none_other g k.solver (λ e. apart.0 (sym e)) in
+    (record { below = h.0.below; open_value = x.values k.solver out ∙ h.0.open_value; unpicked = x.picks k.solver out ∙ h.0.unpicked }, vacant_on g ks p m count apart.1 x h.1)
 
-  lits3 : c2.assumptions.lits ≡ c.assumptions.lits
-  lits3 = back.moved.lits ∙ ap (λ a. a.lits) assumptions1
+module _ (p m p' : Parts) (g : Given) (bottom : p.trail.starts ≡ []) (vacant : IsVacant p (length p.assignment.current) g) (same : SameClauses p m × SameState p m) (picks : m.vsids.available ≡ p.vsids.available) (room : length p.vsids.available ≡ length p.assignment.current) (holds : Holds p') where
+  may_before : (v : ℕ) → may_pick m.vsids v ≡ may_pick p.vsids v
+  may_before v = ap (λ (xs : List Bool). get_or xs v false) picks
 
-  ready3 : may_pick p3.vsids n ≡ true
-  ready3 =
-      let room : length c2.parts.vsids.available ≡ length c2.parts.assignment.current = back.holds.below.queue in
-      ap (λ q. may_pick q n) queue3 ∙ get_or-set_same c2.parts.vsids.available n true false (omega (arith, room, size2))
+  same_state : state m ≡ state p
+  same_state = rw (same.1.0, same.1.1, same.1.2) refl
 
-  others : (v : ℕ) → v ≢ n → global_in c v ≡ global_in c3 v
-  others v ne = elim (cases_lt v n) [
-    | inl lt ↦ sym (ap (λ xs. get_or xs v 0) globals3 ∙ get_or_append_left c.globals.items (g ∷ []) 0 v (omega (arith, next)))
-    | inr ge ↦ get_or_past c.globals.items v 0 (omega (arith, next)) ∙ sym (get_or_past c2.globals.items v 0 (omega (arith, globals_size)))
-  ]
+  -- one without a unit
+  pub takes_used : g.unit ≡ None → SameClauses m p' × SameState m p' → p'.vsids ≡ with_available g.solver true m.vsids → TakesIndices (g ∷ []) p p'
+  takes_used none later queue =
+      let same_last : state p' ≡ state p = (rw (later.1.0, later.1.1, later.1.2) refl) ∙ same_state in
+      let values : p'.assignment ≡ p.assignment = later.1.0 ∙ same.1.0 in
+      record {
+        holds = holds;
+        bottom = ap (λ t. t.starts) (later.1.2 ∙ same.1.2) ∙ bottom;
+        same = (later.0.0 ∙ same.0.0, later.0.1 ∙ same.0.1, later.0.2 ∙ same.0.2);
+        size = ap (λ a. length a.current) values;
+        values = λ v out. ap (λ a. value_of a.current v) values;
+        picks = λ v out. ap (λ q. may_pick q v) queue ∙ get_or-set_other m.vsids.available g.solver v true false (λ e. out (inl (sym e))) ∙ may_before v;
+        ready = λ v h n. elim h [
+          | inl e ↦ subst (λ u. may_pick p'.vsids u ≡ true) e (ap (λ q. may_pick q g.solver) queue ∙ get_or-set_same m.vsids.available g.solver true false (omega (arith, ap (λ (xs : List Bool). length xs) picks, room, vacant.below)))
+          | inr z ↦ absurd z
+        ];
+        units = λ l u. inl (subst (λ s. IsUnitLit s l) same_last u);
+        kept = λ l t z. (subst (λ s. IsTrueLit s.values l) (sym same_last) t, subst (λ s. level s l ≡ 0) (sym same_last) z);
+        its = λ l h. elim h [ inl e ↦ absurd (none_some (is_positive l) (sym none ∙ e.1)) | inr z ↦ absurd z ];
+      }
+    where
+      none_some : (b : Bool) → None ≡ Some b → ⊥
+      none_some b e = cc
 
-  own : global_in c3 n ≡ g
-  own = ap (λ xs. get_or xs n 0) globals3 ∙ ap (λ i. get_or (c.globals.items ++ g ∷ []) i 0) (sym next) ∙ get_or-append_seam c.globals.items g [] 0
+  -- one with a unit
+  pub takes_restored : (l : ℕ) → variable l ≡ g.solver → g.unit ≡ Some (is_positive l) → SameClauses m p' → Gains l (state m) (state p') → p'.assignment ≡ made_true l m.assignment → p'.vsids ≡ m.vsids → p'.trail ≡ m.trail → TakesIndices (g ∷ []) p p'
+  takes_restored l var unit clauses gains values queue trail =
+      let its : (k : ℕ) → variable l ≡ variable k → is_positive l ≡ is_positive k → k ≡ l = λ k e b. lit_from_parts k l (sym e) (sym b) in
+      record {
+        holds = holds;
+        bottom = ap (λ t. t.starts) (trail ∙ same.1.2) ∙ bottom;
+        same = (clauses.0 ∙ same.0.0, clauses.1 ∙ same.0.1, clauses.2 ∙ same.0.2);
+        size = gains.size ∙ ap (λ a. length a.current) same.1.0;
+        values = λ v out. ap (λ a. value_of a.current v) values ∙ get_or-set_other m.assignment.current (variable l) v (Some (is_positive l)) None (λ e. out (inl (sym (e ∙ var)))) ∙ ap (λ a. value_of a.current v) same.1.0;
+        picks = λ v out. ap (λ q. may_pick q v) queue ∙ may_before v;
+        ready = λ v h n. elim h [
+          | inl e ↦ absurd (none_some (is_positive l) (sym n ∙ ap (value_of p'.assignment.current) (sym (var ∙ e)) ∙ gains.holds.0))
+          | inr z ↦ absurd z
+        ];
+        units = λ k u. elim (gains.units k u) [
+          | inl o ↦ inl (subst (λ s. IsUnitLit s k) same_state o)
+          | inr e ↦ inr (inl (sym var ∙ ap (λ z. variable z) (sym e), unit ∙ ap (λ z. Some (is_positive z)) (sym e)))
+        ];
+        kept = λ k t z. gains.bottom k (subst (λ s. IsTrueLit s.values k) (sym same_state) t) (subst (λ s. level s k ≡ 0) (sym same_state) z);
+        its = λ k h. elim h [
+          | inl e ↦
+              let b : is_positive l ≡ is_positive k = some_same (is_positive l) (is_positive k) (sym unit ∙ e.1) in
+              subst (λ z. IsTrueLit p'.assignment.current z × (level (state p') z ≡ 0)) (sym (its k (var ∙ e.0) b)) gains.holds
+          | inr z ↦ absurd z
+        ];
+      }
+    where
+      none_some : (b : Bool) → None ≡ Some b → ⊥
+      none_some b e = cc
 
-  module _ (s : Session) (x : IsSearch s c) (nameless : IsNameless s g) where
-    abbrev t : Session
-    t = after (SolverVarName g (Some n)) s
+      some_same : (x y : Bool) → Some x ≡ Some y → x ≡ y
+      some_same x y e = cc
 
-    free1 : IsFree c1
-    free1 =
-        record {
-          names = (let e : length c1.globals.items ≡ n + 1 = sym (ap (λ v. length v.items) back.moved.globals) ∙ globals_size in omega (arith, e, grown.size));
-          size = flags1 ∙ sym grown.size;
-          clear = clear1 x.ready.free.clear;
-          flags_size = omega (arith, glue1.size, grown.size);
-          flags_clear = glue1.clear x.ready.free.flags_clear;
-        }
+-- NAMES OF INDICES
 
-    fits3 : FitsParts p3 t (global_in c3)
-    fits3 =
-        let named = below_next c.parts n s (global_in c) (global_in c3) holds (below_all c.parts s (global_in c) x.stands.fits) (omega arith) others (ap (λ v. s.solver_names v) own ∙ nameless.none)
-        (λ l e. nameless.fresh (with_var (global_in c3) l) ((let half : variable (with_var (global_in c3) l) ≡ global_in c3 (l / 2) = omega arith in half) ∙ ap (λ v. global_in c3 v) e ∙ own)) in
-        let more = below_more c.parts c1.parts (n + 1) (n + 1) t (global_in c3) holds (omega arith) grown (rw own at named) in
-        let fits1 = fits_below c1.parts (n + 1) t (global_in c3) (omega (arith, grown.size)) more in
-        fits_undone c2.parts p3 t (global_in c3) same3.0 (same_carries c2.parts p3 same3.1) (fits_undone c1.parts c2.parts t (global_in c3) back.same back.carries fits1)
+pub renames_none : (globals xs : List ℕ) → Renames [] globals xs xs
+renames_none globals xs = record { size = refl; named = λ v h. absurd h; others = λ v n. refl }
 
-    small : (k : ℕ) → k < length c.assumptions.lits.items → variable (get_or c.assumptions.lits.items k 0) < n
-    small = x.ready.there
+pub renames_cons : (g : Given) (gs : List Given) (globals xs ys : List ℕ) → g.solver < length xs → AllByRecursion (λ h. h.solver ≢ g.solver) gs → Renames gs globals (set xs g.solver (get_or globals g.solver 0)) ys → Renames (g ∷ gs) globals xs ys
+renames_cons g gs globals xs ys lt apart r = record {
+  size = r.size ∙ length-set xs g.solver (get_or globals g.solver 0);
+  named = λ v h. elim h [
+    | inl e ↦
+        r.others v (not_given gs g.solver v apart e) ∙ subst (λ u. get_or (set xs g.solver (get_or globals g.solver 0)) u 0 ≡ get_or globals u 0) e (get_or-set_same xs g.solver (get_or globals g.solver 0) 0 lt)
+    | inr k ↦ r.named v k
+  ];
+  others = λ v out. r.others v (λ k. out (inr k)) ∙ get_or-set_other xs g.solver v (get_or globals g.solver 0) 0 (λ e. out (inl (sym e)));
+}
 
-    search3 : IsSearch t c3
-    search3 = record {
-      stands = record { holds = holds3; fits = fits3 };
-      ready = record {
-        free = free_moved c2 c3 (back.free free1) (record { globals = refl; lits = refl; size = ap (λ a. length a.current) same3.1.0 }) refl refl;
-        placed = rw (same3.1.0, same3.1.1, same3.1.2) back.placed;
-        there = rw (lits3, size3) (λ k lt. (let z : variable (get_or c.assumptions.lits.items k 0) < n = small k lt in omega arith));
-        asked = rw lits3 (x.ready.asked ∙ mapped_same (global_in c) (global_in c3) c.assumptions.lits.items (λ k lt. others (variable (get_or c.assumptions.lits.items k 0)) (λ e. (let z : variable (get_or c.assumptions.lits.items k 0) < n = small k lt in omega (arith, e)))));
-      };
-    }
+-- LITERALS OF A VARIABLE
 
-  pub indexed : IsIndexed g c c3
-  indexed = record {
-    globals = globals3;
-    size = size3;
-    ready = ready3;
-    lits = lits3;
-    bottom = rw same3.1.2 back.bottom;
-    holds = holds3;
-    search = λ s x nameless. search3 s x nameless;
-  }
+pub coded_variable : (v : ℕ) (b : Bool) → variable (coded v b) ≡ v
+coded_variable v true = omega arith
+coded_variable v false = omega arith
+
+pub coded_sign : (v : ℕ) (b : Bool) → is_positive (coded v b) ≡ b
+coded_sign v true = (let e : (2 * v + 0) % 2 ≡ 0 = omega arith in ap (λ r. eqb r 0) e)
+coded_sign v false = (let e : (2 * v + 1) % 2 ≡ 1 = omega arith in ap (λ r. eqb r 0) e)
+
+-- THE REST OF A LIST
+
+pub drop_next : (gs : List Given) (i : ℕ) (g : Given) → i < length gs → get_or gs i g ≡ g → drop i gs ≡ g ∷ drop (i + 1) gs
+drop_next [] i g lt e = absurd (omega arith)
+drop_next (h ∷ hs) zero g lt e = ap (λ x. x ∷ hs) e
+drop_next (h ∷ hs) (suc i) g lt e = drop_next hs i g (omega arith) e ∙ ap (λ n. g ∷ drop n (h ∷ hs)) (let q : suc (i + 1) ≡ suc i + 1 = omega arith in q)
+
+pub drop_end : (gs : List Given) (i : ℕ) → length gs ≤ i → drop i gs ≡ []
+drop_end [] zero le = refl
+drop_end [] (suc i) le = refl
+drop_end (h ∷ hs) zero le = absurd (omega arith)
+drop_end (h ∷ hs) (suc i) le = drop_end hs i (omega arith)
+
+pub set_size : (xs : List ℕ) (i x : ℕ) → length (set xs i x) ≡ length xs
+set_size xs i x = length-set xs i x

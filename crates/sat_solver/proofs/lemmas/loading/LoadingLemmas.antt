@@ -1,5 +1,5 @@
 -- A clause is loaded.
-use Rattle.std.proofs.Common.{ℕ, ◌≡◌, ◌<◌, ◌≤◌, ◌*◌, ◌^◌, ◌∙◌, Err, Bool, true, false, cond, List, [], ◌∷◌, map, length, get_or, refl, sym, ap, subst, arith}
+use Rattle.std.proofs.Common.{ℕ, ◌≡◌, ◌<◌, ◌≤◌, ◌*◌, ◌^◌, ◌∙◌, Err, Bool, true, false, cond, List, [], ◌∷◌, map, length, get_or, refl, sym, ap, subst, arith, ◌⊎◌, inl, inr, None, Some, zero, suc, eqb}
 use Rattle.sat_base.specs.values.Literals.{variable}
 use Rattle.sat_base.specs.steps.Steps.{Step, AddClause, AtClause, DeleteClause, Satisfied as True}
 use Rattle.sat_base.specs.device.Device.{Writer}
@@ -14,7 +14,7 @@ use Rattle.sat_parts.specs.prop.State.{Agrees}
 use Rattle.sat_solver.specs.declared.parts.Parts.{Parts}
 use Rattle.sat_solver.specs.declared.parts.load.Loaded.{Loaded}
 use Rattle.sat_solver.specs.declared.parts.load.Loaded.TheVariants.{Stored, Unit as One, Satisfied, Falsified}
-use Rattle.sat_solver.specs.parts.Frame.{SameClauses, SameState, Carries, Stores, stores_binary, stores_long}
+use Rattle.sat_solver.specs.parts.Frame.{SameClauses, SameState, Carries, Stores, stores_binary, stores_long, IsUnitLit}
 use Rattle.sat_solver.specs.parts.Loadable.{false_last}
 use Rattle.sat_solver.specs.parts.Loading.{LoadSays}
 use Rattle.sat_solver.specs.parts.Whole.{state, Holds}
@@ -29,16 +29,33 @@ use Rattle.sat_solver.proofs.lemmas.joint.LearnedLemmas.{fits_undone}
 use Rattle.sat_solver.proofs.lemmas.joint.LoadedParts.{fits_loaded}
 use Rattle.sat_solver.specs.declared.search.work.Search.{Search}
 use Rattle.sat_solver.specs.declared.search.work.Scratch.{Scratch}
-use Rattle.sat_solver.specs.search.Joint.{global_in, IsSearch, Moved}
-use Rattle.sat_solver.proofs.lemmas.search.AskedLemmas.{asked_after}
-use Rattle.sat_solver.proofs.lemmas.search.TurnLemmas.{ready_moved, free_moved, moved_trans}
+use Rattle.sat_solver.specs.search.Joint.{global_in, IsSearch, Moved, Leaves, AreUsed, assumed_in}
+use Rattle.sat_solver.proofs.lemmas.search.AskedLemmas.{asked_after, leaves_after}
+use Rattle.sat_solver.proofs.lemmas.search.TurnLemmas.{free_moved, moved_trans}
 use Rattle.sat_solver.specs.loading.Bottom.{AtBottom}
 use Rattle.sat_solver.specs.loading.Loaded.{MayLoad, IsAdded, IsLoaded}
+use Rattle.sat_checker.specs.LiteralSets.{mentions}
+use Rattle.sat_store.specs.heap.Vsids.{may_pick}
+use Rattle.std.proofs.lemmas.Bool.{or_left, or_right, eq-eqb, cases_Bool, true≢false}
+use Rattle.sat_parts.specs.prop.Values.{value_of, IsTrueLit}
+use Rattle.sat_solver.specs.parts.Words.{IsIdle}
+use Rattle.sat_solver.proofs.lemmas.parts.ValueLemmas.{open_or_true}
+use Rattle.sat_solver.proofs.lemmas.joint.FramedParts.{bottom_unit}
+use Rattle.sat_solver.proofs.lemmas.joint.AddedLemmas.{unit_true}
+use Rattle.sat_solver.proofs.lemmas.loading.BottomLemmas.{mention_named}
 
 -- what is assumed stays so as a clause is added
 pub asked_added : (ks : List ℕ) (earlier : List Step) → (session_after earlier).unsat ≡ false → (session_after (AddClause ks ∷ earlier)).assumed ≡ (session_after earlier).assumed
 asked_added ks earlier consistent =
     ap (λ b. (cond b (session_after earlier) (with_clause false ks (knowing_literals ks (session_after earlier)))).assumed) consistent ∙ asked_after (AtClause false ks [] ∷ []) earlier (refl, tt)
+
+-- and the solver names
+pub leaves_added : (ks : List ℕ) (earlier : List Step) → (session_after earlier).unsat ≡ false → Leaves (session_after earlier) (session_after (AddClause ks ∷ earlier))
+leaves_added ks earlier consistent = record {
+  assumed = asked_added ks earlier consistent;
+  names = λ v.
+      ap (λ b. (cond b (session_after earlier) (with_clause false ks (knowing_literals ks (session_after earlier)))).solver_names v) consistent ∙ (leaves_after (AtClause false ks [] ∷ []) earlier (refl, tt)).names v;
+}
 
 pub same_carries : (p p' : Parts) → SameState p p' → Carries (state p) (state p')
 same_carries p p' x = rw (x.0, x.1, x.2) (carries_refl (state p))
@@ -53,12 +70,31 @@ says_size One p p' ls says = says.3.size
 says_size Satisfied p p' ls says = says.1.size
 says_size Falsified p p' ls says = says.3.size
 
+-- no unit is new, but for the clause's first literal
+stored_units : (p p' : Parts) (ls : List ℕ) → Stores p p' ls → (l : ℕ) → IsUnitLit (state p') l → IsUnitLit (state p) l
+stored_units p p' ls (stores_binary two a b c carries) l u = carries.units l u
+stored_units p p' ls (stores_long three o adds b carries) l u = carries.units l u
+
+says_units : (r : Loaded) (p p' : Parts) (ls : List ℕ) → LoadSays r p p' ls → (l : ℕ) → IsUnitLit (state p') l → IsUnitLit (state p) l ⊎ ((0 < length ls) × (l ≡ get_or ls 0 0))
+says_units Stored p p' ls says l u = inl (stored_units p p' ls says l u)
+says_units One p p' ls says l u = elim (says.3.units l u) [ inl o ↦ inl o | inr e ↦ inr (omega (arith, says.0), e) ]
+says_units Satisfied p p' ls says l u = inl (says.1.units l u)
+says_units Falsified p p' ls says l u = inl (says.3.units l u)
+
 -- different literals of these variables are few
 pub few_lits : (c : Search) (ls : List ℕ) → Holds c.parts → MayLoad c ls → length ls < 2 ^ 32
 few_lits c ls holds may =
     let n : length ls ≤ 2 * length c.parts.assignment.current = fits_below ls (2 * length c.parts.assignment.current) may.differ may.below in
     let a : Agrees (state c.parts) = holds.below.asks.agrees in
     omega (arith, n, a.room, a.trail.small)
+
+mentions_at : (ls : List ℕ) (k : ℕ) → k < length ls → mentions ls (variable (get_or ls k 0)) ≡ true
+mentions_at [] k lt = absurd (omega arith)
+mentions_at (l ∷ ls) zero lt = or_left (eqb (variable l) (variable l)) (mentions ls (variable l)) (eq-eqb (variable l) (variable l) refl)
+mentions_at (l ∷ ls) (suc k) lt = or_right (eqb (variable l) (variable (get_or ls k 0))) (mentions ls (variable (get_or ls k 0))) (mentions_at ls k (omega arith))
+
+leaves_both : (s t u : Session) → Leaves s t → Leaves t u → Leaves s u
+leaves_both s t u x y = record { assumed = y.assumed ∙ x.assumed; names = λ v. y.names v ∙ x.names v }
 
 -- nothing was written, and then the clause buffer refused
 pub goes_unstored : {A W : Type 0} (seen : W → Writer) (e : StoreError) (p : Proof W) (P : A → List Step → Type 0) → Keeps p → Goes seen (Err (failure_of e)) p p P
@@ -72,13 +108,13 @@ loaded_scratch s c c' x h =
     record {
       goes_on = record {
         stands = h.goes_on.stands;
-        ready = record { free = free_moved c' (record c' { scratch = x }) r.free (record { globals = refl; lits = refl; size = refl }) refl refl; placed = r.placed; there = r.there; asked = r.asked };
+        ready = record { free = free_moved c' (record c' { scratch = x }) r.free (record { globals = refl; lits = refl; size = refl }) refl refl; placed = r.placed; there = r.there; asked = r.asked; used = r.used };
       };
       moved = record { globals = h.moved.globals; lits = h.moved.lits; size = h.moved.size };
       bottom = h.bottom;
     }
 
-module _ (c : Search) (ls : List ℕ) (steps : List Step) (added : IsAdded steps c ls) (may : MayLoad c ls) (p1 : Parts) (holds1 : Holds p1) (ready : SameClauses c.parts p1 × SameState c.parts p1) (p2 : Parts) (c' : Search) (back : AtBottom (record c { parts = p2 }) c') where
+module _ (c : Search) (ls : List ℕ) (steps : List Step) (added : IsAdded steps c ls) (may : MayLoad c ls) (p1 : Parts) (holds1 : Holds p1) (ready : SameClauses c.parts p1 × SameState c.parts p1) (others : (v : ℕ) → mentions ls v ≡ false → may_pick p1.vsids v ≡ may_pick c.parts.vsids v) (p2 : Parts) (holds2 : Holds p2) (kept : (p2.vsids ≡ p1.vsids) × (p2.trail.starts ≡ [])) (c' : Search) (back : AtBottom (record c { parts = p2 }) c') where
   abbrev s : Session
   s = session_after added.earlier
 
@@ -96,21 +132,60 @@ module _ (c : Search) (ls : List ℕ) (steps : List Step) (added : IsAdded steps
 
   fits2 : (r : Loaded) → LoadSays r p1 p2 ms → LoadFits r p2 s (global_in c) ls ms
   fits2 r says =
-      fits_loaded p1 p2 s (global_in c) holds1 fits1 (rw ready.1.2 may.bottom) ls ms (shuffled_last p1.assignment.current ls) may.differ (rw same_values may.below) may.plain r says
+      fits_loaded p1 p2 s (global_in c) holds1 fits1 (rw ready.1.2 may.bottom) ls ms (shuffled_last p1.assignment.current ls) may.differ (rw same_values may.below) may.plain added.named r says
 
   moved2 : (r : Loaded) → LoadSays r p1 p2 ms → Moved c c2
   moved2 r says = record { globals = refl; lits = refl; size = says_size r p1 p2 ms says ∙ ap (λ a. length a.current) same_values }
 
-  whole : (r : Loaded) → LoadSays r p1 p2 ms → (t : Session) → t.assumed ≡ s.assumed → FitsParts p2 t (global_in c) → IsSearch t c'
-  whole r says t asked fits =
-      let m : Moved c c2 = moved2 r says in
+  none_some : {A : Type 0} (x : A) → None ≡ Some x → ⊥
+  none_some x e = cc
+
+  -- what was idle and isn't of the clause stays so
+  idle2 : (r : Loaded) → LoadSays r p1 p2 ms → (v : ℕ) → mentions ls v ≡ false → IsIdle (assumed_in c) (state c.parts) c.parts.vsids v → IsIdle (assumed_in c) (state p2) p2.vsids v
+  idle2 r says v out idle = (
+    elim (open_or_true p2.assignment.current v) [
+      | inl none ↦ none
+      | inr x ↦ absurd (elim (says_units r p1 p2 ms says x.0 (bottom_unit p2 x.0 holds2 kept.1 x.1.1)) [
+        | inl u ↦
+            let t : IsTrueLit p1.assignment.current x.0 = (unit_true (state p1) x.0 holds1.below.asks.agrees u).0 in
+            none_some _ (sym idle.0 ∙ ap (λ a. value_of a.current v) (sym same_values) ∙ ap (value_of p1.assignment.current) (sym x.1.0) ∙ t)
+        | inr y ↦
+            let order = shuffled_last p1.assignment.current ls in
+            let j = order.back 0 (omega (arith, y.0, order.size)) in
+            true≢false (sym (mentions_at ls j.0 j.1.0) ∙ ap (λ l. mentions ls (variable l)) (j.1.1 ∙ sym y.1) ∙ ap (mentions ls) x.1.0 ∙ out)
+      ])
+    ],
+    ap (λ q. may_pick q v) kept.0 ∙ others v out ∙ idle.1,
+    idle.2,
+  )
+
+  used2 : (r : Loaded) → LoadSays r p1 p2 ms → (t : Session) → Leaves s t → AreUsed t c'
+  used2 r says t leaves v lt =
+      let m : Moved c c' = moved_trans c c2 c' (moved2 r says) back.moved in
+      elim (added.search.ready.used v (subst (λ n. v < n) m.size lt)) [
+        | inl own ↦ inl (rw m.globals (leaves.names (global_in c v) ∙ own))
+        | inr idle ↦ elim (cases_Bool (mentions ls v)) [
+          | inl i ↦ inl (rw m.globals (leaves.names (global_in c v) ∙ mention_named (global_in c) s.solver_names ls v added.named i))
+          | inr out ↦ inr (rw m.lits ((back.stay (assumed_in c)).idle v (idle2 r says v out idle)))
+        ]
+      ]
+
+  whole : (r : Loaded) → LoadSays r p1 p2 ms → (t : Session) → Leaves s t → FitsParts p2 t (global_in c) → IsSearch t c'
+  whole r says t leaves fits =
+      let m : Moved c c' = moved_trans c c2 c' (moved2 r says) back.moved in
       record {
         stands = record { holds = back.holds; fits = rw back.moved.globals (fits_undone p2 c'.parts t (global_in c) back.same back.carries fits) };
-        ready = ready_moved s t c c' added.search.ready asked (moved_trans c c2 c' m back.moved) back.placed (back.free (free_moved c c2 added.search.ready.free m refl refl));
+        ready = record {
+          free = back.free (free_moved c c2 added.search.ready.free (moved2 r says) refl refl);
+          placed = back.placed;
+          there = rw (m.lits, m.size) added.search.ready.there;
+          asked = rw (m.lits, m.globals) (leaves.assumed ∙ added.search.ready.asked);
+          used = used2 r says t leaves;
+        };
       }
 
-  asked : (session_after steps).assumed ≡ s.assumed
-  asked = rw added.added (asked_added (map (with_var (global_in c)) ls) added.earlier added.search.stands.fits.consistent)
+  asked : Leaves s (session_after steps)
+  asked = rw added.added (leaves_added (map (with_var (global_in c)) ls) added.earlier added.search.stands.fits.consistent)
 
   now : session_after steps ≡ after (AddClause (map (with_var (global_in c)) ls)) s
   now = ap (λ ss. session_after ss) added.added
@@ -143,7 +218,7 @@ module _ (c : Search) (ls : List ℕ) (steps : List Step) (added : IsAdded steps
 
   pub loaded_deleted : LoadSays Satisfied p1 p2 ms → 2 ≤ length ms → IsLoaded true (session_after (DeleteClause (map (with_var (global_in c)) ms) True ∷ steps)) c c'
   loaded_deleted says two = record {
-    goes_on = whole Satisfied says (session_after (DeleteClause (map (with_var (global_in c)) ms) True ∷ steps)) (asked_after (DeleteClause (map (with_var (global_in c)) ms) True ∷ []) steps (refl, tt) ∙ asked) (rw now ((fits2 Satisfied says).1 two).1);
+    goes_on = whole Satisfied says (session_after (DeleteClause (map (with_var (global_in c)) ms) True ∷ steps)) (leaves_both s (session_after steps) (session_after (DeleteClause (map (with_var (global_in c)) ms) True ∷ steps)) asked (leaves_after (DeleteClause (map (with_var (global_in c)) ms) True ∷ []) steps (refl, tt))) (rw now ((fits2 Satisfied says).1 two).1);
     moved = moved_trans c c2 c' (moved2 Satisfied says) back.moved;
     bottom = back.bottom;
   }

@@ -82,11 +82,11 @@ without_there o p (x ∷ xs) n c = elim (cases_eq x o) [
       ])
 ]
 
--- a clause that isn't the reason of its first literal is deleted
-pub sound_deleted : (words words' : List ℕ) (db db' : Db) (w w' : Watching) (b : Binaries) (a : Values) (g : List ImplNode) (t : Trailed) (q : Queue) (o : ℕ) →
-    IsSound words db w b a g t q → DeletesClause words db words' db' o → w' ≡ record w { enabled = false } → (IsAsserting words a.current g o → ⊥) → IsSound words' db' w' b a g t q
-sound_deleted words words' db db' w w' b a g t q o h x to_w free =
-    let s : State = state_of a g t in
+-- a clause is deleted that is no reason of the trail
+pub sound_without : (words words' : List ℕ) (db db' : Db) (w w' : Watching) (b : Binaries) (a : Values) (g : List ImplNode) (t : Trailed) (q : Queue) (o : ℕ) →
+    IsSound words db w b a g t q → DeletesClause words db words' db' o → w' ≡ record w { enabled = false } → ((i p : ℕ) → i < length t.lits → (node (state_of a g t) (lit_at (state_of a g t) i)).reason ≡ Long p → p ≢ o) →
+    IsSound words' db' w' b a g t q
+sound_without words words' db db' w w' b a g t q o h x to_w free =
     let y : IsSoundBelow words db w b a g t q (length t.starts + 1) = h.below in
     let refs : db'.refs ≡ db.refs = x.refs in
     let lits : (p : ℕ) → Contains db.refs p → lits_at words' p ≡ lits_at words p = λ p c. elim (cases_eq p o) [
@@ -96,13 +96,21 @@ sound_deleted words words' db db' w w' b a g t q o h x to_w free =
     let back : LeavesClauses words db.refs words' db'.refs = λ p c.
     let d : Contains (live_refs words db.refs) p = (in_without o p (live_refs words db.refs) (subst (λ (xs : List ℕ). Contains xs p) x.live c)).0 in
     (d, lits p (live_in words db.refs p d)) in
+    sound_fewer words words' db db' w w' b a g t q h x.holds back
+    (λ i p lt e. subst (λ (xs : List ℕ). Contains xs p) (sym x.live) (without_there o p (live_refs words db.refs) (free i p lt e) (y.asks.firsts i p lt e).0))
+    (ap (λ (z : Watching). length z.lists) to_w) (λ on. absurd (true≢false (sym on ∙ ap (λ (z : Watching). z.enabled) to_w)))
+
+-- a clause that isn't the reason of its first literal is deleted
+pub sound_deleted : (words words' : List ℕ) (db db' : Db) (w w' : Watching) (b : Binaries) (a : Values) (g : List ImplNode) (t : Trailed) (q : Queue) (o : ℕ) →
+    IsSound words db w b a g t q → DeletesClause words db words' db' o → w' ≡ record w { enabled = false } → (IsAsserting words a.current g o → ⊥) → IsSound words' db' w' b a g t q
+sound_deleted words words' db db' w w' b a g t q o h x to_w free =
+    let s : State = state_of a g t in
+    let y : IsSoundBelow words db w b a g t q (length t.starts + 1) = h.below in
     let asserted : (i p : ℕ) → i < length t.lits → (node s (lit_at s i)).reason ≡ Long p → p ≢ o = λ i p lt e q.
     let f : Contains (live_refs words db.refs) p × (lit_of words p 0 ≡ lit_at s i) = y.asks.firsts i p lt e in
     let first : lit_of words o 0 ≡ lit_at s i = ap (λ z. lit_of words z 0) (sym q) ∙ f.1 in
     free (subst (λ l. IsTrueLit a.current l) (sym first) (y.asks.agrees.holds i lt), ap (λ l. (node s l).reason) first ∙ e ∙ ap (λ z. Long z) q) in
-    sound_fewer words words' db db' w w' b a g t q h x.holds back
-    (λ i p lt e. subst (λ (xs : List ℕ). Contains xs p) (sym x.live) (without_there o p (live_refs words db.refs) (asserted i p lt e) (y.asks.firsts i p lt e).0))
-    (ap (λ (z : Watching). length z.lists) to_w) (λ on. absurd (true≢false (sym on ∙ ap (λ (z : Watching). z.enabled) to_w)))
+    sound_without words words' db db' w w' b a g t q o h x to_w asserted
 
 -- reasons after a collection
 false_collected : (words : List ℕ) (db : Db) (s : State) (words' : List ℕ) (db' : Db) (nodes' : List ImplNode) (i m : ℕ) → Collects words db s.nodes s.trail.lits words' db' nodes' →

@@ -40,7 +40,7 @@ use Rattle.sat_solver.specs.declared.parts.Parts.{Parts}
 use Rattle.sat_solver.specs.parts.Whole.{state}
 use Rattle.sat_solver.specs.parts.Round.{IsUnused, IsSoundBelow}
 use Rattle.sat_solver.specs.parts.Units.{removed}
-use Rattle.sat_solver.specs.parts.Words.{Begins, standing, IsGone, GoesOn, IsWord, WordExtends, WordRises, Words, Stay, Extends, Rises, ExtendsFor, RisesFor}
+use Rattle.sat_solver.specs.parts.Words.{Begins, standing, IsIdle, IsGone, GoesOn, IsWord, WordExtends, WordRises, Words, Stay, Extends, Rises, ExtendsFor, RisesFor}
 use Rattle.sat_solver.proofs.lemmas.parts.ValueLemmas.{open_or_true, not_true}
 use Rattle.sat_solver.proofs.lemmas.parts.ClearLemmas.{all_removed, apart_removed}
 
@@ -191,50 +191,55 @@ word_fits am s q w h x =
     count_of (suc k) = ap (λ n. suc n) (count_of k)
 
 -- what is gone goes on where a literal of another variable becomes true, which may be picked
-pub gone_enqueued : (am : List ℕ) → (s : State) (q : Queue) (l : ℕ) (r : Reason) → IsOpenLit s.values l → (may_pick q (variable l) ≡ true) ⊎ Contains am (variable l) → GoesOn am s q (enqueued l r s) q
-gone_enqueued am s q l r unset picks = (
-  length-set s.values (variable l) (Some (is_positive l)),
-  λ v x. elim x.1 [
-    | inl y ↦ (
+module _ (am : List ℕ) (s : State) (q : Queue) (l : ℕ) (r : Reason) (unset : IsOpenLit s.values l) (picks : (may_pick q (variable l) ≡ true) ⊎ Contains am (variable l)) where
+  idle_enqueued : (v : ℕ) → IsIdle am s q v → IsIdle am (enqueued l r s) q v
+  idle_enqueued v y =
+      let other : v ≢ variable l = λ e. elim picks [
+        | inl p ↦ true≢false (sym (ap (λ u. may_pick q u) e ∙ p) ∙ y.1)
+        | inr c ↦ y.2 (subst (λ u. Contains am u) (sym e) c)
+      ] in
+      (get_or-set_other s.values (variable l) v (Some (is_positive l)) None other ∙ y.0, y.1, y.2)
+
+  pub gone_enqueued : GoesOn am s q (enqueued l r s) q
+  gone_enqueued = record {
+    size = length-set s.values (variable l) (Some (is_positive l));
+    gone = λ v x. (
       omega (arith, x.0, length-set s.values (variable l) (Some (is_positive l))),
-      inl (
-        y.0,
-        (
-          y.1.0,
-          record {
-            holds = true_kept s l y.0 r unset y.1.1.holds;
-            depth = ap (λ (z : ImplNode). z.depth) (node_kept s l y.0 r unset y.1.1.holds) ∙ y.1.1.depth;
-            bottom = ap (λ (z : ImplNode). z.level) (node_kept s l y.0 r unset y.1.1.holds) ∙ y.1.1.bottom;
-          },
-        ),
-      ),
-    )
-    | inr y ↦
-        let other : v ≢ variable l = λ e. elim picks [
-          | inl p ↦ true≢false (sym (ap (λ u. may_pick q u) e ∙ p) ∙ y.1)
-          | inr c ↦ y.2 (subst (λ u. Contains am u) (sym e) c)
-        ] in (
-          omega (arith, x.0, length-set s.values (variable l) (Some (is_positive l))),
-          inr (get_or-set_other s.values (variable l) v (Some (is_positive l)) None other ∙ y.0, y.1, y.2),
+      elim x.1 [
+        | inl y ↦ inl (
+          y.0,
+          (
+            y.1.0,
+            record {
+              holds = true_kept s l y.0 r unset y.1.1.holds;
+              depth = ap (λ (z : ImplNode). z.depth) (node_kept s l y.0 r unset y.1.1.holds) ∙ y.1.1.depth;
+              bottom = ap (λ (z : ImplNode). z.level) (node_kept s l y.0 r unset y.1.1.holds) ∙ y.1.1.bottom;
+            },
+          ),
         )
-  ],
-)
+        | inr y ↦ inr (idle_enqueued v y)
+      ],
+    );
+    idle = idle_enqueued;
+  }
 
 -- the same where the variable was picked
 pub gone_decided : (am : List ℕ) → (s : State) (q q' : Queue) (l : ℕ) → IsOpenLit s.values l → (may_pick q (variable l) ≡ true) ⊎ Contains am (variable l) → ((u : ℕ) → may_pick q u ≡ false → may_pick q' u ≡ false) → GoesOn am s q (decided_on l s) q'
 gone_decided am s q q' l unset picks less =
-    let f = gone_enqueued am (record s { trail = with_level s.trail }) q l NoCause unset picks in (
-      f.0,
-      λ v x.
-          let y : IsGone am (decided_on l s) q v = f.1 v (
+    let f : GoesOn am (record s { trail = with_level s.trail }) q (decided_on l s) q = gone_enqueued am (record s { trail = with_level s.trail }) q l NoCause unset picks in
+    record {
+      size = f.size;
+      gone = λ v x.
+          let y : IsGone am (decided_on l s) q v = f.gone v (
             x.0,
             elim x.1 [
               | inl z ↦ inl (z.0, (z.1.0, record { holds = z.1.1.holds; depth = z.1.1.depth; bottom = z.1.1.bottom }))
               | inr z ↦ inr z
             ],
           ) in
-          (y.0, elim y.1 [ inl z ↦ inl z | inr z ↦ inr (z.0, less v z.1, z.2) ]),
-    )
+          (y.0, elim y.1 [ inl z ↦ inl z | inr z ↦ inr (z.0, less v z.1, z.2) ]);
+      idle = λ v x. (let z : IsIdle am (decided_on l s) q v = f.idle v x in (z.0, less v z.1, z.2));
+    }
 
 -- a variable that no clause has isn't made true by a clause
 implied_used : (words live : List ℕ) (implied : List (List ℕ)) (s : State) (i : ℕ) (r : Reason) → is_unit r ≡ false → ((o : ℕ) → Contains live o → 3 ≤ size_of words o) → Implies words live implied s i r →
@@ -258,23 +263,17 @@ unused_moved words words' refs implied v kept e u = record {
 pub gone_moved : (am : List ℕ) → (words words' : List ℕ) (db : Db) (w w' : Watching) (b : Binaries) (a a' : Values) (g g' : List ImplNode) (t t' : Trailed) (q : Queue) (top top' : ℕ) →
     IsSoundBelow words db w b a g t q top → IsSoundBelow words' db w' b a' g' t' q top' → Moves (live_refs words db.refs) b.implied words (state_of a g t) words' (state_of a' g' t') →
     live_refs words' db.refs ≡ live_refs words db.refs → GoesOn am (state_of a g t) q (state_of a' g' t') q
-gone_moved am words words' db w w' b a a' g g' t t' q top top' h h' m e = (
-  m.grows.size,
-  λ v x. elim x.1 [
-    | inl y ↦ (omega (arith, x.0, m.grows.size), inl (y.0, (y.1.0, removed_forth s s' y.0 m.grows y.1.1)))
-    | inr y ↦ (
-      omega (arith, x.0, m.grows.size),
-      inr (
-        elim (open_or_true a'.current v) [
-          | inl none ↦ none
-          | inr z ↦ absurd (found v x.0 y.0 y.1 z.0 z.1.0 z.1.1)
-        ],
-        y.1,
-        y.2,
-      ),
-    )
-  ],
-)
+gone_moved am words words' db w w' b a a' g g' t t' q top top' h h' m e = record {
+  size = m.grows.size;
+  gone = λ v x. (
+    omega (arith, x.0, m.grows.size),
+    elim x.1 [
+      | inl y ↦ inl (y.0, (y.1.0, removed_forth s s' y.0 m.grows y.1.1))
+      | inr y ↦ inr (idle v y)
+    ],
+  );
+  idle = idle;
+}
   where
     s : State
     s = state_of a g t
@@ -298,6 +297,18 @@ gone_moved am words words' db w w' b a a' g g' t t' q top top' h h' m e = (
       | inr r ↦ not_true a.current v l none at (m.grows.removed l r).holds
     ]
 
+    idle : (v : ℕ) → IsIdle am (state_of a g t) q v → IsIdle am (state_of a' g' t') q v
+    idle v y = (
+      elim (open_or_true a'.current v) [
+        | inl none ↦ none
+        | inr z ↦
+            let there : variable z.0 < length a'.current = below_from_value a'.current (variable z.0) (is_positive z.0) z.1.1 in
+            absurd (found v (subst (λ n. v < n) m.grows.size (subst (λ u. u < length a'.current) z.1.0 there)) y.0 y.1 z.0 z.1.0 z.1.1)
+      ],
+      y.1,
+      y.2,
+    )
+
 available_other : (ls : List ℕ) (q : Queue) (v : ℕ) → ((k : ℕ) → k < length ls → variable (get_or ls k 0) ≢ v) → may_pick (all_available ls q) v ≡ may_pick q v
 available_other [] q v h = refl
 available_other (l ∷ ls) q v h =
@@ -306,50 +317,56 @@ available_other (l ∷ ls) q v h =
 -- where levels are undone
 pub gone_undone : (am : List ℕ) → (top : ℕ) (a : Values) (g : List ImplNode) (t : Trailed) (q : Queue) → Agrees (state_of a g t) → top < length t.starts →
     GoesOn am (state_of a g t) q (state_of (undone_to top t a) g (cut_to top t)) (all_available (undone_lits top t) q)
-gone_undone am top a g t q h lt = (
-  undone_length (undone_lits top t) a,
-  λ v x.
-      let k : KeepsLow top (state_of a g t) (state_of (undone_to top t a) g (cut_to top t)) = keeps_low top a g t h lt in
-      elim x.1 [
-        | inl y ↦ (omega (arith, x.0, undone_length (undone_lits top t) a), inl (y.0, (y.1.0, k.removed_kept y.0 y.1.1)))
-        | inr y ↦ (
-          omega (arith, x.0, undone_length (undone_lits top t) a),
-          inr (
-            elim (open_or_true (undone_to top t a).current v) [
-              | inl none ↦ none
-              | inr z ↦ absurd (not_true a.current v z.0 y.0 z.1.0 (k.true_kept z.0 z.1.1))
-            ],
-            available_other (undone_lits top t) q v (λ i b e.
-                let at : get_or (drop (get_or t.starts top 0) t.lits) i 0 ≡ get_or t.lits (get_or t.starts top 0 + i) 0 = get_or-drop (get_or t.starts top 0) t.lits i 0 in
-                let size : length (drop (get_or t.starts top 0) t.lits) ≡ length t.lits - get_or t.starts top 0 = length-drop (get_or t.starts top 0) t.lits in
-                not_true a.current v (get_or t.lits (get_or t.starts top 0 + i) 0) y.0 (ap (λ l. variable l) (sym at) ∙ e) (h.holds (get_or t.starts top 0 + i) (omega arith)))
-                ∙ y.1,
-            y.2,
-          ),
-        )
+gone_undone am top a g t q h lt = record {
+  size = undone_length (undone_lits top t) a;
+  gone = λ v x. (
+    omega (arith, x.0, undone_length (undone_lits top t) a),
+    elim x.1 [
+      | inl y ↦ inl (y.0, (y.1.0, k.removed_kept y.0 y.1.1))
+      | inr y ↦ inr (idle v y)
+    ],
+  );
+  idle = idle;
+}
+  where
+    k : KeepsLow top (state_of a g t) (state_of (undone_to top t a) g (cut_to top t))
+    k = keeps_low top a g t h lt
+
+    idle : (v : ℕ) → IsIdle am (state_of a g t) q v → IsIdle am (state_of (undone_to top t a) g (cut_to top t)) (all_available (undone_lits top t) q) v
+    idle v y = (
+      elim (open_or_true (undone_to top t a).current v) [
+        | inl none ↦ none
+        | inr z ↦ absurd (not_true a.current v z.0 y.0 z.1.0 (k.true_kept z.0 z.1.1))
       ],
-)
+      available_other (undone_lits top t) q v (λ i b e.
+          let at : get_or (drop (get_or t.starts top 0) t.lits) i 0 ≡ get_or t.lits (get_or t.starts top 0 + i) 0 = get_or-drop (get_or t.starts top 0) t.lits i 0 in
+          let size : length (drop (get_or t.starts top 0) t.lits) ≡ length t.lits - get_or t.starts top 0 = length-drop (get_or t.starts top 0) t.lits in
+          not_true a.current v (get_or t.lits (get_or t.starts top 0 + i) 0) y.0 (ap (λ l. variable l) (sym at) ∙ e) (h.holds (get_or t.starts top 0 + i) (omega arith)))
+          ∙ y.1,
+      y.2,
+    )
 
 -- where units are taken off the trail
 gone_cleared : (am : List ℕ) → (a : Values) (g : List ImplNode) (t : Trailed) (q : Queue) → Agrees (state_of a g t) → GoesOn am (state_of a g t) q (state_of a (removed t.lits g) (with_cleared t)) q
-gone_cleared am a g t q h = (
-  refl,
-  λ v x. (
+gone_cleared am a g t q h = record {
+  size = refl;
+  gone = λ v x. (
     x.0,
     elim x.1 [
       | inl y ↦ inl (y.0, (y.1.0, all_removed a g t y.0 h y.1.1.holds))
       | inr y ↦ inr y
     ],
-  ),
-)
+  );
+  idle = λ v y. y;
+}
 
 pub word_goes : (am : List ℕ) → (s : State) (q : Queue) (s' : State) (q' : Queue) → GoesOn am s q s' q' → Begins (standing s.trail) (standing s'.trail) → WordExtends am s q s' q'
 word_goes am s q s' q' stay more = (
-  stay.0,
+  stay,
   λ w x. (
     replicate (length x.gone) P ++ standing s'.trail,
     (
-      record { gone = x.gone; distinct = x.distinct; each = λ k b. stay.1 (get_or x.gone k 0) (x.each k b); is = refl },
+      record { gone = x.gone; distinct = x.distinct; each = λ k b. stay.gone (get_or x.gone k 0) (x.each k b); is = refl },
       subst (λ (u : List Letter). Begins u (replicate (length x.gone) P ++ standing s'.trail)) (sym x.is) (begins_behind (length x.gone) (standing s.trail) (standing s'.trail) more),
     ),
   ),
@@ -357,11 +374,11 @@ word_goes am s q s' q' stay more = (
 
 pub word_rises : (am : List ℕ) → (s : State) (q : Queue) (s' : State) (q' : Queue) → GoesOn am s q s' q' → IsBelow (standing s.trail) (standing s'.trail) → WordRises am s q s' q'
 word_rises am s q s' q' stay more = (
-  stay.0,
+  stay,
   λ w x. (
     replicate (length x.gone) P ++ standing s'.trail,
     (
-      record { gone = x.gone; distinct = x.distinct; each = λ k b. stay.1 (get_or x.gone k 0) (x.each k b); is = refl },
+      record { gone = x.gone; distinct = x.distinct; each = λ k b. stay.gone (get_or x.gone k 0) (x.each k b); is = refl },
       subst (λ (u : List Letter). IsBelow u (replicate (length x.gone) P ++ standing s'.trail)) (sym x.is) (below_behind (length x.gone) (standing s.trail) (standing s'.trail) more),
     ),
   ),
@@ -379,7 +396,7 @@ replicate_sum (suc m) n = ap (λ k. replicate k P) (let e : suc m + n ≡ suc (m
 pub word_cleared : (am : List ℕ) → (a : Values) (g : List ImplNode) (t : Trailed) (q : Queue) → Agrees (state_of a g t) → t.starts ≡ [] →
     WordExtends am (state_of a g t) q (state_of a (removed t.lits g) (with_cleared t)) q
 word_cleared am a g t q h e = (
-  refl,
+  gone_cleared am a g t q h,
   λ w x.
       let s : State = state_of a g t in
       let s' : State = state_of a (removed t.lits g) (with_cleared t) in
@@ -395,7 +412,7 @@ word_cleared am a g t q h e = (
                 inl (get_or t.lits k 0, (refl, all_removed a g t (get_or t.lits k 0) h (h.holds k lt))),
               )
               | inr ge ↦ subst (λ z. IsGone am (state_of a (removed t.lits g) (with_cleared t)) q z) (sym (taken_back (state_of a g t) x.gone k 0 ge))
-                  ((gone_cleared am a g t q h).1 (get_or x.gone (k - length t.lits) 0) (x.each (k - length t.lits) (omega arith)))
+                  ((gone_cleared am a g t q h).gone (get_or x.gone (k - length t.lits) 0) (x.each (k - length t.lits) (omega arith)))
             ];
             is = x.is ∙ ap (λ (xs : List ℕ). replicate (length x.gone) P ++ letters xs t.lits 0) e ∙ ap (λ (u : List Letter). replicate (length x.gone) P ++ u) (all_pushed t.lits 0)
                 ∙ sym (replicate_sum (length x.gone) (length t.lits)) ∙ ap (λ k. replicate k P) (let d : length x.gone + length t.lits ≡ length (taken (state_of a g t) x.gone) = omega arith in d)
@@ -410,12 +427,18 @@ word_cleared am a g t q h e = (
 pub word_begins : (am : List ℕ) (p : Parts) → Words am p (standing p.trail)
 word_begins am p = record { gone = []; distinct = λ i j a b e. absurd (omega arith); each = λ k b. absurd (omega arith); is = refl }
 
+pub goes_refl : (am : List ℕ) → (s : State) (q : Queue) → GoesOn am s q s q
+goes_refl am s q = record { size = refl; gone = λ v x. x; idle = λ v x. x }
+
+pub goes_trans : (am : List ℕ) → (s : State) (q : Queue) (s' : State) (q' : Queue) (s'' : State) (q'' : Queue) → GoesOn am s q s' q' → GoesOn am s' q' s'' q'' → GoesOn am s q s'' q''
+goes_trans am s q s' q' s'' q'' x y = record { size = y.size ∙ x.size; gone = λ v z. y.gone v (x.gone v z); idle = λ v z. y.idle v (x.idle v z) }
+
 pub extends_refl : (p : Parts) → Extends p p
-extends_refl p am = (refl, λ w x. (w, (x, begins_refl w)))
+extends_refl p am = (goes_refl am (state p) p.vsids, λ w x. (w, (x, begins_refl w)))
 
 pub extends_after : (am : List ℕ) (p q r : Parts) → ExtendsFor am p q → ExtendsFor am q r → ExtendsFor am p r
 extends_after am p q r x y = (
-  y.0 ∙ x.0,
+  goes_trans am (state p) p.vsids (state q) q.vsids (state r) r.vsids x.0 y.0,
   λ w h.
       let a = x.1 w h in
       let b = y.1 a.0 a.1.0 in
@@ -428,7 +451,7 @@ extends_trans p q r x y am = extends_after am p q r (x am) (y am)
 -- parts whose word is extended before it rises
 pub rises_after : (am : List ℕ) (p q r : Parts) → ExtendsFor am p q → RisesFor am q r → RisesFor am p r
 rises_after am p q r x y = (
-  y.0 ∙ x.0,
+  goes_trans am (state p) p.vsids (state q) q.vsids (state r) r.vsids x.0 y.0,
   λ w h.
       let a = x.1 w h in
       let b = y.1 a.0 a.1.0 in
@@ -438,16 +461,14 @@ rises_after am p q r x y = (
 pub rises_from : (p q r : Parts) → Extends p q → Rises q r → Rises p r
 rises_from p q r x y am = rises_after am p q r (x am) (y am)
 
-pub goes_refl : (am : List ℕ) → (s : State) (q : Queue) → GoesOn am s q s q
-goes_refl am s q = (refl, λ v x. x)
-
-pub goes_trans : (am : List ℕ) → (s : State) (q : Queue) (s' : State) (q' : Queue) (s'' : State) (q'' : Queue) → GoesOn am s q s' q' → GoesOn am s' q' s'' q'' → GoesOn am s q s'' q''
-goes_trans am s q s' q' s'' q'' x y = (y.0 ∙ x.0, λ v z. y.1 v (x.1 v z))
-
 -- fewer variables may be picked
 pub extends_fewer : (am : List ℕ) → (s : State) (q q' : Queue) → ((u : ℕ) → may_pick q u ≡ false → may_pick q' u ≡ false) → WordExtends am s q s q'
 extends_fewer am s q q' less =
-    word_goes am s q s q' (refl, λ v x. (x.0, elim x.1 [ inl y ↦ inl y | inr y ↦ inr (y.0, less v y.1, y.2) ])) (begins_refl (standing s.trail))
+    word_goes am s q s q' (record {
+      size = refl;
+      gone = λ v x. (x.0, elim x.1 [ inl y ↦ inl y | inr y ↦ inr (y.0, less v y.1, y.2) ]);
+      idle = λ v y. (y.0, less v y.1, y.2);
+    }) (begins_refl (standing s.trail))
 
 pub extends_decided : (am : List ℕ) → (s : State) (q q' : Queue) (l : ℕ) → IsOpenLit s.values l → (may_pick q (variable l) ≡ true) ⊎ Contains am (variable l) → ((u : ℕ) → may_pick q u ≡ false → may_pick q' u ≡ false) → IsLevelled s → WordExtends am s q (decided_on l s) q'
 extends_decided am s q q' l unset picks less levels = word_goes am s q (decided_on l s) q' (gone_decided am s q q' l unset picks less) (standing_decided s l levels)
@@ -471,16 +492,17 @@ pub extends_collect : (am : List ℕ) → (words words' : List ℕ) (db db' : Db
 extends_collect am words words' db db' w w' a g g' t q (Ok x) due not_due same = elim (cases_lt (length words / 2) db.garbage) [
   | inl lt ↦
       let c : Collects words db g t.lits words' db' g' = due lt in
-      word_goes am (state_of a g t) q (state_of a g' t) q (
-        refl,
-        λ v z. (
+      word_goes am (state_of a g t) q (state_of a g' t) q (record {
+        size = refl;
+        gone = λ v z. (
           z.0,
           elim z.1 [
             | inl y ↦ inl (y.0, (y.1.0, record { holds = y.1.1.holds; depth = c.depths (variable y.0) ∙ y.1.1.depth; bottom = c.levels (variable y.0) ∙ y.1.1.bottom }))
             | inr y ↦ inr y
           ],
-        ),
-      ) (begins_refl (standing t))
+        );
+        idle = λ v y. y;
+      }) (begins_refl (standing t))
   | inr le ↦ (let y = not_due le in rw y.2 (extends_fewer am (state_of a g t) q q (λ u e. e)))
 ]
 extends_collect am words words' db db' w w' a g g' t q (Err x) due not_due same = rw same.2 (extends_fewer am (state_of a g t) q q (λ u e. e))
@@ -498,21 +520,17 @@ rises_taken p u n l top undone stay cut last levelled lt am =
 
 -- some word, where only what is gone is known to stay
 pub word_some : (am : List ℕ) → (s : State) (q : Queue) (s' : State) (q' : Queue) → GoesOn am s q s' q' → (w : List Letter) → IsWord am s q w → (v : List Letter) × IsWord am s' q' v
-word_some am s q s' q' stay w x = (replicate (length x.gone) P ++ standing s'.trail, record { gone = x.gone; distinct = x.distinct; each = λ k b. stay.1 (get_or x.gone k 0) (x.each k b); is = refl })
+word_some am s q s' q' stay w x = (replicate (length x.gone) P ++ standing s'.trail, record { gone = x.gone; distinct = x.distinct; each = λ k b. stay.gone (get_or x.gone k 0) (x.each k b); is = refl })
 
 -- a variable that isn't assumed is given up
 pub gone_freed : (am : List ℕ) (a : Values) (g : List ImplNode) (t : Trailed) (q : Queue) (u : ℕ) → u < length q.available → length q.available ≡ length a.current → (Contains am u → ⊥) →
     GoesOn am (state_of a g t) q (state_of (assigned u None a) g t) (with_available u false q)
-gone_freed am a g t q u there same free = (
-  length-set a.current u None,
-  λ v x. (
+gone_freed am a g t q u there same free = record {
+  size = length-set a.current u None;
+  gone = λ v x. (
     omega (arith, x.0, length-set a.current u None),
     elim (cases_eq v u) [
-      | inl e ↦ inr (
-        ap (λ z. value_of (set a.current u None) z) e ∙ get_or-set_same a.current u None None (omega arith),
-        ap (λ z. may_pick (with_available u false q) z) e ∙ get_or-set_same q.available u false false there,
-        λ c. free (subst (λ z. Contains am z) e c),
-      )
+      | inl e ↦ inr (its v e)
       | inr n ↦ elim x.1 [
         | inl y ↦ inl (
           y.0,
@@ -525,11 +543,22 @@ gone_freed am a g t q u there same free = (
             },
           ),
         )
-        | inr y ↦ inr (get_or-set_other a.current u v None None n ∙ y.0, get_or-set_other q.available u v false false n ∙ y.1, y.2)
+        | inr y ↦ inr (others v n y)
       ]
     ],
-  ),
-)
+  );
+  idle = λ v y. elim (cases_eq v u) [ inl e ↦ its v e | inr n ↦ others v n y ];
+}
+  where
+    its : (v : ℕ) → v ≡ u → IsIdle am (state_of (assigned u None a) g t) (with_available u false q) v
+    its v e = (
+      ap (λ z. value_of (set a.current u None) z) e ∙ get_or-set_same a.current u None None (omega arith),
+      ap (λ z. may_pick (with_available u false q) z) e ∙ get_or-set_same q.available u false false there,
+      λ c. free (subst (λ z. Contains am z) e c),
+    )
+
+    others : (v : ℕ) → v ≢ u → IsIdle am (state_of a g t) q v → IsIdle am (state_of (assigned u None a) g t) (with_available u false q) v
+    others v n y = (get_or-set_other a.current u v None None n ∙ y.0, get_or-set_other q.available u v false false n ∙ y.1, y.2)
 
 pub propagated_extends : (words words' : List ℕ) (db : Db) (w w' : Watching) (b : Binaries) (a a' : Values) (g g' : List ImplNode) (t t' : Trailed) (q : Queue) (r : Result (Unit {0}) Conflict) →
     IsSoundBelow words db w b a g t q (length t.starts + 1) → Gives db.refs b.implied words (state_of a g t) words' (state_of a' g' t') w' r →

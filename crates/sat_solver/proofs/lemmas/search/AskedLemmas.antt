@@ -6,6 +6,7 @@ use Rattle.sat_base.specs.steps.Steps.{Step, SolverVarName, UserVarName, DeleteV
 use Rattle.sat_checker.specs.LiteralSets.{is_tautology, canonical}
 use Rattle.sat_solver.specs.session.Session.{Session, with_fact, with_facts, with_sorted, with_clause, knowing_literals, after, session_after}
 use Rattle.sat_solver.specs.search.Going.{is_searched, AreSearched, IsSearched}
+use Rattle.sat_solver.specs.search.Joint.{Leaves}
 
 -- THEIR KINDS
 
@@ -91,3 +92,10 @@ names_after steps earlier names h = (all steps earlier (kinds_of names steps h))
 -- and so are those behind steps that were written
 pub names_behind : (steps later earlier : List Step) (names : ℕ → Option ℕ) → later ≡ steps ++ earlier → AreSearched names steps → (session_after later).solver_names ≡ (session_after earlier).solver_names
 names_behind steps later earlier names written h = ap (λ ss. (session_after ss).solver_names) written ∙ names_after steps earlier names h
+
+-- so is what is assumed
+pub leaves_after : (steps earlier : List Step) → AllByRecursion (λ step. is_searched step ≡ true) steps → Leaves (session_after earlier) (session_after (steps ++ earlier))
+leaves_after steps earlier h = let k = all steps earlier h in record { assumed = k.asked; names = λ v. ap (λ f. f v) k.names }
+
+pub names_added : (ks : List ℕ) (s : Session) → (with_clause false ks (knowing_literals ks s)).solver_names ≡ s.solver_names
+names_added ks s = (clause false ks (knowing_literals ks s)).names

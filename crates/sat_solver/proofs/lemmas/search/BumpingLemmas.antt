@@ -1,5 +1,5 @@
 -- Raised activities leave what is searched.
-use Rattle.std.proofs.Common.{ℕ, zero, suc, ◌+◌, ◌<◌, ◌≤◌, ◌≡◌, ◌∙◌, List, [], ◌∷◌, ◌++◌, length, drop, get_or, refl, sym, ap, subst, arith}
+use Rattle.std.proofs.Common.{ℕ, zero, suc, ◌+◌, ◌<◌, ◌≤◌, ◌≡◌, List, [], ◌∷◌, ◌++◌, length, drop, get_or, refl, sym, ap, subst, arith}
 use Rattle.std.proofs.lemmas.List.{at_drop_more}
 use Rattle.sat_store.specs.heap.Vsids.{Queue, bumped}
 use Rattle.sat_base.specs.steps.Steps.{Step}
@@ -17,7 +17,8 @@ use Rattle.sat_solver.specs.search.Joint.{global_in, IsSearch}
 use Rattle.sat_solver.specs.search.Learning.{Learned}
 use Rattle.sat_solver.specs.search.Left.{SameSize}
 use Rattle.sat_solver.proofs.lemmas.search.ReducingLemmas.{still, still_moved}
-use Rattle.sat_solver.proofs.lemmas.search.TurnLemmas.{moved_trans}
+use Rattle.sat_solver.proofs.lemmas.search.TurnLemmas.{moved_trans, leaves_refl}
+use Rattle.sat_solver.proofs.lemmas.parts.WordSteps.{goes_trans}
 
 same_state : (p p' : Parts) → SameState p p' → state p' ≡ state p
 same_state p p' x = rw (x.0, x.1, x.2) refl
@@ -27,7 +28,7 @@ pub bumped_same : (s : Session) (c c' : Search) → IsSearch s c → c'.globals 
 bumped_same s c c' search globals assumptions analysis flags holds clauses states word =
     let size : SameSize c.parts c'.parts = ap (λ a. length a.current) states.0 in
     record {
-      search = still s s c c' search globals assumptions analysis flags refl holds (fits_undone c.parts c'.parts s (global_in c) clauses (carries_same c.parts c'.parts states) search.stands.fits) size (rw (same_state c.parts c'.parts states) search.ready.placed);
+      search = still s s c c' search globals assumptions analysis flags (leaves_refl s) holds (fits_undone c.parts c'.parts s (global_in c) clauses (carries_same c.parts c'.parts states) search.stands.fits) size word (rw (same_state c.parts c'.parts states) search.ready.placed);
       moved = still_moved s s c c' search globals assumptions analysis flags size;
       word = word;
     }
@@ -44,7 +45,7 @@ below_more (P ∷ u) (P ∷ v) z h = below_more u v z h
 
 rises_on : (p q r : Parts) → Rises p q → Extends q r → Rises p r
 rises_on p q r x y = λ am. (
-  (y am).0 ∙ (x am).0,
+  goes_trans am (state p) p.vsids (state q) q.vsids (state r) r.vsids (x am).0 (y am).0,
   λ w h. let v = (x am).1 w h in let u = (y am).1 v.0 v.1.0 in (u.0, (u.1.0, subst (λ z. IsBelow w z) (sym u.1.1.1) (below_more w v.0 u.1.1.0 v.1.1))),
 )
 

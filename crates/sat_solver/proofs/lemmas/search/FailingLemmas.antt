@@ -13,7 +13,6 @@ use Rattle.sat_parts.proofs.lemmas.clause.ListLemmas.{place_in, at_place}
 use Rattle.sat_parts.proofs.lemmas.prop.RoomLemmas.{below_from_value}
 use Rattle.sat_solver.specs.session.LiveClauses.{with_var}
 use Rattle.sat_solver.specs.session.ProofView.{Adds, Keeps, Records, session_of}
-use Rattle.sat_solver.specs.session.Session.{session_after}
 use Rattle.sat_solver.specs.declared.session.proof.Proof.{Proof}
 use Rattle.sat_solver.specs.declared.session.proof.ProofError.{ProofError}
 use Rattle.sat_solver.specs.declared.session.proof.ProofError.TheVariants.{Write}
@@ -29,9 +28,10 @@ use Rattle.sat_solver.specs.declared.error.SolverError.TheVariants as errors
 use Rattle.sat_solver.specs.declared.search.work.Search.{Search}
 use Rattle.sat_solver.specs.search.Failing.{causes_hashes, AreFailed, TellsCore}
 use Rattle.sat_solver.specs.search.Going.{fault_of}
-use Rattle.sat_solver.specs.search.Joint.{global_in, IsFree, IsSearch, Moved}
+use Rattle.sat_solver.specs.search.Joint.{global_in, IsFree, IsSearch, Moved, assumed_in}
 use Rattle.sat_solver.specs.search.Turns.{IsFailing}
 use Rattle.sat_solver.proofs.lemmas.search.TurnLemmas.{ready_moved}
+use Rattle.sat_solver.proofs.lemmas.parts.WordSteps.{goes_refl}
 
 pub parts_can : (p : Parts) → Holds p → 0 < length p.trail.starts → CanAnalyze p.clauses (state p)
 parts_can p h above =
@@ -122,7 +122,7 @@ module _ {W : Type 0} (seen : W → Writer) (a b : Proof W) (c c' : Search) wher
           holds = rw parts search.stands.holds;
           fits = rw (parts, globals, adds.history) (parts_rests c.parts (session_of a) (global_in c) search.stands.fits (FailedAssumptions core hashes) tt);
         };
-        ready = ready_moved (session_of a) (session_of b) c c' search.ready (ap (λ ss. (session_after ss).assumed) adds.history) moved (rw (parts, assumptions) search.ready.placed) free;
+        ready = ready_moved (session_of a) (session_of b) c c' search.ready (rw adds.history (record { assumed = refl; names = λ v. refl })) moved (rw parts (goes_refl (assumed_in c) (state c.parts) c.parts.vsids)) (rw (parts, assumptions) search.ready.placed) free;
       };
       moved = moved;
       same = parts;

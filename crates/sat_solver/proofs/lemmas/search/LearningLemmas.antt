@@ -1,19 +1,19 @@
 -- A clause that was learned, written and taken in.
-use Rattle.std.proofs.Common.{ℕ, ◌<◌, ◌≡◌, ◌∙◌, Bool, true, List, [], ◌∷◌, length, map, get_or, refl, sym, ap, subst}
+use Rattle.std.proofs.Common.{ℕ, ◌<◌, ◌≡◌, ◌∙◌, Bool, true, List, [], ◌∷◌, length, map, get_or, refl, sym, ap, subst, Some}
 use Rattle.sat_base.specs.steps.Steps.{Step, AtClause}
 use Rattle.sat_store.specs.clause.Header.{Header}
 use Rattle.sat_parts.specs.declared.prop.graph.Conflict.{Conflict}
 use Rattle.sat_parts.specs.prop.Causes.{falsified}
 use Rattle.sat_parts.specs.clause.Db.{live_refs}
 use Rattle.sat_solver.specs.session.Session.{MayDerive, after, session_after}
-use Rattle.sat_solver.specs.session.LiveClauses.{with_var}
+use Rattle.sat_solver.specs.session.LiveClauses.{with_var, AreMapped}
 use Rattle.sat_solver.specs.analysis.Work.{Work}
 use Rattle.sat_solver.specs.analysis.Derivation.{Learns}
 use Rattle.sat_solver.specs.declared.parts.Parts.{Parts}
 use Rattle.sat_solver.specs.parts.Whole.{state, Holds, IsRefuted}
 use Rattle.sat_solver.specs.parts.Words.{Rises}
 use Rattle.sat_solver.specs.joint.Laws.{named_hashes}
-use Rattle.sat_solver.specs.joint.Fits.{FitsParts, FlagFits, Stands}
+use Rattle.sat_solver.specs.joint.Fits.{FitsParts, FlagFits, Stands, HaveNames}
 use Rattle.sat_solver.specs.joint.Learning.{TakesIn}
 use Rattle.sat_solver.proofs.lemmas.joint.MayLemmas.{learned_may}
 use Rattle.sat_solver.proofs.lemmas.joint.AdvanceLemmas.{learned_clause_advances}
@@ -25,14 +25,22 @@ use Rattle.sat_solver.specs.parts.Learned.{IsPending}
 use Rattle.sat_solver.proofs.lemmas.parts.KeepLemmas.{keeps_enqueued}
 use Rattle.sat_solver.specs.declared.search.work.Search.{Search}
 use Rattle.sat_solver.specs.search.Going.{is_searched}
-use Rattle.sat_solver.specs.search.Joint.{global_in, IsFree, IsReady, Moved}
+use Rattle.sat_solver.specs.search.Joint.{global_in, IsFree, IsReady, Moved, assumed_in}
 use Rattle.sat_solver.specs.search.Left.{SameSize}
 use Rattle.sat_solver.specs.search.Learning.{LastAdvances, Learned}
-use Rattle.sat_solver.proofs.lemmas.search.AskedLemmas.{asked_after}
+use Rattle.sat_solver.proofs.lemmas.search.AskedLemmas.{leaves_after}
 use Rattle.sat_solver.proofs.lemmas.search.TurnLemmas.{ready_moved}
+use Rattle.sat_base.specs.values.Literals.{variable, negated}
+use Rattle.sat_solver.proofs.lemmas.joint.FitLemmas.{all_at}
+use Rattle.sat_parts.proofs.lemmas.prop.StateLemmas.{negated_variable, true_from_false}
 
-module _ (p : Parts) (e : Conflict) (w : Work) (back : ℕ) (steps : List Step) (global : ℕ → ℕ) (refuted : IsRefuted p e) (above : 0 < length p.trail.starts) (fits : FitsParts p (session_after steps) global)
+module _ (p : Parts) (e : Conflict) (w : Work) (back : ℕ) (steps : List Step) (global : ℕ → ℕ) (refuted : IsRefuted p e) (above : 0 < length p.trail.starts) (fits : FitsParts p (session_after steps) global) (names : HaveNames p.assignment.current (session_after steps) global)
     (learns : Learns p.clauses (state p) (falsified p.clauses e) w back) where
+  clause_named : AreMapped global (session_after steps).solver_names w.clause
+  clause_named = all_at (λ l. (session_after steps).solver_names (global (variable l)) ≡ Some (variable l)) w.clause (λ k lt.
+      let l : ℕ = get_or w.clause k 0 in
+      subst (λ v. (session_after steps).solver_names (global v) ≡ Some v) (negated_variable l) (names (negated l) (true_from_false p.assignment.current l (learns.asserting.fails k lt))))
+
   -- its step may be written
   pub learned_allowed : (clause hashes : List ℕ) → clause ≡ map (with_var global) w.clause → hashes ≡ named_hashes p.clauses (state p) w.used e → MayDerive (session_after steps) clause hashes
   learned_allowed clause hashes c h =
@@ -44,7 +52,7 @@ module _ (p : Parts) (e : Conflict) (w : Work) (back : ℕ) (steps : List Step) 
       new ≡ AtClause flag clause hashes ∷ steps → Holds q → TakesIn p q header w.clause → Stands q (session_after new) global
   learned_stands q header clause hashes flag new c flags added holds takes = record {
     holds = holds;
-    fits = subst (λ t. FitsParts q t global) (sym (ap session_after added ∙ ap (λ ls. after (AtClause flag ls hashes) (session_after steps)) c)) (takes (session_after steps) global hashes flag flags fits);
+    fits = subst (λ t. FitsParts q t global) (sym (ap session_after added ∙ ap (λ ls. after (AtClause flag ls hashes) (session_after steps)) c)) (takes (session_after steps) global hashes flag flags clause_named fits);
   }
 
   pub learned_last : (clause hashes : List ℕ) (flag : Bool) → clause ≡ map (with_var global) w.clause → LastAdvances steps (AtClause flag clause hashes ∷ [])
@@ -54,7 +62,7 @@ module _ (p : Parts) (e : Conflict) (w : Work) (back : ℕ) (steps : List Step) 
     hashes = hashes;
     rest = [];
     is = refl;
-    advances = rw c (learned_clause_advances p e w back (session_after steps) global refuted fits learns);
+    advances = rw c (learned_clause_advances p e w back (session_after steps) global refuted fits names learns);
   }
 
 -- what became of all
@@ -63,7 +71,7 @@ pub learned_whole : (steps new : List Step) (step : Step) (c c' : Search) → Is
 learned_whole steps new step c c' ready s added stands rises size last globals lits placed free =
     let moved : Moved c c' = record { globals = globals; lits = lits; size = size } in
     record {
-      search = record { stands = rw globals stands; ready = ready_moved (session_after steps) (session_after new) c c' ready (ap (λ ss. (session_after ss).assumed) added ∙ asked_after (step ∷ []) steps (s, tt)) moved placed free };
+      search = record { stands = rw globals stands; ready = ready_moved (session_after steps) (session_after new) c c' ready (rw added (leaves_after (step ∷ []) steps (s, tt))) moved (rises (assumed_in c)).0 placed free };
       moved = moved;
       rises = rises;
       last = last;

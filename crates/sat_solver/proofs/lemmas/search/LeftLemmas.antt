@@ -12,7 +12,7 @@ use Rattle.sat_solver.specs.parts.Words.{Extends}
 use Rattle.sat_solver.proofs.lemmas.parts.WordSteps.{extends_refl}
 use Rattle.sat_solver.specs.session.Session.{Session, after}
 use Rattle.sat_solver.specs.acceptance.TrailUnits.{written_units}
-use Rattle.sat_solver.specs.joint.Fits.{FitsParts}
+use Rattle.sat_solver.specs.joint.Fits.{FitsParts, HaveNames}
 use Rattle.sat_solver.specs.joint.Units.{FitsAll}
 use Rattle.sat_solver.specs.joint.Going.{IsOrderly}
 use Rattle.sat_solver.proofs.lemmas.joint.StepLemmas.{starts_none}
@@ -29,7 +29,6 @@ fits_quiet words live implied p s global h = record {
   fits = record {
     clauses = record { named = h.fits.clauses.named; once = h.fits.clauses.once; counts = h.fits.clauses.counts };
     paired = h.fits.paired;
-    named = h.fits.named;
     known = h.fits.known;
     sound = h.fits.sound;
     consistent = h.fits.consistent;
@@ -38,9 +37,9 @@ fits_quiet words live implied p s global h = record {
   all = h.all;
 }
 
-module _ (p : Parts) (s : Session) (global : ℕ → ℕ) (orderly : IsOrderly p) (bottom : length p.trail.starts ≡ 0) (fits : FitsParts p s global) where
+module _ (p : Parts) (s : Session) (global : ℕ → ℕ) (orderly : IsOrderly p) (bottom : length p.trail.starts ≡ 0) (fits : FitsParts p s global) (names : HaveNames p.assignment.current s global) where
   pub units_step : AllUnits p (after (UnitClauses (written_units p.clauses (state p) 64 global p.trail.lits)) s) global
-  units_step = units_written p.clauses (live_refs p.clauses p.db.refs) p.binary.implied (state p) s global fits orderly.agrees orderly.clauses orderly.turns bottom
+  units_step = units_written p.clauses (live_refs p.clauses p.db.refs) p.binary.implied (state p) s global fits names orderly.agrees orderly.clauses orderly.turns bottom
 
   pub units_none : written_units p.clauses (state p) 64 global p.trail.lits ≡ [] → AllUnits p s global
   units_none none =

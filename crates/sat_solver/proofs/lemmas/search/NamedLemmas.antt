@@ -1,11 +1,12 @@
 -- Steps of a search are over variables that have solver names.
-use Rattle.std.proofs.Common.{ℕ, suc, ◌-◌, ◌/◌, ◌^◌, ◌<◌, ◌≡◌, ◌∙◌, Bool, true, false, cond, Option, Some, List, [], ◌∷◌, length, map, get_or, ap, arith}
-use Rattle.sat_base.specs.values.Literals.{variable}
+use Rattle.std.proofs.Common.{ℕ, suc, ◌-◌, ◌/◌, ◌^◌, ◌<◌, ◌≡◌, ◌∙◌, Bool, true, false, cond, Option, Some, List, [], ◌∷◌, length, map, get_or, ap, subst, arith}
+use Rattle.sat_base.specs.values.Literals.{variable, negated}
 use Rattle.sat_base.specs.values.Hashes.{hash_of}
 use Rattle.sat_parts.specs.declared.prop.graph.Conflict.{Conflict}
 use Rattle.sat_parts.specs.prop.Causes.{falsified}
 use Rattle.sat_parts.specs.prop.Graphs.{is_unit}
 use Rattle.sat_parts.specs.prop.State.{State, node}
+use Rattle.sat_parts.proofs.lemmas.prop.StateLemmas.{negated_variable, true_from_false}
 use Rattle.sat_solver.specs.session.LiveClauses.{with_var}
 use Rattle.sat_solver.specs.session.Session.{Session}
 use Rattle.sat_solver.specs.acceptance.TrailEntries.{reason_clause}
@@ -14,9 +15,8 @@ use Rattle.sat_solver.specs.analysis.Work.{Work}
 use Rattle.sat_solver.specs.analysis.Derivation.{Learns}
 use Rattle.sat_solver.specs.declared.parts.Parts.{Parts}
 use Rattle.sat_solver.specs.parts.Whole.{state}
-use Rattle.sat_solver.specs.joint.Fits.{FitsParts}
+use Rattle.sat_solver.specs.joint.Fits.{HaveNames}
 use Rattle.sat_solver.specs.joint.Going.{IsOrderly}
-use Rattle.sat_solver.proofs.lemmas.joint.StepLemmas.{clause_below, orderly_below}
 use Rattle.sat_solver.specs.search.Going.{AreNamed}
 
 module _ (names : ℕ → Option ℕ) (global : ℕ → ℕ) where
@@ -39,13 +39,16 @@ module _ (names : ℕ → Option ℕ) (global : ℕ → ℕ) where
         more us n false x h = (x, h)
 
 -- the units of level 0
-pub units_named : (p : Parts) (s : Session) (global : ℕ → ℕ) → FitsParts p s global → IsOrderly p → (us : List (ℕ × ℕ)) → us ≡ written_units p.clauses (state p) 64 global p.trail.lits → AreNamed s.solver_names (map (λ u. u.0) us)
-units_named p s global fits orderly us e =
+pub units_named : (p : Parts) (s : Session) (global : ℕ → ℕ) → HaveNames p.assignment.current s global → IsOrderly p → (us : List (ℕ × ℕ)) → us ≡ written_units p.clauses (state p) 64 global p.trail.lits → AreNamed s.solver_names (map (λ u. u.0) us)
+units_named p s global names orderly us e =
     rw e
-    (written_named s.solver_names global p.clauses (state p) 64 p.trail.lits (λ k lt. fits.named (variable (get_or p.trail.lits k 0)) (orderly_below p orderly (length p.assignment.current) (omega arith) k lt)))
+    (written_named s.solver_names global p.clauses (state p) 64 p.trail.lits (λ k lt. names (get_or p.trail.lits k 0) (orderly.agrees.holds k lt)))
 
 -- a learned clause
-pub learned_named : (p : Parts) (e : Conflict) (w : Work) (back : ℕ) (s : Session) (global : ℕ → ℕ) → FitsParts p s global → Learns p.clauses (state p) (falsified p.clauses e) w back → (clause : List ℕ) → clause ≡ map (with_var global) w.clause →
+pub learned_named : (p : Parts) (e : Conflict) (w : Work) (back : ℕ) (s : Session) (global : ℕ → ℕ) → HaveNames p.assignment.current s global → Learns p.clauses (state p) (falsified p.clauses e) w back → (clause : List ℕ) → clause ≡ map (with_var global) w.clause →
     AreNamed s.solver_names clause
-learned_named p e w back s global fits learns clause is =
-    rw is (mapped_named s.solver_names global w.clause (λ k lt. fits.named (variable (get_or w.clause k 0)) (clause_below p e w back (length p.assignment.current) (omega arith) learns k lt)))
+learned_named p e w back s global names learns clause is =
+    rw is
+    (mapped_named s.solver_names global w.clause (λ k lt.
+    let l : ℕ = get_or w.clause k 0 in
+    subst (λ v. s.solver_names (global v) ≡ Some v) (negated_variable l) (names (negated l) (true_from_false p.assignment.current l (learns.asserting.fails k lt)))))

@@ -27,10 +27,10 @@ use Rattle.sat_solver.proofs.lemmas.parts.WordSteps.{extends_after, extends_refl
 use Rattle.sat_solver.specs.joint.Fits.{FitsParts}
 use Rattle.sat_solver.proofs.lemmas.joint.FramedParts.{fits_headed, fits_copied, fits_dropped_redundant}
 use Rattle.sat_solver.specs.declared.search.work.Search.{Search}
-use Rattle.sat_solver.specs.search.Joint.{global_in, assumed_in, IsSearch, Moved}
+use Rattle.sat_solver.specs.search.Joint.{global_in, assumed_in, IsSearch, Moved, Leaves}
 use Rattle.sat_solver.specs.search.Left.{SameSize}
 use Rattle.sat_solver.specs.search.Reducing.{IsLearnt, IsReason, Deleted, Reduced}
-use Rattle.sat_solver.proofs.lemmas.search.TurnLemmas.{moved_refl, moved_trans, ready_moved, free_moved}
+use Rattle.sat_solver.proofs.lemmas.search.TurnLemmas.{moved_refl, moved_trans, ready_moved, free_moved, leaves_refl}
 
 same_state : (p p' : Parts) → SameState p p' → state p' ≡ state p
 same_state p p' x = rw (x.0, x.1, x.2) refl
@@ -85,10 +85,10 @@ module _ (s s' : Session) (c c' : Search) (search : IsSearch s c) (globals : c'.
   pub still_moved : SameSize c.parts c'.parts → Moved c c'
   still_moved size = record { globals = globals; lits = ap (λ a. a.lits) assumptions; size = size }
 
-  pub still : s'.assumed ≡ s.assumed → Holds c'.parts → FitsParts c'.parts s' (global_in c) → SameSize c.parts c'.parts → ArePlaced c.assumptions (state c'.parts) → IsSearch s' c'
-  still asked holds fits size placed = record {
+  pub still : Leaves s s' → Holds c'.parts → FitsParts c'.parts s' (global_in c) → SameSize c.parts c'.parts → Extends c.parts c'.parts → ArePlaced c.assumptions (state c'.parts) → IsSearch s' c'
+  still leaves holds fits size word placed = record {
     stands = record { holds = holds; fits = rw globals fits };
-    ready = ready_moved s s' c c' search.ready asked (still_moved size) (rw assumptions placed) (free_moved c c' search.ready.free (still_moved size) analysis flags);
+    ready = ready_moved s s' c c' search.ready leaves (still_moved size) (word (assumed_in c)).0 (rw assumptions placed) (free_moved c c' search.ready.free (still_moved size) analysis flags);
   }
 
 module _ (s : Session) (c c' : Search) (search : IsSearch s c) (globals : c'.globals ≡ c.globals) (assumptions : c'.assumptions ≡ c.assumptions) (analysis : c'.analysis ≡ c.analysis) (flags : c'.flags ≡ c.flags) where
@@ -97,7 +97,7 @@ module _ (s : Session) (c c' : Search) (search : IsSearch s c) (globals : c'.glo
   reduced_headed holds h word =
       let size : SameSize c.parts c'.parts = ap (λ a. length a.current) h.same.0.0 in
       record {
-        search = still s s c c' search globals assumptions analysis flags refl holds (fits_headed c.parts c'.parts s (global_in c) search.stands.fits h) size (rw (same_state c.parts c'.parts h.same.0) search.ready.placed);
+        search = still s s c c' search globals assumptions analysis flags (leaves_refl s) holds (fits_headed c.parts c'.parts s (global_in c) search.stands.fits h) size word (rw (same_state c.parts c'.parts h.same.0) search.ready.placed);
         moved = still_moved s s c c' search globals assumptions analysis flags size;
         word = word (assumed_in c);
       }
@@ -108,7 +108,7 @@ module _ (s : Session) (c c' : Search) (search : IsSearch s c) (globals : c'.glo
       let a = search.ready.placed in
       let size : SameSize c.parts c'.parts = ap (λ a. length a.current) h.values in
       record {
-        search = still s s c c' search globals assumptions analysis flags refl holds (fits_copied c.parts c'.parts s (global_in c) search.stands.fits h) size
+        search = still s s c c' search globals assumptions analysis flags (leaves_refl s) holds (fits_copied c.parts c'.parts s (global_in c) search.stands.fits h) size word
             (placed_kept c.assumptions.lits.items c.assumptions.below.items c.assumptions.place (length c.assumptions.below.items) (state c.parts) (state c'.parts) a (h.keeps (length c.assumptions.below.items)) (omega arith) (rw h.trail a.levels) (rw h.trail a.all));
         moved = still_moved s s c c' search globals assumptions analysis flags size;
         word = word (assumed_in c);
@@ -119,7 +119,7 @@ module _ (s : Session) (c c' : Search) (search : IsSearch s c) (globals : c'.glo
   deleted_none o reason parts =
       let size : SameSize c.parts c'.parts = ap (λ p. length p.assignment.current) parts in
       record {
-        search = still s s c c' search globals assumptions analysis flags refl (rw parts search.stands.holds) (rw parts search.stands.fits) size (rw parts search.ready.placed);
+        search = still s s c c' search globals assumptions analysis flags (leaves_refl s) (rw parts search.stands.holds) (rw parts search.stands.fits) size (rw parts (extends_refl c.parts)) (rw parts search.ready.placed);
         moved = still_moved s s c c' search globals assumptions analysis flags size;
         word = rw parts (extends_refl c.parts);
         others = λ p ne x. rw parts x;
@@ -144,7 +144,7 @@ module _ (s : Session) (c c' : Search) (search : IsSearch s c) (globals : c'.glo
     deleted_one s' clause e its holds word others free =
         let size : SameSize c.parts c'.parts = ap (λ a. length a.current) dropped.same.0.0 in
         record {
-          search = still s s' c c' search globals assumptions analysis flags (ap (λ (t : Session). t.assumed) its) holds (rw (its, e) both.1) size (rw (same_state c.parts c'.parts dropped.same.0) search.ready.placed);
+          search = still s s' c c' search globals assumptions analysis flags (rw its (record { assumed = refl; names = λ v. refl })) holds (rw (its, e) both.1) size word (rw (same_state c.parts c'.parts dropped.same.0) search.ready.placed);
           moved = still_moved s s c c' search globals assumptions analysis flags size;
           word = word;
           tried = (free, dropped);

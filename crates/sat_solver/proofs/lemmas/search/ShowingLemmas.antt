@@ -10,7 +10,7 @@ use Rattle.sat_checker.specs.LiteralSets.{is_among}
 use Rattle.sat_checker.specs.inner.Marks.{NoRepeats}
 use Rattle.sat_solver.specs.session.LiveClauses.{with_var}
 use Rattle.sat_solver.specs.session.ProofView.{Adds, Keeps, Records, session_of}
-use Rattle.sat_solver.specs.session.Session.{Session, May, session_after}
+use Rattle.sat_solver.specs.session.Session.{Session, May}
 use Rattle.sat_solver.specs.declared.session.proof.Proof.{Proof}
 use Rattle.sat_solver.specs.declared.session.proof.ProofError.{ProofError}
 use Rattle.sat_solver.specs.declared.session.proof.ProofError.TheVariants.{Write}
@@ -23,10 +23,12 @@ use Rattle.sat_solver.proofs.lemmas.joint.LawLemmas.{model_may}
 use Rattle.sat_solver.specs.declared.error.SolverError.TheVariants as errors
 use Rattle.sat_solver.specs.declared.search.work.Search.{Search}
 use Rattle.sat_solver.specs.search.Going.{fault_of}
-use Rattle.sat_solver.specs.search.Joint.{global_in, IsSearch, Moved}
+use Rattle.sat_solver.specs.search.Joint.{global_in, IsSearch, Moved, assumed_in}
 use Rattle.sat_solver.specs.search.Showing.{literal_of, true_lits, TellsModel}
 use Rattle.sat_solver.specs.search.Turns.{IsComplete}
-use Rattle.sat_solver.proofs.lemmas.search.TurnLemmas.{ready_moved, free_moved}
+use Rattle.sat_solver.proofs.lemmas.search.TurnLemmas.{ready_moved, free_moved, ready_names}
+use Rattle.sat_solver.specs.parts.Whole.{state}
+use Rattle.sat_solver.proofs.lemmas.parts.WordSteps.{goes_refl}
 
 coded_variable : (v : ℕ) (b : Bool) → variable (coded v b) ≡ v
 coded_variable v true = omega arith
@@ -117,7 +119,7 @@ are_true_lits values = record {
 -- the true literals may be shown
 pub complete_may : (s : Session) (c : Search) → IsSearch s c → IsComplete c.assumptions.lits.items c.parts → May s (Model (map (with_var (global_in c)) (true_lits 0 c.parts.assignment.current)))
 complete_may s c search complete =
-    model_may c.parts s (global_in c) (true_lits 0 c.parts.assignment.current) search.stands.fits search.stands.holds (are_true_lits c.parts.assignment.current) complete.all
+    model_may c.parts s (global_in c) (true_lits 0 c.parts.assignment.current) search.stands.fits (ready_names s c search.ready) search.stands.holds (are_true_lits c.parts.assignment.current) complete.all
     (is_modelled c.parts search.stands.holds complete.done complete.all)
 
 module _ {W : Type 0} (seen : W → Writer) (a b : Proof W) (c c' : Search) where
@@ -144,7 +146,7 @@ module _ {W : Type 0} (seen : W → Writer) (a b : Proof W) (c c' : Search) wher
           holds = rw parts search.stands.holds;
           fits = rw (parts, globals, adds.history) (parts_rests c.parts (session_of a) (global_in c) search.stands.fits (Model ls) tt);
         };
-        ready = ready_moved (session_of a) (session_of b) c c' search.ready (ap (λ ss. (session_after ss).assumed) adds.history) moved (rw (parts, assumptions) search.ready.placed) (free_moved c c' search.ready.free moved analysis flags);
+        ready = ready_moved (session_of a) (session_of b) c c' search.ready (rw adds.history (record { assumed = refl; names = λ v. refl })) moved (rw parts (goes_refl (assumed_in c) (state c.parts) c.parts.vsids)) (rw (parts, assumptions) search.ready.placed) (free_moved c c' search.ready.free moved analysis flags);
       };
       moved = moved;
       same = parts;

@@ -8,8 +8,8 @@ use Rattle.sat_solver.specs.session.ProofView.{Adds, Keeps, steps_of, session_of
 use Rattle.sat_solver.specs.session.Session.{Session, session_after}
 use Rattle.sat_solver.proofs.lemmas.session.ProofLemmas.{adds_none, adds_more}
 use Rattle.sat_solver.specs.declared.parts.Parts.{Parts}
-use Rattle.sat_solver.specs.parts.Assumed.{variables}
-use Rattle.sat_solver.specs.parts.Whole.{state}
+use Rattle.sat_solver.specs.parts.Assumed.{variables, ArePlaced}
+use Rattle.sat_solver.specs.parts.Whole.{state, Holds}
 use Rattle.sat_solver.specs.parts.Words.{Words, Stay, standing}
 use Rattle.sat_solver.proofs.lemmas.parts.WordSteps.{word_fits, word_begins}
 use Rattle.sat_solver.specs.joint.Advancing.{Advances}
@@ -20,13 +20,15 @@ use Rattle.sat_solver.specs.declared.error.SolverError.{SolverError}
 use Rattle.sat_solver.specs.declared.search.solving.Core.{Core}
 use Rattle.sat_solver.specs.declared.search.work.Search.{Search}
 use Rattle.sat_solver.specs.search.Going.{AreSearched, Goes}
-use Rattle.sat_solver.specs.search.Joint.{assumed_in, Moved}
+use Rattle.sat_solver.specs.search.Joint.{assumed_in, Moved, global_in, IsSearch}
 use Rattle.sat_solver.specs.search.Learning.{LastAdvances}
 use Rattle.sat_solver.specs.search.Reducing.{Reduced}
 use Rattle.sat_solver.specs.search.Rounds.{RoundLearns, RoundSays}
 use Rattle.sat_solver.specs.search.Solving.{AdvanceTimes, words_in, values_in, Gone, EndSays, Ended, Broke}
 use Rattle.sat_solver.proofs.lemmas.search.GoingLemmas.{searched_both, goes_then_fails}
-use Rattle.sat_solver.proofs.lemmas.search.TurnLemmas.{moved_refl, moved_trans}
+use Rattle.sat_solver.proofs.lemmas.search.TurnLemmas.{moved_refl, moved_trans, ready_moved, free_moved, leaves_refl}
+use Rattle.sat_solver.specs.parts.Frame.{SameClauses, Carries}
+use Rattle.sat_solver.proofs.lemmas.joint.LearnedLemmas.{fits_undone}
 
 -- STEPS THAT ADVANCE
 
@@ -42,13 +44,22 @@ one_times earlier xs ys k l h =
 -- WORDS
 
 pub words_stay : (am : List ℕ) (p p' : Parts) → Stay p p' → (w : List Letter) → Words am p w → (v : List Letter) × Words am p' v
-words_stay am p p' stay w x = (_, record { gone = x.gone; distinct = x.distinct; each = λ k b. (stay am).1 _ (x.each k b); is = refl })
+words_stay am p p' stay w x = (_, record { gone = x.gone; distinct = x.distinct; each = λ k b. (stay am).gone _ (x.each k b); is = refl })
 
 words_moved : (p : Parts) (a b : Search) → Moved a b → (v : List Letter) → Words (assumed_in a) p v → Words (assumed_in b) p v
 words_moved p a b m v x = subst (λ ls. Words (variables ls.items) p v) (sym m.lits) x
 
 pub core_word : {W : Type 0} (c : Core W) → Words (assumed_in c.search) c.search.parts (standing c.search.parts.trail)
 core_word c = word_begins (assumed_in c.search) c.search.parts
+
+-- decisions were undone
+pub search_undone : (s : Session) (c : Search) (p : Parts) → IsSearch s c → Holds p → SameClauses c.parts p → Carries (state c.parts) (state p) → Stay c.parts p → ArePlaced c.assumptions (state p) → IsSearch s (record c { parts = p })
+search_undone s c p h holds same carries stay placed =
+    let moved : Moved c (record c { parts = p }) = record { globals = refl; lits = refl; size = carries.size } in
+    record {
+      stands = record { holds = holds; fits = fits_undone c.parts p s (global_in c) same carries h.stands.fits };
+      ready = ready_moved s s c (record c { parts = p }) h.ready (leaves_refl s) moved (stay (assumed_in c)) placed (free_moved c (record c { parts = p }) h.ready.free moved refl refl);
+    }
 
 -- ANSWERS
 

@@ -38,8 +38,8 @@ module _ (p mid q n : Parts) (header : Header) (ls : List ℕ) (top : ℕ) (leve
   taken : Holds n → n.trail ≡ with_lit (get_or ls 0 0) q.trail → Learnt q n header ls → Stay q n → Taken p n header ls top
   taken after last learnt more = record {
     holds = after;
-    fits = λ s global hashes flag flags fits.
-        fits_learnt q n s global header ls hashes flag flags (false_signs p.assignment.current ls learned.falsified) holds still_pending learnt (fits_headed mid q s global (fits_undone p mid s global same carries fits) headed);
+    fits = λ s global hashes flag flags names fits.
+        fits_learnt q n s global header ls hashes flag flags (false_signs p.assignment.current ls learned.falsified) names holds still_pending learnt (fits_headed mid q s global (fits_undone p mid s global same carries fits) headed);
     rises = rises_taken p mid n (get_or ls 0 0) top stay (stay_before more) trail (last ∙ ap (λ (t : Trailed). with_lit (get_or ls 0 0) t) headed.same.0.2) levelled learned.below;
     size = size_learnt q n header ls learnt ∙ ap (λ (s : State). length s.values) same_state ∙ carries.size;
     keeps = keeps_trans top (state p) (state mid) (state n) keeps (subst (λ (s : State). KeepsTo top s (state n)) same_state (keeps_learnt q n header ls top holds still_pending learnt));

@@ -1,5 +1,5 @@
 -- The turns of a search.
-use Rattle.std.proofs.Common.{ℕ, ◌+◌, ◌<◌, ◌≡◌, ◌∙◌, Option, None, Some, length, refl, ap, arith}
+use Rattle.std.proofs.Common.{ℕ, ◌+◌, ◌<◌, ◌≡◌, ◌∙◌, Option, None, Some, length, refl, ap, arith, inl, inr, sym, subst}
 use Rattle.sat_parts.specs.declared.prop.graph.Conflict.{Conflict}
 use Rattle.sat_parts.specs.clause.Db.{live_refs}
 use Rattle.sat_parts.specs.prop.Ready.{IsConflict}
@@ -8,19 +8,21 @@ use Rattle.sat_solver.specs.parts.Assumed.{ArePlaced}
 use Rattle.sat_solver.specs.parts.Frame.{Reordered, Carries, KeepsTo}
 use Rattle.sat_solver.specs.parts.Round.{AreUnits, IsBased}
 use Rattle.sat_solver.specs.parts.Whole.{state, HoldsBelow, IsDone}
-use Rattle.sat_solver.specs.parts.Words.{Extends, ExtendsFor}
+use Rattle.sat_solver.specs.parts.Words.{Extends, ExtendsFor, GoesOn}
 use Rattle.sat_solver.proofs.lemmas.parts.AssumeLemmas.{placed_kept}
 use Rattle.sat_solver.proofs.lemmas.parts.WordSteps.{extends_after}
 use Rattle.sat_solver.specs.session.Session.{Session}
-use Rattle.sat_solver.specs.joint.Fits.{FitsParts}
+use Rattle.sat_solver.specs.joint.Fits.{FitsParts, HaveNames}
 use Rattle.sat_solver.proofs.lemmas.joint.LearnedLemmas.{fits_undone}
 use Rattle.sat_solver.proofs.lemmas.joint.StepLemmas.{fits_propagated}
 use Rattle.sat_solver.specs.declared.search.advance.Stop.{Stop}
 use Rattle.sat_solver.specs.declared.search.advance.Stop.TheVariants.{Falsified, Complete, Failed}
 use Rattle.sat_solver.specs.declared.search.work.Search.{Search}
-use Rattle.sat_solver.specs.search.Joint.{global_in, assumed_in, IsFree, IsReady, IsSearch, Moved}
+use Rattle.sat_solver.specs.search.Joint.{global_in, assumed_in, IsFree, IsReady, IsSearch, Moved, Leaves}
 use Rattle.sat_solver.specs.search.Left.{IsSettled}
 use Rattle.sat_solver.specs.search.Turns.{GoesDeeper, IsPropagated, StopsAt, TurnSays, Turned, Stopped}
+use Rattle.sat_base.specs.values.Literals.{variable}
+use Rattle.sat_parts.proofs.lemmas.prop.RoomLemmas.{below_from_value}
 
 pub moved_refl : (c : Search) → Moved c c
 moved_refl c = record { globals = refl; lits = refl; size = refl }
@@ -28,13 +30,30 @@ moved_refl c = record { globals = refl; lits = refl; size = refl }
 pub moved_trans : (a b c : Search) → Moved a b → Moved b c → Moved a c
 moved_trans a b c x y = record { globals = y.globals ∙ x.globals; lits = y.lits ∙ x.lits; size = y.size ∙ x.size }
 
+-- what is true, or may be picked, or is assumed, is of variables that have their solver names
+none_some : {A : Type 0} (x : A) → None ≡ Some x → ⊥
+none_some x e = cc
+
+pub ready_names : (s : Session) (c : Search) → IsReady s c → HaveNames c.parts.assignment.current s (global_in c)
+ready_names s c r l t = elim (r.used (variable l) (below_from_value c.parts.assignment.current (variable l) _ t)) [
+  | inl own ↦ own
+  | inr idle ↦ absurd (none_some _ (sym idle.0 ∙ t))
+]
+
+pub leaves_refl : (s : Session) → Leaves s s
+leaves_refl s = record { assumed = refl; names = λ v. refl }
+
 -- variables and assumptions are the same, and what was looked at of these stands
-pub ready_moved : (s s' : Session) (c c' : Search) → IsReady s c → s'.assumed ≡ s.assumed → Moved c c' → ArePlaced c'.assumptions (state c'.parts) → IsFree c' → IsReady s' c'
-ready_moved s s' c c' r asked moved placed free = record {
+pub ready_moved : (s s' : Session) (c c' : Search) → IsReady s c → Leaves s s' → Moved c c' → GoesOn (assumed_in c) (state c.parts) c.parts.vsids (state c'.parts) c'.parts.vsids → ArePlaced c'.assumptions (state c'.parts) → IsFree c' → IsReady s' c'
+ready_moved s s' c c' r leaves moved goes placed free = record {
   free = free;
   placed = placed;
   there = rw (moved.lits, moved.size) r.there;
-  asked = rw (moved.lits, moved.globals) (asked ∙ r.asked);
+  asked = rw (moved.lits, moved.globals) (leaves.assumed ∙ r.asked);
+  used = λ v lt. elim (r.used v (subst (λ n. v < n) moved.size lt)) [
+    | inl own ↦ inl (rw moved.globals (leaves.names (global_in c v) ∙ own))
+    | inr idle ↦ inr (rw moved.lits (goes.idle v idle))
+  ];
 }
 
 -- the flags and lists that analysis works with are the same, and so is the number of variables
@@ -50,14 +69,14 @@ free_moved c c' f moved analysis flags = record {
 -- PROPAGATION
 
 module _ (s : Session) (c c' : Search) (search : IsSearch s c) (globals : c'.globals ≡ c.globals) (assumptions : c'.assumptions ≡ c.assumptions) (analysis : c'.analysis ≡ c.analysis) (flags : c'.flags ≡ c.flags)
-    (starts : c'.parts.trail.starts ≡ c.parts.trail.starts) (moved : Reordered c.parts c'.parts) (carries : Carries (state c.parts) (state c'.parts)) (keeps : (top : ℕ) → KeepsTo top (state c.parts) (state c'.parts)) where
+    (starts : c'.parts.trail.starts ≡ c.parts.trail.starts) (moved : Reordered c.parts c'.parts) (carries : Carries (state c.parts) (state c'.parts)) (word : Extends c.parts c'.parts) (keeps : (top : ℕ) → KeepsTo top (state c.parts) (state c'.parts)) where
   pub propagated_moved : Moved c c'
   propagated_moved = record { globals = globals; lits = ap (λ a. a.lits) assumptions; size = carries.size }
 
   propagated_ready : IsReady s c'
   propagated_ready =
       let a = search.ready.placed in
-      ready_moved s s c c' search.ready refl propagated_moved
+      ready_moved s s c c' search.ready (leaves_refl s) propagated_moved (word (assumed_in c)).0
       (rw assumptions (placed_kept c.assumptions.lits.items c.assumptions.below.items c.assumptions.place (length c.assumptions.below.items) (state c.parts) (state c'.parts) a (keeps (length c.assumptions.below.items)) (omega arith)
       (rw starts a.levels) (rw starts a.all)))
       (free_moved c c' search.ready.free propagated_moved analysis flags)
@@ -79,8 +98,8 @@ module _ (s : Session) (c c' : Search) (search : IsSearch s c) (globals : c'.glo
   }
 
   pub falsified_whole : (e : Conflict) → HoldsBelow (length c'.parts.trail.starts) c'.parts → IsConflict c'.parts.clauses (live_refs c'.parts.clauses c'.parts.db.refs) c'.parts.binary.implied c'.parts.assignment.current e →
-      (0 < length c.parts.trail.starts → AreUnits (state c.parts) → AreUnits (state c'.parts)) → (0 < length c.parts.trail.starts → IsBased c.parts.trail → IsBased c'.parts.trail) → Extends c.parts c'.parts → Turned (Some (Falsified e)) s c c'
-  falsified_whole e holds conflict units base word = record {
+      (0 < length c.parts.trail.starts → AreUnits (state c.parts) → AreUnits (state c'.parts)) → (0 < length c.parts.trail.starts → IsBased c.parts.trail → IsBased c'.parts.trail) → Turned (Some (Falsified e)) s c c'
+  falsified_whole e holds conflict units base = record {
     says = record {
       refuted = (holds, conflict, λ some. let old : 0 < length c.parts.trail.starts = rw starts at some in (units old search.stands.holds.units, base old search.stands.holds.base));
       fits = propagated_fits holds;
@@ -111,22 +130,25 @@ stopped_from stop s a b c moved word t = record {
   word = extends_after (assumed_in a) a.parts b.parts c.parts word (rw moved.lits at t.word);
 }
 
-module _ (s s' : Session) (c c' : Search) (mid : Parts) (propagated : IsPropagated s c) (asked : s'.assumed ≡ s.assumed) (settled : IsSettled c.parts mid s' (global_in c))
+module _ (s s' : Session) (c c' : Search) (mid : Parts) (propagated : IsPropagated s c) (leaves : Leaves s s') (settled : IsSettled c.parts mid s' (global_in c))
     (globals : c'.globals ≡ c.globals) (analysis : c'.analysis ≡ c.analysis) (flags : c'.flags ≡ c.flags) where
   pub gone_on : (found : Option Stop) → GoesDeeper found c.assumptions c'.assumptions mid c'.parts → Turned found s' c c'
   gone_on found d = record {
     says = says found d.stops;
     moved = moved;
-    word = extends_after (assumed_in c) c.parts mid c'.parts (settled.word (assumed_in c)) d.word;
+    word = word;
   }
     where
+      word : ExtendsFor (assumed_in c) c.parts c'.parts
+      word = extends_after (assumed_in c) c.parts mid c'.parts (settled.word (assumed_in c)) d.word
+
       moved : Moved c c'
       moved = record { globals = globals; lits = d.lits; size = d.carries.size ∙ settled.size }
 
       search : IsSearch s' c'
       search = record {
         stands = record { holds = d.holds; fits = rw globals (fits_undone mid c'.parts s' (global_in c) d.same d.carries settled.stands.fits) };
-        ready = ready_moved s s' c c' propagated.ready asked moved d.placed (free_moved c c' propagated.ready.free moved analysis flags);
+        ready = ready_moved s s' c c' propagated.ready leaves moved word.0 d.placed (free_moved c c' propagated.ready.free moved analysis flags);
       }
 
       says : (f : Option Stop) → StopsAt f c.assumptions.lits.items mid c'.parts → TurnSays f s' c c'

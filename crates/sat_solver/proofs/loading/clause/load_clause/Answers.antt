@@ -18,38 +18,38 @@ returns-in_err-loaded g c =
 pub returns-in-Stored : goal.returns-in-Stored
 returns-in-Stored g c =
     goes_none g.W.CountedWrite.seen _ c.args.proof.now (λ left _. IsLoaded left (session_of c.args.proof.now) c.args.search.now c.back_to_bottom.new.search) c.requires.keeps
-    (loaded_stored c.args.search.now c.args.lits.now (steps_of c.args.proof.now) c.requires.added c.requires.may c.make_ready.new.parts c.make_ready.ensures.holds c.make_ready.ensures.same c.load.new.parts c.back_to_bottom.new.search c.back_to_bottom.ensures
+    (loaded_stored c.args.search.now c.args.lits.now (steps_of c.args.proof.now) c.requires.added c.requires.may c.make_ready.new.parts c.make_ready.ensures.holds c.make_ready.ensures.same c.make_ready.ensures.others c.load.new.parts c.in_ok-loaded.ensures.holds c.in_ok-loaded.ensures.kept c.back_to_bottom.new.search c.back_to_bottom.ensures
     (rw c.in-Stored.is at c.in_ok-loaded.ensures.says))
 
 pub returns-in-Unit : goal.returns-in-Unit
 returns-in-Unit g c =
     goes_none g.W.CountedWrite.seen _ c.args.proof.now (λ left _. IsLoaded left (session_of c.args.proof.now) c.args.search.now c.back_to_bottom.new.search) c.requires.keeps
-    (loaded_unit c.args.search.now c.args.lits.now (steps_of c.args.proof.now) c.requires.added c.requires.may c.make_ready.new.parts c.make_ready.ensures.holds c.make_ready.ensures.same c.load.new.parts c.back_to_bottom.new.search c.back_to_bottom.ensures
+    (loaded_unit c.args.search.now c.args.lits.now (steps_of c.args.proof.now) c.requires.added c.requires.may c.make_ready.new.parts c.make_ready.ensures.holds c.make_ready.ensures.same c.make_ready.ensures.others c.load.new.parts c.in_ok-loaded.ensures.holds c.in_ok-loaded.ensures.kept c.back_to_bottom.new.search c.back_to_bottom.ensures
     (rw c.in-Unit.is at c.in_ok-loaded.ensures.says))
 
 pub returns-in-Falsified : goal.returns-in-Falsified
 returns-in-Falsified g c =
     goes_none g.W.CountedWrite.seen _ c.args.proof.now (λ left _. IsLoaded left (session_of c.args.proof.now) c.args.search.now c.back_to_bottom.new.search) c.requires.keeps
-    (loaded_false c.args.search.now c.args.lits.now (steps_of c.args.proof.now) c.requires.added c.requires.may c.make_ready.new.parts c.make_ready.ensures.holds c.make_ready.ensures.same c.load.new.parts c.back_to_bottom.new.search c.back_to_bottom.ensures
+    (loaded_false c.args.search.now c.args.lits.now (steps_of c.args.proof.now) c.requires.added c.requires.may c.make_ready.new.parts c.make_ready.ensures.holds c.make_ready.ensures.same c.make_ready.ensures.others c.load.new.parts c.in_ok-loaded.ensures.holds c.in_ok-loaded.ensures.kept c.back_to_bottom.new.search c.back_to_bottom.ensures
     (rw c.in-Falsified.is at c.in_ok-loaded.ensures.says))
 
 pub returns-then-len-lt2 : goal.returns-then-len-lt2
 returns-then-len-lt2 g c =
     let size : c.len.result ≡ length (false_last c.make_ready.new.parts.assignment.current c.args.lits.now) = omega (arith, c.len.ensures, c.load.new.sorting.lits.ok.0, ap (λ ls. length ls) c.in_ok-loaded.ensures.order) in
     goes_none g.W.CountedWrite.seen _ c.args.proof.now (λ left _. IsLoaded left (session_of c.args.proof.now) c.args.search.now c.back_to_bottom.new.search) c.requires.keeps
-    (loaded_true c.args.search.now c.args.lits.now (steps_of c.args.proof.now) c.requires.added c.requires.may c.make_ready.new.parts c.make_ready.ensures.holds c.make_ready.ensures.same c.load.new.parts c.back_to_bottom.new.search c.back_to_bottom.ensures
+    (loaded_true c.args.search.now c.args.lits.now (steps_of c.args.proof.now) c.requires.added c.requires.may c.make_ready.new.parts c.make_ready.ensures.holds c.make_ready.ensures.same c.make_ready.ensures.others c.load.new.parts c.in_ok-loaded.ensures.holds c.in_ok-loaded.ensures.kept c.back_to_bottom.new.search c.back_to_bottom.ensures
     (rw c.in-Satisfied.is at c.in_ok-loaded.ensures.says) (omega (arith, size, c.if-len-lt2.true)))
 
 pub delete_true-requires-clause-names : goal.delete_true-requires-clause-names
 delete_true-requires-clause-names g c =
     let same : c.deref.result.now ≡ false_last c.make_ready.new.parts.assignment.current c.args.lits.now = c.deref.ensures.value ∙ c.in_ok-loaded.ensures.order in
-    rw same (loaded_names c.args.search.now c.args.lits.now (steps_of c.args.proof.now) c.requires.added c.requires.may c.make_ready.new.parts c.make_ready.ensures.holds c.make_ready.ensures.same c.load.new.parts c.back_to_bottom.new.search c.back_to_bottom.ensures)
+    rw same (loaded_names c.args.search.now c.args.lits.now (steps_of c.args.proof.now) c.requires.added c.requires.may c.make_ready.new.parts c.make_ready.ensures.holds c.make_ready.ensures.same c.make_ready.ensures.others c.load.new.parts c.in_ok-loaded.ensures.holds c.in_ok-loaded.ensures.kept c.back_to_bottom.new.search c.back_to_bottom.ensures)
 
 pub delete_true-requires-clause-may : goal.delete_true-requires-clause-may
 delete_true-requires-clause-may g c =
     let size : c.len.result ≡ length (false_last c.make_ready.new.parts.assignment.current c.args.lits.now) = omega (arith, c.len.ensures, c.load.new.sorting.lits.ok.0, ap (λ ls. length ls) c.in_ok-loaded.ensures.order) in
     let same : c.deref.result.now ≡ false_last c.make_ready.new.parts.assignment.current c.args.lits.now = c.deref.ensures.value ∙ c.in_ok-loaded.ensures.order in
-    rw (same, c.back_to_bottom.ensures.moved.globals) (loaded_may c.args.search.now c.args.lits.now (steps_of c.args.proof.now) c.requires.added c.requires.may c.make_ready.new.parts c.make_ready.ensures.holds c.make_ready.ensures.same c.load.new.parts c.back_to_bottom.new.search c.back_to_bottom.ensures
+    rw (same, c.back_to_bottom.ensures.moved.globals) (loaded_may c.args.search.now c.args.lits.now (steps_of c.args.proof.now) c.requires.added c.requires.may c.make_ready.new.parts c.make_ready.ensures.holds c.make_ready.ensures.same c.make_ready.ensures.others c.load.new.parts c.in_ok-loaded.ensures.holds c.in_ok-loaded.ensures.kept c.back_to_bottom.new.search c.back_to_bottom.ensures
     (rw c.in-Satisfied.is at c.in_ok-loaded.ensures.says) (omega (arith, size, c.if-len-lt2.false)))
 
 pub returns-else-len-lt2 : goal.returns-else-len-lt2
@@ -57,6 +57,6 @@ returns-else-len-lt2 g c =
     let size : c.len.result ≡ length (false_last c.make_ready.new.parts.assignment.current c.args.lits.now) = omega (arith, c.len.ensures, c.load.new.sorting.lits.ok.0, ap (λ ls. length ls) c.in_ok-loaded.ensures.order) in
     let same : c.deref.result.now ≡ false_last c.make_ready.new.parts.assignment.current c.args.lits.now = c.deref.ensures.value ∙ c.in_ok-loaded.ensures.order in
     goes_map g.W.CountedWrite.seen c.delete_true.result c.args.proof.now c.delete_true.new.proof _ (λ left _. IsLoaded left (session_of c.delete_true.new.proof) c.args.search.now c.delete_true.new.search)
-    (λ left steps h. loaded_behind c.args.search.now c.args.lits.now (steps_of c.args.proof.now) c.requires.added c.requires.may c.make_ready.new.parts c.make_ready.ensures.holds c.make_ready.ensures.same c.load.new.parts c.back_to_bottom.new.search c.back_to_bottom.ensures
+    (λ left steps h. loaded_behind c.args.search.now c.args.lits.now (steps_of c.args.proof.now) c.requires.added c.requires.may c.make_ready.new.parts c.make_ready.ensures.holds c.make_ready.ensures.same c.make_ready.ensures.others c.load.new.parts c.in_ok-loaded.ensures.holds c.in_ok-loaded.ensures.kept c.back_to_bottom.new.search c.back_to_bottom.ensures
     (rw c.in-Satisfied.is at c.in_ok-loaded.ensures.says) (omega (arith, size, c.if-len-lt2.false)) c.deref.result.now same (steps_of c.delete_true.new.proof) h.1 left h.0 c.delete_true.new.search c.delete_true.ensures.same)
     c.delete_true.ensures.deletes

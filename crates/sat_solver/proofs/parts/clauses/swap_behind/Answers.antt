@@ -29,5 +29,6 @@ returns c =
         moved = moved_shuffled p n c.args.cref c.requires.holds c.requires.live (shuffles_swap p.clauses n c.args.cref c.args.i c.args.j c.requires.first_within c.requires.second_within e.header e.lits e.others);
         same = ((refl, refl, refl), refl, refl);
       };
+      db = refl;
       word = extends_refl p;
     }

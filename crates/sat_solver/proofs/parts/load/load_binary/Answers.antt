@@ -15,4 +15,5 @@ returns c =
       holds = rw (c.in_ok-add_binary_clause.ensures.done, one, two)
           (sound_loaded_binary p.clauses p.db p.watchlists p.binary p.assignment p.graph p.trail p.vsids c.args.lits.now c.requires.holds c.requires.loadable c.requires.two);
       stores = stores_binary c.requires.two refl refl (rw (one, two) at c.in_ok-add_binary_clause.ensures.done) (carries_refl (state p));
+      kept = (refl, refl);
     }

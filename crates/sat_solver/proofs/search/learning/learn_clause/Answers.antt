@@ -5,6 +5,7 @@ use Rattle.sat_base.specs.steps.Steps.{AtClause}
 use Rattle.sat_parts.specs.prop.Causes.{falsified}
 use Rattle.sat_solver.specs.declared.parts.assumptions.Assumptions.{Assumptions}
 use Rattle.sat_solver.specs.parts.Assumed.{ArePlaced}
+use Rattle.sat_solver.proofs.lemmas.search.TurnLemmas.{ready_names}
 use Rattle.sat_solver.specs.session.ProofView.{steps_of, session_of}
 use Rattle.sat_solver.specs.parts.Whole.{state}
 use Rattle.sat_solver.proofs.lemmas.joint.LearnedLemmas.{is_learned_clause}
@@ -26,7 +27,7 @@ returns-in_err-level g c =
 pub step-requires-clause-may : goal.step-requires-clause-may
 step-requires-clause-may g c =
     let x = c.in_ok-level.ensures in
-    learned_allowed c.args.search.now.parts c.args.conflict.now c.analyze.new.search.analysis c.in_ok-level.level (steps_of c.args.proof.now) (global_in c.args.search.now) c.requires.stopped.refuted c.requires.above c.requires.stopped.fits x.learns
+    learned_allowed c.args.search.now.parts c.args.conflict.now c.analyze.new.search.analysis c.in_ok-level.level (steps_of c.args.proof.now) (global_in c.args.search.now) c.requires.stopped.refuted c.requires.above c.requires.stopped.fits (ready_names (session_of c.args.proof.now) c.args.search.now c.requires.stopped.ready) x.learns
     c.deref.result.now c.deref-2.result.now (c.deref.ensures.value ∙ x.clause) (c.deref-2.ensures.value ∙ x.hashes)
 
 pub returns-in-Err : goal.returns-in-Err
@@ -35,7 +36,7 @@ returns-in-Err g c =
     rw c.proof_fault.ensures
     (record {
       learned = goes_broken g.W.CountedWrite.seen c.in-Err.error c.args.proof.now c.step.new.self (AtClause c.says_redundant.result c.deref.result.now c.deref-2.result.now) _
-          (learned_named c.args.search.now.parts c.args.conflict.now c.analyze.new.search.analysis c.in_ok-level.level (session_of c.args.proof.now) (global_in c.args.search.now) c.requires.stopped.fits x.learns c.deref.result.now (c.deref.ensures.value ∙ x.clause)) c.in-Err.ensures.keeps c.in-Err.ensures.records;
+          (learned_named c.args.search.now.parts c.args.conflict.now c.analyze.new.search.analysis c.in_ok-level.level (session_of c.args.proof.now) (global_in c.args.search.now) (ready_names (session_of c.args.proof.now) c.args.search.now c.requires.stopped.ready) x.learns c.deref.result.now (c.deref.ensures.value ∙ x.clause)) c.in-Err.ensures.keeps c.in-Err.ensures.records;
       met = tt;
       rated = tt;
     })
@@ -58,7 +59,7 @@ returns-in_err-take_in g c =
     let x = c.in_ok-level.ensures in
     rw (p.1, p.2) (record {
       learned = goes_refused g.W.CountedWrite.seen c.in_err-take_in.field-0.0 c.args.proof.now c.step.new.self (AtClause c.says_redundant.result c.deref.result.now c.deref-2.result.now) _
-          (learned_named c.args.search.now.parts c.args.conflict.now c.analyze.new.search.analysis c.in_ok-level.level (session_of c.args.proof.now) (global_in c.args.search.now) c.requires.stopped.fits x.learns c.deref.result.now (c.deref.ensures.value ∙ x.clause)) c.in_default.ensures.keeps c.in_default.ensures.records;
+          (learned_named c.args.search.now.parts c.args.conflict.now c.analyze.new.search.analysis c.in_ok-level.level (session_of c.args.proof.now) (global_in c.args.search.now) (ready_names (session_of c.args.proof.now) c.args.search.now c.requires.stopped.ready) x.learns c.deref.result.now (c.deref.ensures.value ∙ x.clause)) c.in_default.ensures.keeps c.in_default.ensures.records;
       met = tt;
       rated = tt;
     })
@@ -80,12 +81,12 @@ returns-clause-learned g c =
     let moved : Moved c.analyze.new.search (record c.take_in.new.search { assumptions = c.cut.new.self }) =
     record { globals = ap (λ (s : Search). s.globals) y.same; lits = c.cut.ensures.lits ∙ ap (λ (s : Search). s.assumptions.lits) y.same; size = y.taken.size } in
     goes_step g.W.CountedWrite.seen tt c.args.proof.now c.step.new.self (AtClause c.says_redundant.result c.deref.result.now c.deref-2.result.now) _
-    (learned_named c.args.search.now.parts c.args.conflict.now c.analyze.new.search.analysis c.in_ok-level.level (session_of c.args.proof.now) (global_in c.args.search.now) c.requires.stopped.fits x.learns c.deref.result.now (c.deref.ensures.value ∙ x.clause)) c.in_default.ensures.keeps c.in_default.ensures.records
+    (learned_named c.args.search.now.parts c.args.conflict.now c.analyze.new.search.analysis c.in_ok-level.level (session_of c.args.proof.now) (global_in c.args.search.now) (ready_names (session_of c.args.proof.now) c.args.search.now c.requires.stopped.ready) x.learns c.deref.result.now (c.deref.ensures.value ∙ x.clause)) c.in_default.ensures.keeps c.in_default.ensures.records
     (learned_whole (steps_of c.args.proof.now) (steps_of c.step.new.self) (AtClause c.says_redundant.result c.deref.result.now c.deref-2.result.now) c.args.search.now _ r.ready refl c.in_default.ensures.records.history
-    (learned_stands c.args.search.now.parts c.args.conflict.now c.analyze.new.search.analysis c.in_ok-level.level (steps_of c.args.proof.now) (global_in c.args.search.now) r.refuted c.requires.above r.fits x.learns
+    (learned_stands c.args.search.now.parts c.args.conflict.now c.analyze.new.search.analysis c.in_ok-level.level (steps_of c.args.proof.now) (global_in c.args.search.now) r.refuted c.requires.above r.fits (ready_names (session_of c.args.proof.now) c.args.search.now r.ready) x.learns
     c.take_in.new.search.parts c.in_ok-level.header c.deref.result.now c.deref-2.result.now c.says_redundant.result (steps_of c.step.new.self) (c.deref.ensures.value ∙ x.clause) flags c.in_default.ensures.records.history taken.holds taken.fits)
     taken.rises taken.size
-    (learned_last c.args.search.now.parts c.args.conflict.now c.analyze.new.search.analysis c.in_ok-level.level (steps_of c.args.proof.now) (global_in c.args.search.now) r.refuted c.requires.above r.fits x.learns
+    (learned_last c.args.search.now.parts c.args.conflict.now c.analyze.new.search.analysis c.in_ok-level.level (steps_of c.args.proof.now) (global_in c.args.search.now) r.refuted c.requires.above r.fits (ready_names (session_of c.args.proof.now) c.args.search.now r.ready) x.learns
     c.deref.result.now c.deref-2.result.now c.says_redundant.result (c.deref.ensures.value ∙ x.clause))
     (moved.globals ∙ ap (λ (s : Search). s.globals) x.same) lits placed
     (free_taken c.analyze.new.search (record n { assumptions = c.cut.new.self }) x.free moved (ap (λ (s : Search). s.analysis) y.same) y.flags))

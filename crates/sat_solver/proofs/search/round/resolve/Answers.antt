@@ -1,7 +1,12 @@
 use Rattle.sat_solver.specs.declared.bound.search.Outcome.TheVariants.{Learned}
 use Rattle.sat_solver.specs.search.Joint.{assumed_in}
+use Rattle.sat_solver.specs.session.ProofView.{session_of}
 use Rattle.sat_solver.proofs.lemmas.search.GoingLemmas.{goes_on}
+use Rattle.sat_solver.proofs.lemmas.search.TurnLemmas.{ready_names}
 use Rattle.sat_solver.proofs.search.round.resolve.Goals as goal
+
+pub refute-requires-clause-named : goal.refute-requires-clause-named
+refute-requires-clause-named g c = rw c.deref.ensures.value (ready_names (session_of c.args.proof.now) c.args.search.now c.requires.stopped.ready)
 
 pub returns-then-current_level-gt0 : goal.returns-then-current_level-gt0
 returns-then-current_level-gt0 g c =

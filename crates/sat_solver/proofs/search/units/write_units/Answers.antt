@@ -23,7 +23,7 @@ returns-then-is_empty g c =
     let none : written_units c.args.parts.now.clauses (state c.args.parts.now) 64 (global_of c.args.globals.now) c.args.parts.now.trail.lits ≡ [] =
     sym (ok_part c.collect_units.result _ (sym c.is_err.ensures.value ∙ c.if-is_err.false) c.collect_units.ensures) ∙ none_left c.collect_units.new.units.items (grind (arith, common_steps, c.is_empty.ensures, c.if-is_empty.true)) in
     goes_none g.W.CountedWrite.seen tt c.args.proof.now (λ _ _. AllUnits c.args.parts.now (session_of c.args.proof.now) (global_of c.args.globals.now)) c.requires.keeps
-    (units_none c.args.parts.now (session_of c.args.proof.now) (global_of c.args.globals.now) c.requires.orderly c.requires.bottom c.requires.fits none)
+    (units_none c.args.parts.now (session_of c.args.proof.now) (global_of c.args.globals.now) c.requires.orderly c.requires.bottom c.requires.fits c.requires.named none)
 
 pub step-requires-clause-may : goal.step-requires-clause-may
 step-requires-clause-may g c =
@@ -31,16 +31,16 @@ step-requires-clause-may g c =
     let same : c.deref.result.now ≡ written_units c.args.parts.now.clauses (state c.args.parts.now) 64 (global_of c.args.globals.now) c.args.parts.now.trail.lits =
     c.deref.ensures.value ∙ ok_part c.collect_units.result _ (sym c.is_err.ensures.value ∙ c.if-is_err.false) c.collect_units.ensures in
     subst (λ (us : List (ℕ × ℕ)). MayProve (session_of c.args.proof.now) us) (sym same)
-    (units_may p.clauses (live_refs p.clauses p.db.refs) p.binary.implied (state p) (session_of c.args.proof.now) (global_of c.args.globals.now) c.requires.fits c.requires.orderly.agrees c.requires.orderly.clauses c.requires.orderly.turns c.requires.bottom)
+    (units_may p.clauses (live_refs p.clauses p.db.refs) p.binary.implied (state p) (session_of c.args.proof.now) (global_of c.args.globals.now) c.requires.fits c.requires.named c.requires.orderly.agrees c.requires.orderly.clauses c.requires.orderly.turns c.requires.bottom)
 
 pub returns-in-Ok : goal.returns-in-Ok
 returns-in-Ok g c =
     let same : c.deref.result.now ≡ written_units c.args.parts.now.clauses (state c.args.parts.now) 64 (global_of c.args.globals.now) c.args.parts.now.trail.lits =
     c.deref.ensures.value ∙ ok_part c.collect_units.result _ (sym c.is_err.ensures.value ∙ c.if-is_err.false) c.collect_units.ensures in
     goes_step g.W.CountedWrite.seen tt c.args.proof.now c.step.new.self (UnitClauses c.deref.result.now) (λ _ _. AllUnits c.args.parts.now (session_of c.step.new.self) (global_of c.args.globals.now))
-    (units_named c.args.parts.now (session_of c.args.proof.now) (global_of c.args.globals.now) c.requires.fits c.requires.orderly c.deref.result.now same) c.in-Ok.ensures.keeps c.in-Ok.ensures.records
+    (units_named c.args.parts.now (session_of c.args.proof.now) (global_of c.args.globals.now) c.requires.named c.requires.orderly c.deref.result.now same) c.in-Ok.ensures.keeps c.in-Ok.ensures.records
     (subst (λ ss. AllUnits c.args.parts.now (session_after ss) (global_of c.args.globals.now)) (sym c.in-Ok.ensures.records.history ∙ refl)
-    (rw same (units_step c.args.parts.now (session_of c.args.proof.now) (global_of c.args.globals.now) c.requires.orderly c.requires.bottom c.requires.fits)))
+    (rw same (units_step c.args.parts.now (session_of c.args.proof.now) (global_of c.args.globals.now) c.requires.orderly c.requires.bottom c.requires.fits c.requires.named)))
 
 pub returns-in-Err : goal.returns-in-Err
 returns-in-Err g c =
@@ -48,4 +48,4 @@ returns-in-Err g c =
     c.deref.ensures.value ∙ ok_part c.collect_units.result _ (sym c.is_err.ensures.value ∙ c.if-is_err.false) c.collect_units.ensures in
     rw c.proof_fault.ensures
     (goes_broken g.W.CountedWrite.seen c.in-Err.error c.args.proof.now c.step.new.self (UnitClauses c.deref.result.now) (λ _ _. AllUnits c.args.parts.now (session_of c.step.new.self) (global_of c.args.globals.now))
-    (units_named c.args.parts.now (session_of c.args.proof.now) (global_of c.args.globals.now) c.requires.fits c.requires.orderly c.deref.result.now same) c.in-Err.ensures.keeps c.in-Err.ensures.records)
+    (units_named c.args.parts.now (session_of c.args.proof.now) (global_of c.args.globals.now) c.requires.named c.requires.orderly c.deref.result.now same) c.in-Err.ensures.keeps c.in-Err.ensures.records)

@@ -1,0 +1,11 @@
+use Rattle.std.proofs.Common.{ℕ, ◌<◌, ◌≤◌, drop}
+use Rattle.std.specs.List.{AllByRecursion}
+use Rattle.sat_base.specs.values.Literals.{largest}
+use Rattle.sat_solver.proofs.loading.indices.count_with.Given as goal
+
+abbrev pub invariant-loop-at : goal.invariant-loop-at
+invariant-loop-at l = record {
+  few : l.all ≤ largest;
+  more : l.fn.count ≤ l.all;
+  goes : (n : ℕ) → l.all ≤ n → AllByRecursion (λ g. g.solver < n) (drop l.at l.given) → AllByRecursion (λ g. g.solver < n) l.given;
+}
