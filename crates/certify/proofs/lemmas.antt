@@ -5,3 +5,4 @@ pub mod answers
 pub mod search
 pub mod script
 pub mod program
+pub mod reading

@@ -6,3 +6,4 @@ pub mod laws
 pub mod search
 pub mod script
 pub mod program
+pub mod reading

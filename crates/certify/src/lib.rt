@@ -4,10 +4,12 @@
 pub mod answers;
 pub mod confirm;
 pub mod fault;
+pub mod law_reading;
 pub mod law_script;
 pub mod laws;
 pub mod names;
 pub mod program;
+pub mod reading;
 pub mod run;
 pub mod script;
 mod search;

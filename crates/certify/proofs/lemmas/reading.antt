@@ -1,0 +1,4 @@
+pub mod LanguageComputed
+pub mod Drafts
+pub mod Tokens
+pub mod Bytes

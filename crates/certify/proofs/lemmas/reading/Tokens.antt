@@ -1,0 +1,225 @@
+-- What tokens make of what is in hand.
+use Rattle.std.proofs.Common.{◌≡◌, ℕ, ◌<◌, List, [], ◌∷◌, ◌++◌, Bool, true, false, cond, Option, Some, None, Result, Ok, Err, refl, sym, ap, ◌∙◌, arith}
+use Rattle.std.specs.Prelude.{nat_eq, not, ◌&&◌, ◌||◌, IfOk}
+use Rattle.std.proofs.lemmas.Bool.Decides.{nat_tests}
+use Rattle.sat_base.specs.declared.text.Token.TheVariants as code
+use Rattle.sat_base.specs.text.Text.{Token, Number, Letter, Header, Wrong}
+use Rattle.sat_base.specs.text.Tokenizing.{held, held_token}
+use Rattle.sat_base.specs.script.Script.{Literal, Command, Clause, Ask, Hide, Witness, Sample, Ending, Clean, Malformed, Reading, onto_commands, has_ask, is_clean}
+use Rattle.certify.specs.reading.Language.{Kind, OfClause, OfAsk, OfHide, OfWitness, OfSample, command_of, Hand, Nothing, Within, Turn, GoesOn, Ends, Fails, command_in, may_stand, with_literal, kind_of_letter, beginning, with_letter, turn, at_end, behind_turn, commands_of, with_ask}
+use Rattle.certify.specs.reading.Commands.{kind_of, is_ask_kind, IsWhole, Holds, opened, is_header, any_header, meaning, TakesToken, end_reading}
+use Rattle.certify.specs.declared.reading.Reached.TheVariants as reached
+use Rattle.certify.specs.declared.reading.ScriptEnd.TheVariants as ends
+use Rattle.certify.specs.declared.reading.draft.Draft.{Draft}
+use Rattle.certify.specs.declared.reading.commands.Commands.{Commands}
+
+pub commands_of_cons : (h : Hand) (t : Token) (ts : List Token) → commands_of h (t ∷ ts) ≡ behind_turn (turn h t) (λ k. commands_of k ts)
+unfolding commands_of
+commands_of_cons h t ts = refl
+
+pub commands_of_nil : (h : Hand) → commands_of h [] ≡ ([], at_end h)
+unfolding commands_of
+commands_of_nil h = refl
+
+-- ASKS AND HEADERS
+abbrev is_ask : Command → Bool
+is_ask (Clause ls) = false
+is_ask (Ask ls) = true
+is_ask (Hide names) = false
+is_ask (Witness names) = false
+is_ask (Sample names) = false
+
+or_false : (b : Bool) → (b || false) ≡ b
+or_false true = refl
+or_false false = refl
+
+or_true : (b : Bool) → (b || true) ≡ true
+or_true true = refl
+or_true false = refl
+
+malformed_if : (due : Bool) → with_ask due ([], Malformed) ≡ ([], Malformed)
+malformed_if true = refl
+malformed_if false = refl
+
+-- where no ask is due
+undue : (due : Bool) (r : Reading) → due ≡ false → with_ask due r ≡ r
+undue due r e = rw e refl
+
+asked_no_more : (h a : Bool) → (h && not (a || true)) ≡ false
+asked_no_more true true = refl
+asked_no_more true false = refl
+asked_no_more false a = refl
+
+has_one : (due : Bool) (cs : List Command) (e : Ending) (ls : List Literal) → with_ask due (Ask ls ∷ cs, e) ≡ (Ask ls ∷ cs, e)
+has_one true cs Clean ls = refl
+has_one true cs Malformed ls = refl
+has_one false cs e ls = refl
+
+-- a command that is no ask
+plain_onto : (due : Bool) (c : Command) (r : Reading) → has_ask (c ∷ r.0) ≡ has_ask r.0 → with_ask due (onto_commands (c ∷ []) r) ≡ onto_commands (c ∷ []) (with_ask due r)
+plain_onto due c r e = rw e (go (due && (is_clean r.1 && not (has_ask r.0))))
+  where
+    go : (b : Bool) → cond b ((c ∷ r.0) ++ Ask [] ∷ [], Clean) (c ∷ r.0, r.1) ≡ onto_commands (c ∷ []) (cond b (r.0 ++ Ask [] ∷ [], Clean) r)
+    go true = refl
+    go false = refl
+
+ask_onto : (h a : Bool) (c : Command) (r : Reading) → with_ask (h && not a) (onto_commands (c ∷ []) r) ≡ onto_commands (c ∷ []) (with_ask (h && not (a || is_ask c)) r)
+ask_onto h a (Clause ls) r = rw (or_false a) (plain_onto (h && not a) (Clause ls) r refl)
+ask_onto h a (Ask ls) r = has_one (h && not a) r.0 r.1 ls ∙ ap (onto_commands (Ask ls ∷ [])) (sym (undue (h && not (a || true)) r (asked_no_more h a)))
+ask_onto h a (Hide names) r = rw (or_false a) (plain_onto (h && not a) (Hide names) r refl)
+ask_onto h a (Witness names) r = rw (or_false a) (plain_onto (h && not a) (Witness names) r refl)
+ask_onto h a (Sample names) r = rw (or_false a) (plain_onto (h && not a) (Sample names) r refl)
+
+asks : (k : Kind) (ls : List Literal) → is_ask (command_of k ls) ≡ is_ask_kind k
+asks OfClause ls = refl
+asks OfAsk ls = refl
+asks OfHide ls = refl
+asks OfWitness ls = refl
+asks OfSample ls = refl
+
+-- TOKENS
+behind : (old : Commands) (hand : Hand) (t : Token) (k : Turn) (ts : List Token) → turn hand t ≡ k
+    → meaning old hand (t ∷ ts) ≡ with_ask ((old.headed || (is_header t || any_header ts)) && not old.asked) (behind_turn k (λ d. commands_of d ts))
+behind old hand t k ts e =
+    ap (with_ask ((old.headed || (is_header t || any_header ts)) && not old.asked)) (commands_of_cons hand t ts ∙ ap (λ (j : Turn). behind_turn j (λ d. commands_of d ts)) e)
+
+-- a token that is no header, behind which the command goes on
+pub goes_on : (old new : Commands) (hand next : Hand) (t : Token) → is_header t ≡ false → new.headed ≡ old.headed → new.asked ≡ old.asked → turn hand t ≡ GoesOn next
+    → (ts : List Token) → meaning old hand (t ∷ ts) ≡ meaning new next ts
+goes_on old new hand next t w h a e ts = behind old hand t (GoesOn next) ts e ∙ rw (w, h, a) refl
+
+pub fails : (old : Commands) (hand : Hand) (t : Token) → turn hand t ≡ Fails → (ts : List Token) → meaning old hand (t ∷ ts) ≡ ([], Malformed)
+fails old hand t e ts = behind old hand t Fails ts e ∙ malformed_if ((old.headed || (is_header t || any_header ts)) && not old.asked)
+
+-- a header
+pub header_taken : (old new : Commands) (v c : ℕ) → new ≡ record old { headed = true } → TakesToken reached.More old (Header v c) new
+header_taken old new v c e hand h =
+    let whole = λ (ts : List Token). behind old hand (Header v c) (GoesOn hand) ts refl ∙ ap (λ (b : Bool). with_ask (b && not old.asked) (commands_of hand ts)) (or_true old.headed) in
+    rw e (hand, h, whole)
+
+-- a zero
+pub zero_taken : (old new : Commands) (negative : Bool) → new.headed ≡ old.headed → new.asked ≡ (old.asked || is_ask_kind (kind_of new.draft.kind)) → Holds new.draft Nothing
+    → ((hand : Hand) → Holds old.draft hand → IsWhole new.draft (command_in hand)) → TakesToken reached.Command old (Number negative 0) new
+zero_taken old new negative h a none whole hand holds =
+    let c = command_in hand in
+    let w = whole hand holds in
+    let k : is_ask c ≡ is_ask_kind (kind_of new.draft.kind) = ap is_ask w.2 ∙ asks (kind_of new.draft.kind) w.0 in
+    let asked : new.asked ≡ (old.asked || is_ask c) = a ∙ ap (λ (b : Bool). old.asked || b) (sym k) in
+    let read = λ (ts : List Token).
+    behind old hand (Number negative 0) (Ends c) ts refl
+    ∙ ask_onto (old.headed || any_header ts) old.asked c (commands_of Nothing ts)
+    ∙ ap (λ (b : Bool). onto_commands (c ∷ []) (with_ask ((old.headed || any_header ts) && not b) (commands_of Nothing ts))) (sym asked)
+    ∙ ap (λ (b : Bool). onto_commands (c ∷ []) (with_ask ((b || any_header ts) && not new.asked) (commands_of Nothing ts))) (sym h) in
+    (c, w, none, read)
+
+-- a literal
+pub turn_number : (hand : Hand) (negative : Bool) (value : ℕ) → 0 < value → turn hand (Number negative value) ≡ with_literal hand (record { name = value; positive = not negative })
+turn_number hand negative value some = let e : nat_eq value 0 ≡ false = grind (arith, nat_tests) in rw e refl
+
+-- a literal where it may stand
+pub stands : (d : Draft) (hand : Hand) (l : Literal) → Holds d (opened hand) → may_stand (kind_of d.kind) l.positive ≡ true
+    → (kind : Kind) × (ls : List Literal) × Holds d (Within kind ls) × (with_literal hand l ≡ GoesOn (Within kind (ls ++ l ∷ [])))
+stands d Nothing l h m = (OfClause, [], h, refl)
+stands d (Within kind ls) l h m = (kind, ls, h, let e : may_stand kind l.positive ≡ true = ap (λ (k : Kind). may_stand k l.positive) h.1 ∙ m in rw e refl)
+
+pub misplaced : (d : Draft) (hand : Hand) (l : Literal) → Holds d (opened hand) → may_stand (kind_of d.kind) l.positive ≡ false → with_literal hand l ≡ Fails
+misplaced d Nothing l h m = absurd (let e : may_stand OfClause l.positive ≡ may_stand (kind_of d.kind) l.positive = ap (λ (k : Kind). may_stand k l.positive) h.1 in cc)
+misplaced d (Within kind ls) l h m = let e : may_stand kind l.positive ≡ false = ap (λ (k : Kind). may_stand k l.positive) h.1 ∙ m in rw e refl
+
+-- a letter inside a command
+pub letter_inside : (d : Draft) (hand : Hand) (b : ℕ) → d.is_open ≡ true → Holds d hand → with_letter hand b ≡ Fails
+letter_inside d Nothing b o h = absurd (cc)
+letter_inside d (Within kind ls) b o h = refl
+
+-- one that begins no command
+pub letter_unknown : (hand : Hand) (b : ℕ) → kind_of_letter b ≡ None → with_letter hand b ≡ Fails
+letter_unknown Nothing b e = ap beginning e
+letter_unknown (Within kind ls) b e = refl
+
+pub letter_begins : (d : Draft) (hand : Hand) (b : ℕ) (k : Kind) → d.is_open ≡ false → Holds d hand → kind_of_letter b ≡ Some k → with_letter hand b ≡ GoesOn (Within k [])
+letter_begins d Nothing b k o h e = ap beginning e
+letter_begins d (Within kind ls) b k o h e = absurd (cc (h.0))
+
+-- THE CODE'S TOKENS
+pub number_is : (t : Token) (negative : Bool) (value : ℕ) → code.Number negative value ≡ held_token t → (v : ℕ) × (t ≡ Number negative v) × (value ≡ held v)
+number_is (Number n v) negative value e = (v, let x : negative ≡ n = cc in ap (λ (b : Bool). Number b v) (sym x), let y : value ≡ held v = cc in y)
+number_is (Letter b) negative value e = absurd (cc)
+number_is (Header v c) negative value e = absurd (cc)
+number_is Wrong negative value e = absurd (cc)
+
+pub letter_is : (t : Token) (b : ℕ) → code.Letter b ≡ held_token t → t ≡ Letter b
+letter_is (Number n v) b e = absurd (cc)
+letter_is (Letter d) b e = let x : b ≡ d = cc in ap Letter (sym x)
+letter_is (Header v c) b e = absurd (cc)
+letter_is Wrong b e = absurd (cc)
+
+pub header_is : (t : Token) (v c : ℕ) → code.Header v c ≡ held_token t → (x : ℕ) × (y : ℕ) × (t ≡ Header x y)
+header_is (Number n u) v c e = absurd (cc)
+header_is (Letter b) v c e = absurd (cc)
+header_is (Header x y) v c e = (x, y, refl)
+header_is Wrong v c e = absurd (cc)
+
+pub wrong_is : (t : Token) → code.Wrong ≡ held_token t → t ≡ Wrong
+wrong_is (Number n v) e = absurd (cc)
+wrong_is (Letter b) e = absurd (cc)
+wrong_is (Header v c) e = absurd (cc)
+wrong_is Wrong e = refl
+
+pub held_zero : (v : ℕ) → 0 ≡ held v → v ≡ 0
+held_zero v e = omega arith
+
+pub held_some : (v name : ℕ) → name ≡ held v → 0 < name → 0 < v
+held_some v name e h = omega arith
+
+-- THE END
+ends_at : (commands : Commands) (hand : Hand) → meaning commands hand [] ≡ with_ask (commands.headed && not commands.asked) ([], at_end hand)
+ends_at commands hand = ap (λ (b : Bool). with_ask (b && not commands.asked) (commands_of hand [])) (or_false commands.headed) ∙ ap (with_ask (commands.headed && not commands.asked)) (commands_of_nil hand)
+
+pub ends_inside : (commands : Commands) (hand : Hand) → commands.draft.is_open ≡ true → Holds commands.draft hand → end_reading ends.Malformed ≡ meaning commands hand []
+ends_inside commands Nothing o h = absurd (cc)
+ends_inside commands (Within kind ls) o h = sym (ends_at commands (Within kind ls) ∙ malformed_if (commands.headed && not commands.asked))
+
+pub ends_due : (commands : Commands) (hand : Hand) → commands.draft.is_open ≡ false → Holds commands.draft hand → (commands.headed && not commands.asked) ≡ true → end_reading ends.Asked ≡ meaning commands hand []
+ends_due commands Nothing o h e = sym (ends_at commands Nothing ∙ rw e refl)
+ends_due commands (Within kind ls) o h e = absurd (cc (h.0))
+
+pub ends_clean : (commands : Commands) (hand : Hand) → commands.draft.is_open ≡ false → Holds commands.draft hand → (commands.headed && not commands.asked) ≡ false → end_reading ends.Clean ≡ meaning commands hand []
+ends_clean commands Nothing o h e = sym (ends_at commands Nothing ∙ rw e refl)
+ends_clean commands (Within kind ls) o h e = absurd (cc (h.0))
+
+-- a last word that goes on in a command, or fails
+pub ends_with : (commands : Commands) (hand : Hand) (t : Token) → ((kind : Kind) × (ls : List Literal) × (turn hand t ≡ GoesOn (Within kind ls))) → end_reading ends.Malformed ≡ meaning commands hand (t ∷ [])
+ends_with commands hand t x =
+    sym (behind commands hand t (GoesOn (Within x.0 x.1)) [] x.2 ∙ ap (with_ask ((commands.headed || (is_header t || false)) && not commands.asked)) (commands_of_nil (Within x.0 x.1)) ∙ malformed_if ((commands.headed || (is_header t || false)) && not commands.asked))
+
+pub ends_wrong : (commands : Commands) (hand : Hand) (t : Token) → turn hand t ≡ Fails → end_reading ends.Malformed ≡ meaning commands hand (t ∷ [])
+ends_wrong commands hand t e = sym (fails commands hand t e [])
+
+number_at : (commands : Commands) (kind : Kind) (ls : List Literal) (l : Literal) (t : Token) (hand : Hand) (b : Bool) → may_stand kind l.positive ≡ b → turn hand t ≡ cond b (GoesOn (Within kind (ls ++ l ∷ []))) Fails → end_reading ends.Malformed ≡ meaning commands hand (t ∷ [])
+number_at commands kind ls l t hand true m e = ends_with commands hand t (kind, ls ++ l ∷ [], e)
+number_at commands kind ls l t hand false m e = ends_wrong commands hand t e
+
+pub number_ends : (commands : Commands) (hand : Hand) (negative : Bool) (value : ℕ) → 0 < value → end_reading ends.Malformed ≡ meaning commands hand (Number negative value ∷ [])
+number_ends commands Nothing negative value some =
+    ends_with commands Nothing (Number negative value) (OfClause, record { name = value; positive = not negative } ∷ [], turn_number Nothing negative value some)
+number_ends commands (Within kind ls) negative value some =
+    let l : Literal = record { name = value; positive = not negative } in
+    number_at commands kind ls l (Number negative value) (Within kind ls) (may_stand kind l.positive) refl (turn_number (Within kind ls) negative value some)
+
+letter_at : (commands : Commands) (b : ℕ) (o : Option Kind) → with_letter Nothing b ≡ beginning o → end_reading ends.Malformed ≡ meaning commands Nothing (Letter b ∷ [])
+letter_at commands b None e = ends_wrong commands Nothing (Letter b) e
+letter_at commands b (Some kind) e = ends_with commands Nothing (Letter b) (kind, [], e)
+
+pub letter_ends : (commands : Commands) (hand : Hand) (b : ℕ) → end_reading ends.Malformed ≡ meaning commands hand (Letter b ∷ [])
+letter_ends commands Nothing b = letter_at commands b (kind_of_letter b) refl
+letter_ends commands (Within kind ls) b = ends_wrong commands (Within kind ls) (Letter b) refl
+
+-- behind a last header
+pub header_ends : (old new : Commands) (hand : Hand) (v c : ℕ) → new ≡ record old { headed = true } → meaning old hand (Header v c ∷ []) ≡ meaning new hand []
+header_ends old new hand v c e =
+    let whole = behind old hand (Header v c) (GoesOn hand) [] refl ∙ ap (λ (b : Bool). with_ask (b && not old.asked) (commands_of hand [])) (or_true old.headed) in
+    rw e whole
+
+pub if_ok : {A E : Type 0} (r : Result A E) (P Q : A → Type 0) → ((x : A) → P x → Q x) → IfOk r P → IfOk r Q
+if_ok (Ok x) P Q f p = f x p
+if_ok (Err e) P Q f p = tt

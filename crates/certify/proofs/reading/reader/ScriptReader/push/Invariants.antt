@@ -1,0 +1,13 @@
+use Rattle.std.proofs.Common.{◌-◌, ◌≤◌, length, take}
+use Rattle.sat_base.specs.text.Chunks.{Follows}
+use Rattle.certify.specs.reading.Commands.{Means}
+use Rattle.certify.proofs.reading.reader.ScriptReader.push.Given as goal
+
+abbrev pub invariant-loop-at : goal.invariant-loop-at
+invariant-loop-at l = record {
+  within : l.at ≤ length l.bytes;
+  taken : Follows Means l.fn.self (take l.at l.bytes) l.self;
+}
+
+abbrev pub decreases-loop-at : goal.decreases-loop-at
+decreases-loop-at l = length l.bytes - l.at

@@ -1,0 +1,148 @@
+-- How a reader of scripts stands in a text, and what tokens and bytes make of it.
+use Rattle.std.specs.Prelude.{ℕ, ◌≡◌, ◌<◌, ◌*◌, Bool, true, false, not, ◌&&◌, ◌||◌, Option, Some, None, List, [], ◌∷◌, ◌++◌}
+use Rattle.std.specs.List.{AllByRecursion}
+use Rattle.sat_base.specs.values.Literals.{largest}
+use Rattle.sat_base.specs.text.Text.{Token, Number, Letter, Header, Wrong, Scan}
+use Rattle.sat_base.specs.text.Chunks.{Follows}
+use Rattle.sat_base.specs.text.Tokenizing.{Stands, held}
+use Rattle.sat_base.specs.script.Script.{Literal, Command, Ask, Clean, Malformed, Reading, onto_commands, spoken}
+use Rattle.certify.specs.answers.AnswerForms.{named_literals}
+use Rattle.certify.specs.reading.Language.{Kind, OfClause, OfAsk, OfHide, OfWitness, OfSample, command_of, kind_of_letter, Hand, Nothing, Within, commands_of, with_ask, reading}
+use Rattle.certify.specs.declared.reading.CommandKind.{CommandKind}
+use Rattle.certify.specs.declared.reading.CommandKind.TheVariants as kind
+use Rattle.certify.specs.declared.reading.Command.{Command as Lent}
+use Rattle.certify.specs.declared.reading.Reached.{Reached}
+use Rattle.certify.specs.declared.reading.Reached.TheVariants as reached
+use Rattle.certify.specs.declared.reading.ScriptEnd.{ScriptEnd}
+use Rattle.certify.specs.declared.reading.ScriptEnd.TheVariants as ends
+use Rattle.certify.specs.declared.reading.draft.Draft.{Draft}
+use Rattle.certify.specs.declared.reading.commands.Commands.{Commands}
+use Rattle.certify.specs.declared.reading.reader.ScriptReader.{ScriptReader}
+
+abbrev pub kind_of : CommandKind → Kind
+kind_of kind.Clause = OfClause
+kind_of kind.Ask = OfAsk
+kind_of kind.Hide = OfHide
+kind_of kind.Witness = OfWitness
+kind_of kind.Sample = OfSample
+
+-- what a letter begins
+abbrev pub BeginsKind : Option CommandKind → ℕ → Type 0
+BeginsKind None letter = kind_of_letter letter ≡ None
+BeginsKind (Some kind) letter = kind_of_letter letter ≡ Some (kind_of kind)
+
+abbrev pub is_ask_kind : Kind → Bool
+is_ask_kind OfClause = false
+is_ask_kind OfAsk = true
+is_ask_kind OfHide = false
+is_ask_kind OfWitness = false
+is_ask_kind OfSample = false
+
+-- nothing, or a literal past the limit and others
+abbrev pub BeginsPast : Bool → List Literal → Type 0
+BeginsPast false ls = ls ≡ []
+BeginsPast true [] = ⊥
+BeginsPast true (l ∷ ls) = largest < l.name
+
+-- the codes are those of the literals, up to the first past the limit
+pub record IsFront (codes : List ℕ) (past : Bool) (ls : List Literal) : Type 0 where
+  pub within : AllByRecursion (λ code. code < 2 * largest) codes
+  pub behind : List Literal
+  pub whole : ls ≡ named_literals codes ++ behind
+  pub limit : BeginsPast past behind
+
+-- a command is lent, with its literals up to the first past the limit
+abbrev pub IsLent : Lent → Command → Type 0
+IsLent lent c = (ls : List Literal) × IsFront lent.literals.now lent.past_limit ls × (c ≡ command_of (kind_of lent.kind) ls)
+
+-- so in its reader
+abbrev pub IsWhole : Draft → Command → Type 0
+IsWhole draft c = (ls : List Literal) × IsFront draft.literals.items draft.past_limit ls × (c ≡ command_of (kind_of draft.kind) ls)
+
+-- it is what is in hand
+abbrev pub Holds : Draft → Hand → Type 0
+Holds draft Nothing = draft.is_open ≡ false
+Holds draft (Within k ls) = (draft.is_open ≡ true) × (k ≡ kind_of draft.kind) × IsFront draft.literals.items draft.past_limit ls
+
+-- with a command in hand, which a literal begins
+abbrev pub opened : Hand → Hand
+opened Nothing = Within OfClause []
+opened (Within kind ls) = Within kind ls
+
+-- the literal has this number, which is held at 2^64-1, and this sign
+pub record IsNumbered (l : Literal) (name : ℕ) (positive : Bool) : Type 0 where
+  pub number : name ≡ held l.name
+  pub sign : positive ≡ l.positive
+
+abbrev pub is_header : Token → Bool
+is_header (Number negative value) = false
+is_header (Letter b) = false
+is_header (Header v c) = true
+is_header Wrong = false
+
+abbrev pub any_header : List Token → Bool
+any_header [] = false
+any_header (t ∷ ts) = is_header t || any_header ts
+
+-- what is still to be read behind what is in hand, where these tokens are to come
+abbrev pub meaning : Commands → Hand → List Token → Reading
+meaning commands hand ts = with_ask ((commands.headed || any_header ts) && not commands.asked) (commands_of hand ts)
+
+-- what a token leaves, behind any others: less to read, a whole command and then less, or a malformed text
+abbrev pub TakesToken : Reached → Commands → Token → Commands → Type 0
+TakesToken reached.More old t new = (hand : Hand) → Holds old.draft hand
+    → (next : Hand) × Holds new.draft next × ((ts : List Token) → meaning old hand (t ∷ ts) ≡ meaning new next ts)
+TakesToken reached.Command old t new = (hand : Hand) → Holds old.draft hand
+    → (c : Command) × IsWhole new.draft c × Holds new.draft Nothing
+    × ((ts : List Token) → meaning old hand (t ∷ ts) ≡ onto_commands (c ∷ []) (meaning new Nothing ts))
+TakesToken reached.Malformed old t new = (hand : Hand) → Holds old.draft hand
+    → (ts : List Token) → meaning old hand (t ∷ ts) ≡ ([], Malformed)
+
+-- the reader stands at a place of a text: `left_of` says what is still to be read, whatever bytes come
+pub record Means (reader : ScriptReader) (left_of : List ℕ → Reading) : Type 0 where
+  pub hand : Hand
+  pub holds : Holds reader.commands.draft hand
+  pub scan_of : List ℕ → Scan
+  pub stands : Stands reader.tokenizer scan_of
+  pub reads : (rest : List ℕ) → left_of rest ≡ meaning reader.commands hand (spoken (scan_of rest).tokens)
+
+-- a command was read, and is to be lent
+pub record HasWhole (reader : ScriptReader) (c : Command) : Type 0 where
+  pub whole : IsWhole reader.commands.draft c
+
+-- bytes lead to a command, whatever follows
+pub record ReachesCommand (before : List ℕ → Reading) (bytes : List ℕ) (new : ScriptReader) : Type 0 where
+  pub command : Command
+  pub whole : HasWhole new command
+  pub after : List ℕ → Reading
+  pub stands : Means new after
+  pub reads : (rest : List ℕ) → before (bytes ++ rest) ≡ onto_commands (command ∷ []) (after rest)
+
+-- what bytes leave, whatever follows
+abbrev pub TakesBytes : Reached → ScriptReader → List ℕ → ScriptReader → Type 0
+TakesBytes reached.More old bytes new = Follows Means old bytes new
+TakesBytes reached.Command old bytes new = (before : List ℕ → Reading) → Means old before → ReachesCommand before bytes new
+TakesBytes reached.Malformed old bytes new =
+    (before : List ℕ → Reading) → Means old before → (rest : List ℕ) → before (bytes ++ rest) ≡ ([], Malformed)
+
+-- how a script ends: behind a header that no ask followed it is asked once
+abbrev pub end_reading : ScriptEnd → Reading
+end_reading ends.Clean = ([], Clean)
+end_reading ends.Asked = (Ask [] ∷ [], Clean)
+end_reading ends.Malformed = ([], Malformed)
+
+-- what is left where the text ends: perhaps a command, and the end
+abbrev pub EndsSo : Bool → ScriptEnd → Commands → Reading → Type 0
+EndsSo false e new r = r ≡ end_reading e
+EndsSo true e new r = (c : Command) × IsWhole new.draft c × (r ≡ onto_commands (c ∷ []) (end_reading e))
+
+-- so of a reader
+abbrev pub EndsLast : Bool → ScriptEnd → ScriptReader → Reading → Type 0
+EndsLast false e new r = r ≡ end_reading e
+EndsLast true e new r = (c : Command) × HasWhole new c × (r ≡ onto_commands (c ∷ []) (end_reading e))
+
+-- the reader took this text, of which it gave these commands, whatever follows
+pub record HasRead (reader : ScriptReader) (text : List ℕ) (commands : List Command) : Type 0 where
+  pub after : List ℕ → Reading
+  pub stands : Means reader after
+  pub reads : (rest : List ℕ) → reading (text ++ rest) ≡ onto_commands commands (after rest)

@@ -1,0 +1,104 @@
+-- The commands of scripts in the whole language, and the texts that spell them. Numbers are of any size.
+use Rattle.std.specs.Prelude.{ℕ, ◌≡◌, Bool, true, not, ◌&&◌, Option, Some, None, List, [], ◌∷◌, ◌++◌, nat_eq, is_some, if◌then◌else◌}
+use Rattle.sat_base.specs.text.Text.{Token, Number, Letter, Header, Wrong, tokens, header_of}
+use Rattle.sat_base.specs.script.Script.{Literal, Command, Clause, Ask, Hide, Witness, Sample, Ending, Clean, Malformed, names_of, Reading, onto_commands, spoken, has_ask, is_clean}
+
+pub data Kind : Type 0 where
+  OfClause : Kind
+  OfAsk : Kind
+  OfHide : Kind
+  OfWitness : Kind
+  OfSample : Kind
+
+-- the command of a kind, with these literals or the names of these
+abbrev pub command_of : Kind → List Literal → Command
+command_of OfClause ls = Clause ls
+command_of OfAsk ls = Ask ls
+command_of OfHide ls = Hide (names_of ls)
+command_of OfWitness ls = Witness (names_of ls)
+command_of OfSample ls = Sample (names_of ls)
+
+-- what is in hand between two tokens: nothing, or the literals or names so far of a command
+pub data Hand : Type 0 where
+  Nothing : Hand
+  Within : Kind → List Literal → Hand
+
+-- what a token makes of it: it goes on, it ends as a command, or the text is malformed
+pub data Turn : Type 0 where
+  GoesOn : Hand → Turn
+  Ends : Command → Turn
+  Fails : Turn
+
+-- the command that a zero ends; a zero alone is the clause of no literals
+abbrev pub command_in : Hand → Command
+command_in Nothing = Clause []
+command_in (Within kind ls) = command_of kind ls
+
+-- a literal of this sign may stand there: a name has no minus sign
+abbrev pub may_stand : Kind → Bool → Bool
+may_stand OfClause positive = true
+may_stand OfAsk positive = true
+may_stand OfHide positive = positive
+may_stand OfWitness positive = positive
+may_stand OfSample positive = positive
+
+-- a literal begins a clause or stands in a command
+abbrev pub with_literal : Hand → Literal → Turn
+with_literal Nothing l = GoesOn (Within OfClause (l ∷ []))
+with_literal (Within kind ls) l = if may_stand kind l.positive then GoesOn (Within kind (ls ++ l ∷ [])) else Fails
+
+-- `a`, `h`, `w` and `s` begin a command
+abbrev pub kind_of_letter : ℕ → Option Kind
+kind_of_letter b =
+    if nat_eq b 97 then Some OfAsk
+    else (if nat_eq b 104 then Some OfHide
+    else (if nat_eq b 119 then Some OfWitness
+    else (if nat_eq b 115 then Some OfSample else None)))
+
+abbrev pub beginning : Option Kind → Turn
+beginning None = Fails
+beginning (Some kind) = GoesOn (Within kind [])
+
+-- other letters, and letters at another place, are malformed
+abbrev pub with_letter : Hand → ℕ → Turn
+with_letter Nothing b = beginning (kind_of_letter b)
+with_letter (Within kind ls) b = Fails
+
+abbrev pub turn : Hand → Token → Turn
+turn hand (Number negative value) =
+    if nat_eq value 0 then Ends (command_in hand) else with_literal hand (record { name = value; positive = not negative })
+turn hand (Letter b) = with_letter hand b
+turn hand (Header v c) = GoesOn hand
+turn hand Wrong = Fails
+
+-- an end inside a command is malformed
+abbrev pub at_end : Hand → Ending
+at_end Nothing = Clean
+at_end (Within kind ls) = Malformed
+
+-- a turn, and then what more says; malformed text ends the reading
+abbrev pub behind_turn : Turn → (Hand → Reading) → Reading
+behind_turn (GoesOn hand) more = more hand
+behind_turn (Ends command) more = onto_commands (command ∷ []) (more Nothing)
+behind_turn Fails more = ([], Malformed)
+
+-- the commands that the tokens spell, behind what is in hand
+unfoldable pub commands_of : Hand → List Token → Reading
+commands_of hand [] = ([], at_end hand)
+commands_of hand (t ∷ ts) = behind_turn (turn hand t) (λ h. commands_of h ts)
+
+-- the commands that stand in a text, which are counted, and its end
+unfoldable pub written : List ℕ → Reading
+written text = commands_of Nothing (spoken (tokens text))
+
+-- where it is due, a clean end behind no ask, refused or not, is an ask under no literals
+abbrev pub with_ask : Bool → Reading → Reading
+with_ask due r = if due && (is_clean r.1 && not (has_ask r.0)) then (r.0 ++ Ask [] ∷ [], Clean) else r
+
+-- what a text means: its commands, and behind a header that ask
+unfoldable pub reading : List ℕ → Reading
+reading text = with_ask (is_some (header_of text)) (written text)
+
+-- the text has these commands, and ends so
+abbrev pub IsScript : List ℕ → List Command → Ending → Type 0
+IsScript text commands end = reading text ≡ (commands, end)
