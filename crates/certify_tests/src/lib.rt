@@ -17,6 +17,8 @@ mod files;
 #[cfg(test)]
 mod program;
 #[cfg(test)]
+mod reading;
+#[cfg(test)]
 mod run;
 #[cfg(test)]
 mod script;

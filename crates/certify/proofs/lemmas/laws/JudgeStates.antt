@@ -10,7 +10,7 @@ use Rattle.sat_base.specs.script.Judge.{Judge, Named, Mode, Sampled, Witnessed, 
 use Rattle.certify.specs.laws.Laws.{NamesIncrease, IsKept, JudgeIsKept, only_below, GivenIdentitiesSuffice}
 use Rattle.sat_checker.proofs.lemmas.matching.LiteralValues.{all_map, coded_half}
 
-placed_all : (P : Named → Type 0) (new : Named) (ns : List Named) → P new → AllByRecursion P ns → AllByRecursion P (placed new ns)
+pub placed_all : (P : Named → Type 0) (new : Named) (ns : List Named) → P new → AllByRecursion P ns → AllByRecursion P (placed new ns)
 placed_all P new [] p h = (p, tt)
 placed_all P new (n ∷ ns) p h = go (ltb n.name new.name) (placed_all P new ns p h.1)
   where
@@ -35,7 +35,7 @@ none_below : (name : ℕ) (ns : List Named) → AllByRecursion (λ n. n.name < n
 none_below name [] h = refl
 none_below name (n ∷ ns) h = let lt = h.0 in let e : eqb n.name name ≡ false = ne_eqb n.name name (λ x. omega arith) in rw e (none_below name ns h.1)
 
-filtered_all : (P : Named → Type 0) (test : Named → Bool) (ns : List Named) → AllByRecursion P ns → AllByRecursion P (filter test ns)
+pub filtered_all : (P : Named → Type 0) (test : Named → Bool) (ns : List Named) → AllByRecursion P ns → AllByRecursion P (filter test ns)
 filtered_all P test [] h = tt
 filtered_all P test (n ∷ ns) h = go (test n) (filtered_all P test ns h.1)
   where

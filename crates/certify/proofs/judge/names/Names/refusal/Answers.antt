@@ -1,0 +1,26 @@
+use Rattle.std.proofs.Common.{◌≡◌, ap, sym, ◌∙◌, inl, inr}
+use Rattle.certify.specs.reading.Language.{OfClause, OfAsk, OfHide, OfWitness, OfSample}
+use Rattle.certify.specs.reading.Commands.{kind_of}
+use Rattle.certify.proofs.lemmas.judge.Refusals.{says_literals, says_names}
+use Rattle.certify.proofs.judge.names.Names.refusal.Goals as goal
+
+pub returns-in-Clause-clause-judges : goal.returns-in-Clause-clause-judges
+returns-in-Clause-clause-judges c = says_literals c.args.self.now c.args.command c.literal_refusal.result (inl (ap kind_of c.in-Clause.is)) c.literal_refusal.ensures.judges
+
+pub returns-in-Ask-clause-judges : goal.returns-in-Ask-clause-judges
+returns-in-Ask-clause-judges c = says_literals c.args.self.now c.args.command c.literal_refusal-in-Ask.result (inr (ap kind_of c.in-Ask.is)) c.literal_refusal-in-Ask.ensures.judges
+
+pub returns-in-Hide-clause-judges : goal.returns-in-Hide-clause-judges
+returns-in-Hide-clause-judges c =
+    let k : kind_of c.args.command.kind ≡ OfHide = ap kind_of c.in-Hide.is in
+    says_names c.args.self.now c.args.command c.limit_refusal.result (λ x. let y : OfHide ≡ OfClause = sym k ∙ x in cc) (λ x. let y : OfHide ≡ OfAsk = sym k ∙ x in cc) c.limit_refusal.ensures
+
+pub returns-in-Witness-clause-judges : goal.returns-in-Witness-clause-judges
+returns-in-Witness-clause-judges c =
+    let k : kind_of c.args.command.kind ≡ OfWitness = ap kind_of c.in-Witness.is in
+    says_names c.args.self.now c.args.command c.limit_refusal-in-Witness.result (λ x. let y : OfWitness ≡ OfClause = sym k ∙ x in cc) (λ x. let y : OfWitness ≡ OfAsk = sym k ∙ x in cc) c.limit_refusal-in-Witness.ensures
+
+pub returns-in-Sample-clause-judges : goal.returns-in-Sample-clause-judges
+returns-in-Sample-clause-judges c =
+    let k : kind_of c.args.command.kind ≡ OfSample = ap kind_of c.in-Sample.is in
+    says_names c.args.self.now c.args.command c.limit_refusal-in-Sample.result (λ x. let y : OfSample ≡ OfClause = sym k ∙ x in cc) (λ x. let y : OfSample ≡ OfAsk = sym k ∙ x in cc) c.limit_refusal-in-Sample.ensures

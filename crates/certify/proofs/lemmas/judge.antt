@@ -1,0 +1,4 @@
+pub mod States
+pub mod Refusals
+pub mod Taken
+pub mod Listed

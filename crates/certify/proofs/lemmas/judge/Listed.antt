@@ -1,0 +1,88 @@
+-- Whether literals are those of the names in use.
+use Rattle.std.proofs.Common.{ℕ, suc, ◌+◌, ◌≤◌, ◌<◌, ◌≡◌, Bool, true, false, cond, eqb, List, [], ◌∷◌, length, get_or, drop, drop-cons, refl, sym, ◌∙◌, ap, arith}
+use Rattle.std.proofs.lemmas.List.{drop_all}
+use Rattle.std.proofs.lemmas.Bool.{eqb-true, eqb-false}
+use Rattle.std.specs.Bool.{MatchBool}
+use Rattle.sat_base.specs.values.Literals.{variable}
+use Rattle.sat_base.specs.script.Script.{names_of}
+use Rattle.certify.specs.answers.AnswerForms.{named_literals}
+use Rattle.certify.specs.declared.judge.NameState.{NameState}
+use Rattle.certify.specs.declared.judge.NameState.TheVariants as state
+use Rattle.certify.specs.judge.Names.{is_hidden, used_from}
+
+abbrev pub Left : List NameState → List ℕ → ℕ → ℕ → Type 0
+Left states line at index = names_of (named_literals (drop at line)) ≡ used_from (index + 1) (drop index states)
+
+-- the two say the same
+abbrev pub Same : Type 0 → Type 0 → Type 0
+Same P Q = (P → Q) × (Q → P)
+
+cut : (states : List NameState) (index : ℕ) (s : NameState) → index < length states → s ≡ get_or states index s → drop index states ≡ s ∷ drop (index + 1) states
+cut states index s low at =
+    let more : index + 1 ≡ suc index = omega arith in
+    drop-cons states index s low ∙ ap (λ (x : NameState). x ∷ drop (suc index) states) (sym at) ∙ ap (λ (n : ℕ). s ∷ drop n states) (sym more)
+
+cut_line : (line : List ℕ) (at code : ℕ) → at < length line → code ≡ get_or line at code → drop at line ≡ code ∷ drop (at + 1) line
+cut_line line at code low is =
+    let more : at + 1 ≡ suc at = omega arith in
+    drop-cons line at code low ∙ ap (λ (x : ℕ). x ∷ drop (suc at) line) (sym is) ∙ ap (λ (n : ℕ). code ∷ drop n line) (sym more)
+
+passes : (states : List NameState) (index : ℕ) (s : NameState) (b : Bool) → index < length states → s ≡ get_or states index s → is_hidden s ≡ b
+    → used_from (index + 1) (drop index states) ≡ cond b (used_from (index + 1 + 1) (drop (index + 1) states)) ((index + 1) ∷ used_from (index + 1 + 1) (drop (index + 1) states))
+passes states index s b low at e = ap (used_from (index + 1)) (cut states index s low at) ∙ ap (λ (d : Bool). cond d (used_from (index + 1 + 1) (drop (index + 1) states)) ((index + 1) ∷ used_from (index + 1 + 1) (drop (index + 1) states))) e
+
+shown : (s : NameState) → (s ≡ state.Hidden → ⊥) → is_hidden s ≡ false
+shown state.Hidden u = absurd (u refl)
+shown state.Sampled u = refl
+shown state.Witnessed u = refl
+
+head_of : {a b : ℕ} {xs ys : List ℕ} → a ∷ xs ≡ b ∷ ys → a ≡ b
+head_of e = cc
+
+tail_of : {a b : ℕ} {xs ys : List ℕ} → a ∷ xs ≡ b ∷ ys → xs ≡ ys
+tail_of e = cc
+
+module _ (P : Type 0) (states : List NameState) (line : List ℕ) (at index : ℕ) (s : NameState) (low : index < length states) (is : s ≡ get_or states index s) (so : Same P (Left states line at index)) where
+  pub hidden_left : s ≡ state.Hidden → Same P (Left states line at (index + 1))
+  hidden_left e =
+      let p = passes states index s true low is (ap is_hidden e) in
+      ((λ h. so.0 h ∙ p), (λ h. so.1 (h ∙ sym p)))
+
+  module _ (u : s ≡ state.Hidden → ⊥) where
+    next : used_from (index + 1) (drop index states) ≡ (index + 1) ∷ used_from (index + 1 + 1) (drop (index + 1) states)
+    next = passes states index s false low is (shown s u)
+
+    pub none_left : length line ≤ at → P → ⊥
+    none_left over h =
+        let e : [] ≡ (index + 1) ∷ used_from (index + 1 + 1) (drop (index + 1) states) = sym (ap (λ (xs : List ℕ). names_of (named_literals xs)) (drop_all at line over)) ∙ so.0 h ∙ next in
+        absurd (cc)
+
+    module _ (code : ℕ) (within : at < length line) (here : code ≡ get_or line at code) where
+      begins : names_of (named_literals (drop at line)) ≡ (variable code + 1) ∷ names_of (named_literals (drop (at + 1) line))
+      begins = ap (λ (xs : List ℕ). names_of (named_literals xs)) (cut_line line at code within here)
+
+      pub other_left : (variable code ≡ index → ⊥) → P → ⊥
+      other_left differ h = let e : variable code + 1 ≡ index + 1 = head_of (sym begins ∙ so.0 h ∙ next) in differ (omega arith)
+
+      pub used_left : variable code ≡ index → Same P (Left states line (at + 1) (index + 1))
+      used_left e = (
+        (λ h. tail_of (sym begins ∙ so.0 h ∙ next)),
+        (λ h. so.1 (begins ∙ ap (λ (xs : List ℕ). (variable code + 1) ∷ xs) h ∙ ap (λ (n : ℕ). (n + 1) ∷ used_from (index + 1 + 1) (drop (index + 1) states)) e ∙ sym next)),
+      )
+
+none_named : (xs : List ℕ) → names_of (named_literals xs) ≡ [] → xs ≡ []
+none_named [] e = refl
+none_named (x ∷ xs) e = absurd (cc)
+
+some_left : (line : List ℕ) (at : ℕ) → at < length line → drop at line ≡ [] → ⊥
+some_left line at low e = let f : get_or line at 0 ∷ drop (suc at) line ≡ [] = sym (drop-cons line at 0 low) ∙ e in absurd (cc)
+
+pub end_left : (P : Type 0) (states : List NameState) (line : List ℕ) (at index : ℕ) (answer : Bool) → length states ≤ index → at ≤ length line → Same P (Left states line at index) → answer ≡ eqb at (length line) → MatchBool answer P (P → ⊥)
+end_left P states line at index answer over low so e = go answer (sym e)
+  where
+    none : used_from (index + 1) (drop index states) ≡ []
+    none = ap (used_from (index + 1)) (drop_all index states over)
+
+    go : (b : Bool) → eqb at (length line) ≡ b → MatchBool b P (P → ⊥)
+    go true x = so.1 (ap (λ (xs : List ℕ). names_of (named_literals xs)) (drop_all at line (let y = eqb-true at (length line) x in omega arith)) ∙ sym none)
+    go false x = λ h. some_left line at (let y = eqb-false at (length line) x in omega arith) (none_named (drop at line) (so.0 h ∙ none))

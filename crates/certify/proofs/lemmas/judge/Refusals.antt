@@ -1,0 +1,88 @@
+-- Why a command is refused, by states of names.
+use Rattle.std.proofs.Common.{ℕ, suc, drop, drop-cons, length, ◌+◌, ◌*◌, ◌≤◌, ◌<◌, ◌≡◌, Bool, true, false, cond, ltb, lt-ltb, get_or, List, [], ◌∷◌, ◌++◌, Option, Some, None, refl, sym, ◌∙◌, ap, arith, ◌⊎◌, inl, inr}
+use Rattle.std.proofs.lemmas.List.{drop_all}
+use Rattle.std.proofs.lemmas.Bool.{ltb-true}
+use Rattle.std.specs.List.{AllByRecursion}
+use Rattle.sat_base.specs.values.Literals.{largest, variable}
+use Rattle.sat_base.specs.script.Script.{Literal, names_of}
+use Rattle.sat_base.specs.script.Judge.{Judge, Mode, Sampled, Witnessed, identity_of, is_witness, has_witness, WitnessName, refused_literal, refused_name, refusal_of}
+use Rattle.certify.specs.answers.AnswerForms.{named_literals}
+use Rattle.certify.specs.reading.Language.{Kind, OfClause, OfAsk, OfHide, OfWitness, OfSample, command_of}
+use Rattle.certify.specs.reading.Commands.{kind_of, BeginsPast, IsFront}
+use Rattle.certify.specs.declared.reading.Command.{Command as Lent}
+use Rattle.certify.specs.declared.judge.Refusal.{Refusal as CodeRefusal}
+use Rattle.certify.specs.declared.judge.names.Names.{Names}
+use Rattle.certify.specs.judge.Names.{state_in, state_of_mode, state_of_identity, Stands, is_witnessed, limit_refusal, refusal_said, Judges}
+
+witness_at : (j : Judge) (o : Option ℕ) → has_witness j o ≡ is_witnessed (state_of_identity j.modes o)
+witness_at j None = refl
+witness_at j (Some i) = go (get_or j.modes i Sampled)
+  where
+    go : (m : Mode) → is_witness m ≡ is_witnessed (state_of_mode m)
+    go Sampled = refl
+    go Witnessed = refl
+
+pub witness_is : (names : Names) (j : Judge) (name : ℕ) → Stands names j → has_witness j (identity_of j name) ≡ is_witnessed (state_in names.states.items name)
+witness_is names j name h = witness_at j (identity_of j name) ∙ ap is_witnessed (h.each name)
+
+within : (name : ℕ) → name ≤ largest → ltb largest name ≡ false
+within name h = go (ltb largest name) refl
+  where
+    go : (b : Bool) → ltb largest name ≡ b → b ≡ false
+    go true e = let x = ltb-true largest name e in absurd (omega arith)
+    go false e = refl
+
+-- the next literal decides, or those behind it
+refused_next : (names : Names) (j : Judge) (code : ℕ) (codes : List ℕ) (tail : List Literal) → Stands names j → variable code < largest
+    → refused_literal j (names_of (named_literals (code ∷ codes) ++ tail))
+    ≡ cond (is_witnessed (state_in names.states.items (variable code + 1))) (Some (WitnessName (variable code + 1))) (refused_literal j (names_of (named_literals codes ++ tail)))
+refused_next names j code codes tail h low = rw (within (variable code + 1) (omega arith), witness_is names j (variable code + 1) h) refl
+
+pub refused_at : (names : Names) (j : Judge) (codes : List ℕ) (tail : List Literal) (k code : ℕ) (b : Bool) → Stands names j → k < length codes → code ≡ get_or codes k code → variable code < largest
+    → is_witnessed (state_in names.states.items (variable code + 1)) ≡ b
+    → refused_literal j (names_of (named_literals (drop k codes) ++ tail)) ≡ cond b (Some (WitnessName (variable code + 1))) (refused_literal j (names_of (named_literals (drop (k + 1) codes) ++ tail)))
+refused_at names j codes tail k code b h within at low e =
+    let more : k + 1 ≡ suc k = omega arith in
+    let cut : drop k codes ≡ code ∷ drop (k + 1) codes = drop-cons codes k code within ∙ ap (λ (x : ℕ). x ∷ drop (suc k) codes) (sym at) ∙ ap (λ (n : ℕ). code ∷ drop n codes) (sym more) in
+    ap (λ (xs : List ℕ). refused_literal j (names_of (named_literals xs ++ tail))) cut
+    ∙ refused_next names j code (drop (k + 1) codes) tail h low
+    ∙ ap (λ (d : Bool). cond d (Some (WitnessName (variable code + 1))) (refused_literal j (names_of (named_literals (drop (k + 1) codes) ++ tail)))) e
+
+-- behind all codes stands nothing, or a literal past the limit
+past_literals : (j : Judge) (past : Bool) (ls : List Literal) → BeginsPast past ls → refused_literal j (names_of ls) ≡ refusal_said (limit_refusal past)
+past_literals j false ls h = ap (λ (ks : List Literal). refused_literal j (names_of ks)) h
+past_literals j true [] h = absurd h
+past_literals j true (l ∷ ls) h = let e : ltb largest l.name ≡ true = lt-ltb largest l.name h in rw e refl
+
+past_names : (past : Bool) (ls : List Literal) → BeginsPast past ls → refused_name (names_of ls) ≡ refusal_said (limit_refusal past)
+past_names false ls h = ap (λ (ks : List Literal). refused_name (names_of ks)) h
+past_names true [] h = absurd h
+past_names true (l ∷ ls) h = let e : ltb largest l.name ≡ true = lt-ltb largest l.name h in rw e refl
+
+pub refused_end : (j : Judge) (codes : List ℕ) (past : Bool) (ls : List Literal) (k : ℕ) → (f : IsFront codes past ls) → length codes ≤ k → refused_literal j (names_of (named_literals (drop k codes) ++ f.behind)) ≡ refusal_said (limit_refusal past)
+refused_end j codes past ls k f over =
+    ap (λ (xs : List ℕ). refused_literal j (names_of (named_literals xs ++ f.behind))) (drop_all k codes over) ∙ past_literals j past f.behind f.limit
+
+names_within : (codes : List ℕ) (tail : List Literal) → AllByRecursion (λ code. code < 2 * largest) codes → refused_name (names_of (named_literals codes ++ tail)) ≡ refused_name (names_of tail)
+names_within [] tail h = refl
+names_within (code ∷ codes) tail h = let low = h.0 in rw (within (variable code + 1) (omega arith)) (names_within codes tail h.1)
+
+pub names_refused : (codes : List ℕ) (past : Bool) (ls : List Literal) → IsFront codes past ls → refused_name (names_of ls) ≡ refusal_said (limit_refusal past)
+names_refused codes past ls f = ap (λ (ks : List Literal). refused_name (names_of ks)) f.whole ∙ names_within codes f.behind f.within ∙ past_names past f.behind f.limit
+
+-- WHOLE COMMANDS
+pub says_literals : (names : Names) (lent : Lent) (r : Option CodeRefusal) → (kind_of lent.kind ≡ OfClause) ⊎ (kind_of lent.kind ≡ OfAsk)
+    → ((j : Judge) (ls : List Literal) → Stands names j → IsFront lent.literals.now lent.past_limit ls → refusal_said r ≡ refused_literal j (names_of ls)) → Judges r names lent
+says_literals names lent r (inl k) said j c h (ls, f, e) = said j ls h f ∙ sym (ap (refusal_of j) (e ∙ ap (λ (kind : Kind). command_of kind ls) k))
+says_literals names lent r (inr k) said j c h (ls, f, e) = said j ls h f ∙ sym (ap (refusal_of j) (e ∙ ap (λ (kind : Kind). command_of kind ls) k))
+
+name_refusal : (kind : Kind) (j : Judge) (ls : List Literal) → (kind ≡ OfClause → ⊥) → (kind ≡ OfAsk → ⊥) → refusal_of j (command_of kind ls) ≡ refused_name (names_of ls)
+name_refusal OfClause j ls n m = absurd (n refl)
+name_refusal OfAsk j ls n m = absurd (m refl)
+name_refusal OfHide j ls n m = refl
+name_refusal OfWitness j ls n m = refl
+name_refusal OfSample j ls n m = refl
+
+pub says_names : (names : Names) (lent : Lent) (r : Option CodeRefusal) → (kind_of lent.kind ≡ OfClause → ⊥) → (kind_of lent.kind ≡ OfAsk → ⊥) → r ≡ limit_refusal lent.past_limit → Judges r names lent
+says_names names lent r n m said j c h (ls, f, e) =
+    ap refusal_said said ∙ sym (names_refused lent.literals.now lent.past_limit ls f) ∙ sym (name_refusal (kind_of lent.kind) j ls n m) ∙ sym (ap (refusal_of j) e)

@@ -1,0 +1,98 @@
+-- How a fold of names and modes stands for the judge's state.
+use Rattle.std.specs.Prelude.{ℕ, suc, zero, ◌+◌, ◌≤◌, ◌<◌, ◌≡◌, Bool, true, false, Option, Some, None, List, [], ◌∷◌, length, get_or, if◌then◌else◌}
+use Rattle.std.specs.List.{AllByRecursion}
+use Rattle.sat_base.specs.values.Literals.{largest}
+use Rattle.sat_base.specs.script.Script.{Command, names_of}
+use Rattle.certify.specs.answers.AnswerForms.{named_literals}
+use Rattle.sat_base.specs.script.Judge.{Judge, Mode, Sampled, Witnessed, identity_of, bring_in, without_name, with_mode, Refusal, PastLimit, WitnessName, refusal_of}
+use Rattle.certify.specs.reading.Language.{Kind, OfClause, OfAsk, OfHide, OfWitness, OfSample}
+use Rattle.certify.specs.reading.Commands.{IsLent}
+use Rattle.certify.specs.declared.reading.Command.{Command as Lent}
+use Rattle.certify.specs.declared.judge.NameState.{NameState}
+use Rattle.certify.specs.declared.judge.NameState.TheVariants as state
+use Rattle.certify.specs.declared.judge.Refusal.{Refusal as CodeRefusal}
+use Rattle.certify.specs.declared.judge.Refusal.TheVariants as code
+use Rattle.certify.specs.declared.judge.names.Names.{Names}
+
+-- of a name, by a list that begins with name 1
+abbrev pub state_in : List NameState → ℕ → NameState
+state_in states zero = state.Hidden
+state_in states (suc index) = get_or states index state.Hidden
+
+abbrev pub state_of_mode : Mode → NameState
+state_of_mode Sampled = state.Sampled
+state_of_mode Witnessed = state.Witnessed
+
+-- of an identity, or of a name that isn't in use
+abbrev pub state_of_identity : List Mode → Option ℕ → NameState
+state_of_identity modes None = state.Hidden
+state_of_identity modes (Some identity) = state_of_mode (get_or modes identity Sampled)
+
+-- names and modes are the judge's, who was asked of names within the limit alone
+pub record Stands (names : Names) (j : Judge) : Type 0 where
+  pub first : j.first_unused ≡ length names.states.items + 1
+  pub limit : j.first_unused ≤ largest + 1
+  pub each : (name : ℕ) → state_of_identity j.modes (identity_of j name) ≡ state_in names.states.items name
+  -- each name in use has an identity of its own, which has a mode
+  pub given : AllByRecursion (λ n. n.identity < j.next_identity) j.in_use
+  pub modes : length j.modes ≡ j.next_identity
+  pub apart : (m n i : ℕ) → identity_of j m ≡ Some i → identity_of j n ≡ Some i → m ≡ n
+
+abbrev pub is_hidden : NameState → Bool
+is_hidden state.Hidden = true
+is_hidden state.Sampled = false
+is_hidden state.Witnessed = false
+
+-- the names in use, in order, by the states from this name on
+abbrev pub used_from : ℕ → List NameState → List ℕ
+used_from name [] = []
+used_from name (s ∷ ss) = if is_hidden s then used_from (name + 1) ss else name ∷ used_from (name + 1) ss
+
+abbrev pub used_in : List NameState → List ℕ
+used_in states = used_from 1 states
+
+-- the literals of these codes are those of the names in use, in order
+abbrev pub ListsUsed : Names → List ℕ → Type 0
+ListsUsed names codes = names_of (named_literals codes) ≡ used_in names.states.items
+
+abbrev pub refusal_said : Option CodeRefusal → Option Refusal
+refusal_said None = None
+refusal_said (Some code.Limit) = Some PastLimit
+refusal_said (Some (code.Witness v)) = Some (WitnessName (v + 1))
+
+-- why a command is refused, if it is
+abbrev pub Judges : Option CodeRefusal → Names → Lent → Type 0
+Judges refusal names lent = (j : Judge) (c : Command) → Stands names j → IsLent lent c → refusal_said refusal ≡ refusal_of j c
+
+abbrev pub limit_refusal : Bool → Option CodeRefusal
+limit_refusal false = None
+limit_refusal true = Some code.Limit
+
+abbrev pub is_witnessed : NameState → Bool
+is_witnessed state.Hidden = false
+is_witnessed state.Sampled = false
+is_witnessed state.Witnessed = true
+
+abbrev pub mode_of_state : NameState → Mode
+mode_of_state state.Hidden = Sampled
+mode_of_state state.Sampled = Sampled
+mode_of_state state.Witnessed = Witnessed
+
+abbrev pub IsInUse : Names → ℕ → Type 0
+IsInUse names name = state_in names.states.items name ≡ state.Hidden → ⊥
+
+-- what a command of a kind makes of one of its names, which is in use
+abbrev pub changed : Kind → ℕ → Judge → Judge
+changed OfClause name j = j
+changed OfAsk name j = j
+changed OfHide name j = without_name name j
+changed OfWitness name j = with_mode Witnessed name j
+changed OfSample name j = with_mode Sampled name j
+
+-- so behind bringing it in
+abbrev pub taken : Kind → ℕ → Judge → Judge
+taken kind name j = changed kind name (bring_in name j)
+
+-- a change of the judge's state
+abbrev pub Changes : Names → Names → (Judge → Judge) → Type 0
+Changes old new change = (j : Judge) → Stands old j → Stands new (change j)

@@ -1,0 +1,29 @@
+//! Which commands of a script are refused, by the names in use and their modes alone.
+//!
+//! A command is refused if a name of it is past the limit, or if it is a clause or an ask with a name in use of mode witness. The
+//! leftmost such name is the reason.
+
+mod names;
+
+pub use names::{Names, NewNames};
+use sat_base::Var;
+
+/// What is known of a name that was used before.
+#[derive(Clone, Copy, Drop, PartialEq, Eq)]
+pub(crate) enum NameState {
+    /// It isn't in use.
+    Hidden,
+    /// In use, of mode sample.
+    Sampled,
+    /// In use, of mode witness.
+    Witnessed,
+}
+
+/// Why a command is refused.
+#[derive(Clone, Copy, Debug, Drop, PartialEq, Eq)]
+pub enum Refusal {
+    /// A name is past 2^28.
+    Limit,
+    /// The name of this index is in use, and of mode witness.
+    Witness(Var),
+}
