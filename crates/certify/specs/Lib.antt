@@ -8,3 +8,4 @@ pub mod script
 pub mod program
 pub mod reading
 pub mod judge
+pub mod matching

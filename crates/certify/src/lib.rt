@@ -8,6 +8,7 @@ pub mod judge;
 pub mod law_reading;
 pub mod law_script;
 pub mod laws;
+pub mod matching;
 pub mod names;
 pub mod program;
 pub mod reading;
