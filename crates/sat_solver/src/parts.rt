@@ -1,6 +1,7 @@
 //! The parts of a search.
 ghost use Rattle.std.specs.Prelude.{◌≡◌, ◌≤◌, OnOk, length, []};
 ghost use Rattle.sat_base.specs.values.Literals.{largest};
+ghost use Rattle.sat_parts.specs.prop.Trails.{no_trail};
 ghost use Rattle.sat_solver.specs.parts.Whole.{Holds};
 ghost use Rattle.sat_solver.specs.parts.Frame.{Grown};
 
@@ -51,6 +52,9 @@ pub fn grow(alloc: Global, parts: &mut Parts, count: usize) -> Result<(), AllocE
 pub fn no_parts(alloc: Global) -> Parts
     ensures holds { Holds result }
     ensures none { result.assignment.current ≡ [] }
+    ensures refs { result.db.refs ≡ [] }
+    ensures implied { result.binary.implied ≡ [] }
+    ensures trail { result.trail ≡ no_trail }
 {
     Parts {
         clauses: ClauseAlloc::new(alloc),

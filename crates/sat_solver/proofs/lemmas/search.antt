@@ -1,4 +1,5 @@
 pub mod AskedLemmas
+pub mod BeginLemmas
 pub mod BumpingLemmas
 pub mod DeletingLemmas
 pub mod FailingLemmas

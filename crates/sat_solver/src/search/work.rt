@@ -1,8 +1,11 @@
 //! What a search works with.
+ghost use Rattle.std.specs.Prelude.{◌≡◌, []};
+ghost use Rattle.sat_solver.specs.session.Session.{nothing};
+ghost use Rattle.sat_solver.specs.search.Joint.{IsSearch};
 
 use crate::analysis::Analysis;
-use crate::parts::Parts;
 use crate::parts::assumptions::Assumptions;
+use crate::parts::{Parts, no_parts};
 use sat_base::{ClauseHash, Lit, Var};
 use sat_parts::ClauseActivity;
 use sat_store::TmpFlags;
@@ -30,4 +33,28 @@ pub struct Search {
     pub scratch: Scratch,
     /// The assumption that failed last.
     pub failed: Lit,
+}
+
+/// No variables, no clauses and no assumptions. Takes no memory.
+pub fn no_search(alloc: Global) -> Search
+    ensures search { IsSearch nothing result }
+    ensures bottom { result.parts.trail.starts ≡ [] }
+    ensures values { result.parts.assignment.current ≡ [] }
+    ensures globals { result.globals.items ≡ [] }
+{
+    Search {
+        alloc,
+        parts: no_parts(alloc),
+        assumptions: Assumptions::new(alloc),
+        analysis: Analysis::new(alloc),
+        activity: ClauseActivity::default(),
+        flags: TmpFlags::new(alloc),
+        globals: Vec::new(alloc),
+        scratch: Scratch {
+            clause: Vec::new(alloc),
+            hashes: Vec::new(alloc),
+            units: Vec::new(alloc),
+        },
+        failed: Lit::from_code(0),
+    }
 }
