@@ -1,1 +1,2 @@
 pub mod CallingLemmas
+pub mod SearchingLemmas

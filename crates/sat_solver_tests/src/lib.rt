@@ -1,8 +1,12 @@
-//! Tests of `sat_solver` by its public calls, in a crate of their own so that the library is proved once; and a caller that is proved.
+//! Tests of `sat_solver` by its public calls, in a crate of their own so that the library is proved once; and callers that are proved.
 #![tactic(auto)]
 
 pub mod caller;
 #[cfg(test)]
 mod devices;
+pub mod formulas;
 #[cfg(test)]
 mod proof;
+pub mod searcher;
+#[cfg(test)]
+mod searching;

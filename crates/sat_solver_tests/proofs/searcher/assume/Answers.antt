@@ -1,0 +1,21 @@
+use Rattle.std.proofs.Common.{ℕ, ◌≡◌, ◌∙◌, List, ◌∷◌, map, sym, ap}
+use Rattle.sat_base.specs.steps.Steps.{Assumptions}
+use Rattle.sat_solver.specs.session.LiveClauses.{with_var}
+use Rattle.sat_solver.specs.session.ProofView.{steps_of}
+use Rattle.sat_solver.specs.joint.Naming.{global_of}
+use Rattle.sat_solver.specs.search.Joint.{global_in}
+use Rattle.sat_solver.proofs.lemmas.session.WritingLemmas.{ok_part}
+use Rattle.sat_solver_tests.specs.Searching.{AreRising}
+use Rattle.sat_solver_tests.proofs.SearchingLemmas.{made_one, assumed_core}
+use Rattle.sat_solver_tests.proofs.searcher.assume.Goals as goal
+
+pub returns-in-Ok : goal.returns-in-Ok
+returns-in-Ok g c = λ yes.
+    let rising : AreRising c.args.lits.now c.args.count = c.are_rising.ensures c.if-not-are_rising.false in
+    let items : c.map_lits.new.clause.items ≡ map (with_var (global_of c.deref.result.now)) c.args.lits.now = ok_part c.map_lits.result _ (sym c.is_err.ensures.value ∙ c.if-is_err.false) c.map_lits.ensures in
+    let same : c.deref-2.result.now ≡ map (with_var (global_in c.args.core.now.search)) c.args.lits.now =
+    c.deref-2.ensures.value ∙ rw c.deref.ensures.value at items in
+    let made : steps_of c.step.new.self ≡ Assumptions (map (with_var (global_in c.args.core.now.search)) c.args.lits.now) ∷ steps_of c.args.core.now.proof =
+    made_one g.W.CountedWrite.seen c.step.result (Assumptions c.deref-2.result.now) c.args.core.now.proof c.step.new.self (sym c.is_err-2.ensures.value ∙ c.if-is_err-2.false) c.step.ensures.records
+    ∙ ap (λ (ls : List ℕ). Assumptions ls ∷ steps_of c.args.core.now.proof) same in
+    assumed_core c.args.core.now c.args.count c.step.new.self c.set_assumptions.new.search c.requires c.args.lits.now rising c.step.ensures.keeps made c.in-Ok.ensures
