@@ -108,7 +108,7 @@ fn satisfies(search: &Search, clauses: &[&[usize]]) -> bool {
 }
 
 /// Whether the literals are those of the codes, in order.
-fn are_codes(lits: &[Lit], codes: &[usize]) -> bool {
+pub(crate) fn are_codes(lits: &[Lit], codes: &[usize]) -> bool {
     if lits.len() != codes.len() {
         return false;
     }
