@@ -3,7 +3,7 @@ use Rattle.std.specs.Prelude.{ℕ, ◌≤◌, ◌^◌, ◌⊎◌, List}
 use Rattle.sat_base.specs.steps.Steps.{Step}
 use Rattle.sat_checker.specs.Stored.{Stored}
 use Rattle.sat_checker.specs.Storing.{clause_with, irredundant_count, redundant_count, settled}
-use Rattle.sat_checker.specs.Accepts.{effect}
+use Rattle.sat_checker.specs.Accepts.{Accepts, effect}
 
 -- a count of a stored clause is past 64 bits
 pub record CountSpent (f : Stored) : Type 0 where
@@ -14,6 +14,6 @@ pub record CountSpent (f : Stored) : Type 0 where
 abbrev pub IsSpent : Stored → Type 0
 IsSpent f = (2 ^ 64 ≤ f.next_id) ⊎ CountSpent f
 
--- a number is past 64 bits once a pending unit conflict is settled, or in what the step would leave
+-- a number is past 64 bits once a pending unit conflict is settled, or in what the step, which is accepted, would leave
 abbrev pub SpentBy : Step → Stored → Type 0
-SpentBy step f = IsSpent (settled f) ⊎ IsSpent (effect step (settled f))
+SpentBy step f = IsSpent (settled f) ⊎ (Accepts (settled f) step × IsSpent (effect step (settled f)))

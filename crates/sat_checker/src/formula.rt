@@ -119,9 +119,10 @@ impl Formula {
         Ok(())
     }
 
-    /// Stores a unit.
+    /// Stores a unit. Nothing changes where no id is left for it.
     pub fn store_unit(&mut self, lit: Lit) -> Result<(), StoreError>
-        ensures { Becomes result self.old (with_unit lit) self.new }
+        ensures stored { Becomes result self.old (with_unit lit) self.new }
+        ensures same { IsErrOf result CounterEnd → self.new ≡ self.old }
     {
         if self.units.is_unit(lit) {
             return Ok(());
@@ -136,7 +137,8 @@ impl Formula {
 
     /// A unit whose negation is stored takes an id, and records unsat and a unit conflict.
     fn store_contradiction(&mut self, lit: Lit) -> Result<(), StoreError>
-        ensures { Becomes result self.old (with_contradiction lit) self.new }
+        ensures stored { Becomes result self.old (with_contradiction lit) self.new }
+        ensures same { IsErrOf result CounterEnd → self.new ≡ self.old }
     {
         let stored = self.units.id(!lit);
         let id = self.status.take_id()?;
@@ -246,7 +248,7 @@ impl Formula {
         self.status.take_id_if(unnumbered)
     }
 
-    /// Checks a unit under its one hash, and stores it. The answer is whether it passes.
+    /// Checks a unit under its one hash, and stores it. The answer is whether it passes. It does where no id is left for it.
     fn store_checked(
         &mut self,
         lit: Lit,
@@ -255,6 +257,7 @@ impl Formula {
     ) -> Result<bool, StoreError>
         ensures decides { (f : Stored) → KeepsFormula self.old f
             → TurnsIf result (Passes f (lit ∷ []) (hash ∷ [])) (KeepsFormula self.new (with_unit lit f)) (with_unit lit f) }
+        ensures kept { IsErrOf result CounterEnd → (f : Stored) → KeepsFormula self.old f → KeepsFormula self.new f }
         ensures looks { (f : Stored) → KeepsFormula self.old f → looks.new ≤ looks.old + literal_count f }
         ensures rise { looks.old ≤ looks.new }
     {
@@ -277,9 +280,16 @@ impl Formula {
         ensures looks { (f : Stored) → KeepsFormula self.old f → looks.new ≤ looks.old + length units.now * literal_count f }
         ensures rise { looks.old ≤ looks.new }
     {
-        for unit in units {
-            if !self.store_checked(unit.0, unit.1, looks)? {
-                return Ok(false);
+        for place in 0..units.len() {
+            let unit = units[place];
+            match self.store_checked(unit.0, unit.1, looks) {
+                Ok(true) => {}
+                Ok(false) => return Ok(false),
+                Err(StoreError::OutOfMemory) => return Err(StoreError::OutOfMemory),
+                Err(StoreError::CounterEnd) => {
+                    let (_, behind) = units.split_at(place + 1);
+                    return self.pass_unnumbered(unit.0, behind, looks);
+                }
             }
         }
         Ok(true)

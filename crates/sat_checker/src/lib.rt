@@ -35,6 +35,7 @@ mod tally;
 pub mod transcript;
 pub(crate) mod unit_ids;
 pub(crate) mod units;
+mod unnumbered;
 pub(crate) mod valuation;
 pub mod variables;
 

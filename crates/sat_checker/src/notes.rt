@@ -1,5 +1,5 @@
 //! What steps announce of clauses, noted while all is stored as it was before them.
-ghost use Rattle.std.specs.Prelude.{ℕ, false, ◌≡◌, ◌+◌, ◌*◌, ◌≤◌, ◌++◌, ◌∷◌, [], List, OnOk, IfOk, IsTrue, ◌↔◌, length, map, if◌then◌else◌};
+ghost use Rattle.std.specs.Prelude.{ℕ, false, ◌≡◌, ◌+◌, ◌*◌, ◌≤◌, ◌++◌, ◌∷◌, [], List, OnOk, IfOk, IsErrOf, IsTrue, ◌↔◌, length, map, if◌then◌else◌};
 ghost use Rattle.sat_base.specs.steps.Steps.{AddClause, DeleteClause, FailedAssumptions};
 ghost use Rattle.sat_base.specs.steps.StepViews.{deletion_of};
 ghost use Rattle.sat_base.specs.values.Literals.{negated};
@@ -8,6 +8,7 @@ ghost use Rattle.sat_checker.specs.Looks.{literal_count};
 ghost use Rattle.sat_checker.specs.Stored.{Stored};
 ghost use Rattle.sat_checker.specs.Storing.{with_unit, with_units};
 ghost use Rattle.sat_checker.specs.announcements.Announcements.{announced, derived, derived_set, derived_units, id_of_set};
+ghost use Rattle.sat_checker.specs.declared.store.StoreError.TheVariants.{CounterEnd};
 ghost use Rattle.sat_checker.specs.inner.FormulaView.{KeepsFormula, TurnsIf};
 ghost use Rattle.sat_checker.specs.telling.AnnouncingView.{stored_as, AreLong};
 
@@ -230,7 +231,8 @@ impl Formula {
         }
     }
 
-    /// Checks a unit under its one hash, notes what it announces, and stores it. The answer is whether it passes.
+    /// Checks a unit under its one hash, notes what it announces, and stores it. The answer is whether it passes. It does where no id is
+    /// left for it.
     fn store_noted(
         &mut self,
         lit: Lit,
@@ -240,6 +242,7 @@ impl Formula {
     ) -> Result<bool, StoreError>
         ensures decides { (f : Stored) → KeepsFormula self.old f
             → TurnsIf result (Passes f (lit ∷ []) (hash ∷ [])) (KeepsFormula self.new (with_unit lit f)) (with_unit lit f) }
+        ensures kept { IsErrOf result CounterEnd → (f : Stored) → KeepsFormula self.old f → KeepsFormula self.new f }
         ensures noted { IfOk result (λ passes. IsTrue passes → (f : Stored) → KeepsFormula self.old f → AreLong f
             → notes.new.news ≡ notes.old.news ++ derived false (lit ∷ []) (hash ∷ []) f) }
         ensures looks { (f : Stored) → KeepsFormula self.old f → looks.new ≤ looks.old + 2 * literal_count f }
@@ -268,9 +271,16 @@ impl Formula {
             → looks.new ≤ looks.old + length units.now * (2 * literal_count f) }
         ensures rise { looks.old ≤ looks.new }
     {
-        for unit in units {
-            if !self.store_noted(unit.0, unit.1, notes, looks)? {
-                return Ok(false);
+        for place in 0..units.len() {
+            let unit = units[place];
+            match self.store_noted(unit.0, unit.1, notes, looks) {
+                Ok(true) => {}
+                Ok(false) => return Ok(false),
+                Err(StoreError::OutOfMemory) => return Err(StoreError::OutOfMemory),
+                Err(StoreError::CounterEnd) => {
+                    let (_, behind) = units.split_at(place + 1);
+                    return self.pass_unnumbered(unit.0, behind, looks);
+                }
             }
         }
         Ok(true)

@@ -1,5 +1,5 @@
 //! What is recorded beside clauses, units and variables.
-ghost use Rattle.std.specs.Prelude.{◌≡◌, ◌+◌, ◌<◌, ◌≤◌, ◌^◌, IfOk, MatchResult, true, if◌then◌else◌};
+ghost use Rattle.std.specs.Prelude.{◌≡◌, ◌+◌, ◌<◌, ◌≤◌, ◌^◌, IfOk, OnErr, MatchResult, true, if◌then◌else◌};
 ghost use Rattle.sat_checker.specs.Stored.{nothing_stored};
 ghost use Rattle.sat_checker.specs.Storing.{first_conflict};
 ghost use Rattle.sat_checker.specs.inner.FormulaView.{standing_in, standing_of};
@@ -70,6 +70,7 @@ impl Status {
             (λ id. (id ≡ self.old.next_id) × (self.new ≡ record self.old { next_id = self.old.next_id + 1 }))
             (λ e. (e ≡ CounterEnd) × (2 ^ 64 ≤ self.old.next_id + 1)) }
         ensures room { IfOk result (λ id. id + 1 < 2 ^ 64) }
+        ensures same { OnErr result (self.new ≡ self.old) }
     {
         let id = self.next_id;
         if id == u64::MAX {

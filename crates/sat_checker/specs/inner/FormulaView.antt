@@ -2,13 +2,13 @@
 use Rattle.std.specs.Prelude.{ℕ, ◌≡◌, ◌<◌, ◌≤◌, Bool, List, map, Option, Result, Ok, Err}
 use Rattle.std.specs.List.{AllByRecursion}
 use Rattle.std.specs.Bool.{MatchBool}
-use Rattle.sat_checker.specs.Stored.{Stored, StoredClause, StoredUnit, Last, NoneYet, Empty, UnitClause, LongClause}
+use Rattle.sat_checker.specs.Stored.{Stored, StoredClause, StoredUnit, Last, NoneYet, Empty, UnitClause, LongClause, unit_literals}
 use Rattle.sat_base.specs.steps.Steps.{Step}
 use Rattle.sat_checker.specs.Accepts.{Accepts, effect}
 use Rattle.sat_checker.specs.Spent.{IsSpent}
 use Rattle.sat_checker.specs.inner.Marks.{IsIncreasing}
 use Rattle.sat_checker.specs.inner.SlotView.{slot_ids}
-use Rattle.sat_checker.specs.inner.StoreView.{KeepsHashed, HasId}
+use Rattle.sat_checker.specs.inner.StoreView.{KeepsClauses, KeepsHashed, HasId}
 use Rattle.sat_checker.specs.declared.store.StoreError.{StoreError}
 use Rattle.sat_checker.specs.declared.store.StoreError.TheVariants.{OutOfMemory, CounterEnd}
 use Rattle.sat_checker.specs.declared.status.LastClause.{LastClause}
@@ -79,11 +79,16 @@ Turns (Err CounterEnd) kept g = IsSpent g
 abbrev pub Becomes : {T : Type 0} → Result T StoreError → Formula → (Stored → Stored) → Formula → Type 0
 Becomes result old change new = (f : Stored) → KeepsFormula old f → Turns result (KeepsFormula new (change f)) (change f)
 
--- it is accepted, and changed so, or it isn't
+-- it is accepted, and changed so, or it isn't; where a number is spent, it would be
 abbrev pub TurnsIf : Result Bool StoreError → Type 0 → Type 0 → Stored → Type 0
 TurnsIf (Ok accepted) accepts kept g = MatchBool accepted (accepts × kept) (accepts → ⊥)
 TurnsIf (Err OutOfMemory) accepts kept g = Unit {0}
-TurnsIf (Err CounterEnd) accepts kept g = IsSpent g
+TurnsIf (Err CounterEnd) accepts kept g = accepts × IsSpent g
+
+-- It has these clauses and units, whatever their ids: all that a propagation check looks at.
+pub record ChecksAs (formula : Formula) (f : Stored) : Type 0 where
+  pub clauses : KeepsClauses formula.store f
+  pub units : map (λ u. u.literal) formula.units ≡ unit_literals f
 
 -- a deletion is accepted, and what it leaves is kept, or it's refused
 abbrev pub Deletes : Bool → Formula → Step → Formula → Type 0

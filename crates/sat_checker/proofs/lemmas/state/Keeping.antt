@@ -32,12 +32,12 @@ checked_formula (Ok b) F clause hashes h = λ f k. h f k.clauses k.units
 checked_formula (Err e) F clause hashes h = tt
 
 -- an error is handed on
-pub decides_err : {T : Type 0} (first : Result T StoreError) (result : Result Bool StoreError) (d e : StoreError) → first ≡ Err e → result ≡ Err d → d ≡ e → (K A L : Type 0) (g h : Stored) → (IsSpent g → IsSpent h) → Turns first K g → TurnsIf result A L h
-decides_err {T = T} first result d e a b s K A L g h w t = subst (λ x. TurnsIf x A L h) (sym (b ∙ ap Err s)) (go e (subst (λ x. Turns x K g) a t))
+pub decides_err : {T : Type 0} (first : Result T StoreError) (result : Result Bool StoreError) (d e : StoreError) → first ≡ Err e → result ≡ Err d → d ≡ e → (K A L : Type 0) (g h : Stored) → A → (IsSpent g → IsSpent h) → Turns first K g → TurnsIf result A L h
+decides_err {T = T} first result d e a b s K A L g h p w t = subst (λ x. TurnsIf x A L h) (sym (b ∙ ap Err s)) (go e (subst (λ x. Turns x K g) a t))
   where
     go : (e : StoreError) → Turns {T = T} (Err e) K g → TurnsIf (Err e) A L h
     go OutOfMemory t = tt
-    go CounterEnd t = w t
+    go CounterEnd t = (p, w t)
 
 pub sampling_kept : (vs : Variables) (f : Stored) (ls : List ℕ) → KeepsVariables vs f.variables → AreSampling vs ls → AllByRecursion (λ l. mode_of (variable l) f ≡ Sample) ls
 sampling_kept vs f [] k h = tt
@@ -103,10 +103,10 @@ settled_kept old new f k F v a = let s = settled_same f in record {
   assumed = a ∙ k.assumed ∙ ap canonical (sym s.assumed);
 }
 
-pub judged : (result : Result Bool StoreError) (A K : Type 0) (step : Step) (f : Stored) → TurnsIf result A K (effect step (settled f)) → Answers result A K (SpentBy step f)
-judged (Ok b) A K step f h = h
-judged (Err OutOfMemory) A K step f h = tt
-judged (Err CounterEnd) A K step f h = inr h
+pub judged : (result : Result Bool StoreError) (A K : Type 0) (step : Step) (f : Stored) → (A → Accepts (settled f) step) → TurnsIf result A K (effect step (settled f)) → Answers result A K (SpentBy step f)
+judged (Ok b) A K step f a h = h
+judged (Err OutOfMemory) A K step f a h = tt
+judged (Err CounterEnd) A K step f a h = inr (a h.0, h.1)
 
 pub judged_err : {T : Type 0} (first : Result T StoreError) (result : Result Bool StoreError) (d e : StoreError) → first ≡ Err e → result ≡ Err d → d ≡ e → (G A K : Type 0) (step : Step) (f : Stored) → Turns first G (settled f) → Answers result A K (SpentBy step f)
 judged_err {T = T} first result d e a b s G A K step f t = subst (λ x. Answers x A K (SpentBy step f)) (sym (b ∙ ap Err s)) (go e (subst (λ x. Turns x G (settled f)) a t))

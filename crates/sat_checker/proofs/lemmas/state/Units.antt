@@ -1,5 +1,5 @@
 -- Units that are checked and stored in turn.
-use Rattle.std.proofs.Common.{ℕ, zero, suc, ◌+◌, ◌*◌, ◌<◌, ◌≤◌, ◌≡◌, Bool, true, false, cond, List, [], ◌∷◌, length, drop, get_or, map, refl, sym, ◌∙◌, ap, subst, arith, Result, Err, inl, inr}
+use Rattle.std.proofs.Common.{ℕ, zero, suc, ◌+◌, ◌*◌, ◌<◌, ◌≤◌, ◌≡◌, Bool, true, false, cond, List, [], ◌∷◌, length, drop, get_or, map, refl, sym, ◌∙◌, ap, subst, arith, Result, MatchResult, Ok, Err, inl, inr}
 use Rattle.std.proofs.lemmas.List.{drop_more}
 use Rattle.std.specs.Bool.{MatchBool}
 use Rattle.sat_base.specs.values.Literals.{variable, negated}
@@ -35,7 +35,7 @@ pub record Left (F : Formula) (f : Stored) (all left : List (ℕ × ℕ)) : Type
 pub all_left : (F : Formula) (f : Stored) (all : List (ℕ × ℕ)) → KeepsFormula F f → Left F f all all
 all_left F f all k = record { now = f; kept = k; on = λ p. p; back = λ p. p; same = refl; count = refl }
 
-count_unit : (l : ℕ) (f : Stored) → literal_count (with_unit l f) ≡ literal_count f
+pub count_unit : (l : ℕ) (f : Stored) → literal_count (with_unit l f) ≡ literal_count f
 count_unit l f = go (is_unit f l) (is_unit f (negated l))
   where
     go : (b d : Bool) → literal_count (cond b f (cond d (with_contradiction l f) (with_new_unit l f))) ≡ literal_count f
@@ -73,6 +73,12 @@ module _ (F : Formula) (f : Stored) (all : List (ℕ × ℕ)) (i : ℕ) (u : ℕ
     count = count_unit u.0 left.now ∙ left.count;
   }
 
+  pub behind_it : PassInTurn (with_unit u.0 left.now) (drop (i + 1) all) → Passes left.now (u.0 ∷ []) (u.1 ∷ []) → PassInTurn f all
+  behind_it q p = left.on (subst (PassInTurn left.now) (sym split) (p, q))
+
+  pub back_behind : PassInTurn f all → PassInTurn (with_unit u.0 left.now) (drop (i + 1) all)
+  back_behind q = (subst (PassInTurn left.now) split (left.back q)).1
+
   pub stopped : (Passes left.now (u.0 ∷ []) (u.1 ∷ []) → ⊥) → PassInTurn f all → ⊥
   stopped n q = n (subst (PassInTurn left.now) split (left.back q)).0
 
@@ -95,13 +101,24 @@ finished F f all i l left = let e = past all i l in (left.on (subst (PassInTurn 
     past (x ∷ xs) zero l = absurd (omega arith)
     past (x ∷ xs) (suc i) l = past xs i (omega arith)
 
+-- a number is spent
+pub spent_passes : (e : StoreError) (A K : Type 0) (g : Stored) → e ≡ CounterEnd → TurnsIf (Err e) A K g → A × IsSpent g
+spent_passes e A K g s t = subst (λ x. TurnsIf (Err x) A K g) s t
+
+-- no id is left for the next one
+pub unnumbered : (r : Result Bool StoreError) (A B K : Type 0) (g : Stored) → (A → B) → (B → A) → IsSpent g → MatchResult r (λ passes. (passes ≡ false) × (A → ⊥)) (λ e. e ≡ CounterEnd → A) → TurnsIf r B K g
+unnumbered (Ok true) A B K g on back s m = absurd (let e : true ≡ false = m.0 in cc)
+unnumbered (Ok false) A B K g on back s m = λ b. m.1 (back b)
+unnumbered (Err OutOfMemory) A B K g on back s m = tt
+unnumbered (Err CounterEnd) A B K g on back s m = (on (m refl), s)
+
 -- the answer to all of them
-pub turns_err : (first result : Result Bool StoreError) (d e : StoreError) → first ≡ Err e → result ≡ Err d → d ≡ e → (A K B L : Type 0) (g h : Stored) → (IsSpent g → IsSpent h) → TurnsIf first A K g → TurnsIf result B L h
-turns_err first result d e a b s A K B L g h w t = subst (λ x. TurnsIf x B L h) (sym (b ∙ ap Err s)) (go e (subst (λ x. TurnsIf x A K g) a t))
+pub turns_err : (first result : Result Bool StoreError) (d e : StoreError) → first ≡ Err e → result ≡ Err d → d ≡ e → (A K B L : Type 0) (g h : Stored) → (A → B) → (IsSpent g → IsSpent h) → TurnsIf first A K g → TurnsIf result B L h
+turns_err first result d e a b s A K B L g h p w t = subst (λ x. TurnsIf x B L h) (sym (b ∙ ap Err s)) (go e (subst (λ x. TurnsIf x A K g) a t))
   where
     go : (e : StoreError) → TurnsIf (Err e) A K g → TurnsIf (Err e) B L h
     go OutOfMemory t = tt
-    go CounterEnd t = w t
+    go CounterEnd t = (p t.0, w t.1)
 
 -- units and known variables come in apart from each other
 known_unit : (vs : List ℕ) (l : ℕ) (f : Stored) → with_unit l (with_known vs f) ≡ with_known vs (with_unit l f)

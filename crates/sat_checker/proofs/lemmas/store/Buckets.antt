@@ -40,6 +40,14 @@ looks_more old looks new i n b h k l = let e : (i + 1) * n ≡ i * n + n = grind
 pub looks_within : (old looks i m n : ℕ) → looks ≤ old + i * n → i ≤ m → looks ≤ old + m * n
 looks_within old looks i m n h l = let e : i * n ≤ m * n = grind arith in omega arith
 
+-- looks of some, of one more, and of the rest
+pub looks_rest : (old looks then new i k all n m : ℕ) → m ≡ n → k + (i + 1) ≡ all → looks ≤ old + i * n → then ≤ looks + m → new ≤ then + k * m → new ≤ old + all * n
+looks_rest old looks then new i k all n m e f g h l =
+    let d : (k + (i + 1)) * n ≡ k * n + i * n + n = grind arith in
+    let c : all * n ≡ (k + (i + 1)) * n = ap (λ x. x * n) (sym f) in
+    let b : k * m ≡ k * n = ap (λ x. k * x) e in
+    omega arith
+
 pub walked_more : (old looks new i h : ℕ) (ss : List Slot) → looks ≤ old + i * live_length ss → new ≤ looks + total_length (bucket_in h ss) → new ≤ old + (i + 1) * live_length ss
 walked_more old looks new i h ss a b = looks_more old looks new i (live_length ss) (total_length (bucket_in h ss)) a b (bucket_length h ss)
 

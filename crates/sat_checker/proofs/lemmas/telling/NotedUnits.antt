@@ -1,5 +1,5 @@
 -- What units announce that are checked and stored in turn.
-use Rattle.std.proofs.Common.{ℕ, zero, suc, ◌+◌, ◌*◌, ◌<◌, ◌≤◌, ◌≡◌, Bool, true, false, cond, List, [], ◌∷◌, ◌++◌, length, drop, get_or, refl, sym, ◌∙◌, ap, arith, append_assoc}
+use Rattle.std.proofs.Common.{ℕ, zero, suc, ◌+◌, ◌*◌, ◌<◌, ◌≤◌, ◌≡◌, Bool, true, false, cond, List, [], ◌∷◌, ◌++◌, length, drop, get_or, refl, sym, ◌∙◌, ap, arith, append_assoc, Result, Ok, Err, IfOk}
 use Rattle.std.proofs.lemmas.List.{drop_more}
 use Rattle.sat_base.specs.values.Literals.{negated}
 use Rattle.sat_checker.specs.Stored.{Stored, is_unit}
@@ -8,7 +8,7 @@ use Rattle.sat_checker.specs.announcements.Announcements.{Announcement, derived,
 use Rattle.sat_checker.specs.inner.FormulaView.{KeepsFormula}
 use Rattle.sat_checker.specs.telling.AnnouncingView.{AreLong}
 use Rattle.sat_checker.specs.declared.formula.Formula.{Formula}
-use Rattle.sat_checker.proofs.lemmas.store.Buckets.{looks_more, looks_within}
+use Rattle.sat_checker.proofs.lemmas.store.Buckets.{looks_more, looks_rest, looks_within}
 use Rattle.sat_checker.proofs.lemmas.telling.Noting.{none_behind}
 
 -- What was announced so far, and what will be of the units that are left, is what all of them announce.
@@ -50,9 +50,21 @@ noted_all F f all i before news l noted = sym (none_behind news) ∙ ap (λ us. 
     past (x ∷ xs) zero l = absurd (omega arith)
     past (x ∷ xs) (suc i) l = past xs i (omega arith)
 
+-- nothing is accepted where no id is left
+pub none_noted : {E : Type 0} (r : Result Bool E) (P : Type 0) → IfOk r (λ passes. passes ≡ false) → IfOk r (λ passes. passes ≡ true → P)
+none_noted (Ok true) P h = absurd (let e : true ≡ false = h in cc)
+none_noted (Ok false) P h = λ e. absurd (let d : false ≡ true = e in cc)
+none_noted (Err e) P h = tt
+
 -- looks of the units so far, and of one more
 pub twice_then : (old looks new i n m : ℕ) → m ≡ n → looks ≤ old + i * (2 * n) → new ≤ looks + 2 * m → new ≤ old + (i + 1) * (2 * n)
 twice_then old looks new i n m e h k = looks_more old looks new i (2 * n) (2 * m) h k (omega (arith, e))
 
 pub twice_end : (old looks new : ℕ) (all : List (ℕ × ℕ)) (i : ℕ) → i < length all → (n m : ℕ) → m ≡ n → looks ≤ old + i * (2 * n) → new ≤ looks + 2 * m → new ≤ old + length all * (2 * n)
 twice_end old looks new all i l n m e h k = looks_within old new (i + 1) (length all) (2 * n) (twice_then old looks new i n m e h k) (omega arith)
+
+-- looks of some, of one more, and of the rest, which are looked at once
+pub twice_rest : (old looks then new i k all n m : ℕ) → m ≡ n → k + (i + 1) ≡ all → looks ≤ old + i * (2 * n) → then ≤ looks + 2 * m → new ≤ then + k * m → new ≤ old + all * (2 * n)
+twice_rest old looks then new i k all n m e f g h l =
+    let d : k * m ≤ k * (2 * m) = grind arith in
+    looks_rest old looks then new i k all (2 * n) (2 * m) (ap (λ x. 2 * x) e) f g h (omega arith)

@@ -233,7 +233,7 @@ module _ (old : Kernel) (steps : List Step) (s : kernels.Stands old steps) (well
       → new.records ≡ old.records → kernels.has_failed new ≡ true → kernels.AnswersStep (Err (failure_of error)) old step new steps
   judged_short new stores.OutOfMemory h r f = (well, inl (judged_fails new r f))
   judged_short new stores.CounterEnd h r f =
-      (well, subst (λ g. IsSpent g ⊎ IsSpent (effect step g)) (ready_of old.state steps (s.kept well)) h, judged_fails new r f)
+      (well, subst (λ g. IsSpent g ⊎ (Accepts g step × IsSpent (effect step g))) (ready_of old.state steps (s.kept well)) h, judged_fails new r f)
 
 -- A STEP THAT IS TOLD
 

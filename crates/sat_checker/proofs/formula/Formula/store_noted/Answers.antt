@@ -16,13 +16,13 @@ returns-in_err-check_unit-clause-looks c = c.check_unit.ensures.looks
 pub returns-in_err-store_unit-clause-decides : goal.returns-in_err-store_unit-clause-decides
 returns-in_err-store_unit-clause-decides c = λ f k.
     let p = err_from_is_err_and c.from_residual-in_err-store_unit.result c.from_residual-in_err-store_unit.ensures.1 in
-    decides_err c.store_unit.result _ p.0 _ c.in_err-store_unit.was p.1 p.2 _ _ _ _ _ (λ s. s) (c.store_unit.ensures f (c.check_unit.ensures.kept f k))
+    decides_err c.store_unit.result _ p.0 _ c.in_err-store_unit.was p.1 p.2 _ _ _ _ _ ((c.in_ok-check_unit.ensures.exact f k).0 c.if-not-branch.false) (λ s. s) (c.store_unit.ensures.stored f (c.check_unit.ensures.kept f k))
 
 pub returns-in_err-store_unit-clause-looks : goal.returns-in_err-store_unit-clause-looks
 returns-in_err-store_unit-clause-looks c = c.check_unit.ensures.looks
 
 pub returns-clause-decides : goal.returns-clause-decides
-returns-clause-decides c = λ f k. ((c.in_ok-check_unit.ensures.exact f k).0 c.if-not-branch.false, c.in_ok-store_unit.ensures f (c.check_unit.ensures.kept f k))
+returns-clause-decides c = λ f k. ((c.in_ok-check_unit.ensures.exact f k).0 c.if-not-branch.false, c.in_ok-store_unit.ensures.stored f (c.check_unit.ensures.kept f k))
 
 pub returns-clause-noted : goal.returns-clause-noted
 returns-clause-noted c = λ _ f k long. c.in_ok-check_unit.ensures.noted c.if-not-branch.false f k long

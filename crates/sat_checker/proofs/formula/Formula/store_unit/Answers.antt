@@ -4,13 +4,13 @@ use Rattle.sat_checker.proofs.lemmas.formula.Storing.{unit_stored}
 use Rattle.std.proofs.lemmas.Result.{err_from_is_err_and}
 use Rattle.sat_checker.proofs.formula.Formula.store_unit.Goals as goal
 
-pub returns : goal.returns
-returns c = λ f k.
+pub returns-clause-stored : goal.returns-clause-stored
+returns-clause-stored c = λ f k.
     unit_stored c.args.self.now f c.args.lit c.in_ok-id.id c.push.new.self c.take_id.new.self k (sym c.is_unit.ensures ∙ c.if-is_unit.false)
     (ap (is_among (map (λ u. u.literal) c.args.self.now.units)) (sym c.not.ensures) ∙ sym c.is_unit-2.ensures ∙ c.if-is_unit-2.false) c.in_ok-push.ensures c.in_ok-id.ensures.taken
 
-pub returns-in_err-push : goal.returns-in_err-push
-returns-in_err-push c = let p = err_from_is_err_and c.from_residual-in_err-push.result c.from_residual-in_err-push.ensures.1 in rw (p.1, p.2) (λ f k. tt)
+pub returns-in_err-push-clause-stored : goal.returns-in_err-push-clause-stored
+returns-in_err-push-clause-stored c = let p = err_from_is_err_and c.from_residual-in_err-push.result c.from_residual-in_err-push.ensures.1 in rw (p.1, p.2) (λ f k. tt)
 
 pub push-requires-clause-id : goal.push-requires-clause-id
 push-requires-clause-id c = c.in_ok-id.ensures.room

@@ -1,46 +1,52 @@
-use Rattle.std.proofs.Common.{arith}
-use Rattle.std.proofs.lemmas.Result.{err_from_is_err_and}
+use Rattle.std.proofs.Common.{arith, length, subst, sym, ap, Err}
+use Rattle.sat_checker.specs.Looks.{literal_count}
+use Rattle.sat_checker.specs.Accepts.{PassInTurn}
+use Rattle.sat_checker.specs.Storing.{with_unit}
+use Rattle.sat_checker.proofs.lemmas.store.Buckets.{looks_rest}
 use Rattle.sat_checker.proofs.lemmas.variables.Keeping.{match_true, match_false}
-use Rattle.sat_checker.proofs.lemmas.state.Units.{passed, stopped, spent_then, looks_then, looks_end, finished, turns_err}
+use Rattle.sat_checker.proofs.lemmas.state.Units.{passed, stopped, spent_then, looks_then, finished, unnumbered, spent_passes, behind_it, back_behind}
+use Rattle.sat_checker.proofs.lemmas.state.Unnumbered.{checks_as}
 use Rattle.sat_checker.proofs.formula.Formula.store_units.Goals as goal
 
-pub returns-in_err-store_checked-clause-decides : goal.returns-in_err-store_checked-clause-decides
-returns-in_err-store_checked-clause-decides c = λ f k.
-    let left = c.loop-unit.invariant.left f k in
-    let p = err_from_is_err_and c.from_residual.result c.from_residual.ensures.1 in
-    turns_err c.store_checked.result _ p.0 _ c.in_err-store_checked.was p.1 p.2 _ _ _ _ _ _
-    (spent_then c.loop-unit.self f c.args.units.now c.loop-unit.unit-index c.unit-item.result c.loop-unit-test.true c.unit-item.is left) (c.store_checked.ensures.decides left.now left.kept)
+pub returns-in-Err-CounterEnd-clause-decides : goal.returns-in-Err-CounterEnd-clause-decides
+returns-in-Err-CounterEnd-clause-decides c = λ f k.
+    let left = c.loop-place.invariant.left f k in
+    let units = c.args.units.now in
+    let self = c.loop-place.self in
+    let unit = c.index-units-place.result in
+    let spent = spent_passes c.in-Err-CounterEnd.field-0 _ _ _ c.in-Err-CounterEnd.field-0-is (c.in-Err-CounterEnd.ensures.decides left.now left.kept) in
+    let kept = checks_as c.store_checked.new.self left.now (c.in-Err-CounterEnd.ensures.kept (ap Err c.in-Err-CounterEnd.field-0-is) left.now left.kept) in
+    unnumbered c.pass_unnumbered.result (PassInTurn (with_unit unit.0 left.now) c.split_at.result.1.now) _ _ _
+    (λ q. behind_it self f units c.loop-place.place unit c.loop-place-test.true c.index-units-place.is left (subst (PassInTurn (with_unit unit.0 left.now)) c.split_at.ensures.back q) spent.0)
+    (λ q. subst (PassInTurn (with_unit unit.0 left.now)) (sym c.split_at.ensures.back) (back_behind self f units c.loop-place.place unit c.loop-place-test.true c.index-units-place.is left q))
+    (spent_then self f units c.loop-place.place unit c.loop-place-test.true c.index-units-place.is left spent.1)
+    (c.pass_unnumbered.ensures.exact left.now kept)
 
-pub returns-in_err-store_checked-clause-looks : goal.returns-in_err-store_checked-clause-looks
-returns-in_err-store_checked-clause-looks c = λ f k.
-    let left = c.loop-unit.invariant.left f k in
-    looks_end c.loop-unit.self f c.args.units.now c.loop-unit.unit-index c.unit-item.result c.loop-unit-test.true c.unit-item.is left c.args.looks.now c.loop-unit.looks c.store_checked.new.looks (c.loop-unit.invariant.looks f k)
-    (c.store_checked.ensures.looks left.now left.kept)
+pub returns-in-Err-CounterEnd-clause-looks : goal.returns-in-Err-CounterEnd-clause-looks
+returns-in-Err-CounterEnd-clause-looks c = λ f k.
+    let left = c.loop-place.invariant.left f k in
+    let kept = checks_as c.store_checked.new.self left.now (c.in-Err-CounterEnd.ensures.kept (ap Err c.in-Err-CounterEnd.field-0-is) left.now left.kept) in
+    looks_rest c.args.looks.now c.loop-place.looks c.store_checked.new.looks c.pass_unnumbered.new.looks c.loop-place.place (length c.split_at.result.1.now) (length c.args.units.now) (literal_count f) (literal_count left.now) left.count c.split_at.ensures.back_len
+    (c.loop-place.invariant.looks f k) (c.store_checked.ensures.looks left.now left.kept) (c.pass_unnumbered.ensures.looks left.now kept)
 
-pub returns-then-not-branch-clause-decides : goal.returns-then-not-branch-clause-decides
-returns-then-not-branch-clause-decides c = λ f k.
-    let left = c.loop-unit.invariant.left f k in
-    stopped c.loop-unit.self f c.args.units.now c.loop-unit.unit-index c.unit-item.result c.loop-unit-test.true c.unit-item.is left
-    (match_false _ _ _ (c.in_ok-store_checked.ensures.decides left.now left.kept) c.if-not-branch.true)
+pub returns-in-Ok-false-clause-decides : goal.returns-in-Ok-false-clause-decides
+returns-in-Ok-false-clause-decides c = λ f k.
+    let left = c.loop-place.invariant.left f k in
+    stopped c.loop-place.self f c.args.units.now c.loop-place.place c.index-units-place.result c.loop-place-test.true c.index-units-place.is left
+    (match_false _ _ _ (c.in-Ok-false.ensures.decides left.now left.kept) c.in-Ok-false.field-0-test)
 
-pub returns-then-not-branch-clause-looks : goal.returns-then-not-branch-clause-looks
-returns-then-not-branch-clause-looks c = λ f k.
-    let left = c.loop-unit.invariant.left f k in
-    looks_end c.loop-unit.self f c.args.units.now c.loop-unit.unit-index c.unit-item.result c.loop-unit-test.true c.unit-item.is left c.args.looks.now c.loop-unit.looks c.store_checked.new.looks (c.loop-unit.invariant.looks f k)
-    (c.store_checked.ensures.looks left.now left.kept)
-
-pub loop-unit-preserved : goal.loop-unit-preserved
-loop-unit-preserved c = record {
+pub loop-place-preserved : goal.loop-place-preserved
+loop-place-preserved c = record {
   left = λ f k.
-      let left = c.loop-unit.invariant.left f k in
-      let m = match_true _ _ _ (c.in_ok-store_checked.ensures.decides left.now left.kept) c.if-not-branch.false in
-      passed c.loop-unit.self f c.args.units.now c.loop-unit.unit-index c.unit-item.result c.loop-unit-test.true c.unit-item.is left c.store_checked.new.self m.0 m.1;
+      let left = c.loop-place.invariant.left f k in
+      let m = match_true _ _ _ (c.in-Ok-true.ensures.decides left.now left.kept) c.in-Ok-true.field-0-test in
+      passed c.loop-place.self f c.args.units.now c.loop-place.place c.index-units-place.result c.loop-place-test.true c.index-units-place.is left c.store_checked.new.self m.0 m.1;
   looks = λ f k.
-      let left = c.loop-unit.invariant.left f k in
-      looks_then c.loop-unit.self f c.args.units.now c.loop-unit.unit-index c.unit-item.result c.loop-unit-test.true c.unit-item.is left c.args.looks.now c.loop-unit.looks c.store_checked.new.looks (c.loop-unit.invariant.looks f k)
+      let left = c.loop-place.invariant.left f k in
+      looks_then c.loop-place.self f c.args.units.now c.loop-place.place c.index-units-place.result c.loop-place-test.true c.index-units-place.is left c.args.looks.now c.loop-place.looks c.store_checked.new.looks (c.loop-place.invariant.looks f k)
       (c.store_checked.ensures.looks left.now left.kept);
-  rise = omega (arith, c.loop-unit.invariant.rise, c.store_checked.ensures.rise);
+  rise = omega (arith, c.loop-place.invariant.rise, c.store_checked.ensures.rise);
 }
 
 pub returns-clause-decides : goal.returns-clause-decides
-returns-clause-decides c = λ f k. finished c.loop-unit.self f c.args.units.now c.loop-unit.unit-index (omega arith) (c.loop-unit.invariant.left f k)
+returns-clause-decides c = λ f k. finished c.loop-place.self f c.args.units.now c.loop-place.place (omega arith) (c.loop-place.invariant.left f k)

@@ -6,9 +6,9 @@ use Rattle.sat_checker.proofs.lemmas.state.Units.{Left}
 use Rattle.sat_checker.proofs.formula.Formula.store_units.Given as goal
 
 -- the units that are left are judged by what is kept now
-abbrev pub invariant-loop-unit : goal.invariant-loop-unit
-invariant-loop-unit l = record {
-  left : (f : Stored) → KeepsFormula l.fn.self f → Left l.self f l.units (drop l.unit-index l.units);
-  looks : (f : Stored) → KeepsFormula l.fn.self f → l.looks ≤ l.fn.looks + l.unit-index * literal_count f;
+abbrev pub invariant-loop-place : goal.invariant-loop-place
+invariant-loop-place l = record {
+  left : (f : Stored) → KeepsFormula l.fn.self f → Left l.self f l.units (drop l.place l.units);
+  looks : (f : Stored) → KeepsFormula l.fn.self f → l.looks ≤ l.fn.looks + l.place * literal_count f;
   rise : l.fn.looks ≤ l.looks;
 }

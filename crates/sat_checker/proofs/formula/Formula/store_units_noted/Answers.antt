@@ -1,53 +1,72 @@
-use Rattle.std.proofs.Common.{arith}
-use Rattle.std.proofs.lemmas.Result.{err_from_is_err_and}
+use Rattle.std.proofs.Common.{arith, length, subst, sym, ap, Err}
 use Rattle.sat_checker.specs.Looks.{literal_count}
+use Rattle.sat_checker.specs.Accepts.{PassInTurn}
+use Rattle.sat_checker.specs.Storing.{with_unit}
 use Rattle.sat_checker.proofs.lemmas.variables.Keeping.{match_true, match_false}
-use Rattle.sat_checker.proofs.lemmas.state.Units.{passed, stopped, spent_then, finished, turns_err}
-use Rattle.sat_checker.proofs.lemmas.telling.NotedUnits.{noted_more, noted_all, twice_then, twice_end}
+use Rattle.sat_checker.proofs.lemmas.state.Units.{passed, stopped, spent_then, finished, unnumbered, spent_passes, behind_it, back_behind}
+use Rattle.sat_checker.proofs.lemmas.state.Unnumbered.{checks_as}
+use Rattle.sat_checker.proofs.lemmas.telling.NotedUnits.{noted_more, noted_all, none_noted, twice_then, twice_end, twice_rest}
 use Rattle.sat_checker.proofs.formula.Formula.store_units_noted.Goals as goal
 
-pub returns-in_err-store_noted-clause-decides : goal.returns-in_err-store_noted-clause-decides
-returns-in_err-store_noted-clause-decides c = λ f k.
-    let left = c.loop-unit.invariant.left f k in
-    let p = err_from_is_err_and c.from_residual.result c.from_residual.ensures.1 in
-    turns_err c.store_noted.result _ p.0 _ c.in_err-store_noted.was p.1 p.2 _ _ _ _ _ _
-    (spent_then c.loop-unit.self f c.args.units.now c.loop-unit.unit-index c.unit-item.result c.loop-unit-test.true c.unit-item.is left) (c.store_noted.ensures.decides left.now left.kept)
+pub returns-in-Err-CounterEnd-clause-decides : goal.returns-in-Err-CounterEnd-clause-decides
+returns-in-Err-CounterEnd-clause-decides c = λ f k.
+    let left = c.loop-place.invariant.left f k in
+    let units = c.args.units.now in
+    let self = c.loop-place.self in
+    let unit = c.index-units-place.result in
+    let spent = spent_passes c.in-Err-CounterEnd.field-0 _ _ _ c.in-Err-CounterEnd.field-0-is (c.in-Err-CounterEnd.ensures.decides left.now left.kept) in
+    let kept = checks_as c.store_noted.new.self left.now (c.in-Err-CounterEnd.ensures.kept (ap Err c.in-Err-CounterEnd.field-0-is) left.now left.kept) in
+    unnumbered c.pass_unnumbered.result (PassInTurn (with_unit unit.0 left.now) c.split_at.result.1.now) _ _ _
+    (λ q. behind_it self f units c.loop-place.place unit c.loop-place-test.true c.index-units-place.is left (subst (PassInTurn (with_unit unit.0 left.now)) c.split_at.ensures.back q) spent.0)
+    (λ q. subst (PassInTurn (with_unit unit.0 left.now)) (sym c.split_at.ensures.back) (back_behind self f units c.loop-place.place unit c.loop-place-test.true c.index-units-place.is left q))
+    (spent_then self f units c.loop-place.place unit c.loop-place-test.true c.index-units-place.is left spent.1)
+    (c.pass_unnumbered.ensures.exact left.now kept)
 
-pub returns-in_err-store_noted-clause-looks : goal.returns-in_err-store_noted-clause-looks
-returns-in_err-store_noted-clause-looks c = λ f k.
-    let left = c.loop-unit.invariant.left f k in
-    twice_end c.args.looks.now c.loop-unit.looks c.store_noted.new.looks c.args.units.now c.loop-unit.unit-index c.loop-unit-test.true (literal_count f) (literal_count left.now) left.count (c.loop-unit.invariant.looks f k) (c.store_noted.ensures.looks left.now left.kept)
+pub returns-in-Err-CounterEnd-clause-looks : goal.returns-in-Err-CounterEnd-clause-looks
+returns-in-Err-CounterEnd-clause-looks c = λ f k.
+    let left = c.loop-place.invariant.left f k in
+    let kept = checks_as c.store_noted.new.self left.now (c.in-Err-CounterEnd.ensures.kept (ap Err c.in-Err-CounterEnd.field-0-is) left.now left.kept) in
+    twice_rest c.args.looks.now c.loop-place.looks c.store_noted.new.looks c.pass_unnumbered.new.looks c.loop-place.place (length c.split_at.result.1.now) (length c.args.units.now) (literal_count f) (literal_count left.now) left.count c.split_at.ensures.back_len
+    (c.loop-place.invariant.looks f k) (c.store_noted.ensures.looks left.now left.kept) (c.pass_unnumbered.ensures.looks left.now kept)
 
-pub returns-then-not-branch-clause-decides : goal.returns-then-not-branch-clause-decides
-returns-then-not-branch-clause-decides c = λ f k.
-    let left = c.loop-unit.invariant.left f k in
-    stopped c.loop-unit.self f c.args.units.now c.loop-unit.unit-index c.unit-item.result c.loop-unit-test.true c.unit-item.is left
-    (match_false _ _ _ (c.in_ok-store_noted.ensures.decides left.now left.kept) c.if-not-branch.true)
+pub returns-in-Err-CounterEnd-clause-noted : goal.returns-in-Err-CounterEnd-clause-noted
+returns-in-Err-CounterEnd-clause-noted c = none_noted c.pass_unnumbered.result _ c.pass_unnumbered.ensures.never
 
-pub returns-then-not-branch-clause-looks : goal.returns-then-not-branch-clause-looks
-returns-then-not-branch-clause-looks c = λ f k.
-    let left = c.loop-unit.invariant.left f k in
-    twice_end c.args.looks.now c.loop-unit.looks c.store_noted.new.looks c.args.units.now c.loop-unit.unit-index c.loop-unit-test.true (literal_count f) (literal_count left.now) left.count (c.loop-unit.invariant.looks f k) (c.store_noted.ensures.looks left.now left.kept)
+pub returns-in-Ok-false-clause-decides : goal.returns-in-Ok-false-clause-decides
+returns-in-Ok-false-clause-decides c = λ f k.
+    let left = c.loop-place.invariant.left f k in
+    stopped c.loop-place.self f c.args.units.now c.loop-place.place c.index-units-place.result c.loop-place-test.true c.index-units-place.is left
+    (match_false _ _ _ (c.in-Ok-false.ensures.decides left.now left.kept) c.in-Ok-false.field-0-test)
 
-pub loop-unit-preserved : goal.loop-unit-preserved
-loop-unit-preserved c = record {
+pub returns-in-Ok-false-clause-looks : goal.returns-in-Ok-false-clause-looks
+returns-in-Ok-false-clause-looks c = λ f k.
+    let left = c.loop-place.invariant.left f k in
+    twice_end c.args.looks.now c.loop-place.looks c.store_noted.new.looks c.args.units.now c.loop-place.place c.loop-place-test.true (literal_count f) (literal_count left.now) left.count (c.loop-place.invariant.looks f k) (c.store_noted.ensures.looks left.now left.kept)
+
+pub returns-in-Err-OutOfMemory-clause-looks : goal.returns-in-Err-OutOfMemory-clause-looks
+returns-in-Err-OutOfMemory-clause-looks c = λ f k.
+    let left = c.loop-place.invariant.left f k in
+    twice_end c.args.looks.now c.loop-place.looks c.store_noted.new.looks c.args.units.now c.loop-place.place c.loop-place-test.true (literal_count f) (literal_count left.now) left.count (c.loop-place.invariant.looks f k) (c.store_noted.ensures.looks left.now left.kept)
+
+pub loop-place-preserved : goal.loop-place-preserved
+loop-place-preserved c = record {
   left = λ f k.
-      let left = c.loop-unit.invariant.left f k in
-      let m = match_true _ _ _ (c.in_ok-store_noted.ensures.decides left.now left.kept) c.if-not-branch.false in
-      passed c.loop-unit.self f c.args.units.now c.loop-unit.unit-index c.unit-item.result c.loop-unit-test.true c.unit-item.is left c.store_noted.new.self m.0 m.1;
+      let left = c.loop-place.invariant.left f k in
+      let m = match_true _ _ _ (c.in-Ok-true.ensures.decides left.now left.kept) c.in-Ok-true.field-0-test in
+      passed c.loop-place.self f c.args.units.now c.loop-place.place c.index-units-place.result c.loop-place-test.true c.index-units-place.is left c.store_noted.new.self m.0 m.1;
   noted = λ f k a.
-      let noted = c.loop-unit.invariant.noted f k a in
-      let m = match_true _ _ _ (c.in_ok-store_noted.ensures.decides noted.now noted.kept) c.if-not-branch.false in
-      noted_more c.loop-unit.self f c.args.units.now c.loop-unit.unit-index c.unit-item.result c.loop-unit-test.true c.unit-item.is c.args.notes.now.news c.loop-unit.notes.news noted c.store_noted.new.self c.store_noted.new.notes.news
-      (c.in_ok-store_noted.ensures.noted c.if-not-branch.false noted.now noted.kept noted.long) m.1;
+      let noted = c.loop-place.invariant.noted f k a in
+      let m = match_true _ _ _ (c.in-Ok-true.ensures.decides noted.now noted.kept) c.in-Ok-true.field-0-test in
+      noted_more c.loop-place.self f c.args.units.now c.loop-place.place c.index-units-place.result c.loop-place-test.true c.index-units-place.is c.args.notes.now.news c.loop-place.notes.news noted c.store_noted.new.self c.store_noted.new.notes.news
+      (c.in-Ok-true.ensures.noted c.in-Ok-true.field-0-test noted.now noted.kept noted.long) m.1;
   looks = λ f k.
-      let left = c.loop-unit.invariant.left f k in
-      twice_then c.args.looks.now c.loop-unit.looks c.store_noted.new.looks c.loop-unit.unit-index (literal_count f) (literal_count left.now) left.count (c.loop-unit.invariant.looks f k) (c.store_noted.ensures.looks left.now left.kept);
-  rise = omega (arith, c.loop-unit.invariant.rise, c.store_noted.ensures.rise);
+      let left = c.loop-place.invariant.left f k in
+      twice_then c.args.looks.now c.loop-place.looks c.store_noted.new.looks c.loop-place.place (literal_count f) (literal_count left.now) left.count (c.loop-place.invariant.looks f k) (c.store_noted.ensures.looks left.now left.kept);
+  rise = omega (arith, c.loop-place.invariant.rise, c.store_noted.ensures.rise);
 }
 
 pub returns-clause-decides : goal.returns-clause-decides
-returns-clause-decides c = λ f k. finished c.loop-unit.self f c.args.units.now c.loop-unit.unit-index (omega arith) (c.loop-unit.invariant.left f k)
+returns-clause-decides c = λ f k. finished c.loop-place.self f c.args.units.now c.loop-place.place (omega arith) (c.loop-place.invariant.left f k)
 
 pub returns-clause-noted : goal.returns-clause-noted
-returns-clause-noted c = λ _ f k a. noted_all c.loop-unit.self f c.args.units.now c.loop-unit.unit-index c.args.notes.now.news c.loop-unit.notes.news (omega arith) (c.loop-unit.invariant.noted f k a)
+returns-clause-noted c = λ _ f k a. noted_all c.loop-place.self f c.args.units.now c.loop-place.place c.args.notes.now.news c.loop-place.notes.news (omega arith) (c.loop-place.invariant.noted f k a)

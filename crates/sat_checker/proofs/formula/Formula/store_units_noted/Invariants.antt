@@ -8,10 +8,10 @@ use Rattle.sat_checker.proofs.lemmas.telling.NotedUnits.{Noted}
 use Rattle.sat_checker.proofs.formula.Formula.store_units_noted.Given as goal
 
 -- the units that are left are judged by what is kept now
-abbrev pub invariant-loop-unit : goal.invariant-loop-unit
-invariant-loop-unit l = record {
-  left : (f : Stored) → KeepsFormula l.fn.self f → Left l.self f l.units (drop l.unit-index l.units);
-  noted : (f : Stored) → KeepsFormula l.fn.self f → AreLong f → Noted l.self f l.units (drop l.unit-index l.units) l.fn.notes.news l.notes.news;
-  looks : (f : Stored) → KeepsFormula l.fn.self f → l.looks ≤ l.fn.looks + l.unit-index * (2 * literal_count f);
+abbrev pub invariant-loop-place : goal.invariant-loop-place
+invariant-loop-place l = record {
+  left : (f : Stored) → KeepsFormula l.fn.self f → Left l.self f l.units (drop l.place l.units);
+  noted : (f : Stored) → KeepsFormula l.fn.self f → AreLong f → Noted l.self f l.units (drop l.place l.units) l.fn.notes.news l.notes.news;
+  looks : (f : Stored) → KeepsFormula l.fn.self f → l.looks ≤ l.fn.looks + l.place * (2 * literal_count f);
   rise : l.fn.looks ≤ l.looks;
 }

@@ -19,7 +19,7 @@ returns-in_err-check-clause-decides c = let p = err_from_is_err_and c.from_resid
 pub returns-in_err-store_derived-clause-decides : goal.returns-in_err-store_derived-clause-decides
 returns-in_err-store_derived-clause-decides c = λ f k.
     let p = err_from_is_err_and c.from_residual-in_err-store_derived.result c.from_residual-in_err-store_derived.ensures.1 in
-    decides_err c.store_derived.result _ p.0 _ c.in_err-store_derived.was p.1 p.2 _ _ _ _ _ (λ s. s) (c.store_derived.ensures.stored f (record { formula = c.check.ensures.kept f k.formula; variables = k.variables; assumed = k.assumed }))
+    decides_err c.store_derived.result _ p.0 _ c.in_err-store_derived.was p.1 p.2 _ _ _ _ _ ((c.in_ok-check.ensures.exact f k.formula).0 c.if-not-branch.false) (λ s. s) (c.store_derived.ensures.stored f (record { formula = c.check.ensures.kept f k.formula; variables = k.variables; assumed = k.assumed }))
 
 pub returns-in_err-check-clause-looks : goal.returns-in_err-check-clause-looks
 returns-in_err-check-clause-looks c = λ f k. let h = c.check.ensures.looks f k.formula in omega arith

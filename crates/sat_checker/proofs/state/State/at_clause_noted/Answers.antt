@@ -47,4 +47,4 @@ returns-then-not-branch-clause-noted c = λ t. absurd (true≢false (sym t))
 pub returns-in_err-store_derived-clause-decides : goal.returns-in_err-store_derived-clause-decides
 returns-in_err-store_derived-clause-decides c = λ f k.
     let p = err_from_is_err_and c.from_residual-in_err-store_derived.result c.from_residual-in_err-store_derived.ensures.1 in
-    decides_err c.store_derived.result _ p.0 _ c.in_err-store_derived.was p.1 p.2 _ _ _ _ _ (λ s. s) (c.store_derived.ensures.stored f (record { formula = c.check_derived.ensures.kept f k.formula; variables = k.variables; assumed = k.assumed }))
+    decides_err c.store_derived.result _ p.0 _ c.in_err-store_derived.was p.1 p.2 _ _ _ _ _ ((c.in_ok-check_derived.ensures.exact f k.formula).0 c.if-not-branch.false) (λ s. s) (c.store_derived.ensures.stored f (record { formula = c.check_derived.ensures.kept f k.formula; variables = k.variables; assumed = k.assumed }))

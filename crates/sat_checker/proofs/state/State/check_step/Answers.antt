@@ -12,7 +12,7 @@ returns-in_err-settle-clause-judges c = λ f k.
 
 pub returns-clause-judges : goal.returns-clause-judges
 returns-clause-judges c = λ f k.
-    judged c.step.result _ _ (step_of c.args.step.now) f (c.step.ensures.decides (settled f) (settled_kept c.args.self.now _ f k (c.in_ok-settle.ensures.settles f k.formula) refl refl))
+    judged c.step.result _ _ (step_of c.args.step.now) f (λ a. a) (c.step.ensures.decides (settled f) (settled_kept c.args.self.now _ f k (c.in_ok-settle.ensures.settles f k.formula) refl refl))
 
 pub returns-clause-looks : goal.returns-clause-looks
 returns-clause-looks c = λ f k. c.step.ensures.looks (settled f) (settled_kept c.args.self.now _ f k (c.in_ok-settle.ensures.settles f k.formula) refl refl)
