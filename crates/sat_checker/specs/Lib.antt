@@ -1,6 +1,7 @@
 pub mod LiteralSets
 pub mod SortedSets
 pub mod Propagation
+pub mod Verdicts
 pub mod Stored
 pub mod Storing
 pub mod Accepts

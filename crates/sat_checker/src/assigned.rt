@@ -3,6 +3,7 @@ ghost use Rattle.std.specs.Prelude.{◌≡◌, ◌+◌, ◌-◌, ◌<◌, ◌≤
 ghost use Rattle.sat_base.specs.values.Literals.{variable};
 ghost use Rattle.sat_checker.specs.inner.Marks.{is_marked, NoRepeats};
 ghost use Rattle.sat_checker.specs.LiteralSets.{is_among};
+ghost use Rattle.sat_checker.specs.Verdicts.{verdict, verdict_of};
 
 use sat_base::{Lit, Var};
 use std::alloc::{AllocError, Global};
@@ -10,7 +11,7 @@ use std::marker::Model;
 
 /// Literals that are assumed, each once. Contracts see them with the newest first.
 #[derive(Drop)]
-pub(crate) struct Assigned {
+pub struct Assigned {
     marks: Vec<bool>,
     trail: Vec<Lit>,
 }
@@ -110,5 +111,36 @@ fn unmark(marks: &mut Vec<bool>, lit: Lit)
     let place = lit.code();
     if place < marks.len() {
         marks[place] = false;
+    }
+}
+
+/// What a clause says under the assumed literals.
+#[derive(Clone, Copy)]
+pub enum Look {
+    /// Each literal is false.
+    Falsified,
+    /// This literal alone isn't false, and it isn't assumed.
+    Opens(Lit),
+    /// A literal is assumed, or two aren't false.
+    Rests,
+}
+
+#[inline(always)]
+pub fn look_at(assigned: &Assigned, clause: &[Lit]) -> Look
+    ensures { verdict_of result ≡ verdict assigned.now clause.now }
+{
+    let mut open = None;
+    for lit in clause {
+        if !assigned.is_true(!*lit) {
+            if open.is_some() {
+                return Look::Rests;
+            }
+            open = Some(*lit);
+        }
+    }
+    match open {
+        None => Look::Falsified,
+        Some(lit) if assigned.is_true(lit) => Look::Rests,
+        Some(lit) => Look::Opens(lit),
     }
 }

@@ -3,7 +3,7 @@
 
 pub mod announcement;
 pub(crate) mod announcing;
-pub(crate) mod assigned;
+pub mod assigned;
 mod boxes;
 pub mod checker;
 pub(crate) mod clauses;
@@ -42,6 +42,7 @@ pub mod variables;
 pub use announcement::{
     CheckedProofStep, CheckedSamplingMode, CheckedUserVar, CheckerData, ResolutionPropagations,
 };
+pub use assigned::{Assigned, Look, look_at};
 pub use checker::Checker;
 pub use error::{CheckerDimacsError, CheckerError};
 pub use hash::ClauseHasher;

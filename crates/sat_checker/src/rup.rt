@@ -11,40 +11,12 @@ ghost use Rattle.sat_checker.specs.inner.Reasons.{clause_at, filed, named, noted
 ghost use Rattle.sat_checker.specs.inner.SlotView.{literals_at, bucket_in, bucket_of, live_length};
 ghost use Rattle.sat_checker.specs.inner.Walk.{verdict, walk_on, walk_buckets, denied};
 
-use crate::assigned::Assigned;
+use crate::assigned::{Assigned, Look, look_at};
 use crate::clauses::Clauses;
 use crate::looks::Looks;
 use crate::passed::Passed;
 use sat_base::{ClauseHash, Lit};
 use std::alloc::AllocError;
-
-/// What a clause says under the assumed literals.
-#[derive(Clone, Copy)]
-pub(crate) enum Look {
-    Falsified,
-    Opens(Lit),
-    Rests,
-}
-
-#[inline(always)]
-fn look_at(assigned: &Assigned, clause: &[Lit]) -> Look
-    ensures { verdict_of result ≡ verdict assigned.now clause.now }
-{
-    let mut open = None;
-    for lit in clause {
-        if !assigned.is_true(!*lit) {
-            if open.is_some() {
-                return Look::Rests;
-            }
-            open = Some(*lit);
-        }
-    }
-    match open {
-        None => Look::Falsified,
-        Some(lit) if assigned.is_true(lit) => Look::Rests,
-        Some(lit) => Look::Opens(lit),
-    }
-}
 
 /// Takes what the clause at a place opens, and notes it. The answer is whether the clause was falsified.
 #[tactic(auto, using(crate::proofs::lemmas::propagation::Walking::meeting))]

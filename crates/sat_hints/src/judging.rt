@@ -9,12 +9,12 @@ ghost use Rattle.sat_hints.specs.inner.Course.{signed};
 ghost use Rattle.sat_hints.specs.inner.Judging.{HasTaken, IsReady, IsSame, Refutes, StoresClause, TakesLine, TakesOne};
 
 use crate::answer::{HintVerdict, HintWhy};
-use crate::assumed::Assumed;
 use crate::line::HintLine;
 use crate::naming::find_all;
 use crate::present::Present;
 use crate::propagating::conflict;
 use sat_base::Lit;
+use sat_checker::Assigned;
 use sat_checker::sorted_lits::copy_canonical;
 use std::alloc::{AllocError, Global};
 
@@ -22,7 +22,7 @@ use std::alloc::{AllocError, Global};
 #[derive(Drop)]
 pub(crate) struct Judge {
     present: Present,
-    assumed: Assumed,
+    assumed: Assigned,
     /// The literals of a clause that comes, as a sorted set.
     set: Vec<Lit>,
     /// Where the clauses are that a line names.
@@ -40,7 +40,7 @@ impl Judge {
     {
         Judge {
             present: Present::new(alloc),
-            assumed: Assumed::new(alloc),
+            assumed: Assigned::new(alloc),
             set: Vec::new(alloc),
             places: Vec::new(alloc),
             least_id: 0,

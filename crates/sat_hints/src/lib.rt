@@ -2,7 +2,6 @@
 #![tactic(auto)]
 
 mod answer;
-mod assumed;
 mod checking;
 mod converting;
 mod error;

@@ -2,46 +2,17 @@
 ghost use Rattle.std.specs.Prelude.{◌≡◌, ◌<◌, [], true, false, map, length, IfOk, MatchBool};
 ghost use Rattle.std.specs.List.{AllByRecursion};
 ghost use Rattle.sat_checker.specs.LiteralSets.{is_tautology};
-ghost use Rattle.sat_checker.specs.inner.Walk.{verdict};
 ghost use Rattle.sat_hints.specs.inner.Clauses.{clause_at};
-ghost use Rattle.sat_hints.specs.inner.Course.{course, signed, verdict_of, Assumes, Runs};
+ghost use Rattle.sat_hints.specs.inner.Course.{course, signed, Assumes, Runs};
 
 use crate::answer::HintWhy;
-use crate::assumed::Assumed;
 use crate::present::Present;
 use sat_base::Lit;
+use sat_checker::{Assigned, Look, look_at};
 use std::alloc::AllocError;
 
-/// What a clause says under the assumed literals.
-#[derive(Clone, Copy)]
-pub(crate) enum Look {
-    Falsified,
-    Opens(Lit),
-    Rests,
-}
-
-#[inline(always)]
-fn look_at(assumed: &Assumed, clause: &[Lit]) -> Look
-    ensures { verdict_of result ≡ verdict assumed.now clause.now }
-{
-    let mut open = None;
-    for lit in clause {
-        if !assumed.is_true(!*lit) {
-            if open.is_some() {
-                return Look::Rests;
-            }
-            open = Some(*lit);
-        }
-    }
-    match open {
-        None => Look::Falsified,
-        Some(lit) if assumed.is_true(lit) => Look::Rests,
-        Some(lit) => Look::Opens(lit),
-    }
-}
-
 /// Assumes literals, or their negations. The answer is whether both signs of a variable are among them.
-fn assume_all(assumed: &mut Assumed, literals: &[Lit], negate: bool) -> Result<bool, AllocError>
+fn assume_all(assumed: &mut Assigned, literals: &[Lit], negate: bool) -> Result<bool, AllocError>
     requires { assumed.old ≡ [] }
     ensures { IfOk result (λ both. MatchBool both (is_tautology (signed negate literals.now) ≡ true)
         ((is_tautology (signed negate literals.now) ≡ false) × Assumes (signed negate literals.now) assumed.new)) }
@@ -63,7 +34,7 @@ fn assume_all(assumed: &mut Assumed, literals: &[Lit], negate: bool) -> Result<b
 fn follow(
     present: &Present,
     places: &[usize],
-    assumed: &mut Assumed,
+    assumed: &mut Assigned,
 ) -> Result<Option<HintWhy>, AllocError>
     requires { AllByRecursion (λ place. place < length present.now.clauses) places.now }
     ensures { IfOk result (λ why. why ≡ course assumed.old (map (clause_at present.now) places.now)) }
@@ -90,7 +61,7 @@ fn conflict_under(
     places: &[usize],
     literals: &[Lit],
     negate: bool,
-    assumed: &mut Assumed,
+    assumed: &mut Assigned,
 ) -> Result<Option<HintWhy>, AllocError>
     requires within { AllByRecursion (λ place. place < length present.now.clauses) places.now }
     requires nothing { assumed.old ≡ [] }
@@ -108,7 +79,7 @@ pub(crate) fn conflict(
     places: &[usize],
     literals: &[Lit],
     negate: bool,
-    assumed: &mut Assumed,
+    assumed: &mut Assigned,
 ) -> Result<Option<HintWhy>, AllocError>
     requires within { AllByRecursion (λ place. place < length present.now.clauses) places.now }
     requires nothing { assumed.old ≡ [] }
@@ -116,6 +87,6 @@ pub(crate) fn conflict(
     ensures nothing { assumed.new ≡ [] }
 {
     let answer = conflict_under(present, places, literals, negate, assumed);
-    assumed.forget_all();
+    assumed.undo_to(0);
     answer
 }

@@ -1,15 +1,9 @@
 -- What the answers of the walk's functions mean.
 use Rattle.std.specs.Prelude.{ℕ, ◌≡◌, ◌≢◌, ◌-◌, ◌≤◌, List, [], length, drop, None, Some}
-use Rattle.sat_checker.specs.inner.Walk.{Verdict, falsified, opens, rests, walk}
-use Rattle.sat_checker.specs.declared.rup.Look.{Look}
-use Rattle.sat_checker.specs.declared.rup.Look.TheVariants.{Falsified, Opens, Rests}
+use Rattle.sat_checker.specs.inner.Walk.{walk}
+pub use Rattle.sat_checker.specs.Verdicts.{verdict_of}
 use Rattle.sat_checker.specs.declared.rup.Walked.{Walked}
 use Rattle.sat_checker.specs.declared.rup.Walked.TheVariants.{Empty, Conflict, Open}
-
-abbrev pub verdict_of : Look → Verdict
-verdict_of Falsified = falsified
-verdict_of (Opens l) = opens l
-verdict_of Rests = rests
 
 -- literals were assumed on top of the old ones
 pub record Extends (old new : List ℕ) : Type 0 where

@@ -2,16 +2,9 @@
 use Rattle.std.specs.Prelude.{ℕ, ◌≡◌, ◌⊎◌, Bool, true, false, Option, None, Some, List, [], ◌∷◌, map}
 use Rattle.sat_base.specs.values.Literals.{negated_if}
 use Rattle.sat_checker.specs.LiteralSets.{is_among, is_tautology}
-use Rattle.sat_checker.specs.inner.Walk.{Verdict, falsified, opens, rests, verdict}
+use Rattle.sat_checker.specs.Verdicts.{Verdict, falsified, opens, rests, verdict}
 use Rattle.sat_hints.specs.declared.answer.HintWhy.{HintWhy}
 use Rattle.sat_hints.specs.declared.answer.HintWhy.TheVariants.{NotUnit, NotFalsified}
-use Rattle.sat_hints.specs.declared.propagating.Look.{Look}
-use Rattle.sat_hints.specs.declared.propagating.Look.TheVariants as look
-
-abbrev pub verdict_of : Look → Verdict
-verdict_of look.Falsified = falsified
-verdict_of (look.Opens l) = opens l
-verdict_of look.Rests = rests
 
 -- the last clause has to be falsified
 abbrev pub at_last : Verdict → Option HintWhy

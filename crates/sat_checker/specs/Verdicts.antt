@@ -1,0 +1,30 @@
+-- What a clause says under assumed literals.
+use Rattle.std.specs.Prelude.{ℕ, Bool, true, false, not, List, [], ◌∷◌, filter, if◌then◌else◌}
+use Rattle.sat_base.specs.values.Literals.{negated}
+use Rattle.sat_checker.specs.LiteralSets.{is_among}
+use Rattle.sat_checker.specs.declared.assigned.Look.{Look}
+use Rattle.sat_checker.specs.declared.assigned.Look.TheVariants as look
+
+-- what a clause says under the assumed literals
+pub data Verdict : Type 0 where
+  falsified : Verdict
+  opens : ℕ → Verdict
+  rests : Verdict
+
+-- the literals of the clause that aren't false
+abbrev pub not_false : List ℕ → List ℕ → List ℕ
+not_false assumed = filter (λ l. not (is_among assumed (negated l)))
+
+abbrev pub verdict_of_open : List ℕ → List ℕ → Verdict
+verdict_of_open assumed [] = falsified
+verdict_of_open assumed (l ∷ []) = if is_among assumed l then rests else opens l
+verdict_of_open assumed (l ∷ m ∷ ls) = rests
+
+abbrev pub verdict : List ℕ → List ℕ → Verdict
+verdict assumed clause = verdict_of_open assumed (not_false assumed clause)
+
+-- what is answered of it
+abbrev pub verdict_of : Look → Verdict
+verdict_of look.Falsified = falsified
+verdict_of (look.Opens l) = opens l
+verdict_of look.Rests = rests
