@@ -4,7 +4,8 @@
 # First for calls.rt.txt, a program over sat_base: the call whose allocation is refused has to say that it is out of memory, what it leaves
 # behind has to be what its documentation says, and all other lines have to be those of a run with all memory. Then for feeds.rt.txt, a
 # program over sat_checker: the call has to say so, each later one has to answer that the checker has failed, and all who listen have to
-# be handed back, with no more told than in a run with all memory. Then for the program certify, on two scripts: it has to end with `certify:
+# be handed back, with no more told than in a run with all memory. Then for hints.rt.txt, a program over sat_hints: the call has to say so, what
+# it wrote has to be the beginning of what it writes with all memory, and all other lines the same. Then for the program certify, on two scripts: it has to end with `certify:
 # OutOfMemory` and status 3, and what it printed by then has to be the beginning of what it prints with all memory. A line says for each N
 # which call was out of memory. It isn't part of the gate, and takes some minutes.
 #
@@ -18,19 +19,23 @@ work=$(mktemp -d)
 trap 'rm -rf "$work"' EXIT
 most=200
 
-# A repository of our crates, and the programs over sat_base and sat_checker.
-mkdir -p "$work/repo/crates/calls/src" "$work/repo/crates/feeds/src"
-cp -r "$top/crates/sat_base" "$top/crates/sat_checker" "$top/crates/certify" "$top/crates/certify_cli" "$work/repo/crates/"
+# A repository of our crates, and the programs over sat_base, sat_checker and sat_hints.
+mkdir -p "$work/repo/crates/calls/src" "$work/repo/crates/feeds/src" "$work/repo/crates/hints/src"
+for crate in sat_base sat_checker sat_hints certify certify_cli; do
+    cp -r "$top/crates/$crate" "$work/repo/crates/"
+done
 cp "$top/HANDLES" "$work/repo/"
-printf 'sat_base: thiserror\nsat_checker: sat_base thiserror anyhow\ncertify: sat_base sat_checker thiserror\ncertify_cli: certify sat_base\ncalls: sat_base\nfeeds: sat_checker sat_base anyhow\n' > "$work/repo/crates.txt"
+printf 'sat_base: thiserror\nsat_checker: sat_base thiserror anyhow\nsat_hints: sat_checker sat_base thiserror anyhow\ncertify: sat_hints sat_checker sat_base thiserror\ncertify_cli: certify sat_base\ncalls: sat_base\nfeeds: sat_checker sat_base anyhow\nhints: sat_hints sat_base\n' > "$work/repo/crates.txt"
 git init -q "$work/repo"
 cp "$here/calls.rt.txt" "$work/repo/crates/calls/src/main.rt"
 cp "$here/feeds.rt.txt" "$work/repo/crates/feeds/src/main.rt"
+cp "$here/hints.rt.txt" "$work/repo/crates/hints/src/main.rt"
 
 # The texts on standard input: none, and two scripts.
-mkdir -p "$work/texts/calls" "$work/texts/feeds" "$work/texts/certify_cli"
+mkdir -p "$work/texts/calls" "$work/texts/feeds" "$work/texts/hints" "$work/texts/certify_cli"
 printf '' > "$work/texts/calls/none"
 printf '' > "$work/texts/feeds/none"
+printf '' > "$work/texts/hints/none"
 printf '1 2 0\na 0\n' > "$work/texts/certify_cli/sat"
 printf '1 2 0\n1 -2 0\n-1 2 0\n-1 -2 0\na 0\n' > "$work/texts/certify_cli/unsat"
 
@@ -165,6 +170,41 @@ directly feeds "$work/feeds-plain" "$count"
 directly feeds "$work/feeds-plain" $((count + 1))
 echo "feeds: $(wc -l < "$work/feeds.txt") allocations"
 sed 's/^[0-9]*: //' "$work/feeds.txt" | sort | uniq -c
+
+# A run of hints.rt.txt beside the one with all memory. Prints which call was out of memory, or nothing where none was.
+short='
+    function bad(why) { print FILENAME ", line " FNR ", " why ": " $0 > "/dev/stderr"; failed = 1; exit 1 }
+    FNR == NR { all[FNR] = $0; count = FNR; next }
+    { line = FNR }
+    $0 == all[FNR] { written = 0; next }
+    !call && / out of memory$/ { call = $0; sub(/: .*/, "", call); written = 1; next }
+    written && substr(all[FNR], 1, length($0)) == $0 { written = 0; next }
+    { bad("another line") }
+    END { if (!failed && line != count) { print FILENAME ", lines are missing" > "/dev/stderr"; failed = 1 }
+        if (failed) exit 1
+        print call }
+'
+
+mkdir "$work/hints-plain"
+behind "$work/texts/hints/none" 0 > "$work/hints-plain/none"
+run hints "$work/hints-plain" "$work/hints-all"
+sweep hints
+count=0
+for n in $(seq "$most"); do
+    it=$work/hints-runs/none-$n
+    [ "$(cat "$it.end")" = "run=ended status=0" ] || fail "hints $n: $(cat "$it.end")"
+    [ ! -s "$it.err" ] || fail "hints $n: $(cat "$it.err")"
+    call=$(awk "$short" "$work/hints-all/none.out" "$it.out")
+    [ -n "$call" ] || continue
+    [ $((count += 1)) = "$n" ] || fail "hints $n: refused behind one that was not"
+    echo "$n: $call"
+done | tee "$work/hints.txt"
+count=$(wc -l < "$work/hints.txt")
+[ "$count" -lt "$most" ] || fail "hints: more than $most allocations"
+directly hints "$work/hints-plain" "$count"
+directly hints "$work/hints-plain" $((count + 1))
+echo "hints: $count allocations"
+sed 's/^[0-9]*: //' "$work/hints.txt" | sort | uniq -c
 
 run certify_cli "$work/texts/certify_cli" "$work/certify_cli-all"
 main=$work/repo/crates/certify_cli/src/main.rt
