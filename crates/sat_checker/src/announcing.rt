@@ -3,7 +3,7 @@ ghost use Rattle.std.specs.Prelude.{ℕ, List, ◌≡◌, ◌+◌, ◌≤◌, �
 ghost use Rattle.sat_checker.specs.Looks.{literal_count};
 ghost use Rattle.sat_checker.specs.Stored.{Stored};
 ghost use Rattle.sat_checker.specs.announcements.Announcements as told;
-ghost use Rattle.sat_checker.specs.announcements.Announcements.{derived_set, id_of_set, input_set, irredundant_deleted, is_sample, is_witness, last_id, mode_change, naming, one, redundant_deleted};
+ghost use Rattle.sat_checker.specs.announcements.Announcements.{derived_set, id_of_set, input_set, irredundant_deleted, is_sample, is_witness, last_id, mode_change, naming, one, redundant_deleted, renaming};
 ghost use Rattle.sat_checker.specs.inner.FormulaView.{last_in, KeepsFormula};
 ghost use Rattle.sat_checker.specs.inner.StoreView.{found_in};
 ghost use Rattle.sat_checker.specs.inner.VariablesView.{mode_in, variable_of};
@@ -209,6 +209,22 @@ impl News {
             new_var: !before.known,
         };
         self.user_var(var, Some(user))
+    }
+
+    /// A variable, which was like this, gets a name, or loses it.
+    pub fn renaming(
+        &mut self,
+        var: Var,
+        user: Option<Var>,
+        before: VarData,
+    ) -> Result<(), AllocError>
+        ensures ok { OnOk result (self.new ≡ self.old ++ renaming var user (variable_of before)) }
+        ensures err { OnErr result (self.new ≡ self.old) }
+    {
+        match user {
+            Some(name) => self.naming(var, name, before),
+            None => self.user_var(var, None),
+        }
     }
 
     /// A variable, which was like this, gets another mode.

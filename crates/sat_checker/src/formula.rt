@@ -20,7 +20,7 @@ use crate::assigned::Assigned;
 use crate::looks::Looks;
 use crate::passed::Passed;
 use crate::propagations::Propagations;
-use crate::sorted_lits::{copy_canonical, is_subset};
+use crate::sorted_lits::{has_both_signs, is_subset, sorted_set};
 use crate::status::{LastClause, Status};
 use crate::store::{Store, StoreError};
 use crate::units::Units;
@@ -225,10 +225,11 @@ impl Formula {
         ensures looks { (f : Stored) → KeepsFormula self.old f → looks.new ≤ looks.old + literal_count f }
         ensures rise { looks.old ≤ looks.new }
     {
-        if copy_canonical(buffer, clause)? {
+        let literals = sorted_set(buffer, clause)?;
+        if has_both_signs(literals) {
             return Ok(());
         }
-        self.store_canonical(redundant, buffer, looks)
+        self.store_canonical(redundant, literals, looks)
     }
 
     /// Stores a clause of the formula, which takes an id whatever becomes of it.

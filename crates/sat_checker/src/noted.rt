@@ -1,5 +1,5 @@
-//! Steps that are taken in where somebody listens: what they announce is noted, mostly before they are judged, while all is stored as it
-//! was. What is noted of a step that is refused is of no use.
+//! Steps that are taken in where somebody listens. What they announce is noted, of names, modes and models once they are accepted, of
+//! clauses while all is stored as it was. What is noted of a step that is refused is of no use.
 ghost use Rattle.std.specs.Prelude.{◌≤◌, ◌≡◌, IfOk, IsTrue};
 ghost use Rattle.sat_base.specs.steps.Steps.{AddClause, Assumptions, AtClause, ChangeSamplingMode, DeleteClause, FailedAssumptions, Model, UnitClauses, UserVarName};
 ghost use Rattle.sat_base.specs.steps.StepViews.{deletion_of, step_of};
@@ -11,7 +11,7 @@ ghost use Rattle.sat_checker.specs.telling.NotedView.{Announces};
 
 use crate::looks::Looks;
 use crate::notes::Notes;
-use crate::sorted_lits::copy_canonical;
+use crate::sorted_lits::sorted_set;
 use crate::state::State;
 use crate::store::StoreError;
 use sat_base::{ClauseHash, DeleteClauseProof, Lit, ProofStep, Var};
@@ -26,13 +26,12 @@ impl State {
         ensures decides { Decides result self.old (UserVarName var user) self.new }
         ensures noted { Announces result self.old (UserVarName var user) notes.old.news notes.new.news }
     {
-        let Some(name) = user else {
-            notes.news.user_var(var, None)?;
-            return self.user_var_name(var, None);
-        };
         let before = self.variables.data(var);
-        notes.news.naming(var, name, before)?;
-        self.user_var_name(var, Some(name))
+        if !self.user_var_name(var, user)? {
+            return Ok(false);
+        }
+        notes.news.renaming(var, user, before)?;
+        Ok(true)
     }
 
     fn change_sampling_mode_noted(
@@ -45,8 +44,11 @@ impl State {
         ensures noted { Announces result self.old (ChangeSamplingMode var sample) notes.old.news notes.new.news }
     {
         let before = self.variables.data(var);
+        if !self.change_sampling_mode(var, sample)? {
+            return Ok(false);
+        }
         notes.news.mode_change(var, sample, before)?;
-        self.change_sampling_mode(var, sample)
+        Ok(true)
     }
 
     fn add_clause_noted(
@@ -60,6 +62,9 @@ impl State {
         ensures rise { looks.old ≤ looks.new }
         ensures noted { Announces result self.old (AddClause clause.now) notes.old.news notes.new.news }
     {
+        if !self.may_add(clause) {
+            return Ok(false);
+        }
         self.formula.note_input(clause, notes, looks)?;
         self.add_clause(clause, looks)
     }
@@ -132,8 +137,11 @@ impl State {
         ensures rise { looks.old ≤ looks.new }
         ensures noted { Announces result self.old (Model assignment.now) notes.old.news notes.new.news }
     {
+        if !self.model(assignment, looks)? {
+            return Ok(false);
+        }
         notes.news.model(assignment)?;
-        self.model(assignment, looks)
+        Ok(true)
     }
 
     fn assumptions_noted(&mut self, literals: &[Lit], notes: &mut Notes) -> Result<bool, StoreError>
@@ -156,8 +164,7 @@ impl State {
         ensures rise { looks.old ≤ looks.new }
         ensures noted { Announces result self.old (FailedAssumptions core.now hashes.now) notes.old.news notes.new.news }
     {
-        copy_canonical(&mut self.buffer, core)?;
-        if !self.assumed.has_all(&self.buffer) {
+        if !self.assumed.has_all(sorted_set(&mut self.buffer, core)?) {
             return Ok(false);
         }
         let passes = self

@@ -12,7 +12,7 @@ ghost use Rattle.sat_checker.specs.inner.StateView.{Keeps, Decides, LooksWithin,
 use crate::formula::Formula;
 use crate::lit_set::LitSet;
 use crate::looks::Looks;
-use crate::sorted_lits::{copy_canonical, copy_negated};
+use crate::sorted_lits::{copy_negated, sorted_set};
 use crate::store::StoreError;
 use crate::variables::Variables;
 use sat_base::{ClauseHash, DeleteClauseProof, HashBits, Lit, ProofStep, Var};
@@ -176,16 +176,16 @@ impl State {
         ensures looks { (f : Stored) → Keeps self.old f → looks.new ≤ looks.old + 2 * literal_count f }
         ensures rise { looks.old ≤ looks.new }
     {
-        copy_canonical(&mut self.buffer, clause)?;
+        let literals = sorted_set(&mut self.buffer, clause)?;
         match proof {
             DeleteClauseProof::Redundant => {
-                Ok(self.formula.delete_redundant(clause, &self.buffer, looks))
+                Ok(self.formula.delete_redundant(clause, literals, looks))
             }
             DeleteClauseProof::Satisfied => {
-                Ok(self.formula.delete_satisfied(clause, &self.buffer, looks))
+                Ok(self.formula.delete_satisfied(clause, literals, looks))
             }
             DeleteClauseProof::Simplified => {
-                Ok(self.formula.delete_simplified(clause, &self.buffer, looks))
+                Ok(self.formula.delete_simplified(clause, literals, looks))
             }
         }
     }
@@ -212,8 +212,7 @@ impl State {
         ensures looks { LooksWithin self.old (FailedAssumptions core.now hashes.now) looks.old looks.new }
         ensures rise { looks.old ≤ looks.new }
     {
-        copy_canonical(&mut self.buffer, core)?;
-        if !self.assumed.has_all(&self.buffer) {
+        if !self.assumed.has_all(sorted_set(&mut self.buffer, core)?) {
             return Ok(false);
         }
         copy_negated(&mut self.buffer, core)?;

@@ -1,5 +1,6 @@
 pub mod Marks
 pub mod Canonical
+pub mod Rising
 pub mod Subsets
 pub mod Hashing
 pub mod Merging

@@ -44,6 +44,11 @@ is_witness Hide = false
 abbrev pub naming : ℕ → ℕ → Variable → List Announcement
 naming v name x = UserVar v (Some (record { name = name; sampling = is_sample x.mode; is_new = not x.known })) ∷ []
 
+-- a variable gets a name, or loses it
+abbrev pub renaming : ℕ → Option ℕ → Variable → List Announcement
+renaming v (Some name) x = naming v name x
+renaming v None x = UserVar v None ∷ []
+
 -- a variable that has a name gets another mode
 abbrev pub mode_change : ℕ → Bool → Mode → Option ℕ → List Announcement
 mode_change v sampling mode None = []
@@ -113,8 +118,7 @@ last_id (LongClause id) = Some id
 -- what an accepted step announces, where no unit conflict was pending
 abbrev pub announced : Stored → Step → List Announcement
 announced f (steps.SolverVarName v name) = []
-announced f (steps.UserVarName v (Some name)) = naming v name (f.variables v)
-announced f (steps.UserVarName v None) = UserVar v None ∷ []
+announced f (steps.UserVarName v user) = renaming v user (f.variables v)
 announced f (steps.DeleteVar v) = []
 announced f (steps.ChangeSamplingMode v sampling) = mode_change v sampling (f.variables v).mode (f.variables v).name
 -- once unsat is recorded, an input clause has no effect

@@ -1,5 +1,5 @@
 -- What a greedy walk over clauses does. The rule itself is in Propagation.
-use Rattle.std.specs.Prelude.{ℕ, Bool, true, false, not, List, [], ◌∷◌, Option, None, Some, filter, if◌then◌else◌}
+use Rattle.std.specs.Prelude.{ℕ, Bool, true, false, List, [], ◌∷◌, Option, None, Some, if◌then◌else◌}
 use Rattle.sat_base.specs.values.Literals.{negated}
 use Rattle.sat_checker.specs.LiteralSets.{is_among}
 pub use Rattle.sat_checker.specs.Verdicts.{Verdict, falsified, opens, rests, not_false, verdict_of_open, verdict}

@@ -287,3 +287,10 @@ is_long (l ∷ m ∷ ls) b e f n = omega arith
 
 pub none_more : (looks n : ℕ) → looks ≤ looks + n
 none_more looks n = omega arith
+
+-- a clause with both signs of a variable isn't stored, and another one by its sorted literals
+pub stored_signs : (r : Bool) (c : List ℕ) (f : Stored) → is_tautology c ≡ true → with_stored r c f ≡ f
+stored_signs r c f e = rw e refl
+
+pub stored_apart : (r : Bool) (c : List ℕ) (f : Stored) → is_tautology c ≡ false → with_stored r c f ≡ with_canonical r (canonical c) f
+stored_apart r c f e = rw e refl

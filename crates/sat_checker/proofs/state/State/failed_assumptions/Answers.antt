@@ -8,21 +8,21 @@ use Rattle.std.proofs.lemmas.Result.{err_from_is_err_and}
 use Rattle.sat_checker.proofs.state.State.failed_assumptions.Goals as goal
 
 pub has_all-requires : goal.has_all-requires
-has_all-requires c = subst IsIncreasing (sym (c.deref.ensures.value ∙ c.in_ok-copy_canonical.ensures.set)) (canonical_increasing c.args.core.now)
+has_all-requires c = subst IsIncreasing (sym (c.in_ok-sorted_set.ensures.set)) (canonical_increasing c.args.core.now)
 
 pub returns-then-not-has_all-clause-decides : goal.returns-then-not-has_all-clause-decides
 returns-then-not-has_all-clause-decides c = λ f k p.
-    let w = within_assumed c.has_all.result c.args.core.now f.assumed c.deref.result.now c.args.self.now.assumed (c.deref.ensures.value ∙ c.in_ok-copy_canonical.ensures.set) k.assumed c.has_all.ensures in
+    let w = within_assumed c.has_all.result c.args.core.now f.assumed c.in_ok-sorted_set.field-0.now c.args.self.now.assumed (c.in_ok-sorted_set.ensures.set) k.assumed c.has_all.ensures in
     true≢false (sym p.0 ∙ sym w ∙ c.if-not-has_all.true)
 
 pub returns-clause-decides : goal.returns-clause-decides
 returns-clause-decides c = λ f k.
-    let w = within_assumed c.has_all.result c.args.core.now f.assumed c.deref.result.now c.args.self.now.assumed (c.deref.ensures.value ∙ c.in_ok-copy_canonical.ensures.set) k.assumed c.has_all.ensures in
+    let w = within_assumed c.has_all.result c.args.core.now f.assumed c.in_ok-sorted_set.field-0.now c.args.self.now.assumed (c.in_ok-sorted_set.ensures.set) k.assumed c.has_all.ensures in
     core_passes c.in_ok-passes.passes _ _ _ (sym w ∙ c.if-not-has_all.false) (record { formula = c.check.ensures.kept f k.formula; variables = k.variables; assumed = k.assumed })
-    (subst (λ ls. (c.in_ok-passes.passes ≡ true) ↔ Passes f ls c.args.hashes.now) (c.deref-2.ensures.value ∙ c.in_ok-copy_negated.ensures) (c.in_ok-passes.ensures.exact f k.formula))
+    (subst (λ ls. (c.in_ok-passes.passes ≡ true) ↔ Passes f ls c.args.hashes.now) (c.deref.ensures.value ∙ c.in_ok-copy_negated.ensures) (c.in_ok-passes.ensures.exact f k.formula))
 
-pub returns-in_err-copy_canonical-clause-decides : goal.returns-in_err-copy_canonical-clause-decides
-returns-in_err-copy_canonical-clause-decides c = let p = err_from_is_err_and c.from_residual.result c.from_residual.ensures.1 in rw (p.1, p.2) (λ f k. tt)
+pub returns-in_err-sorted_set-clause-decides : goal.returns-in_err-sorted_set-clause-decides
+returns-in_err-sorted_set-clause-decides c = let p = err_from_is_err_and c.from_residual.result c.from_residual.ensures.1 in rw (p.1, p.2) (λ f k. tt)
 
 pub returns-in_err-copy_negated-clause-decides : goal.returns-in_err-copy_negated-clause-decides
 returns-in_err-copy_negated-clause-decides c = let p = err_from_is_err_and c.from_residual-in_err-copy_negated.result c.from_residual-in_err-copy_negated.ensures.1 in rw (p.1, p.2) (λ f k. tt)
@@ -30,8 +30,8 @@ returns-in_err-copy_negated-clause-decides c = let p = err_from_is_err_and c.fro
 pub returns-in_err-passes-clause-decides : goal.returns-in_err-passes-clause-decides
 returns-in_err-passes-clause-decides c = let p = err_from_is_err_and c.from_residual-in_err-passes.result c.from_residual-in_err-passes.ensures.1 in rw (p.1, p.2) (λ f k. tt)
 
-pub returns-in_err-copy_canonical-clause-looks : goal.returns-in_err-copy_canonical-clause-looks
-returns-in_err-copy_canonical-clause-looks c = λ f k. omega arith
+pub returns-in_err-sorted_set-clause-looks : goal.returns-in_err-sorted_set-clause-looks
+returns-in_err-sorted_set-clause-looks c = λ f k. omega arith
 
 pub returns-then-not-has_all-clause-looks : goal.returns-then-not-has_all-clause-looks
 returns-then-not-has_all-clause-looks c = λ f k. omega arith
