@@ -5,7 +5,6 @@ pub mod Widths
 pub mod Promises
 pub mod SessionRows
 pub mod Feeding
-pub mod LogView
 pub mod WritingView
 pub mod ProofView
 pub mod ProofTexts

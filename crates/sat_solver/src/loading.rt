@@ -4,4 +4,4 @@ pub mod bottom;
 pub mod clause;
 pub mod indices;
 pub mod ready;
-pub mod writing;
+pub mod faults;

@@ -2,6 +2,5 @@
 pub mod feeding;
 pub mod history;
 pub mod laws;
-pub mod log;
 pub mod proof;
 pub mod writing;

@@ -1,4 +1,5 @@
--- Errors that no input decides.
+-- How calls over names end, in what takes their steps.
+use Rattle.std.specs.Prelude.{Result, Ok, Err}
 use Rattle.sat_solver.specs.declared.names.error.NameError.{NameError}
 use Rattle.sat_solver.specs.declared.names.error.NameError.TheVariants as errors
 
@@ -8,4 +9,14 @@ IsFailure errors.WitnessVariable = ⊥
 IsFailure errors.AssumedVariable = ⊥
 IsFailure errors.VariableLimit = ⊥
 IsFailure errors.OutOfMemory = Unit {0}
-IsFailure (errors.Checker e) = Unit {0}
+IsFailure (errors.Write cause) = Unit {0}
+
+-- It came from there to this fault: where a step wasn't taken, that was the last.
+abbrev pub CameTo : {W : Type 0} → (took broke : W → W → Type 0) → W → NameError → W → Type 0
+CameTo took broke w (errors.Write cause) new = broke w new
+CameTo took broke w e new = took w new
+
+-- All steps that were made were taken, but for the last one of a call that answers so.
+abbrev pub Came : {A W : Type 0} → (took broke : W → W → Type 0) → Result A NameError → W → W → Type 0
+Came took broke (Ok x) old new = (w : _) → took w old → took w new
+Came took broke (Err e) old new = (w : _) → took w old → CameTo took broke w e new

@@ -23,3 +23,11 @@ pub record FailsDue {W : Type 0} (seen : W → Writer) (old new : Proof W) : Typ
 abbrev pub RecordsDue : {T W : Type 0} → (W → Writer) → Result T ProofError → List Step → Proof W → Proof W → Type 0
 RecordsDue seen (Ok x) due old new = MakesDue seen due old new
 RecordsDue seen (Err (Write e)) due old new = FailsDue seen old new
+
+-- it came from there by steps that were taken
+abbrev pub Took : {W : Type 0} → (W → Writer) → Proof W → Proof W → Type 0
+Took seen old new = (steps : List Step) × Adds seen steps old new
+
+-- it came from there by steps, at whose text a call of the target failed
+abbrev pub Broke : {W : Type 0} → (W → Writer) → Proof W → Proof W → Type 0
+Broke seen old new = (steps : List Step) × Fails seen steps old new

@@ -9,6 +9,7 @@ ghost use Rattle.sat_solver.specs.names.Calls.{Stands, Does};
 ghost use Rattle.sat_solver.specs.names.Variables.{AreTidy};
 ghost use Rattle.sat_solver.specs.session.Session.{session_after};
 ghost use Rattle.sat_checker.specs.LiteralSets.{is_tautology};
+ghost use Rattle.sat_solver.specs.names.Failing.{Came};
 
 use crate::names::Variables;
 use crate::names::error::NameError;
@@ -31,6 +32,7 @@ fn write_clause<W: StepWriter>(
     ensures does { OnOk result (Does _variables.now _variables.now (W.steps writer.old) (W.steps writer.new) (with_clause (map named_literal _user.now)) (λ j. Adds (map named_literal _user.now) ∷ [])) }
     ensures step { OnOk result (W.steps writer.new ≡ AddClause clause.now ∷ W.steps writer.old) }
     ensures keeps { OnOk result (W.keeps writer.new) }
+    ensures came { Came W.took W.broke result writer.old writer.new }
 {
     writer.step(&ProofStep::AddClause { clause })?;
     Ok(())
@@ -64,6 +66,7 @@ pub fn add_clause<W: StepWriter>(
     requires sampled { NoWitness variables.old lits.now }
     ensures adds { IfOk result (AddsClause variables.old variables.new (W.steps writer.old) (W.steps writer.new) lits.now taken.new) }
     ensures keeps { OnOk result (W.keeps writer.new) }
+    ensures came { Came W.took W.broke result writer.old writer.new }
 {
     take_names(variables, writer, lits, taken)?;
     let both_signs = map_clause(variables, lits, taken)?;
@@ -82,6 +85,7 @@ pub fn leave_out_clause<W: StepWriter>(
     requires unsat { (session_after (W.steps writer.old)).unsat ≡ true }
     ensures leaves { OnOk result (LeavesOut variables.old variables.new (W.steps writer.old) (W.steps writer.new) lits.now) }
     ensures keeps { OnOk result (W.keeps writer.new) }
+    ensures came { Came W.took W.broke result writer.old writer.new }
 {
     for lit in lits {
         global_from_user(variables, writer, lit.var())?;

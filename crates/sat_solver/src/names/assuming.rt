@@ -11,6 +11,7 @@ ghost use Rattle.sat_solver.specs.names.Adding.{NoWitness, SameLiterals, named_l
 ghost use Rattle.sat_solver.specs.names.Assuming.{Marks, PutsMarks, Assumes};
 ghost use Rattle.sat_solver.specs.names.Expected.{Opens};
 ghost use Rattle.sat_solver.specs.names.Calls.{Stands, Does};
+ghost use Rattle.sat_solver.specs.names.Failing.{Came};
 
 use crate::names::Variables;
 use crate::names::error::NameError;
@@ -66,6 +67,7 @@ pub fn assume<W: StepWriter>(
     requires asked { asked.old.globals.items ≡ (session_after (W.steps writer.old)).assumed }
     ensures assumes { OnOk result (Assumes variables.old variables.new (W.steps writer.old) (W.steps writer.new) lits.now asked.new) }
     ensures keeps { OnOk result (W.keeps writer.new) }
+    ensures came { Came W.took W.broke result writer.old writer.new }
 {
     take_names(variables, writer, lits, asked)?;
     change_marks(variables, lits, asked)?;

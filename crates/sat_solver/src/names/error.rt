@@ -1,7 +1,7 @@
 //! Why a call over names failed.
 
-use sat_checker::CheckerError;
 use std::alloc::{AllocError, AllocFailed};
+use std::io;
 
 /// Why a call over names failed.
 #[derive(Drop)]
@@ -15,7 +15,9 @@ pub enum NameError {
     /// No variable is left.
     VariableLimit,
     OutOfMemory,
-    Checker(CheckerError),
+
+    /// A call of the proof's target failed.
+    Write(io::Error),
 }
 
 impl From<AllocError> for NameError {
@@ -26,17 +28,6 @@ impl From<AllocError> for NameError {
 
     fn from(_e: AllocError) -> NameError {
         NameError::OutOfMemory
-    }
-}
-
-impl From<CheckerError> for NameError {
-    ghost use Rattle.std.specs.Prelude.{◌≡◌};
-    ghost use Rattle.sat_solver.specs.declared.names.error.NameError.TheVariants.{Checker};
-
-    ghost from_gives = { λ e n. n ≡ Checker e };
-
-    fn from(e: CheckerError) -> NameError {
-        NameError::Checker(e)
     }
 }
 

@@ -4,6 +4,7 @@ ghost use Rattle.sat_solver.specs.session.Session.{session_after};
 ghost use Rattle.sat_solver.specs.names.Variables.{data_at, solver_of, IsUnitOf, IsUnused};
 ghost use Rattle.sat_solver.specs.names.Calls.{Stands};
 ghost use Rattle.sat_solver.specs.names.Indexing.{Indexes, Unindexes};
+ghost use Rattle.sat_solver.specs.names.Failing.{Came};
 
 use crate::names::Variables;
 use crate::names::error::NameError;
@@ -30,6 +31,7 @@ fn new_index<W: StepWriter>(
     requires without { solver_of variables.old global ≡ None }
     ensures indexes { IfOk result (Indexes variables.old variables.new (W.steps writer.old) (W.steps writer.new) given.old.items given.new.items global) }
     ensures keeps { OnOk result (W.keeps writer.new) }
+    ensures came { Came W.took W.broke result writer.old writer.new }
 {
     let solver = variables.next_index(global);
     variables.put_index(global, solver)?;
@@ -54,6 +56,7 @@ pub fn solver_from_global<W: StepWriter>(
     requires live { (data_at variables.old global).deleted ≡ false }
     ensures indexes { IfOk result (Indexes variables.old variables.new (W.steps writer.old) (W.steps writer.new) given.old.items given.new.items global) }
     ensures keeps { OnOk result (W.keeps writer.new) }
+    ensures came { Came W.took W.broke result writer.old writer.new }
 {
     if let Some(solver) = variables.solver_from_global.fwd().get(global) {
         return Ok(solver);
@@ -75,6 +78,7 @@ pub fn remove_solver_var<W: StepWriter>(
     requires unused { IsUnused (session_after (W.steps writer.old)) global }
     ensures gone { OnOk result (Unindexes variables.old variables.new (W.steps writer.old) (W.steps writer.new) global solver) }
     ensures keeps { OnOk result (W.keeps writer.new) }
+    ensures came { Came W.took W.broke result writer.old writer.new }
 {
     variables.take_index(global, solver);
     writer.step(&ProofStep::SolverVarName {

@@ -3,12 +3,11 @@ ghost use Rattle.std.specs.Prelude.{◌≡◌, ◌∷◌, List, OnOk, IfErr};
 ghost use Rattle.sat_base.specs.steps.Steps.{Step};
 ghost use Rattle.sat_base.specs.steps.StepViews.{step_of};
 ghost use Rattle.sat_solver.specs.session.Session.{May, session_after};
-ghost use Rattle.sat_solver.specs.names.Failing.{IsFailure};
+ghost use Rattle.sat_solver.specs.names.Failing.{IsFailure, Came};
 
 use crate::names::error::NameError;
-use crate::session::log::Log;
-use sat_base::ProofStep;
-use sat_checker::{ProofProcessor, ProofTranscriptProcessor};
+use crate::session::proof::{Proof, ProofError};
+use sat_base::{CountedWrite, ProofStep};
 
 /// What takes the steps of a proof, one after another.
 pub trait StepWriter: Drop {
@@ -18,24 +17,38 @@ pub trait StepWriter: Drop {
     /// What it keeps between steps.
     ghost keeps: { Self → Type 0 };
 
+    /// It came from there by steps that were taken.
+    ghost took: { Self → Self → Type 0 };
+
+    /// It came from there by steps of which the last wasn't taken.
+    ghost broke: { Self → Self → Type 0 };
+
     /// Takes a step that may be written behind those before it.
     fn step(&mut self, step: &ProofStep<'_>) -> Result<(), NameError>
         requires keeps { keeps self.old }
         requires may { May (session_after (steps self.old)) (step_of step.now) }
         ensures keeps { OnOk result (keeps self.new) }
         ensures steps { OnOk result (steps self.new ≡ step_of step.now ∷ steps self.old) }
-        ensures fails { IfErr result IsFailure };
+        ensures fails { IfErr result IsFailure }
+        ensures came { Came took broke result self.old self.new };
 }
 
-impl<P: ProofProcessor, T: ProofTranscriptProcessor> StepWriter for Log<P, T> {
-    ghost use Rattle.sat_solver.specs.session.LogView.{Keeps};
+impl<W: CountedWrite + Drop> StepWriter for Proof<W> {
+    ghost use Rattle.sat_solver.specs.session.ProofView.{Keeps, steps_of};
+    ghost use Rattle.sat_solver.specs.session.Making.{Took, Broke};
 
-    ghost steps = { λ l. l.history.steps };
+    ghost steps = { λ p. steps_of p };
 
-    ghost keeps = { λ l. Keeps l };
+    ghost keeps = { λ p. Keeps p };
+
+    ghost took = { Took W.seen };
+
+    ghost broke = { Broke W.seen };
 
     fn step(&mut self, step: &ProofStep<'_>) -> Result<(), NameError> {
-        self.add_step(step)?;
-        Ok(())
+        match self.step(step) {
+            Ok(()) => Ok(()),
+            Err(ProofError::Write(cause)) => Err(NameError::Write(cause)),
+        }
     }
 }

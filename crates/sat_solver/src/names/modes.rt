@@ -7,6 +7,7 @@ ghost use Rattle.sat_solver.specs.names.Expected.{NewName, NoName};
 ghost use Rattle.sat_solver.specs.names.Calls.{Stands, Does, DoesNothing};
 ghost use Rattle.sat_solver.specs.names.Search.{IsUnseen, IsAlike, Forgets};
 ghost use Rattle.sat_solver.specs.names.Refusing.{IsAssumed};
+ghost use Rattle.sat_solver.specs.names.Failing.{Came};
 
 use crate::names::Variables;
 use crate::names::error::NameError;
@@ -30,6 +31,7 @@ fn hide_global<W: StepWriter>(
     ensures live { OnOk result ((data_at variables.new global).deleted ≡ false) }
     ensures nameless { OnOk result (user_of variables.new global ≡ None) }
     ensures keeps { OnOk result (W.keeps writer.new) }
+    ensures came { Came W.took W.broke result writer.old writer.new }
 {
     variables.put_hidden(user, global);
     writer.step(&ProofStep::UserVarName { global, user: None })?;
@@ -53,6 +55,7 @@ pub fn delete_var<W: StepWriter>(
     ensures globals { OnOk result (variables.new.globals ≡ variables.old.globals) }
     ensures forgets { OnOk result (Forgets (session_after (W.steps writer.old)) (session_after (W.steps writer.new)) global) }
     ensures keeps { OnOk result (W.keeps writer.new) }
+    ensures came { Came W.took W.broke result writer.old writer.new }
 {
     variables.put_deleted(global);
     writer.step(&ProofStep::DeleteVar { var: global })?;
@@ -72,6 +75,7 @@ fn forget_idle<W: StepWriter>(
     ensures does { OnOk result (DoesNothing variables.old variables.new (W.steps writer.old) (W.steps writer.new)) }
     ensures alike { OnOk result (IsAlike variables.old variables.new (W.steps writer.old) (W.steps writer.new)) }
     ensures keeps { OnOk result (W.keeps writer.new) }
+    ensures came { Came W.took W.broke result writer.old writer.new }
 {
     if variables.is_marked(global) {
         return Ok(());
@@ -95,6 +99,7 @@ pub fn hide_var<W: StepWriter>(
     ensures does { OnOk result (Does variables.old variables.new (W.steps writer.old) (W.steps writer.new) (λ j. without_name (user + 1) (bring_in (user + 1) j)) (λ j. map NewName (new_names (user + 1) j) ++ (NoName (user + 1) ∷ []))) }
     ensures alike { OnOk result (IsAlike variables.old variables.new (W.steps writer.old) (W.steps writer.new)) }
     ensures keeps { OnOk result (W.keeps writer.new) }
+    ensures came { Came W.took W.broke result writer.old writer.new }
 {
     let global = global_from_user(variables, writer, user)?;
     hide_global(variables, writer, user, global)?;
@@ -136,6 +141,7 @@ fn set_global_mode<W: StepWriter>(
     ensures does { OnOk result (Does variables.old variables.new (W.steps writer.old) (W.steps writer.new) (with_mode (judged_mode sample) (user + 1)) (λ j. [])) }
     ensures unseen { OnOk result (IsUnseen variables.old variables.new (W.steps writer.old) (W.steps writer.new)) }
     ensures keeps { OnOk result (W.keeps writer.new) }
+    ensures came { Came W.took W.broke result writer.old writer.new }
 {
     if is_mode(variables.mode(global), sample) {
         return Ok(());
@@ -161,6 +167,7 @@ pub fn set_sampling_mode<W: StepWriter>(
     ensures does { OnOk result (Does variables.old variables.new (W.steps writer.old) (W.steps writer.new) (λ j. with_mode (judged_mode sample) (user + 1) (bring_in (user + 1) j)) (λ j. map NewName (new_names (user + 1) j) ++ [])) }
     ensures unseen { OnOk result (IsUnseen variables.old variables.new (W.steps writer.old) (W.steps writer.new)) }
     ensures keeps { OnOk result (W.keeps writer.new) }
+    ensures came { Came W.took W.broke result writer.old writer.new }
 {
     let global = global_from_user(variables, writer, user)?;
     set_global_mode(variables, writer, user, global, sample)

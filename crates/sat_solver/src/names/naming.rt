@@ -4,6 +4,7 @@ ghost use Rattle.sat_base.specs.script.Judge.{names_from};
 ghost use Rattle.sat_solver.specs.names.Variables.{global_of, names_used};
 ghost use Rattle.sat_solver.specs.names.Naming.{IsNextUser};
 ghost use Rattle.sat_solver.specs.names.Calls.{Stands, NamesOne, NamesAll, Brought};
+ghost use Rattle.sat_solver.specs.names.Failing.{Came};
 
 use crate::names::Variables;
 use crate::names::error::NameError;
@@ -22,6 +23,7 @@ fn new_name<W: StepWriter>(
     requires within { user ≤ names_used variables.old }
     ensures names { IfOk result (λ v. NamesOne variables.old variables.new (W.steps writer.old) (W.steps writer.new) user v) }
     ensures keeps { OnOk result (W.keeps writer.new) }
+    ensures came { Came W.took W.broke result writer.old writer.new }
 {
     let Some(global) = variables.room_for(user) else {
         return Err(NameError::VariableLimit);
@@ -48,6 +50,7 @@ fn bring_new<W: StepWriter>(
     ensures variable { IfOk result (λ v. global_of variables.new user ≡ Some v) }
     ensures names { OnOk result (NamesAll variables.old variables.new (W.steps writer.old) (W.steps writer.new) (names_from (user + 1 - names_used variables.old) (names_used variables.old + 1))) }
     ensures keeps { OnOk result (W.keeps writer.new) }
+    ensures came { Came W.took W.broke result writer.old writer.new }
 {
     for index in variables.global_from_user.fwd().watermark()..user.index() {
         new_name(variables, writer, Var::from_index(index))?;
@@ -67,6 +70,7 @@ pub fn global_from_user<W: StepWriter>(
     ensures variable { IfOk result (λ v. global_of variables.new user ≡ Some v) }
     ensures brought { OnOk result (Brought variables.old variables.new (W.steps writer.old) (W.steps writer.new) user) }
     ensures keeps { OnOk result (W.keeps writer.new) }
+    ensures came { Came W.took W.broke result writer.old writer.new }
 {
     if user.index() >= variables.global_from_user.fwd().watermark() {
         return bring_new(variables, writer, user);
@@ -87,6 +91,7 @@ pub fn new_user_var<W: StepWriter>(
     ensures next { IfOk result (IsNextUser variables.old) }
     ensures brought { IfOk result (λ user. Brought variables.old variables.new (W.steps writer.old) (W.steps writer.new) user) }
     ensures keeps { OnOk result (W.keeps writer.new) }
+    ensures came { Came W.took W.broke result writer.old writer.new }
 {
     let Some(user) = variables.next_user() else {
         return Err(NameError::VariableLimit);

@@ -4,6 +4,7 @@ ghost use Rattle.sat_base.specs.values.Literals.{variable};
 ghost use Rattle.sat_solver.specs.session.LiveClauses.{with_var};
 ghost use Rattle.sat_solver.specs.names.Adding.{Takes};
 ghost use Rattle.sat_solver.specs.names.Calls.{Stands};
+ghost use Rattle.sat_solver.specs.names.Failing.{Came};
 
 use crate::names::Variables;
 use crate::names::error::NameError;
@@ -53,6 +54,7 @@ pub fn take_names<W: StepWriter>(
     ensures takes { OnOk result (Takes variables.old variables.new (W.steps writer.old) (W.steps writer.new) lits.now taken.new) }
     ensures globals { taken.new.globals ≡ taken.old.globals }
     ensures keeps { OnOk result (W.keeps writer.new) }
+    ensures came { Came W.took W.broke result writer.old writer.new }
 {
     taken.order.clear();
     taken.given.clear();
