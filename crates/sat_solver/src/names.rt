@@ -50,7 +50,8 @@ pub struct Variables {
 impl Variables {
     /// No name. Takes no memory.
     pub fn new(alloc: Global) -> Variables
-        ensures { AreTidy result }
+        ensures tidy { AreTidy result }
+        ensures none { variables_used result ≡ 0 }
     {
         Variables {
             global_from_user: VarBiMap::new(alloc),

@@ -28,3 +28,4 @@ pub mod NextNames
 pub mod ModelSteps
 pub mod LeftOut
 pub mod NextIndices
+pub mod CameLemmas

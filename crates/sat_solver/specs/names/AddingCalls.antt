@@ -4,6 +4,7 @@ use Rattle.sat_base.specs.script.Judge.{bring_all, with_clause}
 use Rattle.sat_base.specs.steps.Steps.{Step, AddClause}
 use Rattle.sat_checker.specs.LiteralSets.{is_tautology}
 use Rattle.sat_solver.specs.session.Session.{session_after}
+use Rattle.sat_solver.specs.names.Naming.{Extends}
 use Rattle.sat_solver.specs.names.Refusing.{names_in}
 use Rattle.sat_solver.specs.names.Expected.{Adds, bringing}
 use Rattle.sat_solver.specs.names.Adding.{named_literal, Images, MapsClause}
@@ -16,6 +17,7 @@ use Rattle.sat_solver.specs.declared.names.taking.Taken.{Taken}
 pub record AddsClause (old new : Variables) (from to : List Step) (user : List ℕ) (t : Taken) (both_signs : Bool) : Type 0 where
   pub does : Does old new from to (λ j. with_clause (map named_literal user) (bring_all (names_in user) j)) (λ j. bringing (names_in user) j ++ (Adds (map named_literal user) ∷ []))
   pub signs : both_signs ≡ is_tautology t.order.items
+  pub extends : Extends old new
   pub images : Images new user t.order.items
   pub clause : MapsClause new t
   pub gives : Gives old new (session_after from) t.given.items
@@ -27,4 +29,5 @@ pub record AddsClause (old new : Variables) (from to : List Step) (user : List �
 -- Its names came in, and it was not written, which the clauses' being unsatisfiable allows.
 pub record LeavesOut (old new : Variables) (from to : List Step) (user : List ℕ) : Type 0 where
   pub does : Does old new from to (λ j. with_clause (map named_literal user) (bring_all (names_in user) j)) (bringing (names_in user))
+  pub extends : Extends old new
   pub unseen : IsUnseen old new from to

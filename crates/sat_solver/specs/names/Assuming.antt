@@ -7,6 +7,7 @@ use Rattle.sat_solver.specs.session.Session.{session_after}
 use Rattle.sat_solver.specs.session.LiveClauses.{with_var}
 use Rattle.sat_store.specs.declared.data.VarData.{VarData}
 use Rattle.sat_solver.specs.names.Variables.{data_at, variables_used}
+use Rattle.sat_solver.specs.names.Naming.{Extends}
 use Rattle.sat_solver.specs.names.Refusing.{names_in}
 use Rattle.sat_solver.specs.names.Expected.{Opens, bringing}
 use Rattle.sat_solver.specs.names.Adding.{named_literal, Images, global_in}
@@ -38,6 +39,7 @@ pub record PutsMarks (old new : Variables) (ls : List ℕ) : Type 0 where
 -- The names of the literals came in, their variables have indices, and they are the assumptions from here on.
 pub record Assumes (old new : Variables) (from to : List Step) (user : List ℕ) (t : Taken) : Type 0 where
   pub does : Does old new from to (bring_all (names_in user)) (λ j. bringing (names_in user) j ++ (Opens (map named_literal user) ∷ []))
+  pub extends : Extends old new
   pub images : Images new user t.order.items
   pub globals : t.globals.items ≡ map (with_var (global_in new)) t.order.items
   pub gives : Gives old new (session_after from) t.given.items

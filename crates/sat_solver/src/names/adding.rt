@@ -1,5 +1,5 @@
 //! Takes a clause over names.
-ghost use Rattle.std.specs.Prelude.{ℕ, ◌≡◌, true, ◌∷◌, [], map, OnOk, IfOk};
+ghost use Rattle.std.specs.Prelude.{ℕ, ◌≡◌, true, ◌∷◌, [], map, OnOk, IfOk, IfErr};
 ghost use Rattle.sat_base.specs.script.Judge.{with_clause};
 ghost use Rattle.sat_base.specs.steps.Steps.{AddClause};
 ghost use Rattle.sat_solver.specs.names.Adding.{NoWitness, SameLiterals, named_literal, Images, MapsClause};
@@ -47,6 +47,7 @@ fn map_clause(variables: &Variables, _user: &[Lit], taken: &mut Taken) -> Result
     ensures signs { IfOk result (λ both. both ≡ is_tautology taken.new.order.items) }
     ensures order { taken.new.order ≡ taken.old.order }
     ensures given { taken.new.given ≡ taken.old.given }
+    ensures memory { IfErr result (λ e. e ≡ NameError.OutOfMemory) }
 {
     let both_signs = copy_canonical(&mut taken.lits, &taken.order)?;
     map_lits(&variables.globals, &taken.lits, &mut taken.globals)?;

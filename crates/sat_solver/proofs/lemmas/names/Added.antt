@@ -1,5 +1,5 @@
 -- A clause or assumptions, as they were taken and written.
-use Rattle.std.proofs.Common.{ℕ, ◌<◌, ◌≡◌, Bool, List, [], ◌∷◌, map, length, get_or, true, ◌||◌, eqb, inl, inr, sym, ◌∙◌, ap, subst, arith}
+use Rattle.std.proofs.Common.{ℕ, ◌<◌, ◌≡◌, Bool, None, Some, List, [], ◌∷◌, map, length, get_or, true, ◌||◌, eqb, inl, inr, sym, ◌∙◌, ap, subst, arith}
 use Rattle.std.proofs.lemmas.Bool.{eq-eqb, or_right}
 use Rattle.sat_base.specs.values.Literals.{variable, is_positive}
 use Rattle.sat_base.specs.script.Script.{Among}
@@ -9,7 +9,7 @@ use Rattle.sat_checker.specs.LiteralSets.{is_tautology, mentions}
 use Rattle.sat_solver.specs.session.Session.{session_after}
 use Rattle.sat_solver.specs.session.LiveClauses.{with_var}
 use Rattle.sat_store.specs.variables.Maps.{target}
-use Rattle.sat_solver.specs.names.Variables.{data_at, variables_used, AreTidy}
+use Rattle.sat_solver.specs.names.Variables.{data_at, global_of, variables_used, AreTidy}
 use Rattle.sat_solver.specs.names.Naming.{Extends}
 use Rattle.sat_solver.specs.names.Refusing.{names_in}
 use Rattle.sat_solver.specs.names.Adding.{named_literal, Image, Images, MapsClause, NoWitness, SameLiterals, Takes, global_in}
@@ -21,6 +21,7 @@ use Rattle.sat_solver.specs.names.Calls.{Does}
 use Rattle.sat_solver.specs.declared.names.Variables.{Variables}
 use Rattle.sat_solver.specs.declared.names.taking.Taken.{Taken}
 use Rattle.sat_solver.proofs.lemmas.names.Doing.{does_both}
+use Rattle.sat_solver.proofs.lemmas.names.Extending.{extends_both}
 use Rattle.sat_solver.proofs.lemmas.names.Giving.{gives_unseen}
 use Rattle.sat_solver.proofs.lemmas.names.LiteralValues.{coded_half}
 use Rattle.sat_solver.proofs.lemmas.names.ModeChanges.{live_within}
@@ -40,6 +41,7 @@ pub clause_added : (old mid : Variables) (from mids to : List Step) (user : List
 clause_added old mid from mids to user t u both_signs takes maps signs order given does e = record {
   does = does_both old mid mid from mids to (bring_all (names_in user)) (with_clause (map named_literal user)) (bringing (names_in user)) (λ j. Adds (map named_literal user) ∷ []) takes.does does;
   signs = signs;
+  extends = takes.extends;
   images = order_same mid user t u order takes.images;
   clause = maps;
   gives = subst (Gives old mid (session_after from)) (sym (ap (λ v. v.items) given)) takes.gives;
@@ -57,10 +59,23 @@ images_kept old new user order users solvers i = record {
   each = λ k lt. let x = i.each k lt in record { variable_is = x.variable_is; index_is = x.index_is; named = ap (λ m. target m.fwd (variable (get_or user k 0))) users ∙ x.named; indexed = ap (λ m. target m.fwd x.variable_is) solvers ∙ x.indexed; is = x.is };
 }
 
+-- marks leave names and modes as they are
+extends_marked : (old new : Variables) (ls : List ℕ) → PutsMarks old new ls → Extends old new
+extends_marked old new ls put = record {
+  stays = λ u v e. (same u ∙ e, ap (λ d. d.sampling_mode) (put.kept v));
+  came = λ u v e f. absurd (none_some (sym e ∙ sym (same u) ∙ f));
+}
+  where
+    same : (u : ℕ) → global_of new u ≡ global_of old u
+    same u = ap (λ m. target m.fwd u) put.users
+    none_some : {v : ℕ} → None ≡ Some v → ⊥
+    none_some e = cc
+
 pub assumptions_added : (old mid new : Variables) (from mids to : List Step) (user : List ℕ) (t u : Taken) → Takes old mid from mids user t → PutsMarks mid new u.globals.items → u.globals.items ≡ map (with_var (global_in mid)) t.order.items → u.order ≡ t.order → u.given ≡ t.given
     → Does mid new mids to (λ j. j) (λ j. Opens (map named_literal user) ∷ []) → to ≡ Assumptions u.globals.items ∷ mids → Assumes old new from to user u
 assumptions_added old mid new from mids to user t u takes put globals order given does e = record {
   does = does_both old mid new from mids to (bring_all (names_in user)) (λ j. j) (bringing (names_in user)) (λ j. Opens (map named_literal user) ∷ []) takes.does does;
+  extends = extends_both old mid new takes.extends (extends_marked mid new u.globals.items put);
   images = images_kept mid new user u.order.items put.users put.solvers (order_same mid user t u order takes.images);
   globals = globals ∙ ap (λ v. map (with_var (global_in mid)) v.items) (sym order) ∙ ap (λ g. map (with_var (λ x. get_or g.items x 0)) u.order.items) (sym put.globals);
   gives = subst (Gives old new (session_after from)) (sym (ap (λ v. v.items) given)) (gives_unseen old mid new (session_after from) t.given.items takes.gives put.solvers);

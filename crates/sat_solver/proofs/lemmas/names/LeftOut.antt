@@ -18,6 +18,8 @@ use Rattle.sat_solver.specs.names.Search.{IsUnseen}
 use Rattle.sat_solver.specs.names.Calls.{Stands, Brought}
 use Rattle.sat_solver.specs.declared.names.Variables.{Variables}
 use Rattle.sat_solver.proofs.lemmas.names.CheckerIsSound.{the_checking_sound}
+use Rattle.sat_solver.specs.names.Naming.{Extends}
+use Rattle.sat_solver.proofs.lemmas.names.Extending.{extends_same, extends_both}
 use Rattle.sat_solver.proofs.lemmas.names.Doing.{does_none, does_both}
 use Rattle.sat_solver.proofs.lemmas.names.Giving.{unseen_same, unseen_both}
 use Rattle.sat_solver.proofs.lemmas.names.NamedAgain.{InUse, left_out}
@@ -27,16 +29,18 @@ use Rattle.sat_solver.proofs.lemmas.names.TakenNames.{Brings}
 -- so many names came in
 pub record Bringing (old now : Variables) (from steps : List Step) (all : List ℕ) (index : ℕ) : Type 0 where
   pub stands : Stands now steps
+  pub extends : Extends old now
   pub unseen : IsUnseen old now from steps
   pub named : (k : ℕ) → k < index → (v : ℕ) × (global_of now (variable (get_or all k 0)) ≡ Some v)
   pub rest : (new : Variables) (to : List Step) → Brings now new steps to (drop index all) → Brings old new from to all
 
 pub bring_begins : (old : Variables) (from : List Step) (all : List ℕ) → Stands old from → Bringing old old from from all 0
-bring_begins old from all stands = record { stands = stands; unseen = unseen_same old from; named = λ k lt. absurd (let z : k < 0 = lt in omega arith); rest = λ new to more. more }
+bring_begins old from all stands = record { stands = stands; extends = extends_same old; unseen = unseen_same old from; named = λ k lt. absurd (let z : k < 0 = lt in omega arith); rest = λ new to more. more }
 
 pub bring_goes : (old now new : Variables) (from steps to : List Step) (all : List ℕ) (index l v : ℕ) → Bringing old now from steps all index → index < length all → l ≡ get_or all index 0 → Brought now new steps to (variable l) → global_of new (variable l) ≡ Some v → Bringing old new from to all (index + 1)
 bring_goes old now new from steps to all index l v b lt at brought named = record {
   stands = brought.brings.stands;
+  extends = extends_both old now new b.extends brought.extends;
   unseen = unseen_both old now new from steps to b.unseen brought.unseen;
   named = λ k m. elim (cases_eq k index) [
     | inl same ↦ (v, ap (λ i. global_of new (variable (get_or all i 0))) same ∙ ap (λ x. global_of new (variable x)) (sym at) ∙ named)
@@ -81,6 +85,7 @@ brought_out old new from to all index le unsat b = record {
           writes = k.writes;
         };
   };
+  extends = b.extends;
   unseen = b.unseen;
 }
   where

@@ -4,10 +4,11 @@ use Rattle.sat_solver.specs.names.Calls.{Brought}
 use Rattle.sat_solver.specs.names.Variables.{global_of}
 use Rattle.sat_solver.proofs.lemmas.names.TakenNames.{any_default}
 use Rattle.sat_solver.proofs.lemmas.names.LeftOut.{bring_begins, bring_goes, brought_out}
+use Rattle.sat_solver.proofs.lemmas.names.CameLemmas.{came_on}
 use Rattle.sat_solver.proofs.names.adding.leave_out_clause.Goals as goal
 
 pub loop-lit-init : goal.loop-lit-init
-loop-lit-init g c = record { keeps = c.requires.keeps; bringing = bring_begins c.args.variables.now (g.W.StepWriter.steps c.args.writer.now) c.args.lits.now c.requires.stands }
+loop-lit-init g c = record { keeps = c.requires.keeps; came = λ w t. t; bringing = bring_begins c.args.variables.now (g.W.StepWriter.steps c.args.writer.now) c.args.lits.now c.requires.stands }
 
 pub global_from_user-requires-clause-stands : goal.global_from_user-requires-clause-stands
 global_from_user-requires-clause-stands g c = c.loop-lit.invariant.bringing.stands
@@ -20,6 +21,7 @@ loop-lit-preserved g c =
     let user : c.var.result ≡ variable (get_or c.args.lits.now c.loop-lit.lit-index 0) = c.var.ensures ∙ ap variable (c.lit-item.is ∙ any_default c.args.lits.now c.loop-lit.lit-index c.lit-item.result 0 c.loop-lit-test.true) in
     record {
       keeps = c.in_ok-global_from_user.ensures.keeps;
+      came = λ w t. c.in_ok-global_from_user.ensures.came w (c.loop-lit.invariant.came w t);
       bringing = bring_goes c.args.variables.now c.loop-lit.variables c.global_from_user.new.variables (g.W.StepWriter.steps c.args.writer.now) (g.W.StepWriter.steps c.loop-lit.writer) (g.W.StepWriter.steps c.global_from_user.new.writer) c.args.lits.now c.loop-lit.lit-index (get_or c.args.lits.now c.loop-lit.lit-index 0) c.in_ok-global_from_user.field-0
           c.loop-lit.invariant.bringing c.loop-lit-test.true refl
           (subst (λ u. Brought c.loop-lit.variables c.global_from_user.new.variables (g.W.StepWriter.steps c.loop-lit.writer) (g.W.StepWriter.steps c.global_from_user.new.writer) u) user c.in_ok-global_from_user.ensures.brought)
@@ -31,3 +33,10 @@ returns-clause-leaves g c = brought_out c.args.variables.now c.loop-lit.variable
 
 pub returns-clause-keeps : goal.returns-clause-keeps
 returns-clause-keeps g c = c.loop-lit.invariant.keeps
+
+pub returns-in_err-global_from_user-clause-came : goal.returns-in_err-global_from_user-clause-came
+returns-in_err-global_from_user-clause-came g c =
+    came_on g.W.StepWriter.took g.W.StepWriter.broke c.from_residual.result c.in_err-global_from_user.field-0.0 c.args.writer.now c.global_from_user.new.writer c.from_residual.ensures.1 (λ w t. c.in_err-global_from_user.ensures.came w (c.loop-lit.invariant.came w t))
+
+pub returns-clause-came : goal.returns-clause-came
+returns-clause-came g c = c.loop-lit.invariant.came

@@ -4,5 +4,6 @@ use Rattle.sat_solver.proofs.names.adding.leave_out_clause.Given as goal
 abbrev pub invariant-loop-lit : goal.invariant-loop-lit
 invariant-loop-lit g l = record {
   keeps : g.W.StepWriter.keeps l.writer;
+  came : (w : g.row.W.Denot) → g.W.StepWriter.took w l.fn.writer → g.W.StepWriter.took w l.writer;
   bringing : Bringing l.fn.variables l.variables (g.W.StepWriter.steps l.fn.writer) (g.W.StepWriter.steps l.writer) l.lits l.lit-index;
 }

@@ -3,6 +3,7 @@ use Rattle.sat_base.specs.script.Judge.{without_name, bring_in, new_names}
 use Rattle.sat_solver.specs.names.Expected.{NewName, NoName}
 use Rattle.sat_solver.proofs.lemmas.names.Doing.{does_both, ok_after}
 use Rattle.sat_solver.proofs.lemmas.names.Giving.{alike_unseen, alike_both, ok_alike}
+use Rattle.sat_solver.proofs.lemmas.names.CameLemmas.{came_then}
 use Rattle.sat_solver.proofs.names.modes.hide_var.Goals as goal
 
 pub forget_idle-requires-clause-stands : goal.forget_idle-requires-clause-stands
@@ -23,3 +24,6 @@ returns-clause-alike g c =
     (alike_unseen c.args.variables.now c.global_from_user.new.variables (g.W.StepWriter.steps c.args.writer.now) (g.W.StepWriter.steps c.global_from_user.new.writer) c.in_ok-global.ensures.brought.unseen)
     (alike_unseen c.global_from_user.new.variables c.hide_global.new.variables (g.W.StepWriter.steps c.global_from_user.new.writer) (g.W.StepWriter.steps c.hide_global.new.writer) c.in_ok-hide_global.ensures.unseen))
     c.forget_idle.ensures.alike
+
+pub returns-clause-came : goal.returns-clause-came
+returns-clause-came g c = came_then g.W.StepWriter.took g.W.StepWriter.broke c.forget_idle.result c.args.writer.now c.hide_global.new.writer c.forget_idle.new.writer (λ w t. c.in_ok-hide_global.ensures.came w (c.in_ok-global.ensures.came w t)) c.forget_idle.ensures.came

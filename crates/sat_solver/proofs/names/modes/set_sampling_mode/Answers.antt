@@ -4,6 +4,7 @@ use Rattle.sat_solver.specs.names.Variables.{judged_mode}
 use Rattle.sat_solver.specs.names.Expected.{NewName}
 use Rattle.sat_solver.proofs.lemmas.names.Doing.{ok_both}
 use Rattle.sat_solver.proofs.lemmas.names.Giving.{ok_unseen}
+use Rattle.sat_solver.proofs.lemmas.names.CameLemmas.{came_then}
 use Rattle.sat_solver.proofs.names.modes.set_sampling_mode.Goals as goal
 
 pub returns-clause-does : goal.returns-clause-does
@@ -12,3 +13,6 @@ returns-clause-does g c = ok_both c.set_global_mode.result c.args.variables.now 
 
 pub returns-clause-unseen : goal.returns-clause-unseen
 returns-clause-unseen g c = ok_unseen c.set_global_mode.result c.args.variables.now c.global_from_user.new.variables c.set_global_mode.new.variables (g.W.StepWriter.steps c.args.writer.now) (g.W.StepWriter.steps c.global_from_user.new.writer) (g.W.StepWriter.steps c.set_global_mode.new.writer) c.in_ok-global.ensures.brought.unseen c.set_global_mode.ensures.unseen
+
+pub returns-clause-came : goal.returns-clause-came
+returns-clause-came g c = came_then g.W.StepWriter.took g.W.StepWriter.broke c.set_global_mode.result c.args.writer.now c.global_from_user.new.writer c.set_global_mode.new.writer c.in_ok-global.ensures.came c.set_global_mode.ensures.came

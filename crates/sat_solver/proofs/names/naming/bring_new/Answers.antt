@@ -3,6 +3,7 @@ use Rattle.sat_base.specs.script.Judge.{names_from}
 use Rattle.sat_solver.specs.names.Variables.{names_used}
 use Rattle.sat_solver.specs.names.Calls.{NamesOne, NamesAll}
 use Rattle.sat_solver.proofs.lemmas.names.NamingSteps.{Coming, unused, one_came, last_came, on_one}
+use Rattle.sat_solver.proofs.lemmas.names.CameLemmas.{came_then, came_on}
 use Rattle.sat_solver.proofs.names.naming.bring_new.Goals as goal
 
 pub new_name-requires-clause-free : goal.new_name-requires-clause-free
@@ -14,6 +15,7 @@ loop-index-preserved g c = (
       c.loop-index.invariant.0 (subst (λ e. c.loop-index.index < e) c.index-index-end.ensures.value c.loop-index-test.true)
       (subst (λ i. NamesOne c.loop-index.variables c.new_name.new.variables (g.W.StepWriter.steps c.loop-index.writer) (g.W.StepWriter.steps c.new_name.new.writer) i c.in_ok-new_name.field-0) c.from_index.ensures c.in_ok-new_name.ensures.names),
   c.in_ok-new_name.ensures.keeps,
+  λ w t. c.in_ok-new_name.ensures.came w (c.loop-index.invariant.2 w t),
 )
 
 pub new_name-requires-2-clause-free : goal.new_name-requires-2-clause-free
@@ -28,3 +30,10 @@ returns-clause-names g c =
     on_one c.new_name-2.result (λ v. NamesOne c.loop-index.variables c.new_name-2.new.variables (g.W.StepWriter.steps c.loop-index.writer) (g.W.StepWriter.steps c.new_name-2.new.writer) c.args.user v)
     (NamesAll c.args.variables.now c.new_name-2.new.variables (g.W.StepWriter.steps c.args.writer.now) (g.W.StepWriter.steps c.new_name-2.new.writer) (names_from (c.args.user + 1 - names_used c.args.variables.now) (names_used c.args.variables.now + 1)))
     c.new_name-2.ensures.names (λ v one. last_came c.args.variables.now c.loop-index.variables c.new_name-2.new.variables (g.W.StepWriter.steps c.args.writer.now) (g.W.StepWriter.steps c.loop-index.writer) (g.W.StepWriter.steps c.new_name-2.new.writer) c.args.user v came one)
+
+pub returns-in_err-new_name-clause-came : goal.returns-in_err-new_name-clause-came
+returns-in_err-new_name-clause-came g c =
+    came_on g.W.StepWriter.took g.W.StepWriter.broke c.from_residual.result c.in_err-new_name.field-0.0 c.args.writer.now c.new_name.new.writer c.from_residual.ensures.1 (λ w t. c.in_err-new_name.ensures.came w (c.loop-index.invariant.2 w t))
+
+pub returns-clause-came : goal.returns-clause-came
+returns-clause-came g c = came_then g.W.StepWriter.took g.W.StepWriter.broke c.new_name-2.result c.args.writer.now c.loop-index.writer c.new_name-2.new.writer c.loop-index.invariant.2 c.new_name-2.ensures.came

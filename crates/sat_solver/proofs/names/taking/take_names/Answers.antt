@@ -3,12 +3,14 @@ use Rattle.sat_base.specs.values.Literals.{variable, coded, is_positive}
 use Rattle.sat_solver.specs.names.Calls.{Brought}
 use Rattle.sat_solver.specs.names.Variables.{global_of}
 use Rattle.sat_solver.proofs.lemmas.names.TakenNames.{none_taken, one_taken, all_taken, any_default}
+use Rattle.sat_solver.proofs.lemmas.names.CameLemmas.{came_on, came_starved}
 use Rattle.sat_solver.proofs.names.taking.take_names.Goals as goal
 
 pub loop-lit-init : goal.loop-lit-init
 loop-lit-init g c = record {
   globals = refl;
   keeps = c.requires.keeps;
+  came = λ w t. t;
   taking = none_taken c.args.variables.now (g.W.StepWriter.steps c.args.writer.now) c.args.lits.now c.clear.new.self.items c.clear-2.new.self.items c.requires.stands c.clear.ensures.items c.clear-2.ensures.items;
 }
 
@@ -30,6 +32,7 @@ loop-lit-preserved g c =
     record {
       globals = c.loop-lit.invariant.globals;
       keeps = c.in_ok-solver.ensures.keeps;
+      came = λ w t. c.in_ok-solver.ensures.came w (c.in_ok-global.ensures.came w (c.loop-lit.invariant.came w t));
       taking = one_taken c.args.variables.now c.loop-lit.variables c.global_from_user.new.variables c.solver_from_global.new.variables
           (g.W.StepWriter.steps c.args.writer.now) (g.W.StepWriter.steps c.loop-lit.writer) (g.W.StepWriter.steps c.global_from_user.new.writer) (g.W.StepWriter.steps c.solver_from_global.new.writer)
           c.args.lits.now c.loop-lit.taken.order.items c.push.new.self.items c.loop-lit.taken.given.items c.solver_from_global.new.given.items c.loop-lit.lit-index (get_or c.args.lits.now c.loop-lit.lit-index 0) c.in_ok-global.global c.in_ok-solver.solver c.lit.result
@@ -46,3 +49,20 @@ returns-clause-globals g c = c.loop-lit.invariant.globals
 
 pub returns-clause-keeps : goal.returns-clause-keeps
 returns-clause-keeps g c = c.loop-lit.invariant.keeps
+
+pub returns-in_err-global-clause-came : goal.returns-in_err-global-clause-came
+returns-in_err-global-clause-came g c =
+    came_on g.W.StepWriter.took g.W.StepWriter.broke c.from_residual.result c.in_err-global.field-0.0 c.args.writer.now c.global_from_user.new.writer c.from_residual.ensures.1 (λ w t. c.in_err-global.ensures.came w (c.loop-lit.invariant.came w t))
+
+pub returns-in_err-solver-clause-came : goal.returns-in_err-solver-clause-came
+returns-in_err-solver-clause-came g c =
+    came_on g.W.StepWriter.took g.W.StepWriter.broke c.from_residual-in_err-solver.result c.in_err-solver.field-0.0 c.args.writer.now c.solver_from_global.new.writer c.from_residual-in_err-solver.ensures.1
+    (λ w t. c.in_err-solver.ensures.came w (c.in_ok-global.ensures.came w (c.loop-lit.invariant.came w t)))
+
+pub returns-in_err-push-clause-came : goal.returns-in_err-push-clause-came
+returns-in_err-push-clause-came g c =
+    came_starved g.W.StepWriter.took g.W.StepWriter.broke c.from_residual-in_err-push.result c.args.writer.now c.solver_from_global.new.writer c.from_residual-in_err-push.ensures.1
+    (λ w t. c.in_ok-solver.ensures.came w (c.in_ok-global.ensures.came w (c.loop-lit.invariant.came w t)))
+
+pub returns-clause-came : goal.returns-clause-came
+returns-clause-came g c = c.loop-lit.invariant.came

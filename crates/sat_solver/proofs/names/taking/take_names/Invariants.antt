@@ -6,5 +6,6 @@ abbrev pub invariant-loop-lit : goal.invariant-loop-lit
 invariant-loop-lit g l = record {
   globals : l.taken.globals ≡ l.fn.taken.globals;
   keeps : g.W.StepWriter.keeps l.writer;
+  came : (w : g.row.W.Denot) → g.W.StepWriter.took w l.fn.writer → g.W.StepWriter.took w l.writer;
   taking : Taking l.fn.variables l.variables (g.W.StepWriter.steps l.fn.writer) (g.W.StepWriter.steps l.writer) l.lits l.lit-index l.taken.order.items l.taken.given.items;
 }

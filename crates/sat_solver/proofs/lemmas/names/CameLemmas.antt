@@ -1,0 +1,45 @@
+-- What takes steps, from call to call.
+use Rattle.std.proofs.Common.{◌≡◌, sym, subst, Result, Ok, Err, List, [], ◌∷◌}
+use Rattle.std.specs.Prelude.{IsErrAnd}
+use Rattle.std.proofs.lemmas.Result.{err_from_is_err_and}
+use Rattle.sat_base.specs.device.Device.{Writer}
+use Rattle.sat_base.specs.steps.Steps.{Step}
+use Rattle.sat_solver.specs.session.Making.{Took, Broke}
+use Rattle.sat_solver.specs.session.ProofView.{Adds, Fails, Records}
+use Rattle.sat_solver.specs.declared.session.proof.ProofError.{ProofError}
+use Rattle.sat_solver.specs.declared.session.proof.ProofError.TheVariants.{Write}
+use Rattle.sat_solver.specs.declared.session.proof.Proof.{Proof}
+use Rattle.sat_solver.specs.declared.names.error.NameError.{NameError}
+use Rattle.sat_solver.specs.declared.names.error.NameError.TheVariants as errors
+use Rattle.sat_solver.specs.names.Failing.{CameTo, Came}
+use Rattle.sat_solver.proofs.lemmas.session.ProofLemmas.{adds_more, fails_later}
+
+-- a step was taken behind others
+pub took_step : {W : Type 0} (seen : W → Writer) (w a b : Proof W) (step : Step) → Took seen w a → Adds seen (step ∷ []) a b → Took seen w b
+took_step seen w a b step t adds = (_, adds_more seen t.0 (step ∷ []) w a b t.1 adds)
+
+-- or a call of the target failed at its text
+pub broke_step : {W : Type 0} (seen : W → Writer) (w a b : Proof W) (step : Step) → Took seen w a → Fails seen (step ∷ []) a b → Broke seen w b
+broke_step seen w a b step t fails = (_, fails_later seen t.0 (step ∷ []) w a b t.1 fails)
+
+-- a step that wasn't taken failed at its text
+pub failed_step : {W : Type 0} (seen : W → Writer) (e : ProofError) (a b : Proof W) (step : Step) → Records {T = Unit {0}} seen (Err e) (step ∷ []) a b → Fails seen (step ∷ []) a b
+failed_step seen (Write cause) a b step h = h
+
+module _ {W : Type 0} (took broke : W → W → Type 0) where
+  -- a call behind another that took its steps
+  pub came_then : {A : Type 0} (r : Result A NameError) (a b c : W) → ((w : W) → took w a → took w b) → Came took broke r b c → Came took broke r a c
+  came_then (Ok x) a b c first last = λ w t. last w (first w t)
+  came_then (Err errors.WitnessVariable) a b c first last = λ w t. last w (first w t)
+  came_then (Err errors.AssumedVariable) a b c first last = λ w t. last w (first w t)
+  came_then (Err errors.VariableLimit) a b c first last = λ w t. last w (first w t)
+  came_then (Err errors.OutOfMemory) a b c first last = λ w t. last w (first w t)
+  came_then (Err (errors.Write cause)) a b c first last = λ w t. last w (first w t)
+
+  -- a fault that is handed on
+  pub came_on : {A : Type 0} (r : Result A NameError) (e : NameError) (a b : W) → IsErrAnd r (λ f. f ≡ e) → ((w : W) → took w a → CameTo took broke w e b) → Came took broke r a b
+  came_on r e a b h f = (let p = err_from_is_err_and r h in subst (λ r. Came took broke r a b) (sym p.1) (subst (λ e. (w : W) → took w a → CameTo took broke w e b) (sym p.2) f))
+
+  -- no memory was left
+  pub came_starved : {A : Type 0} (r : Result A NameError) (a b : W) → IsErrAnd r (λ f. f ≡ errors.OutOfMemory) → ((w : W) → took w a → took w b) → Came took broke r a b
+  came_starved r a b h f = came_on r errors.OutOfMemory a b h f
