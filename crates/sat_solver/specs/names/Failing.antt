@@ -11,10 +11,13 @@ IsFailure errors.VariableLimit = ⊥
 IsFailure errors.OutOfMemory = Unit {0}
 IsFailure (errors.Write cause) = Unit {0}
 
--- It came from there to this fault: where a step wasn't taken, that was the last.
+-- It came from there to this fault, which no mode decides: where a step wasn't taken, that was the last.
 abbrev pub CameTo : {W : Type 0} → (took broke : W → W → Type 0) → W → NameError → W → Type 0
+CameTo took broke w errors.WitnessVariable new = ⊥
+CameTo took broke w errors.AssumedVariable new = ⊥
+CameTo took broke w errors.VariableLimit new = took w new
+CameTo took broke w errors.OutOfMemory new = took w new
 CameTo took broke w (errors.Write cause) new = broke w new
-CameTo took broke w e new = took w new
 
 -- All steps that were made were taken, but for the last one of a call that answers so.
 abbrev pub Came : {A W : Type 0} → (took broke : W → W → Type 0) → Result A NameError → W → W → Type 0
