@@ -7,3 +7,4 @@ pub mod names
 pub mod bound
 pub mod search
 pub mod loading
+pub mod solver

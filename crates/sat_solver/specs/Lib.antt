@@ -9,3 +9,4 @@ pub mod search
 pub mod loading
 pub mod Configs
 pub mod Recovery
+pub mod solver

@@ -1,4 +1,4 @@
-//! An incremental CDCL solver that writes a proof: its pieces. The type that joins them under the calls of a user comes next.
+//! An incremental CDCL solver that answers under assumptions and writes a proof.
 #![tactic(auto)]
 
 pub mod acceptance;
@@ -13,7 +13,10 @@ pub mod parts;
 pub mod progress;
 pub mod search;
 pub mod session;
+pub mod solver;
 
 pub use config::{SolverConfig, SolverConfigUpdate};
 pub use error::SolverError;
 pub use progress::Progress;
+pub use solver::Solver;
+pub use solver::proving::ProofFormat;

@@ -1,5 +1,5 @@
 //! Names of literals come in, and their variables get indices.
-ghost use Rattle.std.specs.Prelude.{ℕ, ◌≡◌, ◌<◌, OnOk, IfOk, length, map, slice_index_or};
+ghost use Rattle.std.specs.Prelude.{ℕ, ◌≡◌, ◌<◌, [], OnOk, IfOk, length, map, slice_index_or};
 ghost use Rattle.sat_base.specs.values.Literals.{variable};
 ghost use Rattle.sat_solver.specs.session.LiveClauses.{with_var};
 ghost use Rattle.sat_solver.specs.names.Adding.{Takes};
@@ -32,7 +32,10 @@ pub struct Taken {
 
 impl Taken {
     /// No literal. Takes no memory.
-    pub fn new(alloc: Global) -> Taken {
+    pub fn new(alloc: Global) -> Taken
+        ensures order { result.order.items ≡ [] }
+        ensures globals { result.globals.items ≡ [] }
+    {
         Taken {
             order: Vec::new(alloc),
             lits: Vec::new(alloc),

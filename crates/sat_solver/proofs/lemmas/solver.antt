@@ -1,0 +1,12 @@
+pub mod AnsweredLemmas
+pub mod BehindLemmas
+pub mod ComingLemmas
+pub mod FindingLemmas
+pub mod LineLemmas
+pub mod RestingLemmas
+pub mod SettlingLemmas
+pub mod ShownLemmas
+pub mod TakingLemmas
+pub mod TellingLemmas
+pub mod StartLemmas
+pub mod EndingLemmas

@@ -1,0 +1,226 @@
+-- What a search came to, as names and judge see it.
+use Rattle.std.proofs.Common.{ℕ, zero, suc, ◌+◌, ◌<◌, ◌≤◌, ◌≡◌, ◌∙◌, Bool, true, false, Option, None, Some, Ok, Err, List, [], ◌∷◌, ◌++◌, length, map, get_or, refl, sym, ap, subst, arith, inl, inr}
+use Rattle.std.specs.List.{AllByRecursion, Contains}
+use Rattle.sat_base.specs.device.Device.{Writer}
+use Rattle.sat_base.specs.values.Literals.{variable, is_positive, coded}
+use Rattle.sat_base.specs.values.Clauses.{Valuation, EachTrue, EachHolds, literal_true}
+use Rattle.sat_base.specs.script.Script.{Literal, names_of, Among}
+use Rattle.sat_base.specs.script.Judge.{Judge, over}
+use Rattle.sat_base.specs.steps.Steps.{Step, Model, FailedAssumptions}
+use Rattle.sat_checker.specs.Fold.{Holds}
+use Rattle.sat_checker.proofs.lemmas.meaning.Answers.{cores_fail}
+use Rattle.sat_parts.specs.prop.Values.{IsTrueLit}
+use Rattle.sat_parts.proofs.lemmas.clause.ListLemmas.{at_place}
+use Rattle.sat_solver.proofs.lemmas.joint.CodeLemmas.{coded_by}
+use Rattle.sat_solver.specs.session.ProofView.{Adds, Keeps, steps_of, session_of}
+use Rattle.sat_solver.specs.session.Session.{MayAll, May, session_after}
+use Rattle.sat_solver.proofs.lemmas.session.StepLemmas.{sessions_are_accepted}
+use Rattle.sat_solver.specs.session.LiveClauses.{with_var}
+use Rattle.sat_solver.specs.declared.bound.search.Outcome.TheVariants as outcomes
+use Rattle.sat_solver.specs.declared.search.solving.Core.{Core}
+use Rattle.sat_solver.specs.declared.search.work.Search.{Search}
+use Rattle.sat_solver.specs.declared.config.SolverConfig.{SolverConfig}
+use Rattle.sat_solver.specs.search.Failing.{causes_hashes}
+use Rattle.sat_solver.specs.search.Going.{AreSearched}
+use Rattle.sat_solver.specs.search.Joint.{global_in, IsSearch, Moved}
+use Rattle.sat_solver.specs.search.Solving.{Ended, IsCore}
+use Rattle.sat_solver.specs.search.Turns.{IsComplete, IsFailing, AllTrue}
+use Rattle.sat_solver.specs.names.Adding.{named_literal, Image, Images}
+use Rattle.sat_solver.specs.names.Live.{Live}
+use Rattle.sat_solver.specs.names.Variables.{data_at, global_of, global_at, solver_of, user_of, names_used, variables_used}
+use Rattle.sat_solver.specs.loading.Shared.{SharesIndices}
+use Rattle.sat_solver.specs.names.Models.{is_true, value_by, value_in, model_to, named_to}
+use Rattle.sat_solver.specs.names.Checking.{variable_of}
+use Rattle.sat_solver.specs.names.Expected.{Expected, Shows, Fails, Spells, EachSpelt, SameSet, shows, fails}
+use Rattle.sat_solver.specs.names.Calls.{Stands, Agree, Writes, written, ordered, Does, DoesNothing}
+use Rattle.sat_solver.specs.declared.names.Variables.{Variables}
+use Rattle.sat_solver.proofs.lemmas.names.MapLemmas.{some_within}
+use Rattle.sat_solver.proofs.lemmas.names.ModeChanges.{live_within}
+use Rattle.sat_solver.proofs.lemmas.names.Searched.{searches_agree}
+use Rattle.sat_solver.proofs.lemmas.names.TakenNames.{test_among}
+use Rattle.sat_solver.specs.solver.Joined.{IsJoined, name_of, named_by, user_by}
+use Rattle.sat_solver.specs.solver.Answering.{Shown, Failed, model_of, line_of}
+use Rattle.sat_solver.proofs.lemmas.solver.BehindLemmas.{stands_behind, nothing_behind}
+use Rattle.sat_solver.proofs.lemmas.solver.ShownLemmas.{coded_back, coded_sign, model_all}
+use Rattle.sat_solver.proofs.lemmas.solver.LineLemmas.{named_has, named_each, mapped_each, literal_among}
+use Rattle.sat_solver.proofs.lemmas.solver.TellingLemmas.{each_live, shares_moved}
+use Rattle.sat_solver.proofs.lemmas.parts.ValueLemmas.{coded_variable}
+
+-- what holds at each place holds of all
+pub all_places : (P : ℕ → Type 0) (ls : List ℕ) → ((k : ℕ) → k < length ls → P (get_or ls k 0)) → AllByRecursion P ls
+all_places P [] f = tt
+all_places P (l ∷ ls) f = (f 0 (omega arith), all_places P ls (λ k lt. f (suc k) (omega arith)))
+
+-- ASSUMPTIONS IN A MODEL
+
+module _ (n : Variables) (values : List (Option Bool)) (user order : List ℕ) (images : Images n user order) where
+  asked_at : (k : ℕ) → k < length user → IsTrueLit values (get_or order k 0) → Among (get_or user k 0) (named_to n values (names_used n))
+  asked_at k lt t =
+      let i = images.each k lt in
+      let l = get_or user k 0 in
+      let value : value_in n values i.variable_is ≡ is_positive l =
+          ap (λ o. value_by o values (data_at n i.variable_is).unit) i.indexed
+          ∙ ap (λ x. is_true (get_or values x None)) (sym (ap variable i.is ∙ coded_variable i.index_is (is_positive l)))
+          ∙ ap is_true t
+          ∙ ap is_positive i.is ∙ coded_sign i.index_is (is_positive l) in
+      subst (λ m. Among m (named_to n values (names_used n))) (ap (coded (variable l)) value ∙ coded_back l)
+      (named_has n values (names_used n) (variable l) i.variable_is (some_within n.global_from_user.fwd (variable l) i.variable_is i.named) i.named)
+
+  -- each of the assumptions stands in the line of a model that makes them true
+  pub asked_shown : ((k : ℕ) → k < length order → IsTrueLit values (get_or order k 0)) → AllByRecursion (λ l. Among l (named_to n values (names_used n))) user
+  asked_shown t = all_places (λ l. Among l (named_to n values (names_used n))) user (λ k lt. asked_at k lt (t k (let c = images.count in omega arith)))
+
+-- CORES OVER NAMES
+
+module _ (n : Variables) (steps : List Step) (stands : Stands n steps) (c : Search) (shares : SharesIndices n c) (user order : List ℕ) (images : Images n user order) where
+  -- the literal over names that an assumption of the search was taken from
+  pub record Taken_from (l : ℕ) : Type 0 where
+    pub from : ℕ
+    pub among : Among from user
+    pub is : name_of n l ≡ from
+    pub spells : Spells (variable_of steps) (named_literal from) (with_var (global_in c) l)
+
+  among_at : (ls : List ℕ) (k : ℕ) → k < length ls → Among (get_or ls k 0) ls
+  among_at [] k lt = absurd (omega arith)
+  among_at (l ∷ ls) zero lt = inl refl
+  among_at (l ∷ ls) (suc k) lt = inr (among_at ls k (omega arith))
+
+  pub taken_from : (l : ℕ) → Contains order l → Taken_from l
+  taken_from l h =
+      let k = h.0 in
+      let lt : k < length user = (let c = images.count in let b = h.1 in omega arith) in
+      let i = images.each k lt in
+      let m = get_or user k 0 in
+      let it : l ≡ coded i.index_is (is_positive m) = sym (at_place order l h) ∙ i.is in
+      let var : variable l ≡ i.index_is = ap variable it ∙ coded_variable i.index_is (is_positive m) in
+      let sign : is_positive l ≡ is_positive m = ap is_positive it ∙ coded_sign i.index_is (is_positive m) in
+      let at : global_at n (variable l) ≡ Some i.variable_is = ap (global_at n) var ∙ stands.tidy.solvers.back i.variable_is i.index_is i.indexed in
+      let global : global_in c (variable l) ≡ i.variable_is = shares.same (variable l) i.variable_is at in
+      let named : user_of n i.variable_is ≡ Some (variable m) = stands.tidy.users.back (variable m) i.variable_is i.named in
+      record {
+        from = m;
+        among = among_at user k lt;
+        is = ap (λ o. named_by (user_by n o) l) at ∙ ap (λ o. named_by o l) named ∙ ap (coded (variable m)) sign ∙ coded_back m;
+        spells = record {
+          variable = i.variable_is;
+          named = stands.read (variable m) ∙ i.named;
+          is = sym (coded_by (global_in c) l) ∙ ap (λ g. coded g (is_positive l)) global ∙ ap (coded i.variable_is) sign;
+        };
+      }
+
+  module _ (core : List ℕ) (among : (k : ℕ) → k < length core → Contains order (get_or core k 0)) where
+    -- the core over names is of the assumptions
+    pub core_among : AllByRecursion (λ l. Among l user) (map (name_of n) core)
+    core_among = each core among
+      where
+        each : (ls : List ℕ) → ((k : ℕ) → k < length ls → Contains order (get_or ls k 0)) → AllByRecursion (λ l. Among l user) (map (name_of n) ls)
+        each [] f = tt
+        each (l ∷ ls) f = (let t = taken_from l (f 0 (omega arith)) in subst (λ m. Among m user) (sym t.is) t.among, each ls (λ k lt. f (suc k) (omega arith)))
+
+    -- and stands for what was written
+    pub core_spelt : SameSet (variable_of steps) (map named_literal (map (name_of n) core)) (map (with_var (global_in c)) core)
+    core_spelt = (there core among (λ x m. m), only core among (λ x m. m))
+      where
+        f : ℕ → ℕ
+        f = with_var (global_in c)
+
+        spells_at : (l : ℕ) → Contains order l → Spells (variable_of steps) (named_literal (name_of n l)) (f l)
+        spells_at l h = (let t = taken_from l h in subst (λ m. Spells (variable_of steps) (named_literal m) (f l)) (sym t.is) t.spells)
+
+        there : (ls : List ℕ) → ((k : ℕ) → k < length ls → Contains order (get_or ls k 0)) → ((x : ℕ) → Among x (map f ls) → Among x (map f core)) →
+            AllByRecursion (λ l. (code : ℕ) × Spells (variable_of steps) l code × Among code (map f core)) (map named_literal (map (name_of n) ls))
+        there [] g m = tt
+        there (l ∷ ls) g m = ((f l, spells_at l (g 0 (omega arith)), m (f l) (inl refl)), there ls (λ k lt. g (suc k) (omega arith)) (λ x i. m x (inr i)))
+
+        only : (ls : List ℕ) → ((k : ℕ) → k < length ls → Contains order (get_or ls k 0)) → ((x : Literal) → Among x (map named_literal (map (name_of n) ls)) → Among x (map named_literal (map (name_of n) core))) →
+            AllByRecursion (λ code. (l : Literal) × Spells (variable_of steps) l code × Among l (map named_literal (map (name_of n) core))) (map f ls)
+        only [] g m = tt
+        only (l ∷ ls) g m = ((named_literal (name_of n l), spells_at l (g 0 (omega arith)), m (named_literal (name_of n l)) (inl refl)), only ls (λ k lt. g (suc k) (omega arith)) (λ x i. m x (inr i)))
+
+-- no valuation that the steps leave makes a core true that was written
+pub core_none : (steps : List Step) (codes hashes : List ℕ) → MayAll (FailedAssumptions codes hashes ∷ steps) → (a : Valuation) → Holds steps a → EachTrue a codes → ⊥
+core_none steps codes hashes may a held t = (let s = sessions_are_accepted (FailedAssumptions codes hashes ∷ steps) may in cores_fail steps codes hashes a s.0.0 s.0.1 held t)
+
+-- STEPS OF ANSWERS
+
+-- the line of a model spells what was written
+pub line_spelt : (n : Variables) (steps : List Step) (values : List (Option Bool)) → Stands n steps → EachSpelt (variable_of steps) (map named_literal (named_to n values (names_used n))) (model_to n values (variables_used n))
+line_spelt n steps values stands =
+    mapped_each (λ l. (code : ℕ) × Spells (variable_of steps) l code × Among code (model_to n values (variables_used n))) (named_to n values (names_used n))
+    (named_each n values (λ l. (code : ℕ) × Spells (variable_of steps) (named_literal l) code × Among code (model_to n values (variables_used n))) (names_used n) (λ u v lt e.
+      let live = stands.tidy.named v u (stands.tidy.users.back u v e) in
+      let b = value_in n values v in
+      (
+        coded v b,
+        record { variable = v; named = ap (λ w. variable_of steps (w + 1)) (coded_variable u b) ∙ stands.read u ∙ e; is = ap (coded v) (sym (coded_sign u b)) },
+        test_among (model_to n values (variables_used n)) (coded v b) (model_all n values (variables_used n) v (live_within n v live) live),
+      )))
+
+named_among_all : (line asked : List ℕ) → AllByRecursion (λ l. Among l line) asked → AllByRecursion (λ l. Among l (map named_literal line)) (map named_literal asked)
+named_among_all line [] h = tt
+named_among_all line (l ∷ asked) h = (literal_among l line h.0, named_among_all line asked h.1)
+
+module _ {W : Type 0} (seen : W → Writer) (n : Variables) (a : Core W) (joined : IsJoined n a) where
+  -- names stand where a search came to
+  pub joined_at : (b : Core W) (steps : List Step) → Adds seen steps a.proof b.proof → AreSearched (session_of a.proof).solver_names steps → Keeps b.proof → Moved a.search b.search → IsSearch (session_of b.proof) b.search →
+      b.config ≡ a.config → IsJoined n b
+  joined_at b steps adds searched keeps moved search config = record {
+    sound = record {
+      keeps = keeps;
+      search = search;
+      locals = subst (λ (c : SolverConfig). 0 < c.reduce_locals_interval) (sym config) joined.sound.locals;
+      mids = subst (λ (c : SolverConfig). 0 < c.reduce_mids_interval) (sym config) joined.sound.mids;
+    };
+    stands = subst (Stands n) (sym adds.history) (stands_behind n (steps_of a.proof) steps joined.stands (subst MayAll adds.history keeps) searched);
+    shares = shares_moved n a.search b.search joined.shares moved;
+  }
+
+  -- the judge sees nothing of the steps of a search
+  pub nothing_at : (b : Core W) (steps : List Step) → Adds seen steps a.proof b.proof → AreSearched (session_of a.proof).solver_names steps → Keeps b.proof → DoesNothing n n (steps_of a.proof) (steps_of b.proof)
+  nothing_at b steps adds searched keeps =
+      subst (DoesNothing n n (steps_of a.proof)) (sym adds.history) (nothing_behind n (steps_of a.proof) steps joined.stands (subst MayAll adds.history keeps) searched)
+
+  -- the step of a model, as the judge expects it
+  pub does_shown : (b : Core W) → Shown seen n a b → (asked : List ℕ) → AllByRecursion (λ l. Among l (line_of n a)) asked →
+      Does n n (steps_of a.proof) (steps_of b.proof) (λ j. j) (λ j. Shows (names_of (map named_literal (line_of n a))) (map named_literal asked) (map named_literal (line_of n a)) ∷ [])
+  does_shown b shown asked among =
+      let may : MayAll (Model (model_of n a) ∷ steps_of a.proof) = subst MayAll shown.adds.history shown.joined.sound.keeps in
+      record {
+        stands = shown.joined.stands;
+        kept = λ j live agree. record {
+          live = live;
+          agree = subst (λ ss. Agree n ss j live) (sym shown.adds.history)
+              (searches_agree n (steps_of a.proof) (Model (model_of n a)) joined.stands may.1 (each_live n a.search.parts.assignment.current (variables_used n) (model_of n a) (λ l t. t)) j live agree);
+          writes = subst (λ ss. Writes (steps_of a.proof) ss (Shows (names_of (map named_literal (line_of n a))) (map named_literal asked) (map named_literal (line_of n a)) ∷ [])) (sym shown.adds.history)
+              (ordered (shows refl (line_spelt n (steps_of a.proof) a.search.parts.assignment.current joined.stands) (named_among_all (line_of n a) asked among)) written);
+        };
+      }
+
+  -- the step of a core, as the judge expects it
+  pub does_failed : (b : Core W) (core : List ℕ) → Failed seen n a b core → (asked order : List ℕ) → Images n asked order → a.search.assumptions.lits.items ≡ order →
+      Does n n (steps_of a.proof) (steps_of b.proof) (λ j. j) (λ j. Fails (map named_literal asked) (map named_literal core) ∷ [])
+  does_failed b core f asked order images lits =
+      subst (λ ss. Does n n (steps_of a.proof) ss (λ j. j) (λ j. Fails (map named_literal asked) (map named_literal core) ∷ [])) (sym (history_of f))
+      (record {
+        stands = stands;
+        kept = λ j live agree. record {
+          live = live;
+          agree = searches_agree n (steps_of a.proof) step joined.stands may.1 tt j live agree;
+          writes = ordered (fails (subst (λ xs. SameSet (variable_of (steps_of a.proof)) (map named_literal xs) codes) (sym f.named) spelt)) written;
+        };
+      })
+    where
+      used : List ℕ
+      used = b.search.analysis.core
+      codes : List ℕ
+      codes = map (with_var (global_in a.search)) used
+      step : Step
+      step = FailedAssumptions codes (causes_hashes a.search.parts b.search.analysis.used)
+      history_of : Failed seen n a b core → steps_of b.proof ≡ step ∷ steps_of a.proof
+      history_of f = f.adds.history ∙ ap (λ ss. ss ++ steps_of a.proof) f.told.is
+      may : MayAll (step ∷ steps_of a.proof)
+      may = subst MayAll (history_of f) f.joined.sound.keeps
+      stands : Stands n (step ∷ steps_of a.proof)
+      stands = subst (Stands n) (history_of f) f.joined.stands
+      spelt : SameSet (variable_of (steps_of a.proof)) (map named_literal (map (name_of n) used)) codes
+      spelt = core_spelt n (steps_of a.proof) joined.stands a.search joined.shares asked order images used (λ k lt. subst (λ ls. Contains ls (get_or used k 0)) lits (f.told.failed.among k lt))

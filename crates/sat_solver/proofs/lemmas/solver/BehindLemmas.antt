@@ -1,0 +1,86 @@
+-- Names behind steps of a search.
+use Rattle.std.proofs.Common.{ℕ, ◌≡◌, ◌∙◌, false, Option, Some, List, [], ◌∷◌, ◌++◌, map, refl, sym, ap, subst}
+use Rattle.std.specs.List.{AllByRecursion}
+use Rattle.sat_base.specs.values.Literals.{variable}
+use Rattle.sat_base.specs.script.Judge.{Judge}
+use Rattle.sat_base.specs.steps.Steps.{Step, SolverVarName, UserVarName, DeleteVar, ChangeSamplingMode, AddClause, AtClause, UnitClauses, DeleteClause, ChangeHashBits, Model, Assumptions, FailedAssumptions, End}
+use Rattle.sat_solver.specs.session.Session.{Session, MayAll, session_after}
+use Rattle.sat_solver.specs.search.Going.{AreNamed, IsSearched}
+use Rattle.sat_solver.specs.names.Live.{Live}
+use Rattle.sat_solver.specs.names.Variables.{AreSaid, solver_of}
+use Rattle.sat_solver.specs.names.Checking.{is_ordered}
+use Rattle.sat_solver.specs.names.Expected.{Expected}
+use Rattle.sat_solver.specs.names.Calls.{Stands, Agree, Writes, written, other, Does, DoesNothing}
+use Rattle.sat_solver.specs.names.Searching.{AreIndexed, IsOfSearch}
+use Rattle.sat_solver.specs.declared.names.Variables.{Variables}
+use Rattle.sat_solver.proofs.lemmas.names.Doing.{both_written, does_both}
+use Rattle.sat_solver.proofs.lemmas.names.Searched.{searches_stand, searches_agree}
+use Rattle.std.proofs.lemmas.List.{append-nil}
+
+indexed : (n : Variables) (s : Session) (ls : List ℕ) → AreSaid n s → AreNamed s.solver_names ls → AreIndexed n ls
+indexed n s [] said h = tt
+indexed n s (l ∷ ls) said h = ((h.0.0, sym (said.solver_names (variable l)) ∙ h.0.1), indexed n s ls said h.1)
+
+of_search : (n : Variables) (s : Session) (step : Step) → AreSaid n s → IsSearched s.solver_names step → IsOfSearch n step
+of_search n s (AtClause redundant clause hashes) said h = indexed n s clause said h
+of_search n s (UnitClauses us) said h = indexed n s (map (λ u. u.0) us) said h
+of_search n s (DeleteClause clause proof) said h = tt
+of_search n s (SolverVarName v name) said h = absurd h
+of_search n s (UserVarName v name) said h = absurd h
+of_search n s (DeleteVar v) said h = absurd h
+of_search n s (ChangeSamplingMode v sample) said h = absurd h
+of_search n s (AddClause clause) said h = absurd h
+of_search n s (ChangeHashBits bits) said h = absurd h
+of_search n s (Model ls) said h = absurd h
+of_search n s (Assumptions ls) said h = absurd h
+of_search n s (FailedAssumptions core hashes) said h = absurd h
+of_search n s End said h = absurd h
+
+unordered : (names : ℕ → Option ℕ) (step : Step) → IsSearched names step → is_ordered step ≡ false
+unordered names (AtClause redundant clause hashes) h = refl
+unordered names (UnitClauses us) h = refl
+unordered names (DeleteClause clause proof) h = refl
+unordered names (SolverVarName v name) h = absurd h
+unordered names (UserVarName v name) h = absurd h
+unordered names (DeleteVar v) h = absurd h
+unordered names (ChangeSamplingMode v sample) h = absurd h
+unordered names (AddClause clause) h = absurd h
+unordered names (ChangeHashBits bits) h = absurd h
+unordered names (Model ls) h = absurd h
+unordered names (Assumptions ls) h = absurd h
+unordered names (FailedAssumptions core hashes) h = absurd h
+unordered names End h = absurd h
+
+-- names stand behind steps of a search
+pub stands_behind : (n : Variables) (earlier steps : List Step) → Stands n earlier → MayAll (steps ++ earlier) → AllByRecursion (IsSearched (session_after earlier).solver_names) steps → Stands n (steps ++ earlier)
+stands_behind n earlier [] stands may h = stands
+stands_behind n earlier (step ∷ steps) stands may h =
+    searches_stand n (steps ++ earlier) step (stands_behind n earlier steps stands may.0 h.1) may.1 (of_search n (session_after earlier) step stands.said h.0)
+
+agree_behind : (n : Variables) (earlier steps : List Step) → Stands n earlier → MayAll (steps ++ earlier) → AllByRecursion (IsSearched (session_after earlier).solver_names) steps →
+    (j : Judge) (live : Live) → Agree n earlier j live → Agree n (steps ++ earlier) j live
+agree_behind n earlier [] stands may h j live a = a
+agree_behind n earlier (step ∷ steps) stands may h j live a =
+    searches_agree n (steps ++ earlier) step (stands_behind n earlier steps stands may.0 h.1) may.1 (of_search n (session_after earlier) step stands.said h.0) j live
+    (agree_behind n earlier steps stands may.0 h.1 j live a)
+
+quiet_writes : (names : ℕ → Option ℕ) (earlier steps : List Step) → AllByRecursion (IsSearched names) steps → Writes earlier (steps ++ earlier) []
+quiet_writes names earlier [] h = written
+quiet_writes names earlier (step ∷ steps) h = both_written (quiet_writes names earlier steps h.1) (other (unordered names step h.0) written)
+
+-- the judge sees nothing of them
+pub nothing_behind : (n : Variables) (earlier steps : List Step) → Stands n earlier → MayAll (steps ++ earlier) → AllByRecursion (IsSearched (session_after earlier).solver_names) steps → DoesNothing n n earlier (steps ++ earlier)
+nothing_behind n earlier steps stands may h = record {
+  stands = stands_behind n earlier steps stands may h;
+  kept = λ j live a. record { live = live; agree = agree_behind n earlier steps stands may h j live a; writes = quiet_writes (session_after earlier).solver_names earlier steps h };
+}
+
+-- a call, and then steps of a search
+pub does_behind : (old new : Variables) (from to steps : List Step) (judge : Judge → Judge) (due : Judge → List Expected) → Does old new from to judge due → MayAll (steps ++ to) → AllByRecursion (IsSearched (session_after to).solver_names) steps →
+    Does old new from (steps ++ to) judge due
+does_behind old new from to steps judge due does may h =
+    let both = does_both old new new from to (steps ++ to) judge (λ j. j) due (λ j. []) does (nothing_behind new to steps does.stands may h) in
+    record {
+      stands = both.stands;
+      kept = λ j live a. let k = both.kept j live a in record { live = k.live; agree = k.agree; writes = subst (Writes from (steps ++ to)) (append-nil (due j)) k.writes };
+    }

@@ -1,0 +1,223 @@
+-- A solver that took a clause, or assumptions.
+use Rattle.std.proofs.Common.{ℕ, ◌<◌, ◌≡◌, ◌∙◌, Bool, true, false, Option, None, Some, Result, Ok, Err, List, [], ◌∷◌, ◌++◌, length, map, get_or, refl, sym, ap, subst, ◌⊎◌, inl, inr}
+use Rattle.sat_base.specs.device.Device.{Writer}
+use Rattle.sat_base.specs.values.Literals.{variable}
+use Rattle.sat_base.specs.script.Judge.{Judge, bring_all}
+use Rattle.sat_base.specs.steps.Steps.{Step, Assumptions}
+use Rattle.sat_store.specs.variables.Maps.{target}
+use Rattle.sat_solver.specs.session.Making.{Took}
+use Rattle.sat_solver.specs.session.ProofView.{steps_of, session_of}
+use Rattle.sat_solver.specs.session.Session.{session_after}
+use Rattle.sat_solver.specs.declared.session.proof.Proof.{Proof}
+use Rattle.sat_solver.specs.declared.error.SolverError.{SolverError}
+use Rattle.sat_solver.specs.declared.error.SolverError.TheVariants as errors
+use Rattle.sat_solver.specs.declared.names.Variables.{Variables}
+use Rattle.sat_solver.specs.declared.names.taking.Taken.{Taken}
+use Rattle.sat_solver.specs.declared.search.solving.Core.{Core}
+use Rattle.sat_solver.specs.names.Adding.{Image, Images}
+use Rattle.sat_solver.specs.names.AddingCalls.{LeavesOut}
+use Rattle.sat_solver.specs.names.Assuming as assuming
+use Rattle.sat_solver.specs.names.Calls.{Does}
+use Rattle.sat_solver.specs.names.Refusing.{names_in}
+use Rattle.sat_solver.specs.declared.solver.Solver.{Solver}
+use Rattle.sat_solver.specs.declared.solver.state.State.{State}
+use Rattle.sat_solver.specs.declared.solver.state.State.TheVariants as states
+use Rattle.sat_solver.specs.declared.solver.taking.Loading.{Loading}
+use Rattle.sat_solver.specs.solver.Taking.{KeepImages, TookClause, TookAssumptions, BreaksNames}
+use Rattle.sat_solver.specs.solver.Whole.{IsWhole, IsWholeOf, StateSays, GoesOn, steps_in}
+use Rattle.sat_solver.specs.solver.Adding.{TookIn, with_added, due_for_clause, due_for_asked, Forgets, AddsClause, Assumes, EndsNames}
+use Rattle.sat_solver.specs.solver.Asking.{AskedIn}
+
+-- the search goes on unless unsat is recorded
+pub goes_of : {W : Type 0} (st : State) (c : Core W) (n : Variables) (asked : Taken) (assumed core : List ℕ) → (st ≡ states.Unsat → ⊥) → StateSays st c n asked assumed core → GoesOn c n asked
+goes_of states.Unknown c n asked assumed core k h = h
+goes_of states.Sat c n asked assumed core k h = h.0
+goes_of states.UnsatUnderAssumptions c n asked assumed core k h = h.0
+goes_of states.Unsat c n asked assumed core k h = absurd (k refl)
+
+module _ {W : Type 0} (seen : W → Writer) (s : Solver W) (whole : IsWhole s) (apart : s.state ≡ states.Unsat → ⊥) where
+  pub going_on : GoesOn s.core s.names s.asked
+  going_on = goes_of s.state s.core s.names s.asked s.assumed.items s.told.failed_core.items apart whole.says
+
+  module _ (b : Core W) (n' : Variables) (user : List ℕ) (loading : Loading) where
+    abbrev pub added : State → Solver W
+    added st = record s { core = b; names = n'; loading = loading; state = st }
+
+    by_state : (before now : State) → (before ≡ states.Unsat → ⊥) → ((now ≡ states.Unknown) ⊎ (now ≡ states.Unsat)) → Forgets before now
+    by_state states.Unknown states.Unknown k e = tt
+    by_state states.Unknown states.Unsat k e = tt
+    by_state states.Sat states.Unknown k e = tt
+    by_state states.Sat states.Unsat k e = tt
+    by_state states.UnsatUnderAssumptions states.Unknown k e = tt
+    by_state states.UnsatUnderAssumptions states.Unsat k e = tt
+    by_state states.Unsat now k e = absurd (k refl)
+    by_state before states.Sat k e = elim e [ inl x ↦ absurd (sat_unknown x) | inr x ↦ absurd (sat_unsat x) ]
+      where
+        sat_unknown : states.Sat ≡ states.Unknown → ⊥
+        sat_unknown x = cc
+        sat_unsat : states.Sat ≡ states.Unsat → ⊥
+        sat_unsat x = cc
+    by_state before states.UnsatUnderAssumptions k e = elim e [ inl x ↦ absurd (core_unknown x) | inr x ↦ absurd (core_unsat x) ]
+      where
+        core_unknown : states.UnsatUnderAssumptions ≡ states.Unknown → ⊥
+        core_unknown x = cc
+        core_unsat : states.UnsatUnderAssumptions ≡ states.Unsat → ⊥
+        core_unsat x = cc
+
+    due_by : (st : State) → (st ≡ states.Unsat → ⊥) → Does s.names n' (steps_in s) (steps_of b.proof) (with_added user) (due_for_clause states.Unknown user) → Does s.names n' (steps_in s) (steps_of b.proof) (with_added user) (due_for_clause st user)
+    due_by states.Unknown k d = d
+    due_by states.Sat k d = d
+    due_by states.UnsatUnderAssumptions k d = d
+    due_by states.Unsat k d = absurd (k refl)
+
+    -- a clause came in, and a valuation may be left
+    pub took_left : TookClause seen s.names n' s.core b user true → TookIn seen s (added states.Unknown) (with_added user) (due_for_clause s.state user)
+    took_left t = record {
+      whole = record {
+        stands = t.does.stands;
+        images = t.images s.assumed.items s.asked.order.items whole.images;
+        globals = whole.globals ∙ sym t.assumed;
+        positive = whole.positive;
+        says = record { joined = t.goes_on; lits = ap (λ ls. ls.items) t.lits ∙ going_on.lits };
+      };
+      does = due_by s.state apart t.does;
+      took = t.took;
+      failed = refl;
+      clock = refl;
+      state = by_state s.state states.Unknown apart (inl refl);
+    }
+
+    -- or none is
+    pub took_none : TookClause seen s.names n' s.core b user false → TookIn seen s (added states.Unsat) (with_added user) (due_for_clause s.state user)
+    took_none t = record {
+      whole = record {
+        stands = t.does.stands;
+        images = t.images s.assumed.items s.asked.order.items whole.images;
+        globals = whole.globals ∙ sym t.assumed;
+        positive = whole.positive;
+        says = t.goes_on;
+      };
+      does = due_by s.state apart t.does;
+      took = t.took;
+      failed = refl;
+      clock = refl;
+      state = by_state s.state states.Unsat apart (inr refl);
+    }
+
+  -- other assumptions came in
+  pub asked_in : (b : Core W) (n' : Variables) (user : List ℕ) (asked : Taken) → TookAssumptions seen s.names n' s.core b user asked → AskedIn seen s (record s { core = b; names = n'; asked = asked; state = states.Unknown }) user
+  asked_in b n' user asked t = record {
+    whole = record {
+      stands = t.does.stands;
+      images = t.asked.images;
+      globals = t.asked.globals;
+      positive = whole.positive;
+      says = record { joined = t.joined; lits = t.asked.lits };
+    };
+    does = t.does;
+    took = t.took;
+    failed = refl;
+    clock = refl;
+    state = forgets s.state apart;
+  }
+    where
+      forgets : (before : State) → (before ≡ states.Unsat → ⊥) → Forgets before states.Unknown
+      forgets states.Unknown k = tt
+      forgets states.Sat k = tt
+      forgets states.UnsatUnderAssumptions k = tt
+      forgets states.Unsat k = absurd (k refl)
+
+module _ {W : Type 0} (seen : W → Writer) (s : Solver W) (whole : IsWhole s) (known : s.state ≡ states.Unsat) (p : Proof W) (n' : Variables) (user : List ℕ) (took : Took seen s.core.proof p) where
+  unsat : (session_of s.core.proof).unsat ≡ true
+  unsat = subst (λ st. StateSays st s.core s.names s.asked s.assumed.items s.told.failed_core.items) known whole.says
+
+  -- a clause was left out
+  pub left_in : LeavesOut s.names n' (steps_in s) (steps_of p) user → TookIn seen s (record s { core = record s.core { proof = p }; names = n' }) (with_added user) (due_for_clause states.Unsat user)
+  left_in l = record {
+    whole = record {
+      stands = l.does.stands;
+      images = images;
+      globals = whole.globals ∙ sym l.unseen.search.assumed;
+      positive = whole.positive;
+      says = subst (λ st. StateSays st (record s.core { proof = p }) n' s.asked s.assumed.items s.told.failed_core.items) (sym known) (l.unseen.search.unsat ∙ unsat);
+    };
+    does = l.does;
+    took = took;
+    failed = refl;
+    clock = refl;
+    state = subst (λ st. Forgets st st) (sym known) refl;
+  }
+    where
+      images : Images n' s.assumed.items s.asked.order.items
+      images = record {
+        count = whole.images.count;
+        each = λ k lt. let x : Image s.names (get_or s.assumed.items k 0) (get_or s.asked.order.items k 0) = whole.images.each k lt in
+            record { variable_is = x.variable_is; index_is = x.index_is; named = (l.extends.stays (variable (get_or s.assumed.items k 0)) x.variable_is x.named).0; indexed = ap (λ m. target m.fwd x.variable_is) l.unseen.solvers ∙ x.indexed; is = x.is };
+      }
+
+  -- assumptions came in, of which the search isn't told
+  pub asked_known : (asked : Taken) → assuming.Assumes s.names n' (steps_in s) (steps_of p) user asked → AskedIn seen s (record s { core = record s.core { proof = p }; names = n'; asked = asked }) user
+  asked_known asked a = record {
+    whole = record {
+      stands = a.does.stands;
+      images = a.images;
+      globals = sym (ap (λ ss. (session_after ss).assumed) a.written);
+      positive = whole.positive;
+      says = subst (λ st. StateSays st (record s.core { proof = p }) n' asked user s.told.failed_core.items) (sym known) (ap (λ ss. (session_after ss).unsat) a.written ∙ a.search.unsat ∙ unsat);
+    };
+    does = a.does;
+    took = took;
+    failed = refl;
+    clock = refl;
+    state = subst (λ st. Forgets st st) (sym known) refl;
+  }
+
+-- FAULTS
+
+-- a call over a clause failed
+pub adding_ends : {W : Type 0} (seen : W → Writer) (e : SolverError) (s new : Solver W) (user : List ℕ) → BreaksNames seen e s.core new.core → new.failed ≡ true → AddsClause seen (Err e) s new user
+adding_ends seen errors.OutOfMemory s new user b f = record { failed = f; breaks = b }
+adding_ends seen errors.StoreFull s new user b f = record { failed = f; breaks = b }
+adding_ends seen (errors.ProofIoError cause) s new user b f = record { failed = f; breaks = b }
+adding_ends seen errors.VariableLimit s new user b f = record { failed = f; breaks = b }
+adding_ends seen errors.Interrupted s new user b f = record { failed = f; breaks = b }
+adding_ends seen (errors.ProofProcessorError cause) s new user b f = record { failed = f; breaks = b }
+adding_ends seen errors.WitnessVariable s new user b f = absurd (elim b.fault [ inl x ↦ x | inr e ↦ apart e ])
+  where
+    apart : errors.WitnessVariable ≡ errors.VariableLimit → ⊥
+    apart e = cc
+adding_ends seen errors.AssumedVariable s new user b f = record { failed = f; breaks = b }
+adding_ends seen errors.TooLate s new user b f = record { failed = f; breaks = b }
+adding_ends seen errors.NotInDrat s new user b f = record { failed = f; breaks = b }
+adding_ends seen errors.CounterEnd s new user b f = record { failed = f; breaks = b }
+adding_ends seen errors.HasFailed s new user b f = absurd (elim b.fault [ inl x ↦ x | inr e ↦ apart e ])
+  where
+    apart : errors.HasFailed ≡ errors.VariableLimit → ⊥
+    apart e = cc
+adding_ends seen errors.Read s new user b f = record { failed = f; breaks = b }
+adding_ends seen errors.Malformed s new user b f = record { failed = f; breaks = b }
+adding_ends seen errors.OutOfRange s new user b f = record { failed = f; breaks = b }
+
+-- or one over assumptions
+pub assuming_ends : {W : Type 0} (seen : W → Writer) (e : SolverError) (s new : Solver W) (user : List ℕ) → BreaksNames seen e s.core new.core → new.failed ≡ true → Assumes seen (Err e) s new user
+assuming_ends seen errors.OutOfMemory s new user b f = record { failed = f; breaks = b }
+assuming_ends seen errors.StoreFull s new user b f = record { failed = f; breaks = b }
+assuming_ends seen (errors.ProofIoError cause) s new user b f = record { failed = f; breaks = b }
+assuming_ends seen errors.VariableLimit s new user b f = record { failed = f; breaks = b }
+assuming_ends seen errors.Interrupted s new user b f = record { failed = f; breaks = b }
+assuming_ends seen (errors.ProofProcessorError cause) s new user b f = record { failed = f; breaks = b }
+assuming_ends seen errors.WitnessVariable s new user b f = absurd (elim b.fault [ inl x ↦ x | inr e ↦ apart e ])
+  where
+    apart : errors.WitnessVariable ≡ errors.VariableLimit → ⊥
+    apart e = cc
+assuming_ends seen errors.AssumedVariable s new user b f = record { failed = f; breaks = b }
+assuming_ends seen errors.TooLate s new user b f = record { failed = f; breaks = b }
+assuming_ends seen errors.NotInDrat s new user b f = record { failed = f; breaks = b }
+assuming_ends seen errors.CounterEnd s new user b f = record { failed = f; breaks = b }
+assuming_ends seen errors.HasFailed s new user b f = absurd (elim b.fault [ inl x ↦ x | inr e ↦ apart e ])
+  where
+    apart : errors.HasFailed ≡ errors.VariableLimit → ⊥
+    apart e = cc
+assuming_ends seen errors.Read s new user b f = record { failed = f; breaks = b }
+assuming_ends seen errors.Malformed s new user b f = record { failed = f; breaks = b }
+assuming_ends seen errors.OutOfRange s new user b f = record { failed = f; breaks = b }

@@ -1,0 +1,97 @@
+-- A solver whose proof was ended.
+use Rattle.std.proofs.Common.{ℕ, ◌<◌, ◌≡◌, ◌∙◌, true, false, Option, None, Some, Result, Ok, Err, List, [], ◌∷◌, ◌++◌, map, refl, sym, ap, subst}
+use Rattle.sat_base.specs.device.Device.{Writer}
+use Rattle.sat_base.specs.steps.Steps.{Step, End}
+use Rattle.sat_base.specs.values.Clauses.{EachTrue}
+use Rattle.sat_checker.specs.Fold.{Holds}
+use Rattle.sat_solver.specs.names.Adding.{named_literal}
+use Rattle.sat_solver.specs.names.Checking.{variable_of}
+use Rattle.sat_solver.specs.session.ProofView.{Closes, ClosesOne, ClosesNone, Keeps, steps_of, session_of}
+use Rattle.sat_solver.specs.session.Session.{MayAll, session_after}
+use Rattle.sat_solver.specs.declared.session.proof.Proof.{Proof}
+use Rattle.sat_solver.specs.declared.session.proof.ProofError.{ProofError}
+use Rattle.sat_solver.specs.declared.session.proof.ProofError.TheVariants.{Write}
+use Rattle.sat_solver.specs.declared.names.Variables.{Variables}
+use Rattle.sat_solver.specs.declared.names.taking.Taken.{Taken}
+use Rattle.sat_solver.specs.declared.search.solving.Core.{Core}
+use Rattle.sat_solver.specs.search.Going.{fault_of}
+use Rattle.sat_solver.specs.search.Joint.{IsSearch}
+use Rattle.sat_solver.specs.names.Calls.{Stands, Does, Agree, Writes, written, ordered}
+use Rattle.sat_solver.specs.names.Expected.{Finish, SameSet, finish}
+use Rattle.sat_solver.proofs.lemmas.names.Searched.{searches_stand, searches_agree}
+use Rattle.sat_solver.specs.declared.solver.Solver.{Solver}
+use Rattle.sat_solver.specs.declared.solver.state.State.{State}
+use Rattle.sat_solver.specs.declared.solver.state.State.TheVariants as states
+use Rattle.sat_solver.specs.solver.Whole.{IsWhole, IsWholeOf, StateSays, GoesOn, steps_in}
+use Rattle.sat_solver.specs.solver.Proving.{ClosedOne, ClosedNone, ClosesProof}
+use Rattle.sat_solver.proofs.lemmas.solver.TellingLemmas.{search_rests}
+use Rattle.sat_solver.proofs.lemmas.solver.SettlingLemmas.{whole_over}
+
+-- the last step leaves all as it is
+pub whole_ended : {W : Type 0} (c : Core W) (n : Variables) (asked : Taken) (assumed core : List ℕ) (scale : ℕ) (state : State) (p : Proof W) → IsWholeOf c n asked assumed core scale state → steps_of p ≡ End ∷ steps_of c.proof → Keeps p → IsWholeOf (record c { proof = p }) n asked assumed core scale state
+whole_ended {W} c n asked assumed core scale state p whole e keeps = record {
+  stands = stands;
+  images = whole.images;
+  globals = whole.globals ∙ sym (ap (λ ss. (session_after ss).assumed) e);
+  positive = whole.positive;
+  says = says state whole.says;
+}
+  where
+    stands : Stands n (steps_of p)
+    stands = subst (Stands n) (sym e) (searches_stand n (steps_of c.proof) End whole.stands (subst MayAll e keeps).1 tt)
+    joined : GoesOn c n asked → GoesOn (record c { proof = p }) n asked
+    joined g = record {
+      joined = record {
+        sound = record {
+          keeps = keeps;
+          search = subst (λ ss. IsSearch (session_after ss) c.search) (sym e) (search_rests (session_of c.proof) c.search End g.joined.sound.search tt refl refl);
+          locals = g.joined.sound.locals;
+          mids = g.joined.sound.mids;
+        };
+        stands = stands;
+        shares = g.joined.shares;
+      };
+      lits = g.lits;
+    }
+    says : (st : State) → StateSays st c n asked assumed core → StateSays st (record c { proof = p }) n asked assumed core
+    says states.Unknown h = joined h
+    says states.Sat h = (joined h.0, h.1)
+    says states.UnsatUnderAssumptions h = (
+      joined h.0,
+      record {
+        codes = h.1.codes;
+        none = subst (λ ss. (a : _) → Holds ss a → EachTrue a h.1.codes → ⊥) (sym e) h.1.none;
+        same = subst (λ ss. SameSet (variable_of ss) (map named_literal core) h.1.codes) (sym e) h.1.same;
+        among = h.1.among;
+      },
+    )
+    says states.Unsat h = ap (λ ss. (session_after ss).unsat) e ∙ h
+
+module _ {W : Type 0} (seen : W → Writer) (s : Solver W) (whole : IsWhole s) (going : s.failed ≡ false) (p : Proof W) (keeps : Keeps p) where
+  -- the target came back
+  pub closed_one : (given : W) → ClosesOne seen given s.core.proof p → ClosedOne seen given s (record s { core = record s.core { proof = p } })
+  closed_one given c = record {
+    going = going;
+    whole = whole_ended s.core s.names s.asked s.assumed.items s.told.failed_core.items s.clock.restarts.scale s.state p whole c.history keeps;
+    does = subst (λ ss. Does s.names s.names (steps_in s) ss (λ j. j) (λ j. Finish ∷ [])) (sym c.history) (record {
+      stands = searches_stand s.names (steps_in s) End whole.stands may.1 tt;
+      kept = λ j live agree. record { live = live; agree = searches_agree s.names (steps_in s) End whole.stands may.1 tt j live agree; writes = ordered finish written };
+    });
+    closes = c;
+    same = refl;
+  }
+    where
+      may : MayAll (End ∷ steps_in s)
+      may = subst MayAll c.history keeps
+
+  -- what came of closing it
+  pub closed_by : (o : Option W) → Closes seen (Ok o) s.core.proof p → ClosesProof seen (Ok o) s (record s { core = record s.core { proof = p } })
+  closed_by None c = record { going = going; closes = c; same = refl }
+  closed_by (Some given) c = closed_one given c
+
+  pub closed_whole : (o : Option W) → Closes seen (Ok o) s.core.proof p → IsWhole (record s { core = record s.core { proof = p } })
+  closed_whole None c = whole_over s.core s.names s.asked s.assumed.items s.told.failed_core.items s.clock.restarts.scale s.state p whole c.history
+  closed_whole (Some given) c = whole_ended s.core s.names s.asked s.assumed.items s.told.failed_core.items s.clock.restarts.scale s.state p whole c.history keeps
+
+  pub closed_broken : (e : ProofError) → Closes {W = W} seen (Err e) s.core.proof p → ClosesProof seen (Err (fault_of e)) s (record s { core = record s.core { proof = p }; failed = true })
+  closed_broken (Write cause) c = record { going = going; failed = refl; fails = c }

@@ -1,0 +1,82 @@
+-- What a search came to, told.
+use Rattle.std.specs.Prelude.{IfOk, IfErr}
+use Rattle.std.proofs.Common.{ℕ, ◌<◌, ◌≡◌, Bool, true, Option, None, Some, Result, Ok, Err, List, [], ◌∷◌, ◌++◌, refl, sym, subst}
+use Rattle.sat_base.specs.device.Device.{Writer}
+use Rattle.sat_base.specs.steps.Steps.{Step}
+use Rattle.sat_solver.specs.session.ProofView.{Adds}
+use Rattle.sat_solver.proofs.lemmas.session.ProofLemmas.{adds_more, fails_later}
+use Rattle.sat_solver.specs.declared.bound.search.Outcome.{Outcome}
+use Rattle.sat_solver.specs.declared.bound.search.Outcome.TheVariants as outcomes
+use Rattle.sat_solver.specs.declared.error.SolverError.{SolverError}
+use Rattle.sat_solver.specs.declared.error.SolverError.TheVariants as errors
+use Rattle.sat_solver.specs.declared.names.Variables.{Variables}
+use Rattle.sat_solver.specs.declared.search.solving.Core.{Core}
+use Rattle.sat_solver.specs.search.Going.{IsFault, Went}
+use Rattle.sat_solver.specs.search.Solving.{Ended, Broke}
+use Rattle.sat_solver.specs.declared.solver.state.State.{State}
+use Rattle.sat_solver.specs.declared.solver.state.State.TheVariants as states
+use Rattle.sat_solver.specs.solver.Joined.{IsJoined}
+use Rattle.sat_solver.specs.solver.Answering.{Breaks}
+use Rattle.sat_solver.specs.solver.Found.{ComesTo, ToldSays, Tells, Finds}
+use Rattle.sat_solver.proofs.lemmas.solver.AnsweredLemmas.{joined_at}
+
+module _ {W : Type 0} (seen : W → Writer) (n : Variables) (a : Core W) where
+  -- names stand where it came to
+  pub comes_to : IsJoined n a → (outcome : Outcome) (mid : Core W) → Ended seen a outcome mid → ComesTo outcome n mid
+  comes_to joined outcomes.Learned mid e = e.says
+  comes_to joined outcomes.Model mid e = (joined_at seen n a joined mid e.steps e.adds e.searched e.keeps e.says.moved e.says.search e.config, e.says.complete)
+  comes_to joined outcomes.Failed mid e = (joined_at seen n a joined mid e.steps e.adds e.searched e.keeps e.says.moved e.says.search e.config, e.says.failing)
+  comes_to joined outcomes.Unsat mid e = tt
+
+  -- and it was told
+  pub finds_told : (outcome : Outcome) (o : Option State) (mid b : Core W) (core : List ℕ) (rounds : ℕ) → Ended seen a outcome mid → ToldSays seen o outcome n mid b core → Finds seen o rounds n a b core
+  finds_told outcomes.Model (Some states.Sat) mid b core rounds e t = record { mid = mid; ended = e; shown = t }
+  finds_told outcomes.Failed (Some states.UnsatUnderAssumptions) mid b core rounds e t = record { mid = mid; ended = e; failed = t }
+  finds_told outcomes.Unsat (Some states.Unsat) mid b core rounds e t = subst (Ended seen a outcomes.Unsat) (sym t) e
+  finds_told outcomes.Learned o mid b core rounds e t = absurd e.says
+  finds_told outcomes.Model None mid b core rounds e t = absurd t
+  finds_told outcomes.Model (Some states.Unknown) mid b core rounds e t = absurd t
+  finds_told outcomes.Model (Some states.UnsatUnderAssumptions) mid b core rounds e t = absurd t
+  finds_told outcomes.Model (Some states.Unsat) mid b core rounds e t = absurd t
+  finds_told outcomes.Failed None mid b core rounds e t = absurd t
+  finds_told outcomes.Failed (Some states.Unknown) mid b core rounds e t = absurd t
+  finds_told outcomes.Failed (Some states.Sat) mid b core rounds e t = absurd t
+  finds_told outcomes.Failed (Some states.Unsat) mid b core rounds e t = absurd t
+  finds_told outcomes.Unsat None mid b core rounds e t = absurd t
+  finds_told outcomes.Unsat (Some states.Unknown) mid b core rounds e t = absurd t
+  finds_told outcomes.Unsat (Some states.Sat) mid b core rounds e t = absurd t
+  finds_told outcomes.Unsat (Some states.UnsatUnderAssumptions) mid b core rounds e t = absurd t
+
+  -- or its telling failed
+  pub breaks_told : (outcome : Outcome) (e : SolverError) (mid b : Core W) → Ended seen a outcome mid → Breaks seen e mid b → Breaks seen e a b
+  breaks_told outcome e mid b ended k = record { fault = k.fault; steps = k.steps ++ ended.steps; went = later e k.fault k.went }
+    where
+      later : (e : SolverError) → IsFault e → Went {A = Unit {0}} seen (Err e) k.steps mid.proof b.proof → Went {A = Unit {0}} seen (Err e) (k.steps ++ ended.steps) a.proof b.proof
+      later errors.OutOfMemory f w = adds_more seen ended.steps k.steps a.proof mid.proof b.proof ended.adds w
+      later errors.StoreFull f w = adds_more seen ended.steps k.steps a.proof mid.proof b.proof ended.adds w
+      later (errors.ProofIoError cause) f w = fails_later seen ended.steps k.steps a.proof mid.proof b.proof ended.adds w
+      later errors.Interrupted f w = absurd f
+      later (errors.ProofProcessorError cause) f w = absurd f
+      later errors.WitnessVariable f w = absurd f
+      later errors.AssumedVariable f w = absurd f
+      later errors.TooLate f w = absurd f
+      later errors.NotInDrat f w = absurd f
+      later errors.VariableLimit f w = absurd f
+      later errors.CounterEnd f w = absurd f
+      later errors.HasFailed f w = absurd f
+      later errors.Read f w = absurd f
+      later errors.Malformed f w = absurd f
+      later errors.OutOfRange f w = absurd f
+
+  -- the search failed
+  pub breaks_sought : (e : SolverError) (b : Core W) → Broke seen a e b → Breaks seen e a b
+  breaks_sought e b broke = record { fault = broke.ends; steps = broke.steps; went = broke.went }
+
+  -- what came of telling it
+  pub finds_by : (outcome : Outcome) (r : Result (Option State) SolverError) (mid b : Core W) (core : List ℕ) (rounds : ℕ) → Ended seen a outcome mid → Tells seen r outcome n mid b core → IfOk r (λ o. Finds seen o rounds n a b core)
+  finds_by outcome (Ok o) mid b core rounds e t = finds_told outcome o mid b core rounds e t
+  finds_by outcome (Err x) mid b core rounds e t = tt
+
+  pub breaks_by : (outcome : Outcome) (r : Result (Option State) SolverError) (mid b : Core W) (core : List ℕ) → Ended seen a outcome mid → Tells seen r outcome n mid b core → IfErr r (λ x. Breaks seen x a b)
+  breaks_by outcome (Ok o) mid b core e t = tt
+  breaks_by outcome (Err x) mid b core e t = breaks_told outcome x mid b e t

@@ -1,0 +1,207 @@
+-- The line of a model, from what names, steps and search say.
+use Rattle.std.proofs.Common.{ℕ, zero, suc, ◌+◌, ◌<◌, ◌≤◌, ◌≡◌, ◌∙◌, Bool, true, false, Option, None, Some, List, [], ◌∷◌, ◌++◌, map, eqb, refl, sym, ap, subst, arith, inl, inr}
+use Rattle.std.proofs.lemmas.Bool.{cases_eq, cases_lt, or_cases, eqb-true, true≢false}
+use Rattle.std.proofs.lemmas.Option.{none-some}
+use Rattle.std.proofs.lemmas.List.{append-nil}
+use Rattle.std.specs.List.{AllByRecursion}
+use Rattle.sat_base.specs.values.Literals.{variable, is_positive, coded}
+use Rattle.sat_base.specs.values.Clauses.{Valuation, EachTrue, EachHolds, literal_true}
+use Rattle.sat_base.specs.script.Script.{Literal, names_of, Among}
+use Rattle.sat_base.specs.script.Judge.{Judge, identity_of, over, IsRightModel}
+use Rattle.sat_base.specs.steps.Steps.{Step, Model, FailedAssumptions}
+use Rattle.sat_checker.specs.Fold.{Holds}
+use Rattle.sat_checker.specs.LiteralSets.{is_among}
+use Rattle.sat_solver.specs.session.Session.{MayAll, May, session_after}
+use Rattle.sat_solver.specs.session.NamedMeaning.{Means, AgreeOn, Reads, AllRead, AllFrom}
+use Rattle.sat_solver.proofs.lemmas.session.NamedLemmas.{all_at, all_from, among_images, read_value, named_models_are_right}
+use Rattle.sat_solver.specs.names.Adding.{named_literal}
+use Rattle.sat_solver.specs.names.Live.{Live, given, given_of, Agrees, Meant}
+use Rattle.sat_solver.specs.names.Variables.{AreTidy, global_of, user_of, names_used, variables_used}
+use Rattle.sat_solver.specs.names.Models.{value_in, model_to, name_literal, named_to}
+use Rattle.sat_solver.specs.names.Checking.{variable_of}
+use Rattle.sat_solver.specs.names.Calls.{Stands, Agree}
+use Rattle.sat_solver.specs.declared.names.Variables.{Variables}
+use Rattle.sat_solver.proofs.lemmas.names.MapLemmas.{some_within}
+use Rattle.sat_solver.proofs.lemmas.names.TakenNames.{test_among}
+use Rattle.sat_solver.proofs.lemmas.names.ModelSteps.{named_zero, named_next}
+use Rattle.sat_solver.proofs.lemmas.names.BridgeLemmas.{pulled, pulled_agrees}
+use Rattle.sat_solver.proofs.lemmas.names.ModeChanges.{live_within}
+use Rattle.sat_solver.proofs.lemmas.parts.ValueLemmas.{coded_variable}
+use Rattle.sat_solver.specs.solver.Lines.{Rise, ListsNames, IsModelLine, IsCoreOf}
+use Rattle.sat_solver.specs.names.Expected.{Spells, SameSet}
+use Rattle.sat_solver.proofs.lemmas.solver.ShownLemmas.{coded_sign, model_all}
+
+-- MEANING
+
+agree_at : (live : Live) (a b : Valuation) (v i : ℕ) → Agrees live a b → Among (v, i) live → a v ≡ b i
+agree_at live a b v i h m = all_pairs live h m
+  where
+    all_pairs : (ps : Live) → Agrees ps a b → Among (v, i) ps → a v ≡ b i
+    all_pairs [] h m = absurd m
+    all_pairs (p ∷ ps) h m = elim m [
+      | inl e ↦ ap (λ (q : ℕ × ℕ). a q.0) e ∙ h.0 ∙ sym (ap (λ (q : ℕ × ℕ). b q.1) e)
+      | inr k ↦ all_pairs ps h.1 k
+    ]
+
+some_same : (x y : ℕ) (o : Option ℕ) → o ≡ Some x → o ≡ Some y → x ≡ y
+some_same x y o e f = (let g : Some x ≡ Some y = sym e ∙ f in cc)
+
+module _ (n : Variables) (steps : List Step) (j : Judge) (live : Live) (agree : Agree n steps j live) where
+  agree_on : (a b : Valuation) → Agrees live a b → AgreeOn j (variable_of steps) a b
+  agree_on a b h name i v use_ named =
+      let k = agree.bridge.named name v named in
+      agree_at live a b v i h (subst (λ z. Among (v, z) live) (some_same k.0 i (identity_of j name) k.1 use_) k.2)
+
+  pub means_of : Means j (variable_of steps) steps
+  means_of = record {
+    to = λ a h. let m = agree.bridge.to a h in (m.0, agree_on a m.0 m.1, m.2);
+    back = λ b h. let g = pulled_agrees live b agree.bridge.once in (pulled live b, agree_on (pulled live b) b g, agree.bridge.back (pulled live b) (b, g, h));
+  }
+
+  -- the proof's literal of a name in use
+  pub reads_at : (u v : ℕ) (b : Bool) → Stands n steps → global_of n u ≡ Some v → Reads j (variable_of steps) (named_literal (coded u b)) (coded v b)
+  reads_at u v b stands e =
+      let name : variable_of steps (variable (coded u b) + 1) ≡ Some v = ap (λ w. variable_of steps (w + 1)) (coded_variable u b) ∙ stands.read u ∙ e in
+      let k = agree.bridge.named (variable (coded u b) + 1) v name in
+      record { identity = k.0; in_use = k.1; var = v; named = name; is = ap (coded v) (sym (coded_sign u b)) }
+
+-- LINES
+
+module _ (n : Variables) (values : List (Option Bool)) where
+  named_grown : (count : ℕ) → named_to n values (suc count) ≡ named_to n values count ++ name_literal n values count (global_of n count)
+  named_grown count = (let q : suc count ≡ count + 1 = omega arith in ap (named_to n values) q) ∙ sym (named_next n values count (named_to n values count) (named_to n values count ++ name_literal n values count (global_of n count)) refl refl)
+
+  all_both : (P : ℕ → Type 0) (xs ys : List ℕ) → AllByRecursion P xs → AllByRecursion P ys → AllByRecursion P (xs ++ ys)
+  all_both P [] ys h k = k
+  all_both P (x ∷ xs) ys h k = (h.0, all_both P xs ys h.1 k)
+
+  among_left : (x : ℕ) (xs ys : List ℕ) → Among x xs → Among x (xs ++ ys)
+  among_left x [] ys m = absurd m
+  among_left x (y ∷ xs) ys m = elim m [ inl e ↦ inl e | inr k ↦ inr (among_left x xs ys k) ]
+
+  among_right : (x : ℕ) (xs ys : List ℕ) → Among x ys → Among x (xs ++ ys)
+  among_right x [] ys m = m
+  among_right x (y ∷ xs) ys m = inr (among_right x xs ys m)
+
+  lits_all : (P : ℕ → Type 0) (u : ℕ) (o : Option ℕ) → ((v : ℕ) → o ≡ Some v → P (coded u (value_in n values v))) → AllByRecursion P (name_literal n values u o)
+  lits_all P u None f = tt
+  lits_all P u (Some v) f = (f v refl, tt)
+
+  -- what holds of the literal of each name in use below the count holds of all of them
+  pub named_each : (P : ℕ → Type 0) (count : ℕ) → ((u v : ℕ) → u < count → global_of n u ≡ Some v → P (coded u (value_in n values v))) → AllByRecursion P (named_to n values count)
+  named_each P zero f = subst (AllByRecursion P) (sym (named_zero n values)) tt
+  named_each P (suc count) f = subst (AllByRecursion P) (sym (named_grown count))
+      (all_both P (named_to n values count) (name_literal n values count (global_of n count))
+      (named_each P count (λ u v lt e. f u v (omega arith) e))
+      (lits_all P count (global_of n count) (λ v e. f count v (omega arith) e)))
+
+  pub named_has : (count u v : ℕ) → u < count → global_of n u ≡ Some v → Among (coded u (value_in n values v)) (named_to n values count)
+  named_has zero u v lt e = absurd (omega arith)
+  named_has (suc count) u v lt e = subst (Among (coded u (value_in n values v))) (sym (named_grown count)) (elim (cases_eq u count) [
+    | inl same ↦ among_right (coded u (value_in n values v)) (named_to n values count) (name_literal n values count (global_of n count))
+        (subst (λ o. Among (coded u (value_in n values v)) (name_literal n values count o)) (sym (sym (ap (global_of n) same) ∙ e)) (inl (ap (λ w. coded w (value_in n values v)) same)))
+    | inr k ↦ among_left (coded u (value_in n values v)) (named_to n values count) (name_literal n values count (global_of n count)) (named_has count u v (omega arith) e)
+  ])
+
+  rise_more : (xs : List ℕ) (y : ℕ) → Rise xs → AllByRecursion (λ x. x < y) xs → Rise (xs ++ y ∷ [])
+  rise_more [] y h k = (tt, tt)
+  rise_more (x ∷ xs) y h k = (all_both (λ z. x < z) xs (y ∷ []) h.0 (k.0, tt), rise_more xs y h.1 k.1)
+
+  names_in_both : (xs ys : List ℕ) → names_of (map named_literal (xs ++ ys)) ≡ names_of (map named_literal xs) ++ names_of (map named_literal ys)
+  names_in_both [] ys = refl
+  names_in_both (x ∷ xs) ys = ap (λ zs. (variable x + 1) ∷ zs) (names_in_both xs ys)
+
+  names_below : (count : ℕ) (xs : List ℕ) → AllByRecursion (λ l. variable l < count) xs → AllByRecursion (λ x. x < count + 1) (names_of (map named_literal xs))
+  names_below count [] h = tt
+  names_below count (x ∷ xs) h = ((let b = h.0 in omega arith), names_below count xs h.1)
+
+  below : (count : ℕ) → AllByRecursion (λ l. variable l < count) (named_to n values count)
+  below count = named_each (λ l. variable l < count) count (λ u v lt e. (let s = coded_variable u (value_in n values v) in omega arith))
+
+  rise_lits : (xs : List ℕ) (u : ℕ) (o : Option ℕ) → Rise (names_of (map named_literal xs)) → AllByRecursion (λ x. x < u + 1) (names_of (map named_literal xs)) → Rise (names_of (map named_literal (xs ++ name_literal n values u o)))
+  rise_lits xs u None h k = subst (λ ys. Rise (names_of (map named_literal ys))) (sym (append-nil xs)) h
+  rise_lits xs u (Some v) h k = subst Rise (sym (names_in_both xs (coded u (value_in n values v) ∷ [])))
+      (subst (λ w. Rise (names_of (map named_literal xs) ++ (w + 1) ∷ [])) (sym (coded_variable u (value_in n values v))) (rise_more (names_of (map named_literal xs)) (u + 1) h k))
+
+  pub line_rises : (count : ℕ) → Rise (names_of (map named_literal (named_to n values count)))
+  line_rises zero = subst (λ ys. Rise (names_of (map named_literal ys))) (sym (named_zero n values)) tt
+  line_rises (suc count) = subst (λ ys. Rise (names_of (map named_literal ys))) (sym (named_grown count))
+      (rise_lits (named_to n values count) count (global_of n count) (line_rises count) (names_below count (named_to n values count) (below count)))
+
+pub mapped_each : (P : Literal → Type 0) (ls : List ℕ) → AllByRecursion (λ l. P (named_literal l)) ls → AllByRecursion P (map named_literal ls)
+mapped_each P [] h = tt
+mapped_each P (l ∷ ls) h = (h.0, mapped_each P ls h.1)
+
+named_among : (l : ℕ) (ls : List ℕ) → Among l ls → Among (variable l + 1) (names_of (map named_literal ls))
+named_among l [] m = absurd m
+named_among l (x ∷ xs) m = elim m [ inl e ↦ inl (ap (λ y. variable y + 1) e) | inr k ↦ inr (named_among l xs k) ]
+
+pub literal_among : (l : ℕ) (ls : List ℕ) → Among l ls → Among (named_literal l) (map named_literal ls)
+literal_among l [] m = absurd m
+literal_among l (x ∷ xs) m = elim m [ inl e ↦ inl (ap named_literal e) | inr k ↦ inr (literal_among l xs k) ]
+
+module _ (n : Variables) (steps : List Step) (values : List (Option Bool)) (stands : Stands n steps) where
+  abbrev pub line : List ℕ
+  line = named_to n values (names_used n)
+
+  module _ (j : Judge) (live : Live) (agree : Agree n steps j live) where
+    lists_all : (name i : ℕ) → identity_of j name ≡ Some i → Among name (names_of (map named_literal line))
+    lists_all zero i e = absurd (none-some i (sym agree.judged.no_zero ∙ e))
+    lists_all (suc u) i e = named u i (let q : suc u ≡ u + 1 = omega arith in q) (global_of n u) refl (sym (agree.judged.names u) ∙ (let q : u + 1 ≡ suc u = omega arith in ap (identity_of j) q) ∙ e)
+      where
+        named : (u i : ℕ) → suc u ≡ u + 1 → (o : Option ℕ) → global_of n u ≡ o → given_of live (global_of n u) ≡ Some i → Among (suc u) (names_of (map named_literal line))
+        named u i q None g e = absurd (none-some i (sym (ap (given_of live) g) ∙ e))
+        named u i q (Some v) g e = subst (λ name. Among name (names_of (map named_literal line))) (ap (λ w. w + 1) (coded_variable u (value_in n values v)) ∙ sym q)
+            (named_among (coded u (value_in n values v)) line (named_has n values (names_used n) u v (some_within n.global_from_user.fwd u v g) g))
+
+    lists : ListsNames j (map named_literal line)
+    lists = record {
+      rising = line_rises n values (names_used n);
+      all = lists_all;
+      only = mapped_each (λ l. (i : ℕ) × (identity_of j l.name ≡ Some i)) line
+          (named_each n values (λ l. (i : ℕ) × (identity_of j (named_literal l).name ≡ Some i)) (names_used n) (λ u v lt e.
+            let r = reads_at n steps j live agree u v (value_in n values v) stands e in (r.identity, r.in_use)));
+    }
+
+    read : AllRead j (variable_of steps) (map named_literal line) (model_to n values (variables_used n))
+    read = mapped_each (λ l. (code : ℕ) × Reads j (variable_of steps) l code × Among code (model_to n values (variables_used n))) line
+        (named_each n values (λ l. (code : ℕ) × Reads j (variable_of steps) (named_literal l) code × Among code (model_to n values (variables_used n))) (names_used n) (λ u v lt e.
+          let live_ = stands.tidy.named v u (stands.tidy.users.back u v e) in
+          (
+            coded v (value_in n values v),
+            reads_at n steps j live agree u v (value_in n values v) stands e,
+            test_among (model_to n values (variables_used n)) (coded v (value_in n values v)) (model_all n values (variables_used n) v (live_within n v live_) live_),
+          )))
+
+    -- the line of a model that may be shown is right
+    pub model_line : (asked : List ℕ) → May (session_after steps) (Model (model_to n values (variables_used n))) → AllByRecursion (λ l. Among l line) asked → IsModelLine j (map named_literal asked) (map named_literal line)
+    model_line asked may among = record {
+      lists = lists;
+      right = λ e. named_models_are_right j (variable_of steps) steps (model_to n values (variables_used n)) (map named_literal asked) (map named_literal line)
+          (means_of n steps j live agree) (stands.may, may) e read
+          (mapped_each (λ l. Among l (map named_literal line)) asked (each_among asked among));
+    }
+      where
+        each_among : (xs : List ℕ) → AllByRecursion (λ l. Among l line) xs → AllByRecursion (λ l. Among (named_literal l) (map named_literal line)) xs
+        each_among [] h = tt
+        each_among (x ∷ xs) h = (literal_among x line h.0, each_among xs h.1)
+
+-- a core that no valuation of the steps makes true is right
+module _ (n : Variables) (steps : List Step) (j : Judge) (live : Live) (agree : Agree n steps j live) where
+  spells_reads : (l : Literal) (code : ℕ) → Spells (variable_of steps) l code → Reads j (variable_of steps) l code
+  spells_reads l code s = (let k = agree.bridge.named l.name s.variable s.named in record { identity = k.0; in_use = k.1; var = s.variable; named = s.named; is = s.is })
+
+  pub core_of : (asked core codes : List ℕ) → ((a : Valuation) → Holds steps a → EachTrue a codes → ⊥) → SameSet (variable_of steps) (map named_literal core) codes → AllByRecursion (λ l. Among l asked) core → IsCoreOf j (map named_literal asked) (map named_literal core)
+  core_of asked core codes none same among = record {
+    among = each_among core among;
+    none = λ b t h.
+        let m = (means_of n steps j live agree).back b h in
+        none m.0 m.2 (all_from (λ x. literal_true m.0 x ≡ true) codes (λ x i.
+          let r = all_at (λ code. (l : Literal) × Spells (variable_of steps) l code × Among l (map named_literal core)) x codes same.1 i in
+          read_value j (variable_of steps) m.0 b m.1 r.0 x (spells_reads r.0 x r.1)
+          ∙ all_at (λ y. literal_true b y ≡ true) (over j r.0) (map (over j) (map named_literal core)) t (among_images (over j) r.0 (map named_literal core) r.2)));
+  }
+    where
+      each_among : (xs : List ℕ) → AllByRecursion (λ l. Among l asked) xs → AllByRecursion (λ l. Among l (map named_literal asked)) (map named_literal xs)
+      each_among [] h = tt
+      each_among (x ∷ xs) h = (literal_among x asked h.0, each_among xs h.1)

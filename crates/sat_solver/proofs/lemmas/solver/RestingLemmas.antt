@@ -1,0 +1,55 @@
+-- What answers rest on.
+use Rattle.std.proofs.Common.{ℕ, ◌<◌, ◌≡◌, ◌∙◌, Bool, true, false, Option, None, Some, List, [], ◌∷◌, length, map, get_or, refl, sym, ap, subst, inl, inr}
+use Rattle.std.specs.List.{AllByRecursion}
+use Rattle.sat_base.specs.script.Script.{Among}
+use Rattle.sat_parts.specs.prop.Values.{IsTrueLit}
+use Rattle.sat_solver.specs.session.ProofView.{steps_of, session_of}
+use Rattle.sat_solver.specs.names.Variables.{names_used}
+use Rattle.sat_solver.specs.names.Models.{named_to}
+use Rattle.sat_solver.specs.session.NamedMeaning.{Means}
+use Rattle.sat_solver.proofs.lemmas.session.NamedLemmas.{named_unsat_is_right}
+use Rattle.sat_solver.specs.names.Checking.{variable_of}
+use Rattle.sat_solver.specs.declared.solver.Solver.{Solver}
+use Rattle.sat_solver.specs.declared.solver.state.State.{State}
+use Rattle.sat_solver.specs.declared.solver.state.State.TheVariants as states
+use Rattle.sat_solver.specs.solver.Lines.{IsCoreOf}
+use Rattle.sat_solver.specs.solver.Whole.{IsWhole, StateSays, steps_in, line_in}
+use Rattle.sat_solver.specs.solver.Resting.{IsModel, IsRightLine, IsRightCoreOf, IsCore}
+use Rattle.sat_solver.proofs.lemmas.solver.ShownLemmas.{shown_may}
+use Rattle.sat_solver.proofs.lemmas.solver.LineLemmas.{model_line, core_of, means_of}
+use Rattle.sat_solver.proofs.lemmas.solver.AnsweredLemmas.{asked_shown}
+
+module _ {W : Type 0} (s : Solver W) (whole : IsWhole s) where
+  -- the line of a model is right
+  pub model_rests : s.failed ≡ false → s.state ≡ states.Sat → (line : List ℕ) → line ≡ line_in s → IsModel s line
+  model_rests going state line e = record {
+    going = going;
+    state = state;
+    line_is = e;
+    right = subst (IsRightLine s) (sym e) (λ j live agree. model_line s.names (steps_in s) values whole.stands j live agree s.assumed.items
+        (shown_may s.names (session_of s.core.proof) s.core.search whole.stands.tidy whole.stands.said says.0.joined.sound.search says.0.joined.shares says.1)
+        (asked_shown s.names values s.assumed.items s.asked.order.items whole.images
+        (subst (λ ls. (k : ℕ) → k < length ls → IsTrueLit values (get_or ls k 0)) says.0.lits says.1.assumed)));
+  }
+    where
+      values : List (Option Bool)
+      values = s.core.search.parts.assignment.current
+      says : StateSays states.Sat s.core s.names s.asked s.assumed.items s.told.failed_core.items
+      says = subst (λ st. StateSays st s.core s.names s.asked s.assumed.items s.told.failed_core.items) state whole.says
+
+  -- so is a core
+  pub core_rests : s.failed ≡ false → s.state ≡ states.UnsatUnderAssumptions → (core : List ℕ) → core ≡ s.told.failed_core.items → IsCore s core
+  core_rests going state core e = (record { going = going; unsat = rw state tt; core_is = e ∙ rw state refl; right = subst (IsRightCoreOf s) (sym e) (λ j live agree. core_of s.names (steps_in s) j live agree s.assumed.items s.told.failed_core.items says.1.codes says.1.none says.1.same says.1.among) })
+    where
+      says : StateSays states.UnsatUnderAssumptions s.core s.names s.asked s.assumed.items s.told.failed_core.items
+      says = subst (λ st. StateSays st s.core s.names s.asked s.assumed.items s.told.failed_core.items) state whole.says
+
+  -- and an empty one, where the clauses alone are unsatisfiable
+  pub unsat_rests : s.failed ≡ false → s.state ≡ states.Unsat → (core : List ℕ) → core ≡ [] → IsCore s core
+  unsat_rests going state core e = (record { going = going; unsat = rw state tt; core_is = e ∙ rw state refl; right = subst (IsRightCoreOf s) (sym e) (λ j live agree. record {
+    among = tt;
+    none = (named_unsat_is_right j (variable_of (steps_in s)) (steps_in s) [] (means_of s.names (steps_in s) j live agree) whole.stands.may says).none;
+  }) })
+    where
+      says : StateSays states.Unsat s.core s.names s.asked s.assumed.items s.told.failed_core.items
+      says = subst (λ st. StateSays st s.core s.names s.asked s.assumed.items s.told.failed_core.items) state whole.says

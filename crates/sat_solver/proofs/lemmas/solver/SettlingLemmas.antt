@@ -1,0 +1,323 @@
+-- A solver that looked for an answer.
+use Rattle.std.proofs.Common.{ℕ, zero, suc, ◌+◌, ◌-◌, ◌*◌, ◌^◌, ◌≤◌, min, ◌<◌, ◌≡◌, ◌∙◌, Bool, true, false, Option, None, Some, Ok, Err, List, [], ◌∷◌, ◌++◌, length, map, get_or, refl, sym, ap, subst, arith, inl, inr}
+use Rattle.std.specs.List.{AllByRecursion, Contains}
+use Rattle.sat_base.specs.device.Device.{Writer}
+use Rattle.sat_base.specs.script.Script.{names_of, Among}
+use Rattle.sat_base.specs.steps.Steps.{Step, FailedAssumptions}
+use Rattle.sat_base.specs.values.Clauses.{Valuation, EachTrue}
+use Rattle.sat_checker.specs.Fold.{Holds}
+use Rattle.sat_parts.specs.prop.Values.{IsTrueLit}
+use Rattle.sat_solver.specs.session.LiveClauses.{with_var}
+use Rattle.sat_solver.specs.session.ProofView.{Adds, Flushes, FlushesOrFails, steps_of, session_of}
+use Rattle.sat_solver.specs.declared.session.proof.Proof.{Proof}
+use Rattle.sat_solver.specs.declared.session.proof.ProofError.{ProofError}
+use Rattle.sat_solver.specs.declared.session.proof.ProofError.TheVariants.{Write}
+use Rattle.sat_solver.specs.search.Going.{fault_of}
+use Rattle.sat_solver.specs.session.Session.{Session, MayAll, session_after}
+use Rattle.sat_solver.proofs.lemmas.session.ProofLemmas.{adds_none, adds_more, fails_later, flush_records}
+use Rattle.sat_solver.specs.declared.bound.search.Outcome.TheVariants as outcomes
+use Rattle.sat_solver.specs.declared.search.solving.Core.{Core}
+use Rattle.sat_solver.specs.declared.search.work.Search.{Search}
+use Rattle.sat_solver.specs.search.Failing.{causes_hashes}
+use Rattle.sat_solver.specs.search.Joint.{global_in, AreAsked, IsSearch, Moved}
+use Rattle.sat_solver.specs.search.Turns.{IsComplete}
+use Rattle.sat_solver.proofs.lemmas.search.AskedLemmas.{asked_after, kinds_of}
+use Rattle.sat_solver.specs.search.Solving.{Ended, Gone, IsCore, values_in}
+use Rattle.sat_solver.specs.names.Adding.{named_literal, Images}
+use Rattle.sat_solver.specs.names.Checking.{variable_of}
+use Rattle.sat_solver.specs.names.Expected.{Shows, Fails, SameSet}
+use Rattle.sat_solver.specs.names.Models.{named_to}
+use Rattle.sat_solver.specs.names.Variables.{names_used}
+use Rattle.sat_solver.specs.names.Calls.{Stands, Does}
+use Rattle.sat_solver.specs.session.Making.{Took}
+use Rattle.sat_solver.specs.declared.error.SolverError.{SolverError}
+use Rattle.sat_solver.specs.declared.error.SolverError.TheVariants as errors
+use Rattle.sat_solver.specs.declared.names.Variables.{Variables}
+use Rattle.sat_solver.specs.declared.names.taking.Taken.{Taken}
+use Rattle.sat_solver.proofs.lemmas.names.Doing.{does_none, does_both}
+use Rattle.sat_solver.specs.declared.solver.Solver.{Solver}
+use Rattle.sat_solver.specs.declared.solver.state.State.{State}
+use Rattle.sat_solver.specs.declared.solver.state.State.TheVariants as states
+use Rattle.sat_solver.specs.declared.solver.finding.Told.{Told}
+use Rattle.sat_solver.specs.declared.solver.finding.Clock.{Clock}
+use Rattle.sat_solver.specs.solver.Joined.{IsJoined, name_of}
+use Rattle.sat_solver.specs.solver.Answering.{Breaks, Shown, Failed, line_of}
+use Rattle.sat_solver.specs.solver.Found.{FoundModel, FoundCore, FoundNone, FoundSays}
+use Rattle.sat_solver.specs.solver.Calls.{Answered, Counts, Solves, told_as, told_by}
+use Rattle.sat_solver.specs.solver.Settling.{Settled}
+use Rattle.sat_solver.specs.solver.Whole.{IsWhole, IsWholeOf, StateSays, GoesOn, HasCore, steps_in, session_in, line_in}
+use Rattle.sat_solver.proofs.lemmas.solver.AnsweredLemmas.{asked_shown, core_among, core_spelt, core_none, joined_at, nothing_at, does_shown, does_failed}
+
+two_to : (k : ℕ) → 0 < 2 ^ k
+two_to zero = omega arith
+two_to (suc k) = (let h = two_to k in omega arith)
+
+assumed_moved : (s t : Session) (c c' : Search) → AreAsked s c → AreAsked t c' → Moved c c' → t.assumed ≡ s.assumed
+assumed_moved s t c c' h k moved =
+    k ∙ ap (λ gs. map (with_var (λ x. get_or gs x 0)) c'.assumptions.lits.items) (ap (λ gs. gs.items) moved.globals)
+    ∙ ap (λ ls. map (with_var (global_in c)) ls) (ap (λ ls. ls.items) moved.lits) ∙ sym h
+
+module _ {W : Type 0} (seen : W → Writer) (s : Solver W) (whole : IsWhole s) where
+  -- where an answer was known
+  pub settled_known : (s.state ≡ states.Unknown → ⊥) → Settled seen s s
+  settled_known n = record {
+    whole = whole;
+    does = none s.state n;
+    took = ([], adds_none seen s.core.proof);
+    same = refl;
+    counts = record { few = (let q = two_to (2 * values_in s.core + 3) in omega arith); spent = λ u. absurd (n u); answered = λ m le fits u. n u };
+    known = λ k. (refl, refl, refl);
+  }
+    where
+      none : (st : State) → (st ≡ states.Unknown → ⊥) → Does s.names s.names (steps_in s) (steps_in s) (λ j. j) (λ j. told_as st st (line_in s) s.assumed.items s.told.failed_core.items)
+      none states.Unknown n = absurd (n refl)
+      none states.Sat n = does_none s.names (steps_in s) whole.stands
+      none states.UnsatUnderAssumptions n = does_none s.names (steps_in s) whole.stands
+      none states.Unsat n = does_none s.names (steps_in s) whole.stands
+
+  module _ (goes : GoesOn s.core s.names s.asked) (core : Core W) (told : Told) (clock : Clock) (scale : 0 < clock.restarts.scale) where
+    -- where there's no answer by now
+    pub settled_none : (rounds : ℕ) → s.state ≡ states.Unknown → Counts s (record s { core = core; told = told; clock = clock }) → FoundNone seen rounds s.core core → Settled seen s (record s { core = core; told = told; clock = clock })
+    settled_none rounds unknown counts found = record {
+      whole = record {
+        stands = at.stands;
+        images = whole.images;
+        globals = whole.globals ∙ sym assumed;
+        positive = scale;
+        says = subst (λ st. StateSays st core s.names s.asked s.assumed.items told.failed_core.items) (sym unknown) (record { joined = at; lits = ap (λ ls. ls.items) found.gone.moved.lits ∙ goes.lits });
+      };
+      does = subst (λ st. Does s.names s.names (steps_in s) (steps_of core.proof) (λ j. j) (λ j. told_as st st (line_of s.names core) s.assumed.items told.failed_core.items)) (sym unknown)
+          (nothing_at seen s.names s.core goes.joined core found.gone.steps found.gone.adds found.gone.searched found.sound.keeps);
+      took = (found.gone.steps, found.gone.adds);
+      same = refl;
+      counts = counts;
+      known = λ k. absurd (k unknown);
+    }
+      where
+        at : IsJoined s.names core
+        at = joined_at seen s.names s.core goes.joined core found.gone.steps found.gone.adds found.gone.searched found.sound.keeps found.gone.moved found.sound.search found.gone.config
+        assumed : (session_of core.proof).assumed ≡ (session_in s).assumed
+        assumed = assumed_moved (session_in s) (session_of core.proof) s.core.search core.search goes.joined.sound.search.ready.asked found.sound.search.ready.asked found.gone.moved
+
+    module _ (unknown : s.state ≡ states.Unknown) where
+      abbrev pub new : State → Solver W
+      new st = record s { core = core; told = told; clock = clock; state = st }
+
+      unknown_told : (st : State) → Does s.names s.names (steps_in s) (steps_of core.proof) (λ j. j) (λ j. told_as states.Unknown st (line_of s.names core) s.assumed.items told.failed_core.items) → Does s.names s.names (steps_in s) (steps_of core.proof) (λ j. j) (λ j. told_as s.state st (line_of s.names core) s.assumed.items told.failed_core.items)
+      unknown_told st d = subst (λ before. Does s.names s.names (steps_in s) (steps_of core.proof) (λ j. j) (λ j. told_as before st (line_of s.names core) s.assumed.items told.failed_core.items)) (sym unknown) d
+
+      -- where a model was found
+      pub settled_model : Counts s (new states.Sat) → FoundModel seen s.names s.core core → Settled seen s (new states.Sat)
+      settled_model counts found = record {
+        whole = record {
+          stands = found.shown.joined.stands;
+          images = whole.images;
+          globals = whole.globals ∙ sym (assumed_moved (session_in s) (session_of core.proof) s.core.search core.search goes.joined.sound.search.ready.asked found.shown.joined.sound.search.ready.asked moved);
+          positive = scale;
+          says = (
+            record { joined = found.shown.joined; lits = lits },
+            complete,
+          );
+        };
+        does = unknown_told states.Sat (does_both s.names s.names s.names (steps_in s) (steps_of found.mid.proof) (steps_of core.proof) (λ j. j) (λ j. j) (λ j. []) (λ j. told_as states.Unknown states.Sat (line_of s.names core) s.assumed.items told.failed_core.items)
+            (nothing_at seen s.names s.core goes.joined found.mid found.ended.steps found.ended.adds found.ended.searched found.ended.keeps)
+            (subst (λ c. Does s.names s.names (steps_of found.mid.proof) (steps_of core.proof) (λ j. j) (λ j. Shows (names_of (map named_literal (line_by c))) (map named_literal s.assumed.items) (map named_literal (line_by c)) ∷ [])) (sym found.shown.search)
+            (does_shown seen s.names found.mid mid core found.shown s.assumed.items (subst (λ c. AllByRecursion (λ l. Among l (line_by c)) s.assumed.items) found.shown.search asked))));
+        took = (_, adds_more seen found.ended.steps _ s.core.proof found.mid.proof core.proof found.ended.adds found.shown.adds);
+        same = refl;
+        counts = counts;
+        known = λ k. absurd (k unknown);
+      }
+        where
+          line_by : Search → List ℕ
+          line_by c = named_to s.names c.parts.assignment.current (names_used s.names)
+          mid : IsJoined s.names found.mid
+          mid = joined_at seen s.names s.core goes.joined found.mid found.ended.steps found.ended.adds found.ended.searched found.ended.keeps found.ended.says.moved found.ended.says.search found.ended.config
+          moved : Moved s.core.search core.search
+          moved = subst (Moved s.core.search) (sym found.shown.search) found.ended.says.moved
+          lits : core.search.assumptions.lits.items ≡ s.asked.order.items
+          lits = ap (λ ls. ls.items) moved.lits ∙ goes.lits
+          complete : IsComplete core.search.assumptions.lits.items core.search.parts
+          complete = subst (λ (c : Search). IsComplete c.assumptions.lits.items c.parts) (sym found.shown.search) found.ended.says.complete
+          asked : AllByRecursion (λ l. Among l (line_by core.search)) s.assumed.items
+          asked = asked_shown s.names core.search.parts.assignment.current s.assumed.items s.asked.order.items whole.images
+              (subst (λ ls. (k : ℕ) → k < length ls → IsTrueLit core.search.parts.assignment.current (get_or ls k 0)) lits complete.assumed)
+
+      -- where assumptions were found that can't be true together
+      pub settled_core : Counts s (new states.UnsatUnderAssumptions) → FoundCore seen s.names s.core core told.failed_core.items → Settled seen s (new states.UnsatUnderAssumptions)
+      settled_core counts found = record {
+        whole = record {
+          stands = found.failed.joined.stands;
+          images = whole.images;
+          globals = whole.globals ∙ sym (assumed_moved (session_in s) (session_of core.proof) s.core.search core.search goes.joined.sound.search.ready.asked found.failed.joined.sound.search.ready.asked moved);
+          positive = scale;
+          says = (
+            record { joined = found.failed.joined; lits = ap (λ ls. ls.items) moved.lits ∙ goes.lits },
+            failed_is found.mid mid lits found.failed,
+          );
+        };
+        does = unknown_told states.UnsatUnderAssumptions (does_both s.names s.names s.names (steps_in s) (steps_of found.mid.proof) (steps_of core.proof) (λ j. j) (λ j. j) (λ j. []) (λ j. told_as states.Unknown states.UnsatUnderAssumptions (line_of s.names core) s.assumed.items told.failed_core.items)
+            (nothing_at seen s.names s.core goes.joined found.mid found.ended.steps found.ended.adds found.ended.searched found.ended.keeps)
+            (does_failed seen s.names found.mid mid core told.failed_core.items found.failed s.assumed.items s.asked.order.items whole.images lits));
+        took = (_, adds_more seen found.ended.steps found.failed.steps s.core.proof found.mid.proof core.proof found.ended.adds found.failed.adds);
+        same = refl;
+        counts = counts;
+        known = λ k. absurd (k unknown);
+      }
+        where
+          mid : IsJoined s.names found.mid
+          mid = joined_at seen s.names s.core goes.joined found.mid found.ended.steps found.ended.adds found.ended.searched found.ended.keeps found.ended.says.moved found.ended.says.search found.ended.config
+          moved : Moved s.core.search core.search
+          moved = record {
+            globals = found.failed.told.moved.globals ∙ found.ended.says.moved.globals;
+            lits = found.failed.told.moved.lits ∙ found.ended.says.moved.lits;
+            size = found.failed.told.moved.size ∙ found.ended.says.moved.size;
+          }
+          lits : found.mid.search.assumptions.lits.items ≡ s.asked.order.items
+          lits = ap (λ ls. ls.items) found.ended.says.moved.lits ∙ goes.lits
+          failed_is : (mid : Core W) → IsJoined s.names mid → mid.search.assumptions.lits.items ≡ s.asked.order.items → Failed seen s.names mid core told.failed_core.items → HasCore core s.assumed.items told.failed_core.items
+          failed_is mid joined lits f =
+              let used = core.search.analysis.core in
+              let codes = map (with_var (global_in mid.search)) used in
+              let history : steps_of core.proof ≡ FailedAssumptions codes (causes_hashes mid.search.parts core.search.analysis.used) ∷ steps_of mid.proof = f.adds.history ∙ ap (λ ss. ss ++ steps_of mid.proof) f.told.is in
+              let among : (k : ℕ) → k < length used → Contains s.asked.order.items (get_or used k 0) = λ k lt. subst (λ ls. Contains ls (get_or used k 0)) lits (f.told.failed.among k lt) in
+              record {
+                codes = codes;
+                none = subst (λ ss. (a : Valuation) → Holds ss a → EachTrue a codes → ⊥) (sym history) (core_none (steps_of mid.proof) codes (causes_hashes mid.search.parts core.search.analysis.used) (subst MayAll history f.joined.sound.keeps));
+                same = subst (λ xs. SameSet (variable_of (steps_of core.proof)) (map named_literal xs) codes) (sym f.named)
+                    (core_spelt s.names (steps_of core.proof) f.joined.stands mid.search joined.shares s.assumed.items s.asked.order.items whole.images used among);
+                among = subst (AllByRecursion (λ l. Among l s.assumed.items)) (sym f.named) (core_among s.names (steps_of core.proof) f.joined.stands mid.search joined.shares s.assumed.items s.asked.order.items whole.images used among);
+              }
+
+      -- where the clauses alone turned out to be unsatisfiable
+      pub settled_unsat : Counts s (new states.Unsat) → Ended seen s.core outcomes.Unsat core → Settled seen s (new states.Unsat)
+      settled_unsat counts ended = record {
+        whole = record {
+          stands = behind.stands;
+          images = whole.images;
+          globals = whole.globals ∙ sym (ap (λ ss. (session_after ss).assumed) ended.adds.history ∙ asked_after ended.steps (steps_in s) (kinds_of (session_in s).solver_names ended.steps ended.searched));
+          positive = scale;
+          says = ended.says;
+        };
+        does = unknown_told states.Unsat behind;
+        took = (ended.steps, ended.adds);
+        same = refl;
+        counts = counts;
+        known = λ k. absurd (k unknown);
+      }
+        where
+          behind : Does s.names s.names (steps_in s) (steps_of core.proof) (λ j. j) (λ j. [])
+          behind = nothing_at seen s.names s.core goes.joined core ended.steps ended.adds ended.searched ended.keeps
+
+-- the same over a proof with the same steps
+pub whole_over : {W : Type 0} (c : Core W) (n : Variables) (asked : Taken) (assumed core : List ℕ) (scale : ℕ) (state : State) (p : Proof W) → IsWholeOf c n asked assumed core scale state → steps_of p ≡ steps_of c.proof → IsWholeOf (record c { proof = p }) n asked assumed core scale state
+whole_over {W} c n asked assumed core scale state p whole e = record {
+  stands = subst (Stands n) (sym e) whole.stands;
+  images = whole.images;
+  globals = whole.globals ∙ ap (λ ss. (session_after ss).assumed) (sym e);
+  positive = whole.positive;
+  says = says state whole.says;
+}
+  where
+    new : Core W
+    new = record c { proof = p }
+    joined : GoesOn c n asked → GoesOn new n asked
+    joined g = record {
+      joined = record {
+        sound = record {
+          keeps = subst MayAll (sym e) g.joined.sound.keeps;
+          search = subst (λ ss. IsSearch (session_after ss) c.search) (sym e) g.joined.sound.search;
+          locals = g.joined.sound.locals;
+          mids = g.joined.sound.mids;
+        };
+        stands = subst (Stands n) (sym e) g.joined.stands;
+        shares = g.joined.shares;
+      };
+      lits = g.lits;
+    }
+    says : (st : State) → StateSays st c n asked assumed core → StateSays st new n asked assumed core
+    says states.Unknown h = joined h
+    says states.Sat h = (joined h.0, h.1)
+    says states.UnsatUnderAssumptions h = (
+      joined h.0,
+      record {
+        codes = h.1.codes;
+        none = subst (λ ss. (a : Valuation) → Holds ss a → EachTrue a h.1.codes → ⊥) (sym e) h.1.none;
+        same = subst (λ ss. SameSet (variable_of ss) (map named_literal core) h.1.codes) (sym e) h.1.same;
+        among = h.1.among;
+      },
+    )
+    says states.Unsat h = subst (λ ss. (session_after ss).unsat ≡ true) (sym e) h
+
+module _ {W : Type 0} (seen : W → Writer) (old mid : Solver W) (settled : Settled seen old mid) (p : Proof W) where
+  -- the answer was flushed
+  pub settled_flushed : Flushes seen mid.core.proof p → Settled seen old (record mid { core = record mid.core { proof = p } })
+  settled_flushed f = record {
+    whole = whole_over mid.core mid.names mid.asked mid.assumed.items mid.told.failed_core.items mid.clock.restarts.scale mid.state p settled.whole f.history;
+    does = subst (λ ss. Does old.names mid.names (steps_in old) ss (λ j. j) (λ j. told_by old.state mid)) (sym f.history) settled.does;
+    took = (_, adds_more seen settled.took.0 [] old.core.proof mid.core.proof p settled.took.1 (flush_records seen (Ok tt) mid.core.proof p f));
+    same = ap (λ (m : Solver W). record m { core = record mid.core { proof = p } }) settled.same;
+    counts = record { few = settled.counts.few; spent = settled.counts.spent; answered = settled.counts.answered };
+    known = λ k. let h = settled.known k in (h.0, h.1, f.history ∙ h.2);
+  }
+
+  -- and where the target failed at it
+  pub settled_broken : (e : ProofError) → FlushesOrFails seen (Err e) mid.core.proof p → Breaks seen (fault_of e) old.core (record mid.core { proof = p })
+  settled_broken (Write cause) f = record { fault = tt; steps = _; went = fails_later seen settled.took.0 [] old.core.proof mid.core.proof p settled.took.1 f }
+
+module _ {W : Type 0} (seen : W → Writer) (s : Solver W) (whole : IsWhole s) (unknown : s.state ≡ states.Unknown) (core : Core W) (told : Told) (clock : Clock) (scale : 0 < clock.restarts.scale) (few : clock.steps < s.clock.steps + 2 ^ (2 * values_in s.core + 3)) where
+  goes_on : GoesOn s.core s.names s.asked
+  goes_on = subst (λ st. StateSays st s.core s.names s.asked s.assumed.items s.told.failed_core.items) unknown whole.says
+
+  -- an answer was found
+  pub settled_some : (st : State) → FoundSays seen st s.names s.core core told.failed_core.items → Settled seen s (record s { core = core; told = told; clock = clock; state = st })
+  settled_some states.Unknown found = absurd found
+  settled_some states.Sat found = settled_model seen s whole goes_on core told clock scale unknown (record { few = few; spent = λ u. absurd (apart_sat u); answered = λ n le fits u. apart_sat u }) found
+    where
+      apart_sat : states.Sat ≡ states.Unknown → ⊥
+      apart_sat e = cc
+  settled_some states.UnsatUnderAssumptions found = settled_core seen s whole goes_on core told clock scale unknown (record { few = few; spent = λ u. absurd (apart_core u); answered = λ n le fits u. apart_core u }) found
+    where
+      apart_core : states.UnsatUnderAssumptions ≡ states.Unknown → ⊥
+      apart_core e = cc
+  settled_some states.Unsat found = settled_unsat seen s whole goes_on core told clock scale unknown (record { few = few; spent = λ u. absurd (apart_unsat u); answered = λ n le fits u. apart_unsat u }) found
+    where
+      apart_unsat : states.Unsat ≡ states.Unknown → ⊥
+      apart_unsat e = cc
+
+  -- or none by now
+  pub settled_without : (rounds : ℕ) → clock.steps ≡ min (s.clock.steps + s.core.config.max_steps) (2 ^ 64 - 1) →
+      ((n : ℕ) → values_in s.core ≤ n → 2 ^ (2 * n + 3) ≤ min s.core.config.max_steps (2 ^ 64 - 1 - s.clock.steps) → ⊥) →
+      FoundNone seen rounds s.core core → Settled seen s (record s { core = core; told = told; clock = clock })
+  settled_without rounds spent answered found = settled_none seen s whole goes_on core told clock scale rounds unknown (record { few = few; spent = λ u. spent; answered = λ n le fits u. answered n le fits }) found
+
+-- CALLS
+
+module _ {W : Type 0} (seen : W → Writer) (s new : Solver W) (settled : Settled seen (record s { used = true }) new) (going : s.failed ≡ false) where
+  -- an ask was looked at
+  pub answered : Answered seen s new
+  answered = record {
+    did = record { whole = settled.whole; going = ap (λ (x : Solver W). x.failed) settled.same ∙ going; does = settled.does; took = settled.took };
+    assumed = ap (λ (x : Solver W). x.assumed) settled.same;
+    names = ap (λ (x : Solver W). x.names) settled.same;
+    counts = record { few = settled.counts.few; spent = settled.counts.spent; answered = settled.counts.answered };
+    known = settled.known;
+  }
+
+-- a call failed
+pub ends_by : {W : Type 0} (seen : W → Writer) (e : SolverError) (s new : Solver W) → Breaks seen e s.core new.core → new.failed ≡ true → Solves seen (Err e) s new
+ends_by seen errors.OutOfMemory s new b f = record { failed = f; breaks = b }
+ends_by seen errors.StoreFull s new b f = record { failed = f; breaks = b }
+ends_by seen (errors.ProofIoError cause) s new b f = record { failed = f; breaks = b }
+ends_by seen errors.Interrupted s new b f = absurd b.fault
+ends_by seen (errors.ProofProcessorError cause) s new b f = absurd b.fault
+ends_by seen errors.WitnessVariable s new b f = absurd b.fault
+ends_by seen errors.AssumedVariable s new b f = absurd b.fault
+ends_by seen errors.TooLate s new b f = absurd b.fault
+ends_by seen errors.NotInDrat s new b f = absurd b.fault
+ends_by seen errors.VariableLimit s new b f = absurd b.fault
+ends_by seen errors.CounterEnd s new b f = absurd b.fault
+ends_by seen errors.HasFailed s new b f = absurd b.fault
+ends_by seen errors.Read s new b f = absurd b.fault
+ends_by seen errors.Malformed s new b f = absurd b.fault
+ends_by seen errors.OutOfRange s new b f = absurd b.fault

@@ -1,0 +1,101 @@
+-- A solver before the first call.
+use Rattle.std.proofs.Common.{ℕ, ◌+◌, ◌<◌, ◌≤◌, ◌≡◌, ◌∙◌, Bool, true, false, not, cond, Option, None, Some, List, [], ◌∷◌, length, map, get_or, refl, sym, ap, subst, arith}
+use Rattle.std.proofs.lemmas.Bool.{true≢false}
+use Rattle.std.proofs.lemmas.List.{get_or_past}
+use Rattle.std.proofs.lemmas.Option.{none-some}
+use Rattle.sat_base.specs.script.Judge.{start}
+use Rattle.sat_checker.specs.Stored.{unknown}
+use Rattle.sat_store.specs.declared.data.VarData.{VarData}
+use Rattle.sat_store.specs.variables.VarData.{unused_variable}
+use Rattle.sat_solver.specs.session.ProofView.{steps_of}
+use Rattle.sat_solver.specs.session.Session.{nothing, MayAll, session_after}
+use Rattle.sat_solver.specs.declared.names.Variables.{Variables}
+use Rattle.sat_solver.specs.declared.names.taking.Taken.{Taken}
+use Rattle.sat_solver.specs.declared.search.solving.Core.{Core}
+use Rattle.sat_solver.specs.loading.Shared.{SharesIndices}
+use Rattle.sat_solver.specs.search.Joint.{IsSearch}
+use Rattle.sat_solver.specs.names.Variables.{AreTidy, AreSaid, AreJudged, says_unit, mode_in, user_of, data_at, global_at, global_of, solver_of, names_used, variables_used}
+use Rattle.sat_solver.specs.names.Live.{given_of}
+use Rattle.sat_solver.specs.names.Calls.{Stands, Agree}
+use Rattle.sat_solver.specs.names.ProofChecking.{the_checking}
+use Rattle.sat_solver.proofs.lemmas.names.BridgeLemmas.{begun}
+use Rattle.sat_solver.specs.solver.Joined.{IsJoined}
+use Rattle.sat_solver.specs.solver.Whole.{IsWholeOf}
+use Rattle.sat_solver.specs.declared.solver.state.State.TheVariants as states
+
+none_mapped : (f : ℕ → ℕ) (ls : List ℕ) → [] ≡ map f ls → ls ≡ []
+none_mapped f [] e = refl
+none_mapped f (l ∷ ls) e = cc
+
+module _ (n : Variables) (tidy : AreTidy n) (none : variables_used n ≡ 0) where
+  unused : (v : ℕ) → data_at n v ≡ unused_variable
+  unused v = get_or_past n.var_data.items v unused_variable (omega (arith, none))
+
+  no_index : (v : ℕ) → solver_of n v ≡ None
+  no_index v = go (solver_of n v) refl
+    where
+      go : (o : Option ℕ) → solver_of n v ≡ o → solver_of n v ≡ None
+      go None e = e
+      go (Some x) e = absurd (true≢false (ap (λ d. d.deleted) (sym (unused v)) ∙ tidy.indexed v x e))
+
+  no_name : (u : ℕ) → global_of n u ≡ None
+  no_name u = get_or_past n.global_from_user.fwd u None (let r = tidy.reach in omega (arith, none))
+
+  names_none : names_used n ≡ 0
+  names_none = (let r = tidy.reach in omega (arith, none))
+
+  variable_first : (v : ℕ) (d : VarData) → d ≡ unused_variable → unknown ≡ cond d.deleted unknown (record { known = true; mode = mode_in d.sampling_mode; name = user_of n v })
+  variable_first v d e = subst (λ (x : VarData). unknown ≡ cond x.deleted unknown (record { known = true; mode = mode_in x.sampling_mode; name = user_of n v })) (sym e) refl
+
+  said : AreSaid n nothing
+  said = record {
+    variables = λ v. variable_first v (data_at n v) (unused v);
+    solver_names = λ v. sym (no_index v);
+    units = λ v e b. ap (λ d. says_unit d.unit b) (sym (unused v));
+    unused = λ v e r set lt. absurd (omega arith);
+    marked = λ v. ap (λ d. d.assumed) (sym (unused v));
+  }
+
+  pub stands_first : Stands n []
+  stands_first = record { tidy = tidy; said = said; may = tt; read = λ u. sym (no_name u) }
+
+  pub agree_first : Agree n [] start []
+  agree_first = record {
+    judged = record {
+      first_unused = (let e = names_none in omega arith);
+      no_zero = refl;
+      names = λ u. ap (given_of []) (sym (no_name u));
+      once = tt;
+      in_use = λ v. ap (λ d. not d.deleted) (sym (unused v));
+      below = tt;
+      distinct = λ v w i e f. absurd (none-some i e);
+      modes_count = refl;
+      modes = λ v i e. absurd (none-some i e);
+    };
+    bridge = begun the_checking;
+  }
+
+  -- a solver without steps is whole
+  pub whole_first : {W : Type 0} (c : Core W) (asked : Taken) (assumed core : List ℕ) (scale : ℕ) → steps_of c.proof ≡ [] → IsSearch nothing c.search → c.search.parts.assignment.current ≡ [] → c.search.globals.items ≡ [] →
+      0 < c.config.reduce_locals_interval → 0 < c.config.reduce_mids_interval → asked.order.items ≡ [] → asked.globals.items ≡ [] → assumed ≡ [] → 0 < scale → IsWholeOf c n asked assumed core scale states.Unknown
+  whole_first c asked assumed core scale steps search values globals locals mids order asked_globals none_assumed positive = record {
+    stands = stands;
+    images = record { count = ap (λ xs. length xs) order ∙ sym (ap (λ xs. length xs) none_assumed); each = λ k lt. absurd (let z : k < 0 = subst (λ (xs : List ℕ). k < length xs) none_assumed lt in omega arith) };
+    globals = asked_globals ∙ sym (ap (λ ss. (session_after ss).assumed) steps);
+    positive = positive;
+    says = record {
+      joined = record {
+        sound = record { keeps = subst MayAll (sym steps) tt; search = subst (λ ss. IsSearch (session_after ss) c.search) (sym steps) search; locals = locals; mids = mids };
+        stands = stands;
+        shares = record {
+          size = ap (λ xs. length xs) values ∙ sym (ap (λ xs. length xs) globals);
+          below = λ x v e. absurd (none-some x (sym (no_index v) ∙ tidy.solvers.forth v x e));
+          same = λ x v e. absurd (none-some x (sym (no_index v) ∙ tidy.solvers.forth v x e));
+        };
+      };
+      lits = none_mapped _ c.search.assumptions.lits.items search.ready.asked ∙ sym order;
+    };
+  }
+    where
+      stands : Stands n (steps_of c.proof)
+      stands = subst (Stands n) (sym steps) stands_first

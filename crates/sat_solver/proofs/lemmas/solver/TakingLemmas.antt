@@ -1,0 +1,240 @@
+-- A clause, or assumptions, over names: names, proof and search behind them.
+use Rattle.std.proofs.Common.{ℕ, ◌+◌, ◌*◌, ◌<◌, ◌≡◌, ◌∙◌, Bool, true, false, Option, None, Some, Result, Ok, Err, List, [], ◌∷◌, ◌++◌, length, map, get_or, refl, sym, ap, subst, arith, inl, inr}
+use Rattle.std.specs.List.{AllByRecursion, Contains}
+use Rattle.sat_base.specs.device.Device.{Writer}
+use Rattle.sat_base.specs.values.Literals.{variable}
+use Rattle.sat_base.specs.script.Judge.{Judge, bring_all, with_clause}
+use Rattle.sat_base.specs.steps.Steps.{Step, AddClause, Assumptions}
+use Rattle.sat_checker.specs.LiteralSets.{is_tautology, canonical}
+use Rattle.sat_checker.proofs.lemmas.sets.Canonical.{canonical_tautology}
+use Rattle.sat_solver.specs.session.ProofView.{Keeps, steps_of, session_of}
+use Rattle.sat_solver.specs.session.Session.{Session, MayAll, after, session_after}
+use Rattle.sat_solver.specs.session.Making.{Took, Broke}
+use Rattle.sat_solver.specs.declared.session.proof.Proof.{Proof}
+use Rattle.sat_solver.proofs.lemmas.session.ProofLemmas.{adds_none, adds_more, fails_later}
+use Rattle.sat_solver.specs.declared.error.SolverError.{SolverError}
+use Rattle.sat_solver.specs.declared.error.SolverError.TheVariants as errors
+use Rattle.sat_solver.specs.declared.names.error.NameError.{NameError}
+use Rattle.sat_solver.specs.declared.names.error.NameError.TheVariants as names
+use Rattle.sat_solver.specs.names.Failing.{CameTo}
+use Rattle.sat_solver.specs.loading.Faults.{told_as}
+use Rattle.sat_solver.specs.declared.search.solving.Core.{Core}
+use Rattle.sat_solver.specs.declared.search.work.Search.{Search}
+use Rattle.sat_solver.specs.search.Going.{AreSearched, IsFault, Goes, Went}
+use Rattle.sat_solver.specs.search.Joint.{global_in, IsSearch, Moved}
+use Rattle.sat_solver.proofs.lemmas.search.AskedLemmas.{asked_after, kinds_of}
+use Rattle.sat_solver.specs.names.Adding.{named_literal, Image, Images, MapsClause}
+use Rattle.sat_solver.specs.names.Adding as adding
+use Rattle.sat_solver.specs.names.AddingCalls.{AddsClause}
+use Rattle.sat_solver.specs.names.Assuming.{Assumes}
+use Rattle.sat_solver.specs.declared.config.SolverConfig.{SolverConfig}
+use Rattle.sat_solver.specs.session.LiveClauses.{with_var}
+use Rattle.sat_solver.specs.parts.Assumed.{AreThere}
+use Rattle.sat_solver.specs.names.Calls.{Stands, Does}
+use Rattle.sat_solver.specs.names.Expected.{Adds, bringing}
+use Rattle.sat_solver.specs.names.Refusing.{names_in}
+use Rattle.sat_solver.specs.names.Naming.{Extends}
+use Rattle.sat_solver.specs.names.Search.{Gives, KeepsSearch}
+use Rattle.sat_solver.specs.names.Variables.{AreTidy, solver_of}
+use Rattle.sat_solver.specs.declared.names.Variables.{Variables}
+use Rattle.sat_solver.specs.declared.names.taking.Taken.{Taken}
+use Rattle.sat_solver.specs.loading.Indices.{AreVacant, GivesNames, AreIndexed}
+use Rattle.sat_solver.specs.loading.Shared.{SharesIndices}
+use Rattle.sat_solver.specs.loading.Loaded.{MayLoad, IsAdded, IsLoaded}
+use Rattle.sat_solver.specs.loading.Assuming.{AreAssumed}
+use Rattle.sat_solver.proofs.lemmas.loading.AlikeLemmas.{tautology_loads}
+use Rattle.sat_solver.proofs.lemmas.loading.LoadingLemmas.{asked_added}
+use Rattle.sat_solver.proofs.lemmas.loading.SharedLemmas.{gives_names, given_vacant, shares_given, AreOver, over_below, over_named, over_same}
+use Rattle.sat_solver.proofs.lemmas.loading.TakenLemmas.{added_names, images_over, taken_may, taken_added}
+use Rattle.sat_solver.specs.solver.Joined.{IsJoined, AreAsked}
+use Rattle.sat_solver.specs.solver.Taking.{KeepImages, GoesOnOr, TookClause, TookAssumptions, TakesClause, BreaksNames}
+use Rattle.sat_solver.proofs.lemmas.solver.BehindLemmas.{does_behind}
+use Rattle.sat_solver.proofs.lemmas.solver.TellingLemmas.{shares_moved}
+
+-- FAULTS
+
+-- nothing was made
+pub none_took : {W : Type 0} (seen : W → Writer) (p : Proof W) → Took seen p p
+none_took seen p = ([], adds_none seen p)
+
+module _ {W : Type 0} (seen : W → Writer) (a b : Core W) where
+  -- a call over names failed
+  pub names_broke : (e : NameError) → CameTo (Took seen) (Broke seen) a.proof e b.proof → BreaksNames seen (told_as e) a b
+  names_broke names.WitnessVariable h = absurd h
+  names_broke names.AssumedVariable h = absurd h
+  names_broke names.VariableLimit h = record { fault = inr refl; steps = h.0; went = h.1 }
+  names_broke names.OutOfMemory h = record { fault = inl tt; steps = h.0; went = h.1 }
+  names_broke (names.Write cause) h = record { fault = inl tt; steps = h.0; went = h.1 }
+
+  -- no memory was left behind it
+  pub names_starved : Took seen a.proof b.proof → BreaksNames seen errors.OutOfMemory a b
+  names_starved h = record { fault = inl tt; steps = h.0; went = h.1 }
+
+  -- a search failed behind it
+  pub load_broke : {A : Type 0} (e : SolverError) (p : Proof W) (P : A → List Step → Type 0) → Took seen a.proof p → Goes {A = A} seen (Err e) p b.proof P → BreaksNames seen e a b
+  load_broke {A} e p P h goes = record { fault = inl goes.ends; steps = _; went = later e goes.went goes.ends }
+    where
+      later : (e : SolverError) → Went {A = A} seen (Err e) goes.steps p b.proof → IsFault e → Went {A = Unit {0}} seen (Err e) (goes.steps ++ h.0) a.proof b.proof
+      later errors.OutOfMemory w f = adds_more seen h.0 goes.steps a.proof p b.proof h.1 w
+      later errors.StoreFull w f = adds_more seen h.0 goes.steps a.proof p b.proof h.1 w
+      later (errors.ProofIoError cause) w f = fails_later seen h.0 goes.steps a.proof p b.proof h.1 w
+      later errors.Interrupted w f = absurd f
+      later (errors.ProofProcessorError cause) w f = absurd f
+      later errors.WitnessVariable w f = absurd f
+      later errors.AssumedVariable w f = absurd f
+      later errors.TooLate w f = absurd f
+      later errors.NotInDrat w f = absurd f
+      later errors.VariableLimit w f = absurd f
+      later errors.CounterEnd w f = absurd f
+      later errors.HasFailed w f = absurd f
+      later errors.Read w f = absurd f
+      later errors.Malformed w f = absurd f
+      later errors.OutOfRange w f = absurd f
+
+-- names that keep variables and indices keep their literals of the search
+keep_images : (n n' : Variables) (s : Session) (gs : _) → Extends n n' → Gives n n' s gs → KeepImages n n'
+keep_images n n' s gs extends gives user order i = record {
+  count = i.count;
+  each = λ k lt. let x : Image n (get_or user k 0) (get_or order k 0) = i.each k lt in
+      record { variable_is = x.variable_is; index_is = x.index_is; named = (extends.stays (variable (get_or user k 0)) x.variable_is x.named).0; indexed = gives.stays x.variable_is x.index_is x.indexed; is = x.is };
+}
+
+-- A CLAUSE
+
+module _ {W : Type 0} (seen : W → Writer) (n n' : Variables) (a : Core W) (joined : IsJoined n a) (user : List ℕ) (t : Taken) (both : Bool) (p : Proof W) (adds : AddsClause n n' (steps_of a.proof) (steps_of p) user t both) (took : Took seen a.proof p) (keeps : Keeps p) where
+  abbrev pub between : Session
+  between = session_after adds.between
+
+  -- solver names before the clause
+  names_between : (v : ℕ) → between.solver_names v ≡ solver_of n' v
+  names_between v =
+      sym (added_names t.globals.items between v) ∙ ap (λ ss. (session_after ss).solver_names v) (sym adds.written) ∙ adds.does.stands.said.solver_names v
+
+  -- the search may take the indices
+  pub clause_vacant : AreVacant a.search.parts (length n'.globals.items) t.given.items
+  clause_vacant = given_vacant n n' (session_of a.proof) between t.given.items joined.stands.tidy adds.does.stands.tidy joined.stands.said names_between adds.gives adds.search a.search joined.shares joined.sound.search
+
+  module _ (c1 : Search) (indexed : AreIndexed n'.globals.items t.given.items a.search c1) where
+    shares1 : SharesIndices n' c1
+    shares1 = shares_given n n' (session_of a.proof) between t.given.items joined.stands.tidy adds.does.stands.tidy joined.stands.said names_between adds.gives adds.search a.search joined.shares c1 indexed
+
+    search1 : IsSearch between c1
+    search1 = indexed.search (session_of a.proof) between joined.sound.search
+        (gives_names n n' (session_of a.proof) between t.given.items joined.stands.tidy adds.does.stands.tidy joined.stands.said names_between adds.gives adds.search a.search joined.shares)
+
+    pub clause_added : IsAdded (steps_of p) c1 t.lits.items
+    clause_added = taken_added n' t user adds.between (steps_of p) c1 adds.does.stands.tidy adds.images adds.clause shares1 adds.written adds.does.stands.said.solver_names search1
+
+    pub clause_may : both ≡ false → MayLoad c1 t.lits.items
+    clause_may e = taken_may n' t user adds.between (steps_of p) c1 adds.does.stands.tidy adds.images adds.clause shares1 indexed.bottom (sym adds.signs ∙ e)
+
+    assumed1 : (session_of p).assumed ≡ (session_of a.proof).assumed
+    assumed1 = ap (λ ss. (session_after ss).assumed) adds.written ∙ asked_added t.globals.items adds.between (adds.search.unsat ∙ joined.sound.search.stands.fits.consistent) ∙ adds.search.assumed
+
+    joined1 : (b : Core W) → b.proof ≡ p → b.search ≡ c1 → b.config ≡ a.config → IsSearch (session_of p) c1 → IsJoined n' b
+    joined1 b e f g search = record {
+      sound = record {
+        keeps = subst Keeps (sym e) keeps;
+        search = subst (λ q. IsSearch (session_of q) b.search) (sym e) (subst (IsSearch (session_of p)) (sym f) search);
+        locals = subst (λ (c : SolverConfig). 0 < c.reduce_locals_interval) (sym g) joined.sound.locals;
+        mids = subst (λ (c : SolverConfig). 0 < c.reduce_mids_interval) (sym g) joined.sound.mids;
+      };
+      stands = subst (λ q. Stands n' (steps_of q)) (sym e) adds.does.stands;
+      shares = subst (SharesIndices n') (sym f) shares1;
+    }
+
+    -- a clause with both signs of a variable is written and nothing more
+    pub clause_both : both ≡ true → TookClause seen n n' a (record a { proof = p; search = c1 }) user true
+    clause_both e = record {
+      does = adds.does;
+      took = took;
+      goes_on = joined1 (record a { proof = p; search = c1 }) refl refl refl
+          (tautology_loads (steps_of p) c1 t.lits.items clause_added (ap (λ ls. is_tautology ls) adds.clause.lits ∙ canonical_tautology t.order.items ∙ sym adds.signs ∙ e));
+      images = keep_images n n' (session_of a.proof) t.given.items adds.extends adds.gives;
+      lits = indexed.lits;
+      assumed = assumed1;
+    }
+
+    -- another one is loaded
+    module _ (left : Bool) (q : Proof W) (c2 : Search) (goes : Goes seen (Ok left) p q (λ l _. IsLoaded l (session_of q) c1 c2)) where
+      abbrev pub new : Core W
+      new = record a { proof = q; search = c2 }
+
+      does2 : Does n n' (steps_of a.proof) (steps_of q) (λ j. with_clause (map named_literal user) (bring_all (names_in user) j)) (λ j. bringing (names_in user) j ++ (Adds (map named_literal user) ∷ []))
+      does2 = subst (λ ss. Does n n' (steps_of a.proof) ss (λ j. with_clause (map named_literal user) (bring_all (names_in user) j)) (λ j. bringing (names_in user) j ++ (Adds (map named_literal user) ∷ []))) (sym goes.went.history)
+          (does_behind n n' (steps_of a.proof) (steps_of p) goes.steps (λ j. with_clause (map named_literal user) (bring_all (names_in user) j)) (λ j. bringing (names_in user) j ++ (Adds (map named_literal user) ∷ []))
+          adds.does (subst MayAll goes.went.history goes.keeps) goes.searched)
+
+      goes_on2 : (l : Bool) → IsLoaded l (session_of q) c1 c2 → GoesOnOr l n' new
+      goes_on2 true loaded = record {
+        sound = record { keeps = goes.keeps; search = loaded.goes_on; locals = joined.sound.locals; mids = joined.sound.mids };
+        stands = does2.stands;
+        shares = shares_moved n' c1 c2 shares1 loaded.moved;
+      }
+      goes_on2 false loaded = loaded.goes_on
+
+      pub clause_loaded : TookClause seen n n' a new user left
+      clause_loaded = record {
+        does = does2;
+        took = (_, adds_more seen took.0 goes.steps a.proof p q took.1 goes.went);
+        goes_on = goes_on2 left goes.ends;
+        images = keep_images n n' (session_of a.proof) t.given.items adds.extends adds.gives;
+        lits = goes.ends.moved.lits ∙ indexed.lits;
+        assumed = ap (λ ss. (session_after ss).assumed) goes.went.history ∙ asked_after goes.steps (steps_of p) (kinds_of (session_of p).solver_names goes.steps goes.searched) ∙ assumed1;
+      }
+
+    -- or it isn't
+    pub clause_told : (r : Result Bool SolverError) (q : Proof W) (c2 : Search) → Goes seen r p q (λ l _. IsLoaded l (session_of q) c1 c2) → TakesClause seen r n n' a (record a { proof = q; search = c2 }) user
+    clause_told (Ok left) q c2 goes = clause_loaded left q c2 goes
+    clause_told (Err e) q c2 goes = load_broke seen a (record a { proof = q; search = c2 }) e p (λ l _. IsLoaded l (session_of q) c1 c2) took goes
+
+-- ASSUMPTIONS
+
+module _ {W : Type 0} (seen : W → Writer) (n n' : Variables) (a : Core W) (joined : IsJoined n a) (user : List ℕ) (t : Taken) (p : Proof W) (assumes : Assumes n n' (steps_of a.proof) (steps_of p) user t) (took : Took seen a.proof p) (keeps : Keeps p) where
+  abbrev pub asked_between : Session
+  asked_between = session_after assumes.between
+
+  asked_names : (v : ℕ) → asked_between.solver_names v ≡ solver_of n' v
+  asked_names v = ap (λ ss. (session_after ss).solver_names v) (sym assumes.written) ∙ assumes.does.stands.said.solver_names v
+
+  pub asked_vacant : AreVacant a.search.parts (length n'.globals.items) t.given.items
+  asked_vacant = given_vacant n n' (session_of a.proof) asked_between t.given.items joined.stands.tidy assumes.does.stands.tidy joined.stands.said asked_names assumes.gives assumes.search a.search joined.shares joined.sound.search
+
+  module _ (c1 : Search) (indexed : AreIndexed n'.globals.items t.given.items a.search c1) where
+    shares_asked : SharesIndices n' c1
+    shares_asked = shares_given n n' (session_of a.proof) asked_between t.given.items joined.stands.tidy assumes.does.stands.tidy joined.stands.said asked_names assumes.gives assumes.search a.search joined.shares c1 indexed
+
+    search_asked : IsSearch asked_between c1
+    search_asked = indexed.search (session_of a.proof) asked_between joined.sound.search
+        (gives_names n n' (session_of a.proof) asked_between t.given.items joined.stands.tidy assumes.does.stands.tidy joined.stands.said asked_names assumes.gives assumes.search a.search joined.shares)
+
+    over_order : AreOver n' t.order.items
+    over_order = images_over n' user t.order.items assumes.does.stands.tidy assumes.images
+
+    pub asked_there : AreThere t.order.items c1.parts
+    asked_there = over_below n' c1 t.order.items shares_asked over_order
+
+    pub asked_taken : (c2 : Search) → AreAssumed t.order.items c1 c2 → TookAssumptions seen n n' a (record a { proof = p; search = c2 }) user t
+    asked_taken c2 assumed = record {
+      does = assumes.does;
+      took = took;
+      joined = record {
+        sound = record {
+          keeps = keeps;
+          search = subst (λ ss. IsSearch (session_after ss) c2) (sym (assumes.written ∙ ap (λ ks. Assumptions ks ∷ assumes.between) same_lits))
+              (assumed.search asked_between search_asked (over_named n' c1 asked_between t.order.items assumes.does.stands.tidy asked_names shares_asked over_order));
+          locals = joined.sound.locals;
+          mids = joined.sound.mids;
+        };
+        stands = assumes.does.stands;
+        shares = subst (SharesIndices n') (sym assumed.same) (record { size = shares_asked.size; below = shares_asked.below; same = shares_asked.same });
+      };
+      asked = record {
+        images = assumes.images;
+        lits = assumed.lits;
+        globals = sym (ap (λ ss. (session_after ss).assumed) assumes.written);
+      };
+    }
+      where
+        same_lits : t.globals.items ≡ map (with_var (global_in c1)) t.order.items
+        same_lits = assumes.globals ∙ over_same n' c1 t.order.items assumes.does.stands.tidy shares_asked over_order

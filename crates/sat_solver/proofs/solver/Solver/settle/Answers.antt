@@ -1,0 +1,38 @@
+use Rattle.std.proofs.Common.{◌≡◌, ◌<◌, Option, sym, subst, ℕ}
+use Rattle.std.specs.Prelude.{◌-◌}
+use Rattle.sat_solver.specs.declared.solver.state.State.{State}
+use Rattle.sat_solver.specs.declared.solver.state.State.TheVariants as states
+use Rattle.sat_solver.specs.solver.Found.{Finds}
+use Rattle.sat_solver.proofs.lemmas.solver.SettlingLemmas.{settled_known, settled_some, settled_without}
+use Rattle.sat_solver.proofs.solver.Solver.settle.Goals as goal
+
+pub returns-in-Sat : goal.returns-in-Sat
+returns-in-Sat g c = settled_known g.W.CountedWrite.seen c.args.self.now c.requires.whole (apart c.args.self.now.state c.in-Sat.is)
+  where
+    apart : (st : State) → st ≡ states.Sat → st ≡ states.Unknown → ⊥
+    apart st e f = cc
+
+pub returns-in-UnsatUnderAssumptions : goal.returns-in-UnsatUnderAssumptions
+returns-in-UnsatUnderAssumptions g c = settled_known g.W.CountedWrite.seen c.args.self.now c.requires.whole (apart c.args.self.now.state c.in-UnsatUnderAssumptions.is)
+  where
+    apart : (st : State) → st ≡ states.UnsatUnderAssumptions → st ≡ states.Unknown → ⊥
+    apart st e f = cc
+
+pub returns-in-Unsat : goal.returns-in-Unsat
+returns-in-Unsat g c = settled_known g.W.CountedWrite.seen c.args.self.now c.requires.whole (apart c.args.self.now.state c.in-Unsat.is)
+  where
+    apart : (st : State) → st ≡ states.Unsat → st ≡ states.Unknown → ⊥
+    apart st e f = cc
+
+pub returns-in-Some : goal.returns-in-Some
+returns-in-Some g c =
+    let s = c.args.self.now in
+    settled_some g.W.CountedWrite.seen s c.requires.whole c.in-Unknown.is c.find_answer.new.core c.find_answer.new.told c.find_answer.new.clock (subst (λ (k : ℕ). 0 < k) (sym c.in_ok-found.ensures.scale) c.requires.whole.positive) c.in_ok-found.ensures.few c.in-Some.state
+    (subst (λ (o : Option State). Finds g.W.CountedWrite.seen o (c.find_answer.new.clock.steps - s.clock.steps) s.names s.core c.find_answer.new.core c.find_answer.new.told.failed_core.items) c.in-Some.is c.in_ok-found.ensures.finds)
+
+pub returns-in_default : goal.returns-in_default
+returns-in_default g c =
+    let s = c.args.self.now in
+    settled_without g.W.CountedWrite.seen s c.requires.whole c.in-Unknown.is c.find_answer.new.core c.find_answer.new.told c.find_answer.new.clock (subst (λ (k : ℕ). 0 < k) (sym c.in_ok-found.ensures.scale) c.requires.whole.positive) c.in_ok-found.ensures.few _
+    (c.in_ok-found.ensures.interrupted c.in_default.is) (λ n le fits. c.in_ok-found.ensures.answered n le fits c.in_default.is)
+    (subst (λ (o : Option State). Finds g.W.CountedWrite.seen o (c.find_answer.new.clock.steps - s.clock.steps) s.names s.core c.find_answer.new.core c.find_answer.new.told.failed_core.items) c.in_default.is c.in_ok-found.ensures.finds)

@@ -1,0 +1,12 @@
+pub mod Adding
+pub mod Answering
+pub mod Asking
+pub mod Calls
+pub mod Found
+pub mod Joined
+pub mod Lines
+pub mod Resting
+pub mod Settling
+pub mod Taking
+pub mod Whole
+pub mod Proving

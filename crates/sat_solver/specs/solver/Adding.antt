@@ -1,0 +1,89 @@
+-- Clauses and assumptions that come to a solver.
+use Rattle.std.specs.Prelude.{ℕ, ◌≡◌, true, Some, List, [], ◌∷◌, ◌++◌, map, Result, Ok, Err}
+use Rattle.sat_base.specs.device.Device.{Writer}
+use Rattle.sat_base.specs.script.Judge.{Judge, WitnessName, bring_all, with_clause, refused_literal}
+use Rattle.sat_solver.specs.declared.error.SolverError.{SolverError}
+use Rattle.sat_solver.specs.declared.error.SolverError.TheVariants as errors
+use Rattle.sat_solver.specs.names.Adding.{named_literal}
+use Rattle.sat_solver.specs.names.Calls.{Agree, Does}
+use Rattle.sat_solver.specs.session.Making.{Took}
+use Rattle.sat_solver.specs.names.Expected.{Expected, Adds, Opens, bringing}
+use Rattle.sat_solver.specs.names.Live.{Live}
+use Rattle.sat_solver.specs.names.Refusing.{names_in}
+use Rattle.sat_solver.specs.declared.solver.Solver.{Solver}
+use Rattle.sat_solver.specs.declared.solver.state.State.{State}
+use Rattle.sat_solver.specs.declared.solver.state.State.TheVariants as states
+use Rattle.sat_solver.specs.solver.Calls.{Did, Refuses}
+use Rattle.sat_solver.specs.solver.Taking.{BreaksNames}
+use Rattle.sat_solver.specs.solver.Whole.{IsWhole, steps_in}
+
+-- the literals come in, and then the clause
+abbrev pub with_added : List ℕ → Judge → Judge
+with_added user j = with_clause (map named_literal user) (bring_all (names_in user) j)
+
+-- what is due for a clause: once the clauses alone are known to be unsatisfiable, only its names
+abbrev pub due_for_clause : State → List ℕ → Judge → List Expected
+due_for_clause states.Unsat user j = bringing (names_in user) j
+due_for_clause before user j = bringing (names_in user) j ++ (Adds (map named_literal user) ∷ [])
+
+-- and for assumptions
+abbrev pub due_for_asked : List ℕ → Judge → List Expected
+due_for_asked user j = bringing (names_in user) j ++ (Opens (map named_literal user) ∷ [])
+
+-- nothing is known behind it, but that the clauses alone are unsatisfiable
+abbrev pub Forgets : State → State → Type 0
+Forgets states.Unsat now = now ≡ states.Unsat
+Forgets before states.Unknown = Unit {0}
+Forgets before states.Unsat = Unit {0}
+Forgets before states.Sat = ⊥
+Forgets before states.UnsatUnderAssumptions = ⊥
+
+-- the leftmost name of mode witness
+abbrev pub HasWitness : {W : Type 0} → Solver W → List ℕ → Type 0
+HasWitness s user = (j : Judge) (live : Live) → Agree s.names (steps_in s) j live → (name : ℕ) × (refused_literal j (names_in user) ≡ Some (WitnessName name))
+
+-- a call over names failed, and so does each one behind it
+pub record EndsNames {W : Type 0} (seen : W → Writer) (e : SolverError) (old new : Solver W) : Type 0 where
+  pub failed : new.failed ≡ true
+  pub breaks : BreaksNames seen e old.core new.core
+
+-- a clause was added
+pub record Added {W : Type 0} (seen : W → Writer) (old new : Solver W) (user : List ℕ) : Type 0 where
+  pub did : Did seen old new (with_added user) (due_for_clause old.state user)
+  pub assumed : new.assumed ≡ old.assumed
+  pub clock : new.clock ≡ old.clock
+  pub state : Forgets old.state new.state
+
+abbrev pub AddsClause : {W : Type 0} → (W → Writer) → Result (Unit {0}) SolverError → Solver W → Solver W → List ℕ → Type 0
+AddsClause seen (Ok x) old new user = Added seen old new user
+AddsClause seen (Err errors.WitnessVariable) old new user = Refuses old new (HasWitness old user)
+AddsClause seen (Err errors.HasFailed) old new user = Refuses old new (old.failed ≡ true)
+AddsClause seen (Err e) old new user = EndsNames seen e old new
+
+-- other assumptions were taken
+pub record Assumed {W : Type 0} (seen : W → Writer) (old new : Solver W) (user : List ℕ) : Type 0 where
+  pub did : Did seen old new (bring_all (names_in user)) (due_for_asked user)
+  pub assumed : new.assumed.items ≡ user
+  pub clock : new.clock ≡ old.clock
+  pub state : Forgets old.state new.state
+
+abbrev pub Assumes : {W : Type 0} → (W → Writer) → Result (Unit {0}) SolverError → Solver W → Solver W → List ℕ → Type 0
+Assumes seen (Ok x) old new user = Assumed seen old new user
+Assumes seen (Err errors.WitnessVariable) old new user = Refuses old new (HasWitness old user)
+Assumes seen (Err errors.HasFailed) old new user = Refuses old new (old.failed ≡ true)
+Assumes seen (Err e) old new user = EndsNames seen e old new
+
+-- INSIDE
+
+-- the same without the flag of failure: what a clause leaves
+pub record TookIn {W : Type 0} (seen : W → Writer) (old new : Solver W) (judge : Judge → Judge) (due : Judge → List Expected) : Type 0 where
+  pub whole : IsWhole new
+  pub does : Does old.names new.names (steps_in old) (steps_in new) judge due
+  pub took : Took seen old.core.proof new.core.proof
+  pub failed : new.failed ≡ old.failed
+  pub clock : new.clock ≡ old.clock
+  pub state : Forgets old.state new.state
+
+abbrev pub TakesIn : {W : Type 0} → (W → Writer) → Result (Unit {0}) SolverError → Solver W → Solver W → (Judge → Judge) → (Judge → List Expected) → Type 0
+TakesIn seen (Ok x) old new judge due = TookIn seen old new judge due
+TakesIn seen (Err e) old new judge due = BreaksNames seen e old.core new.core

@@ -1,0 +1,50 @@
+-- How an ask is answered.
+use Rattle.std.specs.Prelude.{ℕ, ◌≡◌, List, [], ◌∷◌, map, MatchResult, Result, Ok, Err}
+use Rattle.sat_base.specs.device.Device.{Writer}
+use Rattle.sat_base.specs.steps.Steps.{Step, Model}
+use Rattle.sat_solver.specs.session.ProofView.{Adds, session_of}
+use Rattle.sat_solver.specs.search.Failing.{ToldCore}
+use Rattle.sat_solver.specs.search.Going.{IsFault, Went}
+use Rattle.sat_solver.specs.search.Joint.{Moved}
+use Rattle.sat_solver.specs.names.Models.{model_to, named_to}
+use Rattle.sat_solver.specs.names.Variables.{names_used, variables_used}
+use Rattle.sat_solver.specs.declared.error.SolverError.{SolverError}
+use Rattle.sat_solver.specs.declared.names.Variables.{Variables}
+use Rattle.sat_solver.specs.declared.search.solving.Core.{Core}
+use Rattle.sat_solver.specs.solver.Joined.{IsJoined, name_of}
+
+-- what the values of the search make of all variables of the proof
+abbrev pub model_of : {W : Type 0} → Variables → Core W → List ℕ
+model_of n c = model_to n c.search.parts.assignment.current (variables_used n)
+
+-- and of all names
+abbrev pub line_of : {W : Type 0} → Variables → Core W → List ℕ
+line_of n c = named_to n c.search.parts.assignment.current (names_used n)
+
+-- a call failed by what no input decides
+pub record Breaks {W : Type 0} (seen : W → Writer) (e : SolverError) (a b : Core W) : Type 0 where
+  pub fault : IsFault e
+  pub steps : List Step
+  pub went : Went {A = Unit {0}} seen (Err e) steps a.proof b.proof
+
+-- the model of all variables was written
+pub record Shown {W : Type 0} (seen : W → Writer) (n : Variables) (a b : Core W) : Type 0 where
+  pub adds : Adds seen (Model (model_of n a) ∷ []) a.proof b.proof
+  pub joined : IsJoined n b
+  pub search : b.search ≡ a.search
+  pub config : b.config ≡ a.config
+
+abbrev pub ShowsModel : {W : Type 0} → (W → Writer) → Result (Unit {0}) SolverError → Variables → Core W → Core W → Type 0
+ShowsModel seen r n a b = MatchResult r (λ _. Shown seen n a b) (λ e. Breaks seen e a b)
+
+-- a failed core was written, and these are its literals over names
+pub record Failed {W : Type 0} (seen : W → Writer) (n : Variables) (a b : Core W) (core : List ℕ) : Type 0 where
+  pub steps : List Step
+  pub adds : Adds seen steps a.proof b.proof
+  pub told : ToldCore steps (session_of b.proof) a.search b.search
+  pub joined : IsJoined n b
+  pub config : b.config ≡ a.config
+  pub named : core ≡ map (name_of n) b.search.analysis.core
+
+abbrev pub FailsCore : {W : Type 0} → (W → Writer) → Result (Unit {0}) SolverError → Variables → Core W → Core W → List ℕ → Type 0
+FailsCore seen r n a b core = MatchResult r (λ _. Failed seen n a b core) (λ e. Breaks seen e a b)

@@ -1,0 +1,25 @@
+-- Assumptions that a solver takes.
+use Rattle.std.specs.Prelude.{ℕ, ◌≡◌, List, Result, Ok, Err}
+use Rattle.sat_base.specs.device.Device.{Writer}
+use Rattle.sat_base.specs.script.Judge.{bring_all}
+use Rattle.sat_solver.specs.declared.error.SolverError.{SolverError}
+use Rattle.sat_solver.specs.names.Calls.{Does}
+use Rattle.sat_solver.specs.names.Refusing.{names_in}
+use Rattle.sat_solver.specs.session.Making.{Took}
+use Rattle.sat_solver.specs.declared.solver.Solver.{Solver}
+use Rattle.sat_solver.specs.solver.Adding.{Forgets, due_for_asked}
+use Rattle.sat_solver.specs.solver.Taking.{BreaksNames}
+use Rattle.sat_solver.specs.solver.Whole.{IsWholeOf, steps_in}
+
+-- these were taken, but for the list over names
+pub record AskedIn {W : Type 0} (seen : W → Writer) (old new : Solver W) (user : List ℕ) : Type 0 where
+  pub whole : IsWholeOf new.core new.names new.asked user new.told.failed_core.items new.clock.restarts.scale new.state
+  pub does : Does old.names new.names (steps_in old) (steps_in new) (bring_all (names_in user)) (due_for_asked user)
+  pub took : Took seen old.core.proof new.core.proof
+  pub failed : new.failed ≡ old.failed
+  pub clock : new.clock ≡ old.clock
+  pub state : Forgets old.state new.state
+
+abbrev pub Asks : {W : Type 0} → (W → Writer) → Result (Unit {0}) SolverError → Solver W → Solver W → List ℕ → Type 0
+Asks seen (Ok x) old new user = AskedIn seen old new user
+Asks seen (Err e) old new user = BreaksNames seen e old.core new.core

@@ -1,0 +1,57 @@
+-- What a search came to, and told.
+use Rattle.std.specs.Prelude.{ℕ, ◌≡◌, true, Option, None, Some, List, MatchResult, Result}
+use Rattle.sat_base.specs.device.Device.{Writer}
+use Rattle.sat_solver.specs.declared.bound.search.Outcome.{Outcome}
+use Rattle.sat_solver.specs.declared.bound.search.Outcome.TheVariants as outcomes
+use Rattle.sat_solver.specs.declared.error.SolverError.{SolverError}
+use Rattle.sat_solver.specs.search.Turns.{IsComplete, IsFailing}
+use Rattle.sat_solver.specs.search.Solving.{Ended, Gone, IsCore}
+use Rattle.sat_solver.specs.declared.names.Variables.{Variables}
+use Rattle.sat_solver.specs.declared.search.solving.Core.{Core}
+use Rattle.sat_solver.specs.declared.solver.state.State.{State}
+use Rattle.sat_solver.specs.declared.solver.state.State.TheVariants as states
+use Rattle.sat_solver.specs.solver.Joined.{IsJoined}
+use Rattle.sat_solver.specs.solver.Answering.{Breaks, Shown, Failed}
+
+-- a model was found and written
+pub record FoundModel {W : Type 0} (seen : W → Writer) (n : Variables) (a b : Core W) : Type 0 where
+  pub mid : Core W
+  pub ended : Ended seen a outcomes.Model mid
+  pub shown : Shown seen n mid b
+
+-- assumptions that can't be true together were found and written
+pub record FoundCore {W : Type 0} (seen : W → Writer) (n : Variables) (a b : Core W) (core : List ℕ) : Type 0 where
+  pub mid : Core W
+  pub ended : Ended seen a outcomes.Failed mid
+  pub failed : Failed seen n mid b core
+
+abbrev pub FoundSays : {W : Type 0} → (W → Writer) → State → Variables → Core W → Core W → List ℕ → Type 0
+FoundSays seen states.Unknown n a b core = ⊥
+FoundSays seen states.Sat n a b core = FoundModel seen n a b
+FoundSays seen states.UnsatUnderAssumptions n a b core = FoundCore seen n a b core
+FoundSays seen states.Unsat n a b core = Ended seen a outcomes.Unsat b
+
+-- no answer by now
+pub record FoundNone {W : Type 0} (seen : W → Writer) (rounds : ℕ) (a b : Core W) : Type 0 where
+  pub sound : IsCore b
+  pub gone : Gone seen a rounds b
+
+abbrev pub Finds : {W : Type 0} → (W → Writer) → Option State → (rounds : ℕ) → Variables → Core W → Core W → List ℕ → Type 0
+Finds seen None rounds n a b core = FoundNone seen rounds a b
+Finds seen (Some state) rounds n a b core = FoundSays seen state n a b core
+
+-- what a search came to, before it's told
+abbrev pub ComesTo : {W : Type 0} → Outcome → Variables → Core W → Type 0
+ComesTo outcomes.Learned n c = ⊥
+ComesTo outcomes.Model n c = IsJoined n c × IsComplete c.search.assumptions.lits.items c.search.parts
+ComesTo outcomes.Failed n c = IsJoined n c × IsFailing c.search.assumptions.lits.items c.search.parts c.search.failed
+ComesTo outcomes.Unsat n c = Unit {0}
+
+abbrev pub ToldSays : {W : Type 0} → (W → Writer) → Option State → Outcome → Variables → Core W → Core W → List ℕ → Type 0
+ToldSays seen (Some states.Sat) outcomes.Model n a b core = Shown seen n a b
+ToldSays seen (Some states.UnsatUnderAssumptions) outcomes.Failed n a b core = Failed seen n a b core
+ToldSays seen (Some states.Unsat) outcomes.Unsat n a b core = b ≡ a
+ToldSays seen o outcome n a b core = ⊥
+
+abbrev pub Tells : {W : Type 0} → (W → Writer) → Result (Option State) SolverError → Outcome → Variables → Core W → Core W → List ℕ → Type 0
+Tells seen r outcome n a b core = MatchResult r (λ o. ToldSays seen o outcome n a b core) (λ e. Breaks seen e a b)

@@ -1,0 +1,37 @@
+-- Names, and a search that goes on.
+use Rattle.std.specs.Prelude.{ℕ, ◌≡◌, Option, None, Some, List}
+use Rattle.sat_base.specs.values.Literals.{variable, is_positive, coded}
+use Rattle.sat_solver.specs.session.ProofView.{steps_of, session_of}
+use Rattle.sat_solver.specs.search.Solving.{IsCore}
+use Rattle.sat_solver.specs.loading.Shared.{SharesIndices}
+use Rattle.sat_solver.specs.names.Adding.{Images}
+use Rattle.sat_solver.specs.names.Calls.{Stands}
+use Rattle.sat_solver.specs.names.Variables.{global_at, user_of}
+use Rattle.sat_solver.specs.declared.names.Variables.{Variables}
+use Rattle.sat_solver.specs.declared.names.taking.Taken.{Taken}
+use Rattle.sat_solver.specs.declared.search.solving.Core.{Core}
+
+-- names and search stand, over the same indices
+pub record IsJoined {W : Type 0} (n : Variables) (c : Core W) : Type 0 where
+  pub sound : IsCore c
+  pub stands : Stands n (steps_of c.proof)
+  pub shares : SharesIndices n c.search
+
+-- these literals over names are the assumptions of the search and of the proof
+pub record AreAsked {W : Type 0} (n : Variables) (c : Core W) (user : List ℕ) (t : Taken) : Type 0 where
+  pub images : Images n user t.order.items
+  pub lits : c.search.assumptions.lits.items ≡ t.order.items
+  pub globals : t.globals.items ≡ (session_of c.proof).assumed
+
+abbrev pub named_by : Option ℕ → ℕ → ℕ
+named_by None l = l
+named_by (Some u) l = coded u (is_positive l)
+
+-- the name of a variable, if there is one and it has a name
+abbrev pub user_by : Variables → Option ℕ → Option ℕ
+user_by n None = None
+user_by n (Some v) = user_of n v
+
+-- the literal over names for one of the search
+abbrev pub name_of : Variables → ℕ → ℕ
+name_of n l = named_by (user_by n (global_at n (variable l))) l

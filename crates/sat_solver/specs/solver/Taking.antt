@@ -1,0 +1,58 @@
+-- A clause, or assumptions, over names: taken by names, search and proof.
+use Rattle.std.specs.Prelude.{ℕ, ◌≡◌, ◌⊎◌, Bool, true, false, List, [], ◌∷◌, ◌++◌, map, MatchResult, Result, Err}
+use Rattle.sat_base.specs.device.Device.{Writer}
+use Rattle.sat_base.specs.script.Judge.{bring_all, with_clause}
+use Rattle.sat_base.specs.steps.Steps.{Step}
+use Rattle.sat_solver.specs.session.Making.{Took}
+use Rattle.sat_solver.specs.session.ProofView.{steps_of, session_of}
+use Rattle.sat_solver.specs.declared.error.SolverError.{SolverError}
+use Rattle.sat_solver.specs.declared.error.SolverError.TheVariants as errors
+use Rattle.sat_solver.specs.search.Going.{IsFault, Went}
+use Rattle.sat_solver.specs.names.Adding.{named_literal, Images}
+use Rattle.sat_solver.specs.names.Calls.{Stands, Does}
+use Rattle.sat_solver.specs.names.Expected.{Adds, Opens, bringing}
+use Rattle.sat_solver.specs.names.Refusing.{names_in}
+use Rattle.sat_solver.specs.declared.names.Variables.{Variables}
+use Rattle.sat_solver.specs.declared.names.taking.Taken.{Taken}
+use Rattle.sat_solver.specs.declared.search.solving.Core.{Core}
+use Rattle.sat_solver.specs.solver.Joined.{IsJoined, AreAsked}
+
+-- names keep their literals of the search
+abbrev pub KeepImages : Variables → Variables → Type 0
+KeepImages n n' = (user order : List ℕ) → Images n user order → Images n' user order
+
+-- the search goes on, or unsat is recorded
+abbrev pub GoesOnOr : Bool → {W : Type 0} → Variables → Core W → Type 0
+GoesOnOr true n c = IsJoined n c
+GoesOnOr false n c = (session_of c.proof).unsat ≡ true
+
+-- a clause came in; whether a valuation may be left
+pub record TookClause {W : Type 0} (seen : W → Writer) (n n' : Variables) (a b : Core W) (user : List ℕ) (left : Bool) : Type 0 where
+  pub does : Does n n' (steps_of a.proof) (steps_of b.proof) (λ j. with_clause (map named_literal user) (bring_all (names_in user) j)) (λ j. bringing (names_in user) j ++ (Adds (map named_literal user) ∷ []))
+  pub took : Took seen a.proof b.proof
+  pub goes_on : GoesOnOr left n' b
+  pub images : KeepImages n n'
+  pub lits : b.search.assumptions.lits ≡ a.search.assumptions.lits
+  pub assumed : (session_of b.proof).assumed ≡ (session_of a.proof).assumed
+
+-- what a call over names may fail of, behind which the solver only fails
+abbrev pub IsNameFault : SolverError → Type 0
+IsNameFault e = IsFault e ⊎ (e ≡ errors.VariableLimit)
+
+pub record BreaksNames {W : Type 0} (seen : W → Writer) (e : SolverError) (a b : Core W) : Type 0 where
+  pub fault : IsNameFault e
+  pub steps : List Step
+  pub went : Went {A = Unit {0}} seen (Err e) steps a.proof b.proof
+
+abbrev pub TakesClause : {W : Type 0} → (W → Writer) → Result Bool SolverError → Variables → Variables → Core W → Core W → List ℕ → Type 0
+TakesClause seen r n n' a b user = MatchResult r (TookClause seen n n' a b user) (λ e. BreaksNames seen e a b)
+
+-- assumptions came in, in place of others
+pub record TookAssumptions {W : Type 0} (seen : W → Writer) (n n' : Variables) (a b : Core W) (user : List ℕ) (t : Taken) : Type 0 where
+  pub does : Does n n' (steps_of a.proof) (steps_of b.proof) (bring_all (names_in user)) (λ j. bringing (names_in user) j ++ (Opens (map named_literal user) ∷ []))
+  pub took : Took seen a.proof b.proof
+  pub joined : IsJoined n' b
+  pub asked : AreAsked n' b user t
+
+abbrev pub TakesAssumptions : {W : Type 0} → (W → Writer) → Result (Unit {0}) SolverError → Variables → Variables → Core W → Core W → List ℕ → Taken → Type 0
+TakesAssumptions seen r n n' a b user t = MatchResult r (λ _. TookAssumptions seen n n' a b user t) (λ e. BreaksNames seen e a b)

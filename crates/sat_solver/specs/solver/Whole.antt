@@ -1,0 +1,75 @@
+-- What holds of a solver between calls.
+use Rattle.std.specs.Prelude.{ℕ, ◌<◌, ◌≡◌, true, false, List, map}
+use Rattle.std.specs.List.{AllByRecursion}
+use Rattle.sat_base.specs.script.Script.{Literal, Among}
+use Rattle.sat_base.specs.steps.Steps.{Step}
+use Rattle.sat_base.specs.values.Clauses.{Valuation, EachTrue}
+use Rattle.sat_checker.specs.Fold.{Holds}
+use Rattle.sat_solver.specs.session.ProofView.{steps_of, session_of}
+use Rattle.sat_solver.specs.session.Session.{Session}
+use Rattle.sat_solver.specs.search.Turns.{IsComplete}
+use Rattle.sat_solver.specs.names.Adding.{named_literal, Images}
+use Rattle.sat_solver.specs.names.Calls.{Stands}
+use Rattle.sat_solver.specs.names.Checking.{variable_of}
+use Rattle.sat_solver.specs.names.Expected.{SameSet}
+use Rattle.sat_solver.specs.declared.names.Variables.{Variables}
+use Rattle.sat_solver.specs.declared.names.taking.Taken.{Taken}
+use Rattle.sat_solver.specs.declared.search.solving.Core.{Core}
+use Rattle.sat_solver.specs.declared.solver.Solver.{Solver}
+use Rattle.sat_solver.specs.declared.solver.state.State.{State}
+use Rattle.sat_solver.specs.declared.solver.state.State.TheVariants as states
+use Rattle.sat_solver.specs.solver.Joined.{IsJoined}
+use Rattle.sat_solver.specs.solver.Answering.{line_of}
+
+-- all steps that it made, the newest first
+abbrev pub steps_in : {W : Type 0} → Solver W → List Step
+steps_in s = steps_of s.core.proof
+
+abbrev pub session_in : {W : Type 0} → Solver W → Session
+session_in s = session_of s.core.proof
+
+-- the assumptions last accepted
+abbrev pub asked_in : {W : Type 0} → Solver W → List Literal
+asked_in s = map named_literal s.assumed.items
+
+-- the literals of names by the values of the search
+abbrev pub line_in : {W : Type 0} → Solver W → List ℕ
+line_in s = line_of s.names s.core
+
+-- no variable of a clause is open, and the assumptions are true
+abbrev pub HasModel : {W : Type 0} → Core W → Type 0
+HasModel c = IsComplete c.search.assumptions.lits.items c.search.parts
+
+-- a failed core over names, of the assumptions: no valuation that the steps leave makes it true
+pub record HasCore {W : Type 0} (c : Core W) (assumed core : List ℕ) : Type 0 where
+  pub codes : List ℕ
+  pub none : (a : Valuation) → Holds (steps_of c.proof) a → EachTrue a codes → ⊥
+  pub same : SameSet (variable_of (steps_of c.proof)) (map named_literal core) codes
+  pub among : AllByRecursion (λ l. Among l assumed) core
+
+-- the search goes on, under the assumptions
+pub record GoesOn {W : Type 0} (c : Core W) (n : Variables) (asked : Taken) : Type 0 where
+  pub joined : IsJoined n c
+  pub lits : c.search.assumptions.lits.items ≡ asked.order.items
+
+abbrev pub StateSays : {W : Type 0} → State → Core W → Variables → Taken → (assumed core : List ℕ) → Type 0
+StateSays states.Unknown c n asked assumed core = GoesOn c n asked
+StateSays states.Sat c n asked assumed core = GoesOn c n asked × HasModel c
+StateSays states.UnsatUnderAssumptions c n asked assumed core = GoesOn c n asked × HasCore c assumed core
+StateSays states.Unsat c n asked assumed core = (session_of c.proof).unsat ≡ true
+
+-- what holds of a solver's pieces
+pub record IsWholeOf {W : Type 0} (c : Core W) (n : Variables) (asked : Taken) (assumed core : List ℕ) (scale : ℕ) (state : State) : Type 0 where
+  pub stands : Stands n (steps_of c.proof)
+  pub images : Images n assumed asked.order.items
+  pub globals : asked.globals.items ≡ (session_of c.proof).assumed
+  pub positive : 0 < scale
+  pub says : StateSays state c n asked assumed core
+
+-- what holds unless a call failed
+abbrev pub IsWhole : {W : Type 0} → Solver W → Type 0
+IsWhole s = IsWholeOf s.core s.names s.asked s.assumed.items s.told.failed_core.items s.clock.restarts.scale s.state
+
+-- a solver that a call may be made of
+abbrev pub IsSolver : {W : Type 0} → Solver W → Type 0
+IsSolver s = s.failed ≡ false → IsWhole s

@@ -1,0 +1,106 @@
+//! An incremental solver that writes a proof.
+//!
+//! Contracts see of a solver its names, steps, assumptions, what it knows of an answer, the rounds it made and whether a call failed;
+//! what holds between calls is `IsSolver`, which `new` gives and each call keeps.
+ghost use Rattle.std.specs.Prelude.{◌≡◌, true, false, []};
+ghost use Rattle.sat_base.specs.script.Judge.{start};
+ghost use Rattle.sat_solver.specs.session.ProofView.{Closed, target_of};
+ghost use Rattle.sat_solver.specs.names.Calls.{Agree};
+ghost use Rattle.sat_solver.specs.solver.Whole.{IsWhole, steps_in};
+
+pub mod adding;
+pub mod answers;
+pub mod assuming;
+pub mod finding;
+pub mod proving;
+pub mod solving;
+pub mod state;
+pub mod taking;
+pub mod telling;
+
+use crate::solver::finding::{Clock, Told};
+use crate::solver::state::State;
+use crate::solver::taking::Loading;
+use sat_base::{CountedWrite, Lit};
+use crate::SolverConfig;
+use crate::bound::restarts::Restarts;
+use crate::names::Variables;
+use crate::names::taking::Taken;
+use crate::parts::sorting::no_sorting;
+use crate::search::solving::Core;
+use crate::search::work::no_search;
+use crate::session::proof::Proof;
+use sat_store::LubySequence;
+use std::alloc::Global;
+
+/// A solver of clauses over names: it answers under assumptions, again and again, and writes a proof.
+#[derive(Drop)]
+pub struct Solver<W: CountedWrite + Drop> {
+    core: Core<W>,
+    names: Variables,
+    clock: Clock,
+    told: Told,
+    state: State,
+    /// Whether a call failed, behind which each one does.
+    failed: bool,
+    /// Whether a clause, a name, an assumption or an ask came before.
+    used: bool,
+    /// The clause in hand.
+    loading: Loading,
+    /// The assumptions, over the search and over the proof.
+    asked: Taken,
+    /// The same over names.
+    assumed: Vec<Lit>,
+}
+
+impl<W: CountedWrite + Drop> Solver<W> {
+    /// No clauses and no names. Takes no memory.
+    pub fn new(alloc: Global) -> Solver<W>
+        ensures whole { IsWhole result }
+        ensures going { result.failed ≡ false }
+        ensures steps { steps_in result ≡ [] }
+        ensures target { target_of W.seen result.core.proof ≡ Closed }
+        ensures agree { Agree result.names [] start [] }
+        ensures asked { result.assumed.items ≡ [] }
+        ensures state { result.state ≡ State.Unknown }
+        ensures rounds { result.clock.steps ≡ 0 }
+    {
+        let config = SolverConfig::default();
+        Solver {
+            core: Core {
+                proof: Proof::new(),
+                search: no_search(alloc),
+                config,
+            },
+            names: Variables::new(alloc),
+            clock: Clock {
+                restarts: Restarts {
+                    sequence: LubySequence::default(),
+                    scale: config.luby_restart_interval_scale,
+                    next: 0,
+                },
+                steps: 0,
+            },
+            told: Told {
+                model: Vec::new(alloc),
+                failed_core: Vec::new(alloc),
+            },
+            state: State::Unknown,
+            failed: false,
+            used: false,
+            loading: Loading {
+                taken: Taken::new(alloc),
+                sorting: no_sorting(alloc),
+            },
+            asked: Taken::new(alloc),
+            assumed: Vec::new(alloc),
+        }
+    }
+
+    /// The rounds of search so far, over all calls of `solve`.
+    pub fn steps(&self) -> u64
+        ensures { result ≡ self.now.clock.steps }
+    {
+        self.clock.steps
+    }
+}

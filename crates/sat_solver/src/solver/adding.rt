@@ -1,0 +1,72 @@
+//! Clauses that a user adds.
+ghost use Rattle.std.specs.Prelude.{◌≡◌, true, false};
+ghost use Rattle.sat_solver.specs.names.Adding.{NoWitness};
+ghost use Rattle.sat_solver.specs.declared.solver.state.State.TheVariants.{Unsat};
+ghost use Rattle.sat_solver.specs.solver.Adding.{AddsClause, TakesIn, due_for_clause, with_added};
+ghost use Rattle.sat_solver.specs.solver.Whole.{IsSolver, IsWhole};
+
+use crate::solver::Solver;
+use crate::solver::state::State;
+use crate::solver::taking::take_clause;
+use sat_base::{CountedWrite, Lit};
+use crate::SolverError;
+use crate::loading::faults::name_fault;
+use crate::names::adding::leave_out_clause;
+use crate::names::refusing::leftmost_witness;
+
+impl<W: CountedWrite + Drop> Solver<W> {
+    /// Takes the names of a clause, and nothing more: the clauses alone are known to be unsatisfiable.
+    fn leave_out(&mut self, lits: &[Lit]) -> Result<(), SolverError>
+        requires whole { IsWhole self.old }
+        requires unsat { self.old.state ≡ Unsat }
+        ensures takes { TakesIn W.seen result self.old self.new (with_added lits.now) (due_for_clause Unsat lits.now) }
+        ensures assumed { self.new.assumed ≡ self.old.assumed }
+    {
+        match leave_out_clause(&mut self.names, &mut self.core.proof, lits) {
+            Ok(()) => Ok(()),
+            Err(error) => Err(name_fault(error)),
+        }
+    }
+
+    /// Takes a clause without a name of mode witness.
+    fn take(&mut self, lits: &[Lit]) -> Result<(), SolverError>
+        requires whole { IsWhole self.old }
+        requires sampled { NoWitness self.old.names lits.now }
+        ensures takes { TakesIn W.seen result self.old self.new (with_added lits.now) (due_for_clause self.old.state lits.now) }
+        ensures assumed { self.new.assumed ≡ self.old.assumed }
+    {
+        match self.state {
+            State::Unsat => return self.leave_out(lits),
+            State::Unknown => {}
+            State::Sat => {}
+            State::UnsatUnderAssumptions => {}
+        }
+        let left = take_clause(&mut self.core, &mut self.names, lits, &mut self.loading)?;
+        self.state = if left { State::Unknown } else { State::Unsat };
+        Ok(())
+    }
+
+    /// Adds a clause, whose names come in from left to right. It may stand behind asks, and ends what is known of an answer. Once the
+    /// clauses alone are known to be unsatisfiable, only its names come in. `WitnessVariable` names the cause: the leftmost literal
+    /// over a name of mode witness.
+    pub fn add_clause(&mut self, lits: &[Lit]) -> Result<(), SolverError>
+        requires { IsSolver self.old }
+        ensures solver { IsSolver self.new }
+        ensures adds { AddsClause W.seen result self.old self.new lits.now }
+    {
+        if self.failed {
+            return Err(SolverError::HasFailed);
+        }
+        if leftmost_witness(&self.names, lits).is_some() {
+            return Err(SolverError::WitnessVariable);
+        }
+        self.used = true;
+        match self.take(lits) {
+            Ok(()) => Ok(()),
+            Err(error) => {
+                self.failed = true;
+                Err(error)
+            }
+        }
+    }
+}

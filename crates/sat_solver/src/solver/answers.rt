@@ -1,0 +1,62 @@
+//! What the last answer rests on.
+ghost use Rattle.std.specs.Prelude.{◌≡◌, false, IfOk, IfErr, MatchOption};
+ghost use Rattle.sat_solver.specs.declared.error.SolverError.TheVariants as errors;
+ghost use Rattle.sat_solver.specs.solver.Resting.{HasNone, HasNoCore, IsCore, IsModel, ModelFails};
+ghost use Rattle.sat_solver.specs.solver.Whole.{IsSolver, line_in};
+
+use crate::solver::Solver;
+use crate::solver::state::State;
+use sat_base::{CountedWrite, Lit};
+use crate::SolverError;
+use crate::names::models::named_lits;
+use std::alloc::Global;
+
+impl<W: CountedWrite + Drop> Solver<W> {
+    /// The literals of a model, one for each name in use, in increasing order.
+    fn model_lits(&self, alloc: Global) -> Result<Vec<Lit>, SolverError>
+        requires solver { IsSolver self.now }
+        requires going { self.now.failed ≡ false }
+        ensures line { IfOk result (λ lits. lits.items ≡ line_in self.now) }
+        ensures memory { IfErr result (λ e. e ≡ errors.OutOfMemory) }
+    {
+        let mut lits = Vec::new(alloc);
+        let values = self.core.search.parts.assignment.assignment();
+        named_lits(&self.names, values, &mut lits)?;
+        Ok(lits)
+    }
+
+    /// A model: a literal for each name in use, in increasing order. There is one only behind a `solve` that answered true, with no
+    /// clause and no assumptions since; names that came since are false. `OutOfMemory` changes nothing.
+    pub fn model(&self, alloc: Global) -> Result<Option<Vec<Lit>>, SolverError>
+        requires { IsSolver self.now }
+        ensures model { IfOk result (λ o. MatchOption o (HasNone self.now) (λ lits. IsModel self.now lits.items)) }
+        ensures fails { IfErr result (λ e. ModelFails e self.now) }
+    {
+        if self.failed {
+            return Err(SolverError::HasFailed);
+        }
+        match self.state {
+            State::Unknown => Ok(None),
+            State::UnsatUnderAssumptions => Ok(None),
+            State::Unsat => Ok(None),
+            State::Sat => Ok(Some(self.model_lits(alloc)?)),
+        }
+    }
+
+    /// Assumptions that can't be true together, none twice but as they were assumed. There are some only behind a `solve` that
+    /// answered false, with no clause and no assumptions since; none of them once the clauses alone are known to be unsatisfiable.
+    pub fn failed_core(&self) -> Option<&[Lit]>
+        requires { IsSolver self.now }
+        ensures { MatchOption result (HasNoCore self.now) (λ core. IsCore self.now core.now) }
+    {
+        if self.failed {
+            return None;
+        }
+        match self.state {
+            State::Unknown => None,
+            State::Sat => None,
+            State::UnsatUnderAssumptions => Some(&self.told.failed_core),
+            State::Unsat => Some(&[]),
+        }
+    }
+}

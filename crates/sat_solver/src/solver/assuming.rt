@@ -1,0 +1,75 @@
+//! Assumptions of the next ask.
+ghost use Rattle.std.specs.Prelude.{◌≡◌, true, false, OnOk};
+ghost use Rattle.sat_base.specs.script.Judge.{bring_all};
+ghost use Rattle.sat_solver.specs.names.Adding.{NoWitness};
+ghost use Rattle.sat_solver.specs.names.Refusing.{names_in};
+ghost use Rattle.sat_solver.specs.declared.solver.state.State.TheVariants.{Unsat};
+ghost use Rattle.sat_solver.specs.solver.Adding.{Assumes, due_for_asked};
+ghost use Rattle.sat_solver.specs.solver.Asking.{Asks};
+ghost use Rattle.sat_solver.specs.solver.Whole.{IsSolver, IsWhole};
+
+use crate::solver::Solver;
+use crate::solver::state::State;
+use crate::solver::taking::take_assumptions;
+use sat_base::{CountedWrite, Lit};
+use crate::SolverError;
+use crate::loading::faults::name_fault;
+use crate::names::assuming::assume;
+use crate::names::refusing::leftmost_witness;
+
+impl<W: CountedWrite + Drop> Solver<W> {
+    /// Takes assumptions where the clauses alone are known to be unsatisfiable: the search isn't told.
+    fn ask_known(&mut self, lits: &[Lit]) -> Result<(), SolverError>
+        requires whole { IsWhole self.old }
+        requires unsat { self.old.state ≡ Unsat }
+        requires sampled { NoWitness self.old.names lits.now }
+        ensures { Asks W.seen result self.old self.new lits.now }
+    {
+        match assume(&mut self.names, &mut self.core.proof, lits, &mut self.asked) {
+            Ok(()) => Ok(()),
+            Err(error) => Err(name_fault(error)),
+        }
+    }
+
+    /// Takes assumptions without a name of mode witness.
+    fn ask(&mut self, lits: &[Lit]) -> Result<(), SolverError>
+        requires whole { IsWhole self.old }
+        requires sampled { NoWitness self.old.names lits.now }
+        ensures { Asks W.seen result self.old self.new lits.now }
+    {
+        match self.state {
+            State::Unsat => return self.ask_known(lits),
+            State::Unknown => {}
+            State::Sat => {}
+            State::UnsatUnderAssumptions => {}
+        }
+        take_assumptions(&mut self.core, &mut self.names, lits, &mut self.asked)?;
+        self.state = State::Unknown;
+        Ok(())
+    }
+
+    /// Replaces the assumptions, whose names come in from left to right. `WitnessVariable` names the cause: the leftmost literal over a
+    /// name of mode witness.
+    pub fn assume(&mut self, lits: &[Lit]) -> Result<(), SolverError>
+        requires { IsSolver self.old }
+        ensures solver { IsSolver self.new }
+        ensures assumes { Assumes W.seen result self.old self.new lits.now }
+    {
+        if self.failed {
+            return Err(SolverError::HasFailed);
+        }
+        if leftmost_witness(&self.names, lits).is_some() {
+            return Err(SolverError::WitnessVariable);
+        }
+        self.used = true;
+        let asked = self.ask(lits);
+        self.assumed.clear();
+        let listed = self.assumed.extend_from_slice(lits);
+        if asked.is_err() || listed.is_err() {
+            self.failed = true;
+        }
+        asked?;
+        listed?;
+        Ok(())
+    }
+}

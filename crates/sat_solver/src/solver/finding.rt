@@ -1,0 +1,78 @@
+//! Rounds up to an answer, which is told by its step.
+ghost use Rattle.std.specs.Prelude.{ℕ, ◌≡◌, ◌+◌, ◌-◌, ◌*◌, ◌^◌, ◌<◌, ◌≤◌, min, IfOk, IfErr, None};
+ghost use Rattle.sat_solver.specs.search.Solving.{values_in};
+ghost use Rattle.sat_solver.specs.solver.Joined.{IsJoined};
+ghost use Rattle.sat_solver.specs.solver.Answering.{Breaks};
+ghost use Rattle.sat_solver.specs.solver.Found.{Finds, ComesTo, Tells};
+
+use crate::solver::state::State;
+use crate::solver::telling::{fail_core, show_model};
+use sat_base::{CountedWrite, Lit};
+use crate::SolverError;
+use crate::bound::restarts::Restarts;
+use crate::bound::search::Outcome;
+use crate::names::Variables;
+use crate::search::solving::{Core, solve};
+
+/// What the last answers were: a model over the proof's variables, a failed core over names.
+#[derive(Drop)]
+pub struct Told {
+    pub model: Vec<Lit>,
+    pub failed_core: Vec<Lit>,
+}
+
+/// The rounds that were made, and when restarts are due.
+#[derive(Drop)]
+pub struct Clock {
+    pub restarts: Restarts,
+    pub steps: u64,
+}
+
+/// Tells what a search came to.
+fn tell<W: CountedWrite + Drop>(
+    core: &mut Core<W>,
+    names: &Variables,
+    told: &mut Told,
+    outcome: Outcome,
+) -> Result<Option<State>, SolverError>
+    requires { ComesTo outcome names.now core.old }
+    ensures { Tells W.seen result outcome names.now core.old core.new told.new.failed_core.items }
+{
+    match outcome {
+        Outcome::Learned => Ok(None),
+        Outcome::Model => {
+            show_model(core, names, &mut told.model)?;
+            Ok(Some(State::Sat))
+        }
+        Outcome::Failed => {
+            fail_core(core, names, &mut told.failed_core)?;
+            Ok(Some(State::UnsatUnderAssumptions))
+        }
+        Outcome::Unsat => Ok(Some(State::Unsat)),
+    }
+}
+
+/// Rounds up to an answer, at most so many as the parameters say, and the answer's step. None where there is no answer by then.
+pub fn find_answer<W: CountedWrite + Drop>(
+    core: &mut Core<W>,
+    names: &Variables,
+    told: &mut Told,
+    clock: &mut Clock,
+) -> Result<Option<State>, SolverError>
+    requires joined { IsJoined names.now core.old }
+    requires scale { 0 < clock.old.restarts.scale }
+    ensures scale { clock.new.restarts.scale ≡ clock.old.restarts.scale }
+    ensures counted { clock.old.steps ≤ clock.new.steps }
+    ensures few { clock.new.steps < clock.old.steps + 2 ^ (2 * values_in core.old + 3) }
+    ensures interrupted { IfOk result (λ r. r ≡ None → clock.new.steps ≡ min (clock.old.steps + core.old.config.max_steps) (2 ^ 64 - 1)) }
+    ensures answered { (n : ℕ) → values_in core.old ≤ n → 2 ^ (2 * n + 3) ≤ min core.old.config.max_steps (2 ^ 64 - 1 - clock.old.steps) → IfOk result (λ r. r ≡ None → ⊥) }
+    ensures finds { IfOk result (λ r. Finds W.seen r (clock.new.steps - clock.old.steps) names.now core.old core.new told.new.failed_core.items) }
+    ensures breaks { IfErr result (λ e. Breaks W.seen e core.old core.new) }
+{
+    let max_steps = core.config.max_steps;
+    let found = solve(core, &mut clock.restarts, &mut clock.steps, max_steps)?;
+    match found {
+        None => Ok(None),
+        Some(outcome) => tell(core, names, told, outcome),
+    }
+}

@@ -1,0 +1,64 @@
+//! The proof of a solver, where its text goes.
+ghost use Rattle.sat_solver.specs.session.ProofView.{Gives, seen_of, target_of};
+ghost use Rattle.sat_solver.specs.solver.Proving.{Opens, ClosesProof};
+ghost use Rattle.sat_solver.specs.solver.Whole.{IsSolver};
+
+use crate::SolverError;
+use crate::search::fault::proof_fault;
+use crate::solver::Solver;
+use sat_base::CountedWrite;
+
+/// The format of a proof's text.
+#[derive(Clone, Copy, Debug, Drop, PartialEq, Eq)]
+pub enum ProofFormat {
+    /// The steps in the bytes that `sat_checker` reads.
+    Varisat,
+}
+
+impl<W: CountedWrite + Drop> Solver<W> {
+    /// Writes the steps that are made from here on to this target. `TooLate` once a clause, a name, assumptions or an ask came, or while
+    /// a proof is open; the target is dropped then.
+    pub fn write_proof(&mut self, target: W, format: ProofFormat) -> Result<(), SolverError>
+        requires { IsSolver self.old }
+        ensures solver { IsSolver self.new }
+        ensures opens { Opens W.seen result target self.old self.new }
+    {
+        if self.failed {
+            return Err(SolverError::HasFailed);
+        }
+        if self.used || self.core.proof.is_open() {
+            return Err(SolverError::TooLate);
+        }
+        match format {
+            ProofFormat::Varisat => self.core.proof.open(target),
+        }
+        Ok(())
+    }
+
+    /// Writes the last step, flushes, and hands the target back; `None` where no proof is open. After a fault the target stays.
+    pub fn close_proof(&mut self) -> Result<Option<W>, SolverError>
+        requires { IsSolver self.old }
+        ensures solver { IsSolver self.new }
+        ensures closes { ClosesProof W.seen result self.old self.new }
+    {
+        if self.failed {
+            return Err(SolverError::HasFailed);
+        }
+        match self.core.proof.close() {
+            Ok(target) => Ok(target),
+            Err(error) => {
+                self.failed = true;
+                Err(proof_fault(error))
+            }
+        }
+    }
+
+    /// The target as it is, where a proof is open or its target failed; what waits for it is lost. So who lent a target to a solver
+    /// that failed learns what it took.
+    pub fn into_target(self) -> Option<W>
+        ensures { Gives (target_of W.seen self.core.proof) (seen_of W.seen result) }
+    {
+        let mut solver = self;
+        solver.core.proof.take_target()
+    }
+}

@@ -1,0 +1,74 @@
+//! Answers under assumptions.
+ghost use Rattle.std.specs.Prelude.{ℕ, ◌≡◌, ◌+◌, ◌-◌, ◌*◌, ◌^◌, ◌<◌, ◌≤◌, min, true, false, IsErrOf};
+ghost use Rattle.sat_solver.specs.search.Solving.{values_in};
+ghost use Rattle.sat_solver.specs.solver.Whole.{IsSolver, IsWhole};
+ghost use Rattle.sat_solver.specs.solver.Calls.{Solves};
+ghost use Rattle.sat_solver.specs.solver.Settling.{Settles};
+
+use crate::solver::finding::find_answer;
+use crate::solver::Solver;
+use crate::solver::state::State;
+use sat_base::CountedWrite;
+use crate::SolverError;
+use crate::search::fault::proof_fault;
+
+impl<W: CountedWrite + Drop> Solver<W> {
+    /// Looks for an answer, where none is known.
+    fn settle(&mut self) -> Result<(), SolverError>
+        requires whole { IsWhole self.old }
+        ensures { Settles W.seen result self.old self.new }
+    {
+        match self.state {
+            State::Unknown => {}
+            State::Sat => return Ok(()),
+            State::UnsatUnderAssumptions => return Ok(()),
+            State::Unsat => return Ok(()),
+        }
+        let found = find_answer(
+            &mut self.core,
+            &self.names,
+            &mut self.told,
+            &mut self.clock,
+        )?;
+        if let Some(state) = found {
+            self.state = state;
+        }
+        Ok(())
+    }
+
+    /// The same, and flushes an open target.
+    fn settle_and_flush(&mut self) -> Result<(), SolverError>
+        requires whole { IsWhole self.old }
+        ensures { Settles W.seen result self.old self.new }
+    {
+        self.settle()?;
+        match self.core.proof.flush() {
+            Ok(()) => Ok(()),
+            Err(error) => Err(proof_fault(error)),
+        }
+    }
+
+    /// Whether the clauses and the assumptions can be satisfied. `Interrupted` where the rounds of this call are spent, as many as the
+    /// parameters allow, or the count of all rounds is. With no clause and no assumptions accepted since an answer, this one is given
+    /// again, without a round or a step. Before it answers, an open target is flushed.
+    pub fn solve(&mut self) -> Result<bool, SolverError>
+        requires { IsSolver self.old }
+        ensures solver { IsSolver self.new }
+        ensures solves { Solves W.seen result self.old self.new }
+    {
+        if self.failed {
+            return Err(SolverError::HasFailed);
+        }
+        self.used = true;
+        if let Err(error) = self.settle_and_flush() {
+            self.failed = true;
+            return Err(error);
+        }
+        match self.state {
+            State::Unknown => Err(SolverError::Interrupted),
+            State::Sat => Ok(true),
+            State::UnsatUnderAssumptions => Ok(false),
+            State::Unsat => Ok(false),
+        }
+    }
+}
