@@ -2,6 +2,6 @@
 pub mod assuming;
 pub mod bottom;
 pub mod clause;
+pub mod faults;
 pub mod indices;
 pub mod ready;
-pub mod faults;

@@ -18,10 +18,6 @@ pub mod state;
 pub mod taking;
 pub mod telling;
 
-use crate::solver::finding::{Clock, Told};
-use crate::solver::state::State;
-use crate::solver::taking::Loading;
-use sat_base::{CountedWrite, Lit};
 use crate::SolverConfig;
 use crate::bound::restarts::Restarts;
 use crate::names::Variables;
@@ -30,6 +26,10 @@ use crate::parts::sorting::no_sorting;
 use crate::search::solving::Core;
 use crate::search::work::no_search;
 use crate::session::proof::Proof;
+use crate::solver::finding::{Clock, Told};
+use crate::solver::state::State;
+use crate::solver::taking::Loading;
+use sat_base::{CountedWrite, Lit};
 use sat_store::LubySequence;
 use std::alloc::Global;
 

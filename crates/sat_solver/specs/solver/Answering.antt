@@ -1,11 +1,10 @@
 -- How an ask is answered.
-use Rattle.std.specs.Prelude.{ℕ, ◌≡◌, List, [], ◌∷◌, map, MatchResult, Result, Ok, Err}
+use Rattle.std.specs.Prelude.{ℕ, ◌≡◌, List, [], ◌∷◌, map, MatchResult, Result, Err}
 use Rattle.sat_base.specs.device.Device.{Writer}
 use Rattle.sat_base.specs.steps.Steps.{Step, Model}
 use Rattle.sat_solver.specs.session.ProofView.{Adds, session_of}
 use Rattle.sat_solver.specs.search.Failing.{ToldCore}
 use Rattle.sat_solver.specs.search.Going.{IsFault, Went}
-use Rattle.sat_solver.specs.search.Joint.{Moved}
 use Rattle.sat_solver.specs.names.Models.{model_to, named_to}
 use Rattle.sat_solver.specs.names.Variables.{names_used, variables_used}
 use Rattle.sat_solver.specs.declared.error.SolverError.{SolverError}

@@ -1,9 +1,8 @@
 -- What calls of a solver leave.
-use Rattle.std.specs.Prelude.{ℕ, ◌+◌, ◌-◌, ◌*◌, ◌<◌, ◌≤◌, ◌≡◌, ◌^◌, min, Bool, true, false, List, [], ◌∷◌, ◌++◌, map, Result, Ok, Err}
+use Rattle.std.specs.Prelude.{ℕ, ◌+◌, ◌-◌, ◌*◌, ◌<◌, ◌≤◌, ◌≡◌, ◌^◌, min, Bool, true, false, List, [], ◌∷◌, map, Result, Ok, Err}
 use Rattle.sat_base.specs.device.Device.{Writer}
 use Rattle.sat_base.specs.script.Script.{names_of}
 use Rattle.sat_base.specs.script.Judge.{Judge}
-use Rattle.sat_base.specs.steps.Steps.{Step}
 use Rattle.sat_solver.specs.declared.error.SolverError.{SolverError}
 use Rattle.sat_solver.specs.declared.error.SolverError.TheVariants as errors
 use Rattle.sat_solver.specs.names.Adding.{named_literal}

@@ -1,5 +1,5 @@
 -- What a search came to, and told.
-use Rattle.std.specs.Prelude.{ℕ, ◌≡◌, true, Option, None, Some, List, MatchResult, Result}
+use Rattle.std.specs.Prelude.{ℕ, ◌≡◌, Option, None, Some, List, MatchResult, Result}
 use Rattle.sat_base.specs.device.Device.{Writer}
 use Rattle.sat_solver.specs.declared.bound.search.Outcome.{Outcome}
 use Rattle.sat_solver.specs.declared.bound.search.Outcome.TheVariants as outcomes

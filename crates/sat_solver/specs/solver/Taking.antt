@@ -9,7 +9,7 @@ use Rattle.sat_solver.specs.declared.error.SolverError.{SolverError}
 use Rattle.sat_solver.specs.declared.error.SolverError.TheVariants as errors
 use Rattle.sat_solver.specs.search.Going.{IsFault, Went}
 use Rattle.sat_solver.specs.names.Adding.{named_literal, Images}
-use Rattle.sat_solver.specs.names.Calls.{Stands, Does}
+use Rattle.sat_solver.specs.names.Calls.{Does}
 use Rattle.sat_solver.specs.names.Expected.{Adds, Opens, bringing}
 use Rattle.sat_solver.specs.names.Refusing.{names_in}
 use Rattle.sat_solver.specs.declared.names.Variables.{Variables}

@@ -5,14 +5,14 @@ ghost use Rattle.sat_solver.specs.declared.solver.state.State.TheVariants.{Unsat
 ghost use Rattle.sat_solver.specs.solver.Adding.{AddsClause, TakesIn, due_for_clause, with_added};
 ghost use Rattle.sat_solver.specs.solver.Whole.{IsSolver, IsWhole};
 
-use crate::solver::Solver;
-use crate::solver::state::State;
-use crate::solver::taking::take_clause;
-use sat_base::{CountedWrite, Lit};
 use crate::SolverError;
 use crate::loading::faults::name_fault;
 use crate::names::adding::leave_out_clause;
 use crate::names::refusing::leftmost_witness;
+use crate::solver::Solver;
+use crate::solver::state::State;
+use crate::solver::taking::take_clause;
+use sat_base::{CountedWrite, Lit};
 
 impl<W: CountedWrite + Drop> Solver<W> {
     /// Takes the names of a clause, and nothing more: the clauses alone are known to be unsatisfiable.

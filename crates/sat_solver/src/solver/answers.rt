@@ -4,11 +4,11 @@ ghost use Rattle.sat_solver.specs.declared.error.SolverError.TheVariants as erro
 ghost use Rattle.sat_solver.specs.solver.Resting.{HasNone, HasNoCore, IsCore, IsModel, ModelFails};
 ghost use Rattle.sat_solver.specs.solver.Whole.{IsSolver, line_in};
 
+use crate::SolverError;
+use crate::names::models::named_lits;
 use crate::solver::Solver;
 use crate::solver::state::State;
 use sat_base::{CountedWrite, Lit};
-use crate::SolverError;
-use crate::names::models::named_lits;
 use std::alloc::Global;
 
 impl<W: CountedWrite + Drop> Solver<W> {

@@ -8,14 +8,14 @@ ghost use Rattle.sat_solver.specs.solver.Adding.{Assumes, due_for_asked};
 ghost use Rattle.sat_solver.specs.solver.Asking.{Asks};
 ghost use Rattle.sat_solver.specs.solver.Whole.{IsSolver, IsWhole};
 
-use crate::solver::Solver;
-use crate::solver::state::State;
-use crate::solver::taking::take_assumptions;
-use sat_base::{CountedWrite, Lit};
 use crate::SolverError;
 use crate::loading::faults::name_fault;
 use crate::names::assuming::assume;
 use crate::names::refusing::leftmost_witness;
+use crate::solver::Solver;
+use crate::solver::state::State;
+use crate::solver::taking::take_assumptions;
+use sat_base::{CountedWrite, Lit};
 
 impl<W: CountedWrite + Drop> Solver<W> {
     /// Takes assumptions where the clauses alone are known to be unsatisfiable: the search isn't told.

@@ -5,14 +5,14 @@ ghost use Rattle.sat_solver.specs.solver.Joined.{IsJoined};
 ghost use Rattle.sat_solver.specs.solver.Answering.{Breaks};
 ghost use Rattle.sat_solver.specs.solver.Found.{Finds, ComesTo, Tells};
 
-use crate::solver::state::State;
-use crate::solver::telling::{fail_core, show_model};
-use sat_base::{CountedWrite, Lit};
 use crate::SolverError;
 use crate::bound::restarts::Restarts;
 use crate::bound::search::Outcome;
 use crate::names::Variables;
 use crate::search::solving::{Core, solve};
+use crate::solver::state::State;
+use crate::solver::telling::{fail_core, show_model};
+use sat_base::{CountedWrite, Lit};
 
 /// What the last answers were: a model over the proof's variables, a failed core over names.
 #[derive(Drop)]

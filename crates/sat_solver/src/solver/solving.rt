@@ -5,12 +5,12 @@ ghost use Rattle.sat_solver.specs.solver.Whole.{IsSolver, IsWhole};
 ghost use Rattle.sat_solver.specs.solver.Calls.{Solves};
 ghost use Rattle.sat_solver.specs.solver.Settling.{Settles};
 
-use crate::solver::finding::find_answer;
-use crate::solver::Solver;
-use crate::solver::state::State;
-use sat_base::CountedWrite;
 use crate::SolverError;
 use crate::search::fault::proof_fault;
+use crate::solver::Solver;
+use crate::solver::finding::find_answer;
+use crate::solver::state::State;
+use sat_base::CountedWrite;
 
 impl<W: CountedWrite + Drop> Solver<W> {
     /// Looks for an answer, where none is known.
@@ -24,12 +24,7 @@ impl<W: CountedWrite + Drop> Solver<W> {
             State::UnsatUnderAssumptions => return Ok(()),
             State::Unsat => return Ok(()),
         }
-        let found = find_answer(
-            &mut self.core,
-            &self.names,
-            &mut self.told,
-            &mut self.clock,
-        )?;
+        let found = find_answer(&mut self.core, &self.names, &mut self.told, &mut self.clock)?;
         if let Some(state) = found {
             self.state = state;
         }

@@ -5,7 +5,6 @@ ghost use Rattle.sat_solver.specs.session.ProofView.{session_of};
 ghost use Rattle.sat_solver.specs.solver.Joined.{IsJoined};
 ghost use Rattle.sat_solver.specs.solver.Taking.{TakesClause, TakesAssumptions};
 
-use sat_base::{CountedWrite, Lit};
 use crate::SolverError;
 use crate::loading::assuming::set_assumptions;
 use crate::loading::clause::load_clause;
@@ -17,6 +16,7 @@ use crate::names::assuming::assume;
 use crate::names::taking::Taken;
 use crate::parts::sorting::Sorting;
 use crate::search::solving::Core;
+use sat_base::{CountedWrite, Lit};
 
 /// Where a clause is put together.
 #[derive(Drop)]

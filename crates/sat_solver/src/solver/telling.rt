@@ -5,13 +5,13 @@ ghost use Rattle.sat_solver.specs.search.Turns.{IsComplete, IsFailing};
 ghost use Rattle.sat_solver.specs.solver.Joined.{IsJoined, name_of, user_by};
 ghost use Rattle.sat_solver.specs.solver.Answering.{ShowsModel, FailsCore};
 
-use sat_base::{CountedWrite, Lit, ProofStep, Var};
 use crate::SolverError;
 use crate::names::Variables;
 use crate::names::models::model_lits;
 use crate::search::failing::tell_core;
 use crate::search::fault::proof_fault;
 use crate::search::solving::Core;
+use sat_base::{CountedWrite, Lit, ProofStep, Var};
 use std::alloc::AllocError;
 
 /// The name of the variable that has this index, if there is one and it has a name.

@@ -68,6 +68,7 @@ extends_marked old new ls put = record {
   where
     same : (u : ℕ) → global_of new u ≡ global_of old u
     same u = ap (λ m. target m.fwd u) put.users
+
     none_some : {v : ℕ} → None ≡ Some v → ⊥
     none_some e = cc
 

@@ -1,15 +1,14 @@
 -- A search without variables.
-use Rattle.std.proofs.Common.{ℕ, ◌<◌, ◌≡◌, Bool, false, List, [], length, get_or, refl, ap, arith}
+use Rattle.std.proofs.Common.{◌≡◌, [], refl, ap, arith}
 use Rattle.sat_parts.specs.clause.Glue.{AreClear}
 use Rattle.sat_parts.specs.prop.Trails.{Trailed, no_trail}
 use Rattle.sat_parts.specs.prop.State.{State}
 use Rattle.sat_solver.specs.session.Session.{nothing}
 use Rattle.sat_solver.specs.parts.Assumed.{ArePlaced}
 use Rattle.sat_solver.specs.parts.Whole.{state, Holds}
-use Rattle.sat_solver.specs.joint.Fits.{FitsParts}
 use Rattle.sat_solver.proofs.lemmas.joint.LawLemmas.{nothing_fits}
 use Rattle.sat_solver.specs.declared.search.work.Search.{Search}
-use Rattle.sat_solver.specs.search.Joint.{global_in, IsFree, IsSearch}
+use Rattle.sat_solver.specs.search.Joint.{global_in, IsSearch}
 
 none_clear : AreClear []
 none_clear k = refl

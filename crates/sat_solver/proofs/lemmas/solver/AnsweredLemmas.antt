@@ -1,11 +1,10 @@
 -- What a search came to, as names and judge see it.
-use Rattle.std.proofs.Common.{ℕ, zero, suc, ◌+◌, ◌<◌, ◌≤◌, ◌≡◌, ◌∙◌, Bool, true, false, Option, None, Some, Ok, Err, List, [], ◌∷◌, ◌++◌, length, map, get_or, refl, sym, ap, subst, arith, inl, inr}
+use Rattle.std.proofs.Common.{ℕ, zero, suc, ◌+◌, ◌<◌, ◌≡◌, ◌∙◌, Bool, Option, None, Some, List, [], ◌∷◌, ◌++◌, length, map, get_or, refl, sym, ap, subst, arith, inl, inr}
 use Rattle.std.specs.List.{AllByRecursion, Contains}
 use Rattle.sat_base.specs.device.Device.{Writer}
 use Rattle.sat_base.specs.values.Literals.{variable, is_positive, coded}
-use Rattle.sat_base.specs.values.Clauses.{Valuation, EachTrue, EachHolds, literal_true}
+use Rattle.sat_base.specs.values.Clauses.{Valuation, EachTrue}
 use Rattle.sat_base.specs.script.Script.{Literal, names_of, Among}
-use Rattle.sat_base.specs.script.Judge.{Judge, over}
 use Rattle.sat_base.specs.steps.Steps.{Step, Model, FailedAssumptions}
 use Rattle.sat_checker.specs.Fold.{Holds}
 use Rattle.sat_checker.proofs.lemmas.meaning.Answers.{cores_fail}
@@ -13,25 +12,21 @@ use Rattle.sat_parts.specs.prop.Values.{IsTrueLit}
 use Rattle.sat_parts.proofs.lemmas.clause.ListLemmas.{at_place}
 use Rattle.sat_solver.proofs.lemmas.joint.CodeLemmas.{coded_by}
 use Rattle.sat_solver.specs.session.ProofView.{Adds, Keeps, steps_of, session_of}
-use Rattle.sat_solver.specs.session.Session.{MayAll, May, session_after}
+use Rattle.sat_solver.specs.session.Session.{MayAll}
 use Rattle.sat_solver.proofs.lemmas.session.StepLemmas.{sessions_are_accepted}
 use Rattle.sat_solver.specs.session.LiveClauses.{with_var}
-use Rattle.sat_solver.specs.declared.bound.search.Outcome.TheVariants as outcomes
 use Rattle.sat_solver.specs.declared.search.solving.Core.{Core}
 use Rattle.sat_solver.specs.declared.search.work.Search.{Search}
 use Rattle.sat_solver.specs.declared.config.SolverConfig.{SolverConfig}
 use Rattle.sat_solver.specs.search.Failing.{causes_hashes}
 use Rattle.sat_solver.specs.search.Going.{AreSearched}
 use Rattle.sat_solver.specs.search.Joint.{global_in, IsSearch, Moved}
-use Rattle.sat_solver.specs.search.Solving.{Ended, IsCore}
-use Rattle.sat_solver.specs.search.Turns.{IsComplete, IsFailing, AllTrue}
-use Rattle.sat_solver.specs.names.Adding.{named_literal, Image, Images}
-use Rattle.sat_solver.specs.names.Live.{Live}
-use Rattle.sat_solver.specs.names.Variables.{data_at, global_of, global_at, solver_of, user_of, names_used, variables_used}
+use Rattle.sat_solver.specs.names.Adding.{named_literal, Images}
+use Rattle.sat_solver.specs.names.Variables.{data_at, global_at, user_of, names_used, variables_used}
 use Rattle.sat_solver.specs.loading.Shared.{SharesIndices}
 use Rattle.sat_solver.specs.names.Models.{is_true, value_by, value_in, model_to, named_to}
 use Rattle.sat_solver.specs.names.Checking.{variable_of}
-use Rattle.sat_solver.specs.names.Expected.{Expected, Shows, Fails, Spells, EachSpelt, SameSet, shows, fails}
+use Rattle.sat_solver.specs.names.Expected.{Shows, Fails, Spells, EachSpelt, SameSet, shows, fails}
 use Rattle.sat_solver.specs.names.Calls.{Stands, Agree, Writes, written, ordered, Does, DoesNothing}
 use Rattle.sat_solver.specs.declared.names.Variables.{Variables}
 use Rattle.sat_solver.proofs.lemmas.names.MapLemmas.{some_within}
@@ -59,10 +54,10 @@ module _ (n : Variables) (values : List (Option Bool)) (user order : List ℕ) (
       let i = images.each k lt in
       let l = get_or user k 0 in
       let value : value_in n values i.variable_is ≡ is_positive l =
-          ap (λ o. value_by o values (data_at n i.variable_is).unit) i.indexed
-          ∙ ap (λ x. is_true (get_or values x None)) (sym (ap variable i.is ∙ coded_variable i.index_is (is_positive l)))
-          ∙ ap is_true t
-          ∙ ap is_positive i.is ∙ coded_sign i.index_is (is_positive l) in
+      ap (λ o. value_by o values (data_at n i.variable_is).unit) i.indexed
+      ∙ ap (λ x. is_true (get_or values x None)) (sym (ap variable i.is ∙ coded_variable i.index_is (is_positive l)))
+      ∙ ap is_true t
+      ∙ ap is_positive i.is ∙ coded_sign i.index_is (is_positive l) in
       subst (λ m. Among m (named_to n values (names_used n))) (ap (coded (variable l)) value ∙ coded_back l)
       (named_has n values (names_used n) (variable l) i.variable_is (some_within n.global_from_user.fwd (variable l) i.variable_is i.named) i.named)
 
@@ -148,13 +143,12 @@ pub line_spelt : (n : Variables) (steps : List Step) (values : List (Option Bool
 line_spelt n steps values stands =
     mapped_each (λ l. (code : ℕ) × Spells (variable_of steps) l code × Among code (model_to n values (variables_used n))) (named_to n values (names_used n))
     (named_each n values (λ l. (code : ℕ) × Spells (variable_of steps) (named_literal l) code × Among code (model_to n values (variables_used n))) (names_used n) (λ u v lt e.
-      let live = stands.tidy.named v u (stands.tidy.users.back u v e) in
-      let b = value_in n values v in
-      (
-        coded v b,
-        record { variable = v; named = ap (λ w. variable_of steps (w + 1)) (coded_variable u b) ∙ stands.read u ∙ e; is = ap (coded v) (sym (coded_sign u b)) },
-        test_among (model_to n values (variables_used n)) (coded v b) (model_all n values (variables_used n) v (live_within n v live) live),
-      )))
+    let live = stands.tidy.named v u (stands.tidy.users.back u v e) in
+    let b = value_in n values v in (
+      coded v b,
+      record { variable = v; named = ap (λ w. variable_of steps (w + 1)) (coded_variable u b) ∙ stands.read u ∙ e; is = ap (coded v) (sym (coded_sign u b)) },
+      test_among (model_to n values (variables_used n)) (coded v b) (model_all n values (variables_used n) v (live_within n v live) live),
+    )))
 
 named_among_all : (line asked : List ℕ) → AllByRecursion (λ l. Among l line) asked → AllByRecursion (λ l. Among l (map named_literal line)) (map named_literal asked)
 named_among_all line [] h = tt
@@ -212,15 +206,21 @@ module _ {W : Type 0} (seen : W → Writer) (n : Variables) (a : Core W) (joined
     where
       used : List ℕ
       used = b.search.analysis.core
+
       codes : List ℕ
       codes = map (with_var (global_in a.search)) used
+
       step : Step
       step = FailedAssumptions codes (causes_hashes a.search.parts b.search.analysis.used)
+
       history_of : Failed seen n a b core → steps_of b.proof ≡ step ∷ steps_of a.proof
       history_of f = f.adds.history ∙ ap (λ ss. ss ++ steps_of a.proof) f.told.is
+
       may : MayAll (step ∷ steps_of a.proof)
       may = subst MayAll (history_of f) f.joined.sound.keeps
+
       stands : Stands n (step ∷ steps_of a.proof)
       stands = subst (Stands n) (history_of f) f.joined.stands
+
       spelt : SameSet (variable_of (steps_of a.proof)) (map named_literal (map (name_of n) used)) codes
       spelt = core_spelt n (steps_of a.proof) joined.stands a.search joined.shares asked order images used (λ k lt. subst (λ ls. Contains ls (get_or used k 0)) lits (f.told.failed.among k lt))

@@ -1,5 +1,5 @@
 -- Names behind steps of a search.
-use Rattle.std.proofs.Common.{ℕ, ◌≡◌, ◌∙◌, false, Option, Some, List, [], ◌∷◌, ◌++◌, map, refl, sym, ap, subst}
+use Rattle.std.proofs.Common.{ℕ, ◌≡◌, ◌∙◌, false, Option, List, [], ◌∷◌, ◌++◌, map, refl, sym, subst}
 use Rattle.std.specs.List.{AllByRecursion}
 use Rattle.sat_base.specs.values.Literals.{variable}
 use Rattle.sat_base.specs.script.Judge.{Judge}
@@ -7,7 +7,7 @@ use Rattle.sat_base.specs.steps.Steps.{Step, SolverVarName, UserVarName, DeleteV
 use Rattle.sat_solver.specs.session.Session.{Session, MayAll, session_after}
 use Rattle.sat_solver.specs.search.Going.{AreNamed, IsSearched}
 use Rattle.sat_solver.specs.names.Live.{Live}
-use Rattle.sat_solver.specs.names.Variables.{AreSaid, solver_of}
+use Rattle.sat_solver.specs.names.Variables.{AreSaid}
 use Rattle.sat_solver.specs.names.Checking.{is_ordered}
 use Rattle.sat_solver.specs.names.Expected.{Expected}
 use Rattle.sat_solver.specs.names.Calls.{Stands, Agree, Writes, written, other, Does, DoesNothing}

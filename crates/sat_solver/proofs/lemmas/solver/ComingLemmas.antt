@@ -1,9 +1,7 @@
 -- A solver that took a clause, or assumptions.
-use Rattle.std.proofs.Common.{ℕ, ◌<◌, ◌≡◌, ◌∙◌, Bool, true, false, Option, None, Some, Result, Ok, Err, List, [], ◌∷◌, ◌++◌, length, map, get_or, refl, sym, ap, subst, ◌⊎◌, inl, inr}
+use Rattle.std.proofs.Common.{ℕ, ◌≡◌, ◌∙◌, true, false, Err, List, get_or, refl, sym, ap, subst, ◌⊎◌, inl, inr}
 use Rattle.sat_base.specs.device.Device.{Writer}
 use Rattle.sat_base.specs.values.Literals.{variable}
-use Rattle.sat_base.specs.script.Judge.{Judge, bring_all}
-use Rattle.sat_base.specs.steps.Steps.{Step, Assumptions}
 use Rattle.sat_store.specs.variables.Maps.{target}
 use Rattle.sat_solver.specs.session.Making.{Took}
 use Rattle.sat_solver.specs.session.ProofView.{steps_of, session_of}
@@ -18,14 +16,13 @@ use Rattle.sat_solver.specs.names.Adding.{Image, Images}
 use Rattle.sat_solver.specs.names.AddingCalls.{LeavesOut}
 use Rattle.sat_solver.specs.names.Assuming as assuming
 use Rattle.sat_solver.specs.names.Calls.{Does}
-use Rattle.sat_solver.specs.names.Refusing.{names_in}
 use Rattle.sat_solver.specs.declared.solver.Solver.{Solver}
 use Rattle.sat_solver.specs.declared.solver.state.State.{State}
 use Rattle.sat_solver.specs.declared.solver.state.State.TheVariants as states
 use Rattle.sat_solver.specs.declared.solver.taking.Loading.{Loading}
-use Rattle.sat_solver.specs.solver.Taking.{KeepImages, TookClause, TookAssumptions, BreaksNames}
-use Rattle.sat_solver.specs.solver.Whole.{IsWhole, IsWholeOf, StateSays, GoesOn, steps_in}
-use Rattle.sat_solver.specs.solver.Adding.{TookIn, with_added, due_for_clause, due_for_asked, Forgets, AddsClause, Assumes, EndsNames}
+use Rattle.sat_solver.specs.solver.Taking.{TookClause, TookAssumptions, BreaksNames}
+use Rattle.sat_solver.specs.solver.Whole.{IsWhole, StateSays, GoesOn, steps_in}
+use Rattle.sat_solver.specs.solver.Adding.{TookIn, with_added, due_for_clause, Forgets, AddsClause, Assumes}
 use Rattle.sat_solver.specs.solver.Asking.{AskedIn}
 
 -- the search goes on unless unsat is recorded
@@ -55,12 +52,14 @@ module _ {W : Type 0} (seen : W → Writer) (s : Solver W) (whole : IsWhole s) (
       where
         sat_unknown : states.Sat ≡ states.Unknown → ⊥
         sat_unknown x = cc
+
         sat_unsat : states.Sat ≡ states.Unsat → ⊥
         sat_unsat x = cc
     by_state before states.UnsatUnderAssumptions k e = elim e [ inl x ↦ absurd (core_unknown x) | inr x ↦ absurd (core_unsat x) ]
       where
         core_unknown : states.UnsatUnderAssumptions ≡ states.Unknown → ⊥
         core_unknown x = cc
+
         core_unsat : states.UnsatUnderAssumptions ≡ states.Unsat → ⊥
         core_unsat x = cc
 

@@ -1,12 +1,12 @@
 -- A solver whose proof was ended.
-use Rattle.std.proofs.Common.{ℕ, ◌<◌, ◌≡◌, ◌∙◌, true, false, Option, None, Some, Result, Ok, Err, List, [], ◌∷◌, ◌++◌, map, refl, sym, ap, subst}
+use Rattle.std.proofs.Common.{ℕ, ◌≡◌, ◌∙◌, true, false, Option, None, Some, Ok, Err, List, [], ◌∷◌, map, refl, sym, ap, subst}
 use Rattle.sat_base.specs.device.Device.{Writer}
-use Rattle.sat_base.specs.steps.Steps.{Step, End}
+use Rattle.sat_base.specs.steps.Steps.{End}
 use Rattle.sat_base.specs.values.Clauses.{EachTrue}
 use Rattle.sat_checker.specs.Fold.{Holds}
 use Rattle.sat_solver.specs.names.Adding.{named_literal}
 use Rattle.sat_solver.specs.names.Checking.{variable_of}
-use Rattle.sat_solver.specs.session.ProofView.{Closes, ClosesOne, ClosesNone, Keeps, steps_of, session_of}
+use Rattle.sat_solver.specs.session.ProofView.{Closes, ClosesOne, Keeps, steps_of, session_of}
 use Rattle.sat_solver.specs.session.Session.{MayAll, session_after}
 use Rattle.sat_solver.specs.declared.session.proof.Proof.{Proof}
 use Rattle.sat_solver.specs.declared.session.proof.ProofError.{ProofError}
@@ -16,14 +16,14 @@ use Rattle.sat_solver.specs.declared.names.taking.Taken.{Taken}
 use Rattle.sat_solver.specs.declared.search.solving.Core.{Core}
 use Rattle.sat_solver.specs.search.Going.{fault_of}
 use Rattle.sat_solver.specs.search.Joint.{IsSearch}
-use Rattle.sat_solver.specs.names.Calls.{Stands, Does, Agree, Writes, written, ordered}
+use Rattle.sat_solver.specs.names.Calls.{Stands, Does, written, ordered}
 use Rattle.sat_solver.specs.names.Expected.{Finish, SameSet, finish}
 use Rattle.sat_solver.proofs.lemmas.names.Searched.{searches_stand, searches_agree}
 use Rattle.sat_solver.specs.declared.solver.Solver.{Solver}
 use Rattle.sat_solver.specs.declared.solver.state.State.{State}
 use Rattle.sat_solver.specs.declared.solver.state.State.TheVariants as states
 use Rattle.sat_solver.specs.solver.Whole.{IsWhole, IsWholeOf, StateSays, GoesOn, steps_in}
-use Rattle.sat_solver.specs.solver.Proving.{ClosedOne, ClosedNone, ClosesProof}
+use Rattle.sat_solver.specs.solver.Proving.{ClosedOne, ClosesProof}
 use Rattle.sat_solver.proofs.lemmas.solver.TellingLemmas.{search_rests}
 use Rattle.sat_solver.proofs.lemmas.solver.SettlingLemmas.{whole_over}
 
@@ -39,6 +39,7 @@ whole_ended {W} c n asked assumed core scale state p whole e keeps = record {
   where
     stands : Stands n (steps_of p)
     stands = subst (Stands n) (sym e) (searches_stand n (steps_of c.proof) End whole.stands (subst MayAll e keeps).1 tt)
+
     joined : GoesOn c n asked → GoesOn (record c { proof = p }) n asked
     joined g = record {
       joined = record {
@@ -53,6 +54,7 @@ whole_ended {W} c n asked assumed core scale state p whole e keeps = record {
       };
       lits = g.lits;
     }
+
     says : (st : State) → StateSays st c n asked assumed core → StateSays st (record c { proof = p }) n asked assumed core
     says states.Unknown h = joined h
     says states.Sat h = (joined h.0, h.1)

@@ -1,9 +1,7 @@
 -- What a search came to, told.
 use Rattle.std.specs.Prelude.{IfOk, IfErr}
-use Rattle.std.proofs.Common.{ℕ, ◌<◌, ◌≡◌, Bool, true, Option, None, Some, Result, Ok, Err, List, [], ◌∷◌, ◌++◌, refl, sym, subst}
+use Rattle.std.proofs.Common.{ℕ, Option, None, Some, Result, Ok, Err, List, ◌++◌, sym, subst}
 use Rattle.sat_base.specs.device.Device.{Writer}
-use Rattle.sat_base.specs.steps.Steps.{Step}
-use Rattle.sat_solver.specs.session.ProofView.{Adds}
 use Rattle.sat_solver.proofs.lemmas.session.ProofLemmas.{adds_more, fails_later}
 use Rattle.sat_solver.specs.declared.bound.search.Outcome.{Outcome}
 use Rattle.sat_solver.specs.declared.bound.search.Outcome.TheVariants as outcomes

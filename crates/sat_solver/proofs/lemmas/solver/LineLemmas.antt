@@ -1,22 +1,21 @@
 -- The line of a model, from what names, steps and search say.
-use Rattle.std.proofs.Common.{ℕ, zero, suc, ◌+◌, ◌<◌, ◌≤◌, ◌≡◌, ◌∙◌, Bool, true, false, Option, None, Some, List, [], ◌∷◌, ◌++◌, map, eqb, refl, sym, ap, subst, arith, inl, inr}
-use Rattle.std.proofs.lemmas.Bool.{cases_eq, cases_lt, or_cases, eqb-true, true≢false}
+use Rattle.std.proofs.Common.{ℕ, zero, suc, ◌+◌, ◌<◌, ◌≡◌, ◌∙◌, Bool, true, Option, None, Some, List, [], ◌∷◌, ◌++◌, map, refl, sym, ap, subst, arith, inl, inr}
+use Rattle.std.proofs.lemmas.Bool.{cases_eq}
 use Rattle.std.proofs.lemmas.Option.{none-some}
 use Rattle.std.proofs.lemmas.List.{append-nil}
 use Rattle.std.specs.List.{AllByRecursion}
-use Rattle.sat_base.specs.values.Literals.{variable, is_positive, coded}
-use Rattle.sat_base.specs.values.Clauses.{Valuation, EachTrue, EachHolds, literal_true}
+use Rattle.sat_base.specs.values.Literals.{variable, coded}
+use Rattle.sat_base.specs.values.Clauses.{Valuation, EachTrue, literal_true}
 use Rattle.sat_base.specs.script.Script.{Literal, names_of, Among}
-use Rattle.sat_base.specs.script.Judge.{Judge, identity_of, over, IsRightModel}
-use Rattle.sat_base.specs.steps.Steps.{Step, Model, FailedAssumptions}
+use Rattle.sat_base.specs.script.Judge.{Judge, identity_of, over}
+use Rattle.sat_base.specs.steps.Steps.{Step, Model}
 use Rattle.sat_checker.specs.Fold.{Holds}
-use Rattle.sat_checker.specs.LiteralSets.{is_among}
-use Rattle.sat_solver.specs.session.Session.{MayAll, May, session_after}
-use Rattle.sat_solver.specs.session.NamedMeaning.{Means, AgreeOn, Reads, AllRead, AllFrom}
+use Rattle.sat_solver.specs.session.Session.{May, session_after}
+use Rattle.sat_solver.specs.session.NamedMeaning.{Means, AgreeOn, Reads, AllRead}
 use Rattle.sat_solver.proofs.lemmas.session.NamedLemmas.{all_at, all_from, among_images, read_value, named_models_are_right}
 use Rattle.sat_solver.specs.names.Adding.{named_literal}
-use Rattle.sat_solver.specs.names.Live.{Live, given, given_of, Agrees, Meant}
-use Rattle.sat_solver.specs.names.Variables.{AreTidy, global_of, user_of, names_used, variables_used}
+use Rattle.sat_solver.specs.names.Live.{Live, given_of, Agrees}
+use Rattle.sat_solver.specs.names.Variables.{global_of, names_used, variables_used}
 use Rattle.sat_solver.specs.names.Models.{value_in, model_to, name_literal, named_to}
 use Rattle.sat_solver.specs.names.Checking.{variable_of}
 use Rattle.sat_solver.specs.names.Calls.{Stands, Agree}
@@ -160,18 +159,17 @@ module _ (n : Variables) (steps : List Step) (values : List (Option Bool)) (stan
       all = lists_all;
       only = mapped_each (λ l. (i : ℕ) × (identity_of j l.name ≡ Some i)) line
           (named_each n values (λ l. (i : ℕ) × (identity_of j (named_literal l).name ≡ Some i)) (names_used n) (λ u v lt e.
-            let r = reads_at n steps j live agree u v (value_in n values v) stands e in (r.identity, r.in_use)));
+          let r = reads_at n steps j live agree u v (value_in n values v) stands e in (r.identity, r.in_use)));
     }
 
     read : AllRead j (variable_of steps) (map named_literal line) (model_to n values (variables_used n))
     read = mapped_each (λ l. (code : ℕ) × Reads j (variable_of steps) l code × Among code (model_to n values (variables_used n))) line
         (named_each n values (λ l. (code : ℕ) × Reads j (variable_of steps) (named_literal l) code × Among code (model_to n values (variables_used n))) (names_used n) (λ u v lt e.
-          let live_ = stands.tidy.named v u (stands.tidy.users.back u v e) in
-          (
-            coded v (value_in n values v),
-            reads_at n steps j live agree u v (value_in n values v) stands e,
-            test_among (model_to n values (variables_used n)) (coded v (value_in n values v)) (model_all n values (variables_used n) v (live_within n v live_) live_),
-          )))
+        let live_ = stands.tidy.named v u (stands.tidy.users.back u v e) in (
+          coded v (value_in n values v),
+          reads_at n steps j live agree u v (value_in n values v) stands e,
+          test_among (model_to n values (variables_used n)) (coded v (value_in n values v)) (model_all n values (variables_used n) v (live_within n v live_) live_),
+        )))
 
     -- the line of a model that may be shown is right
     pub model_line : (asked : List ℕ) → May (session_after steps) (Model (model_to n values (variables_used n))) → AllByRecursion (λ l. Among l line) asked → IsModelLine j (map named_literal asked) (map named_literal line)
@@ -197,9 +195,9 @@ module _ (n : Variables) (steps : List Step) (j : Judge) (live : Live) (agree : 
     none = λ b t h.
         let m = (means_of n steps j live agree).back b h in
         none m.0 m.2 (all_from (λ x. literal_true m.0 x ≡ true) codes (λ x i.
-          let r = all_at (λ code. (l : Literal) × Spells (variable_of steps) l code × Among l (map named_literal core)) x codes same.1 i in
-          read_value j (variable_of steps) m.0 b m.1 r.0 x (spells_reads r.0 x r.1)
-          ∙ all_at (λ y. literal_true b y ≡ true) (over j r.0) (map (over j) (map named_literal core)) t (among_images (over j) r.0 (map named_literal core) r.2)));
+        let r = all_at (λ code. (l : Literal) × Spells (variable_of steps) l code × Among l (map named_literal core)) x codes same.1 i in
+        read_value j (variable_of steps) m.0 b m.1 r.0 x (spells_reads r.0 x r.1)
+        ∙ all_at (λ y. literal_true b y ≡ true) (over j r.0) (map (over j) (map named_literal core)) t (among_images (over j) r.0 (map named_literal core) r.2)));
   }
     where
       each_among : (xs : List ℕ) → AllByRecursion (λ l. Among l asked) xs → AllByRecursion (λ l. Among l (map named_literal asked)) (map named_literal xs)

@@ -1,18 +1,11 @@
 -- What answers rest on.
-use Rattle.std.proofs.Common.{ℕ, ◌<◌, ◌≡◌, ◌∙◌, Bool, true, false, Option, None, Some, List, [], ◌∷◌, length, map, get_or, refl, sym, ap, subst, inl, inr}
-use Rattle.std.specs.List.{AllByRecursion}
-use Rattle.sat_base.specs.script.Script.{Among}
+use Rattle.std.proofs.Common.{ℕ, ◌<◌, ◌≡◌, ◌∙◌, Bool, false, Option, List, [], length, get_or, refl, sym, subst}
 use Rattle.sat_parts.specs.prop.Values.{IsTrueLit}
-use Rattle.sat_solver.specs.session.ProofView.{steps_of, session_of}
-use Rattle.sat_solver.specs.names.Variables.{names_used}
-use Rattle.sat_solver.specs.names.Models.{named_to}
-use Rattle.sat_solver.specs.session.NamedMeaning.{Means}
+use Rattle.sat_solver.specs.session.ProofView.{session_of}
 use Rattle.sat_solver.proofs.lemmas.session.NamedLemmas.{named_unsat_is_right}
 use Rattle.sat_solver.specs.names.Checking.{variable_of}
 use Rattle.sat_solver.specs.declared.solver.Solver.{Solver}
-use Rattle.sat_solver.specs.declared.solver.state.State.{State}
 use Rattle.sat_solver.specs.declared.solver.state.State.TheVariants as states
-use Rattle.sat_solver.specs.solver.Lines.{IsCoreOf}
 use Rattle.sat_solver.specs.solver.Whole.{IsWhole, StateSays, steps_in, line_in}
 use Rattle.sat_solver.specs.solver.Resting.{IsModel, IsRightLine, IsRightCoreOf, IsCore}
 use Rattle.sat_solver.proofs.lemmas.solver.ShownLemmas.{shown_may}
@@ -34,6 +27,7 @@ module _ {W : Type 0} (s : Solver W) (whole : IsWhole s) where
     where
       values : List (Option Bool)
       values = s.core.search.parts.assignment.current
+
       says : StateSays states.Sat s.core s.names s.asked s.assumed.items s.told.failed_core.items
       says = subst (λ st. StateSays st s.core s.names s.asked s.assumed.items s.told.failed_core.items) state whole.says
 
@@ -46,10 +40,15 @@ module _ {W : Type 0} (s : Solver W) (whole : IsWhole s) where
 
   -- and an empty one, where the clauses alone are unsatisfiable
   pub unsat_rests : s.failed ≡ false → s.state ≡ states.Unsat → (core : List ℕ) → core ≡ [] → IsCore s core
-  unsat_rests going state core e = (record { going = going; unsat = rw state tt; core_is = e ∙ rw state refl; right = subst (IsRightCoreOf s) (sym e) (λ j live agree. record {
-    among = tt;
-    none = (named_unsat_is_right j (variable_of (steps_in s)) (steps_in s) [] (means_of s.names (steps_in s) j live agree) whole.stands.may says).none;
-  }) })
+  unsat_rests going state core e = (record {
+    going = going;
+    unsat = rw state tt;
+    core_is = e ∙ rw state refl;
+    right = subst (IsRightCoreOf s) (sym e) (λ j live agree. record {
+      among = tt;
+      none = (named_unsat_is_right j (variable_of (steps_in s)) (steps_in s) [] (means_of s.names (steps_in s) j live agree) whole.stands.may says).none;
+    });
+  })
     where
       says : StateSays states.Unsat s.core s.names s.asked s.assumed.items s.told.failed_core.items
       says = subst (λ st. StateSays st s.core s.names s.asked s.assumed.items s.told.failed_core.items) state whole.says

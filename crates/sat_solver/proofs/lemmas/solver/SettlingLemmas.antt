@@ -1,14 +1,14 @@
 -- A solver that looked for an answer.
-use Rattle.std.proofs.Common.{ℕ, zero, suc, ◌+◌, ◌-◌, ◌*◌, ◌^◌, ◌≤◌, min, ◌<◌, ◌≡◌, ◌∙◌, Bool, true, false, Option, None, Some, Ok, Err, List, [], ◌∷◌, ◌++◌, length, map, get_or, refl, sym, ap, subst, arith, inl, inr}
+use Rattle.std.proofs.Common.{ℕ, zero, suc, ◌+◌, ◌-◌, ◌*◌, ◌^◌, ◌≤◌, min, ◌<◌, ◌≡◌, ◌∙◌, true, false, Ok, Err, List, [], ◌∷◌, ◌++◌, length, map, get_or, refl, sym, ap, subst, arith}
 use Rattle.std.specs.List.{AllByRecursion, Contains}
 use Rattle.sat_base.specs.device.Device.{Writer}
 use Rattle.sat_base.specs.script.Script.{names_of, Among}
-use Rattle.sat_base.specs.steps.Steps.{Step, FailedAssumptions}
+use Rattle.sat_base.specs.steps.Steps.{FailedAssumptions}
 use Rattle.sat_base.specs.values.Clauses.{Valuation, EachTrue}
 use Rattle.sat_checker.specs.Fold.{Holds}
 use Rattle.sat_parts.specs.prop.Values.{IsTrueLit}
 use Rattle.sat_solver.specs.session.LiveClauses.{with_var}
-use Rattle.sat_solver.specs.session.ProofView.{Adds, Flushes, FlushesOrFails, steps_of, session_of}
+use Rattle.sat_solver.specs.session.ProofView.{Flushes, FlushesOrFails, steps_of, session_of}
 use Rattle.sat_solver.specs.declared.session.proof.Proof.{Proof}
 use Rattle.sat_solver.specs.declared.session.proof.ProofError.{ProofError}
 use Rattle.sat_solver.specs.declared.session.proof.ProofError.TheVariants.{Write}
@@ -22,14 +22,13 @@ use Rattle.sat_solver.specs.search.Failing.{causes_hashes}
 use Rattle.sat_solver.specs.search.Joint.{global_in, AreAsked, IsSearch, Moved}
 use Rattle.sat_solver.specs.search.Turns.{IsComplete}
 use Rattle.sat_solver.proofs.lemmas.search.AskedLemmas.{asked_after, kinds_of}
-use Rattle.sat_solver.specs.search.Solving.{Ended, Gone, IsCore, values_in}
-use Rattle.sat_solver.specs.names.Adding.{named_literal, Images}
+use Rattle.sat_solver.specs.search.Solving.{Ended, values_in}
+use Rattle.sat_solver.specs.names.Adding.{named_literal}
 use Rattle.sat_solver.specs.names.Checking.{variable_of}
-use Rattle.sat_solver.specs.names.Expected.{Shows, Fails, SameSet}
+use Rattle.sat_solver.specs.names.Expected.{Shows, SameSet}
 use Rattle.sat_solver.specs.names.Models.{named_to}
 use Rattle.sat_solver.specs.names.Variables.{names_used}
 use Rattle.sat_solver.specs.names.Calls.{Stands, Does}
-use Rattle.sat_solver.specs.session.Making.{Took}
 use Rattle.sat_solver.specs.declared.error.SolverError.{SolverError}
 use Rattle.sat_solver.specs.declared.error.SolverError.TheVariants as errors
 use Rattle.sat_solver.specs.declared.names.Variables.{Variables}
@@ -40,8 +39,8 @@ use Rattle.sat_solver.specs.declared.solver.state.State.{State}
 use Rattle.sat_solver.specs.declared.solver.state.State.TheVariants as states
 use Rattle.sat_solver.specs.declared.solver.finding.Told.{Told}
 use Rattle.sat_solver.specs.declared.solver.finding.Clock.{Clock}
-use Rattle.sat_solver.specs.solver.Joined.{IsJoined, name_of}
-use Rattle.sat_solver.specs.solver.Answering.{Breaks, Shown, Failed, line_of}
+use Rattle.sat_solver.specs.solver.Joined.{IsJoined}
+use Rattle.sat_solver.specs.solver.Answering.{Breaks, Failed, line_of}
 use Rattle.sat_solver.specs.solver.Found.{FoundModel, FoundCore, FoundNone, FoundSays}
 use Rattle.sat_solver.specs.solver.Calls.{Answered, Counts, Solves, told_as, told_by}
 use Rattle.sat_solver.specs.solver.Settling.{Settled}
@@ -96,6 +95,7 @@ module _ {W : Type 0} (seen : W → Writer) (s : Solver W) (whole : IsWhole s) w
       where
         at : IsJoined s.names core
         at = joined_at seen s.names s.core goes.joined core found.gone.steps found.gone.adds found.gone.searched found.sound.keeps found.gone.moved found.sound.search found.gone.config
+
         assumed : (session_of core.proof).assumed ≡ (session_in s).assumed
         assumed = assumed_moved (session_in s) (session_of core.proof) s.core.search core.search goes.joined.sound.search.ready.asked found.sound.search.ready.asked found.gone.moved
 
@@ -131,14 +131,19 @@ module _ {W : Type 0} (seen : W → Writer) (s : Solver W) (whole : IsWhole s) w
         where
           line_by : Search → List ℕ
           line_by c = named_to s.names c.parts.assignment.current (names_used s.names)
+
           mid : IsJoined s.names found.mid
           mid = joined_at seen s.names s.core goes.joined found.mid found.ended.steps found.ended.adds found.ended.searched found.ended.keeps found.ended.says.moved found.ended.says.search found.ended.config
+
           moved : Moved s.core.search core.search
           moved = subst (Moved s.core.search) (sym found.shown.search) found.ended.says.moved
+
           lits : core.search.assumptions.lits.items ≡ s.asked.order.items
           lits = ap (λ ls. ls.items) moved.lits ∙ goes.lits
+
           complete : IsComplete core.search.assumptions.lits.items core.search.parts
           complete = subst (λ (c : Search). IsComplete c.assumptions.lits.items c.parts) (sym found.shown.search) found.ended.says.complete
+
           asked : AllByRecursion (λ l. Among l (line_by core.search)) s.assumed.items
           asked = asked_shown s.names core.search.parts.assignment.current s.assumed.items s.asked.order.items whole.images
               (subst (λ ls. (k : ℕ) → k < length ls → IsTrueLit core.search.parts.assignment.current (get_or ls k 0)) lits complete.assumed)
@@ -167,14 +172,17 @@ module _ {W : Type 0} (seen : W → Writer) (s : Solver W) (whole : IsWhole s) w
         where
           mid : IsJoined s.names found.mid
           mid = joined_at seen s.names s.core goes.joined found.mid found.ended.steps found.ended.adds found.ended.searched found.ended.keeps found.ended.says.moved found.ended.says.search found.ended.config
+
           moved : Moved s.core.search core.search
           moved = record {
             globals = found.failed.told.moved.globals ∙ found.ended.says.moved.globals;
             lits = found.failed.told.moved.lits ∙ found.ended.says.moved.lits;
             size = found.failed.told.moved.size ∙ found.ended.says.moved.size;
           }
+
           lits : found.mid.search.assumptions.lits.items ≡ s.asked.order.items
           lits = ap (λ ls. ls.items) found.ended.says.moved.lits ∙ goes.lits
+
           failed_is : (mid : Core W) → IsJoined s.names mid → mid.search.assumptions.lits.items ≡ s.asked.order.items → Failed seen s.names mid core told.failed_core.items → HasCore core s.assumed.items told.failed_core.items
           failed_is mid joined lits f =
               let used = core.search.analysis.core in
@@ -221,6 +229,7 @@ whole_over {W} c n asked assumed core scale state p whole e = record {
   where
     new : Core W
     new = record c { proof = p }
+
     joined : GoesOn c n asked → GoesOn new n asked
     joined g = record {
       joined = record {
@@ -235,6 +244,7 @@ whole_over {W} c n asked assumed core scale state p whole e = record {
       };
       lits = g.lits;
     }
+
     says : (st : State) → StateSays st c n asked assumed core → StateSays st new n asked assumed core
     says states.Unknown h = joined h
     says states.Sat h = (joined h.0, h.1)

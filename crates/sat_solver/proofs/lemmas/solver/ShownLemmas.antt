@@ -1,5 +1,5 @@
 -- A model of all variables of the proof may be shown.
-use Rattle.std.proofs.Common.{ℕ, zero, suc, ◌+◌, ◌*◌, ◌/◌, ◌%◌, ◌<◌, ◌≤◌, ◌≡◌, ◌∙◌, Bool, true, false, not, cond, eqb, ◌||◌, Option, None, Some, List, [], ◌∷◌, ◌++◌, map, get_or, refl, sym, ap, subst, arith, inl, inr}
+use Rattle.std.proofs.Common.{ℕ, zero, suc, ◌+◌, ◌*◌, ◌/◌, ◌%◌, ◌<◌, ◌≡◌, ◌∙◌, Bool, true, false, cond, eqb, ◌||◌, Option, None, Some, List, [], ◌∷◌, ◌++◌, map, get_or, refl, sym, ap, subst, arith, inl, inr}
 use Rattle.std.specs.List.{list_any}
 use Rattle.std.proofs.lemmas.List.{append-nil}
 use Rattle.std.proofs.lemmas.Bool.{cases_eq, or_cases, or_left, or_right, eq-eqb, eqb-true, true≢false, false_from_ne_true}
@@ -72,7 +72,7 @@ module _ (n : Variables) (values : List (Option Bool)) where
           live = ap (λ v. (data_at n v).deleted) same ∙ p.0;
           value = sym p.1 ∙ ap (λ v. coded v (value_in n values v)) (sym same);
         }
-      )
+        )
   ]
 
   pub model_all : (count v : ℕ) → v < count → (data_at n v).deleted ≡ false → is_among (model_to n values count) (coded v (value_in n values v)) ≡ true
@@ -99,17 +99,17 @@ apart_more : (ls : List ℕ) (y : ℕ) → VariablesApart ls → mentions ls (va
 apart_more [] y h k = (refl, tt)
 apart_more (x ∷ ls) y h k = (
   false_from_ne_true (mentions (ls ++ y ∷ []) (variable x)) (λ t.
-    let m = mentioned (ls ++ y ∷ []) (variable x) t in
-    elim (or_cases (is_among ls m.0) (is_among (y ∷ []) m.0) (sym (among-append ls (y ∷ []) m.0) ∙ m.1)) [
-      | inl a ↦ true≢false (sym (has_mention ls m.0 (variable x) a m.2) ∙ h.0)
-      | inr b ↦ elim (or_cases (eqb y m.0) false b) [
+      let m = mentioned (ls ++ y ∷ []) (variable x) t in
+      elim (or_cases (is_among ls m.0) (is_among (y ∷ []) m.0) (sym (among-append ls (y ∷ []) m.0) ∙ m.1)) [
+        | inl a ↦ true≢false (sym (has_mention ls m.0 (variable x) a m.2) ∙ h.0)
+        | inr b ↦ elim (or_cases (eqb y m.0) false b) [
           | inl e ↦ (
               let same : variable x ≡ variable y = sym m.2 ∙ ap variable (sym (eqb-true y m.0 e)) in
               true≢false (sym (or_left (eqb (variable x) (variable y)) (mentions ls (variable y)) (eq-eqb (variable x) (variable y) same)) ∙ k)
-            )
+              )
           | inr z ↦ absurd (true≢false (sym z))
         ]
-    ]),
+      ]),
   apart_more ls y h.1 (no_right (eqb (variable x) (variable y)) (mentions ls (variable y)) k),
 )
   where
@@ -119,6 +119,7 @@ apart_more (x ∷ ls) y h k = (
       | inl s ↦ or_left (eqb (variable x) v) (mentions ls v) (eq-eqb (variable x) v (ap variable (eqb-true x l s) ∙ e))
       | inr k ↦ or_right (eqb (variable x) v) (mentions ls v) (has_mention ls l v k e)
     ]
+
     no_right : (a b : Bool) → (a || b) ≡ false → b ≡ false
     no_right true b h = absurd (true≢false h)
     no_right false b h = h
@@ -132,9 +133,9 @@ module _ (n : Variables) (values : List (Option Bool)) where
   model_apart zero = subst VariablesApart (sym (model_zero n values)) tt
   model_apart (suc count) = subst VariablesApart (sym (grown n values count)) (apart_lit (data_at n count).deleted (model_to n values count) count (value_in n values count) (model_apart count)
       (false_from_ne_true (mentions (model_to n values count) count) (λ t.
-        let m = mentioned (model_to n values count) count t in
-        let y = model_only n values count m.0 m.1 in
-        let b = y.below in let e = m.2 in omega arith)))
+      let m = mentioned (model_to n values count) count t in
+      let y = model_only n values count m.0 m.1 in
+      let b = y.below in let e = m.2 in omega arith)))
 
 any_more : (xs ys set : List ℕ) → ((l : ℕ) → is_among xs l ≡ true → is_among ys l ≡ true) → list_any (is_among xs) set ≡ true → list_any (is_among ys) set ≡ true
 any_more xs ys [] more h = absurd (true≢false (sym h))
@@ -183,7 +184,7 @@ module _ (n : Variables) (s : Session) (c : Search) (tidy : AreTidy n) (said : A
   unit_shown v b (Some x) e u =
       let same = searched v x b e in
       let name : s.solver_names (global_in c (variable (coded x b))) ≡ Some (variable (coded x b)) =
-          ap (λ w. s.solver_names (global_in c w)) (coded_variable x b) ∙ ap s.solver_names (global_is v x e) ∙ said.solver_names v ∙ e ∙ ap Some (sym (coded_variable x b)) in
+      ap (λ w. s.solver_names (global_in c w)) (coded_variable x b) ∙ ap s.solver_names (global_is v x e) ∙ said.solver_names v ∙ e ∙ ap Some (sym (coded_variable x b)) in
       let y = search.stands.fits.sound (coded x b) name (ap s.units same ∙ u) in
       ap (λ o. value_by o values (data_at n v).unit) e
       ∙ ap (λ w. is_true (get_or values w None)) (sym (coded_variable x b))

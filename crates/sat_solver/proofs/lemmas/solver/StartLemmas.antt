@@ -1,5 +1,5 @@
 -- A solver before the first call.
-use Rattle.std.proofs.Common.{ℕ, ◌+◌, ◌<◌, ◌≤◌, ◌≡◌, ◌∙◌, Bool, true, false, not, cond, Option, None, Some, List, [], ◌∷◌, length, map, get_or, refl, sym, ap, subst, arith}
+use Rattle.std.proofs.Common.{ℕ, ◌<◌, ◌≡◌, ◌∙◌, true, not, cond, Option, None, Some, List, [], ◌∷◌, length, map, refl, sym, ap, subst, arith}
 use Rattle.std.proofs.lemmas.Bool.{true≢false}
 use Rattle.std.proofs.lemmas.List.{get_or_past}
 use Rattle.std.proofs.lemmas.Option.{none-some}
@@ -12,14 +12,12 @@ use Rattle.sat_solver.specs.session.Session.{nothing, MayAll, session_after}
 use Rattle.sat_solver.specs.declared.names.Variables.{Variables}
 use Rattle.sat_solver.specs.declared.names.taking.Taken.{Taken}
 use Rattle.sat_solver.specs.declared.search.solving.Core.{Core}
-use Rattle.sat_solver.specs.loading.Shared.{SharesIndices}
 use Rattle.sat_solver.specs.search.Joint.{IsSearch}
-use Rattle.sat_solver.specs.names.Variables.{AreTidy, AreSaid, AreJudged, says_unit, mode_in, user_of, data_at, global_at, global_of, solver_of, names_used, variables_used}
+use Rattle.sat_solver.specs.names.Variables.{AreTidy, AreSaid, says_unit, mode_in, user_of, data_at, global_of, solver_of, names_used, variables_used}
 use Rattle.sat_solver.specs.names.Live.{given_of}
 use Rattle.sat_solver.specs.names.Calls.{Stands, Agree}
 use Rattle.sat_solver.specs.names.ProofChecking.{the_checking}
 use Rattle.sat_solver.proofs.lemmas.names.BridgeLemmas.{begun}
-use Rattle.sat_solver.specs.solver.Joined.{IsJoined}
 use Rattle.sat_solver.specs.solver.Whole.{IsWholeOf}
 use Rattle.sat_solver.specs.declared.solver.state.State.TheVariants as states
 

@@ -1,14 +1,13 @@
 -- A clause, or assumptions, over names: names, proof and search behind them.
-use Rattle.std.proofs.Common.{ℕ, ◌+◌, ◌*◌, ◌<◌, ◌≡◌, ◌∙◌, Bool, true, false, Option, None, Some, Result, Ok, Err, List, [], ◌∷◌, ◌++◌, length, map, get_or, refl, sym, ap, subst, arith, inl, inr}
-use Rattle.std.specs.List.{AllByRecursion, Contains}
+use Rattle.std.proofs.Common.{ℕ, ◌<◌, ◌≡◌, ◌∙◌, Bool, true, false, Result, Ok, Err, List, [], ◌∷◌, ◌++◌, length, map, get_or, refl, sym, ap, subst, inl, inr}
 use Rattle.sat_base.specs.device.Device.{Writer}
 use Rattle.sat_base.specs.values.Literals.{variable}
-use Rattle.sat_base.specs.script.Judge.{Judge, bring_all, with_clause}
-use Rattle.sat_base.specs.steps.Steps.{Step, AddClause, Assumptions}
-use Rattle.sat_checker.specs.LiteralSets.{is_tautology, canonical}
+use Rattle.sat_base.specs.script.Judge.{bring_all, with_clause}
+use Rattle.sat_base.specs.steps.Steps.{Step, Assumptions}
+use Rattle.sat_checker.specs.LiteralSets.{is_tautology}
 use Rattle.sat_checker.proofs.lemmas.sets.Canonical.{canonical_tautology}
 use Rattle.sat_solver.specs.session.ProofView.{Keeps, steps_of, session_of}
-use Rattle.sat_solver.specs.session.Session.{Session, MayAll, after, session_after}
+use Rattle.sat_solver.specs.session.Session.{Session, MayAll, session_after}
 use Rattle.sat_solver.specs.session.Making.{Took, Broke}
 use Rattle.sat_solver.specs.declared.session.proof.Proof.{Proof}
 use Rattle.sat_solver.proofs.lemmas.session.ProofLemmas.{adds_none, adds_more, fails_later}
@@ -20,11 +19,10 @@ use Rattle.sat_solver.specs.names.Failing.{CameTo}
 use Rattle.sat_solver.specs.loading.Faults.{told_as}
 use Rattle.sat_solver.specs.declared.search.solving.Core.{Core}
 use Rattle.sat_solver.specs.declared.search.work.Search.{Search}
-use Rattle.sat_solver.specs.search.Going.{AreSearched, IsFault, Goes, Went}
-use Rattle.sat_solver.specs.search.Joint.{global_in, IsSearch, Moved}
+use Rattle.sat_solver.specs.search.Going.{IsFault, Goes, Went}
+use Rattle.sat_solver.specs.search.Joint.{global_in, IsSearch}
 use Rattle.sat_solver.proofs.lemmas.search.AskedLemmas.{asked_after, kinds_of}
-use Rattle.sat_solver.specs.names.Adding.{named_literal, Image, Images, MapsClause}
-use Rattle.sat_solver.specs.names.Adding as adding
+use Rattle.sat_solver.specs.names.Adding.{named_literal, Image}
 use Rattle.sat_solver.specs.names.AddingCalls.{AddsClause}
 use Rattle.sat_solver.specs.names.Assuming.{Assumes}
 use Rattle.sat_solver.specs.declared.config.SolverConfig.{SolverConfig}
@@ -34,11 +32,11 @@ use Rattle.sat_solver.specs.names.Calls.{Stands, Does}
 use Rattle.sat_solver.specs.names.Expected.{Adds, bringing}
 use Rattle.sat_solver.specs.names.Refusing.{names_in}
 use Rattle.sat_solver.specs.names.Naming.{Extends}
-use Rattle.sat_solver.specs.names.Search.{Gives, KeepsSearch}
-use Rattle.sat_solver.specs.names.Variables.{AreTidy, solver_of}
+use Rattle.sat_solver.specs.names.Search.{Gives}
+use Rattle.sat_solver.specs.names.Variables.{solver_of}
 use Rattle.sat_solver.specs.declared.names.Variables.{Variables}
 use Rattle.sat_solver.specs.declared.names.taking.Taken.{Taken}
-use Rattle.sat_solver.specs.loading.Indices.{AreVacant, GivesNames, AreIndexed}
+use Rattle.sat_solver.specs.loading.Indices.{AreVacant, AreIndexed}
 use Rattle.sat_solver.specs.loading.Shared.{SharesIndices}
 use Rattle.sat_solver.specs.loading.Loaded.{MayLoad, IsAdded, IsLoaded}
 use Rattle.sat_solver.specs.loading.Assuming.{AreAssumed}
@@ -46,7 +44,7 @@ use Rattle.sat_solver.proofs.lemmas.loading.AlikeLemmas.{tautology_loads}
 use Rattle.sat_solver.proofs.lemmas.loading.LoadingLemmas.{asked_added}
 use Rattle.sat_solver.proofs.lemmas.loading.SharedLemmas.{gives_names, given_vacant, shares_given, AreOver, over_below, over_named, over_same}
 use Rattle.sat_solver.proofs.lemmas.loading.TakenLemmas.{added_names, images_over, taken_may, taken_added}
-use Rattle.sat_solver.specs.solver.Joined.{IsJoined, AreAsked}
+use Rattle.sat_solver.specs.solver.Joined.{IsJoined}
 use Rattle.sat_solver.specs.solver.Taking.{KeepImages, GoesOnOr, TookClause, TookAssumptions, TakesClause, BreaksNames}
 use Rattle.sat_solver.proofs.lemmas.solver.BehindLemmas.{does_behind}
 use Rattle.sat_solver.proofs.lemmas.solver.TellingLemmas.{shares_moved}

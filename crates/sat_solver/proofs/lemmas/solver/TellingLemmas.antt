@@ -1,40 +1,37 @@
 -- Names and search behind the step of an answer.
-use Rattle.std.proofs.Common.{ℕ, zero, suc, ◌+◌, ◌<◌, ◌≡◌, ◌⊎◌, ◌∙◌, Bool, true, false, Option, None, Some, Ok, Err, eqb, List, [], ◌∷◌, ◌++◌, length, map, get_or, refl, sym, ap, subst, arith}
+use Rattle.std.proofs.Common.{ℕ, ◌<◌, ◌≡◌, ◌⊎◌, ◌∙◌, Bool, true, false, Option, Some, Ok, Err, eqb, List, [], ◌∷◌, ◌++◌, length, map, get_or, refl, sym, ap, subst}
 use Rattle.std.proofs.lemmas.Bool.{or_left, or_right, eq-eqb}
-use Rattle.std.specs.List.{AllByRecursion, Contains}
+use Rattle.std.specs.List.{AllByRecursion}
 use Rattle.sat_base.specs.device.Device.{Writer}
 use Rattle.sat_base.specs.values.Literals.{variable}
 use Rattle.sat_base.specs.steps.Steps.{Step, Model, FailedAssumptions}
 use Rattle.sat_checker.specs.LiteralSets.{is_among}
-use Rattle.sat_solver.specs.session.ProofView.{Adds, Fails, Keeps, Records, steps_of, session_of}
-use Rattle.sat_solver.specs.session.Session.{Session, MayAll, May, after, session_after}
+use Rattle.sat_solver.specs.session.ProofView.{Adds, Keeps, Records, steps_of, session_of}
+use Rattle.sat_solver.specs.session.Session.{Session, MayAll, after, session_after}
 use Rattle.sat_solver.specs.declared.session.proof.Proof.{Proof}
 use Rattle.sat_solver.specs.declared.session.proof.ProofError.{ProofError}
 use Rattle.sat_solver.specs.declared.session.proof.ProofError.TheVariants.{Write}
 use Rattle.sat_solver.proofs.lemmas.session.ProofLemmas.{adds_none}
-use Rattle.sat_parts.proofs.lemmas.clause.ListLemmas.{at_place}
 use Rattle.sat_solver.specs.joint.Listed.{Rests}
 use Rattle.sat_solver.proofs.lemmas.joint.AnswerParts.{parts_rests}
 use Rattle.sat_solver.specs.declared.error.SolverError.{SolverError}
 use Rattle.sat_solver.specs.declared.error.SolverError.TheVariants as errors
-use Rattle.sat_solver.specs.search.Failing.{ToldCore, TellsCore}
-use Rattle.sat_solver.specs.search.Going.{fault_of, IsFault, Went}
+use Rattle.sat_solver.specs.search.Failing.{TellsCore}
+use Rattle.sat_solver.specs.search.Going.{fault_of}
 use Rattle.sat_solver.specs.search.Joint.{assumed_in, global_in, IsSearch, Moved}
 use Rattle.sat_solver.specs.parts.Whole.{state}
 use Rattle.sat_solver.specs.parts.Words.{IsIdle}
-use Rattle.sat_solver.specs.search.Solving.{IsCore}
 use Rattle.sat_solver.specs.declared.search.work.Search.{Search}
 use Rattle.sat_solver.specs.declared.search.solving.Core.{Core}
-use Rattle.sat_solver.specs.names.Variables.{data_at, variables_used, indices_used}
+use Rattle.sat_solver.specs.names.Variables.{data_at, variables_used}
 use Rattle.sat_solver.specs.loading.Shared.{SharesIndices}
 use Rattle.sat_solver.specs.names.Models.{model_to}
 use Rattle.sat_solver.specs.names.Calls.{Stands}
-use Rattle.sat_solver.specs.names.Searching.{IsOfSearch}
 use Rattle.sat_solver.specs.declared.names.Variables.{Variables}
 use Rattle.sat_solver.proofs.lemmas.names.Searched.{searches_stand}
 use Rattle.sat_solver.specs.solver.Joined.{IsJoined, name_of}
-use Rattle.sat_solver.specs.solver.Answering.{Shown, ShowsModel, Failed, FailsCore, Breaks, model_of}
-use Rattle.sat_solver.proofs.lemmas.solver.ShownLemmas.{IsShown, model_only}
+use Rattle.sat_solver.specs.solver.Answering.{Shown, Failed, Breaks, model_of}
+use Rattle.sat_solver.proofs.lemmas.solver.ShownLemmas.{model_only}
 
 -- the search doesn't see a step that leaves clauses, units, names and assumptions as they are
 pub search_rests : (s : Session) (c : Search) (step : Step) → IsSearch s c → Rests step → (after step s).assumed ≡ s.assumed → (after step s).solver_names ≡ s.solver_names → IsSearch (after step s) c
@@ -52,6 +49,7 @@ each_live n values count (l ∷ ls) h = (
   where
     first : (l : ℕ) (ls : List ℕ) → is_among (l ∷ ls) l ≡ true
     first l ls = or_left (eqb l l) (is_among ls l) (eq-eqb l l refl)
+
     later : (l m : ℕ) (ls : List ℕ) → is_among ls m ≡ true → is_among (l ∷ ls) m ≡ true
     later l m ls t = or_right (eqb l m) (is_among ls m) t
 

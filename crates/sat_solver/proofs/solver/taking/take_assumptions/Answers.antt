@@ -1,4 +1,4 @@
-use Rattle.std.proofs.Common.{ℕ, ◌≡◌, ◌∙◌, List, sym, ap, subst}
+use Rattle.std.proofs.Common.{ℕ, List, subst}
 use Rattle.sat_solver.specs.loading.Indices.{AreIndexed}
 use Rattle.sat_solver.specs.loading.Assuming.{AreAssumed}
 use Rattle.sat_solver.specs.declared.names.indexing.Given.{Given}

@@ -1,7 +1,6 @@
-use Rattle.std.proofs.Common.{◌≡◌, ◌∙◌, ap, map}
+use Rattle.std.proofs.Common.{◌∙◌, ap, map}
 use Rattle.sat_solver.specs.solver.Joined.{name_of}
-use Rattle.std.proofs.lemmas.Result.{err_from_is_err_and}
-use Rattle.sat_solver.proofs.lemmas.solver.TellingLemmas.{core_failed, core_broken, core_unnamed}
+use Rattle.sat_solver.proofs.lemmas.solver.TellingLemmas.{core_failed}
 use Rattle.sat_solver.proofs.solver.telling.fail_core.Goals as goal
 
 pub returns : goal.returns

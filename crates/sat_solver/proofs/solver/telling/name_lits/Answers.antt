@@ -1,4 +1,4 @@
-use Rattle.std.proofs.Common.{◌≡◌, ◌∙◌, ap, sym, get_or, arith}
+use Rattle.std.proofs.Common.{◌≡◌, ◌∙◌, get_or, arith}
 use Rattle.std.proofs.lemmas.List.{get_or_read}
 use Rattle.sat_solver.proofs.lemmas.names.Mapping.{map_next}
 use Rattle.sat_solver.specs.solver.Joined.{name_of}
