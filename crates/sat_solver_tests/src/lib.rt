@@ -12,3 +12,5 @@ mod proof;
 pub mod searcher;
 #[cfg(test)]
 mod searching;
+#[cfg(test)]
+mod solver;
