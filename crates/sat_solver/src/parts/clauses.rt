@@ -1,5 +1,5 @@
 //! Clauses that are deleted, moved or collected between rounds.
-ghost use Rattle.std.specs.Prelude.{ℕ, ◌≡◌, ◌^◌, ◌<◌, ◌≢◌, ◌≤◌, ◌/◌, ◌↔◌, IsTrue, OnOk, length, [], true, false};
+ghost use Rattle.std.specs.Prelude.{ℕ, ◌≡◌, ◌^◌, ◌<◌, ◌≢◌, ◌≤◌, ◌/◌, ◌↔◌, IsTrue, OnOk, Err, length, [], true, false};
 ghost use Rattle.sat_base.specs.values.Literals.{negated};
 ghost use Rattle.sat_store.specs.clause.Buffer.{header_at};
 ghost use Rattle.sat_store.specs.clause.Header.{is_learned};
@@ -97,6 +97,7 @@ pub fn collect(alloc: Global, parts: &mut Parts) -> Result<(), StoreError>
     ensures copied { Copied parts.old parts.new }
     ensures due { length parts.old.clauses / 2 < parts.old.db.garbage → OnOk result (parts.new.db.garbage ≡ 0) }
     ensures not_due { parts.old.db.garbage ≤ length parts.old.clauses / 2 → parts.new ≡ parts.old }
+    ensures room { result ≡ Err StoreError.StoreFull → ⊥ }
     ensures word { Extends parts.old parts.new }
 {
     collect_garbage(

@@ -1,5 +1,5 @@
 //! Learned clauses that are used least are deleted, and the room of deleted clauses is taken back.
-ghost use Rattle.std.specs.Prelude.{ℕ, ◌≡◌, ◌-◌, ◌<◌, if◌then◌else◌, OnOk, length, map, slice_index_or};
+ghost use Rattle.std.specs.Prelude.{ℕ, ◌≡◌, ◌-◌, ◌<◌, if◌then◌else◌, OnOk, Err, length, map, slice_index_or};
 ghost use Rattle.sat_base.specs.values.Literals.{variable};
 ghost use Rattle.sat_store.specs.clause.Buffer.{IsClause, lits_at};
 ghost use Rattle.sat_solver.specs.session.LiveClauses.{with_var};
@@ -125,6 +125,7 @@ fn collect_deleted(search: &mut Search) -> Result<(), StoreError>
     requires holds { Holds search.old.parts }
     ensures reduced { OnOk result ((s : Session) → IsSearch s search.old → Reduced s search.old search.new) }
     ensures collects { OnOk result (CollectsWhereDue search.old.parts search.new.parts) }
+    ensures room { result ≡ Err StoreError.StoreFull → ⊥ }
 {
     collect(search.alloc, &mut search.parts)
 }

@@ -15,5 +15,6 @@ returns c =
       copied = copied_collect p n.clauses n.db n.watchlists n.graph c.collect_garbage.result e.collected e.not_due e.same;
       due = λ lt. on_ok_weaker c.collect_garbage.result (λ x. x.clean) (e.collected lt);
       not_due = λ le. (let same = e.not_due le in rw (same.0, same.1, same.2, same.3) refl);
+      room = e.room;
       word = λ am. extends_collect am p.clauses n.clauses p.db n.db p.watchlists n.watchlists p.assignment p.graph n.graph p.trail p.vsids c.collect_garbage.result e.collected e.not_due e.same;
     }

@@ -18,4 +18,5 @@ pub returns : goal.returns
 returns c = record {
   reduced = always c.collect.result (λ s search. reduced_copied s c.args.search.now _ search refl refl refl refl c.collect.ensures.holds c.collect.ensures.copied c.collect.ensures.word);
   collects = where_due c.collect.result c.args.search.now.parts c.collect.new.parts c.collect.ensures.copied c.collect.ensures.due c.collect.ensures.not_due;
+  room = c.collect.ensures.room;
 }
