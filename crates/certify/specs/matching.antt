@@ -1,2 +1,5 @@
 pub mod Variables
 pub mod Comparing
+pub mod Following
+pub mod Awaiting
+pub mod Naming

@@ -1,5 +1,9 @@
-//! Steps of a certificate, compared with what a script and its answers expect.
+//! Steps of a certificate, matched with what a script and its answers expect.
 
+pub(crate) mod awaiting;
+pub(crate) mod certificate;
 pub(crate) mod comparing;
 pub(crate) mod expected;
+pub mod following;
 pub(crate) mod named;
+pub(crate) mod naming;

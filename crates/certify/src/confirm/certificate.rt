@@ -38,14 +38,14 @@ pub(crate) enum Awaited {
 }
 
 /// The tags of steps that a script and its answers ask for; the others are fed wherever they stand.
-fn is_ordered(tag: u8) -> bool
+pub(crate) fn is_ordered(tag: u8) -> bool
     ensures { result ≡ is_ordered_tag tag }
 {
     tag == 2 || tag == 5 || tag == 10 || tag == 11 || tag == 12 || tag == 13
 }
 
 /// Reads the next step.
-fn read_next<R: CountedRead>(steps: &mut StepReader<'_, R>) -> Result<(), Stop>
+pub(crate) fn read_next<R: CountedRead>(steps: &mut StepReader<'_, R>) -> Result<(), Stop>
     requires { GoesOn R.seen steps.old }
     ensures same { reader_name steps.new ≡ reader_name steps.old }
     ensures bound { (reader_source R.seen steps.new).reads ≤ most_reads }
@@ -61,7 +61,7 @@ fn read_next<R: CountedRead>(steps: &mut StepReader<'_, R>) -> Result<(), Stop>
 }
 
 /// Feeds a step to the checker.
-fn feed(checker: &mut Checker, step: &ProofStep<'_>) -> Result<(), Stop>
+pub(crate) fn feed(checker: &mut Checker, step: &ProofStep<'_>) -> Result<(), Stop>
     ensures feeds { Feeds result (kernel_of checker.old) (step_of step.now) (kernel_of checker.new) }
     ensures looks { LooksAtMost (kernel_of checker.old) (step_of step.now) (kernel_of checker.new) }
 {
@@ -72,7 +72,7 @@ fn feed(checker: &mut Checker, step: &ProofStep<'_>) -> Result<(), Stop>
 }
 
 /// Settles a unit conflict that is pending.
-fn settle(checker: &mut Checker) -> Result<(), Stop>
+pub(crate) fn settle(checker: &mut Checker) -> Result<(), Stop>
     ensures { Settles result (kernel_of checker.old) (kernel_of checker.new) }
 {
     // Mostly none is pending, and then nothing is cleared for what the call may answer, which is large.

@@ -1,5 +1,5 @@
 //! The names in use, and their modes.
-ghost use Rattle.std.specs.Prelude.{◌≡◌, ◌+◌, ◌<◌, ℕ, List, None, false, OnOk, length};
+ghost use Rattle.std.specs.Prelude.{◌≡◌, ◌+◌, ◌<◌, ◌≤◌, ℕ, List, None, false, OnOk, length};
 ghost use Rattle.std.specs.Bool.{MatchBool};
 ghost use Rattle.sat_base.specs.values.Literals.{largest};
 ghost use Rattle.sat_base.specs.script.Script.{Command as Spelled, Literal, names_of};
@@ -100,7 +100,8 @@ impl Names {
     /// The names that become new variables where this one is brought in, in order: all from the first never used up to it, or a hidden
     /// one itself.
     pub fn new_names(&self, var: Var) -> NewNames
-        ensures { (j : Judge) → Stands self.now j → new_names (var + 1) j ≡ names_from result.count (result.first + 1) }
+        ensures told { (j : Judge) → Stands self.now j → new_names (var + 1) j ≡ names_from result.count (result.first + 1) }
+        ensures within { result.first + result.count ≤ largest }
     {
         let index = var.index();
         let used = self.states.len();

@@ -194,12 +194,12 @@ fn compare_end(known: Known<'_>, step: &ProofStep<'_>) -> Option<Why>
 pub(crate) fn fits(
     known: Known<'_>,
     step: &ProofStep<'_>,
-    expected: Expected<'_>,
+    expected: &Expected<'_>,
     room: &mut Room,
 ) -> Result<Option<Why>, AllocError>
-    ensures { IfOk result (Compares (due_of expected.entry) known.entry (step_of step.now)) }
+    ensures { IfOk result (Compares (due_of expected.now) known.entry (step_of step.now)) }
 {
-    match expected {
+    match *expected {
         Expected::NewName(name) => Ok(compare_new_name(known, step, name)),
         Expected::NoName(name) => Ok(compare_no_name(known, step, name)),
         Expected::Clause(literals) => compare_clause(known, step, literals, room),
@@ -220,10 +220,10 @@ pub(crate) fn fits(
 }
 
 /// What may stay unmet once `unsat` is recorded: all but a model, and but a core that isn't empty.
-pub(crate) fn excuse(expected: Expected<'_>) -> Option<Why>
-    ensures { Excuses (due_of expected.entry) result }
+pub(crate) fn excuse(expected: &Expected<'_>) -> Option<Why>
+    ensures { Excuses (due_of expected.now) result }
 {
-    match expected {
+    match *expected {
         Expected::Model { names: _names, .. } => Some(Why::AnswerDiffers),
         Expected::Core(core) => {
             if core.is_empty() {

@@ -1,5 +1,6 @@
 //! The variables that names stand for.
-ghost use Rattle.std.specs.Prelude.{◌≡◌, ◌+◌, [], None, Some, OnOk};
+ghost use Rattle.std.specs.Prelude.{◌≡◌, ◌+◌, ◌<◌, [], None, Some, OnOk};
+ghost use Rattle.sat_base.specs.values.Literals.{largest};
 ghost use Rattle.certify.specs.matching.Variables.{IsPut, variable_in};
 
 use sat_base::Var;
@@ -34,7 +35,8 @@ impl NamedVars {
 
     /// Puts a name on a variable.
     pub fn put(&mut self, name: Var, variable: Var) -> Result<(), AllocError>
-        ensures { OnOk result (IsPut self.old.variables.items self.new.variables.items (name + 1) (Some variable)) }
+        ensures put { OnOk result (IsPut self.old.variables.items self.new.variables.items (name + 1) (Some variable)) }
+        ensures within { name < largest }
     {
         let place = name.index();
         if place < self.variables.len() {

@@ -1,5 +1,6 @@
-use Rattle.std.proofs.Common.{◌≡◌, ◌+◌, ◌<◌, ◌∷◌, [], ℕ, List, Option, None, length, refl, sym, ap, ◌∙◌, arith}
+use Rattle.std.proofs.Common.{◌≡◌, ◌+◌, ◌≤◌, ◌<◌, ◌++◌, ◌∷◌, [], ℕ, List, Option, None, length, refl, sym, ap, subst, ◌∙◌, arith}
 use Rattle.std.proofs.lemmas.List.{length-append}
+use Rattle.certify.specs.matching.Variables.{variable_in}
 use Rattle.certify.proofs.lemmas.matching.Named.{put_at, put_behind, none_more}
 use Rattle.certify.proofs.matching.named.NamedVars.put.Goals as goal
 
@@ -20,14 +21,14 @@ loop-next-preserved c =
       same = none_more old l.self.variables.items c.push.new.self.items l.invariant.same items;
     }
 
-pub returns-then-place-len : goal.returns-then-place-len
-returns-then-place-len c =
+pub returns-then-place-len-clause-put : goal.returns-then-place-len-clause-put
+returns-then-place-len-clause-put c =
     let old = c.args.self.now.variables in
     let low : c.index-place.result < length old.items = omega (arith, c.len.ensures, old.ok.0) in
     put_at old.items _ c.index-place.result (c.args.name + 1) _ low (ap (λ (n : ℕ). n + 1) c.index-place.ensures.value) refl
 
-pub returns : goal.returns
-returns c =
+pub returns-clause-put : goal.returns-clause-put
+returns-clause-put c =
     let old = c.args.self.now.variables in
     let l = c.loop-next in
     let count : length l.self.variables.items + 1 ≡ c.args.name + 1 =

@@ -1,0 +1,5 @@
+use Rattle.certify.proofs.lemmas.matching.Following.{others}
+use Rattle.certify.proofs.matching.following.others_pass.Goals as goal
+
+pub returns : goal.returns
+returns c = others

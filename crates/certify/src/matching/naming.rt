@@ -1,0 +1,97 @@
+//! The names of a script's commands, as a certificate puts and takes them.
+ghost use Rattle.std.specs.Prelude.{◌≡◌, ◌+◌, ◌≤◌, [], map, OnOk};
+ghost use Rattle.sat_base.specs.device.Device.{most_reads};
+ghost use Rattle.sat_base.specs.script.Judge.{names_from};
+ghost use Rattle.sat_base.specs.steps.StepReading.{reader_name, reader_source};
+ghost use Rattle.sat_base.specs.values.Literals.{largest};
+ghost use Rattle.sat_checker.specs.CheckerView.{kernel_of};
+ghost use Rattle.sat_checker.specs.matching.Expected.{NewName};
+ghost use Rattle.certify.specs.confirm.Streams.{Confirms, GoesOn, stream_of};
+ghost use Rattle.certify.specs.judge.Names.{Changes, taken};
+ghost use Rattle.certify.specs.matching.Naming.{MeetsAll, MeetsName, hidden_by};
+ghost use Rattle.certify.specs.reading.Commands.{kind_of};
+
+use crate::confirm::stop::Stop;
+use crate::judge::{Names, NewNames};
+use crate::matching::certificate::Certificate;
+use crate::matching::expected::Expected;
+use crate::reading::CommandKind;
+use sat_base::{CountedRead, StepReader, Var};
+
+/// A certificate, and the names of the script that it is matched with.
+#[derive(Drop)]
+pub(crate) struct Matching {
+    pub certificate: Certificate,
+    pub names: Names,
+}
+
+/// Expects new names, in order.
+fn expect_new<R: CountedRead>(
+    certificate: &mut Certificate,
+    steps: &mut StepReader<'_, R>,
+    new: NewNames,
+) -> Result<(), Stop>
+    requires goes_on { GoesOn R.seen steps.old }
+    requires within { new.first + new.count ≤ largest }
+    ensures same { reader_name steps.new ≡ reader_name steps.old }
+    ensures bound { (reader_source R.seen steps.new).reads ≤ most_reads }
+    ensures goes_on { OnOk result (GoesOn R.seen steps.new) }
+    ensures confirms { Confirms result (stream_of R.seen steps.old (kernel_of certificate.old.checker) [])
+        (stream_of R.seen steps.new (kernel_of certificate.new.checker) [])
+        (MeetsAll (map NewName (names_from new.count (new.first + 1))) certificate.old.names certificate.new.names) }
+{
+    for done in 0..new.count {
+        let name = Var::from_index(new.first + done);
+        certificate.expect(steps, &Expected::NewName(name))?;
+    }
+    Ok(())
+}
+
+/// Expects that a name is hidden, if the command hides it.
+fn expect_hidden<R: CountedRead>(
+    certificate: &mut Certificate,
+    steps: &mut StepReader<'_, R>,
+    kind: CommandKind,
+    name: Var,
+) -> Result<(), Stop>
+    requires goes_on { GoesOn R.seen steps.old }
+    ensures same { reader_name steps.new ≡ reader_name steps.old }
+    ensures bound { (reader_source R.seen steps.new).reads ≤ most_reads }
+    ensures goes_on { OnOk result (GoesOn R.seen steps.new) }
+    ensures confirms { Confirms result (stream_of R.seen steps.old (kernel_of certificate.old.checker) [])
+        (stream_of R.seen steps.new (kernel_of certificate.new.checker) [])
+        (MeetsAll (hidden_by (kind_of kind) (name + 1)) certificate.old.names certificate.new.names) }
+{
+    match kind {
+        CommandKind::Hide => certificate.expect(steps, &Expected::NoName(name)),
+        CommandKind::Clause => Ok(()),
+        CommandKind::Ask => Ok(()),
+        CommandKind::Witness => Ok(()),
+        CommandKind::Sample => Ok(()),
+    }
+}
+
+impl Matching {
+    /// Expects what a command of this kind, which isn't refused, makes of one of its names.
+    pub fn take_name<R: CountedRead>(
+        &mut self,
+        steps: &mut StepReader<'_, R>,
+        kind: CommandKind,
+        name: Var,
+    ) -> Result<(), Stop>
+        requires goes_on { GoesOn R.seen steps.old }
+        ensures same { reader_name steps.new ≡ reader_name steps.old }
+        ensures bound { (reader_source R.seen steps.new).reads ≤ most_reads }
+        ensures goes_on { OnOk result (GoesOn R.seen steps.new) }
+        ensures changes { OnOk result (Changes self.old.names self.new.names (taken (kind_of kind) (name + 1))) }
+        ensures confirms { Confirms result (stream_of R.seen steps.old (kernel_of self.old.certificate.checker) [])
+            (stream_of R.seen steps.new (kernel_of self.new.certificate.checker) [])
+            (MeetsName (kind_of kind) (name + 1) self.old.names self.old.certificate.names self.new.certificate.names) }
+    {
+        let new = self.names.new_names(name);
+        expect_new(&mut self.certificate, steps, new)?;
+        expect_hidden(&mut self.certificate, steps, kind, name)?;
+        self.names.take(kind, name)?;
+        Ok(())
+    }
+}
