@@ -5,6 +5,7 @@ pub mod answers;
 pub mod confirm;
 pub mod fault;
 pub mod judge;
+pub mod law_matching;
 pub mod law_reading;
 pub mod law_script;
 pub mod laws;

@@ -4,6 +4,6 @@ pub(crate) mod awaiting;
 pub(crate) mod certificate;
 pub(crate) mod comparing;
 pub(crate) mod expected;
-pub mod following;
+pub(crate) mod following;
 pub(crate) mod named;
 pub(crate) mod naming;

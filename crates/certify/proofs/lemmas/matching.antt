@@ -5,3 +5,5 @@ pub mod Following
 pub mod Awaiting
 pub mod Met
 pub mod Naming
+pub mod NamesMet
+pub mod NamesExpected

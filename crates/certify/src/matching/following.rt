@@ -3,7 +3,7 @@ ghost use Rattle.std.specs.Prelude.{◌+◌, OnOk};
 ghost use Rattle.sat_base.specs.steps.StepViews.{step_of};
 ghost use Rattle.sat_checker.specs.matching.Expected.{NewName, NoName};
 ghost use Rattle.certify.specs.matching.Comparing.{due_of};
-ghost use Rattle.certify.specs.matching.Following.{Follows, OthersPass};
+ghost use Rattle.certify.specs.matching.Following.{Follows};
 
 use crate::matching::expected::Expected;
 use crate::matching::named::NamedVars;
@@ -55,8 +55,3 @@ pub(crate) fn follow(
         Expected::End => Ok(()),
     }
 }
-
-/// Steps that nobody expects change nothing. It does nothing.
-pub fn others_pass()
-    ensures { OthersPass }
-{}

@@ -2,13 +2,15 @@
 ghost use Rattle.std.specs.Prelude.{◌≡◌, ◌+◌, ◌≤◌, [], map, OnOk};
 ghost use Rattle.sat_base.specs.device.Device.{most_reads};
 ghost use Rattle.sat_base.specs.script.Judge.{names_from};
+ghost use Rattle.sat_base.specs.script.Script.{names_of};
 ghost use Rattle.sat_base.specs.steps.StepReading.{reader_name, reader_source};
 ghost use Rattle.sat_base.specs.values.Literals.{largest};
 ghost use Rattle.sat_checker.specs.CheckerView.{kernel_of};
 ghost use Rattle.sat_checker.specs.matching.Expected.{NewName};
+ghost use Rattle.certify.specs.answers.AnswerForms.{named_literals};
 ghost use Rattle.certify.specs.confirm.Streams.{Confirms, GoesOn, stream_of};
 ghost use Rattle.certify.specs.judge.Names.{Changes, taken};
-ghost use Rattle.certify.specs.matching.Naming.{MeetsAll, MeetsName, hidden_by};
+ghost use Rattle.certify.specs.matching.Naming.{MeetsAll, MeetsName, MeetsNames, hidden_by, taken_by};
 ghost use Rattle.certify.specs.reading.Commands.{kind_of};
 
 use crate::confirm::stop::Stop;
@@ -16,7 +18,7 @@ use crate::judge::{Names, NewNames};
 use crate::matching::certificate::Certificate;
 use crate::matching::expected::Expected;
 use crate::reading::CommandKind;
-use sat_base::{CountedRead, StepReader, Var};
+use sat_base::{CountedRead, Lit, StepReader, Var};
 
 /// A certificate, and the names of the script that it is matched with.
 #[derive(Drop)]
@@ -92,6 +94,29 @@ impl Matching {
         expect_new(&mut self.certificate, steps, new)?;
         expect_hidden(&mut self.certificate, steps, kind, name)?;
         self.names.take(kind, name)?;
+        Ok(())
+    }
+
+    /// Expects what a command of this kind, which isn't refused, makes of all its names, from left to right.
+    pub fn take_names<R: CountedRead>(
+        &mut self,
+        steps: &mut StepReader<'_, R>,
+        kind: CommandKind,
+        literals: &[Lit],
+    ) -> Result<(), Stop>
+        requires goes_on { GoesOn R.seen steps.old }
+        ensures same { reader_name steps.new ≡ reader_name steps.old }
+        ensures bound { (reader_source R.seen steps.new).reads ≤ most_reads }
+        ensures goes_on { OnOk result (GoesOn R.seen steps.new) }
+        ensures changes { OnOk result (Changes self.old.names self.new.names
+            (taken_by (kind_of kind) (names_of (named_literals literals.now)))) }
+        ensures confirms { Confirms result (stream_of R.seen steps.old (kernel_of self.old.certificate.checker) [])
+            (stream_of R.seen steps.new (kernel_of self.new.certificate.checker) []) (MeetsNames (kind_of kind)
+            (names_of (named_literals literals.now)) self.old.names self.old.certificate.names self.new.certificate.names) }
+    {
+        for lit in literals {
+            self.take_name(steps, kind, lit.var())?;
+        }
         Ok(())
     }
 }
