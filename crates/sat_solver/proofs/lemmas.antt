@@ -8,3 +8,4 @@ pub mod bound
 pub mod search
 pub mod loading
 pub mod solver
+pub mod simplify

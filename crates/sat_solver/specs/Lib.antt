@@ -7,6 +7,7 @@ pub mod names
 pub mod bound
 pub mod search
 pub mod loading
+pub mod simplify
 pub mod Configs
 pub mod Recovery
 pub mod solver

@@ -13,6 +13,7 @@ pub mod parts;
 pub mod progress;
 pub mod search;
 pub mod session;
+pub mod simplify;
 pub mod solver;
 
 pub use config::{SolverConfig, SolverConfigUpdate};

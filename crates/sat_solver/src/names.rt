@@ -226,12 +226,12 @@ impl Variables {
         self.var_data[global.index()].unit
     }
 
-    /// Notes the value of the unit of a variable that has an index: the search does so as the unit leaves its trail.
-    pub fn set_unit(&mut self, global: Var, value: bool)
+    /// Notes the value of the unit of a variable that has an index, if there is one: the search does so before it gives the index up.
+    pub fn set_unit(&mut self, global: Var, unit: Option<bool>)
         requires within { global < variables_used self.old }
-        ensures { PutsUnit self.old self.new global value }
+        ensures { PutsUnit self.old self.new global unit }
     {
-        set_unit(&mut self.var_data, global, value);
+        set_unit(&mut self.var_data, global, unit);
     }
 
     /// The first name never used, where none is hidden.

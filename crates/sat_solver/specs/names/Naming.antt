@@ -1,5 +1,5 @@
 -- What calls over names change and write.
-use Rattle.std.specs.Prelude.{ℕ, ◌+◌, ◌<◌, ◌≤◌, ◌==◌, ◌≡◌, max, Bool, true, false, not, None, Some, length, get_or, ◌&&◌, get_or, ◌&&◌, if◌then◌else◌}
+use Rattle.std.specs.Prelude.{ℕ, ◌+◌, ◌<◌, ◌≤◌, ◌==◌, ◌≡◌, max, Bool, true, false, not, Option, None, Some, length, get_or, ◌&&◌, get_or, ◌&&◌, if◌then◌else◌}
 use Rattle.sat_base.specs.values.Literals.{largest}
 use Rattle.sat_store.specs.variables.VarData.{user_variable, unused_variable}
 use Rattle.sat_store.specs.variables.Maps.{AreInverse, Links, Unlinks}
@@ -100,9 +100,9 @@ pub record SameMaps (old new : Variables) : Type 0 where
   pub free_solvers : new.free_solvers ≡ old.free_solvers
 
 -- the value of a variable's unit is known
-pub record PutsUnit (old new : Variables) (v : ℕ) (value : Bool) : Type 0 where
+pub record PutsUnit (old new : Variables) (v : ℕ) (value : Option Bool) : Type 0 where
   pub maps : SameMaps old new
-  pub kept : (w : ℕ) → data_at new w ≡ (if w == v then record (data_at old v) { unit = Some value } else data_at old w)
+  pub kept : (w : ℕ) → data_at new w ≡ (if w == v then record (data_at old v) { unit = value } else data_at old w)
 
 -- the name that comes next: the lowest one not in use
 pub record IsNextUser (n : Variables) (user : ℕ) : Type 0 where

@@ -1,5 +1,5 @@
 -- Steps of the search, and what they leave of the names.
-use Rattle.std.specs.Prelude.{ℕ, ◌≡◌, ◌∷◌, Bool, false, Some, List, map}
+use Rattle.std.specs.Prelude.{ℕ, ◌≡◌, ◌∷◌, Bool, false, Option, Some, List, map}
 use Rattle.std.specs.List.{AllByRecursion}
 use Rattle.sat_base.specs.values.Literals.{variable}
 use Rattle.sat_base.specs.script.Judge.{Judge}
@@ -36,4 +36,4 @@ SearchesAgree = (n : Variables) (steps : List Step) (step : Step) → Stands n s
 
 -- Names stand, and the judge is the same, where the value of a unit is noted of a variable that has an index.
 abbrev pub UnitsStand : Type 0
-UnitsStand = (old new : Variables) (steps : List Step) (v x : ℕ) (value : Bool) → Stands old steps → solver_of old v ≡ Some x → PutsUnit old new v value → Stands new steps × ((j : Judge) (live : Live) → Agree old steps j live → Agree new steps j live)
+UnitsStand = (old new : Variables) (steps : List Step) (v x : ℕ) (value : Option Bool) → Stands old steps → solver_of old v ≡ Some x → PutsUnit old new v value → Stands new steps × ((j : Judge) (live : Live) → Agree old steps j live → Agree new steps j live)

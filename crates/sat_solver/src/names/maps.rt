@@ -88,11 +88,11 @@ pub(crate) fn set_assumed(list: &mut Vec<VarData>, var: Var, assumed: bool)
     list[var.index()].assumed = assumed;
 }
 
-/// Sets the value of a variable's unit.
-pub(crate) fn set_unit(list: &mut Vec<VarData>, var: Var, value: bool)
+/// Sets a variable's unit.
+pub(crate) fn set_unit(list: &mut Vec<VarData>, var: Var, unit: Option<bool>)
     requires within { var < length list.old.items }
-    ensures put { (v : ℕ) → slice_index_or list.new.items v unused_variable ≡ (if v == var then record (slice_index_or list.old.items var unused_variable) { unit = Some value } else slice_index_or list.old.items v unused_variable) }
+    ensures put { (v : ℕ) → slice_index_or list.new.items v unused_variable ≡ (if v == var then record (slice_index_or list.old.items var unused_variable) { unit = unit } else slice_index_or list.old.items v unused_variable) }
     ensures size { length list.new.items ≡ length list.old.items }
 {
-    list[var.index()].unit = Some(value);
+    list[var.index()].unit = unit;
 }

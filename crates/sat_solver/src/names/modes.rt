@@ -63,7 +63,7 @@ pub fn delete_var<W: StepWriter>(
 }
 
 /// A hidden variable without an index, which is in no clause, is forgotten, unless an assumption has it.
-fn forget_idle<W: StepWriter>(
+pub(crate) fn forget_idle<W: StepWriter>(
     variables: &mut Variables,
     writer: &mut W,
     global: Var,

@@ -23,7 +23,7 @@ use sat_store::{ClauseRef, StoreError};
 use std::alloc::AllocError;
 
 /// Puts the literals of a long clause, in proof variables, into a list in place of what it had.
-fn map_clause(
+pub fn map_clause(
     parts: &Parts,
     globals: &[Var],
     cref: ClauseRef,

@@ -59,18 +59,18 @@ module _ (old new : Variables) (tidy : AreTidy old) (maps : SameMaps old new) (d
 none_some : {x : ℕ} {o : Option ℕ} → o ≡ None → o ≡ Some x → ⊥
 none_some e f = cc
 
-module _ (old new : Variables) (steps : List Step) (v x : ℕ) (value : Bool) (stands : Stands old steps) (has : solver_of old v ≡ Some x) (put : PutsUnit old new v value) where
-  same : {A : Type 0} (w : ℕ) (f : VarData → A) → f (record (data_at old v) { unit = Some value }) ≡ f (data_at old v) → f (data_at new w) ≡ f (data_at old w)
+module _ (old new : Variables) (steps : List Step) (v x : ℕ) (value : Option Bool) (stands : Stands old steps) (has : solver_of old v ≡ Some x) (put : PutsUnit old new v value) where
+  same : {A : Type 0} (w : ℕ) (f : VarData → A) → f (record (data_at old v) { unit = value }) ≡ f (data_at old v) → f (data_at new w) ≡ f (data_at old w)
   same w f e = go (eqb w v) refl (put.kept w)
     where
-      go : (b : Bool) → eqb w v ≡ b → data_at new w ≡ cond b (record (data_at old v) { unit = Some value }) (data_at old w) → f (data_at new w) ≡ f (data_at old w)
+      go : (b : Bool) → eqb w v ≡ b → data_at new w ≡ cond b (record (data_at old v) { unit = value }) (data_at old w) → f (data_at new w) ≡ f (data_at old w)
       go true t y = ap f y ∙ e ∙ ap (λ k. f (data_at old k)) (sym (eqb-true w v t))
       go false t y = ap f y
 
   other : (w : ℕ) → w ≢ v → data_at new w ≡ data_at old w
   other w ne = go (eqb w v) refl (put.kept w)
     where
-      go : (b : Bool) → eqb w v ≡ b → data_at new w ≡ cond b (record (data_at old v) { unit = Some value }) (data_at old w) → data_at new w ≡ data_at old w
+      go : (b : Bool) → eqb w v ≡ b → data_at new w ≡ cond b (record (data_at old v) { unit = value }) (data_at old w) → data_at new w ≡ data_at old w
       go true t y = absurd (ne (eqb-true w v t))
       go false t y = y
 

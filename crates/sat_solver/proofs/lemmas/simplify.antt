@@ -1,0 +1,2 @@
+pub mod LighterLemmas
+pub mod FreedLemmas

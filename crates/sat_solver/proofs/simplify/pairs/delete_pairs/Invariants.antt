@@ -1,0 +1,11 @@
+use Rattle.std.proofs.Common.{◌≡◌, Ok}
+use Rattle.sat_solver.specs.session.ProofView.{session_of}
+use Rattle.sat_solver.specs.search.Going.{Goes}
+use Rattle.sat_solver.specs.simplify.Flat.{LeavesPairs}
+use Rattle.sat_solver.proofs.simplify.pairs.delete_pairs.Given as goal
+
+abbrev pub invariant-loop-code : goal.invariant-loop-code
+invariant-loop-code g l = record {
+  same : l.search ≡ record l.fn.search { scratch = l.search.scratch };
+  went : Goes {A = Unit {0}} g.W.CountedWrite.seen (Ok tt) l.fn.proof l.proof (λ _ _. LeavesPairs (session_of l.proof) l.fn.search l.code 0);
+}

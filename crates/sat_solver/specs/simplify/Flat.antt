@@ -1,0 +1,35 @@
+-- A search at level 0 whose trail is empty.
+use Rattle.std.specs.Prelude.{ℕ, ◌≡◌, ◌≤◌, [], length}
+use Rattle.sat_solver.specs.declared.parts.Parts.{Parts}
+use Rattle.sat_solver.specs.parts.Frame.{SameState}
+use Rattle.sat_solver.specs.parts.Words.{ExtendsFor}
+use Rattle.sat_solver.specs.session.Session.{Session}
+use Rattle.sat_solver.specs.parts.Whole.{Holds}
+use Rattle.sat_solver.specs.joint.Fits.{ArePaired}
+use Rattle.sat_solver.specs.joint.Listed.{LeftParts}
+use Rattle.sat_solver.specs.search.Joint.{assumed_in, global_in, IsSearch, Moved}
+use Rattle.sat_solver.specs.declared.search.work.Search.{Search}
+
+-- no level is open, and nothing is on the trail
+pub record IsFlat (p : Parts) : Type 0 where
+  pub bottom : p.trail.starts ≡ []
+  pub empty : p.trail.lits ≡ []
+
+-- clauses of two literals may go with their steps
+pub record MayRemove (c : Search) : Type 0 where
+  pub holds : Holds c.parts
+  pub flat : IsFlat c.parts
+  pub paired : ArePaired c.parts.binary.implied
+  pub names : length c.parts.assignment.current ≤ length c.globals.items
+
+-- what fitted fits, with fewer clauses of two literals: the first k ones of the list l and all of those before it were looked at
+abbrev pub LeavesPairs : Session → Search → (l k : ℕ) → Type 0
+LeavesPairs s c l k = LeftParts c.parts s (global_in c) l k
+
+-- clauses went or lost literals: values and variables are as they were, and so is the list of long clauses, with those that went
+pub record Lighter (s : Session) (c c' : Search) : Type 0 where
+  pub search : IsSearch s c'
+  pub moved : Moved c c'
+  pub word : ExtendsFor (assumed_in c) c.parts c'.parts
+  pub state : SameState c.parts c'.parts
+  pub refs : c'.parts.db.refs ≡ c.parts.db.refs

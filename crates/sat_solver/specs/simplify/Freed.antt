@@ -1,0 +1,46 @@
+-- Indices are given up.
+use Rattle.std.specs.Prelude.{ℕ, ◌≡◌, ◌≢◌, ◌==◌, Bool, Some, None, List, if◌then◌else◌}
+use Rattle.sat_base.specs.values.Literals.{coded}
+use Rattle.sat_base.specs.steps.Steps.{Step}
+use Rattle.sat_solver.specs.session.Session.{Session, session_after}
+use Rattle.sat_solver.specs.names.Calls.{Stands, DoesNothing}
+use Rattle.sat_solver.specs.names.Variables.{solver_of}
+use Rattle.sat_solver.specs.declared.names.Variables.{Variables}
+use Rattle.sat_solver.specs.parts.Frame.{SameClauses}
+use Rattle.sat_solver.specs.parts.Words.{ExtendsFor}
+use Rattle.sat_solver.specs.search.Joint.{assumed_in, IsSearch, Moved}
+use Rattle.sat_solver.specs.declared.search.work.Search.{Search}
+use Rattle.sat_solver.specs.loading.Shared.{SharesIndices}
+use Rattle.sat_solver.specs.simplify.Flat.{IsFlat}
+
+-- a variable has no index any more, and its units may be forgotten: that is all that a search sees
+pub record LosesIndex (s t : Session) (v : ℕ) : Type 0 where
+  pub live : t.live ≡ s.live
+  pub units : (w x : ℕ) (b : Bool) → w ≢ v → s.solver_names w ≡ Some x → t.units (coded w b) ≡ s.units (coded w b)
+  pub names : (w : ℕ) → t.solver_names w ≡ (if w == v then None else s.solver_names w)
+  pub unsat : t.unsat ≡ s.unsat
+  pub width : t.width ≡ s.width
+  pub assumed : t.assumed ≡ s.assumed
+
+-- the same of names, which the judge doesn't see
+pub record GivesUp (old new : Variables) (from to : List Step) (v : ℕ) : Type 0 where
+  pub does : DoesNothing old new from to
+  pub solvers : (w : ℕ) → solver_of new w ≡ (if w == v then None else solver_of old w)
+  pub loses : LosesIndex (session_after from) (session_after to) v
+
+-- indices may be given up: the search is at level 0, with nothing on the trail, and has the indices that the names say
+pub record MayFree (n : Variables) (steps : List Step) (c : Search) : Type 0 where
+  pub stands : Stands n steps
+  pub search : IsSearch (session_after steps) c
+  pub shares : SharesIndices n c
+  pub flat : IsFlat c.parts
+
+-- some indices were given up: no step is one that the judge sees, clauses and assumptions are the same, and the word of the trail goes on
+pub record FreesSome (old new : Variables) (from to : List Step) (c c' : Search) : Type 0 where
+  pub does : DoesNothing old new from to
+  pub search : IsSearch (session_after to) c'
+  pub shares : SharesIndices new c'
+  pub flat : IsFlat c'.parts
+  pub moved : Moved c c'
+  pub same : SameClauses c.parts c'.parts
+  pub word : ExtendsFor (assumed_in c) c.parts c'.parts

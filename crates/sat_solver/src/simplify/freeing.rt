@@ -1,0 +1,93 @@
+//! Variables that are in no clause lose their indices.
+ghost use Rattle.std.specs.Prelude.{ℕ, ◌≡◌, ◌<◌, ◌≤◌, OnOk, Some, false, length};
+ghost use Rattle.sat_parts.specs.clause.Db.{live_refs};
+ghost use Rattle.sat_solver.specs.parts.Round.{IsUnused as InNoClause};
+ghost use Rattle.sat_solver.specs.session.Session.{session_after};
+ghost use Rattle.sat_solver.specs.names.Variables.{solver_of, data_at, IsUnitOf, IsUnused};
+ghost use Rattle.sat_solver.specs.names.Calls.{Stands};
+ghost use Rattle.sat_solver.specs.names.Failing.{Came};
+ghost use Rattle.sat_solver.specs.simplify.Flat.{IsFlat};
+ghost use Rattle.sat_solver.specs.simplify.Freed.{GivesUp, MayFree, FreesSome};
+
+use crate::names::Variables;
+use crate::names::error::NameError;
+use crate::names::indexing::remove_solver_var;
+use crate::names::log::StepWriter;
+use crate::names::modes::forget_idle;
+use crate::parts::unused::mark_used;
+use crate::parts::variables::free_variable;
+use crate::search::work::Search;
+use sat_base::Var;
+
+/// Takes the index of a variable away, whose unit is known by then. A hidden variable is deleted.
+fn give_up<S: StepWriter>(
+    variables: &mut Variables,
+    writer: &mut S,
+    global: Var,
+    index: Var,
+) -> Result<(), NameError>
+    requires stands { Stands variables.old (S.steps writer.old) }
+    requires keeps { S.keeps writer.old }
+    requires there { solver_of variables.old global ≡ Some index }
+    requires unit { IsUnitOf variables.old (session_after (S.steps writer.old)) global }
+    requires unused { IsUnused (session_after (S.steps writer.old)) global }
+    ensures gone { OnOk result (GivesUp variables.old variables.new (S.steps writer.old) (S.steps writer.new) global) }
+    ensures keeps { OnOk result (S.keeps writer.new) }
+    ensures came { Came S.took S.broke result writer.old writer.new }
+{
+    remove_solver_var(variables, writer, global, index)?;
+    if variables.global_from_user.bwd().get(global).is_some() {
+        return Ok(());
+    }
+    forget_idle(variables, writer, global)
+}
+
+/// Gives an index up that no clause has, unless its variable is assumed, or no variable has it.
+fn free_unused<S: StepWriter>(
+    variables: &mut Variables,
+    writer: &mut S,
+    search: &mut Search,
+    index: Var,
+) -> Result<(), NameError>
+    requires keeps { S.keeps writer.old }
+    requires may { MayFree variables.old (S.steps writer.old) search.old }
+    requires there { index < length search.old.parts.assignment.current }
+    requires unused { InNoClause search.old.parts.clauses (live_refs search.old.parts.clauses search.old.parts.db.refs) search.old.parts.binary.implied index }
+    ensures frees { OnOk result (FreesSome variables.old variables.new (S.steps writer.old) (S.steps writer.new) search.old search.new) }
+    ensures keeps { OnOk result (S.keeps writer.new) }
+    ensures came { Came S.took S.broke result writer.old writer.new }
+{
+    let Some(global) = variables.solver_from_global.bwd().get(index) else {
+        return Ok(());
+    };
+    if variables.is_marked(global) {
+        return Ok(());
+    }
+    variables.set_unit(global, search.parts.assignment.var_value(index));
+    give_up(variables, writer, global, index)?;
+    free_variable(&mut search.parts, index);
+    Ok(())
+}
+
+/// Gives the indices up, in order, that no clause has and no assumption. What units they have is noted; hidden variables are deleted.
+pub fn free_indices<S: StepWriter>(
+    variables: &mut Variables,
+    writer: &mut S,
+    search: &mut Search,
+    used: &mut Vec<bool>,
+) -> Result<(), NameError>
+    requires keeps { S.keeps writer.old }
+    requires may { MayFree variables.old (S.steps writer.old) search.old }
+    ensures frees { OnOk result (FreesSome variables.old variables.new (S.steps writer.old) (S.steps writer.new) search.old search.new) }
+    ensures keeps { OnOk result (S.keeps writer.new) }
+    ensures came { Came S.took S.broke result writer.old writer.new }
+{
+    mark_used(used, &search.parts)?;
+    for index in 0..used.len() {
+        if used[index] {
+            continue;
+        }
+        free_unused(variables, writer, search, Var::from_index(index))?;
+    }
+    Ok(())
+}

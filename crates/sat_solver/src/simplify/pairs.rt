@@ -1,0 +1,92 @@
+//! Clauses of two literals go that units made true.
+ghost use Rattle.std.specs.Prelude.{ℕ, ◌≡◌, ◌+◌, ◌<◌, length};
+ghost use Rattle.sat_base.specs.values.Literals.{variable};
+ghost use Rattle.sat_parts.specs.prop.Binaries.{implied_by};
+ghost use Rattle.sat_solver.specs.acceptance.SolverClauses.{pair, is_open_clause};
+ghost use Rattle.sat_solver.specs.session.ProofView.{Keeps, session_of};
+ghost use Rattle.sat_solver.specs.parts.Frame.{Removed};
+ghost use Rattle.sat_solver.specs.search.Going.{Goes};
+ghost use Rattle.sat_solver.specs.search.Joint.{IsSearch};
+ghost use Rattle.sat_solver.specs.simplify.Flat.{IsFlat, MayRemove, LeavesPairs, Lighter};
+
+use crate::SolverError;
+use crate::loading::clause::delete_satisfied;
+use crate::parts::Parts;
+use crate::parts::clauses::remove_binary;
+use crate::search::work::Search;
+use crate::session::proof::Proof;
+use sat_base::{CountedWrite, Lit};
+
+/// Whether neither of two literals has a value.
+fn are_open(parts: &Parts, first: Lit, second: Lit) -> bool
+    requires first { variable first < length parts.now.assignment.current }
+    requires second { variable second < length parts.now.assignment.current }
+    ensures { result ≡ is_open_clause parts.now.assignment.current (pair first second) }
+{
+    let values = &parts.assignment;
+    values.var_value(first.var()).is_none() && values.var_value(second.var()).is_none()
+}
+
+/// Deletes the clause by which a literal implies another, in the list of its lower literal, where a variable of it has a value.
+fn delete_pair<W: CountedWrite + Drop>(
+    proof: &mut Proof<W>,
+    search: &mut Search,
+    lit: Lit,
+    at: usize,
+) -> Result<(), SolverError>
+    requires keeps { Keeps proof.old }
+    requires may { MayRemove search.old }
+    requires left { LeavesPairs (session_of proof.old) search.old lit at }
+    requires there { lit < length search.old.parts.binary.implied }
+    requires within { at < length (implied_by search.old.parts.binary.implied lit) }
+    ensures same { search.new ≡ record search.old { scratch = search.new.scratch } }
+    ensures left { Goes W.seen result proof.old proof.new (λ _ _. LeavesPairs (session_of proof.new) search.old lit (at + 1)) }
+{
+    let first = !lit;
+    let second = search.parts.binary.implied(lit)[at];
+    if first.code() >= second.code() {
+        return Ok(());
+    }
+    if are_open(&search.parts, first, second) {
+        return Ok(());
+    }
+    let pair = [first, second];
+    delete_satisfied(proof, &search.globals, &pair, &mut search.scratch.clause)
+}
+
+/// Deletes such clauses of the list of a literal.
+fn delete_pairs_of<W: CountedWrite + Drop>(
+    proof: &mut Proof<W>,
+    search: &mut Search,
+    lit: Lit,
+) -> Result<(), SolverError>
+    requires keeps { Keeps proof.old }
+    requires may { MayRemove search.old }
+    requires left { LeavesPairs (session_of proof.old) search.old lit 0 }
+    requires there { lit < length search.old.parts.binary.implied }
+    ensures same { search.new ≡ record search.old { scratch = search.new.scratch } }
+    ensures left { Goes W.seen result proof.old proof.new (λ _ _. LeavesPairs (session_of proof.new) search.old (lit + 1) 0) }
+{
+    for at in 0..search.parts.binary.implied(lit).len() {
+        delete_pair(proof, search, lit, at)?;
+    }
+    Ok(())
+}
+
+/// Deletes the clauses of two literals of which a variable has a value, each once, in the order of the lists.
+pub fn delete_pairs<W: CountedWrite + Drop>(
+    proof: &mut Proof<W>,
+    search: &mut Search,
+) -> Result<(), SolverError>
+    requires keeps { Keeps proof.old }
+    requires search { IsSearch (session_of proof.old) search.old }
+    requires flat { IsFlat search.old.parts }
+    ensures { Goes W.seen result proof.old proof.new (λ _ _. Lighter (session_of proof.new) search.old search.new × Removed search.old.parts search.new.parts) }
+{
+    let count = 2 * search.parts.assignment.assignment().len();
+    for code in 0..count {
+        delete_pairs_of(proof, search, Lit::from_code(code))?;
+    }
+    remove_binary(&mut search.parts);
+    Ok(())
+}
