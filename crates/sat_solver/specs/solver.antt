@@ -10,3 +10,4 @@ pub mod Settling
 pub mod Taking
 pub mod Whole
 pub mod Proving
+pub mod Configuring

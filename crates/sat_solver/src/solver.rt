@@ -11,6 +11,7 @@ ghost use Rattle.sat_solver.specs.solver.Whole.{IsWhole, steps_in};
 pub mod adding;
 pub mod answers;
 pub mod assuming;
+pub mod configuring;
 pub mod finding;
 pub mod proving;
 pub mod solving;

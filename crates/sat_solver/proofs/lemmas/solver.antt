@@ -10,3 +10,4 @@ pub mod TakingLemmas
 pub mod TellingLemmas
 pub mod StartLemmas
 pub mod EndingLemmas
+pub mod ConfigLemmas

@@ -33,6 +33,7 @@ pub record TookClause {W : Type 0} (seen : W → Writer) (n n' : Variables) (a b
   pub goes_on : GoesOnOr left n' b
   pub images : KeepImages n n'
   pub lits : b.search.assumptions.lits ≡ a.search.assumptions.lits
+  pub config : b.config ≡ a.config
   pub assumed : (session_of b.proof).assumed ≡ (session_of a.proof).assumed
 
 -- what a call over names may fail of, behind which the solver only fails
@@ -52,6 +53,7 @@ pub record TookAssumptions {W : Type 0} (seen : W → Writer) (n n' : Variables)
   pub does : Does n n' (steps_of a.proof) (steps_of b.proof) (bring_all (names_in user)) (λ j. bringing (names_in user) j ++ (Opens (map named_literal user) ∷ []))
   pub took : Took seen a.proof b.proof
   pub joined : IsJoined n' b
+  pub config : b.config ≡ a.config
   pub asked : AreAsked n' b user t
 
 abbrev pub TakesAssumptions : {W : Type 0} → (W → Writer) → Result (Unit {0}) SolverError → Variables → Variables → Core W → Core W → List ℕ → Taken → Type 0

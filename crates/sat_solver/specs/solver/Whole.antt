@@ -7,6 +7,7 @@ use Rattle.sat_base.specs.values.Clauses.{Valuation, EachTrue}
 use Rattle.sat_checker.specs.Fold.{Holds}
 use Rattle.sat_solver.specs.session.ProofView.{steps_of, session_of}
 use Rattle.sat_solver.specs.session.Session.{Session}
+use Rattle.sat_solver.specs.search.Bumping.{AreDecays}
 use Rattle.sat_solver.specs.search.Turns.{IsComplete}
 use Rattle.sat_solver.specs.names.Adding.{named_literal, Images}
 use Rattle.sat_solver.specs.names.Calls.{Stands}
@@ -64,6 +65,7 @@ pub record IsWholeOf {W : Type 0} (c : Core W) (n : Variables) (asked : Taken) (
   pub images : Images n assumed asked.order.items
   pub globals : asked.globals.items ≡ (session_of c.proof).assumed
   pub positive : 0 < scale
+  pub decays : AreDecays c.config
   pub says : StateSays state c n asked assumed core
 
 -- what holds unless a call failed

@@ -23,6 +23,7 @@ use Rattle.sat_solver.specs.declared.solver.taking.Loading.{Loading}
 use Rattle.sat_solver.specs.solver.Taking.{TookClause, TookAssumptions, BreaksNames}
 use Rattle.sat_solver.specs.solver.Whole.{IsWhole, StateSays, GoesOn, steps_in}
 use Rattle.sat_solver.specs.solver.Adding.{TookIn, with_added, due_for_clause, Forgets, AddsClause, Assumes}
+use Rattle.sat_solver.specs.search.Bumping.{AreDecays}
 use Rattle.sat_solver.specs.solver.Asking.{AskedIn}
 
 -- the search goes on unless unsat is recorded
@@ -77,6 +78,7 @@ module _ {W : Type 0} (seen : W → Writer) (s : Solver W) (whole : IsWhole s) (
         images = t.images s.assumed.items s.asked.order.items whole.images;
         globals = whole.globals ∙ sym t.assumed;
         positive = whole.positive;
+        decays = subst AreDecays (sym t.config) whole.decays;
         says = record { joined = t.goes_on; lits = ap (λ ls. ls.items) t.lits ∙ going_on.lits };
       };
       does = due_by s.state apart t.does;
@@ -94,6 +96,7 @@ module _ {W : Type 0} (seen : W → Writer) (s : Solver W) (whole : IsWhole s) (
         images = t.images s.assumed.items s.asked.order.items whole.images;
         globals = whole.globals ∙ sym t.assumed;
         positive = whole.positive;
+        decays = subst AreDecays (sym t.config) whole.decays;
         says = t.goes_on;
       };
       does = due_by s.state apart t.does;
@@ -111,6 +114,7 @@ module _ {W : Type 0} (seen : W → Writer) (s : Solver W) (whole : IsWhole s) (
       images = t.asked.images;
       globals = t.asked.globals;
       positive = whole.positive;
+      decays = subst AreDecays (sym t.config) whole.decays;
       says = record { joined = t.joined; lits = t.asked.lits };
     };
     does = t.does;
@@ -138,6 +142,7 @@ module _ {W : Type 0} (seen : W → Writer) (s : Solver W) (whole : IsWhole s) (
       images = images;
       globals = whole.globals ∙ sym l.unseen.search.assumed;
       positive = whole.positive;
+      decays = whole.decays;
       says = subst (λ st. StateSays st (record s.core { proof = p }) n' s.asked s.assumed.items s.told.failed_core.items) (sym known) (l.unseen.search.unsat ∙ unsat);
     };
     does = l.does;
@@ -162,6 +167,7 @@ module _ {W : Type 0} (seen : W → Writer) (s : Solver W) (whole : IsWhole s) (
       images = a.images;
       globals = sym (ap (λ ss. (session_after ss).assumed) a.written);
       positive = whole.positive;
+      decays = whole.decays;
       says = subst (λ st. StateSays st (record s.core { proof = p }) n' asked user s.told.failed_core.items) (sym known) (ap (λ ss. (session_after ss).unsat) a.written ∙ a.search.unsat ∙ unsat);
     };
     does = a.does;

@@ -34,6 +34,7 @@ whole_ended {W} c n asked assumed core scale state p whole e keeps = record {
   images = whole.images;
   globals = whole.globals ∙ sym (ap (λ ss. (session_after ss).assumed) e);
   positive = whole.positive;
+  decays = whole.decays;
   says = says state whole.says;
 }
   where

@@ -20,6 +20,7 @@ use Rattle.sat_solver.specs.declared.search.solving.Core.{Core}
 use Rattle.sat_solver.specs.declared.search.work.Search.{Search}
 use Rattle.sat_solver.specs.search.Failing.{causes_hashes}
 use Rattle.sat_solver.specs.search.Joint.{global_in, AreAsked, IsSearch, Moved}
+use Rattle.sat_solver.specs.search.Bumping.{AreDecays}
 use Rattle.sat_solver.specs.search.Turns.{IsComplete}
 use Rattle.sat_solver.proofs.lemmas.search.AskedLemmas.{asked_after, kinds_of}
 use Rattle.sat_solver.specs.search.Solving.{Ended, values_in}
@@ -83,6 +84,7 @@ module _ {W : Type 0} (seen : W → Writer) (s : Solver W) (whole : IsWhole s) w
         images = whole.images;
         globals = whole.globals ∙ sym assumed;
         positive = scale;
+        decays = subst AreDecays (sym found.gone.config) whole.decays;
         says = subst (λ st. StateSays st core s.names s.asked s.assumed.items told.failed_core.items) (sym unknown) (record { joined = at; lits = ap (λ ls. ls.items) found.gone.moved.lits ∙ goes.lits });
       };
       does = subst (λ st. Does s.names s.names (steps_in s) (steps_of core.proof) (λ j. j) (λ j. told_as st st (line_of s.names core) s.assumed.items told.failed_core.items)) (sym unknown)
@@ -114,6 +116,7 @@ module _ {W : Type 0} (seen : W → Writer) (s : Solver W) (whole : IsWhole s) w
           images = whole.images;
           globals = whole.globals ∙ sym (assumed_moved (session_in s) (session_of core.proof) s.core.search core.search goes.joined.sound.search.ready.asked found.shown.joined.sound.search.ready.asked moved);
           positive = scale;
+          decays = subst AreDecays (sym (found.shown.config ∙ found.ended.config)) whole.decays;
           says = (
             record { joined = found.shown.joined; lits = lits },
             complete,
@@ -156,6 +159,7 @@ module _ {W : Type 0} (seen : W → Writer) (s : Solver W) (whole : IsWhole s) w
           images = whole.images;
           globals = whole.globals ∙ sym (assumed_moved (session_in s) (session_of core.proof) s.core.search core.search goes.joined.sound.search.ready.asked found.failed.joined.sound.search.ready.asked moved);
           positive = scale;
+          decays = subst AreDecays (sym (found.failed.config ∙ found.ended.config)) whole.decays;
           says = (
             record { joined = found.failed.joined; lits = ap (λ ls. ls.items) moved.lits ∙ goes.lits },
             failed_is found.mid mid lits found.failed,
@@ -205,6 +209,7 @@ module _ {W : Type 0} (seen : W → Writer) (s : Solver W) (whole : IsWhole s) w
           images = whole.images;
           globals = whole.globals ∙ sym (ap (λ ss. (session_after ss).assumed) ended.adds.history ∙ asked_after ended.steps (steps_in s) (kinds_of (session_in s).solver_names ended.steps ended.searched));
           positive = scale;
+          decays = subst AreDecays (sym ended.config) whole.decays;
           says = ended.says;
         };
         does = unknown_told states.Unsat behind;
@@ -224,6 +229,7 @@ whole_over {W} c n asked assumed core scale state p whole e = record {
   images = whole.images;
   globals = whole.globals ∙ ap (λ ss. (session_after ss).assumed) (sym e);
   positive = whole.positive;
+  decays = whole.decays;
   says = says state whole.says;
 }
   where

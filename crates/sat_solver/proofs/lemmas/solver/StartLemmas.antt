@@ -12,6 +12,7 @@ use Rattle.sat_solver.specs.session.Session.{nothing, MayAll, session_after}
 use Rattle.sat_solver.specs.declared.names.Variables.{Variables}
 use Rattle.sat_solver.specs.declared.names.taking.Taken.{Taken}
 use Rattle.sat_solver.specs.declared.search.solving.Core.{Core}
+use Rattle.sat_solver.specs.search.Bumping.{AreDecays}
 use Rattle.sat_solver.specs.search.Joint.{IsSearch}
 use Rattle.sat_solver.specs.names.Variables.{AreTidy, AreSaid, says_unit, mode_in, user_of, data_at, global_of, solver_of, names_used, variables_used}
 use Rattle.sat_solver.specs.names.Live.{given_of}
@@ -75,12 +76,13 @@ module _ (n : Variables) (tidy : AreTidy n) (none : variables_used n ≡ 0) wher
 
   -- a solver without steps is whole
   pub whole_first : {W : Type 0} (c : Core W) (asked : Taken) (assumed core : List ℕ) (scale : ℕ) → steps_of c.proof ≡ [] → IsSearch nothing c.search → c.search.parts.assignment.current ≡ [] → c.search.globals.items ≡ [] →
-      0 < c.config.reduce_locals_interval → 0 < c.config.reduce_mids_interval → asked.order.items ≡ [] → asked.globals.items ≡ [] → assumed ≡ [] → 0 < scale → IsWholeOf c n asked assumed core scale states.Unknown
-  whole_first c asked assumed core scale steps search values globals locals mids order asked_globals none_assumed positive = record {
+      0 < c.config.reduce_locals_interval → 0 < c.config.reduce_mids_interval → asked.order.items ≡ [] → asked.globals.items ≡ [] → assumed ≡ [] → 0 < scale → AreDecays c.config → IsWholeOf c n asked assumed core scale states.Unknown
+  whole_first c asked assumed core scale steps search values globals locals mids order asked_globals none_assumed positive decays = record {
     stands = stands;
     images = record { count = ap (λ xs. length xs) order ∙ sym (ap (λ xs. length xs) none_assumed); each = λ k lt. absurd (let z : k < 0 = subst (λ (xs : List ℕ). k < length xs) none_assumed lt in omega arith) };
     globals = asked_globals ∙ sym (ap (λ ss. (session_after ss).assumed) steps);
     positive = positive;
+    decays = decays;
     says = record {
       joined = record {
         sound = record { keeps = subst MayAll (sym steps) tt; search = subst (λ ss. IsSearch (session_after ss) c.search) (sym steps) search; locals = locals; mids = mids };

@@ -150,6 +150,7 @@ module _ {W : Type 0} (seen : W → Writer) (n n' : Variables) (a : Core W) (joi
           (tautology_loads (steps_of p) c1 t.lits.items clause_added (ap (λ ls. is_tautology ls) adds.clause.lits ∙ canonical_tautology t.order.items ∙ sym adds.signs ∙ e));
       images = keep_images n n' (session_of a.proof) t.given.items adds.extends adds.gives;
       lits = indexed.lits;
+      config = refl;
       assumed = assumed1;
     }
 
@@ -178,6 +179,7 @@ module _ {W : Type 0} (seen : W → Writer) (n n' : Variables) (a : Core W) (joi
         goes_on = goes_on2 left goes.ends;
         images = keep_images n n' (session_of a.proof) t.given.items adds.extends adds.gives;
         lits = goes.ends.moved.lits ∙ indexed.lits;
+        config = refl;
         assumed = ap (λ ss. (session_after ss).assumed) goes.went.history ∙ asked_after goes.steps (steps_of p) (kinds_of (session_of p).solver_names goes.steps goes.searched) ∙ assumed1;
       }
 
@@ -216,6 +218,7 @@ module _ {W : Type 0} (seen : W → Writer) (n n' : Variables) (a : Core W) (joi
     asked_taken c2 assumed = record {
       does = assumes.does;
       took = took;
+      config = refl;
       joined = record {
         sound = record {
           keeps = keeps;

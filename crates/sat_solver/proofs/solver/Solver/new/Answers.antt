@@ -8,6 +8,7 @@ returns-clause-whole g c =
     c.new.ensures.steps c.no_search.ensures.search c.no_search.ensures.values c.no_search.ensures.globals
     (subst (λ (k : ℕ). 0 < k) (sym c.default-config.ensures.locals) (omega arith)) (subst (λ (k : ℕ). 0 < k) (sym c.default-config.ensures.mids) (omega arith))
     c.new-6.ensures.order c.new-6.ensures.globals c.new-7.ensures.items (subst (λ (k : ℕ). 0 < k) (sym c.default-config.ensures.scale) (omega arith))
+    (omega (arith, c.default-config.ensures.vsids), omega (arith, c.default-config.ensures.vsids), omega (arith, c.default-config.ensures.clauses), omega (arith, c.default-config.ensures.clauses))
 
 pub returns-clause-agree : goal.returns-clause-agree
 returns-clause-agree g c = agree_first c.new-2.result c.new-2.ensures.tidy c.new-2.ensures.none

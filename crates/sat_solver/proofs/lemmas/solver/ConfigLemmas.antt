@@ -1,0 +1,118 @@
+-- A solver with other parameters.
+use Rattle.std.proofs.Common.{ℕ, ◌≤◌, ◌<◌, ◌≡◌, ◌∙◌, Bool, true, false, ◌&&◌, Option, None, Some, List, refl, sym, ap, subst}
+use Rattle.std.proofs.lemmas.Bool.{leb-true, true≢false}
+use Rattle.std.specs.Prelude.{nat_le, unwrap_or}
+use Rattle.sat_solver.specs.Configs.{in_range, is_decay, passes, updated}
+use Rattle.sat_solver.specs.declared.config.SolverConfig.{SolverConfig}
+use Rattle.sat_solver.specs.declared.config.SolverConfigUpdate.{SolverConfigUpdate}
+use Rattle.sat_solver.specs.declared.names.Variables.{Variables}
+use Rattle.sat_solver.specs.declared.names.taking.Taken.{Taken}
+use Rattle.sat_solver.specs.declared.search.solving.Core.{Core}
+use Rattle.sat_solver.specs.declared.search.work.Search.{Search}
+use Rattle.sat_solver.specs.parts.Whole.{Holds}
+use Rattle.sat_solver.specs.session.ProofView.{session_of, steps_of}
+use Rattle.sat_solver.specs.names.Calls.{Stands}
+use Rattle.sat_solver.specs.search.Bumping.{AreDecays}
+use Rattle.sat_solver.specs.search.Turns.{IsComplete}
+use Rattle.sat_solver.specs.declared.solver.state.State.{State}
+use Rattle.sat_solver.specs.declared.solver.state.State.TheVariants as states
+use Rattle.sat_solver.specs.solver.Configuring.{Decays, HandsOn}
+use Rattle.sat_solver.specs.solver.Whole.{IsWholeOf, StateSays, GoesOn, HasCore}
+use Rattle.sat_solver.proofs.lemmas.solver.ComingLemmas.{goes_of}
+use Rattle.sat_solver.proofs.lemmas.solver.TellingLemmas.{shares_moved}
+
+and_both : (a b : Bool) → (a && b) ≡ true → (a ≡ true) × (b ≡ true)
+and_both true b h = (refl, h)
+and_both false b h = absurd (true≢false (sym h))
+
+kept_decay : (o : Option ℕ) (n : ℕ) → passes is_decay o ≡ true → 500 ≤ n → n ≤ 999 → (500 ≤ unwrap_or o n) × (unwrap_or o n ≤ 999)
+kept_decay None n h low high = (low, high)
+kept_decay (Some k) n h low high = (let p = and_both (nat_le 500 k) (nat_le k 999) h in (leb-true 500 k p.0, leb-true k 999 p.1))
+
+pub kept_count : (o : Option ℕ) (n : ℕ) → passes (nat_le 1) o ≡ true → 0 < n → 0 < unwrap_or o n
+kept_count None n h low = low
+kept_count (Some k) n h low = leb-true 1 k h
+
+record Parts (u : SolverConfigUpdate) : Type 0 where
+  vsids : passes is_decay u.vsids_decay ≡ true
+  clauses : passes is_decay u.clause_activity_decay ≡ true
+  locals : passes (nat_le 1) u.reduce_locals_interval ≡ true
+  mids : passes (nat_le 1) u.reduce_mids_interval ≡ true
+  scale : passes (nat_le 1) u.luby_restart_interval_scale ≡ true
+
+parts_of : (u : SolverConfigUpdate) → in_range u ≡ true → Parts u
+parts_of u h =
+    let a = and_both (passes is_decay u.vsids_decay) (passes is_decay u.clause_activity_decay && (passes (nat_le 1) u.reduce_locals_interval && (passes (nat_le 1) u.reduce_mids_interval && passes (nat_le 1) u.luby_restart_interval_scale))) h in
+    let b = and_both (passes is_decay u.clause_activity_decay) (passes (nat_le 1) u.reduce_locals_interval && (passes (nat_le 1) u.reduce_mids_interval && passes (nat_le 1) u.luby_restart_interval_scale)) a.1 in
+    let c = and_both (passes (nat_le 1) u.reduce_locals_interval) (passes (nat_le 1) u.reduce_mids_interval && passes (nat_le 1) u.luby_restart_interval_scale) b.1 in
+    let d = and_both (passes (nat_le 1) u.reduce_mids_interval) (passes (nat_le 1) u.luby_restart_interval_scale) c.1 in
+    record { vsids = a.0; clauses = b.0; locals = c.0; mids = d.0; scale = d.1 }
+
+-- decays stay in their ranges
+pub decays_kept : (u : SolverConfigUpdate) (c : SolverConfig) → in_range u ≡ true → AreDecays c → AreDecays (updated u c)
+decays_kept u c h d =
+    let p = parts_of u h in
+    let v = kept_decay u.vsids_decay c.vsids_decay p.vsids d.0 d.1 in
+    let k = kept_decay u.clause_activity_decay c.clause_activity_decay p.clauses d.2 d.3 in
+    (v.0, v.1, k.0, k.1)
+
+-- the scale that is changed is positive
+pub scale_kept : (u : SolverConfigUpdate) (scale : ℕ) → in_range u ≡ true → 0 < scale → 0 < unwrap_or u.luby_restart_interval_scale scale
+scale_kept u scale h low = kept_count u.luby_restart_interval_scale scale (parts_of u h).scale low
+
+module _ {W : Type 0} (u : SolverConfigUpdate) (c : Core W) (n : Variables) (asked : Taken) (assumed core : List ℕ) (scale : ℕ) (range : in_range u ≡ true) where
+  abbrev pub changed : Core W
+  changed = record c { config = updated u c.config }
+
+  going : (b : Core W) → Decays changed b → GoesOn c n asked → GoesOn b n asked
+  going b d g =
+      let bumped = d.bumped (session_of c.proof) g.joined.sound.search in
+      subst (λ x. GoesOn x n asked) (sym d.same) (record {
+        joined = record {
+          sound = record {
+            keeps = g.joined.sound.keeps;
+            search = bumped.search;
+            locals = kept_count u.reduce_locals_interval c.config.reduce_locals_interval (parts_of u range).locals g.joined.sound.locals;
+            mids = kept_count u.reduce_mids_interval c.config.reduce_mids_interval (parts_of u range).mids g.joined.sound.mids;
+          };
+          stands = g.joined.stands;
+          shares = shares_moved n c.search b.search g.joined.shares bumped.moved;
+        };
+        lits = ap (λ ls. ls.items) bumped.moved.lits ∙ g.lits;
+      })
+
+  complete : (b : Core W) → Decays changed b → IsComplete c.search.assumptions.lits.items c.search.parts → IsComplete b.search.assumptions.lits.items b.search.parts
+  complete b d h =
+      subst (λ (x : Search). IsComplete x.assumptions.lits.items x.parts) (sym d.search)
+      (subst (λ p. IsComplete c.search.assumptions.lits.items p) (sym d.parts) (record { done = h.done; all = h.all; assumed = h.assumed }))
+
+  says : (st : State) (b : Core W) → HandsOn st changed b → StateSays st c n asked assumed core → StateSays st b n asked assumed core
+  says states.Unknown b d h = going b d h
+  says states.Sat b d h = (going b d h.0, complete b d h.1)
+  says states.UnsatUnderAssumptions b d h = (
+    going b d h.0,
+    subst (λ x. HasCore x assumed core) (sym d.same) (record { codes = h.1.codes; none = h.1.none; same = h.1.same; among = h.1.among }),
+  )
+  says states.Unsat b d h = subst (λ (x : Core W). (session_of x.proof).unsat ≡ true) (sym d) h
+
+  -- the parts of a core that aren't the search
+  pub core_same : (st : State) (b : Core W) → HandsOn st changed b → (b.proof ≡ c.proof) × (b.config ≡ updated u c.config)
+  core_same states.Unknown b d = (ap (λ x. x.proof) d.same, ap (λ x. x.config) d.same)
+  core_same states.Sat b d = (ap (λ x. x.proof) d.same, ap (λ x. x.config) d.same)
+  core_same states.UnsatUnderAssumptions b d = (ap (λ x. x.proof) d.same, ap (λ x. x.config) d.same)
+  core_same states.Unsat b d = (ap (λ x. x.proof) d, ap (λ x. x.config) d)
+
+  -- all stands behind it
+  pub whole_configured : (st : State) (b : Core W) → HandsOn st changed b → IsWholeOf c n asked assumed core scale st → IsWholeOf b n asked assumed core (unwrap_or u.luby_restart_interval_scale scale) st
+  whole_configured st b d whole = record {
+    stands = subst (λ p. Stands n (steps_of p)) (sym (core_same st b d).0) whole.stands;
+    images = whole.images;
+    globals = whole.globals ∙ ap (λ p. (session_of p).assumed) (sym (core_same st b d).0);
+    positive = scale_kept u scale range whole.positive;
+    decays = subst AreDecays (sym (core_same st b d).1) (decays_kept u c.config range whole.decays);
+    says = says st b d whole.says;
+  }
+
+-- what the search holds
+pub holds_unless : {W : Type 0} (c : Core W) (n : Variables) (asked : Taken) (assumed core : List ℕ) (scale : ℕ) (st : State) → IsWholeOf c n asked assumed core scale st → (st ≡ states.Unsat → ⊥) → Holds c.search.parts
+holds_unless c n asked assumed core scale st whole apart = (goes_of st c n asked assumed core apart whole.says).joined.sound.search.stands.holds

@@ -1,0 +1,44 @@
+-- Parameters of a solver.
+use Rattle.std.specs.Prelude.{◌≡◌, true, false, Result, Ok, Err}
+use Rattle.sat_solver.specs.Configs.{in_range, updated}
+use Rattle.sat_solver.specs.session.Session.{Session}
+use Rattle.sat_solver.specs.declared.config.SolverConfigUpdate.{SolverConfigUpdate}
+use Rattle.sat_solver.specs.declared.error.SolverError.{SolverError}
+use Rattle.sat_solver.specs.declared.error.SolverError.TheVariants as errors
+use Rattle.sat_solver.specs.declared.search.solving.Core.{Core}
+use Rattle.sat_solver.specs.search.Bumping.{Bumped}
+use Rattle.sat_solver.specs.search.Joint.{IsSearch}
+use Rattle.sat_solver.specs.declared.solver.Solver.{Solver}
+use Rattle.sat_solver.specs.declared.solver.state.State.{State}
+use Rattle.sat_solver.specs.declared.solver.state.State.TheVariants as states
+use Rattle.sat_solver.specs.solver.Calls.{Refuses}
+
+-- the search has the decays of the parameters, and nothing else changed
+pub record Decays {W : Type 0} (a b : Core W) : Type 0 where
+  pub bumped : (s : Session) → IsSearch s a.search → Bumped s a.search b.search
+  pub parts : b.search.parts ≡ record a.search.parts { vsids = record a.search.parts.vsids { decay = a.config.vsids_decay } }
+  pub search : b.search ≡ record a.search { parts = b.search.parts; activity = b.search.activity }
+  pub same : b ≡ record a { search = b.search }
+
+-- unless the search is over
+abbrev pub HandsOn : {W : Type 0} → State → Core W → Core W → Type 0
+HandsOn states.Unsat a b = b ≡ a
+HandsOn st a b = Decays a b
+
+-- the parameters were changed, and nothing else that can be asked for
+pub record Configured {W : Type 0} (u : SolverConfigUpdate) (old new : Solver W) : Type 0 where
+  pub going : old.failed ≡ false
+  pub config : new.core.config ≡ updated u old.core.config
+  pub proof : new.core.proof ≡ old.core.proof
+  pub names : new.names ≡ old.names
+  pub state : new.state ≡ old.state
+  pub assumed : new.assumed ≡ old.assumed
+  pub told : new.told ≡ old.told
+  pub rounds : new.clock.steps ≡ old.clock.steps
+  pub failed : new.failed ≡ false
+
+abbrev pub Configures : {W : Type 0} → Result (Unit {0}) SolverError → SolverConfigUpdate → Solver W → Solver W → Type 0
+Configures (Ok x) u old new = Configured u old new
+Configures (Err errors.HasFailed) u old new = Refuses old new (old.failed ≡ true)
+Configures (Err errors.OutOfRange) u old new = Refuses old new (in_range u ≡ false)
+Configures (Err e) u old new = ⊥
