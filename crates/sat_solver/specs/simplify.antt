@@ -1,2 +1,4 @@
 pub mod Flat
 pub mod Freed
+pub mod Looks
+pub mod Cuts

@@ -1,2 +1,3 @@
 pub mod LighterLemmas
+pub mod TrueLemmas
 pub mod FreedLemmas

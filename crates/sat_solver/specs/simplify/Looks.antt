@@ -1,0 +1,19 @@
+-- What a clause looks like at level 0.
+use Rattle.std.specs.Prelude.{ℕ, ◌<◌}
+use Rattle.sat_parts.specs.clause.Stored.{lit_of, size_of}
+use Rattle.sat_parts.specs.prop.Values.{IsTrueLit, IsFalseLit}
+use Rattle.sat_solver.specs.declared.parts.Parts.{Parts}
+use Rattle.sat_solver.specs.declared.simplify.looks.Looks.{Looks}
+use Rattle.sat_solver.specs.declared.simplify.looks.Looks.TheVariants.{Satisfied, Whole, Shorter}
+
+-- one of its literals is true
+abbrev pub HasTrue : Parts → ℕ → Type 0
+HasTrue p o = (k : ℕ) × ((k < size_of p.clauses o) × IsTrueLit p.assignment.current (lit_of p.clauses o k))
+
+abbrev pub HasFalse : Parts → ℕ → Type 0
+HasFalse p o = (k : ℕ) × ((k < size_of p.clauses o) × IsFalseLit p.assignment.current (lit_of p.clauses o k))
+
+abbrev pub LooksSo : Looks → Parts → ℕ → Type 0
+LooksSo Satisfied p o = HasTrue p o
+LooksSo Whole p o = Unit {0}
+LooksSo Shorter p o = (HasTrue p o → ⊥) × HasFalse p o
