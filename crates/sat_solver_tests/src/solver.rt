@@ -3,7 +3,7 @@ ghost use Rattle.sat_solver.specs.solver.Whole.{IsSolver};
 
 use sat_base::{Counted, CountedWrite, Lit};
 use sat_checker::Checker;
-use sat_solver::{ProofFormat, Solver, SolverError};
+use sat_solver::{ProofFormat, Solver, SolverConfigUpdate, SolverError};
 use std::alloc::{AllocError, Global};
 
 /// What an ask is answered.
@@ -256,4 +256,131 @@ fn bytes_are_those_of_the_steps(rt: HostRuntime) {
         Ok(None) => assert!(rt; false),
         Err(_) => assert!(rt; false),
     }
+}
+
+/// An update of the rounds that an ask may take.
+fn rounds(most: u64) -> SolverConfigUpdate {
+    let mut update = SolverConfigUpdate::new();
+    update.max_steps = Some(most);
+    update
+}
+
+/// What a solve came to.
+#[derive(Clone, Copy, Debug, Drop, PartialEq, Eq)]
+enum Came {
+    True,
+    False,
+    Interrupted,
+    Failed,
+}
+
+/// Allows so many rounds, and solves.
+fn solve_within<W: CountedWrite + Drop>(solver: &mut Solver<W>, most: u64) -> Came
+    requires { IsSolver solver.old }
+    ensures { IsSolver solver.new }
+{
+    if solver.config(&rounds(most)).is_err() {
+        return Came::Failed;
+    }
+    match solver.solve() {
+        Ok(true) => Came::True,
+        Ok(false) => Came::False,
+        Err(SolverError::Interrupted) => Came::Interrupted,
+        Err(_) => Came::Failed,
+    }
+}
+
+/// What solving came to, and the rounds so far, where first few rounds and then many are allowed.
+fn solve_twice(
+    alloc: Global,
+    calls: &[Call],
+    first: u64,
+    second: u64,
+) -> Result<(Came, u64, Came, u64), SolverError> {
+    let mut solver: Solver<Counted<Vec<u8>>> = Solver::new(alloc);
+    let mut lits = Vec::new(alloc);
+    make_all(alloc, &mut solver, calls, &mut lits)?;
+    let one = solve_within(&mut solver, first);
+    let after_one = solver.steps();
+    let two = solve_within(&mut solver, second);
+    Ok((one, after_one, two, solver.steps()))
+}
+
+const TWO_VARIABLES: &[Call] = &[
+    Call::Clause(&[1, 2]),
+    Call::Clause(&[1, -2]),
+    Call::Clause(&[-1, 2]),
+    Call::Clause(&[-1, -2]),
+];
+
+/// Whether the two answers and the rounds are these.
+fn come_to(came: Result<(Came, u64, Came, u64), SolverError>, wanted: (Came, u64, Came, u64)) -> bool {
+    match came {
+        Ok(came) => {
+            came.0 == wanted.0 && came.1 == wanted.1 && came.2 == wanted.2 && came.3 == wanted.3
+        }
+        Err(_) => false,
+    }
+}
+
+#[test]
+fn rounds_that_are_spent_end_an_ask(rt: HostRuntime) {
+    let few = solve_twice(rt.alloc(), TWO_VARIABLES, 1, u64::MAX);
+    assert!(rt; come_to(few, (Came::Interrupted, 1, Came::False, 2)));
+    let none = solve_twice(rt.alloc(), &[], 0, 0);
+    assert!(rt; come_to(none, (Came::Interrupted, 0, Came::Interrupted, 0)));
+    let known = solve_twice(rt.alloc(), &[Call::Clause(&[1, 2])], 8, 0);
+    assert!(rt; come_to(known, (Came::True, 1, Came::True, 1)));
+}
+
+/// Whether solving answers true.
+fn is_sat<W: CountedWrite + Drop>(solver: &mut Solver<W>) -> bool
+    requires { IsSolver solver.old }
+{
+    match solver.solve() {
+        Ok(sat) => sat,
+        Err(_) => false,
+    }
+}
+
+/// Whether parameters out of their ranges are refused beside one that isn't, and change nothing.
+fn are_refused(alloc: Global, update: &mut SolverConfigUpdate) -> bool {
+    let mut solver: Solver<Counted<Vec<u8>>> = Solver::new(alloc);
+    update.max_steps = Some(0);
+    match solver.config(update) {
+        Err(SolverError::OutOfRange) => is_sat(&mut solver),
+        Err(_) => false,
+        Ok(()) => false,
+    }
+}
+
+#[test]
+fn parameters_are_in_their_ranges(rt: HostRuntime) {
+    let mut low = SolverConfigUpdate::new();
+    low.vsids_decay = Some(499);
+    assert!(rt; are_refused(rt.alloc(), &mut low));
+    let mut high = SolverConfigUpdate::new();
+    high.vsids_decay = Some(1000);
+    assert!(rt; are_refused(rt.alloc(), &mut high));
+    let mut scale = SolverConfigUpdate::new();
+    scale.luby_restart_interval_scale = Some(0);
+    assert!(rt; are_refused(rt.alloc(), &mut scale));
+}
+
+/// A proof can't begin behind a call.
+fn is_too_late(alloc: Global) -> bool {
+    let mut solver = Solver::new(alloc);
+    if solver.assume(&[]).is_err() {
+        return false;
+    }
+    match solver.write_proof(Counted::new(Vec::new(alloc)), ProofFormat::Varisat) {
+        Err(SolverError::TooLate) => true,
+        Err(_) => false,
+        Ok(()) => false,
+    }
+}
+
+#[test]
+fn a_proof_begins_before_all_else(rt: HostRuntime) {
+    assert!(rt; is_too_late(rt.alloc()));
 }
