@@ -1,5 +1,5 @@
 -- Parameters of a solver.
-use Rattle.std.specs.Prelude.{◌≡◌, true, false, Result, Ok, Err}
+use Rattle.std.specs.Prelude.{◌≡◌, true, false, Result, Ok, Err, unwrap_or}
 use Rattle.sat_solver.specs.Configs.{in_range, updated}
 use Rattle.sat_solver.specs.session.Session.{Session}
 use Rattle.sat_solver.specs.declared.config.SolverConfigUpdate.{SolverConfigUpdate}
@@ -35,6 +35,8 @@ pub record Configured {W : Type 0} (u : SolverConfigUpdate) (old new : Solver W)
   pub assumed : new.assumed ≡ old.assumed
   pub told : new.told ≡ old.told
   pub rounds : new.clock.steps ≡ old.clock.steps
+  pub scale : new.clock.restarts.scale ≡ unwrap_or u.luby_restart_interval_scale old.clock.restarts.scale
+  pub decays : HandsOn old.state (record old.core { config = updated u old.core.config }) new.core
   pub failed : new.failed ≡ false
 
 abbrev pub Configures : {W : Type 0} → Result (Unit {0}) SolverError → SolverConfigUpdate → Solver W → Solver W → Type 0
