@@ -52,7 +52,13 @@ impl Folder<'_> {
         let mut input = Counted::new("a 0\n".as_bytes());
         let mut output = Counted::new(Vec::new(alloc));
         let mut errors = Counted::new(Vec::new(alloc));
-        let found = program(self.rt, self.words(call), &mut input, &mut output, &mut errors);
+        let found = program(
+            self.rt,
+            self.words(call),
+            &mut input,
+            &mut output,
+            &mut errors,
+        );
         found == status
             && output.into_inner().as_slice() == printed.as_bytes()
             && errors.into_inner().as_slice() == told.as_bytes()
@@ -69,9 +75,10 @@ type End = (u8, &'static str, &'static str);
 
 /// Four clauses over two variables that no valuation satisfies, at width 8.
 const REFUTED: &[u8] = &[
-    2, 0, 1, 1, 0, 1, 2, 1, 2, 1, 1, 2, 5, 2, 0, 2, 5, 2, 0, 3, 5, 2, 1, 2, 5, 2, 1, 3, 11, 0, 9, 8,
-    6, 0, 1, 0, 2, 0x44, 0xe6, 1, 7, 1, 2, 0xe6, 1, 6, 0, 0, 1, 0x44, 11, 0, 13,
+    2, 0, 1, 1, 0, 1, 2, 1, 2, 1, 1, 2, 5, 2, 0, 2, 5, 2, 0, 3, 5, 2, 1, 2, 5, 2, 1, 3, 11, 0, 9,
+    8, 6, 0, 1, 0, 2, 0x44, 0xe6, 1, 7, 1, 2, 0xe6, 1, 6, 0, 0, 1, 0x44, 11, 0, 13,
 ];
+
 const DERIVATION: &str = "\
     i 1 1 2 0\ni 2 1 -2 0\ni 3 -1 2 0\ni 4 -1 -2 0\nd 5 1 0 1 2 0\nd 6 2 0 5 3 0\nd 7 0 5 6 4 0\n";
 
@@ -100,8 +107,10 @@ fn hinted() -> &'static [(&'static [u8], End, &'static str)] {
 /// Tests what writing the hints of a certificate does.
 fn is_hinted(folder: &Folder<'_>, certificate: &[u8], end: End, text: &str) -> io::Result<bool> {
     folder.put("c", certificate)?;
-    Ok(folder.does(("hints", &["c", "h"], ""), end)
-        && (end.0 != 0 || folder.holds("h", text.as_bytes())?))
+    Ok(
+        folder.does(("hints", &["c", "h"], ""), end)
+            && (end.0 != 0 || folder.holds("h", text.as_bytes())?),
+    )
 }
 
 #[test]
@@ -124,7 +133,10 @@ static CHECKED: [(&str, End); 8] = [
     ("f 1 -1 0 0\n", (0, "proved empty=0 cores=1 lines=1\n", "")),
     ("i 01 1 0\n", (1, "bad 1 Syntax\n", "")),
     ("i 1 1 0\ni 1 2 0\n", (1, "bad 2 IdOrder\n", "")),
-    ("i 1 1 0\nx 1 0\nd 2 1 0 1 0\n", (1, "bad 3 UnknownId\n", "")),
+    (
+        "i 1 1 0\nx 1 0\nd 2 1 0 1 0\n",
+        (1, "bad 3 UnknownId\n", ""),
+    ),
     (
         "i 1 1 2 3 0\ni 2 1 0\nd 3 1 0 1 2 0\n",
         (1, "bad 3 NotUnit\n", ""),
@@ -154,12 +166,7 @@ fn hint_texts_are_checked(rt: HostRuntime) -> io::Result<()> {
 
 /// A script, a word behind the files or none, how running it ends, and the answers.
 static RUN: [(&str, &str, End, &str); 4] = [
-    (
-        "1 2 0\na 0\n",
-        "",
-        (0, "", ""),
-        "s SATISFIABLE\nv -1 2 0\n",
-    ),
+    ("1 2 0\na 0\n", "", (0, "", ""), "s SATISFIABLE\nv -1 2 0\n"),
     ("1 0\na 0\n", "0", (0, "", ""), "s UNKNOWN\n"),
     (
         "1 0\na 0\n",
@@ -180,9 +187,11 @@ fn is_run(
     (script, steps, end, answers): (&str, &str, End, &str),
 ) -> io::Result<bool> {
     folder.put("s", script.as_bytes())?;
-    Ok(folder.does(("run", &["s", "a", "c"], steps), end)
-        && folder.holds("a", answers.as_bytes())?
-        && folder.does(("confirm", &["s", "a", "c"], ""), (0, "yes\n", "")))
+    Ok(
+        folder.does(("run", &["s", "a", "c"], steps), end)
+            && folder.holds("a", answers.as_bytes())?
+            && folder.does(("confirm", &["s", "a", "c"], ""), (0, "yes\n", "")),
+    )
 }
 
 #[test]
@@ -192,7 +201,12 @@ fn scripts_are_run_and_confirmed(rt: HostRuntime) -> io::Result<()> {
         assert!(rt; is_run(&folder, row)?, "{row:?}");
     }
     folder.put("a", b"s UNSATISFIABLE\nf 0\n")?;
-    assert!(rt; folder.does(("confirm", &["s", "a", "c"], ""), (1, "no 1 AnswerText\n", "")));
+    assert!(rt;
+        folder.does(
+            ("confirm", &["s", "a", "c"], ""),
+            (1, "no 1 AnswerText\n", "")
+        )
+    );
     assert!(rt; folder.remove());
     Ok(())
 }

@@ -32,11 +32,7 @@ fn render(out: &mut Vec<u8>, command: Command<'_>) -> Result<(), AllocError> {
 }
 
 /// Writes the commands that a piece completes. Says whether the text may go on.
-fn take(
-    reader: &mut ScriptReader,
-    piece: &[u8],
-    out: &mut Vec<u8>,
-) -> Result<bool, AllocError> {
+fn take(reader: &mut ScriptReader, piece: &[u8], out: &mut Vec<u8>) -> Result<bool, AllocError> {
     let mut rest = piece;
     for _ in 0..piece.len() {
         let (count, reached) = reader.push(rest)?;

@@ -142,7 +142,9 @@ fn is_right(alloc: Global, calls: &[Call]) -> bool {
     match proof_of(alloc, calls) {
         Ok(Some(text)) => {
             let mut checker = Checker::new(alloc);
-            checker.check_proof(&mut Counted::new(text.as_slice())).is_ok()
+            checker
+                .check_proof(&mut Counted::new(text.as_slice()))
+                .is_ok()
         }
         Ok(None) => false,
         Err(_) => false,
@@ -314,7 +316,10 @@ const TWO_VARIABLES: &[Call] = &[
 ];
 
 /// Whether the two answers and the rounds are these.
-fn come_to(came: Result<(Came, u64, Came, u64), SolverError>, wanted: (Came, u64, Came, u64)) -> bool {
+fn come_to(
+    came: Result<(Came, u64, Came, u64), SolverError>,
+    wanted: (Came, u64, Came, u64),
+) -> bool {
     match came {
         Ok(came) => {
             came.0 == wanted.0 && came.1 == wanted.1 && came.2 == wanted.2 && came.3 == wanted.3

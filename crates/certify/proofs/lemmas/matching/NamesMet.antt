@@ -76,13 +76,13 @@ module _ (kind : Kind) (codes : List ℕ) (i code v : ℕ) (first now : Names) (
   pub next_stop : (e : Stop) → Confirms {A = Unit {0}} (Err e) b c (MeetsName kind (v + 1) now mid after) → Confirms {A = Unit {0}} (Err e) a c (MeetsNames kind (listed codes) first before after)
   next_stop e q = then_stop tt e a b c (MeetsNames kind (listed (take i codes)) first before mid) (MeetsName kind (v + 1) now mid after) (MeetsNames kind (listed codes) first before after) open_yet
       (λ total why f g j h.
-          let rest = naming_all kind (listed (drop (i + 1) codes)) (taken_by kind (listed (take (i + 1) codes)) j) in
-          let whole : naming_all kind (listed (take (i + 1) codes)) j ++ rest ≡ naming_all kind (listed codes) j =
-          sym (naming_append kind (listed (take (i + 1) codes)) (listed (drop (i + 1) codes)) j) ∙ ap (λ (ns : List ℕ). naming_all kind ns j) (sym (listed_append (take (i + 1) codes) (drop (i + 1) codes)) ∙ ap listed (take-append-drop (i + 1) codes)) in
-          subst (λ (es : List Expected). MeetsAll es before after (seen_in total a) (seen_in total c) (Err why)) whole
-          (first_barred (naming_all kind (listed (take (i + 1) codes)) j) rest before after after (seen_in total a) (seen_in total c) why
-          (subst (λ (es : List Expected). MeetsAll es before after (seen_in total a) (seen_in total c) (Err why)) (next_pending j)
-          (both (naming_all kind (listed (take i codes)) j) (naming kind (v + 1) (taken_by kind (listed (take i codes)) j)) before mid after (seen_in total a) (seen_in total b) (seen_in total c) (Err why) (f j h) (g (taken_by kind (listed (take i codes)) j) (so_far j h)))))) p q
+      let rest = naming_all kind (listed (drop (i + 1) codes)) (taken_by kind (listed (take (i + 1) codes)) j) in
+      let whole : naming_all kind (listed (take (i + 1) codes)) j ++ rest ≡ naming_all kind (listed codes) j =
+      sym (naming_append kind (listed (take (i + 1) codes)) (listed (drop (i + 1) codes)) j) ∙ ap (λ (ns : List ℕ). naming_all kind ns j) (sym (listed_append (take (i + 1) codes) (drop (i + 1) codes)) ∙ ap listed (take-append-drop (i + 1) codes)) in
+      subst (λ (es : List Expected). MeetsAll es before after (seen_in total a) (seen_in total c) (Err why)) whole
+      (first_barred (naming_all kind (listed (take (i + 1) codes)) j) rest before after after (seen_in total a) (seen_in total c) why
+      (subst (λ (es : List Expected). MeetsAll es before after (seen_in total a) (seen_in total c) (Err why)) (next_pending j)
+      (both (naming_all kind (listed (take i codes)) j) (naming kind (v + 1) (taken_by kind (listed (take i codes)) j)) before mid after (seen_in total a) (seen_in total b) (seen_in total c) (Err why) (f j h) (g (taken_by kind (listed (take i codes)) j) (so_far j h)))))) p q
 
 pub all_met : (kind : Kind) (codes : List ℕ) (i : ℕ) (names : Names) (before after : NamedVars) (a b : Stream) → length codes ≤ i → Confirms (Ok tt) a b (MeetsNames kind (listed (take i codes)) names before after) → Confirms (Ok tt) a b (MeetsNames kind (listed codes) names before after)
 all_met kind codes i names before after a b over p = subst (λ (xs : List ℕ). Confirms (Ok tt) a b (MeetsNames kind (listed xs) names before after)) (take_all i codes over) p
