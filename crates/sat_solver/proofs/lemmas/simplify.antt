@@ -1,3 +1,9 @@
 pub mod LighterLemmas
 pub mod TrueLemmas
 pub mod FreedLemmas
+pub mod GatherLemmas
+pub mod CutLemmas
+pub mod LightensLemmas
+pub mod WalkLemmas
+pub mod PassesLemmas
+pub mod CutEnds

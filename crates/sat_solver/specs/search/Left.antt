@@ -1,5 +1,5 @@
 -- What the parts of a search are left as.
-use Rattle.std.specs.Prelude.{ℕ, ◌≡◌, length}
+use Rattle.std.specs.Prelude.{ℕ, ◌≡◌, [], length}
 use Rattle.sat_parts.specs.clause.Db.{live_refs}
 use Rattle.sat_solver.specs.declared.parts.Parts.{Parts}
 use Rattle.sat_solver.specs.declared.parts.assumptions.Assumptions.{Assumptions}
@@ -23,6 +23,7 @@ pub record IsSettled (p p' : Parts) (s : Session) (global : ℕ → ℕ) : Type 
   pub stands : Stands p' s global
   pub done : IsDone p'
   pub starts : p'.trail.starts ≡ p.trail.starts
+  pub empty : p.trail.starts ≡ [] → p'.trail.lits ≡ []
   pub word : Extends p p'
   pub size : SameSize p p'
   pub placed : (a : Assumptions) → ArePlaced a (state p) → ArePlaced a (state p')

@@ -1,5 +1,7 @@
 -- A search at level 0 whose trail is empty.
-use Rattle.std.specs.Prelude.{ℕ, ◌≡◌, ◌≤◌, [], length}
+use Rattle.std.specs.Prelude.{ℕ, ◌≡◌, ◌≢◌, ◌<◌, ◌≤◌, [], length, slice_index_or as get_or}
+use Rattle.std.specs.List.{Contains}
+use Rattle.sat_parts.specs.clause.Db.{live_refs}
 use Rattle.sat_solver.specs.declared.parts.Parts.{Parts}
 use Rattle.sat_solver.specs.parts.Frame.{SameState}
 use Rattle.sat_solver.specs.parts.Words.{ExtendsFor}
@@ -9,6 +11,7 @@ use Rattle.sat_solver.specs.joint.Fits.{ArePaired}
 use Rattle.sat_solver.specs.joint.Listed.{LeftParts}
 use Rattle.sat_solver.specs.search.Joint.{assumed_in, global_in, IsSearch, Moved}
 use Rattle.sat_solver.specs.declared.search.work.Search.{Search}
+use Rattle.sat_solver.specs.simplify.Looks.{IsOpenAt}
 
 -- no level is open, and nothing is on the trail
 pub record IsFlat (p : Parts) : Type 0 where
@@ -33,3 +36,18 @@ pub record Lighter (s : Session) (c c' : Search) : Type 0 where
   pub word : ExtendsFor (assumed_in c) c.parts c'.parts
   pub state : SameState c.parts c'.parts
   pub refs : c'.parts.db.refs ≡ c.parts.db.refs
+
+-- the same of one long clause: of what is left of it no literal has a value, and other clauses are as they were, but for their order
+pub record Lightens (s : Session) (c c' : Search) (o : ℕ) : Type 0 where
+  pub lighter : Lighter s c c'
+  pub left : Contains (live_refs c'.parts.clauses c'.parts.db.refs) o → IsOpenAt c'.parts o
+  pub others : (p : ℕ) → p ≢ o → Contains (live_refs c'.parts.clauses c'.parts.db.refs) p → Contains (live_refs c.parts.clauses c.parts.db.refs) p × (IsOpenAt c.parts p → IsOpenAt c'.parts p)
+
+-- of the live clauses among the first so many of the list no literal has a value
+abbrev pub AreOpenTo : Search → Search → ℕ → Type 0
+AreOpenTo c c' at = (k : ℕ) → k < at → Contains (live_refs c'.parts.clauses c'.parts.db.refs) (get_or c.parts.db.refs k 0) → IsOpenAt c'.parts (get_or c.parts.db.refs k 0)
+
+-- the same of all long clauses: of none of them a literal has a value
+pub record LightensAll (s : Session) (c c' : Search) : Type 0 where
+  pub lighter : Lighter s c c'
+  pub left : (o : ℕ) → Contains (live_refs c'.parts.clauses c'.parts.db.refs) o → IsOpenAt c'.parts o

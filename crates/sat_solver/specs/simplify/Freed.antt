@@ -1,7 +1,9 @@
 -- Indices are given up.
-use Rattle.std.specs.Prelude.{ℕ, ◌≡◌, ◌≢◌, ◌==◌, Bool, Some, None, List, if◌then◌else◌}
+use Rattle.std.specs.Prelude.{ℕ, ◌≡◌, ◌≢◌, ◌==◌, Bool, true, Some, None, List, if◌then◌else◌}
 use Rattle.sat_base.specs.values.Literals.{coded}
 use Rattle.sat_base.specs.steps.Steps.{Step}
+use Rattle.sat_checker.specs.LiteralSets.{mentions}
+use Rattle.sat_parts.specs.prop.Values.{value_of}
 use Rattle.sat_solver.specs.session.Session.{Session, session_after}
 use Rattle.sat_solver.specs.names.Calls.{Stands, DoesNothing}
 use Rattle.sat_solver.specs.names.Variables.{solver_of}
@@ -26,6 +28,7 @@ pub record LosesIndex (s t : Session) (v : ℕ) : Type 0 where
 pub record GivesUp (old new : Variables) (from to : List Step) (v : ℕ) : Type 0 where
   pub does : DoesNothing old new from to
   pub solvers : (w : ℕ) → solver_of new w ≡ (if w == v then None else solver_of old w)
+  pub users : new.global_from_user ≡ old.global_from_user
   pub loses : LosesIndex (session_after from) (session_after to) v
 
 -- indices may be given up: the search is at level 0, with nothing on the trail, and has the indices that the names say
@@ -34,6 +37,12 @@ pub record MayFree (n : Variables) (steps : List Step) (c : Search) : Type 0 whe
   pub search : IsSearch (session_after steps) c
   pub shares : SharesIndices n c
   pub flat : IsFlat c.parts
+
+-- names stand for the variables for which they stood, and what is assumed is as it was and has its indices
+pub record KeepsAsked (old new : Variables) (s t : Session) : Type 0 where
+  pub users : new.global_from_user ≡ old.global_from_user
+  pub assumed : t.assumed ≡ s.assumed
+  pub indices : (v x : ℕ) → mentions s.assumed v ≡ true → solver_of old v ≡ Some x → solver_of new v ≡ Some x
 
 -- some indices were given up: no step is one that the judge sees, clauses and assumptions are the same, and the word of the trail goes on
 pub record FreesSome (old new : Variables) (from to : List Step) (c c' : Search) : Type 0 where
@@ -44,3 +53,5 @@ pub record FreesSome (old new : Variables) (from to : List Step) (c c' : Search)
   pub moved : Moved c c'
   pub same : SameClauses c.parts c'.parts
   pub word : ExtendsFor (assumed_in c) c.parts c'.parts
+  pub asked : KeepsAsked old new (session_after from) (session_after to)
+  pub unset : (v : ℕ) → value_of c.parts.assignment.current v ≡ None → value_of c'.parts.assignment.current v ≡ None

@@ -1,7 +1,7 @@
 -- What a clause looks like at level 0.
 use Rattle.std.specs.Prelude.{ℕ, ◌<◌}
 use Rattle.sat_parts.specs.clause.Stored.{lit_of, size_of}
-use Rattle.sat_parts.specs.prop.Values.{IsTrueLit, IsFalseLit}
+use Rattle.sat_parts.specs.prop.Values.{IsTrueLit, IsFalseLit, IsOpenLit}
 use Rattle.sat_solver.specs.declared.parts.Parts.{Parts}
 use Rattle.sat_solver.specs.declared.simplify.looks.Looks.{Looks}
 use Rattle.sat_solver.specs.declared.simplify.looks.Looks.TheVariants.{Satisfied, Whole, Shorter}
@@ -13,7 +13,11 @@ HasTrue p o = (k : ℕ) × ((k < size_of p.clauses o) × IsTrueLit p.assignment.
 abbrev pub HasFalse : Parts → ℕ → Type 0
 HasFalse p o = (k : ℕ) × ((k < size_of p.clauses o) × IsFalseLit p.assignment.current (lit_of p.clauses o k))
 
+-- none of its literals has a value
+abbrev pub IsOpenAt : Parts → ℕ → Type 0
+IsOpenAt p o = (k : ℕ) → k < size_of p.clauses o → IsOpenLit p.assignment.current (lit_of p.clauses o k)
+
 abbrev pub LooksSo : Looks → Parts → ℕ → Type 0
 LooksSo Satisfied p o = HasTrue p o
-LooksSo Whole p o = Unit {0}
+LooksSo Whole p o = IsOpenAt p o
 LooksSo Shorter p o = (HasTrue p o → ⊥) × HasFalse p o

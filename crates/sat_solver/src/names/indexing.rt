@@ -1,10 +1,10 @@
 //! Indices of the search, and the steps that speak of them.
-ghost use Rattle.std.specs.Prelude.{ℕ, ◌≡◌, false, Some, None, IfOk, OnOk};
+ghost use Rattle.std.specs.Prelude.{ℕ, ◌≡◌, false, Some, None, IfOk, IfErr, OnOk};
 ghost use Rattle.sat_solver.specs.session.Session.{session_after};
 ghost use Rattle.sat_solver.specs.names.Variables.{data_at, solver_of, IsUnitOf, IsUnused};
 ghost use Rattle.sat_solver.specs.names.Calls.{Stands};
 ghost use Rattle.sat_solver.specs.names.Indexing.{Indexes, Unindexes};
-ghost use Rattle.sat_solver.specs.names.Failing.{Came};
+ghost use Rattle.sat_solver.specs.names.Failing.{IsFailure, Came};
 
 use crate::names::Variables;
 use crate::names::error::NameError;
@@ -77,6 +77,7 @@ pub fn remove_solver_var<W: StepWriter>(
     requires unit { IsUnitOf variables.old (session_after (W.steps writer.old)) global }
     requires unused { IsUnused (session_after (W.steps writer.old)) global }
     ensures gone { OnOk result (Unindexes variables.old variables.new (W.steps writer.old) (W.steps writer.new) global solver) }
+    ensures fails { IfErr result IsFailure }
     ensures keeps { OnOk result (W.keeps writer.new) }
     ensures came { Came W.took W.broke result writer.old writer.new }
 {

@@ -1,5 +1,5 @@
 //! Modes of variables, names that go, and variables that are deleted.
-ghost use Rattle.std.specs.Prelude.{ℕ, ◌≡◌, ◌+◌, true, false, Some, None, [], ◌∷◌, ◌++◌, map, IfOk, OnOk, Bool};
+ghost use Rattle.std.specs.Prelude.{ℕ, ◌≡◌, ◌+◌, true, false, Some, None, [], ◌∷◌, ◌++◌, map, IfOk, IfErr, OnOk, Bool};
 ghost use Rattle.sat_base.specs.script.Judge.{without_name, with_mode, bring_in, new_names};
 ghost use Rattle.sat_solver.specs.session.Session.{session_after};
 ghost use Rattle.sat_solver.specs.names.Variables.{data_at, global_of, user_of, solver_of, judged_mode, mode_for};
@@ -7,7 +7,7 @@ ghost use Rattle.sat_solver.specs.names.Expected.{NewName, NoName};
 ghost use Rattle.sat_solver.specs.names.Calls.{Stands, Does, DoesNothing};
 ghost use Rattle.sat_solver.specs.names.Search.{IsUnseen, IsAlike, Forgets};
 ghost use Rattle.sat_solver.specs.names.Refusing.{IsAssumed};
-ghost use Rattle.sat_solver.specs.names.Failing.{Came};
+ghost use Rattle.sat_solver.specs.names.Failing.{IsFailure, Came};
 
 use crate::names::Variables;
 use crate::names::error::NameError;
@@ -53,7 +53,9 @@ pub fn delete_var<W: StepWriter>(
     ensures does { OnOk result (DoesNothing variables.old variables.new (W.steps writer.old) (W.steps writer.new)) }
     ensures solvers { OnOk result (variables.new.solver_from_global ≡ variables.old.solver_from_global) }
     ensures globals { OnOk result (variables.new.globals ≡ variables.old.globals) }
+    ensures users { OnOk result (variables.new.global_from_user ≡ variables.old.global_from_user) }
     ensures forgets { OnOk result (Forgets (session_after (W.steps writer.old)) (session_after (W.steps writer.new)) global) }
+    ensures fails { IfErr result IsFailure }
     ensures keeps { OnOk result (W.keeps writer.new) }
     ensures came { Came W.took W.broke result writer.old writer.new }
 {
@@ -74,6 +76,8 @@ pub(crate) fn forget_idle<W: StepWriter>(
     requires nameless { user_of variables.old global ≡ None }
     ensures does { OnOk result (DoesNothing variables.old variables.new (W.steps writer.old) (W.steps writer.new)) }
     ensures alike { OnOk result (IsAlike variables.old variables.new (W.steps writer.old) (W.steps writer.new)) }
+    ensures users { OnOk result (variables.new.global_from_user ≡ variables.old.global_from_user) }
+    ensures fails { IfErr result IsFailure }
     ensures keeps { OnOk result (W.keeps writer.new) }
     ensures came { Came W.took W.broke result writer.old writer.new }
 {

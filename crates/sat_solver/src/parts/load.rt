@@ -14,7 +14,7 @@ ghost use Rattle.sat_solver.specs.parts.Whole.{state, Holds};
 ghost use Rattle.sat_solver.specs.parts.Frame.{Carries, SameClauses, SameState, Gains, Stores, Freed};
 ghost use Rattle.sat_solver.specs.parts.Loading.{LoadSays};
 ghost use Rattle.std.specs.List.{Contains};
-ghost use Rattle.sat_solver.specs.parts.Words.{ExtendsFor};
+ghost use Rattle.sat_solver.specs.parts.Words.{Extends, ExtendsFor};
 
 use crate::parts::Parts;
 use crate::parts::sorting::{Sorting, join_false, split_false};
@@ -67,6 +67,8 @@ pub fn load_binary(parts: &mut Parts, lits: &[Lit]) -> Result<(), AllocError>
     ensures holds { OnOk result (Holds parts.new) }
     ensures stores { OnOk result (Stores parts.old parts.new lits.now) }
     ensures kept { OnOk result ((parts.new.vsids ≡ parts.old.vsids) × (parts.new.trail ≡ parts.old.trail)) }
+    ensures state { OnOk result (SameState parts.old parts.new) }
+    ensures word { OnOk result (Extends parts.old parts.new) }
 {
     parts.binary.add_binary_clause([lits[0], lits[1]])?;
     Ok(())

@@ -30,6 +30,7 @@ pub fn clear_units(parts: &mut Parts)
     ensures holds { Holds parts.new }
     ensures done { IsDone parts.new }
     ensures bottom { parts.new.trail.starts ≡ [] }
+    ensures empty { parts.new.trail.lits ≡ [] }
     ensures same { SameClauses parts.old parts.new }
     ensures clears { Clears (state parts.old) (state parts.new) }
     ensures word { Extends parts.old parts.new }

@@ -1,11 +1,11 @@
 //! Variables that are in no clause lose their indices.
-ghost use Rattle.std.specs.Prelude.{ℕ, ◌≡◌, ◌<◌, ◌≤◌, OnOk, Some, false, length};
+ghost use Rattle.std.specs.Prelude.{ℕ, ◌≡◌, ◌<◌, ◌≤◌, IfErr, OnOk, Some, false, length};
 ghost use Rattle.sat_parts.specs.clause.Db.{live_refs};
 ghost use Rattle.sat_solver.specs.parts.Round.{IsUnused as InNoClause};
 ghost use Rattle.sat_solver.specs.session.Session.{session_after};
 ghost use Rattle.sat_solver.specs.names.Variables.{solver_of, data_at, IsUnitOf, IsUnused};
 ghost use Rattle.sat_solver.specs.names.Calls.{Stands};
-ghost use Rattle.sat_solver.specs.names.Failing.{Came};
+ghost use Rattle.sat_solver.specs.names.Failing.{IsFailure, Came};
 ghost use Rattle.sat_solver.specs.simplify.Flat.{IsFlat};
 ghost use Rattle.sat_solver.specs.simplify.Freed.{GivesUp, MayFree, FreesSome};
 
@@ -33,6 +33,7 @@ fn give_up<S: StepWriter>(
     requires unused { IsUnused (session_after (S.steps writer.old)) global }
     ensures gone { OnOk result (GivesUp variables.old variables.new (S.steps writer.old) (S.steps writer.new) global) }
     ensures keeps { OnOk result (S.keeps writer.new) }
+    ensures fails { IfErr result IsFailure }
     ensures came { Came S.took S.broke result writer.old writer.new }
 {
     remove_solver_var(variables, writer, global, index)?;
@@ -55,6 +56,7 @@ fn free_unused<S: StepWriter>(
     requires unused { InNoClause search.old.parts.clauses (live_refs search.old.parts.clauses search.old.parts.db.refs) search.old.parts.binary.implied index }
     ensures frees { OnOk result (FreesSome variables.old variables.new (S.steps writer.old) (S.steps writer.new) search.old search.new) }
     ensures keeps { OnOk result (S.keeps writer.new) }
+    ensures fails { IfErr result IsFailure }
     ensures came { Came S.took S.broke result writer.old writer.new }
 {
     let Some(global) = variables.solver_from_global.bwd().get(index) else {
@@ -80,6 +82,7 @@ pub fn free_indices<S: StepWriter>(
     requires may { MayFree variables.old (S.steps writer.old) search.old }
     ensures frees { OnOk result (FreesSome variables.old variables.new (S.steps writer.old) (S.steps writer.new) search.old search.new) }
     ensures keeps { OnOk result (S.keeps writer.new) }
+    ensures fails { IfErr result IsFailure }
     ensures came { Came S.took S.broke result writer.old writer.new }
 {
     mark_used(used, &search.parts)?;

@@ -1,14 +1,11 @@
-//! Long clauses go that units made true.
-ghost use Rattle.std.specs.Prelude.{◌≡◌};
+//! Long clauses go that units made true, and others lose the literals that units made false.
 ghost use Rattle.std.specs.List.{Contains};
-ghost use Rattle.sat_base.specs.steps.StepViews.{deletion_of};
 ghost use Rattle.sat_parts.specs.clause.Db.{live_refs};
 ghost use Rattle.sat_solver.specs.session.ProofView.{Keeps, session_of};
 ghost use Rattle.sat_solver.specs.search.Going.{Goes};
 ghost use Rattle.sat_solver.specs.search.Joint.{IsSearch};
-ghost use Rattle.sat_solver.specs.simplify.Flat.{IsFlat, Lighter};
+ghost use Rattle.sat_solver.specs.simplify.Flat.{IsFlat, Lightens, LightensAll};
 ghost use Rattle.sat_solver.specs.simplify.Looks.{HasTrue};
-ghost use Rattle.sat_solver.specs.simplify.Cuts.{deletion};
 
 use crate::SolverError;
 use crate::parts::clauses::delete_long;
@@ -16,19 +13,11 @@ use crate::search::fault::proof_fault;
 use crate::search::reducing::map_clause;
 use crate::search::work::Search;
 use crate::session::proof::Proof;
+use crate::simplify::cutting::cut_clause;
 use crate::simplify::looks::{Looks, look};
-use sat_base::{CountedWrite, DeleteClauseProof, ProofStep};
+use crate::simplify::writing::deletion_for;
+use sat_base::{CountedWrite, DeleteClauseProof, Lit, ProofStep};
 use sat_store::ClauseRef;
-
-/// Why a clause may be deleted: it's redundant, or what is said of others.
-fn deletion_for(redundant: bool, other: DeleteClauseProof) -> DeleteClauseProof
-    ensures { deletion_of result ≡ deletion redundant (deletion_of other) }
-{
-    if redundant {
-        return DeleteClauseProof::Redundant;
-    }
-    other
-}
 
 /// Deletes a clause of which a literal is true.
 fn delete_true<W: CountedWrite + Drop>(
@@ -41,7 +30,7 @@ fn delete_true<W: CountedWrite + Drop>(
     requires flat { IsFlat search.old.parts }
     requires live { Contains (live_refs search.old.parts.clauses search.old.parts.db.refs) cref }
     requires satisfied { HasTrue search.old.parts cref }
-    ensures { Goes W.seen result proof.old proof.new (λ _ _. Lighter (session_of proof.new) search.old search.new) }
+    ensures { Goes W.seen result proof.old proof.new (λ _ _. Lightens (session_of proof.new) search.old search.new cref) }
 {
     map_clause(
         &search.parts,
@@ -61,21 +50,43 @@ fn delete_true<W: CountedWrite + Drop>(
     }
 }
 
-/// Deletes a live long clause where a unit made it true.
-pub fn simplify_clause<W: CountedWrite + Drop>(
+/// Deletes a live long clause where a unit made it true, and replaces it by what is left of it where units made literals false.
+fn simplify_clause<W: CountedWrite + Drop>(
     proof: &mut Proof<W>,
     search: &mut Search,
     cref: ClauseRef,
+    part: &mut Vec<Lit>,
 ) -> Result<(), SolverError>
     requires keeps { Keeps proof.old }
     requires search { IsSearch (session_of proof.old) search.old }
     requires flat { IsFlat search.old.parts }
     requires live { Contains (live_refs search.old.parts.clauses search.old.parts.db.refs) cref }
-    ensures { Goes W.seen result proof.old proof.new (λ _ _. Lighter (session_of proof.new) search.old search.new) }
+    ensures { Goes W.seen result proof.old proof.new (λ _ _. Lightens (session_of proof.new) search.old search.new cref) }
 {
     match look(&search.parts, cref) {
         Looks::Whole => Ok(()),
         Looks::Satisfied => delete_true(proof, search, cref),
-        Looks::Shorter => Ok(()),
+        Looks::Shorter => cut_clause(proof, search, cref, part),
     }
+}
+
+/// Looks at the long clauses in the order of their list, the redundant ones too. Behind it none of their literals has a value.
+pub fn simplify_clauses<W: CountedWrite + Drop>(
+    proof: &mut Proof<W>,
+    search: &mut Search,
+    part: &mut Vec<Lit>,
+) -> Result<(), SolverError>
+    requires keeps { Keeps proof.old }
+    requires search { IsSearch (session_of proof.old) search.old }
+    requires flat { IsFlat search.old.parts }
+    ensures { Goes W.seen result proof.old proof.new (λ _ _. LightensAll (session_of proof.new) search.old search.new) }
+{
+    for at in 0..search.parts.db.len() {
+        let cref = search.parts.db.cref(at);
+        if search.parts.clauses.header(cref).deleted() {
+            continue;
+        }
+        simplify_clause(proof, search, cref, part)?;
+    }
+    Ok(())
 }

@@ -1,5 +1,5 @@
 -- What the parts of a search are left as.
-use Rattle.std.proofs.Common.{ℕ, ◌≡◌, ◌+◌, ◌∙◌, List, [], ◌∷◌, length, get_or, refl, sym, ap, subst, arith}
+use Rattle.std.proofs.Common.{ℕ, ◌≡◌, ◌<◌, ◌+◌, ◌∙◌, List, [], ◌∷◌, length, get_or, refl, sym, ap, subst, arith}
 use Rattle.sat_base.specs.steps.Steps.{UnitClauses}
 use Rattle.sat_parts.specs.clause.Db.{live_refs}
 use Rattle.sat_solver.specs.declared.parts.Parts.{Parts}
@@ -60,22 +60,24 @@ placed_cleared ls below place s s' bottom none clears x =
     }
 
 -- above level 0 nothing is done
-pub settled_above : (p : Parts) (s : Session) (global : ℕ → ℕ) → HoldsBelow (length p.trail.starts + 1) p → IsDone p → AreUnits (state p) × IsBased p.trail → FitsParts p s global → IsSettled p p s global
-settled_above p s global h done units fits = record {
+pub settled_above : (p : Parts) (s : Session) (global : ℕ → ℕ) → 0 < length p.trail.starts → HoldsBelow (length p.trail.starts + 1) p → IsDone p → AreUnits (state p) × IsBased p.trail → FitsParts p s global → IsSettled p p s global
+settled_above p s global above h done units fits = record {
   stands = record { holds = record { below = h; units = units.0; base = units.1 }; fits = fits };
   done = done;
   starts = refl;
+  empty = λ e. absurd (let n : length p.trail.starts ≡ 0 = ap (λ (xs : List ℕ). length xs) e in omega arith);
   word = extends_refl p;
   size = refl;
   placed = λ a x. x;
 }
 
 -- at level 0 units were taken off the trail
-pub settled_bottom : (p q : Parts) (s : Session) (global : ℕ → ℕ) → AllUnits p s global → length p.trail.starts ≡ 0 → Holds q → IsDone q → q.trail.starts ≡ [] → SameClauses p q → Clears (state p) (state q) → Extends p q → IsSettled p q s global
-settled_bottom p q s global all bottom holds done none same clears word = record {
+pub settled_bottom : (p q : Parts) (s : Session) (global : ℕ → ℕ) → AllUnits p s global → length p.trail.starts ≡ 0 → Holds q → IsDone q → q.trail.starts ≡ [] → q.trail.lits ≡ [] → SameClauses p q → Clears (state p) (state q) → Extends p q → IsSettled p q s global
+settled_bottom p q s global all bottom holds done none empty same clears word = record {
   stands = record { holds = holds; fits = rw (same.0, same.1, same.2) (fits_cleared p.clauses (live_refs p.clauses p.db.refs) p.binary.implied (state p) (state q) s global clears all) };
   done = done;
   starts = none ∙ sym (starts_none p bottom);
+  empty = λ e. empty;
   word = word;
   size = clears.size;
   placed = λ a x. placed_cleared a.lits.items a.below.items a.place (state p) (state q) bottom none clears x;

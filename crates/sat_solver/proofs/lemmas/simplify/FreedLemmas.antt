@@ -1,5 +1,5 @@
 -- Indices are given up, one after another.
-use Rattle.std.proofs.Common.{ℕ, zero, suc, ◌≡◌, ◌≢◌, ◌<◌, ◌∙◌, inl, inr, Bool, true, false, cond, eqb, Option, Some, None, List, [], ◌∷◌, map, length, get_or, refl, sym, ap, subst, arith, get_or-set_same, Result, Ok, Err, OnOk}
+use Rattle.std.proofs.Common.{ℕ, zero, suc, ◌≡◌, ◌≢◌, ◌<◌, ◌∙◌, inl, inr, Bool, true, false, cond, eqb, Option, Some, None, List, [], ◌∷◌, map, length, get_or, set, refl, sym, ap, subst, arith, get_or-set_same, get_or-set_other, Result, Ok, Err, OnOk}
 use Rattle.std.proofs.lemmas.List.{get_or_past}
 use Rattle.sat_store.specs.declared.data.VarData.{VarData}
 use Rattle.sat_store.specs.variables.VarData.{unused_variable}
@@ -45,7 +45,7 @@ use Rattle.sat_solver.specs.loading.Shared.{SharesIndices}
 use Rattle.sat_solver.proofs.lemmas.loading.GivenLemmas.{of_on}
 use Rattle.sat_solver.proofs.lemmas.loading.IndexLemmas.{coded_variable, coded_sign}
 use Rattle.sat_solver.specs.simplify.Flat.{IsFlat}
-use Rattle.sat_solver.specs.simplify.Freed.{LosesIndex, GivesUp, MayFree, FreesSome}
+use Rattle.sat_solver.specs.simplify.Freed.{LosesIndex, GivesUp, MayFree, KeepsAsked, FreesSome}
 
 none_some : {A : Type 0} (x : A) → None ≡ Some x → ⊥
 none_some x e = cc
@@ -56,6 +56,10 @@ some_same x y e = cc
 pub on_ok : {T E : Type 0} (r : Result T E) (A B C : Type 0) → (A → B → C) → OnOk r A → OnOk r B → OnOk r C
 on_ok (Ok x) A B C f a b = f a b
 on_ok (Err e) A B C f a b = tt
+
+pub on_ok_three : {T E : Type 0} (r : Result T E) (A B C D : Type 0) → (A → B → C → D) → OnOk r A → OnOk r B → OnOk r C → OnOk r D
+on_ok_three (Ok x) A B C D f a b c = f a b c
+on_ok_three (Err e) A B C D f a b c = tt
 
 -- NAMES
 
@@ -68,6 +72,7 @@ module _ (old mid : Variables) (from mids : List Step) (v x : ℕ) (stands : Sta
   gives_up_one = record {
     does = u.does;
     solvers = u.solvers;
+    users = u.users;
     loses = record {
       live = u.search.live;
       units = λ w y b n e. ap (λ f. f (coded w b)) u.search.units;
@@ -79,10 +84,11 @@ module _ (old mid : Variables) (from mids : List Step) (v x : ℕ) (stands : Sta
   }
 
   -- and then its variable
-  pub gives_up_both : (new : Variables) (to : List Step) → DoesNothing mid new mids to → IsAlike mid new mids to → GivesUp old new from to v
-  gives_up_both new to does a = record {
+  pub gives_up_both : (new : Variables) (to : List Step) → DoesNothing mid new mids to → IsAlike mid new mids to → new.global_from_user ≡ mid.global_from_user → GivesUp old new from to v
+  gives_up_both new to does a users = record {
     does = does_both old mid new from mids to (λ j. j) (λ j. j) (λ j. []) (λ j. []) u.does does;
     solvers = λ w. ap (λ m. get_or m.fwd w None) a.solvers ∙ u.solvers w;
+    users = users ∙ u.users;
     loses = record {
       live = a.live ∙ u.search.live;
       units = λ w y b n e. a.units w y b (u.solvers w ∙ ap (λ t. cond t None (solver_of old w)) (ne_eqb w v n) ∙ sym (stands.said.solver_names w) ∙ e) ∙ ap (λ f. f (coded w b)) u.search.units;
@@ -98,7 +104,7 @@ module _ (old mid : Variables) (from mids : List Step) (v x : ℕ) (stands : Sta
 variable_mapped : (global : ℕ → ℕ) (l : ℕ) → variable (with_var global l) ≡ global (variable l)
 variable_mapped global l = omega arith
 
-assumed_mention : (global : ℕ → ℕ) (ls : List ℕ) (x : ℕ) → Contains (variables ls) x → mentions (map (with_var global) ls) (global x) ≡ true
+pub assumed_mention : (global : ℕ → ℕ) (ls : List ℕ) (x : ℕ) → Contains (variables ls) x → mentions (map (with_var global) ls) (global x) ≡ true
 assumed_mention global [] x c = absurd (let lt : c.0 < 0 = c.1 in omega arith)
 assumed_mention global (l ∷ ls) x (zero, lt, e) =
     or_left (eqb (variable (with_var global l)) (global x)) (mentions (map (with_var global) ls) (global x)) (eq-eqb (variable (with_var global l)) (global x) (variable_mapped global l ∙ ap global e))
@@ -121,7 +127,7 @@ placed_some ls below place s s' e e' kept h =
       all = λ lt. absurd (omega arith);
     }
 
-contains_at : (ls : List ℕ) (k : ℕ) → k < length ls → Contains (variables ls) (variable (get_or ls k 0))
+pub contains_at : (ls : List ℕ) (k : ℕ) → k < length ls → Contains (variables ls) (variable (get_or ls k 0))
 contains_at [] k lt = absurd (omega arith)
 contains_at (l ∷ ls) zero lt = (0, omega arith, refl)
 contains_at (l ∷ ls) (suc k) lt = let y = contains_at ls k (omega arith) in (suc y.0, omega (arith, y.1), y.2)
@@ -277,6 +283,12 @@ shares_freed old new c c' v tidy tidy' solvers moved h = record {
 
 -- ONE INDEX
 
+set_none : (values : List (Option Bool)) (x w : ℕ) → x < length values → value_of values w ≡ None → value_of (set values x None) w ≡ None
+set_none values x w lt e = elim (cases_eq w x) [
+  | inl q ↦ ap (λ k. value_of (set values x None) k) q ∙ get_or-set_same values x None None lt
+  | inr n ↦ get_or-set_other values x w None None n ∙ e
+]
+
 module _ (n : Variables) (steps : List Step) (c : Search) (may : MayFree n steps c) (x v : ℕ) (there : global_at n x ≡ Some v) where
   abbrev now : Session
   now = session_after steps
@@ -332,9 +344,27 @@ module _ (n : Variables) (steps : List Step) (c : Search) (may : MayFree n steps
             moved = moved;
             same = freed.clauses;
             word = freed_word now c v x may.search may.flat own at unused t p gone.loses unmarked freed holds none room word;
+            asked = record {
+              users = gone.users ∙ put.maps.users;
+              assumed = gone.loses.assumed;
+              indices = λ w y m e.
+                  let other : w ≢ v = λ q. true≢false (sym m ∙ ap (mentions now.assumed) q ∙ unmarked) in
+                  gone.solvers w ∙ ap (λ b. cond b None (solver_of n1 w)) (ne_eqb w v other) ∙ ap (λ m. target m.fwd w) put.maps.solvers ∙ e;
+            };
+            unset = λ w e. ap (λ a. value_of a.current w) freed.values ∙ set_none c.parts.assignment.current x w room e;
           }
 
 -- ONE AFTER ANOTHER
+
+pub asked_refl : (n : Variables) (s : Session) → KeepsAsked n n s s
+asked_refl n s = record { users = refl; assumed = refl; indices = λ v x m e. e }
+
+pub asked_trans : (a b d : Variables) (s t u : Session) → KeepsAsked a b s t → KeepsAsked b d t u → KeepsAsked a d s u
+asked_trans a b d s t u x y = record {
+  users = y.users ∙ x.users;
+  assumed = y.assumed ∙ x.assumed;
+  indices = λ v i m e. y.indices v i (ap (λ ls. mentions ls v) x.assumed ∙ m) (x.indices v i m e);
+}
 
 pub frees_none : (n : Variables) (steps : List Step) (c : Search) → MayFree n steps c → FreesSome n n steps steps c c
 frees_none n steps c h = record {
@@ -345,6 +375,8 @@ frees_none n steps c h = record {
   moved = moved_refl c;
   same = (refl, refl, refl);
   word = extends_refl c.parts (assumed_in c);
+  asked = asked_refl n (session_after steps);
+  unset = λ v e. e;
 }
 
 pub frees_both : (a b d : Variables) (from mids to : List Step) (c1 c2 c3 : Search) → FreesSome a b from mids c1 c2 → FreesSome b d mids to c2 c3 → FreesSome a d from to c1 c3
@@ -356,6 +388,8 @@ frees_both a b d from mids to c1 c2 c3 x y = record {
   moved = moved_trans c1 c2 c3 x.moved y.moved;
   same = (y.same.0 ∙ x.same.0, y.same.1 ∙ x.same.1, y.same.2 ∙ x.same.2);
   word = extends_after (assumed_in c1) c1.parts c2.parts c3.parts x.word (rw x.moved.lits at y.word);
+  asked = asked_trans a b d (session_after from) (session_after mids) (session_after to) x.asked y.asked;
+  unset = λ v e. y.unset v (x.unset v e);
 }
 
 pub may_free_on : (a b : Variables) (from to : List Step) (c c' : Search) → FreesSome a b from to c c' → MayFree b to c'

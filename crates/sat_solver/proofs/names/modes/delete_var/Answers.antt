@@ -20,3 +20,6 @@ returns-clause-solvers g c = c.put_deleted.ensures.solvers
 
 pub returns-clause-globals : goal.returns-clause-globals
 returns-clause-globals g c = c.put_deleted.ensures.globals
+
+pub returns-clause-users : goal.returns-clause-users
+returns-clause-users g c = c.put_deleted.ensures.users

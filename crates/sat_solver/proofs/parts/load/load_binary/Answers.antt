@@ -3,6 +3,7 @@ use Rattle.std.proofs.lemmas.List.{get_or_read}
 use Rattle.sat_solver.specs.parts.Frame.{stores_binary}
 use Rattle.sat_solver.specs.parts.Whole.{state}
 use Rattle.sat_solver.proofs.lemmas.parts.FrameLemmas.{carries_refl}
+use Rattle.sat_solver.proofs.lemmas.parts.WordSteps.{extends_refl}
 use Rattle.sat_solver.proofs.lemmas.parts.LoadLemmas.{sound_loaded_binary}
 use Rattle.sat_solver.proofs.parts.load.load_binary.Goals as goal
 
@@ -16,4 +17,6 @@ returns c =
           (sound_loaded_binary p.clauses p.db p.watchlists p.binary p.assignment p.graph p.trail p.vsids c.args.lits.now c.requires.holds c.requires.loadable c.requires.two);
       stores = stores_binary c.requires.two refl refl (rw (one, two) at c.in_ok-add_binary_clause.ensures.done) (carries_refl (state p));
       kept = (refl, refl);
+      state = (refl, refl, refl);
+      word = extends_refl p;
     }

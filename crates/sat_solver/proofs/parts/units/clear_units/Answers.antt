@@ -1,3 +1,5 @@
+use Rattle.std.proofs.Common.{ap}
+use Rattle.sat_parts.specs.prop.Trails.{Trailed}
 use Rattle.sat_solver.proofs.lemmas.parts.WordSteps.{word_cleared}
 use Rattle.sat_solver.proofs.lemmas.parts.ClearLemmas.{sound_cleared}
 use Rattle.sat_solver.proofs.lemmas.parts.FrameLemmas.{clears_cleared}
@@ -16,3 +18,6 @@ pub returns-clause-clears : goal.returns-clause-clears
 returns-clause-clears c =
     let p = c.args.parts.now in
     rw (c.mark_removed.ensures, c.clear.ensures) (clears_cleared p.assignment p.graph p.trail c.requires.holds.asks.agrees c.requires.bottom)
+
+pub returns-clause-empty : goal.returns-clause-empty
+returns-clause-empty c = ap (λ (t : Trailed). t.lits) c.clear.ensures

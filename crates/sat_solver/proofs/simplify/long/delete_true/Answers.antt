@@ -11,8 +11,10 @@ use Rattle.sat_solver.specs.session.LiveClauses.{with_var}
 use Rattle.sat_solver.specs.joint.Fits.{is_redundant}
 use Rattle.sat_solver.specs.search.Joint.{global_in}
 use Rattle.sat_solver.specs.simplify.Cuts.{deleted_step}
-use Rattle.sat_solver.specs.simplify.Flat.{Lighter}
+use Rattle.sat_solver.specs.declared.search.work.Search.{Search}
+use Rattle.sat_solver.specs.simplify.Flat.{Lighter, Lightens}
 use Rattle.sat_solver.proofs.lemmas.search.GoingLemmas.{goes_starved, goes_step, goes_broken}
+use Rattle.sat_solver.proofs.lemmas.simplify.LightensLemmas.{lightens_dropped}
 use Rattle.sat_solver.proofs.lemmas.simplify.TrueLemmas.{true_goes, true_lighter}
 use Rattle.sat_solver.proofs.simplify.long.delete_true.Goals as goal
 
@@ -37,8 +39,9 @@ returns-in-Ok g c =
     let after_step = subst (λ d. Lighter (after (DeleteClause c.deref-2.result.now d) (session_of c.args.proof.now)) c.args.search.now (record c.args.search.now { parts = c.delete_long.new.parts; scratch = scratch })) (sym c.deletion_for.ensures)
     (subst (λ (ls : List ℕ). Lighter (after (deleted_step c.redundant-redundant.result Satisfied ls) (session_of c.args.proof.now)) c.args.search.now (record c.args.search.now { parts = c.delete_long.new.parts; scratch = scratch })) (sym clause)
     (true_lighter (session_of c.args.proof.now) c.args.search.now c.delete_long.new.parts c.args.cref c.requires.search c.requires.flat c.requires.live c.requires.satisfied c.delete_long.ensures.dropped c.redundant-redundant.result flag scratch c.delete_long.ensures.holds c.delete_long.ensures.word)) in
-    goes_step g.W.CountedWrite.seen tt c.args.proof.now c.step.new.self (DeleteClause c.deref-2.result.now (deletion_of c.deletion_for.result)) (λ _ _. Lighter (session_of c.step.new.self) c.args.search.now (record c.args.search.now { parts = c.delete_long.new.parts; scratch = scratch })) tt c.in-Ok.ensures.keeps c.in-Ok.ensures.records
-    (subst (λ ss. Lighter (session_after ss) c.args.search.now (record c.args.search.now { parts = c.delete_long.new.parts; scratch = scratch })) (sym c.in-Ok.ensures.records.history) after_step)
+    let d : Search = record c.args.search.now { parts = c.delete_long.new.parts; scratch = scratch } in
+    goes_step g.W.CountedWrite.seen tt c.args.proof.now c.step.new.self (DeleteClause c.deref-2.result.now (deletion_of c.deletion_for.result)) (λ _ _. Lightens (session_of c.step.new.self) c.args.search.now d c.args.cref) tt c.in-Ok.ensures.keeps c.in-Ok.ensures.records
+    (lightens_dropped (session_of c.step.new.self) c.args.search.now d c.args.cref (subst (λ ss. Lighter (session_after ss) c.args.search.now d) (sym c.in-Ok.ensures.records.history) after_step) c.delete_long.ensures.dropped)
 
 pub returns-in-Err : goal.returns-in-Err
 returns-in-Err g c =

@@ -1,0 +1,159 @@
+-- Names, proof and search stand together from call to call.
+use Rattle.std.proofs.Common.{ℕ, ◌≡◌, ◌∙◌, Result, Ok, Err, List, [], ◌++◌, Some, None, refl, sym, ap, subst}
+use Rattle.std.specs.List.{Contains}
+use Rattle.sat_base.specs.device.Device.{Writer}
+use Rattle.sat_base.specs.steps.Steps.{Step}
+use Rattle.sat_parts.specs.clause.Db.{Db, live_refs}
+use Rattle.sat_parts.specs.clause.Stored.{lit_of}
+use Rattle.sat_parts.specs.prop.Values.{value_of, IsOpenLit}
+use Rattle.sat_base.specs.values.Literals.{variable}
+use Rattle.sat_solver.specs.session.Making.{Took, Broke}
+use Rattle.sat_solver.specs.session.ProofView.{Adds, Keeps, steps_of, session_of}
+use Rattle.sat_solver.specs.session.Session.{Session, MayAll, session_after}
+use Rattle.sat_solver.specs.declared.session.proof.Proof.{Proof}
+use Rattle.sat_solver.proofs.lemmas.session.ProofLemmas.{adds_none, adds_more, fails_later}
+use Rattle.sat_solver.specs.declared.error.SolverError.{SolverError}
+use Rattle.sat_solver.specs.declared.error.SolverError.TheVariants as errors
+use Rattle.sat_solver.specs.names.Calls.{Stands, DoesNothing}
+use Rattle.sat_solver.specs.names.Failing.{IsFailure, CameTo, Came}
+use Rattle.sat_solver.specs.declared.names.error.NameError.{NameError}
+use Rattle.sat_solver.specs.declared.names.error.NameError.TheVariants as names
+use Rattle.sat_solver.specs.declared.names.Variables.{Variables}
+use Rattle.sat_solver.proofs.lemmas.names.Doing.{does_none, does_both}
+use Rattle.sat_solver.specs.declared.parts.Parts.{Parts}
+use Rattle.sat_solver.specs.parts.Frame.{SameClauses}
+use Rattle.sat_solver.specs.parts.Words.{ExtendsFor}
+use Rattle.sat_solver.proofs.lemmas.parts.WordSteps.{extends_refl, extends_after}
+use Rattle.sat_solver.specs.search.Going.{IsFault, Went, AreSearched, Goes}
+use Rattle.sat_solver.specs.search.Joint.{assumed_in, IsSearch, Moved}
+use Rattle.sat_solver.specs.declared.search.work.Search.{Search}
+use Rattle.sat_solver.proofs.lemmas.search.TurnLemmas.{moved_refl, moved_trans}
+use Rattle.sat_solver.specs.loading.Shared.{SharesIndices}
+use Rattle.sat_solver.specs.loading.Faults.{told_as}
+use Rattle.sat_solver.proofs.lemmas.solver.BehindLemmas.{stands_behind, nothing_behind}
+use Rattle.sat_solver.proofs.lemmas.solver.TellingLemmas.{shares_moved}
+use Rattle.sat_solver.specs.simplify.Flat.{IsFlat, LightensAll}
+use Rattle.sat_solver.specs.simplify.Freed.{MayFree, FreesSome}
+use Rattle.sat_solver.specs.simplify.Looks.{IsOpenAt}
+use Rattle.sat_solver.specs.simplify.Passes.{StandTogether, Passes, Falls, Simplified}
+use Rattle.sat_solver.proofs.lemmas.simplify.FreedLemmas.{asked_refl, asked_trans}
+use Rattle.sat_solver.proofs.lemmas.simplify.LighterLemmas.{goes_leaves, flat_on}
+
+module _ {W : Type 0} (seen : W → Writer) where
+  pub passes_refl : (n : Variables) (p : Proof W) (c : Search) → StandTogether n p c → Passes seen n n p p c c
+  passes_refl n p c h = record {
+    together = h;
+    took = ([], adds_none seen p);
+    does = does_none n (steps_of p) h.stands;
+    asked = asked_refl n (session_of p);
+    moved = moved_refl c;
+    word = extends_refl c.parts (assumed_in c);
+  }
+
+  pub passes_trans : (a b d : Variables) (p q r : Proof W) (x y z : Search) → Passes seen a b p q x y → Passes seen b d q r y z → Passes seen a d p r x z
+  passes_trans a b d p q r x y z one two = record {
+    together = two.together;
+    took = (two.took.0 ++ one.took.0, adds_more seen one.took.0 two.took.0 p q r one.took.1 two.took.1);
+    does = does_both a b d (steps_of p) (steps_of q) (steps_of r) (λ j. j) (λ j. j) (λ j. []) (λ j. []) one.does two.does;
+    asked = asked_trans a b d (session_of p) (session_of q) (session_of r) one.asked two.asked;
+    moved = moved_trans x y z one.moved two.moved;
+    word = extends_after (assumed_in x) x.parts y.parts z.parts one.word (rw one.moved.lits at two.word);
+  }
+
+  -- what changed before without a step
+  pub passes_behind : (a b : Variables) (p q : Proof W) (x y z : Search) → Moved x y → ExtendsFor (assumed_in x) x.parts y.parts → Passes seen a b p q y z → Passes seen a b p q x z
+  passes_behind a b p q x y z moved word h = record {
+    together = h.together;
+    took = h.took;
+    does = h.does;
+    asked = h.asked;
+    moved = moved_trans x y z moved h.moved;
+    word = extends_after (assumed_in x) x.parts y.parts z.parts word (rw moved.lits at h.word);
+  }
+
+  -- steps of a search
+  pub passes_goes : {A : Type 0} (v : A) (n : Variables) (p q : Proof W) (c d : Search) (P : A → List Step → Type 0) → Stands n (steps_of p) → SharesIndices n c → Goes seen (Ok v) p q P → IsSearch (session_of q) d → Moved c d → ExtendsFor (assumed_in c) c.parts d.parts → Passes seen n n p q c d
+  passes_goes v n p q c d P stands shares g search moved word =
+      let may : MayAll (g.steps ++ steps_of p) = subst MayAll g.went.history g.keeps in
+      let does : DoesNothing n n (steps_of p) (steps_of q) = subst (DoesNothing n n (steps_of p)) (sym g.went.history) (nothing_behind n (steps_of p) g.steps stands may g.searched) in
+      record {
+        together = record { keeps = g.keeps; stands = does.stands; search = search; shares = shares_moved n c d shares moved };
+        took = (g.steps, g.went);
+        does = does;
+        asked = record { users = refl; assumed = (goes_leaves seen v p q P g).assumed; indices = λ w x m e. e };
+        moved = moved;
+        word = word;
+      }
+
+  -- indices that were given up
+  pub passes_frees : (a b : Variables) (p q : Proof W) (c d : Search) → FreesSome a b (steps_of p) (steps_of q) c d → Keeps q → ((w : Proof W) → Took seen w p → Took seen w q) → Passes seen a b p q c d
+  passes_frees a b p q c d f keeps came = record {
+    together = record { keeps = keeps; stands = f.does.stands; search = f.search; shares = f.shares };
+    took = came p ([], adds_none seen p);
+    does = f.does;
+    asked = f.asked;
+    moved = f.moved;
+    word = f.word;
+  }
+
+  -- FAULTS
+
+  pub falls_goes : (e : SolverError) (p q : Proof W) (P : Unit {0} → List Step → Type 0) → Goes {A = Unit {0}} seen (Err e) p q P → Falls seen e p q
+  falls_goes e p q P g = record { fault = g.ends; steps = g.steps; went = g.went }
+
+  pub falls_starved : (p : Proof W) → Falls seen errors.OutOfMemory p p
+  falls_starved p = record { fault = tt; steps = []; went = adds_none seen p }
+
+  went_later : (xs ys : List Step) (p q r : Proof W) → Adds seen xs p q → (e : SolverError) → IsFault e → Went {A = Unit {0}} seen (Err e) ys q r → Went {A = Unit {0}} seen (Err e) (ys ++ xs) p r
+  went_later xs ys p q r adds errors.OutOfMemory f w = adds_more seen xs ys p q r adds w
+  went_later xs ys p q r adds errors.StoreFull f w = adds_more seen xs ys p q r adds w
+  went_later xs ys p q r adds (errors.ProofIoError cause) f w = fails_later seen xs ys p q r adds w
+  went_later xs ys p q r adds errors.Interrupted f w = absurd f
+  went_later xs ys p q r adds (errors.ProofProcessorError cause) f w = absurd f
+  went_later xs ys p q r adds errors.WitnessVariable f w = absurd f
+  went_later xs ys p q r adds errors.AssumedVariable f w = absurd f
+  went_later xs ys p q r adds errors.TooLate f w = absurd f
+  went_later xs ys p q r adds errors.NotInDrat f w = absurd f
+  went_later xs ys p q r adds errors.VariableLimit f w = absurd f
+  went_later xs ys p q r adds errors.CounterEnd f w = absurd f
+  went_later xs ys p q r adds errors.HasFailed f w = absurd f
+  went_later xs ys p q r adds errors.Read f w = absurd f
+  went_later xs ys p q r adds errors.Malformed f w = absurd f
+  went_later xs ys p q r adds errors.OutOfRange f w = absurd f
+
+  -- behind what went well
+  pub falls_later : (e : SolverError) (p q r : Proof W) → Took seen p q → Falls seen e q r → Falls seen e p r
+  falls_later e p q r took f = record { fault = f.fault; steps = f.steps ++ took.0; went = went_later took.0 f.steps p q r took.1 e f.fault f.went }
+
+  -- a call over names
+  pub falls_names : (e : NameError) (p q : Proof W) → IsFailure e → ((w : Proof W) → Took seen w p → CameTo (Took seen) (Broke seen) w e q) → Falls seen (told_as e) p q
+  falls_names names.OutOfMemory p q f came = (let t = came p ([], adds_none seen p) in record { fault = tt; steps = t.0; went = t.1 })
+  falls_names (names.Write cause) p q f came = (let t = came p ([], adds_none seen p) in record { fault = tt; steps = t.0; went = t.1 })
+  falls_names names.WitnessVariable p q f came = absurd f
+  falls_names names.AssumedVariable p q f came = absurd f
+  falls_names names.VariableLimit p q f came = absurd f
+
+  -- SIMPLIFICATION
+
+  pub may_free : (n : Variables) (p : Proof W) (c : Search) → StandTogether n p c → IsFlat c.parts → MayFree n (steps_of p) c
+  may_free n p c h flat = record { stands = h.stands; search = h.search; shares = h.shares; flat = flat }
+
+  module _ (n n' : Variables) (p q r : Proof W) (c d e : Search) (h : StandTogether n p c) (flat : IsFlat c.parts) (g : Goes {A = Unit {0}} seen (Ok tt) p q (λ _ _. LightensAll (session_of q) c d)) where
+    pub lightened : Passes seen n n p q c d
+    lightened = passes_goes tt n p q c d (λ _ _. LightensAll (session_of q) c d) h.stands h.shares g g.ends.lighter.search g.ends.lighter.moved g.ends.lighter.word
+
+    pub lightened_may : MayFree n (steps_of q) d
+    lightened_may = may_free n q d lightened.together (flat_on c d (session_of q) g.ends.lighter flat)
+
+    open_freed : SameClauses d.parts e.parts → ((v : ℕ) → value_of d.parts.assignment.current v ≡ None → value_of e.parts.assignment.current v ≡ None) →
+        (o : ℕ) → Contains (live_refs e.parts.clauses e.parts.db.refs) o → IsOpenAt e.parts o
+    open_freed same unset o there k lt =
+        let was : Contains (live_refs d.parts.clauses d.parts.db.refs) o = rw (same.0, same.1) at there in
+        rw same.0 (unset (variable (lit_of d.parts.clauses o k)) (g.ends.left o was k (rw same.0 at lt)))
+
+    pub simplified : FreesSome n n' (steps_of q) (steps_of r) d e → Keeps r → ((w : Proof W) → Took seen w q → Took seen w r) → Simplified seen n n' p r c e
+    simplified f keeps came = record {
+      passes = passes_trans n n n' p q r c d e lightened (passes_frees n n' q r d e f keeps came);
+      flat = f.flat;
+      left = open_freed f.same f.unset;
+    }

@@ -1,0 +1,79 @@
+-- What simplification leaves of names, proof and search.
+use Rattle.std.specs.Prelude.{ℕ, ◌≡◌, Option, None, Some, List, [], MatchResult, Result, Err}
+use Rattle.std.specs.List.{Contains}
+use Rattle.sat_base.specs.device.Device.{Writer}
+use Rattle.sat_base.specs.steps.Steps.{Step}
+use Rattle.sat_parts.specs.declared.prop.graph.Conflict.{Conflict}
+use Rattle.sat_parts.specs.clause.Db.{live_refs}
+use Rattle.sat_solver.specs.session.Making.{Took}
+use Rattle.sat_solver.specs.session.ProofView.{Keeps, steps_of, session_of}
+use Rattle.sat_solver.specs.declared.session.proof.Proof.{Proof}
+use Rattle.sat_solver.specs.declared.error.SolverError.{SolverError}
+use Rattle.sat_solver.specs.names.Calls.{Stands, DoesNothing}
+use Rattle.sat_solver.specs.declared.names.Variables.{Variables}
+use Rattle.sat_solver.specs.parts.Words.{ExtendsFor}
+use Rattle.sat_solver.specs.search.Going.{IsFault, Went}
+use Rattle.sat_solver.specs.search.Joint.{assumed_in, IsSearch, Moved}
+use Rattle.sat_solver.specs.search.Turns.{IsStopped, IsPropagated}
+use Rattle.sat_solver.specs.declared.search.work.Search.{Search}
+use Rattle.sat_solver.specs.loading.Shared.{SharesIndices}
+use Rattle.sat_solver.specs.simplify.Flat.{IsFlat}
+use Rattle.sat_solver.specs.simplify.Freed.{KeepsAsked}
+use Rattle.sat_solver.specs.simplify.Looks.{IsOpenAt}
+
+-- names, proof and search stand together
+pub record StandTogether {W : Type 0} (n : Variables) (p : Proof W) (c : Search) : Type 0 where
+  pub keeps : Keeps p
+  pub stands : Stands n (steps_of p)
+  pub search : IsSearch (session_of p) c
+  pub shares : SharesIndices n c
+
+-- the same at level 0 where all was propagated, and no clause is false
+pub record MaySettle {W : Type 0} (n : Variables) (p : Proof W) (c : Search) : Type 0 where
+  pub keeps : Keeps p
+  pub stands : Stands n (steps_of p)
+  pub shares : SharesIndices n c
+  pub propagated : IsPropagated (session_of p) c
+  pub bottom : c.parts.trail.starts ≡ []
+
+-- They stand together again: steps were made of which the judge sees nothing, assumptions are as they were, and the word of the trail
+-- goes on.
+pub record Passes {W : Type 0} (seen : W → Writer) (n n' : Variables) (p p' : Proof W) (c c' : Search) : Type 0 where
+  pub together : StandTogether n' p' c'
+  pub took : Took seen p p'
+  pub does : DoesNothing n n' (steps_of p) (steps_of p')
+  pub asked : KeepsAsked n n' (session_of p) (session_of p')
+  pub moved : Moved c c'
+  pub word : ExtendsFor (assumed_in c) c.parts c'.parts
+
+-- what no input decides went wrong
+pub record Falls {W : Type 0} (seen : W → Writer) (e : SolverError) (p p' : Proof W) : Type 0 where
+  pub fault : IsFault e
+  pub steps : List Step
+  pub went : Went {A = Unit {0}} seen (Err e) steps p p'
+
+-- nothing is on the trail, and no literal of a long clause has a value
+pub record Simplified {W : Type 0} (seen : W → Writer) (n n' : Variables) (p p' : Proof W) (c c' : Search) : Type 0 where
+  pub passes : Passes seen n n' p p' c c'
+  pub flat : IsFlat c'.parts
+  pub left : (o : ℕ) → Contains (live_refs c'.parts.clauses c'.parts.db.refs) o → IsOpenAt c'.parts o
+
+abbrev pub Simplifies : {W : Type 0} → (W → Writer) → Result (Unit {0}) SolverError → Variables → Variables → Proof W → Proof W → Search → Search → Type 0
+Simplifies seen r n n' p p' c c' = MatchResult r (λ _. Simplified seen n n' p p' c c') (λ e. Falls seen e p p')
+
+-- a clause is false, and nothing was written
+pub record Refutes {W : Type 0} (n n' : Variables) (p p' : Proof W) (c c' : Search) (e : Conflict) : Type 0 where
+  pub names : n' ≡ n
+  pub proof : p' ≡ p
+  pub keeps : Keeps p'
+  pub stopped : IsStopped (session_of p') c' e
+  pub moved : Moved c c'
+  pub word : ExtendsFor (assumed_in c) c.parts c'.parts
+
+abbrev pub BeginSays : {W : Type 0} → (W → Writer) → Option Conflict → Variables → Variables → Proof W → Proof W → Search → Search → Type 0
+BeginSays seen None n n' p p' c c' = Passes seen n n' p p' c c'
+BeginSays seen (Some e) n n' p p' c c' = Refutes n n' p p' c c' e
+
+-- how a round begins
+abbrev pub Begins : {W : Type 0} → (W → Writer) → Result (Option Conflict) SolverError → Variables → Variables → Proof W → Proof W → Search → Search → Type 0
+Begins seen r n n' p p' c c' = MatchResult r (λ o. BeginSays seen o n n' p p' c c') (λ e. Falls seen e p p')

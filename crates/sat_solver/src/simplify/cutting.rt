@@ -1,0 +1,114 @@
+//! Long clauses lose their false literals.
+ghost use Rattle.std.specs.Prelude.{ℕ, ◌≡◌, ◌<◌, ◌≤◌, OnOk, IfOk, length};
+ghost use Rattle.std.specs.List.{Contains};
+ghost use Rattle.sat_parts.specs.clause.Db.{live_refs};
+ghost use Rattle.sat_parts.specs.clause.Stored.{lit_of, size_of};
+ghost use Rattle.sat_parts.specs.prop.State.{HasLeft};
+ghost use Rattle.sat_parts.specs.prop.Values.{IsTrueLit, IsOpenLit};
+ghost use Rattle.sat_solver.specs.session.ProofView.{Keeps, session_of};
+ghost use Rattle.sat_solver.specs.parts.Whole.{state, Holds};
+ghost use Rattle.sat_solver.specs.search.Going.{Goes};
+ghost use Rattle.sat_solver.specs.search.Joint.{IsSearch};
+ghost use Rattle.sat_solver.specs.simplify.Cutting.{Gathers, Replaces, NamesCut};
+ghost use Rattle.sat_solver.specs.simplify.Flat.{IsFlat, Lightens};
+ghost use Rattle.sat_solver.specs.simplify.Looks.{HasTrue, HasFalse};
+
+use crate::SolverError;
+use crate::joint::naming::name_clauses;
+use crate::parts::Parts;
+use crate::parts::clauses::{delete_long, shorten, swap_behind};
+use crate::parts::load::load_binary;
+use crate::search::reducing::map_clause;
+use crate::search::work::Search;
+use crate::session::proof::Proof;
+use crate::simplify::writing::write_cut;
+use sat_base::{CountedWrite, Lit};
+use sat_parts::Conflict;
+use sat_store::ClauseRef;
+use std::alloc::AllocError;
+
+/// Brings the open literals of a clause to its front, in order, of which the first two are there. Answers how many they are.
+fn gather_open(parts: &mut Parts, cref: ClauseRef) -> usize
+    requires holds { Holds parts.old }
+    requires live { Contains (live_refs parts.old.clauses parts.old.db.refs) cref }
+    requires none { HasTrue parts.old cref → ⊥ }
+    requires front { (k : ℕ) → k < 2 → IsOpenLit parts.old.assignment.current (lit_of parts.old.clauses cref k) }
+    ensures gathers { Gathers parts.old parts.new cref result (size_of parts.old.clauses cref) }
+    ensures some { 2 ≤ result }
+    ensures within { result ≤ size_of parts.old.clauses cref }
+{
+    let mut kept = 2;
+    for at in 2..parts.clauses.len(cref) {
+        if parts.assignment.lit_is_false(parts.clauses.lit(cref, at)) {
+            continue;
+        }
+        swap_behind(parts, cref, kept, at);
+        kept += 1;
+    }
+    kept
+}
+
+/// Brings the open literals of a clause to its front, and puts its steps together. Answers how many they are.
+fn name_cut(search: &mut Search, cref: ClauseRef, part: &mut Vec<Lit>) -> Result<usize, AllocError>
+    requires holds { Holds search.old.parts }
+    requires flat { IsFlat search.old.parts }
+    requires names { length search.old.parts.assignment.current ≤ length search.old.globals.items }
+    requires live { Contains (live_refs search.old.parts.clauses search.old.parts.db.refs) cref }
+    requires none { HasTrue search.old.parts cref → ⊥ }
+    ensures same { search.new ≡ record search.old { parts = search.new.parts; scratch = search.new.scratch } }
+    ensures named { IfOk result (λ len. NamesCut search.old search.new part.new.items cref len) }
+{
+    let scratch = &mut search.scratch;
+    map_clause(&search.parts, &search.globals, cref, &mut scratch.clause)?;
+    name_clauses(
+        &search.parts,
+        &[],
+        &Conflict::Long(cref),
+        &mut scratch.hashes,
+    )?;
+    let len = gather_open(&mut search.parts, cref);
+    map_clause(&search.parts, &search.globals, cref, part)?;
+    part.truncate(len);
+    Ok(len)
+}
+
+/// Puts the first literals of a clause in its place.
+fn replace(parts: &mut Parts, cref: ClauseRef, len: usize) -> Result<(), AllocError>
+    requires holds { Holds parts.old }
+    requires flat { IsFlat parts.old }
+    requires live { Contains (live_refs parts.old.clauses parts.old.db.refs) cref }
+    requires some { 2 ≤ len }
+    requires within { len ≤ size_of parts.old.clauses cref }
+    requires front { (k : ℕ) → k < 2 → IsOpenLit parts.old.assignment.current (lit_of parts.old.clauses cref k) }
+    ensures { OnOk result (Replaces parts.old parts.new cref len) }
+{
+    if len > 2 {
+        shorten(parts, cref, len);
+        return Ok(());
+    }
+    let pair = [parts.clauses.lit(cref, 0), parts.clauses.lit(cref, 1)];
+    load_binary(parts, &pair)?;
+    delete_long(parts, cref);
+    Ok(())
+}
+
+/// Replaces a clause by what is left of it, where some of its literals are false and none is true.
+pub fn cut_clause<W: CountedWrite + Drop>(
+    proof: &mut Proof<W>,
+    search: &mut Search,
+    cref: ClauseRef,
+    part: &mut Vec<Lit>,
+) -> Result<(), SolverError>
+    requires keeps { Keeps proof.old }
+    requires search { IsSearch (session_of proof.old) search.old }
+    requires flat { IsFlat search.old.parts }
+    requires live { Contains (live_refs search.old.parts.clauses search.old.parts.db.refs) cref }
+    requires none { HasTrue search.old.parts cref → ⊥ }
+    requires some { HasFalse search.old.parts cref }
+    ensures { Goes W.seen result proof.old proof.new (λ _ _. Lightens (session_of proof.new) search.old search.new cref) }
+{
+    let len = name_cut(search, cref, part)?;
+    let redundant = search.parts.clauses.header(cref).redundant();
+    replace(&mut search.parts, cref, len)?;
+    write_cut(proof, &search.scratch, part, redundant)
+}

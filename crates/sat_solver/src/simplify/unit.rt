@@ -1,0 +1,51 @@
+//! What units of level 0 decide goes: clauses, literals of clauses, and variables that no clause has any more.
+ghost use Rattle.sat_solver.specs.session.ProofView.{Keeps, session_of};
+ghost use Rattle.sat_solver.specs.search.Going.{Goes};
+ghost use Rattle.sat_solver.specs.search.Joint.{IsSearch};
+ghost use Rattle.sat_solver.specs.simplify.Flat.{IsFlat, LightensAll};
+ghost use Rattle.sat_solver.specs.simplify.Passes.{StandTogether, Simplifies};
+
+use crate::SolverError;
+use crate::loading::faults::name_fault;
+use crate::names::Variables;
+use crate::search::work::Search;
+use crate::session::proof::Proof;
+use crate::simplify::freeing::free_indices;
+use crate::simplify::long::simplify_clauses;
+use crate::simplify::pairs::delete_pairs;
+use sat_base::CountedWrite;
+
+/// Clauses of two literals go where a variable of them has a value, long ones where a literal is true; the others lose their false
+/// literals.
+fn lighten<W: CountedWrite + Drop>(
+    proof: &mut Proof<W>,
+    search: &mut Search,
+) -> Result<(), SolverError>
+    requires keeps { Keeps proof.old }
+    requires search { IsSearch (session_of proof.old) search.old }
+    requires flat { IsFlat search.old.parts }
+    ensures { Goes W.seen result proof.old proof.new (λ _ _. LightensAll (session_of proof.new) search.old search.new) }
+{
+    delete_pairs(proof, search)?;
+    let mut part = Vec::new(search.alloc);
+    simplify_clauses(proof, search, &mut part)
+}
+
+/// Simplifies at level 0, where all was propagated and the trail is empty: true clauses go, false literals are cut off, and then the
+/// variables that no clause has and no assumption give their indices up, in order. Hidden ones among these are deleted.
+pub fn unit_simplify<W: CountedWrite + Drop>(
+    proof: &mut Proof<W>,
+    search: &mut Search,
+    names: &mut Variables,
+) -> Result<(), SolverError>
+    requires together { StandTogether names.old proof.old search.old }
+    requires flat { IsFlat search.old.parts }
+    ensures { Simplifies W.seen result names.old names.new proof.old proof.new search.old search.new }
+{
+    lighten(proof, search)?;
+    let mut used = Vec::new(search.alloc);
+    match free_indices(names, proof, search, &mut used) {
+        Ok(()) => Ok(()),
+        Err(error) => Err(name_fault(error)),
+    }
+}
