@@ -11,3 +11,5 @@ pub mod Taking
 pub mod Whole
 pub mod Proving
 pub mod Configuring
+pub mod Naming
+pub mod Formulas

@@ -3,7 +3,7 @@ ghost use Rattle.std.specs.Prelude.{ℕ, ◌≡◌, ◌≤◌, ◌<◌, None, So
 ghost use Rattle.sat_store.specs.variables.Maps.{target};
 ghost use Rattle.sat_solver.specs.names.Variables.{AreTidy, data_at, global_of, global_at, user_of, solver_of, names_used, indices_used, variables_used};
 ghost use Rattle.sat_solver.specs.names.Free.{is_free};
-ghost use Rattle.sat_solver.specs.names.Naming.{IsRoom, NoneLeft, PutsDeleted, PutsHidden, PutsIndex, PutsMode, PutsName, PutsUnit, IsNextIndex, IsNextUser};
+ghost use Rattle.sat_solver.specs.names.Naming.{IsRoom, NoneLeft, PutsDeleted, PutsHidden, PutsIndex, PutsMode, PutsName, PutsObserved, PutsUnit, IsNextIndex, IsNextUser};
 
 pub mod adding;
 pub mod assuming;
@@ -16,6 +16,7 @@ pub mod maps;
 pub mod models;
 pub mod modes;
 pub mod naming;
+pub mod observing;
 pub mod refusing;
 pub mod taking;
 
@@ -160,6 +161,22 @@ impl Variables {
         self.free_users.put(user);
         unlink(&mut self.global_from_user, user, global);
         set_mode(&mut self.var_data, global, SamplingMode::Hide);
+    }
+
+    /// Gives a name to a hidden variable, which is of mode witness from here on.
+    pub(crate) fn put_observed(&mut self, user: Var, global: Var) -> Result<(), AllocError>
+        requires tidy { AreTidy self.old }
+        requires free { global_of self.old user ≡ None }
+        requires nameless { user_of self.old global ≡ None }
+        requires low { user ≤ names_used self.old }
+        requires within { global < variables_used self.old }
+        ensures { OnOk result (PutsObserved self.old self.new user global) }
+    {
+        link(&mut self.global_from_user, user, global)?;
+        self.free_users.reserve(user)?;
+        self.free_users.take(user);
+        set_mode(&mut self.var_data, global, SamplingMode::Witness);
+        Ok(())
     }
 
     /// Gives a variable another mode.

@@ -12,7 +12,10 @@ pub mod adding;
 pub mod answers;
 pub mod assuming;
 pub mod configuring;
+pub mod counting;
 pub mod finding;
+pub mod formulas;
+pub mod naming;
 pub mod proving;
 pub mod solving;
 pub mod state;
@@ -79,6 +82,7 @@ impl<W: CountedWrite + Drop> Solver<W> {
                     sequence: LubySequence::default(),
                     scale: config.luby_restart_interval_scale,
                     next: 0,
+                    count: 0,
                 },
                 steps: 0,
             },

@@ -216,6 +216,7 @@ pub fn answer<W: CountedWrite + Drop>(core: &mut Core<W>) -> Option<Outcome>
         sequence: LubySequence::default(),
         scale: 128,
         next: 0,
+        count: 0,
     };
     let mut steps = 0;
     let came = solve(core, &mut restarts, &mut steps, u64::MAX);

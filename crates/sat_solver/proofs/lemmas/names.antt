@@ -1,3 +1,5 @@
+pub mod NextUnused
+pub mod ObservingLemmas
 pub mod Trees
 pub mod MapLemmas
 pub mod JudgeLemmas

@@ -1,3 +1,6 @@
+pub mod FormulaLemmas
+pub mod SpeltLemmas
+pub mod RenamedLemmas
 pub mod AnsweredLemmas
 pub mod BehindLemmas
 pub mod ComingLemmas

@@ -49,6 +49,11 @@ pub record Images (n : Variables) (user lits : List ℕ) : Type 0 where
   pub count : length lits ≡ length user
   pub each : (k : ℕ) → k < length user → Image n (get_or user k 0) (get_or lits k 0)
 
+-- the literals of the proof for those of the user's, one for each, in order
+pub record GlobalImages (n : Variables) (user codes : List ℕ) : Type 0 where
+  pub count : length codes ≡ length user
+  pub each : (k : ℕ) → k < length user → (v : ℕ) × (global_of n (variable (get_or user k 0)) ≡ Some v) × (get_or codes k 0 ≡ coded v (is_positive (get_or user k 0)))
+
 -- where the name is in use, it is of mode sample
 abbrev pub IsSampled : Variables → ℕ → Type 0
 IsSampled n user = (v : ℕ) → global_of n user ≡ Some v → (data_at n v).sampling_mode ≡ kept.Sample

@@ -1,6 +1,7 @@
 -- What calls over names change and write.
-use Rattle.std.specs.Prelude.{ℕ, ◌+◌, ◌<◌, ◌≤◌, ◌==◌, ◌≡◌, max, Bool, true, false, not, Option, None, Some, length, get_or, ◌&&◌, get_or, ◌&&◌, if◌then◌else◌}
+use Rattle.std.specs.Prelude.{ℕ, ◌+◌, ◌<◌, ◌≤◌, ◌==◌, ◌≡◌, ◌≢◌, max, Bool, true, false, not, Option, None, Some, length, get_or, ◌&&◌, get_or, ◌&&◌, if◌then◌else◌}
 use Rattle.sat_base.specs.values.Literals.{largest}
+use Rattle.sat_base.specs.script.Judge.{Judge, identity_of}
 use Rattle.sat_store.specs.variables.VarData.{user_variable, unused_variable}
 use Rattle.sat_store.specs.variables.Maps.{AreInverse, Links, Unlinks}
 use Rattle.sat_store.specs.declared.data.SamplingMode.{SamplingMode}
@@ -84,10 +85,25 @@ pub record PutsDeleted (old new : Variables) (v : ℕ) : Type 0 where
   pub free_solvers : new.free_solvers ≡ old.free_solvers
   pub spans_globals : Spans new.free_globals (variables_used new)
 
--- names in use keep their variables and modes, and those that came in are sampled
+-- names in use keep their variables and modes, and those that came in are sampled, on variables that weren't in use
 pub record Extends (old new : Variables) : Type 0 where
   pub stays : (u v : ℕ) → global_of old u ≡ Some v → (global_of new u ≡ Some v) × ((data_at new v).sampling_mode ≡ (data_at old v).sampling_mode)
   pub came : (u v : ℕ) → global_of old u ≡ None → global_of new u ≡ Some v → (data_at new v).sampling_mode ≡ kept.Sample
+  pub fresh : (u v : ℕ) → global_of old u ≡ None → global_of new u ≡ Some v → (data_at old v).deleted ≡ true
+  pub lives : (v : ℕ) → (data_at old v).deleted ≡ false → (data_at new v).deleted ≡ false
+
+-- a name in use has the variable that it had, or one that wasn't in use
+pub record AreFresh (old new : Variables) : Type 0 where
+  pub same : (u v w : ℕ) → global_of old u ≡ Some v → global_of new u ≡ Some w → w ≡ v
+  pub fresh : (u v : ℕ) → global_of old u ≡ None → global_of new u ≡ Some v → (data_at old v).deleted ≡ true
+
+-- names in use keep their variables
+abbrev pub KeepsNames : Variables → Variables → Type 0
+KeepsNames old new = (u v : ℕ) → global_of old u ≡ Some v → global_of new u ≡ Some v
+
+-- names in use keep their variables, but for this one
+abbrev pub KeepsOthers : Variables → Variables → ℕ → Type 0
+KeepsOthers old new user = (u v : ℕ) → u ≢ user → global_of old u ≡ Some v → global_of new u ≡ Some v
 
 -- maps and free indices are as they were
 pub record SameMaps (old new : Variables) : Type 0 where
@@ -109,6 +125,25 @@ pub record IsNextUser (n : Variables) (user : ℕ) : Type 0 where
   pub unused : global_of n user ≡ None
   pub reach : user ≤ names_used n
   pub lowest : (m : ℕ) → m < user → global_of n m ≡ None → ⊥
+
+-- the same, as the judge has it: the lowest hidden name, else the first never used
+pub record IsLowestUnused (j : Judge) (name : ℕ) : Type 0 where
+  pub named : 0 < name
+  pub unused : identity_of j name ≡ None
+  pub lowest : (m : ℕ) → 0 < m → m < name → identity_of j m ≡ None → ⊥
+
+-- a hidden variable has a name again, and mode witness
+pub record PutsObserved (old new : Variables) (user v : ℕ) : Type 0 where
+  pub users : Links old.global_from_user new.global_from_user user v
+  pub inverse : AreInverse new.global_from_user
+  pub solvers : new.solver_from_global ≡ old.solver_from_global
+  pub globals : new.globals ≡ old.globals
+  pub kept : (w : ℕ) → data_at new w ≡ (if w == v then record (data_at old v) { sampling_mode = kept.Witness } else data_at old w)
+  pub count : variables_used new ≡ variables_used old
+  pub free_users : (u : ℕ) → is_free new.free_users u ≡ (if u == user then false else is_free old.free_users u)
+  pub free_globals : new.free_globals ≡ old.free_globals
+  pub free_solvers : new.free_solvers ≡ old.free_solvers
+  pub spans_users : Spans new.free_users (names_used new)
 
 -- the index that comes next: the lowest one that no variable has
 pub record IsNextIndex (n : Variables) (x : ℕ) : Type 0 where

@@ -1,10 +1,13 @@
 -- What the search sees of calls over names.
-use Rattle.std.specs.Prelude.{ℕ, ◌≤◌, ◌≡◌, ◌≢◌, ◌⊎◌, ◌&&◌, ◌==◌, not, Bool, Some, None, List, [], ◌∷◌}
+use Rattle.std.specs.Prelude.{ℕ, ◌≤◌, ◌≡◌, ◌≢◌, ◌⊎◌, ◌&&◌, ◌==◌, not, Bool, true, Some, None, List, [], ◌∷◌}
 use Rattle.std.specs.List.{AllByRecursion}
 use Rattle.sat_base.specs.values.Literals.{coded, variable}
+use Rattle.sat_base.specs.values.Clauses.{Valuation}
 use Rattle.sat_base.specs.steps.Steps.{Step}
+use Rattle.sat_checker.specs.Fold.{Holds}
+use Rattle.sat_checker.specs.LiteralSets.{mentions}
 use Rattle.sat_solver.specs.session.Session.{Session, session_after}
-use Rattle.sat_solver.specs.names.Variables.{global_at, solver_of, indices_used, says_unit}
+use Rattle.sat_solver.specs.names.Variables.{global_of, global_at, solver_of, indices_used, says_unit}
 use Rattle.sat_solver.specs.declared.names.indexing.Given.{Given}
 use Rattle.sat_solver.specs.declared.names.Variables.{Variables}
 
@@ -24,11 +27,12 @@ pub record Forgets (s t : Session) (v : ℕ) : Type 0 where
   pub width : t.width ≡ s.width
   pub assumed : t.assumed ≡ s.assumed
 
--- neither the session's clauses nor the search's indices have changed
+-- neither the session's clauses nor the search's indices have changed, and each valuation that is left was left before
 pub record IsUnseen (old new : Variables) (from to : List Step) : Type 0 where
   pub solvers : new.solver_from_global ≡ old.solver_from_global
   pub globals : new.globals ≡ old.globals
   pub search : KeepsSearch (session_after from) (session_after to)
+  pub leaves : (a : Valuation) → Holds to a → Holds from a
 
 -- A variable came to have this index, which no variable had, and this is its unit.
 pub record IsGiven (old new : Variables) (s : Session) (g : Given) : Type 0 where
@@ -56,7 +60,16 @@ pub record Gives (old new : Variables) (s : Session) (gs : List Given) : Type 0 
   pub others : (v x : ℕ) → solver_of new v ≡ Some x → (solver_of old v ≡ Some x) ⊎ HasGiven gs x
   pub used : indices_used old ≤ indices_used new
 
--- All that the search may see is as it was: units are forgotten at most of a variable that has no index.
+-- units of variables with names are as they were
+abbrev pub KeepsUnits : Variables → List Step → List Step → Type 0
+KeepsUnits new from to = (u v : ℕ) (b : Bool) → global_of new u ≡ Some v → (session_after to).units (coded v b) ≡ (session_after from).units (coded v b)
+
+-- some valuation that these steps leave has the same values for the variables of these literals
+abbrev pub IsLeftOn : List Step → List ℕ → Valuation → Type 0
+IsLeftOn steps ls a = (b : Valuation) × Holds steps b × ((v : ℕ) → mentions ls v ≡ true → b v ≡ a v)
+
+-- All that the search may see is as it was: units are forgotten at most of a variable that has no index. What a valuation that is left
+-- says of the assumptions was said before.
 pub record IsAlike (old new : Variables) (from to : List Step) : Type 0 where
   pub solvers : new.solver_from_global ≡ old.solver_from_global
   pub globals : new.globals ≡ old.globals
@@ -65,3 +78,4 @@ pub record IsAlike (old new : Variables) (from to : List Step) : Type 0 where
   pub unsat : (session_after to).unsat ≡ (session_after from).unsat
   pub width : (session_after to).width ≡ (session_after from).width
   pub assumed : (session_after to).assumed ≡ (session_after from).assumed
+  pub leaves : (a : Valuation) → Holds to a → IsLeftOn from (session_after from).assumed a

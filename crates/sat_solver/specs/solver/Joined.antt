@@ -4,7 +4,7 @@ use Rattle.sat_base.specs.values.Literals.{variable, is_positive, coded}
 use Rattle.sat_solver.specs.session.ProofView.{steps_of, session_of}
 use Rattle.sat_solver.specs.search.Solving.{IsCore}
 use Rattle.sat_solver.specs.loading.Shared.{SharesIndices}
-use Rattle.sat_solver.specs.names.Adding.{Images}
+use Rattle.sat_solver.specs.names.Adding.{Images, GlobalImages}
 use Rattle.sat_solver.specs.names.Calls.{Stands}
 use Rattle.sat_solver.specs.names.Variables.{global_at, user_of}
 use Rattle.sat_solver.specs.declared.names.Variables.{Variables}
@@ -21,6 +21,7 @@ pub record IsJoined {W : Type 0} (n : Variables) (c : Core W) : Type 0 where
 pub record AreAsked {W : Type 0} (n : Variables) (c : Core W) (user : List ℕ) (t : Taken) : Type 0 where
   pub images : Images n user t.order.items
   pub lits : c.search.assumptions.lits.items ≡ t.order.items
+  pub spelt : GlobalImages n user t.globals.items
   pub globals : t.globals.items ≡ (session_of c.proof).assumed
 
 abbrev pub named_by : Option ℕ → ℕ → ℕ

@@ -11,6 +11,7 @@ use Rattle.sat_solver.specs.search.Going.{IsFault, Went}
 use Rattle.sat_solver.specs.names.Adding.{named_literal, Images}
 use Rattle.sat_solver.specs.names.Calls.{Does}
 use Rattle.sat_solver.specs.names.Expected.{Adds, Opens, bringing}
+use Rattle.sat_solver.specs.names.Naming.{KeepsNames}
 use Rattle.sat_solver.specs.names.Refusing.{names_in}
 use Rattle.sat_solver.specs.declared.names.Variables.{Variables}
 use Rattle.sat_solver.specs.declared.names.taking.Taken.{Taken}
@@ -31,6 +32,7 @@ pub record TookClause {W : Type 0} (seen : W → Writer) (n n' : Variables) (a b
   pub does : Does n n' (steps_of a.proof) (steps_of b.proof) (λ j. with_clause (map named_literal user) (bring_all (names_in user) j)) (λ j. bringing (names_in user) j ++ (Adds (map named_literal user) ∷ []))
   pub took : Took seen a.proof b.proof
   pub goes_on : GoesOnOr left n' b
+  pub names : KeepsNames n n'
   pub images : KeepImages n n'
   pub lits : b.search.assumptions.lits ≡ a.search.assumptions.lits
   pub config : b.config ≡ a.config

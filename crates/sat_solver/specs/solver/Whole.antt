@@ -9,7 +9,7 @@ use Rattle.sat_solver.specs.session.ProofView.{steps_of, session_of}
 use Rattle.sat_solver.specs.session.Session.{Session}
 use Rattle.sat_solver.specs.search.Bumping.{AreDecays}
 use Rattle.sat_solver.specs.search.Turns.{IsComplete}
-use Rattle.sat_solver.specs.names.Adding.{named_literal, Images}
+use Rattle.sat_solver.specs.names.Adding.{named_literal, Images, GlobalImages}
 use Rattle.sat_solver.specs.names.Calls.{Stands}
 use Rattle.sat_solver.specs.names.Checking.{variable_of}
 use Rattle.sat_solver.specs.names.Expected.{SameSet}
@@ -63,6 +63,7 @@ StateSays states.Unsat c n asked assumed core = (session_of c.proof).unsat ≡ t
 pub record IsWholeOf {W : Type 0} (c : Core W) (n : Variables) (asked : Taken) (assumed core : List ℕ) (scale : ℕ) (state : State) : Type 0 where
   pub stands : Stands n (steps_of c.proof)
   pub images : Images n assumed asked.order.items
+  pub spelt : GlobalImages n assumed asked.globals.items
   pub globals : asked.globals.items ≡ (session_of c.proof).assumed
   pub positive : 0 < scale
   pub decays : AreDecays c.config

@@ -12,6 +12,8 @@ pub struct Restarts {
     pub scale: u64,
     /// The round before which the next restart stands.
     pub next: u64,
+    /// How many there were, held at 2^64-1.
+    pub count: u64,
 }
 
 /// Begins a gap before this round.
@@ -22,4 +24,5 @@ pub fn begin_gap(restarts: &mut Restarts, round: u64)
 {
     let gap = restarts.sequence.advance().saturating_mul(restarts.scale);
     restarts.next = round.saturating_add(gap);
+    restarts.count = restarts.count.saturating_add(1);
 }

@@ -3,9 +3,11 @@ ghost use Rattle.std.specs.Prelude.{ℕ, ◌≡◌, ◌+◌, true, false, Some, 
 ghost use Rattle.sat_base.specs.script.Judge.{without_name, with_mode, bring_in, new_names};
 ghost use Rattle.sat_solver.specs.session.Session.{session_after};
 ghost use Rattle.sat_solver.specs.names.Variables.{data_at, global_of, user_of, solver_of, judged_mode, mode_for};
+ghost use Rattle.sat_base.specs.steps.Steps.{DeleteVar};
 ghost use Rattle.sat_solver.specs.names.Expected.{NewName, NoName};
+ghost use Rattle.sat_solver.specs.names.Naming.{AreFresh, KeepsOthers};
 ghost use Rattle.sat_solver.specs.names.Calls.{Stands, Does, DoesNothing};
-ghost use Rattle.sat_solver.specs.names.Search.{IsUnseen, IsAlike, Forgets};
+ghost use Rattle.sat_solver.specs.names.Search.{IsUnseen, IsAlike, Forgets, KeepsUnits};
 ghost use Rattle.sat_solver.specs.names.Refusing.{IsAssumed};
 ghost use Rattle.sat_solver.specs.names.Failing.{IsFailure, Came};
 
@@ -28,6 +30,8 @@ fn hide_global<W: StepWriter>(
     requires named { global_of variables.old user ≡ Some global }
     ensures does { OnOk result (Does variables.old variables.new (W.steps writer.old) (W.steps writer.new) (without_name (user + 1)) (λ j. NoName (user + 1) ∷ [])) }
     ensures unseen { OnOk result (IsUnseen variables.old variables.new (W.steps writer.old) (W.steps writer.new)) }
+    ensures others { OnOk result (KeepsOthers variables.old variables.new user) }
+    ensures only { OnOk result ((u v : ℕ) → global_of variables.new u ≡ Some v → global_of variables.old u ≡ Some v) }
     ensures live { OnOk result ((data_at variables.new global).deleted ≡ false) }
     ensures nameless { OnOk result (user_of variables.new global ≡ None) }
     ensures keeps { OnOk result (W.keeps writer.new) }
@@ -51,6 +55,7 @@ pub fn delete_var<W: StepWriter>(
     requires without { solver_of variables.old global ≡ None }
     requires unmarked { (data_at variables.old global).assumed ≡ false }
     ensures does { OnOk result (DoesNothing variables.old variables.new (W.steps writer.old) (W.steps writer.new)) }
+    ensures step { OnOk result (W.steps writer.new ≡ DeleteVar global ∷ W.steps writer.old) }
     ensures solvers { OnOk result (variables.new.solver_from_global ≡ variables.old.solver_from_global) }
     ensures globals { OnOk result (variables.new.globals ≡ variables.old.globals) }
     ensures users { OnOk result (variables.new.global_from_user ≡ variables.old.global_from_user) }
@@ -75,6 +80,7 @@ pub(crate) fn forget_idle<W: StepWriter>(
     requires live { (data_at variables.old global).deleted ≡ false }
     requires nameless { user_of variables.old global ≡ None }
     ensures does { OnOk result (DoesNothing variables.old variables.new (W.steps writer.old) (W.steps writer.new)) }
+    ensures units { OnOk result (KeepsUnits variables.new (W.steps writer.old) (W.steps writer.new)) }
     ensures alike { OnOk result (IsAlike variables.old variables.new (W.steps writer.old) (W.steps writer.new)) }
     ensures users { OnOk result (variables.new.global_from_user ≡ variables.old.global_from_user) }
     ensures fails { IfErr result IsFailure }
@@ -101,6 +107,9 @@ pub fn hide_var<W: StepWriter>(
     requires keeps { W.keeps writer.old }
     requires free { IsAssumed variables.old user → ⊥ }
     ensures does { OnOk result (Does variables.old variables.new (W.steps writer.old) (W.steps writer.new) (λ j. without_name (user + 1) (bring_in (user + 1) j)) (λ j. map NewName (new_names (user + 1) j) ++ (NoName (user + 1) ∷ []))) }
+    ensures others { OnOk result (KeepsOthers variables.old variables.new user) }
+    ensures fresh { OnOk result (AreFresh variables.old variables.new) }
+    ensures units { OnOk result (KeepsUnits variables.new (W.steps writer.old) (W.steps writer.new)) }
     ensures alike { OnOk result (IsAlike variables.old variables.new (W.steps writer.old) (W.steps writer.new)) }
     ensures keeps { OnOk result (W.keeps writer.new) }
     ensures came { Came W.took W.broke result writer.old writer.new }
@@ -143,6 +152,7 @@ fn set_global_mode<W: StepWriter>(
     requires keeps { W.keeps writer.old }
     requires named { global_of variables.old user ≡ Some global }
     ensures does { OnOk result (Does variables.old variables.new (W.steps writer.old) (W.steps writer.new) (with_mode (judged_mode sample) (user + 1)) (λ j. [])) }
+    ensures users { OnOk result (variables.new.global_from_user ≡ variables.old.global_from_user) }
     ensures unseen { OnOk result (IsUnseen variables.old variables.new (W.steps writer.old) (W.steps writer.new)) }
     ensures keeps { OnOk result (W.keeps writer.new) }
     ensures came { Came W.took W.broke result writer.old writer.new }
@@ -169,6 +179,8 @@ pub fn set_sampling_mode<W: StepWriter>(
     requires keeps { W.keeps writer.old }
     requires free { IsAssumed variables.old user → ⊥ }
     ensures does { OnOk result (Does variables.old variables.new (W.steps writer.old) (W.steps writer.new) (λ j. with_mode (judged_mode sample) (user + 1) (bring_in (user + 1) j)) (λ j. map NewName (new_names (user + 1) j) ++ [])) }
+    ensures others { OnOk result (KeepsOthers variables.old variables.new user) }
+    ensures fresh { OnOk result (AreFresh variables.old variables.new) }
     ensures unseen { OnOk result (IsUnseen variables.old variables.new (W.steps writer.old) (W.steps writer.new)) }
     ensures keeps { OnOk result (W.keeps writer.new) }
     ensures came { Came W.took W.broke result writer.old writer.new }

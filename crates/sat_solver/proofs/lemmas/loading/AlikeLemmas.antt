@@ -1,13 +1,15 @@
 -- A search fits each session that it can't tell from one that it fits, and it sees nothing of a tautology.
-use Rattle.std.proofs.Common.{inl, inr, ℕ, ◌≡◌, ◌∙◌, true, Option, List, [], ◌∷◌, map, sym}
-use Rattle.sat_base.specs.values.Literals.{variable}
+use Rattle.std.proofs.Common.{inl, inr, ℕ, ◌≡◌, ◌∙◌, true, Option, Some, List, [], ◌∷◌, map, sym, ap}
+use Rattle.sat_base.specs.values.Literals.{variable, is_positive}
 use Rattle.sat_base.specs.steps.Steps.{Step}
 use Rattle.sat_checker.specs.LiteralSets.{is_tautology}
 use Rattle.sat_parts.specs.clause.Db.{live_refs}
 use Rattle.sat_solver.specs.parts.Whole.{state}
 use Rattle.sat_solver.specs.session.Session.{Session, session_after}
 use Rattle.sat_solver.specs.session.LiveClauses.{with_var, AreMapped}
-use Rattle.sat_solver.proofs.lemmas.joint.AddedLemmas.{fits_added_tautology}
+use Rattle.sat_solver.proofs.lemmas.joint.AddedLemmas.{fits_added_tautology, unit_true}
+use Rattle.sat_solver.proofs.lemmas.joint.CodeLemmas.{coded_by}
+use Rattle.sat_solver.proofs.lemmas.search.TurnLemmas.{ready_names}
 use Rattle.sat_solver.specs.declared.search.work.Search.{Search}
 use Rattle.sat_solver.specs.search.Joint.{global_in, IsSearch}
 use Rattle.sat_solver.specs.loading.Alike.{LooksAlike}
@@ -31,8 +33,8 @@ search_alike s t c x a =
             counts = λ r set. a.live r set ∙ fits.clauses.counts r set;
           };
           paired = fits.paired;
-          known = λ l u. a.units (with_var (global_in c) l) ∙ fits.known l u;
-          sound = λ l n u. fits.sound l (sym (a.names (global_in c (variable l))) ∙ n) (sym (a.units (with_var (global_in c) l)) ∙ u);
+          known = λ l u. unit_same l (ready_names s c x.ready l (unit_true (state c.parts) l x.stands.holds.below.asks.agrees u).0) ∙ fits.known l u;
+          sound = λ l n u. (let own = sym (a.names (global_in c (variable l))) ∙ n in fits.sound l own (sym (unit_same l own) ∙ u));
           consistent = a.unsat ∙ fits.consistent;
           width = a.width ∙ fits.width;
         };
@@ -45,6 +47,9 @@ search_alike s t c x a =
         used = λ v lt. elim (x.ready.used v lt) [ inl own ↦ inl (a.names (global_in c v) ∙ own) | inr idle ↦ inr idle ];
       };
     }
+  where
+    unit_same : (l : ℕ) → s.solver_names (global_in c (variable l)) ≡ Some (variable l) → t.units (with_var (global_in c) l) ≡ s.units (with_var (global_in c) l)
+    unit_same l e = ap t.units (sym (coded_by (global_in c) l)) ∙ a.units (global_in c (variable l)) (variable l) (is_positive l) e ∙ ap s.units (coded_by (global_in c) l)
 
 -- a clause with both signs of a variable was added
 pub tautology_loads : (steps : List Step) (c : Search) (ls : List ℕ) → IsAdded steps c ls → is_tautology ls ≡ true → IsSearch (session_after steps) c

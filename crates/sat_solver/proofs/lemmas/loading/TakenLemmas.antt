@@ -1,7 +1,7 @@
 -- What a call over names took is what a search loads.
 use Rattle.std.proofs.Common.{ℕ, zero, suc, ◌≡◌, ◌<◌, ◌∙◌, true, false, List, [], ◌∷◌, length, get_or, refl, sym, ap, subst, arith, Bool, cond, eqb, inl, inr, Some}
 use Rattle.std.proofs.lemmas.Bool.{true≢false, or_cases, or_left, or_right, eq-eqb, eqb-true}
-use Rattle.sat_base.specs.values.Literals.{variable, is_positive}
+use Rattle.sat_base.specs.values.Literals.{variable, is_positive, coded}
 use Rattle.sat_base.specs.steps.Steps.{Step, AddClause}
 use Rattle.sat_checker.specs.LiteralSets.{is_among, is_tautology, canonical}
 use Rattle.sat_checker.specs.inner.Marks.{NoRepeats}
@@ -92,7 +92,7 @@ module _ (new : Variables) (t : Taken) (user : List ℕ) (between to : List Step
 pub keeps_alike : (s t : Session) → KeepsSearch s t → ((v : ℕ) → t.solver_names v ≡ s.solver_names v) → LooksAlike s t
 keeps_alike s t k names = record {
   live = λ r set. ap (λ f. f r set) k.live;
-  units = λ l. ap (λ f. f l) k.units;
+  units = λ v x b e. ap (λ f. f (coded v b)) k.units;
   names = names;
   unsat = k.unsat;
   width = k.width;

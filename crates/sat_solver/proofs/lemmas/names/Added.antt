@@ -64,6 +64,8 @@ extends_marked : (old new : Variables) (ls : List ℕ) → PutsMarks old new ls 
 extends_marked old new ls put = record {
   stays = λ u v e. (same u ∙ e, ap (λ d. d.sampling_mode) (put.kept v));
   came = λ u v e f. absurd (none_some (sym e ∙ sym (same u) ∙ f));
+  fresh = λ u v e f. absurd (none_some (sym e ∙ sym (same u) ∙ f));
+  lives = λ v d. ap (λ k. k.deleted) (put.kept v) ∙ d;
 }
   where
     same : (u : ℕ) → global_of new u ≡ global_of old u

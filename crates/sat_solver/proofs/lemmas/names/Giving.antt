@@ -1,16 +1,20 @@
 -- Indices of the search that calls give.
-use Rattle.std.proofs.Common.{ℕ, ◌≡◌, ◌≢◌, ◌⊎◌, not, ◌&&◌, Bool, true, false, cond, eqb, List, [], ◌∷◌, ◌++◌, length, Option, Some, None, is_some, Result, Ok, Err, OnOk, refl, sym, ◌∙◌, ap, arith, inl, inr}
+use Rattle.std.proofs.Common.{ℕ, ◌≡◌, ◌≢◌, ◌⊎◌, not, ◌&&◌, Bool, true, false, cond, eqb, List, [], ◌∷◌, ◌++◌, length, Option, Some, None, is_some, Result, Ok, Err, OnOk, refl, sym, ◌∙◌, ap, subst, arith, inl, inr}
 use Rattle.std.proofs.lemmas.Bool.{eqb-true, eq-eqb, ne_eqb, true≢false}
 use Rattle.std.specs.List.{AllByRecursion}
 use Rattle.sat_base.specs.values.Literals.{coded}
-use Rattle.sat_base.specs.steps.Steps.{Step}
+use Rattle.sat_base.specs.values.Clauses.{Valuation, flipped}
+use Rattle.sat_base.specs.steps.Steps.{Step, DeleteVar}
+use Rattle.sat_checker.specs.Fold.{Holds}
+use Rattle.sat_checker.specs.LiteralSets.{mentions}
 use Rattle.sat_store.specs.variables.Maps.{AreInverse, target}
 use Rattle.sat_solver.specs.session.Session.{Session, session_after}
-use Rattle.sat_solver.specs.names.Variables.{global_at, solver_of, says_unit}
-use Rattle.sat_solver.specs.names.Naming.{PutsIndex}
-use Rattle.sat_solver.specs.names.Search.{KeepsSearch, IsUnseen, IsAlike, Forgets, IsGiven, GivenApart, HasGiven, Gives}
+use Rattle.sat_solver.specs.names.Variables.{global_at, user_of, solver_of, says_unit}
+use Rattle.sat_solver.specs.names.Naming.{PutsIndex, KeepsOthers, AreFresh}
+use Rattle.sat_solver.specs.names.Search.{KeepsSearch, KeepsUnits, IsUnseen, IsLeftOn, IsAlike, Forgets, IsGiven, GivenApart, HasGiven, Gives}
 use Rattle.sat_solver.specs.declared.names.indexing.Given.{Given}
 use Rattle.sat_solver.specs.declared.names.Variables.{Variables}
+use Rattle.sat_solver.proofs.lemmas.names.Extending.{fresh_only}
 use Rattle.sat_solver.proofs.lemmas.names.LiteralValues.{all_map, coded_half}
 
 none_some : {x : ℕ} {o : Option ℕ} → o ≡ None → o ≡ Some x → ⊥
@@ -27,10 +31,10 @@ pub keeps_both : (a b c : Session) → KeepsSearch a b → KeepsSearch b c → K
 keeps_both a b c x y = record { live = y.live ∙ x.live; units = y.units ∙ x.units; unsat = y.unsat ∙ x.unsat; width = y.width ∙ x.width; assumed = y.assumed ∙ x.assumed }
 
 pub unseen_same : (n : Variables) (steps : List Step) → IsUnseen n n steps steps
-unseen_same n steps = record { solvers = refl; globals = refl; search = keeps_same (session_after steps) }
+unseen_same n steps = record { solvers = refl; globals = refl; search = keeps_same (session_after steps); leaves = λ a h. h }
 
 pub unseen_both : (a b c : Variables) (from mids to : List Step) → IsUnseen a b from mids → IsUnseen b c mids to → IsUnseen a c from to
-unseen_both a b c from mids to x y = record { solvers = y.solvers ∙ x.solvers; globals = y.globals ∙ x.globals; search = keeps_both (session_after from) (session_after mids) (session_after to) x.search y.search }
+unseen_both a b c from mids to x y = record { solvers = y.solvers ∙ x.solvers; globals = y.globals ∙ x.globals; search = keeps_both (session_after from) (session_after mids) (session_after to) x.search y.search; leaves = λ a h. x.leaves a (y.leaves a h) }
 
 pub gives_none : (n : Variables) (s : Session) → Gives n n s []
 gives_none n s = record { stays = λ v x e. e; each = tt; apart = tt; others = λ v x e. inl e; used = omega arith }
@@ -114,7 +118,7 @@ ok_unseen (Ok x) a b c from mids to one two = unseen_both a b c from mids to one
 ok_unseen (Err x) a b c from mids to one two = tt
 
 pub alike_unseen : (a b : Variables) (from to : List Step) → IsUnseen a b from to → IsAlike a b from to
-alike_unseen a b from to u = record { solvers = u.solvers; globals = u.globals; live = u.search.live; units = λ v x d e. ap (λ f. f (coded v d)) u.search.units; unsat = u.search.unsat; width = u.search.width; assumed = u.search.assumed }
+alike_unseen a b from to u = record { solvers = u.solvers; globals = u.globals; live = u.search.live; units = λ v x d e. ap (λ f. f (coded v d)) u.search.units; unsat = u.search.unsat; width = u.search.width; assumed = u.search.assumed; leaves = λ a h. (a, u.leaves a h, λ v t. refl) }
 
 pub alike_both : (a b c : Variables) (from mids to : List Step) → IsAlike a b from mids → IsAlike b c mids to → IsAlike a c from to
 alike_both a b c from mids to x y = record {
@@ -125,10 +129,16 @@ alike_both a b c from mids to x y = record {
   unsat = y.unsat ∙ x.unsat;
   width = y.width ∙ x.width;
   assumed = y.assumed ∙ x.assumed;
+  leaves = λ w h.
+      let m = y.leaves w h in
+      let l = x.leaves m.0 m.1 in
+      (l.0, l.1, λ v t. l.2 v t ∙ m.2 v (ap (λ ls. mentions ls v) x.assumed ∙ t));
 }
 
-pub alike_forgets : (a b : Variables) (from to : List Step) (v : ℕ) → b.solver_from_global ≡ a.solver_from_global → b.globals ≡ a.globals → solver_of a v ≡ None → Forgets (session_after from) (session_after to) v → IsAlike a b from to
-alike_forgets a b from to v solvers globals none f = record {
+-- a variable that wasn't assumed was deleted
+pub alike_forgets : (a b : Variables) (from to : List Step) (v : ℕ) → b.solver_from_global ≡ a.solver_from_global → b.globals ≡ a.globals → solver_of a v ≡ None → to ≡ DeleteVar v ∷ from → mentions (session_after from).assumed v ≡ false →
+    Forgets (session_after from) (session_after to) v → IsAlike a b from to
+alike_forgets a b from to v solvers globals none step unmarked f = record {
   solvers = solvers;
   globals = globals;
   live = f.live;
@@ -136,8 +146,13 @@ alike_forgets a b from to v solvers globals none f = record {
   unsat = f.unsat;
   width = f.width;
   assumed = f.assumed;
+  leaves = λ w h. left w (subst (λ ss. Holds ss w) step h);
 }
   where
+    left : (w : Valuation) → Holds from w ⊎ Holds from (flipped v w) → IsLeftOn from (session_after from).assumed w
+    left w (inl h) = (w, h, λ u t. refl)
+    left w (inr h) = (flipped v w, h, λ u t. ap (λ q. cond q (not (w u)) (w u)) (ne_eqb u v (λ e. true≢false (sym t ∙ ap (mentions (session_after from).assumed) e ∙ unmarked))))
+
     and_true : (b : Bool) → (b && true) ≡ b
     and_true true = refl
     and_true false = refl
@@ -145,6 +160,31 @@ alike_forgets a b from to v solvers globals none f = record {
 pub ok_alike : {A E : Type 0} (r : Result A E) (a b c : Variables) (from mids to : List Step) → IsAlike a b from mids → OnOk r (IsAlike b c mids to) → OnOk r (IsAlike a c from to)
 ok_alike (Ok x) a b c from mids to one two = alike_both a b c from mids to one two
 ok_alike (Err x) a b c from mids to one two = tt
+
+-- units behind a call that the search doesn't see, and then one that keeps those of names
+pub ok_units : {A E : Type 0} (r : Result A E) (c : Variables) (from mids to : List Step) → KeepsSearch (session_after from) (session_after mids) → OnOk r (KeepsUnits c mids to) → OnOk r (KeepsUnits c from to)
+ok_units (Ok x) c from mids to one two = λ u v b e. two u v b e ∙ ap (λ f. f (coded v b)) one.units
+ok_units (Err x) c from mids to one two = tt
+
+-- only the units of a variable without a name are forgotten
+pub units_forgotten : (a b : Variables) (from to : List Step) (v : ℕ) → AreInverse a.global_from_user → user_of a v ≡ None → b.global_from_user ≡ a.global_from_user → Forgets (session_after from) (session_after to) v → KeepsUnits b from to
+units_forgotten a b from to v inverse none users f u w d e =
+    let named : user_of a w ≡ Some u = inverse.back u w (sym (ap (λ m. target m.fwd u) users) ∙ e) in
+    f.units (coded w d) ∙ ap (λ k. (session_after from).units (coded w d) && not (eqb k v)) (coded_half w d) ∙ ap (λ t. (session_after from).units (coded w d) && not t) (ne_eqb w v (λ q. none_some (ap (user_of a) q ∙ none) named)) ∙ and_true ((session_after from).units (coded w d))
+  where
+    and_true : (t : Bool) → (t && true) ≡ t
+    and_true true = refl
+    and_true false = refl
+
+-- names that came in freshly, behind a call that leaves them all
+pub ok_fresh : {A E : Type 0} (r : Result A E) (a b c : Variables) → AreFresh a b → OnOk r (c.global_from_user ≡ b.global_from_user) → OnOk r (AreFresh a c)
+ok_fresh (Ok x) a b c fresh e = fresh_only a b c fresh (λ u v f. sym (ap (λ m. target m.fwd u) e) ∙ f)
+ok_fresh (Err x) a b c fresh e = tt
+
+-- names that kept their variables still do behind a call that leaves them all
+pub ok_others : {A E : Type 0} (r : Result A E) (a b c : Variables) (user : ℕ) → KeepsOthers a b user → OnOk r (c.global_from_user ≡ b.global_from_user) → OnOk r (KeepsOthers a c user)
+ok_others (Ok x) a b c user keeps e = λ u v n named. ap (λ m. target m.fwd u) e ∙ keeps u v n named
+ok_others (Err x) a b c user keeps e = tt
 
 pub none_test : (o : Option ℕ) (b : Bool) → b ≡ is_some o → b ≡ false → o ≡ None
 none_test None b e f = refl

@@ -3,6 +3,7 @@ use Rattle.std.proofs.Common.{ℕ, ◌+◌, ◌≡◌, ◌≢◌, Bool, true, fa
 use Rattle.std.proofs.lemmas.Bool.{eqb-true, eqb-false, eq-eqb, ne_eqb, true≢false}
 use Rattle.sat_base.specs.script.Judge.{Judge, Sampled, identity_of, without_name}
 use Rattle.sat_base.specs.steps.Steps.{Step, UserVarName}
+use Rattle.sat_checker.specs.Fold.{Holds}
 use Rattle.sat_store.specs.declared.data.VarData.{VarData}
 use Rattle.sat_store.specs.declared.data.SamplingMode.TheVariants as kept
 use Rattle.sat_store.specs.variables.VarData.{unused_variable}
@@ -14,7 +15,7 @@ use Rattle.sat_solver.specs.names.Counting.{IsEven}
 use Rattle.sat_solver.specs.names.Free.{is_free, IsTree}
 use Rattle.sat_solver.specs.names.Live.{Live, given_of, given}
 use Rattle.sat_solver.specs.names.Variables.{data_at, global_of, user_of, names_used, variables_used, AreTidy, mode_in, variable_at, AreSaid, IsModeOf, AreJudged, says_unit}
-use Rattle.sat_solver.specs.names.Naming.{PutsHidden}
+use Rattle.sat_solver.specs.names.Naming.{PutsHidden, KeepsOthers}
 use Rattle.sat_solver.specs.names.Checking.{is_variable, variable_of}
 use Rattle.sat_solver.specs.names.ProofChecking.{the_checking}
 use Rattle.sat_solver.specs.names.Expected.{NoName, no_name}
@@ -218,7 +219,24 @@ name_hidden old new from to user v stands had put e = record {
     accepted = (sessions_are_accepted (UserVarName v None ∷ from) (stands.may, may_hide old new user v stands.tidy had put (session_after from) stands.said)).0.1
 
 pub hidden_unseen : (old new : Variables) (from to : List Step) (user v : ℕ) → PutsHidden old new user v → to ≡ UserVarName v None ∷ from → IsUnseen old new from to
-hidden_unseen old new from to user v put e = record { solvers = put.solvers; globals = put.globals; search = subst (λ steps. KeepsSearch (session_after from) (session_after steps)) (sym e) (record { live = refl; units = refl; unsat = refl; width = refl; assumed = refl }) }
+hidden_unseen old new from to user v put e = record {
+  solvers = put.solvers;
+  globals = put.globals;
+  search = subst (λ steps. KeepsSearch (session_after from) (session_after steps)) (sym e) (record { live = refl; units = refl; unsat = refl; width = refl; assumed = refl });
+  leaves = λ a h. subst (λ steps. Holds steps a) e h;
+}
+
+-- no name comes in
+pub hidden_only : (old new : Variables) (user v : ℕ) → PutsHidden old new user v → (u w : ℕ) → global_of new u ≡ Some w → global_of old u ≡ Some w
+hidden_only old new user v put u w e = go (eqb u user) (put.users.fwd u)
+  where
+    go : (b : Bool) → global_of new u ≡ cond b None (global_of old u) → global_of old u ≡ Some w
+    go true x = absurd (none_some x e)
+    go false x = sym x ∙ e
+
+-- other names keep their variables
+pub hidden_others : (old new : Variables) (user v : ℕ) → PutsHidden old new user v → KeepsOthers old new user
+hidden_others old new user v put u w n e = put.users.fwd u ∙ ap (λ b. cond b None (global_of old u)) (ne_eqb u user n) ∙ e
 
 pub hidden_live : (old new : Variables) (user v : ℕ) → AreTidy old → global_of old user ≡ Some v → PutsHidden old new user v → (data_at new v).deleted ≡ false
 hidden_live old new user v tidy had put = deleted_at old new user v tidy had put v ∙ alive old new user v tidy had put

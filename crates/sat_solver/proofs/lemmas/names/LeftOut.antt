@@ -50,7 +50,8 @@ bring_goes old now new from steps to all index l v b lt at brought named = recor
       (does_both now new last steps to end (bring_in (variable l + 1)) (bring_all (names_in (drop (index + 1) all))) (λ j. map NewName (new_names (variable l + 1) j)) (bringing (names_in (drop (index + 1) all))) brought.brings more));
 }
 
-in_use : (n : Variables) (steps : List Step) (j : Judge) (live : Live) (u v : ℕ) → Stands n steps → AreJudged n j live → global_of n u ≡ Some v → (i : ℕ) × (identity_of j (u + 1) ≡ Some i)
+-- a name in use has an identity
+pub in_use : (n : Variables) (steps : List Step) (j : Judge) (live : Live) (u v : ℕ) → Stands n steps → AreJudged n j live → global_of n u ≡ Some v → (i : ℕ) × (identity_of j (u + 1) ≡ Some i)
 in_use n steps j live u v stands judged e =
     let alive = stands.tidy.named v u (stands.tidy.users.back u v e) in
     let i = none_or (given live v) (λ x. true≢false (sym (judged.in_use v ∙ ap not alive) ∙ ap is_some x)) in

@@ -6,6 +6,7 @@ use Rattle.std.proofs.lemmas.Bool.{eqb-true, eqb-false, true≢false, cases_lt}
 use Rattle.sat_base.specs.script.Judge.{Judge, Sampled, Witnessed, identity_of, or_zero, with_mode}
 use Rattle.sat_base.specs.script.Judge as judged
 use Rattle.sat_base.specs.steps.Steps.{Step, ChangeSamplingMode}
+use Rattle.sat_checker.specs.Fold.{Holds}
 use Rattle.sat_store.specs.declared.data.VarData.{VarData}
 use Rattle.sat_store.specs.declared.data.SamplingMode.{SamplingMode}
 use Rattle.sat_store.specs.declared.data.SamplingMode.TheVariants as kept
@@ -263,4 +264,9 @@ mode_set old new from to user v sample stands had put e = record {
     accepted = (sessions_are_accepted (ChangeSamplingMode v sample ∷ from) (stands.may, may_mode old user v (session_after from) stands.tidy stands.said had)).0.1
 
 pub mode_unseen : (old new : Variables) (from to : List Step) (v : ℕ) (mode : SamplingMode) (sample : Bool) → PutsMode old new v mode → to ≡ ChangeSamplingMode v sample ∷ from → IsUnseen old new from to
-mode_unseen old new from to v mode sample put e = record { solvers = put.solvers; globals = put.globals; search = subst (λ steps. KeepsSearch (session_after from) (session_after steps)) (sym e) (record { live = refl; units = refl; unsat = refl; width = refl; assumed = refl }) }
+mode_unseen old new from to v mode sample put e = record {
+  solvers = put.solvers;
+  globals = put.globals;
+  search = subst (λ steps. KeepsSearch (session_after from) (session_after steps)) (sym e) (record { live = refl; units = refl; unsat = refl; width = refl; assumed = refl });
+  leaves = λ a h. subst (λ steps. Holds steps a) e h;
+}

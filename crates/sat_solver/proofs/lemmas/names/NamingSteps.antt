@@ -5,6 +5,7 @@ use Rattle.std.proofs.lemmas.List.{get_or_past}
 use Rattle.sat_base.specs.values.Literals.{largest}
 use Rattle.sat_base.specs.script.Judge.{with_name, names_from}
 use Rattle.sat_base.specs.steps.Steps.{Step, UserVarName}
+use Rattle.sat_checker.specs.Fold.{Holds}
 use Rattle.sat_checker.specs.Stored.{Variable, unknown}
 use Rattle.sat_solver.specs.session.Session.{May, MayAll, session_after}
 use Rattle.sat_solver.proofs.lemmas.session.StepLemmas.{sessions_are_accepted}
@@ -48,7 +49,12 @@ name_given old new from to user v stands free within room small put e = record {
   });
   unknown = not_known;
   extends = extends_named old new user v stands.tidy room free put;
-  unseen = record { solvers = put.solvers; globals = put.globals; search = subst (λ steps. KeepsSearch (session_after from) (session_after steps)) (sym e) (record { live = refl; units = refl; unsat = refl; width = refl; assumed = refl }) };
+  unseen = record {
+    solvers = put.solvers;
+    globals = put.globals;
+    search = subst (λ steps. KeepsSearch (session_after from) (session_after steps)) (sym e) (record { live = refl; units = refl; unsat = refl; width = refl; assumed = refl });
+    leaves = λ a h. subst (λ steps. Holds steps a) e h;
+  };
 }
   where
     not_known : the_checking.knows from v ≡ false

@@ -16,6 +16,7 @@ use Rattle.sat_solver.specs.names.Adding.{Image, Images}
 use Rattle.sat_solver.specs.names.AddingCalls.{LeavesOut}
 use Rattle.sat_solver.specs.names.Assuming as assuming
 use Rattle.sat_solver.specs.names.Calls.{Does}
+use Rattle.sat_solver.proofs.lemmas.solver.SpeltLemmas.{global_images_of, global_images_kept}
 use Rattle.sat_solver.specs.declared.solver.Solver.{Solver}
 use Rattle.sat_solver.specs.declared.solver.state.State.{State}
 use Rattle.sat_solver.specs.declared.solver.state.State.TheVariants as states
@@ -76,6 +77,7 @@ module _ {W : Type 0} (seen : W → Writer) (s : Solver W) (whole : IsWhole s) (
       whole = record {
         stands = t.does.stands;
         images = t.images s.assumed.items s.asked.order.items whole.images;
+        spelt = global_images_kept s.names n' s.assumed.items s.asked.globals.items t.names whole.spelt;
         globals = whole.globals ∙ sym t.assumed;
         positive = whole.positive;
         decays = subst AreDecays (sym t.config) whole.decays;
@@ -94,6 +96,7 @@ module _ {W : Type 0} (seen : W → Writer) (s : Solver W) (whole : IsWhole s) (
       whole = record {
         stands = t.does.stands;
         images = t.images s.assumed.items s.asked.order.items whole.images;
+        spelt = global_images_kept s.names n' s.assumed.items s.asked.globals.items t.names whole.spelt;
         globals = whole.globals ∙ sym t.assumed;
         positive = whole.positive;
         decays = subst AreDecays (sym t.config) whole.decays;
@@ -112,6 +115,7 @@ module _ {W : Type 0} (seen : W → Writer) (s : Solver W) (whole : IsWhole s) (
     whole = record {
       stands = t.does.stands;
       images = t.asked.images;
+      spelt = t.asked.spelt;
       globals = t.asked.globals;
       positive = whole.positive;
       decays = subst AreDecays (sym t.config) whole.decays;
@@ -140,6 +144,7 @@ module _ {W : Type 0} (seen : W → Writer) (s : Solver W) (whole : IsWhole s) (
     whole = record {
       stands = l.does.stands;
       images = images;
+      spelt = global_images_kept s.names n' s.assumed.items s.asked.globals.items (λ u v e. (l.extends.stays u v e).0) whole.spelt;
       globals = whole.globals ∙ sym l.unseen.search.assumed;
       positive = whole.positive;
       decays = whole.decays;
@@ -165,6 +170,7 @@ module _ {W : Type 0} (seen : W → Writer) (s : Solver W) (whole : IsWhole s) (
     whole = record {
       stands = a.does.stands;
       images = a.images;
+      spelt = global_images_of n' user asked a.does.stands.tidy a.images a.globals;
       globals = sym (ap (λ ss. (session_after ss).assumed) a.written);
       positive = whole.positive;
       decays = whole.decays;

@@ -107,6 +107,7 @@ module _ {W : Type 0} (u : SolverConfigUpdate) (c : Core W) (n : Variables) (ask
   whole_configured st b d whole = record {
     stands = subst (λ p. Stands n (steps_of p)) (sym (core_same st b d).0) whole.stands;
     images = whole.images;
+    spelt = whole.spelt;
     globals = whole.globals ∙ ap (λ p. (session_of p).assumed) (sym (core_same st b d).0);
     positive = scale_kept u scale range whole.positive;
     decays = subst AreDecays (sym (core_same st b d).1) (decays_kept u c.config range whole.decays);

@@ -32,6 +32,7 @@ pub whole_ended : {W : Type 0} (c : Core W) (n : Variables) (asked : Taken) (ass
 whole_ended {W} c n asked assumed core scale state p whole e keeps = record {
   stands = stands;
   images = whole.images;
+  spelt = whole.spelt;
   globals = whole.globals ∙ sym (ap (λ ss. (session_after ss).assumed) e);
   positive = whole.positive;
   decays = whole.decays;

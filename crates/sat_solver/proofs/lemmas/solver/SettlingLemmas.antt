@@ -82,6 +82,7 @@ module _ {W : Type 0} (seen : W → Writer) (s : Solver W) (whole : IsWhole s) w
       whole = record {
         stands = at.stands;
         images = whole.images;
+        spelt = whole.spelt;
         globals = whole.globals ∙ sym assumed;
         positive = scale;
         decays = subst AreDecays (sym found.gone.config) whole.decays;
@@ -114,6 +115,7 @@ module _ {W : Type 0} (seen : W → Writer) (s : Solver W) (whole : IsWhole s) w
         whole = record {
           stands = found.shown.joined.stands;
           images = whole.images;
+          spelt = whole.spelt;
           globals = whole.globals ∙ sym (assumed_moved (session_in s) (session_of core.proof) s.core.search core.search goes.joined.sound.search.ready.asked found.shown.joined.sound.search.ready.asked moved);
           positive = scale;
           decays = subst AreDecays (sym (found.shown.config ∙ found.ended.config)) whole.decays;
@@ -157,6 +159,7 @@ module _ {W : Type 0} (seen : W → Writer) (s : Solver W) (whole : IsWhole s) w
         whole = record {
           stands = found.failed.joined.stands;
           images = whole.images;
+          spelt = whole.spelt;
           globals = whole.globals ∙ sym (assumed_moved (session_in s) (session_of core.proof) s.core.search core.search goes.joined.sound.search.ready.asked found.failed.joined.sound.search.ready.asked moved);
           positive = scale;
           decays = subst AreDecays (sym (found.failed.config ∙ found.ended.config)) whole.decays;
@@ -207,6 +210,7 @@ module _ {W : Type 0} (seen : W → Writer) (s : Solver W) (whole : IsWhole s) w
         whole = record {
           stands = behind.stands;
           images = whole.images;
+          spelt = whole.spelt;
           globals = whole.globals ∙ sym (ap (λ ss. (session_after ss).assumed) ended.adds.history ∙ asked_after ended.steps (steps_in s) (kinds_of (session_in s).solver_names ended.steps ended.searched));
           positive = scale;
           decays = subst AreDecays (sym ended.config) whole.decays;
@@ -227,6 +231,7 @@ pub whole_over : {W : Type 0} (c : Core W) (n : Variables) (asked : Taken) (assu
 whole_over {W} c n asked assumed core scale state p whole e = record {
   stands = subst (Stands n) (sym e) whole.stands;
   images = whole.images;
+  spelt = whole.spelt;
   globals = whole.globals ∙ ap (λ ss. (session_after ss).assumed) (sym e);
   positive = whole.positive;
   decays = whole.decays;

@@ -80,6 +80,7 @@ module _ (n : Variables) (tidy : AreTidy n) (none : variables_used n ≡ 0) wher
   whole_first c asked assumed core scale steps search values globals locals mids order asked_globals none_assumed positive decays = record {
     stands = stands;
     images = record { count = ap (λ xs. length xs) order ∙ sym (ap (λ xs. length xs) none_assumed); each = λ k lt. absurd (let z : k < 0 = subst (λ (xs : List ℕ). k < length xs) none_assumed lt in omega arith) };
+    spelt = record { count = ap (λ xs. length xs) asked_globals ∙ sym (ap (λ xs. length xs) none_assumed); each = λ k lt. absurd (let z : k < 0 = subst (λ (xs : List ℕ). k < length xs) none_assumed lt in omega arith) };
     globals = asked_globals ∙ sym (ap (λ ss. (session_after ss).assumed) steps);
     positive = positive;
     decays = decays;

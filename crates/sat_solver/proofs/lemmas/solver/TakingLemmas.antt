@@ -46,6 +46,7 @@ use Rattle.sat_solver.proofs.lemmas.loading.SharedLemmas.{gives_names, given_vac
 use Rattle.sat_solver.proofs.lemmas.loading.TakenLemmas.{added_names, images_over, taken_may, taken_added}
 use Rattle.sat_solver.specs.solver.Joined.{IsJoined}
 use Rattle.sat_solver.specs.solver.Taking.{KeepImages, GoesOnOr, TookClause, TookAssumptions, TakesClause, BreaksNames}
+use Rattle.sat_solver.proofs.lemmas.solver.SpeltLemmas.{global_images_of}
 use Rattle.sat_solver.proofs.lemmas.solver.BehindLemmas.{does_behind}
 use Rattle.sat_solver.proofs.lemmas.solver.TellingLemmas.{shares_moved}
 
@@ -148,6 +149,7 @@ module _ {W : Type 0} (seen : W → Writer) (n n' : Variables) (a : Core W) (joi
       took = took;
       goes_on = joined1 (record a { proof = p; search = c1 }) refl refl refl
           (tautology_loads (steps_of p) c1 t.lits.items clause_added (ap (λ ls. is_tautology ls) adds.clause.lits ∙ canonical_tautology t.order.items ∙ sym adds.signs ∙ e));
+      names = λ u v e. (adds.extends.stays u v e).0;
       images = keep_images n n' (session_of a.proof) t.given.items adds.extends adds.gives;
       lits = indexed.lits;
       config = refl;
@@ -177,6 +179,7 @@ module _ {W : Type 0} (seen : W → Writer) (n n' : Variables) (a : Core W) (joi
         does = does2;
         took = (_, adds_more seen took.0 goes.steps a.proof p q took.1 goes.went);
         goes_on = goes_on2 left goes.ends;
+        names = λ u v e. (adds.extends.stays u v e).0;
         images = keep_images n n' (session_of a.proof) t.given.items adds.extends adds.gives;
         lits = goes.ends.moved.lits ∙ indexed.lits;
         config = refl;
@@ -233,6 +236,7 @@ module _ {W : Type 0} (seen : W → Writer) (n n' : Variables) (a : Core W) (joi
       asked = record {
         images = assumes.images;
         lits = assumed.lits;
+        spelt = global_images_of n' user t assumes.does.stands.tidy assumes.images assumes.globals;
         globals = sym (ap (λ ss. (session_after ss).assumed) assumes.written);
       };
     }

@@ -2,7 +2,7 @@ use Rattle.std.proofs.Common.{sym, ◌∙◌, ap}
 use Rattle.sat_store.specs.variables.Maps.{target}
 use Rattle.sat_solver.proofs.lemmas.names.ModeChanges.{live_within}
 use Rattle.sat_solver.proofs.lemmas.names.Doing.{does_none}
-use Rattle.sat_solver.proofs.lemmas.names.Giving.{unseen_same, alike_unseen, alike_forgets, none_test}
+use Rattle.sat_solver.proofs.lemmas.names.Giving.{unseen_same, alike_unseen, alike_forgets, units_forgotten, none_test}
 use Rattle.sat_solver.proofs.names.modes.forget_idle.Goals as goal
 
 pub is_marked-requires : goal.is_marked-requires
@@ -28,4 +28,8 @@ delete_var-requires-clause-unmarked g c = sym c.is_marked.ensures ∙ c.if-is_ma
 
 pub returns-clause-alike : goal.returns-clause-alike
 returns-clause-alike g c = alike_forgets c.args.variables.now c.delete_var.new.variables (g.W.StepWriter.steps c.args.writer.now) (g.W.StepWriter.steps c.delete_var.new.writer) c.args.global c.in_ok-delete_var.ensures.solvers c.in_ok-delete_var.ensures.globals
-    (sym (c.get.ensures ∙ ap (λ m. target m c.args.global) c.fwd.ensures.map) ∙ none_test c.get.result c.is_some.result c.is_some.ensures c.if-is_some.false) c.in_ok-delete_var.ensures.forgets
+    (sym (c.get.ensures ∙ ap (λ m. target m c.args.global) c.fwd.ensures.map) ∙ none_test c.get.result c.is_some.result c.is_some.ensures c.if-is_some.false)
+    c.in_ok-delete_var.ensures.step (c.requires.stands.said.marked c.args.global ∙ sym c.is_marked.ensures ∙ c.if-is_marked.false) c.in_ok-delete_var.ensures.forgets
+
+pub returns-clause-units : goal.returns-clause-units
+returns-clause-units g c = units_forgotten c.args.variables.now c.delete_var.new.variables (g.W.StepWriter.steps c.args.writer.now) (g.W.StepWriter.steps c.delete_var.new.writer) c.args.global c.requires.stands.tidy.users c.requires.nameless c.in_ok-delete_var.ensures.users c.in_ok-delete_var.ensures.forgets

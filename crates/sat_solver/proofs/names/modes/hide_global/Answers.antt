@@ -1,5 +1,5 @@
 use Rattle.sat_solver.proofs.lemmas.names.ModeChanges.{named_within}
-use Rattle.sat_solver.proofs.lemmas.names.Hiding.{name_hidden, may_hide, hidden_unseen, hidden_live, hidden_nameless}
+use Rattle.sat_solver.proofs.lemmas.names.Hiding.{name_hidden, may_hide, hidden_unseen, hidden_live, hidden_nameless, hidden_others, hidden_only}
 use Rattle.sat_solver.proofs.names.modes.hide_global.Goals as goal
 
 pub put_hidden-requires-clause-within : goal.put_hidden-requires-clause-within
@@ -20,3 +20,9 @@ returns-clause-live g c = hidden_live c.args.variables.now c.put_hidden.new.self
 
 pub returns-clause-nameless : goal.returns-clause-nameless
 returns-clause-nameless g c = hidden_nameless c.args.variables.now c.put_hidden.new.self c.args.user c.args.global c.put_hidden.ensures
+
+pub returns-clause-others : goal.returns-clause-others
+returns-clause-others g c = hidden_others c.args.variables.now c.put_hidden.new.self c.args.user c.args.global c.put_hidden.ensures
+
+pub returns-clause-only : goal.returns-clause-only
+returns-clause-only g c = hidden_only c.args.variables.now c.put_hidden.new.self c.args.user c.args.global c.put_hidden.ensures

@@ -2,8 +2,10 @@ use Rattle.std.proofs.Common.{◌+◌, [], ◌∷◌, ◌++◌, map}
 use Rattle.sat_base.specs.script.Judge.{without_name, bring_in, new_names}
 use Rattle.sat_solver.specs.names.Expected.{NewName, NoName}
 use Rattle.sat_solver.proofs.lemmas.names.Doing.{does_both, ok_after}
-use Rattle.sat_solver.proofs.lemmas.names.Giving.{alike_unseen, alike_both, ok_alike}
+use Rattle.sat_solver.proofs.lemmas.names.Giving.{keeps_both, alike_unseen, alike_both, ok_alike, ok_others, ok_fresh, ok_units}
 use Rattle.sat_solver.proofs.lemmas.names.CameLemmas.{came_then}
+use Rattle.sat_solver.proofs.lemmas.names.Extending.{are_fresh, fresh_only}
+use Rattle.sat_solver.specs.session.Session.{session_after}
 use Rattle.sat_solver.proofs.names.modes.hide_var.Goals as goal
 
 pub forget_idle-requires-clause-stands : goal.forget_idle-requires-clause-stands
@@ -27,3 +29,19 @@ returns-clause-alike g c =
 
 pub returns-clause-came : goal.returns-clause-came
 returns-clause-came g c = came_then g.W.StepWriter.took g.W.StepWriter.broke c.forget_idle.result c.args.writer.now c.hide_global.new.writer c.forget_idle.new.writer (λ w t. c.in_ok-hide_global.ensures.came w (c.in_ok-global.ensures.came w t)) c.forget_idle.ensures.came
+
+pub returns-clause-others : goal.returns-clause-others
+returns-clause-others g c =
+    ok_others c.forget_idle.result c.args.variables.now c.hide_global.new.variables c.forget_idle.new.variables c.args.user
+    (λ u v n e. c.in_ok-hide_global.ensures.others u v n (c.in_ok-global.ensures.brought.extends.stays u v e).0) c.forget_idle.ensures.users
+
+pub returns-clause-fresh : goal.returns-clause-fresh
+returns-clause-fresh g c =
+    ok_fresh c.forget_idle.result c.args.variables.now c.hide_global.new.variables c.forget_idle.new.variables
+    (fresh_only c.args.variables.now c.global_from_user.new.variables c.hide_global.new.variables (are_fresh c.args.variables.now c.global_from_user.new.variables c.in_ok-global.ensures.brought.extends) c.in_ok-hide_global.ensures.only) c.forget_idle.ensures.users
+
+pub returns-clause-units : goal.returns-clause-units
+returns-clause-units g c =
+    ok_units c.forget_idle.result c.forget_idle.new.variables (g.W.StepWriter.steps c.args.writer.now) (g.W.StepWriter.steps c.hide_global.new.writer) (g.W.StepWriter.steps c.forget_idle.new.writer)
+    (keeps_both (session_after (g.W.StepWriter.steps c.args.writer.now)) (session_after (g.W.StepWriter.steps c.global_from_user.new.writer)) (session_after (g.W.StepWriter.steps c.hide_global.new.writer)) c.in_ok-global.ensures.brought.unseen.search c.in_ok-hide_global.ensures.unseen.search)
+    c.forget_idle.ensures.units

@@ -26,3 +26,6 @@ returns-clause-unseen g c = mode_unseen c.args.variables.now c.put_mode.new.self
 
 pub step-requires-clause-may : goal.step-requires-clause-may
 step-requires-clause-may g c = may_mode c.args.variables.now c.args.user c.args.global _ c.requires.stands.tidy c.requires.stands.said c.requires.named
+
+pub returns-clause-users : goal.returns-clause-users
+returns-clause-users g c = c.put_mode.ensures.users

@@ -3,8 +3,9 @@ use Rattle.sat_base.specs.script.Judge.{with_mode, bring_in, new_names}
 use Rattle.sat_solver.specs.names.Variables.{judged_mode}
 use Rattle.sat_solver.specs.names.Expected.{NewName}
 use Rattle.sat_solver.proofs.lemmas.names.Doing.{ok_both}
-use Rattle.sat_solver.proofs.lemmas.names.Giving.{ok_unseen}
+use Rattle.sat_solver.proofs.lemmas.names.Giving.{ok_unseen, ok_others, ok_fresh}
 use Rattle.sat_solver.proofs.lemmas.names.CameLemmas.{came_then}
+use Rattle.sat_solver.proofs.lemmas.names.Extending.{are_fresh}
 use Rattle.sat_solver.proofs.names.modes.set_sampling_mode.Goals as goal
 
 pub returns-clause-does : goal.returns-clause-does
@@ -16,3 +17,12 @@ returns-clause-unseen g c = ok_unseen c.set_global_mode.result c.args.variables.
 
 pub returns-clause-came : goal.returns-clause-came
 returns-clause-came g c = came_then g.W.StepWriter.took g.W.StepWriter.broke c.set_global_mode.result c.args.writer.now c.global_from_user.new.writer c.set_global_mode.new.writer c.in_ok-global.ensures.came c.set_global_mode.ensures.came
+
+pub returns-clause-others : goal.returns-clause-others
+returns-clause-others g c =
+    ok_others c.set_global_mode.result c.args.variables.now c.global_from_user.new.variables c.set_global_mode.new.variables c.args.user
+    (λ u v n e. (c.in_ok-global.ensures.brought.extends.stays u v e).0) c.set_global_mode.ensures.users
+
+pub returns-clause-fresh : goal.returns-clause-fresh
+returns-clause-fresh g c =
+    ok_fresh c.set_global_mode.result c.args.variables.now c.global_from_user.new.variables c.set_global_mode.new.variables (are_fresh c.args.variables.now c.global_from_user.new.variables c.in_ok-global.ensures.brought.extends) c.set_global_mode.ensures.users

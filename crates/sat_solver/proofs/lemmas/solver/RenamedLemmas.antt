@@ -1,0 +1,354 @@
+-- A solver whose names came in, were hidden, or changed their modes.
+use Rattle.std.proofs.Common.{ℕ, zero, suc, ◌+◌, ◌<◌, ◌≡◌, ◌≢◌, ◌∙◌, Bool, true, false, cond, eqb, not, Err, Option, None, Some, List, [], ◌∷◌, length, map, get_or, refl, sym, ap, subst, arith, inl, inr}
+use Rattle.std.proofs.lemmas.Bool.{true≢false, or_cases, or_left, or_right, eqb-true, eq-eqb}
+use Rattle.std.specs.List.{AllByRecursion}
+use Rattle.sat_base.specs.device.Device.{Writer}
+use Rattle.sat_base.specs.values.Literals.{variable, is_positive, coded}
+use Rattle.sat_base.specs.values.Clauses.{Valuation, EachTrue, literal_true}
+use Rattle.sat_base.specs.script.Script.{Literal, Among}
+use Rattle.sat_base.specs.script.Judge.{Judge}
+use Rattle.sat_checker.specs.Fold.{Holds}
+use Rattle.sat_checker.specs.LiteralSets.{mentions}
+use Rattle.sat_store.specs.variables.Maps.{target}
+use Rattle.sat_solver.specs.session.Making.{Took}
+use Rattle.sat_solver.specs.session.ProofView.{steps_of, session_of}
+use Rattle.sat_solver.specs.session.Session.{session_after}
+use Rattle.sat_solver.specs.declared.session.proof.Proof.{Proof}
+use Rattle.sat_solver.specs.declared.error.SolverError.{SolverError}
+use Rattle.sat_solver.specs.declared.error.SolverError.TheVariants as errors
+use Rattle.sat_solver.specs.search.Joint.{IsSearch}
+use Rattle.sat_solver.specs.loading.Alike.{LooksAlike}
+use Rattle.sat_solver.proofs.lemmas.loading.AlikeLemmas.{search_alike}
+use Rattle.sat_solver.specs.loading.Shared.{SharesIndices}
+use Rattle.sat_solver.specs.names.Adding.{named_literal, Image, Images, GlobalImages}
+use Rattle.sat_solver.specs.names.Calls.{Stands, Does}
+use Rattle.sat_solver.specs.names.Checking.{variable_of}
+use Rattle.sat_solver.specs.names.Expected.{Expected, Spells, SameSet}
+use Rattle.sat_solver.specs.names.Models.{is_true, value_by, value_in}
+use Rattle.sat_solver.specs.names.Naming.{AreFresh, KeepsOthers, IsNextUser}
+use Rattle.sat_solver.specs.names.Observing.{NamesAllHidden}
+use Rattle.sat_solver.specs.names.Refusing.{IsAssumed}
+use Rattle.sat_solver.specs.names.Search.{IsAlike, KeepsUnits}
+use Rattle.sat_solver.specs.names.Variables.{data_at, global_of, user_of, solver_of, says_unit}
+use Rattle.sat_solver.specs.declared.names.Variables.{Variables}
+use Rattle.sat_solver.specs.declared.solver.Solver.{Solver}
+use Rattle.sat_solver.specs.declared.solver.state.State.{State}
+use Rattle.sat_solver.specs.declared.solver.state.State.TheVariants as states
+use Rattle.sat_solver.specs.solver.Joined.{IsJoined}
+use Rattle.sat_solver.specs.solver.Naming.{IsAsked, IsKeptOrFalse, variable_value, name_value, IsNextName, Renamed, Observed, ChangesMode, NamesFail}
+use Rattle.sat_solver.specs.solver.Taking.{BreaksNames}
+use Rattle.sat_solver.specs.declared.search.solving.Core.{Core}
+use Rattle.sat_solver.specs.solver.Whole.{IsWhole, IsWholeOf, StateSays, GoesOn, HasCore, steps_in, session_in}
+use Rattle.sat_solver.proofs.lemmas.names.Giving.{alike_unseen}
+use Rattle.sat_solver.proofs.lemmas.names.NextUnused.{lowest_unused}
+use Rattle.sat_solver.proofs.lemmas.parts.ValueLemmas.{coded_variable}
+
+-- LISTS
+
+mention_place : (ls : List ℕ) (v : ℕ) → mentions ls v ≡ true → (k : ℕ) × (k < length ls) × (variable (get_or ls k 0) ≡ v)
+mention_place [] v t = absurd (true≢false (sym t))
+mention_place (l ∷ ls) v t = elim (or_cases (eqb (variable l) v) (mentions ls v) t) [
+  | inl e ↦ (0, omega arith, eqb-true (variable l) v e)
+  | inr h ↦ (let p = mention_place ls v h in (suc p.0, omega (arith, p.1), p.2))
+]
+
+mention_at : (ls : List ℕ) (k v : ℕ) → k < length ls → variable (get_or ls k 0) ≡ v → mentions ls v ≡ true
+mention_at [] k v lt e = absurd (omega arith)
+mention_at (l ∷ ls) zero v lt e = or_left (eqb (variable l) v) (mentions ls v) (eq-eqb (variable l) v e)
+mention_at (l ∷ ls) (suc k) v lt e = or_right (eqb (variable l) v) (mentions ls v) (mention_at ls k v (omega arith) e)
+
+among_at : (ls : List ℕ) (k : ℕ) → k < length ls → Among (get_or ls k 0) ls
+among_at [] k lt = absurd (omega arith)
+among_at (l ∷ ls) zero lt = inl refl
+among_at (l ∷ ls) (suc k) lt = inr (among_at ls k (omega arith))
+
+among_place : (ls : List ℕ) (l : ℕ) → Among l ls → (k : ℕ) × (k < length ls) × (get_or ls k 0 ≡ l)
+among_place [] l h = absurd h
+among_place (m ∷ ls) l (inl e) = (0, omega arith, sym e)
+among_place (m ∷ ls) l (inr h) = (let p = among_place ls l h in (suc p.0, omega (arith, p.1), p.2))
+
+some_same : (v w : ℕ) → Some v ≡ Some w → v ≡ w
+some_same v w e = cc
+
+-- ASSUMPTIONS AND THEIR MARKS
+
+module _ {W : Type 0} (s : Solver W) (whole : IsWhole s) where
+  -- the variable of one of the assumptions
+  pub record Asked_as (l : ℕ) : Type 0 where
+    pub variable_is : ℕ
+    pub named : global_of s.names (variable l) ≡ Some variable_is
+    pub mentioned : mentions (session_in s).assumed variable_is ≡ true
+
+  pub asked_as : (l : ℕ) → Among l s.assumed.items → Asked_as l
+  asked_as l h =
+      let p = among_place s.assumed.items l h in
+      let x = whole.spelt.each p.0 p.1 in
+      let c = whole.spelt.count in
+      record {
+        variable_is = x.0;
+        named = subst (λ m. global_of s.names (variable m) ≡ Some x.0) p.2 x.1;
+        mentioned = ap (λ ls. mentions ls x.0) (sym whole.globals)
+            ∙ mention_at s.asked.globals.items p.0 x.0 (omega (arith, p.1)) (ap variable x.2 ∙ coded_variable x.0 (is_positive (get_or s.assumed.items p.0 0)));
+      }
+
+  -- a name whose variable is marked is one of those assumed
+  pub marked_asked : (user : ℕ) → IsAssumed s.names user → IsAsked s user
+  marked_asked user m =
+      let c = whole.spelt.count in
+      let p = mention_place s.asked.globals.items m.variable_is (ap (λ ls. mentions ls m.variable_is) whole.globals ∙ whole.stands.said.marked m.variable_is ∙ m.marked) in
+      let lt : p.0 < length s.assumed.items = omega (arith, p.1) in
+      let x = whole.spelt.each p.0 lt in
+      let l = get_or s.assumed.items p.0 0 in
+      let same : x.0 ≡ m.variable_is = sym (coded_variable x.0 (is_positive l)) ∙ sym (ap variable x.2) ∙ p.2 in (
+        l,
+        among_at s.assumed.items p.0 lt,
+        some_same (variable l) user (sym (whole.stands.tidy.users.back (variable l) x.0 x.1) ∙ ap (user_of s.names) same ∙ whole.stands.tidy.users.back user m.variable_is m.named),
+      )
+
+  -- and the other way round
+  pub asked_marked : (user : ℕ) → IsAsked s user → IsAssumed s.names user
+  asked_marked user a =
+      let x = asked_as a.0 a.1 in
+      record {
+        variable_is = x.variable_is;
+        named = ap (global_of s.names) (sym a.2) ∙ x.named;
+        marked = sym (whole.stands.said.marked x.variable_is) ∙ x.mentioned;
+      }
+
+  pub not_marked : (user : ℕ) → (IsAssumed s.names user → ⊥) → IsAsked s user → ⊥
+  not_marked user n a = n (asked_marked user a)
+
+  -- NAMES THAT THE ASSUMPTIONS DON'T HAVE
+
+  module _ (n' : Variables) (p : Proof W) (stands : Stands n' (steps_of p)) (kept : (l v : ℕ) → Among l s.assumed.items → global_of s.names (variable l) ≡ Some v → global_of n' (variable l) ≡ Some v) (alike : IsAlike s.names n' (steps_in s) (steps_of p)) where
+    abbrev new : Core W
+    new = record s.core { proof = p }
+
+    images : Images n' s.assumed.items s.asked.order.items
+    images = record {
+      count = whole.images.count;
+      each = λ k lt. let x : Image s.names (get_or s.assumed.items k 0) (get_or s.asked.order.items k 0) = whole.images.each k lt in record {
+        variable_is = x.variable_is;
+        index_is = x.index_is;
+        named = kept (get_or s.assumed.items k 0) x.variable_is (among_at s.assumed.items k lt) x.named;
+        indexed = ap (λ m. target m.fwd x.variable_is) alike.solvers ∙ x.indexed;
+        is = x.is;
+      };
+    }
+
+    spelt : GlobalImages n' s.assumed.items s.asked.globals.items
+    spelt = record { count = whole.spelt.count; each = λ k lt. let x = whole.spelt.each k lt in (x.0, kept (get_or s.assumed.items k 0) x.0 (among_at s.assumed.items k lt) x.1, x.2) }
+
+    looks : LooksAlike (session_in s) (session_of p)
+    looks = record {
+      live = λ r set. ap (λ f. f r set) alike.live;
+      units = λ v x b e. alike.units v x b (sym (whole.stands.said.solver_names v) ∙ e);
+      names = λ v. stands.said.solver_names v ∙ ap (λ m. target m.fwd v) alike.solvers ∙ sym (whole.stands.said.solver_names v);
+      unsat = alike.unsat;
+      width = alike.width;
+      assumed = alike.assumed;
+    }
+
+    going : GoesOn s.core s.names s.asked → GoesOn new n' s.asked
+    going g = record {
+      joined = record {
+        sound = record { keeps = stands.may; search = search_alike (session_in s) (session_of p) s.core.search g.joined.sound.search looks; locals = g.joined.sound.locals; mids = g.joined.sound.mids };
+        stands = stands;
+        shares = record {
+          size = g.joined.shares.size;
+          below = λ x v e. g.joined.shares.below x v (sym (ap (λ m. target m.bwd x) alike.solvers) ∙ e);
+          same = λ x v e. g.joined.shares.same x v (sym (ap (λ m. target m.bwd x) alike.solvers) ∙ e);
+        };
+      };
+      lits = g.lits;
+    }
+
+    -- literals of the assumptions are spelt as before
+    spells : (l code : ℕ) → Among l s.assumed.items → Spells (variable_of (steps_in s)) (named_literal l) code → Spells (variable_of (steps_of p)) (named_literal l) code
+    spells l code h x = record { variable = x.variable; named = stands.read (variable l) ∙ kept l x.variable h (sym (whole.stands.read (variable l)) ∙ x.named); is = x.is }
+
+    module _ (core codes : List ℕ) where
+      there : (ls : List ℕ) → AllByRecursion (λ l. Among l s.assumed.items) ls → AllByRecursion (λ l. (code : ℕ) × Spells (variable_of (steps_in s)) l code × Among code codes) (map named_literal ls) →
+          AllByRecursion (λ l. (code : ℕ) × Spells (variable_of (steps_of p)) l code × Among code codes) (map named_literal ls)
+      there [] h t = tt
+      there (l ∷ ls) h t = ((t.0.0, spells l t.0.0 h.0 t.0.1, t.0.2), there ls h.1 t.1)
+
+      -- one of these literals is one of the user's
+      pub record Named_from (x : Literal) : Type 0 where
+        pub from : ℕ
+        pub among : Among from s.assumed.items
+        pub is : x ≡ named_literal from
+
+      named_from : (ls : List ℕ) (x : Literal) → AllByRecursion (λ l. Among l s.assumed.items) ls → Among x (map named_literal ls) → Named_from x
+      named_from [] x h i = absurd i
+      named_from (l ∷ ls) x h (inl e) = record { from = l; among = h.0; is = e }
+      named_from (l ∷ ls) x h (inr i) = named_from ls x h.1 i
+
+      only : (cs : List ℕ) → AllByRecursion (λ l. Among l s.assumed.items) core → AllByRecursion (λ code. (l : Literal) × Spells (variable_of (steps_in s)) l code × Among l (map named_literal core)) cs →
+          AllByRecursion (λ code. (l : Literal) × Spells (variable_of (steps_of p)) l code × Among l (map named_literal core)) cs
+      only [] h t = tt
+      only (c ∷ cs) h t =
+          let f = named_from core t.0.0 h t.0.2 in
+          ((named_literal f.from, spells f.from c f.among (subst (λ x. Spells (variable_of (steps_in s)) x c) f.is t.0.1), subst (λ x. Among x (map named_literal core)) f.is t.0.2), only cs h t.1)
+
+      -- valuations that agree on the assumptions make the same codes true
+      module _ (a b : Valuation) (same : (v : ℕ) → mentions (session_in s).assumed v ≡ true → b v ≡ a v) where
+        true_at : (c : ℕ) (x : Literal) → Spells (variable_of (steps_in s)) x c → Named_from x → literal_true a c ≡ true → literal_true b c ≡ true
+        true_at c x sp f t =
+            let y = asked_as f.from f.among in
+            let at : sp.variable ≡ y.variable_is = some_same sp.variable y.variable_is (sym (subst (λ z. variable_of (steps_in s) z.name ≡ Some sp.variable) f.is sp.named) ∙ whole.stands.read (variable f.from) ∙ y.named) in
+            let v : variable c ≡ y.variable_is = ap variable sp.is ∙ coded_variable sp.variable x.positive ∙ at in
+            ap (λ q. cond (is_positive c) q (not q)) (same (variable c) (subst (λ w. mentions (session_in s).assumed w ≡ true) (sym v) y.mentioned)) ∙ t
+
+        each_true : (cs : List ℕ) → AllByRecursion (λ l. Among l s.assumed.items) core → AllByRecursion (λ code. (l : Literal) × Spells (variable_of (steps_in s)) l code × Among l (map named_literal core)) cs → EachTrue a cs → EachTrue b cs
+        each_true [] h o t = tt
+        each_true (c ∷ cs) h o t = (true_at c o.0.0 o.0.1 (named_from core o.0.0 h o.0.2) t.0, each_true cs h o.1 t.1)
+
+    -- a failed core stays one
+    core_kept : HasCore s.core s.assumed.items s.told.failed_core.items → HasCore new s.assumed.items s.told.failed_core.items
+    core_kept h =
+        let core = s.told.failed_core.items in
+        record {
+          codes = h.codes;
+          none = λ a left t. (let m = alike.leaves a left in h.none m.0 m.1 (each_true core h.codes a m.0 m.2 h.codes h.among h.same.1 t));
+          same = (there core h.codes core h.among h.same.0, only core h.codes h.codes h.among h.same.1);
+          among = h.among;
+        }
+
+    says : (st : State) → StateSays st s.core s.names s.asked s.assumed.items s.told.failed_core.items → StateSays st new n' s.asked s.assumed.items s.told.failed_core.items
+    says states.Unknown h = going h
+    says states.Sat h = (going h.0, h.1)
+    says states.UnsatUnderAssumptions h = (going h.0, core_kept h.1)
+    says states.Unsat h = alike.unsat ∙ h
+
+    -- all stands behind it
+    pub whole_renamed : IsWholeOf new n' s.asked s.assumed.items s.told.failed_core.items s.clock.restarts.scale s.state
+    whole_renamed = record {
+      stands = stands;
+      images = images;
+      spelt = spelt;
+      globals = whole.globals ∙ sym alike.assumed;
+      positive = whole.positive;
+      decays = whole.decays;
+      says = says s.state whole.says;
+    }
+
+  -- a name that isn't assumed
+  pub others_kept : (n' : Variables) (user : ℕ) → (IsAsked s user → ⊥) → KeepsOthers s.names n' user → (l v : ℕ) → Among l s.assumed.items → global_of s.names (variable l) ≡ Some v → global_of n' (variable l) ≡ Some v
+  others_kept n' user free others l v h e = others (variable l) v (λ q. free (l, h, q)) e
+
+module _ {W : Type 0} (seen : W → Writer) (s : Solver W) (whole : IsWhole s) (going : s.failed ≡ false) (n' : Variables) (p : Proof W) where
+  abbrev values : List (Option Bool)
+  values = s.core.search.parts.assignment.current
+
+  module _ (alike : IsAlike s.names n' (steps_in s) (steps_of p)) (stands : Stands n' (steps_of p)) where
+    says_true : (o : Option Bool) → says_unit o true ≡ is_true o
+    says_true None = refl
+    says_true (Some b) = refl
+
+    solver_same : (v : ℕ) → solver_of n' v ≡ solver_of s.names v
+    solver_same v = ap (λ m. target m.fwd v) alike.solvers
+
+    -- a variable whose units are as they were has the value that it had
+    value_same : (v : ℕ) → ((b : Bool) → (session_of p).units (coded v b) ≡ (session_in s).units (coded v b)) → value_in n' values v ≡ value_in s.names values v
+    value_same v units = go (solver_of s.names v) refl
+      where
+        go : (o : Option ℕ) → solver_of s.names v ≡ o → value_in n' values v ≡ value_in s.names values v
+        go (Some x) e = ap (λ o. value_by o values (data_at n' v).unit) (solver_same v ∙ e) ∙ sym (ap (λ o. value_by o values (data_at s.names v).unit) e)
+        go None e = ap (λ o. value_by o values (data_at n' v).unit) (solver_same v ∙ e)
+            ∙ sym (says_true (data_at n' v).unit) ∙ sym (stands.said.units v (solver_same v ∙ e) true) ∙ units true ∙ whole.stands.said.units v e true ∙ says_true (data_at s.names v).unit
+            ∙ sym (ap (λ o. value_by o values (data_at s.names v).unit) e)
+
+    -- one that isn't in use is false
+    unused_false : (v : ℕ) → (data_at s.names v).deleted ≡ true → value_in s.names values v ≡ false
+    unused_false v gone = ap (λ o. value_by o values (data_at s.names v).unit) (none (solver_of s.names v) refl) ∙ ap (λ k. is_true k.unit) (whole.stands.tidy.gone v gone)
+      where
+        none : (o : Option ℕ) → solver_of s.names v ≡ o → solver_of s.names v ≡ None
+        none None e = e
+        none (Some x) e = absurd (true≢false (sym gone ∙ whole.stands.tidy.indexed v x e))
+
+    values_kept : AreFresh s.names n' → KeepsUnits n' (steps_in s) (steps_of p) → (user : ℕ) → IsKeptOrFalse (name_value s user) (name_value (record s { core = record s.core { proof = p }; names = n'; used = true }) user)
+    values_kept fresh units user = go (global_of s.names user) refl (global_of n' user) refl
+      where
+        go : (o : Option ℕ) → global_of s.names user ≡ o → (t : Option ℕ) → global_of n' user ≡ t → IsKeptOrFalse (variable_value s o) (variable_value (record s { core = record s.core { proof = p }; names = n'; used = true }) t)
+        go None e None f = tt
+        go (Some v) e None f = tt
+        go None e (Some w) f = value_same w (λ b. units user w b f) ∙ unused_false w (fresh.fresh user w e f)
+        go (Some v) e (Some w) f = value_same w (λ b. units user w b f) ∙ ap (value_in s.names values) (fresh.same user v w e f)
+
+  -- a call over names was carried out
+  pub renamed : (judge : Judge → Judge) (due : Judge → List Expected) → Does s.names n' (steps_in s) (steps_of p) judge due → AreFresh s.names n' → KeepsUnits n' (steps_in s) (steps_of p) →
+      ((l v : ℕ) → Among l s.assumed.items → global_of s.names (variable l) ≡ Some v → global_of n' (variable l) ≡ Some v) → IsAlike s.names n' (steps_in s) (steps_of p) → Took seen s.core.proof p →
+      Renamed seen s (record s { core = record s.core { proof = p }; names = n'; used = true }) judge due
+  renamed judge due does fresh units kept alike took = record {
+    did = record { whole = whole_renamed s whole n' p does.stands kept alike; going = going; does = does; took = took };
+    assumed = refl;
+    told = refl;
+    clock = refl;
+    state = refl;
+    values = values_kept alike does.stands fresh units;
+  }
+
+-- a call over modes failed
+pub mode_ends : {W : Type 0} (seen : W → Writer) (e : SolverError) (s new : Solver W) (user : ℕ) (judge : Judge → Judge) (due : Judge → List Expected) → BreaksNames seen e s.core new.core → new.failed ≡ true → ChangesMode seen (Err e) s new user judge due
+mode_ends seen errors.OutOfMemory s new user judge due b f = record { failed = f; breaks = b }
+mode_ends seen errors.StoreFull s new user judge due b f = record { failed = f; breaks = b }
+mode_ends seen (errors.ProofIoError cause) s new user judge due b f = record { failed = f; breaks = b }
+mode_ends seen errors.VariableLimit s new user judge due b f = record { failed = f; breaks = b }
+mode_ends seen errors.Interrupted s new user judge due b f = record { failed = f; breaks = b }
+mode_ends seen (errors.ProofProcessorError cause) s new user judge due b f = record { failed = f; breaks = b }
+mode_ends seen errors.WitnessVariable s new user judge due b f = record { failed = f; breaks = b }
+mode_ends seen errors.AssumedVariable s new user judge due b f = absurd (elim b.fault [ inl x ↦ x | inr e ↦ apart e ])
+  where
+    apart : errors.AssumedVariable ≡ errors.VariableLimit → ⊥
+    apart e = cc
+mode_ends seen errors.TooLate s new user judge due b f = record { failed = f; breaks = b }
+mode_ends seen errors.NotInDrat s new user judge due b f = record { failed = f; breaks = b }
+mode_ends seen errors.CounterEnd s new user judge due b f = record { failed = f; breaks = b }
+mode_ends seen errors.HasFailed s new user judge due b f = absurd (elim b.fault [ inl x ↦ x | inr e ↦ apart e ])
+  where
+    apart : errors.HasFailed ≡ errors.VariableLimit → ⊥
+    apart e = cc
+mode_ends seen errors.Read s new user judge due b f = record { failed = f; breaks = b }
+mode_ends seen errors.Malformed s new user judge due b f = record { failed = f; breaks = b }
+mode_ends seen errors.OutOfRange s new user judge due b f = record { failed = f; breaks = b }
+
+-- a call that gives names failed
+pub new_ends : {W : Type 0} (seen : W → Writer) (e : SolverError) (s new : Solver W) → BreaksNames seen e s.core new.core → new.failed ≡ true → NamesFail seen e s new
+new_ends seen errors.OutOfMemory s new b f = record { failed = f; breaks = b }
+new_ends seen errors.StoreFull s new b f = record { failed = f; breaks = b }
+new_ends seen (errors.ProofIoError cause) s new b f = record { failed = f; breaks = b }
+new_ends seen errors.VariableLimit s new b f = record { failed = f; breaks = b }
+new_ends seen errors.Interrupted s new b f = record { failed = f; breaks = b }
+new_ends seen (errors.ProofProcessorError cause) s new b f = record { failed = f; breaks = b }
+new_ends seen errors.WitnessVariable s new b f = record { failed = f; breaks = b }
+new_ends seen errors.AssumedVariable s new b f = record { failed = f; breaks = b }
+new_ends seen errors.TooLate s new b f = record { failed = f; breaks = b }
+new_ends seen errors.NotInDrat s new b f = record { failed = f; breaks = b }
+new_ends seen errors.CounterEnd s new b f = record { failed = f; breaks = b }
+new_ends seen errors.HasFailed s new b f = absurd (elim b.fault [ inl x ↦ x | inr e ↦ apart e ])
+  where
+    apart : errors.HasFailed ≡ errors.VariableLimit → ⊥
+    apart e = cc
+new_ends seen errors.Read s new b f = record { failed = f; breaks = b }
+new_ends seen errors.Malformed s new b f = record { failed = f; breaks = b }
+new_ends seen errors.OutOfRange s new b f = record { failed = f; breaks = b }
+
+-- the next of the names is the judge's lowest one not in use
+pub next_name : {W : Type 0} (s : Solver W) → IsWhole s → (user : ℕ) → IsNextUser s.names user → IsNextName s (user + 1)
+next_name s whole user next j live agree = lowest_unused s.names (steps_in s) j live user whole.stands agree.judged next
+
+-- hidden variables got names
+pub observed_all : {W : Type 0} (seen : W → Writer) (s : Solver W) → IsWhole s → s.failed ≡ false → (n' : Variables) (p : Proof W) (users : List ℕ) → NamesAllHidden s.names n' (steps_in s) (steps_of p) users → Took seen s.core.proof p →
+    Observed seen s (record s { core = record s.core { proof = p }; names = n'; used = true }) users
+observed_all seen s whole going n' p users all took = record {
+  whole = whole_renamed s whole n' p all.stands (λ l v h e. all.names (variable l) v e) (alike_unseen s.names n' (steps_in s) (steps_of p) all.unseen);
+  going = going;
+  observes = all.kept;
+  all = all.all;
+  took = took;
+  assumed = refl;
+  told = refl;
+  clock = refl;
+  state = refl;
+}

@@ -1,0 +1,9 @@
+use Rattle.std.proofs.Common.{Some, ◌∷◌, ◌∙◌, ap}
+use Rattle.sat_base.specs.steps.Steps.{UserVarName}
+use Rattle.sat_solver.proofs.lemmas.names.ObservingLemmas.{name_hidden_var}
+use Rattle.sat_solver.proofs.names.observing.observe_var.Goals as goal
+
+pub returns-clause-names : goal.returns-clause-names
+returns-clause-names g c =
+    name_hidden_var c.args.variables.now c.put_observed.new.self (g.W.StepWriter.steps c.args.writer.now) (g.W.StepWriter.steps c.step-2.new.self) c.in-Some.user c.args.global c.requires.stands c.requires.hidden c.in-Some.ensures
+    c.in_ok-put_observed.ensures (c.in_ok-step-2.ensures.steps ∙ ap (λ ss. UserVarName c.args.global (Some c.in-Some.user) ∷ ss) c.in_ok-step.ensures.steps)

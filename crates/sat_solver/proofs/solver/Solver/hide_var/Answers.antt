@@ -1,0 +1,33 @@
+use Rattle.std.proofs.Common.{refl}
+use Rattle.sat_solver.proofs.lemmas.solver.TakingLemmas.{none_took, names_broke}
+use Rattle.sat_solver.proofs.lemmas.solver.RenamedLemmas.{marked_asked, not_marked, others_kept, whole_renamed, renamed, mode_ends}
+use Rattle.sat_solver.proofs.solver.Solver.hide_var.Goals as goal
+
+pub returns-then-is_assumed-clause-hides : goal.returns-then-is_assumed-clause-hides
+returns-then-is_assumed-clause-hides g c = record {
+  same = refl;
+  cause = marked_asked c.args.self.now (c.requires c.if-self.false) c.args.user (c.is_assumed.ensures.assumed c.if-is_assumed.true);
+}
+
+pub returns-in-Ok-clause-solver : goal.returns-in-Ok-clause-solver
+returns-in-Ok-clause-solver g c = λ e.
+    let s = c.args.self.now in
+    let whole = c.requires c.if-self.false in
+    whole_renamed s whole c.hide_var.new.variables c.hide_var.new.writer c.in-Ok.ensures.does.stands
+    (others_kept s whole c.hide_var.new.variables c.args.user (not_marked s whole c.args.user (c.is_assumed.ensures.free c.if-is_assumed.false)) c.in-Ok.ensures.others) c.in-Ok.ensures.alike
+
+pub returns-in-Ok-clause-hides : goal.returns-in-Ok-clause-hides
+returns-in-Ok-clause-hides g c =
+    let s = c.args.self.now in
+    let whole = c.requires c.if-self.false in (
+      not_marked s whole c.args.user (c.is_assumed.ensures.free c.if-is_assumed.false),
+      renamed g.W.CountedWrite.seen s whole c.if-self.false c.hide_var.new.variables c.hide_var.new.writer _ _ c.in-Ok.ensures.does c.in-Ok.ensures.fresh c.in-Ok.ensures.units
+          (others_kept s whole c.hide_var.new.variables c.args.user (not_marked s whole c.args.user (c.is_assumed.ensures.free c.if-is_assumed.false)) c.in-Ok.ensures.others)
+          c.in-Ok.ensures.alike (c.in-Ok.ensures.came s.core.proof (none_took g.W.CountedWrite.seen s.core.proof)),
+    )
+
+pub returns-in-Err-clause-hides : goal.returns-in-Err-clause-hides
+returns-in-Err-clause-hides g c =
+    let s = c.args.self.now in
+    rw c.name_fault.ensures (mode_ends g.W.CountedWrite.seen _ s _ c.args.user _ _
+    (names_broke g.W.CountedWrite.seen s.core (record s.core { proof = c.hide_var.new.writer }) c.in-Err.error (c.in-Err.ensures.came s.core.proof (none_took g.W.CountedWrite.seen s.core.proof))) refl)

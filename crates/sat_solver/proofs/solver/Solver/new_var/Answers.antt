@@ -1,0 +1,35 @@
+use Rattle.std.proofs.Common.{refl, ap}
+use Rattle.sat_base.specs.values.Literals.{variable, coded}
+use Rattle.sat_solver.proofs.lemmas.names.Extending.{are_fresh}
+use Rattle.sat_solver.proofs.lemmas.names.Giving.{alike_unseen}
+use Rattle.sat_solver.proofs.lemmas.solver.TakingLemmas.{none_took, names_broke}
+use Rattle.sat_solver.specs.solver.Whole.{steps_in}
+use Rattle.sat_solver.specs.session.ProofView.{steps_of}
+use Rattle.sat_solver.proofs.lemmas.solver.RenamedLemmas.{next_name, whole_renamed, renamed, new_ends}
+use Rattle.sat_solver.proofs.solver.Solver.new_var.Goals as goal
+
+pub returns-in-Ok-clause-solver : goal.returns-in-Ok-clause-solver
+returns-in-Ok-clause-solver g c = λ e.
+    let s = c.args.self.now in
+    let n = c.new_user_var.new.variables in
+    let p = c.new_user_var.new.writer in
+    let b = c.in-Ok.ensures.brought in
+    whole_renamed s (c.requires c.if-self.false) n p b.brings.stands (λ l v h x. (b.extends.stays (variable l) v x).0) (alike_unseen s.names n (steps_in s) (steps_of p) b.unseen)
+
+pub returns-in-Ok-clause-names : goal.returns-in-Ok-clause-names
+returns-in-Ok-clause-names g c =
+    let s = c.args.self.now in
+    let whole = c.requires c.if-self.false in
+    let n = c.new_user_var.new.variables in
+    let p = c.new_user_var.new.writer in
+    let b = c.in-Ok.ensures.brought in (
+      next_name s whole c.in-Ok.user c.in-Ok.ensures.next,
+      renamed g.W.CountedWrite.seen s whole c.if-self.false n p _ _ b.brings (are_fresh s.names n b.extends) (λ u v d e. ap (λ f. f (coded v d)) b.unseen.search.units) (λ l v h x. (b.extends.stays (variable l) v x).0) (alike_unseen s.names n (steps_in s) (steps_of p) b.unseen)
+          (c.in-Ok.ensures.came s.core.proof (none_took g.W.CountedWrite.seen s.core.proof)),
+    )
+
+pub returns-in-Err-clause-names : goal.returns-in-Err-clause-names
+returns-in-Err-clause-names g c =
+    let s = c.args.self.now in
+    rw c.name_fault.ensures (new_ends g.W.CountedWrite.seen _ s _
+    (names_broke g.W.CountedWrite.seen s.core (record s.core { proof = c.new_user_var.new.writer }) c.in-Err.error (c.in-Err.ensures.came s.core.proof (none_took g.W.CountedWrite.seen s.core.proof))) refl)

@@ -1,0 +1,42 @@
+use Rattle.std.proofs.Common.{refl, ap}
+use Rattle.sat_base.specs.values.Literals.{coded}
+use Rattle.sat_solver.proofs.lemmas.names.Giving.{alike_unseen}
+use Rattle.sat_solver.proofs.lemmas.solver.TakingLemmas.{none_took, names_broke}
+use Rattle.sat_solver.specs.solver.Whole.{steps_in}
+use Rattle.sat_solver.specs.session.ProofView.{steps_of}
+use Rattle.sat_solver.proofs.lemmas.solver.RenamedLemmas.{marked_asked, not_marked, others_kept, whole_renamed, renamed, mode_ends}
+use Rattle.sat_solver.proofs.solver.Solver.set_mode.Goals as goal
+
+pub returns-then-is_assumed-clause-sets : goal.returns-then-is_assumed-clause-sets
+returns-then-is_assumed-clause-sets g c = record {
+  same = refl;
+  cause = marked_asked c.args.self.now (c.requires c.if-self.false) c.args.user (c.is_assumed.ensures.assumed c.if-is_assumed.true);
+}
+
+pub returns-in-Ok-clause-solver : goal.returns-in-Ok-clause-solver
+returns-in-Ok-clause-solver g c = λ e.
+    let s = c.args.self.now in
+    let whole = c.requires c.if-self.false in
+    let n = c.set_sampling_mode.new.variables in
+    let p = c.set_sampling_mode.new.writer in
+    whole_renamed s whole n p c.in-Ok.ensures.does.stands
+    (others_kept s whole n c.args.user (not_marked s whole c.args.user (c.is_assumed.ensures.free c.if-is_assumed.false)) c.in-Ok.ensures.others)
+    (alike_unseen s.names n (steps_in s) (steps_of p) c.in-Ok.ensures.unseen)
+
+pub returns-in-Ok-clause-sets : goal.returns-in-Ok-clause-sets
+returns-in-Ok-clause-sets g c =
+    let s = c.args.self.now in
+    let whole = c.requires c.if-self.false in
+    let n = c.set_sampling_mode.new.variables in
+    let p = c.set_sampling_mode.new.writer in (
+      not_marked s whole c.args.user (c.is_assumed.ensures.free c.if-is_assumed.false),
+      renamed g.W.CountedWrite.seen s whole c.if-self.false n p _ _ c.in-Ok.ensures.does c.in-Ok.ensures.fresh (λ u v b e. ap (λ f. f (coded v b)) c.in-Ok.ensures.unseen.search.units)
+          (others_kept s whole n c.args.user (not_marked s whole c.args.user (c.is_assumed.ensures.free c.if-is_assumed.false)) c.in-Ok.ensures.others)
+          (alike_unseen s.names n (steps_in s) (steps_of p) c.in-Ok.ensures.unseen) (c.in-Ok.ensures.came s.core.proof (none_took g.W.CountedWrite.seen s.core.proof)),
+    )
+
+pub returns-in-Err-clause-sets : goal.returns-in-Err-clause-sets
+returns-in-Err-clause-sets g c =
+    let s = c.args.self.now in
+    rw c.name_fault.ensures (mode_ends g.W.CountedWrite.seen _ s _ c.args.user _ _
+    (names_broke g.W.CountedWrite.seen s.core (record s.core { proof = c.set_sampling_mode.new.writer }) c.in-Err.error (c.in-Err.ensures.came s.core.proof (none_took g.W.CountedWrite.seen s.core.proof))) refl)

@@ -1,0 +1,96 @@
+-- Names of a solver that come in, are hidden, or change their mode.
+use Rattle.std.specs.Prelude.{ℕ, ◌+◌, ◌≡◌, Bool, true, false, Option, None, Some, List, [], ◌∷◌, map, Result, Ok, Err}
+use Rattle.sat_base.specs.device.Device.{Writer}
+use Rattle.sat_base.specs.values.Literals.{variable}
+use Rattle.sat_base.specs.script.Script.{Among, Hide, Witness, Sample}
+use Rattle.sat_base.specs.script.Judge.{Judge, Sampled, Witnessed, bring_in, new_names, accepted, set_all}
+use Rattle.sat_solver.specs.declared.error.SolverError.{SolverError}
+use Rattle.sat_solver.specs.declared.error.SolverError.TheVariants as errors
+use Rattle.sat_solver.specs.names.Calls.{Agree}
+use Rattle.sat_solver.specs.names.Expected.{Expected, NewName, hiding, setting}
+use Rattle.sat_solver.specs.names.Live.{Live}
+use Rattle.sat_solver.specs.names.Naming.{IsLowestUnused}
+use Rattle.sat_solver.specs.names.Observing.{Observes, IsHidden}
+use Rattle.sat_solver.specs.names.Models.{value_in}
+use Rattle.sat_solver.specs.names.Variables.{global_of, judged_mode}
+use Rattle.sat_solver.specs.session.Making.{Took}
+use Rattle.sat_solver.specs.declared.solver.Solver.{Solver}
+use Rattle.sat_solver.specs.solver.Adding.{EndsNames}
+use Rattle.sat_solver.specs.solver.Calls.{Did, Refuses}
+use Rattle.sat_solver.specs.solver.Whole.{IsWhole, steps_in}
+
+-- the name is one of those assumed
+abbrev pub IsAsked : {W : Type 0} → Solver W → ℕ → Type 0
+IsAsked s user = (l : ℕ) × Among l s.assumed.items × (variable l ≡ user)
+
+abbrev pub variable_value : {W : Type 0} → Solver W → Option ℕ → Option Bool
+variable_value s None = None
+variable_value s (Some v) = Some (value_in s.names s.core.search.parts.assignment.current v)
+
+-- the value of a name by the values of the search, if it is in use
+abbrev pub name_value : {W : Type 0} → Solver W → ℕ → Option Bool
+name_value s user = variable_value s (global_of s.names user)
+
+-- what came in is false, and what was there has the value that it had
+abbrev pub IsKeptOrFalse : Option Bool → Option Bool → Type 0
+IsKeptOrFalse None None = Unit {0}
+IsKeptOrFalse (Some a) None = Unit {0}
+IsKeptOrFalse None (Some b) = b ≡ false
+IsKeptOrFalse (Some a) (Some b) = b ≡ a
+
+-- a call over names was carried out, and what is known of an answer stands: in a model, names that came in are false
+pub record Renamed {W : Type 0} (seen : W → Writer) (old new : Solver W) (judge : Judge → Judge) (due : Judge → List Expected) : Type 0 where
+  pub did : Did seen old new judge due
+  pub assumed : new.assumed ≡ old.assumed
+  pub told : new.told ≡ old.told
+  pub clock : new.clock ≡ old.clock
+  pub state : new.state ≡ old.state
+  pub values : (user : ℕ) → IsKeptOrFalse (name_value old user) (name_value new user)
+
+-- what came of a call that changes the mode of a name, or hides it
+abbrev pub ChangesMode : {W : Type 0} → (W → Writer) → Result (Unit {0}) SolverError → Solver W → Solver W → ℕ → (Judge → Judge) → (Judge → List Expected) → Type 0
+ChangesMode seen (Ok x) old new user judge due = (IsAsked old user → ⊥) × Renamed seen old new judge due
+ChangesMode seen (Err errors.AssumedVariable) old new user judge due = Refuses old new (IsAsked old user)
+ChangesMode seen (Err errors.HasFailed) old new user judge due = Refuses old new (old.failed ≡ true)
+ChangesMode seen (Err e) old new user judge due = EndsNames seen e old new
+
+abbrev pub Hides : {W : Type 0} → (W → Writer) → Result (Unit {0}) SolverError → Solver W → Solver W → ℕ → Type 0
+Hides seen r old new user = ChangesMode seen r old new user (accepted (Hide ((user + 1) ∷ []))) (hiding ((user + 1) ∷ []))
+
+abbrev pub Witnesses : {W : Type 0} → (W → Writer) → Result (Unit {0}) SolverError → Solver W → Solver W → ℕ → Type 0
+Witnesses seen r old new user = ChangesMode seen r old new user (accepted (Witness ((user + 1) ∷ []))) (setting Witnessed ((user + 1) ∷ []))
+
+abbrev pub Samples : {W : Type 0} → (W → Writer) → Result (Unit {0}) SolverError → Solver W → Solver W → ℕ → Type 0
+Samples seen r old new user = ChangesMode seen r old new user (accepted (Sample ((user + 1) ∷ []))) (setting Sampled ((user + 1) ∷ []))
+
+-- the name comes next, whatever the judge's state is that names and steps agree with
+abbrev pub IsNextName : {W : Type 0} → Solver W → ℕ → Type 0
+IsNextName s name = (j : Judge) (live : Live) → Agree s.names (steps_in s) j live → IsLowestUnused j name
+
+-- why a call that gives names failed
+abbrev pub NamesFail : {W : Type 0} → (W → Writer) → SolverError → Solver W → Solver W → Type 0
+NamesFail seen errors.HasFailed old new = Refuses old new (old.failed ≡ true)
+NamesFail seen e old new = EndsNames seen e old new
+
+-- what came of a call for a new name
+abbrev pub NamesNew : {W : Type 0} → (W → Writer) → Result ℕ SolverError → Solver W → Solver W → Type 0
+NamesNew seen (Ok user) old new = IsNextName old (user + 1) × Renamed seen old new (bring_in (user + 1)) (λ j. map NewName (new_names (user + 1) j))
+NamesNew seen (Err e) old new = NamesFail seen e old new
+
+-- each hidden variable that is kept got the next name and mode witness, by increasing variable, and what is known of an answer stands
+pub record Observed {W : Type 0} (seen : W → Writer) (old new : Solver W) (users : List ℕ) : Type 0 where
+  pub whole : IsWhole new
+  pub going : new.failed ≡ false
+  pub observes : (j : Judge) (live : Live) → Agree old.names (steps_in old) j live → (k : Judge) × Observes 0 (steps_in old) j live (steps_in new) k users × Agree new.names (steps_in new) k live
+  pub all : (v : ℕ) → IsHidden new.names v → ⊥
+  pub took : Took seen old.core.proof new.core.proof
+  pub assumed : new.assumed ≡ old.assumed
+  pub told : new.told ≡ old.told
+  pub clock : new.clock ≡ old.clock
+  pub state : new.state ≡ old.state
+
+-- INSIDE
+
+-- the same for either mode
+abbrev pub SetsMode : {W : Type 0} → (W → Writer) → Result (Unit {0}) SolverError → Solver W → Solver W → ℕ → Bool → Type 0
+SetsMode seen r old new user sample = ChangesMode seen r old new user (set_all (judged_mode sample) ((user + 1) ∷ [])) (setting (judged_mode sample) ((user + 1) ∷ []))

@@ -1,0 +1,50 @@
+//! How far a solver has come.
+ghost use Rattle.std.specs.Prelude.{◌≡◌};
+
+use crate::Progress;
+use crate::names::Variables;
+use crate::solver::Solver;
+use sat_base::{CountedWrite, Var};
+use sat_store::Tier;
+
+/// Whether a variable has this index, and no value.
+fn is_open(names: &Variables, global: Var, index: usize, values: &[Option<bool>]) -> bool {
+    let Some(solver) = names.solver_from_global.fwd().get(global) else {
+        return false;
+    };
+    if solver.index() != index || index >= values.len() {
+        return false;
+    }
+    values[index].is_none()
+}
+
+/// The number of variables that have an index, and no value.
+fn open_count(names: &Variables, values: &[Option<bool>]) -> u64 {
+    let mut count: u64 = 0;
+    for index in 0..names.globals.len() {
+        if is_open(names, names.globals[index], index, values) {
+            count = count.saturating_add(1);
+        }
+    }
+    count
+}
+
+impl<W: CountedWrite + Drop> Solver<W> {
+    /// Rounds, restarts, variables without a value, and clauses by kind, at this time. Takes no memory.
+    pub fn progress(&self) -> Progress
+        ensures conflicts { result.conflicts ≡ self.now.clock.steps }
+        ensures restarts { result.restarts ≡ self.now.clock.restarts.count }
+    {
+        let parts = &self.core.search.parts;
+        Progress {
+            conflicts: self.clock.steps,
+            restarts: self.clock.restarts.count,
+            vars: open_count(&self.names, parts.assignment.assignment()),
+            binary: parts.binary.count() as u64,
+            irred: parts.db.count_by_tier(Tier::Irred) as u64,
+            core: parts.db.count_by_tier(Tier::Core) as u64,
+            mid: parts.db.count_by_tier(Tier::Mid) as u64,
+            local: parts.db.count_by_tier(Tier::Local) as u64,
+        }
+    }
+}

@@ -1,0 +1,124 @@
+//! Formulas, clause by clause, and their texts.
+ghost use Rattle.std.specs.Prelude.{◌≡◌, false};
+ghost use Rattle.sat_base.specs.dimacs.Parsing.{all_taken, no_progress};
+ghost use Rattle.sat_solver.specs.solver.Formulas.{AddsFormula, AddsText, AddsRead, text_fault, is_want};
+ghost use Rattle.sat_solver.specs.solver.Whole.{IsSolver};
+
+use crate::SolverError;
+use crate::solver::Solver;
+use sat_base::{CnfFormula, CountedRead, CountedWrite, DimacsError, DimacsParser};
+
+/// How many bytes are asked for at a time.
+const PIECE: usize = 4096;
+
+/// A reader is read at most so often.
+const MAX_READS: u64 = 1 << 48;
+
+/// The fault of a text, as a solver tells it.
+fn text_fault(error: DimacsError) -> SolverError
+    ensures { result ≡ text_fault error }
+{
+    match error {
+        DimacsError::Malformed { .. } => SolverError::Malformed,
+        DimacsError::Limit { .. } => SolverError::VariableLimit,
+        DimacsError::Read => SolverError::Read,
+        DimacsError::OutOfMemory => SolverError::OutOfMemory,
+        DimacsError::HasFailed => SolverError::HasFailed,
+    }
+}
+
+/// Whether a solver has failed then: for want of memory.
+fn is_want(error: DimacsError) -> bool
+    ensures { result ≡ is_want error }
+{
+    match error {
+        DimacsError::OutOfMemory => true,
+        DimacsError::Malformed { .. } => false,
+        DimacsError::Limit { .. } => false,
+        DimacsError::Read => false,
+        DimacsError::HasFailed => false,
+    }
+}
+
+impl<W: CountedWrite + Drop> Solver<W> {
+    /// Adds the clauses of a formula, in order, each as by a call of its own, up to the first that is refused: those before it stand.
+    /// The formula's variable count brings in no name.
+    pub fn add_formula(&mut self, formula: &CnfFormula) -> Result<(), SolverError>
+        requires { IsSolver self.old }
+        ensures solver { IsSolver self.new }
+        ensures adds { AddsFormula W.seen result self.old self.new formula.now.clauses }
+    {
+        if self.failed {
+            return Err(SolverError::HasFailed);
+        }
+        for clause in formula.iter() {
+            self.add_clause(clause)?;
+        }
+        Ok(())
+    }
+
+    /// Adds the clauses that wait in a parser, which has answered so to a piece or to the end of its text.
+    fn add_read(
+        &mut self,
+        parser: &mut DimacsParser,
+        answer: Result<(), DimacsError>,
+    ) -> Result<(), SolverError>
+        requires solver { IsSolver self.old }
+        requires going { self.old.failed ≡ false }
+        ensures solver { IsSolver self.new }
+        ensures taken { parser.new ≡ all_taken parser.old }
+        ensures adds { AddsRead W.seen result answer parser.old self.old self.new }
+    {
+        let formula = parser.take_formula();
+        self.add_formula(&formula)?;
+        if let Err(error) = answer {
+            self.failed = is_want(error);
+            return Err(text_fault(error));
+        }
+        Ok(())
+    }
+
+    /// Adds the clauses of a text that a parser reads from its beginning.
+    fn add_text<R: CountedRead>(
+        &mut self,
+        parser: &mut DimacsParser,
+        reader: &mut R,
+    ) -> Result<(), SolverError>
+        requires solver { IsSolver self.old }
+        requires going { self.old.failed ≡ false }
+        requires fresh { parser.old ≡ no_progress }
+        ensures solver { IsSolver self.new }
+        ensures adds { AddsText W.seen result self.old self.new (R.seen reader.old) (R.seen reader.new) }
+    {
+        let mut piece = [0; PIECE];
+        for _ in 0..MAX_READS {
+            match reader.read_counted(&mut piece) {
+                Ok(0) => {
+                    let answer = parser.finish();
+                    return self.add_read(parser, answer);
+                }
+                Ok(count) => {
+                    let answer = parser.feed(&piece[..count]);
+                    self.add_read(parser, answer)?;
+                }
+                Err(_) => return Err(SolverError::Read),
+            }
+        }
+        Err(SolverError::Read)
+    }
+
+    /// Adds the clauses of a formula's text in DIMACS CNF, in order, as the text is read in pieces of 4,096 bytes. Those before a fault
+    /// stand, and those before a clause that is refused. A text that can't be read leaves the solver going on: `Malformed`,
+    /// `VariableLimit` for a number past the limit, or `Read`. The header's variable count brings in no name.
+    pub fn add_dimacs_cnf<R: CountedRead>(&mut self, reader: &mut R) -> Result<(), SolverError>
+        requires { IsSolver self.old }
+        ensures solver { IsSolver self.new }
+        ensures adds { AddsText W.seen result self.old self.new (R.seen reader.old) (R.seen reader.new) }
+    {
+        if self.failed {
+            return Err(SolverError::HasFailed);
+        }
+        let mut parser = DimacsParser::new(self.core.search.alloc);
+        self.add_text(&mut parser, reader)
+    }
+}

@@ -1,0 +1,122 @@
+//! Names that come in, that are hidden, and modes that a user sets.
+ghost use Rattle.std.specs.Prelude.{IfOk, IfErr};
+ghost use Rattle.sat_solver.specs.solver.Naming.{Hides, Witnesses, Samples, SetsMode, NamesNew, NamesFail, Observed};
+ghost use Rattle.sat_solver.specs.solver.Whole.{IsSolver};
+
+use crate::SolverError;
+use crate::loading::faults::name_fault;
+use crate::names::modes::{hide_var, set_sampling_mode};
+use crate::names::naming::new_user_var;
+use crate::names::observing::observe_internal_vars;
+use crate::names::refusing::is_assumed;
+use crate::solver::Solver;
+use sat_base::{CountedWrite, Var};
+
+impl<W: CountedWrite + Drop> Solver<W> {
+    /// Brings a name in, and hides it: its variable stays in the clauses, and the name may become that of a new variable. What is known
+    /// of an answer stays. `AssumedVariable` names the cause.
+    pub fn hide_var(&mut self, user: Var) -> Result<(), SolverError>
+        requires { IsSolver self.old }
+        ensures solver { IsSolver self.new }
+        ensures hides { Hides W.seen result self.old self.new user }
+    {
+        if self.failed {
+            return Err(SolverError::HasFailed);
+        }
+        if is_assumed(&self.names, user) {
+            return Err(SolverError::AssumedVariable);
+        }
+        self.used = true;
+        match hide_var(&mut self.names, &mut self.core.proof, user) {
+            Ok(()) => Ok(()),
+            Err(error) => {
+                self.failed = true;
+                Err(name_fault(error))
+            }
+        }
+    }
+
+    /// Brings a name in, and sets its mode.
+    fn set_mode(&mut self, user: Var, sample: bool) -> Result<(), SolverError>
+        requires { IsSolver self.old }
+        ensures solver { IsSolver self.new }
+        ensures sets { SetsMode W.seen result self.old self.new user sample }
+    {
+        if self.failed {
+            return Err(SolverError::HasFailed);
+        }
+        if is_assumed(&self.names, user) {
+            return Err(SolverError::AssumedVariable);
+        }
+        self.used = true;
+        match set_sampling_mode(&mut self.names, &mut self.core.proof, user, sample) {
+            Ok(()) => Ok(()),
+            Err(error) => {
+                self.failed = true;
+                Err(name_fault(error))
+            }
+        }
+    }
+
+    /// Brings a name in, and sets its mode to witness: no clause and no assumption may have it. What is known of an answer stays.
+    /// `AssumedVariable` names the cause, also where the mode would stay.
+    pub fn witness_var(&mut self, user: Var) -> Result<(), SolverError>
+        requires { IsSolver self.old }
+        ensures solver { IsSolver self.new }
+        ensures witnesses { Witnesses W.seen result self.old self.new user }
+    {
+        self.set_mode(user, false)
+    }
+
+    /// Brings a name in, and sets its mode to sample, as new names have it. What is known of an answer stays. `AssumedVariable` names the
+    /// cause, also where the mode would stay.
+    pub fn sample_var(&mut self, user: Var) -> Result<(), SolverError>
+        requires { IsSolver self.old }
+        ensures solver { IsSolver self.new }
+        ensures samples { Samples W.seen result self.old self.new user }
+    {
+        self.set_mode(user, true)
+    }
+
+    /// Brings in the lowest hidden name, else the first never used, and gives it. What is known of an answer stays: in a model the name
+    /// is false.
+    pub fn new_var(&mut self) -> Result<Var, SolverError>
+        requires { IsSolver self.old }
+        ensures solver { IsSolver self.new }
+        ensures names { NamesNew W.seen result self.old self.new }
+    {
+        if self.failed {
+            return Err(SolverError::HasFailed);
+        }
+        self.used = true;
+        match new_user_var(&mut self.names, &mut self.core.proof) {
+            Ok(user) => Ok(user),
+            Err(error) => {
+                self.failed = true;
+                Err(name_fault(error))
+            }
+        }
+    }
+
+    /// Gives each hidden variable that is still kept the name that `new_var` would take, and mode witness, by increasing variable of the
+    /// proof; the names in this order. What is known of an answer stays.
+    pub fn observe_internal_vars(&mut self) -> Result<Vec<Var>, SolverError>
+        requires { IsSolver self.old }
+        ensures solver { IsSolver self.new }
+        ensures observes { IfOk result (λ users. Observed W.seen self.old self.new users.items) }
+        ensures fails { IfErr result (λ e. NamesFail W.seen e self.old self.new) }
+    {
+        if self.failed {
+            return Err(SolverError::HasFailed);
+        }
+        self.used = true;
+        let mut users = Vec::new(self.core.search.alloc);
+        match observe_internal_vars(&mut self.names, &mut self.core.proof, &mut users) {
+            Ok(()) => Ok(users),
+            Err(error) => {
+                self.failed = true;
+                Err(name_fault(error))
+            }
+        }
+    }
+}
