@@ -3,6 +3,17 @@ use Rattle.std.specs.Prelude.{ℕ, Bool, true, ◌&&◌, nat_le, Option, None, S
 use Rattle.sat_solver.specs.declared.config.SolverConfig.{SolverConfig}
 use Rattle.sat_solver.specs.declared.config.SolverConfigUpdate.{SolverConfigUpdate}
 
+-- the parameters at first
+abbrev pub defaults : SolverConfig
+defaults = record {
+  vsids_decay = 950;
+  clause_activity_decay = 999;
+  reduce_locals_interval = 15000;
+  reduce_mids_interval = 10000;
+  luby_restart_interval_scale = 128;
+  max_steps = 18446744073709551615;
+}
+
 -- a decay is 500 to 999 thousandths
 abbrev pub is_decay : ℕ → Bool
 is_decay n = nat_le 500 n && nat_le n 999

@@ -2,3 +2,4 @@ pub mod Ranks
 pub mod Gaps
 pub mod Progress
 pub mod Climbing
+pub mod Counting

@@ -11,3 +11,4 @@ pub mod ProofTexts
 pub mod Due
 pub mod Making
 pub mod NamedMeaning
+pub mod Coming

@@ -1,6 +1,6 @@
 //! The parameters of a search.
 ghost use Rattle.std.specs.Prelude.{ℕ, ◌≡◌, true, false, None, Some, nat_le, OnOk, IfErr};
-ghost use Rattle.sat_solver.specs.Configs.{is_decay, passes, in_range, updated};
+ghost use Rattle.sat_solver.specs.Configs.{defaults, is_decay, passes, in_range, updated};
 
 use crate::error::SolverError;
 
@@ -23,12 +23,7 @@ pub struct SolverConfig {
 
 impl Default for SolverConfig {
     fn default() -> SolverConfig
-        ensures vsids { result.vsids_decay ≡ 950 }
-        ensures clauses { result.clause_activity_decay ≡ 999 }
-        ensures locals { result.reduce_locals_interval ≡ 15000 }
-        ensures mids { result.reduce_mids_interval ≡ 10000 }
-        ensures scale { result.luby_restart_interval_scale ≡ 128 }
-        ensures steps { result.max_steps ≡ 18446744073709551615 }
+        ensures { result ≡ defaults }
     {
         SolverConfig {
             vsids_decay: 950,

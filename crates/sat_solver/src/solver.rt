@@ -6,6 +6,7 @@ ghost use Rattle.std.specs.Prelude.{◌≡◌, true, false, []};
 ghost use Rattle.sat_base.specs.script.Judge.{start};
 ghost use Rattle.sat_solver.specs.session.ProofView.{Closed, target_of};
 ghost use Rattle.sat_solver.specs.names.Calls.{Agree};
+ghost use Rattle.sat_solver.specs.Configs.{defaults};
 ghost use Rattle.sat_solver.specs.solver.Whole.{IsWhole, steps_in};
 
 pub mod adding;
@@ -62,10 +63,12 @@ impl<W: CountedWrite + Drop> Solver<W> {
     pub fn new(alloc: Global) -> Solver<W>
         ensures whole { IsWhole result }
         ensures going { result.failed ≡ false }
+        ensures unused { result.used ≡ false }
         ensures steps { steps_in result ≡ [] }
         ensures target { target_of W.seen result.core.proof ≡ Closed }
         ensures agree { Agree result.names [] start [] }
         ensures asked { result.assumed.items ≡ [] }
+        ensures config { result.core.config ≡ defaults }
         ensures state { result.state ≡ State.Unknown }
         ensures rounds { result.clock.steps ≡ 0 }
     {

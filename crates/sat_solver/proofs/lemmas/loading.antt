@@ -5,3 +5,4 @@ pub mod IndexLemmas
 pub mod LoadingLemmas
 pub mod SharedLemmas
 pub mod TakenLemmas
+pub mod DeletedLemmas

@@ -31,3 +31,4 @@ pub mod ModelSteps
 pub mod LeftOut
 pub mod NextIndices
 pub mod CameLemmas
+pub mod ComingSteps

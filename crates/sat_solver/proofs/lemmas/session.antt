@@ -22,3 +22,4 @@ pub mod DueWidths
 pub mod MakingLemmas
 pub mod NamedLemmas
 pub mod PlainLemmas
+pub mod ComingLemmas

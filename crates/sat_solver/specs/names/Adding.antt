@@ -15,6 +15,8 @@ use Rattle.sat_solver.specs.names.Refusing.{names_in}
 use Rattle.sat_solver.specs.names.Expected.{bringing}
 use Rattle.sat_solver.specs.names.Search.{KeepsSearch, Gives}
 use Rattle.sat_solver.specs.names.Calls.{Does}
+use Rattle.sat_solver.specs.session.Coming.{Comes}
+use Rattle.sat_solver.specs.names.Coming.{MayTake}
 use Rattle.sat_solver.specs.declared.names.Variables.{Variables}
 use Rattle.sat_solver.specs.declared.names.taking.Taken.{Taken}
 
@@ -72,6 +74,7 @@ pub record Takes (old new : Variables) (from to : List Step) (user : List ℕ) (
   pub images : Images new user t.order.items
   pub gives : Gives old new (session_after from) t.given.items
   pub search : KeepsSearch (session_after from) (session_after to)
+  pub comes : Comes (MayTake (names_in user)) from to
 
 -- The clause over the proof's variables is the set of the literals, in order of the search's codes.
 pub record MapsClause (new : Variables) (t : Taken) : Type 0 where

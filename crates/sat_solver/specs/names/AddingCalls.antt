@@ -10,6 +10,8 @@ use Rattle.sat_solver.specs.names.Expected.{Adds, bringing}
 use Rattle.sat_solver.specs.names.Adding.{named_literal, Images, MapsClause}
 use Rattle.sat_solver.specs.names.Search.{KeepsSearch, IsUnseen, Gives}
 use Rattle.sat_solver.specs.names.Calls.{Does}
+use Rattle.sat_solver.specs.session.Coming.{Comes}
+use Rattle.sat_solver.specs.names.Coming.{MayTake}
 use Rattle.sat_solver.specs.declared.names.Variables.{Variables}
 use Rattle.sat_solver.specs.declared.names.taking.Taken.{Taken}
 
@@ -25,9 +27,11 @@ pub record AddsClause (old new : Variables) (from to : List Step) (user : List �
   pub between : List Step
   pub written : to ≡ AddClause t.globals.items ∷ between
   pub search : KeepsSearch (session_after from) (session_after between)
+  pub comes : Comes (MayTake (names_in user)) from to
 
 -- Its names came in, and it was not written, which the clauses' being unsatisfiable allows.
 pub record LeavesOut (old new : Variables) (from to : List Step) (user : List ℕ) : Type 0 where
   pub does : Does old new from to (λ j. with_clause (map named_literal user) (bring_all (names_in user) j)) (bringing (names_in user))
   pub extends : Extends old new
   pub unseen : IsUnseen old new from to
+  pub comes : Comes (MayTake (names_in user)) from to

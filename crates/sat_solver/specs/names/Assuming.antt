@@ -13,6 +13,8 @@ use Rattle.sat_solver.specs.names.Expected.{Opens, bringing}
 use Rattle.sat_solver.specs.names.Adding.{named_literal, Images, global_in}
 use Rattle.sat_solver.specs.names.Search.{KeepsSearch, Gives}
 use Rattle.sat_solver.specs.names.Calls.{Does}
+use Rattle.sat_solver.specs.session.Coming.{Comes}
+use Rattle.sat_solver.specs.names.Coming.{MayTake}
 use Rattle.sat_solver.specs.declared.names.Variables.{Variables}
 use Rattle.sat_solver.specs.declared.names.taking.Taken.{Taken}
 
@@ -47,3 +49,4 @@ pub record Assumes (old new : Variables) (from to : List Step) (user : List ℕ)
   pub between : List Step
   pub written : to ≡ Assumptions t.globals.items ∷ between
   pub search : KeepsSearch (session_after from) (session_after between)
+  pub comes : Comes (MayTake (names_in user)) from to

@@ -11,6 +11,8 @@ use Rattle.sat_solver.specs.names.Expected.{Expected, NewName, Fits}
 use Rattle.sat_solver.specs.names.Bridge.{IsBridge}
 use Rattle.sat_solver.specs.names.Naming.{Extends}
 use Rattle.sat_solver.specs.names.Search.{IsUnseen}
+use Rattle.sat_solver.specs.session.Coming.{Comes}
+use Rattle.sat_solver.specs.names.Coming.{IsDue}
 use Rattle.sat_solver.specs.declared.names.Variables.{Variables}
 
 -- what stands between calls, whatever the judge says: the names fit together, and are what the steps have said, each of which may be written
@@ -54,6 +56,7 @@ pub record NamesAll (old new : Variables) (from to : List Step) (names : List �
   pub stands : Stands new to
   pub extends : Extends old new
   pub unseen : IsUnseen old new from to
+  pub comes : Comes IsDue from to
   pub kept : (j : Judge) (live : Live) → Agree old from j live → Kept new from to (with_names names j) (map NewName names)
 
 -- what a call does to the judge's state, and which steps it has to write for it, whatever others come between
@@ -70,6 +73,7 @@ pub record Brought (old new : Variables) (from to : List Step) (user : ℕ) : Ty
   pub brings : BringsIn old new from to user
   pub extends : Extends old new
   pub unseen : IsUnseen old new from to
+  pub comes : Comes IsDue from to
 
 -- the judge sees nothing of it
 abbrev pub DoesNothing : Variables → Variables → List Step → List Step → Type 0

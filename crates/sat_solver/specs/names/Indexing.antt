@@ -1,6 +1,6 @@
 -- A variable that has an index of the search from here on.
-use Rattle.std.specs.Prelude.{ℕ, ◌==◌, ◌≡◌, ◌++◌, Some, None, List, if◌then◌else◌}
-use Rattle.sat_base.specs.steps.Steps.{Step}
+use Rattle.std.specs.Prelude.{ℕ, ◌==◌, ◌≡◌, ◌⊎◌, ◌∷◌, ◌++◌, Some, None, List, if◌then◌else◌}
+use Rattle.sat_base.specs.steps.Steps.{Step, SolverVarName}
 use Rattle.sat_solver.specs.session.Session.{session_after}
 use Rattle.sat_solver.specs.names.Variables.{solver_of}
 use Rattle.sat_solver.specs.names.Calls.{DoesNothing}
@@ -18,6 +18,7 @@ pub record Indexes (old new : Variables) (from to : List Step) (before after : L
   pub fresh : List Given
   pub listed : after ≡ before ++ fresh
   pub gives : Gives old new (session_after from) fresh
+  pub step : (to ≡ from) ⊎ (to ≡ SolverVarName v (Some x) ∷ from)
 
 -- The variable has no index from here on.
 pub record Unindexes (old new : Variables) (from to : List Step) (v x : ℕ) : Type 0 where

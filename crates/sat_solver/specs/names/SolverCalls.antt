@@ -1,16 +1,15 @@
--- What the solver's calls over names, clauses and assumptions promise: proposed, for a solver that isn't written yet.
-use Rattle.std.specs.Prelude.{ℕ, ◌+◌, ◌<◌, ◌≡◌, ◌≢◌, ◌↔◌, Bool, true, false, None, Some, List, [], ◌∷◌, ◌++◌, map, length}
+-- What the solver's calls over names and modes promise: proposed, for calls that aren't written yet.
+use Rattle.std.specs.Prelude.{ℕ, ◌+◌, ◌<◌, ◌≡◌, ◌≢◌, ◌↔◌, Bool, true, false, None, Some, List, [], ◌∷◌, map, length}
 use Rattle.std.specs.List.{AllByRecursion}
 use Rattle.sat_base.specs.values.Literals.{largest}
-use Rattle.sat_base.specs.script.Script.{Literal, Command, Clause, Ask, Hide, Witness, Sample, names_of, Among}
-use Rattle.sat_base.specs.script.Judge.{Judge, Sampled, Witnessed, WitnessName, identity_of, bring_in, new_names, accepted, refused_literal}
+use Rattle.sat_base.specs.script.Script.{Literal, Command, Hide, Witness, Sample, Among}
+use Rattle.sat_base.specs.script.Judge.{Judge, Sampled, Witnessed, identity_of, bring_in, new_names, accepted}
 use Rattle.sat_base.specs.steps.Steps.{Step, UserVarName, ChangeSamplingMode}
 use Rattle.sat_solver.specs.session.Session.{MayAll, session_after}
 use Rattle.sat_solver.specs.names.Live.{Live, given}
 use Rattle.sat_solver.specs.names.Variables.{AreTidy, AreSaid, global_of, data_at}
 use Rattle.sat_solver.specs.names.Checking.{variable_of}
-use Rattle.sat_solver.specs.names.ProofChecking.{the_checking}
-use Rattle.sat_solver.specs.names.Expected.{Expected, NewName, Adds, Opens, bringing, hiding, setting}
+use Rattle.sat_solver.specs.names.Expected.{Expected, NewName, hiding, setting}
 use Rattle.sat_solver.specs.names.Calls.{Agree, Writes}
 use Rattle.sat_solver.specs.names.Observing.{observed}
 use Rattle.sat_solver.specs.declared.names.Variables.{Variables}
@@ -35,10 +34,6 @@ pub record IsSolver (s : Seen) : Type 0 where
   pub asked : AllByRecursion (λ l. (i : ℕ) × (identity_of s.judge l.name ≡ Some i)) s.asked
   pub marked : (u v : ℕ) → global_of s.names u ≡ Some v → (data_at s.names v).assumed ≡ true ↔ ((l : Literal) × Among l s.asked × (l.name ≡ u + 1))
 
--- is unsat recorded where a checker was fed these steps?
-abbrev pub is_unsat : Seen → Bool
-is_unsat s = the_checking.unsat s.steps
-
 -- no variable is left for so many new names
 abbrev pub NoRoom : Seen → List Expected → Type 0
 NoRoom s names = largest < length s.live + length names
@@ -47,42 +42,6 @@ NoRoom s names = largest < length s.live + length names
 pub record RefusesTo (old new : Seen) (why : Type 0) : Type 0 where
   pub same : new ≡ old
   pub cause : why
-
--- CLAUSES AND ASSUMPTIONS
-
--- an accepted clause: its names come in, and it is written unless unsat is recorded
-pub data WritesClause (old new : Seen) (ls : List Literal) : Type 0 where
-  adds : is_unsat old ≡ false → Writes old.steps new.steps (bringing (names_of ls) old.judge ++ (Adds ls ∷ [])) → WritesClause old new ls
-  leaves_out : is_unsat old ≡ true → Writes old.steps new.steps (bringing (names_of ls) old.judge) → WritesClause old new ls
-
-pub record AddsClause (old new : Seen) (ls : List Literal) : Type 0 where
-  pub solver : IsSolver new
-  pub judge : new.judge ≡ accepted (Clause ls) old.judge
-  pub asked : new.asked ≡ old.asked
-  pub writes : WritesClause old new ls
-
-pub record Assumes (old new : Seen) (ls : List Literal) : Type 0 where
-  pub solver : IsSolver new
-  pub judge : new.judge ≡ accepted (Ask ls) old.judge
-  pub asked : new.asked ≡ ls
-  pub writes : Writes old.steps new.steps (bringing (names_of ls) old.judge ++ (Opens ls ∷ []))
-
--- the leftmost literal over a name of mode witness
-abbrev pub HasWitness : Seen → List Literal → Type 0
-HasWitness s ls = (name : ℕ) × (refused_literal s.judge (names_of ls) ≡ Some (WitnessName name))
-
--- How the answers of `add_clause` go, where it is neither refused as too late nor for DRAT: `NotWitness` is part of each answer but the refusal's.
-pub data AddClauseAnswers (old new : Seen) (ls : List Literal) : Type 0 where
-  ok : refused_literal old.judge (names_of ls) ≡ None → AddsClause old new ls → AddClauseAnswers old new ls
-  witness_variable : RefusesTo old new (HasWitness old ls) → AddClauseAnswers old new ls
-  variable_limit : RefusesTo old new ((refused_literal old.judge (names_of ls) ≡ None) × NoRoom old (bringing (names_of ls) old.judge)) → AddClauseAnswers old new ls
-  fails : refused_literal old.judge (names_of ls) ≡ None → new.failed ≡ true → AddClauseAnswers old new ls
-
-pub data AssumeAnswers (old new : Seen) (ls : List Literal) : Type 0 where
-  ok : refused_literal old.judge (names_of ls) ≡ None → Assumes old new ls → AssumeAnswers old new ls
-  witness_variable : RefusesTo old new (HasWitness old ls) → AssumeAnswers old new ls
-  variable_limit : RefusesTo old new ((refused_literal old.judge (names_of ls) ≡ None) × NoRoom old (bringing (names_of ls) old.judge)) → AssumeAnswers old new ls
-  fails : refused_literal old.judge (names_of ls) ≡ None → new.failed ≡ true → AssumeAnswers old new ls
 
 -- MODES
 

@@ -4,6 +4,7 @@ use Rattle.sat_base.specs.device.Device.{Writer}
 use Rattle.sat_base.specs.steps.Steps.{Step, AtClause}
 use Rattle.sat_parts.specs.prop.TrailWord.{Letter}
 use Rattle.sat_solver.specs.session.ProofView.{Adds, Keeps, steps_of, session_of}
+use Rattle.sat_solver.specs.session.Coming.{Comes, EndsAtUnsat}
 use Rattle.sat_solver.specs.session.Session.{Session, session_after}
 use Rattle.sat_solver.specs.parts.Words.{Words}
 use Rattle.sat_solver.specs.joint.Advancing.{Advances}
@@ -25,6 +26,12 @@ IsAdvancing s step = ⊥
 abbrev pub AdvanceTimes : (earlier steps : List Step) → ℕ → Type 0
 AdvanceTimes earlier [] k = k ≡ 0
 AdvanceTimes earlier (step ∷ steps) k = AdvanceTimes earlier steps k ⊎ ((j : ℕ) × (k ≡ j + 1) × IsAdvancing (session_after (steps ++ earlier)) step × AdvanceTimes earlier steps j)
+
+-- the same of all steps from these on
+pub record AdvancesIn (from to : List Step) (k : ℕ) : Type 0 where
+  pub steps : List Step
+  pub behind : to ≡ steps ++ from
+  pub times : AdvanceTimes from steps k
 
 -- what holds between rounds
 pub record IsCore {W : Type 0} (c : Core W) : Type 0 where
@@ -63,6 +70,7 @@ pub record Ended {W : Type 0} (seen : W → Writer) (a : Core W) (outcome : Outc
   pub searched : AreSearched (session_of a.proof).solver_names steps
   pub keeps : Keeps b.proof
   pub config : b.config ≡ a.config
+  pub comes : Comes EndsAtUnsat (steps_of a.proof) (steps_of b.proof)
   pub says : EndSays outcome (session_of b.proof) a.search b.search
 
 -- it came to this fault

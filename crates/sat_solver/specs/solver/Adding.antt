@@ -1,11 +1,13 @@
 -- Clauses and assumptions that come to a solver.
-use Rattle.std.specs.Prelude.{ℕ, ◌≡◌, true, Some, List, [], ◌∷◌, ◌++◌, map, Result, Ok, Err}
+use Rattle.std.specs.Prelude.{ℕ, ◌≡◌, true, false, None, Some, List, [], ◌∷◌, ◌++◌, map, Result, Ok, Err}
 use Rattle.sat_base.specs.device.Device.{Writer}
 use Rattle.sat_base.specs.script.Judge.{Judge, WitnessName, bring_all, with_clause, refused_literal}
 use Rattle.sat_solver.specs.declared.error.SolverError.{SolverError}
 use Rattle.sat_solver.specs.declared.error.SolverError.TheVariants as errors
 use Rattle.sat_solver.specs.names.Adding.{named_literal}
 use Rattle.sat_solver.specs.names.Calls.{Agree, Does}
+use Rattle.sat_solver.specs.names.Coming.{MayAdd, MayTake}
+use Rattle.sat_solver.specs.session.Coming.{Comes}
 use Rattle.sat_solver.specs.session.Making.{Took}
 use Rattle.sat_solver.specs.names.Expected.{Expected, Adds, Opens, bringing}
 use Rattle.sat_solver.specs.names.Live.{Live}
@@ -42,48 +44,60 @@ Forgets before states.UnsatUnderAssumptions = ⊥
 abbrev pub HasWitness : {W : Type 0} → Solver W → List ℕ → Type 0
 HasWitness s user = (j : Judge) (live : Live) → Agree s.names (steps_in s) j live → (name : ℕ) × (refused_literal j (names_in user) ≡ Some (WitnessName name))
 
+-- there's none
+abbrev pub AreSampled : {W : Type 0} → Solver W → List ℕ → Type 0
+AreSampled s user = (j : Judge) (live : Live) → Agree s.names (steps_in s) j live → refused_literal j (names_in user) ≡ None
+
 -- a call over names failed, and so does each one behind it
 pub record EndsNames {W : Type 0} (seen : W → Writer) (e : SolverError) (old new : Solver W) : Type 0 where
+  pub going : old.failed ≡ false
   pub failed : new.failed ≡ true
   pub breaks : BreaksNames seen e old.core new.core
+  pub clock : new.clock ≡ old.clock
 
 -- a clause was added
 pub record Added {W : Type 0} (seen : W → Writer) (old new : Solver W) (user : List ℕ) : Type 0 where
+  pub sampled : AreSampled old user
   pub did : Did seen old new (with_added user) (due_for_clause old.state user)
+  pub comes : Comes (MayAdd (names_in user)) (steps_in old) (steps_in new)
   pub assumed : new.assumed ≡ old.assumed
   pub clock : new.clock ≡ old.clock
   pub state : Forgets old.state new.state
 
 abbrev pub AddsClause : {W : Type 0} → (W → Writer) → Result (Unit {0}) SolverError → Solver W → Solver W → List ℕ → Type 0
 AddsClause seen (Ok x) old new user = Added seen old new user
-AddsClause seen (Err errors.WitnessVariable) old new user = Refuses old new (HasWitness old user)
+AddsClause seen (Err errors.WitnessVariable) old new user = Refuses old new ((old.failed ≡ false) × HasWitness old user)
 AddsClause seen (Err errors.HasFailed) old new user = Refuses old new (old.failed ≡ true)
-AddsClause seen (Err e) old new user = EndsNames seen e old new
+AddsClause seen (Err e) old new user = AreSampled old user × EndsNames seen e old new
 
 -- other assumptions were taken
 pub record Assumed {W : Type 0} (seen : W → Writer) (old new : Solver W) (user : List ℕ) : Type 0 where
+  pub sampled : AreSampled old user
   pub did : Did seen old new (bring_all (names_in user)) (due_for_asked user)
+  pub comes : Comes (MayTake (names_in user)) (steps_in old) (steps_in new)
   pub assumed : new.assumed.items ≡ user
   pub clock : new.clock ≡ old.clock
   pub state : Forgets old.state new.state
 
 abbrev pub Assumes : {W : Type 0} → (W → Writer) → Result (Unit {0}) SolverError → Solver W → Solver W → List ℕ → Type 0
 Assumes seen (Ok x) old new user = Assumed seen old new user
-Assumes seen (Err errors.WitnessVariable) old new user = Refuses old new (HasWitness old user)
+Assumes seen (Err errors.WitnessVariable) old new user = Refuses old new ((old.failed ≡ false) × HasWitness old user)
 Assumes seen (Err errors.HasFailed) old new user = Refuses old new (old.failed ≡ true)
-Assumes seen (Err e) old new user = EndsNames seen e old new
+Assumes seen (Err e) old new user = AreSampled old user × EndsNames seen e old new
 
 -- INSIDE
 
 -- the same without the flag of failure: what a clause leaves
-pub record TookIn {W : Type 0} (seen : W → Writer) (old new : Solver W) (judge : Judge → Judge) (due : Judge → List Expected) : Type 0 where
+pub record TookIn {W : Type 0} (seen : W → Writer) (old new : Solver W) (user : List ℕ) : Type 0 where
   pub whole : IsWhole new
-  pub does : Does old.names new.names (steps_in old) (steps_in new) judge due
+  pub does : Does old.names new.names (steps_in old) (steps_in new) (with_added user) (due_for_clause old.state user)
+  pub comes : Comes (MayAdd (names_in user)) (steps_in old) (steps_in new)
   pub took : Took seen old.core.proof new.core.proof
   pub failed : new.failed ≡ old.failed
-  pub clock : new.clock ≡ old.clock
+  pub used : new.used ≡ old.used
+  pub config : new.core.config ≡ old.core.config
   pub state : Forgets old.state new.state
 
-abbrev pub TakesIn : {W : Type 0} → (W → Writer) → Result (Unit {0}) SolverError → Solver W → Solver W → (Judge → Judge) → (Judge → List Expected) → Type 0
-TakesIn seen (Ok x) old new judge due = TookIn seen old new judge due
-TakesIn seen (Err e) old new judge due = BreaksNames seen e old.core new.core
+abbrev pub TakesIn : {W : Type 0} → (W → Writer) → Result (Unit {0}) SolverError → Solver W → Solver W → List ℕ → Type 0
+TakesIn seen (Ok x) old new user = TookIn seen old new user
+TakesIn seen (Err e) old new user = BreaksNames seen e old.core new.core

@@ -4,6 +4,8 @@ use Rattle.sat_base.specs.device.Device.{Writer}
 use Rattle.sat_base.specs.script.Judge.{bring_all}
 use Rattle.sat_solver.specs.declared.error.SolverError.{SolverError}
 use Rattle.sat_solver.specs.names.Calls.{Does}
+use Rattle.sat_solver.specs.names.Coming.{MayTake}
+use Rattle.sat_solver.specs.session.Coming.{Comes}
 use Rattle.sat_solver.specs.names.Refusing.{names_in}
 use Rattle.sat_solver.specs.session.Making.{Took}
 use Rattle.sat_solver.specs.declared.solver.Solver.{Solver}
@@ -15,9 +17,11 @@ use Rattle.sat_solver.specs.solver.Whole.{IsWholeOf, steps_in}
 pub record AskedIn {W : Type 0} (seen : W → Writer) (old new : Solver W) (user : List ℕ) : Type 0 where
   pub whole : IsWholeOf new.core new.names new.asked user new.told.failed_core.items new.clock.restarts.scale new.state
   pub does : Does old.names new.names (steps_in old) (steps_in new) (bring_all (names_in user)) (due_for_asked user)
+  pub comes : Comes (MayTake (names_in user)) (steps_in old) (steps_in new)
   pub took : Took seen old.core.proof new.core.proof
   pub failed : new.failed ≡ old.failed
-  pub clock : new.clock ≡ old.clock
+  pub used : new.used ≡ old.used
+  pub config : new.core.config ≡ old.core.config
   pub state : Forgets old.state new.state
 
 abbrev pub Asks : {W : Type 0} → (W → Writer) → Result (Unit {0}) SolverError → Solver W → Solver W → List ℕ → Type 0

@@ -1,15 +1,18 @@
 -- What calls of a solver leave.
-use Rattle.std.specs.Prelude.{ℕ, ◌+◌, ◌-◌, ◌*◌, ◌<◌, ◌≤◌, ◌≡◌, ◌^◌, min, Bool, true, false, List, [], ◌∷◌, map, Result, Ok, Err}
+use Rattle.std.specs.Prelude.{ℕ, ◌+◌, ◌-◌, ◌*◌, ◌<◌, ◌≤◌, ◌≡◌, ◌^◌, Bool, true, false, List, [], ◌∷◌, map, Result, Ok, Err}
 use Rattle.sat_base.specs.device.Device.{Writer}
 use Rattle.sat_base.specs.script.Script.{names_of}
 use Rattle.sat_base.specs.script.Judge.{Judge}
+use Rattle.sat_solver.specs.bound.Counting.{CountsOn, steps_left}
 use Rattle.sat_solver.specs.declared.error.SolverError.{SolverError}
 use Rattle.sat_solver.specs.declared.error.SolverError.TheVariants as errors
 use Rattle.sat_solver.specs.names.Adding.{named_literal}
 use Rattle.sat_solver.specs.names.Calls.{Does}
 use Rattle.sat_solver.specs.names.Expected.{Expected, Shows, Fails}
-use Rattle.sat_solver.specs.search.Solving.{values_in}
+use Rattle.sat_solver.specs.search.Solving.{AdvancesIn, values_in}
+use Rattle.sat_solver.specs.session.Coming.{Comes, EndsAtUnsat}
 use Rattle.sat_solver.specs.session.Making.{Took}
+use Rattle.sat_solver.specs.session.ProofView.{Target, Closed, Open, Broken, target_of}
 use Rattle.sat_solver.specs.declared.solver.Solver.{Solver}
 use Rattle.sat_solver.specs.declared.solver.state.State.{State}
 use Rattle.sat_solver.specs.declared.solver.state.State.TheVariants as states
@@ -19,14 +22,23 @@ use Rattle.sat_solver.specs.solver.Whole.{IsWhole, steps_in, line_in}
 -- a call was carried out: what it does to the judge's state, and which steps it has made for it, whatever others come between
 pub record Did {W : Type 0} (seen : W → Writer) (old new : Solver W) (judge : Judge → Judge) (due : Judge → List Expected) : Type 0 where
   pub whole : IsWhole new
-  pub going : new.failed ≡ false
+  pub going : old.failed ≡ false
+  pub failed : new.failed ≡ false
+  pub used : new.used ≡ true
+  pub config : new.core.config ≡ old.core.config
   pub does : Does old.names new.names (steps_in old) (steps_in new) judge due
   pub took : Took seen old.core.proof new.core.proof
 
+-- rounds are counted on
+abbrev pub CountsRounds : {W : Type 0} → Solver W → Solver W → Type 0
+CountsRounds old new = CountsOn (values_in old.core) old.core.config.max_steps old.clock.steps new.clock.steps
+
 -- a call failed by what no input decides, and so does each one behind it
 pub record Ends {W : Type 0} (seen : W → Writer) (e : SolverError) (old new : Solver W) : Type 0 where
+  pub going : old.failed ≡ false
   pub failed : new.failed ≡ true
   pub breaks : Breaks seen e old.core new.core
+  pub counts : CountsRounds old new
 
 -- a call was refused, for this reason, and changed nothing
 pub record Refuses {W : Type 0} (old new : Solver W) (why : Type 0) : Type 0 where
@@ -44,20 +56,35 @@ told_as before now line asked core = []
 abbrev pub told_by : {W : Type 0} → State → Solver W → List Expected
 told_by before s = told_as before s.state (line_in s) s.assumed.items s.told.failed_core.items
 
--- how many rounds were made: fewer than 2^(2n+3) over n variables, as many as there may be where there's no answer, and an answer
--- wherever so many were left
+-- how many rounds were made: at least one for an answer that wasn't known, as many as there may be where there's no answer, and an
+-- answer wherever 2^(2n+3) of them might be made over n variables
 pub record Counts {W : Type 0} (old new : Solver W) : Type 0 where
-  pub few : new.clock.steps < old.clock.steps + 2 ^ (2 * values_in old.core + 3)
-  pub spent : new.state ≡ states.Unknown → new.clock.steps ≡ min (old.clock.steps + old.core.config.max_steps) (2 ^ 64 - 1)
-  pub answered : (n : ℕ) → values_in old.core ≤ n → 2 ^ (2 * n + 3) ≤ min old.core.config.max_steps (2 ^ 64 - 1 - old.clock.steps) → new.state ≡ states.Unknown → ⊥
+  pub on : CountsRounds old new
+  pub round : old.state ≡ states.Unknown → (new.state ≡ states.Unknown → ⊥) → old.clock.steps < new.clock.steps
+  pub spent : new.state ≡ states.Unknown → new.clock.steps ≡ old.clock.steps + steps_left old.core.config.max_steps old.clock.steps
+  pub answered : (n : ℕ) → values_in old.core ≤ n → 2 ^ (2 * n + 3) ≤ steps_left old.core.config.max_steps old.clock.steps → new.state ≡ states.Unknown → ⊥
 
--- an ask was looked at: the assumptions are as they were, and where an answer was known nothing has changed
+-- nothing waits for an open target, whose last call was a flush
+abbrev pub IsFlushed : Target → Type 0
+IsFlushed Closed = Unit {0}
+IsFlushed (Open s) = (s.waiting ≡ []) × (s.writer.flushed ≡ true)
+IsFlushed (Broken w) = Unit {0}
+
+-- the answer that was known is given again: nothing has changed but the target, to which what waited for it was written
+pub record AnswersAgain {W : Type 0} (old new : Solver W) : Type 0 where
+  pub steps : steps_in new ≡ steps_in old
+  pub same : new ≡ record old { core = record old.core { proof = new.core.proof }; used = true }
+
+-- an ask was looked at: names and assumptions are as they were, and without an answer each round derived a clause that advances
 pub record Answered {W : Type 0} (seen : W → Writer) (old new : Solver W) : Type 0 where
   pub did : Did seen old new (λ j. j) (λ j. told_by old.state new)
+  pub comes : Comes EndsAtUnsat (steps_in old) (steps_in new)
   pub assumed : new.assumed ≡ old.assumed
   pub names : new.names ≡ old.names
   pub counts : Counts old new
-  pub known : (old.state ≡ states.Unknown → ⊥) → (new.state ≡ old.state) × (new.clock ≡ old.clock) × (steps_in new ≡ steps_in old)
+  pub times : new.state ≡ states.Unknown → AdvancesIn (steps_in old) (steps_in new) (new.clock.steps - old.clock.steps)
+  pub flushed : IsFlushed (target_of seen new.core.proof)
+  pub known : (old.state ≡ states.Unknown → ⊥) → AnswersAgain old new
 
 abbrev pub is_answer : State → Bool → Type 0
 is_answer states.Unknown sat = ⊥

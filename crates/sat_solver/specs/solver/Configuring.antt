@@ -28,6 +28,7 @@ HandsOn st a b = Decays a b
 -- the parameters were changed, and nothing else that can be asked for
 pub record Configured {W : Type 0} (u : SolverConfigUpdate) (old new : Solver W) : Type 0 where
   pub going : old.failed ≡ false
+  pub range : in_range u ≡ true
   pub config : new.core.config ≡ updated u old.core.config
   pub proof : new.core.proof ≡ old.core.proof
   pub names : new.names ≡ old.names
@@ -38,9 +39,10 @@ pub record Configured {W : Type 0} (u : SolverConfigUpdate) (old new : Solver W)
   pub scale : new.clock.restarts.scale ≡ unwrap_or u.luby_restart_interval_scale old.clock.restarts.scale
   pub decays : HandsOn old.state (record old.core { config = updated u old.core.config }) new.core
   pub failed : new.failed ≡ false
+  pub used : new.used ≡ old.used
 
 abbrev pub Configures : {W : Type 0} → Result (Unit {0}) SolverError → SolverConfigUpdate → Solver W → Solver W → Type 0
 Configures (Ok x) u old new = Configured u old new
 Configures (Err errors.HasFailed) u old new = Refuses old new (old.failed ≡ true)
-Configures (Err errors.OutOfRange) u old new = Refuses old new (in_range u ≡ false)
+Configures (Err errors.OutOfRange) u old new = Refuses old new ((old.failed ≡ false) × (in_range u ≡ false))
 Configures (Err e) u old new = ⊥

@@ -50,7 +50,7 @@ pub record Renamed {W : Type 0} (seen : W → Writer) (old new : Solver W) (judg
 -- what came of a call that changes the mode of a name, or hides it
 abbrev pub ChangesMode : {W : Type 0} → (W → Writer) → Result (Unit {0}) SolverError → Solver W → Solver W → ℕ → (Judge → Judge) → (Judge → List Expected) → Type 0
 ChangesMode seen (Ok x) old new user judge due = (IsAsked old user → ⊥) × Renamed seen old new judge due
-ChangesMode seen (Err errors.AssumedVariable) old new user judge due = Refuses old new (IsAsked old user)
+ChangesMode seen (Err errors.AssumedVariable) old new user judge due = Refuses old new ((old.failed ≡ false) × IsAsked old user)
 ChangesMode seen (Err errors.HasFailed) old new user judge due = Refuses old new (old.failed ≡ true)
 ChangesMode seen (Err e) old new user judge due = EndsNames seen e old new
 
@@ -80,7 +80,10 @@ NamesNew seen (Err e) old new = NamesFail seen e old new
 -- each hidden variable that is kept got the next name and mode witness, by increasing variable, and what is known of an answer stands
 pub record Observed {W : Type 0} (seen : W → Writer) (old new : Solver W) (users : List ℕ) : Type 0 where
   pub whole : IsWhole new
-  pub going : new.failed ≡ false
+  pub going : old.failed ≡ false
+  pub failed : new.failed ≡ false
+  pub used : new.used ≡ true
+  pub config : new.core.config ≡ old.core.config
   pub observes : (j : Judge) (live : Live) → Agree old.names (steps_in old) j live → (k : Judge) × Observes 0 (steps_in old) j live (steps_in new) k users × Agree new.names (steps_in new) k live
   pub all : (v : ℕ) → IsHidden new.names v → ⊥
   pub took : Took seen old.core.proof new.core.proof

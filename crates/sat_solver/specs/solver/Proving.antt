@@ -16,6 +16,7 @@ use Rattle.sat_solver.specs.solver.Whole.{IsWhole, steps_in}
 pub record Opened {W : Type 0} (seen : W → Writer) (target : W) (old new : Solver W) : Type 0 where
   pub going : old.failed ≡ false
   pub first : old.used ≡ false
+  pub shut : is_open (target_of seen old.core.proof) ≡ false
   pub steps : steps_in new ≡ steps_in old
   pub target_is : target_of seen new.core.proof ≡ Open (empty_sink (seen target))
   pub same : new ≡ record old { core = record old.core { proof = new.core.proof } }
@@ -23,7 +24,7 @@ pub record Opened {W : Type 0} (seen : W → Writer) (target : W) (old new : Sol
 abbrev pub Opens : {W : Type 0} → (W → Writer) → Result (Unit {0}) SolverError → W → Solver W → Solver W → Type 0
 Opens seen (Ok x) target old new = Opened seen target old new
 Opens seen (Err errors.HasFailed) target old new = Refuses old new (old.failed ≡ true)
-Opens seen (Err errors.TooLate) target old new = Refuses old new ((old.used ≡ true) ⊎ (is_open (target_of seen old.core.proof) ≡ true))
+Opens seen (Err errors.TooLate) target old new = Refuses old new ((old.failed ≡ false) × ((old.used ≡ true) ⊎ (is_open (target_of seen old.core.proof) ≡ true)))
 Opens seen (Err e) target old new = ⊥
 
 -- the target came back, with the last step

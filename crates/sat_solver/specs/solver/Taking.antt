@@ -10,6 +10,8 @@ use Rattle.sat_solver.specs.declared.error.SolverError.TheVariants as errors
 use Rattle.sat_solver.specs.search.Going.{IsFault, Went}
 use Rattle.sat_solver.specs.names.Adding.{named_literal, Images}
 use Rattle.sat_solver.specs.names.Calls.{Does}
+use Rattle.sat_solver.specs.names.Coming.{MayAdd, MayTake}
+use Rattle.sat_solver.specs.session.Coming.{Comes}
 use Rattle.sat_solver.specs.names.Expected.{Adds, Opens, bringing}
 use Rattle.sat_solver.specs.names.Naming.{KeepsNames}
 use Rattle.sat_solver.specs.names.Refusing.{names_in}
@@ -31,6 +33,7 @@ GoesOnOr false n c = (session_of c.proof).unsat ≡ true
 pub record TookClause {W : Type 0} (seen : W → Writer) (n n' : Variables) (a b : Core W) (user : List ℕ) (left : Bool) : Type 0 where
   pub does : Does n n' (steps_of a.proof) (steps_of b.proof) (λ j. with_clause (map named_literal user) (bring_all (names_in user) j)) (λ j. bringing (names_in user) j ++ (Adds (map named_literal user) ∷ []))
   pub took : Took seen a.proof b.proof
+  pub comes : Comes (MayAdd (names_in user)) (steps_of a.proof) (steps_of b.proof)
   pub goes_on : GoesOnOr left n' b
   pub names : KeepsNames n n'
   pub images : KeepImages n n'
@@ -53,6 +56,7 @@ TakesClause seen r n n' a b user = MatchResult r (TookClause seen n n' a b user)
 -- assumptions came in, in place of others
 pub record TookAssumptions {W : Type 0} (seen : W → Writer) (n n' : Variables) (a b : Core W) (user : List ℕ) (t : Taken) : Type 0 where
   pub does : Does n n' (steps_of a.proof) (steps_of b.proof) (bring_all (names_in user)) (λ j. bringing (names_in user) j ++ (Opens (map named_literal user) ∷ []))
+  pub comes : Comes (MayTake (names_in user)) (steps_of a.proof) (steps_of b.proof)
   pub took : Took seen a.proof b.proof
   pub joined : IsJoined n' b
   pub config : b.config ≡ a.config

@@ -1,5 +1,5 @@
 -- What holds of a solver between calls.
-use Rattle.std.specs.Prelude.{ℕ, ◌<◌, ◌≡◌, true, false, List, map}
+use Rattle.std.specs.Prelude.{ℕ, ◌<◌, ◌≡◌, true, false, List, [], map}
 use Rattle.std.specs.List.{AllByRecursion}
 use Rattle.sat_base.specs.script.Script.{Literal, Among}
 use Rattle.sat_base.specs.steps.Steps.{Step}
@@ -41,8 +41,9 @@ line_in s = line_of s.names s.core
 abbrev pub HasModel : {W : Type 0} → Core W → Type 0
 HasModel c = IsComplete c.search.assumptions.lits.items c.search.parts
 
--- a failed core over names, of the assumptions: no valuation that the steps leave makes it true
+-- a failed core over names, of the assumptions, and not an empty one: no valuation that the steps leave makes it true
 pub record HasCore {W : Type 0} (c : Core W) (assumed core : List ℕ) : Type 0 where
+  pub some : core ≡ [] → ⊥
   pub codes : List ℕ
   pub none : (a : Valuation) → Holds (steps_of c.proof) a → EachTrue a codes → ⊥
   pub same : SameSet (variable_of (steps_of c.proof)) (map named_literal core) codes
@@ -66,6 +67,7 @@ pub record IsWholeOf {W : Type 0} (c : Core W) (n : Variables) (asked : Taken) (
   pub spelt : GlobalImages n assumed asked.globals.items
   pub globals : asked.globals.items ≡ (session_of c.proof).assumed
   pub positive : 0 < scale
+  pub scaled : scale ≡ c.config.luby_restart_interval_scale
   pub decays : AreDecays c.config
   pub says : StateSays state c n asked assumed core
 

@@ -2,6 +2,7 @@
 ghost use Rattle.std.specs.Prelude.{ℕ, List, ◌≡◌, ◌≢◌, ◌+◌, ◌-◌, ◌*◌, ◌^◌, ◌<◌, ◌≤◌, min, OnOk, IfOk, IfErr, MatchOption, None, Some};
 ghost use Rattle.sat_parts.specs.prop.TrailWord.{Letter};
 ghost use Rattle.sat_solver.specs.bound.Climbing.{Keeps, Climbs, StartsAnew, HasCome};
+ghost use Rattle.sat_solver.specs.bound.Counting.{CountsOn, steps_left};
 
 use crate::bound::restarts::{Restarts, begin_gap};
 
@@ -112,10 +113,10 @@ pub fn search<R: Rounds>(
     requires word { R.words rounds.old word }
     requires scale { 0 < restarts.old.scale }
     ensures scale { restarts.new.scale ≡ restarts.old.scale }
-    ensures counted { steps.old ≤ steps.new }
-    ensures few { steps.new < steps.old + 2 ^ (2 * R.most rounds.old + 3) }
-    ensures interrupted { IfOk result (λ r. r ≡ None → steps.new ≡ min (steps.old + max_steps) (2 ^ 64 - 1)) }
-    ensures answered { (n : ℕ) → R.most rounds.old ≤ n → 2 ^ (2 * n + 3) ≤ min max_steps (2 ^ 64 - 1 - steps.old) → IfOk result (λ r. r ≡ None → ⊥) }
+    ensures counts { CountsOn (R.most rounds.old) max_steps steps.old steps.new }
+    ensures round { IfOk result (λ r. (r ≡ None → ⊥) → steps.old < steps.new) }
+    ensures interrupted { IfOk result (λ r. r ≡ None → steps.new ≡ steps.old + steps_left max_steps steps.old) }
+    ensures answered { (n : ℕ) → R.most rounds.old ≤ n → 2 ^ (2 * n + 3) ≤ steps_left max_steps steps.old → IfOk result (λ r. r ≡ None → ⊥) }
     ensures goes { IfOk result (λ r. r ≡ None → R.sound rounds.new × (R.most rounds.new ≡ R.most rounds.old) × ((s : R) → R.goes s 0 rounds.old → R.goes s (steps.new - steps.old) rounds.new)) }
     ensures ends { IfOk result (λ r. MatchOption r (Unit {0}) (λ o. (s : R) → R.goes s 0 rounds.old → R.ends s o rounds.new)) }
     ensures fails { IfErr result (λ e. (s : R) → R.goes s 0 rounds.old → R.fails s e rounds.new) }

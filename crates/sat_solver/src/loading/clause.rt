@@ -1,7 +1,8 @@
 //! A clause comes to a search.
-ghost use Rattle.std.specs.Prelude.{ℕ, ◌≡◌, ◌<◌, ◌∷◌, length, map, slice_index_or, true};
+ghost use Rattle.std.specs.Prelude.{ℕ, ◌≡◌, ◌<◌, ◌∷◌, length, map, slice_index_or, true, OnOk};
 ghost use Rattle.sat_base.specs.values.Literals.{variable};
 ghost use Rattle.sat_base.specs.steps.Steps.{DeleteClause, Satisfied};
+ghost use Rattle.sat_solver.specs.session.Coming.{Comes, Deletes};
 ghost use Rattle.sat_solver.specs.session.Session.{May};
 ghost use Rattle.sat_solver.specs.session.LiveClauses.{with_var};
 ghost use Rattle.sat_solver.specs.session.ProofView.{Keeps, steps_of, session_of};
@@ -76,7 +77,8 @@ pub fn load_clause<W: CountedWrite + Drop>(
     requires keeps { Keeps proof.old }
     requires added { IsAdded (steps_of proof.old) search.old lits.now }
     requires may { MayLoad search.old lits.now }
-    ensures { Goes W.seen result proof.old proof.new (λ left _. IsLoaded left (session_of proof.new) search.old search.new) }
+    ensures goes { Goes W.seen result proof.old proof.new (λ left _. IsLoaded left (session_of proof.new) search.old search.new) }
+    ensures comes { OnOk result (Comes Deletes (steps_of proof.old) (steps_of proof.new)) }
 {
     make_ready(&mut search.parts, lits);
     let loaded = load(&mut search.parts, lits, sorting)?;

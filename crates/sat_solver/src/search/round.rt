@@ -7,7 +7,7 @@ ghost use Rattle.sat_solver.specs.joint.Fits.{FitsParts, HaveNames};
 ghost use Rattle.sat_solver.specs.search.Going.{Goes};
 ghost use Rattle.sat_solver.specs.search.Joint.{IsSearch};
 ghost use Rattle.sat_solver.specs.search.Turns.{IsStopped};
-ghost use Rattle.sat_solver.specs.search.Rounds.{RoundSays};
+ghost use Rattle.sat_solver.specs.search.Rounds.{LastRefutes, RoundSays};
 
 use crate::SolverError;
 use crate::bound::search::Outcome;
@@ -36,7 +36,7 @@ fn refute<W: CountedWrite + Drop>(
     requires fits { FitsParts parts.now (session_of proof.old) (global_of globals.now) }
     requires named { HaveNames parts.now.assignment.current (session_of proof.old) (global_of globals.now) }
     requires names { length parts.now.assignment.current ≤ length globals.now }
-    ensures { Goes W.seen result proof.old proof.new (λ _ _. (session_of proof.new).unsat ≡ true) }
+    ensures { Goes W.seen result proof.old proof.new (λ _ steps. LastRefutes (steps_of proof.old) steps (session_of proof.new)) }
 {
     write_units(proof, parts, globals, &mut scratch.units)?;
     if name_clauses(parts, &[], conflict, &mut scratch.hashes).is_err() {

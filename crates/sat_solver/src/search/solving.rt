@@ -1,5 +1,6 @@
 //! Rounds up to an answer.
 ghost use Rattle.std.specs.Prelude.{ℕ, ◌≡◌, ◌+◌, ◌-◌, ◌*◌, ◌^◌, ◌<◌, ◌≤◌, min, IfOk, IfErr, MatchOption, None};
+ghost use Rattle.sat_solver.specs.bound.Counting.{CountsOn, steps_left};
 ghost use Rattle.sat_solver.specs.search.Solving.{IsCore, words_in, values_in, Gone, Ended, Broke};
 
 use crate::bound::restarts::Restarts;
@@ -61,10 +62,10 @@ pub fn solve<W: CountedWrite + Drop>(
     requires core { IsCore core.old }
     requires scale { 0 < restarts.old.scale }
     ensures scale { restarts.new.scale ≡ restarts.old.scale }
-    ensures counted { steps.old ≤ steps.new }
-    ensures few { steps.new < steps.old + 2 ^ (2 * values_in core.old + 3) }
-    ensures interrupted { IfOk result (λ r. r ≡ None → steps.new ≡ min (steps.old + max_steps) (2 ^ 64 - 1)) }
-    ensures answered { (n : ℕ) → values_in core.old ≤ n → 2 ^ (2 * n + 3) ≤ min max_steps (2 ^ 64 - 1 - steps.old) → IfOk result (λ r. r ≡ None → ⊥) }
+    ensures counts { CountsOn (values_in core.old) max_steps steps.old steps.new }
+    ensures round { IfOk result (λ r. (r ≡ None → ⊥) → steps.old < steps.new) }
+    ensures interrupted { IfOk result (λ r. r ≡ None → steps.new ≡ steps.old + steps_left max_steps steps.old) }
+    ensures answered { (n : ℕ) → values_in core.old ≤ n → 2 ^ (2 * n + 3) ≤ steps_left max_steps steps.old → IfOk result (λ r. r ≡ None → ⊥) }
     ensures goes { IfOk result (λ r. r ≡ None → IsCore core.new × Gone W.seen core.old (steps.new - steps.old) core.new) }
     ensures ends { IfOk result (λ r. MatchOption r (Unit {0}) (λ o. Ended W.seen core.old o core.new)) }
     ensures fails { IfErr result (λ e. Broke W.seen core.old e core.new) }

@@ -2,7 +2,7 @@
 ghost use Rattle.std.specs.Prelude.{◌≡◌, true, false};
 ghost use Rattle.sat_solver.specs.names.Adding.{NoWitness};
 ghost use Rattle.sat_solver.specs.declared.solver.state.State.TheVariants.{Unsat};
-ghost use Rattle.sat_solver.specs.solver.Adding.{AddsClause, TakesIn, due_for_clause, with_added};
+ghost use Rattle.sat_solver.specs.solver.Adding.{AddsClause, TakesIn};
 ghost use Rattle.sat_solver.specs.solver.Whole.{IsSolver, IsWhole};
 
 use crate::SolverError;
@@ -19,8 +19,9 @@ impl<W: CountedWrite + Drop> Solver<W> {
     fn leave_out(&mut self, lits: &[Lit]) -> Result<(), SolverError>
         requires whole { IsWhole self.old }
         requires unsat { self.old.state ≡ Unsat }
-        ensures takes { TakesIn W.seen result self.old self.new (with_added lits.now) (due_for_clause Unsat lits.now) }
+        ensures takes { TakesIn W.seen result self.old self.new lits.now }
         ensures assumed { self.new.assumed ≡ self.old.assumed }
+        ensures clock { self.new.clock ≡ self.old.clock }
     {
         match leave_out_clause(&mut self.names, &mut self.core.proof, lits) {
             Ok(()) => Ok(()),
@@ -32,8 +33,9 @@ impl<W: CountedWrite + Drop> Solver<W> {
     fn take(&mut self, lits: &[Lit]) -> Result<(), SolverError>
         requires whole { IsWhole self.old }
         requires sampled { NoWitness self.old.names lits.now }
-        ensures takes { TakesIn W.seen result self.old self.new (with_added lits.now) (due_for_clause self.old.state lits.now) }
+        ensures takes { TakesIn W.seen result self.old self.new lits.now }
         ensures assumed { self.new.assumed ≡ self.old.assumed }
+        ensures clock { self.new.clock ≡ self.old.clock }
     {
         match self.state {
             State::Unsat => return self.leave_out(lits),

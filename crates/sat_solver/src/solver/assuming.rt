@@ -23,7 +23,8 @@ impl<W: CountedWrite + Drop> Solver<W> {
         requires whole { IsWhole self.old }
         requires unsat { self.old.state ≡ Unsat }
         requires sampled { NoWitness self.old.names lits.now }
-        ensures { Asks W.seen result self.old self.new lits.now }
+        ensures asks { Asks W.seen result self.old self.new lits.now }
+        ensures clock { self.new.clock ≡ self.old.clock }
     {
         match assume(&mut self.names, &mut self.core.proof, lits, &mut self.asked) {
             Ok(()) => Ok(()),
@@ -35,7 +36,8 @@ impl<W: CountedWrite + Drop> Solver<W> {
     fn ask(&mut self, lits: &[Lit]) -> Result<(), SolverError>
         requires whole { IsWhole self.old }
         requires sampled { NoWitness self.old.names lits.now }
-        ensures { Asks W.seen result self.old self.new lits.now }
+        ensures asks { Asks W.seen result self.old self.new lits.now }
+        ensures clock { self.new.clock ≡ self.old.clock }
     {
         match self.state {
             State::Unsat => return self.ask_known(lits),

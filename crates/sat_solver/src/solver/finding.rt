@@ -1,5 +1,6 @@
 //! Rounds up to an answer, which is told by its step.
 ghost use Rattle.std.specs.Prelude.{ℕ, ◌≡◌, ◌+◌, ◌-◌, ◌*◌, ◌^◌, ◌<◌, ◌≤◌, min, IfOk, IfErr, None};
+ghost use Rattle.sat_solver.specs.bound.Counting.{CountsOn, steps_left};
 ghost use Rattle.sat_solver.specs.search.Solving.{values_in};
 ghost use Rattle.sat_solver.specs.solver.Joined.{IsJoined};
 ghost use Rattle.sat_solver.specs.solver.Answering.{Breaks};
@@ -62,10 +63,10 @@ pub fn find_answer<W: CountedWrite + Drop>(
     requires joined { IsJoined names.now core.old }
     requires scale { 0 < clock.old.restarts.scale }
     ensures scale { clock.new.restarts.scale ≡ clock.old.restarts.scale }
-    ensures counted { clock.old.steps ≤ clock.new.steps }
-    ensures few { clock.new.steps < clock.old.steps + 2 ^ (2 * values_in core.old + 3) }
-    ensures interrupted { IfOk result (λ r. r ≡ None → clock.new.steps ≡ min (clock.old.steps + core.old.config.max_steps) (2 ^ 64 - 1)) }
-    ensures answered { (n : ℕ) → values_in core.old ≤ n → 2 ^ (2 * n + 3) ≤ min core.old.config.max_steps (2 ^ 64 - 1 - clock.old.steps) → IfOk result (λ r. r ≡ None → ⊥) }
+    ensures counts { CountsOn (values_in core.old) core.old.config.max_steps clock.old.steps clock.new.steps }
+    ensures round { IfOk result (λ r. (r ≡ None → ⊥) → clock.old.steps < clock.new.steps) }
+    ensures interrupted { IfOk result (λ r. r ≡ None → clock.new.steps ≡ clock.old.steps + steps_left core.old.config.max_steps clock.old.steps) }
+    ensures answered { (n : ℕ) → values_in core.old ≤ n → 2 ^ (2 * n + 3) ≤ steps_left core.old.config.max_steps clock.old.steps → IfOk result (λ r. r ≡ None → ⊥) }
     ensures finds { IfOk result (λ r. Finds W.seen r (clock.new.steps - clock.old.steps) names.now core.old core.new told.new.failed_core.items) }
     ensures breaks { IfErr result (λ e. Breaks W.seen e core.old core.new) }
 {

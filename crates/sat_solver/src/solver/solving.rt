@@ -1,8 +1,9 @@
 //! Answers under assumptions.
-ghost use Rattle.std.specs.Prelude.{ℕ, ◌≡◌, ◌+◌, ◌-◌, ◌*◌, ◌^◌, ◌<◌, ◌≤◌, min, true, false, IsErrOf};
+ghost use Rattle.std.specs.Prelude.{ℕ, ◌≡◌, ◌+◌, ◌-◌, ◌*◌, ◌^◌, ◌<◌, ◌≤◌, min, true, false, IsErrOf, OnOk};
 ghost use Rattle.sat_solver.specs.search.Solving.{values_in};
 ghost use Rattle.sat_solver.specs.solver.Whole.{IsSolver, IsWhole};
-ghost use Rattle.sat_solver.specs.solver.Calls.{Solves};
+ghost use Rattle.sat_solver.specs.session.ProofView.{target_of};
+ghost use Rattle.sat_solver.specs.solver.Calls.{Solves, IsFlushed};
 ghost use Rattle.sat_solver.specs.solver.Settling.{Settles};
 
 use crate::SolverError;
@@ -34,7 +35,8 @@ impl<W: CountedWrite + Drop> Solver<W> {
     /// The same, and flushes an open target.
     fn settle_and_flush(&mut self) -> Result<(), SolverError>
         requires whole { IsWhole self.old }
-        ensures { Settles W.seen result self.old self.new }
+        ensures settles { Settles W.seen result self.old self.new }
+        ensures flushed { OnOk result (IsFlushed (target_of W.seen self.new.core.proof)) }
     {
         self.settle()?;
         match self.core.proof.flush() {

@@ -1,5 +1,5 @@
 -- A clause or assumptions, as they were taken and written.
-use Rattle.std.proofs.Common.{ℕ, ◌<◌, ◌≡◌, Bool, None, Some, List, [], ◌∷◌, map, length, get_or, true, ◌||◌, eqb, inl, inr, sym, ◌∙◌, ap, subst, arith}
+use Rattle.std.proofs.Common.{ℕ, ◌<◌, ◌≡◌, Bool, None, Some, List, [], ◌∷◌, map, length, get_or, true, ◌||◌, eqb, inl, inr, refl, sym, ◌∙◌, ap, subst, arith}
 use Rattle.std.proofs.lemmas.Bool.{eq-eqb, or_right}
 use Rattle.sat_base.specs.values.Literals.{variable, is_positive}
 use Rattle.sat_base.specs.script.Script.{Among}
@@ -20,6 +20,8 @@ use Rattle.sat_solver.specs.names.Search.{Gives}
 use Rattle.sat_solver.specs.names.Calls.{Does}
 use Rattle.sat_solver.specs.declared.names.Variables.{Variables}
 use Rattle.sat_solver.specs.declared.names.taking.Taken.{Taken}
+use Rattle.sat_solver.specs.names.Coming.{MayTake}
+use Rattle.sat_solver.proofs.lemmas.session.ComingLemmas.{comes_one, comes_both}
 use Rattle.sat_solver.proofs.lemmas.names.Doing.{does_both}
 use Rattle.sat_solver.proofs.lemmas.names.Extending.{extends_both}
 use Rattle.sat_solver.proofs.lemmas.names.Giving.{gives_unseen}
@@ -48,6 +50,7 @@ clause_added old mid from mids to user t u both_signs takes maps signs order giv
   between = mids;
   written = e;
   search = takes.search;
+  comes = comes_both (MayTake (names_in user)) from mids to takes.comes (comes_one (MayTake (names_in user)) mids to (AddClause u.globals.items) e refl);
 }
 
 pub assumed_literals : (old mid : Variables) (user : List ℕ) (t u : Taken) → AreTidy mid → Extends old mid → NoWitness old user → Images mid user t.order.items → u.globals.items ≡ map (with_var (global_in mid)) t.order.items → SameLiterals mid user u.globals.items
@@ -85,6 +88,7 @@ assumptions_added old mid new from mids to user t u takes put globals order give
   between = mids;
   written = e;
   search = takes.search;
+  comes = comes_both (MayTake (names_in user)) from mids to takes.comes (comes_one (MayTake (names_in user)) mids to (Assumptions u.globals.items) e refl);
 }
 
 -- WITHIN

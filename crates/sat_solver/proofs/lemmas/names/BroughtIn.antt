@@ -2,7 +2,7 @@
 use Rattle.std.proofs.Common.{ℕ, ◌+◌, ◌-◌, ◌<◌, ◌≤◌, ◌≡◌, Bool, true, false, not, ◌&&◌, cond, ltb, lt-ltb, List, [], ◌∷◌, map, Option, Some, None, is_some, refl, sym, ◌∙◌, ap, subst, arith, Result, Ok, Err, IfOk, OnOk}
 use Rattle.std.proofs.lemmas.Bool.{le-ltb, ltb-true}
 use Rattle.sat_base.specs.script.Judge.{Judge, identity_of, with_names, names_from, new_names}
-use Rattle.sat_base.specs.steps.Steps.{Step}
+use Rattle.sat_base.specs.steps.Steps.{Step, UserVarName}
 use Rattle.sat_solver.specs.names.Free.{is_free}
 use Rattle.sat_solver.specs.names.Live.{Live, given_of}
 use Rattle.sat_solver.specs.names.Variables.{data_at, global_of, names_used, AreTidy, AreJudged}
@@ -12,6 +12,8 @@ use Rattle.sat_solver.specs.declared.names.Variables.{Variables}
 use Rattle.sat_solver.proofs.lemmas.names.NamingSteps.{none_brought, one_then}
 use Rattle.sat_solver.proofs.lemmas.names.Extending.{extends_same}
 use Rattle.sat_solver.proofs.lemmas.names.Giving.{unseen_same}
+use Rattle.sat_solver.specs.names.Coming.{IsDue}
+use Rattle.sat_solver.proofs.lemmas.session.ComingLemmas.{comes_none, comes_one}
 
 as_new : (old new : Variables) (from to : List Step) (user : ℕ) (names : List ℕ) → ((j : Judge) (live : Live) → AreJudged old j live → new_names (user + 1) j ≡ names) → NamesAll old new from to names → BringsIn old new from to user
 as_new old new from to user names is all = record {
@@ -49,14 +51,14 @@ brings_again old new from to user v lt e one = as_new old new from to user ((use
     is j live judged = below old user lt j live judged ∙ ap (λ o. cond (is_some (given_of live o)) [] ((user + 1) ∷ [])) e
 
 pub brought_none : (old : Variables) (from : List Step) (user v : ℕ) → Stands old from → user < names_used old → global_of old user ≡ Some v → Brought old old from from user
-brought_none old from user v stands lt e = record { brings = brings_none old from user v stands lt e; extends = extends_same old; unseen = unseen_same old from }
+brought_none old from user v stands lt e = record { brings = brings_none old from user v stands lt e; extends = extends_same old; unseen = unseen_same old from; comes = comes_none IsDue from }
 
 pub ok_new : {A E : Type 0} (r : Result A E) (old new : Variables) (from to : List Step) (user : ℕ) → names_used old ≤ user → OnOk r (NamesAll old new from to (names_from (user + 1 - names_used old) (names_used old + 1))) → OnOk r (Brought old new from to user)
-ok_new (Ok x) old new from to user le p = record { brings = brings_new old new from to user le p; extends = p.extends; unseen = p.unseen }
+ok_new (Ok x) old new from to user le p = record { brings = brings_new old new from to user le p; extends = p.extends; unseen = p.unseen; comes = p.comes }
 ok_new (Err e) old new from to user le p = tt
 
 pub ok_again : {E : Type 0} (r : Result ℕ E) (old new : Variables) (from to : List Step) (user : ℕ) → user < names_used old → global_of old user ≡ None → IfOk r (λ v. NamesOne old new from to user v) → OnOk r (Brought old new from to user)
-ok_again (Ok v) old new from to user lt e p = record { brings = brings_again old new from to user v lt e p; extends = p.extends; unseen = p.unseen }
+ok_again (Ok v) old new from to user lt e p = record { brings = brings_again old new from to user v lt e p; extends = p.extends; unseen = p.unseen; comes = comes_one IsDue from to (UserVarName v (Some user)) p.step refl }
 ok_again (Err x) old new from to user lt e p = tt
 
 pub hidden_name : (n : Variables) (u : ℕ) → AreTidy n → is_free n.free_users u ≡ true → (global_of n u ≡ None) × (u ≤ names_used n)

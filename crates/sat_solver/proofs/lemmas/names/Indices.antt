@@ -1,5 +1,5 @@
 -- Indices of the search that come and go.
-use Rattle.std.proofs.Common.{ℕ, ◌+◌, ◌<◌, ◌≤◌, ◌≡◌, max, Bool, true, false, not, ◌&&◌, ◌||◌, cond, eqb, ltb, List, [], ◌∷◌, ◌++◌, length, get_or, Option, Some, None, is_some, refl, sym, ◌∙◌, ap, subst, arith}
+use Rattle.std.proofs.Common.{ℕ, ◌+◌, ◌<◌, ◌≤◌, ◌≡◌, max, Bool, true, false, not, ◌&&◌, ◌||◌, cond, eqb, ltb, List, [], ◌∷◌, ◌++◌, length, get_or, Option, Some, None, is_some, refl, sym, ◌∙◌, ap, subst, arith, inl, inr}
 use Rattle.std.proofs.lemmas.Bool.{eqb-true, eqb-false, eq-eqb, lt-ltb, true≢false}
 use Rattle.std.proofs.lemmas.List.{append-nil}
 use Rattle.sat_base.specs.values.Literals.{coded}
@@ -234,6 +234,7 @@ index_given old new from to before after v g stands alive without free low unit 
   fresh = g ∷ [];
   listed = l;
   gives = gives_one old new (session_after from) v g without free put (λ b. stands.said.units v without b ∙ ap (λ o. says_unit o b) (sym unit));
+  step = inr e;
 }
 
 pub index_had : (old : Variables) (from : List Step) (given : List Given) (v x : ℕ) → Stands old from → solver_of old v ≡ Some x → Indexes old old from from given given v x
@@ -246,6 +247,7 @@ index_had old from given v x stands e = record {
   fresh = [];
   listed = sym (append-nil given);
   gives = gives_none old (session_after from);
+  step = inl refl;
 }
 
 pub index_taken : (old new : Variables) (from to : List Step) (v x : ℕ) → Stands old from → solver_of old v ≡ Some x → IsUnitOf old (session_after from) v → IsUnused (session_after from) v → PutsIndex old new v x false → new.globals ≡ old.globals → to ≡ SolverVarName v None ∷ from → Unindexes old new from to v x

@@ -25,23 +25,29 @@ use Rattle.sat_solver.proofs.lemmas.names.Giving.{unseen_same, unseen_both}
 use Rattle.sat_solver.proofs.lemmas.names.NamedAgain.{InUse, left_out}
 use Rattle.sat_solver.proofs.lemmas.names.NewName.{none_or}
 use Rattle.sat_solver.proofs.lemmas.names.TakenNames.{Brings}
+use Rattle.sat_solver.specs.session.Coming.{Comes}
+use Rattle.sat_solver.specs.names.Coming.{IsDue}
+use Rattle.sat_solver.proofs.lemmas.session.ComingLemmas.{comes_none, comes_both}
+use Rattle.sat_solver.proofs.lemmas.names.ComingSteps.{comes_due}
 
 -- so many names came in
 pub record Bringing (old now : Variables) (from steps : List Step) (all : List ℕ) (index : ℕ) : Type 0 where
   pub stands : Stands now steps
   pub extends : Extends old now
   pub unseen : IsUnseen old now from steps
+  pub comes : Comes IsDue from steps
   pub named : (k : ℕ) → k < index → (v : ℕ) × (global_of now (variable (get_or all k 0)) ≡ Some v)
   pub rest : (new : Variables) (to : List Step) → Brings now new steps to (drop index all) → Brings old new from to all
 
 pub bring_begins : (old : Variables) (from : List Step) (all : List ℕ) → Stands old from → Bringing old old from from all 0
-bring_begins old from all stands = record { stands = stands; extends = extends_same old; unseen = unseen_same old from; named = λ k lt. absurd (let z : k < 0 = lt in omega arith); rest = λ new to more. more }
+bring_begins old from all stands = record { stands = stands; extends = extends_same old; unseen = unseen_same old from; comes = comes_none IsDue from; named = λ k lt. absurd (let z : k < 0 = lt in omega arith); rest = λ new to more. more }
 
 pub bring_goes : (old now new : Variables) (from steps to : List Step) (all : List ℕ) (index l v : ℕ) → Bringing old now from steps all index → index < length all → l ≡ get_or all index 0 → Brought now new steps to (variable l) → global_of new (variable l) ≡ Some v → Bringing old new from to all (index + 1)
 bring_goes old now new from steps to all index l v b lt at brought named = record {
   stands = brought.brings.stands;
   extends = extends_both old now new b.extends brought.extends;
   unseen = unseen_both old now new from steps to b.unseen brought.unseen;
+  comes = comes_both IsDue from steps to b.comes brought.comes;
   named = λ k m. elim (cases_eq k index) [
     | inl same ↦ (v, ap (λ i. global_of new (variable (get_or all i 0))) same ∙ ap (λ x. global_of new (variable x)) (sym at) ∙ named)
     | inr differ ↦ (let p = b.named k (omega arith) in (p.0, (brought.extends.stays (variable (get_or all k 0)) p.0 p.1).0))
@@ -88,6 +94,7 @@ brought_out old new from to all index le unsat b = record {
   };
   extends = b.extends;
   unseen = b.unseen;
+  comes = comes_due (names_in all) from to b.comes;
 }
   where
     brings : Brings old new from to all

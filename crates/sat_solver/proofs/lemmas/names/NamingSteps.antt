@@ -23,6 +23,8 @@ use Rattle.sat_solver.specs.names.Search.{KeepsSearch}
 use Rattle.sat_solver.proofs.lemmas.names.Giving.{unseen_same, unseen_both}
 use Rattle.sat_solver.proofs.lemmas.names.Extending.{extends_same, extends_both, extends_named}
 use Rattle.sat_solver.proofs.lemmas.names.CheckerIsSound.{the_checking_sound}
+use Rattle.sat_solver.specs.names.Coming.{IsDue}
+use Rattle.sat_solver.proofs.lemmas.session.ComingLemmas.{comes_none, comes_one, comes_both}
 
 -- what the steps say a variable is, where the checker knows it
 pub known_as : (steps : List Step) (n : Variables) (v : ℕ) → MayAll steps → AreSaid n (session_after steps) → the_checking.knows steps v ≡ (variable_at n v).known
@@ -64,13 +66,14 @@ name_given old new from to user v stands free within room small put e = record {
     accepted = (sessions_are_accepted (UserVarName v (Some user) ∷ from) (stands.may, step_may old from user v stands free room within small new put)).0.1
 
 pub none_brought : (n : Variables) (log : List Step) → Stands n log → NamesAll n n log log []
-none_brought n log stands = record { stands = stands; extends = extends_same n; unseen = unseen_same n log; kept = λ j live a. record { live = live; agree = a; writes = written } }
+none_brought n log stands = record { stands = stands; extends = extends_same n; unseen = unseen_same n log; comes = comes_none IsDue log; kept = λ j live a. record { live = live; agree = a; writes = written } }
 
 pub one_then : (old mid new : Variables) (from mids to : List Step) (user v : ℕ) (names : List ℕ) → NamesOne old mid from mids user v → NamesAll mid new mids to names → NamesAll old new from to ((user + 1) ∷ names)
 one_then old mid new from mids to user v names one rest = record {
   stands = rest.stands;
   extends = extends_both old mid new one.extends rest.extends;
   unseen = unseen_both old mid new from mids to one.unseen rest.unseen;
+  comes = comes_both IsDue from mids to (comes_one IsDue from mids (UserVarName v (Some user)) one.step refl) rest.comes;
   kept = λ j live a.
       let k = rest.kept (with_name (user + 1) j) ((v, j.next_identity) ∷ live) (one.kept j live a) in
       record {

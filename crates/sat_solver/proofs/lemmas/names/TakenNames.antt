@@ -27,6 +27,10 @@ use Rattle.sat_solver.proofs.lemmas.names.MapLemmas.{pushed, some_within}
 use Rattle.sat_solver.proofs.lemmas.names.LiteralValues.{all_from, coded_half}
 use Rattle.sat_solver.proofs.lemmas.names.Doing.{does_none, does_both}
 use Rattle.sat_solver.proofs.lemmas.names.Extending.{extends_same, extends_both, extends_kept}
+use Rattle.sat_solver.specs.session.Coming.{Comes}
+use Rattle.sat_solver.specs.names.Coming.{MayTake}
+use Rattle.sat_solver.proofs.lemmas.session.ComingLemmas.{comes_none, comes_both}
+use Rattle.sat_solver.proofs.lemmas.names.ComingSteps.{name_among, comes_due, comes_index}
 use Rattle.sat_solver.proofs.lemmas.names.Giving.{keeps_same, keeps_both, gives_none, gives_unseen, gives_both}
 
 -- the names of these literals are brought in
@@ -42,6 +46,7 @@ pub record Taking (old now : Variables) (from steps : List Step) (all : List ℕ
   pub each : (k : ℕ) → k < index → Image now (get_or all k 0) (get_or items k 0)
   pub gives : Gives old now (session_after from) given
   pub search : KeepsSearch (session_after from) (session_after steps)
+  pub comes : Comes (MayTake (names_in all)) from steps
   pub rest : (new : Variables) (to : List Step) → Brings now new steps to (drop index all) → Brings old new from to all
 
 image_stays : (old new : Variables) (l code : ℕ) → Extends old new → ((v x : ℕ) → solver_of old v ≡ Some x → solver_of new v ≡ Some x) → Image old l code → Image new l code
@@ -60,6 +65,8 @@ one_taken old now mid new from log mids to all items next before after index l v
       (gives_both old mid new (session_after from) (session_after mids) before indexes.fresh t.first brought.brings.stands.tidy.solvers indexes.does.stands.tidy.solvers (brought.unseen.search.units ∙ t.search.units)
       (gives_unseen old now mid (session_after from) before t.gives brought.unseen.solvers) indexes.gives);
   search = keeps_both (session_after from) (session_after log) (session_after to) t.search (keeps_both (session_after log) (session_after mids) (session_after to) brought.unseen.search indexes.search);
+  comes = comes_both (MayTake (names_in all)) from log to t.comes (comes_both (MayTake (names_in all)) log mids to (comes_due (names_in all) log mids brought.comes)
+      (comes_index (names_in all) mids to (variable l + 1) v x (subst (λ k. Among (variable k + 1) (names_in all)) (sym at) (name_among all index lt)) (brought.brings.stands.read (variable l) ∙ named) indexes.step));
   rest = λ last end more. t.rest last end (subst (Brings now last log end) (sym (drop_more all index 0 lt ∙ ap (λ y. y ∷ drop (index + 1) all) (sym at))) (
       does_both now mid last log mids end (bring_in (variable l + 1)) (bring_all (names_in (drop (index + 1) all))) (λ j. map NewName (new_names (variable l + 1) j)) (bringing (names_in (drop (index + 1) all))) brought.brings
       (does_both mid new last mids to end (λ j. j) (bring_all (names_in (drop (index + 1) all))) (λ j. []) (bringing (names_in (drop (index + 1) all))) indexes.does more)));
@@ -92,6 +99,7 @@ none_taken old from all items given stands e f = record {
   each = λ k lt. absurd (let z : k < 0 = lt in omega arith);
   gives = subst (Gives old old (session_after from)) (sym f) (gives_none old (session_after from));
   search = keeps_same (session_after from);
+  comes = comes_none (MayTake (names_in all)) from;
   rest = λ new to more. more;
 }
 
@@ -102,6 +110,7 @@ all_taken old new from to all t index le ge taking = record {
   images = record { count = let c = taking.count in omega arith; each = λ k lt. taking.each k (omega arith) };
   gives = taking.gives;
   search = taking.search;
+  comes = taking.comes;
 }
 
 -- FROM PLACES TO SETS

@@ -1,5 +1,5 @@
 -- Rounds, one after another.
-use Rattle.std.proofs.Common.{ℕ, ◌+◌, ◌≤◌, ◌≡◌, ◌≢◌, ◌∙◌, Result, Ok, Err, List, [], ◌∷◌, ◌++◌, length, refl, sym, subst, arith, append_assoc, inl, inr}
+use Rattle.std.proofs.Common.{ℕ, ◌+◌, ◌≤◌, ◌≡◌, ◌≢◌, ◌∙◌, Result, Ok, Err, List, [], ◌∷◌, ◌++◌, length, refl, sym, ap, subst, arith, append_assoc, inl, inr}
 use Rattle.std.specs.Prelude.{OnOk, IfOk, IfErr, MatchOption, Option, None, Some}
 use Rattle.sat_base.specs.device.Device.{Writer}
 use Rattle.sat_base.specs.steps.Steps.{Step}
@@ -7,6 +7,8 @@ use Rattle.sat_parts.specs.prop.TrailWord.{Letter}
 use Rattle.sat_solver.specs.session.ProofView.{Adds, Keeps, steps_of, session_of}
 use Rattle.sat_solver.specs.session.Session.{Session, session_after}
 use Rattle.sat_solver.proofs.lemmas.session.ProofLemmas.{adds_none, adds_more}
+use Rattle.sat_solver.specs.session.Coming.{Comes, EndsAtUnsat}
+use Rattle.sat_solver.proofs.lemmas.session.ComingLemmas.{comes_open, comes_last}
 use Rattle.sat_solver.specs.declared.parts.Parts.{Parts}
 use Rattle.sat_solver.specs.parts.Assumed.{variables, ArePlaced}
 use Rattle.sat_solver.specs.parts.Whole.{state, Holds}
@@ -128,11 +130,23 @@ module _ {W : Type 0} (seen : W → Writer) where
         (one_times (steps_of s.proof) gone.steps g.steps k (subst (λ zs. LastAdvances zs g.steps) gone.adds.history l.last) gone.times))
     round_goes (Err e) g = tt
 
+    behind : (s : Core W) (steps before : List Step) → steps_of b.proof ≡ steps ++ steps_of a.proof → steps_of a.proof ≡ before ++ steps_of s.proof → steps_of b.proof ≡ (steps ++ before) ++ steps_of s.proof
+    behind s steps before e f = e ∙ ap (λ ss. steps ++ ss) f ∙ sym (append_assoc steps before (steps_of s.proof))
+
     end_says : (o : Outcome) (earlier steps : List Step) (s : Session) (c : Search) → o ≢ outcomes.Learned → Moved c a.search → RoundSays o earlier steps s a.search b.search → EndSays o s c b.search
     end_says outcomes.Learned earlier steps s c n m x = absurd (n refl)
     end_says outcomes.Model earlier steps s c n m x = record { search = x.search; moved = moved_trans c a.search b.search m x.moved; complete = x.complete }
-    end_says outcomes.Unsat earlier steps s c n m x = x
+    end_says outcomes.Unsat earlier steps s c n m x = x.now
     end_says outcomes.Failed earlier steps s c n m x = record { search = x.search; moved = moved_trans c a.search b.search m x.moved; failing = x.failing }
+
+    end_comes : (o : Outcome) (steps : List Step) → o ≢ outcomes.Learned → steps_of b.proof ≡ steps ++ steps_of a.proof → RoundSays o (steps_of a.proof) steps (session_of b.proof) a.search b.search →
+        (s : Core W) (before : List Step) → steps_of a.proof ≡ before ++ steps_of s.proof → Comes EndsAtUnsat (steps_of s.proof) (steps_of b.proof)
+    end_comes outcomes.Learned steps n e x s before f = absurd (n refl)
+    end_comes outcomes.Model steps n e x s before f = comes_open (steps_of s.proof) (steps_of b.proof) (steps ++ before) (behind s steps before e f) x.search.stands.fits.consistent
+    end_comes outcomes.Failed steps n e x s before f = comes_open (steps_of s.proof) (steps_of b.proof) (steps ++ before) (behind s steps before e f) x.search.stands.fits.consistent
+    end_comes outcomes.Unsat steps n e x s before f =
+        comes_last (steps_of s.proof) (x.rest ++ steps_of a.proof) (steps_of b.proof) (x.rest ++ before) x.last (ap (λ ss. x.rest ++ ss) f ∙ sym (append_assoc x.rest before (steps_of s.proof))) x.before
+        (e ∙ ap (λ ss. ss ++ steps_of a.proof) x.is)
 
     pub round_ends : (r : Result Outcome SolverError) → Round r → IfOk r (λ o. o ≢ outcomes.Learned → (s : Core W) (k : ℕ) → Gone seen s k a → Ended seen s o b)
     round_ends (Ok o) g = λ n s k gone. record {
@@ -141,6 +155,7 @@ module _ {W : Type 0} (seen : W → Writer) where
       searched = searched_both g.steps gone.steps (steps_of a.proof) (steps_of s.proof) gone.adds.history g.searched gone.searched;
       keeps = g.keeps;
       config = config ∙ gone.config;
+      comes = end_comes o g.steps n g.went.history g.ends s gone.steps gone.adds.history;
       says = end_says o (steps_of a.proof) g.steps (session_of b.proof) s.search n gone.moved g.ends;
     }
     round_ends (Err e) g = tt

@@ -1,6 +1,7 @@
 -- A solver that took a clause, or assumptions.
-use Rattle.std.proofs.Common.{ℕ, ◌≡◌, ◌∙◌, true, false, Err, List, get_or, refl, sym, ap, subst, ◌⊎◌, inl, inr}
+use Rattle.std.proofs.Common.{ℕ, ◌≡◌, ◌∙◌, true, false, Option, None, Some, is_some, Err, List, get_or, refl, sym, ap, subst, ◌⊎◌, inl, inr}
 use Rattle.sat_base.specs.device.Device.{Writer}
+use Rattle.sat_base.specs.script.Judge.{Judge, bring_all, refused_literal}
 use Rattle.sat_base.specs.values.Literals.{variable}
 use Rattle.sat_store.specs.variables.Maps.{target}
 use Rattle.sat_solver.specs.session.Making.{Took}
@@ -12,6 +13,7 @@ use Rattle.sat_solver.specs.declared.error.SolverError.TheVariants as errors
 use Rattle.sat_solver.specs.declared.names.Variables.{Variables}
 use Rattle.sat_solver.specs.declared.names.taking.Taken.{Taken}
 use Rattle.sat_solver.specs.declared.search.solving.Core.{Core}
+use Rattle.sat_solver.specs.declared.config.SolverConfig.{SolverConfig}
 use Rattle.sat_solver.specs.names.Adding.{Image, Images}
 use Rattle.sat_solver.specs.names.AddingCalls.{LeavesOut}
 use Rattle.sat_solver.specs.names.Assuming as assuming
@@ -22,10 +24,17 @@ use Rattle.sat_solver.specs.declared.solver.state.State.{State}
 use Rattle.sat_solver.specs.declared.solver.state.State.TheVariants as states
 use Rattle.sat_solver.specs.declared.solver.taking.Loading.{Loading}
 use Rattle.sat_solver.specs.solver.Taking.{TookClause, TookAssumptions, BreaksNames}
-use Rattle.sat_solver.specs.solver.Whole.{IsWhole, StateSays, GoesOn, steps_in}
-use Rattle.sat_solver.specs.solver.Adding.{TookIn, with_added, due_for_clause, Forgets, AddsClause, Assumes}
+use Rattle.sat_solver.specs.solver.Whole.{IsWhole, IsWholeOf, StateSays, GoesOn, steps_in}
+use Rattle.sat_solver.specs.solver.Adding.{TookIn, with_added, due_for_clause, Forgets, AreSampled, AddsClause, Assumed, Assumes, due_for_asked}
 use Rattle.sat_solver.specs.search.Bumping.{AreDecays}
 use Rattle.sat_solver.specs.solver.Asking.{AskedIn}
+use Rattle.sat_solver.specs.names.Refusing.{names_in, as_refusal}
+use Rattle.sat_solver.specs.names.Live.{Live}
+use Rattle.sat_solver.specs.names.Variables.{AreJudged}
+use Rattle.std.proofs.lemmas.Bool.{true≢false}
+use Rattle.sat_solver.proofs.lemmas.names.ComingSteps.{comes_added}
+use Rattle.sat_solver.specs.session.Coming.{Comes}
+use Rattle.sat_solver.specs.names.Coming.{MayTake}
 
 -- the search goes on unless unsat is recorded
 pub goes_of : {W : Type 0} (st : State) (c : Core W) (n : Variables) (asked : Taken) (assumed core : List ℕ) → (st ≡ states.Unsat → ⊥) → StateSays st c n asked assumed core → GoesOn c n asked
@@ -72,7 +81,7 @@ module _ {W : Type 0} (seen : W → Writer) (s : Solver W) (whole : IsWhole s) (
     due_by states.Unsat k d = absurd (k refl)
 
     -- a clause came in, and a valuation may be left
-    pub took_left : TookClause seen s.names n' s.core b user true → TookIn seen s (added states.Unknown) (with_added user) (due_for_clause s.state user)
+    pub took_left : TookClause seen s.names n' s.core b user true → TookIn seen s (added states.Unknown) user
     took_left t = record {
       whole = record {
         stands = t.does.stands;
@@ -80,18 +89,21 @@ module _ {W : Type 0} (seen : W → Writer) (s : Solver W) (whole : IsWhole s) (
         spelt = global_images_kept s.names n' s.assumed.items s.asked.globals.items t.names whole.spelt;
         globals = whole.globals ∙ sym t.assumed;
         positive = whole.positive;
+        scaled = subst (λ (x : SolverConfig). s.clock.restarts.scale ≡ x.luby_restart_interval_scale) (sym t.config) whole.scaled;
         decays = subst AreDecays (sym t.config) whole.decays;
         says = record { joined = t.goes_on; lits = ap (λ ls. ls.items) t.lits ∙ going_on.lits };
       };
       does = due_by s.state apart t.does;
+      comes = t.comes;
       took = t.took;
       failed = refl;
-      clock = refl;
+      used = refl;
+      config = t.config;
       state = by_state s.state states.Unknown apart (inl refl);
     }
 
     -- or none is
-    pub took_none : TookClause seen s.names n' s.core b user false → TookIn seen s (added states.Unsat) (with_added user) (due_for_clause s.state user)
+    pub took_none : TookClause seen s.names n' s.core b user false → TookIn seen s (added states.Unsat) user
     took_none t = record {
       whole = record {
         stands = t.does.stands;
@@ -99,13 +111,16 @@ module _ {W : Type 0} (seen : W → Writer) (s : Solver W) (whole : IsWhole s) (
         spelt = global_images_kept s.names n' s.assumed.items s.asked.globals.items t.names whole.spelt;
         globals = whole.globals ∙ sym t.assumed;
         positive = whole.positive;
+        scaled = subst (λ (x : SolverConfig). s.clock.restarts.scale ≡ x.luby_restart_interval_scale) (sym t.config) whole.scaled;
         decays = subst AreDecays (sym t.config) whole.decays;
         says = t.goes_on;
       };
       does = due_by s.state apart t.does;
+      comes = t.comes;
       took = t.took;
       failed = refl;
-      clock = refl;
+      used = refl;
+      config = t.config;
       state = by_state s.state states.Unsat apart (inr refl);
     }
 
@@ -118,13 +133,16 @@ module _ {W : Type 0} (seen : W → Writer) (s : Solver W) (whole : IsWhole s) (
       spelt = t.asked.spelt;
       globals = t.asked.globals;
       positive = whole.positive;
+      scaled = subst (λ (x : SolverConfig). s.clock.restarts.scale ≡ x.luby_restart_interval_scale) (sym t.config) whole.scaled;
       decays = subst AreDecays (sym t.config) whole.decays;
       says = record { joined = t.joined; lits = t.asked.lits };
     };
     does = t.does;
+    comes = t.comes;
     took = t.took;
     failed = refl;
-    clock = refl;
+    used = refl;
+    config = t.config;
     state = forgets s.state apart;
   }
     where
@@ -139,7 +157,7 @@ module _ {W : Type 0} (seen : W → Writer) (s : Solver W) (whole : IsWhole s) (
   unsat = subst (λ st. StateSays st s.core s.names s.asked s.assumed.items s.told.failed_core.items) known whole.says
 
   -- a clause was left out
-  pub left_in : LeavesOut s.names n' (steps_in s) (steps_of p) user → TookIn seen s (record s { core = record s.core { proof = p }; names = n' }) (with_added user) (due_for_clause states.Unsat user)
+  pub left_in : LeavesOut s.names n' (steps_in s) (steps_of p) user → TookIn seen s (record s { core = record s.core { proof = p }; names = n' }) user
   left_in l = record {
     whole = record {
       stands = l.does.stands;
@@ -147,13 +165,16 @@ module _ {W : Type 0} (seen : W → Writer) (s : Solver W) (whole : IsWhole s) (
       spelt = global_images_kept s.names n' s.assumed.items s.asked.globals.items (λ u v e. (l.extends.stays u v e).0) whole.spelt;
       globals = whole.globals ∙ sym l.unseen.search.assumed;
       positive = whole.positive;
+      scaled = whole.scaled;
       decays = whole.decays;
       says = subst (λ st. StateSays st (record s.core { proof = p }) n' s.asked s.assumed.items s.told.failed_core.items) (sym known) (l.unseen.search.unsat ∙ unsat);
     };
-    does = l.does;
+    does = subst (λ st. Does s.names n' (steps_in s) (steps_of p) (with_added user) (due_for_clause st user)) (sym known) l.does;
+    comes = comes_added (names_in user) (steps_in s) (steps_of p) l.comes;
     took = took;
     failed = refl;
-    clock = refl;
+    used = refl;
+    config = refl;
     state = subst (λ st. Forgets st st) (sym known) refl;
   }
     where
@@ -173,62 +194,92 @@ module _ {W : Type 0} (seen : W → Writer) (s : Solver W) (whole : IsWhole s) (
       spelt = global_images_of n' user asked a.does.stands.tidy a.images a.globals;
       globals = sym (ap (λ ss. (session_after ss).assumed) a.written);
       positive = whole.positive;
+      scaled = whole.scaled;
       decays = whole.decays;
       says = subst (λ st. StateSays st (record s.core { proof = p }) n' asked user s.told.failed_core.items) (sym known) (ap (λ ss. (session_after ss).unsat) a.written ∙ a.search.unsat ∙ unsat);
     };
     does = a.does;
+    comes = a.comes;
     took = took;
     failed = refl;
-    clock = refl;
+    used = refl;
+    config = refl;
     state = subst (λ st. Forgets st st) (sym known) refl;
   }
 
 -- FAULTS
 
 -- a call over a clause failed
-pub adding_ends : {W : Type 0} (seen : W → Writer) (e : SolverError) (s new : Solver W) (user : List ℕ) → BreaksNames seen e s.core new.core → new.failed ≡ true → AddsClause seen (Err e) s new user
-adding_ends seen errors.OutOfMemory s new user b f = record { failed = f; breaks = b }
-adding_ends seen errors.StoreFull s new user b f = record { failed = f; breaks = b }
-adding_ends seen (errors.ProofIoError cause) s new user b f = record { failed = f; breaks = b }
-adding_ends seen errors.VariableLimit s new user b f = record { failed = f; breaks = b }
-adding_ends seen errors.Interrupted s new user b f = record { failed = f; breaks = b }
-adding_ends seen (errors.ProofProcessorError cause) s new user b f = record { failed = f; breaks = b }
-adding_ends seen errors.WitnessVariable s new user b f = absurd (elim b.fault [ inl x ↦ x | inr e ↦ apart e ])
+pub adding_ends : {W : Type 0} (seen : W → Writer) (e : SolverError) (s new : Solver W) (user : List ℕ) → s.failed ≡ false → AreSampled s user → BreaksNames seen e s.core new.core → new.clock ≡ s.clock → new.failed ≡ true → AddsClause seen (Err e) s new user
+adding_ends seen errors.OutOfMemory s new user g w b k f = (w, record { going = g; failed = f; breaks = b; clock = k })
+adding_ends seen errors.StoreFull s new user g w b k f = (w, record { going = g; failed = f; breaks = b; clock = k })
+adding_ends seen (errors.ProofIoError cause) s new user g w b k f = (w, record { going = g; failed = f; breaks = b; clock = k })
+adding_ends seen errors.VariableLimit s new user g w b k f = (w, record { going = g; failed = f; breaks = b; clock = k })
+adding_ends seen errors.Interrupted s new user g w b k f = (w, record { going = g; failed = f; breaks = b; clock = k })
+adding_ends seen (errors.ProofProcessorError cause) s new user g w b k f = (w, record { going = g; failed = f; breaks = b; clock = k })
+adding_ends seen errors.WitnessVariable s new user g w b k f = absurd (elim b.fault [ inl x ↦ x | inr e ↦ apart e ])
   where
     apart : errors.WitnessVariable ≡ errors.VariableLimit → ⊥
     apart e = cc
-adding_ends seen errors.AssumedVariable s new user b f = record { failed = f; breaks = b }
-adding_ends seen errors.TooLate s new user b f = record { failed = f; breaks = b }
-adding_ends seen errors.NotInDrat s new user b f = record { failed = f; breaks = b }
-adding_ends seen errors.CounterEnd s new user b f = record { failed = f; breaks = b }
-adding_ends seen errors.HasFailed s new user b f = absurd (elim b.fault [ inl x ↦ x | inr e ↦ apart e ])
+adding_ends seen errors.AssumedVariable s new user g w b k f = (w, record { going = g; failed = f; breaks = b; clock = k })
+adding_ends seen errors.TooLate s new user g w b k f = (w, record { going = g; failed = f; breaks = b; clock = k })
+adding_ends seen errors.NotInDrat s new user g w b k f = (w, record { going = g; failed = f; breaks = b; clock = k })
+adding_ends seen errors.CounterEnd s new user g w b k f = (w, record { going = g; failed = f; breaks = b; clock = k })
+adding_ends seen errors.HasFailed s new user g w b k f = absurd (elim b.fault [ inl x ↦ x | inr e ↦ apart e ])
   where
     apart : errors.HasFailed ≡ errors.VariableLimit → ⊥
     apart e = cc
-adding_ends seen errors.Read s new user b f = record { failed = f; breaks = b }
-adding_ends seen errors.Malformed s new user b f = record { failed = f; breaks = b }
-adding_ends seen errors.OutOfRange s new user b f = record { failed = f; breaks = b }
+adding_ends seen errors.Read s new user g w b k f = (w, record { going = g; failed = f; breaks = b; clock = k })
+adding_ends seen errors.Malformed s new user g w b k f = (w, record { going = g; failed = f; breaks = b; clock = k })
+adding_ends seen errors.OutOfRange s new user g w b k f = (w, record { going = g; failed = f; breaks = b; clock = k })
 
 -- or one over assumptions
-pub assuming_ends : {W : Type 0} (seen : W → Writer) (e : SolverError) (s new : Solver W) (user : List ℕ) → BreaksNames seen e s.core new.core → new.failed ≡ true → Assumes seen (Err e) s new user
-assuming_ends seen errors.OutOfMemory s new user b f = record { failed = f; breaks = b }
-assuming_ends seen errors.StoreFull s new user b f = record { failed = f; breaks = b }
-assuming_ends seen (errors.ProofIoError cause) s new user b f = record { failed = f; breaks = b }
-assuming_ends seen errors.VariableLimit s new user b f = record { failed = f; breaks = b }
-assuming_ends seen errors.Interrupted s new user b f = record { failed = f; breaks = b }
-assuming_ends seen (errors.ProofProcessorError cause) s new user b f = record { failed = f; breaks = b }
-assuming_ends seen errors.WitnessVariable s new user b f = absurd (elim b.fault [ inl x ↦ x | inr e ↦ apart e ])
+pub assuming_ends : {W : Type 0} (seen : W → Writer) (e : SolverError) (s new : Solver W) (user : List ℕ) → s.failed ≡ false → AreSampled s user → BreaksNames seen e s.core new.core → new.clock ≡ s.clock → new.failed ≡ true → Assumes seen (Err e) s new user
+assuming_ends seen errors.OutOfMemory s new user g w b k f = (w, record { going = g; failed = f; breaks = b; clock = k })
+assuming_ends seen errors.StoreFull s new user g w b k f = (w, record { going = g; failed = f; breaks = b; clock = k })
+assuming_ends seen (errors.ProofIoError cause) s new user g w b k f = (w, record { going = g; failed = f; breaks = b; clock = k })
+assuming_ends seen errors.VariableLimit s new user g w b k f = (w, record { going = g; failed = f; breaks = b; clock = k })
+assuming_ends seen errors.Interrupted s new user g w b k f = (w, record { going = g; failed = f; breaks = b; clock = k })
+assuming_ends seen (errors.ProofProcessorError cause) s new user g w b k f = (w, record { going = g; failed = f; breaks = b; clock = k })
+assuming_ends seen errors.WitnessVariable s new user g w b k f = absurd (elim b.fault [ inl x ↦ x | inr e ↦ apart e ])
   where
     apart : errors.WitnessVariable ≡ errors.VariableLimit → ⊥
     apart e = cc
-assuming_ends seen errors.AssumedVariable s new user b f = record { failed = f; breaks = b }
-assuming_ends seen errors.TooLate s new user b f = record { failed = f; breaks = b }
-assuming_ends seen errors.NotInDrat s new user b f = record { failed = f; breaks = b }
-assuming_ends seen errors.CounterEnd s new user b f = record { failed = f; breaks = b }
-assuming_ends seen errors.HasFailed s new user b f = absurd (elim b.fault [ inl x ↦ x | inr e ↦ apart e ])
+assuming_ends seen errors.AssumedVariable s new user g w b k f = (w, record { going = g; failed = f; breaks = b; clock = k })
+assuming_ends seen errors.TooLate s new user g w b k f = (w, record { going = g; failed = f; breaks = b; clock = k })
+assuming_ends seen errors.NotInDrat s new user g w b k f = (w, record { going = g; failed = f; breaks = b; clock = k })
+assuming_ends seen errors.CounterEnd s new user g w b k f = (w, record { going = g; failed = f; breaks = b; clock = k })
+assuming_ends seen errors.HasFailed s new user g w b k f = absurd (elim b.fault [ inl x ↦ x | inr e ↦ apart e ])
   where
     apart : errors.HasFailed ≡ errors.VariableLimit → ⊥
     apart e = cc
-assuming_ends seen errors.Read s new user b f = record { failed = f; breaks = b }
-assuming_ends seen errors.Malformed s new user b f = record { failed = f; breaks = b }
-assuming_ends seen errors.OutOfRange s new user b f = record { failed = f; breaks = b }
+assuming_ends seen errors.Read s new user g w b k f = (w, record { going = g; failed = f; breaks = b; clock = k })
+assuming_ends seen errors.Malformed s new user g w b k f = (w, record { going = g; failed = f; breaks = b; clock = k })
+assuming_ends seen errors.OutOfRange s new user g w b k f = (w, record { going = g; failed = f; breaks = b; clock = k })
+
+-- CALLS
+
+-- no name of mode witness was found
+pub none_refused : {W : Type 0} (s : Solver W) (user : List ℕ) (o : Option ℕ) → ((j : Judge) (live : Live) → AreJudged s.names j live → refused_literal j (names_in user) ≡ as_refusal o) → is_some o ≡ false → AreSampled s user
+none_refused s user None judged none = λ j live agree. judged j live agree.judged
+none_refused s user (Some name) judged none = absurd (true≢false none)
+
+-- assumptions were taken, and listed over names
+pub assumed_by : {W : Type 0} (seen : W → Writer) (s mid new : Solver W) (user : List ℕ) → s.failed ≡ false → AreSampled s user → AskedIn seen (record s { used = true }) mid user → mid.clock ≡ s.clock → new ≡ record mid { assumed = new.assumed } → new.assumed.items ≡ user → Assumed seen s new user
+assumed_by {W} seen s mid new user going sampled a clock same items = record {
+  sampled = sampled;
+  did = record {
+    whole = subst (λ (x : Solver W). IsWholeOf x.core x.names x.asked new.assumed.items x.told.failed_core.items x.clock.restarts.scale x.state) (sym same)
+        (subst (λ ls. IsWholeOf mid.core mid.names mid.asked ls mid.told.failed_core.items mid.clock.restarts.scale mid.state) (sym items) a.whole);
+    going = going;
+    failed = ap (λ (x : Solver W). x.failed) same ∙ a.failed ∙ going;
+    used = ap (λ (x : Solver W). x.used) same ∙ a.used;
+    config = ap (λ (x : Solver W). x.core.config) same ∙ a.config;
+    does = subst (λ (x : Solver W). Does s.names x.names (steps_in s) (steps_in x) (bring_all (names_in user)) (due_for_asked user)) (sym same) a.does;
+    took = subst (λ (x : Solver W). Took seen s.core.proof x.core.proof) (sym same) a.took;
+  };
+  comes = subst (λ (x : Solver W). Comes (MayTake (names_in user)) (steps_in s) (steps_in x)) (sym same) a.comes;
+  assumed = items;
+  clock = ap (λ (x : Solver W). x.clock) same ∙ clock;
+  state = subst (λ (x : Solver W). Forgets s.state x.state) (sym same) a.state;
+}

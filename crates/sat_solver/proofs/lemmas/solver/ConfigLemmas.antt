@@ -91,7 +91,7 @@ module _ {W : Type 0} (u : SolverConfigUpdate) (c : Core W) (n : Variables) (ask
   says states.Sat b d h = (going b d h.0, complete b d h.1)
   says states.UnsatUnderAssumptions b d h = (
     going b d h.0,
-    subst (λ x. HasCore x assumed core) (sym d.same) (record { codes = h.1.codes; none = h.1.none; same = h.1.same; among = h.1.among }),
+    subst (λ x. HasCore x assumed core) (sym d.same) (record { some = h.1.some; codes = h.1.codes; none = h.1.none; same = h.1.same; among = h.1.among }),
   )
   says states.Unsat b d h = subst (λ (x : Core W). (session_of x.proof).unsat ≡ true) (sym d) h
 
@@ -110,6 +110,7 @@ module _ {W : Type 0} (u : SolverConfigUpdate) (c : Core W) (n : Variables) (ask
     spelt = whole.spelt;
     globals = whole.globals ∙ ap (λ p. (session_of p).assumed) (sym (core_same st b d).0);
     positive = scale_kept u scale range whole.positive;
+    scaled = ap (unwrap_or u.luby_restart_interval_scale) whole.scaled ∙ sym (ap (λ (x : SolverConfig). x.luby_restart_interval_scale) (core_same st b d).1);
     decays = subst AreDecays (sym (core_same st b d).1) (decays_kept u c.config range whole.decays);
     says = says st b d whole.says;
   }

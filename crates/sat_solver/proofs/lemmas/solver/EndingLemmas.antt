@@ -35,6 +35,7 @@ whole_ended {W} c n asked assumed core scale state p whole e keeps = record {
   spelt = whole.spelt;
   globals = whole.globals ∙ sym (ap (λ ss. (session_after ss).assumed) e);
   positive = whole.positive;
+  scaled = whole.scaled;
   decays = whole.decays;
   says = says state whole.says;
 }
@@ -63,6 +64,7 @@ whole_ended {W} c n asked assumed core scale state p whole e keeps = record {
     says states.UnsatUnderAssumptions h = (
       joined h.0,
       record {
+        some = h.1.some;
         codes = h.1.codes;
         none = subst (λ ss. (a : _) → Holds ss a → EachTrue a h.1.codes → ⊥) (sym e) h.1.none;
         same = subst (λ ss. SameSet (variable_of ss) (map named_literal core) h.1.codes) (sym e) h.1.same;

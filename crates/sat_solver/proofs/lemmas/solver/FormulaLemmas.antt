@@ -46,7 +46,7 @@ module _ {W : Type 0} (seen : W → Writer) where
 
   pub adds_going : (a b : Solver W) (cs : List (List ℕ)) → a.failed ≡ false → AddsAll seen a cs b → b.failed ≡ false
   adds_going a b [] going p = ap (λ (z : Solver W). z.failed) p ∙ going
-  adds_going a b (c ∷ cs) going p = adds_going p.0 b cs p.1.did.going p.2
+  adds_going a b (c ∷ cs) going p = adds_going p.0 b cs p.1.did.failed p.2
 
   -- these clauses were added, and those are left
   pub record AddedSo (old now : Solver W) (clauses rest : List (List ℕ)) : Type 0 where

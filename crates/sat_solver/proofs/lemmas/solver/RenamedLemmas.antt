@@ -209,6 +209,7 @@ module _ {W : Type 0} (s : Solver W) (whole : IsWhole s) where
     core_kept h =
         let core = s.told.failed_core.items in
         record {
+          some = h.some;
           codes = h.codes;
           none = λ a left t. (let m = alike.leaves a left in h.none m.0 m.1 (each_true core h.codes a m.0 m.2 h.codes h.among h.same.1 t));
           same = (there core h.codes core h.among h.same.0, only core h.codes h.codes h.among h.same.1);
@@ -229,6 +230,7 @@ module _ {W : Type 0} (s : Solver W) (whole : IsWhole s) where
       spelt = spelt;
       globals = whole.globals ∙ sym alike.assumed;
       positive = whole.positive;
+      scaled = whole.scaled;
       decays = whole.decays;
       says = says s.state whole.says;
     }
@@ -281,7 +283,7 @@ module _ {W : Type 0} (seen : W → Writer) (s : Solver W) (whole : IsWhole s) (
       ((l v : ℕ) → Among l s.assumed.items → global_of s.names (variable l) ≡ Some v → global_of n' (variable l) ≡ Some v) → IsAlike s.names n' (steps_in s) (steps_of p) → Took seen s.core.proof p →
       Renamed seen s (record s { core = record s.core { proof = p }; names = n'; used = true }) judge due
   renamed judge due does fresh units kept alike took = record {
-    did = record { whole = whole_renamed s whole n' p does.stands kept alike; going = going; does = does; took = took };
+    did = record { whole = whole_renamed s whole n' p does.stands kept alike; going = going; failed = going; used = refl; config = refl; does = does; took = took };
     assumed = refl;
     told = refl;
     clock = refl;
@@ -290,49 +292,49 @@ module _ {W : Type 0} (seen : W → Writer) (s : Solver W) (whole : IsWhole s) (
   }
 
 -- a call over modes failed
-pub mode_ends : {W : Type 0} (seen : W → Writer) (e : SolverError) (s new : Solver W) (user : ℕ) (judge : Judge → Judge) (due : Judge → List Expected) → BreaksNames seen e s.core new.core → new.failed ≡ true → ChangesMode seen (Err e) s new user judge due
-mode_ends seen errors.OutOfMemory s new user judge due b f = record { failed = f; breaks = b }
-mode_ends seen errors.StoreFull s new user judge due b f = record { failed = f; breaks = b }
-mode_ends seen (errors.ProofIoError cause) s new user judge due b f = record { failed = f; breaks = b }
-mode_ends seen errors.VariableLimit s new user judge due b f = record { failed = f; breaks = b }
-mode_ends seen errors.Interrupted s new user judge due b f = record { failed = f; breaks = b }
-mode_ends seen (errors.ProofProcessorError cause) s new user judge due b f = record { failed = f; breaks = b }
-mode_ends seen errors.WitnessVariable s new user judge due b f = record { failed = f; breaks = b }
-mode_ends seen errors.AssumedVariable s new user judge due b f = absurd (elim b.fault [ inl x ↦ x | inr e ↦ apart e ])
+pub mode_ends : {W : Type 0} (seen : W → Writer) (e : SolverError) (s new : Solver W) (user : ℕ) (judge : Judge → Judge) (due : Judge → List Expected) → s.failed ≡ false → BreaksNames seen e s.core new.core → new.clock ≡ s.clock → new.failed ≡ true → ChangesMode seen (Err e) s new user judge due
+mode_ends seen errors.OutOfMemory s new user judge due g b k f = record { going = g; failed = f; breaks = b; clock = k }
+mode_ends seen errors.StoreFull s new user judge due g b k f = record { going = g; failed = f; breaks = b; clock = k }
+mode_ends seen (errors.ProofIoError cause) s new user judge due g b k f = record { going = g; failed = f; breaks = b; clock = k }
+mode_ends seen errors.VariableLimit s new user judge due g b k f = record { going = g; failed = f; breaks = b; clock = k }
+mode_ends seen errors.Interrupted s new user judge due g b k f = record { going = g; failed = f; breaks = b; clock = k }
+mode_ends seen (errors.ProofProcessorError cause) s new user judge due g b k f = record { going = g; failed = f; breaks = b; clock = k }
+mode_ends seen errors.WitnessVariable s new user judge due g b k f = record { going = g; failed = f; breaks = b; clock = k }
+mode_ends seen errors.AssumedVariable s new user judge due g b k f = absurd (elim b.fault [ inl x ↦ x | inr e ↦ apart e ])
   where
     apart : errors.AssumedVariable ≡ errors.VariableLimit → ⊥
     apart e = cc
-mode_ends seen errors.TooLate s new user judge due b f = record { failed = f; breaks = b }
-mode_ends seen errors.NotInDrat s new user judge due b f = record { failed = f; breaks = b }
-mode_ends seen errors.CounterEnd s new user judge due b f = record { failed = f; breaks = b }
-mode_ends seen errors.HasFailed s new user judge due b f = absurd (elim b.fault [ inl x ↦ x | inr e ↦ apart e ])
+mode_ends seen errors.TooLate s new user judge due g b k f = record { going = g; failed = f; breaks = b; clock = k }
+mode_ends seen errors.NotInDrat s new user judge due g b k f = record { going = g; failed = f; breaks = b; clock = k }
+mode_ends seen errors.CounterEnd s new user judge due g b k f = record { going = g; failed = f; breaks = b; clock = k }
+mode_ends seen errors.HasFailed s new user judge due g b k f = absurd (elim b.fault [ inl x ↦ x | inr e ↦ apart e ])
   where
     apart : errors.HasFailed ≡ errors.VariableLimit → ⊥
     apart e = cc
-mode_ends seen errors.Read s new user judge due b f = record { failed = f; breaks = b }
-mode_ends seen errors.Malformed s new user judge due b f = record { failed = f; breaks = b }
-mode_ends seen errors.OutOfRange s new user judge due b f = record { failed = f; breaks = b }
+mode_ends seen errors.Read s new user judge due g b k f = record { going = g; failed = f; breaks = b; clock = k }
+mode_ends seen errors.Malformed s new user judge due g b k f = record { going = g; failed = f; breaks = b; clock = k }
+mode_ends seen errors.OutOfRange s new user judge due g b k f = record { going = g; failed = f; breaks = b; clock = k }
 
 -- a call that gives names failed
-pub new_ends : {W : Type 0} (seen : W → Writer) (e : SolverError) (s new : Solver W) → BreaksNames seen e s.core new.core → new.failed ≡ true → NamesFail seen e s new
-new_ends seen errors.OutOfMemory s new b f = record { failed = f; breaks = b }
-new_ends seen errors.StoreFull s new b f = record { failed = f; breaks = b }
-new_ends seen (errors.ProofIoError cause) s new b f = record { failed = f; breaks = b }
-new_ends seen errors.VariableLimit s new b f = record { failed = f; breaks = b }
-new_ends seen errors.Interrupted s new b f = record { failed = f; breaks = b }
-new_ends seen (errors.ProofProcessorError cause) s new b f = record { failed = f; breaks = b }
-new_ends seen errors.WitnessVariable s new b f = record { failed = f; breaks = b }
-new_ends seen errors.AssumedVariable s new b f = record { failed = f; breaks = b }
-new_ends seen errors.TooLate s new b f = record { failed = f; breaks = b }
-new_ends seen errors.NotInDrat s new b f = record { failed = f; breaks = b }
-new_ends seen errors.CounterEnd s new b f = record { failed = f; breaks = b }
-new_ends seen errors.HasFailed s new b f = absurd (elim b.fault [ inl x ↦ x | inr e ↦ apart e ])
+pub new_ends : {W : Type 0} (seen : W → Writer) (e : SolverError) (s new : Solver W) → s.failed ≡ false → BreaksNames seen e s.core new.core → new.clock ≡ s.clock → new.failed ≡ true → NamesFail seen e s new
+new_ends seen errors.OutOfMemory s new g b k f = record { going = g; failed = f; breaks = b; clock = k }
+new_ends seen errors.StoreFull s new g b k f = record { going = g; failed = f; breaks = b; clock = k }
+new_ends seen (errors.ProofIoError cause) s new g b k f = record { going = g; failed = f; breaks = b; clock = k }
+new_ends seen errors.VariableLimit s new g b k f = record { going = g; failed = f; breaks = b; clock = k }
+new_ends seen errors.Interrupted s new g b k f = record { going = g; failed = f; breaks = b; clock = k }
+new_ends seen (errors.ProofProcessorError cause) s new g b k f = record { going = g; failed = f; breaks = b; clock = k }
+new_ends seen errors.WitnessVariable s new g b k f = record { going = g; failed = f; breaks = b; clock = k }
+new_ends seen errors.AssumedVariable s new g b k f = record { going = g; failed = f; breaks = b; clock = k }
+new_ends seen errors.TooLate s new g b k f = record { going = g; failed = f; breaks = b; clock = k }
+new_ends seen errors.NotInDrat s new g b k f = record { going = g; failed = f; breaks = b; clock = k }
+new_ends seen errors.CounterEnd s new g b k f = record { going = g; failed = f; breaks = b; clock = k }
+new_ends seen errors.HasFailed s new g b k f = absurd (elim b.fault [ inl x ↦ x | inr e ↦ apart e ])
   where
     apart : errors.HasFailed ≡ errors.VariableLimit → ⊥
     apart e = cc
-new_ends seen errors.Read s new b f = record { failed = f; breaks = b }
-new_ends seen errors.Malformed s new b f = record { failed = f; breaks = b }
-new_ends seen errors.OutOfRange s new b f = record { failed = f; breaks = b }
+new_ends seen errors.Read s new g b k f = record { going = g; failed = f; breaks = b; clock = k }
+new_ends seen errors.Malformed s new g b k f = record { going = g; failed = f; breaks = b; clock = k }
+new_ends seen errors.OutOfRange s new g b k f = record { going = g; failed = f; breaks = b; clock = k }
 
 -- the next of the names is the judge's lowest one not in use
 pub next_name : {W : Type 0} (s : Solver W) → IsWhole s → (user : ℕ) → IsNextUser s.names user → IsNextName s (user + 1)
@@ -344,6 +346,9 @@ pub observed_all : {W : Type 0} (seen : W → Writer) (s : Solver W) → IsWhole
 observed_all seen s whole going n' p users all took = record {
   whole = whole_renamed s whole n' p all.stands (λ l v h e. all.names (variable l) v e) (alike_unseen s.names n' (steps_in s) (steps_of p) all.unseen);
   going = going;
+  failed = going;
+  used = refl;
+  config = refl;
   observes = all.kept;
   all = all.all;
   took = took;

@@ -8,15 +8,20 @@ use Rattle.sat_base.specs.values.Clauses.{Valuation, EachTrue}
 use Rattle.sat_checker.specs.Fold.{Holds}
 use Rattle.sat_parts.specs.prop.Values.{IsTrueLit}
 use Rattle.sat_solver.specs.session.LiveClauses.{with_var}
-use Rattle.sat_solver.specs.session.ProofView.{Flushes, FlushesOrFails, steps_of, session_of}
+use Rattle.sat_solver.specs.session.ProofView.{Target, Closed, Open, Broken, Flushed, Flushes, FlushesOrFails, steps_of, session_of, target_of}
 use Rattle.sat_solver.specs.declared.session.proof.Proof.{Proof}
 use Rattle.sat_solver.specs.declared.session.proof.ProofError.{ProofError}
 use Rattle.sat_solver.specs.declared.session.proof.ProofError.TheVariants.{Write}
 use Rattle.sat_solver.specs.search.Going.{fault_of}
 use Rattle.sat_solver.specs.session.Session.{Session, MayAll, session_after}
+use Rattle.sat_solver.specs.session.Coming.{Comes, EndsAtUnsat}
+use Rattle.sat_solver.proofs.lemmas.session.ComingLemmas.{comes_none, comes_one, comes_both, comes_open}
+use Rattle.std.proofs.lemmas.Bool.{true≢false}
 use Rattle.sat_solver.proofs.lemmas.session.ProofLemmas.{adds_none, adds_more, fails_later, flush_records}
+use Rattle.sat_solver.specs.bound.Counting.{CountsOn, steps_left}
 use Rattle.sat_solver.specs.declared.bound.search.Outcome.TheVariants as outcomes
 use Rattle.sat_solver.specs.declared.search.solving.Core.{Core}
+use Rattle.sat_solver.specs.declared.config.SolverConfig.{SolverConfig}
 use Rattle.sat_solver.specs.declared.search.work.Search.{Search}
 use Rattle.sat_solver.specs.search.Failing.{causes_hashes}
 use Rattle.sat_solver.specs.search.Joint.{global_in, AreAsked, IsSearch, Moved}
@@ -40,13 +45,26 @@ use Rattle.sat_solver.specs.declared.solver.state.State.{State}
 use Rattle.sat_solver.specs.declared.solver.state.State.TheVariants as states
 use Rattle.sat_solver.specs.declared.solver.finding.Told.{Told}
 use Rattle.sat_solver.specs.declared.solver.finding.Clock.{Clock}
-use Rattle.sat_solver.specs.solver.Joined.{IsJoined}
+use Rattle.sat_solver.specs.solver.Joined.{IsJoined, name_of}
 use Rattle.sat_solver.specs.solver.Answering.{Breaks, Failed, line_of}
 use Rattle.sat_solver.specs.solver.Found.{FoundModel, FoundCore, FoundNone, FoundSays}
-use Rattle.sat_solver.specs.solver.Calls.{Answered, Counts, Solves, told_as, told_by}
+use Rattle.sat_solver.specs.solver.Calls.{Answered, Counts, CountsRounds, IsFlushed, Solves, told_as, told_by}
 use Rattle.sat_solver.specs.solver.Settling.{Settled}
 use Rattle.sat_solver.specs.solver.Whole.{IsWhole, IsWholeOf, StateSays, GoesOn, HasCore, steps_in, session_in, line_in}
 use Rattle.sat_solver.proofs.lemmas.solver.AnsweredLemmas.{asked_shown, core_among, core_spelt, core_none, joined_at, nothing_at, does_shown, does_failed}
+
+apart_sat : states.Sat ≡ states.Unknown → ⊥
+apart_sat e = cc
+
+apart_core : states.UnsatUnderAssumptions ≡ states.Unknown → ⊥
+apart_core e = cc
+
+apart_unsat : states.Unsat ≡ states.Unknown → ⊥
+apart_unsat e = cc
+
+some_mapped : (f : ℕ → ℕ) (ls : List ℕ) → 0 < length ls → map f ls ≡ [] → ⊥
+some_mapped f [] lt e = omega arith
+some_mapped f (l ∷ ls) lt e = cc
 
 two_to : (k : ℕ) → 0 < 2 ^ k
 two_to zero = omega arith
@@ -63,10 +81,18 @@ module _ {W : Type 0} (seen : W → Writer) (s : Solver W) (whole : IsWhole s) w
   settled_known n = record {
     whole = whole;
     does = none s.state n;
+    comes = comes_none EndsAtUnsat (steps_in s);
     took = ([], adds_none seen s.core.proof);
     same = refl;
-    counts = record { few = (let q = two_to (2 * values_in s.core + 3) in omega arith); spent = λ u. absurd (n u); answered = λ m le fits u. n u };
-    known = λ k. (refl, refl, refl);
+    config = refl;
+    counts = record {
+      on = record { more = omega arith; within = omega arith; few = (let q = two_to (2 * values_in s.core + 3) in omega arith) };
+      round = λ u. absurd (n u);
+      spent = λ u. absurd (n u);
+      answered = λ m le fits u. n u;
+    };
+    times = λ u. absurd (n u);
+    known = λ k. (refl, refl);
   }
     where
       none : (st : State) → (st ≡ states.Unknown → ⊥) → Does s.names s.names (steps_in s) (steps_in s) (λ j. j) (λ j. told_as st st (line_in s) s.assumed.items s.told.failed_core.items)
@@ -75,24 +101,34 @@ module _ {W : Type 0} (seen : W → Writer) (s : Solver W) (whole : IsWhole s) w
       none states.UnsatUnderAssumptions n = does_none s.names (steps_in s) whole.stands
       none states.Unsat n = does_none s.names (steps_in s) whole.stands
 
-  module _ (goes : GoesOn s.core s.names s.asked) (core : Core W) (told : Told) (clock : Clock) (scale : 0 < clock.restarts.scale) where
+  module _ (goes : GoesOn s.core s.names s.asked) (core : Core W) (told : Told) (clock : Clock) (scale : clock.restarts.scale ≡ s.clock.restarts.scale) where
+    positive : 0 < clock.restarts.scale
+    positive = subst (λ (k : ℕ). 0 < k) (sym scale) whole.positive
+
+    scaled : (core : Core W) → core.config ≡ s.core.config → clock.restarts.scale ≡ core.config.luby_restart_interval_scale
+    scaled core e = scale ∙ whole.scaled ∙ ap (λ (x : SolverConfig). x.luby_restart_interval_scale) (sym e)
+
     -- where there's no answer by now
-    pub settled_none : (rounds : ℕ) → s.state ≡ states.Unknown → Counts s (record s { core = core; told = told; clock = clock }) → FoundNone seen rounds s.core core → Settled seen s (record s { core = core; told = told; clock = clock })
-    settled_none rounds unknown counts found = record {
+    pub settled_none : s.state ≡ states.Unknown → Counts s (record s { core = core; told = told; clock = clock }) → FoundNone seen (clock.steps - s.clock.steps) s.core core → Settled seen s (record s { core = core; told = told; clock = clock })
+    settled_none unknown counts found = record {
       whole = record {
         stands = at.stands;
         images = whole.images;
         spelt = whole.spelt;
         globals = whole.globals ∙ sym assumed;
-        positive = scale;
+        positive = positive;
+        scaled = scaled core found.gone.config;
         decays = subst AreDecays (sym found.gone.config) whole.decays;
         says = subst (λ st. StateSays st core s.names s.asked s.assumed.items told.failed_core.items) (sym unknown) (record { joined = at; lits = ap (λ ls. ls.items) found.gone.moved.lits ∙ goes.lits });
       };
       does = subst (λ st. Does s.names s.names (steps_in s) (steps_of core.proof) (λ j. j) (λ j. told_as st st (line_of s.names core) s.assumed.items told.failed_core.items)) (sym unknown)
           (nothing_at seen s.names s.core goes.joined core found.gone.steps found.gone.adds found.gone.searched found.sound.keeps);
+      comes = comes_open (steps_in s) (steps_of core.proof) found.gone.steps found.gone.adds.history found.sound.search.stands.fits.consistent;
       took = (found.gone.steps, found.gone.adds);
       same = refl;
+      config = found.gone.config;
       counts = counts;
+      times = λ u. record { steps = found.gone.steps; behind = found.gone.adds.history; times = found.gone.times };
       known = λ k. absurd (k unknown);
     }
       where
@@ -117,7 +153,8 @@ module _ {W : Type 0} (seen : W → Writer) (s : Solver W) (whole : IsWhole s) w
           images = whole.images;
           spelt = whole.spelt;
           globals = whole.globals ∙ sym (assumed_moved (session_in s) (session_of core.proof) s.core.search core.search goes.joined.sound.search.ready.asked found.shown.joined.sound.search.ready.asked moved);
-          positive = scale;
+          positive = positive;
+          scaled = scaled core (found.shown.config ∙ found.ended.config);
           decays = subst AreDecays (sym (found.shown.config ∙ found.ended.config)) whole.decays;
           says = (
             record { joined = found.shown.joined; lits = lits },
@@ -128,9 +165,13 @@ module _ {W : Type 0} (seen : W → Writer) (s : Solver W) (whole : IsWhole s) w
             (nothing_at seen s.names s.core goes.joined found.mid found.ended.steps found.ended.adds found.ended.searched found.ended.keeps)
             (subst (λ c. Does s.names s.names (steps_of found.mid.proof) (steps_of core.proof) (λ j. j) (λ j. Shows (names_of (map named_literal (line_by c))) (map named_literal s.assumed.items) (map named_literal (line_by c)) ∷ [])) (sym found.shown.search)
             (does_shown seen s.names found.mid mid core found.shown s.assumed.items (subst (λ c. AllByRecursion (λ l. Among l (line_by c)) s.assumed.items) found.shown.search asked))));
+        comes = comes_both EndsAtUnsat (steps_in s) (steps_of found.mid.proof) (steps_of core.proof) found.ended.comes
+            (comes_one EndsAtUnsat (steps_of found.mid.proof) (steps_of core.proof) _ found.shown.adds.history (λ u. absurd (true≢false (sym u ∙ found.ended.says.search.stands.fits.consistent))));
         took = (_, adds_more seen found.ended.steps _ s.core.proof found.mid.proof core.proof found.ended.adds found.shown.adds);
         same = refl;
+        config = found.shown.config ∙ found.ended.config;
         counts = counts;
+        times = λ u. absurd (apart_sat u);
         known = λ k. absurd (k unknown);
       }
         where
@@ -161,7 +202,8 @@ module _ {W : Type 0} (seen : W → Writer) (s : Solver W) (whole : IsWhole s) w
           images = whole.images;
           spelt = whole.spelt;
           globals = whole.globals ∙ sym (assumed_moved (session_in s) (session_of core.proof) s.core.search core.search goes.joined.sound.search.ready.asked found.failed.joined.sound.search.ready.asked moved);
-          positive = scale;
+          positive = positive;
+          scaled = scaled core (found.failed.config ∙ found.ended.config);
           decays = subst AreDecays (sym (found.failed.config ∙ found.ended.config)) whole.decays;
           says = (
             record { joined = found.failed.joined; lits = ap (λ ls. ls.items) moved.lits ∙ goes.lits },
@@ -171,9 +213,13 @@ module _ {W : Type 0} (seen : W → Writer) (s : Solver W) (whole : IsWhole s) w
         does = unknown_told states.UnsatUnderAssumptions (does_both s.names s.names s.names (steps_in s) (steps_of found.mid.proof) (steps_of core.proof) (λ j. j) (λ j. j) (λ j. []) (λ j. told_as states.Unknown states.UnsatUnderAssumptions (line_of s.names core) s.assumed.items told.failed_core.items)
             (nothing_at seen s.names s.core goes.joined found.mid found.ended.steps found.ended.adds found.ended.searched found.ended.keeps)
             (does_failed seen s.names found.mid mid core told.failed_core.items found.failed s.assumed.items s.asked.order.items whole.images lits));
+        comes = comes_both EndsAtUnsat (steps_in s) (steps_of found.mid.proof) (steps_of core.proof) found.ended.comes
+            (comes_one EndsAtUnsat (steps_of found.mid.proof) (steps_of core.proof) _ (found.failed.adds.history ∙ ap (λ ss. ss ++ steps_of found.mid.proof) found.failed.told.is) (λ u. absurd (true≢false (sym u ∙ found.ended.says.search.stands.fits.consistent))));
         took = (_, adds_more seen found.ended.steps found.failed.steps s.core.proof found.mid.proof core.proof found.ended.adds found.failed.adds);
         same = refl;
+        config = found.failed.config ∙ found.ended.config;
         counts = counts;
+        times = λ u. absurd (apart_core u);
         known = λ k. absurd (k unknown);
       }
         where
@@ -197,6 +243,7 @@ module _ {W : Type 0} (seen : W → Writer) (s : Solver W) (whole : IsWhole s) w
               let history : steps_of core.proof ≡ FailedAssumptions codes (causes_hashes mid.search.parts core.search.analysis.used) ∷ steps_of mid.proof = f.adds.history ∙ ap (λ ss. ss ++ steps_of mid.proof) f.told.is in
               let among : (k : ℕ) → k < length used → Contains s.asked.order.items (get_or used k 0) = λ k lt. subst (λ ls. Contains ls (get_or used k 0)) lits (f.told.failed.among k lt) in
               record {
+                some = λ e. some_mapped (name_of s.names) used f.told.failed.some (sym f.named ∙ e);
                 codes = codes;
                 none = subst (λ ss. (a : Valuation) → Holds ss a → EachTrue a codes → ⊥) (sym history) (core_none (steps_of mid.proof) codes (causes_hashes mid.search.parts core.search.analysis.used) (subst MayAll history f.joined.sound.keeps));
                 same = subst (λ xs. SameSet (variable_of (steps_of core.proof)) (map named_literal xs) codes) (sym f.named)
@@ -212,14 +259,18 @@ module _ {W : Type 0} (seen : W → Writer) (s : Solver W) (whole : IsWhole s) w
           images = whole.images;
           spelt = whole.spelt;
           globals = whole.globals ∙ sym (ap (λ ss. (session_after ss).assumed) ended.adds.history ∙ asked_after ended.steps (steps_in s) (kinds_of (session_in s).solver_names ended.steps ended.searched));
-          positive = scale;
+          positive = positive;
+          scaled = scaled core ended.config;
           decays = subst AreDecays (sym ended.config) whole.decays;
           says = ended.says;
         };
         does = unknown_told states.Unsat behind;
+        comes = ended.comes;
         took = (ended.steps, ended.adds);
         same = refl;
+        config = ended.config;
         counts = counts;
+        times = λ u. absurd (apart_unsat u);
         known = λ k. absurd (k unknown);
       }
         where
@@ -234,6 +285,7 @@ whole_over {W} c n asked assumed core scale state p whole e = record {
   spelt = whole.spelt;
   globals = whole.globals ∙ ap (λ ss. (session_after ss).assumed) (sym e);
   positive = whole.positive;
+  scaled = whole.scaled;
   decays = whole.decays;
   says = says state whole.says;
 }
@@ -262,6 +314,7 @@ whole_over {W} c n asked assumed core scale state p whole e = record {
     says states.UnsatUnderAssumptions h = (
       joined h.0,
       record {
+        some = h.1.some;
         codes = h.1.codes;
         none = subst (λ ss. (a : Valuation) → Holds ss a → EachTrue a h.1.codes → ⊥) (sym e) h.1.none;
         same = subst (λ ss. SameSet (variable_of ss) (map named_literal core) h.1.codes) (sym e) h.1.same;
@@ -276,69 +329,75 @@ module _ {W : Type 0} (seen : W → Writer) (old mid : Solver W) (settled : Sett
   settled_flushed f = record {
     whole = whole_over mid.core mid.names mid.asked mid.assumed.items mid.told.failed_core.items mid.clock.restarts.scale mid.state p settled.whole f.history;
     does = subst (λ ss. Does old.names mid.names (steps_in old) ss (λ j. j) (λ j. told_by old.state mid)) (sym f.history) settled.does;
+    comes = subst (Comes EndsAtUnsat (steps_in old)) (sym f.history) settled.comes;
     took = (_, adds_more seen settled.took.0 [] old.core.proof mid.core.proof p settled.took.1 (flush_records seen (Ok tt) mid.core.proof p f));
     same = ap (λ (m : Solver W). record m { core = record mid.core { proof = p } }) settled.same;
-    counts = record { few = settled.counts.few; spent = settled.counts.spent; answered = settled.counts.answered };
-    known = λ k. let h = settled.known k in (h.0, h.1, f.history ∙ h.2);
+    config = settled.config;
+    counts = record { on = settled.counts.on; round = settled.counts.round; spent = settled.counts.spent; answered = settled.counts.answered };
+    times = λ u. let h = settled.times u in record { steps = h.steps; behind = f.history ∙ h.behind; times = h.times };
+    known = λ k. let h = settled.known k in (f.history ∙ h.0, ap (λ (m : Solver W). record m { core = record m.core { proof = p } }) h.1);
   }
 
   -- and where the target failed at it
-  pub settled_broken : (e : ProofError) → FlushesOrFails seen (Err e) mid.core.proof p → Breaks seen (fault_of e) old.core (record mid.core { proof = p })
-  settled_broken (Write cause) f = record { fault = tt; steps = _; went = fails_later seen settled.took.0 [] old.core.proof mid.core.proof p settled.took.1 f }
+  pub settled_broken : (e : ProofError) → FlushesOrFails seen (Err e) mid.core.proof p → Breaks seen (fault_of e) old.core (record mid.core { proof = p }) × CountsRounds old mid
+  settled_broken (Write cause) f = (record { fault = tt; steps = _; went = fails_later seen settled.took.0 [] old.core.proof mid.core.proof p settled.took.1 f }, settled.counts.on)
 
-module _ {W : Type 0} (seen : W → Writer) (s : Solver W) (whole : IsWhole s) (unknown : s.state ≡ states.Unknown) (core : Core W) (told : Told) (clock : Clock) (scale : 0 < clock.restarts.scale) (few : clock.steps < s.clock.steps + 2 ^ (2 * values_in s.core + 3)) where
+module _ {W : Type 0} (seen : W → Writer) (s : Solver W) (whole : IsWhole s) (unknown : s.state ≡ states.Unknown) (core : Core W) (told : Told) (clock : Clock) (scale : clock.restarts.scale ≡ s.clock.restarts.scale) (on : CountsOn (values_in s.core) s.core.config.max_steps s.clock.steps clock.steps) where
   goes_on : GoesOn s.core s.names s.asked
   goes_on = subst (λ st. StateSays st s.core s.names s.asked s.assumed.items s.told.failed_core.items) unknown whole.says
 
   -- an answer was found
-  pub settled_some : (st : State) → FoundSays seen st s.names s.core core told.failed_core.items → Settled seen s (record s { core = core; told = told; clock = clock; state = st })
-  settled_some states.Unknown found = absurd found
-  settled_some states.Sat found = settled_model seen s whole goes_on core told clock scale unknown (record { few = few; spent = λ u. absurd (apart_sat u); answered = λ n le fits u. apart_sat u }) found
-    where
-      apart_sat : states.Sat ≡ states.Unknown → ⊥
-      apart_sat e = cc
-  settled_some states.UnsatUnderAssumptions found = settled_core seen s whole goes_on core told clock scale unknown (record { few = few; spent = λ u. absurd (apart_core u); answered = λ n le fits u. apart_core u }) found
-    where
-      apart_core : states.UnsatUnderAssumptions ≡ states.Unknown → ⊥
-      apart_core e = cc
-  settled_some states.Unsat found = settled_unsat seen s whole goes_on core told clock scale unknown (record { few = few; spent = λ u. absurd (apart_unsat u); answered = λ n le fits u. apart_unsat u }) found
-    where
-      apart_unsat : states.Unsat ≡ states.Unknown → ⊥
-      apart_unsat e = cc
+  pub settled_some : s.clock.steps < clock.steps → (st : State) → FoundSays seen st s.names s.core core told.failed_core.items → Settled seen s (record s { core = core; told = told; clock = clock; state = st })
+  settled_some round states.Unknown found = absurd found
+  settled_some round states.Sat found = settled_model seen s whole goes_on core told clock scale unknown (record { on = on; round = λ u k. round; spent = λ u. absurd (apart_sat u); answered = λ n le fits u. apart_sat u }) found
+  settled_some round states.UnsatUnderAssumptions found = settled_core seen s whole goes_on core told clock scale unknown (record { on = on; round = λ u k. round; spent = λ u. absurd (apart_core u); answered = λ n le fits u. apart_core u }) found
+  settled_some round states.Unsat found = settled_unsat seen s whole goes_on core told clock scale unknown (record { on = on; round = λ u k. round; spent = λ u. absurd (apart_unsat u); answered = λ n le fits u. apart_unsat u }) found
 
   -- or none by now
-  pub settled_without : (rounds : ℕ) → clock.steps ≡ min (s.clock.steps + s.core.config.max_steps) (2 ^ 64 - 1) →
-      ((n : ℕ) → values_in s.core ≤ n → 2 ^ (2 * n + 3) ≤ min s.core.config.max_steps (2 ^ 64 - 1 - s.clock.steps) → ⊥) →
-      FoundNone seen rounds s.core core → Settled seen s (record s { core = core; told = told; clock = clock })
-  settled_without rounds spent answered found = settled_none seen s whole goes_on core told clock scale rounds unknown (record { few = few; spent = λ u. spent; answered = λ n le fits u. answered n le fits }) found
+  pub settled_without : clock.steps ≡ s.clock.steps + steps_left s.core.config.max_steps s.clock.steps →
+      ((n : ℕ) → values_in s.core ≤ n → 2 ^ (2 * n + 3) ≤ steps_left s.core.config.max_steps s.clock.steps → ⊥) →
+      FoundNone seen (clock.steps - s.clock.steps) s.core core → Settled seen s (record s { core = core; told = told; clock = clock })
+  settled_without spent answered found = settled_none seen s whole goes_on core told clock scale unknown (record { on = on; round = λ u k. absurd (k unknown); spent = λ u. spent; answered = λ n le fits u. answered n le fits }) found
+
+-- a target was flushed
+pub flushed_by : {W : Type 0} (seen : W → Writer) (p q : Proof W) → Flushes seen p q → IsFlushed (target_of seen q)
+flushed_by seen p q f = go (target_of seen p) (target_of seen q) f.target
+  where
+    go : (a b : Target) → Flushed a b → IsFlushed b
+    go Closed b e = subst IsFlushed (sym e) tt
+    go (Open s) b e = subst IsFlushed (sym e.1) (e.2.none, e.2.flushed)
+    go (Broken w) b e = subst IsFlushed (sym e) tt
 
 -- CALLS
 
-module _ {W : Type 0} (seen : W → Writer) (s new : Solver W) (settled : Settled seen (record s { used = true }) new) (going : s.failed ≡ false) where
+module _ {W : Type 0} (seen : W → Writer) (s new : Solver W) (settled : Settled seen (record s { used = true }) new) (going : s.failed ≡ false) (flushed : IsFlushed (target_of seen new.core.proof)) where
   -- an ask was looked at
   pub answered : Answered seen s new
   answered = record {
-    did = record { whole = settled.whole; going = ap (λ (x : Solver W). x.failed) settled.same ∙ going; does = settled.does; took = settled.took };
+    did = record { whole = settled.whole; going = going; failed = ap (λ (x : Solver W). x.failed) settled.same ∙ going; used = ap (λ (x : Solver W). x.used) settled.same; config = settled.config; does = settled.does; took = settled.took };
+    comes = settled.comes;
     assumed = ap (λ (x : Solver W). x.assumed) settled.same;
     names = ap (λ (x : Solver W). x.names) settled.same;
-    counts = record { few = settled.counts.few; spent = settled.counts.spent; answered = settled.counts.answered };
-    known = settled.known;
+    counts = record { on = settled.counts.on; round = settled.counts.round; spent = settled.counts.spent; answered = settled.counts.answered };
+    times = settled.times;
+    flushed = flushed;
+    known = λ k. let h = settled.known k in record { steps = h.0; same = h.1 };
   }
 
 -- a call failed
-pub ends_by : {W : Type 0} (seen : W → Writer) (e : SolverError) (s new : Solver W) → Breaks seen e s.core new.core → new.failed ≡ true → Solves seen (Err e) s new
-ends_by seen errors.OutOfMemory s new b f = record { failed = f; breaks = b }
-ends_by seen errors.StoreFull s new b f = record { failed = f; breaks = b }
-ends_by seen (errors.ProofIoError cause) s new b f = record { failed = f; breaks = b }
-ends_by seen errors.Interrupted s new b f = absurd b.fault
-ends_by seen (errors.ProofProcessorError cause) s new b f = absurd b.fault
-ends_by seen errors.WitnessVariable s new b f = absurd b.fault
-ends_by seen errors.AssumedVariable s new b f = absurd b.fault
-ends_by seen errors.TooLate s new b f = absurd b.fault
-ends_by seen errors.NotInDrat s new b f = absurd b.fault
-ends_by seen errors.VariableLimit s new b f = absurd b.fault
-ends_by seen errors.CounterEnd s new b f = absurd b.fault
-ends_by seen errors.HasFailed s new b f = absurd b.fault
-ends_by seen errors.Read s new b f = absurd b.fault
-ends_by seen errors.Malformed s new b f = absurd b.fault
-ends_by seen errors.OutOfRange s new b f = absurd b.fault
+pub ends_by : {W : Type 0} (seen : W → Writer) (e : SolverError) (s new : Solver W) → Breaks seen e s.core new.core → CountsRounds s new → s.failed ≡ false → new.failed ≡ true → Solves seen (Err e) s new
+ends_by seen errors.OutOfMemory s new b k g f = record { going = g; failed = f; breaks = b; counts = k }
+ends_by seen errors.StoreFull s new b k g f = record { going = g; failed = f; breaks = b; counts = k }
+ends_by seen (errors.ProofIoError cause) s new b k g f = record { going = g; failed = f; breaks = b; counts = k }
+ends_by seen errors.Interrupted s new b k g f = absurd b.fault
+ends_by seen (errors.ProofProcessorError cause) s new b k g f = absurd b.fault
+ends_by seen errors.WitnessVariable s new b k g f = absurd b.fault
+ends_by seen errors.AssumedVariable s new b k g f = absurd b.fault
+ends_by seen errors.TooLate s new b k g f = absurd b.fault
+ends_by seen errors.NotInDrat s new b k g f = absurd b.fault
+ends_by seen errors.VariableLimit s new b k g f = absurd b.fault
+ends_by seen errors.CounterEnd s new b k g f = absurd b.fault
+ends_by seen errors.HasFailed s new b k g f = absurd b.fault
+ends_by seen errors.Read s new b k g f = absurd b.fault
+ends_by seen errors.Malformed s new b k g f = absurd b.fault
+ends_by seen errors.OutOfRange s new b k g f = absurd b.fault

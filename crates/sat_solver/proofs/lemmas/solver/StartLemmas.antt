@@ -76,13 +76,14 @@ module _ (n : Variables) (tidy : AreTidy n) (none : variables_used n ≡ 0) wher
 
   -- a solver without steps is whole
   pub whole_first : {W : Type 0} (c : Core W) (asked : Taken) (assumed core : List ℕ) (scale : ℕ) → steps_of c.proof ≡ [] → IsSearch nothing c.search → c.search.parts.assignment.current ≡ [] → c.search.globals.items ≡ [] →
-      0 < c.config.reduce_locals_interval → 0 < c.config.reduce_mids_interval → asked.order.items ≡ [] → asked.globals.items ≡ [] → assumed ≡ [] → 0 < scale → AreDecays c.config → IsWholeOf c n asked assumed core scale states.Unknown
-  whole_first c asked assumed core scale steps search values globals locals mids order asked_globals none_assumed positive decays = record {
+      0 < c.config.reduce_locals_interval → 0 < c.config.reduce_mids_interval → asked.order.items ≡ [] → asked.globals.items ≡ [] → assumed ≡ [] → 0 < scale → scale ≡ c.config.luby_restart_interval_scale → AreDecays c.config → IsWholeOf c n asked assumed core scale states.Unknown
+  whole_first c asked assumed core scale steps search values globals locals mids order asked_globals none_assumed positive scaled decays = record {
     stands = stands;
     images = record { count = ap (λ xs. length xs) order ∙ sym (ap (λ xs. length xs) none_assumed); each = λ k lt. absurd (let z : k < 0 = subst (λ (xs : List ℕ). k < length xs) none_assumed lt in omega arith) };
     spelt = record { count = ap (λ xs. length xs) asked_globals ∙ sym (ap (λ xs. length xs) none_assumed); each = λ k lt. absurd (let z : k < 0 = subst (λ (xs : List ℕ). k < length xs) none_assumed lt in omega arith) };
     globals = asked_globals ∙ sym (ap (λ ss. (session_after ss).assumed) steps);
     positive = positive;
+    scaled = scaled;
     decays = decays;
     says = record {
       joined = record {

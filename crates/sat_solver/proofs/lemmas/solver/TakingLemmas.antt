@@ -1,5 +1,5 @@
 -- A clause, or assumptions, over names: names, proof and search behind them.
-use Rattle.std.proofs.Common.{ℕ, ◌<◌, ◌≡◌, ◌∙◌, Bool, true, false, Result, Ok, Err, List, [], ◌∷◌, ◌++◌, length, map, get_or, refl, sym, ap, subst, inl, inr}
+use Rattle.std.proofs.Common.{ℕ, ◌<◌, ◌≡◌, ◌∙◌, Bool, true, false, Result, Ok, Err, OnOk, List, [], ◌∷◌, ◌++◌, length, map, get_or, refl, sym, ap, subst, inl, inr}
 use Rattle.sat_base.specs.device.Device.{Writer}
 use Rattle.sat_base.specs.values.Literals.{variable}
 use Rattle.sat_base.specs.script.Judge.{bring_all, with_clause}
@@ -47,6 +47,10 @@ use Rattle.sat_solver.proofs.lemmas.loading.TakenLemmas.{added_names, images_ove
 use Rattle.sat_solver.specs.solver.Joined.{IsJoined}
 use Rattle.sat_solver.specs.solver.Taking.{KeepImages, GoesOnOr, TookClause, TookAssumptions, TakesClause, BreaksNames}
 use Rattle.sat_solver.proofs.lemmas.solver.SpeltLemmas.{global_images_of}
+use Rattle.sat_solver.specs.names.Coming.{MayAdd}
+use Rattle.sat_solver.specs.session.Coming.{Comes, Deletes}
+use Rattle.sat_solver.proofs.lemmas.session.ComingLemmas.{comes_both}
+use Rattle.sat_solver.proofs.lemmas.names.ComingSteps.{comes_added, comes_deleted}
 use Rattle.sat_solver.proofs.lemmas.solver.BehindLemmas.{does_behind}
 use Rattle.sat_solver.proofs.lemmas.solver.TellingLemmas.{shares_moved}
 
@@ -146,6 +150,7 @@ module _ {W : Type 0} (seen : W → Writer) (n n' : Variables) (a : Core W) (joi
     pub clause_both : both ≡ true → TookClause seen n n' a (record a { proof = p; search = c1 }) user true
     clause_both e = record {
       does = adds.does;
+      comes = comes_added (names_in user) (steps_of a.proof) (steps_of p) adds.comes;
       took = took;
       goes_on = joined1 (record a { proof = p; search = c1 }) refl refl refl
           (tautology_loads (steps_of p) c1 t.lits.items clause_added (ap (λ ls. is_tautology ls) adds.clause.lits ∙ canonical_tautology t.order.items ∙ sym adds.signs ∙ e));
@@ -157,7 +162,7 @@ module _ {W : Type 0} (seen : W → Writer) (n n' : Variables) (a : Core W) (joi
     }
 
     -- another one is loaded
-    module _ (left : Bool) (q : Proof W) (c2 : Search) (goes : Goes seen (Ok left) p q (λ l _. IsLoaded l (session_of q) c1 c2)) where
+    module _ (left : Bool) (q : Proof W) (c2 : Search) (goes : Goes seen (Ok left) p q (λ l _. IsLoaded l (session_of q) c1 c2)) (deletes : Comes Deletes (steps_of p) (steps_of q)) where
       abbrev pub new : Core W
       new = record a { proof = q; search = c2 }
 
@@ -177,6 +182,7 @@ module _ {W : Type 0} (seen : W → Writer) (n n' : Variables) (a : Core W) (joi
       pub clause_loaded : TookClause seen n n' a new user left
       clause_loaded = record {
         does = does2;
+        comes = comes_both (MayAdd (names_in user)) (steps_of a.proof) (steps_of p) (steps_of q) (comes_added (names_in user) (steps_of a.proof) (steps_of p) adds.comes) (comes_deleted (names_in user) (steps_of p) (steps_of q) deletes);
         took = (_, adds_more seen took.0 goes.steps a.proof p q took.1 goes.went);
         goes_on = goes_on2 left goes.ends;
         names = λ u v e. (adds.extends.stays u v e).0;
@@ -187,9 +193,9 @@ module _ {W : Type 0} (seen : W → Writer) (n n' : Variables) (a : Core W) (joi
       }
 
     -- or it isn't
-    pub clause_told : (r : Result Bool SolverError) (q : Proof W) (c2 : Search) → Goes seen r p q (λ l _. IsLoaded l (session_of q) c1 c2) → TakesClause seen r n n' a (record a { proof = q; search = c2 }) user
-    clause_told (Ok left) q c2 goes = clause_loaded left q c2 goes
-    clause_told (Err e) q c2 goes = load_broke seen a (record a { proof = q; search = c2 }) e p (λ l _. IsLoaded l (session_of q) c1 c2) took goes
+    pub clause_told : (r : Result Bool SolverError) (q : Proof W) (c2 : Search) → Goes seen r p q (λ l _. IsLoaded l (session_of q) c1 c2) → OnOk r (Comes Deletes (steps_of p) (steps_of q)) → TakesClause seen r n n' a (record a { proof = q; search = c2 }) user
+    clause_told (Ok left) q c2 goes deletes = clause_loaded left q c2 goes deletes
+    clause_told (Err e) q c2 goes deletes = load_broke seen a (record a { proof = q; search = c2 }) e p (λ l _. IsLoaded l (session_of q) c1 c2) took goes
 
 -- ASSUMPTIONS
 
@@ -220,6 +226,7 @@ module _ {W : Type 0} (seen : W → Writer) (n n' : Variables) (a : Core W) (joi
     pub asked_taken : (c2 : Search) → AreAssumed t.order.items c1 c2 → TookAssumptions seen n n' a (record a { proof = p; search = c2 }) user t
     asked_taken c2 assumed = record {
       does = assumes.does;
+      comes = assumes.comes;
       took = took;
       config = refl;
       joined = record {

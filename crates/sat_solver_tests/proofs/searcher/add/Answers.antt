@@ -33,4 +33,4 @@ returns-in-Ok g c =
     let made : steps_of c.step.new.self ≡ AddClause (map (with_var (global_in c.args.core.now.search)) c.args.lits.now) ∷ steps_of c.args.core.now.proof =
     made_one g.W.CountedWrite.seen c.step.result (AddClause c.deref-2.result.now) c.args.core.now.proof c.step.new.self (sym c.is_err-2.ensures.value ∙ c.if-is_err-2.false) c.step.ensures.records
     ∙ ap (λ (ls : List ℕ). AddClause ls ∷ steps_of c.args.core.now.proof) same in
-    added_goes c.args.core.now c.args.count c.step.new.self c.load_clause.new.search c.requires c.args.lits.now rising made g.W.CountedWrite.seen c.load_clause.new.proof c.in-Ok.left c.in-Ok.ensures
+    added_goes c.args.core.now c.args.count c.step.new.self c.load_clause.new.search c.requires c.args.lits.now rising made g.W.CountedWrite.seen c.load_clause.new.proof c.in-Ok.left c.in-Ok.ensures.goes

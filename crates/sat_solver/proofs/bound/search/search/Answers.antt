@@ -47,10 +47,16 @@ loop-steps-preserved g c =
           (c.in_ok-reduce.ensures.goes s (c.loop-steps.steps - c.args.steps.now) (c.restart_where_due.ensures.goes s (c.loop-steps.steps - c.args.steps.now) (c.loop-steps.invariant.goes s h))));
     }
 
-pub returns-then-not-is_learned-clause-few : goal.returns-then-not-is_learned-clause-few
-returns-then-not-is_learned-clause-few g c =
-    few_rounds g.R.Rounds.words c.loop-steps.rounds (g.R.Rounds.most c.args.rounds.now) c.args.steps.now c.loop-steps.steps c.loop-steps.restarts.next c.loop-steps.restarts.sequence
-    (omega (arith, c.loop-steps-test.true, c.saturating_add-end.ensures)) c.loop-steps.invariant.come
+pub returns-then-not-is_learned-clause-counts : goal.returns-then-not-is_learned-clause-counts
+returns-then-not-is_learned-clause-counts g c = record {
+  more = omega (arith, c.loop-steps.invariant.before);
+  within = omega (arith, c.loop-steps-test.true, c.saturating_add-end.ensures);
+  few = few_rounds g.R.Rounds.words c.loop-steps.rounds (g.R.Rounds.most c.args.rounds.now) c.args.steps.now c.loop-steps.steps c.loop-steps.restarts.next c.loop-steps.restarts.sequence
+      (omega (arith, c.loop-steps-test.true, c.saturating_add-end.ensures)) c.loop-steps.invariant.come;
+}
+
+pub returns-then-not-is_learned-clause-round : goal.returns-then-not-is_learned-clause-round
+returns-then-not-is_learned-clause-round g c = λ k. omega (arith, c.loop-steps.invariant.before)
 
 pub returns : goal.returns
 returns g c =
@@ -58,8 +64,12 @@ returns g c =
     (omega (arith, c.loop-steps.invariant.within, c.saturating_add-end.ensures)) c.loop-steps.invariant.come in
     record {
       scale = c.loop-steps.invariant.same;
-      counted = c.loop-steps.invariant.before;
-      few = omega (arith, few);
+      counts = record {
+        more = c.loop-steps.invariant.before;
+        within = omega (arith, c.loop-steps.invariant.within, c.saturating_add-end.ensures);
+        few = omega (arith, few);
+      };
+      round = λ k. absurd (k refl);
       interrupted = λ e. omega (arith, c.loop-steps-test.false, c.saturating_add-end.ensures, c.loop-steps.invariant.within);
       answered = λ n le left e. none_left n (g.R.Rounds.most c.args.rounds.now) c.args.steps.now c.loop-steps.steps c.args.max_steps le (omega (arith, few)) c.loop-steps.invariant.before left
           (omega (arith, c.loop-steps-test.false, c.saturating_add-end.ensures));
@@ -68,14 +78,22 @@ returns g c =
       fails = tt;
     }
 
-pub returns-in_err-reduce-clause-few : goal.returns-in_err-reduce-clause-few
-returns-in_err-reduce-clause-few g c =
+pub returns-in_err-reduce-clause-counts : goal.returns-in_err-reduce-clause-counts
+returns-in_err-reduce-clause-counts g c =
     let few = few_rounds g.R.Rounds.words c.loop-steps.rounds (g.R.Rounds.most c.args.rounds.now) c.args.steps.now c.loop-steps.steps c.loop-steps.restarts.next c.loop-steps.restarts.sequence
     (omega (arith, c.loop-steps-test.true, c.saturating_add-end.ensures)) c.loop-steps.invariant.come in
-    omega (arith, few)
+    record {
+      more = c.loop-steps.invariant.before;
+      within = omega (arith, c.loop-steps-test.true, c.saturating_add-end.ensures);
+      few = omega (arith, few);
+    }
 
-pub returns-in_err-outcome-clause-few : goal.returns-in_err-outcome-clause-few
-returns-in_err-outcome-clause-few g c =
+pub returns-in_err-outcome-clause-counts : goal.returns-in_err-outcome-clause-counts
+returns-in_err-outcome-clause-counts g c =
     let few = few_rounds g.R.Rounds.words c.loop-steps.rounds (g.R.Rounds.most c.args.rounds.now) c.args.steps.now c.loop-steps.steps c.loop-steps.restarts.next c.loop-steps.restarts.sequence
     (omega (arith, c.loop-steps-test.true, c.saturating_add-end.ensures)) c.loop-steps.invariant.come in
-    omega (arith, few)
+    record {
+      more = c.loop-steps.invariant.before;
+      within = omega (arith, c.loop-steps-test.true, c.saturating_add-end.ensures);
+      few = omega (arith, few);
+    }

@@ -1,8 +1,8 @@
-use Rattle.std.proofs.Common.{◌≡◌, ◌∙◌, ap, sym, subst, length, [], true, false, Ok}
-use Rattle.sat_base.specs.steps.Steps.{AtClause}
+use Rattle.std.proofs.Common.{◌≡◌, ◌∙◌, ap, refl, sym, subst, length, [], true, false, Ok}
+use Rattle.sat_base.specs.steps.Steps.{Step, AtClause}
 use Rattle.sat_parts.specs.clause.Db.{live_refs}
 use Rattle.sat_solver.specs.session.Session.{MayDerive, session_after}
-use Rattle.sat_solver.specs.session.ProofView.{session_of}
+use Rattle.sat_solver.specs.session.ProofView.{steps_of, session_of}
 use Rattle.sat_solver.proofs.lemmas.session.WritingLemmas.{ok_part}
 use Rattle.sat_solver.specs.parts.Whole.{state}
 use Rattle.sat_solver.specs.joint.Naming.{global_of}
@@ -10,7 +10,9 @@ use Rattle.sat_solver.specs.joint.Laws.{named_hashes}
 use Rattle.sat_solver.proofs.lemmas.joint.UnitLemmas.{empty_may}
 use Rattle.sat_solver.proofs.lemmas.joint.StepLemmas.{orderly_from, conflict_clause}
 use Rattle.sat_solver.specs.search.Going.{fault_of}
-use Rattle.sat_solver.proofs.lemmas.search.GoingLemmas.{goes_step, goes_broken, goes_then, goes_then_fails}
+use Rattle.sat_solver.proofs.lemmas.search.GoingLemmas.{goes_step, goes_broken, goes_behind, goes_then_fails}
+use Rattle.sat_solver.proofs.lemmas.search.RoundLemmas.{refutes_later}
+use Rattle.sat_solver.specs.search.Rounds.{LastRefutes}
 use Rattle.sat_solver.proofs.search.round.refute.Goals as goal
 
 pub write_units-requires-clause-orderly : goal.write_units-requires-clause-orderly
@@ -29,9 +31,11 @@ step-requires-clause-may g c =
 
 pub returns-in-Ok : goal.returns-in-Ok
 returns-in-Ok g c =
-    goes_then g.W.CountedWrite.seen c.in_ok-write_units.field-0 (Ok tt) c.args.proof.now c.write_units.new.proof c.step.new.self _ (λ _ _. (session_of c.step.new.self).unsat ≡ true) (λ _ _. (session_of c.step.new.self).unsat ≡ true) c.in_ok-write_units.ensures
-    (goes_step g.W.CountedWrite.seen tt c.write_units.new.proof c.step.new.self (AtClause false [] c.deref.result.now) _ tt c.in-Ok.ensures.keeps c.in-Ok.ensures.records (ap (λ ss. (session_after ss).unsat) c.in-Ok.ensures.records.history))
-    (λ xs ys y a b. b)
+    let step : Step = AtClause false [] c.deref.result.now in
+    goes_behind g.W.CountedWrite.seen c.in_ok-write_units.field-0 (Ok tt) c.args.proof.now c.write_units.new.proof c.step.new.self _ _ _ c.in_ok-write_units.ensures
+    (goes_step g.W.CountedWrite.seen tt c.write_units.new.proof c.step.new.self step (λ _ steps. LastRefutes (steps_of c.write_units.new.proof) steps (session_of c.step.new.self)) tt c.in-Ok.ensures.keeps c.in-Ok.ensures.records
+    (record { last = step; rest = []; is = refl; before = c.in_ok-write_units.ensures.ends.fits.consistent; now = ap (λ ss. (session_after ss).unsat) c.in-Ok.ensures.records.history }))
+    (λ xs ys y added a b. refutes_later (steps_of c.args.proof.now) xs ys (session_of c.step.new.self) (subst (λ zs. LastRefutes zs ys (session_of c.step.new.self)) added b))
 
 pub returns-in-Err : goal.returns-in-Err
 returns-in-Err g c =

@@ -2,12 +2,12 @@ use Rattle.sat_solver.proofs.lemmas.solver.TakingLemmas.{none_took, names_broke}
 use Rattle.sat_solver.proofs.lemmas.solver.ComingLemmas.{asked_known}
 use Rattle.sat_solver.proofs.solver.Solver.ask_known.Goals as goal
 
-pub returns-in-Ok : goal.returns-in-Ok
-returns-in-Ok g c =
+pub returns-in-Ok-clause-asks : goal.returns-in-Ok-clause-asks
+returns-in-Ok-clause-asks g c =
     let s = c.args.self.now in
     asked_known g.W.CountedWrite.seen s c.requires.whole c.requires.unsat c.assume.new.writer c.assume.new.variables c.args.lits.now (c.in-Ok.ensures.came s.core.proof (none_took g.W.CountedWrite.seen s.core.proof)) c.assume.new.asked c.in-Ok.ensures.assumes
 
-pub returns-in-Err : goal.returns-in-Err
-returns-in-Err g c =
+pub returns-in-Err-clause-asks : goal.returns-in-Err-clause-asks
+returns-in-Err-clause-asks g c =
     let s = c.args.self.now in
     rw c.name_fault.ensures (names_broke g.W.CountedWrite.seen s.core (record s.core { proof = c.assume.new.writer }) c.in-Err.error (c.in-Err.ensures.came s.core.proof (none_took g.W.CountedWrite.seen s.core.proof)))

@@ -32,4 +32,4 @@ pub returns-in-Err-clause-names : goal.returns-in-Err-clause-names
 returns-in-Err-clause-names g c =
     let s = c.args.self.now in
     rw c.name_fault.ensures (new_ends g.W.CountedWrite.seen _ s _
-    (names_broke g.W.CountedWrite.seen s.core (record s.core { proof = c.new_user_var.new.writer }) c.in-Err.error (c.in-Err.ensures.came s.core.proof (none_took g.W.CountedWrite.seen s.core.proof))) refl)
+    c.if-self.false (names_broke g.W.CountedWrite.seen s.core (record s.core { proof = c.new_user_var.new.writer }) c.in-Err.error (c.in-Err.ensures.came s.core.proof (none_took g.W.CountedWrite.seen s.core.proof))) refl refl)

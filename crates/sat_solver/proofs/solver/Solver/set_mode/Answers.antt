@@ -10,7 +10,7 @@ use Rattle.sat_solver.proofs.solver.Solver.set_mode.Goals as goal
 pub returns-then-is_assumed-clause-sets : goal.returns-then-is_assumed-clause-sets
 returns-then-is_assumed-clause-sets g c = record {
   same = refl;
-  cause = marked_asked c.args.self.now (c.requires c.if-self.false) c.args.user (c.is_assumed.ensures.assumed c.if-is_assumed.true);
+  cause = (c.if-self.false, marked_asked c.args.self.now (c.requires c.if-self.false) c.args.user (c.is_assumed.ensures.assumed c.if-is_assumed.true));
 }
 
 pub returns-in-Ok-clause-solver : goal.returns-in-Ok-clause-solver
@@ -39,4 +39,4 @@ pub returns-in-Err-clause-sets : goal.returns-in-Err-clause-sets
 returns-in-Err-clause-sets g c =
     let s = c.args.self.now in
     rw c.name_fault.ensures (mode_ends g.W.CountedWrite.seen _ s _ c.args.user _ _
-    (names_broke g.W.CountedWrite.seen s.core (record s.core { proof = c.set_sampling_mode.new.writer }) c.in-Err.error (c.in-Err.ensures.came s.core.proof (none_took g.W.CountedWrite.seen s.core.proof))) refl)
+    c.if-self.false (names_broke g.W.CountedWrite.seen s.core (record s.core { proof = c.set_sampling_mode.new.writer }) c.in-Err.error (c.in-Err.ensures.came s.core.proof (none_took g.W.CountedWrite.seen s.core.proof))) refl refl)

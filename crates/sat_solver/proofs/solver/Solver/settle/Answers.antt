@@ -1,4 +1,4 @@
-use Rattle.std.proofs.Common.{◌≡◌, ◌<◌, Option, sym, subst, ℕ}
+use Rattle.std.proofs.Common.{◌≡◌, Option, None, Some, subst}
 use Rattle.std.specs.Prelude.{◌-◌}
 use Rattle.sat_solver.specs.declared.solver.state.State.{State}
 use Rattle.sat_solver.specs.declared.solver.state.State.TheVariants as states
@@ -24,15 +24,18 @@ returns-in-Unsat g c = settled_known g.W.CountedWrite.seen c.args.self.now c.req
     apart : (st : State) → st ≡ states.Unsat → st ≡ states.Unknown → ⊥
     apart st e f = cc
 
+none_some : (o : Option State) (st : State) → o ≡ None → o ≡ Some st → ⊥
+none_some o st e f = cc
+
 pub returns-in-Some : goal.returns-in-Some
 returns-in-Some g c =
     let s = c.args.self.now in
-    settled_some g.W.CountedWrite.seen s c.requires.whole c.in-Unknown.is c.find_answer.new.core c.find_answer.new.told c.find_answer.new.clock (subst (λ (k : ℕ). 0 < k) (sym c.in_ok-found.ensures.scale) c.requires.whole.positive) c.in_ok-found.ensures.few c.in-Some.state
+    settled_some g.W.CountedWrite.seen s c.requires.whole c.in-Unknown.is c.find_answer.new.core c.find_answer.new.told c.find_answer.new.clock c.in_ok-found.ensures.scale c.in_ok-found.ensures.counts (c.in_ok-found.ensures.round (λ e. none_some c.in_ok-found.found c.in-Some.state e c.in-Some.is)) c.in-Some.state
     (subst (λ (o : Option State). Finds g.W.CountedWrite.seen o (c.find_answer.new.clock.steps - s.clock.steps) s.names s.core c.find_answer.new.core c.find_answer.new.told.failed_core.items) c.in-Some.is c.in_ok-found.ensures.finds)
 
 pub returns-in_default : goal.returns-in_default
 returns-in_default g c =
     let s = c.args.self.now in
-    settled_without g.W.CountedWrite.seen s c.requires.whole c.in-Unknown.is c.find_answer.new.core c.find_answer.new.told c.find_answer.new.clock (subst (λ (k : ℕ). 0 < k) (sym c.in_ok-found.ensures.scale) c.requires.whole.positive) c.in_ok-found.ensures.few _
+    settled_without g.W.CountedWrite.seen s c.requires.whole c.in-Unknown.is c.find_answer.new.core c.find_answer.new.told c.find_answer.new.clock c.in_ok-found.ensures.scale c.in_ok-found.ensures.counts
     (c.in_ok-found.ensures.interrupted c.in_default.is) (λ n le fits. c.in_ok-found.ensures.answered n le fits c.in_default.is)
     (subst (λ (o : Option State). Finds g.W.CountedWrite.seen o (c.find_answer.new.clock.steps - s.clock.steps) s.names s.core c.find_answer.new.core c.find_answer.new.told.failed_core.items) c.in_default.is c.in_ok-found.ensures.finds)

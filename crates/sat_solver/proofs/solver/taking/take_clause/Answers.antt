@@ -37,4 +37,4 @@ pub returns : goal.returns
 returns g c = clause_told g.W.CountedWrite.seen c.args.names.now c.add_clause-added.new.variables c.args.core.now c.requires.joined c.args.lits.now c.add_clause-added.new.taken c.in-Ok.both_signs c.add_clause-added.new.writer c.in-Ok.ensures.adds (c.in-Ok.ensures.came c.args.core.now.proof (none_took g.W.CountedWrite.seen c.args.core.now.proof)) c.in-Ok.ensures.keeps c.new_indices.new.search
     (subst (λ (gs : List ℕ). AreIndexed gs c.add_clause-added.new.taken.given.items c.args.core.now.search c.new_indices.new.search) c.deref.ensures.value
     (subst (λ (hs : List Given). AreIndexed c.deref.result.now hs c.args.core.now.search c.new_indices.new.search) c.deref-2.ensures.value c.in_ok-new_indices.ensures))
-    c.load_clause.result c.load_clause.new.proof c.load_clause.new.search c.load_clause.ensures
+    c.load_clause.result c.load_clause.new.proof c.load_clause.new.search c.load_clause.ensures.goes c.load_clause.ensures.comes

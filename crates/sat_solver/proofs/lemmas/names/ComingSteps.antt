@@ -1,0 +1,79 @@
+-- Steps that a call over names makes.
+use Rattle.std.proofs.Common.{ℕ, zero, suc, ◌+◌, ◌<◌, ◌≡◌, ◌∙◌, ◌⊎◌, false, Option, Some, List, [], ◌∷◌, length, get_or, refl, sym, ap, subst, arith, inl, inr}
+use Rattle.std.proofs.lemmas.Bool.{true≢false}
+use Rattle.sat_base.specs.values.Literals.{variable}
+use Rattle.sat_base.specs.script.Script.{Among}
+use Rattle.sat_base.specs.steps.Steps.{Step, SolverVarName, UserVarName, DeleteVar, ChangeSamplingMode, AddClause, AtClause, UnitClauses, DeleteClause, ChangeHashBits, Model, Assumptions, FailedAssumptions, End}
+use Rattle.sat_solver.specs.session.Coming.{Comes, Deletes}
+use Rattle.sat_solver.specs.names.Checking.{is_ordered, variable_of}
+use Rattle.sat_solver.specs.names.Coming.{IsDue, MayTake, MayAdd}
+use Rattle.sat_solver.specs.names.Refusing.{names_in}
+use Rattle.sat_solver.proofs.lemmas.session.ComingLemmas.{comes_none, comes_one, comes_map}
+
+-- each name of a literal is among the names
+pub name_among : (ls : List ℕ) (k : ℕ) → k < length ls → Among (variable (get_or ls k 0) + 1) (names_in ls)
+name_among [] k lt = absurd (omega arith)
+name_among (l ∷ ls) zero lt = inl refl
+name_among (l ∷ ls) (suc k) lt = inr (name_among ls k (omega arith))
+
+due_take : (names : List ℕ) (earlier : List Step) (step : Step) → IsDue earlier step → MayTake names earlier step
+due_take names earlier (SolverVarName v index) h = absurd (true≢false (sym h))
+due_take names earlier (ChangeHashBits bits) h = tt
+due_take names earlier (UserVarName v name) h = h
+due_take names earlier (DeleteVar v) h = h
+due_take names earlier (ChangeSamplingMode v sample) h = h
+due_take names earlier (AddClause clause) h = h
+due_take names earlier (AtClause redundant clause hashes) h = h
+due_take names earlier (UnitClauses us) h = h
+due_take names earlier (DeleteClause clause proof) h = h
+due_take names earlier (Model ls) h = h
+due_take names earlier (Assumptions ls) h = h
+due_take names earlier (FailedAssumptions core hashes) h = h
+due_take names earlier End h = h
+
+take_add : (names : List ℕ) (earlier : List Step) (step : Step) → MayTake names earlier step → MayAdd names earlier step
+take_add names earlier (DeleteClause clause proof) h = absurd (true≢false (sym h))
+take_add names earlier (SolverVarName v index) h = h
+take_add names earlier (ChangeHashBits bits) h = h
+take_add names earlier (UserVarName v name) h = h
+take_add names earlier (DeleteVar v) h = h
+take_add names earlier (ChangeSamplingMode v sample) h = h
+take_add names earlier (AddClause clause) h = h
+take_add names earlier (AtClause redundant clause hashes) h = h
+take_add names earlier (UnitClauses us) h = h
+take_add names earlier (Model ls) h = h
+take_add names earlier (Assumptions ls) h = h
+take_add names earlier (FailedAssumptions core hashes) h = h
+take_add names earlier End h = h
+
+delete_add : (names : List ℕ) (earlier : List Step) (step : Step) → Deletes earlier step → MayAdd names earlier step
+delete_add names earlier (DeleteClause clause proof) h = h
+delete_add names earlier (SolverVarName v index) h = absurd h
+delete_add names earlier (ChangeHashBits bits) h = absurd h
+delete_add names earlier (UserVarName v name) h = absurd h
+delete_add names earlier (DeleteVar v) h = absurd h
+delete_add names earlier (ChangeSamplingMode v sample) h = absurd h
+delete_add names earlier (AddClause clause) h = absurd h
+delete_add names earlier (AtClause redundant clause hashes) h = absurd h
+delete_add names earlier (UnitClauses us) h = absurd h
+delete_add names earlier (Model ls) h = absurd h
+delete_add names earlier (Assumptions ls) h = absurd h
+delete_add names earlier (FailedAssumptions core hashes) h = absurd h
+delete_add names earlier End h = absurd h
+
+module _ (names : List ℕ) (from to : List Step) where
+  pub comes_due : Comes IsDue from to → Comes (MayTake names) from to
+  comes_due c = comes_map IsDue (MayTake names) (due_take names) from to c
+
+  pub comes_added : Comes (MayTake names) from to → Comes (MayAdd names) from to
+  comes_added c = comes_map (MayTake names) (MayAdd names) (take_add names) from to c
+
+  pub comes_deleted : Comes Deletes from to → Comes (MayAdd names) from to
+  comes_deleted c = comes_map Deletes (MayAdd names) (delete_add names) from to c
+
+  -- an index for the variable of a name
+  pub comes_index : (name v x : ℕ) → Among name names → variable_of from name ≡ Some v → (to ≡ from) ⊎ (to ≡ SolverVarName v (Some x) ∷ from) → Comes (MayTake names) from to
+  comes_index name v x among named step = elim step [
+    | inl e ↦ subst (Comes (MayTake names) from) (sym e) (comes_none (MayTake names) from)
+    | inr e ↦ comes_one (MayTake names) from to (SolverVarName v (Some x)) e (name, among, named)
+  ]

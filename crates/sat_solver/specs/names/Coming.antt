@@ -1,0 +1,21 @@
+-- Which steps a call over names makes. Lists of steps have the newest first.
+use Rattle.std.specs.Prelude.{ℕ, ◌≡◌, true, Some, List}
+use Rattle.sat_base.specs.script.Script.{Among}
+use Rattle.sat_base.specs.steps.Steps.{Step, SolverVarName, DeleteClause, ChangeHashBits}
+use Rattle.sat_solver.specs.session.Coming.{Deletes}
+use Rattle.sat_solver.specs.names.Checking.{is_ordered, variable_of}
+
+-- an ordered step
+abbrev pub IsDue : List Step → Step → Type 0
+IsDue earlier step = is_ordered step ≡ true
+
+-- beside ordered steps and widths, an index for the variable of one of these names
+abbrev pub MayTake : List ℕ → List Step → Step → Type 0
+MayTake names earlier (SolverVarName v index) = (name : ℕ) × Among name names × (variable_of earlier name ≡ Some v)
+MayTake names earlier (ChangeHashBits bits) = Unit {0}
+MayTake names earlier step = is_ordered step ≡ true
+
+-- and deleted clauses
+abbrev pub MayAdd : List ℕ → List Step → Step → Type 0
+MayAdd names earlier (DeleteClause clause proof) = Deletes earlier (DeleteClause clause proof)
+MayAdd names earlier step = MayTake names earlier step
