@@ -7,7 +7,6 @@ pub mod ProofChecking
 pub mod Expected
 pub mod Bridge
 pub mod Calls
-pub mod SolverCalls
 pub mod Refusing
 pub mod Adding
 pub mod AddingCalls

@@ -1,9 +1,9 @@
 //! Names, variables and indices of a solver.
-ghost use Rattle.std.specs.Prelude.{ℕ, ◌≡◌, ◌≤◌, ◌<◌, None, Some, OnOk, IfSome, MatchOption, length, true, false};
+ghost use Rattle.std.specs.Prelude.{ℕ, ◌≡◌, ◌≤◌, ◌<◌, None, Some, OnOk, IfSome, IfNone, MatchOption, length, true, false};
 ghost use Rattle.sat_store.specs.variables.Maps.{target};
 ghost use Rattle.sat_solver.specs.names.Variables.{AreTidy, data_at, global_of, global_at, user_of, solver_of, names_used, indices_used, variables_used};
 ghost use Rattle.sat_solver.specs.names.Free.{is_free};
-ghost use Rattle.sat_solver.specs.names.Naming.{IsRoom, NoneLeft, PutsDeleted, PutsHidden, PutsIndex, PutsMode, PutsName, PutsObserved, PutsUnit, IsNextIndex, IsNextUser};
+ghost use Rattle.sat_solver.specs.names.Naming.{IsRoom, NamesFull, NoneLeft, PutsDeleted, PutsHidden, PutsIndex, PutsMode, PutsName, PutsObserved, PutsUnit, IsNextIndex, IsNextUser};
 
 pub mod adding;
 pub mod assuming;
@@ -255,7 +255,8 @@ impl Variables {
     fn first_unused(&self) -> Option<Var>
         requires tidy { AreTidy self.now }
         requires none { (u : ℕ) → is_free self.now.free_users u ≡ false }
-        ensures { IfSome result (IsNextUser self.now) }
+        ensures next { IfSome result (IsNextUser self.now) }
+        ensures full { IfNone result (NamesFull self.now) }
     {
         let used = self.global_from_user.fwd().watermark();
         if used < Var::max_count() {
@@ -268,7 +269,8 @@ impl Variables {
     #[tactic(auto, using(crate::proofs::lemmas::names::NextNames::next_hidden))]
     pub(crate) fn next_user(&self) -> Option<Var>
         requires tidy { AreTidy self.now }
-        ensures { IfSome result (IsNextUser self.now) }
+        ensures next { IfSome result (IsNextUser self.now) }
+        ensures full { IfNone result (NamesFull self.now) }
     {
         match self.free_users.lowest() {
             Some(free) => Some(free),

@@ -1,7 +1,9 @@
 -- How calls over names end, in what takes their steps.
-use Rattle.std.specs.Prelude.{Result, Ok, Err}
+use Rattle.std.specs.Prelude.{◌≡◌, Result, Ok, Err}
 use Rattle.sat_solver.specs.declared.names.error.NameError.{NameError}
 use Rattle.sat_solver.specs.declared.names.error.NameError.TheVariants as errors
+use Rattle.sat_solver.specs.names.Naming.{NoneLeft}
+use Rattle.sat_solver.specs.declared.names.Variables.{Variables}
 
 -- want of memory, or a fault of what takes the steps
 abbrev pub IsFailure : NameError → Type 0
@@ -23,3 +25,17 @@ CameTo took broke w (errors.Write cause) new = broke w new
 abbrev pub Came : {A W : Type 0} → (took broke : W → W → Type 0) → Result A NameError → W → W → Type 0
 Came took broke (Ok x) old new = (w : _) → took w old → took w new
 Came took broke (Err e) old new = (w : _) → took w old → CameTo took broke w e new
+
+-- nothing has changed, and every variable is in use
+pub record IsFull {W : Type 0} (old new : Variables) (from to : W) : Type 0 where
+  pub names : new ≡ old
+  pub steps : to ≡ from
+  pub none : NoneLeft old
+
+-- no variable is left only where it is so
+abbrev pub Limits : {W : Type 0} → NameError → Variables → Variables → W → W → Type 0
+Limits errors.WitnessVariable old new from to = Unit {0}
+Limits errors.AssumedVariable old new from to = Unit {0}
+Limits errors.VariableLimit old new from to = IsFull old new from to
+Limits errors.OutOfMemory old new from to = Unit {0}
+Limits (errors.Write cause) old new from to = Unit {0}

@@ -20,6 +20,11 @@ pub record IsRoom (n : Variables) (user v : ℕ) : Type 0 where
 abbrev pub NoneLeft : Variables → Type 0
 NoneLeft n = (v : ℕ) → v < largest → (data_at n v).deleted ≡ false
 
+-- every name is in use
+pub record NamesFull (n : Variables) : Type 0 where
+  pub used : names_used n ≡ largest
+  pub all : (u : ℕ) → u < names_used n → global_of n u ≡ None → ⊥
+
 -- a name was given to a new variable
 pub record PutsName (old new : Variables) (user v : ℕ) : Type 0 where
   pub users : Links old.global_from_user new.global_from_user user v

@@ -9,7 +9,7 @@ use Rattle.sat_solver.specs.declared.error.SolverError.TheVariants as errors
 use Rattle.sat_solver.specs.names.Calls.{Agree}
 use Rattle.sat_solver.specs.names.Expected.{Expected, NewName, hiding, setting}
 use Rattle.sat_solver.specs.names.Live.{Live}
-use Rattle.sat_solver.specs.names.Naming.{IsLowestUnused}
+use Rattle.sat_solver.specs.names.Naming.{IsLowestUnused, NoneLeft}
 use Rattle.sat_solver.specs.names.Observing.{Observes, IsHidden}
 use Rattle.sat_solver.specs.names.Models.{value_in}
 use Rattle.sat_solver.specs.names.Variables.{global_of, judged_mode}
@@ -67,9 +67,10 @@ Samples seen r old new user = ChangesMode seen r old new user (accepted (Sample 
 abbrev pub IsNextName : {W : Type 0} → Solver W → ℕ → Type 0
 IsNextName s name = (j : Judge) (live : Live) → Agree s.names (steps_in s) j live → IsLowestUnused j name
 
--- why a call that gives names failed
+-- why a call that gives names failed: `VariableLimit` comes only where every variable of the proof is in use
 abbrev pub NamesFail : {W : Type 0} → (W → Writer) → SolverError → Solver W → Solver W → Type 0
 NamesFail seen errors.HasFailed old new = Refuses old new (old.failed ≡ true)
+NamesFail seen errors.VariableLimit old new = Refuses old new ((old.failed ≡ false) × NoneLeft old.names)
 NamesFail seen e old new = EndsNames seen e old new
 
 -- what came of a call for a new name
@@ -86,6 +87,7 @@ pub record Observed {W : Type 0} (seen : W → Writer) (old new : Solver W) (use
   pub config : new.core.config ≡ old.core.config
   pub observes : (j : Judge) (live : Live) → Agree old.names (steps_in old) j live → (k : Judge) × Observes 0 (steps_in old) j live (steps_in new) k users × Agree new.names (steps_in new) k live
   pub all : (v : ℕ) → IsHidden new.names v → ⊥
+  pub values : (v : ℕ) → variable_value new (Some v) ≡ variable_value old (Some v)
   pub took : Took seen old.core.proof new.core.proof
   pub assumed : new.assumed ≡ old.assumed
   pub told : new.told ≡ old.told

@@ -1,10 +1,10 @@
 //! Brings names in, and writes the steps.
-ghost use Rattle.std.specs.Prelude.{ℕ, ◌≡◌, ◌≤◌, ◌<◌, ◌+◌, ◌-◌, None, Some, IfOk, OnOk};
+ghost use Rattle.std.specs.Prelude.{ℕ, ◌≡◌, ◌≤◌, ◌<◌, ◌+◌, ◌-◌, None, Some, IfOk, IfErr, OnOk};
 ghost use Rattle.sat_base.specs.script.Judge.{names_from};
 ghost use Rattle.sat_solver.specs.names.Variables.{global_of, names_used};
 ghost use Rattle.sat_solver.specs.names.Naming.{IsNextUser};
 ghost use Rattle.sat_solver.specs.names.Calls.{Stands, NamesOne, NamesAll, Brought};
-ghost use Rattle.sat_solver.specs.names.Failing.{Came};
+ghost use Rattle.sat_solver.specs.names.Failing.{Came, Limits};
 
 use crate::names::Variables;
 use crate::names::error::NameError;
@@ -22,6 +22,7 @@ fn new_name<W: StepWriter>(
     requires free { global_of variables.old user ≡ None }
     requires within { user ≤ names_used variables.old }
     ensures names { IfOk result (λ v. NamesOne variables.old variables.new (W.steps writer.old) (W.steps writer.new) user v) }
+    ensures limit { IfErr result (λ e. Limits e variables.old variables.new writer.old writer.new) }
     ensures keeps { OnOk result (W.keeps writer.new) }
     ensures came { Came W.took W.broke result writer.old writer.new }
 {
@@ -81,7 +82,7 @@ pub fn global_from_user<W: StepWriter>(
     new_name(variables, writer, user)
 }
 
-/// Brings in the lowest hidden name, else the first never used.
+/// Brings in the lowest hidden name, else the first never used. Where no variable is left nothing has changed.
 pub fn new_user_var<W: StepWriter>(
     variables: &mut Variables,
     writer: &mut W,
@@ -90,12 +91,13 @@ pub fn new_user_var<W: StepWriter>(
     requires keeps { W.keeps writer.old }
     ensures next { IfOk result (IsNextUser variables.old) }
     ensures brought { IfOk result (λ user. Brought variables.old variables.new (W.steps writer.old) (W.steps writer.new) user) }
+    ensures limit { IfErr result (λ e. Limits e variables.old variables.new writer.old writer.new) }
     ensures keeps { OnOk result (W.keeps writer.new) }
     ensures came { Came W.took W.broke result writer.old writer.new }
 {
     let Some(user) = variables.next_user() else {
         return Err(NameError::VariableLimit);
     };
-    global_from_user(variables, writer, user)?;
+    new_name(variables, writer, user)?;
     Ok(user)
 }

@@ -1,5 +1,5 @@
 //! Hidden variables that get names.
-ghost use Rattle.std.specs.Prelude.{◌≡◌, ◌<◌, true, false, IfOk, OnOk};
+ghost use Rattle.std.specs.Prelude.{◌≡◌, ◌<◌, true, false, IfOk, IfErr, OnOk};
 ghost use Rattle.sat_solver.specs.names.Variables.{variables_used};
 ghost use Rattle.sat_solver.specs.names.Calls.{Stands};
 ghost use Rattle.sat_solver.specs.names.Observing.{IsHidden, NamesHidden, NamesAllHidden};
@@ -22,7 +22,7 @@ fn is_hidden(variables: &Variables, global: Var) -> bool
     variables.global_from_user.bwd().get(global).is_none()
 }
 
-/// Gives a hidden variable the next name, and mode witness.
+/// Gives a hidden variable the next name, and mode witness. A name is left for it.
 fn observe_var<W: StepWriter>(
     variables: &mut Variables,
     writer: &mut W,
@@ -32,6 +32,7 @@ fn observe_var<W: StepWriter>(
     requires keeps { W.keeps writer.old }
     requires hidden { IsHidden variables.old global }
     ensures names { IfOk result (λ user. NamesHidden variables.old variables.new (W.steps writer.old) (W.steps writer.new) global user) }
+    ensures left { IfErr result (λ e. e ≡ NameError.VariableLimit → ⊥) }
     ensures keeps { OnOk result (W.keeps writer.new) }
     ensures came { Came W.took W.broke result writer.old writer.new }
 {
@@ -60,6 +61,7 @@ pub fn observe_internal_vars<W: StepWriter>(
     requires stands { Stands variables.old (W.steps writer.old) }
     requires keeps { W.keeps writer.old }
     ensures names { OnOk result (NamesAllHidden variables.old variables.new (W.steps writer.old) (W.steps writer.new) users.new.items) }
+    ensures left { IfErr result (λ e. e ≡ NameError.VariableLimit → ⊥) }
     ensures keeps { OnOk result (W.keeps writer.new) }
     ensures came { Came W.took W.broke result writer.old writer.new }
 {

@@ -1,16 +1,31 @@
 //! Names that come in, that are hidden, and modes that a user sets.
-ghost use Rattle.std.specs.Prelude.{IfOk, IfErr};
+ghost use Rattle.std.specs.Prelude.{◌≡◌, true, false, IfOk, IfErr};
 ghost use Rattle.sat_solver.specs.solver.Naming.{Hides, Witnesses, Samples, SetsMode, NamesNew, NamesFail, Observed};
 ghost use Rattle.sat_solver.specs.solver.Whole.{IsSolver};
 
 use crate::SolverError;
 use crate::loading::faults::name_fault;
+use crate::names::error::NameError;
 use crate::names::modes::{hide_var, set_sampling_mode};
 use crate::names::naming::new_user_var;
 use crate::names::observing::observe_internal_vars;
 use crate::names::refusing::is_assumed;
 use crate::solver::Solver;
 use sat_base::{CountedWrite, Var};
+
+/// Whether no variable was left.
+fn is_limit(error: &NameError) -> bool
+    ensures limit { result ≡ true → error.now ≡ NameError.VariableLimit }
+    ensures other { result ≡ false → error.now ≡ NameError.VariableLimit → ⊥ }
+{
+    match error {
+        NameError::VariableLimit => true,
+        NameError::WitnessVariable => false,
+        NameError::AssumedVariable => false,
+        NameError::OutOfMemory => false,
+        NameError::Write(_) => false,
+    }
+}
 
 impl<W: CountedWrite + Drop> Solver<W> {
     /// Brings a name in, and hides it: its variable stays in the clauses, and the name may become that of a new variable. What is known
@@ -79,7 +94,7 @@ impl<W: CountedWrite + Drop> Solver<W> {
     }
 
     /// Brings in the lowest hidden name, else the first never used, and gives it. What is known of an answer stays: in a model the name
-    /// is false.
+    /// is false. `VariableLimit` changes nothing, and comes only where every variable of the proof is in use.
     pub fn new_var(&mut self) -> Result<Var, SolverError>
         requires { IsSolver self.old }
         ensures solver { IsSolver self.new }
@@ -88,10 +103,16 @@ impl<W: CountedWrite + Drop> Solver<W> {
         if self.failed {
             return Err(SolverError::HasFailed);
         }
-        self.used = true;
         match new_user_var(&mut self.names, &mut self.core.proof) {
-            Ok(user) => Ok(user),
+            Ok(user) => {
+                self.used = true;
+                Ok(user)
+            }
             Err(error) => {
+                if is_limit(&error) {
+                    return Err(SolverError::VariableLimit);
+                }
+                self.used = true;
                 self.failed = true;
                 Err(name_fault(error))
             }
@@ -105,6 +126,7 @@ impl<W: CountedWrite + Drop> Solver<W> {
         ensures solver { IsSolver self.new }
         ensures observes { IfOk result (λ users. Observed W.seen self.old self.new users.items) }
         ensures fails { IfErr result (λ e. NamesFail W.seen e self.old self.new) }
+        ensures left { IfErr result (λ e. e ≡ SolverError.VariableLimit → ⊥) }
     {
         if self.failed {
             return Err(SolverError::HasFailed);

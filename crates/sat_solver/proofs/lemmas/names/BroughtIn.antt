@@ -1,15 +1,16 @@
 -- A name that is brought in: which names become new variables.
-use Rattle.std.proofs.Common.{ℕ, ◌+◌, ◌-◌, ◌<◌, ◌≤◌, ◌≡◌, Bool, true, false, not, ◌&&◌, cond, ltb, lt-ltb, List, [], ◌∷◌, map, Option, Some, None, is_some, refl, sym, ◌∙◌, ap, subst, arith, Result, Ok, Err, IfOk, OnOk}
-use Rattle.std.proofs.lemmas.Bool.{le-ltb, ltb-true}
+use Rattle.std.proofs.Common.{ℕ, ◌+◌, ◌-◌, ◌<◌, ◌≤◌, ◌≡◌, Bool, true, false, not, ◌&&◌, cond, ltb, lt-ltb, List, [], ◌∷◌, map, Option, Some, None, is_some, refl, sym, ◌∙◌, ap, subst, arith, Result, Ok, Err, IfOk, OnOk, inl, inr}
+use Rattle.std.proofs.lemmas.Bool.{le-ltb, ltb-true, cases_lt}
 use Rattle.sat_base.specs.script.Judge.{Judge, identity_of, with_names, names_from, new_names}
 use Rattle.sat_base.specs.steps.Steps.{Step, UserVarName}
 use Rattle.sat_solver.specs.names.Free.{is_free}
 use Rattle.sat_solver.specs.names.Live.{Live, given_of}
 use Rattle.sat_solver.specs.names.Variables.{data_at, global_of, names_used, AreTidy, AreJudged}
+use Rattle.sat_solver.specs.names.Naming.{IsNextUser}
 use Rattle.sat_solver.specs.names.Expected.{NewName}
 use Rattle.sat_solver.specs.names.Calls.{Stands, Kept, NamesOne, NamesAll, BringsIn, Brought}
 use Rattle.sat_solver.specs.declared.names.Variables.{Variables}
-use Rattle.sat_solver.proofs.lemmas.names.NamingSteps.{none_brought, one_then}
+use Rattle.sat_solver.proofs.lemmas.names.NamingSteps.{none_brought, one_then, none_yet, last_came}
 use Rattle.sat_solver.proofs.lemmas.names.Extending.{extends_same}
 use Rattle.sat_solver.proofs.lemmas.names.Giving.{unseen_same}
 use Rattle.sat_solver.specs.names.Coming.{IsDue}
@@ -68,3 +69,12 @@ hidden_name n u tidy e = go (ltb u (names_used n)) refl (global_of n u) refl (sy
     go true x None y f = let lt = ltb-true u (names_used n) x in (y, omega arith)
     go true x (Some w) y f = absurd (cc)
     go false x o y f = absurd (cc)
+
+-- the next name came in
+pub brought_next : (old new : Variables) (from to : List Step) (user v : ℕ) → Stands old from → IsNextUser old user → NamesOne old new from to user v → Brought old new from to user
+brought_next old new from to user v stands next one = elim (cases_lt user (names_used old)) [
+  | inl lt ↦ record { brings = brings_again old new from to user v lt next.unused one; extends = one.extends; unseen = one.unseen; comes = comes_one IsDue from to (UserVarName v (Some user)) one.step refl }
+  | inr le ↦
+      (let same : user ≡ names_used old = (let r = next.reach in omega arith) in
+      record { brings = brings_new old new from to user le (last_came old old new from from to user v (none_yet old from user user stands same le) one); extends = one.extends; unseen = one.unseen; comes = comes_one IsDue from to (UserVarName v (Some user)) one.step refl })
+]

@@ -15,6 +15,10 @@ taken n m tidy lt e none = true≢false (sym here ∙ e)
     here : is_free n.free_users m ≡ true
     here = tidy.free_users m ∙ ap (λ o. ltb m (names_used n) && not (is_some o)) none ∙ ap (λ b. b && true) (lt-ltb m (names_used n) lt)
 
+-- where none of them is free, all are
+pub all_named : (n : Variables) → AreTidy n → ((i : ℕ) → is_free n.free_users i ≡ false) → (u : ℕ) → u < names_used n → global_of n u ≡ None → ⊥
+all_named n tidy none u lt e = taken n u tidy lt (none u) e
+
 free_within : (n : Variables) (u : ℕ) → AreTidy n → is_free n.free_users u ≡ true → u < names_used n
 free_within n u tidy e = ltb-true u (names_used n) (first (ltb u (names_used n)) (not (is_some (global_of n u))) (sym (tidy.free_users u) ∙ e))
   where

@@ -23,7 +23,7 @@ use Rattle.sat_solver.specs.names.Live.{Live, given, given_of}
 use Rattle.sat_solver.specs.names.Checking.{variable_of}
 use Rattle.sat_solver.specs.names.ProofChecking.{the_checking}
 use Rattle.sat_solver.specs.names.Calls.{Stands, Agree}
-use Rattle.sat_solver.specs.names.Naming.{IsNextUser, PutsObserved, KeepsNames}
+use Rattle.sat_solver.specs.names.Naming.{IsNextUser, NamesFull, NoneLeft, PutsObserved, KeepsNames}
 use Rattle.sat_solver.specs.names.Observing.{observed, Observes, all_named, one_more, IsHidden, NamesHidden, NamesAllHidden}
 use Rattle.sat_solver.specs.names.Search.{KeepsSearch, IsUnseen}
 use Rattle.sat_solver.specs.names.Variables.{data_at, global_of, user_of, solver_of, global_at, names_used, variables_used, indices_used, AreTidy, mode_in, variable_at, AreSaid, IsModeOf, AreJudged, says_unit}
@@ -35,7 +35,7 @@ use Rattle.sat_solver.proofs.lemmas.names.Giving.{unseen_same, unseen_both}
 use Rattle.sat_solver.proofs.lemmas.names.JudgeLemmas.{same_below, placed_found, given_has, next_same}
 use Rattle.sat_solver.proofs.lemmas.names.ModeChanges.{live_within, known_at}
 use Rattle.sat_solver.proofs.lemmas.names.NamedAgain.{named_again}
-use Rattle.sat_solver.proofs.lemmas.names.NewName.{and_false, none_or, shape}
+use Rattle.sat_solver.proofs.lemmas.names.NewName.{and_false, nameless, none_or, shape}
 use Rattle.sat_solver.proofs.lemmas.names.NextUnused.{lowest_unused}
 
 none_some : {x : ℕ} {o : Option ℕ} → o ≡ None → o ≡ Some x → ⊥
@@ -55,12 +55,12 @@ given_among ((w, k) ∷ ps) v i e = go (eqb w v) refl e (given_among ps v i)
     go true t f ih = inl (same v i (eqb-true w v t) (one f))
     go false t f ih = inr (ih f)
 
--- a name is left for a variable that has none: fewer names are in use than variables
-pub few_names : (n : Variables) (v : ℕ) → AreTidy n → IsHidden n v → ((m : ℕ) → m < names_used n → global_of n m ≡ None → ⊥) → names_used n < variables_used n
-few_names n v tidy h all =
+-- where a variable has no name, fewer names are in use than variables
+few_named : (n : Variables) (v : ℕ) → AreTidy n → v < variables_used n → user_of n v ≡ None → ((m : ℕ) → m < names_used n → global_of n m ≡ None → ⊥) → names_used n < variables_used n
+few_named n v tidy within nameless all =
     let fwd : mapped_count n.global_from_user.fwd ≡ names_used n = count_full (names_used n) (λ m. is_some (global_of n m)) (λ m lt. some_at (global_of n m) (all m lt)) in
     let bwd : count_to size has ≡ mapped_count n.global_from_user.bwd = count_mapped n.global_from_user.bwd size (omega arith) in
-    let fewer : count_to size has < count_to size below = count_fewer size v has below (omega (arith, within)) inside (ap is_some h.nameless) (lt-ltb v (variables_used n) within) in
+    let fewer : count_to size has < count_to size below = count_fewer size v has below (omega (arith, within)) inside (ap is_some nameless) (lt-ltb v (variables_used n) within) in
     let most : count_to size below ≤ variables_used n = (let a = count_reach (variables_used n) size below (omega arith) past in let b = count_le (variables_used n) below in omega arith) in
     let even = tidy.even_users in
     omega arith
@@ -73,9 +73,6 @@ few_names n v tidy h all =
 
     below : ℕ → Bool
     below w = ltb w (variables_used n)
-
-    within : v < variables_used n
-    within = live_within n v h.live
 
     some_at : (o : Option ℕ) → (o ≡ None → ⊥) → is_some o ≡ true
     some_at None f = absurd (f refl)
@@ -94,6 +91,25 @@ few_names n v tidy h all =
         go : (b : Bool) → below w ≡ b → b ≡ false
         go true e = absurd (let lt = ltb-true w (variables_used n) e in omega arith)
         go false e = refl
+
+-- so a name is left for a hidden one
+few_names : (n : Variables) (v : ℕ) → AreTidy n → IsHidden n v → ((m : ℕ) → m < names_used n → global_of n m ≡ None → ⊥) → names_used n < variables_used n
+few_names n v tidy h all = few_named n v tidy (live_within n v h.live) h.nameless all
+
+pub name_left : (n : Variables) (v : ℕ) → AreTidy n → IsHidden n v → NamesFull n → ⊥
+name_left n v tidy h full = let a = few_names n v tidy h full.all in let b = full.used in let c = tidy.within in absurd (omega arith)
+
+-- where every name is in use, so is every variable
+pub none_left : (n : Variables) → AreTidy n → NamesFull n → NoneLeft n
+none_left n tidy full v lt = go (data_at n v).deleted refl
+  where
+    go : (b : Bool) → (data_at n v).deleted ≡ b → b ≡ false
+    go false e = refl
+    go true e = absurd (
+        let b = full.used in let c = tidy.within in let r = tidy.reach in
+        let a = few_named n v tidy (omega (arith, lt, b, r)) (nameless n v tidy e) full.all in
+        omega arith
+        )
 
 module _ (old new : Variables) (user v : ℕ) (tidy : AreTidy old) (here : IsHidden old v) (next : IsNextUser old user) (put : PutsObserved old new user v) where
   deleted_at : (w : ℕ) → (data_at new w).deleted ≡ (data_at old w).deleted

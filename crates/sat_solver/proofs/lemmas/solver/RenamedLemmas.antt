@@ -16,6 +16,9 @@ use Rattle.sat_solver.specs.session.Session.{session_after}
 use Rattle.sat_solver.specs.declared.session.proof.Proof.{Proof}
 use Rattle.sat_solver.specs.declared.error.SolverError.{SolverError}
 use Rattle.sat_solver.specs.declared.error.SolverError.TheVariants as errors
+use Rattle.sat_solver.specs.declared.names.error.NameError.{NameError}
+use Rattle.sat_solver.specs.declared.names.error.NameError.TheVariants as names
+use Rattle.sat_solver.specs.loading.Faults.{told_as}
 use Rattle.sat_solver.specs.search.Joint.{IsSearch}
 use Rattle.sat_solver.specs.loading.Alike.{LooksAlike}
 use Rattle.sat_solver.proofs.lemmas.loading.AlikeLemmas.{search_alike}
@@ -316,25 +319,39 @@ mode_ends seen errors.Malformed s new user judge due g b k f = record { going = 
 mode_ends seen errors.OutOfRange s new user judge due g b k f = record { going = g; failed = f; breaks = b; clock = k }
 
 -- a call that gives names failed
-pub new_ends : {W : Type 0} (seen : W → Writer) (e : SolverError) (s new : Solver W) → s.failed ≡ false → BreaksNames seen e s.core new.core → new.clock ≡ s.clock → new.failed ≡ true → NamesFail seen e s new
-new_ends seen errors.OutOfMemory s new g b k f = record { going = g; failed = f; breaks = b; clock = k }
-new_ends seen errors.StoreFull s new g b k f = record { going = g; failed = f; breaks = b; clock = k }
-new_ends seen (errors.ProofIoError cause) s new g b k f = record { going = g; failed = f; breaks = b; clock = k }
-new_ends seen errors.VariableLimit s new g b k f = record { going = g; failed = f; breaks = b; clock = k }
-new_ends seen errors.Interrupted s new g b k f = record { going = g; failed = f; breaks = b; clock = k }
-new_ends seen (errors.ProofProcessorError cause) s new g b k f = record { going = g; failed = f; breaks = b; clock = k }
-new_ends seen errors.WitnessVariable s new g b k f = record { going = g; failed = f; breaks = b; clock = k }
-new_ends seen errors.AssumedVariable s new g b k f = record { going = g; failed = f; breaks = b; clock = k }
-new_ends seen errors.TooLate s new g b k f = record { going = g; failed = f; breaks = b; clock = k }
-new_ends seen errors.NotInDrat s new g b k f = record { going = g; failed = f; breaks = b; clock = k }
-new_ends seen errors.CounterEnd s new g b k f = record { going = g; failed = f; breaks = b; clock = k }
-new_ends seen errors.HasFailed s new g b k f = absurd (elim b.fault [ inl x ↦ x | inr e ↦ apart e ])
+pub new_ends : {W : Type 0} (seen : W → Writer) (e : SolverError) (s new : Solver W) → (e ≡ errors.VariableLimit → ⊥) → s.failed ≡ false → BreaksNames seen e s.core new.core → new.clock ≡ s.clock → new.failed ≡ true → NamesFail seen e s new
+new_ends seen errors.OutOfMemory s new n g b k f = record { going = g; failed = f; breaks = b; clock = k }
+new_ends seen errors.StoreFull s new n g b k f = record { going = g; failed = f; breaks = b; clock = k }
+new_ends seen (errors.ProofIoError cause) s new n g b k f = record { going = g; failed = f; breaks = b; clock = k }
+new_ends seen errors.VariableLimit s new n g b k f = absurd (n refl)
+new_ends seen errors.Interrupted s new n g b k f = record { going = g; failed = f; breaks = b; clock = k }
+new_ends seen (errors.ProofProcessorError cause) s new n g b k f = record { going = g; failed = f; breaks = b; clock = k }
+new_ends seen errors.WitnessVariable s new n g b k f = record { going = g; failed = f; breaks = b; clock = k }
+new_ends seen errors.AssumedVariable s new n g b k f = record { going = g; failed = f; breaks = b; clock = k }
+new_ends seen errors.TooLate s new n g b k f = record { going = g; failed = f; breaks = b; clock = k }
+new_ends seen errors.NotInDrat s new n g b k f = record { going = g; failed = f; breaks = b; clock = k }
+new_ends seen errors.CounterEnd s new n g b k f = record { going = g; failed = f; breaks = b; clock = k }
+new_ends seen errors.HasFailed s new n g b k f = absurd (elim b.fault [ inl x ↦ x | inr e ↦ apart e ])
   where
     apart : errors.HasFailed ≡ errors.VariableLimit → ⊥
     apart e = cc
-new_ends seen errors.Read s new g b k f = record { going = g; failed = f; breaks = b; clock = k }
-new_ends seen errors.Malformed s new g b k f = record { going = g; failed = f; breaks = b; clock = k }
-new_ends seen errors.OutOfRange s new g b k f = record { going = g; failed = f; breaks = b; clock = k }
+new_ends seen errors.Read s new n g b k f = record { going = g; failed = f; breaks = b; clock = k }
+new_ends seen errors.Malformed s new n g b k f = record { going = g; failed = f; breaks = b; clock = k }
+new_ends seen errors.OutOfRange s new n g b k f = record { going = g; failed = f; breaks = b; clock = k }
+
+-- which fault a call over names tells as the limit
+pub told_limit : (e : NameError) → told_as e ≡ errors.VariableLimit → e ≡ names.VariableLimit
+told_limit names.VariableLimit h = refl
+told_limit names.WitnessVariable h = cc
+told_limit names.AssumedVariable h = cc
+told_limit names.OutOfMemory h = cc
+told_limit (names.Write cause) h = cc
+
+-- a call that changed neither names nor steps
+pub same_solver : {W : Type 0} (s : Solver W) (n' : Variables) (p : Proof W) → n' ≡ s.names → p ≡ s.core.proof → ◌≡◌ {A = Solver W} (record s { core = record s.core { proof = p }; names = n' }) s
+same_solver {W} s n' p e f =
+    subst (λ (n : Variables). ◌≡◌ {A = Solver W} (record s { core = record s.core { proof = p }; names = n }) s) (sym e)
+    (subst (λ (q : Proof W). ◌≡◌ {A = Solver W} (record s { core = record s.core { proof = q } }) s) (sym f) refl)
 
 -- the next of the names is the judge's lowest one not in use
 pub next_name : {W : Type 0} (s : Solver W) → IsWhole s → (user : ℕ) → IsNextUser s.names user → IsNextName s (user + 1)
@@ -351,6 +368,7 @@ observed_all seen s whole going n' p users all took = record {
   config = refl;
   observes = all.kept;
   all = all.all;
+  values = λ v. ap (λ (b : Bool). Some b) (value_same seen s whole going n' p (alike_unseen s.names n' (steps_in s) (steps_of p) all.unseen) all.stands v (λ b. ap (λ f. f (coded v b)) all.unseen.search.units));
   took = took;
   assumed = refl;
   told = refl;

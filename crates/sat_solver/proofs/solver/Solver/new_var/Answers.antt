@@ -1,11 +1,12 @@
-use Rattle.std.proofs.Common.{refl, ap}
+use Rattle.std.proofs.Common.{refl, sym, ap, subst}
 use Rattle.sat_base.specs.values.Literals.{variable, coded}
 use Rattle.sat_solver.proofs.lemmas.names.Extending.{are_fresh}
 use Rattle.sat_solver.proofs.lemmas.names.Giving.{alike_unseen}
 use Rattle.sat_solver.proofs.lemmas.solver.TakingLemmas.{none_took, names_broke}
-use Rattle.sat_solver.specs.solver.Whole.{steps_in}
+use Rattle.sat_solver.specs.names.Failing.{IsFull, Limits}
+use Rattle.sat_solver.specs.solver.Whole.{IsSolver, steps_in}
 use Rattle.sat_solver.specs.session.ProofView.{steps_of}
-use Rattle.sat_solver.proofs.lemmas.solver.RenamedLemmas.{next_name, whole_renamed, renamed, new_ends}
+use Rattle.sat_solver.proofs.lemmas.solver.RenamedLemmas.{next_name, whole_renamed, renamed, new_ends, told_limit, same_solver}
 use Rattle.sat_solver.proofs.solver.Solver.new_var.Goals as goal
 
 pub returns-in-Ok-clause-solver : goal.returns-in-Ok-clause-solver
@@ -28,8 +29,20 @@ returns-in-Ok-clause-names g c =
           (c.in-Ok.ensures.came s.core.proof (none_took g.W.CountedWrite.seen s.core.proof)),
     )
 
-pub returns-in-Err-clause-names : goal.returns-in-Err-clause-names
-returns-in-Err-clause-names g c =
+pub returns-then-is_limit-clause-solver : goal.returns-then-is_limit-clause-solver
+returns-then-is_limit-clause-solver g c =
     let s = c.args.self.now in
-    rw c.name_fault.ensures (new_ends g.W.CountedWrite.seen _ s _
+    let full : IsFull s.names c.new_user_var.new.variables s.core.proof c.new_user_var.new.writer = subst (λ e. Limits e s.names c.new_user_var.new.variables s.core.proof c.new_user_var.new.writer) (c.is_limit.ensures.limit c.if-is_limit.true) c.in-Err.ensures.limit in
+    subst (λ z. IsSolver z) (sym (same_solver s c.new_user_var.new.variables c.new_user_var.new.writer full.names full.steps)) c.requires
+
+pub returns-then-is_limit-clause-names : goal.returns-then-is_limit-clause-names
+returns-then-is_limit-clause-names g c =
+    let s = c.args.self.now in
+    let full : IsFull s.names c.new_user_var.new.variables s.core.proof c.new_user_var.new.writer = subst (λ e. Limits e s.names c.new_user_var.new.variables s.core.proof c.new_user_var.new.writer) (c.is_limit.ensures.limit c.if-is_limit.true) c.in-Err.ensures.limit in
+    record { same = same_solver s c.new_user_var.new.variables c.new_user_var.new.writer full.names full.steps; cause = (c.if-self.false, full.none) }
+
+pub returns-else-is_limit-clause-names : goal.returns-else-is_limit-clause-names
+returns-else-is_limit-clause-names g c =
+    let s = c.args.self.now in
+    rw c.name_fault.ensures (new_ends g.W.CountedWrite.seen _ s _ (λ e. c.is_limit.ensures.other c.if-is_limit.false (told_limit c.in-Err.error e))
     c.if-self.false (names_broke g.W.CountedWrite.seen s.core (record s.core { proof = c.new_user_var.new.writer }) c.in-Err.error (c.in-Err.ensures.came s.core.proof (none_took g.W.CountedWrite.seen s.core.proof))) refl refl)
