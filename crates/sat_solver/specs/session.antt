@@ -2,12 +2,17 @@ pub mod Session
 pub mod Agrees
 pub mod LiveClauses
 pub mod Widths
+pub mod Counting
+pub mod DratText
+pub mod Drat
+pub mod OutputView
 pub mod Promises
 pub mod SessionRows
 pub mod Feeding
 pub mod WritingView
 pub mod ProofView
 pub mod ProofTexts
+pub mod ProofRows
 pub mod Due
 pub mod Making
 pub mod NamedMeaning

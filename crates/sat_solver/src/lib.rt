@@ -19,5 +19,5 @@ pub mod solver;
 pub use config::{SolverConfig, SolverConfigUpdate};
 pub use error::SolverError;
 pub use progress::Progress;
+pub use session::format::ProofFormat;
 pub use solver::Solver;
-pub use solver::proving::ProofFormat;

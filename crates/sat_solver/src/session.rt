@@ -1,6 +1,12 @@
 //! What ties a solver that writes a proof to the checker that reads it.
+pub mod counting;
+pub mod cutting;
 pub mod feeding;
+pub mod format;
 pub mod history;
 pub mod laws;
+pub mod lines;
+pub mod output;
 pub mod proof;
+pub mod putting;
 pub mod writing;

@@ -75,7 +75,7 @@ impl<W: CountedWrite + Drop> Solver<W> {
         let config = SolverConfig::default();
         Solver {
             core: Core {
-                proof: Proof::new(),
+                proof: Proof::new(alloc),
                 search: no_search(alloc),
                 config,
             },

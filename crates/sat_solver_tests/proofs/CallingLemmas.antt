@@ -1,32 +1,77 @@
 -- What came of a proof that a caller wrote.
-use Rattle.std.proofs.Common.{◌≡◌, List, [], ◌∷◌, Option, None, Some, Err, refl, sym, subst}
-use Rattle.sat_base.specs.device.Device.{Writer, Breaks}
+use Rattle.std.proofs.Common.{ℕ, ◌≡◌, ◌∙◌, true, false, Bool, List, [], ◌∷◌, ◌++◌, Option, None, Some, Result, Ok, Err, refl, sym, ap, subst}
+use Rattle.std.proofs.lemmas.Bool.{true≢false}
+use Rattle.sat_base.specs.device.Device.{Writer, Breaks, lent_writer}
 use Rattle.sat_base.specs.device.Sink.{empty_sink}
 use Rattle.sat_base.specs.steps.Steps.{Step, Assumptions, End}
-use Rattle.sat_base.specs.steps.StepBytes.{step_bytes}
-use Rattle.sat_base.proofs.lemmas.device.Writes.{breaks_within}
-use Rattle.sat_solver.specs.session.ProofView.{Target, Open, text_of, Stops, Gives, seen_of, target_of, Adds, Records, Closes, HandsBack}
+use Rattle.sat_base.proofs.lemmas.device.Writes.{breaks_within, lent_puts}
+use Rattle.sat_solver.specs.session.Counting.{start, counted, one_made, written_for}
+use Rattle.sat_solver.specs.session.OutputView.{text_in}
+use Rattle.sat_solver.specs.session.ProofTexts.{BrokeText}
+use Rattle.sat_solver.specs.session.ProofView.{Target, Open, Carries, Stops, Gives, seen_of, is_open, target_of, Adds, Records, Closes, HandsBack}
+use Rattle.sat_solver.specs.declared.session.format.ProofFormat.{ProofFormat}
+use Rattle.sat_solver.specs.declared.session.format.ProofFormat.TheVariants.{Varisat}
 use Rattle.sat_solver.specs.declared.session.proof.Proof.{Proof}
 use Rattle.sat_solver.specs.declared.session.proof.ProofError.{ProofError}
-use Rattle.sat_solver.specs.declared.session.proof.ProofError.TheVariants.{Write}
-use Rattle.sat_solver.proofs.lemmas.session.ProofLemmas.{stops_later, broken_is_front}
-use Rattle.sat_solver_tests.specs.Calling.{made, PutsOwned}
+use Rattle.sat_solver.specs.declared.session.proof.ProofError.TheVariants.{Write, OutOfMemory}
+use Rattle.sat_solver.proofs.lemmas.session.ProofLemmas.{text_append, carries_more, stops_later, closed_is_text, broken_is_front}
+use Rattle.sat_solver_tests.specs.Calling.{made, PutsMade, Calls, PutsOwned}
+
+abbrev opened_as : Writer → Target
+opened_as from = Open Varisat start (empty_sink from)
 
 -- a target that failed at the text of steps, handed back
-faulty : {W : Type 0} (seen : W → Writer) (start : Writer) (steps : List Step) (t : Target) (given : Option W) → Stops (Open (empty_sink start)) steps t → Gives t (seen_of seen given) → (w : W) × (given ≡ Some w) × Breaks start (seen w) (text_of steps)
-faulty seen start steps t None p g = let q = subst (λ z. Gives z None) p.1 g in absurd (let e = q in cc)
-faulty seen start steps t (Some w) p g = (w, refl, broken_is_front start (seen w) steps t p g)
+faulty : {W : Type 0} (seen : W → Writer) (from : Writer) (steps : List Step) (t : Target) (given : Option W) → Stops (opened_as from) steps t → Gives t (seen_of seen given) → (w : W) × (given ≡ Some w) × BrokeText Varisat from (seen w) steps
+faulty seen from steps t None p g = let q = subst (λ z. Gives z None) p.1 g in absurd (let e = q in cc)
+faulty seen from steps t (Some w) p g = (w, refl, broken_is_front Varisat from (seen w) steps t p g)
 
-module _ {W : Type 0} (seen : W → Writer) (w : W) (p q : Proof W) (opened : target_of seen p ≡ Open (empty_sink (seen w))) where
+-- one that is still open, handed back
+still : {W : Type 0} (seen : W → Writer) (from : Writer) (steps : List Step) (t : Target) (given : Option W) → Carries (opened_as from) steps t → Gives t (seen_of seen given) → (w : W) × (given ≡ Some w)
+still seen from steps t None p g = let q = subst (λ z. Gives z None) p.2 g in absurd (let e = q in cc)
+still seen from steps t (Some w) p g = (w, refl)
+
+-- a fault at the first step's text is one at the text of all
+all_broke : (e : _) (from given : Writer) → BrokeText Varisat from given (Assumptions [] ∷ []) → PutsMade (Err (Write e)) from given
+all_broke e from given b = record {
+  written = written_for b.counting.bits (counted End b.counting).bits End ++ b.written;
+  counting = counted End b.counting;
+  cuts = one_made End tt b.cuts;
+  puts = subst (Breaks from given) (sym (text_append Varisat (written_for b.counting.bits (counted End b.counting).bits End) b.written))
+      (breaks_within from given (text_in Varisat b.written) (text_in Varisat (written_for b.counting.bits (counted End b.counting).bits End)) b.breaks);
+}
+
+module _ {W : Type 0} (seen : W → Writer) (w : W) (p q : Proof W) (opened : target_of seen p ≡ opened_as (seen w)) where
   -- the first step failed
-  pub step_failed : (e : ProofError) (r : Proof W) (given : Option W) → Records {T = Unit {0}} seen (Err e) (Assumptions [] ∷ []) p q → HandsBack seen given q r → PutsOwned {E = ProofError} seen (Err e) w given
+  pub step_failed : (e : ProofError) (r : Proof W) (given : Option W) → Records {T = Unit {0}} seen (Err e) (Assumptions [] ∷ []) p q → HandsBack seen given q r → PutsOwned seen (Err e) w given
   step_failed (Write e) r given f h =
       let x = faulty seen (seen w) (Assumptions [] ∷ []) (target_of seen q) given (subst (λ z. Stops z (Assumptions [] ∷ []) (target_of seen q)) opened f.target) h.gives in
-      subst (PutsOwned seen (Err (Write e)) w) (sym x.1) (breaks_within (seen w) (seen x.0) (text_of (Assumptions [] ∷ [])) (step_bytes End) x.2)
+      subst (PutsOwned seen (Err (Write e)) w) (sym x.1) (all_broke e (seen w) (seen x.0) x.2)
+  step_failed OutOfMemory r given a h =
+      let x = still seen (seen w) [] (target_of seen q) given (subst (λ z. Carries z [] (target_of seen q)) opened a.target) h.gives in
+      subst (PutsOwned seen (Err OutOfMemory) w) (sym x.1) tt
 
-  -- closing failed
-  pub close_failed : (e : ProofError) (r s : Proof W) (given : Option W) → Adds seen (Assumptions [] ∷ []) p q → Closes seen (Err e) q r → HandsBack seen given r s → PutsOwned {E = ProofError} seen (Err e) w given
-  close_failed (Write e) r s given a c h =
-      let stops = stops_later (target_of seen p) (target_of seen q) (target_of seen r) (Assumptions [] ∷ []) (End ∷ []) a.target c.target in
-      let x = faulty seen (seen w) made (target_of seen r) given (subst (λ z. Stops z made (target_of seen r)) opened stops) h.gives in
-      subst (PutsOwned seen (Err (Write e)) w) (sym x.1) x.2
+  module _ (a : Adds seen (Assumptions [] ∷ []) p q) where
+    carried : Carries (opened_as (seen w)) (Assumptions [] ∷ []) (target_of seen q)
+    carried = subst (λ z. Carries z (Assumptions [] ∷ []) (target_of seen q)) opened a.target
+
+    -- closing failed
+    pub close_failed : (e : ProofError) (r s : Proof W) (given : Option W) → Closes seen (Err e) q r → HandsBack seen given r s → PutsOwned seen (Err e) w given
+    close_failed (Write e) r s given c h =
+        let x = faulty seen (seen w) made (target_of seen r) given (stops_later (opened_as (seen w)) (target_of seen q) (target_of seen r) (Assumptions [] ∷ []) (End ∷ []) carried c.target) h.gives in
+        subst (PutsOwned seen (Err (Write e)) w) (sym x.1) (record { written = x.2.written; counting = x.2.counting; cuts = x.2.cuts; puts = x.2.breaks })
+    close_failed OutOfMemory r s given c h =
+        let x = still seen (seen w) (Assumptions [] ∷ []) (target_of seen r) given (carries_more (opened_as (seen w)) (target_of seen q) (target_of seen r) (Assumptions [] ∷ []) [] carried c.target) h.gives in
+        subst (PutsOwned seen (Err OutOfMemory) w) (sym x.1) tt
+
+    -- it was closed
+    pub closed : (o : Option W) (r : Proof W) → Closes seen (Ok o) q r → PutsOwned seen (Ok tt) w o
+    closed None r c = absurd (true≢false (sym (ap is_open carried.2) ∙ c.shut))
+    closed (Some given) r c =
+        let t = closed_is_text Varisat (seen w) (seen given) (Assumptions [] ∷ []) End (target_of seen q) carried c.takes in
+        record { written = t.written; counting = t.counting; cuts = t.cuts; puts = t.takes }
+
+-- what was put into a lent target
+pub lent_calls : {W : Type 0} (seen : W → Writer) (a z v : W) (given back : ℕ) (r : Result (Unit {0}) ProofError) → (given ≡ back → z ≡ v) → Calls r (lent_writer given (seen a)) (lent_writer back (seen v)) → Calls r (seen a) (seen z)
+lent_calls seen a z v given back (Ok x) h c = record { written = c.written; counting = c.counting; cuts = c.cuts; puts = lent_puts seen a z v given back (text_in Varisat c.written) (Ok {E = ProofError} x) h c.puts }
+lent_calls seen a z v given back (Err (Write e)) h c = record { written = c.written; counting = c.counting; cuts = c.cuts; puts = lent_puts seen a z v given back (text_in Varisat c.written) (Err {T = Unit {0}} (Write e)) h c.puts }
+lent_calls seen a z v given back (Err OutOfMemory) h c = tt

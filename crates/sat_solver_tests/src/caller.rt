@@ -1,17 +1,20 @@
 //! A caller of a proof, over a target that it is lent.
-ghost use Rattle.sat_base.specs.device.Device.{Puts};
-ghost use Rattle.sat_solver.specs.session.ProofView.{text_of};
-ghost use Rattle.sat_solver_tests.specs.Calling.{made, PutsOwned};
+ghost use Rattle.sat_solver_tests.specs.Calling.{Calls, PutsOwned};
 
 use sat_base::{CountedWrite, ProofStep};
+use sat_solver::ProofFormat;
 use sat_solver::session::proof::{Proof, ProofError};
+use std::alloc::Global;
 
 /// Writes an ask for nothing, and the last step, into a target of its own, which comes back.
-fn write_owned<W: CountedWrite + Drop>(target: W) -> (Option<W>, Result<(), ProofError>)
+fn write_owned<W: CountedWrite + Drop>(
+    alloc: Global,
+    target: W,
+) -> (Option<W>, Result<(), ProofError>)
     ensures { PutsOwned W.seen result.1 target result.0 }
 {
-    let mut proof = Proof::new();
-    proof.open(target);
+    let mut proof = Proof::new(alloc);
+    proof.open(ProofFormat::Varisat, target);
     if let Err(error) = proof.step(&ProofStep::Assumptions { assumptions: &[] }) {
         return (proof.take_target(), Err(error));
     }
@@ -22,10 +25,10 @@ fn write_owned<W: CountedWrite + Drop>(target: W) -> (Option<W>, Result<(), Proo
 }
 
 /// The same, into a target that is lent.
-pub fn write_lent<C: CountedWrite>(target: &mut C) -> Result<(), ProofError>
-    ensures { Puts (text_of made) result (C.seen target.old) (C.seen target.new) }
+pub fn write_lent<C: CountedWrite>(alloc: Global, target: &mut C) -> Result<(), ProofError>
+    ensures { Calls result (C.seen target.old) (C.seen target.new) }
 {
-    let (lent, result) = write_owned(target);
+    let (lent, result) = write_owned(alloc, target);
     match lent {
         Some(lent) => {
             let _target: &mut C = lent;

@@ -5,6 +5,8 @@
 mod analysing;
 pub mod caller;
 #[cfg(test)]
+mod certificates;
+#[cfg(test)]
 mod devices;
 pub mod formulas;
 #[cfg(test)]

@@ -4,6 +4,7 @@ ghost use Rattle.sat_solver.specs.session.ProofView.{Keeps};
 use crate::caller::write_lent;
 use crate::devices::{ByFew, by_few};
 use sat_base::{Counted, CountedWrite, Lit, ProofStep, Var};
+use sat_solver::ProofFormat;
 use sat_solver::session::proof::Proof;
 use std::alloc::{AllocError, Global};
 
@@ -58,8 +59,8 @@ fn closed(mut proof: Proof<Counted<ByFew>>, text: &[u8]) -> (Option<bool>, Seen)
 /// Makes two steps and flushes them, makes two more and closes. Gives whether the steps and the flush were done, and what came of
 /// closing.
 fn written(alloc: Global, device: Device) -> (bool, bool, (Option<bool>, Seen)) {
-    let mut proof = Proof::new();
-    proof.open(by_few(alloc, device.0, device.1));
+    let mut proof = Proof::new(alloc);
+    proof.open(ProofFormat::Varisat, by_few(alloc, device.0, device.1));
     let first = make_two(&mut proof);
     let flushed = proof.flush().is_ok();
     let second = make_two(&mut proof);
@@ -72,8 +73,8 @@ fn long_written(
     device: Device,
 ) -> Result<(bool, bool, (Option<bool>, Seen)), AllocError> {
     let lits: Vec<Lit> = vec![in alloc; Var::from_index(0).positive(); 5000]?;
-    let mut proof = Proof::new();
-    proof.open(by_few(alloc, device.0, device.1));
+    let mut proof = Proof::new(alloc);
+    proof.open(ProofFormat::Varisat, by_few(alloc, device.0, device.1));
     let long = proof.step(&ProofStep::Assumptions { assumptions: &lits });
     let long = long.is_ok();
     let more = make_two(&mut proof);
@@ -81,8 +82,8 @@ fn long_written(
 }
 
 /// Steps without a target.
-fn unwritten() -> (bool, (Option<bool>, Seen)) {
-    let mut proof: Proof<Counted<ByFew>> = Proof::new();
+fn unwritten(alloc: Global) -> (bool, (Option<bool>, Seen)) {
+    let mut proof: Proof<Counted<ByFew>> = Proof::new(alloc);
     let made = make_two(&mut proof) && proof.flush().is_ok();
     (made && !proof.is_open(), closed(proof, &[]))
 }
@@ -90,7 +91,7 @@ fn unwritten() -> (bool, (Option<bool>, Seen)) {
 /// Whether a caller's steps reach a target that it is lent.
 fn is_lent(alloc: Global) -> bool {
     let mut target = Counted::new(Vec::new(alloc));
-    let done = write_lent(&mut target).is_ok();
+    let done = write_lent(alloc, &mut target).is_ok();
     done && target.into_inner().as_slice() == [11, 0, 13].as_slice()
 }
 
@@ -129,7 +130,7 @@ fn a_fault_is_answered_once_and_the_target_is_left_alone(rt: HostRuntime) {
 
 #[test]
 fn steps_need_no_target(rt: HostRuntime) {
-    assert!(rt; unwritten() == (true, (Some(false), NOTHING)));
+    assert!(rt; unwritten(rt.alloc()) == (true, (Some(false), NOTHING)));
 }
 
 #[test]

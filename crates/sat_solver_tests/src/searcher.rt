@@ -6,7 +6,6 @@ ghost use Rattle.sat_solver.specs.search.Solving.{IsCore};
 ghost use Rattle.sat_solver_tests.specs.Searching.{IsOpen, IsFresh, AreNamed, AreRising, GoesOn, HasEnded};
 
 use sat_base::{CountedWrite, Lit, ProofStep, Var};
-use sat_solver::SolverConfig;
 use sat_solver::bound::restarts::Restarts;
 use sat_solver::bound::search::Outcome;
 use sat_solver::joint::naming::map_lits;
@@ -20,6 +19,7 @@ use sat_solver::search::showing::tell_model;
 use sat_solver::search::solving::{Core, solve};
 use sat_solver::search::work::no_search;
 use sat_solver::session::proof::Proof;
+use sat_solver::{ProofFormat, SolverConfig};
 use sat_store::LubySequence;
 use std::alloc::Global;
 
@@ -42,8 +42,8 @@ pub fn no_names(alloc: Global) -> Names {
 pub fn begin<W: CountedWrite + Drop>(alloc: Global, target: W) -> Core<W>
     ensures { IsFresh result }
 {
-    let mut proof = Proof::new();
-    proof.open(target);
+    let mut proof = Proof::new(alloc);
+    proof.open(ProofFormat::Varisat, target);
     Core {
         proof,
         search: no_search(alloc),

@@ -19,7 +19,7 @@ enum Call {
 }
 
 /// Puts literals into a list, in place of what it had.
-fn read(lits: &mut Vec<Lit>, numbers: &[i64]) -> Result<(), AllocError> {
+pub(crate) fn read(lits: &mut Vec<Lit>, numbers: &[i64]) -> Result<(), AllocError> {
     lits.clear();
     for number in numbers {
         if let Some(lit) = Lit::from_dimacs(*number) {
@@ -247,7 +247,7 @@ fn scripts_are_answered(rt: HostRuntime) {
 
 /// The bytes of one clause, an ask, its model and the end.
 const ONE_CLAUSE_BYTES: &[u8] = &[
-    2, 0, 1, 1, 0, 1, 2, 1, 2, 1, 1, 2, 5, 2, 0, 2, 11, 0, 10, 2, 1, 2, 11, 0, 13,
+    2, 0, 1, 1, 0, 1, 2, 1, 2, 1, 1, 2, 5, 2, 0, 2, 11, 0, 9, 6, 10, 2, 1, 2, 11, 0, 13,
 ];
 
 #[test]

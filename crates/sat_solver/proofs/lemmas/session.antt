@@ -17,6 +17,14 @@ pub mod RowLemmas
 pub mod FeedingLemmas
 pub mod Narrowing
 pub mod ProofLemmas
+pub mod CountingLemmas
+pub mod CutsLemmas
+pub mod ProofRowLemmas
+pub mod LineLemmas
+pub mod DratLemmas
+pub mod DratDerivations
+pub mod PuttingLemmas
+pub mod OutputLemmas
 pub mod DueLemmas
 pub mod DueWidths
 pub mod MakingLemmas

@@ -2,6 +2,7 @@ pub mod FormulaLemmas
 pub mod SpeltLemmas
 pub mod RenamedLemmas
 pub mod AnsweredLemmas
+pub mod BegunLemmas
 pub mod BehindLemmas
 pub mod ComingLemmas
 pub mod FindingLemmas

@@ -7,7 +7,7 @@ use Rattle.sat_base.specs.steps.Steps.{Step, AtClause, UnitClauses, DeleteClause
 use Rattle.sat_solver.specs.session.ProofView.{Adds, Fails, Keeps, session_of}
 use Rattle.sat_solver.specs.declared.session.proof.Proof.{Proof}
 use Rattle.sat_solver.specs.declared.session.proof.ProofError.{ProofError}
-use Rattle.sat_solver.specs.declared.session.proof.ProofError.TheVariants.{Write}
+use Rattle.sat_solver.specs.declared.session.proof.ProofError.TheVariants.{Write, OutOfMemory}
 use Rattle.sat_solver.specs.declared.error.SolverError.{SolverError}
 use Rattle.sat_solver.specs.declared.error.SolverError.TheVariants as errors
 
@@ -32,9 +32,10 @@ IsSearched names step = ⊥
 abbrev pub AreSearched : (ℕ → Option ℕ) → List Step → Type 0
 AreSearched names = AllByRecursion (IsSearched names)
 
--- the fault of a proof's target
+-- why a step wasn't made, as a solver tells it
 abbrev pub fault_of : ProofError → SolverError
 fault_of (Write cause) = errors.ProofIoError cause
+fault_of OutOfMemory = errors.OutOfMemory
 
 -- what a search may fail of
 abbrev pub IsFault : SolverError → Type 0

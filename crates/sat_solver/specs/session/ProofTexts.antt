@@ -4,37 +4,58 @@ use Rattle.sat_base.specs.device.Device.{Writer, Takes, Breaks}
 use Rattle.sat_base.specs.device.Sink.{empty_sink}
 use Rattle.sat_base.specs.steps.Steps.{Step}
 use Rattle.sat_base.specs.steps.StepText.{SpellsSteps}
-use Rattle.sat_solver.specs.session.ProofView.{Target, Open, text_of, Carries, Stops, TakesAll, Gives, target_of, steps_of}
+use Rattle.sat_solver.specs.session.Counting.{start, Cuts}
+use Rattle.sat_solver.specs.session.OutputView.{text_in}
+use Rattle.sat_solver.specs.session.ProofView.{Target, Open, Carries, Stops, TakesAll, Gives, target_of, steps_of}
+use Rattle.sat_solver.specs.session.Session.{MayAll}
+use Rattle.sat_solver.specs.session.Widths.{MayAt}
+use Rattle.sat_solver.specs.declared.session.counting.Counting.{Counting}
+use Rattle.sat_solver.specs.declared.session.format.ProofFormat.{ProofFormat}
+use Rattle.sat_solver.specs.declared.session.format.ProofFormat.TheVariants.{Varisat}
 use Rattle.sat_solver.specs.declared.session.proof.Proof.{Proof}
 
--- It took the text of the steps, the oldest first, and was flushed.
-pub record TookText (start given : Writer) (steps : List Step) : Type 0 where
-  pub spells : SpellsSteps (reverse steps) (text_of steps)
-  pub takes : Takes start given (text_of steps)
+-- It took the text of what was written for the steps, and was flushed. In bytes that spells them, the oldest first.
+pub record TookText (f : ProofFormat) (from given : Writer) (steps : List Step) : Type 0 where
+  pub written : List Step
+  pub counting : Counting
+  pub cuts : Cuts start steps written counting
+  pub spells : f ≡ Varisat → SpellsSteps (reverse written) (text_in f written)
+  pub takes : Takes from given (text_in f written)
   pub flushed : given.flushed ≡ true
+
+-- it took a front of that text, and its last call failed
+pub record BrokeText (f : ProofFormat) (from given : Writer) (steps : List Step) : Type 0 where
+  pub written : List Step
+  pub counting : Counting
+  pub cuts : Cuts start steps written counting
+  pub breaks : Breaks from given (text_in f written)
 
 -- Where a target was opened when its writer was this one, then these steps were made, and the last one as it was closed.
 abbrev pub ClosedIsText : Type 0
-ClosedIsText = (start given : Writer) (steps : List Step) (last : Step) (t : Target) → Carries (Open (empty_sink start)) steps t → TakesAll t (last ∷ []) given → TookText start given (last ∷ steps)
+ClosedIsText = (f : ProofFormat) (from given : Writer) (steps : List Step) (last : Step) (t : Target) → Carries (Open f start (empty_sink from)) steps t → TakesAll t (last ∷ []) given → TookText f from given (last ∷ steps)
 
 -- Where a call of it failed at the text of these steps, and it was handed back, it took a front of their text, and that call was the last.
 abbrev pub BrokenIsFront : Type 0
-BrokenIsFront = (start given : Writer) (steps : List Step) (t : Target) → Stops (Open (empty_sink start)) steps t → Gives t (Some given) → Breaks start given (text_of steps)
+BrokenIsFront = (f : ProofFormat) (from given : Writer) (steps : List Step) (t : Target) → Stops (Open f start (empty_sink from)) steps t → Gives t (Some given) → BrokeText f from given steps
+
+-- what is written for steps that may be made may be made, whatever widths it has
+abbrev pub CutsAreFree : Type 0
+CutsAreFree = (made written : List Step) (c : Counting) → Cuts start made written c → MayAll made → MayAt made written c.bits
 
 -- Since a target was opened when its writer was this one and these steps were made, what it took and what waits for it is the text of the steps that were made from there on.
-pub record WroteSince {W : Type 0} (seen : W → Writer) (start : Writer) (before : List Step) (p : Proof W) : Type 0 where
+pub record WroteSince {W : Type 0} (seen : W → Writer) (f : ProofFormat) (from : Writer) (before : List Step) (p : Proof W) : Type 0 where
   pub steps : List Step
   pub behind : steps_of p ≡ steps ++ before
-  pub target : Carries (Open (empty_sink start)) steps (target_of seen p)
+  pub target : Carries (Open f start (empty_sink from)) steps (target_of seen p)
 
 -- all steps since an opening, of which a target that is handed back took the text
-pub record TookSince (start given : Writer) (before now : List Step) : Type 0 where
+pub record TookSince (f : ProofFormat) (from given : Writer) (before now : List Step) : Type 0 where
   pub steps : List Step
   pub behind : now ≡ steps ++ before
-  pub took : TookText start given steps
+  pub took : TookText f from given steps
 
 -- all steps since an opening, of whose text a target that failed took a front
-pub record BrokeSince (start given : Writer) (before now : List Step) : Type 0 where
+pub record BrokeSince (f : ProofFormat) (from given : Writer) (before now : List Step) : Type 0 where
   pub steps : List Step
   pub behind : now ≡ steps ++ before
-  pub breaks : Breaks start given (text_of steps)
+  pub broke : BrokeText f from given steps

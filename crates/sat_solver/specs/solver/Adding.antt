@@ -9,6 +9,7 @@ use Rattle.sat_solver.specs.names.Calls.{Agree, Does}
 use Rattle.sat_solver.specs.names.Coming.{MayAdd, MayTake}
 use Rattle.sat_solver.specs.session.Coming.{Comes}
 use Rattle.sat_solver.specs.session.Making.{Took}
+use Rattle.sat_solver.specs.session.ProofView.{is_drat, has_asked, target_of}
 use Rattle.sat_solver.specs.names.Expected.{Expected, Adds, Opens, bringing}
 use Rattle.sat_solver.specs.names.Live.{Live}
 use Rattle.sat_solver.specs.names.Refusing.{names_in}
@@ -55,6 +56,14 @@ pub record EndsNames {W : Type 0} (seen : W → Writer) (e : SolverError) (old n
   pub breaks : BreaksNames seen e old.core new.core
   pub clock : new.clock ≡ old.clock
 
+-- lines of DRAT are written: they have no assumptions
+abbrev pub IsDrat : {W : Type 0} → (W → Writer) → Solver W → Type 0
+IsDrat seen s = is_drat (target_of seen s.core.proof) ≡ true
+
+-- and no clause comes behind the first ask
+abbrev pub IsPastDrat : {W : Type 0} → (W → Writer) → Solver W → Type 0
+IsPastDrat seen s = IsDrat seen s × (has_asked s.core.proof ≡ true)
+
 -- a clause was added
 pub record Added {W : Type 0} (seen : W → Writer) (old new : Solver W) (user : List ℕ) : Type 0 where
   pub sampled : AreSampled old user
@@ -67,6 +76,7 @@ pub record Added {W : Type 0} (seen : W → Writer) (old new : Solver W) (user :
 abbrev pub AddsClause : {W : Type 0} → (W → Writer) → Result (Unit {0}) SolverError → Solver W → Solver W → List ℕ → Type 0
 AddsClause seen (Ok x) old new user = Added seen old new user
 AddsClause seen (Err errors.WitnessVariable) old new user = Refuses old new ((old.failed ≡ false) × HasWitness old user)
+AddsClause seen (Err errors.NotInDrat) old new user = Refuses old new ((old.failed ≡ false) × IsPastDrat seen old)
 AddsClause seen (Err errors.HasFailed) old new user = Refuses old new (old.failed ≡ true)
 AddsClause seen (Err e) old new user = AreSampled old user × EndsNames seen e old new
 
@@ -82,6 +92,7 @@ pub record Assumed {W : Type 0} (seen : W → Writer) (old new : Solver W) (user
 abbrev pub Assumes : {W : Type 0} → (W → Writer) → Result (Unit {0}) SolverError → Solver W → Solver W → List ℕ → Type 0
 Assumes seen (Ok x) old new user = Assumed seen old new user
 Assumes seen (Err errors.WitnessVariable) old new user = Refuses old new ((old.failed ≡ false) × HasWitness old user)
+Assumes seen (Err errors.NotInDrat) old new user = Refuses old new ((old.failed ≡ false) × IsDrat seen old)
 Assumes seen (Err errors.HasFailed) old new user = Refuses old new (old.failed ≡ true)
 Assumes seen (Err e) old new user = AreSampled old user × EndsNames seen e old new
 

@@ -67,7 +67,7 @@ pub record Counts {W : Type 0} (old new : Solver W) : Type 0 where
 -- nothing waits for an open target, whose last call was a flush
 abbrev pub IsFlushed : Target → Type 0
 IsFlushed Closed = Unit {0}
-IsFlushed (Open s) = (s.waiting ≡ []) × (s.writer.flushed ≡ true)
+IsFlushed (Open f c s) = (s.waiting ≡ []) × (s.writer.flushed ≡ true)
 IsFlushed (Broken w) = Unit {0}
 
 -- the answer that was known is given again: nothing has changed but the target, to which what waited for it was written

@@ -3,7 +3,9 @@ use Rattle.std.specs.Prelude.{◌≡◌, ◌⊎◌, true, false, Option, None, S
 use Rattle.sat_base.specs.device.Device.{Writer}
 use Rattle.sat_base.specs.device.Sink.{empty_sink}
 use Rattle.sat_base.specs.steps.Steps.{End}
-use Rattle.sat_solver.specs.session.ProofView.{Open, ClosesNone, ClosesOne, Fails, is_open, target_of}
+use Rattle.sat_solver.specs.session.Counting.{start}
+use Rattle.sat_solver.specs.session.ProofView.{Open, Adds, ClosesNone, ClosesOne, Fails, is_open, target_of}
+use Rattle.sat_solver.specs.declared.session.format.ProofFormat.{ProofFormat}
 use Rattle.sat_solver.specs.declared.error.SolverError.{SolverError}
 use Rattle.sat_solver.specs.declared.error.SolverError.TheVariants as errors
 use Rattle.sat_solver.specs.names.Calls.{Does}
@@ -13,19 +15,19 @@ use Rattle.sat_solver.specs.solver.Calls.{Refuses}
 use Rattle.sat_solver.specs.solver.Whole.{IsWhole, steps_in}
 
 -- a target was opened, before anything else
-pub record Opened {W : Type 0} (seen : W → Writer) (target : W) (old new : Solver W) : Type 0 where
+pub record Opened {W : Type 0} (seen : W → Writer) (format : ProofFormat) (target : W) (old new : Solver W) : Type 0 where
   pub going : old.failed ≡ false
   pub first : old.used ≡ false
   pub shut : is_open (target_of seen old.core.proof) ≡ false
   pub steps : steps_in new ≡ steps_in old
-  pub target_is : target_of seen new.core.proof ≡ Open (empty_sink (seen target))
+  pub target_is : target_of seen new.core.proof ≡ Open format start (empty_sink (seen target))
   pub same : new ≡ record old { core = record old.core { proof = new.core.proof } }
 
-abbrev pub Opens : {W : Type 0} → (W → Writer) → Result (Unit {0}) SolverError → W → Solver W → Solver W → Type 0
-Opens seen (Ok x) target old new = Opened seen target old new
-Opens seen (Err errors.HasFailed) target old new = Refuses old new (old.failed ≡ true)
-Opens seen (Err errors.TooLate) target old new = Refuses old new ((old.failed ≡ false) × ((old.used ≡ true) ⊎ (is_open (target_of seen old.core.proof) ≡ true)))
-Opens seen (Err e) target old new = ⊥
+abbrev pub Opens : {W : Type 0} → (W → Writer) → Result (Unit {0}) SolverError → ProofFormat → W → Solver W → Solver W → Type 0
+Opens seen (Ok x) format target old new = Opened seen format target old new
+Opens seen (Err errors.HasFailed) format target old new = Refuses old new (old.failed ≡ true)
+Opens seen (Err errors.TooLate) format target old new = Refuses old new ((old.failed ≡ false) × ((old.used ≡ true) ⊎ (is_open (target_of seen old.core.proof) ≡ true)))
+Opens seen (Err e) format target old new = ⊥
 
 -- the target came back, with the last step
 pub record ClosedOne {W : Type 0} (seen : W → Writer) (given : W) (old new : Solver W) : Type 0 where
@@ -47,9 +49,16 @@ pub record ClosedBroken {W : Type 0} (seen : W → Writer) (old new : Solver W) 
   pub failed : new.failed ≡ true
   pub fails : Fails seen (End ∷ []) old.core.proof new.core.proof
 
+-- no memory was left, and nothing was made
+pub record ClosedStarved {W : Type 0} (seen : W → Writer) (old new : Solver W) : Type 0 where
+  pub going : old.failed ≡ false
+  pub failed : new.failed ≡ true
+  pub adds : Adds seen [] old.core.proof new.core.proof
+
 abbrev pub ClosesProof : {W : Type 0} → (W → Writer) → Result (Option W) SolverError → Solver W → Solver W → Type 0
 ClosesProof seen (Ok None) old new = ClosedNone seen old new
 ClosesProof seen (Ok (Some given)) old new = ClosedOne seen given old new
 ClosesProof seen (Err errors.HasFailed) old new = Refuses old new (old.failed ≡ true)
 ClosesProof seen (Err (errors.ProofIoError cause)) old new = ClosedBroken seen old new
+ClosesProof seen (Err errors.OutOfMemory) old new = ClosedStarved seen old new
 ClosesProof seen (Err e) old new = ⊥

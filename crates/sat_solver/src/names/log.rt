@@ -3,6 +3,7 @@ ghost use Rattle.std.specs.Prelude.{◌≡◌, ◌∷◌, List, OnOk, IfErr};
 ghost use Rattle.sat_base.specs.steps.Steps.{Step};
 ghost use Rattle.sat_base.specs.steps.StepViews.{step_of};
 ghost use Rattle.sat_solver.specs.session.Session.{May, session_after};
+ghost use Rattle.sat_solver.specs.session.Widths.{KeepsWidth};
 ghost use Rattle.sat_solver.specs.names.Failing.{IsFailure, Came};
 
 use crate::names::error::NameError;
@@ -27,6 +28,7 @@ pub trait StepWriter: Drop {
     fn step(&mut self, step: &ProofStep<'_>) -> Result<(), NameError>
         requires keeps { keeps self.old }
         requires may { May (session_after (steps self.old)) (step_of step.now) }
+        requires width { KeepsWidth (step_of step.now) }
         ensures keeps { OnOk result (keeps self.new) }
         ensures steps { OnOk result (steps self.new ≡ step_of step.now ∷ steps self.old) }
         ensures fails { IfErr result IsFailure }
@@ -49,6 +51,7 @@ impl<W: CountedWrite + Drop> StepWriter for Proof<W> {
         match self.step(step) {
             Ok(()) => Ok(()),
             Err(ProofError::Write(cause)) => Err(NameError::Write(cause)),
+            Err(ProofError::OutOfMemory) => Err(NameError::OutOfMemory),
         }
     }
 }

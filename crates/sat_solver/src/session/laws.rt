@@ -1,8 +1,10 @@
 //! What holds of sessions: each law is the contract of a function that does nothing.
 ghost use Rattle.sat_solver.specs.session.Promises.{CoresAreRight, MayIsAccepted, ModelsAreRight, SessionsAreAccepted, UnsatIsRight};
+ghost use Rattle.sat_solver.specs.session.Drat.{DratStands};
 ghost use Rattle.sat_solver.specs.session.Due.{WidthsKeepOrder};
 ghost use Rattle.sat_solver.specs.session.NamedMeaning.{NamedCoresAreRight, NamedModelsAreRight, NamedUnsatIsRight, NoneHiddenMeans};
-ghost use Rattle.sat_solver.specs.session.ProofTexts.{BrokenIsFront, ClosedIsText};
+ghost use Rattle.sat_solver.specs.session.ProofRows.{CountRow, LineRows, WidthRows};
+ghost use Rattle.sat_solver.specs.session.ProofTexts.{BrokenIsFront, ClosedIsText, CutsAreFree};
 ghost use Rattle.sat_solver.specs.session.SessionRows.{CollidingMay, HiddenMay};
 ghost use Rattle.sat_solver.specs.session.Widths.{WidthsAreFree};
 
@@ -23,6 +25,7 @@ pub fn answers_are_right()
 pub fn widths_are_free()
     ensures may { WidthsAreFree }
     ensures order { WidthsKeepOrder }
+    ensures cuts { CutsAreFree }
 {}
 
 /// Worked rows: derived clauses by hashes that collide, and a hidden variable that is deleted before a model.
@@ -47,4 +50,16 @@ pub fn plain_steps_mean_clauses()
 pub fn targets_take_texts()
     ensures closed { ClosedIsText }
     ensures broken { BrokenIsFront }
+{}
+
+/// The lines of DRAT for steps that may be made are a derivation.
+pub fn lines_are_derived()
+    ensures { DratStands }
+{}
+
+/// Worked rows: widths for counts of clauses, a step that is counted, and lines of DRAT.
+pub fn rows_of_proofs()
+    ensures widths { WidthRows }
+    ensures count { CountRow }
+    ensures lines { LineRows }
 {}

@@ -1,55 +1,16 @@
 //! Steps as they are written: hashes lose their lower bits.
-ghost use Rattle.std.specs.Prelude.{ℕ, ◌≡◌, ◌/◌, ◌-◌, ◌^◌, ◌++◌, ◌∷◌, [], map, OnOk};
+ghost use Rattle.std.specs.Prelude.{ℕ, ◌≡◌};
 ghost use Rattle.sat_base.specs.steps.Steps.{AtClause, ChangeHashBits, UnitClauses};
 ghost use Rattle.sat_base.specs.steps.StepViews.{step_of};
 ghost use Rattle.sat_solver.specs.session.Session.{May};
-ghost use Rattle.sat_solver.specs.session.Widths.{kept_bits, narrowed, KeepsWidth};
+ghost use Rattle.sat_solver.specs.session.Widths.{narrowed, KeepsWidth};
 ghost use Rattle.sat_solver.specs.session.WritingView.{Keeps, session_of, AddsStep, ChangesWidth};
 
+use crate::session::cutting::{narrow, narrow_units};
 use crate::session::feeding::feed;
 use crate::session::history::History;
 use sat_base::{ClauseHash, HashBits, Lit, ProofStep};
 use sat_checker::{Checker, CheckerError, Nobody, ProofProcessor, ProofTranscriptProcessor};
-use std::alloc::AllocError;
-
-/// The topmost bits of a hash.
-fn top_bits(hash: ClauseHash, bits: HashBits) -> ClauseHash
-    ensures { result ≡ kept_bits bits hash }
-{
-    let width = bits.get();
-    if width == 0 { 0 } else { hash >> (64 - width) }
-}
-
-#[tactic(auto, using(crate::proofs::lemmas::session::WritingLemmas::narrow_next))]
-/// Puts the topmost bits of hashes into a list in place of what it had.
-fn narrow(
-    narrowed: &mut Vec<ClauseHash>,
-    hashes: &[ClauseHash],
-    bits: HashBits,
-) -> Result<(), AllocError>
-    ensures { OnOk result (narrowed.new.items ≡ map (kept_bits bits) hashes.now) }
-{
-    narrowed.clear();
-    for hash in hashes {
-        narrowed.push(top_bits(*hash, bits))?;
-    }
-    Ok(())
-}
-
-/// Puts units with the topmost bits of their hashes into a list in place of what it had.
-fn narrow_units(
-    narrowed: &mut Vec<(Lit, ClauseHash)>,
-    units: &[(Lit, ClauseHash)],
-    bits: HashBits,
-) -> Result<(), AllocError>
-    ensures { OnOk result (narrowed.new.items ≡ map (λ u. (u.0, kept_bits bits u.1)) units.now) }
-{
-    narrowed.clear();
-    for unit in units {
-        narrowed.push((unit.0, top_bits(unit.1, bits)))?;
-    }
-    Ok(())
-}
 
 /// The steps that a solver made, those that were written for them, and the checker that took these.
 #[derive(Drop)]

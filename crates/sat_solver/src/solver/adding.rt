@@ -1,8 +1,8 @@
 //! Clauses that a user adds.
-ghost use Rattle.std.specs.Prelude.{◌≡◌, true, false};
+ghost use Rattle.std.specs.Prelude.{◌≡◌, true, false, IsErrOf};
 ghost use Rattle.sat_solver.specs.names.Adding.{NoWitness};
 ghost use Rattle.sat_solver.specs.declared.solver.state.State.TheVariants.{Unsat};
-ghost use Rattle.sat_solver.specs.solver.Adding.{AddsClause, TakesIn};
+ghost use Rattle.sat_solver.specs.solver.Adding.{AddsClause, IsPastDrat, TakesIn};
 ghost use Rattle.sat_solver.specs.solver.Whole.{IsSolver, IsWhole};
 
 use crate::SolverError;
@@ -49,15 +49,20 @@ impl<W: CountedWrite + Drop> Solver<W> {
     }
 
     /// Adds a clause, whose names come in from left to right. It may stand behind asks, and ends what is known of an answer. Once the
-    /// clauses alone are known to be unsatisfiable, only its names come in. `WitnessVariable` names the cause: the leftmost literal
+    /// clauses alone are known to be unsatisfiable, only its names come in. `NotInDrat` behind the first `solve` while lines of DRAT are
+    /// written. `WitnessVariable` names the cause: the leftmost literal
     /// over a name of mode witness.
     pub fn add_clause(&mut self, lits: &[Lit]) -> Result<(), SolverError>
         requires { IsSolver self.old }
         ensures solver { IsSolver self.new }
         ensures adds { AddsClause W.seen result self.old self.new lits.now }
+        ensures drat { self.old.failed ≡ false → IsPastDrat W.seen self.old → IsErrOf result SolverError.NotInDrat }
     {
         if self.failed {
             return Err(SolverError::HasFailed);
+        }
+        if self.core.proof.is_drat() && self.core.proof.has_asked() {
+            return Err(SolverError::NotInDrat);
         }
         if leftmost_witness(&self.names, lits).is_some() {
             return Err(SolverError::WitnessVariable);

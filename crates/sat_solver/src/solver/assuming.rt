@@ -1,10 +1,10 @@
 //! Assumptions of the next ask.
-ghost use Rattle.std.specs.Prelude.{◌≡◌, true, false, OnOk};
+ghost use Rattle.std.specs.Prelude.{◌≡◌, true, false, OnOk, IsErrOf};
 ghost use Rattle.sat_base.specs.script.Judge.{bring_all};
 ghost use Rattle.sat_solver.specs.names.Adding.{NoWitness};
 ghost use Rattle.sat_solver.specs.names.Refusing.{names_in};
 ghost use Rattle.sat_solver.specs.declared.solver.state.State.TheVariants.{Unsat};
-ghost use Rattle.sat_solver.specs.solver.Adding.{Assumes, due_for_asked};
+ghost use Rattle.sat_solver.specs.solver.Adding.{Assumes, IsDrat, due_for_asked};
 ghost use Rattle.sat_solver.specs.solver.Asking.{Asks};
 ghost use Rattle.sat_solver.specs.solver.Whole.{IsSolver, IsWhole};
 
@@ -50,15 +50,19 @@ impl<W: CountedWrite + Drop> Solver<W> {
         Ok(())
     }
 
-    /// Replaces the assumptions, whose names come in from left to right. `WitnessVariable` names the cause: the leftmost literal over a
+    /// Replaces the assumptions, whose names come in from left to right. `NotInDrat` while lines of DRAT are written. `WitnessVariable` names the cause: the leftmost literal over a
     /// name of mode witness.
     pub fn assume(&mut self, lits: &[Lit]) -> Result<(), SolverError>
         requires { IsSolver self.old }
         ensures solver { IsSolver self.new }
         ensures assumes { Assumes W.seen result self.old self.new lits.now }
+        ensures drat { self.old.failed ≡ false → IsDrat W.seen self.old → IsErrOf result SolverError.NotInDrat }
     {
         if self.failed {
             return Err(SolverError::HasFailed);
+        }
+        if self.core.proof.is_drat() {
+            return Err(SolverError::NotInDrat);
         }
         if leftmost_witness(&self.names, lits).is_some() {
             return Err(SolverError::WitnessVariable);

@@ -5,23 +5,17 @@ ghost use Rattle.sat_solver.specs.solver.Whole.{IsSolver};
 
 use crate::SolverError;
 use crate::search::fault::proof_fault;
+use crate::session::format::ProofFormat;
 use crate::solver::Solver;
 use sat_base::CountedWrite;
 
-/// The format of a proof's text.
-#[derive(Clone, Copy, Debug, Drop, PartialEq, Eq)]
-pub enum ProofFormat {
-    /// The steps in the bytes that `sat_checker` reads.
-    Varisat,
-}
-
 impl<W: CountedWrite + Drop> Solver<W> {
-    /// Writes the steps that are made from here on to this target. `TooLate` once a clause, a name, assumptions or an ask came, or while
+    /// Writes the steps that are made from here on to this target, in this format. `TooLate` once a clause, a name, assumptions or an ask came, or while
     /// a proof is open; the target is dropped then.
     pub fn write_proof(&mut self, target: W, format: ProofFormat) -> Result<(), SolverError>
         requires { IsSolver self.old }
         ensures solver { IsSolver self.new }
-        ensures opens { Opens W.seen result target self.old self.new }
+        ensures opens { Opens W.seen result format target self.old self.new }
     {
         if self.failed {
             return Err(SolverError::HasFailed);
@@ -29,9 +23,7 @@ impl<W: CountedWrite + Drop> Solver<W> {
         if self.used || self.core.proof.is_open() {
             return Err(SolverError::TooLate);
         }
-        match format {
-            ProofFormat::Varisat => self.core.proof.open(target),
-        }
+        self.core.proof.open(format, target);
         Ok(())
     }
 

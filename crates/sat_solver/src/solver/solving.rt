@@ -32,12 +32,13 @@ impl<W: CountedWrite + Drop> Solver<W> {
         Ok(())
     }
 
-    /// The same, and flushes an open target.
+    /// The same, from which on hashes are shortened, and flushes an open target.
     fn settle_and_flush(&mut self) -> Result<(), SolverError>
         requires whole { IsWhole self.old }
         ensures settles { Settles W.seen result self.old self.new }
         ensures flushed { OnOk result (IsFlushed (target_of W.seen self.new.core.proof)) }
     {
+        self.core.proof.begin_ask();
         self.settle()?;
         match self.core.proof.flush() {
             Ok(()) => Ok(()),

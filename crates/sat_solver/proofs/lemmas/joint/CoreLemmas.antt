@@ -14,7 +14,7 @@ use Rattle.sat_parts.specs.prop.State.{State, node, level, Agrees}
 use Rattle.sat_parts.specs.prop.Reasons.{AreInTurn}
 use Rattle.sat_parts.specs.prop.Values.{IsFalseLit}
 use Rattle.sat_parts.proofs.lemmas.prop.StateLemmas.{negated_twice, negated_variable, true_from_false}
-use Rattle.sat_solver.specs.session.Session.{Session, May, MayDerive, AreNamed, Leads, denied, by_clauses, by_signs, by_unit}
+use Rattle.sat_solver.specs.session.Session.{Session, May, MayDerive, AreNamed, Leads, denied, by_clauses, by_derivation, by_signs, by_unit}
 use Rattle.sat_solver.specs.session.LiveClauses.{with_var}
 use Rattle.sat_solver.proofs.lemmas.session.Mapped.{negated_mapped, among_mapped, leads_mapped, Carries}
 use Rattle.sat_solver.specs.acceptance.TrailUnits.{IsUsable}
@@ -65,7 +65,7 @@ module _ (words live : List ℕ) (implied : List (List ℕ)) (st : State) (s : S
   pub core_may : (core used assumed : List ℕ) → s.assumed ≡ map (with_var global) assumed → is_part core assumed ≡ true → ((k : ℕ) → k < length used → IsReasoned st 0 (get_or used k 0)) →
       ((units : List ℕ) → AreUnits st units → UnitInTurn (core ++ units) (map (clause_of words st) used)) →
       May s (FailedAssumptions (map (with_var global) core) (map (λ l. hash_of (clause_of words st l)) used))
-  core_may core used assumed e within reasons acceptable = (assumed_part s global core assumed e within, core_derives core used reasons acceptable)
+  core_may core used assumed e within reasons acceptable = (assumed_part s global core assumed e within, by_derivation (core_derives core used reasons acceptable))
 
   -- an assumption that is false at level 0 fails alone
   pub core_bottom_may : (failed : ℕ) (assumed hashes : List ℕ) → s.assumed ≡ map (with_var global) assumed → is_among assumed failed ≡ true → IsFalseLit st.values failed → level st failed ≡ 0 →
@@ -74,7 +74,7 @@ module _ (words live : List ℕ) (implied : List (List ℕ)) (st : State) (s : S
       let z : level st (negated failed) ≡ 0 = ap (λ v. (node_of st.nodes v).level) (negated_variable failed) ∙ low in
       let u : s.units (with_var global (negated failed)) ≡ true = bottom_known words live implied st s global fits clauses turns agrees bare (negated failed) (true_from_false st.values failed fails) z in (
         assumed_part s global (failed ∷ []) assumed e (one_part failed assumed among),
-        by_unit (or_left (s.units (negated (with_var global failed))) false (subst (λ l. s.units l ≡ true) (negated_mapped global failed) u)),
+        by_derivation (by_unit (or_left (s.units (negated (with_var global failed))) false (subst (λ l. s.units l ≡ true) (negated_mapped global failed) u))),
       )
 
 -- both signs of a variable among the assumptions fail by themselves

@@ -5,9 +5,7 @@ use Rattle.std.proofs.lemmas.Result.{err_from_is_err_and}
 use Rattle.sat_base.specs.device.Device.{Writer}
 use Rattle.sat_base.specs.steps.Steps.{Step}
 use Rattle.sat_solver.specs.session.Making.{Took, Broke}
-use Rattle.sat_solver.specs.session.ProofView.{Adds, Fails, Records}
-use Rattle.sat_solver.specs.declared.session.proof.ProofError.{ProofError}
-use Rattle.sat_solver.specs.declared.session.proof.ProofError.TheVariants.{Write}
+use Rattle.sat_solver.specs.session.ProofView.{Adds, Fails}
 use Rattle.sat_solver.specs.declared.session.proof.Proof.{Proof}
 use Rattle.sat_solver.specs.declared.names.error.NameError.{NameError}
 use Rattle.sat_solver.specs.declared.names.error.NameError.TheVariants as errors
@@ -22,9 +20,9 @@ took_step seen w a b step t adds = (_, adds_more seen t.0 (step ∷ []) w a b t.
 pub broke_step : {W : Type 0} (seen : W → Writer) (w a b : Proof W) (step : Step) → Took seen w a → Fails seen (step ∷ []) a b → Broke seen w b
 broke_step seen w a b step t fails = (_, fails_later seen t.0 (step ∷ []) w a b t.1 fails)
 
--- a step that wasn't taken failed at its text
-pub failed_step : {W : Type 0} (seen : W → Writer) (e : ProofError) (a b : Proof W) (step : Step) → Records {T = Unit {0}} seen (Err e) (step ∷ []) a b → Fails seen (step ∷ []) a b
-failed_step seen (Write cause) a b step h = h
+-- or none was made for want of memory
+pub took_none : {W : Type 0} (seen : W → Writer) (w a b : Proof W) → Took seen w a → Adds seen [] a b → Took seen w b
+took_none seen w a b t adds = (_, adds_more seen t.0 [] w a b t.1 adds)
 
 module _ {W : Type 0} (took broke : W → W → Type 0) where
   -- a call behind another that took its steps

@@ -15,7 +15,7 @@ use Rattle.sat_solver.specs.session.LiveClauses.{with_var}
 use Rattle.sat_solver.specs.session.ProofView.{Adds, Keeps, Records, session_of}
 use Rattle.sat_solver.specs.declared.session.proof.Proof.{Proof}
 use Rattle.sat_solver.specs.declared.session.proof.ProofError.{ProofError}
-use Rattle.sat_solver.specs.declared.session.proof.ProofError.TheVariants.{Write}
+use Rattle.sat_solver.specs.declared.session.proof.ProofError.TheVariants.{Write, OutOfMemory}
 use Rattle.sat_solver.proofs.lemmas.session.ProofLemmas.{adds_none}
 use Rattle.sat_solver.specs.analysis.Marks.{CanAnalyze, IsReasoned}
 use Rattle.sat_solver.specs.analysis.Failing.{IsChosen, Fails, fails_bottom, fails_signs, fails_clauses}
@@ -104,6 +104,7 @@ module _ {W : Type 0} (seen : W → Writer) (a b : Proof W) (c c' : Search) wher
   -- the target failed
   pub tells_broken : (e : ProofError) (core hashes : List ℕ) → Keeps b → Records {T = Unit {0}} seen (Err e) (FailedAssumptions core hashes ∷ []) a b → TellsCore seen (Err (fault_of e)) a b c c'
   tells_broken (Write cause) core hashes keeps fails = record { steps = FailedAssumptions core hashes ∷ []; went = fails; core = (refl, tt); keeps = keeps; ends = tt }
+  tells_broken OutOfMemory core hashes keeps adds = record { steps = []; went = adds; core = tt; keeps = keeps; ends = tt }
 
   -- what is told stands
   pub tells_core : Keeps b → (core : List ℕ) → core ≡ map (with_var (global_in c)) c'.analysis.core → (hashes : List ℕ) → hashes ≡ causes_hashes c.parts c'.analysis.used → Adds seen (FailedAssumptions core hashes ∷ []) a b →

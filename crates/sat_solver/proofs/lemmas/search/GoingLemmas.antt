@@ -7,7 +7,7 @@ use Rattle.sat_solver.specs.session.ProofView.{Adds, Records, Keeps, steps_of, s
 use Rattle.sat_solver.specs.session.Session.{session_after}
 use Rattle.sat_solver.specs.declared.session.proof.Proof.{Proof}
 use Rattle.sat_solver.specs.declared.session.proof.ProofError.{ProofError}
-use Rattle.sat_solver.specs.declared.session.proof.ProofError.TheVariants.{Write}
+use Rattle.sat_solver.specs.declared.session.proof.ProofError.TheVariants.{Write, OutOfMemory}
 use Rattle.sat_solver.proofs.lemmas.session.ProofLemmas.{adds_none, adds_more, fails_later}
 use Rattle.sat_store.specs.declared.clause.alloc.StoreError.{StoreError}
 use Rattle.sat_store.specs.declared.clause.alloc.StoreError.TheVariants as stores
@@ -44,16 +44,17 @@ module _ {W : Type 0} (seen : W → Writer) where
   pub goes_step : {A : Type 0} (x : A) (p q : Proof W) (step : Step) (P : A → List Step → Type 0) → IsSearched (session_of p).solver_names step → Keeps q → Adds seen (step ∷ []) p q → P x (step ∷ []) → Goes seen (Ok x) p q P
   goes_step x p q step P s keeps adds h = record { steps = step ∷ []; went = adds; searched = (s, tt); keeps = keeps; ends = h }
 
-  -- a step was made, and the target failed at it
+  -- a step was made, and the target failed at it, or no memory was left for it
   pub goes_broken : {A : Type 0} (e : ProofError) (p q : Proof W) (step : Step) (P : A → List Step → Type 0) → IsSearched (session_of p).solver_names step → Keeps q → Records {T = Unit {0}} seen (Err e) (step ∷ []) p q → Goes seen (Err (fault_of e)) p q P
   goes_broken (Write cause) p q step P s keeps fails = record { steps = step ∷ []; went = fails; searched = (s, tt); keeps = keeps; ends = tt }
+  goes_broken OutOfMemory p q step P s keeps adds = record { steps = []; went = adds; searched = tt; keeps = keeps; ends = tt }
 
   -- a step was made, and then the clause buffer refused
   pub goes_refused : {A : Type 0} (s : StoreError) (p q : Proof W) (step : Step) (P : A → List Step → Type 0) → IsSearched (session_of p).solver_names step → Keeps q → Adds seen (step ∷ []) p q → Goes seen (Err (failure_of s)) p q P
   goes_refused stores.StoreFull p q step P s keeps adds = record { steps = step ∷ []; went = adds; searched = (s, tt); keeps = keeps; ends = tt }
   goes_refused stores.OutOfMemory p q step P s keeps adds = record { steps = step ∷ []; went = adds; searched = (s, tt); keeps = keeps; ends = tt }
 
-  went_later : {A : Type 0} (r : Result A SolverError) (xs ys : List Step) (a b c : Proof W) → Adds seen xs a b → Went seen r ys b c → Went seen r (ys ++ xs) a c
+  pub went_later : {A : Type 0} (r : Result A SolverError) (xs ys : List Step) (a b c : Proof W) → Adds seen xs a b → Went seen r ys b c → Went seen r (ys ++ xs) a c
   went_later (Ok x) xs ys a b c h k = adds_more seen xs ys a b c h k
   went_later (Err (errors.ProofIoError cause)) xs ys a b c h k = fails_later seen xs ys a b c h k
   went_later (Err errors.Interrupted) xs ys a b c h k = adds_more seen xs ys a b c h k

@@ -13,7 +13,7 @@ use Rattle.sat_solver.specs.session.ProofView.{Adds, Keeps, Records, session_of}
 use Rattle.sat_solver.specs.session.Session.{Session, May}
 use Rattle.sat_solver.specs.declared.session.proof.Proof.{Proof}
 use Rattle.sat_solver.specs.declared.session.proof.ProofError.{ProofError}
-use Rattle.sat_solver.specs.declared.session.proof.ProofError.TheVariants.{Write}
+use Rattle.sat_solver.specs.declared.session.proof.ProofError.TheVariants.{Write, OutOfMemory}
 use Rattle.sat_solver.proofs.lemmas.session.ProofLemmas.{adds_none}
 use Rattle.sat_solver.proofs.lemmas.parts.AnswerLemmas.{is_modelled}
 use Rattle.sat_solver.specs.joint.Units.{AreTrueLits}
@@ -130,6 +130,7 @@ module _ {W : Type 0} (seen : W → Writer) (a b : Proof W) (c c' : Search) wher
   -- the target failed
   pub model_broken : (e : ProofError) (ls : List ℕ) → Keeps b → Records {T = Unit {0}} seen (Err e) (Model ls ∷ []) a b → TellsModel seen (Err (fault_of e)) a b c c'
   model_broken (Write cause) ls keeps fails = record { steps = Model ls ∷ []; went = fails; model = (refl, tt); keeps = keeps; ends = tt }
+  model_broken OutOfMemory ls keeps adds = record { steps = []; went = adds; model = tt; keeps = keeps; ends = tt }
 
   -- what is told stands
   pub model_told : Keeps b → (ls : List ℕ) → ls ≡ map (with_var (global_in c)) (true_lits 0 c.parts.assignment.current) → Adds seen (Model ls ∷ []) a b → IsSearch (session_of a) c →

@@ -10,7 +10,7 @@ use Rattle.sat_checker.specs.Stored.{StoredClause, Stored, unit_literals, bucket
 use Rattle.sat_checker.specs.Storing.{clause_with, with_unit, last_literals}
 use Rattle.sat_checker.specs.Accepts.{Passes, PassInTurn, IsStrictSubset, Accepts}
 use Rattle.sat_checker.proofs.lemmas.sets.Order.{among-append}
-use Rattle.sat_solver.specs.session.Session.{AreNamed, Leads, denied, MayDerive, by_signs, by_unit, by_clauses, MayProve, MayForget, MayShow, MayReplace, May}
+use Rattle.sat_solver.specs.session.Session.{AreNamed, Leads, denied, MayDerive, MayFail, by_signs, by_derivation, by_unit, by_clauses, MayProve, MayForget, MayShow, MayReplace, May}
 use Rattle.sat_solver.specs.session.Agrees.{count_in, EachCounted}
 use Rattle.sat_solver.proofs.lemmas.session.Counts.{found}
 use Rattle.sat_solver.proofs.lemmas.session.Buckets.{picked_from, sorted_lead, hash_any_order, has_live, in_bucket, StandIn, none_empty, chosen_from}
@@ -45,9 +45,13 @@ module _ (f : Stored) (last : Option (List ℕ)) where
 
   -- a clause that may be derived passes the check
   pub passes : (clause hashes : List ℕ) → MayDerive (view last f) clause hashes → Passes f clause hashes
-  passes clause hashes (by_signs t) = tautology t
   passes clause hashes (by_unit t) = unit_true t
   passes clause hashes (by_clauses named n lead) = conflict (passes_by clause hashes named n lead)
+
+  -- a core that may fail passes with its negation
+  pub core_passes : (core hashes : List ℕ) → MayFail (view last f) core hashes → Passes f (map negated core) hashes
+  core_passes core hashes (by_signs t) = tautology t
+  core_passes core hashes (by_derivation d) = passes (map negated core) hashes d
 
 -- units that may be proved pass in turn
 pub pass_in_turn : (us : List (ℕ × ℕ)) (last : Option (List ℕ)) (f : Stored) → MayProve (view last f) us → PassInTurn f us
@@ -100,5 +104,5 @@ accepts_view (DeleteClause clause Simplified) last f t l m = (m.0, strict_by las
 accepts_view (ChangeHashBits bits) last f t l m = tt
 accepts_view (Model ls) last f t l m = record { consistent = m.consistent; apart = m.apart; units = each_member (λ u. is_among ls (negated u) ≡ false) (unit_literals f) m.units; clauses = modelled f last ls m f.clauses (found f.clauses t.once) }
 accepts_view (Assumptions ls) last f t l m = tt
-accepts_view (FailedAssumptions core hashes) last f t l m = (m.0, passes f last (map negated core) hashes m.1)
+accepts_view (FailedAssumptions core hashes) last f t l m = (m.0, core_passes f last core hashes m.1)
 accepts_view End last f t l m = tt

@@ -5,7 +5,7 @@ use Rattle.std.specs.List.{AllByRecursion}
 use Rattle.sat_base.specs.values.Literals.{negated}
 use Rattle.sat_checker.specs.LiteralSets.{is_among, is_tautology}
 use Rattle.sat_checker.proofs.lemmas.sets.Canonical.{tautology_from, both_signs}
-use Rattle.sat_solver.specs.session.Session.{Session, IsLive, AreNamed, Leads, denied, hash_in, MayDerive, by_signs, by_unit, by_clauses}
+use Rattle.sat_solver.specs.session.Session.{Session, IsLive, AreNamed, Leads, denied, hash_in, MayDerive, MayFail, by_signs, by_unit, by_clauses}
 
 -- the negation of a negation is the literal
 negated_twice : (l : ℕ) → negated (negated l) ≡ l
@@ -93,7 +93,7 @@ core_fails s core hashes named n lead =
     by_clauses named n (leads_more named (λ l. is_among core l || s.units l) (denied s (map negated core)) (λ l k. subst (λ ms. (is_among ms l || s.units l) ≡ true) (sym (twice core)) k) lead)
 
 -- a core of both signs of a variable
-pub signs_fail : (s : Session) (core hashes : List ℕ) → is_tautology core ≡ true → MayDerive s (map negated core) hashes
+pub signs_fail : (s : Session) (core hashes : List ℕ) → is_tautology core ≡ true → MayFail s core hashes
 signs_fail s core hashes t =
     let b = both_signs core t in
     by_signs (tautology_from (map negated core) (negated b.literal) (denied_among core b.literal b.within) (denied_among core (negated b.literal) b.negation))

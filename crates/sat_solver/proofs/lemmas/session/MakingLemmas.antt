@@ -7,7 +7,7 @@ use Rattle.sat_solver.specs.session.ProofView.{steps_of, Records, FlushesOrFails
 use Rattle.sat_solver.specs.session.Making.{MakesDue, FailsDue, RecordsDue}
 use Rattle.sat_solver.specs.declared.session.proof.Proof.{Proof}
 use Rattle.sat_solver.specs.declared.session.proof.ProofError.{ProofError}
-use Rattle.sat_solver.specs.declared.session.proof.ProofError.TheVariants.{Write}
+use Rattle.sat_solver.specs.declared.session.proof.ProofError.TheVariants.{Write, OutOfMemory}
 use Rattle.sat_solver.proofs.lemmas.session.DueLemmas.{ordered_append}
 use Rattle.sat_solver.proofs.lemmas.session.ProofLemmas.{adds_none, adds_more, fails_later, flush_records}
 
@@ -32,16 +32,19 @@ module _ {W : Type 0} (seen : W → Writer) where
   pub due_then : {T : Type 0} (r : Result T ProofError) (xs ys : List Step) (a b c : Proof W) → MakesDue seen xs a b → RecordsDue seen r ys b c → RecordsDue seen r (ys ++ xs) a c
   due_then (Ok x) xs ys a b c p q = due_more xs ys a b c p q
   due_then (Err (Write e)) xs ys a b c p q = fault_later xs a b c p q
+  due_then (Err OutOfMemory) xs ys a b c p q = (_, adds_more seen p.steps q.0 a b c p.adds q.1)
 
   -- what came of an ordered step
   pub due_step : {T : Type 0} (r : Result T ProofError) (step : Step) (a b : Proof W) → is_ordered step ≡ true → Records seen r (step ∷ []) a b → RecordsDue seen r (step ∷ []) a b
   due_step (Ok x) step a b e h = record { steps = step ∷ []; adds = h; ordered = ap (λ o. kept_if o step []) e }
   due_step (Err (Write x)) step a b e h = record { steps = step ∷ []; fails = h }
+  due_step (Err OutOfMemory) step a b e h = ([], h)
 
   -- and of a quiet one
   pub quiet_step : {T : Type 0} (r : Result T ProofError) (step : Step) (a b : Proof W) → is_ordered step ≡ false → Records seen r (step ∷ []) a b → RecordsDue seen r [] a b
   quiet_step (Ok x) step a b e h = record { steps = step ∷ []; adds = h; ordered = ap (λ o. kept_if o step []) e }
   quiet_step (Err (Write x)) step a b e h = record { steps = step ∷ []; fails = h }
+  quiet_step (Err OutOfMemory) step a b e h = ([], h)
 
   -- and of a flush
   pub due_flush : (r : Result (Unit {0}) ProofError) (a b : Proof W) → FlushesOrFails seen r a b → RecordsDue seen r [] a b
@@ -50,6 +53,7 @@ module _ {W : Type 0} (seen : W → Writer) where
       go : (r : Result (Unit {0}) ProofError) → Records seen r [] a b → RecordsDue seen r [] a b
       go (Ok x) k = record { steps = []; adds = k; ordered = refl }
       go (Err (Write x)) k = record { steps = []; fails = k }
+      go (Err OutOfMemory) k = ([], k)
 
   -- the steps alone
   pub due_makes : (xs : List Step) (a b : Proof W) → MakesDue seen xs a b → Makes xs (steps_of a) (steps_of b)

@@ -5,7 +5,7 @@ use Rattle.sat_base.specs.values.Hashes.{hash_of}
 use Rattle.sat_base.specs.steps.Steps.{Redundant, Simplified, Satisfied, Step, SolverVarName, UserVarName, DeleteVar, ChangeSamplingMode, AddClause, AtClause, UnitClauses, DeleteClause, ChangeHashBits, Model, Assumptions, FailedAssumptions, End}
 use Rattle.sat_checker.specs.LiteralSets.{is_tautology, canonical}
 use Rattle.sat_checker.specs.Stored.{solver_literal}
-use Rattle.sat_solver.specs.session.Session.{Session, with_fact, with_facts, with_sorted, with_clause, knowing_literals, changed, last_after, after, session_after, AreNamed, MayDerive, by_signs, by_unit, by_clauses, MayProve, May, MayAll}
+use Rattle.sat_solver.specs.session.Session.{Session, with_fact, with_facts, with_sorted, with_clause, knowing_literals, changed, last_after, after, session_after, AreNamed, MayDerive, MayFail, by_signs, by_derivation, by_unit, by_clauses, MayProve, May, MayAll}
 use Rattle.sat_solver.specs.session.Widths.{kept_bits, narrowed, KeepsWidth, IsWritten, none_yet, width_changes, one_more, MayAt, WidthsAreFree}
 
 -- the session at another width
@@ -29,9 +29,13 @@ named_at w s e (c ∷ cs) (k ∷ ks) h = (
 
 -- a derivation stands at another width
 pub derive_at : (w : ℕ) (s : Session) → s.width ≡ 64 → (clause hashes : List ℕ) → MayDerive s clause hashes → MayDerive (at w s) clause (map (kept_bits w) hashes)
-derive_at w s e clause hashes (by_signs t) = by_signs t
 derive_at w s e clause hashes (by_unit t) = by_unit t
 derive_at w s e clause hashes (by_clauses named n lead) = by_clauses named (named_at w s e named hashes n) lead
+
+-- so does a core's failing
+fail_at : (w : ℕ) (s : Session) → s.width ≡ 64 → (core hashes : List ℕ) → MayFail s core hashes → MayFail (at w s) core (map (kept_bits w) hashes)
+fail_at w s e core hashes (by_signs t) = by_signs t
+fail_at w s e core hashes (by_derivation d) = by_derivation (derive_at w s e (map negated core) hashes d)
 
 -- a unit, at another width
 fact_at : (w l : ℕ) (s : Session) → with_fact l (at w s) ≡ at w (with_fact l s)
@@ -150,7 +154,7 @@ may_at w (DeleteClause clause Simplified) s e m = (m.0, record { part = m.1.part
 may_at w (ChangeHashBits bits) s e m = tt
 may_at w (Model ls) s e m = record { consistent = m.consistent; apart = m.apart; units = m.units; clauses = m.clauses }
 may_at w (Assumptions ls) s e m = tt
-may_at w (FailedAssumptions core hashes) s e m = (m.0, derive_at w s e (map negated core) hashes m.1)
+may_at w (FailedAssumptions core hashes) s e m = (m.0, fail_at w s e core hashes m.1)
 may_at w End s e m = tt
 
 -- the width stays 64 where no step changes it

@@ -223,7 +223,10 @@ adding_ends seen errors.WitnessVariable s new user g w b k f = absurd (elim b.fa
     apart e = cc
 adding_ends seen errors.AssumedVariable s new user g w b k f = (w, record { going = g; failed = f; breaks = b; clock = k })
 adding_ends seen errors.TooLate s new user g w b k f = (w, record { going = g; failed = f; breaks = b; clock = k })
-adding_ends seen errors.NotInDrat s new user g w b k f = (w, record { going = g; failed = f; breaks = b; clock = k })
+adding_ends seen errors.NotInDrat s new user g w b k f = absurd (elim b.fault [ inl x ↦ x | inr e ↦ apart e ])
+  where
+    apart : errors.NotInDrat ≡ errors.VariableLimit → ⊥
+    apart e = cc
 adding_ends seen errors.CounterEnd s new user g w b k f = (w, record { going = g; failed = f; breaks = b; clock = k })
 adding_ends seen errors.HasFailed s new user g w b k f = absurd (elim b.fault [ inl x ↦ x | inr e ↦ apart e ])
   where
@@ -247,7 +250,10 @@ assuming_ends seen errors.WitnessVariable s new user g w b k f = absurd (elim b.
     apart e = cc
 assuming_ends seen errors.AssumedVariable s new user g w b k f = (w, record { going = g; failed = f; breaks = b; clock = k })
 assuming_ends seen errors.TooLate s new user g w b k f = (w, record { going = g; failed = f; breaks = b; clock = k })
-assuming_ends seen errors.NotInDrat s new user g w b k f = (w, record { going = g; failed = f; breaks = b; clock = k })
+assuming_ends seen errors.NotInDrat s new user g w b k f = absurd (elim b.fault [ inl x ↦ x | inr e ↦ apart e ])
+  where
+    apart : errors.NotInDrat ≡ errors.VariableLimit → ⊥
+    apart e = cc
 assuming_ends seen errors.CounterEnd s new user g w b k f = (w, record { going = g; failed = f; breaks = b; clock = k })
 assuming_ends seen errors.HasFailed s new user g w b k f = absurd (elim b.fault [ inl x ↦ x | inr e ↦ apart e ])
   where

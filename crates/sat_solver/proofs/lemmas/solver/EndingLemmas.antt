@@ -10,7 +10,7 @@ use Rattle.sat_solver.specs.session.ProofView.{Closes, ClosesOne, Keeps, steps_o
 use Rattle.sat_solver.specs.session.Session.{MayAll, session_after}
 use Rattle.sat_solver.specs.declared.session.proof.Proof.{Proof}
 use Rattle.sat_solver.specs.declared.session.proof.ProofError.{ProofError}
-use Rattle.sat_solver.specs.declared.session.proof.ProofError.TheVariants.{Write}
+use Rattle.sat_solver.specs.declared.session.proof.ProofError.TheVariants.{Write, OutOfMemory}
 use Rattle.sat_solver.specs.declared.names.Variables.{Variables}
 use Rattle.sat_solver.specs.declared.names.taking.Taken.{Taken}
 use Rattle.sat_solver.specs.declared.search.solving.Core.{Core}
@@ -101,3 +101,4 @@ module _ {W : Type 0} (seen : W → Writer) (s : Solver W) (whole : IsWhole s) (
 
   pub closed_broken : (e : ProofError) → Closes {W = W} seen (Err e) s.core.proof p → ClosesProof seen (Err (fault_of e)) s (record s { core = record s.core { proof = p }; failed = true })
   closed_broken (Write cause) c = record { going = going; failed = refl; fails = c }
+  closed_broken OutOfMemory c = record { going = going; failed = refl; adds = c }

@@ -11,7 +11,7 @@ use Rattle.sat_solver.specs.session.LiveClauses.{with_var}
 use Rattle.sat_solver.specs.session.ProofView.{Target, Closed, Open, Broken, Flushed, Flushes, FlushesOrFails, steps_of, session_of, target_of}
 use Rattle.sat_solver.specs.declared.session.proof.Proof.{Proof}
 use Rattle.sat_solver.specs.declared.session.proof.ProofError.{ProofError}
-use Rattle.sat_solver.specs.declared.session.proof.ProofError.TheVariants.{Write}
+use Rattle.sat_solver.specs.declared.session.proof.ProofError.TheVariants.{Write, OutOfMemory}
 use Rattle.sat_solver.specs.search.Going.{fault_of}
 use Rattle.sat_solver.specs.session.Session.{Session, MayAll, session_after}
 use Rattle.sat_solver.specs.session.Coming.{Comes, EndsAtUnsat}
@@ -341,6 +341,7 @@ module _ {W : Type 0} (seen : W → Writer) (old mid : Solver W) (settled : Sett
   -- and where the target failed at it
   pub settled_broken : (e : ProofError) → FlushesOrFails seen (Err e) mid.core.proof p → Breaks seen (fault_of e) old.core (record mid.core { proof = p }) × CountsRounds old mid
   settled_broken (Write cause) f = (record { fault = tt; steps = _; went = fails_later seen settled.took.0 [] old.core.proof mid.core.proof p settled.took.1 f }, settled.counts.on)
+  settled_broken OutOfMemory f = absurd f
 
 module _ {W : Type 0} (seen : W → Writer) (s : Solver W) (whole : IsWhole s) (unknown : s.state ≡ states.Unknown) (core : Core W) (told : Told) (clock : Clock) (scale : clock.restarts.scale ≡ s.clock.restarts.scale) (on : CountsOn (values_in s.core) s.core.config.max_steps s.clock.steps clock.steps) where
   goes_on : GoesOn s.core s.names s.asked
@@ -365,7 +366,7 @@ flushed_by seen p q f = go (target_of seen p) (target_of seen q) f.target
   where
     go : (a b : Target) → Flushed a b → IsFlushed b
     go Closed b e = subst IsFlushed (sym e) tt
-    go (Open s) b e = subst IsFlushed (sym e.1) (e.2.none, e.2.flushed)
+    go (Open x c s) b e = subst IsFlushed (sym e.1) (e.2.none, e.2.flushed)
     go (Broken w) b e = subst IsFlushed (sym e) tt
 
 -- CALLS

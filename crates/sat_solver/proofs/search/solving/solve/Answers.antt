@@ -20,5 +20,7 @@ search-requires g c = λ κs long.
     let n = ⊑_static κ in
     let a = ⊑_meet κ g.row.W.lives _ long n in
     let s = ⊑_meet κ _ _ a (⊑_meet κ _ _ (⊑_meet κ _ _ a a) n) in
-    let r = ⊑_meet κ _ _ (⊑_meet κ _ _ s n) (⊑_meet κ _ _ (⊑_meet κ _ _ s n) n) in
+    let l = ⊑_meet κ _ _ a a in
+    let o = ⊑_meet κ _ _ a (⊑_meet κ _ _ (⊑_meet κ _ _ s n) (⊑_meet κ _ _ (⊑_meet κ _ _ l n) n)) in
+    let r = ⊑_meet κ _ _ (⊑_meet κ _ _ o n) (⊑_meet κ _ _ (⊑_meet κ _ _ o n) n) in
     (⊑_meet κ _ _ a (⊑_meet κ _ _ (⊑_meet κ _ _ a (⊑_meet κ _ _ r n)) n), (⊑_static κs.1.1.1.1.0, (c.requires.core, (core_word c.args.core.now, c.requires.scale)))))

@@ -1,0 +1,47 @@
+-- The width of hashes, turn by turn.
+use Rattle.std.proofs.Common.{ℕ, zero, suc, ◌+◌, ◌-◌, ◌<◌, ◌≤◌, ◌≡◌, ◌∙◌, Bool, true, false, refl, sym, ap, arith}
+use Rattle.std.specs.Prelude.{cond, min}
+use Rattle.sat_solver.specs.session.Counting.{too_short, too_long, widened, shortened}
+
+-- a turn is left
+turn : (i : ℕ) → i < 32 → 32 - i ≡ suc (32 - (i + 1))
+turn i h = omega arith
+
+none : (i : ℕ) → 32 ≤ i → 32 - i ≡ zero
+none i h = omega arith
+
+widen_one : (k n b : ℕ) → widened (suc k) n b ≡ cond (too_short n b) (widened k n (min (b + 2) 64)) b
+unfolding widened
+widen_one k n b = refl
+
+widen_none : (n b : ℕ) → widened zero n b ≡ b
+unfolding widened
+widen_none n b = refl
+
+shorten_one : (k n b : ℕ) → shortened (suc k) n b ≡ cond (too_long n b) (shortened k n (b - 2)) b
+unfolding shortened
+shorten_one k n b = refl
+
+shorten_none : (n b : ℕ) → shortened zero n b ≡ b
+unfolding shortened
+shorten_none n b = refl
+
+pub widen_on : (i n b m : ℕ) → i < 32 → true ≡ too_short n b → m ≡ min (b + 2) 64 → widened (32 - (i + 1)) n m ≡ widened (32 - i) n b
+widen_on i n b m h e s =
+    ap (λ x. widened (32 - (i + 1)) n x) s ∙ ap (λ c. cond c (widened (32 - (i + 1)) n (min (b + 2) 64)) b) e ∙ sym (widen_one (32 - (i + 1)) n b) ∙ sym (ap (λ k. widened k n b) (turn i h))
+
+pub widen_stop : (i n b : ℕ) → i < 32 → false ≡ too_short n b → b ≡ widened (32 - i) n b
+widen_stop i n b h e = ap (λ c. cond c (widened (32 - (i + 1)) n (min (b + 2) 64)) b) e ∙ sym (widen_one (32 - (i + 1)) n b) ∙ sym (ap (λ k. widened k n b) (turn i h))
+
+pub widen_end : (i n b : ℕ) → 32 ≤ i → b ≡ widened (32 - i) n b
+widen_end i n b h = sym (ap (λ k. widened k n b) (none i h) ∙ widen_none n b)
+
+pub shorten_on : (i n b m : ℕ) → i < 32 → true ≡ too_long n b → m ≡ b - 2 → shortened (32 - (i + 1)) n m ≡ shortened (32 - i) n b
+shorten_on i n b m h e s =
+    ap (λ x. shortened (32 - (i + 1)) n x) s ∙ ap (λ c. cond c (shortened (32 - (i + 1)) n (b - 2)) b) e ∙ sym (shorten_one (32 - (i + 1)) n b) ∙ sym (ap (λ k. shortened k n b) (turn i h))
+
+pub shorten_stop : (i n b : ℕ) → i < 32 → false ≡ too_long n b → b ≡ shortened (32 - i) n b
+shorten_stop i n b h e = ap (λ c. cond c (shortened (32 - (i + 1)) n (b - 2)) b) e ∙ sym (shorten_one (32 - (i + 1)) n b) ∙ sym (ap (λ k. shortened k n b) (turn i h))
+
+pub shorten_end : (i n b : ℕ) → 32 ≤ i → b ≡ shortened (32 - i) n b
+shorten_end i n b h = sym (ap (λ k. shortened k n b) (none i h) ∙ shorten_none n b)

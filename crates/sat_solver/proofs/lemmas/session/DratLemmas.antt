@@ -1,0 +1,205 @@
+-- Clauses that are present, and what they refute.
+use Rattle.std.proofs.Common.{ℕ, suc, ◌+◌, ◌-◌, ◌<◌, ◌≤◌, ◌≡◌, ◌∙◌, ◌⊎◌, inl, inr, Bool, true, false, ◌||◌, ◌&&◌, cond, eqb, List, [], ◌∷◌, ◌++◌, map, filter, nat_eq, refl, sym, ap, subst, arith}
+use Rattle.std.specs.List.{AllByRecursion, list_any}
+use Rattle.std.specs.Cmp.Lexicographic.{pointwise, same_text}
+use Rattle.std.proofs.lemmas.Bool.{cases_Bool, or_cases, or_left, or_right, eqb-true, eq-eqb, true≢false}
+use Rattle.sat_base.specs.values.Literals.{negated}
+use Rattle.sat_checker.specs.LiteralSets.{is_among, is_tautology, canonical, same_literals}
+use Rattle.sat_checker.specs.Propagation.{IsFalsified, IsUnit, UnitInTurn}
+use Rattle.sat_checker.proofs.lemmas.propagation.Soundness.{negated-negated}
+use Rattle.sat_checker.proofs.lemmas.sets.Canonical.{canonical_among}
+use Rattle.sat_checker.proofs.lemmas.sets.Members.{canonical_each}
+use Rattle.sat_solver.specs.session.Drat.{times, without_set, Refutes}
+use Rattle.sat_solver.specs.session.Session.{Leads, more}
+
+-- COUNTS
+
+more_or : (b : Bool) (n : ℕ) → n ≤ more b n
+more_or true n = omega arith
+more_or false n = omega arith
+
+-- one more set leaves the others
+pub times_behind : (set c : List ℕ) (cs : List (List ℕ)) → times set cs ≤ times set (c ∷ cs)
+times_behind set c cs = more_or (same_literals c set) (times set cs)
+
+-- a set is itself
+same_itself : (xs : List ℕ) → same_literals xs xs ≡ true
+same_itself [] = refl
+same_itself (x ∷ xs) = ap (λ b. b && same_literals xs xs) (eq-eqb x x refl) ∙ same_itself xs
+
+pub times_itself : (set : List ℕ) (cs : List (List ℕ)) → times set (set ∷ cs) ≡ times set cs + 1
+times_itself set cs = ap (λ b. more b (times set cs)) (same_itself set)
+
+-- one that goes leaves the others
+pub times_left : (set out : List ℕ) (cs : List (List ℕ)) → same_literals out set ≡ false → times set cs ≤ times set (without_set out cs)
+times_left set out [] e = omega arith
+times_left set out (c ∷ cs) e = go (times_left set out cs e) (same_literals c out) refl
+  where
+    wider : times set cs ≤ times set (without_set out cs) → (b : Bool) → more b (times set cs) ≤ more b (times set (without_set out cs))
+    wider ih true = omega (arith, ih)
+    wider ih false = ih
+
+    go : times set cs ≤ times set (without_set out cs) → (b : Bool) → same_literals c out ≡ b → times set (c ∷ cs) ≤ times set (cond b cs (c ∷ without_set out cs))
+    go ih true s =
+        let other : same_literals c set ≡ false = subst (λ x. same_literals x set ≡ false) (sym (same_text c out (sym s))) e in
+        let is : times set (c ∷ cs) ≡ times set cs = ap (λ b. more b (times set cs)) other in
+        omega (arith, is)
+    go ih false s = wider ih (same_literals c set)
+
+-- and takes one away at most
+pub times_less : (set out : List ℕ) (cs : List (List ℕ)) → times set cs ≤ times set (without_set out cs) + 1
+times_less set out [] = omega arith
+times_less set out (c ∷ cs) = go (times_less set out cs) (same_literals c out)
+  where
+    one : (b : Bool) → more b (times set cs) ≤ times set cs + 1
+    one true = omega arith
+    one false = omega arith
+
+    wider : times set cs ≤ times set (without_set out cs) + 1 → (b : Bool) → more b (times set cs) ≤ more b (times set (without_set out cs)) + 1
+    wider ih true = omega (arith, ih)
+    wider ih false = ih
+
+    go : times set cs ≤ times set (without_set out cs) + 1 → (b : Bool) → times set (c ∷ cs) ≤ times set (cond b cs (c ∷ without_set out cs)) + 1
+    go ih true = one (same_literals c set)
+    go ih false = wider ih (same_literals c set)
+
+-- REFUTATIONS
+
+-- one clause that is falsified
+pub refutes_one : (cs : List (List ℕ)) (known c : List ℕ) → 0 < times c cs → IsFalsified known c → Refutes cs known
+refutes_one cs known c p f = record { named = c ∷ []; are_present = (p, tt); turns = f }
+
+-- one that is unit before others
+pub refutes_unit : (cs : List (List ℕ)) (known c : List ℕ) (o : ℕ) → 0 < times c cs → IsUnit known c o → Refutes cs (o ∷ known) → Refutes cs known
+refutes_unit cs known c o p u r = go r.named r.are_present r.turns
+  where
+    go : (named : List (List ℕ)) → AllByRecursion (λ c. 0 < times c cs) named → UnitInTurn (o ∷ known) named → Refutes cs known
+    go [] a t = absurd t
+    go (d ∷ ds) a t = record { named = c ∷ d ∷ ds; are_present = (p, a); turns = (o, u, t) }
+
+-- these hold among the known literals
+abbrev pub Has : List ℕ → (ℕ → Bool) → Type 0
+Has known q = (l : ℕ) → q l ≡ true → is_among known l ≡ true
+
+has_more : (known : List ℕ) (q : ℕ → Bool) (o : ℕ) → Has known q → Has (o ∷ known) (λ l. eqb o l || q l)
+has_more known q o h l e = elim (or_cases (eqb o l) (q l) e) [ inl s ↦ or_left (eqb o l) (is_among known l) s | inr t ↦ or_right (eqb o l) (is_among known l) (h l t) ]
+
+has_there : (known : List ℕ) (q : ℕ → Bool) (o : ℕ) → is_among known o ≡ true → Has known q → Has known (λ l. eqb o l || q l)
+has_there known q o there h l e = elim (or_cases (eqb o l) (q l) e) [ inl s ↦ subst (λ x. is_among known x ≡ true) (eqb-true o l s) there | inr t ↦ h l t ]
+
+each_falsified : (known : List ℕ) (q : ℕ → Bool) → Has known q → (c : List ℕ) → AllByRecursion (λ l. q (negated l) ≡ true) c → IsFalsified known c
+each_falsified known q h [] a = tt
+each_falsified known q h (l ∷ ls) a = (h (negated l) a.0, each_falsified known q h ls a.1)
+
+others_falsified : (known : List ℕ) (q : ℕ → Bool) (o : ℕ) → Has known q → (c : List ℕ) → AllByRecursion (λ l. (l ≡ o) ⊎ (q (negated l) ≡ true)) c → AllByRecursion (λ l. (l ≡ o) ⊎ (is_among known (negated l) ≡ true)) c
+others_falsified known q o h [] a = tt
+others_falsified known q o h (l ∷ ls) a = (elim a.0 [ inl e ↦ inl e | inr t ↦ inr (h (negated l) t) ], others_falsified known q o h ls a.1)
+
+-- where the one literal is false, too, all are
+all_falsified : (known : List ℕ) (o : ℕ) → is_among known (negated o) ≡ true → (c : List ℕ) → AllByRecursion (λ l. (l ≡ o) ⊎ (is_among known (negated l) ≡ true)) c → IsFalsified known c
+all_falsified known o f [] a = tt
+all_falsified known o f (l ∷ ls) a = (elim a.0 [ inl e ↦ subst (λ x. is_among known (negated x) ≡ true) (sym e) f | inr t ↦ t ], all_falsified known o f ls a.1)
+
+-- Present clauses that lead to a conflict refute what holds: those that are no longer unit in their turn are left out.
+pub leads_refute : (ps cs : List (List ℕ)) (known : List ℕ) (q : ℕ → Bool) → AllByRecursion (λ c. 0 < times (canonical c) ps) cs → Has known q → Leads q cs → Refutes ps known
+leads_refute ps [] known q p h l = absurd l
+leads_refute ps (c ∷ []) known q p h l = refutes_one ps known (canonical c) p.0 (canonical_each (λ m. is_among known (negated m) ≡ true) c (each_falsified known q h c l))
+leads_refute ps (c ∷ d ∷ cs) known q p h l = go (λ k r a b. leads_refute ps (d ∷ cs) k r p.1 a b) (is_among known l.0) refl (is_among known (negated l.0)) refl
+  where
+    o : ℕ
+    o = l.0
+
+    others : AllByRecursion (λ m. (m ≡ o) ⊎ (is_among known (negated m) ≡ true)) c
+    others = others_falsified known q o h c l.1
+
+    go : ((k : List ℕ) (r : ℕ → Bool) → Has k r → Leads r (d ∷ cs) → Refutes ps k) → (b : Bool) → is_among known o ≡ b → (n : Bool) → is_among known (negated o) ≡ n → Refutes ps known
+    go ih true e n f = ih known (λ m. eqb o m || q m) (has_there known q o e h) l.3
+    go ih false e true f = refutes_one ps known (canonical c) p.0 (canonical_each (λ m. is_among known (negated m) ≡ true) c (all_falsified known o f c others))
+    go ih false e false f =
+        refutes_unit ps known (canonical c) o p.0
+        (record { within = canonical_among c o ∙ l.2; not_true = e; not_false = f; others = canonical_each (λ m. (m ≡ o) ⊎ (is_among known (negated m) ≡ true)) c others })
+        (ih (o ∷ known) (λ m. eqb o m || q m) (has_more known q o h) l.3)
+
+-- UNITS
+
+-- present units come first
+pub units_first : (ps : List (List ℕ)) (us known : List ℕ) (q : ℕ → Bool) → AllByRecursion (λ u. 0 < times (u ∷ []) ps) us → Has known q → ((k : List ℕ) → Has k (λ l. is_among us l || q l) → Refutes ps k) → Refutes ps known
+units_first ps [] known q p h f = f known h
+units_first ps (u ∷ us) known q p h f = go (λ k r a b. units_first ps us k r p.1 a b) (is_among known u) refl (is_among known (negated u)) refl
+  where
+    q' : ℕ → Bool
+    q' = λ l. eqb u l || q l
+
+    next : (k : List ℕ) → Has k (λ l. is_among us l || q' l) → Refutes ps k
+    next k a = f k (λ l e. a l (turned l (elim (or_cases (is_among (u ∷ us) l) (q l) e) [ inl s ↦ elim (or_cases (eqb u l) (is_among us l) s) [ inl t ↦ inr (or_left (eqb u l) (q l) t) | inr t ↦ inl t ] | inr t ↦ inr (or_right (eqb u l) (q l) t) ])))
+      where
+        turned : (l : ℕ) → (is_among us l ≡ true) ⊎ (q' l ≡ true) → (is_among us l || q' l) ≡ true
+        turned l (inl s) = or_left (is_among us l) (q' l) s
+        turned l (inr s) = or_right (is_among us l) (q' l) s
+
+    go : ((k : List ℕ) (r : ℕ → Bool) → Has k r → ((m : List ℕ) → Has m (λ l. is_among us l || r l) → Refutes ps m) → Refutes ps k) → (b : Bool) → is_among known u ≡ b → (n : Bool) → is_among known (negated u) ≡ n → Refutes ps known
+    go ih true e n g = ih known q' (has_there known q u e h) next
+    go ih false e true g = refutes_one ps known (u ∷ []) p.0 (g, tt)
+    go ih false e false g =
+        refutes_unit ps known (u ∷ []) u p.0 (record { within = or_left (eqb u u) false (eq-eqb u u refl); not_true = e; not_false = g; others = (inl refl, tt) })
+        (ih (u ∷ known) q' (has_more known q u h) next)
+
+-- the negations of all literals
+abbrev pub negations : List (List ℕ) → List ℕ
+negations [] = []
+negations (c ∷ cs) = map negated c ++ negations cs
+
+among_left : (xs ys : List ℕ) (l : ℕ) → is_among xs l ≡ true → is_among (xs ++ ys) l ≡ true
+among_left [] ys l e = absurd (true≢false (sym e))
+among_left (x ∷ xs) ys l e = elim (or_cases (eqb x l) (is_among xs l) e) [ inl s ↦ or_left (eqb x l) (is_among (xs ++ ys) l) s | inr t ↦ or_right (eqb x l) (is_among (xs ++ ys) l) (among_left xs ys l t) ]
+
+among_right : (xs ys : List ℕ) (l : ℕ) → is_among ys l ≡ true → is_among (xs ++ ys) l ≡ true
+among_right [] ys l e = e
+among_right (x ∷ xs) ys l e = or_right (eqb x l) (is_among (xs ++ ys) l) (among_right xs ys l e)
+
+-- what is asked of a clause is asked of its own literals
+within_each : (q r : ℕ → Bool) (c : List ℕ) → ((l : ℕ) → is_among (map negated c) l ≡ true → q l ≡ true → r l ≡ true) → AllByRecursion (λ l. q (negated l) ≡ true) c → AllByRecursion (λ l. r (negated l) ≡ true) c
+within_each q r [] f a = tt
+within_each q r (x ∷ xs) f a =
+    (f (negated x) (or_left (eqb (negated x) (negated x)) (is_among (map negated xs) (negated x)) (eq-eqb (negated x) (negated x) refl)) a.0, within_each q r xs (λ l e. f l (or_right (eqb (negated x) l) (is_among (map negated xs) l) e)) a.1)
+
+within_others : (q r : ℕ → Bool) (o : ℕ) (c : List ℕ) → ((l : ℕ) → is_among (map negated c) l ≡ true → q l ≡ true → r l ≡ true) → AllByRecursion (λ l. (l ≡ o) ⊎ (q (negated l) ≡ true)) c → AllByRecursion (λ l. (l ≡ o) ⊎ (r (negated l) ≡ true)) c
+within_others q r o [] f a = tt
+within_others q r o (x ∷ xs) f a = (
+  elim a.0 [ inl e ↦ inl e | inr t ↦ inr (f (negated x) (or_left (eqb (negated x) (negated x)) (is_among (map negated xs) (negated x)) (eq-eqb (negated x) (negated x) refl)) t) ],
+  within_others q r o xs (λ l e. f l (or_right (eqb (negated x) l) (is_among (map negated xs) l) e)) a.1,
+)
+
+pub leads_within : (cs : List (List ℕ)) (q r : ℕ → Bool) → ((l : ℕ) → is_among (negations cs) l ≡ true → q l ≡ true → r l ≡ true) → Leads q cs → Leads r cs
+leads_within [] q r f h = h
+leads_within (c ∷ []) q r f h = within_each q r c (λ l e. f l (among_left (map negated c) [] l e)) h
+leads_within (c ∷ d ∷ cs) q r f h = (
+  h.0,
+  within_others q r h.0 c (λ l e. f l (among_left (map negated c) (negations (d ∷ cs)) l e)) h.1,
+  h.2,
+  leads_within (d ∷ cs) (λ l. eqb h.0 l || q l) (λ l. eqb h.0 l || r l)
+      (λ l e t. elim (or_cases (eqb h.0 l) (q l) t) [ inl s ↦ or_left (eqb h.0 l) (r l) s | inr s ↦ or_right (eqb h.0 l) (r l) (f l (among_right (map negated c) (negations (d ∷ cs)) l e) s) ]) h.3,
+)
+
+-- those of a list that are units
+abbrev pub units_in : (ℕ → Bool) → List ℕ → List ℕ
+units_in q [] = []
+units_in q (l ∷ ls) = cond (q l) (l ∷ units_in q ls) (units_in q ls)
+
+pub units_there : (q : ℕ → Bool) (ls : List ℕ) (l : ℕ) → is_among ls l ≡ true → q l ≡ true → is_among (units_in q ls) l ≡ true
+units_there q [] l e t = absurd (true≢false (sym e))
+units_there q (x ∷ xs) l e t = go (λ s. units_there q xs l s t) (q x) refl (or_cases (eqb x l) (is_among xs l) e)
+  where
+    go : (is_among xs l ≡ true → is_among (units_in q xs) l ≡ true) → (b : Bool) → q x ≡ b → (eqb x l ≡ true) ⊎ (is_among xs l ≡ true) → is_among (cond b (x ∷ units_in q xs) (units_in q xs)) l ≡ true
+    go ih true k (inl s) = or_left (eqb x l) (is_among (units_in q xs) l) s
+    go ih true k (inr s) = or_right (eqb x l) (is_among (units_in q xs) l) (ih s)
+    go ih false k (inl s) = absurd (true≢false (sym (subst (λ y. q y ≡ true) (sym (eqb-true x l s)) t) ∙ k))
+    go ih false k (inr s) = ih s
+
+pub units_are : (q : ℕ → Bool) (P : ℕ → Type 0) → ((l : ℕ) → q l ≡ true → P l) → (ls : List ℕ) → AllByRecursion P (units_in q ls)
+units_are q P f [] = tt
+units_are q P f (l ∷ ls) = go (units_are q P f ls) (q l) refl
+  where
+    go : AllByRecursion P (units_in q ls) → (b : Bool) → q l ≡ b → AllByRecursion P (cond b (l ∷ units_in q ls) (units_in q ls))
+    go ih true e = (f l e, ih)
+    go ih false e = ih

@@ -1,0 +1,104 @@
+-- Steps that are put into a target's text, with the widths that they have.
+use Rattle.std.proofs.Common.{ℕ, Bool, ◌≡◌, ◌∙◌, true, false, Option, None, Some, Result, Ok, Err, List, [], ◌∷◌, ◌++◌, append_assoc, refl, sym, ap, subst}
+use Rattle.std.proofs.lemmas.List.{append-nil}
+use Rattle.std.specs.Prelude.{nat_eq, cond}
+use Rattle.sat_base.specs.device.Device.{Writer, Breaks}
+use Rattle.sat_base.specs.device.Sink.{Sink, Sent}
+use Rattle.sat_base.specs.steps.Steps.{Step, ChangeHashBits}
+use Rattle.sat_base.proofs.lemmas.device.Writes.{breaks_within}
+use Rattle.sat_solver.specs.session.Counting.{width_told, written_for, counted}
+use Rattle.sat_solver.specs.session.OutputView.{step_text, SpellsIn, text_in, Wrote, PutsSteps, output_format, output_sink}
+use Rattle.sat_solver.specs.session.ProofView.{Target, Carries, Stops, Closed, Open, Broken as Faulty, with_fault, target_in, target_of, Adds, Fails}
+use Rattle.sat_solver.specs.session.Widths.{KeepsWidth}
+use Rattle.sat_solver.specs.declared.session.counting.Counting.{Counting}
+use Rattle.sat_solver.specs.declared.session.output.Output.{Output}
+use Rattle.sat_solver.specs.declared.session.format.ProofFormat.{ProofFormat}
+use Rattle.sat_solver.specs.session.Counting.{none_made, ask_begun}
+use Rattle.sat_solver.specs.declared.session.proof.Proof.{Proof}
+use Rattle.sat_solver.specs.declared.session.history.History.{History}
+use Rattle.sat_solver.specs.declared.session.cutting.CutLists.{CutLists}
+use Rattle.sat_solver.specs.declared.session.proof.ProofError.{ProofError}
+use Rattle.sat_solver.specs.declared.session.proof.ProofError.TheVariants.{Write, OutOfMemory}
+use Rattle.sat_solver.proofs.lemmas.session.ProofLemmas.{wrote_none, breaks_behind, cuts_one, carries_none}
+
+-- one step was written
+pub wrote_one : (f : ProofFormat) (step : Step) (s t : Sink) → Sent s t (step_text f step) → SpellsIn f step → Wrote f (step ∷ []) s t
+wrote_one f step s t h k = record { spelt = (k, tt); sent = h }
+
+-- a width that stays isn't told
+pub told_none : (before now : ℕ) → nat_eq before now ≡ true → width_told before now ≡ []
+told_none before now e = ap (λ b. cond {A = List Step} b [] (ChangeHashBits now ∷ [])) e
+
+-- a step behind others that were written
+pub puts_behind : (f : ProofFormat) (step : Step) (xs : List Step) (s t u : Sink) → Wrote f xs s t → Breaks t.writer u.writer (t.waiting ++ step_text f step) → Breaks s.writer u.writer (s.waiting ++ text_in f (step ∷ xs))
+puts_behind f step xs s t u p q = breaks_behind f s t u.writer xs (step ∷ []) p q
+
+-- a fault at the text of steps is one at the text of these and one more
+pub puts_short : (f : ProofFormat) (e : ProofError) (step : Step) (xs : List Step) (s t : Sink) → PutsSteps f (Err e) xs s t → PutsSteps f (Err e) (step ∷ xs) s t
+puts_short f (Write e) step xs s t h =
+    subst (Breaks s.writer t.writer) (append_assoc s.waiting (text_in f xs) (step_text f step)) (breaks_within s.writer t.writer (s.waiting ++ text_in f xs) (step_text f step) h)
+puts_short f OutOfMemory step xs s t h = h
+
+-- a step was carried
+pub carries_step : (f : ProofFormat) (c : Counting) (s t : Sink) (step : Step) → KeepsWidth step → Wrote f (written_for c.bits (counted step c).bits step) s t → Carries (Open f c s) (step ∷ []) (Open f (counted step c) t)
+carries_step f c s t step k w = (counted step c, t, refl, record { written = written_for c.bits (counted step c).bits step; cuts = cuts_one c step k; wrote = w })
+
+-- or the target failed at its text
+pub stops_step : (f : ProofFormat) (c : Counting) (s t : Sink) (step : Step) → KeepsWidth step → Breaks s.writer t.writer (s.waiting ++ text_in f (written_for c.bits (counted step c).bits step)) → Stops (Open f c s) (step ∷ []) (Faulty t.writer)
+stops_step f c s t step k b = (t.writer, refl, record { written = written_for c.bits (counted step c).bits step; counting = counted step c; cuts = cuts_one c step k; breaks = b })
+
+module _ {W : Type 0} (seen : W → Writer) (p : Proof W) where
+  abbrev pub begun : Proof W
+  begun = record p { counting = record p.counting { solving = true } }
+
+  -- an ask begins, and no step is made of it
+  pub adds_begun : Adds seen [] p begun
+  adds_begun = record { history = refl; target = go p.output p.broken }
+    where
+      go : (o : Option (Output W)) (b : Bool) → Carries (target_in seen o b p.counting) [] (target_in seen o b (record p.counting { solving = true }))
+      go None b = refl
+      go (Some o) false = (record p.counting { solving = true }, output_sink seen o, refl, record { written = []; cuts = ask_begun none_made; wrote = wrote_none (output_format o) (output_sink seen o) })
+      go (Some o) true = refl
+
+  module _ (o u : Output W) (is : p.output ≡ Some o) (well : p.broken ≡ false) where
+    was_open : Open (output_format o) p.counting (output_sink seen o) ≡ target_of seen p
+    was_open = sym (ap (λ x. target_in seen x p.broken p.counting) is ∙ ap (λ b. with_fault b (output_format o) p.counting (output_sink seen o)) well)
+
+    -- a flush failed
+    pub fails_flush : Breaks (output_sink seen o).writer (output_sink seen u).writer ((output_sink seen o).waiting ++ []) → Fails seen [] p (record p { output = Some u; broken = true })
+    fails_flush b = record {
+      history = refl;
+      target = subst (λ t. Stops t [] (Faulty (output_sink seen u).writer)) was_open ((output_sink seen u).writer, refl, record { written = []; counting = p.counting; cuts = none_made; breaks = b });
+    }
+
+    module _ (step : Step) (keeps : KeepsWidth step) (history : History) (made : history.steps ≡ step ∷ p.history.steps) (lists : CutLists) where
+      -- a step was written
+      pub adds_put : (d : Counting) → d ≡ counted step p.counting → output_format u ≡ output_format o → Wrote (output_format o) (written_for p.counting.bits d.bits step) (output_sink seen o) (output_sink seen u) →
+          Adds seen (step ∷ []) p (record p { history = history; counting = d; lists = lists; output = Some u })
+      adds_put d e same wrote = record { history = made; target = subst (λ b. Carries (target_of seen p) (step ∷ []) (with_fault b (output_format u) d (output_sink seen u))) (sym well) carried }
+        where
+          carried : Carries (target_of seen p) (step ∷ []) (Open (output_format u) d (output_sink seen u))
+          carried = subst (λ f. Carries (target_of seen p) (step ∷ []) (Open f d (output_sink seen u))) (sym same)
+              (subst (λ t. Carries t (step ∷ []) (Open (output_format o) d (output_sink seen u))) was_open
+              (subst (λ x. Carries (Open (output_format o) p.counting (output_sink seen o)) (step ∷ []) (Open (output_format o) x (output_sink seen u))) (sym e)
+              (carries_step (output_format o) p.counting (output_sink seen o) (output_sink seen u) step keeps (subst (λ x. Wrote (output_format o) (written_for p.counting.bits x.bits step) (output_sink seen o) (output_sink seen u)) e wrote))))
+
+      -- a call of the target failed at its text
+      pub fails_put : (d : Counting) → d ≡ counted step p.counting → Breaks (output_sink seen o).writer (output_sink seen u).writer ((output_sink seen o).waiting ++ text_in (output_format o) (written_for p.counting.bits d.bits step)) →
+          Fails seen (step ∷ []) p (record p { history = history; lists = lists; output = Some u; broken = true })
+      fails_put d e b = record {
+        history = made;
+        target = subst (λ t. Stops t (step ∷ []) (Faulty (output_sink seen u).writer)) was_open
+            (stops_step (output_format o) p.counting (output_sink seen o) (output_sink seen u) step keeps
+            (subst (λ x. Breaks (output_sink seen o).writer (output_sink seen u).writer ((output_sink seen o).waiting ++ text_in (output_format o) (written_for p.counting.bits x.bits step))) e b));
+      }
+
+    -- no memory was left, and nothing was made
+    pub adds_starved : (lists : CutLists) → output_format u ≡ output_format o → output_sink seen u ≡ output_sink seen o → Adds seen [] p (record p { lists = lists; output = Some u })
+    adds_starved lists same sent = record {
+      history = refl;
+      target = subst (λ t. Carries (target_of seen p) [] t) unchanged (carries_none (target_of seen p));
+    }
+      where
+        unchanged : target_of seen p ≡ target_in seen (Some u) p.broken p.counting
+        unchanged = ap (λ x. target_in seen x p.broken p.counting) is ∙ ap (λ f. with_fault p.broken f p.counting (output_sink seen o)) (sym same) ∙ ap (λ s. with_fault p.broken (output_format u) p.counting s) (sym sent)

@@ -1,0 +1,43 @@
+-- An ask begins: no step is made of it, and from there on hashes are shortened.
+use Rattle.std.proofs.Common.{◌-◌, ◌∙◌, Err, List, [], subst}
+use Rattle.sat_base.specs.device.Device.{Writer}
+use Rattle.sat_solver.specs.declared.error.SolverError.{SolverError}
+use Rattle.sat_solver.specs.declared.search.solving.Core.{Core}
+use Rattle.sat_solver.specs.declared.session.proof.Proof.{Proof}
+use Rattle.sat_solver.specs.declared.solver.Solver.{Solver}
+use Rattle.sat_solver.specs.names.Calls.{Does}
+use Rattle.sat_solver.specs.search.Solving.{AdvancesIn}
+use Rattle.sat_solver.specs.session.Coming.{Comes, EndsAtUnsat}
+use Rattle.sat_solver.specs.session.ProofView.{Adds}
+use Rattle.sat_solver.specs.solver.Answering.{Breaks}
+use Rattle.sat_solver.specs.solver.Calls.{told_by}
+use Rattle.sat_solver.specs.solver.Settling.{Settled}
+use Rattle.sat_solver.specs.solver.Whole.{IsWhole, steps_in}
+use Rattle.sat_solver.proofs.lemmas.search.GoingLemmas.{went_later}
+use Rattle.sat_solver.proofs.lemmas.session.ProofLemmas.{adds_more}
+use Rattle.sat_solver.proofs.lemmas.solver.SettlingLemmas.{whole_over}
+
+module _ {W : Type 0} (seen : W → Writer) (old : Solver W) (p : Proof W) (adds : Adds seen [] old.core.proof p) where
+  abbrev pub begun : Solver W
+  begun = record old { core = record old.core { proof = p } }
+
+  pub whole_begun : IsWhole old → IsWhole begun
+  whole_begun whole = whole_over old.core old.names old.asked old.assumed.items old.told.failed_core.items old.clock.restarts.scale old.state p whole adds.history
+
+  -- what is settled behind it
+  pub settled_begun : (new : Solver W) → Settled seen begun new → Settled seen old new
+  settled_begun new s = record {
+    whole = s.whole;
+    comes = subst (λ ss. Comes EndsAtUnsat ss (steps_in new)) adds.history s.comes;
+    config = s.config;
+    times = λ u. subst (λ ss. AdvancesIn ss (steps_in new) (new.clock.steps - old.clock.steps)) adds.history (s.times u);
+    does = subst (λ ss. Does old.names new.names ss (steps_in new) (λ j. j) (λ j. told_by old.state new)) adds.history s.does;
+    took = (_, adds_more seen [] s.took.0 old.core.proof p new.core.proof adds s.took.1);
+    same = s.same;
+    counts = record { on = s.counts.on; round = s.counts.round; spent = s.counts.spent; answered = s.counts.answered };
+    known = λ k. (let h = s.known k in (h.0 ∙ adds.history, h.1));
+  }
+
+  -- or fails
+  pub breaks_begun : (e : SolverError) (core : Core W) → Breaks seen e begun.core core → Breaks seen e old.core core
+  breaks_begun e core b = record { fault = b.fault; steps = _; went = went_later seen {A = Unit {0}} (Err e) [] b.steps old.core.proof p core.proof adds b.went }

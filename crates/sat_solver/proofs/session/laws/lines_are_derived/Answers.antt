@@ -1,0 +1,5 @@
+use Rattle.sat_solver.proofs.lemmas.session.DratDerivations.{drat_stands}
+use Rattle.sat_solver.proofs.session.laws.lines_are_derived.Goals as goal
+
+pub returns : goal.returns
+returns c = drat_stands

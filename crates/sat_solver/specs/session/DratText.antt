@@ -1,0 +1,55 @@
+-- The text of a DRAT proof, in words or in bytes.
+use Rattle.std.specs.Prelude.{ℕ, zero, suc, ◌+◌, ◌/◌, ◌%◌, Bool, true, false, List, [], ◌∷◌, ◌++◌, codes, nat_lt, if◌then◌else◌}
+use Rattle.sat_base.specs.dimacs.DimacsText.{clause_line}
+use Rattle.sat_base.specs.steps.Steps.{Step, AtClause, UnitClauses, DeleteClause}
+
+-- A line: a clause that is derived, or one that is deleted.
+pub data Line : Type 0 where
+  Derives : List ℕ → Line
+  Deletes : List ℕ → Line
+
+-- a line for each derived unit
+abbrev pub unit_lines : List (ℕ × ℕ) → List Line
+unit_lines [] = []
+unit_lines (u ∷ us) = Derives (u.0 ∷ []) ∷ unit_lines us
+
+-- the lines of a step, the first one first
+abbrev pub lines_of : Step → List Line
+lines_of (AtClause redundant clause hashes) = Derives clause ∷ []
+lines_of (UnitClauses us) = unit_lines us
+lines_of (DeleteClause clause proof) = Deletes clause ∷ []
+lines_of step = []
+
+-- IN WORDS: `d ` before a deleted clause; each literal's number and a space; `0` and LF.
+-- IN BYTES: `a` or `d`; each literal's code and two, in groups of seven bits, low group first; a byte of zero.
+
+-- a number in groups of seven bits, of which at most so many are looked at; five hold a literal's
+abbrev pub seven_bits : ℕ → ℕ → List ℕ
+seven_bits zero n = []
+seven_bits (suc k) n = if nat_lt n 128 then n ∷ [] else (n % 128 + 128) ∷ seven_bits k (n / 128)
+
+abbrev pub bytes_line : List ℕ → List ℕ
+bytes_line [] = 0 ∷ []
+bytes_line (l ∷ ls) = seven_bits 5 (l + 2) ++ bytes_line ls
+
+abbrev pub mark : (binary deleted : Bool) → List ℕ
+mark false false = []
+mark false true = codes "d "
+mark true false = codes "a"
+mark true true = codes "d"
+
+abbrev pub clause_text : (binary : Bool) → List ℕ → List ℕ
+clause_text false clause = clause_line clause
+clause_text true clause = bytes_line clause
+
+abbrev pub line_text : (binary : Bool) → Line → List ℕ
+line_text binary (Derives clause) = mark binary false ++ clause_text binary clause
+line_text binary (Deletes clause) = mark binary true ++ clause_text binary clause
+
+abbrev pub lines_text : (binary : Bool) → List Line → List ℕ
+lines_text binary [] = []
+lines_text binary (x ∷ xs) = line_text binary x ++ lines_text binary xs
+
+-- what a step gives
+abbrev pub drat_text : (binary : Bool) → Step → List ℕ
+drat_text binary step = lines_text binary (lines_of step)
