@@ -8,3 +8,4 @@ pub mod program
 pub mod reading
 pub mod judge
 pub mod matching
+pub mod serving

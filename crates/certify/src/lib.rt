@@ -8,6 +8,7 @@ pub mod judge;
 pub mod law_matching;
 pub mod law_reading;
 pub mod law_script;
+pub mod law_serving;
 pub mod laws;
 pub mod matching;
 pub mod names;

@@ -1,0 +1,3 @@
+pub mod Certifies
+pub mod Serving
+pub mod ServingLaws

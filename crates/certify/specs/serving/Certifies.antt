@@ -1,0 +1,55 @@
+-- Which steps a run writes into its certificate. Lists of steps have the newest first.
+use Rattle.std.specs.Prelude.{ℕ, ◌≡◌, Bool, true, false, Option, Some, None, List, [], ◌∷◌}
+use Rattle.sat_base.specs.values.Clauses.{Valuation}
+use Rattle.sat_base.specs.script.Script.{Literal}
+use Rattle.sat_base.specs.steps.Steps.{Step}
+use Rattle.sat_checker.specs.Fold.{Holds}
+use Rattle.sat_checker.specs.matching.Checking.{Checking, is_ordered}
+use Rattle.sat_checker.specs.matching.Expected.{Outcome, Unsat, Expected, Opens, Adds, Shows, Fails, Closes, Fits}
+
+-- a checker that was fed these steps has recorded unsat, and no valuation satisfies their clauses
+pub record IsRecorded (k : Checking) (earlier : List Step) : Type 0 where
+  pub recorded : k.unsat earlier ≡ true
+  pub none : (a : Valuation) → Holds earlier a → ⊥
+
+-- what is left out then: a clause, or the empty core
+abbrev pub MayLack : Expected → Type 0
+MayLack (Adds ls) = Unit {0}
+MayLack (Fails ask core) = core ≡ []
+MayLack e = ⊥
+
+-- Once unsat is recorded, no model stands and no core. How an ask is opened and closed is spoken of apart.
+abbrev pub MayStand : Bool → Expected → Type 0
+MayStand unsat (Shows names ask line) = unsat ≡ false
+MayStand unsat (Fails ask core) = unsat ≡ false
+MayStand unsat (Opens ask outcome) = ⊥
+MayStand unsat Closes = ⊥
+MayStand unsat e = Unit {0}
+
+-- what an ask is answered once unsat is recorded, without a round of search
+pub record IsKnown (o : Outcome) (n : ℕ) : Type 0 where
+  pub outcome : o ≡ Unsat []
+  pub rounds : n ≡ 0
+
+-- From the earlier steps up to all, these are what is expected, in order and content, among others. Behind the last that is expected
+-- there is none. The asks took so many rounds. At first the ask of this outcome is open, or none is.
+pub data Certifies (k : Checking) (all : List Step) : Option Outcome → List Step → List Expected → List ℕ → Type 0 where
+  complete : Certifies k all None all [] []
+  left_out : {current : Option Outcome} {earlier : List Step} {e : Expected} {es : List Expected} {counts : List ℕ}
+      → MayLack e → IsRecorded k earlier → Certifies k all current earlier es counts
+      → Certifies k all current earlier (e ∷ es) counts
+  other : {current : Option Outcome} {earlier : List Step} {step : Step} {e : Expected} {es : List Expected} {counts : List ℕ}
+      → is_ordered step ≡ false → Certifies k all current (step ∷ earlier) (e ∷ es) counts
+      → Certifies k all current earlier (e ∷ es) counts
+  ordered : {current : Option Outcome} {earlier : List Step} {step : Step} {e : Expected} {es : List Expected} {counts : List ℕ}
+      → MayStand (k.unsat earlier) e → Fits (k.knows earlier) earlier e step
+      → Certifies k all current (step ∷ earlier) es counts
+      → Certifies k all current earlier (e ∷ es) counts
+  asked : {earlier : List Step} {step : Step} {ask : List Literal} {o : Outcome} {n : ℕ} {es : List Expected} {counts : List ℕ}
+      → (k.unsat earlier ≡ true → IsKnown o n) → Fits (k.knows earlier) earlier (Opens ask o) step
+      → Certifies k all (Some o) (step ∷ earlier) es counts
+      → Certifies k all None earlier (Opens ask o ∷ es) (n ∷ counts)
+  answered : {earlier : List Step} {step : Step} {o : Outcome} {es : List Expected} {counts : List ℕ}
+      → (k.unsat earlier ≡ true → o ≡ Unsat []) → Fits (k.knows earlier) earlier Closes step
+      → Certifies k all None (step ∷ earlier) es counts
+      → Certifies k all (Some o) earlier (Closes ∷ es) counts

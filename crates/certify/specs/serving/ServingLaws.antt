@@ -1,0 +1,55 @@
+-- What holds of commands that are served.
+use Rattle.std.specs.Prelude.{ℕ, ◌+◌, ◌<◌, ◌≡◌, Some, None, List, [], ◌∷◌, ◌++◌, map}
+use Rattle.std.specs.List.{AllByRecursion}
+use Rattle.sat_base.specs.values.Clauses.{Valuation, EachTrue, EachHolds}
+use Rattle.sat_base.specs.script.Script.{Literal, Command, Ask, Among}
+use Rattle.sat_base.specs.script.Judge.{Judge, Refusal, IsRightCore, accepted, identity_of, over, refusal_of}
+use Rattle.sat_base.specs.steps.Steps.{Step}
+use Rattle.sat_checker.specs.LiteralSets.{canonical}
+use Rattle.sat_checker.specs.matching.Expected.{Outcome}
+use Rattle.certify.specs.answers.AnswerForms.{named_literals}
+use Rattle.certify.specs.answers.Answers.{refused_line, outcome_text}
+use Rattle.certify.specs.answers.RightAnswers.{IsRight}
+use Rattle.certify.specs.laws.Laws.{NamesIncrease}
+use Rattle.certify.specs.run.FinishedRun.{IsSpent, kind_of}
+use Rattle.certify.specs.serving.Serving.{AskSteps, IsNoAsk, Leads, Place, Serves, behind, due_for}
+use Rattle.certify.specs.declared.summary.AskReport.{AskReport}
+
+-- what serves some commands and then others serves them all
+abbrev pub ServingComposes : Type 0
+ServingComposes = (budget : ℕ) (a b c : Place) (xs ys : List Command) (s t : List ℕ) (rs qs : List AskReport) (k l : ℕ)
+    → Serves budget a b xs s rs k → Serves budget b c ys t qs l → Serves budget a c (xs ++ ys) (s ++ t) (rs ++ qs) (k + l)
+
+-- a refused command is answered by its line, and nothing else changes
+abbrev pub RefusalServes : Type 0
+RefusalServes = (budget : ℕ) (a : Place) (c : Command) (r : Refusal) → refusal_of a.judge c ≡ Some r
+    → Serves budget a (record a { number = a.number + 1 }) (c ∷ []) (refused_line a.number r) [] 1
+
+-- one that isn't refused and is no ask is answered by nothing, where what is due for it was made
+abbrev pub PlainServes : Type 0
+PlainServes = (budget : ℕ) (a : Place) (c : Command) (steps : List Step) → IsNoAsk c → refusal_of a.judge c ≡ None
+    → Leads a.steps steps (due_for c a.judge) → Serves budget a (behind a c steps a.rounds) (c ∷ []) [] [] 0
+
+-- an ask is answered by its outcome, where that is right and took no more rounds than there might be
+abbrev pub AskServes : Type 0
+AskServes = (budget : ℕ) (a : Place) (ls : List Literal) (o : Outcome) (report : AskReport) (steps : List Step) → refusal_of a.judge (Ask ls) ≡ None
+    → IsRight (accepted (Ask ls) a.judge) ls o → report.answer ≡ kind_of o → IsSpent budget a.rounds report
+    → AskSteps a.steps steps a.judge ls o report.steps
+    → Serves budget a (behind a (Ask ls) steps (a.rounds + report.steps)) (Ask ls ∷ []) (outcome_text o) (report ∷ []) 0
+
+-- each number is below those behind it
+abbrev pub Rising : List ℕ → Type 0
+Rising [] = Unit {0}
+Rising (x ∷ xs) = AllByRecursion (λ y. x < y) xs × Rising xs
+
+-- names that rise, and are all that are in use, are these in their order
+abbrev pub NamesAreListed : Type 0
+NamesAreListed = (j : Judge) (names : List ℕ) → NamesIncrease j.in_use → Rising names
+    → ((name i : ℕ) → identity_of j name ≡ Some i → Among name names)
+    → AllByRecursion (λ name. (i : ℕ) × (identity_of j name ≡ Some i)) names → names ≡ map (λ n. n.name) j.in_use
+
+-- a core of an ask, whatever its order, is a right core once its literals are sorted
+abbrev pub CoresAreSorted : Type 0
+CoresAreSorted = (j : Judge) (ask : List Literal) (core : List ℕ) → AllByRecursion (λ l. Among l ask) (named_literals core)
+    → ((a : Valuation) → EachTrue a (map (over j) (named_literals core)) → EachHolds a j.clauses → ⊥)
+    → IsRightCore j ask (named_literals (canonical core))

@@ -1,0 +1,16 @@
+//! What holds of commands that are served, one after another.
+ghost use Rattle.certify.specs.serving.ServingLaws.{AskServes, CoresAreSorted, NamesAreListed, PlainServes, RefusalServes, ServingComposes};
+
+/// Commands are served one after another; each is refused, or leaves its steps, and an ask its answer too.
+pub fn commands_are_served()
+    ensures composes { ServingComposes }
+    ensures refused { RefusalServes }
+    ensures plain { PlainServes }
+    ensures asked { AskServes }
+{}
+
+/// What a solver lists in whatever order is printed in the answers' order.
+pub fn answers_are_ordered()
+    ensures names { NamesAreListed }
+    ensures cores { CoresAreSorted }
+{}
