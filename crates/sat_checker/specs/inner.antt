@@ -3,6 +3,7 @@ pub mod Walk
 pub mod Look
 pub mod IndexView
 pub mod SlotView
+pub mod OccurrenceView
 pub mod EntryView
 pub mod VariablesView
 pub mod StoreView

@@ -13,29 +13,31 @@ use crate::assigned::Assigned;
 use crate::hash::ClauseHasher;
 use crate::index::{Bucket, Index};
 use crate::looks::Looks;
+use crate::occurrences::Occurrences;
 use crate::slots::Slots;
-use crate::valuation::{makes_true, mentions};
+use crate::valuation::makes_true;
 use sat_base::{ClauseHash, Lit, Var};
 use std::alloc::{AllocError, Global};
 use std::marker::Model;
 
-/// Clauses at their places, each found by its hash unless it is gone.
+/// Clauses at their places. Unless it is gone each is found by its hash, and its literals are counted.
 #[derive(Drop)]
 pub(crate) struct Clauses {
     slots: Slots,
     index: Index,
+    occurrences: Occurrences,
 }
 
 impl Model for Clauses {
-    ghost use Rattle.std.specs.Prelude.{List, ℕ, ◌≡◌};
-    ghost use Rattle.sat_checker.specs.inner.SlotView.{Slot, places_of};
-    ghost use Rattle.sat_checker.specs.inner.IndexView.{places_in};
+    ghost use Rattle.std.specs.Prelude.{List};
+    ghost use Rattle.sat_checker.specs.inner.SlotView.{Slot};
+    ghost use Rattle.sat_checker.specs.inner.OccurrenceView.{AreKept};
 
     ghost Value = { List Slot };
 
     ghost view = { λ s. s.slots };
 
-    ghost invariant = { λ s. (hash : ℕ) → places_in s.index hash ≡ places_of hash s.slots };
+    ghost invariant = { λ s. AreKept s.slots s.index s.occurrences };
 }
 
 impl Clauses {
@@ -45,6 +47,7 @@ impl Clauses {
         Clauses {
             slots: Slots::new(alloc),
             index: Index::new(alloc),
+            occurrences: Occurrences::new(alloc),
         }
     }
 
@@ -124,23 +127,11 @@ impl Clauses {
         place < self.slots.len() && !self.slots.is_gone(place)
     }
 
-    /// Whether a clause that isn't gone has a literal of the variable.
-    pub fn mention(&self, var: Var, looks: &mut Looks) -> bool
-        ensures found { result ≡ list_any (λ c. mentions c.literals var) (live self.now) }
-        ensures looks { looks.new ≤ looks.old + live_length self.now }
-        // All were looked at where none has one.
-        ensures all { result ≡ false → looks.new ≡ looks.old + live_length self.now }
-        ensures rise { looks.old ≤ looks.new }
+    /// Whether a clause that isn't gone has a literal of the variable. No clause is looked at.
+    pub fn mention(&self, var: Var) -> bool
+        ensures { result ≡ list_any (λ c. mentions c.literals var) (live self.now) }
     {
-        for place in 0..self.slots.len() {
-            if self.slots.is_gone(place) {
-                continue;
-            }
-            if mentions(self.slots.literals(place, looks), var) {
-                return true;
-            }
-        }
-        false
+        self.occurrences.has(var)
     }
 
     /// Whether each clause that stands as irredundant has an assumed literal.
@@ -173,10 +164,12 @@ impl Clauses {
         requires { IsIncreasing literals.now }
         ensures { OnOk result (self.new ≡ self.old ++ stored_slot redundant id hash literals.now ∷ []) }
     {
-        let place = self.slots.len();
+        self.occurrences.make_room(literals)?;
         self.slots.push(id, hash, literals)?;
-        self.index.file(hash, place)?;
-        self.slots.add_count(place, redundant);
+        let count = self.slots.len();
+        self.index.file(hash, count - 1)?;
+        self.slots.add_count(count - 1, redundant);
+        self.occurrences.add(literals);
         Ok(())
     }
 
@@ -209,9 +202,10 @@ impl Clauses {
         self.slots.add_count(place, redundant);
     }
 
-    /// One count less. A clause without a count is gone.
-    pub fn take_count(&mut self, place: usize, redundant: bool)
+    /// One count less of the clause with these literals. A clause without a count is gone.
+    pub fn take_count(&mut self, place: usize, redundant: bool, literals: &[Lit])
         requires inside { place < length self.old }
+        requires literals { literals.now ≡ literals_at self.old place }
         requires some { 0 < count_of redundant (slot_at self.old place) }
         ensures { self.new ≡ without_count_at redundant place self.old }
     {
@@ -219,6 +213,7 @@ impl Clauses {
         self.slots.take_count(place, redundant);
         if self.slots.is_gone(place) {
             self.index.remove(hash, place);
+            self.occurrences.take(literals);
         }
     }
 }

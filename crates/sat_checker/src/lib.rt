@@ -22,6 +22,7 @@ pub(crate) mod needed;
 pub(crate) mod news;
 pub(crate) mod noted;
 pub(crate) mod notes;
+pub(crate) mod occurrences;
 pub(crate) mod passed;
 pub mod processing;
 pub(crate) mod propagations;

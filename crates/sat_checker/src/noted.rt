@@ -211,7 +211,7 @@ impl State {
             ProofStep::SolverVarName { global, solver } => {
                 self.solver_var_name(global, solver, looks)
             }
-            ProofStep::DeleteVar { var } => self.delete_var(var, looks),
+            ProofStep::DeleteVar { var } => self.delete_var(var),
             ProofStep::ChangeHashBits { bits } => self.change_hash_bits(bits, looks),
             ProofStep::End => self.end(),
         }

@@ -220,12 +220,11 @@ impl State {
         Ok(passes)
     }
 
-    pub fn delete_var(&mut self, var: Var, looks: &mut Looks) -> Result<bool, StoreError>
-        ensures decides { Decides result self.old (DeleteVar var) self.new }
-        ensures looks { LooksWithin self.old (DeleteVar var) looks.old looks.new }
-        ensures rise { looks.old ≤ looks.new }
+    /// No clause is looked at.
+    pub fn delete_var(&mut self, var: Var) -> Result<bool, StoreError>
+        ensures { Decides result self.old (DeleteVar var) self.new }
     {
-        if !self.may_delete(var, looks) {
+        if !self.may_delete(var) {
             return Ok(false);
         }
         self.formula.forget(var);
@@ -234,10 +233,8 @@ impl State {
     }
 
     /// Whether the variable is known, has no name, and is neither in a stored clause nor assumed.
-    fn may_delete(&self, var: Var, looks: &mut Looks) -> bool
-        ensures exact { (f : Stored) → Keeps self.now f → MatchBool result (MayBeDeleted f var) (MayBeDeleted f var → ⊥) }
-        ensures looks { (f : Stored) → Keeps self.now f → looks.new ≤ looks.old + literal_count f }
-        ensures rise { looks.old ≤ looks.new }
+    fn may_delete(&self, var: Var) -> bool
+        ensures { (f : Stored) → Keeps self.now f → MatchBool result (MayBeDeleted f var) (MayBeDeleted f var → ⊥) }
     {
         let data = self.variables.data(var);
         if !data.known {
@@ -249,7 +246,7 @@ impl State {
         if self.assumed.mentions(var) {
             return false;
         }
-        !self.formula.store.mention(var, looks)
+        !self.formula.store.mention(var)
     }
 
     /// Nothing is stored yet.
@@ -276,7 +273,7 @@ impl State {
                 self.solver_var_name(global, solver, looks)
             }
             ProofStep::UserVarName { global, user } => self.user_var_name(global, user),
-            ProofStep::DeleteVar { var } => self.delete_var(var, looks),
+            ProofStep::DeleteVar { var } => self.delete_var(var),
             ProofStep::ChangeSamplingMode { var, sample } => {
                 self.change_sampling_mode(var, sample)
             }

@@ -152,7 +152,7 @@ impl Store {
         if self.clauses.count(place, redundant) == 0 {
             return false;
         }
-        self.clauses.take_count(place, redundant);
+        self.clauses.take_count(place, redundant, literals);
         true
     }
 
@@ -172,7 +172,7 @@ impl Store {
         self.clauses.rehash(alloc, &self.hasher, looks)
     }
 
-    /// A variable has this solver name or none from here on. There is no pass over the clauses where it had the same.
+    /// A variable has this solver name or none from here on. No clause is looked at where it had the same, or where none has the variable.
     pub fn set_solver_name(
         &mut self,
         alloc: Global,
@@ -183,12 +183,17 @@ impl Store {
         ensures set { OnOk result ((f : Stored) → KeepsClauses self.old f → KeepsClauses self.new (with_solver_name var name f)) }
         ensures ids { OnOk result (slot_ids self.new.clauses ≡ slot_ids self.old.clauses) }
         ensures looks { (f : Stored) → KeepsClauses self.old f → looks.new ≤ looks.old + literal_count f }
+        ensures unmentioned { (f : Stored) → KeepsClauses self.old f
+            → list_any (λ c. mentions c.literals var) f.clauses ≡ false → looks.new ≡ looks.old }
         ensures rise { looks.old ≤ looks.new }
     {
         if self.hasher.solver_name(var) == name {
             return Ok(());
         }
         self.hasher.set_solver_name(var, name)?;
+        if !self.clauses.mention(var) {
+            return Ok(());
+        }
         self.clauses.rehash(alloc, &self.hasher, looks)
     }
 
@@ -210,15 +215,11 @@ impl Store {
         is_subset(self.clauses.literals(place, looks), literals, true)
     }
 
-    /// Whether a stored clause has a literal of the variable.
-    pub fn mention(&self, var: Var, looks: &mut Looks) -> bool
-        ensures found { (f : Stored) → KeepsClauses self.now f → result ≡ list_any (λ c. mentions c.literals var) f.clauses }
-        ensures looks { (f : Stored) → KeepsClauses self.now f → looks.new ≤ looks.old + literal_count f }
-        // All were looked at where none has one.
-        ensures all { (f : Stored) → KeepsClauses self.now f → result ≡ false → looks.new ≡ looks.old + literal_count f }
-        ensures rise { looks.old ≤ looks.new }
+    /// Whether a stored clause has a literal of the variable. No clause is looked at.
+    pub fn mention(&self, var: Var) -> bool
+        ensures { (f : Stored) → KeepsClauses self.now f → result ≡ list_any (λ c. mentions c.literals var) f.clauses }
     {
-        self.clauses.mention(var, looks)
+        self.clauses.mention(var)
     }
 
     /// Whether each clause that stands as irredundant has an assumed literal.

@@ -13,7 +13,7 @@ fn kinds<'a>(
     hashes: &'a [ClauseHash],
     units: &'a [(Lit, ClauseHash)],
     bits: HashBits,
-) -> [(ProofStep<'a>, u64); 14] {
+) -> [(ProofStep<'a>, u64); 15] {
     let (first, third) = (Var::from_index(0), Var::from_index(2));
     [
         (
@@ -24,14 +24,21 @@ fn kinds<'a>(
             8,
         ),
         (
+            ProofStep::SolverVarName {
+                global: third,
+                solver: Some(first),
+            },
+            0,
+        ),
+        (
             ProofStep::UserVarName {
                 global: third,
                 user: Some(first),
             },
             0,
         ),
-        (ProofStep::DeleteVar { var: third }, 8),
-        (ProofStep::DeleteVar { var: first }, 2),
+        (ProofStep::DeleteVar { var: third }, 0),
+        (ProofStep::DeleteVar { var: first }, 0),
         (
             ProofStep::ChangeSamplingMode {
                 var: first,

@@ -2,6 +2,10 @@ pub mod Buckets
 pub mod Ids
 pub mod Entries
 pub mod Places
+pub mod Counting
+pub mod Times
+pub mod Mentions
+pub mod Kept
 pub mod Finding
 pub mod Keeping
 pub mod Storing

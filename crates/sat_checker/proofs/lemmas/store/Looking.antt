@@ -4,7 +4,7 @@ use Rattle.sat_checker.specs.LiteralSets.{same_literals}
 use Rattle.sat_checker.specs.Stored.{Stored, StoredClause, hash_by}
 use Rattle.sat_checker.specs.Storing.{clause_with}
 use Rattle.sat_checker.specs.HasherView.{solver_name_of, width_of}
-use Rattle.sat_checker.specs.inner.SlotView.{slot_at, count_of, places_of, found_among}
+use Rattle.sat_checker.specs.inner.SlotView.{Slot, literals_at, slot_at, count_of, places_of, found_among}
 use Rattle.sat_checker.specs.inner.StoreView.{KeepsClauses, found_in}
 use Rattle.sat_checker.specs.declared.store.Store.{Store}
 use Rattle.sat_checker.proofs.lemmas.meaning.Clauses.{same}
@@ -17,6 +17,15 @@ literals_found literals c (d ∷ ds) e = go (literals_found literals c ds) (same
   where
     go : (clause_with literals ds ≡ Some c → c.literals ≡ literals) → (b : Bool) → same_literals d.literals literals ≡ b → cond b (Some d) (clause_with literals ds) ≡ Some c → c.literals ≡ literals
     go ih true n e = let q : d ≡ c = cc in ap (λ (x : StoredClause). x.literals) (sym q) ∙ same d.literals literals n
+    go ih false n e = ih e
+
+-- a place that is found has the literals
+pub literals_there : (ss : List Slot) (literals : List ℕ) (p : ℕ) (ps : List ℕ) → Some p ≡ found_among ss literals ps → literals ≡ literals_at ss p
+literals_there ss literals p [] e = absurd cc
+literals_there ss literals p (q ∷ ps) e = go (literals_there ss literals p ps) (same_literals (literals_at ss q) literals) refl e
+  where
+    go : (Some p ≡ found_among ss literals ps → literals ≡ literals_at ss p) → (b : Bool) → same_literals (literals_at ss q) literals ≡ b → Some p ≡ cond b (Some q) (found_among ss literals ps) → literals ≡ literals_at ss p
+    go ih true n e = let r : p ≡ q = cc in sym (ap (literals_at ss) r ∙ same (literals_at ss q) literals n)
     go ih false n e = ih e
 
 module _ (store : Store) (f : Stored) (k : KeepsClauses store f) (literals : List ℕ) (hash : ℕ) (e : hash ≡ hash_by (solver_name_of store.hasher) (width_of store.hasher) literals) where

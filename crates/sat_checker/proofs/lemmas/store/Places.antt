@@ -43,7 +43,7 @@ set_last : (ss : List Slot) (s t : Slot) → slice_set (ss ++ s ∷ []) (length 
 set_last [] s t = refl
 set_last (x ∷ ss) s t = ap (λ xs. x ∷ xs) (set_last ss s t)
 
-get_last : (ss : List Slot) (s d : Slot) → get_or (ss ++ s ∷ []) (length ss) d ≡ s
+pub get_last : (ss : List Slot) (s d : Slot) → get_or (ss ++ s ∷ []) (length ss) d ≡ s
 get_last [] s d = refl
 get_last (x ∷ ss) s d = get_last ss s d
 
@@ -133,7 +133,7 @@ places_gone k q (s ∷ ss) (suc i) t l g n =
     go false false = refl
 
 -- gone or not, by the counts
-gone_not : (s : Slot) (r : Bool) → 0 < count_of r s → is_gone s ≡ false
+pub gone_not : (s : Slot) (r : Bool) → 0 < count_of r s → is_gone s ≡ false
 gone_not s true h = let e : eqb s.clause.redundant 0 ≡ false = ne_eqb s.clause.redundant 0 (λ z. let k : 0 < s.clause.redundant = h in omega arith) in ap (λ b. eqb s.clause.irredundant 0 && b) e ∙ and_false (eqb s.clause.irredundant 0)
   where
     and_false : (b : Bool) → (b && false) ≡ false
@@ -190,10 +190,10 @@ agrees_stored f g r id hash place literals old new all a p h e s = λ q.
     ∙ sym (places_stored r q id hash literals old) ∙ ap (places_of q) (sym (stored_last r id hash place literals old new all p e s))
 
 module _ (f : ℕ → List ℕ) (r : Bool) (i : ℕ) (old ss new : List Slot) (is : old ≡ ss) (l : i < length ss) (c : 0 < count_of r (slot_at ss i)) (a : Agrees f old) (e : new ≡ without_count_at r i old) where
-  after : new ≡ without_count_at r i ss
+  pub after : new ≡ without_count_at r i ss
   after = e ∙ ap (without_count_at r i) is
 
-  gone_there : is_gone (slot_at new i) ≡ is_gone (record { clause = without_count r (slot_at ss i).clause; hash = (slot_at ss i).hash })
+  pub gone_there : is_gone (slot_at new i) ≡ is_gone (record { clause = without_count r (slot_at ss i).clause; hash = (slot_at ss i).hash })
   gone_there = ap (λ x. is_gone (slot_at x i)) after ∙ ap is_gone (set_at ss i (record { clause = without_count r (slot_at ss i).clause; hash = (slot_at ss i).hash }) l)
 
   pub agrees_left : is_gone (slot_at new i) ≡ false → Agrees f new

@@ -3,10 +3,10 @@ use Rattle.std.proofs.lemmas.Bool.{true≢false}
 use Rattle.sat_checker.proofs.lemmas.state.Forgetting.{assumed_same, may_go}
 use Rattle.sat_checker.proofs.state.State.may_delete.Goals as goal
 
-pub returns-then-mentions-clause-exact : goal.returns-then-mentions-clause-exact
-returns-then-mentions-clause-exact c = λ f k h. true≢false (sym c.if-mentions.true ∙ c.mentions.ensures ∙ assumed_same c.args.self.now f k c.args.var ∙ h.not_assumed)
+pub returns-then-mentions : goal.returns-then-mentions
+returns-then-mentions c = λ f k h. true≢false (sym c.if-mentions.true ∙ c.mentions.ensures ∙ assumed_same c.args.self.now f k c.args.var ∙ h.not_assumed)
 
-pub returns-clause-exact : goal.returns-clause-exact
-returns-clause-exact c = λ f k.
+pub returns : goal.returns
+returns c = λ f k.
     may_go c.args.self.now f k c.args.var c.data-data.result c.mention.result c.data-data.ensures c.if-not-data.false (sym c.is_some.ensures ∙ c.if-is_some.false)
-    (sym (assumed_same c.args.self.now f k c.args.var) ∙ sym c.mentions.ensures ∙ c.if-mentions.false) (c.mention.ensures.found f k.formula.clauses)
+    (sym (assumed_same c.args.self.now f k c.args.var) ∙ sym c.mentions.ensures ∙ c.if-mentions.false) (c.mention.ensures f k.formula.clauses)

@@ -13,10 +13,7 @@ pub returns-in-UserVarName-clause-decides : goal.returns-in-UserVarName-clause-d
 returns-in-UserVarName-clause-decides c = decided_as c.user_var_name.result c.args.self.now c.user_var_name.new.self (step_of c.args.step.now) _ (ap step_of c.in-UserVarName.is) c.user_var_name.ensures
 
 pub returns-in-DeleteVar-clause-decides : goal.returns-in-DeleteVar-clause-decides
-returns-in-DeleteVar-clause-decides c = decided_as c.delete_var.result c.args.self.now c.delete_var.new.self (step_of c.args.step.now) _ (ap step_of c.in-DeleteVar.is) c.delete_var.ensures.decides
-
-pub returns-in-DeleteVar-clause-looks : goal.returns-in-DeleteVar-clause-looks
-returns-in-DeleteVar-clause-looks c = within_as c.args.self.now (step_of c.args.step.now) _ c.args.looks.now c.delete_var.new.looks (ap step_of c.in-DeleteVar.is) c.delete_var.ensures.looks
+returns-in-DeleteVar-clause-decides c = decided_as c.delete_var.result c.args.self.now c.delete_var.new.self (step_of c.args.step.now) _ (ap step_of c.in-DeleteVar.is) c.delete_var.ensures
 
 pub returns-in-ChangeSamplingMode-clause-decides : goal.returns-in-ChangeSamplingMode-clause-decides
 returns-in-ChangeSamplingMode-clause-decides c = decided_as c.change_sampling_mode.result c.args.self.now c.change_sampling_mode.new.self (step_of c.args.step.now) _ (ap step_of c.in-ChangeSamplingMode.is) c.change_sampling_mode.ensures

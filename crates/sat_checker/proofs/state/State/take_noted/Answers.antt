@@ -18,10 +18,7 @@ pub returns-in-UserVarName-clause-noted : goal.returns-in-UserVarName-clause-not
 returns-in-UserVarName-clause-noted c = announced_as c.user_var_name_noted.result c.args.self.now (step_of c.args.step.now) _ c.args.notes.now.news c.user_var_name_noted.new.notes.news (ap step_of c.in-UserVarName.is) c.user_var_name_noted.ensures.noted
 
 pub returns-in-DeleteVar-clause-decides : goal.returns-in-DeleteVar-clause-decides
-returns-in-DeleteVar-clause-decides c = decided_as c.delete_var.result c.args.self.now c.delete_var.new.self (step_of c.args.step.now) _ (ap step_of c.in-DeleteVar.is) c.delete_var.ensures.decides
-
-pub returns-in-DeleteVar-clause-looks : goal.returns-in-DeleteVar-clause-looks
-returns-in-DeleteVar-clause-looks c = within_as c.args.self.now (step_of c.args.step.now) _ c.args.looks.now c.delete_var.new.looks (ap step_of c.in-DeleteVar.is) c.delete_var.ensures.looks
+returns-in-DeleteVar-clause-decides c = decided_as c.delete_var.result c.args.self.now c.delete_var.new.self (step_of c.args.step.now) _ (ap step_of c.in-DeleteVar.is) c.delete_var.ensures
 
 pub returns-in-ChangeSamplingMode-clause-decides : goal.returns-in-ChangeSamplingMode-clause-decides
 returns-in-ChangeSamplingMode-clause-decides c = decided_as c.change_sampling_mode_noted.result c.args.self.now c.change_sampling_mode_noted.new.self (step_of c.args.step.now) _ (ap step_of c.in-ChangeSamplingMode.is) c.change_sampling_mode_noted.ensures.decides

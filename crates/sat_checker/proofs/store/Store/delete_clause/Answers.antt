@@ -1,6 +1,7 @@
 use Rattle.std.proofs.Common.{arith, ap, ◌∙◌, refl}
 use Rattle.sat_checker.proofs.lemmas.store.Storing.{is_there, looks_one, count_there, count_none, deleted_one}
-use Rattle.sat_checker.specs.inner.SlotView.{slot_ids}
+use Rattle.sat_checker.specs.inner.SlotView.{slot_ids, places_of}
+use Rattle.sat_checker.proofs.lemmas.store.Looking.{literals_there}
 use Rattle.sat_checker.proofs.lemmas.store.Ids.{ids_taken}
 use Rattle.sat_checker.proofs.store.Store.delete_clause.Goals as goal
 
@@ -45,3 +46,6 @@ take_count-requires-clause-inside c = (is_there c.args.self.now.clauses c.args.l
 
 pub take_count-requires-clause-some : goal.take_count-requires-clause-some
 take_count-requires-clause-some c = omega (arith, c.count.ensures, c.if-count-eq0.false)
+
+pub take_count-requires-clause-literals : goal.take_count-requires-clause-literals
+take_count-requires-clause-literals c = literals_there c.args.self.now.clauses c.args.literals.now c.in-Some.place (places_of c.clause_hash-hash.result c.args.self.now.clauses) c.in-Some.ensures.found

@@ -1,7 +1,11 @@
-use Rattle.std.proofs.Common.{◌∙◌, ap, cond, eqb, arith, refl}
+use Rattle.std.proofs.Common.{◌∙◌, ap, sym, cond, eqb, arith, refl}
+use Rattle.std.specs.List.{list_any}
+use Rattle.sat_checker.specs.LiteralSets.{mentions}
+use Rattle.std.proofs.lemmas.Bool.{true≢false}
 use Rattle.sat_checker.specs.HasherView.{solver_name_of, width_of}
 use Rattle.sat_checker.specs.inner.SlotView.{slot_ids}
 use Rattle.sat_checker.proofs.lemmas.store.Rehashing.{filed_anew, looks_anew}
+use Rattle.sat_checker.proofs.lemmas.store.Mentions.{named_still}
 use Rattle.sat_checker.proofs.lemmas.store.Ids.{ids_hashed}
 use Rattle.std.proofs.lemmas.Result.{IfOk-from_err, on_ok_weaker}
 use Rattle.sat_checker.proofs.store.Store.set_solver_name.Goals as goal
@@ -31,3 +35,25 @@ returns-in_err-set_solver_name-clause-ids c = IfOk-from_err c.from_residual.resu
 
 pub returns-in_err-set_solver_name-clause-looks : goal.returns-in_err-set_solver_name-clause-looks
 returns-in_err-set_solver_name-clause-looks c = λ f k. omega arith
+
+pub returns-then-eq-clause-unmentioned : goal.returns-then-eq-clause-unmentioned
+returns-then-eq-clause-unmentioned c = λ f k n. refl
+
+pub returns-in_err-set_solver_name-clause-unmentioned : goal.returns-in_err-set_solver_name-clause-unmentioned
+returns-in_err-set_solver_name-clause-unmentioned c = λ f k n. refl
+
+pub returns-then-not-mention-clause-set : goal.returns-then-not-mention-clause-set
+returns-then-not-mention-clause-set c = λ f k.
+    named_still c.args.self.now f c.set_solver_name.new.self c.args.var c.args.name k c.in_ok-set_solver_name.ensures.names c.set_solver_name.ensures.width (sym c.mention.ensures ∙ c.if-not-mention.true)
+
+pub returns-then-not-mention-clause-ids : goal.returns-then-not-mention-clause-ids
+returns-then-not-mention-clause-ids c = refl
+
+pub returns-then-not-mention-clause-looks : goal.returns-then-not-mention-clause-looks
+returns-then-not-mention-clause-looks c = λ f k. omega arith
+
+pub returns-then-not-mention-clause-unmentioned : goal.returns-then-not-mention-clause-unmentioned
+returns-then-not-mention-clause-unmentioned c = λ f k n. refl
+
+pub returns-clause-unmentioned : goal.returns-clause-unmentioned
+returns-clause-unmentioned c = λ f k n. absurd (true≢false (sym c.if-not-mention.false ∙ (c.mention.ensures ∙ ap (list_any (λ x. mentions x.literals c.args.var)) k.clauses ∙ n)))

@@ -1,0 +1,128 @@
+-- How often literals stand in clauses, as these come in and go.
+use Rattle.std.proofs.Common.{ℕ, zero, suc, ◌+◌, ◌<◌, ◌≤◌, ◌^◌, ◌≡◌, Bool, true, false, cond, eqb, List, [], ◌∷◌, ◌++◌, length, Option, refl, ◌∙◌, ap, subst, arith, slice_set, length-append}
+use Rattle.std.proofs.lemmas.Bool.{eqb-true, or_parts}
+use Rattle.std.specs.List.{AllByRecursion}
+use Rattle.sat_checker.specs.LiteralSets.{is_among}
+use Rattle.sat_checker.specs.Stored.{StoredClause, hash_by}
+use Rattle.sat_checker.specs.Storing.{with_count, without_count}
+use Rattle.sat_checker.specs.inner.Marks.{IsIncreasing}
+use Rattle.sat_checker.specs.inner.OccurrenceView.{times_in, times_stored}
+use Rattle.sat_checker.specs.inner.SlotView.{Slot, unstored, stored_slot, slot_at, literals_at, all_lits, count_of, is_gone, with_count_at, without_count_at, all_hashed_by}
+use Rattle.sat_checker.proofs.lemmas.sets.Marks.{below_all}
+use Rattle.sat_checker.proofs.lemmas.store.Places.{gone_more, gone_not}
+
+module _ (l : ℕ) where
+  -- how often the literal stands in a slot's clause, if it isn't gone
+  abbrev pub times_at : Slot → ℕ
+  times_at s = cond (is_gone s) 0 (times_in l s.clause.literals)
+
+  -- one slot more at the end
+  times_push : (ss : List Slot) (s : Slot) → times_stored l (ss ++ s ∷ []) ≡ times_stored l ss + times_at s
+  times_push [] s = omega arith
+  times_push (t ∷ ss) s = let ih : times_stored l (ss ++ s ∷ []) ≡ times_stored l ss + times_at s = times_push ss s in omega (arith, ih)
+
+  -- a clause without a count
+  pub times_unstored : (id hash : ℕ) (literals : List ℕ) (ss : List Slot) → times_stored l (ss ++ unstored id hash literals ∷ []) ≡ times_stored l ss
+  times_unstored id hash literals ss = let e : times_stored l (ss ++ unstored id hash literals ∷ []) ≡ times_stored l ss + 0 = times_push ss (unstored id hash literals) in omega (arith, e)
+
+  -- and one that is stored once
+  pub times_more : (redundant : Bool) (id hash : ℕ) (literals : List ℕ) (ss : List Slot) → times_stored l (ss ++ stored_slot redundant id hash literals ∷ []) ≡ times_stored l ss + times_in l literals
+  times_more true id hash literals ss = times_push ss (stored_slot true id hash literals)
+  times_more false id hash literals ss = times_push ss (stored_slot false id hash literals)
+
+  -- a slot that is set
+  times_set : (ss : List Slot) (i : ℕ) (t : Slot) → i < length ss → times_stored l (slice_set ss i t) + times_at (slot_at ss i) ≡ times_stored l ss + times_at t
+  times_set [] i t k = absurd (omega arith)
+  times_set (s ∷ ss) zero t k = omega arith
+  times_set (s ∷ ss) (suc i) t k = let ih : times_stored l (slice_set ss i t) + times_at (slot_at ss i) ≡ times_stored l ss + times_at t = times_set ss i t (omega arith) in omega (arith, ih)
+
+  at_state : (s : Slot) (b : Bool) → is_gone s ≡ b → times_at s ≡ cond b 0 (times_in l s.clause.literals)
+  at_state s b e = ap (λ g. cond g 0 (times_in l s.clause.literals)) e
+
+  counted_literals : (r : Bool) (c : StoredClause) → times_in l (with_count r c).literals ≡ times_in l c.literals
+  counted_literals true c = refl
+  counted_literals false c = refl
+
+  left_literals : (r : Bool) (c : StoredClause) → times_in l (without_count r c).literals ≡ times_in l c.literals
+  left_literals true c = refl
+  left_literals false c = refl
+
+  -- a count more of a clause that isn't gone
+  pub times_counted : (r : Bool) (i : ℕ) (ss : List Slot) → i < length ss → is_gone (slot_at ss i) ≡ false → times_stored l (with_count_at r i ss) ≡ times_stored l ss
+  times_counted r i ss k g =
+      let c : StoredClause = (slot_at ss i).clause in
+      let h : ℕ = (slot_at ss i).hash in
+      let t : Slot = record { clause = with_count r c; hash = h } in
+      let e : times_stored l (slice_set ss i t) + times_at (slot_at ss i) ≡ times_stored l ss + times_at t = times_set ss i t k in
+      let a : times_at (slot_at ss i) ≡ times_in l c.literals = at_state (slot_at ss i) false g in
+      let b : times_at t ≡ times_in l c.literals = at_state t false (gone_more c h r) ∙ counted_literals r c in
+      omega (arith, e, a, b)
+
+  -- a count less of one that stays, and of one that is gone then
+  module _ (r : Bool) (i : ℕ) (ss : List Slot) (k : i < length ss) (g : 0 < count_of r (slot_at ss i)) where
+    abbrev left : Slot
+    left = record { clause = without_count r (slot_at ss i).clause; hash = (slot_at ss i).hash }
+
+    was : times_at (slot_at ss i) ≡ times_in l (literals_at ss i)
+    was = at_state (slot_at ss i) false (gone_not (slot_at ss i) r g)
+
+    pub times_left : is_gone (record { clause = without_count r (slot_at ss i).clause; hash = (slot_at ss i).hash }) ≡ false → times_stored l (without_count_at r i ss) ≡ times_stored l ss
+    times_left h =
+        let e : times_stored l (without_count_at r i ss) + times_at (slot_at ss i) ≡ times_stored l ss + times_at left = times_set ss i left k in
+        let b : times_at left ≡ times_in l (literals_at ss i) = at_state left false h ∙ left_literals r (slot_at ss i).clause in
+        omega (arith, e, was, b)
+
+    pub times_gone : is_gone (record { clause = without_count r (slot_at ss i).clause; hash = (slot_at ss i).hash }) ≡ true → times_stored l (without_count_at r i ss) + times_in l (literals_at ss i) ≡ times_stored l ss
+    times_gone h =
+        let e : times_stored l (without_count_at r i ss) + times_at (slot_at ss i) ≡ times_stored l ss + times_at left = times_set ss i left k in
+        let b : times_at left ≡ 0 = at_state left true h in
+        omega (arith, e, was, b)
+
+  -- filed anew
+  pub times_hashed : (names : ℕ → Option ℕ) (width : ℕ) (ss : List Slot) → times_stored l (all_hashed_by names width ss) ≡ times_stored l ss
+  times_hashed names width [] = refl
+  times_hashed names width (s ∷ ss) = go (is_gone s) refl (times_hashed names width ss)
+    where
+      go : (b : Bool) → is_gone s ≡ b → times_stored l (all_hashed_by names width ss) ≡ times_stored l ss → times_at (cond b s (record s { hash = hash_by names width s.clause.literals })) + times_stored l (all_hashed_by names width ss) ≡ times_at s + times_stored l ss
+      go true e ih = ap (λ n. times_at s + n) ih
+      go false e ih = ap (λ n. times_at s + n) ih
+
+  -- a literal stands once at most in a sorted clause, and so no more often than there are clauses
+  times_beyond : (ls : List ℕ) → is_among ls l ≡ false → times_in l ls ≡ 0
+  times_beyond [] h = refl
+  times_beyond (x ∷ xs) h =
+      let p = or_parts (eqb x l) (is_among xs l) h in
+      let ih : times_in l xs ≡ 0 = times_beyond xs p.1 in
+      ap (λ b. cond b 1 0 + times_in l xs) p.0 ∙ omega (arith, ih)
+
+  times_once : (ls : List ℕ) → IsIncreasing ls → times_in l ls ≤ 1
+  times_once [] h = omega arith
+  times_once (x ∷ xs) h = go (eqb x l) refl (times_once xs h.1)
+    where
+      go : (b : Bool) → eqb x l ≡ b → times_in l xs ≤ 1 → cond b 1 0 + times_in l xs ≤ 1
+      go true e ih = let z : times_in l xs ≡ 0 = times_beyond xs (subst (λ y. is_among xs y ≡ false) (eqb-true x l e) (below_all x xs h.0)) in omega (arith, z)
+      go false e ih = omega (arith, ih)
+
+  pub times_few : (ss : List Slot) → AllByRecursion IsIncreasing (all_lits ss) → times_stored l ss ≤ length ss
+  times_few [] h = omega arith
+  times_few (s ∷ ss) h = go (is_gone s) (times_few ss h.1) (times_once s.clause.literals h.0)
+    where
+      go : (b : Bool) → times_stored l ss ≤ length ss → times_in l s.clause.literals ≤ 1 → cond b 0 (times_in l s.clause.literals) + times_stored l ss ≤ length (s ∷ ss)
+      go true ih k = omega (arith, ih)
+      go false ih k = omega (arith, ih, k)
+
+each_before : (ss : List Slot) (x : Slot) → AllByRecursion IsIncreasing (all_lits (ss ++ x ∷ [])) → AllByRecursion IsIncreasing (all_lits ss)
+each_before [] x h = tt
+each_before (s ∷ ss) x h = (h.0, each_before ss x h.1)
+
+-- there is room for the counts of one clause more
+pub few_more : (l count n : ℕ) (ss new : List Slot) (x : Slot) (literals : List ℕ) → count ≡ times_stored l ss → new ≡ ss ++ x ∷ [] → AllByRecursion IsIncreasing (all_lits new) → IsIncreasing literals → n ≡ length new → n < 2 ^ 64 → count + times_in l literals < 2 ^ 64
+few_more l count n ss new x literals c e each one m f =
+    let a : times_stored l ss ≤ length ss = times_few l ss (each_before ss x (subst (λ ts. AllByRecursion IsIncreasing (all_lits ts)) e each)) in
+    let b : times_in l literals ≤ 1 = times_once l literals one in
+    let d : length new ≡ length ss + 1 = ap length e ∙ length-append ss (x ∷ []) in
+    omega (arith, a, b, c, d, m, f)
+
+-- the place of the last
+pub last_place : (old new : List Slot) (x : Slot) (n : ℕ) → n ≡ length new → new ≡ old ++ x ∷ [] → n ≡ length old + 1
+last_place old new x n m e = m ∙ ap length e ∙ length-append old (x ∷ [])

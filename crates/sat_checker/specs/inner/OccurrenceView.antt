@@ -1,0 +1,24 @@
+-- How often literals stand in clauses, and what is kept of it.
+use Rattle.std.specs.Prelude.{ℕ, ◌≡◌, ◌+◌, ◌==◌, List, [], ◌∷◌, slice_index_or, if◌then◌else◌}
+use Rattle.sat_checker.specs.inner.IndexView.{places_in}
+use Rattle.sat_checker.specs.inner.SlotView.{Slot, is_gone, places_of}
+use Rattle.sat_checker.specs.declared.index.Index.{Index}
+use Rattle.sat_checker.specs.declared.occurrences.Occurrences.{Occurrences}
+
+-- how often a literal stands in a clause
+abbrev pub times_in : ℕ → List ℕ → ℕ
+times_in l [] = 0
+times_in l (x ∷ xs) = (if x == l then 1 else 0) + times_in l xs
+
+-- how often it stands in the clauses that aren't gone
+abbrev pub times_stored : ℕ → List Slot → ℕ
+times_stored l [] = 0
+times_stored l (s ∷ ss) = (if is_gone s then 0 else times_in l s.clause.literals) + times_stored l ss
+
+abbrev pub count_at : Occurrences → ℕ → ℕ
+count_at kept l = slice_index_or kept.counts.items l 0
+
+-- the clauses that aren't gone are found by their hashes, and their literals are counted
+pub record AreKept (slots : List Slot) (index : Index) (kept : Occurrences) : Type 0 where
+  pub filed : (hash : ℕ) → places_in index hash ≡ places_of hash slots
+  pub counted : (l : ℕ) → count_at kept l ≡ times_stored l slots
