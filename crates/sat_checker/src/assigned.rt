@@ -99,9 +99,17 @@ impl Assigned {
         requires { left ≤ length self.old }
         ensures { self.new ≡ drop (length self.old - left) self.old }
     {
-        for _ in left..self.len() {
-            self.forget();
-        }
+        unmark_all(&mut self.marks, &self.trail[left..]);
+        self.trail.truncate(left);
+    }
+}
+
+fn unmark_all(marks: &mut Vec<bool>, literals: &[Lit])
+    ensures { (l : ℕ) →
+        is_marked marks.new.items l ≡ (if is_among literals.now l then false else is_marked marks.old.items l) }
+{
+    for lit in literals {
+        unmark(marks, *lit);
     }
 }
 

@@ -7,3 +7,4 @@ pub mod Merging
 pub mod Order
 pub mod Distinct
 pub mod Members
+pub mod Unmarking
