@@ -9,10 +9,10 @@ use sat_base::{ClauseHash, Lit};
 use std::alloc::{AllocError, Global};
 use std::marker::Model;
 
-/// A clause's literals: up to three lie here, and more in a buffer.
+/// A clause's literals: up to four lie here, and more in a buffer.
 #[derive(Clone, Copy)]
 pub struct ClauseLits {
-    inline: [Lit; 3],
+    inline: [Lit; 4],
     len: usize,
     start: usize,
 }
@@ -24,10 +24,10 @@ impl ClauseLits {
         ensures within { IfOk result (λ c. LitsWithin buffer.new.items c) }
         ensures literals { IfOk result (λ c. lits_in buffer.new.items c ≡ literals.now) }
     {
-        let mut inline = [Lit::from_code(0); 3];
+        let mut inline = [Lit::from_code(0); 4];
         let len = literals.len();
         let start = buffer.len();
-        if len <= 3 {
+        if len <= 4 {
             inline[..len].copy_from_slice(literals);
         } else {
             buffer.extend_from_slice(literals)?;
@@ -40,7 +40,7 @@ impl ClauseLits {
         requires { LitsWithin buffer.now self.now }
         ensures { result.now ≡ lits_in buffer.now self.now }
     {
-        if self.len <= 3 {
+        if self.len <= 4 {
             &self.inline[..self.len]
         } else {
             &buffer[self.start..self.start + self.len]

@@ -9,11 +9,11 @@ use Rattle.sat_checker.specs.declared.slots.ClauseLits.{ClauseLits}
 
 -- the literals that lie inline, or in the buffer
 abbrev pub lits_in : List ℕ → ClauseLits → List ℕ
-lits_in buffer c = if nat_le c.len 3 then take c.len c.inline else slice_range buffer c.start (c.start + c.len)
+lits_in buffer c = if nat_le c.len 4 then take c.len c.inline else slice_range buffer c.start (c.start + c.len)
 
 -- those in the buffer are there
 abbrev pub LitsWithin : List ℕ → ClauseLits → Type 0
-LitsWithin buffer c = 3 < c.len → c.start + c.len ≤ length buffer
+LitsWithin buffer c = 4 < c.len → c.start + c.len ≤ length buffer
 
 -- a clause at its place, with its hash; it's gone where it has no count
 pub record Slot : Type 0 where

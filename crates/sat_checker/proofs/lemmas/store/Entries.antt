@@ -44,11 +44,11 @@ leb-false : (a b : ℕ) → leb a b ≡ false → b < a
 leb-false a b e = grind (arith, nat_tests)
 
 pub lits_more : (buffer more : List ℕ) (c : ClauseLits) → LitsWithin buffer c → lits_in (buffer ++ more) c ≡ lits_in buffer c
-lits_more buffer more c h = go (leb c.len 3) refl
+lits_more buffer more c h = go (leb c.len 4) refl
   where
-    go : (b : Bool) → leb c.len 3 ≡ b → cond b (take c.len c.inline) (slice_range (buffer ++ more) c.start (c.start + c.len)) ≡ cond b (take c.len c.inline) (slice_range buffer c.start (c.start + c.len))
+    go : (b : Bool) → leb c.len 4 ≡ b → cond b (take c.len c.inline) (slice_range (buffer ++ more) c.start (c.start + c.len)) ≡ cond b (take c.len c.inline) (slice_range buffer c.start (c.start + c.len))
     go true e = refl
-    go false e = range_more buffer more c.start (c.start + c.len) (omega arith) (h (leb-false c.len 3 e))
+    go false e = range_more buffer more c.start (c.start + c.len) (omega arith) (h (leb-false c.len 4 e))
 
 pub entries_more : (buffer more : List ℕ) (es : List Entry) → All (IsEntry buffer) es → All (IsEntry (buffer ++ more)) es
 entries_more buffer more es right = λ k d l. go (get_or es k d) (right k d l)
