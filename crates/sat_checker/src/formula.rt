@@ -5,7 +5,7 @@ ghost use Rattle.std.specs.List.{list_any};
 ghost use Rattle.sat_base.specs.values.Literals.{negated};
 ghost use Rattle.sat_checker.specs.inner.ModelTests.{are_all_true};
 ghost use Rattle.sat_checker.specs.LiteralSets.{canonical, is_among};
-ghost use Rattle.sat_checker.specs.Accepts.{Passes, PassInTurn, IsStrictSubset, FitsModel};
+ghost use Rattle.sat_checker.specs.Accepts.{Passes, PassInTurn, IsStrictSubset, FitsModel, VariablesApart};
 ghost use Rattle.sat_checker.specs.Stored.{Stored, nothing_stored};
 ghost use Rattle.sat_checker.specs.Looks.{literal_count};
 ghost use Rattle.sat_checker.specs.Storing.{settled, with_unit, with_contradiction, with_canonical, with_stored, with_input, with_units, clause_with, without_clause, last_literals, without_variable};
@@ -381,6 +381,7 @@ impl Formula {
         looks: &mut Looks,
     ) -> Result<bool, AllocError>
         ensures exact { IfOk result (λ fits. (f : Stored) → KeepsFormula self.now f → IsTrue fits ↔ FitsModel f literals.now) }
+        ensures apart { OnErr result (VariablesApart literals.now) }
         ensures looks { (f : Stored) → KeepsFormula self.now f → looks.new ≤ looks.old + literal_count f }
         ensures rise { looks.old ≤ looks.new }
     {

@@ -1,9 +1,8 @@
 //! Sets of literals.
 ghost use Rattle.std.specs.Prelude.{◌≡◌, [], OnOk};
-ghost use Rattle.sat_checker.specs.LiteralSets.{canonical, is_part, mentions};
-ghost use Rattle.sat_checker.specs.inner.Marks.{IsIncreasing};
+ghost use Rattle.sat_checker.specs.LiteralSets.{canonical, is_among, is_part, mentions};
 
-use crate::sorted_lits::{copy_canonical, is_subset};
+use crate::sorted_lits::copy_canonical;
 use crate::valuation::mentions;
 use sat_base::{Lit, Var};
 use std::alloc::{AllocError, Global};
@@ -49,12 +48,22 @@ impl LitSet {
         }
     }
 
-    /// Whether it has all of these sorted literals.
+    fn has(&self, lit: Lit) -> bool
+        ensures { result ≡ is_among self.now lit }
+    {
+        self.lits.binary_search(&lit).is_ok()
+    }
+
+    /// Whether it has all of these literals.
     pub fn has_all(&self, part: &[Lit]) -> bool
-        requires { IsIncreasing part.now }
         ensures { result ≡ is_part part.now self.now }
     {
-        is_subset(part, &self.lits, false)
+        for lit in part {
+            if !self.has(*lit) {
+                return false;
+            }
+        }
+        true
     }
 
     pub fn mentions(&self, var: Var) -> bool

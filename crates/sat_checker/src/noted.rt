@@ -1,6 +1,7 @@
 //! Steps that are taken in where somebody listens. What they announce is noted, of names, modes and models once they are accepted, of
 //! clauses while all is stored as it was. What is noted of a step that is refused is of no use.
-ghost use Rattle.std.specs.Prelude.{◌≤◌, ◌≡◌, IfOk, IsTrue};
+ghost use Rattle.std.specs.Prelude.{true, ◌≤◌, ◌≡◌, IfOk, OnErr, IsTrue};
+ghost use Rattle.sat_checker.specs.LiteralSets.{is_part};
 ghost use Rattle.sat_base.specs.steps.Steps.{AddClause, Assumptions, AtClause, ChangeSamplingMode, DeleteClause, FailedAssumptions, Model, UnitClauses, UserVarName};
 ghost use Rattle.sat_base.specs.steps.StepViews.{deletion_of, step_of};
 ghost use Rattle.sat_checker.specs.Stored.{Stored};
@@ -11,7 +12,6 @@ ghost use Rattle.sat_checker.specs.telling.NotedView.{Announces};
 
 use crate::looks::Looks;
 use crate::notes::Notes;
-use crate::sorted_lits::sorted_set;
 use crate::state::State;
 use crate::store::StoreError;
 use sat_base::{ClauseHash, DeleteClauseProof, Lit, ProofStep, Var};
@@ -163,8 +163,10 @@ impl State {
         ensures looks { LooksWithin self.old (FailedAssumptions core.now hashes.now) looks.old looks.new }
         ensures rise { looks.old ≤ looks.new }
         ensures noted { Announces result self.old (FailedAssumptions core.now hashes.now) notes.old.news notes.new.news }
+        // No memory is wanted before it is known that the core is among the assumptions.
+        ensures among { OnErr result ((f : Stored) → Keeps self.old f → is_part core.now f.assumed ≡ true) }
     {
-        if !self.assumed.has_all(sorted_set(&mut self.buffer, core)?) {
+        if !self.assumed.has_all(core) {
             return Ok(false);
         }
         let passes = self

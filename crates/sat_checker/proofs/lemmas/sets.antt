@@ -8,3 +8,4 @@ pub mod Order
 pub mod Distinct
 pub mod Members
 pub mod Unmarking
+pub mod Searching

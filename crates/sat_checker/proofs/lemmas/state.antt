@@ -6,3 +6,4 @@ pub mod Living
 pub mod Models
 pub mod Forgetting
 pub mod Kinds
+pub mod Apart

@@ -80,9 +80,8 @@ strict_back (Some ms) c ls e h =
     let k = subst (IsStrictSubset (Some ms)) e h in (sym (same_part ms c ms (canonical c) (λ l. refl) (canonical_among c)) ∙ k.0, sym (same_part c ms (canonical c) ms (canonical_among c) (λ l. refl)) ∙ k.1)
 
 -- a core, beside the assumptions
-pub within_assumed : (b : Bool) (core assumed part whole : List ℕ) → part ≡ canonical core → whole ≡ canonical assumed → b ≡ is_part part whole → b ≡ is_part core assumed
-within_assumed b core assumed part whole p w e =
-    e ∙ ap (λ x. is_part x whole) p ∙ ap (is_part (canonical core)) w ∙ same_part core assumed (canonical core) (canonical assumed) (canonical_among core) (canonical_among assumed)
+pub within_assumed : (b : Bool) (core assumed whole : List ℕ) → whole ≡ canonical assumed → b ≡ is_part core whole → b ≡ is_part core assumed
+within_assumed b core assumed whole w e = e ∙ ap (is_part core) w ∙ same_part core assumed core (canonical assumed) (λ l. refl) (canonical_among assumed)
 
 pub core_passes : (b : Bool) (P Q K : Type 0) → P → K → (b ≡ true) ↔ Q → MatchBool b ((P × Q) × K) (P × Q → ⊥)
 core_passes true P Q K p k h = ((p, h.0 refl), k)

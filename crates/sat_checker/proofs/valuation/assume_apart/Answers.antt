@@ -1,7 +1,7 @@
 use Rattle.std.proofs.Common.{ℕ, ◌≡◌, ◌+◌, ◌-◌, ◌<◌, List, ◌∷◌, length, drop, get_or, sym, subst, ap, ◌∙◌, arith}
 use Rattle.std.proofs.lemmas.List.{drop_all}
-use Rattle.std.proofs.lemmas.Result.{IfOk-from_err}
 use Rattle.sat_checker.specs.Accepts.{VariablesApart}
+use Rattle.sat_checker.proofs.lemmas.state.Apart.{twice}
 use Rattle.sat_checker.proofs.lemmas.state.Models.{drop_back, met_same, met_negated}
 use Rattle.sat_checker.proofs.valuation.assume_apart.Goals as goal
 
@@ -17,17 +17,17 @@ loop-place-init c =
 pub assume-requires : goal.assume-requires
 assume-requires c = sym c.is_true.ensures ∙ c.if-is_true.false
 
-pub returns-in_err-assume : goal.returns-in_err-assume
-returns-in_err-assume c = IfOk-from_err c.from_residual.result _ c.from_residual.ensures.0
+pub returns-in-Err-clause-exact : goal.returns-in-Err-clause-exact
+returns-in-Err-clause-exact c = twice c.want_if_apart.result _ _ c.want_if_apart.ensures.twice
 
-pub returns : goal.returns
-returns c =
+pub returns-clause-exact : goal.returns-clause-exact
+returns-clause-exact c =
     let none : c.loop-place.place ≡ 0 = omega arith in
     (subst (λ n. VariablesApart (drop n c.args.literals.now)) none c.loop-place.invariant.apart, c.loop-place.invariant.set ∙ ap (λ n. drop n c.args.literals.now) none)
 
-pub returns-then-is_true : goal.returns-then-is_true
-returns-then-is_true c = met_same c.args.literals.now c.loop-place.assigned (c.loop-place.place - 1) c.loop-place.place c.index-literals-place.result (omega arith) (omega arith) c.index-literals-place.is c.loop-place.invariant.set c.if-is_true.ensures
+pub returns-then-is_true-clause-exact : goal.returns-then-is_true-clause-exact
+returns-then-is_true-clause-exact c = met_same c.args.literals.now c.loop-place.assigned (c.loop-place.place - 1) c.loop-place.place c.index-literals-place.result (omega arith) (omega arith) c.index-literals-place.is c.loop-place.invariant.set c.if-is_true.ensures
 
-pub returns-then-is_true-2 : goal.returns-then-is_true-2
-returns-then-is_true-2 c =
+pub returns-then-is_true-2-clause-exact : goal.returns-then-is_true-2-clause-exact
+returns-then-is_true-2-clause-exact c =
     met_negated c.args.literals.now c.loop-place.assigned (c.loop-place.place - 1) c.loop-place.place c.index-literals-place.result c.not.result (omega arith) (omega arith) c.index-literals-place.is c.loop-place.invariant.set c.not.ensures c.if-is_true-2.ensures

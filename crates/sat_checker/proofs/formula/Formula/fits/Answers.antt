@@ -4,10 +4,11 @@ use Rattle.sat_checker.proofs.lemmas.state.Models.{met_fits}
 use Rattle.sat_checker.proofs.lemmas.variables.Keeping.{match_true}
 use Rattle.std.proofs.lemmas.Result.{IfOk-from_err}
 use Rattle.sat_checker.proofs.formula.Formula.fits.Goals as goal
+use Rattle.sat_checker.proofs.lemmas.store.Entries.{on_err}
 
 pub returns-clause-exact : goal.returns-clause-exact
 returns-clause-exact c = λ f k.
-    let m = match_true _ _ _ c.in_ok-assume_apart.ensures c.if-not-branch.false in
+    let m = match_true _ _ _ c.in_ok-assume_apart.ensures.exact c.if-not-branch.false in
     met_fits c.are_met.result f c.args.literals.now c.assume_apart.new.assigned (sym (ap (λ (s : Standing). s.unsat) k.status) ∙ c.if-self.false) m.0 m.1 (c.are_met.ensures.met f k)
 
 pub returns-in_err-assume_apart-clause-exact : goal.returns-in_err-assume_apart-clause-exact
@@ -24,3 +25,6 @@ returns-then-not-branch-clause-looks c = λ f k. omega arith
 
 pub returns-clause-looks : goal.returns-clause-looks
 returns-clause-looks c = c.are_met.ensures.looks
+
+pub returns-in_err-assume_apart-clause-apart : goal.returns-in_err-assume_apart-clause-apart
+returns-in_err-assume_apart-clause-apart c = on_err _ _ c.in_err-assume_apart.ensures.apart

@@ -1,6 +1,10 @@
 use Rattle.std.proofs.lemmas.Result.{err_from_is_err_and}
 use Rattle.std.proofs.Common.{arith}
 use Rattle.sat_checker.proofs.state.State.model.Goals as goal
+use Rattle.sat_checker.specs.Stored.{Stored}
+use Rattle.sat_checker.specs.Accepts.{VariablesApart}
+use Rattle.sat_checker.specs.inner.StateView.{Keeps}
+use Rattle.sat_checker.proofs.lemmas.store.Entries.{on_err}
 
 pub returns-clause-decides : goal.returns-clause-decides
 returns-clause-decides c = λ f k. (
@@ -25,3 +29,13 @@ returns-in_err-learn-clause-looks c = λ f k. let h = c.fits.ensures.looks f k.f
 
 pub returns-clause-looks : goal.returns-clause-looks
 returns-clause-looks c = λ f k. let h = c.fits.ensures.looks f k.formula in omega arith
+
+pub returns-in_err-fits-clause-apart : goal.returns-in_err-fits-clause-apart
+returns-in_err-fits-clause-apart c =
+    let apart : (f : Stored) → Keeps c.args.self.now f → VariablesApart c.args.assignment.now = λ f k. c.in_err-fits.ensures.apart in
+    on_err _ _ apart
+
+pub returns-in_err-learn-clause-apart : goal.returns-in_err-learn-clause-apart
+returns-in_err-learn-clause-apart c =
+    let apart : (f : Stored) → Keeps c.args.self.now f → VariablesApart c.args.assignment.now = λ f k. ((c.in_ok-fits.ensures.exact f k.formula).0 c.if-not-branch.false).apart in
+    on_err _ _ apart
