@@ -10,3 +10,4 @@ pub mod Rounds
 pub mod Showing
 pub mod Solving
 pub mod Turns
+pub mod Ending

@@ -1,5 +1,6 @@
 //! The search of a solver that writes a proof.
 pub mod advance;
+pub mod beginning;
 pub mod bumping;
 pub mod failing;
 pub mod fault;

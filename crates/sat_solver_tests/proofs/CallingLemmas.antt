@@ -72,6 +72,6 @@ module _ {W : Type 0} (seen : W → Writer) (w : W) (p q : Proof W) (opened : ta
 
 -- what was put into a lent target
 pub lent_calls : {W : Type 0} (seen : W → Writer) (a z v : W) (given back : ℕ) (r : Result (Unit {0}) ProofError) → (given ≡ back → z ≡ v) → Calls r (lent_writer given (seen a)) (lent_writer back (seen v)) → Calls r (seen a) (seen z)
-lent_calls seen a z v given back (Ok x) h c = record { written = c.written; counting = c.counting; cuts = c.cuts; puts = lent_puts seen a z v given back (text_in Varisat c.written) (Ok {E = ProofError} x) h c.puts }
-lent_calls seen a z v given back (Err (Write e)) h c = record { written = c.written; counting = c.counting; cuts = c.cuts; puts = lent_puts seen a z v given back (text_in Varisat c.written) (Err {T = Unit {0}} (Write e)) h c.puts }
+lent_calls seen a z v given back (Ok x) h c = record { written = c.written; counting = c.counting; cuts = c.cuts; puts = lent_puts {E = ProofError} seen a z v given back (text_in Varisat c.written) (Ok x) h c.puts }
+lent_calls seen a z v given back (Err (Write e)) h c = record { written = c.written; counting = c.counting; cuts = c.cuts; puts = lent_puts {E = ProofError} seen a z v given back (text_in Varisat c.written) (Err (Write e)) h c.puts }
 lent_calls seen a z v given back (Err OutOfMemory) h c = tt

@@ -1,2 +1,1 @@
 pub mod CallingLemmas
-pub mod SearchingLemmas

@@ -8,10 +8,10 @@ pub mod caller;
 mod certificates;
 #[cfg(test)]
 mod devices;
-pub mod formulas;
 #[cfg(test)]
 mod proof;
-pub mod searcher;
+#[cfg(test)]
+mod searcher;
 #[cfg(test)]
 mod searching;
 #[cfg(test)]

@@ -1,17 +1,24 @@
-//! Searches over small formulas: the answer, what is told of it, and that the checker accepts the steps.
-ghost use Rattle.sat_solver.specs.session.ProofView.{Keeps};
+//! Small formulas: the answer, what is told of it, and that the checker accepts the steps.
+ghost use Rattle.sat_solver.specs.solver.Whole.{IsSolver};
 
-use crate::formulas::{Formula, no_room, search};
-use crate::searcher::{begin, reduce_often};
-use sat_base::{Counted, Lit};
+use sat_base::{Counted, CountedWrite, Lit};
 use sat_checker::Checker;
-use sat_solver::bound::search::Outcome;
-use sat_solver::search::work::Search;
-use sat_solver::session::proof::Proof;
-use std::alloc::Global;
+use sat_solver::{ProofFormat, Solver, SolverConfigUpdate, SolverError};
+use std::alloc::{AllocError, Global};
+
+/// What is known of a formula under its assumptions.
+#[derive(Clone, Copy)]
+enum Known {
+    Model,
+    Unsat,
+    Failed,
+}
+
+/// Clauses and assumptions, whose literals are in codes over names.
+type Formula = (&'static [&'static [usize]], &'static [usize]);
 
 /// A formula, the answer, and the codes of the core that is told, in order.
-type Row = (Formula, Outcome, &'static [usize]);
+type Row = (Formula, Known, &'static [usize]);
 
 /// Four clauses that leave no valuation.
 const SQUARE: &[&[usize]] = &[&[0, 2], &[0, 3], &[1, 2], &[1, 3]];
@@ -59,48 +66,66 @@ const FOUR_PIGEONS: &[&[usize]] = &[
 const EVEN: &[&[usize]] = &[&[0, 2, 5], &[0, 3, 4], &[1, 2, 4], &[1, 3, 5]];
 
 const ROWS: &[Row] = &[
-    ((0, &[], &[]), Outcome::Model, &[]),
-    ((1, &[], &[1]), Outcome::Model, &[]),
-    ((1, &[&[0]], &[]), Outcome::Model, &[]),
-    ((1, &[&[0], &[1]], &[]), Outcome::Unsat, &[]),
-    ((1, &[&[0], &[]], &[]), Outcome::Unsat, &[]),
-    ((1, &[&[0]], &[1]), Outcome::Failed, &[1]),
-    ((2, SQUARE, &[]), Outcome::Unsat, &[]),
-    ((2, SQUARE, &[0]), Outcome::Unsat, &[]),
-    ((2, &[&[0, 2], &[3]], &[1]), Outcome::Failed, &[1]),
-    ((2, &[&[0, 2], &[0, 3]], &[1]), Outcome::Failed, &[1]),
-    ((3, &[&[1, 3, 5]], &[0, 2, 4]), Outcome::Failed, &[4, 2, 0]),
-    ((3, EVEN, &[]), Outcome::Model, &[]),
-    ((3, EVEN, &[0, 2]), Outcome::Model, &[]),
-    ((3, EVEN, &[0, 3, 5]), Outcome::Failed, &[5, 3, 0]),
-    ((6, THREE_PIGEONS, &[]), Outcome::Unsat, &[]),
-    ((12, FOUR_PIGEONS, &[]), Outcome::Unsat, &[]),
+    ((&[], &[]), Known::Model, &[]),
+    ((&[], &[1]), Known::Model, &[]),
+    ((&[&[0]], &[]), Known::Model, &[]),
+    ((&[&[0], &[1]], &[]), Known::Unsat, &[]),
+    ((&[&[0], &[]], &[]), Known::Unsat, &[]),
+    ((&[&[0]], &[1]), Known::Failed, &[1]),
+    ((SQUARE, &[]), Known::Unsat, &[]),
+    ((SQUARE, &[0]), Known::Unsat, &[]),
+    ((&[&[0, 2], &[3]], &[1]), Known::Failed, &[1]),
+    ((&[&[0, 2], &[0, 3]], &[1]), Known::Failed, &[1]),
+    ((&[&[1, 3, 5]], &[0, 2, 4]), Known::Failed, &[4, 2, 0]),
+    ((EVEN, &[]), Known::Model, &[]),
+    ((EVEN, &[0, 2]), Known::Model, &[]),
+    ((EVEN, &[0, 3, 5]), Known::Failed, &[5, 3, 0]),
+    ((THREE_PIGEONS, &[]), Known::Unsat, &[]),
+    ((FOUR_PIGEONS, &[]), Known::Unsat, &[]),
 ];
 
-/// Whether a literal in a code is true.
-fn is_true(search: &Search, code: usize) -> bool {
-    let values = search.parts.assignment.assignment();
-    let index = code / 2;
-    if index >= values.len() {
-        return false;
+/// Puts literals in codes into a list, in place of what it had.
+fn read(lits: &mut Vec<Lit>, codes: &[usize]) -> Result<(), AllocError> {
+    lits.clear();
+    for code in codes {
+        if *code < 1000 {
+            lits.push(Lit::from_code(*code))?;
+        }
     }
-    values[index] == Some(code % 2 == 0)
+    Ok(())
 }
 
-/// Whether one of these literals is true.
-fn is_one_true(search: &Search, codes: &[usize]) -> bool {
+/// Adds these clauses.
+fn add_all<W: CountedWrite + Drop>(
+    solver: &mut Solver<W>,
+    clauses: &[&[usize]],
+    lits: &mut Vec<Lit>,
+) -> Result<(), SolverError>
+    requires { IsSolver solver.old }
+    ensures { IsSolver solver.new }
+{
+    for at in 0..clauses.len() {
+        read(lits, clauses[at])?;
+        solver.add_clause(lits)?;
+    }
+    Ok(())
+}
+
+/// Whether one of these literals is in a model, which has one for each name in order.
+fn is_one_true(model: &[Lit], codes: &[usize]) -> bool {
     for code in codes {
-        if is_true(search, *code) {
+        let index = *code / 2;
+        if index < model.len() && model[index].code() == *code {
             return true;
         }
     }
     false
 }
 
-/// Whether each clause has a true literal.
-fn satisfies(search: &Search, clauses: &[&[usize]]) -> bool {
+/// Whether each clause has a literal of the model.
+fn satisfies(model: &[Lit], clauses: &[&[usize]]) -> bool {
     for codes in clauses {
-        if !is_one_true(search, *codes) {
+        if !is_one_true(model, *codes) {
             return false;
         }
     }
@@ -120,52 +145,100 @@ pub(crate) fn are_codes(lits: &[Lit], codes: &[usize]) -> bool {
     true
 }
 
-/// Whether what the search came to is an answer of the row.
-fn is_answer(search: &Search, row: &Row) -> bool {
-    match row.1 {
-        Outcome::Learned => false,
-        Outcome::Model => satisfies(search, row.0.1),
-        Outcome::Unsat => true,
-        Outcome::Failed => are_codes(search.analysis.core(), row.2),
+/// Whether a failed core is told whose literals are those of the codes.
+fn is_core<W: CountedWrite + Drop>(solver: &Solver<W>, codes: &[usize]) -> bool
+    requires { IsSolver solver.now }
+{
+    match solver.failed_core() {
+        Some(lits) => are_codes(lits, codes),
+        None => false,
     }
 }
 
-/// Whether the checker accepts a proof in bytes.
-fn is_proof(alloc: Global, text: &[u8]) -> bool {
-    let mut checker = Checker::new(alloc);
-    checker.check_proof(&mut Counted::new(text)).is_ok()
+/// Whether the answer is the row's.
+fn is_answer<W: CountedWrite + Drop>(
+    alloc: Global,
+    solver: &Solver<W>,
+    sat: bool,
+    row: &Row,
+) -> Result<bool, SolverError>
+    requires { IsSolver solver.now }
+{
+    match row.1 {
+        Known::Model => match solver.model(alloc)? {
+            Some(lits) => Ok(sat && satisfies(&lits, row.0.0)),
+            None => Ok(false),
+        },
+        Known::Unsat => Ok(!sat && is_core(solver, &[])),
+        Known::Failed => Ok(!sat && is_core(solver, row.2)),
+    }
 }
 
-/// Whether the checker accepts the steps, once the last is written.
-fn is_accepted(alloc: Global, proof: &mut Proof<Counted<Vec<u8>>>) -> bool
-    requires { Keeps proof.old }
+/// Whether a row is answered as it says.
+fn answers<W: CountedWrite + Drop>(
+    alloc: Global,
+    solver: &mut Solver<W>,
+    row: &Row,
+    lits: &mut Vec<Lit>,
+) -> Result<bool, SolverError>
+    requires { IsSolver solver.old }
+    ensures { IsSolver solver.new }
 {
-    match proof.close() {
-        Ok(Some(target)) => is_proof(alloc, &target.into_inner()),
+    add_all(solver, row.0.0, lits)?;
+    read(lits, row.0.1)?;
+    solver.assume(lits)?;
+    let sat = solver.solve()?;
+    is_answer(alloc, solver, sat, row)
+}
+
+/// Reductions before every second and every third round.
+fn often() -> SolverConfigUpdate {
+    let mut update = SolverConfigUpdate::new();
+    update.reduce_locals_interval = Some(2);
+    update.reduce_mids_interval = Some(3);
+    update
+}
+
+/// The proof of a row, where it is answered as it says, with few reductions or with many.
+fn proof_of(alloc: Global, row: &Row, many: bool) -> Result<Option<Vec<u8>>, SolverError> {
+    let mut solver = Solver::new(alloc);
+    solver.write_proof(Counted::new(Vec::new(alloc)), ProofFormat::Varisat)?;
+    let update = if many {
+        often()
+    } else {
+        SolverConfigUpdate::new()
+    };
+    solver.config(&update)?;
+    let mut lits = Vec::new(alloc);
+    let right = answers(alloc, &mut solver, row, &mut lits)?;
+    let target = solver.close_proof()?;
+    if !right {
+        return Ok(None);
+    }
+    match target {
+        Some(target) => Ok(Some(target.into_inner())),
+        None => Ok(None),
+    }
+}
+
+/// Whether a row is answered as it says, and the steps are accepted.
+fn is_right(alloc: Global, row: &Row, many: bool) -> bool {
+    match proof_of(alloc, row, many) {
+        Ok(Some(text)) => {
+            let mut checker = Checker::new(alloc);
+            checker
+                .check_proof(&mut Counted::new(text.as_slice()))
+                .is_ok()
+        }
         Ok(None) => false,
         Err(_) => false,
     }
 }
 
-/// Whether a row is answered as it says, and the steps are accepted.
-fn is_right(alloc: Global, row: &Row, often: bool) -> bool {
-    let mut core = begin(alloc, Counted::new(Vec::new(alloc)));
-    if often {
-        reduce_often(&mut core);
-    }
-    let mut room = no_room(alloc);
-    match search(&mut core, &row.0, &mut room) {
-        None => false,
-        Some(outcome) => {
-            outcome == row.1 && is_answer(&core.search, row) && is_accepted(alloc, &mut core.proof)
-        }
-    }
-}
-
 /// The place of the first row that isn't right, with few reductions or with many.
-fn first_wrong(alloc: Global, often: bool) -> Option<usize> {
+fn first_wrong(alloc: Global, many: bool) -> Option<usize> {
     for at in 0..ROWS.len() {
-        if !is_right(alloc, &ROWS[at], often) {
+        if !is_right(alloc, &ROWS[at], many) {
             return Some(at);
         }
     }

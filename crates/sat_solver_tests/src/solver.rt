@@ -12,9 +12,10 @@ enum Told {
     Unsat(&'static [i64]),
 }
 
-/// A call of a script: a clause, or an ask under assumptions, with its answer.
+/// A call of a script: a clause, a name that is hidden, or an ask under assumptions, with its answer.
 enum Call {
     Clause(&'static [i64]),
+    Hide(i64),
     Ask(&'static [i64], Told),
 }
 
@@ -96,6 +97,13 @@ fn make<W: CountedWrite + Drop>(
             solver.add_clause(lits)?;
             Ok(true)
         }
+        Call::Hide(number) => match Lit::from_dimacs(*number) {
+            Some(lit) => {
+                solver.hide_var(lit.var())?;
+                Ok(true)
+            }
+            None => Ok(false),
+        },
         Call::Ask(numbers, told) => {
             read(lits, *numbers)?;
             ask(alloc, solver, lits, told)
@@ -221,6 +229,81 @@ const SATISFIED_AT_ONCE: &[Call] = &[
     Call::Ask(&[2, -1], Told::Unsat(&[-1])),
 ];
 
+/// A long clause loses the literal that a unit makes false: two are left.
+const CUT_TO_TWO: &[Call] = &[
+    Call::Clause(&[1, 2, 3]),
+    Call::Clause(&[-3]),
+    Call::Ask(&[], Told::Sat(&[-1, 2, -3])),
+    Call::Ask(&[-1, -2], Told::Unsat(&[-2, -1])),
+];
+
+/// Three are left, and then two.
+const CUT_TWICE: &[Call] = &[
+    Call::Clause(&[1, 2, 3, 4]),
+    Call::Clause(&[-1]),
+    Call::Ask(&[], Told::Sat(&[-1, -2, -3, 4])),
+    Call::Clause(&[-2]),
+    Call::Ask(&[-4], Told::Sat(&[-1, -2, 3, -4])),
+    Call::Ask(&[-3, -4], Told::Unsat(&[-4, -3])),
+];
+
+/// A unit makes clauses of two literals and of three true.
+const MADE_TRUE: &[Call] = &[
+    Call::Clause(&[1, 2]),
+    Call::Clause(&[1, 3, 4]),
+    Call::Clause(&[-1, 5, 6]),
+    Call::Clause(&[1]),
+    Call::Ask(&[], Told::Sat(&[1, -2, -3, -4, -5, 6])),
+    Call::Ask(&[-2, -3], Told::Sat(&[1, -2, -3, -4, -5, 6])),
+];
+
+/// A name's index goes to another, at whose unit it is looked as at one of level 0.
+const INDEX_AGAIN: &[Call] = &[
+    Call::Clause(&[1, 2]),
+    Call::Ask(&[], Told::Sat(&[-1, 2])),
+    Call::Clause(&[2]),
+    Call::Ask(&[], Told::Sat(&[-1, 2])),
+    Call::Ask(&[-2], Told::Unsat(&[-2])),
+];
+
+/// And that is put back where a clause comes in which it is false.
+const UNIT_AGAIN: &[Call] = &[
+    Call::Clause(&[1, 2]),
+    Call::Ask(&[], Told::Sat(&[-1, 2])),
+    Call::Clause(&[2]),
+    Call::Ask(&[], Told::Sat(&[-1, 2])),
+    Call::Clause(&[-2, 3]),
+    Call::Ask(&[], Told::Sat(&[-1, 2, 3])),
+];
+
+/// A hidden variable that no clause has any more is deleted, and its name becomes that of another.
+const HIDDEN_DELETED: &[Call] = &[
+    Call::Clause(&[1, 2]),
+    Call::Hide(1),
+    Call::Clause(&[2]),
+    Call::Ask(&[], Told::Sat(&[2])),
+    Call::Clause(&[1, 3]),
+    Call::Ask(&[], Told::Sat(&[-1, 2, 3])),
+];
+
+/// A hidden variable with a value is deleted with its unit.
+const HIDDEN_UNIT: &[Call] = &[
+    Call::Clause(&[1, 2]),
+    Call::Hide(1),
+    Call::Clause(&[-2]),
+    Call::Ask(&[], Told::Sat(&[-2])),
+    Call::Clause(&[-1]),
+    Call::Ask(&[], Told::Sat(&[-1, -2])),
+];
+
+/// A variable that is assumed keeps its index.
+const INDEX_KEPT: &[Call] = &[
+    Call::Clause(&[1]),
+    Call::Ask(&[], Told::Sat(&[1])),
+    Call::Ask(&[-1, 2], Told::Unsat(&[-1])),
+    Call::Ask(&[2], Told::Sat(&[1, 2])),
+];
+
 const SCRIPTS: &[&[Call]] = &[
     NOTHING,
     ONE_NAME,
@@ -236,6 +319,14 @@ const SCRIPTS: &[&[Call]] = &[
     CHAIN,
     FALSE_CLAUSE,
     SATISFIED_AT_ONCE,
+    CUT_TO_TWO,
+    CUT_TWICE,
+    MADE_TRUE,
+    INDEX_AGAIN,
+    UNIT_AGAIN,
+    HIDDEN_DELETED,
+    HIDDEN_UNIT,
+    INDEX_KEPT,
 ];
 
 #[test]

@@ -16,3 +16,4 @@ pub mod ShowingLemmas
 pub mod SolvingLemmas
 pub mod TakingLemmas
 pub mod TurnLemmas
+pub mod EndingLemmas

@@ -6,4 +6,5 @@ pub mod CutLemmas
 pub mod LightensLemmas
 pub mod WalkLemmas
 pub mod PassesLemmas
+pub mod BeginLemmas
 pub mod CutEnds

@@ -15,3 +15,4 @@ pub mod TellingLemmas
 pub mod StartLemmas
 pub mod EndingLemmas
 pub mod ConfigLemmas
+pub mod KeptLemmas

@@ -1,5 +1,5 @@
 -- What rounds come to, one after another.
-use Rattle.std.specs.Prelude.{ℕ, ◌≡◌, ◌+◌, ◌<◌, ◌⊎◌, true, List, [], ◌∷◌, ◌++◌, length, Err}
+use Rattle.std.specs.Prelude.{ℕ, ◌≡◌, ◌+◌, ◌<◌, ◌⊎◌, true, List, [], ◌∷◌, ◌++◌, length}
 use Rattle.sat_base.specs.device.Device.{Writer}
 use Rattle.sat_base.specs.steps.Steps.{Step, AtClause}
 use Rattle.sat_parts.specs.prop.TrailWord.{Letter}
@@ -13,9 +13,13 @@ use Rattle.sat_solver.specs.declared.bound.search.Outcome.TheVariants as outcome
 use Rattle.sat_solver.specs.declared.error.SolverError.{SolverError}
 use Rattle.sat_solver.specs.declared.search.solving.Core.{Core}
 use Rattle.sat_solver.specs.declared.search.work.Search.{Search}
-use Rattle.sat_solver.specs.search.Going.{AreSearched, Goes}
 use Rattle.sat_solver.specs.search.Joint.{assumed_in, IsSearch, Moved}
 use Rattle.sat_solver.specs.search.Rounds.{RoundFails, RoundShows}
+use Rattle.sat_solver.specs.names.Calls.{DoesNothing}
+use Rattle.sat_solver.specs.declared.names.Variables.{Variables}
+use Rattle.sat_solver.specs.loading.Shared.{SharesIndices}
+use Rattle.sat_solver.specs.simplify.Freed.{KeepsAsked}
+use Rattle.sat_solver.specs.simplify.Passes.{Falls}
 
 -- the step is a derived clause that advances
 abbrev pub IsAdvancing : Session → Step → Type 0
@@ -48,31 +52,33 @@ words_in c w = Words (assumed_in c.search) c.search.parts w
 abbrev pub values_in : {W : Type 0} → Core W → ℕ
 values_in c = length c.search.parts.assignment.current
 
--- it came there by so many rounds that ended in a conflict: from each of them comes a step that advances
-pub record Gone {W : Type 0} (seen : W → Writer) (a : Core W) (k : ℕ) (b : Core W) : Type 0 where
+-- it came there by so many rounds that ended in a conflict: from each of them comes a step that advances. The judge sees nothing of it.
+pub record Gone {W : Type 0} (seen : W → Writer) (a : Core W) (n : Variables) (k : ℕ) (b : Core W) (m : Variables) : Type 0 where
   pub steps : List Step
   pub adds : Adds seen steps a.proof b.proof
-  pub searched : AreSearched (session_of a.proof).solver_names steps
+  pub does : DoesNothing n m (steps_of a.proof) (steps_of b.proof)
+  pub asked : KeepsAsked n m (session_of a.proof) (session_of b.proof)
   pub moved : Moved a.search b.search
   pub config : b.config ≡ a.config
   pub times : AdvanceTimes (steps_of a.proof) steps k
 
-abbrev pub EndSays : Outcome → Session → Search → Search → Type 0
-EndSays outcomes.Learned s c c' = ⊥
-EndSays outcomes.Model s c c' = RoundShows s c c'
-EndSays outcomes.Unsat s c c' = s.unsat ≡ true
-EndSays outcomes.Failed s c c' = RoundFails s c c'
+abbrev pub EndSays : Outcome → Session → Variables → Search → Search → Type 0
+EndSays outcomes.Learned s m c c' = ⊥
+EndSays outcomes.Model s m c c' = RoundShows s c c' × SharesIndices m c'
+EndSays outcomes.Unsat s m c c' = s.unsat ≡ true
+EndSays outcomes.Failed s m c c' = RoundFails s c c' × SharesIndices m c'
 
 -- it came to this answer
-pub record Ended {W : Type 0} (seen : W → Writer) (a : Core W) (outcome : Outcome) (b : Core W) : Type 0 where
+pub record Ended {W : Type 0} (seen : W → Writer) (a : Core W) (n : Variables) (outcome : Outcome) (b : Core W) (m : Variables) : Type 0 where
   pub steps : List Step
   pub adds : Adds seen steps a.proof b.proof
-  pub searched : AreSearched (session_of a.proof).solver_names steps
+  pub does : DoesNothing n m (steps_of a.proof) (steps_of b.proof)
+  pub asked : KeepsAsked n m (session_of a.proof) (session_of b.proof)
   pub keeps : Keeps b.proof
   pub config : b.config ≡ a.config
   pub comes : Comes EndsAtUnsat (steps_of a.proof) (steps_of b.proof)
-  pub says : EndSays outcome (session_of b.proof) a.search b.search
+  pub says : EndSays outcome (session_of b.proof) m a.search b.search
 
 -- it came to this fault
 abbrev pub Broke : {W : Type 0} → (W → Writer) → Core W → SolverError → Core W → Type 0
-Broke seen a e b = Goes {A = Unit {0}} seen (Err e) a.proof b.proof (λ _ _. ⊥)
+Broke seen a e b = Falls seen e a.proof b.proof

@@ -1,13 +1,16 @@
 -- Indices are given up.
-use Rattle.std.specs.Prelude.{ℕ, ◌≡◌, ◌≢◌, ◌==◌, Bool, true, Some, None, List, if◌then◌else◌}
+use Rattle.std.specs.Prelude.{ℕ, ◌≡◌, ◌≢◌, ◌<◌, ◌==◌, Bool, true, Some, None, List, if◌then◌else◌}
 use Rattle.sat_base.specs.values.Literals.{coded}
 use Rattle.sat_base.specs.steps.Steps.{Step}
 use Rattle.sat_checker.specs.LiteralSets.{mentions}
 use Rattle.sat_parts.specs.prop.Values.{value_of}
 use Rattle.sat_solver.specs.session.Session.{Session, session_after}
 use Rattle.sat_solver.specs.names.Calls.{Stands, DoesNothing}
-use Rattle.sat_solver.specs.names.Variables.{solver_of}
+use Rattle.sat_solver.specs.names.Variables.{solver_of, global_at}
 use Rattle.sat_solver.specs.declared.names.Variables.{Variables}
+use Rattle.sat_parts.specs.clause.Db.{live_refs}
+use Rattle.sat_solver.specs.declared.parts.Parts.{Parts}
+use Rattle.sat_solver.specs.parts.Round.{IsUnused as InNoClause}
 use Rattle.sat_solver.specs.parts.Frame.{SameClauses}
 use Rattle.sat_solver.specs.parts.Words.{ExtendsFor}
 use Rattle.sat_solver.specs.search.Joint.{assumed_in, IsSearch, Moved}
@@ -55,3 +58,12 @@ pub record FreesSome (old new : Variables) (from to : List Step) (c c' : Search)
   pub word : ExtendsFor (assumed_in c) c.parts c'.parts
   pub asked : KeepsAsked old new (session_after from) (session_after to)
   pub unset : (v : ℕ) → value_of c.parts.assignment.current v ≡ None → value_of c'.parts.assignment.current v ≡ None
+  pub fewer : (x v : ℕ) → global_at new x ≡ Some v → global_at old x ≡ Some v
+
+-- a variable that still has this index is assumed
+abbrev pub IsLeft : Variables → Session → ℕ → Type 0
+IsLeft n s x = (v : ℕ) → global_at n x ≡ Some v → mentions s.assumed v ≡ true
+
+-- of the first so many indices each is of a variable that a clause has, or that is assumed
+abbrev pub AreLeft : Variables → Session → Parts → ℕ → Type 0
+AreLeft n s p at = (x : ℕ) → x < at → InNoClause p.clauses (live_refs p.clauses p.db.refs) p.binary.implied x → IsLeft n s x

@@ -1,5 +1,5 @@
 -- What simplification leaves of names, proof and search.
-use Rattle.std.specs.Prelude.{ℕ, ◌≡◌, Option, None, Some, List, [], MatchResult, Result, Err}
+use Rattle.std.specs.Prelude.{ℕ, ◌≡◌, Option, None, Some, List, [], length, MatchResult, Result, Err}
 use Rattle.std.specs.List.{Contains}
 use Rattle.sat_base.specs.device.Device.{Writer}
 use Rattle.sat_base.specs.steps.Steps.{Step}
@@ -18,7 +18,7 @@ use Rattle.sat_solver.specs.search.Turns.{IsStopped, IsPropagated}
 use Rattle.sat_solver.specs.declared.search.work.Search.{Search}
 use Rattle.sat_solver.specs.loading.Shared.{SharesIndices}
 use Rattle.sat_solver.specs.simplify.Flat.{IsFlat}
-use Rattle.sat_solver.specs.simplify.Freed.{KeepsAsked}
+use Rattle.sat_solver.specs.simplify.Freed.{KeepsAsked, AreLeft}
 use Rattle.sat_solver.specs.simplify.Looks.{IsOpenAt}
 
 -- names, proof and search stand together
@@ -52,11 +52,12 @@ pub record Falls {W : Type 0} (seen : W → Writer) (e : SolverError) (p p' : Pr
   pub steps : List Step
   pub went : Went {A = Unit {0}} seen (Err e) steps p p'
 
--- nothing is on the trail, and no literal of a long clause has a value
+-- nothing is on the trail, no literal of a long clause has a value, and each variable that has an index is in a clause or assumed
 pub record Simplified {W : Type 0} (seen : W → Writer) (n n' : Variables) (p p' : Proof W) (c c' : Search) : Type 0 where
   pub passes : Passes seen n n' p p' c c'
   pub flat : IsFlat c'.parts
   pub left : (o : ℕ) → Contains (live_refs c'.parts.clauses c'.parts.db.refs) o → IsOpenAt c'.parts o
+  pub indices : AreLeft n' (session_of p') c'.parts (length c'.parts.assignment.current)
 
 abbrev pub Simplifies : {W : Type 0} → (W → Writer) → Result (Unit {0}) SolverError → Variables → Variables → Proof W → Proof W → Search → Search → Type 0
 Simplifies seen r n n' p p' c c' = MatchResult r (λ _. Simplified seen n n' p p' c c') (λ e. Falls seen e p p')

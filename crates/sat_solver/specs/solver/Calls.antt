@@ -75,12 +75,13 @@ pub record AnswersAgain {W : Type 0} (old new : Solver W) : Type 0 where
   pub steps : steps_in new ≡ steps_in old
   pub same : new ≡ record old { core = record old.core { proof = new.core.proof }; used = true }
 
--- an ask was looked at: names and assumptions are as they were, and without an answer each round derived a clause that advances
+-- an ask was looked at: assumptions are as they were, names stand for the variables for which they stood, and without an answer each
+-- round derived a clause that advances
 pub record Answered {W : Type 0} (seen : W → Writer) (old new : Solver W) : Type 0 where
   pub did : Did seen old new (λ j. j) (λ j. told_by old.state new)
   pub comes : Comes EndsAtUnsat (steps_in old) (steps_in new)
   pub assumed : new.assumed ≡ old.assumed
-  pub names : new.names ≡ old.names
+  pub users : new.names.global_from_user ≡ old.names.global_from_user
   pub counts : Counts old new
   pub times : new.state ≡ states.Unknown → AdvancesIn (steps_in old) (steps_in new) (new.clock.steps - old.clock.steps)
   pub flushed : IsFlushed (target_of seen new.core.proof)

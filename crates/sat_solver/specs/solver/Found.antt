@@ -5,7 +5,7 @@ use Rattle.sat_solver.specs.declared.bound.search.Outcome.{Outcome}
 use Rattle.sat_solver.specs.declared.bound.search.Outcome.TheVariants as outcomes
 use Rattle.sat_solver.specs.declared.error.SolverError.{SolverError}
 use Rattle.sat_solver.specs.search.Turns.{IsComplete, IsFailing}
-use Rattle.sat_solver.specs.search.Solving.{Ended, Gone, IsCore}
+use Rattle.sat_solver.specs.search.Solving.{Ended, Gone}
 use Rattle.sat_solver.specs.declared.names.Variables.{Variables}
 use Rattle.sat_solver.specs.declared.search.solving.Core.{Core}
 use Rattle.sat_solver.specs.declared.solver.state.State.{State}
@@ -14,31 +14,31 @@ use Rattle.sat_solver.specs.solver.Joined.{IsJoined}
 use Rattle.sat_solver.specs.solver.Answering.{Breaks, Shown, Failed}
 
 -- a model was found and written
-pub record FoundModel {W : Type 0} (seen : W → Writer) (n : Variables) (a b : Core W) : Type 0 where
+pub record FoundModel {W : Type 0} (seen : W → Writer) (n m : Variables) (a b : Core W) : Type 0 where
   pub mid : Core W
-  pub ended : Ended seen a outcomes.Model mid
-  pub shown : Shown seen n mid b
+  pub ended : Ended seen a n outcomes.Model mid m
+  pub shown : Shown seen m mid b
 
 -- assumptions that can't be true together were found and written
-pub record FoundCore {W : Type 0} (seen : W → Writer) (n : Variables) (a b : Core W) (core : List ℕ) : Type 0 where
+pub record FoundCore {W : Type 0} (seen : W → Writer) (n m : Variables) (a b : Core W) (core : List ℕ) : Type 0 where
   pub mid : Core W
-  pub ended : Ended seen a outcomes.Failed mid
-  pub failed : Failed seen n mid b core
+  pub ended : Ended seen a n outcomes.Failed mid m
+  pub failed : Failed seen m mid b core
 
-abbrev pub FoundSays : {W : Type 0} → (W → Writer) → State → Variables → Core W → Core W → List ℕ → Type 0
-FoundSays seen states.Unknown n a b core = ⊥
-FoundSays seen states.Sat n a b core = FoundModel seen n a b
-FoundSays seen states.UnsatUnderAssumptions n a b core = FoundCore seen n a b core
-FoundSays seen states.Unsat n a b core = Ended seen a outcomes.Unsat b
+abbrev pub FoundSays : {W : Type 0} → (W → Writer) → State → Variables → Variables → Core W → Core W → List ℕ → Type 0
+FoundSays seen states.Unknown n m a b core = ⊥
+FoundSays seen states.Sat n m a b core = FoundModel seen n m a b
+FoundSays seen states.UnsatUnderAssumptions n m a b core = FoundCore seen n m a b core
+FoundSays seen states.Unsat n m a b core = Ended seen a n outcomes.Unsat b m
 
 -- no answer by now
-pub record FoundNone {W : Type 0} (seen : W → Writer) (rounds : ℕ) (a b : Core W) : Type 0 where
-  pub sound : IsCore b
-  pub gone : Gone seen a rounds b
+pub record FoundNone {W : Type 0} (seen : W → Writer) (rounds : ℕ) (n m : Variables) (a b : Core W) : Type 0 where
+  pub joined : IsJoined m b
+  pub gone : Gone seen a n rounds b m
 
-abbrev pub Finds : {W : Type 0} → (W → Writer) → Option State → (rounds : ℕ) → Variables → Core W → Core W → List ℕ → Type 0
-Finds seen None rounds n a b core = FoundNone seen rounds a b
-Finds seen (Some state) rounds n a b core = FoundSays seen state n a b core
+abbrev pub Finds : {W : Type 0} → (W → Writer) → Option State → (rounds : ℕ) → Variables → Variables → Core W → Core W → List ℕ → Type 0
+Finds seen None rounds n m a b core = FoundNone seen rounds n m a b
+Finds seen (Some state) rounds n m a b core = FoundSays seen state n m a b core
 
 -- what a search came to, before it's told
 abbrev pub ComesTo : {W : Type 0} → Outcome → Variables → Core W → Type 0

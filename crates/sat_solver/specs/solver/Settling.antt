@@ -18,7 +18,8 @@ pub record Settled {W : Type 0} (seen : W → Writer) (old new : Solver W) : Typ
   pub does : Does old.names new.names (steps_in old) (steps_in new) (λ j. j) (λ j. told_by old.state new)
   pub comes : Comes EndsAtUnsat (steps_in old) (steps_in new)
   pub took : Took seen old.core.proof new.core.proof
-  pub same : new ≡ record old { core = new.core; told = new.told; clock = new.clock; state = new.state }
+  pub same : new ≡ record old { core = new.core; names = new.names; told = new.told; clock = new.clock; state = new.state }
+  pub users : new.names.global_from_user ≡ old.names.global_from_user
   pub config : new.core.config ≡ old.core.config
   pub counts : Counts old new
   pub times : new.state ≡ states.Unknown → AdvancesIn (steps_in old) (steps_in new) (new.clock.steps - old.clock.steps)

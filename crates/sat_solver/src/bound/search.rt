@@ -33,7 +33,7 @@ impl Outcome {
     }
 }
 
-/// What a search is made of.
+/// What a search is made of, beside the names that it works for.
 pub trait Rounds {
     ghost use Rattle.std.specs.Prelude.{ℕ, List, ◌≡◌, ◌≢◌, ◌+◌, OnOk, IfOk, IfErr};
     ghost use Rattle.sat_parts.specs.prop.TrailWord.{Letter};
@@ -42,74 +42,82 @@ pub trait Rounds {
 
     type Fault: Drop;
 
+    type Names: Drop;
+
     /// What holds between rounds.
-    ghost sound: { Self → Type 0 };
+    ghost sound: { Self → Self.Names → Type 0 };
     /// The words of its trail since the ask began.
     ghost words: { Self → List Letter → Type 0 };
     /// The number of its variables.
     ghost most: { Self → ℕ };
     /// It came from there by so many rounds that ended in a conflict.
-    ghost goes: { Self → ℕ → Self → Type 0 };
+    ghost goes: { Self → Self.Names → ℕ → Self → Self.Names → Type 0 };
     /// It came from there to this answer.
-    ghost ends: { Self → Outcome → Self → Type 0 };
+    ghost ends: { Self → Self.Names → Outcome → Self → Self.Names → Type 0 };
     /// It came from there to this fault.
     ghost fails: { Self → Self.Fault → Self → Type 0 };
 
     /// Undoes all decisions.
-    fn restart(&mut self)
-        requires { sound self.old }
-        ensures sound { sound self.new }
+    fn restart(&mut self, names: &Self::Names)
+        requires { sound self.old names.now }
+        ensures sound { sound self.new names.now }
         ensures most { most self.new ≡ most self.old }
         ensures words { StartsAnew words self.old self.new }
-        ensures goes { (s : Self) (k : ℕ) → goes s k self.old → goes s k self.new };
+        ensures goes { (s : Self) (n : Self.Names) (k : ℕ) → goes s n k self.old names.now → goes s n k self.new names.now };
 
     /// What stands between rounds: reductions, collection.
-    fn reduce(&mut self, round: u64) -> Result<(), Self::Fault>
-        requires { sound self.old }
-        ensures sound { OnOk result (sound self.new) }
+    fn reduce(&mut self, names: &Self::Names, round: u64) -> Result<(), Self::Fault>
+        requires { sound self.old names.now }
+        ensures sound { OnOk result (sound self.new names.now) }
         ensures most { OnOk result (most self.new ≡ most self.old) }
         ensures words { OnOk result (Keeps words self.old self.new) }
-        ensures goes { OnOk result ((s : Self) (k : ℕ) → goes s k self.old → goes s k self.new) }
-        ensures fails { IfErr result (λ e. (s : Self) (k : ℕ) → goes s k self.old → fails s e self.new) };
+        ensures goes { OnOk result ((s : Self) (n : Self.Names) (k : ℕ) → goes s n k self.old names.now → goes s n k self.new names.now) }
+        ensures fails { IfErr result (λ e. (s : Self) (n : Self.Names) (k : ℕ) → goes s n k self.old names.now → fails s e self.new) };
 
     /// Up to a conflict and what is learned from it, or an answer.
-    fn round(&mut self) -> Result<Outcome, Self::Fault>
-        requires { sound self.old }
-        ensures sound { IfOk result (λ r. r ≡ Outcome.Learned → sound self.new) }
+    fn round(&mut self, names: &mut Self::Names) -> Result<Outcome, Self::Fault>
+        requires { sound self.old names.old }
+        ensures sound { IfOk result (λ r. r ≡ Outcome.Learned → sound self.new names.new) }
         ensures most { IfOk result (λ r. r ≡ Outcome.Learned → most self.new ≡ most self.old) }
         ensures words { IfOk result (λ r. r ≡ Outcome.Learned → Climbs words (most self.old) self.old self.new) }
-        ensures goes { IfOk result (λ r. r ≡ Outcome.Learned → (s : Self) (k : ℕ) → goes s k self.old → goes s (k + 1) self.new) }
-        ensures ends { IfOk result (λ r. r ≢ Outcome.Learned → (s : Self) (k : ℕ) → goes s k self.old → ends s r self.new) }
-        ensures fails { IfErr result (λ e. (s : Self) (k : ℕ) → goes s k self.old → fails s e self.new) };
+        ensures goes { IfOk result (λ r. r ≡ Outcome.Learned → (s : Self) (n : Self.Names) (k : ℕ) → goes s n k self.old names.old → goes s n (k + 1) self.new names.new) }
+        ensures ends { IfOk result (λ r. r ≢ Outcome.Learned → (s : Self) (n : Self.Names) (k : ℕ) → goes s n k self.old names.old → ends s n r self.new names.new) }
+        ensures fails { IfErr result (λ e. (s : Self) (n : Self.Names) (k : ℕ) → goes s n k self.old names.old → fails s e self.new) };
 }
 
 /// Restarts where a restart is due before this round.
-fn restart_where_due<R: Rounds>(rounds: &mut R, restarts: &mut Restarts, round: u64)
-    requires sound { R.sound rounds.old }
+fn restart_where_due<R: Rounds>(
+    rounds: &mut R,
+    names: &R::Names,
+    restarts: &mut Restarts,
+    round: u64,
+)
+    requires sound { R.sound rounds.old names.now }
     requires scale { 0 < restarts.old.scale }
     requires counts { round + 1 < 2 ^ 64 }
-    ensures sound { R.sound rounds.new }
+    ensures sound { R.sound rounds.new names.now }
     ensures scale { restarts.new.scale ≡ restarts.old.scale }
     ensures most { R.most rounds.new ≡ R.most rounds.old }
     ensures come { (n start : ℕ) → HasCome R.words rounds.old n start round restarts.old.next restarts.old.sequence → HasCome R.words rounds.new n start round restarts.new.next restarts.new.sequence }
-    ensures goes { (s : R) (k : ℕ) → R.goes s k rounds.old → R.goes s k rounds.new }
+    ensures goes { (s : R) (n : R.Names) (k : ℕ) → R.goes s n k rounds.old names.now → R.goes s n k rounds.new names.now }
 {
     if round < restarts.next {
         return;
     }
-    rounds.restart();
+    rounds.restart(names);
     begin_gap(restarts, round);
 }
 
 /// Rounds up to an answer, at most so many. None where there is no answer by then.
 pub fn search<R: Rounds>(
     rounds: &mut R,
+    names: &mut R::Names,
     restarts: &mut Restarts,
     steps: &mut u64,
     max_steps: u64,
 ) -> Result<Option<Outcome>, R::Fault>
     ghost word: { List Letter }
-    requires sound { R.sound rounds.old }
+    requires sound { R.sound rounds.old names.old }
     requires word { R.words rounds.old word }
     requires scale { 0 < restarts.old.scale }
     ensures scale { restarts.new.scale ≡ restarts.old.scale }
@@ -117,15 +125,15 @@ pub fn search<R: Rounds>(
     ensures round { IfOk result (λ r. (r ≡ None → ⊥) → steps.old < steps.new) }
     ensures interrupted { IfOk result (λ r. r ≡ None → steps.new ≡ steps.old + steps_left max_steps steps.old) }
     ensures answered { (n : ℕ) → R.most rounds.old ≤ n → 2 ^ (2 * n + 3) ≤ steps_left max_steps steps.old → IfOk result (λ r. r ≡ None → ⊥) }
-    ensures goes { IfOk result (λ r. r ≡ None → R.sound rounds.new × (R.most rounds.new ≡ R.most rounds.old) × ((s : R) → R.goes s 0 rounds.old → R.goes s (steps.new - steps.old) rounds.new)) }
-    ensures ends { IfOk result (λ r. MatchOption r (Unit {0}) (λ o. (s : R) → R.goes s 0 rounds.old → R.ends s o rounds.new)) }
-    ensures fails { IfErr result (λ e. (s : R) → R.goes s 0 rounds.old → R.fails s e rounds.new) }
+    ensures goes { IfOk result (λ r. r ≡ None → R.sound rounds.new names.new × (R.most rounds.new ≡ R.most rounds.old) × ((s : R) (n : R.Names) → R.goes s n 0 rounds.old names.old → R.goes s n (steps.new - steps.old) rounds.new names.new)) }
+    ensures ends { IfOk result (λ r. MatchOption r (Unit {0}) (λ o. (s : R) (n : R.Names) → R.goes s n 0 rounds.old names.old → R.ends s n o rounds.new names.new)) }
+    ensures fails { IfErr result (λ e. (s : R) (n : R.Names) → R.goes s n 0 rounds.old names.old → R.fails s e rounds.new) }
 {
     let end = steps.saturating_add(max_steps);
     while *steps < end {
-        restart_where_due(rounds, restarts, *steps);
-        rounds.reduce(*steps)?;
-        let outcome = rounds.round()?;
+        restart_where_due(rounds, names, restarts, *steps);
+        rounds.reduce(names, *steps)?;
+        let outcome = rounds.round(names)?;
         *steps += 1;
         if !outcome.is_learned() {
             return Ok(Some(outcome));

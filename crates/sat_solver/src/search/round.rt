@@ -8,12 +8,16 @@ ghost use Rattle.sat_solver.specs.search.Going.{Goes};
 ghost use Rattle.sat_solver.specs.search.Joint.{IsSearch};
 ghost use Rattle.sat_solver.specs.search.Turns.{IsStopped};
 ghost use Rattle.sat_solver.specs.search.Rounds.{LastRefutes, RoundSays};
+ghost use Rattle.sat_solver.specs.search.Ending.{EndsRound};
+ghost use Rattle.sat_solver.specs.simplify.Passes.{StandTogether};
 
 use crate::SolverError;
 use crate::bound::search::Outcome;
 use crate::joint::naming::name_clauses;
+use crate::names::Variables;
 use crate::parts::Parts;
 use crate::search::advance::{Stop, find_stop};
+use crate::search::beginning::begin_round;
 use crate::search::fault::proof_fault;
 use crate::search::learning::learn_from;
 use crate::search::units::write_units;
@@ -77,8 +81,8 @@ fn resolve<W: CountedWrite + Drop>(
     Ok(Outcome::Unsat)
 }
 
-/// A round: up to a conflict and what is learned from it, or an answer.
-pub fn round<W: CountedWrite + Drop>(
+/// Searches up to a conflict and what is learned from it, or an answer.
+fn search_on<W: CountedWrite + Drop>(
     proof: &mut Proof<W>,
     search: &mut Search,
 ) -> Result<Outcome, SolverError>
@@ -94,5 +98,21 @@ pub fn round<W: CountedWrite + Drop>(
             Ok(Outcome::Failed)
         }
         Stop::Falsified(conflict) => resolve(proof, search, &conflict),
+    }
+}
+
+/// A round: up to a conflict and what is learned from it, or an answer. Where literals came at level 0, it begins with a simplification.
+pub fn round<W: CountedWrite + Drop>(
+    proof: &mut Proof<W>,
+    search: &mut Search,
+    names: &mut Variables,
+) -> Result<Outcome, SolverError>
+    requires together { StandTogether names.old proof.old search.old }
+    ensures { EndsRound W.seen result names.old names.new proof.old proof.new search.old search.new }
+{
+    match begin_round(proof, search, names) {
+        Err(error) => Err(error),
+        Ok(Some(conflict)) => resolve(proof, search, &conflict),
+        Ok(None) => search_on(proof, search),
     }
 }

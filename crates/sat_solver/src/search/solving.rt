@@ -1,10 +1,12 @@
 //! Rounds up to an answer.
 ghost use Rattle.std.specs.Prelude.{ℕ, ◌≡◌, ◌+◌, ◌-◌, ◌*◌, ◌^◌, ◌<◌, ◌≤◌, min, IfOk, IfErr, MatchOption, None};
 ghost use Rattle.sat_solver.specs.bound.Counting.{CountsOn, steps_left};
-ghost use Rattle.sat_solver.specs.search.Solving.{IsCore, words_in, values_in, Gone, Ended, Broke};
+ghost use Rattle.sat_solver.specs.search.Solving.{words_in, values_in, Gone, Ended, Broke};
+ghost use Rattle.sat_solver.specs.solver.Joined.{IsJoined};
 
 use crate::bound::restarts::Restarts;
 use crate::bound::search::{Outcome, Rounds, search};
+use crate::names::Variables;
 use crate::parts::assumptions::restart;
 use crate::search::reducing::reduce;
 use crate::search::round::round;
@@ -22,11 +24,14 @@ pub struct Core<W: CountedWrite + Drop> {
 }
 
 impl<W: CountedWrite + Drop> Rounds for Core<W> {
-    ghost use Rattle.sat_solver.specs.search.Solving.{IsCore, words_in, values_in, Gone, Ended, Broke};
+    ghost use Rattle.sat_solver.specs.search.Solving.{words_in, values_in, Gone, Ended, Broke};
+    ghost use Rattle.sat_solver.specs.solver.Joined.{IsJoined};
 
     type Fault = SolverError;
 
-    ghost sound = { IsCore };
+    type Names = Variables;
+
+    ghost sound = { λ c n. IsJoined n c };
 
     ghost words = { words_in };
 
@@ -38,16 +43,16 @@ impl<W: CountedWrite + Drop> Rounds for Core<W> {
 
     ghost fails = { Broke W.seen };
 
-    fn restart(&mut self) {
+    fn restart(&mut self, _names: &Variables) {
         restart(&mut self.search.parts, &self.search.assumptions);
     }
 
-    fn reduce(&mut self, number: u64) -> Result<(), SolverError> {
+    fn reduce(&mut self, _names: &Variables, number: u64) -> Result<(), SolverError> {
         reduce(&mut self.proof, &mut self.search, &self.config, number)
     }
 
-    fn round(&mut self) -> Result<Outcome, SolverError> {
-        round(&mut self.proof, &mut self.search)
+    fn round(&mut self, names: &mut Variables) -> Result<Outcome, SolverError> {
+        round(&mut self.proof, &mut self.search, names)
     }
 }
 
@@ -55,20 +60,21 @@ impl<W: CountedWrite + Drop> Rounds for Core<W> {
 #[tactic(auto, using(crate::proofs::lemmas::search::SolvingLemmas::core_word))]
 pub fn solve<W: CountedWrite + Drop>(
     core: &mut Core<W>,
+    names: &mut Variables,
     restarts: &mut Restarts,
     steps: &mut u64,
     max_steps: u64,
 ) -> Result<Option<Outcome>, SolverError>
-    requires core { IsCore core.old }
+    requires joined { IsJoined names.old core.old }
     requires scale { 0 < restarts.old.scale }
     ensures scale { restarts.new.scale ≡ restarts.old.scale }
     ensures counts { CountsOn (values_in core.old) max_steps steps.old steps.new }
     ensures round { IfOk result (λ r. (r ≡ None → ⊥) → steps.old < steps.new) }
     ensures interrupted { IfOk result (λ r. r ≡ None → steps.new ≡ steps.old + steps_left max_steps steps.old) }
     ensures answered { (n : ℕ) → values_in core.old ≤ n → 2 ^ (2 * n + 3) ≤ steps_left max_steps steps.old → IfOk result (λ r. r ≡ None → ⊥) }
-    ensures goes { IfOk result (λ r. r ≡ None → IsCore core.new × Gone W.seen core.old (steps.new - steps.old) core.new) }
-    ensures ends { IfOk result (λ r. MatchOption r (Unit {0}) (λ o. Ended W.seen core.old o core.new)) }
+    ensures goes { IfOk result (λ r. r ≡ None → IsJoined names.new core.new × Gone W.seen core.old names.old (steps.new - steps.old) core.new names.new) }
+    ensures ends { IfOk result (λ r. MatchOption r (Unit {0}) (λ o. Ended W.seen core.old names.old o core.new names.new)) }
     ensures fails { IfErr result (λ e. Broke W.seen core.old e core.new) }
 {
-    search(core, restarts, steps, max_steps)
+    search(core, names, restarts, steps, max_steps)
 }

@@ -7,7 +7,7 @@ ghost use Rattle.sat_solver.specs.names.Variables.{solver_of, data_at, IsUnitOf,
 ghost use Rattle.sat_solver.specs.names.Calls.{Stands};
 ghost use Rattle.sat_solver.specs.names.Failing.{IsFailure, Came};
 ghost use Rattle.sat_solver.specs.simplify.Flat.{IsFlat};
-ghost use Rattle.sat_solver.specs.simplify.Freed.{GivesUp, MayFree, FreesSome};
+ghost use Rattle.sat_solver.specs.simplify.Freed.{GivesUp, MayFree, FreesSome, IsLeft, AreLeft};
 
 use crate::names::Variables;
 use crate::names::error::NameError;
@@ -55,6 +55,7 @@ fn free_unused<S: StepWriter>(
     requires there { index < length search.old.parts.assignment.current }
     requires unused { InNoClause search.old.parts.clauses (live_refs search.old.parts.clauses search.old.parts.db.refs) search.old.parts.binary.implied index }
     ensures frees { OnOk result (FreesSome variables.old variables.new (S.steps writer.old) (S.steps writer.new) search.old search.new) }
+    ensures left { OnOk result (IsLeft variables.new (session_after (S.steps writer.old)) index) }
     ensures keeps { OnOk result (S.keeps writer.new) }
     ensures fails { IfErr result IsFailure }
     ensures came { Came S.took S.broke result writer.old writer.new }
@@ -81,6 +82,7 @@ pub fn free_indices<S: StepWriter>(
     requires keeps { S.keeps writer.old }
     requires may { MayFree variables.old (S.steps writer.old) search.old }
     ensures frees { OnOk result (FreesSome variables.old variables.new (S.steps writer.old) (S.steps writer.new) search.old search.new) }
+    ensures left { OnOk result (AreLeft variables.new (session_after (S.steps writer.old)) search.old.parts (length search.old.parts.assignment.current)) }
     ensures keeps { OnOk result (S.keeps writer.new) }
     ensures fails { IfErr result IsFailure }
     ensures came { Came S.took S.broke result writer.old writer.new }

@@ -56,22 +56,28 @@ fn tell<W: CountedWrite + Drop>(
 /// Rounds up to an answer, at most so many as the parameters say, and the answer's step. None where there is no answer by then.
 pub fn find_answer<W: CountedWrite + Drop>(
     core: &mut Core<W>,
-    names: &Variables,
+    names: &mut Variables,
     told: &mut Told,
     clock: &mut Clock,
 ) -> Result<Option<State>, SolverError>
-    requires joined { IsJoined names.now core.old }
+    requires joined { IsJoined names.old core.old }
     requires scale { 0 < clock.old.restarts.scale }
     ensures scale { clock.new.restarts.scale ≡ clock.old.restarts.scale }
     ensures counts { CountsOn (values_in core.old) core.old.config.max_steps clock.old.steps clock.new.steps }
     ensures round { IfOk result (λ r. (r ≡ None → ⊥) → clock.old.steps < clock.new.steps) }
     ensures interrupted { IfOk result (λ r. r ≡ None → clock.new.steps ≡ clock.old.steps + steps_left core.old.config.max_steps clock.old.steps) }
     ensures answered { (n : ℕ) → values_in core.old ≤ n → 2 ^ (2 * n + 3) ≤ steps_left core.old.config.max_steps clock.old.steps → IfOk result (λ r. r ≡ None → ⊥) }
-    ensures finds { IfOk result (λ r. Finds W.seen r (clock.new.steps - clock.old.steps) names.now core.old core.new told.new.failed_core.items) }
+    ensures finds { IfOk result (λ r. Finds W.seen r (clock.new.steps - clock.old.steps) names.old names.new core.old core.new told.new.failed_core.items) }
     ensures breaks { IfErr result (λ e. Breaks W.seen e core.old core.new) }
 {
     let max_steps = core.config.max_steps;
-    let found = solve(core, &mut clock.restarts, &mut clock.steps, max_steps)?;
+    let found = solve(
+        core,
+        names,
+        &mut clock.restarts,
+        &mut clock.steps,
+        max_steps,
+    )?;
     match found {
         None => Ok(None),
         Some(outcome) => tell(core, names, told, outcome),

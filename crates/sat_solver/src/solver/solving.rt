@@ -25,7 +25,12 @@ impl<W: CountedWrite + Drop> Solver<W> {
             State::UnsatUnderAssumptions => return Ok(()),
             State::Unsat => return Ok(()),
         }
-        let found = find_answer(&mut self.core, &self.names, &mut self.told, &mut self.clock)?;
+        let found = find_answer(
+            &mut self.core,
+            &mut self.names,
+            &mut self.told,
+            &mut self.clock,
+        )?;
         if let Some(state) = found {
             self.state = state;
         }

@@ -1,5 +1,5 @@
 -- Rounds, one after another.
-use Rattle.std.proofs.Common.{ℕ, ◌+◌, ◌≤◌, ◌≡◌, ◌≢◌, ◌∙◌, Result, Ok, Err, List, [], ◌∷◌, ◌++◌, length, refl, sym, ap, subst, arith, append_assoc, inl, inr}
+use Rattle.std.proofs.Common.{ℕ, ◌+◌, ◌<◌, ◌≤◌, ◌≡◌, ◌≢◌, ◌∙◌, Result, Ok, Err, List, [], ◌∷◌, ◌++◌, length, refl, sym, ap, subst, arith, append_assoc, inl, inr}
 use Rattle.std.specs.Prelude.{OnOk, IfOk, IfErr, MatchOption, Option, None, Some}
 use Rattle.sat_base.specs.device.Device.{Writer}
 use Rattle.sat_base.specs.steps.Steps.{Step}
@@ -19,15 +19,25 @@ use Rattle.sat_solver.specs.bound.Climbing.{Keeps as Goes_up, Climbs}
 use Rattle.sat_solver.specs.declared.bound.search.Outcome.{Outcome}
 use Rattle.sat_solver.specs.declared.bound.search.Outcome.TheVariants as outcomes
 use Rattle.sat_solver.specs.declared.error.SolverError.{SolverError}
+use Rattle.sat_solver.specs.declared.config.SolverConfig.{SolverConfig}
 use Rattle.sat_solver.specs.declared.search.solving.Core.{Core}
+use Rattle.sat_solver.specs.names.Calls.{Stands, DoesNothing}
+use Rattle.sat_solver.specs.declared.names.Variables.{Variables}
+use Rattle.sat_solver.proofs.lemmas.names.Doing.{does_none, does_both}
+use Rattle.sat_solver.specs.search.Ending.{RoundShares, EndsRound}
+use Rattle.sat_solver.specs.solver.Joined.{IsJoined}
+use Rattle.sat_solver.proofs.lemmas.solver.AnsweredLemmas.{joined_at}
+use Rattle.sat_solver.specs.simplify.Freed.{KeepsAsked}
+use Rattle.sat_solver.specs.simplify.Passes.{Passes, Falls}
+use Rattle.sat_solver.proofs.lemmas.simplify.FreedLemmas.{asked_refl, asked_trans}
+use Rattle.sat_solver.proofs.lemmas.simplify.PassesLemmas.{passes_goes, falls_goes, falls_later}
 use Rattle.sat_solver.specs.declared.search.work.Search.{Search}
-use Rattle.sat_solver.specs.search.Going.{AreSearched, Goes}
+use Rattle.sat_solver.specs.search.Going.{Goes}
 use Rattle.sat_solver.specs.search.Joint.{assumed_in, Moved, global_in, IsSearch}
 use Rattle.sat_solver.specs.search.Learning.{LastAdvances}
 use Rattle.sat_solver.specs.search.Reducing.{Reduced}
 use Rattle.sat_solver.specs.search.Rounds.{RoundLearns, RoundSays}
 use Rattle.sat_solver.specs.search.Solving.{AdvanceTimes, words_in, values_in, Gone, EndSays, Ended, Broke}
-use Rattle.sat_solver.proofs.lemmas.search.GoingLemmas.{searched_both, goes_then_fails}
 use Rattle.sat_solver.proofs.lemmas.search.TurnLemmas.{moved_refl, moved_trans, ready_moved, free_moved, leaves_refl}
 use Rattle.sat_solver.specs.parts.Frame.{SameClauses, Carries}
 use Rattle.sat_solver.proofs.lemmas.joint.LearnedLemmas.{fits_undone}
@@ -78,66 +88,107 @@ some_map None P Q f h = tt
 some_map (Some x) P Q f h = f x h
 
 module _ {W : Type 0} (seen : W → Writer) where
-  pub gone_none : (a : Core W) → Gone seen a 0 a
-  gone_none a = record { steps = []; adds = adds_none seen a.proof; searched = tt; moved = moved_refl a.search; config = refl; times = refl }
+  pub gone_none : (a : Core W) (n : Variables) → Stands n (steps_of a.proof) → Gone seen a n 0 a n
+  gone_none a n stands = record {
+    steps = [];
+    adds = adds_none seen a.proof;
+    does = does_none n (steps_of a.proof) stands;
+    asked = asked_refl n (session_of a.proof);
+    moved = moved_refl a.search;
+    config = refl;
+    times = refl;
+  }
 
-  module _ (a b : Core W) (config : b.config ≡ a.config) where
-    gone_on : (ys : List Step) → Adds seen ys a.proof b.proof → AreSearched (session_of a.proof).solver_names ys → Moved a.search b.search → (s : Core W) (j k : ℕ) → (g : Gone seen s k a) → AdvanceTimes (steps_of s.proof) (ys ++ g.steps) j → Gone seen s j b
-    gone_on ys adds searched moved s j k g times = record {
+  module _ (a b : Core W) (na nb : Variables) (config : b.config ≡ a.config) where
+    gone_on : (ys : List Step) → Adds seen ys a.proof b.proof → DoesNothing na nb (steps_of a.proof) (steps_of b.proof) → KeepsAsked na nb (session_of a.proof) (session_of b.proof) → Moved a.search b.search →
+        (s : Core W) (n : Variables) (j k : ℕ) → (g : Gone seen s n k a na) → AdvanceTimes (steps_of s.proof) (ys ++ g.steps) j → Gone seen s n j b nb
+    gone_on ys adds does asked moved s n j k g times = record {
       steps = ys ++ g.steps;
       adds = adds_more seen g.steps ys s.proof a.proof b.proof g.adds adds;
-      searched = searched_both ys g.steps (steps_of a.proof) (steps_of s.proof) g.adds.history searched g.searched;
+      does = does_both n na nb (steps_of s.proof) (steps_of a.proof) (steps_of b.proof) (λ j. j) (λ j. j) (λ j. []) (λ j. []) g.does does;
+      asked = asked_trans n na nb (session_of s.proof) (session_of a.proof) (session_of b.proof) g.asked asked;
       moved = moved_trans s.search a.search b.search g.moved moved;
       config = config ∙ g.config;
       times = times;
     }
 
     -- a fault behind what went well
-    pub broke : {A : Type 0} (r : Result A SolverError) (P : A → List Step → Type 0) → Keeps a.proof → Goes seen r a.proof b.proof P → IfErr r (λ e. (s : Core W) (k : ℕ) → Gone seen s k a → Broke seen s e b)
-    broke (Ok x) P keeps g = tt
-    broke {A = A} (Err e) P keeps g = λ s k gone. goes_then_fails seen tt e s.proof a.proof b.proof (λ (_ : Unit {0}) _. Unit {0}) P (λ (_ : Unit {0}) _. ⊥) (record { steps = gone.steps; went = gone.adds; searched = gone.searched; keeps = keeps; ends = tt }) g
+    falls : (e : SolverError) → Falls seen e a.proof b.proof → (s : Core W) (n : Variables) (k : ℕ) → Gone seen s n k a na → Broke seen s e b
+    falls e f s n k gone = falls_later seen e s.proof a.proof b.proof (gone.steps, gone.adds) f
 
-    -- REDUCTIONS
+  -- REDUCTIONS
 
-    pub reduced_words : (r : Result (Unit {0}) SolverError) → Goes seen r a.proof b.proof (λ _ _. Reduced (session_of b.proof) a.search b.search) → OnOk r (Goes_up words_in a b)
+  module _ (a b : Core W) (n : Variables) (config : b.config ≡ a.config) (joined : IsJoined n a) where
+    abbrev Reduction : Result (Unit {0}) SolverError → Type 0
+    Reduction r = Goes seen r a.proof b.proof (λ _ _. Reduced (session_of b.proof) a.search b.search)
+
+    pub reduced_sound : (r : Result (Unit {0}) SolverError) → Reduction r → OnOk r (IsJoined n b)
+    reduced_sound (Ok x) g = joined_at seen n a joined b g.steps g.went g.searched g.keeps g.ends.moved g.ends.search config
+    reduced_sound (Err e) g = tt
+
+    pub reduced_words : (r : Result (Unit {0}) SolverError) → Reduction r → OnOk r (Goes_up words_in a b)
     reduced_words (Ok x) g = λ w h. (let y = g.ends.word.1 w h in (y.0, (rw g.ends.moved.lits y.1.0, y.1.1)))
     reduced_words (Err e) g = tt
 
-    pub reduced_goes : (r : Result (Unit {0}) SolverError) → Goes seen r a.proof b.proof (λ _ _. Reduced (session_of b.proof) a.search b.search) → OnOk r ((s : Core W) (k : ℕ) → Gone seen s k a → Gone seen s k b)
-    reduced_goes (Ok x) g = λ s k gone. gone_on g.steps g.went g.searched g.ends.moved s k k gone (skip_all (steps_of s.proof) gone.steps g.steps k gone.times)
+    pub reduced_goes : (r : Result (Unit {0}) SolverError) → Reduction r → OnOk r ((s : Core W) (m : Variables) (k : ℕ) → Gone seen s m k a n → Gone seen s m k b n)
+    reduced_goes (Ok x) g = λ s m k gone.
+        (let p : Passes seen n n a.proof b.proof a.search b.search = passes_goes seen x n a.proof b.proof a.search b.search (λ _ _. Reduced (session_of b.proof) a.search b.search) joined.stands joined.shares g g.ends.search g.ends.moved g.ends.word in
+        gone_on a b n n config g.steps g.went p.does p.asked g.ends.moved s m k k gone (skip_all (steps_of s.proof) gone.steps g.steps k gone.times))
     reduced_goes (Err e) g = tt
 
-    -- ROUNDS
+    pub reduced_fails : (r : Result (Unit {0}) SolverError) → Reduction r → IfErr r (λ e. (s : Core W) (m : Variables) (k : ℕ) → Gone seen s m k a n → Broke seen s e b)
+    reduced_fails (Ok x) g = tt
+    reduced_fails (Err e) g = λ s m k gone. falls a b n n config e (falls_goes seen e a.proof b.proof (λ _ _. Reduced (session_of b.proof) a.search b.search) g) s m k gone
 
+  -- ROUNDS
+
+  module _ (a b : Core W) (na nb : Variables) (config : b.config ≡ a.config) (joined : IsJoined na a) where
     abbrev Round : Result Outcome SolverError → Type 0
-    Round r = Goes seen r a.proof b.proof (λ outcome steps. RoundSays outcome (steps_of a.proof) steps (session_of b.proof) a.search b.search)
+    Round r = EndsRound seen r na nb a.proof b.proof a.search b.search
 
     learns : (o : Outcome) (steps : List Step) → o ≡ outcomes.Learned → RoundSays o (steps_of a.proof) steps (session_of b.proof) a.search b.search → RoundLearns (steps_of a.proof) steps (session_of b.proof) a.search b.search
     learns o steps e x = subst (λ z. RoundSays z (steps_of a.proof) steps (session_of b.proof) a.search b.search) e x
 
+    pub round_sound : (r : Result Outcome SolverError) → Round r → IfOk r (λ o. o ≡ outcomes.Learned → IsJoined nb b)
+    round_sound (Ok o) g = λ e. record {
+      sound = record {
+        keeps = g.keeps;
+        search = (learns o g.steps e g.says).search;
+        locals = subst (λ (c : SolverConfig). 0 < c.reduce_locals_interval) (sym config) joined.sound.locals;
+        mids = subst (λ (c : SolverConfig). 0 < c.reduce_mids_interval) (sym config) joined.sound.mids;
+      };
+      stands = g.does.stands;
+      shares = subst (λ z. RoundShares z nb b.search) e g.shares;
+    }
+    round_sound (Err e) g = tt
+
+    pub round_most : (r : Result Outcome SolverError) → Round r → IfOk r (λ o. o ≡ outcomes.Learned → values_in b ≡ values_in a)
+    round_most (Ok o) g = λ e. (learns o g.steps e g.says).moved.size
+    round_most (Err e) g = tt
+
     pub round_words : (r : Result Outcome SolverError) → Round r → IfOk r (λ o. o ≡ outcomes.Learned → Climbs words_in (values_in a) a b)
     round_words (Ok o) g = λ e w h.
-        (let l : RoundLearns (steps_of a.proof) g.steps (session_of b.proof) a.search b.search = learns o g.steps e g.ends in
+        (let l : RoundLearns (steps_of a.proof) g.steps (session_of b.proof) a.search b.search = learns o g.steps e g.says in
         let y = l.rises.1 w h in
         let fits : length y.0 ≤ length b.search.parts.assignment.current = word_fits (assumed_in a.search) (state b.search.parts) b.search.parts.vsids y.0 l.search.stands.holds.below.asks.agrees y.1.0 in
         (y.0, (words_moved b.search.parts a.search b.search l.moved y.0 y.1.0, y.1.1, omega (arith, fits, l.moved.size))))
     round_words (Err e) g = tt
 
-    pub round_goes : (r : Result Outcome SolverError) → Round r → IfOk r (λ o. o ≡ outcomes.Learned → (s : Core W) (k : ℕ) → Gone seen s k a → Gone seen s (k + 1) b)
-    round_goes (Ok o) g = λ e s k gone.
-        (let l : RoundLearns (steps_of a.proof) g.steps (session_of b.proof) a.search b.search = learns o g.steps e g.ends in
-        gone_on g.steps g.went g.searched l.moved s (k + 1) k gone
+    pub round_goes : (r : Result Outcome SolverError) → Round r → IfOk r (λ o. o ≡ outcomes.Learned → (s : Core W) (n : Variables) (k : ℕ) → Gone seen s n k a na → Gone seen s n (k + 1) b nb)
+    round_goes (Ok o) g = λ e s n k gone.
+        (let l : RoundLearns (steps_of a.proof) g.steps (session_of b.proof) a.search b.search = learns o g.steps e g.says in
+        gone_on a b na nb config g.steps g.adds g.does g.asked l.moved s n (k + 1) k gone
         (one_times (steps_of s.proof) gone.steps g.steps k (subst (λ zs. LastAdvances zs g.steps) gone.adds.history l.last) gone.times))
     round_goes (Err e) g = tt
 
     behind : (s : Core W) (steps before : List Step) → steps_of b.proof ≡ steps ++ steps_of a.proof → steps_of a.proof ≡ before ++ steps_of s.proof → steps_of b.proof ≡ (steps ++ before) ++ steps_of s.proof
     behind s steps before e f = e ∙ ap (λ ss. steps ++ ss) f ∙ sym (append_assoc steps before (steps_of s.proof))
 
-    end_says : (o : Outcome) (earlier steps : List Step) (s : Session) (c : Search) → o ≢ outcomes.Learned → Moved c a.search → RoundSays o earlier steps s a.search b.search → EndSays o s c b.search
-    end_says outcomes.Learned earlier steps s c n m x = absurd (n refl)
-    end_says outcomes.Model earlier steps s c n m x = record { search = x.search; moved = moved_trans c a.search b.search m x.moved; complete = x.complete }
-    end_says outcomes.Unsat earlier steps s c n m x = x.now
-    end_says outcomes.Failed earlier steps s c n m x = record { search = x.search; moved = moved_trans c a.search b.search m x.moved; failing = x.failing }
+    end_says : (o : Outcome) (earlier steps : List Step) (s : Session) (c : Search) → o ≢ outcomes.Learned → Moved c a.search → RoundSays o earlier steps s a.search b.search → RoundShares o nb b.search → EndSays o s nb c b.search
+    end_says outcomes.Learned earlier steps s c n m x shares = absurd (n refl)
+    end_says outcomes.Model earlier steps s c n m x shares = (record { search = x.search; moved = moved_trans c a.search b.search m x.moved; complete = x.complete }, shares)
+    end_says outcomes.Unsat earlier steps s c n m x shares = x.now
+    end_says outcomes.Failed earlier steps s c n m x shares = (record { search = x.search; moved = moved_trans c a.search b.search m x.moved; failing = x.failing }, shares)
 
     end_comes : (o : Outcome) (steps : List Step) → o ≢ outcomes.Learned → steps_of b.proof ≡ steps ++ steps_of a.proof → RoundSays o (steps_of a.proof) steps (session_of b.proof) a.search b.search →
         (s : Core W) (before : List Step) → steps_of a.proof ≡ before ++ steps_of s.proof → Comes EndsAtUnsat (steps_of s.proof) (steps_of b.proof)
@@ -148,14 +199,19 @@ module _ {W : Type 0} (seen : W → Writer) where
         comes_last (steps_of s.proof) (x.rest ++ steps_of a.proof) (steps_of b.proof) (x.rest ++ before) x.last (ap (λ ss. x.rest ++ ss) f ∙ sym (append_assoc x.rest before (steps_of s.proof))) x.before
         (e ∙ ap (λ ss. ss ++ steps_of a.proof) x.is)
 
-    pub round_ends : (r : Result Outcome SolverError) → Round r → IfOk r (λ o. o ≢ outcomes.Learned → (s : Core W) (k : ℕ) → Gone seen s k a → Ended seen s o b)
-    round_ends (Ok o) g = λ n s k gone. record {
+    pub round_ends : (r : Result Outcome SolverError) → Round r → IfOk r (λ o. o ≢ outcomes.Learned → (s : Core W) (n : Variables) (k : ℕ) → Gone seen s n k a na → Ended seen s n o b nb)
+    round_ends (Ok o) g = λ not s n k gone. record {
       steps = g.steps ++ gone.steps;
-      adds = adds_more seen gone.steps g.steps s.proof a.proof b.proof gone.adds g.went;
-      searched = searched_both g.steps gone.steps (steps_of a.proof) (steps_of s.proof) gone.adds.history g.searched gone.searched;
+      adds = adds_more seen gone.steps g.steps s.proof a.proof b.proof gone.adds g.adds;
+      does = does_both n na nb (steps_of s.proof) (steps_of a.proof) (steps_of b.proof) (λ j. j) (λ j. j) (λ j. []) (λ j. []) gone.does g.does;
+      asked = asked_trans n na nb (session_of s.proof) (session_of a.proof) (session_of b.proof) gone.asked g.asked;
       keeps = g.keeps;
       config = config ∙ gone.config;
-      comes = end_comes o g.steps n g.went.history g.ends s gone.steps gone.adds.history;
-      says = end_says o (steps_of a.proof) g.steps (session_of b.proof) s.search n gone.moved g.ends;
+      comes = end_comes o g.steps not g.adds.history g.says s gone.steps gone.adds.history;
+      says = end_says o (steps_of a.proof) g.steps (session_of b.proof) s.search not gone.moved g.says g.shares;
     }
     round_ends (Err e) g = tt
+
+    pub round_fails : (r : Result Outcome SolverError) → Round r → IfErr r (λ e. (s : Core W) (n : Variables) (k : ℕ) → Gone seen s n k a na → Broke seen s e b)
+    round_fails (Ok o) g = tt
+    round_fails (Err e) g = λ s n k gone. falls a b na nb config e g s n k gone

@@ -1,5 +1,5 @@
 -- Indices are given up, one after another.
-use Rattle.std.proofs.Common.{ℕ, zero, suc, ◌≡◌, ◌≢◌, ◌<◌, ◌∙◌, inl, inr, Bool, true, false, cond, eqb, Option, Some, None, List, [], ◌∷◌, map, length, get_or, set, refl, sym, ap, subst, arith, get_or-set_same, get_or-set_other, Result, Ok, Err, OnOk}
+use Rattle.std.proofs.Common.{ℕ, zero, suc, ◌+◌, ◌≡◌, ◌≢◌, ◌<◌, ◌∙◌, inl, inr, Bool, true, false, cond, eqb, Option, Some, None, List, [], ◌∷◌, map, length, get_or, set, refl, sym, ap, subst, arith, get_or-set_same, get_or-set_other, Result, Ok, Err, OnOk}
 use Rattle.std.proofs.lemmas.List.{get_or_past}
 use Rattle.sat_store.specs.declared.data.VarData.{VarData}
 use Rattle.sat_store.specs.variables.VarData.{unused_variable}
@@ -45,12 +45,12 @@ use Rattle.sat_solver.specs.loading.Shared.{SharesIndices}
 use Rattle.sat_solver.proofs.lemmas.loading.GivenLemmas.{of_on}
 use Rattle.sat_solver.proofs.lemmas.loading.IndexLemmas.{coded_variable, coded_sign}
 use Rattle.sat_solver.specs.simplify.Flat.{IsFlat}
-use Rattle.sat_solver.specs.simplify.Freed.{LosesIndex, GivesUp, MayFree, KeepsAsked, FreesSome}
+use Rattle.sat_solver.specs.simplify.Freed.{LosesIndex, GivesUp, MayFree, KeepsAsked, FreesSome, AreLeft, IsLeft}
 
 none_some : {A : Type 0} (x : A) → None ≡ Some x → ⊥
 none_some x e = cc
 
-some_same : {A : Type 0} (x y : A) → Some x ≡ Some y → x ≡ y
+pub some_same : {A : Type 0} (x y : A) → Some x ≡ Some y → x ≡ y
 some_same x y e = cc
 
 pub on_ok : {T E : Type 0} (r : Result T E) (A B C : Type 0) → (A → B → C) → OnOk r A → OnOk r B → OnOk r C
@@ -268,6 +268,19 @@ module _ (s : Session) (c : Search) (v x : ℕ) (search : IsSearch s c) (flat : 
 
 -- WHAT NAMES AND A SEARCH SHARE
 
+-- no index is another variable's
+pub global_before : (old new : Variables) (v : ℕ) → AreTidy old → AreTidy new → ((w : ℕ) → solver_of new w ≡ cond (eqb w v) None (solver_of old w)) → (x w : ℕ) → global_at new x ≡ Some w → global_at old x ≡ Some w
+global_before old new v tidy tidy' solvers x w e = elim (cases_eq w v) [
+  | inl q ↦ absurd (none_some x (sym (ap (λ b. cond b None (solver_of old w)) (eq-eqb w v q)) ∙ sym (solvers w) ∙ tidy'.solvers.forth w x e))
+  | inr n ↦ tidy.solvers.back w x (sym (ap (λ b. cond b None (solver_of old w)) (ne_eqb w v n)) ∙ sym (solvers w) ∙ tidy'.solvers.forth w x e)
+]
+
+-- the variable has none any more
+pub global_gone : (old new : Variables) (v x w : ℕ) → AreTidy old → AreTidy new → ((w : ℕ) → solver_of new w ≡ cond (eqb w v) None (solver_of old w)) → global_at old x ≡ Some v → global_at new x ≡ Some w → ⊥
+global_gone old new v x w tidy tidy' solvers e f =
+    let same : w ≡ v = some_same w v (sym (global_before old new v tidy tidy' solvers x w f) ∙ e) in
+    none_some x (sym (ap (λ b. cond b None (solver_of old w)) (eq-eqb w v same)) ∙ sym (solvers w) ∙ tidy'.solvers.forth w x f)
+
 pub shares_freed : (old new : Variables) (c c' : Search) (v : ℕ) → AreTidy old → AreTidy new → ((w : ℕ) → solver_of new w ≡ cond (eqb w v) None (solver_of old w)) → Moved c c' → SharesIndices old c → SharesIndices new c'
 shares_freed old new c c' v tidy tidy' solvers moved h = record {
   size = rw (moved.globals, moved.size) h.size;
@@ -351,6 +364,7 @@ module _ (n : Variables) (steps : List Step) (c : Search) (may : MayFree n steps
                   let other : w ≢ v = λ q. true≢false (sym m ∙ ap (mentions now.assumed) q ∙ unmarked) in
                   gone.solvers w ∙ ap (λ b. cond b None (solver_of n1 w)) (ne_eqb w v other) ∙ ap (λ m. target m.fwd w) put.maps.solvers ∙ e;
             };
+            fewer = global_before n new v may.stands.tidy gone.does.stands.tidy (λ w. gone.solvers w ∙ ap (λ m. cond (eqb w v) None (target m.fwd w)) put.maps.solvers);
             unset = λ w e. ap (λ a. value_of a.current w) freed.values ∙ set_none c.parts.assignment.current x w room e;
           }
 
@@ -377,6 +391,7 @@ frees_none n steps c h = record {
   word = extends_refl c.parts (assumed_in c);
   asked = asked_refl n (session_after steps);
   unset = λ v e. e;
+  fewer = λ x v e. e;
 }
 
 pub frees_both : (a b d : Variables) (from mids to : List Step) (c1 c2 c3 : Search) → FreesSome a b from mids c1 c2 → FreesSome b d mids to c2 c3 → FreesSome a d from to c1 c3
@@ -390,7 +405,28 @@ frees_both a b d from mids to c1 c2 c3 x y = record {
   word = extends_after (assumed_in c1) c1.parts c2.parts c3.parts x.word (rw x.moved.lits at y.word);
   asked = asked_trans a b d (session_after from) (session_after mids) (session_after to) x.asked y.asked;
   unset = λ v e. y.unset v (x.unset v e);
+  fewer = λ i v e. x.fewer i v (y.fewer i v e);
 }
 
 pub may_free_on : (a b : Variables) (from to : List Step) (c c' : Search) → FreesSome a b from to c c' → MayFree b to c'
 may_free_on a b from to c d x = record { stands = x.does.stands; search = x.search; shares = x.shares; flat = x.flat }
+
+-- WHICH INDICES ARE LEFT
+
+module _ (a b d : Variables) (s t : Session) (p : Parts) (at : ℕ) (left : AreLeft b s p at) where
+  -- one that a clause has
+  pub left_used : (InNoClause p.clauses (live_refs p.clauses p.db.refs) p.binary.implied at → ⊥) → AreLeft b s p (at + 1)
+  left_used has x lt none = elim (cases_eq x at) [
+    | inl e ↦ absurd (has (subst (λ z. InNoClause p.clauses (live_refs p.clauses p.db.refs) p.binary.implied z) e none))
+    | inr n ↦ left x (omega arith) none
+  ]
+
+  -- one that no clause has
+  pub left_more : ((x v : ℕ) → global_at d x ≡ Some v → global_at b x ≡ Some v) → t.assumed ≡ s.assumed → IsLeft d t at → AreLeft d s p (at + 1)
+  left_more fewer asked here x lt none = elim (cases_eq x at) [
+    | inl e ↦ λ v f. (ap (λ ls. mentions ls v) (sym asked) ∙ here v (subst (λ z. global_at d z ≡ Some v) e f))
+    | inr n ↦ λ v f. left x (omega arith) none v (fewer x v f)
+  ]
+
+pub left_none : (n : Variables) (s : Session) (p : Parts) → AreLeft n s p 0
+left_none n s p x lt none = absurd (omega arith)

@@ -1,5 +1,5 @@
 -- Names, proof and search stand together from call to call.
-use Rattle.std.proofs.Common.{ℕ, ◌≡◌, ◌∙◌, Result, Ok, Err, List, [], ◌++◌, Some, None, refl, sym, ap, subst}
+use Rattle.std.proofs.Common.{ℕ, ◌≡◌, ◌<◌, ◌∙◌, length, Result, Ok, Err, List, [], ◌++◌, Some, None, refl, sym, ap, subst}
 use Rattle.std.specs.List.{Contains}
 use Rattle.sat_base.specs.device.Device.{Writer}
 use Rattle.sat_base.specs.steps.Steps.{Step}
@@ -7,6 +7,7 @@ use Rattle.sat_parts.specs.clause.Db.{Db, live_refs}
 use Rattle.sat_parts.specs.clause.Stored.{lit_of}
 use Rattle.sat_parts.specs.prop.Values.{value_of, IsOpenLit}
 use Rattle.sat_base.specs.values.Literals.{variable}
+use Rattle.sat_checker.specs.LiteralSets.{mentions}
 use Rattle.sat_solver.specs.session.Making.{Took, Broke}
 use Rattle.sat_solver.specs.session.ProofView.{Adds, Keeps, steps_of, session_of}
 use Rattle.sat_solver.specs.session.Session.{Session, MayAll, session_after}
@@ -33,7 +34,7 @@ use Rattle.sat_solver.specs.loading.Faults.{told_as}
 use Rattle.sat_solver.proofs.lemmas.solver.BehindLemmas.{stands_behind, nothing_behind}
 use Rattle.sat_solver.proofs.lemmas.solver.TellingLemmas.{shares_moved}
 use Rattle.sat_solver.specs.simplify.Flat.{IsFlat, LightensAll}
-use Rattle.sat_solver.specs.simplify.Freed.{MayFree, FreesSome}
+use Rattle.sat_solver.specs.simplify.Freed.{MayFree, FreesSome, AreLeft}
 use Rattle.sat_solver.specs.simplify.Looks.{IsOpenAt}
 use Rattle.sat_solver.specs.simplify.Passes.{StandTogether, Passes, Falls, Simplified}
 use Rattle.sat_solver.proofs.lemmas.simplify.FreedLemmas.{asked_refl, asked_trans}
@@ -151,9 +152,14 @@ module _ {W : Type 0} (seen : W → Writer) where
         let was : Contains (live_refs d.parts.clauses d.parts.db.refs) o = rw (same.0, same.1) at there in
         rw same.0 (unset (variable (lit_of d.parts.clauses o k)) (g.ends.left o was k (rw same.0 at lt)))
 
-    pub simplified : FreesSome n n' (steps_of q) (steps_of r) d e → Keeps r → ((w : Proof W) → Took seen w q → Took seen w r) → Simplified seen n n' p r c e
-    simplified f keeps came = record {
+    indices_freed : FreesSome n n' (steps_of q) (steps_of r) d e → AreLeft n' (session_of q) d.parts (length d.parts.assignment.current) → AreLeft n' (session_of r) e.parts (length e.parts.assignment.current)
+    indices_freed f left x lt none v g =
+        ap (λ ls. mentions ls v) f.asked.assumed ∙ left x (subst (λ k. x < k) f.moved.size lt) (rw (f.same.0, f.same.1, f.same.2) at none) v g
+
+    pub simplified : FreesSome n n' (steps_of q) (steps_of r) d e → AreLeft n' (session_of q) d.parts (length d.parts.assignment.current) → Keeps r → ((w : Proof W) → Took seen w q → Took seen w r) → Simplified seen n n' p r c e
+    simplified f left keeps came = record {
       passes = passes_trans n n n' p q r c d e lightened (passes_frees n n' q r d e f keeps came);
       flat = f.flat;
       left = open_freed f.same f.unset;
+      indices = indices_freed f left;
     }

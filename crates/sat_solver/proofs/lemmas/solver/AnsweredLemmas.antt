@@ -154,6 +154,19 @@ named_among_all : (line asked : List ℕ) → AllByRecursion (λ l. Among l line
 named_among_all line [] h = tt
 named_among_all line (l ∷ asked) h = (literal_among l line h.0, named_among_all line asked h.1)
 
+-- names and search stand where a search came to, whatever became of names
+pub joined_by : {W : Type 0} (n m : Variables) (a b : Core W) → IsJoined n a → b.config ≡ a.config → Keeps b.proof → Stands m (steps_of b.proof) → IsSearch (session_of b.proof) b.search → SharesIndices m b.search → IsJoined m b
+joined_by n m a b joined config keeps stands search shares = record {
+  sound = record {
+    keeps = keeps;
+    search = search;
+    locals = subst (λ (c : SolverConfig). 0 < c.reduce_locals_interval) (sym config) joined.sound.locals;
+    mids = subst (λ (c : SolverConfig). 0 < c.reduce_mids_interval) (sym config) joined.sound.mids;
+  };
+  stands = stands;
+  shares = shares;
+}
+
 module _ {W : Type 0} (seen : W → Writer) (n : Variables) (a : Core W) (joined : IsJoined n a) where
   -- names stand where a search came to
   pub joined_at : (b : Core W) (steps : List Step) → Adds seen steps a.proof b.proof → AreSearched (session_of a.proof).solver_names steps → Keeps b.proof → Moved a.search b.search → IsSearch (session_of b.proof) b.search →

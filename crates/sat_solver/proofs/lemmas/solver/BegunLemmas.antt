@@ -34,6 +34,7 @@ module _ {W : Type 0} (seen : W → Writer) (old : Solver W) (p : Proof W) (adds
     does = subst (λ ss. Does old.names new.names ss (steps_in new) (λ j. j) (λ j. told_by old.state new)) adds.history s.does;
     took = (_, adds_more seen [] s.took.0 old.core.proof p new.core.proof adds s.took.1);
     same = s.same;
+    users = s.users;
     counts = record { on = s.counts.on; round = s.counts.round; spent = s.counts.spent; answered = s.counts.answered };
     known = λ k. (let h = s.known k in (h.0 ∙ adds.history, h.1));
   }

@@ -27,9 +27,8 @@ use Rattle.sat_solver.specs.search.Failing.{causes_hashes}
 use Rattle.sat_solver.specs.search.Joint.{global_in, AreAsked, IsSearch, Moved}
 use Rattle.sat_solver.specs.search.Bumping.{AreDecays}
 use Rattle.sat_solver.specs.search.Turns.{IsComplete}
-use Rattle.sat_solver.proofs.lemmas.search.AskedLemmas.{asked_after, kinds_of}
 use Rattle.sat_solver.specs.search.Solving.{Ended, values_in}
-use Rattle.sat_solver.specs.names.Adding.{named_literal}
+use Rattle.sat_solver.specs.names.Adding.{named_literal, Images, GlobalImages}
 use Rattle.sat_solver.specs.names.Checking.{variable_of}
 use Rattle.sat_solver.specs.names.Expected.{Shows, SameSet}
 use Rattle.sat_solver.specs.names.Models.{named_to}
@@ -51,7 +50,9 @@ use Rattle.sat_solver.specs.solver.Found.{FoundModel, FoundCore, FoundNone, Foun
 use Rattle.sat_solver.specs.solver.Calls.{Answered, Counts, CountsRounds, IsFlushed, Solves, told_as, told_by}
 use Rattle.sat_solver.specs.solver.Settling.{Settled}
 use Rattle.sat_solver.specs.solver.Whole.{IsWhole, IsWholeOf, StateSays, GoesOn, HasCore, steps_in, session_in, line_in}
-use Rattle.sat_solver.proofs.lemmas.solver.AnsweredLemmas.{asked_shown, core_among, core_spelt, core_none, joined_at, nothing_at, does_shown, does_failed}
+use Rattle.sat_solver.proofs.lemmas.solver.AnsweredLemmas.{asked_shown, core_among, core_spelt, core_none, joined_by, does_shown, does_failed}
+use Rattle.sat_solver.proofs.lemmas.solver.KeptLemmas.{images_kept, globals_kept}
+use Rattle.sat_solver.specs.simplify.Freed.{KeepsAsked}
 
 apart_sat : states.Sat ≡ states.Unknown → ⊥
 apart_sat e = cc
@@ -84,6 +85,7 @@ module _ {W : Type 0} (seen : W → Writer) (s : Solver W) (whole : IsWhole s) w
     comes = comes_none EndsAtUnsat (steps_in s);
     took = ([], adds_none seen s.core.proof);
     same = refl;
+    users = refl;
     config = refl;
     counts = record {
       on = record { more = omega arith; within = omega arith; few = (let q = two_to (2 * values_in s.core + 3) in omega arith) };
@@ -101,57 +103,59 @@ module _ {W : Type 0} (seen : W → Writer) (s : Solver W) (whole : IsWhole s) w
       none states.UnsatUnderAssumptions n = does_none s.names (steps_in s) whole.stands
       none states.Unsat n = does_none s.names (steps_in s) whole.stands
 
-  module _ (goes : GoesOn s.core s.names s.asked) (core : Core W) (told : Told) (clock : Clock) (scale : clock.restarts.scale ≡ s.clock.restarts.scale) where
+  module _ (goes : GoesOn s.core s.names s.asked) (core : Core W) (m : Variables) (told : Told) (clock : Clock) (scale : clock.restarts.scale ≡ s.clock.restarts.scale) where
     positive : 0 < clock.restarts.scale
     positive = subst (λ (k : ℕ). 0 < k) (sym scale) whole.positive
 
     scaled : (core : Core W) → core.config ≡ s.core.config → clock.restarts.scale ≡ core.config.luby_restart_interval_scale
     scaled core e = scale ∙ whole.scaled ∙ ap (λ (x : SolverConfig). x.luby_restart_interval_scale) (sym e)
 
+    kept_images : {t : Session} → KeepsAsked s.names m (session_in s) t → Images m s.assumed.items s.asked.order.items
+    kept_images {t} k =
+        images_kept s.names m (steps_in s) s.core.search (session_in s) t goes.joined.stands goes.joined.shares s.assumed.items s.asked.order.items
+        (goes.joined.sound.search.ready.asked ∙ ap (map (with_var (global_in s.core.search))) goes.lits) whole.images k
+
+    kept_spelt : {t : Session} → KeepsAsked s.names m (session_in s) t → GlobalImages m s.assumed.items s.asked.globals.items
+    kept_spelt {t} k = globals_kept s.names m s.assumed.items s.asked.globals.items whole.spelt k.users
+
     -- where there's no answer by now
-    pub settled_none : s.state ≡ states.Unknown → Counts s (record s { core = core; told = told; clock = clock }) → FoundNone seen (clock.steps - s.clock.steps) s.core core → Settled seen s (record s { core = core; told = told; clock = clock })
+    pub settled_none : s.state ≡ states.Unknown → Counts s (record s { core = core; names = m; told = told; clock = clock }) → FoundNone seen (clock.steps - s.clock.steps) s.names m s.core core → Settled seen s (record s { core = core; names = m; told = told; clock = clock })
     settled_none unknown counts found = record {
       whole = record {
-        stands = at.stands;
-        images = whole.images;
-        spelt = whole.spelt;
-        globals = whole.globals ∙ sym assumed;
+        stands = found.joined.stands;
+        images = kept_images found.gone.asked;
+        spelt = kept_spelt found.gone.asked;
+        globals = whole.globals ∙ sym found.gone.asked.assumed;
         positive = positive;
         scaled = scaled core found.gone.config;
         decays = subst AreDecays (sym found.gone.config) whole.decays;
-        says = subst (λ st. StateSays st core s.names s.asked s.assumed.items told.failed_core.items) (sym unknown) (record { joined = at; lits = ap (λ ls. ls.items) found.gone.moved.lits ∙ goes.lits });
+        says = subst (λ st. StateSays st core m s.asked s.assumed.items told.failed_core.items) (sym unknown) (record { joined = found.joined; lits = ap (λ ls. ls.items) found.gone.moved.lits ∙ goes.lits });
       };
-      does = subst (λ st. Does s.names s.names (steps_in s) (steps_of core.proof) (λ j. j) (λ j. told_as st st (line_of s.names core) s.assumed.items told.failed_core.items)) (sym unknown)
-          (nothing_at seen s.names s.core goes.joined core found.gone.steps found.gone.adds found.gone.searched found.sound.keeps);
-      comes = comes_open (steps_in s) (steps_of core.proof) found.gone.steps found.gone.adds.history found.sound.search.stands.fits.consistent;
+      does = subst (λ st. Does s.names m (steps_in s) (steps_of core.proof) (λ j. j) (λ j. told_as st st (line_of m core) s.assumed.items told.failed_core.items)) (sym unknown) found.gone.does;
+      comes = comes_open (steps_in s) (steps_of core.proof) found.gone.steps found.gone.adds.history found.joined.sound.search.stands.fits.consistent;
       took = (found.gone.steps, found.gone.adds);
       same = refl;
+      users = found.gone.asked.users;
       config = found.gone.config;
       counts = counts;
       times = λ u. record { steps = found.gone.steps; behind = found.gone.adds.history; times = found.gone.times };
       known = λ k. absurd (k unknown);
     }
-      where
-        at : IsJoined s.names core
-        at = joined_at seen s.names s.core goes.joined core found.gone.steps found.gone.adds found.gone.searched found.sound.keeps found.gone.moved found.sound.search found.gone.config
-
-        assumed : (session_of core.proof).assumed ≡ (session_in s).assumed
-        assumed = assumed_moved (session_in s) (session_of core.proof) s.core.search core.search goes.joined.sound.search.ready.asked found.sound.search.ready.asked found.gone.moved
 
     module _ (unknown : s.state ≡ states.Unknown) where
       abbrev pub new : State → Solver W
-      new st = record s { core = core; told = told; clock = clock; state = st }
+      new st = record s { core = core; names = m; told = told; clock = clock; state = st }
 
-      unknown_told : (st : State) → Does s.names s.names (steps_in s) (steps_of core.proof) (λ j. j) (λ j. told_as states.Unknown st (line_of s.names core) s.assumed.items told.failed_core.items) → Does s.names s.names (steps_in s) (steps_of core.proof) (λ j. j) (λ j. told_as s.state st (line_of s.names core) s.assumed.items told.failed_core.items)
-      unknown_told st d = subst (λ before. Does s.names s.names (steps_in s) (steps_of core.proof) (λ j. j) (λ j. told_as before st (line_of s.names core) s.assumed.items told.failed_core.items)) (sym unknown) d
+      unknown_told : (st : State) → Does s.names m (steps_in s) (steps_of core.proof) (λ j. j) (λ j. told_as states.Unknown st (line_of m core) s.assumed.items told.failed_core.items) → Does s.names m (steps_in s) (steps_of core.proof) (λ j. j) (λ j. told_as s.state st (line_of m core) s.assumed.items told.failed_core.items)
+      unknown_told st d = subst (λ before. Does s.names m (steps_in s) (steps_of core.proof) (λ j. j) (λ j. told_as before st (line_of m core) s.assumed.items told.failed_core.items)) (sym unknown) d
 
       -- where a model was found
-      pub settled_model : Counts s (new states.Sat) → FoundModel seen s.names s.core core → Settled seen s (new states.Sat)
+      pub settled_model : Counts s (new states.Sat) → FoundModel seen s.names m s.core core → Settled seen s (new states.Sat)
       settled_model counts found = record {
         whole = record {
           stands = found.shown.joined.stands;
-          images = whole.images;
-          spelt = whole.spelt;
+          images = images;
+          spelt = kept_spelt found.ended.asked;
           globals = whole.globals ∙ sym (assumed_moved (session_in s) (session_of core.proof) s.core.search core.search goes.joined.sound.search.ready.asked found.shown.joined.sound.search.ready.asked moved);
           positive = positive;
           scaled = scaled core (found.shown.config ∙ found.ended.config);
@@ -161,14 +165,15 @@ module _ {W : Type 0} (seen : W → Writer) (s : Solver W) (whole : IsWhole s) w
             complete,
           );
         };
-        does = unknown_told states.Sat (does_both s.names s.names s.names (steps_in s) (steps_of found.mid.proof) (steps_of core.proof) (λ j. j) (λ j. j) (λ j. []) (λ j. told_as states.Unknown states.Sat (line_of s.names core) s.assumed.items told.failed_core.items)
-            (nothing_at seen s.names s.core goes.joined found.mid found.ended.steps found.ended.adds found.ended.searched found.ended.keeps)
-            (subst (λ c. Does s.names s.names (steps_of found.mid.proof) (steps_of core.proof) (λ j. j) (λ j. Shows (names_of (map named_literal (line_by c))) (map named_literal s.assumed.items) (map named_literal (line_by c)) ∷ [])) (sym found.shown.search)
-            (does_shown seen s.names found.mid mid core found.shown s.assumed.items (subst (λ c. AllByRecursion (λ l. Among l (line_by c)) s.assumed.items) found.shown.search asked))));
+        does = unknown_told states.Sat (does_both s.names m m (steps_in s) (steps_of found.mid.proof) (steps_of core.proof) (λ j. j) (λ j. j) (λ j. []) (λ j. told_as states.Unknown states.Sat (line_of m core) s.assumed.items told.failed_core.items)
+            found.ended.does
+            (subst (λ c. Does m m (steps_of found.mid.proof) (steps_of core.proof) (λ j. j) (λ j. Shows (names_of (map named_literal (line_by c))) (map named_literal s.assumed.items) (map named_literal (line_by c)) ∷ [])) (sym found.shown.search)
+            (does_shown seen m found.mid mid core found.shown s.assumed.items (subst (λ c. AllByRecursion (λ l. Among l (line_by c)) s.assumed.items) found.shown.search asked))));
         comes = comes_both EndsAtUnsat (steps_in s) (steps_of found.mid.proof) (steps_of core.proof) found.ended.comes
-            (comes_one EndsAtUnsat (steps_of found.mid.proof) (steps_of core.proof) _ found.shown.adds.history (λ u. absurd (true≢false (sym u ∙ found.ended.says.search.stands.fits.consistent))));
+            (comes_one EndsAtUnsat (steps_of found.mid.proof) (steps_of core.proof) _ found.shown.adds.history (λ u. absurd (true≢false (sym u ∙ found.ended.says.0.search.stands.fits.consistent))));
         took = (_, adds_more seen found.ended.steps _ s.core.proof found.mid.proof core.proof found.ended.adds found.shown.adds);
         same = refl;
+        users = found.ended.asked.users;
         config = found.shown.config ∙ found.ended.config;
         counts = counts;
         times = λ u. absurd (apart_sat u);
@@ -176,31 +181,34 @@ module _ {W : Type 0} (seen : W → Writer) (s : Solver W) (whole : IsWhole s) w
       }
         where
           line_by : Search → List ℕ
-          line_by c = named_to s.names c.parts.assignment.current (names_used s.names)
+          line_by c = named_to m c.parts.assignment.current (names_used m)
 
-          mid : IsJoined s.names found.mid
-          mid = joined_at seen s.names s.core goes.joined found.mid found.ended.steps found.ended.adds found.ended.searched found.ended.keeps found.ended.says.moved found.ended.says.search found.ended.config
+          images : Images m s.assumed.items s.asked.order.items
+          images = kept_images found.ended.asked
+
+          mid : IsJoined m found.mid
+          mid = joined_by s.names m s.core found.mid goes.joined found.ended.config found.ended.keeps found.ended.does.stands found.ended.says.0.search found.ended.says.1
 
           moved : Moved s.core.search core.search
-          moved = subst (Moved s.core.search) (sym found.shown.search) found.ended.says.moved
+          moved = subst (Moved s.core.search) (sym found.shown.search) found.ended.says.0.moved
 
           lits : core.search.assumptions.lits.items ≡ s.asked.order.items
           lits = ap (λ ls. ls.items) moved.lits ∙ goes.lits
 
           complete : IsComplete core.search.assumptions.lits.items core.search.parts
-          complete = subst (λ (c : Search). IsComplete c.assumptions.lits.items c.parts) (sym found.shown.search) found.ended.says.complete
+          complete = subst (λ (c : Search). IsComplete c.assumptions.lits.items c.parts) (sym found.shown.search) found.ended.says.0.complete
 
           asked : AllByRecursion (λ l. Among l (line_by core.search)) s.assumed.items
-          asked = asked_shown s.names core.search.parts.assignment.current s.assumed.items s.asked.order.items whole.images
+          asked = asked_shown m core.search.parts.assignment.current s.assumed.items s.asked.order.items images
               (subst (λ ls. (k : ℕ) → k < length ls → IsTrueLit core.search.parts.assignment.current (get_or ls k 0)) lits complete.assumed)
 
       -- where assumptions were found that can't be true together
-      pub settled_core : Counts s (new states.UnsatUnderAssumptions) → FoundCore seen s.names s.core core told.failed_core.items → Settled seen s (new states.UnsatUnderAssumptions)
+      pub settled_core : Counts s (new states.UnsatUnderAssumptions) → FoundCore seen s.names m s.core core told.failed_core.items → Settled seen s (new states.UnsatUnderAssumptions)
       settled_core counts found = record {
         whole = record {
           stands = found.failed.joined.stands;
-          images = whole.images;
-          spelt = whole.spelt;
+          images = images;
+          spelt = kept_spelt found.ended.asked;
           globals = whole.globals ∙ sym (assumed_moved (session_in s) (session_of core.proof) s.core.search core.search goes.joined.sound.search.ready.asked found.failed.joined.sound.search.ready.asked moved);
           positive = positive;
           scaled = scaled core (found.failed.config ∙ found.ended.config);
@@ -210,72 +218,74 @@ module _ {W : Type 0} (seen : W → Writer) (s : Solver W) (whole : IsWhole s) w
             failed_is found.mid mid lits found.failed,
           );
         };
-        does = unknown_told states.UnsatUnderAssumptions (does_both s.names s.names s.names (steps_in s) (steps_of found.mid.proof) (steps_of core.proof) (λ j. j) (λ j. j) (λ j. []) (λ j. told_as states.Unknown states.UnsatUnderAssumptions (line_of s.names core) s.assumed.items told.failed_core.items)
-            (nothing_at seen s.names s.core goes.joined found.mid found.ended.steps found.ended.adds found.ended.searched found.ended.keeps)
-            (does_failed seen s.names found.mid mid core told.failed_core.items found.failed s.assumed.items s.asked.order.items whole.images lits));
+        does = unknown_told states.UnsatUnderAssumptions (does_both s.names m m (steps_in s) (steps_of found.mid.proof) (steps_of core.proof) (λ j. j) (λ j. j) (λ j. []) (λ j. told_as states.Unknown states.UnsatUnderAssumptions (line_of m core) s.assumed.items told.failed_core.items)
+            found.ended.does
+            (does_failed seen m found.mid mid core told.failed_core.items found.failed s.assumed.items s.asked.order.items images lits));
         comes = comes_both EndsAtUnsat (steps_in s) (steps_of found.mid.proof) (steps_of core.proof) found.ended.comes
-            (comes_one EndsAtUnsat (steps_of found.mid.proof) (steps_of core.proof) _ (found.failed.adds.history ∙ ap (λ ss. ss ++ steps_of found.mid.proof) found.failed.told.is) (λ u. absurd (true≢false (sym u ∙ found.ended.says.search.stands.fits.consistent))));
+            (comes_one EndsAtUnsat (steps_of found.mid.proof) (steps_of core.proof) _ (found.failed.adds.history ∙ ap (λ ss. ss ++ steps_of found.mid.proof) found.failed.told.is) (λ u. absurd (true≢false (sym u ∙ found.ended.says.0.search.stands.fits.consistent))));
         took = (_, adds_more seen found.ended.steps found.failed.steps s.core.proof found.mid.proof core.proof found.ended.adds found.failed.adds);
         same = refl;
+        users = found.ended.asked.users;
         config = found.failed.config ∙ found.ended.config;
         counts = counts;
         times = λ u. absurd (apart_core u);
         known = λ k. absurd (k unknown);
       }
         where
-          mid : IsJoined s.names found.mid
-          mid = joined_at seen s.names s.core goes.joined found.mid found.ended.steps found.ended.adds found.ended.searched found.ended.keeps found.ended.says.moved found.ended.says.search found.ended.config
+          images : Images m s.assumed.items s.asked.order.items
+          images = kept_images found.ended.asked
+
+          mid : IsJoined m found.mid
+          mid = joined_by s.names m s.core found.mid goes.joined found.ended.config found.ended.keeps found.ended.does.stands found.ended.says.0.search found.ended.says.1
 
           moved : Moved s.core.search core.search
           moved = record {
-            globals = found.failed.told.moved.globals ∙ found.ended.says.moved.globals;
-            lits = found.failed.told.moved.lits ∙ found.ended.says.moved.lits;
-            size = found.failed.told.moved.size ∙ found.ended.says.moved.size;
+            globals = found.failed.told.moved.globals ∙ found.ended.says.0.moved.globals;
+            lits = found.failed.told.moved.lits ∙ found.ended.says.0.moved.lits;
+            size = found.failed.told.moved.size ∙ found.ended.says.0.moved.size;
           }
 
           lits : found.mid.search.assumptions.lits.items ≡ s.asked.order.items
-          lits = ap (λ ls. ls.items) found.ended.says.moved.lits ∙ goes.lits
+          lits = ap (λ ls. ls.items) found.ended.says.0.moved.lits ∙ goes.lits
 
-          failed_is : (mid : Core W) → IsJoined s.names mid → mid.search.assumptions.lits.items ≡ s.asked.order.items → Failed seen s.names mid core told.failed_core.items → HasCore core s.assumed.items told.failed_core.items
+          failed_is : (mid : Core W) → IsJoined m mid → mid.search.assumptions.lits.items ≡ s.asked.order.items → Failed seen m mid core told.failed_core.items → HasCore core s.assumed.items told.failed_core.items
           failed_is mid joined lits f =
               let used = core.search.analysis.core in
               let codes = map (with_var (global_in mid.search)) used in
               let history : steps_of core.proof ≡ FailedAssumptions codes (causes_hashes mid.search.parts core.search.analysis.used) ∷ steps_of mid.proof = f.adds.history ∙ ap (λ ss. ss ++ steps_of mid.proof) f.told.is in
               let among : (k : ℕ) → k < length used → Contains s.asked.order.items (get_or used k 0) = λ k lt. subst (λ ls. Contains ls (get_or used k 0)) lits (f.told.failed.among k lt) in
               record {
-                some = λ e. some_mapped (name_of s.names) used f.told.failed.some (sym f.named ∙ e);
+                some = λ e. some_mapped (name_of m) used f.told.failed.some (sym f.named ∙ e);
                 codes = codes;
                 none = subst (λ ss. (a : Valuation) → Holds ss a → EachTrue a codes → ⊥) (sym history) (core_none (steps_of mid.proof) codes (causes_hashes mid.search.parts core.search.analysis.used) (subst MayAll history f.joined.sound.keeps));
                 same = subst (λ xs. SameSet (variable_of (steps_of core.proof)) (map named_literal xs) codes) (sym f.named)
-                    (core_spelt s.names (steps_of core.proof) f.joined.stands mid.search joined.shares s.assumed.items s.asked.order.items whole.images used among);
-                among = subst (AllByRecursion (λ l. Among l s.assumed.items)) (sym f.named) (core_among s.names (steps_of core.proof) f.joined.stands mid.search joined.shares s.assumed.items s.asked.order.items whole.images used among);
+                    (core_spelt m (steps_of core.proof) f.joined.stands mid.search joined.shares s.assumed.items s.asked.order.items images used among);
+                among = subst (AllByRecursion (λ l. Among l s.assumed.items)) (sym f.named) (core_among m (steps_of core.proof) f.joined.stands mid.search joined.shares s.assumed.items s.asked.order.items images used among);
               }
 
       -- where the clauses alone turned out to be unsatisfiable
-      pub settled_unsat : Counts s (new states.Unsat) → Ended seen s.core outcomes.Unsat core → Settled seen s (new states.Unsat)
+      pub settled_unsat : Counts s (new states.Unsat) → Ended seen s.core s.names outcomes.Unsat core m → Settled seen s (new states.Unsat)
       settled_unsat counts ended = record {
         whole = record {
-          stands = behind.stands;
-          images = whole.images;
-          spelt = whole.spelt;
-          globals = whole.globals ∙ sym (ap (λ ss. (session_after ss).assumed) ended.adds.history ∙ asked_after ended.steps (steps_in s) (kinds_of (session_in s).solver_names ended.steps ended.searched));
+          stands = ended.does.stands;
+          images = kept_images ended.asked;
+          spelt = kept_spelt ended.asked;
+          globals = whole.globals ∙ sym ended.asked.assumed;
           positive = positive;
           scaled = scaled core ended.config;
           decays = subst AreDecays (sym ended.config) whole.decays;
           says = ended.says;
         };
-        does = unknown_told states.Unsat behind;
+        does = unknown_told states.Unsat ended.does;
         comes = ended.comes;
         took = (ended.steps, ended.adds);
         same = refl;
+        users = ended.asked.users;
         config = ended.config;
         counts = counts;
         times = λ u. absurd (apart_unsat u);
         known = λ k. absurd (k unknown);
       }
-        where
-          behind : Does s.names s.names (steps_in s) (steps_of core.proof) (λ j. j) (λ j. [])
-          behind = nothing_at seen s.names s.core goes.joined core ended.steps ended.adds ended.searched ended.keeps
 
 -- the same over a proof with the same steps
 pub whole_over : {W : Type 0} (c : Core W) (n : Variables) (asked : Taken) (assumed core : List ℕ) (scale : ℕ) (state : State) (p : Proof W) → IsWholeOf c n asked assumed core scale state → steps_of p ≡ steps_of c.proof → IsWholeOf (record c { proof = p }) n asked assumed core scale state
@@ -332,6 +342,7 @@ module _ {W : Type 0} (seen : W → Writer) (old mid : Solver W) (settled : Sett
     comes = subst (Comes EndsAtUnsat (steps_in old)) (sym f.history) settled.comes;
     took = (_, adds_more seen settled.took.0 [] old.core.proof mid.core.proof p settled.took.1 (flush_records seen (Ok tt) mid.core.proof p f));
     same = ap (λ (m : Solver W). record m { core = record mid.core { proof = p } }) settled.same;
+    users = settled.users;
     config = settled.config;
     counts = record { on = settled.counts.on; round = settled.counts.round; spent = settled.counts.spent; answered = settled.counts.answered };
     times = λ u. let h = settled.times u in record { steps = h.steps; behind = f.history ∙ h.behind; times = h.times };
@@ -343,22 +354,22 @@ module _ {W : Type 0} (seen : W → Writer) (old mid : Solver W) (settled : Sett
   settled_broken (Write cause) f = (record { fault = tt; steps = _; went = fails_later seen settled.took.0 [] old.core.proof mid.core.proof p settled.took.1 f }, settled.counts.on)
   settled_broken OutOfMemory f = absurd f
 
-module _ {W : Type 0} (seen : W → Writer) (s : Solver W) (whole : IsWhole s) (unknown : s.state ≡ states.Unknown) (core : Core W) (told : Told) (clock : Clock) (scale : clock.restarts.scale ≡ s.clock.restarts.scale) (on : CountsOn (values_in s.core) s.core.config.max_steps s.clock.steps clock.steps) where
+module _ {W : Type 0} (seen : W → Writer) (s : Solver W) (whole : IsWhole s) (unknown : s.state ≡ states.Unknown) (core : Core W) (m : Variables) (told : Told) (clock : Clock) (scale : clock.restarts.scale ≡ s.clock.restarts.scale) (on : CountsOn (values_in s.core) s.core.config.max_steps s.clock.steps clock.steps) where
   goes_on : GoesOn s.core s.names s.asked
   goes_on = subst (λ st. StateSays st s.core s.names s.asked s.assumed.items s.told.failed_core.items) unknown whole.says
 
   -- an answer was found
-  pub settled_some : s.clock.steps < clock.steps → (st : State) → FoundSays seen st s.names s.core core told.failed_core.items → Settled seen s (record s { core = core; told = told; clock = clock; state = st })
+  pub settled_some : s.clock.steps < clock.steps → (st : State) → FoundSays seen st s.names m s.core core told.failed_core.items → Settled seen s (record s { core = core; names = m; told = told; clock = clock; state = st })
   settled_some round states.Unknown found = absurd found
-  settled_some round states.Sat found = settled_model seen s whole goes_on core told clock scale unknown (record { on = on; round = λ u k. round; spent = λ u. absurd (apart_sat u); answered = λ n le fits u. apart_sat u }) found
-  settled_some round states.UnsatUnderAssumptions found = settled_core seen s whole goes_on core told clock scale unknown (record { on = on; round = λ u k. round; spent = λ u. absurd (apart_core u); answered = λ n le fits u. apart_core u }) found
-  settled_some round states.Unsat found = settled_unsat seen s whole goes_on core told clock scale unknown (record { on = on; round = λ u k. round; spent = λ u. absurd (apart_unsat u); answered = λ n le fits u. apart_unsat u }) found
+  settled_some round states.Sat found = settled_model seen s whole goes_on core m told clock scale unknown (record { on = on; round = λ u k. round; spent = λ u. absurd (apart_sat u); answered = λ n le fits u. apart_sat u }) found
+  settled_some round states.UnsatUnderAssumptions found = settled_core seen s whole goes_on core m told clock scale unknown (record { on = on; round = λ u k. round; spent = λ u. absurd (apart_core u); answered = λ n le fits u. apart_core u }) found
+  settled_some round states.Unsat found = settled_unsat seen s whole goes_on core m told clock scale unknown (record { on = on; round = λ u k. round; spent = λ u. absurd (apart_unsat u); answered = λ n le fits u. apart_unsat u }) found
 
   -- or none by now
   pub settled_without : clock.steps ≡ s.clock.steps + steps_left s.core.config.max_steps s.clock.steps →
       ((n : ℕ) → values_in s.core ≤ n → 2 ^ (2 * n + 3) ≤ steps_left s.core.config.max_steps s.clock.steps → ⊥) →
-      FoundNone seen (clock.steps - s.clock.steps) s.core core → Settled seen s (record s { core = core; told = told; clock = clock })
-  settled_without spent answered found = settled_none seen s whole goes_on core told clock scale unknown (record { on = on; round = λ u k. absurd (k unknown); spent = λ u. spent; answered = λ n le fits u. answered n le fits }) found
+      FoundNone seen (clock.steps - s.clock.steps) s.names m s.core core → Settled seen s (record s { core = core; names = m; told = told; clock = clock })
+  settled_without spent answered found = settled_none seen s whole goes_on core m told clock scale unknown (record { on = on; round = λ u k. absurd (k unknown); spent = λ u. spent; answered = λ n le fits u. answered n le fits }) found
 
 -- a target was flushed
 pub flushed_by : {W : Type 0} (seen : W → Writer) (p q : Proof W) → Flushes seen p q → IsFlushed (target_of seen q)
@@ -378,7 +389,7 @@ module _ {W : Type 0} (seen : W → Writer) (s new : Solver W) (settled : Settle
     did = record { whole = settled.whole; going = going; failed = ap (λ (x : Solver W). x.failed) settled.same ∙ going; used = ap (λ (x : Solver W). x.used) settled.same; config = settled.config; does = settled.does; took = settled.took };
     comes = settled.comes;
     assumed = ap (λ (x : Solver W). x.assumed) settled.same;
-    names = ap (λ (x : Solver W). x.names) settled.same;
+    users = settled.users;
     counts = record { on = settled.counts.on; round = settled.counts.round; spent = settled.counts.spent; answered = settled.counts.answered };
     times = settled.times;
     flushed = flushed;

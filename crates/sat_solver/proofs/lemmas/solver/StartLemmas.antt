@@ -19,6 +19,7 @@ use Rattle.sat_solver.specs.names.Live.{given_of}
 use Rattle.sat_solver.specs.names.Calls.{Stands, Agree}
 use Rattle.sat_solver.specs.names.ProofChecking.{the_checking}
 use Rattle.sat_solver.proofs.lemmas.names.BridgeLemmas.{begun}
+use Rattle.sat_solver.specs.solver.Joined.{IsJoined}
 use Rattle.sat_solver.specs.solver.Whole.{IsWholeOf}
 use Rattle.sat_solver.specs.declared.solver.state.State.TheVariants as states
 
@@ -74,6 +75,18 @@ module _ (n : Variables) (tidy : AreTidy n) (none : variables_used n ≡ 0) wher
     bridge = begun the_checking;
   }
 
+  -- names and a search without steps are joined
+  pub joined_first : {W : Type 0} (c : Core W) → steps_of c.proof ≡ [] → IsSearch nothing c.search → c.search.parts.assignment.current ≡ [] → c.search.globals.items ≡ [] → 0 < c.config.reduce_locals_interval → 0 < c.config.reduce_mids_interval → IsJoined n c
+  joined_first c steps search values globals locals mids = record {
+    sound = record { keeps = subst MayAll (sym steps) tt; search = subst (λ ss. IsSearch (session_after ss) c.search) (sym steps) search; locals = locals; mids = mids };
+    stands = subst (Stands n) (sym steps) stands_first;
+    shares = record {
+      size = ap (λ xs. length xs) values ∙ sym (ap (λ xs. length xs) globals);
+      below = λ x v e. absurd (none-some x (sym (no_index v) ∙ tidy.solvers.forth v x e));
+      same = λ x v e. absurd (none-some x (sym (no_index v) ∙ tidy.solvers.forth v x e));
+    };
+  }
+
   -- a solver without steps is whole
   pub whole_first : {W : Type 0} (c : Core W) (asked : Taken) (assumed core : List ℕ) (scale : ℕ) → steps_of c.proof ≡ [] → IsSearch nothing c.search → c.search.parts.assignment.current ≡ [] → c.search.globals.items ≡ [] →
       0 < c.config.reduce_locals_interval → 0 < c.config.reduce_mids_interval → asked.order.items ≡ [] → asked.globals.items ≡ [] → assumed ≡ [] → 0 < scale → scale ≡ c.config.luby_restart_interval_scale → AreDecays c.config → IsWholeOf c n asked assumed core scale states.Unknown
@@ -86,15 +99,7 @@ module _ (n : Variables) (tidy : AreTidy n) (none : variables_used n ≡ 0) wher
     scaled = scaled;
     decays = decays;
     says = record {
-      joined = record {
-        sound = record { keeps = subst MayAll (sym steps) tt; search = subst (λ ss. IsSearch (session_after ss) c.search) (sym steps) search; locals = locals; mids = mids };
-        stands = stands;
-        shares = record {
-          size = ap (λ xs. length xs) values ∙ sym (ap (λ xs. length xs) globals);
-          below = λ x v e. absurd (none-some x (sym (no_index v) ∙ tidy.solvers.forth v x e));
-          same = λ x v e. absurd (none-some x (sym (no_index v) ∙ tidy.solvers.forth v x e));
-        };
-      };
+      joined = joined_first c steps search values globals locals mids;
       lits = none_mapped _ c.search.assumptions.lits.items search.ready.asked ∙ sym order;
     };
   }

@@ -12,14 +12,14 @@ one_more A m n le h = subst A (let e : m - n + 1 ≡ m + 1 - n = omega arith in 
 
 pub loop-steps-init : goal.loop-steps-init
 loop-steps-init g c = record {
-  sound = c.requires.1.1.0;
-  scale = c.requires.1.1.1.1;
+  sound = c.requires.1.1.1.0;
+  scale = c.requires.1.1.1.1.1;
   same = refl;
   most = refl;
   before = omega arith;
   within = omega (arith, c.saturating_add-end.ensures);
-  come = λ few. come_begins g.R.Rounds.words c.args.rounds.now (g.R.Rounds.most c.args.rounds.now) c.args.steps.now c.args.restarts.now.next c.args.restarts.now.sequence g.word c.requires.1.1.1.0 few;
-  goes = λ s h. from_start (λ k. g.R.Rounds.goes s k c.args.rounds.now) c.args.steps.now h;
+  come = λ few. come_begins g.R.Rounds.words c.args.rounds.now (g.R.Rounds.most c.args.rounds.now) c.args.steps.now c.args.restarts.now.next c.args.restarts.now.sequence g.word c.requires.1.1.1.1.0 few;
+  goes = λ s m h. from_start (λ k. g.R.Rounds.goes s m k c.args.rounds.now c.args.names.now) c.args.steps.now h;
 }
 
 pub loop-steps-preserved : goal.loop-steps-preserved
@@ -41,10 +41,10 @@ loop-steps-preserved g c =
           (subst (λ m. Climbs g.R.Rounds.words m c.reduce.new.self c.round.new.self) reduced (c.in_ok-outcome.ensures.words learned))
           (come_keeps g.R.Rounds.words c.restart_where_due.new.rounds c.reduce.new.self n c.args.steps.now c.loop-steps.steps c.restart_where_due.new.restarts.next c.restart_where_due.new.restarts.sequence
           c.in_ok-reduce.ensures.words (c.restart_where_due.ensures.come n c.args.steps.now (c.loop-steps.invariant.come few)));
-      goes = λ s h.
-          one_more (λ k. g.R.Rounds.goes s k c.round.new.self) c.loop-steps.steps c.args.steps.now c.loop-steps.invariant.before
-          (c.in_ok-outcome.ensures.goes learned s (c.loop-steps.steps - c.args.steps.now)
-          (c.in_ok-reduce.ensures.goes s (c.loop-steps.steps - c.args.steps.now) (c.restart_where_due.ensures.goes s (c.loop-steps.steps - c.args.steps.now) (c.loop-steps.invariant.goes s h))));
+      goes = λ s m h.
+          one_more (λ k. g.R.Rounds.goes s m k c.round.new.self c.round.new.names) c.loop-steps.steps c.args.steps.now c.loop-steps.invariant.before
+          (c.in_ok-outcome.ensures.goes learned s m (c.loop-steps.steps - c.args.steps.now)
+          (c.in_ok-reduce.ensures.goes s m (c.loop-steps.steps - c.args.steps.now) (c.restart_where_due.ensures.goes s m (c.loop-steps.steps - c.args.steps.now) (c.loop-steps.invariant.goes s m h))));
     }
 
 pub returns-then-not-is_learned-clause-counts : goal.returns-then-not-is_learned-clause-counts
@@ -73,7 +73,7 @@ returns g c =
       interrupted = λ e. omega (arith, c.loop-steps-test.false, c.saturating_add-end.ensures, c.loop-steps.invariant.within);
       answered = λ n le left e. none_left n (g.R.Rounds.most c.args.rounds.now) c.args.steps.now c.loop-steps.steps c.args.max_steps le (omega (arith, few)) c.loop-steps.invariant.before left
           (omega (arith, c.loop-steps-test.false, c.saturating_add-end.ensures));
-      goes = λ e. (c.loop-steps.invariant.sound, c.loop-steps.invariant.most, λ s h. c.loop-steps.invariant.goes s h);
+      goes = λ e. (c.loop-steps.invariant.sound, c.loop-steps.invariant.most, λ s m h. c.loop-steps.invariant.goes s m h);
       ends = tt;
       fails = tt;
     }

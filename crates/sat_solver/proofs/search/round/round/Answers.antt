@@ -1,17 +1,12 @@
-use Rattle.std.proofs.Common.{subst}
-use Rattle.sat_solver.specs.session.ProofView.{steps_of, session_of}
-use Rattle.sat_solver.specs.declared.search.advance.Stop.TheVariants.{Falsified}
-use Rattle.sat_solver.specs.search.Turns.{Stopped}
-use Rattle.sat_solver.specs.search.Rounds.{RoundSays}
-use Rattle.sat_solver.proofs.lemmas.search.GoingLemmas.{goes_behind}
-use Rattle.sat_solver.proofs.lemmas.search.RoundLemmas.{round_from}
+use Rattle.sat_solver.proofs.lemmas.search.EndingLemmas.{ends_refuted, ends_on}
 use Rattle.sat_solver.proofs.search.round.round.Goals as goal
 
-pub returns-in-Falsified : goal.returns-in-Falsified
-returns-in-Falsified g c =
-    goes_behind g.W.CountedWrite.seen c.in_ok-stop.stop c.resolve.result c.args.proof.now c.find_stop.new.proof c.resolve.new.proof _ _ _ c.in_ok-stop.ensures c.resolve.ensures
-    (λ xs ys outcome added stopped says.
-    let x : Stopped (Falsified c.in-Falsified.conflict) (session_of c.find_stop.new.proof) c.args.search.now c.find_stop.new.search =
-    subst (λ stop. Stopped stop (session_of c.find_stop.new.proof) c.args.search.now c.find_stop.new.search) c.in-Falsified.is stopped in
-    round_from outcome (steps_of c.args.proof.now) xs ys (session_of c.resolve.new.proof) c.args.search.now c.find_stop.new.search c.resolve.new.search x.moved x.word
-    (subst (λ zs. RoundSays outcome zs ys (session_of c.resolve.new.proof) c.find_stop.new.search c.resolve.new.search) added says))
+pub returns-in-Ok-Some : goal.returns-in-Ok-Some
+returns-in-Ok-Some g c =
+    ends_refuted g.W.CountedWrite.seen c.args.names.now c.begin_round.new.names c.args.proof.now c.begin_round.new.proof c.args.search.now c.begin_round.new.search c.requires.together c.in-Ok-Some.conflict (rw c.in-Ok-Some.field-0-is at c.in-Ok-Some.ensures)
+    c.resolve.result c.resolve.new.proof c.resolve.new.search c.resolve.ensures
+
+pub returns-in-Ok-None : goal.returns-in-Ok-None
+returns-in-Ok-None g c =
+    ends_on g.W.CountedWrite.seen c.args.names.now c.begin_round.new.names c.args.proof.now c.begin_round.new.proof c.args.search.now c.begin_round.new.search (rw c.in-Ok-None.field-0-is at c.in-Ok-None.ensures)
+    c.search_on.result c.search_on.new.proof c.search_on.new.search c.search_on.ensures

@@ -4,23 +4,23 @@ use Rattle.sat_solver.proofs.search.solving.solve.Goals as goal
 
 pub returns-clause-goes : goal.returns-clause-goes
 returns-clause-goes g c =
-    ok_map c.search.result _ _ (λ r h e. let x = h e in (x.0, x.2 c.args.core.now (gone_none g.W.CountedWrite.seen c.args.core.now))) c.search.ensures.goes
+    ok_map c.search.result _ _ (λ r h e. let x = h e in (x.0, x.2 c.args.core.now c.args.names.now (gone_none g.W.CountedWrite.seen c.args.core.now c.args.names.now c.requires.joined.stands))) c.search.ensures.goes
 
 pub returns-clause-ends : goal.returns-clause-ends
 returns-clause-ends g c =
-    ok_map c.search.result _ _ (λ r h. some_map r _ _ (λ o x. x c.args.core.now (gone_none g.W.CountedWrite.seen c.args.core.now)) h) c.search.ensures.ends
+    ok_map c.search.result _ _ (λ r h. some_map r _ _ (λ o x. x c.args.core.now c.args.names.now (gone_none g.W.CountedWrite.seen c.args.core.now c.args.names.now c.requires.joined.stands)) h) c.search.ensures.ends
 
 pub returns-clause-fails : goal.returns-clause-fails
 returns-clause-fails g c =
-    err_map c.search.result _ _ (λ e h. h c.args.core.now (gone_none g.W.CountedWrite.seen c.args.core.now)) c.search.ensures.fails
+    err_map c.search.result _ _ (λ e h. h c.args.core.now c.args.names.now (gone_none g.W.CountedWrite.seen c.args.core.now c.args.names.now c.requires.joined.stands)) c.search.ensures.fails
 
 pub search-requires : goal.search-requires
 search-requires g c = λ κs long.
-    (let κ = κs.1.1.1.0 in
+    (let κ = κs.1.1.1.1.0 in
     let n = ⊑_static κ in
     let a = ⊑_meet κ g.row.W.lives _ long n in
     let s = ⊑_meet κ _ _ a (⊑_meet κ _ _ (⊑_meet κ _ _ a a) n) in
     let l = ⊑_meet κ _ _ a a in
     let o = ⊑_meet κ _ _ a (⊑_meet κ _ _ (⊑_meet κ _ _ s n) (⊑_meet κ _ _ (⊑_meet κ _ _ l n) n)) in
     let r = ⊑_meet κ _ _ (⊑_meet κ _ _ o n) (⊑_meet κ _ _ (⊑_meet κ _ _ o n) n) in
-    (⊑_meet κ _ _ a (⊑_meet κ _ _ (⊑_meet κ _ _ a (⊑_meet κ _ _ r n)) n), (⊑_static κs.1.1.1.1.0, (c.requires.core, (core_word c.args.core.now, c.requires.scale)))))
+    (⊑_meet κ _ _ a (⊑_meet κ _ _ (⊑_meet κ _ _ a (⊑_meet κ _ _ r n)) n), (⊑_static κs.1.1.1.1.1.0, (⊑_static κs.1.1.1.1.1.1.0, (c.requires.joined, (core_word c.args.core.now, c.requires.scale))))))

@@ -1,6 +1,10 @@
-use Rattle.std.proofs.Common.{◌∙◌, false, sym, arith}
+use Rattle.std.proofs.Common.{◌≡◌, ◌∙◌, Some, false, sym, subst, arith, length}
+use Rattle.std.proofs.lemmas.Bool.{true≢false}
+use Rattle.sat_solver.specs.session.Session.{session_after}
+use Rattle.sat_solver.specs.names.Variables.{global_at}
+use Rattle.sat_solver.specs.simplify.Freed.{AreLeft}
 use Rattle.std.proofs.lemmas.List.{get_or_default}
-use Rattle.sat_solver.proofs.lemmas.simplify.FreedLemmas.{frees_none, frees_both, may_free_on}
+use Rattle.sat_solver.proofs.lemmas.simplify.FreedLemmas.{frees_none, frees_both, may_free_on, left_none, left_used, left_more}
 use Rattle.sat_solver.proofs.lemmas.names.CameLemmas.{came_on}
 use Rattle.sat_solver.proofs.simplify.freeing.free_indices.Goals as goal
 
@@ -11,10 +15,15 @@ loop-index-init g c = record {
   frees = frees_none c.args.variables.now (g.S.StepWriter.steps c.args.writer.now) c.args.search.now c.requires.may;
   size = c.in_ok-mark_used.ensures.size;
   unused = c.in_ok-mark_used.ensures.unused;
+  others = c.in_ok-mark_used.ensures.others;
+  left = left_none c.args.variables.now (session_after (g.S.StepWriter.steps c.args.writer.now)) c.args.search.now.parts;
 }
 
 pub loop-index-preserved-then-index : goal.loop-index-preserved-then-index
 loop-index-preserved-then-index g c = record {
+  others = c.loop-index.invariant.others;
+  left = left_used c.args.variables.now c.loop-index.variables c.loop-index.variables (session_after (g.S.StepWriter.steps c.args.writer.now)) (session_after (g.S.StepWriter.steps c.loop-index.writer)) c.args.search.now.parts c.loop-index.index c.loop-index.invariant.left
+      (λ none. true≢false (sym c.if-index.true ∙ c.index.ensures ∙ sym (get_or_default c.mark_used.new.used.items c.loop-index.index false c.index.result.now (omega (arith, c.loop-index-test.true, c.len-index-end.ensures))) ∙ c.loop-index.invariant.others c.loop-index.index none));
   keeps = c.loop-index.invariant.keeps;
   came = c.loop-index.invariant.came;
   frees = c.loop-index.invariant.frees;
@@ -41,6 +50,9 @@ free_unused-requires-clause-unused g c =
 
 pub loop-index-preserved : goal.loop-index-preserved
 loop-index-preserved g c = record {
+  others = c.loop-index.invariant.others;
+  left = left_more c.args.variables.now c.loop-index.variables c.free_unused.new.variables (session_after (g.S.StepWriter.steps c.args.writer.now)) (session_after (g.S.StepWriter.steps c.loop-index.writer)) c.args.search.now.parts c.loop-index.index c.loop-index.invariant.left
+      c.in_ok-free_unused.ensures.frees.fewer c.loop-index.invariant.frees.asked.assumed (λ v e. c.in_ok-free_unused.ensures.left v (subst (λ x. global_at c.free_unused.new.variables x ≡ Some v) (sym c.from_index.ensures) e));
   keeps = c.in_ok-free_unused.ensures.keeps;
   came = λ w t. c.in_ok-free_unused.ensures.came w (c.loop-index.invariant.came w t);
   frees = frees_both c.args.variables.now c.loop-index.variables c.free_unused.new.variables (g.S.StepWriter.steps c.args.writer.now) (g.S.StepWriter.steps c.loop-index.writer) (g.S.StepWriter.steps c.free_unused.new.writer) c.args.search.now c.loop-index.search c.free_unused.new.search
@@ -48,6 +60,11 @@ loop-index-preserved g c = record {
   size = c.loop-index.invariant.size;
   unused = c.loop-index.invariant.unused;
 }
+
+pub returns-clause-left : goal.returns-clause-left
+returns-clause-left g c =
+    let end : c.loop-index.index ≡ length c.args.search.now.parts.assignment.current = omega (arith, c.loop-index-test.false, c.loop-index.auto.index-end, c.len-index-end.ensures, c.loop-index.invariant.size) in
+    subst (λ k. AreLeft c.loop-index.variables (session_after (g.S.StepWriter.steps c.args.writer.now)) c.args.search.now.parts k) end c.loop-index.invariant.left
 
 pub returns-clause-frees : goal.returns-clause-frees
 returns-clause-frees g c = c.loop-index.invariant.frees

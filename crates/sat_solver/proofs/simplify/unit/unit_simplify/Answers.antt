@@ -10,7 +10,7 @@ free_indices-requires-clause-may g c =
 pub returns-in-Ok : goal.returns-in-Ok
 returns-in-Ok g c =
     simplified g.W.CountedWrite.seen c.args.names.now c.free_indices.new.variables c.args.proof.now c.lighten.new.proof c.free_indices.new.writer c.args.search.now c.lighten.new.search c.free_indices.new.search c.requires.together c.requires.flat c.in_ok-lighten.ensures
-    c.in-Ok.ensures.frees c.in-Ok.ensures.keeps c.in-Ok.ensures.came
+    c.in-Ok.ensures.frees c.in-Ok.ensures.left c.in-Ok.ensures.keeps c.in-Ok.ensures.came
 
 pub returns : goal.returns
 returns g c =

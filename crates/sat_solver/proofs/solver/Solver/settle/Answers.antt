@@ -30,12 +30,12 @@ none_some o st e f = cc
 pub returns-in-Some : goal.returns-in-Some
 returns-in-Some g c =
     let s = c.args.self.now in
-    settled_some g.W.CountedWrite.seen s c.requires.whole c.in-Unknown.is c.find_answer.new.core c.find_answer.new.told c.find_answer.new.clock c.in_ok-found.ensures.scale c.in_ok-found.ensures.counts (c.in_ok-found.ensures.round (λ e. none_some c.in_ok-found.found c.in-Some.state e c.in-Some.is)) c.in-Some.state
-    (subst (λ (o : Option State). Finds g.W.CountedWrite.seen o (c.find_answer.new.clock.steps - s.clock.steps) s.names s.core c.find_answer.new.core c.find_answer.new.told.failed_core.items) c.in-Some.is c.in_ok-found.ensures.finds)
+    settled_some g.W.CountedWrite.seen s c.requires.whole c.in-Unknown.is c.find_answer.new.core c.find_answer.new.names c.find_answer.new.told c.find_answer.new.clock c.in_ok-found.ensures.scale c.in_ok-found.ensures.counts (c.in_ok-found.ensures.round (λ e. none_some c.in_ok-found.found c.in-Some.state e c.in-Some.is)) c.in-Some.state
+    (subst (λ (o : Option State). Finds g.W.CountedWrite.seen o (c.find_answer.new.clock.steps - s.clock.steps) s.names c.find_answer.new.names s.core c.find_answer.new.core c.find_answer.new.told.failed_core.items) c.in-Some.is c.in_ok-found.ensures.finds)
 
 pub returns-in_default : goal.returns-in_default
 returns-in_default g c =
     let s = c.args.self.now in
-    settled_without g.W.CountedWrite.seen s c.requires.whole c.in-Unknown.is c.find_answer.new.core c.find_answer.new.told c.find_answer.new.clock c.in_ok-found.ensures.scale c.in_ok-found.ensures.counts
+    settled_without g.W.CountedWrite.seen s c.requires.whole c.in-Unknown.is c.find_answer.new.core c.find_answer.new.names c.find_answer.new.told c.find_answer.new.clock c.in_ok-found.ensures.scale c.in_ok-found.ensures.counts
     (c.in_ok-found.ensures.interrupted c.in_default.is) (λ n le fits. c.in_ok-found.ensures.answered n le fits c.in_default.is)
-    (subst (λ (o : Option State). Finds g.W.CountedWrite.seen o (c.find_answer.new.clock.steps - s.clock.steps) s.names s.core c.find_answer.new.core c.find_answer.new.told.failed_core.items) c.in_default.is c.in_ok-found.ensures.finds)
+    (subst (λ (o : Option State). Finds g.W.CountedWrite.seen o (c.find_answer.new.clock.steps - s.clock.steps) s.names c.find_answer.new.names s.core c.find_answer.new.core c.find_answer.new.told.failed_core.items) c.in_default.is c.in_ok-found.ensures.finds)

@@ -1,16 +1,24 @@
+use Rattle.std.proofs.Common.{refl}
 use Rattle.sat_solver.specs.session.ProofView.{session_of}
+use Rattle.sat_solver.specs.declared.search.work.Search.{Search}
 use Rattle.sat_solver.specs.search.Joint.{assumed_in}
 use Rattle.sat_solver.proofs.lemmas.search.SolvingLemmas.{words_stay, search_undone}
+use Rattle.sat_solver.proofs.lemmas.solver.TellingLemmas.{shares_moved}
 use Rattle.sat_solver.proofs.search.solving.CoreRounds.restart.Goals as goal
 
 pub returns-clause-sound : goal.returns-clause-sound
 returns-clause-sound g c =
     let e = c.restart.ensures in
+    let d : Search = record c.args.self.now.search { parts = c.restart.new.parts } in
     record {
-      keeps = c.requires.keeps;
-      search = search_undone (session_of c.args.self.now.proof) c.args.self.now.search c.restart.new.parts c.requires.search e.holds e.same e.carries e.stay e.placed;
-      locals = c.requires.locals;
-      mids = c.requires.mids;
+      sound = record {
+        keeps = c.requires.sound.keeps;
+        search = search_undone (session_of c.args.self.now.proof) c.args.self.now.search c.restart.new.parts c.requires.sound.search e.holds e.same e.carries e.stay e.placed;
+        locals = c.requires.sound.locals;
+        mids = c.requires.sound.mids;
+      };
+      stands = c.requires.stands;
+      shares = shares_moved c.args._names.now c.args.self.now.search d c.requires.shares (record { globals = refl; lits = refl; size = e.carries.size });
     }
 
 pub returns-clause-words : goal.returns-clause-words

@@ -1,15 +1,34 @@
 use Rattle.std.proofs.Common.{refl}
-use Rattle.sat_solver.proofs.lemmas.search.SolvingLemmas.{broke, round_words, round_goes, round_ends}
+use Rattle.sat_solver.specs.declared.search.solving.Core.{Core}
+use Rattle.sat_solver.proofs.lemmas.search.SolvingLemmas.{round_sound, round_most, round_words, round_goes, round_ends, round_fails}
 use Rattle.sat_solver.proofs.search.solving.CoreRounds.round.Goals as goal
 
+pub returns-clause-sound : goal.returns-clause-sound
+returns-clause-sound g c =
+    let b : Core g.row.W.Denot = record c.args.self.now { proof = c.round.new.proof; search = c.round.new.search } in
+    round_sound g.W.CountedWrite.seen c.args.self.now b c.args.names.now c.round.new.names refl c.requires c.round.result c.round.ensures
+
+pub returns-clause-most : goal.returns-clause-most
+returns-clause-most g c =
+    let b : Core g.row.W.Denot = record c.args.self.now { proof = c.round.new.proof; search = c.round.new.search } in
+    round_most g.W.CountedWrite.seen c.args.self.now b c.args.names.now c.round.new.names refl c.requires c.round.result c.round.ensures
+
 pub returns-clause-words : goal.returns-clause-words
-returns-clause-words g c = round_words g.W.CountedWrite.seen c.args.self.now _ refl c.round.result c.round.ensures
+returns-clause-words g c =
+    let b : Core g.row.W.Denot = record c.args.self.now { proof = c.round.new.proof; search = c.round.new.search } in
+    round_words g.W.CountedWrite.seen c.args.self.now b c.args.names.now c.round.new.names refl c.requires c.round.result c.round.ensures
 
 pub returns-clause-goes : goal.returns-clause-goes
-returns-clause-goes g c = round_goes g.W.CountedWrite.seen c.args.self.now _ refl c.round.result c.round.ensures
+returns-clause-goes g c =
+    let b : Core g.row.W.Denot = record c.args.self.now { proof = c.round.new.proof; search = c.round.new.search } in
+    round_goes g.W.CountedWrite.seen c.args.self.now b c.args.names.now c.round.new.names refl c.requires c.round.result c.round.ensures
 
 pub returns-clause-ends : goal.returns-clause-ends
-returns-clause-ends g c = round_ends g.W.CountedWrite.seen c.args.self.now _ refl c.round.result c.round.ensures
+returns-clause-ends g c =
+    let b : Core g.row.W.Denot = record c.args.self.now { proof = c.round.new.proof; search = c.round.new.search } in
+    round_ends g.W.CountedWrite.seen c.args.self.now b c.args.names.now c.round.new.names refl c.requires c.round.result c.round.ensures
 
 pub returns-clause-fails : goal.returns-clause-fails
-returns-clause-fails g c = broke g.W.CountedWrite.seen c.args.self.now (record { proof = c.round.new.proof; search = c.round.new.search; config = c.args.self.now.config }) refl c.round.result _ c.requires.keeps c.round.ensures
+returns-clause-fails g c =
+    let b : Core g.row.W.Denot = record c.args.self.now { proof = c.round.new.proof; search = c.round.new.search } in
+    round_fails g.W.CountedWrite.seen c.args.self.now b c.args.names.now c.round.new.names refl c.requires c.round.result c.round.ensures

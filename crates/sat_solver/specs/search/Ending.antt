@@ -1,0 +1,36 @@
+-- How a round ends that may begin with a simplification.
+use Rattle.std.specs.Prelude.{List, MatchResult, Result}
+use Rattle.sat_base.specs.device.Device.{Writer}
+use Rattle.sat_base.specs.steps.Steps.{Step}
+use Rattle.sat_solver.specs.session.ProofView.{Adds, Keeps, steps_of, session_of}
+use Rattle.sat_solver.specs.declared.session.proof.Proof.{Proof}
+use Rattle.sat_solver.specs.declared.bound.search.Outcome.{Outcome}
+use Rattle.sat_solver.specs.declared.bound.search.Outcome.TheVariants as outcomes
+use Rattle.sat_solver.specs.declared.error.SolverError.{SolverError}
+use Rattle.sat_solver.specs.names.Calls.{DoesNothing}
+use Rattle.sat_solver.specs.declared.names.Variables.{Variables}
+use Rattle.sat_solver.specs.declared.search.work.Search.{Search}
+use Rattle.sat_solver.specs.search.Rounds.{RoundSays}
+use Rattle.sat_solver.specs.loading.Shared.{SharesIndices}
+use Rattle.sat_solver.specs.simplify.Freed.{KeepsAsked}
+use Rattle.sat_solver.specs.simplify.Passes.{Falls}
+
+-- names and search share their indices, unless no valuation is left
+abbrev pub RoundShares : Outcome → Variables → Search → Type 0
+RoundShares outcomes.Learned n c = SharesIndices n c
+RoundShares outcomes.Model n c = SharesIndices n c
+RoundShares outcomes.Unsat n c = Unit {0}
+RoundShares outcomes.Failed n c = SharesIndices n c
+
+-- how it ended, and what it leaves of names and proof: the judge sees nothing of it
+pub record RoundEnds {W : Type 0} (seen : W → Writer) (outcome : Outcome) (n n' : Variables) (p p' : Proof W) (c c' : Search) : Type 0 where
+  pub steps : List Step
+  pub adds : Adds seen steps p p'
+  pub keeps : Keeps p'
+  pub does : DoesNothing n n' (steps_of p) (steps_of p')
+  pub asked : KeepsAsked n n' (session_of p) (session_of p')
+  pub says : RoundSays outcome (steps_of p) steps (session_of p') c c'
+  pub shares : RoundShares outcome n' c'
+
+abbrev pub EndsRound : {W : Type 0} → (W → Writer) → Result Outcome SolverError → Variables → Variables → Proof W → Proof W → Search → Search → Type 0
+EndsRound seen r n n' p p' c c' = MatchResult r (λ o. RoundEnds seen o n n' p p' c c') (λ e. Falls seen e p p')
