@@ -9,6 +9,8 @@ mod certificates;
 #[cfg(test)]
 mod devices;
 #[cfg(test)]
+mod naming;
+#[cfg(test)]
 mod proof;
 #[cfg(test)]
 mod searcher;
@@ -16,3 +18,5 @@ mod searcher;
 mod searching;
 #[cfg(test)]
 mod solver;
+#[cfg(test)]
+mod texts;

@@ -31,7 +31,7 @@ pub(crate) fn read(lits: &mut Vec<Lit>, numbers: &[i64]) -> Result<(), AllocErro
 }
 
 /// Whether the literals are these numbers, in order.
-fn are(lits: &[Lit], numbers: &[i64]) -> bool {
+pub(crate) fn are(lits: &[Lit], numbers: &[i64]) -> bool {
     if lits.len() != numbers.len() {
         return false;
     }
