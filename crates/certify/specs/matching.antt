@@ -3,3 +3,7 @@ pub mod Comparing
 pub mod Following
 pub mod Awaiting
 pub mod Naming
+pub mod Confirming
+pub mod Halting
+pub mod Lines
+pub mod Sessions

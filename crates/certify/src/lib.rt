@@ -1,6 +1,7 @@
 //! Answers scripts of clauses and asks, with a certificate that is checked.
 #![tactic(auto)]
 
+mod ahead;
 pub mod answers;
 pub mod confirm;
 pub mod fault;

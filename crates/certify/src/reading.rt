@@ -3,6 +3,7 @@
 mod commands;
 mod draft;
 mod reader;
+pub(crate) mod stream;
 
 pub use reader::ScriptReader;
 use sat_base::Lit;

@@ -7,3 +7,9 @@ pub mod Met
 pub mod Naming
 pub mod NamesMet
 pub mod NamesExpected
+pub mod UsedNames
+pub mod AskedWhole
+pub mod CommandsMet
+pub mod Joining
+pub mod Lines
+pub mod SessionMet

@@ -2,3 +2,5 @@ pub mod LanguageComputed
 pub mod Drafts
 pub mod Tokens
 pub mod Bytes
+pub mod Ahead
+pub mod Streaming

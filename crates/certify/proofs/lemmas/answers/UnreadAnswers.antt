@@ -43,7 +43,7 @@ no_kind bytes w n o tail e = let l = lines_of o tail bytes e in go w l.kind n l.
     go fault.OutOfMemory k n t = n
 
 -- one first line
-same_kind : (k m : AnswerKind) (x y : List ℕ) → first_line k ++ x ≡ first_line m ++ y → (k ≡ m) × (x ≡ y)
+pub same_kind : (k m : AnswerKind) (x y : List ℕ) → first_line k ++ x ≡ first_line m ++ y → (k ≡ m) × (x ≡ y)
 same_kind kind.Sat kind.Sat x y e = (refl, append_cancel_left s_satisfiable x y e)
 same_kind kind.Unsat kind.Unsat x y e = (refl, append_cancel_left s_unsatisfiable x y e)
 same_kind kind.Unknown kind.Unknown x y e = (refl, append_cancel_left s_unknown x y e)

@@ -19,7 +19,7 @@ use Rattle.certify.specs.declared.verdict.Why.{Why}
 use Rattle.certify.proofs.lemmas.confirm.CertificatePlaces.{cut_met}
 use Rattle.certify.proofs.lemmas.confirm.LeftByCommand.{Rest, left_begins, end_on, end_back}
 
-nothing_met : (earlier : List Step) (bytes : List ℕ) → CanMeet earlier [] bytes
+pub nothing_met : (earlier : List Step) (bytes : List ℕ) → CanMeet earlier [] bytes
 nothing_met earlier bytes = go (ready_after earlier).unsat refl
   where
     go : (b : Bool) → (ready_after earlier).unsat ≡ b → CanMeet earlier [] bytes

@@ -280,6 +280,9 @@ some_byte step text h = let e : length text ≡ length h.0 + 1 = ap length h.1 �
     more : (b : ℕ) (bs : List ℕ) → length (b ∷ bs) ≡ length bs + 1
     more b bs = omega arith
 
+pub passes_fewer : (s t : Source) (text : List ℕ) → t.reads ≤ most_reads → Passes s t text → 0 < length text → bytes_left t < bytes_left s
+passes_fewer s t text k p some = less_left most_reads s.reads t.reads (length s.waiting) (length t.waiting) (length text) (length p.fresh) p.room (flowed s.waiting p.fresh text t.waiting p.flows) some k
+
 pub step_takes : (step : Step) (s t : Source) → t.reads ≤ most_reads → Answers (Ok step) s t → bytes_left t < bytes_left s
 step_takes step s t k h = less_left most_reads s.reads t.reads (length s.waiting) (length t.waiting) (length h.0) (length h.1.fresh) h.1.room (flowed s.waiting h.1.fresh h.0 t.waiting h.1.flows) (some_byte step h.0 h.2) k
 
@@ -287,7 +290,7 @@ none_waits : (known : Option (List ℕ)) (ws : List ℕ) → ws ≡ [] → IsAtE
 none_waits None ws e h = tt
 none_waits (Some xs) ws e h = sym (ap (λ (z : List ℕ). z ++ xs) e) ∙ h
 
-all_over : (s : Source) → AllTaken s → IsAtEnd s.reader.to_come
+pub all_over : (s : Source) → AllTaken s → IsAtEnd s.reader.to_come
 all_over s t = none_waits s.reader.to_come s.waiting t.waiting t.over
 
 -- no step stands there

@@ -30,7 +30,7 @@ pub all_none : (names : NamedVars) (a : Stream) → Confirms (Ok tt) a a (MeetsA
 all_none names a = confirms_none tt a (MeetsAll [] names names) (λ total earlier s. record { later = earlier; stands = s; leads = leads_nowhere earlier (seen_in total a).rest })
 
 -- one thing that is expected, whatever outcome and ask
-one : (due : Due) (e : Expected) → ((o : Outcome) (ask : List Literal) → due o ask ≡ e) → Allows e → (before after : NamedVars) (u v : View) (y : Result (Unit {0}) Why) → MeetsDue due before after u v y → MeetsAll (e ∷ []) before after u v y
+pub one : (due : Due) (e : Expected) → ((o : Outcome) (ask : List Literal) → due o ask ≡ e) → Allows e → (before after : NamedVars) (u v : View) (y : Result (Unit {0}) Why) → MeetsDue due before after u v y → MeetsAll (e ∷ []) before after u v y
 one due e is free before after u v (Ok x) m = λ earlier s.
     let k = m earlier s in
     record {

@@ -1,0 +1,17 @@
+use Rattle.std.proofs.Common.{◌≡◌, ◌<◌, ◌^◌, ◌++◌, [], Ok, Err, OnOk, Bool, true, false, List, ℕ, refl, sym, ◌∙◌, ap, subst, arith}
+use Rattle.std.proofs.lemmas.Result.{err_from_is_err_and}
+use Rattle.std.specs.Bool.{MatchBool}
+use Rattle.certify.specs.answers.Answers.{refused_line}
+use Rattle.certify.specs.confirm.ConfirmedCommands.{TakesLine}
+use Rattle.certify.specs.matching.Halting.{Replies}
+use Rattle.certify.specs.matching.Lines.{IsLine, answers_source, refusal_in}
+use Rattle.certify.proofs.matching.answers.Answers.refuse.Goals as goal
+
+pub take_due-requires-clause-line : goal.take_due-requires-clause-line
+take_due-requires-clause-line g c = subst IsLine (sym (c.in_ok-push_refused.ensures.text ∙ ap (λ (xs : List ℕ). xs ++ refused_line c.args.number (refusal_in c.args.refusal)) c.clear.ensures.items)) c.in_ok-push_refused.ensures.line
+
+pub returns : goal.returns
+returns g c =
+    let A = g.A.CountedRead.seen in
+    subst (λ (t : List ℕ). Replies true c.take_due.result (answers_source A c.args.answers.now c.args.self.now) (answers_source A c.take_due.new.answers c.take_due.new.self) (λ before behind. TakesLine before behind t))
+    (c.in_ok-push_refused.ensures.text ∙ ap (λ (xs : List ℕ). xs ++ refused_line c.args.number (refusal_in c.args.refusal)) c.clear.ensures.items) c.take_due.ensures

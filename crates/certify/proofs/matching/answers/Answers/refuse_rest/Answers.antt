@@ -1,0 +1,18 @@
+use Rattle.std.proofs.Common.{◌≡◌, ◌<◌, ◌^◌, ◌++◌, [], Ok, Err, OnOk, Bool, true, false, List, ℕ, refl, sym, ◌∙◌, ap, subst, arith}
+use Rattle.std.proofs.lemmas.Result.{err_from_is_err_and}
+use Rattle.std.specs.Bool.{MatchBool}
+use Rattle.certify.specs.answers.Answers.{malformed_line}
+use Rattle.certify.specs.confirm.ConfirmedCommands.{TakesLine}
+use Rattle.certify.specs.matching.Halting.{Replies}
+use Rattle.certify.specs.matching.Lines.{IsLine, answers_source}
+use Rattle.certify.proofs.lemmas.matching.Lines.{malformed_is_line}
+use Rattle.certify.proofs.matching.answers.Answers.refuse_rest.Goals as goal
+
+pub take_due-requires-clause-line : goal.take_due-requires-clause-line
+take_due-requires-clause-line g c = subst IsLine (sym (c.in_ok-push_malformed.ensures ∙ ap (λ (xs : List ℕ). xs ++ malformed_line c.args.number) c.clear.ensures.items)) (malformed_is_line c.args.number (omega arith))
+
+pub returns : goal.returns
+returns g c =
+    let A = g.A.CountedRead.seen in
+    subst (λ (t : List ℕ). Replies true c.take_due.result (answers_source A c.args.answers.now c.args.self.now) (answers_source A c.take_due.new.answers c.take_due.new.self) (λ before behind. TakesLine before behind t))
+    (c.in_ok-push_malformed.ensures ∙ ap (λ (xs : List ℕ). xs ++ malformed_line c.args.number) c.clear.ensures.items) c.take_due.ensures

@@ -1,0 +1,41 @@
+use Rattle.std.proofs.Common.{◌≡◌, ◌<◌, [], List, ℕ, Ok, length, refl, sym, ◌∙◌, ap, subst, arith}
+use Rattle.sat_base.specs.declared.device.whole.ReadError.{ReadError}
+use Rattle.certify.specs.declared.reading.Reached.{Reached}
+use Rattle.certify.specs.declared.reading.ScriptEnd.TheVariants as ends
+use Rattle.certify.specs.reading.Ahead.{waiting}
+use Rattle.certify.specs.reading.Streaming.{Takes}
+use Rattle.certify.proofs.lemmas.matching.Compared.{some_list}
+use Rattle.certify.proofs.lemmas.reading.Streaming.{brings_more, brings_command, brings_malformed, some_bytes, taken_fewer}
+use Rattle.certify.proofs.reading.stream.CommandStream.advance.Goals as goal
+
+pub returns-in-More-clause-brings : goal.returns-in-More-clause-brings
+returns-in-More-clause-brings g c =
+    let S = g.S.CountedRead.seen in
+    let old = c.args.self.now in
+    let new = c.take.new.self in
+    let some = some_bytes (waiting old.ahead) (λ e. some_list c.waiting.result.now c.is_empty.result c.is_empty.ensures c.if-is_empty.false (c.waiting.ensures ∙ e)) in
+    brings_more S c.args.script.now old new some (subst (λ (r : Reached). Takes {E = ReadError} (Ok r) old new) c.in-More.is c.in_ok-take.ensures)
+
+pub returns-in-More-clause-falls : goal.returns-in-More-clause-falls
+returns-in-More-clause-falls g c =
+    let old = c.args.self.now in
+    let new = c.take.new.self in
+    let t = c.in_ok-take.ensures in
+    let some = some_bytes (waiting old.ahead) (λ e. some_list c.waiting.result.now c.is_empty.result c.is_empty.ensures c.if-is_empty.false (c.waiting.ensures ∙ e)) in
+    taken_fewer old.ahead new.ahead t.0 t.1 t.2 (t.3 some)
+
+pub returns-in-Command-clause-brings : goal.returns-in-Command-clause-brings
+returns-in-Command-clause-brings g c =
+    let S = g.S.CountedRead.seen in
+    let old = c.args.self.now in
+    let new = c.take.new.self in
+    let some = some_bytes (waiting old.ahead) (λ e. some_list c.waiting.result.now c.is_empty.result c.is_empty.ensures c.if-is_empty.false (c.waiting.ensures ∙ e)) in
+    brings_command S c.args.script.now old new some (subst (λ (r : Reached). Takes {E = ReadError} (Ok r) old new) c.in-Command.is c.in_ok-take.ensures)
+
+pub returns-in-Malformed-clause-brings : goal.returns-in-Malformed-clause-brings
+returns-in-Malformed-clause-brings g c =
+    let S = g.S.CountedRead.seen in
+    let old = c.args.self.now in
+    let new = c.take.new.self in
+    let some = some_bytes (waiting old.ahead) (λ e. some_list c.waiting.result.now c.is_empty.result c.is_empty.ensures c.if-is_empty.false (c.waiting.ensures ∙ e)) in
+    brings_malformed S c.args.script.now old new some ends.Malformed refl c.requires (subst (λ (r : Reached). Takes {E = ReadError} (Ok r) old new) c.in-Malformed.is c.in_ok-take.ensures)

@@ -1,0 +1,99 @@
+-- Texts that are read line by line.
+use Rattle.std.specs.Prelude.{ℕ, ◌+◌, ◌≤◌, ◌≡◌, ◌⊎◌, Bool, true, false, List, [], ◌∷◌, ◌++◌, length, take, Result, Ok, Err}
+use Rattle.std.specs.List.{AllByRecursion}
+use Rattle.sat_base.specs.device.Device.{Reader}
+use Rattle.sat_base.specs.device.Reading.{Source, Passes, PassesToEnd}
+use Rattle.sat_base.specs.declared.device.whole.ReadError.{ReadError}
+use Rattle.sat_base.specs.declared.device.whole.ReadError.TheVariants as errors
+use Rattle.sat_base.specs.script.Script.{Literal}
+use Rattle.sat_base.specs.script.Judge.{Refusal, PastLimit, WitnessName}
+use Rattle.sat_checker.specs.matching.Expected.{Outcome, Unsat}
+use Rattle.certify.specs.answers.Answers.{outcome_text}
+use Rattle.certify.specs.answers.AnswerForms.{IsInForm, named_literals}
+use Rattle.certify.specs.answers.AnswerReading.{first_line, second_line, outcome_of}
+use Rattle.certify.specs.reading.Ahead.{Failed, Kept, source_in, waiting}
+use Rattle.certify.specs.declared.ahead.Ahead.{Ahead}
+use Rattle.certify.specs.declared.answers.read.AnswerKind.{AnswerKind}
+use Rattle.certify.specs.declared.confirm.stop.Stop.TheVariants as stop
+use Rattle.certify.specs.declared.judge.Refusal.{Refusal as CodeRefusal}
+use Rattle.certify.specs.declared.judge.Refusal.TheVariants as code
+use Rattle.certify.specs.declared.matching.answers.Answers.{Answers}
+use Rattle.certify.specs.declared.matching.answers.Reply.{Reply}
+use Rattle.certify.specs.declared.matching.halt.Halt.{Halt}
+use Rattle.certify.specs.declared.matching.halt.Halt.TheVariants as halt
+use Rattle.certify.specs.declared.verdict.Why.{Why}
+
+-- no LF is among the bytes
+abbrev pub HasNoLf : List ℕ → Type 0
+HasNoLf = AllByRecursion (λ byte. byte ≡ 10 → ⊥)
+
+-- one is the last
+pub record IsLine (text : List ℕ) : Type 0 where
+  pub front : List ℕ
+  pub none : HasNoLf front
+  pub whole : text ≡ front ++ 10 ∷ []
+
+-- so many bytes are a line, or all are and have no LF
+abbrev pub GoesUpToLine : Bool → List ℕ → ℕ → Type 0
+GoesUpToLine true bytes count = (count ≤ length bytes) × IsLine (take count bytes)
+GoesUpToLine false bytes count = (count ≡ length bytes) × HasNoLf bytes
+
+-- up to the end of a line, or all
+abbrev pub EndsPart : Bool → List ℕ → List ℕ → Type 0
+EndsPart true text left = IsLine text
+EndsPart false text left = HasNoLf text × (left ≡ [])
+
+-- bytes that waited were moved to the line in hand
+abbrev pub MovesFront : {E : Type 0} → Result Bool E → Ahead → Ahead → List ℕ → List ℕ → Type 0
+MovesFront (Ok whole) old new before after = (text : List ℕ) × (waiting old ≡ text ++ waiting new) × (new.reads ≡ old.reads)
+    × (after ≡ before ++ text) × EndsPart whole text (waiting new)
+MovesFront (Err e) old new before after = new ≡ old
+
+-- a line was read, or what is left without one
+abbrev pub IsNextLine : Source → Source → List ℕ → Type 0
+IsNextLine a b line = (Passes a b line × IsLine line) ⊎ (PassesToEnd a b line × HasNoLf line)
+
+abbrev pub ReadsLine : Result (Unit {0}) ReadError → Source → Source → List ℕ → Type 0
+ReadsLine (Ok x) a b line = IsNextLine a b line
+ReadsLine (Err errors.Failed) a b line = Failed a b
+ReadsLine (Err errors.OutOfMemory) a b line = Kept a b
+
+-- the same of answers
+abbrev pub NextLine : Result (Unit {0}) Halt → Source → Source → List ℕ → Type 0
+NextLine (Ok x) a b line = IsNextLine a b line
+NextLine (Err halt.AnswersRead) a b line = Failed a b
+NextLine (Err (halt.Stop stop.OutOfMemory)) a b line = Kept a b
+NextLine (Err (halt.Stop (stop.No why))) a b line = ⊥
+NextLine (Err (halt.Stop stop.Read)) a b line = ⊥
+NextLine (Err (halt.Stop stop.CounterEnd)) a b line = ⊥
+NextLine (Err halt.ScriptRead) a b line = ⊥
+NextLine (Err halt.TooMany) a b line = ⊥
+
+-- the answers' reader, and what was read of it
+abbrev pub answers_source : {A : Type 0} → (A → Reader) → A → Answers → Source
+answers_source seen answers s = source_in seen answers s.lines.ahead
+
+abbrev pub refusal_in : CodeRefusal → Refusal
+refusal_in code.Limit = PastLimit
+refusal_in (code.Witness v) = WitnessName (v + 1)
+
+-- the first line of an answer was read, or no answer stands there
+abbrev pub ReadsFirst : List ℕ → List ℕ → Result AnswerKind Why → Type 0
+ReadsFirst before behind (Ok kind) = before ≡ first_line kind ++ behind
+ReadsFirst before behind (Err why) = (o : Outcome) (tail : List ℕ) → before ≡ outcome_text o ++ tail → ⊥
+
+-- so the second one of an answer of this kind, or none stands there
+abbrev pub ReadsSecond : AnswerKind → List Literal → List ℕ → List ℕ → Result (Unit {0}) Why → Type 0
+ReadsSecond kind line before behind (Ok x) = (before ≡ second_line (outcome_of kind line) ++ behind) × IsInForm (outcome_of kind line)
+ReadsSecond kind line before behind (Err why) =
+    (ls : List Literal) (tail : List ℕ) → IsInForm (outcome_of kind ls) → before ≡ second_line (outcome_of kind ls) ++ tail → ⊥
+
+-- what an answer says
+abbrev pub outcome_in : Reply → Outcome
+outcome_in r = outcome_of r.kind (named_literals r.lits.items)
+
+-- an answer was read, which is the only one where unsat is recorded; or none can be
+abbrev pub IsReply : List ℕ → List ℕ → Outcome → Bool → Result (Unit {0}) Why → Type 0
+IsReply before behind reply settled (Ok x) = (before ≡ outcome_text reply ++ behind) × IsInForm reply × (settled ≡ true → reply ≡ Unsat [])
+IsReply before behind reply settled (Err why) =
+    (o : Outcome) (tail : List ℕ) → IsInForm o → (settled ≡ true → o ≡ Unsat []) → before ≡ outcome_text o ++ tail → ⊥

@@ -1,0 +1,60 @@
+-- What comes of the bytes of a script that is read as its commands are wanted, whatever would follow.
+use Rattle.std.specs.Prelude.{ℕ, ◌+◌, ◌-◌, ◌*◌, ◌<◌, ◌≡◌, true, false, Option, Some, None, List, [], ◌++◌, length, Result, Ok, Err}
+use Rattle.sat_base.specs.device.Device.{most_reads, piece_size}
+use Rattle.sat_base.specs.device.Reading.{Source, Passes, PassesToEnd}
+use Rattle.sat_base.specs.script.Script.{Reading}
+use Rattle.sat_base.specs.text.Chunks.{Follows}
+use Rattle.sat_base.specs.declared.device.whole.ReadError.{ReadError}
+use Rattle.sat_base.specs.declared.device.whole.ReadError.TheVariants as errors
+use Rattle.certify.specs.confirm.Streams.{Covers, rest_in}
+use Rattle.certify.specs.reading.Ahead.{Failed, Kept, Took, waiting}
+use Rattle.certify.specs.reading.Commands.{EndsLast, Means, TakesBytes, end_reading}
+use Rattle.certify.specs.declared.ahead.Ahead.{Ahead}
+use Rattle.certify.specs.declared.reading.Reached.{Reached}
+use Rattle.certify.specs.declared.reading.Reached.TheVariants as reached
+use Rattle.certify.specs.declared.reading.reader.ScriptReader.{ScriptReader}
+use Rattle.certify.specs.declared.reading.stream.CommandStream.{CommandStream}
+use Rattle.certify.specs.declared.reading.stream.Next.{Next}
+use Rattle.certify.specs.declared.reading.stream.Next.TheVariants as next
+
+-- bytes that waited were taken, at least one where one did; they came to this
+abbrev pub Takes : {E : Type 0} → Result Reached E → CommandStream → CommandStream → Type 0
+Takes (Ok r) old new = (text : List ℕ) × (waiting old.ahead ≡ text ++ waiting new.ahead) × (new.ahead.reads ≡ old.ahead.reads)
+    × (0 < length (waiting old.ahead) → 0 < length text) × TakesBytes r old.reader text new.reader
+Takes (Err e) old new = new.ahead ≡ old.ahead
+
+-- the text is over
+abbrev pub Finishes : Next → ScriptReader → ScriptReader → Type 0
+Finishes next.Command old new = ⊥
+Finishes (next.Last e) old new = (before : List ℕ → Reading) → Means old before → EndsLast true e new (before [])
+Finishes (next.End e) old new = (before : List ℕ → Reading) → Means old before → EndsLast false e new (before [])
+
+-- A command came, and the text goes on; or one did that is the last; or none is left, and the text ends so.
+abbrev pub Arrives : Next → Source → Source → ScriptReader → ScriptReader → Type 0
+Arrives next.Command a b old new = (text : List ℕ) × Passes a b text × (0 < length text) × TakesBytes reached.Command old text new
+Arrives (next.Last e) a b old new =
+    (text : List ℕ) × PassesToEnd a b text × ((before : List ℕ → Reading) → Means old before → EndsLast true e new (before text))
+Arrives (next.End e) a b old new =
+    Took false a b × ((before : List ℕ → Reading) → Means old before → (total : List ℕ) → Covers b total → before (rest_in total a) ≡ end_reading e)
+
+-- so, or nothing came of the bytes yet
+abbrev pub Brings : Result (Option Next) ReadError → Source → Source → ScriptReader → ScriptReader → Type 0
+Brings (Ok None) a b old new = (text : List ℕ) × Passes a b text × Follows Means old text new
+Brings (Ok (Some n)) a b old new = Arrives n a b old new
+Brings (Err errors.Failed) a b old new = Failed a b
+Brings (Err errors.OutOfMemory) a b old new = Kept a b
+
+abbrev pub Comes : Result Next ReadError → Source → Source → ScriptReader → ScriptReader → Type 0
+Comes (Ok n) a b old new = Arrives n a b old new
+Comes (Err errors.Failed) a b old new = Failed a b
+Comes (Err errors.OutOfMemory) a b old new = Kept a b
+
+-- how many more times something can come of its bytes at most
+abbrev pub rounds_left : Ahead → ℕ
+rounds_left a = (piece_size + 1) * (most_reads - a.reads) + length (waiting a)
+
+-- where nothing came of them, fewer are left
+abbrev pub Falls : {A E : Type 0} → Result (Option A) E → Ahead → Ahead → Type 0
+Falls (Ok None) old new = rounds_left new < rounds_left old
+Falls (Ok (Some x)) old new = Unit {0}
+Falls (Err e) old new = Unit {0}

@@ -1,0 +1,242 @@
+//! The answers to a script, as they are due.
+ghost use Rattle.std.specs.Prelude.{◌≡◌, ◌+◌, ◌++◌, [], true, false, OnOk};
+ghost use Rattle.std.specs.Bool.{MatchBool};
+ghost use Rattle.sat_base.specs.script.Judge.{WitnessName};
+ghost use Rattle.certify.specs.answers.Answers.{malformed_line, refused_line};
+ghost use Rattle.certify.specs.answers.AnswerForms.{named_literals};
+ghost use Rattle.certify.specs.answers.AnswerReading.{outcome_of};
+ghost use Rattle.certify.specs.confirm.ConfirmedCommands.{TakesLine, stop_after};
+ghost use Rattle.certify.specs.matching.Halting.{Replies, SaysSo};
+ghost use Rattle.certify.specs.matching.Lines.{IsLine, IsReply, NextLine, ReadsFirst, ReadsSecond, answers_source, refusal_in};
+ghost use Rattle.certify.specs.reading.Ahead.{IsOpen, waiting};
+
+use crate::answers::read::{AnswerFault, AnswerKind, read_kind, read_line};
+use crate::answers::write::{push_malformed, push_number, push_refused_limit};
+use crate::confirm::stop::Stop;
+use crate::judge::Refusal;
+use crate::matching::halt::{Halt, unread_answers};
+use crate::matching::lines::Lines;
+use crate::verdict::Why;
+use sat_base::{CountedRead, Lit, Var};
+use std::alloc::{AllocError, Global};
+
+/// An answer, and the literals of its line by the indices of their names.
+#[derive(Drop)]
+pub(crate) struct Reply {
+    pub kind: AnswerKind,
+    pub lits: Vec<Lit>,
+}
+
+/// The answers, of which the line in hand is held.
+#[derive(Drop)]
+pub(crate) struct Answers {
+    lines: Lines,
+    pub reply: Reply,
+    /// A line that is due.
+    due: Vec<u8>,
+}
+
+/// Appends the line that refuses the command of this number for a name in use of mode witness.
+fn push_refused_witness(out: &mut Vec<u8>, command: u64, name: Var) -> Result<(), AllocError>
+    ensures text { OnOk result (out.new.items ≡ out.old.items ++ refused_line command (WitnessName (name + 1))) }
+    ensures line { OnOk result (IsLine (refused_line command (WitnessName (name + 1)))) }
+{
+    let number = name.index() as u64 + 1;
+    out.extend_from_slice(b"c refused ")?;
+    push_number(out, command)?;
+    out.extend_from_slice(b" witness ")?;
+    push_number(out, number)?;
+    out.push(b'\n')?;
+    Ok(())
+}
+
+/// Appends the line that refuses the command of this number.
+fn push_refused(out: &mut Vec<u8>, command: u64, refusal: Refusal) -> Result<(), AllocError>
+    ensures text { OnOk result (out.new.items ≡ out.old.items ++ refused_line command (refusal_in refusal)) }
+    ensures line { OnOk result (IsLine (refused_line command (refusal_in refusal))) }
+{
+    match refusal {
+        Refusal::Limit => push_refused_limit(out, command),
+        Refusal::Witness(name) => push_refused_witness(out, command, name),
+    }
+}
+
+fn is_same(line: &[u8], due: &[u8]) -> bool
+    ensures { MatchBool result (line.now ≡ due.now) (line.now ≡ due.now → ⊥) }
+{
+    line == due
+}
+
+fn is_none(line: &[u8]) -> bool
+    ensures { MatchBool result (line.now ≡ []) (line.now ≡ [] → ⊥) }
+{
+    line.is_empty()
+}
+
+/// Whether only one answer may stand where another kind does.
+fn is_other(settled: bool, kind: AnswerKind) -> bool
+    ensures { MatchBool result ((settled ≡ true) × (kind ≡ AnswerKind.Unsat → ⊥)) (settled ≡ true → kind ≡ AnswerKind.Unsat) }
+{
+    if !settled {
+        return false;
+    }
+    match kind {
+        AnswerKind::Sat => true,
+        AnswerKind::Unsat => false,
+        AnswerKind::Unknown => true,
+    }
+}
+
+/// Whether only an answer without literals may stand where there are some.
+fn has_more(settled: bool, lits: &[Lit]) -> bool
+    ensures { MatchBool result ((settled ≡ true) × (lits.now ≡ [] → ⊥)) (settled ≡ true → lits.now ≡ []) }
+{
+    if !settled {
+        return false;
+    }
+    !lits.is_empty()
+}
+
+/// No answer was read.
+fn unanswered(fault: AnswerFault) -> Stop
+    ensures { result ≡ stop_after fault }
+{
+    match fault {
+        AnswerFault::Missing => Stop::No(Why::AnswerMissing),
+        AnswerFault::Text => Stop::No(Why::AnswerText),
+        AnswerFault::OutOfMemory => Stop::OutOfMemory,
+    }
+}
+
+impl Answers {
+    /// Before the first line.
+    pub fn new(alloc: Global) -> Answers
+        ensures waiting { waiting result.lines.ahead ≡ [] }
+        ensures reads { result.lines.ahead.reads ≡ 0 }
+    {
+        Answers {
+            lines: Lines::new(alloc),
+            reply: Reply {
+                kind: AnswerKind::Unknown,
+                lits: Vec::new(alloc),
+            },
+            due: Vec::new(alloc),
+        }
+    }
+
+    /// Reads the next line.
+    fn next_line<A: CountedRead>(&mut self, answers: &mut A) -> Result<(), Halt>
+        ensures line { NextLine result (answers_source A.seen answers.old self.old) (answers_source A.seen answers.new self.new) self.new.lines.line.items }
+        ensures due { self.new.due.items ≡ self.old.due.items }
+    {
+        match self.lines.next(answers) {
+            Ok(()) => Ok(()),
+            Err(error) => Err(unread_answers(error)),
+        }
+    }
+
+    /// Takes the line that is due.
+    fn take_due<A: CountedRead>(&mut self, answers: &mut A) -> Result<(), Halt>
+        requires open_yet { IsOpen (answers_source A.seen answers.old self.old) }
+        requires line { IsLine self.old.due.items }
+        ensures { Replies true result (answers_source A.seen answers.old self.old) (answers_source A.seen answers.new self.new)
+            (λ before behind. TakesLine before behind self.old.due.items) }
+    {
+        self.next_line(answers)?;
+        if is_same(&self.lines.line, &self.due) {
+            return Ok(());
+        }
+        if is_none(&self.lines.line) {
+            return Err(Halt::Stop(Stop::No(Why::AnswerMissing)));
+        }
+        Err(Halt::Stop(Stop::No(Why::AnswerText)))
+    }
+
+    /// Expects the line that refuses the command of this number.
+    pub fn refuse<A: CountedRead>(
+        &mut self,
+        answers: &mut A,
+        number: u64,
+        refusal: Refusal,
+    ) -> Result<(), Halt>
+        requires open_yet { IsOpen (answers_source A.seen answers.old self.old) }
+        ensures { Replies true result (answers_source A.seen answers.old self.old) (answers_source A.seen answers.new self.new)
+            (λ before behind. TakesLine before behind (refused_line number (refusal_in refusal))) }
+    {
+        self.due.clear();
+        push_refused(&mut self.due, number, refusal)?;
+        self.take_due(answers)
+    }
+
+    /// Expects the last line of the answers to a malformed text.
+    pub fn refuse_rest<A: CountedRead>(&mut self, answers: &mut A, number: u64) -> Result<(), Halt>
+        requires open_yet { IsOpen (answers_source A.seen answers.old self.old) }
+        ensures { Replies true result (answers_source A.seen answers.old self.old) (answers_source A.seen answers.new self.new)
+            (λ before behind. TakesLine before behind (malformed_line number)) }
+    {
+        self.due.clear();
+        push_malformed(&mut self.due, number)?;
+        self.take_due(answers)
+    }
+
+    /// Reads the first line of an answer.
+    fn read_first<A: CountedRead>(&mut self, answers: &mut A) -> Result<AnswerKind, Halt>
+        requires open_yet { IsOpen (answers_source A.seen answers.old self.old) }
+        ensures { Replies true result (answers_source A.seen answers.old self.old) (answers_source A.seen answers.new self.new)
+            (ReadsFirst) }
+    {
+        self.next_line(answers)?;
+        match read_kind(&self.lines.line) {
+            Ok((kind, _)) => Ok(kind),
+            Err(fault) => Err(Halt::Stop(unanswered(fault))),
+        }
+    }
+
+    /// Reads the second line of an answer of this kind, if it has one.
+    fn read_second<A: CountedRead>(&mut self, answers: &mut A, kind: AnswerKind) -> Result<(), Halt>
+        requires open_yet { IsOpen (answers_source A.seen answers.old self.old) }
+        ensures { Replies true result (answers_source A.seen answers.old self.old) (answers_source A.seen answers.new self.new)
+            (ReadsSecond kind (named_literals self.new.reply.lits.items)) }
+    {
+        if let AnswerKind::Unknown = kind {
+            self.reply.lits.clear();
+            return Ok(());
+        }
+        self.next_line(answers)?;
+        match read_line(kind, &self.lines.line, &mut self.reply.lits) {
+            Ok(_) => Ok(()),
+            Err(fault) => Err(Halt::Stop(unanswered(fault))),
+        }
+    }
+
+    /// Reads an answer, with its line. Where `unsat` is recorded there is only one.
+    pub fn read<A: CountedRead>(&mut self, answers: &mut A, settled: bool) -> Result<(), Halt>
+        requires open_yet { IsOpen (answers_source A.seen answers.old self.old) }
+        ensures { Replies true result (answers_source A.seen answers.old self.old) (answers_source A.seen answers.new self.new)
+            (λ before behind. IsReply before behind (outcome_of self.new.reply.kind (named_literals self.new.reply.lits.items)) settled) }
+    {
+        let kind = self.read_first(answers)?;
+        if is_other(settled, kind) {
+            return Err(Halt::Stop(Stop::No(Why::AnswerDiffers)));
+        }
+        self.read_second(answers, kind)?;
+        if has_more(settled, &self.reply.lits) {
+            return Err(Halt::Stop(Stop::No(Why::AnswerDiffers)));
+        }
+        self.reply.kind = kind;
+        Ok(())
+    }
+
+    /// Expects that nothing is left.
+    pub fn expect_over<A: CountedRead>(&mut self, answers: &mut A) -> Result<(), Halt>
+        requires open_yet { IsOpen (answers_source A.seen answers.old self.old) }
+        ensures { Replies false result (answers_source A.seen answers.old self.old) (answers_source A.seen answers.new self.new)
+            (λ before behind. SaysSo (before ≡ [])) }
+    {
+        self.next_line(answers)?;
+        if is_none(&self.lines.line) {
+            return Ok(());
+        }
+        Err(Halt::Stop(Stop::No(Why::AnswerExtra)))
+    }
+}
