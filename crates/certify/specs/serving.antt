@@ -1,3 +1,7 @@
 pub mod Certifies
 pub mod Serving
 pub mod ServingLaws
+pub mod Calls
+pub mod Telling
+pub mod Standing
+pub mod Asking

@@ -18,5 +18,6 @@ pub mod reading;
 pub mod run;
 pub mod script;
 mod search;
+pub mod serving;
 pub mod summary;
 pub mod verdict;

@@ -3,3 +3,11 @@ pub mod Served
 pub mod ServedOnce
 pub mod Lines
 pub mod Cores
+pub mod SolverCalls
+pub mod Converted
+pub mod Recorded
+pub mod Closing
+pub mod AskServed
+pub mod ClauseServed
+pub mod SessionCalls
+pub mod CallFaults

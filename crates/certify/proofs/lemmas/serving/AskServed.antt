@@ -1,0 +1,279 @@
+-- An ask is served by what its solver did.
+use Rattle.std.proofs.Common.{ℕ, ◌+◌, ◌≡◌, ◌∙◌, Bool, true, false, Option, Some, None, List, [], ◌∷◌, ◌++◌, map, refl, sym, ap, subst, arith, inl, inr, ◌⊎◌}
+use Rattle.std.proofs.lemmas.Bool.{both_ways}
+use Rattle.std.proofs.lemmas.List.{map-append}
+use Rattle.std.specs.List.{AllByRecursion}
+use Rattle.sat_base.specs.device.Device.{Writer}
+use Rattle.sat_base.specs.script.Script.{Literal, Ask, Among, names_of}
+use Rattle.sat_base.specs.script.Judge.{Judge, accepted, bring_all, identity_of, refusal_of}
+use Rattle.sat_base.specs.steps.Steps.{Step}
+use Rattle.sat_checker.specs.LiteralSets.{canonical}
+use Rattle.sat_checker.specs.matching.Checking.{variable_of}
+use Rattle.sat_checker.specs.matching.Expected.{Outcome, Sat, Unsat, Unknown, Expected, Opens, Shows, Fails, Closes, Fits, bringing, showing, fails}
+use Rattle.sat_checker.specs.matching.ProofChecking.{the_checking}
+use Rattle.sat_solver.specs.declared.solver.Solver.{Solver}
+use Rattle.sat_solver.specs.declared.solver.state.State.{State}
+use Rattle.sat_solver.specs.declared.solver.state.State.TheVariants as states
+use Rattle.sat_solver.specs.names.Adding.{named_literal}
+use Rattle.sat_solver.specs.names.Calls as solver
+use Rattle.sat_solver.specs.names.Expected as due
+use Rattle.sat_solver.specs.names.Live.{Live}
+use Rattle.sat_solver.specs.names.Refusing.{names_in}
+use Rattle.sat_solver.specs.session.ProofView.{steps_of}
+use Rattle.sat_solver.specs.solver.Adding.{Assumed, Forgets}
+use Rattle.sat_solver.specs.solver.Calls.{told_as}
+use Rattle.sat_solver.specs.solver.Lines.{Rise}
+use Rattle.sat_solver.specs.solver.Resting.{core_for}
+use Rattle.sat_solver.specs.solver.Whole.{IsWhole, steps_in, line_in}
+use Rattle.certify.specs.answers.AnswerForms.{named_literals}
+use Rattle.certify.specs.answers.RightAnswers.{IsRight}
+use Rattle.certify.specs.declared.summary.Answer.{Answer}
+use Rattle.certify.specs.declared.summary.Answer.TheVariants as kind
+use Rattle.certify.specs.declared.summary.AskReport.{AskReport}
+use Rattle.certify.specs.laws.Laws.{IsKept}
+use Rattle.certify.specs.run.FinishedRun.{IsSpent, kind_of}
+use Rattle.certify.specs.serving.Calls.{AnswerIs, Searched}
+use Rattle.certify.specs.serving.Certifies.{IsKnown}
+use Rattle.certify.specs.serving.Serving.{AskSteps, Leads, Makes, made, quiet, makes}
+use Rattle.certify.specs.serving.ServingLaws.{Rising}
+use Rattle.certify.specs.serving.Standing.{Means}
+use Rattle.certify.specs.serving.Telling.{outcome_for, IsToldRight}
+use Rattle.certify.proofs.lemmas.laws.JudgeStates.{accepted_kept}
+use Rattle.certify.proofs.lemmas.serving.Closing.{closing}
+use Rattle.certify.proofs.lemmas.serving.Converted.{due_as, made_of, bringing_due, names_same}
+use Rattle.certify.proofs.lemmas.serving.Cores.{right_in_order, spelt_in_order}
+use Rattle.certify.proofs.lemmas.serving.Lines.{lists_in_use}
+use Rattle.certify.proofs.lemmas.serving.Making.{bringing_free, leads_both, leads_free, leads_going, leads_lacking, made_apart}
+use Rattle.certify.proofs.lemmas.serving.Recorded.{going_on, recorded, unsat_known}
+
+rising_of : (xs : List ℕ) → Rise xs → Rising xs
+rising_of [] h = tt
+rising_of (x ∷ xs) h = (h.0, rising_of xs h.1)
+
+-- a core's step is that of its literals in order
+fails_sorted : (s : List Step) (ask : List Literal) (core : List ℕ) (step : Step) → Fits (the_checking.knows s) s (Fails ask (named_literals core)) step → Fits (the_checking.knows s) s (Fails ask (named_literals (canonical core))) step
+fails_sorted s ask core step (fails {c = c} h) = fails (spelt_in_order (variable_of s) core c h)
+
+sorted_core : (es : List Expected) (ask : List Literal) (core : List ℕ) {s t : List Step} {xs : List Expected} → Makes the_checking s t xs → xs ≡ Fails ask (named_literals core) ∷ es → Makes the_checking s t (Fails ask (named_literals (canonical core)) ∷ es)
+sorted_core es ask core made e = absurd (cc)
+sorted_core es ask core (quiet q m) e = quiet q (sorted_core es ask core m e)
+sorted_core es ask core {t = t} (makes {s = s} {step = step} {e = x} {es = ys} f m) e =
+    let hd : x ≡ Fails ask (named_literals core) = cc in
+    let tl : ys ≡ es = cc in
+    makes (fails_sorted s ask core step (subst (λ y. Fits (the_checking.knows s) s y step) hd f)) (subst (Makes the_checking (step ∷ s) t) tl m)
+
+-- what an ask was answered, by what is known behind it
+module _ {C : Type 0} (now : Solver C) (ask : List Literal) (asked : named_literals now.assumed.items ≡ ask) (j : Judge) (live : Live) (kept : IsKept j) (agree : solver.Agree now.names (steps_in now) j live) where
+  line_listed : IsToldRight kind.Sat now → names_of (named_literals (line_in now)) ≡ map (λ n. n.name) j.in_use
+  line_listed right =
+      let l = (right j live agree).lists in
+      lists_in_use j (names_of (named_literals (line_in now))) kept.order (rising_of (names_of (named_literals (line_in now))) l.rising) l.all (only (named_literals (line_in now)) l.only)
+    where
+      only : (ls : List Literal) → AllByRecursion (λ l. (i : ℕ) × (identity_of j l.name ≡ Some i)) ls → AllByRecursion (λ name. (i : ℕ) × (identity_of j name ≡ Some i)) (names_of ls)
+      only [] h = tt
+      only (l ∷ ls) h = (h.0, only ls h.1)
+
+  told_right : (a : Answer) → IsToldRight a now → IsRight j ask (outcome_for a now)
+  told_right kind.Sat right = subst (λ q. IsRight j q (outcome_for kind.Sat now)) asked ((right j live agree).right (line_listed right))
+  told_right kind.Unsat right =
+      subst (λ q. IsRight j q (outcome_for kind.Unsat now)) asked (right_in_order j (named_literals now.assumed.items) (core_for now.state now) (right j live agree).among (right j live agree).none)
+  told_right kind.Unknown right = tt
+
+pub kind_told : {C : Type 0} (a : Answer) (now : Solver C) → a ≡ kind_of (outcome_for a now)
+kind_told kind.Sat now = refl
+kind_told kind.Unsat now = refl
+kind_told kind.Unknown now = refl
+
+-- which states answers come from
+sat_state : (st : State) → AnswerIs st kind.Sat → st ≡ states.Sat
+sat_state states.Sat h = refl
+sat_state states.Unknown h = absurd (cc)
+sat_state states.UnsatUnderAssumptions h = absurd (cc)
+sat_state states.Unsat h = absurd (cc)
+
+unsat_state : (st : State) → AnswerIs st kind.Unsat → (st ≡ states.UnsatUnderAssumptions) ⊎ (st ≡ states.Unsat)
+unsat_state states.UnsatUnderAssumptions h = inl refl
+unsat_state states.Unsat h = inr refl
+unsat_state states.Unknown h = absurd (cc)
+unsat_state states.Sat h = absurd (cc)
+
+unknown_state : (st : State) → AnswerIs st kind.Unknown → st ≡ states.Unknown
+unknown_state states.Unknown h = refl
+unknown_state states.Sat h = absurd (cc)
+unknown_state states.UnsatUnderAssumptions h = absurd (cc)
+unknown_state states.Unsat h = absurd (cc)
+
+sat_apart : (st : State) → st ≡ states.Sat → st ≡ states.Unsat → ⊥
+sat_apart st e f = cc
+
+core_apart : (st : State) → st ≡ states.UnsatUnderAssumptions → st ≡ states.Unsat → ⊥
+core_apart st e f = cc
+
+unknown_apart : (st : State) → st ≡ states.Unknown → st ≡ states.Unsat → ⊥
+unknown_apart st e f = cc
+
+unsat_apart : (st : State) → st ≡ states.Unsat → st ≡ states.Unknown → ⊥
+unsat_apart st e f = cc
+
+-- once the clauses alone are known to be unsatisfiable, the core is empty
+unsat_outcome : {C : Type 0} (now : Solver C) (a : Answer) → now.state ≡ states.Unsat → AnswerIs now.state a → outcome_for a now ≡ Unsat []
+unsat_outcome now kind.Sat e h = absurd (sat_apart now.state (sat_state now.state h) e)
+unsat_outcome now kind.Unsat e h = ap (λ st. Unsat (named_literals (canonical (core_for st now)))) e
+unsat_outcome now kind.Unknown e h = absurd (unknown_apart now.state (unknown_state now.state h) e)
+
+-- what shows an answer
+module _ {C : Type 0} (now : Solver C) (whole : IsWhole now) (ask : List Literal) (asked : named_literals now.assumed.items ≡ ask) (j : Judge) (before : State) (s : List Step) where
+  abbrev Told : State → State → Type 0
+  Told b st = solver.Writes s (steps_in now) (told_as b st (line_in now) now.assumed.items now.told.failed_core.items)
+
+  sat_shown : now.state ≡ states.Sat → before ≡ states.Unknown → names_of (named_literals (line_in now)) ≡ map (λ n. n.name) j.in_use → Told before now.state → Leads s (steps_in now) (showing j ask (outcome_for kind.Sat now))
+  sat_shown e b names w =
+      let v : Told states.Unknown states.Sat = subst (λ st. Told states.Unknown st) e (subst (λ st. Told st now.state) b w) in
+      let m = made_of (showing j ask (outcome_for kind.Sat now)) v
+      (ap (λ ns. due.Shows ns (named_literals now.assumed.items) (named_literals (line_in now)) ∷ []) names ∙ ap (λ q. due.Shows (map (λ n. n.name) j.in_use) q (named_literals (line_in now)) ∷ []) asked) in
+      leads_going m (going_on now whole (sat_apart now.state e)) (refl, tt)
+
+  core_shown : now.state ≡ states.UnsatUnderAssumptions → before ≡ states.Unknown → Told before now.state → Leads s (steps_in now) (showing j ask (outcome_for kind.Unsat now))
+  core_shown e b w =
+      let v : Told states.Unknown states.UnsatUnderAssumptions = subst (λ st. Told states.Unknown st) e (subst (λ st. Told st now.state) b w) in
+      let core = now.told.failed_core.items in
+      let m = made_of (Fails ask (named_literals core) ∷ []) v (ap (λ q. due.Fails q (named_literals core) ∷ []) asked) in
+      let sorted = leads_going (sorted_core [] ask core m refl) (going_on now whole (core_apart now.state e)) (refl, tt) in
+      subst (λ st. Leads s (steps_in now) (Fails ask (named_literals (canonical (core_for st now))) ∷ [])) (sym e) sorted
+
+  none_told : (b : State) → Told b states.Unsat → Makes the_checking s (steps_in now) []
+  none_told states.Unknown w = made_of [] w refl
+  none_told states.Sat w = made_of [] w refl
+  none_told states.UnsatUnderAssumptions w = made_of [] w refl
+  none_told states.Unsat w = made_of [] w refl
+
+  unsat_shown : now.state ≡ states.Unsat → Told before now.state → Leads s (steps_in now) (showing j ask (outcome_for kind.Unsat now))
+  unsat_shown e w =
+      let m = none_told before (subst (λ st. Told before st) e w) in
+      let all = leads_both [] (Fails ask [] ∷ []) (leads_free m tt) (leads_lacking (steps_in now) (Fails ask []) refl (recorded now whole e)) in
+      subst (λ st. Leads s (steps_in now) (Fails ask (named_literals (canonical (core_for st now))) ∷ [])) (sym e) all
+
+  unknown_shown : now.state ≡ states.Unknown → before ≡ states.Unknown → Told before now.state → Leads s (steps_in now) []
+  unknown_shown e b w = leads_free (made_of [] (subst (λ st. Told states.Unknown st) e (subst (λ st. Told st now.state) b w)) refl) tt
+
+  pub answer_shown : (a : Answer) → AnswerIs now.state a → ((now.state ≡ states.Unsat → ⊥) → before ≡ states.Unknown) → (a ≡ kind.Sat → names_of (named_literals (line_in now)) ≡ map (λ n. n.name) j.in_use) → Told before now.state
+      → Leads s (steps_in now) (showing j ask (outcome_for a now))
+  answer_shown kind.Sat h b names w = let e = sat_state now.state h in sat_shown e (b (sat_apart now.state e)) (names refl) w
+  answer_shown kind.Unsat h b names w = elim (unsat_state now.state h) [ inl e ↦ core_shown e (b (core_apart now.state e)) w | inr e ↦ unsat_shown e w ]
+  answer_shown kind.Unknown h b names w = let e = unknown_state now.state h in unknown_shown e (b (unknown_apart now.state e)) w
+
+-- what assumptions leave
+forgets_either : (a b : State) → Forgets a b → (b ≡ states.Unknown) ⊎ (b ≡ states.Unsat)
+forgets_either a states.Unknown h = inl refl
+forgets_either a states.Unsat h = inr refl
+forgets_either states.Unsat states.Sat h = absurd (cc)
+forgets_either states.Unknown states.Sat h = absurd h
+forgets_either states.Sat states.Sat h = absurd h
+forgets_either states.UnsatUnderAssumptions states.Sat h = absurd h
+forgets_either states.Unsat states.UnsatUnderAssumptions h = absurd (cc)
+forgets_either states.Unknown states.UnsatUnderAssumptions h = absurd h
+forgets_either states.Sat states.UnsatUnderAssumptions h = absurd h
+forgets_either states.UnsatUnderAssumptions states.UnsatUnderAssumptions h = absurd h
+
+-- an ask: its literals were assumed, the solver searched, and nothing is assumed from there on
+module _ {C : Type 0} (seen : C → Writer) (old mid now new : Solver C) (user : List ℕ) (budget : ℕ) (report : AskReport) (opened : Assumed seen old mid user) (searched : Searched seen budget report mid now) (closed : Assumed seen now new []) (right : IsToldRight report.answer now) where
+  ls : List Literal
+  ls = named_literals user
+
+  o : Outcome
+  o = outcome_for report.answer now
+
+  assumed_is : named_literals now.assumed.items ≡ named_literals user
+  assumed_is = ap (λ (v : _). named_literals v.items) (searched.solved.answered.assumed ∙ searched.limited.assumed) ∙ ap named_literals opened.assumed
+
+  same_steps : steps_in searched.mid ≡ steps_in mid
+  same_steps = ap steps_of searched.limited.proof
+
+  unsat_stays : searched.mid.state ≡ states.Unsat → now.state ≡ states.Unsat
+  unsat_stays e = ap (λ (x : Solver C). x.state) (searched.solved.answered.known (unsat_apart searched.mid.state e)).same ∙ e
+
+  was_unknown : (now.state ≡ states.Unsat → ⊥) → searched.mid.state ≡ states.Unknown
+  was_unknown n = elim (forgets_either old.state mid.state opened.state) [ inl e ↦ searched.limited.state ∙ e | inr e ↦ absurd (n (unsat_stays (searched.limited.state ∙ e))) ]
+
+  known : the_checking.unsat (steps_in mid) ≡ true → IsKnown (outcome_for report.answer now) report.steps
+  known u =
+      let at = searched.limited.state ∙ unsat_known mid opened.did.whole u in
+      let k = searched.solved.answered.known (unsat_apart searched.mid.state at) in
+      let c : now.clock.steps ≡ searched.mid.clock.steps = ap (λ (x : Solver C). x.clock.steps) k.same in
+      let r = searched.rounds in let l = searched.limited.rounds in
+      record { outcome = unsat_outcome now report.answer (unsat_stays at) searched.solved.answer_is; rounds = omega arith }
+
+  -- once it's closed, unsat is recorded only where it was answered
+  knows_by : Makes the_checking (steps_in now) (steps_in new) (Closes ∷ []) → (st : State) → now.state ≡ st → the_checking.unsat (steps_in new) ≡ true → now.state ≡ states.Unsat
+  knows_by m states.Unsat e u = e
+  knows_by m states.Unknown e u = absurd (both_ways (the_checking.unsat (steps_in new)) (closing m (refl, tt) closed.comes.steps closed.comes.behind closed.comes.each (going_on now searched.solved.answered.did.whole (unknown_apart now.state e))) u)
+  knows_by m states.Sat e u = absurd (both_ways (the_checking.unsat (steps_in new)) (closing m (refl, tt) closed.comes.steps closed.comes.behind closed.comes.each (going_on now searched.solved.answered.did.whole (sat_apart now.state e))) u)
+  knows_by m states.UnsatUnderAssumptions e u = absurd (both_ways (the_checking.unsat (steps_in new)) (closing m (refl, tt) closed.comes.steps closed.comes.behind closed.comes.each (going_on now searched.solved.answered.did.whole (core_apart now.state e))) u)
+
+  module _ (j : Judge) (live : Live) (means : Means old j live) (free : refusal_of j (Ask (named_literals user)) ≡ None) where
+    next : Judge
+    next = accepted (Ask (named_literals user)) j
+
+    first : solver.Kept mid.names (steps_in old) (steps_in mid) (bring_all (names_in user) j) (due.bringing (names_in user) j ++ (due.Opens (named_literals user) ∷ []))
+    first = opened.did.does.kept j live means.agree
+
+    agree_mid : solver.Agree mid.names (steps_in mid) (accepted (Ask (named_literals user)) j) first.live
+    agree_mid = subst (λ ns. solver.Agree mid.names (steps_in mid) (bring_all ns j) first.live) (sym (names_same user)) first.agree
+
+    agree_at : solver.Agree searched.mid.names (steps_in searched.mid) (accepted (Ask (named_literals user)) j) first.live
+    agree_at = subst (λ ns. solver.Agree ns (steps_in searched.mid) (accepted (Ask (named_literals user)) j) first.live) (sym searched.limited.names) (subst (λ ss. solver.Agree mid.names ss (accepted (Ask (named_literals user)) j) first.live) (sym same_steps) agree_mid)
+
+    second : solver.Kept now.names (steps_in searched.mid) (steps_in now) (accepted (Ask (named_literals user)) j) (told_as searched.mid.state now.state (line_in now) now.assumed.items now.told.failed_core.items)
+    second = searched.solved.answered.did.does.kept (accepted (Ask (named_literals user)) j) first.live agree_at
+
+    third : solver.Kept new.names (steps_in now) (steps_in new) (accepted (Ask (named_literals user)) j) (due.Opens [] ∷ [])
+    third = closed.did.does.kept (accepted (Ask (named_literals user)) j) second.live second.agree
+
+    kept : IsKept (accepted (Ask (named_literals user)) j)
+    kept = accepted_kept (Ask (named_literals user)) j free means.kept
+
+    named : Makes the_checking (steps_in old) (steps_in mid) (bringing (names_of (named_literals user)) j ++ (Opens (named_literals user) (outcome_for report.answer now) ∷ []))
+    named = made_of (bringing (names_of (named_literals user)) j ++ (Opens (named_literals user) (outcome_for report.answer now) ∷ [])) first.writes
+        (ap (λ ns. due.bringing ns j ++ (due.Opens (named_literals user) ∷ [])) (sym (names_same user))
+        ∙ ap (λ xs. xs ++ (due.Opens (named_literals user) ∷ [])) (bringing_due (names_of (named_literals user)) j)
+        ∙ sym (map-append due_as (bringing (names_of (named_literals user)) j) (Opens (named_literals user) (outcome_for report.answer now) ∷ [])))
+
+    listed : report.answer ≡ kind.Sat → names_of (named_literals (line_in now)) ≡ map (λ n. n.name) (accepted (Ask (named_literals user)) j).in_use
+    listed e = line_listed now (named_literals user) assumed_is (accepted (Ask (named_literals user)) j) second.live kept second.agree (subst (λ a. IsToldRight a now) e right)
+
+    shown : Leads (steps_in mid) (steps_in now) (showing (accepted (Ask (named_literals user)) j) (named_literals user) (outcome_for report.answer now))
+    shown = answer_shown now searched.solved.answered.did.whole (named_literals user) assumed_is (accepted (Ask (named_literals user)) j) searched.mid.state (steps_in mid) report.answer searched.solved.answer_is was_unknown listed
+        (subst (λ ss. solver.Writes ss (steps_in now) (told_as searched.mid.state now.state (line_in now) now.assumed.items now.told.failed_core.items)) same_steps second.writes)
+
+    shut : Makes the_checking (steps_in now) (steps_in new) (Closes ∷ [])
+    shut = made_of (Closes ∷ []) third.writes refl
+
+    pub ask_steps : AskSteps (steps_in old) (steps_in new) j (named_literals user) (outcome_for report.answer now) report.steps
+    ask_steps =
+        let split = made_apart (bringing (names_of (named_literals user)) j) (Opens (named_literals user) (outcome_for report.answer now) ∷ []) named in
+        record {
+          named = split.0;
+          opened = steps_in mid;
+          shown = steps_in now;
+          names = leads_free split.1 (bringing_free (names_of (named_literals user)) j);
+          opens = split.2;
+          known = known;
+          shows = shown;
+          closes = shut;
+          knows = λ u. unsat_outcome now report.answer (knows_by shut now.state refl u) searched.solved.answer_is;
+        }
+
+    pub ask_right : IsRight (accepted (Ask (named_literals user)) j) (named_literals user) (outcome_for report.answer now)
+    ask_right = told_right now (named_literals user) assumed_is (accepted (Ask (named_literals user)) j) second.live kept second.agree report.answer right
+
+    pub ask_then : (then : Live) × solver.Agree new.names (steps_in new) (accepted (Ask (named_literals user)) j) then
+    ask_then = (third.live, third.agree)
+
+  pub ask_spent : IsSpent budget old.clock.steps report
+  ask_spent = subst (λ (n : ℕ). IsSpent budget n report) (ap (λ (x : _). x.steps) opened.clock) searched.spent
+
+  pub ask_rounds : old.clock.steps + report.steps ≡ new.clock.steps
+  ask_rounds =
+      let a : mid.clock.steps ≡ old.clock.steps = ap (λ (x : _). x.steps) opened.clock in
+      let b : new.clock.steps ≡ now.clock.steps = ap (λ (x : _). x.steps) closed.clock in
+      let r = searched.rounds in omega arith

@@ -1,0 +1,135 @@
+-- What the parts of a run leave of its writers.
+use Rattle.std.proofs.Common.{ℕ, ◌+◌, ◌≡◌, ◌∙◌, List, [], ◌∷◌, ◌++◌, None, Result, Ok, Err, OnOk, IfErr, refl, sym, ap, subst, arith}
+use Rattle.sat_base.specs.device.Device.{Writer, Takes}
+use Rattle.sat_base.specs.script.Script.{Literal, Ask}
+use Rattle.sat_base.specs.script.Judge.{Judge, refusal_of, accepted, bring_all}
+use Rattle.sat_base.specs.steps.Steps.{Step}
+use Rattle.sat_solver.specs.declared.session.proof.Proof.{Proof}
+use Rattle.sat_solver.specs.declared.solver.Solver.{Solver}
+use Rattle.sat_solver.specs.names.Calls as solver
+use Rattle.sat_solver.specs.names.Live.{Live}
+use Rattle.sat_solver.specs.names.Refusing.{names_in}
+use Rattle.sat_solver.specs.session.Making.{Took, Broke}
+use Rattle.sat_solver.specs.session.ProofView.{steps_of}
+use Rattle.sat_solver.specs.solver.Adding.{Assumed}
+use Rattle.sat_solver.specs.solver.Whole.{steps_in}
+use Rattle.sat_solver.proofs.lemmas.session.ProofLemmas.{adds_none, adds_more, fails_later}
+use Rattle.certify.specs.Calls.{NoneFailed, OneFailed}
+use Rattle.certify.specs.answers.AnswerForms.{named_literals}
+use Rattle.certify.specs.answers.Answers.{outcome_text}
+use Rattle.certify.specs.declared.fault.RunFault.{RunFault}
+use Rattle.certify.specs.declared.fault.RunFault.TheVariants as fault
+use Rattle.certify.specs.declared.serving.session.Session.{Session}
+use Rattle.certify.specs.declared.summary.AskReport.{AskReport}
+use Rattle.certify.specs.serving.Asking.{Sought}
+use Rattle.certify.specs.serving.Calls.{Faults, FailsSolver, IsAllowed, IsReady, Searched, proof_in}
+use Rattle.certify.specs.serving.Serving.{Serves, behind}
+use Rattle.certify.specs.serving.Standing.{Asked, Means, WritesBoth, place_in}
+use Rattle.certify.specs.serving.Telling.{outcome_for}
+use Rattle.certify.proofs.lemmas.serving.AskServed.{ask_steps, ask_right, ask_then, ask_spent, ask_rounds, kind_told}
+use Rattle.certify.proofs.lemmas.serving.ServedOnce.{serves_ask}
+
+pub took_none : {C : Type 0} (seen : C → Writer) (p : Proof C) → Took seen p p
+took_none seen p = ([], adds_none seen p)
+
+pub took_both : {C : Type 0} (seen : C → Writer) (p q r : Proof C) → Took seen p q → Took seen q r → Took seen p r
+took_both seen p q r a b = (b.0 ++ a.0, adds_more seen a.0 b.0 p q r a.1 b.1)
+
+pub broke_later : {C : Type 0} (seen : C → Writer) (p q r : Proof C) → Took seen p q → Broke seen q r → Broke seen p r
+broke_later seen p q r a b = (b.0 ++ a.0, fails_later seen a.0 b.0 p q r a.1 b.1)
+
+pub fails_then : {C : Type 0} (seen : C → Writer) (e : RunFault) (a b c : Solver C) → Took seen (proof_in a) (proof_in b) → FailsSolver seen e b c → FailsSolver seen e a c
+fails_then seen fault.ScriptRead a b c t f = f
+fails_then seen fault.AnswersWrite a b c t f = f
+fails_then seen fault.CertificateWrite a b c t f = broke_later seen (proof_in a) (proof_in b) (proof_in c) t f
+fails_then seen fault.OutOfMemory a b c t f = took_both seen (proof_in a) (proof_in b) (proof_in c) t f
+fails_then seen fault.StoreFull a b c t f = took_both seen (proof_in a) (proof_in b) (proof_in c) t f
+fails_then seen fault.CounterEnd a b c t f = took_both seen (proof_in a) (proof_in b) (proof_in c) t f
+
+-- a search leaves what the solver wrote
+pub search_took : {C : Type 0} (seen : C → Writer) (budget : ℕ) (report : AskReport) (a b : Solver C) → Searched seen budget report a b → Took seen (proof_in a) (proof_in b)
+search_took seen budget report a b s = subst (λ p. Took seen p (proof_in b)) s.limited.proof s.solved.answered.did.took
+
+pub searched_ready : {C : Type 0} (seen : C → Writer) (budget : ℕ) (report : AskReport) (a b : Solver C) → Searched seen budget report a b → IsReady b
+searched_ready seen budget report a b s = record { solver = λ g. s.solved.answered.did.whole; going = s.solved.answered.did.failed }
+
+pub assumed_ready : {C : Type 0} (seen : C → Writer) (a b : Solver C) (user : List ℕ) → Assumed seen a b user → IsReady b
+assumed_ready seen a b user s = record { solver = λ g. s.did.whole; going = s.did.failed }
+
+pub sought_took : {C : Type 0} (seen : C → Writer) (a b c : Solver C) (user : List ℕ) (budget : ℕ) (report : AskReport) → Assumed seen a b user → Searched seen budget report b c → Took seen (proof_in a) (proof_in c)
+sought_took seen a b c user budget report opened s = took_both seen (proof_in a) (proof_in b) (proof_in c) opened.did.took (search_took seen budget report b c s)
+
+-- some state of the judge agrees with a solver still, and no name is refused where there is none
+pub allowed_still : {C : Type 0} (seen : C → Writer) (a b c : Solver C) (user : List ℕ) (budget : ℕ) (report : AskReport) → IsAllowed a user → Assumed seen a b user → Searched seen budget report b c → IsAllowed c []
+allowed_still seen a b c user budget report allowed opened s =
+    let k = opened.did.does.kept allowed.0 allowed.1 allowed.2 in
+    let at = subst (λ ns. solver.Agree ns (steps_in s.mid) (bring_all (names_in user) allowed.0) k.live) (sym s.limited.names) (subst (λ (p : Proof _). solver.Agree b.names (steps_of p) (bring_all (names_in user) allowed.0) k.live) (sym s.limited.proof) k.agree) in
+    let n = s.solved.answered.did.does.kept (bring_all (names_in user) allowed.0) k.live at in
+    (bring_all (names_in user) allowed.0, n.live, n.agree, refl)
+
+none_of : (a b : Writer) (text : List ℕ) → Takes a b text → NoneFailed a b
+none_of a b text t = (t.failures, t.loans)
+
+-- an answer was written, and nothing is assumed any more
+pub asked_of : {C : Type 0} (seen : C → Writer) (old new : Session C) (now : Solver C) (user text : List ℕ) (report : AskReport) (before after : Writer)
+    → Sought seen old.budget report user text old.solver now → Takes before after text → Assumed seen now new.solver [] → new.names ≡ old.names → new.commands ≡ old.commands → new.refused ≡ old.refused → new.budget ≡ old.budget → new.asks.items ≡ old.asks.items ++ report ∷ []
+    → Asked seen old new user before after
+asked_of seen old new now user text report before after sought told closed names commands refused budget asks = record {
+  ready = assumed_ready seen now new.solver [] closed;
+  took = took_both seen (proof_in old.solver) (proof_in now) (proof_in new.solver) (sought_took seen old.solver sought.mid now user old.budget report sought.opened sought.searched) closed.did.took;
+  names = names;
+  commands = commands;
+  refused = refused;
+  budget = budget;
+  text = text;
+  told = told;
+  report = report;
+  asks = asks;
+  serves = λ j live means free.
+      let then = ask_then seen old.solver sought.mid now new.solver user old.budget report sought.opened sought.searched closed sought.right j live means free in
+      let right = ask_right seen old.solver sought.mid now new.solver user old.budget report sought.opened sought.searched closed sought.right j live means free in
+      let steps = ask_steps seen old.solver sought.mid now new.solver user old.budget report sought.opened sought.searched closed sought.right j live means free in
+      let spent = ask_spent seen old.solver sought.mid now new.solver user old.budget report sought.opened sought.searched closed sought.right in
+      let rounds = ask_rounds seen old.solver sought.mid now new.solver user old.budget report sought.opened sought.searched closed sought.right in
+      let serves = serves_ask old.budget (place_in old j) (named_literals user) (outcome_for report.answer now) report (steps_in new.solver) free right (kind_told report.answer now) spent steps in (
+        then.0,
+        then.1,
+        subst (λ n. Serves old.budget (place_in old j) (behind (place_in old j) (Ask (named_literals user)) (steps_in new.solver) n) (Ask (named_literals user) ∷ []) text (report ∷ []) 0) rounds
+            (subst (λ t. Serves old.budget (place_in old j) (behind (place_in old j) (Ask (named_literals user)) (steps_in new.solver) (old.solver.clock.steps + report.steps)) (Ask (named_literals user) ∷ []) t (report ∷ []) 0) (sym sought.text_is) serves),
+      );
+}
+
+-- WHERE A PART FAILED
+
+pub memory_fails : {C : Type 0} (seen : C → Writer) (e : RunFault) (a b : Solver C) → e ≡ fault.OutOfMemory → Took seen (proof_in a) (proof_in b) → FailsSolver seen e a b
+memory_fails seen e a b m t = subst (λ x. FailsSolver seen x a b) (sym m) t
+
+-- what a fault says of both writers
+abbrev pub Says : {C : Type 0} → (C → Writer) → RunFault → Writer → Writer → Solver C → Solver C → Type 0
+Says seen e before after old new = Faults e (OneFailed before after × Took seen (proof_in old) (proof_in new)) (NoneFailed before after × Broke seen (proof_in old) (proof_in new)) (NoneFailed before after × Took seen (proof_in old) (proof_in new))
+
+pub solver_says : {C : Type 0} (seen : C → Writer) (e : RunFault) (before after : Writer) (a b c : Solver C) → NoneFailed before after → Took seen (proof_in a) (proof_in b) → FailsSolver seen e b c → Says seen e before after a c
+solver_says seen fault.ScriptRead before after a b c n t f = f
+solver_says seen fault.AnswersWrite before after a b c n t f = absurd f
+solver_says seen fault.CertificateWrite before after a b c n t f = (n, broke_later seen (proof_in a) (proof_in b) (proof_in c) t f)
+solver_says seen fault.OutOfMemory before after a b c n t f = (n, took_both seen (proof_in a) (proof_in b) (proof_in c) t f)
+solver_says seen fault.StoreFull before after a b c n t f = (n, took_both seen (proof_in a) (proof_in b) (proof_in c) t f)
+solver_says seen fault.CounterEnd before after a b c n t f = (n, took_both seen (proof_in a) (proof_in b) (proof_in c) t f)
+
+pub answers_say : {C : Type 0} (seen : C → Writer) (e : RunFault) (before after : Writer) (a b : Solver C) → e ≡ fault.AnswersWrite → OneFailed before after → Took seen (proof_in a) (proof_in b) → Says seen e before after a b
+answers_say seen e before after a b m f t = subst (λ x. Says seen x before after a b) (sym m) (f, t)
+
+pub memory_says : {C : Type 0} (seen : C → Writer) (e : RunFault) (before after : Writer) (a b : Solver C) → e ≡ fault.OutOfMemory → NoneFailed before after → Took seen (proof_in a) (proof_in b) → Says seen e before after a b
+memory_says seen e before after a b m n t = subst (λ x. Says seen x before after a b) (sym m) (n, t)
+
+-- what was sought left the solver's writer so
+pub sought_writes : {C : Type 0} (seen : C → Writer) (a c : Solver C) (user text : List ℕ) (budget : ℕ) (report : AskReport) → Sought seen budget report user text a c → Took seen (proof_in a) (proof_in c)
+sought_writes seen a c user text budget report s = sought_took seen a s.mid c user budget report s.opened s.searched
+
+pub takes_none : (a b : Writer) (text : List ℕ) → Takes a b text → NoneFailed a b
+takes_none a b text t = (t.failures, t.loans)
+
+-- a text was written to the answers, and the solver wrote nothing
+pub written_of : {C : Type 0} (seen : C → Writer) (r : Result (Unit {0}) RunFault) (before after : Writer) (s : Solver C) (text : List ℕ) → OnOk r (Takes before after text) → IfErr r (λ e. (e ≡ fault.AnswersWrite) × OneFailed before after) → WritesBoth r seen before after s s
+written_of seen (Ok x) before after s text t f = (takes_none before after text t, took_none seen (proof_in s))
+written_of seen (Err e) before after s text t f = answers_say seen e before after s s f.0 f.1 (took_none seen (proof_in s))

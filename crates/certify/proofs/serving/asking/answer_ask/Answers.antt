@@ -1,0 +1,40 @@
+use Rattle.std.proofs.Common.{ℕ, List, refl, subst}
+use Rattle.std.proofs.lemmas.Result.{err_from_is_err_and}
+use Rattle.sat_base.specs.device.Device.{Takes}
+use Rattle.certify.proofs.lemmas.serving.SessionCalls.{answers_say, asked_of, memory_says, solver_says, sought_writes, takes_none, took_both}
+use Rattle.certify.specs.serving.Calls.{proof_in}
+use Rattle.certify.proofs.serving.asking.answer_ask.Goals as goal
+
+pub returns-in_err-write_answer-clause-written : goal.returns-in_err-write_answer-clause-written
+returns-in_err-write_answer-clause-written g c =
+    let p = err_from_is_err_and c.from_residual-in_err-write_answer.result c.from_residual-in_err-write_answer.ensures.1 in
+    let s = c.args.session.now in
+    rw (p.1, p.2) (answers_say g.C.CountedWrite.seen c.in_err-write_answer.field-0.0 (g.A.CountedWrite.seen c.args.answers.now) (g.A.CountedWrite.seen c.write_answer.new.answers) s.solver c.ask.new.solver c.in_err-write_answer.ensures.fails.0 c.in_err-write_answer.ensures.fails.1
+    (sought_writes g.C.CountedWrite.seen s.solver c.ask.new.solver c.args.literals.now c.ask.new.page.text.items s.budget c.in_ok-report.report c.in_ok-report.ensures.sought))
+
+pub returns-in_err-assume-clause-written : goal.returns-in_err-assume-clause-written
+returns-in_err-assume-clause-written g c =
+    let p = err_from_is_err_and c.from_residual-in_err-assume.result c.from_residual-in_err-assume.ensures.1 in
+    let s = c.args.session.now in
+    rw (p.1, p.2) (solver_says g.C.CountedWrite.seen c.in_err-assume.field-0.0 (g.A.CountedWrite.seen c.args.answers.now) (g.A.CountedWrite.seen c.write_answer.new.answers) s.solver c.ask.new.solver c.assume.new.solver (takes_none (g.A.CountedWrite.seen c.args.answers.now) (g.A.CountedWrite.seen c.write_answer.new.answers) _ c.in_ok-write_answer.ensures.takes)
+    (sought_writes g.C.CountedWrite.seen s.solver c.ask.new.solver c.args.literals.now c.ask.new.page.text.items s.budget c.in_ok-report.report c.in_ok-report.ensures.sought) c.in_err-assume.ensures.fails)
+
+pub returns-in_err-push-clause-written : goal.returns-in_err-push-clause-written
+returns-in_err-push-clause-written g c =
+    let p = err_from_is_err_and c.from_residual-in_err-push.result c.from_residual-in_err-push.ensures.1 in
+    let s = c.args.session.now in
+    rw p.1 (memory_says g.C.CountedWrite.seen _ (g.A.CountedWrite.seen c.args.answers.now) (g.A.CountedWrite.seen c.write_answer.new.answers) s.solver c.assume.new.solver p.2 (takes_none (g.A.CountedWrite.seen c.args.answers.now) (g.A.CountedWrite.seen c.write_answer.new.answers) _ c.in_ok-write_answer.ensures.takes)
+    (took_both g.C.CountedWrite.seen (proof_in s.solver) (proof_in c.ask.new.solver) (proof_in c.assume.new.solver) (sought_writes g.C.CountedWrite.seen s.solver c.ask.new.solver c.args.literals.now c.ask.new.page.text.items s.budget c.in_ok-report.report c.in_ok-report.ensures.sought) c.in_ok-assume.ensures.assumed.did.took))
+
+pub returns-clause-asked : goal.returns-clause-asked
+returns-clause-asked g c =
+    let s = c.args.session.now in
+    let told = subst (λ (text : List ℕ). Takes (g.A.CountedWrite.seen c.args.answers.now) (g.A.CountedWrite.seen c.write_answer.new.answers) text) c.deref.ensures.value c.in_ok-write_answer.ensures.takes in
+    asked_of g.C.CountedWrite.seen s _ c.ask.new.solver c.args.literals.now c.ask.new.page.text.items c.in_ok-report.report _ _ c.in_ok-report.ensures.sought told c.in_ok-assume.ensures.assumed refl refl refl refl c.in_ok-push.ensures.items
+
+pub returns-clause-written : goal.returns-clause-written
+returns-clause-written g c =
+    let s = c.args.session.now in (
+      takes_none (g.A.CountedWrite.seen c.args.answers.now) (g.A.CountedWrite.seen c.write_answer.new.answers) _ c.in_ok-write_answer.ensures.takes,
+      took_both g.C.CountedWrite.seen (proof_in s.solver) (proof_in c.ask.new.solver) (proof_in c.assume.new.solver) (sought_writes g.C.CountedWrite.seen s.solver c.ask.new.solver c.args.literals.now c.ask.new.page.text.items s.budget c.in_ok-report.report c.in_ok-report.ensures.sought) c.in_ok-assume.ensures.assumed.did.took,
+    )

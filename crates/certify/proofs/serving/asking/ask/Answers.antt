@@ -1,0 +1,20 @@
+use Rattle.std.proofs.Common.{refl}
+use Rattle.std.proofs.lemmas.Result.{err_from_is_err_and}
+use Rattle.certify.specs.serving.Calls.{proof_in}
+use Rattle.certify.proofs.lemmas.serving.SessionCalls.{fails_then, memory_fails, sought_took, allowed_still}
+use Rattle.certify.proofs.serving.asking.ask.Goals as goal
+
+pub returns-in_err-report-clause-fails : goal.returns-in_err-report-clause-fails
+returns-in_err-report-clause-fails g c =
+    let p = err_from_is_err_and c.from_residual-in_err-report.result c.from_residual-in_err-report.ensures.1 in
+    rw (p.1, p.2) (fails_then g.C.CountedWrite.seen c.in_err-report.field-0.0 c.args.solver.now c.assume.new.solver c.search.new.solver c.in_ok-assume.ensures.assumed.did.took c.in_err-report.ensures.fails)
+
+pub returns-in_err-tell-clause-fails : goal.returns-in_err-tell-clause-fails
+returns-in_err-tell-clause-fails g c =
+    let p = err_from_is_err_and c.from_residual-in_err-tell.result c.from_residual-in_err-tell.ensures.1 in
+    rw (p.1, p.2) (memory_fails g.C.CountedWrite.seen c.in_err-tell.field-0.0 c.args.solver.now c.search.new.solver c.in_err-tell.ensures.memory
+    (sought_took g.C.CountedWrite.seen c.args.solver.now c.assume.new.solver c.search.new.solver c.args.literals.now c.args.budget c.in_ok-report.report c.in_ok-assume.ensures.assumed c.in_ok-report.ensures.searched))
+
+pub returns-clause-allowed : goal.returns-clause-allowed
+returns-clause-allowed g c =
+    allowed_still g.C.CountedWrite.seen c.args.solver.now c.assume.new.solver c.search.new.solver c.args.literals.now c.args.budget c.in_ok-report.report c.requires.allowed c.in_ok-assume.ensures.assumed c.in_ok-report.ensures.searched

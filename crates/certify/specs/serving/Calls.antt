@@ -1,0 +1,89 @@
+-- What a run's calls of its solver leave, and which faults they give.
+use Rattle.std.specs.Prelude.{ℕ, ◌+◌, ◌≡◌, Bool, true, false, Option, Some, None, List, [], ◌∷◌, Result, Ok, Err}
+use Rattle.sat_base.specs.device.Device.{Writer}
+use Rattle.sat_base.specs.script.Judge.{Judge, refused_literal}
+use Rattle.sat_solver.specs.declared.error.SolverError.{SolverError}
+use Rattle.sat_solver.specs.declared.error.SolverError.TheVariants as errors
+use Rattle.sat_solver.specs.declared.session.proof.Proof.{Proof}
+use Rattle.sat_solver.specs.declared.solver.Solver.{Solver}
+use Rattle.sat_solver.specs.declared.solver.state.State.{State}
+use Rattle.sat_solver.specs.declared.solver.state.State.TheVariants as states
+use Rattle.sat_solver.specs.names.Calls.{Agree}
+use Rattle.sat_solver.specs.names.Live.{Live}
+use Rattle.sat_solver.specs.names.Refusing.{names_in}
+use Rattle.sat_solver.specs.session.Making.{Took, Broke}
+use Rattle.sat_solver.specs.solver.Calls.{Answered}
+use Rattle.sat_solver.specs.solver.Whole.{IsSolver, steps_in}
+use Rattle.certify.specs.declared.fault.RunFault.{RunFault}
+use Rattle.certify.specs.declared.fault.RunFault.TheVariants as fault
+use Rattle.certify.specs.declared.summary.Answer.{Answer}
+use Rattle.certify.specs.declared.summary.Answer.TheVariants as kind
+use Rattle.certify.specs.declared.summary.AskReport.{AskReport}
+use Rattle.certify.specs.run.FinishedRun.{IsSpent}
+
+-- what a solver fails of, as a run's fault
+abbrev pub fault_for : SolverError → RunFault
+fault_for (errors.ProofIoError cause) = fault.CertificateWrite
+fault_for errors.OutOfMemory = fault.OutOfMemory
+fault_for errors.StoreFull = fault.StoreFull
+fault_for e = fault.CounterEnd
+
+abbrev pub is_interrupted : SolverError → Bool
+is_interrupted errors.Interrupted = true
+is_interrupted e = false
+
+-- what each fault says, where writing the answers failed, writing the certificate, and what no device decides; the script wasn't read
+abbrev pub Faults : RunFault → Type 0 → Type 0 → Type 0 → Type 0
+Faults fault.ScriptRead answers certificate rest = ⊥
+Faults fault.AnswersWrite answers certificate rest = answers
+Faults fault.CertificateWrite answers certificate rest = certificate
+Faults fault.OutOfMemory answers certificate rest = rest
+Faults fault.StoreFull answers certificate rest = rest
+Faults fault.CounterEnd answers certificate rest = rest
+
+-- where a solver writes
+abbrev pub proof_in : {C : Type 0} → Solver C → Proof C
+proof_in s = s.core.proof
+
+-- a call of the solver failed, perhaps since one of the certificate's writer did, the last
+abbrev pub FailsSolver : {C : Type 0} → (C → Writer) → RunFault → Solver C → Solver C → Type 0
+FailsSolver seen e old new = Faults e ⊥ (Broke seen (proof_in old) (proof_in new)) (Took seen (proof_in old) (proof_in new))
+
+-- a solver that goes on
+pub record IsReady {C : Type 0} (s : Solver C) : Type 0 where
+  pub solver : IsSolver s
+  pub going : s.failed ≡ false
+
+-- none of the names is refused, by a state of the judge that the solver agrees with
+abbrev pub IsAllowed : {C : Type 0} → Solver C → List ℕ → Type 0
+IsAllowed s user = (j : Judge) × (live : Live) × Agree s.names (steps_in s) j live × (refused_literal j (names_in user) ≡ None)
+
+-- from here on a search makes at most so many rounds
+pub record Limited {C : Type 0} (budget : ℕ) (old new : Solver C) : Type 0 where
+  pub ready : IsReady new
+  pub limit : new.core.config.max_steps ≡ budget
+  pub proof : proof_in new ≡ proof_in old
+  pub names : new.names ≡ old.names
+  pub state : new.state ≡ old.state
+  pub assumed : new.assumed ≡ old.assumed
+  pub rounds : new.clock.steps ≡ old.clock.steps
+
+-- what is known, as an answer
+abbrev pub AnswerIs : State → Answer → Type 0
+AnswerIs states.Unknown answer = answer ≡ kind.Unknown
+AnswerIs states.Sat answer = answer ≡ kind.Sat
+AnswerIs states.UnsatUnderAssumptions answer = answer ≡ kind.Unsat
+AnswerIs states.Unsat answer = answer ≡ kind.Unsat
+
+-- a search came to this answer
+pub record Solved {C : Type 0} (seen : C → Writer) (answer : Answer) (old new : Solver C) : Type 0 where
+  pub answered : Answered seen old new
+  pub answer_is : AnswerIs new.state answer
+
+-- with at most so many rounds, of which it made some
+pub record Searched {C : Type 0} (seen : C → Writer) (budget : ℕ) (report : AskReport) (old new : Solver C) : Type 0 where
+  pub mid : Solver C
+  pub limited : Limited budget old mid
+  pub solved : Solved seen report.answer mid new
+  pub spent : IsSpent budget old.clock.steps report
+  pub rounds : new.clock.steps ≡ old.clock.steps + report.steps

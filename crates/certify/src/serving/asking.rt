@@ -1,0 +1,58 @@
+//! Answers an ask.
+ghost use Rattle.std.specs.Prelude.{◌≡◌, [], IfErr, IfOk, OnOk};
+ghost use Rattle.certify.specs.serving.Asking.{Sought};
+ghost use Rattle.certify.specs.serving.Calls.{FailsSolver, IsAllowed, IsReady};
+ghost use Rattle.certify.specs.serving.Standing.{Asked, WritesBoth};
+
+use super::calls::{assume, search};
+use super::session::Session;
+use super::telling::Page;
+use super::writing::write_answer;
+use crate::fault::RunFault;
+use crate::summary::AskReport;
+use sat_base::{CountedWrite, Lit};
+use sat_solver::Solver;
+
+/// Looks for the answer of an ask, and leaves its text on the page.
+fn ask<C: CountedWrite + Drop>(
+    solver: &mut Solver<C>,
+    literals: &[Lit],
+    budget: u64,
+    page: &mut Page,
+) -> Result<AskReport, RunFault>
+    requires ready { IsReady solver.old }
+    requires allowed { IsAllowed solver.old literals.now }
+    ensures sought { IfOk result (λ report. Sought C.seen budget report literals.now page.new.text.items solver.old solver.new) }
+    ensures ready { OnOk result (IsReady solver.new) }
+    // No name is refused where there is none.
+    ensures allowed { OnOk result (IsAllowed solver.new []) }
+    ensures fails { IfErr result (λ e. FailsSolver C.seen e solver.old solver.new) }
+{
+    assume(solver, literals)?;
+    let report = search(solver, budget)?;
+    page.tell(solver, report.answer)?;
+    Ok(report)
+}
+
+/// Answers an ask under these literals, of whose names none is refused.
+pub fn answer_ask<A: CountedWrite, C: CountedWrite + Drop>(
+    session: &mut Session<C>,
+    answers: &mut A,
+    literals: &[Lit],
+) -> Result<(), RunFault>
+    requires ready { IsReady session.old.solver }
+    requires allowed { IsAllowed session.old.solver literals.now }
+    ensures asked { OnOk result (Asked C.seen session.old session.new literals.now (A.seen answers.old) (A.seen answers.new)) }
+    ensures written { WritesBoth result C.seen (A.seen answers.old) (A.seen answers.new) session.old.solver session.new.solver }
+{
+    let report = ask(
+        &mut session.solver,
+        literals,
+        session.budget,
+        &mut session.page,
+    )?;
+    write_answer(answers, &session.page.text)?;
+    assume(&mut session.solver, &[])?;
+    session.asks.push(report)?;
+    Ok(())
+}

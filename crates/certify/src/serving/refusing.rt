@@ -1,0 +1,28 @@
+//! Refuses commands.
+ghost use Rattle.std.specs.Prelude.{◌≡◌, ◌+◌, ◌<◌, OnOk, Some};
+ghost use Rattle.sat_base.specs.script.Judge.{Refusal as Why};
+ghost use Rattle.certify.specs.judge.Names.{refusal_said};
+ghost use Rattle.certify.specs.serving.Standing.{Refused, WritesBoth};
+
+use super::session::Session;
+use super::writing::write_answer;
+use crate::answers::refused::push_refused;
+use crate::fault::RunFault;
+use crate::judge::Refusal;
+use sat_base::CountedWrite;
+
+/// Refuses the last command that came.
+pub fn refuse<A: CountedWrite, C: CountedWrite + Drop>(
+    session: &mut Session<C>,
+    answers: &mut A,
+    refusal: Refusal,
+) -> Result<(), RunFault>
+    requires { session.old.refused < session.old.commands }
+    ensures refused { (why : Why) → refusal_said (Some refusal) ≡ Some why → OnOk result (Refused session.old session.new why (A.seen answers.old) (A.seen answers.new)) }
+    ensures written { WritesBoth result C.seen (A.seen answers.old) (A.seen answers.new) session.old.solver session.new.solver }
+{
+    session.refused += 1;
+    session.page.text.clear();
+    push_refused(&mut session.page.text, session.commands, refusal)?;
+    write_answer(answers, &session.page.text)
+}

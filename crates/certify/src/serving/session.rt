@@ -1,0 +1,72 @@
+//! What a run holds between commands.
+ghost use Rattle.std.specs.Prelude.{◌≡◌, [], ◌+◌, Some};
+ghost use Rattle.sat_base.specs.device.Sink.{empty_sink};
+ghost use Rattle.sat_base.specs.script.Judge.{start};
+ghost use Rattle.sat_solver.specs.names.Calls.{Agree};
+ghost use Rattle.sat_solver.specs.session.Counting.{start as uncounted};
+ghost use Rattle.sat_solver.specs.session.ProofView.{Open, target_of};
+ghost use Rattle.sat_solver.specs.solver.Whole.{steps_in};
+ghost use Rattle.certify.specs.judge.Names.{Stands};
+ghost use Rattle.certify.specs.serving.Calls.{IsReady, proof_in};
+
+use super::telling::Page;
+use crate::judge::Names;
+use crate::summary::AskReport;
+use sat_base::CountedWrite;
+use sat_solver::{ProofFormat, Solver};
+use std::alloc::Global;
+
+/// What a run holds between commands.
+#[derive(Drop)]
+pub struct Session<C: CountedWrite + Drop> {
+    pub(crate) names: Names,
+    pub(crate) solver: Solver<C>,
+    /// The most rounds of search for an ask.
+    pub(crate) budget: u64,
+    pub(crate) page: Page,
+    /// How many commands came, those that were refused too.
+    pub(crate) commands: u64,
+    pub(crate) refused: u64,
+    pub(crate) asks: Vec<AskReport>,
+}
+
+/// A solver that writes its steps to this writer.
+fn solver_into<C: CountedWrite + Drop>(alloc: Global, certificate: C) -> Solver<C>
+    ensures ready { IsReady result }
+    ensures agree { Agree result.names [] start [] }
+    ensures steps { steps_in result ≡ [] }
+    ensures target { target_of C.seen (proof_in result) ≡ Open ProofFormat.Varisat uncounted (empty_sink (C.seen certificate)) }
+    ensures rounds { result.clock.steps ≡ 0 }
+{
+    let mut solver = Solver::new(alloc);
+    solver
+        .write_proof(certificate, ProofFormat::Varisat)
+        .unwrap();
+    solver
+}
+
+impl<C: CountedWrite + Drop> Session<C> {
+    /// Before the first command, with a certificate that is written to this writer.
+    pub fn new(alloc: Global, certificate: C, budget: u64) -> Session<C>
+        ensures ready { IsReady result.solver }
+        ensures agree { Agree result.solver.names [] start [] }
+        ensures steps { steps_in result.solver ≡ [] }
+        ensures target { target_of C.seen (proof_in result.solver) ≡ Open ProofFormat.Varisat uncounted (empty_sink (C.seen certificate)) }
+        ensures rounds { result.solver.clock.steps ≡ 0 }
+        ensures names { Stands result.names start }
+        ensures budget { result.budget ≡ budget }
+        ensures commands { result.commands ≡ 0 }
+        ensures refused { result.refused ≡ 0 }
+        ensures asks { result.asks.items ≡ [] }
+    {
+        Session {
+            names: Names::new(alloc),
+            solver: solver_into(alloc, certificate),
+            budget,
+            page: Page::new(alloc),
+            commands: 0,
+            refused: 0,
+            asks: Vec::new(alloc),
+        }
+    }
+}

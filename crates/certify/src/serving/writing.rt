@@ -1,0 +1,18 @@
+//! Writes answers.
+ghost use Rattle.std.specs.Prelude.{◌≡◌, IfErr, OnOk};
+ghost use Rattle.sat_base.specs.device.Device.{Takes};
+ghost use Rattle.certify.specs.Calls.{OneFailed};
+
+use crate::fault::RunFault;
+use sat_base::CountedWrite;
+
+/// Writes a text of the answers.
+pub fn write_answer<A: CountedWrite>(answers: &mut A, text: &[u8]) -> Result<(), RunFault>
+    ensures takes { OnOk result (Takes (A.seen answers.old) (A.seen answers.new) text.now) }
+    ensures fails { IfErr result (λ e. (e ≡ RunFault.AnswersWrite) × OneFailed (A.seen answers.old) (A.seen answers.new)) }
+{
+    match answers.write_all_counted(text) {
+        Ok(()) => Ok(()),
+        Err(_) => Err(RunFault::AnswersWrite),
+    }
+}
