@@ -7,3 +7,4 @@ pub mod Confirming
 pub mod Halting
 pub mod Lines
 pub mod Sessions
+pub mod Whole

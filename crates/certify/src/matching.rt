@@ -11,3 +11,4 @@ pub(crate) mod lines;
 pub(crate) mod named;
 pub(crate) mod naming;
 pub(crate) mod session;
+pub(crate) mod whole;

@@ -12,4 +12,5 @@ pub mod AskedWhole
 pub mod CommandsMet
 pub mod Joining
 pub mod Lines
+pub mod Through
 pub mod SessionMet

@@ -94,3 +94,15 @@ ConfirmsLast n script t before old (Ok x) =
     (j : Judge) (earlier : List Step) → HoldsAt t old j earlier → ToConfirm j n earlier script.0 script.1 before old.rest
 ConfirmsLast n script t before old (Err why) =
     (j : Judge) (earlier : List Step) → HoldsAt t old j earlier → ToConfirm j n earlier script.0 script.1 before old.rest → ⊥
+
+-- So far: from one command on the script was confirmed up to another, and what was to be confirmed is so exactly if the rest is.
+pub record IsThrough (old new : View) (j : Judge) (earlier : List Step) (n : ℕ) (script : Reading) (before : List ℕ) (m : ℕ) (left : Reading) (next : Table) (behind : List ℕ) : Type 0 where
+  pub judge : Judge
+  pub later : List Step
+  pub stands : HoldsAt next new judge later
+  pub on : ToConfirm j n earlier script.0 script.1 before old.rest → ToConfirm judge m later left.0 left.1 behind new.rest
+  pub back : ToConfirm judge m later left.0 left.1 behind new.rest → ToConfirm j n earlier script.0 script.1 before old.rest
+
+abbrev pub Through : ℕ → Reading → Table → ℕ → Reading → Table → List ℕ → List ℕ → View → View → Result (Unit {0}) Why → Type 0
+Through n script t m left next before behind old new r =
+    (j : Judge) (earlier : List Step) → HoldsAt t old j earlier → IsThrough old new j earlier n script before m left next behind

@@ -1,0 +1,64 @@
+use Rattle.std.proofs.Common.{◌≡◌, ◌+◌, ◌-◌, ◌^◌, ◌≤◌, Ok, Err, Some, None, Option, [], ◌∷◌, true, false, refl, sym, ◌∙◌, ap, subst, arith, rules}
+use Rattle.std.proofs.lemmas.Result.{err_from_is_err_and}
+use Rattle.std.proofs.lemmas.Bool.Decides.{nat_tests}
+use Rattle.certify.specs.matching.Confirming.{ConfirmsLast, ConfirmsNext, table_of}
+use Rattle.certify.specs.matching.Sessions.{answers_in, stream_in}
+use Rattle.certify.specs.reading.Commands.{end_reading}
+use Rattle.certify.proofs.lemmas.matching.Joining.{joins_many, too_many, took_open}
+use Rattle.certify.proofs.lemmas.matching.SessionMet.{command_end, command_stops}
+use Rattle.certify.proofs.matching.whole.Confirmation.confirm_last.Goals as goal
+
+pub returns-in_err-confirm_next-clause-confirms : goal.returns-in_err-confirm_next-clause-confirms
+returns-in_err-confirm_next-clause-confirms g c w is =
+    let A = g.A.CountedRead.seen in
+    let C = g.C.CountedRead.seen in
+    let old = c.args.self.now.session in
+    let new = c.confirm_next.new.self.session in
+    let k = c.in_err-confirm_next.ensures.confirms w is in
+    let a = answers_in A c.args.answers.now old in
+    let b = answers_in A c.confirm_next.new.answers new in
+    let s = stream_in C c.args.steps.now old.matching in
+    let u = stream_in C c.confirm_next.new.steps new.matching in
+    let p = err_from_is_err_and c.from_residual.result c.from_residual.ensures.1 in
+    rw (p.1, p.2) (record {
+      same = k.same;
+      bound = k.bound;
+      goes_on = tt;
+      joins = command_stops old.number (old.number + 1) (table_of old.matching) (table_of new.matching) a b b s u u c.requires.open_yet c.requires.goes_on.open_yet (2 ^ 64 - 1 ≤ old.number) w (end_reading c.args.end) c.in_err-confirm_next.field-0.0 k.joins;
+    })
+
+pub confirm_end-requires-clause-goes_on : goal.confirm_end-requires-clause-goes_on
+confirm_end-requires-clause-goes_on g c =
+    let w = c.requires.whole in
+    (c.in_ok-confirm_next.ensures.confirms w.0 w.1).goes_on
+
+pub confirm_end-requires-clause-open_yet : goal.confirm_end-requires-clause-open_yet
+confirm_end-requires-clause-open_yet g c =
+    let A = g.A.CountedRead.seen in
+    let w = c.requires.whole in
+    let k = c.in_ok-confirm_next.ensures.confirms w.0 w.1 in
+    took_open (answers_in A c.args.answers.now c.args.self.now.session) (answers_in A c.confirm_next.new.answers c.confirm_next.new.self.session) c.requires.open_yet k.joins.0
+
+pub returns-clause-confirms : goal.returns-clause-confirms
+returns-clause-confirms g c w is =
+    let A = g.A.CountedRead.seen in
+    let C = g.C.CountedRead.seen in
+    let old = c.args.self.now.session in
+    let mid = c.confirm_next.new.self.session in
+    let new = c.confirm_end.new.self in
+    let a = answers_in A c.args.answers.now old in
+    let b = answers_in A c.confirm_next.new.answers mid in
+    let d = answers_in A c.confirm_end.new.answers new in
+    let s = stream_in C c.args.steps.now old.matching in
+    let u = stream_in C c.confirm_next.new.steps mid.matching in
+    let v = stream_in C c.confirm_end.new.steps new.matching in
+    let k = c.in_ok-confirm_next.ensures.confirms w is in
+    let over = c.confirm_end.ensures.confirms in
+    let M = 2 ^ 64 - 1 ≤ old.number in
+    record {
+      same = over.same ∙ k.same;
+      bound = over.bound;
+      goes_on = over.goes_on;
+      joins = command_end old.number mid.number (table_of old.matching) (table_of mid.matching) a b d s u v c.requires.open_yet c.requires.goes_on.open_yet M w (end_reading c.args.end) c.confirm_end.result c.in_ok-confirm_next.ensures.number k.joins
+          (joins_many M false c.confirm_end.result b d u v (λ before behind x y. ConfirmsLast mid.number (end_reading c.args.end) (table_of mid.matching) before x) over.joins);
+    }

@@ -1,0 +1,100 @@
+//! Confirms the commands of a script as they come, and then its end.
+ghost use Rattle.std.specs.Prelude.{◌≡◌, ◌+◌, ◌-◌, ◌^◌, ◌≤◌, [], ◌∷◌, true, false, OnOk};
+ghost use Rattle.sat_base.specs.device.Device.{most_reads};
+ghost use Rattle.sat_base.specs.script.Script.{Command as Spelled, onto_commands};
+ghost use Rattle.sat_base.specs.steps.StepReading.{reader_name, reader_source};
+ghost use Rattle.certify.specs.confirm.Streams.{GoesOn};
+ghost use Rattle.certify.specs.matching.Confirming.{ConfirmsLast, ConfirmsNext, table_of};
+ghost use Rattle.certify.specs.matching.Sessions.{ConfirmsBoth, answers_in};
+ghost use Rattle.certify.specs.matching.Whole.{Ends, script_in, standing};
+ghost use Rattle.certify.specs.reading.Ahead.{IsOpen};
+ghost use Rattle.certify.specs.reading.Commands.{HasWhole, Means, end_reading};
+ghost use Rattle.certify.specs.reading.Language.{reading};
+
+use crate::matching::halt::{Halt, unread_script};
+use crate::matching::session::Session;
+use crate::reading::ScriptEnd;
+use crate::reading::stream::{CommandStream, Next};
+use sat_base::{CountedRead, StepReader};
+use std::alloc::Global;
+
+/// A script that is read as its commands are wanted, and what was confirmed of it.
+#[derive(Drop)]
+pub(crate) struct Confirmation {
+    pub script: CommandStream,
+    pub session: Session,
+}
+
+impl Confirmation {
+    /// Confirms the command that came.
+    fn confirm_next<A: CountedRead, C: CountedRead>(
+        &mut self,
+        answers: &mut A,
+        steps: &mut StepReader<'_, C>,
+    ) -> Result<(), Halt>
+        requires goes_on { GoesOn C.seen steps.old }
+        requires open_yet { IsOpen (answers_in A.seen answers.old self.old.session) }
+        requires whole { (c : Spelled) × HasWhole self.old.script.reader c }
+        ensures script { self.new.script ≡ self.old.script }
+        ensures number { OnOk result (self.new.session.number ≡ self.old.session.number + 1) }
+        ensures confirms { (c : Spelled) → HasWhole self.old.script.reader c
+            → ConfirmsBoth (2 ^ 64 - 1 ≤ self.old.session.number) true result A.seen C.seen answers.old answers.new steps.old steps.new self.old.session self.new.session
+            (ConfirmsNext self.old.session.number c (table_of self.old.session.matching) (table_of self.new.session.matching)) }
+    {
+        if self.session.number == u64::MAX {
+            return Err(Halt::TooMany);
+        }
+        self.session
+            .confirm_command(answers, steps, self.script.command())?;
+        self.session.number += 1;
+        Ok(())
+    }
+
+    /// Confirms the last command, and the end.
+    fn confirm_last<A: CountedRead, C: CountedRead>(
+        &mut self,
+        answers: &mut A,
+        steps: &mut StepReader<'_, C>,
+        end: ScriptEnd,
+    ) -> Result<(), Halt>
+        requires goes_on { GoesOn C.seen steps.old }
+        requires open_yet { IsOpen (answers_in A.seen answers.old self.old.session) }
+        requires whole { (c : Spelled) × HasWhole self.old.script.reader c }
+        ensures script { self.new.script ≡ self.old.script }
+        ensures confirms { (c : Spelled) → HasWhole self.old.script.reader c
+            → ConfirmsBoth (2 ^ 64 - 1 ≤ self.old.session.number) false result A.seen C.seen answers.old answers.new steps.old steps.new self.old.session self.new.session
+            (λ before behind u v. ConfirmsLast self.old.session.number (onto_commands (c ∷ []) (end_reading end)) (table_of self.old.session.matching) before u) }
+    {
+        self.confirm_next(answers, steps)?;
+        self.session.confirm_end(answers, steps, end)
+    }
+
+    /// Confirms all commands, and the end.
+    pub fn confirm_all<S: CountedRead, A: CountedRead, C: CountedRead>(
+        &mut self,
+        script: &mut S,
+        answers: &mut A,
+        steps: &mut StepReader<'_, C>,
+    ) -> Result<(), Halt>
+        requires goes_on { GoesOn C.seen steps.old }
+        requires open_yet { IsOpen (answers_in A.seen answers.old self.old.session) }
+        requires script_open { IsOpen (script_in S.seen script.old self.old) }
+        requires reads { Means self.old.script.reader reading }
+        ensures same { reader_name steps.new ≡ reader_name steps.old }
+        ensures bound { (reader_source C.seen steps.new).reads ≤ most_reads }
+        ensures ends { Ends reading result (standing S.seen A.seen C.seen script.old answers.old steps.old self.old)
+            (standing S.seen A.seen C.seen script.new answers.new steps.new self.new) }
+    {
+        loop {
+            let next = match self.script.next(script) {
+                Ok(next) => next,
+                Err(error) => return Err(unread_script(error)),
+            };
+            match next {
+                Next::Command => self.confirm_next(answers, steps)?,
+                Next::Last(end) => return self.confirm_last(answers, steps, end),
+                Next::End(end) => return self.session.confirm_end(answers, steps, end),
+            }
+        }
+    }
+}
