@@ -11,8 +11,6 @@ mod naming;
 #[cfg(test)]
 mod proof;
 #[cfg(test)]
-mod searching;
-#[cfg(test)]
 mod solver;
 #[cfg(test)]
 mod texts;
