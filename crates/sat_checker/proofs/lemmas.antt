@@ -2,6 +2,7 @@ pub mod sets
 pub mod tally
 pub mod propagation
 pub mod meaning
+pub mod pairs
 pub mod store
 pub mod telling
 pub mod variables

@@ -2,6 +2,8 @@ pub mod Marks
 pub mod Walk
 pub mod Look
 pub mod IndexView
+pub mod PairView
+pub mod LinkView
 pub mod SlotView
 pub mod OccurrenceView
 pub mod EntryView

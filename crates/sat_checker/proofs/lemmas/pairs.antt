@@ -1,0 +1,6 @@
+pub mod Order
+pub mod Parts
+pub mod Walks
+pub mod Links
+pub mod Changing
+pub mod Sorting

@@ -1,0 +1,98 @@
+-- Pairs that are linked by their places: heads, and links by place.
+use Rattle.std.specs.Prelude.{ℕ, zero, suc, ◌≡◌, ◌≤◌, ◌<◌, ◌==◌, ◌-◌, ◌/◌, ◌^◌, min, Bool, not, nat_le, List, [], ◌∷◌, ◌++◌, length, filter, slice_index_or, Option, None, Some, if◌then◌else◌}
+use Rattle.std.specs.List.{AllByRecursion}
+use Rattle.sat_checker.specs.inner.PairView.{AreInOrder}
+use Rattle.sat_checker.specs.declared.links.Pair.{Pair}
+use Rattle.sat_checker.specs.declared.links.Link.{Link}
+
+-- no place
+abbrev pub nowhere : ℕ
+nowhere = 4294967295
+
+abbrev pub link_at : List Link → ℕ → Link
+link_at links at = slice_index_or links at (record { hash = 0; next = 0 })
+
+abbrev pub pair_at : List Link → ℕ → Pair
+pair_at links at = record { hash = (link_at links at).hash; place = at }
+
+-- from a place on, so many at most
+abbrev pub chain : List Link → ℕ → ℕ → List Pair
+chain links zero at = []
+chain links (suc n) at = if at == nowhere then [] else pair_at links at ∷ chain links n (link_at links at).next
+
+-- from a place on
+abbrev pub rest : List Link → ℕ → List Pair
+rest links at = chain links (length links) at
+
+-- the links lead from a place over these pairs to the end
+pub record IsAt (links : List Link) (at : ℕ) (p : Pair) : Type 0 where
+  pub inside : at < length links
+  pub is : p ≡ pair_at links at
+
+abbrev pub Leads : List Link → ℕ → List Pair → Type 0
+Leads links at [] = at ≡ nowhere
+Leads links at (p ∷ ps) = IsAt links at p × Leads links (link_at links at).next ps
+
+-- so many lists, one behind the other
+abbrev pub joined : (ℕ → List Pair) → ℕ → List Pair
+joined parts zero = []
+joined parts (suc n) = joined parts n ++ parts n
+
+-- the top bits of a hash, over so many heads
+abbrev pub top_of : ℕ → ℕ → ℕ → ℕ
+top_of shift count hash = min (hash / 2 ^ shift) (count - 1)
+
+abbrev pub head_at : List ℕ → ℕ → ℕ
+head_at heads top = slice_index_or heads top 0
+
+abbrev pub part_at : List ℕ → List Link → ℕ → List Pair
+part_at heads links top = rest links (head_at heads top)
+
+-- all pairs
+abbrev pub listed : List ℕ → List Link → List Pair
+listed heads links = joined (part_at heads links) (length heads)
+
+-- the links from a place lead to the end, and over pairs in order
+pub record IsWalk (links : List Link) (at : ℕ) : Type 0 where
+  pub few : length links ≤ nowhere
+  pub leads : Leads links at (rest links at)
+  pub in_order : AreInOrder (rest links at)
+
+-- from a place on these pairs are linked; each has this top
+pub record IsPart (links : List Link) (shift count top at : ℕ) (ps : List Pair) : Type 0 where
+  pub leads : Leads links at ps
+  pub short : length ps ≤ length links
+  pub in_order : AreInOrder ps
+  pub tops : AllByRecursion (λ p. top_of shift count p.hash ≡ top) ps
+
+-- each head's pairs are linked
+pub record AreLinked (heads : List ℕ) (links : List Link) (shift : ℕ) : Type 0 where
+  pub few : length links ≤ nowhere
+  pub count : length (listed heads links) ≤ length links
+  pub parts : (top : ℕ) → top < length heads → IsPart links shift (length heads) top (head_at heads top) (part_at heads links top)
+
+-- this is linked, and lists these pairs
+pub record Lists (heads : List ℕ) (links : List Link) (shift : ℕ) (pairs : List Pair) : Type 0 where
+  pub linked : AreLinked heads links shift
+  pub is : listed heads links ≡ pairs
+
+-- the pairs whose hash is at most this one
+abbrev pub up_to : ℕ → List Pair → List Pair
+up_to hash = filter (λ p. nat_le p.hash hash)
+
+-- the place of the last pair, or this one where there is none
+abbrev pub last_or : Option ℕ → List Pair → Option ℕ
+last_or place [] = place
+last_or place (p ∷ ps) = last_or (Some p.place) ps
+
+-- the place before this one
+abbrev pub place_before : ℕ → List Pair → Option ℕ
+place_before place [] = None
+place_before place (p ∷ []) = None
+place_before place (p ∷ q ∷ qs) = if q.place == place then Some p.place else place_before place (q ∷ qs)
+
+-- what is kept of pairs whose hashes have so many bits, of which so many don't tell the head
+pub record AreKeptPairs (heads : List ℕ) (links : List Link) (bits shift : ℕ) : Type 0 where
+  pub linked : AreLinked heads links shift
+  pub width : bits ≤ 64
+  pub below : shift < 64

@@ -1,0 +1,45 @@
+-- Lists of pairs of a hash and a place.
+use Rattle.std.specs.Prelude.{ℕ, ◌≡◌, ◌≤◌, ◌<◌, ◌==◌, Bool, not, ◌||◌, ◌&&◌, nat_lt, List, [], ◌∷◌, map, filter, Option, None, Some, if◌then◌else◌}
+use Rattle.std.specs.List.{AllByRecursion}
+use Rattle.sat_checker.specs.declared.links.Pair.{Pair}
+
+-- by hashes, those of one hash by places
+pub record IsBefore (p q : Pair) : Type 0 where
+  pub hash : p.hash ≤ q.hash
+  pub place : p.hash ≡ q.hash → p.place < q.place
+
+abbrev pub AreInOrder : List Pair → Type 0
+AreInOrder [] = Unit {0}
+AreInOrder (p ∷ ps) = AllByRecursion (IsBefore p) ps × AreInOrder ps
+
+abbrev pub is_before : Pair → Pair → Bool
+is_before p q = nat_lt p.hash q.hash || (p.hash == q.hash && nat_lt p.place q.place)
+
+-- put in before the first that it stands before
+abbrev pub inserted : Pair → List Pair → List Pair
+inserted p [] = p ∷ []
+inserted p (q ∷ qs) = if is_before p q then p ∷ q ∷ qs else q ∷ inserted p qs
+
+abbrev pub without_pair : ℕ → List Pair → List Pair
+without_pair place = filter (λ p. not (p.place == place))
+
+-- the places of a hash
+abbrev pub places_in : ℕ → List Pair → List ℕ
+places_in hash pairs = map (λ p. p.place) (filter (λ p. p.hash == hash) pairs)
+
+abbrev pub first_of : List ℕ → Option ℕ
+first_of [] = None
+first_of (p ∷ ps) = Some p
+
+-- those behind a place
+abbrev pub behind : ℕ → List ℕ → List ℕ
+behind place = filter (nat_lt place)
+
+-- do two pairs have one place?
+abbrev pub same_place : Pair → Pair → Bool
+same_place p q = p.place == q.place
+
+-- what contracts see of an index: its pairs, and how many places were given
+pub record Indexed : Type 0 where
+  pub pairs : List Pair
+  pub places : ℕ
