@@ -19,3 +19,4 @@ pub mod Counting
 pub mod Searching
 pub mod Models
 pub mod Coming
+pub mod Room

@@ -18,6 +18,7 @@ pub mod modes;
 pub mod naming;
 pub mod observing;
 pub mod refusing;
+pub mod room;
 pub mod taking;
 
 use crate::names::free::FreeIndices;

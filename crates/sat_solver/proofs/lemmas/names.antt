@@ -32,3 +32,4 @@ pub mod LeftOut
 pub mod NextIndices
 pub mod CameLemmas
 pub mod ComingSteps
+pub mod RoomLemmas

@@ -13,6 +13,7 @@ use Rattle.sat_solver.specs.names.Naming.{Extends}
 use Rattle.sat_solver.specs.names.Search.{IsUnseen}
 use Rattle.sat_solver.specs.session.Coming.{Comes}
 use Rattle.sat_solver.specs.names.Coming.{IsDue}
+use Rattle.sat_solver.specs.names.Room.{live_count, LeavesRoom}
 use Rattle.sat_solver.specs.declared.names.Variables.{Variables}
 
 -- what stands between calls, whatever the judge says: the names fit together, and are what the steps have said, each of which may be written
@@ -48,6 +49,7 @@ pub record NamesOne (old new : Variables) (from to : List Step) (user v : ℕ) :
   pub step : to ≡ UserVarName v (Some user) ∷ from
   pub kept : (j : Judge) (live : Live) → Agree old from j live → Agree new to (with_name (user + 1) j) ((v, j.next_identity) ∷ live)
   pub unknown : the_checking.knows from v ≡ false
+  pub live : live_count new ≡ live_count old + 1
   pub extends : Extends old new
   pub unseen : IsUnseen old new from to
 
@@ -74,6 +76,7 @@ pub record Brought (old new : Variables) (from to : List Step) (user : ℕ) : Ty
   pub extends : Extends old new
   pub unseen : IsUnseen old new from to
   pub comes : Comes IsDue from to
+  pub room : LeavesRoom old new user
 
 -- the judge sees nothing of it
 abbrev pub DoesNothing : Variables → Variables → List Step → List Step → Type 0

@@ -32,10 +32,10 @@ pub record IsFull {W : Type 0} (old new : Variables) (from to : W) : Type 0 wher
   pub steps : to ≡ from
   pub none : NoneLeft old
 
--- no variable is left only where it is so
+-- want of memory or a fault of what takes the steps, or no variable is left, only where it is so
 abbrev pub Limits : {W : Type 0} → NameError → Variables → Variables → W → W → Type 0
-Limits errors.WitnessVariable old new from to = Unit {0}
-Limits errors.AssumedVariable old new from to = Unit {0}
+Limits errors.WitnessVariable old new from to = ⊥
+Limits errors.AssumedVariable old new from to = ⊥
 Limits errors.VariableLimit old new from to = IsFull old new from to
 Limits errors.OutOfMemory old new from to = Unit {0}
 Limits (errors.Write cause) old new from to = Unit {0}

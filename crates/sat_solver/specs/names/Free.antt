@@ -1,6 +1,7 @@
 -- Indices that are free, in a binary tree of tests.
 use Rattle.std.specs.Prelude.{ℕ, zero, suc, ◌+◌, ◌*◌, ◌<◌, ◌≤◌, ◌==◌, ◌≡◌, ◌⊎◌, Bool, true, false, ◌||◌, List, length, get_or, if◌then◌else◌}
 use Rattle.sat_base.specs.values.Literals.{largest}
+use Rattle.sat_solver.specs.names.Counting.{count_to}
 use Rattle.sat_solver.specs.declared.names.free.FreeIndices.{FreeIndices}
 
 abbrev pub node_at : List Bool → ℕ → Bool
@@ -18,9 +19,14 @@ pub data Powers (f : FreeIndices) : Type 0 where
   empty : f.room ≡ 0 → Powers f
   power : f.room ≡ doubled f.height → f.room ≤ largest → Powers f
 
+-- what it says of how many indices are in the set
+abbrev pub IsCounted : FreeIndices → Type 0
+IsCounted f = f.count ≡ count_to f.room (is_free f)
+
 pub record IsTree (f : FreeIndices) : Type 0 where
   pub size : length f.nodes.items ≡ 2 * f.room
   pub powers : Powers f
+  pub counted : IsCounted f
   -- an inner node is as those below it say
   pub inner : (q : ℕ) → 0 < q → q < f.room → node_at f.nodes.items q ≡ (node_at f.nodes.items (2 * q) || node_at f.nodes.items (2 * q + 1))
 

@@ -13,6 +13,8 @@ use Rattle.sat_solver.specs.session.ProofView.{is_drat, has_asked, target_of}
 use Rattle.sat_solver.specs.names.Expected.{Expected, Adds, Opens, bringing}
 use Rattle.sat_solver.specs.names.Live.{Live}
 use Rattle.sat_solver.specs.names.Refusing.{names_in}
+use Rattle.sat_solver.specs.names.Room.{HasRoom, users_in}
+use Rattle.sat_solver.specs.search.Going.{IsFault}
 use Rattle.sat_solver.specs.declared.solver.Solver.{Solver}
 use Rattle.sat_solver.specs.declared.solver.state.State.{State}
 use Rattle.sat_solver.specs.declared.solver.state.State.TheVariants as states
@@ -53,6 +55,7 @@ AreSampled s user = (j : Judge) (live : Live) → Agree s.names (steps_in s) j l
 pub record EndsNames {W : Type 0} (seen : W → Writer) (e : SolverError) (old new : Solver W) : Type 0 where
   pub going : old.failed ≡ false
   pub failed : new.failed ≡ true
+  pub fault : IsFault e
   pub breaks : BreaksNames seen e old.core new.core
   pub clock : new.clock ≡ old.clock
 
@@ -64,9 +67,14 @@ IsDrat seen s = is_drat (target_of seen s.core.proof) ≡ true
 abbrev pub IsPastDrat : {W : Type 0} → (W → Writer) → Solver W → Type 0
 IsPastDrat seen s = IsDrat seen s × (has_asked s.core.proof ≡ true)
 
+-- no name is of mode witness, but for one that comes in there's no variable left
+abbrev pub LacksRoom : {W : Type 0} → Solver W → List ℕ → Type 0
+LacksRoom s user = (s.failed ≡ false) × AreSampled s user × (HasRoom s.names (users_in user) → ⊥)
+
 -- a clause was added
 pub record Added {W : Type 0} (seen : W → Writer) (old new : Solver W) (user : List ℕ) : Type 0 where
   pub sampled : AreSampled old user
+  pub room : HasRoom old.names (users_in user)
   pub did : Did seen old new (with_added user) (due_for_clause old.state user)
   pub comes : Comes (MayAdd (names_in user)) (steps_in old) (steps_in new)
   pub assumed : new.assumed ≡ old.assumed
@@ -77,12 +85,14 @@ abbrev pub AddsClause : {W : Type 0} → (W → Writer) → Result (Unit {0}) So
 AddsClause seen (Ok x) old new user = Added seen old new user
 AddsClause seen (Err errors.WitnessVariable) old new user = Refuses old new ((old.failed ≡ false) × HasWitness old user)
 AddsClause seen (Err errors.NotInDrat) old new user = Refuses old new ((old.failed ≡ false) × IsPastDrat seen old)
+AddsClause seen (Err errors.VariableLimit) old new user = Refuses old new (LacksRoom old user)
 AddsClause seen (Err errors.HasFailed) old new user = Refuses old new (old.failed ≡ true)
 AddsClause seen (Err e) old new user = AreSampled old user × EndsNames seen e old new
 
 -- other assumptions were taken
 pub record Assumed {W : Type 0} (seen : W → Writer) (old new : Solver W) (user : List ℕ) : Type 0 where
   pub sampled : AreSampled old user
+  pub room : HasRoom old.names (users_in user)
   pub did : Did seen old new (bring_all (names_in user)) (due_for_asked user)
   pub comes : Comes (MayTake (names_in user)) (steps_in old) (steps_in new)
   pub assumed : new.assumed.items ≡ user
@@ -93,6 +103,7 @@ abbrev pub Assumes : {W : Type 0} → (W → Writer) → Result (Unit {0}) Solve
 Assumes seen (Ok x) old new user = Assumed seen old new user
 Assumes seen (Err errors.WitnessVariable) old new user = Refuses old new ((old.failed ≡ false) × HasWitness old user)
 Assumes seen (Err errors.NotInDrat) old new user = Refuses old new ((old.failed ≡ false) × IsDrat seen old)
+Assumes seen (Err errors.VariableLimit) old new user = Refuses old new (LacksRoom old user)
 Assumes seen (Err errors.HasFailed) old new user = Refuses old new (old.failed ≡ true)
 Assumes seen (Err e) old new user = AreSampled old user × EndsNames seen e old new
 

@@ -11,6 +11,7 @@ use Rattle.sat_solver.specs.names.Expected.{Expected, NewName, hiding, setting}
 use Rattle.sat_solver.specs.names.Live.{Live}
 use Rattle.sat_solver.specs.names.Naming.{IsLowestUnused, NoneLeft}
 use Rattle.sat_solver.specs.names.Observing.{Observes, IsHidden}
+use Rattle.sat_solver.specs.names.Room.{HasRoom}
 use Rattle.sat_solver.specs.names.Models.{value_in}
 use Rattle.sat_solver.specs.names.Variables.{global_of, judged_mode}
 use Rattle.sat_solver.specs.session.Making.{Took}
@@ -49,8 +50,9 @@ pub record Renamed {W : Type 0} (seen : W → Writer) (old new : Solver W) (judg
 
 -- what came of a call that changes the mode of a name, or hides it
 abbrev pub ChangesMode : {W : Type 0} → (W → Writer) → Result (Unit {0}) SolverError → Solver W → Solver W → ℕ → (Judge → Judge) → (Judge → List Expected) → Type 0
-ChangesMode seen (Ok x) old new user judge due = (IsAsked old user → ⊥) × Renamed seen old new judge due
+ChangesMode seen (Ok x) old new user judge due = (IsAsked old user → ⊥) × Renamed seen old new judge due × HasRoom old.names (user ∷ [])
 ChangesMode seen (Err errors.AssumedVariable) old new user judge due = Refuses old new ((old.failed ≡ false) × IsAsked old user)
+ChangesMode seen (Err errors.VariableLimit) old new user judge due = Refuses old new ((old.failed ≡ false) × (IsAsked old user → ⊥) × (HasRoom old.names (user ∷ []) → ⊥))
 ChangesMode seen (Err errors.HasFailed) old new user judge due = Refuses old new (old.failed ≡ true)
 ChangesMode seen (Err e) old new user judge due = EndsNames seen e old new
 

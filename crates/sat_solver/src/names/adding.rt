@@ -9,7 +9,8 @@ ghost use Rattle.sat_solver.specs.names.Calls.{Stands, Does};
 ghost use Rattle.sat_solver.specs.names.Variables.{AreTidy};
 ghost use Rattle.sat_solver.specs.session.Session.{session_after};
 ghost use Rattle.sat_checker.specs.LiteralSets.{is_tautology};
-ghost use Rattle.sat_solver.specs.names.Failing.{Came};
+ghost use Rattle.sat_solver.specs.names.Failing.{IsFailure, Came};
+ghost use Rattle.sat_solver.specs.names.Room.{HasRoom, users_in};
 
 use crate::names::Variables;
 use crate::names::error::NameError;
@@ -31,6 +32,7 @@ fn write_clause<W: StepWriter>(
     requires literals { SameLiterals _variables.now _user.now clause.now }
     ensures does { OnOk result (Does _variables.now _variables.now (W.steps writer.old) (W.steps writer.new) (with_clause (map named_literal _user.now)) (λ j. Adds (map named_literal _user.now) ∷ [])) }
     ensures step { OnOk result (W.steps writer.new ≡ AddClause clause.now ∷ W.steps writer.old) }
+    ensures fails { IfErr result IsFailure }
     ensures keeps { OnOk result (W.keeps writer.new) }
     ensures came { Came W.took W.broke result writer.old writer.new }
 {
@@ -66,6 +68,7 @@ pub fn add_clause<W: StepWriter>(
     requires keeps { W.keeps writer.old }
     requires sampled { NoWitness variables.old lits.now }
     ensures adds { IfOk result (AddsClause variables.old variables.new (W.steps writer.old) (W.steps writer.new) lits.now taken.new) }
+    ensures room { HasRoom variables.old (users_in lits.now) → IfErr result IsFailure }
     ensures keeps { OnOk result (W.keeps writer.new) }
     ensures came { Came W.took W.broke result writer.old writer.new }
 {
@@ -85,6 +88,7 @@ pub fn leave_out_clause<W: StepWriter>(
     requires keeps { W.keeps writer.old }
     requires unsat { (session_after (W.steps writer.old)).unsat ≡ true }
     ensures leaves { OnOk result (LeavesOut variables.old variables.new (W.steps writer.old) (W.steps writer.new) lits.now) }
+    ensures room { HasRoom variables.old (users_in lits.now) → IfErr result IsFailure }
     ensures keeps { OnOk result (W.keeps writer.new) }
     ensures came { Came W.took W.broke result writer.old writer.new }
 {

@@ -1,5 +1,5 @@
 //! Takes assumptions over names.
-ghost use Rattle.std.specs.Prelude.{ℕ, ◌≡◌, ◌<◌, ◌∷◌, [], OnOk, map, length, slice_index_or};
+ghost use Rattle.std.specs.Prelude.{ℕ, ◌≡◌, ◌<◌, ◌∷◌, [], OnOk, IfErr, map, length, slice_index_or};
 ghost use Rattle.sat_base.specs.values.Literals.{variable};
 ghost use Rattle.sat_base.specs.steps.Steps.{Assumptions};
 ghost use Rattle.sat_checker.specs.LiteralSets.{mentions};
@@ -11,7 +11,8 @@ ghost use Rattle.sat_solver.specs.names.Adding.{NoWitness, SameLiterals, named_l
 ghost use Rattle.sat_solver.specs.names.Assuming.{Marks, PutsMarks, Assumes};
 ghost use Rattle.sat_solver.specs.names.Expected.{Opens};
 ghost use Rattle.sat_solver.specs.names.Calls.{Stands, Does};
-ghost use Rattle.sat_solver.specs.names.Failing.{Came};
+ghost use Rattle.sat_solver.specs.names.Failing.{IsFailure, Came};
+ghost use Rattle.sat_solver.specs.names.Room.{HasRoom, users_in};
 
 use crate::names::Variables;
 use crate::names::error::NameError;
@@ -66,6 +67,7 @@ pub fn assume<W: StepWriter>(
     requires sampled { NoWitness variables.old lits.now }
     requires asked { asked.old.globals.items ≡ (session_after (W.steps writer.old)).assumed }
     ensures assumes { OnOk result (Assumes variables.old variables.new (W.steps writer.old) (W.steps writer.new) lits.now asked.new) }
+    ensures room { HasRoom variables.old (users_in lits.now) → IfErr result IsFailure }
     ensures keeps { OnOk result (W.keeps writer.new) }
     ensures came { Came W.took W.broke result writer.old writer.new }
 {

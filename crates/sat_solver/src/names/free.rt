@@ -1,7 +1,7 @@
 //! Indices that are free.
 ghost use Rattle.std.specs.Prelude.{ℕ, ◌≡◌, ◌==◌, ◌||◌, ◌+◌, ◌*◌, ◌<◌, ◌≤◌, Bool, true, false, MatchOption, OnOk, List, length, if◌then◌else◌, slice_index_or};
 ghost use Rattle.sat_base.specs.values.Literals.{largest};
-ghost use Rattle.sat_solver.specs.names.Free.{is_free, IsTree, Powers, Refreshes, IsChild, IsLowest, CopiesLeaves};
+ghost use Rattle.sat_solver.specs.names.Free.{is_free, IsTree, Powers, Refreshes, IsChild, IsLowest, CopiesLeaves, IsCounted};
 
 use sat_base::Var;
 use std::alloc::{AllocError, Global};
@@ -17,6 +17,21 @@ pub struct FreeIndices {
 
     /// How many levels stand above the leaves.
     height: usize,
+
+    /// How many indices are in the set.
+    count: usize,
+}
+
+/// A count of what passes a test, where one test changes.
+fn recounted(count: usize, before: bool, after: bool) -> usize
+    requires some { before ≡ true → 0 < count }
+    requires small { count ≤ largest }
+    ensures { result + (if before then 1 else 0) ≡ count + (if after then 1 else 0) }
+{
+    if before == after {
+        return count;
+    }
+    if after { count + 1 } else { count - 1 }
 }
 
 /// A node is as those below it say.
@@ -41,7 +56,7 @@ fn child(nodes: &Vec<bool>, at: usize) -> usize
 }
 
 /// Lengthens the list by nodes that hold for none.
-fn widen(nodes: &mut Vec<bool>, count: usize) -> Result<(), AllocError>
+pub(crate) fn widen(nodes: &mut Vec<bool>, count: usize) -> Result<(), AllocError>
     requires more { length nodes.old.items ≤ count }
     ensures size { OnOk result (length nodes.new.items ≡ count) }
     ensures same { OnOk result ((q : ℕ) → slice_index_or nodes.new.items q false ≡ slice_index_or nodes.old.items q false) }
@@ -70,7 +85,15 @@ impl FreeIndices {
             nodes: Vec::new(alloc),
             room: 0,
             height: 0,
+            count: 0,
         }
+    }
+
+    /// How many there are.
+    pub fn count(&self) -> usize
+        ensures { result ≡ self.now.count }
+    {
+        self.count
     }
 
     /// The lowest one.
@@ -97,6 +120,8 @@ impl FreeIndices {
         ensures room { self.new.room ≡ self.old.room }
     {
         let mut at = self.room + index;
+        let before = self.nodes[at];
+        self.count = recounted(self.count, before, free);
         self.nodes[at] = free;
         while at > 1 {
             at /= 2;
@@ -130,6 +155,7 @@ impl FreeIndices {
     fn refresh_all(&mut self)
         requires size { length self.old.nodes.items ≡ 2 * self.old.room }
         requires power { Powers self.old }
+        requires counted { IsCounted self.old }
         ensures tree { IsTree self.new }
         ensures leaves { (i : ℕ) → is_free self.new i ≡ is_free self.old i }
         ensures room { self.new.room ≡ self.old.room }

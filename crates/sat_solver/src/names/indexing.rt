@@ -30,6 +30,7 @@ fn new_index<W: StepWriter>(
     requires live { (data_at variables.old global).deleted ≡ false }
     requires without { solver_of variables.old global ≡ None }
     ensures indexes { IfOk result (Indexes variables.old variables.new (W.steps writer.old) (W.steps writer.new) given.old.items given.new.items global) }
+    ensures fails { IfErr result IsFailure }
     ensures keeps { OnOk result (W.keeps writer.new) }
     ensures came { Came W.took W.broke result writer.old writer.new }
 {
@@ -55,6 +56,7 @@ pub fn solver_from_global<W: StepWriter>(
     requires keeps { W.keeps writer.old }
     requires live { (data_at variables.old global).deleted ≡ false }
     ensures indexes { IfOk result (Indexes variables.old variables.new (W.steps writer.old) (W.steps writer.new) given.old.items given.new.items global) }
+    ensures fails { IfErr result IsFailure }
     ensures keeps { OnOk result (W.keeps writer.new) }
     ensures came { Came W.took W.broke result writer.old writer.new }
 {

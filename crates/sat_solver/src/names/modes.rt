@@ -10,6 +10,7 @@ ghost use Rattle.sat_solver.specs.names.Calls.{Stands, Does, DoesNothing};
 ghost use Rattle.sat_solver.specs.names.Search.{IsUnseen, IsAlike, Forgets, KeepsUnits};
 ghost use Rattle.sat_solver.specs.names.Refusing.{IsAssumed};
 ghost use Rattle.sat_solver.specs.names.Failing.{IsFailure, Came};
+ghost use Rattle.sat_solver.specs.names.Room.{HasRoom};
 
 use crate::names::Variables;
 use crate::names::error::NameError;
@@ -34,6 +35,7 @@ fn hide_global<W: StepWriter>(
     ensures only { OnOk result ((u v : ℕ) → global_of variables.new u ≡ Some v → global_of variables.old u ≡ Some v) }
     ensures live { OnOk result ((data_at variables.new global).deleted ≡ false) }
     ensures nameless { OnOk result (user_of variables.new global ≡ None) }
+    ensures fails { IfErr result IsFailure }
     ensures keeps { OnOk result (W.keeps writer.new) }
     ensures came { Came W.took W.broke result writer.old writer.new }
 {
@@ -111,6 +113,7 @@ pub fn hide_var<W: StepWriter>(
     ensures fresh { OnOk result (AreFresh variables.old variables.new) }
     ensures units { OnOk result (KeepsUnits variables.new (W.steps writer.old) (W.steps writer.new)) }
     ensures alike { OnOk result (IsAlike variables.old variables.new (W.steps writer.old) (W.steps writer.new)) }
+    ensures room { HasRoom variables.old (user ∷ []) → IfErr result IsFailure }
     ensures keeps { OnOk result (W.keeps writer.new) }
     ensures came { Came W.took W.broke result writer.old writer.new }
 {
@@ -154,6 +157,7 @@ fn set_global_mode<W: StepWriter>(
     ensures does { OnOk result (Does variables.old variables.new (W.steps writer.old) (W.steps writer.new) (with_mode (judged_mode sample) (user + 1)) (λ j. [])) }
     ensures users { OnOk result (variables.new.global_from_user ≡ variables.old.global_from_user) }
     ensures unseen { OnOk result (IsUnseen variables.old variables.new (W.steps writer.old) (W.steps writer.new)) }
+    ensures fails { IfErr result IsFailure }
     ensures keeps { OnOk result (W.keeps writer.new) }
     ensures came { Came W.took W.broke result writer.old writer.new }
 {
@@ -182,6 +186,7 @@ pub fn set_sampling_mode<W: StepWriter>(
     ensures others { OnOk result (KeepsOthers variables.old variables.new user) }
     ensures fresh { OnOk result (AreFresh variables.old variables.new) }
     ensures unseen { OnOk result (IsUnseen variables.old variables.new (W.steps writer.old) (W.steps writer.new)) }
+    ensures room { HasRoom variables.old (user ∷ []) → IfErr result IsFailure }
     ensures keeps { OnOk result (W.keeps writer.new) }
     ensures came { Came W.took W.broke result writer.old writer.new }
 {

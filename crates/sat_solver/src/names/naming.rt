@@ -1,10 +1,11 @@
 //! Brings names in, and writes the steps.
-ghost use Rattle.std.specs.Prelude.{ℕ, ◌≡◌, ◌≤◌, ◌<◌, ◌+◌, ◌-◌, None, Some, IfOk, IfErr, OnOk};
+ghost use Rattle.std.specs.Prelude.{ℕ, ◌≡◌, ◌≤◌, ◌<◌, ◌+◌, ◌-◌, None, Some, List, ◌∷◌, IfOk, IfErr, OnOk};
 ghost use Rattle.sat_base.specs.script.Judge.{names_from};
 ghost use Rattle.sat_solver.specs.names.Variables.{global_of, names_used};
 ghost use Rattle.sat_solver.specs.names.Naming.{IsNextUser};
 ghost use Rattle.sat_solver.specs.names.Calls.{Stands, NamesOne, NamesAll, Brought};
-ghost use Rattle.sat_solver.specs.names.Failing.{Came, Limits};
+ghost use Rattle.sat_solver.specs.names.Failing.{IsFailure, Came, Limits};
+ghost use Rattle.sat_solver.specs.names.Room.{HasRoom, LeavesRoom};
 
 use crate::names::Variables;
 use crate::names::error::NameError;
@@ -50,6 +51,8 @@ fn bring_new<W: StepWriter>(
     requires new { names_used variables.old ≤ user }
     ensures variable { IfOk result (λ v. global_of variables.new user ≡ Some v) }
     ensures names { OnOk result (NamesAll variables.old variables.new (W.steps writer.old) (W.steps writer.new) (names_from (user + 1 - names_used variables.old) (names_used variables.old + 1))) }
+    ensures leaves { OnOk result (LeavesRoom variables.old variables.new user) }
+    ensures room { (us : List ℕ) → HasRoom variables.old (user ∷ us) → IfErr result IsFailure }
     ensures keeps { OnOk result (W.keeps writer.new) }
     ensures came { Came W.took W.broke result writer.old writer.new }
 {
@@ -70,6 +73,7 @@ pub fn global_from_user<W: StepWriter>(
     requires keeps { W.keeps writer.old }
     ensures variable { IfOk result (λ v. global_of variables.new user ≡ Some v) }
     ensures brought { OnOk result (Brought variables.old variables.new (W.steps writer.old) (W.steps writer.new) user) }
+    ensures room { (us : List ℕ) → HasRoom variables.old (user ∷ us) → IfErr result IsFailure }
     ensures keeps { OnOk result (W.keeps writer.new) }
     ensures came { Came W.took W.broke result writer.old writer.new }
 {

@@ -1,10 +1,11 @@
 //! Names of literals come in, and their variables get indices.
-ghost use Rattle.std.specs.Prelude.{ℕ, ◌≡◌, ◌<◌, [], OnOk, IfOk, length, map, slice_index_or};
+ghost use Rattle.std.specs.Prelude.{ℕ, ◌≡◌, ◌<◌, [], OnOk, IfOk, IfErr, length, map, slice_index_or};
 ghost use Rattle.sat_base.specs.values.Literals.{variable};
 ghost use Rattle.sat_solver.specs.session.LiveClauses.{with_var};
 ghost use Rattle.sat_solver.specs.names.Adding.{Takes};
 ghost use Rattle.sat_solver.specs.names.Calls.{Stands};
-ghost use Rattle.sat_solver.specs.names.Failing.{Came};
+ghost use Rattle.sat_solver.specs.names.Failing.{IsFailure, Came};
+ghost use Rattle.sat_solver.specs.names.Room.{HasRoom, users_in};
 
 use crate::names::Variables;
 use crate::names::error::NameError;
@@ -55,6 +56,7 @@ pub fn take_names<W: StepWriter>(
     requires stands { Stands variables.old (W.steps writer.old) }
     requires keeps { W.keeps writer.old }
     ensures takes { OnOk result (Takes variables.old variables.new (W.steps writer.old) (W.steps writer.new) lits.now taken.new) }
+    ensures room { HasRoom variables.old (users_in lits.now) → IfErr result IsFailure }
     ensures globals { taken.new.globals ≡ taken.old.globals }
     ensures keeps { OnOk result (W.keeps writer.new) }
     ensures came { Came W.took W.broke result writer.old writer.new }

@@ -1,5 +1,7 @@
 //! Clauses that a user adds.
-ghost use Rattle.std.specs.Prelude.{◌≡◌, true, false, IsErrOf};
+ghost use Rattle.std.specs.Prelude.{◌≡◌, true, false, IfErr, IsErrOf};
+ghost use Rattle.sat_solver.specs.names.Room.{HasRoom, users_in};
+ghost use Rattle.sat_solver.specs.search.Going.{IsFault};
 ghost use Rattle.sat_solver.specs.names.Adding.{NoWitness};
 ghost use Rattle.sat_solver.specs.declared.solver.state.State.TheVariants.{Unsat};
 ghost use Rattle.sat_solver.specs.solver.Adding.{AddsClause, IsPastDrat, TakesIn};
@@ -9,6 +11,7 @@ use crate::SolverError;
 use crate::loading::faults::name_fault;
 use crate::names::adding::leave_out_clause;
 use crate::names::refusing::leftmost_witness;
+use crate::names::room::has_room;
 use crate::solver::Solver;
 use crate::solver::state::State;
 use crate::solver::taking::take_clause;
@@ -20,6 +23,7 @@ impl<W: CountedWrite + Drop> Solver<W> {
         requires whole { IsWhole self.old }
         requires unsat { self.old.state ≡ Unsat }
         ensures takes { TakesIn W.seen result self.old self.new lits.now }
+        ensures room { HasRoom self.old.names (users_in lits.now) → IfErr result IsFault }
         ensures assumed { self.new.assumed ≡ self.old.assumed }
         ensures clock { self.new.clock ≡ self.old.clock }
     {
@@ -34,6 +38,7 @@ impl<W: CountedWrite + Drop> Solver<W> {
         requires whole { IsWhole self.old }
         requires sampled { NoWitness self.old.names lits.now }
         ensures takes { TakesIn W.seen result self.old self.new lits.now }
+        ensures room { HasRoom self.old.names (users_in lits.now) → IfErr result IsFault }
         ensures assumed { self.new.assumed ≡ self.old.assumed }
         ensures clock { self.new.clock ≡ self.old.clock }
     {
@@ -50,8 +55,8 @@ impl<W: CountedWrite + Drop> Solver<W> {
 
     /// Adds a clause, whose names come in from left to right. It may stand behind asks, and ends what is known of an answer. Once the
     /// clauses alone are known to be unsatisfiable, only its names come in. `NotInDrat` behind the first `solve` while lines of DRAT are
-    /// written. `WitnessVariable` names the cause: the leftmost literal
-    /// over a name of mode witness.
+    /// written. `WitnessVariable` names the cause: the leftmost literal over a name of mode witness. `VariableLimit` where a variable
+    /// is lacking for a name that would come in.
     pub fn add_clause(&mut self, lits: &[Lit]) -> Result<(), SolverError>
         requires { IsSolver self.old }
         ensures solver { IsSolver self.new }
@@ -66,6 +71,14 @@ impl<W: CountedWrite + Drop> Solver<W> {
         }
         if leftmost_witness(&self.names, lits).is_some() {
             return Err(SolverError::WitnessVariable);
+        }
+        match has_room(&self.names, lits, self.core.search.alloc) {
+            Ok(true) => {}
+            Ok(false) => return Err(SolverError::VariableLimit),
+            Err(_) => {
+                self.failed = true;
+                return Err(SolverError::OutOfMemory);
+            }
         }
         self.used = true;
         match self.take(lits) {

@@ -1,5 +1,7 @@
 //! Assumptions of the next ask.
-ghost use Rattle.std.specs.Prelude.{◌≡◌, true, false, OnOk, IsErrOf};
+ghost use Rattle.std.specs.Prelude.{◌≡◌, true, false, OnOk, IfErr, IsErrOf};
+ghost use Rattle.sat_solver.specs.names.Room.{HasRoom, users_in};
+ghost use Rattle.sat_solver.specs.search.Going.{IsFault};
 ghost use Rattle.sat_base.specs.script.Judge.{bring_all};
 ghost use Rattle.sat_solver.specs.names.Adding.{NoWitness};
 ghost use Rattle.sat_solver.specs.names.Refusing.{names_in};
@@ -12,6 +14,7 @@ use crate::SolverError;
 use crate::loading::faults::name_fault;
 use crate::names::assuming::assume;
 use crate::names::refusing::leftmost_witness;
+use crate::names::room::has_room;
 use crate::solver::Solver;
 use crate::solver::state::State;
 use crate::solver::taking::take_assumptions;
@@ -24,6 +27,7 @@ impl<W: CountedWrite + Drop> Solver<W> {
         requires unsat { self.old.state ≡ Unsat }
         requires sampled { NoWitness self.old.names lits.now }
         ensures asks { Asks W.seen result self.old self.new lits.now }
+        ensures room { HasRoom self.old.names (users_in lits.now) → IfErr result IsFault }
         ensures clock { self.new.clock ≡ self.old.clock }
     {
         match assume(&mut self.names, &mut self.core.proof, lits, &mut self.asked) {
@@ -37,6 +41,7 @@ impl<W: CountedWrite + Drop> Solver<W> {
         requires whole { IsWhole self.old }
         requires sampled { NoWitness self.old.names lits.now }
         ensures asks { Asks W.seen result self.old self.new lits.now }
+        ensures room { HasRoom self.old.names (users_in lits.now) → IfErr result IsFault }
         ensures clock { self.new.clock ≡ self.old.clock }
     {
         match self.state {
@@ -50,8 +55,9 @@ impl<W: CountedWrite + Drop> Solver<W> {
         Ok(())
     }
 
-    /// Replaces the assumptions, whose names come in from left to right. `NotInDrat` while lines of DRAT are written. `WitnessVariable` names the cause: the leftmost literal over a
-    /// name of mode witness.
+    /// Replaces the assumptions, whose names come in from left to right. `NotInDrat` while lines of DRAT are written. `WitnessVariable`
+    /// names the cause: the leftmost literal over a name of mode witness. `VariableLimit` where a variable is lacking for a name that
+    /// would come in.
     pub fn assume(&mut self, lits: &[Lit]) -> Result<(), SolverError>
         requires { IsSolver self.old }
         ensures solver { IsSolver self.new }
@@ -66,6 +72,14 @@ impl<W: CountedWrite + Drop> Solver<W> {
         }
         if leftmost_witness(&self.names, lits).is_some() {
             return Err(SolverError::WitnessVariable);
+        }
+        match has_room(&self.names, lits, self.core.search.alloc) {
+            Ok(true) => {}
+            Ok(false) => return Err(SolverError::VariableLimit),
+            Err(_) => {
+                self.failed = true;
+                return Err(SolverError::OutOfMemory);
+            }
         }
         self.used = true;
         let asked = self.ask(lits);

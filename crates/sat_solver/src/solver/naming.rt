@@ -10,6 +10,7 @@ use crate::names::modes::{hide_var, set_sampling_mode};
 use crate::names::naming::new_user_var;
 use crate::names::observing::observe_internal_vars;
 use crate::names::refusing::is_assumed;
+use crate::names::room::has_room_for;
 use crate::solver::Solver;
 use sat_base::{CountedWrite, Var};
 
@@ -29,7 +30,7 @@ fn is_limit(error: &NameError) -> bool
 
 impl<W: CountedWrite + Drop> Solver<W> {
     /// Brings a name in, and hides it: its variable stays in the clauses, and the name may become that of a new variable. What is known
-    /// of an answer stays. `AssumedVariable` names the cause.
+    /// of an answer stays. `AssumedVariable` names the cause. `VariableLimit` where a variable is lacking for a name that would come in.
     pub fn hide_var(&mut self, user: Var) -> Result<(), SolverError>
         requires { IsSolver self.old }
         ensures solver { IsSolver self.new }
@@ -40,6 +41,9 @@ impl<W: CountedWrite + Drop> Solver<W> {
         }
         if is_assumed(&self.names, user) {
             return Err(SolverError::AssumedVariable);
+        }
+        if !has_room_for(&self.names, user) {
+            return Err(SolverError::VariableLimit);
         }
         self.used = true;
         match hide_var(&mut self.names, &mut self.core.proof, user) {
@@ -63,6 +67,9 @@ impl<W: CountedWrite + Drop> Solver<W> {
         if is_assumed(&self.names, user) {
             return Err(SolverError::AssumedVariable);
         }
+        if !has_room_for(&self.names, user) {
+            return Err(SolverError::VariableLimit);
+        }
         self.used = true;
         match set_sampling_mode(&mut self.names, &mut self.core.proof, user, sample) {
             Ok(()) => Ok(()),
@@ -74,7 +81,7 @@ impl<W: CountedWrite + Drop> Solver<W> {
     }
 
     /// Brings a name in, and sets its mode to witness: no clause and no assumption may have it. What is known of an answer stays.
-    /// `AssumedVariable` names the cause, also where the mode would stay.
+    /// `AssumedVariable` names the cause, also where the mode would stay. `VariableLimit` as by `hide_var`.
     pub fn witness_var(&mut self, user: Var) -> Result<(), SolverError>
         requires { IsSolver self.old }
         ensures solver { IsSolver self.new }
@@ -84,7 +91,7 @@ impl<W: CountedWrite + Drop> Solver<W> {
     }
 
     /// Brings a name in, and sets its mode to sample, as new names have it. What is known of an answer stays. `AssumedVariable` names the
-    /// cause, also where the mode would stay.
+    /// cause, also where the mode would stay. `VariableLimit` as by `hide_var`.
     pub fn sample_var(&mut self, user: Var) -> Result<(), SolverError>
         requires { IsSolver self.old }
         ensures solver { IsSolver self.new }

@@ -1,6 +1,8 @@
 //! Clauses and assumptions over names come to a search.
 ghost use Rattle.sat_solver.specs.names.Adding.{NoWitness};
-ghost use Rattle.std.specs.Prelude.{◌≡◌};
+ghost use Rattle.std.specs.Prelude.{◌≡◌, IfErr};
+ghost use Rattle.sat_solver.specs.names.Room.{HasRoom, users_in};
+ghost use Rattle.sat_solver.specs.search.Going.{IsFault};
 ghost use Rattle.sat_solver.specs.session.ProofView.{session_of};
 ghost use Rattle.sat_solver.specs.solver.Joined.{IsJoined};
 ghost use Rattle.sat_solver.specs.solver.Taking.{TakesClause, TakesAssumptions};
@@ -35,7 +37,8 @@ pub fn take_clause<W: CountedWrite + Drop>(
 ) -> Result<bool, SolverError>
     requires joined { IsJoined names.old core.old }
     requires sampled { NoWitness names.old lits.now }
-    ensures { TakesClause W.seen result names.old names.new core.old core.new lits.now }
+    ensures takes { TakesClause W.seen result names.old names.new core.old core.new lits.now }
+    ensures room { HasRoom names.old (users_in lits.now) → IfErr result IsFault }
 {
     let added = add_clause(names, &mut core.proof, lits, &mut loading.taken);
     let both_signs = match added {
@@ -64,7 +67,8 @@ pub fn take_assumptions<W: CountedWrite + Drop>(
     requires joined { IsJoined names.old core.old }
     requires sampled { NoWitness names.old lits.now }
     requires asked { asked.old.globals.items ≡ (session_of core.old.proof).assumed }
-    ensures { TakesAssumptions W.seen result names.old names.new core.old core.new lits.now asked.new }
+    ensures takes { TakesAssumptions W.seen result names.old names.new core.old core.new lits.now asked.new }
+    ensures room { HasRoom names.old (users_in lits.now) → IfErr result IsFault }
 {
     if let Err(error) = assume(names, &mut core.proof, lits, asked) {
         return Err(name_fault(error));

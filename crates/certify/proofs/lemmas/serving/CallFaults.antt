@@ -53,7 +53,7 @@ module _ {C : Type 0} (seen : C → Writer) (a b : Solver C) where
     clause_fails errors.AssumedVariable h = ends errors.AssumedVariable h.1
     clause_fails errors.TooLate h = ends errors.TooLate h.1
     clause_fails errors.StoreFull h = ends errors.StoreFull h.1
-    clause_fails errors.VariableLimit h = ends errors.VariableLimit h.1
+    clause_fails errors.VariableLimit h = stays h.same
     clause_fails errors.CounterEnd h = ends errors.CounterEnd h.1
     clause_fails errors.Read h = ends errors.Read h.1
     clause_fails errors.Malformed h = ends errors.Malformed h.1
@@ -70,7 +70,7 @@ module _ {C : Type 0} (seen : C → Writer) (a b : Solver C) where
     assume_fails errors.AssumedVariable h = ends errors.AssumedVariable h.1
     assume_fails errors.TooLate h = ends errors.TooLate h.1
     assume_fails errors.StoreFull h = ends errors.StoreFull h.1
-    assume_fails errors.VariableLimit h = ends errors.VariableLimit h.1
+    assume_fails errors.VariableLimit h = stays h.same
     assume_fails errors.CounterEnd h = ends errors.CounterEnd h.1
     assume_fails errors.Read h = ends errors.Read h.1
     assume_fails errors.Malformed h = ends errors.Malformed h.1

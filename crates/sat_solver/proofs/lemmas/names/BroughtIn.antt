@@ -14,6 +14,8 @@ use Rattle.sat_solver.proofs.lemmas.names.NamingSteps.{none_brought, one_then, n
 use Rattle.sat_solver.proofs.lemmas.names.Extending.{extends_same}
 use Rattle.sat_solver.proofs.lemmas.names.Giving.{unseen_same}
 use Rattle.sat_solver.specs.names.Coming.{IsDue}
+use Rattle.sat_solver.specs.names.Room.{LeavesRoom}
+use Rattle.sat_solver.proofs.lemmas.names.RoomLemmas.{room_one, room_none}
 use Rattle.sat_solver.proofs.lemmas.session.ComingLemmas.{comes_none, comes_one}
 
 as_new : (old new : Variables) (from to : List Step) (user : ℕ) (names : List ℕ) → ((j : Judge) (live : Live) → AreJudged old j live → new_names (user + 1) j ≡ names) → NamesAll old new from to names → BringsIn old new from to user
@@ -52,14 +54,20 @@ brings_again old new from to user v lt e one = as_new old new from to user ((use
     is j live judged = below old user lt j live judged ∙ ap (λ o. cond (is_some (given_of live o)) [] ((user + 1) ∷ [])) e
 
 pub brought_none : (old : Variables) (from : List Step) (user v : ℕ) → Stands old from → user < names_used old → global_of old user ≡ Some v → Brought old old from from user
-brought_none old from user v stands lt e = record { brings = brings_none old from user v stands lt e; extends = extends_same old; unseen = unseen_same old from; comes = comes_none IsDue from }
+brought_none old from user v stands lt e = record { brings = brings_none old from user v stands lt e; extends = extends_same old; unseen = unseen_same old from; comes = comes_none IsDue from; room = λ us. room_none old user v us lt e }
 
-pub ok_new : {A E : Type 0} (r : Result A E) (old new : Variables) (from to : List Step) (user : ℕ) → names_used old ≤ user → OnOk r (NamesAll old new from to (names_from (user + 1 - names_used old) (names_used old + 1))) → OnOk r (Brought old new from to user)
-ok_new (Ok x) old new from to user le p = record { brings = brings_new old new from to user le p; extends = p.extends; unseen = p.unseen; comes = p.comes }
-ok_new (Err e) old new from to user le p = tt
+pub ok_new : {A E : Type 0} (r : Result A E) (old new : Variables) (from to : List Step) (user : ℕ) → names_used old ≤ user → OnOk r (NamesAll old new from to (names_from (user + 1 - names_used old) (names_used old + 1))) → OnOk r (LeavesRoom old new user) → OnOk r (Brought old new from to user)
+ok_new (Ok x) old new from to user le p room = record { brings = brings_new old new from to user le p; extends = p.extends; unseen = p.unseen; comes = p.comes; room = room }
+ok_new (Err e) old new from to user le p room = tt
 
 pub ok_again : {E : Type 0} (r : Result ℕ E) (old new : Variables) (from to : List Step) (user : ℕ) → user < names_used old → global_of old user ≡ None → IfOk r (λ v. NamesOne old new from to user v) → OnOk r (Brought old new from to user)
-ok_again (Ok v) old new from to user lt e p = record { brings = brings_again old new from to user v lt e p; extends = p.extends; unseen = p.unseen; comes = comes_one IsDue from to (UserVarName v (Some user)) p.step refl }
+ok_again (Ok v) old new from to user lt e p = record {
+  brings = brings_again old new from to user v lt e p;
+  extends = p.extends;
+  unseen = p.unseen;
+  comes = comes_one IsDue from to (UserVarName v (Some user)) p.step refl;
+  room = room_one old new user v e (omega arith) p.named p.used p.live;
+}
 ok_again (Err x) old new from to user lt e p = tt
 
 pub hidden_name : (n : Variables) (u : ℕ) → AreTidy n → is_free n.free_users u ≡ true → (global_of n u ≡ None) × (u ≤ names_used n)
@@ -73,8 +81,8 @@ hidden_name n u tidy e = go (ltb u (names_used n)) refl (global_of n u) refl (sy
 -- the next name came in
 pub brought_next : (old new : Variables) (from to : List Step) (user v : ℕ) → Stands old from → IsNextUser old user → NamesOne old new from to user v → Brought old new from to user
 brought_next old new from to user v stands next one = elim (cases_lt user (names_used old)) [
-  | inl lt ↦ record { brings = brings_again old new from to user v lt next.unused one; extends = one.extends; unseen = one.unseen; comes = comes_one IsDue from to (UserVarName v (Some user)) one.step refl }
+  | inl lt ↦ record { brings = brings_again old new from to user v lt next.unused one; extends = one.extends; unseen = one.unseen; comes = comes_one IsDue from to (UserVarName v (Some user)) one.step refl; room = room_one old new user v next.unused next.reach one.named one.used one.live }
   | inr le ↦
       (let same : user ≡ names_used old = (let r = next.reach in omega arith) in
-      record { brings = brings_new old new from to user le (last_came old old new from from to user v (none_yet old from user user stands same le) one); extends = one.extends; unseen = one.unseen; comes = comes_one IsDue from to (UserVarName v (Some user)) one.step refl })
+      record { brings = brings_new old new from to user le (last_came old old new from from to user v (none_yet old from user user stands same le) one); extends = one.extends; unseen = one.unseen; comes = comes_one IsDue from to (UserVarName v (Some user)) one.step refl; room = room_one old new user v next.unused next.reach one.named one.used one.live })
 ]

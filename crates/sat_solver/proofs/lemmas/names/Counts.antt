@@ -1,5 +1,5 @@
 -- How many of the first numbers pass a test.
-use Rattle.std.proofs.Common.{ℕ, zero, suc, ◌+◌, ◌-◌, ◌<◌, ◌≤◌, ◌≡◌, ◌≢◌, max, Bool, true, false, cond, eqb, List, length, Option, Some, None, is_some, refl, sym, ◌∙◌, ap, arith, inl, inr}
+use Rattle.std.proofs.Common.{ℕ, zero, suc, ◌+◌, ◌-◌, ◌<◌, ◌≤◌, ◌≡◌, ◌≢◌, max, Bool, true, false, not, cond, eqb, List, length, Option, Some, None, is_some, refl, sym, ◌∙◌, ap, arith, inl, inr}
 use Rattle.std.proofs.lemmas.Bool.{eqb-true, eq-eqb, ne_eqb, cases_eq, true≢false}
 use Rattle.std.proofs.lemmas.List.{get_or_past}
 use Rattle.sat_store.specs.variables.Maps.{Both, AreInverse, target, PutsTarget, Links, Unlinks}
@@ -91,6 +91,32 @@ count_fewer (suc n) i f g lt h a b = elim (cases_eq n i) [
     at false true x = omega arith
     at false false x = omega arith
     at true false x = absurd (true≢false (sym (x refl)))
+
+-- one comes to pass, or not to
+pub count_changed : (n i : ℕ) (f g : ℕ → Bool) → i < n → ((k : ℕ) → k ≢ i → g k ≡ f k) → count_to n g + cond (f i) 1 0 ≡ count_to n f + cond (g i) 1 0
+count_changed n i f g lt h = go (f i) refl (g i) refl
+  where
+    alike : f i ≡ g i → count_to n g ≡ count_to n f
+    alike e = count_same n g f (λ k m. elim (cases_eq k i) [ inl q ↦ ap g q ∙ sym e ∙ ap f (sym q) | inr ne ↦ h k ne ])
+
+    go : (a : Bool) → f i ≡ a → (b : Bool) → g i ≡ b → count_to n g + cond a 1 0 ≡ count_to n f + cond b 1 0
+    go true x true y = ap (λ c. c + 1) (alike (x ∙ sym y))
+    go false x false y = ap (λ c. c + 0) (alike (x ∙ sym y))
+    go false x true y = let e = count_more n i f g lt x y h in omega arith
+    go true x false y = let e = count_more n i g f lt y x (λ k ne. sym (h k ne)) in omega arith
+
+-- one that passes is counted
+pub count_some : (n i : ℕ) (f : ℕ → Bool) → i < n → f i ≡ true → 0 < count_to n f
+count_some n i f lt e = let l = count_fewer n i (λ k. false) f lt (λ k x. absurd (true≢false (sym x))) refl e in omega arith
+
+-- those that pass and those that don't
+pub count_not : (n : ℕ) (f : ℕ → Bool) → count_to n f + count_to n (λ k. not (f k)) ≡ n
+count_not zero f = let a = count_zero f in let b = count_zero (λ k. not (f k)) in omega arith
+count_not (suc n) f = let ih = count_not n f in let a = count_suc n f in let b = count_suc n (λ k. not (f k)) in let c = at (f n) in omega arith
+  where
+    at : (b : Bool) → cond b 1 0 + cond (not b) 1 0 ≡ 1
+    at true = refl
+    at false = refl
 
 -- MAPS
 

@@ -24,6 +24,8 @@ use Rattle.sat_solver.proofs.lemmas.names.Giving.{unseen_same, unseen_both}
 use Rattle.sat_solver.proofs.lemmas.names.Extending.{extends_same, extends_both, extends_named}
 use Rattle.sat_solver.proofs.lemmas.names.CheckerIsSound.{the_checking_sound}
 use Rattle.sat_solver.specs.names.Coming.{IsDue}
+use Rattle.sat_solver.specs.names.Room.{live_count, HasRoom, LeavesRoom}
+use Rattle.sat_solver.proofs.lemmas.names.RoomLemmas.{live_named, room_one, room_below, room_less}
 use Rattle.sat_solver.proofs.lemmas.session.ComingLemmas.{comes_none, comes_one, comes_both}
 
 -- what the steps say a variable is, where the checker knows it
@@ -50,6 +52,7 @@ name_given old new from to user v stands free within room small put e = record {
     bridge = named_new the_checking the_checking_sound j from live a.bridge (user + 1) v user refl not_known accepted;
   });
   unknown = not_known;
+  live = live_named old new user v room put;
   extends = extends_named old new user v stands.tidy room free put;
   unseen = record {
     solvers = put.solvers;
@@ -101,10 +104,11 @@ pub record Coming (old now : Variables) (from log : List Step) (user index : ℕ
   pub stands : Stands now log
   pub used : names_used now ≡ index
   pub low : index ≤ user
+  pub room : (us : List ℕ) → HasRoom old (user ∷ us) → HasRoom now (user ∷ us)
   pub rest : (new : Variables) (to : List Step) → NamesAll now new log to (names_from (user + 1 - index) (index + 1)) → NamesAll old new from to (names_from (user + 1 - names_used old) (names_used old + 1))
 
 pub none_yet : (old : Variables) (from : List Step) (user index : ℕ) → Stands old from → index ≡ names_used old → names_used old ≤ user → Coming old old from from user index
-none_yet old from user index stands e le = record { stands = stands; used = sym e; low = subst (λ k. k ≤ user) (sym e) le; rest = λ new to all. subst (λ w. NamesAll old new from to (names_from (user + 1 - w) (w + 1))) e all }
+none_yet old from user index stands e le = record { stands = stands; used = sym e; low = subst (λ k. k ≤ user) (sym e) le; room = λ us h. h; rest = λ new to all. subst (λ w. NamesAll old new from to (names_from (user + 1 - w) (w + 1))) e all }
 
 pub unused : (n : Variables) (w : ℕ) → names_used n ≡ w → global_of n w ≡ None
 unused n w e = get_or_past n.global_from_user.fwd w None (omega arith)
@@ -114,12 +118,20 @@ one_came old mid new from mids to user v index c lt one = record {
   stands = one.stands;
   low = omega arith;
   used = let a = one.used in let b = c.used in omega arith;
+  room = λ us h. room_one mid new index v (unused mid index c.used) (let b = c.used in omega arith) one.named one.used one.live (user ∷ us) (room_below mid index user us (let b = c.used in omega arith) c.low (c.room us h));
   rest = λ last end all. c.rest last end (comes mid new mids to user v index c.low one c.used last end all);
 }
 
 pub last_came : (old mid new : Variables) (from mids to : List Step) (user v : ℕ) → Coming old mid from mids user user → NamesOne mid new mids to user v → NamesAll old new from to (names_from (user + 1 - names_used old) (names_used old + 1))
 last_came old mid new from mids to user v c one =
     c.rest new to (comes mid new mids to user v user (omega arith) one c.used new to (subst (NamesAll new new to to) (sym (none_of user (user + 1) (omega arith))) (none_brought new to one.stands)))
+
+pub last_room : (old mid new : Variables) (from mids to : List Step) (user v : ℕ) → Coming old mid from mids user user → NamesOne mid new mids to user v → LeavesRoom old new user
+last_room old mid new from mids to user v c one us h = room_one mid new user v (unused mid user c.used) (let b = c.used in omega arith) one.named one.used one.live us (c.room us h)
+
+-- there is a variable for each name that is left
+pub room_left : (old mid : Variables) (from mids : List Step) (user index : ℕ) (us : List ℕ) → Coming old mid from mids user index → HasRoom old (user ∷ us) → live_count mid < largest
+room_left old mid from mids user index us c h = room_less mid user us (get_or_past mid.global_from_user.fwd user None (let a = c.used in let b = c.low in omega arith)) (c.room us h)
 
 pub last_named : (mid new : Variables) (mids to : List Step) (user v : ℕ) → NamesOne mid new mids to user v → global_of new user ≡ Some v
 last_named mid new mids to user v one = one.named user ∙ ap (λ b. cond b (Some v) (global_of mid user)) (eq-eqb user user refl)

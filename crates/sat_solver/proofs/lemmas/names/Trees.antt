@@ -3,8 +3,10 @@ use Rattle.std.proofs.Common.{ℕ, zero, suc, ◌+◌, ◌-◌, ◌*◌, ◌/◌
 use Rattle.std.proofs.lemmas.Bool.{eqb-true, eqb-false, eq-eqb, ne_eqb, true≢false, or_left, or_right, cases_eq, cases_lt}
 use Rattle.std.proofs.lemmas.List.{get_or_past, get_or_append_left, get_or-append_right, take_all}
 use Rattle.sat_base.specs.values.Literals.{largest}
-use Rattle.sat_solver.specs.names.Free.{node_at, is_free, doubled, Powers, empty, power, IsTree, Refreshes, IsChild, IsLowest, CopiesLeaves}
+use Rattle.sat_solver.specs.names.Free.{node_at, is_free, doubled, Powers, empty, power, IsTree, Refreshes, IsChild, IsLowest, CopiesLeaves, IsCounted}
 use Rattle.sat_solver.specs.declared.names.free.FreeIndices.{FreeIndices}
+use Rattle.sat_solver.specs.names.Counting.{count_to}
+use Rattle.sat_solver.proofs.lemmas.names.Counts.{count_zero, count_same, count_reach, count_changed, count_some, count_le}
 
 -- POWERS OF TWO
 
@@ -198,6 +200,24 @@ lowest_fits f level at d le = let p = leaf_place f level at d le in let p0 = p.0
 pub child_within : (f : FreeIndices) (level at : ℕ) → Descends f level at → level < f.height → 2 * at + 1 < length f.nodes.items
 child_within f level at d lt = let a = inner f level at d lt in let s = d.tree.size in omega arith
 
+-- HOW MANY THERE ARE
+
+-- none in an empty tree
+pub tree_none : (f : FreeIndices) → f.nodes.items ≡ [] → f.room ≡ 0 → f.count ≡ 0 → IsTree f
+tree_none f nodes room count = record {
+  size = let s = ap (λ (xs : List Bool). length xs) nodes in omega arith;
+  powers = empty room;
+  counted = count ∙ sym (ap (λ r. count_to r (is_free f)) room ∙ count_zero (is_free f));
+  inner = λ q pos lt. absurd (omega arith);
+}
+
+-- one that is in the set is counted
+pub some_counted : (f : FreeIndices) (index : ℕ) → IsTree f → index < f.room → is_free f index ≡ true → 0 < f.count
+some_counted f index tree lt e = let s = count_some f.room index (is_free f) lt e in let c = tree.counted in omega arith
+
+pub counted_small : (f : FreeIndices) → IsTree f → f.count ≤ largest
+counted_small f tree = let l = count_le f.room (is_free f) in let c = tree.counted in let s = small f tree in omega arith
+
 -- A LEAF CHANGES
 
 -- the leaf has this value, and all nodes are as those below say but the one above this one
@@ -249,14 +269,16 @@ mend_goes room first nodes next leaf value at low m big r = record {
         kids : (node_at nodes (2 * q) || node_at nodes (2 * q + 1)) ≡ (node_at next (2 * q) || node_at next (2 * q + 1))
         kids = sym (both (node_at next (2 * q)) (node_at nodes (2 * q)) (node_at next (2 * q + 1)) (node_at nodes (2 * q + 1)) (other (2 * q) (λ e. ne (omega arith))) (other (2 * q + 1) (λ e. ne (omega arith))))
 
-pub mended : (f g : FreeIndices) (index : ℕ) (value : Bool) (at : ℕ) → IsTree f → g.room ≡ f.room → g.height ≡ f.height → Mends f.room f.nodes.items g.nodes.items (f.room + index) value at → at ≤ 1 → IsTree g × ((i : ℕ) → is_free g i ≡ cond (eqb i index) value (is_free f i))
-mended f g index value at tree room height m le = (
+pub mended : (f g : FreeIndices) (index : ℕ) (value : Bool) (at : ℕ) → IsTree f → index < f.room → g.room ≡ f.room → g.height ≡ f.height → g.count + cond (is_free f index) 1 0 ≡ f.count + cond value 1 0 → Mends f.room f.nodes.items g.nodes.items (f.room + index) value at → at ≤ 1
+    → IsTree g × ((i : ℕ) → is_free g i ≡ cond (eqb i index) value (is_free f i))
+mended f g index value at tree lt room height count m le = (
   record {
     size = m.size ∙ tree.size ∙ ap (λ r. 2 * r) (sym room);
     powers = powers tree.powers;
+    counted = counted;
     inner = λ q pos lt. m.inner q pos (omega arith) (let s = m.some in omega arith);
   },
-  λ i. ap (λ r. node_at g.nodes.items (r + i)) room ∙ m.leaves (f.room + i) (omega arith) ∙ ap (λ b. cond b value (is_free f i)) (same i),
+  free,
 )
   where
     powers : Powers f → Powers g
@@ -269,6 +291,18 @@ mended f g index value at tree room height m le = (
         go : (b : Bool) → eqb i index ≡ b → eqb (f.room + i) (f.room + index) ≡ b
         go true e = let q = eqb-true i index e in eq-eqb (f.room + i) (f.room + index) (omega arith)
         go false e = ne_eqb (f.room + i) (f.room + index) (λ q. eqb-false i index e (omega arith))
+
+    free : (i : ℕ) → is_free g i ≡ cond (eqb i index) value (is_free f i)
+    free i = ap (λ r. node_at g.nodes.items (r + i)) room ∙ m.leaves (f.room + i) (omega arith) ∙ ap (λ b. cond b value (is_free f i)) (same i)
+
+    counted : IsCounted g
+    counted =
+        let c : count_to f.room (is_free g) + cond (is_free f index) 1 0 ≡ count_to f.room (is_free f) + cond (is_free g index) 1 0 =
+            count_changed f.room index (is_free f) (is_free g) lt (λ k ne. free k ∙ ap (λ b. cond b value (is_free f k)) (ne_eqb k index ne)) in
+        let e : ◌≡◌ {A = ℕ} (cond (is_free g index) 1 0) (cond value 1 0) = ap (λ (b : Bool). cond b 1 0) (free index ∙ ap (λ b. cond b value (is_free f index)) (eq-eqb index index refl)) in
+        let d = tree.counted in
+        let all : g.count ≡ count_to f.room (is_free g) = omega arith in
+        all ∙ ap (λ r. count_to r (is_free g)) (sym room)
 
 -- ALL NODES ANEW
 
@@ -303,16 +337,20 @@ renew_goes room first nodes next at m lt pos r = record {
         kids : (node_at nodes (2 * q) || node_at nodes (2 * q + 1)) ≡ (node_at next (2 * q) || node_at next (2 * q + 1))
         kids = sym (both (node_at next (2 * q)) (node_at nodes (2 * q)) (node_at next (2 * q + 1)) (node_at nodes (2 * q + 1)) (other (2 * q) (λ e. omega arith)) (other (2 * q + 1) (λ e. omega arith)))
 
-pub renewed : (f g : FreeIndices) → length f.nodes.items ≡ 2 * f.room → Powers f → g.room ≡ f.room → g.height ≡ f.height → (from : ℕ) → from ≤ 1 → Renews f.room f.nodes.items g.nodes.items from → IsTree g × ((i : ℕ) → is_free g i ≡ is_free f i)
-renewed f g size powers room height from le m = (
+pub renewed : (f g : FreeIndices) → length f.nodes.items ≡ 2 * f.room → Powers f → IsCounted f → g.room ≡ f.room → g.height ≡ f.height → g.count ≡ f.count → (from : ℕ) → from ≤ 1 → Renews f.room f.nodes.items g.nodes.items from → IsTree g × ((i : ℕ) → is_free g i ≡ is_free f i)
+renewed f g size powers counted room height count from le m = (
   record {
     size = m.size ∙ size ∙ ap (λ r. 2 * r) (sym room);
     powers = same powers;
+    counted = count ∙ counted ∙ ap (λ r. count_to r (is_free f)) (sym room) ∙ count_same g.room (is_free f) (is_free g) (λ i lt. sym (free i));
     inner = λ q pos lt. m.inner q (omega arith) pos (omega arith);
   },
-  λ i. ap (λ r. node_at g.nodes.items (r + i)) room ∙ m.leaves (f.room + i) (omega arith),
+  free,
 )
   where
+    free : (i : ℕ) → is_free g i ≡ is_free f i
+    free i = ap (λ r. node_at g.nodes.items (r + i)) room ∙ m.leaves (f.room + i) (omega arith)
+
     same : Powers f → Powers g
     same (empty e) = empty (room ∙ e)
     same (power e l) = power (room ∙ e ∙ ap doubled (sym height)) (omega arith)
@@ -363,14 +401,23 @@ grown_powers f g tree n lt room height =
     let d = doubled_more f.height in
     power (omega (arith, ap doubled height)) (omega arith)
 
+-- no leaf that came is in the set
+pub grown_counted : (f g : FreeIndices) (wide : List Bool) → IsTree f → f.room ≡ doubled f.height → length wide ≡ 4 * f.room → ((q : ℕ) → node_at wide q ≡ node_at f.nodes.items q) → CopiesLeaves wide g.nodes.items f.room → g.room ≡ 2 * f.room → g.count ≡ f.count → IsCounted g
+grown_counted f g wide tree p size same c room count =
+    count ∙ tree.counted ∙ sym (count_reach f.room g.room (is_free f) (omega arith) (λ k le. past f k tree le))
+    ∙ count_same g.room (is_free f) (is_free g) (λ i lt. sym (grown f g g wide tree p size same c room (λ k. refl) i))
+
 pub height_fits : (f : FreeIndices) → IsTree f → (f.room ≡ 0 → ⊥) → f.height < largest
 height_fits f tree n = let p = full f tree n in let s = small f tree in let b = below_doubled f.height in omega arith
 
 -- one leaf
-pub tree_one : (g : FreeIndices) → g.room ≡ 1 → g.height ≡ 0 → length g.nodes.items ≡ 2 → IsTree g
-tree_one g room height size = record {
+pub tree_one : (f g : FreeIndices) → IsTree f → f.room ≡ 0 → g.room ≡ 1 → g.height ≡ 0 → g.count ≡ f.count → length g.nodes.items ≡ 2 → ((q : ℕ) → node_at g.nodes.items q ≡ node_at f.nodes.items q) → IsTree g
+tree_one f g tree none room height count size same = record {
   size = omega arith;
   powers = power (room ∙ sym doubled_zero ∙ ap doubled (sym height)) (omega arith);
+  counted =
+      count ∙ tree.counted ∙ sym (count_reach f.room g.room (is_free f) (omega arith) (λ k le. past f k tree le))
+      ∙ count_same g.room (is_free f) (is_free g) (λ i lt. past f i tree (omega arith) ∙ sym (same (g.room + i) ∙ get_or_past f.nodes.items (g.room + i) false (let s = tree.size in omega arith)));
   inner = λ q pos lt. absurd (omega arith);
 }
 
@@ -385,14 +432,17 @@ widened old new count n le e q = ap (λ xs. get_or xs q false) (e ∙ ap (λ xs.
   | inr past ↦ get_or-append_right old (replicate n false) (length old) q false refl past ∙ none_in n (q - length old) ∙ sym (get_or_past old q false past)
 ]
 
--- what is read at the root
+-- what is read of a node
+default : (xs : List Bool) (i : ℕ) (x y : Bool) → i < length xs → get_or xs i x ≡ get_or xs i y
+default [] i x y lt = absurd (omega arith)
+default (z ∷ zs) zero x y lt = refl
+default (z ∷ zs) (suc i) x y lt = default zs i x y (omega arith)
+
 pub node_is : (f : FreeIndices) (b : Bool) → IsTree f → (f.room ≡ 0 → ⊥) → b ≡ get_or f.nodes.items 1 b → node_at f.nodes.items 1 ≡ b
 node_is f b tree n e = default f.nodes.items 1 false b (let s = tree.size in let r = some in omega arith) ∙ sym e
   where
     some : 0 < f.room
     some = elim (cases_eq f.room 0) [ inl z ↦ absurd (n z) | inr m ↦ omega arith ]
 
-    default : (xs : List Bool) (i : ℕ) (x y : Bool) → i < length xs → get_or xs i x ≡ get_or xs i y
-    default [] i x y lt = absurd (omega arith)
-    default (z ∷ zs) zero x y lt = refl
-    default (z ∷ zs) (suc i) x y lt = default zs i x y (omega arith)
+pub leaf_is : (f : FreeIndices) (index : ℕ) (b : Bool) → IsTree f → index < f.room → b ≡ get_or f.nodes.items (f.room + index) b → is_free f index ≡ b
+leaf_is f index b tree lt e = default f.nodes.items (f.room + index) false b (let s = tree.size in omega arith) ∙ sym e

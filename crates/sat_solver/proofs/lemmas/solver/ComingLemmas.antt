@@ -23,11 +23,13 @@ use Rattle.sat_solver.specs.declared.solver.Solver.{Solver}
 use Rattle.sat_solver.specs.declared.solver.state.State.{State}
 use Rattle.sat_solver.specs.declared.solver.state.State.TheVariants as states
 use Rattle.sat_solver.specs.declared.solver.taking.Loading.{Loading}
+use Rattle.sat_solver.specs.search.Going.{IsFault}
 use Rattle.sat_solver.specs.solver.Taking.{TookClause, TookAssumptions, BreaksNames}
 use Rattle.sat_solver.specs.solver.Whole.{IsWhole, IsWholeOf, StateSays, GoesOn, steps_in}
 use Rattle.sat_solver.specs.solver.Adding.{TookIn, with_added, due_for_clause, Forgets, AreSampled, AddsClause, Assumed, Assumes, due_for_asked}
 use Rattle.sat_solver.specs.search.Bumping.{AreDecays}
 use Rattle.sat_solver.specs.solver.Asking.{AskedIn}
+use Rattle.sat_solver.specs.names.Room.{HasRoom, users_in}
 use Rattle.sat_solver.specs.names.Refusing.{names_in, as_refusal}
 use Rattle.sat_solver.specs.names.Live.{Live}
 use Rattle.sat_solver.specs.names.Variables.{AreJudged}
@@ -210,58 +212,40 @@ module _ {W : Type 0} (seen : W → Writer) (s : Solver W) (whole : IsWhole s) (
 -- FAULTS
 
 -- a call over a clause failed
-pub adding_ends : {W : Type 0} (seen : W → Writer) (e : SolverError) (s new : Solver W) (user : List ℕ) → s.failed ≡ false → AreSampled s user → BreaksNames seen e s.core new.core → new.clock ≡ s.clock → new.failed ≡ true → AddsClause seen (Err e) s new user
-adding_ends seen errors.OutOfMemory s new user g w b k f = (w, record { going = g; failed = f; breaks = b; clock = k })
-adding_ends seen errors.StoreFull s new user g w b k f = (w, record { going = g; failed = f; breaks = b; clock = k })
-adding_ends seen (errors.ProofIoError cause) s new user g w b k f = (w, record { going = g; failed = f; breaks = b; clock = k })
-adding_ends seen errors.VariableLimit s new user g w b k f = (w, record { going = g; failed = f; breaks = b; clock = k })
-adding_ends seen errors.Interrupted s new user g w b k f = (w, record { going = g; failed = f; breaks = b; clock = k })
-adding_ends seen (errors.ProofProcessorError cause) s new user g w b k f = (w, record { going = g; failed = f; breaks = b; clock = k })
-adding_ends seen errors.WitnessVariable s new user g w b k f = absurd (elim b.fault [ inl x ↦ x | inr e ↦ apart e ])
-  where
-    apart : errors.WitnessVariable ≡ errors.VariableLimit → ⊥
-    apart e = cc
-adding_ends seen errors.AssumedVariable s new user g w b k f = (w, record { going = g; failed = f; breaks = b; clock = k })
-adding_ends seen errors.TooLate s new user g w b k f = (w, record { going = g; failed = f; breaks = b; clock = k })
-adding_ends seen errors.NotInDrat s new user g w b k f = absurd (elim b.fault [ inl x ↦ x | inr e ↦ apart e ])
-  where
-    apart : errors.NotInDrat ≡ errors.VariableLimit → ⊥
-    apart e = cc
-adding_ends seen errors.CounterEnd s new user g w b k f = (w, record { going = g; failed = f; breaks = b; clock = k })
-adding_ends seen errors.HasFailed s new user g w b k f = absurd (elim b.fault [ inl x ↦ x | inr e ↦ apart e ])
-  where
-    apart : errors.HasFailed ≡ errors.VariableLimit → ⊥
-    apart e = cc
-adding_ends seen errors.Read s new user g w b k f = (w, record { going = g; failed = f; breaks = b; clock = k })
-adding_ends seen errors.Malformed s new user g w b k f = (w, record { going = g; failed = f; breaks = b; clock = k })
-adding_ends seen errors.OutOfRange s new user g w b k f = (w, record { going = g; failed = f; breaks = b; clock = k })
+pub adding_ends : {W : Type 0} (seen : W → Writer) (e : SolverError) (s new : Solver W) (user : List ℕ) → s.failed ≡ false → AreSampled s user → IsFault e → BreaksNames seen e s.core new.core → new.clock ≡ s.clock → new.failed ≡ true → AddsClause seen (Err e) s new user
+adding_ends seen errors.OutOfMemory s new user g w x b k f = (w, record { going = g; failed = f; fault = x; breaks = b; clock = k })
+adding_ends seen errors.StoreFull s new user g w x b k f = (w, record { going = g; failed = f; fault = x; breaks = b; clock = k })
+adding_ends seen (errors.ProofIoError cause) s new user g w x b k f = (w, record { going = g; failed = f; fault = x; breaks = b; clock = k })
+adding_ends seen errors.VariableLimit s new user g w x b k f = absurd x
+adding_ends seen errors.Interrupted s new user g w x b k f = absurd x
+adding_ends seen (errors.ProofProcessorError cause) s new user g w x b k f = absurd x
+adding_ends seen errors.WitnessVariable s new user g w x b k f = absurd x
+adding_ends seen errors.AssumedVariable s new user g w x b k f = absurd x
+adding_ends seen errors.TooLate s new user g w x b k f = absurd x
+adding_ends seen errors.NotInDrat s new user g w x b k f = absurd x
+adding_ends seen errors.CounterEnd s new user g w x b k f = absurd x
+adding_ends seen errors.HasFailed s new user g w x b k f = absurd x
+adding_ends seen errors.Read s new user g w x b k f = absurd x
+adding_ends seen errors.Malformed s new user g w x b k f = absurd x
+adding_ends seen errors.OutOfRange s new user g w x b k f = absurd x
 
 -- or one over assumptions
-pub assuming_ends : {W : Type 0} (seen : W → Writer) (e : SolverError) (s new : Solver W) (user : List ℕ) → s.failed ≡ false → AreSampled s user → BreaksNames seen e s.core new.core → new.clock ≡ s.clock → new.failed ≡ true → Assumes seen (Err e) s new user
-assuming_ends seen errors.OutOfMemory s new user g w b k f = (w, record { going = g; failed = f; breaks = b; clock = k })
-assuming_ends seen errors.StoreFull s new user g w b k f = (w, record { going = g; failed = f; breaks = b; clock = k })
-assuming_ends seen (errors.ProofIoError cause) s new user g w b k f = (w, record { going = g; failed = f; breaks = b; clock = k })
-assuming_ends seen errors.VariableLimit s new user g w b k f = (w, record { going = g; failed = f; breaks = b; clock = k })
-assuming_ends seen errors.Interrupted s new user g w b k f = (w, record { going = g; failed = f; breaks = b; clock = k })
-assuming_ends seen (errors.ProofProcessorError cause) s new user g w b k f = (w, record { going = g; failed = f; breaks = b; clock = k })
-assuming_ends seen errors.WitnessVariable s new user g w b k f = absurd (elim b.fault [ inl x ↦ x | inr e ↦ apart e ])
-  where
-    apart : errors.WitnessVariable ≡ errors.VariableLimit → ⊥
-    apart e = cc
-assuming_ends seen errors.AssumedVariable s new user g w b k f = (w, record { going = g; failed = f; breaks = b; clock = k })
-assuming_ends seen errors.TooLate s new user g w b k f = (w, record { going = g; failed = f; breaks = b; clock = k })
-assuming_ends seen errors.NotInDrat s new user g w b k f = absurd (elim b.fault [ inl x ↦ x | inr e ↦ apart e ])
-  where
-    apart : errors.NotInDrat ≡ errors.VariableLimit → ⊥
-    apart e = cc
-assuming_ends seen errors.CounterEnd s new user g w b k f = (w, record { going = g; failed = f; breaks = b; clock = k })
-assuming_ends seen errors.HasFailed s new user g w b k f = absurd (elim b.fault [ inl x ↦ x | inr e ↦ apart e ])
-  where
-    apart : errors.HasFailed ≡ errors.VariableLimit → ⊥
-    apart e = cc
-assuming_ends seen errors.Read s new user g w b k f = (w, record { going = g; failed = f; breaks = b; clock = k })
-assuming_ends seen errors.Malformed s new user g w b k f = (w, record { going = g; failed = f; breaks = b; clock = k })
-assuming_ends seen errors.OutOfRange s new user g w b k f = (w, record { going = g; failed = f; breaks = b; clock = k })
+pub assuming_ends : {W : Type 0} (seen : W → Writer) (e : SolverError) (s new : Solver W) (user : List ℕ) → s.failed ≡ false → AreSampled s user → IsFault e → BreaksNames seen e s.core new.core → new.clock ≡ s.clock → new.failed ≡ true → Assumes seen (Err e) s new user
+assuming_ends seen errors.OutOfMemory s new user g w x b k f = (w, record { going = g; failed = f; fault = x; breaks = b; clock = k })
+assuming_ends seen errors.StoreFull s new user g w x b k f = (w, record { going = g; failed = f; fault = x; breaks = b; clock = k })
+assuming_ends seen (errors.ProofIoError cause) s new user g w x b k f = (w, record { going = g; failed = f; fault = x; breaks = b; clock = k })
+assuming_ends seen errors.VariableLimit s new user g w x b k f = absurd x
+assuming_ends seen errors.Interrupted s new user g w x b k f = absurd x
+assuming_ends seen (errors.ProofProcessorError cause) s new user g w x b k f = absurd x
+assuming_ends seen errors.WitnessVariable s new user g w x b k f = absurd x
+assuming_ends seen errors.AssumedVariable s new user g w x b k f = absurd x
+assuming_ends seen errors.TooLate s new user g w x b k f = absurd x
+assuming_ends seen errors.NotInDrat s new user g w x b k f = absurd x
+assuming_ends seen errors.CounterEnd s new user g w x b k f = absurd x
+assuming_ends seen errors.HasFailed s new user g w x b k f = absurd x
+assuming_ends seen errors.Read s new user g w x b k f = absurd x
+assuming_ends seen errors.Malformed s new user g w x b k f = absurd x
+assuming_ends seen errors.OutOfRange s new user g w x b k f = absurd x
 
 -- CALLS
 
@@ -271,9 +255,10 @@ none_refused s user None judged none = λ j live agree. judged j live agree.judg
 none_refused s user (Some name) judged none = absurd (true≢false none)
 
 -- assumptions were taken, and listed over names
-pub assumed_by : {W : Type 0} (seen : W → Writer) (s mid new : Solver W) (user : List ℕ) → s.failed ≡ false → AreSampled s user → AskedIn seen (record s { used = true }) mid user → mid.clock ≡ s.clock → new ≡ record mid { assumed = new.assumed } → new.assumed.items ≡ user → Assumed seen s new user
-assumed_by {W} seen s mid new user going sampled a clock same items = record {
+pub assumed_by : {W : Type 0} (seen : W → Writer) (s mid new : Solver W) (user : List ℕ) → s.failed ≡ false → AreSampled s user → HasRoom s.names (users_in user) → AskedIn seen (record s { used = true }) mid user → mid.clock ≡ s.clock → new ≡ record mid { assumed = new.assumed } → new.assumed.items ≡ user → Assumed seen s new user
+assumed_by {W} seen s mid new user going sampled room a clock same items = record {
   sampled = sampled;
+  room = room;
   did = record {
     whole = subst (λ (x : Solver W). IsWholeOf x.core x.names x.asked new.assumed.items x.told.failed_core.items x.clock.restarts.scale x.state) (sym same)
         (subst (λ ls. IsWholeOf mid.core mid.names mid.asked ls mid.told.failed_core.items mid.clock.restarts.scale mid.state) (sym items) a.whole);

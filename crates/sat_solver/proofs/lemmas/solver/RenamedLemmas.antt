@@ -39,7 +39,8 @@ use Rattle.sat_solver.specs.declared.solver.state.State.{State}
 use Rattle.sat_solver.specs.declared.solver.state.State.TheVariants as states
 use Rattle.sat_solver.specs.solver.Joined.{IsJoined}
 use Rattle.sat_solver.specs.solver.Naming.{IsAsked, IsKeptOrFalse, variable_value, name_value, IsNextName, Renamed, Observed, ChangesMode, NamesFail}
-use Rattle.sat_solver.specs.solver.Taking.{BreaksNames}
+use Rattle.sat_solver.specs.solver.Taking.{IsNameFault, BreaksNames}
+use Rattle.sat_solver.specs.search.Going.{IsFault}
 use Rattle.sat_solver.specs.declared.search.solving.Core.{Core}
 use Rattle.sat_solver.specs.solver.Whole.{IsWhole, IsWholeOf, StateSays, GoesOn, HasCore, steps_in, session_in}
 use Rattle.sat_solver.proofs.lemmas.names.Giving.{alike_unseen}
@@ -295,49 +296,44 @@ module _ {W : Type 0} (seen : W → Writer) (s : Solver W) (whole : IsWhole s) (
   }
 
 -- a call over modes failed
-pub mode_ends : {W : Type 0} (seen : W → Writer) (e : SolverError) (s new : Solver W) (user : ℕ) (judge : Judge → Judge) (due : Judge → List Expected) → s.failed ≡ false → BreaksNames seen e s.core new.core → new.clock ≡ s.clock → new.failed ≡ true → ChangesMode seen (Err e) s new user judge due
-mode_ends seen errors.OutOfMemory s new user judge due g b k f = record { going = g; failed = f; breaks = b; clock = k }
-mode_ends seen errors.StoreFull s new user judge due g b k f = record { going = g; failed = f; breaks = b; clock = k }
-mode_ends seen (errors.ProofIoError cause) s new user judge due g b k f = record { going = g; failed = f; breaks = b; clock = k }
-mode_ends seen errors.VariableLimit s new user judge due g b k f = record { going = g; failed = f; breaks = b; clock = k }
-mode_ends seen errors.Interrupted s new user judge due g b k f = record { going = g; failed = f; breaks = b; clock = k }
-mode_ends seen (errors.ProofProcessorError cause) s new user judge due g b k f = record { going = g; failed = f; breaks = b; clock = k }
-mode_ends seen errors.WitnessVariable s new user judge due g b k f = record { going = g; failed = f; breaks = b; clock = k }
-mode_ends seen errors.AssumedVariable s new user judge due g b k f = absurd (elim b.fault [ inl x ↦ x | inr e ↦ apart e ])
-  where
-    apart : errors.AssumedVariable ≡ errors.VariableLimit → ⊥
-    apart e = cc
-mode_ends seen errors.TooLate s new user judge due g b k f = record { going = g; failed = f; breaks = b; clock = k }
-mode_ends seen errors.NotInDrat s new user judge due g b k f = record { going = g; failed = f; breaks = b; clock = k }
-mode_ends seen errors.CounterEnd s new user judge due g b k f = record { going = g; failed = f; breaks = b; clock = k }
-mode_ends seen errors.HasFailed s new user judge due g b k f = absurd (elim b.fault [ inl x ↦ x | inr e ↦ apart e ])
-  where
-    apart : errors.HasFailed ≡ errors.VariableLimit → ⊥
-    apart e = cc
-mode_ends seen errors.Read s new user judge due g b k f = record { going = g; failed = f; breaks = b; clock = k }
-mode_ends seen errors.Malformed s new user judge due g b k f = record { going = g; failed = f; breaks = b; clock = k }
-mode_ends seen errors.OutOfRange s new user judge due g b k f = record { going = g; failed = f; breaks = b; clock = k }
+pub mode_ends : {W : Type 0} (seen : W → Writer) (e : SolverError) (s new : Solver W) (user : ℕ) (judge : Judge → Judge) (due : Judge → List Expected) → s.failed ≡ false → IsFault e → BreaksNames seen e s.core new.core → new.clock ≡ s.clock → new.failed ≡ true → ChangesMode seen (Err e) s new user judge due
+mode_ends seen errors.OutOfMemory s new user judge due g x b k f = record { going = g; failed = f; fault = x; breaks = b; clock = k }
+mode_ends seen errors.StoreFull s new user judge due g x b k f = record { going = g; failed = f; fault = x; breaks = b; clock = k }
+mode_ends seen (errors.ProofIoError cause) s new user judge due g x b k f = record { going = g; failed = f; fault = x; breaks = b; clock = k }
+mode_ends seen errors.VariableLimit s new user judge due g x b k f = absurd x
+mode_ends seen errors.Interrupted s new user judge due g x b k f = absurd x
+mode_ends seen (errors.ProofProcessorError cause) s new user judge due g x b k f = absurd x
+mode_ends seen errors.WitnessVariable s new user judge due g x b k f = absurd x
+mode_ends seen errors.AssumedVariable s new user judge due g x b k f = absurd x
+mode_ends seen errors.TooLate s new user judge due g x b k f = absurd x
+mode_ends seen errors.NotInDrat s new user judge due g x b k f = absurd x
+mode_ends seen errors.CounterEnd s new user judge due g x b k f = absurd x
+mode_ends seen errors.HasFailed s new user judge due g x b k f = absurd x
+mode_ends seen errors.Read s new user judge due g x b k f = absurd x
+mode_ends seen errors.Malformed s new user judge due g x b k f = absurd x
+mode_ends seen errors.OutOfRange s new user judge due g x b k f = absurd x
 
 -- a call that gives names failed
-pub new_ends : {W : Type 0} (seen : W → Writer) (e : SolverError) (s new : Solver W) → (e ≡ errors.VariableLimit → ⊥) → s.failed ≡ false → BreaksNames seen e s.core new.core → new.clock ≡ s.clock → new.failed ≡ true → NamesFail seen e s new
-new_ends seen errors.OutOfMemory s new n g b k f = record { going = g; failed = f; breaks = b; clock = k }
-new_ends seen errors.StoreFull s new n g b k f = record { going = g; failed = f; breaks = b; clock = k }
-new_ends seen (errors.ProofIoError cause) s new n g b k f = record { going = g; failed = f; breaks = b; clock = k }
-new_ends seen errors.VariableLimit s new n g b k f = absurd (n refl)
-new_ends seen errors.Interrupted s new n g b k f = record { going = g; failed = f; breaks = b; clock = k }
-new_ends seen (errors.ProofProcessorError cause) s new n g b k f = record { going = g; failed = f; breaks = b; clock = k }
-new_ends seen errors.WitnessVariable s new n g b k f = record { going = g; failed = f; breaks = b; clock = k }
-new_ends seen errors.AssumedVariable s new n g b k f = record { going = g; failed = f; breaks = b; clock = k }
-new_ends seen errors.TooLate s new n g b k f = record { going = g; failed = f; breaks = b; clock = k }
-new_ends seen errors.NotInDrat s new n g b k f = record { going = g; failed = f; breaks = b; clock = k }
-new_ends seen errors.CounterEnd s new n g b k f = record { going = g; failed = f; breaks = b; clock = k }
-new_ends seen errors.HasFailed s new n g b k f = absurd (elim b.fault [ inl x ↦ x | inr e ↦ apart e ])
-  where
-    apart : errors.HasFailed ≡ errors.VariableLimit → ⊥
-    apart e = cc
-new_ends seen errors.Read s new n g b k f = record { going = g; failed = f; breaks = b; clock = k }
-new_ends seen errors.Malformed s new n g b k f = record { going = g; failed = f; breaks = b; clock = k }
-new_ends seen errors.OutOfRange s new n g b k f = record { going = g; failed = f; breaks = b; clock = k }
+pub new_ends : {W : Type 0} (seen : W → Writer) (e : SolverError) (s new : Solver W) → s.failed ≡ false → IsFault e → BreaksNames seen e s.core new.core → new.clock ≡ s.clock → new.failed ≡ true → NamesFail seen e s new
+new_ends seen errors.OutOfMemory s new g x b k f = record { going = g; failed = f; fault = x; breaks = b; clock = k }
+new_ends seen errors.StoreFull s new g x b k f = record { going = g; failed = f; fault = x; breaks = b; clock = k }
+new_ends seen (errors.ProofIoError cause) s new g x b k f = record { going = g; failed = f; fault = x; breaks = b; clock = k }
+new_ends seen errors.VariableLimit s new g x b k f = absurd x
+new_ends seen errors.Interrupted s new g x b k f = absurd x
+new_ends seen (errors.ProofProcessorError cause) s new g x b k f = absurd x
+new_ends seen errors.WitnessVariable s new g x b k f = absurd x
+new_ends seen errors.AssumedVariable s new g x b k f = absurd x
+new_ends seen errors.TooLate s new g x b k f = absurd x
+new_ends seen errors.NotInDrat s new g x b k f = absurd x
+new_ends seen errors.CounterEnd s new g x b k f = absurd x
+new_ends seen errors.HasFailed s new g x b k f = absurd x
+new_ends seen errors.Read s new g x b k f = absurd x
+new_ends seen errors.Malformed s new g x b k f = absurd x
+new_ends seen errors.OutOfRange s new g x b k f = absurd x
+
+-- what a call over names fails of, but for the limit
+pub fault_left : (e : SolverError) → IsNameFault e → (e ≡ errors.VariableLimit → ⊥) → IsFault e
+fault_left e h n = elim h [ inl x ↦ x | inr q ↦ absurd (n q) ]
 
 -- which fault a call over names tells as the limit
 pub told_limit : (e : NameError) → told_as e ≡ errors.VariableLimit → e ≡ names.VariableLimit

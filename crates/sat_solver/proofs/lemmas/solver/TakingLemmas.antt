@@ -1,5 +1,7 @@
 -- A clause, or assumptions, over names: names, proof and search behind them.
-use Rattle.std.proofs.Common.{ℕ, ◌<◌, ◌≡◌, ◌∙◌, Bool, true, false, Result, Ok, Err, OnOk, List, [], ◌∷◌, ◌++◌, length, map, get_or, refl, sym, ap, subst, inl, inr}
+use Rattle.std.proofs.Common.{ℕ, ◌<◌, ◌≡◌, ◌∙◌, Bool, true, false, Result, Ok, Err, IfErr, OnOk, List, [], ◌∷◌, ◌++◌, length, map, get_or, refl, sym, ap, subst, inl, inr}
+use Rattle.std.specs.Prelude.{IsErrAnd}
+use Rattle.std.proofs.lemmas.Result.{err_from_is_err_and}
 use Rattle.sat_base.specs.device.Device.{Writer}
 use Rattle.sat_base.specs.values.Literals.{variable}
 use Rattle.sat_base.specs.script.Judge.{bring_all, with_clause}
@@ -15,7 +17,7 @@ use Rattle.sat_solver.specs.declared.error.SolverError.{SolverError}
 use Rattle.sat_solver.specs.declared.error.SolverError.TheVariants as errors
 use Rattle.sat_solver.specs.declared.names.error.NameError.{NameError}
 use Rattle.sat_solver.specs.declared.names.error.NameError.TheVariants as names
-use Rattle.sat_solver.specs.names.Failing.{CameTo}
+use Rattle.sat_solver.specs.names.Failing.{IsFailure, CameTo}
 use Rattle.sat_solver.specs.loading.Faults.{told_as}
 use Rattle.sat_solver.specs.declared.search.solving.Core.{Core}
 use Rattle.sat_solver.specs.declared.search.work.Search.{Search}
@@ -59,6 +61,22 @@ use Rattle.sat_solver.proofs.lemmas.solver.TellingLemmas.{shares_moved}
 -- nothing was made
 pub none_took : {W : Type 0} (seen : W → Writer) (p : Proof W) → Took seen p p
 none_took seen p = ([], adds_none seen p)
+
+-- a failure of a call over names, as a solver tells it
+pub told_fails : (e : NameError) → IsFailure e → IsFault (told_as e)
+told_fails names.WitnessVariable h = absurd h
+told_fails names.AssumedVariable h = absurd h
+told_fails names.VariableLimit h = absurd h
+told_fails names.OutOfMemory h = tt
+told_fails (names.Write cause) h = tt
+
+-- a fault that is handed on, or one of a search
+pub fault_on : {A : Type 0} (r : Result A SolverError) (e : SolverError) → IsErrAnd r (λ f. f ≡ e) → IsFault e → IfErr r IsFault
+fault_on r e h f = let p = err_from_is_err_and r h in subst (λ r. IfErr r IsFault) (sym p.1) (subst IsFault (sym p.2) f)
+
+pub fault_ends : {A W : Type 0} (seen : W → Writer) (r : Result A SolverError) (p q : Proof W) (P : A → List Step → Type 0) → Goes seen r p q P → IfErr r IsFault
+fault_ends seen (Ok x) p q P goes = tt
+fault_ends seen (Err e) p q P goes = goes.ends
 
 module _ {W : Type 0} (seen : W → Writer) (a b : Core W) where
   -- a call over names failed

@@ -6,6 +6,7 @@ use Rattle.sat_solver.proofs.lemmas.names.Doing.{ok_both}
 use Rattle.sat_solver.proofs.lemmas.names.Giving.{ok_unseen, ok_others, ok_fresh}
 use Rattle.sat_solver.proofs.lemmas.names.CameLemmas.{came_then}
 use Rattle.sat_solver.proofs.lemmas.names.Extending.{are_fresh}
+use Rattle.sat_solver.proofs.lemmas.names.RoomLemmas.{fails_on}
 use Rattle.sat_solver.proofs.names.modes.set_sampling_mode.Goals as goal
 
 pub returns-clause-does : goal.returns-clause-does
@@ -26,3 +27,6 @@ returns-clause-others g c =
 pub returns-clause-fresh : goal.returns-clause-fresh
 returns-clause-fresh g c =
     ok_fresh c.set_global_mode.result c.args.variables.now c.global_from_user.new.variables c.set_global_mode.new.variables (are_fresh c.args.variables.now c.global_from_user.new.variables c.in_ok-global.ensures.brought.extends) c.set_global_mode.ensures.users
+
+pub returns-in_err-global-clause-room : goal.returns-in_err-global-clause-room
+returns-in_err-global-clause-room g c = λ h. fails_on c.from_residual.result c.in_err-global.field-0.0 c.from_residual.ensures.1 (c.in_err-global.ensures.room [] h)

@@ -2,8 +2,10 @@ use Rattle.std.proofs.Common.{◌≡◌, ◌<◌, ◌+◌, ◌-◌, sym, ◌∙�
 use Rattle.sat_base.specs.script.Judge.{names_from}
 use Rattle.sat_solver.specs.names.Variables.{names_used}
 use Rattle.sat_solver.specs.names.Calls.{NamesOne, NamesAll}
-use Rattle.sat_solver.proofs.lemmas.names.NamingSteps.{Coming, unused, one_came, last_came, on_one}
+use Rattle.sat_solver.proofs.lemmas.names.NamingSteps.{Coming, unused, one_came, last_came, last_room, room_left, on_one}
 use Rattle.sat_solver.proofs.lemmas.names.CameLemmas.{came_then, came_on}
+use Rattle.sat_solver.specs.names.Room.{LeavesRoom}
+use Rattle.sat_solver.proofs.lemmas.names.RoomLemmas.{fails_on, limit_fails, if_limit_fails}
 use Rattle.sat_solver.proofs.names.naming.bring_new.Goals as goal
 
 pub new_name-requires-clause-free : goal.new_name-requires-clause-free
@@ -37,3 +39,22 @@ returns-in_err-new_name-clause-came g c =
 
 pub returns-clause-came : goal.returns-clause-came
 returns-clause-came g c = came_then g.W.StepWriter.took g.W.StepWriter.broke c.new_name-2.result c.args.writer.now c.loop-index.writer c.new_name-2.new.writer c.loop-index.invariant.2 c.new_name-2.ensures.came
+
+pub returns-clause-leaves : goal.returns-clause-leaves
+returns-clause-leaves g c =
+    let at : c.loop-index.index ≡ c.args.user = (let a = c.loop-index-test.false in let b = c.loop-index.invariant.0.low in let e = c.index-index-end.ensures.value in omega arith) in
+    let came : Coming c.args.variables.now c.loop-index.variables (g.W.StepWriter.steps c.args.writer.now) (g.W.StepWriter.steps c.loop-index.writer) c.args.user c.args.user = subst (Coming c.args.variables.now c.loop-index.variables (g.W.StepWriter.steps c.args.writer.now) (g.W.StepWriter.steps c.loop-index.writer) c.args.user) at c.loop-index.invariant.0 in
+    on_one c.new_name-2.result (λ v. NamesOne c.loop-index.variables c.new_name-2.new.variables (g.W.StepWriter.steps c.loop-index.writer) (g.W.StepWriter.steps c.new_name-2.new.writer) c.args.user v)
+    (LeavesRoom c.args.variables.now c.new_name-2.new.variables c.args.user)
+    c.new_name-2.ensures.names (λ v one. last_room c.args.variables.now c.loop-index.variables c.new_name-2.new.variables (g.W.StepWriter.steps c.args.writer.now) (g.W.StepWriter.steps c.loop-index.writer) (g.W.StepWriter.steps c.new_name-2.new.writer) c.args.user v came one)
+
+pub returns-in_err-new_name-clause-room : goal.returns-in_err-new_name-clause-room
+returns-in_err-new_name-clause-room g c = λ us h.
+    let lt = room_left c.args.variables.now c.loop-index.variables (g.W.StepWriter.steps c.args.writer.now) (g.W.StepWriter.steps c.loop-index.writer) c.args.user c.loop-index.index us c.loop-index.invariant.0 h in
+    fails_on c.from_residual.result c.in_err-new_name.field-0.0 c.from_residual.ensures.1
+    (limit_fails c.in_err-new_name.field-0.0 c.loop-index.variables c.new_name.new.variables c.loop-index.writer c.new_name.new.writer c.loop-index.invariant.0.stands.tidy lt c.in_err-new_name.ensures.limit)
+
+pub returns-clause-room : goal.returns-clause-room
+returns-clause-room g c = λ us h.
+    let lt = room_left c.args.variables.now c.loop-index.variables (g.W.StepWriter.steps c.args.writer.now) (g.W.StepWriter.steps c.loop-index.writer) c.args.user c.loop-index.index us c.loop-index.invariant.0 h in
+    if_limit_fails c.new_name-2.result c.loop-index.variables c.new_name-2.new.variables c.loop-index.writer c.new_name-2.new.writer c.loop-index.invariant.0.stands.tidy lt c.new_name-2.ensures.limit

@@ -1,15 +1,19 @@
-use Rattle.std.proofs.Common.{◌≡◌, get_or, sym, ◌∙◌, ap, subst, refl}
+use Rattle.std.proofs.Common.{◌≡◌, ◌+◌, drop, get_or, sym, ◌∙◌, ap, subst, refl}
 use Rattle.sat_base.specs.values.Literals.{variable, coded, is_positive}
 use Rattle.sat_solver.specs.names.Calls.{Brought}
 use Rattle.sat_solver.specs.names.Variables.{global_of}
 use Rattle.sat_solver.proofs.lemmas.names.TakenNames.{none_taken, one_taken, all_taken, any_default}
 use Rattle.sat_solver.proofs.lemmas.names.CameLemmas.{came_on, came_starved}
+use Rattle.sat_solver.specs.declared.names.error.NameError.TheVariants as errors
+use Rattle.sat_solver.specs.names.Room.{users_in}
+use Rattle.sat_solver.proofs.lemmas.names.RoomLemmas.{room_same, room_at, fails_on}
 use Rattle.sat_solver.proofs.names.taking.take_names.Goals as goal
 
 pub loop-lit-init : goal.loop-lit-init
 loop-lit-init g c = record {
   globals = refl;
   keeps = c.requires.keeps;
+  room = λ h. h;
   came = λ w t. t;
   taking = none_taken c.args.variables.now (g.W.StepWriter.steps c.args.writer.now) c.args.lits.now c.clear.new.self.items c.clear-2.new.self.items c.requires.stands c.clear.ensures.items c.clear-2.ensures.items;
 }
@@ -32,6 +36,8 @@ loop-lit-preserved g c =
     record {
       globals = c.loop-lit.invariant.globals;
       keeps = c.in_ok-solver.ensures.keeps;
+      room = λ h. room_same c.global_from_user.new.variables c.solver_from_global.new.variables (users_in (drop (c.loop-lit.lit-index + 1) c.args.lits.now)) c.in_ok-solver.ensures.indexes.users c.in_ok-solver.ensures.indexes.kept
+          (c.in_ok-global.ensures.brought.room (users_in (drop (c.loop-lit.lit-index + 1) c.args.lits.now)) (room_at c.loop-lit.variables c.args.lits.now c.loop-lit.lit-index c.var.result c.loop-lit-test.true user (c.loop-lit.invariant.room h)));
       came = λ w t. c.in_ok-solver.ensures.came w (c.in_ok-global.ensures.came w (c.loop-lit.invariant.came w t));
       taking = one_taken c.args.variables.now c.loop-lit.variables c.global_from_user.new.variables c.solver_from_global.new.variables
           (g.W.StepWriter.steps c.args.writer.now) (g.W.StepWriter.steps c.loop-lit.writer) (g.W.StepWriter.steps c.global_from_user.new.writer) (g.W.StepWriter.steps c.solver_from_global.new.writer)
@@ -66,3 +72,15 @@ returns-in_err-push-clause-came g c =
 
 pub returns-clause-came : goal.returns-clause-came
 returns-clause-came g c = c.loop-lit.invariant.came
+
+pub returns-in_err-global-clause-room : goal.returns-in_err-global-clause-room
+returns-in_err-global-clause-room g c =
+    let user : c.var.result ≡ variable (get_or c.args.lits.now c.loop-lit.lit-index 0) = c.var.ensures ∙ ap variable (c.lit-item.is ∙ any_default c.args.lits.now c.loop-lit.lit-index c.lit-item.result 0 c.loop-lit-test.true) in
+    λ h. fails_on c.from_residual.result c.in_err-global.field-0.0 c.from_residual.ensures.1
+        (c.in_err-global.ensures.room (users_in (drop (c.loop-lit.lit-index + 1) c.args.lits.now)) (room_at c.loop-lit.variables c.args.lits.now c.loop-lit.lit-index c.var.result c.loop-lit-test.true user (c.loop-lit.invariant.room h)))
+
+pub returns-in_err-solver-clause-room : goal.returns-in_err-solver-clause-room
+returns-in_err-solver-clause-room g c = λ h. fails_on c.from_residual-in_err-solver.result c.in_err-solver.field-0.0 c.from_residual-in_err-solver.ensures.1 c.in_err-solver.ensures.fails
+
+pub returns-in_err-push-clause-room : goal.returns-in_err-push-clause-room
+returns-in_err-push-clause-room g c = λ h. fails_on c.from_residual-in_err-push.result errors.OutOfMemory c.from_residual-in_err-push.ensures.1 tt

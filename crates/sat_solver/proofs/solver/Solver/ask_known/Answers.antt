@@ -1,4 +1,4 @@
-use Rattle.sat_solver.proofs.lemmas.solver.TakingLemmas.{none_took, names_broke}
+use Rattle.sat_solver.proofs.lemmas.solver.TakingLemmas.{none_took, names_broke, told_fails}
 use Rattle.sat_solver.proofs.lemmas.solver.ComingLemmas.{asked_known}
 use Rattle.sat_solver.proofs.solver.Solver.ask_known.Goals as goal
 
@@ -11,3 +11,6 @@ pub returns-in-Err-clause-asks : goal.returns-in-Err-clause-asks
 returns-in-Err-clause-asks g c =
     let s = c.args.self.now in
     rw c.name_fault.ensures (names_broke g.W.CountedWrite.seen s.core (record s.core { proof = c.assume.new.writer }) c.in-Err.error (c.in-Err.ensures.came s.core.proof (none_took g.W.CountedWrite.seen s.core.proof)))
+
+pub returns-in-Err-clause-room : goal.returns-in-Err-clause-room
+returns-in-Err-clause-room g c = λ h. rw c.name_fault.ensures (told_fails c.in-Err.error (c.in-Err.ensures.room h))

@@ -1,6 +1,7 @@
-use Rattle.std.proofs.Common.{refl}
-use Rattle.sat_solver.proofs.lemmas.solver.TakingLemmas.{none_took, names_broke}
+use Rattle.std.proofs.Common.{[], ◌∷◌, refl}
+use Rattle.sat_solver.proofs.lemmas.solver.TakingLemmas.{none_took, names_broke, told_fails}
 use Rattle.sat_solver.proofs.lemmas.solver.RenamedLemmas.{marked_asked, not_marked, others_kept, whole_renamed, renamed, mode_ends}
+use Rattle.sat_solver.proofs.lemmas.names.RoomLemmas.{said_room, said_none}
 use Rattle.sat_solver.proofs.solver.Solver.hide_var.Goals as goal
 
 pub returns-then-is_assumed-clause-hides : goal.returns-then-is_assumed-clause-hides
@@ -24,10 +25,22 @@ returns-in-Ok-clause-hides g c =
       renamed g.W.CountedWrite.seen s whole c.if-self.false c.hide_var.new.variables c.hide_var.new.writer _ _ c.in-Ok.ensures.does c.in-Ok.ensures.fresh c.in-Ok.ensures.units
           (others_kept s whole c.hide_var.new.variables c.args.user (not_marked s whole c.args.user (c.is_assumed.ensures.free c.if-is_assumed.false)) c.in-Ok.ensures.others)
           c.in-Ok.ensures.alike (c.in-Ok.ensures.came s.core.proof (none_took g.W.CountedWrite.seen s.core.proof)),
+      said_room s.names (c.args.user ∷ []) c.has_room_for.result c.has_room_for.ensures c.if-not-has_room_for.false,
     )
 
 pub returns-in-Err-clause-hides : goal.returns-in-Err-clause-hides
 returns-in-Err-clause-hides g c =
     let s = c.args.self.now in
     rw c.name_fault.ensures (mode_ends g.W.CountedWrite.seen _ s _ c.args.user _ _
-    c.if-self.false (names_broke g.W.CountedWrite.seen s.core (record s.core { proof = c.hide_var.new.writer }) c.in-Err.error (c.in-Err.ensures.came s.core.proof (none_took g.W.CountedWrite.seen s.core.proof))) refl refl)
+    c.if-self.false (told_fails c.in-Err.error (c.in-Err.ensures.room (said_room s.names (c.args.user ∷ []) c.has_room_for.result c.has_room_for.ensures c.if-not-has_room_for.false))) (names_broke g.W.CountedWrite.seen s.core (record s.core { proof = c.hide_var.new.writer }) c.in-Err.error (c.in-Err.ensures.came s.core.proof (none_took g.W.CountedWrite.seen s.core.proof))) refl refl)
+
+pub has_room_for-requires : goal.has_room_for-requires
+has_room_for-requires g c = (c.requires c.if-self.false).stands.tidy
+
+pub returns-then-not-has_room_for-clause-hides : goal.returns-then-not-has_room_for-clause-hides
+returns-then-not-has_room_for-clause-hides g c =
+    let s = c.args.self.now in
+    record {
+      same = refl;
+      cause = (c.if-self.false, not_marked s (c.requires c.if-self.false) c.args.user (c.is_assumed.ensures.free c.if-is_assumed.false), said_none s.names (c.args.user ∷ []) c.has_room_for.result c.has_room_for.ensures c.if-not-has_room_for.true);
+    }

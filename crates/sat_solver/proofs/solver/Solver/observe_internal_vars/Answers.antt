@@ -1,6 +1,6 @@
 use Rattle.std.proofs.Common.{refl}
 use Rattle.sat_solver.proofs.lemmas.solver.TakingLemmas.{none_took, names_broke}
-use Rattle.sat_solver.proofs.lemmas.solver.RenamedLemmas.{observed_all, new_ends, told_limit}
+use Rattle.sat_solver.proofs.lemmas.solver.RenamedLemmas.{observed_all, new_ends, fault_left, told_limit}
 use Rattle.sat_solver.proofs.solver.Solver.observe_internal_vars.Goals as goal
 
 pub returns-in-Ok-clause-solver : goal.returns-in-Ok-clause-solver
@@ -18,5 +18,5 @@ returns-in-Ok-clause-observes g c =
 pub returns-in-Err-clause-fails : goal.returns-in-Err-clause-fails
 returns-in-Err-clause-fails g c =
     let s = c.args.self.now in
-    rw c.name_fault.ensures (new_ends g.W.CountedWrite.seen _ s _ (λ e. c.in-Err.ensures.left (told_limit c.in-Err.error e))
-    c.if-self.false (names_broke g.W.CountedWrite.seen s.core (record s.core { proof = c.observe_internal_vars.new.writer }) c.in-Err.error (c.in-Err.ensures.came s.core.proof (none_took g.W.CountedWrite.seen s.core.proof))) refl refl)
+    let broke = names_broke g.W.CountedWrite.seen s.core (record s.core { proof = c.observe_internal_vars.new.writer }) c.in-Err.error (c.in-Err.ensures.came s.core.proof (none_took g.W.CountedWrite.seen s.core.proof)) in
+    rw c.name_fault.ensures (new_ends g.W.CountedWrite.seen _ s _ c.if-self.false (fault_left _ broke.fault (λ e. c.in-Err.ensures.left (told_limit c.in-Err.error e))) broke refl refl)

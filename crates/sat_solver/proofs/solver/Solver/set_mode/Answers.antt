@@ -1,10 +1,11 @@
-use Rattle.std.proofs.Common.{refl, ap}
+use Rattle.std.proofs.Common.{[], ◌∷◌, refl, ap}
 use Rattle.sat_base.specs.values.Literals.{coded}
 use Rattle.sat_solver.proofs.lemmas.names.Giving.{alike_unseen}
-use Rattle.sat_solver.proofs.lemmas.solver.TakingLemmas.{none_took, names_broke}
+use Rattle.sat_solver.proofs.lemmas.solver.TakingLemmas.{none_took, names_broke, told_fails}
 use Rattle.sat_solver.specs.solver.Whole.{steps_in}
 use Rattle.sat_solver.specs.session.ProofView.{steps_of}
 use Rattle.sat_solver.proofs.lemmas.solver.RenamedLemmas.{marked_asked, not_marked, others_kept, whole_renamed, renamed, mode_ends}
+use Rattle.sat_solver.proofs.lemmas.names.RoomLemmas.{said_room, said_none}
 use Rattle.sat_solver.proofs.solver.Solver.set_mode.Goals as goal
 
 pub returns-then-is_assumed-clause-sets : goal.returns-then-is_assumed-clause-sets
@@ -33,10 +34,22 @@ returns-in-Ok-clause-sets g c =
       renamed g.W.CountedWrite.seen s whole c.if-self.false n p _ _ c.in-Ok.ensures.does c.in-Ok.ensures.fresh (λ u v b e. ap (λ f. f (coded v b)) c.in-Ok.ensures.unseen.search.units)
           (others_kept s whole n c.args.user (not_marked s whole c.args.user (c.is_assumed.ensures.free c.if-is_assumed.false)) c.in-Ok.ensures.others)
           (alike_unseen s.names n (steps_in s) (steps_of p) c.in-Ok.ensures.unseen) (c.in-Ok.ensures.came s.core.proof (none_took g.W.CountedWrite.seen s.core.proof)),
+      said_room s.names (c.args.user ∷ []) c.has_room_for.result c.has_room_for.ensures c.if-not-has_room_for.false,
     )
 
 pub returns-in-Err-clause-sets : goal.returns-in-Err-clause-sets
 returns-in-Err-clause-sets g c =
     let s = c.args.self.now in
     rw c.name_fault.ensures (mode_ends g.W.CountedWrite.seen _ s _ c.args.user _ _
-    c.if-self.false (names_broke g.W.CountedWrite.seen s.core (record s.core { proof = c.set_sampling_mode.new.writer }) c.in-Err.error (c.in-Err.ensures.came s.core.proof (none_took g.W.CountedWrite.seen s.core.proof))) refl refl)
+    c.if-self.false (told_fails c.in-Err.error (c.in-Err.ensures.room (said_room s.names (c.args.user ∷ []) c.has_room_for.result c.has_room_for.ensures c.if-not-has_room_for.false))) (names_broke g.W.CountedWrite.seen s.core (record s.core { proof = c.set_sampling_mode.new.writer }) c.in-Err.error (c.in-Err.ensures.came s.core.proof (none_took g.W.CountedWrite.seen s.core.proof))) refl refl)
+
+pub has_room_for-requires : goal.has_room_for-requires
+has_room_for-requires g c = (c.requires c.if-self.false).stands.tidy
+
+pub returns-then-not-has_room_for-clause-sets : goal.returns-then-not-has_room_for-clause-sets
+returns-then-not-has_room_for-clause-sets g c =
+    let s = c.args.self.now in
+    record {
+      same = refl;
+      cause = (c.if-self.false, not_marked s (c.requires c.if-self.false) c.args.user (c.is_assumed.ensures.free c.if-is_assumed.false), said_none s.names (c.args.user ∷ []) c.has_room_for.result c.has_room_for.ensures c.if-not-has_room_for.true);
+    }

@@ -25,7 +25,7 @@ returns-clause-takes g c =
     ] in
     elim c.if-left.branch [
       | then-left w ↦ rw w.self-is (took_left g.W.CountedWrite.seen s c.requires.whole apart c.take_clause.new.core c.take_clause.new.names c.args.lits.now c.take_clause.new.loading
-          (subst (λ (l : Bool). TookClause g.W.CountedWrite.seen s.names c.take_clause.new.names s.core c.take_clause.new.core c.args.lits.now l) w.if-left.true c.in_ok-left.ensures))
+          (subst (λ (l : Bool). TookClause g.W.CountedWrite.seen s.names c.take_clause.new.names s.core c.take_clause.new.core c.args.lits.now l) w.if-left.true c.in_ok-left.ensures.takes))
       | else-left w ↦ rw w.self-is (took_none g.W.CountedWrite.seen s c.requires.whole apart c.take_clause.new.core c.take_clause.new.names c.args.lits.now c.take_clause.new.loading
-          (subst (λ (l : Bool). TookClause g.W.CountedWrite.seen s.names c.take_clause.new.names s.core c.take_clause.new.core c.args.lits.now l) w.if-left.false c.in_ok-left.ensures))
+          (subst (λ (l : Bool). TookClause g.W.CountedWrite.seen s.names c.take_clause.new.names s.core c.take_clause.new.core c.args.lits.now l) w.if-left.false c.in_ok-left.ensures.takes))
     ]
