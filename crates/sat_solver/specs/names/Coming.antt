@@ -1,7 +1,7 @@
 -- Which steps a call over names makes. Lists of steps have the newest first.
-use Rattle.std.specs.Prelude.{ℕ, ◌≡◌, true, Some, List}
+use Rattle.std.specs.Prelude.{ℕ, ◌≡◌, Bool, true, None, Some, List, ◌∷◌}
 use Rattle.sat_base.specs.script.Script.{Among}
-use Rattle.sat_base.specs.steps.Steps.{Step, SolverVarName, DeleteClause, ChangeHashBits}
+use Rattle.sat_base.specs.steps.Steps.{Step, SolverVarName, UserVarName, DeleteVar, ChangeSamplingMode, DeleteClause, ChangeHashBits}
 use Rattle.sat_solver.specs.session.Coming.{Deletes}
 use Rattle.sat_solver.specs.names.Checking.{is_ordered, variable_of}
 
@@ -19,3 +19,13 @@ MayTake names earlier step = is_ordered step ≡ true
 abbrev pub MayAdd : List ℕ → List Step → Step → Type 0
 MayAdd names earlier (DeleteClause clause proof) = Deletes earlier (DeleteClause clause proof)
 MayAdd names earlier step = MayTake names earlier step
+
+-- beside ordered steps, the variable that has lost its name by the step before goes
+abbrev pub MayHide : List Step → Step → Type 0
+MayHide earlier (DeleteVar v) = (rest : List Step) × (earlier ≡ UserVarName v None ∷ rest)
+MayHide earlier step = is_ordered step ≡ true
+
+-- beside ordered steps, this mode for the variable of this name
+abbrev pub MaySet : ℕ → Bool → List Step → Step → Type 0
+MaySet name sample earlier (ChangeSamplingMode v mode) = (variable_of earlier name ≡ Some v) × (mode ≡ sample)
+MaySet name sample earlier step = is_ordered step ≡ true

@@ -14,6 +14,9 @@ use Rattle.sat_solver.specs.names.Observing.{Observes, IsHidden}
 use Rattle.sat_solver.specs.names.Room.{HasRoom}
 use Rattle.sat_solver.specs.names.Models.{value_in}
 use Rattle.sat_solver.specs.names.Variables.{global_of, judged_mode}
+use Rattle.sat_base.specs.steps.Steps.{Step}
+use Rattle.sat_solver.specs.session.Coming.{Comes}
+use Rattle.sat_solver.specs.names.Coming.{IsDue, MayHide, MaySet}
 use Rattle.sat_solver.specs.session.Making.{Took}
 use Rattle.sat_solver.specs.declared.solver.Solver.{Solver}
 use Rattle.sat_solver.specs.solver.Adding.{EndsNames}
@@ -39,31 +42,33 @@ IsKeptOrFalse (Some a) None = Unit {0}
 IsKeptOrFalse None (Some b) = b ≡ false
 IsKeptOrFalse (Some a) (Some b) = b ≡ a
 
--- a call over names was carried out, and what is known of an answer stands: in a model, names that came in are false
-pub record Renamed {W : Type 0} (seen : W → Writer) (old new : Solver W) (judge : Judge → Judge) (due : Judge → List Expected) : Type 0 where
+-- a call over names was carried out, by steps that may come in it, and what is known of an answer stands: in a model, names that came in
+-- are false
+pub record Renamed {W : Type 0} (seen : W → Writer) (old new : Solver W) (judge : Judge → Judge) (due : Judge → List Expected) (May : List Step → Step → Type 0) : Type 0 where
   pub did : Did seen old new judge due
+  pub comes : Comes May (steps_in old) (steps_in new)
   pub assumed : new.assumed ≡ old.assumed
   pub told : new.told ≡ old.told
   pub clock : new.clock ≡ old.clock
   pub state : new.state ≡ old.state
   pub values : (user : ℕ) → IsKeptOrFalse (name_value old user) (name_value new user)
 
--- what came of a call that changes the mode of a name, or hides it
-abbrev pub ChangesMode : {W : Type 0} → (W → Writer) → Result (Unit {0}) SolverError → Solver W → Solver W → ℕ → (Judge → Judge) → (Judge → List Expected) → Type 0
-ChangesMode seen (Ok x) old new user judge due = (IsAsked old user → ⊥) × Renamed seen old new judge due × HasRoom old.names (user ∷ [])
-ChangesMode seen (Err errors.AssumedVariable) old new user judge due = Refuses old new ((old.failed ≡ false) × IsAsked old user)
-ChangesMode seen (Err errors.VariableLimit) old new user judge due = Refuses old new ((old.failed ≡ false) × (IsAsked old user → ⊥) × (HasRoom old.names (user ∷ []) → ⊥))
-ChangesMode seen (Err errors.HasFailed) old new user judge due = Refuses old new (old.failed ≡ true)
-ChangesMode seen (Err e) old new user judge due = EndsNames seen e old new
+-- what came of a call that changes the mode of a name, or hides it; which steps it may make
+abbrev pub ChangesMode : {W : Type 0} → (W → Writer) → Result (Unit {0}) SolverError → Solver W → Solver W → ℕ → (Judge → Judge) → (Judge → List Expected) → (List Step → Step → Type 0) → Type 0
+ChangesMode seen (Ok x) old new user judge due May = (IsAsked old user → ⊥) × Renamed seen old new judge due May × HasRoom old.names (user ∷ [])
+ChangesMode seen (Err errors.AssumedVariable) old new user judge due May = Refuses old new ((old.failed ≡ false) × IsAsked old user)
+ChangesMode seen (Err errors.VariableLimit) old new user judge due May = Refuses old new ((old.failed ≡ false) × (IsAsked old user → ⊥) × (HasRoom old.names (user ∷ []) → ⊥))
+ChangesMode seen (Err errors.HasFailed) old new user judge due May = Refuses old new (old.failed ≡ true)
+ChangesMode seen (Err e) old new user judge due May = EndsNames seen e old new
 
 abbrev pub Hides : {W : Type 0} → (W → Writer) → Result (Unit {0}) SolverError → Solver W → Solver W → ℕ → Type 0
-Hides seen r old new user = ChangesMode seen r old new user (accepted (Hide ((user + 1) ∷ []))) (hiding ((user + 1) ∷ []))
+Hides seen r old new user = ChangesMode seen r old new user (accepted (Hide ((user + 1) ∷ []))) (hiding ((user + 1) ∷ [])) MayHide
 
 abbrev pub Witnesses : {W : Type 0} → (W → Writer) → Result (Unit {0}) SolverError → Solver W → Solver W → ℕ → Type 0
-Witnesses seen r old new user = ChangesMode seen r old new user (accepted (Witness ((user + 1) ∷ []))) (setting Witnessed ((user + 1) ∷ []))
+Witnesses seen r old new user = ChangesMode seen r old new user (accepted (Witness ((user + 1) ∷ []))) (setting Witnessed ((user + 1) ∷ [])) (MaySet (user + 1) false)
 
 abbrev pub Samples : {W : Type 0} → (W → Writer) → Result (Unit {0}) SolverError → Solver W → Solver W → ℕ → Type 0
-Samples seen r old new user = ChangesMode seen r old new user (accepted (Sample ((user + 1) ∷ []))) (setting Sampled ((user + 1) ∷ []))
+Samples seen r old new user = ChangesMode seen r old new user (accepted (Sample ((user + 1) ∷ []))) (setting Sampled ((user + 1) ∷ [])) (MaySet (user + 1) true)
 
 -- the name comes next, whatever the judge's state is that names and steps agree with
 abbrev pub IsNextName : {W : Type 0} → Solver W → ℕ → Type 0
@@ -77,7 +82,7 @@ NamesFail seen e old new = EndsNames seen e old new
 
 -- what came of a call for a new name
 abbrev pub NamesNew : {W : Type 0} → (W → Writer) → Result ℕ SolverError → Solver W → Solver W → Type 0
-NamesNew seen (Ok user) old new = IsNextName old (user + 1) × Renamed seen old new (bring_in (user + 1)) (λ j. map NewName (new_names (user + 1) j))
+NamesNew seen (Ok user) old new = IsNextName old (user + 1) × Renamed seen old new (bring_in (user + 1)) (λ j. map NewName (new_names (user + 1) j)) IsDue
 NamesNew seen (Err e) old new = NamesFail seen e old new
 
 -- each hidden variable that is kept got the next name and mode witness, by increasing variable, and what is known of an answer stands
@@ -100,4 +105,4 @@ pub record Observed {W : Type 0} (seen : W → Writer) (old new : Solver W) (use
 
 -- the same for either mode
 abbrev pub SetsMode : {W : Type 0} → (W → Writer) → Result (Unit {0}) SolverError → Solver W → Solver W → ℕ → Bool → Type 0
-SetsMode seen r old new user sample = ChangesMode seen r old new user (set_all (judged_mode sample) ((user + 1) ∷ [])) (setting (judged_mode sample) ((user + 1) ∷ []))
+SetsMode seen r old new user sample = ChangesMode seen r old new user (set_all (judged_mode sample) ((user + 1) ∷ [])) (setting (judged_mode sample) ((user + 1) ∷ [])) (MaySet (user + 1) sample)

@@ -1,9 +1,11 @@
 //! Modes of variables, names that go, and variables that are deleted.
-ghost use Rattle.std.specs.Prelude.{ℕ, ◌≡◌, ◌+◌, true, false, Some, None, [], ◌∷◌, ◌++◌, map, IfOk, IfErr, OnOk, Bool};
+ghost use Rattle.std.specs.Prelude.{ℕ, ◌≡◌, ◌⊎◌, ◌+◌, true, false, Some, None, [], ◌∷◌, ◌++◌, map, IfOk, IfErr, OnOk, Bool};
 ghost use Rattle.sat_base.specs.script.Judge.{without_name, with_mode, bring_in, new_names};
 ghost use Rattle.sat_solver.specs.session.Session.{session_after};
 ghost use Rattle.sat_solver.specs.names.Variables.{data_at, global_of, user_of, solver_of, judged_mode, mode_for};
-ghost use Rattle.sat_base.specs.steps.Steps.{DeleteVar};
+ghost use Rattle.sat_base.specs.steps.Steps.{UserVarName, ChangeSamplingMode, DeleteVar};
+ghost use Rattle.sat_solver.specs.session.Coming.{Comes};
+ghost use Rattle.sat_solver.specs.names.Coming.{MayHide, MaySet};
 ghost use Rattle.sat_solver.specs.names.Expected.{NewName, NoName};
 ghost use Rattle.sat_solver.specs.names.Naming.{AreFresh, KeepsOthers};
 ghost use Rattle.sat_solver.specs.names.Calls.{Stands, Does, DoesNothing};
@@ -35,6 +37,7 @@ fn hide_global<W: StepWriter>(
     ensures only { OnOk result ((u v : ℕ) → global_of variables.new u ≡ Some v → global_of variables.old u ≡ Some v) }
     ensures live { OnOk result ((data_at variables.new global).deleted ≡ false) }
     ensures nameless { OnOk result (user_of variables.new global ≡ None) }
+    ensures step { OnOk result (W.steps writer.new ≡ UserVarName global None ∷ W.steps writer.old) }
     ensures fails { IfErr result IsFailure }
     ensures keeps { OnOk result (W.keeps writer.new) }
     ensures came { Came W.took W.broke result writer.old writer.new }
@@ -84,6 +87,7 @@ pub(crate) fn forget_idle<W: StepWriter>(
     ensures does { OnOk result (DoesNothing variables.old variables.new (W.steps writer.old) (W.steps writer.new)) }
     ensures units { OnOk result (KeepsUnits variables.new (W.steps writer.old) (W.steps writer.new)) }
     ensures alike { OnOk result (IsAlike variables.old variables.new (W.steps writer.old) (W.steps writer.new)) }
+    ensures goes { OnOk result ((W.steps writer.new ≡ W.steps writer.old) ⊎ (W.steps writer.new ≡ DeleteVar global ∷ W.steps writer.old)) }
     ensures users { OnOk result (variables.new.global_from_user ≡ variables.old.global_from_user) }
     ensures fails { IfErr result IsFailure }
     ensures keeps { OnOk result (W.keeps writer.new) }
@@ -113,6 +117,7 @@ pub fn hide_var<W: StepWriter>(
     ensures fresh { OnOk result (AreFresh variables.old variables.new) }
     ensures units { OnOk result (KeepsUnits variables.new (W.steps writer.old) (W.steps writer.new)) }
     ensures alike { OnOk result (IsAlike variables.old variables.new (W.steps writer.old) (W.steps writer.new)) }
+    ensures comes { OnOk result (Comes MayHide (W.steps writer.old) (W.steps writer.new)) }
     ensures room { HasRoom variables.old (user ∷ []) → IfErr result IsFailure }
     ensures keeps { OnOk result (W.keeps writer.new) }
     ensures came { Came W.took W.broke result writer.old writer.new }
@@ -155,6 +160,7 @@ fn set_global_mode<W: StepWriter>(
     requires keeps { W.keeps writer.old }
     requires named { global_of variables.old user ≡ Some global }
     ensures does { OnOk result (Does variables.old variables.new (W.steps writer.old) (W.steps writer.new) (with_mode (judged_mode sample) (user + 1)) (λ j. [])) }
+    ensures sets { OnOk result ((W.steps writer.new ≡ W.steps writer.old) ⊎ (W.steps writer.new ≡ ChangeSamplingMode global sample ∷ W.steps writer.old)) }
     ensures users { OnOk result (variables.new.global_from_user ≡ variables.old.global_from_user) }
     ensures unseen { OnOk result (IsUnseen variables.old variables.new (W.steps writer.old) (W.steps writer.new)) }
     ensures fails { IfErr result IsFailure }
@@ -186,6 +192,7 @@ pub fn set_sampling_mode<W: StepWriter>(
     ensures others { OnOk result (KeepsOthers variables.old variables.new user) }
     ensures fresh { OnOk result (AreFresh variables.old variables.new) }
     ensures unseen { OnOk result (IsUnseen variables.old variables.new (W.steps writer.old) (W.steps writer.new)) }
+    ensures comes { OnOk result (Comes (MaySet (user + 1) sample) (W.steps writer.old) (W.steps writer.new)) }
     ensures room { HasRoom variables.old (user ∷ []) → IfErr result IsFailure }
     ensures keeps { OnOk result (W.keeps writer.new) }
     ensures came { Came W.took W.broke result writer.old writer.new }

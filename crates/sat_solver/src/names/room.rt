@@ -33,12 +33,7 @@ fn name_reach(used: usize, lits: &[Lit]) -> usize
 }
 
 /// Counts a name that was used and isn't in use, unless it is marked already, and marks it.
-fn count_hidden_name(
-    variables: &Variables,
-    user: Var,
-    marks: &mut Vec<bool>,
-    count: usize,
-) -> usize
+fn count_hidden_name(variables: &Variables, user: Var, marks: &mut Vec<bool>, count: usize) -> usize
     requires { count ≤ largest }
     ensures { (us : List ℕ) → CountsHidden variables.now us marks.old.items count → CountsHidden variables.now (user ∷ us) marks.new.items result }
 {

@@ -100,7 +100,7 @@ room_one old new user v free low named used live us h = elim (cases_lt user (nam
         let at : names_used old ≡ user = omega arith in
         let same : names_used new ≡ suc (names_used old) = omega arith in
         let c : count_to (names_used new) (is_hidden_name new us) ≡ count_to (names_used old) (is_hidden_name new us) + 0 =
-            ap (λ k. count_to k (is_hidden_name new us)) same ∙ count_suc (names_used old) (is_hidden_name new us) ∙ ap (λ b. count_to (names_used old) (is_hidden_name new us) + cond b 1 0) (ap (is_hidden_name new us) at ∙ here) in
+        ap (λ k. count_to k (is_hidden_name new us)) same ∙ count_suc (names_used old) (is_hidden_name new us) ∙ ap (λ b. count_to (names_used old) (is_hidden_name new us) + cond b 1 0) (ap (is_hidden_name new us) at ∙ here) in
         let d = count_same (names_used old) (is_hidden_name old (user ∷ us)) (is_hidden_name new us) (λ k lt. others k (λ e. omega arith)) in
         let t = top in
         let r = reach_low us (names_used new) in
@@ -138,7 +138,7 @@ pub room_same : (old new : Variables) (us : List ℕ) → new.global_from_user �
 room_same old new us users kept h =
     let live : live_count new ≡ live_count old = ap (λ d. count_to (length d.items) (λ v. not (get_or d.items v unused_variable).deleted)) kept in
     let more : reach (names_used new) us - names_used new + count_to (names_used new) (is_hidden_name new us) ≡ reach (names_used old) us - names_used old + count_to (names_used old) (is_hidden_name old us) =
-        ap (λ m. reach (length m.fwd) us - length m.fwd + count_to (length m.fwd) (λ u. not (is_some (target m.fwd u)) && is_listed us u)) users in
+    ap (λ m. reach (length m.fwd) us - length m.fwd + count_to (length m.fwd) (λ u. not (is_some (target m.fwd u)) && is_listed us u)) users in
     omega arith
 
 -- for the next of these literals and those behind it

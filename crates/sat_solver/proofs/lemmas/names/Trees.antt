@@ -298,7 +298,7 @@ mended f g index value at tree lt room height count m le = (
     counted : IsCounted g
     counted =
         let c : count_to f.room (is_free g) + cond (is_free f index) 1 0 ≡ count_to f.room (is_free f) + cond (is_free g index) 1 0 =
-            count_changed f.room index (is_free f) (is_free g) lt (λ k ne. free k ∙ ap (λ b. cond b value (is_free f k)) (ne_eqb k index ne)) in
+        count_changed f.room index (is_free f) (is_free g) lt (λ k ne. free k ∙ ap (λ b. cond b value (is_free f k)) (ne_eqb k index ne)) in
         let e : ◌≡◌ {A = ℕ} (cond (is_free g index) 1 0) (cond value 1 0) = ap (λ (b : Bool). cond b 1 0) (free index ∙ ap (λ b. cond b value (is_free f index)) (eq-eqb index index refl)) in
         let d = tree.counted in
         let all : g.count ≡ count_to f.room (is_free g) = omega arith in

@@ -18,6 +18,8 @@ use Rattle.sat_solver.specs.declared.error.SolverError.{SolverError}
 use Rattle.sat_solver.specs.declared.error.SolverError.TheVariants as errors
 use Rattle.sat_solver.specs.declared.names.error.NameError.{NameError}
 use Rattle.sat_solver.specs.declared.names.error.NameError.TheVariants as names
+use Rattle.sat_base.specs.steps.Steps.{Step}
+use Rattle.sat_solver.specs.session.Coming.{Comes}
 use Rattle.sat_solver.specs.loading.Faults.{told_as}
 use Rattle.sat_solver.specs.search.Joint.{IsSearch}
 use Rattle.sat_solver.specs.loading.Alike.{LooksAlike}
@@ -283,11 +285,12 @@ module _ {W : Type 0} (seen : W → Writer) (s : Solver W) (whole : IsWhole s) (
         go (Some v) e (Some w) f = value_same w (λ b. units user w b f) ∙ ap (value_in s.names values) (fresh.same user v w e f)
 
   -- a call over names was carried out
-  pub renamed : (judge : Judge → Judge) (due : Judge → List Expected) → Does s.names n' (steps_in s) (steps_of p) judge due → AreFresh s.names n' → KeepsUnits n' (steps_in s) (steps_of p) →
+  pub renamed : (judge : Judge → Judge) (due : Judge → List Expected) (May : List Step → Step → Type 0) → Comes May (steps_in s) (steps_of p) → Does s.names n' (steps_in s) (steps_of p) judge due → AreFresh s.names n' → KeepsUnits n' (steps_in s) (steps_of p) →
       ((l v : ℕ) → Among l s.assumed.items → global_of s.names (variable l) ≡ Some v → global_of n' (variable l) ≡ Some v) → IsAlike s.names n' (steps_in s) (steps_of p) → Took seen s.core.proof p →
-      Renamed seen s (record s { core = record s.core { proof = p }; names = n'; used = true }) judge due
-  renamed judge due does fresh units kept alike took = record {
+      Renamed seen s (record s { core = record s.core { proof = p }; names = n'; used = true }) judge due May
+  renamed judge due May comes does fresh units kept alike took = record {
     did = record { whole = whole_renamed s whole n' p does.stands kept alike; going = going; failed = going; used = refl; config = refl; does = does; took = took };
+    comes = comes;
     assumed = refl;
     told = refl;
     clock = refl;
@@ -296,22 +299,22 @@ module _ {W : Type 0} (seen : W → Writer) (s : Solver W) (whole : IsWhole s) (
   }
 
 -- a call over modes failed
-pub mode_ends : {W : Type 0} (seen : W → Writer) (e : SolverError) (s new : Solver W) (user : ℕ) (judge : Judge → Judge) (due : Judge → List Expected) → s.failed ≡ false → IsFault e → BreaksNames seen e s.core new.core → new.clock ≡ s.clock → new.failed ≡ true → ChangesMode seen (Err e) s new user judge due
-mode_ends seen errors.OutOfMemory s new user judge due g x b k f = record { going = g; failed = f; fault = x; breaks = b; clock = k }
-mode_ends seen errors.StoreFull s new user judge due g x b k f = record { going = g; failed = f; fault = x; breaks = b; clock = k }
-mode_ends seen (errors.ProofIoError cause) s new user judge due g x b k f = record { going = g; failed = f; fault = x; breaks = b; clock = k }
-mode_ends seen errors.VariableLimit s new user judge due g x b k f = absurd x
-mode_ends seen errors.Interrupted s new user judge due g x b k f = absurd x
-mode_ends seen (errors.ProofProcessorError cause) s new user judge due g x b k f = absurd x
-mode_ends seen errors.WitnessVariable s new user judge due g x b k f = absurd x
-mode_ends seen errors.AssumedVariable s new user judge due g x b k f = absurd x
-mode_ends seen errors.TooLate s new user judge due g x b k f = absurd x
-mode_ends seen errors.NotInDrat s new user judge due g x b k f = absurd x
-mode_ends seen errors.CounterEnd s new user judge due g x b k f = absurd x
-mode_ends seen errors.HasFailed s new user judge due g x b k f = absurd x
-mode_ends seen errors.Read s new user judge due g x b k f = absurd x
-mode_ends seen errors.Malformed s new user judge due g x b k f = absurd x
-mode_ends seen errors.OutOfRange s new user judge due g x b k f = absurd x
+pub mode_ends : {W : Type 0} (seen : W → Writer) (e : SolverError) (s new : Solver W) (user : ℕ) (judge : Judge → Judge) (due : Judge → List Expected) (May : List Step → Step → Type 0) → s.failed ≡ false → IsFault e → BreaksNames seen e s.core new.core → new.clock ≡ s.clock → new.failed ≡ true → ChangesMode seen (Err e) s new user judge due May
+mode_ends seen errors.OutOfMemory s new user judge due May g x b k f = record { going = g; failed = f; fault = x; breaks = b; clock = k }
+mode_ends seen errors.StoreFull s new user judge due May g x b k f = record { going = g; failed = f; fault = x; breaks = b; clock = k }
+mode_ends seen (errors.ProofIoError cause) s new user judge due May g x b k f = record { going = g; failed = f; fault = x; breaks = b; clock = k }
+mode_ends seen errors.VariableLimit s new user judge due May g x b k f = absurd x
+mode_ends seen errors.Interrupted s new user judge due May g x b k f = absurd x
+mode_ends seen (errors.ProofProcessorError cause) s new user judge due May g x b k f = absurd x
+mode_ends seen errors.WitnessVariable s new user judge due May g x b k f = absurd x
+mode_ends seen errors.AssumedVariable s new user judge due May g x b k f = absurd x
+mode_ends seen errors.TooLate s new user judge due May g x b k f = absurd x
+mode_ends seen errors.NotInDrat s new user judge due May g x b k f = absurd x
+mode_ends seen errors.CounterEnd s new user judge due May g x b k f = absurd x
+mode_ends seen errors.HasFailed s new user judge due May g x b k f = absurd x
+mode_ends seen errors.Read s new user judge due May g x b k f = absurd x
+mode_ends seen errors.Malformed s new user judge due May g x b k f = absurd x
+mode_ends seen errors.OutOfRange s new user judge due May g x b k f = absurd x
 
 -- a call that gives names failed
 pub new_ends : {W : Type 0} (seen : W → Writer) (e : SolverError) (s new : Solver W) → s.failed ≡ false → IsFault e → BreaksNames seen e s.core new.core → new.clock ≡ s.clock → new.failed ≡ true → NamesFail seen e s new

@@ -48,4 +48,4 @@ pub returns-in_err-global_from_user-clause-room : goal.returns-in_err-global_fro
 returns-in_err-global_from_user-clause-room g c =
     let user : c.var.result ≡ variable (get_or c.args.lits.now c.loop-lit.lit-index 0) = c.var.ensures ∙ ap variable (c.lit-item.is ∙ any_default c.args.lits.now c.loop-lit.lit-index c.lit-item.result 0 c.loop-lit-test.true) in
     λ h. fails_on c.from_residual.result c.in_err-global_from_user.field-0.0 c.from_residual.ensures.1
-        (c.in_err-global_from_user.ensures.room (users_in (drop (c.loop-lit.lit-index + 1) c.args.lits.now)) (room_at c.loop-lit.variables c.args.lits.now c.loop-lit.lit-index c.var.result c.loop-lit-test.true user (c.loop-lit.invariant.room h)))
+    (c.in_err-global_from_user.ensures.room (users_in (drop (c.loop-lit.lit-index + 1) c.args.lits.now)) (room_at c.loop-lit.variables c.args.lits.now c.loop-lit.lit-index c.var.result c.loop-lit-test.true user (c.loop-lit.invariant.room h)))

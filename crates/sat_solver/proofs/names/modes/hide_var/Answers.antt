@@ -7,6 +7,7 @@ use Rattle.sat_solver.proofs.lemmas.names.CameLemmas.{came_then}
 use Rattle.sat_solver.proofs.lemmas.names.Extending.{are_fresh, fresh_only}
 use Rattle.sat_solver.specs.session.Session.{session_after}
 use Rattle.sat_solver.proofs.lemmas.names.RoomLemmas.{fails_on}
+use Rattle.sat_solver.proofs.lemmas.names.ComingSteps.{comes_hidden}
 use Rattle.sat_solver.proofs.names.modes.hide_var.Goals as goal
 
 pub forget_idle-requires-clause-stands : goal.forget_idle-requires-clause-stands
@@ -49,3 +50,7 @@ returns-clause-units g c =
 
 pub returns-in_err-global-clause-room : goal.returns-in_err-global-clause-room
 returns-in_err-global-clause-room g c = λ h. fails_on c.from_residual.result c.in_err-global.field-0.0 c.from_residual.ensures.1 (c.in_err-global.ensures.room [] h)
+
+pub returns-clause-comes : goal.returns-clause-comes
+returns-clause-comes g c = comes_hidden c.forget_idle.result (g.W.StepWriter.steps c.args.writer.now) (g.W.StepWriter.steps c.global_from_user.new.writer) (g.W.StepWriter.steps c.hide_global.new.writer) (g.W.StepWriter.steps c.forget_idle.new.writer) c.in_ok-global.global
+    c.in_ok-global.ensures.brought.comes c.in_ok-hide_global.ensures.step c.forget_idle.ensures.goes

@@ -1,4 +1,4 @@
-use Rattle.std.proofs.Common.{◌+◌, [], map}
+use Rattle.std.proofs.Common.{◌∙◌, ◌+◌, [], map}
 use Rattle.sat_base.specs.script.Judge.{with_mode, bring_in, new_names}
 use Rattle.sat_solver.specs.names.Variables.{judged_mode}
 use Rattle.sat_solver.specs.names.Expected.{NewName}
@@ -7,6 +7,7 @@ use Rattle.sat_solver.proofs.lemmas.names.Giving.{ok_unseen, ok_others, ok_fresh
 use Rattle.sat_solver.proofs.lemmas.names.CameLemmas.{came_then}
 use Rattle.sat_solver.proofs.lemmas.names.Extending.{are_fresh}
 use Rattle.sat_solver.proofs.lemmas.names.RoomLemmas.{fails_on}
+use Rattle.sat_solver.proofs.lemmas.names.ComingSteps.{comes_set}
 use Rattle.sat_solver.proofs.names.modes.set_sampling_mode.Goals as goal
 
 pub returns-clause-does : goal.returns-clause-does
@@ -30,3 +31,7 @@ returns-clause-fresh g c =
 
 pub returns-in_err-global-clause-room : goal.returns-in_err-global-clause-room
 returns-in_err-global-clause-room g c = λ h. fails_on c.from_residual.result c.in_err-global.field-0.0 c.from_residual.ensures.1 (c.in_err-global.ensures.room [] h)
+
+pub returns-clause-comes : goal.returns-clause-comes
+returns-clause-comes g c = comes_set c.set_global_mode.result (g.W.StepWriter.steps c.args.writer.now) (g.W.StepWriter.steps c.global_from_user.new.writer) (g.W.StepWriter.steps c.set_global_mode.new.writer) (c.args.user + 1) c.in_ok-global.global c.args.sample
+    c.in_ok-global.ensures.brought.comes (c.in_ok-global.ensures.brought.brings.stands.read c.args.user ∙ c.in_ok-global.ensures.variable) c.set_global_mode.ensures.sets

@@ -12,8 +12,7 @@ use Rattle.sat_solver.proofs.solver.Solver.assume.Goals as goal
 
 pub returns-in-Err-clause-assumes : goal.returns-in-Err-clause-assumes
 returns-in-Err-clause-assumes g c =
-    let s = c.args.self.now in
-    (
+    let s = c.args.self.now in (
       none_refused s c.args.lits.now c.leftmost_witness.result c.leftmost_witness.ensures.judged (sym c.is_some.ensures ∙ c.if-is_some.false),
       record { going = c.if-self.false; failed = refl; fault = tt; breaks = names_starved g.W.CountedWrite.seen s.core s.core (none_took g.W.CountedWrite.seen s.core.proof); clock = refl },
     )

@@ -22,7 +22,7 @@ returns-in-Ok-clause-hides g c =
     let s = c.args.self.now in
     let whole = c.requires c.if-self.false in (
       not_marked s whole c.args.user (c.is_assumed.ensures.free c.if-is_assumed.false),
-      renamed g.W.CountedWrite.seen s whole c.if-self.false c.hide_var.new.variables c.hide_var.new.writer _ _ c.in-Ok.ensures.does c.in-Ok.ensures.fresh c.in-Ok.ensures.units
+      renamed g.W.CountedWrite.seen s whole c.if-self.false c.hide_var.new.variables c.hide_var.new.writer _ _ _ c.in-Ok.ensures.comes c.in-Ok.ensures.does c.in-Ok.ensures.fresh c.in-Ok.ensures.units
           (others_kept s whole c.hide_var.new.variables c.args.user (not_marked s whole c.args.user (c.is_assumed.ensures.free c.if-is_assumed.false)) c.in-Ok.ensures.others)
           c.in-Ok.ensures.alike (c.in-Ok.ensures.came s.core.proof (none_took g.W.CountedWrite.seen s.core.proof)),
       said_room s.names (c.args.user ∷ []) c.has_room_for.result c.has_room_for.ensures c.if-not-has_room_for.false,
@@ -31,7 +31,7 @@ returns-in-Ok-clause-hides g c =
 pub returns-in-Err-clause-hides : goal.returns-in-Err-clause-hides
 returns-in-Err-clause-hides g c =
     let s = c.args.self.now in
-    rw c.name_fault.ensures (mode_ends g.W.CountedWrite.seen _ s _ c.args.user _ _
+    rw c.name_fault.ensures (mode_ends g.W.CountedWrite.seen _ s _ c.args.user _ _ _
     c.if-self.false (told_fails c.in-Err.error (c.in-Err.ensures.room (said_room s.names (c.args.user ∷ []) c.has_room_for.result c.has_room_for.ensures c.if-not-has_room_for.false))) (names_broke g.W.CountedWrite.seen s.core (record s.core { proof = c.hide_var.new.writer }) c.in-Err.error (c.in-Err.ensures.came s.core.proof (none_took g.W.CountedWrite.seen s.core.proof))) refl refl)
 
 pub has_room_for-requires : goal.has_room_for-requires

@@ -25,7 +25,7 @@ returns-in-Ok-clause-names g c =
     let p = c.new_user_var.new.writer in
     let b = c.in-Ok.ensures.brought in (
       next_name s whole c.in-Ok.user c.in-Ok.ensures.next,
-      renamed g.W.CountedWrite.seen s whole c.if-self.false n p _ _ b.brings (are_fresh s.names n b.extends) (λ u v d e. ap (λ f. f (coded v d)) b.unseen.search.units) (λ l v h x. (b.extends.stays (variable l) v x).0) (alike_unseen s.names n (steps_in s) (steps_of p) b.unseen)
+      renamed g.W.CountedWrite.seen s whole c.if-self.false n p _ _ _ b.comes b.brings (are_fresh s.names n b.extends) (λ u v d e. ap (λ f. f (coded v d)) b.unseen.search.units) (λ l v h x. (b.extends.stays (variable l) v x).0) (alike_unseen s.names n (steps_in s) (steps_of p) b.unseen)
           (c.in-Ok.ensures.came s.core.proof (none_took g.W.CountedWrite.seen s.core.proof)),
     )
 

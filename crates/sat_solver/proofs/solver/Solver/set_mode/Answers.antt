@@ -31,7 +31,7 @@ returns-in-Ok-clause-sets g c =
     let n = c.set_sampling_mode.new.variables in
     let p = c.set_sampling_mode.new.writer in (
       not_marked s whole c.args.user (c.is_assumed.ensures.free c.if-is_assumed.false),
-      renamed g.W.CountedWrite.seen s whole c.if-self.false n p _ _ c.in-Ok.ensures.does c.in-Ok.ensures.fresh (λ u v b e. ap (λ f. f (coded v b)) c.in-Ok.ensures.unseen.search.units)
+      renamed g.W.CountedWrite.seen s whole c.if-self.false n p _ _ _ c.in-Ok.ensures.comes c.in-Ok.ensures.does c.in-Ok.ensures.fresh (λ u v b e. ap (λ f. f (coded v b)) c.in-Ok.ensures.unseen.search.units)
           (others_kept s whole n c.args.user (not_marked s whole c.args.user (c.is_assumed.ensures.free c.if-is_assumed.false)) c.in-Ok.ensures.others)
           (alike_unseen s.names n (steps_in s) (steps_of p) c.in-Ok.ensures.unseen) (c.in-Ok.ensures.came s.core.proof (none_took g.W.CountedWrite.seen s.core.proof)),
       said_room s.names (c.args.user ∷ []) c.has_room_for.result c.has_room_for.ensures c.if-not-has_room_for.false,
@@ -40,7 +40,7 @@ returns-in-Ok-clause-sets g c =
 pub returns-in-Err-clause-sets : goal.returns-in-Err-clause-sets
 returns-in-Err-clause-sets g c =
     let s = c.args.self.now in
-    rw c.name_fault.ensures (mode_ends g.W.CountedWrite.seen _ s _ c.args.user _ _
+    rw c.name_fault.ensures (mode_ends g.W.CountedWrite.seen _ s _ c.args.user _ _ _
     c.if-self.false (told_fails c.in-Err.error (c.in-Err.ensures.room (said_room s.names (c.args.user ∷ []) c.has_room_for.result c.has_room_for.ensures c.if-not-has_room_for.false))) (names_broke g.W.CountedWrite.seen s.core (record s.core { proof = c.set_sampling_mode.new.writer }) c.in-Err.error (c.in-Err.ensures.came s.core.proof (none_took g.W.CountedWrite.seen s.core.proof))) refl refl)
 
 pub has_room_for-requires : goal.has_room_for-requires
