@@ -67,6 +67,7 @@ impl Variables {
     }
 
     /// The variable for a name that isn't in use: its own index if that is free or new, else the lowest free one.
+    #[tactic(auto, using(crate::proofs::lemmas::names::NextVariables::room_own, crate::proofs::lemmas::names::NextVariables::room_freed, crate::proofs::lemmas::names::NextVariables::room_new))]
     pub(crate) fn room_for(&self, user: Var) -> Option<Var>
         requires tidy { AreTidy self.now }
         requires within { user ≤ names_used self.now }
@@ -129,9 +130,8 @@ impl Variables {
     /// Gives an index to a variable.
     pub(crate) fn put_index(&mut self, global: Var, solver: Var) -> Result<(), AllocError>
         requires without { solver_of self.old global ≡ None }
-        requires free { global_at self.old solver ≡ None }
+        requires next { IsNextIndex self.old solver }
         requires tidy { AreTidy self.old }
-        requires low { solver ≤ indices_used self.old }
         ensures { OnOk result (PutsIndex self.old self.new global solver true) }
     {
         put_global(&mut self.globals, solver, global)?;

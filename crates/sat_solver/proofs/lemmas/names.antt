@@ -33,3 +33,4 @@ pub mod NextIndices
 pub mod CameLemmas
 pub mod ComingSteps
 pub mod RoomLemmas
+pub mod NextVariables

@@ -12,7 +12,7 @@ use Rattle.sat_solver.specs.names.Bridge.{IsBridge}
 use Rattle.sat_solver.specs.names.Naming.{Extends}
 use Rattle.sat_solver.specs.names.Search.{IsUnseen}
 use Rattle.sat_solver.specs.session.Coming.{Comes}
-use Rattle.sat_solver.specs.names.Coming.{IsDue}
+use Rattle.sat_solver.specs.names.Coming.{IsDue, IsNextVariable}
 use Rattle.sat_solver.specs.names.Room.{live_count, LeavesRoom}
 use Rattle.sat_solver.specs.declared.names.Variables.{Variables}
 
@@ -50,6 +50,7 @@ pub record NamesOne (old new : Variables) (from to : List Step) (user v : ℕ) :
   pub kept : (j : Judge) (live : Live) → Agree old from j live → Agree new to (with_name (user + 1) j) ((v, j.next_identity) ∷ live)
   pub unknown : the_checking.knows from v ≡ false
   pub live : live_count new ≡ live_count old + 1
+  pub next : IsNextVariable (session_after from) user v
   pub extends : Extends old new
   pub unseen : IsUnseen old new from to
 

@@ -1,19 +1,30 @@
 -- Which steps a call over names makes. Lists of steps have the newest first.
-use Rattle.std.specs.Prelude.{ℕ, ◌≡◌, Bool, true, None, Some, List, ◌∷◌}
+use Rattle.std.specs.Prelude.{ℕ, ◌≡◌, ◌<◌, Bool, true, false, Option, None, Some, List, ◌∷◌}
 use Rattle.sat_base.specs.script.Script.{Among}
 use Rattle.sat_base.specs.steps.Steps.{Step, SolverVarName, UserVarName, DeleteVar, ChangeSamplingMode, DeleteClause, ChangeHashBits}
 use Rattle.sat_solver.specs.session.Coming.{Deletes}
+use Rattle.sat_solver.specs.session.Session.{Session, session_after}
 use Rattle.sat_solver.specs.names.Checking.{is_ordered, variable_of}
+
+-- a new name's variable: the one of the name's own number where that isn't known, else the lowest one that isn't
+abbrev pub IsNextVariable : Session → ℕ → ℕ → Type 0
+IsNextVariable s user v = ((s.variables user).known ≡ false → v ≡ user) × ((s.variables user).known ≡ true → ((s.variables v).known ≡ false) × ((w : ℕ) → w < v → (s.variables w).known ≡ true))
+
+-- an index: the lowest one that no variable has
+abbrev pub IsNextSolver : Session → Option ℕ → Type 0
+IsNextSolver s None = ⊥
+IsNextSolver s (Some x) = ((v : ℕ) → s.solver_names v ≡ Some x → ⊥) × ((y : ℕ) → y < x → (v : ℕ) × (s.solver_names v ≡ Some y))
 
 -- an ordered step
 abbrev pub IsDue : List Step → Step → Type 0
+IsDue earlier (UserVarName v (Some user)) = IsNextVariable (session_after earlier) user v
 IsDue earlier step = is_ordered step ≡ true
 
 -- beside ordered steps and widths, an index for the variable of one of these names
 abbrev pub MayTake : List ℕ → List Step → Step → Type 0
-MayTake names earlier (SolverVarName v index) = (name : ℕ) × Among name names × (variable_of earlier name ≡ Some v)
+MayTake names earlier (SolverVarName v index) = IsNextSolver (session_after earlier) index × ((name : ℕ) × Among name names × (variable_of earlier name ≡ Some v))
 MayTake names earlier (ChangeHashBits bits) = Unit {0}
-MayTake names earlier step = is_ordered step ≡ true
+MayTake names earlier step = IsDue earlier step
 
 -- and deleted clauses
 abbrev pub MayAdd : List ℕ → List Step → Step → Type 0
@@ -23,9 +34,9 @@ MayAdd names earlier step = MayTake names earlier step
 -- beside ordered steps, the variable that has lost its name by the step before goes
 abbrev pub MayHide : List Step → Step → Type 0
 MayHide earlier (DeleteVar v) = (rest : List Step) × (earlier ≡ UserVarName v None ∷ rest)
-MayHide earlier step = is_ordered step ≡ true
+MayHide earlier step = IsDue earlier step
 
 -- beside ordered steps, this mode for the variable of this name
 abbrev pub MaySet : ℕ → Bool → List Step → Step → Type 0
 MaySet name sample earlier (ChangeSamplingMode v mode) = (variable_of earlier name ≡ Some v) × (mode ≡ sample)
-MaySet name sample earlier step = is_ordered step ≡ true
+MaySet name sample earlier step = IsDue earlier step

@@ -3,6 +3,7 @@ use Rattle.std.specs.Prelude.{ℕ, ◌==◌, ◌≡◌, ◌⊎◌, ◌∷◌, �
 use Rattle.sat_base.specs.steps.Steps.{Step, SolverVarName}
 use Rattle.sat_solver.specs.session.Session.{session_after}
 use Rattle.sat_solver.specs.names.Variables.{solver_of}
+use Rattle.sat_solver.specs.names.Naming.{IsNextIndex}
 use Rattle.sat_solver.specs.names.Calls.{DoesNothing}
 use Rattle.sat_solver.specs.names.Search.{KeepsSearch, Gives}
 use Rattle.sat_solver.specs.declared.names.indexing.Given.{Given}
@@ -18,7 +19,7 @@ pub record Indexes (old new : Variables) (from to : List Step) (before after : L
   pub fresh : List Given
   pub listed : after ≡ before ++ fresh
   pub gives : Gives old new (session_after from) fresh
-  pub step : (to ≡ from) ⊎ (to ≡ SolverVarName v (Some x) ∷ from)
+  pub step : (to ≡ from) ⊎ ((to ≡ SolverVarName v (Some x) ∷ from) × IsNextIndex old x)
 
 -- The variable has no index from here on.
 pub record Unindexes (old new : Variables) (from to : List Step) (v x : ℕ) : Type 0 where

@@ -10,11 +10,12 @@ use Rattle.sat_solver.specs.names.Free.{is_free, Spans}
 use Rattle.sat_solver.specs.names.Variables.{data_at, global_of, names_used, variables_used, solver_of, global_at, indices_used}
 use Rattle.sat_solver.specs.declared.names.Variables.{Variables}
 
--- the variable may be given to the name
+-- the variable for the name: that of its own number where no name in use or hidden one has it, else the lowest free one
 pub record IsRoom (n : Variables) (user v : ℕ) : Type 0 where
   pub unused : (data_at n v).deleted ≡ true
   pub within : v ≤ variables_used n
-  pub own : variables_used n ≤ user → v ≡ user
+  pub own : (data_at n user).deleted ≡ true → v ≡ user
+  pub lowest : (data_at n user).deleted ≡ false → (w : ℕ) → w < v → (data_at n w).deleted ≡ false
 
 -- every variable is in use
 abbrev pub NoneLeft : Variables → Type 0

@@ -36,7 +36,7 @@ first_comes s t x ys zs b c d =
 -- a step that comes of itself records nothing
 keeps_going : (s : List Step) (step : Step) → is_ordered step ≡ false → MayTake [] s step → the_checking.unsat s ≡ false → the_checking.unsat (step ∷ s) ≡ false
 keeps_going s (ChangeHashBits bits) q m g = settled_unsat (effect (ChangeHashBits bits) (ready_after s)) ∙ g
-keeps_going s (SolverVarName v n) q m g = absurd (m.1)
+keeps_going s (SolverVarName v n) q m g = absurd (m.1.1)
 keeps_going s (UserVarName v n) q m g = absurd (cc)
 keeps_going s (AddClause c) q m g = absurd (cc)
 keeps_going s (Model ls) q m g = absurd (cc)

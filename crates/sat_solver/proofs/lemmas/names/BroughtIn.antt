@@ -65,7 +65,7 @@ ok_again (Ok v) old new from to user lt e p = record {
   brings = brings_again old new from to user v lt e p;
   extends = p.extends;
   unseen = p.unseen;
-  comes = comes_one IsDue from to (UserVarName v (Some user)) p.step refl;
+  comes = comes_one IsDue from to (UserVarName v (Some user)) p.step p.next;
   room = room_one old new user v e (omega arith) p.named p.used p.live;
 }
 ok_again (Err x) old new from to user lt e p = tt
@@ -81,8 +81,8 @@ hidden_name n u tidy e = go (ltb u (names_used n)) refl (global_of n u) refl (sy
 -- the next name came in
 pub brought_next : (old new : Variables) (from to : List Step) (user v : ℕ) → Stands old from → IsNextUser old user → NamesOne old new from to user v → Brought old new from to user
 brought_next old new from to user v stands next one = elim (cases_lt user (names_used old)) [
-  | inl lt ↦ record { brings = brings_again old new from to user v lt next.unused one; extends = one.extends; unseen = one.unseen; comes = comes_one IsDue from to (UserVarName v (Some user)) one.step refl; room = room_one old new user v next.unused next.reach one.named one.used one.live }
+  | inl lt ↦ record { brings = brings_again old new from to user v lt next.unused one; extends = one.extends; unseen = one.unseen; comes = comes_one IsDue from to (UserVarName v (Some user)) one.step one.next; room = room_one old new user v next.unused next.reach one.named one.used one.live }
   | inr le ↦
       (let same : user ≡ names_used old = (let r = next.reach in omega arith) in
-      record { brings = brings_new old new from to user le (last_came old old new from from to user v (none_yet old from user user stands same le) one); extends = one.extends; unseen = one.unseen; comes = comes_one IsDue from to (UserVarName v (Some user)) one.step refl; room = room_one old new user v next.unused next.reach one.named one.used one.live })
+      record { brings = brings_new old new from to user le (last_came old old new from from to user v (none_yet old from user user stands same le) one); extends = one.extends; unseen = one.unseen; comes = comes_one IsDue from to (UserVarName v (Some user)) one.step one.next; room = room_one old new user v next.unused next.reach one.named one.used one.live })
 ]

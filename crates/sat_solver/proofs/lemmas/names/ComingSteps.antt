@@ -5,8 +5,9 @@ use Rattle.sat_base.specs.values.Literals.{variable}
 use Rattle.sat_base.specs.script.Script.{Among}
 use Rattle.sat_base.specs.steps.Steps.{Step, SolverVarName, UserVarName, DeleteVar, ChangeSamplingMode, AddClause, AtClause, UnitClauses, DeleteClause, ChangeHashBits, Model, Assumptions, FailedAssumptions, End}
 use Rattle.sat_solver.specs.session.Coming.{Comes, Deletes}
+use Rattle.sat_solver.specs.session.Session.{session_after}
 use Rattle.sat_solver.specs.names.Checking.{is_ordered, variable_of}
-use Rattle.sat_solver.specs.names.Coming.{IsDue, MayTake, MayAdd, MayHide, MaySet}
+use Rattle.sat_solver.specs.names.Coming.{IsDue, IsNextSolver, MayTake, MayAdd, MayHide, MaySet}
 use Rattle.sat_solver.specs.names.Refusing.{names_in}
 use Rattle.sat_solver.proofs.lemmas.session.ComingLemmas.{comes_none, comes_one, comes_both, comes_map}
 
@@ -72,10 +73,10 @@ module _ (names : List ℕ) (from to : List Step) where
   comes_deleted c = comes_map Deletes (MayAdd names) (delete_add names) from to c
 
   -- an index for the variable of a name
-  pub comes_index : (name v x : ℕ) → Among name names → variable_of from name ≡ Some v → (to ≡ from) ⊎ (to ≡ SolverVarName v (Some x) ∷ from) → Comes (MayTake names) from to
+  pub comes_index : (name v x : ℕ) → Among name names → variable_of from name ≡ Some v → (to ≡ from) ⊎ ((to ≡ SolverVarName v (Some x) ∷ from) × IsNextSolver (session_after from) (Some x)) → Comes (MayTake names) from to
   comes_index name v x among named step = elim step [
     | inl e ↦ subst (Comes (MayTake names) from) (sym e) (comes_none (MayTake names) from)
-    | inr e ↦ comes_one (MayTake names) from to (SolverVarName v (Some x)) e (name, among, named)
+    | inr e ↦ comes_one (MayTake names) from to (SolverVarName v (Some x)) e.0 (e.1, (name, among, named))
   ]
 
 -- CALLS OVER ONE NAME

@@ -15,7 +15,7 @@ use Rattle.sat_solver.proofs.lemmas.names.Counts.{mapped_one_more, mapped_one_fe
 use Rattle.sat_solver.specs.names.Free.{is_free, IsTree}
 use Rattle.sat_solver.specs.names.Live.{Live, given_of}
 use Rattle.sat_solver.specs.names.Variables.{data_at, user_of, solver_of, global_at, indices_used, AreTidy, mode_in, variable_at, AreSaid, IsModeOf, AreJudged, says_unit, IsUnitOf, IsUnused}
-use Rattle.sat_solver.specs.names.Naming.{PutsIndex}
+use Rattle.sat_solver.specs.names.Naming.{PutsIndex, IsNextIndex}
 use Rattle.sat_solver.specs.names.Search.{KeepsSearch}
 use Rattle.sat_solver.specs.names.Indexing.{Indexes, Unindexes}
 use Rattle.sat_solver.specs.declared.names.indexing.Given.{Given}
@@ -223,18 +223,18 @@ index_put old new from to v x there stands alive low had fresh its_unit its_unus
   });
 }
 
-pub index_given : (old new : Variables) (from to : List Step) (before after : List Given) (v : ℕ) (g : Given) → Stands old from → (data_at old v).deleted ≡ false → solver_of old v ≡ None → global_at old g.solver ≡ None → g.solver ≤ indices_used old → g.unit ≡ (data_at old v).unit → PutsIndex old new v g.solver true
+pub index_given : (old new : Variables) (from to : List Step) (before after : List Given) (v : ℕ) (g : Given) → Stands old from → (data_at old v).deleted ≡ false → solver_of old v ≡ None → IsNextIndex old g.solver → g.unit ≡ (data_at old v).unit → PutsIndex old new v g.solver true
     → to ≡ SolverVarName v (Some g.solver) ∷ from → after ≡ before ++ g ∷ [] → Indexes old new from to before after v g.solver
-index_given old new from to before after v g stands alive without free low unit put e l = record {
-  does = index_put old new from to v g.solver true stands alive (λ f. low) (λ f. absurd (true≢false f)) (λ f. (without, free)) (λ f. absurd (true≢false f)) (λ f. absurd (true≢false f)) put e;
+index_given old new from to before after v g stands alive without next unit put e l = record {
+  does = index_put old new from to v g.solver true stands alive (λ f. next.reach) (λ f. absurd (true≢false f)) (λ f. (without, next.free)) (λ f. absurd (true≢false f)) (λ f. absurd (true≢false f)) put e;
   has = put.solvers v ∙ ap (λ b. cond b (Some g.solver) (solver_of old v)) (eq-eqb v v refl);
   users = put.users;
   kept = put.kept;
   search = index_search from to v (Some g.solver) e;
   fresh = g ∷ [];
   listed = l;
-  gives = gives_one old new (session_after from) v g without free put (λ b. stands.said.units v without b ∙ ap (λ o. says_unit o b) (sym unit));
-  step = inr e;
+  gives = gives_one old new (session_after from) v g without next.free put (λ b. stands.said.units v without b ∙ ap (λ o. says_unit o b) (sym unit));
+  step = inr (e, next);
 }
 
 pub index_had : (old : Variables) (from : List Step) (given : List Given) (v x : ℕ) → Stands old from → solver_of old v ≡ Some x → Indexes old old from from given given v x

@@ -25,6 +25,7 @@ use Rattle.sat_solver.proofs.lemmas.names.Extending.{extends_same, extends_both,
 use Rattle.sat_solver.proofs.lemmas.names.CheckerIsSound.{the_checking_sound}
 use Rattle.sat_solver.specs.names.Coming.{IsDue}
 use Rattle.sat_solver.specs.names.Room.{live_count, HasRoom, LeavesRoom}
+use Rattle.sat_solver.proofs.lemmas.names.NextVariables.{next_variable}
 use Rattle.sat_solver.proofs.lemmas.names.RoomLemmas.{live_named, room_one, room_below, room_less}
 use Rattle.sat_solver.proofs.lemmas.session.ComingLemmas.{comes_none, comes_one, comes_both}
 
@@ -53,6 +54,7 @@ name_given old new from to user v stands free within room small put e = record {
   });
   unknown = not_known;
   live = live_named old new user v room put;
+  next = next_variable old (session_after from) user v stands.said room;
   extends = extends_named old new user v stands.tidy room free put;
   unseen = record {
     solvers = put.solvers;
@@ -76,7 +78,7 @@ one_then old mid new from mids to user v names one rest = record {
   stands = rest.stands;
   extends = extends_both old mid new one.extends rest.extends;
   unseen = unseen_both old mid new from mids to one.unseen rest.unseen;
-  comes = comes_both IsDue from mids to (comes_one IsDue from mids (UserVarName v (Some user)) one.step refl) rest.comes;
+  comes = comes_both IsDue from mids to (comes_one IsDue from mids (UserVarName v (Some user)) one.step one.next) rest.comes;
   kept = λ j live a.
       let k = rest.kept (with_name (user + 1) j) ((v, j.next_identity) ∷ live) (one.kept j live a) in
       record {

@@ -1,6 +1,7 @@
 -- A name on a new variable.
 use Rattle.std.proofs.Common.{ℕ, ◌+◌, ◌<◌, ◌≤◌, ◌≡◌, ◌≢◌, Bool, true, false, not, ◌&&◌, cond, eqb, ltb, [], ◌∷◌, ◌++◌, length, get_or, Option, Some, None, is_some, refl, sym, ◌∙◌, ap, subst, arith, length-append, inl, inr}
 use Rattle.std.proofs.lemmas.Bool.{eqb-true, eqb-false, eq-eqb, ne_eqb, cases_lt, true≢false}
+use Rattle.std.proofs.lemmas.List.{get_or_past}
 use Rattle.std.specs.List.{AllByRecursion}
 use Rattle.sat_base.specs.values.Literals.{largest}
 use Rattle.sat_base.specs.script.Judge.{Judge, Named, Sampled, identity_in, identity_of, with_name}
@@ -107,7 +108,7 @@ module _ (old new : Variables) (user v : ℕ) (tidy : AreTidy old) (room : IsRoo
           let a = put.users.fwd_watermark in let b = put.count in let r = tidy.reach in
           elim (cases_lt user (variables_used old)) [
             | inl lt ↦ omega arith
-            | inr le ↦ let o = room.own le in omega arith
+            | inr le ↦ let o = room.own (ap (λ d. d.deleted) (get_or_past old.var_data.items user unused_variable le)) in omega arith
           ]
 
       free_users : (u : ℕ) → is_free new.free_users u ≡ (ltb u (names_used new) && not (is_some (global_of new u)))

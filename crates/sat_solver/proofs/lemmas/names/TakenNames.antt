@@ -1,5 +1,5 @@
 -- The names of a clause come in, literal by literal.
-use Rattle.std.proofs.Common.{ℕ, zero, suc, ◌+◌, ◌*◌, ◌%◌, ◌||◌, ◌<◌, ◌≤◌, ◌≡◌, Bool, true, false, cond, eqb, List, [], ◌∷◌, ◌++◌, map, drop, length, get_or, Option, Some, None, refl, sym, ◌∙◌, ap, subst, arith, length-append, inl, inr, is_some, IfNone}
+use Rattle.std.proofs.Common.{ℕ, zero, suc, ◌+◌, ◌*◌, ◌%◌, ◌||◌, ◌<◌, ◌≤◌, ◌≡◌, ◌⊎◌, Bool, true, false, cond, eqb, List, [], ◌∷◌, ◌++◌, map, drop, length, get_or, Option, Some, None, refl, sym, ◌∙◌, ap, subst, arith, length-append, inl, inr, is_some, IfNone}
 use Rattle.std.proofs.lemmas.Bool.{eqb-true, eq-eqb, ne_eqb, cases_eq, true≢false, or_cases, or_right}
 use Rattle.std.proofs.lemmas.List.{drop_more, drop_all}
 use Rattle.sat_base.specs.values.Literals.{variable, is_positive, coded}
@@ -9,7 +9,7 @@ use Rattle.sat_store.specs.declared.data.SamplingMode.TheVariants as kept
 use Rattle.sat_store.specs.variables.Maps.{AreInverse, target}
 use Rattle.sat_checker.specs.LiteralSets.{is_among, canonical}
 use Rattle.sat_checker.proofs.lemmas.sets.Canonical.{canonical_among}
-use Rattle.sat_base.specs.steps.Steps.{Step}
+use Rattle.sat_base.specs.steps.Steps.{Step, SolverVarName}
 use Rattle.sat_solver.specs.session.Session.{session_after}
 use Rattle.sat_solver.specs.session.LiveClauses.{with_var}
 use Rattle.sat_solver.specs.names.Variables.{data_at, global_of, solver_of, AreTidy}
@@ -30,6 +30,8 @@ use Rattle.sat_solver.proofs.lemmas.names.Extending.{extends_same, extends_both,
 use Rattle.sat_solver.specs.session.Coming.{Comes}
 use Rattle.sat_solver.specs.names.Coming.{MayTake}
 use Rattle.sat_solver.proofs.lemmas.session.ComingLemmas.{comes_none, comes_both}
+use Rattle.sat_solver.specs.names.Coming.{IsNextSolver}
+use Rattle.sat_solver.proofs.lemmas.names.NextVariables.{next_solver}
 use Rattle.sat_solver.proofs.lemmas.names.ComingSteps.{name_among, comes_due, comes_index}
 use Rattle.sat_solver.proofs.lemmas.names.Giving.{keeps_same, keeps_both, gives_none, gives_unseen, gives_both}
 
@@ -66,12 +68,15 @@ one_taken old now mid new from log mids to all items next before after index l v
       (gives_unseen old now mid (session_after from) before t.gives brought.unseen.solvers) indexes.gives);
   search = keeps_both (session_after from) (session_after log) (session_after to) t.search (keeps_both (session_after log) (session_after mids) (session_after to) brought.unseen.search indexes.search);
   comes = comes_both (MayTake (names_in all)) from log to t.comes (comes_both (MayTake (names_in all)) log mids to (comes_due (names_in all) log mids brought.comes)
-      (comes_index (names_in all) mids to (variable l + 1) v x (subst (λ k. Among (variable k + 1) (names_in all)) (sym at) (name_among all index lt)) (brought.brings.stands.read (variable l) ∙ named) indexes.step));
+      (comes_index (names_in all) mids to (variable l + 1) v x (subst (λ k. Among (variable k + 1) (names_in all)) (sym at) (name_among all index lt)) (brought.brings.stands.read (variable l) ∙ named) lowest));
   rest = λ last end more. t.rest last end (subst (Brings now last log end) (sym (drop_more all index 0 lt ∙ ap (λ y. y ∷ drop (index + 1) all) (sym at))) (
       does_both now mid last log mids end (bring_in (variable l + 1)) (bring_all (names_in (drop (index + 1) all))) (λ j. map NewName (new_names (variable l + 1) j)) (bringing (names_in (drop (index + 1) all))) brought.brings
       (does_both mid new last mids to end (λ j. j) (bring_all (names_in (drop (index + 1) all))) (λ j. []) (bringing (names_in (drop (index + 1) all))) indexes.does more)));
 }
   where
+    lowest : (to ≡ mids) ⊎ ((to ≡ SolverVarName v (Some x) ∷ mids) × IsNextSolver (session_after mids) (Some x))
+    lowest = elim indexes.step [ inl e ↦ inl e | inr e ↦ inr (e.0, next_solver mid (session_after mids) x brought.brings.stands.tidy brought.brings.stands.said e.1) ]
+
     both : Extends now new
     both = extends_both now mid new brought.extends (extends_kept mid new indexes.users indexes.kept)
 
