@@ -1,10 +1,10 @@
 pub mod Marks
 pub mod Walk
 pub mod Look
-pub mod IndexView
 pub mod PairView
 pub mod LinkView
 pub mod SlotView
+pub mod IndexView
 pub mod OccurrenceView
 pub mod EntryView
 pub mod VariablesView

@@ -1,30 +1,34 @@
 //! The stored clauses of two literals or more.
-ghost use Rattle.std.specs.Prelude.{ℕ, ◌≡◌, ◌+◌, ◌*◌, ◌<◌, ◌≤◌, ◌^◌, [], ◌∷◌, ◌++◌, length, true, false, MatchOption, OnOk};
+ghost use Rattle.std.specs.Prelude.{ℕ, ◌≡◌, ◌+◌, ◌*◌, ◌<◌, ◌≤◌, ◌^◌, [], ◌∷◌, ◌++◌, length, true, false, OnOk};
 ghost use Rattle.std.specs.List.{AllByRecursion, list_any};
-ghost use Rattle.sat_checker.specs.LiteralSets.{mentions};
 ghost use Rattle.sat_checker.specs.inner.ModelTests.{are_all_true, irredundant_length};
 ghost use Rattle.sat_checker.specs.Looks.{total_length};
 ghost use Rattle.sat_checker.specs.inner.Marks.{IsIncreasing};
-ghost use Rattle.sat_checker.specs.inner.SlotView.{slot_at, literals_at, all_lits, stored_slot, with_count_at, without_count_at, count_of, is_gone, is_standing, places_of, bucket_in, is_same_at, found_among, all_hashed_by, live, live_length, IsBucket};
+ghost use Rattle.sat_checker.specs.inner.SlotView.{slot_at, literals_at, all_lits, stored_slot, with_count_at, without_count_at, count_of, is_gone, is_standing, places_of, bucket_in, is_same_at, found_among, all_hashed_by, live, live_length};
 ghost use Rattle.sat_checker.specs.HasherView.{solver_name_of, width_of};
-ghost use Rattle.sat_checker.specs.inner.IndexView.{places_in};
+ghost use Rattle.sat_checker.specs.LiteralSets.{mentions, is_among};
+ghost use Rattle.sat_checker.specs.inner.PairView.{first_of, behind};
+ghost use Rattle.sat_checker.specs.inner.IndexView.{Files, pairs_of};
+ghost use Rattle.sat_checker.specs.inner.OccurrenceView.{AreKept};
 
 use crate::assigned::Assigned;
 use crate::hash::ClauseHasher;
-use crate::index::{Bucket, Index};
+use crate::links::Pair;
 use crate::looks::Looks;
 use crate::occurrences::Occurrences;
 use crate::slots::Slots;
+use crate::sorted_pairs::{SortedPairs, sorted};
 use crate::valuation::makes_true;
-use sat_base::{ClauseHash, Lit, Var};
+use sat_base::{ClauseHash, HashBits, Lit, Var};
 use std::alloc::{AllocError, Global};
 use std::marker::Model;
 
 /// Clauses at their places. Unless it is gone each is found by its hash, and its literals are counted.
 #[derive(Drop)]
 pub(crate) struct Clauses {
+    alloc: Global,
     slots: Slots,
-    index: Index,
+    index: SortedPairs,
     occurrences: Occurrences,
 }
 
@@ -45,8 +49,9 @@ impl Clauses {
         ensures { result ≡ [] }
     {
         Clauses {
+            alloc,
             slots: Slots::new(alloc),
-            index: Index::new(alloc),
+            index: SortedPairs::new(alloc, all_bits()),
             occurrences: Occurrences::new(alloc),
         }
     }
@@ -83,12 +88,21 @@ impl Clauses {
         self.slots.count(place, redundant)
     }
 
-    /// The places of a hash, in order of ids.
+    /// The first place of a hash, in order of ids.
     #[inline(always)]
-    pub fn bucket(&self, hash: ClauseHash) -> Option<&Bucket>
-        ensures { MatchOption result (IsBucket hash self.now []) (λ b. IsBucket hash self.now (b.now.first ∷ b.now.more.items)) }
+    pub fn first(&self, hash: ClauseHash) -> Option<usize>
+        ensures { result ≡ first_of (places_of hash self.now) }
     {
-        self.index.bucket(hash)
+        self.index.first(hash)
+    }
+
+    /// The next place of a hash, behind one of them.
+    #[inline(always)]
+    pub fn next(&self, hash: ClauseHash, place: usize) -> Option<usize>
+        requires { is_among (places_of hash self.now) place ≡ true }
+        ensures { result ≡ first_of (behind place (places_of hash self.now)) }
+    {
+        self.index.next(hash, place)
     }
 
     fn is_same(&self, place: usize, literals: &[Lit], looks: &mut Looks) -> bool
@@ -106,16 +120,12 @@ impl Clauses {
         ensures looks { looks.new ≤ looks.old + total_length (bucket_in hash self.now) }
         ensures rise { looks.old ≤ looks.new }
     {
-        let Some(bucket) = self.bucket(hash) else {
-            return None;
-        };
-        if self.is_same(bucket.first, literals, looks) {
-            return Some(bucket.first);
-        }
-        for place in &bucket.more {
-            if self.is_same(*place, literals, looks) {
-                return Some(*place);
+        let mut next = self.first(hash);
+        while let Some(place) = next {
+            if self.is_same(place, literals, looks) {
+                return Some(place);
             }
+            next = self.next(hash, place);
         }
         None
     }
@@ -153,7 +163,7 @@ impl Clauses {
         true
     }
 
-    /// Puts a clause with one count behind the others.
+    /// Puts a clause with one count behind the others. Where memory is wanted none is left.
     pub fn push(
         &mut self,
         id: u64,
@@ -164,28 +174,31 @@ impl Clauses {
         requires { IsIncreasing literals.now }
         ensures { OnOk result (self.new ≡ self.old ++ stored_slot redundant id hash literals.now ∷ []) }
     {
-        self.occurrences.make_room(literals)?;
-        self.slots.push(id, hash, literals)?;
-        let count = self.slots.len();
-        self.index.file(hash, count - 1)?;
-        self.slots.add_count(count - 1, redundant);
-        self.occurrences.add(literals);
+        let alloc = self.alloc;
+        let added = add(
+            &mut self.slots,
+            &mut self.index,
+            &mut self.occurrences,
+            id,
+            redundant,
+            hash,
+            literals,
+        );
+        if added.is_err() {
+            *self = Clauses::new(alloc);
+            return Err(AllocError);
+        }
         Ok(())
     }
 
     /// Files all clauses anew, by the hashes of this hasher. Where memory is wanted none is left.
-    pub fn rehash(
-        &mut self,
-        alloc: Global,
-        hasher: &ClauseHasher,
-        looks: &mut Looks,
-    ) -> Result<(), AllocError>
+    pub fn rehash(&mut self, hasher: &ClauseHasher, looks: &mut Looks) -> Result<(), AllocError>
         ensures hashed { OnOk result (self.new ≡ all_hashed_by (solver_name_of hasher.now) (width_of hasher.now) self.old) }
         ensures looks { looks.new ≤ looks.old + live_length self.old }
         ensures rise { looks.old ≤ looks.new }
     {
-        self.index.clear();
-        if file_all(&mut self.slots, hasher, &mut self.index, looks).is_err() {
+        let alloc = self.alloc;
+        if file_all(alloc, &mut self.slots, hasher, &mut self.index, looks).is_err() {
             *self = Clauses::new(alloc);
             return Err(AllocError);
         }
@@ -209,27 +222,57 @@ impl Clauses {
         requires some { 0 < count_of redundant (slot_at self.old place) }
         ensures { self.new ≡ without_count_at redundant place self.old }
     {
-        let hash = self.slots.hash(place);
         self.slots.take_count(place, redundant);
         if self.slots.is_gone(place) {
-            self.index.remove(hash, place);
+            self.index.remove(place);
             self.occurrences.take(literals);
         }
     }
 }
 
-/// Hashes the clauses that aren't gone, and files them in an empty index.
+/// All 64 bits of a hash.
+pub(crate) fn all_bits() -> HashBits
+    ensures { result ≡ 64 }
+{
+    HashBits::new(64).unwrap()
+}
+
+/// Puts a clause with one count behind the others.
+fn add(
+    slots: &mut Slots,
+    index: &mut SortedPairs,
+    occurrences: &mut Occurrences,
+    id: u64,
+    redundant: bool,
+    hash: ClauseHash,
+    literals: &[Lit],
+) -> Result<(), AllocError>
+    requires kept { AreKept slots.old index.old occurrences.old }
+    requires increasing { IsIncreasing literals.now }
+    ensures kept { OnOk result (AreKept slots.new index.new occurrences.new) }
+    ensures slots { OnOk result (slots.new ≡ slots.old ++ stored_slot redundant id hash literals.now ∷ []) }
+{
+    occurrences.make_room(literals)?;
+    slots.push(id, hash, literals)?;
+    index.push(hash)?;
+    let count = slots.len();
+    slots.add_count(count - 1, redundant);
+    occurrences.add(literals);
+    Ok(())
+}
+
+/// Hashes the clauses that aren't gone, and lists the pairs of their hashes and places.
 #[tactic(auto, using(crate::proofs::lemmas::store::Rehashing::filing))]
-fn file_all(
+fn hash_all(
     slots: &mut Slots,
     hasher: &ClauseHasher,
-    index: &mut Index,
+    pairs: &mut Vec<Pair>,
     looks: &mut Looks,
 ) -> Result<(), AllocError>
-    requires { (q : ℕ) → places_in index.old q ≡ [] }
+    requires { pairs.old.items ≡ [] }
     ensures hashed { OnOk result (slots.new ≡ all_hashed_by (solver_name_of hasher.now) (width_of hasher.now) slots.old) }
-    ensures filed { OnOk result ((q : ℕ) →
-        places_in index.new q ≡ places_of q (all_hashed_by (solver_name_of hasher.now) (width_of hasher.now) slots.old)) }
+    ensures pairs { OnOk result
+        (pairs.new.items ≡ pairs_of (all_hashed_by (solver_name_of hasher.now) (width_of hasher.now) slots.old)) }
     ensures looks { looks.new ≤ looks.old + live_length slots.old }
     ensures rise { looks.old ≤ looks.new }
 {
@@ -238,8 +281,28 @@ fn file_all(
             continue;
         }
         let hash = hasher.clause_hash(slots.literals(place, looks));
-        index.file(hash, place)?;
+        pairs.push(Pair { hash, place })?;
         slots.set_hash(place, hash);
     }
+    Ok(())
+}
+
+/// Hashes the clauses that aren't gone, and files them by one sort.
+fn file_all(
+    alloc: Global,
+    slots: &mut Slots,
+    hasher: &ClauseHasher,
+    index: &mut SortedPairs,
+    looks: &mut Looks,
+) -> Result<(), AllocError>
+    ensures hashed { OnOk result (slots.new ≡ all_hashed_by (solver_name_of hasher.now) (width_of hasher.now) slots.old) }
+    ensures filed { OnOk result (Files index.new (all_hashed_by (solver_name_of hasher.now) (width_of hasher.now) slots.old)) }
+    ensures looks { looks.new ≤ looks.old + live_length slots.old }
+    ensures rise { looks.old ≤ looks.new }
+{
+    let mut pairs = Vec::new(alloc);
+    hash_all(slots, hasher, &mut pairs, looks)?;
+    *index = sorted(alloc, pairs, slots.len(), hasher.bits())?;
+    let _count = index.places();
     Ok(())
 }

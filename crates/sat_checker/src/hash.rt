@@ -25,6 +25,13 @@ impl ClauseHasher {
         }
     }
 
+    /// How many bits are kept.
+    pub(crate) fn bits(&self) -> HashBits
+        ensures { result ≡ width_of self.now }
+    {
+        self.bits
+    }
+
     /// So many bits are kept from here on.
     pub fn set_bits(&mut self, bits: HashBits)
         ensures width { width_of self.new ≡ bits }

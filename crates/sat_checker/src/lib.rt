@@ -10,7 +10,6 @@ pub(crate) mod clauses;
 pub mod error;
 pub(crate) mod formula;
 pub mod hash;
-pub(crate) mod index;
 pub mod internal;
 pub(crate) mod kernel;
 pub mod law_announcements;

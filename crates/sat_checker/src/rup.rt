@@ -76,16 +76,15 @@ fn walk_bucket(
     ensures read { IfOk result
         (λ _. noted_length clauses.now passed.new + looks.old ≤ noted_length clauses.now passed.old + looks.new) }
 {
-    let Some(bucket) = clauses.bucket(hash) else {
+    let Some(first) = clauses.first(hash) else {
         return Ok(Walked::Empty);
     };
-    if meet(clauses, bucket.first, assigned, passed, looks)? {
-        return Ok(Walked::Conflict);
-    }
-    for place in &bucket.more {
-        if meet(clauses, *place, assigned, passed, looks)? {
+    let mut next = Some(first);
+    while let Some(place) = next {
+        if meet(clauses, place, assigned, passed, looks)? {
             return Ok(Walked::Conflict);
         }
+        next = clauses.next(hash, place);
     }
     Ok(Walked::Open)
 }

@@ -107,13 +107,6 @@ impl Slots {
         literals
     }
 
-    pub fn hash(&self, place: usize) -> ClauseHash
-        requires { place < length self.now }
-        ensures { result ≡ (slot_at self.now place).hash }
-    {
-        self.entries[place].hash
-    }
-
     pub fn id(&self, place: usize) -> u64
         requires { place < length self.now }
         ensures { result ≡ (slot_at self.now place).clause.id }

@@ -45,12 +45,10 @@ impl State {
             self.variables.learn_var(var)?;
             self.formula
                 .store
-                .set_solver_name(self.alloc, var, Some(solver), looks)?;
+                .set_solver_name(var, Some(solver), looks)?;
             return Ok(true);
         }
-        self.formula
-            .store
-            .set_solver_name(self.alloc, var, None, looks)?;
+        self.formula.store.set_solver_name(var, None, looks)?;
         Ok(true)
     }
 
@@ -132,7 +130,7 @@ impl State {
         ensures looks { LooksWithin self.old (ChangeHashBits bits) looks.old looks.new }
         ensures rise { looks.old ≤ looks.new }
     {
-        self.formula.store.set_bits(self.alloc, bits, looks)?;
+        self.formula.store.set_bits(bits, looks)?;
         Ok(true)
     }
 

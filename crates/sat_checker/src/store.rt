@@ -12,7 +12,7 @@ ghost use Rattle.sat_checker.specs.inner.ModelTests.{are_all_true, irredundant_l
 ghost use Rattle.std.specs.List.{list_any};
 
 use crate::assigned::Assigned;
-use crate::clauses::Clauses;
+use crate::clauses::{Clauses, all_bits};
 use crate::hash::ClauseHasher;
 use crate::looks::Looks;
 use crate::sorted_lits::is_subset;
@@ -58,13 +58,6 @@ pub(crate) struct Found {
 pub(crate) struct Store {
     pub(crate) clauses: Clauses,
     pub(crate) hasher: ClauseHasher,
-}
-
-/// All 64 bits of a hash.
-fn all_bits() -> HashBits
-    ensures { result ≡ 64 }
-{
-    HashBits::new(64).unwrap()
 }
 
 impl Store {
@@ -157,25 +150,19 @@ impl Store {
     }
 
     /// So many bits of each hash are kept from here on.
-    pub fn set_bits(
-        &mut self,
-        alloc: Global,
-        bits: HashBits,
-        looks: &mut Looks,
-    ) -> Result<(), AllocError>
+    pub fn set_bits(&mut self, bits: HashBits, looks: &mut Looks) -> Result<(), AllocError>
         ensures set { OnOk result ((f : Stored) → KeepsClauses self.old f → KeepsClauses self.new (record f { width = bits })) }
         ensures ids { OnOk result (slot_ids self.new.clauses ≡ slot_ids self.old.clauses) }
         ensures looks { (f : Stored) → KeepsClauses self.old f → looks.new ≤ looks.old + literal_count f }
         ensures rise { looks.old ≤ looks.new }
     {
         self.hasher.set_bits(bits);
-        self.clauses.rehash(alloc, &self.hasher, looks)
+        self.clauses.rehash(&self.hasher, looks)
     }
 
     /// A variable has this solver name or none from here on. No clause is looked at where it had the same, or where none has the variable.
     pub fn set_solver_name(
         &mut self,
-        alloc: Global,
         var: Var,
         name: Option<Var>,
         looks: &mut Looks,
@@ -194,7 +181,7 @@ impl Store {
         if !self.clauses.mention(var) {
             return Ok(());
         }
-        self.clauses.rehash(alloc, &self.hasher, looks)
+        self.clauses.rehash(&self.hasher, looks)
     }
 
     /// Whether the clause at this place isn't gone, and is a part of these sorted literals but not all of them.

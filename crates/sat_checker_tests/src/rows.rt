@@ -322,7 +322,7 @@ static CLAUSES: [Row; 42] = [
 ];
 
 /// Clauses that are deleted.
-static DELETIONS: [Row; 30] = [
+static DELETIONS: [Row; 32] = [
     // redundant: stored as that, in any order, once; as irredundant alone; not stored
     (
         &[9, 0, 5, 2, 0, 2, 6, 1, 3, 0, 2, 4, 1, 0, 8, 3, 0, 2, 4, 0],
@@ -424,6 +424,21 @@ static DELETIONS: [Row; 30] = [
     ),
     (
         &[5, 2, 0, 2, 5, 1, 0, 8, 2, 0, 2, 1, 8, 2, 0, 2, 1],
+        REFUSED,
+    ),
+    // three, four and five literals, found under three widths, and not once they are gone
+    (
+        &[
+            5, 1, 0, 6, 1, 3, 0, 2, 4, 0, 6, 1, 4, 0, 2, 4, 6, 0, 6, 1, 5, 0, 2, 4, 6, 8, 0, 8, 3,
+            0, 2, 4, 0, 9, 8, 8, 4, 0, 2, 4, 6, 0, 9, 0, 8, 5, 0, 2, 4, 6, 8, 0,
+        ],
+        GOES_ON,
+    ),
+    (
+        &[
+            5, 1, 0, 6, 1, 3, 0, 2, 4, 0, 6, 1, 4, 0, 2, 4, 6, 0, 6, 1, 5, 0, 2, 4, 6, 8, 0, 8, 3,
+            0, 2, 4, 0, 9, 8, 8, 3, 0, 2, 4, 0,
+        ],
         REFUSED,
     ),
 ];

@@ -5,6 +5,7 @@ pub mod Places
 pub mod Counting
 pub mod Times
 pub mod Mentions
+pub mod Filing
 pub mod Kept
 pub mod Finding
 pub mod Keeping

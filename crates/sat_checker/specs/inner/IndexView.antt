@@ -1,20 +1,24 @@
--- What the index of places has at a hash.
-use Rattle.std.specs.Prelude.{ℕ, ◌==◌, not, filter, List, [], ◌∷◌, nat_eq, Option, None, Some}
-use Rattle.std.specs.declared.hash.FoldHasher.{FoldHasher}
-use Rattle.std.specs.declared.hash.BuildHasherDefault.{BuildHasherDefault}
-use Rattle.std.specs.HashMap.{get, HashMap}
-use Rattle.sat_checker.specs.declared.index.Bucket.{Bucket}
-use Rattle.sat_checker.specs.declared.index.Index.{Index}
-
-abbrev pub places_of_bucket : Option Bucket → List ℕ
-places_of_bucket None = []
-places_of_bucket (Some b) = b.first ∷ b.more.items
-
-abbrev pub places_at : HashMap ℕ Bucket (BuildHasherDefault FoldHasher) → ℕ → List ℕ
-places_at m hash = places_of_bucket (get nat_eq m hash)
-
-abbrev pub places_in : Index → ℕ → List ℕ
-places_in index hash = places_at index.buckets hash
+-- What an index of pairs has of slots.
+use Rattle.std.specs.Prelude.{ℕ, ◌≡◌, ◌+◌, ◌<◌, ◌==◌, not, filter, List, [], ◌∷◌, length, if◌then◌else◌}
+use Rattle.std.specs.List.{AllByRecursion}
+use Rattle.sat_checker.specs.inner.PairView.{Indexed, AreInOrder, places_in}
+use Rattle.sat_checker.specs.inner.SlotView.{Slot, is_gone, places_of}
+use Rattle.sat_checker.specs.declared.links.Pair.{Pair}
 
 abbrev pub without_place : ℕ → List ℕ → List ℕ
 without_place place = filter (λ p. not (p == place))
+
+-- the pairs of the clauses that aren't gone, the first slot being at this place
+abbrev pub pairs_from : ℕ → List Slot → List Pair
+pairs_from place [] = []
+pairs_from place (s ∷ ss) = if is_gone s then pairs_from (place + 1) ss else (record { hash = s.hash; place = place }) ∷ pairs_from (place + 1) ss
+
+abbrev pub pairs_of : List Slot → List Pair
+pairs_of slots = pairs_from 0 slots
+
+-- the clauses that aren't gone are found by their hashes, and each slot has its place
+pub record Files (index : Indexed) (slots : List Slot) : Type 0 where
+  pub filed : (hash : ℕ) → places_in hash index.pairs ≡ places_of hash slots
+  pub places : index.places ≡ length slots
+  pub in_order : AreInOrder index.pairs
+  pub below : AllByRecursion (λ p. p.place < index.places) index.pairs

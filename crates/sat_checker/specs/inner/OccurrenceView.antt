@@ -1,8 +1,8 @@
 -- How often literals stand in clauses, and what is kept of it.
 use Rattle.std.specs.Prelude.{ℕ, ◌≡◌, ◌+◌, ◌==◌, List, [], ◌∷◌, slice_index_or, if◌then◌else◌}
-use Rattle.sat_checker.specs.inner.IndexView.{places_in}
-use Rattle.sat_checker.specs.inner.SlotView.{Slot, is_gone, places_of}
-use Rattle.sat_checker.specs.declared.index.Index.{Index}
+use Rattle.sat_checker.specs.inner.IndexView.{Files}
+use Rattle.sat_checker.specs.inner.PairView.{Indexed}
+use Rattle.sat_checker.specs.inner.SlotView.{Slot, is_gone}
 use Rattle.sat_checker.specs.declared.occurrences.Occurrences.{Occurrences}
 
 -- how often a literal stands in a clause
@@ -19,6 +19,6 @@ abbrev pub count_at : Occurrences → ℕ → ℕ
 count_at kept l = slice_index_or kept.counts.items l 0
 
 -- the clauses that aren't gone are found by their hashes, and their literals are counted
-pub record AreKept (slots : List Slot) (index : Index) (kept : Occurrences) : Type 0 where
-  pub filed : (hash : ℕ) → places_in index hash ≡ places_of hash slots
+pub record AreKept (slots : List Slot) (index : Indexed) (kept : Occurrences) : Type 0 where
+  pub files : Files index slots
   pub counted : (l : ℕ) → count_at kept l ≡ times_stored l slots

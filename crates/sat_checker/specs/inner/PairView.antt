@@ -1,5 +1,5 @@
 -- Lists of pairs of a hash and a place.
-use Rattle.std.specs.Prelude.{ℕ, ◌≡◌, ◌≤◌, ◌<◌, ◌==◌, Bool, not, ◌||◌, ◌&&◌, nat_lt, List, [], ◌∷◌, map, filter, Option, None, Some, if◌then◌else◌}
+use Rattle.std.specs.Prelude.{ℕ, ◌≡◌, ◌≤◌, ◌<◌, ◌==◌, Bool, not, ◌||◌, ◌&&◌, nat_lt, nat_le, List, [], ◌∷◌, map, filter, Option, None, Some, if◌then◌else◌}
 use Rattle.std.specs.List.{AllByRecursion}
 use Rattle.sat_checker.specs.declared.links.Pair.{Pair}
 
@@ -34,6 +34,11 @@ first_of (p ∷ ps) = Some p
 -- those behind a place
 abbrev pub behind : ℕ → List ℕ → List ℕ
 behind place = filter (nat_lt place)
+
+-- those from a place on
+abbrev pub from_on : Option ℕ → List ℕ → List ℕ
+from_on None places = []
+from_on (Some place) places = filter (nat_le place) places
 
 -- do two pairs have one place?
 abbrev pub same_place : Pair → Pair → Bool

@@ -99,12 +99,6 @@ is_same_at slots literals place = same_literals (literals_at slots place) litera
 abbrev pub found_among : List Slot → List ℕ → List ℕ → Option ℕ
 found_among slots literals = find (is_same_at slots literals)
 
--- the places of a hash, and the clauses that are there
-pub record IsBucket (hash : ℕ) (slots : List Slot) (places : List ℕ) : Type 0 where
-  pub all : places_of hash slots ≡ places
-  pub literals : bucket_in hash slots ≡ map (literals_at slots) places
-  pub within : AllByRecursion (λ p. p < length slots) places
-
 -- with the hash by these names and of this width, unless it's gone
 abbrev pub hashed_by : (ℕ → Option ℕ) → ℕ → Slot → Slot
 hashed_by names width s = if is_gone s then s else record s { hash = hash_by names width s.clause.literals }

@@ -1,59 +1,73 @@
 -- What is kept beside the slots, as clauses come in and go.
-use Rattle.std.proofs.Common.{ℕ, ◌+◌, ◌<◌, ◌≤◌, ◌≡◌, Bool, true, false, cond, eqb, List, [], ◌∷◌, ◌++◌, length, Option, sym, ◌∙◌, ap, arith, Result, Ok, Err, OnOk}
+use Rattle.std.proofs.Common.{ℕ, ◌+◌, ◌<◌, ◌≤◌, ◌≡◌, ◌≢◌, Bool, true, false, not, cond, eqb, List, [], ◌∷◌, ◌++◌, length, Option, refl, sym, ◌∙◌, ap, subst, arith, Result, Ok, Err, OnOk}
 use Rattle.std.proofs.lemmas.Bool.{true≢false}
 use Rattle.std.specs.Result.{is_err}
-use Rattle.sat_checker.specs.inner.IndexView.{places_in, without_place}
+use Rattle.std.proofs.lemmas.List.{length-set}
+use Rattle.sat_checker.specs.inner.IndexView.{without_place, Files}
+use Rattle.sat_checker.specs.inner.PairView.{Indexed, places_in, inserted, without_pair}
 use Rattle.sat_checker.specs.inner.OccurrenceView.{count_at, times_in, times_stored, AreKept}
-use Rattle.sat_checker.specs.Storing.{without_count}
-use Rattle.sat_checker.specs.inner.SlotView.{Slot, unstored, slot_at, literals_at, is_gone, count_of, places_of, with_count_at, without_count_at, all_hashed_by}
-use Rattle.sat_checker.specs.declared.index.Index.{Index}
+use Rattle.sat_checker.specs.Storing.{with_count, without_count}
+use Rattle.sat_checker.specs.inner.SlotView.{Slot, unstored, stored_slot, slot_at, literals_at, is_gone, count_of, places_of, with_count_at, without_count_at, all_hashed_by}
 use Rattle.sat_checker.specs.declared.occurrences.Occurrences.{Occurrences}
-use Rattle.sat_checker.proofs.lemmas.store.Places.{agrees_unstored, agrees_stored, agrees_counted, agrees_left, agrees_removed, stored_last, after, gone_there}
-use Rattle.sat_checker.proofs.lemmas.store.Counting.{times_unstored, times_more, times_counted, times_left, times_gone, times_hashed}
+use Rattle.sat_checker.proofs.lemmas.store.Places.{agrees_stored, agrees_counted, agrees_left, agrees_removed, stored_last, after, gone_there}
+use Rattle.sat_checker.proofs.lemmas.pairs.Order.{all_weaker, all_filter, all_inserted, order_filter, order_inserted, places_inserted}
+use Rattle.sat_checker.proofs.lemmas.store.Filing.{places_without}
+use Rattle.sat_checker.proofs.lemmas.store.Counting.{times_more, times_counted, times_left, times_gone, times_hashed}
 
 -- room is made
-pub kept_room : (ss : List Slot) (index : Index) (o p : Occurrences) → AreKept ss index o → ((l : ℕ) → count_at p l ≡ count_at o l) → AreKept ss index p
-kept_room ss index o p k m = record { filed = k.filed; counted = λ l. m l ∙ k.counted l }
+pub kept_room : (ss : List Slot) (index : Indexed) (o p : Occurrences) → AreKept ss index o → ((l : ℕ) → count_at p l ≡ count_at o l) → AreKept ss index p
+kept_room ss index o p k m = record { files = k.files; counted = λ l. m l ∙ k.counted l }
 
-pub kept_same : (ss new : List Slot) (index : Index) (o p : Occurrences) → AreKept ss index o → ((l : ℕ) → count_at p l ≡ count_at o l) → new ≡ ss → AreKept new index p
-kept_same ss new index o p k m e = record { filed = λ q. k.filed q ∙ ap (places_of q) (sym e); counted = λ l. m l ∙ k.counted l ∙ ap (times_stored l) (sym e) }
+pub kept_same : (ss new : List Slot) (index : Indexed) (o p : Occurrences) → AreKept ss index o → ((l : ℕ) → count_at p l ≡ count_at o l) → new ≡ ss → AreKept new index p
+kept_same ss new index o p k m e = record { files = record { filed = λ q. k.files.filed q ∙ ap (places_of q) (sym e); places = k.files.places ∙ ap length (sym e); in_order = k.files.in_order; below = k.files.below }; counted = λ l. m l ∙ k.counted l ∙ ap (times_stored l) (sym e) }
 
--- a clause without a count
-pub kept_unstored : (ss new : List Slot) (index next : Index) (o p : Occurrences) (id hash : ℕ) (literals : List ℕ) → AreKept ss index o → ((l : ℕ) → count_at p l ≡ count_at o l) → ((q : ℕ) → places_in next q ≡ places_in index q) → new ≡ ss ++ unstored id hash literals ∷ [] → AreKept new next p
-kept_unstored ss new index next o p id hash literals k m same e = record {
-  filed = agrees_unstored (places_in index) (places_in next) id hash literals ss new k.filed same e;
-  counted = λ l. m l ∙ k.counted l ∙ sym (times_unstored l id hash literals ss) ∙ ap (times_stored l) (sym e);
-}
-
--- and one that is stored once
-pub kept_stored : (ss new all : List Slot) (index next : Index) (o mid p : Occurrences) (r : Bool) (id hash place : ℕ) (literals : List ℕ) → AreKept ss index o → ((l : ℕ) → count_at mid l ≡ count_at o l) → place ≡ length ss
-    → ((q : ℕ) → places_in next q ≡ cond (eqb q hash) (places_in index q ++ place ∷ []) (places_in index q)) → new ≡ ss ++ unstored id hash literals ∷ [] → all ≡ with_count_at r place new → ((l : ℕ) → count_at p l ≡ count_at mid l + times_in l literals) → AreKept all next p
+-- a clause that is stored once
+pub kept_stored : (ss new all : List Slot) (index next : Indexed) (o mid p : Occurrences) (r : Bool) (id hash place : ℕ) (literals : List ℕ) → AreKept ss index o → ((l : ℕ) → count_at mid l ≡ count_at o l) → place ≡ length ss
+    → next ≡ record { pairs = inserted (record { hash = hash; place = index.places }) index.pairs; places = index.places + 1 } → new ≡ ss ++ unstored id hash literals ∷ [] → all ≡ with_count_at r place new → ((l : ℕ) → count_at p l ≡ count_at mid l + times_in l literals) → AreKept all next p
 kept_stored ss new all index next o mid p r id hash place literals k m is h e s a = record {
-  filed = agrees_stored (places_in index) (places_in next) r id hash place literals ss new all k.filed is h e s;
+  files = subst (λ x. Files x all) (sym h) (record {
+    filed = agrees_stored (λ q. places_in q index.pairs) (λ q. places_in q (inserted (record { hash = hash; place = index.places }) index.pairs)) r id hash place literals ss new all k.files.filed is
+        (λ q. places_inserted q (record { hash = hash; place = index.places }) index.pairs k.files.in_order k.files.below ∙ ap (λ x. cond (eqb q hash) (places_in q index.pairs ++ x ∷ []) (places_in q index.pairs)) (k.files.places ∙ sym is)) e s;
+    places = let whole : length all ≡ length ss + 1 = ap length (stored_last r id hash place literals ss new all is e s) ∙ length_more ss (stored_slot r id hash literals) in omega (arith, whole, k.files.places);
+    in_order = order_inserted (record { hash = hash; place = index.places }) index.pairs (all_weaker (λ x. x.place < index.places) (λ x. index.places ≢ x.place) (λ x l d. omega (arith, l, d)) index.pairs k.files.below) k.files.in_order;
+    below = all_inserted (λ x. x.place < index.places + 1) (record { hash = hash; place = index.places }) index.pairs (omega arith) (all_weaker (λ x. x.place < index.places) (λ x. x.place < index.places + 1) (λ x l. omega (arith, l)) index.pairs k.files.below);
+  });
   counted = λ l.
       let more : times_stored l all ≡ times_stored l ss + times_in l literals = ap (times_stored l) (stored_last r id hash place literals ss new all is e s) ∙ times_more l r id hash literals ss in
       let was : count_at mid l ≡ times_stored l ss = m l ∙ k.counted l in
       a l ∙ ap (λ n. n + times_in l literals) was ∙ sym more;
 }
+  where
+    length_more : (xs : List Slot) (x : Slot) → length (xs ++ x ∷ []) ≡ length xs + 1
+    length_more [] x = refl
+    length_more (y ∷ ys) x = let ih : length (ys ++ x ∷ []) ≡ length ys + 1 = length_more ys x in omega arith
 
 -- a count more
-pub kept_counted : (old ss new : List Slot) (index : Index) (o : Occurrences) (r : Bool) (i : ℕ) → old ≡ ss → i < length ss → is_gone (slot_at ss i) ≡ false → AreKept old index o → new ≡ with_count_at r i old → AreKept new index o
+pub kept_counted : (old ss new : List Slot) (index : Indexed) (o : Occurrences) (r : Bool) (i : ℕ) → old ≡ ss → i < length ss → is_gone (slot_at ss i) ≡ false → AreKept old index o → new ≡ with_count_at r i old → AreKept new index o
 kept_counted old ss new index o r i is l n k e = record {
-  filed = agrees_counted (places_in index) r i old ss new is l n k.filed e;
+  files = record {
+    filed = agrees_counted (λ q. places_in q index.pairs) r i old ss new is l n k.files.filed e;
+    places = k.files.places ∙ sym (ap length e ∙ length-set old i (record (slot_at old i) { clause = with_count r (slot_at old i).clause }));
+    in_order = k.files.in_order;
+    below = k.files.below;
+  };
   counted = λ q. k.counted q ∙ ap (times_stored q) is ∙ sym (times_counted q r i ss l n) ∙ ap (λ x. times_stored q (with_count_at r i x)) (sym is) ∙ ap (times_stored q) (sym e);
 }
 
 -- a count less
-module _ (old ss new : List Slot) (index : Index) (o : Occurrences) (r : Bool) (i : ℕ) (is : old ≡ ss) (l : i < length ss) (c : 0 < count_of r (slot_at ss i)) (k : AreKept old index o) (e : new ≡ without_count_at r i old) where
+module _ (old ss new : List Slot) (index : Indexed) (o : Occurrences) (r : Bool) (i : ℕ) (is : old ≡ ss) (l : i < length ss) (c : 0 < count_of r (slot_at ss i)) (k : AreKept old index o) (e : new ≡ without_count_at r i old) where
   there : is_gone (slot_at new i) ≡ is_gone (record { clause = without_count r (slot_at ss i).clause; hash = (slot_at ss i).hash })
-  there = gone_there (places_in index) r i old ss new is l c k.filed e
+  there = gone_there (λ q. places_in q index.pairs) r i old ss new is l c k.files.filed e
 
   now : (q : ℕ) → times_stored q new ≡ times_stored q (without_count_at r i ss)
-  now q = ap (times_stored q) (after (places_in index) r i old ss new is l c k.filed e)
+  now q = ap (times_stored q) (after (λ q. places_in q index.pairs) r i old ss new is l c k.files.filed e)
+
+  length_left : length new ≡ length old
+  length_left = ap length e ∙ length-set old i (record (slot_at old i) { clause = without_count r (slot_at old i).clause })
 
   pub kept_left : is_gone (slot_at new i) ≡ false → AreKept new index o
   kept_left n = record {
-    filed = agrees_left (places_in index) r i old ss new is l c k.filed e n;
+    files = record { filed = agrees_left (λ q. places_in q index.pairs) r i old ss new is l c k.files.filed e n; places = k.files.places ∙ sym length_left; in_order = k.files.in_order; below = k.files.below };
     counted = λ q. k.counted q ∙ ap (times_stored q) is ∙ sym (times_left q r i ss l c (sym there ∙ n)) ∙ sym (now q);
   }
 
@@ -65,10 +79,15 @@ module _ (old ss new : List Slot) (index : Index) (o : Occurrences) (r : Bool) (
       let d : times_in q literals ≡ times_in q (literals_at ss i) = ap (times_in q) s in
       omega (arith, a, b, d)
 
-  pub kept_removed : (next : Index) (p : Occurrences) (hash : ℕ) (literals : List ℕ) → hash ≡ (slot_at old i).hash → ((q : ℕ) → places_in next q ≡ cond (eqb q hash) (without_place i (places_in index q)) (places_in index q))
+  pub kept_removed : (next : Indexed) (p : Occurrences) (literals : List ℕ) → next ≡ record index { pairs = without_pair i index.pairs }
       → literals ≡ literals_at ss i → ((q : ℕ) → count_at p q + times_in q literals ≡ count_at o q) → is_gone (slot_at new i) ≡ true → AreKept new next p
-  kept_removed next p hash literals h w s m g = record {
-    filed = agrees_removed (places_in index) r i old ss new is l c k.filed e (places_in next) hash h w g;
+  kept_removed next p literals w s m g = record {
+    files = subst (λ x. Files x new) (sym w) (record {
+      filed = agrees_removed (λ q. places_in q index.pairs) r i old ss new is l c k.files.filed e (λ q. places_in q (without_pair i index.pairs)) (λ q. places_without q i index.pairs) g;
+      places = k.files.places ∙ sym length_left;
+      in_order = order_filter (λ x. not (eqb x.place i)) index.pairs k.files.in_order;
+      below = all_filter (λ x. x.place < index.places) (λ x. not (eqb x.place i)) index.pairs k.files.below;
+    });
     counted = λ q.
         let a : times_stored q (without_count_at r i ss) + times_in q (literals_at ss i) ≡ times_stored q ss = times_gone q r i ss l c (sym there ∙ g) in
         let b : count_at o q ≡ times_stored q ss = k.counted q ∙ ap (times_stored q) is in
@@ -79,9 +98,9 @@ module _ (old ss new : List Slot) (index : Index) (o : Occurrences) (r : Bool) (
   }
 
 -- all filed anew
-pub kept_hashed : (names : ℕ → Option ℕ) (width : ℕ) (old ss new : List Slot) (index next : Index) (o : Occurrences) → old ≡ ss → AreKept old index o → new ≡ all_hashed_by names width ss → ((q : ℕ) → places_in next q ≡ places_of q (all_hashed_by names width ss)) → AreKept new next o
+pub kept_hashed : (names : ℕ → Option ℕ) (width : ℕ) (old ss new : List Slot) (index next : Indexed) (o : Occurrences) → old ≡ ss → AreKept old index o → new ≡ all_hashed_by names width ss → Files next (all_hashed_by names width ss) → AreKept new next o
 kept_hashed names width old ss new index next o is k e f = record {
-  filed = λ q. f q ∙ ap (places_of q) (sym e);
+  files = subst (Files next) (sym e) f;
   counted = λ q. k.counted q ∙ ap (times_stored q) is ∙ sym (times_hashed q names width ss) ∙ ap (times_stored q) (sym e);
 }
 

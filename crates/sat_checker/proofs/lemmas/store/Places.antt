@@ -96,6 +96,28 @@ without_lower p (x ∷ xs) h =
     let e : eqb x p ≡ false = ne_eqb x p (λ s. let l : p < x = h.0 in omega arith) in
     ap (λ b. cond (not b) (x ∷ without_place p xs) (without_place p xs)) e ∙ ap (λ ys. x ∷ ys) (without_lower p xs h.1)
 
+-- a slot that isn't filed under a hash has no place there
+without_absent : (k q : ℕ) (ss : List Slot) (i : ℕ) → i < length ss → eqb q (slot_at ss i).hash ≡ false → (n : ℕ) → k + i ≡ n → without_place n (places_from k q ss) ≡ places_from k q ss
+without_absent k q [] i l d n e = absurd (omega arith)
+without_absent k q (s ∷ ss) zero l d n e =
+    ap (λ b. without_place n (cond (not (is_gone s) && b) (k ∷ places_from (k + 1) q ss) (places_from (k + 1) q ss))) (eqb_comm s.hash q ∙ d) ∙ go (is_gone s)
+    ∙ sym (ap (λ b. cond (not (is_gone s) && b) (k ∷ places_from (k + 1) q ss) (places_from (k + 1) q ss)) (eqb_comm s.hash q ∙ d))
+  where
+    rest : without_place n (places_from (k + 1) q ss) ≡ places_from (k + 1) q ss
+    rest = without_lower n (places_from (k + 1) q ss) (places_above n (k + 1) q ss (omega arith))
+
+    go : (g : Bool) → without_place n (cond (not g && false) (k ∷ places_from (k + 1) q ss) (places_from (k + 1) q ss)) ≡ cond (not g && false) (k ∷ places_from (k + 1) q ss) (places_from (k + 1) q ss)
+    go true = rest
+    go false = rest
+without_absent k q (s ∷ ss) (suc i) l d n e = go (is_filed q s) (without_absent (k + 1) q ss i (omega arith) d n (let z : k + 1 + i ≡ n = omega arith in z))
+  where
+    other : eqb k n ≡ false
+    other = ne_eqb k n (λ z. omega arith)
+
+    go : (b : Bool) → without_place n (places_from (k + 1) q ss) ≡ places_from (k + 1) q ss → without_place n (cond b (k ∷ places_from (k + 1) q ss) (places_from (k + 1) q ss)) ≡ cond b (k ∷ places_from (k + 1) q ss) (places_from (k + 1) q ss)
+    go true ih = ap (λ b. cond (not b) (k ∷ without_place n (places_from (k + 1) q ss)) (without_place n (places_from (k + 1) q ss))) other ∙ ap (λ ps. k ∷ ps) ih
+    go false ih = ih
+
 -- a slot that is gone from here on has no place
 places_gone : (k q : ℕ) (ss : List Slot) (i : ℕ) (t : Slot) → i < length ss → is_gone t ≡ true → is_gone (slot_at ss i) ≡ false → places_from k q (slice_set ss i t) ≡ cond (eqb q (slot_at ss i).hash) (without_place (k + i) (places_from k q ss)) (places_from k q ss)
 places_gone k q [] i t l g n = absurd (omega arith)
@@ -177,9 +199,6 @@ pub agrees_counted : (f : ℕ → List ℕ) (r : Bool) (i : ℕ) (old ss new : L
 agrees_counted f r i old ss new is l n a e = λ q.
     a q ∙ ap (places_of q) is ∙ sym (places_counted q r i ss l n) ∙ ap (λ x. places_of q (with_count_at r i x)) (sym is) ∙ ap (places_of q) (sym e)
 
-pub agrees_unstored : (f g : ℕ → List ℕ) (id hash : ℕ) (literals : List ℕ) (old new : List Slot) → Agrees f old → ((q : ℕ) → g q ≡ f q) → new ≡ old ++ unstored id hash literals ∷ [] → Agrees g new
-agrees_unstored f g id hash literals old new a h e = λ q. h q ∙ a q ∙ sym (places_unstored q id hash literals old) ∙ ap (places_of q) (sym e)
-
 pub stored_last : (r : Bool) (id hash place : ℕ) (literals : List ℕ) (old new all : List Slot) → place ≡ length old → new ≡ old ++ unstored id hash literals ∷ [] → all ≡ with_count_at r place new → all ≡ old ++ stored_slot r id hash literals ∷ []
 stored_last r id hash place literals old new all p e s =
     s ∙ ap (λ n. with_count_at r n new) p ∙ ap (with_count_at r (length old)) e ∙ counted_last r id hash literals old
@@ -199,8 +218,9 @@ module _ (f : ℕ → List ℕ) (r : Bool) (i : ℕ) (old ss new : List Slot) (i
   pub agrees_left : is_gone (slot_at new i) ≡ false → Agrees f new
   agrees_left n = λ q. a q ∙ ap (places_of q) is ∙ sym (places_left q r i ss l c (sym gone_there ∙ n)) ∙ ap (places_of q) (sym after)
 
-  pub agrees_removed : (g : ℕ → List ℕ) (hash : ℕ) → hash ≡ (slot_at old i).hash → ((q : ℕ) → g q ≡ cond (eqb q hash) (without_place i (f q)) (f q)) → is_gone (slot_at new i) ≡ true → Agrees g new
-  agrees_removed g hash h w n = λ q.
-      w q ∙ ap (λ k. cond (eqb q k) (without_place i (f q)) (f q)) (h ∙ ap (λ x. (slot_at x i).hash) is)
-      ∙ ap (λ ps. cond (eqb q (slot_at ss i).hash) (without_place i ps) ps) (a q ∙ ap (places_of q) is)
-      ∙ sym (places_removed q r i ss l c (sym gone_there ∙ n)) ∙ ap (places_of q) (sym after)
+  pub agrees_removed : (g : ℕ → List ℕ) → ((q : ℕ) → g q ≡ without_place i (f q)) → is_gone (slot_at new i) ≡ true → Agrees g new
+  agrees_removed g w n = λ q. w q ∙ ap (without_place i) (a q ∙ ap (places_of q) is) ∙ go q (eqb q (slot_at ss i).hash) refl ∙ sym (places_removed q r i ss l c (sym gone_there ∙ n)) ∙ ap (places_of q) (sym after)
+    where
+      go : (q : ℕ) (b : Bool) → eqb q (slot_at ss i).hash ≡ b → without_place i (places_of q ss) ≡ cond (eqb q (slot_at ss i).hash) (without_place i (places_of q ss)) (places_of q ss)
+      go q true d = sym (ap (λ b. cond b (without_place i (places_of q ss)) (places_of q ss)) d)
+      go q false d = without_absent 0 q ss i l d i (let z : 0 + i ≡ i = omega arith in z) ∙ sym (ap (λ b. cond b (without_place i (places_of q ss)) (places_of q ss)) d)

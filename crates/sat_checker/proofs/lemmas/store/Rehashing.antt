@@ -2,7 +2,7 @@
 use Rattle.std.proofs.Common.{ℕ, zero, suc, ◌+◌, ◌<◌, ◌≤◌, ◌≡◌, Bool, true, false, not, ◌&&◌, cond, eqb, List, [], ◌∷◌, ◌++◌, length, take, drop, map, Option, refl, sym, ◌∙◌, ap, subst, arith, slice_set, ◌||◌}
 use Rattle.std.proofs.lemmas.Bool.{true≢false}
 use Rattle.std.specs.List.{list_any}
-use Rattle.std.proofs.lemmas.List.{drop_more}
+use Rattle.std.proofs.lemmas.List.{drop_more, append-nil}
 use Rattle.sat_checker.specs.inner.ModelTests.{are_all_true, irredundant_length}
 use Rattle.sat_checker.specs.LiteralSets.{is_among}
 use Rattle.sat_checker.specs.Stored.{Stored, hash_by, StoredClause}
@@ -14,7 +14,9 @@ use Rattle.sat_checker.specs.declared.hash.ClauseHasher.{ClauseHasher}
 use Rattle.sat_checker.specs.declared.store.Store.{Store}
 use Rattle.sat_checker.proofs.lemmas.store.Keeping.{length_same}
 use Rattle.sat_checker.specs.inner.SlotView.{Slot, slot_at, literals_at, is_gone, is_filed, live, live_length, places_of, with_hash_at, hashed_by, all_hashed_by, unstored}
-use Rattle.sat_checker.proofs.lemmas.store.Places.{places_push, append_none, eqb_comm}
+use Rattle.sat_checker.specs.inner.IndexView.{pairs_of}
+use Rattle.sat_checker.specs.declared.links.Pair.{Pair}
+use Rattle.sat_checker.proofs.lemmas.store.Filing.{pairs_push}
 
 module _ (names : ℕ → Option ℕ) (width : ℕ) where
   -- the slots up to a place are hashed anew, those from there on aren't yet
@@ -69,9 +71,9 @@ module _ (names : ℕ → Option ℕ) (width : ℕ) where
       ∙ ap (λ x. slice_set x i (record (slot_at ss i) { hash = hash_by names width (slot_at ss i).clause.literals })) e
       ∙ ap (λ t. slice_set (hashed_to i ss) i t) (sym (hashed_there (slot_at ss i) (gone_same ss now i false l e g))) ∙ set_next ss i l ∙ ap (λ k. hashed_to k ss) (sym m)
 
-  -- the places of the slots up to a place
-  abbrev pub filed_to : ℕ → List Slot → ℕ → List ℕ
-  filed_to i ss q = places_of q (all_hashed_by names width (take i ss))
+  -- the pairs of the slots up to a place
+  abbrev pub pairs_to : ℕ → List Slot → List Pair
+  pairs_to i ss = pairs_of (all_hashed_by names width (take i ss))
 
   take_next : (ss : List Slot) (i : ℕ) → i < length ss → all_hashed_by names width (take (suc i) ss) ≡ all_hashed_by names width (take i ss) ++ hashed_by names width (slot_at ss i) ∷ []
   take_next [] i l = absurd (omega arith)
@@ -83,32 +85,28 @@ module _ (names : ℕ → Option ℕ) (width : ℕ) where
   taken_length (s ∷ ss) zero l = refl
   taken_length (s ∷ ss) (suc i) l = ap suc (taken_length ss i (omega arith))
 
-  filed_one : (ss : List Slot) (i q : ℕ) → i < length ss → filed_to (i + 1) ss q ≡ filed_to i ss q ++ cond (is_filed q (hashed_by names width (slot_at ss i))) (i ∷ []) []
-  filed_one ss i q l =
+  pairs_one : (ss : List Slot) (i : ℕ) → i < length ss → pairs_to (i + 1) ss ≡ pairs_to i ss ++ cond (is_gone (hashed_by names width (slot_at ss i))) [] ((record { hash = (hashed_by names width (slot_at ss i)).hash; place = i }) ∷ [])
+  pairs_one ss i l =
       let m : i + 1 ≡ suc i = omega arith in
       let z : 0 + length (all_hashed_by names width (take i ss)) ≡ i = let k = taken_length ss i l in omega arith in
-      ap (λ k. filed_to k ss q) m ∙ ap (places_of q) (take_next ss i l) ∙ places_push 0 q (all_hashed_by names width (take i ss)) (hashed_by names width (slot_at ss i))
-      ∙ ap (λ k. filed_to i ss q ++ cond (is_filed q (hashed_by names width (slot_at ss i))) (k ∷ []) []) z
+      ap (λ k. pairs_to k ss) m ∙ ap pairs_of (take_next ss i l) ∙ pairs_push 0 (all_hashed_by names width (take i ss)) (hashed_by names width (slot_at ss i))
+      ∙ ap (λ k. pairs_to i ss ++ cond (is_gone (hashed_by names width (slot_at ss i))) [] ((record { hash = (hashed_by names width (slot_at ss i)).hash; place = k }) ∷ [])) z
 
-  pub filed_gone : (f : ℕ → List ℕ) (ss : List Slot) (i q : ℕ) → i < length ss → is_gone (slot_at ss i) ≡ true → f q ≡ filed_to i ss q → f q ≡ filed_to (i + 1) ss q
-  filed_gone f ss i q l g e =
-      e ∙ sym (filed_one ss i q l ∙ ap (λ s. filed_to i ss q ++ cond (is_filed q s) (i ∷ []) []) (hashed_gone (slot_at ss i) g)
-      ∙ ap (λ b. filed_to i ss q ++ cond (not b && eqb (slot_at ss i).hash q) (i ∷ []) []) g ∙ append_none (filed_to i ss q))
+  pub pairs_gone : (ps : List Pair) (ss : List Slot) (i : ℕ) → i < length ss → is_gone (slot_at ss i) ≡ true → ps ≡ pairs_to i ss → ps ≡ pairs_to (i + 1) ss
+  pairs_gone ps ss i l g e =
+      e ∙ sym (pairs_one ss i l ∙ ap (λ (s : Slot). pairs_to i ss ++ cond (is_gone s) [] ((record { hash = s.hash; place = i }) ∷ [])) (hashed_gone (slot_at ss i) g)
+      ∙ ap (λ b. pairs_to i ss ++ cond b [] ((record { hash = (slot_at ss i).hash; place = i }) ∷ [])) g ∙ append-nil (pairs_to i ss))
 
-  pub filed_there : (f g : ℕ → List ℕ) (ss : List Slot) (i hash q : ℕ) → i < length ss → is_gone (slot_at ss i) ≡ false → hash ≡ hash_by names width (slot_at ss i).clause.literals → f q ≡ filed_to i ss q
-      → g q ≡ cond (eqb q hash) (f q ++ i ∷ []) (f q) → g q ≡ filed_to (i + 1) ss q
-  filed_there f g ss i hash q l n h e w =
-      w ∙ ap (λ ps. cond (eqb q hash) (ps ++ i ∷ []) ps) e
-      ∙ sym (filed_one ss i q l ∙ ap (λ s. filed_to i ss q ++ cond (is_filed q s) (i ∷ []) []) (hashed_there (slot_at ss i) n)
-      ∙ ap (λ b. filed_to i ss q ++ cond (not b && eqb (hash_by names width (slot_at ss i).clause.literals) q) (i ∷ []) []) n
-      ∙ ap (λ k. filed_to i ss q ++ cond (eqb k q) (i ∷ []) []) (sym h) ∙ ap (λ b. filed_to i ss q ++ cond b (i ∷ []) []) (eqb_comm hash q) ∙ go (eqb q hash))
-    where
-      go : (b : Bool) → filed_to i ss q ++ cond b (i ∷ []) [] ≡ cond b (filed_to i ss q ++ i ∷ []) (filed_to i ss q)
-      go true = refl
-      go false = append_none (filed_to i ss q)
+  pub pairs_there : (ps new : List Pair) (ss : List Slot) (i hash : ℕ) → i < length ss → is_gone (slot_at ss i) ≡ false → hash ≡ hash_by names width (slot_at ss i).clause.literals → ps ≡ pairs_to i ss
+      → new ≡ ps ++ (record { hash = hash; place = i }) ∷ [] → new ≡ pairs_to (i + 1) ss
+  pairs_there ps new ss i hash l n h e w =
+      w ∙ ap (λ qs. qs ++ (record { hash = hash; place = i }) ∷ []) e
+      ∙ sym (pairs_one ss i l ∙ ap (λ (s : Slot). pairs_to i ss ++ cond (is_gone s) [] ((record { hash = s.hash; place = i }) ∷ [])) (hashed_there (slot_at ss i) n)
+      ∙ ap (λ b. pairs_to i ss ++ cond b [] ((record { hash = hash_by names width (slot_at ss i).clause.literals; place = i }) ∷ [])) n
+      ∙ ap (λ k. pairs_to i ss ++ (record { hash = k; place = i }) ∷ []) (sym h))
 
-  pub filed_all : (ss : List Slot) (i q : ℕ) → length ss ≤ i → filed_to i ss q ≡ places_of q (all_hashed_by names width ss)
-  filed_all ss i q l = ap (λ ts. places_of q (all_hashed_by names width ts)) (take_whole ss i l)
+  pub pairs_all : (ss : List Slot) (i : ℕ) → length ss ≤ i → pairs_to i ss ≡ pairs_of (all_hashed_by names width ss)
+  pairs_all ss i l = ap (λ ts. pairs_of (all_hashed_by names width ts)) (take_whole ss i l)
     where
       take_whole : (ts : List Slot) (j : ℕ) → length ts ≤ j → take j ts ≡ ts
       take_whole [] zero k = refl
@@ -200,7 +198,7 @@ left_fewer ss i l =
 pub not_gone : (s : Slot) → eqb s.clause.irredundant 0 ≡ false → is_gone s ≡ false
 not_gone s n = ap (λ b. b && eqb s.clause.redundant 0) n
 
-pub ruleset filing = (filed_all, hashed_all)
+pub ruleset filing = (pairs_all, hashed_all)
 
 -- what is stored, once all is filed anew
 live_hashed : (names : ℕ → Option ℕ) (width : ℕ) (ss : List Slot) → live (all_hashed_by names width ss) ≡ live ss

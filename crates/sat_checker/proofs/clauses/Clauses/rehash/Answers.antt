@@ -1,7 +1,7 @@
-use Rattle.std.proofs.Common.{ℕ, ◌≡◌, ◌∙◌, sym, refl}
+use Rattle.std.proofs.Common.{◌≡◌, ◌∙◌, sym, refl}
 use Rattle.sat_checker.specs.HasherView.{solver_name_of, width_of}
-use Rattle.sat_checker.specs.inner.IndexView.{places_in}
-use Rattle.sat_checker.specs.inner.SlotView.{places_of, all_hashed_by}
+use Rattle.sat_checker.specs.inner.IndexView.{Files}
+use Rattle.sat_checker.specs.inner.SlotView.{all_hashed_by}
 use Rattle.sat_checker.proofs.lemmas.store.Kept.{kept_hashed, where_ok}
 use Rattle.sat_checker.proofs.clauses.Clauses.rehash.Goals as goal
 
@@ -10,4 +10,4 @@ invariant_of-self-else-is_err c =
     let went = sym c.is_err.ensures.value ∙ c.if-is_err.false in
     kept_hashed (solver_name_of c.args.hasher.now) (width_of c.args.hasher.now) c.self.inside.slots c.self.inside.slots c.file_all.new.slots c.self.inside.index c.file_all.new.index c.self.inside.occurrences refl c.self.invariant
     (where_ok c.file_all.result (c.file_all.new.slots ≡ all_hashed_by (solver_name_of c.args.hasher.now) (width_of c.args.hasher.now) c.self.inside.slots) went c.file_all.ensures.hashed)
-    (where_ok c.file_all.result ((q : ℕ) → places_in c.file_all.new.index q ≡ places_of q (all_hashed_by (solver_name_of c.args.hasher.now) (width_of c.args.hasher.now) c.self.inside.slots)) went c.file_all.ensures.filed)
+    (where_ok c.file_all.result (Files c.file_all.new.index (all_hashed_by (solver_name_of c.args.hasher.now) (width_of c.args.hasher.now) c.self.inside.slots)) went c.file_all.ensures.filed)
