@@ -4,15 +4,8 @@ pub mod Matches
 pub mod LeftToMatch
 pub mod VerdictPromises
 pub mod CertificatePlaces
-pub mod NamesInOrder
-pub mod Decides
 pub mod ReadSteps
 pub mod Streams
 pub mod Views
-pub mod ConfirmedCommands
 pub mod SpeltLiterals
-pub mod Marks
-pub mod CertificateSteps
 pub mod Stepping
-pub mod Dues
-pub mod NextNames

@@ -1,90 +1,42 @@
 //! Confirms that script, answers and certificate belong together.
-ghost use Rattle.std.specs.Prelude.{◌≡◌, ◌+◌, ◌-◌, ◌^◌, ◌≤◌, ◌<◌, ◌⊎◌, length, IfOk, IsErrOf};
+ghost use Rattle.std.specs.Prelude.{◌≡◌, ◌+◌, ◌≤◌, ◌⊎◌, IfOk, IsErrOf};
 ghost use Rattle.sat_base.specs.device.Device.{most_reads, ReadFails};
-ghost use Rattle.sat_base.specs.steps.StepReading.{reader_name, reader_source};
-ghost use Rattle.certify.specs.confirm.ConfirmedCommands.{ConfirmsAll, left_of};
-ghost use Rattle.certify.specs.confirm.Decides.{DecidesFrom, said_of};
-ghost use Rattle.certify.specs.confirm.Streams.{Confirms, GoesOn, stream};
 ghost use Rattle.certify.specs.confirm.VerdictPromises.{HasCounterEnd, IsExact, IsSound, ReadsKept, TakesLooks, gave};
+ghost use Rattle.certify.specs.matching.Whole.{said_by};
 
-pub(crate) mod answers;
-pub(crate) mod certificate;
-pub(crate) mod expected;
-pub(crate) mod marked;
-pub(crate) mod named;
-pub(crate) mod session;
-pub(crate) mod sets;
-pub(crate) mod spell;
+pub(crate) mod feeding;
 pub(crate) mod stop;
 
-use crate::script::{Script, read_script};
+use crate::matching::halt::Halt;
+use crate::matching::session::Session;
+use crate::matching::whole::Confirmation;
+use crate::reading::stream::CommandStream;
 use crate::verdict::{ConfirmFault, Verdict};
-use sat_base::{CountedRead, ReadError, StepReader, read_whole};
+use sat_base::{CountedRead, StepReader};
 use sat_checker::Looks;
-use session::Confirmation;
 use std::alloc::Global;
 use stop::Stop;
 
-/// Confirms the commands of a script, one after another, and then its end.
-fn confirm_all<R: CountedRead>(
-    session: &mut Confirmation<'_>,
-    script: &Script,
-    steps: &mut StepReader<'_, R>,
-) -> Result<(), Stop>
-    requires goes_on { GoesOn R.seen steps.old }
-    requires few { length script.now.0 < 2 ^ 64 - 1 }
-    ensures same { reader_name steps.new ≡ reader_name steps.old }
-    ensures bound { (reader_source R.seen steps.new).reads ≤ most_reads }
-    ensures confirms { Confirms result (stream R.seen steps.old session.old.certificate) (stream R.seen steps.new session.new.certificate)
-        (ConfirmsAll script.now (left_of session.old)) }
-{
-    for index in 0..script.len() {
-        let command = script.command(index);
-        session.confirm_command(steps, index as u64 + 1, command)?;
-    }
-    session.confirm_end(steps, script.len() as u64 + 1, script.is_malformed())
-}
-
 /// What is said where a confirmation ended so, behind so many asks that were confirmed wholly.
-fn conclude(ended: Result<(), Stop>, asks: u64) -> Result<Verdict, ConfirmFault>
-    ensures { result ≡ said_of ended asks }
+fn conclude(ended: Result<(), Halt>, asks: u64) -> Result<Verdict, ConfirmFault>
+    ensures { result ≡ said_by ended asks }
 {
     match ended {
         Ok(()) => Ok(Verdict::Yes),
-        Err(Stop::No(why)) => Ok(Verdict::No {
+        Err(Halt::Stop(Stop::No(why))) => Ok(Verdict::No {
             ask: asks.saturating_add(1),
             why,
         }),
-        Err(Stop::Read) => Err(ConfirmFault::CertificateRead),
-        Err(Stop::OutOfMemory) => Err(ConfirmFault::OutOfMemory),
-        Err(Stop::CounterEnd) => Err(ConfirmFault::CounterEnd),
+        Err(Halt::ScriptRead) => Err(ConfirmFault::ScriptRead),
+        Err(Halt::AnswersRead) => Err(ConfirmFault::AnswersRead),
+        Err(Halt::Stop(Stop::Read)) => Err(ConfirmFault::CertificateRead),
+        Err(Halt::Stop(Stop::OutOfMemory)) => Err(ConfirmFault::OutOfMemory),
+        Err(Halt::TooMany | Halt::Stop(Stop::CounterEnd)) => Err(ConfirmFault::CounterEnd),
     }
 }
 
-/// Confirms a script against the bytes of its answers and a certificate's reader.
-fn decide<R: CountedRead>(
-    alloc: Global,
-    script: &Script,
-    answers: &[u8],
-    certificate: &mut R,
-    looks: &mut Looks,
-) -> Result<Verdict, ConfirmFault>
-    requires { length script.now.0 < 2 ^ 64 - 1 }
-    ensures decides { DecidesFrom script.now answers.now (R.seen certificate.old) (R.seen certificate.new) result }
-    ensures reads { (R.seen certificate.new).calls ≤ (R.seen certificate.old).calls + most_reads }
-    ensures looks { TakesLooks (R.seen certificate.old) (R.seen certificate.new) looks.old looks.new }
-{
-    let mut session = Confirmation::new(alloc, answers);
-    let mut steps = StepReader::new(alloc, certificate);
-    let ended = confirm_all(&mut session, script, &mut steps);
-    looks.add(&session.certificate.checker);
-    let asks = session.asks;
-    drop(session);
-    conclude(ended, asks)
-}
-
-/// Compares a script, answers and a certificate, and says yes exactly where they match. Script and answers are read to their ends
-/// first; of the certificate a step is read where the next decision needs it. The looks of the checker that its steps are fed to are
+/// Compares a script, answers and a certificate, and says yes exactly where they match. Each is read in pieces of at most 4,096 bytes, no
+/// further than the next decision needs, and none is held whole. The looks of the checker that the certificate's steps are fed to are
 /// added to `looks`, whatever is answered.
 pub fn confirm<S: CountedRead, A: CountedRead, C: CountedRead>(
     alloc: Global,
@@ -116,18 +68,14 @@ pub fn confirm<S: CountedRead, A: CountedRead, C: CountedRead>(
     ensures answers_reads { (A.seen answers.new).calls ≤ (A.seen answers.old).calls + most_reads }
     ensures certificate_reads { (C.seen certificate.new).calls ≤ (C.seen certificate.old).calls + most_reads }
 {
-    let script = match read_script(alloc, script) {
-        Ok(script) => script,
-        Err(ReadError::Failed) => return Err(ConfirmFault::ScriptRead),
-        Err(ReadError::OutOfMemory) => return Err(ConfirmFault::OutOfMemory),
+    let mut confirmation = Confirmation {
+        script: CommandStream::new(alloc),
+        session: Session::new(alloc),
     };
-    let answers = match read_whole(alloc, answers) {
-        Ok(bytes) => bytes,
-        Err(ReadError::Failed) => return Err(ConfirmFault::AnswersRead),
-        Err(ReadError::OutOfMemory) => return Err(ConfirmFault::OutOfMemory),
-    };
-    if script.len() as u64 == u64::MAX {
-        return Err(ConfirmFault::CounterEnd);
-    }
-    decide(alloc, &script, &answers, certificate, looks)
+    let mut steps = StepReader::new(alloc, certificate);
+    let ended = confirmation.confirm_all(script, answers, &mut steps);
+    looks.add(&confirmation.session.matching.certificate.checker);
+    let asks = confirmation.session.asks;
+    drop(confirmation);
+    conclude(ended, asks)
 }

@@ -2,4 +2,4 @@ pub mod LinesByKind
 pub mod NamesAndWords
 pub mod LiteralsOfLines
 pub mod LineOrder
-pub mod UnreadAnswers
+pub mod AnswerLines

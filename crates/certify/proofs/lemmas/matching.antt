@@ -14,3 +14,4 @@ pub mod Joining
 pub mod Lines
 pub mod Through
 pub mod SessionMet
+pub mod Decided

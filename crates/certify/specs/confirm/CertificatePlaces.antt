@@ -1,8 +1,5 @@
 -- What confirming knows as it goes along a certificate.
-use Rattle.std.specs.Prelude.{ℕ, zero, suc, ◌+◌, ◌-◌, ◌≤◌, ◌≡◌, Option, None, List, ◌∷◌, ◌++◌, map, slice_get}
-use Rattle.std.specs.List.{AllByRecursion}
-use Rattle.sat_base.specs.values.Literals.{largest}
-use Rattle.sat_base.specs.script.Judge.{Judge, Sampled, names_from}
+use Rattle.std.specs.Prelude.{ℕ, ◌+◌, ◌-◌, List, ◌∷◌, ◌++◌}
 use Rattle.sat_base.specs.steps.Steps.{Step}
 use Rattle.sat_checker.specs.Accepts.{Accepts, ready_after}
 use Rattle.sat_checker.specs.matching.Expected.{Expected, Fits}
@@ -35,15 +32,3 @@ pub record Stops (earlier : List Step) (certificate : List ℕ) : Type 0 where
 pub record Offers (earlier : List Step) (certificate : List ℕ) (later : List Step) (step : Step) (rest : List ℕ) : Type 0 where
   pub on : (e : Expected) (es : List Expected) → CanMeet earlier (e ∷ es) certificate → Fits (the_checking.knows later) later e step × Accepts (ready_after later) step × CanMeet (step ∷ later) es rest
   pub back : (e : Expected) (es : List Expected) → Fits (the_checking.knows later) later e step → Accepts (ready_after later) step → CanMeet (step ∷ later) es rest → CanMeet earlier (e ∷ es) certificate
-
--- the variable of a name, by a list of the names' variables that begins with name 1
-abbrev pub variable_in : List ℕ → ℕ → Option ℕ
-variable_in variables zero = None
-variable_in variables (suc index) = slice_get variables index
-
--- nothing was hidden, and no mode was set: the names in use are all up to the first never used
-pub record IsPlain (j : Judge) : Type 0 where
-  pub begun : 1 ≤ j.first_unused
-  pub limit : j.first_unused ≤ largest + 1
-  pub used : map (λ n. n.name) j.in_use ≡ names_from (j.first_unused - 1) 1
-  pub sampled : AllByRecursion (λ m. m ≡ Sampled) j.modes

@@ -1,5 +1,5 @@
 -- A certificate that is read step by step: what confirming makes of it, whatever would follow.
-use Rattle.std.specs.Prelude.{◌≡◌, ◌+◌, ◌-◌, ◌*◌, ◌≤◌, ℕ, Bool, true, false, List, [], ◌++◌, drop, length, Option, Some, None, Result, Ok, Err}
+use Rattle.std.specs.Prelude.{◌≡◌, ◌+◌, ◌-◌, ◌*◌, ◌≤◌, ℕ, Bool, true, false, List, [], ◌++◌, drop, length, Result, Ok, Err}
 use Rattle.std.specs.Io.KnownBytes.{IsAtEnd}
 use Rattle.sat_base.specs.declared.steps.error.StepError.{StepError}
 use Rattle.sat_base.specs.declared.steps.error.StepError.TheVariants as errors
@@ -11,9 +11,7 @@ use Rattle.sat_base.specs.steps.StepReading.{reader_source, has_failed, step_in}
 use Rattle.sat_base.specs.steps.Steps.{Step}
 use Rattle.certify.specs.confirm.Views.{View}
 use Rattle.certify.specs.confirm.Walks.{walks_if, Tries, RunsOut}
-use Rattle.sat_checker.specs.CheckerView.{kernel_of}
 use Rattle.sat_checker.specs.declared.kernel.Kernel.{Kernel}
-use Rattle.certify.specs.declared.confirm.certificate.Certificate.{Certificate}
 use Rattle.certify.specs.declared.confirm.stop.Stop.{Stop}
 use Rattle.certify.specs.declared.confirm.stop.Stop.TheVariants as stop
 use Rattle.certify.specs.declared.verdict.Why.{Why}
@@ -23,14 +21,10 @@ use Rattle.certify.specs.declared.verdict.Why.TheVariants.{CertificateEnds, Step
 pub record Stream : Type 0 where
   pub source : Source
   pub checker : Kernel
-  pub variables : List ℕ
   pub step : Step
 
-abbrev pub stream_of : {R : Type 0} → (R → Reader) → StepReader R Buffers → Kernel → List ℕ → Stream
-stream_of seen r checker variables = record { source = reader_source seen r; checker = checker; variables = variables; step = step_in r }
-
-abbrev pub stream : {R : Type 0} → (R → Reader) → StepReader R Buffers → Certificate → Stream
-stream seen r c = stream_of seen r (kernel_of c.checker) c.variables
+abbrev pub stream_of : {R : Type 0} → (R → Reader) → StepReader R Buffers → Kernel → Stream
+stream_of seen r checker = record { source = reader_source seen r; checker = checker; step = step_in r }
 
 -- a reader of steps that goes on: it hasn't failed, and isn't at its end
 pub record GoesOn {R : Type 0} (seen : R → Reader) (r : StepReader R Buffers) : Type 0 where
@@ -48,7 +42,7 @@ rest_in total s = s.waiting ++ drop (length s.reader.given) total
 
 -- what confirming sees then
 abbrev pub seen_in : List ℕ → Stream → View
-seen_in total s = record { checker = s.checker; variables = s.variables; step = s.step; rest = rest_in total s.source }
+seen_in total s = record { checker = s.checker; step = s.step; rest = rest_in total s.source }
 
 -- these can be all bytes that a reader will have given: no more where it is at its end
 pub record Covers (s : Source) (total : List ℕ) : Type 0 where
@@ -88,11 +82,6 @@ Reading fed (Err e) old new P = Failing e old new (λ a b why. P a b (Err why))
 -- where the checker is fed each step that is read
 abbrev pub Confirms : {A : Type 0} → Result A Stop → Stream → Stream → (View → View → Result A Why → Type 0) → Type 0
 Confirms r old new P = Reading (λ x. true) r old new P
-
--- why not, if so
-abbrev pub why_of : Result (Unit {0}) Why → Option Why
-why_of (Ok x) = None
-why_of (Err why) = Some why
 
 -- what a call answers that reads nothing: P says what it makes of what it was given
 abbrev pub Says : {A : Type 0} → Result A Stop → (Result A Why → Type 0) → Type 0

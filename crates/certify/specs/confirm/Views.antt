@@ -1,4 +1,4 @@
--- What confirming sees of a certificate and of the answers.
+-- What confirming sees of a certificate.
 use Rattle.std.specs.Prelude.{ℕ, List}
 use Rattle.sat_base.specs.steps.Steps.{Step}
 use Rattle.certify.specs.confirm.ReadSteps.{Place}
@@ -7,18 +7,9 @@ use Rattle.sat_checker.specs.declared.kernel.Kernel.{Kernel}
 -- a certificate as far as its steps were accepted
 pub record View : Type 0 where
   pub checker : Kernel  -- what the steps are fed to
-  pub variables : List ℕ  -- the variable of each name, from name 1 on
   pub step : Step  -- the step that was read last
   pub rest : List ℕ  -- the bytes still to come
 
 -- where it was read to
 abbrev pub place : View → Place
 place v = record { step = v.step; rest = v.rest }
-
--- what is left of a certificate and of the answers
-pub record SessionView : Type 0 where
-  pub certificate : View
-  pub answers : List ℕ
-
-abbrev pub session_at : List ℕ → View → SessionView
-session_at answers v = record { certificate = v; answers = answers }

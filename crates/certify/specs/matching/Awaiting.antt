@@ -1,6 +1,6 @@
 -- What a certificate's steps bring, up to the next ordered one, and what becomes of what is expected of that. The names are beside what
--- confirming sees, whose own list of variables stays empty.
-use Rattle.std.specs.Prelude.{ℕ, ◌≡◌, true, false, Option, Some, None, Result, Ok, Err, List, [], ◌∷◌}
+-- confirming sees.
+use Rattle.std.specs.Prelude.{◌≡◌, true, false, Option, Some, None, Result, Ok, Err, List, [], ◌∷◌}
 use Rattle.sat_base.specs.script.Script.{Literal}
 use Rattle.sat_base.specs.steps.Steps.{Step}
 use Rattle.sat_checker.specs.Accepts.{ready_after}
@@ -11,8 +11,8 @@ use Rattle.certify.specs.confirm.Feeding.{HasTaken}
 use Rattle.certify.specs.confirm.Views.{View}
 use Rattle.certify.specs.matching.Comparing.{Allows, Due, Excuses}
 use Rattle.certify.specs.matching.Following.{StandFor}
-use Rattle.certify.specs.declared.confirm.certificate.Awaited.{Awaited}
-use Rattle.certify.specs.declared.confirm.certificate.Awaited.TheVariants as awaited
+use Rattle.certify.specs.declared.matching.awaiting.Awaited.{Awaited}
+use Rattle.certify.specs.declared.matching.awaiting.Awaited.TheVariants as awaited
 use Rattle.certify.specs.declared.confirm.stop.Stop.{Stop}
 use Rattle.certify.specs.declared.confirm.stop.Stop.TheVariants as stop
 use Rattle.certify.specs.declared.matching.named.NamedVars.{NamedVars}

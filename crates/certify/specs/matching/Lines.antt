@@ -13,7 +13,10 @@ use Rattle.certify.specs.answers.AnswerForms.{IsInForm, named_literals}
 use Rattle.certify.specs.answers.AnswerReading.{first_line, second_line, outcome_of}
 use Rattle.certify.specs.reading.Ahead.{Failed, Kept, source_in, waiting}
 use Rattle.certify.specs.declared.ahead.Ahead.{Ahead}
+use Rattle.certify.specs.declared.answers.read.AnswerFault.{AnswerFault}
+use Rattle.certify.specs.declared.answers.read.AnswerFault.TheVariants as unread
 use Rattle.certify.specs.declared.answers.read.AnswerKind.{AnswerKind}
+use Rattle.certify.specs.declared.confirm.stop.Stop.{Stop}
 use Rattle.certify.specs.declared.confirm.stop.Stop.TheVariants as stop
 use Rattle.certify.specs.declared.judge.Refusal.{Refusal as CodeRefusal}
 use Rattle.certify.specs.declared.judge.Refusal.TheVariants as code
@@ -22,6 +25,7 @@ use Rattle.certify.specs.declared.matching.answers.Reply.{Reply}
 use Rattle.certify.specs.declared.matching.halt.Halt.{Halt}
 use Rattle.certify.specs.declared.matching.halt.Halt.TheVariants as halt
 use Rattle.certify.specs.declared.verdict.Why.{Why}
+use Rattle.certify.specs.declared.verdict.Why.TheVariants.{AnswerMissing, AnswerText}
 
 -- no LF is among the bytes
 abbrev pub HasNoLf : List ℕ → Type 0
@@ -76,6 +80,17 @@ answers_source seen answers s = source_in seen answers s.lines.ahead
 abbrev pub refusal_in : CodeRefusal → Refusal
 refusal_in code.Limit = PastLimit
 refusal_in (code.Witness v) = WitnessName (v + 1)
+
+-- the line was taken, or isn't there
+abbrev pub TakesLine : List ℕ → List ℕ → List ℕ → Result (Unit {0}) Why → Type 0
+TakesLine old new line (Ok x) = old ≡ line ++ new
+TakesLine old new line (Err why) = (tail : List ℕ) → old ≡ line ++ tail → ⊥
+
+-- what a call answers where no answer was read
+abbrev pub stop_after : AnswerFault → Stop
+stop_after unread.Missing = stop.No AnswerMissing
+stop_after unread.Text = stop.No AnswerText
+stop_after unread.OutOfMemory = stop.OutOfMemory
 
 -- the first line of an answer was read, or no answer stands there
 abbrev pub ReadsFirst : List ℕ → List ℕ → Result AnswerKind Why → Type 0

@@ -21,7 +21,7 @@ answers_in seen answers s = answers_source seen answers s.answers
 
 -- the certificate, and what was made of it
 abbrev pub stream_in : {C : Type 0} → (C → Reader) → StepReader C Buffers → Matching → Stream
-stream_in seen steps m = stream_of seen steps (kernel_of m.certificate.checker) []
+stream_in seen steps m = stream_of seen steps (kernel_of m.certificate.checker)
 
 -- A call that confirms: the certificate's reader stays the same one and goes on where the call does, and P says what it makes of
 -- answers and certificate. M is so where the commands are too many.

@@ -5,7 +5,7 @@ ghost use Rattle.sat_base.specs.script.Judge.{WitnessName};
 ghost use Rattle.certify.specs.answers.Answers.{malformed_line, refused_line};
 ghost use Rattle.certify.specs.answers.AnswerForms.{named_literals};
 ghost use Rattle.certify.specs.answers.AnswerReading.{outcome_of};
-ghost use Rattle.certify.specs.confirm.ConfirmedCommands.{TakesLine, stop_after};
+ghost use Rattle.certify.specs.matching.Lines.{TakesLine, stop_after};
 ghost use Rattle.certify.specs.matching.Halting.{Replies, SaysSo};
 ghost use Rattle.certify.specs.matching.Lines.{IsLine, IsReply, NextLine, ReadsFirst, ReadsSecond, answers_source, refusal_in};
 ghost use Rattle.certify.specs.reading.Ahead.{IsOpen, waiting};
@@ -126,7 +126,8 @@ impl Answers {
 
     /// Reads the next line.
     fn next_line<A: CountedRead>(&mut self, answers: &mut A) -> Result<(), Halt>
-        ensures line { NextLine result (answers_source A.seen answers.old self.old) (answers_source A.seen answers.new self.new) self.new.lines.line.items }
+        ensures line { NextLine result (answers_source A.seen answers.old self.old) (answers_source A.seen answers.new self.new)
+            self.new.lines.line.items }
         ensures due { self.new.due.items ≡ self.old.due.items }
     {
         match self.lines.next(answers) {

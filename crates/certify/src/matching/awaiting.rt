@@ -8,10 +8,19 @@ ghost use Rattle.certify.specs.confirm.Streams.{GoesOn, Reading, bytes_left, str
 ghost use Rattle.certify.specs.declared.matching.named.NamedVars.{NamedVars};
 ghost use Rattle.certify.specs.matching.Awaiting.{AwaitsNext, StepsOnce};
 
-use crate::confirm::certificate::{Awaited, feed, is_ordered, read_next, settle};
+use crate::confirm::feeding::{feed, is_ordered, read_next, settle};
 use crate::confirm::stop::Stop;
 use sat_base::{CountedRead, StepReader};
 use sat_checker::Checker;
+
+/// What came where an ordered step is awaited.
+#[derive(Clone, Copy)]
+pub(crate) enum Awaited {
+    /// The step that was read, which is not yet fed.
+    Step,
+    /// `unsat` is recorded, and nothing more is read.
+    Cut,
+}
 
 /// One more step, unless `unsat` is recorded. `None`: it was another than an ordered one, and is fed.
 fn advance<R: CountedRead>(
@@ -24,8 +33,8 @@ fn advance<R: CountedRead>(
     ensures goes_on { OnOk result (GoesOn R.seen steps.new) }
     ensures takes { IfOk result
         (λ awaited. IfNone awaited (bytes_left (reader_source R.seen steps.new) < bytes_left (reader_source R.seen steps.old))) }
-    ensures confirms { (names : NamedVars) → Reading is_fed_so_far result (stream_of R.seen steps.old (kernel_of checker.old) [])
-        (stream_of R.seen steps.new (kernel_of checker.new) []) (StepsOnce names) }
+    ensures confirms { (names : NamedVars) → Reading is_fed_so_far result (stream_of R.seen steps.old (kernel_of checker.old))
+        (stream_of R.seen steps.new (kernel_of checker.new)) (StepsOnce names) }
 {
     if checker.unsat() {
         return Ok(Some(Awaited::Cut));
@@ -48,8 +57,8 @@ fn find_ordered<R: CountedRead>(
     ensures same { reader_name steps.new ≡ reader_name steps.old }
     ensures bound { (reader_source R.seen steps.new).reads ≤ most_reads }
     ensures goes_on { OnOk result (GoesOn R.seen steps.new) }
-    ensures confirms { (names : NamedVars) → Reading is_fed result (stream_of R.seen steps.old (kernel_of checker.old) [])
-        (stream_of R.seen steps.new (kernel_of checker.new) []) (AwaitsNext names) }
+    ensures confirms { (names : NamedVars) → Reading is_fed result (stream_of R.seen steps.old (kernel_of checker.old))
+        (stream_of R.seen steps.new (kernel_of checker.new)) (AwaitsNext names) }
 {
     loop {
         if let Some(awaited) = advance(checker, steps)? {
@@ -67,8 +76,8 @@ pub(crate) fn await_ordered<R: CountedRead>(
     ensures same { reader_name steps.new ≡ reader_name steps.old }
     ensures bound { (reader_source R.seen steps.new).reads ≤ most_reads }
     ensures goes_on { OnOk result (GoesOn R.seen steps.new) }
-    ensures confirms { (names : NamedVars) → Reading is_fed result (stream_of R.seen steps.old (kernel_of checker.old) [])
-        (stream_of R.seen steps.new (kernel_of checker.new) []) (AwaitsNext names) }
+    ensures confirms { (names : NamedVars) → Reading is_fed result (stream_of R.seen steps.old (kernel_of checker.old))
+        (stream_of R.seen steps.new (kernel_of checker.new)) (AwaitsNext names) }
 {
     let awaited = find_ordered(checker, steps)?;
     settle(checker)?;

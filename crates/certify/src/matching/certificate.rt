@@ -8,9 +8,9 @@ ghost use Rattle.certify.specs.confirm.Streams.{Confirms, GoesOn, stream_of};
 ghost use Rattle.certify.specs.matching.Awaiting.{MeetsDue, SaysUnmet};
 ghost use Rattle.certify.specs.matching.Comparing.{due_of};
 
-use crate::confirm::certificate::{Awaited, feed};
+use crate::confirm::feeding::feed;
 use crate::confirm::stop::Stop;
-use crate::matching::awaiting::await_ordered;
+use crate::matching::awaiting::{Awaited, await_ordered};
 use crate::matching::comparing::Room;
 use crate::matching::expected::{Expected, Known, excuse, fits};
 use crate::matching::following::follow;
@@ -62,8 +62,8 @@ impl Certificate {
         ensures same { reader_name steps.new ≡ reader_name steps.old }
         ensures bound { (reader_source R.seen steps.new).reads ≤ most_reads }
         ensures goes_on { OnOk result (GoesOn R.seen steps.new) }
-        ensures confirms { Confirms result (stream_of R.seen steps.old (kernel_of self.old.checker) [])
-            (stream_of R.seen steps.new (kernel_of self.new.checker) []) (MeetsDue (due_of expected.now) self.old.names self.new.names) }
+        ensures confirms { Confirms result (stream_of R.seen steps.old (kernel_of self.old.checker))
+            (stream_of R.seen steps.new (kernel_of self.new.checker)) (MeetsDue (due_of expected.now) self.old.names self.new.names) }
     {
         match await_ordered(&mut self.checker, steps)? {
             Awaited::Cut => return excuse_unmet(expected),

@@ -57,7 +57,7 @@ fn are_same(xs: &[Lit], ys: &[Lit], sets: &mut Sets) -> Result<bool, AllocError>
     Ok(is_subset(&sets.second, &sets.first, false))
 }
 
-/// Whether the first list's literals are all among the second's.
+/// Whether all of the literals stand in the line.
 pub(crate) fn has_all(line: &[Lit], literals: &[Lit], room: &mut Room) -> Result<bool, AllocError>
     ensures { IfOk result (λ yes. Tells yes (AllAmong literals.now line.now)) }
 {

@@ -38,8 +38,8 @@ fn expect_new<R: CountedRead>(
     ensures same { reader_name steps.new ≡ reader_name steps.old }
     ensures bound { (reader_source R.seen steps.new).reads ≤ most_reads }
     ensures goes_on { OnOk result (GoesOn R.seen steps.new) }
-    ensures confirms { Confirms result (stream_of R.seen steps.old (kernel_of certificate.old.checker) [])
-        (stream_of R.seen steps.new (kernel_of certificate.new.checker) [])
+    ensures confirms { Confirms result (stream_of R.seen steps.old (kernel_of certificate.old.checker))
+        (stream_of R.seen steps.new (kernel_of certificate.new.checker))
         (MeetsAll (map NewName (names_from new.count (new.first + 1))) certificate.old.names certificate.new.names) }
 {
     for done in 0..new.count {
@@ -60,8 +60,8 @@ fn expect_hidden<R: CountedRead>(
     ensures same { reader_name steps.new ≡ reader_name steps.old }
     ensures bound { (reader_source R.seen steps.new).reads ≤ most_reads }
     ensures goes_on { OnOk result (GoesOn R.seen steps.new) }
-    ensures confirms { Confirms result (stream_of R.seen steps.old (kernel_of certificate.old.checker) [])
-        (stream_of R.seen steps.new (kernel_of certificate.new.checker) [])
+    ensures confirms { Confirms result (stream_of R.seen steps.old (kernel_of certificate.old.checker))
+        (stream_of R.seen steps.new (kernel_of certificate.new.checker))
         (MeetsAll (hidden_by (kind_of kind) (name + 1)) certificate.old.names certificate.new.names) }
 {
     match kind {
@@ -86,8 +86,8 @@ impl Matching {
         ensures bound { (reader_source R.seen steps.new).reads ≤ most_reads }
         ensures goes_on { OnOk result (GoesOn R.seen steps.new) }
         ensures changes { OnOk result (Changes self.old.names self.new.names (taken (kind_of kind) (name + 1))) }
-        ensures confirms { Confirms result (stream_of R.seen steps.old (kernel_of self.old.certificate.checker) [])
-            (stream_of R.seen steps.new (kernel_of self.new.certificate.checker) [])
+        ensures confirms { Confirms result (stream_of R.seen steps.old (kernel_of self.old.certificate.checker))
+            (stream_of R.seen steps.new (kernel_of self.new.certificate.checker))
             (MeetsName (kind_of kind) (name + 1) self.old.names self.old.certificate.names self.new.certificate.names) }
     {
         let new = self.names.new_names(name);
@@ -110,8 +110,8 @@ impl Matching {
         ensures goes_on { OnOk result (GoesOn R.seen steps.new) }
         ensures changes { OnOk result (Changes self.old.names self.new.names
             (taken_by (kind_of kind) (names_of (named_literals literals.now)))) }
-        ensures confirms { Confirms result (stream_of R.seen steps.old (kernel_of self.old.certificate.checker) [])
-            (stream_of R.seen steps.new (kernel_of self.new.certificate.checker) []) (MeetsNames (kind_of kind)
+        ensures confirms { Confirms result (stream_of R.seen steps.old (kernel_of self.old.certificate.checker))
+            (stream_of R.seen steps.new (kernel_of self.new.certificate.checker)) (MeetsNames (kind_of kind)
             (names_of (named_literals literals.now)) self.old.names self.old.certificate.names self.new.certificate.names) }
     {
         for lit in literals {

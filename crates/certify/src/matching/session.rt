@@ -51,7 +51,8 @@ fn show<C: CountedRead>(
     ensures goes_on { OnOk result (GoesOn C.seen steps.new) }
     ensures names { matching.new.names ≡ matching.old.names }
     ensures confirms { Confirms result (stream_in C.seen steps.old matching.old) (stream_in C.seen steps.new matching.new)
-        (MeetsShown matching.old.names (named_literals ask.now) (outcome_in reply.now) matching.old.certificate.names matching.new.certificate.names) }
+        (MeetsShown matching.old.names (named_literals ask.now) (outcome_in reply.now)
+        matching.old.certificate.names matching.new.certificate.names) }
 {
     let line = reply.lits.as_slice();
     match reply.kind {
@@ -78,7 +79,8 @@ fn close<C: CountedRead>(
     ensures goes_on { OnOk result (GoesOn C.seen steps.new) }
     ensures names { matching.new.names ≡ matching.old.names }
     ensures confirms { Confirms result (stream_in C.seen steps.old matching.old) (stream_in C.seen steps.new matching.new)
-        (MeetsOutcome matching.old.names (named_literals ask.now) (outcome_in reply.now) matching.old.certificate.names matching.new.certificate.names) }
+        (MeetsOutcome matching.old.names (named_literals ask.now) (outcome_in reply.now)
+        matching.old.certificate.names matching.new.certificate.names) }
 {
     show(matching, steps, ask, reply)?;
     matching.certificate.expect(steps, &Expected::Close)
@@ -94,8 +96,8 @@ fn expect_content<C: CountedRead>(
     ensures same { reader_name steps.new ≡ reader_name steps.old }
     ensures bound { (reader_source C.seen steps.new).reads ≤ most_reads }
     ensures goes_on { OnOk result (GoesOn C.seen steps.new) }
-    ensures confirms { Confirms result (stream_of C.seen steps.old (kernel_of certificate.old.checker) [])
-        (stream_of C.seen steps.new (kernel_of certificate.new.checker) [])
+    ensures confirms { Confirms result (stream_of C.seen steps.old (kernel_of certificate.old.checker))
+        (stream_of C.seen steps.new (kernel_of certificate.new.checker))
         (MeetsContent (kind_of command.entry.kind) (named_literals command.entry.literals.now) certificate.old.names certificate.new.names) }
 {
     match command.kind {
@@ -111,7 +113,7 @@ impl Session {
     /// Before the first command.
     pub fn new(alloc: Global) -> Session
         ensures stands { (rest : List ℕ) (step : Step) → HoldsAt (table_of result.matching)
-            (record { checker = kernel_of result.matching.certificate.checker; variables = []; step = step; rest = rest }) start [] }
+            (record { checker = kernel_of result.matching.certificate.checker; step = step; rest = rest }) start [] }
         ensures looks { looks_of (kernel_of result.matching.certificate.checker) ≡ 0 }
         ensures number { result.number ≡ 1 }
         ensures waiting { waiting result.answers.lines.ahead ≡ [] }

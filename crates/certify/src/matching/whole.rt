@@ -38,7 +38,8 @@ impl Confirmation {
         ensures script { self.new.script ≡ self.old.script }
         ensures number { OnOk result (self.new.session.number ≡ self.old.session.number + 1) }
         ensures confirms { (c : Spelled) → HasWhole self.old.script.reader c
-            → ConfirmsBoth (2 ^ 64 - 1 ≤ self.old.session.number) true result A.seen C.seen answers.old answers.new steps.old steps.new self.old.session self.new.session
+            → ConfirmsBoth (2 ^ 64 - 1 ≤ self.old.session.number) true result A.seen C.seen answers.old answers.new
+            steps.old steps.new self.old.session self.new.session
             (ConfirmsNext self.old.session.number c (table_of self.old.session.matching) (table_of self.new.session.matching)) }
     {
         if self.session.number == u64::MAX {
@@ -62,8 +63,10 @@ impl Confirmation {
         requires whole { (c : Spelled) × HasWhole self.old.script.reader c }
         ensures script { self.new.script ≡ self.old.script }
         ensures confirms { (c : Spelled) → HasWhole self.old.script.reader c
-            → ConfirmsBoth (2 ^ 64 - 1 ≤ self.old.session.number) false result A.seen C.seen answers.old answers.new steps.old steps.new self.old.session self.new.session
-            (λ before behind u v. ConfirmsLast self.old.session.number (onto_commands (c ∷ []) (end_reading end)) (table_of self.old.session.matching) before u) }
+            → ConfirmsBoth (2 ^ 64 - 1 ≤ self.old.session.number) false result A.seen C.seen answers.old answers.new
+            steps.old steps.new self.old.session self.new.session
+            (λ before behind u v. ConfirmsLast self.old.session.number (onto_commands (c ∷ []) (end_reading end))
+            (table_of self.old.session.matching) before u) }
     {
         self.confirm_next(answers, steps)?;
         self.session.confirm_end(answers, steps, end)

@@ -1,5 +1,5 @@
 -- How places of a certificate lead from one to another.
-use Rattle.std.proofs.Common.{ℕ, ◌≡◌, true, false, List, [], ◌∷◌, ◌++◌, refl, sym, ◌∙◌, ap, subst, append_assoc}
+use Rattle.std.proofs.Common.{ℕ, ◌≡◌, Bool, true, false, List, [], ◌∷◌, ◌++◌, refl, sym, ◌∙◌, ap, subst, append_assoc}
 use Rattle.std.proofs.lemmas.Bool.{true≢false}
 use Rattle.std.proofs.lemmas.List.{append_cancel_left}
 use Rattle.std.specs.List.{AllByRecursion}
@@ -170,3 +170,11 @@ leads_skip {earlier} {later} {bytes} {rest} e s u x =
 
 pub bars_skip : {earlier later : List Step} {bytes rest : List ℕ} (e : Expected) → Skips earlier bytes later rest → (ready_after later).unsat ≡ true → (Excused e → ⊥) → Bars earlier bytes (e ∷ [])
 bars_skip {earlier} {later} {bytes} {rest} e s u x = record { none = λ es m. (bars_cut later rest (e ∷ []) u (λ h. x h.0)).none es (s.on e es m) }
+
+-- nothing more is expected
+pub nothing_met : (earlier : List Step) (bytes : List ℕ) → CanMeet earlier [] bytes
+nothing_met earlier bytes = go (ready_after earlier).unsat refl
+  where
+    go : (b : Bool) → (ready_after earlier).unsat ≡ b → CanMeet earlier [] bytes
+    go true u = cut_met earlier [] bytes u tt
+    go false u = record { steps = []; text = []; rest = bytes; begins = refl; spelt = refl; meets = met u }

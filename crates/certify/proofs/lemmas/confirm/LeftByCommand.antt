@@ -1,17 +1,17 @@
 -- What is left, command by command.
 use Rattle.std.proofs.Common.{ℕ, ◌+◌, ◌≡◌, ◌↔◌, ◌⊎◌, inl, inr, List, [], ◌∷◌, ◌++◌, Option, Some, None, refl, sym, ◌∙◌, ap, subst, append_assoc}
 use Rattle.std.specs.List.{AllByRecursion}
-use Rattle.sat_base.specs.script.Script.{Literal, Command, Clause, Ask, Ending, names_of}
+use Rattle.sat_base.specs.script.Script.{Literal, Command, Ask, Ending, names_of}
 use Rattle.sat_base.specs.script.Judge.{Judge, Refusal, accepted, accepted_of, refusal_of, start}
 use Rattle.sat_base.specs.steps.Steps.{Step}
 use Rattle.certify.specs.answers.Answers.{answers_from, refused_line, outcome_text, outcomes_left, piece, ending_text}
-use Rattle.sat_checker.specs.matching.Expected.{Outcome, EachSpelt, Expected, Adds, Opens, Shows, Fails, Closes, Finish, bringing, showing, expected, shows, fails}
+use Rattle.sat_checker.specs.matching.Expected.{Outcome, EachSpelt, Expected, Opens, Shows, Fails, Closes, Finish, bringing, showing, expected, shows, fails}
 use Rattle.sat_checker.specs.matching.Checking.{variable_of}
 use Rattle.certify.specs.confirm.Matches.{OneEach, InForm, Meets, cut, other, ordered, MatchesCommands}
 use Rattle.certify.specs.confirm.LeftToMatch.{Left, LeftOfAsk}
 use Rattle.sat_checker.specs.matching.ProofChecking.{the_checking}
 use Rattle.certify.specs.confirm.CertificatePlaces.{CanMeet, Leads, Bars}
-use Rattle.certify.proofs.lemmas.confirm.CertificateSteps.{unordered_names}
+use Rattle.certify.proofs.lemmas.confirm.StepTags.{unordered_names}
 
 -- what is left of the commands from number n on
 abbrev pub Rest : Judge → ℕ → List Step → List Expected → List Command → Ending → List ℕ → List ℕ → Type 0
@@ -34,21 +34,8 @@ pub refused_back : (j : Judge) (n : ℕ) (earlier : List Step) (c : Command) (cs
 refused_back j n earlier c cs ending answers tail certificate refusal e a l =
     record { outcomes = l.outcomes; answered = rw e (a ∙ ap (λ t. refused_line n refusal ++ t) l.answered); one_each = rw e l.one_each; in_form = l.in_form; certified = rw e l.certified }
 
--- a clause that isn't refused is pending, behind its names
-pub clause_pending : (j : Judge) (n : ℕ) (earlier : List Step) (ls : List Literal) (cs : List Command) (ending : Ending) (answers certificate : List ℕ) → refusal_of j (Clause ls) ≡ None
-    → Rest j n earlier [] (Clause ls ∷ cs) ending answers certificate ↔ Rest (accepted (Clause ls) j) (n + 1) earlier (bringing (names_of ls) j ++ (Adds ls ∷ [])) cs ending answers certificate
-clause_pending j n earlier ls cs ending answers certificate e =
-    let next = accepted (Clause ls) j in
-    let same : (vs : List Outcome) → (bringing (names_of ls) j ++ (Adds ls ∷ [])) ++ expected next (accepted_of next cs) vs ≡ bringing (names_of ls) j ++ (Adds ls ∷ expected next (accepted_of next cs) vs) = λ vs. append_assoc (bringing (names_of ls) j) (Adds ls ∷ []) (expected next (accepted_of next cs) vs) in (
-      (λ l. record { outcomes = l.outcomes; answered = rw e at l.answered; one_each = rw e at l.one_each; in_form = l.in_form; certified = subst (λ es. CanMeet earlier es certificate) (sym (same l.outcomes)) (rw e at l.certified) }),
-      (λ l. record { outcomes = l.outcomes; answered = rw e l.answered; one_each = rw e l.one_each; in_form = l.in_form; certified = rw e (subst (λ es. CanMeet earlier es certificate) (same l.outcomes) l.certified) }),
-    )
-
 -- an ask that isn't refused takes an outcome
 module _ (j : Judge) (n : ℕ) (earlier : List Step) (ls : List Literal) (cs : List Command) (ending : Ending) (answers certificate : List ℕ) where
-  next : Judge
-  next = accepted (Ask ls) j
-
   all_of : Outcome → List Outcome → List Expected
   all_of v vs = bringing (names_of ls) j ++ (Opens ls v ∷ (showing (accepted (Ask ls) j) ls v ++ (Closes ∷ expected (accepted (Ask ls) j) (accepted_of (accepted (Ask ls) j) cs) vs)))
 

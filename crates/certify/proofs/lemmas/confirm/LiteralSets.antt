@@ -3,12 +3,12 @@ use Rattle.std.proofs.Common.{ℕ, zero, suc, ◌+◌, ◌<◌, ◌≡◌, ◌||
 use Rattle.std.proofs.lemmas.Bool.{true≢false, eqb-true, or_cases}
 use Rattle.std.proofs.lemmas.List.{take_more}
 use Rattle.std.specs.Bool.{MatchBool}
-use Rattle.std.specs.List.{AllByRecursion, list_any}
+use Rattle.std.specs.List.{AllByRecursion}
 use Rattle.sat_base.specs.values.Literals.{coded}
 use Rattle.sat_base.specs.script.Script.{Literal, Among}
 use Rattle.sat_checker.specs.LiteralSets.{is_among}
 use Rattle.sat_checker.specs.matching.Expected.{Spells, EachSpelt, SameSet}
-use Rattle.certify.specs.confirm.SpeltLiterals.{AllAmong, SameMembers, AreSpelt}
+use Rattle.certify.specs.confirm.SpeltLiterals.{AllAmong, AreSpelt}
 
 eqb_refl : (n : ℕ) → eqb n n ≡ true
 eqb_refl n = grind (arith)
@@ -25,55 +25,6 @@ is_from_among (x ∷ xs) l (inr h) = go (eqb x l) (is_from_among xs l h)
     go : (b : Bool) → is_among xs l ≡ true → b || is_among xs l ≡ true
     go true r = refl
     go false r = r
-
-is_among-append : (xs ys : List ℕ) (l : ℕ) → is_among (xs ++ ys) l ≡ is_among xs l || is_among ys l
-is_among-append [] ys l = refl
-is_among-append (x ∷ xs) ys l = go (eqb x l) (is_among-append xs ys l)
-  where
-    go : (b : Bool) → is_among (xs ++ ys) l ≡ is_among xs l || is_among ys l → b || is_among (xs ++ ys) l ≡ (b || is_among xs l) || is_among ys l
-    go true r = refl
-    go false r = r
-
-or_comm : (a b : Bool) → a || b ≡ b || a
-or_comm true true = refl
-or_comm true false = refl
-or_comm false true = refl
-or_comm false false = refl
-
-or_false : (a : Bool) → a || false ≡ a
-or_false true = refl
-or_false false = refl
-
--- a literal more
-pub marked_more : (marks xs : List ℕ) (i d : ℕ) → i < length xs → SameMembers marks (take i xs) → SameMembers (get_or xs i d ∷ marks) (take (i + 1) xs)
-marked_more marks xs i d h s l =
-    let more = take_more xs i d h in
-    rw more (ap (λ b. eqb (get_or xs i d) l || b) (s l) ∙ or_comm (eqb (get_or xs i d) l) (is_among (take i xs) l) ∙ ap (λ b. is_among (take i xs) l || b) (sym (or_false (eqb (get_or xs i d) l))) ∙ sym (is_among-append (take i xs) (get_or xs i d ∷ []) l))
-
--- one that is marked already
-pub marked_before : (marks xs : List ℕ) (i d : ℕ) → i < length xs → is_among marks (get_or xs i d) ≡ true → SameMembers marks (take i xs) → SameMembers marks (take (i + 1) xs)
-marked_before marks xs i d h m s l = go (eqb (get_or xs i d) l) refl ∙ marked_more marks xs i d h s l
-  where
-    go : (b : Bool) → eqb (get_or xs i d) l ≡ b → is_among marks l ≡ b || is_among marks l
-    go true e = ap (is_among marks) (sym (eqb-true (get_or xs i d) l e)) ∙ m
-    go false e = refl
-
-pub all_marked : (marks xs ys : List ℕ) → SameMembers marks ys → AllByRecursion (λ l. is_among marks l ≡ true) xs → AllAmong xs ys
-all_marked marks [] ys s h = tt
-all_marked marks (x ∷ xs) ys s h = (among_is ys x (sym (s x) ∙ h.0), all_marked marks xs ys s h.1)
-
-pub marked_all : (marks xs ys : List ℕ) → SameMembers marks ys → AllAmong xs ys → AllByRecursion (λ l. is_among marks l ≡ true) xs
-marked_all marks [] ys s h = tt
-marked_all marks (x ∷ xs) ys s h = (s x ∙ is_from_among ys x h.0, marked_all marks xs ys s h.1)
-
-pub among_answer : (marks xs ys : List ℕ) (yes : Bool) → SameMembers marks ys → MatchBool yes (AllByRecursion (λ l. is_among marks l ≡ true) xs) (AllByRecursion (λ l. is_among marks l ≡ true) xs → ⊥) → MatchBool yes (AllAmong xs ys) (AllAmong xs ys → ⊥)
-among_answer marks xs ys true s h = all_marked marks xs ys s h
-among_answer marks xs ys false s h = λ a. h (marked_all marks xs ys s a)
-
--- looked through
-pub found : (xs : List ℕ) (l : ℕ) → list_any (λ x. eqb x l) xs ≡ is_among xs l
-found [] l = refl
-found (x ∷ xs) l = ap (λ b. eqb x l || b) (found xs l)
 
 pub all_at : (P : ℕ → Type 0) (xs : List ℕ) (i d : ℕ) → i < length xs → AllByRecursion P xs → P (get_or xs i d)
 all_at P [] i d h a = absurd (omega arith)

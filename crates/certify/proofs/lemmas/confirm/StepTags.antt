@@ -1,8 +1,9 @@
--- Which steps are ordered, by their tags.
-use Rattle.std.proofs.Common.{◌≡◌, ℕ, Bool, refl, sym, ap, ◌∙◌}
+-- Which steps are ordered, by their tags; the others put no name.
+use Rattle.std.proofs.Common.{◌≡◌, ℕ, Bool, false, List, ◌∷◌, refl, sym, ap, ◌∙◌}
+use Rattle.std.proofs.lemmas.Bool.{true≢false}
 use Rattle.sat_base.specs.steps.Steps.{Step, SolverVarName, UserVarName, DeleteVar, ChangeSamplingMode, AddClause, AtClause, UnitClauses, DeleteClause, ChangeHashBits, Model, Assumptions, FailedAssumptions, End}
 use Rattle.sat_base.specs.steps.StepText.{tag_of}
-use Rattle.sat_checker.specs.matching.Checking.{is_ordered}
+use Rattle.sat_checker.specs.matching.Checking.{is_ordered, variable_of}
 use Rattle.certify.specs.confirm.Stepping.{is_ordered_tag}
 
 tag_is_ordered : (s : Step) → is_ordered_tag (tag_of s) ≡ is_ordered s
@@ -22,3 +23,19 @@ tag_is_ordered End = refl
 
 pub ordered_by_tag : (s : Step) (tag : ℕ) (answer b : Bool) → tag ≡ tag_of s → answer ≡ is_ordered_tag tag → answer ≡ b → is_ordered s ≡ b
 ordered_by_tag s tag answer b e f g = sym (tag_is_ordered s) ∙ ap is_ordered_tag (sym e) ∙ sym f ∙ g
+
+-- a step that isn't ordered puts no name
+pub unordered_names : (step : Step) (earlier : List Step) → is_ordered step ≡ false → variable_of (step ∷ earlier) ≡ variable_of earlier
+unordered_names (UserVarName v name) earlier h = absurd (true≢false h)
+unordered_names (SolverVarName v s) earlier h = refl
+unordered_names (DeleteVar v) earlier h = refl
+unordered_names (ChangeSamplingMode v m) earlier h = refl
+unordered_names (AddClause c) earlier h = refl
+unordered_names (AtClause r c hashes) earlier h = refl
+unordered_names (UnitClauses us) earlier h = refl
+unordered_names (DeleteClause c d) earlier h = refl
+unordered_names (ChangeHashBits b) earlier h = refl
+unordered_names (Model ls) earlier h = refl
+unordered_names (Assumptions ls) earlier h = refl
+unordered_names (FailedAssumptions core hashes) earlier h = refl
+unordered_names End earlier h = refl

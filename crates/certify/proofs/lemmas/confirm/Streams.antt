@@ -175,13 +175,6 @@ confirms_so (Err e) a b P R f p = confirms_stop e a b P R (λ total why. f total
 pub confirms_none : {A : Type 0} (x : A) (a : Stream) (P : View → View → Result A Why → Type 0) → ((total : List ℕ) → P (seen_in total a) (seen_in total a) (Ok x)) → Confirms (Ok x) a a P
 confirms_none x a P f = (([], passes_none a.source), (λ total k. f total), (λ total k. walks_none (seen_in total a)))
 
-pub says_so : {A : Type 0} (r : Result A Stop) (P Q : Result A Why → Type 0) → ((y : Result A Why) → P y → Q y) → Says r P → Says r Q
-says_so (Ok x) P Q f h = f (Ok x) h
-says_so (Err (stop.No why)) P Q f h = f (Err why) h
-says_so (Err stop.Read) P Q f h = h
-says_so (Err stop.OutOfMemory) P Q f h = h
-says_so (Err stop.CounterEnd) P Q f h = h
-
 -- an error of what reads nothing, behind a call that went on
 pub says_stop : {B C : Type 0} (fed : Bool) (e : Stop) (a b : Stream) (P : View → View → Type 0) (S : Result B Why → Type 0) (R : View → View → Result C Why → Type 0) → (AtEnd a.source → ⊥)
     → ((total : List ℕ) (why : Why) → P (seen_in total a) (seen_in total b) → S (Err why) → R (seen_in total a) (seen_in total b) (Err why))
@@ -191,20 +184,14 @@ says_stop fed stop.Read a b P S R open_yet f p s = absurd s
 says_stop fed stop.OutOfMemory a b P S R open_yet f p s = (moves_halt a b open_yet p.0, (λ total k. tries_if fed (seen_in total a) (seen_in total b) (p.2 total k)))
 says_stop fed stop.CounterEnd a b P S R open_yet f p s = absurd s
 
-pub says_then : {B : Type 0} (r : Result B Stop) (a b : Stream) (P : View → View → Type 0) (S : Result B Why → Type 0) (R : View → View → Result B Why → Type 0) → (AtEnd a.source → ⊥)
-    → ((total : List ℕ) (y : Result B Why) → P (seen_in total a) (seen_in total b) → S y → R (seen_in total a) (seen_in total b) y)
-    → Going true a b P → Says r S → Confirms r a b R
-says_then (Ok y) a b P S R open_yet f p s = (p.0, (λ total k. f total (Ok y) (p.1 total k) s), p.2)
-says_then (Err e) a b P S R open_yet f p s = says_stop true e a b P S R open_yet (λ total why. f total (Err why)) p s
-
 -- WHAT A CHECKER IS FED
 
 -- the step that was read last is accepted
-pub feeds_on : (a b : Stream) (next : Kernel) (variables : List ℕ) (P Q : View → View → Type 0) → Feeds (Ok tt) b.checker b.step next → LooksAtMost b.checker b.step next
-    → ((total : List ℕ) → P (seen_in total a) (seen_in total b) → Q (seen_in total a) (seen_in total (record b { checker = next; variables = variables })))
-    → Going false a b P → Going true a (record b { checker = next; variables = variables }) Q
-feeds_on a b next variables P Q fed looks f p =
-    (p.0, (λ total k. f total (p.1 total k)), (λ total k. walks_fed (seen_in total a) (seen_in total b) (seen_in total (record b { checker = next; variables = variables })) refl fed looks (p.2 total k)))
+pub feeds_on : (a b : Stream) (next : Kernel) (P Q : View → View → Type 0) → Feeds (Ok tt) b.checker b.step next → LooksAtMost b.checker b.step next
+    → ((total : List ℕ) → P (seen_in total a) (seen_in total b) → Q (seen_in total a) (seen_in total (record b { checker = next })))
+    → Going false a b P → Going true a (record b { checker = next }) Q
+feeds_on a b next P Q fed looks f p =
+    (p.0, (λ total k. f total (p.1 total k)), (λ total k. walks_fed (seen_in total a) (seen_in total b) (seen_in total (record b { checker = next })) refl fed looks (p.2 total k)))
 
 -- or isn't
 pub feeds_stop : {C : Type 0} (e : Stop) (a b : Stream) (next : Kernel) (P : View → View → Type 0) (R : View → View → Result C Why → Type 0) → (AtEnd a.source → ⊥) → Feeds (Err e) b.checker b.step next → LooksAtMost b.checker b.step next

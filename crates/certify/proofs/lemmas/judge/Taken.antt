@@ -11,7 +11,7 @@ use Rattle.certify.specs.answers.AnswerForms.{named_literals}
 use Rattle.certify.specs.reading.Commands.{BeginsPast, IsFront}
 use Rattle.certify.specs.reading.Language.{Kind, OfClause, OfAsk, OfHide, OfWitness, OfSample, command_of}
 use Rattle.certify.specs.judge.Names.{state_in, Stands, taken}
-use Rattle.certify.proofs.lemmas.confirm.PlainJudge.{from_more, with_names_append}
+use Rattle.certify.proofs.lemmas.confirm.NamesFrom.{from_more, with_names_append}
 use Rattle.certify.proofs.lemmas.judge.States.{past_states, pushed_at, named, new_past}
 
 pub grows_none : (names : Names) → (j : Judge) → Stands names j → Stands names (with_names (names_from 0 j.first_unused) j)

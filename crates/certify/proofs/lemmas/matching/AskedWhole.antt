@@ -1,7 +1,5 @@
 -- An ask, from its names to its end.
-use Rattle.std.proofs.Common.{ℕ, append_assoc, ◌+◌, ◌≤◌, ◌≡◌, inl, inr, Bool, true, false, List, [], ◌∷◌, ◌++◌, length, map, Option, Some, None, refl, sym, ◌∙◌, ap, subst, zero, suc, arith, get_or}
-use Rattle.std.specs.List.{AllByRecursion}
-use Rattle.sat_base.specs.values.Literals.{largest}
+use Rattle.std.proofs.Common.{ℕ, append_assoc, ◌+◌, ◌≤◌, ◌≡◌, inl, inr, true, List, [], ◌∷◌, ◌++◌, length, map, Option, Some, None, sym, ◌∙◌, ap, subst, zero, suc, arith, get_or}
 use Rattle.sat_base.specs.script.Script.{Literal, Command, Ask, Ending, names_of}
 use Rattle.sat_base.specs.script.Judge.{Judge, accepted, accepted_of, refusal_of}
 use Rattle.sat_base.specs.steps.Steps.{Step}
@@ -18,9 +16,8 @@ use Rattle.certify.specs.matching.Following.{StandFor}
 use Rattle.certify.specs.matching.Variables.{variable_in}
 use Rattle.certify.specs.declared.judge.names.Names.{Names}
 use Rattle.certify.specs.declared.matching.named.NamedVars.{NamedVars}
-use Rattle.certify.proofs.lemmas.confirm.CertificatePlaces.{when_cut}
 use Rattle.certify.proofs.lemmas.confirm.LeftByCommand.{Rest, ask_on, ask_back, left_on, left_back, left_barred, HaveVariables, met_shows, met_fails}
-use Rattle.certify.proofs.lemmas.confirm.WholeAsks.{printed}
+use Rattle.certify.proofs.lemmas.answers.AnswerLines.{printed}
 use Rattle.certify.proofs.lemmas.laws.TellingTexts.{same_outcome}
 use Rattle.certify.proofs.lemmas.matching.UsedNames.{used_names, line_form}
 

@@ -1,5 +1,5 @@
 -- One step of a certificate that is read step by step, and then another, up to the next ordered one.
-use Rattle.std.proofs.Common.{◌≡◌, ℕ, Bool, true, false, List, [], ◌∷◌, Option, Some, None, Result, Ok, Err, refl, sym, subst, ◌∙◌}
+use Rattle.std.proofs.Common.{◌≡◌, Bool, true, false, List, ◌∷◌, Option, Some, None, Result, Ok, Err, sym, subst, ◌∙◌}
 use Rattle.sat_base.specs.device.Reading.{AtEnd}
 use Rattle.sat_base.specs.steps.Steps.{Step}
 use Rattle.sat_checker.specs.Accepts.{Accepts, ready_after}
@@ -13,8 +13,8 @@ use Rattle.certify.specs.confirm.Stepping.{ReadsOne, is_fed, is_fed_so_far}
 use Rattle.certify.specs.confirm.Streams.{Stream, seen_in, rest_in, Reading, Confirms}
 use Rattle.certify.specs.confirm.Views.{View, place}
 use Rattle.certify.specs.matching.Awaiting.{IsAt, StepIsReady, UnsatIsRecorded, StepWasPassed, AwaitsNext, StepsOnce, Passed}
-use Rattle.certify.specs.declared.confirm.certificate.Awaited.{Awaited}
-use Rattle.certify.specs.declared.confirm.certificate.Awaited.TheVariants as awaited
+use Rattle.certify.specs.declared.matching.awaiting.Awaited.{Awaited}
+use Rattle.certify.specs.declared.matching.awaiting.Awaited.TheVariants as awaited
 use Rattle.certify.specs.declared.confirm.stop.Stop.{Stop}
 use Rattle.certify.specs.declared.matching.named.NamedVars.{NamedVars}
 use Rattle.certify.specs.declared.verdict.Why.{Why}
@@ -74,7 +74,7 @@ module _ (names : NamedVars) (a : Stream) (unsat : Bool) (told : (steps : List S
       steps_step o = (p.0, (λ total k. is_step names (seen_in total a) (seen_in total b) unsat told is (p.1 total k) o c), p.2)
 
       pub steps_passed : (next : Kernel) → is_ordered b.step ≡ false → Feeds (Ok tt) b.checker b.step next → LooksAtMost b.checker b.step next → Reading is_fed_so_far (Ok None) a (record b { checker = next }) (StepsOnce names)
-      steps_passed next o d l = feeds_on a b next b.variables (λ x y. ReadsOne x y (Ok tt)) (λ x y. StepsOnce names x y (Ok None)) d l
+      steps_passed next o d l = feeds_on a b next (λ x y. ReadsOne x y (Ok tt)) (λ x y. StepsOnce names x y (Ok None)) d l
           (λ total r. is_passed names (seen_in total a) (seen_in total (record b { checker = next })) unsat told is r o (subst (λ (x : Kernel). Feeds (Ok tt) x b.step next) c d)) p
 
       pub steps_refused : (e : Stop) (next : Kernel) → is_ordered b.step ≡ false → Feeds (Err e) b.checker b.step next → LooksAtMost b.checker b.step next → Confirms {A = Option Awaited} (Err e) a (record b { checker = next }) (StepsOnce names)

@@ -1,31 +1,28 @@
 -- Commands, confirmed one after another.
-use Rattle.std.proofs.Common.{ℕ, ◌+◌, ◌≡◌, ◌↔◌, Bool, true, List, [], ◌∷◌, ◌++◌, Option, Some, None, Result, Ok, Err, refl, sym, ◌∙◌, ap, subst, append_assoc}
+use Rattle.std.proofs.Common.{ℕ, ◌+◌, ◌≡◌, ◌↔◌, true, List, [], ◌∷◌, ◌++◌, Some, None, Result, Ok, Err, refl, sym, ◌∙◌, ap, subst, append_assoc}
 use Rattle.std.proofs.lemmas.List.{append_cancel_left, append-nil}
 use Rattle.sat_base.specs.script.Script.{Literal, Command, Clause, Ask, Hide, Witness, Sample, Ending, Clean, Malformed, names_of}
 use Rattle.sat_base.specs.script.Judge.{Judge, Sampled, Witnessed, Refusal, refusal_of, accepted, accepted_of, after_command, bring_all, with_clause}
 use Rattle.sat_base.specs.steps.Steps.{Step}
 use Rattle.sat_checker.specs.Accepts.{ready_after}
 use Rattle.sat_checker.specs.KernelView.{Stands as HasTakenSteps}
-use Rattle.sat_checker.specs.matching.Expected.{Outcome, Unknown, Unsat, Expected, Adds, Opens, Closes, Finish, bringing, hiding, setting, showing, expected}
+use Rattle.sat_checker.specs.matching.Expected.{Outcome, Unsat, Expected, Adds, Opens, Closes, Finish, bringing, hiding, setting, showing, expected}
 use Rattle.certify.specs.answers.AnswerForms.{IsInForm}
 use Rattle.certify.specs.answers.Answers.{outcome_text, refused_line, malformed_line, answers_from, outcomes_left, piece}
-use Rattle.certify.specs.confirm.CertificatePlaces.{CanMeet, Leads, Bars}
-use Rattle.certify.specs.confirm.ConfirmedCommands.{TakesLine}
+use Rattle.certify.specs.confirm.CertificatePlaces.{CanMeet, Bars}
+use Rattle.certify.specs.matching.Lines.{TakesLine}
 use Rattle.certify.specs.confirm.Matches.{OneEach}
 use Rattle.certify.specs.confirm.Views.{View}
-use Rattle.certify.specs.judge.Names.{Stands, Changes}
-use Rattle.certify.specs.laws.Laws.{NamesIncrease}
-use Rattle.certify.specs.matching.Awaiting.{IsAt, IsMet, MeetsDue}
-use Rattle.certify.specs.matching.Comparing.{Allows}
+use Rattle.certify.specs.judge.Names.{Stands}
+use Rattle.certify.specs.matching.Awaiting.{IsMet, MeetsDue}
 use Rattle.certify.specs.matching.Confirming.{Table, HoldsAt, ToConfirm, Confirmed, ConfirmsNext, ConfirmsLast, IsNamed, MeetsOutcome}
 use Rattle.certify.specs.matching.Naming.{MeetsAll, GoesOnTo, naming_all, taken_by}
 use Rattle.certify.specs.reading.Language.{Kind, OfClause, OfAsk, OfHide, OfWitness, OfSample, command_of}
 use Rattle.certify.specs.declared.judge.names.Names.{Names}
 use Rattle.certify.specs.declared.matching.named.NamedVars.{NamedVars}
 use Rattle.certify.specs.declared.verdict.Why.{Why}
-use Rattle.certify.proofs.lemmas.confirm.CertificatePlaces.{cut_met}
 use Rattle.certify.proofs.lemmas.confirm.LeftByCommand.{Rest, refused_on, refused_back, left_on, left_back, left_barred, end_on, end_back}
-use Rattle.certify.proofs.lemmas.confirm.ScriptEnds.{nothing_met}
+use Rattle.certify.proofs.lemmas.confirm.CertificatePlaces.{nothing_met}
 use Rattle.certify.proofs.lemmas.laws.JudgeStates.{accepted_kept}
 use Rattle.certify.proofs.lemmas.matching.AskedWhole.{Listed, all_listed, Within, all_within, ask_unnamed, ask_unopened, answered_on, answered_back, ask_unread}
 use Rattle.certify.proofs.lemmas.matching.NamesExpected.{names_are_expected}

@@ -2,7 +2,6 @@
 use Rattle.std.proofs.Common.{ℕ, ◌+◌, ◌%◌, ◌^◌, ◌<◌, ◌≤◌, ◌≡◌, ◌⊎◌, inl, inr, Bool, true, false, cond, List, [], ◌∷◌, ◌++◌, decimal, get_or, length, take, drop, Result, Ok, Err, refl, sym, ◌∙◌, ap, subst, append_assoc, arith}
 use Rattle.std.proofs.lemmas.Fmt.{decimal_by_steps}
 use Rattle.std.proofs.lemmas.List.{append-nil, drop_all, take_all, take_more, take-append-drop}
-use Rattle.std.specs.List.{AllByRecursion}
 use Rattle.sat_base.specs.device.Reading.{Source, AtEnd, Passes}
 use Rattle.sat_base.proofs.lemmas.device.ReadLemmas.{ends_there, gave_nothing, gave_some, passes_more}
 use Rattle.sat_base.specs.declared.device.whole.ReadError.{ReadError}
@@ -14,7 +13,7 @@ use Rattle.sat_checker.specs.matching.Expected.{Outcome, Sat, Unsat, Unknown}
 use Rattle.certify.specs.answers.Answers.{outcome_text, refused_line, refusal_text, malformed_line, literals_text, word_of}
 use Rattle.certify.specs.answers.AnswerForms.{HaveNames, IsInForm, named_literals}
 use Rattle.certify.specs.answers.AnswerReading.{HasLine, NoKind, NoLine, first_line, second_line, outcome_of}
-use Rattle.certify.specs.confirm.ConfirmedCommands.{TakesLine, stop_after}
+use Rattle.certify.specs.matching.Lines.{TakesLine, stop_after}
 use Rattle.certify.specs.confirm.Streams.{Covers, rest_in}
 use Rattle.certify.specs.matching.Halting.{Replies, SaysSo, answers_halt}
 use Rattle.certify.specs.matching.Lines.{EndsPart, GoesUpToLine, HasNoLf, IsLine, IsNextLine, IsReply, NextLine, ReadsFirst, ReadsLine, ReadsSecond}
@@ -27,9 +26,8 @@ use Rattle.certify.specs.declared.confirm.stop.Stop.TheVariants as stop
 use Rattle.certify.specs.declared.matching.halt.Halt.{Halt}
 use Rattle.certify.specs.declared.matching.halt.Halt.TheVariants as halt
 use Rattle.certify.specs.declared.verdict.Why.{Why}
-use Rattle.certify.proofs.lemmas.answers.UnreadAnswers.{lines_of, same_kind, no_kind}
+use Rattle.certify.proofs.lemmas.answers.AnswerLines.{lines_of, same_kind, printed}
 use Rattle.certify.proofs.lemmas.confirm.Streams.{all_over, nothing_behind, taken_front}
-use Rattle.certify.proofs.lemmas.confirm.WholeAsks.{printed}
 use Rattle.certify.proofs.lemmas.laws.TellingTexts.{same_outcome}
 use Rattle.certify.proofs.lemmas.matching.Joining.{failed_then, replies_no, replies_stop, replies_then, took_halted, took_kept, took_none}
 

@@ -9,7 +9,6 @@ use Rattle.sat_base.specs.steps.Steps.{Step, Assumptions}
 use Rattle.sat_checker.specs.Accepts.{Accepts, effect, ready_after}
 use Rattle.sat_checker.specs.KernelView.{LooksAtMost}
 use Rattle.sat_checker.specs.declared.kernel.Kernel.{Kernel}
-use Rattle.sat_checker.specs.matching.Checking.{variable_of}
 use Rattle.sat_checker.specs.matching.Expected.{Outcome, Unknown, Expected, NewName, NoName, Adds, Opens, Shows, Fails, Closes, Finish, Fits, new_name, no_name, adds, opens, shows, fails, closes, finish}
 use Rattle.sat_checker.specs.matching.ProofChecking.{the_checking}
 use Rattle.certify.specs.confirm.Feeding.{HasTaken, Feeds}
@@ -17,12 +16,12 @@ use Rattle.certify.specs.confirm.Matches.{Excused}
 use Rattle.certify.specs.confirm.Stepping.{is_fed}
 use Rattle.certify.specs.confirm.Streams.{Stream, seen_in, Reading, Confirms}
 use Rattle.certify.specs.confirm.Views.{View}
-use Rattle.certify.specs.matching.Awaiting.{IsAt, AwaitsNext, IsMet, MeetsDue, SaysUnmet}
+use Rattle.certify.specs.matching.Awaiting.{IsAt, AwaitsNext, MeetsDue, SaysUnmet}
 use Rattle.certify.specs.matching.Comparing.{Allows, AreKnown, Compares, Due, Excuses}
-use Rattle.certify.specs.matching.Following.{StandFor, Follows}
+use Rattle.certify.specs.matching.Following.{Follows}
 use Rattle.certify.specs.matching.Variables.{variable_in}
-use Rattle.certify.specs.declared.confirm.certificate.Awaited.{Awaited}
-use Rattle.certify.specs.declared.confirm.certificate.Awaited.TheVariants as awaited
+use Rattle.certify.specs.declared.matching.awaiting.Awaited.{Awaited}
+use Rattle.certify.specs.declared.matching.awaiting.Awaited.TheVariants as awaited
 use Rattle.certify.specs.declared.confirm.stop.Stop.{Stop}
 use Rattle.certify.specs.declared.confirm.stop.Stop.TheVariants as stop
 use Rattle.certify.specs.declared.matching.expected.Known.{Known}
@@ -110,11 +109,11 @@ module _ (due : Due) (before after : NamedVars) (a b : Stream) (open_yet : AtEnd
     -- there is no room for a name
     pub expects_crowded : (next : Kernel) → Feeds (Ok tt) b.checker x next → LooksAtMost b.checker x next → Confirms {A = Unit {0}} (Err stop.OutOfMemory) a (record b { checker = next }) (MeetsDue due before after)
     expects_crowded next fed most = says_stop {B = ℕ} true stop.OutOfMemory a (record b { checker = next }) (λ u v. Unit {0}) (λ y. ⊥) (MeetsDue due before after) open_yet (λ total why h n. absurd n)
-        (feeds_on a b next b.variables (λ u v. AwaitsNext before u v (Ok awaited.Step)) (λ u v. Unit {0}) (subst (λ z. Feeds (Ok tt) b.checker z next) held fed) (subst (λ z. LooksAtMost b.checker z next) held most) (λ total h. tt) p) tt
+        (feeds_on a b next (λ u v. AwaitsNext before u v (Ok awaited.Step)) (λ u v. Unit {0}) (subst (λ z. Feeds (Ok tt) b.checker z next) held fed) (subst (λ z. LooksAtMost b.checker z next) held most) (λ total h. tt) p) tt
 
     pub expects_fed : (known : Known) → ((earlier : List Step) → IsAt b.checker before earlier → AreKnown known earlier) → (next : Kernel) → Feeds (Ok tt) b.checker x next → LooksAtMost b.checker x next
         → Compares due known x None → Follows due before x after → Confirms (Ok tt) a (record b { checker = next }) (MeetsDue due before after)
-    expects_fed known at next fed most k f = feeds_on a b next b.variables (λ u v. AwaitsNext before u v (Ok awaited.Step)) (λ u v. MeetsDue due before after u v (Ok tt)) (subst (λ z. Feeds (Ok tt) b.checker z next) held fed) (subst (λ z. LooksAtMost b.checker z next) held most)
+    expects_fed known at next fed most k f = feeds_on a b next (λ u v. AwaitsNext before u v (Ok awaited.Step)) (λ u v. MeetsDue due before after u v (Ok tt)) (subst (λ z. Feeds (Ok tt) b.checker z next) held fed) (subst (λ z. LooksAtMost b.checker z next) held most)
         (λ total h. met_fed due before after (seen_in total a) (seen_in total b) h known at next (subst (λ z. Compares due known z None) held k) (subst (λ z. Feeds (Ok tt) b.checker z next) held fed) (subst (λ z. Follows due before z after) held f)) p
 
 pub expects_cut : (due : Due) (names : NamedVars) (a b : Stream) → (AtEnd a.source → ⊥) → (r : Result (Unit {0}) Stop) → Reading is_fed (Ok awaited.Cut) a b (AwaitsNext names) → SaysUnmet due r → Confirms r a b (MeetsDue due names names)

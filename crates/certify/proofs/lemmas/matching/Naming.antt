@@ -1,18 +1,17 @@
 -- How the names of a command are met.
-use Rattle.std.proofs.Common.{ℕ, true, ◌+◌, ◌-◌, ◌≤◌, ◌<◌, ◌≡◌, List, [], ◌∷◌, ◌++◌, map, Result, Ok, Err, refl, sym, ◌∙◌, ap, subst, arith}
-use Rattle.std.proofs.lemmas.List.{append-nil, map-append}
+use Rattle.std.proofs.Common.{ℕ, true, ◌+◌, ◌-◌, ◌<◌, ◌≡◌, List, [], ◌∷◌, ◌++◌, map, Result, Ok, Err, refl, sym, ◌∙◌, ap, subst, arith}
+use Rattle.std.proofs.lemmas.List.{map-append}
 use Rattle.sat_base.specs.device.Reading.{AtEnd}
 use Rattle.sat_base.specs.script.Script.{Literal}
 use Rattle.sat_base.specs.script.Judge.{Judge, names_from, new_names}
-use Rattle.sat_base.specs.steps.Steps.{Step}
-use Rattle.sat_checker.specs.matching.Expected.{Outcome, Unknown, Expected, NewName, NoName}
+use Rattle.sat_checker.specs.matching.Expected.{Outcome, Unknown, Expected, NewName}
 use Rattle.certify.specs.confirm.CertificatePlaces.{Leads, Bars}
 use Rattle.certify.specs.confirm.Streams.{Stream, seen_in, Confirms}
 use Rattle.certify.specs.confirm.Views.{View}
 use Rattle.certify.specs.judge.Names.{Stands}
-use Rattle.certify.specs.matching.Awaiting.{IsAt, MeetsDue}
+use Rattle.certify.specs.matching.Awaiting.{MeetsDue}
 use Rattle.certify.specs.matching.Comparing.{Allows, Due}
-use Rattle.certify.specs.matching.Naming.{MeetsAll, MeetsName, naming, hidden_by}
+use Rattle.certify.specs.matching.Naming.{MeetsAll, MeetsName, hidden_by}
 use Rattle.certify.specs.reading.Language.{Kind}
 use Rattle.certify.specs.declared.confirm.stop.Stop.{Stop}
 use Rattle.certify.specs.declared.confirm.stop.Stop.TheVariants as stop
@@ -20,7 +19,7 @@ use Rattle.certify.specs.declared.judge.names.Names.{Names}
 use Rattle.certify.specs.declared.matching.named.NamedVars.{NamedVars}
 use Rattle.certify.specs.declared.verdict.Why.{Why}
 use Rattle.certify.proofs.lemmas.confirm.CertificatePlaces.{leads_nowhere, leads_on, bars_behind, bars_more}
-use Rattle.certify.proofs.lemmas.confirm.PlainJudge.{from_more, from_split}
+use Rattle.certify.proofs.lemmas.confirm.NamesFrom.{from_more, from_split}
 use Rattle.certify.proofs.lemmas.confirm.Streams.{confirms_none, confirms_so, confirms_stop, confirms_then, says_stop}
 
 pub nothing : (names : NamedVars) (u : View) → MeetsAll [] names names u u (Ok tt)

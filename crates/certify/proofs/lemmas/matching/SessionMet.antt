@@ -1,5 +1,5 @@
 -- A session, call by call.
-use Rattle.std.proofs.Common.{ℕ, ◌+◌, ◌≡◌, Bool, true, false, List, [], ◌∷◌, ◌++◌, Option, Some, None, Result, Ok, Err, OnOk, refl, sym, ◌∙◌, ap, subst}
+use Rattle.std.proofs.Common.{ℕ, ◌+◌, ◌≡◌, Bool, true, false, List, [], ◌∷◌, ◌++◌, Some, None, Result, Ok, Err, OnOk, refl, sym, ◌∙◌, ap, subst}
 use Rattle.std.proofs.lemmas.List.{append-nil}
 use Rattle.sat_base.specs.device.Reading.{Source, AtEnd}
 use Rattle.sat_base.specs.script.Script.{Literal, Command, Ask, Clean, Malformed, Reading, names_of}
@@ -7,14 +7,13 @@ use Rattle.sat_base.specs.script.Judge.{Judge, after_command, refusal_of}
 use Rattle.sat_base.specs.steps.Steps.{Step}
 use Rattle.sat_checker.specs.Accepts.{ready_after}
 use Rattle.sat_checker.specs.KernelView.{Stands as HasTakenSteps}
-use Rattle.sat_checker.specs.matching.Expected.{Outcome, Sat, Unsat, Unknown, Expected, Adds, Opens, Shows, Fails, Closes, Finish, showing}
+use Rattle.sat_checker.specs.matching.Expected.{Outcome, Sat, Unsat, Unknown, Opens, Shows, Fails, Closes, Finish, showing}
 use Rattle.certify.specs.answers.Answers.{outcome_text, refused_line, malformed_line}
 use Rattle.certify.specs.answers.AnswerForms.{IsInForm, named_literals}
-use Rattle.certify.specs.confirm.ConfirmedCommands.{TakesLine}
+use Rattle.certify.specs.matching.Lines.{TakesLine}
 use Rattle.certify.specs.confirm.Streams.{Stream, Confirms, seen_in}
 use Rattle.certify.specs.confirm.Views.{View}
 use Rattle.certify.specs.judge.Names.{Changes, Judges, Stands, refusal_said, used_in}
-use Rattle.certify.specs.laws.Laws.{NamesIncrease}
 use Rattle.certify.specs.matching.Awaiting.{MeetsDue}
 use Rattle.certify.specs.matching.Comparing.{Allows, Due}
 use Rattle.certify.specs.matching.Confirming.{ConfirmsAnswer, ConfirmsContent, ConfirmsLast, ConfirmsNext, IsNamed, MeetsContent, MeetsOutcome, MeetsShown, Table, ToConfirm}
@@ -36,7 +35,7 @@ use Rattle.certify.specs.declared.reading.Command.{Command as Lent}
 use Rattle.certify.specs.declared.verdict.Why.{Why}
 use Rattle.certify.proofs.lemmas.confirm.Streams.{confirms_none, confirms_so, confirms_stop, confirms_then}
 use Rattle.certify.proofs.lemmas.matching.CommandsMet.{ask_answered, ask_without_answer, ask_without_assumptions, command_refused, command_unnamed, malformed_barred, malformed_then, over_barred, over_done, over_extra, plain_confirmed}
-use Rattle.certify.proofs.lemmas.matching.Joining.{certificate_goes, certificate_joins, certificate_stops, halted, joins_so, joins_stop, joins_then, replies_end, replies_go, replies_join, took_none}
+use Rattle.certify.proofs.lemmas.matching.Joining.{certificate_goes, certificate_joins, certificate_stops, halted, joins_stop, joins_then, replies_end, replies_go, replies_join}
 use Rattle.certify.proofs.lemmas.matching.Naming.{both, first_barred, nothing}
 use Rattle.certify.proofs.lemmas.matching.UsedNames.{used_names}
 

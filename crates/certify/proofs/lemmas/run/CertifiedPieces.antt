@@ -34,7 +34,7 @@ use Rattle.certify.specs.run.Running.{HasFirstNames, Told, WritesClause, unwritt
 use Rattle.sat_checker.proofs.lemmas.sets.Canonical.{among_from_contains, contains_from_among}
 use Rattle.certify.proofs.lemmas.run.MirroredRecords.{mirrors_start, mirrors_same, mirrors_added, mirrors_derived, mirrors_named, mirrors_model, mirrors_assumed}
 use Rattle.certify.proofs.lemmas.run.NamesOfLiterals.{within_first, raised_least, codes_bounded}
-use Rattle.certify.proofs.lemmas.confirm.PlainJudge.{from_split}
+use Rattle.certify.proofs.lemmas.confirm.NamesFrom.{from_split}
 use Rattle.certify.proofs.lemmas.run.FirstNames.{AreNames, identity_plain, bring_plain}
 use Rattle.certify.proofs.lemmas.search.SolverCalls.{true_with, normal_bounded}
 use Rattle.certify.proofs.lemmas.confirm.LiteralSets.{among_is, is_from_among}

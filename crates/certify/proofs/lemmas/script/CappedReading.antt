@@ -161,10 +161,6 @@ reading-held text =
     ∙ ap (λ (b : Bool). asked_if b (capped_reading (written text))) (sym (headed_by (tokens text) (text_is text)))
     ∙ ap (asked_if (any_header (capped_tokens (scan text)))) (written-held text)
 
--- the commands with capped names are as many
-pub counted : (text : List ℕ) (script : CappedScript) → script ≡ capped_script text → length (reading text).0 ≡ length script.0
-counted text script e = sym (ap (λ (s : CappedScript). length s.0) e ∙ length-map (reading text).0 capped_command)
-
 -- a value that is capped at 2^64-1, and then as a name
 pub token_of-held : (t : Token) → token_of (base.held_token t) ≡ capped_token t
 token_of-held (Number negative value) = let e : capped_name (base.held value) ≡ capped_name value = omega arith in ap (Number negative) e

@@ -10,7 +10,7 @@ abbrev pub invariant-loop-awaited : goal.invariant-loop-awaited
 invariant-loop-awaited g l = record {
   same : reader_name l.steps ≡ reader_name l.fn.steps;
   goes_on : GoesOn g.R.CountedRead.seen l.steps;
-  passed : (names : NamedVars) → Confirms (Ok tt) (stream_of g.R.CountedRead.seen l.fn.steps (kernel_of l.fn.checker) []) (stream_of g.R.CountedRead.seen l.steps (kernel_of l.checker) []) (Passed names);
+  passed : (names : NamedVars) → Confirms (Ok tt) (stream_of g.R.CountedRead.seen l.fn.steps (kernel_of l.fn.checker)) (stream_of g.R.CountedRead.seen l.steps (kernel_of l.checker)) (Passed names);
 }
 
 abbrev pub decreases-loop-awaited : goal.decreases-loop-awaited

@@ -10,5 +10,5 @@ abbrev pub invariant-loop-done : goal.invariant-loop-done
 invariant-loop-done g l = record {
   same : reader_name l.steps ≡ reader_name l.fn.steps;
   goes_on : GoesOn g.R.CountedRead.seen l.steps;
-  met : Confirms (Ok tt) (stream_of g.R.CountedRead.seen l.fn.steps (kernel_of l.fn.certificate.checker) []) (stream_of g.R.CountedRead.seen l.steps (kernel_of l.certificate.checker) []) (MeetsAll (news l.done (l.new.first + 1)) l.fn.certificate.names l.certificate.names);
+  met : Confirms (Ok tt) (stream_of g.R.CountedRead.seen l.fn.steps (kernel_of l.fn.certificate.checker)) (stream_of g.R.CountedRead.seen l.steps (kernel_of l.certificate.checker)) (MeetsAll (news l.done (l.new.first + 1)) l.fn.certificate.names l.certificate.names);
 }

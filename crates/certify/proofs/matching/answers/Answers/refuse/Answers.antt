@@ -2,7 +2,7 @@ use Rattle.std.proofs.Common.{◌≡◌, ◌<◌, ◌^◌, ◌++◌, [], Ok, Err
 use Rattle.std.proofs.lemmas.Result.{err_from_is_err_and}
 use Rattle.std.specs.Bool.{MatchBool}
 use Rattle.certify.specs.answers.Answers.{refused_line}
-use Rattle.certify.specs.confirm.ConfirmedCommands.{TakesLine}
+use Rattle.certify.specs.matching.Lines.{TakesLine}
 use Rattle.certify.specs.matching.Halting.{Replies}
 use Rattle.certify.specs.matching.Lines.{IsLine, answers_source, refusal_in}
 use Rattle.certify.proofs.matching.answers.Answers.refuse.Goals as goal

@@ -1,7 +1,7 @@
 use Rattle.std.proofs.Common.{◌≡◌, ◌<◌, ◌^◌, ◌++◌, [], Ok, Err, OnOk, Bool, true, false, List, ℕ, refl, sym, ◌∙◌, ap, subst, arith}
 use Rattle.std.proofs.lemmas.Result.{err_from_is_err_and}
 use Rattle.std.specs.Bool.{MatchBool}
-use Rattle.certify.specs.confirm.ConfirmedCommands.{TakesLine}
+use Rattle.certify.specs.matching.Lines.{TakesLine}
 use Rattle.certify.specs.declared.verdict.Why.TheVariants.{AnswerMissing, AnswerText}
 use Rattle.certify.specs.matching.Lines.{answers_source}
 use Rattle.certify.proofs.lemmas.matching.Lines.{due_taken, due_differs, line_stops}

@@ -13,7 +13,7 @@ loop-lit-init g c =
       same = refl;
       goes_on = c.requires.goes_on;
       taken = none_taken (kind_of c.args.kind) c.args.literals.now old.names;
-      met = none_met (kind_of c.args.kind) c.args.literals.now old.names old.certificate.names (stream_of g.R.CountedRead.seen c.args.steps.now (kernel_of old.certificate.checker) []);
+      met = none_met (kind_of c.args.kind) c.args.literals.now old.names old.certificate.names (stream_of g.R.CountedRead.seen c.args.steps.now (kernel_of old.certificate.checker));
     }
 
 pub returns-in_err-take_name-clause-confirms : goal.returns-in_err-take_name-clause-confirms
@@ -23,7 +23,7 @@ returns-in_err-take_name-clause-confirms g c =
     let l = c.loop-lit in
     let p = err_from_is_err_and c.from_residual.result c.from_residual.ensures.1 in
     rw (p.1, p.2) (next_stop (kind_of c.args.kind) c.args.literals.now l.lit-index c.lit-item.result c.var.result old.names l.self.names old.certificate.names l.self.certificate.names c.take_name.new.self.certificate.names c.loop-lit-test.true c.lit-item.is c.var.ensures l.invariant.taken
-    (stream_of S c.args.steps.now (kernel_of old.certificate.checker) []) (stream_of S l.steps (kernel_of l.self.certificate.checker) []) (stream_of S c.take_name.new.steps (kernel_of c.take_name.new.self.certificate.checker) [])
+    (stream_of S c.args.steps.now (kernel_of old.certificate.checker)) (stream_of S l.steps (kernel_of l.self.certificate.checker)) (stream_of S c.take_name.new.steps (kernel_of c.take_name.new.self.certificate.checker))
     c.requires.goes_on.open_yet l.invariant.met c.in_err-take_name.field-0.0 c.in_err-take_name.ensures.confirms)
 
 pub loop-lit-preserved : goal.loop-lit-preserved
@@ -36,7 +36,7 @@ loop-lit-preserved g c =
       goes_on = c.in_ok-take_name.ensures.goes_on;
       taken = one_taken (kind_of c.args.kind) c.args.literals.now l.lit-index c.lit-item.result c.var.result old.names l.self.names c.take_name.new.self.names c.loop-lit-test.true c.lit-item.is c.var.ensures l.invariant.taken c.in_ok-take_name.ensures.changes;
       met = next_met (kind_of c.args.kind) c.args.literals.now l.lit-index c.lit-item.result c.var.result old.names l.self.names old.certificate.names l.self.certificate.names c.take_name.new.self.certificate.names c.loop-lit-test.true c.lit-item.is c.var.ensures l.invariant.taken
-          (stream_of S c.args.steps.now (kernel_of old.certificate.checker) []) (stream_of S l.steps (kernel_of l.self.certificate.checker) []) (stream_of S c.take_name.new.steps (kernel_of c.take_name.new.self.certificate.checker) [])
+          (stream_of S c.args.steps.now (kernel_of old.certificate.checker)) (stream_of S l.steps (kernel_of l.self.certificate.checker)) (stream_of S c.take_name.new.steps (kernel_of c.take_name.new.self.certificate.checker))
           c.requires.goes_on.open_yet l.invariant.met c.in_ok-take_name.ensures.confirms;
     }
 
@@ -51,4 +51,4 @@ returns-clause-confirms g c =
     let old = c.args.self.now in
     let l = c.loop-lit in
     let over : length c.args.literals.now ≤ l.lit-index = omega arith in
-    all_met (kind_of c.args.kind) c.args.literals.now l.lit-index old.names old.certificate.names l.self.certificate.names (stream_of S c.args.steps.now (kernel_of old.certificate.checker) []) (stream_of S l.steps (kernel_of l.self.certificate.checker) []) over l.invariant.met
+    all_met (kind_of c.args.kind) c.args.literals.now l.lit-index old.names old.certificate.names l.self.certificate.names (stream_of S c.args.steps.now (kernel_of old.certificate.checker)) (stream_of S l.steps (kernel_of l.self.certificate.checker)) over l.invariant.met

@@ -12,6 +12,6 @@ invariant-loop-lit g l = record {
   same : reader_name l.steps ≡ reader_name l.fn.steps;
   goes_on : GoesOn g.R.CountedRead.seen l.steps;
   taken : SoFar (kind_of l.kind) l.literals l.lit-index l.fn.self.names l.self.names;
-  met : Confirms (Ok tt) (stream_of g.R.CountedRead.seen l.fn.steps (kernel_of l.fn.self.certificate.checker) []) (stream_of g.R.CountedRead.seen l.steps (kernel_of l.self.certificate.checker) [])
+  met : Confirms (Ok tt) (stream_of g.R.CountedRead.seen l.fn.steps (kernel_of l.fn.self.certificate.checker)) (stream_of g.R.CountedRead.seen l.steps (kernel_of l.self.certificate.checker))
       (MeetsNames (kind_of l.kind) (listed (take l.lit-index l.literals)) l.fn.self.names l.fn.self.certificate.names l.self.certificate.names);
 }
