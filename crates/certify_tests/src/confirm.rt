@@ -11,7 +11,7 @@ use std::alloc::Global;
 const AMPLE: u64 = 1 << 20;
 
 /// A script, answers and a certificate.
-type Texts<'a> = (&'a [u8], &'a [u8], &'a [u8]);
+pub(crate) type Texts<'a> = (&'a [u8], &'a [u8], &'a [u8]);
 
 /// What is said of texts that are read whole, and the looks are added to those of others.
 fn said_by(alloc: Global, texts: Texts<'_>, looks: &mut Looks) -> Result<Verdict, ConfirmFault> {
@@ -29,7 +29,7 @@ fn said_whole(alloc: Global, texts: Texts<'_>) -> Result<Verdict, ConfirmFault> 
 }
 
 /// What is said of texts that are read by one byte, where one read of each fails; none where that is 0.
-fn said_at(
+pub(crate) fn said_at(
     alloc: Global,
     texts: Texts<'_>,
     failing: (u64, u64, u64),
@@ -48,11 +48,11 @@ fn is_said(alloc: Global, texts: Texts<'_>, verdict: Verdict) -> bool {
     said_whole(alloc, texts) == Ok(verdict) && said_at(alloc, texts, (0, 0, 0)) == Ok(verdict)
 }
 
-fn is_yes(alloc: Global, texts: Texts<'_>) -> bool {
+pub(crate) fn is_yes(alloc: Global, texts: Texts<'_>) -> bool {
     is_said(alloc, texts, Verdict::Yes)
 }
 
-fn is_no(alloc: Global, texts: Texts<'_>, ask: u64, why: Why) -> bool {
+pub(crate) fn is_no(alloc: Global, texts: Texts<'_>, ask: u64, why: Why) -> bool {
     is_said(alloc, texts, Verdict::No { ask, why })
 }
 
@@ -608,7 +608,7 @@ const PIGEONS: &[u8] =
     b"1 2 0\n3 4 0\n5 6 0\n-1 -3 0\n-1 -5 0\n-3 -5 0\n-2 -4 0\n-2 -6 0\n-4 -6 0\na 0\n";
 
 /// A script, and a budget.
-static RUNS: [(&[u8], u64); 26] = [
+static RUNS: [(&[u8], u64); 24] = [
     (PIGEONS, AMPLE),
     (b"1 0\na 0\n-1 0\n2 0\na 0\n", AMPLE),
     (b"", AMPLE),
@@ -628,12 +628,10 @@ static RUNS: [(&[u8], u64); 26] = [
     (b"+1 0\n", AMPLE),
     (b"1 a 0\n", AMPLE),
     (b"b 0\n", AMPLE),
-    (b"a 1 0\n", AMPLE),
     (b"p cnf 2 1\n1 2 0\n%\n0\n", AMPLE),
     (b"p cnf 0 0\n", AMPLE),
     (b"p cnf 1 1\n1 0\na 0\n", AMPLE),
     (b"p cnf 1 1\n268435457 0\n", AMPLE),
-    (b"p cnf 1 0\na 268435457 0\n", AMPLE),
     (b"1 0\n%\na 0\n", AMPLE),
 ];
 
@@ -648,20 +646,29 @@ fn what_a_run_wrote_is_confirmed(rt: HostRuntime) {
     }
 }
 
-/// Texts, the read of the certificate that fails, and what is said: nothing is read behind the step that decides.
-static DECIDED_BEFORE: [(Texts<'static>, u64, Verdict); 2] = [
+const OUT_OF_PLACE: Verdict = Verdict::No {
+    ask: 1,
+    why: Why::StepOutOfPlace,
+};
+
+/// Texts, the reads of script, answers and certificate that fail, and what is said: nothing is read behind the step that decides.
+static DECIDED_BEFORE: [(Texts<'static>, (u64, u64, u64), Verdict); 5] = [
+    ((UNITS, NONE_LEFT, &[0x0d]), (0, 0, 2), OUT_OF_PLACE),
+    // The first command ends with its fourth byte, and expects a step.
+    ((UNITS, NONE_LEFT, &[0x0d]), (5, 1, 2), OUT_OF_PLACE),
+    ((ROW, b"s UNKNOWN\n", ROW_STEPS), (11, 11, 17), OUT_OF_PLACE),
     (
-        (UNITS, NONE_LEFT, &[0x0d]),
-        2,
+        (ROW, b"c s\n", ROW_STEPS),
+        (11, 5, 13),
         Verdict::No {
             ask: 1,
-            why: Why::StepOutOfPlace,
+            why: Why::AnswerText,
         },
     ),
-    ((ROW, ROW_ANSWERS, ROW_STEPS), 20, Verdict::Yes),
+    ((ROW, ROW_ANSWERS, ROW_STEPS), (0, 0, 20), Verdict::Yes),
 ];
 
-fn decided_before() -> &'static [(Texts<'static>, u64, Verdict)] {
+fn decided_before() -> &'static [(Texts<'static>, (u64, u64, u64), Verdict)] {
     &DECIDED_BEFORE
 }
 
@@ -669,7 +676,7 @@ fn decided_before() -> &'static [(Texts<'static>, u64, Verdict)] {
 fn nothing_is_read_behind_the_decision(rt: HostRuntime) {
     for &(texts, failing, verdict) in decided_before() {
         assert!(rt;
-            said_at(rt.alloc(), texts, (0, 0, failing)) == Ok(verdict),
+            said_at(rt.alloc(), texts, failing) == Ok(verdict),
             "{texts:?}"
         );
     }

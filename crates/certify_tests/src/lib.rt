@@ -15,6 +15,10 @@ mod devices;
 #[cfg(test)]
 mod files;
 #[cfg(test)]
+mod names;
+#[cfg(test)]
+mod pieces;
+#[cfg(test)]
 mod program;
 #[cfg(test)]
 mod reading;

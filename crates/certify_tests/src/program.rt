@@ -32,7 +32,7 @@ const PIGEONS: &str = "\
     -6 -12 0\n-9 -12 0\na 0\n";
 
 /// A script, the printed text, and the status.
-static SCRIPTS: [(&str, &str, u8); 14] = [
+static SCRIPTS: [(&str, &str, u8); 12] = [
     (PIGEONS, "s UNSATISFIABLE\nf 0\nc confirmed\n", 0),
     ("1 2 0\na 0\n", "s SATISFIABLE\nv -1 2 0\nc confirmed\n", 0),
     ("", "c confirmed\n", 0),
@@ -43,18 +43,12 @@ static SCRIPTS: [(&str, &str, u8); 14] = [
     ("+1 0\n", "c malformed 1\nc confirmed\n", 1),
     ("1 a 0\n", "c malformed 1\nc confirmed\n", 1),
     ("b 0\n", "c malformed 1\nc confirmed\n", 1),
-    ("a 1 0\n", "c malformed 1\nc confirmed\n", 1),
     (
         "p cnf 2 1\n1 2 0\n%\n0\n",
         "s SATISFIABLE\nv -1 2 0\nc confirmed\n",
         0,
     ),
     ("p cnf 0 0\n", "s SATISFIABLE\nv 0\nc confirmed\n", 0),
-    (
-        "p cnf 1 0\na 268435457 0\n",
-        "c malformed 1\nc confirmed\n",
-        1,
-    ),
 ];
 
 fn scripts() -> &'static [(&'static str, &'static str, u8)] {

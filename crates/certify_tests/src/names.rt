@@ -1,0 +1,373 @@
+//! Verdicts on scripts of the whole language: assumptions, names that are hidden or have a mode, and refusals.
+
+use crate::confirm::{Texts, is_no, is_yes, said_at};
+use crate::devices::append;
+use certify::verdict::{Verdict, Why};
+use std::alloc::Global;
+
+/// Scripts with their answers and certificates.
+static CONFIRMED: [Texts<'static>; 24] = [
+    // Asks under assumptions bind no later one.
+    (
+        b"-1 -2 0\na 1 2 0\n",
+        b"s UNSATISFIABLE\nf 1 2 0\n",
+        &[
+            2, 0, 1, 2, 1, 2, 5, 2, 1, 3, 9, 0, 11, 2, 0, 2, 12, 2, 0, 2, 1, 0, 11, 0, 13,
+        ],
+    ),
+    (
+        b"a 1 -1 0\n",
+        b"s UNSATISFIABLE\nf 1 -1 0\n",
+        &[2, 0, 1, 11, 2, 0, 1, 12, 2, 0, 1, 0, 11, 0, 13],
+    ),
+    (
+        b"1 0\na -1 0\na 0\n",
+        b"s UNSATISFIABLE\nf -1 0\ns SATISFIABLE\nv 1 0\n",
+        &[
+            2, 0, 1, 5, 1, 0, 11, 1, 1, 12, 1, 1, 0, 11, 0, 11, 0, 10, 1, 0, 11, 0, 13,
+        ],
+    ),
+    (
+        b"1 0\na -1 0\n2 0\na 0\n-3 -4 0\na 3 4 0\n",
+        b"s UNSATISFIABLE\nf -1 0\ns SATISFIABLE\nv 1 2 0\ns UNSATISFIABLE\nf 3 4 0\n",
+        &[
+            2, 0, 1, 5, 1, 0, 11, 1, 1, 12, 1, 1, 0, 11, 0, 2, 1, 2, 5, 1, 2, 11, 0, 10, 2, 0, 2,
+            11, 0, 2, 2, 3, 2, 3, 4, 5, 2, 5, 7, 9, 0, 11, 2, 4, 6, 12, 2, 4, 6, 1, 0, 11, 0, 13,
+        ],
+    ),
+    // A literal stands twice in an ask, and in the assumptions in another order.
+    (
+        b"a 2 1 2 0\n",
+        b"s SATISFIABLE\nv 1 2 0\n",
+        &[2, 0, 1, 2, 1, 2, 11, 2, 0, 2, 10, 2, 2, 0, 11, 0, 13],
+    ),
+    // The hidden variable is deleted during the ask.
+    (
+        b"1 2 0\n-2 0\nh 2 0\na -1 0\n",
+        b"s UNSATISFIABLE\nf -1 0\n",
+        &[
+            2, 0, 1, 2, 1, 2, 5, 2, 0, 2, 5, 1, 3, 2, 1, 0, 11, 1, 1, 9, 0, 6, 0, 1, 0, 1, 0, 8, 2,
+            0, 2, 2, 3, 1, 12, 1, 1, 0, 11, 0, 13,
+        ],
+    ),
+    // A name that comes in again is another variable: one that is new, or one that was deleted.
+    (
+        b"1 0\nh 1 0\n-1 0\na 0\n",
+        b"s SATISFIABLE\nv -1 0\n",
+        &[
+            2, 0, 1, 5, 1, 0, 2, 0, 0, 2, 1, 1, 5, 1, 3, 11, 0, 10, 1, 3, 11, 0, 13,
+        ],
+    ),
+    (
+        b"1 0\nh 1 0\n-1 0\na 0\n",
+        b"s SATISFIABLE\nv -1 0\n",
+        &[
+            2, 0, 1, 5, 1, 0, 2, 0, 0, 3, 0, 2, 0, 1, 5, 1, 1, 11, 0, 10, 1, 1, 11, 0, 13,
+        ],
+    ),
+    (
+        b"h 2 0\na 0\n",
+        b"s SATISFIABLE\nv -1 0\n",
+        &[
+            2, 0, 1, 2, 1, 2, 2, 1, 0, 3, 1, 11, 0, 9, 6, 10, 1, 1, 11, 0, 13,
+        ],
+    ),
+    (
+        b"1 0\na 1 0\nh 1 0\n-1 0\na 0\n",
+        b"s SATISFIABLE\nv 1 0\ns SATISFIABLE\nv -1 0\n",
+        &[
+            2, 0, 1, 5, 1, 0, 11, 1, 0, 10, 1, 0, 11, 0, 2, 0, 0, 2, 1, 1, 5, 1, 3, 11, 0, 10, 1,
+            3, 11, 0, 13,
+        ],
+    ),
+    // Each name of a command in turn comes in and is hidden.
+    (
+        b"h 1 1 0\na 0\n",
+        b"s SATISFIABLE\nv 0\n",
+        &[2, 0, 1, 2, 0, 0, 2, 1, 1, 2, 1, 0, 11, 0, 10, 0, 11, 0, 13],
+    ),
+    // A witness name may be hidden, and comes in again as a sampled one.
+    (
+        b"w 1 0\nh 1 0\n1 0\na 0\n",
+        b"s SATISFIABLE\nv 1 0\n",
+        &[
+            2, 0, 1, 4, 0, 0, 2, 0, 0, 2, 1, 1, 5, 1, 2, 11, 0, 10, 1, 2, 11, 0, 13,
+        ],
+    ),
+    (
+        b"w 1 0\ns 1 0\n1 0\na 0\n",
+        b"s SATISFIABLE\nv 1 0\n",
+        &[
+            2, 0, 1, 4, 0, 0, 4, 0, 1, 5, 1, 0, 11, 0, 10, 1, 0, 11, 0, 13,
+        ],
+    ),
+    // Refusals, in each kind of command.
+    (
+        b"w 1 0\n1 0\na 0\n",
+        b"c refused 2 witness 1\ns SATISFIABLE\nv -1 0\n",
+        &[2, 0, 1, 4, 0, 0, 11, 0, 10, 1, 1, 11, 0, 13],
+    ),
+    (
+        b"w 1 0\na 1 0\n",
+        b"c refused 2 witness 1\n",
+        &[2, 0, 1, 4, 0, 0, 13],
+    ),
+    (
+        b"w 1 0\n268435457 1 0\n",
+        b"c refused 2 limit\n",
+        &[2, 0, 1, 13],
+    ),
+    (
+        b"w 1 0\n2 1 268435457 0\n",
+        b"c refused 2 witness 1\n",
+        &[2, 0, 1, 13],
+    ),
+    (
+        b"h 268435457 0\nw 1 268435457 0\ns 268435457 0\na 268435457 0\n-268435457 0\n",
+        b"c refused 1 limit\nc refused 2 limit\nc refused 3 limit\nc refused 4 limit\nc refused 5 limit\n",
+        &[13],
+    ),
+    // An ask that is refused is one: the header asks no more.
+    (b"p cnf 1 0\na 268435457 0\n", b"c refused 1 limit\n", &[13]),
+    (
+        b"p cnf 1 0\nw 1 0\n",
+        b"s SATISFIABLE\nv -1 0\n",
+        &[2, 0, 1, 11, 0, 10, 1, 1, 11, 0, 13],
+    ),
+    // No names.
+    (b"h 0\nw 0\ns 0\n", b"", &[13]),
+    (
+        b"1 0\nh -1 0\n",
+        b"c malformed 2\n",
+        &[2, 0, 1, 5, 1, 0, 13],
+    ),
+    (b"h 1 0\na 1", b"c malformed 2\n", &[2, 0, 1, 2, 0, 0, 13]),
+    (
+        b"1 -1 0\na 0\n%\nx",
+        b"s SATISFIABLE\nv -1 0\n",
+        &[2, 0, 1, 5, 2, 0, 1, 11, 0, 10, 1, 1, 11, 0, 13],
+    ),
+];
+
+fn confirmed() -> &'static [Texts<'static>] {
+    &CONFIRMED
+}
+
+#[test]
+fn whole_scripts_match(rt: HostRuntime) {
+    for &texts in confirmed() {
+        assert!(rt; is_yes(rt.alloc(), texts), "{texts:?}");
+    }
+}
+
+/// Texts, the ask, and what doesn't match there.
+static NOT_CONFIRMED: [(Texts<'static>, u64, Why); 8] = [
+    // The old variable of a hidden name, which the checker alone takes for the name's own.
+    (
+        (
+            b"1 0\nh 1 0\n-1 0\na 0\n",
+            b"s UNSATISFIABLE\nf 0\n",
+            &[2, 0, 1, 5, 1, 0, 2, 0, 0, 4, 0, 1, 2, 0, 1, 5, 1, 1, 13],
+        ),
+        1,
+        Why::NameNotFresh,
+    ),
+    // A refused command isn't refused in the answers, or with another reason.
+    (
+        (b"w 1 0\n1 0\n", b"", &[2, 0, 1, 13]),
+        1,
+        Why::AnswerMissing,
+    ),
+    (
+        (b"w 1 0\n1 0\n", b"c refused 2 limit\n", &[2, 0, 1, 13]),
+        1,
+        Why::AnswerText,
+    ),
+    (
+        (
+            b"w 1 2 0\n2 1 0\n",
+            b"c refused 2 witness 1\n",
+            &[2, 0, 1, 2, 1, 2, 13],
+        ),
+        1,
+        Why::AnswerText,
+    ),
+    // A clause of a witness name in the certificate.
+    (
+        (
+            b"w 1 0\n1 0\n",
+            b"c refused 2 witness 1\n",
+            &[2, 0, 1, 5, 1, 0, 13],
+        ),
+        1,
+        Why::StepOutOfPlace,
+    ),
+    // A core that isn't among the assumptions, and one that doesn't fail.
+    (
+        (
+            b"-1 0\na 2 0\n",
+            b"s UNSATISFIABLE\nf 1 0\n",
+            &[2, 0, 1, 5, 1, 1, 2, 1, 2, 11, 1, 2, 12, 1, 0, 0, 11, 0, 13],
+        ),
+        1,
+        Why::StepRefused,
+    ),
+    (
+        (
+            b"1 0\na 1 0\n",
+            b"s UNSATISFIABLE\nf 1 0\n",
+            &[2, 0, 1, 5, 1, 0, 11, 1, 0, 12, 1, 0, 0, 11, 0, 13],
+        ),
+        1,
+        Why::StepRefused,
+    ),
+    // A hidden name stays in the model.
+    (
+        (
+            b"1 2 0\nh 1 0\na 0\n",
+            b"s SATISFIABLE\nv -1 2 0\n",
+            &[
+                2, 0, 1, 2, 1, 2, 5, 2, 0, 2, 2, 0, 0, 11, 0, 10, 2, 1, 2, 11, 0, 13,
+            ],
+        ),
+        1,
+        Why::AnswerDiffers,
+    ),
+];
+
+fn not_confirmed() -> &'static [(Texts<'static>, u64, Why)] {
+    &NOT_CONFIRMED
+}
+
+#[test]
+fn whole_scripts_that_do_not_match(rt: HostRuntime) {
+    for &(texts, ask, why) in not_confirmed() {
+        assert!(rt; is_no(rt.alloc(), texts, ask, why), "{texts:?}");
+    }
+}
+
+/// Three asks, which have a model, a core and an unknown, then a name that is hidden and comes in again, and a fourth ask.
+const FOURTH: &[u8] = b"1 2 0\na 0\na -1 -2 0\na 0\nh 2 0\n2 -1 0\na 1 0\n";
+
+/// The certificate up to the end of the third ask.
+const THREE_ASKS: &[u8] = &[
+    2, 0, 1, 2, 1, 2, 5, 2, 0, 2, 11, 0, 10, 2, 1, 2, 11, 0, 9, 0, 11, 2, 1, 3, 12, 2, 1, 3, 1, 0,
+    11, 0, 11, 0, 11, 0,
+];
+
+const THREE_ANSWERS: &[u8] = b"s SATISFIABLE\nv -1 2 0\ns UNSATISFIABLE\nf -1 -2 0\ns UNKNOWN\n";
+
+const FOURTH_STEPS: &[u8] = &[
+    2, 1, 0, 2, 2, 2, 5, 2, 4, 1, 11, 1, 0, 10, 2, 0, 4, 11, 0, 13,
+];
+
+const FOURTH_ANSWER: &[u8] = b"s SATISFIABLE\nv 1 2 0\n";
+
+/// How the answers and the certificate go on behind three asks, and the ask and the cause of a no.
+type Tail<'a> = (&'a [u8], &'a [u8], Option<(u64, Why)>);
+
+/// Each cause of a no, at the fourth ask or behind it.
+static FOURTH_ASKS: [Tail<'static>; 18] = [
+    (FOURTH_ANSWER, FOURTH_STEPS, None),
+    (b"", FOURTH_STEPS, Some((4, Why::AnswerMissing))),
+    (
+        b"s SATISFIABLE\nv 1 2 0\nc",
+        FOURTH_STEPS,
+        Some((5, Why::AnswerExtra)),
+    ),
+    (
+        b"s SATISFIABLE\nv 1 02 0\n",
+        FOURTH_STEPS,
+        Some((4, Why::AnswerText)),
+    ),
+    (
+        FOURTH_ANSWER,
+        &[2, 1, 0, 2, 2, 2, 5, 2, 4, 0],
+        Some((4, Why::ClauseDiffers)),
+    ),
+    // Another name is hidden, none is, or another one comes in.
+    (FOURTH_ANSWER, &[2, 0, 0], Some((4, Why::NameDiffers))),
+    (FOURTH_ANSWER, &[2, 1, 2], Some((4, Why::NameDiffers))),
+    (
+        FOURTH_ANSWER,
+        &[2, 1, 0, 2, 2, 3],
+        Some((4, Why::NameDiffers)),
+    ),
+    (
+        FOURTH_ANSWER,
+        &[2, 1, 0, 2, 1, 2],
+        Some((4, Why::NameNotFresh)),
+    ),
+    (
+        FOURTH_ANSWER,
+        &[2, 1, 0, 2, 2, 2, 5, 2, 4, 1, 11, 0],
+        Some((4, Why::AskDiffers)),
+    ),
+    (
+        FOURTH_ANSWER,
+        &[2, 1, 0, 2, 2, 2, 5, 2, 4, 1, 11, 2, 0, 4],
+        Some((4, Why::AskDiffers)),
+    ),
+    (
+        FOURTH_ANSWER,
+        &[
+            2, 1, 0, 2, 2, 2, 5, 2, 4, 1, 11, 1, 0, 10, 2, 0, 4, 11, 1, 0,
+        ],
+        Some((4, Why::AskDiffers)),
+    ),
+    (
+        b"s SATISFIABLE\nv 1 -2 0\n",
+        FOURTH_STEPS,
+        Some((4, Why::AnswerDiffers)),
+    ),
+    // A model without the ask's literal.
+    (
+        b"s SATISFIABLE\nv -1 2 0\n",
+        &[2, 1, 0, 2, 2, 2, 5, 2, 4, 1, 11, 1, 0, 10, 3, 1, 2, 4],
+        Some((4, Why::AnswerDiffers)),
+    ),
+    (
+        b"s SATISFIABLE\nv 1 -2 0\n",
+        &[2, 1, 0, 2, 2, 2, 5, 2, 4, 1, 11, 1, 0, 10, 2, 0, 5],
+        Some((4, Why::StepRefused)),
+    ),
+    (
+        FOURTH_ANSWER,
+        &[2, 1, 0, 2, 2, 2, 5, 2, 4, 1, 11, 1, 0],
+        Some((4, Why::CertificateEnds)),
+    ),
+    (
+        FOURTH_ANSWER,
+        &[2, 1, 0, 2, 2, 2, 5, 2, 4, 1, 11, 1, 0, 13],
+        Some((4, Why::StepOutOfPlace)),
+    ),
+    (FOURTH_ANSWER, &[5, 2, 4, 1], Some((4, Why::StepOutOfPlace))),
+];
+
+fn fourth_asks() -> &'static [Tail<'static>] {
+    &FOURTH_ASKS
+}
+
+/// Tests whether this is said where three asks are answered so.
+fn is_said_behind(alloc: Global, (answers, steps, no): Tail<'_>) -> bool {
+    let verdict = match no {
+        None => Verdict::Yes,
+        Some((ask, why)) => Verdict::No { ask, why },
+    };
+    let mut answered = Vec::new(alloc);
+    let mut certificate = Vec::new(alloc);
+    append(&mut answered, &[THREE_ANSWERS, answers])
+        && append(&mut certificate, &[THREE_ASKS, steps])
+        && said_at(
+            alloc,
+            (FOURTH, answered.as_slice(), certificate.as_slice()),
+            (0, 0, 0),
+        ) == Ok(verdict)
+}
+
+#[test]
+fn later_asks_are_named_behind_each_answer(rt: HostRuntime) {
+    for &tail in fourth_asks() {
+        assert!(rt; is_said_behind(rt.alloc(), tail), "{tail:?}");
+    }
+}

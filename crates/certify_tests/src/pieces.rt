@@ -1,0 +1,138 @@
+//! Texts with a clause of 5,000 literals, read in pieces, of which none is asked for that is larger than 4,096 bytes.
+
+use certify::answers::write::{push_literal, push_sat};
+use certify::confirm::confirm;
+use certify::verdict::{ConfirmFault, Verdict};
+use sat_base::{Counted, CountedWrite, Lit, ProofStep, Var, write_step};
+use sat_checker::Looks;
+use std::alloc::{AllocError, Global};
+use std::io::{self, Read};
+
+/// A reader that gives its text in pieces of at most so many bytes, and notes the most that it was asked for.
+#[derive(Drop)]
+struct ByPiece<'a> {
+    text: &'a [u8],
+    piece: usize,
+    asked: usize,
+}
+
+impl Read for ByPiece<'_> {
+    fn read(&mut self, buf: &mut [u8]) -> io::Result<usize> {
+        self.asked = self.asked.max(buf.len());
+        let count = self.piece.min(buf.len()).min(self.text.len());
+        let (piece, rest) = self.text.split_at(count);
+        buf[..count].copy_from_slice(piece);
+        self.text = rest;
+        Ok(count)
+    }
+}
+
+fn by_piece(text: &[u8], piece: usize) -> Counted<ByPiece<'_>> {
+    Counted::new(ByPiece {
+        text,
+        piece,
+        asked: 0,
+    })
+}
+
+const COUNT: usize = 5000;
+
+/// The positive literals of the first names.
+fn literals(alloc: Global) -> Result<Vec<Lit>, AllocError> {
+    let mut lits = Vec::new(alloc);
+    for index in 0..COUNT {
+        lits.push(Lit::from_index(index, true))?;
+    }
+    Ok(lits)
+}
+
+/// A clause of the literals, and an ask.
+fn script_of(alloc: Global, lits: &[Lit]) -> Result<Vec<u8>, AllocError> {
+    let mut script = Vec::new(alloc);
+    for lit in lits {
+        push_literal(&mut script, *lit)?;
+        script.push(b' ')?;
+    }
+    script.extend_from_slice(b"0\na 0\n")?;
+    Ok(script)
+}
+
+/// A model in which all of them are true.
+fn answers_of(alloc: Global, lits: &[Lit]) -> Result<Vec<u8>, AllocError> {
+    let mut answers = Vec::new(alloc);
+    push_sat(&mut answers, lits)?;
+    Ok(answers)
+}
+
+/// Names the variables, each by itself.
+fn write_names<W: CountedWrite>(out: &mut W) -> io::Result<()> {
+    for index in 0..COUNT {
+        let var = Var::from_index(index);
+        let user = Some(var);
+        write_step(out, &ProofStep::UserVarName { global: var, user })?;
+    }
+    Ok(())
+}
+
+/// The steps of the clause, and of the ask.
+fn write_steps<W: CountedWrite>(out: &mut W, lits: &[Lit]) -> io::Result<()> {
+    write_names(out)?;
+    let none = ProofStep::Assumptions { assumptions: &[] };
+    write_step(out, &ProofStep::AddClause { clause: lits })?;
+    write_step(out, &none)?;
+    write_step(out, &ProofStep::Model { assignment: lits })?;
+    write_step(out, &none)?;
+    write_step(out, &ProofStep::End)
+}
+
+fn certificate_of(alloc: Global, lits: &[Lit]) -> io::Result<Vec<u8>> {
+    let mut out = Counted::new(Vec::new(alloc));
+    write_steps(&mut out, lits)?;
+    Ok(out.into_inner())
+}
+
+/// What is said of texts that are read in pieces of this size, and the most that a reader was asked for.
+fn said_in(
+    alloc: Global,
+    texts: (&[u8], &[u8], &[u8]),
+    piece: usize,
+) -> (Result<Verdict, ConfirmFault>, usize) {
+    let mut script = by_piece(texts.0, piece);
+    let mut answers = by_piece(texts.1, piece);
+    let mut certificate = by_piece(texts.2, piece);
+    let said = confirm(
+        alloc,
+        &mut script,
+        &mut answers,
+        &mut certificate,
+        &mut Looks::new(),
+    );
+    let asked = script.into_inner().asked.max(answers.into_inner().asked);
+    (said, asked.max(certificate.into_inner().asked))
+}
+
+/// Tests whether texts are confirmed in pieces of each size.
+fn are_confirmed(alloc: Global, texts: (&[u8], &[u8], &[u8])) -> bool {
+    for piece in [1, 2, 4095, 4096, 8192] {
+        let (said, asked) = said_in(alloc, texts, piece);
+        if said != Ok(Verdict::Yes) || asked > 4096 {
+            return false;
+        }
+    }
+    true
+}
+
+/// Tests whether the clause and its model are confirmed.
+fn is_confirmed(alloc: Global) -> io::Result<bool> {
+    let lits = literals(alloc)?;
+    let script = script_of(alloc, &lits)?;
+    let answers = answers_of(alloc, &lits)?;
+    let certificate = certificate_of(alloc, &lits)?;
+    Ok(are_confirmed(alloc, (&script, &answers, &certificate)))
+}
+
+#[test]
+fn no_text_is_held_whole(rt: HostRuntime) -> io::Result<()> {
+    assert!(rt; is_confirmed(rt.alloc())?);
+    Ok(())
+}
