@@ -4,4 +4,5 @@ pub mod ServingLaws
 pub mod Calls
 pub mod Telling
 pub mod Standing
+pub mod Obeying
 pub mod Asking

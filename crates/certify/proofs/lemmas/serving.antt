@@ -9,5 +9,11 @@ pub mod Recorded
 pub mod Closing
 pub mod AskServed
 pub mod ClauseServed
+pub mod NoLines
 pub mod SessionCalls
 pub mod CallFaults
+pub mod Carried
+pub mod Obeys
+pub mod Next
+pub mod Lent
+pub mod NextLent

@@ -1,5 +1,5 @@
 -- What a run's calls of its solver leave, and which faults they give.
-use Rattle.std.specs.Prelude.{ℕ, ◌+◌, ◌≡◌, Bool, true, false, Option, Some, None, List, [], ◌∷◌, Result, Ok, Err}
+use Rattle.std.specs.Prelude.{ℕ, ◌+◌, ◌≡◌, Bool, true, false, None, List}
 use Rattle.sat_base.specs.device.Device.{Writer}
 use Rattle.sat_base.specs.script.Judge.{Judge, refused_literal}
 use Rattle.sat_solver.specs.declared.error.SolverError.{SolverError}
@@ -12,6 +12,7 @@ use Rattle.sat_solver.specs.names.Calls.{Agree}
 use Rattle.sat_solver.specs.names.Live.{Live}
 use Rattle.sat_solver.specs.names.Refusing.{names_in}
 use Rattle.sat_solver.specs.session.Making.{Took, Broke}
+use Rattle.sat_solver.specs.session.ProofView.{is_drat, target_of}
 use Rattle.sat_solver.specs.solver.Calls.{Answered}
 use Rattle.sat_solver.specs.solver.Whole.{IsSolver, steps_in}
 use Rattle.certify.specs.declared.fault.RunFault.{RunFault}
@@ -49,10 +50,15 @@ proof_in s = s.core.proof
 abbrev pub FailsSolver : {C : Type 0} → (C → Writer) → RunFault → Solver C → Solver C → Type 0
 FailsSolver seen e old new = Faults e ⊥ (Broke seen (proof_in old) (proof_in new)) (Took seen (proof_in old) (proof_in new))
 
--- a solver that goes on
+-- no lines of DRAT are written
+abbrev pub HasNoLines : {C : Type 0} → Proof C → Type 0
+HasNoLines {C} p = (seen : C → Writer) → is_drat (target_of seen p) ≡ false
+
+-- a solver that goes on, whose asks may have assumptions
 pub record IsReady {C : Type 0} (s : Solver C) : Type 0 where
   pub solver : IsSolver s
   pub going : s.failed ≡ false
+  pub no_lines : HasNoLines (proof_in s)
 
 -- none of the names is refused, by a state of the judge that the solver agrees with
 abbrev pub IsAllowed : {C : Type 0} → Solver C → List ℕ → Type 0

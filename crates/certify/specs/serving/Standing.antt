@@ -1,7 +1,7 @@
 -- How a run stands between commands, and what one of them leaves.
-use Rattle.std.specs.Prelude.{ℕ, ◌+◌, ◌≤◌, ◌≡◌, Some, None, List, [], ◌∷◌, ◌++◌, Result, MatchResult}
+use Rattle.std.specs.Prelude.{ℕ, ◌+◌, ◌≤◌, ◌≡◌, None, List, [], ◌∷◌, ◌++◌, Result, MatchResult}
 use Rattle.sat_base.specs.device.Device.{Writer, Takes}
-use Rattle.sat_base.specs.script.Script.{Command, Ask}
+use Rattle.sat_base.specs.script.Script.{Command}
 use Rattle.sat_base.specs.script.Judge.{Judge, Refusal, accepted, after_command, refusal_of}
 use Rattle.sat_solver.specs.declared.solver.Solver.{Solver}
 use Rattle.sat_solver.specs.names.Calls.{Agree}
@@ -12,38 +12,67 @@ use Rattle.certify.specs.Calls.{NoneFailed, OneFailed}
 use Rattle.certify.specs.answers.AnswerForms.{named_literals}
 use Rattle.certify.specs.answers.Answers.{refused_line}
 use Rattle.certify.specs.declared.fault.RunFault.{RunFault}
+use Rattle.certify.specs.declared.judge.names.Names.{Names}
+use Rattle.certify.specs.declared.reading.Command.{Command as Lent}
 use Rattle.certify.specs.declared.serving.session.Session.{Session}
 use Rattle.certify.specs.declared.summary.AskReport.{AskReport}
 use Rattle.certify.specs.judge.Names.{Stands}
 use Rattle.certify.specs.laws.Laws.{IsKept}
+use Rattle.certify.specs.reading.Commands.{kind_of}
+use Rattle.certify.specs.reading.Language.{command_of}
 use Rattle.certify.specs.serving.Calls.{Faults, IsReady, proof_in}
-use Rattle.certify.specs.serving.Serving.{Place, Serves, behind}
+use Rattle.certify.specs.serving.Serving.{Place, Serves}
 
 -- the judge's state is this, whatever names say of it
 pub record Means {C : Type 0} (s : Solver C) (j : Judge) (live : Live) : Type 0 where
   pub agree : Agree s.names (steps_in s) j live
   pub kept : IsKept j
 
+-- a run between commands, where the judge's state is this
+pub record IsAt {C : Type 0} (s : Session C) (j : Judge) : Type 0 where
+  pub live : Live
+  pub means : Means s.solver j live
+  pub names : Stands s.names j
+
+-- a run that goes on between commands, with nothing assumed
+pub record GoesOn {C : Type 0} (s : Session C) : Type 0 where
+  pub ready : IsReady s.solver
+  pub free : s.solver.assumed.items ≡ []
+  pub counted : s.refused ≤ s.commands
+  pub judge : Judge
+  pub at : IsAt s judge
+
 -- where a run stands, by the judge's state
 abbrev pub place_in : {C : Type 0} → Session C → Judge → Place
 place_in s j = record { judge = j; number = s.commands + 1; steps = steps_in s.solver; rounds = s.solver.clock.steps }
 
--- an ask was answered
-pub record Asked {C : Type 0} (seen : C → Writer) (old new : Session C) (user : List ℕ) (before after : Writer) : Type 0 where
+-- where it stood before the last command that came, of which nothing was done yet but counting it
+abbrev pub last_place : {C : Type 0} → Session C → Judge → Place
+last_place s j = record { judge = j; number = s.commands; steps = steps_in s.solver; rounds = s.solver.clock.steps }
+
+-- the command that is lent, where no name is past the limit
+abbrev pub spelled_by : Lent → Command
+spelled_by lent = command_of (kind_of lent.kind) (named_literals lent.literals.now)
+
+-- no judge for whom the names stand refuses it
+abbrev pub Allows : Names → Command → Type 0
+Allows names c = (j : Judge) → Stands names j → refusal_of j c ≡ None
+
+-- the last command that came was carried out by solver and answers; the names are told of it apart
+pub record CarriedOut {C : Type 0} (seen : C → Writer) (old new : Session C) (c : Command) (before after : Writer) : Type 0 where
   pub ready : IsReady new.solver
+  pub free : new.solver.assumed.items ≡ []
   pub took : Took seen (proof_in old.solver) (proof_in new.solver)
-  pub names : new.names ≡ old.names
   pub commands : new.commands ≡ old.commands
   pub refused : new.refused ≡ old.refused
   pub budget : new.budget ≡ old.budget
   pub text : List ℕ
   pub told : Takes before after text
-  pub report : AskReport
-  pub asks : new.asks.items ≡ old.asks.items ++ report ∷ []
-  pub serves : (j : Judge) (live : Live) → Means old.solver j live → refusal_of j (Ask (named_literals user)) ≡ None
-      → (then : Live) × Agree new.solver.names (steps_in new.solver) (accepted (Ask (named_literals user)) j) then
-      × Serves old.budget (place_in old j) (behind (place_in old j) (Ask (named_literals user)) (steps_in new.solver) new.solver.clock.steps)
-      (Ask (named_literals user) ∷ []) text (report ∷ []) 0
+  pub reports : List AskReport
+  pub asks : new.asks.items ≡ old.asks.items ++ reports
+  pub serves : (j : Judge) (live : Live) → Means old.solver j live → refusal_of j c ≡ None
+      → (then : Live) × Agree new.solver.names (steps_in new.solver) (accepted c j) then
+      × Serves old.budget (last_place old j) (place_in new (accepted c j)) (c ∷ []) text reports 0
 
 -- a command was refused, the last that came
 pub record Refused {C : Type 0} (old new : Session C) (why : Refusal) (before after : Writer) : Type 0 where
@@ -54,6 +83,21 @@ pub record Refused {C : Type 0} (old new : Session C) (why : Refusal) (before af
   pub refused : new.refused ≡ old.refused + 1
   pub budget : new.budget ≡ old.budget
   pub asks : new.asks ≡ old.asks
+
+-- the next command was served: refused, or taken
+pub record ServedNext {C : Type 0} (seen : C → Writer) (old new : Session C) (c : Command) (before after : Writer) : Type 0 where
+  pub goes_on : GoesOn new
+  pub took : Took seen (proof_in old.solver) (proof_in new.solver)
+  pub commands : new.commands ≡ old.commands + 1
+  pub budget : new.budget ≡ old.budget
+  pub text : List ℕ
+  pub told : Takes before after text
+  pub reports : List AskReport
+  pub asks : new.asks.items ≡ old.asks.items ++ reports
+  pub refused : ℕ
+  pub refusals : new.refused ≡ old.refused + refused
+  pub serves : (j : Judge) → IsAt old j
+      → IsAt new (after_command c j) × Serves old.budget (place_in old j) (place_in new (after_command c j)) (c ∷ []) text reports refused
 
 -- what a part of a run did to the answers' writer and to the certificate: one call of one of them may have failed
 abbrev pub WritesBoth : {T C : Type 0} → Result T RunFault → (C → Writer) → Writer → Writer → Solver C → Solver C → Type 0

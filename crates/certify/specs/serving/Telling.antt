@@ -1,5 +1,4 @@
 -- What a run tells of what its solver found.
-use Rattle.std.specs.Prelude.{ℕ, List}
 use Rattle.sat_checker.specs.LiteralSets.{canonical}
 use Rattle.sat_checker.specs.matching.Expected.{Outcome, Sat, Unsat, Unknown}
 use Rattle.sat_solver.specs.declared.solver.Solver.{Solver}

@@ -1,8 +1,10 @@
 //! Answers an ask.
 ghost use Rattle.std.specs.Prelude.{◌≡◌, [], IfErr, IfOk, OnOk};
+ghost use Rattle.sat_base.specs.script.Script.{Ask};
+ghost use Rattle.certify.specs.answers.AnswerForms.{named_literals};
 ghost use Rattle.certify.specs.serving.Asking.{Sought};
 ghost use Rattle.certify.specs.serving.Calls.{FailsSolver, IsAllowed, IsReady};
-ghost use Rattle.certify.specs.serving.Standing.{Asked, WritesBoth};
+ghost use Rattle.certify.specs.serving.Standing.{CarriedOut, WritesBoth};
 
 use super::calls::{assume, search};
 use super::session::Session;
@@ -34,7 +36,7 @@ fn ask<C: CountedWrite + Drop>(
     Ok(report)
 }
 
-/// Answers an ask under these literals, of whose names none is refused.
+/// Answers the last command that came, an ask under these literals, of whose names none is refused.
 pub fn answer_ask<A: CountedWrite, C: CountedWrite + Drop>(
     session: &mut Session<C>,
     answers: &mut A,
@@ -42,7 +44,9 @@ pub fn answer_ask<A: CountedWrite, C: CountedWrite + Drop>(
 ) -> Result<(), RunFault>
     requires ready { IsReady session.old.solver }
     requires allowed { IsAllowed session.old.solver literals.now }
-    ensures asked { OnOk result (Asked C.seen session.old session.new literals.now (A.seen answers.old) (A.seen answers.new)) }
+    ensures carried { OnOk result (CarriedOut C.seen session.old session.new (Ask (named_literals literals.now))
+        (A.seen answers.old) (A.seen answers.new)) }
+    ensures names { session.new.names ≡ session.old.names }
     ensures written { WritesBoth result C.seen (A.seen answers.old) (A.seen answers.new) session.old.solver session.new.solver }
 {
     let report = ask(

@@ -1,14 +1,14 @@
 //! Faults of a run that are its solver's.
-ghost use Rattle.std.specs.Prelude.{◌≡◌, ◌⊎◌};
+ghost use Rattle.std.specs.Prelude.{◌≡◌};
 ghost use Rattle.sat_solver.specs.solver.Taking.{IsNameFault};
 ghost use Rattle.certify.specs.serving.Calls.{fault_for, is_interrupted};
 
 use crate::fault::RunFault;
 use sat_solver::SolverError;
 
-/// The fault of a run for what its solver fails of, or where it writes lines of DRAT, which a run's solver doesn't.
+/// The fault of a run for what its solver fails of.
 pub fn fault_of(error: SolverError) -> RunFault
-    requires { IsNameFault error ⊎ (error ≡ SolverError.NotInDrat) }
+    requires { IsNameFault error }
     ensures { result ≡ fault_for error }
 {
     match error {

@@ -6,8 +6,8 @@ ghost use Rattle.sat_solver.specs.names.Calls.{Agree};
 ghost use Rattle.sat_solver.specs.session.Counting.{start as uncounted};
 ghost use Rattle.sat_solver.specs.session.ProofView.{Open, target_of};
 ghost use Rattle.sat_solver.specs.solver.Whole.{steps_in};
-ghost use Rattle.certify.specs.judge.Names.{Stands};
 ghost use Rattle.certify.specs.serving.Calls.{IsReady, proof_in};
+ghost use Rattle.certify.specs.serving.Standing.{GoesOn, IsAt};
 
 use super::telling::Page;
 use crate::judge::Names;
@@ -37,6 +37,7 @@ fn solver_into<C: CountedWrite + Drop>(alloc: Global, certificate: C) -> Solver<
     ensures steps { steps_in result ≡ [] }
     ensures target { target_of C.seen (proof_in result) ≡ Open ProofFormat.Varisat uncounted (empty_sink (C.seen certificate)) }
     ensures rounds { result.clock.steps ≡ 0 }
+    ensures free { result.assumed.items ≡ [] }
 {
     let mut solver = Solver::new(alloc);
     solver
@@ -48,12 +49,11 @@ fn solver_into<C: CountedWrite + Drop>(alloc: Global, certificate: C) -> Solver<
 impl<C: CountedWrite + Drop> Session<C> {
     /// Before the first command, with a certificate that is written to this writer.
     pub fn new(alloc: Global, certificate: C, budget: u64) -> Session<C>
-        ensures ready { IsReady result.solver }
-        ensures agree { Agree result.solver.names [] start [] }
+        ensures goes_on { GoesOn result }
+        ensures at { IsAt result start }
         ensures steps { steps_in result.solver ≡ [] }
         ensures target { target_of C.seen (proof_in result.solver) ≡ Open ProofFormat.Varisat uncounted (empty_sink (C.seen certificate)) }
         ensures rounds { result.solver.clock.steps ≡ 0 }
-        ensures names { Stands result.names start }
         ensures budget { result.budget ≡ budget }
         ensures commands { result.commands ≡ 0 }
         ensures refused { result.refused ≡ 0 }

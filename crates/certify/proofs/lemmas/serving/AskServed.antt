@@ -1,20 +1,19 @@
 -- An ask is served by what its solver did.
-use Rattle.std.proofs.Common.{ℕ, ◌+◌, ◌≡◌, ◌∙◌, Bool, true, false, Option, Some, None, List, [], ◌∷◌, ◌++◌, map, refl, sym, ap, subst, arith, inl, inr, ◌⊎◌}
+use Rattle.std.proofs.Common.{ℕ, ◌+◌, ◌≡◌, ◌∙◌, true, Some, None, List, [], ◌∷◌, ◌++◌, map, refl, sym, ap, subst, arith, inl, inr, ◌⊎◌}
 use Rattle.std.proofs.lemmas.Bool.{both_ways}
 use Rattle.std.proofs.lemmas.List.{map-append}
 use Rattle.std.specs.List.{AllByRecursion}
 use Rattle.sat_base.specs.device.Device.{Writer}
-use Rattle.sat_base.specs.script.Script.{Literal, Ask, Among, names_of}
+use Rattle.sat_base.specs.script.Script.{Literal, Ask, names_of}
 use Rattle.sat_base.specs.script.Judge.{Judge, accepted, bring_all, identity_of, refusal_of}
 use Rattle.sat_base.specs.steps.Steps.{Step}
 use Rattle.sat_checker.specs.LiteralSets.{canonical}
 use Rattle.sat_checker.specs.matching.Checking.{variable_of}
-use Rattle.sat_checker.specs.matching.Expected.{Outcome, Sat, Unsat, Unknown, Expected, Opens, Shows, Fails, Closes, Fits, bringing, showing, fails}
+use Rattle.sat_checker.specs.matching.Expected.{Outcome, Unsat, Expected, Opens, Fails, Closes, Fits, bringing, showing, fails}
 use Rattle.sat_checker.specs.matching.ProofChecking.{the_checking}
 use Rattle.sat_solver.specs.declared.solver.Solver.{Solver}
 use Rattle.sat_solver.specs.declared.solver.state.State.{State}
 use Rattle.sat_solver.specs.declared.solver.state.State.TheVariants as states
-use Rattle.sat_solver.specs.names.Adding.{named_literal}
 use Rattle.sat_solver.specs.names.Calls as solver
 use Rattle.sat_solver.specs.names.Expected as due
 use Rattle.sat_solver.specs.names.Live.{Live}

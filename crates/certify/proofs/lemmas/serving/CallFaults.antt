@@ -1,13 +1,18 @@
 -- What the calls of a run's solver fail of.
-use Rattle.std.proofs.Common.{◌≡◌, ◌∙◌, true, false, Option, None, Some, List, Result, Err, sym, subst}
+use Rattle.std.proofs.Common.{◌≡◌, ◌∙◌, inr, true, false, None, Some, List, [], Err, refl, sym, subst}
 use Rattle.std.specs.Prelude.{ℕ}
 use Rattle.sat_base.specs.device.Device.{Writer}
-use Rattle.sat_base.specs.script.Judge.{Refusal}
+use Rattle.sat_base.specs.script.Script.{Among}
+use Rattle.sat_base.specs.script.Judge.{Judge, Refusal}
+use Rattle.sat_base.specs.steps.Steps.{Step}
 use Rattle.sat_solver.specs.declared.error.SolverError.{SolverError}
 use Rattle.sat_solver.specs.declared.error.SolverError.TheVariants as errors
 use Rattle.sat_solver.specs.declared.solver.Solver.{Solver}
+use Rattle.sat_solver.specs.names.Expected.{Expected}
 use Rattle.sat_solver.specs.session.Making.{Took}
 use Rattle.sat_solver.specs.solver.Adding.{AddsClause, Assumes, EndsNames, HasWitness}
+use Rattle.sat_solver.specs.solver.Naming.{ChangesMode, IsAsked}
+use Rattle.sat_solver.specs.solver.Taking.{IsNameFault}
 use Rattle.certify.specs.serving.Calls.{FailsSolver, IsAllowed, IsReady, fault_for, proof_in}
 use Rattle.certify.proofs.lemmas.serving.SessionCalls.{took_none}
 
@@ -44,7 +49,7 @@ module _ {C : Type 0} (seen : C → Writer) (a b : Solver C) where
 
     pub clause_fails : (e : SolverError) → AddsClause seen (Err e) a b user → FailsSolver seen (fault_for e) a b
     clause_fails errors.WitnessVariable h = absurd (named h.cause.1)
-    clause_fails errors.NotInDrat h = stays h.same
+    clause_fails errors.NotInDrat h = absurd (apart (sym h.cause.1.0 ∙ ready.no_lines seen))
     clause_fails errors.HasFailed h = absurd (apart (sym h.cause ∙ ready.going))
     clause_fails errors.Interrupted h = ends errors.Interrupted h.1
     clause_fails (errors.ProofProcessorError cause) h = ends (errors.ProofProcessorError cause) h.1
@@ -61,7 +66,7 @@ module _ {C : Type 0} (seen : C → Writer) (a b : Solver C) where
 
     pub assume_fails : (e : SolverError) → Assumes seen (Err e) a b user → FailsSolver seen (fault_for e) a b
     assume_fails errors.WitnessVariable h = absurd (named h.cause.1)
-    assume_fails errors.NotInDrat h = stays h.same
+    assume_fails errors.NotInDrat h = absurd (apart (sym h.cause.1 ∙ ready.no_lines seen))
     assume_fails errors.HasFailed h = absurd (apart (sym h.cause ∙ ready.going))
     assume_fails errors.Interrupted h = ends errors.Interrupted h.1
     assume_fails (errors.ProofProcessorError cause) h = ends (errors.ProofProcessorError cause) h.1
@@ -75,3 +80,76 @@ module _ {C : Type 0} (seen : C → Writer) (a b : Solver C) where
     assume_fails errors.Read h = ends errors.Read h.1
     assume_fails errors.Malformed h = ends errors.Malformed h.1
     assume_fails errors.OutOfRange h = ends errors.OutOfRange h.1
+
+    pub clause_fault : (e : SolverError) → AddsClause seen (Err e) a b user → IsNameFault e
+    clause_fault errors.WitnessVariable h = absurd (named h.cause.1)
+    clause_fault errors.NotInDrat h = absurd (apart (sym h.cause.1.0 ∙ ready.no_lines seen))
+    clause_fault errors.HasFailed h = absurd (apart (sym h.cause ∙ ready.going))
+    clause_fault errors.Interrupted h = h.1.breaks.fault
+    clause_fault (errors.ProofProcessorError cause) h = h.1.breaks.fault
+    clause_fault (errors.ProofIoError cause) h = h.1.breaks.fault
+    clause_fault errors.OutOfMemory h = h.1.breaks.fault
+    clause_fault errors.AssumedVariable h = h.1.breaks.fault
+    clause_fault errors.TooLate h = h.1.breaks.fault
+    clause_fault errors.StoreFull h = h.1.breaks.fault
+    clause_fault errors.VariableLimit h = inr refl
+    clause_fault errors.CounterEnd h = h.1.breaks.fault
+    clause_fault errors.Read h = h.1.breaks.fault
+    clause_fault errors.Malformed h = h.1.breaks.fault
+    clause_fault errors.OutOfRange h = h.1.breaks.fault
+
+    pub assume_fault : (e : SolverError) → Assumes seen (Err e) a b user → IsNameFault e
+    assume_fault errors.WitnessVariable h = absurd (named h.cause.1)
+    assume_fault errors.NotInDrat h = absurd (apart (sym h.cause.1 ∙ ready.no_lines seen))
+    assume_fault errors.HasFailed h = absurd (apart (sym h.cause ∙ ready.going))
+    assume_fault errors.Interrupted h = h.1.breaks.fault
+    assume_fault (errors.ProofProcessorError cause) h = h.1.breaks.fault
+    assume_fault (errors.ProofIoError cause) h = h.1.breaks.fault
+    assume_fault errors.OutOfMemory h = h.1.breaks.fault
+    assume_fault errors.AssumedVariable h = h.1.breaks.fault
+    assume_fault errors.TooLate h = h.1.breaks.fault
+    assume_fault errors.StoreFull h = h.1.breaks.fault
+    assume_fault errors.VariableLimit h = inr refl
+    assume_fault errors.CounterEnd h = h.1.breaks.fault
+    assume_fault errors.Read h = h.1.breaks.fault
+    assume_fault errors.Malformed h = h.1.breaks.fault
+    assume_fault errors.OutOfRange h = h.1.breaks.fault
+
+  -- no name is assumed where nothing is
+  none_asked : (user : ℕ) → a.assumed.items ≡ [] → IsAsked a user → ⊥
+  none_asked user free h = subst (Among h.0) free h.1
+
+  module _ (user : ℕ) (judge : Judge → Judge) (due : Judge → List Expected) (May : List Step → Step → Type 0) (ready : IsReady a) (free : a.assumed.items ≡ []) where
+    pub name_fails : (e : SolverError) → ChangesMode seen (Err e) a b user judge due May → FailsSolver seen (fault_for e) a b
+    name_fails errors.AssumedVariable h = absurd (none_asked user free h.cause.1)
+    name_fails errors.HasFailed h = absurd (apart (sym h.cause ∙ ready.going))
+    name_fails errors.Interrupted h = ends errors.Interrupted h
+    name_fails (errors.ProofProcessorError cause) h = ends (errors.ProofProcessorError cause) h
+    name_fails (errors.ProofIoError cause) h = ends (errors.ProofIoError cause) h
+    name_fails errors.OutOfMemory h = ends errors.OutOfMemory h
+    name_fails errors.WitnessVariable h = ends errors.WitnessVariable h
+    name_fails errors.TooLate h = ends errors.TooLate h
+    name_fails errors.NotInDrat h = ends errors.NotInDrat h
+    name_fails errors.StoreFull h = ends errors.StoreFull h
+    name_fails errors.VariableLimit h = stays h.same
+    name_fails errors.CounterEnd h = ends errors.CounterEnd h
+    name_fails errors.Read h = ends errors.Read h
+    name_fails errors.Malformed h = ends errors.Malformed h
+    name_fails errors.OutOfRange h = ends errors.OutOfRange h
+
+    pub name_fault : (e : SolverError) → ChangesMode seen (Err e) a b user judge due May → IsNameFault e
+    name_fault errors.AssumedVariable h = absurd (none_asked user free h.cause.1)
+    name_fault errors.HasFailed h = absurd (apart (sym h.cause ∙ ready.going))
+    name_fault errors.Interrupted h = h.breaks.fault
+    name_fault (errors.ProofProcessorError cause) h = h.breaks.fault
+    name_fault (errors.ProofIoError cause) h = h.breaks.fault
+    name_fault errors.OutOfMemory h = h.breaks.fault
+    name_fault errors.WitnessVariable h = h.breaks.fault
+    name_fault errors.TooLate h = h.breaks.fault
+    name_fault errors.NotInDrat h = h.breaks.fault
+    name_fault errors.StoreFull h = h.breaks.fault
+    name_fault errors.VariableLimit h = inr refl
+    name_fault errors.CounterEnd h = h.breaks.fault
+    name_fault errors.Read h = h.breaks.fault
+    name_fault errors.Malformed h = h.breaks.fault
+    name_fault errors.OutOfRange h = h.breaks.fault

@@ -1,5 +1,5 @@
 -- A clause is served by what its solver did.
-use Rattle.std.proofs.Common.{ℕ, ◌≡◌, ◌∙◌, List, [], ◌∷◌, ◌++◌, map, None, refl, sym, ap, subst}
+use Rattle.std.proofs.Common.{ℕ, ◌≡◌, ◌∙◌, List, [], ◌∷◌, ◌++◌, map, sym, ap, subst}
 use Rattle.std.proofs.lemmas.List.{map-append}
 use Rattle.sat_base.specs.device.Device.{Writer}
 use Rattle.sat_base.specs.script.Script.{Clause, names_of}
@@ -16,14 +16,13 @@ use Rattle.sat_solver.specs.solver.Adding.{Added, Forgets, due_for_clause, with_
 use Rattle.sat_solver.specs.solver.Whole.{steps_in}
 use Rattle.certify.specs.answers.AnswerForms.{named_literals}
 use Rattle.certify.specs.serving.Serving.{Leads, due_for}
-use Rattle.certify.specs.serving.Standing.{Means}
 use Rattle.certify.proofs.lemmas.serving.Converted.{due_as, made_of, bringing_due, names_same}
 use Rattle.certify.proofs.lemmas.serving.Making.{bringing_free, due_free, leads_both, leads_free, leads_lacking}
 use Rattle.certify.proofs.lemmas.serving.Recorded.{recorded}
 
-module _ {C : Type 0} (seen : C → Writer) (old new : Solver C) (user : List ℕ) (added : Added seen old new user) (j : Judge) (live : Live) (means : Means old j live) where
+module _ {C : Type 0} (seen : C → Writer) (old new : Solver C) (user : List ℕ) (added : Added seen old new user) (j : Judge) (live : Live) (agree : solver.Agree old.names (steps_in old) j live) where
   kept : solver.Kept new.names (steps_in old) (steps_in new) (with_added user j) (due_for_clause old.state user j)
-  kept = added.did.does.kept j live means.agree
+  kept = added.did.does.kept j live agree
 
   pub clause_agrees : (then : Live) × solver.Agree new.names (steps_in new) (accepted (Clause (named_literals user)) j) then
   clause_agrees = (kept.live, subst (λ ns. solver.Agree new.names (steps_in new) (with_clause (named_literals user) (bring_all ns j)) kept.live) (sym (names_same user)) kept.agree)

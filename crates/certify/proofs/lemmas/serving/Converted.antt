@@ -1,5 +1,5 @@
 -- Steps that a solver makes, as matching has them.
-use Rattle.std.proofs.Common.{ℕ, ◌+◌, ◌≡◌, ◌∙◌, Bool, true, false, cond, eqb, Option, Some, None, List, [], ◌∷◌, ◌++◌, map, refl, sym, ap, subst, inl, inr}
+use Rattle.std.proofs.Common.{ℕ, ◌+◌, ◌≡◌, ◌∙◌, cond, eqb, Option, Some, None, List, [], ◌∷◌, ◌++◌, map, refl, sym, ap, subst}
 use Rattle.std.proofs.lemmas.List.{map-append}
 use Rattle.std.specs.List.{AllByRecursion}
 use Rattle.sat_base.specs.values.Literals.{variable}
@@ -7,7 +7,7 @@ use Rattle.sat_base.specs.script.Script.{Literal, Among, names_of}
 use Rattle.sat_base.specs.script.Judge.{Judge, Mode, new_names, bring_in, with_mode, without_name}
 use Rattle.sat_base.specs.steps.Steps.{Step, SolverVarName, UserVarName, DeleteVar, ChangeSamplingMode, AddClause, AtClause, UnitClauses, DeleteClause, ChangeHashBits, Model, Assumptions, FailedAssumptions, End}
 use Rattle.sat_checker.specs.matching.Checking.{variable_of, is_variable, is_ordered}
-use Rattle.sat_checker.specs.matching.Expected.{Outcome, Expected, NewName, NoName, Adds, Opens, Shows, Fails, Closes, Finish, bringing, hiding, setting, Spells, EachSpelt, SameSet, Fits, new_name, no_name, adds, opens, shows, fails, closes, finish}
+use Rattle.sat_checker.specs.matching.Expected.{Expected, NewName, NoName, Adds, Opens, Shows, Fails, Closes, Finish, bringing, hiding, setting, Spells, EachSpelt, SameSet, Fits, new_name, no_name, adds, opens, shows, fails, closes, finish}
 use Rattle.sat_checker.specs.matching.ProofChecking.{the_checking}
 use Rattle.sat_checker.proofs.lemmas.matching.LiteralValues.{all_map}
 use Rattle.sat_solver.specs.names.Calls as solver
@@ -121,6 +121,20 @@ bringing_due [] j = refl
 bringing_due (name ∷ names) j =
     ap (λ xs. xs ++ due.bringing names (bring_in name j)) (names_due (new_names name j)) ∙ ap (λ xs. map due_as (map NewName (new_names name j)) ++ xs) (bringing_due names (bring_in name j))
     ∙ sym (map-append due_as (map NewName (new_names name j)) (bringing names (bring_in name j)))
+
+pub hiding_due : (names : List ℕ) (j : Judge) → due.hiding names j ≡ map due_as (hiding names j)
+hiding_due [] j = refl
+hiding_due (name ∷ names) j =
+    let next = without_name name (bring_in name j) in
+    ap (λ xs. xs ++ (due.NoName name ∷ due.hiding names next)) (names_due (new_names name j)) ∙ ap (λ xs. map due_as (map NewName (new_names name j)) ++ (due.NoName name ∷ xs)) (hiding_due names next)
+    ∙ sym (map-append due_as (map NewName (new_names name j)) (NoName name ∷ hiding names next))
+
+pub setting_due : (mode : Mode) (names : List ℕ) (j : Judge) → due.setting mode names j ≡ map due_as (setting mode names j)
+setting_due mode [] j = refl
+setting_due mode (name ∷ names) j =
+    let next = with_mode mode name (bring_in name j) in
+    ap (λ xs. xs ++ due.setting mode names next) (names_due (new_names name j)) ∙ ap (λ xs. map due_as (map NewName (new_names name j)) ++ xs) (setting_due mode names next)
+    ∙ sym (map-append due_as (map NewName (new_names name j)) (setting mode names next))
 
 pub names_same : (user : List ℕ) → names_of (named_literals user) ≡ names_in user
 names_same [] = refl

@@ -1,9 +1,7 @@
 -- Whether unsat is recorded where a solver stands.
-use Rattle.std.proofs.Common.{ℕ, ◌≡◌, ◌∙◌, Bool, true, false, List, [], ◌∷◌, refl, sym, subst}
+use Rattle.std.proofs.Common.{◌≡◌, ◌∙◌, true, false, List, refl, sym, subst}
 use Rattle.std.proofs.lemmas.Bool.{both_ways}
-use Rattle.sat_base.specs.values.Clauses.{Valuation}
 use Rattle.sat_base.specs.steps.Steps.{Step}
-use Rattle.sat_checker.specs.Fold.{Holds}
 use Rattle.sat_checker.specs.matching.ProofChecking.{the_checking}
 use Rattle.sat_checker.proofs.lemmas.meaning.Answers.{unsat_means_none}
 use Rattle.sat_solver.specs.session.Session.{MayAll, session_after}

@@ -1,22 +1,21 @@
 -- What the parts of a run leave of its writers.
-use Rattle.std.proofs.Common.{ℕ, ◌+◌, ◌≡◌, ◌∙◌, List, [], ◌∷◌, ◌++◌, None, Result, Ok, Err, OnOk, IfErr, refl, sym, ap, subst, arith}
+use Rattle.std.proofs.Common.{ℕ, ◌+◌, ◌≡◌, List, [], ◌∷◌, ◌++◌, Result, Ok, Err, OnOk, IfErr, refl, sym, subst}
 use Rattle.sat_base.specs.device.Device.{Writer, Takes}
-use Rattle.sat_base.specs.script.Script.{Literal, Ask}
-use Rattle.sat_base.specs.script.Judge.{Judge, refusal_of, accepted, bring_all}
-use Rattle.sat_base.specs.steps.Steps.{Step}
+use Rattle.sat_base.specs.script.Script.{Ask}
+use Rattle.sat_base.specs.script.Judge.{Judge, bring_all}
 use Rattle.sat_solver.specs.declared.session.proof.Proof.{Proof}
 use Rattle.sat_solver.specs.declared.solver.Solver.{Solver}
 use Rattle.sat_solver.specs.names.Calls as solver
-use Rattle.sat_solver.specs.names.Live.{Live}
+use Rattle.sat_solver.specs.names.Expected.{Expected}
 use Rattle.sat_solver.specs.names.Refusing.{names_in}
 use Rattle.sat_solver.specs.session.Making.{Took, Broke}
 use Rattle.sat_solver.specs.session.ProofView.{steps_of}
 use Rattle.sat_solver.specs.solver.Adding.{Assumed}
+use Rattle.sat_solver.specs.solver.Calls.{Did}
 use Rattle.sat_solver.specs.solver.Whole.{steps_in}
 use Rattle.sat_solver.proofs.lemmas.session.ProofLemmas.{adds_none, adds_more, fails_later}
 use Rattle.certify.specs.Calls.{NoneFailed, OneFailed}
 use Rattle.certify.specs.answers.AnswerForms.{named_literals}
-use Rattle.certify.specs.answers.Answers.{outcome_text}
 use Rattle.certify.specs.declared.fault.RunFault.{RunFault}
 use Rattle.certify.specs.declared.fault.RunFault.TheVariants as fault
 use Rattle.certify.specs.declared.serving.session.Session.{Session}
@@ -24,9 +23,11 @@ use Rattle.certify.specs.declared.summary.AskReport.{AskReport}
 use Rattle.certify.specs.serving.Asking.{Sought}
 use Rattle.certify.specs.serving.Calls.{Faults, FailsSolver, IsAllowed, IsReady, Searched, proof_in}
 use Rattle.certify.specs.serving.Serving.{Serves, behind}
-use Rattle.certify.specs.serving.Standing.{Asked, Means, WritesBoth, place_in}
+use Rattle.certify.specs.serving.Standing.{CarriedOut, WritesBoth, last_place}
 use Rattle.certify.specs.serving.Telling.{outcome_for}
 use Rattle.certify.proofs.lemmas.serving.AskServed.{ask_steps, ask_right, ask_then, ask_spent, ask_rounds, kind_told}
+use Rattle.certify.proofs.lemmas.serving.Carried.{place_behind}
+use Rattle.certify.proofs.lemmas.serving.NoLines.{none_still}
 use Rattle.certify.proofs.lemmas.serving.ServedOnce.{serves_ask}
 
 pub took_none : {C : Type 0} (seen : C → Writer) (p : Proof C) → Took seen p p
@@ -50,11 +51,12 @@ fails_then seen fault.CounterEnd a b c t f = took_both seen (proof_in a) (proof_
 pub search_took : {C : Type 0} (seen : C → Writer) (budget : ℕ) (report : AskReport) (a b : Solver C) → Searched seen budget report a b → Took seen (proof_in a) (proof_in b)
 search_took seen budget report a b s = subst (λ p. Took seen p (proof_in b)) s.limited.proof s.solved.answered.did.took
 
-pub searched_ready : {C : Type 0} (seen : C → Writer) (budget : ℕ) (report : AskReport) (a b : Solver C) → Searched seen budget report a b → IsReady b
-searched_ready seen budget report a b s = record { solver = λ g. s.solved.answered.did.whole; going = s.solved.answered.did.failed }
+-- a call was carried out
+pub did_ready : {C : Type 0} (seen : C → Writer) (a b : Solver C) (judge : Judge → Judge) (due : Judge → List Expected) → IsReady a → Did seen a b judge due → IsReady b
+did_ready seen a b judge due ready did = record { solver = λ g. did.whole; going = did.failed; no_lines = none_still seen (proof_in a) (proof_in b) did.took ready.no_lines }
 
-pub assumed_ready : {C : Type 0} (seen : C → Writer) (a b : Solver C) (user : List ℕ) → Assumed seen a b user → IsReady b
-assumed_ready seen a b user s = record { solver = λ g. s.did.whole; going = s.did.failed }
+pub searched_ready : {C : Type 0} (seen : C → Writer) (budget : ℕ) (report : AskReport) (a b : Solver C) → Searched seen budget report a b → IsReady b
+searched_ready seen budget report a b s = did_ready seen s.mid b _ _ s.limited.ready s.solved.answered.did
 
 pub sought_took : {C : Type 0} (seen : C → Writer) (a b c : Solver C) (user : List ℕ) (budget : ℕ) (report : AskReport) → Assumed seen a b user → Searched seen budget report b c → Took seen (proof_in a) (proof_in c)
 sought_took seen a b c user budget report opened s = took_both seen (proof_in a) (proof_in b) (proof_in c) opened.did.took (search_took seen budget report b c s)
@@ -72,18 +74,18 @@ none_of a b text t = (t.failures, t.loans)
 
 -- an answer was written, and nothing is assumed any more
 pub asked_of : {C : Type 0} (seen : C → Writer) (old new : Session C) (now : Solver C) (user text : List ℕ) (report : AskReport) (before after : Writer)
-    → Sought seen old.budget report user text old.solver now → Takes before after text → Assumed seen now new.solver [] → new.names ≡ old.names → new.commands ≡ old.commands → new.refused ≡ old.refused → new.budget ≡ old.budget → new.asks.items ≡ old.asks.items ++ report ∷ []
-    → Asked seen old new user before after
-asked_of seen old new now user text report before after sought told closed names commands refused budget asks = record {
-  ready = assumed_ready seen now new.solver [] closed;
+    → Sought seen old.budget report user text old.solver now → Takes before after text → Assumed seen now new.solver [] → new.commands ≡ old.commands → new.refused ≡ old.refused → new.budget ≡ old.budget → new.asks.items ≡ old.asks.items ++ report ∷ []
+    → CarriedOut seen old new (Ask (named_literals user)) before after
+asked_of seen old new now user text report before after sought told closed commands refused budget asks = record {
+  ready = did_ready seen now new.solver _ _ (searched_ready seen old.budget report sought.mid now sought.searched) closed.did;
+  free = closed.assumed;
   took = took_both seen (proof_in old.solver) (proof_in now) (proof_in new.solver) (sought_took seen old.solver sought.mid now user old.budget report sought.opened sought.searched) closed.did.took;
-  names = names;
   commands = commands;
   refused = refused;
   budget = budget;
   text = text;
   told = told;
-  report = report;
+  reports = report ∷ [];
   asks = asks;
   serves = λ j live means free.
       let then = ask_then seen old.solver sought.mid now new.solver user old.budget report sought.opened sought.searched closed sought.right j live means free in
@@ -91,11 +93,11 @@ asked_of seen old new now user text report before after sought told closed names
       let steps = ask_steps seen old.solver sought.mid now new.solver user old.budget report sought.opened sought.searched closed sought.right j live means free in
       let spent = ask_spent seen old.solver sought.mid now new.solver user old.budget report sought.opened sought.searched closed sought.right in
       let rounds = ask_rounds seen old.solver sought.mid now new.solver user old.budget report sought.opened sought.searched closed sought.right in
-      let serves = serves_ask old.budget (place_in old j) (named_literals user) (outcome_for report.answer now) report (steps_in new.solver) free right (kind_told report.answer now) spent steps in (
+      let serves = serves_ask old.budget (last_place old j) (named_literals user) (outcome_for report.answer now) report (steps_in new.solver) free right (kind_told report.answer now) spent steps in (
         then.0,
         then.1,
-        subst (λ n. Serves old.budget (place_in old j) (behind (place_in old j) (Ask (named_literals user)) (steps_in new.solver) n) (Ask (named_literals user) ∷ []) text (report ∷ []) 0) rounds
-            (subst (λ t. Serves old.budget (place_in old j) (behind (place_in old j) (Ask (named_literals user)) (steps_in new.solver) (old.solver.clock.steps + report.steps)) (Ask (named_literals user) ∷ []) t (report ∷ []) 0) (sym sought.text_is) serves),
+        subst (λ b. Serves old.budget (last_place old j) b (Ask (named_literals user) ∷ []) text (report ∷ []) 0) (place_behind old new (Ask (named_literals user)) j (old.solver.clock.steps + report.steps) commands rounds)
+            (subst (λ t. Serves old.budget (last_place old j) (behind (last_place old j) (Ask (named_literals user)) (steps_in new.solver) (old.solver.clock.steps + report.steps)) (Ask (named_literals user) ∷ []) t (report ∷ []) 0) (sym sought.text_is) serves),
       );
 }
 
@@ -133,3 +135,8 @@ takes_none a b text t = (t.failures, t.loans)
 pub written_of : {C : Type 0} (seen : C → Writer) (r : Result (Unit {0}) RunFault) (before after : Writer) (s : Solver C) (text : List ℕ) → OnOk r (Takes before after text) → IfErr r (λ e. (e ≡ fault.AnswersWrite) × OneFailed before after) → WritesBoth r seen before after s s
 written_of seen (Ok x) before after s text t f = (takes_none before after text t, took_none seen (proof_in s))
 written_of seen (Err e) before after s text t f = answers_say seen e before after s s f.0 f.1 (took_none seen (proof_in s))
+
+-- the solver alone was called
+pub solver_writes : {C : Type 0} (seen : C → Writer) (r : Result (Unit {0}) RunFault) (w : Writer) (a b : Solver C) → OnOk r (Took seen (proof_in a) (proof_in b)) → IfErr r (λ e. FailsSolver seen e a b) → WritesBoth r seen w w a b
+solver_writes seen (Ok x) w a b t f = ((refl, refl), t)
+solver_writes seen (Err e) w a b t f = solver_says seen e w w a a b (refl, refl) (took_none seen (proof_in a)) f

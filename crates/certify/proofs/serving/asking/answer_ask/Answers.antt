@@ -26,11 +26,11 @@ returns-in_err-push-clause-written g c =
     rw p.1 (memory_says g.C.CountedWrite.seen _ (g.A.CountedWrite.seen c.args.answers.now) (g.A.CountedWrite.seen c.write_answer.new.answers) s.solver c.assume.new.solver p.2 (takes_none (g.A.CountedWrite.seen c.args.answers.now) (g.A.CountedWrite.seen c.write_answer.new.answers) _ c.in_ok-write_answer.ensures.takes)
     (took_both g.C.CountedWrite.seen (proof_in s.solver) (proof_in c.ask.new.solver) (proof_in c.assume.new.solver) (sought_writes g.C.CountedWrite.seen s.solver c.ask.new.solver c.args.literals.now c.ask.new.page.text.items s.budget c.in_ok-report.report c.in_ok-report.ensures.sought) c.in_ok-assume.ensures.assumed.did.took))
 
-pub returns-clause-asked : goal.returns-clause-asked
-returns-clause-asked g c =
+pub returns-clause-carried : goal.returns-clause-carried
+returns-clause-carried g c =
     let s = c.args.session.now in
     let told = subst (λ (text : List ℕ). Takes (g.A.CountedWrite.seen c.args.answers.now) (g.A.CountedWrite.seen c.write_answer.new.answers) text) c.deref.ensures.value c.in_ok-write_answer.ensures.takes in
-    asked_of g.C.CountedWrite.seen s _ c.ask.new.solver c.args.literals.now c.ask.new.page.text.items c.in_ok-report.report _ _ c.in_ok-report.ensures.sought told c.in_ok-assume.ensures.assumed refl refl refl refl c.in_ok-push.ensures.items
+    asked_of g.C.CountedWrite.seen s _ c.ask.new.solver c.args.literals.now c.ask.new.page.text.items c.in_ok-report.report _ _ c.in_ok-report.ensures.sought told c.in_ok-assume.ensures.assumed refl refl refl c.in_ok-push.ensures.items
 
 pub returns-clause-written : goal.returns-clause-written
 returns-clause-written g c =

@@ -1,7 +1,5 @@
-use Rattle.std.proofs.Common.{refl}
 use Rattle.std.proofs.lemmas.Result.{err_from_is_err_and}
-use Rattle.certify.specs.serving.Calls.{proof_in}
-use Rattle.certify.proofs.lemmas.serving.SessionCalls.{fails_then, memory_fails, sought_took, allowed_still}
+use Rattle.certify.proofs.lemmas.serving.SessionCalls.{fails_then, memory_fails, searched_ready, sought_took, allowed_still}
 use Rattle.certify.proofs.serving.asking.ask.Goals as goal
 
 pub returns-in_err-report-clause-fails : goal.returns-in_err-report-clause-fails
@@ -18,3 +16,9 @@ returns-in_err-tell-clause-fails g c =
 pub returns-clause-allowed : goal.returns-clause-allowed
 returns-clause-allowed g c =
     allowed_still g.C.CountedWrite.seen c.args.solver.now c.assume.new.solver c.search.new.solver c.args.literals.now c.args.budget c.in_ok-report.report c.requires.allowed c.in_ok-assume.ensures.assumed c.in_ok-report.ensures.searched
+
+pub returns-clause-ready : goal.returns-clause-ready
+returns-clause-ready g c = searched_ready g.C.CountedWrite.seen c.args.budget c.in_ok-report.report c.assume.new.solver c.search.new.solver c.in_ok-report.ensures.searched
+
+pub tell-requires-clause-ready : goal.tell-requires-clause-ready
+tell-requires-clause-ready g c = searched_ready g.C.CountedWrite.seen c.args.budget c.in_ok-report.report c.assume.new.solver c.search.new.solver c.in_ok-report.ensures.searched

@@ -1,5 +1,8 @@
-use Rattle.certify.proofs.lemmas.serving.CallFaults.{assume_fails}
+use Rattle.certify.proofs.lemmas.serving.CallFaults.{assume_fails, assume_fault}
 use Rattle.certify.proofs.serving.calls.assume.Goals as goal
+
+pub fault_of-requires : goal.fault_of-requires
+fault_of-requires g c = assume_fault g.C.CountedWrite.seen c.args.solver.now c.assume.new.self c.args.literals.now c.requires.ready c.requires.allowed c.in-Err.error c.in-Err.ensures.assumes
 
 pub returns-in-Err-clause-fails : goal.returns-in-Err-clause-fails
 returns-in-Err-clause-fails g c =

@@ -1,0 +1,15 @@
+use Rattle.std.proofs.Common.{sym, subst}
+use Rattle.std.proofs.lemmas.Result.{err_from_is_err_and}
+use Rattle.certify.specs.declared.judge.names.Names.{Names}
+use Rattle.certify.specs.judge.Names.{Stands}
+use Rattle.certify.proofs.lemmas.serving.SessionCalls.{memory_says}
+use Rattle.certify.proofs.serving.taking.take_allowed.Goals as goal
+
+pub returns-in_err-accept-clause-written : goal.returns-in_err-accept-clause-written
+returns-in_err-accept-clause-written g c =
+    let p = err_from_is_err_and c.from_residual-in_err-accept.result c.from_residual-in_err-accept.ensures.1 in
+    let w = c.in_ok-carry_out.ensures.written in
+    rw p.1 (memory_says g.C.CountedWrite.seen _ (g.A.CountedWrite.seen c.args.answers.now) (g.A.CountedWrite.seen c.carry_out.new.answers) c.args.session.now.solver c.carry_out.new.session.solver p.2 w.0 w.1)
+
+pub returns-clause-names : goal.returns-clause-names
+returns-clause-names g c = λ j d s l. c.in_ok-accept.ensures j d (subst (λ (n : Names). Stands n j) (sym c.carry_out.ensures.names) s) l

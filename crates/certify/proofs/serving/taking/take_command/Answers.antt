@@ -1,0 +1,15 @@
+use Rattle.std.proofs.Common.{refl}
+use Rattle.certify.proofs.lemmas.serving.Lent.{lent_allowed}
+use Rattle.certify.proofs.lemmas.serving.NextLent.{refused_served, taken_served}
+use Rattle.certify.proofs.serving.taking.take_command.Goals as goal
+
+pub returns-in-Some-clause-served : goal.returns-in-Some-clause-served
+returns-in-Some-clause-served g c =
+    refused_served g.C.CountedWrite.seen c.args.session.now c.refuse.new.session c.args.command (g.A.CountedWrite.seen c.args.answers.now) (g.A.CountedWrite.seen c.refuse.new.answers) c.requires.goes_on c.refuse.result c.in-Some.refusal c.in-Some.ensures.judges c.refuse.ensures.refused
+
+pub take_allowed-requires-clause-allowed : goal.take_allowed-requires-clause-allowed
+take_allowed-requires-clause-allowed g c = lent_allowed c.args.session.now.names c.args.command c.requires.whole (c.in-None.ensures.within refl) c.in-None.ensures.judges
+
+pub returns-in-None-clause-served : goal.returns-in-None-clause-served
+returns-in-None-clause-served g c =
+    taken_served g.C.CountedWrite.seen c.args.session.now c.take_allowed.new.session c.args.command (g.A.CountedWrite.seen c.args.answers.now) (g.A.CountedWrite.seen c.take_allowed.new.answers) c.requires.goes_on c.take_allowed.result (c.in-None.ensures.within refl) c.in-None.ensures.judges c.take_allowed.ensures.carried c.take_allowed.ensures.names

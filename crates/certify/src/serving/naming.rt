@@ -1,0 +1,62 @@
+//! Names of a run's solver that are hidden, or get a mode.
+ghost use Rattle.std.specs.Prelude.{◌≡◌, ◌+◌, [], ◌∷◌, IfErr, OnOk};
+ghost use Rattle.sat_solver.specs.names.Refusing.{names_in};
+ghost use Rattle.sat_solver.specs.solver.Whole.{IsSolver};
+ghost use Rattle.certify.specs.serving.Calls.{FailsSolver, IsReady};
+ghost use Rattle.certify.specs.serving.Obeying.{ChangesName, Obeyed, command_to};
+
+use super::faults::fault_of;
+use crate::fault::RunFault;
+use crate::judge::NameState;
+use sat_base::{CountedWrite, Lit, Var};
+use sat_solver::{Solver, SolverError};
+
+/// Brings a name in, which gets this state.
+fn change_name<C: CountedWrite + Drop>(
+    solver: &mut Solver<C>,
+    user: Var,
+    state: NameState,
+) -> Result<(), SolverError>
+    requires { IsSolver solver.old }
+    ensures { ChangesName C.seen result solver.old solver.new user state }
+{
+    match state {
+        NameState::Hidden => solver.hide_var(user),
+        NameState::Sampled => solver.sample_var(user),
+        NameState::Witnessed => solver.witness_var(user),
+    }
+}
+
+/// Brings a name in, which gets this state, where nothing is assumed.
+fn set_name<C: CountedWrite + Drop>(
+    solver: &mut Solver<C>,
+    user: Var,
+    state: NameState,
+) -> Result<(), RunFault>
+    requires ready { IsReady solver.old }
+    requires free { solver.old.assumed.items ≡ [] }
+    ensures obeyed { OnOk result (Obeyed C.seen (command_to state ((user + 1) ∷ [])) solver.old solver.new) }
+    ensures fails { IfErr result (λ e. FailsSolver C.seen e solver.old solver.new) }
+{
+    match change_name(solver, user, state) {
+        Ok(()) => Ok(()),
+        Err(error) => Err(fault_of(error)),
+    }
+}
+
+/// Brings the names of literals in, which get this state, where nothing is assumed.
+pub(crate) fn set_names<C: CountedWrite + Drop>(
+    solver: &mut Solver<C>,
+    literals: &[Lit],
+    state: NameState,
+) -> Result<(), RunFault>
+    requires ready { IsReady solver.old }
+    requires free { solver.old.assumed.items ≡ [] }
+    ensures obeyed { OnOk result (Obeyed C.seen (command_to state (names_in literals.now)) solver.old solver.new) }
+    ensures fails { IfErr result (λ e. FailsSolver C.seen e solver.old solver.new) }
+{
+    for lit in literals {
+        set_name(solver, lit.var(), state)?;
+    }
+    Ok(())
+}

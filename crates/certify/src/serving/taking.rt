@@ -1,0 +1,79 @@
+//! Takes commands of the whole language.
+ghost use Rattle.std.specs.Prelude.{◌≡◌, ◌<◌, ◌-◌, ◌^◌, false, OnOk};
+ghost use Rattle.sat_base.specs.script.Script.{Command as Spelled};
+ghost use Rattle.sat_base.specs.script.Judge.{Judge, accepted};
+ghost use Rattle.certify.specs.judge.Names.{Stands};
+ghost use Rattle.certify.specs.reading.Commands.{IsLent};
+ghost use Rattle.certify.specs.serving.Standing.{Allows, CarriedOut, GoesOn, ServedNext, WritesBoth, spelled_by};
+
+use super::asking::answer_ask;
+use super::calls::add_clause;
+use super::naming::set_names;
+use super::refusing::refuse;
+use super::session::Session;
+use crate::fault::RunFault;
+use crate::judge::NameState;
+use crate::reading::{Command, CommandKind};
+use sat_base::CountedWrite;
+
+/// Has the last command that came, which isn't refused, carried out by the solver, and an ask answered.
+fn carry_out<A: CountedWrite, C: CountedWrite + Drop>(
+    session: &mut Session<C>,
+    answers: &mut A,
+    command: Command<'_>,
+) -> Result<(), RunFault>
+    requires goes_on { GoesOn session.old }
+    requires allowed { Allows session.old.names (spelled_by command) }
+    ensures carried { OnOk result (CarriedOut C.seen session.old session.new (spelled_by command.entry) (A.seen answers.old) (A.seen answers.new)) }
+    ensures names { session.new.names ≡ session.old.names }
+    ensures written { WritesBoth result C.seen (A.seen answers.old) (A.seen answers.new) session.old.solver session.new.solver }
+{
+    match command.kind {
+        CommandKind::Clause => add_clause(&mut session.solver, command.literals),
+        CommandKind::Ask => answer_ask(session, answers, command.literals),
+        CommandKind::Hide => set_names(&mut session.solver, command.literals, NameState::Hidden),
+        CommandKind::Witness => {
+            set_names(&mut session.solver, command.literals, NameState::Witnessed)
+        }
+        CommandKind::Sample => set_names(&mut session.solver, command.literals, NameState::Sampled),
+    }
+}
+
+/// Takes the last command that came, which isn't refused.
+fn take_allowed<A: CountedWrite, C: CountedWrite + Drop>(
+    session: &mut Session<C>,
+    answers: &mut A,
+    command: Command<'_>,
+) -> Result<(), RunFault>
+    requires goes_on { GoesOn session.old }
+    requires allowed { Allows session.old.names (spelled_by command) }
+    requires within { command.past_limit ≡ false }
+    ensures carried { OnOk result (CarriedOut C.seen session.old session.new (spelled_by command.entry) (A.seen answers.old) (A.seen answers.new)) }
+    ensures names { OnOk result ((j : Judge) (c : Spelled) → Stands session.old.names j → IsLent command.entry c
+        → Stands session.new.names (accepted c j)) }
+    ensures written { WritesBoth result C.seen (A.seen answers.old) (A.seen answers.new) session.old.solver session.new.solver }
+{
+    carry_out(session, answers, command)?;
+    session.names.accept(command)?;
+    Ok(())
+}
+
+/// Serves a command: it is refused, or taken, and an ask is answered.
+pub fn take_command<A: CountedWrite, C: CountedWrite + Drop>(
+    session: &mut Session<C>,
+    answers: &mut A,
+    command: Command<'_>,
+) -> Result<(), RunFault>
+    requires goes_on { GoesOn session.old }
+    requires few { session.old.commands < 2 ^ 64 - 1 }
+    requires whole { (c : Spelled) × IsLent command c }
+    ensures served { (c : Spelled) → IsLent command.entry c
+        → OnOk result (ServedNext C.seen session.old session.new c (A.seen answers.old) (A.seen answers.new)) }
+    ensures written { WritesBoth result C.seen (A.seen answers.old) (A.seen answers.new) session.old.solver session.new.solver }
+{
+    session.commands += 1;
+    match session.names.refusal(command) {
+        Some(refusal) => refuse(session, answers, refusal),
+        None => take_allowed(session, answers, command),
+    }
+}
