@@ -13,6 +13,7 @@ pub mod AddingCalls
 pub mod Assuming
 pub mod Observing
 pub mod Failing
+pub mod Taking
 pub mod Search
 pub mod Indexing
 pub mod Counting

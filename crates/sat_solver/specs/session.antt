@@ -9,6 +9,8 @@ pub mod OutputView
 pub mod Promises
 pub mod SessionRows
 pub mod Feeding
+pub mod Checked
+pub mod MadeView
 pub mod WritingView
 pub mod ProofView
 pub mod ProofTexts

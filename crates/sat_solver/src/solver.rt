@@ -4,7 +4,7 @@
 //! what holds between calls is `IsSolver`, which `new` gives and each call keeps.
 ghost use Rattle.std.specs.Prelude.{◌≡◌, true, false, []};
 ghost use Rattle.sat_base.specs.script.Judge.{start};
-ghost use Rattle.sat_solver.specs.session.ProofView.{Closed, target_of};
+ghost use Rattle.sat_solver.specs.session.ProofView.{Closed, is_checked, target_of};
 ghost use Rattle.sat_solver.specs.names.Calls.{Agree};
 ghost use Rattle.sat_solver.specs.Configs.{defaults};
 ghost use Rattle.sat_solver.specs.solver.Whole.{IsWhole, steps_in};
@@ -66,6 +66,7 @@ impl<W: CountedWrite + Drop> Solver<W> {
         ensures unused { result.used ≡ false }
         ensures steps { steps_in result ≡ [] }
         ensures target { target_of W.seen result.core.proof ≡ Closed }
+        ensures checked { is_checked result.core.proof ≡ false }
         ensures agree { Agree result.names [] start [] }
         ensures asked { result.assumed.items ≡ [] }
         ensures config { result.core.config ≡ defaults }

@@ -31,3 +31,5 @@ pub mod MakingLemmas
 pub mod NamedLemmas
 pub mod PlainLemmas
 pub mod ComingLemmas
+pub mod EndedLemmas
+pub mod CheckedLemmas

@@ -3,6 +3,7 @@ use Rattle.sat_solver.specs.declared.names.error.NameError.{NameError}
 use Rattle.sat_solver.specs.declared.names.error.NameError.TheVariants as names
 use Rattle.sat_solver.specs.declared.error.SolverError.{SolverError}
 use Rattle.sat_solver.specs.declared.error.SolverError.TheVariants as errors
+use Rattle.sat_solver.specs.search.Going.{check_fault_of}
 
 abbrev pub told_as : NameError → SolverError
 told_as names.WitnessVariable = errors.WitnessVariable
@@ -10,3 +11,4 @@ told_as names.AssumedVariable = errors.AssumedVariable
 told_as names.VariableLimit = errors.VariableLimit
 told_as names.OutOfMemory = errors.OutOfMemory
 told_as (names.Write cause) = errors.ProofIoError cause
+told_as (names.Check fault) = check_fault_of fault

@@ -12,17 +12,19 @@ IsFailure errors.AssumedVariable = ⊥
 IsFailure errors.VariableLimit = ⊥
 IsFailure errors.OutOfMemory = Unit {0}
 IsFailure (errors.Write cause) = Unit {0}
+IsFailure (errors.Check fault) = Unit {0}
 
 -- It came from there to this fault, which no mode decides: where a step wasn't taken, that was the last.
-abbrev pub CameTo : {W : Type 0} → (took broke : W → W → Type 0) → W → NameError → W → Type 0
+abbrev pub CameTo : {W : Type 0} → (took : W → W → Type 0) (broke : W → NameError → W → Type 0) → W → NameError → W → Type 0
 CameTo took broke w errors.WitnessVariable new = ⊥
 CameTo took broke w errors.AssumedVariable new = ⊥
 CameTo took broke w errors.VariableLimit new = took w new
 CameTo took broke w errors.OutOfMemory new = took w new
-CameTo took broke w (errors.Write cause) new = broke w new
+CameTo took broke w (errors.Write cause) new = broke w (errors.Write cause) new
+CameTo took broke w (errors.Check fault) new = broke w (errors.Check fault) new
 
 -- All steps that were made were taken, but for the last one of a call that answers so.
-abbrev pub Came : {A W : Type 0} → (took broke : W → W → Type 0) → Result A NameError → W → W → Type 0
+abbrev pub Came : {A W : Type 0} → (took : W → W → Type 0) (broke : W → NameError → W → Type 0) → Result A NameError → W → W → Type 0
 Came took broke (Ok x) old new = (w : _) → took w old → took w new
 Came took broke (Err e) old new = (w : _) → took w old → CameTo took broke w e new
 
@@ -39,3 +41,4 @@ Limits errors.AssumedVariable old new from to = ⊥
 Limits errors.VariableLimit old new from to = IsFull old new from to
 Limits errors.OutOfMemory old new from to = Unit {0}
 Limits (errors.Write cause) old new from to = Unit {0}
+Limits (errors.Check fault) old new from to = Unit {0}

@@ -4,10 +4,12 @@ use Rattle.std.specs.List.{AllByRecursion}
 use Rattle.sat_base.specs.device.Device.{Writer}
 use Rattle.sat_base.specs.values.Literals.{variable}
 use Rattle.sat_base.specs.steps.Steps.{Step, AtClause, UnitClauses, DeleteClause}
-use Rattle.sat_solver.specs.session.ProofView.{Adds, Fails, Keeps, session_of}
+use Rattle.sat_solver.specs.session.ProofView.{Adds, Fails, FailsCheck, Keeps, session_of}
+use Rattle.sat_solver.specs.declared.session.made.CheckFault.{CheckFault}
+use Rattle.sat_solver.specs.declared.session.made.CheckFault.TheVariants as checks
 use Rattle.sat_solver.specs.declared.session.proof.Proof.{Proof}
 use Rattle.sat_solver.specs.declared.session.proof.ProofError.{ProofError}
-use Rattle.sat_solver.specs.declared.session.proof.ProofError.TheVariants.{Write, OutOfMemory}
+use Rattle.sat_solver.specs.declared.session.proof.ProofError.TheVariants.{Write, OutOfMemory, Check}
 use Rattle.sat_solver.specs.declared.error.SolverError.{SolverError}
 use Rattle.sat_solver.specs.declared.error.SolverError.TheVariants as errors
 
@@ -32,22 +34,33 @@ IsSearched names step = ⊥
 abbrev pub AreSearched : (ℕ → Option ℕ) → List Step → Type 0
 AreSearched names = AllByRecursion (IsSearched names)
 
--- why a step wasn't made, as a solver tells it
+-- why a solver's own checker failed, as the solver tells it
+abbrev pub check_fault_of : CheckFault → SolverError
+check_fault_of checks.OutOfMemory = errors.OutOfMemory
+check_fault_of checks.CounterEnd = errors.CounterEnd
+check_fault_of (checks.Processor cause) = errors.ProofProcessorError cause
+
+-- why a step wasn't made, or not checked, as a solver tells it
 abbrev pub fault_of : ProofError → SolverError
 fault_of (Write cause) = errors.ProofIoError cause
 fault_of OutOfMemory = errors.OutOfMemory
+fault_of (Check fault) = check_fault_of fault
 
 -- what a search may fail of
 abbrev pub IsFault : SolverError → Type 0
 IsFault errors.OutOfMemory = Unit {0}
 IsFault errors.StoreFull = Unit {0}
 IsFault (errors.ProofIoError cause) = Unit {0}
+IsFault (errors.ProofProcessorError cause) = Unit {0}
+IsFault errors.CounterEnd = Unit {0}
 IsFault e = ⊥
 
--- these steps were made; where a call of the target failed, that was at their text
+-- These steps were made; where a call of the target failed, that was at their text. A count is at its end, or a processor answers a fault, only in the solver's own checker.
 abbrev pub Went : {A W : Type 0} → (W → Writer) → Result A SolverError → List Step → Proof W → Proof W → Type 0
 Went seen (Ok x) steps old new = Adds seen steps old new
 Went seen (Err (errors.ProofIoError cause)) steps old new = Fails seen steps old new
+Went seen (Err (errors.ProofProcessorError cause)) steps old new = FailsCheck seen steps old new
+Went seen (Err errors.CounterEnd) steps old new = FailsCheck seen steps old new
 Went seen (Err e) steps old new = Adds seen steps old new
 
 -- It made steps of a search, and came to an answer of which this holds, or failed.

@@ -3,10 +3,10 @@ use Rattle.std.specs.Prelude.{◌≡◌, List, Result, Ok, Err}
 use Rattle.sat_base.specs.device.Device.{Writer}
 use Rattle.sat_base.specs.steps.Steps.{Step}
 use Rattle.sat_solver.specs.session.Due.{ordered_of}
-use Rattle.sat_solver.specs.session.ProofView.{Adds, Fails}
+use Rattle.sat_solver.specs.session.ProofView.{Adds, Fails, FailsCheck}
 use Rattle.sat_solver.specs.declared.session.proof.Proof.{Proof}
 use Rattle.sat_solver.specs.declared.session.proof.ProofError.{ProofError}
-use Rattle.sat_solver.specs.declared.session.proof.ProofError.TheVariants.{Write, OutOfMemory}
+use Rattle.sat_solver.specs.declared.session.proof.ProofError.TheVariants.{Write, OutOfMemory, Check}
 
 -- steps were made, of which the ordered ones are these
 pub record MakesDue {W : Type 0} (seen : W → Writer) (due : List Step) (old new : Proof W) : Type 0 where
@@ -24,6 +24,7 @@ abbrev pub RecordsDue : {T W : Type 0} → (W → Writer) → Result T ProofErro
 RecordsDue seen (Ok x) due old new = MakesDue seen due old new
 RecordsDue seen (Err (Write e)) due old new = FailsDue seen old new
 RecordsDue seen (Err OutOfMemory) due old new = (steps : List Step) × Adds seen steps old new
+RecordsDue seen (Err (Check fault)) due old new = (steps : List Step) × FailsCheck seen steps old new
 
 -- it came from there by steps that were taken
 abbrev pub Took : {W : Type 0} → (W → Writer) → Proof W → Proof W → Type 0

@@ -14,7 +14,7 @@ use Rattle.sat_solver.specs.declared.session.output.LineWriter.{LineWriter}
 use Rattle.sat_solver.specs.declared.session.output.Output.{Output}
 use Rattle.sat_solver.specs.declared.session.output.Output.TheVariants.{Steps, Lines}
 use Rattle.sat_solver.specs.declared.session.proof.ProofError.{ProofError}
-use Rattle.sat_solver.specs.declared.session.proof.ProofError.TheVariants.{Write, OutOfMemory}
+use Rattle.sat_solver.specs.declared.session.proof.ProofError.TheVariants.{Write, OutOfMemory, Check}
 
 -- TEXTS
 
@@ -48,12 +48,14 @@ abbrev pub PutsSteps : ProofFormat → Result (Unit {0}) ProofError → List Ste
 PutsSteps f (Ok x) steps old new = Wrote f steps old new
 PutsSteps f (Err (Write e)) steps old new = Breaks old.writer new.writer (old.waiting ++ text_in f steps)
 PutsSteps f (Err OutOfMemory) steps old new = new ≡ old
+PutsSteps f (Err (Check fault)) steps old new = ⊥
 
 -- what came of writing the lines of a step
 abbrev pub PutsLines : Bool → Result (Unit {0}) ProofError → Step → Writer → Writer → Type 0
 PutsLines binary (Ok x) step old new = Takes old new (drat_text binary step)
 PutsLines binary (Err (Write e)) step old new = Breaks old new (drat_text binary step)
 PutsLines binary (Err OutOfMemory) step old new = new ≡ old
+PutsLines binary (Err (Check fault)) step old new = ⊥
 
 -- OUTPUTS
 

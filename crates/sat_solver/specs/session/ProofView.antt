@@ -4,6 +4,7 @@ use Rattle.sat_base.specs.device.Device.{Writer, Takes, Breaks}
 use Rattle.sat_base.specs.device.Sink.{Sink, Emptied}
 use Rattle.sat_base.specs.steps.Steps.{Step, End}
 use Rattle.sat_solver.specs.session.Counting.{Cuts}
+use Rattle.sat_solver.specs.session.MadeView as mades
 use Rattle.sat_solver.specs.session.OutputView.{is_lines, text_in, AreSpelt, Wrote, output_format, output_sink}
 use Rattle.sat_solver.specs.session.Session.{Session, MayAll, session_after}
 use Rattle.sat_solver.specs.declared.session.counting.Counting.{Counting}
@@ -11,7 +12,7 @@ use Rattle.sat_solver.specs.declared.session.format.ProofFormat.{ProofFormat}
 use Rattle.sat_solver.specs.declared.session.output.Output.{Output}
 use Rattle.sat_solver.specs.declared.session.proof.Proof.{Proof}
 use Rattle.sat_solver.specs.declared.session.proof.ProofError.{ProofError}
-use Rattle.sat_solver.specs.declared.session.proof.ProofError.TheVariants.{Write, OutOfMemory}
+use Rattle.sat_solver.specs.declared.session.proof.ProofError.TheVariants.{Write, OutOfMemory, Check}
 
 -- where the steps' text goes
 pub data Target : Type 0 where
@@ -48,7 +49,11 @@ has_asked p = p.counting.solving
 
 -- all steps that were made
 abbrev pub steps_of : {W : Type 0} → Proof W → List Step
-steps_of p = p.history.steps
+steps_of p = p.made.history.steps
+
+-- does a checker take them?
+abbrev pub is_checked : {W : Type 0} → Proof W → Bool
+is_checked p = mades.is_checked p.made
 
 -- the session behind them
 abbrev pub session_of : {W : Type 0} → Proof W → Session
@@ -86,6 +91,7 @@ Stops (Broken w) steps new = ⊥
 -- these steps were made, and went where steps go
 pub record Adds {W : Type 0} (seen : W → Writer) (steps : List Step) (old new : Proof W) : Type 0 where
   pub history : steps_of new ≡ steps ++ steps_of old
+  pub checked : is_checked new ≡ is_checked old
   pub target : Carries (target_of seen old) steps (target_of seen new)
 
 -- these steps were made, and a call of the target failed at their text
@@ -93,11 +99,31 @@ pub record Fails {W : Type 0} (seen : W → Writer) (steps : List Step) (old new
   pub history : steps_of new ≡ steps ++ steps_of old
   pub target : Stops (target_of seen old) steps (target_of seen new)
 
+-- these steps were made, and went where steps go, and then the checker failed
+pub record FailsCheck {W : Type 0} (seen : W → Writer) (steps : List Step) (old new : Proof W) : Type 0 where
+  pub adds : Adds seen steps old new
+  pub had : is_checked old ≡ true
+
+-- what came of giving a step to the target
+abbrev pub PutsOn : Result (Unit {0}) ProofError → List Step → Target → Target → Type 0
+PutsOn (Ok x) steps old new = Carries old steps new
+PutsOn (Err (Write e)) steps old new = Stops old steps new
+PutsOn (Err OutOfMemory) steps old new = Carries old [] new
+PutsOn (Err (Check fault)) steps old new = ⊥
+
+-- nothing but the checker failed
+abbrev pub FailsOfCheck : {W : Type 0} → Result (Unit {0}) ProofError → Proof W → Type 0
+FailsOfCheck (Ok x) old = Unit {0}
+FailsOfCheck (Err (Write e)) old = ⊥
+FailsOfCheck (Err OutOfMemory) old = ⊥
+FailsOfCheck (Err (Check fault)) old = is_checked old ≡ true
+
 -- what came of making these steps: none is made where memory for one's hashes is wanting
 abbrev pub Records : {T W : Type 0} → (W → Writer) → Result T ProofError → List Step → Proof W → Proof W → Type 0
 Records seen (Ok x) steps old new = Adds seen steps old new
 Records seen (Err (Write e)) steps old new = Fails seen steps old new
 Records seen (Err OutOfMemory) steps old new = Adds seen [] old new
+Records seen (Err (Check fault)) steps old new = FailsCheck seen steps old new
 
 -- nothing waits for an open target any more, which was flushed
 abbrev pub Flushed : Target → Target → Type 0
@@ -107,13 +133,22 @@ Flushed (Broken w) new = new ≡ Broken w
 
 pub record Flushes {W : Type 0} (seen : W → Writer) (old new : Proof W) : Type 0 where
   pub history : steps_of new ≡ steps_of old
+  pub checked : is_checked new ≡ is_checked old
   pub target : Flushed (target_of seen old) (target_of seen new)
 
--- what came of a flush
+-- what came of a flush of the target alone
+abbrev pub FlushesTarget : {W : Type 0} → (W → Writer) → Result (Unit {0}) ProofError → Proof W → Proof W → Type 0
+FlushesTarget seen (Ok x) old new = Flushes seen old new
+FlushesTarget seen (Err (Write e)) old new = Fails seen [] old new
+FlushesTarget seen (Err OutOfMemory) old new = ⊥
+FlushesTarget seen (Err (Check fault)) old new = ⊥
+
+-- what came of a flush, behind which the checker tells what waited
 abbrev pub FlushesOrFails : {W : Type 0} → (W → Writer) → Result (Unit {0}) ProofError → Proof W → Proof W → Type 0
 FlushesOrFails seen (Ok x) old new = Flushes seen old new
 FlushesOrFails seen (Err (Write e)) old new = Fails seen [] old new
 FlushesOrFails seen (Err OutOfMemory) old new = ⊥
+FlushesOrFails seen (Err (Check fault)) old new = Flushes seen old new × (is_checked old ≡ true)
 
 -- an open target is handed back, which took what waited and the text of these steps, and was flushed
 pub record TookAll (f : ProofFormat) (c : Counting) (s : Sink) (steps : List Step) (given : Writer) : Type 0 where
@@ -145,6 +180,7 @@ Closes seen (Ok None) old new = ClosesNone seen old new
 Closes seen (Ok (Some given)) old new = ClosesOne seen given old new
 Closes seen (Err (Write e)) old new = Fails seen (End ∷ []) old new
 Closes seen (Err OutOfMemory) old new = Adds seen [] old new
+Closes seen (Err (Check fault)) old new = FailsCheck seen (End ∷ []) old new
 
 -- the writer of a target, of which what waits is lost
 abbrev pub Gives : Target → Option Writer → Type 0

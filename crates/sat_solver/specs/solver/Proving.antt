@@ -3,8 +3,9 @@ use Rattle.std.specs.Prelude.{◌≡◌, ◌⊎◌, true, false, Option, None, S
 use Rattle.sat_base.specs.device.Device.{Writer}
 use Rattle.sat_base.specs.device.Sink.{empty_sink}
 use Rattle.sat_base.specs.steps.Steps.{End}
+use Rattle.sat_solver.specs.session.Checked.{has_begun}
 use Rattle.sat_solver.specs.session.Counting.{start}
-use Rattle.sat_solver.specs.session.ProofView.{Open, Adds, ClosesNone, ClosesOne, Fails, is_open, target_of}
+use Rattle.sat_solver.specs.session.ProofView.{Open, Adds, ClosesNone, ClosesOne, Fails, FailsCheck, is_open, is_checked, target_of}
 use Rattle.sat_solver.specs.declared.session.format.ProofFormat.{ProofFormat}
 use Rattle.sat_solver.specs.declared.error.SolverError.{SolverError}
 use Rattle.sat_solver.specs.declared.error.SolverError.TheVariants as errors
@@ -29,6 +30,22 @@ Opens seen (Err errors.HasFailed) format target old new = Refuses old new (old.f
 Opens seen (Err errors.TooLate) format target old new = Refuses old new ((old.failed ≡ false) × ((old.used ≡ true) ⊎ (is_open (target_of seen old.core.proof) ≡ true)))
 Opens seen (Err e) format target old new = ⊥
 
+-- the solver has a checker of its own, before any step but ends of proofs
+pub record Checks {W : Type 0} (seen : W → Writer) (old new : Solver W) : Type 0 where
+  pub going : old.failed ≡ false
+  pub first : old.used ≡ false
+  pub begun : has_begun (steps_in old) ≡ false
+  pub steps : steps_in new ≡ steps_in old
+  pub target : target_of seen new.core.proof ≡ target_of seen old.core.proof
+  pub checked : is_checked new.core.proof ≡ true
+  pub same : new ≡ record old { core = record old.core { proof = new.core.proof } }
+
+abbrev pub Enables : {W : Type 0} → (W → Writer) → Result (Unit {0}) SolverError → Solver W → Solver W → Type 0
+Enables seen (Ok x) old new = Checks seen old new
+Enables seen (Err errors.HasFailed) old new = Refuses old new (old.failed ≡ true)
+Enables seen (Err errors.TooLate) old new = Refuses old new ((old.failed ≡ false) × ((old.used ≡ true) ⊎ (has_begun (steps_in old) ≡ true)))
+Enables seen (Err e) old new = ⊥
+
 -- the target came back, with the last step
 pub record ClosedOne {W : Type 0} (seen : W → Writer) (given : W) (old new : Solver W) : Type 0 where
   pub going : old.failed ≡ false
@@ -49,11 +66,17 @@ pub record ClosedBroken {W : Type 0} (seen : W → Writer) (old new : Solver W) 
   pub failed : new.failed ≡ true
   pub fails : Fails seen (End ∷ []) old.core.proof new.core.proof
 
--- no memory was left, and nothing was made
+-- no memory was left, and nothing was made; or it was wanted by the solver's own checker behind the last step
 pub record ClosedStarved {W : Type 0} (seen : W → Writer) (old new : Solver W) : Type 0 where
   pub going : old.failed ≡ false
   pub failed : new.failed ≡ true
-  pub adds : Adds seen [] old.core.proof new.core.proof
+  pub adds : Adds seen [] old.core.proof new.core.proof ⊎ FailsCheck seen (End ∷ []) old.core.proof new.core.proof
+
+-- the solver's own checker failed behind the last step
+pub record ClosedUnchecked {W : Type 0} (seen : W → Writer) (old new : Solver W) : Type 0 where
+  pub going : old.failed ≡ false
+  pub failed : new.failed ≡ true
+  pub fails : FailsCheck seen (End ∷ []) old.core.proof new.core.proof
 
 abbrev pub ClosesProof : {W : Type 0} → (W → Writer) → Result (Option W) SolverError → Solver W → Solver W → Type 0
 ClosesProof seen (Ok None) old new = ClosedNone seen old new
@@ -61,4 +84,6 @@ ClosesProof seen (Ok (Some given)) old new = ClosedOne seen given old new
 ClosesProof seen (Err errors.HasFailed) old new = Refuses old new (old.failed ≡ true)
 ClosesProof seen (Err (errors.ProofIoError cause)) old new = ClosedBroken seen old new
 ClosesProof seen (Err errors.OutOfMemory) old new = ClosedStarved seen old new
+ClosesProof seen (Err errors.CounterEnd) old new = ClosedUnchecked seen old new
+ClosesProof seen (Err (errors.ProofProcessorError cause)) old new = ClosedUnchecked seen old new
 ClosesProof seen (Err e) old new = ⊥

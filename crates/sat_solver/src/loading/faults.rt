@@ -4,6 +4,7 @@ ghost use Rattle.sat_solver.specs.loading.Faults.{told_as};
 
 use crate::SolverError;
 use crate::names::error::NameError;
+use crate::search::fault::check_fault;
 
 /// Why a call over names failed.
 pub fn name_fault(error: NameError) -> SolverError
@@ -15,5 +16,6 @@ pub fn name_fault(error: NameError) -> SolverError
         NameError::VariableLimit => SolverError::VariableLimit,
         NameError::OutOfMemory => SolverError::OutOfMemory,
         NameError::Write(cause) => SolverError::ProofIoError { cause },
+        NameError::Check(fault) => check_fault(fault),
     }
 }

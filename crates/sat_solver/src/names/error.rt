@@ -1,5 +1,6 @@
 //! Why a call over names failed.
 
+use crate::session::made::CheckFault;
 use std::alloc::{AllocError, AllocFailed};
 use std::io;
 
@@ -18,6 +19,9 @@ pub enum NameError {
 
     /// A call of the proof's target failed.
     Write(io::Error),
+
+    /// The solver's own checker failed.
+    Check(CheckFault),
 }
 
 impl From<AllocError> for NameError {

@@ -4,6 +4,7 @@ ghost use Rattle.sat_base.specs.steps.Steps.{Step};
 ghost use Rattle.sat_base.specs.steps.StepViews.{step_of};
 ghost use Rattle.sat_solver.specs.session.Session.{May, session_after};
 ghost use Rattle.sat_solver.specs.session.Widths.{KeepsWidth};
+ghost use Rattle.sat_solver.specs.declared.names.error.NameError.{NameError as Fault};
 ghost use Rattle.sat_solver.specs.names.Failing.{IsFailure, Came};
 
 use crate::names::error::NameError;
@@ -21,8 +22,8 @@ pub trait StepWriter: Drop {
     /// It came from there by steps that were taken.
     ghost took: { Self → Self → Type 0 };
 
-    /// It came from there by steps of which the last wasn't taken.
-    ghost broke: { Self → Self → Type 0 };
+    /// It came from there by steps of which the last wasn't taken, for this reason.
+    ghost broke: { Self → Fault → Self → Type 0 };
 
     /// Takes a step that may be written behind those before it.
     fn step(&mut self, step: &ProofStep<'_>) -> Result<(), NameError>
@@ -37,7 +38,8 @@ pub trait StepWriter: Drop {
 
 impl<W: CountedWrite + Drop> StepWriter for Proof<W> {
     ghost use Rattle.sat_solver.specs.session.ProofView.{Keeps, steps_of};
-    ghost use Rattle.sat_solver.specs.session.Making.{Took, Broke};
+    ghost use Rattle.sat_solver.specs.session.Making.{Took};
+    ghost use Rattle.sat_solver.specs.names.Taking.{NotTaken};
 
     ghost steps = { λ p. steps_of p };
 
@@ -45,13 +47,14 @@ impl<W: CountedWrite + Drop> StepWriter for Proof<W> {
 
     ghost took = { Took W.seen };
 
-    ghost broke = { Broke W.seen };
+    ghost broke = { NotTaken W.seen };
 
     fn step(&mut self, step: &ProofStep<'_>) -> Result<(), NameError> {
         match self.step(step) {
             Ok(()) => Ok(()),
             Err(ProofError::Write(cause)) => Err(NameError::Write(cause)),
             Err(ProofError::OutOfMemory) => Err(NameError::OutOfMemory),
+            Err(ProofError::Check(fault)) => Err(NameError::Check(fault)),
         }
     }
 }

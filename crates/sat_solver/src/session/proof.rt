@@ -1,36 +1,40 @@
 //! The proof that a solver writes. Each step goes through it, and nobody else writes.
-ghost use Rattle.std.specs.Prelude.{◌≡◌, ◌∷◌, [], false};
+ghost use Rattle.std.specs.Prelude.{◌≡◌, ◌∷◌, [], true, false};
 ghost use Rattle.sat_base.specs.device.Sink.{empty_sink};
 ghost use Rattle.sat_base.specs.steps.StepViews.{step_of};
 ghost use Rattle.sat_solver.specs.session.Counting.{start};
-ghost use Rattle.sat_solver.specs.session.Session.{May};
+ghost use Rattle.sat_solver.specs.session.Checked.{has_begun};
+ghost use Rattle.sat_solver.specs.session.MadeView.{Makes};
+ghost use Rattle.sat_solver.specs.session.Session.{May, MayAll};
 ghost use Rattle.sat_solver.specs.session.Widths.{KeepsWidth};
-ghost use Rattle.sat_solver.specs.session.ProofView.{Closed, Open, is_open, is_drat, has_asked, target_of, steps_of, session_of, Keeps, Adds, Records, FlushesOrFails, Closes, HandsBack};
+ghost use Rattle.sat_solver.specs.session.ProofView.{Closed, Open, is_open, is_drat, has_asked, target_of, steps_of, session_of, is_checked, Keeps, Adds, Records, PutsOn, FailsOfCheck, FlushesTarget, FlushesOrFails, Closes, HandsBack};
 
 use crate::session::counting::Counting;
 use crate::session::cutting::CutLists;
 use crate::session::format::ProofFormat;
-use crate::session::history::History;
+use crate::session::made::{CheckFault, Made};
 use crate::session::output::Output;
 use sat_base::{CountedWrite, ProofStep};
 use std::alloc::Global;
 use std::io;
 
-/// Why a step wasn't written.
+/// Why a step wasn't written, or wasn't checked.
 #[derive(Debug, Drop)]
 pub enum ProofError {
     /// A call of the target failed.
     Write(io::Error),
-    /// Where its hashes are cut.
+    /// Where its hashes are cut. It wasn't made.
     OutOfMemory,
+    /// It was made, and the solver's own checker failed at it.
+    Check(CheckFault),
 }
 
-/// All steps that a solver made, for contracts alone, and the target that their text goes to, where one is open. After a fault
-/// of the target it isn't used again, and steps go on as if none were open.
+/// All steps that a solver made, the checker that takes them, where there is one, and the target that their text goes to, where one is
+/// open. After a fault of the target it isn't used again, and steps go on as if none were open.
 #[derive(Drop)]
 pub struct Proof<W> {
-    history: History,
-    /// What the width of hashes follows while a target is open.
+    made: Made,
+    /// What the width of hashes follows while a target is open, or a checker there.
     counting: Counting,
     lists: CutLists,
     output: Option<Output<W>>,
@@ -38,13 +42,14 @@ pub struct Proof<W> {
 }
 
 impl<W: CountedWrite + Drop> Proof<W> {
-    /// No step yet, and no target. Takes no memory.
+    /// No step yet, no checker, and no target. Takes no memory.
     pub fn new(alloc: Global) -> Proof<W>
         ensures steps { steps_of result ≡ [] }
+        ensures checked { is_checked result ≡ false }
         ensures target { target_of W.seen result ≡ Closed }
     {
         Proof {
-            history: History::new(),
+            made: Made::new(),
             counting: Counting::new(),
             lists: CutLists::new(alloc),
             output: None,
@@ -79,11 +84,29 @@ impl<W: CountedWrite + Drop> Proof<W> {
         self.counting.solving
     }
 
+    /// Whether a step was made that is no end of a proof.
+    pub fn has_begun(&self) -> bool
+        ensures { result ≡ has_begun (steps_of self.now) }
+    {
+        self.made.has_begun()
+    }
+
+    /// From here on a checker takes the steps. Takes no memory.
+    pub fn begin_checking(&mut self, alloc: Global)
+        requires { has_begun (steps_of self.old) ≡ false }
+        ensures steps { steps_of self.new ≡ steps_of self.old }
+        ensures target { target_of W.seen self.new ≡ target_of W.seen self.old }
+        ensures checked { is_checked self.new ≡ true }
+    {
+        self.made.check(alloc);
+    }
+
     /// From here on steps are written to this target, with whole hashes at first. Takes no memory. A target that failed before is
     /// dropped.
     pub fn open(&mut self, format: ProofFormat, target: W)
         requires { is_open (target_of W.seen self.old) ≡ false }
         ensures steps { steps_of self.new ≡ steps_of self.old }
+        ensures checked { is_checked self.new ≡ is_checked self.old }
         ensures target { target_of W.seen self.new ≡ Open format start (empty_sink (W.seen target)) }
     {
         self.counting = Counting::new();
@@ -99,8 +122,55 @@ impl<W: CountedWrite + Drop> Proof<W> {
         self.counting.solving = true;
     }
 
-    /// Makes a step that the session may write, and writes it where a target is open: its hashes are cut to the width for the clauses
-    /// behind it. Without memory for that nothing is made.
+    /// Writes a step where a target is open: its hashes are cut to the width for the clauses behind it.
+    fn put(&mut self, step: &ProofStep<'_>) -> Result<(), ProofError>
+        requires width { KeepsWidth (step_of step.now) }
+        ensures made { self.new.made ≡ self.old.made }
+        ensures puts { PutsOn result (step_of step.now ∷ []) (target_of W.seen self.old) (target_of W.seen self.new) }
+    {
+        if !self.made.is_checked() && !self.is_open() {
+            return Ok(());
+        }
+        let counting = self.counting.with(step);
+        if self.broken {
+            self.counting = counting;
+            return Ok(());
+        }
+        let Some(output) = &mut self.output else {
+            self.counting = counting;
+            return Ok(());
+        };
+        let widths = (self.counting.bits, counting.bits);
+        match output.write(&mut self.lists, widths, step) {
+            Ok(()) => {
+                self.counting = counting;
+                Ok(())
+            }
+            Err(ProofError::Write(e)) => {
+                self.broken = true;
+                Err(ProofError::Write(e))
+            }
+            Err(ProofError::OutOfMemory) => Err(ProofError::OutOfMemory),
+            Err(ProofError::Check(fault)) => Err(ProofError::Check(fault)),
+        }
+    }
+
+    /// Notes a step that was written, and gives it to the checker.
+    fn take(&mut self, step: &ProofStep<'_>) -> Result<(), ProofError>
+        requires may { MayAll (step_of step.now ∷ steps_of self.old) }
+        requires width { KeepsWidth (step_of step.now) }
+        ensures makes { Makes (step_of step.now) self.old.made self.new.made }
+        ensures target { target_of W.seen self.new ≡ target_of W.seen self.old }
+        ensures fails { FailsOfCheck result self.old }
+    {
+        match self.made.take(self.counting.bits, step) {
+            Ok(()) => Ok(()),
+            Err(fault) => Err(ProofError::Check(fault)),
+        }
+    }
+
+    /// Makes a step that the session may write, writes it where a target is open, and gives it to the checker, where there is one.
+    /// Without memory for its text nothing is made. A step at whose text the target fails isn't checked.
     pub fn step(&mut self, step: &ProofStep<'_>) -> Result<(), ProofError>
         requires keeps { Keeps self.old }
         requires may { May (session_of self.old) (step_of step.now) }
@@ -108,36 +178,20 @@ impl<W: CountedWrite + Drop> Proof<W> {
         ensures keeps { Keeps self.new }
         ensures records { Records W.seen result (step_of step.now ∷ []) self.old self.new }
     {
-        let history = self.history.and(step);
-        if self.broken {
-            self.history = history;
-            return Ok(());
-        }
-        let Some(output) = &mut self.output else {
-            self.history = history;
-            return Ok(());
-        };
-        let counting = self.counting.with(step);
-        let widths = (self.counting.bits, counting.bits);
-        match output.write(&mut self.lists, widths, step) {
-            Ok(()) => {
-                self.history = history;
-                self.counting = counting;
-                Ok(())
-            }
+        match self.put(step) {
+            Ok(()) => self.take(step),
             Err(ProofError::Write(e)) => {
-                self.history = history;
-                self.broken = true;
+                self.made.skip(step);
                 Err(ProofError::Write(e))
             }
             Err(ProofError::OutOfMemory) => Err(ProofError::OutOfMemory),
+            Err(ProofError::Check(fault)) => Err(ProofError::Check(fault)),
         }
     }
 
     /// Writes out what waits for an open target, and flushes it.
-    pub fn flush(&mut self) -> Result<(), ProofError>
-        ensures keeps { Keeps self.old → Keeps self.new }
-        ensures flushes { FlushesOrFails W.seen result self.old self.new }
+    fn flush_target(&mut self) -> Result<(), ProofError>
+        ensures flushes { FlushesTarget W.seen result self.old self.new }
     {
         if self.broken {
             return Ok(());
@@ -152,6 +206,28 @@ impl<W: CountedWrite + Drop> Proof<W> {
                 Err(ProofError::Write(e))
             }
         }
+    }
+
+    /// Has the checker tell what waits.
+    fn take_delayed(&mut self) -> Result<(), ProofError>
+        ensures steps { steps_of self.new ≡ steps_of self.old }
+        ensures checked { is_checked self.new ≡ is_checked self.old }
+        ensures target { target_of W.seen self.new ≡ target_of W.seen self.old }
+        ensures fails { FailsOfCheck result self.old }
+    {
+        match self.made.take_delayed() {
+            Ok(()) => Ok(()),
+            Err(fault) => Err(ProofError::Check(fault)),
+        }
+    }
+
+    /// Writes out what waits for an open target, and flushes it. Then the checker tells what waits, where there is one.
+    pub fn flush(&mut self) -> Result<(), ProofError>
+        ensures keeps { Keeps self.old → Keeps self.new }
+        ensures flushes { FlushesOrFails W.seen result self.old self.new }
+    {
+        self.flush_target()?;
+        self.take_delayed()
     }
 
     /// Writes the last step, flushes, and hands the target back; `None` where none is open. After an error the target stays.

@@ -25,6 +25,7 @@ fn is_limit(error: &NameError) -> bool
         NameError::AssumedVariable => false,
         NameError::OutOfMemory => false,
         NameError::Write(_) => false,
+        NameError::Check(_) => false,
     }
 }
 

@@ -1,6 +1,6 @@
 //! The proof of a solver, where its text goes.
 ghost use Rattle.sat_solver.specs.session.ProofView.{Gives, seen_of, target_of};
-ghost use Rattle.sat_solver.specs.solver.Proving.{Opens, ClosesProof};
+ghost use Rattle.sat_solver.specs.solver.Proving.{Enables, Opens, ClosesProof};
 ghost use Rattle.sat_solver.specs.solver.Whole.{IsSolver};
 
 use crate::SolverError;
@@ -24,6 +24,24 @@ impl<W: CountedWrite + Drop> Solver<W> {
             return Err(SolverError::TooLate);
         }
         self.core.proof.open(format, target);
+        Ok(())
+    }
+
+    /// From here on a checker of the solver's own takes each step that is made, as a file in bytes would have it, but for the ends of
+    /// proofs; it refuses none. `TooLate` once a clause, a name, assumptions or an ask came.
+    pub fn enable_self_checking(&mut self) -> Result<(), SolverError>
+        requires { IsSolver self.old }
+        ensures solver { IsSolver self.new }
+        ensures enables { Enables W.seen result self.old self.new }
+    {
+        if self.failed {
+            return Err(SolverError::HasFailed);
+        }
+        if self.used || self.core.proof.has_begun() {
+            return Err(SolverError::TooLate);
+        }
+        let alloc = self.core.search.alloc;
+        self.core.proof.begin_checking(alloc);
         Ok(())
     }
 

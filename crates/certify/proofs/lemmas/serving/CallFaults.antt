@@ -25,7 +25,7 @@ none_some r e = cc
 module _ {C : Type 0} (seen : C → Writer) (a b : Solver C) where
   ends : (e : SolverError) → EndsNames seen e a b → FailsSolver seen (fault_for e) a b
   ends errors.Interrupted h = (h.breaks.steps, h.breaks.went)
-  ends (errors.ProofProcessorError cause) h = (h.breaks.steps, h.breaks.went)
+  ends (errors.ProofProcessorError cause) h = (h.breaks.steps, h.breaks.went.adds)
   ends (errors.ProofIoError cause) h = (h.breaks.steps, h.breaks.went)
   ends errors.OutOfMemory h = (h.breaks.steps, h.breaks.went)
   ends errors.WitnessVariable h = (h.breaks.steps, h.breaks.went)
@@ -34,7 +34,7 @@ module _ {C : Type 0} (seen : C → Writer) (a b : Solver C) where
   ends errors.NotInDrat h = (h.breaks.steps, h.breaks.went)
   ends errors.StoreFull h = (h.breaks.steps, h.breaks.went)
   ends errors.VariableLimit h = (h.breaks.steps, h.breaks.went)
-  ends errors.CounterEnd h = (h.breaks.steps, h.breaks.went)
+  ends errors.CounterEnd h = (h.breaks.steps, h.breaks.went.adds)
   ends errors.HasFailed h = (h.breaks.steps, h.breaks.went)
   ends errors.Read h = (h.breaks.steps, h.breaks.went)
   ends errors.Malformed h = (h.breaks.steps, h.breaks.went)

@@ -1,16 +1,16 @@
 -- What takes steps, from call to call.
-use Rattle.std.proofs.Common.{◌≡◌, sym, subst, Result, Ok, Err, [], ◌∷◌}
+use Rattle.std.proofs.Common.{◌≡◌, sym, subst, Result, Ok, Err, List, [], ◌∷◌}
 use Rattle.std.specs.Prelude.{IsErrAnd}
 use Rattle.std.proofs.lemmas.Result.{err_from_is_err_and}
 use Rattle.sat_base.specs.device.Device.{Writer}
 use Rattle.sat_base.specs.steps.Steps.{Step}
 use Rattle.sat_solver.specs.session.Making.{Took, Broke}
-use Rattle.sat_solver.specs.session.ProofView.{Adds, Fails}
+use Rattle.sat_solver.specs.session.ProofView.{Adds, Fails, FailsCheck}
 use Rattle.sat_solver.specs.declared.session.proof.Proof.{Proof}
 use Rattle.sat_solver.specs.declared.names.error.NameError.{NameError}
 use Rattle.sat_solver.specs.declared.names.error.NameError.TheVariants as errors
 use Rattle.sat_solver.specs.names.Failing.{CameTo, Came}
-use Rattle.sat_solver.proofs.lemmas.session.ProofLemmas.{adds_more, fails_later}
+use Rattle.sat_solver.proofs.lemmas.session.ProofLemmas.{adds_more, fails_later, check_later}
 
 -- a step was taken behind others
 pub took_step : {W : Type 0} (seen : W → Writer) (w a b : Proof W) (step : Step) → Took seen w a → Adds seen (step ∷ []) a b → Took seen w b
@@ -20,11 +20,15 @@ took_step seen w a b step t adds = (_, adds_more seen t.0 (step ∷ []) w a b t.
 pub broke_step : {W : Type 0} (seen : W → Writer) (w a b : Proof W) (step : Step) → Took seen w a → Fails seen (step ∷ []) a b → Broke seen w b
 broke_step seen w a b step t fails = (_, fails_later seen t.0 (step ∷ []) w a b t.1 fails)
 
+-- or the checker failed at it
+pub check_step : {W : Type 0} (seen : W → Writer) (w a b : Proof W) (step : Step) → Took seen w a → FailsCheck seen (step ∷ []) a b → (steps : List Step) × FailsCheck seen steps w b
+check_step seen w a b step t fails = (_, check_later seen t.0 (step ∷ []) w a b t.1 fails)
+
 -- or none was made for want of memory
 pub took_none : {W : Type 0} (seen : W → Writer) (w a b : Proof W) → Took seen w a → Adds seen [] a b → Took seen w b
 took_none seen w a b t adds = (_, adds_more seen t.0 [] w a b t.1 adds)
 
-module _ {W : Type 0} (took broke : W → W → Type 0) where
+module _ {W : Type 0} (took : W → W → Type 0) (broke : W → NameError → W → Type 0) where
   -- a call behind another that took its steps
   pub came_then : {A : Type 0} (r : Result A NameError) (a b c : W) → ((w : W) → took w a → took w b) → Came took broke r b c → Came took broke r a c
   came_then (Ok x) a b c first last = λ w t. last w (first w t)
@@ -33,6 +37,7 @@ module _ {W : Type 0} (took broke : W → W → Type 0) where
   came_then (Err errors.VariableLimit) a b c first last = λ w t. last w (first w t)
   came_then (Err errors.OutOfMemory) a b c first last = λ w t. last w (first w t)
   came_then (Err (errors.Write cause)) a b c first last = λ w t. last w (first w t)
+  came_then (Err (errors.Check fault)) a b c first last = λ w t. last w (first w t)
 
   -- a fault that is handed on
   pub came_on : {A : Type 0} (r : Result A NameError) (e : NameError) (a b : W) → IsErrAnd r (λ f. f ≡ e) → ((w : W) → took w a → CameTo took broke w e b) → Came took broke r a b

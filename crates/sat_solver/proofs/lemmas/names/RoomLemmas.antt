@@ -154,6 +154,7 @@ limit_fails errors.AssumedVariable old new from to tidy lt h = h
 limit_fails errors.VariableLimit old new from to tidy lt h = let e = live_full old tidy h.none in absurd (omega arith)
 limit_fails errors.OutOfMemory old new from to tidy lt h = tt
 limit_fails (errors.Write cause) old new from to tidy lt h = tt
+limit_fails (errors.Check fault) old new from to tidy lt h = tt
 
 pub failure_limits : {W : Type 0} (e : NameError) (old new : Variables) (from to : W) → IsFailure e → Limits e old new from to
 failure_limits errors.WitnessVariable old new from to h = h
@@ -161,6 +162,7 @@ failure_limits errors.AssumedVariable old new from to h = h
 failure_limits errors.VariableLimit old new from to h = absurd h
 failure_limits errors.OutOfMemory old new from to h = tt
 failure_limits (errors.Write cause) old new from to h = tt
+failure_limits (errors.Check fault) old new from to h = tt
 
 -- a fault that is handed on
 pub fails_on : {A : Type 0} (r : Result A NameError) (e : NameError) → IsErrAnd r (λ f. f ≡ e) → IsFailure e → IfErr r IsFailure

@@ -15,7 +15,7 @@ use Rattle.sat_solver.specs.session.LiveClauses.{with_var}
 use Rattle.sat_solver.specs.session.ProofView.{Adds, Keeps, Records, session_of}
 use Rattle.sat_solver.specs.declared.session.proof.Proof.{Proof}
 use Rattle.sat_solver.specs.declared.session.proof.ProofError.{ProofError}
-use Rattle.sat_solver.specs.declared.session.proof.ProofError.TheVariants.{Write, OutOfMemory}
+use Rattle.sat_solver.specs.declared.session.proof.ProofError.TheVariants.{Write, OutOfMemory, Check}
 use Rattle.sat_solver.proofs.lemmas.session.ProofLemmas.{adds_none}
 use Rattle.sat_solver.specs.analysis.Marks.{CanAnalyze, IsReasoned}
 use Rattle.sat_solver.specs.analysis.Failing.{IsChosen, Fails, fails_bottom, fails_signs, fails_clauses}
@@ -32,6 +32,7 @@ use Rattle.sat_solver.specs.search.Joint.{global_in, IsFree, IsSearch, Moved, as
 use Rattle.sat_solver.specs.search.Turns.{IsFailing}
 use Rattle.sat_solver.proofs.lemmas.search.TurnLemmas.{ready_moved}
 use Rattle.sat_solver.proofs.lemmas.parts.WordSteps.{goes_refl}
+use Rattle.sat_solver.proofs.lemmas.search.GoingLemmas.{went_checked, fault_checked}
 
 pub parts_can : (p : Parts) → Holds p → 0 < length p.trail.starts → CanAnalyze p.clauses (state p)
 parts_can p h above =
@@ -105,6 +106,7 @@ module _ {W : Type 0} (seen : W → Writer) (a b : Proof W) (c c' : Search) wher
   pub tells_broken : (e : ProofError) (core hashes : List ℕ) → Keeps b → Records {T = Unit {0}} seen (Err e) (FailedAssumptions core hashes ∷ []) a b → TellsCore seen (Err (fault_of e)) a b c c'
   tells_broken (Write cause) core hashes keeps fails = record { steps = FailedAssumptions core hashes ∷ []; went = fails; core = (refl, tt); keeps = keeps; ends = tt }
   tells_broken OutOfMemory core hashes keeps adds = record { steps = []; went = adds; core = tt; keeps = keeps; ends = tt }
+  tells_broken (Check fault) core hashes keeps fails = record { steps = FailedAssumptions core hashes ∷ []; went = went_checked seen (Unit {0}) fault (FailedAssumptions core hashes ∷ []) a b fails; core = (refl, tt); keeps = keeps; ends = fault_checked seen fault }
 
   -- what is told stands
   pub tells_core : Keeps b → (core : List ℕ) → core ≡ map (with_var (global_in c)) c'.analysis.core → (hashes : List ℕ) → hashes ≡ causes_hashes c.parts c'.analysis.used → Adds seen (FailedAssumptions core hashes ∷ []) a b →

@@ -3,18 +3,20 @@ use Rattle.std.proofs.Common.{ℕ, ◌≡◌, Result, Ok, Err, Option, List, [],
 use Rattle.std.specs.Prelude.{MatchResult}
 use Rattle.sat_base.specs.device.Device.{Writer}
 use Rattle.sat_base.specs.steps.Steps.{Step}
-use Rattle.sat_solver.specs.session.ProofView.{Adds, Records, Keeps, steps_of, session_of}
+use Rattle.sat_solver.specs.session.ProofView.{Adds, FailsCheck, Records, Keeps, steps_of, session_of}
 use Rattle.sat_solver.specs.session.Session.{session_after}
+use Rattle.sat_solver.specs.declared.session.made.CheckFault.{CheckFault}
+use Rattle.sat_solver.specs.declared.session.made.CheckFault.TheVariants as checks
 use Rattle.sat_solver.specs.declared.session.proof.Proof.{Proof}
 use Rattle.sat_solver.specs.declared.session.proof.ProofError.{ProofError}
-use Rattle.sat_solver.specs.declared.session.proof.ProofError.TheVariants.{Write, OutOfMemory}
-use Rattle.sat_solver.proofs.lemmas.session.ProofLemmas.{adds_none, adds_more, fails_later}
+use Rattle.sat_solver.specs.declared.session.proof.ProofError.TheVariants.{Write, OutOfMemory, Check}
+use Rattle.sat_solver.proofs.lemmas.session.ProofLemmas.{adds_none, adds_more, fails_later, check_later}
 use Rattle.sat_store.specs.declared.clause.alloc.StoreError.{StoreError}
 use Rattle.sat_store.specs.declared.clause.alloc.StoreError.TheVariants as stores
 use Rattle.sat_solver.specs.Recovery.{failure_of}
 use Rattle.sat_solver.specs.declared.error.SolverError.{SolverError}
 use Rattle.sat_solver.specs.declared.error.SolverError.TheVariants as errors
-use Rattle.sat_solver.specs.search.Going.{AreSearched, IsSearched, fault_of, IsFault, Went, Goes}
+use Rattle.sat_solver.specs.search.Going.{AreSearched, IsSearched, check_fault_of, fault_of, IsFault, Went, Goes}
 use Rattle.sat_solver.proofs.lemmas.search.AskedLemmas.{names_behind}
 
 both : (names : ℕ → Option ℕ) (ys xs : List Step) → AreSearched names ys → AreSearched names xs → AreSearched names (ys ++ xs)
@@ -40,6 +42,17 @@ module _ {W : Type 0} (seen : W → Writer) where
   goes_unstored stores.StoreFull p P keeps = record { steps = []; went = adds_none seen p; searched = tt; keeps = keeps; ends = tt }
   goes_unstored stores.OutOfMemory p P keeps = record { steps = []; went = adds_none seen p; searched = tt; keeps = keeps; ends = tt }
 
+  -- the checker failed
+  pub went_checked : (A : Type 0) (fault : CheckFault) (steps : List Step) (p q : Proof W) → FailsCheck seen steps p q → Went {A = A} seen (Err (check_fault_of fault)) steps p q
+  went_checked A checks.OutOfMemory steps p q h = h.adds
+  went_checked A checks.CounterEnd steps p q h = h
+  went_checked A (checks.Processor cause) steps p q h = h
+
+  pub fault_checked : (fault : CheckFault) → IsFault (check_fault_of fault)
+  fault_checked checks.OutOfMemory = tt
+  fault_checked checks.CounterEnd = tt
+  fault_checked (checks.Processor cause) = tt
+
   -- one step was written
   pub goes_step : {A : Type 0} (x : A) (p q : Proof W) (step : Step) (P : A → List Step → Type 0) → IsSearched (session_of p).solver_names step → Keeps q → Adds seen (step ∷ []) p q → P x (step ∷ []) → Goes seen (Ok x) p q P
   goes_step x p q step P s keeps adds h = record { steps = step ∷ []; went = adds; searched = (s, tt); keeps = keeps; ends = h }
@@ -48,6 +61,7 @@ module _ {W : Type 0} (seen : W → Writer) where
   pub goes_broken : {A : Type 0} (e : ProofError) (p q : Proof W) (step : Step) (P : A → List Step → Type 0) → IsSearched (session_of p).solver_names step → Keeps q → Records {T = Unit {0}} seen (Err e) (step ∷ []) p q → Goes seen (Err (fault_of e)) p q P
   goes_broken (Write cause) p q step P s keeps fails = record { steps = step ∷ []; went = fails; searched = (s, tt); keeps = keeps; ends = tt }
   goes_broken OutOfMemory p q step P s keeps adds = record { steps = []; went = adds; searched = tt; keeps = keeps; ends = tt }
+  goes_broken {A = A} (Check fault) p q step P s keeps fails = record { steps = step ∷ []; went = went_checked A fault (step ∷ []) p q fails; searched = (s, tt); keeps = keeps; ends = fault_checked fault }
 
   -- a step was made, and then the clause buffer refused
   pub goes_refused : {A : Type 0} (s : StoreError) (p q : Proof W) (step : Step) (P : A → List Step → Type 0) → IsSearched (session_of p).solver_names step → Keeps q → Adds seen (step ∷ []) p q → Goes seen (Err (failure_of s)) p q P
@@ -58,7 +72,7 @@ module _ {W : Type 0} (seen : W → Writer) where
   went_later (Ok x) xs ys a b c h k = adds_more seen xs ys a b c h k
   went_later (Err (errors.ProofIoError cause)) xs ys a b c h k = fails_later seen xs ys a b c h k
   went_later (Err errors.Interrupted) xs ys a b c h k = adds_more seen xs ys a b c h k
-  went_later (Err (errors.ProofProcessorError cause)) xs ys a b c h k = adds_more seen xs ys a b c h k
+  went_later (Err (errors.ProofProcessorError cause)) xs ys a b c h k = check_later seen xs ys a b c h k
   went_later (Err errors.OutOfMemory) xs ys a b c h k = adds_more seen xs ys a b c h k
   went_later (Err errors.WitnessVariable) xs ys a b c h k = adds_more seen xs ys a b c h k
   went_later (Err errors.AssumedVariable) xs ys a b c h k = adds_more seen xs ys a b c h k
@@ -66,7 +80,7 @@ module _ {W : Type 0} (seen : W → Writer) where
   went_later (Err errors.NotInDrat) xs ys a b c h k = adds_more seen xs ys a b c h k
   went_later (Err errors.StoreFull) xs ys a b c h k = adds_more seen xs ys a b c h k
   went_later (Err errors.VariableLimit) xs ys a b c h k = adds_more seen xs ys a b c h k
-  went_later (Err errors.CounterEnd) xs ys a b c h k = adds_more seen xs ys a b c h k
+  went_later (Err errors.CounterEnd) xs ys a b c h k = check_later seen xs ys a b c h k
   went_later (Err errors.HasFailed) xs ys a b c h k = adds_more seen xs ys a b c h k
   went_later (Err errors.Read) xs ys a b c h k = adds_more seen xs ys a b c h k
   went_later (Err errors.Malformed) xs ys a b c h k = adds_more seen xs ys a b c h k

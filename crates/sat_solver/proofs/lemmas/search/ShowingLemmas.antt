@@ -13,7 +13,7 @@ use Rattle.sat_solver.specs.session.ProofView.{Adds, Keeps, Records, session_of}
 use Rattle.sat_solver.specs.session.Session.{Session, May}
 use Rattle.sat_solver.specs.declared.session.proof.Proof.{Proof}
 use Rattle.sat_solver.specs.declared.session.proof.ProofError.{ProofError}
-use Rattle.sat_solver.specs.declared.session.proof.ProofError.TheVariants.{Write, OutOfMemory}
+use Rattle.sat_solver.specs.declared.session.proof.ProofError.TheVariants.{Write, OutOfMemory, Check}
 use Rattle.sat_solver.proofs.lemmas.session.ProofLemmas.{adds_none}
 use Rattle.sat_solver.proofs.lemmas.parts.AnswerLemmas.{is_modelled}
 use Rattle.sat_solver.specs.joint.Units.{AreTrueLits}
@@ -29,6 +29,7 @@ use Rattle.sat_solver.specs.search.Turns.{IsComplete}
 use Rattle.sat_solver.proofs.lemmas.search.TurnLemmas.{ready_moved, free_moved, ready_names}
 use Rattle.sat_solver.specs.parts.Whole.{state}
 use Rattle.sat_solver.proofs.lemmas.parts.WordSteps.{goes_refl}
+use Rattle.sat_solver.proofs.lemmas.search.GoingLemmas.{went_checked, fault_checked}
 
 coded_variable : (v : ℕ) (b : Bool) → variable (coded v b) ≡ v
 coded_variable v true = omega arith
@@ -131,6 +132,7 @@ module _ {W : Type 0} (seen : W → Writer) (a b : Proof W) (c c' : Search) wher
   pub model_broken : (e : ProofError) (ls : List ℕ) → Keeps b → Records {T = Unit {0}} seen (Err e) (Model ls ∷ []) a b → TellsModel seen (Err (fault_of e)) a b c c'
   model_broken (Write cause) ls keeps fails = record { steps = Model ls ∷ []; went = fails; model = (refl, tt); keeps = keeps; ends = tt }
   model_broken OutOfMemory ls keeps adds = record { steps = []; went = adds; model = tt; keeps = keeps; ends = tt }
+  model_broken (Check fault) ls keeps fails = record { steps = Model ls ∷ []; went = went_checked seen (Unit {0}) fault (Model ls ∷ []) a b fails; model = (refl, tt); keeps = keeps; ends = fault_checked seen fault }
 
   -- what is told stands
   pub model_told : Keeps b → (ls : List ℕ) → ls ≡ map (with_var (global_in c)) (true_lits 0 c.parts.assignment.current) → Adds seen (Model ls ∷ []) a b → IsSearch (session_of a) c →

@@ -7,9 +7,9 @@ use Rattle.sat_solver.specs.session.ProofView.{steps_of, Records, FlushesOrFails
 use Rattle.sat_solver.specs.session.Making.{MakesDue, FailsDue, RecordsDue}
 use Rattle.sat_solver.specs.declared.session.proof.Proof.{Proof}
 use Rattle.sat_solver.specs.declared.session.proof.ProofError.{ProofError}
-use Rattle.sat_solver.specs.declared.session.proof.ProofError.TheVariants.{Write, OutOfMemory}
+use Rattle.sat_solver.specs.declared.session.proof.ProofError.TheVariants.{Write, OutOfMemory, Check}
 use Rattle.sat_solver.proofs.lemmas.session.DueLemmas.{ordered_append}
-use Rattle.sat_solver.proofs.lemmas.session.ProofLemmas.{adds_none, adds_more, fails_later, flush_records}
+use Rattle.sat_solver.proofs.lemmas.session.ProofLemmas.{adds_none, adds_more, fails_later, check_later, flush_records}
 
 module _ {W : Type 0} (seen : W → Writer) where
   -- nothing was due, and nothing made
@@ -33,18 +33,21 @@ module _ {W : Type 0} (seen : W → Writer) where
   due_then (Ok x) xs ys a b c p q = due_more xs ys a b c p q
   due_then (Err (Write e)) xs ys a b c p q = fault_later xs a b c p q
   due_then (Err OutOfMemory) xs ys a b c p q = (_, adds_more seen p.steps q.0 a b c p.adds q.1)
+  due_then (Err (Check fault)) xs ys a b c p q = (_, check_later seen p.steps q.0 a b c p.adds q.1)
 
   -- what came of an ordered step
   pub due_step : {T : Type 0} (r : Result T ProofError) (step : Step) (a b : Proof W) → is_ordered step ≡ true → Records seen r (step ∷ []) a b → RecordsDue seen r (step ∷ []) a b
   due_step (Ok x) step a b e h = record { steps = step ∷ []; adds = h; ordered = ap (λ o. kept_if o step []) e }
   due_step (Err (Write x)) step a b e h = record { steps = step ∷ []; fails = h }
   due_step (Err OutOfMemory) step a b e h = ([], h)
+  due_step (Err (Check fault)) step a b e h = (step ∷ [], h)
 
   -- and of a quiet one
   pub quiet_step : {T : Type 0} (r : Result T ProofError) (step : Step) (a b : Proof W) → is_ordered step ≡ false → Records seen r (step ∷ []) a b → RecordsDue seen r [] a b
   quiet_step (Ok x) step a b e h = record { steps = step ∷ []; adds = h; ordered = ap (λ o. kept_if o step []) e }
   quiet_step (Err (Write x)) step a b e h = record { steps = step ∷ []; fails = h }
   quiet_step (Err OutOfMemory) step a b e h = ([], h)
+  quiet_step (Err (Check fault)) step a b e h = (step ∷ [], h)
 
   -- and of a flush
   pub due_flush : (r : Result (Unit {0}) ProofError) (a b : Proof W) → FlushesOrFails seen r a b → RecordsDue seen r [] a b
@@ -54,6 +57,7 @@ module _ {W : Type 0} (seen : W → Writer) where
       go (Ok x) k = record { steps = []; adds = k; ordered = refl }
       go (Err (Write x)) k = record { steps = []; fails = k }
       go (Err OutOfMemory) k = ([], k)
+      go (Err (Check fault)) k = ([], k)
 
   -- the steps alone
   pub due_makes : (xs : List Step) (a b : Proof W) → MakesDue seen xs a b → Makes xs (steps_of a) (steps_of b)

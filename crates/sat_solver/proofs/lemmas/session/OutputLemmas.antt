@@ -11,7 +11,7 @@ use Rattle.sat_solver.specs.session.DratText.{Line, Derives, unit_lines, lines_t
 use Rattle.sat_solver.specs.session.OutputView.{is_lines, step_text, SpellsIn, text_in, AreSpelt, Wrote, PutsSteps, PutsLines, lines_format}
 use Rattle.sat_solver.specs.session.Widths.{kept_bits, narrowed}
 use Rattle.sat_solver.specs.declared.session.proof.ProofError.{ProofError}
-use Rattle.sat_solver.specs.declared.session.proof.ProofError.TheVariants.{Write, OutOfMemory}
+use Rattle.sat_solver.specs.declared.session.proof.ProofError.TheVariants.{Write, OutOfMemory, Check}
 
 -- units whose hashes are cut have the same lines
 same_lines : (w : ℕ) (us : List (ℕ × ℕ)) → unit_lines (map (λ u. (u.0, kept_bits w u.1)) us) ≡ unit_lines us
@@ -72,6 +72,7 @@ pub lines_put : (binary : Bool) (r : Result (Unit {0}) ProofError) (before now :
 lines_put binary (Ok x) before now step v w h = record { spelt = spelt_any binary (written_for before now step); sent = record { fresh = drat_text binary step; flows = text_is binary before now step ∙ sym (append-nil (drat_text binary step)); takes = h } }
 lines_put binary (Err (Write e)) before now step v w h = subst (Breaks v w) (sym (text_is binary before now step)) h
 lines_put binary (Err OutOfMemory) before now step v w h = ap empty_sink h
+lines_put binary (Err (Check fault)) before now step v w h = h
 
 -- they were flushed
 pub lines_flushed : {E : Type 0} (r : Result (Unit {0}) E) (v w : Writer) → FlushesOnce r v w → Flushes r (empty_sink v) (empty_sink w)

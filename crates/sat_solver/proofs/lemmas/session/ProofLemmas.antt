@@ -1,5 +1,6 @@
 -- Steps that went to a proof's target, one after another.
-use Rattle.std.proofs.Common.{◌≡◌, ◌∙◌, ℕ, true, Option, Some, Result, Ok, Err, List, [], ◌∷◌, ◌++◌, append_assoc, refl, sym, ap, subst}
+use Rattle.std.proofs.Common.{◌≡◌, ◌∙◌, ℕ, true, false, Option, None, Some, Result, Ok, Err, List, [], ◌∷◌, ◌++◌, append_assoc, refl, sym, ap, subst}
+use Rattle.std.proofs.lemmas.Bool.{true≢false}
 use Rattle.std.proofs.lemmas.List.{append-nil, reverse-append}
 use Rattle.std.specs.Prelude.{reverse}
 use Rattle.sat_base.specs.device.Device.{Writer, Takes, Breaks}
@@ -13,14 +14,14 @@ use Rattle.sat_base.proofs.lemmas.device.Writes.{took_more as took_both, breaks_
 use Rattle.sat_solver.specs.session.Counting.{start, Cuts, none_made, ask_begun, one_made, written_for, counted}
 use Rattle.sat_solver.specs.session.ProofTexts.{ClosedIsText, BrokenIsFront, BrokeText, WroteSince, TookSince, BrokeSince}
 use Rattle.sat_solver.specs.session.OutputView.{step_text, SpellsIn, text_in, AreSpelt, Wrote}
-use Rattle.sat_solver.specs.session.ProofView.{Target, Closed, Open, Broken as Faulty, is_open, Carried, Carries, Stopped, Stops, Flushed, TookAll, TakesAll, Gives, target_of, steps_of, Adds, Fails, Records, FlushesOrFails, Closes, ClosesOne, HandsBack}
+use Rattle.sat_solver.specs.session.ProofView.{Target, Closed, Open, Broken as Faulty, is_open, Carried, Carries, Stopped, Stops, Flushed, TookAll, TakesAll, Gives, target_of, steps_of, Adds, Fails, FailsCheck, Records, Flushes, FlushesOrFails, Closes, ClosesOne, HandsBack}
 use Rattle.sat_solver.specs.session.Widths.{KeepsWidth}
 use Rattle.sat_solver.specs.declared.session.counting.Counting.{Counting}
 use Rattle.sat_solver.specs.declared.session.format.ProofFormat.{ProofFormat}
 use Rattle.sat_solver.specs.declared.session.format.ProofFormat.TheVariants.{Varisat}
 use Rattle.sat_solver.specs.declared.session.proof.Proof.{Proof}
 use Rattle.sat_solver.specs.declared.session.proof.ProofError.{ProofError}
-use Rattle.sat_solver.specs.declared.session.proof.ProofError.TheVariants.{Write, OutOfMemory}
+use Rattle.sat_solver.specs.declared.session.proof.ProofError.TheVariants.{Write, OutOfMemory, Check}
 
 -- TEXTS
 
@@ -179,22 +180,15 @@ broken_is_front f from given steps t p g =
 
 -- PROOFS
 
--- the last step was made, and then a flush failed
-pub close_fails : {W : Type 0} (seen : W → Writer) (e : ProofError) (a b c : Proof W) → Adds seen (End ∷ []) a b → FlushesOrFails seen (Err e) b c → Closes seen (Err e) a c
-close_fails seen (Write e) a b c p q = record {
-  history = q.history ∙ p.history;
-  target = stops_later (target_of seen a) (target_of seen b) (target_of seen c) (End ∷ []) [] p.target q.target;
-}
-close_fails seen OutOfMemory a b c p q = absurd q
-
 -- no step
 pub adds_none : {W : Type 0} (seen : W → Writer) (p : Proof W) → Adds seen [] p p
-adds_none seen p = record { history = refl; target = carries_none (target_of seen p) }
+adds_none seen p = record { history = refl; checked = refl; target = carries_none (target_of seen p) }
 
 -- steps, and then later ones
 pub adds_more : {W : Type 0} (seen : W → Writer) (xs ys : List Step) (a b c : Proof W) → Adds seen xs a b → Adds seen ys b c → Adds seen (ys ++ xs) a c
 adds_more seen xs ys a b c p q = record {
   history = q.history ∙ ap (λ z. ys ++ z) p.history ∙ sym (append_assoc ys xs (steps_of a));
+  checked = q.checked ∙ p.checked;
   target = carries_more (target_of seen a) (target_of seen b) (target_of seen c) xs ys p.target q.target;
 }
 
@@ -205,11 +199,42 @@ fails_later seen xs ys a b c p q = record {
   target = stops_later (target_of seen a) (target_of seen b) (target_of seen c) xs ys p.target q.target;
 }
 
+-- steps, and then later ones at which the checker failed
+pub check_later : {W : Type 0} (seen : W → Writer) (xs ys : List Step) (a b c : Proof W) → Adds seen xs a b → FailsCheck seen ys b c → FailsCheck seen (ys ++ xs) a c
+check_later seen xs ys a b c p q = record { adds = adds_more seen xs ys a b c p q.adds; had = sym p.checked ∙ q.had }
+
 -- a flush makes no step
 pub flush_records : {W : Type 0} (seen : W → Writer) (r : Result (Unit {0}) ProofError) (a b : Proof W) → FlushesOrFails seen r a b → Records seen r [] a b
-flush_records seen (Ok x) a b h = record { history = h.history; target = flushed_carries (target_of seen a) (target_of seen b) h.target }
+flush_records seen (Ok x) a b h = record { history = h.history; checked = h.checked; target = flushed_carries (target_of seen a) (target_of seen b) h.target }
 flush_records seen (Err (Write e)) a b h = h
 flush_records seen (Err OutOfMemory) a b h = absurd h
+flush_records seen (Err (Check fault)) a b h = record { adds = record { history = h.0.history; checked = h.0.checked; target = flushed_carries (target_of seen a) (target_of seen b) h.0.target }; had = h.1 }
+
+-- the last step was made, and then a flush failed
+pub close_fails : {W : Type 0} (seen : W → Writer) (e : ProofError) (a b c : Proof W) → Adds seen (End ∷ []) a b → FlushesOrFails seen (Err e) b c → Closes seen (Err e) a c
+close_fails seen (Write e) a b c p q = record {
+  history = q.history ∙ p.history;
+  target = stops_later (target_of seen a) (target_of seen b) (target_of seen c) (End ∷ []) [] p.target q.target;
+}
+close_fails seen OutOfMemory a b c p q = absurd q
+close_fails seen (Check fault) a b c p q = record { adds = adds_more seen (End ∷ []) [] a b c p (flush_records seen (Ok tt) b c q.0); had = sym p.checked ∙ q.1 }
+
+gives_none : (a b c : Target) (xs : List Step) → is_open a ≡ true → Carries a xs b → Flushed b c → Gives c None → ⊥
+gives_none Closed b c xs o p f g = absurd (true≢false (sym o))
+gives_none (Open a n s) b c xs o p f g =
+    let k = subst (λ (z : Target). Flushed z c) p.2 f in
+    let q : None ≡ Some k.0.writer = subst (λ (z : Target). Gives z None) k.1 g in
+    cc
+gives_none (Faulty w) b c xs o p f g = absurd (true≢false (sym o))
+
+-- the last step was made, the target flushed and handed back
+pub close_gives : {W : Type 0} (seen : W → Writer) (o : Option W) (a b c d : Proof W) → is_open (target_of seen a) ≡ true → Adds seen (End ∷ []) a b → Flushes seen b c → HandsBack seen o c d → Closes seen (Ok o) a d
+close_gives seen None a b c d open_yet p q h = absurd (gives_none (target_of seen a) (target_of seen b) (target_of seen c) (End ∷ []) open_yet p.target q.target h.gives)
+close_gives seen (Some w) a b c d open_yet p q h = record {
+  history = h.history ∙ q.history ∙ p.history;
+  takes = takes_all (target_of seen a) (target_of seen b) (target_of seen c) (Some (seen w)) (seen w) (End ∷ []) open_yet p.target q.target h.gives refl;
+  target = h.target;
+}
 
 -- SINCE THE OPENING
 

@@ -15,10 +15,8 @@ use Rattle.sat_solver.specs.declared.session.output.Output.{Output}
 use Rattle.sat_solver.specs.declared.session.format.ProofFormat.{ProofFormat}
 use Rattle.sat_solver.specs.session.Counting.{none_made, ask_begun}
 use Rattle.sat_solver.specs.declared.session.proof.Proof.{Proof}
-use Rattle.sat_solver.specs.declared.session.history.History.{History}
-use Rattle.sat_solver.specs.declared.session.cutting.CutLists.{CutLists}
 use Rattle.sat_solver.specs.declared.session.proof.ProofError.{ProofError}
-use Rattle.sat_solver.specs.declared.session.proof.ProofError.TheVariants.{Write, OutOfMemory}
+use Rattle.sat_solver.specs.declared.session.proof.ProofError.TheVariants.{Write, OutOfMemory, Check}
 use Rattle.sat_solver.proofs.lemmas.session.ProofLemmas.{wrote_none, breaks_behind, cuts_one, carries_none}
 
 -- one step was written
@@ -38,6 +36,7 @@ pub puts_short : (f : ProofFormat) (e : ProofError) (step : Step) (xs : List Ste
 puts_short f (Write e) step xs s t h =
     subst (Breaks s.writer t.writer) (append_assoc s.waiting (text_in f xs) (step_text f step)) (breaks_within s.writer t.writer (s.waiting ++ text_in f xs) (step_text f step) h)
 puts_short f OutOfMemory step xs s t h = h
+puts_short f (Check fault) step xs s t h = h
 
 -- a step was carried
 pub carries_step : (f : ProofFormat) (c : Counting) (s t : Sink) (step : Step) → KeepsWidth step → Wrote f (written_for c.bits (counted step c).bits step) s t → Carries (Open f c s) (step ∷ []) (Open f (counted step c) t)
@@ -53,7 +52,7 @@ module _ {W : Type 0} (seen : W → Writer) (p : Proof W) where
 
   -- an ask begins, and no step is made of it
   pub adds_begun : Adds seen [] p begun
-  adds_begun = record { history = refl; target = go p.output p.broken }
+  adds_begun = record { history = refl; checked = refl; target = go p.output p.broken }
     where
       go : (o : Option (Output W)) (b : Bool) → Carries (target_in seen o b p.counting) [] (target_in seen o b (record p.counting { solving = true }))
       go None b = refl
@@ -71,11 +70,11 @@ module _ {W : Type 0} (seen : W → Writer) (p : Proof W) where
       target = subst (λ t. Stops t [] (Faulty (output_sink seen u).writer)) was_open ((output_sink seen u).writer, refl, record { written = []; counting = p.counting; cuts = none_made; breaks = b });
     }
 
-    module _ (step : Step) (keeps : KeepsWidth step) (history : History) (made : history.steps ≡ step ∷ p.history.steps) (lists : CutLists) where
+    module _ (step : Step) (keeps : KeepsWidth step) (d : Counting) (e : d ≡ counted step p.counting) where
       -- a step was written
-      pub adds_put : (d : Counting) → d ≡ counted step p.counting → output_format u ≡ output_format o → Wrote (output_format o) (written_for p.counting.bits d.bits step) (output_sink seen o) (output_sink seen u) →
-          Adds seen (step ∷ []) p (record p { history = history; counting = d; lists = lists; output = Some u })
-      adds_put d e same wrote = record { history = made; target = subst (λ b. Carries (target_of seen p) (step ∷ []) (with_fault b (output_format u) d (output_sink seen u))) (sym well) carried }
+      pub carries_put : output_format u ≡ output_format o → Wrote (output_format o) (written_for p.counting.bits d.bits step) (output_sink seen o) (output_sink seen u) →
+          Carries (target_of seen p) (step ∷ []) (target_in seen (Some u) p.broken d)
+      carries_put same wrote = subst (λ b. Carries (target_of seen p) (step ∷ []) (with_fault b (output_format u) d (output_sink seen u))) (sym well) carried
         where
           carried : Carries (target_of seen p) (step ∷ []) (Open (output_format u) d (output_sink seen u))
           carried = subst (λ f. Carries (target_of seen p) (step ∷ []) (Open f d (output_sink seen u))) (sym same)
@@ -84,21 +83,15 @@ module _ {W : Type 0} (seen : W → Writer) (p : Proof W) where
               (carries_step (output_format o) p.counting (output_sink seen o) (output_sink seen u) step keeps (subst (λ x. Wrote (output_format o) (written_for p.counting.bits x.bits step) (output_sink seen o) (output_sink seen u)) e wrote))))
 
       -- a call of the target failed at its text
-      pub fails_put : (d : Counting) → d ≡ counted step p.counting → Breaks (output_sink seen o).writer (output_sink seen u).writer ((output_sink seen o).waiting ++ text_in (output_format o) (written_for p.counting.bits d.bits step)) →
-          Fails seen (step ∷ []) p (record p { history = history; lists = lists; output = Some u; broken = true })
-      fails_put d e b = record {
-        history = made;
-        target = subst (λ t. Stops t (step ∷ []) (Faulty (output_sink seen u).writer)) was_open
-            (stops_step (output_format o) p.counting (output_sink seen o) (output_sink seen u) step keeps
-            (subst (λ x. Breaks (output_sink seen o).writer (output_sink seen u).writer ((output_sink seen o).waiting ++ text_in (output_format o) (written_for p.counting.bits x.bits step))) e b));
-      }
+      pub stops_put : Breaks (output_sink seen o).writer (output_sink seen u).writer ((output_sink seen o).waiting ++ text_in (output_format o) (written_for p.counting.bits d.bits step)) →
+          Stops (target_of seen p) (step ∷ []) (Faulty (output_sink seen u).writer)
+      stops_put b = subst (λ t. Stops t (step ∷ []) (Faulty (output_sink seen u).writer)) was_open
+          (stops_step (output_format o) p.counting (output_sink seen o) (output_sink seen u) step keeps
+          (subst (λ x. Breaks (output_sink seen o).writer (output_sink seen u).writer ((output_sink seen o).waiting ++ text_in (output_format o) (written_for p.counting.bits x.bits step))) e b))
 
-    -- no memory was left, and nothing was made
-    pub adds_starved : (lists : CutLists) → output_format u ≡ output_format o → output_sink seen u ≡ output_sink seen o → Adds seen [] p (record p { lists = lists; output = Some u })
-    adds_starved lists same sent = record {
-      history = refl;
-      target = subst (λ t. Carries (target_of seen p) [] t) unchanged (carries_none (target_of seen p));
-    }
+    -- no memory was left, and nothing was written
+    pub carries_starved : output_format u ≡ output_format o → output_sink seen u ≡ output_sink seen o → Carries (target_of seen p) [] (target_in seen (Some u) p.broken p.counting)
+    carries_starved same sent = subst (λ t. Carries (target_of seen p) [] t) unchanged (carries_none (target_of seen p))
       where
         unchanged : target_of seen p ≡ target_in seen (Some u) p.broken p.counting
         unchanged = ap (λ x. target_in seen x p.broken p.counting) is ∙ ap (λ f. with_fault p.broken f p.counting (output_sink seen o)) (sym same) ∙ ap (λ s. with_fault p.broken (output_format u) p.counting s) (sym sent)

@@ -26,7 +26,7 @@ pub width_changed : {P T : Type 0} (result : Result Unit CheckerError) (old new 
     → new.history.steps ≡ old.history.steps → new.written.steps ≡ ChangeHashBits bits ∷ old.written.steps → new.bits ≡ bits → ChangesWidth result old bits new
 width_changed result old new bits k f a b c = go result (f old.written.steps k.stands ((widths_are_free old.history.steps old.written.steps old.bits k.written k.may).may, tt))
   where
-    go : (r : Result Unit CheckerError) → TakesOrFails r (kernel_of new.checker) (ChangeHashBits bits) old.written.steps → ChangesWidth r old bits new
+    go : (r : Result Unit CheckerError) → TakesOrFails r (kernel_of old.checker) (kernel_of new.checker) (ChangeHashBits bits) old.written.steps → ChangesWidth r old bits new
     go (Ok x) t = (kept new old.history.steps (ChangeHashBits bits ∷ old.written.steps) bits a b c k.may (width_changes bits k.written) t.0, a, c)
     go (Err errors.CheckFailed) t = t
     go (Err errors.CounterEnd) t = tt
@@ -45,7 +45,7 @@ step_added result old new step written k m w e f a b c = go result (f old.writte
     all : IsWritten (step ∷ old.history.steps) (written ∷ old.written.steps) old.bits
     all = subst (λ x. IsWritten (step ∷ old.history.steps) (x ∷ old.written.steps) old.bits) (sym e) (one_more step w k.written)
 
-    go : (r : Result Unit CheckerError) → TakesOrFails r (kernel_of new.checker) written old.written.steps → AddsStep r old step new
+    go : (r : Result Unit CheckerError) → TakesOrFails r (kernel_of old.checker) (kernel_of new.checker) written old.written.steps → AddsStep r old step new
     go (Ok x) t = (kept new (step ∷ old.history.steps) (written ∷ old.written.steps) old.bits a b c (k.may, m) all t.0, a)
     go (Err errors.CheckFailed) t = t
     go (Err errors.CounterEnd) t = tt

@@ -8,11 +8,13 @@ use Rattle.sat_parts.specs.clause.Stored.{lit_of}
 use Rattle.sat_parts.specs.prop.Values.{value_of, IsOpenLit}
 use Rattle.sat_base.specs.values.Literals.{variable}
 use Rattle.sat_checker.specs.LiteralSets.{mentions}
-use Rattle.sat_solver.specs.session.Making.{Took, Broke}
+use Rattle.sat_solver.specs.session.Making.{Took}
+use Rattle.sat_solver.specs.names.Taking.{NotTaken}
 use Rattle.sat_solver.specs.session.ProofView.{Adds, Keeps, steps_of, session_of}
 use Rattle.sat_solver.specs.session.Session.{Session, MayAll, session_after}
 use Rattle.sat_solver.specs.declared.session.proof.Proof.{Proof}
-use Rattle.sat_solver.proofs.lemmas.session.ProofLemmas.{adds_none, adds_more, fails_later}
+use Rattle.sat_solver.proofs.lemmas.session.ProofLemmas.{adds_none, adds_more, fails_later, check_later}
+use Rattle.sat_solver.proofs.lemmas.search.GoingLemmas.{went_checked, fault_checked}
 use Rattle.sat_solver.specs.declared.error.SolverError.{SolverError}
 use Rattle.sat_solver.specs.declared.error.SolverError.TheVariants as errors
 use Rattle.sat_solver.specs.names.Calls.{Stands, DoesNothing}
@@ -110,13 +112,13 @@ module _ {W : Type 0} (seen : W → Writer) where
   went_later xs ys p q r adds errors.StoreFull f w = adds_more seen xs ys p q r adds w
   went_later xs ys p q r adds (errors.ProofIoError cause) f w = fails_later seen xs ys p q r adds w
   went_later xs ys p q r adds errors.Interrupted f w = absurd f
-  went_later xs ys p q r adds (errors.ProofProcessorError cause) f w = absurd f
+  went_later xs ys p q r adds (errors.ProofProcessorError cause) f w = check_later seen xs ys p q r adds w
   went_later xs ys p q r adds errors.WitnessVariable f w = absurd f
   went_later xs ys p q r adds errors.AssumedVariable f w = absurd f
   went_later xs ys p q r adds errors.TooLate f w = absurd f
   went_later xs ys p q r adds errors.NotInDrat f w = absurd f
   went_later xs ys p q r adds errors.VariableLimit f w = absurd f
-  went_later xs ys p q r adds errors.CounterEnd f w = absurd f
+  went_later xs ys p q r adds errors.CounterEnd f w = check_later seen xs ys p q r adds w
   went_later xs ys p q r adds errors.HasFailed f w = absurd f
   went_later xs ys p q r adds errors.Read f w = absurd f
   went_later xs ys p q r adds errors.Malformed f w = absurd f
@@ -127,9 +129,10 @@ module _ {W : Type 0} (seen : W → Writer) where
   falls_later e p q r took f = record { fault = f.fault; steps = f.steps ++ took.0; went = went_later took.0 f.steps p q r took.1 e f.fault f.went }
 
   -- a call over names
-  pub falls_names : (e : NameError) (p q : Proof W) → IsFailure e → ((w : Proof W) → Took seen w p → CameTo (Took seen) (Broke seen) w e q) → Falls seen (told_as e) p q
+  pub falls_names : (e : NameError) (p q : Proof W) → IsFailure e → ((w : Proof W) → Took seen w p → CameTo (Took seen) (NotTaken seen) w e q) → Falls seen (told_as e) p q
   falls_names names.OutOfMemory p q f came = (let t = came p ([], adds_none seen p) in record { fault = tt; steps = t.0; went = t.1 })
   falls_names (names.Write cause) p q f came = (let t = came p ([], adds_none seen p) in record { fault = tt; steps = t.0; went = t.1 })
+  falls_names (names.Check fault) p q f came = (let t = came p ([], adds_none seen p) in record { fault = fault_checked seen fault; steps = t.0; went = went_checked seen (Unit {0}) fault t.0 p q t.1 })
   falls_names names.WitnessVariable p q f came = absurd f
   falls_names names.AssumedVariable p q f came = absurd f
   falls_names names.VariableLimit p q f came = absurd f

@@ -218,12 +218,12 @@ adding_ends seen errors.StoreFull s new user g w x b k f = (w, record { going = 
 adding_ends seen (errors.ProofIoError cause) s new user g w x b k f = (w, record { going = g; failed = f; fault = x; breaks = b; clock = k })
 adding_ends seen errors.VariableLimit s new user g w x b k f = absurd x
 adding_ends seen errors.Interrupted s new user g w x b k f = absurd x
-adding_ends seen (errors.ProofProcessorError cause) s new user g w x b k f = absurd x
+adding_ends seen (errors.ProofProcessorError cause) s new user g w x b k f = (w, record { going = g; failed = f; fault = x; breaks = b; clock = k })
 adding_ends seen errors.WitnessVariable s new user g w x b k f = absurd x
 adding_ends seen errors.AssumedVariable s new user g w x b k f = absurd x
 adding_ends seen errors.TooLate s new user g w x b k f = absurd x
 adding_ends seen errors.NotInDrat s new user g w x b k f = absurd x
-adding_ends seen errors.CounterEnd s new user g w x b k f = absurd x
+adding_ends seen errors.CounterEnd s new user g w x b k f = (w, record { going = g; failed = f; fault = x; breaks = b; clock = k })
 adding_ends seen errors.HasFailed s new user g w x b k f = absurd x
 adding_ends seen errors.Read s new user g w x b k f = absurd x
 adding_ends seen errors.Malformed s new user g w x b k f = absurd x
@@ -236,12 +236,12 @@ assuming_ends seen errors.StoreFull s new user g w x b k f = (w, record { going 
 assuming_ends seen (errors.ProofIoError cause) s new user g w x b k f = (w, record { going = g; failed = f; fault = x; breaks = b; clock = k })
 assuming_ends seen errors.VariableLimit s new user g w x b k f = absurd x
 assuming_ends seen errors.Interrupted s new user g w x b k f = absurd x
-assuming_ends seen (errors.ProofProcessorError cause) s new user g w x b k f = absurd x
+assuming_ends seen (errors.ProofProcessorError cause) s new user g w x b k f = (w, record { going = g; failed = f; fault = x; breaks = b; clock = k })
 assuming_ends seen errors.WitnessVariable s new user g w x b k f = absurd x
 assuming_ends seen errors.AssumedVariable s new user g w x b k f = absurd x
 assuming_ends seen errors.TooLate s new user g w x b k f = absurd x
 assuming_ends seen errors.NotInDrat s new user g w x b k f = absurd x
-assuming_ends seen errors.CounterEnd s new user g w x b k f = absurd x
+assuming_ends seen errors.CounterEnd s new user g w x b k f = (w, record { going = g; failed = f; fault = x; breaks = b; clock = k })
 assuming_ends seen errors.HasFailed s new user g w x b k f = absurd x
 assuming_ends seen errors.Read s new user g w x b k f = absurd x
 assuming_ends seen errors.Malformed s new user g w x b k f = absurd x

@@ -1,5 +1,5 @@
 -- A solver whose proof was ended.
-use Rattle.std.proofs.Common.{ℕ, ◌≡◌, ◌∙◌, true, false, Option, None, Some, Ok, Err, List, [], ◌∷◌, map, refl, sym, ap, subst}
+use Rattle.std.proofs.Common.{ℕ, ◌≡◌, ◌∙◌, true, false, Option, None, Some, Ok, Err, inl, inr, List, [], ◌∷◌, map, refl, sym, ap, subst}
 use Rattle.sat_base.specs.device.Device.{Writer}
 use Rattle.sat_base.specs.steps.Steps.{End}
 use Rattle.sat_base.specs.values.Clauses.{EachTrue}
@@ -8,9 +8,10 @@ use Rattle.sat_solver.specs.names.Adding.{named_literal}
 use Rattle.sat_solver.specs.names.Checking.{variable_of}
 use Rattle.sat_solver.specs.session.ProofView.{Closes, ClosesOne, Keeps, steps_of, session_of}
 use Rattle.sat_solver.specs.session.Session.{MayAll, session_after}
+use Rattle.sat_solver.specs.declared.session.made.CheckFault.TheVariants as checks
 use Rattle.sat_solver.specs.declared.session.proof.Proof.{Proof}
 use Rattle.sat_solver.specs.declared.session.proof.ProofError.{ProofError}
-use Rattle.sat_solver.specs.declared.session.proof.ProofError.TheVariants.{Write, OutOfMemory}
+use Rattle.sat_solver.specs.declared.session.proof.ProofError.TheVariants.{Write, OutOfMemory, Check}
 use Rattle.sat_solver.specs.declared.names.Variables.{Variables}
 use Rattle.sat_solver.specs.declared.names.taking.Taken.{Taken}
 use Rattle.sat_solver.specs.declared.search.solving.Core.{Core}
@@ -101,4 +102,7 @@ module _ {W : Type 0} (seen : W → Writer) (s : Solver W) (whole : IsWhole s) (
 
   pub closed_broken : (e : ProofError) → Closes {W = W} seen (Err e) s.core.proof p → ClosesProof seen (Err (fault_of e)) s (record s { core = record s.core { proof = p }; failed = true })
   closed_broken (Write cause) c = record { going = going; failed = refl; fails = c }
-  closed_broken OutOfMemory c = record { going = going; failed = refl; adds = c }
+  closed_broken OutOfMemory c = record { going = going; failed = refl; adds = inl c }
+  closed_broken (Check checks.OutOfMemory) c = record { going = going; failed = refl; adds = inr c }
+  closed_broken (Check checks.CounterEnd) c = record { going = going; failed = refl; fails = c }
+  closed_broken (Check (checks.Processor cause)) c = record { going = going; failed = refl; fails = c }

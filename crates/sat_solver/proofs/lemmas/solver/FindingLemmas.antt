@@ -2,7 +2,7 @@
 use Rattle.std.specs.Prelude.{IfOk, IfErr}
 use Rattle.std.proofs.Common.{ℕ, Option, None, Some, Result, Ok, Err, List, ◌++◌, sym, subst}
 use Rattle.sat_base.specs.device.Device.{Writer}
-use Rattle.sat_solver.proofs.lemmas.session.ProofLemmas.{adds_more, fails_later}
+use Rattle.sat_solver.proofs.lemmas.session.ProofLemmas.{adds_more, fails_later, check_later}
 use Rattle.sat_solver.specs.declared.bound.search.Outcome.{Outcome}
 use Rattle.sat_solver.specs.declared.bound.search.Outcome.TheVariants as outcomes
 use Rattle.sat_solver.specs.declared.error.SolverError.{SolverError}
@@ -54,13 +54,13 @@ module _ {W : Type 0} (seen : W → Writer) (n m : Variables) (a : Core W) where
       later errors.StoreFull f w = adds_more seen ended.steps k.steps a.proof mid.proof b.proof ended.adds w
       later (errors.ProofIoError cause) f w = fails_later seen ended.steps k.steps a.proof mid.proof b.proof ended.adds w
       later errors.Interrupted f w = absurd f
-      later (errors.ProofProcessorError cause) f w = absurd f
+      later (errors.ProofProcessorError cause) f w = check_later seen ended.steps k.steps a.proof mid.proof b.proof ended.adds w
       later errors.WitnessVariable f w = absurd f
       later errors.AssumedVariable f w = absurd f
       later errors.TooLate f w = absurd f
       later errors.NotInDrat f w = absurd f
       later errors.VariableLimit f w = absurd f
-      later errors.CounterEnd f w = absurd f
+      later errors.CounterEnd f w = check_later seen ended.steps k.steps a.proof mid.proof b.proof ended.adds w
       later errors.HasFailed f w = absurd f
       later errors.Read f w = absurd f
       later errors.Malformed f w = absurd f

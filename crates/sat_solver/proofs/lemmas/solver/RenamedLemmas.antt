@@ -13,6 +13,7 @@ use Rattle.sat_store.specs.variables.Maps.{target}
 use Rattle.sat_solver.specs.session.Making.{Took}
 use Rattle.sat_solver.specs.session.ProofView.{steps_of, session_of}
 use Rattle.sat_solver.specs.session.Session.{session_after}
+use Rattle.sat_solver.specs.declared.session.made.CheckFault.TheVariants as checks
 use Rattle.sat_solver.specs.declared.session.proof.Proof.{Proof}
 use Rattle.sat_solver.specs.declared.error.SolverError.{SolverError}
 use Rattle.sat_solver.specs.declared.error.SolverError.TheVariants as errors
@@ -305,12 +306,12 @@ mode_ends seen errors.StoreFull s new user judge due May g x b k f = record { go
 mode_ends seen (errors.ProofIoError cause) s new user judge due May g x b k f = record { going = g; failed = f; fault = x; breaks = b; clock = k }
 mode_ends seen errors.VariableLimit s new user judge due May g x b k f = absurd x
 mode_ends seen errors.Interrupted s new user judge due May g x b k f = absurd x
-mode_ends seen (errors.ProofProcessorError cause) s new user judge due May g x b k f = absurd x
+mode_ends seen (errors.ProofProcessorError cause) s new user judge due May g x b k f = record { going = g; failed = f; fault = x; breaks = b; clock = k }
 mode_ends seen errors.WitnessVariable s new user judge due May g x b k f = absurd x
 mode_ends seen errors.AssumedVariable s new user judge due May g x b k f = absurd x
 mode_ends seen errors.TooLate s new user judge due May g x b k f = absurd x
 mode_ends seen errors.NotInDrat s new user judge due May g x b k f = absurd x
-mode_ends seen errors.CounterEnd s new user judge due May g x b k f = absurd x
+mode_ends seen errors.CounterEnd s new user judge due May g x b k f = record { going = g; failed = f; fault = x; breaks = b; clock = k }
 mode_ends seen errors.HasFailed s new user judge due May g x b k f = absurd x
 mode_ends seen errors.Read s new user judge due May g x b k f = absurd x
 mode_ends seen errors.Malformed s new user judge due May g x b k f = absurd x
@@ -323,12 +324,12 @@ new_ends seen errors.StoreFull s new g x b k f = record { going = g; failed = f;
 new_ends seen (errors.ProofIoError cause) s new g x b k f = record { going = g; failed = f; fault = x; breaks = b; clock = k }
 new_ends seen errors.VariableLimit s new g x b k f = absurd x
 new_ends seen errors.Interrupted s new g x b k f = absurd x
-new_ends seen (errors.ProofProcessorError cause) s new g x b k f = absurd x
+new_ends seen (errors.ProofProcessorError cause) s new g x b k f = record { going = g; failed = f; fault = x; breaks = b; clock = k }
 new_ends seen errors.WitnessVariable s new g x b k f = absurd x
 new_ends seen errors.AssumedVariable s new g x b k f = absurd x
 new_ends seen errors.TooLate s new g x b k f = absurd x
 new_ends seen errors.NotInDrat s new g x b k f = absurd x
-new_ends seen errors.CounterEnd s new g x b k f = absurd x
+new_ends seen errors.CounterEnd s new g x b k f = record { going = g; failed = f; fault = x; breaks = b; clock = k }
 new_ends seen errors.HasFailed s new g x b k f = absurd x
 new_ends seen errors.Read s new g x b k f = absurd x
 new_ends seen errors.Malformed s new g x b k f = absurd x
@@ -345,6 +346,9 @@ told_limit names.WitnessVariable h = cc
 told_limit names.AssumedVariable h = cc
 told_limit names.OutOfMemory h = cc
 told_limit (names.Write cause) h = cc
+told_limit (names.Check checks.OutOfMemory) h = cc
+told_limit (names.Check checks.CounterEnd) h = cc
+told_limit (names.Check (checks.Processor cause)) h = cc
 
 -- a call that changed neither names nor steps
 pub same_solver : {W : Type 0} (s : Solver W) (n' : Variables) (p : Proof W) → n' ≡ s.names → p ≡ s.core.proof → ◌≡◌ {A = Solver W} (record s { core = record s.core { proof = p }; names = n' }) s

@@ -11,13 +11,14 @@ use Rattle.sat_solver.specs.session.LiveClauses.{with_var}
 use Rattle.sat_solver.specs.session.ProofView.{Target, Closed, Open, Broken, Flushed, Flushes, FlushesOrFails, steps_of, session_of, target_of}
 use Rattle.sat_solver.specs.declared.session.proof.Proof.{Proof}
 use Rattle.sat_solver.specs.declared.session.proof.ProofError.{ProofError}
-use Rattle.sat_solver.specs.declared.session.proof.ProofError.TheVariants.{Write, OutOfMemory}
+use Rattle.sat_solver.specs.declared.session.proof.ProofError.TheVariants.{Write, OutOfMemory, Check}
 use Rattle.sat_solver.specs.search.Going.{fault_of}
 use Rattle.sat_solver.specs.session.Session.{Session, MayAll, session_after}
 use Rattle.sat_solver.specs.session.Coming.{Comes, EndsAtUnsat}
 use Rattle.sat_solver.proofs.lemmas.session.ComingLemmas.{comes_none, comes_one, comes_both, comes_open}
 use Rattle.std.proofs.lemmas.Bool.{true≢false}
-use Rattle.sat_solver.proofs.lemmas.session.ProofLemmas.{adds_none, adds_more, fails_later, flush_records}
+use Rattle.sat_solver.proofs.lemmas.session.ProofLemmas.{adds_none, adds_more, fails_later, flush_records, check_later}
+use Rattle.sat_solver.proofs.lemmas.search.GoingLemmas.{went_checked, fault_checked}
 use Rattle.sat_solver.specs.bound.Counting.{CountsOn, steps_left}
 use Rattle.sat_solver.specs.declared.bound.search.Outcome.TheVariants as outcomes
 use Rattle.sat_solver.specs.declared.search.solving.Core.{Core}
@@ -353,6 +354,10 @@ module _ {W : Type 0} (seen : W → Writer) (old mid : Solver W) (settled : Sett
   pub settled_broken : (e : ProofError) → FlushesOrFails seen (Err e) mid.core.proof p → Breaks seen (fault_of e) old.core (record mid.core { proof = p }) × CountsRounds old mid
   settled_broken (Write cause) f = (record { fault = tt; steps = _; went = fails_later seen settled.took.0 [] old.core.proof mid.core.proof p settled.took.1 f }, settled.counts.on)
   settled_broken OutOfMemory f = absurd f
+  settled_broken (Check fault) f =
+      let k = flush_records seen (Err (Check fault)) mid.core.proof p f in
+      let steps = settled.took.0 in
+      (record { fault = fault_checked seen fault; steps = [] ++ steps; went = went_checked seen (Unit {0}) fault ([] ++ steps) old.core.proof p (check_later seen steps [] old.core.proof mid.core.proof p settled.took.1 k) }, settled.counts.on)
 
 module _ {W : Type 0} (seen : W → Writer) (s : Solver W) (whole : IsWhole s) (unknown : s.state ≡ states.Unknown) (core : Core W) (m : Variables) (told : Told) (clock : Clock) (scale : clock.restarts.scale ≡ s.clock.restarts.scale) (on : CountsOn (values_in s.core) s.core.config.max_steps s.clock.steps clock.steps) where
   goes_on : GoesOn s.core s.names s.asked
@@ -402,13 +407,13 @@ ends_by seen errors.OutOfMemory s new b k g f = record { going = g; failed = f; 
 ends_by seen errors.StoreFull s new b k g f = record { going = g; failed = f; breaks = b; counts = k }
 ends_by seen (errors.ProofIoError cause) s new b k g f = record { going = g; failed = f; breaks = b; counts = k }
 ends_by seen errors.Interrupted s new b k g f = absurd b.fault
-ends_by seen (errors.ProofProcessorError cause) s new b k g f = absurd b.fault
+ends_by seen (errors.ProofProcessorError cause) s new b k g f = record { going = g; failed = f; breaks = b; counts = k }
 ends_by seen errors.WitnessVariable s new b k g f = absurd b.fault
 ends_by seen errors.AssumedVariable s new b k g f = absurd b.fault
 ends_by seen errors.TooLate s new b k g f = absurd b.fault
 ends_by seen errors.NotInDrat s new b k g f = absurd b.fault
 ends_by seen errors.VariableLimit s new b k g f = absurd b.fault
-ends_by seen errors.CounterEnd s new b k g f = absurd b.fault
+ends_by seen errors.CounterEnd s new b k g f = record { going = g; failed = f; breaks = b; counts = k }
 ends_by seen errors.HasFailed s new b k g f = absurd b.fault
 ends_by seen errors.Read s new b k g f = absurd b.fault
 ends_by seen errors.Malformed s new b k g f = absurd b.fault

@@ -8,11 +8,14 @@ use Rattle.sat_base.specs.script.Judge.{bring_all, with_clause}
 use Rattle.sat_base.specs.steps.Steps.{Step, Assumptions}
 use Rattle.sat_checker.specs.LiteralSets.{is_tautology}
 use Rattle.sat_checker.proofs.lemmas.sets.Canonical.{canonical_tautology}
+use Rattle.sat_solver.specs.declared.session.made.CheckFault.TheVariants as checks
 use Rattle.sat_solver.specs.session.ProofView.{Keeps, steps_of, session_of}
 use Rattle.sat_solver.specs.session.Session.{Session, MayAll, session_after}
-use Rattle.sat_solver.specs.session.Making.{Took, Broke}
+use Rattle.sat_solver.specs.session.Making.{Took}
+use Rattle.sat_solver.specs.names.Taking.{NotTaken}
 use Rattle.sat_solver.specs.declared.session.proof.Proof.{Proof}
-use Rattle.sat_solver.proofs.lemmas.session.ProofLemmas.{adds_none, adds_more, fails_later}
+use Rattle.sat_solver.proofs.lemmas.session.ProofLemmas.{adds_none, adds_more, fails_later, check_later}
+use Rattle.sat_solver.proofs.lemmas.search.GoingLemmas.{went_checked, fault_checked}
 use Rattle.sat_solver.specs.declared.error.SolverError.{SolverError}
 use Rattle.sat_solver.specs.declared.error.SolverError.TheVariants as errors
 use Rattle.sat_solver.specs.declared.names.error.NameError.{NameError}
@@ -69,6 +72,9 @@ told_fails names.AssumedVariable h = absurd h
 told_fails names.VariableLimit h = absurd h
 told_fails names.OutOfMemory h = tt
 told_fails (names.Write cause) h = tt
+told_fails (names.Check checks.OutOfMemory) h = tt
+told_fails (names.Check checks.CounterEnd) h = tt
+told_fails (names.Check (checks.Processor cause)) h = tt
 
 -- a fault that is handed on, or one of a search
 pub fault_on : {A : Type 0} (r : Result A SolverError) (e : SolverError) → IsErrAnd r (λ f. f ≡ e) → IsFault e → IfErr r IsFault
@@ -80,12 +86,13 @@ fault_ends seen (Err e) p q P goes = goes.ends
 
 module _ {W : Type 0} (seen : W → Writer) (a b : Core W) where
   -- a call over names failed
-  pub names_broke : (e : NameError) → CameTo (Took seen) (Broke seen) a.proof e b.proof → BreaksNames seen (told_as e) a b
+  pub names_broke : (e : NameError) → CameTo (Took seen) (NotTaken seen) a.proof e b.proof → BreaksNames seen (told_as e) a b
   names_broke names.WitnessVariable h = absurd h
   names_broke names.AssumedVariable h = absurd h
   names_broke names.VariableLimit h = record { fault = inr refl; steps = h.0; went = h.1 }
   names_broke names.OutOfMemory h = record { fault = inl tt; steps = h.0; went = h.1 }
   names_broke (names.Write cause) h = record { fault = inl tt; steps = h.0; went = h.1 }
+  names_broke (names.Check fault) h = record { fault = inl (fault_checked seen fault); steps = h.0; went = went_checked seen (Unit {0}) fault h.0 a.proof b.proof h.1 }
 
   -- no memory was left behind it
   pub names_starved : Took seen a.proof b.proof → BreaksNames seen errors.OutOfMemory a b
@@ -100,13 +107,13 @@ module _ {W : Type 0} (seen : W → Writer) (a b : Core W) where
       later errors.StoreFull w f = adds_more seen h.0 goes.steps a.proof p b.proof h.1 w
       later (errors.ProofIoError cause) w f = fails_later seen h.0 goes.steps a.proof p b.proof h.1 w
       later errors.Interrupted w f = absurd f
-      later (errors.ProofProcessorError cause) w f = absurd f
+      later (errors.ProofProcessorError cause) w f = check_later seen h.0 goes.steps a.proof p b.proof h.1 w
       later errors.WitnessVariable w f = absurd f
       later errors.AssumedVariable w f = absurd f
       later errors.TooLate w f = absurd f
       later errors.NotInDrat w f = absurd f
       later errors.VariableLimit w f = absurd f
-      later errors.CounterEnd w f = absurd f
+      later errors.CounterEnd w f = check_later seen h.0 goes.steps a.proof p b.proof h.1 w
       later errors.HasFailed w f = absurd f
       later errors.Read w f = absurd f
       later errors.Malformed w f = absurd f

@@ -10,8 +10,9 @@ use Rattle.sat_solver.specs.session.ProofView.{Adds, Keeps, Records, steps_of, s
 use Rattle.sat_solver.specs.session.Session.{Session, MayAll, after, session_after}
 use Rattle.sat_solver.specs.declared.session.proof.Proof.{Proof}
 use Rattle.sat_solver.specs.declared.session.proof.ProofError.{ProofError}
-use Rattle.sat_solver.specs.declared.session.proof.ProofError.TheVariants.{Write, OutOfMemory}
+use Rattle.sat_solver.specs.declared.session.proof.ProofError.TheVariants.{Write, OutOfMemory, Check}
 use Rattle.sat_solver.proofs.lemmas.session.ProofLemmas.{adds_none}
+use Rattle.sat_solver.proofs.lemmas.search.GoingLemmas.{went_checked, fault_checked}
 use Rattle.sat_solver.specs.joint.Listed.{Rests}
 use Rattle.sat_solver.proofs.lemmas.joint.AnswerParts.{parts_rests}
 use Rattle.sat_solver.specs.declared.error.SolverError.{SolverError}
@@ -96,6 +97,7 @@ module _ {W : Type 0} (seen : W → Writer) (n : Variables) (a : Core W) (joined
   pub broken : (e : ProofError) (step : Step) (proof : Proof W) → Records {T = Unit {0}} seen (Err e) (step ∷ []) a.proof proof → Breaks seen (fault_of e) a (record a { proof = proof })
   broken (Write cause) step proof fails = record { fault = tt; steps = step ∷ []; went = fails }
   broken OutOfMemory step proof adds = record { fault = tt; steps = []; went = adds }
+  broken (Check fault) step proof fails = record { fault = fault_checked seen fault; steps = step ∷ []; went = went_checked seen (Unit {0}) fault (step ∷ []) a.proof proof fails }
 
   module _ (proof : Proof W) (c' : Search) where
     abbrev pub searched : Core W
