@@ -8,12 +8,12 @@ use Rattle.sat_base.proofs.lemmas.device.Writes.{breaks_within, lent_puts}
 use Rattle.sat_solver.specs.session.Counting.{start, counted, one_made, written_for}
 use Rattle.sat_solver.specs.session.OutputView.{text_in}
 use Rattle.sat_solver.specs.session.ProofTexts.{BrokeText}
-use Rattle.sat_solver.specs.session.ProofView.{Target, Open, Carries, Stops, Gives, seen_of, is_open, target_of, Adds, Records, Closes, HandsBack}
+use Rattle.sat_solver.specs.session.ProofView.{Target, Open, Carries, Stops, Gives, seen_of, is_open, target_of, is_checked, Adds, Records, Closes, HandsBack}
 use Rattle.sat_solver.specs.declared.session.format.ProofFormat.{ProofFormat}
 use Rattle.sat_solver.specs.declared.session.format.ProofFormat.TheVariants.{Varisat}
 use Rattle.sat_solver.specs.declared.session.proof.Proof.{Proof}
 use Rattle.sat_solver.specs.declared.session.proof.ProofError.{ProofError}
-use Rattle.sat_solver.specs.declared.session.proof.ProofError.TheVariants.{Write, OutOfMemory}
+use Rattle.sat_solver.specs.declared.session.proof.ProofError.TheVariants.{Write, OutOfMemory, Check}
 use Rattle.sat_solver.proofs.lemmas.session.ProofLemmas.{text_append, carries_more, stops_later, closed_is_text, broken_is_front}
 use Rattle.sat_solver_tests.specs.Calling.{made, PutsMade, Calls, PutsOwned}
 
@@ -40,7 +40,7 @@ all_broke e from given b = record {
       (breaks_within from given (text_in Varisat b.written) (text_in Varisat (written_for b.counting.bits (counted End b.counting).bits End)) b.breaks);
 }
 
-module _ {W : Type 0} (seen : W → Writer) (w : W) (p q : Proof W) (opened : target_of seen p ≡ opened_as (seen w)) where
+module _ {W : Type 0} (seen : W → Writer) (w : W) (p q : Proof W) (opened : target_of seen p ≡ opened_as (seen w)) (unchecked : is_checked p ≡ false) where
   -- the first step failed
   pub step_failed : (e : ProofError) (r : Proof W) (given : Option W) → Records {T = Unit {0}} seen (Err e) (Assumptions [] ∷ []) p q → HandsBack seen given q r → PutsOwned seen (Err e) w given
   step_failed (Write e) r given f h =
@@ -49,6 +49,7 @@ module _ {W : Type 0} (seen : W → Writer) (w : W) (p q : Proof W) (opened : ta
   step_failed OutOfMemory r given a h =
       let x = still seen (seen w) [] (target_of seen q) given (subst (λ z. Carries z [] (target_of seen q)) opened a.target) h.gives in
       subst (PutsOwned seen (Err OutOfMemory) w) (sym x.1) tt
+  step_failed (Check fault) r given f h = absurd (true≢false (sym f.had ∙ unchecked))
 
   module _ (a : Adds seen (Assumptions [] ∷ []) p q) where
     carried : Carries (opened_as (seen w)) (Assumptions [] ∷ []) (target_of seen q)
@@ -62,6 +63,7 @@ module _ {W : Type 0} (seen : W → Writer) (w : W) (p q : Proof W) (opened : ta
     close_failed OutOfMemory r s given c h =
         let x = still seen (seen w) (Assumptions [] ∷ []) (target_of seen r) given (carries_more (opened_as (seen w)) (target_of seen q) (target_of seen r) (Assumptions [] ∷ []) [] carried c.target) h.gives in
         subst (PutsOwned seen (Err OutOfMemory) w) (sym x.1) tt
+    close_failed (Check fault) r s given c h = absurd (true≢false (sym c.had ∙ a.checked ∙ unchecked))
 
     -- it was closed
     pub closed : (o : Option W) (r : Proof W) → Closes seen (Ok o) q r → PutsOwned seen (Ok tt) w o
@@ -75,3 +77,4 @@ pub lent_calls : {W : Type 0} (seen : W → Writer) (a z v : W) (given back : �
 lent_calls seen a z v given back (Ok x) h c = record { written = c.written; counting = c.counting; cuts = c.cuts; puts = lent_puts {E = ProofError} seen a z v given back (text_in Varisat c.written) (Ok x) h c.puts }
 lent_calls seen a z v given back (Err (Write e)) h c = record { written = c.written; counting = c.counting; cuts = c.cuts; puts = lent_puts {E = ProofError} seen a z v given back (text_in Varisat c.written) (Err (Write e)) h c.puts }
 lent_calls seen a z v given back (Err OutOfMemory) h c = tt
+lent_calls seen a z v given back (Err (Check fault)) h c = c

@@ -7,7 +7,7 @@ use Rattle.sat_solver.specs.session.OutputView.{text_in}
 use Rattle.sat_solver.specs.declared.session.format.ProofFormat.TheVariants.{Varisat}
 use Rattle.sat_solver.specs.declared.session.counting.Counting.{Counting}
 use Rattle.sat_solver.specs.declared.session.proof.ProofError.{ProofError}
-use Rattle.sat_solver.specs.declared.session.proof.ProofError.TheVariants.{Write, OutOfMemory}
+use Rattle.sat_solver.specs.declared.session.proof.ProofError.TheVariants.{Write, OutOfMemory, Check}
 
 -- the steps, the newest first
 abbrev pub made : List Step
@@ -20,11 +20,12 @@ pub record PutsMade (r : Result (Unit {0}) ProofError) (old new : Writer) : Type
   pub cuts : Cuts start made written counting
   pub puts : Puts (text_in Varisat written) r old new
 
--- where memory was wanting nothing more is said
+-- where memory was wanting nothing more is said; there is no checker
 abbrev pub Calls : Result (Unit {0}) ProofError → Writer → Writer → Type 0
 Calls (Ok x) old new = PutsMade (Ok x) old new
 Calls (Err (Write e)) old new = PutsMade (Err (Write e)) old new
 Calls (Err OutOfMemory) old new = Unit {0}
+Calls (Err (Check fault)) old new = ⊥
 
 -- the target comes back
 abbrev pub PutsOwned : {W : Type 0} → (W → Writer) → Result (Unit {0}) ProofError → W → Option W → Type 0

@@ -11,6 +11,8 @@ mod naming;
 #[cfg(test)]
 mod proof;
 #[cfg(test)]
+mod self_checking;
+#[cfg(test)]
 mod solver;
 #[cfg(test)]
 mod texts;
