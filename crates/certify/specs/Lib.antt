@@ -3,8 +3,6 @@ pub mod answers
 pub mod confirm
 pub mod run
 pub mod laws
-pub mod search
-pub mod script
 pub mod program
 pub mod reading
 pub mod judge

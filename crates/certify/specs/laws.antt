@@ -1,2 +1,3 @@
+pub mod Confirmed
 pub mod Laws
 pub mod Rows

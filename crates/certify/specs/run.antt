@@ -1,4 +1,3 @@
-pub mod Certifies
+pub mod StepsLeft
 pub mod FinishedRun
-pub mod Outputs
 pub mod Running

@@ -6,3 +6,5 @@ pub mod Telling
 pub mod Standing
 pub mod Obeying
 pub mod Asking
+pub mod Whole
+pub mod Ending

@@ -1,4 +1,4 @@
-//! Answers scripts of clauses and asks, with a certificate that is checked.
+//! Answers scripts of clauses, asks and names, with a certificate that is checked.
 #![tactic(auto)]
 
 mod ahead;
@@ -8,16 +8,12 @@ pub mod fault;
 pub mod judge;
 pub mod law_matching;
 pub mod law_reading;
-pub mod law_script;
 pub mod law_serving;
 pub mod laws;
 pub mod matching;
-pub mod names;
 pub mod program;
 pub mod reading;
 pub mod run;
-pub mod script;
-mod search;
 pub mod serving;
 pub mod summary;
 pub mod verdict;

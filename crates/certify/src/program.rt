@@ -8,6 +8,7 @@ mod fault;
 mod files;
 mod hint_line;
 mod printing;
+mod progress;
 mod standard;
 mod texts;
 mod verdict_line;
@@ -39,7 +40,8 @@ const USAGE: &str = "usage: certify [run S A C [STEPS] | confirm S A C | hints C
 /// - `hints C H`: writes the hint text of the certificate in C to the file H.
 /// - `check H`: writes to `output` what the hint text in H is, `proved empty=E cores=K lines=L`, E being 0 or 1, or `bad LINE WHY`.
 ///
-/// Files are opened in the order of the arguments, and one that can't be opened or made is the fault of its text.
+/// Files are opened in the order of the arguments, and one that can't be opened or made is the fault of its text. Behind a finished run
+/// a line of its solver's counts goes to `errors`.
 ///
 /// The status is 0 where all is done, confirmed or proved; 1 where the script is malformed, the answers aren't confirmed or the hint
 /// text is bad, and where a certificate has no hint text, with `certify: Refused` or `certify: HasDeleteVar` on `errors`; 2 for other
@@ -82,7 +84,7 @@ fn obey<R: AllocGlobal + Files, I: CountedRead, O: CountedWrite, E: CountedWrite
         → PrintsVerdict result (gave I.seen input.old input.new) (took O.seen output.old output.new) }
 {
     if words.is_empty() {
-        return match answer(rt.alloc(), input, output) {
+        return match answer(rt.alloc(), input, output, errors) {
             Ok(status) => status,
             Err(fault) => failed(errors, fault),
         };
@@ -106,7 +108,7 @@ fn serve<R: AllocGlobal + Files, O: CountedWrite, E: CountedWrite>(
     ensures { IfOk result (λ status. status ≤ 1) }
 {
     match *call {
-        Call::Run { files, budget } => run_files(rt, files, budget),
+        Call::Run { files, budget } => run_files(rt, files, budget, errors),
         Call::Confirm { files } => confirm_files(rt, files, output),
         Call::Hints { certificate, hints } => hint_files(rt, certificate, hints, errors),
         Call::Check { hints } => check_file(rt, hints, output),

@@ -1,5 +1,7 @@
 //! What a run says of itself.
 
+use sat_solver::Progress;
+
 /// What was answered to an ask.
 #[derive(Clone, Copy, Debug, Drop, PartialEq, Eq)]
 pub enum Answer {
@@ -22,7 +24,7 @@ pub struct AskReport {
 /// How a script went.
 #[derive(Debug, Drop)]
 pub struct Summary {
-    /// Clauses and asks, refused ones too.
+    /// Those of the text, refused ones too.
     pub commands: u64,
     /// Those that were refused.
     pub refused: u64,
@@ -30,4 +32,6 @@ pub struct Summary {
     pub malformed: Option<u64>,
     /// One for each accepted ask, in order.
     pub asks: Vec<AskReport>,
+    /// How far the solver came.
+    pub progress: Progress,
 }

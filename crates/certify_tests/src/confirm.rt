@@ -724,7 +724,7 @@ fn each_read_of_run_fails(alloc: Global, script: &[u8], reads: u64) -> bool {
 }
 
 /// Scripts, and how many bytes of the certificates are read: all of one that ends with a model, and those up to recorded `unsat`.
-static READ_IN_TURN: [(&[u8], u64); 2] = [(ROW, 19), (SIXTH, 71)];
+static READ_IN_TURN: [(&[u8], u64); 2] = [(ROW, 27), (SIXTH, 50)];
 
 #[test]
 fn each_read_fails_in_turn(rt: HostRuntime) {

@@ -63,6 +63,33 @@ pub(crate) fn fails_at(text: &[u8], failing: u64) -> Counted<FailsAt<'_>> {
     })
 }
 
+/// A reader that gives its text in pieces of at most so many bytes, and notes the largest room that it was asked to fill.
+#[derive(Drop)]
+pub(crate) struct Pieces<'a> {
+    text: &'a [u8],
+    size: usize,
+    pub(crate) largest: usize,
+}
+
+impl Read for Pieces<'_> {
+    fn read(&mut self, buf: &mut [u8]) -> io::Result<usize> {
+        self.largest = self.largest.max(buf.len());
+        let count = self.size.min(buf.len()).min(self.text.len());
+        let (piece, rest) = self.text.split_at(count);
+        buf[..count].copy_from_slice(piece);
+        self.text = rest;
+        Ok(count)
+    }
+}
+
+pub(crate) fn in_pieces(text: &[u8], size: usize) -> Counted<Pieces<'_>> {
+    Counted::new(Pieces {
+        text,
+        size,
+        largest: 0,
+    })
+}
+
 /// Adds parts to bytes, one behind another. The answer is whether there was memory.
 pub(crate) fn append(bytes: &mut Vec<u8>, parts: &[&[u8]]) -> bool {
     for part in parts {

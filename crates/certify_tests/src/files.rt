@@ -164,17 +164,32 @@ fn hint_texts_are_checked(rt: HostRuntime) -> io::Result<()> {
     Ok(())
 }
 
+/// What is told on standard error of a run without rounds, of one of pair 1, 2, and of one whose only name has a unit.
+const NO_ROUND: &str =
+    "[INFO  certify] progress conflicts=0 restarts=0 vars=0 binary=0 irred=0 core=0 mid=0 local=0\n";
+
+const ONE_PAIR: &str =
+    "[INFO  certify] progress conflicts=1 restarts=1 vars=2 binary=1 irred=0 core=0 mid=0 local=0\n";
+
+const ONE_UNIT: &str =
+    "[INFO  certify] progress conflicts=1 restarts=1 vars=0 binary=0 irred=0 core=0 mid=0 local=0\n";
+
 /// A script, a word behind the files or none, how running it ends, and the answers.
 static RUN: [(&str, &str, End, &str); 4] = [
-    ("1 2 0\na 0\n", "", (0, "", ""), "s SATISFIABLE\nv -1 2 0\n"),
-    ("1 0\na 0\n", "0", (0, "", ""), "s UNKNOWN\n"),
+    (
+        "1 2 0\na 0\n",
+        "",
+        (0, "", ONE_PAIR),
+        "s SATISFIABLE\nv -1 2 0\n",
+    ),
+    ("1 0\na 0\n", "0", (0, "", NO_ROUND), "s UNKNOWN\n"),
     (
         "1 0\na 0\n",
         "00018446744073709551615",
-        (0, "", ""),
+        (0, "", ONE_UNIT),
         "s SATISFIABLE\nv 1 0\n",
     ),
-    ("1 2", "", (1, "", ""), "c malformed 1\n"),
+    ("1 2", "", (1, "", NO_ROUND), "c malformed 1\n"),
 ];
 
 fn runs() -> &'static [(&'static str, &'static str, End, &'static str)] {

@@ -24,5 +24,3 @@ mod program;
 mod reading;
 #[cfg(test)]
 mod run;
-#[cfg(test)]
-mod script;

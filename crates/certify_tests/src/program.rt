@@ -31,35 +31,95 @@ const PIGEONS: &str = "\
     -2 -5 0\n-2 -8 0\n-2 -11 0\n-5 -8 0\n-5 -11 0\n-8 -11 0\n-3 -6 0\n-3 -9 0\n-3 -12 0\n-6 -9 0\n\
     -6 -12 0\n-9 -12 0\na 0\n";
 
-/// A script, the printed text, and the status.
-static SCRIPTS: [(&str, &str, u8); 12] = [
-    (PIGEONS, "s UNSATISFIABLE\nf 0\nc confirmed\n", 0),
-    ("1 2 0\na 0\n", "s SATISFIABLE\nv -1 2 0\nc confirmed\n", 0),
-    ("", "c confirmed\n", 0),
-    ("1 0\n-1 0\na 0\n", "s UNSATISFIABLE\nf 0\nc confirmed\n", 0),
-    ("268435457 0\n", "c refused 1 limit\nc confirmed\n", 0),
-    ("1 2", "c malformed 1\nc confirmed\n", 1),
-    ("-0 0\n", "c malformed 1\nc confirmed\n", 1),
-    ("+1 0\n", "c malformed 1\nc confirmed\n", 1),
-    ("1 a 0\n", "c malformed 1\nc confirmed\n", 1),
-    ("b 0\n", "c malformed 1\nc confirmed\n", 1),
+/// What is told on standard error of a run that made no round, of one of pair 1, 2, of one whose names no clause has, and of PIGEONS.
+const NO_ROUND: &str =
+    "[INFO  certify] progress conflicts=0 restarts=0 vars=0 binary=0 irred=0 core=0 mid=0 local=0\n";
+
+const ONE_PAIR: &str =
+    "[INFO  certify] progress conflicts=1 restarts=1 vars=2 binary=1 irred=0 core=0 mid=0 local=0\n";
+
+const NO_NAME: &str =
+    "[INFO  certify] progress conflicts=1 restarts=1 vars=0 binary=0 irred=0 core=0 mid=0 local=0\n";
+
+const ONE_NAME: &str =
+    "[INFO  certify] progress conflicts=1 restarts=1 vars=1 binary=0 irred=0 core=0 mid=0 local=0\n";
+
+const SEVEN_ROUNDS: &str =
+    "[INFO  certify] progress conflicts=7 restarts=1 vars=0 binary=19 irred=3 core=1 mid=0 local=0\n";
+
+/// A script, the printed text, the status, and what is told on standard error.
+static SCRIPTS: [(&str, &str, u8, &str); 15] = [
+    (
+        PIGEONS,
+        "s UNSATISFIABLE\nf 0\nc confirmed\n",
+        0,
+        SEVEN_ROUNDS,
+    ),
+    (
+        "1 2 0\na 0\n",
+        "s SATISFIABLE\nv -1 2 0\nc confirmed\n",
+        0,
+        ONE_PAIR,
+    ),
+    ("", "c confirmed\n", 0, NO_ROUND),
+    (
+        "1 0\n-1 0\na 0\n",
+        "s UNSATISFIABLE\nf 0\nc confirmed\n",
+        0,
+        NO_ROUND,
+    ),
+    (
+        "268435457 0\n",
+        "c refused 1 limit\nc confirmed\n",
+        0,
+        NO_ROUND,
+    ),
+    ("1 2", "c malformed 1\nc confirmed\n", 1, NO_ROUND),
+    ("-0 0\n", "c malformed 1\nc confirmed\n", 1, NO_ROUND),
+    ("+1 0\n", "c malformed 1\nc confirmed\n", 1, NO_ROUND),
+    ("1 a 0\n", "c malformed 1\nc confirmed\n", 1, NO_ROUND),
+    ("b 0\n", "c malformed 1\nc confirmed\n", 1, NO_ROUND),
     (
         "p cnf 2 1\n1 2 0\n%\n0\n",
         "s SATISFIABLE\nv -1 2 0\nc confirmed\n",
         0,
+        ONE_PAIR,
     ),
-    ("p cnf 0 0\n", "s SATISFIABLE\nv 0\nc confirmed\n", 0),
+    (
+        "p cnf 0 0\n",
+        "s SATISFIABLE\nv 0\nc confirmed\n",
+        0,
+        NO_NAME,
+    ),
+    (
+        "a 1 0\n",
+        "s SATISFIABLE\nv 1 0\nc confirmed\n",
+        0,
+        ONE_NAME,
+    ),
+    (
+        "p cnf 1 0\na 268435457 0\n",
+        "c refused 1 limit\nc confirmed\n",
+        0,
+        NO_ROUND,
+    ),
+    (
+        "1 2 0\na -1 0\nh 1 0\nw 2 0\na 2 0\n1 0\na -2 0\n",
+        "s SATISFIABLE\nv -1 2 0\nc refused 5 witness 2\nc refused 7 witness 2\nc confirmed\n",
+        0,
+        ONE_PAIR,
+    ),
 ];
 
-fn scripts() -> &'static [(&'static str, &'static str, u8)] {
+fn scripts() -> &'static [(&'static str, &'static str, u8, &'static str)] {
     &SCRIPTS
 }
 
 #[test]
 fn answers_are_printed_and_confirmed(rt: HostRuntime) {
-    for &(script, printed, status) in scripts() {
+    for &(script, printed, status, told) in scripts() {
         let mut input = Counted::new(script.as_bytes());
-        let wanted = (status, printed, "");
+        let wanted = (status, printed, told);
         assert!(rt;
             does(&rt, Ok(Vec::new(rt.alloc())), &mut input, wanted),
             "{script}"
@@ -155,11 +215,15 @@ fn output_fails(rt: &HostRuntime, failing: u64, told: &str) -> (u8, u64, usize, 
 /// The call of the output that fails, and the bytes taken before.
 static TAKEN: [(u64, usize); 3] = [(1, 0), (2, 23), (3, 35)];
 
+/// What is told where the output fails behind a run of pair 1, 2.
+const NOT_PRINTED: &str =
+    "[INFO  certify] progress conflicts=1 restarts=1 vars=2 binary=1 irred=0 core=0 mid=0 local=0\ncertify: AnswersWrite\n";
+
 /// The write of the answers fails, then that of the last line, behind the answers, then the flush. Nothing more is written then.
 #[test]
 fn standard_output_fails(rt: HostRuntime) {
     for &(failing, taken) in &TAKEN {
-        let answer = output_fails(&rt, failing, "certify: AnswersWrite\n");
+        let answer = output_fails(&rt, failing, NOT_PRINTED);
         assert!(rt; answer == (3, failing, taken, true), "{failing}");
     }
 }

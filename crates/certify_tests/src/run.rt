@@ -1,6 +1,6 @@
-//! Runs over worked texts, whole and by one byte, and each call of a device failing in turn.
+//! Runs over worked texts, whole and in pieces, and each call of a device failing in turn.
 
-use crate::devices::{fails_at, is_printed};
+use crate::devices::{fails_at, in_pieces, is_printed};
 use certify::fault::RunFault;
 use certify::run::run;
 use certify::summary::{Answer, AskReport};
@@ -22,7 +22,7 @@ fn is_answered<S: CountedRead>(alloc: Global, script: &mut S, budget: u64, answe
 }
 
 /// A text, a budget, and the answers.
-static ANSWERS: [(&[u8], u64, &[u8]); 32] = [
+static ANSWERS: [(&[u8], u64, &[u8]); 48] = [
     (
         b"1 2 0\n3 4 0\n5 6 0\n-1 -3 0\n-1 -5 0\n-3 -5 0\n-2 -4 0\n-2 -6 0\n-4 -6 0\na 0\n",
         AMPLE,
@@ -42,6 +42,52 @@ static ANSWERS: [(&[u8], u64, &[u8]); 32] = [
     (b"1 0\n-1 0\na 0\n", 0, b"s UNSATISFIABLE\nf 0\n"),
     (b"0\na 0\n", 0, b"s UNSATISFIABLE\nf 0\n"),
     (b"1 0\na 0\n", 0, b"s UNKNOWN\n"),
+    (b"-1 -2 0\na 1 2 0\n", AMPLE, b"s UNSATISFIABLE\nf 1 2 0\n"),
+    (b"a 1 -1 0\n", AMPLE, b"s UNSATISFIABLE\nf 1 -1 0\n"),
+    (
+        b"1 2 0\n-2 0\nh 2 0\na -1 0\n",
+        AMPLE,
+        b"s UNSATISFIABLE\nf -1 0\n",
+    ),
+    (
+        b"1 0\nh 1 0\n-1 0\na 0\n",
+        AMPLE,
+        b"s SATISFIABLE\nv -1 0\n",
+    ),
+    (b"h 2 0\na 0\n", AMPLE, b"s SATISFIABLE\nv -1 0\n"),
+    (
+        b"1 0\na -1 0\na 0\n",
+        AMPLE,
+        b"s UNSATISFIABLE\nf -1 0\ns SATISFIABLE\nv 1 0\n",
+    ),
+    (
+        b"1 0\na -1 0\n2 0\na 0\n-3 -4 0\na 3 4 0\n",
+        AMPLE,
+        b"s UNSATISFIABLE\nf -1 0\ns SATISFIABLE\nv 1 2 0\ns UNSATISFIABLE\nf 3 4 0\n",
+    ),
+    (
+        b"1 0\na 1 0\nh 1 0\n-1 0\na 0\n",
+        AMPLE,
+        b"s SATISFIABLE\nv 1 0\ns SATISFIABLE\nv -1 0\n",
+    ),
+    (
+        b"w 1 0\n1 0\na 0\n",
+        AMPLE,
+        b"c refused 2 witness 1\ns SATISFIABLE\nv -1 0\n",
+    ),
+    (b"w 1 0\na 1 0\n", AMPLE, b"c refused 2 witness 1\n"),
+    (b"w 1 0\n268435457 1 0\n", AMPLE, b"c refused 2 limit\n"),
+    (
+        b"w 1 0\n1 268435457 0\ns 1 0\n1 0\na 0\n",
+        AMPLE,
+        b"c refused 2 witness 1\ns SATISFIABLE\nv 1 0\n",
+    ),
+    (
+        b"h 268435457 0\nw 268435457 0\ns 268435457 0\na 268435457 0\n",
+        AMPLE,
+        b"c refused 1 limit\nc refused 2 limit\nc refused 3 limit\nc refused 4 limit\n",
+    ),
+    (b"h 0\nw 0\ns 0\na 0\n", AMPLE, b"s SATISFIABLE\nv 0\n"),
     (b"268435457 0\n", AMPLE, b"c refused 1 limit\n"),
     (
         b"1 0\n268435457 0\na 0\n",
@@ -53,7 +99,8 @@ static ANSWERS: [(&[u8], u64, &[u8]); 32] = [
     (b"+1 0\n", AMPLE, b"c malformed 1\n"),
     (b"1 a 0\n", AMPLE, b"c malformed 1\n"),
     (b"b 0\n", AMPLE, b"c malformed 1\n"),
-    (b"a 1 0\n", AMPLE, b"c malformed 1\n"),
+    (b"h -1 0\n", AMPLE, b"c malformed 1\n"),
+    (b"a 1 0\n", AMPLE, b"s SATISFIABLE\nv 1 0\n"),
     (
         b"1 0\na 0\nx",
         AMPLE,
@@ -73,7 +120,8 @@ static ANSWERS: [(&[u8], u64, &[u8]); 32] = [
         b"c refused 1 limit\ns SATISFIABLE\nv 0\n",
     ),
     (b"p cnf 1 1\n1", AMPLE, b"c malformed 1\n"),
-    (b"p cnf 1 0\na 268435457 0\n", AMPLE, b"c malformed 1\n"),
+    (b"p cnf 1 0\na 268435457 0\n", AMPLE, b"c refused 1 limit\n"),
+    (b"p cnf 1 0\nw 1 0\n", AMPLE, b"s SATISFIABLE\nv -1 0\n"),
     (b"1 0\n%\na 0\n", AMPLE, b""),
 ];
 
@@ -91,14 +139,38 @@ fn scripts_are_answered(rt: HostRuntime) {
     }
 }
 
+/// Tests whether these are the answers in pieces of each of these sizes.
+fn is_answered_in_pieces(alloc: Global, text: &[u8], budget: u64, answers: &[u8]) -> bool {
+    for size in [1, 2, 4095, 4096] {
+        if !is_answered(alloc, &mut in_pieces(text, size), budget, answers) {
+            return false;
+        }
+    }
+    true
+}
+
 #[test]
-fn scripts_are_answered_by_one_byte(rt: HostRuntime) {
+fn scripts_are_answered_in_pieces(rt: HostRuntime) {
     for &(text, budget, answers) in all_answers() {
         assert!(rt;
-            is_answered(rt.alloc(), &mut fails_at(text, 0), budget, answers),
+            is_answered_in_pieces(rt.alloc(), text, budget, answers),
             "{text:?}"
         );
     }
+}
+
+/// The largest piece that a run asks for.
+fn largest_piece(alloc: Global, text: &[u8]) -> usize {
+    let mut script = in_pieces(text, 4096);
+    let mut answers = Counted::new(Vec::new(alloc));
+    let mut certificate = Counted::new(Vec::new(alloc));
+    let _ = run(alloc, &mut script, &mut answers, &mut certificate, AMPLE);
+    script.into_inner().largest
+}
+
+#[test]
+fn pieces_are_small(rt: HostRuntime) {
+    assert!(rt; largest_piece(rt.alloc(), SIXTH) == 4096);
 }
 
 /// Tests whether this is the certificate of a text.
@@ -116,31 +188,60 @@ fn is_certified(alloc: Global, text: &[u8], certificate: &[u8]) -> bool {
     done && written.into_inner().as_slice() == certificate
 }
 
-/// The four clauses, and what two rounds learn: the unit 1 by the first two, the empty clause by the others.
-const SIXTH_STEPS: &[u8] = &[
-    2, 0, 1, 2, 1, 2, 5, 2, 0, 2, 5, 2, 0, 3, 5, 2, 1, 2, 5, 2, 1, 3, 11, 0, 6, 0, 1, 0, 2, 170,
-    144, 212, 148, 208, 146, 197, 200, 68, 193, 152, 142, 147, 200, 235, 167, 245, 230, 1, 6, 0, 0,
-    2, 149, 152, 174, 154, 232, 203, 167, 228, 230, 1, 254, 144, 244, 157, 240, 178, 197, 217, 68,
-    11, 0, 13,
-];
-
 /// A text, and its certificate.
-static CERTIFICATES: [(&[u8], &[u8]); 5] = [
-    (b"", b"\x0d"),
-    // A clause's literals are sorted, repeats dropped.
+static CERTIFICATES: [(&[u8], &[u8]); 8] = [
+    (b"", &[0x0d]),
+    (
+        b"a 0\n",
+        &[0x0b, 0x00, 0x09, 0x06, 0x0a, 0x00, 0x0b, 0x00, 0x0d],
+    ),
+    (
+        b"3 0\na 0\n",
+        &[
+            0x02, 0x00, 0x01, 0x02, 0x01, 0x02, 0x02, 0x02, 0x03, 0x01, 0x02, 0x01, 0x05, 0x01,
+            0x04, 0x0b, 0x00, 0x09, 0x06, 0x01, 0x02, 0x00, 0x0a, 0x03, 0x01, 0x03, 0x04, 0x0b,
+            0x00, 0x0d,
+        ],
+    ),
+    (
+        FOURTH,
+        &[
+            0x02, 0x00, 0x01, 0x01, 0x00, 0x01, 0x02, 0x01, 0x02, 0x01, 0x01, 0x02, 0x05, 0x02,
+            0x00, 0x02, 0x0b, 0x00, 0x09, 0x06, 0x0a, 0x02, 0x01, 0x02, 0x0b, 0x00, 0x0d,
+        ],
+    ),
+    (
+        b"h 2 0\na 0\n",
+        &[
+            0x02, 0x00, 0x01, 0x02, 0x01, 0x02, 0x02, 0x01, 0x00, 0x03, 0x01, 0x0b, 0x00, 0x09,
+            0x06, 0x0a, 0x01, 0x01, 0x0b, 0x00, 0x0d,
+        ],
+    ),
+    (
+        SIXTH,
+        &[
+            0x02, 0x00, 0x01, 0x01, 0x00, 0x01, 0x02, 0x01, 0x02, 0x01, 0x01, 0x02, 0x05, 0x02,
+            0x00, 0x02, 0x05, 0x02, 0x00, 0x03, 0x05, 0x02, 0x01, 0x02, 0x05, 0x02, 0x01, 0x03,
+            0x0b, 0x00, 0x09, 0x08, 0x06, 0x00, 0x01, 0x00, 0x02, 0x44, 0xe6, 0x01, 0x07, 0x01,
+            0x02, 0xe6, 0x01, 0x06, 0x00, 0x00, 0x01, 0x44, 0x0b, 0x00, 0x0d,
+        ],
+    ),
+    // A clause's literals are sorted by the solver's order, repeats dropped.
     (
         b"-3 1 -2 1 -3 0\n",
-        b"\x02\x00\x01\x02\x01\x02\x02\x02\x03\x05\x03\x00\x03\x05\x0d",
+        &[
+            0x02, 0x00, 0x01, 0x02, 0x01, 0x02, 0x02, 0x02, 0x03, 0x01, 0x02, 0x01, 0x01, 0x00,
+            0x02, 0x01, 0x01, 0x03, 0x05, 0x03, 0x05, 0x00, 0x03, 0x0d,
+        ],
     ),
-    (SIXTH, SIXTH_STEPS),
     // Once `unsat` is recorded names come in, no clause is written, and nothing for an ask but its assumptions.
     (
         b"1 0\na 0\n-1 0\n2 0\na 0\n",
-        b"\x02\x00\x01\x05\x01\x00\x0b\x00\x0a\x01\x00\x0b\x00\x05\x01\x01\x02\x01\x02\x0b\x00\x0b\x00\x0d",
-    ),
-    (
-        b"1 2 0\na 0\n",
-        b"\x02\x00\x01\x02\x01\x02\x05\x02\x00\x02\x0b\x00\x0a\x02\x01\x02\x0b\x00\x0d",
+        &[
+            0x02, 0x00, 0x01, 0x01, 0x00, 0x01, 0x05, 0x01, 0x00, 0x0b, 0x00, 0x09, 0x06, 0x01,
+            0x00, 0x00, 0x0a, 0x01, 0x00, 0x0b, 0x00, 0x01, 0x00, 0x01, 0x05, 0x01, 0x01, 0x02,
+            0x01, 0x02, 0x0b, 0x00, 0x0b, 0x00, 0x0d,
+        ],
     ),
 ];
 
@@ -306,12 +407,12 @@ fn fault_of_short(alloc: Global, answers: &mut [u8], certificate: &mut [u8]) -> 
 /// Each writer in turn is too short by a byte.
 #[test]
 fn short_writers_are_told(rt: HostRuntime) {
-    assert!(rt; fault_of_short(rt.alloc(), &mut [0; 18], &mut [0; 7]) == None);
+    assert!(rt; fault_of_short(rt.alloc(), &mut [0; 18], &mut [0; 9]) == None);
     assert!(rt;
-        fault_of_short(rt.alloc(), &mut [0; 17], &mut [0; 7]) == Some(RunFault::AnswersWrite)
+        fault_of_short(rt.alloc(), &mut [0; 17], &mut [0; 9]) == Some(RunFault::AnswersWrite)
     );
     assert!(rt;
-        fault_of_short(rt.alloc(), &mut [0; 18], &mut [0; 6]) == Some(RunFault::CertificateWrite)
+        fault_of_short(rt.alloc(), &mut [0; 18], &mut [0; 8]) == Some(RunFault::CertificateWrite)
     );
 }
 

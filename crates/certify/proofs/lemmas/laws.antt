@@ -5,3 +5,4 @@ pub mod TellingTexts
 pub mod JudgeStates
 pub mod Rows
 pub mod CertifiedRows
+pub mod CertifiedMatches

@@ -17,3 +17,6 @@ pub mod Obeys
 pub mod Next
 pub mod Lent
 pub mod NextLent
+pub mod Through
+pub mod Written
+pub mod Ended

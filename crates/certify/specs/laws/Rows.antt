@@ -9,7 +9,7 @@ use Rattle.certify.specs.answers.Answers.{answers_text}
 use Rattle.sat_checker.specs.matching.Expected.{Outcome, Sat, Unsat, Unknown, expected, NewName, NoName, Adds, Opens, Shows, Closes, Finish}
 use Rattle.certify.specs.answers.RightAnswers.{AnswersAreRight}
 use Rattle.certify.specs.confirm.Matches.{StepsMatch, MatchesCommands}
-use Rattle.certify.specs.run.Certifies.{Certifies}
+use Rattle.certify.specs.serving.Certifies.{Certifies}
 use Rattle.sat_checker.specs.matching.ProofChecking.{the_checking}
 
 -- the positive literal of a name, and the negative one
@@ -136,69 +136,66 @@ NoAnswers = (certificate : List ℕ) → MatchesCommands the_checking clause_and
 abbrev pub AnswersTwice : Type 0
 AnswersTwice = (certificate : List ℕ) → MatchesCommands the_checking clause_and_ask Clean (clause_and_ask_text ++ clause_and_ask_text) certificate → ⊥
 
--- Steps that a run may write, and the rounds of its asks. A clause and an ask:
+-- Steps that a run may write, the newest first, and the rounds of its asks. A clause and an ask:
 abbrev pub ClauseAndAskCertified : Type 0
-ClauseAndAskCertified = Certifies the_checking None [] (UserVarName 0 (Some 0) ∷ UserVarName 1 (Some 1) ∷ AddClause (0 ∷ 2 ∷ []) ∷ Assumptions [] ∷ Model (1 ∷ 2 ∷ []) ∷ Assumptions [] ∷ End ∷ []) (expected start clause_and_ask (Sat (neg 1 ∷ pos 2 ∷ []) ∷ [])) (1 ∷ [])
+ClauseAndAskCertified = Certifies the_checking
+    (End ∷ Assumptions [] ∷ Model (1 ∷ 2 ∷ []) ∷ Assumptions [] ∷ AddClause (0 ∷ 2 ∷ []) ∷ UserVarName 1 (Some 1) ∷ UserVarName 0 (Some 0) ∷ [])
+    None [] (expected start clause_and_ask (Sat (neg 1 ∷ pos 2 ∷ []) ∷ [])) (1 ∷ [])
 
 -- `1 0`, `-1 0`, `2 0`, `a 0`: the second clause records unsat, so the third one and the core are left out, and the name isn't
 abbrev pub units_and_ask : List Command
 units_and_ask = Clause (pos 1 ∷ []) ∷ Clause (neg 1 ∷ []) ∷ Clause (pos 2 ∷ []) ∷ Ask [] ∷ []
 
 abbrev pub units_and_ask_steps : List Step
-units_and_ask_steps = UserVarName 0 (Some 0) ∷ AddClause (0 ∷ []) ∷ AddClause (1 ∷ []) ∷ UserVarName 1 (Some 1) ∷ Assumptions [] ∷ Assumptions [] ∷ End ∷ []
+units_and_ask_steps = End ∷ Assumptions [] ∷ Assumptions [] ∷ UserVarName 1 (Some 1) ∷ AddClause (1 ∷ []) ∷ AddClause (0 ∷ []) ∷ UserVarName 0 (Some 0) ∷ []
 
 abbrev pub LeftOutCertified : Type 0
-LeftOutCertified = Certifies the_checking None [] units_and_ask_steps (expected start units_and_ask (Unsat [] ∷ [])) (0 ∷ [])
+LeftOutCertified = Certifies the_checking units_and_ask_steps None [] (expected start units_and_ask (Unsat [] ∷ [])) (0 ∷ [])
 
 -- the ask took no round, and has no other outcome
 abbrev pub KnownWithoutRounds : Type 0
-KnownWithoutRounds = (o : Outcome) (n : ℕ) → Certifies the_checking None [] units_and_ask_steps (expected start units_and_ask (o ∷ [])) (n ∷ []) → (o ≡ Unsat []) × (n ≡ 0)
+KnownWithoutRounds = (o : Outcome) (n : ℕ) → Certifies the_checking units_and_ask_steps None [] (expected start units_and_ask (o ∷ [])) (n ∷ []) → (o ≡ Unsat []) × (n ≡ 0)
 
 -- `1 0`, `-1 2 0`, `-2 0`, `3 0`, `a 0`: no valuation is left by three clauses, and none of these records unsat, so the fourth one stands, and a derived clause
 abbrev pub chain_and_ask : List Command
 chain_and_ask = Clause (pos 1 ∷ []) ∷ Clause (neg 1 ∷ pos 2 ∷ []) ∷ Clause (neg 2 ∷ []) ∷ Clause (pos 3 ∷ []) ∷ Ask [] ∷ []
 
-abbrev pub chain_steps : List Step → List Step
-chain_steps later = UserVarName 0 (Some 0) ∷ AddClause (0 ∷ []) ∷ UserVarName 1 (Some 1) ∷ AddClause (1 ∷ 2 ∷ []) ∷ AddClause (3 ∷ []) ∷ UserVarName 2 (Some 2) ∷ AddClause (4 ∷ []) ∷ later
+abbrev pub chain_steps : List Step
+chain_steps = AddClause (4 ∷ []) ∷ UserVarName 2 (Some 2) ∷ AddClause (3 ∷ []) ∷ AddClause (1 ∷ 2 ∷ []) ∷ UserVarName 1 (Some 1) ∷ AddClause (0 ∷ []) ∷ UserVarName 0 (Some 0) ∷ []
 
 abbrev pub ChainCertified : Type 0
-ChainCertified = (hashes : List ℕ) → Certifies the_checking None [] (chain_steps (Assumptions [] ∷ AtClause false [] hashes ∷ Assumptions [] ∷ End ∷ []))
+ChainCertified = (hashes : List ℕ) → Certifies the_checking (End ∷ Assumptions [] ∷ AtClause false [] hashes ∷ Assumptions [] ∷ chain_steps) None []
     (expected start chain_and_ask (Unsat [] ∷ [])) (1 ∷ [])
 
 -- Steps that it may not: what the ask records isn't answered
 abbrev pub UnknownUncertified : Type 0
-UnknownUncertified = (hashes counts : List ℕ) → Certifies the_checking None [] (chain_steps (Assumptions [] ∷ AtClause false [] hashes ∷ Assumptions [] ∷ End ∷ []))
+UnknownUncertified = (hashes counts : List ℕ) → Certifies the_checking (End ∷ Assumptions [] ∷ AtClause false [] hashes ∷ Assumptions [] ∷ chain_steps) None []
     (expected start chain_and_ask (Unknown ∷ [])) counts → ⊥
 
--- a clause is derived before the ask
-abbrev pub SearchedEarlyUncertified : Type 0
-SearchedEarlyUncertified = (hashes counts : List ℕ) (o : Outcome) (shown : List Step) → Certifies the_checking None [] (chain_steps (AtClause false [] hashes ∷ shown))
-    (expected start chain_and_ask (o ∷ [])) counts → ⊥
-
--- the fourth clause of these isn't there
+-- the fourth clause isn't there
 abbrev pub EarlyUncertified : Type 0
-EarlyUncertified = (counts : List ℕ) → Certifies the_checking None []
-    (UserVarName 0 (Some 0) ∷ AddClause (0 ∷ []) ∷ UserVarName 1 (Some 1) ∷ AddClause (1 ∷ 2 ∷ []) ∷ AddClause (3 ∷ []) ∷ UserVarName 2 (Some 2) ∷ Assumptions [] ∷ Assumptions [] ∷ End ∷ [])
-    (expected start chain_and_ask (Unsat [] ∷ [])) counts → ⊥
+EarlyUncertified = (counts : List ℕ) → Certifies the_checking
+    (End ∷ Assumptions [] ∷ Assumptions [] ∷ UserVarName 2 (Some 2) ∷ AddClause (3 ∷ []) ∷ AddClause (1 ∷ 2 ∷ []) ∷ UserVarName 1 (Some 1) ∷ AddClause (0 ∷ []) ∷ UserVarName 0 (Some 0) ∷ [])
+    None [] (expected start chain_and_ask (Unsat [] ∷ [])) counts → ⊥
 
 -- `1 0`, `-1 0`, `a 1 0` with a core that isn't empty, whether its step stands or not
 abbrev pub CoreUncertified : Type 0
 CoreUncertified = (shown : List Step) (counts : List ℕ)
-    → Certifies the_checking None [] (UserVarName 0 (Some 0) ∷ AddClause (0 ∷ []) ∷ AddClause (1 ∷ []) ∷ Assumptions (0 ∷ []) ∷ shown)
+    → Certifies the_checking (shown ++ Assumptions (0 ∷ []) ∷ AddClause (1 ∷ []) ∷ AddClause (0 ∷ []) ∷ UserVarName 0 (Some 0) ∷ []) None []
     (expected start (Clause (pos 1 ∷ []) ∷ Clause (neg 1 ∷ []) ∷ Ask (pos 1 ∷ []) ∷ []) (Unsat (pos 1 ∷ []) ∷ [])) counts → ⊥
 
 -- `1 0`, `a 0` with `End` alone
 abbrev pub EndAloneUncertified : Type 0
-EndAloneUncertified = (outcomes : List Outcome) (counts : List ℕ) → Certifies the_checking None [] (End ∷ []) (expected start (Clause (pos 1 ∷ []) ∷ Ask [] ∷ []) outcomes) counts → ⊥
+EndAloneUncertified = (outcomes : List Outcome) (counts : List ℕ) → Certifies the_checking (End ∷ []) None [] (expected start (Clause (pos 1 ∷ []) ∷ Ask [] ∷ []) outcomes) counts → ⊥
 
 -- `1 0` without its clause
 abbrev pub ClauseUncertified : Type 0
-ClauseUncertified = (counts : List ℕ) → Certifies the_checking None [] (UserVarName 0 (Some 0) ∷ End ∷ []) (expected start (Clause (pos 1 ∷ []) ∷ []) []) counts → ⊥
+ClauseUncertified = (counts : List ℕ) → Certifies the_checking (End ∷ UserVarName 0 (Some 0) ∷ []) None [] (expected start (Clause (pos 1 ∷ []) ∷ []) []) counts → ⊥
 
 -- `a 0`, satisfiable, without its model
 abbrev pub ModelUncertified : Type 0
-ModelUncertified = (counts : List ℕ) → Certifies the_checking None [] (Assumptions [] ∷ Assumptions [] ∷ End ∷ []) (expected start (Ask [] ∷ []) (Sat [] ∷ [])) counts → ⊥
+ModelUncertified = (counts : List ℕ) → Certifies the_checking (End ∷ Assumptions [] ∷ Assumptions [] ∷ []) None [] (expected start (Ask [] ∷ []) (Sat [] ∷ [])) counts → ⊥
 
 -- an empty script with a step behind `End`
 abbrev pub BehindEndUncertified : Type 0
-BehindEndUncertified = (step : Step) (counts : List ℕ) → Certifies the_checking None [] (End ∷ step ∷ []) (expected start [] []) counts → ⊥
+BehindEndUncertified = (step : Step) (counts : List ℕ) → Certifies the_checking (step ∷ End ∷ []) None [] (expected start [] []) counts → ⊥

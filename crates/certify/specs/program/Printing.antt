@@ -1,7 +1,7 @@
 -- What the program prints.
 use Rattle.std.specs.Prelude.{ℕ, ◌≡◌, ◌↔◌, true, Bool, false, None, List, [], ◌∷◌, ◌++◌, codes, decimal}
 use Rattle.sat_base.specs.device.Device.{Reader, Writer, GaveEnough, Takes}
-use Rattle.sat_base.specs.script.Script.{Ending, Clean, Malformed, reading as read_by_run}
+use Rattle.sat_base.specs.script.Script.{Ending, Clean, Malformed}
 use Rattle.sat_checker.specs.matching.ProofChecking.{the_checking}
 use Rattle.certify.specs.confirm.Matches.{Matches}
 use Rattle.certify.specs.confirm.VerdictPromises.{Exact}
@@ -87,7 +87,7 @@ is_malformed Clean = false
 is_malformed Malformed = true
 
 -- The answers to a text were printed, and behind them the verdict on text, answers and some certificate. The status is 0 exactly for a
--- yes on a text that isn't malformed, as `run` reads it: without commands but clauses and `a 0`.
+-- yes on a text that isn't malformed.
 pub record Prints (status : ℕ) (text : List ℕ) (old new : Writer) : Type 0 where
   pub answers : List ℕ
   pub certificate : List ℕ
@@ -95,7 +95,7 @@ pub record Prints (status : ℕ) (text : List ℕ) (old new : Writer) : Type 0 w
   pub exact : SaysExactly verdict text answers certificate
   pub printed : Takes old new (answers ++ verdict_text verdict)
   pub flushed : new.flushed ≡ true
-  pub done : (status ≡ 0) ↔ ((verdict ≡ Yes) × (is_malformed (read_by_run text).1 ≡ false))
+  pub done : (status ≡ 0) ↔ ((verdict ≡ Yes) × (is_malformed (reading text).1 ≡ false))
 
 -- the same of the text that a reader gave, whatever would follow
 abbrev pub PrintsVerdict : ℕ → Reader × Reader → Writer × Writer → Type 0

@@ -84,46 +84,51 @@ abbrev pub any_header : List Token → Bool
 any_header [] = false
 any_header (t ∷ ts) = is_header t || any_header ts
 
--- what is still to be read behind what is in hand, where these tokens are to come
-abbrev pub meaning : Commands → Hand → List Token → Reading
-meaning commands hand ts = with_ask ((commands.headed || any_header ts) && not commands.asked) (commands_of hand ts)
+-- What is still to be read behind what is in hand, where these tokens are to come: with the ask that a header may make due, or without.
+abbrev pub meaning : Bool → Commands → Hand → List Token → Reading
+meaning asks commands hand ts = with_ask (asks && ((commands.headed || any_header ts) && not commands.asked)) (commands_of hand ts)
 
 -- what a token leaves, behind any others: less to read, a whole command and then less, or a malformed text
 abbrev pub TakesToken : Reached → Commands → Token → Commands → Type 0
 TakesToken reached.More old t new = (hand : Hand) → Holds old.draft hand
-    → (next : Hand) × Holds new.draft next × ((ts : List Token) → meaning old hand (t ∷ ts) ≡ meaning new next ts)
+    → (next : Hand) × Holds new.draft next × ((asks : Bool) (ts : List Token) → meaning asks old hand (t ∷ ts) ≡ meaning asks new next ts)
 TakesToken reached.Command old t new = (hand : Hand) → Holds old.draft hand
     → (c : Command) × IsWhole new.draft c × Holds new.draft Nothing
-    × ((ts : List Token) → meaning old hand (t ∷ ts) ≡ onto_commands (c ∷ []) (meaning new Nothing ts))
+    × ((asks : Bool) (ts : List Token) → meaning asks old hand (t ∷ ts) ≡ onto_commands (c ∷ []) (meaning asks new Nothing ts))
 TakesToken reached.Malformed old t new = (hand : Hand) → Holds old.draft hand
-    → (ts : List Token) → meaning old hand (t ∷ ts) ≡ ([], Malformed)
+    → (asks : Bool) (ts : List Token) → meaning asks old hand (t ∷ ts) ≡ ([], Malformed)
 
 -- the reader stands at a place of a text: `left_of` says what is still to be read, whatever bytes come
-pub record Means (reader : ScriptReader) (left_of : List ℕ → Reading) : Type 0 where
+pub record MeansIf (asks : Bool) (reader : ScriptReader) (left_of : List ℕ → Reading) : Type 0 where
   pub hand : Hand
   pub holds : Holds reader.commands.draft hand
   pub scan_of : List ℕ → Scan
   pub stands : Stands reader.tokenizer scan_of
-  pub reads : (rest : List ℕ) → left_of rest ≡ meaning reader.commands hand (spoken (scan_of rest).tokens)
+  pub reads : (rest : List ℕ) → left_of rest ≡ meaning asks reader.commands hand (spoken (scan_of rest).tokens)
+
+-- with the ask that a header may make due
+abbrev pub Means : ScriptReader → (List ℕ → Reading) → Type 0
+Means = MeansIf true
 
 -- a command was read, and is to be lent
 pub record HasWhole (reader : ScriptReader) (c : Command) : Type 0 where
   pub whole : IsWhole reader.commands.draft c
 
 -- bytes lead to a command, whatever follows
-pub record ReachesCommand (before : List ℕ → Reading) (bytes : List ℕ) (new : ScriptReader) : Type 0 where
+pub record ReachesCommand (asks : Bool) (before : List ℕ → Reading) (bytes : List ℕ) (new : ScriptReader) : Type 0 where
   pub command : Command
   pub whole : HasWhole new command
   pub after : List ℕ → Reading
-  pub stands : Means new after
+  pub stands : MeansIf asks new after
   pub reads : (rest : List ℕ) → before (bytes ++ rest) ≡ onto_commands (command ∷ []) (after rest)
 
 -- what bytes leave, whatever follows
 abbrev pub TakesBytes : Reached → ScriptReader → List ℕ → ScriptReader → Type 0
-TakesBytes reached.More old bytes new = Follows Means old bytes new
-TakesBytes reached.Command old bytes new = (before : List ℕ → Reading) → Means old before → ReachesCommand before bytes new
+TakesBytes reached.More old bytes new = (asks : Bool) → Follows (MeansIf asks) old bytes new
+TakesBytes reached.Command old bytes new =
+    (asks : Bool) (before : List ℕ → Reading) → MeansIf asks old before → ReachesCommand asks before bytes new
 TakesBytes reached.Malformed old bytes new =
-    (before : List ℕ → Reading) → Means old before → (rest : List ℕ) → before (bytes ++ rest) ≡ ([], Malformed)
+    (asks : Bool) (before : List ℕ → Reading) → MeansIf asks old before → (rest : List ℕ) → before (bytes ++ rest) ≡ ([], Malformed)
 
 -- how a script ends: behind a header that no ask followed it is asked once
 abbrev pub end_reading : ScriptEnd → Reading
@@ -131,15 +136,22 @@ end_reading ends.Clean = ([], Clean)
 end_reading ends.Asked = (Ask [] ∷ [], Clean)
 end_reading ends.Malformed = ([], Malformed)
 
+-- so with that ask, or without
+abbrev pub end_if : Bool → ScriptEnd → Reading
+end_if true e = end_reading e
+end_if false ends.Clean = ([], Clean)
+end_if false ends.Asked = ([], Clean)
+end_if false ends.Malformed = ([], Malformed)
+
 -- what is left where the text ends: perhaps a command, and the end
-abbrev pub EndsSo : Bool → ScriptEnd → Commands → Reading → Type 0
-EndsSo false e new r = r ≡ end_reading e
-EndsSo true e new r = (c : Command) × IsWhole new.draft c × (r ≡ onto_commands (c ∷ []) (end_reading e))
+abbrev pub EndsSo : Bool → Bool → ScriptEnd → Commands → Reading → Type 0
+EndsSo asks false e new r = r ≡ end_if asks e
+EndsSo asks true e new r = (c : Command) × IsWhole new.draft c × (r ≡ onto_commands (c ∷ []) (end_if asks e))
 
 -- so of a reader
-abbrev pub EndsLast : Bool → ScriptEnd → ScriptReader → Reading → Type 0
-EndsLast false e new r = r ≡ end_reading e
-EndsLast true e new r = (c : Command) × HasWhole new c × (r ≡ onto_commands (c ∷ []) (end_reading e))
+abbrev pub EndsLast : Bool → Bool → ScriptEnd → ScriptReader → Reading → Type 0
+EndsLast asks false e new r = r ≡ end_if asks e
+EndsLast asks true e new r = (c : Command) × HasWhole new c × (r ≡ onto_commands (c ∷ []) (end_if asks e))
 
 -- the reader took this text, of which it gave these commands, whatever follows
 pub record HasRead (reader : ScriptReader) (text : List ℕ) (commands : List Command) : Type 0 where

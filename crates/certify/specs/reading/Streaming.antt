@@ -1,5 +1,5 @@
 -- What comes of the bytes of a script that is read as its commands are wanted, whatever would follow.
-use Rattle.std.specs.Prelude.{ℕ, ◌+◌, ◌-◌, ◌*◌, ◌<◌, ◌≡◌, true, false, Option, Some, None, List, [], ◌++◌, length, Result, Ok, Err}
+use Rattle.std.specs.Prelude.{ℕ, ◌+◌, ◌-◌, ◌*◌, ◌<◌, ◌≡◌, Bool, true, false, Option, Some, None, List, [], ◌++◌, length, Result, Ok, Err}
 use Rattle.sat_base.specs.device.Device.{most_reads, piece_size}
 use Rattle.sat_base.specs.device.Reading.{Source, Passes, PassesToEnd}
 use Rattle.sat_base.specs.script.Script.{Reading}
@@ -8,7 +8,7 @@ use Rattle.sat_base.specs.declared.device.whole.ReadError.{ReadError}
 use Rattle.sat_base.specs.declared.device.whole.ReadError.TheVariants as errors
 use Rattle.certify.specs.confirm.Streams.{Covers, rest_in}
 use Rattle.certify.specs.reading.Ahead.{Failed, Kept, Took, waiting}
-use Rattle.certify.specs.reading.Commands.{EndsLast, Means, TakesBytes, end_reading}
+use Rattle.certify.specs.reading.Commands.{EndsLast, MeansIf, TakesBytes, end_if}
 use Rattle.certify.specs.declared.ahead.Ahead.{Ahead}
 use Rattle.certify.specs.declared.reading.Reached.{Reached}
 use Rattle.certify.specs.declared.reading.Reached.TheVariants as reached
@@ -26,20 +26,22 @@ Takes (Err e) old new = new.ahead ≡ old.ahead
 -- the text is over
 abbrev pub Finishes : Next → ScriptReader → ScriptReader → Type 0
 Finishes next.Command old new = ⊥
-Finishes (next.Last e) old new = (before : List ℕ → Reading) → Means old before → EndsLast true e new (before [])
-Finishes (next.End e) old new = (before : List ℕ → Reading) → Means old before → EndsLast false e new (before [])
+Finishes (next.Last e) old new = (asks : Bool) (before : List ℕ → Reading) → MeansIf asks old before → EndsLast asks true e new (before [])
+Finishes (next.End e) old new = (asks : Bool) (before : List ℕ → Reading) → MeansIf asks old before → EndsLast asks false e new (before [])
 
 -- A command came, and the text goes on; or one did that is the last; or none is left, and the text ends so.
 abbrev pub Arrives : Next → Source → Source → ScriptReader → ScriptReader → Type 0
 Arrives next.Command a b old new = (text : List ℕ) × Passes a b text × (0 < length text) × TakesBytes reached.Command old text new
 Arrives (next.Last e) a b old new =
-    (text : List ℕ) × PassesToEnd a b text × ((before : List ℕ → Reading) → Means old before → EndsLast true e new (before text))
+    (text : List ℕ) × PassesToEnd a b text
+    × ((asks : Bool) (before : List ℕ → Reading) → MeansIf asks old before → EndsLast asks true e new (before text))
 Arrives (next.End e) a b old new =
-    Took false a b × ((before : List ℕ → Reading) → Means old before → (total : List ℕ) → Covers b total → before (rest_in total a) ≡ end_reading e)
+    Took false a b × ((asks : Bool) (before : List ℕ → Reading) → MeansIf asks old before
+    → (total : List ℕ) → Covers b total → before (rest_in total a) ≡ end_if asks e)
 
 -- so, or nothing came of the bytes yet
 abbrev pub Brings : Result (Option Next) ReadError → Source → Source → ScriptReader → ScriptReader → Type 0
-Brings (Ok None) a b old new = (text : List ℕ) × Passes a b text × Follows Means old text new
+Brings (Ok None) a b old new = (text : List ℕ) × Passes a b text × ((asks : Bool) → Follows (MeansIf asks) old text new)
 Brings (Ok (Some n)) a b old new = Arrives n a b old new
 Brings (Err errors.Failed) a b old new = Failed a b
 Brings (Err errors.OutOfMemory) a b old new = Kept a b

@@ -1,32 +1,23 @@
 -- What a finished run has done, and why one wasn't finished.
-use Rattle.std.specs.Prelude.{ℕ, ◌+◌, ◌-◌, ◌^◌, ◌≡◌, ◌≤◌, true, Option, Some, None, is_some, List, [], ◌∷◌, map, length, Result, IfOk, if◌then◌else◌}
+use Rattle.std.specs.Prelude.{ℕ, ◌+◌, ◌≡◌, ◌≤◌, true, Option, Some, None, is_some, List, [], ◌∷◌, map, length, reverse, Result, IfOk, if◌then◌else◌}
 use Rattle.sat_base.specs.device.Device.{Reader, Writer, GaveEnough, Takes}
-use Rattle.sat_base.specs.script.Script.{Command, Ending, Clean, Malformed, written, reading}
+use Rattle.sat_base.specs.script.Script.{Command, Ending, Clean, Malformed}
 use Rattle.sat_base.specs.script.Judge.{Judge, refusal_of, after_command, accepted_of, start}
 use Rattle.sat_base.specs.steps.Steps.{Step}
 use Rattle.sat_base.specs.steps.StepText.{SpellsSteps}
 use Rattle.certify.specs.answers.Answers.{answers_text}
+use Rattle.sat_checker.specs.Accepts.{AcceptsAll}
 use Rattle.sat_checker.specs.matching.Expected.{Outcome, Sat, Unsat, Unknown, expected}
 use Rattle.certify.specs.answers.RightAnswers.{AnswersAreRight}
 use Rattle.sat_checker.specs.matching.ProofChecking.{the_checking}
-use Rattle.certify.specs.run.Certifies.{Certifies}
-use Rattle.certify.specs.search.StepsLeft.{steps_left}
+use Rattle.certify.specs.reading.Language.{reading, written}
+use Rattle.certify.specs.run.StepsLeft.{steps_left}
+use Rattle.certify.specs.serving.Certifies.{Certifies}
 use Rattle.certify.specs.declared.fault.RunFault.{RunFault}
-use Rattle.certify.specs.declared.fault.RunFault.TheVariants as fault
 use Rattle.certify.specs.declared.summary.Answer.{Answer}
 use Rattle.certify.specs.declared.summary.Answer.TheVariants as kind
 use Rattle.certify.specs.declared.summary.AskReport.{AskReport}
 use Rattle.certify.specs.declared.summary.Summary.{Summary}
-
--- What each fault says, where reading the script failed, writing the answers, and writing the certificate, where the commands
--- can't be counted, and where memory was wanted. No store was full.
-abbrev pub HasCause : RunFault → Type 0 → Type 0 → Type 0 → Type 0 → Type 0 → Type 0
-HasCause fault.ScriptRead script answers certificate many memory = script
-HasCause fault.AnswersWrite script answers certificate many memory = answers
-HasCause fault.CertificateWrite script answers certificate many memory = certificate
-HasCause fault.OutOfMemory script answers certificate many memory = memory
-HasCause fault.StoreFull script answers certificate many memory = ⊥
-HasCause fault.CounterEnd script answers certificate many memory = many
 
 -- how many commands are refused
 abbrev pub refused_count : Judge → List Command → ℕ
@@ -58,23 +49,6 @@ abbrev pub AreSpent : ℕ → ℕ → List AskReport → Type 0
 AreSpent budget before [] = Unit {0}
 AreSpent budget before (report ∷ reports) = IsSpent budget before report × AreSpent budget (before + report.steps) reports
 
--- What a finished run wrote and says of a script's commands, of which so many stand in the text.
-pub record RunOf (script : List Command) (ending : Ending) (count budget : ℕ) (summary : Summary) (answered certified : List ℕ) : Type 0 where
-  -- one outcome for each accepted ask, each right, and their text
-  pub outcomes : List Outcome
-  pub right : AnswersAreRight script outcomes
-  pub answers : answered ≡ answers_text script ending outcomes
-  -- the certificate spells steps that are, in order, those of the accepted commands and of these outcomes
-  pub steps : List Step
-  pub certificate : SpellsSteps steps certified
-  pub certifies : Certifies the_checking None [] steps (expected start (accepted_of start script) outcomes) (asked_steps summary.asks.items)
-  pub commands : summary.commands ≡ count
-  pub refused : summary.refused ≡ refused_count start script
-  pub malformed : summary.malformed ≡ malformed_at (length script + 1) ending
-  -- one report for each outcome, of its kind
-  pub kinds : map (λ r. r.answer) summary.asks.items ≡ map kind_of outcomes
-  pub spent : AreSpent budget 0 summary.asks.items
-
 -- What a finished run says of a text, and answered to it: one outcome for each accepted ask, each right, and their text.
 pub record Answers (text : List ℕ) (budget : ℕ) (summary : Summary) (answered : List ℕ) : Type 0 where
   pub outcomes : List Outcome
@@ -87,15 +61,16 @@ pub record Answers (text : List ℕ) (budget : ℕ) (summary : Summary) (answere
   pub kinds : map (λ r. r.answer) summary.asks.items ≡ map kind_of outcomes
   pub spent : AreSpent budget 0 summary.asks.items
 
--- What its certificate is to the answers: it spells steps that are, in order, those of the accepted commands and of these outcomes,
--- which took the steps that the summary reports.
+-- What its certificate is to the answers: it spells steps, the oldest first, which are, in order, those of the accepted commands and of
+-- these outcomes, which took the steps that the summary reports. Each is accepted in its turn. The list has the newest first.
 pub record Backs (text : List ℕ) (summary : Summary) (answered certified : List ℕ) : Type 0 where
   pub outcomes : List Outcome
   pub right : AnswersAreRight (reading text).0 outcomes
   pub answers : answered ≡ answers_text (reading text).0 (reading text).1 outcomes
   pub steps : List Step
-  pub certificate : SpellsSteps steps certified
-  pub certifies : Certifies the_checking None [] steps
+  pub certificate : SpellsSteps (reverse steps) certified
+  pub accepted : AcceptsAll steps
+  pub certifies : Certifies the_checking steps None []
       (expected start (accepted_of start (reading text).0) outcomes) (asked_steps summary.asks.items)
 
 -- WHAT THREE DEVICES SHOW OF IT
@@ -132,7 +107,3 @@ WritesKept seen old new = (seen new).failures ≡ (seen old).failures
 -- exactly one call failed, the last
 abbrev pub WriteFails : Writer → Writer → Type 0
 WriteFails old new = (new.failures ≡ old.failures + 1) × (new.failed ≡ true)
-
--- the text is malformed behind so many commands that the next one has no number
-abbrev pub HasNoNumber : List ℕ → Type 0
-HasNoNumber text = ((reading text).1 ≡ Malformed) × (2 ^ 64 - 1 ≤ length (reading text).0)

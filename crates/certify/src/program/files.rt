@@ -4,6 +4,7 @@ ghost use Rattle.std.specs.Prelude.{◌≤◌, IfOk};
 use crate::fault::RunFault;
 use crate::program::call::RunFiles;
 use crate::program::fault::{Fault, HintsFault};
+use crate::program::progress::tell_progress;
 use crate::program::texts::{check_text, confirm_given, run_text, write_hints};
 use crate::verdict::ConfirmFault;
 use sat_base::{Counted, CountedWrite};
@@ -26,10 +27,11 @@ fn make<R: Files>(rt: &R, path: &str, fault: Fault) -> Result<Counted<R::File>, 
 }
 
 /// Answers a script.
-pub(super) fn run_files<R: AllocGlobal + Files>(
+pub(super) fn run_files<R: AllocGlobal + Files, E: CountedWrite>(
     rt: &R,
     files: RunFiles<'_>,
     budget: u64,
+    errors: &mut E,
 ) -> Result<u8, Fault>
     ensures { IfOk result (λ status. status ≤ 1) }
 {
@@ -40,13 +42,15 @@ pub(super) fn run_files<R: AllocGlobal + Files>(
         files.certificate,
         Fault::Run(RunFault::CertificateWrite),
     )?;
-    run_text(
+    let (status, progress) = run_text(
         rt.alloc(),
         &mut script,
         &mut answers,
         &mut certificate,
         budget,
-    )
+    )?;
+    tell_progress(errors, &progress);
+    Ok(status)
 }
 
 /// Confirms answers to a script.

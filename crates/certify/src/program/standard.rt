@@ -1,15 +1,17 @@
 //! The call without arguments: a script from standard input, its certificate kept in memory.
 ghost use Rattle.std.specs.Prelude.{◌≡◌, ◌≤◌, IfOk};
-ghost use Rattle.sat_base.specs.script.Script.{reading};
+ghost use Rattle.certify.specs.reading.Language.{reading};
 ghost use Rattle.certify.specs.run.FinishedRun.{gave, took};
 ghost use Rattle.certify.specs.program.Printing.{Prints, PrintsVerdict, is_malformed};
 
 use crate::fault::RunFault;
 use crate::program::fault::Fault;
 use crate::program::printing::{flush_out, write_out};
+use crate::program::progress::tell_progress;
 use crate::program::verdict_line::{confirm_texts, status};
 use crate::run::run;
 use sat_base::{Counted, CountedRead, CountedWrite, read_whole};
+use sat_solver::Progress;
 use std::alloc::Global;
 
 /// What a run over texts in memory wrote.
@@ -18,6 +20,7 @@ struct Written {
     answers: Vec<u8>,
     certificate: Vec<u8>,
     malformed: bool,
+    progress: Progress,
 }
 
 /// Prints what was answered to a script, and the verdict on it. The answer is the status.
@@ -46,16 +49,18 @@ fn print_confirmed<O: CountedWrite>(
 }
 
 /// Answers a script, and confirms the answers. The answer is the status.
-pub(super) fn answer<I: CountedRead, O: CountedWrite>(
+pub(super) fn answer<I: CountedRead, O: CountedWrite, E: CountedWrite>(
     alloc: Global,
     input: &mut I,
     output: &mut O,
+    errors: &mut E,
 ) -> Result<u8, Fault>
     ensures small { IfOk result (λ status. status ≤ 1) }
     ensures printed { IfOk result (λ s. PrintsVerdict s (gave I.seen input.old input.new) (took O.seen output.old output.new)) }
 {
     let script = read_whole(alloc, input)?;
     let written = run_in_memory(alloc, &script)?;
+    tell_progress(errors, &written.progress);
     print_confirmed(alloc, &script, &written, output)
 }
 
@@ -76,6 +81,7 @@ fn run_in_memory(alloc: Global, script: &[u8]) -> Result<Written, Fault>
             answers: answers.into_inner(),
             certificate: certificate.into_inner(),
             malformed: summary.malformed.is_some(),
+            progress: summary.progress,
         }),
         Err(RunFault::AnswersWrite | RunFault::CertificateWrite) => {
             Err(Fault::Run(RunFault::OutOfMemory))

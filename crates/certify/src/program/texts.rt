@@ -17,6 +17,7 @@ use crate::verdict::{ConfirmFault, Verdict};
 use sat_base::{CountedRead, CountedWrite};
 use sat_checker::Looks;
 use sat_hints::{HintError, HintFault, HintVerdict, check, convert};
+use sat_solver::Progress;
 use std::alloc::Global;
 
 /// The status behind a finished run.
@@ -30,19 +31,19 @@ fn run_status(summary: &Summary) -> u8
     }
 }
 
-/// Answers a script.
+/// Answers a script. Says how far its solver came, beside the status.
 pub(super) fn run_text<S: CountedRead, A: CountedWrite, C: CountedWrite>(
     alloc: Global,
     script: &mut S,
     answers: &mut A,
     certificate: &mut C,
     budget: u64,
-) -> Result<u8, Fault>
-    ensures small { IfOk result (λ status. status ≤ 1) }
-    ensures ran { IfOk result (λ s. Ran s budget (gave S.seen script.old script.new) (took A.seen answers.old answers.new)) }
+) -> Result<(u8, Progress), Fault>
+    ensures small { IfOk result (λ r. r.0 ≤ 1) }
+    ensures ran { IfOk result (λ r. Ran r.0 budget (gave S.seen script.old script.new) (took A.seen answers.old answers.new)) }
 {
     let summary = run(alloc, script, answers, certificate, budget)?;
-    Ok(run_status(&summary))
+    Ok((run_status(&summary), summary.progress))
 }
 
 fn print_yes_or_no<O: CountedWrite>(

@@ -3,7 +3,7 @@ ghost use Rattle.std.specs.Prelude.{◌≡◌, ◌<◌, ◌&&◌, ◌||◌, ℕ,
 ghost use Rattle.sat_base.specs.text.Text.{Token as Spelled, Letter, Number};
 ghost use Rattle.sat_base.specs.text.Tokenizing.{held, held_token};
 ghost use Rattle.certify.specs.reading.Language.{Hand, Nothing, may_stand};
-ghost use Rattle.certify.specs.reading.Commands.{BeginsKind, EndsSo, Holds, TakesToken, end_reading, is_ask_kind, kind_of, meaning};
+ghost use Rattle.certify.specs.reading.Commands.{BeginsKind, EndsSo, Holds, TakesToken, end_if, is_ask_kind, kind_of, meaning};
 
 use super::draft::Draft;
 use super::{CommandKind, Reached, ScriptEnd};
@@ -141,7 +141,7 @@ impl Commands {
 
     /// How a script ends behind a whole command, or with one in hand.
     pub fn ending(&self) -> ScriptEnd
-        ensures { (hand : Hand) → Holds self.now.draft hand → end_reading result ≡ meaning self.now hand [] }
+        ensures { (asks : Bool) (hand : Hand) → Holds self.now.draft hand → end_if asks result ≡ meaning asks self.now hand [] }
     {
         if self.draft.is_open {
             return ScriptEnd::Malformed;
@@ -154,8 +154,8 @@ impl Commands {
 
     /// The last token, which the end of the text ended. It may be a zero, which completes a command.
     pub fn finish_with(&mut self, token: Token) -> (bool, ScriptEnd)
-        ensures { (t : Spelled) → token ≡ held_token t → (hand : Hand) → Holds self.old.draft hand
-            → EndsSo result.0 result.1 self.new (meaning self.old hand (t ∷ [])) }
+        ensures { (t : Spelled) → token ≡ held_token t → (asks : Bool) (hand : Hand) → Holds self.old.draft hand
+            → EndsSo asks result.0 result.1 self.new (meaning asks self.old hand (t ∷ [])) }
     {
         match token {
             Token::Number { value, .. } => {

@@ -1,8 +1,8 @@
 //! The reader of scripts.
-ghost use Rattle.std.specs.Prelude.{◌≡◌, ◌<◌, ◌≤◌, ℕ, List, [], length, take, IfOk};
+ghost use Rattle.std.specs.Prelude.{◌≡◌, ◌<◌, ◌≤◌, ℕ, Bool, false, List, [], length, take, IfOk};
 ghost use Rattle.sat_base.specs.script.Script.{Command as SpelledCommand, Reading};
-ghost use Rattle.certify.specs.reading.Language.{reading};
-ghost use Rattle.certify.specs.reading.Commands.{EndsLast, HasWhole, IsLent, Means, TakesBytes};
+ghost use Rattle.certify.specs.reading.Language.{reading, written};
+ghost use Rattle.certify.specs.reading.Commands.{EndsLast, HasWhole, IsLent, Means, MeansIf, TakesBytes};
 
 use super::commands::Commands;
 use super::{Command, Reached, ScriptEnd};
@@ -20,7 +20,8 @@ pub struct ScriptReader {
 impl ScriptReader {
     /// A reader before the first byte of a script.
     pub fn new(alloc: Global) -> ScriptReader
-        ensures { Means result reading }
+        ensures means { Means result reading }
+        ensures counts { MeansIf false result written }
     {
         ScriptReader {
             tokenizer: Tokenizer::new(),
@@ -65,7 +66,7 @@ impl ScriptReader {
 
     /// The text ends here. Says whether that completes a command, and how the script ends.
     pub fn finish(&mut self) -> (bool, ScriptEnd)
-        ensures { (before : List ℕ → Reading) → Means self.old before → EndsLast result.0 result.1 self.new (before []) }
+        ensures { (asks : Bool) (before : List ℕ → Reading) → MeansIf asks self.old before → EndsLast asks result.0 result.1 self.new (before []) }
     {
         match self.tokenizer.finish() {
             None => (false, self.commands.ending()),

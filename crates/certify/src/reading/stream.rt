@@ -1,9 +1,9 @@
 //! Scripts that are read command by command.
-ghost use Rattle.std.specs.Prelude.{◌≡◌, []};
+ghost use Rattle.std.specs.Prelude.{◌≡◌, [], false};
 ghost use Rattle.sat_base.specs.script.Script.{Command as SpelledCommand};
 ghost use Rattle.certify.specs.reading.Ahead.{IsOpen, source_in, waiting};
-ghost use Rattle.certify.specs.reading.Commands.{EndsLast, HasWhole, IsLent, Means, TakesBytes};
-ghost use Rattle.certify.specs.reading.Language.{reading};
+ghost use Rattle.certify.specs.reading.Commands.{EndsLast, HasWhole, IsLent, Means, MeansIf, TakesBytes};
+ghost use Rattle.certify.specs.reading.Language.{reading, written};
 ghost use Rattle.certify.specs.reading.Streaming.{Brings, Comes, Falls, Finishes, Takes};
 
 use super::reader::ScriptReader;
@@ -34,6 +34,7 @@ impl CommandStream {
     /// Before the first byte.
     pub fn new(alloc: Global) -> CommandStream
         ensures means { Means result.reader reading }
+        ensures counts { MeansIf false result.reader written }
         ensures waiting { waiting result.ahead ≡ [] }
         ensures reads { result.ahead.reads ≡ 0 }
     {

@@ -7,14 +7,8 @@ returns-clause-model c = rows.clause_and_ask
 pub returns-clause-left_out : goal.returns-clause-left_out
 returns-clause-left_out c = rows.left_out_row
 
-pub returns-clause-without_rounds : goal.returns-clause-without_rounds
-returns-clause-without_rounds c = rows.without_rounds
-
 pub returns-clause-derived : goal.returns-clause-derived
 returns-clause-derived c = rows.chain
-
-pub returns-clause-early : goal.returns-clause-early
-returns-clause-early c = rows.early
 
 pub returns-clause-core : goal.returns-clause-core
 returns-clause-core c = rows.core
@@ -34,5 +28,8 @@ returns-clause-behind_end c = rows.behind_end
 pub returns-clause-unknown : goal.returns-clause-unknown
 returns-clause-unknown c = rows.unknown
 
-pub returns-clause-searched_early : goal.returns-clause-searched_early
-returns-clause-searched_early c = rows.searched_early
+pub returns-clause-without_rounds : goal.returns-clause-without_rounds
+returns-clause-without_rounds c = rows.without_rounds
+
+pub returns-clause-early : goal.returns-clause-early
+returns-clause-early c = rows.early

@@ -121,12 +121,12 @@ module _ (text : List ℕ → Reading) (old mid : Standing) (reader after_reader
 
   pub ends_so : (new : Standing) (e : ScriptEnd) (r : Result (Unit {0}) Halt) → Arrives (next.End e) mid.script new.script reader after_reader
       → Joins ⊥ false r mid.answers new.answers mid.certificate new.certificate (λ before behind u v. ConfirmsLast mid.number (end_reading e) mid.table before u) → Ends text r old new
-  ends_so new e r a joins = whole new ⊥ a.0 (end_reading e) (a.1 through.left through.means) r (λ x. absurd x) joins
+  ends_so new e r a joins = whole new ⊥ a.0 (end_reading e) (a.1 true through.left through.means) r (λ x. absurd x) joins
 
   pub ends_last : (new : Standing) (e : ScriptEnd) (r : Result (Unit {0}) Halt) → Arrives (next.Last e) mid.script new.script reader after_reader
       → ((c : Command) → HasWhole after_reader c → Joins (2 ^ 64 - 1 ≤ mid.number) false r mid.answers new.answers mid.certificate new.certificate (λ before behind u v. ConfirmsLast mid.number (onto_commands (c ∷ []) (end_reading e)) mid.table before u)) → Ends text r old new
   ends_last new e r a joins =
-      let k = a.2 through.left through.means in
+      let k = a.2 true through.left through.means in
       whole new (2 ^ 64 - 1 ≤ mid.number) ((a.0, a.1.0), λ h. all_over new.script a.1.1) (onto_commands (k.0 ∷ []) (end_reading e))
       (λ total c. ap through.left (nothing_behind mid.script new.script a.0 total a.1 c) ∙ k.2) r (λ x. some x (end_reading e) k.0) (joins k.0 k.1)
     where
@@ -135,8 +135,8 @@ module _ (text : List ℕ → Reading) (old mid : Standing) (reader after_reader
 
   -- a command
   module _ (new : Standing) (a : Arrives next.Command mid.script new.script reader after_reader) where
-    reaches : ReachesCommand through.left a.0 after_reader
-    reaches = a.3 through.left through.means
+    reaches : ReachesCommand true through.left a.0 after_reader
+    reaches = a.3 true through.left through.means
 
     took : Took true mid.script new.script
     took = (a.0, a.1)

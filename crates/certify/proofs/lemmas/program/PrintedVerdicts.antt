@@ -3,9 +3,10 @@ use Rattle.std.proofs.Common.{ℕ, ◌≡◌, List, ◌++◌, Some, Result, Ok, 
 use Rattle.std.specs.Prelude.{◌+◌, IfSome, is_ok, is_some, length, if◌then◌else◌}
 use Rattle.sat_base.specs.device.Device.{Reader, Writer, GaveAll, GaveEnough}
 use Rattle.sat_base.proofs.lemmas.device.Given.{enough_all, enough_told}
-use Rattle.sat_base.specs.script.Script.{Ending, Clean, Malformed, reading}
+use Rattle.sat_base.specs.script.Script.{Ending, Clean, Malformed}
 use Rattle.certify.specs.confirm.VerdictPromises.{Exact, Given}
 use Rattle.certify.specs.program.Printing.{Prints, PrintsVerdict, SaysExactly, is_malformed}
+use Rattle.certify.specs.reading.Language.{reading}
 use Rattle.certify.specs.run.FinishedRun.{malformed_at}
 use Rattle.certify.specs.declared.summary.Summary.{Summary}
 use Rattle.certify.specs.declared.verdict.Verdict.{Verdict}

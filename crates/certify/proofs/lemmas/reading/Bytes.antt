@@ -11,7 +11,7 @@ use Rattle.sat_base.specs.text.Chunks.{Follows}
 use Rattle.sat_base.specs.script.Script.{Command, Malformed, Reading, onto_commands, spoken}
 use Rattle.sat_base.proofs.lemmas.text.HeaderFirst.{IsWord, AreWords, AreScript, text_is}
 use Rattle.certify.specs.reading.Language.{Hand, Nothing, commands_of, with_ask, written, reading}
-use Rattle.certify.specs.reading.Commands.{Holds, any_header, meaning, TakesToken, Means, HasWhole, TakesBytes, EndsSo, EndsLast, HasRead}
+use Rattle.certify.specs.reading.Commands.{Holds, any_header, meaning, TakesToken, Means, MeansIf, HasWhole, TakesBytes, EndsSo, EndsLast, HasRead}
 use Rattle.certify.specs.declared.reading.Reached.{Reached}
 use Rattle.certify.specs.declared.reading.Reached.TheVariants as reached
 use Rattle.certify.specs.declared.reading.ScriptEnd.{ScriptEnd}
@@ -21,48 +21,48 @@ use Rattle.certify.specs.declared.reading.reader.ScriptReader.{ScriptReader}
 abbrev pub reader : Tokenizer → Commands → ScriptReader
 reader tokenizer commands = record { tokenizer = tokenizer; commands = commands }
 
-pub bytes_go : (old : ScriptReader) (bytes : List ℕ) (next : Tokenizer) → TakesFront old.tokenizer bytes None next → Follows Means old bytes (reader next old.commands)
-bytes_go old bytes next t before m =
+pub bytes_go : (old : ScriptReader) (bytes : List ℕ) (next : Tokenizer) → TakesFront old.tokenizer bytes None next → (asks : Bool) → Follows (MeansIf asks) old bytes (reader next old.commands)
+bytes_go old bytes next t asks before m =
     let h = t m.scan_of m.stands in (
-      λ rest. meaning old.commands m.hand (spoken (h.0 rest).tokens),
+      λ rest. meaning asks old.commands m.hand (spoken (h.0 rest).tokens),
       record { hand = m.hand; holds = m.holds; scan_of = h.0; stands = h.1; reads = λ rest. refl },
-      λ rest. m.reads (bytes ++ rest) ∙ ap (λ (s : Scan). meaning old.commands m.hand (spoken s.tokens)) (h.2 rest),
+      λ rest. m.reads (bytes ++ rest) ∙ ap (λ (s : Scan). meaning asks old.commands m.hand (spoken s.tokens)) (h.2 rest),
     )
 
 pub bytes_take : (r : Reached) (old : ScriptReader) (bytes : List ℕ) (t : CodeToken) (next : Tokenizer) (new : Commands) → TakesFront old.tokenizer bytes (Some t) next
     → ((given : Token) → t ≡ held_token given → TakesToken r old.commands given new) → TakesBytes r old bytes (reader next new)
-bytes_take reached.More old bytes t next new k r = λ before m.
+bytes_take reached.More old bytes t next new k r = λ asks before m.
     let h = k m.scan_of m.stands in
     let given = h.2.0 in
     let n = r given h.2.1 m.hand m.holds in (
-      λ rest. meaning new n.0 (spoken (h.0 rest).tokens),
+      λ rest. meaning asks new n.0 (spoken (h.0 rest).tokens),
       record { hand = n.0; holds = n.1; scan_of = h.0; stands = h.1; reads = λ rest. refl },
-      λ rest. m.reads (bytes ++ rest) ∙ ap (λ (s : Scan). meaning old.commands m.hand (spoken s.tokens)) (h.2.2 rest) ∙ n.2 (spoken (h.0 rest).tokens),
+      λ rest. m.reads (bytes ++ rest) ∙ ap (λ (s : Scan). meaning asks old.commands m.hand (spoken s.tokens)) (h.2.2 rest) ∙ n.2 asks (spoken (h.0 rest).tokens),
     )
-bytes_take reached.Command old bytes t next new k r = λ before m.
+bytes_take reached.Command old bytes t next new k r = λ asks before m.
     let h = k m.scan_of m.stands in
     let given = h.2.0 in
     let n = r given h.2.1 m.hand m.holds in
     record {
       command = n.0;
       whole = record { whole = n.1 };
-      after = λ rest. meaning new Nothing (spoken (h.0 rest).tokens);
+      after = λ rest. meaning asks new Nothing (spoken (h.0 rest).tokens);
       stands = record { hand = Nothing; holds = n.2; scan_of = h.0; stands = h.1; reads = λ rest. refl };
-      reads = λ rest. m.reads (bytes ++ rest) ∙ ap (λ (s : Scan). meaning old.commands m.hand (spoken s.tokens)) (h.2.2 rest) ∙ n.3 (spoken (h.0 rest).tokens);
+      reads = λ rest. m.reads (bytes ++ rest) ∙ ap (λ (s : Scan). meaning asks old.commands m.hand (spoken s.tokens)) (h.2.2 rest) ∙ n.3 asks (spoken (h.0 rest).tokens);
     }
-bytes_take reached.Malformed old bytes t next new k r = λ before m rest.
+bytes_take reached.Malformed old bytes t next new k r = λ asks before m rest.
     let h = k m.scan_of m.stands in
-    m.reads (bytes ++ rest) ∙ ap (λ (s : Scan). meaning old.commands m.hand (spoken s.tokens)) (h.2.2 rest) ∙ r h.2.0 h.2.1 m.hand m.holds (spoken (h.0 rest).tokens)
+    m.reads (bytes ++ rest) ∙ ap (λ (s : Scan). meaning asks old.commands m.hand (spoken s.tokens)) (h.2.2 rest) ∙ r h.2.0 h.2.1 m.hand m.holds asks (spoken (h.0 rest).tokens)
 
 -- some bytes, and then others
-pub followed : (r : Reached) (a b c : ScriptReader) (xs ys : List ℕ) → Follows Means a xs b → TakesBytes r b ys c → TakesBytes r a (xs ++ ys) c
-followed reached.More a b c xs ys f t = λ before m.
-    let h = f before m in
-    let k = t h.0 h.1 in
+pub followed : (r : Reached) (a b c : ScriptReader) (xs ys : List ℕ) → ((asks : Bool) → Follows (MeansIf asks) a xs b) → TakesBytes r b ys c → TakesBytes r a (xs ++ ys) c
+followed reached.More a b c xs ys f t = λ asks before m.
+    let h = f asks before m in
+    let k = t asks h.0 h.1 in
     (k.0, k.1, λ rest. ap before (append_assoc xs ys rest) ∙ h.2 (ys ++ rest) ∙ k.2 rest)
-followed reached.Command a b c xs ys f t = λ before m.
-    let h = f before m in
-    let k = t h.0 h.1 in
+followed reached.Command a b c xs ys f t = λ asks before m.
+    let h = f asks before m in
+    let k = t asks h.0 h.1 in
     record {
       command = k.command;
       whole = k.whole;
@@ -70,12 +70,12 @@ followed reached.Command a b c xs ys f t = λ before m.
       stands = k.stands;
       reads = λ rest. ap before (append_assoc xs ys rest) ∙ h.2 (ys ++ rest) ∙ k.reads rest;
     }
-followed reached.Malformed a b c xs ys f t = λ before m rest.
-    let h = f before m in
-    ap before (append_assoc xs ys rest) ∙ h.2 (ys ++ rest) ∙ t h.0 h.1 rest
+followed reached.Malformed a b c xs ys f t = λ asks before m rest.
+    let h = f asks before m in
+    ap before (append_assoc xs ys rest) ∙ h.2 (ys ++ rest) ∙ t asks h.0 h.1 rest
 
-pub goes_nowhere : (a : ScriptReader) → Follows Means a [] a
-goes_nowhere a before m = (before, m, λ rest. refl)
+pub goes_nowhere : (a : ScriptReader) (asks : Bool) → Follows (MeansIf asks) a [] a
+goes_nowhere a asks before m = (before, m, λ rest. refl)
 
 pub no_more : (xs : List ℕ) (n k : ℕ) → n ≤ length xs → k ≤ length (take (length xs - n) (drop n xs)) → n + k ≤ length xs
 no_more xs n k h i = let l = length-take (length xs - n) (drop n xs) in omega arith
@@ -84,27 +84,27 @@ no_more xs n k h i = let l = length-take (length xs - n) (drop n xs) in omega ar
 front_and : (n k : ℕ) (xs : List ℕ) → n ≤ length xs → k ≤ length (take (length xs - n) (drop n xs)) → take (n + k) xs ≡ take n xs ++ take k (take (length xs - n) (drop n xs))
 front_and n k xs h i = take-add n k xs ∙ ap (λ (ys : List ℕ). take n xs ++ ys) (sym (take-take k (length xs - n) (drop n xs) (let l = length-take (length xs - n) (drop n xs) in omega arith)))
 
-pub followed_front : (r : Reached) (a b c : ScriptReader) (xs : List ℕ) (n k : ℕ) → n ≤ length xs → k ≤ length (take (length xs - n) (drop n xs)) → Follows Means a (take n xs) b
+pub followed_front : (r : Reached) (a b c : ScriptReader) (xs : List ℕ) (n k : ℕ) → n ≤ length xs → k ≤ length (take (length xs - n) (drop n xs)) → ((asks : Bool) → Follows (MeansIf asks) a (take n xs) b)
     → TakesBytes r b (take k (take (length xs - n) (drop n xs))) c → TakesBytes r a (take (n + k) xs) c
 followed_front r a b c xs n k h i f t =
     subst (λ (bs : List ℕ). TakesBytes r a bs c) (sym (front_and n k xs h i)) (followed r a b c (take n xs) (take k (take (length xs - n) (drop n xs))) f t)
 
 -- THE END
-pub ends_none : (old : ScriptReader) (before : List ℕ → Reading) (r : Reading) → ((scan_of : List ℕ → Scan) → Stands old.tokenizer scan_of → GivesLast None (scan_of [])) → Means old before
-    → ((hand : Hand) → Holds old.commands.draft hand → r ≡ meaning old.commands hand []) → before [] ≡ r
-ends_none old before r k m e = m.reads [] ∙ ap (λ (ts : List (ℕ × Token)). meaning old.commands m.hand (spoken ts)) (k m.scan_of m.stands) ∙ sym (e m.hand m.holds)
+pub ends_none : (asks : Bool) (old : ScriptReader) (before : List ℕ → Reading) (r : Reading) → ((scan_of : List ℕ → Scan) → Stands old.tokenizer scan_of → GivesLast None (scan_of [])) → MeansIf asks old before
+    → ((hand : Hand) → Holds old.commands.draft hand → r ≡ meaning asks old.commands hand []) → before [] ≡ r
+ends_none asks old before r k m e = m.reads [] ∙ ap (λ (ts : List (ℕ × Token)). meaning asks old.commands m.hand (spoken ts)) (k m.scan_of m.stands) ∙ sym (e m.hand m.holds)
 
-lasts : (completes : Bool) (e : ScriptEnd) (new : ScriptReader) (r : Reading) → EndsSo completes e new.commands r → EndsLast completes e new r
-lasts true e new r h = (h.0, record { whole = h.1 }, h.2)
-lasts false e new r h = h
+lasts : (asks completes : Bool) (e : ScriptEnd) (new : ScriptReader) (r : Reading) → EndsSo asks completes e new.commands r → EndsLast asks completes e new r
+lasts asks true e new r h = (h.0, record { whole = h.1 }, h.2)
+lasts asks false e new r h = h
 
-pub ends_some : (old new : ScriptReader) (t : CodeToken) (completes : Bool) (e : ScriptEnd) (before : List ℕ → Reading) → ((scan_of : List ℕ → Scan) → Stands old.tokenizer scan_of → GivesLast (Some t) (scan_of [])) → Means old before
-    → ((given : Token) → t ≡ held_token given → (hand : Hand) → Holds old.commands.draft hand → EndsSo completes e new.commands (meaning old.commands hand (given ∷ [])))
-    → EndsLast completes e new (before [])
-ends_some old new t completes e before k m r =
+pub ends_some : (asks : Bool) (old new : ScriptReader) (t : CodeToken) (completes : Bool) (e : ScriptEnd) (before : List ℕ → Reading) → ((scan_of : List ℕ → Scan) → Stands old.tokenizer scan_of → GivesLast (Some t) (scan_of [])) → MeansIf asks old before
+    → ((given : Token) → t ≡ held_token given → (hand : Hand) → Holds old.commands.draft hand → EndsSo asks completes e new.commands (meaning asks old.commands hand (given ∷ [])))
+    → EndsLast asks completes e new (before [])
+ends_some asks old new t completes e before k m r =
     let h = k m.scan_of m.stands in
-    let same : before [] ≡ meaning old.commands m.hand (h.0 ∷ []) = m.reads [] ∙ ap (λ (ts : List (ℕ × Token)). meaning old.commands m.hand (spoken ts)) h.2 in
-    subst (λ (x : Reading). EndsLast completes e new x) (sym same) (lasts completes e new (meaning old.commands m.hand (h.0 ∷ [])) (r h.0 h.1 m.hand m.holds))
+    let same : before [] ≡ meaning asks old.commands m.hand (h.0 ∷ []) = m.reads [] ∙ ap (λ (ts : List (ℕ × Token)). meaning asks old.commands m.hand (spoken ts)) h.2 in
+    subst (λ (x : Reading). EndsLast asks completes e new x) (sym same) (lasts asks completes e new (meaning asks old.commands m.hand (h.0 ∷ [])) (r h.0 h.1 m.hand m.holds))
 
 -- WHOLE TEXTS
 words_none : (ts : List Token) → AreWords ts → any_header ts ≡ false
@@ -145,7 +145,7 @@ and_true : (b : Bool) → (b && true) ≡ b
 and_true true = refl
 and_true false = refl
 
-pub read_from_start : (c : Commands) (text : List ℕ) → c.headed ≡ false → c.asked ≡ false → reading text ≡ meaning c Nothing (spoken (scan text).tokens)
+pub read_from_start : (c : Commands) (text : List ℕ) → c.headed ≡ false → c.asked ≡ false → reading text ≡ meaning true c Nothing (spoken (scan text).tokens)
 read_from_start c text h a =
     reading_is text
     ∙ ap (λ (b : Bool). with_ask b (commands_of Nothing (spoken (tokens text)))) (sym (headed_by (tokens text) (text_is text)) ∙ sym (and_true (any_header (spoken (tokens text)))))
@@ -154,13 +154,20 @@ read_from_start c text h a =
 pub means_first : (tokenizer : Tokenizer) (commands : Commands) → Stands tokenizer scan → Holds commands.draft Nothing → commands.headed ≡ false → commands.asked ≡ false → Means (reader tokenizer commands) reading
 means_first tokenizer commands s n h a = record { hand = Nothing; holds = n; scan_of = scan; stands = s; reads = λ text. read_from_start commands text h a }
 
+written_is : (text : List ℕ) → written text ≡ commands_of Nothing (spoken (tokens text))
+unfolding written
+written_is text = refl
+
+pub counts_first : (tokenizer : Tokenizer) (commands : Commands) → Stands tokenizer scan → Holds commands.draft Nothing → MeansIf false (reader tokenizer commands) written
+counts_first tokenizer commands s n = record { hand = Nothing; holds = n; scan_of = scan; stands = s; reads = λ text. written_is text }
+
 -- FRONTS OF TEXTS
 pub read_nothing : (a : ScriptReader) → Means a reading → HasRead a [] []
 read_nothing a m = record { after = reading; stands = m; reads = λ rest. refl }
 
 pub read_more : (a b : ScriptReader) (text piece : List ℕ) (cs : List Command) → HasRead a text cs → TakesBytes reached.More a piece b → HasRead b (text ++ piece) cs
 read_more a b text piece cs h t =
-    let k = t h.after h.stands in
+    let k = t true h.after h.stands in
     record { after = k.0; stands = k.1; reads = λ rest. ap reading (append_assoc text piece rest) ∙ h.reads (piece ++ rest) ∙ ap (onto_commands cs) (k.2 rest) }
 
 onto-onto : (a b : List Command) (r : Reading) → onto_commands a (onto_commands b r) ≡ onto_commands (a ++ b) r
@@ -169,7 +176,7 @@ onto-onto a b r = ap (λ (cs : List Command). (cs, r.1)) (sym (append_assoc a b 
 pub read_command : (a b : ScriptReader) (text piece : List ℕ) (cs : List Command) → HasRead a text cs → TakesBytes reached.Command a piece b
     → (c : Command) × HasWhole b c × HasRead b (text ++ piece) (cs ++ c ∷ [])
 read_command a b text piece cs h t =
-    let k = t h.after h.stands in (
+    let k = t true h.after h.stands in (
       k.command,
       k.whole,
       record {
@@ -180,4 +187,4 @@ read_command a b text piece cs h t =
     )
 
 pub read_malformed : (a b : ScriptReader) (text piece : List ℕ) (cs : List Command) → HasRead a text cs → TakesBytes reached.Malformed a piece b → (rest : List ℕ) → reading (text ++ (piece ++ rest)) ≡ (cs, Malformed)
-read_malformed a b text piece cs h t rest = h.reads (piece ++ rest) ∙ ap (onto_commands cs) (t h.after h.stands rest) ∙ ap (λ (ds : List Command). (ds, Malformed)) (append-nil cs)
+read_malformed a b text piece cs h t rest = h.reads (piece ++ rest) ∙ ap (onto_commands cs) (t true h.after h.stands rest) ∙ ap (λ (ds : List Command). (ds, Malformed)) (append-nil cs)

@@ -1,5 +1,5 @@
 -- Scripts that are read command by command.
-use Rattle.std.proofs.Common.{◌≡◌, ℕ, ◌+◌, ◌-◌, ◌*◌, ◌<◌, ◌≤◌, true, false, List, [], ◌∷◌, ◌++◌, length, length-append, take, drop, Option, Some, None, Ok, Err, refl, sym, ap, subst, ◌∙◌, append_assoc, arith}
+use Rattle.std.proofs.Common.{◌≡◌, ℕ, ◌+◌, ◌-◌, ◌*◌, ◌<◌, ◌≤◌, Bool, true, false, List, [], ◌∷◌, ◌++◌, length, length-append, take, drop, Option, Some, None, Ok, Err, refl, sym, ap, subst, ◌∙◌, append_assoc, arith}
 use Rattle.std.proofs.lemmas.List.{length-take, length-take-le, take-append-drop}
 use Rattle.sat_base.specs.device.Device.{Reader, most_reads}
 use Rattle.sat_base.specs.device.Reading.{Source, AtEnd, PassesBut, Passes, PassesToEnd, AllTaken, none_given}
@@ -10,7 +10,7 @@ use Rattle.sat_base.specs.declared.device.whole.ReadError.TheVariants as errors
 use Rattle.sat_base.proofs.lemmas.device.ReadLemmas.{gave_some, gave_nothing, passes_more}
 use Rattle.certify.specs.confirm.Streams.{Covers, rest_in}
 use Rattle.certify.specs.reading.Ahead.{Failed, Kept, Refills, Took, source_in, waiting}
-use Rattle.certify.specs.reading.Commands.{EndsLast, Means, TakesBytes, end_reading}
+use Rattle.certify.specs.reading.Commands.{EndsLast, MeansIf, TakesBytes, end_if}
 use Rattle.certify.specs.reading.Streaming.{Arrives, Brings, Comes, Finishes, Takes}
 use Rattle.certify.specs.declared.ahead.Ahead.{Ahead}
 use Rattle.certify.specs.declared.reading.Reached.{Reached}
@@ -45,13 +45,13 @@ module _ {R : Type 0} (seen : R → Reader) (r : R) (old new : CommandStream) (s
   pub brings_command : Takes {E = ReadError} (Ok reached.Command) old new → Brings (Ok (Some next.Command)) (source_in seen r old.ahead) (source_in seen r new.ahead) old.reader new.reader
   brings_command t = came seen r reached.Command old new some t
 
-  module _ (e : ScriptEnd) (malformed : end_reading e ≡ ([], Malformed)) where
+  module _ (e : ScriptEnd) (malformed : (asks : Bool) → end_if asks e ≡ ([], Malformed)) where
     pub brings_malformed : (AtEnd (source_in seen r old.ahead) → ⊥) → Takes {E = ReadError} (Ok reached.Malformed) old new → Brings (Ok (Some (next.End e))) (source_in seen r old.ahead) (source_in seen r new.ahead) old.reader new.reader
     brings_malformed open_yet t =
         let h = came seen r reached.Malformed old new some t in (
           took_halted (source_in seen r old.ahead) (source_in seen r new.ahead) open_yet (h.0, h.1),
-          λ before m total c.
-              ap before (taken_front 0 (source_in seen r old.ahead) (source_in seen r new.ahead) h.0 total h.1 c) ∙ h.3 before m (rest_in total (source_in seen r new.ahead)) ∙ sym malformed,
+          λ asks before m total c.
+              ap before (taken_front 0 (source_in seen r old.ahead) (source_in seen r new.ahead) h.0 total h.1 c) ∙ h.3 asks before m (rest_in total (source_in seen r new.ahead)) ∙ sym (malformed asks),
         )
 
 -- fewer rounds are left
@@ -83,26 +83,26 @@ refill_ends n next.Command a b old new none h f = absurd f
 refill_ends n (next.Last e) a b old new none h f = ([], (gave_nothing n a b none h.0, h.1 none), f)
 refill_ends n (next.End e) a b old new none h f =
     let ends : PassesToEnd a b [] = (gave_nothing n a b none h.0, h.1 none) in
-    ((([], ends.0), λ x. all_over b ends.1), λ before m total c. ap before (nothing_behind a b [] total ends c) ∙ f before m)
+    ((([], ends.0), λ x. all_over b ends.1), λ asks before m total c. ap before (nothing_behind a b [] total ends c) ∙ f asks before m)
 
 -- ONE AFTER ANOTHER
 
-module _ (a b c : Source) (old mid new : ScriptReader) (text : List ℕ) (open_yet : AtEnd a → ⊥) (p : Passes a b text) (f : Follows Means old text mid) where
+module _ (a b c : Source) (old mid new : ScriptReader) (text : List ℕ) (open_yet : AtEnd a → ⊥) (p : Passes a b text) (f : (asks : Bool) → Follows (MeansIf asks) old text mid) where
   pub brings_then : (e : ReadError) → Brings (Err e) b c mid new → Comes (Err e) a c old new
   brings_then errors.Failed h = failed_then a b c (text, p) h
   brings_then errors.OutOfMemory h = kept_then a b c (took_kept true a b (text, p)) h
 
-  pub follows_more : Brings (Ok None) b c mid new → (whole : List ℕ) × Passes a c whole × Follows Means old whole new
+  pub follows_more : Brings (Ok None) b c mid new → (whole : List ℕ) × Passes a c whole × ((asks : Bool) → Follows (MeansIf asks) old whole new)
   follows_more h = (text ++ h.0, passes_more a b c text h.0 p h.1, followed reached.More old mid new text h.0 f h.2)
 
   pub arrives_then : (n : Next) → Arrives n b c mid new → Arrives n a c old new
   arrives_then next.Command h = let l = length-append text h.0 in (text ++ h.0, passes_more a b c text h.0 p h.1, (let k = h.2 in omega arith), followed reached.Command old mid new text h.0 f h.3)
-  arrives_then (next.Last e) h = (text ++ h.0, (passes_more a b c text h.0 p h.1.0, h.1.1), λ before m. let k = f before m in subst (λ (r : Reading). EndsLast true e new r) (sym (k.2 h.0)) (h.2 k.0 k.1))
+  arrives_then (next.Last e) h = (text ++ h.0, (passes_more a b c text h.0 p h.1.0, h.1.1), λ asks before m. let k = f asks before m in subst (λ (r : Reading). EndsLast asks true e new r) (sym (k.2 h.0)) (h.2 asks k.0 k.1))
   arrives_then (next.End e) h = (
     took_then false a b c (text, p) h.0,
-    λ before m total k.
-        let g = f before m in
-        ap before (taken_front 0 a b text total p (covers_took false b c total (stays_open a b text open_yet p) h.0 k)) ∙ g.2 (rest_in total b) ∙ h.1 g.0 g.1 total k,
+    λ asks before m total k.
+        let g = f asks before m in
+        ap before (taken_front 0 a b text total p (covers_took false b c total (stays_open a b text open_yet p) h.0 k)) ∙ g.2 (rest_in total b) ∙ h.1 asks g.0 g.1 total k,
   )
 
 pub some_bytes : (xs : List ℕ) → (xs ≡ [] → ⊥) → 0 < length xs

@@ -7,7 +7,7 @@ use Rattle.sat_base.specs.text.Text.{Token, Number, Letter, Header, Wrong}
 use Rattle.sat_base.specs.text.Tokenizing.{held, held_token}
 use Rattle.sat_base.specs.script.Script.{Literal, Command, Clause, Ask, Hide, Witness, Sample, Ending, Clean, Malformed, Reading, onto_commands, has_ask, is_clean}
 use Rattle.certify.specs.reading.Language.{Kind, OfClause, OfAsk, OfHide, OfWitness, OfSample, command_of, Hand, Nothing, Within, Turn, GoesOn, Ends, Fails, command_in, may_stand, with_literal, kind_of_letter, beginning, with_letter, turn, at_end, behind_turn, commands_of, with_ask}
-use Rattle.certify.specs.reading.Commands.{kind_of, is_ask_kind, IsWhole, Holds, opened, is_header, any_header, meaning, TakesToken, end_reading}
+use Rattle.certify.specs.reading.Commands.{kind_of, is_ask_kind, IsWhole, Holds, opened, is_header, any_header, meaning, TakesToken, end_if}
 use Rattle.certify.specs.declared.reading.Reached.TheVariants as reached
 use Rattle.certify.specs.declared.reading.ScriptEnd.TheVariants as ends
 use Rattle.certify.specs.declared.reading.draft.Draft.{Draft}
@@ -70,31 +70,36 @@ ask_onto h a (Hide names) r = rw (or_false a) (plain_onto (h && not a) (Hide nam
 ask_onto h a (Witness names) r = rw (or_false a) (plain_onto (h && not a) (Witness names) r refl)
 ask_onto h a (Sample names) r = rw (or_false a) (plain_onto (h && not a) (Sample names) r refl)
 
-asks : (k : Kind) (ls : List Literal) → is_ask (command_of k ls) ≡ is_ask_kind k
-asks OfClause ls = refl
-asks OfAsk ls = refl
-asks OfHide ls = refl
-asks OfWitness ls = refl
-asks OfSample ls = refl
+-- so where the header's ask isn't asked for
+ask_onto_if : (asks h a : Bool) (c : Command) (r : Reading) → with_ask (asks && (h && not a)) (onto_commands (c ∷ []) r) ≡ onto_commands (c ∷ []) (with_ask (asks && (h && not (a || is_ask c))) r)
+ask_onto_if true h a c r = ask_onto h a c r
+ask_onto_if false h a c r = refl
+
+is_asked : (k : Kind) (ls : List Literal) → is_ask (command_of k ls) ≡ is_ask_kind k
+is_asked OfClause ls = refl
+is_asked OfAsk ls = refl
+is_asked OfHide ls = refl
+is_asked OfWitness ls = refl
+is_asked OfSample ls = refl
 
 -- TOKENS
-behind : (old : Commands) (hand : Hand) (t : Token) (k : Turn) (ts : List Token) → turn hand t ≡ k
-    → meaning old hand (t ∷ ts) ≡ with_ask ((old.headed || (is_header t || any_header ts)) && not old.asked) (behind_turn k (λ d. commands_of d ts))
-behind old hand t k ts e =
-    ap (with_ask ((old.headed || (is_header t || any_header ts)) && not old.asked)) (commands_of_cons hand t ts ∙ ap (λ (j : Turn). behind_turn j (λ d. commands_of d ts)) e)
+behind : (asks : Bool) (old : Commands) (hand : Hand) (t : Token) (k : Turn) (ts : List Token) → turn hand t ≡ k
+    → meaning asks old hand (t ∷ ts) ≡ with_ask (asks && ((old.headed || (is_header t || any_header ts)) && not old.asked)) (behind_turn k (λ d. commands_of d ts))
+behind asks old hand t k ts e =
+    ap (with_ask (asks && ((old.headed || (is_header t || any_header ts)) && not old.asked))) (commands_of_cons hand t ts ∙ ap (λ (j : Turn). behind_turn j (λ d. commands_of d ts)) e)
 
 -- a token that is no header, behind which the command goes on
 pub goes_on : (old new : Commands) (hand next : Hand) (t : Token) → is_header t ≡ false → new.headed ≡ old.headed → new.asked ≡ old.asked → turn hand t ≡ GoesOn next
-    → (ts : List Token) → meaning old hand (t ∷ ts) ≡ meaning new next ts
-goes_on old new hand next t w h a e ts = behind old hand t (GoesOn next) ts e ∙ rw (w, h, a) refl
+    → (asks : Bool) (ts : List Token) → meaning asks old hand (t ∷ ts) ≡ meaning asks new next ts
+goes_on old new hand next t w h a e asks ts = behind asks old hand t (GoesOn next) ts e ∙ rw (w, h, a) refl
 
-pub fails : (old : Commands) (hand : Hand) (t : Token) → turn hand t ≡ Fails → (ts : List Token) → meaning old hand (t ∷ ts) ≡ ([], Malformed)
-fails old hand t e ts = behind old hand t Fails ts e ∙ malformed_if ((old.headed || (is_header t || any_header ts)) && not old.asked)
+pub fails : (old : Commands) (hand : Hand) (t : Token) → turn hand t ≡ Fails → (asks : Bool) (ts : List Token) → meaning asks old hand (t ∷ ts) ≡ ([], Malformed)
+fails old hand t e asks ts = behind asks old hand t Fails ts e ∙ malformed_if (asks && ((old.headed || (is_header t || any_header ts)) && not old.asked))
 
 -- a header
 pub header_taken : (old new : Commands) (v c : ℕ) → new ≡ record old { headed = true } → TakesToken reached.More old (Header v c) new
 header_taken old new v c e hand h =
-    let whole = λ (ts : List Token). behind old hand (Header v c) (GoesOn hand) ts refl ∙ ap (λ (b : Bool). with_ask (b && not old.asked) (commands_of hand ts)) (or_true old.headed) in
+    let whole = λ (asks : Bool) (ts : List Token). behind asks old hand (Header v c) (GoesOn hand) ts refl ∙ ap (λ (b : Bool). with_ask (asks && (b && not old.asked)) (commands_of hand ts)) (or_true old.headed) in
     rw e (hand, h, whole)
 
 -- a zero
@@ -103,13 +108,13 @@ pub zero_taken : (old new : Commands) (negative : Bool) → new.headed ≡ old.h
 zero_taken old new negative h a none whole hand holds =
     let c = command_in hand in
     let w = whole hand holds in
-    let k : is_ask c ≡ is_ask_kind (kind_of new.draft.kind) = ap is_ask w.2 ∙ asks (kind_of new.draft.kind) w.0 in
+    let k : is_ask c ≡ is_ask_kind (kind_of new.draft.kind) = ap is_ask w.2 ∙ is_asked (kind_of new.draft.kind) w.0 in
     let asked : new.asked ≡ (old.asked || is_ask c) = a ∙ ap (λ (b : Bool). old.asked || b) (sym k) in
-    let read = λ (ts : List Token).
-    behind old hand (Number negative 0) (Ends c) ts refl
-    ∙ ask_onto (old.headed || any_header ts) old.asked c (commands_of Nothing ts)
-    ∙ ap (λ (b : Bool). onto_commands (c ∷ []) (with_ask ((old.headed || any_header ts) && not b) (commands_of Nothing ts))) (sym asked)
-    ∙ ap (λ (b : Bool). onto_commands (c ∷ []) (with_ask ((b || any_header ts) && not new.asked) (commands_of Nothing ts))) (sym h) in
+    let read = λ (asks : Bool) (ts : List Token).
+    behind asks old hand (Number negative 0) (Ends c) ts refl
+    ∙ ask_onto_if asks (old.headed || any_header ts) old.asked c (commands_of Nothing ts)
+    ∙ ap (λ (b : Bool). onto_commands (c ∷ []) (with_ask (asks && ((old.headed || any_header ts) && not b)) (commands_of Nothing ts))) (sym asked)
+    ∙ ap (λ (b : Bool). onto_commands (c ∷ []) (with_ask (asks && ((b || any_header ts) && not new.asked)) (commands_of Nothing ts))) (sym h) in
     (c, w, none, read)
 
 -- a literal
@@ -172,52 +177,59 @@ pub held_some : (v name : ℕ) → name ≡ held v → 0 < name → 0 < v
 held_some v name e h = omega arith
 
 -- THE END
-ends_at : (commands : Commands) (hand : Hand) → meaning commands hand [] ≡ with_ask (commands.headed && not commands.asked) ([], at_end hand)
-ends_at commands hand = ap (λ (b : Bool). with_ask (b && not commands.asked) (commands_of hand [])) (or_false commands.headed) ∙ ap (with_ask (commands.headed && not commands.asked)) (commands_of_nil hand)
+ends_at : (asks : Bool) (commands : Commands) (hand : Hand) → meaning asks commands hand [] ≡ with_ask (asks && (commands.headed && not commands.asked)) ([], at_end hand)
+ends_at asks commands hand = ap (λ (b : Bool). with_ask (asks && (b && not commands.asked)) (commands_of hand [])) (or_false commands.headed) ∙ ap (with_ask (asks && (commands.headed && not commands.asked))) (commands_of_nil hand)
 
-pub ends_inside : (commands : Commands) (hand : Hand) → commands.draft.is_open ≡ true → Holds commands.draft hand → end_reading ends.Malformed ≡ meaning commands hand []
-ends_inside commands Nothing o h = absurd (cc)
-ends_inside commands (Within kind ls) o h = sym (ends_at commands (Within kind ls) ∙ malformed_if (commands.headed && not commands.asked))
+-- malformed text ends so, whatever is asked for
+pub end_malformed : (asks : Bool) → end_if asks ends.Malformed ≡ ([], Malformed)
+end_malformed true = refl
+end_malformed false = refl
 
-pub ends_due : (commands : Commands) (hand : Hand) → commands.draft.is_open ≡ false → Holds commands.draft hand → (commands.headed && not commands.asked) ≡ true → end_reading ends.Asked ≡ meaning commands hand []
-ends_due commands Nothing o h e = sym (ends_at commands Nothing ∙ rw e refl)
-ends_due commands (Within kind ls) o h e = absurd (cc (h.0))
+pub ends_inside : (asks : Bool) (commands : Commands) (hand : Hand) → commands.draft.is_open ≡ true → Holds commands.draft hand → end_if asks ends.Malformed ≡ meaning asks commands hand []
+ends_inside asks commands Nothing o h = absurd (cc)
+ends_inside asks commands (Within kind ls) o h = end_malformed asks ∙ sym (ends_at asks commands (Within kind ls) ∙ malformed_if (asks && (commands.headed && not commands.asked)))
 
-pub ends_clean : (commands : Commands) (hand : Hand) → commands.draft.is_open ≡ false → Holds commands.draft hand → (commands.headed && not commands.asked) ≡ false → end_reading ends.Clean ≡ meaning commands hand []
-ends_clean commands Nothing o h e = sym (ends_at commands Nothing ∙ rw e refl)
-ends_clean commands (Within kind ls) o h e = absurd (cc (h.0))
+pub ends_due : (asks : Bool) (commands : Commands) (hand : Hand) → commands.draft.is_open ≡ false → Holds commands.draft hand → (commands.headed && not commands.asked) ≡ true → end_if asks ends.Asked ≡ meaning asks commands hand []
+ends_due true commands Nothing o h e = sym (ends_at true commands Nothing ∙ rw e refl)
+ends_due false commands Nothing o h e = sym (ends_at false commands Nothing)
+ends_due asks commands (Within kind ls) o h e = absurd (cc (h.0))
+
+pub ends_clean : (asks : Bool) (commands : Commands) (hand : Hand) → commands.draft.is_open ≡ false → Holds commands.draft hand → (commands.headed && not commands.asked) ≡ false → end_if asks ends.Clean ≡ meaning asks commands hand []
+ends_clean true commands Nothing o h e = sym (ends_at true commands Nothing ∙ rw e refl)
+ends_clean false commands Nothing o h e = sym (ends_at false commands Nothing)
+ends_clean asks commands (Within kind ls) o h e = absurd (cc (h.0))
 
 -- a last word that goes on in a command, or fails
-pub ends_with : (commands : Commands) (hand : Hand) (t : Token) → ((kind : Kind) × (ls : List Literal) × (turn hand t ≡ GoesOn (Within kind ls))) → end_reading ends.Malformed ≡ meaning commands hand (t ∷ [])
-ends_with commands hand t x =
-    sym (behind commands hand t (GoesOn (Within x.0 x.1)) [] x.2 ∙ ap (with_ask ((commands.headed || (is_header t || false)) && not commands.asked)) (commands_of_nil (Within x.0 x.1)) ∙ malformed_if ((commands.headed || (is_header t || false)) && not commands.asked))
+pub ends_with : (asks : Bool) (commands : Commands) (hand : Hand) (t : Token) → ((kind : Kind) × (ls : List Literal) × (turn hand t ≡ GoesOn (Within kind ls))) → end_if asks ends.Malformed ≡ meaning asks commands hand (t ∷ [])
+ends_with asks commands hand t x =
+    end_malformed asks ∙ sym (behind asks commands hand t (GoesOn (Within x.0 x.1)) [] x.2 ∙ ap (with_ask (asks && ((commands.headed || (is_header t || false)) && not commands.asked))) (commands_of_nil (Within x.0 x.1)) ∙ malformed_if (asks && ((commands.headed || (is_header t || false)) && not commands.asked)))
 
-pub ends_wrong : (commands : Commands) (hand : Hand) (t : Token) → turn hand t ≡ Fails → end_reading ends.Malformed ≡ meaning commands hand (t ∷ [])
-ends_wrong commands hand t e = sym (fails commands hand t e [])
+pub ends_wrong : (asks : Bool) (commands : Commands) (hand : Hand) (t : Token) → turn hand t ≡ Fails → end_if asks ends.Malformed ≡ meaning asks commands hand (t ∷ [])
+ends_wrong asks commands hand t e = end_malformed asks ∙ sym (fails commands hand t e asks [])
 
-number_at : (commands : Commands) (kind : Kind) (ls : List Literal) (l : Literal) (t : Token) (hand : Hand) (b : Bool) → may_stand kind l.positive ≡ b → turn hand t ≡ cond b (GoesOn (Within kind (ls ++ l ∷ []))) Fails → end_reading ends.Malformed ≡ meaning commands hand (t ∷ [])
-number_at commands kind ls l t hand true m e = ends_with commands hand t (kind, ls ++ l ∷ [], e)
-number_at commands kind ls l t hand false m e = ends_wrong commands hand t e
+number_at : (asks : Bool) (commands : Commands) (kind : Kind) (ls : List Literal) (l : Literal) (t : Token) (hand : Hand) (b : Bool) → may_stand kind l.positive ≡ b → turn hand t ≡ cond b (GoesOn (Within kind (ls ++ l ∷ []))) Fails → end_if asks ends.Malformed ≡ meaning asks commands hand (t ∷ [])
+number_at asks commands kind ls l t hand true m e = ends_with asks commands hand t (kind, ls ++ l ∷ [], e)
+number_at asks commands kind ls l t hand false m e = ends_wrong asks commands hand t e
 
-pub number_ends : (commands : Commands) (hand : Hand) (negative : Bool) (value : ℕ) → 0 < value → end_reading ends.Malformed ≡ meaning commands hand (Number negative value ∷ [])
-number_ends commands Nothing negative value some =
-    ends_with commands Nothing (Number negative value) (OfClause, record { name = value; positive = not negative } ∷ [], turn_number Nothing negative value some)
-number_ends commands (Within kind ls) negative value some =
+pub number_ends : (asks : Bool) (commands : Commands) (hand : Hand) (negative : Bool) (value : ℕ) → 0 < value → end_if asks ends.Malformed ≡ meaning asks commands hand (Number negative value ∷ [])
+number_ends asks commands Nothing negative value some =
+    ends_with asks commands Nothing (Number negative value) (OfClause, record { name = value; positive = not negative } ∷ [], turn_number Nothing negative value some)
+number_ends asks commands (Within kind ls) negative value some =
     let l : Literal = record { name = value; positive = not negative } in
-    number_at commands kind ls l (Number negative value) (Within kind ls) (may_stand kind l.positive) refl (turn_number (Within kind ls) negative value some)
+    number_at asks commands kind ls l (Number negative value) (Within kind ls) (may_stand kind l.positive) refl (turn_number (Within kind ls) negative value some)
 
-letter_at : (commands : Commands) (b : ℕ) (o : Option Kind) → with_letter Nothing b ≡ beginning o → end_reading ends.Malformed ≡ meaning commands Nothing (Letter b ∷ [])
-letter_at commands b None e = ends_wrong commands Nothing (Letter b) e
-letter_at commands b (Some kind) e = ends_with commands Nothing (Letter b) (kind, [], e)
+letter_at : (asks : Bool) (commands : Commands) (b : ℕ) (o : Option Kind) → with_letter Nothing b ≡ beginning o → end_if asks ends.Malformed ≡ meaning asks commands Nothing (Letter b ∷ [])
+letter_at asks commands b None e = ends_wrong asks commands Nothing (Letter b) e
+letter_at asks commands b (Some kind) e = ends_with asks commands Nothing (Letter b) (kind, [], e)
 
-pub letter_ends : (commands : Commands) (hand : Hand) (b : ℕ) → end_reading ends.Malformed ≡ meaning commands hand (Letter b ∷ [])
-letter_ends commands Nothing b = letter_at commands b (kind_of_letter b) refl
-letter_ends commands (Within kind ls) b = ends_wrong commands (Within kind ls) (Letter b) refl
+pub letter_ends : (asks : Bool) (commands : Commands) (hand : Hand) (b : ℕ) → end_if asks ends.Malformed ≡ meaning asks commands hand (Letter b ∷ [])
+letter_ends asks commands Nothing b = letter_at asks commands b (kind_of_letter b) refl
+letter_ends asks commands (Within kind ls) b = ends_wrong asks commands (Within kind ls) (Letter b) refl
 
 -- behind a last header
-pub header_ends : (old new : Commands) (hand : Hand) (v c : ℕ) → new ≡ record old { headed = true } → meaning old hand (Header v c ∷ []) ≡ meaning new hand []
-header_ends old new hand v c e =
-    let whole = behind old hand (Header v c) (GoesOn hand) [] refl ∙ ap (λ (b : Bool). with_ask (b && not old.asked) (commands_of hand [])) (or_true old.headed) in
+pub header_ends : (asks : Bool) (old new : Commands) (hand : Hand) (v c : ℕ) → new ≡ record old { headed = true } → meaning asks old hand (Header v c ∷ []) ≡ meaning asks new hand []
+header_ends asks old new hand v c e =
+    let whole = behind asks old hand (Header v c) (GoesOn hand) [] refl ∙ ap (λ (b : Bool). with_ask (asks && (b && not old.asked)) (commands_of hand [])) (or_true old.headed) in
     rw e whole
 
 pub if_ok : {A E : Type 0} (r : Result A E) (P Q : A → Type 0) → ((x : A) → P x → Q x) → IfOk r P → IfOk r Q

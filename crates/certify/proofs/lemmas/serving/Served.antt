@@ -24,7 +24,7 @@ serves_none budget a = record {
   certifies = λ all left rest counts c. c;
 }
 
-spent_both : (budget before : ℕ) (rs qs : List AskReport) → AreSpent budget before rs → AreSpent budget (before + steps_of rs) qs → AreSpent budget before (rs ++ qs)
+pub spent_both : (budget before : ℕ) (rs qs : List AskReport) → AreSpent budget before rs → AreSpent budget (before + steps_of rs) qs → AreSpent budget before (rs ++ qs)
 spent_both budget before [] qs h k = subst (λ m. AreSpent budget m qs) (let e : before + 0 ≡ before = omega arith in e) k
 spent_both budget before (r ∷ rs) qs h k =
     let e : before + (r.steps + steps_of rs) ≡ before + r.steps + steps_of rs = omega arith in

@@ -1,5 +1,5 @@
 use Rattle.std.proofs.Common.{ℕ, ◌≡◌, ◌∙◌, List, IfOk, sym, subst}
-use Rattle.sat_base.specs.script.Script.{reading}
+use Rattle.certify.specs.reading.Language.{reading}
 use Rattle.certify.specs.program.Printing.{Prints, is_malformed}
 use Rattle.certify.proofs.lemmas.program.PrintedVerdicts.{prints_given}
 use Rattle.certify.proofs.program.standard.answer.Goals as goal

@@ -1,4 +1,4 @@
-use Rattle.std.proofs.Common.{◌≡◌, ◌<◌, Ok, Err, List, ℕ, refl, sym, ◌∙◌, ap, subst}
+use Rattle.std.proofs.Common.{◌≡◌, ◌<◌, Ok, Err, List, ℕ, true, refl, sym, ◌∙◌, ap, subst}
 use Rattle.std.proofs.lemmas.Result.{err_from_is_err_and}
 use Rattle.certify.specs.confirm.Streams.{bytes_left}
 use Rattle.certify.specs.matching.Confirming.{table_of}
@@ -60,7 +60,7 @@ confirm_last-requires-clause-whole g c =
     let a = script_in S l.script l.self in
     let b = source_in S c.next.new.script c.next.new.self.ahead in
     let came = subst (λ (n : Next). Arrives n a b l.self.script.reader c.next.new.self.reader) c.in-Last.is c.in-Ok.ensures in
-    let k = came.2 l.invariant.through.left l.invariant.through.means in
+    let k = came.2 true l.invariant.through.left l.invariant.through.means in
     (k.0, k.1)
 
 pub returns-in-Last-clause-ends : goal.returns-in-Last-clause-ends
@@ -85,7 +85,7 @@ returns-in-Last-clause-same g c =
     let a = script_in S l.script l.self in
     let b = source_in S c.next.new.script c.next.new.self.ahead in
     let came = subst (λ (n : Next). Arrives n a b l.self.script.reader c.next.new.self.reader) c.in-Last.is c.in-Ok.ensures in
-    let k = came.2 l.invariant.through.left l.invariant.through.means in
+    let k = came.2 true l.invariant.through.left l.invariant.through.means in
     (c.confirm_last.ensures.confirms k.0 k.1).same ∙ l.invariant.same
 
 pub returns-in-Last-clause-bound : goal.returns-in-Last-clause-bound
@@ -95,7 +95,7 @@ returns-in-Last-clause-bound g c =
     let a = script_in S l.script l.self in
     let b = source_in S c.next.new.script c.next.new.self.ahead in
     let came = subst (λ (n : Next). Arrives n a b l.self.script.reader c.next.new.self.reader) c.in-Last.is c.in-Ok.ensures in
-    let k = came.2 l.invariant.through.left l.invariant.through.means in
+    let k = came.2 true l.invariant.through.left l.invariant.through.means in
     (c.confirm_last.ensures.confirms k.0 k.1).bound
 
 pub confirm_next-requires-clause-whole : goal.confirm_next-requires-clause-whole
@@ -105,7 +105,7 @@ confirm_next-requires-clause-whole g c =
     let a = script_in S l.script l.self in
     let b = source_in S c.next.new.script c.next.new.self.ahead in
     let came = subst (λ (n : Next). Arrives n a b l.self.script.reader c.next.new.self.reader) c.in-Command.is c.in-Ok.ensures in
-    let k = came.3 l.invariant.through.left l.invariant.through.means in
+    let k = came.3 true l.invariant.through.left l.invariant.through.means in
     (k.command, k.whole)
 
 pub returns-in_err-confirm_next-in-Command-clause-ends : goal.returns-in_err-confirm_next-in-Command-clause-ends
@@ -131,7 +131,7 @@ returns-in_err-confirm_next-in-Command-clause-same g c =
     let a = script_in S l.script l.self in
     let b = source_in S c.next.new.script c.next.new.self.ahead in
     let came = subst (λ (n : Next). Arrives n a b l.self.script.reader c.next.new.self.reader) c.in-Command.is c.in-Ok.ensures in
-    let k = came.3 l.invariant.through.left l.invariant.through.means in
+    let k = came.3 true l.invariant.through.left l.invariant.through.means in
     (c.in_err-confirm_next-in-Command.ensures.confirms k.command k.whole).same ∙ l.invariant.same
 
 pub returns-in_err-confirm_next-in-Command-clause-bound : goal.returns-in_err-confirm_next-in-Command-clause-bound
@@ -141,7 +141,7 @@ returns-in_err-confirm_next-in-Command-clause-bound g c =
     let a = script_in S l.script l.self in
     let b = source_in S c.next.new.script c.next.new.self.ahead in
     let came = subst (λ (n : Next). Arrives n a b l.self.script.reader c.next.new.self.reader) c.in-Command.is c.in-Ok.ensures in
-    let k = came.3 l.invariant.through.left l.invariant.through.means in
+    let k = came.3 true l.invariant.through.left l.invariant.through.means in
     (c.in_err-confirm_next-in-Command.ensures.confirms k.command k.whole).bound
 
 pub loop-next-preserved : goal.loop-next-preserved
@@ -157,7 +157,7 @@ loop-next-preserved g c =
     let last = c.confirm_next.new.self in
     let new = standing S A C c.next.new.script c.confirm_next.new.answers c.confirm_next.new.steps (record last { script = c.next.new.self }) in
     let came = subst (λ (n : Next). Arrives n a b l.self.script.reader c.next.new.self.reader) c.in-Command.is c.in-Ok.ensures in
-    let w = came.3 l.invariant.through.left l.invariant.through.means in
+    let w = came.3 true l.invariant.through.left l.invariant.through.means in
     let k = c.in_ok-confirm_next-in-Command.ensures.confirms w.command w.whole in
     let script = sym c.in_ok-confirm_next-in-Command.ensures.script in
     record {

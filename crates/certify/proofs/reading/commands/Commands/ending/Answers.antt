@@ -3,10 +3,10 @@ use Rattle.certify.proofs.lemmas.reading.Tokens.{ends_inside, ends_due, ends_cle
 use Rattle.certify.proofs.reading.commands.Commands.ending.Goals as goal
 
 pub returns-then-self : goal.returns-then-self
-returns-then-self c hand h = ends_inside c.args.self.now hand c.if-self.true h
+returns-then-self c asks hand h = ends_inside asks c.args.self.now hand c.if-self.true h
 
 pub returns-then-is_unasked : goal.returns-then-is_unasked
-returns-then-is_unasked c hand h = ends_due c.args.self.now hand c.if-self.false h (sym c.is_unasked.ensures ∙ c.if-is_unasked.true)
+returns-then-is_unasked c asks hand h = ends_due asks c.args.self.now hand c.if-self.false h (sym c.is_unasked.ensures ∙ c.if-is_unasked.true)
 
 pub returns : goal.returns
-returns c hand h = ends_clean c.args.self.now hand c.if-self.false h (sym c.is_unasked.ensures ∙ c.if-is_unasked.false)
+returns c asks hand h = ends_clean asks c.args.self.now hand c.if-self.false h (sym c.is_unasked.ensures ∙ c.if-is_unasked.false)

@@ -1,12 +1,12 @@
-use Rattle.std.proofs.Common.{◌-◌, ◌≤◌, length, take}
+use Rattle.std.proofs.Common.{◌-◌, ◌≤◌, Bool, length, take}
 use Rattle.sat_base.specs.text.Chunks.{Follows}
-use Rattle.certify.specs.reading.Commands.{Means}
+use Rattle.certify.specs.reading.Commands.{MeansIf}
 use Rattle.certify.proofs.reading.reader.ScriptReader.push.Given as goal
 
 abbrev pub invariant-loop-at : goal.invariant-loop-at
 invariant-loop-at l = record {
   within : l.at ≤ length l.bytes;
-  taken : Follows Means l.fn.self (take l.at l.bytes) l.self;
+  taken : (asks : Bool) → Follows (MeansIf asks) l.fn.self (take l.at l.bytes) l.self;
 }
 
 abbrev pub decreases-loop-at : goal.decreases-loop-at

@@ -6,6 +6,7 @@ use Rattle.certify.specs.reading.Ahead.{waiting}
 use Rattle.certify.specs.reading.Streaming.{Takes}
 use Rattle.certify.proofs.lemmas.matching.Compared.{some_list}
 use Rattle.certify.proofs.lemmas.reading.Streaming.{brings_more, brings_command, brings_malformed, some_bytes, taken_fewer}
+use Rattle.certify.proofs.lemmas.reading.Tokens.{end_malformed}
 use Rattle.certify.proofs.reading.stream.CommandStream.advance.Goals as goal
 
 pub returns-in-More-clause-brings : goal.returns-in-More-clause-brings
@@ -38,4 +39,4 @@ returns-in-Malformed-clause-brings g c =
     let old = c.args.self.now in
     let new = c.take.new.self in
     let some = some_bytes (waiting old.ahead) (λ e. some_list c.waiting.result.now c.is_empty.result c.is_empty.ensures c.if-is_empty.false (c.waiting.ensures ∙ e)) in
-    brings_malformed S c.args.script.now old new some ends.Malformed refl c.requires (subst (λ (r : Reached). Takes {E = ReadError} (Ok r) old new) c.in-Malformed.is c.in_ok-take.ensures)
+    brings_malformed S c.args.script.now old new some ends.Malformed end_malformed c.requires (subst (λ (r : Reached). Takes {E = ReadError} (Ok r) old new) c.in-Malformed.is c.in_ok-take.ensures)

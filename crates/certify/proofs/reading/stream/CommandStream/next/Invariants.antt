@@ -1,13 +1,13 @@
-use Rattle.std.proofs.Common.{List, ℕ}
+use Rattle.std.proofs.Common.{Bool, List, ℕ}
 use Rattle.sat_base.specs.device.Reading.{Passes}
 use Rattle.sat_base.specs.text.Chunks.{Follows}
 use Rattle.certify.specs.reading.Ahead.{source_in}
-use Rattle.certify.specs.reading.Commands.{Means}
+use Rattle.certify.specs.reading.Commands.{MeansIf}
 use Rattle.certify.specs.reading.Streaming.{rounds_left}
 use Rattle.certify.proofs.reading.stream.CommandStream.next.Given as goal
 
 abbrev pub invariant-loop-next : goal.invariant-loop-next
-invariant-loop-next g l = (text : List ℕ) × Passes (source_in g.S.CountedRead.seen l.fn.script l.fn.self.ahead) (source_in g.S.CountedRead.seen l.script l.self.ahead) text × Follows Means l.fn.self.reader text l.self.reader
+invariant-loop-next g l = (text : List ℕ) × Passes (source_in g.S.CountedRead.seen l.fn.script l.fn.self.ahead) (source_in g.S.CountedRead.seen l.script l.self.ahead) text × ((asks : Bool) → Follows (MeansIf asks) l.fn.self.reader text l.self.reader)
 
 abbrev pub decreases-loop-next : goal.decreases-loop-next
 decreases-loop-next g l = rounds_left l.self.ahead

@@ -1,0 +1,387 @@
+-- What a run has done at its end.
+use Rattle.std.proofs.Common.{ℕ, ◌+◌, ◌≤◌, ◌≡◌, ◌∙◌, ◌⊎◌, true, false, Option, Some, None, List, [], ◌∷◌, ◌++◌, map, length, Result, Ok, Err, OnOk, IfOk, inl, inr, refl, sym, ap, subst, arith, append-nil}
+use Rattle.std.specs.Prelude.{reverse, IsErrOf}
+use Rattle.sat_base.specs.device.Device.{Reader, Writer, GaveEnough, ReadFails, Takes, lent_writer, most_reads}
+use Rattle.sat_base.specs.device.Reading.{Source, AtEnd, unread}
+use Rattle.sat_base.specs.device.Sink.{empty_sink}
+use Rattle.sat_base.specs.script.Script.{Reading}
+use Rattle.sat_base.specs.script.Judge.{accepted_of, start}
+use Rattle.sat_base.specs.steps.Steps.{Step, End}
+use Rattle.sat_base.specs.steps.StepText.{SpellsSteps}
+use Rattle.sat_base.proofs.lemmas.device.Writes as writes
+use Rattle.sat_checker.specs.matching.Expected.{Outcome, Finish, expected, finish}
+use Rattle.sat_checker.specs.matching.ProofChecking.{the_checking}
+use Rattle.sat_solver.specs.declared.session.format.ProofFormat.TheVariants.{Varisat}
+use Rattle.sat_solver.specs.declared.session.proof.Proof.{Proof}
+use Rattle.sat_solver.specs.declared.solver.Solver.{Solver}
+use Rattle.sat_solver.specs.session.Counting.{start as uncounted}
+use Rattle.sat_solver.specs.session.Making.{Took, Broke}
+use Rattle.sat_solver.specs.session.OutputView.{text_in}
+use Rattle.sat_solver.specs.session.ProofTexts.{TookText}
+use Rattle.sat_solver.specs.session.ProofView.{Target, Closed, Open, Broken, Carries, Stops, Gives, TakesAll, is_open, steps_of, target_of}
+use Rattle.sat_solver.specs.session.Session.{MayAll}
+use Rattle.sat_solver.specs.solver.Whole.{steps_in}
+use Rattle.sat_solver.proofs.lemmas.session.CutsLemmas.{cuts_are_free}
+use Rattle.sat_solver.proofs.lemmas.session.ProofLemmas.{closed_is_text}
+use Rattle.sat_solver.proofs.lemmas.session.StepLemmas.{sessions_are_accepted}
+use Rattle.certify.specs.Calls.{NoneFailed, OneFailed}
+use Rattle.certify.specs.answers.Answers.{answers_from, answers_text}
+use Rattle.certify.specs.confirm.Streams.{Covers, rest_in}
+use Rattle.certify.specs.declared.fault.RunFault.{RunFault}
+use Rattle.certify.specs.declared.fault.RunFault.TheVariants as fault
+use Rattle.certify.specs.declared.serving.session.Session.{Session}
+use Rattle.certify.specs.declared.summary.AskReport.{AskReport}
+use Rattle.certify.specs.declared.summary.Summary.{Summary}
+use Rattle.certify.specs.declared.ahead.Ahead.{Ahead}
+use Rattle.certify.specs.reading.Ahead.{Failed, Kept, Took as TookOf, source_in, waiting}
+use Rattle.certify.specs.reading.Language.{reading, written}
+use Rattle.certify.specs.run.FinishedRun.{Answered, Answers, Backs, TookCertificate, WriteFails, asked_steps, kind_of, malformed_at, refused_count, AreSpent}
+use Rattle.certify.specs.run.Running.{Finished, NoneUnread, ReadsFew, Runs, Wrote}
+use Rattle.certify.specs.serving.Calls.{Faults, IsReady, proof_in}
+use Rattle.certify.specs.serving.Certifies.{Certifies, complete, ordered}
+use Rattle.certify.specs.serving.Ending.{ClosedBy, EndsRun, Finishes, GivenBack, HasTarget, IsOpen, SumsUp}
+use Rattle.certify.specs.serving.Standing.{GoesOn, IsAt, place_in}
+use Rattle.certify.specs.serving.Whole.{Cause, Ends, FailsWhole, ServesTo, ServesWhole}
+use Rattle.certify.proofs.lemmas.confirm.Streams.{gave_enough, read_fails}
+use Rattle.certify.proofs.lemmas.matching.Joining.{covers_given, took_kept}
+use Rattle.certify.proofs.lemmas.serving.SessionCalls.{broke_later, took_both}
+use Rattle.certify.proofs.lemmas.serving.Written.{written_certifies}
+
+-- a session before its first command, whose certificate is written to this writer
+pub record IsNew {C : Type 0} (seen : C → Writer) (budget : ℕ) (certificate : Writer) (s : Session C) : Type 0 where
+  pub steps : steps_in s.solver ≡ []
+  pub target : target_of seen (proof_in s.solver) ≡ Open Varisat uncounted (empty_sink certificate)
+  pub rounds : s.solver.clock.steps ≡ 0
+  pub budget_is : s.budget ≡ budget
+  pub commands : s.commands ≡ 0
+  pub refused : s.refused ≡ 0
+  pub asks : s.asks.items ≡ []
+
+enough_so : (x y : Reader) (P Q : List ℕ → Type 0) → ((text : List ℕ) → P text → Q text) → GaveEnough x y P → GaveEnough x y Q
+enough_so x y P Q f h = record { text = h.text; front = h.front; over = h.over; few = h.few; holds = λ rest k. f (h.text ++ rest) (h.holds rest k) }
+
+-- a reader of which nothing was read ahead
+pub fresh_source : {R : Type 0} (seen : R → Reader) (r : R) (a : Ahead) → waiting a ≡ [] → a.reads ≡ 0 → source_in seen r a ≡ unread (seen r)
+fresh_source seen r a e f = rw (e, f) refl
+
+-- WHAT A TARGET TOOK
+
+some_same : (a b : Writer) → ◌≡◌ {A = Option Writer} (Some a) (Some b) → a ≡ b
+some_same a b e = cc
+
+none_some : (a : Writer) → ◌≡◌ {A = Option Writer} None (Some a) → ⊥
+none_some a e = cc
+
+module _ {C : Type 0} (seen : C → Writer) (w : Writer) (p q : Proof C) (opened_at : target_of seen p ≡ Open Varisat uncounted (empty_sink w)) where
+  -- it carried what was made since
+  carried : (t : Took seen p q) → Carries (Open Varisat uncounted (empty_sink w)) t.0 (target_of seen q)
+  carried t = subst (λ x. Carries x t.0 (target_of seen q)) opened_at t.1.target
+
+  stopped : (t : Broke seen p q) → Stops (Open Varisat uncounted (empty_sink w)) t.0 (target_of seen q)
+  stopped t = subst (λ x. Stops x t.0 (target_of seen q)) opened_at t.1.target
+
+  pub took_open_target : Took seen p q → is_open (target_of seen q) ≡ true
+  took_open_target t = ap is_open (carried t).2
+
+  pub took_target : Took seen p q → target_of seen q ≡ Closed → ⊥
+  took_target t e = let x : is_open (target_of seen q) ≡ true = took_open_target t in let y : is_open Closed ≡ true = subst (λ z. is_open z ≡ true) e x in absurd (cc)
+
+  pub broke_target : Broke seen p q → target_of seen q ≡ Closed → ⊥
+  broke_target t e = let x : Broken (stopped t).0 ≡ Closed = sym (stopped t).1 ∙ e in absurd (cc)
+
+  -- given back where no call failed
+  pub given_none : (given : Writer) → Took seen p q → Gives (target_of seen q) (Some given) → NoneFailed w given
+  given_none given t g =
+      let c = carried t in
+      let e : given ≡ c.1.writer = some_same given c.1.writer (subst (λ x. Gives x (Some given)) c.2 g) in
+      let k = c.3.wrote.sent.takes in
+      (ap (λ x. x.failures) e ∙ k.failures, ap (λ x. x.loans) e ∙ k.loans)
+
+  -- or where one did
+  pub given_one : (given : Writer) → Broke seen p q → Gives (target_of seen q) (Some given) → OneFailed w given
+  given_one given t g =
+      let c = stopped t in
+      let e : given ≡ c.0 = some_same given c.0 (subst (λ x. Gives x (Some given)) c.1 g) in
+      let k = c.2.breaks in
+      (ap (λ x. x.failures) e ∙ k.failures, ap (λ x. x.failed) e ∙ k.failed, ap (λ x. x.loans) e ∙ k.loans)
+
+  -- or at the end
+  pub closed_text : (given : Writer) (t : Took seen p q) → TakesAll (target_of seen q) (End ∷ []) given → TookText Varisat w given (End ∷ t.0)
+  closed_text given t g = closed_is_text Varisat w given t.0 End (target_of seen q) (carried t) g
+
+-- A RUN THAT WAS FINISHED
+
+module _ {C : Type 0} (seen : C → Writer) (budget : ℕ) (w : Writer) (s t : Session C) (fresh : IsNew seen budget w s) (text : List ℕ) (at : Option ℕ) (summary : Summary) (given : C) (u v z : Writer)
+    (serves : ServesWhole seen start (reading text) (length (written text).0) at s t u v) (closed : ClosedBy seen t.solver given) (took : Takes v z []) (sums : SumsUp at t summary) where
+  made_all : steps_in t.solver ≡ serves.took.0
+  made_all = serves.took.1.history ∙ ap (λ xs. serves.took.0 ++ xs) fresh.steps ∙ append-nil serves.took.0
+
+  text_of : TookText Varisat w (seen given) (End ∷ serves.took.0)
+  text_of = closed_text seen w (proof_in s.solver) (proof_in t.solver) fresh.target (seen given) serves.took closed.takes
+
+  may : MayAll (End ∷ serves.took.0)
+  may = subst (λ (xs : List Step). MayAll (End ∷ xs)) made_all closed.may
+
+  asks_are : summary.asks.items ≡ serves.reports
+  asks_are = ap (λ (x : _). x.items) sums.asks ∙ serves.asks ∙ ap (λ rs. rs ++ serves.reports) fresh.asks
+
+  says : serves.text ≡ answers_text (reading text).0 (reading text).1 serves.serves.outcomes
+  says = sym (ap (λ (n : ℕ). answers_from (n + 1) start (reading text).0 (reading text).1 serves.serves.outcomes) (sym fresh.commands) ∙ serves.serves.says)
+
+  is_answered : Answers text budget summary serves.text
+  is_answered = record {
+    outcomes = serves.serves.outcomes;
+    right = serves.serves.right;
+    answers = says;
+    commands = let a = sums.commands in let b = serves.counted in let c = fresh.commands in omega arith;
+    refused = let a = sums.refused in let b = serves.refusals in let c = fresh.refused in let d = serves.serves.refuses in omega arith;
+    malformed = sums.ends ∙ serves.ends ∙ ap (λ (n : ℕ). malformed_at n (reading text).1) (let c = fresh.commands in let e : s.commands + length (reading text).0 + 1 ≡ length (reading text).0 + 1 = omega arith in e);
+    kinds = ap (λ rs. map (λ (r : AskReport). r.answer) rs) asks_are ∙ serves.serves.kinds;
+    spent = subst (λ rs. AreSpent budget 0 rs) (sym asks_are) (subst (λ n. AreSpent n 0 serves.reports) fresh.budget_is (subst (λ n. AreSpent s.budget n serves.reports) fresh.rounds serves.serves.spent));
+  }
+
+  certified_made : Certifies the_checking (End ∷ serves.took.0) None [] (expected start (accepted_of start (reading text).0) serves.serves.outcomes) (asked_steps serves.reports)
+  certified_made =
+      let all = End ∷ serves.took.0 in
+      let last : Certifies the_checking all None (steps_in t.solver) (Finish ∷ []) [] = subst (λ (xs : List Step). Certifies the_checking all None xs (Finish ∷ []) []) (sym made_all) (ordered tt finish complete) in
+      subst (λ (xs : List Step). Certifies the_checking all None xs (expected start (accepted_of start (reading text).0) serves.serves.outcomes) (asked_steps serves.reports)) fresh.steps (serves.serves.certifies all last)
+
+  is_backed : Backs text summary serves.text (text_in Varisat text_of.written)
+  is_backed = record {
+    outcomes = serves.serves.outcomes;
+    right = serves.serves.right;
+    answers = says;
+    steps = text_of.written;
+    certificate = text_of.spells refl;
+    accepted = (sessions_are_accepted text_of.written (cuts_are_free (End ∷ serves.took.0) text_of.written text_of.counting text_of.cuts may).may).0;
+    certifies = subst (λ rs. Certifies the_checking text_of.written None [] (expected start (accepted_of start (reading text).0) serves.serves.outcomes) (asked_steps rs)) (sym asks_are)
+        (written_certifies (End ∷ serves.took.0) text_of.written text_of.counting (expected start (accepted_of start (reading text).0) serves.serves.outcomes) (asked_steps serves.reports) text_of.cuts may certified_made);
+  }
+
+  pub wrote_text : Wrote text budget summary (u, z) (w, seen given)
+  wrote_text = record {
+    answered = serves.text;
+    certified = text_in Varisat text_of.written;
+    tells = subst (Takes u z) (append-nil serves.text) (writes.took_more u v z serves.text [] serves.told took);
+    certifies = text_of.takes;
+    is_answered = is_answered;
+    is_backed = is_backed;
+  }
+
+  pub flushed_text : (seen given).flushed ≡ true
+  flushed_text = text_of.flushed
+
+  pub none_certified : NoneFailed w (seen given)
+  none_certified = (text_of.takes.failures, text_of.takes.loans)
+
+-- HOW A RUN ENDS
+
+none_both : (u v w : Writer) → NoneFailed u v → NoneFailed v w → NoneFailed u w
+none_both u v w n m = (m.0 ∙ n.0, m.1 ∙ n.1)
+
+one_both : (u v w : Writer) → NoneFailed u v → OneFailed v w → OneFailed u w
+one_both u v w n m = (let a = n.0 in let b = m.0 in omega arith, m.1, m.2 ∙ n.1)
+
+module _ {C : Type 0} (seen : C → Writer) (budget : ℕ) (w : Writer) (s t : Session C) (fresh : IsNew seen budget w s) (x : Reader) (b : Source) (bounded : b.reads ≤ most_reads) (given : C) (u v z : Writer) where
+  -- all was served, and the end isn't finished
+  ended_fault : (e : RunFault) (at : Option ℕ) → Ends seen start reading written (Ok at) (unread x) b s t u v → Faults e (OneFailed v z × ClosedBy seen t.solver given) (NoneFailed v z × GivenBack seen Broke t.solver given) (NoneFailed v z × GivenBack seen Took t.solver given)
+      → Runs (Err e) budget (x, b.reader) (u, z) (w, seen given)
+  ended_fault fault.ScriptRead at h f = absurd f
+  ended_fault fault.AnswersWrite at h f =
+      let k = h.2 b.reader.given (covers_given b) in
+      let text = closed_text seen w (proof_in s.solver) (proof_in t.solver) fresh.target (seen given) k.took f.1.takes in
+      ((took_kept false (unread x) b h.0).0, one_both u v z (k.told.failures, k.told.loans) f.0, (text.takes.failures, text.takes.loans))
+  ended_fault fault.CertificateWrite at h f =
+      let k = h.2 b.reader.given (covers_given b) in
+      ((took_kept false (unread x) b h.0).0, none_both u v z (k.told.failures, k.told.loans) f.0, given_one seen w (proof_in s.solver) f.1.proof fresh.target (seen given) (broke_later seen (proof_in s.solver) (proof_in t.solver) f.1.proof k.took f.1.goes) f.1.gives)
+  ended_fault fault.OutOfMemory at h f =
+      let k = h.2 b.reader.given (covers_given b) in
+      ((took_kept false (unread x) b h.0).0, none_both u v z (k.told.failures, k.told.loans) f.0, given_none seen w (proof_in s.solver) f.1.proof fresh.target (seen given) (took_both seen (proof_in s.solver) (proof_in t.solver) f.1.proof k.took f.1.goes) f.1.gives)
+  ended_fault fault.StoreFull at h f =
+      let k = h.2 b.reader.given (covers_given b) in
+      ((took_kept false (unread x) b h.0).0, none_both u v z (k.told.failures, k.told.loans) f.0, given_none seen w (proof_in s.solver) f.1.proof fresh.target (seen given) (took_both seen (proof_in s.solver) (proof_in t.solver) f.1.proof k.took f.1.goes) f.1.gives)
+  ended_fault fault.CounterEnd at h f =
+      let k = h.2 b.reader.given (covers_given b) in
+      ((took_kept false (unread x) b h.0).0, none_both u v z (k.told.failures, k.told.loans) f.0, given_none seen w (proof_in s.solver) f.1.proof fresh.target (seen given) (took_both seen (proof_in s.solver) (proof_in t.solver) f.1.proof k.took f.1.goes) f.1.gives)
+
+  -- not all was served
+  served_fault : (e : RunFault) → FailsWhole seen e (unread x) b s.solver t.solver u v → z ≡ v → Gives (target_of seen (proof_in t.solver)) (Some (seen given)) → Runs (Err e) budget (x, b.reader) (u, z) (w, seen given)
+  served_fault fault.ScriptRead h same g = (read_fails x b h.0.0 bounded h.0.1, subst (NoneFailed u) (sym same) h.1, given_none seen w (proof_in s.solver) (proof_in t.solver) fresh.target (seen given) h.2 g)
+  served_fault fault.AnswersWrite h same g = (h.0.0, subst (OneFailed u) (sym same) h.1, given_none seen w (proof_in s.solver) (proof_in t.solver) fresh.target (seen given) h.2 g)
+  served_fault fault.CertificateWrite h same g = (h.0.0, subst (NoneFailed u) (sym same) h.1, given_one seen w (proof_in s.solver) (proof_in t.solver) fresh.target (seen given) h.2 g)
+  served_fault fault.OutOfMemory h same g = (h.0.0, subst (NoneFailed u) (sym same) h.1, given_none seen w (proof_in s.solver) (proof_in t.solver) fresh.target (seen given) h.2 g)
+  served_fault fault.StoreFull h same g = (h.0.0, subst (NoneFailed u) (sym same) h.1, given_none seen w (proof_in s.solver) (proof_in t.solver) fresh.target (seen given) h.2 g)
+  served_fault fault.CounterEnd h same g = (h.0.0, subst (NoneFailed u) (sym same) h.1, given_none seen w (proof_in s.solver) (proof_in t.solver) fresh.target (seen given) h.2 g)
+
+  pub runs_so : (served : Result (Option ℕ) RunFault) (r : Result Summary RunFault) → Ends seen start reading written served (unread x) b s t u v → EndsRun seen served r t given v z → Runs r budget (x, b.reader) (u, z) (w, seen given)
+  runs_so (Ok at) (Ok summary) h f =
+      let k = h.2 b.reader.given (covers_given b) in
+      let all = rest_in b.reader.given (unread x) in
+      let n = none_certified seen budget w s t fresh all at summary given u v z k f.0.0 f.0.1 f.1 in
+      record {
+        wrote = gave_enough x b h.0.0.0 (λ text. Wrote text budget summary (u, z) (w, seen given)) h.0.0.1 h.0.1
+            (λ total c. wrote_text seen budget w s t fresh (rest_in total (unread x)) at summary given u v z (h.2 total c) f.0.0 f.0.1 f.1);
+        read = (took_kept false (unread x) b h.0).0;
+        told = none_both u v z (k.told.failures, k.told.loans) (f.0.1.failures, f.0.1.loans);
+        certified = n;
+        answers_flushed = f.0.2;
+        certificate_flushed = flushed_text seen budget w s t fresh all at summary given u v z k f.0.0 f.0.1 f.1;
+      }
+  runs_so (Ok at) (Err e) h f = ended_fault e at h f
+  runs_so (Err e) r h f = subst (λ (q : Result Summary RunFault). Runs q budget (x, b.reader) (u, z) (w, seen given)) (sym f.0) (served_fault e h f.1 f.2)
+
+  few_by : b.reader.calls + 0 ≡ x.calls + b.reads → ReadsFew (x, b.reader)
+  few_by e = omega arith
+
+  few_faults : (e : RunFault) → FailsWhole seen e (unread x) b s.solver t.solver u v → ReadsFew (x, b.reader)
+  few_faults fault.ScriptRead h = few_by h.0.1.calls
+  few_faults fault.AnswersWrite h = few_by h.0.1
+  few_faults fault.CertificateWrite h = few_by h.0.1
+  few_faults fault.OutOfMemory h = few_by h.0.1
+  few_faults fault.StoreFull h = few_by h.0.1
+  few_faults fault.CounterEnd h = few_by h.0.1
+
+  pub reads_few : (served : Result (Option ℕ) RunFault) → Ends seen start reading written served (unread x) b s t u v → ReadsFew (x, b.reader)
+  reads_few (Ok at) h = few_by (took_kept false (unread x) b h.0).1
+  reads_few (Err e) h = few_faults e h
+
+  -- the target isn't closed yet
+  fails_some : (e : RunFault) → FailsWhole seen e (unread x) b s.solver t.solver u v → HasTarget seen t.solver
+  fails_some fault.ScriptRead h = took_target seen w (proof_in s.solver) (proof_in t.solver) fresh.target h.2
+  fails_some fault.AnswersWrite h = took_target seen w (proof_in s.solver) (proof_in t.solver) fresh.target h.2
+  fails_some fault.CertificateWrite h = broke_target seen w (proof_in s.solver) (proof_in t.solver) fresh.target h.2
+  fails_some fault.OutOfMemory h = took_target seen w (proof_in s.solver) (proof_in t.solver) fresh.target h.2
+  fails_some fault.StoreFull h = took_target seen w (proof_in s.solver) (proof_in t.solver) fresh.target h.2
+  fails_some fault.CounterEnd h = took_target seen w (proof_in s.solver) (proof_in t.solver) fresh.target h.2
+
+  pub has_target : (served : Result (Option ℕ) RunFault) → Ends seen start reading written served (unread x) b s t u v → HasTarget seen t.solver
+  has_target (Ok at) h = took_target seen w (proof_in s.solver) (proof_in t.solver) fresh.target (h.2 b.reader.given (covers_given b)).took
+  has_target (Err e) h = fails_some e h
+
+  pub is_open_yet : (served : Result (Option ℕ) RunFault) → Ends seen start reading written served (unread x) b s t u v → OnOk served (IsOpen seen t.solver)
+  is_open_yet (Ok at) h = took_open_target seen w (proof_in s.solver) (proof_in t.solver) fresh.target (h.2 b.reader.given (covers_given b)).took
+  is_open_yet (Err e) h = tt
+
+  pub is_ready : (served : Result (Option ℕ) RunFault) → Ends seen start reading written served (unread x) b s t u v → OnOk served (IsReady t.solver)
+  is_ready (Ok at) h = h.1
+  is_ready (Err e) h = tt
+
+-- A WRITER THAT WAS LENT
+
+unlent_names : (a b : Writer) (given back : ℕ) → (lent_writer back b).loans ≡ (lent_writer given a).loans → given ≡ back
+unlent_names a b given back loans = let h : ◌≡◌ {A = List ℕ} (back ∷ b.loans) (given ∷ a.loans) = loans in cc
+
+unlent_loans : (a b : Writer) (given back : ℕ) → (lent_writer back b).loans ≡ (lent_writer given a).loans → b.loans ≡ a.loans
+unlent_loans a b given back loans = let h : ◌≡◌ {A = List ℕ} (back ∷ b.loans) (given ∷ a.loans) = loans in cc
+
+unlent_takes : (a b : Writer) (given back : ℕ) (text : List ℕ) → Takes (lent_writer given a) (lent_writer back b) text → Takes a b text
+unlent_takes a b given back text p = record { taken = p.taken; told = p.told; failures = p.failures; calls = p.calls; few = p.few; loans = unlent_loans a b given back p.loans }
+
+module _ (budget : ℕ) (x y : Reader) (u z a b : Writer) (given back : ℕ) where
+  unlent_none : NoneFailed (lent_writer given a) (lent_writer back b) → NoneFailed a b
+  unlent_none p = (p.0, unlent_loans a b given back p.1)
+
+  unlent_one : OneFailed (lent_writer given a) (lent_writer back b) → OneFailed a b
+  unlent_one p = (p.0, p.1, unlent_loans a b given back p.2)
+
+  loans_fault : (e : RunFault) → Runs (Err e) budget (x, y) (u, z) (lent_writer given a, lent_writer back b) → (lent_writer back b).loans ≡ (lent_writer given a).loans
+  loans_fault fault.ScriptRead h = h.2.1
+  loans_fault fault.AnswersWrite h = h.2.1
+  loans_fault fault.CertificateWrite h = h.2.2
+  loans_fault fault.OutOfMemory h = h.2.1
+  loans_fault fault.StoreFull h = h.2.1
+  loans_fault fault.CounterEnd h = h.2.1
+
+  loans_kept : (r : Result Summary RunFault) → Runs r budget (x, y) (u, z) (lent_writer given a, lent_writer back b) → (lent_writer back b).loans ≡ (lent_writer given a).loans
+  loans_kept (Ok s) h = h.certified.1
+  loans_kept (Err e) h = loans_fault e h
+
+  unlent_wrote : (text : List ℕ) (s : Summary) → Wrote text budget s (u, z) (lent_writer given a, lent_writer back b) → Wrote text budget s (u, z) (a, b)
+  unlent_wrote text s h = record {
+    answered = h.answered;
+    certified = h.certified;
+    tells = h.tells;
+    certifies = unlent_takes a b given back h.certified h.certifies;
+    is_answered = h.is_answered;
+    is_backed = h.is_backed;
+  }
+
+  unlent_fault : (e : RunFault) → Runs (Err e) budget (x, y) (u, z) (lent_writer given a, lent_writer back b) → Runs (Err e) budget (x, y) (u, z) (a, b)
+  unlent_fault fault.ScriptRead h = (h.0, h.1, unlent_none h.2)
+  unlent_fault fault.AnswersWrite h = (h.0, h.1, unlent_none h.2)
+  unlent_fault fault.CertificateWrite h = (h.0, h.1, unlent_one h.2)
+  unlent_fault fault.OutOfMemory h = (h.0, h.1, unlent_none h.2)
+  unlent_fault fault.StoreFull h = (h.0, h.1, unlent_none h.2)
+  unlent_fault fault.CounterEnd h = (h.0, h.1, unlent_none h.2)
+
+  unlent : (r : Result Summary RunFault) → Runs r budget (x, y) (u, z) (lent_writer given a, lent_writer back b) → Runs r budget (x, y) (u, z) (a, b)
+  unlent (Ok s) h = record {
+    wrote = enough_so x y (λ text. Wrote text budget s (u, z) (lent_writer given a, lent_writer back b)) (λ text. Wrote text budget s (u, z) (a, b)) (λ text. unlent_wrote text s) h.wrote;
+    read = h.read;
+    told = h.told;
+    certified = unlent_none h.certified;
+    answers_flushed = h.answers_flushed;
+    certificate_flushed = h.certificate_flushed;
+  }
+  unlent (Err e) h = unlent_fault e h
+
+-- given back, it is what it was at the end of the loan
+pub runs_lent : {C : Type 0} (seen : C → Writer) (budget : ℕ) (x y : Reader) (u z : Writer) (a c v : C) (given back : ℕ) → (given ≡ back → c ≡ v) → (r : Result Summary RunFault)
+    → Runs r budget (x, y) (u, z) (lent_writer given (seen a), lent_writer back (seen v)) → Runs r budget (x, y) (u, z) (seen a, seen c)
+runs_lent seen budget x y u z a c v given back same r h =
+    let is_back : c ≡ v = same (unlent_names (seen a) (seen v) given back (loans_kept budget x y u z (seen a) (seen v) given back r h)) in
+    subst (λ (k : _). Runs r budget (x, y) (u, z) (seen a, seen k)) (sym is_back) (unlent budget x y u z (seen a) (seen v) given back r h)
+
+-- WHAT A RUN PROMISES
+
+module _ (budget : ℕ) (x y : Reader) (u z a b : Writer) where
+  pub answered_if : (r : Result Summary RunFault) → Runs r budget (x, y) (u, z) (a, b) → IfOk r (λ s. Answered budget s (x, y) (u, z))
+  answered_if (Ok s) h = enough_so x y (λ text. Wrote text budget s (u, z) (a, b)) (λ text. (answered : List ℕ) × Takes u z answered × Answers text budget s answered) (λ text k. (k.answered, k.tells, k.is_answered)) h.wrote
+  answered_if (Err e) h = tt
+
+  pub backed_if : (r : Result Summary RunFault) → Runs r budget (x, y) (u, z) (a, b) → IfOk r (λ s. TookCertificate s (x, y) (u, z) (a, b))
+  backed_if (Ok s) h = enough_so x y (λ text. Wrote text budget s (u, z) (a, b)) (λ text. (answered : List ℕ) × (certified : List ℕ) × Takes u z answered × Takes a b certified × Backs text s answered certified) (λ text k. (k.answered, k.certified, k.tells, k.certifies, k.is_backed)) h.wrote
+  backed_if (Err e) h = tt
+
+  pub flushed_if : (r : Result Summary RunFault) → Runs r budget (x, y) (u, z) (a, b) → OnOk r ((z.flushed ≡ true) × (b.flushed ≡ true))
+  flushed_if (Ok s) h = (h.answers_flushed, h.certificate_flushed)
+  flushed_if (Err e) h = tt
+
+  pub script_fault : (r : Result Summary RunFault) → Runs r budget (x, y) (u, z) (a, b) → IsErrOf r fault.ScriptRead → ReadFails x y
+  script_fault (Ok s) h k = absurd (cc)
+  script_fault (Err e) h k = let m : e ≡ fault.ScriptRead = cc in (subst (λ f. Runs (Err f) budget (x, y) (u, z) (a, b)) m h).0
+
+  pub answers_fault : (r : Result Summary RunFault) → Runs r budget (x, y) (u, z) (a, b) → IsErrOf r fault.AnswersWrite → WriteFails u z
+  answers_fault (Ok s) h k = absurd (cc)
+  answers_fault (Err e) h k = let m : e ≡ fault.AnswersWrite = cc in let g = (subst (λ f. Runs (Err f) budget (x, y) (u, z) (a, b)) m h).1 in (g.0, g.1)
+
+  pub certificate_fault : (r : Result Summary RunFault) → Runs r budget (x, y) (u, z) (a, b) → IsErrOf r fault.CertificateWrite → WriteFails a b
+  certificate_fault (Ok s) h k = absurd (cc)
+  certificate_fault (Err e) h k = let m : e ≡ fault.CertificateWrite = cc in let g = (subst (λ f. Runs (Err f) budget (x, y) (u, z) (a, b)) m h).2 in (g.0, g.1)
+
+  pub kept_script : (r : Result Summary RunFault) → Runs r budget (x, y) (u, z) (a, b) → IsErrOf r fault.ScriptRead ⊎ (y.failures ≡ x.failures)
+  kept_script (Ok s) h = inr h.read
+  kept_script (Err fault.ScriptRead) h = inl refl
+  kept_script (Err fault.AnswersWrite) h = inr h.0
+  kept_script (Err fault.CertificateWrite) h = inr h.0
+  kept_script (Err fault.OutOfMemory) h = inr h.0
+  kept_script (Err fault.StoreFull) h = inr h.0
+  kept_script (Err fault.CounterEnd) h = inr h.0
+
+  pub kept_answers : (r : Result Summary RunFault) → Runs r budget (x, y) (u, z) (a, b) → IsErrOf r fault.AnswersWrite ⊎ (z.failures ≡ u.failures)
+  kept_answers (Ok s) h = inr h.told.0
+  kept_answers (Err fault.ScriptRead) h = inr h.1.0
+  kept_answers (Err fault.AnswersWrite) h = inl refl
+  kept_answers (Err fault.CertificateWrite) h = inr h.1.0
+  kept_answers (Err fault.OutOfMemory) h = inr h.1.0
+  kept_answers (Err fault.StoreFull) h = inr h.1.0
+  kept_answers (Err fault.CounterEnd) h = inr h.1.0
+
+  pub kept_certificate : (r : Result Summary RunFault) → Runs r budget (x, y) (u, z) (a, b) → IsErrOf r fault.CertificateWrite ⊎ (b.failures ≡ a.failures)
+  kept_certificate (Ok s) h = inr h.certified.0
+  kept_certificate (Err fault.ScriptRead) h = inr h.2.0
+  kept_certificate (Err fault.AnswersWrite) h = inr h.2.0
+  kept_certificate (Err fault.CertificateWrite) h = inl refl
+  kept_certificate (Err fault.OutOfMemory) h = inr h.2.0
+  kept_certificate (Err fault.StoreFull) h = inr h.2.0
+  kept_certificate (Err fault.CounterEnd) h = inr h.2.0

@@ -1,0 +1,39 @@
+use Rattle.std.proofs.Common.{◌≡◌, ◌+◌, None, Some, refl, sym, ap, subst, arith, rules}
+use Rattle.certify.specs.declared.reading.ScriptEnd.{ScriptEnd}
+use Rattle.certify.specs.reading.Commands.{end_reading}
+use Rattle.certify.specs.serving.Calls.{proof_in}
+use Rattle.certify.specs.serving.Whole.{ServesWhole}
+use Rattle.certify.proofs.lemmas.serving.SessionCalls.{took_none}
+use Rattle.certify.proofs.lemmas.serving.Through.{ends_asked, ends_clean, ends_malformed}
+use Rattle.certify.proofs.serving.whole.serve_end.Goals as goal
+
+pub returns-in_default-clause-written : goal.returns-in_default-clause-written
+returns-in_default-clause-written g c = ((refl, refl), took_none g.C.CountedWrite.seen (proof_in c.args.session.now.solver))
+
+pub returns-in-Clean-clause-written : goal.returns-in-Clean-clause-written
+returns-in-Clean-clause-written g c = ((refl, refl), took_none g.C.CountedWrite.seen (proof_in c.args.session.now.solver))
+
+pub returns-in-Clean-clause-serves : goal.returns-in-Clean-clause-serves
+returns-in-Clean-clause-serves g c j at =
+    let s = c.args.session.now in
+    let a = g.A.CountedWrite.seen c.args.answers.now in
+    subst (λ (e : ScriptEnd). ServesWhole g.C.CountedWrite.seen j (end_reading e) 0 None s s a a) (sym c.in-Clean.is) (ends_clean g.C.CountedWrite.seen j s a)
+
+pub returns-in_ok-answer_ask-in-Asked-clause-serves : goal.returns-in_ok-answer_ask-in-Asked-clause-serves
+returns-in_ok-answer_ask-in-Asked-clause-serves g c j at =
+    let s = c.args.session.now in
+    let t = c.answer_ask.new.session in
+    let a = g.A.CountedWrite.seen c.args.answers.now in
+    let b = g.A.CountedWrite.seen c.answer_ask.new.answers in
+    subst (λ (e : ScriptEnd). ServesWhole g.C.CountedWrite.seen j (end_reading e) 0 None s t a b) (sym c.in-Asked.is) (ends_asked g.C.CountedWrite.seen j s t a b at c.in_ok-answer_ask-in-Asked.ensures.carried)
+
+pub returns-in_ok-tell_malformed-in-Malformed-clause-serves : goal.returns-in_ok-tell_malformed-in-Malformed-clause-serves
+returns-in_ok-tell_malformed-in-Malformed-clause-serves g c j at =
+    let s = c.args.session.now in
+    let t = c.tell_malformed.new.session in
+    let a = g.A.CountedWrite.seen c.args.answers.now in
+    let b = g.A.CountedWrite.seen c.tell_malformed.new.answers in
+    let same = c.in_ok-tell_malformed-in-Malformed.ensures.same in
+    let number : c.in-Some.number ≡ s.commands + 1 = search rules in
+    subst (λ (e : ScriptEnd). ServesWhole g.C.CountedWrite.seen j (end_reading e) 0 (Some c.in-Some.number) s t a b) (sym c.in-Malformed.is)
+    (ends_malformed g.C.CountedWrite.seen j s t a b c.in-Some.number number (ap (λ (x : _). x.solver) same) (ap (λ (x : _). x.commands) same) (ap (λ (x : _). x.refused) same) (ap (λ (x : _). x.asks) same) c.in_ok-tell_malformed-in-Malformed.ensures.told)

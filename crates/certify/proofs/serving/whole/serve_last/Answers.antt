@@ -1,0 +1,16 @@
+use Rattle.certify.specs.reading.Commands.{end_reading}
+use Rattle.certify.proofs.lemmas.serving.Through.{both_then, served_last_if}
+use Rattle.certify.proofs.serving.whole.serve_last.Goals as goal
+
+pub serve_end-requires : goal.serve_end-requires
+serve_end-requires g c = (c.in_ok-serve_next.ensures.served c.requires.whole.0 c.requires.whole.1).goes_on
+
+pub returns-clause-serves : goal.returns-clause-serves
+returns-clause-serves g c x is j at =
+    let A = g.A.CountedWrite.seen in
+    served_last_if g.C.CountedWrite.seen j x (end_reading c.args.end) c.serve_end.result c.args.session.now c.serve_next.new.session c.serve_end.new.session (A c.args.answers.now) (A c.serve_next.new.answers) (A c.serve_end.new.answers) at (c.in_ok-serve_next.ensures.served x is) c.serve_end.ensures.serves
+
+pub returns-clause-written : goal.returns-clause-written
+returns-clause-written g c =
+    let A = g.A.CountedWrite.seen in
+    both_then g.C.CountedWrite.seen c.serve_end.result c.args.session.now.solver c.serve_next.new.session.solver c.serve_end.new.session.solver (A c.args.answers.now) (A c.serve_next.new.answers) (A c.serve_end.new.answers) c.in_ok-serve_next.ensures.written c.serve_end.ensures.written

@@ -1,0 +1,24 @@
+-- What was certified is confirmed.
+use Rattle.std.specs.Prelude.{ℕ, None, List, [], reverse}
+use Rattle.sat_base.specs.script.Script.{Command, Ending}
+use Rattle.sat_base.specs.script.Judge.{start, accepted_of}
+use Rattle.sat_base.specs.steps.Steps.{Step}
+use Rattle.sat_base.specs.steps.StepText.{SpellsSteps}
+use Rattle.sat_checker.specs.Accepts.{AcceptsAll}
+use Rattle.sat_checker.specs.matching.Expected.{Outcome, expected}
+use Rattle.sat_checker.specs.matching.ProofChecking.{the_checking}
+use Rattle.certify.specs.answers.Answers.{answers_text}
+use Rattle.certify.specs.answers.RightAnswers.{AnswersAreRight}
+use Rattle.certify.specs.confirm.Matches.{Matches}
+use Rattle.certify.specs.serving.Certifies.{Certifies}
+
+-- However a script is read: right outcomes, as they are answered, and accepted steps that certify them match it. Of the steps the
+-- newest stands first; the certificate is their text.
+abbrev pub CertifiedMatches : Type 0
+CertifiedMatches =
+    (reading : List ℕ → List Command × Ending) (script certificate : List ℕ) (outcomes : List Outcome) (steps : List Step) (counts : List ℕ)
+    → AnswersAreRight (reading script).0 outcomes
+    → AcceptsAll steps
+    → Certifies the_checking steps None [] (expected start (accepted_of start (reading script).0) outcomes) counts
+    → SpellsSteps (reverse steps) certificate
+    → Matches the_checking reading script (answers_text (reading script).0 (reading script).1 outcomes) certificate

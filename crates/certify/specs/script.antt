@@ -1,4 +1,0 @@
-pub mod CappedNames
-pub mod LiteralCodes
-pub mod ScriptParts
-pub mod ScriptReading
