@@ -13,6 +13,9 @@ enum Call {
 
     /// A clause that a name of mode witness refuses.
     Witnessed(&'static [i64]),
+
+    /// Literals with names for which variables are lacking, which refuses a clause and assumptions.
+    Limited(&'static [i64]),
     Assume(&'static [i64]),
     Solve(bool),
     Model(&'static [i64]),
@@ -26,6 +29,9 @@ enum Call {
 
     /// A name that an assumption has, which refuses all three of these.
     Assumed(i64),
+
+    /// A name for which variables are lacking, which refuses all three as well.
+    Past(i64),
     New(i64),
 
     /// The names that hidden variables get.
@@ -94,6 +100,37 @@ fn is_witnessed<W: CountedWrite + Drop>(
         Ok(()) => Ok(false),
         Err(SolverError::WitnessVariable) => Ok(true),
         Err(error) => Err(error),
+    }
+}
+
+/// Whether variables are lacking for the names of these literals.
+fn is_limited<W: CountedWrite + Drop>(solver: &mut Solver<W>, lits: &[Lit]) -> bool
+    requires { IsSolver solver.old }
+    ensures { IsSolver solver.new }
+{
+    let added = is_limit(solver.add_clause(lits));
+    is_limit(solver.assume(lits)) && added
+}
+
+/// Whether variables are lacking for this name, whatever mode it were to have.
+fn is_past<W: CountedWrite + Drop>(solver: &mut Solver<W>, number: i64) -> bool
+    requires { IsSolver solver.old }
+    ensures { IsSolver solver.new }
+{
+    let Some(user) = Var::from_dimacs(number) else {
+        return false;
+    };
+    let hidden = is_limit(solver.hide_var(user));
+    let witness = is_limit(solver.witness_var(user));
+    is_limit(solver.sample_var(user)) && hidden && witness
+}
+
+/// Whether a call was refused for want of a variable.
+fn is_limit(came: Result<(), SolverError>) -> bool {
+    match came {
+        Err(SolverError::VariableLimit) => true,
+        Err(_) => false,
+        Ok(()) => false,
     }
 }
 
@@ -176,6 +213,10 @@ fn make<W: CountedWrite + Drop>(
             read(lits, *numbers)?;
             is_witnessed(solver, lits)
         }
+        Call::Limited(numbers) => {
+            read(lits, *numbers)?;
+            Ok(is_limited(solver, lits))
+        }
         Call::Assume(numbers) => {
             read(lits, *numbers)?;
             solver.assume(lits)?;
@@ -189,6 +230,7 @@ fn make<W: CountedWrite + Drop>(
         Call::Witness(number) => set(solver, *number, Mode::Witness),
         Call::Sample(number) => set(solver, *number, Mode::Sample),
         Call::Assumed(number) => is_assumed(solver, *number),
+        Call::Past(number) => Ok(is_past(solver, *number)),
         Call::New(number) => Ok(solver.new_var()?.to_dimacs() == *number),
         Call::Observe(names) => observes(solver, *names),
     }
@@ -364,6 +406,23 @@ const UNSATISFIABLE: &[Call] = &[
     Call::Solve(false),
 ];
 
+/// The first variable is kept for its clause, so that the last name, with all below it, finds one too few. With the name before it the
+/// second one, which is hidden, would come in as well.
+const VARIABLES_LACK: &[Call] = &[
+    Call::Clause(&[1, 2]),
+    Call::Hide(1),
+    Call::Clause(&[1, 3]),
+    Call::Past(268435456),
+    Call::Limited(&[-268435456]),
+    Call::Hide(2),
+    Call::Limited(&[2, -2, 268435455]),
+    Call::New(2),
+    Call::New(4),
+    Call::Clause(&[-1]),
+    Call::Solve(true),
+    Call::Model(&[-1, -2, 3, -4]),
+];
+
 const WITNESS_REFUSES: &[Call] = &[
     Call::Witness(2),
     Call::Witnessed(&[3, 2]),
@@ -471,6 +530,7 @@ const CALLS: &[&[Call]] = &[
     NEW_BEHIND_A_CORE,
     CLAUSE_BEHIND_A_CORE,
     UNSATISFIABLE,
+    VARIABLES_LACK,
     WITNESS_REFUSES,
     ASSUMED_REFUSES,
     ASSUMED_WHEN_UNSATISFIABLE,
