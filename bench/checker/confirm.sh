@@ -15,12 +15,14 @@ work=$(mktemp -d)
 trap 'rm -rf "$work"' EXIT
 
 mkdir -p "$work/repo/crates/checks/src" "$work/repo/crates/confirms/src"
-for crate in sat_base sat_checker certify; do
+for crate in sat_base sat_store sat_parts sat_checker sat_solver sat_hints certify; do
     cp -r "$top/crates/$crate" "$work/repo/crates/"
 done
 cp "$top/HANDLES" "$work/repo/"
-printf '%s\n' 'sat_base: thiserror' 'sat_checker: sat_base thiserror anyhow' 'certify: sat_base sat_checker thiserror' \
-    'checks: sat_checker sat_base' 'confirms: certify sat_checker sat_base' > "$work/repo/crates.txt"
+{
+    grep -E '^(sat_base|sat_store|sat_parts|sat_checker|sat_solver|sat_hints|certify):' "$top/crates.txt"
+    printf '%s\n' 'checks: sat_checker sat_base' 'confirms: certify sat_checker sat_base'
+} > "$work/repo/crates.txt"
 git init -q "$work/repo"
 cp "$here/checks.rt.txt" "$work/repo/crates/checks/src/main.rt"
 cp "$here/confirms.rt.txt" "$work/repo/crates/confirms/src/main.rt"

@@ -21,11 +21,14 @@ most=200
 
 # A repository of our crates, and the programs over sat_base, sat_checker and sat_hints.
 mkdir -p "$work/repo/crates/calls/src" "$work/repo/crates/feeds/src" "$work/repo/crates/hints/src"
-for crate in sat_base sat_checker sat_hints certify certify_cli; do
+for crate in sat_base sat_store sat_parts sat_checker sat_solver sat_hints certify certify_cli; do
     cp -r "$top/crates/$crate" "$work/repo/crates/"
 done
 cp "$top/HANDLES" "$work/repo/"
-printf 'sat_base: thiserror\nsat_checker: sat_base thiserror anyhow\nsat_hints: sat_checker sat_base thiserror anyhow\ncertify: sat_hints sat_checker sat_base thiserror\ncertify_cli: certify sat_base\ncalls: sat_base\nfeeds: sat_checker sat_base anyhow\nhints: sat_hints sat_base\n' > "$work/repo/crates.txt"
+{
+    grep -E '^(sat_base|sat_store|sat_parts|sat_checker|sat_solver|sat_hints|certify|certify_cli):' "$top/crates.txt"
+    printf 'calls: sat_base\nfeeds: sat_checker sat_base anyhow\nhints: sat_hints sat_base\n'
+} > "$work/repo/crates.txt"
 git init -q "$work/repo"
 cp "$here/calls.rt.txt" "$work/repo/crates/calls/src/main.rt"
 cp "$here/feeds.rt.txt" "$work/repo/crates/feeds/src/main.rt"
