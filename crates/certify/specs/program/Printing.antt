@@ -4,7 +4,7 @@ use Rattle.sat_base.specs.device.Device.{Reader, Writer, GaveEnough, Takes}
 use Rattle.sat_base.specs.script.Script.{Ending, Clean, Malformed}
 use Rattle.sat_checker.specs.matching.ProofChecking.{the_checking}
 use Rattle.certify.specs.confirm.Matches.{Matches}
-use Rattle.certify.specs.confirm.VerdictPromises.{Exact}
+use Rattle.certify.specs.confirm.VerdictPromises.{AreRightAnswers, Exact}
 use Rattle.certify.specs.reading.Language.{reading}
 use Rattle.certify.specs.run.FinishedRun.{Answered}
 use Rattle.certify.specs.declared.summary.Summary.{Summary}
@@ -16,6 +16,7 @@ use Rattle.certify.specs.declared.verdict.ConfirmFault.{ConfirmFault}
 use Rattle.certify.specs.declared.verdict.ConfirmFault.TheVariants as confirm_fault
 use Rattle.certify.specs.declared.fault.RunFault.{RunFault}
 use Rattle.certify.specs.declared.fault.RunFault.TheVariants as run_fault
+use Rattle.certify.specs.declared.program.standard.Written.{Written}
 use Rattle.certify.specs.declared.program.fault.Fault.{Fault}
 use Rattle.certify.specs.declared.program.fault.Fault.TheVariants as fault
 use Rattle.certify.specs.declared.program.fault.HintsFault.{HintsFault}
@@ -86,16 +87,19 @@ abbrev pub is_malformed : Ending → Bool
 is_malformed Clean = false
 is_malformed Malformed = true
 
--- The answers to a text were printed, and behind them the verdict on text, answers and some certificate. The status is 0 exactly for a
--- yes on a text that isn't malformed.
+-- what a run wrote for a text in memory: right answers, and a certificate that matches
+pub record IsWritten (text : List ℕ) (w : Written) : Type 0 where
+  pub malformed : w.malformed ≡ is_malformed (reading text).1
+  pub right : AreRightAnswers text w.answers.items
+  pub matches : Matches the_checking reading text w.answers.items w.certificate.items
+
+-- Right answers to a text were printed, and behind them that they are confirmed. The status is 0 exactly where the text isn't malformed.
 pub record Prints (status : ℕ) (text : List ℕ) (old new : Writer) : Type 0 where
   pub answers : List ℕ
-  pub certificate : List ℕ
-  pub verdict : Verdict
-  pub exact : SaysExactly verdict text answers certificate
-  pub printed : Takes old new (answers ++ verdict_text verdict)
+  pub right : AreRightAnswers text answers
+  pub printed : Takes old new (answers ++ verdict_text Yes)
   pub flushed : new.flushed ≡ true
-  pub done : (status ≡ 0) ↔ ((verdict ≡ Yes) × (is_malformed (reading text).1 ≡ false))
+  pub done : (status ≡ 0) ↔ (is_malformed (reading text).1 ≡ false)
 
 -- the same of the text that a reader gave, whatever would follow
 abbrev pub PrintsVerdict : ℕ → Reader × Reader → Writer × Writer → Type 0

@@ -1,8 +1,7 @@
 //! The call without arguments: a script from standard input, its certificate kept in memory.
 ghost use Rattle.std.specs.Prelude.{◌≡◌, ◌≤◌, IfOk};
-ghost use Rattle.certify.specs.reading.Language.{reading};
 ghost use Rattle.certify.specs.run.FinishedRun.{gave, took};
-ghost use Rattle.certify.specs.program.Printing.{Prints, PrintsVerdict, is_malformed};
+ghost use Rattle.certify.specs.program.Printing.{IsWritten, Prints, PrintsVerdict};
 
 use crate::fault::RunFault;
 use crate::program::fault::Fault;
@@ -23,14 +22,14 @@ struct Written {
     progress: Progress,
 }
 
-/// Prints what was answered to a script, and the verdict on it. The answer is the status.
+/// Prints what was answered to a script, and the verdict on it, which is yes. The answer is the status.
 fn print_confirmed<O: CountedWrite>(
     alloc: Global,
     script: &[u8],
     written: &Written,
     output: &mut O,
 ) -> Result<u8, Fault>
-    requires { written.now.malformed ≡ is_malformed (reading script.now).1 }
+    requires { IsWritten script.now written.now }
     ensures small { IfOk result (λ status. status ≤ 1) }
     ensures printed { IfOk result (λ status. Prints status script.now (O.seen output.old) (O.seen output.new)) }
 {
@@ -66,7 +65,7 @@ pub(super) fn answer<I: CountedRead, O: CountedWrite, E: CountedWrite>(
 
 /// Runs a script with all rounds allowed. A failed write into memory is want of memory.
 fn run_in_memory(alloc: Global, script: &[u8]) -> Result<Written, Fault>
-    ensures { IfOk result (λ w. w.malformed ≡ is_malformed (reading script.now).1) }
+    ensures { IfOk result (IsWritten script.now) }
 {
     let mut answers = Counted::new(Vec::new(alloc));
     let mut certificate = Counted::new(Vec::new(alloc));

@@ -1,15 +1,19 @@
 -- What is printed of texts in memory.
-use Rattle.std.proofs.Common.{ℕ, ◌≡◌, List, ◌++◌, Some, Result, Ok, Err, IfOk, OnOk, refl, ◌∙◌, ap, subst, append_assoc}
+use Rattle.std.proofs.Common.{ℕ, ◌≡◌, List, [], ◌++◌, Option, None, Some, Result, Ok, Err, IfOk, OnOk, refl, sym, ◌∙◌, ap, subst, append_assoc}
 use Rattle.std.specs.Prelude.{◌+◌, IfSome, is_ok, is_some, length, if◌then◌else◌}
-use Rattle.sat_base.specs.device.Device.{Reader, Writer, GaveAll, GaveEnough}
+use Rattle.std.specs.Io.KnownBytes.{Appends}
+use Rattle.sat_base.specs.device.Device.{Reader, Writer, GaveAll, GaveEnough, Takes}
 use Rattle.sat_base.proofs.lemmas.device.Given.{enough_all, enough_told}
 use Rattle.sat_base.specs.script.Script.{Ending, Clean, Malformed}
-use Rattle.certify.specs.confirm.VerdictPromises.{Exact, Given}
+use Rattle.sat_checker.specs.matching.ProofChecking.{the_checking}
+use Rattle.certify.specs.confirm.Matches.{Matches}
+use Rattle.certify.specs.confirm.VerdictPromises.{AreRightAnswers, Exact, Given}
 use Rattle.certify.specs.program.Printing.{Prints, PrintsVerdict, SaysExactly, is_malformed}
 use Rattle.certify.specs.reading.Language.{reading}
-use Rattle.certify.specs.run.FinishedRun.{malformed_at}
+use Rattle.certify.specs.run.FinishedRun.{Backs, TookCertificate, asked_steps, malformed_at}
 use Rattle.certify.specs.declared.summary.Summary.{Summary}
 use Rattle.certify.specs.declared.verdict.Verdict.{Verdict}
+use Rattle.certify.proofs.lemmas.laws.CertifiedMatches.{certified_matches}
 
 -- WHAT IS APPENDED PIECE BY PIECE
 -- the last piece
@@ -47,3 +51,28 @@ malformed_is n Malformed = refl
 pub malformed_told : (summary : Summary) (x y : Reader) (text : List ℕ) {P : List ℕ → Type 0} → x.to_come ≡ Some text → GaveEnough x y P → ((t : List ℕ) → P t → summary.malformed ≡ malformed_at (length (reading t).0 + 1) (reading t).1)
     → is_some summary.malformed ≡ is_malformed (reading text).1
 malformed_told summary x y text {P} e h says = ap is_some (says text (told x y P text e h)) ∙ malformed_is (length (reading text).0 + 1) (reading text).1
+
+-- WHAT A RUN WROTE IN MEMORY
+
+appended : (o p : Option (List ℕ)) (text items : List ℕ) → Appends o p text → o ≡ Some [] → p ≡ Some items → items ≡ text
+appended None p text items h e f = absurd (let g = e in cc)
+appended (Some xs) None text items h e f = absurd (let g = f in cc)
+appended (Some xs) (Some ys) text items h e f =
+    let no : xs ≡ [] = cc in
+    let same : ys ≡ items = cc in
+    sym same ∙ h ∙ ap (λ (zs : List ℕ). zs ++ text) no
+
+-- answers and certificate that were taken from the beginning are right, and match
+pub run_written : (summary : Summary) (x y : Reader) (a b c d : Writer) (text answers certificate : List ℕ) → x.to_come ≡ Some text
+    → a.contents ≡ Some [] → b.contents ≡ Some answers → c.contents ≡ Some [] → d.contents ≡ Some certificate
+    → TookCertificate summary (x, y) (a, b) (c, d)
+    → AreRightAnswers text answers × Matches the_checking reading text answers certificate
+run_written summary x y a b c d text answers certificate e f g h i took =
+    let p = told x y (λ t. (answered : List ℕ) × (certified : List ℕ) × Takes a b answered × Takes c d certified × Backs t summary answered certified) text e took in
+    let is_answered : answers ≡ p.0 = appended a.contents b.contents p.0 answers p.2.told f g in
+    let is_certified : certificate ≡ p.1 = appended c.contents d.contents p.1 certificate p.3.told h i in
+    let backs : Backs text summary answers certificate = subst (λ s. Backs text summary answers s) (sym is_certified) (subst (λ s. Backs text summary s p.1) (sym is_answered) p.4) in (
+      record { outcomes = backs.outcomes; answered = backs.answers; right = backs.right },
+      subst (λ s. Matches the_checking reading text s certificate) (sym backs.answers)
+          (certified_matches reading text certificate backs.outcomes backs.steps (asked_steps summary.asks.items) backs.right backs.accepted backs.certifies backs.certificate),
+    )

@@ -1,6 +1,5 @@
 use Rattle.std.proofs.Common.{ℕ, ◌≡◌, ◌∙◌, List, IfOk, sym, subst}
-use Rattle.certify.specs.reading.Language.{reading}
-use Rattle.certify.specs.program.Printing.{Prints, is_malformed}
+use Rattle.certify.specs.program.Printing.{IsWritten, Prints}
 use Rattle.certify.proofs.lemmas.program.PrintedVerdicts.{prints_given}
 use Rattle.certify.proofs.program.standard.answer.Goals as goal
 
@@ -15,4 +14,4 @@ returns-clause-printed g c =
 
 pub print_confirmed-requires : goal.print_confirmed-requires
 print_confirmed-requires g c =
-    subst (λ (text : List ℕ). c.in_ok-written.written.malformed ≡ is_malformed (reading text).1) (c.deref.ensures.value ∙ sym c.deref-2.ensures.value) c.in_ok-written.ensures
+    subst (λ (text : List ℕ). IsWritten text c.in_ok-written.written) (c.deref.ensures.value ∙ sym c.deref-2.ensures.value) c.in_ok-written.ensures

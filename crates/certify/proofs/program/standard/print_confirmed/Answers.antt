@@ -1,7 +1,12 @@
-use Rattle.std.proofs.Common.{◌++◌, ◌∙◌, List, ℕ, [], append-nil, ap, sym, subst, rules}
+use Rattle.std.proofs.Common.{◌≡◌, ◌++◌, ◌∙◌, List, ℕ, [], append-nil, ap, sym, subst, rules}
 use Rattle.sat_base.specs.device.Device.{Takes}
 use Rattle.sat_base.proofs.lemmas.device.Writes.{took_more}
+use Rattle.sat_checker.specs.matching.ProofChecking.{the_checking}
+use Rattle.certify.specs.confirm.Matches.{Matches}
+use Rattle.certify.specs.confirm.VerdictPromises.{AreRightAnswers}
 use Rattle.certify.specs.program.Printing.{verdict_text}
+use Rattle.certify.specs.reading.Language.{reading}
+use Rattle.certify.specs.declared.verdict.Verdict.TheVariants.{Yes}
 use Rattle.certify.proofs.program.standard.print_confirmed.Goals as goal
 
 pub returns-clause-printed : goal.returns-clause-printed
@@ -11,16 +16,20 @@ returns-clause-printed g c =
     let b = seen c.write_out.new.output in
     let d = seen c.write_out-2.new.output in
     let f = seen c.flush_out.new.output in
-    let last = verdict_text c.in_ok-verdict.verdict in
-    let is_last = c.deref-4.ensures.value ∙ c.in_ok-verdict.ensures.line ∙ ap (λ (xs : List ℕ). xs ++ last) c.new-line.ensures.items in
+    let text = c.args.script.now in
+    let written = c.requires in
+    let printed = c.deref-2.result.now in
+    let matches = subst (λ (s : List ℕ). Matches the_checking reading text s c.deref-3.result.now) (sym c.deref-2.ensures.value)
+    (subst (λ (s : List ℕ). Matches the_checking reading text c.args.written.now.answers.items s) (sym c.deref-3.ensures.value) written.matches) in
+    let yes : c.in_ok-verdict.verdict ≡ Yes = c.in_ok-verdict.ensures.exact.1 matches in
+    let last = verdict_text Yes in
+    let is_last = c.deref-4.ensures.value ∙ c.in_ok-verdict.ensures.line ∙ ap (λ (xs : List ℕ). xs ++ verdict_text c.in_ok-verdict.verdict) c.new-line.ensures.items ∙ ap verdict_text yes in
     let line = took_more b d f last [] (subst (Takes b d) is_last c.in_ok-write_out-2.ensures) c.in_ok-flush_out.ensures.took in
     let answers = subst (Takes a b) (c.deref.ensures.value ∙ sym c.deref-2.ensures.value) c.in_ok-write_out.ensures in
     record {
-      answers = c.deref-2.result.now;
-      certificate = c.deref-3.result.now;
-      verdict = c.in_ok-verdict.verdict;
-      exact = c.in_ok-verdict.ensures.exact;
-      printed = took_more a b f c.deref-2.result.now last answers (subst (Takes b f) (append-nil last) line);
+      answers = printed;
+      right = subst (AreRightAnswers text) (sym c.deref-2.ensures.value) written.right;
+      printed = took_more a b f printed last answers (subst (Takes b f) (append-nil last) line);
       flushed = c.in_ok-flush_out.ensures.flushed;
       done = search rules;
     }
