@@ -33,7 +33,7 @@ const USAGE: &str = "usage: certify [run S A C [STEPS] | confirm S A C | hints C
 /// Does what the arguments ask for; these leave out the program's own name.
 ///
 /// - None: answers the script on `input`, confirms the answers by a certificate that is kept in memory, and writes the answers and
-///   `c confirmed` or `c not confirmed ASK WHY` to `output`.
+///   `c confirmed` to `output`.
 /// - `run S A C [STEPS]`: answers the script in the file S, with the answers in A and the certificate in C. Each ask may take so many
 ///   rounds of search, at most 2^64-1, which is the default.
 /// - `confirm S A C`: writes to `output` whether the answers in A are confirmed by the certificate in C, `yes` or `no ASK WHY`.
