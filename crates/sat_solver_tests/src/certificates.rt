@@ -57,6 +57,21 @@ fn add_and_ask<W: CountedWrite + Drop>(
     ask_none(solver)
 }
 
+/// Writes the proof of clauses and an ask to a target, which comes back.
+fn write_text<W: CountedWrite + Drop>(
+    solver: &mut Solver<W>,
+    target: W,
+    format: ProofFormat,
+    clauses: Clauses,
+    lits: &mut Vec<Lit>,
+) -> Result<Option<W>, SolverError>
+    requires { IsSolver solver.old }
+{
+    solver.write_proof(target, format)?;
+    add_and_ask(solver, format, clauses, lits)?;
+    solver.close_proof()
+}
+
 /// The text of a proof.
 fn text_of(
     alloc: Global,
@@ -64,12 +79,12 @@ fn text_of(
     clauses: Clauses,
 ) -> Result<Option<Vec<u8>>, SolverError> {
     let mut solver = Solver::new(alloc);
-    solver.write_proof(Counted::new(Vec::new(alloc)), format)?;
     let mut lits = Vec::new(alloc);
-    add_and_ask(&mut solver, format, clauses, &mut lits)?;
-    match solver.close_proof()? {
-        Some(target) => Ok(Some(target.into_inner())),
-        None => Ok(None),
+    let target = Counted::new(Vec::new(alloc));
+    match write_text(&mut solver, target, format, clauses, &mut lits) {
+        Ok(Some(target)) => Ok(Some(target.into_inner())),
+        Ok(None) => Ok(None),
+        Err(error) => Err(error),
     }
 }
 

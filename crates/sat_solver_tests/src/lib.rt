@@ -1,8 +1,6 @@
 //! Tests of `sat_solver` by its public calls, in a crate of their own so that the library is proved once; and callers that are proved.
 #![tactic(auto)]
 
-#[cfg(test)]
-mod analysing;
 pub mod caller;
 #[cfg(test)]
 mod certificates;
@@ -12,12 +10,6 @@ mod devices;
 mod naming;
 #[cfg(test)]
 mod proof;
-#[cfg(test)]
-mod searcher;
-#[cfg(test)]
-mod searching;
-#[cfg(test)]
-mod self_checking;
 #[cfg(test)]
 mod solver;
 #[cfg(test)]

@@ -463,17 +463,22 @@ fn parameters_are_in_their_ranges(rt: HostRuntime) {
     assert!(rt; are_refused(rt.alloc(), &mut scale));
 }
 
-/// A proof can't begin behind a call.
-fn is_too_late(alloc: Global) -> bool {
-    let mut solver = Solver::new(alloc);
-    if solver.assume(&[]).is_err() {
-        return false;
-    }
-    match solver.write_proof(Counted::new(Vec::new(alloc)), ProofFormat::Varisat) {
+/// Whether it is too late for a proof.
+fn refuses_proof<W: CountedWrite + Drop>(solver: &mut Solver<W>, target: W) -> bool
+    requires { IsSolver solver.old }
+{
+    match solver.write_proof(target, ProofFormat::Varisat) {
         Err(SolverError::TooLate) => true,
         Err(_) => false,
         Ok(()) => false,
     }
+}
+
+/// A proof can't begin behind a call.
+fn is_too_late(alloc: Global) -> bool {
+    let mut solver = Solver::new(alloc);
+    let assumed = solver.assume(&[]).is_ok();
+    assumed && refuses_proof(&mut solver, Counted::new(Vec::new(alloc)))
 }
 
 #[test]
