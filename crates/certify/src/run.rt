@@ -21,7 +21,8 @@ fn answer<S: CountedRead, A: CountedWrite, C: CountedWrite + Drop>(
     certificate: C,
     budget: u64,
 ) -> (C, Result<Summary, RunFault>)
-    ensures runs { Runs result.1 budget (gave S.seen script.old script.new) (took A.seen answers.old answers.new) (C.seen certificate, C.seen result.0) }
+    ensures runs { Runs result.1 budget (gave S.seen script.old script.new) (took A.seen answers.old answers.new)
+        (C.seen certificate, C.seen result.0) }
     ensures reads { ReadsFew (gave S.seen script.old script.new) }
 {
     let mut session = Session::new(alloc, certificate, budget);

@@ -18,7 +18,8 @@ pub fn refuse<A: CountedWrite, C: CountedWrite + Drop>(
     refusal: Refusal,
 ) -> Result<(), RunFault>
     requires { session.old.refused < session.old.commands }
-    ensures refused { (why : Why) → refusal_said (Some refusal) ≡ Some why → OnOk result (Refused session.old session.new why (A.seen answers.old) (A.seen answers.new)) }
+    ensures refused { (why : Why) → refusal_said (Some refusal) ≡ Some why
+        → OnOk result (Refused session.old session.new why (A.seen answers.old) (A.seen answers.new)) }
     ensures written { WritesBoth result C.seen (A.seen answers.old) (A.seen answers.new) session.old.solver session.new.solver }
 {
     session.refused += 1;

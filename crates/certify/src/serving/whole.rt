@@ -39,7 +39,8 @@ fn serve_next<A: CountedWrite, C: CountedWrite + Drop>(
 ) -> Result<(), RunFault>
     requires goes_on { GoesOn session.old }
     requires whole { (c : Spelled) × IsLent command c }
-    ensures served { (c : Spelled) → IsLent command.entry c → OnOk result (ServedNext C.seen session.old session.new c (A.seen answers.old) (A.seen answers.new)) }
+    ensures served { (c : Spelled) → IsLent command.entry c
+        → OnOk result (ServedNext C.seen session.old session.new c (A.seen answers.old) (A.seen answers.new)) }
     ensures written { WritesBoth result C.seen (A.seen answers.old) (A.seen answers.new) session.old.solver session.new.solver }
 {
     if session.commands == u64::MAX {
@@ -70,7 +71,8 @@ fn serve_end<A: CountedWrite, C: CountedWrite + Drop>(
     end: ScriptEnd,
 ) -> Result<Option<u64>, RunFault>
     requires { GoesOn session.old }
-    ensures serves { (j : Judge) → IsAt session.old j → IfOk result (λ at. ServesWhole C.seen j (end_reading end) 0 at session.old session.new (A.seen answers.old) (A.seen answers.new)) }
+    ensures serves { (j : Judge) → IsAt session.old j
+        → IfOk result (λ at. ServesWhole C.seen j (end_reading end) 0 at session.old session.new (A.seen answers.old) (A.seen answers.new)) }
     ensures ready { OnOk result (IsReady session.new.solver) }
     ensures written { WritesBoth result C.seen (A.seen answers.old) (A.seen answers.new) session.old.solver session.new.solver }
 {
@@ -99,7 +101,9 @@ fn serve_last<A: CountedWrite, C: CountedWrite + Drop>(
 ) -> Result<Option<u64>, RunFault>
     requires goes_on { GoesOn session.old }
     requires whole { (c : Spelled) × IsLent command c }
-    ensures serves { (c : Spelled) → IsLent command.entry c → (j : Judge) → IsAt session.old j → IfOk result (λ at. ServesWhole C.seen j (onto_commands (c ∷ []) (end_reading end)) 1 at session.old session.new (A.seen answers.old) (A.seen answers.new)) }
+    ensures serves { (c : Spelled) → IsLent command.entry c → (j : Judge) → IsAt session.old j
+        → IfOk result (λ at. ServesWhole C.seen j (onto_commands (c ∷ []) (end_reading end)) 1 at session.old session.new
+        (A.seen answers.old) (A.seen answers.new)) }
     ensures ready { OnOk result (IsReady session.new.solver) }
     ensures written { WritesBoth result C.seen (A.seen answers.old) (A.seen answers.new) session.old.solver session.new.solver }
 {
