@@ -100,7 +100,7 @@ impl LastClause {
     {
         match self {
             LastClause::NoneYet => None,
-            LastClause::Empty(id) | LastClause::Single(id, _) | LastClause::Long(id, _) => Some(id),
+            LastClause::Empty(id) | LastClause::Single(id, _) | LastClause::Long(id) => Some(id),
         }
     }
 }

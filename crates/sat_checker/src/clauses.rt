@@ -1,22 +1,23 @@
 //! The stored clauses of two literals or more.
-ghost use Rattle.std.specs.Prelude.{ℕ, ◌≡◌, ◌+◌, ◌*◌, ◌<◌, ◌≤◌, ◌^◌, [], ◌∷◌, ◌++◌, length, true, false, OnOk};
+ghost use Rattle.std.specs.Prelude.{ℕ, ◌≡◌, ◌+◌, ◌*◌, ◌<◌, ◌≤◌, ◌^◌, [], ◌∷◌, ◌++◌, length, true, false, None, OnOk, OnErr, IfOk, IfSome};
 ghost use Rattle.std.specs.List.{AllByRecursion, list_any};
 ghost use Rattle.sat_checker.specs.inner.ModelTests.{are_all_true, irredundant_length};
 ghost use Rattle.sat_checker.specs.Looks.{total_length};
 ghost use Rattle.sat_checker.specs.inner.Marks.{IsIncreasing};
-ghost use Rattle.sat_checker.specs.inner.SlotView.{slot_at, literals_at, all_lits, stored_slot, with_count_at, without_count_at, count_of, is_gone, is_standing, places_of, bucket_in, is_same_at, found_among, all_hashed_by, live, live_length};
-ghost use Rattle.sat_checker.specs.HasherView.{solver_name_of, width_of};
+ghost use Rattle.sat_checker.specs.inner.SlotView.{slot_at, literals_at, all_lits, stored_slot, with_count_at, without_count_at, count_of, is_gone, gone_count, standing, MayDrop, IsStanding, slot_ids, places_of, bucket_in, is_same_at, found_among, hashed_anew, live, live_length};
+ghost use Rattle.sat_checker.specs.Storing.{clause_numbered};
 ghost use Rattle.sat_checker.specs.LiteralSets.{mentions, is_among};
 ghost use Rattle.sat_checker.specs.inner.PairView.{first_of, behind};
 ghost use Rattle.sat_checker.specs.inner.IndexView.{Files, pairs_of};
 ghost use Rattle.sat_checker.specs.inner.OccurrenceView.{AreKept};
 
 use crate::assigned::Assigned;
+use crate::filed_hash::FiledHash;
 use crate::hash::ClauseHasher;
 use crate::links::Pair;
 use crate::looks::Looks;
 use crate::occurrences::Occurrences;
-use crate::slots::Slots;
+use crate::slots::{Slots, in_buffer};
 use crate::sorted_pairs::{SortedPairs, sorted};
 use crate::valuation::makes_true;
 use sat_base::{ClauseHash, HashBits, Lit, Var};
@@ -25,23 +26,27 @@ use std::marker::Model;
 
 /// Clauses at their places. Unless it is gone each is found by its hash, and its literals are counted.
 #[derive(Drop)]
-pub(crate) struct Clauses {
+pub struct Clauses {
     alloc: Global,
     slots: Slots,
     index: SortedPairs,
     occurrences: Occurrences,
+    /// How many are gone.
+    gone: usize,
+    /// How many literals of those lie in the buffer. Nothing but the time of a compaction hangs on it.
+    unused: usize,
 }
 
 impl Model for Clauses {
-    ghost use Rattle.std.specs.Prelude.{List};
-    ghost use Rattle.sat_checker.specs.inner.SlotView.{Slot};
+    ghost use Rattle.std.specs.Prelude.{List, ◌≡◌};
+    ghost use Rattle.sat_checker.specs.inner.SlotView.{Slot, gone_count};
     ghost use Rattle.sat_checker.specs.inner.OccurrenceView.{AreKept};
 
     ghost Value = { List Slot };
 
     ghost view = { λ s. s.slots };
 
-    ghost invariant = { λ s. AreKept s.slots s.index s.occurrences };
+    ghost invariant = { λ s. AreKept s.slots s.index s.occurrences × (s.gone ≡ gone_count s.slots) };
 }
 
 impl Clauses {
@@ -53,7 +58,16 @@ impl Clauses {
             slots: Slots::new(alloc),
             index: SortedPairs::new(alloc, all_bits()),
             occurrences: Occurrences::new(alloc),
+            gone: 0,
+            unused: 0,
         }
+    }
+
+    /// The sorted list of the hashes and places of those that aren't gone.
+    pub fn index(&self) -> &SortedPairs
+        ensures { Files result.now self.now }
+    {
+        &self.index
     }
 
     pub fn len(&self) -> usize
@@ -130,11 +144,16 @@ impl Clauses {
         None
     }
 
-    /// Whether there is a clause at the place, and it isn't gone.
-    pub fn is_standing(&self, place: usize) -> bool
-        ensures { result ≡ is_standing self.now place }
+    /// The place of the clause with this id, unless it is gone. Ids rise by place.
+    pub fn place_of(&self, id: u64) -> Option<usize>
+        ensures found { IfSome result (IsStanding self.now id) }
+        ensures absent { result ≡ None → IsIncreasing (slot_ids self.now) → clause_numbered id (live self.now) ≡ None }
     {
-        place < self.slots.len() && !self.slots.is_gone(place)
+        let place = self.slots.place_of(id)?;
+        if self.slots.is_gone(place) {
+            return None;
+        }
+        Some(place)
     }
 
     /// Whether a clause that isn't gone has a literal of the variable. No clause is looked at.
@@ -193,7 +212,7 @@ impl Clauses {
 
     /// Files all clauses anew, by the hashes of this hasher. Where memory is wanted none is left.
     pub fn rehash(&mut self, hasher: &ClauseHasher, looks: &mut Looks) -> Result<(), AllocError>
-        ensures hashed { OnOk result (self.new ≡ all_hashed_by (solver_name_of hasher.now) (width_of hasher.now) self.old) }
+        ensures hashed { OnOk result (self.new ≡ hashed_anew hasher.now self.old) }
         ensures looks { looks.new ≤ looks.old + live_length self.old }
         ensures rise { looks.old ≤ looks.new }
     {
@@ -222,11 +241,29 @@ impl Clauses {
         requires some { 0 < count_of redundant (slot_at self.old place) }
         ensures { self.new ≡ without_count_at redundant place self.old }
     {
+        let _count = self.slots.len();
         self.slots.take_count(place, redundant);
         if self.slots.is_gone(place) {
             self.index.remove(place);
             self.occurrences.take(literals);
+            self.gone += 1;
+            self.unused = self.unused.saturating_add(in_buffer(literals.len()));
         }
+    }
+
+    /// Drops the clauses that are gone, where more than half of all are, or more than half of the buffer is theirs. Their places are
+    /// given again. Where memory is wanted they stay. Hashes have so many bits.
+    pub fn compact(&mut self, bits: HashBits) -> Result<(), AllocError>
+        ensures left { MayDrop self.old self.new }
+        ensures few { OnOk result (2 * gone_count self.new ≤ length self.new) }
+    {
+        if self.gone <= self.slots.len() / 2 && self.unused <= self.slots.buffered() / 2 {
+            return Ok(());
+        }
+        drop_gone(self.alloc, &mut self.slots, &mut self.index, bits)?;
+        self.gone = 0;
+        self.unused = 0;
+        Ok(())
     }
 }
 
@@ -253,7 +290,7 @@ fn add(
     ensures slots { OnOk result (slots.new ≡ slots.old ++ stored_slot redundant id hash literals.now ∷ []) }
 {
     occurrences.make_room(literals)?;
-    slots.push(id, hash, literals)?;
+    slots.push(id, 0, 0, FiledHash::new(hash), literals)?;
     index.push(hash)?;
     let count = slots.len();
     slots.add_count(count - 1, redundant);
@@ -270,9 +307,8 @@ fn hash_all(
     looks: &mut Looks,
 ) -> Result<(), AllocError>
     requires { pairs.old.items ≡ [] }
-    ensures hashed { OnOk result (slots.new ≡ all_hashed_by (solver_name_of hasher.now) (width_of hasher.now) slots.old) }
-    ensures pairs { OnOk result
-        (pairs.new.items ≡ pairs_of (all_hashed_by (solver_name_of hasher.now) (width_of hasher.now) slots.old)) }
+    ensures hashed { OnOk result (slots.new ≡ hashed_anew hasher.now slots.old) }
+    ensures pairs { OnOk result (pairs.new.items ≡ pairs_of (hashed_anew hasher.now slots.old)) }
     ensures looks { looks.new ≤ looks.old + live_length slots.old }
     ensures rise { looks.old ≤ looks.new }
 {
@@ -287,6 +323,49 @@ fn hash_all(
     Ok(())
 }
 
+/// Lists the pairs of the clauses that aren't gone, by the places that they have once the others are dropped.
+fn list_standing(
+    slots: &Slots,
+    index: &SortedPairs,
+    pairs: &mut Vec<Pair>,
+) -> Result<(), AllocError>
+    requires filed { Files index.now slots.now }
+    requires none { pairs.old.items ≡ [] }
+    ensures { OnOk result (pairs.new.items ≡ pairs_of (standing slots.now)) }
+{
+    for place in 0..slots.len() {
+        if slots.is_gone(place) {
+            continue;
+        }
+        let hash = index.hash(place);
+        let next = pairs.len();
+        pairs.push(Pair { hash, place: next })?;
+    }
+    Ok(())
+}
+
+/// Drops the clauses that are gone, and files the others by their new places. Where memory is wanted all stay.
+fn drop_gone(
+    alloc: Global,
+    slots: &mut Slots,
+    index: &mut SortedPairs,
+    bits: HashBits,
+) -> Result<(), AllocError>
+    requires { Files index.old slots.old }
+    ensures left { OnOk result (slots.new ≡ standing slots.old) }
+    ensures filed { OnOk result (Files index.new (standing slots.old)) }
+    ensures err { OnErr result ((slots.new ≡ slots.old) × (index.new ≡ index.old)) }
+{
+    let mut pairs = Vec::new(alloc);
+    list_standing(slots, index, &mut pairs)?;
+    let mut left = Slots::new(alloc);
+    left.push_standing(slots)?;
+    *index = sorted(alloc, pairs, left.len(), bits)?;
+    let _count = index.places();
+    *slots = left;
+    Ok(())
+}
+
 /// Hashes the clauses that aren't gone, and files them by one sort.
 fn file_all(
     alloc: Global,
@@ -295,8 +374,8 @@ fn file_all(
     index: &mut SortedPairs,
     looks: &mut Looks,
 ) -> Result<(), AllocError>
-    ensures hashed { OnOk result (slots.new ≡ all_hashed_by (solver_name_of hasher.now) (width_of hasher.now) slots.old) }
-    ensures filed { OnOk result (Files index.new (all_hashed_by (solver_name_of hasher.now) (width_of hasher.now) slots.old)) }
+    ensures hashed { OnOk result (slots.new ≡ hashed_anew hasher.now slots.old) }
+    ensures filed { OnOk result (Files index.new (hashed_anew hasher.now slots.old)) }
     ensures looks { looks.new ≤ looks.old + live_length slots.old }
     ensures rise { looks.old ≤ looks.new }
 {

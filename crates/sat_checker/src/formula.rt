@@ -10,8 +10,8 @@ ghost use Rattle.sat_checker.specs.Stored.{Stored, nothing_stored};
 ghost use Rattle.sat_checker.specs.Looks.{literal_count};
 ghost use Rattle.sat_checker.specs.Storing.{settled, with_unit, with_contradiction, with_canonical, with_stored, with_input, with_units, clause_with, without_clause, last_literals, without_variable};
 ghost use Rattle.sat_checker.specs.announcements.Needed.{ground, propagations};
-ghost use Rattle.sat_checker.specs.inner.Reasons.{named, noted_length, ExplainsUnless};
-ghost use Rattle.sat_checker.specs.inner.StoreView.{count_in};
+ghost use Rattle.sat_checker.specs.inner.Reasons.{named, noted_length, ExplainsCheck};
+ghost use Rattle.sat_checker.specs.inner.StoreView.{TakesCount, with_less};
 ghost use Rattle.sat_checker.specs.inner.Marks.{IsIncreasing};
 ghost use Rattle.sat_checker.specs.declared.store.StoreError.TheVariants.{CounterEnd};
 ghost use Rattle.sat_checker.specs.inner.FormulaView.{KeepsFormula, Becomes, TurnsIf, Deletes};
@@ -64,9 +64,8 @@ impl Formula {
         ensures looks { (f : Stored) → KeepsFormula self.old f → looks.new ≤ looks.old + length hashes.now * literal_count f }
         ensures rise { looks.old ≤ looks.new }
         ensures rest { self.new ≡ record self.old { passed = self.new.passed } }
-        ensures explained { IfOk result (λ passes. IsTrue passes → ExplainsUnless self.old.store.clauses self.new.passed
-            (map (λ u. u.literal) self.old.units) clause.now
-            (ground (map negated clause.now ++ map (λ u. u.literal) self.old.units) (named hashes.now self.old.store.clauses))) }
+        ensures explained { IfOk result (λ passes. IsTrue passes
+            → ExplainsCheck self.old.store.clauses self.new.passed (map (λ u. u.literal) self.old.units) clause.now hashes.now) }
         ensures read { IfOk result (λ _. noted_length self.old.store.clauses self.new.passed + looks.old ≤ looks.new) }
     {
         self.units
@@ -187,7 +186,7 @@ impl Formula {
         let id = self.status.next_id;
         let placed = self.store.store_clause(id, redundant, literals, looks)?;
         self.status
-            .note_last(redundant, LastClause::Long(placed.id, placed.place));
+            .note_last(redundant, LastClause::Long(placed.id));
         self.status.take_id_if(placed.is_new)
     }
 
@@ -298,10 +297,8 @@ impl Formula {
 
     /// Takes a count from sorted literals. The answer is whether they have one.
     fn take_count(&mut self, redundant: bool, literals: &[Lit], looks: &mut Looks) -> bool
-        ensures decides { (f : Stored) → KeepsFormula self.old f → MatchBool result
-            ((0 < count_in redundant (clause_with literals.now f.clauses))
-            × KeepsFormula self.new (record f { clauses = without_clause redundant literals.now f.clauses }))
-            (0 < count_in redundant (clause_with literals.now f.clauses) → ⊥) }
+        ensures decides { (f : Stored) → KeepsFormula self.old f
+            → TakesCount result redundant literals.now f (KeepsFormula self.new (with_less redundant literals.now f)) }
         ensures looks { (f : Stored) → KeepsFormula self.old f → looks.new ≤ looks.old + literal_count f }
         ensures rise { looks.old ≤ looks.new }
     {
@@ -348,7 +345,7 @@ impl Formula {
                 }
                 is_subset(&[lit], literals, true)
             }
-            LastClause::Long(_, place) => self.store.has_strict_part(place, literals, looks),
+            LastClause::Long(id) => self.store.has_strict_part(id, literals, looks),
         }
     }
 

@@ -9,9 +9,9 @@ use std::alloc::AllocError;
 
 /// A hash and a place.
 #[derive(Clone, Copy, PartialEq, Eq, PartialOrd, Ord)]
-pub(crate) struct Pair {
-    pub(crate) hash: ClauseHash,
-    pub(crate) place: usize,
+pub struct Pair {
+    pub hash: ClauseHash,
+    pub place: usize,
 }
 
 /// No place: all are below it.

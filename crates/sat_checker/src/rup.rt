@@ -7,7 +7,7 @@ ghost use Rattle.sat_checker.specs.Looks.{total_length};
 ghost use Rattle.sat_checker.specs.Propagation.{PassesCheck};
 ghost use Rattle.sat_checker.specs.announcements.Needed.{ground};
 ghost use Rattle.sat_checker.specs.inner.Look.{verdict_of, Extends, Says};
-ghost use Rattle.sat_checker.specs.inner.Reasons.{clause_at, filed, named, noted_length, Records, RecordsWalk, Ends, Explains};
+ghost use Rattle.sat_checker.specs.inner.Reasons.{clause_at, filed, named, noted_length, Records, RecordsWalk, Ends, ExplainsCheck};
 ghost use Rattle.sat_checker.specs.inner.SlotView.{literals_at, bucket_in, bucket_of, live_length};
 ghost use Rattle.sat_checker.specs.inner.Walk.{verdict, walk_on, walk_buckets, denied};
 
@@ -148,9 +148,7 @@ fn check_under(
     ensures extends { Extends assigned.old assigned.new }
     ensures looks { looks.new ≤ looks.old + length hashes.now * live_length clauses.now }
     ensures rise { looks.old ≤ looks.new }
-    ensures explained { IfOk result (λ yes. IsTrue yes → list_any (is_among assigned.old) clause.now ≡ false
-        → is_tautology clause.now ≡ false
-        → Explains clauses.now passed.new (ground (map negated clause.now ++ assigned.old) (named hashes.now clauses.now))) }
+    ensures explained { IfOk result (λ yes. IsTrue yes → ExplainsCheck clauses.now passed.new assigned.old clause.now hashes.now) }
     ensures read { IfOk result (λ _. noted_length clauses.now passed.new + looks.old ≤ looks.new) }
 {
     let _count = clauses.len();
@@ -175,9 +173,7 @@ pub(crate) fn check_clause_with_hashes(
     ensures units { assigned.new ≡ assigned.old }
     ensures looks { looks.new ≤ looks.old + length hashes.now * live_length clauses.now }
     ensures rise { looks.old ≤ looks.new }
-    ensures explained { IfOk result (λ yes. IsTrue yes → list_any (is_among assigned.old) clause.now ≡ false
-        → is_tautology clause.now ≡ false
-        → Explains clauses.now passed.new (ground (map negated clause.now ++ assigned.old) (named hashes.now clauses.now))) }
+    ensures explained { IfOk result (λ yes. IsTrue yes → ExplainsCheck clauses.now passed.new assigned.old clause.now hashes.now) }
     ensures read { IfOk result (λ _. noted_length clauses.now passed.new + looks.old ≤ looks.new) }
 {
     let units = assigned.len();

@@ -1,9 +1,11 @@
 //! Clauses of sorted literals by place, with their ids, counts and hashes.
-ghost use Rattle.std.specs.Prelude.{◌≡◌, ◌+◌, ◌-◌, ◌<◌, ◌≤◌, ◌^◌, ℕ, List, ◌∷◌, [], ◌++◌, length, OnOk, OnErr, IfOk, if◌then◌else◌};
+ghost use Rattle.std.specs.Prelude.{◌≡◌, ◌+◌, ◌-◌, ◌<◌, ◌≤◌, ◌^◌, ℕ, List, ◌∷◌, [], ◌++◌, length, nat_le, false, None, OnOk, OnErr, IfOk, IfSome, if◌then◌else◌};
 ghost use Rattle.std.specs.List.{AllByRecursion};
+ghost use Rattle.sat_checker.specs.LiteralSets.{is_among};
 ghost use Rattle.sat_checker.specs.inner.Marks.{IsIncreasing};
-ghost use Rattle.sat_checker.specs.inner.SlotView.{lits_in, LitsWithin, slot_at, literals_at, all_lits, unstored, with_count_at, without_count_at, with_hash_at, count_of, is_gone};
+ghost use Rattle.sat_checker.specs.inner.SlotView.{lits_in, LitsWithin, slot_at, literals_at, all_lits, slot_ids, slot_with, with_count_at, without_count_at, with_hash_at, count_of, is_gone, standing};
 
+use crate::filed_hash::FiledHash;
 use crate::looks::Looks;
 use sat_base::{ClauseHash, Lit};
 use std::alloc::{AllocError, Global};
@@ -13,8 +15,8 @@ use std::marker::Model;
 #[derive(Clone, Copy)]
 pub struct ClauseLits {
     inline: [Lit; 4],
-    len: usize,
-    start: usize,
+    len: u32,
+    start: u32,
 }
 
 impl ClauseLits {
@@ -29,10 +31,21 @@ impl ClauseLits {
         let start = buffer.len();
         if len <= 4 {
             inline[..len].copy_from_slice(literals);
-        } else {
-            buffer.extend_from_slice(literals)?;
+            return Ok(ClauseLits {
+                inline,
+                len: len as u32,
+                start: 0,
+            });
         }
-        Ok(ClauseLits { inline, len, start })
+        if len > u32::MAX as usize || start > u32::MAX as usize {
+            return Err(AllocError);
+        }
+        buffer.extend_from_slice(literals)?;
+        Ok(ClauseLits {
+            inline,
+            len: len as u32,
+            start: start as u32,
+        })
     }
 
     /// The literals, where those that don't lie here are in this buffer.
@@ -40,22 +53,31 @@ impl ClauseLits {
         requires { LitsWithin buffer.now self.now }
         ensures { result.now ≡ lits_in buffer.now self.now }
     {
-        if self.len <= 4 {
-            &self.inline[..self.len]
+        let len = self.len as usize;
+        if len <= 4 {
+            &self.inline[..len]
         } else {
-            &buffer[self.start..self.start + self.len]
+            let start = self.start as usize;
+            &buffer[start..start + len]
         }
     }
 }
 
-/// A clause at its place. The literals stand first, so that a walk that reads them alone touches one line of the cache.
-#[derive(Clone, Copy)]
+/// Of so many literals of a clause, so many lie in the buffer.
+pub(crate) fn in_buffer(count: usize) -> usize
+    ensures { result ≡ (if nat_le count 4 then 0 else count) }
+{
+    if count <= 4 { 0 } else { count }
+}
+
+/// A clause at its place, in 48 bytes. Its hash stands in the index.
+#[derive(Drop)]
 struct Entry {
     lits: ClauseLits,
     id: u64,
     irredundant: u64,
     redundant: u64,
-    hash: ClauseHash,
+    hash: FiledHash,
 }
 
 /// Clauses at their places, those that are gone among them. Contracts see the list of them.
@@ -114,12 +136,27 @@ impl Slots {
         self.entries[place].id
     }
 
+    /// The place of the clause with this id, where ids rise by place.
+    pub fn place_of(&self, id: u64) -> Option<usize>
+        ensures found { IfSome result (λ place. (place < length self.now) × ((slot_at self.now place).clause.id ≡ id)) }
+        ensures absent { result ≡ None → IsIncreasing (slot_ids self.now) → is_among (slot_ids self.now) id ≡ false }
+    {
+        self.entries
+            .binary_search_by_key(&id, |entry| entry.id)
+            .ok()
+    }
+
+    /// How many literals lie in the buffer, those of clauses that are gone among them.
+    pub fn buffered(&self) -> usize {
+        self.buffer.len()
+    }
+
     /// How often the clause stands as redundant, or as irredundant.
     pub fn count(&self, place: usize, redundant: bool) -> u64
         requires { place < length self.now }
         ensures { result ≡ count_of redundant (slot_at self.now place) }
     {
-        let entry = self.entries[place];
+        let entry = &self.entries[place];
         if redundant {
             entry.redundant
         } else {
@@ -135,20 +172,47 @@ impl Slots {
         self.count(place, false) == 0 && self.count(place, true) == 0
     }
 
-    /// Puts a clause without a count behind the others.
-    pub fn push(&mut self, id: u64, hash: ClauseHash, literals: &[Lit]) -> Result<(), AllocError>
+    /// Puts a clause with these counts behind the others.
+    pub fn push(
+        &mut self,
+        id: u64,
+        irredundant: u64,
+        redundant: u64,
+        hash: FiledHash,
+        literals: &[Lit],
+    ) -> Result<(), AllocError>
         requires { IsIncreasing literals.now }
-        ensures ok { OnOk result (self.new ≡ self.old ++ unstored id hash literals.now ∷ []) }
+        ensures ok { OnOk result (self.new ≡ self.old ++ slot_with id irredundant redundant hash.hash literals.now ∷ []) }
         ensures err { OnErr result (self.new ≡ self.old) }
     {
         let lits = ClauseLits::new(&mut self.buffer, literals)?;
         self.entries.push(Entry {
             lits,
             id,
-            irredundant: 0,
-            redundant: 0,
+            irredundant,
+            redundant,
             hash,
         })?;
+        Ok(())
+    }
+
+    /// Puts the clauses of other slots behind these, but for those that are gone. Nobody looks at their literals.
+    pub fn push_standing(&mut self, others: &Slots) -> Result<(), AllocError>
+        ensures { OnOk result (self.new ≡ self.old ++ standing others.now) }
+    {
+        for place in 0..others.len() {
+            if others.is_gone(place) {
+                continue;
+            }
+            let entry = &others.entries[place];
+            self.push(
+                entry.id,
+                entry.irredundant,
+                entry.redundant,
+                entry.hash.same(),
+                entry.lits.slice(&others.buffer),
+            )?;
+        }
         Ok(())
     }
 
@@ -184,6 +248,6 @@ impl Slots {
         requires { place < length self.old }
         ensures { self.new ≡ with_hash_at hash place self.old }
     {
-        self.entries[place].hash = hash;
+        self.entries[place].hash = FiledHash::new(hash);
     }
 }

@@ -1,5 +1,5 @@
 //! One sorted list of pairs of a hash and a place.
-ghost use Rattle.std.specs.Prelude.{All, true, ◌≡◌, ◌+◌, ◌<◌, ◌≤◌, [], length, OnOk, OnErr, IfOk};
+ghost use Rattle.std.specs.Prelude.{All, ℕ, true, ◌≡◌, ◌+◌, ◌++◌, ◌<◌, ◌≤◌, [], length, OnOk, OnErr, IfOk};
 ghost use Rattle.std.specs.List.{IsDistinct};
 ghost use Rattle.std.specs.List.Sorted.{IsPermutation};
 ghost use Rattle.sat_checker.specs.LiteralSets.{is_among};
@@ -82,7 +82,7 @@ fn make_heads(
 
 /// Pairs by hashes, those of one hash by places. Contracts see the list of them.
 #[derive(Drop)]
-pub(crate) struct SortedPairs {
+pub struct SortedPairs {
     alloc: Global,
     heads: Vec<u32>,
     links: Vec<Link>,
@@ -143,6 +143,21 @@ impl SortedPairs {
         ensures { result ≡ first_of (behind place (places_in hash self.now.pairs)) }
     {
         first_from(&self.links, self.links[place].next, hash)
+    }
+
+    /// Lists the pairs in order, behind those that are listed.
+    pub fn list(&self, pairs: &mut Vec<Pair>) -> Result<(), AllocError>
+        ensures { OnOk result (pairs.new.items ≡ pairs.old.items ++ self.now.pairs) }
+    {
+        list_all(&self.heads, &self.links, pairs)
+    }
+
+    /// The hash of a place that has a pair.
+    pub fn hash(&self, place: usize) -> ClauseHash
+        requires { place < self.now.places }
+        ensures { (h : ℕ) → is_among (places_in h self.now.pairs) place ≡ true → result ≡ h }
+    {
+        self.links[place].hash
     }
 
     /// Puts a pair in, at the next place.

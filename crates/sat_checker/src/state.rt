@@ -8,7 +8,7 @@ ghost use Rattle.sat_checker.specs.LiteralSets.{is_part};
 ghost use Rattle.sat_base.specs.steps.Steps.{SolverVarName, UserVarName, ChangeSamplingMode, AddClause, AtClause, ChangeHashBits, Assumptions, End, UnitClauses, DeleteClause, Model, FailedAssumptions, DeleteVar};
 ghost use Rattle.sat_base.specs.steps.StepViews.{deletion_of, step_of};
 ghost use Rattle.sat_checker.specs.inner.FormulaView.{Turns};
-ghost use Rattle.sat_checker.specs.inner.StateView.{Keeps, Decides, LooksWithin, Judges};
+ghost use Rattle.sat_checker.specs.inner.StateView.{Keeps, Leaves, with_derived, Decides, LooksWithin, Judges};
 
 use crate::formula::Formula;
 use crate::lit_set::LitSet;
@@ -110,9 +110,7 @@ impl State {
         clause: &[Lit],
         looks: &mut Looks,
     ) -> Result<(), StoreError>
-        ensures stored { (f : Stored) → Keeps self.old f
-            → Turns result (Keeps self.new (with_stored redundant clause.now (with_literals_known clause.now f)))
-            (with_stored redundant clause.now (with_literals_known clause.now f)) }
+        ensures stored { Leaves result self.old (with_derived redundant clause.now) self.new }
         ensures looks { (f : Stored) → Keeps self.old f → looks.new ≤ looks.old + literal_count f }
         ensures rise { looks.old ≤ looks.new }
     {

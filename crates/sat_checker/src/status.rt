@@ -8,14 +8,14 @@ ghost use Rattle.sat_checker.specs.declared.store.StoreError.TheVariants.{Counte
 use crate::store::StoreError;
 use sat_base::Lit;
 
-/// The last irredundant clause stored: none yet, or an empty one, a unit or a longer one by its id. Beside the id stands where it
-/// was put, so that it is found without a search: the unit's literal, or the longer clause's place.
+/// The last irredundant clause stored: none yet, or an empty one, a unit or a longer one by its id. Beside a unit's id stands its
+/// literal, so that it is found without a search.
 #[derive(Clone, Copy)]
 pub(crate) enum LastClause {
     NoneYet,
     Empty(u64),
     Single(u64, Lit),
-    Long(u64, usize),
+    Long(u64),
 }
 
 /// What is recorded of the stored formula as a whole.

@@ -1,11 +1,11 @@
 //! The stored clauses of two literals or more, with the hashes by which steps name them.
-ghost use Rattle.std.specs.Prelude.{true, false, length, ◌≡◌, [], ◌+◌, ◌≤◌, ◌<◌, ◌^◌, IfOk, OnOk, Err, MatchBool};
+ghost use Rattle.std.specs.Prelude.{ℕ, List, true, false, length, ◌≡◌, [], ◌+◌, ◌≤◌, ◌<◌, ◌^◌, Some, IfOk, OnOk, Err, MatchBool};
 ghost use Rattle.sat_checker.specs.inner.Marks.{IsIncreasing};
 ghost use Rattle.sat_checker.specs.Stored.{Stored, nothing_stored};
 ghost use Rattle.sat_checker.specs.Looks.{literal_count};
-ghost use Rattle.sat_checker.specs.inner.StoreView.{KeepsClauses, Stores, IsPlaced, count_in, found_in};
-ghost use Rattle.sat_checker.specs.inner.SlotView.{slot_ids, literals_at, literals_left, is_standing};
-ghost use Rattle.sat_checker.specs.Storing.{clause_with, with_solver_name, without_clause};
+ghost use Rattle.sat_checker.specs.inner.StoreView.{KeepsClauses, Stores, PlacesIds, KeepsIds, TakesCount, with_less, count_in, found_in};
+ghost use Rattle.sat_checker.specs.inner.SlotView.{slot_ids, live};
+ghost use Rattle.sat_checker.specs.Storing.{clause_with, clause_numbered, with_solver_name};
 ghost use Rattle.sat_checker.specs.Accepts.{IsStrictSubset};
 ghost use Rattle.sat_checker.specs.LiteralSets.{mentions};
 ghost use Rattle.sat_checker.specs.inner.ModelTests.{are_all_true, irredundant_length};
@@ -21,7 +21,7 @@ use std::alloc::{AllocError, Global};
 
 /// Why a clause can't be stored.
 #[derive(Clone, Copy, Drop)]
-pub(crate) enum StoreError {
+pub enum StoreError {
     OutOfMemory,
     CounterEnd,
 }
@@ -37,27 +37,26 @@ impl From<AllocError> for StoreError {
     }
 }
 
-/// Where a clause is stored, and whether it is new.
+/// The id of a clause that is stored, and whether it is new.
 #[derive(Clone, Copy)]
-pub(crate) struct Placed {
-    pub(crate) id: u64,
-    pub(crate) place: usize,
-    pub(crate) is_new: bool,
+pub struct Placed {
+    pub id: u64,
+    pub is_new: bool,
 }
 
 /// A stored clause that was found by its literals.
 #[derive(Clone, Copy)]
-pub(crate) struct Found {
-    pub(crate) id: u64,
-    pub(crate) irredundant: u64,
-    pub(crate) redundant: u64,
+pub struct Found {
+    pub id: u64,
+    pub irredundant: u64,
+    pub redundant: u64,
 }
 
-/// Clauses, and the hasher of now.
+/// Clauses, and the hasher of now. A checker lends none of it.
 #[derive(Drop)]
-pub(crate) struct Store {
-    pub(crate) clauses: Clauses,
-    pub(crate) hasher: ClauseHasher,
+pub struct Store {
+    pub clauses: Clauses,
+    pub hasher: ClauseHasher,
 }
 
 impl Store {
@@ -72,7 +71,7 @@ impl Store {
         }
     }
 
-    /// Stores sorted literals without repeats once more, under this id where they are new. The answer is where they are stored.
+    /// Stores sorted literals without repeats once more, under this id where they are new. The answer is under which id they are stored.
     pub fn store_clause(
         &mut self,
         id: u64,
@@ -83,22 +82,17 @@ impl Store {
         requires { IsIncreasing literals.now }
         ensures ok { IfOk result (λ placed. (f : Stored) → KeepsClauses self.old f
             → Stores self.new f id redundant literals.now placed.id placed.is_new) }
-        ensures placed { IfOk result (λ placed. IsPlaced self.old.clauses self.new.clauses id placed) }
+        ensures placed { IfOk result (λ placed. PlacesIds self.old.clauses self.new.clauses id placed.is_new) }
         // A count is at its end.
         ensures full { result ≡ Err StoreError.CounterEnd → (f : Stored) → KeepsClauses self.old f
             → 2 ^ 64 ≤ count_in redundant (clause_with literals.now f.clauses) + 1 }
         ensures looks { (f : Stored) → KeepsClauses self.old f → looks.new ≤ looks.old + literal_count f }
         ensures rise { looks.old ≤ looks.new }
     {
-        let count = self.clauses.len();
         let hash = self.hasher.clause_hash(literals);
         let Some(place) = self.clauses.find(hash, literals, looks) else {
             self.clauses.push(id, redundant, hash, literals)?;
-            return Ok(Placed {
-                id,
-                place: count,
-                is_new: true,
-            });
+            return Ok(Placed { id, is_new: true });
         };
         if self.clauses.count(place, redundant) == u64::MAX {
             return Err(StoreError::CounterEnd);
@@ -106,7 +100,6 @@ impl Store {
         self.clauses.add_count(place, redundant);
         Ok(Placed {
             id: self.clauses.id(place),
-            place,
             is_new: false,
         })
     }
@@ -128,13 +121,12 @@ impl Store {
         })
     }
 
-    /// Takes a count from sorted literals without repeats. The answer is whether they have one.
+    /// Takes a count from sorted literals without repeats. The answer is whether they have one. Clauses that are gone may be
+    /// dropped then, by which the places of others change.
     pub fn delete_clause(&mut self, redundant: bool, literals: &[Lit], looks: &mut Looks) -> bool
-        ensures deleted { (f : Stored) → KeepsClauses self.old f → MatchBool result
-            ((0 < count_in redundant (clause_with literals.now f.clauses))
-            × KeepsClauses self.new (record f { clauses = without_clause redundant literals.now f.clauses }))
-            (0 < count_in redundant (clause_with literals.now f.clauses) → ⊥) }
-        ensures ids { slot_ids self.new.clauses ≡ slot_ids self.old.clauses }
+        ensures deleted { (f : Stored) → KeepsClauses self.old f
+            → TakesCount result redundant literals.now f (KeepsClauses self.new (with_less redundant literals.now f)) }
+        ensures ids { KeepsIds self.old.clauses self.new.clauses }
         ensures looks { (f : Stored) → KeepsClauses self.old f → looks.new ≤ looks.old + literal_count f }
         ensures rise { looks.old ≤ looks.new }
     {
@@ -146,6 +138,7 @@ impl Store {
             return false;
         }
         self.clauses.take_count(place, redundant, literals);
+        let _without_memory = self.clauses.compact(self.hasher.bits());
         true
     }
 
@@ -184,21 +177,22 @@ impl Store {
         self.clauses.rehash(&self.hasher, looks)
     }
 
-    /// Whether the clause at this place isn't gone, and is a part of these sorted literals but not all of them.
-    pub fn has_strict_part(&self, place: usize, literals: &[Lit], looks: &mut Looks) -> bool
+    /// Whether the clause with this id isn't gone, and is a part of these sorted literals but not all of them. Ids rise by place.
+    pub fn has_strict_part(&self, id: u64, literals: &[Lit], looks: &mut Looks) -> bool
         requires { IsIncreasing literals.now }
-        ensures part { MatchBool result
-            (IsStrictSubset (literals_left self.now.clauses place) literals.now)
-            (IsStrictSubset (literals_left self.now.clauses place) literals.now → ⊥) }
+        ensures part { IsIncreasing (slot_ids self.now.clauses) → MatchBool result
+            (IsStrictSubset (clause_numbered id (live self.now.clauses)) literals.now)
+            (IsStrictSubset (clause_numbered id (live self.now.clauses)) literals.now → ⊥) }
         ensures looks { (f : Stored) → KeepsClauses self.now f → looks.new ≤ looks.old + literal_count f }
         // The clause is looked at where it stands.
-        ensures lent { is_standing self.now.clauses place ≡ true → looks.new ≡ looks.old + length (literals_at self.now.clauses place) }
+        ensures lent { (c : List ℕ) → IsIncreasing (slot_ids self.now.clauses)
+            → clause_numbered id (live self.now.clauses) ≡ Some c → looks.new ≡ looks.old + length c }
         ensures rise { looks.old ≤ looks.new }
     {
         let _count = self.clauses.len();
-        if !self.clauses.is_standing(place) {
+        let Some(place) = self.clauses.place_of(id) else {
             return false;
-        }
+        };
         is_subset(self.clauses.literals(place, looks), literals, true)
     }
 

@@ -5,7 +5,7 @@ ghost use Rattle.std.specs.List.{list_any};
 ghost use Rattle.sat_checker.specs.LiteralSets.{is_among, is_tautology};
 ghost use Rattle.sat_checker.specs.announcements.Needed.{ground, true_unit};
 ghost use Rattle.sat_checker.specs.inner.Marks.{NoRepeats};
-ghost use Rattle.sat_checker.specs.inner.Reasons.{named, noted_length, Explains};
+ghost use Rattle.sat_checker.specs.inner.Reasons.{named, noted_length, ExplainsCheck};
 ghost use Rattle.sat_checker.specs.Storing.{unit_id};
 ghost use Rattle.sat_checker.specs.Stored.{Stored};
 ghost use Rattle.sat_checker.specs.Accepts.{Passes};
@@ -171,9 +171,7 @@ impl Units {
         ensures looks { (f : Stored) → KeepsClauses store.now f → looks.new ≤ looks.old + length hashes.now * literal_count f }
         ensures rise { looks.old ≤ looks.new }
         ensures explained { IfOk result (λ passes. IsTrue passes
-            → list_any (is_among (map (λ u. u.literal) self.old)) clause.now ≡ false → is_tautology clause.now ≡ false
-            → Explains store.now.clauses passed.new
-            (ground (map negated clause.now ++ map (λ u. u.literal) self.old) (named hashes.now store.now.clauses))) }
+            → ExplainsCheck store.now.clauses passed.new (map (λ u. u.literal) self.old) clause.now hashes.now) }
         ensures read { IfOk result (λ _. noted_length store.now.clauses passed.new + looks.old ≤ looks.new) }
     {
         check_clause_with_hashes(

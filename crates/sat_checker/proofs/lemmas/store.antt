@@ -3,6 +3,7 @@ pub mod Ids
 pub mod Entries
 pub mod Places
 pub mod Counting
+pub mod Dropping
 pub mod Times
 pub mod Mentions
 pub mod Filing

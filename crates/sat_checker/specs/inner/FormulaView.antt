@@ -6,9 +6,8 @@ use Rattle.sat_checker.specs.Stored.{Stored, StoredClause, StoredUnit, Last, Non
 use Rattle.sat_base.specs.steps.Steps.{Step}
 use Rattle.sat_checker.specs.Accepts.{Accepts, effect}
 use Rattle.sat_checker.specs.Spent.{IsSpent}
-use Rattle.sat_checker.specs.inner.Marks.{IsIncreasing}
 use Rattle.sat_checker.specs.inner.SlotView.{slot_ids}
-use Rattle.sat_checker.specs.inner.StoreView.{KeepsClauses, KeepsHashed, HasId}
+use Rattle.sat_checker.specs.inner.StoreView.{KeepsClauses, KeepsHashed, AreIds}
 use Rattle.sat_checker.specs.declared.store.StoreError.{StoreError}
 use Rattle.sat_checker.specs.declared.store.StoreError.TheVariants.{OutOfMemory, CounterEnd}
 use Rattle.sat_checker.specs.declared.status.LastClause.{LastClause}
@@ -32,32 +31,27 @@ abbrev pub last_in : LastClause → Last
 last_in code.NoneYet = NoneYet
 last_in (code.Empty id) = Empty id
 last_in (code.Single id l) = UnitClause id
-last_in (code.Long id place) = LongClause id
+last_in (code.Long id) = LongClause id
 
 abbrev pub standing_in : Status → Standing
 standing_in s = record { unsat = s.unsat; conflict = s.conflict; last = last_in s.last; next_id = s.next_id; ended = s.ended; var_deleted = s.var_deleted }
-
--- ids are in order, and below the next one
-pub record AreIds (ids : List ℕ) (next_id : ℕ) : Type 0 where
-  pub increasing : IsIncreasing ids
-  pub below : AllByRecursion (λ i. i < next_id) ids
 
 -- No other literal's unit has this id, and a unit of this literal that came in later has a later one.
 abbrev pub IsUnitOf : ℕ → ℕ → StoredUnit → Type 0
 IsUnitOf id l u = (u.id ≡ id → u.literal ≡ l) × (u.literal ≡ l → id ≤ u.id)
 
--- where the last irredundant clause stored was put, though it may be gone by now
-abbrev pub IsPut : LastClause → List ℕ → List StoredUnit → ℕ → Type 0
-IsPut code.NoneYet ids units next_id = Unit {0}
-IsPut (code.Empty id) ids units next_id = Unit {0}
-IsPut (code.Single id l) ids units next_id = (id < next_id) × AllByRecursion (IsUnitOf id l) units
-IsPut (code.Long id place) ids units next_id = HasId ids id place
+-- where the last irredundant clause stored is a unit, its literal was put under its id, though it may be gone by now
+abbrev pub IsPut : LastClause → List StoredUnit → ℕ → Type 0
+IsPut code.NoneYet units next_id = Unit {0}
+IsPut (code.Empty id) units next_id = Unit {0}
+IsPut (code.Single id l) units next_id = (id < next_id) × AllByRecursion (IsUnitOf id l) units
+IsPut (code.Long id) units next_id = Unit {0}
 
 -- what is known of ids: those of the clauses by place, those of the units, and the last irredundant clause's
 pub record AreNumbered (ids : List ℕ) (units : List StoredUnit) (last : LastClause) (next_id : ℕ) : Type 0 where
   pub of_clauses : AreIds ids next_id
   pub of_units : AreIds (map (λ u. u.id) units) next_id
-  pub put : IsPut last ids units next_id
+  pub put : IsPut last units next_id
 
 -- it has these clauses, hashed by these names and of this width, these units, and this is recorded
 pub record KeepsParts (formula : Formula) (kept : List StoredClause) (solver_names : ℕ → Option ℕ) (bits : ℕ) (stored : List StoredUnit) (standing : Standing) : Type 0 where

@@ -1,5 +1,5 @@
 -- Pairs that are linked by their places: heads, and links by place.
-use Rattle.std.specs.Prelude.{ℕ, zero, suc, ◌≡◌, ◌≤◌, ◌<◌, ◌==◌, ◌-◌, ◌/◌, ◌^◌, min, Bool, not, nat_le, List, [], ◌∷◌, ◌++◌, length, filter, slice_index_or, Option, None, Some, if◌then◌else◌}
+use Rattle.std.specs.Prelude.{ℕ, zero, suc, ◌≡◌, ◌≤◌, ◌<◌, ◌==◌, ◌-◌, ◌/◌, ◌^◌, min, nat_le, List, [], ◌∷◌, ◌++◌, length, filter, slice_index_or, Option, None, Some, if◌then◌else◌}
 use Rattle.std.specs.List.{AllByRecursion}
 use Rattle.sat_checker.specs.inner.PairView.{AreInOrder}
 use Rattle.sat_checker.specs.declared.links.Pair.{Pair}

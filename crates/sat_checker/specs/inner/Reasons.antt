@@ -88,3 +88,7 @@ pub record Explains (slots : List Slot) (passed : Passed) (whole : Ground) : Typ
 -- They do so unless the clause has both signs of a variable or a unit in it.
 abbrev pub ExplainsUnless : List Slot → Passed → List ℕ → List ℕ → Ground → Type 0
 ExplainsUnless slots passed units clause whole = list_any (is_among units) clause ≡ false → is_tautology clause ≡ false → Explains slots passed whole
+
+-- They do so of the check of a clause by these hashes, under the assumed literals.
+abbrev pub ExplainsCheck : List Slot → Passed → List ℕ → List ℕ → List ℕ → Type 0
+ExplainsCheck slots passed assumed clause hashes = ExplainsUnless slots passed assumed clause (ground (map negated clause ++ assumed) (named hashes slots))

@@ -1,10 +1,11 @@
 -- What the store has at each place.
-use Rattle.std.specs.Prelude.{ℕ, ◌+◌, ◌<◌, ◌≤◌, ◌==◌, ◌≡◌, Bool, not, ◌&&◌, List, [], ◌∷◌, ◌++◌, map, filter, find, Option, None, Some, length, take, nat_le, nat_lt, slice_range, slice_index_or, slice_set, if◌then◌else◌}
-use Rattle.std.specs.List.{AllByRecursion}
+use Rattle.std.specs.Prelude.{ℕ, ◌+◌, ◌<◌, ◌≤◌, ◌==◌, ◌≡◌, ◌⊎◌, Bool, false, not, ◌&&◌, List, [], ◌∷◌, ◌++◌, map, filter, find, Option, length, take, nat_le, slice_range, slice_index_or, slice_set, if◌then◌else◌}
 use Rattle.sat_checker.specs.LiteralSets.{same_literals}
 use Rattle.sat_checker.specs.Looks.{total_length}
 use Rattle.sat_checker.specs.Stored.{StoredClause, hash_by}
 use Rattle.sat_checker.specs.Storing.{with_count, without_count, new_clause, unless_gone}
+use Rattle.sat_checker.specs.HasherView.{solver_name_of, width_of}
+use Rattle.sat_checker.specs.declared.hash.ClauseHasher.{ClauseHasher}
 use Rattle.sat_checker.specs.declared.slots.ClauseLits.{ClauseLits}
 
 -- the literals that lie inline, or in the buffer
@@ -20,8 +21,11 @@ pub record Slot : Type 0 where
   pub clause : StoredClause
   pub hash : ℕ
 
+abbrev pub slot_with : ℕ → ℕ → ℕ → ℕ → List ℕ → Slot
+slot_with id irredundant redundant hash literals = record { clause = record { id = id; literals = literals; irredundant = irredundant; redundant = redundant }; hash = hash }
+
 abbrev pub unstored : ℕ → ℕ → List ℕ → Slot
-unstored id hash literals = record { clause = record { id = id; literals = literals; irredundant = 0; redundant = 0 }; hash = hash }
+unstored id hash literals = slot_with id 0 0 hash literals
 
 abbrev pub slot_at : List Slot → ℕ → Slot
 slot_at slots place = slice_index_or slots place (unstored 0 0 [])
@@ -56,13 +60,24 @@ live (s ∷ ss) = unless_gone s.clause ++ live ss
 abbrev pub is_gone : Slot → Bool
 is_gone s = s.clause.irredundant == 0 && s.clause.redundant == 0
 
--- is there a clause at the place, which isn't gone?
-abbrev pub is_standing : List Slot → ℕ → Bool
-is_standing slots place = nat_lt place (length slots) && not (is_gone (slot_at slots place))
+-- how many are gone
+abbrev pub gone_count : List Slot → ℕ
+gone_count [] = 0
+gone_count (s ∷ ss) = (if is_gone s then 1 else 0) + gone_count ss
 
--- the literals of the clause at the place, unless it's gone
-abbrev pub literals_left : List Slot → ℕ → Option (List ℕ)
-literals_left slots place = if is_standing slots place then Some (literals_at slots place) else None
+-- without those that are gone
+abbrev pub standing : List Slot → List Slot
+standing = filter (λ s. not (is_gone s))
+
+-- those that are gone were dropped, or none was
+abbrev pub MayDrop : List Slot → List Slot → Type 0
+MayDrop old new = (new ≡ old) ⊎ (new ≡ standing old)
+
+-- a clause with this id at this place, which isn't gone
+pub record IsStanding (slots : List Slot) (id place : ℕ) : Type 0 where
+  pub inside : place < length slots
+  pub id_is : (slot_at slots place).clause.id ≡ id
+  pub there : is_gone (slot_at slots place) ≡ false
 
 -- a clause that was stored once
 abbrev pub stored_slot : Bool → ℕ → ℕ → List ℕ → Slot
@@ -105,3 +120,7 @@ hashed_by names width s = if is_gone s then s else record s { hash = hash_by nam
 
 abbrev pub all_hashed_by : (ℕ → Option ℕ) → ℕ → List Slot → List Slot
 all_hashed_by names width = map (hashed_by names width)
+
+-- with the hashes of this hasher, unless they are gone
+abbrev pub hashed_anew : ClauseHasher → List Slot → List Slot
+hashed_anew h slots = all_hashed_by (solver_name_of h) (width_of h) slots

@@ -1,15 +1,15 @@
 -- What the checker's state keeps of the definition's, and when its answer to a step is right.
-use Rattle.std.specs.Prelude.{ℕ, ◌≡◌, ◌+◌, ◌≤◌, Bool, Result, Ok, Err}
+use Rattle.std.specs.Prelude.{ℕ, ◌≡◌, ◌+◌, ◌≤◌, Bool, List, Result, Ok, Err}
 use Rattle.std.specs.Bool.{MatchBool}
 use Rattle.sat_checker.specs.Spent.{SpentBy}
-use Rattle.sat_checker.specs.Storing.{settled}
+use Rattle.sat_checker.specs.Storing.{settled, with_stored, with_literals_known}
 use Rattle.sat_checker.specs.declared.store.StoreError.TheVariants.{OutOfMemory, CounterEnd}
 use Rattle.sat_base.specs.steps.Steps.{Step}
 use Rattle.sat_checker.specs.LiteralSets.{canonical}
 use Rattle.sat_checker.specs.Stored.{Stored}
 use Rattle.sat_checker.specs.Accepts.{Accepts, effect}
 use Rattle.sat_checker.specs.Looks.{most_looks}
-use Rattle.sat_checker.specs.inner.FormulaView.{KeepsFormula, TurnsIf}
+use Rattle.sat_checker.specs.inner.FormulaView.{KeepsFormula, Turns, TurnsIf}
 use Rattle.sat_checker.specs.inner.VariablesView.{KeepsVariables}
 use Rattle.sat_checker.specs.declared.state.State.{State}
 use Rattle.sat_checker.specs.declared.store.StoreError.{StoreError}
@@ -22,6 +22,14 @@ pub record Keeps (state : State) (f : Stored) : Type 0 where
 -- Whatever state was kept, a step that it accepts is one that the definition accepts, and what the step leaves is kept then. One that it refuses is one that the definition refuses.
 abbrev pub Decides : Result Bool StoreError → State → Step → State → Type 0
 Decides result old step new = (f : Stored) → Keeps old f → TurnsIf result (Accepts f step) (Keeps new (effect step f)) (effect step f)
+
+-- what an answer says where the state is changed so
+abbrev pub Leaves : {T : Type 0} → Result T StoreError → State → (Stored → Stored) → State → Type 0
+Leaves result old change new = (f : Stored) → Keeps old f → Turns result (Keeps new (change f)) (change f)
+
+-- a derived clause is stored, and its variables are known
+abbrev pub with_derived : Bool → List ℕ → Stored → Stored
+with_derived redundant clause f = with_stored redundant clause (with_literals_known clause f)
 
 -- no more looks than the step may take
 abbrev pub LooksWithin : State → Step → ℕ → ℕ → Type 0

@@ -1,13 +1,14 @@
 -- What the store keeps of the definition's state.
-use Rattle.std.specs.Prelude.{ℕ, ◌<◌, ◌≡◌, Bool, false, not, List, [], ◌∷◌, ◌++◌, length, get_or, Option, None, Some, is_some, if◌then◌else◌}
+use Rattle.std.specs.Prelude.{ℕ, ◌<◌, ◌≡◌, Bool, false, not, List, [], ◌∷◌, ◌++◌, Option, None, Some, is_some, if◌then◌else◌}
 use Rattle.std.specs.List.{AllByRecursion}
 use Rattle.sat_checker.specs.Stored.{Stored, StoredClause, hash_by}
-use Rattle.sat_checker.specs.Storing.{clause_with, with_clause, redundant_count, irredundant_count}
+use Rattle.std.specs.Bool.{MatchBool}
+use Rattle.sat_checker.specs.Storing.{clause_with, with_clause, without_clause, redundant_count, irredundant_count}
 use Rattle.sat_checker.specs.HasherView.{solver_name_of, width_of}
+use Rattle.sat_checker.specs.inner.Marks.{IsIncreasing}
 use Rattle.sat_checker.specs.inner.SlotView.{Slot, is_gone, live, slot_ids}
 use Rattle.sat_checker.specs.declared.hash.ClauseHasher.{ClauseHasher}
 use Rattle.sat_checker.specs.declared.store.Found.{Found}
-use Rattle.sat_checker.specs.declared.store.Placed.{Placed}
 use Rattle.sat_checker.specs.declared.store.Store.{Store}
 
 -- each clause that isn't gone has its hash of now
@@ -27,6 +28,14 @@ KeepsClauses store f = KeepsHashed store f.clauses f.solver_names f.width
 abbrev pub count_in : Bool → Option StoredClause → ℕ
 count_in redundant c = if redundant then redundant_count c else irredundant_count c
 
+-- one count less of these literals
+abbrev pub with_less : Bool → List ℕ → Stored → Stored
+with_less redundant literals f = record f { clauses = without_clause redundant literals f.clauses }
+
+-- a count is taken of these literals, and this is kept, or they have none
+abbrev pub TakesCount : Bool → Bool → List ℕ → Stored → Type 0 → Type 0
+TakesCount taken redundant literals f kept = MatchBool taken ((0 < count_in redundant (clause_with literals f.clauses)) × kept) (0 < count_in redundant (clause_with literals f.clauses) → ⊥)
+
 -- what was found of a clause with these literals
 abbrev pub found_in : List ℕ → Option Found → Option StoredClause
 found_in literals None = None
@@ -43,12 +52,15 @@ pub record Stores (store : Store) (f : Stored) (id : ℕ) (redundant : Bool) (li
   pub id_is : stored_id ≡ id_in (clause_with literals f.clauses) id
   pub new_is : is_new ≡ not (is_some (clause_with literals f.clauses))
 
--- the id at a place
-pub record HasId (ids : List ℕ) (id : ℕ) (place : ℕ) : Type 0 where
-  pub inside : place < length ids
-  pub is : get_or ids place 0 ≡ id
+-- the ids stay, and a new clause stands behind the others with the next one
+abbrev pub PlacesIds : List Slot → List Slot → ℕ → Bool → Type 0
+PlacesIds old new next_id is_new = slot_ids new ≡ (if is_new then slot_ids old ++ next_id ∷ [] else slot_ids old)
 
--- A clause has its id at its place. The other ids stay, and a new clause stands behind the others with the next one.
-pub record IsPlaced (old : List Slot) (new : List Slot) (next_id : ℕ) (placed : Placed) : Type 0 where
-  pub ids : slot_ids new ≡ (if placed.is_new then slot_ids old ++ next_id ∷ [] else slot_ids old)
-  pub has : HasId (slot_ids new) placed.id placed.place
+-- ids are in order, and below the next one
+pub record AreIds (ids : List ℕ) (next_id : ℕ) : Type 0 where
+  pub increasing : IsIncreasing ids
+  pub below : AllByRecursion (λ i. i < next_id) ids
+
+-- they stay in order, and below the next one
+abbrev pub KeepsIds : List Slot → List Slot → Type 0
+KeepsIds old new = (next_id : ℕ) → AreIds (slot_ids old) next_id → AreIds (slot_ids new) next_id

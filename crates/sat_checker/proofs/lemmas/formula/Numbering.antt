@@ -1,7 +1,7 @@
 -- Ids, and where the last irredundant clause stored was put, as clauses and units come in and go.
-use Rattle.std.proofs.Common.{ℕ, ◌+◌, ◌<◌, ◌≤◌, ◌≡◌, Bool, true, false, not, ◌&&◌, ◌||◌, cond, eqb, List, [], ◌∷◌, ◌++◌, length, map, filter, Option, Some, None, refl, sym, ◌∙◌, ap, subst, arith, length-append}
+use Rattle.std.proofs.Common.{ℕ, ◌+◌, ◌<◌, ◌≤◌, ◌≡◌, Bool, true, false, not, ◌&&◌, ◌||◌, cond, eqb, List, [], ◌∷◌, ◌++◌, map, filter, Option, Some, None, refl, sym, ◌∙◌, ap, subst, arith}
 use Rattle.std.proofs.lemmas.Bool.{eq-eqb, ne_eqb, eqb-true, eqb-false, true≢false}
-use Rattle.std.proofs.lemmas.List.{map-append, get_or_append_left}
+use Rattle.std.proofs.lemmas.List.{map-append}
 use Rattle.std.specs.Bool.{MatchBool}
 use Rattle.std.specs.List.{AllByRecursion}
 use Rattle.std.specs.Option.{option_eq}
@@ -10,15 +10,13 @@ use Rattle.sat_checker.specs.Stored.{Stored, StoredUnit, NoneYet}
 use Rattle.sat_checker.specs.Storing.{unit_id, unit_numbered, clause_numbered, last_literals}
 use Rattle.sat_checker.specs.Accepts.{IsStrictSubset}
 use Rattle.sat_checker.specs.inner.Marks.{IsIncreasing}
-use Rattle.sat_checker.specs.inner.SlotView.{Slot, slot_ids, literals_left}
-use Rattle.sat_checker.specs.inner.StoreView.{IsPlaced}
-use Rattle.sat_checker.specs.inner.FormulaView.{Standing, AreIds, IsUnitOf, IsPut, AreNumbered, KeepsFormula, last_in}
-use Rattle.sat_checker.specs.declared.store.Placed.{Placed}
+use Rattle.sat_checker.specs.inner.SlotView.{Slot, slot_ids, live}
+use Rattle.sat_checker.specs.inner.StoreView.{PlacesIds, AreIds, KeepsIds}
+use Rattle.sat_checker.specs.inner.FormulaView.{Standing, IsUnitOf, IsPut, AreNumbered, KeepsFormula, last_in}
 use Rattle.sat_checker.specs.declared.status.LastClause.{LastClause}
 use Rattle.sat_checker.specs.declared.status.LastClause.TheVariants as code
 use Rattle.sat_checker.specs.declared.formula.Formula.{Formula}
 use Rattle.sat_checker.proofs.lemmas.meaning.Orderly.{below_more, below_push, increasing_push}
-use Rattle.sat_checker.proofs.lemmas.store.Ids.{numbered_at}
 
 abbrev unit_ids : List StoredUnit → List ℕ
 unit_ids = map (λ u. u.id)
@@ -27,11 +25,11 @@ unit_ids = map (λ u. u.id)
 pub numbered_none : (is : List ℕ) (last : LastClause) → is ≡ [] → last_in last ≡ NoneYet → AreNumbered is [] last 0
 numbered_none is last e n = subst (λ js. AreNumbered js [] last 0) (sym e) (record { of_clauses = record { increasing = tt; below = tt }; of_units = record { increasing = tt; below = tt }; put = none last n })
   where
-    none : (last : LastClause) → last_in last ≡ NoneYet → IsPut last [] [] 0
+    none : (last : LastClause) → last_in last ≡ NoneYet → IsPut last [] 0
     none code.NoneYet n = tt
     none (code.Empty id) n = tt
     none (code.Single id l) n = absurd cc
-    none (code.Long id place) n = absurd cc
+    none (code.Long id) n = tt
 
 -- an id is taken
 ids_more : (is : List ℕ) (n m : ℕ) → n ≤ m → AreIds is n → AreIds is m
@@ -40,47 +38,42 @@ ids_more is n m l h = record { increasing = h.increasing; below = below_more n m
 ids_push : (is : List ℕ) (n : ℕ) → AreIds is n → AreIds (is ++ n ∷ []) (n + 1)
 ids_push is n h = record { increasing = increasing_push is n h.increasing h.below; below = below_push is n h.below }
 
-put_more : (last : LastClause) (is : List ℕ) (us : List StoredUnit) (n m : ℕ) → n ≤ m → IsPut last is us n → IsPut last is us m
-put_more code.NoneYet is us n m l h = tt
-put_more (code.Empty id) is us n m l h = tt
-put_more (code.Single id k) is us n m l h = (let b : id < n = h.0 in omega (arith, l, b), h.1)
-put_more (code.Long id place) is us n m l h = h
+put_more : (last : LastClause) (us : List StoredUnit) (n m : ℕ) → n ≤ m → IsPut last us n → IsPut last us m
+put_more code.NoneYet us n m l h = tt
+put_more (code.Empty id) us n m l h = tt
+put_more (code.Single id k) us n m l h = (let b : id < n = h.0 in omega (arith, l, b), h.1)
+put_more (code.Long id) us n m l h = tt
 
 pub numbered_more : (is : List ℕ) (us : List StoredUnit) (last : LastClause) (n m : ℕ) → n ≤ m → AreNumbered is us last n → AreNumbered is us last m
-numbered_more is us last n m l h = record { of_clauses = ids_more is n m l h.of_clauses; of_units = ids_more (unit_ids us) n m l h.of_units; put = put_more last is us n m l h.put }
+numbered_more is us last n m l h = record { of_clauses = ids_more is n m l h.of_clauses; of_units = ids_more (unit_ids us) n m l h.of_units; put = put_more last us n m l h.put }
 
 -- a clause takes it
-put_clause : (last : LastClause) (is : List ℕ) (us : List StoredUnit) (n x : ℕ) → IsPut last is us n → IsPut last (is ++ x ∷ []) us n
-put_clause code.NoneYet is us n x h = tt
-put_clause (code.Empty id) is us n x h = tt
-put_clause (code.Single id k) is us n x h = h
-put_clause (code.Long id place) is us n x h = record {
-  inside = let a = length-append is (x ∷ []) in let b : place < length is = h.inside in omega (arith, a, b);
-  is = get_or_append_left is (x ∷ []) 0 place h.inside ∙ h.is;
-}
-
 numbered_clause : (is : List ℕ) (us : List StoredUnit) (last : LastClause) (n : ℕ) → AreNumbered is us last n → AreNumbered (is ++ n ∷ []) us last (n + 1)
 numbered_clause is us last n h = record {
   of_clauses = ids_push is n h.of_clauses;
   of_units = ids_more (unit_ids us) n (n + 1) (omega arith) h.of_units;
-  put = put_more last (is ++ n ∷ []) us n (n + 1) (omega arith) (put_clause last is us n n h.put);
+  put = put_more last us n (n + 1) (omega arith) h.put;
 }
 
-pub numbered_placed : (old new : List Slot) (us : List StoredUnit) (last : LastClause) (n : ℕ) (p : Placed) (there : Bool) → IsPlaced old new n p → p.is_new ≡ not there → AreNumbered (slot_ids old) us last n → AreNumbered (slot_ids new) us last (cond there n (n + 1))
-numbered_placed old new us last n p there k e h = go there (k.ids ∙ ap (λ b. cond b (slot_ids old ++ n ∷ []) (slot_ids old)) e)
+pub numbered_placed : (old new : List Slot) (us : List StoredUnit) (last : LastClause) (n : ℕ) (is_new there : Bool) → PlacesIds old new n is_new → is_new ≡ not there → AreNumbered (slot_ids old) us last n → AreNumbered (slot_ids new) us last (cond there n (n + 1))
+numbered_placed old new us last n is_new there k e h = go there (k ∙ ap (λ b. cond b (slot_ids old ++ n ∷ []) (slot_ids old)) e)
   where
     go : (there : Bool) → slot_ids new ≡ cond (not there) (slot_ids old ++ n ∷ []) (slot_ids old) → AreNumbered (slot_ids new) us last (cond there n (n + 1))
     go true i = subst (λ is. AreNumbered is us last n) (sym i) h
     go false i = subst (λ is. AreNumbered is us last (n + 1)) (sym i) (numbered_clause (slot_ids old) us last n h)
 
+-- clauses go
+pub numbered_kept : (old new : List Slot) (us : List StoredUnit) (last : LastClause) (n : ℕ) → KeepsIds old new → AreNumbered (slot_ids old) us last n → AreNumbered (slot_ids new) us last n
+numbered_kept old new us last n k h = record { of_clauses = k n h.of_clauses; of_units = h.of_units; put = h.put }
+
 -- a unit takes it
 abbrev unit_of : ℕ → ℕ → StoredUnit
 unit_of id l = record { id = id; literal = l }
 
-put_unit : (last : LastClause) (is : List ℕ) (us : List StoredUnit) (n l : ℕ) → IsPut last is us n → IsPut last is (us ++ unit_of n l ∷ []) (n + 1)
-put_unit code.NoneYet is us n l h = tt
-put_unit (code.Empty id) is us n l h = tt
-put_unit (code.Single id k) is us n l h = (omega (arith, below), behind us h.1)
+put_unit : (last : LastClause) (us : List StoredUnit) (n l : ℕ) → IsPut last us n → IsPut last (us ++ unit_of n l ∷ []) (n + 1)
+put_unit code.NoneYet us n l h = tt
+put_unit (code.Empty id) us n l h = tt
+put_unit (code.Single id k) us n l h = (omega (arith, below), behind us h.1)
   where
     below : id < n
     below = h.0
@@ -88,13 +81,13 @@ put_unit (code.Single id k) is us n l h = (omega (arith, below), behind us h.1)
     behind : (vs : List StoredUnit) → AllByRecursion (IsUnitOf id k) vs → AllByRecursion (IsUnitOf id k) (vs ++ unit_of n l ∷ [])
     behind [] a = (((λ e. absurd (omega (arith, e, below))), (λ e. omega (arith, below))), tt)
     behind (v ∷ vs) a = (a.0, behind vs a.1)
-put_unit (code.Long id place) is us n l h = h
+put_unit (code.Long id) us n l h = tt
 
 pub numbered_unit : (is : List ℕ) (us : List StoredUnit) (last : LastClause) (n l : ℕ) → AreNumbered is us last n → AreNumbered is (us ++ (record { id = n; literal = l }) ∷ []) last (n + 1)
 numbered_unit is us last n l h = record {
   of_clauses = ids_more is n (n + 1) (omega arith) h.of_clauses;
   of_units = subst (λ js. AreIds js (n + 1)) (sym (map-append (λ (u : StoredUnit). u.id) us (unit_of n l ∷ []))) (ids_push (unit_ids us) n h.of_units);
-  put = put_unit last is us n l h.put;
+  put = put_unit last us n l h.put;
 }
 
 -- units are forgotten
@@ -123,17 +116,17 @@ module _ (test : StoredUnit → Bool) where
       go true ih = (id_left (λ m. u.id < m) us h.0, ih)
       go false ih = ih
 
-  put_left : (last : LastClause) (is : List ℕ) (us : List StoredUnit) (n : ℕ) → IsPut last is us n → IsPut last is (filter test us) n
-  put_left code.NoneYet is us n h = tt
-  put_left (code.Empty id) is us n h = tt
-  put_left (code.Single id l) is us n h = (h.0, each_left (IsUnitOf id l) us h.1)
-  put_left (code.Long id place) is us n h = h
+  put_left : (last : LastClause) (us : List StoredUnit) (n : ℕ) → IsPut last us n → IsPut last (filter test us) n
+  put_left code.NoneYet us n h = tt
+  put_left (code.Empty id) us n h = tt
+  put_left (code.Single id l) us n h = (h.0, each_left (IsUnitOf id l) us h.1)
+  put_left (code.Long id) us n h = tt
 
   pub numbered_left : (is : List ℕ) (us : List StoredUnit) (last : LastClause) (n : ℕ) → AreNumbered is us last n → AreNumbered is (filter test us) last n
   numbered_left is us last n h = record {
     of_clauses = h.of_clauses;
     of_units = record { increasing = order_left us h.of_units.increasing; below = id_left (λ i. i < n) us h.of_units.below };
-    put = put_left last is us n h.put;
+    put = put_left last us n h.put;
   }
 
 -- a unit is noted as the last irredundant clause
@@ -206,8 +199,8 @@ module _ (F : Formula) (f : Stored) (k : KeepsFormula F f) where
   last_is : (last : LastClause) → F.status.last ≡ last → last_literals f.last f ≡ last_literals (last_in last) f
   last_is last e = ap (λ (s : Standing). last_literals s.last f) (sym k.status) ∙ ap (λ x. last_literals (last_in x) f) e
 
-  put_is : (last : LastClause) → F.status.last ≡ last → IsPut last (slot_ids F.store.clauses) f.units f.next_id
-  put_is last e = subst (λ x. IsPut x (slot_ids F.store.clauses) f.units f.next_id) e k.numbered.put
+  put_is : (last : LastClause) → F.status.last ≡ last → IsPut last f.units f.next_id
+  put_is last e = subst (λ x. IsPut x f.units f.next_id) e k.numbered.put
 
   pub single_is : (id l : ℕ) → F.status.last ≡ code.Single id l → unit_id l F.units ≡ Some id → last_literals f.last f ≡ Some (l ∷ [])
   single_is id l e u = last_is (code.Single id l) e ∙ unit_there id l f.units (put_is (code.Single id l) e).1 (ap (unit_id l) (sym k.units) ∙ u)
@@ -215,10 +208,8 @@ module _ (F : Formula) (f : Stored) (k : KeepsFormula F f) where
   pub single_none : (id l : ℕ) → F.status.last ≡ code.Single id l → (unit_id l F.units ≡ Some id → ⊥) → last_literals f.last f ≡ None
   single_none id l e n = last_is (code.Single id l) e ∙ unit_gone id l f.units k.numbered.of_units.increasing (put_is (code.Single id l) e).1 (λ u. n (ap (unit_id l) k.units ∙ u))
 
-  pub long_is : (id place : ℕ) → F.status.last ≡ code.Long id place → last_literals f.last f ≡ literals_left F.store.clauses place
-  long_is id place e =
-      last_is (code.Long id place) e ∙ ap (clause_numbered id) (sym k.clauses.clauses)
-      ∙ numbered_at F.store.clauses id place k.numbered.of_clauses.increasing (put_is (code.Long id place) e)
+  pub long_is : (id : ℕ) → F.status.last ≡ code.Long id → last_literals f.last f ≡ clause_numbered id (live F.store.clauses)
+  long_is id e = last_is (code.Long id) e ∙ ap (clause_numbered id) (sym k.clauses.clauses)
 
 pub strict_same : (b : Bool) (x y : Option (List ℕ)) (ls : List ℕ) → x ≡ y → MatchBool b (IsStrictSubset y ls) (IsStrictSubset y ls → ⊥) → MatchBool b (IsStrictSubset x ls) (IsStrictSubset x ls → ⊥)
 strict_same b x y ls e m = subst (λ z. MatchBool b (IsStrictSubset z ls) (IsStrictSubset z ls → ⊥)) (sym e) m

@@ -8,7 +8,7 @@ use Rattle.sat_checker.specs.Spent.{CountSpent, IsSpent}
 use Rattle.sat_checker.specs.Stored.{Stored, StoredClause, StoredUnit, Last, UnitClause, LongClause, is_unit}
 use Rattle.sat_checker.specs.Storing.{with_count, new_clause, with_clause, clause_with, irredundant_count, redundant_count, unit_id, unit_at, long_at, with_unit, with_contradiction, with_new_unit, with_set, with_canonical, with_stored, with_input}
 use Rattle.sat_checker.specs.inner.SlotView.{slot_ids}
-use Rattle.sat_checker.specs.inner.StoreView.{KeepsClauses, Stores, IsPlaced, count_in, id_in}
+use Rattle.sat_checker.specs.inner.StoreView.{KeepsClauses, Stores, PlacesIds, count_in, id_in}
 use Rattle.sat_checker.specs.inner.FormulaView.{Standing, standing_of, standing_in, AreNumbered, KeepsFormula, Turns}
 use Rattle.sat_checker.specs.declared.store.Placed.{Placed}
 use Rattle.sat_checker.specs.declared.store.Store.{Store}
@@ -100,7 +100,7 @@ counts_spent f true ls h = record { literals = ls; past = inr h }
 counts_spent f false ls h = record { literals = ls; past = inl h }
 
 abbrev noted : Bool → Placed → Status → Status
-noted r p s = cond r s (record s { last = code.Long p.id p.place })
+noted r p s = cond r s (record s { last = code.Long p.id })
 
 next_of : (F : Formula) (f : Stored) → KeepsFormula F f → F.status.next_id ≡ f.next_id
 next_of F f k = ap (λ (s : Standing). s.next_id) k.status
@@ -136,11 +136,11 @@ module _ (F : Formula) (store : Store) (f : Stored) (x y : ℕ) (ls : List ℕ) 
   kept_so : (r : Bool) → KeepsClauses store (record f { clauses = with_clause r F.status.next_id all f.clauses }) → KeepsClauses store (record f { clauses = with_clause r f.next_id all f.clauses })
   kept_so r h = subst (λ n. KeepsClauses store (record f { clauses = with_clause r n all f.clauses })) (next_of F f k) h
 
-  numbered_so : IsPlaced F.store.clauses store.clauses F.status.next_id p → p.is_new ≡ not (is_some there) → AreNumbered (slot_ids store.clauses) f.units F.status.last (cond (is_some there) f.next_id (f.next_id + 1))
+  numbered_so : PlacesIds F.store.clauses store.clauses F.status.next_id p.is_new → p.is_new ≡ not (is_some there) → AreNumbered (slot_ids store.clauses) f.units F.status.last (cond (is_some there) f.next_id (f.next_id + 1))
   numbered_so h e =
-      numbered_placed F.store.clauses store.clauses f.units F.status.last f.next_id p (is_some there) (subst (λ n. IsPlaced F.store.clauses store.clauses n p) (next_of F f k) h) e k.numbered
+      numbered_placed F.store.clauses store.clauses f.units F.status.last f.next_id p.is_new (is_some there) (subst (λ n. PlacesIds F.store.clauses store.clauses n p.is_new) (next_of F f k) h) e k.numbered
 
-  long_done : (r : Bool) (status : Status) → Stores store f F.status.next_id r all p.id p.is_new → IsPlaced F.store.clauses store.clauses F.status.next_id p
+  long_done : (r : Bool) (status : Status) → Stores store f F.status.next_id r all p.id p.is_new → PlacesIds F.store.clauses store.clauses F.status.next_id p.is_new
       → status ≡ record (noted r p F.status) { next_id = cond p.is_new ((noted r p F.status).next_id + 1) (noted r p F.status).next_id }
       → KeepsFormula (record F { store = store; status = status }) (with_canonical r all f)
   long_done true status s h e = record {
@@ -162,7 +162,7 @@ module _ (F : Formula) (store : Store) (f : Stored) (x y : ℕ) (ls : List ℕ) 
         );
     numbered =
         subst (λ l. AreNumbered (slot_ids store.clauses) f.units l (cond (is_some there) f.next_id (f.next_id + 1))) (sym (ap (λ (t : Status). t.last) e))
-        (let n = numbered_so h s.new_is in record { of_clauses = n.of_clauses; of_units = n.of_units; put = h.has });
+        (let n = numbered_so h s.new_is in record { of_clauses = n.of_clauses; of_units = n.of_units; put = tt });
   }
 
   next_noted : (r : Bool) → (noted r p F.status).next_id ≡ f.next_id
@@ -182,7 +182,7 @@ abbrev pub Takes : {T : Type 0} → Result T StoreError → Status → Bool → 
 Takes result old needed new =
     MatchResult result (λ x. new ≡ record old { next_id = cond needed (old.next_id + 1) old.next_id }) (λ e. (e ≡ CounterEnd) × (needed ≡ true) × (2 ^ 64 ≤ old.next_id + 1))
 
-pub long_stored : {T : Type 0} (result : Result T StoreError) (F : Formula) (store : Store) (was status : Status) (f : Stored) (r : Bool) (ls : List ℕ) (p : Placed) → 2 ≤ length ls → KeepsFormula F f → Stores store f F.status.next_id r ls p.id p.is_new → IsPlaced F.store.clauses store.clauses F.status.next_id p
+pub long_stored : {T : Type 0} (result : Result T StoreError) (F : Formula) (store : Store) (was status : Status) (f : Stored) (r : Bool) (ls : List ℕ) (p : Placed) → 2 ≤ length ls → KeepsFormula F f → Stores store f F.status.next_id r ls p.id p.is_new → PlacesIds F.store.clauses store.clauses F.status.next_id p.is_new
     → was ≡ noted r p F.status → Takes result was p.is_new status → Turns result (KeepsFormula (record F { store = store; status = status }) (with_canonical r ls f)) (with_canonical r ls f)
 long_stored result F store was status f r [] p l k s h w m = absurd (omega arith)
 long_stored result F store was status f r (x ∷ []) p l k s h w m = absurd (omega arith)
@@ -198,7 +198,7 @@ long_fails : (e : StoreError) (T K : Type 0) (F : Formula) (f : Stored) (r : Boo
 long_fails e T K F f r [] l k h = absurd (omega arith)
 long_fails e T K F f r (x ∷ []) l k h = absurd (omega arith)
 long_fails OutOfMemory T K F f r (x ∷ y ∷ ls) l k h = tt
-long_fails CounterEnd T K F f r (x ∷ y ∷ ls) l k h = count_spent F F.store f x y ls (record { id = 0; place = 0; is_new = true }) k r (h refl)
+long_fails CounterEnd T K F f r (x ∷ y ∷ ls) l k h = count_spent F F.store f x y ls (record { id = 0; is_new = true }) k r (h refl)
 
 pub long_refused : {T : Type 0} (result : Result T StoreError) (d e : StoreError) → result ≡ Err d → d ≡ e → (K : Type 0) (F : Formula) (f : Stored) (r : Bool) (ls : List ℕ) → 2 ≤ length ls → KeepsFormula F f
     → (e ≡ CounterEnd → 2 ^ 64 ≤ count_in r (clause_with ls f.clauses) + 1) → Turns result K (with_canonical r ls f)

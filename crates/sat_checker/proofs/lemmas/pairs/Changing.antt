@@ -1,19 +1,19 @@
 -- What the heads list, as a pair comes in or goes.
-use Rattle.std.proofs.Common.{ℕ, zero, suc, drop, ◌+◌, ◌<◌, ◌≤◌, ◌≡◌, ◌≢◌, Bool, true, false, not, cond, eqb, List, [], ◌∷◌, ◌++◌, length, refl, sym, ◌∙◌, ap, subst, arith, Option, None, Some, inl, inr, ◌⊎◌, slice_set, length-append}
-use Rattle.std.proofs.lemmas.Bool.{cases_lt, eq-eqb, ne_eqb, eqb-true, eqb-false}
+use Rattle.std.proofs.Common.{ℕ, zero, suc, drop, ◌+◌, ◌<◌, ◌≤◌, ◌≡◌, ◌≢◌, Bool, true, false, not, cond, eqb, List, [], ◌∷◌, ◌++◌, length, refl, sym, ◌∙◌, ap, subst, arith, None, Some, slice_set, length-append}
+use Rattle.std.proofs.lemmas.Bool.{eq-eqb, ne_eqb, eqb-true, eqb-false}
 use Rattle.std.proofs.lemmas.List.{get_or-set_same, get_or-set_other, get_or_push, get_or_append_left, length-set, drop_more}
 use Rattle.std.specs.List.{All, AllByRecursion, IsDistinct}
 use Rattle.std.specs.Prelude.{slice_index_or}
 use Rattle.std.proofs.lemmas.Map.Keys.{IsDistinct-head, IsDistinct-tail}
 use Rattle.std.proofs.lemmas.List.Elements.{All-from_recursion}
 use Rattle.sat_checker.specs.inner.PairView.{IsBefore, AreInOrder, inserted, without_pair, same_place}
-use Rattle.sat_checker.specs.inner.LinkView.{nowhere, link_at, pair_at, rest, Leads, joined, top_of, head_at, part_at, listed, IsPart, AreLinked, Lists, up_to, last_or, place_before}
+use Rattle.sat_checker.specs.inner.LinkView.{nowhere, link_at, Leads, joined, top_of, head_at, part_at, listed, IsPart, AreLinked, Lists, up_to, last_or, place_before}
 use Rattle.sat_checker.specs.declared.links.Pair.{Pair}
 use Rattle.sat_checker.specs.declared.links.Link.{Link}
 use Rattle.sat_checker.proofs.lemmas.pairs.Order.{all_weaker, all_both, all_filter, all_inserted, order_filter, order_inserted, length_inserted, length_filter, inserted_first}
-use Rattle.sat_checker.proofs.lemmas.pairs.Parts.{Tops, joined_same, filter_joined, inserted_joined, length_part, all_part}
+use Rattle.sat_checker.proofs.lemmas.pairs.Parts.{Tops, filter_joined, inserted_joined, length_part, all_part}
 use Rattle.sat_checker.proofs.lemmas.pairs.Walks.{IsThere, leads_there, there_apart}
-use Rattle.sat_checker.proofs.lemmas.pairs.Links.{part_is, are_linked, listed_is, tops_of, all_there, all_in_order, leads_same, link_behind, link_first, last_member, before_member, IsRelinked, unlink, unlink_first, unlink_none, without_none, IsUnlinked}
+use Rattle.sat_checker.proofs.lemmas.pairs.Links.{are_linked, listed_is, tops_of, all_there, all_in_order, leads_same, link_behind, link_first, last_member, before_member, IsRelinked, unlink, unlink_first, unlink_none, without_none, IsUnlinked}
 
 module _ (heads : List ℕ) (links : List Link) (shift : ℕ) (a : AreLinked heads links shift) (now : List ℕ) (new : List Link) (counts : length now ≡ length heads) (few : length new ≤ nowhere) (top : ℕ) (inside : top < length heads) where
   module _ (p : Pair) (t : top_of shift (length heads) p.hash ≡ top) (apart : AllByRecursion (λ q. p.place ≢ q.place) (part_at heads links top)) (more : length links ≤ length new) (room : length (listed heads links) + 1 ≤ length new)

@@ -1,17 +1,16 @@
 -- Linked parts, as pairs come in and go.
-use Rattle.std.proofs.Common.{ltb, ◌||◌, ℕ, zero, suc, ◌+◌, ◌<◌, ◌≤◌, ◌≡◌, ◌≢◌, Bool, true, false, not, cond, eqb, leb, List, [], ◌∷◌, length, filter, map, refl, sym, ◌∙◌, ap, subst, arith, Option, None, Some, inl, inr, ◌⊎◌, ◌++◌, slice_set}
-use Rattle.std.proofs.lemmas.List.{get_or-set_same, get_or-set_other, get_or_push, get_or_append_left, length-set}
+use Rattle.std.proofs.Common.{ltb, ◌||◌, ℕ, ◌+◌, ◌<◌, ◌≤◌, ◌≡◌, ◌≢◌, Bool, true, false, not, cond, eqb, leb, List, [], ◌∷◌, length, filter, map, refl, sym, ◌∙◌, ap, subst, arith, Option, None, Some, inl, inr, ◌⊎◌}
 use Rattle.std.proofs.lemmas.Bool.{cases_lt, eq-eqb, ne_eqb, eqb-true, eqb-false, true≢false}
 use Rattle.std.proofs.lemmas.Bool.Decides.{nat_tests}
 use Rattle.std.specs.List.{AllByRecursion}
-use Rattle.sat_checker.specs.inner.PairView.{IsBefore, AreInOrder, is_before, inserted, without_pair, places_in, behind}
+use Rattle.sat_checker.specs.inner.PairView.{IsBefore, AreInOrder, inserted, without_pair, places_in, behind}
 use Rattle.sat_checker.specs.LiteralSets.{is_among}
-use Rattle.sat_checker.specs.inner.LinkView.{nowhere, link_at, pair_at, rest, IsAt, Leads, joined, top_of, head_at, part_at, listed, IsWalk, IsPart, AreLinked, up_to, last_or, place_before}
+use Rattle.sat_checker.specs.inner.LinkView.{nowhere, link_at, rest, Leads, joined, top_of, head_at, part_at, listed, IsWalk, IsPart, AreLinked, up_to, last_or, place_before}
 use Rattle.sat_checker.specs.declared.links.Pair.{Pair}
 use Rattle.sat_checker.specs.declared.links.Link.{Link}
-use Rattle.sat_checker.proofs.lemmas.pairs.Order.{all_weaker, all_both, all_filter, all_inserted, filter_none, filter_whole, order_filter, order_inserted, length_inserted, length_filter, inserted_first, is-before, not-before}
-use Rattle.sat_checker.proofs.lemmas.pairs.Parts.{Tops, joined_same, all_joined, filter_joined, order_joined, inserted_joined, places_joined}
-use Rattle.sat_checker.proofs.lemmas.pairs.Walks.{IsThere, leads_there, there_apart, chain_is, length_chain}
+use Rattle.sat_checker.proofs.lemmas.pairs.Order.{all_weaker, all_both, all_filter, filter_none, filter_whole, inserted_first, not-before}
+use Rattle.sat_checker.proofs.lemmas.pairs.Parts.{Tops, joined_same, all_joined, order_joined, places_joined}
+use Rattle.sat_checker.proofs.lemmas.pairs.Walks.{IsThere, leads_there, there_apart, chain_is}
 
 -- what is linked so is what the heads list
 module _ (heads : List ℕ) (links : List Link) (shift : ℕ) (few : length links ≤ nowhere) (parts : ℕ → List Pair)

@@ -1,6 +1,6 @@
 -- Parts of one list, each with the pairs of one top.
-use Rattle.std.proofs.Common.{ℕ, zero, suc, ◌+◌, ◌-◌, ◌*◌, ◌/◌, ◌^◌, ◌<◌, ◌≤◌, ◌≡◌, ◌≢◌, min, Bool, true, false, cond, eqb, List, [], ◌∷◌, ◌++◌, map, filter, length, refl, sym, ◌∙◌, ap, subst, arith, length-append, inl, inr, ◌⊎◌, pow_pos}
-use Rattle.std.proofs.lemmas.Bool.{cases_lt, eq-eqb, ne_eqb, eqb-true, eqb-false}
+use Rattle.std.proofs.Common.{ℕ, zero, suc, ◌+◌, ◌*◌, ◌/◌, ◌^◌, ◌<◌, ◌≤◌, ◌≡◌, ◌≢◌, Bool, false, cond, eqb, List, [], ◌++◌, map, filter, length, refl, sym, ◌∙◌, ap, subst, arith, length-append, inl, inr, ◌⊎◌, pow_pos}
+use Rattle.std.proofs.lemmas.Bool.{cases_lt, ne_eqb}
 use Rattle.std.proofs.lemmas.List.{append-nil}
 use Rattle.std.proofs.lemmas.Nat.{le-div}
 use Rattle.std.proofs.Math.Nat.{div-mul-le_self}
@@ -8,7 +8,7 @@ use Rattle.std.specs.List.{AllByRecursion}
 use Rattle.sat_checker.specs.inner.PairView.{IsBefore, AreInOrder, inserted, places_in}
 use Rattle.sat_checker.specs.inner.LinkView.{joined, top_of}
 use Rattle.sat_checker.specs.declared.links.Pair.{Pair}
-use Rattle.sat_checker.proofs.lemmas.pairs.Order.{all_append, all_left, all_right, all_weaker, all_both, filter_none, filter_two, order_append, inserted_behind, inserted_within, all_inserted}
+use Rattle.sat_checker.proofs.lemmas.pairs.Order.{all_append, all_left, all_right, all_weaker, filter_none, filter_two, order_append, inserted_behind, inserted_within}
 
 pub joined_same : (f g : ℕ → List Pair) (n : ℕ) → ((s : ℕ) → s < n → f s ≡ g s) → joined f n ≡ joined g n
 joined_same f g zero h = refl

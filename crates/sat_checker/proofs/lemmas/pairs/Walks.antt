@@ -1,10 +1,11 @@
 -- Walks over pairs that are linked by their places.
-use Rattle.std.proofs.Common.{ℕ, zero, suc, ◌+◌, ◌<◌, ◌≤◌, ◌≡◌, ◌≢◌, Bool, true, false, cond, eqb, leb, List, [], ◌∷◌, length, filter, map, refl, sym, ◌∙◌, ap, subst, arith, Option, None, Some}
-use Rattle.std.proofs.lemmas.Bool.{eq-eqb, ne_eqb, eqb-true, eqb-false}
+use Rattle.std.proofs.Common.{ℕ, zero, suc, ◌<◌, ◌≤◌, ◌≡◌, ◌≢◌, Bool, true, false, cond, eqb, leb, List, [], ◌∷◌, length, filter, map, refl, sym, ◌∙◌, ap, subst, arith, Option, None, Some, inl, inr}
+use Rattle.std.proofs.lemmas.Bool.{eq-eqb, ne_eqb, eqb-true, or_cases, true≢false}
 use Rattle.std.proofs.lemmas.Bool.Decides.{nat_tests}
 use Rattle.std.specs.List.{AllByRecursion}
+use Rattle.sat_checker.specs.LiteralSets.{is_among}
 use Rattle.sat_checker.specs.inner.PairView.{IsBefore, AreInOrder, places_in, first_of}
-use Rattle.sat_checker.specs.inner.LinkView.{nowhere, link_at, pair_at, chain, rest, IsAt, Leads, IsWalk, up_to, last_or, place_before}
+use Rattle.sat_checker.specs.inner.LinkView.{nowhere, link_at, pair_at, chain, rest, Leads, IsWalk, up_to, last_or, place_before}
 use Rattle.sat_checker.specs.declared.links.Pair.{Pair}
 use Rattle.sat_checker.specs.declared.links.Link.{Link}
 use Rattle.sat_checker.proofs.lemmas.pairs.Order.{all_weaker, filter_none, places_past}
@@ -23,6 +24,17 @@ leads_there links at (p ∷ ps) h = (here, leads_there links (link_at links at).
 
     here : IsThere links p
     here = record { inside = let l : at < length links = h.0.inside in omega (arith, place); hash = ap (λ (q : Pair). q.hash) h.0.is ∙ ap (λ x. (link_at links x).hash) (sym place) }
+
+pub hash_of_pair : (links : List Link) (ps : List Pair) (place h : ℕ) → AllByRecursion (IsThere links) ps → is_among (places_in h ps) place ≡ true → (link_at links place).hash ≡ h
+hash_of_pair links [] place h t m = absurd (true≢false (sym m))
+hash_of_pair links (p ∷ ps) place h t m = go (eqb p.hash h) refl m (hash_of_pair links ps place h t.1)
+  where
+    here : p.hash ≡ h → p.place ≡ place → (link_at links place).hash ≡ h
+    here e s = ap (λ x. (link_at links x).hash) (sym s) ∙ sym t.0.hash ∙ e
+
+    go : (b : Bool) → eqb p.hash h ≡ b → is_among (map (λ (q : Pair). q.place) (cond b (p ∷ filter (λ q. eqb q.hash h) ps) (filter (λ q. eqb q.hash h) ps))) place ≡ true → (is_among (places_in h ps) place ≡ true → (link_at links place).hash ≡ h) → (link_at links place).hash ≡ h
+    go true e m ih = elim (or_cases (eqb p.place place) (is_among (places_in h ps) place) m) [ inl s ↦ here (eqb-true p.hash h e) (eqb-true p.place place s) | inr r ↦ ih r ]
+    go false e m ih = ih m
 
 pub there_apart : (links : List Link) (p q : Pair) → IsThere links p → IsThere links q → IsBefore p q → q.place ≢ p.place
 there_apart links p q a b o e =

@@ -1,11 +1,15 @@
 -- What a search in a sorted list says.
-use Rattle.std.proofs.Common.{ℕ, zero, suc, ◌+◌, ◌<◌, ◌≤◌, ◌≡◌, ◌≢◌, Bool, true, false, ◌&&◌, eqb, List, [], ◌∷◌, length, drop, get_or, Result, Ok, Err, is_ok, refl, sym, ◌∙◌, ap, arith}
+use Rattle.std.proofs.Common.{ℕ, zero, suc, ◌+◌, ◌<◌, ◌≤◌, ◌≡◌, ◌≢◌, Bool, true, false, ◌&&◌, eqb, List, [], ◌∷◌, length, map, drop, get_or, None, Result, Ok, Err, is_ok, refl, sym, ◌∙◌, ap, arith}
 use Rattle.std.proofs.lemmas.Bool.{or_left, or_right, or_from, eq-eqb, ne_eqb}
-use Rattle.std.proofs.lemmas.List.{drop_more}
+use Rattle.std.proofs.lemmas.Bool.Decides.{nat_tests}
+use Rattle.std.proofs.lemmas.Cmp.{ranked}
+use Rattle.std.proofs.lemmas.List.{drop_more, get_or-map, length-map}
 use Rattle.std.proofs.lemmas.List.Sorted.{searched}
 use Rattle.std.specs.List.{AllByRecursion, list_all}
-use Rattle.std.specs.List.Sorted.{IsBinarySearchResult}
-use Rattle.std.specs.Ordering.{nat_cmp}
+use Rattle.std.specs.List.Sorted.{IsBinarySearchResult, IsSearchInRange, IsNonDecreasingBy}
+use Rattle.std.specs.Option.{IfSome}
+use Rattle.std.specs.Result.{result_ok}
+use Rattle.std.specs.Ordering.{nat_cmp, ordering_index}
 use Rattle.sat_checker.specs.LiteralSets.{is_among}
 use Rattle.sat_checker.specs.inner.Marks.{IsIncreasing}
 
@@ -38,3 +42,34 @@ found_among_sorted xs x (Err i) h p =
 
 pub all_next : (P : ℕ → Bool) (ls : List ℕ) (i x : ℕ) → i < length ls → x ≡ get_or ls i x → list_all P (drop i ls) ≡ (P x && list_all P (drop (i + 1) ls))
 all_next P ls i x k e = ap (list_all P) (drop_more ls i x k) ∙ ap (λ y. P y && list_all P (drop (i + 1) ls)) (sym e)
+
+-- what a search by a key says, where the keys rise
+module _ {X : Type 0} (key : X → ℕ) (k : ℕ) where
+  key_at : (xs : List X) (i : ℕ) (d : X) → i < length xs → get_or (map key xs) i 0 ≡ key (get_or xs i d)
+  key_at xs i d l = get_or-map key xs i d 0 l
+
+  rising : (xs : List X) → IsIncreasing (map key xs) → IsNonDecreasingBy (λ x. ordering_index (nat_cmp (key x) k)) xs
+  rising xs h = λ i j d le l.
+      let a = rises_to (map key xs) h i j le (omega (arith, length-map xs key, l)) in
+      let r : key (get_or xs i d) ≤ key (get_or xs j d) = omega (arith, a, key_at xs i d (omega (arith, le, l)), key_at xs j d l) in
+      grind (arith, nat_tests)
+
+  pub found_by_key : (xs : List X) (r : Result ℕ ℕ) → IsSearchInRange r (length xs) → IsBinarySearchResult (λ x. nat_cmp (key x) k) xs r → IfSome (result_ok r) (λ i. (i < length xs) × (get_or (map key xs) i 0 ≡ k))
+  found_by_key [] (Ok i) l e = absurd (let h : i < 0 = l in omega (arith, h))
+  found_by_key (x ∷ xs) (Ok i) l e = (l, key_at (x ∷ xs) i x l ∙ ranked _ k _ (sym (e x)))
+  found_by_key xs (Err i) l e = tt
+
+  absent_at : (xs : List X) (i : ℕ) → IsIncreasing (map key xs) → IsBinarySearchResult (λ x. nat_cmp (key x) k) xs (Err i) → is_among (map key xs) k ≡ false
+  absent_at [] i h p = refl
+  absent_at (x ∷ xs) i h p =
+      not_among (map key (x ∷ xs)) k (λ j l e.
+      let n = length-map (x ∷ xs) key in
+      let inside : j < length (x ∷ xs) = omega (arith, n, l) in
+      let at = key_at (x ∷ xs) j x inside in
+      let below : j < i → key (get_or (x ∷ xs) j x) < k = λ b. ranked _ k _ (sym ((p (rising (x ∷ xs) h)).0 j x (omega arith) b)) in
+      let above : i ≤ j → k < key (get_or (x ∷ xs) j x) = λ b. ranked _ k _ (sym ((p (rising (x ∷ xs) h)).1 j x b inside)) in
+      grind (arith, below, above, at, e))
+
+  pub absent_by_key : (xs : List X) (r : Result ℕ ℕ) → IsBinarySearchResult (λ x. nat_cmp (key x) k) xs r → result_ok r ≡ None → IsIncreasing (map key xs) → is_among (map key xs) k ≡ false
+  absent_by_key xs (Ok i) p n h = absurd cc
+  absent_by_key xs (Err i) p n h = absent_at xs i h p

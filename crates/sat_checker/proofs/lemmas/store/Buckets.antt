@@ -1,11 +1,8 @@
 -- Buckets beside all clauses.
-use Rattle.std.proofs.Common.{ℕ, ◌+◌, ◌*◌, ◌<◌, ◌≤◌, ◌&&◌, map, ◌≡◌, ◌≢◌, Bool, true, false, not, cond, eqb, List, [], ◌∷◌, filter, length, ◌++◌, refl, sym, ap, ◌∙◌, arith}
-use Rattle.std.proofs.lemmas.Bool.{eq-eqb, ne_eqb}
-use Rattle.std.specs.Prelude.{remove, slice_index_or}
+use Rattle.std.proofs.Common.{ℕ, ◌+◌, ◌*◌, ◌<◌, ◌≤◌, ◌&&◌, map, ◌≡◌, Bool, true, false, not, cond, eqb, List, [], ◌∷◌, filter, ◌++◌, sym, ap, arith}
 use Rattle.std.specs.List.{AllByRecursion}
 use Rattle.sat_checker.specs.Looks.{total_length}
 use Rattle.sat_checker.specs.inner.Marks.{IsIncreasing, NoRepeats}
-use Rattle.sat_checker.specs.inner.IndexView.{without_place}
 use Rattle.sat_checker.specs.inner.SlotView.{Slot, is_gone, is_filed, all_lits, live, live_length, bucket_in, bucket_of}
 use Rattle.sat_checker.proofs.lemmas.sets.Marks.{once}
 use Rattle.sat_checker.proofs.lemmas.propagation.Walking.{over_buckets}

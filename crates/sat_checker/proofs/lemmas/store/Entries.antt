@@ -1,13 +1,14 @@
 -- Entries of the store and the slots that they mean.
-use Rattle.std.proofs.Common.{ℕ, suc, ◌+◌, ◌-◌, ◌<◌, ◌≤◌, ◌≡◌, Bool, true, false, cond, leb, List, [], ◌∷◌, ◌++◌, length, take, drop, get_or, map, refl, sym, ◌∙◌, ap, subst, arith, length-append, length-drop, slice_range, slice_set, Result, Ok, Err, OnErr}
+use Rattle.std.proofs.Common.{ℕ, zero, suc, ◌+◌, ◌-◌, ◌<◌, ◌≤◌, ◌≡◌, Bool, true, false, cond, leb, List, [], ◌∷◌, ◌++◌, length, take, drop, get_or, map, refl, sym, ◌∙◌, ap, subst, arith, length-append, length-drop, slice_range, slice_set, Result, Ok, Err, OnErr}
 use Rattle.std.proofs.lemmas.List.{get_or-map, length-map, take-append-le, drop-append-le, map-set, map-append}
 use Rattle.std.proofs.lemmas.List.Elements.{All-push}
 use Rattle.std.proofs.lemmas.Bool.Decides.{nat_tests}
 use Rattle.std.specs.List.{All, AllByRecursion}
 use Rattle.sat_checker.specs.Storing.{with_count, without_count}
 use Rattle.sat_checker.specs.inner.Marks.{IsIncreasing}
-use Rattle.sat_checker.specs.inner.SlotView.{lits_in, LitsWithin, Slot, slot_at, all_lits, unstored, with_count_at, without_count_at, with_hash_at}
+use Rattle.sat_checker.specs.inner.SlotView.{lits_in, LitsWithin, Slot, slot_at, all_lits, slot_ids, unstored, with_count_at, without_count_at, with_hash_at}
 use Rattle.sat_checker.specs.inner.EntryView.{slot_of, IsEntry}
+use Rattle.sat_checker.specs.declared.filed_hash.FiledHash.{FiledHash}
 use Rattle.sat_checker.specs.declared.slots.Entry.{Entry}
 use Rattle.sat_checker.specs.declared.slots.ClauseLits.{ClauseLits}
 
@@ -26,6 +27,19 @@ module _ (buffer : List ℕ) (es : List Entry) (value : List Slot) (i : ℕ) (x 
 
   pub entry_read : All (IsEntry buffer) es → IsEntry buffer x
   entry_read right = subst (IsEntry buffer) (sym read) (right i x here)
+
+-- the ids of entries are those of the slots that they mean
+pub entry_ids : (buffer : List ℕ) (es : List Entry) (value : List Slot) → map (slot_of buffer) es ≡ value → map (λ (e : Entry). e.id) es ≡ slot_ids value
+entry_ids buffer es value is = go es ∙ ap slot_ids is
+  where
+    go : (xs : List Entry) → map (λ (e : Entry). e.id) xs ≡ slot_ids (map (slot_of buffer) xs)
+    go [] = refl
+    go (x ∷ xs) = ap (λ ids. x.id ∷ ids) (go xs)
+
+pub id_at : (ss : List Slot) (i k : ℕ) → i < length ss → get_or (slot_ids ss) i 0 ≡ k → (slot_at ss i).clause.id ≡ k
+id_at [] i k l e = absurd (omega arith)
+id_at (s ∷ ss) zero k l e = e
+id_at (s ∷ ss) (suc i) k l e = id_at ss i k (omega arith) e
 
 -- each clause of the list is increasing
 pub each_increasing : (buffer : List ℕ) (es : List Entry) (value : List Slot) → map (slot_of buffer) es ≡ value → All (IsEntry buffer) es → AllByRecursion IsIncreasing (all_lits value)
@@ -63,7 +77,7 @@ pub slots_more : (buffer more : List ℕ) (es : List Entry) → All (IsEntry buf
 slots_more buffer more [] right = refl
 slots_more buffer more (e ∷ es) right =
     let h : IsEntry buffer e = right 0 e (omega arith) in
-    let same : slot_of (buffer ++ more) e ≡ slot_of buffer e = ap (λ r. record { clause = record { id = e.id; literals = r; irredundant = e.irredundant; redundant = e.redundant }; hash = e.hash }) (lits_more buffer more e.lits h.within) in
+    let same : slot_of (buffer ++ more) e ≡ slot_of buffer e = ap (λ r. record { clause = record { id = e.id; literals = r; irredundant = e.irredundant; redundant = e.redundant }; hash = e.hash.hash }) (lits_more buffer more e.lits h.within) in
     let rest : map (slot_of (buffer ++ more)) es ≡ map (slot_of buffer) es = slots_more buffer more es (λ k d l. right (suc k) d (omega arith)) in
     ap (λ x. x ∷ map (slot_of (buffer ++ more)) es) same ∙ ap (λ xs. slot_of buffer e ∷ xs) rest
 
@@ -106,8 +120,8 @@ module _ (buffer : List ℕ) (es : List Entry) (value : List Slot) (i : ℕ) (x 
   pub discounted_false : map (slot_of buffer) (slice_set es i (record x { irredundant = x.irredundant - 1 })) ≡ without_count_at false i value
   discounted_false = slots_set buffer es value i (record x { irredundant = x.irredundant - 1 }) (record (slot_at value i) { clause = without_count false (slot_at value i).clause }) is (ap {A = Slot} (λ s. record s { clause = without_count false s.clause }) the_slot)
 
-  pub rehashed : (hash : ℕ) → map (slot_of buffer) (slice_set es i (record x { hash = hash })) ≡ with_hash_at hash i value
-  rehashed hash = slots_set buffer es value i (record x { hash = hash }) (record (slot_at value i) { hash = hash }) is (ap {A = Slot} (λ s. record s { hash = hash }) the_slot)
+  pub rehashed : (hash : FiledHash) → map (slot_of buffer) (slice_set es i (record x { hash = hash })) ≡ with_hash_at hash.hash i value
+  rehashed hash = slots_set buffer es value i (record x { hash = hash }) (record (slot_at value i) { hash = hash.hash }) is (ap {A = Slot} (λ s. record s { hash = hash.hash }) the_slot)
 
 pub on_err : {T E : Type 0} (r : Result T E) (P : Type 0) → P → OnErr r P
 on_err (Ok x) P p = tt

@@ -1,13 +1,11 @@
 -- The clauses of a bucket, by their places.
-use Rattle.std.proofs.Common.{ℕ, suc, ◌+◌, ◌<◌, ◌≤◌, ◌≡◌, ◌≢◌, Bool, true, false, cond, List, [], ◌∷◌, length, drop, get_or, map, filter, Option, None, Some, refl, sym, ◌∙◌, ap, subst, arith, eqb, inl, inr}
+use Rattle.std.proofs.Common.{ℕ, suc, ◌+◌, ◌<◌, ◌≡◌, ◌≢◌, Bool, true, false, cond, List, [], ◌∷◌, length, drop, get_or, map, filter, None, Some, refl, sym, ◌∙◌, ap, subst, arith, eqb, inl, inr}
 use Rattle.std.proofs.lemmas.Bool.{or_cases, eqb-true, true≢false}
 use Rattle.sat_checker.specs.LiteralSets.{is_among}
 use Rattle.sat_checker.specs.inner.PairView.{first_of}
 use Rattle.std.specs.List.{AllByRecursion}
 use Rattle.sat_checker.specs.inner.SlotView.{Slot, slot_at, literals_at, is_filed, all_lits, bucket_in, places_from, places_of, is_same_at, found_among}
 use Rattle.sat_checker.proofs.lemmas.store.Places.{places_below}
-use Rattle.sat_checker.specs.Looks.{total_length}
-use Rattle.sat_checker.specs.inner.Walk.{verdict, walk_on, walk}
 use Rattle.sat_checker.proofs.lemmas.propagation.Walking.{next_place, find_next, sum_next, walk-met, walk-conflict}
 
 places_literals : (all ss : List Slot) (k h : ℕ) → ((j : ℕ) → slot_at all (k + j) ≡ slot_at ss j) → map (literals_at all) (places_from k h ss) ≡ bucket_in h ss

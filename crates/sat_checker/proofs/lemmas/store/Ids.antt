@@ -1,15 +1,15 @@
 -- Ids by place, as clauses come in and go, and the clause that has one.
-use Rattle.std.proofs.Common.{ℕ, zero, suc, ◌<◌, ◌≤◌, ◌≡◌, Bool, true, false, not, ◌&&◌, cond, ltb, List, [], ◌∷◌, ◌++◌, length, get_or, map, Option, Some, None, refl, sym, ◌∙◌, ap, subst, arith, length-append, slice_set}
-use Rattle.std.proofs.lemmas.Bool.{eq-eqb, ne_eqb, true≢false, and_parts, ltb-true, ltb-false, lt-ltb}
+use Rattle.std.proofs.Common.{ℕ, zero, suc, ◌<◌, ◌≤◌, ◌≡◌, Bool, true, false, cond, eqb, List, [], ◌∷◌, ◌++◌, length, get_or, map, Option, Some, None, refl, sym, ◌∙◌, ap, subst, arith, slice_set}
+use Rattle.std.proofs.lemmas.Bool.{eq-eqb, ne_eqb, or_parts}
 use Rattle.std.proofs.lemmas.List.{length-map, map-append}
-use Rattle.std.proofs.Math.Seq.{get_or-append_seam}
 use Rattle.std.specs.List.{AllByRecursion}
+use Rattle.sat_checker.specs.LiteralSets.{is_among}
 use Rattle.sat_checker.specs.inner.Marks.{IsIncreasing}
 use Rattle.sat_checker.specs.Stored.{StoredClause, hash_by}
 use Rattle.sat_checker.specs.Storing.{with_count, without_count, clause_numbered}
 use Rattle.sat_checker.specs.Looks.{total_length}
-use Rattle.sat_checker.specs.inner.SlotView.{Slot, slot_at, literals_at, slot_ids, is_gone, is_standing, live, live_length, literals_left, stored_slot, with_count_at, without_count_at, all_hashed_by}
-use Rattle.sat_checker.specs.inner.StoreView.{HasId, IsPlaced}
+use Rattle.sat_checker.specs.inner.SlotView.{Slot, slot_at, literals_at, slot_ids, is_gone, IsStanding, live, live_length, stored_slot, with_count_at, without_count_at, all_hashed_by}
+use Rattle.sat_checker.specs.inner.StoreView.{PlacesIds}
 
 -- ids stay where a clause is counted or hashed anew
 ids_set : (ss : List Slot) (i : ℕ) (t : Slot) → t.clause.id ≡ (slot_at ss i).clause.id → slot_ids (slice_set ss i t) ≡ slot_ids ss
@@ -55,29 +55,12 @@ slot_id_at (s ∷ ss) (suc i) l = slot_id_at ss i (omega arith)
 ids_length : (ss : List Slot) → length (slot_ids ss) ≡ length ss
 ids_length ss = length-map ss (λ (s : Slot). s.clause.id)
 
--- where a clause was put
-pub placed_new : (old new : List Slot) (r : Bool) (id hash count : ℕ) (ls : List ℕ) → count ≡ length old → new ≡ old ++ stored_slot r id hash ls ∷ [] → IsPlaced old new id (record { id = id; place = count; is_new = true })
-placed_new old new r id hash count ls c n =
-    let e : slot_ids new ≡ slot_ids old ++ id ∷ [] = ap slot_ids n ∙ ids_pushed r id hash ls old in
-    record {
-      ids = e;
-      has = subst (λ is. HasId is id count) (sym e) (record {
-        inside = let a = length-append (slot_ids old) (id ∷ []) in let b = ids_length old in omega (arith, a, b, c);
-        is = subst (λ k. get_or (slot_ids old ++ id ∷ []) k 0 ≡ id) (ids_length old ∙ sym c) (get_or-append_seam (slot_ids old) id [] 0);
-      });
-    }
+-- a clause is put behind the others, or counted once more
+pub placed_new : (old new : List Slot) (r : Bool) (id hash : ℕ) (ls : List ℕ) → new ≡ old ++ stored_slot r id hash ls ∷ [] → PlacesIds old new id true
+placed_new old new r id hash ls n = ap slot_ids n ∙ ids_pushed r id hash ls old
 
-pub placed_again : (old new : List Slot) (r : Bool) (id p next_id : ℕ) → p < length old → new ≡ with_count_at r p old → id ≡ (slot_at new p).clause.id → IsPlaced old new next_id (record { id = id; place = p; is_new = false })
-placed_again old new r id p next_id l n i =
-    let e : slot_ids new ≡ slot_ids old = ap slot_ids n ∙ ids_counted r p old in
-    let m : length new ≡ length old = sym (ids_length new) ∙ ap length e ∙ ids_length old in
-    record {
-      ids = e;
-      has = record {
-        inside = let a = ids_length new in omega (arith, a, m, l);
-        is = slot_id_at new p (omega (arith, m, l)) ∙ sym i;
-      };
-    }
+pub placed_again : (old new : List Slot) (r : Bool) (p next_id : ℕ) → new ≡ with_count_at r p old → PlacesIds old new next_id false
+placed_again old new r p next_id n = ap slot_ids n ∙ ids_counted r p old
 
 -- the clause with an id is the one at its place, unless that is gone
 numbered_past : (id : ℕ) (ss : List Slot) → AllByRecursion (λ i. id < i) (slot_ids ss) → clause_numbered id (live ss) ≡ None
@@ -93,49 +76,45 @@ above b [] i h l = absurd (omega arith)
 above b (x ∷ xs) zero h l = h.0
 above b (x ∷ xs) (suc i) h l = above b xs i h.1 (omega arith)
 
-ltb_next : (i n : ℕ) → ltb (suc i) (suc n) ≡ ltb i n
-ltb_next i n = go (ltb i n) refl
+pub numbered_at : (ss : List Slot) (id i : ℕ) → IsIncreasing (slot_ids ss) → i < length ss → (slot_at ss i).clause.id ≡ id → clause_numbered id (live ss) ≡ cond (is_gone (slot_at ss i)) None (Some (literals_at ss i))
+numbered_at [] id i h l e = absurd (omega arith)
+numbered_at (s ∷ ss) id zero h l e = go (is_gone s)
   where
-    not_less : (c : Bool) → ltb (suc i) (suc n) ≡ c → n ≤ i → c ≡ false
-    not_less true e l = absurd (let k = ltb-true (suc i) (suc n) e in omega (arith, k, l))
-    not_less false e l = refl
-
-    go : (b : Bool) → ltb i n ≡ b → ltb (suc i) (suc n) ≡ b
-    go true e = lt-ltb (suc i) (suc n) (let l = ltb-true i n e in omega (arith, l))
-    go false e = not_less (ltb (suc i) (suc n)) refl (ltb-false i n e)
-
-standing_next : (s : Slot) (ss : List Slot) (i : ℕ) → is_standing (s ∷ ss) (suc i) ≡ is_standing ss i
-standing_next s ss i = ap (λ b. b && not (is_gone (slot_at ss i))) (ltb_next i (length ss))
-
-pub numbered_at : (ss : List Slot) (id i : ℕ) → IsIncreasing (slot_ids ss) → HasId (slot_ids ss) id i → clause_numbered id (live ss) ≡ literals_left ss i
-numbered_at [] id i h k = absurd (let l : i < 0 = k.inside in omega arith)
-numbered_at (s ∷ ss) id zero h k = go (is_gone s) ∙ sym (ap (λ b. cond (b && not (is_gone s)) (Some s.clause.literals) None) (lt-ltb 0 (suc (length ss)) (omega arith)))
+    go : (g : Bool) → clause_numbered id (cond g [] (s.clause ∷ []) ++ live ss) ≡ cond g None (Some s.clause.literals)
+    go true = numbered_past id ss (subst (λ x. AllByRecursion (λ i. x < i) (slot_ids ss)) e h.0)
+    go false = ap (λ b. cond b (Some s.clause.literals) (clause_numbered id (live ss))) (eq-eqb s.clause.id id e)
+numbered_at (s ∷ ss) id (suc i) h l e = first (is_gone s) ∙ numbered_at ss id i h.1 inside e
   where
-    go : (g : Bool) → clause_numbered id (cond g [] (s.clause ∷ []) ++ live ss) ≡ cond (not g) (Some s.clause.literals) None
-    go true = numbered_past id ss (subst (λ x. AllByRecursion (λ i. x < i) (slot_ids ss)) k.is h.0)
-    go false = ap (λ b. cond b (Some s.clause.literals) (clause_numbered id (live ss))) (eq-eqb s.clause.id id k.is)
-numbered_at (s ∷ ss) id (suc i) h k = first (is_gone s) ∙ numbered_at ss id i h.1 (record { inside = inside; is = k.is }) ∙ sym (ap (λ b. cond b (Some (literals_at ss i)) None) (standing_next s ss i))
-  where
-    inside : i < length (slot_ids ss)
-    inside = let l : suc i < suc (length (slot_ids ss)) = k.inside in omega arith
+    inside : i < length ss
+    inside = omega (arith, l)
+
+    below : s.clause.id < id
+    below = let n = ids_length ss in let a : s.clause.id < get_or (slot_ids ss) i 0 = above s.clause.id (slot_ids ss) i h.0 (omega (arith, n, inside)) in let b = slot_id_at ss i inside in omega (arith, a, b, e)
 
     first : (g : Bool) → clause_numbered id (cond g [] (s.clause ∷ []) ++ live ss) ≡ clause_numbered id (live ss)
     first true = refl
-    first false = ap (λ b. cond b (Some s.clause.literals) (clause_numbered id (live ss))) (ne_eqb s.clause.id id (λ e. let l : s.clause.id < get_or (slot_ids ss) i 0 = above s.clause.id (slot_ids ss) i h.0 inside in let m : get_or (slot_ids ss) i 0 ≡ id = k.is in omega arith))
+    first false = ap (λ b. cond b (Some s.clause.literals) (clause_numbered id (live ss))) (ne_eqb s.clause.id id (λ q. omega (arith, below, q)))
 
--- a clause that isn't gone
-pub standing_inside : (ss : List Slot) (i : ℕ) → is_standing ss i ≡ true → i < length ss
-standing_inside ss i h = ltb-true i (length ss) (and_parts (ltb i (length ss)) (not (is_gone (slot_at ss i))) h).0
+pub numbered_standing : (ss : List Slot) (id i : ℕ) → IsIncreasing (slot_ids ss) → IsStanding ss id i → clause_numbered id (live ss) ≡ Some (literals_at ss i)
+numbered_standing ss id i h s = numbered_at ss id i h s.inside s.id_is ∙ ap (λ b. cond b None (Some (literals_at ss i))) s.there
 
-pub standing_length : (ss : List Slot) (i : ℕ) → is_standing ss i ≡ true → length (literals_at ss i) ≤ live_length ss
-standing_length [] i h = absurd (let l : i < 0 = standing_inside [] i h in omega arith)
-standing_length (s ∷ ss) zero h = go (is_gone s) (and_parts (ltb 0 (suc (length ss))) (not (is_gone s)) h).1
+pub numbered_gone : (ss : List Slot) (id i : ℕ) → IsIncreasing (slot_ids ss) → i < length ss → (slot_at ss i).clause.id ≡ id → is_gone (slot_at ss i) ≡ true → clause_numbered id (live ss) ≡ None
+numbered_gone ss id i h l e g = numbered_at ss id i h l e ∙ ap (λ b. cond b None (Some (literals_at ss i))) g
+
+pub numbered_absent : (ss : List Slot) (id : ℕ) → is_among (slot_ids ss) id ≡ false → clause_numbered id (live ss) ≡ None
+numbered_absent [] id e = refl
+numbered_absent (s ∷ ss) id e = let p = or_parts (eqb s.clause.id id) (is_among (slot_ids ss) id) e in go (is_gone s) p.0 (numbered_absent ss id p.1)
   where
-    go : (g : Bool) → not g ≡ true → length s.clause.literals ≤ total_length (map (λ c. c.literals) (cond g [] (s.clause ∷ []) ++ live ss))
-    go true h = absurd (true≢false (sym h))
-    go false h = omega arith
-standing_length (s ∷ ss) (suc i) h = go (is_gone s) (standing_length ss i (sym (standing_next s ss i) ∙ h))
+    go : (g : Bool) → eqb s.clause.id id ≡ false → clause_numbered id (live ss) ≡ None → clause_numbered id (cond g [] (s.clause ∷ []) ++ live ss) ≡ None
+    go true n ih = ih
+    go false n ih = ap (λ b. cond b (Some s.clause.literals) (clause_numbered id (live ss))) n ∙ ih
+
+pub standing_length : (ss : List Slot) (i : ℕ) → i < length ss → is_gone (slot_at ss i) ≡ false → length (literals_at ss i) ≤ live_length ss
+standing_length [] i l g = absurd (omega arith)
+standing_length (s ∷ ss) zero l g =
+    subst (λ b. length s.clause.literals ≤ total_length (map (λ c. c.literals) (cond b [] (s.clause ∷ []) ++ live ss))) (sym g) (omega arith)
+standing_length (s ∷ ss) (suc i) l g = go (is_gone s) (standing_length ss i (omega arith) g)
   where
-    go : (g : Bool) → length (literals_at ss i) ≤ live_length ss → length (literals_at ss i) ≤ total_length (map (λ c. c.literals) (cond g [] (s.clause ∷ []) ++ live ss))
+    go : (b : Bool) → length (literals_at ss i) ≤ live_length ss → length (literals_at ss i) ≤ total_length (map (λ c. c.literals) (cond b [] (s.clause ∷ []) ++ live ss))
     go true ih = ih
     go false ih = omega (arith, ih)

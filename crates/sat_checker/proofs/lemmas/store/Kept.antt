@@ -3,7 +3,7 @@ use Rattle.std.proofs.Common.{ℕ, ◌+◌, ◌<◌, ◌≤◌, ◌≡◌, ◌�
 use Rattle.std.proofs.lemmas.Bool.{true≢false}
 use Rattle.std.specs.Result.{is_err}
 use Rattle.std.proofs.lemmas.List.{length-set}
-use Rattle.sat_checker.specs.inner.IndexView.{without_place, Files}
+use Rattle.sat_checker.specs.inner.IndexView.{Files}
 use Rattle.sat_checker.specs.inner.PairView.{Indexed, places_in, inserted, without_pair}
 use Rattle.sat_checker.specs.inner.OccurrenceView.{count_at, times_in, times_stored, AreKept}
 use Rattle.sat_checker.specs.Storing.{with_count, without_count}

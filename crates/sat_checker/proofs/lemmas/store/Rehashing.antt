@@ -1,5 +1,5 @@
 -- Filing all clauses anew.
-use Rattle.std.proofs.Common.{ℕ, zero, suc, ◌+◌, ◌<◌, ◌≤◌, ◌≡◌, Bool, true, false, not, ◌&&◌, cond, eqb, List, [], ◌∷◌, ◌++◌, length, take, drop, map, Option, refl, sym, ◌∙◌, ap, subst, arith, slice_set, ◌||◌}
+use Rattle.std.proofs.Common.{ℕ, zero, suc, ◌+◌, ◌<◌, ◌≤◌, ◌≡◌, Bool, true, false, ◌&&◌, cond, eqb, List, [], ◌∷◌, ◌++◌, length, take, drop, map, Option, refl, sym, ◌∙◌, ap, subst, arith, slice_set, ◌||◌}
 use Rattle.std.proofs.lemmas.Bool.{true≢false}
 use Rattle.std.specs.List.{list_any}
 use Rattle.std.proofs.lemmas.List.{drop_more, append-nil}
@@ -13,7 +13,7 @@ use Rattle.sat_checker.specs.inner.StoreView.{AreHashed, KeepsClauses}
 use Rattle.sat_checker.specs.declared.hash.ClauseHasher.{ClauseHasher}
 use Rattle.sat_checker.specs.declared.store.Store.{Store}
 use Rattle.sat_checker.proofs.lemmas.store.Keeping.{length_same}
-use Rattle.sat_checker.specs.inner.SlotView.{Slot, slot_at, literals_at, is_gone, is_filed, live, live_length, places_of, with_hash_at, hashed_by, all_hashed_by, unstored}
+use Rattle.sat_checker.specs.inner.SlotView.{Slot, slot_at, literals_at, is_gone, live, live_length, with_hash_at, hashed_by, all_hashed_by, unstored}
 use Rattle.sat_checker.specs.inner.IndexView.{pairs_of}
 use Rattle.sat_checker.specs.declared.links.Pair.{Pair}
 use Rattle.sat_checker.proofs.lemmas.store.Filing.{pairs_push}

@@ -5,9 +5,9 @@ use Rattle.sat_checker.specs.LiteralSets.{is_among}
 use Rattle.sat_checker.specs.Looks.{total_length}
 use Rattle.sat_checker.specs.inner.PairView.{first_of, behind, from_on}
 use Rattle.sat_checker.specs.inner.Reasons.{clause_at, filed, Leads}
-use Rattle.sat_checker.specs.inner.SlotView.{bucket_in, literals_at, places_of}
+use Rattle.sat_checker.specs.inner.SlotView.{literals_at, places_of}
 use Rattle.sat_checker.specs.inner.Walk.{walk}
-use Rattle.sat_checker.proofs.lemmas.propagation.Walking.{Extends-itself, Extends-further, walk_more, walk_ends, looks_more, looks_ended, looks_over}
+use Rattle.sat_checker.proofs.lemmas.propagation.Walking.{Extends-itself, Extends-further, walk_more, walk_ends, looks_more, looks_ended}
 use Rattle.sat_checker.proofs.lemmas.store.Filing.{first_ok, from_first, increasing_places, left_step, next_among}
 use Rattle.sat_checker.proofs.lemmas.store.Finding.{bucket_literals, place_inside, is_full, is_empty}
 use Rattle.sat_checker.proofs.lemmas.announcements.Noting.{leads_itself, filed_at, leads_next, ends_next, read_further}

@@ -1,4 +1,4 @@
-use Rattle.std.proofs.Common.{true, ◌≡◌, ◌≢◌, ◌+◌, ◌≤◌, [], length, map}
+use Rattle.std.proofs.Common.{true, ◌≡◌, ◌+◌, ◌≤◌, length, map}
 use Rattle.std.specs.Option.{IfSome}
 use Rattle.sat_checker.specs.LiteralSets.{is_among}
 use Rattle.sat_checker.specs.Looks.{total_length}

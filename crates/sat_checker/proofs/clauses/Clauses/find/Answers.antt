@@ -1,9 +1,9 @@
-use Rattle.std.proofs.Common.{ℕ, ◌≡◌, ◌+◌, ◌<◌, ◌∷◌, suc, length, map, true, ◌∙◌, refl, ap, sym, subst, arith}
+use Rattle.std.proofs.Common.{◌≡◌, ◌+◌, ◌<◌, ◌∷◌, suc, length, map, true, ◌∙◌, refl, ap, sym, subst, arith}
 use Rattle.std.specs.Option.{IfSome}
 use Rattle.sat_checker.specs.LiteralSets.{is_among}
 use Rattle.sat_checker.specs.Looks.{total_length}
 use Rattle.sat_checker.specs.inner.PairView.{first_of, behind, from_on}
-use Rattle.sat_checker.specs.inner.SlotView.{bucket_in, literals_at, places_of, found_among}
+use Rattle.sat_checker.specs.inner.SlotView.{literals_at, places_of, found_among}
 use Rattle.sat_checker.proofs.lemmas.propagation.Walking.{looks_more, looks_ended}
 use Rattle.sat_checker.proofs.lemmas.store.Filing.{first_ok, from_first, increasing_places, left_step, next_among}
 use Rattle.sat_checker.proofs.lemmas.store.Finding.{bucket_literals, place_inside, found_here, found_later}

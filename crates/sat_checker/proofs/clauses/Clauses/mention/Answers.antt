@@ -7,5 +7,5 @@ use Rattle.sat_checker.proofs.clauses.Clauses.mention.Goals as goal
 
 pub returns : goal.returns
 returns c =
-    mention_is c.args.var c.has.result _ _ c.self.inside.slots (c.self.invariant.counted (2 * c.args.var)) (c.self.invariant.counted (2 * c.args.var + 1)) c.has.ensures
+    mention_is c.args.var c.has.result _ _ c.self.inside.slots (c.self.invariant.0.counted (2 * c.args.var)) (c.self.invariant.0.counted (2 * c.args.var + 1)) c.has.ensures
     ∙ ap (λ ss. list_any (λ x. mentions x.literals c.args.var) (live ss)) c.self.view_is

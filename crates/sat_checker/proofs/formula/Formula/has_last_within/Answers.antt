@@ -13,4 +13,4 @@ returns-else-ne-clause-part c = λ f k.
     (strict_part _ (c.in-Single.lit ∷ []) c.args.literals.now c.is_subset-in-Single.ensures)
 
 pub returns-in-Long-clause-part : goal.returns-in-Long-clause-part
-returns-in-Long-clause-part c = λ f k. strict_same _ _ _ _ (long_is c.args.self.now f k c.in-Long.field-0 c.in-Long.place c.in-Long.is) c.has_strict_part.ensures.part
+returns-in-Long-clause-part c = λ f k. strict_same _ _ _ _ (long_is c.args.self.now f k c.in-Long.id c.in-Long.is) (c.has_strict_part.ensures.part k.numbered.of_clauses.increasing)

@@ -1,6 +1,6 @@
 use Rattle.std.proofs.Common.{map, ap, sym, subst, ◌∙◌, is_ok}
 use Rattle.sat_checker.specs.inner.Marks.{IsIncreasing}
-use Rattle.sat_checker.specs.inner.SlotView.{unstored}
+use Rattle.sat_checker.specs.inner.SlotView.{slot_with}
 use Rattle.sat_checker.specs.inner.EntryView.{slot_of}
 use Rattle.sat_checker.proofs.lemmas.store.Entries.{entries_over, slots_over, entries_pushed, slots_pushed, on_err}
 use Rattle.sat_checker.proofs.slots.Slots.push.Goals as goal
@@ -30,6 +30,6 @@ invariant_of-self-2 c =
 pub returns-clause-ok : goal.returns-clause-ok
 returns-clause-ok c =
     ap (map (slot_of c.new.new.buffer.items)) c.in_ok-push.ensures.items
-    ∙ slots_pushed c.new.new.buffer.items c.self.inside.entries.items c.args.self.now _ (unstored c.args.id c.args.hash c.args.literals.now)
+    ∙ slots_pushed c.new.new.buffer.items c.self.inside.entries.items c.args.self.now _ (slot_with c.args.id c.args.irredundant c.args.redundant c.args.hash.hash c.args.literals.now)
     (slots_over c.self.inside.buffer.items c.new.new.buffer.items c.self.inside.entries.items c.args.self.now c.new.ensures.kept c.self.invariant c.self.view_is)
-    (ap (unstored c.args.id c.args.hash) c.in_ok-lits.ensures.literals)
+    (ap (slot_with c.args.id c.args.irredundant c.args.redundant c.args.hash.hash) c.in_ok-lits.ensures.literals)

@@ -12,7 +12,7 @@ returns-in_default-clause-ok c = λ f k.
 
 pub returns-in_default-clause-placed : goal.returns-in_default-clause-placed
 returns-in_default-clause-placed c =
-    placed_new c.args.self.now.clauses c.push.new.self c.args.redundant c.args.id c.clause_hash-hash.result c.len-count.result c.args.literals.now c.len-count.ensures.count c.in_ok-push.ensures
+    placed_new c.args.self.now.clauses c.push.new.self c.args.redundant c.args.id c.clause_hash-hash.result c.args.literals.now c.in_ok-push.ensures
 
 pub returns-in_default-clause-looks : goal.returns-in_default-clause-looks
 returns-in_default-clause-looks c = looks_one c.args.self.now c.clause_hash-hash.result c.args.looks.now c.find.new.looks c.find.ensures.looks
@@ -45,8 +45,7 @@ returns-clause-ok c = λ f k.
 
 pub returns-clause-placed : goal.returns-clause-placed
 returns-clause-placed c =
-    placed_again c.args.self.now.clauses c.add_count.new.self c.args.redundant c.id.result c.in-Some.place c.args.id
-    (is_there c.args.self.now.clauses c.args.literals.now c.clause_hash-hash.result c.in-Some.place c.in-Some.ensures.found).inside c.add_count.ensures c.id.ensures
+    placed_again c.args.self.now.clauses c.add_count.new.self c.args.redundant c.in-Some.place c.args.id c.add_count.ensures
 
 pub returns-clause-looks : goal.returns-clause-looks
 returns-clause-looks c = looks_one c.args.self.now c.clause_hash-hash.result c.args.looks.now c.find.new.looks c.find.ensures.looks

@@ -1,0 +1,248 @@
+-- Clauses that are gone are dropped, and the others keep all but their places.
+use Rattle.std.proofs.Common.{ℕ, zero, suc, ◌+◌, ◌<◌, ◌≤◌, ◌≡◌, inl, inr, Bool, true, false, not, ◌&&◌, cond, eqb, List, [], ◌∷◌, ◌++◌, length, take, Option, refl, sym, ◌∙◌, ap, subst, arith, slice_set}
+use Rattle.std.proofs.lemmas.Bool.{or_left, or_right, eq-eqb}
+use Rattle.std.proofs.lemmas.List.{append-nil, append_assoc}
+use Rattle.std.proofs.lemmas.List.Elements.{filter_more}
+use Rattle.std.specs.List.{AllByRecursion}
+use Rattle.sat_checker.specs.LiteralSets.{is_among}
+use Rattle.sat_checker.specs.Stored.{Stored, hash_by}
+use Rattle.sat_checker.specs.Storing.{with_count, without_count}
+use Rattle.sat_checker.specs.inner.Marks.{IsIncreasing}
+use Rattle.sat_checker.specs.inner.IndexView.{Files, pairs_from, pairs_of}
+use Rattle.sat_checker.specs.inner.PairView.{Indexed, places_in}
+use Rattle.sat_checker.specs.inner.OccurrenceView.{times_in, times_stored, AreKept}
+use Rattle.sat_checker.specs.inner.SlotView.{Slot, unstored, slot_at, stored_slot, is_gone, is_filed, places_from, gone_count, standing, MayDrop, live, slot_ids, count_of, with_count_at, without_count_at, all_hashed_by}
+use Rattle.sat_checker.specs.inner.StoreView.{AreHashed, KeepsClauses, AreIds, KeepsIds}
+use Rattle.sat_checker.specs.declared.hash.ClauseHasher.{ClauseHasher}
+use Rattle.sat_checker.specs.declared.occurrences.Occurrences.{Occurrences}
+use Rattle.sat_checker.specs.declared.store.Store.{Store}
+use Rattle.sat_checker.specs.declared.links.Pair.{Pair}
+use Rattle.sat_checker.proofs.lemmas.store.Filing.{pairs_push}
+use Rattle.sat_checker.proofs.lemmas.store.Ids.{ids_taken}
+use Rattle.sat_checker.proofs.lemmas.store.Places.{gone_more, gone_not, set_at}
+
+-- how many are gone, as clauses come in and go
+gone_push : (ss : List Slot) (s : Slot) → gone_count (ss ++ s ∷ []) ≡ gone_count ss + cond (is_gone s) 1 0
+gone_push [] s = omega arith
+gone_push (t ∷ ss) s = let ih : gone_count (ss ++ s ∷ []) ≡ gone_count ss + cond (is_gone s) 1 0 = gone_push ss s in omega (arith, ih)
+
+pub gone_stored : (r : Bool) (id hash : ℕ) (ls : List ℕ) (ss new : List Slot) → new ≡ ss ++ stored_slot r id hash ls ∷ [] → gone_count new ≡ gone_count ss
+gone_stored true id hash ls ss new e = let a : gone_count (ss ++ stored_slot true id hash ls ∷ []) ≡ gone_count ss + 0 = gone_push ss (stored_slot true id hash ls) in ap gone_count e ∙ a ∙ (let z : gone_count ss + 0 ≡ gone_count ss = omega arith in z)
+gone_stored false id hash ls ss new e = let a : gone_count (ss ++ stored_slot false id hash ls ∷ []) ≡ gone_count ss + 0 = gone_push ss (stored_slot false id hash ls) in ap gone_count e ∙ a ∙ (let z : gone_count ss + 0 ≡ gone_count ss = omega arith in z)
+
+gone_set : (ss : List Slot) (i : ℕ) (t : Slot) → i < length ss → gone_count (slice_set ss i t) + cond (is_gone (slot_at ss i)) 1 0 ≡ gone_count ss + cond (is_gone t) 1 0
+gone_set [] i t k = absurd (omega arith)
+gone_set (s ∷ ss) zero t k = omega arith
+gone_set (s ∷ ss) (suc i) t k = let ih : gone_count (slice_set ss i t) + cond (is_gone (slot_at ss i)) 1 0 ≡ gone_count ss + cond (is_gone t) 1 0 = gone_set ss i t (omega arith) in omega (arith, ih)
+
+abbrev as_one : Bool → ℕ
+as_one b = cond b 1 0
+
+one_if : (b d : Bool) → b ≡ d → as_one b ≡ as_one d
+one_if b d e = ap as_one e
+
+pub gone_counted : (r : Bool) (i : ℕ) (old ss new : List Slot) → old ≡ ss → i < length ss → is_gone (slot_at ss i) ≡ false → new ≡ with_count_at r i old → gone_count new ≡ gone_count old
+gone_counted r i old ss new is l g e =
+    let t : Slot = record (slot_at ss i) { clause = with_count r (slot_at ss i).clause } in
+    let a : gone_count (slice_set ss i t) + cond (is_gone (slot_at ss i)) 1 0 ≡ gone_count ss + cond (is_gone t) 1 0 = gone_set ss i t l in
+    let b = one_if (is_gone (slot_at ss i)) false g in
+    let c = one_if (is_gone t) false (gone_more (slot_at ss i).clause (slot_at ss i).hash r) in
+    let d : gone_count (slice_set ss i t) ≡ gone_count ss = omega (arith, a, b, c) in
+    ap gone_count (e ∙ ap (with_count_at r i) is) ∙ d ∙ ap gone_count (sym is)
+
+-- a count less
+module _ (old ss new : List Slot) (r : Bool) (i : ℕ) (is : old ≡ ss) (l : i < length ss) (c : 0 < count_of r (slot_at ss i)) (e : new ≡ without_count_at r i old) where
+  abbrev left : Slot
+  left = record (slot_at ss i) { clause = without_count r (slot_at ss i).clause }
+
+  now : new ≡ slice_set ss i left
+  now = e ∙ ap (without_count_at r i) is
+
+  one : (b : Bool) → is_gone (slot_at new i) ≡ b → gone_count new + 0 ≡ gone_count old + cond b 1 0
+  one b h =
+      let a : gone_count (slice_set ss i left) + cond (is_gone (slot_at ss i)) 1 0 ≡ gone_count ss + cond (is_gone left) 1 0 = gone_set ss i left l in
+      let was = one_if (is_gone (slot_at ss i)) false (gone_not (slot_at ss i) r c) in
+      let then = one_if (is_gone left) b (sym (ap is_gone (ap (λ xs. slot_at xs i) now ∙ set_at ss i left l)) ∙ h) in
+      let n = ap gone_count now in
+      let o = ap gone_count is in
+      omega (arith, a, was, then, n, o)
+
+  pub gone_left : is_gone (slot_at new i) ≡ false → gone_count new ≡ gone_count old
+  gone_left h = let a = one false h in omega (arith, a)
+
+  pub gone_removed : is_gone (slot_at new i) ≡ true → gone_count new ≡ gone_count old + 1
+  gone_removed h = let a = one true h in omega (arith, a)
+
+-- not all were gone before
+pub gone_fewer : (ss : List Slot) (i : ℕ) → i < length ss → is_gone (slot_at ss i) ≡ false → gone_count ss < length ss
+gone_fewer [] i l g = absurd (omega arith)
+gone_fewer (s ∷ ss) zero l g = let a = one_if (is_gone s) false g in let b = most ss in omega (arith, a, b)
+  where
+    most : (xs : List Slot) → gone_count xs ≤ length xs
+    most [] = omega arith
+    most (x ∷ xs) = go (is_gone x) (most xs)
+      where
+        go : (b : Bool) → gone_count xs ≤ length xs → cond b 1 0 + gone_count xs ≤ suc (length xs)
+        go true h = omega (arith, h)
+        go false h = omega (arith, h)
+gone_fewer (s ∷ ss) (suc i) l g = go (is_gone s) (gone_fewer ss i (omega arith) g)
+  where
+    go : (b : Bool) → gone_count ss < length ss → cond b 1 0 + gone_count ss < suc (length ss)
+    go true h = omega (arith, h)
+    go false h = omega (arith, h)
+
+pub gone_hashed : (names : ℕ → Option ℕ) (width : ℕ) (ss new : List Slot) → new ≡ all_hashed_by names width ss → gone_count new ≡ gone_count ss
+gone_hashed names width ss new e = ap gone_count e ∙ all ss
+  where
+    one : (b : Bool) (s : Slot) → is_gone s ≡ b → is_gone (cond b s (record s { hash = hash_by names width s.clause.literals })) ≡ b
+    one true s g = g
+    one false s g = g
+
+    all : (xs : List Slot) → gone_count (all_hashed_by names width xs) ≡ gone_count xs
+    all [] = refl
+    all (x ∷ xs) = let h = one_if _ _ (one (is_gone x) x refl) in let ih = all xs in omega (arith, h, ih)
+
+-- once they are dropped
+pub none_gone : (ss : List Slot) → gone_count (standing ss) ≡ zero
+none_gone [] = refl
+none_gone (s ∷ ss) = go (is_gone s) refl (none_gone ss)
+  where
+    go : (b : Bool) → is_gone s ≡ b → gone_count (standing ss) ≡ zero → gone_count (cond (not b) (s ∷ standing ss) (standing ss)) ≡ zero
+    go true g ih = ih
+    go false g ih = let a = one_if (is_gone s) false g in omega (arith, a, ih)
+
+live_standing : (ss : List Slot) → live (standing ss) ≡ live ss
+live_standing [] = refl
+live_standing (s ∷ ss) = go (is_gone s) refl (live_standing ss)
+  where
+    go : (b : Bool) → is_gone s ≡ b → live (standing ss) ≡ live ss → live (cond (not b) (s ∷ standing ss) (standing ss)) ≡ cond b [] (s.clause ∷ []) ++ live ss
+    go true g ih = ih
+    go false g ih = ap (λ b. cond b [] (s.clause ∷ []) ++ live (standing ss)) g ∙ ap (λ cs. s.clause ∷ cs) ih
+
+hashed_standing : (h : ClauseHasher) (ss : List Slot) → AreHashed h ss → AreHashed h (standing ss)
+hashed_standing h [] k = tt
+hashed_standing h (s ∷ ss) k = go (is_gone s) (hashed_standing h ss k.1)
+  where
+    go : (b : Bool) → AreHashed h (standing ss) → AreHashed h (cond (not b) (s ∷ standing ss) (standing ss))
+    go true ih = ih
+    go false ih = (k.0, ih)
+
+times_standing : (l : ℕ) (ss : List Slot) → times_stored l (standing ss) ≡ times_stored l ss
+times_standing l [] = refl
+times_standing l (s ∷ ss) = go (is_gone s) refl (times_standing l ss)
+  where
+    go : (b : Bool) → is_gone s ≡ b → times_stored l (standing ss) ≡ times_stored l ss → times_stored l (cond (not b) (s ∷ standing ss) (standing ss)) ≡ cond b 0 (times_in l s.clause.literals) + times_stored l ss
+    go true g ih = let a : times_stored l (standing ss) ≡ 0 + times_stored l ss = omega (arith, ih) in a
+    go false g ih = ap (λ b. cond b 0 (times_in l s.clause.literals) + times_stored l (standing ss)) g ∙ ap (λ n. times_in l s.clause.literals + n) ih
+
+each_standing : (P : ℕ → Type 0) (ss : List Slot) → AllByRecursion P (slot_ids ss) → AllByRecursion P (slot_ids (standing ss))
+each_standing P [] h = tt
+each_standing P (s ∷ ss) h = go (is_gone s) (each_standing P ss h.1)
+  where
+    go : (b : Bool) → AllByRecursion P (slot_ids (standing ss)) → AllByRecursion P (slot_ids (cond (not b) (s ∷ standing ss) (standing ss)))
+    go true ih = ih
+    go false ih = (h.0, ih)
+
+rising_standing : (ss : List Slot) → IsIncreasing (slot_ids ss) → IsIncreasing (slot_ids (standing ss))
+rising_standing [] h = tt
+rising_standing (s ∷ ss) h = go (is_gone s) (rising_standing ss h.1)
+  where
+    go : (b : Bool) → IsIncreasing (slot_ids (standing ss)) → IsIncreasing (slot_ids (cond (not b) (s ∷ standing ss) (standing ss)))
+    go true ih = ih
+    go false ih = (each_standing (λ m. s.clause.id < m) ss h.0, ih)
+
+-- what is kept beside the slots
+pub kept_standing : (ss new : List Slot) (index next : Indexed) (o : Occurrences) → AreKept ss index o → new ≡ standing ss → Files next (standing ss) → AreKept new next o
+kept_standing ss new index next o k e f = record {
+  files = subst (Files next) (sym e) f;
+  counted = λ l. k.counted l ∙ sym (times_standing l ss) ∙ ap (times_stored l) (sym e);
+}
+
+pub kept_unchanged : (ss new : List Slot) (index next : Indexed) (o : Occurrences) → AreKept ss index o → new ≡ ss → next ≡ index → AreKept new next o
+kept_unchanged ss new index next o k e f = subst (λ x. AreKept new x o) (sym f) (subst (λ xs. AreKept xs index o) (sym e) k)
+
+-- what the store keeps of the definition's state
+pub keeps_dropped : (store : Store) (new : List Slot) (f : Stored) → MayDrop store.clauses new → KeepsClauses store f → KeepsClauses (record store { clauses = new }) f
+keeps_dropped store new f (inl e) k = record {
+  clauses = ap live e ∙ k.clauses;
+  hashed = subst (AreHashed store.hasher) (sym e) k.hashed;
+  names = k.names;
+  width = k.width;
+}
+keeps_dropped store new f (inr e) k = record {
+  clauses = ap live e ∙ live_standing store.clauses ∙ k.clauses;
+  hashed = subst (AreHashed store.hasher) (sym e) (hashed_standing store.hasher store.clauses k.hashed);
+  names = k.names;
+  width = k.width;
+}
+
+ids_dropped : (old new : List Slot) → MayDrop old new → KeepsIds old new
+ids_dropped old new (inl e) n h = subst (λ ss. AreIds (slot_ids ss) n) (sym e) h
+ids_dropped old new (inr e) n h =
+    subst (λ ss. AreIds (slot_ids ss) n) (sym e) (record { increasing = rising_standing old h.increasing; below = each_standing (λ i. i < n) old h.below })
+
+pub ids_left : (r : Bool) (i : ℕ) (old mid new : List Slot) → mid ≡ without_count_at r i old → MayDrop mid new → KeepsIds old new
+ids_left r i old mid new e d n h = ids_dropped mid new d n (subst (λ is. AreIds is n) (sym (ap slot_ids e ∙ ids_taken r i old)) h)
+
+pub take_whole : (ts : List Slot) (j : ℕ) → length ts ≤ j → take j ts ≡ ts
+take_whole [] zero k = refl
+take_whole [] (suc j) k = refl
+take_whole (t ∷ ts) zero k = absurd (omega arith)
+take_whole (t ∷ ts) (suc j) k = ap (λ us. t ∷ us) (take_whole ts j (omega arith))
+
+-- those that aren't gone, up to a place
+standing_next : (ss : List Slot) (i : ℕ) → i < length ss → standing (take (i + 1) ss) ≡ standing (take i ss) ++ cond (not (is_gone (slot_at ss i))) (slot_at ss i ∷ []) []
+standing_next ss i l = filter_more (λ s. not (is_gone s)) ss i (unstored 0 0 []) l
+
+pub standing_skip : (old mid ss : List Slot) (i : ℕ) → i < length ss → is_gone (slot_at ss i) ≡ true → mid ≡ old ++ standing (take i ss) → mid ≡ old ++ standing (take (i + 1) ss)
+standing_skip old mid ss i l g e =
+    e ∙ ap (λ xs. old ++ xs) (sym (standing_next ss i l ∙ ap (λ b. standing (take i ss) ++ cond (not b) (slot_at ss i ∷ []) []) g ∙ append-nil (standing (take i ss))))
+
+pub standing_put : (old mid new ss : List Slot) (i : ℕ) (s : Slot) → i < length ss → is_gone (slot_at ss i) ≡ false → s ≡ slot_at ss i → mid ≡ old ++ standing (take i ss) → new ≡ mid ++ s ∷ [] → new ≡ old ++ standing (take (i + 1) ss)
+standing_put old mid new ss i s l n same e w =
+    w ∙ ap (λ xs. xs ++ s ∷ []) e ∙ append_assoc old (standing (take i ss)) (s ∷ [])
+    ∙ ap (λ xs. old ++ xs) (ap (λ x. standing (take i ss) ++ x ∷ []) same ∙ sym (standing_next ss i l ∙ ap (λ b. standing (take i ss) ++ cond (not b) (slot_at ss i ∷ []) []) n))
+
+pub standing_all : (old mid ss : List Slot) (i : ℕ) → length ss ≤ i → mid ≡ old ++ standing (take i ss) → mid ≡ old ++ standing ss
+standing_all old mid ss i l e = e ∙ ap (λ xs. old ++ standing xs) (take_whole ss i l)
+
+-- the pairs of those that aren't gone, up to a place, by the places that they will have
+count_listed : (k : ℕ) (ss : List Slot) → length (pairs_from k (standing ss)) ≡ length (standing ss)
+count_listed k [] = refl
+count_listed k (s ∷ ss) = go (is_gone s) refl (λ n. count_listed n ss)
+  where
+    go : (b : Bool) → is_gone s ≡ b → ((n : ℕ) → length (pairs_from n (standing ss)) ≡ length (standing ss)) → length (pairs_from k (cond (not b) (s ∷ standing ss) (standing ss))) ≡ length (cond (not b) (s ∷ standing ss) (standing ss))
+    go true g ih = ih k
+    go false g ih = ap (λ b. length (cond b (pairs_from (k + 1) (standing ss)) ((record { hash = s.hash; place = k }) ∷ pairs_from (k + 1) (standing ss)))) g ∙ ap suc (ih (k + 1))
+
+pub listed_skip : (ps : List Pair) (ss : List Slot) (i : ℕ) → i < length ss → is_gone (slot_at ss i) ≡ true → ps ≡ pairs_of (standing (take i ss)) → ps ≡ pairs_of (standing (take (i + 1) ss))
+listed_skip ps ss i l g e = e ∙ ap pairs_of (standing_skip [] (standing (take i ss)) ss i l g refl)
+
+pub listed_put : (ps new : List Pair) (ss : List Slot) (i hash next : ℕ) → i < length ss → is_gone (slot_at ss i) ≡ false → hash ≡ (slot_at ss i).hash → next ≡ length ps → ps ≡ pairs_of (standing (take i ss))
+    → new ≡ ps ++ (record { hash = hash; place = next }) ∷ [] → new ≡ pairs_of (standing (take (i + 1) ss))
+listed_put ps new ss i hash next l n h c e w =
+    let xs : List Slot = standing (take i ss) in
+    let count : next ≡ 0 + length xs = c ∙ ap length e ∙ count_listed 0 (take i ss) ∙ (let z : length xs ≡ 0 + length xs = omega arith in z) in
+    w ∙ ap (λ qs. qs ++ (record { hash = hash; place = next }) ∷ []) e ∙ ap (λ k. pairs_of xs ++ (record { hash = k; place = next }) ∷ []) h
+    ∙ ap (λ k. pairs_of xs ++ (record { hash = (slot_at ss i).hash; place = k }) ∷ []) count
+    ∙ sym (ap pairs_of (standing_next ss i l ∙ ap (λ b. xs ++ cond (not b) (slot_at ss i ∷ []) []) n) ∙ pairs_push 0 xs (slot_at ss i)
+    ∙ ap (λ b. pairs_of xs ++ cond b [] ((record { hash = (slot_at ss i).hash; place = 0 + length xs }) ∷ [])) n)
+
+pub listed_all : (ps : List Pair) (ss : List Slot) (i : ℕ) → length ss ≤ i → ps ≡ pairs_of (standing (take i ss)) → ps ≡ pairs_of (standing ss)
+listed_all ps ss i l e = e ∙ ap (λ xs. pairs_of (standing xs)) (take_whole ss i l)
+
+-- one that isn't gone is filed under its hash
+place_among : (k : ℕ) (ss : List Slot) (i n : ℕ) → i < length ss → is_gone (slot_at ss i) ≡ false → k + i ≡ n → is_among (places_from k (slot_at ss i).hash ss) n ≡ true
+place_among k [] i n l g e = absurd (omega arith)
+place_among k (s ∷ ss) zero n l g e =
+    ap (λ b. is_among (cond (not b && eqb s.hash s.hash) (k ∷ places_from (k + 1) s.hash ss) (places_from (k + 1) s.hash ss)) n) g
+    ∙ ap (λ b. is_among (cond b (k ∷ places_from (k + 1) s.hash ss) (places_from (k + 1) s.hash ss)) n) (eq-eqb s.hash s.hash refl)
+    ∙ or_left (eqb k n) (is_among (places_from (k + 1) s.hash ss) n) (eq-eqb k n (omega (arith, e)))
+place_among k (s ∷ ss) (suc i) n l g e = go (is_filed (slot_at ss i).hash s) (place_among (k + 1) ss i n (omega (arith, l)) g (let z : k + 1 + i ≡ n = omega (arith, e) in z))
+  where
+    go : (b : Bool) → is_among (places_from (k + 1) (slot_at ss i).hash ss) n ≡ true → is_among (cond b (k ∷ places_from (k + 1) (slot_at ss i).hash ss) (places_from (k + 1) (slot_at ss i).hash ss)) n ≡ true
+    go true ih = or_right (eqb k n) (is_among (places_from (k + 1) (slot_at ss i).hash ss) n) ih
+    go false ih = ih
+
+pub hash_filed : (ss : List Slot) (index : Indexed) (i : ℕ) → Files index ss → i < length ss → is_gone (slot_at ss i) ≡ false → is_among (places_in (slot_at ss i).hash index.pairs) i ≡ true
+hash_filed ss index i f l g = ap (λ ps. is_among ps i) (f.filed (slot_at ss i).hash) ∙ place_among 0 ss i i l g (let z : 0 + i ≡ i = omega arith in z)
