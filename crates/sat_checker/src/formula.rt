@@ -305,6 +305,13 @@ impl Formula {
         self.store.delete_clause(redundant, literals, looks)
     }
 
+    /// Drops clauses that are gone, where they are too many. Where memory is wanted all stay.
+    pub fn compact(&mut self) -> Result<(), AllocError>
+        ensures { (f : Stored) → KeepsFormula self.old f → KeepsFormula self.new f }
+    {
+        self.store.compact()
+    }
+
     /// Deletes a redundant clause, which has these sorted literals.
     pub fn delete_redundant(&mut self, clause: &[Lit], literals: &[Lit], looks: &mut Looks) -> bool
         requires { literals.now ≡ canonical clause.now }

@@ -1,5 +1,6 @@
 //! How often literals stand in the stored clauses.
 ghost use Rattle.std.specs.Prelude.{ℕ, ◌≡◌, ◌+◌, ◌*◌, ◌^◌, ◌<◌, ◌≤◌, All, length, OnOk, MatchBool};
+ghost use Rattle.sat_checker.specs.inner.Marks.{IsIncreasing};
 ghost use Rattle.sat_checker.specs.inner.OccurrenceView.{count_at, times_in};
 
 use sat_base::{Lit, Var};
@@ -34,15 +35,16 @@ impl Occurrences {
         Ok(())
     }
 
-    /// Makes room for the counts of literals.
+    /// Makes room for the counts of literals that rise: that of the last one has the highest place.
     pub fn make_room(&mut self, literals: &[Lit]) -> Result<(), AllocError>
+        requires { IsIncreasing literals.now }
         ensures room { OnOk result (All (λ l. l < length self.new.counts.items) literals.now) }
         ensures same { (l : ℕ) → count_at self.new l ≡ count_at self.old l }
     {
-        for lit in literals {
-            self.make_room_for(*lit)?;
+        if literals.is_empty() {
+            return Ok(());
         }
-        Ok(())
+        self.make_room_for(literals[literals.len() - 1])
     }
 
     /// Counts literals.

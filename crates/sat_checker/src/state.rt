@@ -163,7 +163,25 @@ impl State {
         Ok(true)
     }
 
+    /// Deletes a clause. Want of memory for dropping those that are gone comes only where it is accepted.
     pub fn delete_clause(
+        &mut self,
+        clause: &[Lit],
+        proof: DeleteClauseProof,
+        looks: &mut Looks,
+    ) -> Result<bool, StoreError>
+        ensures decides { Decides result self.old (DeleteClause clause.now (deletion_of proof)) self.new }
+        ensures looks { (f : Stored) → Keeps self.old f → looks.new ≤ looks.old + 2 * literal_count f }
+        ensures rise { looks.old ≤ looks.new }
+    {
+        if !self.take_clause(clause, proof, looks)? {
+            return Ok(false);
+        }
+        self.formula.compact()?;
+        Ok(true)
+    }
+
+    fn take_clause(
         &mut self,
         clause: &[Lit],
         proof: DeleteClauseProof,

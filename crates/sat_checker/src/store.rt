@@ -1,10 +1,10 @@
 //! The stored clauses of two literals or more, with the hashes by which steps name them.
-ghost use Rattle.std.specs.Prelude.{ℕ, List, true, false, length, ◌≡◌, [], ◌+◌, ◌≤◌, ◌<◌, ◌^◌, Some, IfOk, OnOk, Err, MatchBool};
+ghost use Rattle.std.specs.Prelude.{ℕ, List, true, false, length, ◌≡◌, [], ◌+◌, ◌*◌, ◌≤◌, ◌<◌, ◌^◌, Some, IfOk, OnOk, Err, MatchBool};
 ghost use Rattle.sat_checker.specs.inner.Marks.{IsIncreasing};
 ghost use Rattle.sat_checker.specs.Stored.{Stored, nothing_stored};
 ghost use Rattle.sat_checker.specs.Looks.{literal_count};
 ghost use Rattle.sat_checker.specs.inner.StoreView.{KeepsClauses, Stores, PlacesIds, KeepsIds, TakesCount, with_less, count_in, found_in};
-ghost use Rattle.sat_checker.specs.inner.SlotView.{slot_ids, live};
+ghost use Rattle.sat_checker.specs.inner.SlotView.{slot_ids, live, gone_count};
 ghost use Rattle.sat_checker.specs.Storing.{clause_with, clause_numbered, with_solver_name};
 ghost use Rattle.sat_checker.specs.Accepts.{IsStrictSubset};
 ghost use Rattle.sat_checker.specs.LiteralSets.{mentions};
@@ -121,12 +121,11 @@ impl Store {
         })
     }
 
-    /// Takes a count from sorted literals without repeats. The answer is whether they have one. Clauses that are gone may be
-    /// dropped then, by which the places of others change.
+    /// Takes a count from sorted literals without repeats. The answer is whether they have one.
     pub fn delete_clause(&mut self, redundant: bool, literals: &[Lit], looks: &mut Looks) -> bool
         ensures deleted { (f : Stored) → KeepsClauses self.old f
             → TakesCount result redundant literals.now f (KeepsClauses self.new (with_less redundant literals.now f)) }
-        ensures ids { KeepsIds self.old.clauses self.new.clauses }
+        ensures ids { slot_ids self.new.clauses ≡ slot_ids self.old.clauses }
         ensures looks { (f : Stored) → KeepsClauses self.old f → looks.new ≤ looks.old + literal_count f }
         ensures rise { looks.old ≤ looks.new }
     {
@@ -138,8 +137,17 @@ impl Store {
             return false;
         }
         self.clauses.take_count(place, redundant, literals);
-        let _without_memory = self.clauses.compact(self.hasher.bits());
         true
+    }
+
+    /// Drops the clauses that are gone, where more than half of all are, or more than half of the buffer is theirs. The places of
+    /// others change by that. Where memory is wanted all stay.
+    pub fn compact(&mut self) -> Result<(), AllocError>
+        ensures kept { (f : Stored) → KeepsClauses self.old f → KeepsClauses self.new f }
+        ensures ids { KeepsIds self.old.clauses self.new.clauses }
+        ensures few { OnOk result (2 * gone_count self.new.clauses ≤ length self.new.clauses) }
+    {
+        self.clauses.compact(self.hasher.bits())
     }
 
     /// So many bits of each hash are kept from here on.

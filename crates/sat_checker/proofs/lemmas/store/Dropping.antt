@@ -176,13 +176,10 @@ keeps_dropped store new f (inr e) k = record {
   width = k.width;
 }
 
-ids_dropped : (old new : List Slot) → MayDrop old new → KeepsIds old new
+pub ids_dropped : (old new : List Slot) → MayDrop old new → KeepsIds old new
 ids_dropped old new (inl e) n h = subst (λ ss. AreIds (slot_ids ss) n) (sym e) h
 ids_dropped old new (inr e) n h =
     subst (λ ss. AreIds (slot_ids ss) n) (sym e) (record { increasing = rising_standing old h.increasing; below = each_standing (λ i. i < n) old h.below })
-
-pub ids_left : (r : Bool) (i : ℕ) (old mid new : List Slot) → mid ≡ without_count_at r i old → MayDrop mid new → KeepsIds old new
-ids_left r i old mid new e d n h = ids_dropped mid new d n (subst (λ is. AreIds is n) (sym (ap slot_ids e ∙ ids_taken r i old)) h)
 
 pub take_whole : (ts : List Slot) (j : ℕ) → length ts ≤ j → take j ts ≡ ts
 take_whole [] zero k = refl

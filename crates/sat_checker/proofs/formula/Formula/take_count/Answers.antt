@@ -1,4 +1,5 @@
-use Rattle.sat_checker.proofs.lemmas.formula.Numbering.{numbered_kept}
+use Rattle.std.proofs.Common.{sym, subst}
+use Rattle.sat_checker.specs.inner.FormulaView.{AreNumbered}
 use Rattle.sat_checker.proofs.lemmas.state.Units.{match_on}
 use Rattle.sat_checker.proofs.formula.Formula.take_count.Goals as goal
 
@@ -10,6 +11,6 @@ returns-clause-decides c = λ f k.
         clauses = p.1;
         units = k.units;
         status = k.status;
-        numbered = numbered_kept _ _ f.units c.args.self.now.status.last f.next_id c.delete_clause.ensures.ids k.numbered;
+        numbered = subst (λ is. AreNumbered is f.units c.args.self.now.status.last f.next_id) (sym c.delete_clause.ensures.ids) k.numbered;
       },
     )) (λ n. n) (c.delete_clause.ensures.deleted f k.clauses)

@@ -1,9 +1,8 @@
-use Rattle.std.proofs.Common.{arith}
+use Rattle.std.proofs.Common.{arith, ap, ◌∙◌, refl}
 use Rattle.sat_checker.proofs.lemmas.store.Storing.{is_there, looks_one, count_there, count_none, deleted_one}
-use Rattle.sat_checker.specs.Storing.{without_clause}
-use Rattle.sat_checker.specs.inner.SlotView.{places_of}
+use Rattle.sat_checker.specs.inner.SlotView.{slot_ids, places_of}
 use Rattle.sat_checker.proofs.lemmas.store.Looking.{literals_there}
-use Rattle.sat_checker.proofs.lemmas.store.Dropping.{keeps_dropped, ids_left}
+use Rattle.sat_checker.proofs.lemmas.store.Ids.{ids_taken}
 use Rattle.sat_checker.proofs.store.Store.delete_clause.Goals as goal
 
 pub returns-in_default-clause-deleted : goal.returns-in_default-clause-deleted
@@ -28,20 +27,19 @@ returns-then-count-eq0-clause-looks c = looks_one c.args.self.now c.clause_hash-
 pub returns-clause-deleted : goal.returns-clause-deleted
 returns-clause-deleted c = λ f k.
     let z = count_there c.args.self.now f k c.args.literals.now c.clause_hash-hash.result c.clause_hash-hash.ensures c.in-Some.place c.in-Some.ensures.found c.args.redundant in
-    let taken = deleted_one c.args.self.now f k c.args.literals.now c.clause_hash-hash.result c.clause_hash-hash.ensures c.in-Some.place c.in-Some.ensures.found c.args.redundant c.take_count.new.self c.take_count.ensures in
-    (omega (arith, z, c.count.ensures, c.if-count-eq0.false), keeps_dropped (record c.args.self.now { clauses = c.take_count.new.self }) c.compact-without_memory.new.self (record f { clauses = without_clause c.args.redundant c.args.literals.now f.clauses }) c.compact-without_memory.ensures.left taken)
+    (omega (arith, z, c.count.ensures, c.if-count-eq0.false), deleted_one c.args.self.now f k c.args.literals.now c.clause_hash-hash.result c.clause_hash-hash.ensures c.in-Some.place c.in-Some.ensures.found c.args.redundant c.take_count.new.self c.take_count.ensures)
 
 pub returns-clause-ids : goal.returns-clause-ids
-returns-clause-ids c = ids_left c.args.redundant c.in-Some.place c.args.self.now.clauses c.take_count.new.self c.compact-without_memory.new.self c.take_count.ensures c.compact-without_memory.ensures.left
+returns-clause-ids c = ap slot_ids c.take_count.ensures ∙ ids_taken c.args.redundant c.in-Some.place c.args.self.now.clauses
 
 pub returns-clause-looks : goal.returns-clause-looks
 returns-clause-looks c = looks_one c.args.self.now c.clause_hash-hash.result c.args.looks.now c.find.new.looks c.find.ensures.looks
 
 pub returns-in_default-clause-ids : goal.returns-in_default-clause-ids
-returns-in_default-clause-ids c = λ n h. h
+returns-in_default-clause-ids c = refl
 
 pub returns-then-count-eq0-clause-ids : goal.returns-then-count-eq0-clause-ids
-returns-then-count-eq0-clause-ids c = λ n h. h
+returns-then-count-eq0-clause-ids c = refl
 
 pub take_count-requires-clause-inside : goal.take_count-requires-clause-inside
 take_count-requires-clause-inside c = (is_there c.args.self.now.clauses c.args.literals.now c.clause_hash-hash.result c.in-Some.place c.in-Some.ensures.found).inside

@@ -1,0 +1,10 @@
+use Rattle.sat_checker.proofs.lemmas.formula.Numbering.{numbered_kept}
+use Rattle.sat_checker.proofs.formula.Formula.compact.Goals as goal
+
+pub returns : goal.returns
+returns c = λ f k. record {
+  clauses = c.compact.ensures.kept f k.clauses;
+  units = k.units;
+  status = k.status;
+  numbered = numbered_kept _ _ f.units c.args.self.now.status.last f.next_id c.compact.ensures.ids k.numbered;
+}
