@@ -71,6 +71,7 @@ pub record AreIndexed (globals : List ℕ) (gs : List Given) (c c' : Search) : T
   pub named : (v : ℕ) → HasGiven gs v → get_or c'.globals.items v 0 ≡ get_or globals v 0
   pub others : (v : ℕ) → v < length c.globals.items → (HasGiven gs v → ⊥) → get_or c'.globals.items v 0 ≡ get_or c.globals.items v 0
   pub more : length c.globals.items ≤ length c'.globals.items
+  pub few : length c.globals.items ≤ length globals → length c'.globals.items ≤ length globals
   pub there : AllByRecursion (λ g. g.solver < length c'.globals.items) gs
   pub size : length c'.parts.assignment.current ≡ length c'.globals.items
   pub ready : (v : ℕ) → HasGiven gs v → value_of c'.parts.assignment.current v ≡ None → may_pick c'.parts.vsids v ≡ true

@@ -2,7 +2,7 @@
 use Rattle.std.specs.Prelude.{ℕ, ◌==◌, ◌≡◌, ◌⊎◌, ◌∷◌, ◌++◌, Some, None, List, if◌then◌else◌}
 use Rattle.sat_base.specs.steps.Steps.{Step, SolverVarName}
 use Rattle.sat_solver.specs.session.Session.{session_after}
-use Rattle.sat_solver.specs.names.Variables.{solver_of}
+use Rattle.sat_solver.specs.names.Variables.{solver_of, indices_used}
 use Rattle.sat_solver.specs.names.Naming.{IsNextIndex}
 use Rattle.sat_solver.specs.names.Calls.{DoesNothing}
 use Rattle.sat_solver.specs.names.Search.{KeepsSearch, Gives}
@@ -26,6 +26,7 @@ pub record Unindexes (old new : Variables) (from to : List Step) (v x : ℕ) : T
   pub does : DoesNothing old new from to
   pub solvers : (w : ℕ) → solver_of new w ≡ (if w == v then None else solver_of old w)
   pub globals : new.globals ≡ old.globals
+  pub used : indices_used new ≡ indices_used old
   pub users : new.global_from_user ≡ old.global_from_user
   pub kept : new.var_data ≡ old.var_data
   pub search : KeepsSearch (session_after from) (session_after to)

@@ -69,6 +69,7 @@ pub record AreTidy (n : Variables) : Type 0 where
   pub spans_globals : Spans n.free_globals (variables_used n)
   pub spans_solvers : Spans n.free_solvers (indices_used n)
   pub reach : names_used n ≤ variables_used n
+  pub indices : indices_used n ≤ variables_used n
   pub within : variables_used n ≤ largest
   pub free_users : (u : ℕ) → is_free n.free_users u ≡ (nat_lt u (names_used n) && not (is_some (global_of n u)))
   pub free_globals : (v : ℕ) → is_free n.free_globals v ≡ (nat_lt v (variables_used n) && (data_at n v).deleted)
@@ -124,6 +125,8 @@ pub record AreJudged (n : Variables) (j : Judge) (live : Live) : Type 0 where
   pub in_use : (v : ℕ) → is_some (given live v) ≡ not (data_at n v).deleted
   pub below : AllByRecursion (λ p. p.1 < j.next_identity) live
   pub distinct : (v w i : ℕ) → given live v ≡ Some i → given live w ≡ Some i → v ≡ w
+  -- each variable was new with an identity
+  pub identities : variables_used n ≤ j.next_identity
   pub modes_count : length j.modes ≡ j.next_identity
   pub modes : (v i : ℕ) → given live v ≡ Some i → IsModeOf (data_at n v).sampling_mode (get_or j.modes i Sampled)
 

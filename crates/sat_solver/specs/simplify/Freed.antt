@@ -6,7 +6,7 @@ use Rattle.sat_checker.specs.LiteralSets.{mentions}
 use Rattle.sat_parts.specs.prop.Values.{value_of}
 use Rattle.sat_solver.specs.session.Session.{Session, session_after}
 use Rattle.sat_solver.specs.names.Calls.{Stands, DoesNothing}
-use Rattle.sat_solver.specs.names.Variables.{solver_of, global_at}
+use Rattle.sat_solver.specs.names.Variables.{solver_of, global_at, indices_used}
 use Rattle.sat_solver.specs.declared.names.Variables.{Variables}
 use Rattle.sat_parts.specs.clause.Db.{live_refs}
 use Rattle.sat_solver.specs.declared.parts.Parts.{Parts}
@@ -32,6 +32,7 @@ pub record GivesUp (old new : Variables) (from to : List Step) (v : ℕ) : Type 
   pub does : DoesNothing old new from to
   pub solvers : (w : ℕ) → solver_of new w ≡ (if w == v then None else solver_of old w)
   pub users : new.global_from_user ≡ old.global_from_user
+  pub used : indices_used new ≡ indices_used old
   pub loses : LosesIndex (session_after from) (session_after to) v
 
 -- indices may be given up: the search is at level 0, with nothing on the trail, and has the indices that the names say

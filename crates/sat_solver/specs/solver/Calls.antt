@@ -3,13 +3,16 @@ use Rattle.std.specs.Prelude.{ℕ, ◌+◌, ◌-◌, ◌*◌, ◌<◌, ◌≤◌
 use Rattle.sat_base.specs.device.Device.{Writer}
 use Rattle.sat_base.specs.script.Script.{names_of}
 use Rattle.sat_base.specs.script.Judge.{Judge}
-use Rattle.sat_solver.specs.bound.Counting.{CountsOn, steps_left}
+use Rattle.sat_base.specs.steps.Steps.{Step}
+use Rattle.sat_solver.specs.bound.Counting.{steps_left}
 use Rattle.sat_solver.specs.declared.error.SolverError.{SolverError}
 use Rattle.sat_solver.specs.declared.error.SolverError.TheVariants as errors
+use Rattle.sat_solver.specs.declared.names.Variables.{Variables}
 use Rattle.sat_solver.specs.names.Adding.{named_literal}
-use Rattle.sat_solver.specs.names.Calls.{Does}
+use Rattle.sat_solver.specs.names.Calls.{Agree, Does}
 use Rattle.sat_solver.specs.names.Expected.{Expected, Shows, Fails}
-use Rattle.sat_solver.specs.search.Solving.{AdvancesIn, values_in}
+use Rattle.sat_solver.specs.names.Live.{Live}
+use Rattle.sat_solver.specs.search.Solving.{AdvancesIn}
 use Rattle.sat_solver.specs.session.Coming.{Comes, EndsAtUnsat}
 use Rattle.sat_solver.specs.session.Making.{Took}
 use Rattle.sat_solver.specs.session.ProofView.{Target, Closed, Open, Broken, target_of}
@@ -29,9 +32,19 @@ pub record Did {W : Type 0} (seen : W → Writer) (old new : Solver W) (judge : 
   pub does : Does old.names new.names (steps_in old) (steps_in new) judge due
   pub took : Took seen old.core.proof new.core.proof
 
--- rounds are counted on
+-- the rounds that a call may make
+abbrev pub rounds_left : {W : Type 0} → Solver W → ℕ
+rounds_left s = steps_left s.core.config.max_steps s.clock.steps
+
+-- Rounds become more, but not by more than a call may make, and by fewer than 2^(2n+3), where the judge has given n identities out,
+-- whatever its state is that names and steps agree with.
+pub record RoundsOn (n : Variables) (steps : List Step) (budget before now : ℕ) : Type 0 where
+  pub more : before ≤ now
+  pub within : now ≤ before + steps_left budget before
+  pub few : (j : Judge) (live : Live) → Agree n steps j live → now < before + 2 ^ (2 * j.next_identity + 3)
+
 abbrev pub CountsRounds : {W : Type 0} → Solver W → Solver W → Type 0
-CountsRounds old new = CountsOn (values_in old.core) old.core.config.max_steps old.clock.steps new.clock.steps
+CountsRounds old new = RoundsOn old.names (steps_in old) old.core.config.max_steps old.clock.steps new.clock.steps
 
 -- a call failed by what no input decides, and so does each one behind it
 pub record Ends {W : Type 0} (seen : W → Writer) (e : SolverError) (old new : Solver W) : Type 0 where
@@ -57,12 +70,13 @@ abbrev pub told_by : {W : Type 0} → State → Solver W → List Expected
 told_by before s = told_as before s.state (line_in s) s.assumed.items s.told.failed_core.items
 
 -- how many rounds were made: at least one for an answer that wasn't known, as many as there may be where there's no answer, and an
--- answer wherever 2^(2n+3) of them might be made over n variables
+-- answer wherever 2^(2n+3) of them might be made
 pub record Counts {W : Type 0} (old new : Solver W) : Type 0 where
   pub on : CountsRounds old new
   pub round : old.state ≡ states.Unknown → (new.state ≡ states.Unknown → ⊥) → old.clock.steps < new.clock.steps
-  pub spent : new.state ≡ states.Unknown → new.clock.steps ≡ old.clock.steps + steps_left old.core.config.max_steps old.clock.steps
-  pub answered : (n : ℕ) → values_in old.core ≤ n → 2 ^ (2 * n + 3) ≤ steps_left old.core.config.max_steps old.clock.steps → new.state ≡ states.Unknown → ⊥
+  pub spent : new.state ≡ states.Unknown → new.clock.steps ≡ old.clock.steps + rounds_left old
+  pub answered : (j : Judge) (live : Live) → Agree old.names (steps_in old) j live → 2 ^ (2 * j.next_identity + 3) ≤ rounds_left old →
+      new.state ≡ states.Unknown → ⊥
 
 -- nothing waits for an open target, whose last call was a flush
 abbrev pub IsFlushed : Target → Type 0

@@ -62,6 +62,7 @@ fn count_with(count: usize, given: &[Given]) -> usize
     ensures few { result ≤ largest }
     ensures more { count ≤ result }
     ensures past { AllByRecursion (λ g. g.solver < result) given.now }
+    ensures least { (m : ℕ) → count ≤ m → AllByRecursion (λ g. g.solver < m) given.now → result ≤ m }
 {
     let mut all = count;
     for at in 0..given.len() {

@@ -121,7 +121,7 @@ placed_bottom ls below place s s' e e' kept h =
       all = λ lt. absurd (omega arith);
     }
 
-module _ (c c1 c2 c3 : Search) (globals : List ℕ) (gs : List Given) (count : ℕ) (holds : Holds c.parts) (next : length c.globals.items ≡ length c.parts.assignment.current) (more : length c.globals.items ≤ count) (past : AllByRecursion (λ g. g.solver < count) gs)
+module _ (c c1 c2 c3 : Search) (globals : List ℕ) (gs : List Given) (count : ℕ) (holds : Holds c.parts) (next : length c.globals.items ≡ length c.parts.assignment.current) (more : length c.globals.items ≤ count) (least : length c.globals.items ≤ length globals → count ≤ length globals) (past : AllByRecursion (λ g. g.solver < count) gs)
     (grown : Grown c.parts c1.parts count) (assumptions1 : c1.assumptions ≡ c.assumptions) (flags1 : length c1.analysis.flags ≡ count) (clear1 : AreClear c.analysis.flags → AreClear c1.analysis.flags)
     (glue1 : GrowsFlags count c.flags.flags.items c1.flags.flags.items) (globals1 : (v : ℕ) → v < length c.globals.items → get_or c1.globals.items v 0 ≡ get_or c.globals.items v 0) (many1 : length c1.globals.items ≡ count)
     (back : AtBottom c1 c2) (holds1 : Holds c1.parts) (renamed : Renames gs globals c2.globals.items c3.globals.items) (takes : TakesIndices gs c2.parts c3.parts)
@@ -270,6 +270,7 @@ module _ (c c1 c2 c3 : Search) (globals : List ℕ) (gs : List Given) (count : �
     named = renamed.named;
     others = others;
     more = omega (arith, more, globals_size);
+    few = λ le. (let k = least le in omega (arith, globals_size));
     there = subst (λ m. AllByRecursion (λ g. g.solver < m) gs) (sym globals_size) past;
     size = size3 ∙ sym globals_size;
     ready = takes.ready;

@@ -55,7 +55,7 @@ module _ (old new : Variables) (s t : Session) (gs : List Given) (tidy : AreTidy
 
     -- and then it has those of the names
     pub shares_given : (c' : Search) → AreIndexed new.globals.items gs c c' → SharesIndices new c'
-    shares_given c' a = record { size = a.size; below = below; same = same }
+    shares_given c' a = record { size = a.size; few = (let k = tidy'.globals_count in let u = gives.used in let f = shares.few in let le = a.few (omega arith) in omega arith); below = below; same = same }
       where
         has_below : (ks : List Given) (x : ℕ) → AllByRecursion (λ g. g.solver < length c'.globals.items) ks → HasGiven ks x → x < length c'.globals.items
         has_below [] x h k = absurd k

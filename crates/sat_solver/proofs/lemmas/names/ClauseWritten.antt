@@ -240,6 +240,7 @@ module _ (n : Variables) (from : List Step) (user clause : List ℕ) (stands : S
           in_use = a.judged.in_use;
           below = a.judged.below;
           distinct = a.judged.distinct;
+          identities = a.judged.identities;
           modes_count = a.judged.modes_count;
           modes = a.judged.modes;
         };

@@ -1,6 +1,6 @@
 -- How many of the first numbers pass a test.
 use Rattle.std.proofs.Common.{ℕ, zero, suc, ◌+◌, ◌-◌, ◌<◌, ◌≤◌, ◌≡◌, ◌≢◌, max, Bool, true, false, not, cond, eqb, List, length, Option, Some, None, is_some, refl, sym, ◌∙◌, ap, arith, inl, inr}
-use Rattle.std.proofs.lemmas.Bool.{eqb-true, eq-eqb, ne_eqb, cases_eq, true≢false}
+use Rattle.std.proofs.lemmas.Bool.{eqb-true, eq-eqb, ne_eqb, cases_eq, cases_lt, true≢false}
 use Rattle.std.proofs.lemmas.List.{get_or_past}
 use Rattle.sat_store.specs.variables.Maps.{Both, AreInverse, target, PutsTarget, Links, Unlinks}
 use Rattle.sat_solver.proofs.lemmas.names.MapLemmas.{some_within}
@@ -25,6 +25,14 @@ count_past (suc k) n f h = ap (λ m. count_to m f) (let e : n + suc k ≡ suc (n
 
 pub count_reach : (n m : ℕ) (f : ℕ → Bool) → n ≤ m → ((k : ℕ) → n ≤ k → f k ≡ false) → count_to m f ≡ count_to n f
 count_reach n m f le h = ap (λ k. count_to k f) (let e : m ≡ n + (m - n) = omega arith in e) ∙ count_past (m - n) n f h
+
+-- of more numbers no fewer pass
+pub count_longer : (n m : ℕ) (f : ℕ → Bool) → n ≤ m → count_to n f ≤ count_to m f
+count_longer n zero f le = (let e : count_to n f ≡ count_to 0 f = ap (λ k. count_to k f) (let z : n ≡ 0 = omega arith in z) in omega arith)
+count_longer n (suc m) f le = elim (cases_lt n (suc m)) [
+  | inl lt ↦ (let ih = count_longer n m f (omega arith) in let e = count_suc m f in omega arith)
+  | inr ge ↦ (let e : count_to n f ≡ count_to (suc m) f = ap (λ k. count_to k f) (let z : n ≡ suc m = omega arith in z) in omega arith)
+]
 
 -- one more passes
 pub count_more : (n i : ℕ) (f g : ℕ → Bool) → i < n → f i ≡ false → g i ≡ true → ((k : ℕ) → k ≢ i → g k ≡ f k) → count_to n g ≡ count_to n f + 1

@@ -77,6 +77,7 @@ module _ (old new : Variables) (v : ℕ) (tidy : AreTidy old) (alive : (data_at 
     spans_globals = put.spans_globals;
     spans_solvers = record { tree = subst IsTree (sym put.free_solvers) tidy.spans_solvers.tree; room = let a = ap (λ f. f.room) put.free_solvers in let b = ap (λ m. length m.bwd) put.solvers in let r = tidy.spans_solvers.room in omega arith };
     reach = let a = ap (λ m. length m.fwd) put.users in let b = put.count in let r = tidy.reach in omega arith;
+    indices = let a = ap (λ m. length m.bwd) put.solvers in let b = put.count in let r = tidy.indices in omega arith;
     within = let b = put.count in let r = tidy.within in omega arith;
     free_users = λ u. ap (λ f. is_free f u) put.free_users ∙ tidy.free_users u ∙ ap (λ m. ltb u (length m.fwd) && not (is_some (target m.fwd u))) (sym put.users);
     free_globals = free_globals;
@@ -165,6 +166,7 @@ module _ (old new : Variables) (v : ℕ) (tidy : AreTidy old) (alive : (data_at 
     in_use = in_use;
     below = bridge.below;
     distinct = λ a b i e f. judged.distinct a b i (was a i e) (was b i f);
+    identities = (let b = put.count in let r = judged.identities in omega arith);
     modes_count = judged.modes_count;
     modes = modes;
   }

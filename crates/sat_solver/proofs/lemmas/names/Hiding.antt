@@ -66,6 +66,7 @@ module _ (old new : Variables) (user v : ℕ) (tidy : AreTidy old) (had : global
     spans_globals = record { tree = subst IsTree (sym put.free_globals) tidy.spans_globals.tree; room = let a = ap (λ f. f.room) put.free_globals in let b = put.count in let r = tidy.spans_globals.room in omega arith };
     spans_solvers = record { tree = subst IsTree (sym put.free_solvers) tidy.spans_solvers.tree; room = let a = ap (λ f. f.room) put.free_solvers in let b = ap (λ m. length m.bwd) put.solvers in let r = tidy.spans_solvers.room in omega arith };
     reach = let a = put.users.fwd_watermark in let b = put.count in let r = tidy.reach in omega arith;
+    indices = let a = ap (λ m. length m.bwd) put.solvers in let b = put.count in let r = tidy.indices in omega arith;
     within = let b = put.count in let r = tidy.within in omega arith;
     free_users = free_users;
     free_globals = λ w. ap (λ f. is_free f w) put.free_globals ∙ tidy.free_globals w ∙ ap (λ n. ltb w n && (data_at old w).deleted) (sym put.count) ∙ ap (λ b. ltb w (variables_used new) && b) (sym (deleted_at w));
@@ -157,6 +158,7 @@ module _ (old new : Variables) (user v : ℕ) (tidy : AreTidy old) (had : global
     in_use = λ w. judged.in_use w ∙ ap not (sym (deleted_at w));
     below = judged.below;
     distinct = judged.distinct;
+    identities = (let b = put.count in let r = judged.identities in omega arith);
     modes_count = judged.modes_count;
     modes = modes;
   }

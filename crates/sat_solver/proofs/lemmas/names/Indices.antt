@@ -14,7 +14,7 @@ use Rattle.sat_solver.specs.names.Counting.{IsEven, mapped_count}
 use Rattle.sat_solver.proofs.lemmas.names.Counts.{mapped_one_more, mapped_one_fewer}
 use Rattle.sat_solver.specs.names.Free.{is_free, IsTree}
 use Rattle.sat_solver.specs.names.Live.{Live, given_of}
-use Rattle.sat_solver.specs.names.Variables.{data_at, user_of, solver_of, global_at, indices_used, AreTidy, mode_in, variable_at, AreSaid, IsModeOf, AreJudged, says_unit, IsUnitOf, IsUnused}
+use Rattle.sat_solver.specs.names.Variables.{data_at, user_of, solver_of, global_at, indices_used, variables_used, AreTidy, mode_in, variable_at, AreSaid, IsModeOf, AreJudged, says_unit, IsUnitOf, IsUnused}
 use Rattle.sat_solver.specs.names.Naming.{PutsIndex, IsNextIndex}
 use Rattle.sat_solver.specs.names.Search.{KeepsSearch}
 use Rattle.sat_solver.specs.names.Indexing.{Indexes, Unindexes}
@@ -26,6 +26,7 @@ use Rattle.sat_solver.specs.declared.names.Variables.{Variables}
 use Rattle.sat_solver.proofs.lemmas.names.JudgeLemmas.{same_below}
 use Rattle.sat_solver.proofs.lemmas.names.MapLemmas.{some_within}
 use Rattle.sat_solver.proofs.lemmas.names.NewName.{shape, and_false}
+use Rattle.sat_solver.proofs.lemmas.names.NextIndices.{index_below}
 use Rattle.sat_solver.proofs.lemmas.names.Giving.{gives_one, gives_none, keeps_same}
 use Rattle.sat_solver.proofs.lemmas.names.Doing.{does_none}
 use Rattle.sat_solver.proofs.lemmas.names.BridgeLemmas.{nothing_new}
@@ -43,6 +44,7 @@ judged_same old new j live users items judged =
       in_use = λ v. judged.in_use v ∙ ap (λ d. not d.deleted) (sym (at v));
       below = judged.below;
       distinct = judged.distinct;
+      identities = (let e = ap (λ d. length d.items) items in let r = judged.identities in omega arith);
       modes_count = judged.modes_count;
       modes = λ v i e. subst (λ d. IsModeOf d.sampling_mode (get_or j.modes i Sampled)) (sym (at v)) (judged.modes v i e);
     }
@@ -56,7 +58,7 @@ some_is e = cc
 not_some_false : (b : Bool) (o : Option ℕ) → o ≡ None → b ≡ true → (b && not (is_some o)) ≡ true
 not_some_false b o e f = ap (λ p. b && not (is_some p)) e ∙ ap (λ c. c && true) f
 
-module _ (old new : Variables) (v x : ℕ) (there : Bool) (tidy : AreTidy old) (alive : (data_at old v).deleted ≡ false) (low : there ≡ true → x ≤ indices_used old) (had : there ≡ false → solver_of old v ≡ Some x) (fresh : there ≡ true → (solver_of old v ≡ None) × (global_at old x ≡ None)) (put : PutsIndex old new v x there) where
+module _ (old new : Variables) (v x : ℕ) (there : Bool) (tidy : AreTidy old) (alive : (data_at old v).deleted ≡ false) (low : there ≡ true → x ≤ indices_used old) (had : there ≡ false → solver_of old v ≡ Some x) (fresh : there ≡ true → (solver_of old v ≡ None) × (global_at old x ≡ None)) (room : there ≡ true → x < variables_used old) (put : PutsIndex old new v x there) where
   kept_at : (w : ℕ) → data_at new w ≡ data_at old w
   kept_at w = ap (λ d. get_or d.items w unused_variable) put.kept
 
@@ -83,6 +85,7 @@ module _ (old new : Variables) (v x : ℕ) (there : Bool) (tidy : AreTidy old) (
     spans_globals = record { tree = subst IsTree (sym put.free_globals) tidy.spans_globals.tree; room = let a = ap (λ f. f.room) put.free_globals in let b = ap (λ d. length d.items) put.kept in let r = tidy.spans_globals.room in omega arith };
     spans_solvers = put.spans_solvers;
     reach = let a = ap (λ m. length m.fwd) put.users in let b = ap (λ d. length d.items) put.kept in let r = tidy.reach in omega arith;
+    indices = within_variables there refl put.used;
     within = let b = ap (λ d. length d.items) put.kept in let r = tidy.within in omega arith;
     free_users = λ u. ap (λ f. is_free f u) put.free_users ∙ tidy.free_users u ∙ ap (λ m. ltb u (length m.fwd) && not (is_some (target m.fwd u))) (sym put.users);
     free_globals = λ w. ap (λ f. is_free f w) put.free_globals ∙ tidy.free_globals w ∙ ap (λ d. ltb w (length d.items) && (get_or d.items w unused_variable).deleted) (sym put.kept);
@@ -118,6 +121,10 @@ module _ (old new : Variables) (v x : ℕ) (there : Bool) (tidy : AreTidy old) (
           let b : mapped_count old.solver_from_global.bwd ≡ mapped_count new.solver_from_global.bwd + 1 = mapped_one_fewer old.solver_from_global.bwd new.solver_from_global.bwd x v (tidy.solvers.back v x h) (λ y. put.globals y ∙ ap (λ d. cond (eqb y x) (cond d (Some v) None) (global_at old y)) e) in
           let even = tidy.even_solvers in
           omega arith
+
+      within_variables : (c : Bool) → there ≡ c → indices_used new ≡ cond c (max (indices_used old) (x + 1)) (indices_used old) → indices_used new ≤ variables_used new
+      within_variables true e used = (let k = room e in let d = ap (λ d. length d.items) put.kept in let r = tidy.indices in omega arith)
+      within_variables false e used = (let d = ap (λ d. length d.items) put.kept in let r = tidy.indices in omega arith)
 
       free_solvers : (y : ℕ) → is_free new.free_solvers y ≡ (ltb y (indices_used new) && not (is_some (global_at new y)))
       free_solvers y = put.free_solvers y ∙ by_case there refl put.used (put.globals y)
@@ -204,12 +211,12 @@ index_search from to v name e = subst (λ steps. KeepsSearch (session_after from
     go None = record { live = refl; units = refl; unsat = refl; width = refl; assumed = refl }
     go (Some x) = record { live = refl; units = refl; unsat = refl; width = refl; assumed = refl }
 
-pub index_put : (old new : Variables) (from to : List Step) (v x : ℕ) (there : Bool) → Stands old from → (data_at old v).deleted ≡ false → (there ≡ true → x ≤ indices_used old) → (there ≡ false → solver_of old v ≡ Some x) → (there ≡ true → (solver_of old v ≡ None) × (global_at old x ≡ None)) → (there ≡ false → IsUnitOf old (session_after from) v) → (there ≡ false → IsUnused (session_after from) v) → PutsIndex old new v x there
+pub index_put : (old new : Variables) (from to : List Step) (v x : ℕ) (there : Bool) → Stands old from → (data_at old v).deleted ≡ false → (there ≡ true → x ≤ indices_used old) → (there ≡ false → solver_of old v ≡ Some x) → (there ≡ true → (solver_of old v ≡ None) × (global_at old x ≡ None)) → (there ≡ true → x < variables_used old) → (there ≡ false → IsUnitOf old (session_after from) v) → (there ≡ false → IsUnused (session_after from) v) → PutsIndex old new v x there
     → to ≡ SolverVarName v (cond there (Some x) None) ∷ from → DoesNothing old new from to
-index_put old new from to v x there stands alive low had fresh its_unit its_unused put e = record {
+index_put old new from to v x there stands alive low had fresh room its_unit its_unused put e = record {
   stands = record {
-    tidy = tidy_index old new v x there stands.tidy alive low had fresh put;
-    said = subst (λ steps. AreSaid new (session_after steps)) (sym e) (said_index old new v x there stands.tidy alive low had fresh put (session_after from) stands.said its_unit its_unused);
+    tidy = tidy_index old new v x there stands.tidy alive low had fresh room put;
+    said = subst (λ steps. AreSaid new (session_after steps)) (sym e) (said_index old new v x there stands.tidy alive low had fresh room put (session_after from) stands.said its_unit its_unused);
     may = subst MayAll (sym e) (stands.may, tt);
     read = λ u. ap (λ steps. variable_of steps (u + 1)) e ∙ stands.read u ∙ ap (λ m. target m.fwd u) (sym put.users);
   };
@@ -226,7 +233,7 @@ index_put old new from to v x there stands alive low had fresh its_unit its_unus
 pub index_given : (old new : Variables) (from to : List Step) (before after : List Given) (v : ℕ) (g : Given) → Stands old from → (data_at old v).deleted ≡ false → solver_of old v ≡ None → IsNextIndex old g.solver → g.unit ≡ (data_at old v).unit → PutsIndex old new v g.solver true
     → to ≡ SolverVarName v (Some g.solver) ∷ from → after ≡ before ++ g ∷ [] → Indexes old new from to before after v g.solver
 index_given old new from to before after v g stands alive without next unit put e l = record {
-  does = index_put old new from to v g.solver true stands alive (λ f. next.reach) (λ f. absurd (true≢false f)) (λ f. (without, next.free)) (λ f. absurd (true≢false f)) (λ f. absurd (true≢false f)) put e;
+  does = index_put old new from to v g.solver true stands alive (λ f. next.reach) (λ f. absurd (true≢false f)) (λ f. (without, next.free)) (λ f. index_below old v g.solver stands.tidy alive without next) (λ f. absurd (true≢false f)) (λ f. absurd (true≢false f)) put e;
   has = put.solvers v ∙ ap (λ b. cond b (Some g.solver) (solver_of old v)) (eq-eqb v v refl);
   users = put.users;
   kept = put.kept;
@@ -252,12 +259,13 @@ index_had old from given v x stands e = record {
 
 pub index_taken : (old new : Variables) (from to : List Step) (v x : ℕ) → Stands old from → solver_of old v ≡ Some x → IsUnitOf old (session_after from) v → IsUnused (session_after from) v → PutsIndex old new v x false → new.globals ≡ old.globals → to ≡ SolverVarName v None ∷ from → Unindexes old new from to v x
 index_taken old new from to v x stands there unit unused put globals e = record {
-  does = index_put old new from to v x false stands (stands.tidy.indexed v x there) (λ f. absurd (true≢false (sym f))) (λ f. there) (λ f. absurd (true≢false (sym f))) (λ f. unit) (λ f. unused) put e;
+  does = index_put old new from to v x false stands (stands.tidy.indexed v x there) (λ f. absurd (true≢false (sym f))) (λ f. there) (λ f. absurd (true≢false (sym f))) (λ f. absurd (true≢false (sym f))) (λ f. unit) (λ f. unused) put e;
   solvers = put.solvers;
   globals = globals;
   users = put.users;
   kept = put.kept;
   search = index_search from to v None e;
+  used = put.used;
 }
 
 -- there is room for an index in use to be free

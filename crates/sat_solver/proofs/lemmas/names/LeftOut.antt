@@ -84,6 +84,7 @@ brought_out old new from to all index le unsat b = record {
               in_use = k.agree.judged.in_use;
               below = k.agree.judged.below;
               distinct = k.agree.judged.distinct;
+              identities = k.agree.judged.identities;
               modes_count = k.agree.judged.modes_count;
               modes = k.agree.judged.modes;
             };

@@ -62,6 +62,7 @@ module _ (old new : Variables) (user v : ℕ) (tidy : AreTidy old) (room : IsRoo
     spans_globals = put.spans_globals;
     spans_solvers = record { tree = subst IsTree (sym put.free_solvers) tidy.spans_solvers.tree; room = let a = ap (λ f. f.room) put.free_solvers in let b = ap (λ m. length m.bwd) put.solvers in let r = tidy.spans_solvers.room in omega arith };
     reach = reach;
+    indices = let a = ap (λ m. length m.bwd) put.solvers in let b = put.count in let r = tidy.indices in omega arith;
     within = let a = put.count in let b = tidy.within in omega arith;
     free_users = free_users;
     free_globals = free_globals;
@@ -200,6 +201,7 @@ module _ (old new : Variables) (user v : ℕ) (tidy : AreTidy old) (room : IsRoo
     in_use = in_use;
     below = (omega arith, more live judged.below);
     distinct = distinct;
+    identities = (let a = put.count in let b = room.within in let r = judged.identities in omega arith);
     modes_count = length-append j.modes (Sampled ∷ []) ∙ ap (λ n. n + 1) judged.modes_count;
     modes = modes;
   }

@@ -1,5 +1,5 @@
 -- The index that comes next.
-use Rattle.std.proofs.Common.{ℕ, ◌+◌, ◌<◌, ◌≡◌, Bool, true, false, not, ◌&&◌, ltb, lt-ltb, length, Option, Some, None, is_some, refl, sym, ◌∙◌, ap, arith}
+use Rattle.std.proofs.Common.{ℕ, ◌+◌, ◌<◌, ◌≤◌, ◌≡◌, Bool, true, false, not, ◌&&◌, ltb, lt-ltb, length, Option, Some, None, is_some, refl, sym, ◌∙◌, ap, arith}
 use Rattle.std.proofs.lemmas.Bool.{ltb-true, true≢false}
 use Rattle.std.proofs.lemmas.List.{get_or_past}
 use Rattle.sat_base.specs.values.Literals.{largest}
@@ -9,7 +9,7 @@ use Rattle.sat_solver.specs.names.Free.{is_free, IsLowest}
 use Rattle.sat_solver.specs.names.Variables.{data_at, solver_of, global_at, indices_used, variables_used, AreTidy}
 use Rattle.sat_solver.specs.names.Naming.{IsNextIndex}
 use Rattle.sat_solver.specs.declared.names.Variables.{Variables}
-use Rattle.sat_solver.proofs.lemmas.names.Counts.{count_full, count_fewer, count_le, count_reach, count_mapped}
+use Rattle.sat_solver.proofs.lemmas.names.Counts.{count_full, count_fewer, count_le, count_longer, count_reach, count_mapped}
 
 both_parts : (a b : Bool) → (a && b) ≡ true → (a ≡ true) × (b ≡ true)
 both_parts true b e = (refl, e)
@@ -39,18 +39,15 @@ next_freed n x tidy l =
 pub next_last : (n : Variables) (x : ℕ) → AreTidy n → ((y : ℕ) → is_free n.free_solvers y ≡ false) → x ≡ indices_used n → IsNextIndex n x
 next_last n x tidy none e = record { free = get_or_past n.solver_from_global.bwd x None (omega arith); reach = omega arith; lowest = λ y lt f. taken n y tidy (omega arith) (none y) f }
 
--- there is one more: fewer indices are taken than variables are in use
-pub index_left : (n : Variables) (v : ℕ) → AreTidy n → (data_at n v).deleted ≡ false → solver_of n v ≡ None → ((y : ℕ) → is_free n.free_solvers y ≡ false) → indices_used n < largest
-index_left n v tidy alive without none = let a = all_taken in let b = tidy.even_solvers in let c = count_mapped n.solver_from_global.fwd reach (omega arith) in let d = fewer in let e = in_reach in let f = count_le (variables_used n) in_use in let w = tidy.within in omega arith
+-- fewer indices are taken than variables are in use
+fewer_taken : (n : Variables) (v : ℕ) → AreTidy n → (data_at n v).deleted ≡ false → solver_of n v ≡ None → mapped_count n.solver_from_global.bwd < variables_used n
+fewer_taken n v tidy alive without = let b = tidy.even_solvers in let c = count_mapped n.solver_from_global.fwd reach (omega arith) in let d = fewer in let e = in_reach in let f = count_le (variables_used n) in_use in omega arith
   where
     reach : ℕ
     reach = length n.solver_from_global.fwd + variables_used n + (v + 1)
 
     in_use : ℕ → Bool
     in_use k = not (data_at n k).deleted
-
-    all_taken : mapped_count n.solver_from_global.bwd ≡ indices_used n
-    all_taken = count_full (indices_used n) (λ y. is_some (global_at n y)) (λ y lt. some_of (global_at n y) (taken n y tidy lt (none y)))
 
     indexed : (k : ℕ) (o : Option ℕ) → solver_of n k ≡ o → is_some o ≡ true → in_use k ≡ true
     indexed k None e t = absurd (true≢false (sym t))
@@ -61,3 +58,15 @@ index_left n v tidy alive without none = let a = all_taken in let b = tidy.even_
 
     in_reach : count_to reach in_use ≡ count_to (variables_used n) in_use
     in_reach = count_reach (variables_used n) reach in_use (omega arith) (λ k le. ap (λ d. not d.deleted) (get_or_past n.var_data.items k unused_variable le))
+
+-- so the next index is below the number of variables
+pub index_below : (n : Variables) (v x : ℕ) → AreTidy n → (data_at n v).deleted ≡ false → solver_of n v ≡ None → IsNextIndex n x → x < variables_used n
+index_below n v x tidy alive without next =
+    let all : count_to x (λ y. is_some (global_at n y)) ≡ x = count_full x (λ y. is_some (global_at n y)) (λ y lt. some_of (global_at n y) (next.lowest y lt)) in
+    let more : count_to x (λ y. is_some (global_at n y)) ≤ mapped_count n.solver_from_global.bwd = count_longer x (indices_used n) (λ y. is_some (global_at n y)) next.reach in
+    let few = fewer_taken n v tidy alive without in
+    omega arith
+
+-- and there is one more
+pub index_left : (n : Variables) (v : ℕ) → AreTidy n → (data_at n v).deleted ≡ false → solver_of n v ≡ None → ((y : ℕ) → is_free n.free_solvers y ≡ false) → indices_used n < largest
+index_left n v tidy alive without none = let k = index_below n v (indices_used n) tidy alive without (next_last n (indices_used n) tidy none refl) in let w = tidy.within in omega arith

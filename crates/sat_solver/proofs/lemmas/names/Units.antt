@@ -37,6 +37,7 @@ module _ (old new : Variables) (tidy : AreTidy old) (maps : SameMaps old new) (d
     spans_globals = record { tree = subst IsTree (sym maps.free_globals) tidy.spans_globals.tree; room = let a = ap (λ f. f.room) maps.free_globals in let b = maps.count in let r = tidy.spans_globals.room in omega arith };
     spans_solvers = record { tree = subst IsTree (sym maps.free_solvers) tidy.spans_solvers.tree; room = let a = ap (λ f. f.room) maps.free_solvers in let b = ap (λ m. length m.bwd) maps.solvers in let r = tidy.spans_solvers.room in omega arith };
     reach = let a = ap (λ m. length m.fwd) maps.users in let b = maps.count in let r = tidy.reach in omega arith;
+    indices = let a = ap (λ m. length m.bwd) maps.solvers in let b = maps.count in let r = tidy.indices in omega arith;
     within = let b = maps.count in let r = tidy.within in omega arith;
     free_users = λ u. ap (λ f. is_free f u) maps.free_users ∙ tidy.free_users u ∙ ap (λ m. ltb u (length m.fwd) && not (is_some (target m.fwd u))) (sym maps.users);
     free_globals = λ w. ap (λ f. is_free f w) maps.free_globals ∙ tidy.free_globals w ∙ ap (λ n. ltb w n && (data_at old w).deleted) (sym maps.count) ∙ ap (λ b. ltb w (variables_used new) && b) (sym (deleted_at w));
@@ -52,6 +53,7 @@ module _ (old new : Variables) (tidy : AreTidy old) (maps : SameMaps old new) (d
     in_use = λ w. judged.in_use w ∙ ap not (sym (deleted_at w));
     below = judged.below;
     distinct = judged.distinct;
+    identities = (let b = maps.count in let r = judged.identities in omega arith);
     modes_count = judged.modes_count;
     modes = λ w i e. subst (λ m. IsModeOf m (get_or j.modes i Sampled)) (sym (mode_at w)) (judged.modes w i e);
   }

@@ -34,7 +34,7 @@ use Rattle.sat_solver.specs.names.Naming.{PutsUnit}
 use Rattle.sat_solver.proofs.lemmas.names.Units.{unit_stands, unit_agrees}
 use Rattle.sat_solver.specs.names.Indexing.{Unindexes}
 use Rattle.sat_solver.specs.names.Search.{IsAlike}
-use Rattle.sat_solver.specs.names.Variables.{AreTidy, solver_of, global_at, data_at, variables_used, says_unit, IsUnitOf, IsUnused}
+use Rattle.sat_solver.specs.names.Variables.{AreTidy, solver_of, global_at, data_at, variables_used, indices_used, says_unit, IsUnitOf, IsUnused}
 use Rattle.sat_solver.specs.declared.names.Variables.{Variables}
 use Rattle.sat_solver.proofs.lemmas.names.Doing.{does_none, does_both}
 use Rattle.sat_solver.specs.declared.search.work.Search.{Search}
@@ -73,6 +73,7 @@ module _ (old mid : Variables) (from mids : List Step) (v x : ℕ) (stands : Sta
     does = u.does;
     solvers = u.solvers;
     users = u.users;
+    used = u.used;
     loses = record {
       live = u.search.live;
       units = λ w y b n e. ap (λ f. f (coded w b)) u.search.units;
@@ -89,6 +90,7 @@ module _ (old mid : Variables) (from mids : List Step) (v x : ℕ) (stands : Sta
     does = does_both old mid new from mids to (λ j. j) (λ j. j) (λ j. []) (λ j. []) u.does does;
     solvers = λ w. ap (λ m. get_or m.fwd w None) a.solvers ∙ u.solvers w;
     users = users ∙ u.users;
+    used = ap (λ m. length m.bwd) a.solvers ∙ u.used;
     loses = record {
       live = a.live ∙ u.search.live;
       units = λ w y b n e. a.units w y b (u.solvers w ∙ ap (λ t. cond t None (solver_of old w)) (ne_eqb w v n) ∙ sym (stands.said.solver_names w) ∙ e) ∙ ap (λ f. f (coded w b)) u.search.units;
@@ -281,9 +283,10 @@ global_gone old new v x w tidy tidy' solvers e f =
     let same : w ≡ v = some_same w v (sym (global_before old new v tidy tidy' solvers x w f) ∙ e) in
     none_some x (sym (ap (λ b. cond b None (solver_of old w)) (eq-eqb w v same)) ∙ sym (solvers w) ∙ tidy'.solvers.forth w x f)
 
-pub shares_freed : (old new : Variables) (c c' : Search) (v : ℕ) → AreTidy old → AreTidy new → ((w : ℕ) → solver_of new w ≡ cond (eqb w v) None (solver_of old w)) → Moved c c' → SharesIndices old c → SharesIndices new c'
-shares_freed old new c c' v tidy tidy' solvers moved h = record {
+pub shares_freed : (old new : Variables) (c c' : Search) (v : ℕ) → AreTidy old → AreTidy new → ((w : ℕ) → solver_of new w ≡ cond (eqb w v) None (solver_of old w)) → indices_used new ≡ indices_used old → Moved c c' → SharesIndices old c → SharesIndices new c'
+shares_freed old new c c' v tidy tidy' solvers used moved h = record {
   size = rw (moved.globals, moved.size) h.size;
+  few = (let e = ap (λ gs. length gs.items) moved.globals in let k = h.few in omega (arith, used));
   below = λ x w e. rw moved.globals (h.below x w (before x w e));
   same = λ x w e. rw moved.globals (h.same x w (before x w e));
 }
@@ -352,7 +355,7 @@ module _ (n : Variables) (steps : List Step) (c : Search) (may : MayFree n steps
             does = does_both n n1 new steps steps to (λ j. j) (λ j. j) (λ j. []) (λ j. []) noted_does gone.does;
             search = freed_search now c v x may.search may.flat own at unused t p gone.loses unmarked freed holds none room word;
             shares = shares_freed n new c (record c { parts = p }) v may.stands.tidy gone.does.stands.tidy
-                (λ w. gone.solvers w ∙ ap (λ m. cond (eqb w v) None (target m.fwd w)) put.maps.solvers) moved may.shares;
+                (λ w. gone.solvers w ∙ ap (λ m. cond (eqb w v) None (target m.fwd w)) put.maps.solvers) (gone.used ∙ ap (λ m. length m.bwd) put.maps.solvers) moved may.shares;
             flat = freed_flat now c v x may.search may.flat own at unused t p gone.loses unmarked freed holds none room word;
             moved = moved;
             same = freed.clauses;

@@ -1,16 +1,19 @@
 -- An ask begins: no step is made of it, and from there on hashes are shortened.
-use Rattle.std.proofs.Common.{◌-◌, ◌∙◌, Err, List, [], subst}
+use Rattle.std.proofs.Common.{ℕ, ◌+◌, ◌-◌, ◌*◌, ◌^◌, ◌≤◌, ◌≡◌, ◌∙◌, Err, List, [], subst}
 use Rattle.sat_base.specs.device.Device.{Writer}
 use Rattle.sat_solver.specs.declared.error.SolverError.{SolverError}
 use Rattle.sat_solver.specs.declared.search.solving.Core.{Core}
 use Rattle.sat_solver.specs.declared.session.proof.Proof.{Proof}
 use Rattle.sat_solver.specs.declared.solver.Solver.{Solver}
-use Rattle.sat_solver.specs.names.Calls.{Does}
+use Rattle.sat_base.specs.script.Judge.{Judge}
+use Rattle.sat_solver.specs.names.Calls.{Agree, Does}
+use Rattle.sat_solver.specs.names.Live.{Live}
 use Rattle.sat_solver.specs.search.Solving.{AdvancesIn}
 use Rattle.sat_solver.specs.session.Coming.{Comes, EndsAtUnsat}
 use Rattle.sat_solver.specs.session.ProofView.{Adds}
 use Rattle.sat_solver.specs.solver.Answering.{Breaks}
-use Rattle.sat_solver.specs.solver.Calls.{told_by}
+use Rattle.sat_solver.specs.declared.solver.state.State.TheVariants as states
+use Rattle.sat_solver.specs.solver.Calls.{RoundsOn, rounds_left, told_by}
 use Rattle.sat_solver.specs.solver.Settling.{Settled}
 use Rattle.sat_solver.specs.solver.Whole.{IsWhole, steps_in}
 use Rattle.sat_solver.proofs.lemmas.search.GoingLemmas.{went_later}
@@ -24,6 +27,9 @@ module _ {W : Type 0} (seen : W → Writer) (old : Solver W) (p : Proof W) (adds
   pub whole_begun : IsWhole old → IsWhole begun
   whole_begun whole = whole_over old.core old.names old.asked old.assumed.items old.told.failed_core.items old.clock.restarts.scale old.state p whole adds.history
 
+  pub rounds_begun : (now : ℕ) → RoundsOn old.names (steps_in begun) old.core.config.max_steps old.clock.steps now → RoundsOn old.names (steps_in old) old.core.config.max_steps old.clock.steps now
+  rounds_begun now h = subst (λ ss. RoundsOn old.names ss old.core.config.max_steps old.clock.steps now) adds.history h
+
   -- what is settled behind it
   pub settled_begun : (new : Solver W) → Settled seen begun new → Settled seen old new
   settled_begun new s = record {
@@ -35,7 +41,7 @@ module _ {W : Type 0} (seen : W → Writer) (old : Solver W) (p : Proof W) (adds
     took = (_, adds_more seen [] s.took.0 old.core.proof p new.core.proof adds s.took.1);
     same = s.same;
     users = s.users;
-    counts = record { on = s.counts.on; round = s.counts.round; spent = s.counts.spent; answered = s.counts.answered };
+    counts = record { on = rounds_begun new.clock.steps s.counts.on; round = s.counts.round; spent = s.counts.spent; answered = subst (λ ss. (j : Judge) (live : Live) → Agree old.names ss j live → 2 ^ (2 * j.next_identity + 3) ≤ rounds_left old → new.state ≡ states.Unknown → ⊥) adds.history s.counts.answered };
     known = λ k. (let h = s.known k in (h.0 ∙ adds.history, h.1));
   }
 

@@ -163,6 +163,7 @@ module _ {W : Type 0} (s : Solver W) (whole : IsWhole s) where
         stands = stands;
         shares = record {
           size = g.joined.shares.size;
+          few = (let e = ap (λ m. length m.bwd) alike.solvers in let k = g.joined.shares.few in omega arith);
           below = λ x v e. g.joined.shares.below x v (sym (ap (λ m. target m.bwd x) alike.solvers) ∙ e);
           same = λ x v e. g.joined.shares.same x v (sym (ap (λ m. target m.bwd x) alike.solvers) ∙ e);
         };

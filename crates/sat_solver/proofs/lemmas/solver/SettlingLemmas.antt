@@ -19,7 +19,9 @@ use Rattle.sat_solver.proofs.lemmas.session.ComingLemmas.{comes_none, comes_one,
 use Rattle.std.proofs.lemmas.Bool.{true≢false}
 use Rattle.sat_solver.proofs.lemmas.session.ProofLemmas.{adds_none, adds_more, fails_later, flush_records, check_later}
 use Rattle.sat_solver.proofs.lemmas.search.GoingLemmas.{went_checked, fault_checked}
+use Rattle.sat_base.specs.script.Judge.{Judge}
 use Rattle.sat_solver.specs.bound.Counting.{CountsOn, steps_left}
+use Rattle.sat_solver.proofs.lemmas.bound.GapLemmas.{pow_pos, pow_mono}
 use Rattle.sat_solver.specs.declared.bound.search.Outcome.TheVariants as outcomes
 use Rattle.sat_solver.specs.declared.search.solving.Core.{Core}
 use Rattle.sat_solver.specs.declared.config.SolverConfig.{SolverConfig}
@@ -34,7 +36,8 @@ use Rattle.sat_solver.specs.names.Checking.{variable_of}
 use Rattle.sat_solver.specs.names.Expected.{Shows, SameSet}
 use Rattle.sat_solver.specs.names.Models.{named_to}
 use Rattle.sat_solver.specs.names.Variables.{names_used}
-use Rattle.sat_solver.specs.names.Calls.{Stands, Does}
+use Rattle.sat_solver.specs.names.Calls.{Stands, Agree, Does}
+use Rattle.sat_solver.specs.names.Live.{Live}
 use Rattle.sat_solver.specs.declared.error.SolverError.{SolverError}
 use Rattle.sat_solver.specs.declared.error.SolverError.TheVariants as errors
 use Rattle.sat_solver.specs.declared.names.Variables.{Variables}
@@ -48,7 +51,7 @@ use Rattle.sat_solver.specs.declared.solver.finding.Clock.{Clock}
 use Rattle.sat_solver.specs.solver.Joined.{IsJoined, name_of}
 use Rattle.sat_solver.specs.solver.Answering.{Breaks, Failed, line_of}
 use Rattle.sat_solver.specs.solver.Found.{FoundModel, FoundCore, FoundNone, FoundSays}
-use Rattle.sat_solver.specs.solver.Calls.{Answered, Counts, CountsRounds, IsFlushed, Solves, told_as, told_by}
+use Rattle.sat_solver.specs.solver.Calls.{Answered, Counts, CountsRounds, RoundsOn, IsFlushed, Solves, told_as, told_by}
 use Rattle.sat_solver.specs.solver.Settling.{Settled}
 use Rattle.sat_solver.specs.solver.Whole.{IsWhole, IsWholeOf, StateSays, GoesOn, HasCore, steps_in, session_in, line_in}
 use Rattle.sat_solver.proofs.lemmas.solver.AnsweredLemmas.{asked_shown, core_among, core_spelt, core_none, joined_by, does_shown, does_failed}
@@ -68,10 +71,6 @@ some_mapped : (f : ℕ → ℕ) (ls : List ℕ) → 0 < length ls → map f ls �
 some_mapped f [] lt e = omega arith
 some_mapped f (l ∷ ls) lt e = cc
 
-two_to : (k : ℕ) → 0 < 2 ^ k
-two_to zero = omega arith
-two_to (suc k) = (let h = two_to k in omega arith)
-
 assumed_moved : (s t : Session) (c c' : Search) → AreAsked s c → AreAsked t c' → Moved c c' → t.assumed ≡ s.assumed
 assumed_moved s t c c' h k moved =
     k ∙ ap (λ gs. map (with_var (λ x. get_or gs x 0)) c'.assumptions.lits.items) (ap (λ gs. gs.items) moved.globals)
@@ -89,10 +88,10 @@ module _ {W : Type 0} (seen : W → Writer) (s : Solver W) (whole : IsWhole s) w
     users = refl;
     config = refl;
     counts = record {
-      on = record { more = omega arith; within = omega arith; few = (let q = two_to (2 * values_in s.core + 3) in omega arith) };
+      on = record { more = omega arith; within = omega arith; few = λ j live a. (let q = pow_pos (2 * j.next_identity + 3) in omega arith) };
       round = λ u. absurd (n u);
       spent = λ u. absurd (n u);
-      answered = λ m le fits u. n u;
+      answered = λ j live a fits u. n u;
     };
     times = λ u. absurd (n u);
     known = λ k. (refl, refl);
@@ -363,18 +362,35 @@ module _ {W : Type 0} (seen : W → Writer) (s : Solver W) (whole : IsWhole s) (
   goes_on : GoesOn s.core s.names s.asked
   goes_on = subst (λ st. StateSays st s.core s.names s.asked s.assumed.items s.told.failed_core.items) unknown whole.says
 
+  -- no more variables than identities
+  over_identities : (j : Judge) (live : Live) → Agree s.names (steps_in s) j live → values_in s.core ≤ j.next_identity
+  over_identities j live agree =
+      let shares = goes_on.joined.shares in
+      let size = shares.size in
+      let few = shares.few in
+      let indices = goes_on.joined.stands.tidy.indices in
+      let identities = agree.judged.identities in
+      omega arith
+
+  pub rounds_on : RoundsOn s.names (steps_in s) s.core.config.max_steps s.clock.steps clock.steps
+  rounds_on = record {
+    more = on.more;
+    within = on.within;
+    few = λ j live agree. (let p = pow_mono (2 * values_in s.core + 3) (2 * j.next_identity + 3) (let le = over_identities j live agree in omega arith) in let f = on.few in omega arith);
+  }
+
   -- an answer was found
   pub settled_some : s.clock.steps < clock.steps → (st : State) → FoundSays seen st s.names m s.core core told.failed_core.items → Settled seen s (record s { core = core; names = m; told = told; clock = clock; state = st })
   settled_some round states.Unknown found = absurd found
-  settled_some round states.Sat found = settled_model seen s whole goes_on core m told clock scale unknown (record { on = on; round = λ u k. round; spent = λ u. absurd (apart_sat u); answered = λ n le fits u. apart_sat u }) found
-  settled_some round states.UnsatUnderAssumptions found = settled_core seen s whole goes_on core m told clock scale unknown (record { on = on; round = λ u k. round; spent = λ u. absurd (apart_core u); answered = λ n le fits u. apart_core u }) found
-  settled_some round states.Unsat found = settled_unsat seen s whole goes_on core m told clock scale unknown (record { on = on; round = λ u k. round; spent = λ u. absurd (apart_unsat u); answered = λ n le fits u. apart_unsat u }) found
+  settled_some round states.Sat found = settled_model seen s whole goes_on core m told clock scale unknown (record { on = rounds_on; round = λ u k. round; spent = λ u. absurd (apart_sat u); answered = λ j live a fits u. apart_sat u }) found
+  settled_some round states.UnsatUnderAssumptions found = settled_core seen s whole goes_on core m told clock scale unknown (record { on = rounds_on; round = λ u k. round; spent = λ u. absurd (apart_core u); answered = λ j live a fits u. apart_core u }) found
+  settled_some round states.Unsat found = settled_unsat seen s whole goes_on core m told clock scale unknown (record { on = rounds_on; round = λ u k. round; spent = λ u. absurd (apart_unsat u); answered = λ j live a fits u. apart_unsat u }) found
 
   -- or none by now
   pub settled_without : clock.steps ≡ s.clock.steps + steps_left s.core.config.max_steps s.clock.steps →
       ((n : ℕ) → values_in s.core ≤ n → 2 ^ (2 * n + 3) ≤ steps_left s.core.config.max_steps s.clock.steps → ⊥) →
       FoundNone seen (clock.steps - s.clock.steps) s.names m s.core core → Settled seen s (record s { core = core; names = m; told = told; clock = clock })
-  settled_without spent answered found = settled_none seen s whole goes_on core m told clock scale unknown (record { on = on; round = λ u k. absurd (k unknown); spent = λ u. spent; answered = λ n le fits u. answered n le fits }) found
+  settled_without spent answered found = settled_none seen s whole goes_on core m told clock scale unknown (record { on = rounds_on; round = λ u k. absurd (k unknown); spent = λ u. spent; answered = λ j live a fits u. answered j.next_identity (over_identities j live a) fits }) found
 
 -- a target was flushed
 pub flushed_by : {W : Type 0} (seen : W → Writer) (p q : Proof W) → Flushes seen p q → IsFlushed (target_of seen q)

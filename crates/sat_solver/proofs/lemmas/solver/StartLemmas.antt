@@ -69,6 +69,7 @@ module _ (n : Variables) (tidy : AreTidy n) (none : variables_used n ≡ 0) wher
       in_use = λ v. ap (λ d. not d.deleted) (sym (unused v));
       below = tt;
       distinct = λ v w i e f. absurd (none-some i e);
+      identities = omega (arith, none);
       modes_count = refl;
       modes = λ v i e. absurd (none-some i e);
     };
@@ -82,6 +83,7 @@ module _ (n : Variables) (tidy : AreTidy n) (none : variables_used n ≡ 0) wher
     stands = subst (Stands n) (sym steps) stands_first;
     shares = record {
       size = ap (λ xs. length xs) values ∙ sym (ap (λ xs. length xs) globals);
+      few = (let e : length c.search.globals.items ≡ 0 = ap (λ xs. length xs) globals in omega arith);
       below = λ x v e. absurd (none-some x (sym (no_index v) ∙ tidy.solvers.forth v x e));
       same = λ x v e. absurd (none-some x (sym (no_index v) ∙ tidy.solvers.forth v x e));
     };

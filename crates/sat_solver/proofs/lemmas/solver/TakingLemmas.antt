@@ -263,7 +263,7 @@ module _ {W : Type 0} (seen : W → Writer) (n n' : Variables) (a : Core W) (joi
           mids = joined.sound.mids;
         };
         stands = assumes.does.stands;
-        shares = subst (SharesIndices n') (sym assumed.same) (record { size = shares_asked.size; below = shares_asked.below; same = shares_asked.same });
+        shares = subst (SharesIndices n') (sym assumed.same) (record { size = shares_asked.size; few = shares_asked.few; below = shares_asked.below; same = shares_asked.same });
       };
       asked = record {
         images = assumes.images;

@@ -1,5 +1,5 @@
 -- Names and search behind the step of an answer.
-use Rattle.std.proofs.Common.{ℕ, ◌<◌, ◌≡◌, ◌⊎◌, ◌∙◌, Bool, true, false, Option, Some, Ok, Err, eqb, List, [], ◌∷◌, ◌++◌, length, map, get_or, refl, sym, ap, subst}
+use Rattle.std.proofs.Common.{ℕ, ◌<◌, ◌≤◌, ◌≡◌, ◌⊎◌, ◌∙◌, Bool, true, false, Option, Some, Ok, Err, eqb, List, [], ◌∷◌, ◌++◌, length, map, get_or, refl, sym, ap, subst}
 use Rattle.std.proofs.lemmas.Bool.{or_left, or_right, eq-eqb}
 use Rattle.std.specs.List.{AllByRecursion}
 use Rattle.sat_base.specs.device.Device.{Writer}
@@ -24,7 +24,7 @@ use Rattle.sat_solver.specs.parts.Whole.{state}
 use Rattle.sat_solver.specs.parts.Words.{IsIdle}
 use Rattle.sat_solver.specs.declared.search.work.Search.{Search}
 use Rattle.sat_solver.specs.declared.search.solving.Core.{Core}
-use Rattle.sat_solver.specs.names.Variables.{data_at, variables_used}
+use Rattle.sat_solver.specs.names.Variables.{data_at, variables_used, indices_used}
 use Rattle.sat_solver.specs.loading.Shared.{SharesIndices}
 use Rattle.sat_solver.specs.names.Models.{model_to}
 use Rattle.sat_solver.specs.names.Calls.{Stands}
@@ -58,6 +58,7 @@ each_live n values count (l ∷ ls) h = (
 pub shares_moved : (n : Variables) (c c' : Search) → SharesIndices n c → Moved c c' → SharesIndices n c'
 shares_moved n c c' h moved = record {
   size = moved.size ∙ h.size ∙ sym (ap (λ gs. length gs.items) moved.globals);
+  few = subst (λ (k : ℕ). k ≤ indices_used n) (sym (ap (λ gs. length gs.items) moved.globals)) h.few;
   below = λ x v e. subst (λ (k : ℕ). x < k) (sym (ap (λ gs. length gs.items) moved.globals)) (h.below x v e);
   same = λ x v e. ap (λ gs. get_or gs.items x 0) moved.globals ∙ h.same x v e;
 }

@@ -13,5 +13,9 @@ loop-at-preserved c =
     record {
       few = omega (arith, c.max-all.ensures, c.index.ensures.bound, i.few);
       more = omega (arith, c.max-all.ensures, i.more);
+      least = λ m le h. (let k = i.least m le h in let a = subst (λ ks. AllByRecursion (λ k. k.solver < m) ks) e k.1 in (omega (arith, c.max-all.ensures, k.0, a.0, its), a.1));
       goes = λ n le h. i.goes n (omega (arith, c.max-all.ensures, le)) (subst (λ ks. AllByRecursion (λ k. k.solver < n) ks) (sym e) (omega (arith, c.max-all.ensures, le, its), h));
     }
+
+pub returns-clause-least : goal.returns-clause-least
+returns-clause-least c = λ m le h. (c.loop-at.invariant.least m le h).0

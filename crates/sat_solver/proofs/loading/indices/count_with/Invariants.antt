@@ -7,5 +7,6 @@ abbrev pub invariant-loop-at : goal.invariant-loop-at
 invariant-loop-at l = record {
   few : l.all ≤ largest;
   more : l.fn.count ≤ l.all;
+  least : (m : ℕ) → l.fn.count ≤ m → AllByRecursion (λ g. g.solver < m) l.given → (l.all ≤ m) × AllByRecursion (λ g. g.solver < m) (drop l.at l.given);
   goes : (n : ℕ) → l.all ≤ n → AllByRecursion (λ g. g.solver < n) (drop l.at l.given) → AllByRecursion (λ g. g.solver < n) l.given;
 }

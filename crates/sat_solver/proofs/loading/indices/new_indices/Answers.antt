@@ -13,6 +13,6 @@ returns c =
     let o = c.args.search.now in
     let len : c.len.result ≡ length c.args.search.now.globals.items = omega (arith, c.len.ensures, c.args.search.now.globals.ok.0) in
     let more : length c.args.search.now.globals.items ≤ c.count_with-count.result = omega (arith, len, c.count_with-count.ensures.more) in
-    indexed o _ c.back_to_bottom.new.search _ c.args.globals.now c.args.given.now c.count_with-count.result c.requires.holds c.requires.same more c.count_with-count.ensures.past c.in_ok-grow.ensures.grown refl
+    indexed o _ c.back_to_bottom.new.search _ c.args.globals.now c.args.given.now c.count_with-count.result c.requires.holds c.requires.same more (λ le. c.count_with-count.ensures.least (length c.args.globals.now) (omega (arith, len, le)) (below_all o.parts (length c.args.globals.now) c.args.given.now c.requires.vacant.each)) c.count_with-count.ensures.past c.in_ok-grow.ensures.grown refl
     c.in_ok-set_var_count.ensures.size c.in_ok-set_var_count.ensures.clear c.in_ok-set_var_count-2.ensures.grows (front_kept o.globals.items _ c.count_with-count.result _ _ more c.in_ok-resize.ensures.items) (omega (arith, c.in_ok-resize.ensures.len, c.resize.new.self.ok.0))
     c.back_to_bottom.ensures c.in_ok-grow.ensures.holds c.rename.ensures c.take_indices.ensures refl refl refl

@@ -1,9 +1,10 @@
 use Rattle.std.proofs.Common.{◌≡◌, Option, None, Some, subst}
 use Rattle.std.specs.Prelude.{◌-◌}
+use Rattle.std.proofs.lemmas.Result.{err_from_is_err_and}
 use Rattle.sat_solver.specs.declared.solver.state.State.{State}
 use Rattle.sat_solver.specs.declared.solver.state.State.TheVariants as states
 use Rattle.sat_solver.specs.solver.Found.{Finds}
-use Rattle.sat_solver.proofs.lemmas.solver.SettlingLemmas.{settled_known, settled_some, settled_without}
+use Rattle.sat_solver.proofs.lemmas.solver.SettlingLemmas.{rounds_on, settled_known, settled_some, settled_without}
 use Rattle.sat_solver.proofs.solver.Solver.settle.Goals as goal
 
 pub returns-in-Sat : goal.returns-in-Sat
@@ -39,3 +40,11 @@ returns-in_default g c =
     settled_without g.W.CountedWrite.seen s c.requires.whole c.in-Unknown.is c.find_answer.new.core c.find_answer.new.names c.find_answer.new.told c.find_answer.new.clock c.in_ok-found.ensures.scale c.in_ok-found.ensures.counts
     (c.in_ok-found.ensures.interrupted c.in_default.is) (λ n le fits. c.in_ok-found.ensures.answered n le fits c.in_default.is)
     (subst (λ (o : Option State). Finds g.W.CountedWrite.seen o (c.find_answer.new.clock.steps - s.clock.steps) s.names c.find_answer.new.names s.core c.find_answer.new.core c.find_answer.new.told.failed_core.items) c.in_default.is c.in_ok-found.ensures.finds)
+
+pub returns-in_err-found : goal.returns-in_err-found
+returns-in_err-found g c =
+    let p = err_from_is_err_and c.from_residual.result c.from_residual.ensures.1 in
+    rw (p.1, p.2) (
+      c.in_err-found.ensures.breaks,
+      rounds_on g.W.CountedWrite.seen c.args.self.now c.requires.whole c.in-Unknown.is c.find_answer.new.core c.find_answer.new.names c.find_answer.new.told c.find_answer.new.clock c.in_err-found.ensures.scale c.in_err-found.ensures.counts,
+    )
