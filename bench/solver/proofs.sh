@@ -1,0 +1,86 @@
+#!/usr/bin/env bash
+# Has the solver's DRAT proofs checked, and measures what proofs and self checking cost: bench/solver/proofs.sh CHECKER [FOLDER]
+#
+# CHECKER is a program that is called as `CHECKER NAME.cnf NAME.drat`, with a DRAT proof in bytes, and prints `s VERIFIED` where the proof
+# shows that the formula can't be satisfied. The script builds proofs.rt.txt over the crates of this checkout, in a folder of its own, and
+# takes the formulas of formulas.py, and FOLDER/*.cnf besides. Of each one that can't be satisfied the proof in bytes has to be verified, and
+# the one in words has to be the same lines. Each is solved RUNS times (3 where it isn't set), in turn, without a proof, with one in each
+# format, and with the solver's own checker and no proof; it prints the medians of seconds of processor time, and at the end the geometric
+# means of their ratios over the first, for formulas that take half a second at least. It isn't part of the gate, and needs python3 and GNU
+# time.
+set -euo pipefail
+here=$(cd "$(dirname "$0")" && pwd)
+top=$(cd "$here/../.." && pwd)
+checker=$1
+work=$(mktemp -d)
+trap 'rm -rf "$work"' EXIT
+mkdir -p "$work/repo/crates/proofs/src"
+for crate in sat_base sat_checker sat_store sat_parts sat_solver; do
+    mkdir "$work/repo/crates/$crate"
+    cp -r "$top/crates/$crate"/{src,specs,proofs} "$work/repo/crates/$crate/"
+done
+cp "$top/HANDLES" "$work/repo/"
+grep -E '^sat_(base|checker|store|parts|solver):' "$top/crates.txt" > "$work/repo/crates.txt"
+echo 'proofs: sat_solver sat_base' >> "$work/repo/crates.txt"
+git init -q "$work/repo"
+cp "$here/proofs.rt.txt" "$work/repo/crates/proofs/src/main.rt"
+program=$work/repo/crates/proofs/out/proofs
+(cd "$work/repo/crates/proofs" && rt run < /dev/null > "$work/build.log" 2>&1) || [ -x "$program" ] || { tail -n 20 "$work/build.log"; exit 1; }
+
+. "$here/../checker/timing.sh"
+
+# Puts the lines of a proof in words into bytes.
+cat > "$work/bytes.py" <<'PYTHON'
+import sys
+
+out = bytearray()
+for line in sys.stdin:
+    words = line.split()
+    out += b"d" if words[0] == "d" else b"a"
+    for word in words[words[0] == "d":]:
+        lit = int(word)
+        code = 2 * abs(lit) + (lit < 0) if lit else 0
+        while code >= 128:
+            out.append(code % 128 + 128)
+            code //= 128
+        out.append(code)
+sys.stdout.buffer.write(out)
+PYTHON
+
+solve() { # KIND ARGUMENT..: one run, whose proof is $work/KIND.proof
+    local kind=$1 status=0
+    shift
+    "$(command -v time)" -f '%U %S' -o "$work/took" "$program" "$@" < "$formula" > "$work/$kind.proof" 2> "$work/said" || status=$?
+    [ "$status" = 10 ] || [ "$status" = 20 ] || { cat "$work/said"; echo "$formula: status $status with $*"; exit 1; }
+    tail -n 1 "$work/took" >> "$work/$kind.took"
+    answer=$status
+}
+
+python3 "$here/formulas.py" "$work/formulas"
+for formula in "$work"/formulas/*.cnf ${2:+"$2"/*.cnf}; do
+    name=$(basename "$formula" .cnf)
+    rm -f "$work"/*.took
+    for _ in $(seq "${RUNS:-3}"); do
+        solve none none
+        solve varisat varisat
+        solve binary binary
+        solve drat drat
+        solve check none check
+    done
+    line="$name $answer"
+    if [ "$answer" = 20 ]; then
+        "$checker" "$formula" "$work/binary.proof" > "$work/verified" 2>&1 || true
+        grep -q '^s VERIFIED' "$work/verified" || { tail -n 3 "$work/verified"; echo "$name: the proof isn't verified"; exit 1; }
+        python3 "$work/bytes.py" < "$work/drat.proof" | cmp -s - "$work/binary.proof" || { echo "$name: the lines in words are others"; exit 1; }
+        line="$line verified $(wc -c < "$work/binary.proof") bytes"
+    fi
+    for kind in none varisat binary drat check; do
+        awk '{ print $1 + $2 }' "$work/$kind.took" | median > "$work/$kind.median"
+        line="$line $kind $(cat "$work/$kind.median")"
+    done
+    echo "$line"
+    paste "$work"/{none,varisat,binary,drat,check}.median >> "$work/all"
+done
+awk '$1 >= 0.5 { n++; v += log($2 / $1); b += log($3 / $1); d += log($4 / $1); c += log($5 / $1) }
+     END { if (n) printf "over %d formulas: varisat %.3f, binary %.3f, drat %.3f, self checking %.3f\n",
+         n, exp(v / n), exp(b / n), exp(d / n), exp(c / n) }' "$work/all"
