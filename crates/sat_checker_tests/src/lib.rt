@@ -36,3 +36,5 @@ mod proofs;
 mod rows;
 #[cfg(test)]
 mod steps;
+#[cfg(test)]
+mod storing;
