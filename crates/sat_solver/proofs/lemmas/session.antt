@@ -33,3 +33,4 @@ pub mod PlainLemmas
 pub mod ComingLemmas
 pub mod EndedLemmas
 pub mod CheckedLemmas
+pub mod UnitLemmas

@@ -1,5 +1,5 @@
 -- A derived clause that advances: its first literal was not there, whatever live clauses of the session are used.
-use Rattle.std.specs.Prelude.{ℕ, ◌≡◌, ◌⊎◌, ◌==◌, ◌||◌, Bool, true, false, List, [], ◌∷◌, map, drop, slice_index_or as get_or}
+use Rattle.std.specs.Prelude.{ℕ, ◌≡◌, ◌<◌, ◌⊎◌, ◌==◌, ◌||◌, Bool, true, false, List, [], ◌∷◌, map, drop, length, slice_index_or as get_or}
 use Rattle.std.specs.List.{AllByRecursion}
 use Rattle.sat_base.specs.values.Literals.{negated}
 use Rattle.sat_checker.specs.LiteralSets.{is_among}
@@ -23,9 +23,16 @@ pub record StaysNew (s : Session) (l : ℕ) (reached : ℕ → Bool) : Type 0 wh
   pub not_false : reached (negated l) ≡ false
   pub no_conflict : (c : List ℕ) → IsLive s c → AllByRecursion (λ m. reached (negated m) ≡ true) c → ⊥
 
--- the first literal of a clause is open under the units and the negations of the others, and no live clauses assign it or are falsified
-abbrev pub Advances : Session → List ℕ → Type 0
-Advances s clause = (picked : List (List ℕ)) (reached : ℕ → Bool) → LeadsOn s (denied s (drop 1 clause)) picked reached → StaysNew s (get_or clause 0 0) reached
+-- no literal of these has its negation among them
+abbrev pub AreConsistent : (ℕ → Bool) → Type 0
+AreConsistent holds = (l : ℕ) → holds l ≡ true → holds (negated l) ≡ false
+
+-- the units and the negations of a clause's other literals agree and leave its first one open, and no live clauses that are unit in turn
+-- under them assign it or are falsified
+pub record Advances (s : Session) (clause : List ℕ) : Type 0 where
+  pub some : 0 < length clause
+  pub agree : AreConsistent (denied s (drop 1 clause))
+  pub stays : (picked : List (List ℕ)) (reached : ℕ → Bool) → LeadsOn s (denied s (drop 1 clause)) picked reached → StaysNew s (get_or clause 0 0) reached
 
 -- what is learned advances in the session
 abbrev pub LearnedAdvancesIn : Type 0

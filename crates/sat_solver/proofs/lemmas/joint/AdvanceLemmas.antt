@@ -1,6 +1,7 @@
 -- What is learned advances in the session.
 use Rattle.std.proofs.Common.{ℕ, ◌+◌, ◌<◌, ◌≤◌, ◌≡◌, Bool, true, false, ◌||◌, eqb, List, [], ◌∷◌, map, drop, length, length-drop, get_or, get_or-drop, refl, sym, ◌∙◌, ap, subst, arith, ◌⊎◌, inl, inr, Some}
 use Rattle.std.proofs.lemmas.Bool.{or_cases, eqb-true, cases_lt, true≢false, false_from_ne_true}
+use Rattle.std.proofs.lemmas.List.{length-map}
 use Rattle.std.specs.List.{Contains, AllByRecursion}
 use Rattle.sat_base.specs.values.Literals.{variable, negated}
 use Rattle.sat_checker.specs.LiteralSets.{is_among, canonical}
@@ -13,7 +14,7 @@ use Rattle.sat_parts.specs.prop.Values.{IsFalseLit}
 use Rattle.sat_parts.specs.prop.Graphs.{node_of}
 use Rattle.sat_parts.specs.prop.State.{level}
 use Rattle.sat_parts.proofs.lemmas.clause.ListLemmas.{place_in}
-use Rattle.sat_parts.proofs.lemmas.prop.StateLemmas.{negated_variable, negated_twice, true_from_false}
+use Rattle.sat_parts.proofs.lemmas.prop.StateLemmas.{negated_variable, negated_twice, true_from_false, false_from_true, not_both}
 use Rattle.sat_solver.specs.session.Session.{Session, IsLive, denied}
 use Rattle.sat_solver.specs.session.LiveClauses.{LiveClause, IsIn, with_var, mapped, AreMapped}
 use Rattle.sat_solver.proofs.lemmas.session.Lists.{counts_in}
@@ -26,7 +27,7 @@ use Rattle.sat_solver.proofs.lemmas.analysis.Advancing.{IsLow, OthersLow, stored
 use Rattle.sat_solver.specs.declared.parts.Parts.{Parts}
 use Rattle.sat_solver.specs.parts.Whole.{state, IsRefuted}
 use Rattle.sat_solver.specs.joint.Fits.{is_redundant, FitsParts, HaveNames}
-use Rattle.sat_solver.specs.joint.Advancing.{LeadsOn, StaysNew, Advances, LearnedAdvancesIn}
+use Rattle.sat_solver.specs.joint.Advancing.{LeadsOn, StaysNew, Advances, AreConsistent, LearnedAdvancesIn}
 use Rattle.sat_solver.proofs.lemmas.joint.UsableLemmas.{among_place}
 use Rattle.sat_solver.proofs.lemmas.joint.FitLemmas.{among_at, among_back, in_either, long_of}
 use Rattle.sat_solver.proofs.lemmas.joint.ModelLemmas.{pair_of, IsPairOf, in_map_back}
@@ -138,6 +139,43 @@ module _ (p : Parts) (e : Conflict) (w : Work) (back : ℕ) (s : Session) (globa
   not_low : (l : ℕ) → level (state p) l ≡ level (state p) (get_or w.clause 0 0) → IsLow (state p) back l → ⊥
   not_low l e x = omega (arith, x.low, learns.below, learns.asserting.top)
 
+  -- the negation of another one, as a literal of the search
+  record Denied (l : ℕ) : Type 0 where
+    literal : ℕ
+    named : IsNamed literal
+    same : with_var global literal ≡ l
+
+  denied_by : (l : ℕ) → is_among (map negated (map (with_var global) (drop 1 w.clause))) l ≡ true → Denied l
+  denied_by l a =
+      let x = among_back negated (map (with_var global) (drop 1 w.clause)) l a in
+      let y = among_back (with_var global) (drop 1 w.clause) x.0 x.1.0 in
+      let k = among_place (drop 1 w.clause) y.0 y.1.0 in
+      let lt : 1 + k.0 < length w.clause = omega (arith, k.1.0, length-drop 1 w.clause) in
+      let at : get_or w.clause (1 + k.0) 0 ≡ y.0 = sym (get_or-drop 1 w.clause k.0 0) ∙ k.1.1 in
+      record {
+        literal = negated y.0;
+        named = other_named y.0 (false_named y.0 (subst (λ z. IsFalseLit p.assignment.current z) at (learns.asserting.fails (1 + k.0) lt)));
+        same = negated_mapped global y.0 ∙ ap negated y.1.1 ∙ x.1.1;
+      }
+
+  -- it and its negation don't both hold
+  one_of : (l : ℕ) → Denied l → denied s (map (with_var global) (drop 1 w.clause)) l ≡ true → denied s (map (with_var global) (drop 1 w.clause)) (negated l) ≡ true → ⊥
+  one_of l d t u =
+      let q : ℕ = d.literal in
+      let holds : IsLow (state p) back d.literal = at_first q d.named (subst (λ z. denied s (map (with_var global) (drop 1 w.clause)) z ≡ true) (sym d.same) t) in
+      let other : IsLow (state p) back (negated d.literal) = at_first (negated q) (other_named q d.named) (subst (λ z. denied s (map (with_var global) (drop 1 w.clause)) z ≡ true) (sym (negated_mapped global q ∙ ap negated d.same)) u) in
+      not_both p.assignment.current (negated q) other.holds (false_from_true p.assignment.current q holds.holds)
+
+  pub agrees : AreConsistent s.units → AreConsistent (denied s (map (with_var global) (drop 1 w.clause)))
+  agrees consistent l t = false_from_ne_true (denied s (map (with_var global) (drop 1 w.clause)) (negated l)) (λ u.
+      elim (or_cases (is_among (map negated (map (with_var global) (drop 1 w.clause))) l) (s.units l) t) [
+        | inl a ↦ one_of l (denied_by l a) t u
+        | inr x ↦ elim (or_cases (is_among (map negated (map (with_var global) (drop 1 w.clause))) (negated l)) (s.units (negated l)) u) [
+          | inl b ↦ one_of (negated l) (denied_by (negated l) b) u (subst (λ z. denied s (map (with_var global) (drop 1 w.clause)) z ≡ true) (sym (negated_twice l)) t)
+          | inr y ↦ true≢false (sym y ∙ consistent l x)
+        ]
+      ])
+
   pub advances : (picked : List (List ℕ)) (reached : ℕ → Bool) → LeadsOn s (denied s (map (with_var global) (drop 1 w.clause))) picked reached → StaysNew s (with_var global (get_or w.clause 0 0)) reached
   advances picked reached h =
       let l : ℕ = get_or w.clause 0 0 in
@@ -159,10 +197,13 @@ pub learned_advances_in : LearnedAdvancesIn
 learned_advances_in p e w back s global picked reached refuted fits names learns h = advances p e w back s global refuted fits names learns picked reached h
 
 -- the same of the clause as it is written
-pub learned_clause_advances : (p : Parts) (e : Conflict) (w : Work) (back : ℕ) (s : Session) (global : ℕ → ℕ) → IsRefuted p e → FitsParts p s global → HaveNames p.assignment.current s global → Learns p.clauses (state p) (falsified p.clauses e) w back → Advances s (map (with_var global) w.clause)
-learned_clause_advances p e w back s global refuted fits names learns picked reached h =
-    subst (λ l. StaysNew s l reached) (sym (first_of (with_var global) w.clause learns.asserting.some))
-    (advances p e w back s global refuted fits names learns picked reached (subst (λ ls. LeadsOn s (denied s ls) picked reached) (rest_of (with_var global) w.clause) h))
+pub learned_clause_advances : (p : Parts) (e : Conflict) (w : Work) (back : ℕ) (s : Session) (global : ℕ → ℕ) → AreConsistent s.units → IsRefuted p e → FitsParts p s global → HaveNames p.assignment.current s global → Learns p.clauses (state p) (falsified p.clauses e) w back → Advances s (map (with_var global) w.clause)
+learned_clause_advances p e w back s global consistent refuted fits names learns = record {
+  some = subst (λ n. 0 < n) (sym (length-map w.clause (with_var global))) learns.asserting.some;
+  agree = subst (λ ls. AreConsistent (denied s ls)) (sym (rest_of (with_var global) w.clause)) (agrees p e w back s global refuted fits names learns consistent);
+  stays = λ picked reached h. subst (λ l. StaysNew s l reached) (sym (first_of (with_var global) w.clause learns.asserting.some))
+      (advances p e w back s global refuted fits names learns picked reached (subst (λ ls. LeadsOn s (denied s ls) picked reached) (rest_of (with_var global) w.clause) h));
+}
   where
     first_of : (f : ℕ → ℕ) (ls : List ℕ) → 0 < length ls → get_or (map f ls) 0 0 ≡ f (get_or ls 0 0)
     first_of f [] n = absurd (omega arith)

@@ -17,6 +17,7 @@ use Rattle.sat_solver.specs.joint.Fits.{FitsParts, FlagFits, Stands, HaveNames}
 use Rattle.sat_solver.specs.joint.Learning.{TakesIn}
 use Rattle.sat_solver.proofs.lemmas.joint.MayLemmas.{learned_may}
 use Rattle.sat_solver.proofs.lemmas.joint.AdvanceLemmas.{learned_clause_advances}
+use Rattle.sat_solver.proofs.lemmas.session.UnitLemmas.{units_consistent}
 use Rattle.sat_parts.specs.declared.prop.graph.Reason.{Reason}
 use Rattle.sat_parts.specs.prop.State.{State, enqueued}
 use Rattle.sat_solver.specs.parts.Assumed.{ArePlaced}
@@ -62,7 +63,7 @@ module _ (p : Parts) (e : Conflict) (w : Work) (back : ℕ) (steps : List Step) 
     hashes = hashes;
     rest = [];
     is = refl;
-    advances = rw c (learned_clause_advances p e w back (session_after steps) global refuted fits names learns);
+    advances = rw c (learned_clause_advances p e w back (session_after steps) global (units_consistent steps) refuted fits names learns);
   }
 
 -- what became of all
