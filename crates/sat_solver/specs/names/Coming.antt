@@ -1,7 +1,8 @@
 -- Which steps a call over names makes. Lists of steps have the newest first.
-use Rattle.std.specs.Prelude.{ℕ, ◌≡◌, ◌<◌, Bool, true, false, Option, None, Some, List, ◌∷◌}
+use Rattle.std.specs.Prelude.{ℕ, ◌≡◌, ◌≢◌, ◌<◌, Bool, true, false, Option, None, Some, List, ◌∷◌}
 use Rattle.sat_base.specs.script.Script.{Among}
 use Rattle.sat_base.specs.steps.Steps.{Step, SolverVarName, UserVarName, DeleteVar, ChangeSamplingMode, DeleteClause, ChangeHashBits}
+use Rattle.sat_checker.specs.Stored.{Mode, Sample, Witness}
 use Rattle.sat_solver.specs.session.Coming.{Deletes}
 use Rattle.sat_solver.specs.session.Session.{Session, session_after}
 use Rattle.sat_solver.specs.names.Checking.{is_ordered, variable_of}
@@ -36,7 +37,16 @@ abbrev pub MayHide : List Step → Step → Type 0
 MayHide earlier (DeleteVar v) = (rest : List Step) × (earlier ≡ UserVarName v None ∷ rest)
 MayHide earlier step = IsDue earlier step
 
--- beside ordered steps, this mode for the variable of this name
+-- the mode of a variable that a step says
+abbrev pub mode_said : Bool → Mode
+mode_said true = Sample
+mode_said false = Witness
+
+-- the variable has another mode
+abbrev pub TurnsMode : Session → ℕ → Bool → Type 0
+TurnsMode s v sample = (s.variables v).mode ≢ mode_said sample
+
+-- beside ordered steps, this mode for the variable of this name, where it has another: so none where it has it, and no second one
 abbrev pub MaySet : ℕ → Bool → List Step → Step → Type 0
-MaySet name sample earlier (ChangeSamplingMode v mode) = (variable_of earlier name ≡ Some v) × (mode ≡ sample)
+MaySet name sample earlier (ChangeSamplingMode v mode) = (variable_of earlier name ≡ Some v) × (mode ≡ sample) × TurnsMode (session_after earlier) v mode
 MaySet name sample earlier step = IsDue earlier step

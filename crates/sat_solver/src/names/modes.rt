@@ -5,7 +5,7 @@ ghost use Rattle.sat_solver.specs.session.Session.{session_after};
 ghost use Rattle.sat_solver.specs.names.Variables.{data_at, global_of, user_of, solver_of, judged_mode, mode_for};
 ghost use Rattle.sat_base.specs.steps.Steps.{UserVarName, ChangeSamplingMode, DeleteVar};
 ghost use Rattle.sat_solver.specs.session.Coming.{Comes};
-ghost use Rattle.sat_solver.specs.names.Coming.{MayHide, MaySet};
+ghost use Rattle.sat_solver.specs.names.Coming.{MayHide, MaySet, TurnsMode};
 ghost use Rattle.sat_solver.specs.names.Expected.{NewName, NoName};
 ghost use Rattle.sat_solver.specs.names.Naming.{AreFresh, KeepsOthers};
 ghost use Rattle.sat_solver.specs.names.Calls.{Stands, Does, DoesNothing};
@@ -138,8 +138,10 @@ fn mode_of(sample: bool) -> SamplingMode
 }
 
 /// Whether the mode is this one.
+#[tactic(auto, using(crate::proofs::lemmas::names::ModeChanges::sample_other, crate::proofs::lemmas::names::ModeChanges::witness_other, crate::proofs::lemmas::names::ModeChanges::hide_other))]
 fn is_mode(mode: SamplingMode, sample: bool) -> bool
-    ensures { result ≡ true → mode ≡ mode_for sample }
+    ensures same { result ≡ true → mode ≡ mode_for sample }
+    ensures other { result ≡ false → mode ≡ mode_for sample → ⊥ }
 {
     match mode {
         SamplingMode::Sample => sample,
@@ -160,7 +162,7 @@ fn set_global_mode<W: StepWriter>(
     requires keeps { W.keeps writer.old }
     requires named { global_of variables.old user ≡ Some global }
     ensures does { OnOk result (Does variables.old variables.new (W.steps writer.old) (W.steps writer.new) (with_mode (judged_mode sample) (user + 1)) (λ j. [])) }
-    ensures sets { OnOk result ((W.steps writer.new ≡ W.steps writer.old) ⊎ (W.steps writer.new ≡ ChangeSamplingMode global sample ∷ W.steps writer.old)) }
+    ensures sets { OnOk result ((W.steps writer.new ≡ W.steps writer.old) ⊎ ((W.steps writer.new ≡ ChangeSamplingMode global sample ∷ W.steps writer.old) × TurnsMode (session_after (W.steps writer.old)) global sample)) }
     ensures users { OnOk result (variables.new.global_from_user ≡ variables.old.global_from_user) }
     ensures unseen { OnOk result (IsUnseen variables.old variables.new (W.steps writer.old) (W.steps writer.new)) }
     ensures fails { IfErr result IsFailure }

@@ -7,7 +7,7 @@ use Rattle.sat_base.specs.steps.Steps.{Step, SolverVarName, UserVarName, DeleteV
 use Rattle.sat_solver.specs.session.Coming.{Comes, Deletes}
 use Rattle.sat_solver.specs.session.Session.{session_after}
 use Rattle.sat_solver.specs.names.Checking.{is_ordered, variable_of}
-use Rattle.sat_solver.specs.names.Coming.{IsDue, IsNextSolver, MayTake, MayAdd, MayHide, MaySet}
+use Rattle.sat_solver.specs.names.Coming.{IsDue, IsNextSolver, MayTake, MayAdd, MayHide, TurnsMode, MaySet}
 use Rattle.sat_solver.specs.names.Refusing.{names_in}
 use Rattle.sat_solver.proofs.lemmas.session.ComingLemmas.{comes_none, comes_one, comes_both, comes_map}
 
@@ -120,9 +120,9 @@ comes_hidden (Ok x) from mids hides to v brought hidden gone = comes_both MayHid
 ])
 
 -- a name came in, and its variable may have got a mode
-pub comes_set : {A E : Type 0} (r : Result A E) (from mids to : List Step) (name v : ℕ) (sample : Bool) → Comes IsDue from mids → variable_of mids name ≡ Some v → OnOk r ((to ≡ mids) ⊎ (to ≡ ChangeSamplingMode v sample ∷ mids)) → OnOk r (Comes (MaySet name sample) from to)
+pub comes_set : {A E : Type 0} (r : Result A E) (from mids to : List Step) (name v : ℕ) (sample : Bool) → Comes IsDue from mids → variable_of mids name ≡ Some v → OnOk r ((to ≡ mids) ⊎ ((to ≡ ChangeSamplingMode v sample ∷ mids) × TurnsMode (session_after mids) v sample)) → OnOk r (Comes (MaySet name sample) from to)
 comes_set (Err e) from mids to name v sample brought named set = tt
 comes_set (Ok x) from mids to name v sample brought named set = comes_both (MaySet name sample) from mids to (comes_map IsDue (MaySet name sample) (due_set name sample) from mids brought) (elim set [
   | inl e ↦ subst (Comes (MaySet name sample) mids) (sym e) (comes_none (MaySet name sample) mids)
-  | inr e ↦ comes_one (MaySet name sample) mids to (ChangeSamplingMode v sample) e (named, refl)
+  | inr e ↦ comes_one (MaySet name sample) mids to (ChangeSamplingMode v sample) e.0 (named, refl, e.1)
 ])

@@ -12,7 +12,7 @@ use Rattle.sat_store.specs.declared.data.SamplingMode.{SamplingMode}
 use Rattle.sat_store.specs.declared.data.SamplingMode.TheVariants as kept
 use Rattle.sat_store.specs.variables.VarData.{unused_variable}
 use Rattle.sat_store.specs.variables.Maps.{AreInverse, target}
-use Rattle.sat_checker.specs.Stored.{Sample, Witness, Variable, unknown}
+use Rattle.sat_checker.specs.Stored.{Sample, Witness, Hide, Variable, unknown}
 use Rattle.sat_solver.specs.session.Session.{Session, MayAll, session_after, after}
 use Rattle.sat_solver.proofs.lemmas.session.StepLemmas.{sessions_are_accepted}
 use Rattle.sat_solver.specs.names.Counting.{IsEven}
@@ -21,6 +21,7 @@ use Rattle.sat_solver.specs.names.Live.{Live, given_of, given}
 use Rattle.sat_solver.specs.names.Variables.{data_at, global_of, user_of, variables_used, AreTidy, mode_in, variable_at, AreSaid, IsModeOf, AreJudged, mode_for, judged_mode, says_unit}
 use Rattle.sat_solver.specs.names.Naming.{PutsMode}
 use Rattle.sat_solver.specs.names.Checking.{variable_of}
+use Rattle.sat_solver.specs.names.Coming.{mode_said, TurnsMode}
 use Rattle.sat_solver.specs.names.ProofChecking.{the_checking}
 use Rattle.sat_solver.specs.names.Bridge.{IsBridge}
 use Rattle.sat_solver.specs.names.Calls.{Stands, written, other, Kept, Does}
@@ -272,3 +273,32 @@ mode_unseen old new from to v mode sample put e = record {
   search = subst (λ steps. KeepsSearch (session_after from) (session_after steps)) (sym e) (record { live = refl; units = refl; unsat = refl; width = refl; assumed = refl });
   leaves = λ a h. subst (λ steps. Holds steps a) e h;
 }
+
+-- MODES THAT A STEP SAYS
+
+mode_back : (m : SamplingMode) (sample : Bool) → mode_in m ≡ mode_said sample → m ≡ mode_for sample
+mode_back kept.Sample true e = refl
+mode_back kept.Sample false e = absurd (let d : Sample ≡ Witness = e in cc)
+mode_back kept.Witness true e = absurd (let d : Witness ≡ Sample = e in cc)
+mode_back kept.Witness false e = refl
+mode_back kept.Hide true e = absurd (let d : Hide ≡ Sample = e in cc)
+mode_back kept.Hide false e = absurd (let d : Hide ≡ Witness = e in cc)
+
+-- the step changes what the session has
+pub turns_mode : (n : Variables) (from : List Step) (user v : ℕ) (sample : Bool) → Stands n from → global_of n user ≡ Some v → ((data_at n v).sampling_mode ≡ mode_for sample → ⊥) → TurnsMode (session_after from) v sample
+turns_mode n from user v sample stands had differs e = differs (mode_back (data_at n v).sampling_mode sample (sym (ap (λ (x : Variable). x.mode) (stands.said.variables v) ∙ ap (λ b. (cond b unknown live).mode) (stands.tidy.named v user (stands.tidy.users.back user v had))) ∙ e))
+  where
+    live : Variable
+    live = record { known = true; mode = mode_in (data_at n v).sampling_mode; name = user_of n v }
+
+-- which mode a variable has
+pub sample_other : (sample : Bool) → sample ≡ false → kept.Sample ≡ mode_for sample → ⊥
+sample_other true e h = true≢false e
+sample_other false e h = cc
+
+pub witness_other : (sample : Bool) → not sample ≡ false → kept.Witness ≡ mode_for sample → ⊥
+witness_other true e h = cc
+witness_other false e h = true≢false e
+
+pub hide_other : (sample : Bool) → kept.Hide ≡ mode_for sample → ⊥
+hide_other sample h = not_hide sample (sym h)

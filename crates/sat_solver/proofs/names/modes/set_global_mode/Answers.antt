@@ -1,7 +1,7 @@
-use Rattle.std.proofs.Common.{◌≡◌, sym, ◌∙◌, subst}
+use Rattle.std.proofs.Common.{◌≡◌, inl, inr, refl, sym, ◌∙◌, subst}
 use Rattle.sat_solver.specs.names.Variables.{data_at, mode_for}
 use Rattle.sat_solver.specs.names.Naming.{PutsMode}
-use Rattle.sat_solver.proofs.lemmas.names.ModeChanges.{named_within, mode_kept, mode_set, mode_unseen, may_mode}
+use Rattle.sat_solver.proofs.lemmas.names.ModeChanges.{named_within, mode_kept, mode_set, mode_unseen, may_mode, turns_mode}
 use Rattle.sat_solver.proofs.lemmas.names.Giving.{unseen_same}
 use Rattle.sat_solver.proofs.names.modes.set_global_mode.Goals as goal
 
@@ -10,7 +10,7 @@ mode-requires g c = record { within = named_within c.args.variables.now c.args.u
 
 pub returns-then-is_mode-clause-does : goal.returns-then-is_mode-clause-does
 returns-then-is_mode-clause-does g c =
-    let same : (data_at c.args.variables.now c.args.global).sampling_mode ≡ mode_for c.args.sample = sym c.mode.ensures ∙ c.is_mode.ensures c.if-is_mode.true in
+    let same : (data_at c.args.variables.now c.args.global).sampling_mode ≡ mode_for c.args.sample = sym c.mode.ensures ∙ c.is_mode.ensures.same c.if-is_mode.true in
     mode_kept c.args.variables.now (g.W.StepWriter.steps c.args.writer.now) c.args.user c.args.global c.args.sample c.requires.stands c.requires.named same
 
 pub returns-clause-does : goal.returns-clause-does
@@ -29,3 +29,10 @@ step-requires-clause-may g c = may_mode c.args.variables.now c.args.user c.args.
 
 pub returns-clause-users : goal.returns-clause-users
 returns-clause-users g c = c.put_mode.ensures.users
+
+pub returns-clause-sets : goal.returns-clause-sets
+returns-clause-sets g c =
+    inr (
+      c.in_ok-step.ensures.steps,
+      turns_mode c.args.variables.now (g.W.StepWriter.steps c.args.writer.now) c.args.user c.args.global c.args.sample c.requires.stands c.requires.named (λ e. c.is_mode.ensures.other c.if-is_mode.false (c.mode.ensures ∙ e)),
+    )
