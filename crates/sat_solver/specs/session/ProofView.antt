@@ -55,6 +55,14 @@ steps_of p = p.made.history.steps
 abbrev pub is_checked : {W : Type 0} → Proof W → Bool
 is_checked p = mades.is_checked p.made
 
+-- has a step been made that the checker wasn't given?
+abbrev pub is_lost : {W : Type 0} → Proof W → Bool
+is_lost p = mades.is_lost p.made
+
+-- where there is a checker, it was given each step that was made, and nothing waits in it
+abbrev pub HasTold : {W : Type 0} → Proof W → Type 0
+HasTold p = mades.HasTold p.made
+
 -- the session behind them
 abbrev pub session_of : {W : Type 0} → Proof W → Session
 session_of p = session_after (steps_of p)
@@ -131,14 +139,22 @@ Flushed Closed new = new ≡ Closed
 Flushed (Open f c s) new = (t : Sink) × (new ≡ Open f c t) × Emptied s t
 Flushed (Broken w) new = new ≡ Broken w
 
-pub record Flushes {W : Type 0} (seen : W → Writer) (old new : Proof W) : Type 0 where
+-- the target was flushed, whatever the checker has told
+pub record Drains {W : Type 0} (seen : W → Writer) (old new : Proof W) : Type 0 where
   pub history : steps_of new ≡ steps_of old
   pub checked : is_checked new ≡ is_checked old
   pub target : Flushed (target_of seen old) (target_of seen new)
 
+-- and the checker has told what waited
+pub record Flushes {W : Type 0} (seen : W → Writer) (old new : Proof W) : Type 0 where
+  pub history : steps_of new ≡ steps_of old
+  pub checked : is_checked new ≡ is_checked old
+  pub target : Flushed (target_of seen old) (target_of seen new)
+  pub told : HasTold new
+
 -- what came of a flush of the target alone
 abbrev pub FlushesTarget : {W : Type 0} → (W → Writer) → Result (Unit {0}) ProofError → Proof W → Proof W → Type 0
-FlushesTarget seen (Ok x) old new = Flushes seen old new
+FlushesTarget seen (Ok x) old new = Drains seen old new
 FlushesTarget seen (Err (Write e)) old new = Fails seen [] old new
 FlushesTarget seen (Err OutOfMemory) old new = ⊥
 FlushesTarget seen (Err (Check fault)) old new = ⊥
@@ -148,7 +164,7 @@ abbrev pub FlushesOrFails : {W : Type 0} → (W → Writer) → Result (Unit {0}
 FlushesOrFails seen (Ok x) old new = Flushes seen old new
 FlushesOrFails seen (Err (Write e)) old new = Fails seen [] old new
 FlushesOrFails seen (Err OutOfMemory) old new = ⊥
-FlushesOrFails seen (Err (Check fault)) old new = Flushes seen old new × (is_checked old ≡ true)
+FlushesOrFails seen (Err (Check fault)) old new = Drains seen old new × (is_checked old ≡ true)
 
 -- an open target is handed back, which took what waited and the text of these steps, and was flushed
 pub record TookAll (f : ProofFormat) (c : Counting) (s : Sink) (steps : List Step) (given : Writer) : Type 0 where
@@ -173,6 +189,7 @@ pub record ClosesOne {W : Type 0} (seen : W → Writer) (given : W) (old new : P
   pub history : steps_of new ≡ End ∷ steps_of old
   pub takes : TakesAll (target_of seen old) (End ∷ []) (seen given)
   pub target : target_of seen new ≡ Closed
+  pub told : HasTold new
 
 -- What came of closing a proof. A fault was at the text of the last step, or at what waited then.
 abbrev pub Closes : {W : Type 0} → (W → Writer) → Result (Option W) ProofError → Proof W → Proof W → Type 0
@@ -195,5 +212,6 @@ seen_of seen (Some w) = Some (seen w)
 -- the target is handed back as it is
 pub record HandsBack {W : Type 0} (seen : W → Writer) (given : Option W) (old new : Proof W) : Type 0 where
   pub history : steps_of new ≡ steps_of old
+  pub made : new.made ≡ old.made
   pub gives : Gives (target_of seen old) (seen_of seen given)
   pub target : target_of seen new ≡ Closed

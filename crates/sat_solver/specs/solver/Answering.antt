@@ -2,14 +2,16 @@
 use Rattle.std.specs.Prelude.{ℕ, ◌≡◌, List, [], ◌∷◌, map, MatchResult, Result, Err}
 use Rattle.sat_base.specs.device.Device.{Writer}
 use Rattle.sat_base.specs.steps.Steps.{Step, Model}
-use Rattle.sat_solver.specs.session.ProofView.{Adds, session_of}
+use Rattle.sat_solver.specs.session.ProofView.{Adds, Fails, FailsCheck, session_of}
 use Rattle.sat_solver.specs.search.Failing.{ToldCore}
 use Rattle.sat_solver.specs.search.Going.{IsFault, Went}
 use Rattle.sat_solver.specs.names.Models.{model_to, named_to}
 use Rattle.sat_solver.specs.names.Variables.{names_used, variables_used}
 use Rattle.sat_solver.specs.declared.error.SolverError.{SolverError}
+use Rattle.sat_solver.specs.declared.error.SolverError.TheVariants as errors
 use Rattle.sat_solver.specs.declared.names.Variables.{Variables}
 use Rattle.sat_solver.specs.declared.search.solving.Core.{Core}
+use Rattle.sat_solver.specs.declared.session.proof.Proof.{Proof}
 use Rattle.sat_solver.specs.solver.Joined.{IsJoined, name_of}
 
 -- what the values of the search make of all variables of the proof
@@ -25,6 +27,14 @@ pub record Breaks {W : Type 0} (seen : W → Writer) (e : SolverError) (a b : Co
   pub fault : IsFault e
   pub steps : List Step
   pub went : Went {A = Unit {0}} seen (Err e) steps a.proof b.proof
+
+-- no step was made: a call of the target failed at what waited for it, or the solver's own checker at what waited for its id
+abbrev pub FlushFails : {W : Type 0} → (W → Writer) → SolverError → Proof W → Proof W → Type 0
+FlushFails seen (errors.ProofIoError cause) old new = Fails seen [] old new
+FlushFails seen errors.OutOfMemory old new = FailsCheck seen [] old new
+FlushFails seen errors.CounterEnd old new = FailsCheck seen [] old new
+FlushFails seen (errors.ProofProcessorError cause) old new = FailsCheck seen [] old new
+FlushFails seen e old new = ⊥
 
 -- the model of all variables was written
 pub record Shown {W : Type 0} (seen : W → Writer) (n : Variables) (a b : Core W) : Type 0 where

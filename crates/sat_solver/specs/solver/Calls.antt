@@ -15,11 +15,11 @@ use Rattle.sat_solver.specs.names.Live.{Live}
 use Rattle.sat_solver.specs.search.Solving.{AdvancesIn}
 use Rattle.sat_solver.specs.session.Coming.{Comes, EndsAtUnsat}
 use Rattle.sat_solver.specs.session.Making.{Took}
-use Rattle.sat_solver.specs.session.ProofView.{Target, Closed, Open, Broken, target_of}
+use Rattle.sat_solver.specs.session.ProofView.{Target, Closed, Open, Broken, HasTold, target_of}
 use Rattle.sat_solver.specs.declared.solver.Solver.{Solver}
 use Rattle.sat_solver.specs.declared.solver.state.State.{State}
 use Rattle.sat_solver.specs.declared.solver.state.State.TheVariants as states
-use Rattle.sat_solver.specs.solver.Answering.{Breaks}
+use Rattle.sat_solver.specs.solver.Answering.{Breaks, FlushFails}
 use Rattle.sat_solver.specs.solver.Whole.{IsWhole, steps_in, line_in}
 
 -- a call was carried out: what it does to the judge's state, and which steps it has made for it, whatever others come between
@@ -46,12 +46,14 @@ pub record RoundsOn (n : Variables) (steps : List Step) (budget before now : ℕ
 abbrev pub CountsRounds : {W : Type 0} → Solver W → Solver W → Type 0
 CountsRounds old new = RoundsOn old.names (steps_in old) old.core.config.max_steps old.clock.steps new.clock.steps
 
--- a call failed by what no input decides, and so does each one behind it
+-- a call failed by what no input decides, and so does each one behind it; where an answer was known, only a flush or the solver's own
+-- checker did
 pub record Ends {W : Type 0} (seen : W → Writer) (e : SolverError) (old new : Solver W) : Type 0 where
   pub going : old.failed ≡ false
   pub failed : new.failed ≡ true
   pub breaks : Breaks seen e old.core new.core
   pub counts : CountsRounds old new
+  pub known : (old.state ≡ states.Unknown → ⊥) → FlushFails seen e old.core.proof new.core.proof
 
 -- a call was refused, for this reason, and changed nothing
 pub record Refuses {W : Type 0} (old new : Solver W) (why : Type 0) : Type 0 where
@@ -89,8 +91,8 @@ pub record AnswersAgain {W : Type 0} (old new : Solver W) : Type 0 where
   pub steps : steps_in new ≡ steps_in old
   pub same : new ≡ record old { core = record old.core { proof = new.core.proof }; used = true }
 
--- an ask was looked at: assumptions are as they were, names stand for the variables for which they stood, and without an answer each
--- round derived a clause that advances
+-- An ask was looked at: assumptions are as they were, names stand for the variables for which they stood, and without an answer each
+-- round derived a clause that advances. The solver's own checker was given all steps, and has told what waited.
 pub record Answered {W : Type 0} (seen : W → Writer) (old new : Solver W) : Type 0 where
   pub did : Did seen old new (λ j. j) (λ j. told_by old.state new)
   pub comes : Comes EndsAtUnsat (steps_in old) (steps_in new)
@@ -99,6 +101,7 @@ pub record Answered {W : Type 0} (seen : W → Writer) (old new : Solver W) : Ty
   pub counts : Counts old new
   pub times : new.state ≡ states.Unknown → AdvancesIn (steps_in old) (steps_in new) (new.clock.steps - old.clock.steps)
   pub flushed : IsFlushed (target_of seen new.core.proof)
+  pub told : HasTold new.core.proof
   pub known : (old.state ≡ states.Unknown → ⊥) → AnswersAgain old new
 
 abbrev pub is_answer : State → Bool → Type 0

@@ -5,13 +5,15 @@ use Rattle.sat_base.specs.device.Sink.{empty_sink}
 use Rattle.sat_base.specs.steps.Steps.{End}
 use Rattle.sat_solver.specs.session.Checked.{has_begun}
 use Rattle.sat_solver.specs.session.Counting.{start}
-use Rattle.sat_solver.specs.session.ProofView.{Open, Adds, ClosesNone, ClosesOne, Fails, FailsCheck, is_open, is_checked, target_of}
+use Rattle.sat_solver.specs.session.Drat.{IsDratDerivation, Refutes, present}
+use Rattle.sat_solver.specs.session.ProofView.{Open, Adds, ClosesNone, ClosesOne, Fails, FailsCheck, is_open, is_checked, is_lost, target_of}
 use Rattle.sat_solver.specs.declared.session.format.ProofFormat.{ProofFormat}
 use Rattle.sat_solver.specs.declared.error.SolverError.{SolverError}
 use Rattle.sat_solver.specs.declared.error.SolverError.TheVariants as errors
 use Rattle.sat_solver.specs.names.Calls.{Does}
 use Rattle.sat_solver.specs.names.Expected.{Finish}
 use Rattle.sat_solver.specs.declared.solver.Solver.{Solver}
+use Rattle.sat_solver.specs.declared.solver.state.State.TheVariants as states
 use Rattle.sat_solver.specs.solver.Calls.{Refuses}
 use Rattle.sat_solver.specs.solver.Whole.{IsWhole, steps_in}
 
@@ -38,6 +40,7 @@ pub record Checks {W : Type 0} (seen : W → Writer) (old new : Solver W) : Type
   pub steps : steps_in new ≡ steps_in old
   pub target : target_of seen new.core.proof ≡ target_of seen old.core.proof
   pub checked : is_checked new.core.proof ≡ true
+  pub taking : is_lost new.core.proof ≡ false
   pub same : new ≡ record old { core = record old.core { proof = new.core.proof } }
 
 abbrev pub Enables : {W : Type 0} → (W → Writer) → Result (Unit {0}) SolverError → Solver W → Solver W → Type 0
@@ -46,12 +49,15 @@ Enables seen (Err errors.HasFailed) old new = Refuses old new (old.failed ≡ tr
 Enables seen (Err errors.TooLate) old new = Refuses old new ((old.failed ≡ false) × ((old.used ≡ true) ⊎ (has_begun (steps_in old) ≡ true)))
 Enables seen (Err e) old new = ⊥
 
--- the target came back, with the last step
+-- the target came back, with the last step; the solver's own checker was given all steps, and has told what waited
 pub record ClosedOne {W : Type 0} (seen : W → Writer) (given : W) (old new : Solver W) : Type 0 where
   pub going : old.failed ≡ false
   pub whole : IsWhole new
   pub does : Does old.names new.names (steps_in old) (steps_in new) (λ j. j) (λ j. Finish ∷ [])
   pub closes : ClosesOne seen given old.core.proof new.core.proof
+  -- the lines of DRAT that the steps give are a derivation, and refute the added clauses where these are known to be unsatisfiable
+  pub derives : IsDratDerivation (steps_in new)
+  pub refutes : old.state ≡ states.Unsat → Refutes (present (steps_in new)) []
   pub same : new ≡ record old { core = record old.core { proof = new.core.proof } }
 
 -- none was open

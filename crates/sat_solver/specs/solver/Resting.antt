@@ -33,7 +33,7 @@ HasNone s = (s.failed ≡ false) × (s.state ≡ states.Sat → ⊥)
 -- why no model is given
 abbrev pub ModelFails : {W : Type 0} → SolverError → Solver W → Type 0
 ModelFails errors.HasFailed s = s.failed ≡ true
-ModelFails errors.OutOfMemory s = s.failed ≡ false
+ModelFails errors.OutOfMemory s = (s.failed ≡ false) × (s.state ≡ states.Sat)
 ModelFails e s = ⊥
 
 abbrev pub is_unsat : State → Type 0

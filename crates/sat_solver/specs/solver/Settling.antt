@@ -1,14 +1,15 @@
 -- What looking for an answer leaves.
-use Rattle.std.specs.Prelude.{◌-◌, ◌≡◌, Result, Ok, Err}
+use Rattle.std.specs.Prelude.{◌-◌, ◌≡◌, [], Result, Ok, Err}
 use Rattle.sat_base.specs.device.Device.{Writer}
 use Rattle.sat_solver.specs.declared.error.SolverError.{SolverError}
 use Rattle.sat_solver.specs.names.Calls.{Does}
 use Rattle.sat_solver.specs.search.Solving.{AdvancesIn}
 use Rattle.sat_solver.specs.session.Coming.{Comes, EndsAtUnsat}
 use Rattle.sat_solver.specs.session.Making.{Took}
+use Rattle.sat_solver.specs.session.ProofView.{Adds}
 use Rattle.sat_solver.specs.declared.solver.Solver.{Solver}
 use Rattle.sat_solver.specs.declared.solver.state.State.TheVariants as states
-use Rattle.sat_solver.specs.solver.Answering.{Breaks}
+use Rattle.sat_solver.specs.solver.Answering.{Breaks, FlushFails}
 use Rattle.sat_solver.specs.solver.Calls.{Counts, CountsRounds, told_by}
 use Rattle.sat_solver.specs.solver.Whole.{IsWhole, steps_in}
 
@@ -23,8 +24,8 @@ pub record Settled {W : Type 0} (seen : W → Writer) (old new : Solver W) : Typ
   pub config : new.core.config ≡ old.core.config
   pub counts : Counts old new
   pub times : new.state ≡ states.Unknown → AdvancesIn (steps_in old) (steps_in new) (new.clock.steps - old.clock.steps)
-  pub known : (old.state ≡ states.Unknown → ⊥) → (steps_in new ≡ steps_in old) × (new ≡ record old { core = record old.core { proof = new.core.proof } })
+  pub known : (old.state ≡ states.Unknown → ⊥) → Adds seen [] old.core.proof new.core.proof × (new ≡ record old { core = record old.core { proof = new.core.proof } })
 
 abbrev pub Settles : {W : Type 0} → (W → Writer) → Result (Unit {0}) SolverError → Solver W → Solver W → Type 0
 Settles seen (Ok x) old new = Settled seen old new
-Settles seen (Err e) old new = Breaks seen e old.core new.core × CountsRounds old new
+Settles seen (Err e) old new = Breaks seen e old.core new.core × CountsRounds old new × ((old.state ≡ states.Unknown → ⊥) → FlushFails seen e old.core.proof new.core.proof)

@@ -1,5 +1,5 @@
 //! All steps that a solver made, and its own checker, which takes them as they are made.
-ghost use Rattle.std.specs.Prelude.{◌≡◌, ◌∷◌, [], true, false};
+ghost use Rattle.std.specs.Prelude.{◌≡◌, ◌∷◌, [], true, false, OnOk};
 ghost use Rattle.sat_base.specs.steps.StepViews.{step_of};
 ghost use Rattle.sat_solver.specs.session.Checked.{has_begun, FedUnless, IsCause};
 ghost use Rattle.sat_solver.specs.session.Session.{MayAll};
@@ -51,7 +51,7 @@ pub struct Made {
 }
 
 impl Made {
-    ghost use Rattle.sat_solver.specs.session.MadeView.{is_checked, Makes, OnlyChecked};
+    ghost use Rattle.sat_solver.specs.session.MadeView.{is_checked, is_lost, HasTold, Makes, OnlyChecked};
 
     /// No step yet, and no checker.
     pub fn new() -> Made
@@ -85,11 +85,13 @@ impl Made {
         requires { has_begun self.old.history.steps ≡ false }
         ensures steps { self.new.history.steps ≡ self.old.history.steps }
         ensures checked { is_checked self.new ≡ true }
+        ensures taking { is_lost self.new ≡ false }
     {
-        if self.own.is_some() {
+        if self.own.is_some() && !self.lost {
             return;
         }
         self.own = Some(Checked::new(alloc));
+        self.lost = false;
     }
 
     /// Notes a step that the checker isn't given: it takes none from here on.
@@ -125,24 +127,27 @@ impl Made {
         }
     }
 
-    /// Has the checker tell what waits for the next step.
+    /// Has the checker tell what waits for the next step. Where a step was made that it hasn't taken, the call fails.
     pub fn take_delayed(&mut self) -> Result<(), CheckFault>
         ensures steps { self.new.history.steps ≡ self.old.history.steps }
         ensures checked { is_checked self.new ≡ is_checked self.old }
         ensures fails { OnlyChecked result self.old }
+        ensures told { OnOk result (HasTold self.new) }
     {
-        if self.lost {
-            return Ok(());
-        }
         match &mut self.own {
             None => Ok(()),
-            Some(own) => match own.take_delayed() {
-                Ok(()) => Ok(()),
-                Err(error) => {
-                    self.lost = true;
-                    Err(cause_of(error))
+            Some(own) => {
+                if self.lost {
+                    return Err(CheckFault::OutOfMemory);
                 }
-            },
+                match own.take_delayed() {
+                    Ok(()) => Ok(()),
+                    Err(error) => {
+                        self.lost = true;
+                        Err(cause_of(error))
+                    }
+                }
+            }
         }
     }
 }

@@ -1,5 +1,5 @@
 //! The proof that a solver writes. Each step goes through it, and nobody else writes.
-ghost use Rattle.std.specs.Prelude.{◌≡◌, ◌∷◌, [], true, false};
+ghost use Rattle.std.specs.Prelude.{◌≡◌, ◌∷◌, [], true, false, OnOk};
 ghost use Rattle.sat_base.specs.device.Sink.{empty_sink};
 ghost use Rattle.sat_base.specs.steps.StepViews.{step_of};
 ghost use Rattle.sat_solver.specs.session.Counting.{start};
@@ -7,7 +7,7 @@ ghost use Rattle.sat_solver.specs.session.Checked.{has_begun};
 ghost use Rattle.sat_solver.specs.session.MadeView.{Makes};
 ghost use Rattle.sat_solver.specs.session.Session.{May, MayAll};
 ghost use Rattle.sat_solver.specs.session.Widths.{KeepsWidth};
-ghost use Rattle.sat_solver.specs.session.ProofView.{Closed, Open, is_open, is_drat, has_asked, target_of, steps_of, session_of, is_checked, Keeps, Adds, Records, PutsOn, FailsOfCheck, FlushesTarget, FlushesOrFails, Closes, HandsBack};
+ghost use Rattle.sat_solver.specs.session.ProofView.{Closed, Open, is_open, is_drat, has_asked, target_of, steps_of, session_of, is_checked, is_lost, HasTold, Keeps, Adds, Records, PutsOn, FailsOfCheck, FlushesTarget, FlushesOrFails, Closes, HandsBack};
 
 use crate::session::counting::Counting;
 use crate::session::cutting::CutLists;
@@ -97,6 +97,7 @@ impl<W: CountedWrite + Drop> Proof<W> {
         ensures steps { steps_of self.new ≡ steps_of self.old }
         ensures target { target_of W.seen self.new ≡ target_of W.seen self.old }
         ensures checked { is_checked self.new ≡ true }
+        ensures taking { is_lost self.new ≡ false }
     {
         self.made.check(alloc);
     }
@@ -214,6 +215,7 @@ impl<W: CountedWrite + Drop> Proof<W> {
         ensures checked { is_checked self.new ≡ is_checked self.old }
         ensures target { target_of W.seen self.new ≡ target_of W.seen self.old }
         ensures fails { FailsOfCheck result self.old }
+        ensures told { OnOk result (HasTold self.new) }
     {
         match self.made.take_delayed() {
             Ok(()) => Ok(()),

@@ -2,7 +2,7 @@
 ghost use Rattle.std.specs.Prelude.{ℕ, ◌≡◌, ◌+◌, ◌-◌, ◌*◌, ◌^◌, ◌<◌, ◌≤◌, min, true, false, IsErrOf, OnOk};
 ghost use Rattle.sat_solver.specs.search.Solving.{values_in};
 ghost use Rattle.sat_solver.specs.solver.Whole.{IsSolver, IsWhole};
-ghost use Rattle.sat_solver.specs.session.ProofView.{target_of};
+ghost use Rattle.sat_solver.specs.session.ProofView.{HasTold, target_of};
 ghost use Rattle.sat_solver.specs.solver.Calls.{Solves, IsFlushed};
 ghost use Rattle.sat_solver.specs.solver.Settling.{Settles};
 
@@ -42,6 +42,7 @@ impl<W: CountedWrite + Drop> Solver<W> {
         requires whole { IsWhole self.old }
         ensures settles { Settles W.seen result self.old self.new }
         ensures flushed { OnOk result (IsFlushed (target_of W.seen self.new.core.proof)) }
+        ensures told { OnOk result (HasTold self.new.core.proof) }
     {
         self.core.proof.begin_ask();
         self.settle()?;
@@ -53,7 +54,8 @@ impl<W: CountedWrite + Drop> Solver<W> {
 
     /// Whether the clauses and the assumptions can be satisfied. `Interrupted` where the rounds of this call are spent, as many as the
     /// parameters allow, or the count of all rounds is. With no clause and no assumptions accepted since an answer, this one is given
-    /// again, without a round or a step. Before it answers, an open target is flushed.
+    /// again, without a round or a step. Before it answers, an open target is flushed, and the
+    /// solver's own checker, where there is one, has taken all steps and told what waited in it.
     pub fn solve(&mut self) -> Result<bool, SolverError>
         requires { IsSolver self.old }
         ensures solver { IsSolver self.new }

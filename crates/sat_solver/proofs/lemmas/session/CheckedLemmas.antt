@@ -1,10 +1,10 @@
 -- A solver's own checker takes what may be made.
-use Rattle.std.proofs.Common.{ℕ, ◌≡◌, ◌∙◌, Bool, true, false, not, ◌||◌, Option, Some, List, [], ◌∷◌, Result, Ok, Err, refl, sym, ap, subst}
+use Rattle.std.proofs.Common.{ℕ, ◌≡◌, ◌∙◌, Bool, true, false, not, ◌||◌, Option, None, Some, List, [], ◌∷◌, Result, Ok, Err, refl, sym, ap, subst}
 use Rattle.std.proofs.lemmas.Bool.{true≢false}
 use Rattle.std.proofs.Math.Logic.{∥∥₁_elim, ∥∥₁_prop}
 use Rattle.sat_base.specs.steps.Steps.{Step, ChangeHashBits}
 use Rattle.sat_checker.specs.CheckerView.{kernel_of}
-use Rattle.sat_checker.specs.KernelView.{Stands, has_failed}
+use Rattle.sat_checker.specs.KernelView.{Stands, IsSettled, has_failed}
 use Rattle.sat_checker.specs.declared.kernel.Kernel.{Kernel}
 use Rattle.sat_checker.specs.declared.error.CheckerError.{CheckerError}
 use Rattle.sat_checker.specs.declared.error.CheckerError.TheVariants as errors
@@ -97,6 +97,10 @@ unended_none (step ∷ steps) e = ended_next step steps (unended_none steps) e
 pub fed_ended : {P : Type 0} (own : Checked P) (steps : List Step) → has_begun steps ≡ false → IsFed own [] → IsFed own steps
 fed_ended own steps e fed = record { written = fed.written; cut = subst (λ x. IsWritten x fed.written own.bits) (sym (unended_none steps e)) fed.cut; stands = fed.stands; going = fed.going }
 
+none_stable : (o : Option (ℕ × ℕ)) → ((o ≡ None → ⊥) → ⊥) → o ≡ None
+none_stable None h = refl
+none_stable (Some x) h = absurd (h (λ e. cc))
+
 cause_prop : (e : CheckerError) → IsProp (IsCause e)
 cause_prop errors.OutOfMemory = λ x y. refl
 cause_prop errors.CounterEnd = λ x y. refl
@@ -118,6 +122,10 @@ module _ {P : Type 0} (lost : Bool) (own : Option (Checked P)) (old new : Checke
   -- what waited was told
   pub told_fed : TakesDelayed (Ok tt) old new → ∥ FedUnless lost (Some new) steps ∥₁
   told_fed takes = ∥∥₁_elim was ∥∥₁_prop (λ f. ∣ (λ l. (takes steps (f l)).0) ∣₁)
+
+  -- and nothing waits any more
+  pub told_settled : lost ≡ false → TakesDelayed (Ok tt) old new → IsSettled (kernel_of new.checker)
+  told_settled l takes = none_stable new.checker.kernel.state.formula.status.conflict (λ n. ∥∥₁_elim was (λ x y. absurd x) (λ f. n (takes steps (f l)).1))
 
   -- why it failed
   pub taken_cause : (e : CheckerError) (step : Step) → lost ≡ false → MayAll (step ∷ steps) → TakesStep (Err e) old step new → IsCause e

@@ -14,7 +14,9 @@ use Rattle.sat_base.proofs.lemmas.device.Writes.{took_more as took_both, breaks_
 use Rattle.sat_solver.specs.session.Counting.{start, Cuts, none_made, ask_begun, one_made, written_for, counted}
 use Rattle.sat_solver.specs.session.ProofTexts.{ClosedIsText, BrokenIsFront, BrokeText, WroteSince, TookSince, BrokeSince}
 use Rattle.sat_solver.specs.session.OutputView.{step_text, SpellsIn, text_in, AreSpelt, Wrote}
-use Rattle.sat_solver.specs.session.ProofView.{Target, Closed, Open, Broken as Faulty, is_open, Carried, Carries, Stopped, Stops, Flushed, TookAll, TakesAll, Gives, target_of, steps_of, Adds, Fails, FailsCheck, Records, Flushes, FlushesOrFails, Closes, ClosesOne, HandsBack}
+use Rattle.sat_solver.specs.session.ProofView.{Target, Closed, Open, Broken as Faulty, is_open, Carried, Carries, Stopped, Stops, Flushed, TookAll, TakesAll, Gives, target_of, steps_of, Adds, Fails, FailsCheck, Records, Drains, Flushes, FlushesOrFails, Closes, ClosesOne, HandsBack}
+use Rattle.sat_solver.specs.session.MadeView as mades
+use Rattle.sat_solver.specs.declared.session.made.Made.{Made}
 use Rattle.sat_solver.specs.session.Widths.{KeepsWidth}
 use Rattle.sat_solver.specs.declared.session.counting.Counting.{Counting}
 use Rattle.sat_solver.specs.declared.session.format.ProofFormat.{ProofFormat}
@@ -203,12 +205,16 @@ fails_later seen xs ys a b c p q = record {
 pub check_later : {W : Type 0} (seen : W → Writer) (xs ys : List Step) (a b c : Proof W) → Adds seen xs a b → FailsCheck seen ys b c → FailsCheck seen (ys ++ xs) a c
 check_later seen xs ys a b c p q = record { adds = adds_more seen xs ys a b c p q.adds; had = sym p.checked ∙ q.had }
 
--- a flush makes no step
+-- a flush of the target makes no step
+drained : {W : Type 0} (seen : W → Writer) (a b : Proof W) → Drains seen a b → Adds seen [] a b
+drained seen a b h = record { history = h.history; checked = h.checked; target = flushed_carries (target_of seen a) (target_of seen b) h.target }
+
+-- nor does what the checker tells behind it
 pub flush_records : {W : Type 0} (seen : W → Writer) (r : Result (Unit {0}) ProofError) (a b : Proof W) → FlushesOrFails seen r a b → Records seen r [] a b
 flush_records seen (Ok x) a b h = record { history = h.history; checked = h.checked; target = flushed_carries (target_of seen a) (target_of seen b) h.target }
 flush_records seen (Err (Write e)) a b h = h
 flush_records seen (Err OutOfMemory) a b h = absurd h
-flush_records seen (Err (Check fault)) a b h = record { adds = record { history = h.0.history; checked = h.0.checked; target = flushed_carries (target_of seen a) (target_of seen b) h.0.target }; had = h.1 }
+flush_records seen (Err (Check fault)) a b h = record { adds = drained seen a b h.0; had = h.1 }
 
 -- the last step was made, and then a flush failed
 pub close_fails : {W : Type 0} (seen : W → Writer) (e : ProofError) (a b c : Proof W) → Adds seen (End ∷ []) a b → FlushesOrFails seen (Err e) b c → Closes seen (Err e) a c
@@ -217,7 +223,7 @@ close_fails seen (Write e) a b c p q = record {
   target = stops_later (target_of seen a) (target_of seen b) (target_of seen c) (End ∷ []) [] p.target q.target;
 }
 close_fails seen OutOfMemory a b c p q = absurd q
-close_fails seen (Check fault) a b c p q = record { adds = adds_more seen (End ∷ []) [] a b c p (flush_records seen (Ok tt) b c q.0); had = sym p.checked ∙ q.1 }
+close_fails seen (Check fault) a b c p q = record { adds = adds_more seen (End ∷ []) [] a b c p (drained seen b c q.0); had = sym p.checked ∙ q.1 }
 
 gives_none : (a b c : Target) (xs : List Step) → is_open a ≡ true → Carries a xs b → Flushed b c → Gives c None → ⊥
 gives_none Closed b c xs o p f g = absurd (true≢false (sym o))
@@ -234,6 +240,7 @@ close_gives seen (Some w) a b c d open_yet p q h = record {
   history = h.history ∙ q.history ∙ p.history;
   takes = takes_all (target_of seen a) (target_of seen b) (target_of seen c) (Some (seen w)) (seen w) (End ∷ []) open_yet p.target q.target h.gives refl;
   target = h.target;
+  told = subst (λ (m : Made). mades.HasTold m) (sym h.made) q.told;
 }
 
 -- SINCE THE OPENING

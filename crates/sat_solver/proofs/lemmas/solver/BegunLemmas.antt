@@ -2,6 +2,7 @@
 use Rattle.std.proofs.Common.{ℕ, ◌+◌, ◌-◌, ◌*◌, ◌^◌, ◌≤◌, ◌≡◌, ◌∙◌, Err, List, [], subst}
 use Rattle.sat_base.specs.device.Device.{Writer}
 use Rattle.sat_solver.specs.declared.error.SolverError.{SolverError}
+use Rattle.sat_solver.specs.declared.error.SolverError.TheVariants as errors
 use Rattle.sat_solver.specs.declared.search.solving.Core.{Core}
 use Rattle.sat_solver.specs.declared.session.proof.Proof.{Proof}
 use Rattle.sat_solver.specs.declared.solver.Solver.{Solver}
@@ -11,13 +12,13 @@ use Rattle.sat_solver.specs.names.Live.{Live}
 use Rattle.sat_solver.specs.search.Solving.{AdvancesIn}
 use Rattle.sat_solver.specs.session.Coming.{Comes, EndsAtUnsat}
 use Rattle.sat_solver.specs.session.ProofView.{Adds}
-use Rattle.sat_solver.specs.solver.Answering.{Breaks}
+use Rattle.sat_solver.specs.solver.Answering.{Breaks, FlushFails}
 use Rattle.sat_solver.specs.declared.solver.state.State.TheVariants as states
 use Rattle.sat_solver.specs.solver.Calls.{RoundsOn, rounds_left, told_by}
 use Rattle.sat_solver.specs.solver.Settling.{Settled}
 use Rattle.sat_solver.specs.solver.Whole.{IsWhole, steps_in}
 use Rattle.sat_solver.proofs.lemmas.search.GoingLemmas.{went_later}
-use Rattle.sat_solver.proofs.lemmas.session.ProofLemmas.{adds_more}
+use Rattle.sat_solver.proofs.lemmas.session.ProofLemmas.{adds_more, fails_later, check_later}
 use Rattle.sat_solver.proofs.lemmas.solver.SettlingLemmas.{whole_over}
 
 module _ {W : Type 0} (seen : W → Writer) (old : Solver W) (p : Proof W) (adds : Adds seen [] old.core.proof p) where
@@ -42,8 +43,25 @@ module _ {W : Type 0} (seen : W → Writer) (old : Solver W) (p : Proof W) (adds
     same = s.same;
     users = s.users;
     counts = record { on = rounds_begun new.clock.steps s.counts.on; round = s.counts.round; spent = s.counts.spent; answered = subst (λ ss. (j : Judge) (live : Live) → Agree old.names ss j live → 2 ^ (2 * j.next_identity + 3) ≤ rounds_left old → new.state ≡ states.Unknown → ⊥) adds.history s.counts.answered };
-    known = λ k. (let h = s.known k in (h.0 ∙ adds.history, h.1));
+    known = λ k. (let h = s.known k in (adds_more seen [] [] old.core.proof p new.core.proof adds h.0, h.1));
   }
+
+  pub flush_begun : (e : SolverError) (q : Proof W) → FlushFails seen e p q → FlushFails seen e old.core.proof q
+  flush_begun (errors.ProofIoError cause) q h = fails_later seen [] [] old.core.proof p q adds h
+  flush_begun errors.OutOfMemory q h = check_later seen [] [] old.core.proof p q adds h
+  flush_begun errors.CounterEnd q h = check_later seen [] [] old.core.proof p q adds h
+  flush_begun (errors.ProofProcessorError cause) q h = check_later seen [] [] old.core.proof p q adds h
+  flush_begun errors.Interrupted q h = absurd h
+  flush_begun errors.StoreFull q h = absurd h
+  flush_begun errors.WitnessVariable q h = absurd h
+  flush_begun errors.AssumedVariable q h = absurd h
+  flush_begun errors.TooLate q h = absurd h
+  flush_begun errors.NotInDrat q h = absurd h
+  flush_begun errors.VariableLimit q h = absurd h
+  flush_begun errors.HasFailed q h = absurd h
+  flush_begun errors.Read q h = absurd h
+  flush_begun errors.Malformed q h = absurd h
+  flush_begun errors.OutOfRange q h = absurd h
 
   -- or fails
   pub breaks_begun : (e : SolverError) (core : Core W) → Breaks seen e begun.core core → Breaks seen e old.core core

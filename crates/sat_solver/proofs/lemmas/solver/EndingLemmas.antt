@@ -25,6 +25,7 @@ use Rattle.sat_solver.specs.declared.solver.state.State.{State}
 use Rattle.sat_solver.specs.declared.solver.state.State.TheVariants as states
 use Rattle.sat_solver.specs.solver.Whole.{IsWhole, IsWholeOf, StateSays, GoesOn, steps_in}
 use Rattle.sat_solver.specs.solver.Proving.{ClosedOne, ClosesProof}
+use Rattle.sat_solver.proofs.lemmas.session.DratDerivations.{drat_stands}
 use Rattle.sat_solver.proofs.lemmas.solver.TellingLemmas.{search_rests}
 use Rattle.sat_solver.proofs.lemmas.solver.SettlingLemmas.{whole_over}
 
@@ -79,15 +80,20 @@ module _ {W : Type 0} (seen : W → Writer) (s : Solver W) (whole : IsWhole s) (
   pub closed_one : (given : W) → ClosesOne seen given s.core.proof p → ClosedOne seen given s (record s { core = record s.core { proof = p } })
   closed_one given c = record {
     going = going;
-    whole = whole_ended s.core s.names s.asked s.assumed.items s.told.failed_core.items s.clock.restarts.scale s.state p whole c.history keeps;
+    whole = ended;
     does = subst (λ ss. Does s.names s.names (steps_in s) ss (λ j. j) (λ j. Finish ∷ [])) (sym c.history) (record {
       stands = searches_stand s.names (steps_in s) End whole.stands may.1 tt;
       kept = λ j live agree. record { live = live; agree = searches_agree s.names (steps_in s) End whole.stands may.1 tt j live agree; writes = ordered finish written };
     });
     closes = c;
+    derives = (drat_stands (steps_of p) keeps).0;
+    refutes = λ e. (drat_stands (steps_of p) keeps).1 (subst (λ st. StateSays st (record s.core { proof = p }) s.names s.asked s.assumed.items s.told.failed_core.items) e ended.says);
     same = refl;
   }
     where
+      ended : IsWholeOf (record s.core { proof = p }) s.names s.asked s.assumed.items s.told.failed_core.items s.clock.restarts.scale s.state
+      ended = whole_ended s.core s.names s.asked s.assumed.items s.told.failed_core.items s.clock.restarts.scale s.state p whole c.history keeps
+
       may : MayAll (End ∷ steps_in s)
       may = subst MayAll c.history keeps
 

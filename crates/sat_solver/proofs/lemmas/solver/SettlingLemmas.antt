@@ -8,11 +8,13 @@ use Rattle.sat_base.specs.values.Clauses.{Valuation, EachTrue}
 use Rattle.sat_checker.specs.Fold.{Holds}
 use Rattle.sat_parts.specs.prop.Values.{IsTrueLit}
 use Rattle.sat_solver.specs.session.LiveClauses.{with_var}
-use Rattle.sat_solver.specs.session.ProofView.{Target, Closed, Open, Broken, Flushed, Flushes, FlushesOrFails, steps_of, session_of, target_of}
+use Rattle.sat_solver.specs.session.ProofView.{Target, Closed, Open, Broken, Flushed, Flushes, FlushesOrFails, FailsCheck, HasTold, steps_of, session_of, target_of}
+use Rattle.sat_solver.specs.declared.session.made.CheckFault.{CheckFault}
+use Rattle.sat_solver.specs.declared.session.made.CheckFault.TheVariants as checks
 use Rattle.sat_solver.specs.declared.session.proof.Proof.{Proof}
 use Rattle.sat_solver.specs.declared.session.proof.ProofError.{ProofError}
 use Rattle.sat_solver.specs.declared.session.proof.ProofError.TheVariants.{Write, OutOfMemory, Check}
-use Rattle.sat_solver.specs.search.Going.{fault_of}
+use Rattle.sat_solver.specs.search.Going.{check_fault_of, fault_of}
 use Rattle.sat_solver.specs.session.Session.{Session, MayAll, session_after}
 use Rattle.sat_solver.specs.session.Coming.{Comes, EndsAtUnsat}
 use Rattle.sat_solver.proofs.lemmas.session.ComingLemmas.{comes_none, comes_one, comes_both, comes_open}
@@ -49,7 +51,7 @@ use Rattle.sat_solver.specs.declared.solver.state.State.TheVariants as states
 use Rattle.sat_solver.specs.declared.solver.finding.Told.{Told}
 use Rattle.sat_solver.specs.declared.solver.finding.Clock.{Clock}
 use Rattle.sat_solver.specs.solver.Joined.{IsJoined, name_of}
-use Rattle.sat_solver.specs.solver.Answering.{Breaks, Failed, line_of}
+use Rattle.sat_solver.specs.solver.Answering.{Breaks, FlushFails, Failed, line_of}
 use Rattle.sat_solver.specs.solver.Found.{FoundModel, FoundCore, FoundNone, FoundSays}
 use Rattle.sat_solver.specs.solver.Calls.{Answered, Counts, CountsRounds, RoundsOn, IsFlushed, Solves, told_as, told_by}
 use Rattle.sat_solver.specs.solver.Settling.{Settled}
@@ -94,7 +96,7 @@ module _ {W : Type 0} (seen : W → Writer) (s : Solver W) (whole : IsWhole s) w
       answered = λ j live a fits u. n u;
     };
     times = λ u. absurd (n u);
-    known = λ k. (refl, refl);
+    known = λ k. (adds_none seen s.core.proof, refl);
   }
     where
       none : (st : State) → (st ≡ states.Unknown → ⊥) → Does s.names s.names (steps_in s) (steps_in s) (λ j. j) (λ j. told_as st st (line_in s) s.assumed.items s.told.failed_core.items)
@@ -346,17 +348,22 @@ module _ {W : Type 0} (seen : W → Writer) (old mid : Solver W) (settled : Sett
     config = settled.config;
     counts = record { on = settled.counts.on; round = settled.counts.round; spent = settled.counts.spent; answered = settled.counts.answered };
     times = λ u. let h = settled.times u in record { steps = h.steps; behind = f.history ∙ h.behind; times = h.times };
-    known = λ k. let h = settled.known k in (f.history ∙ h.0, ap (λ (m : Solver W). record m { core = record m.core { proof = p } }) h.1);
+    known = λ k. let h = settled.known k in (adds_more seen [] [] old.core.proof mid.core.proof p h.0 (flush_records seen (Ok tt) mid.core.proof p f), ap (λ (m : Solver W). record m { core = record m.core { proof = p } }) h.1);
   }
 
   -- and where the target failed at it
-  pub settled_broken : (e : ProofError) → FlushesOrFails seen (Err e) mid.core.proof p → Breaks seen (fault_of e) old.core (record mid.core { proof = p }) × CountsRounds old mid
-  settled_broken (Write cause) f = (record { fault = tt; steps = _; went = fails_later seen settled.took.0 [] old.core.proof mid.core.proof p settled.took.1 f }, settled.counts.on)
+  pub settled_broken : (e : ProofError) → FlushesOrFails seen (Err e) mid.core.proof p → Breaks seen (fault_of e) old.core (record mid.core { proof = p }) × CountsRounds old mid × ((old.state ≡ states.Unknown → ⊥) → FlushFails seen (fault_of e) old.core.proof p)
+  settled_broken (Write cause) f = (record { fault = tt; steps = _; went = fails_later seen settled.took.0 [] old.core.proof mid.core.proof p settled.took.1 f }, settled.counts.on, λ k. fails_later seen [] [] old.core.proof mid.core.proof p (settled.known k).0 f)
   settled_broken OutOfMemory f = absurd f
   settled_broken (Check fault) f =
       let k = flush_records seen (Err (Check fault)) mid.core.proof p f in
       let steps = settled.took.0 in
-      (record { fault = fault_checked seen fault; steps = [] ++ steps; went = went_checked seen (Unit {0}) fault ([] ++ steps) old.core.proof p (check_later seen steps [] old.core.proof mid.core.proof p settled.took.1 k) }, settled.counts.on)
+      (record { fault = fault_checked seen fault; steps = [] ++ steps; went = went_checked seen (Unit {0}) fault ([] ++ steps) old.core.proof p (check_later seen steps [] old.core.proof mid.core.proof p settled.took.1 k) }, settled.counts.on, λ n. flush_checked fault (check_later seen [] [] old.core.proof mid.core.proof p (settled.known n).0 k))
+    where
+      flush_checked : (f : CheckFault) → FailsCheck seen [] old.core.proof p → FlushFails seen (check_fault_of f) old.core.proof p
+      flush_checked checks.OutOfMemory h = h
+      flush_checked checks.CounterEnd h = h
+      flush_checked (checks.Processor cause) h = h
 
 module _ {W : Type 0} (seen : W → Writer) (s : Solver W) (whole : IsWhole s) (unknown : s.state ≡ states.Unknown) (core : Core W) (m : Variables) (told : Told) (clock : Clock) (scale : clock.restarts.scale ≡ s.clock.restarts.scale) (on : CountsOn (values_in s.core) s.core.config.max_steps s.clock.steps clock.steps) where
   goes_on : GoesOn s.core s.names s.asked
@@ -403,7 +410,7 @@ flushed_by seen p q f = go (target_of seen p) (target_of seen q) f.target
 
 -- CALLS
 
-module _ {W : Type 0} (seen : W → Writer) (s new : Solver W) (settled : Settled seen (record s { used = true }) new) (going : s.failed ≡ false) (flushed : IsFlushed (target_of seen new.core.proof)) where
+module _ {W : Type 0} (seen : W → Writer) (s new : Solver W) (settled : Settled seen (record s { used = true }) new) (going : s.failed ≡ false) (flushed : IsFlushed (target_of seen new.core.proof)) (told : HasTold new.core.proof) where
   -- an ask was looked at
   pub answered : Answered seen s new
   answered = record {
@@ -414,23 +421,24 @@ module _ {W : Type 0} (seen : W → Writer) (s new : Solver W) (settled : Settle
     counts = record { on = settled.counts.on; round = settled.counts.round; spent = settled.counts.spent; answered = settled.counts.answered };
     times = settled.times;
     flushed = flushed;
-    known = λ k. let h = settled.known k in record { steps = h.0; same = h.1 };
+    told = told;
+    known = λ k. let h = settled.known k in record { steps = h.0.history; same = h.1 };
   }
 
 -- a call failed
-pub ends_by : {W : Type 0} (seen : W → Writer) (e : SolverError) (s new : Solver W) → Breaks seen e s.core new.core → CountsRounds s new → s.failed ≡ false → new.failed ≡ true → Solves seen (Err e) s new
-ends_by seen errors.OutOfMemory s new b k g f = record { going = g; failed = f; breaks = b; counts = k }
-ends_by seen errors.StoreFull s new b k g f = record { going = g; failed = f; breaks = b; counts = k }
-ends_by seen (errors.ProofIoError cause) s new b k g f = record { going = g; failed = f; breaks = b; counts = k }
-ends_by seen errors.Interrupted s new b k g f = absurd b.fault
-ends_by seen (errors.ProofProcessorError cause) s new b k g f = record { going = g; failed = f; breaks = b; counts = k }
-ends_by seen errors.WitnessVariable s new b k g f = absurd b.fault
-ends_by seen errors.AssumedVariable s new b k g f = absurd b.fault
-ends_by seen errors.TooLate s new b k g f = absurd b.fault
-ends_by seen errors.NotInDrat s new b k g f = absurd b.fault
-ends_by seen errors.VariableLimit s new b k g f = absurd b.fault
-ends_by seen errors.CounterEnd s new b k g f = record { going = g; failed = f; breaks = b; counts = k }
-ends_by seen errors.HasFailed s new b k g f = absurd b.fault
-ends_by seen errors.Read s new b k g f = absurd b.fault
-ends_by seen errors.Malformed s new b k g f = absurd b.fault
-ends_by seen errors.OutOfRange s new b k g f = absurd b.fault
+pub ends_by : {W : Type 0} (seen : W → Writer) (e : SolverError) (s new : Solver W) → Breaks seen e s.core new.core → CountsRounds s new → ((s.state ≡ states.Unknown → ⊥) → FlushFails seen e s.core.proof new.core.proof) → s.failed ≡ false → new.failed ≡ true → Solves seen (Err e) s new
+ends_by seen errors.OutOfMemory s new b k n g f = record { going = g; failed = f; breaks = b; counts = k; known = n }
+ends_by seen errors.StoreFull s new b k n g f = record { going = g; failed = f; breaks = b; counts = k; known = n }
+ends_by seen (errors.ProofIoError cause) s new b k n g f = record { going = g; failed = f; breaks = b; counts = k; known = n }
+ends_by seen errors.Interrupted s new b k n g f = absurd b.fault
+ends_by seen (errors.ProofProcessorError cause) s new b k n g f = record { going = g; failed = f; breaks = b; counts = k; known = n }
+ends_by seen errors.WitnessVariable s new b k n g f = absurd b.fault
+ends_by seen errors.AssumedVariable s new b k n g f = absurd b.fault
+ends_by seen errors.TooLate s new b k n g f = absurd b.fault
+ends_by seen errors.NotInDrat s new b k n g f = absurd b.fault
+ends_by seen errors.VariableLimit s new b k n g f = absurd b.fault
+ends_by seen errors.CounterEnd s new b k n g f = record { going = g; failed = f; breaks = b; counts = k; known = n }
+ends_by seen errors.HasFailed s new b k n g f = absurd b.fault
+ends_by seen errors.Read s new b k n g f = absurd b.fault
+ends_by seen errors.Malformed s new b k n g f = absurd b.fault
+ends_by seen errors.OutOfRange s new b k n g f = absurd b.fault

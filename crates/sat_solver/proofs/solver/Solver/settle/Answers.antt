@@ -47,4 +47,5 @@ returns-in_err-found g c =
     rw (p.1, p.2) (
       c.in_err-found.ensures.breaks,
       rounds_on g.W.CountedWrite.seen c.args.self.now c.requires.whole c.in-Unknown.is c.find_answer.new.core c.find_answer.new.names c.find_answer.new.told c.find_answer.new.clock c.in_err-found.ensures.scale c.in_err-found.ensures.counts,
+      λ n. absurd (n c.in-Unknown.is),
     )

@@ -1,5 +1,5 @@
 use Rattle.std.proofs.lemmas.Result.{err_from_is_err_and}
-use Rattle.sat_solver.proofs.lemmas.solver.BegunLemmas.{whole_begun, settled_begun, rounds_begun, breaks_begun}
+use Rattle.sat_solver.proofs.lemmas.solver.BegunLemmas.{whole_begun, settled_begun, rounds_begun, breaks_begun, flush_begun}
 use Rattle.sat_solver.proofs.lemmas.solver.SettlingLemmas.{settled_flushed, settled_broken, flushed_by}
 use Rattle.sat_solver.proofs.solver.Solver.settle_and_flush.Goals as goal
 
@@ -9,7 +9,7 @@ settle-requires g c = record { whole = whole_begun g.W.CountedWrite.seen c.args.
 pub returns-in_err-settle-clause-settles : goal.returns-in_err-settle-clause-settles
 returns-in_err-settle-clause-settles g c =
     let p = err_from_is_err_and c.from_residual.result c.from_residual.ensures.1 in
-    rw (p.1, p.2) (breaks_begun g.W.CountedWrite.seen c.args.self.now c.begin_ask.new.self c.begin_ask.ensures.adds c.in_err-settle.field-0.0 c.settle.new.self.core c.in_err-settle.ensures.0, rounds_begun g.W.CountedWrite.seen c.args.self.now c.begin_ask.new.self c.begin_ask.ensures.adds c.settle.new.self.clock.steps c.in_err-settle.ensures.1)
+    rw (p.1, p.2) (breaks_begun g.W.CountedWrite.seen c.args.self.now c.begin_ask.new.self c.begin_ask.ensures.adds c.in_err-settle.field-0.0 c.settle.new.self.core c.in_err-settle.ensures.0, rounds_begun g.W.CountedWrite.seen c.args.self.now c.begin_ask.new.self c.begin_ask.ensures.adds c.settle.new.self.clock.steps c.in_err-settle.ensures.1, λ n. flush_begun g.W.CountedWrite.seen c.args.self.now c.begin_ask.new.self c.begin_ask.ensures.adds c.in_err-settle.field-0.0 c.settle.new.self.core.proof (c.in_err-settle.ensures.2 n))
 
 pub returns-in-Ok-clause-settles : goal.returns-in-Ok-clause-settles
 returns-in-Ok-clause-settles g c =
