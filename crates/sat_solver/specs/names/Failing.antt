@@ -34,11 +34,11 @@ pub record IsFull {W : Type 0} (old new : Variables) (from to : W) : Type 0 wher
   pub steps : to ≡ from
   pub none : NoneLeft old
 
--- want of memory or a fault of what takes the steps, or no variable is left, only where it is so
+-- no variable is left, exactly where it is so; else want of memory or a fault of what takes the steps
 abbrev pub Limits : {W : Type 0} → NameError → Variables → Variables → W → W → Type 0
 Limits errors.WitnessVariable old new from to = ⊥
 Limits errors.AssumedVariable old new from to = ⊥
 Limits errors.VariableLimit old new from to = IsFull old new from to
-Limits errors.OutOfMemory old new from to = Unit {0}
-Limits (errors.Write cause) old new from to = Unit {0}
-Limits (errors.Check fault) old new from to = Unit {0}
+Limits errors.OutOfMemory old new from to = NoneLeft old → ⊥
+Limits (errors.Write cause) old new from to = NoneLeft old → ⊥
+Limits (errors.Check fault) old new from to = NoneLeft old → ⊥

@@ -1,5 +1,5 @@
 -- Whether a variable is left for each name that comes in.
-use Rattle.std.specs.Prelude.{ℕ, ◌+◌, ◌-◌, ◌<◌, ◌≤◌, ◌==◌, ◌≡◌, max, not, ◌&&◌, Bool, true, false, is_some, List, [], ◌∷◌, map, length, get_or}
+use Rattle.std.specs.Prelude.{ℕ, ◌+◌, ◌-◌, ◌<◌, ◌≤◌, ◌==◌, ◌≡◌, max, not, ◌&&◌, Bool, true, false, is_some, List, [], ◌∷◌, map}
 use Rattle.std.specs.List.{list_any}
 use Rattle.sat_base.specs.values.Literals.{largest, variable}
 use Rattle.sat_solver.specs.names.Counting.{count_to}
@@ -27,9 +27,13 @@ reach used (u ∷ us) = reach (max used (u + 1)) us
 abbrev pub is_hidden_name : Variables → List ℕ → ℕ → Bool
 is_hidden_name n users u = not (is_some (global_of n u)) && is_listed users u
 
+-- how many of these were hidden
+abbrev pub hidden_count : Variables → List ℕ → ℕ
+hidden_count n users = count_to (names_used n) (is_hidden_name n users)
+
 -- how many names come in with these: all that were never used up to the highest of them, and those of them that were hidden
 abbrev pub coming : Variables → List ℕ → ℕ
-coming n users = reach (names_used n) users - names_used n + count_to (names_used n) (is_hidden_name n users)
+coming n users = reach (names_used n) users - names_used n + hidden_count n users
 
 -- each name that comes in gets a variable of its own
 abbrev pub HasRoom : Variables → List ℕ → Type 0
@@ -38,12 +42,6 @@ HasRoom n users = live_count n + coming n users ≤ largest
 abbrev pub SaysRoom : Bool → Variables → List ℕ → Type 0
 SaysRoom true n users = HasRoom n users
 SaysRoom false n users = HasRoom n users → ⊥
-
--- the hidden ones among these are marked, and so many
-pub record CountsHidden (n : Variables) (users : List ℕ) (marks : List Bool) (count : ℕ) : Type 0 where
-  pub size : length marks ≡ names_used n
-  pub marked : (u : ℕ) → u < names_used n → get_or marks u false ≡ is_hidden_name n users u
-  pub is : count ≡ count_to (names_used n) (is_hidden_name n users)
 
 -- a name came in, and there is room for others that came with it
 abbrev pub LeavesRoom : Variables → Variables → ℕ → Type 0

@@ -87,7 +87,7 @@ AddsClause seen (Err errors.WitnessVariable) old new user = Refuses old new ((ol
 AddsClause seen (Err errors.NotInDrat) old new user = Refuses old new ((old.failed ≡ false) × IsPastDrat seen old)
 AddsClause seen (Err errors.VariableLimit) old new user = Refuses old new (LacksRoom old user)
 AddsClause seen (Err errors.HasFailed) old new user = Refuses old new (old.failed ≡ true)
-AddsClause seen (Err e) old new user = AreSampled old user × EndsNames seen e old new
+AddsClause seen (Err e) old new user = AreSampled old user × HasRoom old.names (users_in user) × EndsNames seen e old new
 
 -- other assumptions were taken
 pub record Assumed {W : Type 0} (seen : W → Writer) (old new : Solver W) (user : List ℕ) : Type 0 where
@@ -105,7 +105,7 @@ Assumes seen (Err errors.WitnessVariable) old new user = Refuses old new ((old.f
 Assumes seen (Err errors.NotInDrat) old new user = Refuses old new ((old.failed ≡ false) × IsDrat seen old)
 Assumes seen (Err errors.VariableLimit) old new user = Refuses old new (LacksRoom old user)
 Assumes seen (Err errors.HasFailed) old new user = Refuses old new (old.failed ≡ true)
-Assumes seen (Err e) old new user = AreSampled old user × EndsNames seen e old new
+Assumes seen (Err e) old new user = AreSampled old user × HasRoom old.names (users_in user) × EndsNames seen e old new
 
 -- INSIDE
 

@@ -1,5 +1,5 @@
 -- Names of a solver that come in, are hidden, or change their mode.
-use Rattle.std.specs.Prelude.{ℕ, ◌+◌, ◌≡◌, Bool, true, false, Option, None, Some, List, [], ◌∷◌, map, Result, Ok, Err}
+use Rattle.std.specs.Prelude.{ℕ, ◌+◌, ◌≡◌, ◌==◌, ◌||◌, not, length, Bool, true, false, Option, None, Some, List, [], ◌∷◌, map, Result, Ok, Err}
 use Rattle.sat_base.specs.device.Device.{Writer}
 use Rattle.sat_base.specs.values.Literals.{variable}
 use Rattle.sat_base.specs.script.Script.{Among, Hide, Witness, Sample}
@@ -59,7 +59,7 @@ ChangesMode seen (Ok x) old new user judge due May = (IsAsked old user → ⊥) 
 ChangesMode seen (Err errors.AssumedVariable) old new user judge due May = Refuses old new ((old.failed ≡ false) × IsAsked old user)
 ChangesMode seen (Err errors.VariableLimit) old new user judge due May = Refuses old new ((old.failed ≡ false) × (IsAsked old user → ⊥) × (HasRoom old.names (user ∷ []) → ⊥))
 ChangesMode seen (Err errors.HasFailed) old new user judge due May = Refuses old new (old.failed ≡ true)
-ChangesMode seen (Err e) old new user judge due May = EndsNames seen e old new
+ChangesMode seen (Err e) old new user judge due May = (IsAsked old user → ⊥) × HasRoom old.names (user ∷ []) × EndsNames seen e old new
 
 abbrev pub Hides : {W : Type 0} → (W → Writer) → Result (Unit {0}) SolverError → Solver W → Solver W → ℕ → Type 0
 Hides seen r old new user = ChangesMode seen r old new user (accepted (Hide ((user + 1) ∷ []))) (hiding ((user + 1) ∷ [])) MayHide
@@ -74,23 +74,30 @@ Samples seen r old new user = ChangesMode seen r old new user (accepted (Sample 
 abbrev pub IsNextName : {W : Type 0} → Solver W → ℕ → Type 0
 IsNextName s name = (j : Judge) (live : Live) → Agree s.names (steps_in s) j live → IsLowestUnused j name
 
--- why a call that gives names failed: `VariableLimit` comes only where every variable of the proof is in use
+-- why a call for a new name failed: `VariableLimit` comes exactly where every variable of the proof is in use
+abbrev pub NewFails : {W : Type 0} → (W → Writer) → SolverError → Solver W → Solver W → Type 0
+NewFails seen errors.HasFailed old new = Refuses old new (old.failed ≡ true)
+NewFails seen errors.VariableLimit old new = Refuses old new ((old.failed ≡ false) × NoneLeft old.names)
+NewFails seen e old new = (NoneLeft old.names → ⊥) × EndsNames seen e old new
+
+-- why names for hidden variables weren't given: none of them lacks a variable
 abbrev pub NamesFail : {W : Type 0} → (W → Writer) → SolverError → Solver W → Solver W → Type 0
 NamesFail seen errors.HasFailed old new = Refuses old new (old.failed ≡ true)
-NamesFail seen errors.VariableLimit old new = Refuses old new ((old.failed ≡ false) × NoneLeft old.names)
+NamesFail seen errors.VariableLimit old new = ⊥
 NamesFail seen e old new = EndsNames seen e old new
 
 -- what came of a call for a new name
 abbrev pub NamesNew : {W : Type 0} → (W → Writer) → Result ℕ SolverError → Solver W → Solver W → Type 0
 NamesNew seen (Ok user) old new = IsNextName old (user + 1) × Renamed seen old new (bring_in (user + 1)) (λ j. map NewName (new_names (user + 1) j)) IsDue
-NamesNew seen (Err e) old new = NamesFail seen e old new
+NamesNew seen (Err e) old new = NewFails seen e old new
 
--- each hidden variable that is kept got the next name and mode witness, by increasing variable, and what is known of an answer stands
+-- Each hidden variable that is kept got the next name and mode witness, by increasing variable, and what is known of an answer stands.
+-- Where there is none, a proof may still be opened.
 pub record Observed {W : Type 0} (seen : W → Writer) (old new : Solver W) (users : List ℕ) : Type 0 where
   pub whole : IsWhole new
   pub going : old.failed ≡ false
   pub failed : new.failed ≡ false
-  pub used : new.used ≡ true
+  pub used : new.used ≡ (old.used || not (length users == 0))
   pub config : new.core.config ≡ old.core.config
   pub observes : (j : Judge) (live : Live) → Agree old.names (steps_in old) j live → (k : Judge) × Observes 0 (steps_in old) j live (steps_in new) k users × Agree new.names (steps_in new) k live
   pub all : (v : ℕ) → IsHidden new.names v → ⊥

@@ -1,14 +1,12 @@
 //! Whether a variable is left for each name that comes in.
-ghost use Rattle.std.specs.Prelude.{◌≡◌, ◌+◌, ◌≤◌, List, ℕ, [], ◌∷◌, IfOk, length};
+ghost use Rattle.std.specs.Prelude.{◌≡◌, ◌+◌, ◌<◌, ◌≤◌, [], ◌∷◌, drop, length};
 ghost use Rattle.sat_base.specs.values.Literals.{largest};
-ghost use Rattle.sat_solver.specs.names.Counting.{count_to};
-ghost use Rattle.sat_solver.specs.names.Room.{live_count, reach, users_in, is_hidden_name, SaysRoom, CountsHidden};
-ghost use Rattle.sat_solver.specs.names.Variables.{AreTidy, names_used};
+ghost use Rattle.sat_checker.specs.LiteralSets.{mentions};
+ghost use Rattle.sat_solver.specs.names.Room.{live_count, reach, users_in, hidden_count, SaysRoom};
+ghost use Rattle.sat_solver.specs.names.Variables.{AreTidy};
 
 use crate::names::Variables;
-use crate::names::free::widen;
 use sat_base::{Lit, Var};
-use std::alloc::{AllocError, Global};
 
 /// How many variables aren't in use.
 fn left_count(variables: &Variables) -> usize
@@ -32,53 +30,67 @@ fn name_reach(used: usize, lits: &[Lit]) -> usize
     top
 }
 
-/// Counts a name that was used and isn't in use, unless it is marked already, and marks it.
-fn count_hidden_name(variables: &Variables, user: Var, marks: &mut Vec<bool>, count: usize) -> usize
-    requires { count ≤ largest }
-    ensures { (us : List ℕ) → CountsHidden variables.now us marks.old.items count → CountsHidden variables.now (user ∷ us) marks.new.items result }
+/// Whether a literal is over this name.
+#[tactic(auto, using(sat_checker::proofs::lemmas::state::Scanning::any_literal))]
+fn has_name(lits: &[Lit], user: Var) -> bool
+    ensures { result ≡ mentions lits.now user }
 {
-    let index = user.index();
-    if index >= marks.len() || marks[index] {
+    for lit in lits {
+        if lit.var() == user {
+            return true;
+        }
+    }
+    false
+}
+
+/// Counts the name of the literal at this place, if it was used and isn't in use, but where a literal behind it is over the name, too.
+fn count_hidden_name(variables: &Variables, lits: &[Lit], at: usize, count: usize) -> usize
+    requires within { at < length lits.now }
+    requires count { count ≤ largest }
+    ensures { count ≡ hidden_count variables.now (users_in (drop (at + 1) lits.now)) → result ≡ hidden_count variables.now (users_in (drop at lits.now)) }
+{
+    let user = lits[at].var();
+    if user.index() >= variables.name_count() {
         return count;
     }
     if variables.global_from_user.fwd().get(user).is_some() {
         return count;
     }
-    marks[index] = true;
+    if has_name(&lits[at + 1..], user) {
+        return count;
+    }
     count + 1
 }
 
 /// How many names of the literals were used and aren't in use, each counted once.
-fn count_hidden(variables: &Variables, lits: &[Lit], alloc: Global) -> Result<usize, AllocError>
+fn count_hidden(variables: &Variables, lits: &[Lit]) -> usize
     requires { AreTidy variables.now }
-    ensures { IfOk result (λ n. n ≡ count_to (names_used variables.now) (is_hidden_name variables.now (users_in lits.now))) }
+    ensures { result ≡ hidden_count variables.now (users_in lits.now) }
 {
-    let mut marks = Vec::new(alloc);
-    widen(&mut marks, variables.name_count())?;
     let mut count = 0;
     for at in (0..lits.len()).rev() {
-        count = count_hidden_name(variables, lits[at].var(), &mut marks, count);
+        count = count_hidden_name(variables, lits, at, count);
     }
-    Ok(count)
+    count
 }
 
-/// Whether a variable is left for each name that comes in with these literals. Takes memory only where that depends on how often a
-/// name is among them.
-pub fn has_room(variables: &Variables, lits: &[Lit], alloc: Global) -> Result<bool, AllocError>
+/// Whether a variable is left for each name that comes in with these literals. Where that depends on how often a name is among them, each
+/// hidden one is looked for among the literals behind it.
+pub fn has_room(variables: &Variables, lits: &[Lit]) -> bool
     requires { AreTidy variables.now }
-    ensures { IfOk result (λ room. SaysRoom room variables.now (users_in lits.now)) }
+    ensures { SaysRoom result variables.now (users_in lits.now) }
 {
     let left = left_count(variables);
     let used = variables.name_count();
     let never = name_reach(used, lits) - used;
     if never > left {
-        return Ok(false);
+        return false;
     }
     if lits.len() <= left - never {
-        return Ok(true);
+        return true;
     }
-    let hidden = count_hidden(variables, lits, alloc)?;
-    Ok(hidden <= left - never)
+    let hidden = count_hidden(variables, lits);
+    hidden <= left - never
 }
 
 /// Whether a variable is left for each name that comes in with this one.

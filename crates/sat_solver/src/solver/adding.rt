@@ -55,7 +55,7 @@ impl<W: CountedWrite + Drop> Solver<W> {
 
     /// Adds a clause, whose names come in from left to right. It may stand behind asks, and ends what is known of an answer. Once the
     /// clauses alone are known to be unsatisfiable, only its names come in. `NotInDrat` behind the first `solve` while lines of DRAT are
-    /// written. `WitnessVariable` names the cause: the leftmost literal over a name of mode witness. `VariableLimit` where a variable
+    /// written. `WitnessVariable` where a literal is over a name of mode witness. `VariableLimit` where a variable
     /// is lacking for a name that would come in.
     pub fn add_clause(&mut self, lits: &[Lit]) -> Result<(), SolverError>
         requires { IsSolver self.old }
@@ -72,13 +72,8 @@ impl<W: CountedWrite + Drop> Solver<W> {
         if leftmost_witness(&self.names, lits).is_some() {
             return Err(SolverError::WitnessVariable);
         }
-        match has_room(&self.names, lits, self.core.search.alloc) {
-            Ok(true) => {}
-            Ok(false) => return Err(SolverError::VariableLimit),
-            Err(_) => {
-                self.failed = true;
-                return Err(SolverError::OutOfMemory);
-            }
+        if !has_room(&self.names, lits) {
+            return Err(SolverError::VariableLimit);
         }
         self.used = true;
         match self.take(lits) {

@@ -43,8 +43,8 @@ impl<W: CountedWrite + Drop> Solver<W> {
         }
     }
 
-    /// Assumptions that can't be true together, none twice but as they were assumed. There are some only behind a `solve` that
-    /// answered false, with no clause and no assumptions since; none of them once the clauses alone are known to be unsatisfiable.
+    /// Assumptions that can't be true together. There are some only behind a `solve` that answered false, with no clause and no
+    /// assumptions since; an empty list once the clauses alone are known to be unsatisfiable. None after a call failed.
     pub fn failed_core(&self) -> Option<&[Lit]>
         requires { IsSolver self.now }
         ensures { MatchOption result (HasNoCore self.now) (λ core. IsCore self.now core.now) }

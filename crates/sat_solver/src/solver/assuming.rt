@@ -56,7 +56,7 @@ impl<W: CountedWrite + Drop> Solver<W> {
     }
 
     /// Replaces the assumptions, whose names come in from left to right. `NotInDrat` while lines of DRAT are written. `WitnessVariable`
-    /// names the cause: the leftmost literal over a name of mode witness. `VariableLimit` where a variable is lacking for a name that
+    /// where a literal is over a name of mode witness. `VariableLimit` where a variable is lacking for a name that
     /// would come in.
     pub fn assume(&mut self, lits: &[Lit]) -> Result<(), SolverError>
         requires { IsSolver self.old }
@@ -73,13 +73,8 @@ impl<W: CountedWrite + Drop> Solver<W> {
         if leftmost_witness(&self.names, lits).is_some() {
             return Err(SolverError::WitnessVariable);
         }
-        match has_room(&self.names, lits, self.core.search.alloc) {
-            Ok(true) => {}
-            Ok(false) => return Err(SolverError::VariableLimit),
-            Err(_) => {
-                self.failed = true;
-                return Err(SolverError::OutOfMemory);
-            }
+        if !has_room(&self.names, lits) {
+            return Err(SolverError::VariableLimit);
         }
         self.used = true;
         let asked = self.ask(lits);

@@ -1,5 +1,5 @@
 //! Names that come in, that are hidden, and modes that a user sets.
-ghost use Rattle.std.specs.Prelude.{◌≡◌, true, false, IfOk, IfErr};
+ghost use Rattle.std.specs.Prelude.{◌≡◌, ◌==◌, ◌||◌, not, length, true, false, IfOk, IfErr};
 ghost use Rattle.sat_solver.specs.solver.Naming.{Hides, Witnesses, Samples, SetsMode, NamesNew, NamesFail, Observed};
 ghost use Rattle.sat_solver.specs.solver.Whole.{IsSolver};
 
@@ -29,9 +29,16 @@ fn is_limit(error: &NameError) -> bool
     }
 }
 
+/// Whether a solver was used that gave these names.
+fn is_used(used: bool, users: &[Var]) -> bool
+    ensures { result ≡ (used || not (length users.now == 0)) }
+{
+    used || !users.is_empty()
+}
+
 impl<W: CountedWrite + Drop> Solver<W> {
     /// Brings a name in, and hides it: its variable stays in the clauses, and the name may become that of a new variable. What is known
-    /// of an answer stays. `AssumedVariable` names the cause. `VariableLimit` where a variable is lacking for a name that would come in.
+    /// of an answer stays. `AssumedVariable` where the name is assumed. `VariableLimit` where a variable is lacking for a name that would come in.
     pub fn hide_var(&mut self, user: Var) -> Result<(), SolverError>
         requires { IsSolver self.old }
         ensures solver { IsSolver self.new }
@@ -82,7 +89,7 @@ impl<W: CountedWrite + Drop> Solver<W> {
     }
 
     /// Brings a name in, and sets its mode to witness: no clause and no assumption may have it. What is known of an answer stays.
-    /// `AssumedVariable` names the cause, also where the mode would stay. `VariableLimit` as by `hide_var`.
+    /// `AssumedVariable` where the name is assumed, also where the mode would stay. `VariableLimit` as by `hide_var`.
     pub fn witness_var(&mut self, user: Var) -> Result<(), SolverError>
         requires { IsSolver self.old }
         ensures solver { IsSolver self.new }
@@ -91,8 +98,8 @@ impl<W: CountedWrite + Drop> Solver<W> {
         self.set_mode(user, false)
     }
 
-    /// Brings a name in, and sets its mode to sample, as new names have it. What is known of an answer stays. `AssumedVariable` names the
-    /// cause, also where the mode would stay. `VariableLimit` as by `hide_var`.
+    /// Brings a name in, and sets its mode to sample, as new names have it. What is known of an answer stays. `AssumedVariable` where
+    /// the name is assumed, also where the mode would stay. `VariableLimit` as by `hide_var`.
     pub fn sample_var(&mut self, user: Var) -> Result<(), SolverError>
         requires { IsSolver self.old }
         ensures solver { IsSolver self.new }
@@ -128,21 +135,22 @@ impl<W: CountedWrite + Drop> Solver<W> {
     }
 
     /// Gives each hidden variable that is still kept the name that `new_var` would take, and mode witness, by increasing variable of the
-    /// proof; the names in this order. What is known of an answer stays.
+    /// proof; the names in this order. What is known of an answer stays. Where there is none, a proof may still be opened.
     pub fn observe_internal_vars(&mut self) -> Result<Vec<Var>, SolverError>
         requires { IsSolver self.old }
         ensures solver { IsSolver self.new }
         ensures observes { IfOk result (λ users. Observed W.seen self.old self.new users.items) }
         ensures fails { IfErr result (λ e. NamesFail W.seen e self.old self.new) }
-        ensures left { IfErr result (λ e. e ≡ SolverError.VariableLimit → ⊥) }
     {
         if self.failed {
             return Err(SolverError::HasFailed);
         }
-        self.used = true;
         let mut users = Vec::new(self.core.search.alloc);
         match observe_internal_vars(&mut self.names, &mut self.core.proof, &mut users) {
-            Ok(()) => Ok(users),
+            Ok(()) => {
+                self.used = is_used(self.used, &users);
+                Ok(users)
+            }
             Err(error) => {
                 self.failed = true;
                 Err(name_fault(error))

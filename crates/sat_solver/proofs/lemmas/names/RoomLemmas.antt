@@ -1,10 +1,11 @@
 -- Names that come in take a variable each.
-use Rattle.std.proofs.Common.{ℕ, zero, suc, ◌+◌, ◌-◌, ◌<◌, ◌≤◌, ◌≡◌, ◌≢◌, max, Bool, true, false, not, ◌&&◌, ◌||◌, cond, eqb, ltb, lt-ltb, set, List, [], ◌∷◌, drop, map, length, get_or, Option, None, Some, is_some, Result, Ok, Err, IfErr, refl, sym, ◌∙◌, ap, subst, arith, inl, inr}
+use Rattle.std.proofs.Common.{ℕ, zero, suc, ◌+◌, ◌-◌, ◌<◌, ◌≤◌, ◌≡◌, ◌≢◌, max, Bool, true, false, not, ◌&&◌, ◌||◌, cond, eqb, ltb, lt-ltb, set, List, [], ◌∷◌, drop, take, map, length, length-drop, get_or, Option, None, Some, is_some, Result, Ok, Err, IfErr, refl, sym, ◌∙◌, ap, subst, arith, inl, inr}
 use Rattle.std.specs.Prelude.{IsErrAnd}
 use Rattle.std.proofs.lemmas.Bool.{eq-eqb, ne_eqb, le-ltb, cases_eq, cases_lt, ltb-true, true≢false}
-use Rattle.std.proofs.lemmas.List.{get_or_past, drop_more, length-map, length-set, get_or-set_same, get_or-set_other}
+use Rattle.std.proofs.lemmas.List.{get_or_past, drop_more, take_all, length-map}
 use Rattle.std.proofs.lemmas.Result.{err_from_is_err_and}
 use Rattle.sat_base.specs.values.Literals.{largest, variable}
+use Rattle.sat_checker.specs.LiteralSets.{mentions}
 use Rattle.sat_store.specs.variables.VarData.{user_variable, unused_variable}
 use Rattle.sat_store.specs.variables.Maps.{target}
 use Rattle.sat_solver.specs.declared.names.error.NameError.{NameError}
@@ -14,7 +15,7 @@ use Rattle.sat_solver.specs.names.Counting.{count_to}
 use Rattle.sat_solver.specs.names.Failing.{IsFailure, Limits}
 use Rattle.sat_solver.specs.names.Free.{is_free}
 use Rattle.sat_solver.specs.names.Naming.{IsRoom, NoneLeft, PutsName}
-use Rattle.sat_solver.specs.names.Room.{live_count, is_listed, reach, coming, is_hidden_name, HasRoom, SaysRoom, CountsHidden, users_in}
+use Rattle.sat_solver.specs.names.Room.{live_count, is_listed, reach, coming, is_hidden_name, hidden_count, HasRoom, SaysRoom, users_in}
 use Rattle.sat_solver.specs.names.Variables.{AreTidy, data_at, global_of, names_used, variables_used}
 use Rattle.sat_solver.proofs.lemmas.names.Counts.{count_zero, count_changed, count_suc, count_same, count_reach, count_more, count_le, count_full, count_some, count_not}
 
@@ -156,13 +157,13 @@ limit_fails errors.OutOfMemory old new from to tidy lt h = tt
 limit_fails (errors.Write cause) old new from to tidy lt h = tt
 limit_fails (errors.Check fault) old new from to tidy lt h = tt
 
-pub failure_limits : {W : Type 0} (e : NameError) (old new : Variables) (from to : W) → IsFailure e → Limits e old new from to
-failure_limits errors.WitnessVariable old new from to h = h
-failure_limits errors.AssumedVariable old new from to h = h
-failure_limits errors.VariableLimit old new from to h = absurd h
-failure_limits errors.OutOfMemory old new from to h = tt
-failure_limits (errors.Write cause) old new from to h = tt
-failure_limits (errors.Check fault) old new from to h = tt
+pub failure_limits : {W : Type 0} (e : NameError) (old new : Variables) (from to : W) → (NoneLeft old → ⊥) → IsFailure e → Limits e old new from to
+failure_limits errors.WitnessVariable old new from to left h = h
+failure_limits errors.AssumedVariable old new from to left h = h
+failure_limits errors.VariableLimit old new from to left h = absurd h
+failure_limits errors.OutOfMemory old new from to left h = left
+failure_limits (errors.Write cause) old new from to left h = left
+failure_limits (errors.Check fault) old new from to left h = left
 
 -- a fault that is handed on
 pub fails_on : {A : Type 0} (r : Result A NameError) (e : NameError) → IsErrAnd r (λ f. f ≡ e) → IsFailure e → IfErr r IsFailure
@@ -182,60 +183,62 @@ none_listed : (b : Bool) → (b && false) ≡ false
 none_listed true = refl
 none_listed false = refl
 
--- at first none is
-pub hidden_none : (n : Variables) (marks : List Bool) → length marks ≡ names_used n → ((u : ℕ) → get_or marks u false ≡ false) → CountsHidden n [] marks 0
-hidden_none n marks size none = record {
-  size = size;
-  marked = λ u lt. none u ∙ sym (none_listed (not (is_some (global_of n u))));
-  is = sym (count_none (names_used n) (is_hidden_name n []) (λ u lt. none_listed (not (is_some (global_of n u)))));
-}
+-- at first there is none
+pub hidden_none : (n : Variables) → hidden_count n [] ≡ 0
+hidden_none n = count_none (names_used n) (is_hidden_name n []) (λ u lt. none_listed (not (is_some (global_of n u))))
 
--- a name that isn't hidden, or is marked, adds nothing
-hidden_same : (n : Variables) (user count : ℕ) (us : List ℕ) (marks : List Bool) → ((u : ℕ) → u < names_used n → u ≡ user → is_hidden_name n (user ∷ us) u ≡ is_hidden_name n us u) → CountsHidden n us marks count → CountsHidden n (user ∷ us) marks count
-hidden_same n user count us marks here c = record {
-  size = c.size;
-  marked = λ u lt. c.marked u lt ∙ sym (each u lt);
-  is = c.is ∙ sym (count_same (names_used n) (is_hidden_name n (user ∷ us)) (is_hidden_name n us) each);
-}
+-- a name that isn't hidden, or stands behind again, adds nothing
+hidden_same : (n : Variables) (user : ℕ) (us : List ℕ) → ((u : ℕ) → u < names_used n → u ≡ user → is_hidden_name n (user ∷ us) u ≡ is_hidden_name n us u) → hidden_count n (user ∷ us) ≡ hidden_count n us
+hidden_same n user us here = count_same (names_used n) (is_hidden_name n (user ∷ us)) (is_hidden_name n us) each
   where
     each : (u : ℕ) → u < names_used n → is_hidden_name n (user ∷ us) u ≡ is_hidden_name n us u
     each u lt = elim (cases_eq user u) [ inl e ↦ here u lt (sym e) | inr ne ↦ hidden_other n user u us ne ]
 
-pub hidden_past : (n : Variables) (user count : ℕ) (us : List ℕ) (marks : List Bool) → length marks ≤ user → CountsHidden n us marks count → CountsHidden n (user ∷ us) marks count
-hidden_past n user count us marks le c = hidden_same n user count us marks (λ u lt e. absurd (let s = c.size in omega arith)) c
+pub hidden_past : (n : Variables) (user : ℕ) (us : List ℕ) → names_used n ≤ user → hidden_count n (user ∷ us) ≡ hidden_count n us
+hidden_past n user us le = hidden_same n user us (λ u lt e. absurd (omega arith))
 
-pub hidden_marked : (n : Variables) (user count : ℕ) (us : List ℕ) (marks : List Bool) → user < length marks → get_or marks user false ≡ true → CountsHidden n us marks count → CountsHidden n (user ∷ us) marks count
-hidden_marked n user count us marks lt marked c = hidden_same n user count us marks here c
+pub hidden_again : (n : Variables) (user : ℕ) (us : List ℕ) → is_listed us user ≡ true → hidden_count n (user ∷ us) ≡ hidden_count n us
+hidden_again n user us again = hidden_same n user us here
   where
-    both : (a b d : Bool) → (a && b) ≡ true → (a && (d || b)) ≡ (a && b)
+    both : (a b d : Bool) → b ≡ true → (a && (d || b)) ≡ (a && b)
     both true true true e = refl
     both true true false e = refl
     both true false d e = absurd (true≢false (sym e))
     both false b d e = refl
 
     here : (u : ℕ) → u < names_used n → u ≡ user → is_hidden_name n (user ∷ us) u ≡ is_hidden_name n us u
-    here u low e = both (not (is_some (global_of n u))) (is_listed us u) (eqb user u) (sym (c.marked u low) ∙ ap (λ k. get_or marks k false) e ∙ marked)
+    here u low e = both (not (is_some (global_of n u))) (is_listed us u) (eqb user u) (ap (is_listed us) e ∙ again)
 
-pub hidden_used : (n : Variables) (user count : ℕ) (us : List ℕ) (marks : List Bool) → is_some (global_of n user) ≡ true → CountsHidden n us marks count → CountsHidden n (user ∷ us) marks count
-hidden_used n user count us marks some c = hidden_same n user count us marks here c
+pub hidden_used : (n : Variables) (user : ℕ) (us : List ℕ) → is_some (global_of n user) ≡ true → hidden_count n (user ∷ us) ≡ hidden_count n us
+hidden_used n user us some = hidden_same n user us here
   where
     here : (u : ℕ) → u < names_used n → u ≡ user → is_hidden_name n (user ∷ us) u ≡ is_hidden_name n us u
     here u low e =
         let there : is_some (global_of n u) ≡ true = ap (λ k. is_some (global_of n k)) e ∙ some in
         ap (λ b. not b && is_listed (user ∷ us) u) there ∙ sym (ap (λ b. not b && is_listed us u) there)
 
-pub hidden_more : (n : Variables) (user count : ℕ) (us : List ℕ) (marks : List Bool) → user < length marks → get_or marks user false ≡ false → is_some (global_of n user) ≡ false → CountsHidden n us marks count → CountsHidden n (user ∷ us) (set marks user true) (count + 1)
-hidden_more n user count us marks lt unmarked free c = record {
-  size = length-set marks user true ∙ c.size;
-  marked = λ u low. elim (cases_eq u user) [
-    | inl e ↦ ap (λ k. get_or (set marks user true) k false) e ∙ get_or-set_same marks user true false lt ∙ sym (ap (is_hidden_name n (user ∷ us)) e ∙ here)
-    | inr ne ↦ get_or-set_other marks user u true false ne ∙ c.marked u low ∙ sym (hidden_other n user u us (λ e. ne (sym e)))
-  ];
-  is = ap (λ k. k + 1) c.is ∙ sym (count_more (names_used n) user (is_hidden_name n us) (is_hidden_name n (user ∷ us)) (let s = c.size in omega arith) (sym (c.marked user (let s = c.size in omega arith)) ∙ unmarked) here (λ k ne. hidden_other n user k us (λ e. ne (sym e))));
-}
+pub hidden_more : (n : Variables) (user : ℕ) (us : List ℕ) → user < names_used n → is_listed us user ≡ false → is_some (global_of n user) ≡ false → hidden_count n (user ∷ us) ≡ hidden_count n us + 1
+hidden_more n user us lt new free =
+    count_more (names_used n) user (is_hidden_name n us) (is_hidden_name n (user ∷ us)) lt (ap (λ b. not (is_some (global_of n user)) && b) new ∙ none_listed (not (is_some (global_of n user)))) here (λ k ne. hidden_other n user k us (λ e. ne (sym e)))
   where
     here : is_hidden_name n (user ∷ us) user ≡ true
     here = ap (λ b. not b && is_listed (user ∷ us) user) free ∙ ap (λ b. b || is_listed us user) (eq-eqb user user refl)
+
+-- a literal is over the name, or none is
+pub mentions_listed : (ls : List ℕ) (v : ℕ) → mentions ls v ≡ is_listed (users_in ls) v
+mentions_listed [] v = refl
+mentions_listed (l ∷ ls) v = ap (λ b. eqb (variable l) v || b) (mentions_listed ls v)
+
+-- among the literals behind a place
+pub mentions_behind : (ls : List ℕ) (k v : ℕ) → mentions (take (length ls - k) (drop k ls)) v ≡ is_listed (users_in (drop k ls)) v
+mentions_behind ls k v = ap (λ zs. mentions zs v) (take_all (length ls - k) (drop k ls) (omega (arith, length-drop k ls))) ∙ mentions_listed (drop k ls) v
+
+-- the literals from a place on
+pub users_at : (ls : List ℕ) (at l : ℕ) → at < length ls → l ≡ get_or ls at l → users_in (drop at ls) ≡ variable l ∷ users_in (drop (at + 1) ls)
+users_at ls at l lt e = ap users_in (drop_more ls at l lt) ∙ ap (λ m. variable m ∷ users_in (drop (at + 1) ls)) (sym e)
+
+pub hidden_at : (n : Variables) (ls : List ℕ) (at l user : ℕ) → at < length ls → l ≡ get_or ls at l → user ≡ variable l → hidden_count n (users_in (drop at ls)) ≡ hidden_count n (user ∷ users_in (drop (at + 1) ls))
+hidden_at n ls at l user lt e u = ap (hidden_count n) (users_at ls at l lt e ∙ ap (λ v. v ∷ users_in (drop (at + 1) ls)) (sym u))
 
 -- so many at most, as there are literals
 pub hidden_most : (n : Variables) (us : List ℕ) → count_to (names_used n) (is_hidden_name n us) ≤ length us
@@ -306,8 +309,8 @@ fits_used n user tidy lt some = let o = one_used n user lt some in let m = live_
 pub fits_all : (n : Variables) (lits : List ℕ) (top left : ℕ) → top ≡ reach (names_used n) (users_in lits) → left + live_count n ≡ largest → top - names_used n ≤ left → length lits ≤ left - (top - names_used n) → HasRoom n (users_in lits)
 fits_all n lits top left is all low le = let m = hidden_most n (users_in lits) in let l = length-map lits variable in omega arith
 
-pub counts_small : (n : Variables) (us : List ℕ) (marks : List Bool) (count : ℕ) → AreTidy n → CountsHidden n us marks count → count ≤ largest
-counts_small n us marks count tidy c = let m = count_le (names_used n) (is_hidden_name n us) in let e = c.is in let r = tidy.reach in let w = tidy.within in omega arith
+pub counts_small : (n : Variables) (us : List ℕ) → AreTidy n → hidden_count n us ≤ largest
+counts_small n us tidy = let m = count_le (names_used n) (is_hidden_name n us) in let r = tidy.reach in let w = tidy.within in omega arith
 
 pub said_room : (n : Variables) (us : List ℕ) (b : Bool) → SaysRoom b n us → b ≡ true → HasRoom n us
 said_room n us true h e = h

@@ -212,40 +212,40 @@ module _ {W : Type 0} (seen : W → Writer) (s : Solver W) (whole : IsWhole s) (
 -- FAULTS
 
 -- a call over a clause failed
-pub adding_ends : {W : Type 0} (seen : W → Writer) (e : SolverError) (s new : Solver W) (user : List ℕ) → s.failed ≡ false → AreSampled s user → IsFault e → BreaksNames seen e s.core new.core → new.clock ≡ s.clock → new.failed ≡ true → AddsClause seen (Err e) s new user
-adding_ends seen errors.OutOfMemory s new user g w x b k f = (w, record { going = g; failed = f; fault = x; breaks = b; clock = k })
-adding_ends seen errors.StoreFull s new user g w x b k f = (w, record { going = g; failed = f; fault = x; breaks = b; clock = k })
-adding_ends seen (errors.ProofIoError cause) s new user g w x b k f = (w, record { going = g; failed = f; fault = x; breaks = b; clock = k })
-adding_ends seen errors.VariableLimit s new user g w x b k f = absurd x
-adding_ends seen errors.Interrupted s new user g w x b k f = absurd x
-adding_ends seen (errors.ProofProcessorError cause) s new user g w x b k f = (w, record { going = g; failed = f; fault = x; breaks = b; clock = k })
-adding_ends seen errors.WitnessVariable s new user g w x b k f = absurd x
-adding_ends seen errors.AssumedVariable s new user g w x b k f = absurd x
-adding_ends seen errors.TooLate s new user g w x b k f = absurd x
-adding_ends seen errors.NotInDrat s new user g w x b k f = absurd x
-adding_ends seen errors.CounterEnd s new user g w x b k f = (w, record { going = g; failed = f; fault = x; breaks = b; clock = k })
-adding_ends seen errors.HasFailed s new user g w x b k f = absurd x
-adding_ends seen errors.Read s new user g w x b k f = absurd x
-adding_ends seen errors.Malformed s new user g w x b k f = absurd x
-adding_ends seen errors.OutOfRange s new user g w x b k f = absurd x
+pub adding_ends : {W : Type 0} (seen : W → Writer) (e : SolverError) (s new : Solver W) (user : List ℕ) → s.failed ≡ false → AreSampled s user → HasRoom s.names (users_in user) → IsFault e → BreaksNames seen e s.core new.core → new.clock ≡ s.clock → new.failed ≡ true → AddsClause seen (Err e) s new user
+adding_ends seen errors.OutOfMemory s new user g w r x b k f = (w, r, record { going = g; failed = f; fault = x; breaks = b; clock = k })
+adding_ends seen errors.StoreFull s new user g w r x b k f = (w, r, record { going = g; failed = f; fault = x; breaks = b; clock = k })
+adding_ends seen (errors.ProofIoError cause) s new user g w r x b k f = (w, r, record { going = g; failed = f; fault = x; breaks = b; clock = k })
+adding_ends seen errors.VariableLimit s new user g w r x b k f = absurd x
+adding_ends seen errors.Interrupted s new user g w r x b k f = absurd x
+adding_ends seen (errors.ProofProcessorError cause) s new user g w r x b k f = (w, r, record { going = g; failed = f; fault = x; breaks = b; clock = k })
+adding_ends seen errors.WitnessVariable s new user g w r x b k f = absurd x
+adding_ends seen errors.AssumedVariable s new user g w r x b k f = absurd x
+adding_ends seen errors.TooLate s new user g w r x b k f = absurd x
+adding_ends seen errors.NotInDrat s new user g w r x b k f = absurd x
+adding_ends seen errors.CounterEnd s new user g w r x b k f = (w, r, record { going = g; failed = f; fault = x; breaks = b; clock = k })
+adding_ends seen errors.HasFailed s new user g w r x b k f = absurd x
+adding_ends seen errors.Read s new user g w r x b k f = absurd x
+adding_ends seen errors.Malformed s new user g w r x b k f = absurd x
+adding_ends seen errors.OutOfRange s new user g w r x b k f = absurd x
 
 -- or one over assumptions
-pub assuming_ends : {W : Type 0} (seen : W → Writer) (e : SolverError) (s new : Solver W) (user : List ℕ) → s.failed ≡ false → AreSampled s user → IsFault e → BreaksNames seen e s.core new.core → new.clock ≡ s.clock → new.failed ≡ true → Assumes seen (Err e) s new user
-assuming_ends seen errors.OutOfMemory s new user g w x b k f = (w, record { going = g; failed = f; fault = x; breaks = b; clock = k })
-assuming_ends seen errors.StoreFull s new user g w x b k f = (w, record { going = g; failed = f; fault = x; breaks = b; clock = k })
-assuming_ends seen (errors.ProofIoError cause) s new user g w x b k f = (w, record { going = g; failed = f; fault = x; breaks = b; clock = k })
-assuming_ends seen errors.VariableLimit s new user g w x b k f = absurd x
-assuming_ends seen errors.Interrupted s new user g w x b k f = absurd x
-assuming_ends seen (errors.ProofProcessorError cause) s new user g w x b k f = (w, record { going = g; failed = f; fault = x; breaks = b; clock = k })
-assuming_ends seen errors.WitnessVariable s new user g w x b k f = absurd x
-assuming_ends seen errors.AssumedVariable s new user g w x b k f = absurd x
-assuming_ends seen errors.TooLate s new user g w x b k f = absurd x
-assuming_ends seen errors.NotInDrat s new user g w x b k f = absurd x
-assuming_ends seen errors.CounterEnd s new user g w x b k f = (w, record { going = g; failed = f; fault = x; breaks = b; clock = k })
-assuming_ends seen errors.HasFailed s new user g w x b k f = absurd x
-assuming_ends seen errors.Read s new user g w x b k f = absurd x
-assuming_ends seen errors.Malformed s new user g w x b k f = absurd x
-assuming_ends seen errors.OutOfRange s new user g w x b k f = absurd x
+pub assuming_ends : {W : Type 0} (seen : W → Writer) (e : SolverError) (s new : Solver W) (user : List ℕ) → s.failed ≡ false → AreSampled s user → HasRoom s.names (users_in user) → IsFault e → BreaksNames seen e s.core new.core → new.clock ≡ s.clock → new.failed ≡ true → Assumes seen (Err e) s new user
+assuming_ends seen errors.OutOfMemory s new user g w r x b k f = (w, r, record { going = g; failed = f; fault = x; breaks = b; clock = k })
+assuming_ends seen errors.StoreFull s new user g w r x b k f = (w, r, record { going = g; failed = f; fault = x; breaks = b; clock = k })
+assuming_ends seen (errors.ProofIoError cause) s new user g w r x b k f = (w, r, record { going = g; failed = f; fault = x; breaks = b; clock = k })
+assuming_ends seen errors.VariableLimit s new user g w r x b k f = absurd x
+assuming_ends seen errors.Interrupted s new user g w r x b k f = absurd x
+assuming_ends seen (errors.ProofProcessorError cause) s new user g w r x b k f = (w, r, record { going = g; failed = f; fault = x; breaks = b; clock = k })
+assuming_ends seen errors.WitnessVariable s new user g w r x b k f = absurd x
+assuming_ends seen errors.AssumedVariable s new user g w r x b k f = absurd x
+assuming_ends seen errors.TooLate s new user g w r x b k f = absurd x
+assuming_ends seen errors.NotInDrat s new user g w r x b k f = absurd x
+assuming_ends seen errors.CounterEnd s new user g w r x b k f = (w, r, record { going = g; failed = f; fault = x; breaks = b; clock = k })
+assuming_ends seen errors.HasFailed s new user g w r x b k f = absurd x
+assuming_ends seen errors.Read s new user g w r x b k f = absurd x
+assuming_ends seen errors.Malformed s new user g w r x b k f = absurd x
+assuming_ends seen errors.OutOfRange s new user g w r x b k f = absurd x
 
 -- CALLS
 

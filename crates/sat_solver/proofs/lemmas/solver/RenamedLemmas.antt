@@ -1,5 +1,5 @@
 -- A solver whose names came in, were hidden, or changed their modes.
-use Rattle.std.proofs.Common.{ℕ, zero, suc, ◌+◌, ◌<◌, ◌≡◌, ◌≢◌, ◌∙◌, Bool, true, false, cond, eqb, not, Err, Option, None, Some, List, [], ◌∷◌, length, map, get_or, refl, sym, ap, subst, arith, inl, inr}
+use Rattle.std.proofs.Common.{ℕ, zero, suc, ◌+◌, ◌<◌, ◌≡◌, ◌≢◌, ◌∙◌, Bool, true, false, ◌||◌, cond, eqb, not, Err, Option, None, Some, List, [], ◌∷◌, length, map, get_or, refl, sym, ap, subst, arith, inl, inr}
 use Rattle.std.proofs.lemmas.Bool.{true≢false, or_cases, or_left, or_right, eqb-true, eq-eqb}
 use Rattle.std.specs.List.{AllByRecursion}
 use Rattle.sat_base.specs.device.Device.{Writer}
@@ -31,7 +31,9 @@ use Rattle.sat_solver.specs.names.Calls.{Stands, Does}
 use Rattle.sat_solver.specs.names.Checking.{variable_of}
 use Rattle.sat_solver.specs.names.Expected.{Expected, Spells, SameSet}
 use Rattle.sat_solver.specs.names.Models.{is_true, value_by, value_in}
-use Rattle.sat_solver.specs.names.Naming.{AreFresh, KeepsOthers, IsNextUser}
+use Rattle.sat_solver.specs.names.Failing.{Limits}
+use Rattle.sat_solver.specs.names.Room.{HasRoom}
+use Rattle.sat_solver.specs.names.Naming.{AreFresh, KeepsOthers, IsNextUser, NoneLeft}
 use Rattle.sat_solver.specs.names.Observing.{NamesAllHidden}
 use Rattle.sat_solver.specs.names.Refusing.{IsAssumed}
 use Rattle.sat_solver.specs.names.Search.{IsAlike, KeepsUnits}
@@ -41,7 +43,7 @@ use Rattle.sat_solver.specs.declared.solver.Solver.{Solver}
 use Rattle.sat_solver.specs.declared.solver.state.State.{State}
 use Rattle.sat_solver.specs.declared.solver.state.State.TheVariants as states
 use Rattle.sat_solver.specs.solver.Joined.{IsJoined}
-use Rattle.sat_solver.specs.solver.Naming.{IsAsked, IsKeptOrFalse, variable_value, name_value, IsNextName, Renamed, Observed, ChangesMode, NamesFail}
+use Rattle.sat_solver.specs.solver.Naming.{IsAsked, IsKeptOrFalse, variable_value, name_value, IsNextName, Renamed, Observed, ChangesMode, NewFails, NamesFail}
 use Rattle.sat_solver.specs.solver.Taking.{IsNameFault, BreaksNames}
 use Rattle.sat_solver.specs.search.Going.{IsFault}
 use Rattle.sat_solver.specs.declared.search.solving.Core.{Core}
@@ -301,22 +303,22 @@ module _ {W : Type 0} (seen : W → Writer) (s : Solver W) (whole : IsWhole s) (
   }
 
 -- a call over modes failed
-pub mode_ends : {W : Type 0} (seen : W → Writer) (e : SolverError) (s new : Solver W) (user : ℕ) (judge : Judge → Judge) (due : Judge → List Expected) (May : List Step → Step → Type 0) → s.failed ≡ false → IsFault e → BreaksNames seen e s.core new.core → new.clock ≡ s.clock → new.failed ≡ true → ChangesMode seen (Err e) s new user judge due May
-mode_ends seen errors.OutOfMemory s new user judge due May g x b k f = record { going = g; failed = f; fault = x; breaks = b; clock = k }
-mode_ends seen errors.StoreFull s new user judge due May g x b k f = record { going = g; failed = f; fault = x; breaks = b; clock = k }
-mode_ends seen (errors.ProofIoError cause) s new user judge due May g x b k f = record { going = g; failed = f; fault = x; breaks = b; clock = k }
-mode_ends seen errors.VariableLimit s new user judge due May g x b k f = absurd x
-mode_ends seen errors.Interrupted s new user judge due May g x b k f = absurd x
-mode_ends seen (errors.ProofProcessorError cause) s new user judge due May g x b k f = record { going = g; failed = f; fault = x; breaks = b; clock = k }
-mode_ends seen errors.WitnessVariable s new user judge due May g x b k f = absurd x
-mode_ends seen errors.AssumedVariable s new user judge due May g x b k f = absurd x
-mode_ends seen errors.TooLate s new user judge due May g x b k f = absurd x
-mode_ends seen errors.NotInDrat s new user judge due May g x b k f = absurd x
-mode_ends seen errors.CounterEnd s new user judge due May g x b k f = record { going = g; failed = f; fault = x; breaks = b; clock = k }
-mode_ends seen errors.HasFailed s new user judge due May g x b k f = absurd x
-mode_ends seen errors.Read s new user judge due May g x b k f = absurd x
-mode_ends seen errors.Malformed s new user judge due May g x b k f = absurd x
-mode_ends seen errors.OutOfRange s new user judge due May g x b k f = absurd x
+pub mode_ends : {W : Type 0} (seen : W → Writer) (e : SolverError) (s new : Solver W) (user : ℕ) (judge : Judge → Judge) (due : Judge → List Expected) (May : List Step → Step → Type 0) → s.failed ≡ false → (IsAsked s user → ⊥) → HasRoom s.names (user ∷ []) → IsFault e → BreaksNames seen e s.core new.core → new.clock ≡ s.clock → new.failed ≡ true → ChangesMode seen (Err e) s new user judge due May
+mode_ends seen errors.OutOfMemory s new user judge due May g n r x b k f = (n, r, record { going = g; failed = f; fault = x; breaks = b; clock = k })
+mode_ends seen errors.StoreFull s new user judge due May g n r x b k f = (n, r, record { going = g; failed = f; fault = x; breaks = b; clock = k })
+mode_ends seen (errors.ProofIoError cause) s new user judge due May g n r x b k f = (n, r, record { going = g; failed = f; fault = x; breaks = b; clock = k })
+mode_ends seen errors.VariableLimit s new user judge due May g n r x b k f = absurd x
+mode_ends seen errors.Interrupted s new user judge due May g n r x b k f = absurd x
+mode_ends seen (errors.ProofProcessorError cause) s new user judge due May g n r x b k f = (n, r, record { going = g; failed = f; fault = x; breaks = b; clock = k })
+mode_ends seen errors.WitnessVariable s new user judge due May g n r x b k f = absurd x
+mode_ends seen errors.AssumedVariable s new user judge due May g n r x b k f = absurd x
+mode_ends seen errors.TooLate s new user judge due May g n r x b k f = absurd x
+mode_ends seen errors.NotInDrat s new user judge due May g n r x b k f = absurd x
+mode_ends seen errors.CounterEnd s new user judge due May g n r x b k f = (n, r, record { going = g; failed = f; fault = x; breaks = b; clock = k })
+mode_ends seen errors.HasFailed s new user judge due May g n r x b k f = absurd x
+mode_ends seen errors.Read s new user judge due May g n r x b k f = absurd x
+mode_ends seen errors.Malformed s new user judge due May g n r x b k f = absurd x
+mode_ends seen errors.OutOfRange s new user judge due May g n r x b k f = absurd x
 
 -- a call that gives names failed
 pub new_ends : {W : Type 0} (seen : W → Writer) (e : SolverError) (s new : Solver W) → s.failed ≡ false → IsFault e → BreaksNames seen e s.core new.core → new.clock ≡ s.clock → new.failed ≡ true → NamesFail seen e s new
@@ -335,6 +337,33 @@ new_ends seen errors.HasFailed s new g x b k f = absurd x
 new_ends seen errors.Read s new g x b k f = absurd x
 new_ends seen errors.Malformed s new g x b k f = absurd x
 new_ends seen errors.OutOfRange s new g x b k f = absurd x
+
+-- a call for a new name failed
+pub new_fails : {W : Type 0} (seen : W → Writer) (e : SolverError) (s new : Solver W) → s.failed ≡ false → (NoneLeft s.names → ⊥) → IsFault e → BreaksNames seen e s.core new.core → new.clock ≡ s.clock → new.failed ≡ true → NewFails seen e s new
+new_fails seen errors.OutOfMemory s new g n x b k f = (n, record { going = g; failed = f; fault = x; breaks = b; clock = k })
+new_fails seen errors.StoreFull s new g n x b k f = (n, record { going = g; failed = f; fault = x; breaks = b; clock = k })
+new_fails seen (errors.ProofIoError cause) s new g n x b k f = (n, record { going = g; failed = f; fault = x; breaks = b; clock = k })
+new_fails seen errors.VariableLimit s new g n x b k f = absurd x
+new_fails seen errors.Interrupted s new g n x b k f = absurd x
+new_fails seen (errors.ProofProcessorError cause) s new g n x b k f = (n, record { going = g; failed = f; fault = x; breaks = b; clock = k })
+new_fails seen errors.WitnessVariable s new g n x b k f = absurd x
+new_fails seen errors.AssumedVariable s new g n x b k f = absurd x
+new_fails seen errors.TooLate s new g n x b k f = absurd x
+new_fails seen errors.NotInDrat s new g n x b k f = absurd x
+new_fails seen errors.CounterEnd s new g n x b k f = (n, record { going = g; failed = f; fault = x; breaks = b; clock = k })
+new_fails seen errors.HasFailed s new g n x b k f = absurd x
+new_fails seen errors.Read s new g n x b k f = absurd x
+new_fails seen errors.Malformed s new g n x b k f = absurd x
+new_fails seen errors.OutOfRange s new g n x b k f = absurd x
+
+-- where it wasn't for want of a variable, there was one
+pub one_left : {W : Type 0} (e : NameError) (old new : Variables) (from to : W) → (told_as e ≡ errors.VariableLimit → ⊥) → Limits e old new from to → NoneLeft old → ⊥
+one_left names.VariableLimit old new from to n h = absurd (n refl)
+one_left names.WitnessVariable old new from to n h = absurd h
+one_left names.AssumedVariable old new from to n h = absurd h
+one_left names.OutOfMemory old new from to n h = h
+one_left (names.Write cause) old new from to n h = h
+one_left (names.Check fault) old new from to n h = h
 
 -- what a call over names fails of, but for the limit
 pub fault_left : (e : SolverError) → IsNameFault e → (e ≡ errors.VariableLimit → ⊥) → IsFault e
@@ -362,13 +391,13 @@ pub next_name : {W : Type 0} (s : Solver W) → IsWhole s → (user : ℕ) → I
 next_name s whole user next j live agree = lowest_unused s.names (steps_in s) j live user whole.stands agree.judged next
 
 -- hidden variables got names
-pub observed_all : {W : Type 0} (seen : W → Writer) (s : Solver W) → IsWhole s → s.failed ≡ false → (n' : Variables) (p : Proof W) (users : List ℕ) → NamesAllHidden s.names n' (steps_in s) (steps_of p) users → Took seen s.core.proof p →
-    Observed seen s (record s { core = record s.core { proof = p }; names = n'; used = true }) users
-observed_all seen s whole going n' p users all took = record {
+pub observed_all : {W : Type 0} (seen : W → Writer) (s : Solver W) → IsWhole s → s.failed ≡ false → (n' : Variables) (p : Proof W) (users : List ℕ) (used : Bool) → used ≡ (s.used || not (eqb (length users) 0)) → NamesAllHidden s.names n' (steps_in s) (steps_of p) users → Took seen s.core.proof p →
+    Observed seen s (record s { core = record s.core { proof = p }; names = n'; used = used }) users
+observed_all seen s whole going n' p users used opened all took = record {
   whole = whole_renamed s whole n' p all.stands (λ l v h e. all.names (variable l) v e) (alike_unseen s.names n' (steps_in s) (steps_of p) all.unseen);
   going = going;
   failed = going;
-  used = refl;
+  used = opened;
   config = refl;
   observes = all.kept;
   all = all.all;

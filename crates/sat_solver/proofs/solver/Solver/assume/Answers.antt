@@ -10,13 +10,6 @@ use Rattle.sat_solver.proofs.lemmas.solver.TakingLemmas.{none_took, names_starve
 use Rattle.sat_solver.proofs.solver.Solver.assume.Goals.{then-is_err, then-is_err-via-then-is_err, then-is_err-via-else-is_err+then-is_err-2, else-is_err+else-is_err-2}
 use Rattle.sat_solver.proofs.solver.Solver.assume.Goals as goal
 
-pub returns-in-Err-clause-assumes : goal.returns-in-Err-clause-assumes
-returns-in-Err-clause-assumes g c =
-    let s = c.args.self.now in (
-      none_refused s c.args.lits.now c.leftmost_witness.result c.leftmost_witness.ensures.judged (sym c.is_some.ensures ∙ c.if-is_some.false),
-      record { going = c.if-self.false; failed = refl; fault = tt; breaks = names_starved g.W.CountedWrite.seen s.core s.core (none_took g.W.CountedWrite.seen s.core.proof); clock = refl },
-    )
-
 pub returns-clause-assumes : goal.returns-clause-assumes
 returns-clause-assumes g c =
     let s = c.args.self.now in
@@ -30,6 +23,6 @@ returns-clause-assumes g c =
       | else-is_err+else-is_err-2 w ↦
           rw w.self-is (assumed_by g.W.CountedWrite.seen s mid (record mid { assumed = c.extend_from_slice-listed.new.self }) c.args.lits.now c.if-self.false
           (none_refused s c.args.lits.now c.leftmost_witness.result c.leftmost_witness.ensures.judged (sym c.is_some.ensures ∙ c.if-is_some.false))
-          (said_room s.names (users_in c.args.lits.now) c.in-Ok-true.field-0 c.in-Ok-true.ensures c.in-Ok-true.field-0-test)
+          (said_room s.names (users_in c.args.lits.now) c.has_room.result c.has_room.ensures c.if-not-has_room.false)
           (subst (λ r. Asks g.W.CountedWrite.seen r (record s { used = true }) mid c.args.lits.now) c.in_ok-asked.was c.ask-asked.ensures.asks) c.ask-asked.ensures.clock refl items)
     ]

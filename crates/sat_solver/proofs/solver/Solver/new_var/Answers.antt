@@ -6,7 +6,7 @@ use Rattle.sat_solver.proofs.lemmas.solver.TakingLemmas.{none_took, names_broke}
 use Rattle.sat_solver.specs.names.Failing.{IsFull, Limits}
 use Rattle.sat_solver.specs.solver.Whole.{IsSolver, steps_in}
 use Rattle.sat_solver.specs.session.ProofView.{steps_of}
-use Rattle.sat_solver.proofs.lemmas.solver.RenamedLemmas.{next_name, whole_renamed, renamed, new_ends, fault_left, told_limit, same_solver}
+use Rattle.sat_solver.proofs.lemmas.solver.RenamedLemmas.{next_name, whole_renamed, renamed, new_fails, one_left, fault_left, told_limit, same_solver}
 use Rattle.sat_solver.proofs.solver.Solver.new_var.Goals as goal
 
 pub returns-in-Ok-clause-solver : goal.returns-in-Ok-clause-solver
@@ -45,4 +45,4 @@ pub returns-else-is_limit-clause-names : goal.returns-else-is_limit-clause-names
 returns-else-is_limit-clause-names g c =
     let s = c.args.self.now in
     let broke = names_broke g.W.CountedWrite.seen s.core (record s.core { proof = c.new_user_var.new.writer }) c.in-Err.error (c.in-Err.ensures.came s.core.proof (none_took g.W.CountedWrite.seen s.core.proof)) in
-    rw c.name_fault.ensures (new_ends g.W.CountedWrite.seen _ s _ c.if-self.false (fault_left _ broke.fault (λ e. c.is_limit.ensures.other c.if-is_limit.false (told_limit c.in-Err.error e))) broke refl refl)
+    rw c.name_fault.ensures (new_fails g.W.CountedWrite.seen _ s _ c.if-self.false (one_left c.in-Err.error s.names c.new_user_var.new.variables s.core.proof c.new_user_var.new.writer (λ e. c.is_limit.ensures.other c.if-is_limit.false (told_limit c.in-Err.error e)) c.in-Err.ensures.limit) (fault_left _ broke.fault (λ e. c.is_limit.ensures.other c.if-is_limit.false (told_limit c.in-Err.error e))) broke refl refl)

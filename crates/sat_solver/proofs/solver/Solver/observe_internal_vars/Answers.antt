@@ -1,4 +1,4 @@
-use Rattle.std.proofs.Common.{refl}
+use Rattle.std.proofs.Common.{ℕ, ◌||◌, ◌∙◌, not, eqb, List, length, refl, ap}
 use Rattle.sat_solver.proofs.lemmas.solver.TakingLemmas.{none_took, names_broke}
 use Rattle.sat_solver.proofs.lemmas.solver.RenamedLemmas.{observed_all, new_ends, fault_left, told_limit}
 use Rattle.sat_solver.proofs.solver.Solver.observe_internal_vars.Goals as goal
@@ -6,13 +6,13 @@ use Rattle.sat_solver.proofs.solver.Solver.observe_internal_vars.Goals as goal
 pub returns-in-Ok-clause-solver : goal.returns-in-Ok-clause-solver
 returns-in-Ok-clause-solver g c = λ e.
     let s = c.args.self.now in
-    (observed_all g.W.CountedWrite.seen s (c.requires c.if-self.false) c.if-self.false c.observe_internal_vars.new.variables c.observe_internal_vars.new.writer c.observe_internal_vars.new.users.items c.in-Ok.ensures.names
+    (observed_all g.W.CountedWrite.seen s (c.requires c.if-self.false) c.if-self.false c.observe_internal_vars.new.variables c.observe_internal_vars.new.writer c.observe_internal_vars.new.users.items _ (c.is_used-self.ensures ∙ ap (λ (xs : List ℕ). s.used || not (eqb (length xs) 0)) c.deref.ensures.value) c.in-Ok.ensures.names
     (c.in-Ok.ensures.came s.core.proof (none_took g.W.CountedWrite.seen s.core.proof))).whole
 
 pub returns-in-Ok-clause-observes : goal.returns-in-Ok-clause-observes
 returns-in-Ok-clause-observes g c =
     let s = c.args.self.now in
-    observed_all g.W.CountedWrite.seen s (c.requires c.if-self.false) c.if-self.false c.observe_internal_vars.new.variables c.observe_internal_vars.new.writer c.observe_internal_vars.new.users.items c.in-Ok.ensures.names
+    observed_all g.W.CountedWrite.seen s (c.requires c.if-self.false) c.if-self.false c.observe_internal_vars.new.variables c.observe_internal_vars.new.writer c.observe_internal_vars.new.users.items _ (c.is_used-self.ensures ∙ ap (λ (xs : List ℕ). s.used || not (eqb (length xs) 0)) c.deref.ensures.value) c.in-Ok.ensures.names
     (c.in-Ok.ensures.came s.core.proof (none_took g.W.CountedWrite.seen s.core.proof))
 
 pub returns-in-Err-clause-fails : goal.returns-in-Err-clause-fails

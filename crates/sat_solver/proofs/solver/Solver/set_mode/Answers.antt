@@ -41,7 +41,7 @@ pub returns-in-Err-clause-sets : goal.returns-in-Err-clause-sets
 returns-in-Err-clause-sets g c =
     let s = c.args.self.now in
     rw c.name_fault.ensures (mode_ends g.W.CountedWrite.seen _ s _ c.args.user _ _ _
-    c.if-self.false (told_fails c.in-Err.error (c.in-Err.ensures.room (said_room s.names (c.args.user ∷ []) c.has_room_for.result c.has_room_for.ensures c.if-not-has_room_for.false))) (names_broke g.W.CountedWrite.seen s.core (record s.core { proof = c.set_sampling_mode.new.writer }) c.in-Err.error (c.in-Err.ensures.came s.core.proof (none_took g.W.CountedWrite.seen s.core.proof))) refl refl)
+    c.if-self.false (not_marked s (c.requires c.if-self.false) c.args.user (c.is_assumed.ensures.free c.if-is_assumed.false)) (said_room s.names (c.args.user ∷ []) c.has_room_for.result c.has_room_for.ensures c.if-not-has_room_for.false) (told_fails c.in-Err.error (c.in-Err.ensures.room (said_room s.names (c.args.user ∷ []) c.has_room_for.result c.has_room_for.ensures c.if-not-has_room_for.false))) (names_broke g.W.CountedWrite.seen s.core (record s.core { proof = c.set_sampling_mode.new.writer }) c.in-Err.error (c.in-Err.ensures.came s.core.proof (none_took g.W.CountedWrite.seen s.core.proof))) refl refl)
 
 pub has_room_for-requires : goal.has_room_for-requires
 has_room_for-requires g c = (c.requires c.if-self.false).stands.tidy
