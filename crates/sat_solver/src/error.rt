@@ -9,7 +9,8 @@ use thiserror::Error;
 
 /// Why a call of a solver wasn't carried out.
 ///
-/// After an error that isn't recoverable the solver answers only `HasFailed`.
+/// After an error that isn't recoverable each call that may answer one answers `HasFailed`, but for the `OutOfMemory` of `model`, which
+/// changes nothing.
 #[derive(Debug, Drop, Error)]
 pub enum SolverError {
     /// The rounds of this `solve` are spent, or the count of all rounds is.
@@ -21,6 +22,7 @@ pub enum SolverError {
     /// A write to the proof's target failed.
     #[error("Error writing proof file: {cause}")]
     ProofIoError { cause: io::Error },
+    /// The allocator refused memory.
     #[error("out of memory")]
     OutOfMemory,
     /// A clause or an assumption has a name of mode witness.
@@ -41,8 +43,10 @@ pub enum SolverError {
     /// No index of a variable is left, which are 2^28, or a number of a formula's text is past that limit.
     #[error("a variable is past the limit")]
     VariableLimit,
+    /// The solver's own checker has given its last id, or counted a clause as often as it can.
     #[error("a counter is at its end")]
     CounterEnd,
+    /// An earlier call failed.
     #[error("the solver has failed before")]
     HasFailed,
     /// The formula's reader failed, or was read 2^48 times.
@@ -57,7 +61,7 @@ pub enum SolverError {
 }
 
 impl SolverError {
-    /// Whether the solver goes on after this error.
+    /// Whether the solver goes on after this error, whichever call answers it. After the `OutOfMemory` of `model` it does, too.
     pub fn is_recoverable(&self) -> bool
         ensures { result ≡ is_recoverable self.now }
     {

@@ -106,7 +106,7 @@ impl<W: CountedWrite + Drop> Solver<W> {
         }
     }
 
-    /// The rounds of search so far, over all calls of `solve`.
+    /// The rounds of search so far, over all calls of `solve`: at most 2^64-1, also after a call failed.
     pub fn steps(&self) -> u64
         ensures { result ≡ self.now.clock.steps }
     {
