@@ -30,7 +30,8 @@ fn write_clause<W: StepWriter>(
     requires stands { Stands _variables.now (W.steps writer.old) }
     requires keeps { W.keeps writer.old }
     requires literals { SameLiterals _variables.now _user.now clause.now }
-    ensures does { OnOk result (Does _variables.now _variables.now (W.steps writer.old) (W.steps writer.new) (with_clause (map named_literal _user.now)) (λ j. Adds (map named_literal _user.now) ∷ [])) }
+    ensures does { OnOk result (Does _variables.now _variables.now (W.steps writer.old) (W.steps writer.new)
+        (with_clause (map named_literal _user.now)) (λ j. Adds (map named_literal _user.now) ∷ [])) }
     ensures step { OnOk result (W.steps writer.new ≡ AddClause clause.now ∷ W.steps writer.old) }
     ensures fails { IfErr result IsFailure }
     ensures keeps { OnOk result (W.keeps writer.new) }

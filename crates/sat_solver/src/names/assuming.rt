@@ -26,7 +26,8 @@ use std::alloc::AllocError;
 /// Marks the variables of literals as assumed, or not.
 fn mark_all(list: &mut Vec<VarData>, lits: &[Lit], assumed: bool)
     requires within { (k : ℕ) → k < length lits.now → variable (slice_index_or lits.now k 0) < length list.old.items }
-    ensures marks { Marks (λ v. slice_index_or list.old.items v unused_variable) (λ v. slice_index_or list.new.items v unused_variable) lits.now assumed }
+    ensures marks { Marks (λ v. slice_index_or list.old.items v unused_variable)
+        (λ v. slice_index_or list.new.items v unused_variable) lits.now assumed }
     ensures size { length list.new.items ≡ length list.old.items }
 {
     for lit in lits {

@@ -29,7 +29,8 @@ fn new_index<W: StepWriter>(
     requires keeps { W.keeps writer.old }
     requires live { (data_at variables.old global).deleted ≡ false }
     requires without { solver_of variables.old global ≡ None }
-    ensures indexes { IfOk result (Indexes variables.old variables.new (W.steps writer.old) (W.steps writer.new) given.old.items given.new.items global) }
+    ensures indexes { IfOk result (Indexes variables.old variables.new (W.steps writer.old) (W.steps writer.new)
+        given.old.items given.new.items global) }
     ensures fails { IfErr result IsFailure }
     ensures keeps { OnOk result (W.keeps writer.new) }
     ensures came { Came W.took W.broke result writer.old writer.new }
@@ -55,7 +56,8 @@ pub fn solver_from_global<W: StepWriter>(
     requires stands { Stands variables.old (W.steps writer.old) }
     requires keeps { W.keeps writer.old }
     requires live { (data_at variables.old global).deleted ≡ false }
-    ensures indexes { IfOk result (Indexes variables.old variables.new (W.steps writer.old) (W.steps writer.new) given.old.items given.new.items global) }
+    ensures indexes { IfOk result (Indexes variables.old variables.new (W.steps writer.old) (W.steps writer.new)
+        given.old.items given.new.items global) }
     ensures fails { IfErr result IsFailure }
     ensures keeps { OnOk result (W.keeps writer.new) }
     ensures came { Came W.took W.broke result writer.old writer.new }

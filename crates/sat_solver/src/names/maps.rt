@@ -23,7 +23,8 @@ pub(crate) fn link(map: &mut VarBiMap, from: Var, into: Var) -> Result<(), Alloc
 /// What is kept of a variable, from the last index on, is replaced.
 pub(crate) fn put_data(list: &mut Vec<VarData>, var: Var, new: VarData) -> Result<(), AllocError>
     requires within { var ≤ length list.old.items }
-    ensures put { OnOk result ((v : ℕ) → slice_index_or list.new.items v unused_variable ≡ (if v == var then new else slice_index_or list.old.items v unused_variable)) }
+    ensures put { OnOk result ((v : ℕ) → slice_index_or list.new.items v unused_variable ≡
+        (if v == var then new else slice_index_or list.old.items v unused_variable)) }
     ensures size { OnOk result (length list.new.items ≡ max (length list.old.items) (var + 1)) }
 {
     let index = var.index();
@@ -64,7 +65,8 @@ pub(crate) fn unlink(map: &mut VarBiMap, from: Var, into: Var)
 /// What is kept of a variable is replaced.
 pub(crate) fn set_data(list: &mut Vec<VarData>, var: Var, new: VarData)
     requires within { var < length list.old.items }
-    ensures put { (v : ℕ) → slice_index_or list.new.items v unused_variable ≡ (if v == var then new else slice_index_or list.old.items v unused_variable) }
+    ensures put { (v : ℕ) → slice_index_or list.new.items v unused_variable ≡
+        (if v == var then new else slice_index_or list.old.items v unused_variable) }
     ensures size { length list.new.items ≡ length list.old.items }
 {
     list[var.index()] = new;
@@ -73,7 +75,9 @@ pub(crate) fn set_data(list: &mut Vec<VarData>, var: Var, new: VarData)
 /// Gives a variable another mode.
 pub(crate) fn set_mode(list: &mut Vec<VarData>, var: Var, mode: SamplingMode)
     requires within { var < length list.old.items }
-    ensures put { (v : ℕ) → slice_index_or list.new.items v unused_variable ≡ (if v == var then record (slice_index_or list.old.items var unused_variable) { sampling_mode = mode } else slice_index_or list.old.items v unused_variable) }
+    ensures put { (v : ℕ) → slice_index_or list.new.items v unused_variable ≡
+        (if v == var then record (slice_index_or list.old.items var unused_variable) { sampling_mode = mode }
+        else slice_index_or list.old.items v unused_variable) }
     ensures size { length list.new.items ≡ length list.old.items }
 {
     list[var.index()].sampling_mode = mode;
@@ -82,7 +86,9 @@ pub(crate) fn set_mode(list: &mut Vec<VarData>, var: Var, mode: SamplingMode)
 /// Marks a variable as assumed, or not.
 pub(crate) fn set_assumed(list: &mut Vec<VarData>, var: Var, assumed: bool)
     requires within { var < length list.old.items }
-    ensures put { (v : ℕ) → slice_index_or list.new.items v unused_variable ≡ (if v == var then record (slice_index_or list.old.items var unused_variable) { assumed = assumed } else slice_index_or list.old.items v unused_variable) }
+    ensures put { (v : ℕ) → slice_index_or list.new.items v unused_variable ≡
+        (if v == var then record (slice_index_or list.old.items var unused_variable) { assumed = assumed }
+        else slice_index_or list.old.items v unused_variable) }
     ensures size { length list.new.items ≡ length list.old.items }
 {
     list[var.index()].assumed = assumed;
@@ -91,7 +97,9 @@ pub(crate) fn set_assumed(list: &mut Vec<VarData>, var: Var, assumed: bool)
 /// Sets a variable's unit.
 pub(crate) fn set_unit(list: &mut Vec<VarData>, var: Var, unit: Option<bool>)
     requires within { var < length list.old.items }
-    ensures put { (v : ℕ) → slice_index_or list.new.items v unused_variable ≡ (if v == var then record (slice_index_or list.old.items var unused_variable) { unit = unit } else slice_index_or list.old.items v unused_variable) }
+    ensures put { (v : ℕ) → slice_index_or list.new.items v unused_variable ≡
+        (if v == var then record (slice_index_or list.old.items var unused_variable) { unit = unit }
+        else slice_index_or list.old.items v unused_variable) }
     ensures size { length list.new.items ≡ length list.old.items }
 {
     list[var.index()].unit = unit;

@@ -31,7 +31,8 @@ fn hide_global<W: StepWriter>(
     requires stands { Stands variables.old (W.steps writer.old) }
     requires keeps { W.keeps writer.old }
     requires named { global_of variables.old user ≡ Some global }
-    ensures does { OnOk result (Does variables.old variables.new (W.steps writer.old) (W.steps writer.new) (without_name (user + 1)) (λ j. NoName (user + 1) ∷ [])) }
+    ensures does { OnOk result (Does variables.old variables.new (W.steps writer.old) (W.steps writer.new)
+        (without_name (user + 1)) (λ j. NoName (user + 1) ∷ [])) }
     ensures unseen { OnOk result (IsUnseen variables.old variables.new (W.steps writer.old) (W.steps writer.new)) }
     ensures others { OnOk result (KeepsOthers variables.old variables.new user) }
     ensures only { OnOk result ((u v : ℕ) → global_of variables.new u ≡ Some v → global_of variables.old u ≡ Some v) }
@@ -112,7 +113,8 @@ pub fn hide_var<W: StepWriter>(
     requires stands { Stands variables.old (W.steps writer.old) }
     requires keeps { W.keeps writer.old }
     requires free { IsAssumed variables.old user → ⊥ }
-    ensures does { OnOk result (Does variables.old variables.new (W.steps writer.old) (W.steps writer.new) (λ j. without_name (user + 1) (bring_in (user + 1) j)) (λ j. map NewName (new_names (user + 1) j) ++ (NoName (user + 1) ∷ []))) }
+    ensures does { OnOk result (Does variables.old variables.new (W.steps writer.old) (W.steps writer.new)
+        (λ j. without_name (user + 1) (bring_in (user + 1) j)) (λ j. map NewName (new_names (user + 1) j) ++ (NoName (user + 1) ∷ []))) }
     ensures others { OnOk result (KeepsOthers variables.old variables.new user) }
     ensures fresh { OnOk result (AreFresh variables.old variables.new) }
     ensures units { OnOk result (KeepsUnits variables.new (W.steps writer.old) (W.steps writer.new)) }
@@ -161,8 +163,11 @@ fn set_global_mode<W: StepWriter>(
     requires stands { Stands variables.old (W.steps writer.old) }
     requires keeps { W.keeps writer.old }
     requires named { global_of variables.old user ≡ Some global }
-    ensures does { OnOk result (Does variables.old variables.new (W.steps writer.old) (W.steps writer.new) (with_mode (judged_mode sample) (user + 1)) (λ j. [])) }
-    ensures sets { OnOk result ((W.steps writer.new ≡ W.steps writer.old) ⊎ ((W.steps writer.new ≡ ChangeSamplingMode global sample ∷ W.steps writer.old) × TurnsMode (session_after (W.steps writer.old)) global sample)) }
+    ensures does { OnOk result (Does variables.old variables.new (W.steps writer.old) (W.steps writer.new)
+        (with_mode (judged_mode sample) (user + 1)) (λ j. [])) }
+    ensures sets { OnOk result ((W.steps writer.new ≡ W.steps writer.old)
+        ⊎ ((W.steps writer.new ≡ ChangeSamplingMode global sample ∷ W.steps writer.old)
+        × TurnsMode (session_after (W.steps writer.old)) global sample)) }
     ensures users { OnOk result (variables.new.global_from_user ≡ variables.old.global_from_user) }
     ensures unseen { OnOk result (IsUnseen variables.old variables.new (W.steps writer.old) (W.steps writer.new)) }
     ensures fails { IfErr result IsFailure }
@@ -190,7 +195,8 @@ pub fn set_sampling_mode<W: StepWriter>(
     requires stands { Stands variables.old (W.steps writer.old) }
     requires keeps { W.keeps writer.old }
     requires free { IsAssumed variables.old user → ⊥ }
-    ensures does { OnOk result (Does variables.old variables.new (W.steps writer.old) (W.steps writer.new) (λ j. with_mode (judged_mode sample) (user + 1) (bring_in (user + 1) j)) (λ j. map NewName (new_names (user + 1) j) ++ [])) }
+    ensures does { OnOk result (Does variables.old variables.new (W.steps writer.old) (W.steps writer.new)
+        (λ j. with_mode (judged_mode sample) (user + 1) (bring_in (user + 1) j)) (λ j. map NewName (new_names (user + 1) j) ++ [])) }
     ensures others { OnOk result (KeepsOthers variables.old variables.new user) }
     ensures fresh { OnOk result (AreFresh variables.old variables.new) }
     ensures unseen { OnOk result (IsUnseen variables.old variables.new (W.steps writer.old) (W.steps writer.new)) }

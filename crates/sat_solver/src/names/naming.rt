@@ -50,7 +50,8 @@ fn bring_new<W: StepWriter>(
     requires keeps { W.keeps writer.old }
     requires new { names_used variables.old ≤ user }
     ensures variable { IfOk result (λ v. global_of variables.new user ≡ Some v) }
-    ensures names { OnOk result (NamesAll variables.old variables.new (W.steps writer.old) (W.steps writer.new) (names_from (user + 1 - names_used variables.old) (names_used variables.old + 1))) }
+    ensures names { OnOk result (NamesAll variables.old variables.new (W.steps writer.old) (W.steps writer.new)
+        (names_from (user + 1 - names_used variables.old) (names_used variables.old + 1))) }
     ensures leaves { OnOk result (LeavesRoom variables.old variables.new user) }
     ensures room { (us : List ℕ) → HasRoom variables.old (user ∷ us) → IfErr result IsFailure }
     ensures keeps { OnOk result (W.keeps writer.new) }

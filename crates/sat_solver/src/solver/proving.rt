@@ -10,8 +10,8 @@ use crate::solver::Solver;
 use sat_base::CountedWrite;
 
 impl<W: CountedWrite + Drop> Solver<W> {
-    /// Writes the steps that are made from here on to this target, in this format. `TooLate` once a clause, a name, assumptions or an ask came, or while
-    /// a proof is open; the target is dropped then.
+    /// Writes the steps that are made from here on to this target, in this format. `TooLate` once a clause, a name, assumptions or an ask
+    /// came, or while a proof is open; the target is dropped then.
     pub fn write_proof(&mut self, target: W, format: ProofFormat) -> Result<(), SolverError>
         requires { IsSolver self.old }
         ensures solver { IsSolver self.new }
