@@ -5,6 +5,7 @@ pub mod Calls
 pub mod Found
 pub mod Joined
 pub mod Lines
+pub mod Progressing
 pub mod Resting
 pub mod Settling
 pub mod Taking

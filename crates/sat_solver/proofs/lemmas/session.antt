@@ -34,3 +34,4 @@ pub mod ComingLemmas
 pub mod EndedLemmas
 pub mod CheckedLemmas
 pub mod UnitLemmas
+pub mod AskingLemmas

@@ -16,3 +16,4 @@ pub mod StartLemmas
 pub mod EndingLemmas
 pub mod ConfigLemmas
 pub mod KeptLemmas
+pub mod ProgressLemmas

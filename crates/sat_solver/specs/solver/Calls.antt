@@ -15,7 +15,8 @@ use Rattle.sat_solver.specs.names.Live.{Live}
 use Rattle.sat_solver.specs.search.Solving.{AdvancesIn}
 use Rattle.sat_solver.specs.session.Coming.{Comes, EndsAtUnsat}
 use Rattle.sat_solver.specs.session.Making.{Took}
-use Rattle.sat_solver.specs.session.ProofView.{Target, Closed, Open, Broken, HasTold, target_of}
+use Rattle.sat_solver.specs.session.ProofView.{Target, Closed, Open, Broken, HasTold, has_asked, is_open, target_of}
+use Rattle.sat_solver.specs.declared.session.proof.Proof.{Proof}
 use Rattle.sat_solver.specs.declared.solver.Solver.{Solver}
 use Rattle.sat_solver.specs.declared.solver.state.State.{State}
 use Rattle.sat_solver.specs.declared.solver.state.State.TheVariants as states
@@ -86,6 +87,10 @@ IsFlushed Closed = Unit {0}
 IsFlushed (Open f c s) = (s.waiting ≡ []) × (s.writer.flushed ≡ true)
 IsFlushed (Broken w) = Unit {0}
 
+-- where steps are written, it's noted that an ask has begun
+abbrev pub NotesAsk : {W : Type 0} → (W → Writer) → Proof W → Type 0
+NotesAsk seen p = is_open (target_of seen p) ≡ true → has_asked p ≡ true
+
 -- the answer that was known is given again: nothing has changed but the target, to which what waited for it was written
 pub record AnswersAgain {W : Type 0} (old new : Solver W) : Type 0 where
   pub steps : steps_in new ≡ steps_in old
@@ -102,6 +107,7 @@ pub record Answered {W : Type 0} (seen : W → Writer) (old new : Solver W) : Ty
   pub times : new.state ≡ states.Unknown → AdvancesIn (steps_in old) (steps_in new) (new.clock.steps - old.clock.steps)
   pub flushed : IsFlushed (target_of seen new.core.proof)
   pub told : HasTold new.core.proof
+  pub asked : NotesAsk seen new.core.proof
   pub known : (old.state ≡ states.Unknown → ⊥) → AnswersAgain old new
 
 abbrev pub is_answer : State → Bool → Type 0

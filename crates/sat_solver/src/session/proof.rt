@@ -119,6 +119,7 @@ impl<W: CountedWrite + Drop> Proof<W> {
     pub fn begin_ask(&mut self)
         ensures keeps { Keeps self.old → Keeps self.new }
         ensures adds { Adds W.seen [] self.old self.new }
+        ensures asked { has_asked self.new ≡ true }
     {
         self.counting.solving = true;
     }

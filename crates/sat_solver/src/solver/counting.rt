@@ -1,5 +1,8 @@
 //! How far a solver has come.
-ghost use Rattle.std.specs.Prelude.{◌≡◌};
+ghost use Rattle.std.specs.Prelude.{◌≡◌, false, slice_index_or};
+ghost use Rattle.sat_solver.specs.names.Variables.{AreTidy};
+ghost use Rattle.sat_solver.specs.solver.Progressing.{is_open_at, open_vars, open_in, GoesOnIn, CountsClauses};
+ghost use Rattle.sat_solver.specs.solver.Whole.{IsSolver};
 
 use crate::Progress;
 use crate::names::Variables;
@@ -8,7 +11,9 @@ use sat_base::{CountedWrite, Var};
 use sat_store::Tier;
 
 /// Whether a variable has this index, and no value.
-fn is_open(names: &Variables, global: Var, index: usize, values: &[Option<bool>]) -> bool {
+fn is_open(names: &Variables, global: Var, index: usize, values: &[Option<bool>]) -> bool
+    ensures { AreTidy names.now → slice_index_or names.now.globals.items index 0 ≡ global → result ≡ is_open_at names.now values.now index }
+{
     let Some(solver) = names.solver_from_global.fwd().get(global) else {
         return false;
     };
@@ -19,7 +24,9 @@ fn is_open(names: &Variables, global: Var, index: usize, values: &[Option<bool>]
 }
 
 /// The number of variables that have an index, and no value.
-fn open_count(names: &Variables, values: &[Option<bool>]) -> u64 {
+fn open_count(names: &Variables, values: &[Option<bool>]) -> u64
+    ensures { AreTidy names.now → result ≡ open_vars names.now values.now }
+{
     let mut count: u64 = 0;
     for index in 0..names.globals.len() {
         if is_open(names, names.globals[index], index, values) {
@@ -34,6 +41,8 @@ impl<W: CountedWrite + Drop> Solver<W> {
     pub fn progress(&self) -> Progress
         ensures conflicts { result.conflicts ≡ self.now.clock.steps }
         ensures restarts { result.restarts ≡ self.now.clock.restarts.count }
+        ensures vars { IsSolver self.now → self.now.failed ≡ false → result.vars ≡ open_in self.now }
+        ensures clauses { GoesOnIn self.now → CountsClauses result self.now.core.search.parts }
     {
         let parts = &self.core.search.parts;
         Progress {

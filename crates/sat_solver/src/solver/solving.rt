@@ -3,7 +3,7 @@ ghost use Rattle.std.specs.Prelude.{ℕ, ◌≡◌, ◌+◌, ◌-◌, ◌*◌, �
 ghost use Rattle.sat_solver.specs.search.Solving.{values_in};
 ghost use Rattle.sat_solver.specs.solver.Whole.{IsSolver, IsWhole};
 ghost use Rattle.sat_solver.specs.session.ProofView.{HasTold, target_of};
-ghost use Rattle.sat_solver.specs.solver.Calls.{Solves, IsFlushed};
+ghost use Rattle.sat_solver.specs.solver.Calls.{Solves, IsFlushed, NotesAsk};
 ghost use Rattle.sat_solver.specs.solver.Settling.{Settles};
 
 use crate::SolverError;
@@ -43,6 +43,7 @@ impl<W: CountedWrite + Drop> Solver<W> {
         ensures settles { Settles W.seen result self.old self.new }
         ensures flushed { OnOk result (IsFlushed (target_of W.seen self.new.core.proof)) }
         ensures told { OnOk result (HasTold self.new.core.proof) }
+        ensures asked { OnOk result (NotesAsk W.seen self.new.core.proof) }
     {
         self.core.proof.begin_ask();
         self.settle()?;

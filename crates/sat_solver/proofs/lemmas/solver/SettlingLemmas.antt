@@ -53,7 +53,7 @@ use Rattle.sat_solver.specs.declared.solver.finding.Clock.{Clock}
 use Rattle.sat_solver.specs.solver.Joined.{IsJoined, name_of}
 use Rattle.sat_solver.specs.solver.Answering.{Breaks, FlushFails, Failed, line_of}
 use Rattle.sat_solver.specs.solver.Found.{FoundModel, FoundCore, FoundNone, FoundSays}
-use Rattle.sat_solver.specs.solver.Calls.{Answered, Counts, CountsRounds, RoundsOn, IsFlushed, Solves, told_as, told_by}
+use Rattle.sat_solver.specs.solver.Calls.{Answered, Counts, CountsRounds, RoundsOn, IsFlushed, NotesAsk, Solves, told_as, told_by}
 use Rattle.sat_solver.specs.solver.Settling.{Settled}
 use Rattle.sat_solver.specs.solver.Whole.{IsWhole, IsWholeOf, StateSays, GoesOn, HasCore, steps_in, session_in, line_in}
 use Rattle.sat_solver.proofs.lemmas.solver.AnsweredLemmas.{asked_shown, core_among, core_spelt, core_none, joined_by, does_shown, does_failed}
@@ -410,7 +410,7 @@ flushed_by seen p q f = go (target_of seen p) (target_of seen q) f.target
 
 -- CALLS
 
-module _ {W : Type 0} (seen : W → Writer) (s new : Solver W) (settled : Settled seen (record s { used = true }) new) (going : s.failed ≡ false) (flushed : IsFlushed (target_of seen new.core.proof)) (told : HasTold new.core.proof) where
+module _ {W : Type 0} (seen : W → Writer) (s new : Solver W) (settled : Settled seen (record s { used = true }) new) (going : s.failed ≡ false) (flushed : IsFlushed (target_of seen new.core.proof)) (told : HasTold new.core.proof) (asked : NotesAsk seen new.core.proof) where
   -- an ask was looked at
   pub answered : Answered seen s new
   answered = record {
@@ -422,6 +422,7 @@ module _ {W : Type 0} (seen : W → Writer) (s new : Solver W) (settled : Settle
     times = settled.times;
     flushed = flushed;
     told = told;
+    asked = asked;
     known = λ k. let h = settled.known k in record { steps = h.0.history; same = h.1 };
   }
 

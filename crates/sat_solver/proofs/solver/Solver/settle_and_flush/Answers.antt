@@ -1,6 +1,7 @@
 use Rattle.std.proofs.lemmas.Result.{err_from_is_err_and}
 use Rattle.sat_solver.proofs.lemmas.solver.BegunLemmas.{whole_begun, settled_begun, rounds_begun, breaks_begun, flush_begun}
 use Rattle.sat_solver.proofs.lemmas.solver.SettlingLemmas.{settled_flushed, settled_broken, flushed_by}
+use Rattle.sat_solver.proofs.lemmas.session.AskingLemmas.{asked_flushed}
 use Rattle.sat_solver.proofs.solver.Solver.settle_and_flush.Goals as goal
 
 pub settle-requires : goal.settle-requires
@@ -25,3 +26,8 @@ returns-in-Err-clause-settles g c =
     let seen = g.W.CountedWrite.seen in
     let settled = settled_begun seen c.args.self.now c.begin_ask.new.self c.begin_ask.ensures.adds c.settle.new.self c.in_ok-settle.ensures in
     rw c.proof_fault.ensures (settled_broken seen c.args.self.now c.settle.new.self settled c.flush.new.self c.in-Err.error c.in-Err.ensures.flushes)
+
+pub returns-in-Ok-clause-asked : goal.returns-in-Ok-clause-asked
+returns-in-Ok-clause-asked g c =
+    let took = c.in_ok-settle.ensures.took in
+    asked_flushed g.W.CountedWrite.seen took.0 c.begin_ask.new.self c.settle.new.self.core.proof c.flush.new.self c.begin_ask.ensures.asked took.1 c.in-Ok.ensures.flushes

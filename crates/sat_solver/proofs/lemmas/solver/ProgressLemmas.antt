@@ -1,0 +1,64 @@
+-- What a solver counts.
+use Rattle.std.proofs.Common.{ℕ, zero, suc, ◌+◌, ◌<◌, ◌≤◌, ◌≡◌, ◌∙◌, Bool, true, false, not, ◌&&◌, cond, ltb, lt-ltb, List, length, get_or, Option, Some, None, is_some, refl, sym, ap, subst, arith}
+use Rattle.std.proofs.lemmas.Bool.{le-ltb}
+use Rattle.sat_store.specs.clause.Header.{index_of}
+use Rattle.sat_store.specs.declared.clause.tier.Tier.{Tier}
+use Rattle.sat_parts.specs.prop.Values.{value_of}
+use Rattle.sat_solver.specs.declared.names.Variables.{Variables}
+use Rattle.sat_solver.specs.declared.solver.Solver.{Solver}
+use Rattle.sat_solver.specs.declared.solver.state.State.{State}
+use Rattle.sat_solver.specs.declared.solver.state.State.TheVariants as states
+use Rattle.sat_solver.specs.declared.parts.Parts.{Parts}
+use Rattle.sat_solver.specs.names.Counting.{count_to}
+use Rattle.sat_solver.proofs.lemmas.names.Counts.{count_suc}
+use Rattle.sat_solver.specs.names.Variables.{AreTidy, solver_of, global_at}
+use Rattle.sat_solver.specs.parts.Whole.{Holds}
+use Rattle.sat_solver.specs.solver.Progressing.{is_open_at, clauses_of, GoesOnIn}
+use Rattle.sat_solver.specs.solver.Whole.{StateSays}
+
+some_of : (o : Option ℕ) (g : ℕ) → o ≡ Some g → is_some o ≡ true
+some_of o g e = ap is_some e
+
+-- the index is that of the variable that the list has there, or no variable's
+module _ (n : Variables) (values : List (Option Bool)) (x g : ℕ) (tidy : AreTidy n) (its : get_or n.globals.items x 0 ≡ g) where
+  none_there : (solver_of n g ≡ Some x → ⊥) → is_some (global_at n x) ≡ false
+  none_there without = go (global_at n x) refl
+    where
+      go : (o : Option ℕ) → global_at n x ≡ o → is_some o ≡ false
+      go None e = refl
+      go (Some v) e = absurd (without (subst (λ k. solver_of n k ≡ Some x) (sym (tidy.globals x v e) ∙ its) (tidy.solvers.forth v x e)))
+
+  pub closed_other : (solver_of n g ≡ Some x → ⊥) → false ≡ is_open_at n values x
+  closed_other without = sym (ap (λ b. b && (ltb x (length values) && not (is_some (value_of values x)))) (none_there without))
+
+  pub closed_past : length values ≤ x → false ≡ is_open_at n values x
+  closed_past le = sym (ap (λ b. is_some (global_at n x) && (b && not (is_some (value_of values x)))) (le-ltb x (length values) le) ∙ and_none (is_some (global_at n x)))
+    where
+      and_none : (b : Bool) → (b && false) ≡ false
+      and_none true = refl
+      and_none false = refl
+
+  pub open_where : solver_of n g ≡ Some x → x < length values → not (is_some (value_of values x)) ≡ is_open_at n values x
+  open_where has lt =
+      sym (ap (λ b. b && (ltb x (length values) && not (is_some (value_of values x)))) (some_of (global_at n x) g (tidy.solvers.back g x has))
+      ∙ ap (λ b. true && (b && not (is_some (value_of values x)))) (lt-ltb x (length values) lt))
+
+-- the search goes on
+pub parts_hold : {W : Type 0} (s : Solver W) → GoesOnIn s → Holds s.core.search.parts
+parts_hold s h = go s.state refl (h.solver h.going).says
+  where
+    go : (st : State) → s.state ≡ st → StateSays st s.core s.names s.asked s.assumed.items s.told.failed_core.items → Holds s.core.search.parts
+    go states.Unknown e x = x.joined.sound.search.stands.holds
+    go states.Sat e x = x.0.joined.sound.search.stands.holds
+    go states.UnsatUnderAssumptions e x = x.0.joined.sound.search.stands.holds
+    go states.Unsat e x = absurd (h.left e)
+
+-- one index more was looked at
+pub counted_next : (n : Variables) (values : List (Option Bool)) (x count next : ℕ) (open_there : Bool) → count ≡ count_to x (is_open_at n values) → open_there ≡ is_open_at n values x → next ≡ count + cond open_there 1 0 → next ≡ count_to (x + 1) (is_open_at n values)
+counted_next n values x count next b c e s =
+    s ∙ ap (λ k. k + cond b 1 0) c ∙ ap (λ t. count_to x (is_open_at n values) + cond t 1 0) e ∙ sym (count_suc x (is_open_at n values))
+    ∙ ap (λ k. count_to k (is_open_at n values)) (let q : suc x ≡ x + 1 = omega arith in q)
+
+-- the number of a tier is that of its live clauses
+pub tier_count : (p : Parts) → Holds p → (tier : Tier) (r : ℕ) → r ≡ get_or p.db.counts (index_of tier) 0 → r ≡ clauses_of p tier
+tier_count p h tier r e = e ∙ h.below.held.counts tier

@@ -1,0 +1,43 @@
+-- How far a solver has come.
+use Rattle.std.specs.Prelude.{ℕ, ◌≡◌, ◌&&◌, not, false, Bool, Option, is_some, List, length, nat_lt, count_by}
+use Rattle.sat_store.specs.declared.clause.tier.Tier.{Tier}
+use Rattle.sat_store.specs.declared.clause.tier.Tier.TheVariants as tiers
+use Rattle.sat_parts.specs.clause.Db.{is_live_of}
+use Rattle.sat_parts.specs.prop.Values.{value_of}
+use Rattle.sat_solver.specs.declared.names.Variables.{Variables}
+use Rattle.sat_solver.specs.declared.parts.Parts.{Parts}
+use Rattle.sat_solver.specs.declared.progress.Progress.{Progress}
+use Rattle.sat_solver.specs.declared.solver.Solver.{Solver}
+use Rattle.sat_solver.specs.declared.solver.state.State.TheVariants as states
+use Rattle.sat_solver.specs.names.Counting.{count_to}
+use Rattle.sat_solver.specs.names.Variables.{global_at, indices_used}
+use Rattle.sat_solver.specs.solver.Whole.{IsSolver}
+
+-- a variable has this index, and no value
+abbrev pub is_open_at : Variables → List (Option Bool) → ℕ → Bool
+is_open_at n values x = is_some (global_at n x) && (nat_lt x (length values) && not (is_some (value_of values x)))
+
+-- how many variables of the search have no value
+abbrev pub open_vars : Variables → List (Option Bool) → ℕ
+open_vars n values = count_to (indices_used n) (is_open_at n values)
+
+abbrev pub open_in : {W : Type 0} → Solver W → ℕ
+open_in s = open_vars s.names s.core.search.parts.assignment.current
+
+-- no call failed, and the clauses aren't known to be unsatisfiable
+pub record GoesOnIn {W : Type 0} (s : Solver W) : Type 0 where
+  pub solver : IsSolver s
+  pub going : s.failed ≡ false
+  pub left : s.state ≡ states.Unsat → ⊥
+
+-- how many long clauses of a tier weren't deleted
+abbrev pub clauses_of : Parts → Tier → ℕ
+clauses_of p tier = count_by (is_live_of p.clauses tier) p.db.refs
+
+-- clauses as the search has them
+pub record CountsClauses (r : Progress) (p : Parts) : Type 0 where
+  pub binary : r.binary ≡ p.binary.count
+  pub irred : r.irred ≡ clauses_of p tiers.Irred
+  pub core : r.core ≡ clauses_of p tiers.Core
+  pub mid : r.mid ≡ clauses_of p tiers.Mid
+  pub local : r.local ≡ clauses_of p tiers.Local
