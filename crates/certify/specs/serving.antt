@@ -1,4 +1,5 @@
 pub mod Certifies
+pub mod Stretches
 pub mod Serving
 pub mod ServingLaws
 pub mod Calls

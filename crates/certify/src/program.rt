@@ -55,8 +55,8 @@ pub fn program<R: AllocGlobal + Files, I: CountedRead, O: CountedWrite, E: Count
     errors: &mut E,
 ) -> u8
     ensures status { result ≤ 3 }
-    // Without arguments, behind a status of 0 or 1 stand right answers to the script and `c confirmed`. 0 means a script that isn't
-    // malformed.
+    // Without arguments, behind a status of 0 or 1 stand right answers to the script, none of them unknown but where all steps were
+    // spent, and `c confirmed`. 0 means a script that isn't malformed.
     ensures printed { IfOk arguments (λ words. words.items ≡ [] → result ≤ 1
         → PrintsVerdict result (gave I.seen input.old input.new) (took O.seen output.old output.new)) }
 {

@@ -7,6 +7,7 @@ pub mod SolverCalls
 pub mod Converted
 pub mod Recorded
 pub mod Closing
+pub mod MadeCertifies
 pub mod AskServed
 pub mod ClauseServed
 pub mod NoLines

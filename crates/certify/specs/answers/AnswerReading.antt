@@ -67,7 +67,8 @@ BeginWithWordsOf text bytes = (front : List ℕ) × (tail : List ℕ) × ((text 
 
 -- memory is wanted for a literal that was read: with it and those before it the line is in form so far
 abbrev pub WantsRoom : AnswerKind → (List Literal → List ℕ) → List ℕ → Type 0
-WantsRoom k text bytes = HasLine k × ((ls : List Literal) × (l : Literal) × (IsInForm (outcome_of k (ls ++ (l ∷ []))) × BeginWithWordsOf (text (ls ++ (l ∷ []))) bytes))
+WantsRoom k text bytes = HasLine k
+    × ((ls : List Literal) × (l : Literal) × (IsInForm (outcome_of k (ls ++ (l ∷ []))) × BeginWithWordsOf (text (ls ++ (l ∷ []))) bytes))
 
 -- why no literals of a line of this kind are read
 abbrev pub NoLiterals : AnswerKind → List ℕ → AnswerFault → Type 0
@@ -84,7 +85,8 @@ NoKind bytes OutOfMemory = ⊥
 -- why no second line is read
 abbrev pub NoLine : AnswerKind → List ℕ → AnswerFault → Type 0
 NoLine k bytes Missing = HasLine k × (bytes ≡ [])
-NoLine k bytes Text = (bytes ≢ []) × ((ls : List Literal) (tail : List ℕ) → IsInForm (outcome_of k ls) → bytes ≡ second_line (outcome_of k ls) ++ tail → ⊥)
+NoLine k bytes Text = (bytes ≢ [])
+    × ((ls : List Literal) (tail : List ℕ) → IsInForm (outcome_of k ls) → bytes ≡ second_line (outcome_of k ls) ++ tail → ⊥)
 NoLine k bytes OutOfMemory = WantsRoom k (λ ls. second_line (outcome_of k ls)) bytes
 
 -- the bytes are over where a line of an answer is due
@@ -111,8 +113,10 @@ BeginsWithLiterals k bytes line rest = IsInForm (outcome_of k (named_literals li
 
 -- the second line of an answer of this kind, where there is one
 abbrev pub BeginsWithLine : AnswerKind → List ℕ → List ℕ → List ℕ → Type 0
-BeginsWithLine k bytes line rest = IsInForm (outcome_of k (named_literals line)) × (bytes ≡ second_line (outcome_of k (named_literals line)) ++ rest)
+BeginsWithLine k bytes line rest = IsInForm (outcome_of k (named_literals line))
+    × (bytes ≡ second_line (outcome_of k (named_literals line)) ++ rest)
 
 -- an answer
 abbrev pub BeginsWithAnswer : AnswerKind → List ℕ → List ℕ → List ℕ → Type 0
-BeginsWithAnswer k bytes line rest = IsInForm (outcome_of k (named_literals line)) × (bytes ≡ outcome_text (outcome_of k (named_literals line)) ++ rest)
+BeginsWithAnswer k bytes line rest = IsInForm (outcome_of k (named_literals line))
+    × (bytes ≡ outcome_text (outcome_of k (named_literals line)) ++ rest)

@@ -10,7 +10,8 @@ use Rattle.sat_checker.specs.matching.ProofChecking.{the_checking}
 abbrev pub CanMeet : List Step → List Expected → List ℕ → Type 0
 CanMeet earlier es certificate = CertificateMeets the_checking earlier es certificate
 
--- Between two places of the certificate just these are met: whatever is expected behind them, all is met from the one exactly if the rest is met from the other.
+-- Between two places of the certificate just these are met: whatever is expected behind them, all is met from the one exactly if the rest
+-- is met from the other.
 pub record Leads (earlier : List Step) (certificate : List ℕ) (pending : List Expected) (later : List Step) (rest : List ℕ) : Type 0 where
   pub on : (es : List Expected) → CanMeet earlier (pending ++ es) certificate → CanMeet later es rest
   pub back : (es : List Expected) → CanMeet later es rest → CanMeet earlier (pending ++ es) certificate
@@ -30,5 +31,7 @@ pub record Stops (earlier : List Step) (certificate : List ℕ) : Type 0 where
 
 -- the next ordered step is this one: what is expected next is met exactly if the step is that and is accepted
 pub record Offers (earlier : List Step) (certificate : List ℕ) (later : List Step) (step : Step) (rest : List ℕ) : Type 0 where
-  pub on : (e : Expected) (es : List Expected) → CanMeet earlier (e ∷ es) certificate → Fits (the_checking.knows later) later e step × Accepts (ready_after later) step × CanMeet (step ∷ later) es rest
-  pub back : (e : Expected) (es : List Expected) → Fits (the_checking.knows later) later e step → Accepts (ready_after later) step → CanMeet (step ∷ later) es rest → CanMeet earlier (e ∷ es) certificate
+  pub on : (e : Expected) (es : List Expected) → CanMeet earlier (e ∷ es) certificate
+      → Fits (the_checking.knows later) later e step × Accepts (ready_after later) step × CanMeet (step ∷ later) es rest
+  pub back : (e : Expected) (es : List Expected) → Fits (the_checking.knows later) later e step → Accepts (ready_after later) step
+      → CanMeet (step ∷ later) es rest → CanMeet earlier (e ∷ es) certificate

@@ -20,7 +20,8 @@ pub record CertificateMeets (k : Checking) (earlier : List Step) (es : List Expe
   pub meets : Meets k earlier steps es
 
 -- Command n comes next, in this state of the judge; what is pending belongs to the commands before it.
-pub record Left (k : Checking) (j : Judge) (n : ℕ) (earlier : List Step) (pending : List Expected) (commands : List Command) (ending : Ending) (answers certificate : List ℕ) : Type 0 where
+pub record Left (k : Checking) (j : Judge) (n : ℕ) (earlier : List Step) (pending : List Expected)
+    (commands : List Command) (ending : Ending) (answers certificate : List ℕ) : Type 0 where
   pub outcomes : List Outcome
   pub answered : answers ≡ answers_from n j commands ending outcomes
   pub one_each : OneEach (accepted_of j commands) outcomes
@@ -28,7 +29,8 @@ pub record Left (k : Checking) (j : Judge) (n : ℕ) (earlier : List Step) (pend
   pub certified : CertificateMeets k earlier (pending ++ expected j (accepted_of j commands) outcomes) certificate
 
 -- The answer to an ask is still to be read, j being the state after its names came in. Of its names these are pending, and then its assumptions.
-pub record LeftOfAsk (k : Checking) (j : Judge) (n : ℕ) (earlier : List Step) (pending : List Expected) (ask : List Literal) (commands : List Command) (ending : Ending) (answers certificate : List ℕ) : Type 0 where
+pub record LeftOfAsk (k : Checking) (j : Judge) (n : ℕ) (earlier : List Step) (pending : List Expected) (ask : List Literal)
+    (commands : List Command) (ending : Ending) (answers certificate : List ℕ) : Type 0 where
   pub outcome : Outcome
   pub tail : List ℕ
   pub answered : answers ≡ outcome_text outcome ++ tail

@@ -55,10 +55,13 @@ used_in states = used_from 1 states
 abbrev pub ListsUsed : Names → List ℕ → Type 0
 ListsUsed names codes = names_of (named_literals codes) ≡ used_in names.states.items
 
+abbrev pub refusal_in : CodeRefusal → Refusal
+refusal_in code.Limit = PastLimit
+refusal_in (code.Witness v) = WitnessName (v + 1)
+
 abbrev pub refusal_said : Option CodeRefusal → Option Refusal
 refusal_said None = None
-refusal_said (Some code.Limit) = Some PastLimit
-refusal_said (Some (code.Witness v)) = Some (WitnessName (v + 1))
+refusal_said (Some refusal) = Some (refusal_in refusal)
 
 -- why a command is refused, if it is
 abbrev pub Judges : Option CodeRefusal → Names → Lent → Type 0

@@ -93,4 +93,5 @@ abbrev pub TextsThatMatchAreRight : Type 0
 TextsThatMatchAreRight =
     (reading : List ℕ → List Command × Ending) (script answers certificate : List ℕ)
     → Matches the_checking reading script answers certificate
-    → (outcomes : List Outcome) × (answers ≡ answers_text (reading script).0 (reading script).1 outcomes) × AnswersAreRight (reading script).0 outcomes
+    → (outcomes : List Outcome) × (answers ≡ answers_text (reading script).0 (reading script).1 outcomes)
+    × AnswersAreRight (reading script).0 outcomes

@@ -21,7 +21,8 @@ neg n = record { name = n; positive = false }
 
 -- `a 0`
 abbrev pub AskAloneText : Type 0
-AskAloneText = answers_text (Ask [] ∷ []) Clean (Sat [] ∷ []) ≡ 115 ∷ 32 ∷ 83 ∷ 65 ∷ 84 ∷ 73 ∷ 83 ∷ 70 ∷ 73 ∷ 65 ∷ 66 ∷ 76 ∷ 69 ∷ 10 ∷ 118 ∷ 32 ∷ 48 ∷ 10 ∷ []
+AskAloneText = answers_text (Ask [] ∷ []) Clean (Sat [] ∷ [])
+    ≡ 115 ∷ 32 ∷ 83 ∷ 65 ∷ 84 ∷ 73 ∷ 83 ∷ 70 ∷ 73 ∷ 65 ∷ 66 ∷ 76 ∷ 69 ∷ 10 ∷ 118 ∷ 32 ∷ 48 ∷ 10 ∷ []
 
 -- `1 2 0`, `a 0`
 abbrev pub clause_and_ask : List Command
@@ -35,7 +36,8 @@ ClauseAndAskText = answers_text clause_and_ask Clean (Sat (neg 1 ∷ pos 2 ∷ [
 
 abbrev pub ClauseAndAskExpected : Type 0
 ClauseAndAskExpected = expected start clause_and_ask (Sat (neg 1 ∷ pos 2 ∷ []) ∷ [])
-    ≡ NewName 1 ∷ NewName 2 ∷ Adds (pos 1 ∷ pos 2 ∷ []) ∷ Opens [] (Sat (neg 1 ∷ pos 2 ∷ [])) ∷ Shows (1 ∷ 2 ∷ []) [] (neg 1 ∷ pos 2 ∷ []) ∷ Closes ∷ Finish ∷ []
+    ≡ NewName 1 ∷ NewName 2 ∷ Adds (pos 1 ∷ pos 2 ∷ []) ∷ Opens [] (Sat (neg 1 ∷ pos 2 ∷ []))
+    ∷ Shows (1 ∷ 2 ∷ []) [] (neg 1 ∷ pos 2 ∷ []) ∷ Closes ∷ Finish ∷ []
 
 abbrev pub ClauseAndAskRight : Type 0
 ClauseAndAskRight = AnswersAreRight clause_and_ask (Sat (neg 1 ∷ pos 2 ∷ []) ∷ [])
@@ -62,7 +64,8 @@ HiddenAndBackState = after_script hidden_and_back start ≡ record {
 
 abbrev pub HiddenAndBackExpected : Type 0
 HiddenAndBackExpected = expected start hidden_and_back (Sat (neg 1 ∷ []) ∷ [])
-    ≡ NewName 1 ∷ Adds (pos 1 ∷ []) ∷ NoName 1 ∷ NewName 1 ∷ Adds (neg 1 ∷ []) ∷ Opens [] (Sat (neg 1 ∷ [])) ∷ Shows (1 ∷ []) [] (neg 1 ∷ []) ∷ Closes ∷ Finish ∷ []
+    ≡ NewName 1 ∷ Adds (pos 1 ∷ []) ∷ NoName 1 ∷ NewName 1 ∷ Adds (neg 1 ∷ []) ∷ Opens [] (Sat (neg 1 ∷ []))
+    ∷ Shows (1 ∷ []) [] (neg 1 ∷ []) ∷ Closes ∷ Finish ∷ []
 
 -- `h 2 0`, `a 0`: name 1 came in below name 2
 abbrev pub HiddenAtOnceState : Type 0
@@ -107,21 +110,30 @@ TwoUnitsSteps = StepsMatch the_checking two_units (Unsat [] ∷ []) (UserVarName
 -- The same as bytes: name steps, clause, assumptions, model, assumptions, end. What stands behind is of no matter.
 abbrev pub ClauseAndAskMatches : Type 0
 ClauseAndAskMatches = (rest : List ℕ)
-    → MatchesCommands the_checking clause_and_ask Clean clause_and_ask_text (2 ∷ 0 ∷ 1 ∷ 2 ∷ 1 ∷ 2 ∷ 5 ∷ 2 ∷ 0 ∷ 2 ∷ 11 ∷ 0 ∷ 10 ∷ 2 ∷ 1 ∷ 2 ∷ 11 ∷ 0 ∷ 13 ∷ rest)
+    → MatchesCommands the_checking clause_and_ask Clean clause_and_ask_text
+    (2 ∷ 0 ∷ 1 ∷ 2 ∷ 1 ∷ 2 ∷ 5 ∷ 2 ∷ 0 ∷ 2 ∷ 11 ∷ 0 ∷ 10 ∷ 2 ∷ 1 ∷ 2 ∷ 11 ∷ 0 ∷ 13 ∷ rest)
 
 abbrev pub TwoUnitsMatches : Type 0
 TwoUnitsMatches = (rest : List ℕ)
-    → MatchesCommands the_checking two_units Clean (115 ∷ 32 ∷ 85 ∷ 78 ∷ 83 ∷ 65 ∷ 84 ∷ 73 ∷ 83 ∷ 70 ∷ 73 ∷ 65 ∷ 66 ∷ 76 ∷ 69 ∷ 10 ∷ 102 ∷ 32 ∷ 48 ∷ 10 ∷ []) (2 ∷ 0 ∷ 1 ∷ 5 ∷ 1 ∷ 0 ∷ 5 ∷ 1 ∷ 1 ∷ rest)
+    → MatchesCommands the_checking two_units Clean
+    (115 ∷ 32 ∷ 85 ∷ 78 ∷ 83 ∷ 65 ∷ 84 ∷ 73 ∷ 83 ∷ 70 ∷ 73 ∷ 65 ∷ 66 ∷ 76 ∷ 69 ∷ 10 ∷ 102 ∷ 32 ∷ 48 ∷ 10 ∷ [])
+    (2 ∷ 0 ∷ 1 ∷ 5 ∷ 1 ∷ 0 ∷ 5 ∷ 1 ∷ 1 ∷ rest)
 
 -- an empty script matches no answers and `End`
 abbrev pub EmptyMatches : Type 0
 EmptyMatches = (rest : List ℕ) → MatchesCommands the_checking [] Clean [] (13 ∷ rest)
 
--- Where the hidden name comes back on its old variable, nothing matches: whatever is answered, and whatever a checker that knows named variables accepts.
+-- Where the hidden name comes back on its old variable, nothing matches: whatever is answered, and whatever a checker accepts that knows
+-- named variables.
 abbrev pub NameOnOldVariable : Type 0
 NameOnOldVariable = (accepts : List Step → Step → Bool) (unsat : List Step → Bool) (outcomes : List Outcome)
-    → StepsMatch (record { Accepts = λ earlier step. accepts earlier step ≡ true; unsat = unsat; knows = λ earlier v. is_known v (ready_after earlier) }) hidden_and_back outcomes
-    (UserVarName 0 (Some 0) ∷ AddClause (0 ∷ []) ∷ UserVarName 0 None ∷ ChangeSamplingMode 0 true ∷ UserVarName 0 (Some 0) ∷ AddClause (1 ∷ []) ∷ End ∷ [])
+    → StepsMatch (record {
+      Accepts = λ earlier step. accepts earlier step ≡ true;
+      unsat = unsat;
+      knows = λ earlier v. is_known v (ready_after earlier);
+    }) hidden_and_back outcomes
+    (UserVarName 0 (Some 0) ∷ AddClause (0 ∷ []) ∷ UserVarName 0 None ∷ ChangeSamplingMode 0 true
+    ∷ UserVarName 0 (Some 0) ∷ AddClause (1 ∷ []) ∷ End ∷ [])
     → ⊥
 
 -- `1 0`, `a 0`: no answers match with `End` alone
@@ -147,21 +159,25 @@ abbrev pub units_and_ask : List Command
 units_and_ask = Clause (pos 1 ∷ []) ∷ Clause (neg 1 ∷ []) ∷ Clause (pos 2 ∷ []) ∷ Ask [] ∷ []
 
 abbrev pub units_and_ask_steps : List Step
-units_and_ask_steps = End ∷ Assumptions [] ∷ Assumptions [] ∷ UserVarName 1 (Some 1) ∷ AddClause (1 ∷ []) ∷ AddClause (0 ∷ []) ∷ UserVarName 0 (Some 0) ∷ []
+units_and_ask_steps = End ∷ Assumptions [] ∷ Assumptions [] ∷ UserVarName 1 (Some 1)
+    ∷ AddClause (1 ∷ []) ∷ AddClause (0 ∷ []) ∷ UserVarName 0 (Some 0) ∷ []
 
 abbrev pub LeftOutCertified : Type 0
 LeftOutCertified = Certifies the_checking units_and_ask_steps None [] (expected start units_and_ask (Unsat [] ∷ [])) (0 ∷ [])
 
 -- the ask took no round, and has no other outcome
 abbrev pub KnownWithoutRounds : Type 0
-KnownWithoutRounds = (o : Outcome) (n : ℕ) → Certifies the_checking units_and_ask_steps None [] (expected start units_and_ask (o ∷ [])) (n ∷ []) → (o ≡ Unsat []) × (n ≡ 0)
+KnownWithoutRounds = (o : Outcome) (n : ℕ)
+    → Certifies the_checking units_and_ask_steps None [] (expected start units_and_ask (o ∷ [])) (n ∷ []) → (o ≡ Unsat []) × (n ≡ 0)
 
--- `1 0`, `-1 2 0`, `-2 0`, `3 0`, `a 0`: no valuation is left by three clauses, and none of these records unsat, so the fourth one stands, and a derived clause
+-- `1 0`, `-1 2 0`, `-2 0`, `3 0`, `a 0`: no valuation is left by three clauses, and none of these records unsat, so the
+-- fourth one stands, and a derived clause
 abbrev pub chain_and_ask : List Command
 chain_and_ask = Clause (pos 1 ∷ []) ∷ Clause (neg 1 ∷ pos 2 ∷ []) ∷ Clause (neg 2 ∷ []) ∷ Clause (pos 3 ∷ []) ∷ Ask [] ∷ []
 
 abbrev pub chain_steps : List Step
-chain_steps = AddClause (4 ∷ []) ∷ UserVarName 2 (Some 2) ∷ AddClause (3 ∷ []) ∷ AddClause (1 ∷ 2 ∷ []) ∷ UserVarName 1 (Some 1) ∷ AddClause (0 ∷ []) ∷ UserVarName 0 (Some 0) ∷ []
+chain_steps = AddClause (4 ∷ []) ∷ UserVarName 2 (Some 2) ∷ AddClause (3 ∷ []) ∷ AddClause (1 ∷ 2 ∷ [])
+    ∷ UserVarName 1 (Some 1) ∷ AddClause (0 ∷ []) ∷ UserVarName 0 (Some 0) ∷ []
 
 abbrev pub ChainCertified : Type 0
 ChainCertified = (hashes : List ℕ) → Certifies the_checking (End ∷ Assumptions [] ∷ AtClause false [] hashes ∷ Assumptions [] ∷ chain_steps) None []
@@ -169,13 +185,15 @@ ChainCertified = (hashes : List ℕ) → Certifies the_checking (End ∷ Assumpt
 
 -- Steps that it may not: what the ask records isn't answered
 abbrev pub UnknownUncertified : Type 0
-UnknownUncertified = (hashes counts : List ℕ) → Certifies the_checking (End ∷ Assumptions [] ∷ AtClause false [] hashes ∷ Assumptions [] ∷ chain_steps) None []
+UnknownUncertified = (hashes counts : List ℕ)
+    → Certifies the_checking (End ∷ Assumptions [] ∷ AtClause false [] hashes ∷ Assumptions [] ∷ chain_steps) None []
     (expected start chain_and_ask (Unknown ∷ [])) counts → ⊥
 
 -- the fourth clause isn't there
 abbrev pub EarlyUncertified : Type 0
 EarlyUncertified = (counts : List ℕ) → Certifies the_checking
-    (End ∷ Assumptions [] ∷ Assumptions [] ∷ UserVarName 2 (Some 2) ∷ AddClause (3 ∷ []) ∷ AddClause (1 ∷ 2 ∷ []) ∷ UserVarName 1 (Some 1) ∷ AddClause (0 ∷ []) ∷ UserVarName 0 (Some 0) ∷ [])
+    (End ∷ Assumptions [] ∷ Assumptions [] ∷ UserVarName 2 (Some 2) ∷ AddClause (3 ∷ []) ∷ AddClause (1 ∷ 2 ∷ [])
+    ∷ UserVarName 1 (Some 1) ∷ AddClause (0 ∷ []) ∷ UserVarName 0 (Some 0) ∷ [])
     None [] (expected start chain_and_ask (Unsat [] ∷ [])) counts → ⊥
 
 -- `1 0`, `-1 0`, `a 1 0` with a core that isn't empty, whether its step stands or not
@@ -186,15 +204,18 @@ CoreUncertified = (shown : List Step) (counts : List ℕ)
 
 -- `1 0`, `a 0` with `End` alone
 abbrev pub EndAloneUncertified : Type 0
-EndAloneUncertified = (outcomes : List Outcome) (counts : List ℕ) → Certifies the_checking (End ∷ []) None [] (expected start (Clause (pos 1 ∷ []) ∷ Ask [] ∷ []) outcomes) counts → ⊥
+EndAloneUncertified = (outcomes : List Outcome) (counts : List ℕ)
+    → Certifies the_checking (End ∷ []) None [] (expected start (Clause (pos 1 ∷ []) ∷ Ask [] ∷ []) outcomes) counts → ⊥
 
 -- `1 0` without its clause
 abbrev pub ClauseUncertified : Type 0
-ClauseUncertified = (counts : List ℕ) → Certifies the_checking (End ∷ UserVarName 0 (Some 0) ∷ []) None [] (expected start (Clause (pos 1 ∷ []) ∷ []) []) counts → ⊥
+ClauseUncertified = (counts : List ℕ)
+    → Certifies the_checking (End ∷ UserVarName 0 (Some 0) ∷ []) None [] (expected start (Clause (pos 1 ∷ []) ∷ []) []) counts → ⊥
 
 -- `a 0`, satisfiable, without its model
 abbrev pub ModelUncertified : Type 0
-ModelUncertified = (counts : List ℕ) → Certifies the_checking (End ∷ Assumptions [] ∷ Assumptions [] ∷ []) None [] (expected start (Ask [] ∷ []) (Sat [] ∷ [])) counts → ⊥
+ModelUncertified = (counts : List ℕ)
+    → Certifies the_checking (End ∷ Assumptions [] ∷ Assumptions [] ∷ []) None [] (expected start (Ask [] ∷ []) (Sat [] ∷ [])) counts → ⊥
 
 -- an empty script with a step behind `End`
 abbrev pub BehindEndUncertified : Type 0

@@ -36,7 +36,8 @@ abbrev pub ToConfirm : Judge → ℕ → List Step → List Command → Ending �
 ToConfirm j n earlier commands ending answers certificate = Left the_checking j n earlier [] commands ending answers certificate
 
 -- Command n is confirmed: what was to be confirmed is so exactly if the rest is.
-pub record Confirmed (before behind : List ℕ) (old new : View) (j : Judge) (earlier : List Step) (n : ℕ) (command : Command) (t : Table) : Type 0 where
+pub record Confirmed (before behind : List ℕ) (old new : View) (j : Judge) (earlier : List Step) (n : ℕ)
+    (command : Command) (t : Table) : Type 0 where
   pub later : List Step
   pub stands : HoldsAt t new (after_command command j) later
   pub on : (commands : List Command) (ending : Ending) → ToConfirm j n earlier (command ∷ commands) ending before old.rest
@@ -96,7 +97,8 @@ ConfirmsLast n script t before old (Err why) =
     (j : Judge) (earlier : List Step) → HoldsAt t old j earlier → ToConfirm j n earlier script.0 script.1 before old.rest → ⊥
 
 -- So far: from one command on the script was confirmed up to another, and what was to be confirmed is so exactly if the rest is.
-pub record IsThrough (old new : View) (j : Judge) (earlier : List Step) (n : ℕ) (script : Reading) (before : List ℕ) (m : ℕ) (left : Reading) (next : Table) (behind : List ℕ) : Type 0 where
+pub record IsThrough (old new : View) (j : Judge) (earlier : List Step) (n : ℕ) (script : Reading) (before : List ℕ)
+    (m : ℕ) (left : Reading) (next : Table) (behind : List ℕ) : Type 0 where
   pub judge : Judge
   pub later : List Step
   pub stands : HoldsAt next new judge later

@@ -6,7 +6,6 @@ use Rattle.sat_base.specs.device.Reading.{Source, Passes, PassesToEnd}
 use Rattle.sat_base.specs.declared.device.whole.ReadError.{ReadError}
 use Rattle.sat_base.specs.declared.device.whole.ReadError.TheVariants as errors
 use Rattle.sat_base.specs.script.Script.{Literal}
-use Rattle.sat_base.specs.script.Judge.{Refusal, PastLimit, WitnessName}
 use Rattle.sat_checker.specs.matching.Expected.{Outcome, Unsat}
 use Rattle.certify.specs.answers.Answers.{outcome_text}
 use Rattle.certify.specs.answers.AnswerForms.{IsInForm, named_literals}
@@ -18,8 +17,6 @@ use Rattle.certify.specs.declared.answers.read.AnswerFault.TheVariants as unread
 use Rattle.certify.specs.declared.answers.read.AnswerKind.{AnswerKind}
 use Rattle.certify.specs.declared.confirm.stop.Stop.{Stop}
 use Rattle.certify.specs.declared.confirm.stop.Stop.TheVariants as stop
-use Rattle.certify.specs.declared.judge.Refusal.{Refusal as CodeRefusal}
-use Rattle.certify.specs.declared.judge.Refusal.TheVariants as code
 use Rattle.certify.specs.declared.matching.answers.Answers.{Answers}
 use Rattle.certify.specs.declared.matching.answers.Reply.{Reply}
 use Rattle.certify.specs.declared.matching.halt.Halt.{Halt}
@@ -76,10 +73,6 @@ NextLine (Err halt.TooMany) a b line = ⊥
 -- the answers' reader, and what was read of it
 abbrev pub answers_source : {A : Type 0} → (A → Reader) → A → Answers → Source
 answers_source seen answers s = source_in seen answers s.lines.ahead
-
-abbrev pub refusal_in : CodeRefusal → Refusal
-refusal_in code.Limit = PastLimit
-refusal_in (code.Witness v) = WitnessName (v + 1)
 
 -- the line was taken, or isn't there
 abbrev pub TakesLine : List ℕ → List ℕ → List ℕ → Result (Unit {0}) Why → Type 0

@@ -25,7 +25,8 @@ stream_in seen steps m = stream_of seen steps (kernel_of m.certificate.checker)
 
 -- A call that confirms: the certificate's reader stays the same one and goes on where the call does, and P says what it makes of
 -- answers and certificate. M is so where the commands are too many.
-pub record ConfirmsBoth {A C T : Type 0} (M : Type 0) (goes : Bool) (result : Result T Halt) (seen : A → Reader) (steps_seen : C → Reader) (old_answers new_answers : A)
+pub record ConfirmsBoth {A C T : Type 0} (M : Type 0) (goes : Bool) (result : Result T Halt)
+    (seen : A → Reader) (steps_seen : C → Reader) (old_answers new_answers : A)
     (old new : StepReader C Buffers) (before after : Session) (P : List ℕ → List ℕ → View → View → Result T Why → Type 0) : Type 0 where
   pub same : reader_name new ≡ reader_name old
   pub bound : (reader_source steps_seen new).reads ≤ most_reads

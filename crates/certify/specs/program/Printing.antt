@@ -4,9 +4,10 @@ use Rattle.sat_base.specs.device.Device.{Reader, Writer, GaveEnough, Takes}
 use Rattle.sat_base.specs.script.Script.{Ending, Clean, Malformed}
 use Rattle.sat_checker.specs.matching.ProofChecking.{the_checking}
 use Rattle.certify.specs.confirm.Matches.{Matches}
-use Rattle.certify.specs.confirm.VerdictPromises.{AreRightAnswers, Exact}
+use Rattle.certify.specs.confirm.VerdictPromises.{Exact}
 use Rattle.certify.specs.reading.Language.{reading}
-use Rattle.certify.specs.run.FinishedRun.{Answered}
+use Rattle.certify.specs.run.FinishedRun.{Answered, Answers}
+use Rattle.certify.specs.run.StepsLeft.{largest_count}
 use Rattle.certify.specs.declared.summary.Summary.{Summary}
 use Rattle.certify.specs.declared.verdict.Verdict.{Verdict}
 use Rattle.certify.specs.declared.verdict.Verdict.TheVariants.{Yes, No}
@@ -87,16 +88,20 @@ abbrev pub is_malformed : Ending → Bool
 is_malformed Clean = false
 is_malformed Malformed = true
 
+-- a run with all steps allowed answers a text so: each answer is right, and none is unknown but where all steps were spent
+abbrev pub IsAnswered : List ℕ → List ℕ → Type 0
+IsAnswered text answers = (summary : Summary) × Answers text largest_count summary answers
+
 -- what a run wrote for a text in memory: right answers, and a certificate that matches
 pub record IsWritten (text : List ℕ) (w : Written) : Type 0 where
   pub malformed : w.malformed ≡ is_malformed (reading text).1
-  pub right : AreRightAnswers text w.answers.items
+  pub answered : IsAnswered text w.answers.items
   pub matches : Matches the_checking reading text w.answers.items w.certificate.items
 
 -- Right answers to a text were printed, and behind them that they are confirmed. The status is 0 exactly where the text isn't malformed.
 pub record Prints (status : ℕ) (text : List ℕ) (old new : Writer) : Type 0 where
   pub answers : List ℕ
-  pub right : AreRightAnswers text answers
+  pub answered : IsAnswered text answers
   pub printed : Takes old new (answers ++ verdict_text Yes)
   pub flushed : new.flushed ≡ true
   pub done : (status ≡ 0) ↔ (is_malformed (reading text).1 ≡ false)

@@ -3,16 +3,19 @@ use Rattle.std.specs.Prelude.{ℕ, ◌+◌, ◌≡◌, ◌≤◌, true, Option, 
 use Rattle.sat_base.specs.device.Device.{Reader, Writer, GaveEnough, Takes}
 use Rattle.sat_base.specs.script.Script.{Command, Ending, Clean, Malformed}
 use Rattle.sat_base.specs.script.Judge.{Judge, refusal_of, after_command, accepted_of, start}
-use Rattle.sat_base.specs.steps.Steps.{Step}
+use Rattle.sat_base.specs.steps.Steps.{Step, End}
 use Rattle.sat_base.specs.steps.StepText.{SpellsSteps}
 use Rattle.certify.specs.answers.Answers.{answers_text}
 use Rattle.sat_checker.specs.Accepts.{AcceptsAll}
 use Rattle.sat_checker.specs.matching.Expected.{Outcome, Sat, Unsat, Unknown, expected}
 use Rattle.certify.specs.answers.RightAnswers.{AnswersAreRight}
 use Rattle.sat_checker.specs.matching.ProofChecking.{the_checking}
+use Rattle.sat_solver.specs.declared.session.counting.Counting.{Counting}
+use Rattle.sat_solver.specs.session.Counting.{start as uncounted, Cuts}
 use Rattle.certify.specs.reading.Language.{reading, written}
 use Rattle.certify.specs.run.StepsLeft.{steps_left}
 use Rattle.certify.specs.serving.Certifies.{Certifies}
+use Rattle.certify.specs.serving.Stretches.{MadeFor}
 use Rattle.certify.specs.declared.fault.RunFault.{RunFault}
 use Rattle.certify.specs.declared.summary.Answer.{Answer}
 use Rattle.certify.specs.declared.summary.Answer.TheVariants as kind
@@ -63,6 +66,7 @@ pub record Answers (text : List ℕ) (budget : ℕ) (summary : Summary) (answere
 
 -- What its certificate is to the answers: it spells steps, the oldest first, which are, in order, those of the accepted commands and of
 -- these outcomes, which took the steps that the summary reports. Each is accepted in its turn. The list has the newest first.
+-- Beside them it has such as the solver makes for commands and asks, in their places, and widths for their hashes.
 pub record Backs (text : List ℕ) (summary : Summary) (answered certified : List ℕ) : Type 0 where
   pub outcomes : List Outcome
   pub right : AnswersAreRight (reading text).0 outcomes
@@ -72,6 +76,11 @@ pub record Backs (text : List ℕ) (summary : Summary) (answered certified : Lis
   pub accepted : AcceptsAll steps
   pub certifies : Certifies the_checking steps None []
       (expected start (accepted_of start (reading text).0) outcomes) (asked_steps summary.asks.items)
+  -- what the solver made, up to the end, and how it was written
+  pub made : List Step
+  pub follows : MadeFor start [] made (accepted_of start (reading text).0) outcomes (asked_steps summary.asks.items)
+  pub counting : Counting
+  pub cuts : Cuts uncounted (End ∷ made) steps counting
 
 -- WHAT THREE DEVICES SHOW OF IT
 

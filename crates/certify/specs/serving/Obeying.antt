@@ -4,6 +4,7 @@ use Rattle.sat_base.specs.device.Device.{Writer}
 use Rattle.sat_base.specs.script.Script.{Command, Hide, Witness, Sample}
 use Rattle.sat_base.specs.script.Judge.{Judge, Sampled, Witnessed, accepted}
 use Rattle.sat_base.specs.steps.Steps.{Step}
+use Rattle.sat_checker.specs.matching.ProofChecking.{the_checking}
 use Rattle.sat_solver.specs.declared.error.SolverError.{SolverError}
 use Rattle.sat_solver.specs.declared.solver.Solver.{Solver}
 use Rattle.sat_solver.specs.names.Calls.{Agree}
@@ -16,7 +17,7 @@ use Rattle.sat_solver.specs.solver.Whole.{steps_in}
 use Rattle.certify.specs.declared.judge.NameState.{NameState}
 use Rattle.certify.specs.declared.judge.NameState.TheVariants as state
 use Rattle.certify.specs.serving.Calls.{IsReady, proof_in}
-use Rattle.certify.specs.serving.Serving.{Leads, due_for}
+use Rattle.certify.specs.serving.Stretches.{MayFor, Stretch, due_for}
 
 -- the command by which names get this state
 abbrev pub command_to : NameState → List ℕ → Command
@@ -48,4 +49,5 @@ pub record Obeyed {C : Type 0} (seen : C → Writer) (c : Command) (old new : So
   pub assumed : new.assumed ≡ old.assumed
   pub clock : new.clock ≡ old.clock
   pub keeps : (j : Judge) (live : Live) → Agree old.names (steps_in old) j live
-      → (then : Live) × Agree new.names (steps_in new) (accepted c j) then × Leads (steps_in old) (steps_in new) (due_for c j)
+      → (then : Live) × Agree new.names (steps_in new) (accepted c j) then
+      × Stretch (MayFor c) (steps_in old) (steps_in new) (due_for (the_checking.unsat (steps_in old)) c j)

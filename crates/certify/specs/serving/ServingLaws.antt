@@ -7,12 +7,14 @@ use Rattle.sat_base.specs.script.Judge.{Judge, Refusal, IsRightCore, accepted, i
 use Rattle.sat_base.specs.steps.Steps.{Step}
 use Rattle.sat_checker.specs.LiteralSets.{canonical}
 use Rattle.sat_checker.specs.matching.Expected.{Outcome}
+use Rattle.sat_checker.specs.matching.ProofChecking.{the_checking}
 use Rattle.certify.specs.answers.AnswerForms.{named_literals}
 use Rattle.certify.specs.answers.Answers.{refused_line, outcome_text}
 use Rattle.certify.specs.answers.RightAnswers.{IsRight}
 use Rattle.certify.specs.laws.Laws.{NamesIncrease}
 use Rattle.certify.specs.run.FinishedRun.{IsSpent, kind_of}
-use Rattle.certify.specs.serving.Serving.{AskSteps, IsNoAsk, Leads, Place, Serves, behind, due_for}
+use Rattle.certify.specs.serving.Serving.{Place, Serves, behind}
+use Rattle.certify.specs.serving.Stretches.{AskStretches, IsNoAsk, MayFor, Stretch, due_for}
 use Rattle.certify.specs.declared.summary.AskReport.{AskReport}
 
 -- what serves some commands and then others serves them all
@@ -28,13 +30,14 @@ RefusalServes = (budget : ℕ) (a : Place) (c : Command) (r : Refusal) → refus
 -- one that isn't refused and is no ask is answered by nothing, where what is due for it was made
 abbrev pub PlainServes : Type 0
 PlainServes = (budget : ℕ) (a : Place) (c : Command) (steps : List Step) → IsNoAsk c → refusal_of a.judge c ≡ None
-    → Leads a.steps steps (due_for c a.judge) → Serves budget a (behind a c steps a.rounds) (c ∷ []) [] [] 0
+    → Stretch (MayFor c) a.steps steps (due_for (the_checking.unsat a.steps) c a.judge)
+    → Serves budget a (behind a c steps a.rounds) (c ∷ []) [] [] 0
 
 -- an ask is answered by its outcome, where that is right and took no more rounds than there might be
 abbrev pub AskServes : Type 0
 AskServes = (budget : ℕ) (a : Place) (ls : List Literal) (o : Outcome) (report : AskReport) (steps : List Step) → refusal_of a.judge (Ask ls) ≡ None
     → IsRight (accepted (Ask ls) a.judge) ls o → report.answer ≡ kind_of o → IsSpent budget a.rounds report
-    → AskSteps a.steps steps a.judge ls o report.steps
+    → AskStretches a.judge ls o report.steps a.steps steps
     → Serves budget a (behind a (Ask ls) steps (a.rounds + report.steps)) (Ask ls ∷ []) (outcome_text o) (report ∷ []) 0
 
 -- each number is below those behind it

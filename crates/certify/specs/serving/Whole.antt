@@ -1,5 +1,5 @@
 -- How a script is served that is read as its commands are wanted, whatever would follow in it. Lists of steps have the newest first.
-use Rattle.std.specs.Prelude.{ℕ, ◌+◌, ◌≡◌, true, false, Option, None, List, [], ◌∷◌, ◌++◌, map, length, Result, Ok, Err}
+use Rattle.std.specs.Prelude.{ℕ, ◌+◌, ◌≡◌, true, false, Option, List, ◌++◌, map, length, Result, Ok, Err}
 use Rattle.sat_base.specs.declared.device.whole.ReadError.{ReadError}
 use Rattle.sat_base.specs.declared.device.whole.ReadError.TheVariants as errors
 use Rattle.sat_base.specs.device.Device.{Writer, Takes}
@@ -7,8 +7,7 @@ use Rattle.sat_base.specs.device.Reading.{Source}
 use Rattle.sat_base.specs.script.Script.{Command, Reading, onto_commands}
 use Rattle.sat_base.specs.script.Judge.{Judge, accepted_of}
 use Rattle.sat_base.specs.steps.Steps.{Step}
-use Rattle.sat_checker.specs.matching.Expected.{Outcome, Finish, expected}
-use Rattle.sat_checker.specs.matching.ProofChecking.{the_checking}
+use Rattle.sat_checker.specs.matching.Expected.{Outcome}
 use Rattle.sat_solver.specs.declared.solver.Solver.{Solver}
 use Rattle.sat_solver.specs.session.Making.{Took, Broke}
 use Rattle.sat_solver.specs.solver.Whole.{steps_in}
@@ -25,12 +24,13 @@ use Rattle.certify.specs.reading.Ahead.{Failed, Kept, Took as TookOf}
 use Rattle.certify.specs.reading.Commands.{Means, MeansIf}
 use Rattle.certify.specs.run.FinishedRun.{refused_count, malformed_at, kind_of, AreSpent, asked_steps}
 use Rattle.certify.specs.serving.Calls.{IsReady, proof_in}
-use Rattle.certify.specs.serving.Certifies.{Certifies}
 use Rattle.certify.specs.serving.Serving.{Place, Serves}
 use Rattle.certify.specs.serving.Standing.{GoesOn, IsAt, place_in}
+use Rattle.certify.specs.serving.Stretches.{MadeFor}
 
 -- These commands were served, one after another.
-pub record ServedAll {C : Type 0} (seen : C → Writer) (j : Judge) (commands : List Command) (old new : Session C) (before after : Writer) : Type 0 where
+pub record ServedAll {C : Type 0} (seen : C → Writer) (j : Judge) (commands : List Command)
+    (old new : Session C) (before after : Writer) : Type 0 where
   pub judge : Judge
   pub at : IsAt new judge
   pub took : Took seen (proof_in old.solver) (proof_in new.solver)
@@ -46,18 +46,19 @@ pub record ServedAll {C : Type 0} (seen : C → Writer) (j : Judge) (commands : 
 
 -- From this place on the whole script was served, which made these steps. This was answered, these are the reports of the asks, and
 -- so many commands were refused.
-pub record ServesTo (budget : ℕ) (a : Place) (script : Reading) (to : List Step) (answered : List ℕ) (reports : List AskReport) (refused : ℕ) : Type 0 where
+pub record ServesTo (budget : ℕ) (a : Place) (script : Reading) (to : List Step)
+    (answered : List ℕ) (reports : List AskReport) (refused : ℕ) : Type 0 where
   pub outcomes : List Outcome
   pub right : AreRight a.judge (accepted_of a.judge script.0) outcomes
   pub says : answers_from a.number a.judge script.0 script.1 outcomes ≡ answered
   pub refuses : refused_count a.judge script.0 ≡ refused
   pub kinds : map (λ r. r.answer) reports ≡ map kind_of outcomes
   pub spent : AreSpent budget a.rounds reports
-  pub certifies : (all : List Step) → Certifies the_checking all None to (Finish ∷ []) []
-      → Certifies the_checking all None a.steps (expected a.judge (accepted_of a.judge script.0) outcomes) (asked_steps reports)
+  pub follows : MadeFor a.judge a.steps to (accepted_of a.judge script.0) outcomes (asked_steps reports)
 
 -- The whole script was served, in which so many commands stand. It is malformed at this command, if it is.
-pub record ServesWhole {C : Type 0} (seen : C → Writer) (j : Judge) (script : Reading) (count : ℕ) (at : Option ℕ) (old new : Session C) (before after : Writer) : Type 0 where
+pub record ServesWhole {C : Type 0} (seen : C → Writer) (j : Judge) (script : Reading) (count : ℕ) (at : Option ℕ)
+    (old new : Session C) (before after : Writer) : Type 0 where
   pub took : Took seen (proof_in old.solver) (proof_in new.solver)
   pub counted : new.commands ≡ old.commands + count
   pub ends : at ≡ malformed_at (old.commands + length script.0 + 1) script.1
@@ -71,7 +72,8 @@ pub record ServesWhole {C : Type 0} (seen : C → Writer) (j : Judge) (script : 
 
 -- Between two of these commands were served; behind them the reader of scripts stands where `left` says what is left, and `plain` what
 -- is left of the commands that stand in the text.
-pub record GoesThrough {C : Type 0} (seen : C → Writer) (j : Judge) (text counted : List ℕ → Reading) (a b : Source) (reader : ScriptReader) (old new : Session C) (before after : Writer) : Type 0 where
+pub record GoesThrough {C : Type 0} (seen : C → Writer) (j : Judge) (text counted : List ℕ → Reading) (a b : Source)
+    (reader : ScriptReader) (old new : Session C) (before after : Writer) : Type 0 where
   pub commands : List Command
   pub left : List ℕ → Reading
   pub means : Means reader left

@@ -1,12 +1,28 @@
 //! Writes the lines of refused commands.
-ghost use Rattle.std.specs.Prelude.{◌≡◌, ◌++◌, ◌∷◌, OnOk, Some};
-ghost use Rattle.sat_base.specs.script.Judge.{Refusal as Why, WitnessName};
-ghost use Rattle.certify.specs.answers.Answers.{refused_line, refusal_text};
-ghost use Rattle.certify.specs.judge.Names.{refusal_said};
+ghost use Rattle.std.specs.Prelude.{◌≡◌, ◌+◌, ◌++◌, OnOk};
+ghost use Rattle.sat_base.specs.script.Judge.{WitnessName};
+ghost use Rattle.certify.specs.answers.Answers.{refused_line};
+ghost use Rattle.certify.specs.judge.Names.{refusal_in};
+ghost use Rattle.certify.specs.matching.Lines.{IsLine};
 
-use super::write::push_number;
+use super::write::{push_number, push_refused_limit};
 use crate::judge::Refusal;
+use sat_base::Var;
 use std::alloc::AllocError;
+
+/// Appends the line that refuses the command of this number for a name in use of mode witness.
+fn push_refused_witness(out: &mut Vec<u8>, command: u64, name: Var) -> Result<(), AllocError>
+    ensures text { OnOk result (out.new.items ≡ out.old.items ++ refused_line command (WitnessName (name + 1))) }
+    ensures line { OnOk result (IsLine (refused_line command (WitnessName (name + 1)))) }
+{
+    let number = name.index() as u64 + 1;
+    out.extend_from_slice(b"c refused ")?;
+    push_number(out, command)?;
+    out.extend_from_slice(b" witness ")?;
+    push_number(out, number)?;
+    out.push(b'\n')?;
+    Ok(())
+}
 
 /// Appends the line that refuses the command of this number.
 pub(crate) fn push_refused(
@@ -14,22 +30,11 @@ pub(crate) fn push_refused(
     command: u64,
     refusal: Refusal,
 ) -> Result<(), AllocError>
-    ensures { (why : Why) → refusal_said (Some refusal) ≡ Some why → OnOk result (out.new.items ≡ out.old.items ++ refused_line command why) }
+    ensures text { OnOk result (out.new.items ≡ out.old.items ++ refused_line command (refusal_in refusal)) }
+    ensures line { OnOk result (IsLine (refused_line command (refusal_in refusal))) }
 {
-    out.extend_from_slice(b"c refused ")?;
-    push_number(out, command)?;
     match refusal {
-        Refusal::Limit => out.extend_from_slice(b" limit\n"),
-        Refusal::Witness(var) => push_witness(out, var.index() as u64 + 1),
+        Refusal::Limit => push_refused_limit(out, command),
+        Refusal::Witness(name) => push_refused_witness(out, command, name),
     }
-}
-
-/// Appends that the name of this number is of mode witness, and LF.
-fn push_witness(out: &mut Vec<u8>, name: u64) -> Result<(), AllocError>
-    ensures { OnOk result (out.new.items ≡ out.old.items ++ 32 ∷ refusal_text (WitnessName name)) }
-{
-    out.extend_from_slice(b" witness ")?;
-    push_number(out, name)?;
-    out.push(b'\n')?;
-    Ok(())
 }

@@ -1,24 +1,25 @@
 //! The answers to a script, as they are due.
-ghost use Rattle.std.specs.Prelude.{◌≡◌, ◌+◌, ◌++◌, [], true, false, OnOk};
+ghost use Rattle.std.specs.Prelude.{◌≡◌, [], true, false};
 ghost use Rattle.std.specs.Bool.{MatchBool};
-ghost use Rattle.sat_base.specs.script.Judge.{WitnessName};
 ghost use Rattle.certify.specs.answers.Answers.{malformed_line, refused_line};
 ghost use Rattle.certify.specs.answers.AnswerForms.{named_literals};
 ghost use Rattle.certify.specs.answers.AnswerReading.{outcome_of};
 ghost use Rattle.certify.specs.matching.Lines.{TakesLine, stop_after};
 ghost use Rattle.certify.specs.matching.Halting.{Replies, SaysSo};
-ghost use Rattle.certify.specs.matching.Lines.{IsLine, IsReply, NextLine, ReadsFirst, ReadsSecond, answers_source, refusal_in};
+ghost use Rattle.certify.specs.matching.Lines.{IsLine, IsReply, NextLine, ReadsFirst, ReadsSecond, answers_source};
+ghost use Rattle.certify.specs.judge.Names.{refusal_in};
 ghost use Rattle.certify.specs.reading.Ahead.{IsOpen, waiting};
 
 use crate::answers::read::{AnswerFault, AnswerKind, read_kind, read_line};
-use crate::answers::write::{push_malformed, push_number, push_refused_limit};
+use crate::answers::refused::push_refused;
+use crate::answers::write::push_malformed;
 use crate::confirm::stop::Stop;
 use crate::judge::Refusal;
 use crate::matching::halt::{Halt, unread_answers};
 use crate::matching::lines::Lines;
 use crate::verdict::Why;
-use sat_base::{CountedRead, Lit, Var};
-use std::alloc::{AllocError, Global};
+use sat_base::{CountedRead, Lit};
+use std::alloc::Global;
 
 /// An answer, and the literals of its line by the indices of their names.
 #[derive(Drop)]
@@ -34,31 +35,6 @@ pub(crate) struct Answers {
     pub reply: Reply,
     /// A line that is due.
     due: Vec<u8>,
-}
-
-/// Appends the line that refuses the command of this number for a name in use of mode witness.
-fn push_refused_witness(out: &mut Vec<u8>, command: u64, name: Var) -> Result<(), AllocError>
-    ensures text { OnOk result (out.new.items ≡ out.old.items ++ refused_line command (WitnessName (name + 1))) }
-    ensures line { OnOk result (IsLine (refused_line command (WitnessName (name + 1)))) }
-{
-    let number = name.index() as u64 + 1;
-    out.extend_from_slice(b"c refused ")?;
-    push_number(out, command)?;
-    out.extend_from_slice(b" witness ")?;
-    push_number(out, number)?;
-    out.push(b'\n')?;
-    Ok(())
-}
-
-/// Appends the line that refuses the command of this number.
-fn push_refused(out: &mut Vec<u8>, command: u64, refusal: Refusal) -> Result<(), AllocError>
-    ensures text { OnOk result (out.new.items ≡ out.old.items ++ refused_line command (refusal_in refusal)) }
-    ensures line { OnOk result (IsLine (refused_line command (refusal_in refusal))) }
-{
-    match refusal {
-        Refusal::Limit => push_refused_limit(out, command),
-        Refusal::Witness(name) => push_refused_witness(out, command, name),
-    }
 }
 
 fn is_same(line: &[u8], due: &[u8]) -> bool

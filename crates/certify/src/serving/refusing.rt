@@ -1,7 +1,6 @@
 //! Refuses commands.
-ghost use Rattle.std.specs.Prelude.{◌≡◌, ◌+◌, ◌<◌, OnOk, Some};
-ghost use Rattle.sat_base.specs.script.Judge.{Refusal as Why};
-ghost use Rattle.certify.specs.judge.Names.{refusal_said};
+ghost use Rattle.std.specs.Prelude.{◌+◌, ◌<◌, OnOk};
+ghost use Rattle.certify.specs.judge.Names.{refusal_in};
 ghost use Rattle.certify.specs.serving.Standing.{Refused, WritesBoth};
 
 use super::session::Session;
@@ -18,8 +17,7 @@ pub fn refuse<A: CountedWrite, C: CountedWrite + Drop>(
     refusal: Refusal,
 ) -> Result<(), RunFault>
     requires { session.old.refused < session.old.commands }
-    ensures refused { (why : Why) → refusal_said (Some refusal) ≡ Some why
-        → OnOk result (Refused session.old session.new why (A.seen answers.old) (A.seen answers.new)) }
+    ensures refused { OnOk result (Refused session.old session.new (refusal_in refusal) (A.seen answers.old) (A.seen answers.new)) }
     ensures written { WritesBoth result C.seen (A.seen answers.old) (A.seen answers.new) session.old.solver session.new.solver }
 {
     session.refused += 1;

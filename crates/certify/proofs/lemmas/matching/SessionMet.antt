@@ -13,18 +13,17 @@ use Rattle.certify.specs.answers.AnswerForms.{IsInForm, named_literals}
 use Rattle.certify.specs.matching.Lines.{TakesLine}
 use Rattle.certify.specs.confirm.Streams.{Stream, Confirms, seen_in}
 use Rattle.certify.specs.confirm.Views.{View}
-use Rattle.certify.specs.judge.Names.{Changes, Judges, Stands, refusal_said, used_in}
+use Rattle.certify.specs.judge.Names.{Changes, Judges, Stands, refusal_in, used_in}
 use Rattle.certify.specs.matching.Awaiting.{MeetsDue}
 use Rattle.certify.specs.matching.Comparing.{Allows, Due}
 use Rattle.certify.specs.matching.Confirming.{ConfirmsAnswer, ConfirmsContent, ConfirmsLast, ConfirmsNext, IsNamed, MeetsContent, MeetsOutcome, MeetsShown, Table, ToConfirm}
 use Rattle.certify.specs.matching.Halting.{Joins, Replies, SaysSo}
-use Rattle.certify.specs.matching.Lines.{IsReply, refusal_in}
+use Rattle.certify.specs.matching.Lines.{IsReply}
 use Rattle.certify.specs.matching.Naming.{MeetsAll, MeetsNames, taken_by}
 use Rattle.certify.specs.reading.Commands.{BeginsPast, IsLent, kind_of}
 use Rattle.certify.specs.reading.Language.{Kind, OfClause, OfAsk, OfHide, OfWitness, OfSample, command_of}
 use Rattle.certify.specs.declared.confirm.stop.Stop.{Stop}
 use Rattle.certify.specs.declared.judge.Refusal.{Refusal as CodeRefusal}
-use Rattle.certify.specs.declared.judge.Refusal.TheVariants as code
 use Rattle.certify.specs.declared.judge.names.Names.{Names}
 use Rattle.certify.specs.declared.reading.CommandKind.{CommandKind}
 use Rattle.certify.specs.declared.reading.CommandKind.TheVariants as kinds
@@ -151,16 +150,12 @@ pub if_ok : {T E P : Type 0} (r : Result T E) → P → OnOk r P
 if_ok (Ok x) h = h
 if_ok (Err e) h = tt
 
-said_some : (r : CodeRefusal) → refusal_said (Some r) ≡ Some (refusal_in r)
-said_some code.Limit = refl
-said_some (code.Witness v) = refl
-
 module _ (n : ℕ) (lent : Lent) (c : Command) (is : IsLent lent c) (t next : Table) (a b : Source) (s : Stream) where
   pub refused : (refusal : CodeRefusal) (r : Result (Unit {0}) Halt) → (AtEnd s.source → ⊥) → Judges (Some refusal) t.names lent → next ≡ t → Replies {A = Unit {0}} true r a b (λ before behind. TakesLine before behind (refused_line n (refusal_in refusal)))
       → Joins {A = Unit {0}} ⊥ true r a b s s (ConfirmsNext n c t next)
   refused refusal r open_yet judges same h = subst (λ (x : Table). Joins {A = Unit {0}} ⊥ true r a b s s (ConfirmsNext n c t x)) (sym same)
       (replies_join ⊥ true r a b s (λ before behind. TakesLine before behind (refused_line n (refusal_in refusal))) (ConfirmsNext n c t t) open_yet
-      (λ p q more y line. command_refused p q (seen_in more s) n c t (refusal_in refusal) y (λ j h. sym (judges j c h is) ∙ said_some refusal) line) h)
+      (λ p q more y line. command_refused p q (seen_in more s) n c t (refusal_in refusal) y (λ j h. sym (judges j c h is)) line) h)
 
 module _ (n : ℕ) (kind : Kind) (ls : List Literal) (t next : Table) (a : Source) (s u : Stream) (here : AtEnd a → ⊥) (allowed : (j : Judge) → Stands t.names j → refusal_of j (command_of kind ls) ≡ None) where
   pub names_stop : (after : NamedVars) (e : Stop) → Confirms {A = Unit {0}} (Err e) s u (MeetsNames kind (names_of ls) t.names t.variables after) → Joins {A = Unit {0}} ⊥ true (Err (halt.Stop e)) a a s u (ConfirmsNext n (command_of kind ls) t next)

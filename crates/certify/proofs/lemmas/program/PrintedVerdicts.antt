@@ -7,10 +7,11 @@ use Rattle.sat_base.proofs.lemmas.device.Given.{enough_all, enough_told}
 use Rattle.sat_base.specs.script.Script.{Ending, Clean, Malformed}
 use Rattle.sat_checker.specs.matching.ProofChecking.{the_checking}
 use Rattle.certify.specs.confirm.Matches.{Matches}
-use Rattle.certify.specs.confirm.VerdictPromises.{AreRightAnswers, Exact, Given}
-use Rattle.certify.specs.program.Printing.{Prints, PrintsVerdict, SaysExactly, is_malformed}
+use Rattle.certify.specs.confirm.VerdictPromises.{Exact, Given}
+use Rattle.certify.specs.program.Printing.{IsAnswered, Prints, PrintsVerdict, SaysExactly, is_malformed}
 use Rattle.certify.specs.reading.Language.{reading}
-use Rattle.certify.specs.run.FinishedRun.{Backs, TookCertificate, asked_steps, malformed_at}
+use Rattle.certify.specs.run.StepsLeft.{largest_count}
+use Rattle.certify.specs.run.FinishedRun.{Answered, Answers, Backs, TookCertificate, asked_steps, malformed_at}
 use Rattle.certify.specs.declared.summary.Summary.{Summary}
 use Rattle.certify.specs.declared.verdict.Verdict.{Verdict}
 use Rattle.certify.proofs.lemmas.laws.CertifiedMatches.{certified_matches}
@@ -65,14 +66,15 @@ appended (Some xs) (Some ys) text items h e f =
 -- answers and certificate that were taken from the beginning are right, and match
 pub run_written : (summary : Summary) (x y : Reader) (a b c d : Writer) (text answers certificate : List ℕ) → x.to_come ≡ Some text
     → a.contents ≡ Some [] → b.contents ≡ Some answers → c.contents ≡ Some [] → d.contents ≡ Some certificate
-    → TookCertificate summary (x, y) (a, b) (c, d)
-    → AreRightAnswers text answers × Matches the_checking reading text answers certificate
-run_written summary x y a b c d text answers certificate e f g h i took =
+    → Answered largest_count summary (x, y) (a, b) → TookCertificate summary (x, y) (a, b) (c, d)
+    → IsAnswered text answers × Matches the_checking reading text answers certificate
+run_written summary x y a b c d text answers certificate e f g h i said took =
+    let q = told x y (λ t. (answered : List ℕ) × Takes a b answered × Answers t largest_count summary answered) text e said in
     let p = told x y (λ t. (answered : List ℕ) × (certified : List ℕ) × Takes a b answered × Takes c d certified × Backs t summary answered certified) text e took in
     let is_answered : answers ≡ p.0 = appended a.contents b.contents p.0 answers p.2.told f g in
     let is_certified : certificate ≡ p.1 = appended c.contents d.contents p.1 certificate p.3.told h i in
     let backs : Backs text summary answers certificate = subst (λ s. Backs text summary answers s) (sym is_certified) (subst (λ s. Backs text summary s p.1) (sym is_answered) p.4) in (
-      record { outcomes = backs.outcomes; answered = backs.answers; right = backs.right },
+      (summary, subst (λ s. Answers text largest_count summary s) (sym (appended a.contents b.contents q.0 answers q.1.told f g)) q.2),
       subst (λ s. Matches the_checking reading text s certificate) (sym backs.answers)
           (certified_matches reading text certificate backs.outcomes backs.steps (asked_steps summary.asks.items) backs.right backs.accepted backs.certifies backs.certificate),
     )

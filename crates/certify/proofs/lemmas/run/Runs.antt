@@ -1,24 +1,21 @@
 -- What a run has done at its end.
 use Rattle.std.proofs.Common.{ℕ, ◌+◌, ◌≤◌, ◌≡◌, ◌∙◌, ◌⊎◌, true, false, Option, Some, None, List, [], ◌∷◌, ◌++◌, map, length, Result, Ok, Err, OnOk, IfOk, inl, inr, refl, sym, ap, subst, arith, append-nil}
-use Rattle.std.specs.Prelude.{reverse, IsErrOf}
+use Rattle.std.specs.Prelude.{IsErrOf}
 use Rattle.sat_base.specs.device.Device.{Reader, Writer, GaveEnough, ReadFails, Takes, lent_writer, most_reads}
-use Rattle.sat_base.specs.device.Reading.{Source, AtEnd, unread}
+use Rattle.sat_base.specs.device.Reading.{Source, unread}
 use Rattle.sat_base.specs.device.Sink.{empty_sink}
-use Rattle.sat_base.specs.script.Script.{Reading}
 use Rattle.sat_base.specs.script.Judge.{accepted_of, start}
 use Rattle.sat_base.specs.steps.Steps.{Step, End}
-use Rattle.sat_base.specs.steps.StepText.{SpellsSteps}
 use Rattle.sat_base.proofs.lemmas.device.Writes as writes
-use Rattle.sat_checker.specs.matching.Expected.{Outcome, Finish, expected, finish}
+use Rattle.sat_checker.specs.matching.Expected.{Finish, expected, finish}
 use Rattle.sat_checker.specs.matching.ProofChecking.{the_checking}
 use Rattle.sat_solver.specs.declared.session.format.ProofFormat.TheVariants.{Varisat}
 use Rattle.sat_solver.specs.declared.session.proof.Proof.{Proof}
-use Rattle.sat_solver.specs.declared.solver.Solver.{Solver}
 use Rattle.sat_solver.specs.session.Counting.{start as uncounted}
 use Rattle.sat_solver.specs.session.Making.{Took, Broke}
 use Rattle.sat_solver.specs.session.OutputView.{text_in}
 use Rattle.sat_solver.specs.session.ProofTexts.{TookText}
-use Rattle.sat_solver.specs.session.ProofView.{Target, Closed, Open, Broken, Carries, Stops, Gives, TakesAll, is_open, steps_of, target_of}
+use Rattle.sat_solver.specs.session.ProofView.{Closed, Open, Broken, Carries, Stops, Gives, TakesAll, is_open, target_of}
 use Rattle.sat_solver.specs.session.Session.{MayAll}
 use Rattle.sat_solver.specs.solver.Whole.{steps_in}
 use Rattle.sat_solver.proofs.lemmas.session.CutsLemmas.{cuts_are_free}
@@ -26,24 +23,25 @@ use Rattle.sat_solver.proofs.lemmas.session.ProofLemmas.{closed_is_text}
 use Rattle.sat_solver.proofs.lemmas.session.StepLemmas.{sessions_are_accepted}
 use Rattle.certify.specs.Calls.{NoneFailed, OneFailed}
 use Rattle.certify.specs.answers.Answers.{answers_from, answers_text}
-use Rattle.certify.specs.confirm.Streams.{Covers, rest_in}
+use Rattle.certify.specs.confirm.Streams.{rest_in}
 use Rattle.certify.specs.declared.fault.RunFault.{RunFault}
 use Rattle.certify.specs.declared.fault.RunFault.TheVariants as fault
 use Rattle.certify.specs.declared.serving.session.Session.{Session}
 use Rattle.certify.specs.declared.summary.AskReport.{AskReport}
 use Rattle.certify.specs.declared.summary.Summary.{Summary}
 use Rattle.certify.specs.declared.ahead.Ahead.{Ahead}
-use Rattle.certify.specs.reading.Ahead.{Failed, Kept, Took as TookOf, source_in, waiting}
+use Rattle.certify.specs.reading.Ahead.{source_in, waiting}
 use Rattle.certify.specs.reading.Language.{reading, written}
-use Rattle.certify.specs.run.FinishedRun.{Answered, Answers, Backs, TookCertificate, WriteFails, asked_steps, kind_of, malformed_at, refused_count, AreSpent}
-use Rattle.certify.specs.run.Running.{Finished, NoneUnread, ReadsFew, Runs, Wrote}
+use Rattle.certify.specs.run.FinishedRun.{Answered, Answers, Backs, TookCertificate, WriteFails, asked_steps, malformed_at, AreSpent}
+use Rattle.certify.specs.run.Running.{ReadsFew, Runs, Wrote}
 use Rattle.certify.specs.serving.Calls.{Faults, IsReady, proof_in}
 use Rattle.certify.specs.serving.Certifies.{Certifies, complete, ordered}
-use Rattle.certify.specs.serving.Ending.{ClosedBy, EndsRun, Finishes, GivenBack, HasTarget, IsOpen, SumsUp}
-use Rattle.certify.specs.serving.Standing.{GoesOn, IsAt, place_in}
-use Rattle.certify.specs.serving.Whole.{Cause, Ends, FailsWhole, ServesTo, ServesWhole}
+use Rattle.certify.specs.serving.Ending.{ClosedBy, EndsRun, GivenBack, HasTarget, IsOpen, SumsUp}
+use Rattle.certify.specs.serving.Stretches.{MadeFor}
+use Rattle.certify.specs.serving.Whole.{Ends, FailsWhole, ServesWhole}
 use Rattle.certify.proofs.lemmas.confirm.Streams.{gave_enough, read_fails}
 use Rattle.certify.proofs.lemmas.matching.Joining.{covers_given, took_kept}
+use Rattle.certify.proofs.lemmas.serving.MadeCertifies.{made_certifies}
 use Rattle.certify.proofs.lemmas.serving.SessionCalls.{broke_later, took_both}
 use Rattle.certify.proofs.lemmas.serving.Written.{written_certifies}
 
@@ -140,11 +138,14 @@ module _ {C : Type 0} (seen : C → Writer) (budget : ℕ) (w : Writer) (s t : S
     spent = subst (λ rs. AreSpent budget 0 rs) (sym asks_are) (subst (λ n. AreSpent n 0 serves.reports) fresh.budget_is (subst (λ n. AreSpent s.budget n serves.reports) fresh.rounds serves.serves.spent));
   }
 
+  followed : MadeFor start [] (steps_in t.solver) (accepted_of start (reading text).0) serves.serves.outcomes (asked_steps serves.reports)
+  followed = subst (λ (xs : List Step). MadeFor start xs (steps_in t.solver) (accepted_of start (reading text).0) serves.serves.outcomes (asked_steps serves.reports)) fresh.steps serves.serves.follows
+
   certified_made : Certifies the_checking (End ∷ serves.took.0) None [] (expected start (accepted_of start (reading text).0) serves.serves.outcomes) (asked_steps serves.reports)
   certified_made =
       let all = End ∷ serves.took.0 in
       let last : Certifies the_checking all None (steps_in t.solver) (Finish ∷ []) [] = subst (λ (xs : List Step). Certifies the_checking all None xs (Finish ∷ []) []) (sym made_all) (ordered tt finish complete) in
-      subst (λ (xs : List Step). Certifies the_checking all None xs (expected start (accepted_of start (reading text).0) serves.serves.outcomes) (asked_steps serves.reports)) fresh.steps (serves.serves.certifies all last)
+      made_certifies all followed (subst MayAll (sym made_all) may.0) last
 
   is_backed : Backs text summary serves.text (text_in Varisat text_of.written)
   is_backed = record {
@@ -156,6 +157,11 @@ module _ {C : Type 0} (seen : C → Writer) (budget : ℕ) (w : Writer) (s t : S
     accepted = (sessions_are_accepted text_of.written (cuts_are_free (End ∷ serves.took.0) text_of.written text_of.counting text_of.cuts may).may).0;
     certifies = subst (λ rs. Certifies the_checking text_of.written None [] (expected start (accepted_of start (reading text).0) serves.serves.outcomes) (asked_steps rs)) (sym asks_are)
         (written_certifies (End ∷ serves.took.0) text_of.written text_of.counting (expected start (accepted_of start (reading text).0) serves.serves.outcomes) (asked_steps serves.reports) text_of.cuts may certified_made);
+    made = serves.took.0;
+    follows = subst (λ rs. MadeFor start [] serves.took.0 (accepted_of start (reading text).0) serves.serves.outcomes (asked_steps rs)) (sym asks_are)
+        (subst (λ (xs : List Step). MadeFor start [] xs (accepted_of start (reading text).0) serves.serves.outcomes (asked_steps serves.reports)) made_all followed);
+    counting = text_of.counting;
+    cuts = text_of.cuts;
   }
 
   pub wrote_text : Wrote text budget summary (u, z) (w, seen given)

@@ -1,5 +1,5 @@
 -- An ask is served by what its solver did.
-use Rattle.std.proofs.Common.{ℕ, ◌+◌, ◌≡◌, ◌∙◌, true, Some, None, List, [], ◌∷◌, ◌++◌, map, refl, sym, ap, subst, arith, inl, inr, ◌⊎◌}
+use Rattle.std.proofs.Common.{ℕ, ◌+◌, ◌-◌, ◌<◌, ◌≡◌, ◌∙◌, Bool, true, false, Some, None, List, [], ◌∷◌, ◌++◌, map, refl, sym, ap, subst, arith, inl, inr, ◌⊎◌}
 use Rattle.std.proofs.lemmas.Bool.{both_ways}
 use Rattle.std.proofs.lemmas.List.{map-append}
 use Rattle.std.specs.List.{AllByRecursion}
@@ -9,15 +9,18 @@ use Rattle.sat_base.specs.script.Judge.{Judge, accepted, bring_all, identity_of,
 use Rattle.sat_base.specs.steps.Steps.{Step}
 use Rattle.sat_checker.specs.LiteralSets.{canonical}
 use Rattle.sat_checker.specs.matching.Checking.{variable_of}
-use Rattle.sat_checker.specs.matching.Expected.{Outcome, Unsat, Expected, Opens, Fails, Closes, Fits, bringing, showing, fails}
+use Rattle.sat_checker.specs.matching.Expected.{Outcome, Unsat, Unknown, Expected, Opens, Fails, Closes, Fits, bringing, showing, fails}
 use Rattle.sat_checker.specs.matching.ProofChecking.{the_checking}
 use Rattle.sat_solver.specs.declared.solver.Solver.{Solver}
 use Rattle.sat_solver.specs.declared.solver.state.State.{State}
 use Rattle.sat_solver.specs.declared.solver.state.State.TheVariants as states
 use Rattle.sat_solver.specs.names.Calls as solver
+use Rattle.sat_solver.specs.names.Coming.{MayTake}
 use Rattle.sat_solver.specs.names.Expected as due
 use Rattle.sat_solver.specs.names.Live.{Live}
 use Rattle.sat_solver.specs.names.Refusing.{names_in}
+use Rattle.sat_solver.specs.search.Solving.{AdvancesIn}
+use Rattle.sat_solver.specs.session.Coming.{Comes, EndsAtUnsat}
 use Rattle.sat_solver.specs.session.ProofView.{steps_of}
 use Rattle.sat_solver.specs.solver.Adding.{Assumed, Forgets}
 use Rattle.sat_solver.specs.solver.Calls.{told_as}
@@ -33,17 +36,15 @@ use Rattle.certify.specs.laws.Laws.{IsKept}
 use Rattle.certify.specs.run.FinishedRun.{IsSpent, kind_of}
 use Rattle.certify.specs.serving.Calls.{AnswerIs, Searched}
 use Rattle.certify.specs.serving.Certifies.{IsKnown}
-use Rattle.certify.specs.serving.Serving.{AskSteps, Leads, Makes, made, quiet, makes}
 use Rattle.certify.specs.serving.ServingLaws.{Rising}
 use Rattle.certify.specs.serving.Standing.{Means}
+use Rattle.certify.specs.serving.Stretches.{AskStretches, Makes, made, quiet, makes, showing_if}
 use Rattle.certify.specs.serving.Telling.{outcome_for, IsToldRight}
 use Rattle.certify.proofs.lemmas.laws.JudgeStates.{accepted_kept}
-use Rattle.certify.proofs.lemmas.serving.Closing.{closing}
 use Rattle.certify.proofs.lemmas.serving.Converted.{due_as, made_of, bringing_due, names_same}
 use Rattle.certify.proofs.lemmas.serving.Cores.{right_in_order, spelt_in_order}
 use Rattle.certify.proofs.lemmas.serving.Lines.{lists_in_use}
-use Rattle.certify.proofs.lemmas.serving.Making.{bringing_free, leads_both, leads_free, leads_going, leads_lacking, made_apart}
-use Rattle.certify.proofs.lemmas.serving.Recorded.{going_on, recorded, unsat_known}
+use Rattle.certify.proofs.lemmas.serving.Recorded.{going_on, known_unsat, unsat_known}
 
 rising_of : (xs : List ℕ) → Rise xs → Rising xs
 rising_of [] h = tt
@@ -111,6 +112,12 @@ core_apart st e f = cc
 unknown_apart : (st : State) → st ≡ states.Unknown → st ≡ states.Unsat → ⊥
 unknown_apart st e f = cc
 
+unknown_no_sat : (st : State) → st ≡ states.Unknown → st ≡ states.Sat → ⊥
+unknown_no_sat st e f = cc
+
+unknown_no_core : (st : State) → st ≡ states.Unknown → st ≡ states.UnsatUnderAssumptions → ⊥
+unknown_no_core st e f = cc
+
 unsat_apart : (st : State) → st ≡ states.Unsat → st ≡ states.Unknown → ⊥
 unsat_apart st e f = cc
 
@@ -120,25 +127,38 @@ unsat_outcome now kind.Sat e h = absurd (sat_apart now.state (sat_state now.stat
 unsat_outcome now kind.Unsat e h = ap (λ st. Unsat (named_literals (canonical (core_for st now)))) e
 unsat_outcome now kind.Unknown e h = absurd (unknown_apart now.state (unknown_state now.state h) e)
 
+unknown_outcome : {C : Type 0} (now : Solver C) (a : Answer) → now.state ≡ states.Unknown → AnswerIs now.state a → outcome_for a now ≡ Unknown
+unknown_outcome now kind.Unknown e h = refl
+unknown_outcome now kind.Sat e h = absurd (unknown_no_sat now.state e (sat_state now.state h))
+unknown_outcome now kind.Unsat e h = elim (unsat_state now.state h) [ inl f ↦ absurd (unknown_no_core now.state e f) | inr f ↦ absurd (unknown_apart now.state e f) ]
+
 -- what shows an answer
 module _ {C : Type 0} (now : Solver C) (whole : IsWhole now) (ask : List Literal) (asked : named_literals now.assumed.items ≡ ask) (j : Judge) (before : State) (s : List Step) where
   abbrev Told : State → State → Type 0
   Told b st = solver.Writes s (steps_in now) (told_as b st (line_in now) now.assumed.items now.told.failed_core.items)
 
-  sat_shown : now.state ≡ states.Sat → before ≡ states.Unknown → names_of (named_literals (line_in now)) ≡ map (λ n. n.name) j.in_use → Told before now.state → Leads s (steps_in now) (showing j ask (outcome_for kind.Sat now))
+  abbrev Shown : Bool → Outcome → Type 0
+  Shown unsat o = Makes the_checking s (steps_in now) (showing_if unsat j ask o)
+
+  -- behind a search that goes on
+  shown_going : (o : Outcome) → (now.state ≡ states.Unsat → ⊥) → Makes the_checking s (steps_in now) (showing j ask o) → Shown (the_checking.unsat (steps_in now)) o
+  shown_going o n m = subst (λ b. Shown b o) (sym (going_on now whole n)) m
+
+  sat_shown : now.state ≡ states.Sat → before ≡ states.Unknown → names_of (named_literals (line_in now)) ≡ map (λ n. n.name) j.in_use → Told before now.state → Shown (the_checking.unsat (steps_in now)) (outcome_for kind.Sat now)
   sat_shown e b names w =
       let v : Told states.Unknown states.Sat = subst (λ st. Told states.Unknown st) e (subst (λ st. Told st now.state) b w) in
       let m = made_of (showing j ask (outcome_for kind.Sat now)) v
       (ap (λ ns. due.Shows ns (named_literals now.assumed.items) (named_literals (line_in now)) ∷ []) names ∙ ap (λ q. due.Shows (map (λ n. n.name) j.in_use) q (named_literals (line_in now)) ∷ []) asked) in
-      leads_going m (going_on now whole (sat_apart now.state e)) (refl, tt)
+      shown_going (outcome_for kind.Sat now) (sat_apart now.state e) m
 
-  core_shown : now.state ≡ states.UnsatUnderAssumptions → before ≡ states.Unknown → Told before now.state → Leads s (steps_in now) (showing j ask (outcome_for kind.Unsat now))
+  core_shown : now.state ≡ states.UnsatUnderAssumptions → before ≡ states.Unknown → Told before now.state → Shown (the_checking.unsat (steps_in now)) (outcome_for kind.Unsat now)
   core_shown e b w =
       let v : Told states.Unknown states.UnsatUnderAssumptions = subst (λ st. Told states.Unknown st) e (subst (λ st. Told st now.state) b w) in
       let core = now.told.failed_core.items in
       let m = made_of (Fails ask (named_literals core) ∷ []) v (ap (λ q. due.Fails q (named_literals core) ∷ []) asked) in
-      let sorted = leads_going (sorted_core [] ask core m refl) (going_on now whole (core_apart now.state e)) (refl, tt) in
-      subst (λ st. Leads s (steps_in now) (Fails ask (named_literals (canonical (core_for st now))) ∷ [])) (sym e) sorted
+      let sorted = sorted_core [] ask core m refl in
+      shown_going (outcome_for kind.Unsat now) (core_apart now.state e)
+      (subst (λ st. Makes the_checking s (steps_in now) (Fails ask (named_literals (canonical (core_for st now))) ∷ [])) (sym e) sorted)
 
   none_told : (b : State) → Told b states.Unsat → Makes the_checking s (steps_in now) []
   none_told states.Unknown w = made_of [] w refl
@@ -146,19 +166,16 @@ module _ {C : Type 0} (now : Solver C) (whole : IsWhole now) (ask : List Literal
   none_told states.UnsatUnderAssumptions w = made_of [] w refl
   none_told states.Unsat w = made_of [] w refl
 
-  unsat_shown : now.state ≡ states.Unsat → Told before now.state → Leads s (steps_in now) (showing j ask (outcome_for kind.Unsat now))
-  unsat_shown e w =
-      let m = none_told before (subst (λ st. Told before st) e w) in
-      let all = leads_both [] (Fails ask [] ∷ []) (leads_free m tt) (leads_lacking (steps_in now) (Fails ask []) refl (recorded now whole e)) in
-      subst (λ st. Leads s (steps_in now) (Fails ask (named_literals (canonical (core_for st now))) ∷ [])) (sym e) all
+  unsat_shown : now.state ≡ states.Unsat → Told before now.state → (o : Outcome) → Shown (the_checking.unsat (steps_in now)) o
+  unsat_shown e w o = subst (λ b. Shown b o) (sym (known_unsat now whole e)) (none_told before (subst (λ st. Told before st) e w))
 
-  unknown_shown : now.state ≡ states.Unknown → before ≡ states.Unknown → Told before now.state → Leads s (steps_in now) []
-  unknown_shown e b w = leads_free (made_of [] (subst (λ st. Told states.Unknown st) e (subst (λ st. Told st now.state) b w)) refl) tt
+  unknown_shown : now.state ≡ states.Unknown → before ≡ states.Unknown → Told before now.state → Shown (the_checking.unsat (steps_in now)) (outcome_for kind.Unknown now)
+  unknown_shown e b w = shown_going (outcome_for kind.Unknown now) (unknown_apart now.state e) (made_of [] (subst (λ st. Told states.Unknown st) e (subst (λ st. Told st now.state) b w)) refl)
 
   pub answer_shown : (a : Answer) → AnswerIs now.state a → ((now.state ≡ states.Unsat → ⊥) → before ≡ states.Unknown) → (a ≡ kind.Sat → names_of (named_literals (line_in now)) ≡ map (λ n. n.name) j.in_use) → Told before now.state
-      → Leads s (steps_in now) (showing j ask (outcome_for a now))
+      → Shown (the_checking.unsat (steps_in now)) (outcome_for a now)
   answer_shown kind.Sat h b names w = let e = sat_state now.state h in sat_shown e (b (sat_apart now.state e)) (names refl) w
-  answer_shown kind.Unsat h b names w = elim (unsat_state now.state h) [ inl e ↦ core_shown e (b (core_apart now.state e)) w | inr e ↦ unsat_shown e w ]
+  answer_shown kind.Unsat h b names w = elim (unsat_state now.state h) [ inl e ↦ core_shown e (b (core_apart now.state e)) w | inr e ↦ unsat_shown e w (outcome_for kind.Unsat now) ]
   answer_shown kind.Unknown h b names w = let e = unknown_state now.state h in unknown_shown e (b (unknown_apart now.state e)) w
 
 -- what assumptions leave
@@ -202,12 +219,26 @@ module _ {C : Type 0} (seen : C → Writer) (old mid now new : Solver C) (user :
       let r = searched.rounds in let l = searched.limited.rounds in
       record { outcome = unsat_outcome now report.answer (unsat_stays at) searched.solved.answer_is; rounds = omega arith }
 
-  -- once it's closed, unsat is recorded only where it was answered
-  knows_by : Makes the_checking (steps_in now) (steps_in new) (Closes ∷ []) → (st : State) → now.state ≡ st → the_checking.unsat (steps_in new) ≡ true → now.state ≡ states.Unsat
-  knows_by m states.Unsat e u = e
-  knows_by m states.Unknown e u = absurd (both_ways (the_checking.unsat (steps_in new)) (closing m (refl, tt) closed.comes.steps closed.comes.behind closed.comes.each (going_on now searched.solved.answered.did.whole (unknown_apart now.state e))) u)
-  knows_by m states.Sat e u = absurd (both_ways (the_checking.unsat (steps_in new)) (closing m (refl, tt) closed.comes.steps closed.comes.behind closed.comes.each (going_on now searched.solved.answered.did.whole (sat_apart now.state e))) u)
-  knows_by m states.UnsatUnderAssumptions e u = absurd (both_ways (the_checking.unsat (steps_in new)) (closing m (refl, tt) closed.comes.steps closed.comes.behind closed.comes.each (going_on now searched.solved.answered.did.whole (core_apart now.state e))) u)
+  -- an answer that wasn't known took a round
+  sought : the_checking.unsat (steps_in mid) ≡ false → (outcome_for report.answer now ≡ Unknown → ⊥) → 0 < report.steps
+  sought g known_now =
+      let before : searched.mid.state ≡ states.Unknown = elim (forgets_either old.state mid.state opened.state) [
+        | inl e ↦ searched.limited.state ∙ e
+        | inr e ↦ absurd (both_ways (the_checking.unsat (steps_in mid)) g (known_unsat mid opened.did.whole e))
+      ] in
+      let after : now.state ≡ states.Unknown → ⊥ = λ e. known_now (unknown_outcome now report.answer e searched.solved.answer_is) in
+      let c = searched.solved.answered.counts.round before after in
+      let r = searched.rounds in let l = searched.limited.rounds in
+      omega arith
+
+  -- and where there is none each round derived a clause that advances
+  spent : outcome_for report.answer now ≡ Unknown → AdvancesIn (steps_in mid) (steps_in now) report.steps
+  spent e =
+      let st = unknown_state now.state (subst (AnswerIs now.state) (kind_told report.answer now ∙ ap kind_of e) searched.solved.answer_is) in
+      let r = searched.rounds in let l = searched.limited.rounds in
+      let count : now.clock.steps - searched.mid.clock.steps ≡ report.steps = omega arith in
+      subst (λ n. AdvancesIn (steps_in mid) (steps_in now) n) count
+      (subst (λ ss. AdvancesIn ss (steps_in now) (now.clock.steps - searched.mid.clock.steps)) same_steps (searched.solved.answered.times st))
 
   module _ (j : Judge) (live : Live) (means : Means old j live) (free : refusal_of j (Ask (named_literals user)) ≡ None) where
     next : Judge
@@ -240,27 +271,25 @@ module _ {C : Type 0} (seen : C → Writer) (old mid now new : Solver C) (user :
     listed : report.answer ≡ kind.Sat → names_of (named_literals (line_in now)) ≡ map (λ n. n.name) (accepted (Ask (named_literals user)) j).in_use
     listed e = line_listed now (named_literals user) assumed_is (accepted (Ask (named_literals user)) j) second.live kept second.agree (subst (λ a. IsToldRight a now) e right)
 
-    shown : Leads (steps_in mid) (steps_in now) (showing (accepted (Ask (named_literals user)) j) (named_literals user) (outcome_for report.answer now))
+    shown : Makes the_checking (steps_in mid) (steps_in now) (showing_if (the_checking.unsat (steps_in now)) (accepted (Ask (named_literals user)) j) (named_literals user) (outcome_for report.answer now))
     shown = answer_shown now searched.solved.answered.did.whole (named_literals user) assumed_is (accepted (Ask (named_literals user)) j) searched.mid.state (steps_in mid) report.answer searched.solved.answer_is was_unknown listed
         (subst (λ ss. solver.Writes ss (steps_in now) (told_as searched.mid.state now.state (line_in now) now.assumed.items now.told.failed_core.items)) same_steps second.writes)
 
     shut : Makes the_checking (steps_in now) (steps_in new) (Closes ∷ [])
     shut = made_of (Closes ∷ []) third.writes refl
 
-    pub ask_steps : AskSteps (steps_in old) (steps_in new) j (named_literals user) (outcome_for report.answer now) report.steps
-    ask_steps =
-        let split = made_apart (bringing (names_of (named_literals user)) j) (Opens (named_literals user) (outcome_for report.answer now) ∷ []) named in
-        record {
-          named = split.0;
-          opened = steps_in mid;
-          shown = steps_in now;
-          names = leads_free split.1 (bringing_free (names_of (named_literals user)) j);
-          opens = split.2;
-          known = known;
-          shows = shown;
-          closes = shut;
-          knows = λ u. unsat_outcome now report.answer (knows_by shut now.state refl u) searched.solved.answer_is;
-        }
+    pub ask_steps : AskStretches j (named_literals user) (outcome_for report.answer now) report.steps (steps_in old) (steps_in new)
+    ask_steps = record {
+      opened = steps_in mid;
+      shown = steps_in now;
+      opens = record { due = named; comes = subst (λ ns. Comes (MayTake ns) (steps_in old) (steps_in mid)) (sym (names_same user)) opened.comes };
+      searches = record { due = shown; comes = subst (λ ss. Comes EndsAtUnsat ss (steps_in now)) same_steps searched.solved.answered.comes };
+      closes = record { due = shut; comes = closed.comes };
+      known = known;
+      recorded = λ u. unsat_outcome now report.answer (unsat_known now searched.solved.answered.did.whole u) searched.solved.answer_is;
+      sought = sought;
+      spent = spent;
+    }
 
     pub ask_right : IsRight (accepted (Ask (named_literals user)) j) (named_literals user) (outcome_for report.answer now)
     ask_right = told_right now (named_literals user) assumed_is (accepted (Ask (named_literals user)) j) second.live kept second.agree report.answer right

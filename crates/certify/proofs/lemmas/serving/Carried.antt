@@ -9,8 +9,9 @@ use Rattle.sat_solver.specs.declared.solver.Solver.{Solver}
 use Rattle.sat_solver.specs.solver.Whole.{steps_in}
 use Rattle.certify.specs.declared.serving.session.Session.{Session}
 use Rattle.certify.specs.serving.Obeying.{Obeyed}
-use Rattle.certify.specs.serving.Serving.{IsNoAsk, Place, Serves, behind}
+use Rattle.certify.specs.serving.Serving.{Place, Serves, behind}
 use Rattle.certify.specs.serving.Standing.{CarriedOut, last_place, place_in}
+use Rattle.certify.specs.serving.Stretches.{IsNoAsk}
 use Rattle.certify.proofs.lemmas.serving.ServedOnce.{serves_plain}
 
 -- where a run stands behind the last command that came

@@ -9,7 +9,7 @@ use Rattle.sat_checker.specs.matching.Expected.{Expected, Closes, Fits, closes}
 use Rattle.sat_checker.specs.matching.ProofChecking.{the_checking}
 use Rattle.sat_solver.specs.names.Coming.{MayTake}
 use Rattle.sat_solver.specs.session.Coming.{EachComes}
-use Rattle.certify.specs.serving.Serving.{Makes, made, quiet, makes}
+use Rattle.certify.specs.serving.Stretches.{Makes, made, quiet, makes}
 use Rattle.certify.proofs.lemmas.confirm.Settled.{settled_unsat}
 
 made_behind : {s t : List Step} {es : List Expected} → Makes the_checking s t es → (zs : List Step) × (t ≡ zs ++ s)

@@ -15,7 +15,7 @@ use Rattle.sat_solver.specs.names.Checking as read
 use Rattle.sat_solver.specs.names.Expected as due
 use Rattle.sat_solver.specs.names.Refusing.{names_in}
 use Rattle.certify.specs.answers.AnswerForms.{named_literals}
-use Rattle.certify.specs.serving.Serving.{Makes, made, quiet, makes}
+use Rattle.certify.specs.serving.Stretches.{Makes, made, quiet, makes}
 
 same_variable : (v : ℕ) (o : Option ℕ) → read.is_variable v o ≡ is_variable v o
 same_variable v None = refl

@@ -1,9 +1,9 @@
 -- Commands that are lent are carried out.
-use Rattle.std.proofs.Common.{ℕ, ◌+◌, ◌≡◌, ◌∙◌, false, Some, None, List, [], ◌++◌, Result, Ok, Err, OnOk, IfErr, refl, sym, ap, subst}
+use Rattle.std.proofs.Common.{ℕ, ◌+◌, ◌≡◌, ◌∙◌, false, None, List, [], ◌++◌, Result, Ok, Err, OnOk, IfErr, sym, ap, subst}
 use Rattle.std.proofs.lemmas.List.{append-nil}
 use Rattle.sat_base.specs.device.Device.{Writer}
 use Rattle.sat_base.specs.script.Script.{Command, Clause, Ask, Hide, Witness, Sample}
-use Rattle.sat_base.specs.script.Judge.{Refusal, PastLimit, WitnessName, refusal_of, refused_literal}
+use Rattle.sat_base.specs.script.Judge.{refusal_of, refused_literal}
 use Rattle.sat_solver.specs.declared.solver.Solver.{Solver}
 use Rattle.sat_solver.specs.names.Refusing.{names_in}
 use Rattle.sat_solver.specs.solver.Adding.{Added}
@@ -11,14 +11,12 @@ use Rattle.certify.specs.answers.AnswerForms.{named_literals}
 use Rattle.certify.specs.declared.fault.RunFault.{RunFault}
 use Rattle.certify.specs.declared.judge.NameState.{NameState}
 use Rattle.certify.specs.declared.judge.NameState.TheVariants as state
-use Rattle.certify.specs.declared.judge.Refusal.{Refusal as CodeRefusal}
-use Rattle.certify.specs.declared.judge.Refusal.TheVariants as code
 use Rattle.certify.specs.declared.judge.names.Names.{Names}
 use Rattle.certify.specs.declared.reading.Command.{Command as Lent}
 use Rattle.certify.specs.declared.reading.CommandKind.{CommandKind}
 use Rattle.certify.specs.declared.reading.CommandKind.TheVariants as kind
 use Rattle.certify.specs.declared.serving.session.Session.{Session}
-use Rattle.certify.specs.judge.Names.{Judges, refusal_said}
+use Rattle.certify.specs.judge.Names.{Judges}
 use Rattle.certify.specs.reading.Commands.{BeginsPast, IsLent, kind_of}
 use Rattle.certify.specs.reading.Language.{command_of}
 use Rattle.certify.specs.serving.Calls.{FailsSolver, IsAllowed}
@@ -32,11 +30,6 @@ use Rattle.certify.proofs.lemmas.serving.SessionCalls.{did_ready, solver_writes}
 on_ok : {T E A B : Type 0} (r : Result T E) → (A → B) → OnOk r A → OnOk r B
 on_ok (Ok x) f h = f h
 on_ok (Err e) f h = h
-
--- a refusal says why
-pub said : (r : CodeRefusal) → (why : Refusal) × (refusal_said (Some r) ≡ Some why)
-said code.Limit = (PastLimit, refl)
-said (code.Witness v) = (WitnessName (v + 1), refl)
 
 -- a command that is lent, none of whose names is past the limit
 pub lent_is : (lent : Lent) (c : Command) → IsLent lent c → lent.past_limit ≡ false → c ≡ spelled_by lent
@@ -88,7 +81,7 @@ module _ (lent : Lent) where
       pub clause_carried : lent.kind ≡ kind.Clause → OnOk r (Added seen old.solver s lent.literals.now) → OnOk r (CarriedOut seen old (record old { solver = s }) (spelled_by lent) w w)
       clause_carried e h =
           subst (λ c. OnOk r (CarriedOut seen old (record old { solver = s }) c w w)) (sym (spelled_as kind.Clause e))
-          (on_ok r (λ (a : Added seen old.solver s lent.literals.now). obeyed_carried seen old s (Clause (named_literals lent.literals.now)) w tt on.free (clause_obeyed seen lent.literals.now old.solver s (did_ready seen old.solver s _ _ on.ready a.did) a)) h)
+          (on_ok r (λ (a : Added seen old.solver s lent.literals.now). obeyed_carried seen old s (Clause (named_literals lent.literals.now)) w tt on.free (clause_obeyed seen lent.literals.now old.solver s on.ready (did_ready seen old.solver s _ _ on.ready a.did) a)) h)
 
       pub clause_writes : OnOk r (Added seen old.solver s lent.literals.now) → IfErr r (λ e. FailsSolver seen e old.solver s) → WritesBoth r seen w w old.solver s
       clause_writes h f = solver_writes seen r w old.solver s (on_ok r (λ (a : Added seen old.solver s lent.literals.now). a.did.took) h) f

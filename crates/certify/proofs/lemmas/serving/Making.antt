@@ -11,8 +11,13 @@ use Rattle.sat_checker.specs.matching.Checking.{is_ordered}
 use Rattle.sat_checker.specs.matching.Expected.{Outcome, Unsat, Expected, NewName, NoName, Adds, Opens, Closes, Fits, bringing, hiding, setting}
 use Rattle.sat_checker.specs.matching.ProofChecking.{the_checking}
 use Rattle.certify.specs.serving.Certifies.{Certifies, IsKnown, IsRecorded, MayStand, MayLack, left_out, other, ordered, asked, answered}
-use Rattle.certify.specs.serving.Serving.{Makes, made, quiet, makes, Leads, due_for}
+use Rattle.certify.specs.serving.Stretches.{Makes, made, quiet, makes, due_for}
 use Rattle.certify.proofs.lemmas.confirm.Settled.{settled_unsat}
+
+-- whatever is expected next, it is certified from here where it is from there
+abbrev pub Leads : List Step → List Step → List Expected → Type 0
+Leads from to es = (all : List Step) (current : Option Outcome) (e : Expected) (fs : List Expected) (counts : List ℕ)
+    → Certifies the_checking all current to (e ∷ fs) counts → Certifies the_checking all current from (es ++ (e ∷ fs)) counts
 
 -- it may stand wherever it is expected
 abbrev pub IsFree : Expected → Type 0
@@ -28,9 +33,6 @@ pub leads_free : {s t : List Step} {es : List Expected} → Makes the_checking s
 leads_free made h = λ all current e fs counts c. c
 leads_free (quiet {es = es} q m) h = λ all current e fs counts c. other_before es e fs q (leads_free m h all current e fs counts c)
 leads_free (makes {s = s} f m) h = λ all current e fs counts c. ordered (h.0 (the_checking.unsat s)) f (leads_free m h.1 all current e fs counts c)
-
-pub leads_none : (s : List Step) → Leads s s []
-leads_none s = λ all current e fs counts c. c
 
 pub leads_both : {s t u : List Step} (es gs : List Expected) → Leads s t es → Leads t u gs → Leads s u (es ++ gs)
 leads_both {s} {t} {u} es gs f g = λ all current e fs counts c.
@@ -60,6 +62,11 @@ made_as (x ∷ es) fs (makes {s = s} {step = step} {e = y} {es = ys} f m) e =
 
 pub made_apart : (es fs : List Expected) {s t : List Step} → Makes the_checking s t (es ++ fs) → (m : List Step) × Makes the_checking s m es × Makes the_checking m t fs
 made_apart es fs m = made_as es fs m refl
+
+pub makes_both : {s t u : List Step} {es fs : List Expected} → Makes the_checking s t es → Makes the_checking t u fs → Makes the_checking s u (es ++ fs)
+makes_both made n = n
+makes_both (quiet q m) n = quiet q (makes_both m n)
+makes_both (makes f m) n = makes f (makes_both m n)
 
 -- recorded unsat stays
 stays_once : (s : List Step) (step : Step) → the_checking.unsat s ≡ true → the_checking.unsat (step ∷ s) ≡ true
@@ -128,9 +135,10 @@ setting_free mode (name ∷ names) j =
     free_both (map NewName (new_names name j)) (setting mode names next) (names_free (new_names name j)) (setting_free mode names next)
 
 -- and a clause
-pub due_free : (c : Command) (j : Judge) → AllByRecursion IsFree (due_for c j)
-due_free (Clause ls) j = free_both (bringing (names_of ls) j) (Adds ls ∷ []) (bringing_free (names_of ls) j) ((λ b. tt), tt)
-due_free (Ask ls) j = tt
-due_free (Hide names) j = hiding_free names j
-due_free (Witness names) j = setting_free Witnessed names j
-due_free (Sample names) j = setting_free Sampled names j
+pub due_free : (unsat : Bool) (c : Command) (j : Judge) → AllByRecursion IsFree (due_for unsat c j)
+due_free true (Clause ls) j = free_both (bringing (names_of ls) j) [] (bringing_free (names_of ls) j) tt
+due_free false (Clause ls) j = free_both (bringing (names_of ls) j) (Adds ls ∷ []) (bringing_free (names_of ls) j) ((λ b. tt), tt)
+due_free unsat (Ask ls) j = tt
+due_free unsat (Hide names) j = hiding_free names j
+due_free unsat (Witness names) j = setting_free Witnessed names j
+due_free unsat (Sample names) j = setting_free Sampled names j

@@ -1,22 +1,22 @@
 -- The next command that is lent was served.
-use Rattle.std.proofs.Common.{◌≡◌, ◌∙◌, false, Some, None, Result, Ok, Err, OnOk, sym, subst}
+use Rattle.std.proofs.Common.{◌≡◌, false, Some, None, Result, Ok, Err, OnOk, sym, subst}
 use Rattle.sat_base.specs.device.Device.{Writer}
 use Rattle.sat_base.specs.script.Script.{Command}
-use Rattle.sat_base.specs.script.Judge.{Judge, Refusal, accepted}
+use Rattle.sat_base.specs.script.Judge.{Judge, accepted}
 use Rattle.certify.specs.declared.fault.RunFault.{RunFault}
 use Rattle.certify.specs.declared.judge.Refusal.{Refusal as CodeRefusal}
 use Rattle.certify.specs.declared.reading.Command.{Command as Lent}
 use Rattle.certify.specs.declared.serving.session.Session.{Session}
-use Rattle.certify.specs.judge.Names.{Judges, Stands, refusal_said}
+use Rattle.certify.specs.judge.Names.{Judges, Stands, refusal_in}
 use Rattle.certify.specs.reading.Commands.{IsLent}
 use Rattle.certify.specs.serving.Standing.{CarriedOut, GoesOn, Refused, ServedNext, spelled_by}
-use Rattle.certify.proofs.lemmas.serving.Lent.{lent_is, said}
+use Rattle.certify.proofs.lemmas.serving.Lent.{lent_is}
 use Rattle.certify.proofs.lemmas.serving.Next.{counted, refused_next, taken_next}
 
 module _ {C : Type 0} (seen : C → Writer) (old new : Session C) (lent : Lent) (before after : Writer) (on : GoesOn old) where
   pub refused_served : (r : Result (Unit {0}) RunFault) (refusal : CodeRefusal) → Judges (Some refusal) old.names lent
-      → ((why : Refusal) → refusal_said (Some refusal) ≡ Some why → OnOk r (Refused (counted old) new why before after)) → (c : Command) → IsLent lent c → OnOk r (ServedNext seen old new c before after)
-  refused_served (Ok x) refusal judges h c l = let w = said refusal in refused_next seen old new c before after on w.0 (h w.0 w.1) (λ j s. sym (judges j c s l) ∙ w.1)
+      → OnOk r (Refused (counted old) new (refusal_in refusal) before after) → (c : Command) → IsLent lent c → OnOk r (ServedNext seen old new c before after)
+  refused_served (Ok x) refusal judges h c l = refused_next seen old new c before after on (refusal_in refusal) h (λ j s. sym (judges j c s l))
   refused_served (Err e) refusal judges h c l = tt
 
   pub taken_served : (r : Result (Unit {0}) RunFault) → lent.past_limit ≡ false → Judges None old.names lent → OnOk r (CarriedOut seen (counted old) new (spelled_by lent) before after)

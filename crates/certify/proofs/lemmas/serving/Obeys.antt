@@ -1,26 +1,29 @@
 -- Commands that a solver carries out by itself.
-use Rattle.std.proofs.Common.{ℕ, ◌+◌, ◌<◌, ◌≡◌, ◌∙◌, List, [], ◌∷◌, ◌++◌, map, length, get_or, take, refl, sym, ap, subst, append_assoc}
+use Rattle.std.proofs.Common.{ℕ, ◌+◌, ◌<◌, ◌≡◌, ◌∙◌, Bool, List, [], ◌∷◌, ◌++◌, map, length, get_or, take, inl, inr, refl, sym, ap, subst, append_assoc}
 use Rattle.std.proofs.lemmas.List.{map-append, take_more}
 use Rattle.sat_base.specs.device.Device.{Writer}
 use Rattle.sat_base.specs.values.Literals.{variable}
-use Rattle.sat_base.specs.script.Script.{Clause}
+use Rattle.sat_base.specs.script.Script.{Clause, Among}
 use Rattle.sat_base.specs.script.Judge.{Judge, Mode, Sampled, Witnessed, accepted, bring_in, hide_all, new_names, set_all, with_mode, without_name}
+use Rattle.sat_base.specs.steps.Steps.{Step}
 use Rattle.sat_checker.specs.matching.Expected.{NewName, NoName, hiding, setting}
+use Rattle.sat_checker.specs.matching.ProofChecking.{the_checking}
 use Rattle.sat_solver.specs.declared.solver.Solver.{Solver}
 use Rattle.sat_solver.specs.names.Calls.{Agree}
 use Rattle.sat_solver.specs.names.Refusing.{names_in}
 use Rattle.sat_solver.specs.solver.Adding.{Added}
 use Rattle.sat_solver.specs.solver.Naming.{Renamed}
 use Rattle.sat_solver.specs.solver.Whole.{steps_in}
+use Rattle.sat_solver.proofs.lemmas.session.ComingLemmas.{comes_both, comes_map, comes_none}
 use Rattle.certify.specs.answers.AnswerForms.{named_literals}
 use Rattle.certify.specs.declared.judge.NameState.{NameState}
 use Rattle.certify.specs.declared.judge.NameState.TheVariants as state
 use Rattle.certify.specs.serving.Calls.{IsReady, proof_in}
 use Rattle.certify.specs.serving.Obeying.{Obeyed, command_to, due_to, may_to}
-use Rattle.certify.specs.serving.Serving.{IsNoAsk, Leads, due_for}
-use Rattle.certify.proofs.lemmas.serving.ClauseServed.{clause_agrees, clause_leads}
+use Rattle.certify.specs.serving.Stretches.{IsNoAsk, Makes, MayFor, due_for, made}
+use Rattle.certify.proofs.lemmas.serving.ClauseServed.{clause_agrees, clause_stretch}
 use Rattle.certify.proofs.lemmas.serving.Converted.{due_as, hiding_due, made_of, setting_due}
-use Rattle.certify.proofs.lemmas.serving.Making.{due_free, leads_both, leads_free, leads_none}
+use Rattle.certify.proofs.lemmas.serving.Making.{makes_both}
 use Rattle.certify.proofs.lemmas.serving.SessionCalls.{took_both, took_none}
 
 -- SEVERAL NAMES, AND THEN OTHERS
@@ -50,15 +53,40 @@ accepted_both state.Hidden xs ys j = hidden_both xs ys j
 accepted_both state.Sampled xs ys j = set_both Sampled xs ys j
 accepted_both state.Witnessed xs ys j = set_both Witnessed xs ys j
 
-due_both : (st : NameState) (xs ys : List ℕ) (j : Judge) → due_for (command_to st (xs ++ ys)) j ≡ due_for (command_to st xs) j ++ due_for (command_to st ys) (accepted (command_to st xs) j)
-due_both state.Hidden xs ys j = hiding_both xs ys j
-due_both state.Sampled xs ys j = setting_both Sampled xs ys j
-due_both state.Witnessed xs ys j = setting_both Witnessed xs ys j
+-- recorded unsat is of no matter to names
+due_both : (st : NameState) (u v : Bool) (xs ys : List ℕ) (j : Judge) → due_for u (command_to st (xs ++ ys)) j ≡ due_for u (command_to st xs) j ++ due_for v (command_to st ys) (accepted (command_to st xs) j)
+due_both state.Hidden u v xs ys j = hiding_both xs ys j
+due_both state.Sampled u v xs ys j = setting_both Sampled xs ys j
+due_both state.Witnessed u v xs ys j = setting_both Witnessed xs ys j
 
-due_same : (st : NameState) (names : List ℕ) (j : Judge) → due_to st names j ≡ map due_as (due_for (command_to st names) j)
-due_same state.Hidden names j = hiding_due names j
-due_same state.Sampled names j = setting_due Sampled names j
-due_same state.Witnessed names j = setting_due Witnessed names j
+due_same : (st : NameState) (u : Bool) (names : List ℕ) (j : Judge) → due_to st names j ≡ map due_as (due_for u (command_to st names) j)
+due_same state.Hidden u names j = hiding_due names j
+due_same state.Sampled u names j = setting_due Sampled names j
+due_same state.Witnessed u names j = setting_due Witnessed names j
+
+-- what may come for one of several names
+front_among : (x : ℕ) (xs ys : List ℕ) → Among x xs → Among x (xs ++ ys)
+front_among x [] ys m = absurd m
+front_among x (y ∷ xs) ys m = elim m [ inl e ↦ inl e | inr k ↦ inr (front_among x xs ys k) ]
+
+back_among : (x : ℕ) (xs ys : List ℕ) → Among x ys → Among x (xs ++ ys)
+back_among x [] ys m = m
+back_among x (y ∷ xs) ys m = inr (back_among x xs ys m)
+
+may_one : (st : NameState) (name : ℕ) (earlier : List Step) (step : Step) → may_to st name earlier step → MayFor (command_to st (name ∷ [])) earlier step
+may_one state.Hidden name earlier step m = m
+may_one state.Sampled name earlier step m = (name, inl refl, m)
+may_one state.Witnessed name earlier step m = (name, inl refl, m)
+
+may_front : (st : NameState) (xs ys : List ℕ) (earlier : List Step) (step : Step) → MayFor (command_to st xs) earlier step → MayFor (command_to st (xs ++ ys)) earlier step
+may_front state.Hidden xs ys earlier step m = m
+may_front state.Sampled xs ys earlier step m = (m.0, front_among m.0 xs ys m.1, m.2)
+may_front state.Witnessed xs ys earlier step m = (m.0, front_among m.0 xs ys m.1, m.2)
+
+may_back : (st : NameState) (xs ys : List ℕ) (earlier : List Step) (step : Step) → MayFor (command_to st ys) earlier step → MayFor (command_to st (xs ++ ys)) earlier step
+may_back state.Hidden xs ys earlier step m = m
+may_back state.Sampled xs ys earlier step m = (m.0, back_among m.0 xs ys m.1, m.2)
+may_back state.Witnessed xs ys earlier step m = (m.0, back_among m.0 xs ys m.1, m.2)
 
 pub names_ask_nothing : (st : NameState) (names : List ℕ) → IsNoAsk (command_to st names)
 names_ask_nothing state.Hidden names = tt
@@ -70,10 +98,10 @@ none_accepted state.Hidden j = refl
 none_accepted state.Sampled j = refl
 none_accepted state.Witnessed j = refl
 
-none_due : (st : NameState) (j : Judge) → due_for (command_to st []) j ≡ []
-none_due state.Hidden j = refl
-none_due state.Sampled j = refl
-none_due state.Witnessed j = refl
+none_due : (st : NameState) (u : Bool) (j : Judge) → due_for u (command_to st []) j ≡ []
+none_due state.Hidden u j = refl
+none_due state.Sampled u j = refl
+none_due state.Witnessed u j = refl
 
 -- the next of several names
 pub name_more : (codes : List ℕ) (k code v : ℕ) → k < length codes → code ≡ get_or codes k code → v ≡ variable code → names_in (take k codes) ++ ((v + 1) ∷ []) ≡ names_in (take (k + 1) codes)
@@ -91,7 +119,15 @@ module _ {C : Type 0} (seen : C → Writer) where
     clock = r.clock;
     keeps = λ j live agree.
         let k = r.did.does.kept j live agree in
-        (k.live, k.agree, leads_free (made_of (due_for (command_to st (name ∷ [])) j) k.writes (due_same st (name ∷ []) j)) (due_free (command_to st (name ∷ [])) j));
+        let u = the_checking.unsat (steps_in a) in
+        let c = command_to st (name ∷ []) in (
+          k.live,
+          k.agree,
+          record {
+            due = made_of (due_for u c j) k.writes (due_same st u (name ∷ []) j);
+            comes = comes_map (may_to st name) (MayFor c) (may_one st name) (steps_in a) (steps_in b) r.comes;
+          },
+        );
   }
 
   pub none_obeyed : (st : NameState) (a : Solver C) → IsReady a → Obeyed seen (command_to st []) a a
@@ -103,7 +139,10 @@ module _ {C : Type 0} (seen : C → Writer) where
     keeps = λ j live agree. (
       live,
       subst (λ k. Agree a.names (steps_in a) k live) (sym (none_accepted st j)) agree,
-      subst (Leads (steps_in a) (steps_in a)) (sym (none_due st j)) (leads_none (steps_in a)),
+      record {
+        due = subst (Makes the_checking (steps_in a) (steps_in a)) (sym (none_due st (the_checking.unsat (steps_in a)) j)) made;
+        comes = comes_none (MayFor (command_to st [])) (steps_in a);
+      },
     );
   }
 
@@ -118,19 +157,24 @@ module _ {C : Type 0} (seen : C → Writer) where
         let y = g.keeps (accepted (command_to st xs) j) x.0 x.1 in (
           y.0,
           subst (λ k. Agree c.names (steps_in c) k y.0) (sym (accepted_both st xs ys j)) y.1,
-          subst (Leads (steps_in a) (steps_in c)) (sym (due_both st xs ys j))
-              (leads_both (due_for (command_to st xs) j) (due_for (command_to st ys) (accepted (command_to st xs) j)) x.2 y.2),
+          record {
+            due = subst (Makes the_checking (steps_in a) (steps_in c)) (sym (due_both st (the_checking.unsat (steps_in a)) (the_checking.unsat (steps_in b)) xs ys j)) (makes_both x.2.due y.2.due);
+            comes = comes_both (MayFor (command_to st (xs ++ ys))) (steps_in a) (steps_in b) (steps_in c)
+                (comes_map (MayFor (command_to st xs)) (MayFor (command_to st (xs ++ ys))) (may_front st xs ys) (steps_in a) (steps_in b) x.2.comes)
+                (comes_map (MayFor (command_to st ys)) (MayFor (command_to st (xs ++ ys))) (may_back st xs ys) (steps_in b) (steps_in c) y.2.comes);
+          },
         );
   }
 
   -- a clause came in
-  pub clause_obeyed : (user : List ℕ) (a b : Solver C) → IsReady b → Added seen a b user → Obeyed seen (Clause (named_literals user)) a b
-  clause_obeyed user a b ready added = record {
+  pub clause_obeyed : (user : List ℕ) (a b : Solver C) → IsReady a → IsReady b → Added seen a b user → Obeyed seen (Clause (named_literals user)) a b
+  clause_obeyed user a b before ready added = record {
     ready = ready;
     took = added.did.took;
     assumed = added.assumed;
     clock = added.clock;
     keeps = λ j live agree.
-        let then = clause_agrees seen a b user added j live agree in
-        (then.0, then.1, clause_leads seen a b user added j live agree);
+        let whole = before.solver before.going in
+        let then = clause_agrees seen a b user whole added j live agree in
+        (then.0, then.1, clause_stretch seen a b user whole added j live agree);
   }

@@ -1,15 +1,14 @@
 -- Commands that are served one after another.
-use Rattle.std.proofs.Common.{ℕ, ◌+◌, ◌≡◌, ◌∙◌, List, [], ◌∷◌, ◌++◌, map, None, refl, sym, ap, subst, arith, append_assoc}
+use Rattle.std.proofs.Common.{ℕ, ◌+◌, ◌≡◌, ◌∙◌, List, [], ◌∷◌, ◌++◌, map, refl, sym, ap, subst, arith, append_assoc}
 use Rattle.std.proofs.lemmas.List.{map-append}
 use Rattle.sat_base.specs.script.Script.{Command}
 use Rattle.sat_base.specs.script.Judge.{accepted_of}
-use Rattle.sat_checker.specs.matching.Expected.{Outcome, expected}
-use Rattle.sat_checker.specs.matching.ProofChecking.{the_checking}
+use Rattle.sat_checker.specs.matching.Expected.{Outcome}
 use Rattle.certify.specs.answers.Answers.{answers_from}
 use Rattle.certify.specs.answers.RightAnswers.{AreRight}
 use Rattle.certify.specs.run.FinishedRun.{refused_count, kind_of, AreSpent, asked_steps}
-use Rattle.certify.specs.serving.Certifies.{Certifies}
 use Rattle.certify.specs.serving.Serving.{Place, Serves, steps_of}
+use Rattle.certify.specs.serving.Stretches.{MadeFor}
 use Rattle.certify.specs.declared.summary.AskReport.{AskReport}
 
 pub serves_none : (budget : ℕ) (a : Place) → Serves budget a a [] [] [] 0
@@ -21,7 +20,7 @@ serves_none budget a = record {
   kinds = refl;
   spent = tt;
   rounds = omega arith;
-  certifies = λ all left rest counts c. c;
+  follows = λ to left rest counts m. m;
 }
 
 pub spent_both : (budget before : ℕ) (rs qs : List AskReport) → AreSpent budget before rs → AreSpent budget (before + steps_of rs) qs → AreSpent budget before (rs ++ qs)
@@ -52,9 +51,9 @@ serves_then budget a b c xs ys s t rs qs k l f g = record {
   kinds = map-append (λ (r : AskReport). r.answer) rs qs ∙ ap (λ ks. ks ++ map (λ (r : AskReport). r.answer) qs) f.kinds ∙ ap (λ ks. map kind_of f.outcomes ++ ks) g.kinds ∙ sym (map-append kind_of f.outcomes g.outcomes);
   spent = spent_both budget a.rounds rs qs f.spent (subst (λ m. AreSpent budget m qs) f.rounds g.spent);
   rounds = let e = f.rounds in let d = g.rounds in let h = steps_both rs qs in omega arith;
-  certifies = λ all left rest counts x.
-      let P : List Command → List Outcome → List ℕ → Type 0 = λ cs os ns. Certifies the_checking all None a.steps (expected a.judge (accepted_of a.judge cs) os) ns in
-      let whole = f.certifies all (ys ++ left) (g.outcomes ++ rest) (asked_steps qs ++ counts) (g.certifies all left rest counts x) in
+  follows = λ to left rest counts x.
+      let P : List Command → List Outcome → List ℕ → Type 0 = λ cs os ns. MadeFor a.judge a.steps to (accepted_of a.judge cs) os ns in
+      let whole = f.follows to (ys ++ left) (g.outcomes ++ rest) (asked_steps qs ++ counts) (g.follows to left rest counts x) in
       let n : asked_steps rs ++ (asked_steps qs ++ counts) ≡ asked_steps (rs ++ qs) ++ counts = sym (append_assoc (asked_steps rs) (asked_steps qs) counts) ∙ ap (λ ns. ns ++ counts) (sym (map-append (λ (r : AskReport). r.steps) rs qs)) in
       subst (λ cs. P cs ((f.outcomes ++ g.outcomes) ++ rest) (asked_steps (rs ++ qs) ++ counts)) (sym (append_assoc xs ys left))
       (subst (λ os. P (xs ++ (ys ++ left)) os (asked_steps (rs ++ qs) ++ counts)) (sym (append_assoc f.outcomes g.outcomes rest))

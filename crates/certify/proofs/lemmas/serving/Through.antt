@@ -9,35 +9,32 @@ use Rattle.sat_base.specs.script.Script.{Command, Ask, Ending, Clean, Malformed,
 use Rattle.sat_base.specs.script.Judge.{Judge, accepted, accepted_of, after_command}
 use Rattle.sat_base.specs.steps.Steps.{Step}
 use Rattle.sat_base.proofs.lemmas.device.Writes as writes
-use Rattle.sat_checker.specs.matching.Expected.{Outcome, Finish, expected}
-use Rattle.sat_checker.specs.matching.ProofChecking.{the_checking}
+use Rattle.sat_checker.specs.matching.Expected.{Outcome}
 use Rattle.sat_solver.specs.declared.solver.Solver.{Solver}
 use Rattle.sat_solver.specs.session.Making.{Took, Broke}
 use Rattle.sat_solver.specs.solver.Whole.{steps_in}
 use Rattle.certify.specs.Calls.{NoneFailed, OneFailed}
 use Rattle.certify.specs.answers.Answers.{answers_from, ending_text, malformed_line}
-use Rattle.certify.specs.answers.RightAnswers.{AreRight}
 use Rattle.certify.specs.confirm.Streams.{Covers, rest_in}
 use Rattle.certify.specs.declared.fault.RunFault.{RunFault}
 use Rattle.certify.specs.declared.fault.RunFault.TheVariants as fault
-use Rattle.certify.specs.declared.reading.Reached.TheVariants as reached
 use Rattle.certify.specs.declared.reading.ScriptEnd.{ScriptEnd}
 use Rattle.certify.specs.declared.reading.ScriptEnd.TheVariants as ends
 use Rattle.certify.specs.declared.reading.reader.ScriptReader.{ScriptReader}
 use Rattle.certify.specs.declared.reading.stream.Next.TheVariants as next
 use Rattle.certify.specs.declared.serving.session.Session.{Session}
 use Rattle.certify.specs.declared.summary.AskReport.{AskReport}
-use Rattle.certify.specs.reading.Ahead.{Failed, Kept, Took as TookOf}
-use Rattle.certify.specs.reading.Commands.{HasWhole, Means, MeansIf, ReachesCommand, TakesBytes, end_reading, end_if}
+use Rattle.certify.specs.reading.Ahead.{Kept, Took as TookOf}
+use Rattle.certify.specs.reading.Commands.{HasWhole, Means, MeansIf, ReachesCommand, end_reading, end_if}
 use Rattle.certify.specs.reading.Streaming.{Arrives, Comes}
-use Rattle.certify.specs.run.FinishedRun.{refused_count, malformed_at, kind_of, AreSpent, asked_steps}
+use Rattle.certify.specs.run.FinishedRun.{malformed_at, kind_of, AreSpent, asked_steps}
 use Rattle.certify.specs.serving.Calls.{Faults, IsReady, proof_in}
-use Rattle.certify.specs.serving.Certifies.{Certifies}
 use Rattle.certify.specs.serving.Serving.{Place, Serves}
 use Rattle.certify.specs.serving.Standing.{CarriedOut, GoesOn, IsAt, ServedNext, WritesBoth, last_place, place_in}
-use Rattle.certify.specs.serving.Whole.{Cause, Ends, FailsWhole, GoesThrough, ServedAll, ServesTo, ServesWhole, run_fault}
+use Rattle.certify.specs.serving.Stretches.{MadeFor, made_none}
+use Rattle.certify.specs.serving.Whole.{Ends, FailsWhole, GoesThrough, ServedAll, ServesTo, ServesWhole, run_fault}
 use Rattle.certify.proofs.lemmas.confirm.Streams.{all_over, nothing_behind, taken_front}
-use Rattle.certify.proofs.lemmas.matching.Joining.{covers_given, covers_took, failed_then, kept_then, took_kept, took_none as took_nothing, took_open, took_then}
+use Rattle.certify.proofs.lemmas.matching.Joining.{covers_took, failed_then, kept_then, took_kept, took_none as took_nothing, took_open, took_then}
 use Rattle.certify.proofs.lemmas.serving.Served.{serves_none, serves_then, spent_both}
 use Rattle.certify.proofs.lemmas.serving.SessionCalls.{took_none, took_both, broke_later}
 
@@ -51,7 +48,7 @@ to_end budget a ending = record {
   refuses = refl;
   kinds = refl;
   spent = tt;
-  certifies = λ all c. c;
+  follows = made_none;
 }
 
 pub to_then : (budget : ℕ) (a b : Place) (cs : List Command) (script : Reading) (to : List Step) (s t : List ℕ) (rs qs : List AskReport) (k l : ℕ)
@@ -63,9 +60,9 @@ to_then budget a b cs script to s t rs qs k l f g = record {
   refuses = f.refuses script.0 ∙ ap (λ (n : ℕ). k + n) g.refuses;
   kinds = map-append (λ (r : AskReport). r.answer) rs qs ∙ ap (λ ks. ks ++ map (λ (r : AskReport). r.answer) qs) f.kinds ∙ ap (λ ks. map kind_of f.outcomes ++ ks) g.kinds ∙ sym (map-append kind_of f.outcomes g.outcomes);
   spent = spent_both budget a.rounds rs qs f.spent (subst (λ m. AreSpent budget m qs) f.rounds g.spent);
-  certifies = λ all c.
-      subst (λ ns. Certifies the_checking all None a.steps (expected a.judge (accepted_of a.judge (cs ++ script.0)) (f.outcomes ++ g.outcomes)) ns) (sym (map-append (λ (r : AskReport). r.steps) rs qs))
-      (f.certifies all script.0 g.outcomes (asked_steps qs) (g.certifies all c));
+  follows =
+      subst (λ ns. MadeFor a.judge a.steps to (accepted_of a.judge (cs ++ script.0)) (f.outcomes ++ g.outcomes) ns) (sym (map-append (λ (r : AskReport). r.steps) rs qs))
+      (f.follows to script.0 g.outcomes (asked_steps qs) g.follows);
 }
 
 -- SESSIONS
@@ -204,7 +201,7 @@ module _ {C : Type 0} (seen : C → Writer) where
           refuses = t.refuses;
           kinds = t.kinds;
           spent = t.spent;
-          certifies = t.certifies;
+          follows = t.follows;
         };
       }
 

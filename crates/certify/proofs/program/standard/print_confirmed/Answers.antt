@@ -3,8 +3,7 @@ use Rattle.sat_base.specs.device.Device.{Takes}
 use Rattle.sat_base.proofs.lemmas.device.Writes.{took_more}
 use Rattle.sat_checker.specs.matching.ProofChecking.{the_checking}
 use Rattle.certify.specs.confirm.Matches.{Matches}
-use Rattle.certify.specs.confirm.VerdictPromises.{AreRightAnswers}
-use Rattle.certify.specs.program.Printing.{verdict_text}
+use Rattle.certify.specs.program.Printing.{IsAnswered, verdict_text}
 use Rattle.certify.specs.reading.Language.{reading}
 use Rattle.certify.specs.declared.verdict.Verdict.TheVariants.{Yes}
 use Rattle.certify.proofs.program.standard.print_confirmed.Goals as goal
@@ -28,7 +27,7 @@ returns-clause-printed g c =
     let answers = subst (Takes a b) (c.deref.ensures.value ∙ sym c.deref-2.ensures.value) c.in_ok-write_out.ensures in
     record {
       answers = printed;
-      right = subst (AreRightAnswers text) (sym c.deref-2.ensures.value) written.right;
+      answered = subst (IsAnswered text) (sym c.deref-2.ensures.value) written.answered;
       printed = took_more a b f printed last answers (subst (Takes b f) (append-nil last) line);
       flushed = c.in_ok-flush_out.ensures.flushed;
       done = search rules;

@@ -4,7 +4,8 @@ use Rattle.std.specs.Bool.{MatchBool}
 use Rattle.certify.specs.answers.Answers.{refused_line}
 use Rattle.certify.specs.matching.Lines.{TakesLine}
 use Rattle.certify.specs.matching.Halting.{Replies}
-use Rattle.certify.specs.matching.Lines.{IsLine, answers_source, refusal_in}
+use Rattle.certify.specs.judge.Names.{refusal_in}
+use Rattle.certify.specs.matching.Lines.{IsLine, answers_source}
 use Rattle.certify.proofs.matching.answers.Answers.refuse.Goals as goal
 
 pub take_due-requires-clause-line : goal.take_due-requires-clause-line

@@ -2,9 +2,10 @@ use Rattle.std.proofs.Common.{◌≡◌, ◌<◌, ◌^◌, ◌++◌, [], Ok, Err
 use Rattle.certify.specs.declared.judge.Refusal.TheVariants as code
 use Rattle.std.specs.Bool.{MatchBool}
 use Rattle.certify.specs.answers.Answers.{refused_line}
-use Rattle.certify.specs.matching.Lines.{IsLine, refusal_in}
+use Rattle.certify.specs.judge.Names.{refusal_in}
+use Rattle.certify.specs.matching.Lines.{IsLine}
 use Rattle.certify.proofs.lemmas.matching.Lines.{limit_is_line}
-use Rattle.certify.proofs.matching.answers.push_refused.Goals as goal
+use Rattle.certify.proofs.answers.refused.push_refused.Goals as goal
 
 pub returns-in-Limit-clause-text : goal.returns-in-Limit-clause-text
 returns-in-Limit-clause-text c = subst (λ r. OnOk c.push_refused_limit.result (c.push_refused_limit.new.out.items ≡ c.args.out.now.items ++ refused_line c.args.command (refusal_in r))) (sym c.in-Limit.is) c.push_refused_limit.ensures

@@ -2,7 +2,7 @@ use Rattle.std.proofs.Common.{◌≡◌, ◌<◌, ◌^◌, ◌++◌, [], Ok, Err
 use Rattle.std.proofs.lemmas.Result.{err_from_is_err_and}
 use Rattle.std.specs.Bool.{MatchBool}
 use Rattle.certify.proofs.lemmas.matching.Lines.{witness_is_line}
-use Rattle.certify.proofs.matching.answers.push_refused_witness.Goals as goal
+use Rattle.certify.proofs.answers.refused.push_refused_witness.Goals as goal
 
 pub returns-clause-line : goal.returns-clause-line
 returns-clause-line c = let low : c.args.command < 2 ^ 64 = omega arith in witness_is_line c.args.command c.args.name low (omega (arith, c.index.ensures.bound, c.index.ensures.value))
