@@ -1,8 +1,8 @@
 -- What a finished run has done, and why one wasn't finished.
-use Rattle.std.specs.Prelude.{ℕ, ◌+◌, ◌≡◌, ◌≤◌, true, Option, Some, None, is_some, List, [], ◌∷◌, map, length, reverse, Result, IfOk, if◌then◌else◌}
+use Rattle.std.specs.Prelude.{ℕ, ◌+◌, ◌*◌, ◌^◌, ◌<◌, ◌≡◌, ◌≤◌, true, Option, Some, None, is_some, List, [], ◌∷◌, map, length, reverse, Result, IfOk, if◌then◌else◌}
 use Rattle.sat_base.specs.device.Device.{Reader, Writer, GaveEnough, Takes}
-use Rattle.sat_base.specs.script.Script.{Command, Ending, Clean, Malformed}
-use Rattle.sat_base.specs.script.Judge.{Judge, refusal_of, after_command, accepted_of, start}
+use Rattle.sat_base.specs.script.Script.{Command, Clause, Ask, Hide, Witness, Sample, Ending, Clean, Malformed}
+use Rattle.sat_base.specs.script.Judge.{Judge, refusal_of, after_command, accepted, accepted_of, start}
 use Rattle.sat_base.specs.steps.Steps.{Step, End}
 use Rattle.sat_base.specs.steps.StepText.{SpellsSteps}
 use Rattle.certify.specs.answers.Answers.{answers_text}
@@ -43,14 +43,31 @@ pub record IsSpent (budget before : ℕ) (report : AskReport) : Type 0 where
   pub within : report.steps ≤ steps_left budget before
   pub unknown : report.answer ≡ kind.Unknown → report.steps ≡ steps_left budget before
 
+-- Where n identities were given out once its names came in, it takes fewer than 2^(2n+3) steps, so it has an answer where as many are left.
+pub record IsBounded (n budget before : ℕ) (report : AskReport) : Type 0 where
+  pub few : report.steps < 2 ^ (2 * n + 3)
+  pub answered : 2 ^ (2 * n + 3) ≤ steps_left budget before → report.answer ≡ kind.Unknown → ⊥
+
+-- how many identities were given out as each ask began, of commands that aren't refused
+abbrev pub identities_given : Judge → List Command → List ℕ
+identities_given j [] = []
+identities_given j (Ask ls ∷ commands) = (accepted (Ask ls) j).next_identity ∷ identities_given (accepted (Ask ls) j) commands
+identities_given j (Clause ls ∷ commands) = identities_given (accepted (Clause ls) j) commands
+identities_given j (Hide names ∷ commands) = identities_given (accepted (Hide names) j) commands
+identities_given j (Witness names ∷ commands) = identities_given (accepted (Witness names) j) commands
+identities_given j (Sample names ∷ commands) = identities_given (accepted (Sample names) j) commands
+
 -- the steps of each ask
 abbrev pub asked_steps : List AskReport → List ℕ
 asked_steps reports = map (λ r. r.steps) reports
 
--- each ask's steps, the earlier ones having taken these before
-abbrev pub AreSpent : ℕ → ℕ → List AskReport → Type 0
-AreSpent budget before [] = Unit {0}
-AreSpent budget before (report ∷ reports) = IsSpent budget before report × AreSpent budget (before + report.steps) reports
+-- each ask's steps, over so many identities, the earlier ones having taken these before
+abbrev pub AreSpent : (budget before : ℕ) → (given : List ℕ) → List AskReport → Type 0
+AreSpent budget before [] [] = Unit {0}
+AreSpent budget before [] (report ∷ reports) = ⊥
+AreSpent budget before (n ∷ ns) [] = ⊥
+AreSpent budget before (n ∷ ns) (report ∷ reports) =
+    IsSpent budget before report × IsBounded n budget before report × AreSpent budget (before + report.steps) ns reports
 
 -- What a finished run says of a text, and answered to it: one outcome for each accepted ask, each right, and their text.
 pub record Answers (text : List ℕ) (budget : ℕ) (summary : Summary) (answered : List ℕ) : Type 0 where
@@ -62,7 +79,7 @@ pub record Answers (text : List ℕ) (budget : ℕ) (summary : Summary) (answere
   pub malformed : summary.malformed ≡ malformed_at (length (reading text).0 + 1) (reading text).1
   -- one report for each outcome, of its kind
   pub kinds : map (λ r. r.answer) summary.asks.items ≡ map kind_of outcomes
-  pub spent : AreSpent budget 0 summary.asks.items
+  pub spent : AreSpent budget 0 (identities_given start (accepted_of start (reading text).0)) summary.asks.items
 
 -- What its certificate is to the answers: it spells steps, the oldest first, which are, in order, those of the accepted commands and of
 -- these outcomes, which took the steps that the summary reports. Each is accepted in its turn. The list has the newest first.

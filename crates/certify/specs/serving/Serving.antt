@@ -6,14 +6,9 @@ use Rattle.sat_base.specs.steps.Steps.{Step}
 use Rattle.sat_checker.specs.matching.Expected.{Outcome}
 use Rattle.certify.specs.answers.Answers.{answers_from}
 use Rattle.certify.specs.answers.RightAnswers.{AreRight}
-use Rattle.certify.specs.run.FinishedRun.{refused_count, kind_of, AreSpent, asked_steps}
+use Rattle.certify.specs.run.FinishedRun.{refused_count, kind_of, AreSpent, asked_steps, identities_given}
 use Rattle.certify.specs.serving.Stretches.{MadeFor}
 use Rattle.certify.specs.declared.summary.AskReport.{AskReport}
-
--- how all asks took together
-abbrev pub steps_of : List AskReport → ℕ
-steps_of [] = 0
-steps_of (r ∷ rs) = r.steps + steps_of rs
 
 -- where a run stands: the judge's state, the number of the next command, the steps made so far and the rounds
 pub record Place : Type 0 where
@@ -34,8 +29,9 @@ pub record Serves (budget : ℕ) (a b : Place) (commands : List Command)
       ≡ answered ++ answers_from b.number b.judge left ending rest
   pub refuses : (left : List Command) → refused_count a.judge (commands ++ left) ≡ refused + refused_count b.judge left
   pub kinds : map (λ r. r.answer) reports ≡ map kind_of outcomes
-  pub spent : AreSpent budget a.rounds reports
-  pub rounds : b.rounds ≡ a.rounds + steps_of reports
+  pub spent : (left : List Command) (rest : List AskReport)
+      → AreSpent budget b.rounds (identities_given b.judge (accepted_of b.judge left)) rest
+      → AreSpent budget a.rounds (identities_given a.judge (accepted_of a.judge (commands ++ left))) (reports ++ rest)
   pub follows : (to : List Step) (left : List Command) (rest : List Outcome) (counts : List ℕ)
       → MadeFor b.judge b.steps to (accepted_of b.judge left) rest counts
       → MadeFor a.judge a.steps to (accepted_of a.judge (commands ++ left)) (outcomes ++ rest) (asked_steps reports ++ counts)

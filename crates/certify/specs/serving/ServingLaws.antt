@@ -12,7 +12,7 @@ use Rattle.certify.specs.answers.AnswerForms.{named_literals}
 use Rattle.certify.specs.answers.Answers.{refused_line, outcome_text}
 use Rattle.certify.specs.answers.RightAnswers.{IsRight}
 use Rattle.certify.specs.laws.Laws.{NamesIncrease}
-use Rattle.certify.specs.run.FinishedRun.{IsSpent, kind_of}
+use Rattle.certify.specs.run.FinishedRun.{IsBounded, IsSpent, kind_of}
 use Rattle.certify.specs.serving.Serving.{Place, Serves, behind}
 use Rattle.certify.specs.serving.Stretches.{AskStretches, IsNoAsk, MayFor, Stretch, due_for}
 use Rattle.certify.specs.declared.summary.AskReport.{AskReport}
@@ -37,6 +37,7 @@ PlainServes = (budget : ℕ) (a : Place) (c : Command) (steps : List Step) → I
 abbrev pub AskServes : Type 0
 AskServes = (budget : ℕ) (a : Place) (ls : List Literal) (o : Outcome) (report : AskReport) (steps : List Step) → refusal_of a.judge (Ask ls) ≡ None
     → IsRight (accepted (Ask ls) a.judge) ls o → report.answer ≡ kind_of o → IsSpent budget a.rounds report
+    → IsBounded (accepted (Ask ls) a.judge).next_identity budget a.rounds report
     → AskStretches a.judge ls o report.steps a.steps steps
     → Serves budget a (behind a (Ask ls) steps (a.rounds + report.steps)) (Ask ls ∷ []) (outcome_text o) (report ∷ []) 0
 

@@ -22,7 +22,7 @@ use Rattle.certify.specs.declared.serving.session.Session.{Session}
 use Rattle.certify.specs.declared.summary.AskReport.{AskReport}
 use Rattle.certify.specs.reading.Ahead.{Failed, Kept, Took as TookOf}
 use Rattle.certify.specs.reading.Commands.{Means, MeansIf}
-use Rattle.certify.specs.run.FinishedRun.{refused_count, malformed_at, kind_of, AreSpent, asked_steps}
+use Rattle.certify.specs.run.FinishedRun.{refused_count, malformed_at, kind_of, AreSpent, asked_steps, identities_given}
 use Rattle.certify.specs.serving.Calls.{IsReady, proof_in}
 use Rattle.certify.specs.serving.Serving.{Place, Serves}
 use Rattle.certify.specs.serving.Standing.{GoesOn, IsAt, place_in}
@@ -53,7 +53,7 @@ pub record ServesTo (budget : ℕ) (a : Place) (script : Reading) (to : List Ste
   pub says : answers_from a.number a.judge script.0 script.1 outcomes ≡ answered
   pub refuses : refused_count a.judge script.0 ≡ refused
   pub kinds : map (λ r. r.answer) reports ≡ map kind_of outcomes
-  pub spent : AreSpent budget a.rounds reports
+  pub spent : AreSpent budget a.rounds (identities_given a.judge (accepted_of a.judge script.0)) reports
   pub follows : MadeFor a.judge a.steps to (accepted_of a.judge script.0) outcomes (asked_steps reports)
 
 -- The whole script was served, in which so many commands stand. It is malformed at this command, if it is.

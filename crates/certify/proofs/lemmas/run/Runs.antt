@@ -32,7 +32,7 @@ use Rattle.certify.specs.declared.summary.Summary.{Summary}
 use Rattle.certify.specs.declared.ahead.Ahead.{Ahead}
 use Rattle.certify.specs.reading.Ahead.{source_in, waiting}
 use Rattle.certify.specs.reading.Language.{reading, written}
-use Rattle.certify.specs.run.FinishedRun.{Answered, Answers, Backs, TookCertificate, WriteFails, asked_steps, malformed_at, AreSpent}
+use Rattle.certify.specs.run.FinishedRun.{Answered, Answers, Backs, TookCertificate, WriteFails, asked_steps, identities_given, malformed_at, AreSpent}
 use Rattle.certify.specs.run.Running.{ReadsFew, Runs, Wrote}
 use Rattle.certify.specs.serving.Calls.{Faults, IsReady, proof_in}
 use Rattle.certify.specs.serving.Certifies.{Certifies, complete, ordered}
@@ -135,7 +135,10 @@ module _ {C : Type 0} (seen : C → Writer) (budget : ℕ) (w : Writer) (s t : S
     refused = let a = sums.refused in let b = serves.refusals in let c = fresh.refused in let d = serves.serves.refuses in omega arith;
     malformed = sums.ends ∙ serves.ends ∙ ap (λ (n : ℕ). malformed_at n (reading text).1) (let c = fresh.commands in let e : s.commands + length (reading text).0 + 1 ≡ length (reading text).0 + 1 = omega arith in e);
     kinds = ap (λ rs. map (λ (r : AskReport). r.answer) rs) asks_are ∙ serves.serves.kinds;
-    spent = subst (λ rs. AreSpent budget 0 rs) (sym asks_are) (subst (λ n. AreSpent n 0 serves.reports) fresh.budget_is (subst (λ n. AreSpent s.budget n serves.reports) fresh.rounds serves.serves.spent));
+    spent =
+        let given = identities_given start (accepted_of start (reading text).0) in
+        subst (λ rs. AreSpent budget 0 given rs) (sym asks_are)
+        (subst (λ n. AreSpent n 0 given serves.reports) fresh.budget_is (subst (λ n. AreSpent s.budget n given serves.reports) fresh.rounds serves.serves.spent));
   }
 
   followed : MadeFor start [] (steps_in t.solver) (accepted_of start (reading text).0) serves.serves.outcomes (asked_steps serves.reports)

@@ -1,5 +1,5 @@
 -- An ask is served by what its solver did.
-use Rattle.std.proofs.Common.{ℕ, ◌+◌, ◌-◌, ◌<◌, ◌≡◌, ◌∙◌, Bool, true, false, Some, None, List, [], ◌∷◌, ◌++◌, map, refl, sym, ap, subst, arith, inl, inr, ◌⊎◌}
+use Rattle.std.proofs.Common.{ℕ, ◌+◌, ◌*◌, ◌^◌, ◌-◌, ◌<◌, ◌≡◌, ◌∙◌, Bool, true, false, Some, None, List, [], ◌∷◌, ◌++◌, map, refl, sym, ap, subst, arith, inl, inr, ◌⊎◌}
 use Rattle.std.proofs.lemmas.Bool.{both_ways}
 use Rattle.std.proofs.lemmas.List.{map-append}
 use Rattle.std.specs.List.{AllByRecursion}
@@ -33,7 +33,7 @@ use Rattle.certify.specs.declared.summary.Answer.{Answer}
 use Rattle.certify.specs.declared.summary.Answer.TheVariants as kind
 use Rattle.certify.specs.declared.summary.AskReport.{AskReport}
 use Rattle.certify.specs.laws.Laws.{IsKept}
-use Rattle.certify.specs.run.FinishedRun.{IsSpent, kind_of}
+use Rattle.certify.specs.run.FinishedRun.{IsBounded, IsSpent, kind_of}
 use Rattle.certify.specs.serving.Calls.{AnswerIs, Searched}
 use Rattle.certify.specs.serving.Certifies.{IsKnown}
 use Rattle.certify.specs.serving.ServingLaws.{Rising}
@@ -240,6 +240,9 @@ module _ {C : Type 0} (seen : C → Writer) (old mid now new : Solver C) (user :
       subst (λ n. AdvancesIn (steps_in mid) (steps_in now) n) count
       (subst (λ ss. AdvancesIn ss (steps_in now) (now.clock.steps - searched.mid.clock.steps)) same_steps (searched.solved.answered.times st))
 
+  pub ask_spent : IsSpent budget old.clock.steps report
+  ask_spent = subst (λ (n : ℕ). IsSpent budget n report) (ap (λ (x : _). x.steps) opened.clock) searched.spent
+
   module _ (j : Judge) (live : Live) (means : Means old j live) (free : refusal_of j (Ask (named_literals user)) ≡ None) where
     next : Judge
     next = accepted (Ask (named_literals user)) j
@@ -294,11 +297,17 @@ module _ {C : Type 0} (seen : C → Writer) (old mid now new : Solver C) (user :
     pub ask_right : IsRight (accepted (Ask (named_literals user)) j) (named_literals user) (outcome_for report.answer now)
     ask_right = told_right now (named_literals user) assumed_is (accepted (Ask (named_literals user)) j) second.live kept second.agree report.answer right
 
+    -- n is the judge's next identity
+    pub ask_bounded : IsBounded (accepted (Ask (named_literals user)) j).next_identity budget old.clock.steps report
+    ask_bounded =
+        let most : ℕ = 2 ^ (2 * (accepted (Ask (named_literals user)) j).next_identity + 3) in
+        let counted : now.clock.steps < searched.mid.clock.steps + most = searched.solved.answered.counts.on.few (accepted (Ask (named_literals user)) j) first.live agree_at in
+        let r = searched.rounds in let l = searched.limited.rounds in
+        let few : report.steps < most = omega arith in
+        record { few = few; answered = λ left unknown. let all = ask_spent.unknown unknown in omega arith }
+
     pub ask_then : (then : Live) × solver.Agree new.names (steps_in new) (accepted (Ask (named_literals user)) j) then
     ask_then = (third.live, third.agree)
-
-  pub ask_spent : IsSpent budget old.clock.steps report
-  ask_spent = subst (λ (n : ℕ). IsSpent budget n report) (ap (λ (x : _). x.steps) opened.clock) searched.spent
 
   pub ask_rounds : old.clock.steps + report.steps ≡ new.clock.steps
   ask_rounds =

@@ -6,8 +6,8 @@ use Rattle.sat_base.specs.script.Judge.{accepted_of}
 use Rattle.sat_checker.specs.matching.Expected.{Outcome}
 use Rattle.certify.specs.answers.Answers.{answers_from}
 use Rattle.certify.specs.answers.RightAnswers.{AreRight}
-use Rattle.certify.specs.run.FinishedRun.{refused_count, kind_of, AreSpent, asked_steps}
-use Rattle.certify.specs.serving.Serving.{Place, Serves, steps_of}
+use Rattle.certify.specs.run.FinishedRun.{refused_count, kind_of, AreSpent, asked_steps, identities_given}
+use Rattle.certify.specs.serving.Serving.{Place, Serves}
 use Rattle.certify.specs.serving.Stretches.{MadeFor}
 use Rattle.certify.specs.declared.summary.AskReport.{AskReport}
 
@@ -18,20 +18,9 @@ serves_none budget a = record {
   says = λ left ending rest. refl;
   refuses = λ left. omega arith;
   kinds = refl;
-  spent = tt;
-  rounds = omega arith;
+  spent = λ left rest x. x;
   follows = λ to left rest counts m. m;
 }
-
-pub spent_both : (budget before : ℕ) (rs qs : List AskReport) → AreSpent budget before rs → AreSpent budget (before + steps_of rs) qs → AreSpent budget before (rs ++ qs)
-spent_both budget before [] qs h k = subst (λ m. AreSpent budget m qs) (let e : before + 0 ≡ before = omega arith in e) k
-spent_both budget before (r ∷ rs) qs h k =
-    let e : before + (r.steps + steps_of rs) ≡ before + r.steps + steps_of rs = omega arith in
-    (h.0, spent_both budget (before + r.steps) rs qs h.1 (subst (λ m. AreSpent budget m qs) e k))
-
-steps_both : (rs qs : List AskReport) → steps_of (rs ++ qs) ≡ steps_of rs + steps_of qs
-steps_both [] qs = omega arith
-steps_both (r ∷ rs) qs = let ih = steps_both rs qs in omega arith
 
 pub serves_then : (budget : ℕ) (a b c : Place) (xs ys : List Command) (s t : List ℕ) (rs qs : List AskReport) (k l : ℕ)
     → Serves budget a b xs s rs k → Serves budget b c ys t qs l → Serves budget a c (xs ++ ys) (s ++ t) (rs ++ qs) (k + l)
@@ -49,8 +38,10 @@ serves_then budget a b c xs ys s t rs qs k l f g = record {
       let e = f.refuses (ys ++ left) in let d = g.refuses left in
       ap (refused_count a.judge) (append_assoc xs ys left) ∙ (let x : refused_count a.judge (xs ++ (ys ++ left)) ≡ k + l + refused_count c.judge left = omega arith in x);
   kinds = map-append (λ (r : AskReport). r.answer) rs qs ∙ ap (λ ks. ks ++ map (λ (r : AskReport). r.answer) qs) f.kinds ∙ ap (λ ks. map kind_of f.outcomes ++ ks) g.kinds ∙ sym (map-append kind_of f.outcomes g.outcomes);
-  spent = spent_both budget a.rounds rs qs f.spent (subst (λ m. AreSpent budget m qs) f.rounds g.spent);
-  rounds = let e = f.rounds in let d = g.rounds in let h = steps_both rs qs in omega arith;
+  spent = λ left rest x.
+      let P : List Command → List AskReport → Type 0 = λ cs ps. AreSpent budget a.rounds (identities_given a.judge (accepted_of a.judge cs)) ps in
+      subst (λ cs. P cs ((rs ++ qs) ++ rest)) (sym (append_assoc xs ys left))
+      (subst (λ ps. P (xs ++ (ys ++ left)) ps) (sym (append_assoc rs qs rest)) (f.spent (ys ++ left) (qs ++ rest) (g.spent left rest x)));
   follows = λ to left rest counts x.
       let P : List Command → List Outcome → List ℕ → Type 0 = λ cs os ns. MadeFor a.judge a.steps to (accepted_of a.judge cs) os ns in
       let whole = f.follows to (ys ++ left) (g.outcomes ++ rest) (asked_steps qs ++ counts) (g.follows to left rest counts x) in

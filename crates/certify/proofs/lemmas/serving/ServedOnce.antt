@@ -7,7 +7,7 @@ use Rattle.sat_checker.specs.matching.Expected.{Outcome}
 use Rattle.sat_checker.specs.matching.ProofChecking.{the_checking}
 use Rattle.certify.specs.answers.Answers.{answers_from, refused_line, outcome_text}
 use Rattle.certify.specs.answers.RightAnswers.{IsRight, AreRight}
-use Rattle.certify.specs.run.FinishedRun.{kind_of, IsSpent}
+use Rattle.certify.specs.run.FinishedRun.{kind_of, AreSpent, IsBounded, IsSpent, identities_given}
 use Rattle.certify.specs.serving.Serving.{Place, Serves, behind}
 use Rattle.certify.specs.serving.Stretches.{AskStretches, IsNoAsk, MadeFor, MayFor, Stretch, due_for, made_ask, made_one}
 use Rattle.certify.specs.declared.summary.AskReport.{AskReport}
@@ -24,8 +24,7 @@ serves_refused budget a c r e = record {
   says = λ left ending rest. rw e refl;
   refuses = λ left. rw e refl;
   kinds = refl;
-  spent = tt;
-  rounds = omega arith;
+  spent = λ left rest x. subst (λ cs. AreSpent budget a.rounds (identities_given a.judge cs) rest) (sym (accepted_refused a.judge c r left e)) x;
   follows = λ to left rest counts x. subst (λ cs. MadeFor a.judge a.steps to cs rest counts) (sym (accepted_refused a.judge c r left e)) x;
 }
 
@@ -48,6 +47,13 @@ right_next j (Hide names) cs os h x = x
 right_next j (Witness names) cs os h x = x
 right_next j (Sample names) cs os h x = x
 
+given_next : (j : Judge) (c : Command) (cs : List Command) → IsNoAsk c → identities_given j (c ∷ cs) ≡ identities_given (accepted c j) cs
+given_next j (Clause ls) cs h = refl
+given_next j (Ask ls) cs h = absurd h
+given_next j (Hide names) cs h = refl
+given_next j (Witness names) cs h = refl
+given_next j (Sample names) cs h = refl
+
 pub serves_plain : (budget : ℕ) (a : Place) (c : Command) (steps : List Step) → IsNoAsk c → refusal_of a.judge c ≡ None → Stretch (MayFor c) a.steps steps (due_for (the_checking.unsat a.steps) c a.judge)
     → Serves budget a (behind a c steps a.rounds) (c ∷ []) [] [] 0
 serves_plain budget a c steps h e stretch = record {
@@ -56,8 +62,9 @@ serves_plain budget a c steps h e stretch = record {
   says = λ left ending rest. says_none a.number a.judge c left ending rest h e;
   refuses = λ left. rw e refl;
   kinds = refl;
-  spent = tt;
-  rounds = omega arith;
+  spent = λ left rest x.
+      subst (λ cs. AreSpent budget a.rounds (identities_given a.judge cs) rest) (sym (accepted_next a.judge c left e))
+      (subst (λ ns. AreSpent budget a.rounds ns rest) (sym (given_next a.judge c (accepted_of (accepted c a.judge) left) h)) x);
   follows = λ to left rest counts x.
       subst (λ cs. MadeFor a.judge a.steps to cs rest counts) (sym (accepted_next a.judge c left e)) (made_one steps h stretch x);
 }
@@ -65,16 +72,17 @@ serves_plain budget a c steps h e stretch = record {
 -- AN ASK
 
 pub serves_ask : (budget : ℕ) (a : Place) (ls : List Literal) (o : Outcome) (report : AskReport) (steps : List Step) → refusal_of a.judge (Ask ls) ≡ None
-    → IsRight (accepted (Ask ls) a.judge) ls o → report.answer ≡ kind_of o → IsSpent budget a.rounds report → AskStretches a.judge ls o report.steps a.steps steps
+    → IsRight (accepted (Ask ls) a.judge) ls o → report.answer ≡ kind_of o → IsSpent budget a.rounds report
+    → IsBounded (accepted (Ask ls) a.judge).next_identity budget a.rounds report → AskStretches a.judge ls o report.steps a.steps steps
     → Serves budget a (behind a (Ask ls) steps (a.rounds + report.steps)) (Ask ls ∷ []) (outcome_text o) (report ∷ []) 0
-serves_ask budget a ls o report steps e right kind spent made = record {
+serves_ask budget a ls o report steps e right kind spent bounded made = record {
   outcomes = o ∷ [];
   right = λ left rest x. subst (λ cs. AreRight a.judge cs (o ∷ rest)) (sym (accepted_next a.judge (Ask ls) left e)) (right, x);
   says = λ left ending rest. rw e refl;
   refuses = λ left. rw e refl;
   kinds = ap (λ k. k ∷ []) kind;
-  spent = (spent, tt);
-  rounds = omega arith;
+  spent = λ left rest x.
+      subst (λ cs. AreSpent budget a.rounds (identities_given a.judge cs) (report ∷ rest)) (sym (accepted_next a.judge (Ask ls) left e)) (spent, bounded, x);
   follows = λ to left rest counts x.
       subst (λ cs. MadeFor a.judge a.steps to cs (o ∷ rest) (report.steps ∷ counts)) (sym (accepted_next a.judge (Ask ls) left e)) (made_ask steps made x);
 }

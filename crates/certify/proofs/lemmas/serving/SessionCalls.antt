@@ -25,7 +25,7 @@ use Rattle.certify.specs.serving.Calls.{Faults, FailsSolver, IsAllowed, IsReady,
 use Rattle.certify.specs.serving.Serving.{Serves, behind}
 use Rattle.certify.specs.serving.Standing.{CarriedOut, WritesBoth, last_place}
 use Rattle.certify.specs.serving.Telling.{outcome_for}
-use Rattle.certify.proofs.lemmas.serving.AskServed.{ask_steps, ask_right, ask_then, ask_spent, ask_rounds, kind_told}
+use Rattle.certify.proofs.lemmas.serving.AskServed.{ask_bounded, ask_steps, ask_right, ask_then, ask_spent, ask_rounds, kind_told}
 use Rattle.certify.proofs.lemmas.serving.Carried.{place_behind}
 use Rattle.certify.proofs.lemmas.serving.NoLines.{none_still}
 use Rattle.certify.proofs.lemmas.serving.ServedOnce.{serves_ask}
@@ -91,9 +91,10 @@ asked_of seen old new now user text report before after sought told closed comma
       let then = ask_then seen old.solver sought.mid now new.solver user old.budget report sought.opened sought.searched closed sought.right j live means free in
       let right = ask_right seen old.solver sought.mid now new.solver user old.budget report sought.opened sought.searched closed sought.right j live means free in
       let steps = ask_steps seen old.solver sought.mid now new.solver user old.budget report sought.opened sought.searched closed sought.right j live means free in
+      let bounded = ask_bounded seen old.solver sought.mid now new.solver user old.budget report sought.opened sought.searched closed sought.right j live means free in
       let spent = ask_spent seen old.solver sought.mid now new.solver user old.budget report sought.opened sought.searched closed sought.right in
       let rounds = ask_rounds seen old.solver sought.mid now new.solver user old.budget report sought.opened sought.searched closed sought.right in
-      let serves = serves_ask old.budget (last_place old j) (named_literals user) (outcome_for report.answer now) report (steps_in new.solver) free right (kind_told report.answer now) spent steps in (
+      let serves = serves_ask old.budget (last_place old j) (named_literals user) (outcome_for report.answer now) report (steps_in new.solver) free right (kind_told report.answer now) spent bounded steps in (
         then.0,
         then.1,
         subst (λ b. Serves old.budget (last_place old j) b (Ask (named_literals user) ∷ []) text (report ∷ []) 0) (place_behind old new (Ask (named_literals user)) j (old.solver.clock.steps + report.steps) commands rounds)

@@ -35,7 +35,7 @@ use Rattle.certify.specs.serving.Stretches.{MadeFor, made_none}
 use Rattle.certify.specs.serving.Whole.{Ends, FailsWhole, GoesThrough, ServedAll, ServesTo, ServesWhole, run_fault}
 use Rattle.certify.proofs.lemmas.confirm.Streams.{all_over, nothing_behind, taken_front}
 use Rattle.certify.proofs.lemmas.matching.Joining.{covers_took, failed_then, kept_then, took_kept, took_none as took_nothing, took_open, took_then}
-use Rattle.certify.proofs.lemmas.serving.Served.{serves_none, serves_then, spent_both}
+use Rattle.certify.proofs.lemmas.serving.Served.{serves_none, serves_then}
 use Rattle.certify.proofs.lemmas.serving.SessionCalls.{took_none, took_both, broke_later}
 
 -- PLACES
@@ -59,7 +59,7 @@ to_then budget a b cs script to s t rs qs k l f g = record {
   says = f.says script.0 script.1 g.outcomes ∙ ap (λ u. s ++ u) g.says;
   refuses = f.refuses script.0 ∙ ap (λ (n : ℕ). k + n) g.refuses;
   kinds = map-append (λ (r : AskReport). r.answer) rs qs ∙ ap (λ ks. ks ++ map (λ (r : AskReport). r.answer) qs) f.kinds ∙ ap (λ ks. map kind_of f.outcomes ++ ks) g.kinds ∙ sym (map-append kind_of f.outcomes g.outcomes);
-  spent = spent_both budget a.rounds rs qs f.spent (subst (λ m. AreSpent budget m qs) f.rounds g.spent);
+  spent = f.spent script.0 qs g.spent;
   follows =
       subst (λ ns. MadeFor a.judge a.steps to (accepted_of a.judge (cs ++ script.0)) (f.outcomes ++ g.outcomes) ns) (sym (map-append (λ (r : AskReport). r.steps) rs qs))
       (f.follows to script.0 g.outcomes (asked_steps qs) g.follows);
