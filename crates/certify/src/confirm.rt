@@ -56,7 +56,8 @@ pub fn confirm<S: CountedRead, A: CountedRead, C: CountedRead>(
     ensures certificate_read { IsErrOf result ConfirmFault.CertificateRead → ReadFails (C.seen certificate.old) (C.seen certificate.new) }
     ensures counter_end { IsErrOf result ConfirmFault.CounterEnd
         → HasCounterEnd (gave S.seen script.old script.new) (gave C.seen certificate.old certificate.new) }
-    // The looks rise by at most the bounds of accepted steps from the front of the certificate, and perhaps of one that isn't accepted.
+    // The looks rise by at most 16 (n + 1)^2, n being the bytes that the certificate gave: by no more than the bounds of accepted steps from
+    // its front, and perhaps of one that isn't accepted.
     ensures looks { TakesLooks (C.seen certificate.old) (C.seen certificate.new) looks.old looks.new }
 
     // A read of a text has failed only where the answer is that text's fault: neither yes nor no comes after one.

@@ -5,6 +5,7 @@ pub mod LeftByCommand
 pub mod OneStep
 pub mod NamesFrom
 pub mod LiteralSets
+pub mod LooksBound
 pub mod Streams
 pub mod Walks
 pub mod Feeding

@@ -1,5 +1,5 @@
 -- What a verdict promises of the texts that three readers gave.
-use Rattle.std.specs.Prelude.{ℕ, ◌-◌, ◌^◌, ◌≤◌, ◌≡◌, ◌↔◌, ◌⊎◌, Result, IfOk, List, [], ◌++◌, length}
+use Rattle.std.specs.Prelude.{ℕ, ◌+◌, ◌-◌, ◌*◌, ◌^◌, ◌≤◌, ◌≡◌, ◌↔◌, ◌⊎◌, Result, IfOk, List, [], ◌++◌, length}
 use Rattle.sat_base.specs.device.Device.{Reader, GaveFront, GaveEnough, CanFollow}
 use Rattle.certify.specs.answers.Answers.{answers_text}
 use Rattle.sat_checker.specs.matching.Expected.{Outcome}
@@ -44,11 +44,13 @@ pub record AreRightAnswers (script answers : List ℕ) : Type 0 where
 abbrev pub IsSound : Reader × Reader → Reader × Reader → Verdict → Type 0
 IsSound script answers v = v ≡ Yes → Given script (λ s. Given answers (AreRightAnswers s))
 
--- The reader gave a text, and steps from its front lead from one count of looks up to the other, whatever would follow.
+-- The reader gave a text of n bytes, and steps from its front lead from one count of looks up to the other, whatever would follow: with
+-- at most 16 (n + 1)^2 looks.
 pub record TakesLooks (old new : Reader) (from to : ℕ) : Type 0 where
   pub text : List ℕ
   pub front : GaveFront old new text
   pub rises : from ≤ to
+  pub bound : to ≤ from + 16 * (length text + 1) ^ 2
   pub reached : (rest : List ℕ) → CanFollow old new rest → LooksReach [] (text ++ rest) from to
 
 -- the text has so many commands that they can't be counted

@@ -25,6 +25,7 @@ use Rattle.certify.specs.declared.confirm.stop.Stop.{Stop}
 use Rattle.certify.specs.declared.confirm.stop.Stop.TheVariants as stop
 use Rattle.certify.specs.declared.verdict.Why.{Why}
 use Rattle.certify.specs.declared.verdict.Why.TheVariants.{CertificateEnds, StepRefused}
+use Rattle.certify.proofs.lemmas.confirm.LooksBound.{takes_looks}
 use Rattle.certify.proofs.lemmas.confirm.OneStep.{one_step}
 use Rattle.certify.proofs.lemmas.confirm.Walks.{walks_none, walks_on, tries_on, runs_on, tries_if, tries_none, walks_read, walks_fed, tries_fed, runs_fed, walks_settled, tries_kept, tries_spent, runs_spent, never_settled}
 use Rattle.sat_base.proofs.lemmas.steps.Fronts.{no_whole, no_way}
@@ -333,24 +334,18 @@ read_fails r t text b p = (
 
 -- what is so of the looks whatever would follow
 pub took_looks : (n : ℕ) (r : Reader) (t : Source) (text : List ℕ) (to : ℕ) → PassesBut n (unread r) t text → ((total : List ℕ) → Covers t total → LooksReach [] (rest_in total (unread r)) 0 to) → TakesLooks r t.reader 0 to
-took_looks n r t text to p f = record {
-  text = p.fresh;
-  front = record { gave = p.gave; told = told_front r.to_come t.reader.to_come t.waiting text p.fresh p.flows p.bytes; loans = p.loans };
-  rises = omega arith;
-  reached = λ rest k.
-      let whole : t.reader.given ++ rest ≡ r.given ++ (p.fresh ++ rest) = ap (λ (z : List ℕ). z ++ rest) p.gave ∙ append_assoc r.given p.fresh rest in
-      subst (λ bytes. LooksReach [] bytes 0 to) (rest_is (unread r) (t.reader.given ++ rest) (p.fresh ++ rest) whole)
-      (f (t.reader.given ++ rest) (record { later = rest; whole = refl; none = λ h. k (called_some r.calls t.reader.calls t.reads p.calls h.0) h.1 }));
-}
+took_looks n r t text to p f = takes_looks r t.reader p.fresh 0 to
+    (record { gave = p.gave; told = told_front r.to_come t.reader.to_come t.waiting text p.fresh p.flows p.bytes; loans = p.loans }) (omega arith)
+    (λ rest k.
+        let whole : t.reader.given ++ rest ≡ r.given ++ (p.fresh ++ rest) = ap (λ (z : List ℕ). z ++ rest) p.gave ∙ append_assoc r.given p.fresh rest in
+        subst (λ bytes. LooksReach [] bytes 0 to) (rest_is (unread r) (t.reader.given ++ rest) (p.fresh ++ rest) whole)
+        (f (t.reader.given ++ rest) (record { later = rest; whole = refl; none = λ h. k (called_some r.calls t.reader.calls t.reads p.calls h.0) h.1 })))
 
 -- the same where reading failed
 pub took_faulted : (r : Reader) (t : Source) (text : List ℕ) (to : ℕ) → Faults (unread r) t text → ((total : List ℕ) → Covers t total → LooksReach [] (rest_in total (unread r)) 0 to) → TakesLooks r t.reader 0 to
-took_faulted r t text to p f = record {
-  text = p.fresh;
-  front = record { gave = p.gave; told = told_front r.to_come t.reader.to_come t.waiting text p.fresh (p.flows ∙ sym (append-nil text) ∙ ap (λ (z : List ℕ). text ++ z) (sym p.none)) p.bytes; loans = p.loans };
-  rises = omega arith;
-  reached = λ rest k.
-      let whole : t.reader.given ++ rest ≡ r.given ++ (p.fresh ++ rest) = ap (λ (z : List ℕ). z ++ rest) p.gave ∙ append_assoc r.given p.fresh rest in
-      subst (λ bytes. LooksReach [] bytes 0 to) (rest_is (unread r) (t.reader.given ++ rest) (p.fresh ++ rest) whole)
-      (f (t.reader.given ++ rest) (record { later = rest; whole = refl; none = λ h. k (called_some r.calls t.reader.calls t.reads p.calls h.0) h.1 }));
-}
+took_faulted r t text to p f = takes_looks r t.reader p.fresh 0 to
+    (record { gave = p.gave; told = told_front r.to_come t.reader.to_come t.waiting text p.fresh (p.flows ∙ sym (append-nil text) ∙ ap (λ (z : List ℕ). text ++ z) (sym p.none)) p.bytes; loans = p.loans }) (omega arith)
+    (λ rest k.
+        let whole : t.reader.given ++ rest ≡ r.given ++ (p.fresh ++ rest) = ap (λ (z : List ℕ). z ++ rest) p.gave ∙ append_assoc r.given p.fresh rest in
+        subst (λ bytes. LooksReach [] bytes 0 to) (rest_is (unread r) (t.reader.given ++ rest) (p.fresh ++ rest) whole)
+        (f (t.reader.given ++ rest) (record { later = rest; whole = refl; none = λ h. k (called_some r.calls t.reader.calls t.reads p.calls h.0) h.1 })))

@@ -31,6 +31,7 @@ use Rattle.certify.specs.declared.verdict.Verdict.{Verdict}
 use Rattle.certify.specs.declared.verdict.Verdict.TheVariants.{Yes, No}
 use Rattle.certify.specs.declared.verdict.Why.{Why}
 use Rattle.certify.proofs.lemmas.confirm.LeftByCommand.{left_begins}
+use Rattle.certify.proofs.lemmas.confirm.LooksBound.{takes_looks}
 use Rattle.certify.proofs.lemmas.confirm.Streams.{confirms_so, gave_enough, moves_halt, read_fails, took_faulted, took_looks}
 use Rattle.certify.proofs.lemmas.confirm.Walks.{looks_from, tries_if}
 use Rattle.certify.proofs.lemmas.laws.ExpectedOutcomes.{matching_right}
@@ -265,14 +266,10 @@ module _ (x a c : Reader) (checker : Kernel) (step : Step) (table : Table) (fres
         let t = took q.0 q.1 in
         let sum : looks_of new.certificate.checker + before ≡ after = omega (arith, e) in
         let zero : 0 + before ≡ before = omega arith in
-        record {
-          text = t.text;
-          front = t.front;
-          rises = omega (arith, e);
-          reached = λ rest k.
-              subst (λ to. LooksReach [] (t.text ++ rest) before to) sum
-              (subst (λ from. LooksReach [] (t.text ++ rest) from (looks_of new.certificate.checker + before)) zero (looks_from before [] (t.text ++ rest) 0 (looks_of new.certificate.checker) (t.reached rest k)));
-        }
+        takes_looks c new.certificate.source.reader t.text before after t.front (omega (arith, e))
+        (λ rest k.
+            subst (λ to. LooksReach [] (t.text ++ rest) before to) sum
+            (subst (λ from. LooksReach [] (t.text ++ rest) from (looks_of new.certificate.checker + before)) zero (looks_from before [] (t.text ++ rest) 0 (looks_of new.certificate.checker) (t.reached rest k))))
 
 -- a confirmation of what three readers give keeps its promises
 pub keeps_promises : (x a c : Reader) (checker : Kernel) (step : Step) (table : Table) (new : Standing) → IsBegun checker step table → (r : Result (Unit {0}) Halt) (asks : ℕ) → new.script.reads ≤ most_reads → new.answers.reads ≤ most_reads → new.certificate.source.reads ≤ most_reads
