@@ -598,7 +598,7 @@ fn written(alloc: Global, script: &[u8], budget: u64) -> (bool, Vec<u8>, Vec<u8>
     (done, answers.into_inner(), certificate.into_inner())
 }
 
-fn is_confirmed(alloc: Global, script: &[u8], budget: u64) -> bool {
+pub(crate) fn is_confirmed(alloc: Global, script: &[u8], budget: u64) -> bool {
     let (done, answers, certificate) = written(alloc, script, budget);
     done && is_yes(alloc, (script, answers.as_slice(), certificate.as_slice()))
 }

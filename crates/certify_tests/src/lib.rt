@@ -24,3 +24,5 @@ mod program;
 mod reading;
 #[cfg(test)]
 mod run;
+#[cfg(test)]
+mod session;
