@@ -25,7 +25,8 @@ for formula in "$work"/formulas/*.cnf ${2:+"$2"/*.cnf}; do
     minisat=$(took minisat minisat -no-pre -verb=1 "$formula")
     theirs=$(awk '/^conflicts/ { print $3 }' "$work/minisat.said")
     cadical=$(took cadical cadical -q -n "$formula")
-    echo "$(basename "$formula" .cnf) $(head -n 1 "$work/answers") ours $ours ${conflicts:--} confirm $confirmed minisat $minisat ${theirs:--} cadical $cadical"
+    echo "$(basename "$formula" .cnf) $(head -n 1 "$work/answers") ours $ours ${conflicts:--} confirm $confirmed" \
+        "minisat $minisat ${theirs:--} cadical $cadical"
     echo "$ours ${conflicts:-0} $minisat ${theirs:-0}" >> "$work/all"
 done
 awk '{ if ($4 > 0.05) { t += log(($1 + 0.01) / ($4 + 0.01)); n++ }
