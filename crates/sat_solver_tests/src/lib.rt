@@ -1,6 +1,8 @@
 //! Tests of `sat_solver` by its public calls, in a crate of their own so that the library is proved once; and callers that are proved.
 #![tactic(auto)]
 
+#[cfg(test)]
+mod analysing;
 pub mod caller;
 #[cfg(test)]
 mod certificates;
@@ -10,6 +12,8 @@ mod devices;
 mod naming;
 #[cfg(test)]
 mod proof;
+#[cfg(test)]
+mod searcher;
 #[cfg(test)]
 mod solver;
 #[cfg(test)]

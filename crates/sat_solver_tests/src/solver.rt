@@ -304,6 +304,14 @@ const INDEX_KEPT: &[Call] = &[
     Call::Ask(&[2], Told::Sat(&[1, 2])),
 ];
 
+/// A variable that no clause has any more is false, whatever it was.
+const VALUE_FORGOTTEN: &[Call] = &[
+    Call::Clause(&[1, 2]),
+    Call::Ask(&[], Told::Sat(&[-1, 2])),
+    Call::Clause(&[1]),
+    Call::Ask(&[], Told::Sat(&[1, -2])),
+];
+
 const SCRIPTS: &[&[Call]] = &[
     NOTHING,
     ONE_NAME,
@@ -327,6 +335,7 @@ const SCRIPTS: &[&[Call]] = &[
     HIDDEN_DELETED,
     HIDDEN_UNIT,
     INDEX_KEPT,
+    VALUE_FORGOTTEN,
 ];
 
 #[test]

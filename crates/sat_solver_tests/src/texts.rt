@@ -60,20 +60,38 @@ fn answered_if<W: CountedWrite + Drop>(
     if was_added { answered(solver) } else { None }
 }
 
-/// The answer to a formula, and the rounds.
-fn of_formula(alloc: Global, rows: &[&[i64]]) -> Option<(bool, u64)> {
+/// What a solver answers to clauses that are added as one formula, and the rounds.
+fn answer_rows<W: CountedWrite + Drop>(
+    alloc: Global,
+    solver: &mut Solver<W>,
+    rows: &[&[i64]],
+) -> Option<(bool, u64)>
+    requires { IsSolver solver.old }
+{
     let mut formula = CnfFormula::new(alloc);
     let mut lits = Vec::new(alloc);
+    let was_added = add(solver, &mut formula, &mut lits, rows);
+    answered_if(solver, was_added)
+}
+
+/// The answer to a formula, and the rounds.
+fn of_formula(alloc: Global, rows: &[&[i64]]) -> Option<(bool, u64)> {
     let mut solver: Solver<Counted<Vec<u8>>> = Solver::new(alloc);
-    let was_added = add(&mut solver, &mut formula, &mut lits, rows);
-    answered_if(&mut solver, was_added)
+    answer_rows(alloc, &mut solver, rows)
+}
+
+/// What a solver answers to a text, and the rounds.
+fn answer_text<W: CountedWrite + Drop>(solver: &mut Solver<W>, text: &[u8]) -> Option<(bool, u64)>
+    requires { IsSolver solver.old }
+{
+    let was_added = add_text(solver, text);
+    answered_if(solver, was_added)
 }
 
 /// The answer to a text, and the rounds.
 fn of_text(alloc: Global, text: &[u8]) -> Option<(bool, u64)> {
     let mut solver: Solver<Counted<Vec<u8>>> = Solver::new(alloc);
-    let was_added = add_text(&mut solver, text);
-    answered_if(&mut solver, was_added)
+    answer_text(&mut solver, text)
 }
 
 const FOUR: &[&[i64]] = &[&[1, 2], &[1, -2], &[-1, 2], &[-1, -2]];
@@ -137,13 +155,23 @@ fn witness<W: CountedWrite + Drop>(solver: &mut Solver<W>, number: i64) -> bool
     }
 }
 
-/// Why this text isn't taken, once name 3 is of mode witness, and the next name then.
+/// Why a solver doesn't take this text, once name 3 is of mode witness, and the next name then.
+fn faults_of<W: CountedWrite + Drop>(
+    solver: &mut Solver<W>,
+    text: &[u8],
+) -> (bool, Option<Why>, i64)
+    requires { IsSolver solver.old }
+{
+    let was_set = witness(solver, 3);
+    let why = refusal(solver, text);
+    let name = next_name(solver);
+    (was_set, why, name)
+}
+
+/// The same of a solver that is made for it.
 fn faults(alloc: Global, text: &[u8]) -> (bool, Option<Why>, i64) {
     let mut solver: Solver<Counted<Vec<u8>>> = Solver::new(alloc);
-    let was_set = witness(&mut solver, 3);
-    let why = refusal(&mut solver, text);
-    let name = next_name(&mut solver);
-    (was_set, why, name)
+    faults_of(&mut solver, text)
 }
 
 /// Whether the fault and the next name are these.
@@ -170,18 +198,30 @@ fn ask_if<W: CountedWrite + Drop>(solver: &mut Solver<W>, wanted: bool) -> bool
 }
 
 /// What is counted once these clauses were added, or were asked about too.
-fn counted(alloc: Global, rows: &[&[i64]], asked: bool) -> Option<Progress> {
+fn count_rows<W: CountedWrite + Drop>(
+    alloc: Global,
+    solver: &mut Solver<W>,
+    rows: &[&[i64]],
+    asked: bool,
+) -> Option<Progress>
+    requires { IsSolver solver.old }
+{
     let mut formula = CnfFormula::new(alloc);
     let mut lits = Vec::new(alloc);
-    let mut solver: Solver<Counted<Vec<u8>>> = Solver::new(alloc);
-    let was_added = add(&mut solver, &mut formula, &mut lits, rows);
-    let was_answered = ask_if(&mut solver, asked);
+    let was_added = add(solver, &mut formula, &mut lits, rows);
+    let was_answered = ask_if(solver, asked);
     let progress = solver.progress();
     if was_added && was_answered {
         Some(progress)
     } else {
         None
     }
+}
+
+/// The same of a solver that is made for it.
+fn counted(alloc: Global, rows: &[&[i64]], asked: bool) -> Option<Progress> {
+    let mut solver: Solver<Counted<Vec<u8>>> = Solver::new(alloc);
+    count_rows(alloc, &mut solver, rows, asked)
 }
 
 const NOTHING: Progress = Progress {
@@ -231,13 +271,20 @@ fn has_no_core<W: CountedWrite + Drop>(solver: &Solver<W>) -> bool
     }
 }
 
-/// Whether these clauses are known to be unsatisfiable without an ask.
-fn is_known(alloc: Global, rows: &[&[i64]]) -> bool {
+/// Whether a solver knows without an ask that these clauses are unsatisfiable.
+fn knows<W: CountedWrite + Drop>(alloc: Global, solver: &mut Solver<W>, rows: &[&[i64]]) -> bool
+    requires { IsSolver solver.old }
+{
     let mut formula = CnfFormula::new(alloc);
     let mut lits = Vec::new(alloc);
+    let was_added = add(solver, &mut formula, &mut lits, rows);
+    was_added && has_no_core(solver)
+}
+
+/// The same of a solver that is made for it.
+fn is_known(alloc: Global, rows: &[&[i64]]) -> bool {
     let mut solver: Solver<Counted<Vec<u8>>> = Solver::new(alloc);
-    let was_added = add(&mut solver, &mut formula, &mut lits, rows);
-    was_added && has_no_core(&solver)
+    knows(alloc, &mut solver, rows)
 }
 
 #[test]

@@ -1,0 +1,121 @@
+//! A search over a few clauses, and the names that it works for.
+ghost use Rattle.std.specs.Prelude.{MatchOption};
+ghost use Rattle.sat_solver.specs.solver.Joined.{IsJoined};
+ghost use Rattle.sat_solver.specs.solver.Taking.{GoesOnOr};
+
+use sat_base::{CountedWrite, Lit};
+use sat_solver::bound::restarts::Restarts;
+use sat_solver::names::Variables;
+use sat_solver::names::refusing::leftmost_witness;
+use sat_solver::names::taking::Taken;
+use sat_solver::parts::sorting::no_sorting;
+use sat_solver::search::solving::{Core, solve};
+use sat_solver::solver::taking::{Loading, take_clause};
+use sat_store::LubySequence;
+use std::alloc::Global;
+
+/// What clauses are read into.
+#[derive(Drop)]
+pub struct Room {
+    lits: Vec<Lit>,
+    loading: Loading,
+}
+
+/// Nothing in it.
+pub fn no_room(alloc: Global) -> Room {
+    Room {
+        lits: Vec::new(alloc),
+        loading: Loading {
+            taken: Taken::new(alloc),
+            sorting: no_sorting(alloc),
+        },
+    }
+}
+
+/// Reads literals in codes. Gives whether they are literals and there was memory.
+fn read(codes: &[usize], lits: &mut Vec<Lit>) -> bool {
+    lits.clear();
+    for code in codes {
+        if *code >= 1000 {
+            return false;
+        }
+        if lits.push(Lit::from_code(*code)).is_err() {
+            return false;
+        }
+    }
+    true
+}
+
+/// Adds a clause. Gives whether a valuation may be left; None where a call fails.
+fn add<W: CountedWrite + Drop>(
+    core: &mut Core<W>,
+    names: &mut Variables,
+    lits: &[Lit],
+    loading: &mut Loading,
+) -> Option<bool>
+    requires { IsJoined names.old core.old }
+    ensures { MatchOption result (Unit {0}) (λ left. GoesOnOr left names.new core.new) }
+{
+    if leftmost_witness(names, lits).is_some() {
+        return None;
+    }
+    match take_clause(core, names, lits, loading) {
+        Ok(left) => Some(left),
+        Err(_) => None,
+    }
+}
+
+/// Adds these clauses, whose literals are in codes. Gives whether a valuation may be left.
+fn add_all<W: CountedWrite + Drop>(
+    core: &mut Core<W>,
+    names: &mut Variables,
+    clauses: &[&[usize]],
+    room: &mut Room,
+) -> Option<bool>
+    requires { IsJoined names.old core.old }
+    ensures { MatchOption result (Unit {0}) (λ left. GoesOnOr left names.new core.new) }
+{
+    for codes in clauses {
+        if !read(*codes, &mut room.lits) {
+            return None;
+        }
+        let left = add(core, names, &room.lits, &mut room.loading)?;
+        if !left {
+            return Some(false);
+        }
+    }
+    Some(true)
+}
+
+/// Rounds up to an answer. Gives whether there is one.
+fn answer<W: CountedWrite + Drop>(core: &mut Core<W>, names: &mut Variables) -> bool
+    requires { IsJoined names.old core.old }
+{
+    let mut restarts = Restarts {
+        sequence: LubySequence::default(),
+        scale: 128,
+        next: 0,
+        count: 0,
+    };
+    let mut steps = 0;
+    match solve(core, names, &mut restarts, &mut steps, u64::MAX) {
+        Ok(found) => found.is_some(),
+        Err(_) => false,
+    }
+}
+
+/// Searches for a model of these clauses. Gives whether there is an answer.
+pub fn search<W: CountedWrite + Drop>(
+    core: &mut Core<W>,
+    names: &mut Variables,
+    clauses: &[&[usize]],
+    room: &mut Room,
+) -> bool
+    requires { IsJoined names.old core.old }
+{
+    match add_all(core, names, clauses, room) {
+        Some(true) => answer(core, names),
+        Some(false) => true,
+        None => false,
+    }
+}
