@@ -10,7 +10,8 @@ const AMPLE: u64 = 1 << 20;
 
 /// Each three of five names with both signs, the positive ones with a sixth; asks without the sixth and under nothing, and the sixth is
 /// false from then on.
-const SESSION: &[u8] = b"1 2 3 6 0 1 2 4 6 0 1 2 5 6 0 1 3 4 6 0 1 3 5 6 0 1 4 5 6 0 2 3 4 6 0 2 3 5 6 0 2 4 5 6 0 3 4 5 6 0
+const SESSION: &[u8] =
+    b"1 2 3 6 0 1 2 4 6 0 1 2 5 6 0 1 3 4 6 0 1 3 5 6 0 1 4 5 6 0 2 3 4 6 0 2 3 5 6 0 2 4 5 6 0 3 4 5 6 0
 -1 -2 -3 0 -1 -2 -4 0 -1 -2 -5 0 -1 -3 -4 0 -1 -3 -5 0 -1 -4 -5 0 -2 -3 -4 0 -2 -3 -5 0 -2 -4 -5 0 -3 -4 -5 0
 a -6 0 a 0
 -6 0
@@ -18,7 +19,8 @@ a 0
 ";
 
 /// The same, but the sixth is true and hidden before its name is another's.
-const HIDDEN_SESSION: &[u8] = b"1 2 3 6 0 1 2 4 6 0 1 2 5 6 0 1 3 4 6 0 1 3 5 6 0 1 4 5 6 0 2 3 4 6 0 2 3 5 6 0 2 4 5 6 0 3 4 5 6 0
+const HIDDEN_SESSION: &[u8] =
+    b"1 2 3 6 0 1 2 4 6 0 1 2 5 6 0 1 3 4 6 0 1 3 5 6 0 1 4 5 6 0 2 3 4 6 0 2 3 5 6 0 2 4 5 6 0 3 4 5 6 0
 -1 -2 -3 0 -1 -2 -4 0 -1 -2 -5 0 -1 -3 -4 0 -1 -3 -5 0 -1 -4 -5 0 -2 -3 -4 0 -2 -3 -5 0 -2 -4 -5 0 -3 -4 -5 0
 a -6 0 a 0
 6 0 h 6 0 -6 0

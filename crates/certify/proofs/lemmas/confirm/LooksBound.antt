@@ -126,6 +126,7 @@ clause_goes redundant ls (c ∷ cs) = by_same (clause_goes redundant ls cs) (sam
     by_gone : (gone : Bool) → literals_in ((if gone then [] else without_count redundant c ∷ []) ++ cs) ≤ literals_in (c ∷ cs)
     by_gone true = omega arith
     by_gone false = let e : length (without_count redundant c).literals ≡ length c.literals = ap length (uncounted_kept redundant c) in omega (arith, e)
+
     by_same : literals_in (without_clause redundant ls cs) ≤ literals_in cs → (same : Bool) → literals_in (if same then unless_gone (without_count redundant c) ++ cs else c ∷ without_clause redundant ls cs) ≤ literals_in (c ∷ cs)
     by_same rest true = let d : StoredClause = without_count redundant c in by_gone (d.irredundant == 0 && d.redundant == 0)
     by_same rest false = omega (arith, rest)
@@ -136,6 +137,7 @@ unit_keeps l f = by_same (is_unit f l)
     by_other : (other : Bool) → (if other then with_contradiction l f else with_new_unit l f).clauses ≡ f.clauses
     by_other true = refl
     by_other false = refl
+
     by_same : (same : Bool) → (if same then f else (if is_unit f (negated l) then with_contradiction l f else with_new_unit l f)).clauses ≡ f.clauses
     by_same true = refl
     by_same false = by_other (is_unit f (negated l))
@@ -158,6 +160,7 @@ placed_shorter l (m ∷ ms) = by_less (placed_shorter l ms) (nat_lt l m)
     by_equal : length (with_literal l ms) ≤ length ms + 1 → (equal : Bool) → length (if equal then m ∷ ms else m ∷ with_literal l ms) ≤ length (m ∷ ms) + 1
     by_equal rest true = omega arith
     by_equal rest false = omega (arith, rest)
+
     by_less : length (with_literal l ms) ≤ length ms + 1 → (less : Bool) → length (if less then l ∷ m ∷ ms else (if l == m then m ∷ ms else m ∷ with_literal l ms)) ≤ length (m ∷ ms) + 1
     by_less rest true = omega arith
     by_less rest false = by_equal rest (l == m)
@@ -177,6 +180,7 @@ stored_grows redundant clause f = by_both (is_tautology clause)
     by_redundant : (r : Bool) → literals_in (with_canonical r (canonical clause) f).clauses ≤ literals_in f.clauses + length clause
     by_redundant true = let grown = set_grows true (canonical clause) f in let short = set_shorter clause in omega (arith, grown, short)
     by_redundant false = let grown = set_grows false (canonical clause) f in let short = set_shorter clause in omega (arith, grown, short)
+
     by_both : (both : Bool) → literals_in (if both then f else with_canonical redundant (canonical clause) f).clauses ≤ literals_in f.clauses + length clause
     by_both true = omega arith
     by_both false = by_redundant redundant

@@ -268,8 +268,8 @@ module _ (x a c : Reader) (checker : Kernel) (step : Step) (table : Table) (fres
         let zero : 0 + before ≡ before = omega arith in
         takes_looks c new.certificate.source.reader t.text before after t.front (omega (arith, e))
         (λ rest k.
-            subst (λ to. LooksReach [] (t.text ++ rest) before to) sum
-            (subst (λ from. LooksReach [] (t.text ++ rest) from (looks_of new.certificate.checker + before)) zero (looks_from before [] (t.text ++ rest) 0 (looks_of new.certificate.checker) (t.reached rest k))))
+        subst (λ to. LooksReach [] (t.text ++ rest) before to) sum
+        (subst (λ from. LooksReach [] (t.text ++ rest) from (looks_of new.certificate.checker + before)) zero (looks_from before [] (t.text ++ rest) 0 (looks_of new.certificate.checker) (t.reached rest k))))
 
 -- a confirmation of what three readers give keeps its promises
 pub keeps_promises : (x a c : Reader) (checker : Kernel) (step : Step) (table : Table) (new : Standing) → IsBegun checker step table → (r : Result (Unit {0}) Halt) (asks : ℕ) → new.script.reads ≤ most_reads → new.answers.reads ≤ most_reads → new.certificate.source.reads ≤ most_reads
