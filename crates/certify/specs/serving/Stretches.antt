@@ -41,8 +41,8 @@ due_for unsat (Sample names) j = setting Sampled names j
 abbrev pub MaySetOne : List ℕ → Bool → List Step → Step → Type 0
 MaySetOne names sample earlier step = (name : ℕ) × Among name names × MaySet name sample earlier step
 
--- Beside what is due: indices for the names of a clause, and clauses that are deleted; a hidden variable that goes, right behind its
--- name; modes of names.
+-- Beside what is due: indices for the names of a clause, and the clause itself, deleted right behind its step; a hidden variable without an
+-- index that goes, right behind its name; modes of names.
 abbrev pub MayFor : Command → List Step → Step → Type 0
 MayFor (Clause ls) = MayAdd (names_of ls)
 MayFor (Ask ls) = MayTake (names_of ls)

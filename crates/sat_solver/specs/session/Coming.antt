@@ -1,6 +1,7 @@
 -- Which steps a call makes, whatever it has to write. Lists of steps have the newest first.
-use Rattle.std.specs.Prelude.{◌≡◌, Bool, true, false, List, [], ◌∷◌, ◌++◌}
-use Rattle.sat_base.specs.steps.Steps.{Step, DeleteClause, ChangeHashBits}
+use Rattle.std.specs.Prelude.{ℕ, ◌≡◌, Bool, true, false, List, [], ◌∷◌, ◌++◌}
+use Rattle.sat_base.specs.steps.Steps.{Satisfied, Step, AddClause, DeleteClause, ChangeHashBits}
+use Rattle.sat_checker.specs.LiteralSets.{canonical}
 use Rattle.sat_solver.specs.session.Session.{session_after}
 
 -- each of these steps may come behind those before it
@@ -22,7 +23,14 @@ sets_width step = false
 abbrev pub EndsAtUnsat : List Step → Step → Type 0
 EndsAtUnsat earlier step = (session_after earlier).unsat ≡ true → sets_width step ≡ true
 
--- clauses are deleted, and not behind recorded unsat
-abbrev pub Deletes : List Step → Step → Type 0
-Deletes earlier (DeleteClause clause proof) = (session_after earlier).unsat ≡ false
-Deletes earlier step = ⊥
+-- the last step added this clause, its literals in some order
+pub record IsLastAdded (earlier : List Step) (clause : List ℕ) : Type 0 where
+  pub added : List ℕ
+  pub before : List Step
+  pub last : earlier ≡ AddClause added ∷ before
+  pub same : canonical clause ≡ canonical added
+
+-- the clause that the last step added is deleted, as a literal of it is true already, and not behind recorded unsat
+abbrev pub DeletesAdded : List Step → Step → Type 0
+DeletesAdded earlier (DeleteClause clause Satisfied) = IsLastAdded earlier clause × ((session_after earlier).unsat ≡ false)
+DeletesAdded earlier step = ⊥

@@ -2,7 +2,7 @@
 ghost use Rattle.std.specs.Prelude.{ℕ, ◌≡◌, ◌<◌, ◌∷◌, length, map, slice_index_or, true, OnOk};
 ghost use Rattle.sat_base.specs.values.Literals.{variable};
 ghost use Rattle.sat_base.specs.steps.Steps.{DeleteClause, Satisfied};
-ghost use Rattle.sat_solver.specs.session.Coming.{Comes, Deletes};
+ghost use Rattle.sat_solver.specs.session.Coming.{Comes, DeletesAdded};
 ghost use Rattle.sat_solver.specs.session.Session.{May};
 ghost use Rattle.sat_solver.specs.session.LiveClauses.{with_var};
 ghost use Rattle.sat_solver.specs.session.ProofView.{Keeps, steps_of, session_of};
@@ -78,7 +78,7 @@ pub fn load_clause<W: CountedWrite + Drop>(
     requires added { IsAdded (steps_of proof.old) search.old lits.now }
     requires may { MayLoad search.old lits.now }
     ensures goes { Goes W.seen result proof.old proof.new (λ left _. IsLoaded left (session_of proof.new) search.old search.new) }
-    ensures comes { OnOk result (Comes Deletes (steps_of proof.old) (steps_of proof.new)) }
+    ensures comes { OnOk result (Comes DeletesAdded (steps_of proof.old) (steps_of proof.new)) }
 {
     make_ready(&mut search.parts, lits);
     let loaded = load(&mut search.parts, lits, sorting)?;

@@ -5,7 +5,7 @@ ghost use Rattle.sat_solver.specs.session.Session.{session_after};
 ghost use Rattle.sat_solver.specs.names.Variables.{data_at, global_of, user_of, solver_of, judged_mode, mode_for};
 ghost use Rattle.sat_base.specs.steps.Steps.{UserVarName, ChangeSamplingMode, DeleteVar};
 ghost use Rattle.sat_solver.specs.session.Coming.{Comes};
-ghost use Rattle.sat_solver.specs.names.Coming.{MayHide, MaySet, TurnsMode};
+ghost use Rattle.sat_solver.specs.names.Coming.{ForgetsIdle, LeavesNoneIdle, MayHide, MaySet, TurnsMode};
 ghost use Rattle.sat_solver.specs.names.Expected.{NewName, NoName};
 ghost use Rattle.sat_solver.specs.names.Naming.{AreFresh, KeepsOthers};
 ghost use Rattle.sat_solver.specs.names.Calls.{Stands, Does, DoesNothing};
@@ -88,7 +88,7 @@ pub(crate) fn forget_idle<W: StepWriter>(
     ensures does { OnOk result (DoesNothing variables.old variables.new (W.steps writer.old) (W.steps writer.new)) }
     ensures units { OnOk result (KeepsUnits variables.new (W.steps writer.old) (W.steps writer.new)) }
     ensures alike { OnOk result (IsAlike variables.old variables.new (W.steps writer.old) (W.steps writer.new)) }
-    ensures goes { OnOk result ((W.steps writer.new ≡ W.steps writer.old) ⊎ (W.steps writer.new ≡ DeleteVar global ∷ W.steps writer.old)) }
+    ensures goes { OnOk result (ForgetsIdle variables.old (W.steps writer.old) (W.steps writer.new) global) }
     ensures users { OnOk result (variables.new.global_from_user ≡ variables.old.global_from_user) }
     ensures fails { IfErr result IsFailure }
     ensures keeps { OnOk result (W.keeps writer.new) }
@@ -120,6 +120,7 @@ pub fn hide_var<W: StepWriter>(
     ensures units { OnOk result (KeepsUnits variables.new (W.steps writer.old) (W.steps writer.new)) }
     ensures alike { OnOk result (IsAlike variables.old variables.new (W.steps writer.old) (W.steps writer.new)) }
     ensures comes { OnOk result (Comes MayHide (W.steps writer.old) (W.steps writer.new)) }
+    ensures gone { OnOk result (LeavesNoneIdle (W.steps writer.new)) }
     ensures room { HasRoom variables.old (user ∷ []) → IfErr result IsFailure }
     ensures keeps { OnOk result (W.keeps writer.new) }
     ensures came { Came W.took W.broke result writer.old writer.new }

@@ -1,7 +1,8 @@
 //! Names that come in, that are hidden, and modes that a user sets.
-ghost use Rattle.std.specs.Prelude.{◌≡◌, ◌==◌, ◌||◌, not, length, true, false, IfOk, IfErr};
+ghost use Rattle.std.specs.Prelude.{◌≡◌, ◌==◌, ◌||◌, not, length, true, false, IfOk, IfErr, OnOk};
 ghost use Rattle.sat_solver.specs.solver.Naming.{Hides, Witnesses, Samples, SetsMode, NamesNew, NamesFail, Observed};
-ghost use Rattle.sat_solver.specs.solver.Whole.{IsSolver};
+ghost use Rattle.sat_solver.specs.names.Coming.{LeavesNoneIdle};
+ghost use Rattle.sat_solver.specs.solver.Whole.{IsSolver, steps_in};
 
 use crate::SolverError;
 use crate::loading::faults::name_fault;
@@ -37,12 +38,13 @@ fn is_used(used: bool, users: &[Var]) -> bool
 }
 
 impl<W: CountedWrite + Drop> Solver<W> {
-    /// Brings a name in, and hides it: its variable stays in the clauses, and the name may become that of a new variable. What is known
-    /// of an answer stays. `AssumedVariable` where the name is assumed. `VariableLimit` where a variable is lacking for a name that would come in.
+    /// Brings a name in, and hides it: its variable stays in the clauses, and the name may become that of a new variable. A variable
+    /// without an index, which is in no clause, is deleted at once. What is known of an answer stays. `AssumedVariable` where the name is assumed. `VariableLimit` where a variable is lacking for a name that would come in.
     pub fn hide_var(&mut self, user: Var) -> Result<(), SolverError>
         requires { IsSolver self.old }
         ensures solver { IsSolver self.new }
         ensures hides { Hides W.seen result self.old self.new user }
+        ensures gone { OnOk result (LeavesNoneIdle (steps_in self.new)) }
     {
         if self.failed {
             return Err(SolverError::HasFailed);

@@ -70,7 +70,7 @@ among_shuffled f ls ms forth y t =
     subst (λ z. is_among (map f ms) z ≡ true) p.1.1 (among_mapped f ms p.0 (forth p.0 p.1.0))
 
 -- the sorted set is the same
-canonical_shuffled : (f : ℕ → ℕ) (ls ms : List ℕ) → Shuffled ls ms → canonical (map f ls) ≡ canonical (map f ms)
+pub canonical_shuffled : (f : ℕ → ℕ) (ls ms : List ℕ) → Shuffled ls ms → canonical (map f ls) ≡ canonical (map f ms)
 canonical_shuffled f ls ms h =
     let forth : (m : ℕ) → is_among ls m ≡ true → is_among ms m ≡ true = λ m t.
     let p = among_place ls m t in let j = h.forth p.0 p.1.0 in

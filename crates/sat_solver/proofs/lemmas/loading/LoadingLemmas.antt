@@ -22,9 +22,11 @@ use Rattle.sat_solver.proofs.lemmas.parts.FrameLemmas.{carries_refl}
 use Rattle.sat_solver.proofs.lemmas.parts.SortLemmas.{shuffled_last}
 use Rattle.sat_solver.proofs.lemmas.parts.WordSteps.{fits_below}
 use Rattle.sat_solver.specs.session.Session.{Session, May, after, session_after, with_clause, knowing_literals}
+use Rattle.sat_solver.specs.session.Coming.{IsLastAdded}
 use Rattle.sat_solver.specs.session.LiveClauses.{with_var}
 use Rattle.sat_solver.specs.joint.Fits.{FitsParts}
 use Rattle.sat_solver.specs.joint.Loads.{LoadFits}
+use Rattle.sat_solver.proofs.lemmas.joint.FitLemmas.{canonical_shuffled}
 use Rattle.sat_solver.proofs.lemmas.joint.LearnedLemmas.{fits_undone}
 use Rattle.sat_solver.proofs.lemmas.joint.LoadedParts.{fits_loaded}
 use Rattle.sat_solver.specs.declared.search.work.Search.{Search}
@@ -239,3 +241,12 @@ module _ (c : Search) (ls : List ℕ) (steps : List Step) (added : IsAdded steps
       let e : later ≡ DeleteClause (map (with_var (global_in c)) ms) True ∷ steps = rw (same, back.moved.globals) at made in
       let h : IsLoaded true (session_after later) c c' = rw e (loaded_deleted says two) in
       rw good (subst (λ z. IsLoaded true (session_after later) c z) (sym rest) (loaded_scratch (session_after later) c c' c4.scratch h))
+
+  -- it is the clause that was added, its literals in another order
+  pub loaded_last : (ds : List ℕ) → ds ≡ ms → IsLastAdded steps (map (with_var (global_in c')) ds)
+  loaded_last ds same = record {
+    added = map (with_var (global_in c)) ls;
+    before = added.earlier;
+    last = added.added;
+    same = rw (same, back.moved.globals) (sym (canonical_shuffled (with_var (global_in c)) ls ms (shuffled_last p1.assignment.current ls)));
+  }

@@ -189,3 +189,7 @@ ok_others (Err x) a b c user keeps e = tt
 pub none_test : (o : Option ℕ) (b : Bool) → b ≡ is_some o → b ≡ false → o ≡ None
 none_test None b e f = refl
 none_test (Some x) b e f = absurd (true≢false (sym e ∙ f))
+
+pub some_test : (o : Option ℕ) (b : Bool) → b ≡ is_some o → b ≡ true → o ≢ None
+some_test None b e f = absurd (true≢false (sym f ∙ e))
+some_test (Some x) b e f = λ g. cc

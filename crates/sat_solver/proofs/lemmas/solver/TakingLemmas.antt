@@ -53,7 +53,7 @@ use Rattle.sat_solver.specs.solver.Joined.{IsJoined}
 use Rattle.sat_solver.specs.solver.Taking.{KeepImages, GoesOnOr, TookClause, TookAssumptions, TakesClause, BreaksNames}
 use Rattle.sat_solver.proofs.lemmas.solver.SpeltLemmas.{global_images_of}
 use Rattle.sat_solver.specs.names.Coming.{MayAdd}
-use Rattle.sat_solver.specs.session.Coming.{Comes, Deletes}
+use Rattle.sat_solver.specs.session.Coming.{Comes, DeletesAdded}
 use Rattle.sat_solver.proofs.lemmas.session.ComingLemmas.{comes_both}
 use Rattle.sat_solver.proofs.lemmas.names.ComingSteps.{comes_added, comes_deleted}
 use Rattle.sat_solver.proofs.lemmas.solver.BehindLemmas.{does_behind}
@@ -187,7 +187,7 @@ module _ {W : Type 0} (seen : W → Writer) (n n' : Variables) (a : Core W) (joi
     }
 
     -- another one is loaded
-    module _ (left : Bool) (q : Proof W) (c2 : Search) (goes : Goes seen (Ok left) p q (λ l _. IsLoaded l (session_of q) c1 c2)) (deletes : Comes Deletes (steps_of p) (steps_of q)) where
+    module _ (left : Bool) (q : Proof W) (c2 : Search) (goes : Goes seen (Ok left) p q (λ l _. IsLoaded l (session_of q) c1 c2)) (deletes : Comes DeletesAdded (steps_of p) (steps_of q)) where
       abbrev pub new : Core W
       new = record a { proof = q; search = c2 }
 
@@ -218,7 +218,7 @@ module _ {W : Type 0} (seen : W → Writer) (n n' : Variables) (a : Core W) (joi
       }
 
     -- or it isn't
-    pub clause_told : (r : Result Bool SolverError) (q : Proof W) (c2 : Search) → Goes seen r p q (λ l _. IsLoaded l (session_of q) c1 c2) → OnOk r (Comes Deletes (steps_of p) (steps_of q)) → TakesClause seen r n n' a (record a { proof = q; search = c2 }) user
+    pub clause_told : (r : Result Bool SolverError) (q : Proof W) (c2 : Search) → Goes seen r p q (λ l _. IsLoaded l (session_of q) c1 c2) → OnOk r (Comes DeletesAdded (steps_of p) (steps_of q)) → TakesClause seen r n n' a (record a { proof = q; search = c2 }) user
     clause_told (Ok left) q c2 goes deletes = clause_loaded left q c2 goes deletes
     clause_told (Err e) q c2 goes deletes = load_broke seen a (record a { proof = q; search = c2 }) e p (λ l _. IsLoaded l (session_of q) c1 c2) took goes
 

@@ -4,9 +4,9 @@ use Rattle.sat_solver.specs.session.ProofView.{steps_of, session_of}
 use Rattle.sat_solver.specs.parts.Loadable.{false_last}
 use Rattle.sat_solver.proofs.lemmas.search.GoingLemmas.{goes_none, goes_map}
 use Rattle.sat_solver.specs.loading.Loaded.{IsLoaded}
-use Rattle.sat_solver.specs.session.Coming.{Deletes}
+use Rattle.sat_solver.specs.session.Coming.{DeletesAdded}
 use Rattle.sat_solver.proofs.lemmas.session.ComingLemmas.{comes_none}
-use Rattle.sat_solver.proofs.lemmas.loading.LoadingLemmas.{few_lits, goes_unstored, loaded_stored, loaded_unit, loaded_false, loaded_true, loaded_names, loaded_may, loaded_behind}
+use Rattle.sat_solver.proofs.lemmas.loading.LoadingLemmas.{few_lits, goes_unstored, loaded_stored, loaded_unit, loaded_false, loaded_true, loaded_names, loaded_may, loaded_behind, loaded_last}
 use Rattle.sat_solver.proofs.lemmas.loading.DeletedLemmas.{comes_true}
 use Rattle.sat_solver.proofs.loading.clause.load_clause.Goals as goal
 
@@ -65,16 +65,19 @@ returns-else-len-lt2-clause-goes g c =
     c.delete_true.ensures.deletes
 
 pub returns-in-Stored-clause-comes : goal.returns-in-Stored-clause-comes
-returns-in-Stored-clause-comes g c = comes_none Deletes (steps_of c.args.proof.now)
+returns-in-Stored-clause-comes g c = comes_none DeletesAdded (steps_of c.args.proof.now)
 
 pub returns-in-Unit-clause-comes : goal.returns-in-Unit-clause-comes
-returns-in-Unit-clause-comes g c = comes_none Deletes (steps_of c.args.proof.now)
+returns-in-Unit-clause-comes g c = comes_none DeletesAdded (steps_of c.args.proof.now)
 
 pub returns-in-Falsified-clause-comes : goal.returns-in-Falsified-clause-comes
-returns-in-Falsified-clause-comes g c = comes_none Deletes (steps_of c.args.proof.now)
+returns-in-Falsified-clause-comes g c = comes_none DeletesAdded (steps_of c.args.proof.now)
 
 pub returns-then-len-lt2-clause-comes : goal.returns-then-len-lt2-clause-comes
-returns-then-len-lt2-clause-comes g c = comes_none Deletes (steps_of c.args.proof.now)
+returns-then-len-lt2-clause-comes g c = comes_none DeletesAdded (steps_of c.args.proof.now)
 
 pub returns-else-len-lt2-clause-comes : goal.returns-else-len-lt2-clause-comes
-returns-else-len-lt2-clause-comes g c = comes_true g.W.CountedWrite.seen c.delete_true.result c.args.proof.now c.delete_true.new.proof _ c.args.search.now c.delete_true.new.search c.delete_true.ensures.deletes (returns-else-len-lt2-clause-goes g c)
+returns-else-len-lt2-clause-comes g c =
+    let same : c.deref.result.now ≡ false_last c.make_ready.new.parts.assignment.current c.args.lits.now = c.deref.ensures.value ∙ c.in_ok-loaded.ensures.order in
+    comes_true g.W.CountedWrite.seen c.delete_true.result c.args.proof.now c.delete_true.new.proof _ c.args.search.now c.delete_true.new.search c.delete_true.ensures.deletes (returns-else-len-lt2-clause-goes g c)
+    (loaded_last c.args.search.now c.args.lits.now (steps_of c.args.proof.now) c.requires.added c.requires.may c.make_ready.new.parts c.make_ready.ensures.holds c.make_ready.ensures.same c.make_ready.ensures.others c.load.new.parts c.in_ok-loaded.ensures.holds c.in_ok-loaded.ensures.kept c.back_to_bottom.new.search c.back_to_bottom.ensures c.deref.result.now same)

@@ -1,8 +1,8 @@
-use Rattle.std.proofs.Common.{sym, ◌∙◌, ap}
+use Rattle.std.proofs.Common.{sym, ◌∙◌, ap, refl, inl, inr}
 use Rattle.sat_store.specs.variables.Maps.{target}
 use Rattle.sat_solver.proofs.lemmas.names.ModeChanges.{live_within}
 use Rattle.sat_solver.proofs.lemmas.names.Doing.{does_none}
-use Rattle.sat_solver.proofs.lemmas.names.Giving.{unseen_same, alike_unseen, alike_forgets, units_forgotten, none_test}
+use Rattle.sat_solver.proofs.lemmas.names.Giving.{unseen_same, alike_unseen, alike_forgets, units_forgotten, none_test, some_test}
 use Rattle.sat_solver.proofs.names.modes.forget_idle.Goals as goal
 
 pub is_marked-requires : goal.is_marked-requires
@@ -19,6 +19,15 @@ returns-then-is_some-clause-does g c = does_none c.args.variables.now (g.W.StepW
 
 pub returns-then-is_some-clause-alike : goal.returns-then-is_some-clause-alike
 returns-then-is_some-clause-alike g c = alike_unseen c.args.variables.now c.args.variables.now (g.W.StepWriter.steps c.args.writer.now) (g.W.StepWriter.steps c.args.writer.now) (unseen_same c.args.variables.now (g.W.StepWriter.steps c.args.writer.now))
+
+pub returns-then-is_marked-clause-goes : goal.returns-then-is_marked-clause-goes
+returns-then-is_marked-clause-goes g c = inr (refl, inl (sym c.is_marked.ensures ∙ c.if-is_marked.true))
+
+pub returns-then-is_some-clause-goes : goal.returns-then-is_some-clause-goes
+returns-then-is_some-clause-goes g c = inr (refl, inr (λ none. some_test c.get.result c.is_some.result c.is_some.ensures c.if-is_some.true (c.get.ensures ∙ ap (λ m. target m c.args.global) c.fwd.ensures.map ∙ none)))
+
+pub returns-clause-goes : goal.returns-clause-goes
+returns-clause-goes g c = inl (c.in_ok-delete_var.ensures.step, sym (c.get.ensures ∙ ap (λ m. target m c.args.global) c.fwd.ensures.map) ∙ none_test c.get.result c.is_some.result c.is_some.ensures c.if-is_some.false)
 
 pub delete_var-requires-clause-without : goal.delete_var-requires-clause-without
 delete_var-requires-clause-without g c = sym (c.get.ensures ∙ ap (λ m. target m c.args.global) c.fwd.ensures.map) ∙ none_test c.get.result c.is_some.result c.is_some.ensures c.if-is_some.false

@@ -7,7 +7,7 @@ use Rattle.sat_solver.proofs.lemmas.names.CameLemmas.{came_then}
 use Rattle.sat_solver.proofs.lemmas.names.Extending.{are_fresh, fresh_only}
 use Rattle.sat_solver.specs.session.Session.{session_after}
 use Rattle.sat_solver.proofs.lemmas.names.RoomLemmas.{fails_on}
-use Rattle.sat_solver.proofs.lemmas.names.ComingSteps.{comes_hidden}
+use Rattle.sat_solver.proofs.lemmas.names.ComingSteps.{comes_hidden, hidden_unmarked, leaves_none}
 use Rattle.sat_solver.proofs.names.modes.hide_var.Goals as goal
 
 pub forget_idle-requires-clause-stands : goal.forget_idle-requires-clause-stands
@@ -52,5 +52,19 @@ pub returns-in_err-global-clause-room : goal.returns-in_err-global-clause-room
 returns-in_err-global-clause-room g c = λ h. fails_on c.from_residual.result c.in_err-global.field-0.0 c.from_residual.ensures.1 (c.in_err-global.ensures.room [] h)
 
 pub returns-clause-comes : goal.returns-clause-comes
-returns-clause-comes g c = comes_hidden c.forget_idle.result (g.W.StepWriter.steps c.args.writer.now) (g.W.StepWriter.steps c.global_from_user.new.writer) (g.W.StepWriter.steps c.hide_global.new.writer) (g.W.StepWriter.steps c.forget_idle.new.writer) c.in_ok-global.global
-    c.in_ok-global.ensures.brought.comes c.in_ok-hide_global.ensures.step c.forget_idle.ensures.goes
+returns-clause-comes g c = comes_hidden c.forget_idle.result c.hide_global.new.variables (g.W.StepWriter.steps c.args.writer.now) (g.W.StepWriter.steps c.global_from_user.new.writer) (g.W.StepWriter.steps c.hide_global.new.writer) (g.W.StepWriter.steps c.forget_idle.new.writer) c.in_ok-global.global
+    c.in_ok-hide_global.ensures.does.stands.said c.in_ok-global.ensures.brought.comes c.in_ok-hide_global.ensures.step c.forget_idle.ensures.goes
+
+pub returns-clause-gone : goal.returns-clause-gone
+returns-clause-gone g c =
+    let n = c.args.variables.now in
+    let m = c.global_from_user.new.variables in
+    let h = c.hide_global.new.variables in
+    let from = g.W.StepWriter.steps c.args.writer.now in
+    let mids = g.W.StepWriter.steps c.global_from_user.new.writer in
+    let hides = g.W.StepWriter.steps c.hide_global.new.writer in
+    let said = c.in_ok-hide_global.ensures.does.stands.said in
+    let hidden = c.in_ok-hide_global.ensures.step in
+    leaves_none c.forget_idle.result h mids hides (g.W.StepWriter.steps c.forget_idle.new.writer) c.in_ok-global.global said hidden
+    (hidden_unmarked n m h from mids hides c.args.user c.in_ok-global.global c.requires.stands.tidy c.requires.stands.said c.in_ok-global.ensures.brought.extends c.in_ok-global.ensures.brought.unseen c.requires.free c.in_ok-global.ensures.variable said hidden)
+    c.forget_idle.ensures.goes
