@@ -8,7 +8,7 @@ ghost use Rattle.sat_checker.specs.inner.FormulaView.{last_in, KeepsFormula};
 ghost use Rattle.sat_checker.specs.inner.StoreView.{found_in};
 ghost use Rattle.sat_checker.specs.inner.VariablesView.{mode_in, variable_of};
 ghost use Rattle.sat_checker.specs.telling.AnnouncementView.{is_sampling};
-ghost use Rattle.sat_checker.specs.telling.AnnouncingView.{stored_as, AreLong};
+ghost use Rattle.sat_checker.specs.telling.AnnouncingView.{stored_as, deletion_told, AreLong};
 
 use crate::announcement::{CheckedSamplingMode, CheckedUserVar};
 use crate::formula::Formula;
@@ -26,6 +26,14 @@ pub(crate) enum Change {
     New,
     Irredundant(u64),
     Neither,
+}
+
+/// A clause that is to be deleted, as it stands, and the id that it follows from where it is irredundant.
+#[derive(Clone, Copy)]
+pub(crate) struct Deletion {
+    pub(crate) redundant: bool,
+    pub(crate) stored: Option<Found>,
+    pub(crate) from: Option<u64>,
 }
 
 impl Formula {
@@ -196,6 +204,17 @@ impl News {
             Some(from) => self.delete_at_clause(clause.id, kept, literals, &[from]),
             None => self.delete_at_clause(clause.id, kept, literals, &[]),
         }
+    }
+
+    /// A clause with these literals was deleted.
+    pub fn deleted(&mut self, literals: &[Lit], deletion: Deletion) -> Result<(), AllocError>
+        ensures ok { OnOk result (self.new ≡ self.old ++ deletion_told literals.now deletion) }
+        ensures err { OnErr result (self.new ≡ self.old) }
+    {
+        if deletion.redundant {
+            return self.redundant_deleted(literals, deletion.stored);
+        }
+        self.irredundant_deleted(literals, deletion.stored, deletion.from)
     }
 
     /// A variable, which was like this, gets a name.

@@ -1,6 +1,7 @@
 //! The stored formula: clauses, units, and what is recorded of them.
-ghost use Rattle.std.specs.Prelude.{◌≡◌, ◌+◌, ◌≤◌, ◌*◌, ℕ, [], ◌∷◌, length, IfOk, OnOk, OnErr, IsErrOf, None, IsTrue, ◌↔◌, MatchBool, ◌<◌, map, not, ◌&&◌, ◌++◌};
+ghost use Rattle.std.specs.Prelude.{◌≡◌, ◌+◌, ◌≤◌, ◌*◌, ℕ, [], ◌∷◌, length, IfOk, OnOk, OnErr, IsErrOf, None, IsTrue, ◌↔◌, MatchBool, ◌<◌, map, not, ◌&&◌, ◌++◌, false};
 ghost use Rattle.sat_base.specs.steps.Steps.{DeleteClause, Redundant, Satisfied, Simplified};
+ghost use Rattle.sat_base.specs.steps.StepViews.{deletion_of};
 ghost use Rattle.std.specs.List.{list_any};
 ghost use Rattle.sat_base.specs.values.Literals.{negated};
 ghost use Rattle.sat_checker.specs.inner.ModelTests.{are_all_true};
@@ -9,23 +10,25 @@ ghost use Rattle.sat_checker.specs.Accepts.{Passes, PassInTurn, IsStrictSubset, 
 ghost use Rattle.sat_checker.specs.Stored.{Stored, nothing_stored};
 ghost use Rattle.sat_checker.specs.Looks.{literal_count};
 ghost use Rattle.sat_checker.specs.Storing.{settled, with_unit, with_contradiction, with_canonical, with_stored, with_input, with_units, clause_with, without_clause, last_literals, without_variable};
-ghost use Rattle.sat_checker.specs.announcements.Needed.{ground, propagations};
-ghost use Rattle.sat_checker.specs.inner.Reasons.{named, noted_length, ExplainsCheck};
+ghost use Rattle.sat_checker.specs.announcements.Announcements.{derived, derived_units};
+ghost use Rattle.sat_checker.specs.inner.Reasons.{noted_length};
 ghost use Rattle.sat_checker.specs.inner.StoreView.{TakesCount, with_less};
 ghost use Rattle.sat_checker.specs.inner.Marks.{IsIncreasing};
 ghost use Rattle.sat_checker.specs.declared.store.StoreError.TheVariants.{CounterEnd};
-ghost use Rattle.sat_checker.specs.inner.FormulaView.{KeepsFormula, Becomes, TurnsIf, Deletes};
+ghost use Rattle.sat_checker.specs.inner.FormulaView.{KeepsFormula, Becomes, TurnsIf, Deletes, Explained};
+ghost use Rattle.sat_checker.specs.telling.AnnouncingView.{AreLong};
+ghost use Rattle.sat_checker.specs.telling.NotedView.{Adds};
 
 use crate::assigned::Assigned;
 use crate::looks::Looks;
+use crate::notes::Notes;
 use crate::passed::Passed;
-use crate::propagations::Propagations;
 use crate::sorted_lits::{has_both_signs, is_subset, sorted_set};
 use crate::status::{LastClause, Status};
 use crate::store::{Store, StoreError};
 use crate::units::Units;
 use crate::valuation::assume_apart;
-use sat_base::{ClauseHash, Lit, Var};
+use sat_base::{ClauseHash, DeleteClauseProof, Lit, Var};
 use std::alloc::{AllocError, Global};
 
 /// Stored clauses and units.
@@ -64,45 +67,11 @@ impl Formula {
         ensures looks { (f : Stored) → KeepsFormula self.old f → looks.new ≤ looks.old + length hashes.now * literal_count f }
         ensures rise { looks.old ≤ looks.new }
         ensures rest { self.new ≡ record self.old { passed = self.new.passed } }
-        ensures explained { IfOk result (λ passes. IsTrue passes
-            → ExplainsCheck self.old.store.clauses self.new.passed (map (λ u. u.literal) self.old.units) clause.now hashes.now) }
-        ensures read { IfOk result (λ _. noted_length self.old.store.clauses self.new.passed + looks.old ≤ looks.new) }
+        ensures explained { IfOk result (λ passes. IsTrue passes → Explained self.new clause.now hashes.now) }
+        ensures read { IfOk result (λ _. noted_length self.new.store.clauses self.new.passed + looks.old ≤ looks.new) }
     {
         self.units
             .check(&self.store, clause, hashes, &mut self.passed, looks)
-    }
-
-    /// The same check of a clause, which has these sorted literals. Where it passes, what it rests on is listed then.
-    pub fn check_noted(
-        &mut self,
-        clause: &[Lit],
-        literals: &[Lit],
-        hashes: &[ClauseHash],
-        rests_on: &mut Propagations,
-        looks: &mut Looks,
-    ) -> Result<bool, AllocError>
-        requires { literals.now ≡ canonical clause.now }
-        ensures exact { IfOk result
-            (λ passes. (f : Stored) → KeepsFormula self.old f → IsTrue passes ↔ Passes f clause.now hashes.now) }
-        ensures kept { (f : Stored) → KeepsFormula self.old f → KeepsFormula self.new f }
-        ensures listed { IfOk result (λ passes. IsTrue passes → (f : Stored) → KeepsFormula self.old f
-            → IsIncreasing (map (λ u. u.id) f.units) → rests_on.new.ids.items ≡ propagations f clause.now hashes.now) }
-        ensures looks { (f : Stored) → KeepsFormula self.old f
-            → looks.new ≤ looks.old + 2 * length hashes.now * literal_count f }
-        ensures rise { looks.old ≤ looks.new }
-    {
-        if !self.check(clause, hashes, looks)? {
-            return Ok(false);
-        }
-        rests_on.list(
-            &self.store,
-            &self.units,
-            &self.passed,
-            clause,
-            literals,
-            looks,
-        )?;
-        Ok(true)
     }
 
     /// The empty clause of a pending unit conflict takes the next id.
@@ -253,17 +222,22 @@ impl Formula {
         &mut self,
         lit: Lit,
         hash: ClauseHash,
+        notes: &mut Notes,
         looks: &mut Looks,
     ) -> Result<bool, StoreError>
         ensures decides { (f : Stored) → KeepsFormula self.old f
             → TurnsIf result (Passes f (lit ∷ []) (hash ∷ [])) (KeepsFormula self.new (with_unit lit f)) (with_unit lit f) }
         ensures kept { IsErrOf result CounterEnd → (f : Stored) → KeepsFormula self.old f → KeepsFormula self.new f }
-        ensures looks { (f : Stored) → KeepsFormula self.old f → looks.new ≤ looks.old + literal_count f }
+        ensures noted { IfOk result (λ passes. IsTrue passes → (f : Stored) → KeepsFormula self.old f → AreLong f
+            → Adds notes.old (derived false (lit ∷ []) (hash ∷ []) f) notes.new) }
+        ensures hears { notes.new.hears ≡ notes.old.hears }
+        ensures looks { (f : Stored) → KeepsFormula self.old f → looks.new ≤ looks.old + 2 * literal_count f }
         ensures rise { looks.old ≤ looks.new }
     {
         if !self.check(&[lit], &[hash], looks)? {
             return Ok(false);
         }
+        self.note_unit(lit, notes, looks)?;
         self.store_unit(lit)?;
         Ok(true)
     }
@@ -272,17 +246,21 @@ impl Formula {
     pub fn store_units(
         &mut self,
         units: &[(Lit, ClauseHash)],
+        notes: &mut Notes,
         looks: &mut Looks,
     ) -> Result<bool, StoreError>
         ensures decides { (f : Stored) → KeepsFormula self.old f
             → TurnsIf result (PassInTurn f units.now)
             (KeepsFormula self.new (with_units (map (λ u. u.0) units.now) f)) (with_units (map (λ u. u.0) units.now) f) }
-        ensures looks { (f : Stored) → KeepsFormula self.old f → looks.new ≤ looks.old + length units.now * literal_count f }
+        ensures noted { IfOk result (λ passes. IsTrue passes → (f : Stored) → KeepsFormula self.old f → AreLong f
+            → Adds notes.old (derived_units units.now f) notes.new) }
+        ensures looks { (f : Stored) → KeepsFormula self.old f
+            → looks.new ≤ looks.old + length units.now * (2 * literal_count f) }
         ensures rise { looks.old ≤ looks.new }
     {
         for place in 0..units.len() {
             let unit = units[place];
-            match self.store_checked(unit.0, unit.1, looks) {
+            match self.store_checked(unit.0, unit.1, notes, looks) {
                 Ok(true) => {}
                 Ok(false) => return Ok(false),
                 Err(StoreError::OutOfMemory) => return Err(StoreError::OutOfMemory),
@@ -312,8 +290,28 @@ impl Formula {
         self.store.compact()
     }
 
+    /// Deletes a clause, which has these sorted literals, by this proof. The answer is whether it may be deleted so.
+    pub fn delete(
+        &mut self,
+        clause: &[Lit],
+        proof: DeleteClauseProof,
+        literals: &[Lit],
+        looks: &mut Looks,
+    ) -> bool
+        requires { literals.now ≡ canonical clause.now }
+        ensures decides { Deletes result self.old (DeleteClause clause.now (deletion_of proof)) self.new }
+        ensures looks { (f : Stored) → KeepsFormula self.old f → looks.new ≤ looks.old + 2 * literal_count f }
+        ensures rise { looks.old ≤ looks.new }
+    {
+        match proof {
+            DeleteClauseProof::Redundant => self.delete_redundant(clause, literals, looks),
+            DeleteClauseProof::Satisfied => self.delete_satisfied(clause, literals, looks),
+            DeleteClauseProof::Simplified => self.delete_simplified(clause, literals, looks),
+        }
+    }
+
     /// Deletes a redundant clause, which has these sorted literals.
-    pub fn delete_redundant(&mut self, clause: &[Lit], literals: &[Lit], looks: &mut Looks) -> bool
+    fn delete_redundant(&mut self, clause: &[Lit], literals: &[Lit], looks: &mut Looks) -> bool
         requires { literals.now ≡ canonical clause.now }
         ensures decides { Deletes result self.old (DeleteClause clause.now Redundant) self.new }
         ensures looks { (f : Stored) → KeepsFormula self.old f → looks.new ≤ looks.old + literal_count f }
@@ -323,7 +321,7 @@ impl Formula {
     }
 
     /// Deletes an irredundant clause in which a unit is true.
-    pub fn delete_satisfied(&mut self, clause: &[Lit], literals: &[Lit], looks: &mut Looks) -> bool
+    fn delete_satisfied(&mut self, clause: &[Lit], literals: &[Lit], looks: &mut Looks) -> bool
         requires { literals.now ≡ canonical clause.now }
         ensures decides { Deletes result self.old (DeleteClause clause.now Satisfied) self.new }
         ensures looks { (f : Stored) → KeepsFormula self.old f → looks.new ≤ looks.old + literal_count f }
@@ -357,7 +355,7 @@ impl Formula {
     }
 
     /// Deletes an irredundant clause of which the last irredundant clause stored is a part.
-    pub fn delete_simplified(&mut self, clause: &[Lit], literals: &[Lit], looks: &mut Looks) -> bool
+    fn delete_simplified(&mut self, clause: &[Lit], literals: &[Lit], looks: &mut Looks) -> bool
         requires { literals.now ≡ canonical clause.now }
         ensures decides { Deletes result self.old (DeleteClause clause.now Simplified) self.new }
         ensures looks { (f : Stored) → KeepsFormula self.old f → looks.new ≤ looks.old + 2 * literal_count f }

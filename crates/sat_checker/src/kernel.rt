@@ -1,21 +1,99 @@
-//! The part of a checker that judges steps.
-ghost use Rattle.std.specs.Prelude.{List, ◌≤◌, ◌≡◌, ◌≢◌, false, [], Err, None, OnOk};
-ghost use Rattle.sat_base.specs.steps.Steps.{Step};
+//! The part of a checker that judges steps, and tells what they announce.
+ghost use Rattle.std.specs.Prelude.{List, ◌≤◌, ◌≡◌, false, [], None, Ok, OnOk, IsTrue, MatchResult};
 ghost use Rattle.sat_base.specs.steps.StepViews.{step_of};
-ghost use Rattle.sat_checker.specs.KernelView.{has_failed, looks_of, Stands, Fails, ChecksStep, LooksAtMost};
-ghost use Rattle.sat_checker.specs.declared.error.CheckerError.TheVariants as errors;
-ghost use Rattle.anyhow.specs.declared.error.Error.{Error as Cause};
+ghost use Rattle.sat_checker.specs.KernelView as kernels;
+ghost use Rattle.sat_checker.specs.KernelView.{has_failed, looks_of, Stands};
+ghost use Rattle.sat_checker.specs.CheckerView.{seen, ChecksStep, ChecksDelayed};
+ghost use Rattle.sat_checker.specs.announcements.Announcements.{Told};
+ghost use Rattle.sat_checker.specs.inner.TellingSteps.{announced_by, changed_by, put_back, was_of, fault_of, Quiet, TakesIn};
+ghost use Rattle.sat_checker.specs.inner.VariablesView.{variable_at};
+ghost use Rattle.sat_checker.specs.telling.AnnouncementView.{variables_of};
+ghost use Rattle.sat_checker.specs.telling.Hearing.{hearers, HearsAll, HearsFirst, HearsUpTo};
+ghost use Rattle.sat_checker.specs.telling.ProcessingView.{listeners_of, HearsEach};
 
-mod telling;
-
+use crate::announcement::{CheckedProofStep, CheckerData, Was};
 use crate::error::CheckerError;
 use crate::looks::Looks;
+use crate::news::News;
 use crate::notes::Notes;
+use crate::processing::{Processing, ProcessingError, ProofProcessor};
 use crate::state::State;
 use crate::status::{Records, Status};
-use crate::store::StoreError;
+use crate::transcript::ProofTranscriptProcessor;
+use crate::variables::Variables;
 use sat_base::ProofStep;
 use std::alloc::Global;
+
+/// What a checker answers where not everybody was told.
+fn fault(error: ProcessingError) -> CheckerError
+    ensures { result ≡ fault_of error }
+{
+    match error {
+        ProcessingError::OutOfMemory => CheckerError::OutOfMemory,
+        ProcessingError::ProofProcessorError { cause } => {
+            CheckerError::ProofProcessorError { cause }
+        }
+    }
+}
+
+/// The variable whose name or mode a step may change, with what is kept of it. It is asked for where somebody listens.
+fn changed(variables: &Variables, step: &ProofStep<'_>, hears: bool) -> Option<Was>
+    ensures { IsTrue hears → was_of result ≡ changed_by (variable_at variables.now) (step_of step.now) }
+{
+    if !hears {
+        return None;
+    }
+    match *step {
+        ProofStep::UserVarName { global: var, .. }
+        | ProofStep::DeleteVar { var }
+        | ProofStep::ChangeSamplingMode { var, .. } => {
+            let data = variables.data(var);
+            Some(Was { var, data })
+        }
+        ProofStep::SolverVarName { .. }
+        | ProofStep::AddClause { .. }
+        | ProofStep::AtClause { .. }
+        | ProofStep::UnitClauses { .. }
+        | ProofStep::DeleteClause { .. }
+        | ProofStep::ChangeHashBits { .. }
+        | ProofStep::Model { .. }
+        | ProofStep::Assumptions { .. }
+        | ProofStep::FailedAssumptions { .. }
+        | ProofStep::End => None,
+    }
+}
+
+/// Whether somebody listens: a processor of the caller's own, or one of the others.
+fn listens<P: ProofProcessor, T: ProofTranscriptProcessor>(
+    has_own: bool,
+    others: &Processing<P, T>,
+) -> bool
+    ensures { result ≡ false → (has_own ≡ false) × (listeners_of others.now ≡ record { processors = []; transcripts = [] }) }
+{
+    has_own || !others.is_quiet()
+}
+
+/// Tells announcements in order, up to the first fault.
+fn tell_news<O: ProofProcessor, P: ProofProcessor, T: ProofTranscriptProcessor>(
+    news: &News,
+    names: CheckerData<'_>,
+    own: &mut O,
+    others: &mut Processing<P, T>,
+) -> Result<(), ProcessingError>
+    ensures { MatchResult result
+        (λ _. HearsAll (HearsFirst O.takes (HearsEach P.takes T.reads))
+        (announced_by (variables_of names.entry) news.now) (hearers own.old others.old) (hearers own.new others.new))
+        (λ e. HearsUpTo (HearsFirst O.takes (HearsEach P.takes T.reads))
+        e (announced_by (variables_of names.entry) news.now) (hearers own.old others.old) (hearers own.new others.new)) }
+{
+    for place in 0..news.len() {
+        match others.step_with(own, &news.get(place), names) {
+            Ok(()) => {}
+            Err(error) => return Err(error),
+        }
+    }
+    Ok(())
+}
 
 /// A checker without those who listen.
 #[derive(Drop)]
@@ -46,22 +124,94 @@ impl Kernel {
         }
     }
 
-    /// Checks the next step where nobody listens, and takes it in if it is accepted.
-    fn judge(&mut self, step: &ProofStep<'_>) -> Result<(), CheckerError>
-        requires { has_failed self.old ≡ false }
-        ensures checks { ChecksStep result self.old (step_of step.now) self.new }
+    /// Checks the next step, takes it in if it is accepted, and tells what it announces: first to a processor of the caller's own, where
+    /// it has one.
+    pub fn check_step<O: ProofProcessor, P: ProofProcessor, T: ProofTranscriptProcessor>(
+        &mut self,
+        step: &ProofStep<'_>,
+        own: &mut O,
+        has_own: bool,
+        others: &mut Processing<P, T>,
+    ) -> Result<(), CheckerError>
+        // Who is no processor of the caller's own takes everything and stays as it was.
+        requires { has_own ≡ false → (v : _) (t : Told) → O.takes v t (Ok tt) v }
+        ensures judges { kernels.ChecksStep result self.old (step_of step.now) self.new }
         ensures goes_on { OnOk result (has_failed self.new ≡ false) }
-        ensures told { (cause : Cause) → result ≢ Err (errors.ProofProcessorError cause) }
-        // Want of memory comes before the step is taken.
-        ensures short { result ≡ Err errors.OutOfMemory → (steps : List Step) → Stands self.old steps → Fails self.new steps }
-        ensures looks { LooksAtMost self.old (step_of step.now) self.new }
+        ensures tells { ChecksStep (HearsFirst O.takes (HearsEach P.takes T.reads))
+            result (seen self.old (hearers own.old others.old)) (step_of step.now) (seen self.new (hearers own.new others.new)) }
+        ensures looks { kernels.LooksAtMost self.old (step_of step.now) self.new }
         ensures rise { looks_of self.old ≤ looks_of self.new }
     {
-        match self.state.check_step(step, &mut self.looks) {
-            Ok(true) => {
-                self.records = self.state.formula.status.records();
-                Ok(())
+        if self.failed {
+            return Err(CheckerError::HasFailed);
+        }
+        match self.settle(own, others) {
+            Ok(()) => {
+                let hears = listens(has_own, others);
+                self.step(step, own, hears, others)
             }
+            Err(error) => Err(error),
+        }
+    }
+
+    /// The empty clause of a pending unit conflict takes the next id, and is told.
+    pub fn settle<O: ProofProcessor, P: ProofProcessor, T: ProofTranscriptProcessor>(
+        &mut self,
+        own: &mut O,
+        others: &mut Processing<P, T>,
+    ) -> Result<(), CheckerError>
+        requires { has_failed self.old ≡ false }
+        ensures judges { kernels.ChecksDelayed result self.old self.new }
+        ensures goes_on { OnOk result ((has_failed self.new ≡ false) × (self.new.state.formula.status.conflict ≡ None)) }
+        ensures looks { looks_of self.new ≡ looks_of self.old }
+        ensures tells { ChecksDelayed (HearsFirst O.takes (HearsEach P.takes T.reads))
+            result (seen self.old (hearers own.old others.old)) (seen self.new (hearers own.new others.new)) }
+    {
+        let Some((stored, contradicting)) = self.state.formula.status.conflict else {
+            return Ok(());
+        };
+        let id = self.state.formula.status.next_id;
+        if self.state.formula.settle().is_err() {
+            self.failed = true;
+            return Err(CheckerError::CounterEnd);
+        }
+        let step = CheckedProofStep::AtClause {
+            id,
+            redundant: false,
+            clause: &[],
+            propagations: &[stored, contradicting],
+        };
+        match others.step_with(own, &step, CheckerData::new(&self.state.variables)) {
+            Ok(()) => Ok(()),
+            Err(error) => {
+                self.failed = true;
+                Err(fault(error))
+            }
+        }
+    }
+
+    /// Checks the next step, where no unit conflict is pending. Somebody listens, or nobody.
+    fn step<O: ProofProcessor, P: ProofProcessor, T: ProofTranscriptProcessor>(
+        &mut self,
+        step: &ProofStep<'_>,
+        own: &mut O,
+        hears: bool,
+        others: &mut Processing<P, T>,
+    ) -> Result<(), CheckerError>
+        requires well { has_failed self.old ≡ false }
+        requires settled { self.old.state.formula.status.conflict ≡ None }
+        requires quiet { hears ≡ false → Quiet (HearsFirst O.takes (HearsEach P.takes T.reads)) (hearers own.old others.old) }
+        ensures judges { kernels.ChecksStep result self.old (step_of step.now) self.new }
+        ensures goes_on { OnOk result (has_failed self.new ≡ false) }
+        ensures tells { ChecksStep (HearsFirst O.takes (HearsEach P.takes T.reads))
+            result (seen self.old (hearers own.old others.old)) (step_of step.now) (seen self.new (hearers own.new others.new)) }
+        ensures looks { kernels.LooksAtMost self.old (step_of step.now) self.new }
+        ensures rise { looks_of self.old ≤ looks_of self.new }
+    {
+        self.notes.begin(hears);
+        let was = changed(&self.state.variables, step, hears);
+        match self.state.step(step, &mut self.notes, &mut self.looks) {
+            Ok(true) => self.take_in(&was, own, hears, others),
             Ok(false) => {
                 self.failed = true;
                 Err(CheckerError::CheckFailed)
@@ -69,6 +219,35 @@ impl Kernel {
             Err(error) => {
                 self.failed = true;
                 Err(CheckerError::from(error))
+            }
+        }
+    }
+
+    /// Records what an accepted step leaves, and tells what it has noted, where somebody listens.
+    fn take_in<O: ProofProcessor, P: ProofProcessor, T: ProofTranscriptProcessor>(
+        &mut self,
+        was: &Option<Was>,
+        own: &mut O,
+        hears: bool,
+        others: &mut Processing<P, T>,
+    ) -> Result<(), CheckerError>
+        requires well { has_failed self.old ≡ false }
+        requires quiet { hears ≡ false → Quiet (HearsFirst O.takes (HearsEach P.takes T.reads)) (hearers own.old others.old) }
+        ensures { (told : List Told)
+            → (IsTrue hears → told ≡ announced_by (put_back (was_of was.now) (variable_at self.old.state.variables)) self.old.notes.news)
+            → TakesIn (HearsFirst O.takes (HearsEach P.takes T.reads))
+            told result (seen self.old (hearers own.old others.old)) (seen self.new (hearers own.new others.new)) }
+    {
+        self.records = self.state.formula.status.records();
+        if !hears {
+            return Ok(());
+        }
+        let names = CheckerData::before(&self.state.variables, was);
+        match tell_news(&self.notes.news, names, own, others) {
+            Ok(()) => Ok(()),
+            Err(error) => {
+                self.failed = true;
+                Err(fault(error))
             }
         }
     }

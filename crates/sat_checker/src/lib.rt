@@ -21,7 +21,6 @@ pub(crate) mod lit_set;
 pub mod looks;
 pub(crate) mod needed;
 pub(crate) mod news;
-pub(crate) mod noted;
 pub(crate) mod notes;
 pub(crate) mod occurrences;
 pub(crate) mod passed;

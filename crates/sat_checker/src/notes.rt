@@ -1,30 +1,35 @@
-//! What steps announce of clauses, noted while all is stored as it was before them.
-ghost use Rattle.std.specs.Prelude.{ℕ, false, ◌≡◌, ◌+◌, ◌*◌, ◌≤◌, ◌++◌, ◌∷◌, [], List, OnOk, IfOk, IsErrOf, IsTrue, ◌↔◌, length, map, if◌then◌else◌};
-ghost use Rattle.sat_base.specs.steps.Steps.{AddClause, DeleteClause, FailedAssumptions};
+//! What a step announces, noted where somebody listens: of clauses while all is stored as it was before them, of names, modes and
+//! models once they are accepted. What is noted of a step that is refused is of no use.
+ghost use Rattle.std.specs.Prelude.{ℕ, false, ◌≡◌, ◌+◌, ◌≤◌, ◌∷◌, [], List, OnOk, IsTrue, map, if◌then◌else◌};
+ghost use Rattle.sat_base.specs.steps.Steps.{DeleteClause, FailedAssumptions};
 ghost use Rattle.sat_base.specs.steps.StepViews.{deletion_of};
 ghost use Rattle.sat_base.specs.values.Literals.{negated};
-ghost use Rattle.sat_checker.specs.Accepts.{Passes, PassInTurn};
+ghost use Rattle.sat_checker.specs.LiteralSets.{canonical};
 ghost use Rattle.sat_checker.specs.Looks.{literal_count};
 ghost use Rattle.sat_checker.specs.Stored.{Stored};
-ghost use Rattle.sat_checker.specs.Storing.{with_unit, with_units};
-ghost use Rattle.sat_checker.specs.announcements.Announcements.{announced, derived, derived_set, derived_units, id_of_set};
-ghost use Rattle.sat_checker.specs.declared.store.StoreError.TheVariants.{CounterEnd};
-ghost use Rattle.sat_checker.specs.inner.FormulaView.{KeepsFormula, TurnsIf};
-ghost use Rattle.sat_checker.specs.telling.AnnouncingView.{stored_as, AreLong};
+ghost use Rattle.sat_checker.specs.announcements.Announcements as told;
+ghost use Rattle.sat_checker.specs.announcements.Announcements.{announced, derived, derived_set, id_of_set, input, mode_change, renaming};
+ghost use Rattle.sat_checker.specs.inner.FormulaView.{Explained, KeepsFormula};
+ghost use Rattle.sat_checker.specs.inner.Reasons.{noted_length};
+ghost use Rattle.sat_checker.specs.inner.VariablesView.{mode_in, variable_of};
+ghost use Rattle.sat_checker.specs.telling.AnnouncingView.{stored_as, deletion_told, AreLong};
+ghost use Rattle.sat_checker.specs.telling.NotedView.{Adds};
 
-use crate::announcing::Change;
+use crate::announcing::{Change, Deletion};
 use crate::formula::Formula;
 use crate::looks::Looks;
 use crate::news::News;
 use crate::propagations::Propagations;
-use crate::sorted_lits::{copy_canonical, copy_negated};
-use crate::store::StoreError;
-use sat_base::{ClauseHash, DeleteClauseProof, Lit};
+use crate::sorted_lits::copy_canonical;
+use crate::variables::VarData;
+use sat_base::{DeleteClauseProof, Lit, Var};
 use std::alloc::{AllocError, Global};
 
 /// Room for what a step announces.
 #[derive(Drop)]
 pub(crate) struct Notes {
+    /// Whether somebody listens. Where nobody does, nothing is noted.
+    hears: bool,
     pub(crate) news: News,
     rests_on: Propagations,
     /// Room for sorted literals.
@@ -32,14 +37,83 @@ pub(crate) struct Notes {
 }
 
 impl Notes {
-    pub fn new(alloc: Global) -> Notes
-        ensures { result.news ≡ [] }
-    {
+    /// None yet, and nobody listens.
+    pub fn new(alloc: Global) -> Notes {
         Notes {
+            hears: false,
             news: News::new(alloc),
             rests_on: Propagations::new(alloc),
             literals: Vec::new(alloc),
         }
+    }
+
+    /// A step comes, to which somebody listens or nobody. What was noted before is forgotten.
+    pub fn begin(&mut self, hears: bool)
+        ensures hears { self.new.hears ≡ hears }
+        ensures none { IsTrue hears → self.new.news ≡ [] }
+    {
+        self.hears = hears;
+        if hears {
+            self.news.clear();
+        }
+    }
+
+    /// A variable, which was like this, gets a name, or loses it.
+    pub fn renaming(
+        &mut self,
+        var: Var,
+        user: Option<Var>,
+        before: VarData,
+    ) -> Result<(), AllocError>
+        ensures { OnOk result (Adds self.old (renaming var user (variable_of before)) self.new) }
+    {
+        if !self.hears {
+            return Ok(());
+        }
+        self.news.renaming(var, user, before)
+    }
+
+    /// A variable, which was like this, gets another mode.
+    pub fn mode_change(
+        &mut self,
+        var: Var,
+        sampling: bool,
+        before: VarData,
+    ) -> Result<(), AllocError>
+        ensures { OnOk result (Adds self.old (mode_change var sampling (mode_in before.mode) before.name) self.new) }
+    {
+        if !self.hears {
+            return Ok(());
+        }
+        self.news.mode_change(var, sampling, before)
+    }
+
+    /// A clause with these literals was deleted.
+    pub fn deleted(&mut self, literals: &[Lit], deletion: Deletion) -> Result<(), AllocError>
+        ensures { OnOk result (Adds self.old (deletion_told literals.now deletion) self.new) }
+    {
+        if !self.hears {
+            return Ok(());
+        }
+        self.news.deleted(literals, deletion)
+    }
+
+    pub fn model(&mut self, assignment: &[Lit]) -> Result<(), AllocError>
+        ensures { OnOk result (Adds self.old (told.Model assignment.now ∷ []) self.new) }
+    {
+        if !self.hears {
+            return Ok(());
+        }
+        self.news.model(assignment)
+    }
+
+    pub fn assumptions(&mut self, assumptions: &[Lit]) -> Result<(), AllocError>
+        ensures { OnOk result (Adds self.old (told.Assumptions assumptions.now ∷ []) self.new) }
+    {
+        if !self.hears {
+            return Ok(());
+        }
+        self.news.assumptions(assumptions)
     }
 }
 
@@ -51,12 +125,11 @@ impl Formula {
         notes: &mut Notes,
         looks: &mut Looks,
     ) -> Result<(), AllocError>
-        ensures noted { OnOk result ((f : Stored) → KeepsFormula self.now f
-            → notes.new.news ≡ notes.old.news ++ announced f (AddClause clause.now)) }
+        ensures noted { OnOk result ((f : Stored) → KeepsFormula self.now f → Adds notes.old (input clause.now f) notes.new) }
         ensures looks { (f : Stored) → KeepsFormula self.now f → looks.new ≤ looks.old + literal_count f }
         ensures rise { looks.old ≤ looks.new }
     {
-        if self.status.unsat {
+        if !notes.hears {
             return Ok(());
         }
         let both_signs = copy_canonical(&mut notes.literals, clause)?;
@@ -67,32 +140,44 @@ impl Formula {
             .input(self.status.next_id, literals, both_signs, same)
     }
 
-    /// Notes what the deletion of a clause will announce.
-    pub fn note_deletion(
+    /// What the deletion of a clause, which has these sorted literals, will announce.
+    pub fn deletion(
         &self,
-        clause: &[Lit],
+        notes: &Notes,
+        literals: &[Lit],
         proof: DeleteClauseProof,
-        notes: &mut Notes,
         looks: &mut Looks,
-    ) -> Result<(), AllocError>
-        ensures noted { OnOk result ((f : Stored) → KeepsFormula self.now f
-            → notes.new.news ≡ notes.old.news ++ announced f (DeleteClause clause.now (deletion_of proof))) }
+    ) -> Deletion
+        ensures told { IsTrue notes.now.hears → (f : Stored) → KeepsFormula self.now f
+            → (clause : List ℕ) → literals.now ≡ canonical clause
+            → deletion_told literals.now result ≡ announced f (DeleteClause clause (deletion_of proof)) }
         ensures looks { (f : Stored) → KeepsFormula self.now f → looks.new ≤ looks.old + literal_count f }
         ensures rise { looks.old ≤ looks.new }
     {
-        copy_canonical(&mut notes.literals, clause)?;
-        let literals = notes.literals.as_slice();
+        if !notes.hears {
+            return Deletion {
+                redundant: true,
+                stored: None,
+                from: None,
+            };
+        }
         let stored = self.store.stored(literals, looks);
         match proof {
-            DeleteClauseProof::Redundant => notes.news.redundant_deleted(literals, stored),
-            DeleteClauseProof::Satisfied => {
-                let from = self.units.true_id(literals);
-                notes.news.irredundant_deleted(literals, stored, from)
-            }
-            DeleteClauseProof::Simplified => {
-                let from = self.status.last.id();
-                notes.news.irredundant_deleted(literals, stored, from)
-            }
+            DeleteClauseProof::Redundant => Deletion {
+                redundant: true,
+                stored,
+                from: None,
+            },
+            DeleteClauseProof::Satisfied => Deletion {
+                redundant: false,
+                stored,
+                from: self.units.true_id(literals),
+            },
+            DeleteClauseProof::Simplified => Deletion {
+                redundant: false,
+                stored,
+                from: self.status.last.id(),
+            },
         }
     }
 
@@ -116,75 +201,39 @@ impl Formula {
         self.change(redundant, literals, looks)
     }
 
-    /// The propagation check of a clause. Where it passes, what storing it will announce is noted.
-    pub fn check_derived(
-        &mut self,
+    /// Notes what storing a clause will announce, which passed the last propagation check.
+    pub fn note_derived(
+        &self,
         redundant: bool,
         clause: &[Lit],
-        hashes: &[ClauseHash],
         notes: &mut Notes,
         looks: &mut Looks,
-    ) -> Result<bool, AllocError>
-        ensures exact { IfOk result
-            (λ passes. (f : Stored) → KeepsFormula self.old f → IsTrue passes ↔ Passes f clause.now hashes.now) }
-        ensures kept { (f : Stored) → KeepsFormula self.old f → KeepsFormula self.new f }
-        ensures noted { IfOk result (λ passes. IsTrue passes → (f : Stored) → KeepsFormula self.old f → AreLong f
-            → notes.new.news ≡ notes.old.news ++ derived redundant clause.now hashes.now f) }
-        ensures looks { (f : Stored) → KeepsFormula self.old f
-            → looks.new ≤ looks.old + (2 * length hashes.now + 1) * literal_count f }
+    ) -> Result<(), AllocError>
+        requires explained { (hashes : List ℕ) × Explained self.now clause.now hashes }
+        ensures noted { OnOk result ((f : Stored) (hashes : List ℕ) → KeepsFormula self.now f → AreLong f
+            → Explained self.now clause.now hashes → Adds notes.old (derived redundant clause.now hashes f) notes.new) }
+        ensures looks { (f : Stored) → KeepsFormula self.now f
+            → looks.new ≤ looks.old + noted_length self.now.store.clauses self.now.passed + literal_count f }
         ensures rise { looks.old ≤ looks.new }
     {
+        if !notes.hears {
+            return Ok(());
+        }
         let both_signs = copy_canonical(&mut notes.literals, clause)?;
         let literals = notes.literals.as_slice();
-        match self.check_noted(clause, literals, hashes, &mut notes.rests_on, looks) {
-            Ok(true) => {}
-            Ok(false) => return Ok(false),
-            Err(error) => return Err(error),
-        }
+        notes.rests_on.list(
+            &self.store,
+            &self.units,
+            &self.passed,
+            clause,
+            literals,
+            looks,
+        )?;
         let change = self.clause_change(redundant, both_signs, literals, looks);
         let id = self.status.next_id;
-        match notes
+        notes
             .news
             .derived(change, id, redundant, literals, notes.rests_on.ids())
-        {
-            Ok(()) => Ok(true),
-            Err(error) => Err(error),
-        }
-    }
-
-    /// The propagation check of a core's negation, which takes up the buffer. Where it passes, what the core announces is noted.
-    pub fn check_core(
-        &mut self,
-        core: &[Lit],
-        hashes: &[ClauseHash],
-        buffer: &mut Vec<Lit>,
-        notes: &mut Notes,
-        looks: &mut Looks,
-    ) -> Result<bool, AllocError>
-        ensures exact { IfOk result
-            (λ passes. (f : Stored) → KeepsFormula self.old f → IsTrue passes ↔ Passes f (map negated core.now) hashes.now) }
-        ensures kept { (f : Stored) → KeepsFormula self.old f → KeepsFormula self.new f }
-        ensures noted { IfOk result (λ passes. IsTrue passes → (f : Stored) → KeepsFormula self.old f
-            → notes.new.news ≡ notes.old.news ++ announced f (FailedAssumptions core.now hashes.now)) }
-        ensures looks { (f : Stored) → KeepsFormula self.old f
-            → looks.new ≤ looks.old + 2 * length hashes.now * literal_count f }
-        ensures rise { looks.old ≤ looks.new }
-    {
-        copy_negated(buffer, core)?;
-        copy_canonical(&mut notes.literals, buffer)?;
-        match self.check_noted(buffer, &notes.literals, hashes, &mut notes.rests_on, looks) {
-            Ok(true) => {}
-            Ok(false) => return Ok(false),
-            Err(error) => return Err(error),
-        }
-        copy_canonical(&mut notes.literals, core)?;
-        match notes
-            .news
-            .failed_assumptions(&notes.literals, notes.rests_on.ids())
-        {
-            Ok(()) => Ok(true),
-            Err(error) => Err(error),
-        }
     }
 
     /// What storing a unit will change.
@@ -199,90 +248,68 @@ impl Formula {
         }
     }
 
-    /// The propagation check of a unit under its one hash. Where it passes, what storing it will announce is noted.
-    fn check_unit(
-        &mut self,
+    /// Notes what storing a unit will announce, which passed the last propagation check.
+    pub fn note_unit(
+        &self,
         lit: Lit,
-        hash: ClauseHash,
         notes: &mut Notes,
         looks: &mut Looks,
-    ) -> Result<bool, AllocError>
-        ensures exact { IfOk result
-            (λ passes. (f : Stored) → KeepsFormula self.old f → IsTrue passes ↔ Passes f (lit ∷ []) (hash ∷ [])) }
-        ensures kept { (f : Stored) → KeepsFormula self.old f → KeepsFormula self.new f }
-        ensures noted { IfOk result (λ passes. IsTrue passes → (f : Stored) → KeepsFormula self.old f → AreLong f
-            → notes.new.news ≡ notes.old.news ++ derived false (lit ∷ []) (hash ∷ []) f) }
-        ensures looks { (f : Stored) → KeepsFormula self.old f → looks.new ≤ looks.old + 2 * literal_count f }
+    ) -> Result<(), AllocError>
+        requires explained { (hashes : List ℕ) × Explained self.now (lit ∷ []) hashes }
+        ensures noted { OnOk result ((f : Stored) (hashes : List ℕ) → KeepsFormula self.now f → AreLong f
+            → Explained self.now (lit ∷ []) hashes → Adds notes.old (derived false (lit ∷ []) hashes f) notes.new) }
+        ensures hears { notes.new.hears ≡ notes.old.hears }
+        ensures looks { looks.new ≤ looks.old + noted_length self.now.store.clauses self.now.passed }
         ensures rise { looks.old ≤ looks.new }
     {
-        match self.check_noted(&[lit], &[lit], &[hash], &mut notes.rests_on, looks) {
-            Ok(true) => {}
-            Ok(false) => return Ok(false),
-            Err(error) => return Err(error),
+        if !notes.hears {
+            return Ok(());
         }
+        notes.rests_on.list(
+            &self.store,
+            &self.units,
+            &self.passed,
+            &[lit],
+            &[lit],
+            looks,
+        )?;
         let change = self.unit_change(lit);
         let id = self.status.next_id;
-        match notes
+        notes
             .news
             .derived(change, id, false, &[lit], notes.rests_on.ids())
-        {
-            Ok(()) => Ok(true),
-            Err(error) => Err(error),
-        }
     }
 
-    /// Checks a unit under its one hash, notes what it announces, and stores it. The answer is whether it passes. It does where no id is
-    /// left for it.
-    fn store_noted(
-        &mut self,
-        lit: Lit,
-        hash: ClauseHash,
+    /// Notes what a core announces, whose negation passed the last propagation check.
+    pub fn note_core(
+        &self,
+        core: &[Lit],
+        denied: &[Lit],
         notes: &mut Notes,
         looks: &mut Looks,
-    ) -> Result<bool, StoreError>
-        ensures decides { (f : Stored) → KeepsFormula self.old f
-            → TurnsIf result (Passes f (lit ∷ []) (hash ∷ [])) (KeepsFormula self.new (with_unit lit f)) (with_unit lit f) }
-        ensures kept { IsErrOf result CounterEnd → (f : Stored) → KeepsFormula self.old f → KeepsFormula self.new f }
-        ensures noted { IfOk result (λ passes. IsTrue passes → (f : Stored) → KeepsFormula self.old f → AreLong f
-            → notes.new.news ≡ notes.old.news ++ derived false (lit ∷ []) (hash ∷ []) f) }
-        ensures looks { (f : Stored) → KeepsFormula self.old f → looks.new ≤ looks.old + 2 * literal_count f }
+    ) -> Result<(), AllocError>
+        requires denied { denied.now ≡ map negated core.now }
+        requires explained { (hashes : List ℕ) × Explained self.now denied.now hashes }
+        ensures noted { OnOk result ((f : Stored) (hashes : List ℕ) → KeepsFormula self.now f
+            → Explained self.now denied.now hashes → Adds notes.old (announced f (FailedAssumptions core.now hashes)) notes.new) }
+        ensures looks { looks.new ≤ looks.old + noted_length self.now.store.clauses self.now.passed }
         ensures rise { looks.old ≤ looks.new }
     {
-        if !self.check_unit(lit, hash, notes, looks)? {
-            return Ok(false);
+        if !notes.hears {
+            return Ok(());
         }
-        self.store_unit(lit)?;
-        Ok(true)
-    }
-
-    /// Checks, notes and stores units in turn. The answer is whether each passes.
-    pub fn store_units_noted(
-        &mut self,
-        units: &[(Lit, ClauseHash)],
-        notes: &mut Notes,
-        looks: &mut Looks,
-    ) -> Result<bool, StoreError>
-        ensures decides { (f : Stored) → KeepsFormula self.old f
-            → TurnsIf result (PassInTurn f units.now)
-            (KeepsFormula self.new (with_units (map (λ u. u.0) units.now) f)) (with_units (map (λ u. u.0) units.now) f) }
-        ensures noted { IfOk result (λ passes. IsTrue passes → (f : Stored) → KeepsFormula self.old f → AreLong f
-            → notes.new.news ≡ notes.old.news ++ derived_units units.now f) }
-        ensures looks { (f : Stored) → KeepsFormula self.old f
-            → looks.new ≤ looks.old + length units.now * (2 * literal_count f) }
-        ensures rise { looks.old ≤ looks.new }
-    {
-        for place in 0..units.len() {
-            let unit = units[place];
-            match self.store_noted(unit.0, unit.1, notes, looks) {
-                Ok(true) => {}
-                Ok(false) => return Ok(false),
-                Err(StoreError::OutOfMemory) => return Err(StoreError::OutOfMemory),
-                Err(StoreError::CounterEnd) => {
-                    let (_, behind) = units.split_at(place + 1);
-                    return self.pass_unnumbered(unit.0, behind, looks);
-                }
-            }
-        }
-        Ok(true)
+        copy_canonical(&mut notes.literals, denied)?;
+        notes.rests_on.list(
+            &self.store,
+            &self.units,
+            &self.passed,
+            denied,
+            &notes.literals,
+            looks,
+        )?;
+        copy_canonical(&mut notes.literals, core)?;
+        notes
+            .news
+            .failed_assumptions(&notes.literals, notes.rests_on.ids())
     }
 }

@@ -1,18 +1,18 @@
 //! The checker's state, and what each step makes of it.
-ghost use Rattle.std.specs.Prelude.{None, Some, true, ◌≡◌, ◌≤◌, ◌+◌, ◌*◌, OnErr, MatchBool};
+ghost use Rattle.std.specs.Prelude.{None, Some, true, ◌≡◌, ◌≤◌, ◌+◌, OnErr, MatchBool};
 ghost use Rattle.sat_checker.specs.Stored.{Stored, nothing_stored};
-ghost use Rattle.sat_checker.specs.Looks.{literal_count, most_looks};
-ghost use Rattle.sat_checker.specs.Storing.{settled, with_literals_known, with_stored};
+ghost use Rattle.sat_checker.specs.Looks.{literal_count};
 ghost use Rattle.sat_checker.specs.Accepts.{MayBeDeleted, MayBeAdded, VariablesApart};
 ghost use Rattle.sat_checker.specs.LiteralSets.{is_part};
 ghost use Rattle.sat_base.specs.steps.Steps.{SolverVarName, UserVarName, ChangeSamplingMode, AddClause, AtClause, ChangeHashBits, Assumptions, End, UnitClauses, DeleteClause, Model, FailedAssumptions, DeleteVar};
 ghost use Rattle.sat_base.specs.steps.StepViews.{deletion_of, step_of};
-ghost use Rattle.sat_checker.specs.inner.FormulaView.{Turns};
-ghost use Rattle.sat_checker.specs.inner.StateView.{Keeps, Leaves, with_derived, Decides, LooksWithin, Judges};
+ghost use Rattle.sat_checker.specs.inner.StateView.{Keeps, Leaves, with_added, with_derived, Decides, LooksWithin};
+ghost use Rattle.sat_checker.specs.telling.NotedView.{Announces};
 
 use crate::formula::Formula;
 use crate::lit_set::LitSet;
 use crate::looks::Looks;
+use crate::notes::Notes;
 use crate::sorted_lits::{copy_negated, sorted_set};
 use crate::store::StoreError;
 use crate::variables::Variables;
@@ -31,7 +31,7 @@ pub(crate) struct State {
 }
 
 impl State {
-    pub fn solver_var_name(
+    fn solver_var_name(
         &mut self,
         var: Var,
         name: Option<Var>,
@@ -52,27 +52,50 @@ impl State {
         Ok(true)
     }
 
-    pub fn user_var_name(&mut self, var: Var, user: Option<Var>) -> Result<bool, StoreError>
-        ensures { Decides result self.old (UserVarName var user) self.new }
+    fn user_var_name(
+        &mut self,
+        var: Var,
+        user: Option<Var>,
+        notes: &mut Notes,
+    ) -> Result<bool, StoreError>
+        ensures decides { Decides result self.old (UserVarName var user) self.new }
+        ensures noted { Announces result self.old (UserVarName var user) notes.old notes.new }
     {
-        let accepted = match user {
-            Some(name) => self.variables.add_user_mapping(var, name)?,
-            None => self.variables.remove_user_mapping(var)?,
-        };
-        Ok(accepted)
+        let before = self.variables.data(var);
+        if !self.variables.rename(var, user)? {
+            return Ok(false);
+        }
+        notes.renaming(var, user, before)?;
+        Ok(true)
     }
 
-    pub fn change_sampling_mode(&mut self, var: Var, sample: bool) -> Result<bool, StoreError>
-        ensures { Decides result self.old (ChangeSamplingMode var sample) self.new }
+    fn change_sampling_mode(
+        &mut self,
+        var: Var,
+        sample: bool,
+        notes: &mut Notes,
+    ) -> Result<bool, StoreError>
+        ensures decides { Decides result self.old (ChangeSamplingMode var sample) self.new }
+        ensures noted { Announces result self.old (ChangeSamplingMode var sample) notes.old notes.new }
     {
-        let accepted = self.variables.set_mode(var, sample)?;
-        Ok(accepted)
+        let before = self.variables.data(var);
+        if !self.variables.set_mode(var, sample)? {
+            return Ok(false);
+        }
+        notes.mode_change(var, sample, before)?;
+        Ok(true)
     }
 
-    pub fn add_clause(&mut self, clause: &[Lit], looks: &mut Looks) -> Result<bool, StoreError>
+    fn add_clause(
+        &mut self,
+        clause: &[Lit],
+        notes: &mut Notes,
+        looks: &mut Looks,
+    ) -> Result<bool, StoreError>
         ensures decides { Decides result self.old (AddClause clause.now) self.new }
-        ensures looks { (f : Stored) → Keeps self.old f → looks.new ≤ looks.old + literal_count f }
+        ensures looks { LooksWithin self.old (AddClause clause.now) looks.old looks.new }
         ensures rise { looks.old ≤ looks.new }
+        ensures noted { Announces result self.old (AddClause clause.now) notes.old notes.new }
     {
         if self.formula.status.unsat {
             return Ok(true);
@@ -80,9 +103,19 @@ impl State {
         if !self.variables.are_sampling(clause) {
             return Ok(false);
         }
-        self.variables.learn(clause)?;
-        self.formula.store_input(clause, &mut self.buffer, looks)?;
+        self.formula.note_input(clause, notes, looks)?;
+        self.store_input(clause, looks)?;
         Ok(true)
+    }
+
+    /// Stores a clause of the formula, which may be added.
+    fn store_input(&mut self, clause: &[Lit], looks: &mut Looks) -> Result<(), StoreError>
+        ensures stored { Leaves result self.old (with_added clause.now) self.new }
+        ensures looks { (f : Stored) → Keeps self.old f → looks.new ≤ looks.old + literal_count f }
+        ensures rise { looks.old ≤ looks.new }
+    {
+        self.variables.learn(clause)?;
+        self.formula.store_input(clause, &mut self.buffer, looks)
     }
 
     fn at_clause(
@@ -90,21 +123,24 @@ impl State {
         redundant: bool,
         clause: &[Lit],
         hashes: &[ClauseHash],
+        notes: &mut Notes,
         looks: &mut Looks,
     ) -> Result<bool, StoreError>
         ensures decides { Decides result self.old (AtClause redundant clause.now hashes.now) self.new }
         ensures looks { LooksWithin self.old (AtClause redundant clause.now hashes.now) looks.old looks.new }
         ensures rise { looks.old ≤ looks.new }
+        ensures noted { Announces result self.old (AtClause redundant clause.now hashes.now) notes.old notes.new }
     {
         if !self.formula.check(clause, hashes, looks)? {
             return Ok(false);
         }
+        self.formula.note_derived(redundant, clause, notes, looks)?;
         self.store_derived(redundant, clause, looks)?;
         Ok(true)
     }
 
     /// Stores a derived clause that passed the check.
-    pub fn store_derived(
+    fn store_derived(
         &mut self,
         redundant: bool,
         clause: &[Lit],
@@ -119,11 +155,7 @@ impl State {
             .store_clause(redundant, clause, &mut self.buffer, looks)
     }
 
-    pub fn change_hash_bits(
-        &mut self,
-        bits: HashBits,
-        looks: &mut Looks,
-    ) -> Result<bool, StoreError>
+    fn change_hash_bits(&mut self, bits: HashBits, looks: &mut Looks) -> Result<bool, StoreError>
         ensures decides { Decides result self.old (ChangeHashBits bits) self.new }
         ensures looks { LooksWithin self.old (ChangeHashBits bits) looks.old looks.new }
         ensures rise { looks.old ≤ looks.new }
@@ -132,15 +164,17 @@ impl State {
         Ok(true)
     }
 
-    pub fn assumptions(&mut self, literals: &[Lit]) -> Result<bool, StoreError>
-        ensures { Decides result self.old (Assumptions literals.now) self.new }
+    fn assumptions(&mut self, literals: &[Lit], notes: &mut Notes) -> Result<bool, StoreError>
+        ensures decides { Decides result self.old (Assumptions literals.now) self.new }
+        ensures noted { Announces result self.old (Assumptions literals.now) notes.old notes.new }
     {
         self.variables.learn(literals)?;
         self.assumed.replace(literals)?;
+        notes.assumptions(literals)?;
         Ok(true)
     }
 
-    pub fn end(&mut self) -> Result<bool, StoreError>
+    fn end(&mut self) -> Result<bool, StoreError>
         ensures { Decides result self.old End self.new }
     {
         self.formula.status.ended = true;
@@ -150,65 +184,54 @@ impl State {
     fn unit_clauses(
         &mut self,
         units: &[(Lit, ClauseHash)],
+        notes: &mut Notes,
         looks: &mut Looks,
     ) -> Result<bool, StoreError>
         ensures decides { Decides result self.old (UnitClauses units.now) self.new }
         ensures looks { LooksWithin self.old (UnitClauses units.now) looks.old looks.new }
         ensures rise { looks.old ≤ looks.new }
+        ensures noted { Announces result self.old (UnitClauses units.now) notes.old notes.new }
     {
-        if !self.formula.store_units(units, looks)? {
+        if !self.formula.store_units(units, notes, looks)? {
             return Ok(false);
         }
         self.variables.learn_units(units)?;
         Ok(true)
     }
 
-    /// Deletes a clause. Want of memory for dropping those that are gone comes only where it is accepted.
-    pub fn delete_clause(
+    /// Deletes a clause. Want of memory for what is announced, and for dropping clauses that are gone, comes only where it is accepted.
+    fn delete_clause(
         &mut self,
         clause: &[Lit],
         proof: DeleteClauseProof,
+        notes: &mut Notes,
         looks: &mut Looks,
     ) -> Result<bool, StoreError>
         ensures decides { Decides result self.old (DeleteClause clause.now (deletion_of proof)) self.new }
-        ensures looks { (f : Stored) → Keeps self.old f → looks.new ≤ looks.old + 2 * literal_count f }
+        ensures looks { LooksWithin self.old (DeleteClause clause.now (deletion_of proof)) looks.old looks.new }
         ensures rise { looks.old ≤ looks.new }
+        ensures noted { Announces result self.old (DeleteClause clause.now (deletion_of proof)) notes.old notes.new }
     {
-        if !self.take_clause(clause, proof, looks)? {
+        let literals = sorted_set(&mut self.buffer, clause)?;
+        let deletion = self.formula.deletion(notes, literals, proof, looks);
+        if !self.formula.delete(clause, proof, literals, looks) {
             return Ok(false);
         }
+        notes.deleted(literals, deletion)?;
         self.formula.compact()?;
         Ok(true)
     }
 
-    fn take_clause(
+    fn model(
         &mut self,
-        clause: &[Lit],
-        proof: DeleteClauseProof,
+        assignment: &[Lit],
+        notes: &mut Notes,
         looks: &mut Looks,
     ) -> Result<bool, StoreError>
-        ensures decides { Decides result self.old (DeleteClause clause.now (deletion_of proof)) self.new }
-        ensures looks { (f : Stored) → Keeps self.old f → looks.new ≤ looks.old + 2 * literal_count f }
-        ensures rise { looks.old ≤ looks.new }
-    {
-        let literals = sorted_set(&mut self.buffer, clause)?;
-        match proof {
-            DeleteClauseProof::Redundant => {
-                Ok(self.formula.delete_redundant(clause, literals, looks))
-            }
-            DeleteClauseProof::Satisfied => {
-                Ok(self.formula.delete_satisfied(clause, literals, looks))
-            }
-            DeleteClauseProof::Simplified => {
-                Ok(self.formula.delete_simplified(clause, literals, looks))
-            }
-        }
-    }
-
-    pub fn model(&mut self, assignment: &[Lit], looks: &mut Looks) -> Result<bool, StoreError>
         ensures decides { Decides result self.old (Model assignment.now) self.new }
         ensures looks { LooksWithin self.old (Model assignment.now) looks.old looks.new }
         ensures rise { looks.old ≤ looks.new }
+        ensures noted { Announces result self.old (Model assignment.now) notes.old notes.new }
         // Want of memory comes behind a variable that stands twice.
         ensures apart { OnErr result ((f : Stored) → Keeps self.old f → VariablesApart assignment.now) }
     {
@@ -216,6 +239,7 @@ impl State {
             return Ok(false);
         }
         self.variables.learn(assignment)?;
+        notes.model(assignment)?;
         Ok(true)
     }
 
@@ -223,11 +247,13 @@ impl State {
         &mut self,
         core: &[Lit],
         hashes: &[ClauseHash],
+        notes: &mut Notes,
         looks: &mut Looks,
     ) -> Result<bool, StoreError>
         ensures decides { Decides result self.old (FailedAssumptions core.now hashes.now) self.new }
         ensures looks { LooksWithin self.old (FailedAssumptions core.now hashes.now) looks.old looks.new }
         ensures rise { looks.old ≤ looks.new }
+        ensures noted { Announces result self.old (FailedAssumptions core.now hashes.now) notes.old notes.new }
         // No memory is wanted before it is known that the core is among the assumptions.
         ensures among { OnErr result ((f : Stored) → Keeps self.old f → is_part core.now f.assumed ≡ true) }
     {
@@ -235,12 +261,16 @@ impl State {
             return Ok(false);
         }
         copy_negated(&mut self.buffer, core)?;
-        let passes = self.formula.check(&self.buffer, hashes, looks)?;
-        Ok(passes)
+        let denied = self.buffer.as_slice();
+        if !self.formula.check(denied, hashes, looks)? {
+            return Ok(false);
+        }
+        self.formula.note_core(core, denied, notes, looks)?;
+        Ok(true)
     }
 
     /// No clause is looked at.
-    pub fn delete_var(&mut self, var: Var) -> Result<bool, StoreError>
+    fn delete_var(&mut self, var: Var) -> Result<bool, StoreError>
         ensures { Decides result self.old (DeleteVar var) self.new }
     {
         if !self.may_delete(var) {
@@ -281,52 +311,46 @@ impl State {
         }
     }
 
-    /// Checks the next step, and takes it in if it is accepted. The answer is whether it is.
-    fn step(&mut self, step: &ProofStep<'_>, looks: &mut Looks) -> Result<bool, StoreError>
+    /// Checks the next step, and takes it in if it is accepted. The answer is whether it is. What it announces is noted.
+    pub fn step(
+        &mut self,
+        step: &ProofStep<'_>,
+        notes: &mut Notes,
+        looks: &mut Looks,
+    ) -> Result<bool, StoreError>
         ensures decides { Decides result self.old (step_of step.now) self.new }
         ensures looks { LooksWithin self.old (step_of step.now) looks.old looks.new }
         ensures rise { looks.old ≤ looks.new }
+        ensures noted { Announces result self.old (step_of step.now) notes.old notes.new }
     {
         match *step {
             ProofStep::SolverVarName { global, solver } => {
                 self.solver_var_name(global, solver, looks)
             }
-            ProofStep::UserVarName { global, user } => self.user_var_name(global, user),
+            ProofStep::UserVarName { global, user } => self.user_var_name(global, user, notes),
             ProofStep::DeleteVar { var } => self.delete_var(var),
             ProofStep::ChangeSamplingMode { var, sample } => {
-                self.change_sampling_mode(var, sample)
+                self.change_sampling_mode(var, sample, notes)
             }
-            ProofStep::AddClause { clause } => self.add_clause(clause, looks),
+            ProofStep::AddClause { clause } => self.add_clause(clause, notes, looks),
             ProofStep::AtClause {
                 redundant,
                 clause,
                 propagation_hashes,
-            } => self.at_clause(redundant, clause, propagation_hashes, looks),
-            ProofStep::UnitClauses { units } => self.unit_clauses(units, looks),
-            ProofStep::DeleteClause { clause, proof } => self.delete_clause(clause, proof, looks),
+            } => self.at_clause(redundant, clause, propagation_hashes, notes, looks),
+            ProofStep::UnitClauses { units } => self.unit_clauses(units, notes, looks),
+            ProofStep::DeleteClause { clause, proof } => {
+                self.delete_clause(clause, proof, notes, looks)
+            }
             ProofStep::ChangeHashBits { bits } => self.change_hash_bits(bits, looks),
-            ProofStep::Model { assignment } => self.model(assignment, looks),
-            ProofStep::Assumptions { assumptions } => self.assumptions(assumptions),
+            ProofStep::Model { assignment } => self.model(assignment, notes, looks),
+            ProofStep::Assumptions { assumptions } => self.assumptions(assumptions, notes),
             ProofStep::FailedAssumptions {
                 failed_core,
                 propagation_hashes,
-            } => self.failed_assumptions(failed_core, propagation_hashes, looks),
+            } => self.failed_assumptions(failed_core, propagation_hashes, notes, looks),
             ProofStep::End => self.end(),
         }
-    }
-
-    /// Gives a pending unit conflict its id, checks the next step, and takes it in if it is accepted. The answer is whether it is.
-    pub fn check_step(
-        &mut self,
-        step: &ProofStep<'_>,
-        looks: &mut Looks,
-    ) -> Result<bool, StoreError>
-        ensures judges { Judges result self.old (step_of step.now) self.new }
-        ensures looks { (f : Stored) → Keeps self.old f → looks.new ≤ looks.old + most_looks (settled f) (step_of step.now) }
-        ensures rise { looks.old ≤ looks.new }
-    {
-        self.formula.settle()?;
-        self.step(step, looks)
     }
 
     /// Whether a clause of the formula is accepted: unsat is recorded, or its variables are all sampling or unknown.

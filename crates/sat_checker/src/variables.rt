@@ -228,6 +228,16 @@ impl Variables {
         Ok(true)
     }
 
+    /// Gives a name to a variable, or takes it from it. The answer is whether it may be so.
+    pub(crate) fn rename(&mut self, var: Var, user: Option<Var>) -> Result<bool, AllocError>
+        ensures { IfOk result (VariablesAnswer self.old (UserVarName var user) self.new) }
+    {
+        match user {
+            Some(name) => self.add_user_mapping(var, name),
+            None => self.remove_user_mapping(var),
+        }
+    }
+
     /// Sets the mode of a known variable. The answer is whether it is known.
     pub fn set_mode(&mut self, var: Var, sample: bool) -> Result<bool, AllocError>
         ensures answers { IfOk result (VariablesAnswer self.old (ChangeSamplingMode var sample) self.new) }

@@ -6,6 +6,7 @@ use Rattle.sat_checker.specs.Stored.{Stored, StoredClause, StoredUnit, Last, Non
 use Rattle.sat_base.specs.steps.Steps.{Step}
 use Rattle.sat_checker.specs.Accepts.{Accepts, effect}
 use Rattle.sat_checker.specs.Spent.{IsSpent}
+use Rattle.sat_checker.specs.inner.Reasons.{ExplainsCheck}
 use Rattle.sat_checker.specs.inner.SlotView.{slot_ids}
 use Rattle.sat_checker.specs.inner.StoreView.{KeepsClauses, KeepsHashed, AreIds}
 use Rattle.sat_checker.specs.declared.store.StoreError.{StoreError}
@@ -87,3 +88,7 @@ pub record ChecksAs (formula : Formula) (f : Stored) : Type 0 where
 -- a deletion is accepted, and what it leaves is kept, or it's refused
 abbrev pub Deletes : Bool → Formula → Step → Formula → Type 0
 Deletes accepted old step new = (f : Stored) → KeepsFormula old f → MatchBool accepted (Accepts f step × KeepsFormula new (effect step f)) (Accepts f step → ⊥)
+
+-- what the last propagation check noted explains why the clause passes under these hashes
+abbrev pub Explained : Formula → List ℕ → List ℕ → Type 0
+Explained formula clause hashes = ExplainsCheck formula.store.clauses formula.passed (map (λ u. u.literal) formula.units) clause hashes

@@ -1,9 +1,6 @@
 -- What the checker's state keeps of the definition's, and when its answer to a step is right.
-use Rattle.std.specs.Prelude.{ℕ, ◌≡◌, ◌+◌, ◌≤◌, Bool, List, Result, Ok, Err}
-use Rattle.std.specs.Bool.{MatchBool}
-use Rattle.sat_checker.specs.Spent.{SpentBy}
-use Rattle.sat_checker.specs.Storing.{settled, with_stored, with_literals_known}
-use Rattle.sat_checker.specs.declared.store.StoreError.TheVariants.{OutOfMemory, CounterEnd}
+use Rattle.std.specs.Prelude.{ℕ, ◌≡◌, ◌+◌, ◌≤◌, Bool, List, Result}
+use Rattle.sat_checker.specs.Storing.{with_stored, with_input, with_literals_known}
 use Rattle.sat_base.specs.steps.Steps.{Step}
 use Rattle.sat_checker.specs.LiteralSets.{canonical}
 use Rattle.sat_checker.specs.Stored.{Stored}
@@ -31,16 +28,10 @@ Leaves result old change new = (f : Stored) → Keeps old f → Turns result (Ke
 abbrev pub with_derived : Bool → List ℕ → Stored → Stored
 with_derived redundant clause f = with_stored redundant clause (with_literals_known clause f)
 
+-- a clause of the formula is stored, and its variables are known
+abbrev pub with_added : List ℕ → Stored → Stored
+with_added clause f = with_input clause (with_literals_known clause f)
+
 -- no more looks than the step may take
 abbrev pub LooksWithin : State → Step → ℕ → ℕ → Type 0
 LooksWithin state step old new = (f : Stored) → Keeps state f → new ≤ old + most_looks f step
-
--- what an answer to a step says: it is accepted, and this is kept, or it isn't, or a number is spent
-abbrev pub Answers : Result Bool StoreError → Type 0 → Type 0 → Type 0 → Type 0
-Answers (Ok accepted) accepts kept spent = MatchBool accepted (accepts × kept) (accepts → ⊥)
-Answers (Err OutOfMemory) accepts kept spent = Unit {0}
-Answers (Err CounterEnd) accepts kept spent = spent
-
--- a pending unit conflict is settled before the step is judged
-abbrev pub Judges : Result Bool StoreError → State → Step → State → Type 0
-Judges result old step new = (f : Stored) → Keeps old f → Answers result (Accepts (settled f) step) (Keeps new (effect step (settled f))) (SpentBy step f)

@@ -55,6 +55,10 @@ pub record SameState {L : Type 0} (old new : Seen L) : Type 0 where
   pub state : new.kernel.state ≡ old.kernel.state
   pub looks : looks_of new ≡ looks_of old
 
+-- who is told takes everything without a fault, and stays as it was
+abbrev pub Quiet : {L : Type 0} → (L → Told → Result Unit ProcessingError → L → Type 0) → L → Type 0
+Quiet Hears l = (t : Told) → Hears l t (Ok tt) l
+
 module _ {L : Type 0} (Hears : L → Told → Result Unit ProcessingError → L → Type 0) (told : List Told) where
   -- all was told, or up to a fault, and what is recorded is so
   abbrev pub TakenIn : Result Unit CheckerError → Seen L → Seen L → Type 0

@@ -1,16 +1,22 @@
 -- What a step will announce, by what is stored before it.
-use Rattle.std.specs.Prelude.{ℕ, ◌≡◌, Bool, List, [], ◌∷◌, None}
+use Rattle.std.specs.Prelude.{ℕ, ◌≡◌, Bool, List, [], ◌∷◌, None, if◌then◌else◌}
 use Rattle.sat_checker.specs.Stored.{Stored}
 use Rattle.sat_checker.specs.Storing.{clause_with}
-use Rattle.sat_checker.specs.announcements.Announcements.{Announcement, AtClause, MakeIrredundant}
+use Rattle.sat_checker.specs.announcements.Announcements.{Announcement, AtClause, MakeIrredundant, redundant_deleted, irredundant_deleted, one}
+use Rattle.sat_checker.specs.inner.StoreView.{found_in}
 use Rattle.sat_checker.specs.declared.announcing.Change.{Change}
 use Rattle.sat_checker.specs.declared.announcing.Change.TheVariants as changes
+use Rattle.sat_checker.specs.declared.announcing.Deletion.{Deletion}
 
 -- a derived clause that changes what is stored so
 abbrev pub stored_as : Change → ℕ → Bool → List ℕ → List ℕ → List Announcement
 stored_as changes.New id redundant literals ids = AtClause id redundant literals ids ∷ []
 stored_as (changes.Irredundant same) id redundant literals ids = MakeIrredundant same literals ∷ []
 stored_as changes.Neither id redundant literals ids = []
+
+-- a clause of these literals is deleted, which stood so
+abbrev pub deletion_told : List ℕ → Deletion → List Announcement
+deletion_told literals d = if d.redundant then redundant_deleted (found_in literals d.stored) else irredundant_deleted (one d.from) (found_in literals d.stored)
 
 -- no clause of one literal stands among those of two literals or more
 abbrev pub AreLong : Stored → Type 0

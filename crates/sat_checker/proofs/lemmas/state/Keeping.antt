@@ -1,20 +1,18 @@
 -- What steps leave of the checker's state.
-use Rattle.std.proofs.Common.{ℕ, ◌≡◌, Bool, true, false, cond, List, [], ◌∷◌, Option, None, Some, refl, sym, ◌∙◌, ap, subst, Result, Ok, Err, IfOk, ◌↔◌, inl, inr}
+use Rattle.std.proofs.Common.{ℕ, ◌≡◌, Bool, true, false, cond, List, [], ◌∷◌, Option, None, Some, refl, sym, ◌∙◌, ap, subst, Result, Ok, Err, IfOk, ◌↔◌}
 use Rattle.std.specs.List.{AllByRecursion}
 use Rattle.std.specs.Bool.{MatchBool}
 use Rattle.std.proofs.lemmas.Bool.{true≢false}
 use Rattle.sat_base.specs.values.Literals.{variable}
-use Rattle.sat_base.specs.steps.Steps.{Step, SolverVarName, AddClause, DeleteClause}
-use Rattle.sat_base.specs.steps.StepViews.{deletion_of}
-use Rattle.sat_base.specs.declared.steps.step.DeleteClauseProof.{DeleteClauseProof}
+use Rattle.sat_base.specs.steps.Steps.{SolverVarName, AddClause, DeleteClause, Deletion, Redundant, Satisfied, Simplified}
 use Rattle.sat_checker.specs.LiteralSets.{canonical, is_part}
 use Rattle.sat_checker.specs.Stored.{Stored, Variable, Sample, mode_of}
 use Rattle.sat_checker.specs.Storing.{settled, with_stored, with_input, with_literals_known, with_solver_name, with_known}
-use Rattle.sat_checker.specs.Accepts.{Passes, Accepts, effect, IsStrictSubset}
-use Rattle.sat_checker.specs.Spent.{IsSpent, SpentBy}
+use Rattle.sat_checker.specs.Accepts.{Passes, effect, IsStrictSubset}
+use Rattle.sat_checker.specs.Spent.{IsSpent}
 use Rattle.sat_checker.specs.inner.StoreView.{KeepsClauses}
 use Rattle.sat_checker.specs.inner.FormulaView.{KeepsFormula, Turns, TurnsIf}
-use Rattle.sat_checker.specs.inner.StateView.{Keeps, Answers}
+use Rattle.sat_checker.specs.inner.StateView.{Keeps, with_added}
 use Rattle.sat_checker.specs.inner.VariablesView.{KeepsVariables, AreSampling}
 use Rattle.sat_checker.specs.declared.store.StoreError.{StoreError}
 use Rattle.sat_checker.specs.declared.store.StoreError.TheVariants.{OutOfMemory, CounterEnd}
@@ -23,7 +21,7 @@ use Rattle.sat_checker.specs.declared.state.State.{State}
 use Rattle.sat_checker.specs.declared.variables.Variables.{Variables}
 use Rattle.sat_checker.proofs.lemmas.sets.Canonical.{canonical_among}
 use Rattle.sat_checker.proofs.lemmas.state.Scanning.{same_part}
-use Rattle.sat_checker.proofs.lemmas.meaning.Names.{stored_same, settled_same}
+use Rattle.sat_checker.proofs.lemmas.meaning.Names.{SameVariables, stored_same, settled_same}
 
 -- the check over the formula's parts
 pub checked_formula : {E : Type 0} (r : Result Bool E) (F : Formula) (clause hashes : List ℕ) → IfOk r (λ b. (f : Stored) → KeepsClauses F.store f → F.units ≡ f.units → (b ≡ true) ↔ Passes f clause hashes)
@@ -55,11 +53,15 @@ pub derived : (new : State) (f : Stored) (r : Bool) (c : List ℕ) → KeepsForm
 derived new f r c F V a = let s = stored_same r c (with_literals_known c f) in record { formula = F; variables = subst (KeepsVariables new.variables) (sym s.variables) V; assumed = a ∙ ap canonical (sym s.assumed) }
 
 -- a clause of the formula
-pub added : (new : State) (f : Stored) (c : List ℕ) → f.unsat ≡ false → KeepsFormula new.formula (with_input c (with_literals_known c f)) → KeepsVariables new.variables (with_literals_known c f).variables → new.assumed ≡ canonical f.assumed
-    → Keeps new (effect (AddClause c) f)
-added new f c e F V a =
-    let s = stored_same false c (with_literals_known c f) in
-    subst (λ b. Keeps new (cond b f (with_input c (with_literals_known c f)))) (sym e) (record { formula = F; variables = subst (KeepsVariables new.variables) (sym s.variables) V; assumed = a ∙ ap canonical (sym s.assumed) })
+pub input_kept : (new : State) (f : Stored) (c : List ℕ) → KeepsFormula new.formula (with_input c (with_literals_known c f)) → KeepsVariables new.variables (with_literals_known c f).variables → new.assumed ≡ canonical f.assumed → Keeps new (with_added c f)
+input_kept new f c F V a =
+    let s = stored_same false c (with_literals_known c f) in record { formula = F; variables = subst (KeepsVariables new.variables) (sym s.variables) V; assumed = a ∙ ap canonical (sym s.assumed) }
+
+pub added : (new : State) (f : Stored) (c : List ℕ) → f.unsat ≡ false → Keeps new (with_added c f) → Keeps new (effect (AddClause c) f)
+added new f c e k = subst (λ b. Keeps new (cond b f (with_added c f))) (sym e) k
+
+pub added_spent : (f : Stored) (c : List ℕ) → f.unsat ≡ false → IsSpent (with_added c f) → IsSpent (effect (AddClause c) f)
+added_spent f c e k = subst (λ b. IsSpent (cond b f (with_added c f))) (sym e) k
 
 -- a solver name
 pub renamed : (new : State) (f : Stored) (v : ℕ) (name : Option ℕ) (n : ℕ) → name ≡ Some n → KeepsFormula new.formula (with_solver_name v (Some n) f) → KeepsVariables new.variables (with_known (v ∷ []) f).variables → new.assumed ≡ canonical f.assumed
@@ -87,12 +89,18 @@ pub core_passes : (b : Bool) (P Q K : Type 0) → P → K → (b ≡ true) ↔ Q
 core_passes true P Q K p k h = ((p, h.0 refl), k)
 core_passes false P Q K p k h = λ q. true≢false (sym (h.1 q.1))
 
--- a deletion, by its proof
-pub deleted : (new : State) (f : Stored) (c : List ℕ) (p q : DeleteClauseProof) (b : Bool) → p ≡ q
-    → MatchBool b (Accepts f (DeleteClause c (deletion_of q)) × Keeps new (effect (DeleteClause c (deletion_of q)) f)) (Accepts f (DeleteClause c (deletion_of q)) → ⊥)
-    → MatchBool b (Accepts f (DeleteClause c (deletion_of p)) × Keeps new (effect (DeleteClause c (deletion_of p)) f)) (Accepts f (DeleteClause c (deletion_of p)) → ⊥)
-deleted new f c p q b e h =
-    subst (λ x. MatchBool b (Accepts f (DeleteClause c (deletion_of x)) × Keeps new (effect (DeleteClause c (deletion_of x)) f)) (Accepts f (DeleteClause c (deletion_of x)) → ⊥)) (sym e) h
+-- a deletion changes clauses alone
+pub deletion_same : (f : Stored) (c : List ℕ) (p : Deletion) → SameVariables f (effect (DeleteClause c p) f)
+deletion_same f c Redundant = record { variables = refl; deleted = refl; assumed = refl }
+deletion_same f c Satisfied = record { variables = refl; deleted = refl; assumed = refl }
+deletion_same f c Simplified = record { variables = refl; deleted = refl; assumed = refl }
+
+pub deleted_kept : (old new : State) (f : Stored) (c : List ℕ) (p : Deletion) → Keeps old f → KeepsFormula new.formula (effect (DeleteClause c p) f) → new.variables ≡ old.variables → new.assumed ≡ old.assumed → Keeps new (effect (DeleteClause c p) f)
+deleted_kept old new f c p k F v a = let s = deletion_same f c p in record {
+  formula = F;
+  variables = subst (λ vs. KeepsVariables vs (effect (DeleteClause c p) f).variables) (sym v) (subst (KeepsVariables old.variables) (sym s.variables) k.variables);
+  assumed = a ∙ k.assumed ∙ ap canonical (sym s.assumed);
+}
 
 -- what a step answers behind a settled conflict
 pub settled_kept : (old new : State) (f : Stored) → Keeps old f → KeepsFormula new.formula (settled f) → new.variables ≡ old.variables → new.assumed ≡ old.assumed → Keeps new (settled f)
@@ -101,15 +109,3 @@ settled_kept old new f k F v a = let s = settled_same f in record {
   variables = subst (λ vs. KeepsVariables vs (settled f).variables) (sym v) (subst (KeepsVariables old.variables) (sym s.variables) k.variables);
   assumed = a ∙ k.assumed ∙ ap canonical (sym s.assumed);
 }
-
-pub judged : (result : Result Bool StoreError) (A K : Type 0) (step : Step) (f : Stored) → (A → Accepts (settled f) step) → TurnsIf result A K (effect step (settled f)) → Answers result A K (SpentBy step f)
-judged (Ok b) A K step f a h = h
-judged (Err OutOfMemory) A K step f a h = tt
-judged (Err CounterEnd) A K step f a h = inr (a h.0, h.1)
-
-pub judged_err : {T : Type 0} (first : Result T StoreError) (result : Result Bool StoreError) (d e : StoreError) → first ≡ Err e → result ≡ Err d → d ≡ e → (G A K : Type 0) (step : Step) (f : Stored) → Turns first G (settled f) → Answers result A K (SpentBy step f)
-judged_err {T = T} first result d e a b s G A K step f t = subst (λ x. Answers x A K (SpentBy step f)) (sym (b ∙ ap Err s)) (go e (subst (λ x. Turns x G (settled f)) a t))
-  where
-    go : (e : StoreError) → Turns {T = T} (Err e) G (settled f) → Answers (Err e) A K (SpentBy step f)
-    go OutOfMemory t = tt
-    go CounterEnd t = inl t

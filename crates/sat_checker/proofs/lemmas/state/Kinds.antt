@@ -1,9 +1,9 @@
 -- What is said of a step of one kind is said of the step that is it.
-use Rattle.std.proofs.Common.{ℕ, ◌≡◌, List, Bool, Result, sym, subst}
+use Rattle.std.proofs.Common.{ℕ, ◌≡◌, Bool, Result, sym, subst}
 use Rattle.sat_base.specs.steps.Steps.{Step}
-use Rattle.sat_checker.specs.announcements.Announcements.{Announcement}
 use Rattle.sat_checker.specs.inner.StateView.{Decides, LooksWithin}
 use Rattle.sat_checker.specs.telling.NotedView.{Announces}
+use Rattle.sat_checker.specs.declared.notes.Notes.{Notes}
 use Rattle.sat_checker.specs.declared.state.State.{State}
 use Rattle.sat_checker.specs.declared.store.StoreError.{StoreError}
 
@@ -13,5 +13,5 @@ decided_as r old new step kind e h = subst (λ s. Decides r old s new) (sym e) h
 pub within_as : (old : State) (step kind : Step) (before after : ℕ) → step ≡ kind → LooksWithin old kind before after → LooksWithin old step before after
 within_as old step kind before after e h = subst (λ s. LooksWithin old s before after) (sym e) h
 
-pub announced_as : (r : Result Bool StoreError) (old : State) (step kind : Step) (had has : List Announcement) → step ≡ kind → Announces r old kind had has → Announces r old step had has
+pub announced_as : (r : Result Bool StoreError) (old : State) (step kind : Step) (had has : Notes) → step ≡ kind → Announces r old kind had has → Announces r old step had has
 announced_as r old step kind had has e h = subst (λ s. Announces r old s had has) (sym e) h

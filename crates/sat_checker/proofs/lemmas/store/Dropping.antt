@@ -18,7 +18,6 @@ use Rattle.sat_checker.specs.declared.occurrences.Occurrences.{Occurrences}
 use Rattle.sat_checker.specs.declared.store.Store.{Store}
 use Rattle.sat_checker.specs.declared.links.Pair.{Pair}
 use Rattle.sat_checker.proofs.lemmas.store.Filing.{pairs_push}
-use Rattle.sat_checker.proofs.lemmas.store.Ids.{ids_taken}
 use Rattle.sat_checker.proofs.lemmas.store.Places.{gone_more, gone_not, set_at}
 
 -- how many are gone, as clauses come in and go

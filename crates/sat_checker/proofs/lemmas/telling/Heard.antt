@@ -1,24 +1,21 @@
 -- What those who listen have heard, call by call.
-use Rattle.std.proofs.Common.{ℕ, append_assoc, ◌≡◌, ◌⊎◌, false, List, [], ◌∷◌, ◌++◌, ◌+◌, ◌<◌, ◌≤◌, length, arith, drop, slice_index_or, Option, None, Some, Result, Ok, Err, inl, inr, refl, sym, ap, subst, ◌∙◌}
+use Rattle.std.proofs.Common.{ℕ, append_assoc, ◌≡◌, ◌⊎◌, List, [], ◌∷◌, ◌++◌, ◌+◌, ◌<◌, ◌≤◌, length, arith, drop, slice_index_or, Option, None, Some, Result, Ok, Err, inl, inr, refl, sym, ap, subst, ◌∙◌}
 use Rattle.std.proofs.lemmas.Bool.{true≢false}
-use Rattle.std.proofs.lemmas.List.{append-nil, drop_more, drop_all}
+use Rattle.std.proofs.lemmas.List.{drop_more, drop_all}
 use Rattle.std.specs.List.{AllZip}
 use Rattle.anyhow.specs.declared.error.Error.{Error}
 use Rattle.sat_base.specs.steps.Steps.{Step}
-use Rattle.sat_checker.specs.Accepts.{stored_after, ready_after}
+use Rattle.sat_checker.specs.Accepts.{ready_after}
 use Rattle.sat_checker.specs.KernelView as kernels
-use Rattle.sat_checker.specs.CheckerView.{Seen, seen, Stands, Fails, AnswersStep}
+use Rattle.sat_checker.specs.CheckerView.{Seen, Fails}
 use Rattle.sat_checker.specs.Stored.{Variable}
 use Rattle.sat_checker.specs.inner.TellingSteps.{announced_by}
-use Rattle.sat_checker.specs.announcements.Announcements.{Announcement, Told, announced, delayed, told_over, told_after, all_told_after}
+use Rattle.sat_checker.specs.announcements.Announcements.{Announcement, Told, announced, told_over, told_after, all_told_after}
 use Rattle.sat_checker.specs.telling.Hearing.{SameTold, HearsAll, HearsUpTo, HearsSince, HearsSinceUpTo, told_by}
 use Rattle.sat_checker.specs.announcements.Transcripts.{Transcribed, transcript}
 use Rattle.sat_checker.specs.telling.ProcessingView.{listeners_of, HearsEach, NobodyFails}
 use Rattle.sat_checker.specs.telling.Telling.{AllTold, SomeTold, AllRead, Transcribes, all_processors, some_processors}
 use Rattle.sat_checker.specs.declared.processing.Processing.{Processing}
-use Rattle.sat_checker.specs.declared.kernel.Kernel.{Kernel}
-use Rattle.sat_checker.specs.declared.error.CheckerError.{CheckerError}
-use Rattle.sat_checker.specs.declared.error.CheckerError.TheVariants as errors
 use Rattle.sat_checker.specs.declared.processing.ProcessingError.{ProcessingError}
 use Rattle.sat_checker.specs.declared.processing.ProcessingError.TheVariants as faults
 
@@ -26,15 +23,6 @@ pub same_itself : (t : Told) → SameTold t t
 same_itself t = record { announcement = refl; names = λ v. refl; modes = λ v. refl }
 
 -- WHAT IS TOLD
-
--- what waits to be told
-abbrev pub waiting : Option (ℕ × ℕ) → List Step → List Told
-waiting (Some conflict) steps = told_over (stored_after steps) (delayed (stored_after steps))
-waiting None steps = []
-
-pub told_all : (c : Option (ℕ × ℕ)) (steps : List Step) → told_by c steps ++ waiting c steps ≡ all_told_after steps
-told_all (Some conflict) steps = refl
-told_all None steps = append-nil (all_told_after steps)
 
 pub told_step : (step : Step) (steps : List Step) → all_told_after steps ++ told_over (ready_after steps) (announced (ready_after steps) step) ≡ told_after (step ∷ steps)
 told_step step steps = refl
@@ -85,42 +73,9 @@ module _ {L : Type 0} (Hears : L → Told → Result Unit ProcessingError → L 
   -- NOBODY LISTENS
 
   module _ (l : L) (quiet : (t : Told) → Hears l t (Ok tt) l) where
-    all_quiet : (ts : List Told) → HearsAll Hears ts l l
+    pub all_quiet : (ts : List Told) → HearsAll Hears ts l l
     all_quiet [] = refl
     all_quiet (t ∷ ts) = (l, (t, same_itself t, quiet t), all_quiet ts)
-
-    module _ (before : List Told) (begun : L) where
-      more : (ts us : List Told) → HearsSince Hears before ts begun l → HearsSince Hears before (ts ++ us) begun l
-      more ts us h = since_more before ts us begun l l h (all_quiet us)
-
-      settled_too : (c : Option (ℕ × ℕ)) (steps : List Step) → HearsSince Hears before (told_by c steps) begun l → HearsSince Hears before (all_told_after steps) begun l
-      settled_too c steps h = subst (λ z. HearsSince Hears before z begun l) (told_all c steps) (more (told_by c steps) (waiting c steps) h)
-
-      step_too : (step : Step) (steps : List Step) → HearsSince Hears before (all_told_after steps) begun l → HearsSince Hears before (told_after (step ∷ steps)) begun l
-      step_too step steps h = subst (λ z. HearsSince Hears before z begun l) (told_step step steps) (more (all_told_after steps) _ h)
-
-      by_now : (c : Option (ℕ × ℕ)) (steps : List Step) → HearsSince Hears before (told_after steps) begun l → HearsSince Hears before (told_by c steps) begun l
-      by_now (Some conflict) steps h = h
-      by_now None steps h = more (told_after steps) _ h
-
-      pub judged_quietly : (old new : Kernel) (r : Result Unit CheckerError) (step : Step) (steps : List Step) → kernels.has_failed old ≡ false → ((cause : Error) → r ≡ Err (errors.ProofProcessorError cause) → ⊥) → (r ≡ Err errors.OutOfMemory → kernels.Fails new steps)
-          → kernels.AnswersStep r old step new steps → Stands Hears before begun (seen old l) steps → AnswersStep Hears before begun r (seen old l) step (seen new l) steps
-      judged_quietly old new (Ok x) step steps h n w a s = (
-        a.0,
-        record {
-          accepts = a.1.accepts;
-          stands = record { kernel = a.1.stands; heard = λ e. by_now new.state.formula.status.conflict (step ∷ steps) (step_too step steps (settled_too old.state.formula.status.conflict steps (s.heard h))) };
-          goes_on = a.1.goes_on;
-        },
-      )
-      judged_quietly old new (Err errors.CheckFailed) step steps h n w a s = (a.0, a.1, record { fails = failing before begun (seen new l) steps a.2; heard = settled_too old.state.formula.status.conflict steps (s.heard h) })
-      judged_quietly old new (Err errors.CounterEnd) step steps h n w a s = (a.0, a.1, record { fails = failing before begun (seen new l) steps a.2; heard = inr (settled_too old.state.formula.status.conflict steps (s.heard h)) })
-      judged_quietly old new (Err errors.OutOfMemory) step steps h n w a s = (a.0, inl (record { fails = failing before begun (seen new l) steps (w refl); heard = inr (settled_too old.state.formula.status.conflict steps (s.heard h)) }))
-      judged_quietly old new (Err errors.HasFailed) step steps h n w a s = absurd (true≢false (sym a.0 ∙ h))
-      judged_quietly old new (Err (errors.ProofProcessorError cause)) step steps h n w a s = absurd (n cause refl)
-      judged_quietly old new (Err errors.ProofIncomplete) step steps h n w a s = absurd a
-      judged_quietly old new (Err errors.IoError) step steps h n w a s = absurd a
-      judged_quietly old new (Err errors.ParseError) step steps h n w a s = absurd a
 
 -- NOBODY IS THERE
 

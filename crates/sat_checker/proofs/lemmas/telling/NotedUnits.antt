@@ -1,22 +1,25 @@
 -- What units announce that are checked and stored in turn.
-use Rattle.std.proofs.Common.{ℕ, zero, suc, ◌+◌, ◌*◌, ◌<◌, ◌≤◌, ◌≡◌, Bool, true, false, cond, List, [], ◌∷◌, ◌++◌, length, drop, get_or, refl, sym, ◌∙◌, ap, arith, append_assoc, Result, Ok, Err, IfOk}
+use Rattle.std.proofs.Common.{ℕ, zero, suc, ◌+◌, ◌*◌, ◌<◌, ◌≤◌, ◌≡◌, Bool, true, false, cond, List, [], ◌∷◌, ◌++◌, length, drop, get_or, refl, sym, ◌∙◌, ap, arith, append_assoc, Result, Ok, Err, IfOk, IsTrue}
 use Rattle.std.proofs.lemmas.List.{drop_more}
 use Rattle.sat_base.specs.values.Literals.{negated}
 use Rattle.sat_checker.specs.Stored.{Stored, is_unit}
 use Rattle.sat_checker.specs.Storing.{clause_with, with_unit, with_contradiction, with_new_unit}
-use Rattle.sat_checker.specs.announcements.Announcements.{Announcement, derived, derived_units}
+use Rattle.sat_checker.specs.announcements.Announcements.{derived, derived_units}
 use Rattle.sat_checker.specs.inner.FormulaView.{KeepsFormula}
 use Rattle.sat_checker.specs.telling.AnnouncingView.{AreLong}
+use Rattle.sat_checker.specs.telling.NotedView.{Adds}
 use Rattle.sat_checker.specs.declared.formula.Formula.{Formula}
+use Rattle.sat_checker.specs.declared.notes.Notes.{Notes}
 use Rattle.sat_checker.proofs.lemmas.store.Buckets.{looks_more, looks_rest, looks_within}
 use Rattle.sat_checker.proofs.lemmas.telling.Noting.{none_behind}
 
--- What was announced so far, and what will be of the units that are left, is what all of them announce.
-pub record Noted (F : Formula) (f : Stored) (all left : List (ℕ × ℕ)) (before news : List Announcement) : Type 0 where
+-- What was noted so far, and what will be of the units that are left, is what all of them announce.
+pub record Noted (F : Formula) (f : Stored) (all left : List (ℕ × ℕ)) (before notes : Notes) : Type 0 where
   pub now : Stored
   pub kept : KeepsFormula F now
   pub long : AreLong now
-  pub told : news ++ derived_units left now ≡ before ++ derived_units all f
+  pub hears : notes.hears ≡ before.hears
+  pub told : IsTrue before.hears → notes.news ++ derived_units left now ≡ before.news ++ derived_units all f
 
 clauses_stay : (l : ℕ) (f : Stored) → (with_unit l f).clauses ≡ f.clauses
 clauses_stay l f = go (is_unit f l) (is_unit f (negated l))
@@ -27,22 +30,23 @@ clauses_stay l f = go (is_unit f l) (is_unit f (negated l))
     go false false = refl
 
 -- the next one of those that are left
-pub noted_more : (F : Formula) (f : Stored) (all : List (ℕ × ℕ)) (i : ℕ) (u : ℕ × ℕ) (inside : i < length all) (is : u ≡ get_or all i u) (before news : List Announcement) (noted : Noted F f all (drop i all) before news) (G : Formula)
-    (more : List Announcement) → more ≡ news ++ derived false (u.0 ∷ []) (u.1 ∷ []) noted.now → KeepsFormula G (with_unit u.0 noted.now) → Noted G f all (drop (i + 1) all) before more
-noted_more F f all i u inside is before news noted G more e k = record {
+pub noted_more : (F : Formula) (f : Stored) (all : List (ℕ × ℕ)) (i : ℕ) (u : ℕ × ℕ) (inside : i < length all) (is : u ≡ get_or all i u) (before notes : Notes) (noted : Noted F f all (drop i all) before notes) (G : Formula) (more : Notes) → more.hears ≡ notes.hears
+    → Adds notes (derived false (u.0 ∷ []) (u.1 ∷ []) noted.now) more → KeepsFormula G (with_unit u.0 noted.now) → Noted G f all (drop (i + 1) all) before more
+noted_more F f all i u inside is before notes noted G more h e k = record {
   now = with_unit u.0 noted.now;
   kept = k;
   long = λ l. ap (clause_with (l ∷ [])) (clauses_stay u.0 noted.now) ∙ noted.long l;
-  told =
-      ap (λ x. x ++ derived_units (drop (i + 1) all) (with_unit u.0 noted.now)) e
-      ∙ append_assoc news (derived false (u.0 ∷ []) (u.1 ∷ []) noted.now) (derived_units (drop (i + 1) all) (with_unit u.0 noted.now))
-      ∙ ap (λ us. news ++ derived_units us noted.now) (sym (drop_more all i u inside ∙ ap (λ x. x ∷ drop (i + 1) all) (sym is)))
-      ∙ noted.told;
+  hears = h ∙ noted.hears;
+  told = λ t.
+      ap (λ x. x ++ derived_units (drop (i + 1) all) (with_unit u.0 noted.now)) (e (noted.hears ∙ t))
+      ∙ append_assoc notes.news (derived false (u.0 ∷ []) (u.1 ∷ []) noted.now) (derived_units (drop (i + 1) all) (with_unit u.0 noted.now))
+      ∙ ap (λ us. notes.news ++ derived_units us noted.now) (sym (drop_more all i u inside ∙ ap (λ x. x ∷ drop (i + 1) all) (sym is)))
+      ∙ noted.told t;
 }
 
 -- none is left
-pub noted_all : (F : Formula) (f : Stored) (all : List (ℕ × ℕ)) (i : ℕ) (before news : List Announcement) → length all ≤ i → Noted F f all (drop i all) before news → news ≡ before ++ derived_units all f
-noted_all F f all i before news l noted = sym (none_behind news) ∙ ap (λ us. news ++ derived_units us noted.now) (sym (past all i l)) ∙ noted.told
+pub noted_all : (F : Formula) (f : Stored) (all : List (ℕ × ℕ)) (i : ℕ) (before notes : Notes) → length all ≤ i → Noted F f all (drop i all) before notes → Adds before (derived_units all f) notes
+noted_all F f all i before notes l noted = λ t. sym (none_behind notes.news) ∙ ap (λ us. notes.news ++ derived_units us noted.now) (sym (past all i l)) ∙ noted.told t
   where
     past : (xs : List (ℕ × ℕ)) (i : ℕ) → length xs ≤ i → drop i xs ≡ []
     past [] zero l = refl

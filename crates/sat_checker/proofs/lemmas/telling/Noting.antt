@@ -1,13 +1,17 @@
 -- What is noted of a step that announces nothing, and of a derived clause.
-use Rattle.std.proofs.Common.{ℕ, ◌+◌, ◌*◌, ◌≤◌, ◌≡◌, Bool, cond, List, [], ◌∷◌, ◌++◌, Result, Ok, Err, refl, sym, ◌∙◌, ap, arith}
-use Rattle.sat_base.specs.steps.Steps.{Step}
+use Rattle.std.proofs.Common.{ℕ, ◌+◌, ◌*◌, ◌≤◌, ◌≡◌, Bool, true, false, cond, List, [], ◌∷◌, ◌++◌, Result, Ok, Err, refl, sym, ◌∙◌, ap, arith, IsTrue}
+use Rattle.std.specs.Result.{OnOk}
+use Rattle.sat_base.specs.steps.Steps as steps
+use Rattle.sat_base.specs.steps.Steps.{Step, AddClause, DeleteClause}
 use Rattle.sat_checker.specs.Stored.{Stored}
 use Rattle.sat_checker.specs.LiteralSets.{canonical, is_tautology}
-use Rattle.sat_checker.specs.announcements.Announcements.{Announcement, announced, derived, derived_set, id_of_set}
+use Rattle.sat_checker.specs.announcements.Announcements.{Announcement, announced, derived, derived_set, id_of_set, input}
 use Rattle.sat_checker.specs.announcements.Needed.{propagations}
-use Rattle.sat_checker.specs.telling.AnnouncingView.{stored_as}
-use Rattle.sat_checker.specs.telling.NotedView.{Announces}
+use Rattle.sat_checker.specs.telling.AnnouncingView.{stored_as, deletion_told}
+use Rattle.sat_checker.specs.telling.NotedView.{Adds, Announces}
 use Rattle.sat_checker.specs.declared.announcing.Change.{Change}
+use Rattle.sat_checker.specs.declared.announcing.Deletion.{Deletion}
+use Rattle.sat_checker.specs.declared.notes.Notes.{Notes}
 use Rattle.sat_checker.specs.declared.state.State.{State}
 use Rattle.sat_checker.specs.declared.store.StoreError.{StoreError}
 
@@ -15,9 +19,28 @@ pub none_behind : (xs : List Announcement) → xs ++ [] ≡ xs
 none_behind [] = refl
 none_behind (x ∷ xs) = ap (λ ys. x ∷ ys) (none_behind xs)
 
-pub nothing_noted : (r : Result Bool StoreError) (old : State) (step : Step) (news : List Announcement) → ((f : Stored) → announced f step ≡ []) → Announces r old step news news
-nothing_noted (Ok b) old step news e = λ _ f k a. sym (none_behind news) ∙ ap (λ x. news ++ x) (sym (e f))
-nothing_noted (Err d) old step news e = tt
+pub none_added : (notes : Notes) → Adds notes [] notes
+none_added notes = λ h. sym (none_behind notes.news)
+
+pub nothing_noted : (r : Result Bool StoreError) (old : State) (step : Step) (notes : Notes) → ((f : Stored) → announced f step ≡ []) → Announces r old step notes notes
+nothing_noted (Ok b) old step notes e = λ _ f k a h. none_added notes h ∙ ap (λ x. notes.news ++ x) (sym (e f))
+nothing_noted (Err d) old step notes e = tt
+
+-- a clause of the formula, by whether unsat is recorded
+pub input_noted : (f : Stored) (clause : List ℕ) (before after : Notes) → f.unsat ≡ false → Adds before (input clause f) after → Adds before (announced f (AddClause clause)) after
+input_noted f clause before after e a = λ h. a h ∙ ap (λ b. before.news ++ cond b [] (input clause f)) (sym e)
+
+pub unsat_noted : (f : Stored) (clause : List ℕ) (notes : Notes) → f.unsat ≡ true → Adds notes (announced f (AddClause clause)) notes
+unsat_noted f clause notes e = λ h. none_added notes h ∙ ap (λ b. notes.news ++ cond b [] (input clause f)) (sym e)
+
+-- a deletion, by what it will announce
+pub deletion_noted : (f : Stored) (clause : List ℕ) (proof : steps.Deletion) (literals : List ℕ) (deletion : Deletion) (before after : Notes) → (IsTrue before.hears → deletion_told literals deletion ≡ announced f (DeleteClause clause proof)) → Adds before (deletion_told literals deletion) after
+    → Adds before (announced f (DeleteClause clause proof)) after
+deletion_noted f clause proof literals deletion before after e a = λ h. a h ∙ ap (λ x. before.news ++ x) (e h)
+
+pub on_ok : {A E : Type 0} (r : Result A E) (P Q : Type 0) → (P → Q) → OnOk r P → OnOk r Q
+on_ok (Ok x) P Q w h = w h
+on_ok (Err e) P Q w h = tt
 
 -- what storing the sorted literals will change is what deriving the clause announces
 pub derived_noted : (new old : List Announcement) (change : Change) (id : ℕ) (redundant both : Bool) (clause literals hashes ids : List ℕ) (f : Stored) → new ≡ old ++ stored_as change id redundant literals ids → id ≡ f.next_id
@@ -26,24 +49,18 @@ derived_noted new old change id redundant both clause literals hashes ids f e ne
     e ∙ ap (λ i. old ++ stored_as change i redundant literals ids) next ∙ ap (λ x. old ++ x) stored ∙ ap (λ b. old ++ cond b [] (derived_set redundant literals ids f (id_of_set literals f))) signs
     ∙ ap (λ ls. old ++ cond (is_tautology clause) [] (derived_set redundant ls ids f (id_of_set ls f))) set ∙ ap (λ is. old ++ cond (is_tautology clause) [] (derived_set redundant (canonical clause) is f (id_of_set (canonical clause) f))) listed
 
--- the check's looks, and those at one more pass
-one_pass_more : (n l : ℕ) → (2 * n + 1) * l ≡ 2 * n * l + l
-one_pass_more n l = grind arith
+-- the check's looks, those at what it noted, and one more pass
+once_more : (n l : ℕ) → (5 + 2 * n) * l ≡ n * l + (n * l + 5 * l)
+once_more n l = grind arith
 
-four_passes_more : (n l : ℕ) → (5 + 2 * n) * l ≡ (2 * n + 1) * l + 4 * l
-four_passes_more n l = grind arith
+pub looks_judged : (old mid n l : ℕ) → mid ≤ old + n * l → mid ≤ old + (5 + 2 * n) * l
+looks_judged old mid n l h = let e = once_more n l in omega arith
 
-pub looks_before : (looks n l : ℕ) → looks ≤ looks + (2 * n + 1) * l
-looks_before looks n l = omega arith
+pub looks_noted : (old mid noted len n l : ℕ) → mid ≤ old + n * l → len + old ≤ mid → noted ≤ mid + len + l → noted ≤ old + (5 + 2 * n) * l
+looks_noted old mid noted len n l h r k = let e = once_more n l in omega arith
 
-pub looks_checked : (old looks n l : ℕ) → looks ≤ old + 2 * n * l → looks ≤ old + (2 * n + 1) * l
-looks_checked old looks n l h = let e = one_pass_more n l in omega arith
+pub looks_stored : (old mid noted new len n l : ℕ) → mid ≤ old + n * l → len + old ≤ mid → noted ≤ mid + len + l → new ≤ noted + l → new ≤ old + (5 + 2 * n) * l
+looks_stored old mid noted new len n l h r k j = let e = once_more n l in omega arith
 
-pub looks_alone : (old mid n l : ℕ) → mid ≤ old + (2 * n + 1) * l → mid ≤ old + (5 + 2 * n) * l
-looks_alone old mid n l h = let e = four_passes_more n l in omega arith
-
-pub looks_stored : (old mid new n l : ℕ) → mid ≤ old + (2 * n + 1) * l → new ≤ mid + l → new ≤ old + (5 + 2 * n) * l
-looks_stored old mid new n l h k = let e = four_passes_more n l in omega arith
-
-pub looks_changed : (old mid new n l : ℕ) → mid ≤ old + 2 * n * l → new ≤ mid + l → new ≤ old + (2 * n + 1) * l
-looks_changed old mid new n l h k = let e = one_pass_more n l in omega arith
+pub looks_followed : (old mid noted len n l : ℕ) → mid ≤ old + n * l → len + old ≤ mid → noted ≤ mid + len → noted ≤ old + (5 + 2 * n) * l
+looks_followed old mid noted len n l h r k = let e = once_more n l in omega arith

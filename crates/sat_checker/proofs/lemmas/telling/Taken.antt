@@ -1,12 +1,12 @@
 -- A unit conflict is settled and told, and a step is taken in and told.
-use Rattle.std.proofs.Common.{ℕ, ◌+◌, ◌≤◌, ◌≡◌, true, false, List, [], ◌∷◌, ◌++◌, Option, None, Some, Result, Ok, Err, ◌⊎◌, inl, inr, refl, sym, ap, subst, ◌∙◌, arith}
+use Rattle.std.proofs.Common.{ℕ, ◌+◌, ◌≤◌, ◌≡◌, Bool, true, false, List, [], ◌∷◌, ◌++◌, Option, None, Some, Result, Ok, Err, inl, inr, refl, sym, ap, subst, ◌∙◌, arith}
 use Rattle.std.proofs.lemmas.Bool.{true≢false}
 use Rattle.std.specs.Result.{is_err, OnOk, OnErr, IsErrOf}
 use Rattle.std.proofs.lemmas.List.{append-nil}
 use Rattle.sat_base.specs.steps.Steps.{Step, SolverVarName, UserVarName, DeleteVar, ChangeSamplingMode, AddClause, UnitClauses, DeleteClause, ChangeHashBits, Model, Assumptions, FailedAssumptions, End}
 use Rattle.sat_base.specs.steps.Steps as kinds
 use Rattle.sat_checker.specs.Stored.{Stored, Variable}
-use Rattle.sat_checker.specs.Spent.{IsSpent, SpentBy}
+use Rattle.sat_checker.specs.Spent.{IsSpent}
 use Rattle.sat_checker.specs.Storing.{settled}
 use Rattle.sat_checker.specs.Accepts.{Accepts, effect, stored_after, ready_after}
 use Rattle.sat_checker.specs.KernelView as kernels
@@ -14,11 +14,13 @@ use Rattle.sat_checker.specs.KernelView.{KeepsAfter, records_of}
 use Rattle.sat_checker.specs.CheckerView.{Seen, seen, has_failed, Fails, AnswersStep, AnswersDelayed}
 use Rattle.sat_checker.specs.announcements.Announcements.{Announcement, AtClause, Told, announced, delayed, delayed_by, told_over, told_after, all_told_after}
 use Rattle.sat_checker.specs.inner.FormulaView.{KeepsFormula, Standing, Turns, TurnsIf}
-use Rattle.sat_checker.specs.inner.StateView.{Keeps, Answers}
+use Rattle.sat_checker.specs.inner.StateView.{Keeps}
 use Rattle.sat_checker.specs.inner.TellingSteps.{announced_by, changed_by, put_back, failure_of, fault_of, records_in, TakesIn}
 use Rattle.sat_checker.specs.inner.VariablesView.{variable_at}
 use Rattle.sat_checker.specs.telling.Hearing.{SameTold, HearsSame, HearsAll, HearsUpTo, HearsSince, HearsSinceUpTo, told_by}
+use Rattle.sat_checker.specs.telling.NotedView.{Adds}
 use Rattle.sat_checker.specs.declared.kernel.Kernel.{Kernel}
+use Rattle.sat_checker.specs.declared.notes.Notes.{Notes}
 use Rattle.sat_checker.specs.declared.state.State.{State}
 use Rattle.sat_checker.specs.declared.error.CheckerError.{CheckerError}
 use Rattle.sat_checker.specs.declared.error.CheckerError.TheVariants as errors
@@ -29,7 +31,7 @@ use Rattle.sat_checker.specs.declared.processing.ProcessingError.TheVariants as 
 use Rattle.sat_checker.proofs.lemmas.state.Keeping.{settled_kept}
 use Rattle.sat_checker.proofs.lemmas.telling.Heard.{told_step, since_more, since_up_to_more, failing}
 use Rattle.sat_checker.proofs.lemmas.telling.Lookups.{Alike, steps_alike}
-use Rattle.sat_checker.proofs.lemmas.telling.Settling.{conflict_of, ready_is, stored_is, ready_of}
+use Rattle.sat_checker.proofs.lemmas.telling.Settling.{conflict_of, ready_is, stored_is}
 
 -- THE SAME IS TOLD
 
@@ -205,35 +207,16 @@ module _ (old : Kernel) (steps : List Step) (s : kernels.Stands old steps) (well
             subst (λ xs. HearsUpTo Hears e (told_over (ready_after steps) xs) l m) noted (up_to_alike Hears names (ready_after steps).variables looked e news l m h) in
             subst (λ ts. HearsSinceUpTo Hears e before ts begun m) (told_step step steps) (since_up_to_more Hears e before (all_told_after steps) (told_over (ready_after steps) (announced (ready_after steps) step)) begun l m all_before told)
 
--- A STEP THAT NOBODY HEARS
+pub taken_on : {L : Type 0} (Hears : L → Told → Result Unit ProcessingError → L → Type 0) (told : List Told) (mid : Kernel) (l : L) (new : Kernel) (m : L) (r : Result Unit CheckerError) → TakesIn Hears told r (seen mid l) (seen new m) → OnOk r (kernels.has_failed new ≡ false)
+taken_on Hears told mid l new m (Ok x) t = t.1.0
+taken_on Hears told mid l new m (Err e) t = tt
 
-module _ (old : Kernel) (steps : List Step) (s : kernels.Stands old steps) (well : kernels.has_failed old ≡ false) (step : Step) where
-  pub judged_stands : (new : Kernel) → Accepts (settled (s.kept well).formula) step × Keeps new.state (effect step (settled (s.kept well).formula)) → new.records ≡ records_in new.state.formula.status → kernels.has_failed new ≡ false
-      → kernels.AnswersStep (Ok tt) old step new steps
-  judged_stands new h r g =
-      let same : settled (s.kept well).formula ≡ ready_after steps = ready_of old.state steps (s.kept well) in
-      let a : Accepts (ready_after steps) step = subst (λ f. Accepts f step) same h.0 in
-      let k : Keeps new.state (effect step (ready_after steps)) = subst (λ f. Keeps new.state (effect step f)) same h.1 in (
-        well,
-        record {
-          accepts = a;
-          stands = record {
-            accepted = (s.accepted, a);
-            records = r ∙ records_same new (effect step (ready_after steps)) k.formula;
-            kept = λ e. record { formula = effect step (ready_after steps); keeps = k; left = inl refl };
-          };
-          goes_on = g;
-        },
-      )
-
-  pub judged_fails : (new : Kernel) → new.records ≡ old.records → kernels.has_failed new ≡ true → kernels.Fails new steps
-  judged_fails new r f = record { stands = record { accepted = s.accepted; records = r ∙ s.records; kept = λ e. absurd (true≢false (sym f ∙ e)) }; failed = f }
-
-  pub judged_short : (new : Kernel) (error : StoreError) → Answers (Err error) (Accepts (settled (s.kept well).formula) step) (Keeps new.state (effect step (settled (s.kept well).formula))) (SpentBy step (s.kept well).formula)
-      → new.records ≡ old.records → kernels.has_failed new ≡ true → kernels.AnswersStep (Err (failure_of error)) old step new steps
-  judged_short new stores.OutOfMemory h r f = (well, inl (judged_fails new r f))
-  judged_short new stores.CounterEnd h r f =
-      (well, subst (λ g. IsSpent g ⊎ (Accepts g step × IsSpent (effect step g))) (ready_of old.state steps (s.kept well)) h, judged_fails new r f)
+-- what was noted, where somebody listens, is what is announced
+pub noted_told : (begun noted : Notes) (hears : Bool) (step : Step) (f : Stored) (old new : ℕ → Variable) (was : Option (ℕ × Variable)) → begun.hears ≡ hears → (hears ≡ true → begun.news ≡ []) → (hears ≡ true → was ≡ changed_by old step) → Adds begun (announced f step) noted
+    → hears ≡ true → announced_by (put_back (changed_by old step) new) (announced f step) ≡ announced_by (put_back was new) noted.news
+noted_told begun noted hears step f old new was same none put adds h =
+    ap (λ w. announced_by (put_back w new) (announced f step)) (sym (put h))
+    ∙ ap (announced_by (put_back was new)) (sym (adds (same ∙ h) ∙ ap (λ xs. xs ++ announced f step) (none h)))
 
 -- A STEP THAT IS TOLD
 

@@ -2,10 +2,10 @@ use Rattle.std.proofs.Common.{arith, length, subst, sym, ap, Err}
 use Rattle.sat_checker.specs.Looks.{literal_count}
 use Rattle.sat_checker.specs.Accepts.{PassInTurn}
 use Rattle.sat_checker.specs.Storing.{with_unit}
-use Rattle.sat_checker.proofs.lemmas.store.Buckets.{looks_rest}
 use Rattle.sat_checker.proofs.lemmas.variables.Keeping.{match_true, match_false}
-use Rattle.sat_checker.proofs.lemmas.state.Units.{passed, stopped, spent_then, looks_then, finished, unnumbered, spent_passes, behind_it, back_behind}
+use Rattle.sat_checker.proofs.lemmas.state.Units.{passed, stopped, spent_then, finished, unnumbered, spent_passes, behind_it, back_behind}
 use Rattle.sat_checker.proofs.lemmas.state.Unnumbered.{checks_as}
+use Rattle.sat_checker.proofs.lemmas.telling.NotedUnits.{noted_more, noted_all, none_noted, twice_then, twice_end, twice_rest}
 use Rattle.sat_checker.proofs.formula.Formula.store_units.Goals as goal
 
 pub returns-in-Err-CounterEnd-clause-decides : goal.returns-in-Err-CounterEnd-clause-decides
@@ -26,8 +26,11 @@ pub returns-in-Err-CounterEnd-clause-looks : goal.returns-in-Err-CounterEnd-clau
 returns-in-Err-CounterEnd-clause-looks c = λ f k.
     let left = c.loop-place.invariant.left f k in
     let kept = checks_as c.store_checked.new.self left.now (c.in-Err-CounterEnd.ensures.kept (ap Err c.in-Err-CounterEnd.field-0-is) left.now left.kept) in
-    looks_rest c.args.looks.now c.loop-place.looks c.store_checked.new.looks c.pass_unnumbered.new.looks c.loop-place.place (length c.split_at.result.1.now) (length c.args.units.now) (literal_count f) (literal_count left.now) left.count c.split_at.ensures.back_len
+    twice_rest c.args.looks.now c.loop-place.looks c.store_checked.new.looks c.pass_unnumbered.new.looks c.loop-place.place (length c.split_at.result.1.now) (length c.args.units.now) (literal_count f) (literal_count left.now) left.count c.split_at.ensures.back_len
     (c.loop-place.invariant.looks f k) (c.store_checked.ensures.looks left.now left.kept) (c.pass_unnumbered.ensures.looks left.now kept)
+
+pub returns-in-Err-CounterEnd-clause-noted : goal.returns-in-Err-CounterEnd-clause-noted
+returns-in-Err-CounterEnd-clause-noted c = none_noted c.pass_unnumbered.result _ c.pass_unnumbered.ensures.never
 
 pub returns-in-Ok-false-clause-decides : goal.returns-in-Ok-false-clause-decides
 returns-in-Ok-false-clause-decides c = λ f k.
@@ -35,18 +38,35 @@ returns-in-Ok-false-clause-decides c = λ f k.
     stopped c.loop-place.self f c.args.units.now c.loop-place.place c.index-units-place.result c.loop-place-test.true c.index-units-place.is left
     (match_false _ _ _ (c.in-Ok-false.ensures.decides left.now left.kept) c.in-Ok-false.field-0-test)
 
+pub returns-in-Ok-false-clause-looks : goal.returns-in-Ok-false-clause-looks
+returns-in-Ok-false-clause-looks c = λ f k.
+    let left = c.loop-place.invariant.left f k in
+    twice_end c.args.looks.now c.loop-place.looks c.store_checked.new.looks c.args.units.now c.loop-place.place c.loop-place-test.true (literal_count f) (literal_count left.now) left.count (c.loop-place.invariant.looks f k) (c.store_checked.ensures.looks left.now left.kept)
+
+pub returns-in-Err-OutOfMemory-clause-looks : goal.returns-in-Err-OutOfMemory-clause-looks
+returns-in-Err-OutOfMemory-clause-looks c = λ f k.
+    let left = c.loop-place.invariant.left f k in
+    twice_end c.args.looks.now c.loop-place.looks c.store_checked.new.looks c.args.units.now c.loop-place.place c.loop-place-test.true (literal_count f) (literal_count left.now) left.count (c.loop-place.invariant.looks f k) (c.store_checked.ensures.looks left.now left.kept)
+
 pub loop-place-preserved : goal.loop-place-preserved
 loop-place-preserved c = record {
   left = λ f k.
       let left = c.loop-place.invariant.left f k in
       let m = match_true _ _ _ (c.in-Ok-true.ensures.decides left.now left.kept) c.in-Ok-true.field-0-test in
       passed c.loop-place.self f c.args.units.now c.loop-place.place c.index-units-place.result c.loop-place-test.true c.index-units-place.is left c.store_checked.new.self m.0 m.1;
+  noted = λ f k a.
+      let noted = c.loop-place.invariant.noted f k a in
+      let m = match_true _ _ _ (c.in-Ok-true.ensures.decides noted.now noted.kept) c.in-Ok-true.field-0-test in
+      noted_more c.loop-place.self f c.args.units.now c.loop-place.place c.index-units-place.result c.loop-place-test.true c.index-units-place.is c.args.notes.now c.loop-place.notes noted c.store_checked.new.self c.store_checked.new.notes c.store_checked.ensures.hears
+      (c.in-Ok-true.ensures.noted c.in-Ok-true.field-0-test noted.now noted.kept noted.long) m.1;
   looks = λ f k.
       let left = c.loop-place.invariant.left f k in
-      looks_then c.loop-place.self f c.args.units.now c.loop-place.place c.index-units-place.result c.loop-place-test.true c.index-units-place.is left c.args.looks.now c.loop-place.looks c.store_checked.new.looks (c.loop-place.invariant.looks f k)
-      (c.store_checked.ensures.looks left.now left.kept);
+      twice_then c.args.looks.now c.loop-place.looks c.store_checked.new.looks c.loop-place.place (literal_count f) (literal_count left.now) left.count (c.loop-place.invariant.looks f k) (c.store_checked.ensures.looks left.now left.kept);
   rise = omega (arith, c.loop-place.invariant.rise, c.store_checked.ensures.rise);
 }
 
 pub returns-clause-decides : goal.returns-clause-decides
 returns-clause-decides c = λ f k. finished c.loop-place.self f c.args.units.now c.loop-place.place (omega arith) (c.loop-place.invariant.left f k)
+
+pub returns-clause-noted : goal.returns-clause-noted
+returns-clause-noted c = λ _ f k a. noted_all c.loop-place.self f c.args.units.now c.loop-place.place c.args.notes.now c.loop-place.notes (omega arith) (c.loop-place.invariant.noted f k a)

@@ -2,13 +2,16 @@ use Rattle.std.proofs.Common.{◌≤◌, ◌+◌, ◌*◌, drop}
 use Rattle.sat_checker.specs.Looks.{literal_count}
 use Rattle.sat_checker.specs.Stored.{Stored}
 use Rattle.sat_checker.specs.inner.FormulaView.{KeepsFormula}
+use Rattle.sat_checker.specs.telling.AnnouncingView.{AreLong}
 use Rattle.sat_checker.proofs.lemmas.state.Units.{Left}
+use Rattle.sat_checker.proofs.lemmas.telling.NotedUnits.{Noted}
 use Rattle.sat_checker.proofs.formula.Formula.store_units.Given as goal
 
 -- the units that are left are judged by what is kept now
 abbrev pub invariant-loop-place : goal.invariant-loop-place
 invariant-loop-place l = record {
   left : (f : Stored) → KeepsFormula l.fn.self f → Left l.self f l.units (drop l.place l.units);
-  looks : (f : Stored) → KeepsFormula l.fn.self f → l.looks ≤ l.fn.looks + l.place * literal_count f;
+  noted : (f : Stored) → KeepsFormula l.fn.self f → AreLong f → Noted l.self f l.units (drop l.place l.units) l.fn.notes l.notes;
+  looks : (f : Stored) → KeepsFormula l.fn.self f → l.looks ≤ l.fn.looks + l.place * (2 * literal_count f);
   rise : l.fn.looks ≤ l.looks;
 }

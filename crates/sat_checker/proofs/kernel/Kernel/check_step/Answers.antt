@@ -1,4 +1,4 @@
-use Rattle.std.proofs.Common.{ℕ, sym, ◌+◌, ◌≤◌, inl, refl, subst, rules, arith}
+use Rattle.std.proofs.Common.{ℕ, sym, ◌+◌, ◌≤◌, inl, refl, subst, arith}
 use Rattle.sat_base.specs.steps.StepViews.{step_of}
 use Rattle.sat_checker.specs.Accepts.{ready_after}
 use Rattle.sat_checker.specs.KernelView.{looks_of}
@@ -6,15 +6,9 @@ use Rattle.sat_checker.specs.Looks.{most_looks}
 use Rattle.sat_checker.specs.CheckerView.{seen}
 use Rattle.sat_checker.specs.telling.Hearing.{hearers, HearsFirst}
 use Rattle.sat_checker.specs.telling.ProcessingView.{HearsEach}
-use Rattle.sat_checker.proofs.lemmas.telling.Heard.{judged_quietly, none_there}
+use Rattle.sat_checker.proofs.lemmas.telling.Heard.{none_there}
 use Rattle.sat_checker.proofs.lemmas.telling.Taken.{delayed_stops, settled_goes_on, stops_judges, goes_on_judges, stops_looks}
 use Rattle.sat_checker.proofs.kernel.Kernel.check_step.Goals as goal
-
-pub returns-then-is_quiet-clause-tells : goal.returns-then-is_quiet-clause-tells
-returns-then-is_quiet-clause-tells g c = λ before begun steps s.
-    let quiet = none_there g.P.ProofProcessor.takes g.T.ProofTranscriptProcessor.reads c.args.others.now (c.is_quiet.ensures (search rules)) in
-    judged_quietly (HearsFirst g.O.ProofProcessor.takes (HearsEach g.P.ProofProcessor.takes g.T.ProofTranscriptProcessor.reads)) (hearers c.args.own.now c.args.others.now) (λ t. inl (c.requires (search rules) c.args.own.now t, quiet t)) before begun c.args.self.now c.judge.new.self c.judge.result (step_of c.args.step.now) steps c.if-self.false
-    (λ cause. c.judge.ensures.told cause) (λ e. c.judge.ensures.short e steps s.kernel) (c.judge.ensures.checks steps s.kernel) s
 
 pub returns-in-Err-clause-tells : goal.returns-in-Err-clause-tells
 returns-in-Err-clause-tells g c = λ before begun steps s.
@@ -55,20 +49,16 @@ returns-then-self-clause-goes_on g c = tt
 pub returns-then-self-clause-looks : goal.returns-then-self-clause-looks
 returns-then-self-clause-looks g c = λ steps s. omega arith
 
-pub returns-then-is_quiet-clause-judges : goal.returns-then-is_quiet-clause-judges
-returns-then-is_quiet-clause-judges g c = c.judge.ensures.checks
-
-pub returns-then-is_quiet-clause-goes_on : goal.returns-then-is_quiet-clause-goes_on
-returns-then-is_quiet-clause-goes_on g c = c.judge.ensures.goes_on
-
-pub returns-then-is_quiet-clause-looks : goal.returns-then-is_quiet-clause-looks
-returns-then-is_quiet-clause-looks g c = c.judge.ensures.looks
-
 pub step-requires-clause-well : goal.step-requires-clause-well
 step-requires-clause-well g c = c.in-Ok.ensures.goes_on.0
 
 pub step-requires-clause-settled : goal.step-requires-clause-settled
 step-requires-clause-settled g c = c.in-Ok.ensures.goes_on.1
+
+pub step-requires-clause-quiet : goal.step-requires-clause-quiet
+step-requires-clause-quiet g c = λ e t.
+    let nobody = c.listens-hears.ensures e in
+    inl (c.requires nobody.0 c.settle.new.own t, none_there g.P.ProofProcessor.takes g.T.ProofTranscriptProcessor.reads c.settle.new.others nobody.1 t)
 
 pub returns-in-Ok-clause-goes_on : goal.returns-in-Ok-clause-goes_on
 returns-in-Ok-clause-goes_on g c = c.step.ensures.goes_on
@@ -81,9 +71,6 @@ as_much a = omega arith
 
 pub returns-then-self-clause-rise : goal.returns-then-self-clause-rise
 returns-then-self-clause-rise g c = as_much (looks_of c.args.self.now)
-
-pub returns-then-is_quiet-clause-rise : goal.returns-then-is_quiet-clause-rise
-returns-then-is_quiet-clause-rise g c = c.judge.ensures.rise
 
 pub returns-in-Err-clause-rise : goal.returns-in-Err-clause-rise
 returns-in-Err-clause-rise g c = subst (λ n. looks_of c.args.self.now ≤ n) (sym c.settle.ensures.looks) (as_much (looks_of c.args.self.now))

@@ -1,8 +1,9 @@
 use Rattle.std.proofs.Common.{ℕ, ◌+◌, ◌≤◌, sym, ap, ◌∙◌, inr, arith}
-use Rattle.sat_checker.specs.Storing.{with_literals_known}
+use Rattle.std.proofs.lemmas.Bool.{true≢false}
+use Rattle.std.proofs.lemmas.Result.{err_from_is_err_and, IfOk-from_err}
 use Rattle.sat_checker.specs.inner.FormulaView.{Standing}
-use Rattle.sat_checker.proofs.lemmas.state.Keeping.{sampling_kept, added}
-use Rattle.std.proofs.lemmas.Result.{err_from_is_err_and}
+use Rattle.sat_checker.proofs.lemmas.state.Keeping.{sampling_kept, added, added_spent, decides_err}
+use Rattle.sat_checker.proofs.lemmas.telling.Noting.{input_noted, unsat_noted}
 use Rattle.sat_checker.proofs.state.State.add_clause.Goals as goal
 
 no_less : (a b : ℕ) → a ≤ a + b
@@ -14,21 +15,47 @@ returns-then-self-clause-looks c = λ f k. no_less c.args.looks.now _
 pub returns-then-not-are_sampling-clause-looks : goal.returns-then-not-are_sampling-clause-looks
 returns-then-not-are_sampling-clause-looks c = λ f k. no_less c.args.looks.now _
 
-pub returns-in_err-learn-clause-looks : goal.returns-in_err-learn-clause-looks
-returns-in_err-learn-clause-looks c = λ f k. no_less c.args.looks.now _
+pub returns-in_err-note_input-clause-looks : goal.returns-in_err-note_input-clause-looks
+returns-in_err-note_input-clause-looks c = λ f k. let h = c.note_input.ensures.looks f k.formula in omega arith
 
 pub returns-in_err-store_input-clause-looks : goal.returns-in_err-store_input-clause-looks
-returns-in_err-store_input-clause-looks c = λ f k. c.store_input.ensures.looks f k.formula
+returns-in_err-store_input-clause-looks c = λ f k.
+    let h = c.note_input.ensures.looks f k.formula in
+    let stored = c.store_input.ensures.looks f k in
+    omega arith
 
 pub returns-clause-looks : goal.returns-clause-looks
-returns-clause-looks c = λ f k. c.store_input.ensures.looks f k.formula
+returns-clause-looks c = λ f k.
+    let h = c.note_input.ensures.looks f k.formula in
+    let stored = c.store_input.ensures.looks f k in
+    omega arith
 
 pub returns-clause-decides : goal.returns-clause-decides
 returns-clause-decides c = λ f k. (
   inr (sampling_kept c.args.self.now.variables f c.args.clause.now k.variables c.if-not-are_sampling.ensures),
-  added _ f c.args.clause.now (sym (ap (λ (s : Standing). s.unsat) k.formula.status) ∙ c.if-self.false)
-      (c.in_ok-store_input.ensures.stored (with_literals_known c.args.clause.now f) k.formula) (c.in_ok-learn.ensures f.variables k.variables) k.assumed,
+  added _ f c.args.clause.now (sym (ap (λ (s : Standing). s.unsat) k.formula.status) ∙ c.if-self.false) (c.in_ok-store_input.ensures.stored f k),
 )
 
-pub returns-in_err-learn-clause-decides : goal.returns-in_err-learn-clause-decides
-returns-in_err-learn-clause-decides c = let p = err_from_is_err_and c.from_residual.result c.from_residual.ensures.1 in rw (p.1, p.2) (λ f k. tt)
+pub returns-in_err-note_input-clause-decides : goal.returns-in_err-note_input-clause-decides
+returns-in_err-note_input-clause-decides c = let p = err_from_is_err_and c.from_residual.result c.from_residual.ensures.1 in rw (p.1, p.2) (λ f k. tt)
+
+pub returns-in_err-store_input-clause-decides : goal.returns-in_err-store_input-clause-decides
+returns-in_err-store_input-clause-decides c = λ f k.
+    let p = err_from_is_err_and c.from_residual-in_err-store_input.result c.from_residual-in_err-store_input.ensures.1 in
+    decides_err c.store_input.result _ p.0 _ c.in_err-store_input.was p.1 p.2 _ _ _ _ _ (inr (sampling_kept c.args.self.now.variables f c.args.clause.now k.variables c.if-not-are_sampling.ensures))
+    (added_spent f c.args.clause.now (sym (ap (λ (s : Standing). s.unsat) k.formula.status) ∙ c.if-self.false)) (c.store_input.ensures.stored f k)
+
+pub returns-then-self-clause-noted : goal.returns-then-self-clause-noted
+returns-then-self-clause-noted c = λ t f k long. unsat_noted f c.args.clause.now c.args.notes.now (sym (ap (λ (s : Standing). s.unsat) k.formula.status) ∙ c.if-self.true)
+
+pub returns-then-not-are_sampling-clause-noted : goal.returns-then-not-are_sampling-clause-noted
+returns-then-not-are_sampling-clause-noted c = λ t. absurd (true≢false (sym t))
+
+pub returns-in_err-note_input-clause-noted : goal.returns-in_err-note_input-clause-noted
+returns-in_err-note_input-clause-noted c = IfOk-from_err c.from_residual.result _ c.from_residual.ensures.0
+
+pub returns-in_err-store_input-clause-noted : goal.returns-in_err-store_input-clause-noted
+returns-in_err-store_input-clause-noted c = IfOk-from_err c.from_residual-in_err-store_input.result _ c.from_residual-in_err-store_input.ensures.0
+
+pub returns-clause-noted : goal.returns-clause-noted
+returns-clause-noted c = λ t f k long. input_noted f c.args.clause.now c.args.notes.now c.note_input.new.notes (sym (ap (λ (s : Standing). s.unsat) k.formula.status) ∙ c.if-self.false) (c.in_ok-note_input.ensures.noted f k.formula)

@@ -1,8 +1,14 @@
-use Rattle.std.proofs.Common.{sym, ◌∙◌, arith}
+use Rattle.std.proofs.Common.{sym, ◌∙◌, length}
 use Rattle.std.proofs.lemmas.Bool.{true≢false}
+use Rattle.std.proofs.lemmas.Result.{err_from_is_err_and, IfOk-from_err}
+use Rattle.sat_checker.specs.Looks.{literal_count}
+use Rattle.sat_checker.specs.inner.Reasons.{noted_length}
 use Rattle.sat_checker.proofs.lemmas.state.Keeping.{decides_err}
-use Rattle.std.proofs.lemmas.Result.{err_from_is_err_and}
+use Rattle.sat_checker.proofs.lemmas.telling.Noting.{looks_judged, looks_noted, looks_stored}
 use Rattle.sat_checker.proofs.state.State.at_clause.Goals as goal
+
+pub note_derived-requires : goal.note_derived-requires
+note_derived-requires c = record { explained = (c.args.hashes.now, c.in_ok-check.ensures.explained c.if-not-branch.false) }
 
 pub returns-then-not-branch-clause-decides : goal.returns-then-not-branch-clause-decides
 returns-then-not-branch-clause-decides c = λ f k p. true≢false (sym ((c.in_ok-check.ensures.exact f k.formula).1 p) ∙ c.if-not-branch.true)
@@ -16,25 +22,45 @@ returns-clause-decides c = λ f k. (
 pub returns-in_err-check-clause-decides : goal.returns-in_err-check-clause-decides
 returns-in_err-check-clause-decides c = let p = err_from_is_err_and c.from_residual.result c.from_residual.ensures.1 in rw (p.1, p.2) (λ f k. tt)
 
+pub returns-in_err-note_derived-clause-decides : goal.returns-in_err-note_derived-clause-decides
+returns-in_err-note_derived-clause-decides c = let p = err_from_is_err_and c.from_residual-in_err-note_derived.result c.from_residual-in_err-note_derived.ensures.1 in rw (p.1, p.2) (λ f k. tt)
+
 pub returns-in_err-store_derived-clause-decides : goal.returns-in_err-store_derived-clause-decides
 returns-in_err-store_derived-clause-decides c = λ f k.
     let p = err_from_is_err_and c.from_residual-in_err-store_derived.result c.from_residual-in_err-store_derived.ensures.1 in
     decides_err c.store_derived.result _ p.0 _ c.in_err-store_derived.was p.1 p.2 _ _ _ _ _ ((c.in_ok-check.ensures.exact f k.formula).0 c.if-not-branch.false) (λ s. s) (c.store_derived.ensures.stored f (record { formula = c.check.ensures.kept f k.formula; variables = k.variables; assumed = k.assumed }))
 
 pub returns-in_err-check-clause-looks : goal.returns-in_err-check-clause-looks
-returns-in_err-check-clause-looks c = λ f k. let h = c.check.ensures.looks f k.formula in omega arith
+returns-in_err-check-clause-looks c = λ f k. looks_judged c.args.looks.now c.check.new.looks (length c.args.hashes.now) (literal_count f) (c.check.ensures.looks f k.formula)
 
 pub returns-then-not-branch-clause-looks : goal.returns-then-not-branch-clause-looks
-returns-then-not-branch-clause-looks c = λ f k. let h = c.check.ensures.looks f k.formula in omega arith
+returns-then-not-branch-clause-looks c = λ f k. looks_judged c.args.looks.now c.check.new.looks (length c.args.hashes.now) (literal_count f) (c.check.ensures.looks f k.formula)
+
+pub returns-in_err-note_derived-clause-looks : goal.returns-in_err-note_derived-clause-looks
+returns-in_err-note_derived-clause-looks c = λ f k.
+    looks_noted c.args.looks.now c.check.new.looks c.note_derived.new.looks (noted_length c.check.new.self.store.clauses c.check.new.self.passed) (length c.args.hashes.now) (literal_count f) (c.check.ensures.looks f k.formula) c.in_ok-check.ensures.read (c.note_derived.ensures.looks f (c.check.ensures.kept f k.formula))
 
 pub returns-in_err-store_derived-clause-looks : goal.returns-in_err-store_derived-clause-looks
 returns-in_err-store_derived-clause-looks c = λ f k.
-    let h = c.check.ensures.looks f k.formula in
-    let stored = c.store_derived.ensures.looks f (record { formula = c.check.ensures.kept f k.formula; variables = k.variables; assumed = k.assumed }) in
-    omega arith
+    looks_stored c.args.looks.now c.check.new.looks c.note_derived.new.looks c.store_derived.new.looks (noted_length c.check.new.self.store.clauses c.check.new.self.passed) (length c.args.hashes.now) (literal_count f) (c.check.ensures.looks f k.formula) c.in_ok-check.ensures.read (c.note_derived.ensures.looks f (c.check.ensures.kept f k.formula))
+    (c.store_derived.ensures.looks f (record { formula = c.check.ensures.kept f k.formula; variables = k.variables; assumed = k.assumed }))
 
 pub returns-clause-looks : goal.returns-clause-looks
 returns-clause-looks c = λ f k.
-    let h = c.check.ensures.looks f k.formula in
-    let stored = c.store_derived.ensures.looks f (record { formula = c.check.ensures.kept f k.formula; variables = k.variables; assumed = k.assumed }) in
-    omega arith
+    looks_stored c.args.looks.now c.check.new.looks c.note_derived.new.looks c.store_derived.new.looks (noted_length c.check.new.self.store.clauses c.check.new.self.passed) (length c.args.hashes.now) (literal_count f) (c.check.ensures.looks f k.formula) c.in_ok-check.ensures.read (c.note_derived.ensures.looks f (c.check.ensures.kept f k.formula))
+    (c.store_derived.ensures.looks f (record { formula = c.check.ensures.kept f k.formula; variables = k.variables; assumed = k.assumed }))
+
+pub returns-in_err-check-clause-noted : goal.returns-in_err-check-clause-noted
+returns-in_err-check-clause-noted c = IfOk-from_err c.from_residual.result _ c.from_residual.ensures.0
+
+pub returns-in_err-note_derived-clause-noted : goal.returns-in_err-note_derived-clause-noted
+returns-in_err-note_derived-clause-noted c = IfOk-from_err c.from_residual-in_err-note_derived.result _ c.from_residual-in_err-note_derived.ensures.0
+
+pub returns-in_err-store_derived-clause-noted : goal.returns-in_err-store_derived-clause-noted
+returns-in_err-store_derived-clause-noted c = IfOk-from_err c.from_residual-in_err-store_derived.result _ c.from_residual-in_err-store_derived.ensures.0
+
+pub returns-then-not-branch-clause-noted : goal.returns-then-not-branch-clause-noted
+returns-then-not-branch-clause-noted c = λ t. absurd (true≢false (sym t))
+
+pub returns-clause-noted : goal.returns-clause-noted
+returns-clause-noted c = λ t f k long. c.in_ok-note_derived.ensures.noted f c.args.hashes.now (c.check.ensures.kept f k.formula) long (c.in_ok-check.ensures.explained c.if-not-branch.false)

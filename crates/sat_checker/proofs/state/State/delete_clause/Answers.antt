@@ -1,16 +1,75 @@
+use Rattle.std.proofs.Common.{refl, sym, arith}
+use Rattle.std.proofs.lemmas.Bool.{true≢false}
+use Rattle.std.proofs.lemmas.Result.{err_from_is_err_and, IfOk-from_err}
 use Rattle.sat_base.specs.steps.Steps.{DeleteClause}
 use Rattle.sat_base.specs.steps.StepViews.{deletion_of}
 use Rattle.sat_checker.specs.Accepts.{effect}
-use Rattle.sat_checker.proofs.lemmas.variables.Keeping.{match_true}
+use Rattle.sat_checker.proofs.lemmas.state.Keeping.{deleted_kept}
+use Rattle.sat_checker.proofs.lemmas.telling.Noting.{deletion_noted}
+use Rattle.sat_checker.proofs.lemmas.variables.Keeping.{match_true, match_false}
 use Rattle.sat_checker.proofs.state.State.delete_clause.Goals as goal
+
+pub delete-requires : goal.delete-requires
+delete-requires c = c.in_ok-literals.ensures.set
+
+pub returns-in_err-literals-clause-decides : goal.returns-in_err-literals-clause-decides
+returns-in_err-literals-clause-decides c = let p = err_from_is_err_and c.from_residual.result c.from_residual.ensures.1 in rw (p.1, p.2) (λ f k. tt)
+
+pub returns-in_err-deleted-clause-decides : goal.returns-in_err-deleted-clause-decides
+returns-in_err-deleted-clause-decides c = let p = err_from_is_err_and c.from_residual-in_err-deleted.result c.from_residual-in_err-deleted.ensures.1 in rw (p.1, p.2) (λ f k. tt)
+
+pub returns-in_err-compact-clause-decides : goal.returns-in_err-compact-clause-decides
+returns-in_err-compact-clause-decides c = let p = err_from_is_err_and c.from_residual-in_err-compact.result c.from_residual-in_err-compact.ensures.1 in rw (p.1, p.2) (λ f k. tt)
+
+pub returns-then-not-delete-clause-decides : goal.returns-then-not-delete-clause-decides
+returns-then-not-delete-clause-decides c = λ f k. match_false _ _ _ (c.delete.ensures.decides f k.formula) c.if-not-delete.true
 
 pub returns-clause-decides : goal.returns-clause-decides
 returns-clause-decides c = λ f k.
-    let taken = match_true _ _ _ (c.in_ok-take_clause.ensures.decides f k) c.if-not-branch.false in (
-      taken.0,
-      record {
-        formula = c.in_ok-compact.ensures (effect (DeleteClause c.args.clause.now (deletion_of c.args.proof)) f) taken.1.formula;
-        variables = taken.1.variables;
-        assumed = taken.1.assumed;
-      },
+    let gone = match_true _ _ _ (c.delete.ensures.decides f k.formula) c.if-not-delete.false in (
+      gone.0,
+      deleted_kept c.args.self.now _ f c.args.clause.now (deletion_of c.args.proof) k (c.in_ok-compact.ensures (effect (DeleteClause c.args.clause.now (deletion_of c.args.proof)) f) gone.1) refl refl,
     )
+
+pub returns-in_err-literals-clause-looks : goal.returns-in_err-literals-clause-looks
+returns-in_err-literals-clause-looks c = λ f k. omega arith
+
+pub returns-in_err-literals-clause-noted : goal.returns-in_err-literals-clause-noted
+returns-in_err-literals-clause-noted c = IfOk-from_err c.from_residual.result _ c.from_residual.ensures.0
+
+pub returns-in_err-deleted-clause-noted : goal.returns-in_err-deleted-clause-noted
+returns-in_err-deleted-clause-noted c = IfOk-from_err c.from_residual-in_err-deleted.result _ c.from_residual-in_err-deleted.ensures.0
+
+pub returns-in_err-compact-clause-noted : goal.returns-in_err-compact-clause-noted
+returns-in_err-compact-clause-noted c = IfOk-from_err c.from_residual-in_err-compact.result _ c.from_residual-in_err-compact.ensures.0
+
+pub returns-then-not-delete-clause-noted : goal.returns-then-not-delete-clause-noted
+returns-then-not-delete-clause-noted c = λ t. absurd (true≢false (sym t))
+
+pub returns-then-not-delete-clause-looks : goal.returns-then-not-delete-clause-looks
+returns-then-not-delete-clause-looks c = λ f k.
+    let told = c.deletion-deletion.ensures.looks f k.formula in
+    let gone = c.delete.ensures.looks f k.formula in
+    omega arith
+
+pub returns-in_err-deleted-clause-looks : goal.returns-in_err-deleted-clause-looks
+returns-in_err-deleted-clause-looks c = λ f k.
+    let told = c.deletion-deletion.ensures.looks f k.formula in
+    let gone = c.delete.ensures.looks f k.formula in
+    omega arith
+
+pub returns-in_err-compact-clause-looks : goal.returns-in_err-compact-clause-looks
+returns-in_err-compact-clause-looks c = λ f k.
+    let told = c.deletion-deletion.ensures.looks f k.formula in
+    let gone = c.delete.ensures.looks f k.formula in
+    omega arith
+
+pub returns-clause-looks : goal.returns-clause-looks
+returns-clause-looks c = λ f k.
+    let told = c.deletion-deletion.ensures.looks f k.formula in
+    let gone = c.delete.ensures.looks f k.formula in
+    omega arith
+
+pub returns-clause-noted : goal.returns-clause-noted
+returns-clause-noted c = λ t f k long.
+    deletion_noted f c.args.clause.now (deletion_of c.args.proof) c.in_ok-literals.literals.now c.deletion-deletion.result c.args.notes.now c.deleted.new.self (λ h. c.deletion-deletion.ensures.told h f k.formula c.args.clause.now c.in_ok-literals.ensures.set) c.in_ok-deleted.ensures

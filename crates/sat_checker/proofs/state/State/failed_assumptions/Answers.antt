@@ -1,30 +1,47 @@
-use Rattle.std.proofs.Common.{◌≡◌, true, sym, subst, ◌∙◌, ◌↔◌, arith}
+use Rattle.std.proofs.Common.{◌≡◌, true, sym, subst, ◌∙◌, ◌↔◌, arith, length}
 use Rattle.std.proofs.lemmas.Bool.{true≢false}
+use Rattle.std.proofs.lemmas.Result.{err_from_is_err_and, IfOk-from_err}
 use Rattle.sat_checker.specs.Accepts.{Passes}
-use Rattle.sat_checker.proofs.lemmas.state.Keeping.{within_assumed, core_passes}
-use Rattle.std.proofs.lemmas.Result.{err_from_is_err_and}
-use Rattle.sat_checker.proofs.state.State.failed_assumptions.Goals as goal
 use Rattle.sat_checker.specs.LiteralSets.{is_part}
+use Rattle.sat_checker.specs.Looks.{literal_count}
 use Rattle.sat_checker.specs.Stored.{Stored}
+use Rattle.sat_checker.specs.inner.Reasons.{noted_length}
 use Rattle.sat_checker.specs.inner.StateView.{Keeps}
+use Rattle.sat_checker.proofs.lemmas.state.Keeping.{within_assumed}
 use Rattle.sat_checker.proofs.lemmas.store.Entries.{on_err}
+use Rattle.sat_checker.proofs.lemmas.telling.Noting.{looks_judged, looks_followed}
+use Rattle.sat_checker.proofs.state.State.failed_assumptions.Goals as goal
+
+pub note_core-requires-clause-denied : goal.note_core-requires-clause-denied
+note_core-requires-clause-denied c = c.as_slice-denied.ensures.value ∙ c.in_ok-copy_negated.ensures
+
+pub note_core-requires-clause-explained : goal.note_core-requires-clause-explained
+note_core-requires-clause-explained c = (c.args.hashes.now, c.in_ok-check.ensures.explained c.if-not-branch.false)
 
 pub returns-then-not-has_all-clause-decides : goal.returns-then-not-has_all-clause-decides
 returns-then-not-has_all-clause-decides c = λ f k p.
     let w = within_assumed c.has_all.result c.args.core.now f.assumed c.args.self.now.assumed k.assumed c.has_all.ensures in
     true≢false (sym p.0 ∙ sym w ∙ c.if-not-has_all.true)
 
+pub returns-then-not-branch-clause-decides : goal.returns-then-not-branch-clause-decides
+returns-then-not-branch-clause-decides c = λ f k p.
+    true≢false (sym ((subst (λ ls. (c.in_ok-check.field-0 ≡ true) ↔ Passes f ls c.args.hashes.now) (c.as_slice-denied.ensures.value ∙ c.in_ok-copy_negated.ensures) (c.in_ok-check.ensures.exact f k.formula)).1 p.1) ∙ c.if-not-branch.true)
+
 pub returns-clause-decides : goal.returns-clause-decides
 returns-clause-decides c = λ f k.
-    let w = within_assumed c.has_all.result c.args.core.now f.assumed c.args.self.now.assumed k.assumed c.has_all.ensures in
-    core_passes c.in_ok-passes.passes _ _ _ (sym w ∙ c.if-not-has_all.false) (record { formula = c.check.ensures.kept f k.formula; variables = k.variables; assumed = k.assumed })
-    (subst (λ ls. (c.in_ok-passes.passes ≡ true) ↔ Passes f ls c.args.hashes.now) (c.deref.ensures.value ∙ c.in_ok-copy_negated.ensures) (c.in_ok-passes.ensures.exact f k.formula))
+    let w = within_assumed c.has_all.result c.args.core.now f.assumed c.args.self.now.assumed k.assumed c.has_all.ensures in (
+      (sym w ∙ c.if-not-has_all.false, (subst (λ ls. (c.in_ok-check.field-0 ≡ true) ↔ Passes f ls c.args.hashes.now) (c.as_slice-denied.ensures.value ∙ c.in_ok-copy_negated.ensures) (c.in_ok-check.ensures.exact f k.formula)).0 c.if-not-branch.false),
+      record { formula = c.check.ensures.kept f k.formula; variables = k.variables; assumed = k.assumed },
+    )
 
 pub returns-in_err-copy_negated-clause-decides : goal.returns-in_err-copy_negated-clause-decides
 returns-in_err-copy_negated-clause-decides c = let p = err_from_is_err_and c.from_residual.result c.from_residual.ensures.1 in rw (p.1, p.2) (λ f k. tt)
 
-pub returns-in_err-passes-clause-decides : goal.returns-in_err-passes-clause-decides
-returns-in_err-passes-clause-decides c = let p = err_from_is_err_and c.from_residual-in_err-passes.result c.from_residual-in_err-passes.ensures.1 in rw (p.1, p.2) (λ f k. tt)
+pub returns-in_err-check-clause-decides : goal.returns-in_err-check-clause-decides
+returns-in_err-check-clause-decides c = let p = err_from_is_err_and c.from_residual-in_err-check.result c.from_residual-in_err-check.ensures.1 in rw (p.1, p.2) (λ f k. tt)
+
+pub returns-in_err-note_core-clause-decides : goal.returns-in_err-note_core-clause-decides
+returns-in_err-note_core-clause-decides c = let p = err_from_is_err_and c.from_residual-in_err-note_core.result c.from_residual-in_err-note_core.ensures.1 in rw (p.1, p.2) (λ f k. tt)
 
 pub returns-then-not-has_all-clause-looks : goal.returns-then-not-has_all-clause-looks
 returns-then-not-has_all-clause-looks c = λ f k. omega arith
@@ -32,20 +49,47 @@ returns-then-not-has_all-clause-looks c = λ f k. omega arith
 pub returns-in_err-copy_negated-clause-looks : goal.returns-in_err-copy_negated-clause-looks
 returns-in_err-copy_negated-clause-looks c = λ f k. omega arith
 
-pub returns-in_err-passes-clause-looks : goal.returns-in_err-passes-clause-looks
-returns-in_err-passes-clause-looks c = λ f k. let h = c.check.ensures.looks f k.formula in omega arith
+pub returns-in_err-check-clause-looks : goal.returns-in_err-check-clause-looks
+returns-in_err-check-clause-looks c = λ f k. looks_judged c.args.looks.now c.check.new.looks (length c.args.hashes.now) (literal_count f) (c.check.ensures.looks f k.formula)
+
+pub returns-then-not-branch-clause-looks : goal.returns-then-not-branch-clause-looks
+returns-then-not-branch-clause-looks c = λ f k. looks_judged c.args.looks.now c.check.new.looks (length c.args.hashes.now) (literal_count f) (c.check.ensures.looks f k.formula)
+
+pub returns-in_err-note_core-clause-looks : goal.returns-in_err-note_core-clause-looks
+returns-in_err-note_core-clause-looks c = λ f k. looks_followed c.args.looks.now c.check.new.looks c.note_core.new.looks (noted_length c.check.new.self.store.clauses c.check.new.self.passed) (length c.args.hashes.now) (literal_count f) (c.check.ensures.looks f k.formula) c.in_ok-check.ensures.read c.note_core.ensures.looks
 
 pub returns-clause-looks : goal.returns-clause-looks
-returns-clause-looks c = λ f k. let h = c.check.ensures.looks f k.formula in omega arith
+returns-clause-looks c = λ f k. looks_followed c.args.looks.now c.check.new.looks c.note_core.new.looks (noted_length c.check.new.self.store.clauses c.check.new.self.passed) (length c.args.hashes.now) (literal_count f) (c.check.ensures.looks f k.formula) c.in_ok-check.ensures.read c.note_core.ensures.looks
+
+pub returns-in_err-copy_negated-clause-noted : goal.returns-in_err-copy_negated-clause-noted
+returns-in_err-copy_negated-clause-noted c = IfOk-from_err c.from_residual.result _ c.from_residual.ensures.0
+
+pub returns-in_err-check-clause-noted : goal.returns-in_err-check-clause-noted
+returns-in_err-check-clause-noted c = IfOk-from_err c.from_residual-in_err-check.result _ c.from_residual-in_err-check.ensures.0
+
+pub returns-in_err-note_core-clause-noted : goal.returns-in_err-note_core-clause-noted
+returns-in_err-note_core-clause-noted c = IfOk-from_err c.from_residual-in_err-note_core.result _ c.from_residual-in_err-note_core.ensures.0
+
+pub returns-then-not-has_all-clause-noted : goal.returns-then-not-has_all-clause-noted
+returns-then-not-has_all-clause-noted c = λ t. absurd (true≢false (sym t))
+
+pub returns-then-not-branch-clause-noted : goal.returns-then-not-branch-clause-noted
+returns-then-not-branch-clause-noted c = λ t. absurd (true≢false (sym t))
+
+pub returns-clause-noted : goal.returns-clause-noted
+returns-clause-noted c = λ t f k long. c.in_ok-note_core.ensures.noted f c.args.hashes.now (c.check.ensures.kept f k.formula) (c.in_ok-check.ensures.explained c.if-not-branch.false)
 
 pub returns-in_err-copy_negated-clause-among : goal.returns-in_err-copy_negated-clause-among
 returns-in_err-copy_negated-clause-among c =
-    let among : (f : Stored) → Keeps c.args.self.now f → is_part c.args.core.now f.assumed ≡ true =
-    λ f k. sym (within_assumed c.has_all.result c.args.core.now f.assumed c.args.self.now.assumed k.assumed c.has_all.ensures) ∙ c.if-not-has_all.false in
+    let among : (f : Stored) → Keeps c.args.self.now f → is_part c.args.core.now f.assumed ≡ true = λ f k. sym (within_assumed c.has_all.result c.args.core.now f.assumed c.args.self.now.assumed k.assumed c.has_all.ensures) ∙ c.if-not-has_all.false in
     on_err _ _ among
 
-pub returns-in_err-passes-clause-among : goal.returns-in_err-passes-clause-among
-returns-in_err-passes-clause-among c =
-    let among : (f : Stored) → Keeps c.args.self.now f → is_part c.args.core.now f.assumed ≡ true =
-    λ f k. sym (within_assumed c.has_all.result c.args.core.now f.assumed c.args.self.now.assumed k.assumed c.has_all.ensures) ∙ c.if-not-has_all.false in
+pub returns-in_err-check-clause-among : goal.returns-in_err-check-clause-among
+returns-in_err-check-clause-among c =
+    let among : (f : Stored) → Keeps c.args.self.now f → is_part c.args.core.now f.assumed ≡ true = λ f k. sym (within_assumed c.has_all.result c.args.core.now f.assumed c.args.self.now.assumed k.assumed c.has_all.ensures) ∙ c.if-not-has_all.false in
+    on_err _ _ among
+
+pub returns-in_err-note_core-clause-among : goal.returns-in_err-note_core-clause-among
+returns-in_err-note_core-clause-among c =
+    let among : (f : Stored) → Keeps c.args.self.now f → is_part c.args.core.now f.assumed ≡ true = λ f k. sym (within_assumed c.has_all.result c.args.core.now f.assumed c.args.self.now.assumed k.assumed c.has_all.ensures) ∙ c.if-not-has_all.false in
     on_err _ _ among

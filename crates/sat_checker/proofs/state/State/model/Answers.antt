@@ -1,4 +1,4 @@
-use Rattle.std.proofs.lemmas.Result.{err_from_is_err_and}
+use Rattle.std.proofs.lemmas.Result.{err_from_is_err_and, IfOk-from_err}
 use Rattle.std.proofs.Common.{arith}
 use Rattle.sat_checker.proofs.state.State.model.Goals as goal
 use Rattle.sat_checker.specs.Stored.{Stored}
@@ -18,6 +18,18 @@ returns-in_err-fits-clause-decides c = let p = err_from_is_err_and c.from_residu
 pub returns-in_err-learn-clause-decides : goal.returns-in_err-learn-clause-decides
 returns-in_err-learn-clause-decides c = let p = err_from_is_err_and c.from_residual-in_err-learn.result c.from_residual-in_err-learn.ensures.1 in rw (p.1, p.2) (λ f k. tt)
 
+pub returns-in_err-model-clause-decides : goal.returns-in_err-model-clause-decides
+returns-in_err-model-clause-decides c = let p = err_from_is_err_and c.from_residual-in_err-model.result c.from_residual-in_err-model.ensures.1 in rw (p.1, p.2) (λ f k. tt)
+
+pub returns-in_err-fits-clause-noted : goal.returns-in_err-fits-clause-noted
+returns-in_err-fits-clause-noted c = IfOk-from_err c.from_residual.result _ c.from_residual.ensures.0
+
+pub returns-in_err-learn-clause-noted : goal.returns-in_err-learn-clause-noted
+returns-in_err-learn-clause-noted c = IfOk-from_err c.from_residual-in_err-learn.result _ c.from_residual-in_err-learn.ensures.0
+
+pub returns-in_err-model-clause-noted : goal.returns-in_err-model-clause-noted
+returns-in_err-model-clause-noted c = IfOk-from_err c.from_residual-in_err-model.result _ c.from_residual-in_err-model.ensures.0
+
 pub returns-in_err-fits-clause-looks : goal.returns-in_err-fits-clause-looks
 returns-in_err-fits-clause-looks c = λ f k. let h = c.fits.ensures.looks f k.formula in omega arith
 
@@ -26,6 +38,9 @@ returns-then-not-branch-clause-looks c = λ f k. let h = c.fits.ensures.looks f 
 
 pub returns-in_err-learn-clause-looks : goal.returns-in_err-learn-clause-looks
 returns-in_err-learn-clause-looks c = λ f k. let h = c.fits.ensures.looks f k.formula in omega arith
+
+pub returns-in_err-model-clause-looks : goal.returns-in_err-model-clause-looks
+returns-in_err-model-clause-looks c = λ f k. let h = c.fits.ensures.looks f k.formula in omega arith
 
 pub returns-clause-looks : goal.returns-clause-looks
 returns-clause-looks c = λ f k. let h = c.fits.ensures.looks f k.formula in omega arith
@@ -37,5 +52,10 @@ returns-in_err-fits-clause-apart c =
 
 pub returns-in_err-learn-clause-apart : goal.returns-in_err-learn-clause-apart
 returns-in_err-learn-clause-apart c =
+    let apart : (f : Stored) → Keeps c.args.self.now f → VariablesApart c.args.assignment.now = λ f k. ((c.in_ok-fits.ensures.exact f k.formula).0 c.if-not-branch.false).apart in
+    on_err _ _ apart
+
+pub returns-in_err-model-clause-apart : goal.returns-in_err-model-clause-apart
+returns-in_err-model-clause-apart c =
     let apart : (f : Stored) → Keeps c.args.self.now f → VariablesApart c.args.assignment.now = λ f k. ((c.in_ok-fits.ensures.exact f k.formula).0 c.if-not-branch.false).apart in
     on_err _ _ apart

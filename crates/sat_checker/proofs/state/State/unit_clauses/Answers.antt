@@ -1,7 +1,8 @@
 use Rattle.sat_checker.proofs.lemmas.state.Units.{units_stored}
 use Rattle.sat_checker.proofs.lemmas.variables.Keeping.{match_true}
-use Rattle.std.proofs.lemmas.Result.{err_from_is_err_and}
-use Rattle.std.proofs.Common.{arith}
+use Rattle.std.proofs.lemmas.Result.{err_from_is_err_and, IfOk-from_err}
+use Rattle.std.proofs.lemmas.Bool.{true≢false}
+use Rattle.std.proofs.Common.{sym, arith}
 use Rattle.sat_checker.proofs.state.State.unit_clauses.Goals as goal
 
 pub returns-clause-decides : goal.returns-clause-decides
@@ -11,6 +12,18 @@ returns-clause-decides c = λ f k.
 
 pub returns-in_err-learn_units-clause-decides : goal.returns-in_err-learn_units-clause-decides
 returns-in_err-learn_units-clause-decides c = let p = err_from_is_err_and c.from_residual-in_err-learn_units.result c.from_residual-in_err-learn_units.ensures.1 in rw (p.1, p.2) (λ f k. tt)
+
+pub returns-in_err-store_units-clause-noted : goal.returns-in_err-store_units-clause-noted
+returns-in_err-store_units-clause-noted c = IfOk-from_err c.from_residual.result _ c.from_residual.ensures.0
+
+pub returns-in_err-learn_units-clause-noted : goal.returns-in_err-learn_units-clause-noted
+returns-in_err-learn_units-clause-noted c = IfOk-from_err c.from_residual-in_err-learn_units.result _ c.from_residual-in_err-learn_units.ensures.0
+
+pub returns-then-not-branch-clause-noted : goal.returns-then-not-branch-clause-noted
+returns-then-not-branch-clause-noted c = λ t. absurd (true≢false (sym t))
+
+pub returns-clause-noted : goal.returns-clause-noted
+returns-clause-noted c = λ _ f k long. c.in_ok-store_units.ensures.noted c.if-not-branch.false f k.formula long
 
 pub returns-in_err-store_units-clause-looks : goal.returns-in_err-store_units-clause-looks
 returns-in_err-store_units-clause-looks c = λ f k. let h = c.store_units.ensures.looks f k.formula in omega arith

@@ -3,7 +3,7 @@ use Rattle.sat_checker.specs.inner.TellingSteps.{announced_by}
 use Rattle.sat_checker.specs.telling.AnnouncementView.{variables_of}
 use Rattle.sat_checker.specs.telling.Hearing.{hearers, HearsAll, HearsFirst, HearsUpTo}
 use Rattle.sat_checker.specs.telling.ProcessingView.{HearsEach}
-use Rattle.sat_checker.proofs.kernel.telling.tell_news.Given as goal
+use Rattle.sat_checker.proofs.kernel.tell_news.Given as goal
 
 -- who hears what is left has heard all
 abbrev pub invariant-loop-place : goal.invariant-loop-place

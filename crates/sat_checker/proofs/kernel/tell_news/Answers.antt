@@ -3,7 +3,7 @@ use Rattle.sat_checker.specs.telling.AnnouncementView.{announcement_of, variable
 use Rattle.sat_checker.specs.telling.Hearing.{hearers, HearsFirst}
 use Rattle.sat_checker.specs.telling.ProcessingView.{HearsEach}
 use Rattle.sat_checker.proofs.lemmas.telling.Heard.{news_more, news_broken, news_fault, news_none}
-use Rattle.sat_checker.proofs.kernel.telling.tell_news.Goals as goal
+use Rattle.sat_checker.proofs.kernel.tell_news.Goals as goal
 
 pub returns-in-Err : goal.returns-in-Err
 returns-in-Err g c =

@@ -1,0 +1,18 @@
+use Rattle.std.proofs.Common.{arith}
+use Rattle.std.proofs.lemmas.Result.{err_from_is_err_and}
+use Rattle.sat_checker.specs.Storing.{with_literals_known}
+use Rattle.sat_checker.proofs.lemmas.state.Keeping.{input_kept, turns_then}
+use Rattle.sat_checker.proofs.state.State.store_input.Goals as goal
+
+pub returns-clause-stored : goal.returns-clause-stored
+returns-clause-stored c = λ f k.
+    turns_then c.store_input.result _ _ _ (λ kept. input_kept _ f c.args.clause.now kept (c.in_ok-learn.ensures f.variables k.variables) k.assumed) (c.store_input.ensures.stored (with_literals_known c.args.clause.now f) k.formula)
+
+pub returns-in_err-learn-clause-stored : goal.returns-in_err-learn-clause-stored
+returns-in_err-learn-clause-stored c = let p = err_from_is_err_and c.from_residual.result c.from_residual.ensures.1 in rw (p.1, p.2) (λ f k. tt)
+
+pub returns-clause-looks : goal.returns-clause-looks
+returns-clause-looks c = λ f k. c.store_input.ensures.looks f k.formula
+
+pub returns-in_err-learn-clause-looks : goal.returns-in_err-learn-clause-looks
+returns-in_err-learn-clause-looks c = λ f k. omega arith
