@@ -9,4 +9,5 @@ pub mod Reducing
 pub mod Using
 pub mod Words
 pub mod Frame
+pub mod Full
 pub mod Assumed

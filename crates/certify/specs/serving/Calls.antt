@@ -14,6 +14,7 @@ use Rattle.sat_solver.specs.names.Refusing.{names_in}
 use Rattle.sat_solver.specs.session.Making.{Took, Broke}
 use Rattle.sat_solver.specs.session.ProofView.{is_drat, target_of}
 use Rattle.sat_solver.specs.solver.Calls.{Answered}
+use Rattle.sat_solver.specs.solver.Taking.{IsNameFaultOr}
 use Rattle.sat_solver.specs.solver.Whole.{IsSolver, steps_in}
 use Rattle.certify.specs.declared.fault.RunFault.{RunFault}
 use Rattle.certify.specs.declared.fault.RunFault.TheVariants as fault
@@ -22,7 +23,11 @@ use Rattle.certify.specs.declared.summary.Answer.TheVariants as kind
 use Rattle.certify.specs.declared.summary.AskReport.{AskReport}
 use Rattle.certify.specs.run.FinishedRun.{IsSpent}
 
--- what a solver fails of, as a run's fault
+-- what a solver that goes on, and isn't refused, may fail of
+abbrev pub IsSolverFault : SolverError → Type 0
+IsSolverFault = IsNameFaultOr (Unit {0})
+
+-- the same as a run's fault
 abbrev pub fault_for : SolverError → RunFault
 fault_for (errors.ProofIoError cause) = fault.CertificateWrite
 fault_for errors.OutOfMemory = fault.OutOfMemory

@@ -1,14 +1,13 @@
 //! Faults of a run that are its solver's.
 ghost use Rattle.std.specs.Prelude.{◌≡◌};
-ghost use Rattle.sat_solver.specs.solver.Taking.{IsNameFault};
-ghost use Rattle.certify.specs.serving.Calls.{fault_for, is_interrupted};
+ghost use Rattle.certify.specs.serving.Calls.{IsSolverFault, fault_for, is_interrupted};
 
 use crate::fault::RunFault;
 use sat_solver::SolverError;
 
 /// The fault of a run for what its solver fails of.
 pub fn fault_of(error: SolverError) -> RunFault
-    requires { IsNameFault error }
+    requires { IsSolverFault error }
     ensures { result ≡ fault_for error }
 {
     match error {

@@ -13,7 +13,8 @@ use Rattle.sat_solver.specs.declared.search.work.Search.{Search}
 use Rattle.sat_solver.specs.search.Rounds.{RoundSays}
 use Rattle.sat_solver.specs.loading.Shared.{SharesIndices}
 use Rattle.sat_solver.specs.simplify.Freed.{KeepsAsked}
-use Rattle.sat_solver.specs.simplify.Passes.{Falls}
+use Rattle.sat_solver.specs.parts.Full.{IsFull}
+use Rattle.sat_solver.specs.simplify.Passes.{FallsOr}
 
 -- names and search share their indices, unless no valuation is left
 abbrev pub RoundShares : Outcome → Variables → Search → Type 0
@@ -33,4 +34,4 @@ pub record RoundEnds {W : Type 0} (seen : W → Writer) (outcome : Outcome) (n n
   pub shares : RoundShares outcome n' c'
 
 abbrev pub EndsRound : {W : Type 0} → (W → Writer) → Result Outcome SolverError → Variables → Variables → Proof W → Proof W → Search → Search → Type 0
-EndsRound seen r n n' p p' c c' = MatchResult r (λ o. RoundEnds seen o n n' p p' c c') (λ e. Falls seen e p p')
+EndsRound seen r n n' p p' c c' = MatchResult r (λ o. RoundEnds seen o n n' p p' c c') (λ e. FallsOr (IsFull c'.parts) seen e p p')

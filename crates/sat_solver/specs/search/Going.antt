@@ -46,14 +46,18 @@ fault_of (Write cause) = errors.ProofIoError cause
 fault_of OutOfMemory = errors.OutOfMemory
 fault_of (Check fault) = check_fault_of fault
 
--- what a search may fail of
+-- what a search may fail of: that the clause buffer is full comes only where this holds
+abbrev pub IsFaultOr : (full : Type 0) → SolverError → Type 0
+IsFaultOr full errors.OutOfMemory = Unit {0}
+IsFaultOr full errors.StoreFull = full
+IsFaultOr full (errors.ProofIoError cause) = Unit {0}
+IsFaultOr full (errors.ProofProcessorError cause) = Unit {0}
+IsFaultOr full errors.CounterEnd = Unit {0}
+IsFaultOr full e = ⊥
+
+-- the same where no clause is stored
 abbrev pub IsFault : SolverError → Type 0
-IsFault errors.OutOfMemory = Unit {0}
-IsFault errors.StoreFull = Unit {0}
-IsFault (errors.ProofIoError cause) = Unit {0}
-IsFault (errors.ProofProcessorError cause) = Unit {0}
-IsFault errors.CounterEnd = Unit {0}
-IsFault e = ⊥
+IsFault = IsFaultOr ⊥
 
 -- These steps were made; where a call of the target failed, that was at their text. A count is at its end, or a processor answers a fault, only in the solver's own checker.
 abbrev pub Went : {A W : Type 0} → (W → Writer) → Result A SolverError → List Step → Proof W → Proof W → Type 0
@@ -63,10 +67,14 @@ Went seen (Err (errors.ProofProcessorError cause)) steps old new = FailsCheck se
 Went seen (Err errors.CounterEnd) steps old new = FailsCheck seen steps old new
 Went seen (Err e) steps old new = Adds seen steps old new
 
--- It made steps of a search, and came to an answer of which this holds, or failed.
-pub record Goes {A W : Type 0} (seen : W → Writer) (result : Result A SolverError) (old new : Proof W) (Answers : A → List Step → Type 0) : Type 0 where
+-- It made steps of a search, and came to an answer of which this holds, or failed, for a full clause buffer only where it is full.
+pub record GoesOr {A W : Type 0} (full : Type 0) (seen : W → Writer) (result : Result A SolverError) (old new : Proof W) (Answers : A → List Step → Type 0) : Type 0 where
   pub steps : List Step
   pub went : Went seen result steps old new
   pub searched : AreSearched (session_of old).solver_names steps
   pub keeps : Keeps new
-  pub ends : MatchResult result (λ x. Answers x steps) IsFault
+  pub ends : MatchResult result (λ x. Answers x steps) (IsFaultOr full)
+
+-- the same where no clause is stored
+abbrev pub Goes : {A W : Type 0} → (W → Writer) → Result A SolverError → Proof W → Proof W → (A → List Step → Type 0) → Type 0
+Goes seen result old new Answers = GoesOr ⊥ seen result old new Answers

@@ -19,7 +19,8 @@ use Rattle.sat_solver.specs.names.Calls.{DoesNothing}
 use Rattle.sat_solver.specs.declared.names.Variables.{Variables}
 use Rattle.sat_solver.specs.loading.Shared.{SharesIndices}
 use Rattle.sat_solver.specs.simplify.Freed.{KeepsAsked}
-use Rattle.sat_solver.specs.simplify.Passes.{Falls}
+use Rattle.sat_solver.specs.parts.Full.{IsFull}
+use Rattle.sat_solver.specs.simplify.Passes.{FallsOr}
 
 -- the step is a derived clause that advances
 abbrev pub IsAdvancing : Session → Step → Type 0
@@ -81,4 +82,4 @@ pub record Ended {W : Type 0} (seen : W → Writer) (a : Core W) (n : Variables)
 
 -- it came to this fault
 abbrev pub Broke : {W : Type 0} → (W → Writer) → Core W → SolverError → Core W → Type 0
-Broke seen a e b = Falls seen e a.proof b.proof
+Broke seen a e b = FallsOr (IsFull b.search.parts) seen e a.proof b.proof

@@ -12,7 +12,7 @@ use Rattle.sat_solver.specs.declared.error.SolverError.{SolverError}
 use Rattle.sat_solver.specs.names.Calls.{Stands, DoesNothing}
 use Rattle.sat_solver.specs.declared.names.Variables.{Variables}
 use Rattle.sat_solver.specs.parts.Words.{ExtendsFor}
-use Rattle.sat_solver.specs.search.Going.{IsFault, Went}
+use Rattle.sat_solver.specs.search.Going.{IsFaultOr, Went}
 use Rattle.sat_solver.specs.search.Joint.{assumed_in, IsSearch, Moved}
 use Rattle.sat_solver.specs.search.Turns.{IsStopped, IsPropagated}
 use Rattle.sat_solver.specs.declared.search.work.Search.{Search}
@@ -46,11 +46,15 @@ pub record Passes {W : Type 0} (seen : W → Writer) (n n' : Variables) (p p' : 
   pub moved : Moved c c'
   pub word : ExtendsFor (assumed_in c) c.parts c'.parts
 
--- what no input decides went wrong
-pub record Falls {W : Type 0} (seen : W → Writer) (e : SolverError) (p p' : Proof W) : Type 0 where
-  pub fault : IsFault e
+-- what no input decides went wrong, a full clause buffer only where it is full
+pub record FallsOr {W : Type 0} (full : Type 0) (seen : W → Writer) (e : SolverError) (p p' : Proof W) : Type 0 where
+  pub fault : IsFaultOr full e
   pub steps : List Step
   pub went : Went {A = Unit {0}} seen (Err e) steps p p'
+
+-- the same where no clause is stored
+abbrev pub Falls : {W : Type 0} → (W → Writer) → SolverError → Proof W → Proof W → Type 0
+Falls seen e p p' = FallsOr ⊥ seen e p p'
 
 -- nothing is on the trail, no literal of a long clause has a value, and each variable that has an index is in a clause or assumed
 pub record Simplified {W : Type 0} (seen : W → Writer) (n n' : Variables) (p p' : Proof W) (c c' : Search) : Type 0 where

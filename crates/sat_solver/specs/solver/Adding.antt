@@ -14,13 +14,13 @@ use Rattle.sat_solver.specs.names.Expected.{Expected, Adds, Opens, bringing}
 use Rattle.sat_solver.specs.names.Live.{Live}
 use Rattle.sat_solver.specs.names.Refusing.{names_in}
 use Rattle.sat_solver.specs.names.Room.{HasRoom, users_in}
-use Rattle.sat_solver.specs.search.Going.{IsFault}
+use Rattle.sat_solver.specs.search.Going.{IsFaultOr}
 use Rattle.sat_solver.specs.declared.solver.Solver.{Solver}
 use Rattle.sat_solver.specs.declared.solver.state.State.{State}
 use Rattle.sat_solver.specs.declared.solver.state.State.TheVariants as states
 use Rattle.sat_solver.specs.solver.Calls.{Did, Refuses}
-use Rattle.sat_solver.specs.solver.Taking.{BreaksNames}
-use Rattle.sat_solver.specs.solver.Whole.{IsWhole, steps_in}
+use Rattle.sat_solver.specs.solver.Taking.{BreaksNamesOr}
+use Rattle.sat_solver.specs.solver.Whole.{HasFullStore, IsWhole, steps_in}
 
 -- the literals come in, and then the clause
 abbrev pub with_added : List ℕ → Judge → Judge
@@ -51,13 +51,17 @@ HasWitness s user = (j : Judge) (live : Live) → Agree s.names (steps_in s) j l
 abbrev pub AreSampled : {W : Type 0} → Solver W → List ℕ → Type 0
 AreSampled s user = (j : Judge) (live : Live) → Agree s.names (steps_in s) j live → refused_literal j (names_in user) ≡ None
 
--- a call over names failed, and so does each one behind it
-pub record EndsNames {W : Type 0} (seen : W → Writer) (e : SolverError) (old new : Solver W) : Type 0 where
+-- a call over names failed, for a full clause buffer only where it is full, and so does each one behind it
+pub record EndsNamesOr {W : Type 0} (full : Type 0) (seen : W → Writer) (e : SolverError) (old new : Solver W) : Type 0 where
   pub going : old.failed ≡ false
   pub failed : new.failed ≡ true
-  pub fault : IsFault e
-  pub breaks : BreaksNames seen e old.core new.core
+  pub fault : IsFaultOr full e
+  pub breaks : BreaksNamesOr full seen e old.core new.core
   pub clock : new.clock ≡ old.clock
+
+-- the same where no clause is stored
+abbrev pub EndsNames : {W : Type 0} → (W → Writer) → SolverError → Solver W → Solver W → Type 0
+EndsNames seen e old new = EndsNamesOr ⊥ seen e old new
 
 -- lines of DRAT are written: they have no assumptions
 abbrev pub IsDrat : {W : Type 0} → (W → Writer) → Solver W → Type 0
@@ -87,7 +91,7 @@ AddsClause seen (Err errors.WitnessVariable) old new user = Refuses old new ((ol
 AddsClause seen (Err errors.NotInDrat) old new user = Refuses old new ((old.failed ≡ false) × IsPastDrat seen old)
 AddsClause seen (Err errors.VariableLimit) old new user = Refuses old new (LacksRoom old user)
 AddsClause seen (Err errors.HasFailed) old new user = Refuses old new (old.failed ≡ true)
-AddsClause seen (Err e) old new user = AreSampled old user × HasRoom old.names (users_in user) × EndsNames seen e old new
+AddsClause seen (Err e) old new user = AreSampled old user × HasRoom old.names (users_in user) × EndsNamesOr (HasFullStore new) seen e old new
 
 -- other assumptions were taken
 pub record Assumed {W : Type 0} (seen : W → Writer) (old new : Solver W) (user : List ℕ) : Type 0 where
@@ -122,4 +126,4 @@ pub record TookIn {W : Type 0} (seen : W → Writer) (old new : Solver W) (user 
 
 abbrev pub TakesIn : {W : Type 0} → (W → Writer) → Result (Unit {0}) SolverError → Solver W → Solver W → List ℕ → Type 0
 TakesIn seen (Ok x) old new user = TookIn seen old new user
-TakesIn seen (Err e) old new user = BreaksNames seen e old.core new.core
+TakesIn seen (Err e) old new user = BreaksNamesOr (HasFullStore new) seen e old.core new.core

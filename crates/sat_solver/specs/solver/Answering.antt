@@ -4,7 +4,8 @@ use Rattle.sat_base.specs.device.Device.{Writer}
 use Rattle.sat_base.specs.steps.Steps.{Step, Model}
 use Rattle.sat_solver.specs.session.ProofView.{Adds, Fails, FailsCheck, session_of}
 use Rattle.sat_solver.specs.search.Failing.{ToldCore}
-use Rattle.sat_solver.specs.search.Going.{IsFault, Went}
+use Rattle.sat_solver.specs.parts.Full.{IsFull}
+use Rattle.sat_solver.specs.search.Going.{IsFaultOr, Went}
 use Rattle.sat_solver.specs.names.Models.{model_to, named_to}
 use Rattle.sat_solver.specs.names.Variables.{names_used, variables_used}
 use Rattle.sat_solver.specs.declared.error.SolverError.{SolverError}
@@ -22,9 +23,9 @@ model_of n c = model_to n c.search.parts.assignment.current (variables_used n)
 abbrev pub line_of : {W : Type 0} → Variables → Core W → List ℕ
 line_of n c = named_to n c.search.parts.assignment.current (names_used n)
 
--- a call failed by what no input decides
+-- a call failed by what no input decides, for a full clause buffer only where it is full
 pub record Breaks {W : Type 0} (seen : W → Writer) (e : SolverError) (a b : Core W) : Type 0 where
-  pub fault : IsFault e
+  pub fault : IsFaultOr (IsFull b.search.parts) e
   pub steps : List Step
   pub went : Went {A = Unit {0}} seen (Err e) steps a.proof b.proof
 

@@ -7,7 +7,8 @@ use Rattle.sat_solver.specs.session.Making.{Took}
 use Rattle.sat_solver.specs.session.ProofView.{steps_of, session_of}
 use Rattle.sat_solver.specs.declared.error.SolverError.{SolverError}
 use Rattle.sat_solver.specs.declared.error.SolverError.TheVariants as errors
-use Rattle.sat_solver.specs.search.Going.{IsFault, Went}
+use Rattle.sat_solver.specs.parts.Full.{IsFull}
+use Rattle.sat_solver.specs.search.Going.{IsFaultOr, Went}
 use Rattle.sat_solver.specs.names.Adding.{named_literal, Images}
 use Rattle.sat_solver.specs.names.Calls.{Does}
 use Rattle.sat_solver.specs.names.Coming.{MayAdd, MayTake}
@@ -42,16 +43,20 @@ pub record TookClause {W : Type 0} (seen : W → Writer) (n n' : Variables) (a b
   pub assumed : (session_of b.proof).assumed ≡ (session_of a.proof).assumed
 
 -- what a call over names may fail of, behind which the solver only fails
-abbrev pub IsNameFault : SolverError → Type 0
-IsNameFault e = IsFault e ⊎ (e ≡ errors.VariableLimit)
+abbrev pub IsNameFaultOr : (full : Type 0) → SolverError → Type 0
+IsNameFaultOr full e = IsFaultOr full e ⊎ (e ≡ errors.VariableLimit)
 
-pub record BreaksNames {W : Type 0} (seen : W → Writer) (e : SolverError) (a b : Core W) : Type 0 where
-  pub fault : IsNameFault e
+pub record BreaksNamesOr {W : Type 0} (full : Type 0) (seen : W → Writer) (e : SolverError) (a b : Core W) : Type 0 where
+  pub fault : IsNameFaultOr full e
   pub steps : List Step
   pub went : Went {A = Unit {0}} seen (Err e) steps a.proof b.proof
 
+-- the same where no clause is stored
+abbrev pub BreaksNames : {W : Type 0} → (W → Writer) → SolverError → Core W → Core W → Type 0
+BreaksNames seen e a b = BreaksNamesOr ⊥ seen e a b
+
 abbrev pub TakesClause : {W : Type 0} → (W → Writer) → Result Bool SolverError → Variables → Variables → Core W → Core W → List ℕ → Type 0
-TakesClause seen r n n' a b user = MatchResult r (TookClause seen n n' a b user) (λ e. BreaksNames seen e a b)
+TakesClause seen r n n' a b user = MatchResult r (TookClause seen n n' a b user) (λ e. BreaksNamesOr (IsFull b.search.parts) seen e a b)
 
 -- assumptions came in, in place of others
 pub record TookAssumptions {W : Type 0} (seen : W → Writer) (n n' : Variables) (a b : Core W) (user : List ℕ) (t : Taken) : Type 0 where

@@ -5,6 +5,7 @@ use Rattle.sat_base.specs.script.Script.{Literal, Among}
 use Rattle.sat_base.specs.steps.Steps.{Step}
 use Rattle.sat_base.specs.values.Clauses.{Valuation, EachTrue}
 use Rattle.sat_checker.specs.Fold.{Holds}
+use Rattle.sat_solver.specs.parts.Full.{IsFull}
 use Rattle.sat_solver.specs.session.ProofView.{steps_of, session_of}
 use Rattle.sat_solver.specs.session.Session.{Session}
 use Rattle.sat_solver.specs.search.Bumping.{AreDecays}
@@ -74,6 +75,10 @@ pub record IsWholeOf {W : Type 0} (c : Core W) (n : Variables) (asked : Taken) (
 -- what holds unless a call failed
 abbrev pub IsWhole : {W : Type 0} → Solver W → Type 0
 IsWhole s = IsWholeOf s.core s.names s.asked s.assumed.items s.told.failed_core.items s.clock.restarts.scale s.state
+
+-- the clause buffer holds more than 2^32-1 words, so that it takes no clause more
+abbrev pub HasFullStore : {W : Type 0} → Solver W → Type 0
+HasFullStore s = IsFull s.core.search.parts
 
 -- a solver that a call may be made of
 abbrev pub IsSolver : {W : Type 0} → Solver W → Type 0

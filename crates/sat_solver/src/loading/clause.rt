@@ -7,7 +7,8 @@ ghost use Rattle.sat_solver.specs.session.Session.{May};
 ghost use Rattle.sat_solver.specs.session.LiveClauses.{with_var};
 ghost use Rattle.sat_solver.specs.session.ProofView.{Keeps, steps_of, session_of};
 ghost use Rattle.sat_solver.specs.joint.Naming.{global_of};
-ghost use Rattle.sat_solver.specs.search.Going.{Goes};
+ghost use Rattle.sat_solver.specs.parts.Full.{IsFull};
+ghost use Rattle.sat_solver.specs.search.Going.{Goes, GoesOr};
 ghost use Rattle.sat_solver.specs.search.Joint.{global_in};
 ghost use Rattle.sat_solver.specs.loading.Loaded.{MayLoad, IsAdded, IsLoaded};
 
@@ -77,7 +78,7 @@ pub fn load_clause<W: CountedWrite + Drop>(
     requires keeps { Keeps proof.old }
     requires added { IsAdded (steps_of proof.old) search.old lits.now }
     requires may { MayLoad search.old lits.now }
-    ensures goes { Goes W.seen result proof.old proof.new (λ left _. IsLoaded left (session_of proof.new) search.old search.new) }
+    ensures goes { GoesOr (IsFull search.new.parts) W.seen result proof.old proof.new (λ left _. IsLoaded left (session_of proof.new) search.old search.new) }
     ensures comes { OnOk result (Comes DeletesAdded (steps_of proof.old) (steps_of proof.new)) }
 {
     make_ready(&mut search.parts, lits);

@@ -1,5 +1,5 @@
 //! The steps of a round.
-ghost use Rattle.std.specs.Prelude.{ℕ, List, ◌≡◌, ◌≢◌, ◌+◌, ◌^◌, ◌<◌, ◌≤◌, ◌⊎◌, OnOk, IfOk, MatchResult, MatchOption, IsTrue, Some, None, true, false, [], ◌∷◌, length, slice_index_or};
+ghost use Rattle.std.specs.Prelude.{ℕ, List, ◌≡◌, ◌≢◌, ◌+◌, ◌^◌, ◌<◌, ◌≤◌, ◌⊎◌, OnOk, IfOk, MatchResult, MatchOption, IsTrue, Some, None, Err, true, false, [], ◌∷◌, length, slice_index_or};
 ghost use Rattle.std.specs.List.{Contains};
 ghost use Rattle.sat_base.specs.values.Literals.{variable};
 ghost use Rattle.sat_store.specs.heap.Vsids.{Queue, may_pick};
@@ -14,6 +14,7 @@ ghost use Rattle.sat_parts.specs.prop.TrailWord.{decided_on};
 ghost use Rattle.sat_solver.specs.parts.Words.{WordExtends, ExtendsFor, Stay, Extends};
 ghost use Rattle.sat_solver.specs.parts.Learned.{IsLearned, IsPending};
 ghost use Rattle.sat_solver.specs.parts.Frame.{Carries, SameClauses, Reordered, Learnt, KeepsTo};
+ghost use Rattle.sat_solver.specs.parts.Full.{IsFull};
 
 use crate::parts::Parts;
 use sat_base::{Lit, Var};
@@ -146,6 +147,7 @@ fn learn_long(parts: &mut Parts, header: ClauseHeader, lits: &[Lit]) -> Result<(
     ensures trail { OnOk result (parts.new.trail ≡ with_lit (slice_index_or lits.now 0 0) parts.old.trail) }
     ensures learnt { OnOk result (Learnt parts.old parts.new header lits.now) }
     ensures stay { OnOk result (Stay parts.old parts.new) }
+    ensures full { result ≡ Err StoreError.StoreFull → IsFull parts.new }
 {
     let cref = add_clause(
         &mut parts.clauses,
@@ -173,6 +175,7 @@ pub fn learn(parts: &mut Parts, header: ClauseHeader, lits: &[Lit]) -> Result<()
     ensures trail { OnOk result (parts.new.trail ≡ with_lit (slice_index_or lits.now 0 0) parts.old.trail) }
     ensures learnt { OnOk result (Learnt parts.old parts.new header lits.now) }
     ensures stay { OnOk result (Stay parts.old parts.new) }
+    ensures full { result ≡ Err StoreError.StoreFull → IsFull parts.new }
 {
     if lits.len() == 1 {
         learn_unit(parts, header, lits);

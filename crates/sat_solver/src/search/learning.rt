@@ -1,17 +1,18 @@
 //! A clause is learned from a conflict: its step is written, and it comes to the others.
-ghost use Rattle.std.specs.Prelude.{ℕ, ◌≡◌, ◌<◌, ◌≤◌, length, map, true, false, OnOk, IfOk};
+ghost use Rattle.std.specs.Prelude.{ℕ, ◌≡◌, ◌<◌, ◌≤◌, length, map, Err, true, false, OnOk, IfOk};
 ghost use Rattle.sat_parts.specs.clause.Glue.{levels_of, different};
 ghost use Rattle.sat_parts.specs.prop.Causes.{falsified};
 ghost use Rattle.sat_solver.specs.session.LiveClauses.{with_var};
 ghost use Rattle.sat_solver.specs.session.ProofView.{Keeps, steps_of, session_of};
 ghost use Rattle.sat_solver.specs.analysis.Derivation.{Learns};
 ghost use Rattle.sat_solver.specs.parts.Round.{AreUnits, IsBased};
+ghost use Rattle.sat_solver.specs.parts.Full.{IsFull};
 ghost use Rattle.sat_solver.specs.parts.Learned.{IsLearned};
 ghost use Rattle.sat_solver.specs.parts.Whole.{state, HoldsBelow, IsRefuted};
 ghost use Rattle.sat_solver.specs.joint.Laws.{named_hashes};
 ghost use Rattle.sat_solver.specs.joint.Fits.{FlagFits};
 ghost use Rattle.sat_solver.specs.search.Bumping.{AreBelow};
-ghost use Rattle.sat_solver.specs.search.Going.{Goes};
+ghost use Rattle.sat_solver.specs.search.Going.{GoesOr};
 ghost use Rattle.sat_solver.specs.search.Grading.{graded, AreInvolved};
 ghost use Rattle.sat_solver.specs.search.Joint.{global_in, IsFree};
 ghost use Rattle.sat_solver.specs.search.Learning.{Learned, Taken, Rated, IsRated, IsRaised};
@@ -66,6 +67,7 @@ fn take_in(search: &mut Search, header: ClauseHeader, level: usize) -> Result<()
     ensures flags { search.new.flags.flags.items ≡ search.old.flags.flags.items }
     ensures taken { OnOk result (Taken search.old.parts search.new.parts header search.old.analysis.clause level) }
     ensures rated { OnOk result (Rated search.old.parts search.old.activity search.old.analysis header search.new.parts search.new.activity) }
+    ensures full { result ≡ Err StoreError.StoreFull → IsFull search.new.parts }
 {
     undo(&mut search.parts, level);
     bump_clauses(
@@ -131,7 +133,7 @@ fn learn_clause<W: CountedWrite + Drop>(
     requires keeps { Keeps proof.old }
     requires stopped { IsStopped (session_of proof.old) search.old conflict.now }
     requires above { 0 < length search.old.parts.trail.starts }
-    ensures learned { Goes W.seen result proof.old proof.new (λ _ steps. Learned (steps_of proof.old) steps (session_of proof.new) search.old search.new) }
+    ensures learned { GoesOr (IsFull search.new.parts) W.seen result proof.old proof.new (λ _ steps. Learned (steps_of proof.old) steps (session_of proof.new) search.old search.new) }
     ensures met { OnOk result (AreBelow search.new.analysis.met (length search.new.parts.assignment.current)) }
     ensures rated { OnOk result (IsRated search.old search.new) }
 {
@@ -159,7 +161,7 @@ pub fn learn_from<W: CountedWrite + Drop>(
     requires keeps { Keeps proof.old }
     requires stopped { IsStopped (session_of proof.old) search.old conflict.now }
     requires above { 0 < length search.old.parts.trail.starts }
-    ensures learned { Goes W.seen result proof.old proof.new (λ _ steps. Learned (steps_of proof.old) steps (session_of proof.new) search.old search.new) }
+    ensures learned { GoesOr (IsFull search.new.parts) W.seen result proof.old proof.new (λ _ steps. Learned (steps_of proof.old) steps (session_of proof.new) search.old search.new) }
     ensures raised { OnOk result (IsRaised search.old search.new) }
 {
     learn_clause(proof, search, conflict)?;

@@ -1,11 +1,11 @@
 //! Clauses that a user adds.
 ghost use Rattle.std.specs.Prelude.{◌≡◌, true, false, IfErr, IsErrOf};
 ghost use Rattle.sat_solver.specs.names.Room.{HasRoom, users_in};
-ghost use Rattle.sat_solver.specs.search.Going.{IsFault};
+ghost use Rattle.sat_solver.specs.search.Going.{IsFault, IsFaultOr};
 ghost use Rattle.sat_solver.specs.names.Adding.{NoWitness};
 ghost use Rattle.sat_solver.specs.declared.solver.state.State.TheVariants.{Unsat};
 ghost use Rattle.sat_solver.specs.solver.Adding.{AddsClause, IsPastDrat, TakesIn};
-ghost use Rattle.sat_solver.specs.solver.Whole.{IsSolver, IsWhole};
+ghost use Rattle.sat_solver.specs.solver.Whole.{HasFullStore, IsSolver, IsWhole};
 
 use crate::SolverError;
 use crate::loading::faults::name_fault;
@@ -38,7 +38,7 @@ impl<W: CountedWrite + Drop> Solver<W> {
         requires whole { IsWhole self.old }
         requires sampled { NoWitness self.old.names lits.now }
         ensures takes { TakesIn W.seen result self.old self.new lits.now }
-        ensures room { HasRoom self.old.names (users_in lits.now) → IfErr result IsFault }
+        ensures room { HasRoom self.old.names (users_in lits.now) → IfErr result (IsFaultOr (HasFullStore self.new)) }
         ensures assumed { self.new.assumed ≡ self.old.assumed }
         ensures clock { self.new.clock ≡ self.old.clock }
     {

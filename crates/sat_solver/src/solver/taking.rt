@@ -2,7 +2,8 @@
 ghost use Rattle.sat_solver.specs.names.Adding.{NoWitness};
 ghost use Rattle.std.specs.Prelude.{◌≡◌, IfErr};
 ghost use Rattle.sat_solver.specs.names.Room.{HasRoom, users_in};
-ghost use Rattle.sat_solver.specs.search.Going.{IsFault};
+ghost use Rattle.sat_solver.specs.parts.Full.{IsFull};
+ghost use Rattle.sat_solver.specs.search.Going.{IsFault, IsFaultOr};
 ghost use Rattle.sat_solver.specs.session.ProofView.{session_of};
 ghost use Rattle.sat_solver.specs.solver.Joined.{IsJoined};
 ghost use Rattle.sat_solver.specs.solver.Taking.{TakesClause, TakesAssumptions};
@@ -38,7 +39,7 @@ pub fn take_clause<W: CountedWrite + Drop>(
     requires joined { IsJoined names.old core.old }
     requires sampled { NoWitness names.old lits.now }
     ensures takes { TakesClause W.seen result names.old names.new core.old core.new lits.now }
-    ensures room { HasRoom names.old (users_in lits.now) → IfErr result IsFault }
+    ensures room { HasRoom names.old (users_in lits.now) → IfErr result (IsFaultOr (IsFull core.new.search.parts)) }
 {
     let added = add_clause(names, &mut core.proof, lits, &mut loading.taken);
     let both_signs = match added {

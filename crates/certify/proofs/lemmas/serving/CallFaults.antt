@@ -1,5 +1,5 @@
 -- What the calls of a run's solver fail of.
-use Rattle.std.proofs.Common.{◌≡◌, ◌∙◌, inr, true, false, None, Some, List, [], Err, refl, sym, subst}
+use Rattle.std.proofs.Common.{◌≡◌, ◌∙◌, inl, inr, true, false, None, Some, List, [], Err, refl, sym, subst}
 use Rattle.std.specs.Prelude.{ℕ}
 use Rattle.sat_base.specs.device.Device.{Writer}
 use Rattle.sat_base.specs.script.Script.{Among}
@@ -10,10 +10,9 @@ use Rattle.sat_solver.specs.declared.error.SolverError.TheVariants as errors
 use Rattle.sat_solver.specs.declared.solver.Solver.{Solver}
 use Rattle.sat_solver.specs.names.Expected.{Expected}
 use Rattle.sat_solver.specs.session.Making.{Took}
-use Rattle.sat_solver.specs.solver.Adding.{AddsClause, Assumes, EndsNames, HasWitness}
+use Rattle.sat_solver.specs.solver.Adding.{AddsClause, Assumes, EndsNamesOr, HasWitness}
 use Rattle.sat_solver.specs.solver.Naming.{ChangesMode, IsAsked}
-use Rattle.sat_solver.specs.solver.Taking.{IsNameFault}
-use Rattle.certify.specs.serving.Calls.{FailsSolver, IsAllowed, IsReady, fault_for, proof_in}
+use Rattle.certify.specs.serving.Calls.{FailsSolver, IsAllowed, IsReady, IsSolverFault, fault_for, proof_in}
 use Rattle.certify.proofs.lemmas.serving.SessionCalls.{took_none}
 
 apart : true ≡ false → ⊥
@@ -23,7 +22,7 @@ none_some : (r : Refusal) → None ≡ Some r → ⊥
 none_some r e = cc
 
 module _ {C : Type 0} (seen : C → Writer) (a b : Solver C) where
-  ends : (e : SolverError) → EndsNames seen e a b → FailsSolver seen (fault_for e) a b
+  ends : {full : Type 0} (e : SolverError) → EndsNamesOr full seen e a b → FailsSolver seen (fault_for e) a b
   ends errors.Interrupted h = (h.breaks.steps, h.breaks.went)
   ends (errors.ProofProcessorError cause) h = (h.breaks.steps, h.breaks.went.adds)
   ends (errors.ProofIoError cause) h = (h.breaks.steps, h.breaks.went)
@@ -81,7 +80,7 @@ module _ {C : Type 0} (seen : C → Writer) (a b : Solver C) where
     assume_fails errors.Malformed h = ends errors.Malformed h.2
     assume_fails errors.OutOfRange h = ends errors.OutOfRange h.2
 
-    pub clause_fault : (e : SolverError) → AddsClause seen (Err e) a b user → IsNameFault e
+    pub clause_fault : (e : SolverError) → AddsClause seen (Err e) a b user → IsSolverFault e
     clause_fault errors.WitnessVariable h = absurd (named h.cause.1)
     clause_fault errors.NotInDrat h = absurd (apart (sym h.cause.1.0 ∙ ready.no_lines seen))
     clause_fault errors.HasFailed h = absurd (apart (sym h.cause ∙ ready.going))
@@ -91,14 +90,14 @@ module _ {C : Type 0} (seen : C → Writer) (a b : Solver C) where
     clause_fault errors.OutOfMemory h = h.2.breaks.fault
     clause_fault errors.AssumedVariable h = h.2.breaks.fault
     clause_fault errors.TooLate h = h.2.breaks.fault
-    clause_fault errors.StoreFull h = h.2.breaks.fault
+    clause_fault errors.StoreFull h = inl tt
     clause_fault errors.VariableLimit h = inr refl
     clause_fault errors.CounterEnd h = h.2.breaks.fault
     clause_fault errors.Read h = h.2.breaks.fault
     clause_fault errors.Malformed h = h.2.breaks.fault
     clause_fault errors.OutOfRange h = h.2.breaks.fault
 
-    pub assume_fault : (e : SolverError) → Assumes seen (Err e) a b user → IsNameFault e
+    pub assume_fault : (e : SolverError) → Assumes seen (Err e) a b user → IsSolverFault e
     assume_fault errors.WitnessVariable h = absurd (named h.cause.1)
     assume_fault errors.NotInDrat h = absurd (apart (sym h.cause.1 ∙ ready.no_lines seen))
     assume_fault errors.HasFailed h = absurd (apart (sym h.cause ∙ ready.going))
@@ -108,7 +107,7 @@ module _ {C : Type 0} (seen : C → Writer) (a b : Solver C) where
     assume_fault errors.OutOfMemory h = h.2.breaks.fault
     assume_fault errors.AssumedVariable h = h.2.breaks.fault
     assume_fault errors.TooLate h = h.2.breaks.fault
-    assume_fault errors.StoreFull h = h.2.breaks.fault
+    assume_fault errors.StoreFull h = inl tt
     assume_fault errors.VariableLimit h = inr refl
     assume_fault errors.CounterEnd h = h.2.breaks.fault
     assume_fault errors.Read h = h.2.breaks.fault
@@ -137,7 +136,7 @@ module _ {C : Type 0} (seen : C → Writer) (a b : Solver C) where
     name_fails errors.Malformed h = ends errors.Malformed h.2
     name_fails errors.OutOfRange h = ends errors.OutOfRange h.2
 
-    pub name_fault : (e : SolverError) → ChangesMode seen (Err e) a b user judge due May → IsNameFault e
+    pub name_fault : (e : SolverError) → ChangesMode seen (Err e) a b user judge due May → IsSolverFault e
     name_fault errors.AssumedVariable h = absurd (none_asked user free h.cause.1)
     name_fault errors.HasFailed h = absurd (apart (sym h.cause ∙ ready.going))
     name_fault errors.Interrupted h = h.2.breaks.fault
@@ -147,7 +146,7 @@ module _ {C : Type 0} (seen : C → Writer) (a b : Solver C) where
     name_fault errors.WitnessVariable h = h.2.breaks.fault
     name_fault errors.TooLate h = h.2.breaks.fault
     name_fault errors.NotInDrat h = h.2.breaks.fault
-    name_fault errors.StoreFull h = h.2.breaks.fault
+    name_fault errors.StoreFull h = inl tt
     name_fault errors.VariableLimit h = inr refl
     name_fault errors.CounterEnd h = h.2.breaks.fault
     name_fault errors.Read h = h.2.breaks.fault

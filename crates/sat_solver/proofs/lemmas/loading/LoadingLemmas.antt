@@ -9,7 +9,7 @@ use Rattle.sat_solver.specs.Recovery.{failure_of}
 use Rattle.sat_solver.specs.declared.session.proof.Proof.{Proof}
 use Rattle.sat_solver.specs.session.ProofView.{Keeps}
 use Rattle.sat_solver.proofs.lemmas.session.ProofLemmas.{adds_none}
-use Rattle.sat_solver.specs.search.Going.{Goes}
+use Rattle.sat_solver.specs.search.Going.{GoesOr}
 use Rattle.sat_parts.specs.prop.State.{Agrees}
 use Rattle.sat_solver.specs.declared.parts.Parts.{Parts}
 use Rattle.sat_solver.specs.declared.parts.load.Loaded.{Loaded}
@@ -99,9 +99,9 @@ leaves_both : (s t u : Session) → Leaves s t → Leaves t u → Leaves s u
 leaves_both s t u x y = record { assumed = y.assumed ∙ x.assumed; names = λ v. y.names v ∙ x.names v }
 
 -- nothing was written, and then the clause buffer refused
-pub goes_unstored : {A W : Type 0} (seen : W → Writer) (e : StoreError) (p : Proof W) (P : A → List Step → Type 0) → Keeps p → Goes seen (Err (failure_of e)) p p P
-goes_unstored seen stores.StoreFull p P keeps = record { steps = []; went = adds_none seen p; searched = tt; keeps = keeps; ends = tt }
-goes_unstored seen stores.OutOfMemory p P keeps = record { steps = []; went = adds_none seen p; searched = tt; keeps = keeps; ends = tt }
+pub goes_unstored : {A W full : Type 0} (seen : W → Writer) (e : StoreError) (p : Proof W) (P : A → List Step → Type 0) → Keeps p → (e ≡ stores.StoreFull → full) → GoesOr full seen (Err (failure_of e)) p p P
+goes_unstored seen stores.StoreFull p P keeps f = record { steps = []; went = adds_none seen p; searched = tt; keeps = keeps; ends = f refl }
+goes_unstored seen stores.OutOfMemory p P keeps f = record { steps = []; went = adds_none seen p; searched = tt; keeps = keeps; ends = tt }
 
 -- lists that steps are made of don't matter
 loaded_scratch : (s : Session) (c c' : Search) (x : Scratch) → IsLoaded true s c c' → IsLoaded true s c (record c' { scratch = x })

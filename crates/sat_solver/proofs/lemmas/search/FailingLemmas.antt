@@ -106,7 +106,7 @@ module _ {W : Type 0} (seen : W → Writer) (a b : Proof W) (c c' : Search) wher
   pub tells_broken : (e : ProofError) (core hashes : List ℕ) → Keeps b → Records {T = Unit {0}} seen (Err e) (FailedAssumptions core hashes ∷ []) a b → TellsCore seen (Err (fault_of e)) a b c c'
   tells_broken (Write cause) core hashes keeps fails = record { steps = FailedAssumptions core hashes ∷ []; went = fails; core = (refl, tt); keeps = keeps; ends = tt }
   tells_broken OutOfMemory core hashes keeps adds = record { steps = []; went = adds; core = tt; keeps = keeps; ends = tt }
-  tells_broken (Check fault) core hashes keeps fails = record { steps = FailedAssumptions core hashes ∷ []; went = went_checked seen (Unit {0}) fault (FailedAssumptions core hashes ∷ []) a b fails; core = (refl, tt); keeps = keeps; ends = fault_checked seen fault }
+  tells_broken (Check fault) core hashes keeps fails = record { steps = FailedAssumptions core hashes ∷ []; went = went_checked seen (Unit {0}) fault (FailedAssumptions core hashes ∷ []) a b fails; core = (refl, tt); keeps = keeps; ends = fault_checked seen _ fault }
 
   -- what is told stands
   pub tells_core : Keeps b → (core : List ℕ) → core ≡ map (with_var (global_in c)) c'.analysis.core → (hashes : List ℕ) → hashes ≡ causes_hashes c.parts c'.analysis.used → Adds seen (FailedAssumptions core hashes ∷ []) a b →

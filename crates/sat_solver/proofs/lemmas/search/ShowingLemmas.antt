@@ -132,7 +132,7 @@ module _ {W : Type 0} (seen : W → Writer) (a b : Proof W) (c c' : Search) wher
   pub model_broken : (e : ProofError) (ls : List ℕ) → Keeps b → Records {T = Unit {0}} seen (Err e) (Model ls ∷ []) a b → TellsModel seen (Err (fault_of e)) a b c c'
   model_broken (Write cause) ls keeps fails = record { steps = Model ls ∷ []; went = fails; model = (refl, tt); keeps = keeps; ends = tt }
   model_broken OutOfMemory ls keeps adds = record { steps = []; went = adds; model = tt; keeps = keeps; ends = tt }
-  model_broken (Check fault) ls keeps fails = record { steps = Model ls ∷ []; went = went_checked seen (Unit {0}) fault (Model ls ∷ []) a b fails; model = (refl, tt); keeps = keeps; ends = fault_checked seen fault }
+  model_broken (Check fault) ls keeps fails = record { steps = Model ls ∷ []; went = went_checked seen (Unit {0}) fault (Model ls ∷ []) a b fails; model = (refl, tt); keeps = keeps; ends = fault_checked seen _ fault }
 
   -- what is told stands
   pub model_told : Keeps b → (ls : List ℕ) → ls ≡ map (with_var (global_in c)) (true_lits 0 c.parts.assignment.current) → Adds seen (Model ls ∷ []) a b → IsSearch (session_of a) c →

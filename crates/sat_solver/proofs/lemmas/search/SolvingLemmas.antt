@@ -4,7 +4,7 @@ use Rattle.std.specs.Prelude.{OnOk, IfOk, IfErr, MatchOption, Option, None, Some
 use Rattle.sat_base.specs.device.Device.{Writer}
 use Rattle.sat_base.specs.steps.Steps.{Step}
 use Rattle.sat_parts.specs.prop.TrailWord.{Letter}
-use Rattle.sat_solver.specs.session.ProofView.{Adds, Keeps, steps_of, session_of}
+use Rattle.sat_solver.specs.session.ProofView.{Adds, steps_of, session_of}
 use Rattle.sat_solver.specs.session.Session.{Session, session_after}
 use Rattle.sat_solver.proofs.lemmas.session.ProofLemmas.{adds_none, adds_more}
 use Rattle.sat_solver.specs.session.Coming.{Comes, EndsAtUnsat}
@@ -28,10 +28,11 @@ use Rattle.sat_solver.specs.search.Ending.{RoundShares, EndsRound}
 use Rattle.sat_solver.specs.solver.Joined.{IsJoined}
 use Rattle.sat_solver.proofs.lemmas.solver.AnsweredLemmas.{joined_at}
 use Rattle.sat_solver.specs.simplify.Freed.{KeepsAsked}
-use Rattle.sat_solver.specs.simplify.Passes.{Passes, Falls}
+use Rattle.sat_solver.specs.simplify.Passes.{Passes, FallsOr}
 use Rattle.sat_solver.proofs.lemmas.simplify.FreedLemmas.{asked_refl, asked_trans}
-use Rattle.sat_solver.proofs.lemmas.simplify.PassesLemmas.{passes_goes, falls_goes, falls_later}
+use Rattle.sat_solver.proofs.lemmas.simplify.PassesLemmas.{passes_goes, falls_goes, falls_later, falls_or}
 use Rattle.sat_solver.specs.declared.search.work.Search.{Search}
+use Rattle.sat_solver.specs.parts.Full.{IsFull}
 use Rattle.sat_solver.specs.search.Going.{Goes}
 use Rattle.sat_solver.specs.search.Joint.{assumed_in, Moved, global_in, IsSearch}
 use Rattle.sat_solver.specs.search.Learning.{LastAdvances}
@@ -113,7 +114,7 @@ module _ {W : Type 0} (seen : W → Writer) where
     }
 
     -- a fault behind what went well
-    falls : (e : SolverError) → Falls seen e a.proof b.proof → (s : Core W) (n : Variables) (k : ℕ) → Gone seen s n k a na → Broke seen s e b
+    falls : (e : SolverError) → FallsOr (IsFull b.search.parts) seen e a.proof b.proof → (s : Core W) (n : Variables) (k : ℕ) → Gone seen s n k a na → Broke seen s e b
     falls e f s n k gone = falls_later seen e s.proof a.proof b.proof (gone.steps, gone.adds) f
 
   -- REDUCTIONS
@@ -138,7 +139,7 @@ module _ {W : Type 0} (seen : W → Writer) where
 
     pub reduced_fails : (r : Result (Unit {0}) SolverError) → Reduction r → IfErr r (λ e. (s : Core W) (m : Variables) (k : ℕ) → Gone seen s m k a n → Broke seen s e b)
     reduced_fails (Ok x) g = tt
-    reduced_fails (Err e) g = λ s m k gone. falls a b n n config e (falls_goes seen e a.proof b.proof (λ _ _. Reduced (session_of b.proof) a.search b.search) g) s m k gone
+    reduced_fails (Err e) g = λ s m k gone. falls a b n n config e (falls_or seen (IsFull b.search.parts) e a.proof b.proof (falls_goes seen e a.proof b.proof (λ _ _. Reduced (session_of b.proof) a.search b.search) g)) s m k gone
 
   -- ROUNDS
 

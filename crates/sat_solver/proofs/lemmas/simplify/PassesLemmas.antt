@@ -1,44 +1,43 @@
 -- Names, proof and search stand together from call to call.
-use Rattle.std.proofs.Common.{ℕ, ◌≡◌, ◌<◌, ◌∙◌, length, Result, Ok, Err, List, [], ◌++◌, Some, None, refl, sym, ap, subst}
+use Rattle.std.proofs.Common.{ℕ, ◌≡◌, ◌<◌, ◌∙◌, length, Ok, Err, List, [], ◌++◌, None, refl, sym, ap, subst}
 use Rattle.std.specs.List.{Contains}
 use Rattle.sat_base.specs.device.Device.{Writer}
 use Rattle.sat_base.specs.steps.Steps.{Step}
-use Rattle.sat_parts.specs.clause.Db.{Db, live_refs}
+use Rattle.sat_parts.specs.clause.Db.{live_refs}
 use Rattle.sat_parts.specs.clause.Stored.{lit_of}
-use Rattle.sat_parts.specs.prop.Values.{value_of, IsOpenLit}
+use Rattle.sat_parts.specs.prop.Values.{value_of}
 use Rattle.sat_base.specs.values.Literals.{variable}
 use Rattle.sat_checker.specs.LiteralSets.{mentions}
 use Rattle.sat_solver.specs.session.Making.{Took}
 use Rattle.sat_solver.specs.names.Taking.{NotTaken}
 use Rattle.sat_solver.specs.session.ProofView.{Adds, Keeps, steps_of, session_of}
-use Rattle.sat_solver.specs.session.Session.{Session, MayAll, session_after}
+use Rattle.sat_solver.specs.session.Session.{MayAll}
 use Rattle.sat_solver.specs.declared.session.proof.Proof.{Proof}
 use Rattle.sat_solver.proofs.lemmas.session.ProofLemmas.{adds_none, adds_more, fails_later, check_later}
-use Rattle.sat_solver.proofs.lemmas.search.GoingLemmas.{went_checked, fault_checked}
+use Rattle.sat_solver.proofs.lemmas.search.GoingLemmas.{went_checked, fault_checked, fault_or}
 use Rattle.sat_solver.specs.declared.error.SolverError.{SolverError}
 use Rattle.sat_solver.specs.declared.error.SolverError.TheVariants as errors
 use Rattle.sat_solver.specs.names.Calls.{Stands, DoesNothing}
-use Rattle.sat_solver.specs.names.Failing.{IsFailure, CameTo, Came}
+use Rattle.sat_solver.specs.names.Failing.{IsFailure, CameTo}
 use Rattle.sat_solver.specs.declared.names.error.NameError.{NameError}
 use Rattle.sat_solver.specs.declared.names.error.NameError.TheVariants as names
 use Rattle.sat_solver.specs.declared.names.Variables.{Variables}
 use Rattle.sat_solver.proofs.lemmas.names.Doing.{does_none, does_both}
-use Rattle.sat_solver.specs.declared.parts.Parts.{Parts}
 use Rattle.sat_solver.specs.parts.Frame.{SameClauses}
 use Rattle.sat_solver.specs.parts.Words.{ExtendsFor}
 use Rattle.sat_solver.proofs.lemmas.parts.WordSteps.{extends_refl, extends_after}
-use Rattle.sat_solver.specs.search.Going.{IsFault, Went, AreSearched, Goes}
+use Rattle.sat_solver.specs.search.Going.{IsFaultOr, Went, Goes, GoesOr}
 use Rattle.sat_solver.specs.search.Joint.{assumed_in, IsSearch, Moved}
 use Rattle.sat_solver.specs.declared.search.work.Search.{Search}
 use Rattle.sat_solver.proofs.lemmas.search.TurnLemmas.{moved_refl, moved_trans}
 use Rattle.sat_solver.specs.loading.Shared.{SharesIndices}
 use Rattle.sat_solver.specs.loading.Faults.{told_as}
-use Rattle.sat_solver.proofs.lemmas.solver.BehindLemmas.{stands_behind, nothing_behind}
+use Rattle.sat_solver.proofs.lemmas.solver.BehindLemmas.{nothing_behind}
 use Rattle.sat_solver.proofs.lemmas.solver.TellingLemmas.{shares_moved}
 use Rattle.sat_solver.specs.simplify.Flat.{IsFlat, LightensAll}
 use Rattle.sat_solver.specs.simplify.Freed.{MayFree, FreesSome, AreLeft}
 use Rattle.sat_solver.specs.simplify.Looks.{IsOpenAt}
-use Rattle.sat_solver.specs.simplify.Passes.{StandTogether, Passes, Falls, Simplified}
+use Rattle.sat_solver.specs.simplify.Passes.{StandTogether, Passes, Falls, FallsOr, Simplified}
 use Rattle.sat_solver.proofs.lemmas.simplify.FreedLemmas.{asked_refl, asked_trans}
 use Rattle.sat_solver.proofs.lemmas.simplify.LighterLemmas.{goes_leaves, flat_on}
 
@@ -101,38 +100,42 @@ module _ {W : Type 0} (seen : W → Writer) where
 
   -- FAULTS
 
-  pub falls_goes : (e : SolverError) (p q : Proof W) (P : Unit {0} → List Step → Type 0) → Goes {A = Unit {0}} seen (Err e) p q P → Falls seen e p q
+  pub falls_goes : {full : Type 0} (e : SolverError) (p q : Proof W) (P : Unit {0} → List Step → Type 0) → GoesOr {A = Unit {0}} full seen (Err e) p q P → FallsOr full seen e p q
   falls_goes e p q P g = record { fault = g.ends; steps = g.steps; went = g.went }
+
+  -- what goes wrong where no clause is stored may go wrong where one is
+  pub falls_or : (full : Type 0) (e : SolverError) (p q : Proof W) → Falls seen e p q → FallsOr full seen e p q
+  falls_or full e p q h = record { fault = fault_or full e h.fault; steps = h.steps; went = h.went }
 
   pub falls_starved : (p : Proof W) → Falls seen errors.OutOfMemory p p
   falls_starved p = record { fault = tt; steps = []; went = adds_none seen p }
 
-  went_later : (xs ys : List Step) (p q r : Proof W) → Adds seen xs p q → (e : SolverError) → IsFault e → Went {A = Unit {0}} seen (Err e) ys q r → Went {A = Unit {0}} seen (Err e) (ys ++ xs) p r
-  went_later xs ys p q r adds errors.OutOfMemory f w = adds_more seen xs ys p q r adds w
-  went_later xs ys p q r adds errors.StoreFull f w = adds_more seen xs ys p q r adds w
-  went_later xs ys p q r adds (errors.ProofIoError cause) f w = fails_later seen xs ys p q r adds w
-  went_later xs ys p q r adds errors.Interrupted f w = absurd f
-  went_later xs ys p q r adds (errors.ProofProcessorError cause) f w = check_later seen xs ys p q r adds w
-  went_later xs ys p q r adds errors.WitnessVariable f w = absurd f
-  went_later xs ys p q r adds errors.AssumedVariable f w = absurd f
-  went_later xs ys p q r adds errors.TooLate f w = absurd f
-  went_later xs ys p q r adds errors.NotInDrat f w = absurd f
-  went_later xs ys p q r adds errors.VariableLimit f w = absurd f
-  went_later xs ys p q r adds errors.CounterEnd f w = check_later seen xs ys p q r adds w
-  went_later xs ys p q r adds errors.HasFailed f w = absurd f
-  went_later xs ys p q r adds errors.Read f w = absurd f
-  went_later xs ys p q r adds errors.Malformed f w = absurd f
-  went_later xs ys p q r adds errors.OutOfRange f w = absurd f
+  went_later : (full : Type 0) (xs ys : List Step) (p q r : Proof W) → Adds seen xs p q → (e : SolverError) → IsFaultOr full e → Went {A = Unit {0}} seen (Err e) ys q r → Went {A = Unit {0}} seen (Err e) (ys ++ xs) p r
+  went_later full xs ys p q r adds errors.OutOfMemory f w = adds_more seen xs ys p q r adds w
+  went_later full xs ys p q r adds errors.StoreFull f w = adds_more seen xs ys p q r adds w
+  went_later full xs ys p q r adds (errors.ProofIoError cause) f w = fails_later seen xs ys p q r adds w
+  went_later full xs ys p q r adds errors.Interrupted f w = absurd f
+  went_later full xs ys p q r adds (errors.ProofProcessorError cause) f w = check_later seen xs ys p q r adds w
+  went_later full xs ys p q r adds errors.WitnessVariable f w = absurd f
+  went_later full xs ys p q r adds errors.AssumedVariable f w = absurd f
+  went_later full xs ys p q r adds errors.TooLate f w = absurd f
+  went_later full xs ys p q r adds errors.NotInDrat f w = absurd f
+  went_later full xs ys p q r adds errors.VariableLimit f w = absurd f
+  went_later full xs ys p q r adds errors.CounterEnd f w = check_later seen xs ys p q r adds w
+  went_later full xs ys p q r adds errors.HasFailed f w = absurd f
+  went_later full xs ys p q r adds errors.Read f w = absurd f
+  went_later full xs ys p q r adds errors.Malformed f w = absurd f
+  went_later full xs ys p q r adds errors.OutOfRange f w = absurd f
 
   -- behind what went well
-  pub falls_later : (e : SolverError) (p q r : Proof W) → Took seen p q → Falls seen e q r → Falls seen e p r
-  falls_later e p q r took f = record { fault = f.fault; steps = f.steps ++ took.0; went = went_later took.0 f.steps p q r took.1 e f.fault f.went }
+  pub falls_later : {full : Type 0} (e : SolverError) (p q r : Proof W) → Took seen p q → FallsOr full seen e q r → FallsOr full seen e p r
+  falls_later {full} e p q r took f = record { fault = f.fault; steps = f.steps ++ took.0; went = went_later full took.0 f.steps p q r took.1 e f.fault f.went }
 
   -- a call over names
   pub falls_names : (e : NameError) (p q : Proof W) → IsFailure e → ((w : Proof W) → Took seen w p → CameTo (Took seen) (NotTaken seen) w e q) → Falls seen (told_as e) p q
   falls_names names.OutOfMemory p q f came = (let t = came p ([], adds_none seen p) in record { fault = tt; steps = t.0; went = t.1 })
   falls_names (names.Write cause) p q f came = (let t = came p ([], adds_none seen p) in record { fault = tt; steps = t.0; went = t.1 })
-  falls_names (names.Check fault) p q f came = (let t = came p ([], adds_none seen p) in record { fault = fault_checked seen fault; steps = t.0; went = went_checked seen (Unit {0}) fault t.0 p q t.1 })
+  falls_names (names.Check fault) p q f came = (let t = came p ([], adds_none seen p) in record { fault = fault_checked seen _ fault; steps = t.0; went = went_checked seen (Unit {0}) fault t.0 p q t.1 })
   falls_names names.WitnessVariable p q f came = absurd f
   falls_names names.AssumedVariable p q f came = absurd f
   falls_names names.VariableLimit p q f came = absurd f

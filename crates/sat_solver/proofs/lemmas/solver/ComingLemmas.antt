@@ -23,9 +23,9 @@ use Rattle.sat_solver.specs.declared.solver.Solver.{Solver}
 use Rattle.sat_solver.specs.declared.solver.state.State.{State}
 use Rattle.sat_solver.specs.declared.solver.state.State.TheVariants as states
 use Rattle.sat_solver.specs.declared.solver.taking.Loading.{Loading}
-use Rattle.sat_solver.specs.search.Going.{IsFault}
-use Rattle.sat_solver.specs.solver.Taking.{TookClause, TookAssumptions, BreaksNames}
-use Rattle.sat_solver.specs.solver.Whole.{IsWhole, IsWholeOf, StateSays, GoesOn, steps_in}
+use Rattle.sat_solver.specs.search.Going.{IsFault, IsFaultOr}
+use Rattle.sat_solver.specs.solver.Taking.{TookClause, TookAssumptions, BreaksNames, BreaksNamesOr}
+use Rattle.sat_solver.specs.solver.Whole.{HasFullStore, IsWhole, IsWholeOf, StateSays, GoesOn, steps_in}
 use Rattle.sat_solver.specs.solver.Adding.{TookIn, with_added, due_for_clause, Forgets, AreSampled, AddsClause, Assumed, Assumes, due_for_asked}
 use Rattle.sat_solver.specs.search.Bumping.{AreDecays}
 use Rattle.sat_solver.specs.solver.Asking.{AskedIn}
@@ -212,7 +212,7 @@ module _ {W : Type 0} (seen : W → Writer) (s : Solver W) (whole : IsWhole s) (
 -- FAULTS
 
 -- a call over a clause failed
-pub adding_ends : {W : Type 0} (seen : W → Writer) (e : SolverError) (s new : Solver W) (user : List ℕ) → s.failed ≡ false → AreSampled s user → HasRoom s.names (users_in user) → IsFault e → BreaksNames seen e s.core new.core → new.clock ≡ s.clock → new.failed ≡ true → AddsClause seen (Err e) s new user
+pub adding_ends : {W : Type 0} (seen : W → Writer) (e : SolverError) (s new : Solver W) (user : List ℕ) → s.failed ≡ false → AreSampled s user → HasRoom s.names (users_in user) → IsFaultOr (HasFullStore new) e → BreaksNamesOr (HasFullStore new) seen e s.core new.core → new.clock ≡ s.clock → new.failed ≡ true → AddsClause seen (Err e) s new user
 adding_ends seen errors.OutOfMemory s new user g w r x b k f = (w, r, record { going = g; failed = f; fault = x; breaks = b; clock = k })
 adding_ends seen errors.StoreFull s new user g w r x b k f = (w, r, record { going = g; failed = f; fault = x; breaks = b; clock = k })
 adding_ends seen (errors.ProofIoError cause) s new user g w r x b k f = (w, r, record { going = g; failed = f; fault = x; breaks = b; clock = k })
@@ -232,7 +232,7 @@ adding_ends seen errors.OutOfRange s new user g w r x b k f = absurd x
 -- or one over assumptions
 pub assuming_ends : {W : Type 0} (seen : W → Writer) (e : SolverError) (s new : Solver W) (user : List ℕ) → s.failed ≡ false → AreSampled s user → HasRoom s.names (users_in user) → IsFault e → BreaksNames seen e s.core new.core → new.clock ≡ s.clock → new.failed ≡ true → Assumes seen (Err e) s new user
 assuming_ends seen errors.OutOfMemory s new user g w r x b k f = (w, r, record { going = g; failed = f; fault = x; breaks = b; clock = k })
-assuming_ends seen errors.StoreFull s new user g w r x b k f = (w, r, record { going = g; failed = f; fault = x; breaks = b; clock = k })
+assuming_ends seen errors.StoreFull s new user g w r x b k f = absurd x
 assuming_ends seen (errors.ProofIoError cause) s new user g w r x b k f = (w, r, record { going = g; failed = f; fault = x; breaks = b; clock = k })
 assuming_ends seen errors.VariableLimit s new user g w r x b k f = absurd x
 assuming_ends seen errors.Interrupted s new user g w r x b k f = absurd x

@@ -9,7 +9,8 @@ use Rattle.sat_solver.specs.declared.error.SolverError.{SolverError}
 use Rattle.sat_solver.specs.declared.error.SolverError.TheVariants as errors
 use Rattle.sat_solver.specs.declared.names.Variables.{Variables}
 use Rattle.sat_solver.specs.declared.search.solving.Core.{Core}
-use Rattle.sat_solver.specs.search.Going.{IsFault, Went}
+use Rattle.sat_solver.specs.parts.Full.{IsFull}
+use Rattle.sat_solver.specs.search.Going.{IsFaultOr, Went}
 use Rattle.sat_solver.specs.search.Solving.{Ended, Broke}
 use Rattle.sat_solver.specs.declared.solver.state.State.{State}
 use Rattle.sat_solver.specs.declared.solver.state.State.TheVariants as states
@@ -49,7 +50,7 @@ module _ {W : Type 0} (seen : W → Writer) (n m : Variables) (a : Core W) where
   pub breaks_told : (outcome : Outcome) (e : SolverError) (mid b : Core W) → Ended seen a n outcome mid m → Breaks seen e mid b → Breaks seen e a b
   breaks_told outcome e mid b ended k = record { fault = k.fault; steps = k.steps ++ ended.steps; went = later e k.fault k.went }
     where
-      later : (e : SolverError) → IsFault e → Went {A = Unit {0}} seen (Err e) k.steps mid.proof b.proof → Went {A = Unit {0}} seen (Err e) (k.steps ++ ended.steps) a.proof b.proof
+      later : (e : SolverError) → IsFaultOr (IsFull b.search.parts) e → Went {A = Unit {0}} seen (Err e) k.steps mid.proof b.proof → Went {A = Unit {0}} seen (Err e) (k.steps ++ ended.steps) a.proof b.proof
       later errors.OutOfMemory f w = adds_more seen ended.steps k.steps a.proof mid.proof b.proof ended.adds w
       later errors.StoreFull f w = adds_more seen ended.steps k.steps a.proof mid.proof b.proof ended.adds w
       later (errors.ProofIoError cause) f w = fails_later seen ended.steps k.steps a.proof mid.proof b.proof ended.adds w

@@ -1,5 +1,5 @@
 -- A solver whose names came in, were hidden, or changed their modes.
-use Rattle.std.proofs.Common.{ℕ, zero, suc, ◌+◌, ◌<◌, ◌≡◌, ◌≢◌, ◌∙◌, Bool, true, false, ◌||◌, cond, eqb, not, Err, Option, None, Some, List, [], ◌∷◌, length, map, get_or, refl, sym, ap, subst, arith, inl, inr}
+use Rattle.std.proofs.Common.{ℕ, zero, suc, ◌+◌, ◌<◌, ◌≡◌, ◌∙◌, Bool, true, false, ◌||◌, cond, eqb, not, Err, Option, None, Some, List, [], ◌∷◌, length, map, get_or, refl, sym, ap, subst, arith, inl, inr}
 use Rattle.std.proofs.lemmas.Bool.{true≢false, or_cases, or_left, or_right, eqb-true, eq-eqb}
 use Rattle.std.specs.List.{AllByRecursion}
 use Rattle.sat_base.specs.device.Device.{Writer}
@@ -7,12 +7,10 @@ use Rattle.sat_base.specs.values.Literals.{variable, is_positive, coded}
 use Rattle.sat_base.specs.values.Clauses.{Valuation, EachTrue, literal_true}
 use Rattle.sat_base.specs.script.Script.{Literal, Among}
 use Rattle.sat_base.specs.script.Judge.{Judge}
-use Rattle.sat_checker.specs.Fold.{Holds}
 use Rattle.sat_checker.specs.LiteralSets.{mentions}
 use Rattle.sat_store.specs.variables.Maps.{target}
 use Rattle.sat_solver.specs.session.Making.{Took}
 use Rattle.sat_solver.specs.session.ProofView.{steps_of, session_of}
-use Rattle.sat_solver.specs.session.Session.{session_after}
 use Rattle.sat_solver.specs.declared.session.made.CheckFault.TheVariants as checks
 use Rattle.sat_solver.specs.declared.session.proof.Proof.{Proof}
 use Rattle.sat_solver.specs.declared.error.SolverError.{SolverError}
@@ -22,14 +20,12 @@ use Rattle.sat_solver.specs.declared.names.error.NameError.TheVariants as names
 use Rattle.sat_base.specs.steps.Steps.{Step}
 use Rattle.sat_solver.specs.session.Coming.{Comes}
 use Rattle.sat_solver.specs.loading.Faults.{told_as}
-use Rattle.sat_solver.specs.search.Joint.{IsSearch}
 use Rattle.sat_solver.specs.loading.Alike.{LooksAlike}
 use Rattle.sat_solver.proofs.lemmas.loading.AlikeLemmas.{search_alike}
-use Rattle.sat_solver.specs.loading.Shared.{SharesIndices}
 use Rattle.sat_solver.specs.names.Adding.{named_literal, Image, Images, GlobalImages}
 use Rattle.sat_solver.specs.names.Calls.{Stands, Does}
 use Rattle.sat_solver.specs.names.Checking.{variable_of}
-use Rattle.sat_solver.specs.names.Expected.{Expected, Spells, SameSet}
+use Rattle.sat_solver.specs.names.Expected.{Expected, Spells}
 use Rattle.sat_solver.specs.names.Models.{is_true, value_by, value_in}
 use Rattle.sat_solver.specs.names.Failing.{Limits}
 use Rattle.sat_solver.specs.names.Room.{HasRoom}
@@ -42,9 +38,8 @@ use Rattle.sat_solver.specs.declared.names.Variables.{Variables}
 use Rattle.sat_solver.specs.declared.solver.Solver.{Solver}
 use Rattle.sat_solver.specs.declared.solver.state.State.{State}
 use Rattle.sat_solver.specs.declared.solver.state.State.TheVariants as states
-use Rattle.sat_solver.specs.solver.Joined.{IsJoined}
 use Rattle.sat_solver.specs.solver.Naming.{IsAsked, IsKeptOrFalse, variable_value, name_value, IsNextName, Renamed, Observed, ChangesMode, NewFails, NamesFail}
-use Rattle.sat_solver.specs.solver.Taking.{IsNameFault, BreaksNames}
+use Rattle.sat_solver.specs.solver.Taking.{IsNameFaultOr, BreaksNames}
 use Rattle.sat_solver.specs.search.Going.{IsFault}
 use Rattle.sat_solver.specs.declared.search.solving.Core.{Core}
 use Rattle.sat_solver.specs.solver.Whole.{IsWhole, IsWholeOf, StateSays, GoesOn, HasCore, steps_in, session_in}
@@ -305,7 +300,7 @@ module _ {W : Type 0} (seen : W → Writer) (s : Solver W) (whole : IsWhole s) (
 -- a call over modes failed
 pub mode_ends : {W : Type 0} (seen : W → Writer) (e : SolverError) (s new : Solver W) (user : ℕ) (judge : Judge → Judge) (due : Judge → List Expected) (May : List Step → Step → Type 0) → s.failed ≡ false → (IsAsked s user → ⊥) → HasRoom s.names (user ∷ []) → IsFault e → BreaksNames seen e s.core new.core → new.clock ≡ s.clock → new.failed ≡ true → ChangesMode seen (Err e) s new user judge due May
 mode_ends seen errors.OutOfMemory s new user judge due May g n r x b k f = (n, r, record { going = g; failed = f; fault = x; breaks = b; clock = k })
-mode_ends seen errors.StoreFull s new user judge due May g n r x b k f = (n, r, record { going = g; failed = f; fault = x; breaks = b; clock = k })
+mode_ends seen errors.StoreFull s new user judge due May g n r x b k f = absurd x
 mode_ends seen (errors.ProofIoError cause) s new user judge due May g n r x b k f = (n, r, record { going = g; failed = f; fault = x; breaks = b; clock = k })
 mode_ends seen errors.VariableLimit s new user judge due May g n r x b k f = absurd x
 mode_ends seen errors.Interrupted s new user judge due May g n r x b k f = absurd x
@@ -323,7 +318,7 @@ mode_ends seen errors.OutOfRange s new user judge due May g n r x b k f = absurd
 -- a call that gives names failed
 pub new_ends : {W : Type 0} (seen : W → Writer) (e : SolverError) (s new : Solver W) → s.failed ≡ false → IsFault e → BreaksNames seen e s.core new.core → new.clock ≡ s.clock → new.failed ≡ true → NamesFail seen e s new
 new_ends seen errors.OutOfMemory s new g x b k f = record { going = g; failed = f; fault = x; breaks = b; clock = k }
-new_ends seen errors.StoreFull s new g x b k f = record { going = g; failed = f; fault = x; breaks = b; clock = k }
+new_ends seen errors.StoreFull s new g x b k f = absurd x
 new_ends seen (errors.ProofIoError cause) s new g x b k f = record { going = g; failed = f; fault = x; breaks = b; clock = k }
 new_ends seen errors.VariableLimit s new g x b k f = absurd x
 new_ends seen errors.Interrupted s new g x b k f = absurd x
@@ -341,7 +336,7 @@ new_ends seen errors.OutOfRange s new g x b k f = absurd x
 -- a call for a new name failed
 pub new_fails : {W : Type 0} (seen : W → Writer) (e : SolverError) (s new : Solver W) → s.failed ≡ false → (NoneLeft s.names → ⊥) → IsFault e → BreaksNames seen e s.core new.core → new.clock ≡ s.clock → new.failed ≡ true → NewFails seen e s new
 new_fails seen errors.OutOfMemory s new g n x b k f = (n, record { going = g; failed = f; fault = x; breaks = b; clock = k })
-new_fails seen errors.StoreFull s new g n x b k f = (n, record { going = g; failed = f; fault = x; breaks = b; clock = k })
+new_fails seen errors.StoreFull s new g n x b k f = absurd x
 new_fails seen (errors.ProofIoError cause) s new g n x b k f = (n, record { going = g; failed = f; fault = x; breaks = b; clock = k })
 new_fails seen errors.VariableLimit s new g n x b k f = absurd x
 new_fails seen errors.Interrupted s new g n x b k f = absurd x
@@ -366,7 +361,7 @@ one_left (names.Write cause) old new from to n h = h
 one_left (names.Check fault) old new from to n h = h
 
 -- what a call over names fails of, but for the limit
-pub fault_left : (e : SolverError) → IsNameFault e → (e ≡ errors.VariableLimit → ⊥) → IsFault e
+pub fault_left : (e : SolverError) → IsNameFaultOr ⊥ e → (e ≡ errors.VariableLimit → ⊥) → IsFault e
 fault_left e h n = elim h [ inl x ↦ x | inr q ↦ absurd (n q) ]
 
 -- which fault a call over names tells as the limit

@@ -1,5 +1,5 @@
 -- A solver that looked for an answer.
-use Rattle.std.proofs.Common.{ℕ, zero, suc, ◌+◌, ◌-◌, ◌*◌, ◌^◌, ◌≤◌, min, ◌<◌, ◌≡◌, ◌∙◌, true, false, Ok, Err, List, [], ◌∷◌, ◌++◌, length, map, get_or, refl, sym, ap, subst, arith}
+use Rattle.std.proofs.Common.{ℕ, ◌+◌, ◌-◌, ◌*◌, ◌^◌, ◌≤◌, ◌<◌, ◌≡◌, ◌∙◌, true, false, Ok, Err, List, [], ◌∷◌, ◌++◌, length, map, get_or, refl, sym, ap, subst, arith}
 use Rattle.std.specs.List.{AllByRecursion, Contains}
 use Rattle.sat_base.specs.device.Device.{Writer}
 use Rattle.sat_base.specs.script.Script.{names_of, Among}
@@ -358,7 +358,7 @@ module _ {W : Type 0} (seen : W → Writer) (old mid : Solver W) (settled : Sett
   settled_broken (Check fault) f =
       let k = flush_records seen (Err (Check fault)) mid.core.proof p f in
       let steps = settled.took.0 in
-      (record { fault = fault_checked seen fault; steps = [] ++ steps; went = went_checked seen (Unit {0}) fault ([] ++ steps) old.core.proof p (check_later seen steps [] old.core.proof mid.core.proof p settled.took.1 k) }, settled.counts.on, λ n. flush_checked fault (check_later seen [] [] old.core.proof mid.core.proof p (settled.known n).0 k))
+      (record { fault = fault_checked seen _ fault; steps = [] ++ steps; went = went_checked seen (Unit {0}) fault ([] ++ steps) old.core.proof p (check_later seen steps [] old.core.proof mid.core.proof p settled.took.1 k) }, settled.counts.on, λ n. flush_checked fault (check_later seen [] [] old.core.proof mid.core.proof p (settled.known n).0 k))
     where
       flush_checked : (f : CheckFault) → FailsCheck seen [] old.core.proof p → FlushFails seen (check_fault_of f) old.core.proof p
       flush_checked checks.OutOfMemory h = h

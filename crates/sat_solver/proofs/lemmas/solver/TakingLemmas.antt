@@ -24,7 +24,8 @@ use Rattle.sat_solver.specs.names.Failing.{IsFailure, CameTo}
 use Rattle.sat_solver.specs.loading.Faults.{told_as}
 use Rattle.sat_solver.specs.declared.search.solving.Core.{Core}
 use Rattle.sat_solver.specs.declared.search.work.Search.{Search}
-use Rattle.sat_solver.specs.search.Going.{IsFault, Goes, Went}
+use Rattle.sat_solver.specs.parts.Full.{IsFull}
+use Rattle.sat_solver.specs.search.Going.{IsFault, IsFaultOr, GoesOr, Went}
 use Rattle.sat_solver.specs.search.Joint.{global_in, IsSearch}
 use Rattle.sat_solver.proofs.lemmas.search.AskedLemmas.{asked_after, kinds_of}
 use Rattle.sat_solver.specs.names.Adding.{named_literal, Image}
@@ -50,7 +51,7 @@ use Rattle.sat_solver.proofs.lemmas.loading.LoadingLemmas.{asked_added}
 use Rattle.sat_solver.proofs.lemmas.loading.SharedLemmas.{gives_names, given_vacant, shares_given, AreOver, over_below, over_named, over_same}
 use Rattle.sat_solver.proofs.lemmas.loading.TakenLemmas.{added_names, images_over, taken_may, taken_added}
 use Rattle.sat_solver.specs.solver.Joined.{IsJoined}
-use Rattle.sat_solver.specs.solver.Taking.{KeepImages, GoesOnOr, TookClause, TookAssumptions, TakesClause, BreaksNames}
+use Rattle.sat_solver.specs.solver.Taking.{KeepImages, GoesOnOr, TookClause, TookAssumptions, TakesClause, BreaksNamesOr}
 use Rattle.sat_solver.proofs.lemmas.solver.SpeltLemmas.{global_images_of}
 use Rattle.sat_solver.specs.names.Coming.{MayAdd}
 use Rattle.sat_solver.specs.session.Coming.{Comes, DeletesAdded}
@@ -77,32 +78,32 @@ told_fails (names.Check checks.CounterEnd) h = tt
 told_fails (names.Check (checks.Processor cause)) h = tt
 
 -- a fault that is handed on, or one of a search
-pub fault_on : {A : Type 0} (r : Result A SolverError) (e : SolverError) → IsErrAnd r (λ f. f ≡ e) → IsFault e → IfErr r IsFault
-fault_on r e h f = let p = err_from_is_err_and r h in subst (λ r. IfErr r IsFault) (sym p.1) (subst IsFault (sym p.2) f)
+pub fault_on : {A : Type 0} (full : Type 0) (r : Result A SolverError) (e : SolverError) → IsErrAnd r (λ f. f ≡ e) → IsFaultOr full e → IfErr r (IsFaultOr full)
+fault_on full r e h f = let p = err_from_is_err_and r h in subst (λ r. IfErr r (IsFaultOr full)) (sym p.1) (subst (IsFaultOr full) (sym p.2) f)
 
-pub fault_ends : {A W : Type 0} (seen : W → Writer) (r : Result A SolverError) (p q : Proof W) (P : A → List Step → Type 0) → Goes seen r p q P → IfErr r IsFault
+pub fault_ends : {A W full : Type 0} (seen : W → Writer) (r : Result A SolverError) (p q : Proof W) (P : A → List Step → Type 0) → GoesOr full seen r p q P → IfErr r (IsFaultOr full)
 fault_ends seen (Ok x) p q P goes = tt
 fault_ends seen (Err e) p q P goes = goes.ends
 
 module _ {W : Type 0} (seen : W → Writer) (a b : Core W) where
   -- a call over names failed
-  pub names_broke : (e : NameError) → CameTo (Took seen) (NotTaken seen) a.proof e b.proof → BreaksNames seen (told_as e) a b
+  pub names_broke : {full : Type 0} (e : NameError) → CameTo (Took seen) (NotTaken seen) a.proof e b.proof → BreaksNamesOr full seen (told_as e) a b
   names_broke names.WitnessVariable h = absurd h
   names_broke names.AssumedVariable h = absurd h
   names_broke names.VariableLimit h = record { fault = inr refl; steps = h.0; went = h.1 }
   names_broke names.OutOfMemory h = record { fault = inl tt; steps = h.0; went = h.1 }
   names_broke (names.Write cause) h = record { fault = inl tt; steps = h.0; went = h.1 }
-  names_broke (names.Check fault) h = record { fault = inl (fault_checked seen fault); steps = h.0; went = went_checked seen (Unit {0}) fault h.0 a.proof b.proof h.1 }
+  names_broke (names.Check fault) h = record { fault = inl (fault_checked seen _ fault); steps = h.0; went = went_checked seen (Unit {0}) fault h.0 a.proof b.proof h.1 }
 
   -- no memory was left behind it
-  pub names_starved : Took seen a.proof b.proof → BreaksNames seen errors.OutOfMemory a b
+  pub names_starved : {full : Type 0} → Took seen a.proof b.proof → BreaksNamesOr full seen errors.OutOfMemory a b
   names_starved h = record { fault = inl tt; steps = h.0; went = h.1 }
 
   -- a search failed behind it
-  pub load_broke : {A : Type 0} (e : SolverError) (p : Proof W) (P : A → List Step → Type 0) → Took seen a.proof p → Goes {A = A} seen (Err e) p b.proof P → BreaksNames seen e a b
-  load_broke {A} e p P h goes = record { fault = inl goes.ends; steps = _; went = later e goes.went goes.ends }
+  pub load_broke : {A full : Type 0} (e : SolverError) (p : Proof W) (P : A → List Step → Type 0) → Took seen a.proof p → GoesOr {A = A} full seen (Err e) p b.proof P → BreaksNamesOr full seen e a b
+  load_broke {A} {full} e p P h goes = record { fault = inl goes.ends; steps = _; went = later e goes.went goes.ends }
     where
-      later : (e : SolverError) → Went {A = A} seen (Err e) goes.steps p b.proof → IsFault e → Went {A = Unit {0}} seen (Err e) (goes.steps ++ h.0) a.proof b.proof
+      later : (e : SolverError) → Went {A = A} seen (Err e) goes.steps p b.proof → IsFaultOr full e → Went {A = Unit {0}} seen (Err e) (goes.steps ++ h.0) a.proof b.proof
       later errors.OutOfMemory w f = adds_more seen h.0 goes.steps a.proof p b.proof h.1 w
       later errors.StoreFull w f = adds_more seen h.0 goes.steps a.proof p b.proof h.1 w
       later (errors.ProofIoError cause) w f = fails_later seen h.0 goes.steps a.proof p b.proof h.1 w
@@ -187,7 +188,7 @@ module _ {W : Type 0} (seen : W → Writer) (n n' : Variables) (a : Core W) (joi
     }
 
     -- another one is loaded
-    module _ (left : Bool) (q : Proof W) (c2 : Search) (goes : Goes seen (Ok left) p q (λ l _. IsLoaded l (session_of q) c1 c2)) (deletes : Comes DeletesAdded (steps_of p) (steps_of q)) where
+    module _ (left : Bool) (q : Proof W) (c2 : Search) (goes : GoesOr (IsFull c2.parts) seen (Ok left) p q (λ l _. IsLoaded l (session_of q) c1 c2)) (deletes : Comes DeletesAdded (steps_of p) (steps_of q)) where
       abbrev pub new : Core W
       new = record a { proof = q; search = c2 }
 
@@ -218,7 +219,7 @@ module _ {W : Type 0} (seen : W → Writer) (n n' : Variables) (a : Core W) (joi
       }
 
     -- or it isn't
-    pub clause_told : (r : Result Bool SolverError) (q : Proof W) (c2 : Search) → Goes seen r p q (λ l _. IsLoaded l (session_of q) c1 c2) → OnOk r (Comes DeletesAdded (steps_of p) (steps_of q)) → TakesClause seen r n n' a (record a { proof = q; search = c2 }) user
+    pub clause_told : (r : Result Bool SolverError) (q : Proof W) (c2 : Search) → GoesOr (IsFull c2.parts) seen r p q (λ l _. IsLoaded l (session_of q) c1 c2) → OnOk r (Comes DeletesAdded (steps_of p) (steps_of q)) → TakesClause seen r n n' a (record a { proof = q; search = c2 }) user
     clause_told (Ok left) q c2 goes deletes = clause_loaded left q c2 goes deletes
     clause_told (Err e) q c2 goes deletes = load_broke seen a (record a { proof = q; search = c2 }) e p (λ l _. IsLoaded l (session_of q) c1 c2) took goes
 

@@ -12,12 +12,13 @@ use Rattle.sat_solver.specs.declared.session.proof.Proof.{Proof}
 use Rattle.sat_solver.specs.declared.session.proof.ProofError.{ProofError}
 use Rattle.sat_solver.specs.declared.session.proof.ProofError.TheVariants.{Write, OutOfMemory, Check}
 use Rattle.sat_solver.proofs.lemmas.session.ProofLemmas.{adds_none}
-use Rattle.sat_solver.proofs.lemmas.search.GoingLemmas.{went_checked, fault_checked}
+use Rattle.sat_solver.proofs.lemmas.search.GoingLemmas.{went_checked, fault_checked, fault_or}
 use Rattle.sat_solver.specs.joint.Listed.{Rests}
 use Rattle.sat_solver.proofs.lemmas.joint.AnswerParts.{parts_rests}
 use Rattle.sat_solver.specs.declared.error.SolverError.{SolverError}
 use Rattle.sat_solver.specs.declared.error.SolverError.TheVariants as errors
 use Rattle.sat_solver.specs.search.Failing.{TellsCore}
+use Rattle.sat_solver.specs.parts.Full.{IsFull}
 use Rattle.sat_solver.specs.search.Going.{fault_of}
 use Rattle.sat_solver.specs.search.Joint.{assumed_in, global_in, IsSearch, Moved}
 use Rattle.sat_solver.specs.parts.Whole.{state}
@@ -98,7 +99,7 @@ module _ {W : Type 0} (seen : W → Writer) (n : Variables) (a : Core W) (joined
   pub broken : (e : ProofError) (step : Step) (proof : Proof W) → Records {T = Unit {0}} seen (Err e) (step ∷ []) a.proof proof → Breaks seen (fault_of e) a (record a { proof = proof })
   broken (Write cause) step proof fails = record { fault = tt; steps = step ∷ []; went = fails }
   broken OutOfMemory step proof adds = record { fault = tt; steps = []; went = adds }
-  broken (Check fault) step proof fails = record { fault = fault_checked seen fault; steps = step ∷ []; went = went_checked seen (Unit {0}) fault (step ∷ []) a.proof proof fails }
+  broken (Check fault) step proof fails = record { fault = fault_checked seen _ fault; steps = step ∷ []; went = went_checked seen (Unit {0}) fault (step ∷ []) a.proof proof fails }
 
   module _ (proof : Proof W) (c' : Search) where
     abbrev pub searched : Core W
@@ -125,7 +126,7 @@ module _ {W : Type 0} (seen : W → Writer) (n : Variables) (a : Core W) (joined
             subst (Stands n) (sym e) (searches_stand n (steps_of a.proof) (FailedAssumptions ls hs) joined.stands may.1 tt)
 
     pub core_broken : (e : SolverError) → TellsCore seen (Err e) a.proof proof a.search c' → Breaks seen e a searched
-    core_broken e t = record { fault = t.ends; steps = t.steps; went = t.went }
+    core_broken e t = record { fault = fault_or (IsFull c'.parts) e t.ends; steps = t.steps; went = t.went }
 
     -- no memory was left for its names
     pub core_unnamed : TellsCore seen (Ok tt) a.proof proof a.search c' → Breaks seen errors.OutOfMemory a searched

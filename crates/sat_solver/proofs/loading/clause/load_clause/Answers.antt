@@ -1,8 +1,8 @@
-use Rattle.std.proofs.Common.{◌≡◌, ◌∙◌, ap, arith, length}
+use Rattle.std.proofs.Common.{◌≡◌, ◌∙◌, Err, ap, arith, length}
 use Rattle.std.proofs.lemmas.Result.{err_from_is_err_and}
 use Rattle.sat_solver.specs.session.ProofView.{steps_of, session_of}
 use Rattle.sat_solver.specs.parts.Loadable.{false_last}
-use Rattle.sat_solver.proofs.lemmas.search.GoingLemmas.{goes_none, goes_map}
+use Rattle.sat_solver.proofs.lemmas.search.GoingLemmas.{goes_none, goes_map, goes_or}
 use Rattle.sat_solver.specs.loading.Loaded.{IsLoaded}
 use Rattle.sat_solver.specs.session.Coming.{DeletesAdded}
 use Rattle.sat_solver.proofs.lemmas.session.ComingLemmas.{comes_none}
@@ -16,7 +16,8 @@ load-requires-clause-fits g c = few_lits c.args.search.now c.args.lits.now c.req
 pub returns-in_err-loaded-clause-goes : goal.returns-in_err-loaded-clause-goes
 returns-in_err-loaded-clause-goes g c =
     let p = err_from_is_err_and c.from_residual.result c.from_residual.ensures.1 in
-    rw (p.1, p.2) (goes_unstored g.W.CountedWrite.seen c.in_err-loaded.field-0.0 c.args.proof.now _ c.requires.keeps)
+    rw (p.1, p.2) (goes_unstored g.W.CountedWrite.seen c.in_err-loaded.field-0.0 c.args.proof.now _ c.requires.keeps
+    (λ e. c.load.ensures.full (c.in_err-loaded.was ∙ ap Err e)))
 
 pub returns-in-Stored-clause-goes : goal.returns-in-Stored-clause-goes
 returns-in-Stored-clause-goes g c =
@@ -59,10 +60,11 @@ pub returns-else-len-lt2-clause-goes : goal.returns-else-len-lt2-clause-goes
 returns-else-len-lt2-clause-goes g c =
     let size : c.len.result ≡ length (false_last c.make_ready.new.parts.assignment.current c.args.lits.now) = omega (arith, c.len.ensures, c.load.new.sorting.lits.ok.0, ap (λ ls. length ls) c.in_ok-loaded.ensures.order) in
     let same : c.deref.result.now ≡ false_last c.make_ready.new.parts.assignment.current c.args.lits.now = c.deref.ensures.value ∙ c.in_ok-loaded.ensures.order in
-    goes_map g.W.CountedWrite.seen c.delete_true.result c.args.proof.now c.delete_true.new.proof _ (λ left _. IsLoaded left (session_of c.delete_true.new.proof) c.args.search.now c.delete_true.new.search)
+    goes_or g.W.CountedWrite.seen c.delete_true.result c.args.proof.now c.delete_true.new.proof (λ left _. IsLoaded left (session_of c.delete_true.new.proof) c.args.search.now c.delete_true.new.search)
+    (goes_map g.W.CountedWrite.seen c.delete_true.result c.args.proof.now c.delete_true.new.proof _ (λ left _. IsLoaded left (session_of c.delete_true.new.proof) c.args.search.now c.delete_true.new.search)
     (λ left steps h. loaded_behind c.args.search.now c.args.lits.now (steps_of c.args.proof.now) c.requires.added c.requires.may c.make_ready.new.parts c.make_ready.ensures.holds c.make_ready.ensures.same c.make_ready.ensures.others c.load.new.parts c.in_ok-loaded.ensures.holds c.in_ok-loaded.ensures.kept c.back_to_bottom.new.search c.back_to_bottom.ensures
     (rw c.in-Satisfied.is at c.in_ok-loaded.ensures.says) (omega (arith, size, c.if-len-lt2.false)) c.deref.result.now same (steps_of c.delete_true.new.proof) h.1 left h.0 c.delete_true.new.search c.delete_true.ensures.same)
-    c.delete_true.ensures.deletes
+    c.delete_true.ensures.deletes)
 
 pub returns-in-Stored-clause-comes : goal.returns-in-Stored-clause-comes
 returns-in-Stored-clause-comes g c = comes_none DeletesAdded (steps_of c.args.proof.now)

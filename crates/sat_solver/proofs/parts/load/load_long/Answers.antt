@@ -14,4 +14,5 @@ returns c =
           (sound_loaded_long p.clauses n.clauses p.db n.db p.watchlists p.binary p.assignment p.graph p.trail p.vsids c.args.lits.now c.in_ok-cref.cref c.new-header.result c.requires.holds c.requires.loadable c.requires.long c.in_ok-cref.ensures.added);
       stores = stores_long c.requires.long c.in_ok-cref.cref (rw c.new-header.ensures at c.in_ok-cref.ensures.added) refl (carries_refl (state p));
       kept = (refl, refl);
+      full = λ e. cc;
     }

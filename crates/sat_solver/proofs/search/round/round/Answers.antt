@@ -1,5 +1,10 @@
 use Rattle.sat_solver.proofs.lemmas.search.EndingLemmas.{ends_refuted, ends_on}
+use Rattle.sat_solver.specs.parts.Full.{IsFull}
+use Rattle.sat_solver.proofs.lemmas.simplify.PassesLemmas.{falls_or}
 use Rattle.sat_solver.proofs.search.round.round.Goals as goal
+
+pub returns-in-Err : goal.returns-in-Err
+returns-in-Err g c = falls_or g.W.CountedWrite.seen (IsFull c.begin_round.new.search.parts) c.in-Err.error c.args.proof.now c.begin_round.new.proof c.in-Err.ensures
 
 pub returns-in-Ok-Some : goal.returns-in-Ok-Some
 returns-in-Ok-Some g c =

@@ -39,7 +39,7 @@ pub returns-in-Err-clause-room : goal.returns-in-Err-clause-room
 returns-in-Err-clause-room g c = λ h. rw c.name_fault.ensures (told_fails c.in-Err.error (c.in-Err.ensures.room h))
 
 pub returns-in_err-new_indices-clause-room : goal.returns-in_err-new_indices-clause-room
-returns-in_err-new_indices-clause-room g c = λ h. fault_on c.from_residual.result errors.OutOfMemory c.from_residual.ensures.1 tt
+returns-in_err-new_indices-clause-room g c = λ h. fault_on _ c.from_residual.result errors.OutOfMemory c.from_residual.ensures.1 tt
 
 pub returns-in_err-set_assumptions-clause-room : goal.returns-in_err-set_assumptions-clause-room
-returns-in_err-set_assumptions-clause-room g c = λ h. fault_on c.from_residual-in_err-set_assumptions.result errors.OutOfMemory c.from_residual-in_err-set_assumptions.ensures.1 tt
+returns-in_err-set_assumptions-clause-room g c = λ h. fault_on _ c.from_residual-in_err-set_assumptions.result errors.OutOfMemory c.from_residual-in_err-set_assumptions.ensures.1 tt

@@ -4,6 +4,8 @@ use Rattle.sat_solver.specs.loading.Indices.{AreIndexed}
 use Rattle.sat_solver.specs.declared.names.indexing.Given.{Given}
 use Rattle.sat_solver.proofs.lemmas.solver.TakingLemmas.{told_fails, fault_on, fault_ends, clause_vacant, clause_added, clause_may, clause_both, clause_told, none_took, names_broke, names_starved}
 use Rattle.sat_solver.specs.declared.error.SolverError.TheVariants as errors
+use Rattle.sat_solver.specs.loading.Faults.{told_as}
+use Rattle.sat_solver.proofs.lemmas.search.GoingLemmas.{fault_or}
 use Rattle.sat_solver.proofs.solver.taking.take_clause.Goals as goal
 
 pub returns-in-Err-clause-takes : goal.returns-in-Err-clause-takes
@@ -41,10 +43,10 @@ returns-clause-takes g c = clause_told g.W.CountedWrite.seen c.args.names.now c.
     c.load_clause.result c.load_clause.new.proof c.load_clause.new.search c.load_clause.ensures.goes c.load_clause.ensures.comes
 
 pub returns-in-Err-clause-room : goal.returns-in-Err-clause-room
-returns-in-Err-clause-room g c = λ h. rw c.name_fault.ensures (told_fails c.in-Err.error (c.in-Err.ensures.room h))
+returns-in-Err-clause-room g c = λ h. rw c.name_fault.ensures (fault_or _ (told_as c.in-Err.error) (told_fails c.in-Err.error (c.in-Err.ensures.room h)))
 
 pub returns-in_err-new_indices-clause-room : goal.returns-in_err-new_indices-clause-room
-returns-in_err-new_indices-clause-room g c = λ h. fault_on c.from_residual.result errors.OutOfMemory c.from_residual.ensures.1 tt
+returns-in_err-new_indices-clause-room g c = λ h. fault_on _ c.from_residual.result errors.OutOfMemory c.from_residual.ensures.1 tt
 
 pub returns-clause-room : goal.returns-clause-room
 returns-clause-room g c = λ h. fault_ends g.W.CountedWrite.seen c.load_clause.result _ _ _ c.load_clause.ensures.goes
