@@ -15,7 +15,7 @@ ghost use Rattle.sat_checker.specs.inner.Reasons.{noted_length};
 ghost use Rattle.sat_checker.specs.inner.StoreView.{TakesCount, with_less};
 ghost use Rattle.sat_checker.specs.inner.Marks.{IsIncreasing};
 ghost use Rattle.sat_checker.specs.declared.store.StoreError.TheVariants.{CounterEnd};
-ghost use Rattle.sat_checker.specs.inner.FormulaView.{KeepsFormula, Becomes, TurnsIf, Deletes, Explained};
+ghost use Rattle.sat_checker.specs.inner.FormulaView.{KeepsFormula, ChecksAs, Becomes, TurnsIf, Deletes, Explained};
 ghost use Rattle.sat_checker.specs.telling.AnnouncingView.{AreLong};
 ghost use Rattle.sat_checker.specs.telling.NotedView.{Adds};
 
@@ -54,19 +54,17 @@ impl Formula {
         }
     }
 
-    /// The propagation check of a clause under hashes. What it notes is kept.
+    /// The propagation check of a clause under hashes, whatever the ids of clauses and units are. What it notes is kept.
     pub fn check(
         &mut self,
         clause: &[Lit],
         hashes: &[ClauseHash],
         looks: &mut Looks,
     ) -> Result<bool, AllocError>
-        ensures exact { IfOk result
-            (λ passes. (f : Stored) → KeepsFormula self.old f → IsTrue passes ↔ Passes f clause.now hashes.now) }
-        ensures kept { (f : Stored) → KeepsFormula self.old f → KeepsFormula self.new f }
-        ensures looks { (f : Stored) → KeepsFormula self.old f → looks.new ≤ looks.old + length hashes.now * literal_count f }
-        ensures rise { looks.old ≤ looks.new }
+        ensures exact { IfOk result (λ passes. (f : Stored) → ChecksAs self.old f → IsTrue passes ↔ Passes f clause.now hashes.now) }
         ensures rest { self.new ≡ record self.old { passed = self.new.passed } }
+        ensures looks { (f : Stored) → ChecksAs self.old f → looks.new ≤ looks.old + length hashes.now * literal_count f }
+        ensures rise { looks.old ≤ looks.new }
         ensures explained { IfOk result (λ passes. IsTrue passes → Explained self.new clause.now hashes.now) }
         ensures read { IfOk result (λ _. noted_length self.new.store.clauses self.new.passed + looks.old ≤ looks.new) }
     {

@@ -136,7 +136,9 @@ fn deny(assigned: &mut Assigned, clause: &[Lit]) -> Result<bool, AllocError>
     Ok(false)
 }
 
-fn check_under(
+/// The propagation check of a clause, over what is assigned. What it assumes is left behind that. Where it passes by a conflict, the
+/// notes explain what the conflict rests on, which is followed where somebody listens.
+pub(crate) fn check_clause_with_hashes(
     clauses: &Clauses,
     clause: &[Lit],
     hashes: &[ClauseHash],
@@ -157,27 +159,4 @@ fn check_under(
         return Ok(true);
     }
     walk_hashes(clauses, hashes, assigned, passed, looks)
-}
-
-/// The propagation check of a clause, over the units that are assigned, which stay. Where it passes by a conflict, the notes
-/// explain what the conflict rests on, which is followed where somebody listens.
-pub(crate) fn check_clause_with_hashes(
-    clauses: &Clauses,
-    clause: &[Lit],
-    hashes: &[ClauseHash],
-    assigned: &mut Assigned,
-    passed: &mut Passed,
-    looks: &mut Looks,
-) -> Result<bool, AllocError>
-    ensures exact { IfOk result (λ yes. IsTrue yes ↔ PassesCheck assigned.old clause.now (map (bucket_of clauses.now) hashes.now)) }
-    ensures units { assigned.new ≡ assigned.old }
-    ensures looks { looks.new ≤ looks.old + length hashes.now * live_length clauses.now }
-    ensures rise { looks.old ≤ looks.new }
-    ensures explained { IfOk result (λ yes. IsTrue yes → ExplainsCheck clauses.now passed.new assigned.old clause.now hashes.now) }
-    ensures read { IfOk result (λ _. noted_length clauses.now passed.new + looks.old ≤ looks.new) }
-{
-    let units = assigned.len();
-    let answer = check_under(clauses, clause, hashes, assigned, passed, looks);
-    assigned.undo_to(units);
-    answer
 }

@@ -174,13 +174,16 @@ impl Units {
             → ExplainsCheck store.now.clauses passed.new (map (λ u. u.literal) self.old) clause.now hashes.now) }
         ensures read { IfOk result (λ _. noted_length store.now.clauses passed.new + looks.old ≤ looks.new) }
     {
-        check_clause_with_hashes(
+        let units = self.assigned.len();
+        let answer = check_clause_with_hashes(
             &store.clauses,
             clause,
             hashes,
             &mut self.assigned,
             passed,
             looks,
-        )
+        );
+        self.assigned.undo_to(units);
+        answer
     }
 }

@@ -17,23 +17,6 @@ use std::alloc::AllocError;
 const UNNUMBERED: u64 = u64::MAX - 1;
 
 impl Formula {
-    /// The propagation check, whatever the ids of units are.
-    fn passes(
-        &mut self,
-        clause: &[Lit],
-        hashes: &[ClauseHash],
-        looks: &mut Looks,
-    ) -> Result<bool, AllocError>
-        ensures exact { IfOk result
-            (λ passes. (f : Stored) → ChecksAs self.old f → IsTrue passes ↔ Passes f clause.now hashes.now) }
-        ensures kept { (f : Stored) → ChecksAs self.old f → ChecksAs self.new f }
-        ensures looks { (f : Stored) → ChecksAs self.old f → looks.new ≤ looks.old + length hashes.now * literal_count f }
-        ensures rise { looks.old ≤ looks.new }
-    {
-        self.units
-            .check(&self.store, clause, hashes, &mut self.passed, looks)
-    }
-
     /// A unit comes in without an id of its own.
     fn suppose(&mut self, lit: Lit) -> Result<(), AllocError>
         ensures { OnOk result ((f : Stored) → ChecksAs self.old f → ChecksAs self.new (with_unit lit f)) }
@@ -58,7 +41,7 @@ impl Formula {
         ensures rise { looks.old ≤ looks.new }
     {
         for unit in units {
-            if !self.passes(&[unit.0], &[unit.1], looks)? {
+            if !self.check(&[unit.0], &[unit.1], looks)? {
                 return Ok(false);
             }
             self.suppose(unit.0)?;

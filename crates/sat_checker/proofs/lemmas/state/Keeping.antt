@@ -1,5 +1,5 @@
 -- What steps leave of the checker's state.
-use Rattle.std.proofs.Common.{ℕ, ◌≡◌, Bool, true, false, cond, List, [], ◌∷◌, Option, None, Some, refl, sym, ◌∙◌, ap, subst, Result, Ok, Err, IfOk, ◌↔◌}
+use Rattle.std.proofs.Common.{ℕ, ◌≡◌, Bool, true, false, cond, List, [], ◌∷◌, Option, None, Some, refl, sym, ◌∙◌, ap, subst, Result, Ok, Err, ◌↔◌}
 use Rattle.std.specs.List.{AllByRecursion}
 use Rattle.std.specs.Bool.{MatchBool}
 use Rattle.std.proofs.lemmas.Bool.{true≢false}
@@ -8,26 +8,18 @@ use Rattle.sat_base.specs.steps.Steps.{SolverVarName, AddClause, DeleteClause, D
 use Rattle.sat_checker.specs.LiteralSets.{canonical, is_part}
 use Rattle.sat_checker.specs.Stored.{Stored, Variable, Sample, mode_of}
 use Rattle.sat_checker.specs.Storing.{settled, with_stored, with_input, with_literals_known, with_solver_name, with_known}
-use Rattle.sat_checker.specs.Accepts.{Passes, effect, IsStrictSubset}
+use Rattle.sat_checker.specs.Accepts.{effect, IsStrictSubset}
 use Rattle.sat_checker.specs.Spent.{IsSpent}
-use Rattle.sat_checker.specs.inner.StoreView.{KeepsClauses}
 use Rattle.sat_checker.specs.inner.FormulaView.{KeepsFormula, Turns, TurnsIf}
 use Rattle.sat_checker.specs.inner.StateView.{Keeps, with_added}
 use Rattle.sat_checker.specs.inner.VariablesView.{KeepsVariables, AreSampling}
 use Rattle.sat_checker.specs.declared.store.StoreError.{StoreError}
 use Rattle.sat_checker.specs.declared.store.StoreError.TheVariants.{OutOfMemory, CounterEnd}
-use Rattle.sat_checker.specs.declared.formula.Formula.{Formula}
 use Rattle.sat_checker.specs.declared.state.State.{State}
 use Rattle.sat_checker.specs.declared.variables.Variables.{Variables}
 use Rattle.sat_checker.proofs.lemmas.sets.Canonical.{canonical_among}
 use Rattle.sat_checker.proofs.lemmas.state.Scanning.{same_part}
 use Rattle.sat_checker.proofs.lemmas.meaning.Names.{SameVariables, stored_same, settled_same}
-
--- the check over the formula's parts
-pub checked_formula : {E : Type 0} (r : Result Bool E) (F : Formula) (clause hashes : List ℕ) → IfOk r (λ b. (f : Stored) → KeepsClauses F.store f → F.units ≡ f.units → (b ≡ true) ↔ Passes f clause hashes)
-    → IfOk r (λ b. (f : Stored) → KeepsFormula F f → (b ≡ true) ↔ Passes f clause hashes)
-checked_formula (Ok b) F clause hashes h = λ f k. h f k.clauses k.units
-checked_formula (Err e) F clause hashes h = tt
 
 -- an error is handed on
 pub decides_err : {T : Type 0} (first : Result T StoreError) (result : Result Bool StoreError) (d e : StoreError) → first ≡ Err e → result ≡ Err d → d ≡ e → (K A L : Type 0) (g h : Stored) → A → (IsSpent g → IsSpent h) → Turns first K g → TurnsIf result A L h

@@ -17,6 +17,13 @@ use Rattle.sat_checker.proofs.lemmas.store.Buckets.{looks_more, looks_within}
 pub checks_as : (F : Formula) (f : Stored) → KeepsFormula F f → ChecksAs F f
 checks_as F f k = record { clauses = k.clauses; units = ap (map (λ (u : StoredUnit). u.literal)) k.units }
 
+-- the notes of a check are no part of what is kept
+pub kept_beside : (F G : Formula) (f : Stored) → G ≡ record F { passed = G.passed } → KeepsFormula F f → KeepsFormula G f
+kept_beside F G f e k = subst (λ H. KeepsFormula H f) (sym e) (record { clauses = k.clauses; units = k.units; status = k.status; numbered = k.numbered })
+
+pub checks_beside : (F G : Formula) (f : Stored) → G ≡ record F { passed = G.passed } → ChecksAs F f → ChecksAs G f
+checks_beside F G f e a = subst (λ H. ChecksAs H f) (sym e) (record { clauses = a.clauses; units = a.units })
+
 -- with the units that it has
 under : Formula → Stored → Stored
 under F f = record f { units = F.units }

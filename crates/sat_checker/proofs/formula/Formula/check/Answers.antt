@@ -2,11 +2,11 @@ use Rattle.std.proofs.Common.{List, map, ap, sym, subst}
 use Rattle.std.proofs.lemmas.Result.{IfOk-weaker}
 use Rattle.sat_checker.specs.Stored.{StoredUnit}
 use Rattle.sat_checker.specs.inner.Reasons.{ExplainsCheck}
-use Rattle.sat_checker.proofs.lemmas.state.Keeping.{checked_formula}
+use Rattle.sat_checker.proofs.lemmas.state.Unnumbered.{checked_as}
 use Rattle.sat_checker.proofs.formula.Formula.check.Goals as goal
 
 pub returns-clause-exact : goal.returns-clause-exact
-returns-clause-exact c = checked_formula c.check.result c.args.self.now c.args.clause.now c.args.hashes.now c.check.ensures.exact
+returns-clause-exact c = checked_as c.check.result c.args.self.now c.args.clause.now c.args.hashes.now c.check.ensures.exact
 
 pub returns-clause-rest : goal.returns-clause-rest
 returns-clause-rest c = ap (λ (us : List StoredUnit). record c.args.self.now { units = us; passed = c.check.new.passed }) c.check.ensures.units
@@ -18,3 +18,6 @@ returns-clause-explained c = IfOk-weaker c.check.result _ _
 
 pub returns-clause-read : goal.returns-clause-read
 returns-clause-read c = c.check.ensures.read
+
+pub returns-clause-looks : goal.returns-clause-looks
+returns-clause-looks c = λ f a. c.check.ensures.looks f a.clauses

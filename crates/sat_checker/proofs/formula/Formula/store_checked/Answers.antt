@@ -3,6 +3,7 @@ use Rattle.std.proofs.lemmas.Bool.{both_ways, true≢false}
 use Rattle.std.proofs.lemmas.Result.{err_from_is_err_and, IfOk-from_err}
 use Rattle.sat_checker.specs.Looks.{literal_count}
 use Rattle.sat_checker.specs.inner.Reasons.{noted_length}
+use Rattle.sat_checker.proofs.lemmas.state.Unnumbered.{checks_as, kept_beside}
 use Rattle.sat_checker.proofs.lemmas.state.Keeping.{decides_err}
 use Rattle.sat_checker.proofs.formula.Formula.store_checked.Goals as goal
 
@@ -16,7 +17,7 @@ pub note_unit-requires : goal.note_unit-requires
 note_unit-requires c = record { explained = (c.args.hash ∷ [], c.in_ok-check.ensures.explained c.if-not-branch.false) }
 
 pub returns-then-not-branch-clause-decides : goal.returns-then-not-branch-clause-decides
-returns-then-not-branch-clause-decides c = λ f k p. both_ways c.in_ok-check.field-0 c.if-not-branch.true ((c.in_ok-check.ensures.exact f k).1 p)
+returns-then-not-branch-clause-decides c = λ f k p. both_ways c.in_ok-check.field-0 c.if-not-branch.true ((c.in_ok-check.ensures.exact f (checks_as c.args.self.now f k)).1 p)
 
 pub returns-in_err-check-clause-decides : goal.returns-in_err-check-clause-decides
 returns-in_err-check-clause-decides c = let p = err_from_is_err_and c.from_residual.result c.from_residual.ensures.1 in rw (p.1, p.2) (λ f k. tt)
@@ -27,10 +28,10 @@ returns-in_err-note_unit-clause-decides c = let p = err_from_is_err_and c.from_r
 pub returns-in_err-store_unit-clause-decides : goal.returns-in_err-store_unit-clause-decides
 returns-in_err-store_unit-clause-decides c = λ f k.
     let p = err_from_is_err_and c.from_residual-in_err-store_unit.result c.from_residual-in_err-store_unit.ensures.1 in
-    decides_err c.store_unit.result _ p.0 _ c.in_err-store_unit.was p.1 p.2 _ _ _ _ _ ((c.in_ok-check.ensures.exact f k).0 c.if-not-branch.false) (λ s. s) (c.store_unit.ensures.stored f (c.check.ensures.kept f k))
+    decides_err c.store_unit.result _ p.0 _ c.in_err-store_unit.was p.1 p.2 _ _ _ _ _ ((c.in_ok-check.ensures.exact f (checks_as c.args.self.now f k)).0 c.if-not-branch.false) (λ s. s) (c.store_unit.ensures.stored f (kept_beside c.args.self.now c.check.new.self f c.check.ensures.rest k))
 
 pub returns-clause-decides : goal.returns-clause-decides
-returns-clause-decides c = λ f k. ((c.in_ok-check.ensures.exact f k).0 c.if-not-branch.false, c.in_ok-store_unit.ensures.stored f (c.check.ensures.kept f k))
+returns-clause-decides c = λ f k. ((c.in_ok-check.ensures.exact f (checks_as c.args.self.now f k)).0 c.if-not-branch.false, c.in_ok-store_unit.ensures.stored f (kept_beside c.args.self.now c.check.new.self f c.check.ensures.rest k))
 
 pub returns-in_err-check-clause-noted : goal.returns-in_err-check-clause-noted
 returns-in_err-check-clause-noted c = IfOk-from_err c.from_residual.result _ c.from_residual.ensures.0
@@ -45,19 +46,19 @@ pub returns-then-not-branch-clause-noted : goal.returns-then-not-branch-clause-n
 returns-then-not-branch-clause-noted c = λ t. absurd (true≢false (sym t))
 
 pub returns-clause-noted : goal.returns-clause-noted
-returns-clause-noted c = λ t f k long. c.in_ok-note_unit.ensures.noted f (c.args.hash ∷ []) (c.check.ensures.kept f k) long (c.in_ok-check.ensures.explained c.if-not-branch.false)
+returns-clause-noted c = λ t f k long. c.in_ok-note_unit.ensures.noted f (c.args.hash ∷ []) (kept_beside c.args.self.now c.check.new.self f c.check.ensures.rest k) long (c.in_ok-check.ensures.explained c.if-not-branch.false)
 
 pub returns-in_err-check-clause-looks : goal.returns-in_err-check-clause-looks
-returns-in_err-check-clause-looks c = λ f k. once c.args.looks.now c.check.new.looks (literal_count f) (c.check.ensures.looks f k)
+returns-in_err-check-clause-looks c = λ f k. once c.args.looks.now c.check.new.looks (literal_count f) (c.check.ensures.looks f (checks_as c.args.self.now f k))
 
 pub returns-then-not-branch-clause-looks : goal.returns-then-not-branch-clause-looks
-returns-then-not-branch-clause-looks c = λ f k. once c.args.looks.now c.check.new.looks (literal_count f) (c.check.ensures.looks f k)
+returns-then-not-branch-clause-looks c = λ f k. once c.args.looks.now c.check.new.looks (literal_count f) (c.check.ensures.looks f (checks_as c.args.self.now f k))
 
 pub returns-in_err-note_unit-clause-looks : goal.returns-in_err-note_unit-clause-looks
-returns-in_err-note_unit-clause-looks c = λ f k. twice c.args.looks.now c.check.new.looks c.note_unit.new.looks (noted_length c.check.new.self.store.clauses c.check.new.self.passed) (literal_count f) (c.check.ensures.looks f k) c.in_ok-check.ensures.read c.note_unit.ensures.looks
+returns-in_err-note_unit-clause-looks c = λ f k. twice c.args.looks.now c.check.new.looks c.note_unit.new.looks (noted_length c.check.new.self.store.clauses c.check.new.self.passed) (literal_count f) (c.check.ensures.looks f (checks_as c.args.self.now f k)) c.in_ok-check.ensures.read c.note_unit.ensures.looks
 
 pub returns-in_err-store_unit-clause-looks : goal.returns-in_err-store_unit-clause-looks
-returns-in_err-store_unit-clause-looks c = λ f k. twice c.args.looks.now c.check.new.looks c.note_unit.new.looks (noted_length c.check.new.self.store.clauses c.check.new.self.passed) (literal_count f) (c.check.ensures.looks f k) c.in_ok-check.ensures.read c.note_unit.ensures.looks
+returns-in_err-store_unit-clause-looks c = λ f k. twice c.args.looks.now c.check.new.looks c.note_unit.new.looks (noted_length c.check.new.self.store.clauses c.check.new.self.passed) (literal_count f) (c.check.ensures.looks f (checks_as c.args.self.now f k)) c.in_ok-check.ensures.read c.note_unit.ensures.looks
 
 pub returns-clause-looks : goal.returns-clause-looks
-returns-clause-looks c = λ f k. twice c.args.looks.now c.check.new.looks c.note_unit.new.looks (noted_length c.check.new.self.store.clauses c.check.new.self.passed) (literal_count f) (c.check.ensures.looks f k) c.in_ok-check.ensures.read c.note_unit.ensures.looks
+returns-clause-looks c = λ f k. twice c.args.looks.now c.check.new.looks c.note_unit.new.looks (noted_length c.check.new.self.store.clauses c.check.new.self.passed) (literal_count f) (c.check.ensures.looks f (checks_as c.args.self.now f k)) c.in_ok-check.ensures.read c.note_unit.ensures.looks

@@ -6,7 +6,7 @@ use Rattle.sat_checker.proofs.lemmas.store.Buckets.{buckets_once}
 use Rattle.sat_checker.proofs.lemmas.announcements.Noting.{nothing_noted, explained, never_met}
 use Rattle.sat_checker.proofs.lemmas.propagation.Walking.{Extends-further}
 use Rattle.std.proofs.lemmas.Result.{IfOk-from_err}
-use Rattle.sat_checker.proofs.rup.check_under.Goals as goal
+use Rattle.sat_checker.proofs.rup.check_clause_with_hashes.Goals as goal
 
 if_ok : {A E : Type 0} (r : Result A E) (P Q : A → Type 0) → ((x : A) → P x → Q x) → IfOk r P → IfOk r Q
 if_ok (Ok x) P Q w h = w x h
