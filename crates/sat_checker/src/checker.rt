@@ -59,6 +59,21 @@ impl<P: ProofProcessor, T: ProofTranscriptProcessor> Checker<P, T> {
         }
     }
 
+    /// As `telling`, for those whom another checker handed back: they listen again, each list in its order.
+    pub fn telling_again(alloc: Global, listeners: Processors<P, T>) -> Checker<P, T>
+        ensures stands { Stands (kernel_of result) [] }
+        ensures goes_on { has_failed (kernel_of result) ≡ false }
+        ensures settled { kernels.IsSettled (kernel_of result) }
+        ensures looks { looks_of (kernel_of result) ≡ 0 }
+        ensures listeners { listeners_of result.processing
+            ≡ record { processors = listeners.processors.items; transcripts = listeners.transcripts.items } }
+    {
+        Checker {
+            kernel: Kernel::new(alloc),
+            processing: Processing::again(alloc, listeners),
+        }
+    }
+
     /// A processor, which is told all announcements from here on. Without memory it is dropped, and the checker has failed.
     pub fn add_processor(&mut self, processor: P) -> Result<(), CheckerError>
         ensures { AddsListener result (kernel_of self.old) (kernel_of self.new)

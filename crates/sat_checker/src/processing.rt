@@ -146,6 +146,22 @@ impl<P: ProofProcessor, T: ProofTranscriptProcessor> Processing<P, T> {
         }
     }
 
+    /// These listen, each list in its order. Nothing is allocated.
+    pub fn again(alloc: Global, listeners: Processors<P, T>) -> Processing<P, T>
+        ensures { listeners_of result
+            ≡ record { processors = listeners.processors.items; transcripts = listeners.transcripts.items } }
+    {
+        let Processors {
+            processors,
+            transcripts,
+        } = listeners;
+        Processing {
+            processors,
+            transcripts,
+            transcript: Transcript::new(alloc),
+        }
+    }
+
     /// Without memory the processor is dropped.
     pub fn add_processor(&mut self, processor: P) -> Result<(), AllocError>
         ensures ok { OnOk result (listeners_of self.new
