@@ -1,13 +1,13 @@
 -- What always holds of what is stored, and what steps leave as it was.
-use Rattle.std.specs.Prelude.{ℕ, ◌+◌, ◌<◌, ◌≤◌, ◌≡◌, ◌↔◌, Bool, true, false, ◌&&◌, None, Some, List, [], ◌∷◌, map, length}
-use Rattle.std.specs.List.{AllByRecursion}
+use Rattle.std.specs.Prelude.{ℕ, ◌+◌, ◌<◌, ◌≤◌, ◌≡◌, ◌⊎◌, ◌↔◌, Bool, true, false, ◌&&◌, None, Some, List, [], ◌∷◌, map, length}
+use Rattle.std.specs.List.{AllByRecursion, list_any}
 use Rattle.sat_base.specs.values.Literals.{variable}
 use Rattle.sat_base.specs.values.Clauses.{Valuation, EachHolds}
 use Rattle.sat_base.specs.steps.Steps.{Step, SolverVarName, UserVarName, ChangeSamplingMode, AtClause, ChangeHashBits, Model, Assumptions, FailedAssumptions, End}
-use Rattle.sat_checker.specs.LiteralSets.{is_tautology, canonical, same_literals}
+use Rattle.sat_checker.specs.LiteralSets.{is_among, is_tautology, canonical, same_literals}
 use Rattle.sat_checker.specs.SortedSets.{IsIncreasing}
-use Rattle.sat_checker.specs.Stored.{StoredClause, Stored, unit_literals, long_clauses, is_known}
-use Rattle.sat_checker.specs.Storing.{clause_with, without_clause, settled, last_literals}
+use Rattle.sat_checker.specs.Stored.{StoredClause, Last, NoneYet, Empty, UnitClause, LongClause, Stored, unit_literals, long_clauses, is_known}
+use Rattle.sat_checker.specs.Storing.{clause_with, clause_numbered, irredundant_count, without_clause, settled, last_literals}
 use Rattle.sat_checker.specs.Accepts.{VariablesApart, Accepts, AcceptsAll, effect, ready_after}
 use Rattle.sat_checker.specs.Fold.{Holds}
 use Rattle.sat_checker.specs.Contents.{count_of, same_side, less_if, contents, contents_after, contents_of}
@@ -102,3 +102,37 @@ LastStays = (f : Stored) (step : Step) → leaves_last step ≡ true → last_li
 
 abbrev pub LastIsSettled : Type 0
 LastIsSettled = (f : Stored) → last_literals (settled f).last (settled f) ≡ last_literals f.last f
+
+-- a unit is true in it, or it has an irredundant count
+abbrev pub Supported : List ℕ → List StoredClause → List ℕ → Type 0
+Supported us cs ls = (list_any (is_among us) ls ≡ true) ⊎ (0 < irredundant_count (clause_with ls cs))
+
+-- what is known of the last irredundant clause stored, as far as it's still there
+abbrev pub LastHolds : Last → Bool → List ℕ → List StoredClause → Type 0
+LastHolds NoneYet unsat us cs = Unit {0}
+LastHolds (Empty id) unsat us cs = unsat ≡ true
+LastHolds (UnitClause id) unsat us cs = Unit {0}
+LastHolds (LongClause id) unsat us cs = (ls : List ℕ) → clause_numbered id cs ≡ Some ls → Supported us cs ls
+
+-- its id was given
+abbrev pub LastBelow : ℕ → Last → Type 0
+LastBelow n NoneYet = Unit {0}
+LastBelow n (Empty id) = id < n
+LastBelow n (UnitClause id) = Unit {0}
+LastBelow n (LongClause id) = id < n
+
+pub record Orderly (f : Stored) : Type 0 where
+  pub increasing : IsIncreasing (map (λ c. c.id) f.clauses)
+  pub below : AllByRecursion (λ i. i < f.next_id) (map (λ c. c.id) f.clauses)
+  pub last_below : LastBelow f.next_id f.last
+  pub last_holds : LastHolds f.last f.unsat (unit_literals f) f.clauses
+
+-- it's so after every list of accepted steps
+abbrev pub AlwaysOrderly : Type 0
+AlwaysOrderly = (steps : List Step) → AcceptsAll steps → Orderly (ready_after steps)
+
+-- the same is known of variables, and the same is assumed
+pub record SameVariables (f g : Stored) : Type 0 where
+  pub variables : g.variables ≡ f.variables
+  pub deleted : g.var_deleted ≡ f.var_deleted
+  pub assumed : g.assumed ≡ f.assumed

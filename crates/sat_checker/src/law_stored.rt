@@ -1,6 +1,6 @@
 //! What makes a clause pass, what each step leaves of what is stored, and what always holds of it: each law is the contract of a function that
 //! does nothing.
-ghost use Rattle.sat_checker.specs.Invariants.{AllClausesHold, AlwaysTidy, ContentsAreSettled, ContentsFollow, ContentsOfSteps, CountedIsStored, DerivedIsLast, LastIsSettled, LastStays, PendingChangesNothing, TakingCounts, UnsatStays};
+ghost use Rattle.sat_checker.specs.Invariants.{AllClausesHold, AlwaysOrderly, AlwaysTidy, ContentsAreSettled, ContentsFollow, ContentsOfSteps, CountedIsStored, DerivedIsLast, LastIsSettled, LastStays, PendingChangesNothing, TakingCounts, UnsatStays};
 ghost use Rattle.sat_checker.specs.Leading.{HashOfAnyOrder, LeadingPasses, LeadsOnMore, TurnsConflict, TurnsLead};
 
 /// Stored clauses that hashes name make a clause pass where they lead to a conflict, whatever else the buckets hold.
@@ -29,8 +29,9 @@ pub fn stored_is_tidy()
     ensures clauses { AllClausesHold }
 {}
 
-/// Which clause is the last irredundant one stored.
+/// Which clause is the last irredundant one stored, and what holds of it behind every list of accepted steps.
 pub fn last_was_derived()
+    ensures orderly { AlwaysOrderly }
     ensures derived { DerivedIsLast }
     ensures stays { LastStays }
     ensures settled { LastIsSettled }

@@ -6,8 +6,8 @@ use Rattle.std.specs.List.{AllByRecursion}
 use Rattle.sat_base.specs.values.Literals.{negated}
 use Rattle.sat_checker.specs.LiteralSets.{is_among}
 use Rattle.sat_checker.specs.Propagation.{IsFalsified, IsUnit, UnitInTurn}
-use Rattle.sat_checker.specs.inner.Marks.{NoRepeats}
-use Rattle.sat_checker.specs.inner.Walk.{Verdict, falsified, opens, rests, verdict, verdict_of_open, not_false}
+use Rattle.sat_checker.specs.SortedSets.{NoRepeats}
+use Rattle.sat_checker.specs.Verdicts.{Verdict, falsified, opens, rests, verdict, verdict_of_open, not_false}
 use Rattle.sat_hints.specs.Checks.{SomeIsNotUnit, LastIsNotFalsified}
 use Rattle.sat_hints.specs.declared.answer.HintWhy.{HintWhy}
 use Rattle.sat_hints.specs.declared.answer.HintWhy.TheVariants.{Syntax, IdOrder, UnknownId, NotUnit, NotFalsified}

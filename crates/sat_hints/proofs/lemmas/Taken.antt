@@ -5,7 +5,7 @@ use Rattle.std.specs.List.{AllByRecursion}
 use Rattle.sat_base.specs.text.Tokenizing.{held}
 use Rattle.sat_base.specs.values.Literals.{negated}
 use Rattle.sat_checker.specs.LiteralSets.{canonical, is_tautology}
-use Rattle.sat_checker.specs.inner.Marks.{NoRepeats}
+use Rattle.sat_checker.specs.SortedSets.{NoRepeats}
 use Rattle.sat_checker.proofs.lemmas.sets.Canonical.{canonical_increasing}
 use Rattle.sat_checker.proofs.lemmas.sets.Marks.{once}
 use Rattle.sat_hints.specs.Lines.{Line, Input, Derived, Gone, Core}

@@ -1,7 +1,7 @@
 -- Units of level 0 that are written.
 use Rattle.std.specs.Prelude.{ℕ, ◌≡◌, true, Bool, Option, List, [], ◌∷◌, if◌then◌else◌}
 use Rattle.sat_checker.specs.LiteralSets.{is_among}
-use Rattle.sat_checker.specs.inner.Marks.{NoRepeats}
+use Rattle.sat_checker.specs.SortedSets.{NoRepeats}
 use Rattle.sat_parts.specs.prop.Graphs.{is_unit}
 use Rattle.sat_parts.specs.prop.Values.{IsTrueLit}
 use Rattle.sat_parts.specs.prop.State.{State, node, level}

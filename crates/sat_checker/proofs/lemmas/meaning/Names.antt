@@ -7,13 +7,10 @@ use Rattle.sat_checker.specs.LiteralSets.{is_among, is_tautology, canonical}
 use Rattle.sat_checker.specs.Stored.{Stored, Variable, Sample, Witness, Hide, unknown, is_known, is_unit}
 use Rattle.sat_checker.specs.Storing.{with_set, with_canonical, with_stored, with_input, with_unit, with_contradiction, with_new_unit, with_units, settled, settled_by, with_known, with_literals_known}
 use Rattle.sat_checker.specs.Accepts.{Accepts, AcceptsAll, effect, stored_after, ready_after}
+pub use Rattle.sat_checker.specs.Invariants.{SameVariables}
 use Rattle.sat_checker.specs.Laws.{NamedIsKnown, KnownStays, DeletedIsNameless, NamesApart, UnknownIsUnknown, has_delete_var, DeletionIsSeen}
 
--- storing leaves variables as they are
-pub record SameVariables (f g : Stored) : Type 0 where
-  pub variables : g.variables ≡ f.variables
-  pub deleted : g.var_deleted ≡ f.var_deleted
-  pub assumed : g.assumed ≡ f.assumed
+-- STORING LEAVES VARIABLES AS THEY ARE
 
 pub unit_same : (l : ℕ) (f : Stored) → SameVariables f (with_unit l f)
 unit_same l f = go (is_unit f l) (is_unit f (negated l))

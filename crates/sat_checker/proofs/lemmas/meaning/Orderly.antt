@@ -1,40 +1,18 @@
 -- What holds of ids and of the last irredundant clause after accepted steps.
 use Rattle.std.proofs.Common.{ℕ, ◌+◌, ◌≡◌, ◌<◌, Bool, true, false, cond, eqb, List, [], ◌∷◌, ◌++◌, map, refl, sym, ◌∙◌, ap, subst, arith, ◌⊎◌, inl, inr, Option, None, Some, is_some}
 use Rattle.std.proofs.lemmas.Bool.{or_cases, or_left, or_right, true≢false, eqb-true, ne_eqb}
-use Rattle.std.specs.List.{AllByRecursion, list_any}
+use Rattle.std.specs.List.{AllByRecursion}
 use Rattle.sat_base.specs.values.Literals.{negated}
 use Rattle.sat_checker.specs.LiteralSets.{is_among, same_literals}
 use Rattle.sat_checker.specs.Stored.{StoredClause, StoredUnit, Last, NoneYet, Empty, UnitClause, LongClause, Stored, is_unit, unit_literals}
 use Rattle.sat_checker.specs.Storing.{with_count, with_clause, clause_with, irredundant_count, with_unit, with_contradiction, with_new_unit, settled, settled_by, with_long, with_set, clause_numbered}
+pub use Rattle.sat_checker.specs.Invariants.{Supported, LastHolds, LastBelow, Orderly}
 use Rattle.sat_checker.specs.inner.Marks.{IsIncreasing}
 use Rattle.sat_checker.proofs.lemmas.sets.Subsets.{any_true, some_of}
 use Rattle.sat_checker.proofs.lemmas.meaning.Clauses.{same, irredundant_more}
 
 abbrev pub ids : List StoredClause → List ℕ
 ids = map (λ c. c.id)
-
--- a unit is true in it, or it has an irredundant count
-abbrev pub Supported : List ℕ → List StoredClause → List ℕ → Type 0
-Supported us cs ls = (list_any (is_among us) ls ≡ true) ⊎ (0 < irredundant_count (clause_with ls cs))
-
--- what is known of the last irredundant clause stored, as far as it's still there
-abbrev pub LastHolds : Last → Bool → List ℕ → List StoredClause → Type 0
-LastHolds NoneYet unsat us cs = Unit {0}
-LastHolds (Empty id) unsat us cs = unsat ≡ true
-LastHolds (UnitClause id) unsat us cs = Unit {0}
-LastHolds (LongClause id) unsat us cs = (ls : List ℕ) → clause_numbered id cs ≡ Some ls → Supported us cs ls
-
-abbrev pub LastBelow : ℕ → Last → Type 0
-LastBelow n NoneYet = Unit {0}
-LastBelow n (Empty id) = id < n
-LastBelow n (UnitClause id) = Unit {0}
-LastBelow n (LongClause id) = id < n
-
-pub record Orderly (f : Stored) : Type 0 where
-  pub increasing : IsIncreasing (ids f.clauses)
-  pub below : AllByRecursion (λ i. i < f.next_id) (ids f.clauses)
-  pub last_below : LastBelow f.next_id f.last
-  pub last_holds : LastHolds f.last f.unsat (unit_literals f) f.clauses
 
 pub below_more : (n m : ℕ) → ((i : ℕ) → i < n → i < m) → (is : List ℕ) → AllByRecursion (λ i. i < n) is → AllByRecursion (λ i. i < m) is
 below_more n m w [] h = tt

@@ -4,7 +4,7 @@ use Rattle.std.proofs.lemmas.Bool.{or_from, ne_eqb, cases_order, true≢false}
 use Rattle.sat_base.specs.values.Literals.{negated}
 use Rattle.sat_base.specs.steps.Steps.{AtClause}
 use Rattle.sat_checker.specs.LiteralSets.{is_tautology, canonical}
-use Rattle.sat_checker.specs.inner.Marks.{NoRepeats}
+use Rattle.sat_checker.specs.SortedSets.{NoRepeats}
 use Rattle.sat_checker.proofs.lemmas.sets.Canonical.{canonical_among, canonical_increasing, same_increasing}
 use Rattle.sat_parts.specs.prop.Binaries.{Binaries, with_binary}
 use Rattle.sat_solver.specs.session.Session.{Session, after, session_after}

@@ -4,7 +4,7 @@ use Rattle.std.specs.List.{list_any}
 use Rattle.sat_base.specs.values.Literals.{variable}
 use Rattle.sat_base.specs.steps.Steps.{AddClause, AtClause, DeleteClause, Redundant, Satisfied, Simplified}
 use Rattle.sat_checker.specs.LiteralSets.{is_among, is_tautology, canonical}
-use Rattle.sat_checker.specs.inner.Marks.{NoRepeats}
+use Rattle.sat_checker.specs.SortedSets.{NoRepeats}
 use Rattle.sat_checker.proofs.lemmas.sets.Subsets.{any_true}
 use Rattle.sat_parts.specs.clause.Orders.{Shuffled}
 use Rattle.sat_parts.specs.prop.State.{State}

@@ -6,7 +6,7 @@ use Rattle.sat_base.specs.steps.Steps.{AddClause, DeleteClause, Redundant}
 use Rattle.sat_store.specs.clause.Buffer.{lits_at}
 use Rattle.sat_store.specs.clause.Header.{Header, is_learned}
 use Rattle.sat_checker.specs.LiteralSets.{is_tautology, canonical}
-use Rattle.sat_checker.specs.inner.Marks.{NoRepeats}
+use Rattle.sat_checker.specs.SortedSets.{NoRepeats}
 use Rattle.sat_parts.specs.clause.Db.{Db, HoldsDb, live_refs, AddsClause}
 use Rattle.sat_parts.specs.clause.Orders.{AreDistinct}
 use Rattle.sat_parts.specs.prop.State.{State, Agrees}

@@ -3,7 +3,7 @@ use Rattle.std.proofs.Common.{ℕ, ◌<◌, ◌≡◌, Bool, true, false, eqb, c
 use Rattle.std.proofs.lemmas.Bool.{or_cases, and_parts, eqb-true, true≢false}
 use Rattle.sat_base.specs.values.Literals.{negated}
 use Rattle.sat_checker.specs.LiteralSets.{is_among, is_tautology, is_part, canonical}
-use Rattle.sat_checker.specs.inner.Marks.{NoRepeats}
+use Rattle.sat_checker.specs.SortedSets.{NoRepeats}
 use Rattle.sat_checker.proofs.lemmas.sets.Canonical.{canonical_among, canonical_increasing, same_increasing, same_tautology, tautology_from, both_signs}
 use Rattle.sat_checker.proofs.lemmas.sets.Subsets.{all_true}
 use Rattle.sat_parts.specs.clause.Orders.{AreDistinct, Shuffled}

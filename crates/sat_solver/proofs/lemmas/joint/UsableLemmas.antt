@@ -7,7 +7,7 @@ use Rattle.sat_base.specs.values.Literals.{negated}
 use Rattle.sat_base.specs.values.Hashes.{hash_of}
 use Rattle.sat_store.specs.clause.Buffer.{lits_at}
 use Rattle.sat_checker.specs.LiteralSets.{is_among}
-use Rattle.sat_checker.specs.inner.Marks.{NoRepeats}
+use Rattle.sat_checker.specs.SortedSets.{NoRepeats}
 use Rattle.sat_parts.specs.declared.prop.graph.Reason.{Reason}
 use Rattle.sat_parts.specs.declared.prop.graph.Reason.TheVariants.{Unit as NoCause, Binary, Long}
 use Rattle.sat_parts.specs.declared.prop.graph.Conflict.{Conflict}

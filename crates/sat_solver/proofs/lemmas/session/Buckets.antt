@@ -7,7 +7,7 @@ use Rattle.std.specs.List.{AllByRecursion}
 use Rattle.sat_base.specs.values.Literals.{negated}
 use Rattle.sat_base.specs.values.Hashes.{literal_hash, hash_of}
 use Rattle.sat_checker.specs.LiteralSets.{is_among, with_literal, canonical, same_literals}
-use Rattle.sat_checker.specs.inner.Marks.{NoRepeats}
+use Rattle.sat_checker.specs.SortedSets.{NoRepeats}
 use Rattle.sat_checker.specs.Propagation.{IsFalsified, UnitInTurn, IsSubsequence, clauses_in}
 use Rattle.sat_checker.specs.Stored.{StoredClause, Stored, solver_literal, hash_by, long_clauses, bucket}
 use Rattle.sat_checker.specs.Storing.{clause_with}

@@ -4,7 +4,7 @@ use Rattle.std.proofs.lemmas.Bool.{or_cases, or_left, or_right, or_parts, or_fro
 use Rattle.std.specs.List.{AllByRecursion}
 use Rattle.sat_base.specs.values.Literals.{variable, negated}
 use Rattle.sat_checker.specs.LiteralSets.{is_among, mentions}
-use Rattle.sat_checker.specs.inner.Marks.{NoRepeats}
+use Rattle.sat_checker.specs.SortedSets.{NoRepeats}
 use Rattle.sat_solver.specs.session.Session.{Session, Leads, denied}
 use Rattle.sat_solver.specs.session.LiveClauses.{with_var, AreMapped}
 

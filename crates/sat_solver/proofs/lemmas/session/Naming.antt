@@ -2,7 +2,7 @@
 use Rattle.std.proofs.Common.{ℕ, ◌+◌, ◌<◌, ◌≡◌, ◌≢◌, false, true, List, sym, ◌∙◌, ap, subst, Some}
 use Rattle.sat_base.specs.steps.Steps.{Step}
 use Rattle.sat_checker.specs.LiteralSets.{is_among, canonical}
-use Rattle.sat_checker.specs.inner.Marks.{NoRepeats}
+use Rattle.sat_checker.specs.SortedSets.{NoRepeats}
 use Rattle.sat_checker.specs.Stored.{Sample, Hide, unknown}
 use Rattle.sat_checker.specs.Accepts.{ready_after}
 use Rattle.sat_checker.proofs.lemmas.meaning.Names.{unknown_is_unknown}

@@ -5,7 +5,7 @@ use Rattle.std.specs.List.{AllByRecursion}
 use Rattle.sat_base.specs.values.Literals.{variable}
 use Rattle.sat_base.specs.values.Hashes.{hash_of}
 use Rattle.sat_checker.specs.LiteralSets.{mentions, canonical, same_literals}
-use Rattle.sat_checker.specs.inner.Marks.{NoRepeats}
+use Rattle.sat_checker.specs.SortedSets.{NoRepeats}
 use Rattle.sat_solver.specs.session.Session.{Session, same_side, more, less, with_live, without_live, with_solver_name, IsLive, hash_in}
 use Rattle.sat_solver.specs.session.LiveClauses.{LiveClause, count_of, IsIn, with_var, mapped, AreMapped, AreOf}
 use Rattle.sat_solver.proofs.lemmas.session.Lists.{count_between, in_counts, solver_hash}

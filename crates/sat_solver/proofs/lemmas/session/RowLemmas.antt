@@ -5,7 +5,7 @@ use Rattle.sat_base.specs.values.Literals.{negated}
 use Rattle.sat_base.specs.steps.Steps.{SolverVarName, UserVarName, DeleteVar, AddClause, AtClause, UnitClauses, ChangeHashBits, Assumptions}
 use Rattle.sat_checker.specs.Stored.{Variable, Sample, Hide, unknown}
 use Rattle.sat_checker.specs.LiteralSets.{is_among, mentions, canonical}
-use Rattle.sat_checker.specs.inner.Marks.{NoRepeats}
+use Rattle.sat_checker.specs.SortedSets.{NoRepeats}
 use Rattle.sat_solver.specs.session.Session.{Session, IsLive, MayAll, session_after, by_clauses}
 use Rattle.sat_solver.specs.session.SessionRows.{four, CollidingMay, HiddenMay}
 
