@@ -10,6 +10,9 @@ pub trait ExtendFormula {
     /// Why a clause wasn't added, or no variable was given.
     type Error;
 
+    /// What has to hold between calls. Each call keeps it, whatever it answers.
+    ghost ready: { Self → Type 0 };
+
     /// From the state before, this clause was added, to the state after.
     ghost adds: { Self → List ℕ → Self → Type 0 };
 
@@ -23,15 +26,21 @@ pub trait ExtendFormula {
     ghost refuses_variable: { Self → Self.Error → Self → Type 0 };
 
     fn add_clause(&mut self, lits: &[Lit]) -> Result<(), Self::Error>
-        ensures { MatchResult result (λ _. adds self.old lits.now self.new) (λ e. refuses_clause self.old lits.now e self.new) };
+        requires { ready self.old }
+        ensures ready { ready self.new }
+        ensures adds { MatchResult result (λ _. adds self.old lits.now self.new) (λ e. refuses_clause self.old lits.now e self.new) };
 
     /// A variable that is used nowhere else.
     fn new_var(&mut self) -> Result<Var, Self::Error>
-        ensures { MatchResult result (λ v. makes self.old v self.new) (λ e. refuses_variable self.old e self.new) };
+        requires { ready self.old }
+        ensures ready { ready self.new }
+        ensures makes { MatchResult result (λ v. makes self.old v self.new) (λ e. refuses_variable self.old e self.new) };
 
     /// The positive literal of a new variable.
     fn new_lit(&mut self) -> Result<Lit, Self::Error>
-        ensures { MatchResult result (λ l. (v : ℕ) × makes self.old v self.new × (l ≡ coded v true))
+        requires { ready self.old }
+        ensures ready { ready self.new }
+        ensures makes { MatchResult result (λ l. (v : ℕ) × makes self.old v self.new × (l ≡ coded v true))
             (λ e. refuses_variable self.old e self.new) }
     {
         match self.new_var() {

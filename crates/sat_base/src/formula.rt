@@ -103,6 +103,8 @@ fn vars_in(lits: &[Lit]) -> usize
 impl ExtendFormula for CnfFormula {
     type Error = FormulaError;
 
+    ghost ready = { λ _. Unit {0} };
+
     ghost adds = { λ f clause g. g ≡ with_clause clause f };
 
     ghost refuses_clause = { λ f clause e g. (e ≡ OutOfMemory) × (g ≡ f) };

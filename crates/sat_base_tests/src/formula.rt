@@ -11,7 +11,9 @@ use std::test::*;
 
 /// Adds a new literal as a clause of its own.
 fn add_unit<F: ExtendFormula>(formula: &mut F) -> Result<Lit, F::Error>
-    ensures { OnOk result ((v : ℕ) × (between : F) × F.makes formula.old v between × F.adds between (coded v true ∷ []) formula.new) }
+    requires { F.ready formula.old }
+    ensures ready { F.ready formula.new }
+    ensures adds { OnOk result ((v : ℕ) × (between : F) × F.makes formula.old v between × F.adds between (coded v true ∷ []) formula.new) }
 {
     let lit = formula.new_lit()?;
     formula.add_clause(&[lit])?;

@@ -14,6 +14,7 @@ pub mod answers;
 pub mod assuming;
 pub mod configuring;
 pub mod counting;
+pub mod extending;
 pub mod finding;
 pub mod formulas;
 pub mod naming;
