@@ -5,7 +5,7 @@ ghost use Rattle.sat_checker.specs.KernelView as kernels;
 ghost use Rattle.sat_checker.specs.KernelView.{has_failed, looks_of, Stands};
 ghost use Rattle.sat_checker.specs.CheckerView.{seen, ChecksStep, ChecksDelayed};
 ghost use Rattle.sat_checker.specs.announcements.Announcements.{Told};
-ghost use Rattle.sat_checker.specs.inner.TellingSteps.{announced_by, changed_by, put_back, was_of, fault_of, Quiet, TakesIn};
+ghost use Rattle.sat_checker.specs.inner.TellingSteps.{announced_by, changed_by, put_back, was_of, fault_of, records_in, Quiet, TakesIn};
 ghost use Rattle.sat_checker.specs.inner.VariablesView.{variable_at};
 ghost use Rattle.sat_checker.specs.telling.AnnouncementView.{variables_of};
 ghost use Rattle.sat_checker.specs.telling.Hearing.{hearers, HearsAll, HearsFirst, HearsUpTo};
@@ -74,6 +74,7 @@ fn listens<P: ProofProcessor, T: ProofTranscriptProcessor>(
 }
 
 /// Tells announcements in order, up to the first fault.
+#[inline(never)]
 fn tell_news<O: ProofProcessor, P: ProofProcessor, T: ProofTranscriptProcessor>(
     news: &News,
     names: CheckerData<'_>,
@@ -155,7 +156,28 @@ impl Kernel {
     }
 
     /// The empty clause of a pending unit conflict takes the next id, and is told.
+    #[inline(always)]
     pub fn settle<O: ProofProcessor, P: ProofProcessor, T: ProofTranscriptProcessor>(
+        &mut self,
+        own: &mut O,
+        others: &mut Processing<P, T>,
+    ) -> Result<(), CheckerError>
+        requires { has_failed self.old ≡ false }
+        ensures judges { kernels.ChecksDelayed result self.old self.new }
+        ensures goes_on { OnOk result ((has_failed self.new ≡ false) × (self.new.state.formula.status.conflict ≡ None)) }
+        ensures looks { looks_of self.new ≡ looks_of self.old }
+        ensures tells { ChecksDelayed (HearsFirst O.takes (HearsEach P.takes T.reads))
+            result (seen self.old (hearers own.old others.old)) (seen self.new (hearers own.new others.new)) }
+    {
+        if self.state.formula.status.conflict.is_none() {
+            return Ok(());
+        }
+        self.settle_conflict(own, others)
+    }
+
+    /// As `settle`. Steps that follow no unit conflict don't come here.
+    #[inline(never)]
+    fn settle_conflict<O: ProofProcessor, P: ProofProcessor, T: ProofTranscriptProcessor>(
         &mut self,
         own: &mut O,
         others: &mut Processing<P, T>,
@@ -224,6 +246,7 @@ impl Kernel {
     }
 
     /// Records what an accepted step leaves, and tells what it has noted, where somebody listens.
+    #[inline(always)]
     fn take_in<O: ProofProcessor, P: ProofProcessor, T: ProofTranscriptProcessor>(
         &mut self,
         was: &Option<Was>,
@@ -242,6 +265,23 @@ impl Kernel {
         if !hears {
             return Ok(());
         }
+        self.tell(was, own, others)
+    }
+
+    /// Tells what an accepted step, which is recorded, has noted.
+    #[inline(never)]
+    fn tell<O: ProofProcessor, P: ProofProcessor, T: ProofTranscriptProcessor>(
+        &mut self,
+        was: &Option<Was>,
+        own: &mut O,
+        others: &mut Processing<P, T>,
+    ) -> Result<(), CheckerError>
+        requires well { has_failed self.old ≡ false }
+        requires recorded { self.old.records ≡ records_in self.old.state.formula.status }
+        ensures { TakesIn (HearsFirst O.takes (HearsEach P.takes T.reads))
+            (announced_by (put_back (was_of was.now) (variable_at self.old.state.variables)) self.old.notes.news)
+            result (seen self.old (hearers own.old others.old)) (seen self.new (hearers own.new others.new)) }
+    {
         let names = CheckerData::before(&self.state.variables, was);
         match tell_news(&self.notes.news, names, own, others) {
             Ok(()) => Ok(()),

@@ -154,6 +154,7 @@ impl News {
             .lend(self.literals.get(item.literals), self.ids.get(item.ids))
     }
 
+    #[inline(never)]
     fn push(&mut self, kind: Kind, literals: &[Lit], ids: &[u64]) -> Result<(), AllocError>
         ensures ok { OnOk result (self.new ≡ self.old ++ announcement_with kind literals.now ids.now ∷ []) }
         ensures err { OnErr result (self.new ≡ self.old) }

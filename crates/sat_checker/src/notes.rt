@@ -141,6 +141,7 @@ impl Formula {
     }
 
     /// What the deletion of a clause, which has these sorted literals, will announce.
+    #[inline(always)]
     pub fn deletion(
         &self,
         notes: &Notes,
@@ -161,6 +162,22 @@ impl Formula {
                 from: None,
             };
         }
+        self.deletion_heard(literals, proof, looks)
+    }
+
+    /// As `deletion`, where somebody listens.
+    #[inline(never)]
+    fn deletion_heard(
+        &self,
+        literals: &[Lit],
+        proof: DeleteClauseProof,
+        looks: &mut Looks,
+    ) -> Deletion
+        ensures told { (f : Stored) → KeepsFormula self.now f → (clause : List ℕ) → literals.now ≡ canonical clause
+            → deletion_told literals.now result ≡ announced f (DeleteClause clause (deletion_of proof)) }
+        ensures looks { (f : Stored) → KeepsFormula self.now f → looks.new ≤ looks.old + literal_count f }
+        ensures rise { looks.old ≤ looks.new }
+    {
         let stored = self.store.stored(literals, looks);
         match proof {
             DeleteClauseProof::Redundant => Deletion {
@@ -202,6 +219,7 @@ impl Formula {
     }
 
     /// Notes what storing a clause will announce, which passed the last propagation check.
+    #[inline(always)]
     pub fn note_derived(
         &self,
         redundant: bool,
@@ -219,6 +237,25 @@ impl Formula {
         if !notes.hears {
             return Ok(());
         }
+        self.note_heard(redundant, clause, notes, looks)
+    }
+
+    /// As `note_derived`, where somebody listens.
+    #[inline(never)]
+    fn note_heard(
+        &self,
+        redundant: bool,
+        clause: &[Lit],
+        notes: &mut Notes,
+        looks: &mut Looks,
+    ) -> Result<(), AllocError>
+        requires explained { (hashes : List ℕ) × Explained self.now clause.now hashes }
+        ensures noted { OnOk result ((f : Stored) (hashes : List ℕ) → KeepsFormula self.now f → AreLong f
+            → Explained self.now clause.now hashes → Adds notes.old (derived redundant clause.now hashes f) notes.new) }
+        ensures looks { (f : Stored) → KeepsFormula self.now f
+            → looks.new ≤ looks.old + noted_length self.now.store.clauses self.now.passed + literal_count f }
+        ensures rise { looks.old ≤ looks.new }
+    {
         let both_signs = copy_canonical(&mut notes.literals, clause)?;
         let literals = notes.literals.as_slice();
         notes.rests_on.list(

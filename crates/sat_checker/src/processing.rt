@@ -205,6 +205,7 @@ impl<P: ProofProcessor, T: ProofTranscriptProcessor> Processing<P, T> {
     }
 
     /// Tells an announcement to a processor of the caller's own, and then as `step` does.
+    #[inline(never)]
     pub fn step_with<O: ProofProcessor>(
         &mut self,
         own: &mut O,

@@ -44,6 +44,7 @@ impl Propagations {
     }
 
     /// Lists the propagations of a clause that passed the check, by what the check noted. These are its sorted literals.
+    #[inline(never)]
     pub fn list(
         &mut self,
         store: &Store,

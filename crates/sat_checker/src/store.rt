@@ -105,6 +105,7 @@ impl Store {
     }
 
     /// The clause with these literals.
+    #[inline(never)]
     pub fn stored(&self, literals: &[Lit], looks: &mut Looks) -> Option<Found>
         ensures found { (f : Stored) → KeepsClauses self.now f → clause_with literals.now f.clauses ≡ found_in literals.now result }
         ensures looks { (f : Stored) → KeepsClauses self.now f → looks.new ≤ looks.old + literal_count f }

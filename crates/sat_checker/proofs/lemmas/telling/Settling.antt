@@ -1,5 +1,5 @@
 -- A unit conflict that waits, and one that doesn't.
-use Rattle.std.proofs.Common.{ℕ, ◌≡◌, Option, None, Some, List, ◌∷◌, inl, inr, refl, sym, ap, ◌∙◌}
+use Rattle.std.proofs.Common.{ℕ, ◌≡◌, true, false, is_some, Option, None, Some, List, ◌∷◌, inl, inr, refl, sym, ap, ◌∙◌}
 use Rattle.sat_base.specs.steps.Steps.{Step, End}
 use Rattle.sat_checker.specs.Stored.{Stored}
 use Rattle.sat_checker.specs.Storing.{settled, settled_by}
@@ -18,6 +18,10 @@ settled_none f = go f.conflict refl
 
 pub settled_already : (f : Stored) → f.conflict ≡ None → settled f ≡ f
 settled_already f e = ap (λ (c : Option (ℕ × ℕ)). settled_by c f) e
+
+pub is_none_none : (c : Option (ℕ × ℕ)) → is_some c ≡ false → c ≡ None
+is_none_none None e = refl
+is_none_none (Some units) e = absurd (let d : true ≡ false = e in cc)
 
 pub end_settled : (steps : List Step) → (stored_after (End ∷ steps)).conflict ≡ None
 end_settled steps = settled_none (stored_after steps)

@@ -211,6 +211,11 @@ pub taken_on : {L : Type 0} (Hears : L → Told → Result Unit ProcessingError 
 taken_on Hears told mid l new m (Ok x) t = t.1.0
 taken_on Hears told mid l new m (Err e) t = tt
 
+-- what is recorded may differ before
+pub taken_from : {L : Type 0} (Hears : L → Told → Result Unit ProcessingError → L → Type 0) (told : List Told) (old mid : Kernel) (l : L) (new : Kernel) (m : L) (r : Result Unit CheckerError) → mid.state ≡ old.state → kernels.looks_of mid ≡ kernels.looks_of old → TakesIn Hears told r (seen mid l) (seen new m) → TakesIn Hears told r (seen old l) (seen new m)
+taken_from Hears told old mid l new m (Ok x) s k t = (record { state = t.0.state ∙ s; looks = t.0.looks ∙ k }, t.1)
+taken_from Hears told old mid l new m (Err e) s k t = (record { state = t.0.state ∙ s; looks = t.0.looks ∙ k }, t.1)
+
 -- what was noted, where somebody listens, is what is announced
 pub noted_told : (begun noted : Notes) (hears : Bool) (step : Step) (f : Stored) (old new : ℕ → Variable) (was : Option (ℕ × Variable)) → begun.hears ≡ hears → (hears ≡ true → begun.news ≡ []) → (hears ≡ true → was ≡ changed_by old step) → Adds begun (announced f step) noted
     → hears ≡ true → announced_by (put_back (changed_by old step) new) (announced f step) ≡ announced_by (put_back was new) noted.news
