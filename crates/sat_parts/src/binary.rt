@@ -2,7 +2,7 @@
 ghost use Rattle.std.specs.Prelude.{◌≡◌, ◌+◌, ◌-◌, ◌*◌, ◌<◌, ◌≤◌, ◌^◌, ◌∷◌, ◌++◌, [], length, take, OnOk, OnErr, IfErr, is_ok, if◌then◌else◌, slice_index_or};
 ghost use Rattle.sat_base.specs.values.Literals.{largest, negated};
 ghost use Rattle.sat_parts.specs.prop.Values.{is_unset};
-ghost use Rattle.sat_parts.specs.prop.Binaries.{implied_by, with_implied, without_last, with_binary, with_literals, open_among, RemovesAssigned};
+ghost use Rattle.sat_parts.specs.prop.Binaries.{implied_by, with_implied, without_last, with_binary, with_literals, open_among, implications, RemovesAssigned};
 
 use crate::prop::assignment::Assignment;
 use sat_base::Lit;
@@ -127,6 +127,18 @@ impl BinaryClauses {
         ensures { result ≡ self.now.count }
     {
         self.count
+    }
+
+    /// How many implications the lists have, two for each clause, held at 2^64 - 1.
+    pub fn implications(&self) -> usize
+        ensures { result ≡ implications self.now.implied }
+    {
+        let mut all: usize = 0;
+        for code in 0..self.by_lit.len() {
+            let list = &self.by_lit[code];
+            all = all.saturating_add(list.lits.len());
+        }
+        all
     }
 
     /// Puts a literal behind those that another implies.

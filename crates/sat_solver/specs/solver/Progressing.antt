@@ -1,8 +1,9 @@
 -- How far a solver has come.
-use Rattle.std.specs.Prelude.{ℕ, ◌≡◌, ◌&&◌, not, false, Bool, Option, is_some, List, length, nat_lt, count_by}
+use Rattle.std.specs.Prelude.{ℕ, ◌≡◌, ◌/◌, ◌&&◌, not, false, Bool, Option, is_some, List, length, nat_lt, count_by}
 use Rattle.sat_store.specs.declared.clause.tier.Tier.{Tier}
 use Rattle.sat_store.specs.declared.clause.tier.Tier.TheVariants as tiers
 use Rattle.sat_parts.specs.clause.Db.{is_live_of}
+use Rattle.sat_parts.specs.prop.Binaries.{implications}
 use Rattle.sat_parts.specs.prop.Values.{value_of}
 use Rattle.sat_solver.specs.declared.names.Variables.{Variables}
 use Rattle.sat_solver.specs.declared.parts.Parts.{Parts}
@@ -34,9 +35,9 @@ pub record GoesOnIn {W : Type 0} (s : Solver W) : Type 0 where
 abbrev pub clauses_of : Parts → Tier → ℕ
 clauses_of p tier = count_by (is_live_of p.clauses tier) p.db.refs
 
--- clauses as the search has them
+-- clauses as the search has them: one of two literals is two implications
 pub record CountsClauses (r : Progress) (p : Parts) : Type 0 where
-  pub binary : r.binary ≡ p.binary.count
+  pub binary : r.binary ≡ implications p.binary.implied / 2
   pub irred : r.irred ≡ clauses_of p tiers.Irred
   pub core : r.core ≡ clauses_of p tiers.Core
   pub mid : r.mid ≡ clauses_of p tiers.Mid

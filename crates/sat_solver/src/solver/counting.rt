@@ -49,7 +49,7 @@ impl<W: CountedWrite + Drop> Solver<W> {
             conflicts: self.clock.steps,
             restarts: self.clock.restarts.count,
             vars: open_count(&self.names, parts.assignment.assignment()),
-            binary: parts.binary.count() as u64,
+            binary: parts.binary.implications() as u64 / 2,
             irred: parts.db.count_by_tier(Tier::Irred) as u64,
             core: parts.db.count_by_tier(Tier::Core) as u64,
             mid: parts.db.count_by_tier(Tier::Mid) as u64,

@@ -1,3 +1,4 @@
+use Rattle.std.proofs.Common.{ℕ, ◌/◌, ap}
 use Rattle.sat_store.specs.declared.clause.tier.Tier.TheVariants as tiers
 use Rattle.sat_solver.proofs.lemmas.solver.ProgressLemmas.{parts_hold, tier_count}
 use Rattle.sat_solver.proofs.solver.Solver.progress.Goals as goal
@@ -7,7 +8,7 @@ returns-clause-clauses g c = λ on.
     let p = c.args.self.now.core.search.parts in
     let holds = parts_hold c.args.self.now on in
     record {
-      binary = c.count.ensures;
+      binary = ap (λ (n : ℕ). n / 2) c.implications.ensures;
       irred = tier_count p holds tiers.Irred c.count_by_tier.result c.count_by_tier.ensures;
       core = tier_count p holds tiers.Core c.count_by_tier-2.result c.count_by_tier-2.ensures;
       mid = tier_count p holds tiers.Mid c.count_by_tier-3.result c.count_by_tier-3.ensures;
