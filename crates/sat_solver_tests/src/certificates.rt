@@ -2,6 +2,7 @@
 ghost use Rattle.sat_solver.specs.solver.Whole.{IsSolver};
 
 use crate::devices::by_few;
+use crate::driver::{Bytes, Play, played, written};
 use crate::solver::read;
 use sat_base::{Counted, CountedWrite, DeleteClauseProof, Lit, ProofStep, Var};
 use sat_solver::session::lines::put_step;
@@ -57,43 +58,31 @@ fn add_and_ask<W: CountedWrite + Drop>(
     ask_none(solver)
 }
 
-/// Writes the proof of clauses and an ask to a target, which comes back.
-fn write_text<W: CountedWrite + Drop>(
-    solver: &mut Solver<W>,
-    target: W,
+/// Adds clauses and solves, as a proof in this format wants it.
+#[derive(Drop)]
+struct Adding {
     format: ProofFormat,
     clauses: Clauses,
-    lits: &mut Vec<Lit>,
-) -> Result<Option<W>, SolverError>
-    requires { IsSolver solver.old }
-{
-    solver.write_proof(target, format)?;
-    add_and_ask(solver, format, clauses, lits)?;
-    solver.close_proof()
 }
 
-/// The text of a proof.
-fn text_of(
-    alloc: Global,
-    format: ProofFormat,
-    clauses: Clauses,
-) -> Result<Option<Vec<u8>>, SolverError> {
-    let mut solver = Solver::new(alloc);
-    let mut lits = Vec::new(alloc);
-    let target = Counted::new(Vec::new(alloc));
-    match write_text(&mut solver, target, format, clauses, &mut lits) {
-        Ok(Some(target)) => Ok(Some(target.into_inner())),
-        Ok(None) => Ok(None),
-        Err(error) => Err(error),
+impl<W: CountedWrite + Drop> Play<Solver<W>, Result<(), SolverError>> for Adding {
+    fn play(self, alloc: Global, solver: &mut Solver<W>) -> Result<(), SolverError> {
+        let mut lits = Vec::new(alloc);
+        add_and_ask(solver, self.format, self.clauses, &mut lits)
     }
 }
 
-/// Whether the text of a proof is this one.
-fn is_text(alloc: Global, format: ProofFormat, clauses: Clauses, text: &[u8]) -> bool {
-    match text_of(alloc, format, clauses) {
-        Ok(Some(written)) => written.as_slice() == text,
-        Ok(None) => false,
-        Err(_) => false,
+/// Whether a play goes well, and the text of its proof is this one.
+fn is_text<A: Play<Solver<Bytes>, Result<(), SolverError>>>(
+    alloc: Global,
+    format: ProofFormat,
+    act: A,
+    text: &[u8],
+) -> bool {
+    match written(alloc, format, act) {
+        Some((Ok(()), wrote)) => wrote.as_slice() == text,
+        Some((Err(_), _)) => false,
+        None => false,
     }
 }
 
@@ -140,19 +129,22 @@ const ROWS: &[Row] = &[
 #[test]
 fn proofs_are_written_in_each_format(rt: HostRuntime) {
     for (clauses, format, text) in ROWS {
-        assert!(rt; is_text(rt.alloc(), *format, clauses, text));
+        let act = Adding {
+            format: *format,
+            clauses,
+        };
+        assert!(rt; is_text(rt.alloc(), *format, act, text));
     }
 }
 
-/// The text of a proof in which a name is hidden.
-fn hidden(alloc: Global) -> Result<Option<Vec<u8>>, SolverError> {
-    let mut solver = Solver::new(alloc);
-    solver.write_proof(Counted::new(Vec::new(alloc)), ProofFormat::Varisat)?;
-    solver.hide_var(Var::from_index(1))?;
-    ask_none(&mut solver)?;
-    match solver.close_proof()? {
-        Some(target) => Ok(Some(target.into_inner())),
-        None => Ok(None),
+/// A name is hidden before an ask.
+#[derive(Drop)]
+struct Hiding;
+
+impl<W: CountedWrite + Drop> Play<Solver<W>, Result<(), SolverError>> for Hiding {
+    fn play(self, _alloc: Global, solver: &mut Solver<W>) -> Result<(), SolverError> {
+        solver.hide_var(Var::from_index(1))?;
+        ask_none(solver)
     }
 }
 
@@ -163,11 +155,7 @@ const HIDDEN: &[u8] = &[
 
 #[test]
 fn hidden_names_are_deleted_in_bytes(rt: HostRuntime) {
-    match hidden(rt.alloc()) {
-        Ok(Some(text)) => assert!(rt; text.as_slice() == HIDDEN),
-        Ok(None) => assert!(rt; false),
-        Err(_) => assert!(rt; false),
-    }
+    assert!(rt; is_text(rt.alloc(), ProofFormat::Varisat, Hiding, HIDDEN));
 }
 
 /// Whether the lines of a deletion are these.
@@ -211,23 +199,43 @@ fn refuses<W: CountedWrite + Drop>(solver: &mut Solver<W>, lits: &[Lit]) -> bool
     before && added && solved && late && again && is_not_in_drat(solver.assume(lits))
 }
 
-fn is_refused(alloc: Global, format: ProofFormat) -> bool {
-    let mut solver = Solver::new(alloc);
-    let lits = [Var::from_index(0).positive()];
-    let target = Counted::new(Vec::new(alloc));
-    solver.write_proof(target, format).is_ok() && refuses(&mut solver, &lits)
+/// A proof begins, and what lines of DRAT lack is refused.
+#[derive(Drop)]
+struct Refusing<W> {
+    target: W,
+    format: ProofFormat,
+}
+
+impl<W: CountedWrite + Drop> Play<Solver<W>, bool> for Refusing<W> {
+    fn play(self, _alloc: Global, solver: &mut Solver<W>) -> bool {
+        let lits = [Var::from_index(0).positive()];
+        solver.write_proof(self.target, self.format).is_ok() && refuses(solver, &lits)
+    }
+}
+
+/// Whether it is, of a new solver.
+fn is_refused<W: CountedWrite + Drop>(alloc: Global, target: W, format: ProofFormat) -> bool {
+    let act = Refusing { target, format };
+    let (refused, _left) = played::<W, Solver<W>, bool, Refusing<W>>(alloc, act);
+    refused
+}
+
+/// A target that keeps what it takes.
+fn bytes(alloc: Global) -> Bytes {
+    Counted::new(Vec::new(alloc))
 }
 
 #[test]
 fn drat_has_no_assumptions_and_no_later_clauses(rt: HostRuntime) {
-    assert!(rt; is_refused(rt.alloc(), ProofFormat::Drat));
-    assert!(rt; is_refused(rt.alloc(), ProofFormat::BinaryDrat));
-    assert!(rt; !is_refused(rt.alloc(), ProofFormat::Varisat));
+    assert!(rt; is_refused(rt.alloc(), bytes(rt.alloc()), ProofFormat::Drat));
+    assert!(rt; is_refused(rt.alloc(), bytes(rt.alloc()), ProofFormat::BinaryDrat));
+    assert!(rt; !is_refused(rt.alloc(), bytes(rt.alloc()), ProofFormat::Varisat));
 }
 
 /// Whether an ask answers the target's fault, and then the solver has failed.
 fn fails_once<W: CountedWrite + Drop>(solver: &mut Solver<W>) -> bool
     requires { IsSolver solver.old }
+    ensures { IsSolver solver.new }
 {
     let asked = match solver.solve() {
         Err(SolverError::ProofIoError { .. }) => true,
@@ -241,18 +249,38 @@ fn fails_once<W: CountedWrite + Drop>(solver: &mut Solver<W>) -> bool
     }
 }
 
+/// A clause is added, and an ask meets the target's fault.
+#[derive(Drop)]
+struct Failing<W> {
+    target: W,
+    format: ProofFormat,
+}
+
+impl<W: CountedWrite + Drop> Play<Solver<W>, bool> for Failing<W> {
+    fn play(self, _alloc: Global, solver: &mut Solver<W>) -> bool {
+        let opened = solver.write_proof(self.target, self.format).is_ok();
+        let named = solver.add_clause(&[Var::from_index(4).positive()]).is_ok();
+        fails_once(solver) && opened && named
+    }
+}
+
+/// Whether that is answered by a new solver, and the target that it keeps.
+fn fails<W: CountedWrite + Drop>(
+    alloc: Global,
+    target: W,
+    format: ProofFormat,
+) -> (bool, Option<W>) {
+    played::<W, Solver<W>, bool, Failing<W>>(alloc, Failing { target, format })
+}
+
 /// A target takes four bytes of each piece, and its second call fails. Gives whether that is answered, and what it saw.
 fn broken(alloc: Global, format: ProofFormat) -> (bool, u64, usize) {
-    let mut solver = Solver::new(alloc);
-    let opened = solver.write_proof(by_few(alloc, 4, 2), format).is_ok();
-    let named = solver.add_clause(&[Var::from_index(4).positive()]).is_ok();
-    let failed = fails_once(&mut solver);
-    match solver.into_target() {
-        Some(target) => {
+    match fails(alloc, by_few(alloc, 4, 2), format) {
+        (failed, Some(target)) => {
             let device = target.into_inner();
-            (opened && named && failed, device.calls, device.taken.len())
+            (failed, device.calls, device.taken.len())
         }
-        None => (false, 0, 0),
+        (_, None) => (false, 0, 0),
     }
 }
 

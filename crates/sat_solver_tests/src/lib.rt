@@ -3,11 +3,17 @@
 
 #[cfg(test)]
 mod analysing;
+#[cfg(test)]
+mod blind;
 pub mod caller;
 #[cfg(test)]
 mod certificates;
 #[cfg(test)]
 mod devices;
+#[cfg(test)]
+mod driver;
+#[cfg(test)]
+mod extending;
 #[cfg(test)]
 mod naming;
 #[cfg(test)]
@@ -17,4 +23,8 @@ mod searcher;
 #[cfg(test)]
 mod solver;
 #[cfg(test)]
+mod states;
+#[cfg(test)]
 mod texts;
+#[cfg(test)]
+mod twenty;

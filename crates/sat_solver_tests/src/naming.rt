@@ -1,9 +1,9 @@
 //! Names that are hidden and named anew, and modes, as calls of a solver whose proof is checked.
 ghost use Rattle.sat_solver.specs.solver.Whole.{IsSolver};
 
+use crate::driver::{Play, is_accepted, written};
 use crate::solver::{are, read};
-use sat_base::{Counted, CountedWrite, Lit, Var};
-use sat_checker::Checker;
+use sat_base::{CountedWrite, Lit, Var};
 use sat_solver::{ProofFormat, Solver, SolverError};
 use std::alloc::Global;
 
@@ -254,33 +254,23 @@ fn make_all<W: CountedWrite + Drop>(
     Ok(right)
 }
 
-/// The proof of these calls, where each answer is the one that is wanted.
-fn proof_of(alloc: Global, calls: &[Call]) -> Result<Option<Vec<u8>>, SolverError> {
-    let mut solver = Solver::new(alloc);
-    solver.write_proof(Counted::new(Vec::new(alloc)), ProofFormat::Varisat)?;
-    let mut lits = Vec::new(alloc);
-    let right = make_all(alloc, &mut solver, calls, &mut lits)?;
-    let target = solver.close_proof()?;
-    if !right {
-        return Ok(None);
-    }
-    match target {
-        Some(target) => Ok(Some(target.into_inner())),
-        None => Ok(None),
+/// Makes all calls.
+#[derive(Drop)]
+struct Calls<'a>(&'a [Call]);
+
+impl<W: CountedWrite + Drop> Play<Solver<W>, Result<bool, SolverError>> for Calls<'_> {
+    fn play(self, alloc: Global, solver: &mut Solver<W>) -> Result<bool, SolverError> {
+        let mut lits = Vec::new(alloc);
+        make_all(alloc, solver, self.0, &mut lits)
     }
 }
 
 /// Whether each answer is the one that is wanted, and the checker accepts the proof.
 fn is_right(alloc: Global, calls: &[Call]) -> bool {
-    match proof_of(alloc, calls) {
-        Ok(Some(text)) => {
-            let mut checker = Checker::new(alloc);
-            checker
-                .check_proof(&mut Counted::new(text.as_slice()))
-                .is_ok()
-        }
-        Ok(None) => false,
-        Err(_) => false,
+    match written(alloc, ProofFormat::Varisat, Calls(calls)) {
+        Some((Ok(right), text)) => right && is_accepted(alloc, &text),
+        Some((Err(_), _)) => false,
+        None => false,
     }
 }
 

@@ -1,8 +1,8 @@
 //! Scripts of clauses and asks, as calls of a solver whose proof is checked.
 ghost use Rattle.sat_solver.specs.solver.Whole.{IsSolver};
 
+use crate::driver::{Bytes, Play, SelfChecked, is_accepted, played, told, written};
 use sat_base::{Counted, CountedWrite, Lit};
-use sat_checker::Checker;
 use sat_solver::{ProofFormat, Solver, SolverConfigUpdate, SolverError};
 use std::alloc::{AllocError, Global};
 
@@ -129,33 +129,42 @@ fn make_all<W: CountedWrite + Drop>(
     Ok(right)
 }
 
-/// The proof of these calls, where each answer is the one that was told.
-fn proof_of(alloc: Global, calls: &[Call]) -> Result<Option<Vec<u8>>, SolverError> {
-    let mut solver = Solver::new(alloc);
-    solver.write_proof(Counted::new(Vec::new(alloc)), ProofFormat::Varisat)?;
-    let mut lits = Vec::new(alloc);
-    let right = make_all(alloc, &mut solver, calls, &mut lits)?;
-    let target = solver.close_proof()?;
-    if !right {
-        return Ok(None);
-    }
-    match target {
-        Some(target) => Ok(Some(target.into_inner())),
-        None => Ok(None),
+/// Makes all calls.
+#[derive(Drop)]
+struct Calls<'a>(&'a [Call]);
+
+impl<W: CountedWrite + Drop> Play<Solver<W>, Result<bool, SolverError>> for Calls<'_> {
+    fn play(self, alloc: Global, solver: &mut Solver<W>) -> Result<bool, SolverError> {
+        let mut lits = Vec::new(alloc);
+        make_all(alloc, solver, self.0, &mut lits)
     }
 }
 
-/// Whether each answer is the one that was told, and the checker accepts the proof.
+/// The proof of a play, where each answer is the one that was told.
+fn proof_of<A: Play<Solver<Bytes>, Result<bool, SolverError>>>(
+    alloc: Global,
+    act: A,
+) -> Option<Vec<u8>> {
+    match written(alloc, ProofFormat::Varisat, act) {
+        Some((Ok(true), text)) => Some(text),
+        Some((Ok(false), _)) => None,
+        Some((Err(_), _)) => None,
+        None => None,
+    }
+}
+
+/// Whether each answer is the one that was told, and the checker accepts the proof, which is the same where the solver has a checker of
+/// its own.
 fn is_right(alloc: Global, calls: &[Call]) -> bool {
-    match proof_of(alloc, calls) {
-        Ok(Some(text)) => {
-            let mut checker = Checker::new(alloc);
-            checker
-                .check_proof(&mut Counted::new(text.as_slice()))
-                .is_ok()
+    match (
+        proof_of(alloc, Calls(calls)),
+        proof_of(alloc, SelfChecked(Calls(calls))),
+    ) {
+        (Some(text), Some(checked)) => {
+            is_accepted(alloc, &text) && checked.as_slice() == text.as_slice()
         }
-        Ok(None) => false,
-        Err(_) => false,
+        (Some(_), None) => false,
+        (None, _) => false,
     }
 }
 
@@ -352,11 +361,9 @@ const ONE_CLAUSE_BYTES: &[u8] = &[
 
 #[test]
 fn bytes_are_those_of_the_steps(rt: HostRuntime) {
-    let text = proof_of(rt.alloc(), ONE_CLAUSE);
-    match text {
-        Ok(Some(text)) => assert!(rt; text.as_slice() == ONE_CLAUSE_BYTES),
-        Ok(None) => assert!(rt; false),
-        Err(_) => assert!(rt; false),
+    match proof_of(rt.alloc(), Calls(ONE_CLAUSE)) {
+        Some(text) => assert!(rt; text.as_slice() == ONE_CLAUSE_BYTES),
+        None => assert!(rt; false),
     }
 }
 
@@ -392,20 +399,26 @@ fn solve_within<W: CountedWrite + Drop>(solver: &mut Solver<W>, most: u64) -> Ca
     }
 }
 
-/// What solving came to, and the rounds so far, where first few rounds and then many are allowed.
-fn solve_twice(
-    alloc: Global,
-    calls: &[Call],
+/// Makes all calls, and solves where first few rounds and then many are allowed.
+#[derive(Drop)]
+struct Twice<'a> {
+    calls: &'a [Call],
     first: u64,
     second: u64,
-) -> Result<(Came, u64, Came, u64), SolverError> {
-    let mut solver: Solver<Counted<Vec<u8>>> = Solver::new(alloc);
-    let mut lits = Vec::new(alloc);
-    make_all(alloc, &mut solver, calls, &mut lits)?;
-    let one = solve_within(&mut solver, first);
-    let after_one = solver.steps();
-    let two = solve_within(&mut solver, second);
-    Ok((one, after_one, two, solver.steps()))
+}
+
+/// What solving came to, and the rounds so far, twice.
+type Both = (Came, u64, Came, u64);
+
+impl<W: CountedWrite + Drop> Play<Solver<W>, Result<Both, SolverError>> for Twice<'_> {
+    fn play(self, alloc: Global, solver: &mut Solver<W>) -> Result<Both, SolverError> {
+        let mut lits = Vec::new(alloc);
+        make_all(alloc, solver, self.calls, &mut lits)?;
+        let one = solve_within(solver, self.first);
+        let after_one = solver.steps();
+        let two = solve_within(solver, self.second);
+        Ok((one, after_one, two, solver.steps()))
+    }
 }
 
 const TWO_VARIABLES: &[Call] = &[
@@ -416,11 +429,8 @@ const TWO_VARIABLES: &[Call] = &[
 ];
 
 /// Whether the two answers and the rounds are these.
-fn come_to(
-    came: Result<(Came, u64, Came, u64), SolverError>,
-    wanted: (Came, u64, Came, u64),
-) -> bool {
-    match came {
+fn come_to(alloc: Global, twice: Twice<'_>, wanted: Both) -> bool {
+    match told(alloc, twice) {
         Ok(came) => {
             came.0 == wanted.0 && came.1 == wanted.1 && came.2 == wanted.2 && came.3 == wanted.3
         }
@@ -430,17 +440,36 @@ fn come_to(
 
 #[test]
 fn rounds_that_are_spent_end_an_ask(rt: HostRuntime) {
-    let few = solve_twice(rt.alloc(), TWO_VARIABLES, 1, u64::MAX);
-    assert!(rt; come_to(few, (Came::Interrupted, 1, Came::False, 2)));
-    let none = solve_twice(rt.alloc(), &[], 0, 0);
-    assert!(rt; come_to(none, (Came::Interrupted, 0, Came::Interrupted, 0)));
-    let known = solve_twice(rt.alloc(), &[Call::Clause(&[1, 2])], 8, 0);
-    assert!(rt; come_to(known, (Came::True, 1, Came::True, 1)));
+    let few = Twice {
+        calls: TWO_VARIABLES,
+        first: 1,
+        second: u64::MAX,
+    };
+    assert!(rt; come_to(rt.alloc(), few, (Came::Interrupted, 1, Came::False, 2)));
+    let none = Twice {
+        calls: &[],
+        first: 0,
+        second: 0,
+    };
+    assert!(rt;
+        come_to(
+            rt.alloc(),
+            none,
+            (Came::Interrupted, 0, Came::Interrupted, 0)
+        )
+    );
+    let known = Twice {
+        calls: &[Call::Clause(&[1, 2])],
+        first: 8,
+        second: 0,
+    };
+    assert!(rt; come_to(rt.alloc(), known, (Came::True, 1, Came::True, 1)));
 }
 
 /// Whether solving answers true.
 fn is_sat<W: CountedWrite + Drop>(solver: &mut Solver<W>) -> bool
     requires { IsSolver solver.old }
+    ensures { IsSolver solver.new }
 {
     match solver.solve() {
         Ok(sat) => sat,
@@ -449,13 +478,18 @@ fn is_sat<W: CountedWrite + Drop>(solver: &mut Solver<W>) -> bool
 }
 
 /// Whether parameters out of their ranges are refused beside one that isn't, and change nothing.
-fn are_refused(alloc: Global, update: &mut SolverConfigUpdate) -> bool {
-    let mut solver: Solver<Counted<Vec<u8>>> = Solver::new(alloc);
-    update.max_steps = Some(0);
-    match solver.config(update) {
-        Err(SolverError::OutOfRange) => is_sat(&mut solver),
-        Err(_) => false,
-        Ok(()) => false,
+#[derive(Drop)]
+struct Refused(SolverConfigUpdate);
+
+impl<W: CountedWrite + Drop> Play<Solver<W>, bool> for Refused {
+    fn play(self, _alloc: Global, solver: &mut Solver<W>) -> bool {
+        let mut update = self.0;
+        update.max_steps = Some(0);
+        match solver.config(&update) {
+            Err(SolverError::OutOfRange) => is_sat(solver),
+            Err(_) => false,
+            Ok(()) => false,
+        }
     }
 }
 
@@ -463,18 +497,19 @@ fn are_refused(alloc: Global, update: &mut SolverConfigUpdate) -> bool {
 fn parameters_are_in_their_ranges(rt: HostRuntime) {
     let mut low = SolverConfigUpdate::new();
     low.vsids_decay = Some(499);
-    assert!(rt; are_refused(rt.alloc(), &mut low));
+    assert!(rt; told(rt.alloc(), Refused(low)));
     let mut high = SolverConfigUpdate::new();
     high.vsids_decay = Some(1000);
-    assert!(rt; are_refused(rt.alloc(), &mut high));
+    assert!(rt; told(rt.alloc(), Refused(high)));
     let mut scale = SolverConfigUpdate::new();
     scale.luby_restart_interval_scale = Some(0);
-    assert!(rt; are_refused(rt.alloc(), &mut scale));
+    assert!(rt; told(rt.alloc(), Refused(scale)));
 }
 
 /// Whether it is too late for a proof.
 fn refuses_proof<W: CountedWrite + Drop>(solver: &mut Solver<W>, target: W) -> bool
     requires { IsSolver solver.old }
+    ensures { IsSolver solver.new }
 {
     match solver.write_proof(target, ProofFormat::Varisat) {
         Err(SolverError::TooLate) => true,
@@ -483,14 +518,25 @@ fn refuses_proof<W: CountedWrite + Drop>(solver: &mut Solver<W>, target: W) -> b
     }
 }
 
-/// A proof can't begin behind a call.
-fn is_too_late(alloc: Global) -> bool {
-    let mut solver = Solver::new(alloc);
-    let assumed = solver.assume(&[]).is_ok();
-    assumed && refuses_proof(&mut solver, Counted::new(Vec::new(alloc)))
+/// Whether a proof to this target can't begin behind a call.
+#[derive(Drop)]
+struct Late<W>(W);
+
+impl<W: CountedWrite + Drop> Play<Solver<W>, bool> for Late<W> {
+    fn play(self, _alloc: Global, solver: &mut Solver<W>) -> bool {
+        let assumed = solver.assume(&[]).is_ok();
+        refuses_proof(solver, self.0) && assumed
+    }
+}
+
+/// Whether it can't, of a new solver.
+fn is_late<W: CountedWrite + Drop>(alloc: Global, target: W) -> bool {
+    let (late, _left) = played::<W, Solver<W>, bool, Late<W>>(alloc, Late(target));
+    late
 }
 
 #[test]
 fn a_proof_begins_before_all_else(rt: HostRuntime) {
-    assert!(rt; is_too_late(rt.alloc()));
+    let target = Counted::new(Vec::new(rt.alloc()));
+    assert!(rt; is_late(rt.alloc(), target));
 }

@@ -1,6 +1,7 @@
 //! Formulas and their texts, as a solver takes them, and what it counts.
 ghost use Rattle.sat_solver.specs.solver.Whole.{IsSolver};
 
+use crate::driver::{Play, told};
 use crate::solver::read;
 use sat_base::{CnfFormula, Counted, CountedWrite, ExtendFormula, Lit, Var};
 use sat_solver::{Progress, Solver, SolverError};
@@ -19,6 +20,7 @@ fn fill(formula: &mut CnfFormula, lits: &mut Vec<Lit>, rows: &[&[i64]]) -> bool 
 /// What an ask under no assumptions is answered, and the rounds.
 fn answered<W: CountedWrite + Drop>(solver: &mut Solver<W>) -> Option<(bool, u64)>
     requires { IsSolver solver.old }
+    ensures { IsSolver solver.new }
 {
     match solver.solve() {
         Ok(sat) => Some((sat, solver.steps())),
@@ -56,6 +58,7 @@ fn answered_if<W: CountedWrite + Drop>(
     was_added: bool,
 ) -> Option<(bool, u64)>
     requires { IsSolver solver.old }
+    ensures { IsSolver solver.new }
 {
     if was_added { answered(solver) } else { None }
 }
@@ -67,6 +70,7 @@ fn answer_rows<W: CountedWrite + Drop>(
     rows: &[&[i64]],
 ) -> Option<(bool, u64)>
     requires { IsSolver solver.old }
+    ensures { IsSolver solver.new }
 {
     let mut formula = CnfFormula::new(alloc);
     let mut lits = Vec::new(alloc);
@@ -75,23 +79,32 @@ fn answer_rows<W: CountedWrite + Drop>(
 }
 
 /// The answer to a formula, and the rounds.
-fn of_formula(alloc: Global, rows: &[&[i64]]) -> Option<(bool, u64)> {
-    let mut solver: Solver<Counted<Vec<u8>>> = Solver::new(alloc);
-    answer_rows(alloc, &mut solver, rows)
+#[derive(Drop)]
+struct Rows<'a>(&'a [&'a [i64]]);
+
+impl<W: CountedWrite + Drop> Play<Solver<W>, Option<(bool, u64)>> for Rows<'_> {
+    fn play(self, alloc: Global, solver: &mut Solver<W>) -> Option<(bool, u64)> {
+        answer_rows(alloc, solver, self.0)
+    }
 }
 
 /// What a solver answers to a text, and the rounds.
 fn answer_text<W: CountedWrite + Drop>(solver: &mut Solver<W>, text: &[u8]) -> Option<(bool, u64)>
     requires { IsSolver solver.old }
+    ensures { IsSolver solver.new }
 {
     let was_added = add_text(solver, text);
     answered_if(solver, was_added)
 }
 
 /// The answer to a text, and the rounds.
-fn of_text(alloc: Global, text: &[u8]) -> Option<(bool, u64)> {
-    let mut solver: Solver<Counted<Vec<u8>>> = Solver::new(alloc);
-    answer_text(&mut solver, text)
+#[derive(Drop)]
+struct Text<'a>(&'a [u8]);
+
+impl<W: CountedWrite + Drop> Play<Solver<W>, Option<(bool, u64)>> for Text<'_> {
+    fn play(self, _alloc: Global, solver: &mut Solver<W>) -> Option<(bool, u64)> {
+        answer_text(solver, self.0)
+    }
 }
 
 const FOUR: &[&[i64]] = &[&[1, 2], &[1, -2], &[-1, 2], &[-1, -2]];
@@ -100,9 +113,9 @@ const FOUR_TEXT: &[u8] = b"p cnf 2 4\n1 2 0 1 -2 0\n-1 2 0\nc more\n-1 -2 0\n";
 
 #[test]
 fn formulas_are_added(rt: HostRuntime) {
-    assert!(rt; of_formula(rt.alloc(), FOUR) == Some((false, 2)));
-    assert!(rt; of_text(rt.alloc(), FOUR_TEXT) == Some((false, 2)));
-    assert!(rt; of_formula(rt.alloc(), &[]) == Some((true, 1)));
+    assert!(rt; told(rt.alloc(), Rows(FOUR)) == Some((false, 2)));
+    assert!(rt; told(rt.alloc(), Text(FOUR_TEXT)) == Some((false, 2)));
+    assert!(rt; told(rt.alloc(), Rows(&[])) == Some((true, 1)));
 }
 
 /// Why a text isn't taken.
@@ -137,6 +150,7 @@ fn refusal<W: CountedWrite + Drop>(solver: &mut Solver<W>, text: &[u8]) -> Optio
 /// The next name, or 0.
 fn next_name<W: CountedWrite + Drop>(solver: &mut Solver<W>) -> i64
     requires { IsSolver solver.old }
+    ensures { IsSolver solver.new }
 {
     match solver.new_var() {
         Ok(name) => name.to_dimacs(),
@@ -161,6 +175,7 @@ fn faults_of<W: CountedWrite + Drop>(
     text: &[u8],
 ) -> (bool, Option<Why>, i64)
     requires { IsSolver solver.old }
+    ensures { IsSolver solver.new }
 {
     let was_set = witness(solver, 3);
     let why = refusal(solver, text);
@@ -168,22 +183,27 @@ fn faults_of<W: CountedWrite + Drop>(
     (was_set, why, name)
 }
 
-/// The same of a solver that is made for it.
-fn faults(alloc: Global, text: &[u8]) -> (bool, Option<Why>, i64) {
-    let mut solver: Solver<Counted<Vec<u8>>> = Solver::new(alloc);
-    faults_of(&mut solver, text)
+/// The same of a new solver.
+#[derive(Drop)]
+struct Faults<'a>(&'a [u8]);
+
+impl<W: CountedWrite + Drop> Play<Solver<W>, (bool, Option<Why>, i64)> for Faults<'_> {
+    fn play(self, _alloc: Global, solver: &mut Solver<W>) -> (bool, Option<Why>, i64) {
+        faults_of(solver, self.0)
+    }
 }
 
-/// Whether the fault and the next name are these.
-fn are(came: (bool, Option<Why>, i64), why: Why, name: i64) -> bool {
+/// Whether the fault of a text and the next name are these.
+fn are(alloc: Global, text: &[u8], why: Why, name: i64) -> bool {
+    let came = told(alloc, Faults(text));
     came.0 && came.1 == Some(why) && came.2 == name
 }
 
 #[test]
 fn clauses_before_a_fault_stand(rt: HostRuntime) {
-    assert!(rt; are(faults(rt.alloc(), b"4 0\n1 x\n"), Why::Malformed, 5));
-    assert!(rt; are(faults(rt.alloc(), b"4 0 5 0\n268435457 0\n"), Why::Limit, 6));
-    assert!(rt; are(faults(rt.alloc(), b"4 0 5 3 0 6 0\n"), Why::Witness, 5));
+    assert!(rt; are(rt.alloc(), b"4 0\n1 x\n", Why::Malformed, 5));
+    assert!(rt; are(rt.alloc(), b"4 0 5 0\n268435457 0\n", Why::Limit, 6));
+    assert!(rt; are(rt.alloc(), b"4 0 5 3 0 6 0\n", Why::Witness, 5));
 }
 
 /// Asks, if wanted. Gives whether there was an answer.
@@ -205,6 +225,7 @@ fn count_rows<W: CountedWrite + Drop>(
     asked: bool,
 ) -> Option<Progress>
     requires { IsSolver solver.old }
+    ensures { IsSolver solver.new }
 {
     let mut formula = CnfFormula::new(alloc);
     let mut lits = Vec::new(alloc);
@@ -218,10 +239,21 @@ fn count_rows<W: CountedWrite + Drop>(
     }
 }
 
-/// The same of a solver that is made for it.
+/// The same of a new solver.
+#[derive(Drop)]
+struct Counts<'a> {
+    rows: &'a [&'a [i64]],
+    asked: bool,
+}
+
+impl<W: CountedWrite + Drop> Play<Solver<W>, Option<Progress>> for Counts<'_> {
+    fn play(self, alloc: Global, solver: &mut Solver<W>) -> Option<Progress> {
+        count_rows(alloc, solver, self.rows, self.asked)
+    }
+}
+
 fn counted(alloc: Global, rows: &[&[i64]], asked: bool) -> Option<Progress> {
-    let mut solver: Solver<Counted<Vec<u8>>> = Solver::new(alloc);
-    count_rows(alloc, &mut solver, rows, asked)
+    told(alloc, Counts { rows, asked })
 }
 
 const NOTHING: Progress = Progress {
@@ -274,6 +306,7 @@ fn has_no_core<W: CountedWrite + Drop>(solver: &Solver<W>) -> bool
 /// Whether a solver knows without an ask that these clauses are unsatisfiable.
 fn knows<W: CountedWrite + Drop>(alloc: Global, solver: &mut Solver<W>, rows: &[&[i64]]) -> bool
     requires { IsSolver solver.old }
+    ensures { IsSolver solver.new }
 {
     let mut formula = CnfFormula::new(alloc);
     let mut lits = Vec::new(alloc);
@@ -281,14 +314,18 @@ fn knows<W: CountedWrite + Drop>(alloc: Global, solver: &mut Solver<W>, rows: &[
     was_added && has_no_core(solver)
 }
 
-/// The same of a solver that is made for it.
-fn is_known(alloc: Global, rows: &[&[i64]]) -> bool {
-    let mut solver: Solver<Counted<Vec<u8>>> = Solver::new(alloc);
-    knows(alloc, &mut solver, rows)
+/// The same of a new solver.
+#[derive(Drop)]
+struct Known<'a>(&'a [&'a [i64]]);
+
+impl<W: CountedWrite + Drop> Play<Solver<W>, bool> for Known<'_> {
+    fn play(self, alloc: Global, solver: &mut Solver<W>) -> bool {
+        knows(alloc, solver, self.0)
+    }
 }
 
 #[test]
 fn units_may_end_it(rt: HostRuntime) {
-    assert!(rt; is_known(rt.alloc(), &[&[1], &[3, -3], &[-2], &[1, 1], &[2]]));
-    assert!(rt; !is_known(rt.alloc(), &[&[1], &[3, -3], &[-2], &[1, 1]]));
+    assert!(rt; told(rt.alloc(), Known(&[&[1], &[3, -3], &[-2], &[1, 1], &[2]])));
+    assert!(rt; !told(rt.alloc(), Known(&[&[1], &[3, -3], &[-2], &[1, 1]])));
 }

@@ -1,0 +1,137 @@
+//! A checker to which hashes tell nothing: each one, and each width, is 0 where a step is fed to it.
+
+use sat_base::{ClauseHash, Counted, CountedRead, HashBits, Lit, ProofStep, StepError, StepReader};
+use sat_checker::{Checker, SelfChecker};
+use std::alloc::{AllocError, Global};
+
+/// Room for the hashes of a step.
+#[derive(Drop)]
+struct Blanks {
+    hashes: Vec<ClauseHash>,
+    units: Vec<(Lit, ClauseHash)>,
+}
+
+impl Blanks {
+    fn new(alloc: Global) -> Blanks {
+        Blanks {
+            hashes: Vec::new(alloc),
+            units: Vec::new(alloc),
+        }
+    }
+
+    /// As many hashes, all of them 0.
+    fn take_hashes(&mut self, hashes: &[ClauseHash]) -> Result<(), AllocError> {
+        self.hashes.clear();
+        for _ in hashes {
+            self.hashes.push(0)?;
+        }
+        Ok(())
+    }
+
+    /// The same units, with hashes of 0.
+    fn take_units(&mut self, units: &[(Lit, ClauseHash)]) -> Result<(), AllocError> {
+        self.units.clear();
+        for unit in units {
+            self.units.push((unit.0, 0))?;
+        }
+        Ok(())
+    }
+}
+
+fn is_taken<C: SelfChecker>(checker: &mut C, step: &ProofStep<'_>) -> bool {
+    checker.self_check_step(step).is_ok()
+}
+
+/// A step that has hashes, without what they tell. Gives whether it is accepted, and `None` for the other kinds.
+fn takes_hashed<C: SelfChecker>(
+    checker: &mut C,
+    blanks: &mut Blanks,
+    step: &ProofStep<'_>,
+) -> Option<bool> {
+    match *step {
+        ProofStep::AtClause {
+            redundant,
+            clause,
+            propagation_hashes,
+        } => {
+            let room = blanks.take_hashes(propagation_hashes).is_ok();
+            let blind = ProofStep::AtClause {
+                redundant,
+                clause,
+                propagation_hashes: &blanks.hashes,
+            };
+            Some(room && is_taken(checker, &blind))
+        }
+        ProofStep::FailedAssumptions {
+            failed_core,
+            propagation_hashes,
+        } => {
+            let room = blanks.take_hashes(propagation_hashes).is_ok();
+            let blind = ProofStep::FailedAssumptions {
+                failed_core,
+                propagation_hashes: &blanks.hashes,
+            };
+            Some(room && is_taken(checker, &blind))
+        }
+        ProofStep::UnitClauses { units } => {
+            let room = blanks.take_units(units).is_ok();
+            let blind = ProofStep::UnitClauses {
+                units: &blanks.units,
+            };
+            Some(room && is_taken(checker, &blind))
+        }
+        _ => None,
+    }
+}
+
+/// A step without what its hashes or its width tell. Gives whether it is accepted.
+fn takes<C: SelfChecker>(checker: &mut C, blanks: &mut Blanks, step: &ProofStep<'_>) -> bool {
+    if let Some(taken) = takes_hashed(checker, blanks, step) {
+        return taken;
+    }
+    if let ProofStep::ChangeHashBits { .. } = step {
+        return match HashBits::new(0) {
+            Some(bits) => is_taken(checker, &ProofStep::ChangeHashBits { bits }),
+            None => false,
+        };
+    }
+    is_taken(checker, step)
+}
+
+/// More steps than a proof of these tests has.
+const MOST: usize = 10_000;
+
+/// Whether each step that a reader gives up to its end is accepted.
+fn are_taken<C: SelfChecker, R: CountedRead>(
+    checker: &mut C,
+    blanks: &mut Blanks,
+    steps: &mut StepReader<'_, R>,
+) -> bool {
+    for _ in 0..MOST {
+        match steps.advance() {
+            Ok(()) => {}
+            Err(StepError::Ends) => return true,
+            Err(_) => return false,
+        }
+        if !takes(checker, blanks, &steps.step()) {
+            return false;
+        }
+    }
+    false
+}
+
+fn are_read<C: SelfChecker, R: CountedRead>(
+    alloc: Global,
+    checker: &mut C,
+    blanks: &mut Blanks,
+    reader: &mut R,
+) -> bool {
+    are_taken(checker, blanks, &mut StepReader::new(alloc, reader))
+}
+
+/// Whether the steps of a proof are accepted where no hash tells a clause from another.
+pub(crate) fn is_accepted_blind(alloc: Global, text: &[u8]) -> bool {
+    let mut checker = Checker::new(alloc);
+    let mut blanks = Blanks::new(alloc);
+    are_read(alloc, &mut checker, &mut blanks, &mut Counted::new(text))
+}

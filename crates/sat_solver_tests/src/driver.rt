@@ -1,0 +1,126 @@
+//! Solvers that tests play on. They are made here and nowhere else, and lent, since each function that owns one is dear to prove.
+ghost use Rattle.sat_solver.specs.solver.Whole.{IsSolver};
+
+use sat_base::{Counted, CountedWrite};
+use sat_checker::Checker;
+use sat_solver::{ProofFormat, Solver, SolverError};
+use std::alloc::Global;
+
+/// A target that keeps what it takes.
+pub(crate) type Bytes = Counted<Vec<u8>>;
+
+/// What is played on.
+pub(crate) trait Ready: Drop {
+    /// What holds between calls.
+    ghost ready: { Self → Type 0 };
+}
+
+/// What is made anew, and gives back the target that is left in it. Where a function owns one of these, the prover need not look at the
+/// solver that it is.
+pub(crate) trait Fresh<W>: Ready {
+    fn fresh(alloc: Global) -> Self
+        ensures { Self.ready result };
+
+    fn left(self) -> Option<W>;
+}
+
+impl<W: CountedWrite + Drop> Ready for Solver<W> {
+    ghost ready = { IsSolver };
+}
+
+impl<W: CountedWrite + Drop> Fresh<W> for Solver<W> {
+    fn fresh(alloc: Global) -> Solver<W> {
+        Solver::new(alloc)
+    }
+
+    fn left(self) -> Option<W> {
+        self.into_target()
+    }
+}
+
+/// What a test does with a solver, and what it tells of it.
+pub(crate) trait Play<S: Ready, R>: Drop {
+    fn play(self, alloc: Global, solver: &mut S) -> R
+        requires { S.ready solver.old }
+        ensures { S.ready solver.new };
+}
+
+/// What a play tells of what is made anew, and the target that is left in that.
+pub(crate) fn played<W, S: Fresh<W>, R, A: Play<S, R>>(alloc: Global, act: A) -> (R, Option<W>) {
+    let mut solver = S::fresh(alloc);
+    let told = act.play(alloc, &mut solver);
+    (told, solver.left())
+}
+
+/// The same of a new solver, where no proof is written.
+pub(crate) fn told<R, A: Play<Solver<Bytes>, R>>(alloc: Global, act: A) -> R {
+    let (told, _target) = played::<Bytes, Solver<Bytes>, R, A>(alloc, act);
+    told
+}
+
+/// A play that is written as a proof, which is closed behind it.
+#[derive(Drop)]
+pub(crate) struct Proved<W, A> {
+    target: W,
+    format: ProofFormat,
+    act: A,
+}
+
+/// What a play tells, and the target.
+type Told<W, R> = Result<(R, Option<W>), SolverError>;
+
+impl<W: CountedWrite + Drop, R: Drop, A: Play<Solver<W>, R>> Play<Solver<W>, Told<W, R>>
+    for Proved<W, A> {
+    fn play(self, alloc: Global, solver: &mut Solver<W>) -> Told<W, R> {
+        let Proved {
+            target,
+            format,
+            act,
+        } = self;
+        solver.write_proof(target, format)?;
+        let told = act.play(alloc, solver);
+        Ok((told, solver.close_proof()?))
+    }
+}
+
+/// What a play tells, and its proof's text; `None` where that isn't begun or isn't closed.
+pub(crate) fn written<R: Drop, A: Play<Solver<Bytes>, R>>(
+    alloc: Global,
+    format: ProofFormat,
+    act: A,
+) -> Option<(R, Vec<u8>)> {
+    let target = Counted::new(Vec::new(alloc));
+    let proved = Proved {
+        target,
+        format,
+        act,
+    };
+    match told::<Told<Bytes, R>, Proved<Bytes, A>>(alloc, proved) {
+        Ok((told, left)) => match left {
+            Some(target) => Some((told, target.into_inner())),
+            None => None,
+        },
+        Err(_) => None,
+    }
+}
+
+/// A play with a checker of the solver's own, which takes each step.
+#[derive(Drop)]
+pub(crate) struct SelfChecked<A>(pub(crate) A);
+
+impl<W: CountedWrite + Drop, R, A: Play<Solver<W>, Result<R, SolverError>>> Play<
+    Solver<W>,
+    Result<R, SolverError>,
+> for SelfChecked<A> {
+    fn play(self, alloc: Global, solver: &mut Solver<W>) -> Result<R, SolverError> {
+        let SelfChecked(act) = self;
+        solver.enable_self_checking()?;
+        act.play(alloc, solver)
+    }
+}
+
+/// Whether the checker accepts a proof.
+pub(crate) fn is_accepted(alloc: Global, text: &[u8]) -> bool {
+    let mut checker = Checker::new(alloc);
+    checker.check_proof(&mut Counted::new(text)).is_ok()
+}

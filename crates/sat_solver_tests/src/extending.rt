@@ -1,0 +1,52 @@
+//! A solver as what knows only the trait of formulas fills it.
+ghost use Rattle.sat_solver.specs.solver.Whole.{IsSolver};
+
+use crate::driver::{Play, told};
+use sat_base::{CountedWrite, ExtendFormula, Lit};
+use sat_solver::{Solver, SolverError};
+use std::alloc::Global;
+
+/// Adds a new literal as a clause of its own.
+fn add_unit<F: ExtendFormula>(formula: &mut F) -> Result<Lit, F::Error>
+    requires { F.ready formula.old }
+    ensures { F.ready formula.new }
+{
+    let lit = formula.new_lit()?;
+    formula.add_clause(&[lit])?;
+    Ok(lit)
+}
+
+/// Whether the model is these two literals.
+fn is_model<W: CountedWrite + Drop>(
+    alloc: Global,
+    solver: &Solver<W>,
+    wanted: [Lit; 2],
+) -> Result<bool, SolverError>
+    requires { IsSolver solver.now }
+{
+    match solver.model(alloc)? {
+        Some(lits) => Ok(lits.as_slice() == wanted.as_slice()),
+        None => Ok(false),
+    }
+}
+
+/// Two new literals are added as clauses, and a model has both.
+#[derive(Drop)]
+struct Units;
+
+impl<W: CountedWrite + Drop> Play<Solver<W>, Result<bool, SolverError>> for Units {
+    fn play(self, alloc: Global, solver: &mut Solver<W>) -> Result<bool, SolverError> {
+        let one = add_unit(solver)?;
+        let two = add_unit(solver)?;
+        let sat = solver.solve()?;
+        Ok(is_model(alloc, solver, [one, two])? && sat)
+    }
+}
+
+#[test]
+fn a_solver_is_extended(rt: HostRuntime) {
+    match told(rt.alloc(), Units) {
+        Ok(right) => assert!(rt; right),
+        Err(_) => assert!(rt; false),
+    }
+}
