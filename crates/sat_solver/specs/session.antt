@@ -9,6 +9,7 @@ pub mod OutputView
 pub mod Promises
 pub mod SessionRows
 pub mod Feeding
+pub mod Listening
 pub mod Checked
 pub mod MadeView
 pub mod WritingView

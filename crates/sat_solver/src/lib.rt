@@ -21,3 +21,4 @@ pub use error::SolverError;
 pub use progress::Progress;
 pub use session::format::ProofFormat;
 pub use solver::Solver;
+pub use solver::proving::HandedBack;

@@ -11,4 +11,5 @@ pub mod made;
 pub mod output;
 pub mod proof;
 pub mod putting;
+pub mod roll;
 pub mod writing;

@@ -4,7 +4,7 @@
 //! what holds between calls is `IsSolver`, which `new` gives and each call keeps.
 ghost use Rattle.std.specs.Prelude.{◌≡◌, true, false, []};
 ghost use Rattle.sat_base.specs.script.Judge.{start};
-ghost use Rattle.sat_solver.specs.session.ProofView.{Closed, is_checked, target_of};
+ghost use Rattle.sat_solver.specs.session.ProofView.{Closed, is_checked, is_lost, target_of};
 ghost use Rattle.sat_solver.specs.names.Calls.{Agree};
 ghost use Rattle.sat_solver.specs.Configs.{defaults};
 ghost use Rattle.sat_solver.specs.solver.Whole.{IsWhole, steps_in};
@@ -36,13 +36,14 @@ use crate::solver::finding::{Clock, Told};
 use crate::solver::state::State;
 use crate::solver::taking::Loading;
 use sat_base::{CountedWrite, Lit};
+use sat_checker::{Nobody, ProofProcessor};
 use sat_store::LubySequence;
 use std::alloc::Global;
 
 /// A solver of clauses over names: it answers under assumptions, again and again, and writes a proof.
 #[derive(Drop)]
-pub struct Solver<W: CountedWrite + Drop> {
-    core: Core<W>,
+pub struct Solver<W: CountedWrite + Drop, P: ProofProcessor = Nobody> {
+    core: Core<W, P>,
     names: Variables,
     clock: Clock,
     told: Told,
@@ -59,15 +60,36 @@ pub struct Solver<W: CountedWrite + Drop> {
     assumed: Vec<Lit>,
 }
 
-impl<W: CountedWrite + Drop> Solver<W> {
-    /// No clauses and no names. Takes no memory.
-    pub fn new(alloc: Global) -> Solver<W>
+impl<W: CountedWrite + Drop, P: ProofProcessor> Solver<W, P> {
+    /// No clauses and no names, and nobody will listen to a checker of its own. Takes no memory.
+    pub fn new(alloc: Global) -> Solver<W, P>
         ensures whole { IsWhole result }
         ensures going { result.failed ≡ false }
         ensures unused { result.used ≡ false }
         ensures steps { steps_in result ≡ [] }
         ensures target { target_of W.seen result.core.proof ≡ Closed }
         ensures checked { is_checked result.core.proof ≡ false }
+        ensures taking { is_lost result.core.proof ≡ false }
+        ensures agree { Agree result.names [] start [] }
+        ensures asked { result.assumed.items ≡ [] }
+        ensures config { result.core.config ≡ defaults }
+        ensures state { result.state ≡ State.Unknown }
+        ensures rounds { result.clock.steps ≡ 0 }
+    {
+        Solver::telling(alloc)
+    }
+}
+
+impl<W: CountedWrite + Drop, P: ProofProcessor> Solver<W, P> {
+    /// As `new`, for processors of this type. Nobody listens yet.
+    pub fn telling(alloc: Global) -> Solver<W, P>
+        ensures whole { IsWhole result }
+        ensures going { result.failed ≡ false }
+        ensures unused { result.used ≡ false }
+        ensures steps { steps_in result ≡ [] }
+        ensures target { target_of W.seen result.core.proof ≡ Closed }
+        ensures checked { is_checked result.core.proof ≡ false }
+        ensures taking { is_lost result.core.proof ≡ false }
         ensures agree { Agree result.names [] start [] }
         ensures asked { result.assumed.items ≡ [] }
         ensures config { result.core.config ≡ defaults }

@@ -2,8 +2,6 @@
 use Rattle.std.specs.Prelude.{◌≡◌, ℕ, true, Option, None, Some, List, [], ◌∷◌, Result, Ok, Err}
 use Rattle.sat_base.specs.device.Device.{Writer, Takes}
 use Rattle.sat_base.specs.steps.Steps.{End}
-use Rattle.sat_solver.specs.declared.session.proof.Proof.{Proof}
-use Rattle.sat_solver.specs.declared.solver.Solver.{Solver}
 use Rattle.sat_solver.specs.session.Making.{Took, Broke}
 use Rattle.sat_solver.specs.session.ProofView.{Closed, Gives, TakesAll, is_open, target_of}
 use Rattle.sat_solver.specs.session.Session.{MayAll}
@@ -13,6 +11,7 @@ use Rattle.certify.specs.declared.fault.RunFault.{RunFault}
 use Rattle.certify.specs.declared.serving.session.Session.{Session}
 use Rattle.certify.specs.declared.summary.Summary.{Summary}
 use Rattle.certify.specs.serving.Calls.{Faults, IsReady, proof_in}
+use Rattle.certify.specs.serving.Quiet.{Proof, Solver}
 
 -- a target is there, open or broken
 abbrev pub HasTarget : {C : Type 0} → (C → Writer) → Solver C → Type 0

@@ -6,7 +6,6 @@ use Rattle.sat_base.specs.script.Judge.{Judge, Sampled, Witnessed, accepted}
 use Rattle.sat_base.specs.steps.Steps.{Step}
 use Rattle.sat_checker.specs.matching.ProofChecking.{the_checking}
 use Rattle.sat_solver.specs.declared.error.SolverError.{SolverError}
-use Rattle.sat_solver.specs.declared.solver.Solver.{Solver}
 use Rattle.sat_solver.specs.names.Calls.{Agree}
 use Rattle.sat_solver.specs.names.Coming.{MayHide, MaySet}
 use Rattle.sat_solver.specs.names.Expected.{Expected, hiding, setting}
@@ -18,6 +17,7 @@ use Rattle.certify.specs.declared.judge.NameState.{NameState}
 use Rattle.certify.specs.declared.judge.NameState.TheVariants as state
 use Rattle.certify.specs.serving.Calls.{IsReady, proof_in}
 use Rattle.certify.specs.serving.Stretches.{MayFor, Stretch, due_for}
+use Rattle.certify.specs.serving.Quiet.{Solver}
 
 -- the command by which names get this state
 abbrev pub command_to : NameState → List ℕ → Command

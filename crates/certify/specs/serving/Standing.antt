@@ -3,7 +3,6 @@ use Rattle.std.specs.Prelude.{ℕ, ◌+◌, ◌≤◌, ◌≡◌, None, List, []
 use Rattle.sat_base.specs.device.Device.{Writer, Takes}
 use Rattle.sat_base.specs.script.Script.{Command}
 use Rattle.sat_base.specs.script.Judge.{Judge, Refusal, accepted, after_command, refusal_of}
-use Rattle.sat_solver.specs.declared.solver.Solver.{Solver}
 use Rattle.sat_solver.specs.names.Calls.{Agree}
 use Rattle.sat_solver.specs.names.Live.{Live}
 use Rattle.sat_solver.specs.session.Making.{Took, Broke}
@@ -22,6 +21,7 @@ use Rattle.certify.specs.reading.Commands.{kind_of}
 use Rattle.certify.specs.reading.Language.{command_of}
 use Rattle.certify.specs.serving.Calls.{Faults, IsReady, proof_in}
 use Rattle.certify.specs.serving.Serving.{Place, Serves}
+use Rattle.certify.specs.serving.Quiet.{Solver}
 
 -- the judge's state is this, whatever names say of it
 pub record Means {C : Type 0} (s : Solver C) (j : Judge) (live : Live) : Type 0 where

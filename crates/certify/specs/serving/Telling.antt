@@ -1,12 +1,12 @@
 -- What a run tells of what its solver found.
 use Rattle.sat_checker.specs.LiteralSets.{canonical}
 use Rattle.sat_checker.specs.matching.Expected.{Outcome, Sat, Unsat, Unknown}
-use Rattle.sat_solver.specs.declared.solver.Solver.{Solver}
 use Rattle.sat_solver.specs.solver.Resting.{IsRightLine, IsRightCoreOf, core_for}
 use Rattle.sat_solver.specs.solver.Whole.{line_in}
 use Rattle.certify.specs.answers.AnswerForms.{named_literals}
 use Rattle.certify.specs.declared.summary.Answer.{Answer}
 use Rattle.certify.specs.declared.summary.Answer.TheVariants as kind
+use Rattle.certify.specs.serving.Quiet.{Solver}
 
 -- the outcome, by what the solver found: a model over the names in use, or a core, whose literals are sorted
 abbrev pub outcome_for : {C : Type 0} → Answer → Solver C → Outcome

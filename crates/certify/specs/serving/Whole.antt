@@ -8,7 +8,6 @@ use Rattle.sat_base.specs.script.Script.{Command, Reading, onto_commands}
 use Rattle.sat_base.specs.script.Judge.{Judge, accepted_of}
 use Rattle.sat_base.specs.steps.Steps.{Step}
 use Rattle.sat_checker.specs.matching.Expected.{Outcome}
-use Rattle.sat_solver.specs.declared.solver.Solver.{Solver}
 use Rattle.sat_solver.specs.session.Making.{Took, Broke}
 use Rattle.sat_solver.specs.solver.Whole.{steps_in}
 use Rattle.certify.specs.Calls.{NoneFailed, OneFailed}
@@ -27,6 +26,7 @@ use Rattle.certify.specs.serving.Calls.{IsReady, proof_in}
 use Rattle.certify.specs.serving.Serving.{Place, Serves}
 use Rattle.certify.specs.serving.Standing.{GoesOn, IsAt, place_in}
 use Rattle.certify.specs.serving.Stretches.{MadeFor}
+use Rattle.certify.specs.serving.Quiet.{Solver}
 
 -- These commands were served, one after another.
 pub record ServedAll {C : Type 0} (seen : C → Writer) (j : Judge) (commands : List Command)

@@ -35,3 +35,5 @@ pub mod EndedLemmas
 pub mod CheckedLemmas
 pub mod UnitLemmas
 pub mod AskingLemmas
+pub mod Rolling
+pub mod HearingLemmas

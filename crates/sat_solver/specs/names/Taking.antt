@@ -2,6 +2,7 @@
 use Rattle.std.specs.Prelude.{List}
 use Rattle.sat_base.specs.device.Device.{Writer}
 use Rattle.sat_base.specs.steps.Steps.{Step}
+use Rattle.sat_checker.specs.declared.processing.ProofProcessor.{Ghosts}
 use Rattle.sat_solver.specs.declared.names.error.NameError.{NameError}
 use Rattle.sat_solver.specs.declared.names.error.NameError.TheVariants as errors
 use Rattle.sat_solver.specs.session.Making.{Broke}
@@ -9,7 +10,7 @@ use Rattle.sat_solver.specs.session.ProofView.{FailsCheck}
 use Rattle.sat_solver.specs.declared.session.proof.Proof.{Proof}
 
 -- a call of the target failed at the text of the last of these steps, or the checker at it
-abbrev pub NotTaken : {W : Type 0} → (W → Writer) → Proof W → NameError → Proof W → Type 0
+abbrev pub NotTaken : {W L : Type 0} {G : Ghosts L} → (W → Writer) → Proof W L G → NameError → Proof W L G → Type 0
 NotTaken seen old (errors.Write cause) new = Broke seen old new
-NotTaken seen old (errors.Check fault) new = (steps : List Step) × FailsCheck seen steps old new
+NotTaken seen old (errors.Check fault) new = (steps : List Step) × FailsCheck seen fault steps old new
 NotTaken seen old e new = ⊥

@@ -2,6 +2,7 @@
 use Rattle.std.specs.Prelude.{List, MatchResult, Result}
 use Rattle.sat_base.specs.device.Device.{Writer}
 use Rattle.sat_base.specs.steps.Steps.{Step}
+use Rattle.sat_checker.specs.declared.processing.ProofProcessor.{Ghosts}
 use Rattle.sat_solver.specs.session.ProofView.{Adds, Keeps, steps_of, session_of}
 use Rattle.sat_solver.specs.declared.session.proof.Proof.{Proof}
 use Rattle.sat_solver.specs.declared.bound.search.Outcome.{Outcome}
@@ -24,7 +25,7 @@ RoundShares outcomes.Unsat n c = Unit {0}
 RoundShares outcomes.Failed n c = SharesIndices n c
 
 -- how it ended, and what it leaves of names and proof: the judge sees nothing of it
-pub record RoundEnds {W : Type 0} (seen : W → Writer) (outcome : Outcome) (n n' : Variables) (p p' : Proof W) (c c' : Search) : Type 0 where
+pub record RoundEnds {W L : Type 0} {G : Ghosts L} (seen : W → Writer) (outcome : Outcome) (n n' : Variables) (p p' : Proof W L G) (c c' : Search) : Type 0 where
   pub steps : List Step
   pub adds : Adds seen steps p p'
   pub keeps : Keeps p'
@@ -33,5 +34,5 @@ pub record RoundEnds {W : Type 0} (seen : W → Writer) (outcome : Outcome) (n n
   pub says : RoundSays outcome (steps_of p) steps (session_of p') c c'
   pub shares : RoundShares outcome n' c'
 
-abbrev pub EndsRound : {W : Type 0} → (W → Writer) → Result Outcome SolverError → Variables → Variables → Proof W → Proof W → Search → Search → Type 0
+abbrev pub EndsRound : {W L : Type 0} {G : Ghosts L} → (W → Writer) → Result Outcome SolverError → Variables → Variables → Proof W L G → Proof W L G → Search → Search → Type 0
 EndsRound seen r n n' p p' c c' = MatchResult r (λ o. RoundEnds seen o n n' p p' c c') (λ e. FallsOr (IsFull c'.parts) seen e p p')

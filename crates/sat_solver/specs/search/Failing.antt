@@ -4,6 +4,7 @@ use Rattle.std.specs.List.{AllByRecursion, Contains}
 use Rattle.sat_base.specs.device.Device.{Writer}
 use Rattle.sat_base.specs.values.Hashes.{hash_of}
 use Rattle.sat_base.specs.steps.Steps.{Step, FailedAssumptions}
+use Rattle.sat_checker.specs.declared.processing.ProofProcessor.{Ghosts}
 use Rattle.sat_solver.specs.session.LiveClauses.{with_var}
 use Rattle.sat_solver.specs.session.ProofView.{Keeps, session_of}
 use Rattle.sat_solver.specs.session.Session.{Session}
@@ -40,7 +41,7 @@ pub record ToldCore (steps : List Step) (s : Session) (c c' : Search) : Type 0 w
   pub same : c'.parts ≡ c.parts
 
 -- It made the step of a core, or failed.
-pub record TellsCore {W : Type 0} (seen : W → Writer) (result : Result (Unit {0}) SolverError) (old new : Proof W) (c c' : Search) : Type 0 where
+pub record TellsCore {W L : Type 0} {G : Ghosts L} (seen : W → Writer) (result : Result (Unit {0}) SolverError) (old new : Proof W L G) (c c' : Search) : Type 0 where
   pub steps : List Step
   pub went : Went seen result steps old new
   pub core : AllByRecursion (λ step. is_core step ≡ true) steps

@@ -4,6 +4,7 @@ use Rattle.std.specs.List.{AllByRecursion}
 use Rattle.sat_base.specs.device.Device.{Writer}
 use Rattle.sat_base.specs.values.Literals.{variable}
 use Rattle.sat_base.specs.steps.Steps.{Step, AtClause, UnitClauses, DeleteClause}
+use Rattle.sat_checker.specs.declared.processing.ProofProcessor.{Ghosts}
 use Rattle.sat_solver.specs.session.ProofView.{Adds, Fails, FailsCheck, Keeps, session_of}
 use Rattle.sat_solver.specs.declared.session.made.CheckFault.{CheckFault}
 use Rattle.sat_solver.specs.declared.session.made.CheckFault.TheVariants as checks
@@ -60,15 +61,15 @@ abbrev pub IsFault : SolverError → Type 0
 IsFault = IsFaultOr ⊥
 
 -- These steps were made; where a call of the target failed, that was at their text. A count is at its end, or a processor answers a fault, only in the solver's own checker.
-abbrev pub Went : {A W : Type 0} → (W → Writer) → Result A SolverError → List Step → Proof W → Proof W → Type 0
+abbrev pub Went : {A W L : Type 0} {G : Ghosts L} → (W → Writer) → Result A SolverError → List Step → Proof W L G → Proof W L G → Type 0
 Went seen (Ok x) steps old new = Adds seen steps old new
 Went seen (Err (errors.ProofIoError cause)) steps old new = Fails seen steps old new
-Went seen (Err (errors.ProofProcessorError cause)) steps old new = FailsCheck seen steps old new
-Went seen (Err errors.CounterEnd) steps old new = FailsCheck seen steps old new
+Went seen (Err (errors.ProofProcessorError cause)) steps old new = FailsCheck seen (checks.Processor cause) steps old new
+Went seen (Err errors.CounterEnd) steps old new = FailsCheck seen checks.CounterEnd steps old new
 Went seen (Err e) steps old new = Adds seen steps old new
 
 -- It made steps of a search, and came to an answer of which this holds, or failed, for a full clause buffer only where it is full.
-pub record GoesOr {A W : Type 0} (full : Type 0) (seen : W → Writer) (result : Result A SolverError) (old new : Proof W) (Answers : A → List Step → Type 0) : Type 0 where
+pub record GoesOr {A W L : Type 0} {G : Ghosts L} (full : Type 0) (seen : W → Writer) (result : Result A SolverError) (old new : Proof W L G) (Answers : A → List Step → Type 0) : Type 0 where
   pub steps : List Step
   pub went : Went seen result steps old new
   pub searched : AreSearched (session_of old).solver_names steps
@@ -76,5 +77,5 @@ pub record GoesOr {A W : Type 0} (full : Type 0) (seen : W → Writer) (result :
   pub ends : MatchResult result (λ x. Answers x steps) (IsFaultOr full)
 
 -- the same where no clause is stored
-abbrev pub Goes : {A W : Type 0} → (W → Writer) → Result A SolverError → Proof W → Proof W → (A → List Step → Type 0) → Type 0
+abbrev pub Goes : {A W L : Type 0} {G : Ghosts L} → (W → Writer) → Result A SolverError → Proof W L G → Proof W L G → (A → List Step → Type 0) → Type 0
 Goes seen result old new Answers = GoesOr ⊥ seen result old new Answers

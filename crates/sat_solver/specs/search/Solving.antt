@@ -2,6 +2,7 @@
 use Rattle.std.specs.Prelude.{ℕ, ◌≡◌, ◌+◌, ◌<◌, ◌⊎◌, true, List, [], ◌∷◌, ◌++◌, length}
 use Rattle.sat_base.specs.device.Device.{Writer}
 use Rattle.sat_base.specs.steps.Steps.{Step, AtClause}
+use Rattle.sat_checker.specs.declared.processing.ProofProcessor.{Ghosts}
 use Rattle.sat_parts.specs.prop.TrailWord.{Letter}
 use Rattle.sat_solver.specs.session.ProofView.{Adds, Keeps, steps_of, session_of}
 use Rattle.sat_solver.specs.session.Coming.{Comes, EndsAtUnsat}
@@ -39,22 +40,22 @@ pub record AdvancesIn (from to : List Step) (k : ℕ) : Type 0 where
   pub times : AdvanceTimes from steps k
 
 -- what holds between rounds
-pub record IsCore {W : Type 0} (c : Core W) : Type 0 where
+pub record IsCore {W L : Type 0} {G : Ghosts L} (c : Core W L G) : Type 0 where
   pub keeps : Keeps c.proof
   pub search : IsSearch (session_of c.proof) c.search
   pub locals : 0 < c.config.reduce_locals_interval
   pub mids : 0 < c.config.reduce_mids_interval
 
 -- the words of the trail since the ask began
-abbrev pub words_in : {W : Type 0} → Core W → List Letter → Type 0
+abbrev pub words_in : {W L : Type 0} {G : Ghosts L} → Core W L G → List Letter → Type 0
 words_in c w = Words (assumed_in c.search) c.search.parts w
 
 -- the number of variables
-abbrev pub values_in : {W : Type 0} → Core W → ℕ
+abbrev pub values_in : {W L : Type 0} {G : Ghosts L} → Core W L G → ℕ
 values_in c = length c.search.parts.assignment.current
 
 -- it came there by so many rounds that ended in a conflict: from each of them comes a step that advances. The judge sees nothing of it.
-pub record Gone {W : Type 0} (seen : W → Writer) (a : Core W) (n : Variables) (k : ℕ) (b : Core W) (m : Variables) : Type 0 where
+pub record Gone {W L : Type 0} {G : Ghosts L} (seen : W → Writer) (a : Core W L G) (n : Variables) (k : ℕ) (b : Core W L G) (m : Variables) : Type 0 where
   pub steps : List Step
   pub adds : Adds seen steps a.proof b.proof
   pub does : DoesNothing n m (steps_of a.proof) (steps_of b.proof)
@@ -70,7 +71,7 @@ EndSays outcomes.Unsat s m c c' = s.unsat ≡ true
 EndSays outcomes.Failed s m c c' = RoundFails s c c' × SharesIndices m c'
 
 -- it came to this answer
-pub record Ended {W : Type 0} (seen : W → Writer) (a : Core W) (n : Variables) (outcome : Outcome) (b : Core W) (m : Variables) : Type 0 where
+pub record Ended {W L : Type 0} {G : Ghosts L} (seen : W → Writer) (a : Core W L G) (n : Variables) (outcome : Outcome) (b : Core W L G) (m : Variables) : Type 0 where
   pub steps : List Step
   pub adds : Adds seen steps a.proof b.proof
   pub does : DoesNothing n m (steps_of a.proof) (steps_of b.proof)
@@ -81,5 +82,5 @@ pub record Ended {W : Type 0} (seen : W → Writer) (a : Core W) (n : Variables)
   pub says : EndSays outcome (session_of b.proof) m a.search b.search
 
 -- it came to this fault
-abbrev pub Broke : {W : Type 0} → (W → Writer) → Core W → SolverError → Core W → Type 0
+abbrev pub Broke : {W L : Type 0} {G : Ghosts L} → (W → Writer) → Core W L G → SolverError → Core W L G → Type 0
 Broke seen a e b = FallsOr (IsFull b.search.parts) seen e a.proof b.proof

@@ -4,6 +4,7 @@ use Rattle.sat_base.specs.device.Device.{Writer, Takes, Breaks}
 use Rattle.sat_base.specs.device.Sink.{empty_sink}
 use Rattle.sat_base.specs.steps.Steps.{Step}
 use Rattle.sat_base.specs.steps.StepText.{SpellsSteps}
+use Rattle.sat_checker.specs.declared.processing.ProofProcessor.{Ghosts}
 use Rattle.sat_solver.specs.session.Counting.{start, Cuts}
 use Rattle.sat_solver.specs.session.OutputView.{text_in}
 use Rattle.sat_solver.specs.session.ProofView.{Target, Open, Carries, Stops, TakesAll, Gives, target_of, steps_of}
@@ -43,7 +44,7 @@ abbrev pub CutsAreFree : Type 0
 CutsAreFree = (made written : List Step) (c : Counting) → Cuts start made written c → MayAll made → MayAt made written c.bits
 
 -- Since a target was opened when its writer was this one and these steps were made, what it took and what waits for it is the text of the steps that were made from there on.
-pub record WroteSince {W : Type 0} (seen : W → Writer) (f : ProofFormat) (from : Writer) (before : List Step) (p : Proof W) : Type 0 where
+pub record WroteSince {W L : Type 0} {G : Ghosts L} (seen : W → Writer) (f : ProofFormat) (from : Writer) (before : List Step) (p : Proof W L G) : Type 0 where
   pub steps : List Step
   pub behind : steps_of p ≡ steps ++ before
   pub target : Carries (Open f start (empty_sink from)) steps (target_of seen p)

@@ -3,6 +3,7 @@ use Rattle.std.specs.Prelude.{ℕ, ◌≡◌, Option, None, Some, List, [], leng
 use Rattle.std.specs.List.{Contains}
 use Rattle.sat_base.specs.device.Device.{Writer}
 use Rattle.sat_base.specs.steps.Steps.{Step}
+use Rattle.sat_checker.specs.declared.processing.ProofProcessor.{Ghosts}
 use Rattle.sat_parts.specs.declared.prop.graph.Conflict.{Conflict}
 use Rattle.sat_parts.specs.clause.Db.{live_refs}
 use Rattle.sat_solver.specs.session.Making.{Took}
@@ -22,14 +23,14 @@ use Rattle.sat_solver.specs.simplify.Freed.{KeepsAsked, AreLeft}
 use Rattle.sat_solver.specs.simplify.Looks.{IsOpenAt}
 
 -- names, proof and search stand together
-pub record StandTogether {W : Type 0} (n : Variables) (p : Proof W) (c : Search) : Type 0 where
+pub record StandTogether {W L : Type 0} {G : Ghosts L} (n : Variables) (p : Proof W L G) (c : Search) : Type 0 where
   pub keeps : Keeps p
   pub stands : Stands n (steps_of p)
   pub search : IsSearch (session_of p) c
   pub shares : SharesIndices n c
 
 -- the same at level 0 where all was propagated, and no clause is false
-pub record MaySettle {W : Type 0} (n : Variables) (p : Proof W) (c : Search) : Type 0 where
+pub record MaySettle {W L : Type 0} {G : Ghosts L} (n : Variables) (p : Proof W L G) (c : Search) : Type 0 where
   pub keeps : Keeps p
   pub stands : Stands n (steps_of p)
   pub shares : SharesIndices n c
@@ -38,7 +39,7 @@ pub record MaySettle {W : Type 0} (n : Variables) (p : Proof W) (c : Search) : T
 
 -- They stand together again: steps were made of which the judge sees nothing, assumptions are as they were, and the word of the trail
 -- goes on.
-pub record Passes {W : Type 0} (seen : W → Writer) (n n' : Variables) (p p' : Proof W) (c c' : Search) : Type 0 where
+pub record Passes {W L : Type 0} {G : Ghosts L} (seen : W → Writer) (n n' : Variables) (p p' : Proof W L G) (c c' : Search) : Type 0 where
   pub together : StandTogether n' p' c'
   pub took : Took seen p p'
   pub does : DoesNothing n n' (steps_of p) (steps_of p')
@@ -47,27 +48,27 @@ pub record Passes {W : Type 0} (seen : W → Writer) (n n' : Variables) (p p' : 
   pub word : ExtendsFor (assumed_in c) c.parts c'.parts
 
 -- what no input decides went wrong, a full clause buffer only where it is full
-pub record FallsOr {W : Type 0} (full : Type 0) (seen : W → Writer) (e : SolverError) (p p' : Proof W) : Type 0 where
+pub record FallsOr {W L : Type 0} {G : Ghosts L} (full : Type 0) (seen : W → Writer) (e : SolverError) (p p' : Proof W L G) : Type 0 where
   pub fault : IsFaultOr full e
   pub steps : List Step
   pub went : Went {A = Unit {0}} seen (Err e) steps p p'
 
 -- the same where no clause is stored
-abbrev pub Falls : {W : Type 0} → (W → Writer) → SolverError → Proof W → Proof W → Type 0
+abbrev pub Falls : {W L : Type 0} {G : Ghosts L} → (W → Writer) → SolverError → Proof W L G → Proof W L G → Type 0
 Falls seen e p p' = FallsOr ⊥ seen e p p'
 
 -- nothing is on the trail, no literal of a long clause has a value, and each variable that has an index is in a clause or assumed
-pub record Simplified {W : Type 0} (seen : W → Writer) (n n' : Variables) (p p' : Proof W) (c c' : Search) : Type 0 where
+pub record Simplified {W L : Type 0} {G : Ghosts L} (seen : W → Writer) (n n' : Variables) (p p' : Proof W L G) (c c' : Search) : Type 0 where
   pub passes : Passes seen n n' p p' c c'
   pub flat : IsFlat c'.parts
   pub left : (o : ℕ) → Contains (live_refs c'.parts.clauses c'.parts.db.refs) o → IsOpenAt c'.parts o
   pub indices : AreLeft n' (session_of p') c'.parts (length c'.parts.assignment.current)
 
-abbrev pub Simplifies : {W : Type 0} → (W → Writer) → Result (Unit {0}) SolverError → Variables → Variables → Proof W → Proof W → Search → Search → Type 0
+abbrev pub Simplifies : {W L : Type 0} {G : Ghosts L} → (W → Writer) → Result (Unit {0}) SolverError → Variables → Variables → Proof W L G → Proof W L G → Search → Search → Type 0
 Simplifies seen r n n' p p' c c' = MatchResult r (λ _. Simplified seen n n' p p' c c') (λ e. Falls seen e p p')
 
 -- a clause is false, and nothing was written
-pub record Refutes {W : Type 0} (n n' : Variables) (p p' : Proof W) (c c' : Search) (e : Conflict) : Type 0 where
+pub record Refutes {W L : Type 0} {G : Ghosts L} (n n' : Variables) (p p' : Proof W L G) (c c' : Search) (e : Conflict) : Type 0 where
   pub names : n' ≡ n
   pub proof : p' ≡ p
   pub keeps : Keeps p'
@@ -75,10 +76,10 @@ pub record Refutes {W : Type 0} (n n' : Variables) (p p' : Proof W) (c c' : Sear
   pub moved : Moved c c'
   pub word : ExtendsFor (assumed_in c) c.parts c'.parts
 
-abbrev pub BeginSays : {W : Type 0} → (W → Writer) → Option Conflict → Variables → Variables → Proof W → Proof W → Search → Search → Type 0
+abbrev pub BeginSays : {W L : Type 0} {G : Ghosts L} → (W → Writer) → Option Conflict → Variables → Variables → Proof W L G → Proof W L G → Search → Search → Type 0
 BeginSays seen None n n' p p' c c' = Passes seen n n' p p' c c'
 BeginSays seen (Some e) n n' p p' c c' = Refutes n n' p p' c c' e
 
 -- how a round begins
-abbrev pub Begins : {W : Type 0} → (W → Writer) → Result (Option Conflict) SolverError → Variables → Variables → Proof W → Proof W → Search → Search → Type 0
+abbrev pub Begins : {W L : Type 0} {G : Ghosts L} → (W → Writer) → Result (Option Conflict) SolverError → Variables → Variables → Proof W L G → Proof W L G → Search → Search → Type 0
 Begins seen r n n' p p' c c' = MatchResult r (λ o. BeginSays seen o n n' p p' c c') (λ e. Falls seen e p p')

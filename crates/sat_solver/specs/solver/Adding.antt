@@ -2,6 +2,7 @@
 use Rattle.std.specs.Prelude.{ℕ, ◌≡◌, true, false, None, Some, List, [], ◌∷◌, ◌++◌, map, Result, Ok, Err}
 use Rattle.sat_base.specs.device.Device.{Writer}
 use Rattle.sat_base.specs.script.Judge.{Judge, WitnessName, bring_all, with_clause, refused_literal}
+use Rattle.sat_checker.specs.declared.processing.ProofProcessor.{Ghosts}
 use Rattle.sat_solver.specs.declared.error.SolverError.{SolverError}
 use Rattle.sat_solver.specs.declared.error.SolverError.TheVariants as errors
 use Rattle.sat_solver.specs.names.Adding.{named_literal}
@@ -44,15 +45,15 @@ Forgets before states.Sat = ⊥
 Forgets before states.UnsatUnderAssumptions = ⊥
 
 -- the leftmost name of mode witness
-abbrev pub HasWitness : {W : Type 0} → Solver W → List ℕ → Type 0
+abbrev pub HasWitness : {W L : Type 0} {G : Ghosts L} → Solver W L G → List ℕ → Type 0
 HasWitness s user = (j : Judge) (live : Live) → Agree s.names (steps_in s) j live → (name : ℕ) × (refused_literal j (names_in user) ≡ Some (WitnessName name))
 
 -- there's none
-abbrev pub AreSampled : {W : Type 0} → Solver W → List ℕ → Type 0
+abbrev pub AreSampled : {W L : Type 0} {G : Ghosts L} → Solver W L G → List ℕ → Type 0
 AreSampled s user = (j : Judge) (live : Live) → Agree s.names (steps_in s) j live → refused_literal j (names_in user) ≡ None
 
 -- a call over names failed, for a full clause buffer only where it is full, and so does each one behind it
-pub record EndsNamesOr {W : Type 0} (full : Type 0) (seen : W → Writer) (e : SolverError) (old new : Solver W) : Type 0 where
+pub record EndsNamesOr {W L : Type 0} {G : Ghosts L} (full : Type 0) (seen : W → Writer) (e : SolverError) (old new : Solver W L G) : Type 0 where
   pub going : old.failed ≡ false
   pub failed : new.failed ≡ true
   pub fault : IsFaultOr full e
@@ -60,23 +61,23 @@ pub record EndsNamesOr {W : Type 0} (full : Type 0) (seen : W → Writer) (e : S
   pub clock : new.clock ≡ old.clock
 
 -- the same where no clause is stored
-abbrev pub EndsNames : {W : Type 0} → (W → Writer) → SolverError → Solver W → Solver W → Type 0
+abbrev pub EndsNames : {W L : Type 0} {G : Ghosts L} → (W → Writer) → SolverError → Solver W L G → Solver W L G → Type 0
 EndsNames seen e old new = EndsNamesOr ⊥ seen e old new
 
 -- lines of DRAT are written: they have no assumptions
-abbrev pub IsDrat : {W : Type 0} → (W → Writer) → Solver W → Type 0
+abbrev pub IsDrat : {W L : Type 0} {G : Ghosts L} → (W → Writer) → Solver W L G → Type 0
 IsDrat seen s = is_drat (target_of seen s.core.proof) ≡ true
 
 -- and no clause comes behind the first ask
-abbrev pub IsPastDrat : {W : Type 0} → (W → Writer) → Solver W → Type 0
+abbrev pub IsPastDrat : {W L : Type 0} {G : Ghosts L} → (W → Writer) → Solver W L G → Type 0
 IsPastDrat seen s = IsDrat seen s × (has_asked s.core.proof ≡ true)
 
 -- no name is of mode witness, but for one that comes in there's no variable left
-abbrev pub LacksRoom : {W : Type 0} → Solver W → List ℕ → Type 0
+abbrev pub LacksRoom : {W L : Type 0} {G : Ghosts L} → Solver W L G → List ℕ → Type 0
 LacksRoom s user = (s.failed ≡ false) × AreSampled s user × (HasRoom s.names (users_in user) → ⊥)
 
 -- a clause was added
-pub record Added {W : Type 0} (seen : W → Writer) (old new : Solver W) (user : List ℕ) : Type 0 where
+pub record Added {W L : Type 0} {G : Ghosts L} (seen : W → Writer) (old new : Solver W L G) (user : List ℕ) : Type 0 where
   pub sampled : AreSampled old user
   pub room : HasRoom old.names (users_in user)
   pub did : Did seen old new (with_added user) (due_for_clause old.state user)
@@ -85,7 +86,7 @@ pub record Added {W : Type 0} (seen : W → Writer) (old new : Solver W) (user :
   pub clock : new.clock ≡ old.clock
   pub state : Forgets old.state new.state
 
-abbrev pub AddsClause : {W : Type 0} → (W → Writer) → Result (Unit {0}) SolverError → Solver W → Solver W → List ℕ → Type 0
+abbrev pub AddsClause : {W L : Type 0} {G : Ghosts L} → (W → Writer) → Result (Unit {0}) SolverError → Solver W L G → Solver W L G → List ℕ → Type 0
 AddsClause seen (Ok x) old new user = Added seen old new user
 AddsClause seen (Err errors.WitnessVariable) old new user = Refuses old new ((old.failed ≡ false) × HasWitness old user)
 AddsClause seen (Err errors.NotInDrat) old new user = Refuses old new ((old.failed ≡ false) × IsPastDrat seen old)
@@ -94,7 +95,7 @@ AddsClause seen (Err errors.HasFailed) old new user = Refuses old new (old.faile
 AddsClause seen (Err e) old new user = AreSampled old user × HasRoom old.names (users_in user) × EndsNamesOr (HasFullStore new) seen e old new
 
 -- other assumptions were taken
-pub record Assumed {W : Type 0} (seen : W → Writer) (old new : Solver W) (user : List ℕ) : Type 0 where
+pub record Assumed {W L : Type 0} {G : Ghosts L} (seen : W → Writer) (old new : Solver W L G) (user : List ℕ) : Type 0 where
   pub sampled : AreSampled old user
   pub room : HasRoom old.names (users_in user)
   pub did : Did seen old new (bring_all (names_in user)) (due_for_asked user)
@@ -103,7 +104,7 @@ pub record Assumed {W : Type 0} (seen : W → Writer) (old new : Solver W) (user
   pub clock : new.clock ≡ old.clock
   pub state : Forgets old.state new.state
 
-abbrev pub Assumes : {W : Type 0} → (W → Writer) → Result (Unit {0}) SolverError → Solver W → Solver W → List ℕ → Type 0
+abbrev pub Assumes : {W L : Type 0} {G : Ghosts L} → (W → Writer) → Result (Unit {0}) SolverError → Solver W L G → Solver W L G → List ℕ → Type 0
 Assumes seen (Ok x) old new user = Assumed seen old new user
 Assumes seen (Err errors.WitnessVariable) old new user = Refuses old new ((old.failed ≡ false) × HasWitness old user)
 Assumes seen (Err errors.NotInDrat) old new user = Refuses old new ((old.failed ≡ false) × IsDrat seen old)
@@ -114,7 +115,7 @@ Assumes seen (Err e) old new user = AreSampled old user × HasRoom old.names (us
 -- INSIDE
 
 -- the same without the flag of failure: what a clause leaves
-pub record TookIn {W : Type 0} (seen : W → Writer) (old new : Solver W) (user : List ℕ) : Type 0 where
+pub record TookIn {W L : Type 0} {G : Ghosts L} (seen : W → Writer) (old new : Solver W L G) (user : List ℕ) : Type 0 where
   pub whole : IsWhole new
   pub does : Does old.names new.names (steps_in old) (steps_in new) (with_added user) (due_for_clause old.state user)
   pub comes : Comes (MayAdd (names_in user)) (steps_in old) (steps_in new)
@@ -124,6 +125,6 @@ pub record TookIn {W : Type 0} (seen : W → Writer) (old new : Solver W) (user 
   pub config : new.core.config ≡ old.core.config
   pub state : Forgets old.state new.state
 
-abbrev pub TakesIn : {W : Type 0} → (W → Writer) → Result (Unit {0}) SolverError → Solver W → Solver W → List ℕ → Type 0
+abbrev pub TakesIn : {W L : Type 0} {G : Ghosts L} → (W → Writer) → Result (Unit {0}) SolverError → Solver W L G → Solver W L G → List ℕ → Type 0
 TakesIn seen (Ok x) old new user = TookIn seen old new user
 TakesIn seen (Err e) old new user = BreaksNamesOr (HasFullStore new) seen e old.core new.core

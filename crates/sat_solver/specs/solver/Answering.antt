@@ -2,6 +2,7 @@
 use Rattle.std.specs.Prelude.{ℕ, ◌≡◌, List, [], ◌∷◌, map, MatchResult, Result, Err}
 use Rattle.sat_base.specs.device.Device.{Writer}
 use Rattle.sat_base.specs.steps.Steps.{Step, Model}
+use Rattle.sat_checker.specs.declared.processing.ProofProcessor.{Ghosts}
 use Rattle.sat_solver.specs.session.ProofView.{Adds, Fails, FailsCheck, session_of}
 use Rattle.sat_solver.specs.search.Failing.{ToldCore}
 use Rattle.sat_solver.specs.parts.Full.{IsFull}
@@ -12,43 +13,44 @@ use Rattle.sat_solver.specs.declared.error.SolverError.{SolverError}
 use Rattle.sat_solver.specs.declared.error.SolverError.TheVariants as errors
 use Rattle.sat_solver.specs.declared.names.Variables.{Variables}
 use Rattle.sat_solver.specs.declared.search.solving.Core.{Core}
+use Rattle.sat_solver.specs.declared.session.made.CheckFault.TheVariants as checks
 use Rattle.sat_solver.specs.declared.session.proof.Proof.{Proof}
 use Rattle.sat_solver.specs.solver.Joined.{IsJoined, name_of}
 
 -- what the values of the search make of all variables of the proof
-abbrev pub model_of : {W : Type 0} → Variables → Core W → List ℕ
+abbrev pub model_of : {W L : Type 0} {G : Ghosts L} → Variables → Core W L G → List ℕ
 model_of n c = model_to n c.search.parts.assignment.current (variables_used n)
 
 -- and of all names
-abbrev pub line_of : {W : Type 0} → Variables → Core W → List ℕ
+abbrev pub line_of : {W L : Type 0} {G : Ghosts L} → Variables → Core W L G → List ℕ
 line_of n c = named_to n c.search.parts.assignment.current (names_used n)
 
 -- a call failed by what no input decides, for a full clause buffer only where it is full
-pub record Breaks {W : Type 0} (seen : W → Writer) (e : SolverError) (a b : Core W) : Type 0 where
+pub record Breaks {W L : Type 0} {G : Ghosts L} (seen : W → Writer) (e : SolverError) (a b : Core W L G) : Type 0 where
   pub fault : IsFaultOr (IsFull b.search.parts) e
   pub steps : List Step
   pub went : Went {A = Unit {0}} seen (Err e) steps a.proof b.proof
 
 -- no step was made: a call of the target failed at what waited for it, or the solver's own checker at what waited for its id
-abbrev pub FlushFails : {W : Type 0} → (W → Writer) → SolverError → Proof W → Proof W → Type 0
+abbrev pub FlushFails : {W L : Type 0} {G : Ghosts L} → (W → Writer) → SolverError → Proof W L G → Proof W L G → Type 0
 FlushFails seen (errors.ProofIoError cause) old new = Fails seen [] old new
-FlushFails seen errors.OutOfMemory old new = FailsCheck seen [] old new
-FlushFails seen errors.CounterEnd old new = FailsCheck seen [] old new
-FlushFails seen (errors.ProofProcessorError cause) old new = FailsCheck seen [] old new
+FlushFails seen errors.OutOfMemory old new = FailsCheck seen checks.OutOfMemory [] old new
+FlushFails seen errors.CounterEnd old new = FailsCheck seen checks.CounterEnd [] old new
+FlushFails seen (errors.ProofProcessorError cause) old new = FailsCheck seen (checks.Processor cause) [] old new
 FlushFails seen e old new = ⊥
 
 -- the model of all variables was written
-pub record Shown {W : Type 0} (seen : W → Writer) (n : Variables) (a b : Core W) : Type 0 where
+pub record Shown {W L : Type 0} {G : Ghosts L} (seen : W → Writer) (n : Variables) (a b : Core W L G) : Type 0 where
   pub adds : Adds seen (Model (model_of n a) ∷ []) a.proof b.proof
   pub joined : IsJoined n b
   pub search : b.search ≡ a.search
   pub config : b.config ≡ a.config
 
-abbrev pub ShowsModel : {W : Type 0} → (W → Writer) → Result (Unit {0}) SolverError → Variables → Core W → Core W → Type 0
+abbrev pub ShowsModel : {W L : Type 0} {G : Ghosts L} → (W → Writer) → Result (Unit {0}) SolverError → Variables → Core W L G → Core W L G → Type 0
 ShowsModel seen r n a b = MatchResult r (λ _. Shown seen n a b) (λ e. Breaks seen e a b)
 
 -- a failed core was written, and these are its literals over names
-pub record Failed {W : Type 0} (seen : W → Writer) (n : Variables) (a b : Core W) (core : List ℕ) : Type 0 where
+pub record Failed {W L : Type 0} {G : Ghosts L} (seen : W → Writer) (n : Variables) (a b : Core W L G) (core : List ℕ) : Type 0 where
   pub steps : List Step
   pub adds : Adds seen steps a.proof b.proof
   pub told : ToldCore steps (session_of b.proof) a.search b.search
@@ -56,5 +58,5 @@ pub record Failed {W : Type 0} (seen : W → Writer) (n : Variables) (a b : Core
   pub config : b.config ≡ a.config
   pub named : core ≡ map (name_of n) b.search.analysis.core
 
-abbrev pub FailsCore : {W : Type 0} → (W → Writer) → Result (Unit {0}) SolverError → Variables → Core W → Core W → List ℕ → Type 0
+abbrev pub FailsCore : {W L : Type 0} {G : Ghosts L} → (W → Writer) → Result (Unit {0}) SolverError → Variables → Core W L G → Core W L G → List ℕ → Type 0
 FailsCore seen r n a b core = MatchResult r (λ _. Failed seen n a b core) (λ e. Breaks seen e a b)

@@ -2,6 +2,7 @@
 use Rattle.std.specs.Prelude.{ℕ, ◌≡◌, List, Result, Ok, Err}
 use Rattle.sat_base.specs.device.Device.{Writer}
 use Rattle.sat_base.specs.script.Judge.{bring_all}
+use Rattle.sat_checker.specs.declared.processing.ProofProcessor.{Ghosts}
 use Rattle.sat_solver.specs.declared.error.SolverError.{SolverError}
 use Rattle.sat_solver.specs.names.Calls.{Does}
 use Rattle.sat_solver.specs.names.Coming.{MayTake}
@@ -14,7 +15,7 @@ use Rattle.sat_solver.specs.solver.Taking.{BreaksNames}
 use Rattle.sat_solver.specs.solver.Whole.{IsWholeOf, steps_in}
 
 -- these were taken, but for the list over names
-pub record AskedIn {W : Type 0} (seen : W → Writer) (old new : Solver W) (user : List ℕ) : Type 0 where
+pub record AskedIn {W L : Type 0} {G : Ghosts L} (seen : W → Writer) (old new : Solver W L G) (user : List ℕ) : Type 0 where
   pub whole : IsWholeOf new.core new.names new.asked user new.told.failed_core.items new.clock.restarts.scale new.state
   pub does : Does old.names new.names (steps_in old) (steps_in new) (bring_all (names_in user)) (due_for_asked user)
   pub comes : Comes (MayTake (names_in user)) (steps_in old) (steps_in new)
@@ -24,6 +25,6 @@ pub record AskedIn {W : Type 0} (seen : W → Writer) (old new : Solver W) (user
   pub config : new.core.config ≡ old.core.config
   pub state : Forgets old.state new.state
 
-abbrev pub Asks : {W : Type 0} → (W → Writer) → Result (Unit {0}) SolverError → Solver W → Solver W → List ℕ → Type 0
+abbrev pub Asks : {W L : Type 0} {G : Ghosts L} → (W → Writer) → Result (Unit {0}) SolverError → Solver W L G → Solver W L G → List ℕ → Type 0
 Asks seen (Ok x) old new user = AskedIn seen old new user
 Asks seen (Err e) old new user = BreaksNames seen e old.core new.core

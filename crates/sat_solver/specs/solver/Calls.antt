@@ -4,6 +4,7 @@ use Rattle.sat_base.specs.device.Device.{Writer}
 use Rattle.sat_base.specs.script.Script.{names_of}
 use Rattle.sat_base.specs.script.Judge.{Judge}
 use Rattle.sat_base.specs.steps.Steps.{Step}
+use Rattle.sat_checker.specs.declared.processing.ProofProcessor.{Ghosts}
 use Rattle.sat_solver.specs.bound.Counting.{steps_left}
 use Rattle.sat_solver.specs.declared.error.SolverError.{SolverError}
 use Rattle.sat_solver.specs.declared.error.SolverError.TheVariants as errors
@@ -24,7 +25,7 @@ use Rattle.sat_solver.specs.solver.Answering.{Breaks, FlushFails}
 use Rattle.sat_solver.specs.solver.Whole.{IsWhole, steps_in, line_in}
 
 -- a call was carried out: what it does to the judge's state, and which steps it has made for it, whatever others come between
-pub record Did {W : Type 0} (seen : W → Writer) (old new : Solver W) (judge : Judge → Judge) (due : Judge → List Expected) : Type 0 where
+pub record Did {W L : Type 0} {G : Ghosts L} (seen : W → Writer) (old new : Solver W L G) (judge : Judge → Judge) (due : Judge → List Expected) : Type 0 where
   pub whole : IsWhole new
   pub going : old.failed ≡ false
   pub failed : new.failed ≡ false
@@ -34,7 +35,7 @@ pub record Did {W : Type 0} (seen : W → Writer) (old new : Solver W) (judge : 
   pub took : Took seen old.core.proof new.core.proof
 
 -- the rounds that a call may make
-abbrev pub rounds_left : {W : Type 0} → Solver W → ℕ
+abbrev pub rounds_left : {W L : Type 0} {G : Ghosts L} → Solver W L G → ℕ
 rounds_left s = steps_left s.core.config.max_steps s.clock.steps
 
 -- Rounds become more, but not by more than a call may make, and by fewer than 2^(2n+3), where the judge has given n identities out,
@@ -44,12 +45,12 @@ pub record RoundsOn (n : Variables) (steps : List Step) (budget before now : ℕ
   pub within : now ≤ before + steps_left budget before
   pub few : (j : Judge) (live : Live) → Agree n steps j live → now < before + 2 ^ (2 * j.next_identity + 3)
 
-abbrev pub CountsRounds : {W : Type 0} → Solver W → Solver W → Type 0
+abbrev pub CountsRounds : {W L : Type 0} {G : Ghosts L} → Solver W L G → Solver W L G → Type 0
 CountsRounds old new = RoundsOn old.names (steps_in old) old.core.config.max_steps old.clock.steps new.clock.steps
 
 -- a call failed by what no input decides, and so does each one behind it; where an answer was known, only a flush or the solver's own
 -- checker did
-pub record Ends {W : Type 0} (seen : W → Writer) (e : SolverError) (old new : Solver W) : Type 0 where
+pub record Ends {W L : Type 0} {G : Ghosts L} (seen : W → Writer) (e : SolverError) (old new : Solver W L G) : Type 0 where
   pub going : old.failed ≡ false
   pub failed : new.failed ≡ true
   pub breaks : Breaks seen e old.core new.core
@@ -57,7 +58,7 @@ pub record Ends {W : Type 0} (seen : W → Writer) (e : SolverError) (old new : 
   pub known : (old.state ≡ states.Unknown → ⊥) → FlushFails seen e old.core.proof new.core.proof
 
 -- a call was refused, for this reason, and changed nothing
-pub record Refuses {W : Type 0} (old new : Solver W) (why : Type 0) : Type 0 where
+pub record Refuses {W L : Type 0} {G : Ghosts L} (old new : Solver W L G) (why : Type 0) : Type 0 where
   pub same : new ≡ old
   pub cause : why
 
@@ -69,12 +70,12 @@ told_as states.Unknown states.Sat line asked core = Shows (names_of (map named_l
 told_as states.Unknown states.UnsatUnderAssumptions line asked core = Fails (map named_literal asked) (map named_literal core) ∷ []
 told_as before now line asked core = []
 
-abbrev pub told_by : {W : Type 0} → State → Solver W → List Expected
+abbrev pub told_by : {W L : Type 0} {G : Ghosts L} → State → Solver W L G → List Expected
 told_by before s = told_as before s.state (line_in s) s.assumed.items s.told.failed_core.items
 
 -- how many rounds were made: at least one for an answer that wasn't known, as many as there may be where there's no answer, and an
 -- answer wherever 2^(2n+3) of them might be made
-pub record Counts {W : Type 0} (old new : Solver W) : Type 0 where
+pub record Counts {W L : Type 0} {G : Ghosts L} (old new : Solver W L G) : Type 0 where
   pub on : CountsRounds old new
   pub round : old.state ≡ states.Unknown → (new.state ≡ states.Unknown → ⊥) → old.clock.steps < new.clock.steps
   pub spent : new.state ≡ states.Unknown → new.clock.steps ≡ old.clock.steps + rounds_left old
@@ -88,17 +89,17 @@ IsFlushed (Open f c s) = (s.waiting ≡ []) × (s.writer.flushed ≡ true)
 IsFlushed (Broken w) = Unit {0}
 
 -- where steps are written, it's noted that an ask has begun
-abbrev pub NotesAsk : {W : Type 0} → (W → Writer) → Proof W → Type 0
+abbrev pub NotesAsk : {W L : Type 0} {G : Ghosts L} → (W → Writer) → Proof W L G → Type 0
 NotesAsk seen p = is_open (target_of seen p) ≡ true → has_asked p ≡ true
 
 -- the answer that was known is given again: nothing has changed but the target, to which what waited for it was written
-pub record AnswersAgain {W : Type 0} (old new : Solver W) : Type 0 where
+pub record AnswersAgain {W L : Type 0} {G : Ghosts L} (old new : Solver W L G) : Type 0 where
   pub steps : steps_in new ≡ steps_in old
   pub same : new ≡ record old { core = record old.core { proof = new.core.proof }; used = true }
 
 -- An ask was looked at: assumptions are as they were, names stand for the variables for which they stood, and without an answer each
 -- round derived a clause that advances. The solver's own checker was given all steps, and has told what waited.
-pub record Answered {W : Type 0} (seen : W → Writer) (old new : Solver W) : Type 0 where
+pub record Answered {W L : Type 0} {G : Ghosts L} (seen : W → Writer) (old new : Solver W L G) : Type 0 where
   pub did : Did seen old new (λ j. j) (λ j. told_by old.state new)
   pub comes : Comes EndsAtUnsat (steps_in old) (steps_in new)
   pub assumed : new.assumed ≡ old.assumed
@@ -116,7 +117,7 @@ is_answer states.Sat sat = sat ≡ true
 is_answer states.UnsatUnderAssumptions sat = sat ≡ false
 is_answer states.Unsat sat = sat ≡ false
 
-abbrev pub Solves : {W : Type 0} → (W → Writer) → Result Bool SolverError → Solver W → Solver W → Type 0
+abbrev pub Solves : {W L : Type 0} {G : Ghosts L} → (W → Writer) → Result Bool SolverError → Solver W L G → Solver W L G → Type 0
 Solves seen (Ok sat) old new = Answered seen old new × is_answer new.state sat
 Solves seen (Err errors.Interrupted) old new = Answered seen old new × (new.state ≡ states.Unknown)
 Solves seen (Err errors.HasFailed) old new = Refuses old new (old.failed ≡ true)

@@ -1,5 +1,6 @@
 -- Parameters of a solver.
 use Rattle.std.specs.Prelude.{◌≡◌, true, false, Result, Ok, Err, unwrap_or}
+use Rattle.sat_checker.specs.declared.processing.ProofProcessor.{Ghosts}
 use Rattle.sat_solver.specs.Configs.{in_range, updated}
 use Rattle.sat_solver.specs.session.Session.{Session}
 use Rattle.sat_solver.specs.declared.config.SolverConfigUpdate.{SolverConfigUpdate}
@@ -14,19 +15,19 @@ use Rattle.sat_solver.specs.declared.solver.state.State.TheVariants as states
 use Rattle.sat_solver.specs.solver.Calls.{Refuses}
 
 -- the search has the decays of the parameters, and nothing else changed
-pub record Decays {W : Type 0} (a b : Core W) : Type 0 where
+pub record Decays {W L : Type 0} {G : Ghosts L} (a b : Core W L G) : Type 0 where
   pub bumped : (s : Session) → IsSearch s a.search → Bumped s a.search b.search
   pub parts : b.search.parts ≡ record a.search.parts { vsids = record a.search.parts.vsids { decay = a.config.vsids_decay } }
   pub search : b.search ≡ record a.search { parts = b.search.parts; activity = b.search.activity }
   pub same : b ≡ record a { search = b.search }
 
 -- unless the search is over
-abbrev pub HandsOn : {W : Type 0} → State → Core W → Core W → Type 0
+abbrev pub HandsOn : {W L : Type 0} {G : Ghosts L} → State → Core W L G → Core W L G → Type 0
 HandsOn states.Unsat a b = b ≡ a
 HandsOn st a b = Decays a b
 
 -- the parameters were changed, and nothing else that can be asked for
-pub record Configured {W : Type 0} (u : SolverConfigUpdate) (old new : Solver W) : Type 0 where
+pub record Configured {W L : Type 0} {G : Ghosts L} (u : SolverConfigUpdate) (old new : Solver W L G) : Type 0 where
   pub going : old.failed ≡ false
   pub range : in_range u ≡ true
   pub config : new.core.config ≡ updated u old.core.config
@@ -41,7 +42,7 @@ pub record Configured {W : Type 0} (u : SolverConfigUpdate) (old new : Solver W)
   pub failed : new.failed ≡ false
   pub used : new.used ≡ old.used
 
-abbrev pub Configures : {W : Type 0} → Result (Unit {0}) SolverError → SolverConfigUpdate → Solver W → Solver W → Type 0
+abbrev pub Configures : {W L : Type 0} {G : Ghosts L} → Result (Unit {0}) SolverError → SolverConfigUpdate → Solver W L G → Solver W L G → Type 0
 Configures (Ok x) u old new = Configured u old new
 Configures (Err errors.HasFailed) u old new = Refuses old new (old.failed ≡ true)
 Configures (Err errors.OutOfRange) u old new = Refuses old new ((old.failed ≡ false) × (in_range u ≡ false))

@@ -7,6 +7,7 @@ use Rattle.sat_base.specs.declared.dimacs.error.DimacsError.{DimacsError}
 use Rattle.sat_base.specs.declared.dimacs.error.DimacsError.TheVariants as texts
 use Rattle.sat_checker.specs.DimacsView.{AreRead, FailsBehind}
 use Rattle.sat_checker.specs.ProofView.{NoneFailed}
+use Rattle.sat_checker.specs.declared.processing.ProofProcessor.{Ghosts}
 use Rattle.sat_solver.specs.declared.error.SolverError.{SolverError}
 use Rattle.sat_solver.specs.declared.error.SolverError.TheVariants as errors
 use Rattle.sat_solver.specs.declared.solver.Solver.{Solver}
@@ -14,22 +15,22 @@ use Rattle.sat_solver.specs.solver.Adding.{Added, AddsClause}
 use Rattle.sat_solver.specs.solver.Calls.{Refuses}
 
 -- clauses were added, each as by a call of its own
-abbrev pub AddsAll : {W : Type 0} → (W → Writer) → Solver W → List (List ℕ) → Solver W → Type 0
+abbrev pub AddsAll : {W L : Type 0} {G : Ghosts L} → (W → Writer) → Solver W L G → List (List ℕ) → Solver W L G → Type 0
 AddsAll seen old [] new = new ≡ old
-AddsAll {W} seen old (c ∷ cs) new = (mid : Solver W) × Added seen old mid c × AddsAll seen mid cs new
+AddsAll {W} {L} {G} seen old (c ∷ cs) new = (mid : Solver W L G) × Added seen old mid c × AddsAll seen mid cs new
 
 -- the clauses before one were added, and this one was refused, or failed
-pub record StopsAt {W : Type 0} (seen : W → Writer) (e : SolverError) (old new : Solver W) (clauses : List (List ℕ)) : Type 0 where
+pub record StopsAt {W L : Type 0} {G : Ghosts L} (seen : W → Writer) (e : SolverError) (old new : Solver W L G) (clauses : List (List ℕ)) : Type 0 where
   pub going : old.failed ≡ false
   pub before : List (List ℕ)
   pub clause : List ℕ
   pub left : List (List ℕ)
   pub split : clauses ≡ before ++ (clause ∷ left)
-  pub mid : Solver W
+  pub mid : Solver W L G
   pub added : AddsAll seen old before mid
   pub stops : AddsClause seen (Err e) mid new clause
 
-abbrev pub AddsFormula : {W : Type 0} → (W → Writer) → Result (Unit {0}) SolverError → Solver W → Solver W → List (List ℕ) → Type 0
+abbrev pub AddsFormula : {W L : Type 0} {G : Ghosts L} → (W → Writer) → Result (Unit {0}) SolverError → Solver W L G → Solver W L G → List (List ℕ) → Type 0
 AddsFormula seen (Ok x) old new clauses = (old.failed ≡ false) × AddsAll seen old clauses new
 AddsFormula seen (Err errors.HasFailed) old new clauses = Refuses old new (old.failed ≡ true)
 AddsFormula seen (Err e) old new clauses = StopsAt seen e old new clauses
@@ -52,36 +53,36 @@ is_want texts.Read = false
 is_want texts.OutOfMemory = true
 is_want texts.HasFailed = false
 
-abbrev pub with_failed : {W : Type 0} → Bool → Solver W → Solver W
+abbrev pub with_failed : {W L : Type 0} {G : Ghosts L} → Bool → Solver W L G → Solver W L G
 with_failed b s = record s { failed = b }
 
 -- the text is at fault, or a read of it failed: the clauses before were added
-pub record TextFails {W : Type 0} (seen : W → Writer) (e : SolverError) (old new : Solver W) (from to : Reader) : Type 0 where
+pub record TextFails {W L : Type 0} {G : Ghosts L} (seen : W → Writer) (e : SolverError) (old new : Solver W L G) (from to : Reader) : Type 0 where
   pub going : old.failed ≡ false
   pub fault : DimacsError
   pub is : e ≡ text_fault fault
   pub clauses : List (List ℕ)
   pub fails : FailsBehind fault from to clauses
-  pub mid : Solver W
+  pub mid : Solver W L G
   pub added : AddsAll seen old clauses mid
   pub new_is : new ≡ with_failed (is_want fault) mid
 
 -- one of the clauses that were read by then was refused, or failed
-pub record ClauseFails {W : Type 0} (seen : W → Writer) (e : SolverError) (old new : Solver W) (from to : Reader) : Type 0 where
+pub record ClauseFails {W L : Type 0} {G : Ghosts L} (seen : W → Writer) (e : SolverError) (old new : Solver W L G) (from to : Reader) : Type 0 where
   pub quiet : NoneFailed from to
   pub clauses : List (List ℕ)
   pub read : GaveEnough from to (λ text. AreRead text clauses)
   pub stops : StopsAt seen e old new clauses
 
 -- all clauses of a text without a fault were added
-pub record TextAdded {W : Type 0} (seen : W → Writer) (old new : Solver W) (from to : Reader) : Type 0 where
+pub record TextAdded {W L : Type 0} {G : Ghosts L} (seen : W → Writer) (old new : Solver W L G) (from to : Reader) : Type 0 where
   pub going : old.failed ≡ false
   pub quiet : NoneFailed from to
   pub clauses : List (List ℕ)
   pub read : GaveEnough from to (λ text. IsDimacs text clauses Clean)
   pub added : AddsAll seen old clauses new
 
-abbrev pub AddsText : {W : Type 0} → (W → Writer) → Result (Unit {0}) SolverError → Solver W → Solver W → Reader → Reader → Type 0
+abbrev pub AddsText : {W L : Type 0} {G : Ghosts L} → (W → Writer) → Result (Unit {0}) SolverError → Solver W L G → Solver W L G → Reader → Reader → Type 0
 AddsText seen (Ok x) old new from to = TextAdded seen old new from to
 AddsText seen (Err errors.HasFailed) old new from to = Refuses old new (old.failed ≡ true) × (to ≡ from)
 AddsText seen (Err e) old new from to = TextFails seen e old new from to ⊎ ClauseFails seen e old new from to
@@ -89,17 +90,17 @@ AddsText seen (Err e) old new from to = TextFails seen e old new from to ⊎ Cla
 -- INSIDE
 
 -- the clauses that waited were added, and the parser's answer passed on
-pub record ReadStops {W : Type 0} (seen : W → Writer) (e : SolverError) (answer : Result (Unit {0}) DimacsError) (old new : Solver W) (clauses : List (List ℕ)) : Type 0 where
+pub record ReadStops {W L : Type 0} {G : Ghosts L} (seen : W → Writer) (e : SolverError) (answer : Result (Unit {0}) DimacsError) (old new : Solver W L G) (clauses : List (List ℕ)) : Type 0 where
   pub fault : DimacsError
   pub answered : answer ≡ Err fault
   pub is : e ≡ text_fault fault
-  pub mid : Solver W
+  pub mid : Solver W L G
   pub added : AddsAll seen old clauses mid
   pub new_is : new ≡ with_failed (is_want fault) mid
 
-abbrev pub AnswersRead : {W : Type 0} → (W → Writer) → Result (Unit {0}) SolverError → Result (Unit {0}) DimacsError → Solver W → Solver W → List (List ℕ) → Type 0
+abbrev pub AnswersRead : {W L : Type 0} {G : Ghosts L} → (W → Writer) → Result (Unit {0}) SolverError → Result (Unit {0}) DimacsError → Solver W L G → Solver W L G → List (List ℕ) → Type 0
 AnswersRead seen (Ok x) answer old new clauses = (answer ≡ Ok tt) × AddsAll seen old clauses new
 AnswersRead seen (Err e) answer old new clauses = ReadStops seen e answer old new clauses ⊎ StopsAt seen e old new clauses
 
-abbrev pub AddsRead : {W : Type 0} → (W → Writer) → Result (Unit {0}) SolverError → Result (Unit {0}) DimacsError → Progress → Solver W → Solver W → Type 0
+abbrev pub AddsRead : {W L : Type 0} {G : Ghosts L} → (W → Writer) → Result (Unit {0}) SolverError → Result (Unit {0}) DimacsError → Progress → Solver W L G → Solver W L G → Type 0
 AddsRead seen result answer parser old new = (clauses : List (List ℕ)) × (clauses_read parser ≡ parser.taken ++ clauses) × AnswersRead seen result answer old new clauses

@@ -1,6 +1,7 @@
 -- What a search came to, and told.
 use Rattle.std.specs.Prelude.{ℕ, ◌≡◌, Option, None, Some, List, MatchResult, Result}
 use Rattle.sat_base.specs.device.Device.{Writer}
+use Rattle.sat_checker.specs.declared.processing.ProofProcessor.{Ghosts}
 use Rattle.sat_solver.specs.declared.bound.search.Outcome.{Outcome}
 use Rattle.sat_solver.specs.declared.bound.search.Outcome.TheVariants as outcomes
 use Rattle.sat_solver.specs.declared.error.SolverError.{SolverError}
@@ -14,44 +15,44 @@ use Rattle.sat_solver.specs.solver.Joined.{IsJoined}
 use Rattle.sat_solver.specs.solver.Answering.{Breaks, Shown, Failed}
 
 -- a model was found and written
-pub record FoundModel {W : Type 0} (seen : W → Writer) (n m : Variables) (a b : Core W) : Type 0 where
-  pub mid : Core W
+pub record FoundModel {W L : Type 0} {G : Ghosts L} (seen : W → Writer) (n m : Variables) (a b : Core W L G) : Type 0 where
+  pub mid : Core W L G
   pub ended : Ended seen a n outcomes.Model mid m
   pub shown : Shown seen m mid b
 
 -- assumptions that can't be true together were found and written
-pub record FoundCore {W : Type 0} (seen : W → Writer) (n m : Variables) (a b : Core W) (core : List ℕ) : Type 0 where
-  pub mid : Core W
+pub record FoundCore {W L : Type 0} {G : Ghosts L} (seen : W → Writer) (n m : Variables) (a b : Core W L G) (core : List ℕ) : Type 0 where
+  pub mid : Core W L G
   pub ended : Ended seen a n outcomes.Failed mid m
   pub failed : Failed seen m mid b core
 
-abbrev pub FoundSays : {W : Type 0} → (W → Writer) → State → Variables → Variables → Core W → Core W → List ℕ → Type 0
+abbrev pub FoundSays : {W L : Type 0} {G : Ghosts L} → (W → Writer) → State → Variables → Variables → Core W L G → Core W L G → List ℕ → Type 0
 FoundSays seen states.Unknown n m a b core = ⊥
 FoundSays seen states.Sat n m a b core = FoundModel seen n m a b
 FoundSays seen states.UnsatUnderAssumptions n m a b core = FoundCore seen n m a b core
 FoundSays seen states.Unsat n m a b core = Ended seen a n outcomes.Unsat b m
 
 -- no answer by now
-pub record FoundNone {W : Type 0} (seen : W → Writer) (rounds : ℕ) (n m : Variables) (a b : Core W) : Type 0 where
+pub record FoundNone {W L : Type 0} {G : Ghosts L} (seen : W → Writer) (rounds : ℕ) (n m : Variables) (a b : Core W L G) : Type 0 where
   pub joined : IsJoined m b
   pub gone : Gone seen a n rounds b m
 
-abbrev pub Finds : {W : Type 0} → (W → Writer) → Option State → (rounds : ℕ) → Variables → Variables → Core W → Core W → List ℕ → Type 0
+abbrev pub Finds : {W L : Type 0} {G : Ghosts L} → (W → Writer) → Option State → (rounds : ℕ) → Variables → Variables → Core W L G → Core W L G → List ℕ → Type 0
 Finds seen None rounds n m a b core = FoundNone seen rounds n m a b
 Finds seen (Some state) rounds n m a b core = FoundSays seen state n m a b core
 
 -- what a search came to, before it's told
-abbrev pub ComesTo : {W : Type 0} → Outcome → Variables → Core W → Type 0
+abbrev pub ComesTo : {W L : Type 0} {G : Ghosts L} → Outcome → Variables → Core W L G → Type 0
 ComesTo outcomes.Learned n c = ⊥
 ComesTo outcomes.Model n c = IsJoined n c × IsComplete c.search.assumptions.lits.items c.search.parts
 ComesTo outcomes.Failed n c = IsJoined n c × IsFailing c.search.assumptions.lits.items c.search.parts c.search.failed
 ComesTo outcomes.Unsat n c = Unit {0}
 
-abbrev pub ToldSays : {W : Type 0} → (W → Writer) → Option State → Outcome → Variables → Core W → Core W → List ℕ → Type 0
+abbrev pub ToldSays : {W L : Type 0} {G : Ghosts L} → (W → Writer) → Option State → Outcome → Variables → Core W L G → Core W L G → List ℕ → Type 0
 ToldSays seen (Some states.Sat) outcomes.Model n a b core = Shown seen n a b
 ToldSays seen (Some states.UnsatUnderAssumptions) outcomes.Failed n a b core = Failed seen n a b core
 ToldSays seen (Some states.Unsat) outcomes.Unsat n a b core = b ≡ a
 ToldSays seen o outcome n a b core = ⊥
 
-abbrev pub Tells : {W : Type 0} → (W → Writer) → Result (Option State) SolverError → Outcome → Variables → Core W → Core W → List ℕ → Type 0
+abbrev pub Tells : {W L : Type 0} {G : Ghosts L} → (W → Writer) → Result (Option State) SolverError → Outcome → Variables → Core W L G → Core W L G → List ℕ → Type 0
 Tells seen r outcome n a b core = MatchResult r (λ o. ToldSays seen o outcome n a b core) (λ e. Breaks seen e a b)

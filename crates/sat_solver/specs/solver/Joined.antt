@@ -1,6 +1,7 @@
 -- Names, and a search that goes on.
 use Rattle.std.specs.Prelude.{ℕ, ◌≡◌, Option, None, Some, List}
 use Rattle.sat_base.specs.values.Literals.{variable, is_positive, coded}
+use Rattle.sat_checker.specs.declared.processing.ProofProcessor.{Ghosts}
 use Rattle.sat_solver.specs.session.ProofView.{steps_of, session_of}
 use Rattle.sat_solver.specs.search.Solving.{IsCore}
 use Rattle.sat_solver.specs.loading.Shared.{SharesIndices}
@@ -12,13 +13,13 @@ use Rattle.sat_solver.specs.declared.names.taking.Taken.{Taken}
 use Rattle.sat_solver.specs.declared.search.solving.Core.{Core}
 
 -- names and search stand, over the same indices
-pub record IsJoined {W : Type 0} (n : Variables) (c : Core W) : Type 0 where
+pub record IsJoined {W L : Type 0} {G : Ghosts L} (n : Variables) (c : Core W L G) : Type 0 where
   pub sound : IsCore c
   pub stands : Stands n (steps_of c.proof)
   pub shares : SharesIndices n c.search
 
 -- these literals over names are the assumptions of the search and of the proof
-pub record AreAsked {W : Type 0} (n : Variables) (c : Core W) (user : List ℕ) (t : Taken) : Type 0 where
+pub record AreAsked {W L : Type 0} {G : Ghosts L} (n : Variables) (c : Core W L G) (user : List ℕ) (t : Taken) : Type 0 where
   pub images : Images n user t.order.items
   pub lits : c.search.assumptions.lits.items ≡ t.order.items
   pub spelt : GlobalImages n user t.globals.items

@@ -4,6 +4,7 @@ use Rattle.sat_base.specs.device.Device.{Writer}
 use Rattle.sat_base.specs.values.Literals.{variable}
 use Rattle.sat_base.specs.script.Script.{Among, Hide, Witness, Sample}
 use Rattle.sat_base.specs.script.Judge.{Judge, Sampled, Witnessed, bring_in, new_names, accepted, set_all}
+use Rattle.sat_checker.specs.declared.processing.ProofProcessor.{Ghosts}
 use Rattle.sat_solver.specs.declared.error.SolverError.{SolverError}
 use Rattle.sat_solver.specs.declared.error.SolverError.TheVariants as errors
 use Rattle.sat_solver.specs.names.Calls.{Agree}
@@ -24,15 +25,15 @@ use Rattle.sat_solver.specs.solver.Calls.{Did, Refuses}
 use Rattle.sat_solver.specs.solver.Whole.{IsWhole, steps_in}
 
 -- the name is one of those assumed
-abbrev pub IsAsked : {W : Type 0} → Solver W → ℕ → Type 0
+abbrev pub IsAsked : {W L : Type 0} {G : Ghosts L} → Solver W L G → ℕ → Type 0
 IsAsked s user = (l : ℕ) × Among l s.assumed.items × (variable l ≡ user)
 
-abbrev pub variable_value : {W : Type 0} → Solver W → Option ℕ → Option Bool
+abbrev pub variable_value : {W L : Type 0} {G : Ghosts L} → Solver W L G → Option ℕ → Option Bool
 variable_value s None = None
 variable_value s (Some v) = Some (value_in s.names s.core.search.parts.assignment.current v)
 
 -- the value of a name by the values of the search, if it is in use
-abbrev pub name_value : {W : Type 0} → Solver W → ℕ → Option Bool
+abbrev pub name_value : {W L : Type 0} {G : Ghosts L} → Solver W L G → ℕ → Option Bool
 name_value s user = variable_value s (global_of s.names user)
 
 -- what came in is false, and what was there has the value that it had
@@ -44,7 +45,7 @@ IsKeptOrFalse (Some a) (Some b) = b ≡ a
 
 -- a call over names was carried out, by steps that may come in it, and what is known of an answer stands: in a model, names that came in
 -- are false
-pub record Renamed {W : Type 0} (seen : W → Writer) (old new : Solver W) (judge : Judge → Judge) (due : Judge → List Expected) (May : List Step → Step → Type 0) : Type 0 where
+pub record Renamed {W L : Type 0} {G : Ghosts L} (seen : W → Writer) (old new : Solver W L G) (judge : Judge → Judge) (due : Judge → List Expected) (May : List Step → Step → Type 0) : Type 0 where
   pub did : Did seen old new judge due
   pub comes : Comes May (steps_in old) (steps_in new)
   pub assumed : new.assumed ≡ old.assumed
@@ -54,46 +55,46 @@ pub record Renamed {W : Type 0} (seen : W → Writer) (old new : Solver W) (judg
   pub values : (user : ℕ) → IsKeptOrFalse (name_value old user) (name_value new user)
 
 -- what came of a call that changes the mode of a name, or hides it; which steps it may make
-abbrev pub ChangesMode : {W : Type 0} → (W → Writer) → Result (Unit {0}) SolverError → Solver W → Solver W → ℕ → (Judge → Judge) → (Judge → List Expected) → (List Step → Step → Type 0) → Type 0
+abbrev pub ChangesMode : {W L : Type 0} {G : Ghosts L} → (W → Writer) → Result (Unit {0}) SolverError → Solver W L G → Solver W L G → ℕ → (Judge → Judge) → (Judge → List Expected) → (List Step → Step → Type 0) → Type 0
 ChangesMode seen (Ok x) old new user judge due May = (IsAsked old user → ⊥) × Renamed seen old new judge due May × HasRoom old.names (user ∷ [])
 ChangesMode seen (Err errors.AssumedVariable) old new user judge due May = Refuses old new ((old.failed ≡ false) × IsAsked old user)
 ChangesMode seen (Err errors.VariableLimit) old new user judge due May = Refuses old new ((old.failed ≡ false) × (IsAsked old user → ⊥) × (HasRoom old.names (user ∷ []) → ⊥))
 ChangesMode seen (Err errors.HasFailed) old new user judge due May = Refuses old new (old.failed ≡ true)
 ChangesMode seen (Err e) old new user judge due May = (IsAsked old user → ⊥) × HasRoom old.names (user ∷ []) × EndsNames seen e old new
 
-abbrev pub Hides : {W : Type 0} → (W → Writer) → Result (Unit {0}) SolverError → Solver W → Solver W → ℕ → Type 0
+abbrev pub Hides : {W L : Type 0} {G : Ghosts L} → (W → Writer) → Result (Unit {0}) SolverError → Solver W L G → Solver W L G → ℕ → Type 0
 Hides seen r old new user = ChangesMode seen r old new user (accepted (Hide ((user + 1) ∷ []))) (hiding ((user + 1) ∷ [])) MayHide
 
-abbrev pub Witnesses : {W : Type 0} → (W → Writer) → Result (Unit {0}) SolverError → Solver W → Solver W → ℕ → Type 0
+abbrev pub Witnesses : {W L : Type 0} {G : Ghosts L} → (W → Writer) → Result (Unit {0}) SolverError → Solver W L G → Solver W L G → ℕ → Type 0
 Witnesses seen r old new user = ChangesMode seen r old new user (accepted (Witness ((user + 1) ∷ []))) (setting Witnessed ((user + 1) ∷ [])) (MaySet (user + 1) false)
 
-abbrev pub Samples : {W : Type 0} → (W → Writer) → Result (Unit {0}) SolverError → Solver W → Solver W → ℕ → Type 0
+abbrev pub Samples : {W L : Type 0} {G : Ghosts L} → (W → Writer) → Result (Unit {0}) SolverError → Solver W L G → Solver W L G → ℕ → Type 0
 Samples seen r old new user = ChangesMode seen r old new user (accepted (Sample ((user + 1) ∷ []))) (setting Sampled ((user + 1) ∷ [])) (MaySet (user + 1) true)
 
 -- the name comes next, whatever the judge's state is that names and steps agree with
-abbrev pub IsNextName : {W : Type 0} → Solver W → ℕ → Type 0
+abbrev pub IsNextName : {W L : Type 0} {G : Ghosts L} → Solver W L G → ℕ → Type 0
 IsNextName s name = (j : Judge) (live : Live) → Agree s.names (steps_in s) j live → IsLowestUnused j name
 
 -- why a call for a new name failed: `VariableLimit` comes exactly where every variable of the proof is in use
-abbrev pub NewFails : {W : Type 0} → (W → Writer) → SolverError → Solver W → Solver W → Type 0
+abbrev pub NewFails : {W L : Type 0} {G : Ghosts L} → (W → Writer) → SolverError → Solver W L G → Solver W L G → Type 0
 NewFails seen errors.HasFailed old new = Refuses old new (old.failed ≡ true)
 NewFails seen errors.VariableLimit old new = Refuses old new ((old.failed ≡ false) × NoneLeft old.names)
 NewFails seen e old new = (NoneLeft old.names → ⊥) × EndsNames seen e old new
 
 -- why names for hidden variables weren't given: none of them lacks a variable
-abbrev pub NamesFail : {W : Type 0} → (W → Writer) → SolverError → Solver W → Solver W → Type 0
+abbrev pub NamesFail : {W L : Type 0} {G : Ghosts L} → (W → Writer) → SolverError → Solver W L G → Solver W L G → Type 0
 NamesFail seen errors.HasFailed old new = Refuses old new (old.failed ≡ true)
 NamesFail seen errors.VariableLimit old new = ⊥
 NamesFail seen e old new = EndsNames seen e old new
 
 -- what came of a call for a new name
-abbrev pub NamesNew : {W : Type 0} → (W → Writer) → Result ℕ SolverError → Solver W → Solver W → Type 0
+abbrev pub NamesNew : {W L : Type 0} {G : Ghosts L} → (W → Writer) → Result ℕ SolverError → Solver W L G → Solver W L G → Type 0
 NamesNew seen (Ok user) old new = IsNextName old (user + 1) × Renamed seen old new (bring_in (user + 1)) (λ j. map NewName (new_names (user + 1) j)) IsDue
 NamesNew seen (Err e) old new = NewFails seen e old new
 
 -- Each hidden variable that is kept got the next name and mode witness, by increasing variable, and what is known of an answer stands.
 -- Where there is none, a proof may still be opened.
-pub record Observed {W : Type 0} (seen : W → Writer) (old new : Solver W) (users : List ℕ) : Type 0 where
+pub record Observed {W L : Type 0} {G : Ghosts L} (seen : W → Writer) (old new : Solver W L G) (users : List ℕ) : Type 0 where
   pub whole : IsWhole new
   pub going : old.failed ≡ false
   pub failed : new.failed ≡ false
@@ -111,5 +112,5 @@ pub record Observed {W : Type 0} (seen : W → Writer) (old new : Solver W) (use
 -- INSIDE
 
 -- the same for either mode
-abbrev pub SetsMode : {W : Type 0} → (W → Writer) → Result (Unit {0}) SolverError → Solver W → Solver W → ℕ → Bool → Type 0
+abbrev pub SetsMode : {W L : Type 0} {G : Ghosts L} → (W → Writer) → Result (Unit {0}) SolverError → Solver W L G → Solver W L G → ℕ → Bool → Type 0
 SetsMode seen r old new user sample = ChangesMode seen r old new user (set_all (judged_mode sample) ((user + 1) ∷ [])) (setting (judged_mode sample) ((user + 1) ∷ [])) (MaySet (user + 1) sample)

@@ -2,6 +2,7 @@
 use Rattle.std.specs.Prelude.{ℕ, ◌≡◌, ◌/◌, ◌&&◌, not, false, Bool, Option, is_some, List, length, nat_lt, count_by}
 use Rattle.sat_store.specs.declared.clause.tier.Tier.{Tier}
 use Rattle.sat_store.specs.declared.clause.tier.Tier.TheVariants as tiers
+use Rattle.sat_checker.specs.declared.processing.ProofProcessor.{Ghosts}
 use Rattle.sat_parts.specs.clause.Db.{is_live_of}
 use Rattle.sat_parts.specs.prop.Binaries.{implications}
 use Rattle.sat_parts.specs.prop.Values.{value_of}
@@ -22,11 +23,11 @@ is_open_at n values x = is_some (global_at n x) && (nat_lt x (length values) && 
 abbrev pub open_vars : Variables → List (Option Bool) → ℕ
 open_vars n values = count_to (indices_used n) (is_open_at n values)
 
-abbrev pub open_in : {W : Type 0} → Solver W → ℕ
+abbrev pub open_in : {W L : Type 0} {G : Ghosts L} → Solver W L G → ℕ
 open_in s = open_vars s.names s.core.search.parts.assignment.current
 
 -- no call failed, and the clauses aren't known to be unsatisfiable
-pub record GoesOnIn {W : Type 0} (s : Solver W) : Type 0 where
+pub record GoesOnIn {W L : Type 0} {G : Ghosts L} (s : Solver W L G) : Type 0 where
   pub solver : IsSolver s
   pub going : s.failed ≡ false
   pub left : s.state ≡ states.Unsat → ⊥

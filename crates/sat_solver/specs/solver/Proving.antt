@@ -1,14 +1,18 @@
 -- The proof of a solver, opened and closed.
-use Rattle.std.specs.Prelude.{◌≡◌, ◌⊎◌, true, false, Option, None, Some, [], ◌∷◌, Result, Ok, Err}
+use Rattle.std.specs.Prelude.{◌≡◌, ◌⊎◌, true, false, Option, None, Some, List, [], ◌∷◌, ◌++◌, Result, Ok, Err}
 use Rattle.sat_base.specs.device.Device.{Writer}
 use Rattle.sat_base.specs.device.Sink.{empty_sink}
 use Rattle.sat_base.specs.steps.Steps.{End}
+use Rattle.sat_checker.specs.declared.processing.ProofProcessor.{Ghosts}
 use Rattle.sat_solver.specs.session.Checked.{has_begun}
 use Rattle.sat_solver.specs.session.Counting.{start}
 use Rattle.sat_solver.specs.session.Drat.{IsDratDerivation, Refutes, present}
-use Rattle.sat_solver.specs.session.ProofView.{Open, Adds, ClosesNone, ClosesOne, Fails, FailsCheck, is_open, is_checked, is_lost, target_of}
+use Rattle.sat_solver.specs.session.ProofView as proofs
+use Rattle.sat_solver.specs.session.ProofView.{Open, Adds, ClosesNone, ClosesOne, Fails, FailsCheck, ListedAnew, audience, is_open, is_lost, target_of}
 use Rattle.sat_solver.specs.declared.session.format.ProofFormat.{ProofFormat}
 use Rattle.sat_solver.specs.declared.error.SolverError.{SolverError}
+use Rattle.sat_solver.specs.declared.session.made.CheckFault.{CheckFault}
+use Rattle.sat_solver.specs.declared.session.made.CheckFault.TheVariants as checks
 use Rattle.sat_solver.specs.declared.error.SolverError.TheVariants as errors
 use Rattle.sat_solver.specs.names.Calls.{Does}
 use Rattle.sat_solver.specs.names.Expected.{Finish}
@@ -18,39 +22,71 @@ use Rattle.sat_solver.specs.solver.Calls.{Refuses}
 use Rattle.sat_solver.specs.solver.Whole.{IsWhole, steps_in}
 
 -- a target was opened, before anything else
-pub record Opened {W : Type 0} (seen : W → Writer) (format : ProofFormat) (target : W) (old new : Solver W) : Type 0 where
+pub record Opened {W L : Type 0} {G : Ghosts L} (seen : W → Writer) (format : ProofFormat) (target : W) (old new : Solver W L G) : Type 0 where
   pub going : old.failed ≡ false
   pub first : old.used ≡ false
   pub shut : is_open (target_of seen old.core.proof) ≡ false
   pub steps : steps_in new ≡ steps_in old
+  pub listening : audience new.core.proof ≡ audience old.core.proof
+  pub taking : is_lost new.core.proof ≡ is_lost old.core.proof
   pub target_is : target_of seen new.core.proof ≡ Open format start (empty_sink (seen target))
   pub same : new ≡ record old { core = record old.core { proof = new.core.proof } }
 
-abbrev pub Opens : {W : Type 0} → (W → Writer) → Result (Unit {0}) SolverError → ProofFormat → W → Solver W → Solver W → Type 0
+abbrev pub Opens : {W L : Type 0} {G : Ghosts L} → (W → Writer) → Result (Unit {0}) SolverError → ProofFormat → W → Solver W L G → Solver W L G → Type 0
 Opens seen (Ok x) format target old new = Opened seen format target old new
 Opens seen (Err errors.HasFailed) format target old new = Refuses old new (old.failed ≡ true)
 Opens seen (Err errors.TooLate) format target old new = Refuses old new ((old.failed ≡ false) × ((old.used ≡ true) ⊎ (is_open (target_of seen old.core.proof) ≡ true)))
 Opens seen (Err e) format target old new = ⊥
 
 -- the solver has a checker of its own, before any step but ends of proofs
-pub record Checks {W : Type 0} (seen : W → Writer) (old new : Solver W) : Type 0 where
+pub record Checks {W L : Type 0} {G : Ghosts L} (seen : W → Writer) (old new : Solver W L G) : Type 0 where
   pub going : old.failed ≡ false
   pub first : old.used ≡ false
   pub begun : has_begun (steps_in old) ≡ false
-  pub steps : steps_in new ≡ steps_in old
   pub target : target_of seen new.core.proof ≡ target_of seen old.core.proof
-  pub checked : is_checked new.core.proof ≡ true
-  pub taking : is_lost new.core.proof ≡ false
+  pub checks : proofs.Checks old.core.proof new.core.proof
   pub same : new ≡ record old { core = record old.core { proof = new.core.proof } }
 
-abbrev pub Enables : {W : Type 0} → (W → Writer) → Result (Unit {0}) SolverError → Solver W → Solver W → Type 0
+abbrev pub Enables : {W L : Type 0} {G : Ghosts L} → (W → Writer) → Result (Unit {0}) SolverError → Solver W L G → Solver W L G → Type 0
 Enables seen (Ok x) old new = Checks seen old new
 Enables seen (Err errors.HasFailed) old new = Refuses old new (old.failed ≡ true)
 Enables seen (Err errors.TooLate) old new = Refuses old new ((old.failed ≡ false) × ((old.used ≡ true) ⊎ (has_begun (steps_in old) ≡ true)))
 Enables seen (Err e) old new = ⊥
 
+-- a processor listens to the solver's own checker, behind those who did, before any step but ends of proofs
+pub record Listens {W L : Type 0} {G : Ghosts L} (seen : W → Writer) (processor : L) (old new : Solver W L G) : Type 0 where
+  pub going : old.failed ≡ false
+  pub first : old.used ≡ false
+  pub begun : has_begun (steps_in old) ≡ false
+  pub steps : steps_in new ≡ steps_in old
+  pub target : target_of seen new.core.proof ≡ target_of seen old.core.proof
+  pub before : List L
+  pub listed : ListedAnew old.core.proof before
+  pub listening : audience new.core.proof ≡ Some (before ++ processor ∷ [])
+  pub taking : is_lost new.core.proof ≡ false
+  pub same : new ≡ record old { core = record old.core { proof = new.core.proof } }
+
+-- no memory was left for it
+pub record Unheard {W L : Type 0} {G : Ghosts L} (seen : W → Writer) (old new : Solver W L G) : Type 0 where
+  pub going : old.failed ≡ false
+  pub first : old.used ≡ false
+  pub begun : has_begun (steps_in old) ≡ false
+  pub failed : new.failed ≡ true
+  pub steps : steps_in new ≡ steps_in old
+  pub target : target_of seen new.core.proof ≡ target_of seen old.core.proof
+  pub before : List L
+  pub listed : ListedAnew old.core.proof before
+  pub listening : audience new.core.proof ≡ Some before
+
+abbrev pub AddsProcessor : {W L : Type 0} {G : Ghosts L} → (W → Writer) → Result (Unit {0}) SolverError → L → Solver W L G → Solver W L G → Type 0
+AddsProcessor seen (Ok x) processor old new = Listens seen processor old new
+AddsProcessor seen (Err errors.HasFailed) processor old new = Refuses old new (old.failed ≡ true)
+AddsProcessor seen (Err errors.TooLate) processor old new = Refuses old new ((old.failed ≡ false) × ((old.used ≡ true) ⊎ (has_begun (steps_in old) ≡ true)))
+AddsProcessor seen (Err errors.OutOfMemory) processor old new = Unheard seen old new
+AddsProcessor seen (Err e) processor old new = ⊥
+
 -- the target came back, with the last step; the solver's own checker was given all steps, and has told what waited
-pub record ClosedOne {W : Type 0} (seen : W → Writer) (given : W) (old new : Solver W) : Type 0 where
+pub record ClosedOne {W L : Type 0} {G : Ghosts L} (seen : W → Writer) (given : W) (old new : Solver W L G) : Type 0 where
   pub going : old.failed ≡ false
   pub whole : IsWhole new
   pub does : Does old.names new.names (steps_in old) (steps_in new) (λ j. j) (λ j. Finish ∷ [])
@@ -61,35 +97,35 @@ pub record ClosedOne {W : Type 0} (seen : W → Writer) (given : W) (old new : S
   pub same : new ≡ record old { core = record old.core { proof = new.core.proof } }
 
 -- none was open
-pub record ClosedNone {W : Type 0} (seen : W → Writer) (old new : Solver W) : Type 0 where
+pub record ClosedNone {W L : Type 0} {G : Ghosts L} (seen : W → Writer) (old new : Solver W L G) : Type 0 where
   pub going : old.failed ≡ false
   pub closes : ClosesNone seen old.core.proof new.core.proof
   pub same : new ≡ record old { core = record old.core { proof = new.core.proof } }
 
 -- the target failed at the last step's text
-pub record ClosedBroken {W : Type 0} (seen : W → Writer) (old new : Solver W) : Type 0 where
+pub record ClosedBroken {W L : Type 0} {G : Ghosts L} (seen : W → Writer) (old new : Solver W L G) : Type 0 where
   pub going : old.failed ≡ false
   pub failed : new.failed ≡ true
   pub fails : Fails seen (End ∷ []) old.core.proof new.core.proof
 
 -- no memory was left, and nothing was made; or it was wanted by the solver's own checker behind the last step
-pub record ClosedStarved {W : Type 0} (seen : W → Writer) (old new : Solver W) : Type 0 where
+pub record ClosedStarved {W L : Type 0} {G : Ghosts L} (seen : W → Writer) (old new : Solver W L G) : Type 0 where
   pub going : old.failed ≡ false
   pub failed : new.failed ≡ true
-  pub adds : Adds seen [] old.core.proof new.core.proof ⊎ FailsCheck seen (End ∷ []) old.core.proof new.core.proof
+  pub adds : Adds seen [] old.core.proof new.core.proof ⊎ FailsCheck seen checks.OutOfMemory (End ∷ []) old.core.proof new.core.proof
 
 -- the solver's own checker failed behind the last step
-pub record ClosedUnchecked {W : Type 0} (seen : W → Writer) (old new : Solver W) : Type 0 where
+pub record ClosedUnchecked {W L : Type 0} {G : Ghosts L} (seen : W → Writer) (fault : CheckFault) (old new : Solver W L G) : Type 0 where
   pub going : old.failed ≡ false
   pub failed : new.failed ≡ true
-  pub fails : FailsCheck seen (End ∷ []) old.core.proof new.core.proof
+  pub fails : FailsCheck seen fault (End ∷ []) old.core.proof new.core.proof
 
-abbrev pub ClosesProof : {W : Type 0} → (W → Writer) → Result (Option W) SolverError → Solver W → Solver W → Type 0
+abbrev pub ClosesProof : {W L : Type 0} {G : Ghosts L} → (W → Writer) → Result (Option W) SolverError → Solver W L G → Solver W L G → Type 0
 ClosesProof seen (Ok None) old new = ClosedNone seen old new
 ClosesProof seen (Ok (Some given)) old new = ClosedOne seen given old new
 ClosesProof seen (Err errors.HasFailed) old new = Refuses old new (old.failed ≡ true)
 ClosesProof seen (Err (errors.ProofIoError cause)) old new = ClosedBroken seen old new
 ClosesProof seen (Err errors.OutOfMemory) old new = ClosedStarved seen old new
-ClosesProof seen (Err errors.CounterEnd) old new = ClosedUnchecked seen old new
-ClosesProof seen (Err (errors.ProofProcessorError cause)) old new = ClosedUnchecked seen old new
+ClosesProof seen (Err errors.CounterEnd) old new = ClosedUnchecked seen checks.CounterEnd old new
+ClosesProof seen (Err (errors.ProofProcessorError cause)) old new = ClosedUnchecked seen (checks.Processor cause) old new
 ClosesProof seen (Err e) old new = ⊥

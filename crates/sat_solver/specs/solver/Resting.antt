@@ -1,6 +1,7 @@
 -- What answers rest on.
 use Rattle.std.specs.Prelude.{ℕ, ◌≡◌, ◌⊎◌, true, false, List, [], map}
 use Rattle.sat_base.specs.script.Judge.{Judge}
+use Rattle.sat_checker.specs.declared.processing.ProofProcessor.{Ghosts}
 use Rattle.sat_solver.specs.declared.error.SolverError.{SolverError}
 use Rattle.sat_solver.specs.declared.error.SolverError.TheVariants as errors
 use Rattle.sat_solver.specs.names.Adding.{named_literal}
@@ -13,25 +14,25 @@ use Rattle.sat_solver.specs.solver.Lines.{IsModelLine, IsCoreOf}
 use Rattle.sat_solver.specs.solver.Whole.{steps_in, asked_in, line_in}
 
 -- right for the assumptions, whatever the judge's state is that names and steps agree with
-abbrev pub IsRightLine : {W : Type 0} → Solver W → List ℕ → Type 0
+abbrev pub IsRightLine : {W L : Type 0} {G : Ghosts L} → Solver W L G → List ℕ → Type 0
 IsRightLine s line = (j : Judge) (live : Live) → Agree s.names (steps_in s) j live → IsModelLine j (asked_in s) (map named_literal line)
 
-abbrev pub IsRightCoreOf : {W : Type 0} → Solver W → List ℕ → Type 0
+abbrev pub IsRightCoreOf : {W L : Type 0} {G : Ghosts L} → Solver W L G → List ℕ → Type 0
 IsRightCoreOf s core = (j : Judge) (live : Live) → Agree s.names (steps_in s) j live → IsCoreOf j (asked_in s) (map named_literal core)
 
 -- a model over names
-pub record IsModel {W : Type 0} (s : Solver W) (line : List ℕ) : Type 0 where
+pub record IsModel {W L : Type 0} {G : Ghosts L} (s : Solver W L G) (line : List ℕ) : Type 0 where
   pub going : s.failed ≡ false
   pub state : s.state ≡ states.Sat
   pub line_is : line ≡ line_in s
   pub right : IsRightLine s line
 
 -- there's none
-abbrev pub HasNone : {W : Type 0} → Solver W → Type 0
+abbrev pub HasNone : {W L : Type 0} {G : Ghosts L} → Solver W L G → Type 0
 HasNone s = (s.failed ≡ false) × (s.state ≡ states.Sat → ⊥)
 
 -- why no model is given
-abbrev pub ModelFails : {W : Type 0} → SolverError → Solver W → Type 0
+abbrev pub ModelFails : {W L : Type 0} {G : Ghosts L} → SolverError → Solver W L G → Type 0
 ModelFails errors.HasFailed s = s.failed ≡ true
 ModelFails errors.OutOfMemory s = (s.failed ≡ false) × (s.state ≡ states.Sat)
 ModelFails e s = ⊥
@@ -42,17 +43,17 @@ is_unsat states.Sat = ⊥
 is_unsat states.UnsatUnderAssumptions = Unit {0}
 is_unsat states.Unsat = Unit {0}
 
-abbrev pub core_for : {W : Type 0} → State → Solver W → List ℕ
+abbrev pub core_for : {W L : Type 0} {G : Ghosts L} → State → Solver W L G → List ℕ
 core_for states.UnsatUnderAssumptions s = s.told.failed_core.items
 core_for st s = []
 
 -- a failed core over names
-pub record IsCore {W : Type 0} (s : Solver W) (core : List ℕ) : Type 0 where
+pub record IsCore {W L : Type 0} {G : Ghosts L} (s : Solver W L G) (core : List ℕ) : Type 0 where
   pub going : s.failed ≡ false
   pub unsat : is_unsat s.state
   pub core_is : core ≡ core_for s.state s
   pub right : IsRightCoreOf s core
 
 -- there's none
-abbrev pub HasNoCore : {W : Type 0} → Solver W → Type 0
+abbrev pub HasNoCore : {W L : Type 0} {G : Ghosts L} → Solver W L G → Type 0
 HasNoCore s = (s.failed ≡ true) ⊎ (is_unsat s.state → ⊥)

@@ -1,6 +1,7 @@
 -- What looking for an answer leaves.
 use Rattle.std.specs.Prelude.{◌-◌, ◌≡◌, [], Result, Ok, Err}
 use Rattle.sat_base.specs.device.Device.{Writer}
+use Rattle.sat_checker.specs.declared.processing.ProofProcessor.{Ghosts}
 use Rattle.sat_solver.specs.declared.error.SolverError.{SolverError}
 use Rattle.sat_solver.specs.names.Calls.{Does}
 use Rattle.sat_solver.specs.search.Solving.{AdvancesIn}
@@ -14,7 +15,7 @@ use Rattle.sat_solver.specs.solver.Calls.{Counts, CountsRounds, told_by}
 use Rattle.sat_solver.specs.solver.Whole.{IsWhole, steps_in}
 
 -- an answer is known, or the rounds are spent
-pub record Settled {W : Type 0} (seen : W → Writer) (old new : Solver W) : Type 0 where
+pub record Settled {W L : Type 0} {G : Ghosts L} (seen : W → Writer) (old new : Solver W L G) : Type 0 where
   pub whole : IsWhole new
   pub does : Does old.names new.names (steps_in old) (steps_in new) (λ j. j) (λ j. told_by old.state new)
   pub comes : Comes EndsAtUnsat (steps_in old) (steps_in new)
@@ -26,6 +27,6 @@ pub record Settled {W : Type 0} (seen : W → Writer) (old new : Solver W) : Typ
   pub times : new.state ≡ states.Unknown → AdvancesIn (steps_in old) (steps_in new) (new.clock.steps - old.clock.steps)
   pub known : (old.state ≡ states.Unknown → ⊥) → Adds seen [] old.core.proof new.core.proof × (new ≡ record old { core = record old.core { proof = new.core.proof } })
 
-abbrev pub Settles : {W : Type 0} → (W → Writer) → Result (Unit {0}) SolverError → Solver W → Solver W → Type 0
+abbrev pub Settles : {W L : Type 0} {G : Ghosts L} → (W → Writer) → Result (Unit {0}) SolverError → Solver W L G → Solver W L G → Type 0
 Settles seen (Ok x) old new = Settled seen old new
 Settles seen (Err e) old new = Breaks seen e old.core new.core × CountsRounds old new × ((old.state ≡ states.Unknown → ⊥) → FlushFails seen e old.core.proof new.core.proof)

@@ -3,6 +3,7 @@ use Rattle.std.specs.Prelude.{ℕ, ◌≡◌, ◌⊎◌, Bool, true, false, List
 use Rattle.sat_base.specs.device.Device.{Writer}
 use Rattle.sat_base.specs.script.Judge.{bring_all, with_clause}
 use Rattle.sat_base.specs.steps.Steps.{Step}
+use Rattle.sat_checker.specs.declared.processing.ProofProcessor.{Ghosts}
 use Rattle.sat_solver.specs.session.Making.{Took}
 use Rattle.sat_solver.specs.session.ProofView.{steps_of, session_of}
 use Rattle.sat_solver.specs.declared.error.SolverError.{SolverError}
@@ -26,12 +27,12 @@ abbrev pub KeepImages : Variables → Variables → Type 0
 KeepImages n n' = (user order : List ℕ) → Images n user order → Images n' user order
 
 -- the search goes on, or unsat is recorded
-abbrev pub GoesOnOr : Bool → {W : Type 0} → Variables → Core W → Type 0
+abbrev pub GoesOnOr : Bool → {W L : Type 0} {G : Ghosts L} → Variables → Core W L G → Type 0
 GoesOnOr true n c = IsJoined n c
 GoesOnOr false n c = (session_of c.proof).unsat ≡ true
 
 -- a clause came in; whether a valuation may be left
-pub record TookClause {W : Type 0} (seen : W → Writer) (n n' : Variables) (a b : Core W) (user : List ℕ) (left : Bool) : Type 0 where
+pub record TookClause {W L : Type 0} {G : Ghosts L} (seen : W → Writer) (n n' : Variables) (a b : Core W L G) (user : List ℕ) (left : Bool) : Type 0 where
   pub does : Does n n' (steps_of a.proof) (steps_of b.proof) (λ j. with_clause (map named_literal user) (bring_all (names_in user) j)) (λ j. bringing (names_in user) j ++ (Adds (map named_literal user) ∷ []))
   pub took : Took seen a.proof b.proof
   pub comes : Comes (MayAdd (names_in user)) (steps_of a.proof) (steps_of b.proof)
@@ -46,20 +47,20 @@ pub record TookClause {W : Type 0} (seen : W → Writer) (n n' : Variables) (a b
 abbrev pub IsNameFaultOr : (full : Type 0) → SolverError → Type 0
 IsNameFaultOr full e = IsFaultOr full e ⊎ (e ≡ errors.VariableLimit)
 
-pub record BreaksNamesOr {W : Type 0} (full : Type 0) (seen : W → Writer) (e : SolverError) (a b : Core W) : Type 0 where
+pub record BreaksNamesOr {W L : Type 0} {G : Ghosts L} (full : Type 0) (seen : W → Writer) (e : SolverError) (a b : Core W L G) : Type 0 where
   pub fault : IsNameFaultOr full e
   pub steps : List Step
   pub went : Went {A = Unit {0}} seen (Err e) steps a.proof b.proof
 
 -- the same where no clause is stored
-abbrev pub BreaksNames : {W : Type 0} → (W → Writer) → SolverError → Core W → Core W → Type 0
+abbrev pub BreaksNames : {W L : Type 0} {G : Ghosts L} → (W → Writer) → SolverError → Core W L G → Core W L G → Type 0
 BreaksNames seen e a b = BreaksNamesOr ⊥ seen e a b
 
-abbrev pub TakesClause : {W : Type 0} → (W → Writer) → Result Bool SolverError → Variables → Variables → Core W → Core W → List ℕ → Type 0
+abbrev pub TakesClause : {W L : Type 0} {G : Ghosts L} → (W → Writer) → Result Bool SolverError → Variables → Variables → Core W L G → Core W L G → List ℕ → Type 0
 TakesClause seen r n n' a b user = MatchResult r (TookClause seen n n' a b user) (λ e. BreaksNamesOr (IsFull b.search.parts) seen e a b)
 
 -- assumptions came in, in place of others
-pub record TookAssumptions {W : Type 0} (seen : W → Writer) (n n' : Variables) (a b : Core W) (user : List ℕ) (t : Taken) : Type 0 where
+pub record TookAssumptions {W L : Type 0} {G : Ghosts L} (seen : W → Writer) (n n' : Variables) (a b : Core W L G) (user : List ℕ) (t : Taken) : Type 0 where
   pub does : Does n n' (steps_of a.proof) (steps_of b.proof) (bring_all (names_in user)) (λ j. bringing (names_in user) j ++ (Opens (map named_literal user) ∷ []))
   pub comes : Comes (MayTake (names_in user)) (steps_of a.proof) (steps_of b.proof)
   pub took : Took seen a.proof b.proof
@@ -67,5 +68,5 @@ pub record TookAssumptions {W : Type 0} (seen : W → Writer) (n n' : Variables)
   pub config : b.config ≡ a.config
   pub asked : AreAsked n' b user t
 
-abbrev pub TakesAssumptions : {W : Type 0} → (W → Writer) → Result (Unit {0}) SolverError → Variables → Variables → Core W → Core W → List ℕ → Taken → Type 0
+abbrev pub TakesAssumptions : {W L : Type 0} {G : Ghosts L} → (W → Writer) → Result (Unit {0}) SolverError → Variables → Variables → Core W L G → Core W L G → List ℕ → Taken → Type 0
 TakesAssumptions seen r n n' a b user t = MatchResult r (λ _. TookAssumptions seen n n' a b user t) (λ e. BreaksNames seen e a b)

@@ -5,6 +5,7 @@ use Rattle.sat_base.specs.script.Script.{Literal, Among}
 use Rattle.sat_base.specs.steps.Steps.{Step}
 use Rattle.sat_base.specs.values.Clauses.{Valuation, EachTrue}
 use Rattle.sat_checker.specs.Fold.{Holds}
+use Rattle.sat_checker.specs.declared.processing.ProofProcessor.{Ghosts}
 use Rattle.sat_solver.specs.parts.Full.{IsFull}
 use Rattle.sat_solver.specs.session.ProofView.{steps_of, session_of}
 use Rattle.sat_solver.specs.session.Session.{Session}
@@ -24,26 +25,26 @@ use Rattle.sat_solver.specs.solver.Joined.{IsJoined}
 use Rattle.sat_solver.specs.solver.Answering.{line_of}
 
 -- all steps that it made, the newest first
-abbrev pub steps_in : {W : Type 0} → Solver W → List Step
+abbrev pub steps_in : {W L : Type 0} {G : Ghosts L} → Solver W L G → List Step
 steps_in s = steps_of s.core.proof
 
-abbrev pub session_in : {W : Type 0} → Solver W → Session
+abbrev pub session_in : {W L : Type 0} {G : Ghosts L} → Solver W L G → Session
 session_in s = session_of s.core.proof
 
 -- the assumptions last accepted
-abbrev pub asked_in : {W : Type 0} → Solver W → List Literal
+abbrev pub asked_in : {W L : Type 0} {G : Ghosts L} → Solver W L G → List Literal
 asked_in s = map named_literal s.assumed.items
 
 -- the literals of names by the values of the search
-abbrev pub line_in : {W : Type 0} → Solver W → List ℕ
+abbrev pub line_in : {W L : Type 0} {G : Ghosts L} → Solver W L G → List ℕ
 line_in s = line_of s.names s.core
 
 -- no variable of a clause is open, and the assumptions are true
-abbrev pub HasModel : {W : Type 0} → Core W → Type 0
+abbrev pub HasModel : {W L : Type 0} {G : Ghosts L} → Core W L G → Type 0
 HasModel c = IsComplete c.search.assumptions.lits.items c.search.parts
 
 -- a failed core over names, of the assumptions, and not an empty one: no valuation that the steps leave makes it true
-pub record HasCore {W : Type 0} (c : Core W) (assumed core : List ℕ) : Type 0 where
+pub record HasCore {W L : Type 0} {G : Ghosts L} (c : Core W L G) (assumed core : List ℕ) : Type 0 where
   pub some : core ≡ [] → ⊥
   pub codes : List ℕ
   pub none : (a : Valuation) → Holds (steps_of c.proof) a → EachTrue a codes → ⊥
@@ -51,18 +52,18 @@ pub record HasCore {W : Type 0} (c : Core W) (assumed core : List ℕ) : Type 0 
   pub among : AllByRecursion (λ l. Among l assumed) core
 
 -- the search goes on, under the assumptions
-pub record GoesOn {W : Type 0} (c : Core W) (n : Variables) (asked : Taken) : Type 0 where
+pub record GoesOn {W L : Type 0} {G : Ghosts L} (c : Core W L G) (n : Variables) (asked : Taken) : Type 0 where
   pub joined : IsJoined n c
   pub lits : c.search.assumptions.lits.items ≡ asked.order.items
 
-abbrev pub StateSays : {W : Type 0} → State → Core W → Variables → Taken → (assumed core : List ℕ) → Type 0
+abbrev pub StateSays : {W L : Type 0} {G : Ghosts L} → State → Core W L G → Variables → Taken → (assumed core : List ℕ) → Type 0
 StateSays states.Unknown c n asked assumed core = GoesOn c n asked
 StateSays states.Sat c n asked assumed core = GoesOn c n asked × HasModel c
 StateSays states.UnsatUnderAssumptions c n asked assumed core = GoesOn c n asked × HasCore c assumed core
 StateSays states.Unsat c n asked assumed core = (session_of c.proof).unsat ≡ true
 
 -- what holds of a solver's pieces
-pub record IsWholeOf {W : Type 0} (c : Core W) (n : Variables) (asked : Taken) (assumed core : List ℕ) (scale : ℕ) (state : State) : Type 0 where
+pub record IsWholeOf {W L : Type 0} {G : Ghosts L} (c : Core W L G) (n : Variables) (asked : Taken) (assumed core : List ℕ) (scale : ℕ) (state : State) : Type 0 where
   pub stands : Stands n (steps_of c.proof)
   pub images : Images n assumed asked.order.items
   pub spelt : GlobalImages n assumed asked.globals.items
@@ -73,13 +74,13 @@ pub record IsWholeOf {W : Type 0} (c : Core W) (n : Variables) (asked : Taken) (
   pub says : StateSays state c n asked assumed core
 
 -- what holds unless a call failed
-abbrev pub IsWhole : {W : Type 0} → Solver W → Type 0
+abbrev pub IsWhole : {W L : Type 0} {G : Ghosts L} → Solver W L G → Type 0
 IsWhole s = IsWholeOf s.core s.names s.asked s.assumed.items s.told.failed_core.items s.clock.restarts.scale s.state
 
 -- the clause buffer holds more than 2^32-1 words, so that it takes no clause more
-abbrev pub HasFullStore : {W : Type 0} → Solver W → Type 0
+abbrev pub HasFullStore : {W L : Type 0} {G : Ghosts L} → Solver W L G → Type 0
 HasFullStore s = IsFull s.core.search.parts
 
 -- a solver that a call may be made of
-abbrev pub IsSolver : {W : Type 0} → Solver W → Type 0
+abbrev pub IsSolver : {W L : Type 0} {G : Ghosts L} → Solver W L G → Type 0
 IsSolver s = s.failed ≡ false → IsWhole s

@@ -22,10 +22,11 @@ use crate::search::fault::proof_fault;
 use crate::search::work::Search;
 use crate::session::proof::Proof;
 use sat_base::{CountedWrite, DeleteClauseProof, Lit, ProofStep, Var};
+use sat_checker::ProofProcessor;
 
 /// Deletes a clause that has a true literal.
-pub fn delete_satisfied<W: CountedWrite + Drop>(
-    proof: &mut Proof<W>,
+pub fn delete_satisfied<W: CountedWrite + Drop, P: ProofProcessor>(
+    proof: &mut Proof<W, P>,
     globals: &[Var],
     lits: &[Lit],
     clause: &mut Vec<Lit>,
@@ -49,8 +50,8 @@ pub fn delete_satisfied<W: CountedWrite + Drop>(
 }
 
 /// Deletes a clause that has a true literal, and answers that a valuation may be left.
-fn delete_true<W: CountedWrite + Drop>(
-    proof: &mut Proof<W>,
+fn delete_true<W: CountedWrite + Drop, P: ProofProcessor>(
+    proof: &mut Proof<W, P>,
     search: &mut Search,
     lits: &[Lit],
 ) -> Result<bool, SolverError>
@@ -69,8 +70,8 @@ fn delete_true<W: CountedWrite + Drop>(
 
 /// Loads a clause, at level 0, that the last step added. One with a true literal and another one is deleted at once. Answers
 /// whether a valuation may be left: for a clause without literals, or whose one literal is false, it's not, and unsat is recorded.
-pub fn load_clause<W: CountedWrite + Drop>(
-    proof: &mut Proof<W>,
+pub fn load_clause<W: CountedWrite + Drop, P: ProofProcessor>(
+    proof: &mut Proof<W, P>,
     search: &mut Search,
     lits: &[Lit],
     sorting: &mut Sorting,

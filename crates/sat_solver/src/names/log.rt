@@ -10,6 +10,7 @@ ghost use Rattle.sat_solver.specs.names.Failing.{IsFailure, Came};
 use crate::names::error::NameError;
 use crate::session::proof::{Proof, ProofError};
 use sat_base::{CountedWrite, ProofStep};
+use sat_checker::ProofProcessor;
 
 /// What takes the steps of a proof, one after another.
 pub trait StepWriter: Drop {
@@ -36,7 +37,7 @@ pub trait StepWriter: Drop {
         ensures came { Came took broke result self.old self.new };
 }
 
-impl<W: CountedWrite + Drop> StepWriter for Proof<W> {
+impl<W: CountedWrite + Drop, P: ProofProcessor> StepWriter for Proof<W, P> {
     ghost use Rattle.sat_solver.specs.session.ProofView.{Keeps, steps_of};
     ghost use Rattle.sat_solver.specs.session.Making.{Took};
     ghost use Rattle.sat_solver.specs.names.Taking.{NotTaken};

@@ -15,6 +15,7 @@ use crate::search::units::settle;
 use crate::search::work::Search;
 use crate::session::proof::Proof;
 use sat_base::{CountedWrite, Lit};
+use sat_checker::ProofProcessor;
 use sat_parts::Conflict;
 use std::alloc::AllocError;
 
@@ -49,8 +50,8 @@ fn go_on(parts: &mut Parts, assumptions: &mut Assumptions) -> Result<Option<Stop
 }
 
 /// Writes units, and begins a level.
-fn settle_and_go_on<W: CountedWrite + Drop>(
-    proof: &mut Proof<W>,
+fn settle_and_go_on<W: CountedWrite + Drop, P: ProofProcessor>(
+    proof: &mut Proof<W, P>,
     search: &mut Search,
 ) -> Result<Option<Stop>, SolverError>
     requires keeps { Keeps proof.old }
@@ -73,8 +74,8 @@ fn settle_and_go_on<W: CountedWrite + Drop>(
 }
 
 /// Propagates, and begins a level where no clause is false. None where it did.
-fn turn<W: CountedWrite + Drop>(
-    proof: &mut Proof<W>,
+fn turn<W: CountedWrite + Drop, P: ProofProcessor>(
+    proof: &mut Proof<W, P>,
     search: &mut Search,
 ) -> Result<Option<Stop>, SolverError>
     requires keeps { Keeps proof.old }
@@ -90,8 +91,8 @@ fn turn<W: CountedWrite + Drop>(
 }
 
 /// Propagates, assumes and decides until a clause is false, an assumption is, or no variable of a clause is open.
-pub fn find_stop<W: CountedWrite + Drop>(
-    proof: &mut Proof<W>,
+pub fn find_stop<W: CountedWrite + Drop, P: ProofProcessor>(
+    proof: &mut Proof<W, P>,
     search: &mut Search,
 ) -> Result<Stop, SolverError>
     requires keeps { Keeps proof.old }

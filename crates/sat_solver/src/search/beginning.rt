@@ -12,11 +12,12 @@ use crate::search::work::Search;
 use crate::session::proof::Proof;
 use crate::simplify::unit::unit_simplify;
 use sat_base::CountedWrite;
+use sat_checker::ProofProcessor;
 use sat_parts::Conflict;
 
 /// Writes the units of level 0, takes them off the trail, and simplifies.
-fn settle_and_simplify<W: CountedWrite + Drop>(
-    proof: &mut Proof<W>,
+fn settle_and_simplify<W: CountedWrite + Drop, P: ProofProcessor>(
+    proof: &mut Proof<W, P>,
     search: &mut Search,
     names: &mut Variables,
 ) -> Result<(), SolverError>
@@ -36,8 +37,8 @@ fn settle_and_simplify<W: CountedWrite + Drop>(
 }
 
 /// Propagates at level 0, and simplifies where no clause is false. Answers a clause that is.
-fn propagate_and_simplify<W: CountedWrite + Drop>(
-    proof: &mut Proof<W>,
+fn propagate_and_simplify<W: CountedWrite + Drop, P: ProofProcessor>(
+    proof: &mut Proof<W, P>,
     search: &mut Search,
     names: &mut Variables,
 ) -> Result<Option<Conflict>, SolverError>
@@ -58,8 +59,8 @@ fn propagate_and_simplify<W: CountedWrite + Drop>(
 
 /// Where no level is open and literals came since the last simplification, propagates and simplifies. Answers a clause that is false,
 /// where there is one. What adds nothing at level 0 costs no pass.
-pub fn begin_round<W: CountedWrite + Drop>(
-    proof: &mut Proof<W>,
+pub fn begin_round<W: CountedWrite + Drop, P: ProofProcessor>(
+    proof: &mut Proof<W, P>,
     search: &mut Search,
     names: &mut Variables,
 ) -> Result<Option<Conflict>, SolverError>

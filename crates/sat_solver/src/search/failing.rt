@@ -16,6 +16,7 @@ use crate::search::fault::proof_fault;
 use crate::search::work::Search;
 use crate::session::proof::Proof;
 use sat_base::{CountedWrite, ProofStep};
+use sat_checker::ProofProcessor;
 use std::alloc::AllocError;
 
 /// Puts the step of a core together: its literals and the hashes of the clauses that it follows from, in proof variables.
@@ -66,8 +67,8 @@ fn find_core(search: &mut Search) -> Result<(), AllocError>
 }
 
 /// Writes the step of the assumptions that can't be true together, of which one failed. They stand in the analysis behind it.
-pub fn tell_core<W: CountedWrite + Drop>(
-    proof: &mut Proof<W>,
+pub fn tell_core<W: CountedWrite + Drop, P: ProofProcessor>(
+    proof: &mut Proof<W, P>,
     search: &mut Search,
 ) -> Result<(), SolverError>
     requires keeps { Keeps proof.old }

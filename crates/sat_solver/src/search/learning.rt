@@ -28,6 +28,7 @@ use crate::search::grading::assess;
 use crate::search::work::Search;
 use crate::session::proof::Proof;
 use sat_base::{CountedWrite, Lit, ProofStep};
+use sat_checker::ProofProcessor;
 use sat_parts::Conflict;
 use sat_store::{ClauseHeader, StoreError};
 use std::alloc::AllocError;
@@ -125,8 +126,8 @@ fn analyze(search: &mut Search, conflict: &Conflict) -> Result<(usize, ClauseHea
 }
 
 /// Learns a clause from a conflict above level 0, writes its step, and takes it over.
-fn learn_clause<W: CountedWrite + Drop>(
-    proof: &mut Proof<W>,
+fn learn_clause<W: CountedWrite + Drop, P: ProofProcessor>(
+    proof: &mut Proof<W, P>,
     search: &mut Search,
     conflict: &Conflict,
 ) -> Result<(), SolverError>
@@ -153,8 +154,8 @@ fn learn_clause<W: CountedWrite + Drop>(
 
 /// Learns a clause from a conflict above level 0, with its step, and raises the activity of the clauses and variables that the
 /// conflict met.
-pub fn learn_from<W: CountedWrite + Drop>(
-    proof: &mut Proof<W>,
+pub fn learn_from<W: CountedWrite + Drop, P: ProofProcessor>(
+    proof: &mut Proof<W, P>,
     search: &mut Search,
     conflict: &Conflict,
 ) -> Result<(), SolverError>

@@ -19,6 +19,7 @@ use crate::search::work::Search;
 use crate::session::proof::Proof;
 use crate::{SolverConfig, SolverError};
 use sat_base::{CountedWrite, DeleteClauseProof, Lit, ProofStep, Var};
+use sat_checker::ProofProcessor;
 use sat_store::{ClauseRef, StoreError};
 use std::alloc::AllocError;
 
@@ -44,8 +45,8 @@ pub fn map_clause(
 }
 
 /// Deletes a learned clause that no value depends on, and writes its step. Answers whether it did.
-fn delete_learned<W: CountedWrite + Drop>(
-    proof: &mut Proof<W>,
+fn delete_learned<W: CountedWrite + Drop, P: ProofProcessor>(
+    proof: &mut Proof<W, P>,
     search: &mut Search,
     cref: ClauseRef,
 ) -> Result<bool, SolverError>
@@ -82,8 +83,8 @@ fn left_after(left: usize, deleted: bool) -> usize
 }
 
 /// Deletes half of the clauses of tier Local where that is due: those that were used least, without those that values depend on.
-fn reduce_locals<W: CountedWrite + Drop>(
-    proof: &mut Proof<W>,
+fn reduce_locals<W: CountedWrite + Drop, P: ProofProcessor>(
+    proof: &mut Proof<W, P>,
     search: &mut Search,
     is_due: bool,
 ) -> Result<(), SolverError>
@@ -132,8 +133,8 @@ fn collect_deleted(search: &mut Search) -> Result<(), StoreError>
 
 /// Reduces the learned clauses where that is due before this round: first those of tier Local, then those of tier Mid. Then it
 /// collects deleted clauses.
-pub fn reduce<W: CountedWrite + Drop>(
-    proof: &mut Proof<W>,
+pub fn reduce<W: CountedWrite + Drop, P: ProofProcessor>(
+    proof: &mut Proof<W, P>,
     search: &mut Search,
     config: &SolverConfig,
     round: u64,

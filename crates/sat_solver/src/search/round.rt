@@ -25,11 +25,12 @@ use crate::search::units::write_units;
 use crate::search::work::{Scratch, Search};
 use crate::session::proof::Proof;
 use sat_base::{CountedWrite, ProofStep, Var};
+use sat_checker::ProofProcessor;
 use sat_parts::Conflict;
 
 /// Writes the empty clause, which follows from a conflict at level 0.
-fn refute<W: CountedWrite + Drop>(
-    proof: &mut Proof<W>,
+fn refute<W: CountedWrite + Drop, P: ProofProcessor>(
+    proof: &mut Proof<W, P>,
     parts: &Parts,
     globals: &[Var],
     scratch: &mut Scratch,
@@ -59,8 +60,8 @@ fn refute<W: CountedWrite + Drop>(
 }
 
 /// Learns from a conflict, or writes that no valuation is left.
-fn resolve<W: CountedWrite + Drop>(
-    proof: &mut Proof<W>,
+fn resolve<W: CountedWrite + Drop, P: ProofProcessor>(
+    proof: &mut Proof<W, P>,
     search: &mut Search,
     conflict: &Conflict,
 ) -> Result<Outcome, SolverError>
@@ -83,8 +84,8 @@ fn resolve<W: CountedWrite + Drop>(
 }
 
 /// Searches up to a conflict and what is learned from it, or an answer.
-fn search_on<W: CountedWrite + Drop>(
-    proof: &mut Proof<W>,
+fn search_on<W: CountedWrite + Drop, P: ProofProcessor>(
+    proof: &mut Proof<W, P>,
     search: &mut Search,
 ) -> Result<Outcome, SolverError>
     requires keeps { Keeps proof.old }
@@ -103,8 +104,8 @@ fn search_on<W: CountedWrite + Drop>(
 }
 
 /// A round: up to a conflict and what is learned from it, or an answer. Where literals came at level 0, it begins with a simplification.
-pub fn round<W: CountedWrite + Drop>(
-    proof: &mut Proof<W>,
+pub fn round<W: CountedWrite + Drop, P: ProofProcessor>(
+    proof: &mut Proof<W, P>,
     search: &mut Search,
     names: &mut Variables,
 ) -> Result<Outcome, SolverError>

@@ -12,6 +12,7 @@ use crate::search::fault::proof_fault;
 use crate::search::work::Search;
 use crate::session::proof::Proof;
 use sat_base::{CountedWrite, Lit, ProofStep, Var};
+use sat_checker::ProofProcessor;
 use std::alloc::AllocError;
 
 /// Puts the true literal of a variable, in proof variables, behind others, where the variable has a value.
@@ -48,8 +49,8 @@ fn name_model(
 }
 
 /// Writes the step of a model: the literals that are true, by increasing variable of the search.
-pub fn tell_model<W: CountedWrite + Drop>(
-    proof: &mut Proof<W>,
+pub fn tell_model<W: CountedWrite + Drop, P: ProofProcessor>(
+    proof: &mut Proof<W, P>,
     search: &mut Search,
 ) -> Result<(), SolverError>
     requires keeps { Keeps proof.old }

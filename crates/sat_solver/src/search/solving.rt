@@ -14,16 +14,17 @@ use crate::search::work::Search;
 use crate::session::proof::Proof;
 use crate::{SolverConfig, SolverError};
 use sat_base::CountedWrite;
+use sat_checker::{Nobody, ProofProcessor};
 
 /// What a solver works with.
 #[derive(Drop)]
-pub struct Core<W: CountedWrite + Drop> {
-    pub proof: Proof<W>,
+pub struct Core<W: CountedWrite + Drop, P: ProofProcessor = Nobody> {
+    pub proof: Proof<W, P>,
     pub search: Search,
     pub config: SolverConfig,
 }
 
-impl<W: CountedWrite + Drop> Rounds for Core<W> {
+impl<W: CountedWrite + Drop, P: ProofProcessor> Rounds for Core<W, P> {
     ghost use Rattle.sat_solver.specs.search.Solving.{words_in, values_in, Gone, Ended, Broke};
     ghost use Rattle.sat_solver.specs.solver.Joined.{IsJoined};
 
@@ -58,8 +59,8 @@ impl<W: CountedWrite + Drop> Rounds for Core<W> {
 
 /// Rounds up to an answer, at most so many. None where there is no answer by then.
 #[tactic(auto, using(crate::proofs::lemmas::search::SolvingLemmas::core_word))]
-pub fn solve<W: CountedWrite + Drop>(
-    core: &mut Core<W>,
+pub fn solve<W: CountedWrite + Drop, P: ProofProcessor>(
+    core: &mut Core<W, P>,
     names: &mut Variables,
     restarts: &mut Restarts,
     steps: &mut u64,

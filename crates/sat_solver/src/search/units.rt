@@ -16,10 +16,11 @@ use crate::parts::units::clear_units;
 use crate::search::fault::proof_fault;
 use crate::session::proof::Proof;
 use sat_base::{ClauseHash, CountedWrite, Lit, ProofStep, Var};
+use sat_checker::ProofProcessor;
 
 /// Writes the units of the trail that have a clause as their reason.
-pub fn write_units<W: CountedWrite + Drop>(
-    proof: &mut Proof<W>,
+pub fn write_units<W: CountedWrite + Drop, P: ProofProcessor>(
+    proof: &mut Proof<W, P>,
     parts: &Parts,
     globals: &[Var],
     units: &mut Vec<(Lit, ClauseHash)>,
@@ -45,8 +46,8 @@ pub fn write_units<W: CountedWrite + Drop>(
 }
 
 /// Where all is of level 0, writes the units and takes them off the trail.
-pub fn settle<W: CountedWrite + Drop>(
-    proof: &mut Proof<W>,
+pub fn settle<W: CountedWrite + Drop, P: ProofProcessor>(
+    proof: &mut Proof<W, P>,
     parts: &mut Parts,
     globals: &[Var],
     units: &mut Vec<(Lit, ClauseHash)>,

@@ -1,17 +1,18 @@
 //! A solver's own checker, which takes the steps that a file in bytes would have, but for the ends of proofs.
-ghost use Rattle.std.specs.Prelude.{◌≡◌, [], OnOk, map};
+ghost use Rattle.std.specs.Prelude.{◌≡◌, [], OnOk};
 ghost use Rattle.sat_base.specs.steps.StepViews.{step_of};
-ghost use Rattle.sat_checker.specs.CheckerView.{kernel_of};
-ghost use Rattle.sat_solver.specs.session.Checked.{is_end, IsFed, TakesStep, TakesWidth, TakesDelayed, FeedsCut};
-ghost use Rattle.sat_solver.specs.session.Feeding.{Feeds};
-ghost use Rattle.sat_solver.specs.session.Widths.{KeepsWidth, narrowed};
+ghost use Rattle.sat_checker.specs.CheckerView.{seen_of};
+ghost use Rattle.sat_checker.specs.telling.ProcessingView.{listeners_of};
+ghost use Rattle.sat_solver.specs.session.Checked.{is_end, IsFed, TakesStep, TakesWidth, TakesDelayed, Feeds, FeedsCut, TakesIn, BeginsAnew, who_listens};
+ghost use Rattle.sat_solver.specs.session.Widths.{KeepsWidth};
 
 use crate::session::counting::Counting;
 use crate::session::cutting::{CutLists, narrow, narrow_units};
-use crate::session::feeding::feed;
+use crate::session::roll::Roll;
 use sat_base::{HashBits, ProofStep};
-use sat_checker::{Checker, CheckerError, Nobody, ProofProcessor, SelfChecker};
+use sat_checker::{Checker, CheckerError, Nobody, Processors, ProofProcessor, SelfChecker};
 use std::alloc::Global;
+use std::mem;
 
 /// Whether it's the end of a proof.
 pub fn is_end(step: &ProofStep<'_>) -> bool
@@ -34,6 +35,16 @@ pub fn is_end(step: &ProofStep<'_>) -> bool
     }
 }
 
+/// Feeds a step to the checker, which tells those who listen. What may be written is never refused.
+fn feed<P: ProofProcessor>(
+    checker: &mut Checker<P, Nobody>,
+    step: &ProofStep<'_>,
+) -> Result<(), CheckerError>
+    ensures { Feeds P.takes result (seen_of checker.old) (step_of step.now) (seen_of checker.new) }
+{
+    checker.self_check_step(step)
+}
+
 /// A checker, and the width that it was told last.
 #[derive(Drop)]
 pub struct Checked<P: ProofProcessor> {
@@ -45,7 +56,7 @@ pub struct Checked<P: ProofProcessor> {
 impl<P: ProofProcessor> Checked<P> {
     /// It has taken nothing yet. Takes no memory.
     pub fn new(alloc: Global) -> Checked<P>
-        ensures { IsFed result [] }
+        ensures { IsFed P.takes result [] [] }
     {
         Checked {
             bits: Counting::new().bits,
@@ -56,7 +67,7 @@ impl<P: ProofProcessor> Checked<P> {
 
     /// Tells a width, where it's another than the one before.
     fn take_width(&mut self, bits: HashBits) -> Result<(), CheckerError>
-        ensures takes { TakesWidth result self.old self.new }
+        ensures takes { TakesWidth P.takes result self.old self.new }
         ensures bits { OnOk result (self.new.bits ≡ bits) }
     {
         if self.bits.get() == bits.get() {
@@ -73,7 +84,7 @@ impl<P: ProofProcessor> Checked<P> {
     fn feed_cut(&mut self, step: &ProofStep<'_>) -> Result<(), CheckerError>
         requires width { KeepsWidth (step_of step.now) }
         ensures bits { self.new.bits ≡ self.old.bits }
-        ensures feeds { FeedsCut result self.old (step_of step.now) self.new }
+        ensures feeds { FeedsCut P.takes result self.old (step_of step.now) self.new }
     {
         match *step {
             ProofStep::AtClause {
@@ -129,7 +140,7 @@ impl<P: ProofProcessor> Checked<P> {
     /// Takes a step at a width, and of an end the width alone. What a solver may write is never refused.
     pub fn take(&mut self, bits: HashBits, step: &ProofStep<'_>) -> Result<(), CheckerError>
         requires width { KeepsWidth (step_of step.now) }
-        ensures { TakesStep result self.old (step_of step.now) self.new }
+        ensures { TakesStep P.takes result self.old (step_of step.now) self.new }
     {
         self.take_width(bits)?;
         if is_end(step) {
@@ -140,8 +151,36 @@ impl<P: ProofProcessor> Checked<P> {
 
     /// Gives a unit conflict that waits for it its id.
     pub fn take_delayed(&mut self) -> Result<(), CheckerError>
-        ensures { TakesDelayed result self.old self.new }
+        ensures { TakesDelayed P.takes result self.old self.new }
     {
         self.checker.self_check_delayed_steps()
+    }
+    /// A processor, which is told all announcements from here on. Without memory it is dropped, and the checker has failed.
+    pub fn add_processor(&mut self, processor: P) -> Result<(), CheckerError>
+        ensures { TakesIn P.takes result self.old processor self.new }
+    {
+        self.checker.add_processor(processor)
+    }
+
+    /// Begins anew, as if it had taken nothing, and tells those who listened to it. Takes no memory.
+    pub fn begin_anew(&mut self, alloc: Global) -> Roll<P>
+        ensures { BeginsAnew P.takes self.old self.new result.items }
+    {
+        let former = mem::replace(&mut self.checker, Checker::telling(alloc)).into_processors();
+        let roll = Roll::of(&former.processors);
+        self.bits = Counting::new().bits;
+        let listeners = Processors {
+            processors: former.processors,
+            transcripts: Vec::new(alloc),
+        };
+        self.checker = Checker::telling_again(alloc, listeners);
+        roll
+    }
+
+    /// Those who listen, in the order in which they were added, also after a failure.
+    pub fn into_processors(self) -> Vec<P>
+        ensures { result.items ≡ (listeners_of (who_listens self)).processors }
+    {
+        self.checker.into_processors().processors
     }
 }

@@ -1,5 +1,6 @@
 //! What holds of sessions: each law is the contract of a function that does nothing.
 ghost use Rattle.sat_solver.specs.session.Promises.{CoresAreRight, MayIsAccepted, ModelsAreRight, SessionsAreAccepted, UnsatIsRight};
+ghost use Rattle.sat_solver.specs.session.Checked.{NobodyComplains};
 ghost use Rattle.sat_solver.specs.session.Drat.{DratStands};
 ghost use Rattle.sat_solver.specs.session.Due.{WidthsKeepOrder};
 ghost use Rattle.sat_solver.specs.session.NamedMeaning.{NamedCoresAreRight, NamedModelsAreRight, NamedUnsatIsRight, NoneHiddenMeans};
@@ -7,6 +8,9 @@ ghost use Rattle.sat_solver.specs.session.ProofRows.{CountRow, LineRows, WidthRo
 ghost use Rattle.sat_solver.specs.session.ProofTexts.{BrokenIsFront, ClosedIsText, CutsAreFree};
 ghost use Rattle.sat_solver.specs.session.SessionRows.{CollidingMay, HiddenMay};
 ghost use Rattle.sat_solver.specs.session.Widths.{WidthsAreFree};
+
+use sat_checker::law_announcements::nobody_answers_a_fault;
+use sat_checker::{Nobody, ProofProcessor};
 
 /// Every step that a session may write is accepted.
 pub fn sessions_are_accepted()
@@ -27,6 +31,13 @@ pub fn widths_are_free()
     ensures order { WidthsKeepOrder }
     ensures cuts { CutsAreFree }
 {}
+
+/// Where nobody was added to a solver's own checker, none of its failures is a processor's.
+pub fn nobody_complains<P: ProofProcessor>()
+    ensures { NobodyComplains P.takes }
+{
+    nobody_answers_a_fault::<P, Nobody>();
+}
 
 /// Worked rows: derived clauses by hashes that collide, and a hidden variable that is deleted before a model.
 pub fn rows_of_sessions()

@@ -1,14 +1,15 @@
 //! All steps that a solver made, and its own checker, which takes them as they are made.
 ghost use Rattle.std.specs.Prelude.{◌≡◌, ◌∷◌, [], true, false, OnOk};
 ghost use Rattle.sat_base.specs.steps.StepViews.{step_of};
-ghost use Rattle.sat_solver.specs.session.Checked.{has_begun, FedUnless, IsCause};
+ghost use Rattle.sat_solver.specs.session.Checked.{has_begun, cause_in, FedUnless, IsCause};
 ghost use Rattle.sat_solver.specs.session.Session.{MayAll};
 ghost use Rattle.sat_solver.specs.session.Widths.{KeepsWidth};
 
 use crate::session::checked::{Checked, is_end};
 use crate::session::history::History;
+use crate::session::roll::Roll;
 use sat_base::{HashBits, ProofStep};
-use sat_checker::{CheckerError, Nobody};
+use sat_checker::{CheckerError, Nobody, ProofProcessor};
 use std::alloc::Global;
 
 /// Why a solver's own checker failed at a step.
@@ -24,6 +25,7 @@ pub enum CheckFault {
 /// Why a checker failed that refused nothing.
 fn cause_of(error: CheckerError) -> CheckFault
     requires { IsCause error }
+    ensures { result ≡ cause_in error }
 {
     match error {
         CheckerError::OutOfMemory => CheckFault::OutOfMemory,
@@ -39,28 +41,32 @@ fn cause_of(error: CheckerError) -> CheckFault
 
 /// All steps that were made, for contracts alone, and a checker of them, where there is one.
 #[derive(Drop)]
-pub struct Made {
+pub struct Made<P: ProofProcessor = Nobody> {
     pub history: History,
-    own: Option<Checked<Nobody>>,
+    own: Option<Checked<P>>,
+    /// Who was added to it.
+    roll: Roll<P>,
     /// Whether a step was made that is no end of a proof.
     begun: bool,
     /// Whether one was made that the checker hasn't taken.
     lost: bool,
     ghost counted: { begun ≡ has_begun history.steps },
-    ghost fed: { ∥ FedUnless lost own history.steps ∥₁ },
+    ghost fed: { ∥ FedUnless P.takes lost own roll.items history.steps ∥₁ },
 }
 
-impl Made {
-    ghost use Rattle.sat_solver.specs.session.MadeView.{is_checked, is_lost, HasTold, Makes, OnlyChecked};
+impl<P: ProofProcessor> Made<P> {
+    ghost use Rattle.sat_solver.specs.session.MadeView.{audience, is_checked, is_lost, Checks, Handed, HasTold, Makes, OrComplains, TakesListener};
 
     /// No step yet, and no checker.
-    pub fn new() -> Made
+    pub fn new() -> Made<P>
         ensures steps { result.history.steps ≡ [] }
         ensures checked { is_checked result ≡ false }
+        ensures taking { is_lost result ≡ false }
     {
         Made {
             history: History::new(),
             own: None,
+            roll: Roll::new(),
             begun: false,
             lost: false,
         }
@@ -83,15 +89,41 @@ impl Made {
     /// From here on there is a checker. Takes no memory.
     pub fn check(&mut self, alloc: Global)
         requires { has_begun self.old.history.steps ≡ false }
-        ensures steps { self.new.history.steps ≡ self.old.history.steps }
-        ensures checked { is_checked self.new ≡ true }
-        ensures taking { is_lost self.new ≡ false }
+        ensures { Checks self.old self.new }
     {
-        if self.own.is_some() && !self.lost {
+        let Some(own) = &mut self.own else {
+            self.own = Some(Checked::new(alloc));
+            self.lost = false;
             return;
+        };
+        if self.lost {
+            self.roll = own.begin_anew(alloc);
+            self.lost = false;
         }
-        self.own = Some(Checked::new(alloc));
-        self.lost = false;
+    }
+
+    /// A processor, which the checker tells what it announces from here on. Without memory it is dropped, and the checker takes no step.
+    pub fn add_processor(&mut self, processor: P) -> Result<(), CheckFault>
+        requires begun { has_begun self.old.history.steps ≡ false }
+        requires taking { is_lost self.old ≡ false }
+        requires checked { is_checked self.old ≡ true }
+        ensures steps { self.new.history.steps ≡ self.old.history.steps }
+        ensures listens { TakesListener result processor self.old self.new }
+    {
+        let Some(own) = &mut self.own else {
+            return Ok(());
+        };
+        let roll = self.roll.and(&processor);
+        match own.add_processor(processor) {
+            Ok(()) => {
+                self.roll = roll;
+                Ok(())
+            }
+            Err(error) => {
+                self.lost = true;
+                Err(cause_of(error))
+            }
+        }
     }
 
     /// Notes a step that the checker isn't given: it takes none from here on.
@@ -108,7 +140,7 @@ impl Made {
         requires may { MayAll (step_of step.now ∷ self.old.history.steps) }
         requires width { KeepsWidth (step_of step.now) }
         ensures makes { Makes (step_of step.now) self.old self.new }
-        ensures fails { OnlyChecked result self.old }
+        ensures fails { OrComplains result self.new }
     {
         self.history = self.history.and(step);
         self.begun = self.begun || !is_end(step);
@@ -130,8 +162,8 @@ impl Made {
     /// Has the checker tell what waits for the next step. Where a step was made that it hasn't taken, the call fails.
     pub fn take_delayed(&mut self) -> Result<(), CheckFault>
         ensures steps { self.new.history.steps ≡ self.old.history.steps }
-        ensures checked { is_checked self.new ≡ is_checked self.old }
-        ensures fails { OnlyChecked result self.old }
+        ensures listening { audience self.new ≡ audience self.old }
+        ensures fails { OrComplains result self.new }
         ensures told { OnOk result (HasTold self.new) }
     {
         match &mut self.own {
@@ -148,6 +180,18 @@ impl Made {
                     }
                 }
             }
+        }
+    }
+
+    /// Those who listen, in the order in which they were added, also after a failure. There is no checker afterwards.
+    pub fn take_processors(&mut self, alloc: Global) -> Vec<P>
+        ensures { Handed self.old result.items }
+    {
+        let own = self.own.take();
+        self.roll = Roll::new();
+        match own {
+            None => Vec::new(alloc),
+            Some(own) => own.into_processors(),
         }
     }
 }

@@ -7,7 +7,7 @@ ghost use Rattle.sat_solver.specs.session.Checked.{has_begun};
 ghost use Rattle.sat_solver.specs.session.MadeView.{Makes};
 ghost use Rattle.sat_solver.specs.session.Session.{May, MayAll};
 ghost use Rattle.sat_solver.specs.session.Widths.{KeepsWidth};
-ghost use Rattle.sat_solver.specs.session.ProofView.{Closed, Open, is_open, is_drat, has_asked, target_of, steps_of, session_of, is_checked, is_lost, HasTold, Keeps, Adds, Records, PutsOn, FailsOfCheck, FlushesTarget, FlushesOrFails, Closes, HandsBack};
+ghost use Rattle.sat_solver.specs.session.ProofView.{Closed, Open, audience, is_open, is_drat, has_asked, target_of, steps_of, session_of, is_checked, is_lost, Checks, HasTold, Keeps, Adds, Records, PutsOn, FailsOfCheck, FlushesTarget, FlushesOrFails, Closes, Handed, HandsBack, Listens};
 
 use crate::session::counting::Counting;
 use crate::session::cutting::CutLists;
@@ -15,6 +15,7 @@ use crate::session::format::ProofFormat;
 use crate::session::made::{CheckFault, Made};
 use crate::session::output::Output;
 use sat_base::{CountedWrite, ProofStep};
+use sat_checker::{Nobody, ProofProcessor};
 use std::alloc::Global;
 use std::io;
 
@@ -32,8 +33,8 @@ pub enum ProofError {
 /// All steps that a solver made, the checker that takes them, where there is one, and the target that their text goes to, where one is
 /// open. After a fault of the target it isn't used again, and steps go on as if none were open.
 #[derive(Drop)]
-pub struct Proof<W> {
-    made: Made,
+pub struct Proof<W, P: ProofProcessor = Nobody> {
+    made: Made<P>,
     /// What the width of hashes follows while a target is open, or a checker there.
     counting: Counting,
     lists: CutLists,
@@ -41,11 +42,12 @@ pub struct Proof<W> {
     broken: bool,
 }
 
-impl<W: CountedWrite + Drop> Proof<W> {
+impl<W: CountedWrite + Drop, P: ProofProcessor> Proof<W, P> {
     /// No step yet, no checker, and no target. Takes no memory.
-    pub fn new(alloc: Global) -> Proof<W>
+    pub fn new(alloc: Global) -> Proof<W, P>
         ensures steps { steps_of result ≡ [] }
         ensures checked { is_checked result ≡ false }
+        ensures taking { is_lost result ≡ false }
         ensures target { target_of W.seen result ≡ Closed }
     {
         Proof {
@@ -94,12 +96,23 @@ impl<W: CountedWrite + Drop> Proof<W> {
     /// From here on a checker takes the steps. Takes no memory.
     pub fn begin_checking(&mut self, alloc: Global)
         requires { has_begun (steps_of self.old) ≡ false }
-        ensures steps { steps_of self.new ≡ steps_of self.old }
+        ensures checks { Checks self.old self.new }
         ensures target { target_of W.seen self.new ≡ target_of W.seen self.old }
-        ensures checked { is_checked self.new ≡ true }
-        ensures taking { is_lost self.new ≡ false }
     {
         self.made.check(alloc);
+    }
+
+    /// A processor, which the checker tells what it announces from here on. Without memory it is dropped, and the checker takes no step.
+    pub fn add_processor(&mut self, processor: P) -> Result<(), ProofError>
+        requires begun { has_begun (steps_of self.old) ≡ false }
+        requires taking { is_lost self.old ≡ false }
+        requires checked { is_checked self.old ≡ true }
+        ensures { Listens W.seen result processor self.old self.new }
+    {
+        match self.made.add_processor(processor) {
+            Ok(()) => Ok(()),
+            Err(fault) => Err(ProofError::Check(fault)),
+        }
     }
 
     /// From here on steps are written to this target, with whole hashes at first. Takes no memory. A target that failed before is
@@ -107,7 +120,8 @@ impl<W: CountedWrite + Drop> Proof<W> {
     pub fn open(&mut self, format: ProofFormat, target: W)
         requires { is_open (target_of W.seen self.old) ≡ false }
         ensures steps { steps_of self.new ≡ steps_of self.old }
-        ensures checked { is_checked self.new ≡ is_checked self.old }
+        ensures listening { audience self.new ≡ audience self.old }
+        ensures taking { is_lost self.new ≡ is_lost self.old }
         ensures target { target_of W.seen self.new ≡ Open format start (empty_sink (W.seen target)) }
     {
         self.counting = Counting::new();
@@ -163,7 +177,7 @@ impl<W: CountedWrite + Drop> Proof<W> {
         requires width { KeepsWidth (step_of step.now) }
         ensures makes { Makes (step_of step.now) self.old.made self.new.made }
         ensures target { target_of W.seen self.new ≡ target_of W.seen self.old }
-        ensures fails { FailsOfCheck result self.old }
+        ensures fails { FailsOfCheck result self.new }
     {
         match self.made.take(self.counting.bits, step) {
             Ok(()) => Ok(()),
@@ -213,9 +227,9 @@ impl<W: CountedWrite + Drop> Proof<W> {
     /// Has the checker tell what waits.
     fn take_delayed(&mut self) -> Result<(), ProofError>
         ensures steps { steps_of self.new ≡ steps_of self.old }
-        ensures checked { is_checked self.new ≡ is_checked self.old }
+        ensures listening { audience self.new ≡ audience self.old }
         ensures target { target_of W.seen self.new ≡ target_of W.seen self.old }
-        ensures fails { FailsOfCheck result self.old }
+        ensures fails { FailsOfCheck result self.new }
         ensures told { OnOk result (HasTold self.new) }
     {
         match self.made.take_delayed() {
@@ -257,5 +271,11 @@ impl<W: CountedWrite + Drop> Proof<W> {
             None => None,
             Some(output) => Some(output.into_writer()),
         }
+    }
+    /// Those who listen to the checker, in the order in which they were added, also after a failure. There is none afterwards.
+    pub fn take_processors(&mut self, alloc: Global) -> Vec<P>
+        ensures { Handed self.old result.items }
+    {
+        self.made.take_processors(alloc)
     }
 }

@@ -23,6 +23,7 @@ use crate::search::work::Search;
 use crate::session::proof::Proof;
 use crate::simplify::writing::write_cut;
 use sat_base::{CountedWrite, Lit};
+use sat_checker::ProofProcessor;
 use sat_parts::Conflict;
 use sat_store::ClauseRef;
 use std::alloc::AllocError;
@@ -93,8 +94,8 @@ fn replace(parts: &mut Parts, cref: ClauseRef, len: usize) -> Result<(), AllocEr
 }
 
 /// Replaces a clause by what is left of it, where some of its literals are false and none is true.
-pub fn cut_clause<W: CountedWrite + Drop>(
-    proof: &mut Proof<W>,
+pub fn cut_clause<W: CountedWrite + Drop, P: ProofProcessor>(
+    proof: &mut Proof<W, P>,
     search: &mut Search,
     cref: ClauseRef,
     part: &mut Vec<Lit>,

@@ -17,11 +17,12 @@ use crate::simplify::cutting::cut_clause;
 use crate::simplify::looks::{Looks, look};
 use crate::simplify::writing::deletion_for;
 use sat_base::{CountedWrite, DeleteClauseProof, Lit, ProofStep};
+use sat_checker::ProofProcessor;
 use sat_store::ClauseRef;
 
 /// Deletes a clause of which a literal is true.
-fn delete_true<W: CountedWrite + Drop>(
-    proof: &mut Proof<W>,
+fn delete_true<W: CountedWrite + Drop, P: ProofProcessor>(
+    proof: &mut Proof<W, P>,
     search: &mut Search,
     cref: ClauseRef,
 ) -> Result<(), SolverError>
@@ -51,8 +52,8 @@ fn delete_true<W: CountedWrite + Drop>(
 }
 
 /// Deletes a live long clause where a unit made it true, and replaces it by what is left of it where units made literals false.
-fn simplify_clause<W: CountedWrite + Drop>(
-    proof: &mut Proof<W>,
+fn simplify_clause<W: CountedWrite + Drop, P: ProofProcessor>(
+    proof: &mut Proof<W, P>,
     search: &mut Search,
     cref: ClauseRef,
     part: &mut Vec<Lit>,
@@ -71,8 +72,8 @@ fn simplify_clause<W: CountedWrite + Drop>(
 }
 
 /// Looks at the long clauses in the order of their list, the redundant ones too. Behind it none of their literals has a value.
-pub fn simplify_clauses<W: CountedWrite + Drop>(
-    proof: &mut Proof<W>,
+pub fn simplify_clauses<W: CountedWrite + Drop, P: ProofProcessor>(
+    proof: &mut Proof<W, P>,
     search: &mut Search,
     part: &mut Vec<Lit>,
 ) -> Result<(), SolverError>

@@ -16,6 +16,7 @@ use crate::parts::clauses::remove_binary;
 use crate::search::work::Search;
 use crate::session::proof::Proof;
 use sat_base::{CountedWrite, Lit};
+use sat_checker::ProofProcessor;
 
 /// Whether neither of two literals has a value.
 fn are_open(parts: &Parts, first: Lit, second: Lit) -> bool
@@ -28,8 +29,8 @@ fn are_open(parts: &Parts, first: Lit, second: Lit) -> bool
 }
 
 /// Deletes the clause by which a literal implies another, in the list of its lower literal, where a variable of it has a value.
-fn delete_pair<W: CountedWrite + Drop>(
-    proof: &mut Proof<W>,
+fn delete_pair<W: CountedWrite + Drop, P: ProofProcessor>(
+    proof: &mut Proof<W, P>,
     search: &mut Search,
     lit: Lit,
     at: usize,
@@ -55,8 +56,8 @@ fn delete_pair<W: CountedWrite + Drop>(
 }
 
 /// Deletes such clauses of the list of a literal.
-fn delete_pairs_of<W: CountedWrite + Drop>(
-    proof: &mut Proof<W>,
+fn delete_pairs_of<W: CountedWrite + Drop, P: ProofProcessor>(
+    proof: &mut Proof<W, P>,
     search: &mut Search,
     lit: Lit,
 ) -> Result<(), SolverError>
@@ -74,8 +75,8 @@ fn delete_pairs_of<W: CountedWrite + Drop>(
 }
 
 /// Deletes the clauses of two literals of which a variable has a value, each once, in the order of the lists.
-pub fn delete_pairs<W: CountedWrite + Drop>(
-    proof: &mut Proof<W>,
+pub fn delete_pairs<W: CountedWrite + Drop, P: ProofProcessor>(
+    proof: &mut Proof<W, P>,
     search: &mut Search,
 ) -> Result<(), SolverError>
     requires keeps { Keeps proof.old }

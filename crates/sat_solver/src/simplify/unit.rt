@@ -14,11 +14,12 @@ use crate::simplify::freeing::free_indices;
 use crate::simplify::long::simplify_clauses;
 use crate::simplify::pairs::delete_pairs;
 use sat_base::CountedWrite;
+use sat_checker::ProofProcessor;
 
 /// Clauses of two literals go where a variable of them has a value, long ones where a literal is true; the others lose their false
 /// literals.
-fn lighten<W: CountedWrite + Drop>(
-    proof: &mut Proof<W>,
+fn lighten<W: CountedWrite + Drop, P: ProofProcessor>(
+    proof: &mut Proof<W, P>,
     search: &mut Search,
 ) -> Result<(), SolverError>
     requires keeps { Keeps proof.old }
@@ -33,8 +34,8 @@ fn lighten<W: CountedWrite + Drop>(
 
 /// Simplifies at level 0, where all was propagated and the trail is empty: true clauses go, false literals are cut off, and then the
 /// variables that no clause has and no assumption give their indices up, in order. Hidden ones among these are deleted.
-pub fn unit_simplify<W: CountedWrite + Drop>(
-    proof: &mut Proof<W>,
+pub fn unit_simplify<W: CountedWrite + Drop, P: ProofProcessor>(
+    proof: &mut Proof<W, P>,
     search: &mut Search,
     names: &mut Variables,
 ) -> Result<(), SolverError>

@@ -11,6 +11,7 @@ use crate::search::fault::proof_fault;
 use crate::search::work::Scratch;
 use crate::session::proof::Proof;
 use sat_base::{CountedWrite, DeleteClauseProof, Lit, ProofStep};
+use sat_checker::ProofProcessor;
 
 /// Why a clause may be deleted: it's redundant, or what is said of others.
 pub fn deletion_for(redundant: bool, other: DeleteClauseProof) -> DeleteClauseProof
@@ -30,8 +31,8 @@ fn left_redundant(redundant: bool, len: usize) -> bool
 }
 
 /// Derives what is left of a clause, and deletes the clause.
-pub fn write_cut<W: CountedWrite + Drop>(
-    proof: &mut Proof<W>,
+pub fn write_cut<W: CountedWrite + Drop, P: ProofProcessor>(
+    proof: &mut Proof<W, P>,
     scratch: &Scratch,
     part: &[Lit],
     redundant: bool,

@@ -16,8 +16,9 @@ use crate::solver::Solver;
 use crate::solver::state::State;
 use crate::solver::taking::take_clause;
 use sat_base::{CountedWrite, Lit};
+use sat_checker::ProofProcessor;
 
-impl<W: CountedWrite + Drop> Solver<W> {
+impl<W: CountedWrite + Drop, P: ProofProcessor> Solver<W, P> {
     /// Takes the names of a clause, and nothing more: the clauses alone are known to be unsatisfiable.
     fn leave_out(&mut self, lits: &[Lit]) -> Result<(), SolverError>
         requires whole { IsWhole self.old }

@@ -9,9 +9,10 @@ use crate::names::models::named_lits;
 use crate::solver::Solver;
 use crate::solver::state::State;
 use sat_base::{CountedWrite, Lit};
+use sat_checker::ProofProcessor;
 use std::alloc::Global;
 
-impl<W: CountedWrite + Drop> Solver<W> {
+impl<W: CountedWrite + Drop, P: ProofProcessor> Solver<W, P> {
     /// The literals of a model, one for each name in use, in increasing order.
     fn model_lits(&self, alloc: Global) -> Result<Vec<Lit>, SolverError>
         requires solver { IsSolver self.now }

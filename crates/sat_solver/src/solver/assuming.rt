@@ -19,8 +19,9 @@ use crate::solver::Solver;
 use crate::solver::state::State;
 use crate::solver::taking::take_assumptions;
 use sat_base::{CountedWrite, Lit};
+use sat_checker::ProofProcessor;
 
-impl<W: CountedWrite + Drop> Solver<W> {
+impl<W: CountedWrite + Drop, P: ProofProcessor> Solver<W, P> {
     /// Takes assumptions where the clauses alone are known to be unsatisfiable: the search isn't told.
     fn ask_known(&mut self, lits: &[Lit]) -> Result<(), SolverError>
         requires whole { IsWhole self.old }

@@ -12,9 +12,10 @@ use crate::solver::Solver;
 use crate::solver::state::State;
 use crate::{SolverConfigUpdate, SolverError};
 use sat_base::CountedWrite;
+use sat_checker::ProofProcessor;
 
 /// Hands the decays on to a search, unless it is over.
-fn hand_on<W: CountedWrite + Drop>(core: &mut Core<W>, state: State)
+fn hand_on<W: CountedWrite + Drop, P: ProofProcessor>(core: &mut Core<W, P>, state: State)
     requires holds { (state ≡ Unsat → ⊥) → Holds core.old.search.parts }
     requires decays { AreDecays core.old.config }
     ensures { HandsOn state core.old core.new }
@@ -27,7 +28,7 @@ fn hand_on<W: CountedWrite + Drop>(core: &mut Core<W>, state: State)
     }
 }
 
-impl<W: CountedWrite + Drop> Solver<W> {
+impl<W: CountedWrite + Drop, P: ProofProcessor> Solver<W, P> {
     /// Changes parameters: those that the update has. `OutOfRange` changes nothing, and comes exactly where one is out of its range.
     pub fn config(&mut self, update: &SolverConfigUpdate) -> Result<(), SolverError>
         requires { IsSolver self.old }

@@ -8,6 +8,7 @@ use crate::Progress;
 use crate::names::Variables;
 use crate::solver::Solver;
 use sat_base::{CountedWrite, Var};
+use sat_checker::ProofProcessor;
 use sat_store::Tier;
 
 /// Whether a variable has this index, and no value.
@@ -36,7 +37,7 @@ fn open_count(names: &Variables, values: &[Option<bool>]) -> u64
     count
 }
 
-impl<W: CountedWrite + Drop> Solver<W> {
+impl<W: CountedWrite + Drop, P: ProofProcessor> Solver<W, P> {
     /// Rounds, restarts, variables without a value, and clauses by kind, at this time. Takes no memory.
     pub fn progress(&self) -> Progress
         ensures conflicts { result.conflicts ≡ self.now.clock.steps }

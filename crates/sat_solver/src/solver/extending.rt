@@ -7,8 +7,9 @@ ghost use Rattle.sat_solver.specs.solver.Whole.{IsSolver};
 use crate::SolverError;
 use crate::solver::Solver;
 use sat_base::{CountedWrite, ExtendFormula, Lit, Var};
+use sat_checker::ProofProcessor;
 
-impl<W: CountedWrite + Drop> ExtendFormula for Solver<W> {
+impl<W: CountedWrite + Drop, P: ProofProcessor> ExtendFormula for Solver<W, P> {
     type Error = SolverError;
 
     ghost ready = { IsSolver };

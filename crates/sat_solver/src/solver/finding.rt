@@ -14,6 +14,7 @@ use crate::search::solving::{Core, solve};
 use crate::solver::state::State;
 use crate::solver::telling::{fail_core, show_model};
 use sat_base::{CountedWrite, Lit};
+use sat_checker::ProofProcessor;
 
 /// What the last answers were: a model over the proof's variables, a failed core over names.
 #[derive(Drop)]
@@ -30,8 +31,8 @@ pub struct Clock {
 }
 
 /// Tells what a search came to.
-fn tell<W: CountedWrite + Drop>(
-    core: &mut Core<W>,
+fn tell<W: CountedWrite + Drop, P: ProofProcessor>(
+    core: &mut Core<W, P>,
     names: &Variables,
     told: &mut Told,
     outcome: Outcome,
@@ -54,8 +55,8 @@ fn tell<W: CountedWrite + Drop>(
 }
 
 /// Rounds up to an answer, at most so many as the parameters say, and the answer's step. None where there is no answer by then.
-pub fn find_answer<W: CountedWrite + Drop>(
-    core: &mut Core<W>,
+pub fn find_answer<W: CountedWrite + Drop, P: ProofProcessor>(
+    core: &mut Core<W, P>,
     names: &mut Variables,
     told: &mut Told,
     clock: &mut Clock,

@@ -7,6 +7,7 @@ ghost use Rattle.sat_solver.specs.solver.Whole.{IsSolver};
 use crate::SolverError;
 use crate::solver::Solver;
 use sat_base::{CnfFormula, CountedRead, CountedWrite, DimacsError, DimacsParser};
+use sat_checker::ProofProcessor;
 
 /// How many bytes are asked for at a time.
 const PIECE: usize = 4096;
@@ -40,7 +41,7 @@ fn is_want(error: DimacsError) -> bool
     }
 }
 
-impl<W: CountedWrite + Drop> Solver<W> {
+impl<W: CountedWrite + Drop, P: ProofProcessor> Solver<W, P> {
     /// Adds the clauses of a formula, in order, each as by a call of its own, up to the first that is refused: those before it stand.
     /// The formula's variable count brings in no name.
     pub fn add_formula(&mut self, formula: &CnfFormula) -> Result<(), SolverError>

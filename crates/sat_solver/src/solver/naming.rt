@@ -14,6 +14,7 @@ use crate::names::refusing::is_assumed;
 use crate::names::room::has_room_for;
 use crate::solver::Solver;
 use sat_base::{CountedWrite, Var};
+use sat_checker::ProofProcessor;
 
 /// Whether no variable was left.
 fn is_limit(error: &NameError) -> bool
@@ -37,7 +38,7 @@ fn is_used(used: bool, users: &[Var]) -> bool
     used || !users.is_empty()
 }
 
-impl<W: CountedWrite + Drop> Solver<W> {
+impl<W: CountedWrite + Drop, P: ProofProcessor> Solver<W, P> {
     /// Brings a name in, and hides it: its variable stays in the clauses, and the name may become that of a new variable. A variable
     /// without an index, which is in no clause, is deleted at once. What is known of an answer stays. `AssumedVariable` where the name is assumed. `VariableLimit` where a variable is lacking for a name that would come in.
     pub fn hide_var(&mut self, user: Var) -> Result<(), SolverError>

@@ -1,6 +1,6 @@
 //! The proof of a solver, where its text goes.
-ghost use Rattle.sat_solver.specs.session.ProofView.{Gives, seen_of, target_of};
-ghost use Rattle.sat_solver.specs.solver.Proving.{Enables, Opens, ClosesProof};
+ghost use Rattle.sat_solver.specs.session.ProofView.{Gives, Handed, seen_of, target_of};
+ghost use Rattle.sat_solver.specs.solver.Proving.{AddsProcessor, Enables, Opens, ClosesProof};
 ghost use Rattle.sat_solver.specs.solver.Whole.{IsSolver};
 
 use crate::SolverError;
@@ -8,8 +8,16 @@ use crate::search::fault::proof_fault;
 use crate::session::format::ProofFormat;
 use crate::solver::Solver;
 use sat_base::CountedWrite;
+use sat_checker::ProofProcessor;
 
-impl<W: CountedWrite + Drop> Solver<W> {
+/// What a solver held of others.
+#[derive(Drop)]
+pub struct HandedBack<W, P> {
+    pub target: Option<W>,
+    pub processors: Vec<P>,
+}
+
+impl<W: CountedWrite + Drop, P: ProofProcessor> Solver<W, P> {
     /// Writes the steps that are made from here on to this target, in this format. `TooLate` once a clause, a name, assumptions or an ask
     /// came, or while a proof is open; the target is dropped then.
     pub fn write_proof(&mut self, target: W, format: ProofFormat) -> Result<(), SolverError>
@@ -45,6 +53,30 @@ impl<W: CountedWrite + Drop> Solver<W> {
         Ok(())
     }
 
+    /// A processor, which the solver's own checker, which comes by it where there is none, tells what it announces. `TooLate` as
+    /// `enable_self_checking`; the processor is dropped then, and so it is where there's no memory for it.
+    pub fn add_proof_processor(&mut self, processor: P) -> Result<(), SolverError>
+        requires { IsSolver self.old }
+        ensures solver { IsSolver self.new }
+        ensures adds { AddsProcessor W.seen result processor self.old self.new }
+    {
+        if self.failed {
+            return Err(SolverError::HasFailed);
+        }
+        if self.core.proof.has_begun() || self.used {
+            return Err(SolverError::TooLate);
+        }
+        let alloc = self.core.search.alloc;
+        self.core.proof.begin_checking(alloc);
+        match self.core.proof.add_processor(processor) {
+            Ok(()) => Ok(()),
+            Err(error) => {
+                self.failed = true;
+                Err(proof_fault(error))
+            }
+        }
+    }
+
     /// Writes the last step, flushes, and hands the target back; `None` where no proof is open. After a fault the target stays.
     pub fn close_proof(&mut self) -> Result<Option<W>, SolverError>
         requires { IsSolver self.old }
@@ -70,5 +102,17 @@ impl<W: CountedWrite + Drop> Solver<W> {
     {
         let mut solver = self;
         solver.core.proof.take_target()
+    }
+    /// The processors that were added, in their order, and the target as it is, where a proof is open or its target failed, also after
+    /// a failure; what waits for the target is lost.
+    pub fn into_processors(self) -> HandedBack<W, P>
+        ensures target { Gives (target_of W.seen self.core.proof) (seen_of W.seen result.target) }
+        ensures processors { Handed self.core.proof result.processors.items }
+    {
+        let mut solver = self;
+        let target = solver.core.proof.take_target();
+        let alloc = solver.core.search.alloc;
+        let processors = solver.core.proof.take_processors(alloc);
+        HandedBack { target, processors }
     }
 }

@@ -12,8 +12,9 @@ use crate::solver::Solver;
 use crate::solver::finding::find_answer;
 use crate::solver::state::State;
 use sat_base::CountedWrite;
+use sat_checker::ProofProcessor;
 
-impl<W: CountedWrite + Drop> Solver<W> {
+impl<W: CountedWrite + Drop, P: ProofProcessor> Solver<W, P> {
     /// Looks for an answer, where none is known.
     fn settle(&mut self) -> Result<(), SolverError>
         requires whole { IsWhole self.old }

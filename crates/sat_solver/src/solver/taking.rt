@@ -20,6 +20,7 @@ use crate::names::taking::Taken;
 use crate::parts::sorting::Sorting;
 use crate::search::solving::Core;
 use sat_base::{CountedWrite, Lit};
+use sat_checker::ProofProcessor;
 
 /// Where a clause is put together.
 #[derive(Drop)]
@@ -30,8 +31,8 @@ pub struct Loading {
 
 /// Takes a clause without a name of mode witness, where the clauses aren't known to be unsatisfiable. Answers whether a valuation may
 /// be left.
-pub fn take_clause<W: CountedWrite + Drop>(
-    core: &mut Core<W>,
+pub fn take_clause<W: CountedWrite + Drop, P: ProofProcessor>(
+    core: &mut Core<W, P>,
     names: &mut Variables,
     lits: &[Lit],
     loading: &mut Loading,
@@ -59,8 +60,8 @@ pub fn take_clause<W: CountedWrite + Drop>(
 }
 
 /// Takes assumptions without a name of mode witness, in place of those before.
-pub fn take_assumptions<W: CountedWrite + Drop>(
-    core: &mut Core<W>,
+pub fn take_assumptions<W: CountedWrite + Drop, P: ProofProcessor>(
+    core: &mut Core<W, P>,
     names: &mut Variables,
     lits: &[Lit],
     asked: &mut Taken,

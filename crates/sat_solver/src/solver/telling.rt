@@ -12,6 +12,7 @@ use crate::search::failing::tell_core;
 use crate::search::fault::proof_fault;
 use crate::search::solving::Core;
 use sat_base::{CountedWrite, Lit, ProofStep, Var};
+use sat_checker::ProofProcessor;
 use std::alloc::AllocError;
 
 /// The name of the variable that has this index, if there is one and it has a name.
@@ -46,8 +47,8 @@ fn name_lits(names: &Variables, lits: &[Lit], named: &mut Vec<Lit>) -> Result<()
 }
 
 /// Writes the model that a search came to: a literal for each variable of the proof that is in use.
-pub fn show_model<W: CountedWrite + Drop>(
-    core: &mut Core<W>,
+pub fn show_model<W: CountedWrite + Drop, P: ProofProcessor>(
+    core: &mut Core<W, P>,
     names: &Variables,
     model: &mut Vec<Lit>,
 ) -> Result<(), SolverError>
@@ -65,8 +66,8 @@ pub fn show_model<W: CountedWrite + Drop>(
 }
 
 /// Writes the assumptions that can't be true together, and lists them over names.
-pub fn fail_core<W: CountedWrite + Drop>(
-    core: &mut Core<W>,
+pub fn fail_core<W: CountedWrite + Drop, P: ProofProcessor>(
+    core: &mut Core<W, P>,
     names: &Variables,
     failed_core: &mut Vec<Lit>,
 ) -> Result<(), SolverError>

@@ -10,7 +10,6 @@ use Rattle.sat_base.proofs.lemmas.device.Writes as writes
 use Rattle.sat_checker.specs.matching.Expected.{Finish, expected, finish}
 use Rattle.sat_checker.specs.matching.ProofChecking.{the_checking}
 use Rattle.sat_solver.specs.declared.session.format.ProofFormat.TheVariants.{Varisat}
-use Rattle.sat_solver.specs.declared.session.proof.Proof.{Proof}
 use Rattle.sat_solver.specs.session.Counting.{start as uncounted}
 use Rattle.sat_solver.specs.session.Making.{Took, Broke}
 use Rattle.sat_solver.specs.session.OutputView.{text_in}
@@ -44,6 +43,7 @@ use Rattle.certify.proofs.lemmas.matching.Joining.{covers_given, took_kept}
 use Rattle.certify.proofs.lemmas.serving.MadeCertifies.{made_certifies}
 use Rattle.certify.proofs.lemmas.serving.SessionCalls.{broke_later, took_both}
 use Rattle.certify.proofs.lemmas.serving.Written.{written_certifies}
+use Rattle.certify.specs.serving.Quiet.{Proof}
 
 -- a session before its first command, whose certificate is written to this writer
 pub record IsNew {C : Type 0} (seen : C → Writer) (budget : ℕ) (certificate : Writer) (s : Session C) : Type 0 where

@@ -11,7 +11,6 @@ use Rattle.sat_checker.specs.LiteralSets.{canonical}
 use Rattle.sat_checker.specs.matching.Checking.{variable_of}
 use Rattle.sat_checker.specs.matching.Expected.{Outcome, Unsat, Unknown, Expected, Opens, Fails, Closes, Fits, bringing, showing, fails}
 use Rattle.sat_checker.specs.matching.ProofChecking.{the_checking}
-use Rattle.sat_solver.specs.declared.solver.Solver.{Solver}
 use Rattle.sat_solver.specs.declared.solver.state.State.{State}
 use Rattle.sat_solver.specs.declared.solver.state.State.TheVariants as states
 use Rattle.sat_solver.specs.names.Calls as solver
@@ -45,6 +44,7 @@ use Rattle.certify.proofs.lemmas.serving.Converted.{due_as, made_of, bringing_du
 use Rattle.certify.proofs.lemmas.serving.Cores.{right_in_order, spelt_in_order}
 use Rattle.certify.proofs.lemmas.serving.Lines.{lists_in_use}
 use Rattle.certify.proofs.lemmas.serving.Recorded.{going_on, known_unsat, unsat_known}
+use Rattle.certify.specs.serving.Quiet.{Solver}
 
 rising_of : (xs : List ℕ) → Rise xs → Rising xs
 rising_of [] h = tt

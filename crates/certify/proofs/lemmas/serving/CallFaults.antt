@@ -7,13 +7,13 @@ use Rattle.sat_base.specs.script.Judge.{Judge, Refusal}
 use Rattle.sat_base.specs.steps.Steps.{Step}
 use Rattle.sat_solver.specs.declared.error.SolverError.{SolverError}
 use Rattle.sat_solver.specs.declared.error.SolverError.TheVariants as errors
-use Rattle.sat_solver.specs.declared.solver.Solver.{Solver}
 use Rattle.sat_solver.specs.names.Expected.{Expected}
 use Rattle.sat_solver.specs.session.Making.{Took}
 use Rattle.sat_solver.specs.solver.Adding.{AddsClause, Assumes, EndsNamesOr, HasWitness}
 use Rattle.sat_solver.specs.solver.Naming.{ChangesMode, IsAsked}
 use Rattle.certify.specs.serving.Calls.{FailsSolver, IsAllowed, IsReady, IsSolverFault, fault_for, proof_in}
 use Rattle.certify.proofs.lemmas.serving.SessionCalls.{took_none}
+use Rattle.certify.specs.serving.Quiet.{Solver}
 
 apart : true ≡ false → ⊥
 apart e = cc

@@ -5,7 +5,6 @@ use Rattle.sat_base.specs.device.Device.{Writer}
 use Rattle.sat_base.specs.script.Script.{Command}
 use Rattle.sat_base.specs.script.Judge.{Judge, accepted}
 use Rattle.sat_base.proofs.lemmas.device.Writes.{took_none}
-use Rattle.sat_solver.specs.declared.solver.Solver.{Solver}
 use Rattle.sat_solver.specs.solver.Whole.{steps_in}
 use Rattle.certify.specs.declared.serving.session.Session.{Session}
 use Rattle.certify.specs.serving.Obeying.{Obeyed}
@@ -13,6 +12,7 @@ use Rattle.certify.specs.serving.Serving.{Place, Serves, behind}
 use Rattle.certify.specs.serving.Standing.{CarriedOut, last_place, place_in}
 use Rattle.certify.specs.serving.Stretches.{IsNoAsk}
 use Rattle.certify.proofs.lemmas.serving.ServedOnce.{serves_plain}
+use Rattle.certify.specs.serving.Quiet.{Solver}
 
 -- where a run stands behind the last command that came
 pub place_behind : {C : Type 0} (old new : Session C) (c : Command) (j : Judge) (rounds : ℕ) → new.commands ≡ old.commands → rounds ≡ new.solver.clock.steps

@@ -6,7 +6,6 @@ use Rattle.sat_base.specs.script.Script.{Clause, names_of}
 use Rattle.sat_base.specs.script.Judge.{Judge, accepted, bring_all, with_clause}
 use Rattle.sat_checker.specs.matching.Expected.{Expected, Adds, bringing}
 use Rattle.sat_checker.specs.matching.ProofChecking.{the_checking}
-use Rattle.sat_solver.specs.declared.solver.Solver.{Solver}
 use Rattle.sat_solver.specs.declared.solver.state.State.{State}
 use Rattle.sat_solver.specs.declared.solver.state.State.TheVariants as states
 use Rattle.sat_solver.specs.names.Calls as solver
@@ -21,6 +20,7 @@ use Rattle.certify.specs.answers.AnswerForms.{named_literals}
 use Rattle.certify.specs.serving.Stretches.{Makes, MayFor, Stretch, due_for}
 use Rattle.certify.proofs.lemmas.serving.Converted.{due_as, made_of, bringing_due, names_same}
 use Rattle.certify.proofs.lemmas.serving.Recorded.{going_on, known_unsat}
+use Rattle.certify.specs.serving.Quiet.{Solver}
 
 module _ {C : Type 0} (seen : C → Writer) (old new : Solver C) (user : List ℕ) (whole : IsWhole old) (added : Added seen old new user) (j : Judge) (live : Live) (agree : solver.Agree old.names (steps_in old) j live) where
   kept : solver.Kept new.names (steps_in old) (steps_in new) (with_added user j) (due_for_clause old.state user j)

@@ -5,12 +5,13 @@ use Rattle.sat_base.specs.device.Device.{Writer}
 use Rattle.sat_base.specs.steps.Steps.{End}
 use Rattle.sat_solver.specs.declared.error.SolverError.{SolverError}
 use Rattle.sat_solver.specs.declared.error.SolverError.TheVariants as errors
-use Rattle.sat_solver.specs.declared.solver.Solver.{Solver}
+use Rattle.sat_solver.specs.declared.session.made.CheckFault.TheVariants as checks
 use Rattle.sat_solver.specs.session.Making.{Took, Broke}
 use Rattle.sat_solver.specs.session.ProofView.{Adds, FailsCheck, Gives, target_of}
 use Rattle.sat_solver.specs.solver.Proving.{ClosesProof}
 use Rattle.certify.specs.serving.Calls.{Faults, IsReady, fault_for, proof_in}
 use Rattle.certify.specs.serving.Ending.{GivenBack}
+use Rattle.certify.specs.serving.Quiet.{Solver}
 
 -- closing it failed, and its writer was given back
 pub closing_fails : {C : Type 0} (seen : C → Writer) (e : SolverError) (old new : Solver C) (given : C) → IsReady old → ClosesProof seen (Err e) old new → Gives (target_of seen (proof_in new)) (Some (seen given))
@@ -19,7 +20,7 @@ closing_fails seen errors.HasFailed old new given ready h g = absurd (true≢fal
 closing_fails seen (errors.ProofIoError cause) old new given ready h g = record { proof = proof_in new; goes = (End ∷ [], h.fails); gives = g }
 closing_fails {C} seen errors.OutOfMemory old new given ready h g = at h.adds
   where
-    at : Adds seen [] (proof_in old) (proof_in new) ⊎ FailsCheck seen (End ∷ []) (proof_in old) (proof_in new) → GivenBack seen Took old given
+    at : Adds seen [] (proof_in old) (proof_in new) ⊎ FailsCheck seen checks.OutOfMemory (End ∷ []) (proof_in old) (proof_in new) → GivenBack seen Took old given
     at (inl a) = record { proof = proof_in new; goes = ([], a); gives = g }
     at (inr f) = record { proof = proof_in new; goes = (End ∷ [], f.adds); gives = g }
 closing_fails seen errors.Interrupted old new given ready h g = absurd h

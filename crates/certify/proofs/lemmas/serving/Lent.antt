@@ -4,7 +4,6 @@ use Rattle.std.proofs.lemmas.List.{append-nil}
 use Rattle.sat_base.specs.device.Device.{Writer}
 use Rattle.sat_base.specs.script.Script.{Command, Clause, Ask, Hide, Witness, Sample}
 use Rattle.sat_base.specs.script.Judge.{refusal_of, refused_literal}
-use Rattle.sat_solver.specs.declared.solver.Solver.{Solver}
 use Rattle.sat_solver.specs.names.Refusing.{names_in}
 use Rattle.sat_solver.specs.solver.Adding.{Added}
 use Rattle.certify.specs.answers.AnswerForms.{named_literals}
@@ -26,6 +25,7 @@ use Rattle.certify.proofs.lemmas.serving.Carried.{obeyed_carried}
 use Rattle.certify.proofs.lemmas.serving.Converted.{names_same}
 use Rattle.certify.proofs.lemmas.serving.Obeys.{clause_obeyed, names_ask_nothing}
 use Rattle.certify.proofs.lemmas.serving.SessionCalls.{did_ready, solver_writes}
+use Rattle.certify.specs.serving.Quiet.{Solver}
 
 on_ok : {T E A B : Type 0} (r : Result T E) → (A → B) → OnOk r A → OnOk r B
 on_ok (Ok x) f h = f h

@@ -4,7 +4,6 @@ use Rattle.std.proofs.lemmas.List.{append-nil}
 use Rattle.sat_base.specs.device.Device.{Writer}
 use Rattle.sat_base.specs.script.Script.{Command}
 use Rattle.sat_base.specs.script.Judge.{Judge, Refusal, accepted, after_command, refusal_of, start}
-use Rattle.sat_solver.specs.declared.solver.Solver.{Solver}
 use Rattle.sat_solver.specs.names.Calls.{Agree}
 use Rattle.sat_solver.specs.session.Making.{Took}
 use Rattle.sat_solver.specs.solver.Whole.{steps_in}
@@ -17,6 +16,7 @@ use Rattle.certify.specs.serving.Standing.{Allows, CarriedOut, GoesOn, IsAt, Mea
 use Rattle.certify.proofs.lemmas.laws.JudgeStates.{accepted_kept, start_kept}
 use Rattle.certify.proofs.lemmas.serving.ServedOnce.{serves_refused}
 use Rattle.certify.proofs.lemmas.serving.SessionCalls.{took_none}
+use Rattle.certify.specs.serving.Quiet.{Solver}
 
 -- a run that has counted one more command
 abbrev pub counted : {C : Type 0} → Session C → Session C

@@ -4,10 +4,10 @@ use Rattle.sat_base.specs.device.Device.{Writer}
 use Rattle.sat_base.specs.steps.Steps.{Step}
 use Rattle.sat_solver.specs.declared.session.counting.Counting.{Counting}
 use Rattle.sat_solver.specs.declared.session.output.Output.{Output}
-use Rattle.sat_solver.specs.declared.session.proof.Proof.{Proof}
 use Rattle.sat_solver.specs.session.Making.{Took}
 use Rattle.sat_solver.specs.session.ProofView.{Target, Closed, Open, Broken, Carries, is_drat, target_in, target_of}
 use Rattle.certify.specs.serving.Calls.{HasNoLines}
+use Rattle.certify.specs.serving.Quiet.{Proof}
 
 -- whatever is seen of a writer
 alike : {C : Type 0} (a b : C → Writer) (o : Option (Output C)) (broken : Bool) (c : Counting) → is_drat (target_in a o broken c) ≡ is_drat (target_in b o broken c)

@@ -8,7 +8,6 @@ use Rattle.sat_base.specs.script.Judge.{Judge, Mode, Sampled, Witnessed, accepte
 use Rattle.sat_base.specs.steps.Steps.{Step}
 use Rattle.sat_checker.specs.matching.Expected.{NewName, NoName, hiding, setting}
 use Rattle.sat_checker.specs.matching.ProofChecking.{the_checking}
-use Rattle.sat_solver.specs.declared.solver.Solver.{Solver}
 use Rattle.sat_solver.specs.names.Calls.{Agree}
 use Rattle.sat_solver.specs.names.Refusing.{names_in}
 use Rattle.sat_solver.specs.solver.Adding.{Added}
@@ -25,6 +24,7 @@ use Rattle.certify.proofs.lemmas.serving.ClauseServed.{clause_agrees, clause_str
 use Rattle.certify.proofs.lemmas.serving.Converted.{due_as, hiding_due, made_of, setting_due}
 use Rattle.certify.proofs.lemmas.serving.Making.{makes_both}
 use Rattle.certify.proofs.lemmas.serving.SessionCalls.{took_both, took_none}
+use Rattle.certify.specs.serving.Quiet.{Solver}
 
 -- SEVERAL NAMES, AND THEN OTHERS
 

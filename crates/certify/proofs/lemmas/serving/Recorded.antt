@@ -5,12 +5,12 @@ use Rattle.sat_base.specs.steps.Steps.{Step}
 use Rattle.sat_checker.specs.matching.ProofChecking.{the_checking}
 use Rattle.sat_checker.proofs.lemmas.meaning.Answers.{unsat_means_none}
 use Rattle.sat_solver.specs.session.Session.{MayAll, session_after}
-use Rattle.sat_solver.specs.declared.solver.Solver.{Solver}
 use Rattle.sat_solver.specs.declared.solver.state.State.{State}
 use Rattle.sat_solver.specs.declared.solver.state.State.TheVariants as states
 use Rattle.sat_solver.specs.solver.Whole.{IsWhole, StateSays, steps_in, session_in}
 use Rattle.sat_solver.proofs.lemmas.session.StepLemmas.{sessions_are_accepted}
 use Rattle.certify.specs.serving.Certifies.{IsRecorded}
+use Rattle.certify.specs.serving.Quiet.{Solver}
 
 unsat_as : (steps : List Step) → MayAll steps → the_checking.unsat steps ≡ (session_after steps).unsat
 unsat_as steps may = (sessions_are_accepted steps may).1.unsat

@@ -3,8 +3,6 @@ use Rattle.std.proofs.Common.{ℕ, ◌+◌, ◌≡◌, List, [], ◌∷◌, ◌+
 use Rattle.sat_base.specs.device.Device.{Writer, Takes}
 use Rattle.sat_base.specs.script.Script.{Ask}
 use Rattle.sat_base.specs.script.Judge.{Judge, bring_all}
-use Rattle.sat_solver.specs.declared.session.proof.Proof.{Proof}
-use Rattle.sat_solver.specs.declared.solver.Solver.{Solver}
 use Rattle.sat_solver.specs.names.Calls as solver
 use Rattle.sat_solver.specs.names.Expected.{Expected}
 use Rattle.sat_solver.specs.names.Refusing.{names_in}
@@ -29,6 +27,7 @@ use Rattle.certify.proofs.lemmas.serving.AskServed.{ask_bounded, ask_steps, ask_
 use Rattle.certify.proofs.lemmas.serving.Carried.{place_behind}
 use Rattle.certify.proofs.lemmas.serving.NoLines.{none_still}
 use Rattle.certify.proofs.lemmas.serving.ServedOnce.{serves_ask}
+use Rattle.certify.specs.serving.Quiet.{Proof, Solver}
 
 pub took_none : {C : Type 0} (seen : C → Writer) (p : Proof C) → Took seen p p
 took_none seen p = ([], adds_none seen p)

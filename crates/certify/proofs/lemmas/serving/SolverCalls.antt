@@ -1,12 +1,12 @@
 -- A search, and the rounds that it made.
 use Rattle.std.proofs.Common.{ℕ, ◌-◌, ◌≡◌, ◌∙◌, refl, sym, arith}
 use Rattle.sat_base.specs.device.Device.{Writer}
-use Rattle.sat_solver.specs.declared.solver.Solver.{Solver}
 use Rattle.sat_solver.specs.declared.solver.state.State.{State}
 use Rattle.sat_solver.specs.declared.solver.state.State.TheVariants as states
 use Rattle.certify.specs.declared.summary.Answer.{Answer}
 use Rattle.certify.specs.declared.summary.Answer.TheVariants as kind
 use Rattle.certify.specs.serving.Calls.{AnswerIs, Limited, Searched, Solved}
+use Rattle.certify.specs.serving.Quiet.{Solver}
 
 -- what a search came to, with its rounds
 pub searched : {C : Type 0} (seen : C → Writer) (budget : ℕ) (answer : Answer) (old mid new : Solver C) (before after : ℕ) → Limited budget old mid → before ≡ mid.clock.steps → after ≡ new.clock.steps → Solved seen answer mid new

@@ -10,7 +10,6 @@ use Rattle.sat_base.specs.script.Judge.{Judge, accepted, accepted_of, after_comm
 use Rattle.sat_base.specs.steps.Steps.{Step}
 use Rattle.sat_base.proofs.lemmas.device.Writes as writes
 use Rattle.sat_checker.specs.matching.Expected.{Outcome}
-use Rattle.sat_solver.specs.declared.solver.Solver.{Solver}
 use Rattle.sat_solver.specs.session.Making.{Took, Broke}
 use Rattle.sat_solver.specs.solver.Whole.{steps_in}
 use Rattle.certify.specs.Calls.{NoneFailed, OneFailed}
@@ -37,6 +36,7 @@ use Rattle.certify.proofs.lemmas.confirm.Streams.{all_over, nothing_behind, take
 use Rattle.certify.proofs.lemmas.matching.Joining.{covers_took, failed_then, kept_then, took_kept, took_none as took_nothing, took_open, took_then}
 use Rattle.certify.proofs.lemmas.serving.Served.{serves_none, serves_then}
 use Rattle.certify.proofs.lemmas.serving.SessionCalls.{took_none, took_both, broke_later}
+use Rattle.certify.specs.serving.Quiet.{Solver}
 
 -- PLACES
 

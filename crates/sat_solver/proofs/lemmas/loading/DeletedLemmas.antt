@@ -2,6 +2,7 @@
 use Rattle.std.proofs.Common.{ℕ, ◌≡◌, ◌∙◌, Bool, true, Result, Ok, Err, OnOk, List, ◌∷◌, sym, ap, subst}
 use Rattle.sat_base.specs.device.Device.{Writer}
 use Rattle.sat_base.specs.steps.Steps.{DeleteClause, Satisfied}
+use Rattle.sat_checker.specs.declared.processing.ProofProcessor.{Ghosts}
 use Rattle.sat_solver.specs.declared.error.SolverError.{SolverError}
 use Rattle.sat_solver.specs.declared.search.work.Search.{Search}
 use Rattle.sat_solver.specs.declared.session.proof.Proof.{Proof}
@@ -14,7 +15,7 @@ use Rattle.sat_solver.specs.search.Joint.{IsSearch}
 use Rattle.sat_solver.proofs.lemmas.session.ComingLemmas.{comes_one}
 
 -- the clause that was added is deleted, and unsat isn't recorded
-pub comes_true : {W full : Type 0} (seen : W → Writer) (r : Result Bool SolverError) (p q : Proof W) (clause : List ℕ) (c c' : Search) → Goes seen r p q (λ left _. (left ≡ true) × (steps_of q ≡ DeleteClause clause Satisfied ∷ steps_of p)) →
+pub comes_true : {W L full : Type 0} {G : Ghosts L} (seen : W → Writer) (r : Result Bool SolverError) (p q : Proof W L G) (clause : List ℕ) (c c' : Search) → Goes seen r p q (λ left _. (left ≡ true) × (steps_of q ≡ DeleteClause clause Satisfied ∷ steps_of p)) →
     GoesOr full seen r p q (λ left _. IsLoaded left (session_of q) c c') → IsLastAdded (steps_of p) clause → OnOk r (Comes DeletesAdded (steps_of p) (steps_of q))
 comes_true seen (Ok left) p q clause c c' g h last =
     let goes_on : IsSearch (session_of q) c' = subst (λ l. GoesOn l (session_of q) c') g.ends.0 h.ends.goes_on in

@@ -37,6 +37,7 @@ use Rattle.sat_solver.proofs.lemmas.search.TurnLemmas.{free_moved, moved_trans}
 use Rattle.sat_solver.specs.loading.Bottom.{AtBottom}
 use Rattle.sat_solver.specs.loading.Loaded.{MayLoad, IsAdded, IsLoaded}
 use Rattle.sat_checker.specs.LiteralSets.{mentions}
+use Rattle.sat_checker.specs.declared.processing.ProofProcessor.{Ghosts}
 use Rattle.sat_store.specs.heap.Vsids.{may_pick}
 use Rattle.std.proofs.lemmas.Bool.{or_left, or_right, eq-eqb, cases_Bool, true≢false}
 use Rattle.sat_parts.specs.prop.Values.{value_of, IsTrueLit}
@@ -99,7 +100,7 @@ leaves_both : (s t u : Session) → Leaves s t → Leaves t u → Leaves s u
 leaves_both s t u x y = record { assumed = y.assumed ∙ x.assumed; names = λ v. y.names v ∙ x.names v }
 
 -- nothing was written, and then the clause buffer refused
-pub goes_unstored : {A W full : Type 0} (seen : W → Writer) (e : StoreError) (p : Proof W) (P : A → List Step → Type 0) → Keeps p → (e ≡ stores.StoreFull → full) → GoesOr full seen (Err (failure_of e)) p p P
+pub goes_unstored : {A W L full : Type 0} {G : Ghosts L} (seen : W → Writer) (e : StoreError) (p : Proof W L G) (P : A → List Step → Type 0) → Keeps p → (e ≡ stores.StoreFull → full) → GoesOr full seen (Err (failure_of e)) p p P
 goes_unstored seen stores.StoreFull p P keeps f = record { steps = []; went = adds_none seen p; searched = tt; keeps = keeps; ends = f refl }
 goes_unstored seen stores.OutOfMemory p P keeps f = record { steps = []; went = adds_none seen p; searched = tt; keeps = keeps; ends = tt }
 

@@ -2,6 +2,7 @@
 use Rattle.std.proofs.Common.{◌∙◌, Result, Ok, Err, List, [], ◌++◌, sym, subst}
 use Rattle.sat_base.specs.device.Device.{Writer}
 use Rattle.sat_base.specs.steps.Steps.{Step}
+use Rattle.sat_checker.specs.declared.processing.ProofProcessor.{Ghosts}
 use Rattle.sat_parts.specs.declared.prop.graph.Conflict.{Conflict}
 use Rattle.sat_solver.specs.session.Making.{Took}
 use Rattle.sat_solver.specs.session.ProofView.{steps_of, session_of}
@@ -33,7 +34,7 @@ use Rattle.sat_solver.proofs.lemmas.simplify.LighterLemmas.{goes_leaves}
 use Rattle.sat_solver.proofs.lemmas.simplify.PassesLemmas.{falls_goes, falls_later}
 
 -- what a round began with
-record Reaches {W : Type 0} (seen : W → Writer) (n m : Variables) (p q : Proof W) (c d : Search) : Type 0 where
+record Reaches {W L : Type 0} {G : Ghosts L} (seen : W → Writer) (n m : Variables) (p q : Proof W L G) (c d : Search) : Type 0 where
   took : Took seen p q
   does : DoesNothing n m (steps_of p) (steps_of q)
   asked : KeepsAsked n m (session_of p) (session_of q)
@@ -47,8 +48,8 @@ shares_on outcomes.Model earlier steps s m d e h x = shares_moved m d e h x.move
 shares_on outcomes.Unsat earlier steps s m d e h x = tt
 shares_on outcomes.Failed earlier steps s m d e h x = shares_moved m d e h x.moved
 
-module _ {W : Type 0} (seen : W → Writer) (n m : Variables) (p q : Proof W) (c d : Search) where
-  ends_behind : Reaches seen n m p q c d → (r : Result Outcome SolverError) (z : Proof W) (e : Search) → GoesOr (IsFull e.parts) seen r q z (λ o steps. RoundSays o (steps_of q) steps (session_of z) d e) → EndsRound seen r n m p z c e
+module _ {W L : Type 0} {G : Ghosts L} (seen : W → Writer) (n m : Variables) (p q : Proof W L G) (c d : Search) where
+  ends_behind : Reaches seen n m p q c d → (r : Result Outcome SolverError) (z : Proof W L G) (e : Search) → GoesOr (IsFull e.parts) seen r q z (λ o steps. RoundSays o (steps_of q) steps (session_of z) d e) → EndsRound seen r n m p z c e
   ends_behind b (Ok o) z e g =
       let may : MayAll (g.steps ++ steps_of q) = subst MayAll g.went.history g.keeps in
       let quiet : DoesNothing m m (steps_of q) (steps_of z) = subst (DoesNothing m m (steps_of q)) (sym g.went.history) (nothing_behind m (steps_of q) g.steps b.does.stands may g.searched) in
@@ -64,11 +65,11 @@ module _ {W : Type 0} (seen : W → Writer) (n m : Variables) (p q : Proof W) (c
   ends_behind b (Err f) z e g = falls_later seen f p q z b.took (falls_goes seen f q z (λ _ _. ⊥) (goes_failing seen f q z (λ o steps. RoundSays o (steps_of q) steps (session_of z) d e) (λ (_ : Unit {0}) _. ⊥) g))
 
   -- behind a simplification, or nothing
-  pub ends_on : Passes seen n m p q c d → (r : Result Outcome SolverError) (z : Proof W) (e : Search) → GoesOr (IsFull e.parts) seen r q z (λ o steps. RoundSays o (steps_of q) steps (session_of z) d e) → EndsRound seen r n m p z c e
+  pub ends_on : Passes seen n m p q c d → (r : Result Outcome SolverError) (z : Proof W L G) (e : Search) → GoesOr (IsFull e.parts) seen r q z (λ o steps. RoundSays o (steps_of q) steps (session_of z) d e) → EndsRound seen r n m p z c e
   ends_on b = ends_behind (record { took = b.took; does = b.does; asked = b.asked; shares = b.together.shares; moved = b.moved; word = b.word })
 
   -- behind a clause that is false at level 0
-  pub ends_refuted : StandTogether n p c → (f : Conflict) → Refutes n m p q c d f → (r : Result Outcome SolverError) (z : Proof W) (e : Search) → GoesOr (IsFull e.parts) seen r q z (λ o steps. RoundSays o (steps_of q) steps (session_of z) d e) → EndsRound seen r n m p z c e
+  pub ends_refuted : StandTogether n p c → (f : Conflict) → Refutes n m p q c d f → (r : Result Outcome SolverError) (z : Proof W L G) (e : Search) → GoesOr (IsFull e.parts) seen r q z (λ o steps. RoundSays o (steps_of q) steps (session_of z) d e) → EndsRound seen r n m p z c e
   ends_refuted h f b = ends_behind reaches
     where
       here : Reaches seen n n p p c d

@@ -6,6 +6,7 @@ use Rattle.sat_base.specs.device.Device.{Writer}
 use Rattle.sat_base.specs.values.Literals.{variable, negated}
 use Rattle.sat_base.specs.steps.Steps.{FailedAssumptions}
 use Rattle.sat_store.specs.clause.Buffer.{IsClause, lits_at}
+use Rattle.sat_checker.specs.declared.processing.ProofProcessor.{Ghosts}
 use Rattle.sat_parts.specs.declared.prop.graph.Reason.TheVariants.{Long}
 use Rattle.sat_parts.specs.clause.Db.{live_refs}
 use Rattle.sat_parts.specs.prop.State.{State, node, lit_at}
@@ -97,7 +98,7 @@ module _ (p : Parts) (assumed : List ℕ) (failed : ℕ) (holds : Holds p) (fail
     pub cause_some : (k o : ℕ) → k < length used → (node (state p) (get_or used k 0)).reason ≡ Long o → 0 < length (lits_at p.clauses o)
     cause_some k o lt r = (stands k o lt r).1
 
-module _ {W : Type 0} (seen : W → Writer) (a b : Proof W) (c c' : Search) where
+module _ {W L : Type 0} {G : Ghosts L} (seen : W → Writer) (a b : Proof W L G) (c c' : Search) where
   -- no memory was left before anything was written
   pub tells_starved : Keeps a → TellsCore seen (Err errors.OutOfMemory) a a c c'
   tells_starved keeps = record { steps = []; went = adds_none seen a; core = tt; keeps = keeps; ends = tt }
@@ -106,7 +107,7 @@ module _ {W : Type 0} (seen : W → Writer) (a b : Proof W) (c c' : Search) wher
   pub tells_broken : (e : ProofError) (core hashes : List ℕ) → Keeps b → Records {T = Unit {0}} seen (Err e) (FailedAssumptions core hashes ∷ []) a b → TellsCore seen (Err (fault_of e)) a b c c'
   tells_broken (Write cause) core hashes keeps fails = record { steps = FailedAssumptions core hashes ∷ []; went = fails; core = (refl, tt); keeps = keeps; ends = tt }
   tells_broken OutOfMemory core hashes keeps adds = record { steps = []; went = adds; core = tt; keeps = keeps; ends = tt }
-  tells_broken (Check fault) core hashes keeps fails = record { steps = FailedAssumptions core hashes ∷ []; went = went_checked seen (Unit {0}) fault (FailedAssumptions core hashes ∷ []) a b fails; core = (refl, tt); keeps = keeps; ends = fault_checked seen _ fault }
+  tells_broken (Check fault) core hashes keeps fails = record { steps = FailedAssumptions core hashes ∷ []; went = went_checked seen (Unit {0}) fault (FailedAssumptions core hashes ∷ []) a b fails; core = (refl, tt); keeps = keeps; ends = fault_checked _ fault }
 
   -- what is told stands
   pub tells_core : Keeps b → (core : List ℕ) → core ≡ map (with_var (global_in c)) c'.analysis.core → (hashes : List ℕ) → hashes ≡ causes_hashes c.parts c'.analysis.used → Adds seen (FailedAssumptions core hashes ∷ []) a b →

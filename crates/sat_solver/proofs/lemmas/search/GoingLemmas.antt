@@ -3,6 +3,7 @@ use Rattle.std.proofs.Common.{ℕ, ◌≡◌, Result, Ok, Err, Option, List, [],
 use Rattle.std.specs.Prelude.{MatchResult}
 use Rattle.sat_base.specs.device.Device.{Writer}
 use Rattle.sat_base.specs.steps.Steps.{Step}
+use Rattle.sat_checker.specs.declared.processing.ProofProcessor.{Ghosts}
 use Rattle.sat_solver.specs.session.ProofView.{Adds, FailsCheck, Records, Keeps, steps_of, session_of}
 use Rattle.sat_solver.specs.session.Session.{session_after}
 use Rattle.sat_solver.specs.declared.session.made.CheckFault.{CheckFault}
@@ -46,47 +47,55 @@ fault_or full errors.Read h = absurd h
 fault_or full errors.Malformed h = absurd h
 fault_or full errors.OutOfRange h = absurd h
 
-module _ {W : Type 0} (seen : W → Writer) where
+pub fault_checked : (full : Type 0) (fault : CheckFault) → IsFaultOr full (check_fault_of fault)
+fault_checked full checks.OutOfMemory = tt
+fault_checked full checks.CounterEnd = tt
+fault_checked full (checks.Processor cause) = tt
+
+ends_with : {A : Type 0} (full : Type 0) (r : Result A SolverError) (P Q : A → Type 0) → ((x : A) → P x → Q x) → MatchResult r P (IsFaultOr full) → MatchResult r Q (IsFaultOr full)
+ends_with full (Ok x) P Q f h = f x h
+ends_with full (Err e) P Q f h = h
+
+ends_or : {A : Type 0} (full : Type 0) (r : Result A SolverError) (P : A → Type 0) → MatchResult r P IsFault → MatchResult r P (IsFaultOr full)
+ends_or full (Ok x) P h = h
+ends_or full (Err e) P h = fault_or full e h
+
+module _ {W L : Type 0} {G : Ghosts L} (seen : W → Writer) where
   -- nothing was written
-  pub goes_none : {A full : Type 0} (x : A) (p : Proof W) (P : A → List Step → Type 0) → Keeps p → P x [] → GoesOr full seen (Ok x) p p P
+  pub goes_none : {A full : Type 0} (x : A) (p : Proof W L G) (P : A → List Step → Type 0) → Keeps p → P x [] → GoesOr full seen (Ok x) p p P
   goes_none x p P keeps h = record { steps = []; went = adds_none seen p; searched = tt; keeps = keeps; ends = h }
 
   -- no memory was left before anything was written
-  pub goes_starved : {A full : Type 0} (p : Proof W) (P : A → List Step → Type 0) → Keeps p → GoesOr full seen (Err errors.OutOfMemory) p p P
+  pub goes_starved : {A full : Type 0} (p : Proof W L G) (P : A → List Step → Type 0) → Keeps p → GoesOr full seen (Err errors.OutOfMemory) p p P
   goes_starved p P keeps = record { steps = []; went = adds_none seen p; searched = tt; keeps = keeps; ends = tt }
 
   -- the clause buffer refused before anything was written
-  pub goes_unstored : {A full : Type 0} (s : StoreError) (p : Proof W) (P : A → List Step → Type 0) → Keeps p → (s ≡ stores.StoreFull → full) → GoesOr full seen (Err (failure_of s)) p p P
+  pub goes_unstored : {A full : Type 0} (s : StoreError) (p : Proof W L G) (P : A → List Step → Type 0) → Keeps p → (s ≡ stores.StoreFull → full) → GoesOr full seen (Err (failure_of s)) p p P
   goes_unstored stores.StoreFull p P keeps f = record { steps = []; went = adds_none seen p; searched = tt; keeps = keeps; ends = f refl }
   goes_unstored stores.OutOfMemory p P keeps f = record { steps = []; went = adds_none seen p; searched = tt; keeps = keeps; ends = tt }
 
   -- the checker failed
-  pub went_checked : (A : Type 0) (fault : CheckFault) (steps : List Step) (p q : Proof W) → FailsCheck seen steps p q → Went {A = A} seen (Err (check_fault_of fault)) steps p q
+  pub went_checked : (A : Type 0) (fault : CheckFault) (steps : List Step) (p q : Proof W L G) → FailsCheck seen fault steps p q → Went {A = A} seen (Err (check_fault_of fault)) steps p q
   went_checked A checks.OutOfMemory steps p q h = h.adds
   went_checked A checks.CounterEnd steps p q h = h
   went_checked A (checks.Processor cause) steps p q h = h
 
-  pub fault_checked : (full : Type 0) (fault : CheckFault) → IsFaultOr full (check_fault_of fault)
-  fault_checked full checks.OutOfMemory = tt
-  fault_checked full checks.CounterEnd = tt
-  fault_checked full (checks.Processor cause) = tt
-
   -- one step was written
-  pub goes_step : {A full : Type 0} (x : A) (p q : Proof W) (step : Step) (P : A → List Step → Type 0) → IsSearched (session_of p).solver_names step → Keeps q → Adds seen (step ∷ []) p q → P x (step ∷ []) → GoesOr full seen (Ok x) p q P
+  pub goes_step : {A full : Type 0} (x : A) (p q : Proof W L G) (step : Step) (P : A → List Step → Type 0) → IsSearched (session_of p).solver_names step → Keeps q → Adds seen (step ∷ []) p q → P x (step ∷ []) → GoesOr full seen (Ok x) p q P
   goes_step x p q step P s keeps adds h = record { steps = step ∷ []; went = adds; searched = (s, tt); keeps = keeps; ends = h }
 
   -- a step was made, and the target failed at it, or no memory was left for it
-  pub goes_broken : {A full : Type 0} (e : ProofError) (p q : Proof W) (step : Step) (P : A → List Step → Type 0) → IsSearched (session_of p).solver_names step → Keeps q → Records {T = Unit {0}} seen (Err e) (step ∷ []) p q → GoesOr full seen (Err (fault_of e)) p q P
+  pub goes_broken : {A full : Type 0} (e : ProofError) (p q : Proof W L G) (step : Step) (P : A → List Step → Type 0) → IsSearched (session_of p).solver_names step → Keeps q → Records {T = Unit {0}} seen (Err e) (step ∷ []) p q → GoesOr full seen (Err (fault_of e)) p q P
   goes_broken (Write cause) p q step P s keeps fails = record { steps = step ∷ []; went = fails; searched = (s, tt); keeps = keeps; ends = tt }
   goes_broken OutOfMemory p q step P s keeps adds = record { steps = []; went = adds; searched = tt; keeps = keeps; ends = tt }
   goes_broken {A = A} {full} (Check fault) p q step P s keeps fails = record { steps = step ∷ []; went = went_checked A fault (step ∷ []) p q fails; searched = (s, tt); keeps = keeps; ends = fault_checked full fault }
 
   -- a step was made, and then the clause buffer refused
-  pub goes_refused : {A full : Type 0} (s : StoreError) (p q : Proof W) (step : Step) (P : A → List Step → Type 0) → IsSearched (session_of p).solver_names step → Keeps q → Adds seen (step ∷ []) p q → (s ≡ stores.StoreFull → full) → GoesOr full seen (Err (failure_of s)) p q P
+  pub goes_refused : {A full : Type 0} (s : StoreError) (p q : Proof W L G) (step : Step) (P : A → List Step → Type 0) → IsSearched (session_of p).solver_names step → Keeps q → Adds seen (step ∷ []) p q → (s ≡ stores.StoreFull → full) → GoesOr full seen (Err (failure_of s)) p q P
   goes_refused stores.StoreFull p q step P s keeps adds f = record { steps = step ∷ []; went = adds; searched = (s, tt); keeps = keeps; ends = f refl }
   goes_refused stores.OutOfMemory p q step P s keeps adds f = record { steps = step ∷ []; went = adds; searched = (s, tt); keeps = keeps; ends = tt }
 
-  pub went_later : {A : Type 0} (r : Result A SolverError) (xs ys : List Step) (a b c : Proof W) → Adds seen xs a b → Went seen r ys b c → Went seen r (ys ++ xs) a c
+  pub went_later : {A : Type 0} (r : Result A SolverError) (xs ys : List Step) (a b c : Proof W L G) → Adds seen xs a b → Went seen r ys b c → Went seen r (ys ++ xs) a c
   went_later (Ok x) xs ys a b c h k = adds_more seen xs ys a b c h k
   went_later (Err (errors.ProofIoError cause)) xs ys a b c h k = fails_later seen xs ys a b c h k
   went_later (Err errors.Interrupted) xs ys a b c h k = adds_more seen xs ys a b c h k
@@ -104,16 +113,12 @@ module _ {W : Type 0} (seen : W → Writer) where
   went_later (Err errors.Malformed) xs ys a b c h k = adds_more seen xs ys a b c h k
   went_later (Err errors.OutOfRange) xs ys a b c h k = adds_more seen xs ys a b c h k
 
-  ends_with : {A : Type 0} (full : Type 0) (r : Result A SolverError) (P Q : A → Type 0) → ((x : A) → P x → Q x) → MatchResult r P (IsFaultOr full) → MatchResult r Q (IsFaultOr full)
-  ends_with full (Ok x) P Q f h = f x h
-  ends_with full (Err e) P Q f h = h
-
   -- what was answered says more
-  pub goes_map : {A full : Type 0} (r : Result A SolverError) (p q : Proof W) (P Q : A → List Step → Type 0) → ((x : A) (steps : List Step) → P x steps → Q x steps) → GoesOr full seen r p q P → GoesOr full seen r p q Q
+  pub goes_map : {A full : Type 0} (r : Result A SolverError) (p q : Proof W L G) (P Q : A → List Step → Type 0) → ((x : A) (steps : List Step) → P x steps → Q x steps) → GoesOr full seen r p q P → GoesOr full seen r p q Q
   goes_map {full} r p q P Q f h = record { steps = h.steps; went = h.went; searched = h.searched; keeps = h.keeps; ends = ends_with full r (λ x. P x h.steps) (λ x. Q x h.steps) (λ x. f x h.steps) h.ends }
 
   -- one call after another
-  pub goes_then : {A B full : Type 0} (x : A) (r : Result B SolverError) (a b c : Proof W) (P : A → List Step → Type 0) (Q R : B → List Step → Type 0) → Goes seen (Ok x) a b P → GoesOr full seen r b c Q →
+  pub goes_then : {A B full : Type 0} (x : A) (r : Result B SolverError) (a b c : Proof W L G) (P : A → List Step → Type 0) (Q R : B → List Step → Type 0) → Goes seen (Ok x) a b P → GoesOr full seen r b c Q →
       ((xs ys : List Step) (y : B) → P x xs → Q y ys → R y (ys ++ xs)) → GoesOr full seen r a c R
   goes_then {full} x r a b c P Q R h k f = record {
     steps = k.steps ++ h.steps;
@@ -123,7 +128,7 @@ module _ {W : Type 0} (seen : W → Writer) where
     ends = ends_with full r (λ y. Q y k.steps) (λ y. R y (k.steps ++ h.steps)) (λ y. f h.steps k.steps y h.ends) k.ends;
   }
 
-  went_failing : (A B : Type 0) (e : SolverError) (steps : List Step) (a b : Proof W) → Went {A = A} seen (Err e) steps a b → Went {A = B} seen (Err e) steps a b
+  went_failing : (A B : Type 0) (e : SolverError) (steps : List Step) (a b : Proof W L G) → Went {A = A} seen (Err e) steps a b → Went {A = B} seen (Err e) steps a b
   went_failing A B (errors.ProofIoError cause) steps a b h = h
   went_failing A B errors.Interrupted steps a b h = h
   went_failing A B (errors.ProofProcessorError cause) steps a b h = h
@@ -141,7 +146,7 @@ module _ {W : Type 0} (seen : W → Writer) where
   went_failing A B errors.OutOfRange steps a b h = h
 
   -- the same, where the second call's answer speaks of the steps before it
-  pub goes_behind : {A B full : Type 0} (x : A) (r : Result B SolverError) (a b c : Proof W) (P : A → List Step → Type 0) (Q R : B → List Step → Type 0) → Goes seen (Ok x) a b P → GoesOr full seen r b c Q →
+  pub goes_behind : {A B full : Type 0} (x : A) (r : Result B SolverError) (a b c : Proof W L G) (P : A → List Step → Type 0) (Q R : B → List Step → Type 0) → Goes seen (Ok x) a b P → GoesOr full seen r b c Q →
       ((xs ys : List Step) (y : B) → steps_of b ≡ xs ++ steps_of a → P x xs → Q y ys → R y (ys ++ xs)) → GoesOr full seen r a c R
   goes_behind {full} x r a b c P Q R h k f = record {
     steps = k.steps ++ h.steps;
@@ -152,7 +157,7 @@ module _ {W : Type 0} (seen : W → Writer) where
   }
 
   -- one call after another, which fails
-  pub goes_then_fails : {A B C full : Type 0} (x : A) (e : SolverError) (a b c : Proof W) (P : A → List Step → Type 0) (Q : B → List Step → Type 0) (R : C → List Step → Type 0) → Goes seen (Ok x) a b P → GoesOr full seen (Err e) b c Q → GoesOr full seen (Err e) a c R
+  pub goes_then_fails : {A B C full : Type 0} (x : A) (e : SolverError) (a b c : Proof W L G) (P : A → List Step → Type 0) (Q : B → List Step → Type 0) (R : C → List Step → Type 0) → Goes seen (Ok x) a b P → GoesOr full seen (Err e) b c Q → GoesOr full seen (Err e) a c R
   goes_then_fails {A = A} {B = B} {C = C} x e a b c P Q R h k = record {
     steps = k.steps ++ h.steps;
     went = went_later {A = C} (Err e) h.steps k.steps a b c h.went (went_failing B C e k.steps b c k.went);
@@ -162,21 +167,17 @@ module _ {W : Type 0} (seen : W → Writer) where
   }
 
   -- it went well, and something else is answered
-  pub goes_on : {A B f g : Type 0} (x : A) (y : B) (a b : Proof W) (P : A → List Step → Type 0) (Q : B → List Step → Type 0) → ((steps : List Step) → P x steps → Q y steps) → GoesOr f seen (Ok x) a b P → GoesOr g seen (Ok y) a b Q
+  pub goes_on : {A B f g : Type 0} (x : A) (y : B) (a b : Proof W L G) (P : A → List Step → Type 0) (Q : B → List Step → Type 0) → ((steps : List Step) → P x steps → Q y steps) → GoesOr f seen (Ok x) a b P → GoesOr g seen (Ok y) a b Q
   goes_on x y a b P Q f h = record { steps = h.steps; went = h.went; searched = h.searched; keeps = h.keeps; ends = f h.steps h.ends }
 
-  ends_or : {A : Type 0} (full : Type 0) (r : Result A SolverError) (P : A → Type 0) → MatchResult r P IsFault → MatchResult r P (IsFaultOr full)
-  ends_or full (Ok x) P h = h
-  ends_or full (Err e) P h = fault_or full e h
-
   -- what goes where no clause is stored goes where one is
-  pub goes_or : {A full : Type 0} (r : Result A SolverError) (a b : Proof W) (P : A → List Step → Type 0) → Goes seen r a b P → GoesOr full seen r a b P
+  pub goes_or : {A full : Type 0} (r : Result A SolverError) (a b : Proof W L G) (P : A → List Step → Type 0) → Goes seen r a b P → GoesOr full seen r a b P
   goes_or {full} r a b P h = record { steps = h.steps; went = h.went; searched = h.searched; keeps = h.keeps; ends = ends_or full r (λ x. P x h.steps) h.ends }
 
   -- it failed, and the fault is passed on
-  pub goes_failing : {A B full : Type 0} (e : SolverError) (a b : Proof W) (P : A → List Step → Type 0) (Q : B → List Step → Type 0) → GoesOr full seen (Err e) a b P → GoesOr full seen (Err e) a b Q
+  pub goes_failing : {A B full : Type 0} (e : SolverError) (a b : Proof W L G) (P : A → List Step → Type 0) (Q : B → List Step → Type 0) → GoesOr full seen (Err e) a b P → GoesOr full seen (Err e) a b Q
   goes_failing {A = A} {B = B} e a b P Q h = record { steps = h.steps; went = went_failing A B e h.steps a b h.went; searched = h.searched; keeps = h.keeps; ends = h.ends }
 
   -- no memory is left, or no room for a clause, behind a call that went well
-  pub goes_short : {A B : Type 0} (x : A) (e : SolverError) (a b : Proof W) (P : A → List Step → Type 0) (Q : B → List Step → Type 0) → ((steps : List Step) → Adds seen steps a b → Went {A = B} seen (Err e) steps a b) → IsFault e → Goes seen (Ok x) a b P → Goes seen (Err e) a b Q
+  pub goes_short : {A B : Type 0} (x : A) (e : SolverError) (a b : Proof W L G) (P : A → List Step → Type 0) (Q : B → List Step → Type 0) → ((steps : List Step) → Adds seen steps a b → Went {A = B} seen (Err e) steps a b) → IsFault e → Goes seen (Ok x) a b P → Goes seen (Err e) a b Q
   goes_short x e a b P Q w f h = record { steps = h.steps; went = w h.steps h.went; searched = h.searched; keeps = h.keeps; ends = f }

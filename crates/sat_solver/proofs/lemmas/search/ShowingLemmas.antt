@@ -8,6 +8,7 @@ use Rattle.sat_base.specs.values.Literals.{variable, is_positive, coded}
 use Rattle.sat_base.specs.steps.Steps.{Model}
 use Rattle.sat_checker.specs.LiteralSets.{is_among}
 use Rattle.sat_checker.specs.SortedSets.{NoRepeats}
+use Rattle.sat_checker.specs.declared.processing.ProofProcessor.{Ghosts}
 use Rattle.sat_solver.specs.session.LiveClauses.{with_var}
 use Rattle.sat_solver.specs.session.ProofView.{Adds, Keeps, Records, session_of}
 use Rattle.sat_solver.specs.session.Session.{Session, May}
@@ -123,7 +124,7 @@ complete_may s c search complete =
     model_may c.parts s (global_in c) (true_lits 0 c.parts.assignment.current) search.stands.fits (ready_names s c search.ready) search.stands.holds (are_true_lits c.parts.assignment.current) complete.all
     (is_modelled c.parts search.stands.holds complete.done complete.all)
 
-module _ {W : Type 0} (seen : W → Writer) (a b : Proof W) (c c' : Search) where
+module _ {W L : Type 0} {G : Ghosts L} (seen : W → Writer) (a b : Proof W L G) (c c' : Search) where
   -- no memory was left before anything was written
   pub model_starved : Keeps a → TellsModel seen (Err errors.OutOfMemory) a a c c'
   model_starved keeps = record { steps = []; went = adds_none seen a; model = tt; keeps = keeps; ends = tt }
@@ -132,7 +133,7 @@ module _ {W : Type 0} (seen : W → Writer) (a b : Proof W) (c c' : Search) wher
   pub model_broken : (e : ProofError) (ls : List ℕ) → Keeps b → Records {T = Unit {0}} seen (Err e) (Model ls ∷ []) a b → TellsModel seen (Err (fault_of e)) a b c c'
   model_broken (Write cause) ls keeps fails = record { steps = Model ls ∷ []; went = fails; model = (refl, tt); keeps = keeps; ends = tt }
   model_broken OutOfMemory ls keeps adds = record { steps = []; went = adds; model = tt; keeps = keeps; ends = tt }
-  model_broken (Check fault) ls keeps fails = record { steps = Model ls ∷ []; went = went_checked seen (Unit {0}) fault (Model ls ∷ []) a b fails; model = (refl, tt); keeps = keeps; ends = fault_checked seen _ fault }
+  model_broken (Check fault) ls keeps fails = record { steps = Model ls ∷ []; went = went_checked seen (Unit {0}) fault (Model ls ∷ []) a b fails; model = (refl, tt); keeps = keeps; ends = fault_checked _ fault }
 
   -- what is told stands
   pub model_told : Keeps b → (ls : List ℕ) → ls ≡ map (with_var (global_in c)) (true_lits 0 c.parts.assignment.current) → Adds seen (Model ls ∷ []) a b → IsSearch (session_of a) c →

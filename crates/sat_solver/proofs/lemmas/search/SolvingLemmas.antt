@@ -3,6 +3,7 @@ use Rattle.std.proofs.Common.{ℕ, ◌+◌, ◌<◌, ◌≤◌, ◌≡◌, ◌�
 use Rattle.std.specs.Prelude.{OnOk, IfOk, IfErr, MatchOption, Option, None, Some}
 use Rattle.sat_base.specs.device.Device.{Writer}
 use Rattle.sat_base.specs.steps.Steps.{Step}
+use Rattle.sat_checker.specs.declared.processing.ProofProcessor.{Ghosts}
 use Rattle.sat_parts.specs.prop.TrailWord.{Letter}
 use Rattle.sat_solver.specs.session.ProofView.{Adds, steps_of, session_of}
 use Rattle.sat_solver.specs.session.Session.{Session, session_after}
@@ -62,7 +63,7 @@ words_stay am p p' stay w x = (_, record { gone = x.gone; distinct = x.distinct;
 words_moved : (p : Parts) (a b : Search) → Moved a b → (v : List Letter) → Words (assumed_in a) p v → Words (assumed_in b) p v
 words_moved p a b m v x = subst (λ ls. Words (variables ls.items) p v) (sym m.lits) x
 
-pub core_word : {W : Type 0} (c : Core W) → Words (assumed_in c.search) c.search.parts (standing c.search.parts.trail)
+pub core_word : {W L : Type 0} {G : Ghosts L} (c : Core W L G) → Words (assumed_in c.search) c.search.parts (standing c.search.parts.trail)
 core_word c = word_begins (assumed_in c.search) c.search.parts
 
 -- decisions were undone
@@ -88,8 +89,8 @@ pub some_map : {T : Type 0} (r : Option T) (P Q : T → Type 0) → ((x : T) →
 some_map None P Q f h = tt
 some_map (Some x) P Q f h = f x h
 
-module _ {W : Type 0} (seen : W → Writer) where
-  pub gone_none : (a : Core W) (n : Variables) → Stands n (steps_of a.proof) → Gone seen a n 0 a n
+module _ {W L : Type 0} {G : Ghosts L} (seen : W → Writer) where
+  pub gone_none : (a : Core W L G) (n : Variables) → Stands n (steps_of a.proof) → Gone seen a n 0 a n
   gone_none a n stands = record {
     steps = [];
     adds = adds_none seen a.proof;
@@ -100,9 +101,9 @@ module _ {W : Type 0} (seen : W → Writer) where
     times = refl;
   }
 
-  module _ (a b : Core W) (na nb : Variables) (config : b.config ≡ a.config) where
+  module _ (a b : Core W L G) (na nb : Variables) (config : b.config ≡ a.config) where
     gone_on : (ys : List Step) → Adds seen ys a.proof b.proof → DoesNothing na nb (steps_of a.proof) (steps_of b.proof) → KeepsAsked na nb (session_of a.proof) (session_of b.proof) → Moved a.search b.search →
-        (s : Core W) (n : Variables) (j k : ℕ) → (g : Gone seen s n k a na) → AdvanceTimes (steps_of s.proof) (ys ++ g.steps) j → Gone seen s n j b nb
+        (s : Core W L G) (n : Variables) (j k : ℕ) → (g : Gone seen s n k a na) → AdvanceTimes (steps_of s.proof) (ys ++ g.steps) j → Gone seen s n j b nb
     gone_on ys adds does asked moved s n j k g times = record {
       steps = ys ++ g.steps;
       adds = adds_more seen g.steps ys s.proof a.proof b.proof g.adds adds;
@@ -114,12 +115,12 @@ module _ {W : Type 0} (seen : W → Writer) where
     }
 
     -- a fault behind what went well
-    falls : (e : SolverError) → FallsOr (IsFull b.search.parts) seen e a.proof b.proof → (s : Core W) (n : Variables) (k : ℕ) → Gone seen s n k a na → Broke seen s e b
+    falls : (e : SolverError) → FallsOr (IsFull b.search.parts) seen e a.proof b.proof → (s : Core W L G) (n : Variables) (k : ℕ) → Gone seen s n k a na → Broke seen s e b
     falls e f s n k gone = falls_later seen e s.proof a.proof b.proof (gone.steps, gone.adds) f
 
   -- REDUCTIONS
 
-  module _ (a b : Core W) (n : Variables) (config : b.config ≡ a.config) (joined : IsJoined n a) where
+  module _ (a b : Core W L G) (n : Variables) (config : b.config ≡ a.config) (joined : IsJoined n a) where
     abbrev Reduction : Result (Unit {0}) SolverError → Type 0
     Reduction r = Goes seen r a.proof b.proof (λ _ _. Reduced (session_of b.proof) a.search b.search)
 
@@ -131,19 +132,19 @@ module _ {W : Type 0} (seen : W → Writer) where
     reduced_words (Ok x) g = λ w h. (let y = g.ends.word.1 w h in (y.0, (rw g.ends.moved.lits y.1.0, y.1.1)))
     reduced_words (Err e) g = tt
 
-    pub reduced_goes : (r : Result (Unit {0}) SolverError) → Reduction r → OnOk r ((s : Core W) (m : Variables) (k : ℕ) → Gone seen s m k a n → Gone seen s m k b n)
+    pub reduced_goes : (r : Result (Unit {0}) SolverError) → Reduction r → OnOk r ((s : Core W L G) (m : Variables) (k : ℕ) → Gone seen s m k a n → Gone seen s m k b n)
     reduced_goes (Ok x) g = λ s m k gone.
         (let p : Passes seen n n a.proof b.proof a.search b.search = passes_goes seen x n a.proof b.proof a.search b.search (λ _ _. Reduced (session_of b.proof) a.search b.search) joined.stands joined.shares g g.ends.search g.ends.moved g.ends.word in
         gone_on a b n n config g.steps g.went p.does p.asked g.ends.moved s m k k gone (skip_all (steps_of s.proof) gone.steps g.steps k gone.times))
     reduced_goes (Err e) g = tt
 
-    pub reduced_fails : (r : Result (Unit {0}) SolverError) → Reduction r → IfErr r (λ e. (s : Core W) (m : Variables) (k : ℕ) → Gone seen s m k a n → Broke seen s e b)
+    pub reduced_fails : (r : Result (Unit {0}) SolverError) → Reduction r → IfErr r (λ e. (s : Core W L G) (m : Variables) (k : ℕ) → Gone seen s m k a n → Broke seen s e b)
     reduced_fails (Ok x) g = tt
     reduced_fails (Err e) g = λ s m k gone. falls a b n n config e (falls_or seen (IsFull b.search.parts) e a.proof b.proof (falls_goes seen e a.proof b.proof (λ _ _. Reduced (session_of b.proof) a.search b.search) g)) s m k gone
 
   -- ROUNDS
 
-  module _ (a b : Core W) (na nb : Variables) (config : b.config ≡ a.config) (joined : IsJoined na a) where
+  module _ (a b : Core W L G) (na nb : Variables) (config : b.config ≡ a.config) (joined : IsJoined na a) where
     abbrev Round : Result Outcome SolverError → Type 0
     Round r = EndsRound seen r na nb a.proof b.proof a.search b.search
 
@@ -175,14 +176,14 @@ module _ {W : Type 0} (seen : W → Writer) where
         (y.0, (words_moved b.search.parts a.search b.search l.moved y.0 y.1.0, y.1.1, omega (arith, fits, l.moved.size))))
     round_words (Err e) g = tt
 
-    pub round_goes : (r : Result Outcome SolverError) → Round r → IfOk r (λ o. o ≡ outcomes.Learned → (s : Core W) (n : Variables) (k : ℕ) → Gone seen s n k a na → Gone seen s n (k + 1) b nb)
+    pub round_goes : (r : Result Outcome SolverError) → Round r → IfOk r (λ o. o ≡ outcomes.Learned → (s : Core W L G) (n : Variables) (k : ℕ) → Gone seen s n k a na → Gone seen s n (k + 1) b nb)
     round_goes (Ok o) g = λ e s n k gone.
         (let l : RoundLearns (steps_of a.proof) g.steps (session_of b.proof) a.search b.search = learns o g.steps e g.says in
         gone_on a b na nb config g.steps g.adds g.does g.asked l.moved s n (k + 1) k gone
         (one_times (steps_of s.proof) gone.steps g.steps k (subst (λ zs. LastAdvances zs g.steps) gone.adds.history l.last) gone.times))
     round_goes (Err e) g = tt
 
-    behind : (s : Core W) (steps before : List Step) → steps_of b.proof ≡ steps ++ steps_of a.proof → steps_of a.proof ≡ before ++ steps_of s.proof → steps_of b.proof ≡ (steps ++ before) ++ steps_of s.proof
+    behind : (s : Core W L G) (steps before : List Step) → steps_of b.proof ≡ steps ++ steps_of a.proof → steps_of a.proof ≡ before ++ steps_of s.proof → steps_of b.proof ≡ (steps ++ before) ++ steps_of s.proof
     behind s steps before e f = e ∙ ap (λ ss. steps ++ ss) f ∙ sym (append_assoc steps before (steps_of s.proof))
 
     end_says : (o : Outcome) (earlier steps : List Step) (s : Session) (c : Search) → o ≢ outcomes.Learned → Moved c a.search → RoundSays o earlier steps s a.search b.search → RoundShares o nb b.search → EndSays o s nb c b.search
@@ -192,7 +193,7 @@ module _ {W : Type 0} (seen : W → Writer) where
     end_says outcomes.Failed earlier steps s c n m x shares = (record { search = x.search; moved = moved_trans c a.search b.search m x.moved; failing = x.failing }, shares)
 
     end_comes : (o : Outcome) (steps : List Step) → o ≢ outcomes.Learned → steps_of b.proof ≡ steps ++ steps_of a.proof → RoundSays o (steps_of a.proof) steps (session_of b.proof) a.search b.search →
-        (s : Core W) (before : List Step) → steps_of a.proof ≡ before ++ steps_of s.proof → Comes EndsAtUnsat (steps_of s.proof) (steps_of b.proof)
+        (s : Core W L G) (before : List Step) → steps_of a.proof ≡ before ++ steps_of s.proof → Comes EndsAtUnsat (steps_of s.proof) (steps_of b.proof)
     end_comes outcomes.Learned steps n e x s before f = absurd (n refl)
     end_comes outcomes.Model steps n e x s before f = comes_open (steps_of s.proof) (steps_of b.proof) (steps ++ before) (behind s steps before e f) x.search.stands.fits.consistent
     end_comes outcomes.Failed steps n e x s before f = comes_open (steps_of s.proof) (steps_of b.proof) (steps ++ before) (behind s steps before e f) x.search.stands.fits.consistent
@@ -200,7 +201,7 @@ module _ {W : Type 0} (seen : W → Writer) where
         comes_last (steps_of s.proof) (x.rest ++ steps_of a.proof) (steps_of b.proof) (x.rest ++ before) x.last (ap (λ ss. x.rest ++ ss) f ∙ sym (append_assoc x.rest before (steps_of s.proof))) x.before
         (e ∙ ap (λ ss. ss ++ steps_of a.proof) x.is)
 
-    pub round_ends : (r : Result Outcome SolverError) → Round r → IfOk r (λ o. o ≢ outcomes.Learned → (s : Core W) (n : Variables) (k : ℕ) → Gone seen s n k a na → Ended seen s n o b nb)
+    pub round_ends : (r : Result Outcome SolverError) → Round r → IfOk r (λ o. o ≢ outcomes.Learned → (s : Core W L G) (n : Variables) (k : ℕ) → Gone seen s n k a na → Ended seen s n o b nb)
     round_ends (Ok o) g = λ not s n k gone. record {
       steps = g.steps ++ gone.steps;
       adds = adds_more seen gone.steps g.steps s.proof a.proof b.proof gone.adds g.adds;
@@ -213,6 +214,6 @@ module _ {W : Type 0} (seen : W → Writer) where
     }
     round_ends (Err e) g = tt
 
-    pub round_fails : (r : Result Outcome SolverError) → Round r → IfErr r (λ e. (s : Core W) (n : Variables) (k : ℕ) → Gone seen s n k a na → Broke seen s e b)
+    pub round_fails : (r : Result Outcome SolverError) → Round r → IfErr r (λ e. (s : Core W L G) (n : Variables) (k : ℕ) → Gone seen s n k a na → Broke seen s e b)
     round_fails (Ok o) g = tt
     round_fails (Err e) g = λ s n k gone. falls a b na nb config e g s n k gone

@@ -3,6 +3,7 @@ use Rattle.std.proofs.Common.{ℕ, ◌≡◌, Bool, true, false, Option, None, S
 use Rattle.std.proofs.lemmas.Bool.{true≢false}
 use Rattle.sat_base.specs.device.Device.{Writer}
 use Rattle.sat_base.specs.steps.Steps.{Step}
+use Rattle.sat_checker.specs.declared.processing.ProofProcessor.{Ghosts}
 use Rattle.sat_solver.specs.session.Counting.{Cuts, none_made, ask_begun, one_made}
 use Rattle.sat_solver.specs.session.ProofView.{Target, Closed, Open, Broken, target_in, target_of, is_open, has_asked, Adds, Carries, Flushes}
 use Rattle.sat_solver.specs.declared.session.counting.Counting.{Counting}
@@ -26,8 +27,8 @@ carries_noted Closed b steps k n = subst IsNoted (sym k) tt
 carries_noted (Open f c s) b steps k n = subst IsNoted (sym k.2) (cuts_noted k.3.cuts n)
 carries_noted (Broken w) b steps k n = subst IsNoted (sym k) tt
 
-module _ {W : Type 0} (seen : W → Writer) where
-  noted : (p : Proof W) → has_asked p ≡ true → IsNoted (target_of seen p)
+module _ {W L : Type 0} {G : Ghosts L} (seen : W → Writer) where
+  noted : (p : Proof W L G) → has_asked p ≡ true → IsNoted (target_of seen p)
   noted p e = go p.output p.broken
     where
       go : (o : Option (Output W)) (b : Bool) → IsNoted (target_in seen o b p.counting)
@@ -35,7 +36,7 @@ module _ {W : Type 0} (seen : W → Writer) where
       go (Some o) false = e
       go (Some o) true = tt
 
-  asked : (p : Proof W) → IsNoted (target_of seen p) → is_open (target_of seen p) ≡ true → has_asked p ≡ true
+  asked : (p : Proof W L G) → IsNoted (target_of seen p) → is_open (target_of seen p) ≡ true → has_asked p ≡ true
   asked p = go p.output p.broken
     where
       go : (o : Option (Output W)) (b : Bool) → IsNoted (target_in seen o b p.counting) → is_open (target_in seen o b p.counting) ≡ true → has_asked p ≡ true
@@ -44,7 +45,7 @@ module _ {W : Type 0} (seen : W → Writer) where
       go (Some o) true n e = absurd (true≢false (sym e))
 
   -- steps, and then a flush
-  pub asked_flushed : (steps : List Step) (p q r : Proof W) → has_asked p ≡ true → Adds seen steps p q → Flushes seen q r → is_open (target_of seen r) ≡ true → has_asked r ≡ true
+  pub asked_flushed : (steps : List Step) (p q r : Proof W L G) → has_asked p ≡ true → Adds seen steps p q → Flushes seen q r → is_open (target_of seen r) ≡ true → has_asked r ≡ true
   asked_flushed steps p q r e adds f =
       asked r (carries_noted (target_of seen q) (target_of seen r) [] (flushed_carries (target_of seen q) (target_of seen r) f.target)
       (carries_noted (target_of seen p) (target_of seen q) steps adds.target (noted p e)))

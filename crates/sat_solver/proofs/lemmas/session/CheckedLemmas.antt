@@ -1,85 +1,40 @@
 -- A solver's own checker takes what may be made.
-use Rattle.std.proofs.Common.{ℕ, ◌≡◌, ◌∙◌, Bool, true, false, not, ◌||◌, Option, None, Some, List, [], ◌∷◌, Result, Ok, Err, refl, sym, ap, subst}
+use Rattle.std.proofs.Common.{ℕ, ◌≡◌, ◌∙◌, ◌⊎◌, inl, inr, Bool, true, false, not, ◌||◌, Option, None, Some, List, [], ◌∷◌, ◌++◌, Result, Ok, Err, refl, sym, ap, subst}
 use Rattle.std.proofs.lemmas.Bool.{true≢false}
 use Rattle.std.proofs.Math.Logic.{∥∥₁_elim, ∥∥₁_prop}
+use Rattle.anyhow.specs.declared.error.Error.{Error}
 use Rattle.sat_base.specs.steps.Steps.{Step, ChangeHashBits}
-use Rattle.sat_checker.specs.CheckerView.{kernel_of}
-use Rattle.sat_checker.specs.KernelView.{Stands, IsSettled, has_failed}
+use Rattle.sat_checker.specs.CheckerView.{Stands, ChecksDelayed, AddsListener, kernel_of, seen_of}
+use Rattle.sat_checker.specs.KernelView.{IsSettled, has_failed}
+use Rattle.sat_checker.specs.KernelView as kernels
+use Rattle.sat_checker.specs.announcements.Announcements.{Told}
+use Rattle.sat_checker.specs.telling.Hearing.{HearsSince, HearsAll, told_by}
+use Rattle.sat_checker.specs.telling.Telling.{Listeners}
 use Rattle.sat_checker.specs.declared.kernel.Kernel.{Kernel}
+use Rattle.sat_checker.specs.telling.ProcessingView.{listeners_of}
 use Rattle.sat_checker.specs.declared.error.CheckerError.{CheckerError}
 use Rattle.sat_checker.specs.declared.error.CheckerError.TheVariants as errors
-use Rattle.sat_solver.specs.session.Checked.{is_end, unended, has_begun, FedUnless, IsFed, IsCause, OrCause, TakesStep, TakesWidth, TakesDelayed, FeedsCut}
+use Rattle.sat_checker.specs.declared.processing.Nobody.{Nobody}
+use Rattle.sat_checker.specs.declared.processing.Processing.{Processing}
+use Rattle.sat_checker.specs.declared.processing.ProofProcessor.{Ghosts}
+use Rattle.sat_solver.specs.declared.session.made.CheckFault.{CheckFault}
+use Rattle.sat_solver.specs.declared.session.made.CheckFault.TheVariants as checks
+use Rattle.sat_solver.specs.session.Checked.{is_end, unended, has_begun, who_listens, Listened, FedUnless, IsFed, Heard, Failed, IsCause, cause_in, OrCause, TakesStep, TakesWidth, TakesDelayed, Feeds, FeedsCut, TakesIn, BeginsAnew}
 use Rattle.sat_solver.specs.session.Due.{kept_if}
-use Rattle.sat_solver.specs.session.Feeding.{TakesOrFails, Feeds}
+use Rattle.sat_solver.specs.session.Listening.{AreListed, Hears, HeardAll, HasHeard, FailedOf}
+use Rattle.sat_solver.specs.session.MadeView.{audience, listed_in, Handed, HandedIn, IsHanded, ListedAnew}
+use Rattle.sat_solver.specs.declared.session.made.Made.{Made}
 use Rattle.sat_solver.specs.session.Session.{MayAll}
 use Rattle.sat_solver.specs.session.Widths.{KeepsWidth, narrowed, IsWritten, none_yet, width_changes, one_more}
 use Rattle.sat_solver.specs.declared.session.checked.Checked.{Checked}
 use Rattle.sat_solver.proofs.lemmas.session.EndedLemmas.{unended_may}
+use Rattle.sat_solver.proofs.lemmas.session.HearingLemmas.{answered_delayed, has_heard, heard_all, none_told, widths_quiet}
 use Rattle.sat_solver.proofs.lemmas.session.Narrowing.{widths_are_free}
 
--- nothing was taken yet
-pub fed_first : {P : Type 0} (own : Checked P) → own.bits ≡ 64 → Stands (kernel_of own.checker) [] → has_failed (kernel_of own.checker) ≡ false → IsFed own []
-fed_first own e s g = record { written = []; cut = subst (IsWritten [] []) (sym e) none_yet; stands = s; going = g }
-
--- an answer to a step that may be written
-cause_or : (r : Result (Unit {0}) CheckerError) (old new : Kernel) (step : Step) (steps : List Step) (F : Type 0) → has_failed old ≡ false → TakesOrFails r old new step steps → (Stands new (step ∷ steps) → has_failed new ≡ false → F) → OrCause r F
-cause_or (Ok x) old new step steps F g t f = f t.0 t.1
-cause_or (Err errors.OutOfMemory) old new step steps F g t f = tt
-cause_or (Err errors.CounterEnd) old new step steps F g t f = tt
-cause_or (Err (errors.ProofProcessorError cause)) old new step steps F g t f = tt
-cause_or (Err errors.CheckFailed) old new step steps F g t f = t
-cause_or (Err errors.HasFailed) old new step steps F g t f = absurd (true≢false (sym t ∙ g))
-cause_or (Err errors.ProofIncomplete) old new step steps F g t f = t
-cause_or (Err errors.IoError) old new step steps F g t f = t
-cause_or (Err errors.ParseError) old new step steps F g t f = t
-
 -- what comes of an answer, where more comes of it
-pub cause_map : (r : Result (Unit {0}) CheckerError) (F G : Type 0) → (F → G) → OrCause r F → OrCause r G
-cause_map (Ok x) F G f h = f h
-cause_map (Err e) F G f h = h
-
-module _ {P : Type 0} (r : Result (Unit {0}) CheckerError) (old new : Checked P) where
-  -- a width was told
-  pub width_fed : (bits : ℕ) → new.bits ≡ bits → Feeds r (kernel_of old.checker) (ChangeHashBits bits) (kernel_of new.checker) → TakesWidth r old new
-  width_fed bits e feeds steps may fed =
-      cause_or r (kernel_of old.checker) (kernel_of new.checker) (ChangeHashBits bits) fed.written (IsFed new steps) fed.going
-      (feeds fed.written fed.stands ((widths_are_free (unended steps) fed.written old.bits fed.cut (unended_may steps may)).may, tt))
-      (λ s g. record { written = ChangeHashBits bits ∷ fed.written; cut = subst (IsWritten (unended steps) (ChangeHashBits bits ∷ fed.written)) (sym e) (width_changes bits fed.cut); stands = s; going = g })
-
-  -- a step was fed with its hashes cut
-  pub cut_fed : (step cut : Step) → cut ≡ narrowed old.bits step → Feeds r (kernel_of old.checker) cut (kernel_of new.checker) → FeedsCut r old step new
-  cut_fed step cut e feeds written s g may =
-      subst (λ x. OrCause r (Stands (kernel_of new.checker) (x ∷ written) × (has_failed (kernel_of new.checker) ≡ false))) e
-      (cause_or r (kernel_of old.checker) (kernel_of new.checker) cut written (Stands (kernel_of new.checker) (cut ∷ written) × (has_failed (kernel_of new.checker) ≡ false)) g
-      (feeds written s (subst (λ x. MayAll (x ∷ written)) (sym e) may)) (λ t h. (t, h)))
-
-module _ {P : Type 0} (old : Checked P) (step : Step) where
-  -- a step was taken at its width
-  pub step_fed : (r : Result (Unit {0}) CheckerError) (mid new : Checked P) → is_end step ≡ false → KeepsWidth step → TakesWidth (Ok tt) old mid → new.bits ≡ mid.bits → FeedsCut r mid step new → TakesStep r old step new
-  step_fed r mid new e k told same feeds steps may fed = cause_map r Fed (IsFed new (step ∷ steps)) by (feeds f.written f.stands f.going (widths_are_free (step ∷ unended steps) (narrowed mid.bits step ∷ f.written) mid.bits cut allowed).may)
-    where
-      f : IsFed mid steps
-      f = told steps may.0 fed
-
-      kept : unended (step ∷ steps) ≡ step ∷ unended steps
-      kept = ap (λ b. kept_if (not b) step (unended steps)) e
-
-      cut : IsWritten (step ∷ unended steps) (narrowed mid.bits step ∷ f.written) mid.bits
-      cut = one_more step k f.cut
-
-      allowed : MayAll (step ∷ unended steps)
-      allowed = subst MayAll kept (unended_may (step ∷ steps) may)
-
-      Fed : Type 0
-      Fed = Stands (kernel_of new.checker) (narrowed mid.bits step ∷ f.written) × (has_failed (kernel_of new.checker) ≡ false)
-
-      by : Fed → IsFed new (step ∷ steps)
-      by h = record {
-        written = narrowed mid.bits step ∷ f.written;
-        cut = subst (λ x. IsWritten x (narrowed mid.bits step ∷ f.written) new.bits) (sym kept) (subst (IsWritten (step ∷ unended steps) (narrowed mid.bits step ∷ f.written)) (sym same) cut);
-        stands = h.0;
-        going = h.1;
-      }
+pub cause_map : (r : Result (Unit {0}) CheckerError) (F G : Type 0) (P Q : CheckFault → Type 0) → (F → G) → ((fault : CheckFault) → P fault → Q fault) → OrCause r F P → OrCause r G Q
+cause_map (Ok x) F G P Q f g h = f h
+cause_map (Err e) F G P Q f g h = (h.0, g (cause_in e) h.1)
 
 ended_next : (step : Step) (steps : List Step) → (has_begun steps ≡ false → unended steps ≡ []) → has_begun (step ∷ steps) ≡ false → unended (step ∷ steps) ≡ []
 ended_next step steps rest e = go (is_end step) refl
@@ -93,9 +48,181 @@ unended_none : (steps : List Step) → has_begun steps ≡ false → unended ste
 unended_none [] e = refl
 unended_none (step ∷ steps) e = ended_next step steps (unended_none steps) e
 
--- one that has taken nothing stands behind them
-pub fed_ended : {P : Type 0} (own : Checked P) (steps : List Step) → has_begun steps ≡ false → IsFed own [] → IsFed own steps
-fed_ended own steps e fed = record { written = fed.written; cut = subst (λ x. IsWritten x fed.written own.bits) (sym (unended_none steps e)) fed.cut; stands = fed.stands; going = fed.going }
+module _ {L : Type 0} (takes : L → Told → Result Unit Error → L → Type 0) where
+  -- nothing was taken yet, and these listen
+  pub fed_first : (own : Checked L) (added : List L) → own.bits ≡ 64 → kernels.Stands (kernel_of own.checker) [] → has_failed (kernel_of own.checker) ≡ false → kernels.IsSettled (kernel_of own.checker) → AreListed added (who_listens own) → IsFed takes own added []
+  fed_first own added e s g settled listed = record {
+    written = [];
+    cut = subst (IsWritten [] []) (sym e) none_yet;
+    begun = who_listens own;
+    were = listed;
+    stands = record { kernel = s; heard = λ f. rw settled ([], refl, refl) };
+    going = g;
+  }
+
+  -- one that has taken nothing stands behind ends of proofs
+  pub fed_ended : (own : Checked L) (added : List L) (steps : List Step) → has_begun steps ≡ false → IsFed takes own added [] → IsFed takes own added steps
+  fed_ended own added steps e fed = record { written = fed.written; cut = subst (λ x. IsWritten x fed.written own.bits) (sym (unended_none steps e)) fed.cut; begun = fed.begun; were = fed.were; stands = fed.stands; going = fed.going }
+
+  -- those who listen have heard what it told
+  pub fed_heard : (own : Checked L) (added : List L) (steps : List Step) → IsFed takes own added steps → Heard takes added (listeners_of (who_listens own)) steps
+  fed_heard own added steps fed = record {
+    later = [];
+    taken = steps;
+    all = refl;
+    written = fed.written;
+    bits = own.bits;
+    cut = fed.cut;
+    begun = fed.begun;
+    were = fed.were;
+    heard = (who_listens own, refl, inl (heard_all takes fed.begun (who_listens own) fed.written own.checker.kernel.state.formula.status.conflict (fed.stands.heard fed.going)));
+  }
+
+  -- so they have where it failed
+  pub failed_heard : (added : List L) (now : Listeners L Nobody) (steps : List Step) (fault : CheckFault) → Failed takes added now steps fault → Heard takes added now steps
+  failed_heard added now steps fault f = record { later = f.later; taken = f.taken; all = f.all; written = f.written; bits = f.bits; cut = f.cut; begun = f.begun; were = f.were; heard = (f.heard.0, f.heard.1, has_heard takes f.begun f.heard.0 f.written fault f.heard.2) }
+
+  -- a step more that it wasn't given
+  pub heard_later : (added : List L) (now : Listeners L Nobody) (step : Step) (steps : List Step) → Heard takes added now steps → Heard takes added now (step ∷ steps)
+  heard_later added now step steps h = record { later = step ∷ h.later; taken = h.taken; all = ap (λ xs. step ∷ xs) h.all; written = h.written; bits = h.bits; cut = h.cut; begun = h.begun; were = h.were; heard = h.heard }
+
+  failed_later : (added : List L) (now : Listeners L Nobody) (step : Step) (steps : List Step) (fault : CheckFault) → Failed takes added now steps fault → Failed takes added now (step ∷ steps) fault
+  failed_later added now step steps fault h = record { later = step ∷ h.later; taken = h.taken; all = ap (λ xs. step ∷ xs) h.all; written = h.written; bits = h.bits; cut = h.cut; begun = h.begun; were = h.were; heard = h.heard }
+
+  module _ (r : Result (Unit {0}) CheckerError) (old new : Checked L) where
+    -- a width was told
+    pub width_fed : (bits : ℕ) → new.bits ≡ bits → Feeds takes r (seen_of old.checker) (ChangeHashBits bits) (seen_of new.checker) → TakesWidth takes r old new
+    width_fed bits e feeds added steps may fed =
+        cause_map r _ (IsFed takes new added steps) _ (Failed takes added (listeners_of (who_listens new)) steps)
+        (λ s. record { written = ChangeHashBits bits ∷ fed.written; cut = subst (IsWritten (unended steps) (ChangeHashBits bits ∷ fed.written)) (sym e) changed; begun = fed.begun; were = fed.were; stands = s.0; going = s.1 })
+        failed
+        (feeds fed.begun fed.written fed.stands fed.going ((widths_are_free (unended steps) fed.written old.bits fed.cut (unended_may steps may)).may, tt))
+      where
+        changed : IsWritten (unended steps) (ChangeHashBits bits ∷ fed.written) bits
+        changed = width_changes bits fed.cut
+
+        failed : (fault : CheckFault) → FailedOf takes fed.begun (who_listens new) fed.written fault ⊎ FailedOf takes fed.begun (who_listens new) (ChangeHashBits bits ∷ fed.written) fault → Failed takes added (listeners_of (who_listens new)) steps fault
+        failed fault (inl h) = record { later = []; taken = steps; all = refl; written = fed.written; bits = old.bits; cut = fed.cut; begun = fed.begun; were = fed.were; heard = (who_listens new, refl, h) }
+        failed fault (inr h) = record { later = []; taken = steps; all = refl; written = ChangeHashBits bits ∷ fed.written; bits = bits; cut = changed; begun = fed.begun; were = fed.were; heard = (who_listens new, refl, h) }
+
+    -- a step was fed with its hashes cut
+    pub cut_fed : (step cut : Step) → cut ≡ narrowed old.bits step → Feeds takes r (seen_of old.checker) cut (seen_of new.checker) → FeedsCut takes r old step new
+    cut_fed step cut e feeds = subst (λ x. Feeds takes r (seen_of old.checker) x (seen_of new.checker)) e feeds
+
+    -- what waited was told
+    pub delayed_fed : new.bits ≡ old.bits → ChecksDelayed (Hears takes) r (seen_of old.checker) (seen_of new.checker) → TakesDelayed takes r old new
+    delayed_fed e tells added steps fed =
+        cause_map r _ _ _ _
+        (λ s. (record { written = fed.written; cut = subst (IsWritten (unended steps) fed.written) (sym e) fed.cut; begun = fed.begun; were = fed.were; stands = s.0; going = s.1 }, s.2))
+        (λ fault h. record { later = []; taken = steps; all = refl; written = fed.written; bits = old.bits; cut = fed.cut; begun = fed.begun; were = fed.were; heard = (who_listens new, refl, h) })
+        (answered_delayed takes fed.begun (seen_of old.checker) (seen_of new.checker) fed.written fed.going r (tells [] fed.begun fed.written fed.stands))
+
+  -- no memory is left for a step's hashes
+  pub starved_fed : (old : Checked L) (step : Step) (new : Checked L) → who_listens new ≡ who_listens old → FeedsCut takes (Err errors.OutOfMemory) old step new
+  starved_fed old step new same begun written s g may =
+      (tt, inl (inl (subst (λ now. HeardAll takes begun now written) (sym same) (heard_all takes begun (who_listens old) written old.checker.kernel.state.formula.status.conflict (s.heard g)))))
+
+  module _ (old : Checked L) (step : Step) where
+    -- a step was taken at its width
+    pub step_fed : (r : Result (Unit {0}) CheckerError) (mid new : Checked L) → is_end step ≡ false → KeepsWidth step → TakesWidth takes (Ok tt) old mid → new.bits ≡ mid.bits → FeedsCut takes r mid step new → TakesStep takes r old step new
+    step_fed r mid new e k told same feeds added steps may fed =
+        cause_map r Fed (IsFed takes new added (step ∷ steps)) _ (Failed takes added (listeners_of (who_listens new)) (step ∷ steps)) by failed
+        (feeds f.begun f.written f.stands f.going (widths_are_free (step ∷ unended steps) (narrowed mid.bits step ∷ f.written) mid.bits cut allowed).may)
+      where
+        f : IsFed takes mid added steps
+        f = told added steps may.0 fed
+
+        kept : unended (step ∷ steps) ≡ step ∷ unended steps
+        kept = ap (λ b. kept_if (not b) step (unended steps)) e
+
+        cut : IsWritten (step ∷ unended steps) (narrowed mid.bits step ∷ f.written) mid.bits
+        cut = one_more step k f.cut
+
+        cut_all : IsWritten (unended (step ∷ steps)) (narrowed mid.bits step ∷ f.written) mid.bits
+        cut_all = subst (λ x. IsWritten x (narrowed mid.bits step ∷ f.written) mid.bits) (sym kept) cut
+
+        allowed : MayAll (step ∷ unended steps)
+        allowed = subst MayAll kept (unended_may (step ∷ steps) may)
+
+        Fed : Type 0
+        Fed = Stands (Hears takes) [] f.begun (seen_of new.checker) (narrowed mid.bits step ∷ f.written) × (has_failed (kernel_of new.checker) ≡ false)
+
+        by : Fed → IsFed takes new added (step ∷ steps)
+        by h = record {
+          written = narrowed mid.bits step ∷ f.written;
+          cut = subst (IsWritten (unended (step ∷ steps)) (narrowed mid.bits step ∷ f.written)) (sym same) cut_all;
+          begun = f.begun;
+          were = f.were;
+          stands = h.0;
+          going = h.1;
+        }
+
+        failed : (fault : CheckFault) → FailedOf takes f.begun (who_listens new) f.written fault ⊎ FailedOf takes f.begun (who_listens new) (narrowed mid.bits step ∷ f.written) fault → Failed takes added (listeners_of (who_listens new)) (step ∷ steps) fault
+        failed fault (inl h) = record { later = step ∷ []; taken = steps; all = refl; written = f.written; bits = mid.bits; cut = f.cut; begun = f.begun; were = f.were; heard = (who_listens new, refl, h) }
+        failed fault (inr h) = record { later = []; taken = step ∷ steps; all = refl; written = narrowed mid.bits step ∷ f.written; bits = mid.bits; cut = cut_all; begun = f.begun; were = f.were; heard = (who_listens new, refl, h) }
+
+    -- a width alone was told
+    pub width_taken : (r : Result (Unit {0}) CheckerError) (new : Checked L) → is_end step ≡ true → TakesWidth takes r old new → TakesStep takes r old step new
+    width_taken r new e told added steps may fed =
+        cause_map r _ _ _ _ (λ (f : IsFed takes new added steps). record { written = f.written; cut = subst (λ x. IsWritten x f.written new.bits) (sym kept) f.cut; begun = f.begun; were = f.were; stands = f.stands; going = f.going })
+        (failed_later added (listeners_of (who_listens new)) step steps) (told added steps may.0 fed)
+      where
+        kept : unended (step ∷ steps) ≡ unended steps
+        kept = ap (λ b. kept_if (not b) step (unended steps)) e
+
+    -- the width wasn't
+    pub width_untaken : (er : CheckerError) (new : Checked L) → TakesWidth takes (Err er) old new → TakesStep takes (Err er) old step new
+    width_untaken er new told added steps may fed = (let h = told added steps may.0 fed in (h.0, failed_later added (listeners_of (who_listens new)) step steps (cause_in er) h.1))
+
+-- LISTENERS
+
+listed_more : {L : Type 0} (added : List L) (one : L) (old new : Processing L Nobody) → AreListed added old → listeners_of new ≡ record (listeners_of old) { processors = (listeners_of old).processors ++ one ∷ [] } → AreListed (added ++ one ∷ []) new
+listed_more added one old new e f = f ∙ ap (λ (z : Listeners _ Nobody). record z { processors = z.processors ++ one ∷ [] }) e
+
+module _ {L : Type 0} (takes : L → Told → Result Unit Error → L → Type 0) where
+  heard_none : (told : List Told) (begun now : Processing L Nobody) → told ≡ [] → HearsSince (Hears takes) [] told begun now → now ≡ begun
+  heard_none told begun now e h = go h.0 (sym h.1 ∙ e) h.2
+    where
+      go : (since : List Told) → since ≡ [] → HearsAll (Hears takes) since begun now → now ≡ begun
+      go [] e k = k
+      go (t ∷ ts) e k = cc
+
+  -- nothing was told yet, and another one listens
+  listens_more : (old new : Checked L) (one : L) (added : List L) (steps : List Step) → has_begun steps ≡ false → IsFed takes old added steps → new.bits ≡ old.bits → kernel_of new.checker ≡ kernel_of old.checker
+      → listeners_of (who_listens new) ≡ record (listeners_of (who_listens old)) { processors = (listeners_of (who_listens old)).processors ++ one ∷ [] } → IsFed takes new (added ++ one ∷ []) steps
+  listens_more old new one added steps unbegun fed bits kernel listed = record {
+    written = fed.written;
+    cut = subst (IsWritten (unended steps) fed.written) (sym bits) fed.cut;
+    begun = who_listens new;
+    were = listed_more added one (who_listens old) (who_listens new) (ap listeners_of (heard_none (told_by conflict fed.written) fed.begun (who_listens old) silent (fed.stands.heard fed.going)) ∙ fed.were) listed;
+    stands = record {
+      kernel = subst (λ k. kernels.Stands k fed.written) (sym kernel) fed.stands.kernel;
+      heard = λ f. ([], subst (λ (k : Kernel). told_by k.state.formula.status.conflict fed.written ≡ []) (sym kernel) silent, refl);
+    };
+    going = ap has_failed kernel ∙ fed.going;
+  }
+    where
+      conflict : Option (ℕ × ℕ)
+      conflict = old.checker.kernel.state.formula.status.conflict
+
+      silent : told_by conflict fed.written ≡ []
+      silent = none_told fed.written (widths_quiet (unended steps) (unended_none steps unbegun) fed.cut) conflict
+
+  -- another one was added, or no memory was left for it
+  pub taken_in : (r : Result (Unit {0}) CheckerError) (old new : Checked L) (one : L) → new.bits ≡ old.bits
+      → AddsListener r (kernel_of old.checker) (kernel_of new.checker) (listeners_of (who_listens old)) (listeners_of (who_listens new)) (record (listeners_of (who_listens old)) { processors = (listeners_of (who_listens old)).processors ++ one ∷ [] })
+      → TakesIn takes r old one new
+  taken_in (Ok x) old new one bits a added steps unbegun fed = listens_more old new one added steps unbegun fed bits a.1 a.2
+  taken_in (Err errors.OutOfMemory) old new one bits a added steps unbegun fed = (tt, (refl, subst (λ (z : Listeners _ Nobody). Heard takes added z steps) (sym a.2) (fed_heard takes old added steps fed)))
+  taken_in (Err errors.HasFailed) old new one bits a added steps unbegun fed = absurd (true≢false (sym a.0 ∙ fed.going))
+  taken_in (Err errors.CheckFailed) old new one bits a added steps unbegun fed = absurd a
+  taken_in (Err errors.CounterEnd) old new one bits a added steps unbegun fed = absurd a
+  taken_in (Err (errors.ProofProcessorError cause)) old new one bits a added steps unbegun fed = absurd a
+  taken_in (Err errors.ProofIncomplete) old new one bits a added steps unbegun fed = absurd a
+  taken_in (Err errors.IoError) old new one bits a added steps unbegun fed = absurd a
+  taken_in (Err errors.ParseError) old new one bits a added steps unbegun fed = absurd a
+
+-- ALL STEPS THAT WERE MADE
 
 none_stable : (o : Option (ℕ × ℕ)) → ((o ≡ None → ⊥) → ⊥) → o ≡ None
 none_stable None h = refl
@@ -111,25 +238,142 @@ cause_prop errors.ProofIncomplete = λ x y. absurd x
 cause_prop errors.IoError = λ x y. absurd x
 cause_prop errors.ParseError = λ x y. absurd x
 
-module _ {P : Type 0} (lost : Bool) (own : Option (Checked P)) (old new : Checked P) (steps : List Step) (is : own ≡ Some old) (fed : ∥ FedUnless lost own steps ∥₁) where
-  was : ∥ FedUnless lost (Some old) steps ∥₁
-  was = subst (λ o. ∥ FedUnless lost o steps ∥₁) is fed
+starved_stable : (e : CheckerError) → ∥ cause_in e ≡ checks.OutOfMemory ∥₁ → cause_in e ≡ checks.OutOfMemory
+starved_stable errors.OutOfMemory h = refl
+starved_stable errors.CounterEnd h = absurd (∥∥₁_elim h (λ a b. absurd a) (λ q. cc))
+starved_stable (errors.ProofProcessorError cause) h = absurd (∥∥₁_elim h (λ a b. absurd a) (λ q. cc))
+starved_stable errors.CheckFailed h = refl
+starved_stable errors.HasFailed h = refl
+starved_stable errors.ProofIncomplete h = refl
+starved_stable errors.IoError h = refl
+starved_stable errors.ParseError h = refl
 
-  -- a step was taken
-  pub taken_fed : (step : Step) (now : List Step) → now ≡ step ∷ steps → MayAll (step ∷ steps) → TakesStep (Ok tt) old step new → ∥ FedUnless lost (Some new) now ∥₁
-  taken_fed step now e may takes = subst (λ x. ∥ FedUnless lost (Some new) x ∥₁) (sym e) (∥∥₁_elim was ∥∥₁_prop (λ f. ∣ (λ l. takes steps may (f l)) ∣₁))
+module _ {L : Type 0} (takes : L → Told → Result Unit Error → L → Type 0) (lost : Bool) (own : Option (Checked L)) (added : List L) (steps : List Step) (fed : ∥ FedUnless takes lost own added steps ∥₁) where
+  -- a step more that the checker isn't given
+  pub skipped_fed : (step : Step) (now : List Step) → now ≡ step ∷ steps → ∥ FedUnless takes true own added now ∥₁
+  skipped_fed step now e = subst (λ x. ∥ FedUnless takes true own added x ∥₁) (sym e) (∥∥₁_elim fed ∥∥₁_prop (go own))
+    where
+      go : (o : Option (Checked L)) → FedUnless takes lost o added steps → ∥ FedUnless takes true o added (step ∷ steps) ∥₁
+      go None f = ∣ f ∣₁
+      go (Some c) f = ∣ ((λ l. absurd (true≢false l)), heard_later takes added (listeners_of (who_listens c)) step steps f.1) ∣₁
 
-  -- what waited was told
-  pub told_fed : TakesDelayed (Ok tt) old new → ∥ FedUnless lost (Some new) steps ∥₁
-  told_fed takes = ∥∥₁_elim was ∥∥₁_prop (λ f. ∣ (λ l. (takes steps (f l)).0) ∣₁)
+  -- there was no checker, and so nobody was added
+  pub none_added : own ≡ None → ∥ added ≡ [] ∥₁
+  none_added is = ∥∥₁_elim (subst (λ o. ∥ FedUnless takes lost o added steps ∥₁) is fed) ∥∥₁_prop (λ f. ∣ f ∣₁)
 
-  -- and nothing waits any more
-  pub told_settled : lost ≡ false → TakesDelayed (Ok tt) old new → IsSettled (kernel_of new.checker)
-  told_settled l takes = none_stable new.checker.kernel.state.formula.status.conflict (λ n. ∥∥₁_elim was (λ x y. absurd x) (λ f. n (takes steps (f l)).1))
+  module _ (old : Checked L) (is : own ≡ Some old) where
+    was : ∥ FedUnless takes lost (Some old) added steps ∥₁
+    was = subst (λ o. ∥ FedUnless takes lost o added steps ∥₁) is fed
 
-  -- why it failed
-  pub taken_cause : (e : CheckerError) (step : Step) → lost ≡ false → MayAll (step ∷ steps) → TakesStep (Err e) old step new → IsCause e
-  taken_cause e step l may takes = ∥∥₁_elim was (cause_prop e) (λ f. takes steps may (f l))
+    -- those who listen are handed back
+    pub handed : (given : List L) → given ≡ (listeners_of (who_listens old)).processors → ∥ IsHanded takes added given steps ∥₁
+    handed given e = ∥∥₁_elim was ∥∥₁_prop (λ f. ∣ record { now = listeners_of (who_listens old); are = sym e; heard = f.1 } ∣₁)
 
-  pub told_cause : (e : CheckerError) → lost ≡ false → TakesDelayed (Err e) old new → IsCause e
-  told_cause e l takes = ∥∥₁_elim was (cause_prop e) (λ f. takes steps (f l))
+    module _ (new : Checked L) where
+      -- a step was taken
+      pub taken_fed : (step : Step) (now : List Step) → now ≡ step ∷ steps → lost ≡ false → MayAll (step ∷ steps) → TakesStep takes (Ok tt) old step new → ∥ FedUnless takes lost (Some new) added now ∥₁
+      taken_fed step now e l may takes_step = subst (λ x. ∥ FedUnless takes lost (Some new) added x ∥₁) (sym e)
+          (∥∥₁_elim was ∥∥₁_prop (λ f. let k = takes_step added steps may (f.0 l) in ∣ ((λ _. k), fed_heard takes new added (step ∷ steps) k) ∣₁))
+
+      -- it failed at a step
+      pub failed_fed : (e : CheckerError) (step : Step) (now : List Step) → now ≡ step ∷ steps → lost ≡ false → MayAll (step ∷ steps) → TakesStep takes (Err e) old step new → ∥ FedUnless takes true (Some new) added now ∥₁
+      failed_fed e step now q l may takes_step = subst (λ x. ∥ FedUnless takes true (Some new) added x ∥₁) (sym q)
+          (∥∥₁_elim was ∥∥₁_prop (λ f. ∣ ((λ t. absurd (true≢false t)), failed_heard takes added (listeners_of (who_listens new)) (step ∷ steps) (cause_in e) (takes_step added steps may (f.0 l)).1) ∣₁))
+
+      -- and this is why
+      pub taken_cause : (e : CheckerError) (step : Step) → lost ≡ false → MayAll (step ∷ steps) → TakesStep takes (Err e) old step new → IsCause e
+      taken_cause e step l may takes_step = ∥∥₁_elim was (cause_prop e) (λ f. (takes_step added steps may (f.0 l)).0)
+
+      pub taken_why : (e : CheckerError) (step : Step) (now : List Step) → now ≡ step ∷ steps → lost ≡ false → MayAll (step ∷ steps) → TakesStep takes (Err e) old step new → ∥ Failed takes added (listeners_of (who_listens new)) now (cause_in e) ∥₁
+      taken_why e step now q l may takes_step = subst (λ x. ∥ Failed takes added (listeners_of (who_listens new)) x (cause_in e) ∥₁) (sym q) (∥∥₁_elim was ∥∥₁_prop (λ f. ∣ (takes_step added steps may (f.0 l)).1 ∣₁))
+
+      -- what waited was told
+      pub told_fed : lost ≡ false → TakesDelayed takes (Ok tt) old new → ∥ FedUnless takes lost (Some new) added steps ∥₁
+      told_fed l tells = ∥∥₁_elim was ∥∥₁_prop (λ f. let k = tells added steps (f.0 l) in ∣ ((λ _. k.0), fed_heard takes new added steps k.0) ∣₁)
+
+      -- and nothing waits any more
+      pub told_settled : lost ≡ false → TakesDelayed takes (Ok tt) old new → IsSettled (kernel_of new.checker)
+      told_settled l tells = none_stable new.checker.kernel.state.formula.status.conflict (λ n. ∥∥₁_elim was (λ x y. absurd x) (λ f. n (tells added steps (f.0 l)).1))
+
+      -- or it failed
+      pub untold_fed : (e : CheckerError) → lost ≡ false → TakesDelayed takes (Err e) old new → ∥ FedUnless takes true (Some new) added steps ∥₁
+      untold_fed e l tells = ∥∥₁_elim was ∥∥₁_prop (λ f. ∣ ((λ t. absurd (true≢false t)), failed_heard takes added (listeners_of (who_listens new)) steps (cause_in e) (tells added steps (f.0 l)).1) ∣₁)
+
+      pub told_cause : (e : CheckerError) → lost ≡ false → TakesDelayed takes (Err e) old new → IsCause e
+      told_cause e l tells = ∥∥₁_elim was (cause_prop e) (λ f. (tells added steps (f.0 l)).0)
+
+      pub told_why : (e : CheckerError) → lost ≡ false → TakesDelayed takes (Err e) old new → ∥ Failed takes added (listeners_of (who_listens new)) steps (cause_in e) ∥₁
+      told_why e l tells = ∥∥₁_elim was ∥∥₁_prop (λ f. ∣ (tells added steps (f.0 l)).1 ∣₁)
+
+      -- another one listens
+      pub listens_fed : (one : L) (more : List L) → more ≡ added ++ one ∷ [] → has_begun steps ≡ false → lost ≡ false → TakesIn takes (Ok tt) old one new → ∥ FedUnless takes lost (Some new) more steps ∥₁
+      listens_fed one more e u l takes_in = subst (λ x. ∥ FedUnless takes lost (Some new) x steps ∥₁) (sym e)
+          (∥∥₁_elim was ∥∥₁_prop (λ f. let k = takes_in added steps u (f.0 l) in ∣ ((λ _. k), fed_heard takes new (added ++ one ∷ []) steps k) ∣₁))
+
+      -- no memory was left for it
+      pub unlistened_fed : (e : CheckerError) (one : L) → has_begun steps ≡ false → lost ≡ false → TakesIn takes (Err e) old one new → ∥ FedUnless takes true (Some new) added steps ∥₁
+      unlistened_fed e one u l takes_in = ∥∥₁_elim was ∥∥₁_prop (λ f. ∣ ((λ t. absurd (true≢false t)), (takes_in added steps u (f.0 l)).1.1) ∣₁)
+
+      pub unlistened_cause : (e : CheckerError) (one : L) → has_begun steps ≡ false → lost ≡ false → TakesIn takes (Err e) old one new → IsCause e
+      unlistened_cause e one u l takes_in = ∥∥₁_elim was (cause_prop e) (λ f. (takes_in added steps u (f.0 l)).0)
+
+      pub unlistened_why : (e : CheckerError) (one : L) → has_begun steps ≡ false → lost ≡ false → TakesIn takes (Err e) old one new → cause_in e ≡ checks.OutOfMemory
+      unlistened_why e one u l takes_in = starved_stable e (∥∥₁_elim was ∥∥₁_prop (λ f. ∣ (takes_in added steps u (f.0 l)).1.0 ∣₁))
+
+module _ {L : Type 0} (takes : L → Told → Result Unit Error → L → Type 0) where
+  -- a lost one stays so
+  pub lost_fed : (lost : Bool) (own : Option (Checked L)) (added : List L) (steps : List Step) → ∥ FedUnless takes lost own added steps ∥₁ → lost ≡ true → (step : Step) (now : List Step) → now ≡ step ∷ steps → ∥ FedUnless takes lost own added now ∥₁
+  lost_fed lost own added steps fed l step now e = subst (λ b. ∥ FedUnless takes b own added now ∥₁) (sym l) (skipped_fed takes lost own added steps fed step now e)
+
+  -- checking begins
+  pub begun_fed : (own : Option (Checked L)) (new : Checked L) (lost : Bool) (added : List L) (steps : List Step) → ∥ FedUnless takes lost own added steps ∥₁ → own ≡ None → has_begun steps ≡ false → IsFed takes new [] [] → ∥ FedUnless takes false (Some new) added steps ∥₁
+  begun_fed own new lost added steps fed is u f = ∥∥₁_elim (none_added takes lost own added steps fed is) ∥∥₁_prop (λ e.
+      let k = fed_ended takes new added steps u (subst (λ x. IsFed takes new x []) (sym e) f) in ∣ ((λ _. k), fed_heard takes new added steps k) ∣₁)
+
+  -- and where a step was lost it begins anew
+  pub anew_fed : (new : Checked L) (added : List L) (steps : List Step) → has_begun steps ≡ false → IsFed takes new added [] → ∥ FedUnless takes false (Some new) added steps ∥₁
+  anew_fed new added steps u f = (let k = fed_ended takes new added steps u f in ∣ ((λ _. k), fed_heard takes new added steps k) ∣₁)
+
+  -- it lacks no step
+  pub still_fed : (own : Option (Checked L)) (lost : Bool) (added : List L) (steps : List Step) → ∥ FedUnless takes lost own added steps ∥₁ → lost ≡ false → ∥ FedUnless takes false own added steps ∥₁
+  still_fed own lost added steps fed l = subst (λ b. ∥ FedUnless takes b own added steps ∥₁) l fed
+
+  -- where a step was lost before, that fails
+  pub lost_why : (own : Option (Checked L)) (old : Checked L) (lost : Bool) (added : List L) (steps : List Step) → ∥ FedUnless takes lost own added steps ∥₁ → own ≡ Some old → ∥ Failed takes added (listeners_of (who_listens old)) steps checks.OutOfMemory ∥₁
+  lost_why own old lost added steps fed is = ∥∥₁_elim (subst (λ o. ∥ FedUnless takes lost o added steps ∥₁) is fed) ∥∥₁_prop (λ f. ∣ f.1 ∣₁)
+
+  -- a checker began anew
+  pub anew : (old new : Checked L) (added given : List L) → added ≡ given → given ≡ (listeners_of (who_listens old)).processors → new.bits ≡ 64 → kernels.Stands (kernel_of new.checker) [] → has_failed (kernel_of new.checker) ≡ false
+      → kernels.IsSettled (kernel_of new.checker) → listeners_of (who_listens new) ≡ record { processors = given; transcripts = [] } → BeginsAnew takes old new added
+  anew old new added given e f bits stands going settled listed = record {
+    listed = e ∙ f;
+    fed = fed_first takes new added bits stands going settled (listed ∙ ap (λ (xs : List L). record { processors = xs; transcripts = [] }) (sym e));
+  }
+
+  nil_stable : (xs : List L) → ∥ xs ≡ [] ∥₁ → xs ≡ []
+  nil_stable [] h = refl
+  nil_stable (x ∷ xs) h = absurd (∥∥₁_elim h (λ a b. absurd a) (λ e. cc))
+
+  -- who has no checker has nobody who listens
+  pub none_listed : (lost : Bool) (own : Option (Checked L)) (added : List L) (steps : List Step) → ∥ FedUnless takes lost own added steps ∥₁ → own ≡ None → added ≡ []
+  none_listed lost own added steps fed is = nil_stable added (none_added takes lost own added steps fed is)
+
+-- MADE
+
+module _ {L : Type 0} {G : Ghosts L} (m : Made L G) where
+  -- those who listened are handed back
+  pub made_handed : (own : Checked L) (given : List L) → m.own ≡ Some own → given ≡ (listeners_of (who_listens own)).processors → Handed m given
+  made_handed own given is e = subst (λ o. HandedIn G.takes (listed_in o m.roll.items) given m.history.steps) (sym is) (handed G.takes m.lost m.own m.roll.items m.history.steps m.fed own is given e)
+
+  pub none_handed : m.own ≡ None → Handed m []
+  none_handed is = subst (λ o. HandedIn G.takes (listed_in o m.roll.items) [] m.history.steps) (sym is) refl
+
+  -- who listens as checking begins
+  pub listed_first : m.own ≡ None → ListedAnew m.lost m (audience m) m.roll.items
+  listed_first is = subst (λ o. ListedAnew m.lost m (listed_in o m.roll.items) m.roll.items) (sym is) (none_listed G.takes m.lost m.own m.roll.items m.history.steps m.fed is)
+
+  pub listed_still : (own : Checked L) → m.own ≡ Some own → m.lost ≡ false → ListedAnew m.lost m (audience m) m.roll.items
+  listed_still own is l = subst (λ o. ListedAnew m.lost m (listed_in o m.roll.items) m.roll.items) (sym is) (subst (λ b. ListedAnew b m (Some m.roll.items) m.roll.items) (sym l) refl)
+
+  pub listed_again : (own : Checked L) (given : List L) → m.own ≡ Some own → m.lost ≡ true → given ≡ (listeners_of (who_listens own)).processors → ListedAnew m.lost m (audience m) given
+  listed_again own given is l e = subst (λ o. ListedAnew m.lost m (listed_in o m.roll.items) given) (sym is) (subst (λ b. ListedAnew b m (Some m.roll.items) given) (sym l) (made_handed own given is e))

@@ -2,7 +2,7 @@
 use Rattle.std.proofs.Common.{◌≡◌, ◌∙◌, ℕ, true, false, Option, None, Some, Result, Ok, Err, List, [], ◌∷◌, ◌++◌, append_assoc, refl, sym, ap, subst}
 use Rattle.std.proofs.lemmas.Bool.{true≢false}
 use Rattle.std.proofs.lemmas.List.{append-nil, reverse-append}
-use Rattle.std.specs.Prelude.{reverse}
+use Rattle.std.specs.Prelude.{is_some, reverse}
 use Rattle.sat_base.specs.device.Device.{Writer, Takes, Breaks}
 use Rattle.sat_base.specs.device.Sink.{Sink, Sent, empty_sink}
 use Rattle.sat_base.specs.steps.Formats.{Format, Items}
@@ -11,11 +11,14 @@ use Rattle.sat_base.specs.steps.StepBytes.{step_bytes}
 use Rattle.sat_base.specs.steps.StepText.{SpellsStep, SpellsSteps}
 use Rattle.sat_base.proofs.lemmas.device.Sending.{sent_none, sent_more}
 use Rattle.sat_base.proofs.lemmas.device.Writes.{took_more as took_both, breaks_later}
+use Rattle.sat_checker.specs.declared.processing.ProofProcessor.{Ghosts}
 use Rattle.sat_solver.specs.session.Counting.{start, Cuts, none_made, ask_begun, one_made, written_for, counted}
 use Rattle.sat_solver.specs.session.ProofTexts.{ClosedIsText, BrokenIsFront, BrokeText, WroteSince, TookSince, BrokeSince}
 use Rattle.sat_solver.specs.session.OutputView.{step_text, SpellsIn, text_in, AreSpelt, Wrote}
-use Rattle.sat_solver.specs.session.ProofView.{Target, Closed, Open, Broken as Faulty, is_open, Carried, Carries, Stopped, Stops, Flushed, TookAll, TakesAll, Gives, target_of, steps_of, Adds, Fails, FailsCheck, Records, Drains, Flushes, FlushesOrFails, Closes, ClosesOne, HandsBack}
+use Rattle.sat_solver.specs.session.ProofView.{Target, Closed, Open, Broken as Faulty, is_open, Carried, Carries, Stopped, Stops, Flushed, TookAll, TakesAll, Gives, target_of, steps_of, Adds, Fails, FailsCheck, Complains, is_checked, Records, Drains, Flushes, FlushesOrFails, Closes, ClosesOne, HandsBack}
 use Rattle.sat_solver.specs.session.MadeView as mades
+use Rattle.sat_solver.specs.declared.session.made.CheckFault.{CheckFault}
+use Rattle.sat_solver.specs.declared.session.checked.Checked.{Checked}
 use Rattle.sat_solver.specs.declared.session.made.Made.{Made}
 use Rattle.sat_solver.specs.session.Widths.{KeepsWidth}
 use Rattle.sat_solver.specs.declared.session.counting.Counting.{Counting}
@@ -183,47 +186,57 @@ broken_is_front f from given steps t p g =
 -- PROOFS
 
 -- no step
-pub adds_none : {W : Type 0} (seen : W → Writer) (p : Proof W) → Adds seen [] p p
-adds_none seen p = record { history = refl; checked = refl; target = carries_none (target_of seen p) }
+pub adds_none : {W L : Type 0} {G : Ghosts L} (seen : W → Writer) (p : Proof W L G) → Adds seen [] p p
+adds_none seen p = record { history = refl; listening = refl; target = carries_none (target_of seen p) }
 
 -- steps, and then later ones
-pub adds_more : {W : Type 0} (seen : W → Writer) (xs ys : List Step) (a b c : Proof W) → Adds seen xs a b → Adds seen ys b c → Adds seen (ys ++ xs) a c
+pub adds_more : {W L : Type 0} {G : Ghosts L} (seen : W → Writer) (xs ys : List Step) (a b c : Proof W L G) → Adds seen xs a b → Adds seen ys b c → Adds seen (ys ++ xs) a c
 adds_more seen xs ys a b c p q = record {
   history = q.history ∙ ap (λ z. ys ++ z) p.history ∙ sym (append_assoc ys xs (steps_of a));
-  checked = q.checked ∙ p.checked;
+  listening = q.listening ∙ p.listening;
   target = carries_more (target_of seen a) (target_of seen b) (target_of seen c) xs ys p.target q.target;
 }
 
 -- steps, and then a fault at later ones
-pub fails_later : {W : Type 0} (seen : W → Writer) (xs ys : List Step) (a b c : Proof W) → Adds seen xs a b → Fails seen ys b c → Fails seen (ys ++ xs) a c
+pub fails_later : {W L : Type 0} {G : Ghosts L} (seen : W → Writer) (xs ys : List Step) (a b c : Proof W L G) → Adds seen xs a b → Fails seen ys b c → Fails seen (ys ++ xs) a c
 fails_later seen xs ys a b c p q = record {
   history = q.history ∙ ap (λ z. ys ++ z) p.history ∙ sym (append_assoc ys xs (steps_of a));
+  listening = q.listening ∙ p.listening;
   target = stops_later (target_of seen a) (target_of seen b) (target_of seen c) xs ys p.target q.target;
 }
 
+-- who has a checker that failed has one
+pub complains_checked : {W L : Type 0} {G : Ghosts L} (fault : CheckFault) (p : Proof W L G) → Complains fault p → is_checked p ≡ true
+complains_checked {G = G} fault p h = go p.made.own h
+  where
+    go : (o : Option (Checked _)) → mades.ComplainsIn G.takes fault o p.made.roll.items p.made.history.steps → is_some (mades.listed_in o p.made.roll.items) ≡ true
+    go None h = absurd h
+    go (Some own) h = refl
+
 -- steps, and then later ones at which the checker failed
-pub check_later : {W : Type 0} (seen : W → Writer) (xs ys : List Step) (a b c : Proof W) → Adds seen xs a b → FailsCheck seen ys b c → FailsCheck seen (ys ++ xs) a c
-check_later seen xs ys a b c p q = record { adds = adds_more seen xs ys a b c p q.adds; had = sym p.checked ∙ q.had }
+pub check_later : {W L : Type 0} {G : Ghosts L} {fault : CheckFault} (seen : W → Writer) (xs ys : List Step) (a b c : Proof W L G) → Adds seen xs a b → FailsCheck seen fault ys b c → FailsCheck seen fault (ys ++ xs) a c
+check_later seen xs ys a b c p q = record { adds = adds_more seen xs ys a b c p q.adds; why = q.why }
 
 -- a flush of the target makes no step
-drained : {W : Type 0} (seen : W → Writer) (a b : Proof W) → Drains seen a b → Adds seen [] a b
-drained seen a b h = record { history = h.history; checked = h.checked; target = flushed_carries (target_of seen a) (target_of seen b) h.target }
+drained : {W L : Type 0} {G : Ghosts L} (seen : W → Writer) (a b : Proof W L G) → Drains seen a b → Adds seen [] a b
+drained seen a b h = record { history = h.history; listening = h.listening; target = flushed_carries (target_of seen a) (target_of seen b) h.target }
 
 -- nor does what the checker tells behind it
-pub flush_records : {W : Type 0} (seen : W → Writer) (r : Result (Unit {0}) ProofError) (a b : Proof W) → FlushesOrFails seen r a b → Records seen r [] a b
-flush_records seen (Ok x) a b h = record { history = h.history; checked = h.checked; target = flushed_carries (target_of seen a) (target_of seen b) h.target }
+pub flush_records : {W L : Type 0} {G : Ghosts L} (seen : W → Writer) (r : Result (Unit {0}) ProofError) (a b : Proof W L G) → FlushesOrFails seen r a b → Records seen r [] a b
+flush_records seen (Ok x) a b h = record { history = h.history; listening = h.listening; target = flushed_carries (target_of seen a) (target_of seen b) h.target }
 flush_records seen (Err (Write e)) a b h = h
 flush_records seen (Err OutOfMemory) a b h = absurd h
-flush_records seen (Err (Check fault)) a b h = record { adds = drained seen a b h.0; had = h.1 }
+flush_records seen (Err (Check fault)) a b h = record { adds = drained seen a b h.0; why = h.1 }
 
 -- the last step was made, and then a flush failed
-pub close_fails : {W : Type 0} (seen : W → Writer) (e : ProofError) (a b c : Proof W) → Adds seen (End ∷ []) a b → FlushesOrFails seen (Err e) b c → Closes seen (Err e) a c
+pub close_fails : {W L : Type 0} {G : Ghosts L} (seen : W → Writer) (e : ProofError) (a b c : Proof W L G) → Adds seen (End ∷ []) a b → FlushesOrFails seen (Err e) b c → Closes seen (Err e) a c
 close_fails seen (Write e) a b c p q = record {
   history = q.history ∙ p.history;
+  listening = q.listening ∙ p.listening;
   target = stops_later (target_of seen a) (target_of seen b) (target_of seen c) (End ∷ []) [] p.target q.target;
 }
 close_fails seen OutOfMemory a b c p q = absurd q
-close_fails seen (Check fault) a b c p q = record { adds = adds_more seen (End ∷ []) [] a b c p (drained seen b c q.0); had = sym p.checked ∙ q.1 }
+close_fails seen (Check fault) a b c p q = record { adds = adds_more seen (End ∷ []) [] a b c p (drained seen b c q.0); why = q.1 }
 
 gives_none : (a b c : Target) (xs : List Step) → is_open a ≡ true → Carries a xs b → Flushed b c → Gives c None → ⊥
 gives_none Closed b c xs o p f g = absurd (true≢false (sym o))
@@ -234,23 +247,24 @@ gives_none (Open a n s) b c xs o p f g =
 gives_none (Faulty w) b c xs o p f g = absurd (true≢false (sym o))
 
 -- the last step was made, the target flushed and handed back
-pub close_gives : {W : Type 0} (seen : W → Writer) (o : Option W) (a b c d : Proof W) → is_open (target_of seen a) ≡ true → Adds seen (End ∷ []) a b → Flushes seen b c → HandsBack seen o c d → Closes seen (Ok o) a d
+pub close_gives : {W L : Type 0} {G : Ghosts L} (seen : W → Writer) (o : Option W) (a b c d : Proof W L G) → is_open (target_of seen a) ≡ true → Adds seen (End ∷ []) a b → Flushes seen b c → HandsBack seen o c d → Closes seen (Ok o) a d
 close_gives seen None a b c d open_yet p q h = absurd (gives_none (target_of seen a) (target_of seen b) (target_of seen c) (End ∷ []) open_yet p.target q.target h.gives)
 close_gives seen (Some w) a b c d open_yet p q h = record {
   history = h.history ∙ q.history ∙ p.history;
+  listening = ap mades.audience h.made ∙ q.listening ∙ p.listening;
   takes = takes_all (target_of seen a) (target_of seen b) (target_of seen c) (Some (seen w)) (seen w) (End ∷ []) open_yet p.target q.target h.gives refl;
   target = h.target;
-  told = subst (λ (m : Made). mades.HasTold m) (sym h.made) q.told;
+  told = subst (λ (m : Made _ _). mades.HasTold m) (sym h.made) q.told;
 }
 
 -- SINCE THE OPENING
 
 -- a target was just opened
-pub since_opened : {W : Type 0} (seen : W → Writer) (f : ProofFormat) (from : Writer) (before : List Step) (p : Proof W) → steps_of p ≡ before → target_of seen p ≡ Open f start (empty_sink from) → WroteSince seen f from before p
+pub since_opened : {W L : Type 0} {G : Ghosts L} (seen : W → Writer) (f : ProofFormat) (from : Writer) (before : List Step) (p : Proof W L G) → steps_of p ≡ before → target_of seen p ≡ Open f start (empty_sink from) → WroteSince seen f from before p
 since_opened seen f from before p e o = record { steps = []; behind = e; target = subst (Carries (Open f start (empty_sink from)) []) (sym o) (carries_none (Open f start (empty_sink from))) }
 
 -- steps were made
-pub since_more : {W : Type 0} (seen : W → Writer) (f : ProofFormat) (from : Writer) (before steps : List Step) (p q : Proof W) → WroteSince seen f from before p → Adds seen steps p q → WroteSince seen f from before q
+pub since_more : {W L : Type 0} {G : Ghosts L} (seen : W → Writer) (f : ProofFormat) (from : Writer) (before steps : List Step) (p q : Proof W L G) → WroteSince seen f from before p → Adds seen steps p q → WroteSince seen f from before q
 since_more seen f from before steps p q w a = record {
   steps = steps ++ w.steps;
   behind = a.history ∙ ap (λ z. steps ++ z) w.behind ∙ sym (append_assoc steps w.steps before);
@@ -258,7 +272,7 @@ since_more seen f from before steps p q w a = record {
 }
 
 -- a proof was closed
-pub since_closed : {W : Type 0} (seen : W → Writer) (f : ProofFormat) (from : Writer) (before : List Step) (given : W) (p q : Proof W) → WroteSince seen f from before p → ClosesOne seen given p q → TookSince f from (seen given) before (steps_of q)
+pub since_closed : {W L : Type 0} {G : Ghosts L} (seen : W → Writer) (f : ProofFormat) (from : Writer) (before : List Step) (given : W) (p q : Proof W L G) → WroteSince seen f from before p → ClosesOne seen given p q → TookSince f from (seen given) before (steps_of q)
 since_closed seen f from before given p q w c = record {
   steps = End ∷ w.steps;
   behind = c.history ∙ ap (λ z. End ∷ z) w.behind;
@@ -266,7 +280,7 @@ since_closed seen f from before given p q w c = record {
 }
 
 -- a call of the target failed at the text of steps, and it was handed back
-pub since_broken : {W : Type 0} (seen : W → Writer) (f : ProofFormat) (from : Writer) (before steps : List Step) (given : W) (p q r : Proof W) → WroteSince seen f from before p → Fails seen steps p q → HandsBack seen (Some given) q r → BrokeSince f from (seen given) before (steps_of r)
+pub since_broken : {W L : Type 0} {G : Ghosts L} (seen : W → Writer) (f : ProofFormat) (from : Writer) (before steps : List Step) (given : W) (p q r : Proof W L G) → WroteSince seen f from before p → Fails seen steps p q → HandsBack seen (Some given) q r → BrokeSince f from (seen given) before (steps_of r)
 since_broken seen f from before steps given p q r w b h = record {
   steps = steps ++ w.steps;
   behind = h.history ∙ b.history ∙ ap (λ z. steps ++ z) w.behind ∙ sym (append_assoc steps w.steps before);

@@ -6,6 +6,7 @@ use Rattle.sat_base.specs.device.Device.{Writer, Breaks}
 use Rattle.sat_base.specs.device.Sink.{Sink, Sent}
 use Rattle.sat_base.specs.steps.Steps.{Step, ChangeHashBits}
 use Rattle.sat_base.proofs.lemmas.device.Writes.{breaks_within}
+use Rattle.sat_checker.specs.declared.processing.ProofProcessor.{Ghosts}
 use Rattle.sat_solver.specs.session.Counting.{width_told, written_for, counted}
 use Rattle.sat_solver.specs.session.OutputView.{step_text, SpellsIn, text_in, Wrote, PutsSteps, output_format, output_sink}
 use Rattle.sat_solver.specs.session.ProofView.{Target, Carries, Stops, Closed, Open, Broken as Faulty, with_fault, target_in, target_of, Adds, Fails}
@@ -46,13 +47,13 @@ carries_step f c s t step k w = (counted step c, t, refl, record { written = wri
 pub stops_step : (f : ProofFormat) (c : Counting) (s t : Sink) (step : Step) → KeepsWidth step → Breaks s.writer t.writer (s.waiting ++ text_in f (written_for c.bits (counted step c).bits step)) → Stops (Open f c s) (step ∷ []) (Faulty t.writer)
 stops_step f c s t step k b = (t.writer, refl, record { written = written_for c.bits (counted step c).bits step; counting = counted step c; cuts = cuts_one c step k; breaks = b })
 
-module _ {W : Type 0} (seen : W → Writer) (p : Proof W) where
-  abbrev pub begun : Proof W
+module _ {W L : Type 0} {G : Ghosts L} (seen : W → Writer) (p : Proof W L G) where
+  abbrev pub begun : Proof W L G
   begun = record p { counting = record p.counting { solving = true } }
 
   -- an ask begins, and no step is made of it
   pub adds_begun : Adds seen [] p begun
-  adds_begun = record { history = refl; checked = refl; target = go p.output p.broken }
+  adds_begun = record { history = refl; listening = refl; target = go p.output p.broken }
     where
       go : (o : Option (Output W)) (b : Bool) → Carries (target_in seen o b p.counting) [] (target_in seen o b (record p.counting { solving = true }))
       go None b = refl
@@ -67,6 +68,7 @@ module _ {W : Type 0} (seen : W → Writer) (p : Proof W) where
     pub fails_flush : Breaks (output_sink seen o).writer (output_sink seen u).writer ((output_sink seen o).waiting ++ []) → Fails seen [] p (record p { output = Some u; broken = true })
     fails_flush b = record {
       history = refl;
+      listening = refl;
       target = subst (λ t. Stops t [] (Faulty (output_sink seen u).writer)) was_open ((output_sink seen u).writer, refl, record { written = []; counting = p.counting; cuts = none_made; breaks = b });
     }
 

@@ -2,6 +2,7 @@
 use Rattle.std.proofs.Common.{ℕ, ◌≡◌, ◌∙◌, ◌<◌, Result, Ok, Err, Option, Some, None, List, [], length, refl, ap, subst, arith}
 use Rattle.sat_base.specs.device.Device.{Writer}
 use Rattle.sat_base.specs.steps.Steps.{Step}
+use Rattle.sat_checker.specs.declared.processing.ProofProcessor.{Ghosts}
 use Rattle.sat_solver.specs.session.ProofView.{steps_of, session_of}
 use Rattle.sat_solver.specs.session.Session.{Session}
 use Rattle.sat_solver.specs.declared.session.proof.Proof.{Proof}
@@ -30,7 +31,7 @@ module _ (s t : Session) (c d : Search) (propagated : IsPropagated s c) (leaves 
     ready = ready_moved s t c d propagated.ready leaves settled_moved (settled.word (assumed_in c)).0 (rw assumptions (settled.placed c.assumptions propagated.ready.placed)) (free_moved c d propagated.ready.free settled_moved analysis flags);
   }
 
-module _ {W : Type 0} (seen : W → Writer) (n : Variables) (p q : Proof W) (c d : Search) (may : MaySettle n p c) (g : Goes {A = Unit {0}} seen (Ok tt) p q (λ _ _. IsSettled c.parts d.parts (session_of q) (global_in c)))
+module _ {W L : Type 0} {G : Ghosts L} (seen : W → Writer) (n : Variables) (p q : Proof W L G) (c d : Search) (may : MaySettle n p c) (g : Goes {A = Unit {0}} seen (Ok tt) p q (λ _ _. IsSettled c.parts d.parts (session_of q) (global_in c)))
     (globals : d.globals ≡ c.globals) (assumptions : d.assumptions ≡ c.assumptions) (analysis : d.analysis ≡ c.analysis) (flags : d.flags ≡ c.flags) where
   leaves : Leaves (session_of p) (session_of q)
   leaves = goes_leaves seen tt p q (λ _ _. IsSettled c.parts d.parts (session_of q) (global_in c)) g
@@ -45,6 +46,6 @@ module _ {W : Type 0} (seen : W → Writer) (n : Variables) (p q : Proof W) (c d
       (settled_moved (session_of p) (session_of q) c d may.propagated leaves g.ends globals assumptions analysis flags) (g.ends.word (assumed_in c))
 
   -- and then simplification
-  pub settled_simplified : (r : Result (Unit {0}) SolverError) (n' : Variables) (z : Proof W) (e : Search) → Simplifies seen r n n' q z d e → Simplifies seen r n n' p z c e
+  pub settled_simplified : (r : Result (Unit {0}) SolverError) (n' : Variables) (z : Proof W L G) (e : Search) → Simplifies seen r n n' q z d e → Simplifies seen r n n' p z c e
   settled_simplified (Ok x) n' z e h = record { passes = passes_trans seen n n n' p q z c d e settled_passes h.passes; flat = h.flat; left = h.left; indices = h.indices }
   settled_simplified (Err f) n' z e h = falls_later seen f p q z settled_passes.took h

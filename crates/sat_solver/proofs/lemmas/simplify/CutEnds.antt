@@ -5,6 +5,7 @@ use Rattle.sat_base.specs.device.Device.{Writer}
 use Rattle.sat_base.specs.steps.Steps.{Step, Simplified}
 use Rattle.sat_base.specs.values.Hashes.{hash_of}
 use Rattle.sat_store.specs.clause.Buffer.{lits_at}
+use Rattle.sat_checker.specs.declared.processing.ProofProcessor.{Ghosts}
 use Rattle.sat_parts.specs.clause.Db.{live_refs}
 use Rattle.sat_parts.specs.clause.Stored.{size_of}
 use Rattle.sat_solver.specs.session.LiveClauses.{with_var}
@@ -32,7 +33,7 @@ use Rattle.sat_solver.proofs.lemmas.simplify.LightensLemmas.{lightens_cut}
 use Rattle.sat_solver.proofs.lemmas.simplify.TrueLemmas.{lighter_by}
 
 -- the clause at o was gathered in m, and what is left of it put in its place in d
-module _ {W : Type 0} (seen : W → Writer) (p : Proof W) (c m : Search) (o len : ℕ) (h : IsSearch (session_of p) c) (flat : IsFlat c.parts) (there : Contains (live_refs c.parts.clauses c.parts.db.refs) o) (has : HasFalse c.parts o)
+module _ {W L : Type 0} {G : Ghosts L} (seen : W → Writer) (p : Proof W L G) (c m : Search) (o len : ℕ) (h : IsSearch (session_of p) c) (flat : IsFlat c.parts) (there : Contains (live_refs c.parts.clauses c.parts.db.refs) o) (has : HasFalse c.parts o)
     (same : m ≡ record c { parts = m.parts; scratch = m.scratch }) (left : List ℕ) (n : NamesCut c m left o len) (q : Parts) (r : Replaces m.parts q o len) (b : Bool) (side : is_redundant m.parts.clauses o ≡ b) where
   abbrev part : List ℕ
   part = map (with_var (global_in c)) (take len (lits_at m.parts.clauses o))
@@ -58,7 +59,7 @@ module _ {W : Type 0} (seen : W → Writer) (p : Proof W) (c m : Search) (o len 
   pub cut_may : MayCut (session_of p) b left m.scratch.hashes.items m.scratch.clause.items
   cut_may = rw (n.part, n.hashes, n.clause) (record { derive = both.derive; delete = both.delete })
 
-  module _ (z : Proof W) where
+  module _ (z : Proof W L G) where
     abbrev d : Search
     d = record m { parts = q }
 

@@ -3,6 +3,7 @@ use Rattle.std.proofs.Common.{ℕ, ◌≡◌, ◌<◌, ◌∙◌, length, Ok, Er
 use Rattle.std.specs.List.{Contains}
 use Rattle.sat_base.specs.device.Device.{Writer}
 use Rattle.sat_base.specs.steps.Steps.{Step}
+use Rattle.sat_checker.specs.declared.processing.ProofProcessor.{Ghosts}
 use Rattle.sat_parts.specs.clause.Db.{live_refs}
 use Rattle.sat_parts.specs.clause.Stored.{lit_of}
 use Rattle.sat_parts.specs.prop.Values.{value_of}
@@ -41,8 +42,8 @@ use Rattle.sat_solver.specs.simplify.Passes.{StandTogether, Passes, Falls, Falls
 use Rattle.sat_solver.proofs.lemmas.simplify.FreedLemmas.{asked_refl, asked_trans}
 use Rattle.sat_solver.proofs.lemmas.simplify.LighterLemmas.{goes_leaves, flat_on}
 
-module _ {W : Type 0} (seen : W → Writer) where
-  pub passes_refl : (n : Variables) (p : Proof W) (c : Search) → StandTogether n p c → Passes seen n n p p c c
+module _ {W L : Type 0} {G : Ghosts L} (seen : W → Writer) where
+  pub passes_refl : (n : Variables) (p : Proof W L G) (c : Search) → StandTogether n p c → Passes seen n n p p c c
   passes_refl n p c h = record {
     together = h;
     took = ([], adds_none seen p);
@@ -52,7 +53,7 @@ module _ {W : Type 0} (seen : W → Writer) where
     word = extends_refl c.parts (assumed_in c);
   }
 
-  pub passes_trans : (a b d : Variables) (p q r : Proof W) (x y z : Search) → Passes seen a b p q x y → Passes seen b d q r y z → Passes seen a d p r x z
+  pub passes_trans : (a b d : Variables) (p q r : Proof W L G) (x y z : Search) → Passes seen a b p q x y → Passes seen b d q r y z → Passes seen a d p r x z
   passes_trans a b d p q r x y z one two = record {
     together = two.together;
     took = (two.took.0 ++ one.took.0, adds_more seen one.took.0 two.took.0 p q r one.took.1 two.took.1);
@@ -63,7 +64,7 @@ module _ {W : Type 0} (seen : W → Writer) where
   }
 
   -- what changed before without a step
-  pub passes_behind : (a b : Variables) (p q : Proof W) (x y z : Search) → Moved x y → ExtendsFor (assumed_in x) x.parts y.parts → Passes seen a b p q y z → Passes seen a b p q x z
+  pub passes_behind : (a b : Variables) (p q : Proof W L G) (x y z : Search) → Moved x y → ExtendsFor (assumed_in x) x.parts y.parts → Passes seen a b p q y z → Passes seen a b p q x z
   passes_behind a b p q x y z moved word h = record {
     together = h.together;
     took = h.took;
@@ -74,7 +75,7 @@ module _ {W : Type 0} (seen : W → Writer) where
   }
 
   -- steps of a search
-  pub passes_goes : {A : Type 0} (v : A) (n : Variables) (p q : Proof W) (c d : Search) (P : A → List Step → Type 0) → Stands n (steps_of p) → SharesIndices n c → Goes seen (Ok v) p q P → IsSearch (session_of q) d → Moved c d → ExtendsFor (assumed_in c) c.parts d.parts → Passes seen n n p q c d
+  pub passes_goes : {A : Type 0} (v : A) (n : Variables) (p q : Proof W L G) (c d : Search) (P : A → List Step → Type 0) → Stands n (steps_of p) → SharesIndices n c → Goes seen (Ok v) p q P → IsSearch (session_of q) d → Moved c d → ExtendsFor (assumed_in c) c.parts d.parts → Passes seen n n p q c d
   passes_goes v n p q c d P stands shares g search moved word =
       let may : MayAll (g.steps ++ steps_of p) = subst MayAll g.went.history g.keeps in
       let does : DoesNothing n n (steps_of p) (steps_of q) = subst (DoesNothing n n (steps_of p)) (sym g.went.history) (nothing_behind n (steps_of p) g.steps stands may g.searched) in
@@ -88,7 +89,7 @@ module _ {W : Type 0} (seen : W → Writer) where
       }
 
   -- indices that were given up
-  pub passes_frees : (a b : Variables) (p q : Proof W) (c d : Search) → FreesSome a b (steps_of p) (steps_of q) c d → Keeps q → ((w : Proof W) → Took seen w p → Took seen w q) → Passes seen a b p q c d
+  pub passes_frees : (a b : Variables) (p q : Proof W L G) (c d : Search) → FreesSome a b (steps_of p) (steps_of q) c d → Keeps q → ((w : Proof W L G) → Took seen w p → Took seen w q) → Passes seen a b p q c d
   passes_frees a b p q c d f keeps came = record {
     together = record { keeps = keeps; stands = f.does.stands; search = f.search; shares = f.shares };
     took = came p ([], adds_none seen p);
@@ -100,17 +101,17 @@ module _ {W : Type 0} (seen : W → Writer) where
 
   -- FAULTS
 
-  pub falls_goes : {full : Type 0} (e : SolverError) (p q : Proof W) (P : Unit {0} → List Step → Type 0) → GoesOr {A = Unit {0}} full seen (Err e) p q P → FallsOr full seen e p q
+  pub falls_goes : {full : Type 0} (e : SolverError) (p q : Proof W L G) (P : Unit {0} → List Step → Type 0) → GoesOr {A = Unit {0}} full seen (Err e) p q P → FallsOr full seen e p q
   falls_goes e p q P g = record { fault = g.ends; steps = g.steps; went = g.went }
 
   -- what goes wrong where no clause is stored may go wrong where one is
-  pub falls_or : (full : Type 0) (e : SolverError) (p q : Proof W) → Falls seen e p q → FallsOr full seen e p q
+  pub falls_or : (full : Type 0) (e : SolverError) (p q : Proof W L G) → Falls seen e p q → FallsOr full seen e p q
   falls_or full e p q h = record { fault = fault_or full e h.fault; steps = h.steps; went = h.went }
 
-  pub falls_starved : (p : Proof W) → Falls seen errors.OutOfMemory p p
+  pub falls_starved : (p : Proof W L G) → Falls seen errors.OutOfMemory p p
   falls_starved p = record { fault = tt; steps = []; went = adds_none seen p }
 
-  went_later : (full : Type 0) (xs ys : List Step) (p q r : Proof W) → Adds seen xs p q → (e : SolverError) → IsFaultOr full e → Went {A = Unit {0}} seen (Err e) ys q r → Went {A = Unit {0}} seen (Err e) (ys ++ xs) p r
+  went_later : (full : Type 0) (xs ys : List Step) (p q r : Proof W L G) → Adds seen xs p q → (e : SolverError) → IsFaultOr full e → Went {A = Unit {0}} seen (Err e) ys q r → Went {A = Unit {0}} seen (Err e) (ys ++ xs) p r
   went_later full xs ys p q r adds errors.OutOfMemory f w = adds_more seen xs ys p q r adds w
   went_later full xs ys p q r adds errors.StoreFull f w = adds_more seen xs ys p q r adds w
   went_later full xs ys p q r adds (errors.ProofIoError cause) f w = fails_later seen xs ys p q r adds w
@@ -128,24 +129,24 @@ module _ {W : Type 0} (seen : W → Writer) where
   went_later full xs ys p q r adds errors.OutOfRange f w = absurd f
 
   -- behind what went well
-  pub falls_later : {full : Type 0} (e : SolverError) (p q r : Proof W) → Took seen p q → FallsOr full seen e q r → FallsOr full seen e p r
+  pub falls_later : {full : Type 0} (e : SolverError) (p q r : Proof W L G) → Took seen p q → FallsOr full seen e q r → FallsOr full seen e p r
   falls_later {full} e p q r took f = record { fault = f.fault; steps = f.steps ++ took.0; went = went_later full took.0 f.steps p q r took.1 e f.fault f.went }
 
   -- a call over names
-  pub falls_names : (e : NameError) (p q : Proof W) → IsFailure e → ((w : Proof W) → Took seen w p → CameTo (Took seen) (NotTaken seen) w e q) → Falls seen (told_as e) p q
+  pub falls_names : (e : NameError) (p q : Proof W L G) → IsFailure e → ((w : Proof W L G) → Took seen w p → CameTo (Took seen) (NotTaken seen) w e q) → Falls seen (told_as e) p q
   falls_names names.OutOfMemory p q f came = (let t = came p ([], adds_none seen p) in record { fault = tt; steps = t.0; went = t.1 })
   falls_names (names.Write cause) p q f came = (let t = came p ([], adds_none seen p) in record { fault = tt; steps = t.0; went = t.1 })
-  falls_names (names.Check fault) p q f came = (let t = came p ([], adds_none seen p) in record { fault = fault_checked seen _ fault; steps = t.0; went = went_checked seen (Unit {0}) fault t.0 p q t.1 })
+  falls_names (names.Check fault) p q f came = (let t = came p ([], adds_none seen p) in record { fault = fault_checked _ fault; steps = t.0; went = went_checked seen (Unit {0}) fault t.0 p q t.1 })
   falls_names names.WitnessVariable p q f came = absurd f
   falls_names names.AssumedVariable p q f came = absurd f
   falls_names names.VariableLimit p q f came = absurd f
 
   -- SIMPLIFICATION
 
-  pub may_free : (n : Variables) (p : Proof W) (c : Search) → StandTogether n p c → IsFlat c.parts → MayFree n (steps_of p) c
+  pub may_free : (n : Variables) (p : Proof W L G) (c : Search) → StandTogether n p c → IsFlat c.parts → MayFree n (steps_of p) c
   may_free n p c h flat = record { stands = h.stands; search = h.search; shares = h.shares; flat = flat }
 
-  module _ (n n' : Variables) (p q r : Proof W) (c d e : Search) (h : StandTogether n p c) (flat : IsFlat c.parts) (g : Goes {A = Unit {0}} seen (Ok tt) p q (λ _ _. LightensAll (session_of q) c d)) where
+  module _ (n n' : Variables) (p q r : Proof W L G) (c d e : Search) (h : StandTogether n p c) (flat : IsFlat c.parts) (g : Goes {A = Unit {0}} seen (Ok tt) p q (λ _ _. LightensAll (session_of q) c d)) where
     pub lightened : Passes seen n n p q c d
     lightened = passes_goes tt n p q c d (λ _ _. LightensAll (session_of q) c d) h.stands h.shares g g.ends.lighter.search g.ends.lighter.moved g.ends.lighter.word
 
@@ -162,7 +163,7 @@ module _ {W : Type 0} (seen : W → Writer) where
     indices_freed f left x lt none v g =
         ap (λ ls. mentions ls v) f.asked.assumed ∙ left x (subst (λ k. x < k) f.moved.size lt) (rw (f.same.0, f.same.1, f.same.2) at none) v g
 
-    pub simplified : FreesSome n n' (steps_of q) (steps_of r) d e → AreLeft n' (session_of q) d.parts (length d.parts.assignment.current) → Keeps r → ((w : Proof W) → Took seen w q → Took seen w r) → Simplified seen n n' p r c e
+    pub simplified : FreesSome n n' (steps_of q) (steps_of r) d e → AreLeft n' (session_of q) d.parts (length d.parts.assignment.current) → Keeps r → ((w : Proof W L G) → Took seen w q → Took seen w r) → Simplified seen n n' p r c e
     simplified f left keeps came = record {
       passes = passes_trans n n n' p q r c d e lightened (passes_frees n n' q r d e f keeps came);
       flat = f.flat;

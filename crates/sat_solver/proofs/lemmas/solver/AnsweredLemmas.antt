@@ -8,6 +8,7 @@ use Rattle.sat_base.specs.script.Script.{Literal, names_of, Among}
 use Rattle.sat_base.specs.steps.Steps.{Step, Model, FailedAssumptions}
 use Rattle.sat_checker.specs.Fold.{Holds}
 use Rattle.sat_checker.proofs.lemmas.meaning.Answers.{cores_fail}
+use Rattle.sat_checker.specs.declared.processing.ProofProcessor.{Ghosts}
 use Rattle.sat_parts.specs.prop.Values.{IsTrueLit}
 use Rattle.sat_parts.proofs.lemmas.clause.ListLemmas.{at_place}
 use Rattle.sat_solver.proofs.lemmas.joint.CodeLemmas.{coded_by}
@@ -155,7 +156,7 @@ named_among_all line [] h = tt
 named_among_all line (l ∷ asked) h = (literal_among l line h.0, named_among_all line asked h.1)
 
 -- names and search stand where a search came to, whatever became of names
-pub joined_by : {W : Type 0} (n m : Variables) (a b : Core W) → IsJoined n a → b.config ≡ a.config → Keeps b.proof → Stands m (steps_of b.proof) → IsSearch (session_of b.proof) b.search → SharesIndices m b.search → IsJoined m b
+pub joined_by : {W L : Type 0} {G : Ghosts L} (n m : Variables) (a b : Core W L G) → IsJoined n a → b.config ≡ a.config → Keeps b.proof → Stands m (steps_of b.proof) → IsSearch (session_of b.proof) b.search → SharesIndices m b.search → IsJoined m b
 joined_by n m a b joined config keeps stands search shares = record {
   sound = record {
     keeps = keeps;
@@ -167,9 +168,9 @@ joined_by n m a b joined config keeps stands search shares = record {
   shares = shares;
 }
 
-module _ {W : Type 0} (seen : W → Writer) (n : Variables) (a : Core W) (joined : IsJoined n a) where
+module _ {W L : Type 0} {G : Ghosts L} (seen : W → Writer) (n : Variables) (a : Core W L G) (joined : IsJoined n a) where
   -- names stand where a search came to
-  pub joined_at : (b : Core W) (steps : List Step) → Adds seen steps a.proof b.proof → AreSearched (session_of a.proof).solver_names steps → Keeps b.proof → Moved a.search b.search → IsSearch (session_of b.proof) b.search →
+  pub joined_at : (b : Core W L G) (steps : List Step) → Adds seen steps a.proof b.proof → AreSearched (session_of a.proof).solver_names steps → Keeps b.proof → Moved a.search b.search → IsSearch (session_of b.proof) b.search →
       b.config ≡ a.config → IsJoined n b
   joined_at b steps adds searched keeps moved search config = record {
     sound = record {
@@ -183,12 +184,12 @@ module _ {W : Type 0} (seen : W → Writer) (n : Variables) (a : Core W) (joined
   }
 
   -- the judge sees nothing of the steps of a search
-  pub nothing_at : (b : Core W) (steps : List Step) → Adds seen steps a.proof b.proof → AreSearched (session_of a.proof).solver_names steps → Keeps b.proof → DoesNothing n n (steps_of a.proof) (steps_of b.proof)
+  pub nothing_at : (b : Core W L G) (steps : List Step) → Adds seen steps a.proof b.proof → AreSearched (session_of a.proof).solver_names steps → Keeps b.proof → DoesNothing n n (steps_of a.proof) (steps_of b.proof)
   nothing_at b steps adds searched keeps =
       subst (DoesNothing n n (steps_of a.proof)) (sym adds.history) (nothing_behind n (steps_of a.proof) steps joined.stands (subst MayAll adds.history keeps) searched)
 
   -- the step of a model, as the judge expects it
-  pub does_shown : (b : Core W) → Shown seen n a b → (asked : List ℕ) → AllByRecursion (λ l. Among l (line_of n a)) asked →
+  pub does_shown : (b : Core W L G) → Shown seen n a b → (asked : List ℕ) → AllByRecursion (λ l. Among l (line_of n a)) asked →
       Does n n (steps_of a.proof) (steps_of b.proof) (λ j. j) (λ j. Shows (names_of (map named_literal (line_of n a))) (map named_literal asked) (map named_literal (line_of n a)) ∷ [])
   does_shown b shown asked among =
       let may : MayAll (Model (model_of n a) ∷ steps_of a.proof) = subst MayAll shown.adds.history shown.joined.sound.keeps in
@@ -204,7 +205,7 @@ module _ {W : Type 0} (seen : W → Writer) (n : Variables) (a : Core W) (joined
       }
 
   -- the step of a core, as the judge expects it
-  pub does_failed : (b : Core W) (core : List ℕ) → Failed seen n a b core → (asked order : List ℕ) → Images n asked order → a.search.assumptions.lits.items ≡ order →
+  pub does_failed : (b : Core W L G) (core : List ℕ) → Failed seen n a b core → (asked order : List ℕ) → Images n asked order → a.search.assumptions.lits.items ≡ order →
       Does n n (steps_of a.proof) (steps_of b.proof) (λ j. j) (λ j. Fails (map named_literal asked) (map named_literal core) ∷ [])
   does_failed b core f asked order images lits =
       subst (λ ss. Does n n (steps_of a.proof) ss (λ j. j) (λ j. Fails (map named_literal asked) (map named_literal core) ∷ [])) (sym (history_of f))

@@ -1,6 +1,7 @@
 -- An ask begins: no step is made of it, and from there on hashes are shortened.
 use Rattle.std.proofs.Common.{ℕ, ◌+◌, ◌-◌, ◌*◌, ◌^◌, ◌≤◌, ◌≡◌, ◌∙◌, Err, List, [], subst}
 use Rattle.sat_base.specs.device.Device.{Writer}
+use Rattle.sat_checker.specs.declared.processing.ProofProcessor.{Ghosts}
 use Rattle.sat_solver.specs.declared.error.SolverError.{SolverError}
 use Rattle.sat_solver.specs.declared.error.SolverError.TheVariants as errors
 use Rattle.sat_solver.specs.declared.search.solving.Core.{Core}
@@ -21,8 +22,8 @@ use Rattle.sat_solver.proofs.lemmas.search.GoingLemmas.{went_later}
 use Rattle.sat_solver.proofs.lemmas.session.ProofLemmas.{adds_more, fails_later, check_later}
 use Rattle.sat_solver.proofs.lemmas.solver.SettlingLemmas.{whole_over}
 
-module _ {W : Type 0} (seen : W → Writer) (old : Solver W) (p : Proof W) (adds : Adds seen [] old.core.proof p) where
-  abbrev pub begun : Solver W
+module _ {W L : Type 0} {G : Ghosts L} (seen : W → Writer) (old : Solver W L G) (p : Proof W L G) (adds : Adds seen [] old.core.proof p) where
+  abbrev pub begun : Solver W L G
   begun = record old { core = record old.core { proof = p } }
 
   pub whole_begun : IsWhole old → IsWhole begun
@@ -32,7 +33,7 @@ module _ {W : Type 0} (seen : W → Writer) (old : Solver W) (p : Proof W) (adds
   rounds_begun now h = subst (λ ss. RoundsOn old.names ss old.core.config.max_steps old.clock.steps now) adds.history h
 
   -- what is settled behind it
-  pub settled_begun : (new : Solver W) → Settled seen begun new → Settled seen old new
+  pub settled_begun : (new : Solver W L G) → Settled seen begun new → Settled seen old new
   settled_begun new s = record {
     whole = s.whole;
     comes = subst (λ ss. Comes EndsAtUnsat ss (steps_in new)) adds.history s.comes;
@@ -46,7 +47,7 @@ module _ {W : Type 0} (seen : W → Writer) (old : Solver W) (p : Proof W) (adds
     known = λ k. (let h = s.known k in (adds_more seen [] [] old.core.proof p new.core.proof adds h.0, h.1));
   }
 
-  pub flush_begun : (e : SolverError) (q : Proof W) → FlushFails seen e p q → FlushFails seen e old.core.proof q
+  pub flush_begun : (e : SolverError) (q : Proof W L G) → FlushFails seen e p q → FlushFails seen e old.core.proof q
   flush_begun (errors.ProofIoError cause) q h = fails_later seen [] [] old.core.proof p q adds h
   flush_begun errors.OutOfMemory q h = check_later seen [] [] old.core.proof p q adds h
   flush_begun errors.CounterEnd q h = check_later seen [] [] old.core.proof p q adds h
@@ -64,5 +65,5 @@ module _ {W : Type 0} (seen : W → Writer) (old : Solver W) (p : Proof W) (adds
   flush_begun errors.OutOfRange q h = absurd h
 
   -- or fails
-  pub breaks_begun : (e : SolverError) (core : Core W) → Breaks seen e begun.core core → Breaks seen e old.core core
+  pub breaks_begun : (e : SolverError) (core : Core W L G) → Breaks seen e begun.core core → Breaks seen e old.core core
   breaks_begun e core b = record { fault = b.fault; steps = _; went = went_later seen {A = Unit {0}} (Err e) [] b.steps old.core.proof p core.proof adds b.went }

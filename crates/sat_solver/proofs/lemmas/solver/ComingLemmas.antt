@@ -4,6 +4,7 @@ use Rattle.sat_base.specs.device.Device.{Writer}
 use Rattle.sat_base.specs.script.Judge.{Judge, bring_all, refused_literal}
 use Rattle.sat_base.specs.values.Literals.{variable}
 use Rattle.sat_store.specs.variables.Maps.{target}
+use Rattle.sat_checker.specs.declared.processing.ProofProcessor.{Ghosts}
 use Rattle.sat_solver.specs.session.Making.{Took}
 use Rattle.sat_solver.specs.session.ProofView.{steps_of, session_of}
 use Rattle.sat_solver.specs.session.Session.{session_after}
@@ -39,18 +40,18 @@ use Rattle.sat_solver.specs.session.Coming.{Comes}
 use Rattle.sat_solver.specs.names.Coming.{MayTake}
 
 -- the search goes on unless unsat is recorded
-pub goes_of : {W : Type 0} (st : State) (c : Core W) (n : Variables) (asked : Taken) (assumed core : List ℕ) → (st ≡ states.Unsat → ⊥) → StateSays st c n asked assumed core → GoesOn c n asked
+pub goes_of : {W L : Type 0} {G : Ghosts L} (st : State) (c : Core W L G) (n : Variables) (asked : Taken) (assumed core : List ℕ) → (st ≡ states.Unsat → ⊥) → StateSays st c n asked assumed core → GoesOn c n asked
 goes_of states.Unknown c n asked assumed core k h = h
 goes_of states.Sat c n asked assumed core k h = h.0
 goes_of states.UnsatUnderAssumptions c n asked assumed core k h = h.0
 goes_of states.Unsat c n asked assumed core k h = absurd (k refl)
 
-module _ {W : Type 0} (seen : W → Writer) (s : Solver W) (whole : IsWhole s) (apart : s.state ≡ states.Unsat → ⊥) where
+module _ {W L : Type 0} {G : Ghosts L} (seen : W → Writer) (s : Solver W L G) (whole : IsWhole s) (apart : s.state ≡ states.Unsat → ⊥) where
   pub going_on : GoesOn s.core s.names s.asked
   going_on = goes_of s.state s.core s.names s.asked s.assumed.items s.told.failed_core.items apart whole.says
 
-  module _ (b : Core W) (n' : Variables) (user : List ℕ) (loading : Loading) where
-    abbrev pub added : State → Solver W
+  module _ (b : Core W L G) (n' : Variables) (user : List ℕ) (loading : Loading) where
+    abbrev pub added : State → Solver W L G
     added st = record s { core = b; names = n'; loading = loading; state = st }
 
     by_state : (before now : State) → (before ≡ states.Unsat → ⊥) → ((now ≡ states.Unknown) ⊎ (now ≡ states.Unsat)) → Forgets before now
@@ -127,7 +128,7 @@ module _ {W : Type 0} (seen : W → Writer) (s : Solver W) (whole : IsWhole s) (
     }
 
   -- other assumptions came in
-  pub asked_in : (b : Core W) (n' : Variables) (user : List ℕ) (asked : Taken) → TookAssumptions seen s.names n' s.core b user asked → AskedIn seen s (record s { core = b; names = n'; asked = asked; state = states.Unknown }) user
+  pub asked_in : (b : Core W L G) (n' : Variables) (user : List ℕ) (asked : Taken) → TookAssumptions seen s.names n' s.core b user asked → AskedIn seen s (record s { core = b; names = n'; asked = asked; state = states.Unknown }) user
   asked_in b n' user asked t = record {
     whole = record {
       stands = t.does.stands;
@@ -154,7 +155,7 @@ module _ {W : Type 0} (seen : W → Writer) (s : Solver W) (whole : IsWhole s) (
       forgets states.UnsatUnderAssumptions k = tt
       forgets states.Unsat k = absurd (k refl)
 
-module _ {W : Type 0} (seen : W → Writer) (s : Solver W) (whole : IsWhole s) (known : s.state ≡ states.Unsat) (p : Proof W) (n' : Variables) (user : List ℕ) (took : Took seen s.core.proof p) where
+module _ {W L : Type 0} {G : Ghosts L} (seen : W → Writer) (s : Solver W L G) (whole : IsWhole s) (known : s.state ≡ states.Unsat) (p : Proof W L G) (n' : Variables) (user : List ℕ) (took : Took seen s.core.proof p) where
   unsat : (session_of s.core.proof).unsat ≡ true
   unsat = subst (λ st. StateSays st s.core s.names s.asked s.assumed.items s.told.failed_core.items) known whole.says
 
@@ -212,7 +213,7 @@ module _ {W : Type 0} (seen : W → Writer) (s : Solver W) (whole : IsWhole s) (
 -- FAULTS
 
 -- a call over a clause failed
-pub adding_ends : {W : Type 0} (seen : W → Writer) (e : SolverError) (s new : Solver W) (user : List ℕ) → s.failed ≡ false → AreSampled s user → HasRoom s.names (users_in user) → IsFaultOr (HasFullStore new) e → BreaksNamesOr (HasFullStore new) seen e s.core new.core → new.clock ≡ s.clock → new.failed ≡ true → AddsClause seen (Err e) s new user
+pub adding_ends : {W L : Type 0} {G : Ghosts L} (seen : W → Writer) (e : SolverError) (s new : Solver W L G) (user : List ℕ) → s.failed ≡ false → AreSampled s user → HasRoom s.names (users_in user) → IsFaultOr (HasFullStore new) e → BreaksNamesOr (HasFullStore new) seen e s.core new.core → new.clock ≡ s.clock → new.failed ≡ true → AddsClause seen (Err e) s new user
 adding_ends seen errors.OutOfMemory s new user g w r x b k f = (w, r, record { going = g; failed = f; fault = x; breaks = b; clock = k })
 adding_ends seen errors.StoreFull s new user g w r x b k f = (w, r, record { going = g; failed = f; fault = x; breaks = b; clock = k })
 adding_ends seen (errors.ProofIoError cause) s new user g w r x b k f = (w, r, record { going = g; failed = f; fault = x; breaks = b; clock = k })
@@ -230,7 +231,7 @@ adding_ends seen errors.Malformed s new user g w r x b k f = absurd x
 adding_ends seen errors.OutOfRange s new user g w r x b k f = absurd x
 
 -- or one over assumptions
-pub assuming_ends : {W : Type 0} (seen : W → Writer) (e : SolverError) (s new : Solver W) (user : List ℕ) → s.failed ≡ false → AreSampled s user → HasRoom s.names (users_in user) → IsFault e → BreaksNames seen e s.core new.core → new.clock ≡ s.clock → new.failed ≡ true → Assumes seen (Err e) s new user
+pub assuming_ends : {W L : Type 0} {G : Ghosts L} (seen : W → Writer) (e : SolverError) (s new : Solver W L G) (user : List ℕ) → s.failed ≡ false → AreSampled s user → HasRoom s.names (users_in user) → IsFault e → BreaksNames seen e s.core new.core → new.clock ≡ s.clock → new.failed ≡ true → Assumes seen (Err e) s new user
 assuming_ends seen errors.OutOfMemory s new user g w r x b k f = (w, r, record { going = g; failed = f; fault = x; breaks = b; clock = k })
 assuming_ends seen errors.StoreFull s new user g w r x b k f = absurd x
 assuming_ends seen (errors.ProofIoError cause) s new user g w r x b k f = (w, r, record { going = g; failed = f; fault = x; breaks = b; clock = k })
@@ -250,27 +251,27 @@ assuming_ends seen errors.OutOfRange s new user g w r x b k f = absurd x
 -- CALLS
 
 -- no name of mode witness was found
-pub none_refused : {W : Type 0} (s : Solver W) (user : List ℕ) (o : Option ℕ) → ((j : Judge) (live : Live) → AreJudged s.names j live → refused_literal j (names_in user) ≡ as_refusal o) → is_some o ≡ false → AreSampled s user
+pub none_refused : {W L : Type 0} {G : Ghosts L} (s : Solver W L G) (user : List ℕ) (o : Option ℕ) → ((j : Judge) (live : Live) → AreJudged s.names j live → refused_literal j (names_in user) ≡ as_refusal o) → is_some o ≡ false → AreSampled s user
 none_refused s user None judged none = λ j live agree. judged j live agree.judged
 none_refused s user (Some name) judged none = absurd (true≢false none)
 
 -- assumptions were taken, and listed over names
-pub assumed_by : {W : Type 0} (seen : W → Writer) (s mid new : Solver W) (user : List ℕ) → s.failed ≡ false → AreSampled s user → HasRoom s.names (users_in user) → AskedIn seen (record s { used = true }) mid user → mid.clock ≡ s.clock → new ≡ record mid { assumed = new.assumed } → new.assumed.items ≡ user → Assumed seen s new user
-assumed_by {W} seen s mid new user going sampled room a clock same items = record {
+pub assumed_by : {W L : Type 0} {G : Ghosts L} (seen : W → Writer) (s mid new : Solver W L G) (user : List ℕ) → s.failed ≡ false → AreSampled s user → HasRoom s.names (users_in user) → AskedIn seen (record s { used = true }) mid user → mid.clock ≡ s.clock → new ≡ record mid { assumed = new.assumed } → new.assumed.items ≡ user → Assumed seen s new user
+assumed_by {W} {L} {G} seen s mid new user going sampled room a clock same items = record {
   sampled = sampled;
   room = room;
   did = record {
-    whole = subst (λ (x : Solver W). IsWholeOf x.core x.names x.asked new.assumed.items x.told.failed_core.items x.clock.restarts.scale x.state) (sym same)
+    whole = subst (λ (x : Solver W L G). IsWholeOf x.core x.names x.asked new.assumed.items x.told.failed_core.items x.clock.restarts.scale x.state) (sym same)
         (subst (λ ls. IsWholeOf mid.core mid.names mid.asked ls mid.told.failed_core.items mid.clock.restarts.scale mid.state) (sym items) a.whole);
     going = going;
-    failed = ap (λ (x : Solver W). x.failed) same ∙ a.failed ∙ going;
-    used = ap (λ (x : Solver W). x.used) same ∙ a.used;
-    config = ap (λ (x : Solver W). x.core.config) same ∙ a.config;
-    does = subst (λ (x : Solver W). Does s.names x.names (steps_in s) (steps_in x) (bring_all (names_in user)) (due_for_asked user)) (sym same) a.does;
-    took = subst (λ (x : Solver W). Took seen s.core.proof x.core.proof) (sym same) a.took;
+    failed = ap (λ (x : Solver W L G). x.failed) same ∙ a.failed ∙ going;
+    used = ap (λ (x : Solver W L G). x.used) same ∙ a.used;
+    config = ap (λ (x : Solver W L G). x.core.config) same ∙ a.config;
+    does = subst (λ (x : Solver W L G). Does s.names x.names (steps_in s) (steps_in x) (bring_all (names_in user)) (due_for_asked user)) (sym same) a.does;
+    took = subst (λ (x : Solver W L G). Took seen s.core.proof x.core.proof) (sym same) a.took;
   };
-  comes = subst (λ (x : Solver W). Comes (MayTake (names_in user)) (steps_in s) (steps_in x)) (sym same) a.comes;
+  comes = subst (λ (x : Solver W L G). Comes (MayTake (names_in user)) (steps_in s) (steps_in x)) (sym same) a.comes;
   assumed = items;
-  clock = ap (λ (x : Solver W). x.clock) same ∙ clock;
-  state = subst (λ (x : Solver W). Forgets s.state x.state) (sym same) a.state;
+  clock = ap (λ (x : Solver W L G). x.clock) same ∙ clock;
+  state = subst (λ (x : Solver W L G). Forgets s.state x.state) (sym same) a.state;
 }

@@ -2,6 +2,7 @@
 use Rattle.std.proofs.Common.{ℕ, ◌≤◌, ◌<◌, ◌≡◌, ◌∙◌, Bool, true, false, ◌&&◌, Option, None, Some, List, refl, sym, ap, subst}
 use Rattle.std.proofs.lemmas.Bool.{leb-true, true≢false}
 use Rattle.std.specs.Prelude.{nat_le, unwrap_or}
+use Rattle.sat_checker.specs.declared.processing.ProofProcessor.{Ghosts}
 use Rattle.sat_solver.specs.Configs.{in_range, is_decay, passes, updated}
 use Rattle.sat_solver.specs.declared.config.SolverConfig.{SolverConfig}
 use Rattle.sat_solver.specs.declared.config.SolverConfigUpdate.{SolverConfigUpdate}
@@ -60,11 +61,11 @@ decays_kept u c h d =
 pub scale_kept : (u : SolverConfigUpdate) (scale : ℕ) → in_range u ≡ true → 0 < scale → 0 < unwrap_or u.luby_restart_interval_scale scale
 scale_kept u scale h low = kept_count u.luby_restart_interval_scale scale (parts_of u h).scale low
 
-module _ {W : Type 0} (u : SolverConfigUpdate) (c : Core W) (n : Variables) (asked : Taken) (assumed core : List ℕ) (scale : ℕ) (range : in_range u ≡ true) where
-  abbrev pub changed : Core W
+module _ {W L : Type 0} {G : Ghosts L} (u : SolverConfigUpdate) (c : Core W L G) (n : Variables) (asked : Taken) (assumed core : List ℕ) (scale : ℕ) (range : in_range u ≡ true) where
+  abbrev pub changed : Core W L G
   changed = record c { config = updated u c.config }
 
-  going : (b : Core W) → Decays changed b → GoesOn c n asked → GoesOn b n asked
+  going : (b : Core W L G) → Decays changed b → GoesOn c n asked → GoesOn b n asked
   going b d g =
       let bumped = d.bumped (session_of c.proof) g.joined.sound.search in
       subst (λ x. GoesOn x n asked) (sym d.same) (record {
@@ -81,29 +82,29 @@ module _ {W : Type 0} (u : SolverConfigUpdate) (c : Core W) (n : Variables) (ask
         lits = ap (λ ls. ls.items) bumped.moved.lits ∙ g.lits;
       })
 
-  complete : (b : Core W) → Decays changed b → IsComplete c.search.assumptions.lits.items c.search.parts → IsComplete b.search.assumptions.lits.items b.search.parts
+  complete : (b : Core W L G) → Decays changed b → IsComplete c.search.assumptions.lits.items c.search.parts → IsComplete b.search.assumptions.lits.items b.search.parts
   complete b d h =
       subst (λ (x : Search). IsComplete x.assumptions.lits.items x.parts) (sym d.search)
       (subst (λ p. IsComplete c.search.assumptions.lits.items p) (sym d.parts) (record { done = h.done; all = h.all; assumed = h.assumed }))
 
-  says : (st : State) (b : Core W) → HandsOn st changed b → StateSays st c n asked assumed core → StateSays st b n asked assumed core
+  says : (st : State) (b : Core W L G) → HandsOn st changed b → StateSays st c n asked assumed core → StateSays st b n asked assumed core
   says states.Unknown b d h = going b d h
   says states.Sat b d h = (going b d h.0, complete b d h.1)
   says states.UnsatUnderAssumptions b d h = (
     going b d h.0,
     subst (λ x. HasCore x assumed core) (sym d.same) (record { some = h.1.some; codes = h.1.codes; none = h.1.none; same = h.1.same; among = h.1.among }),
   )
-  says states.Unsat b d h = subst (λ (x : Core W). (session_of x.proof).unsat ≡ true) (sym d) h
+  says states.Unsat b d h = subst (λ (x : Core W L G). (session_of x.proof).unsat ≡ true) (sym d) h
 
   -- the parts of a core that aren't the search
-  pub core_same : (st : State) (b : Core W) → HandsOn st changed b → (b.proof ≡ c.proof) × (b.config ≡ updated u c.config)
+  pub core_same : (st : State) (b : Core W L G) → HandsOn st changed b → (b.proof ≡ c.proof) × (b.config ≡ updated u c.config)
   core_same states.Unknown b d = (ap (λ x. x.proof) d.same, ap (λ x. x.config) d.same)
   core_same states.Sat b d = (ap (λ x. x.proof) d.same, ap (λ x. x.config) d.same)
   core_same states.UnsatUnderAssumptions b d = (ap (λ x. x.proof) d.same, ap (λ x. x.config) d.same)
   core_same states.Unsat b d = (ap (λ x. x.proof) d, ap (λ x. x.config) d)
 
   -- all stands behind it
-  pub whole_configured : (st : State) (b : Core W) → HandsOn st changed b → IsWholeOf c n asked assumed core scale st → IsWholeOf b n asked assumed core (unwrap_or u.luby_restart_interval_scale scale) st
+  pub whole_configured : (st : State) (b : Core W L G) → HandsOn st changed b → IsWholeOf c n asked assumed core scale st → IsWholeOf b n asked assumed core (unwrap_or u.luby_restart_interval_scale scale) st
   whole_configured st b d whole = record {
     stands = subst (λ p. Stands n (steps_of p)) (sym (core_same st b d).0) whole.stands;
     images = whole.images;
@@ -116,5 +117,5 @@ module _ {W : Type 0} (u : SolverConfigUpdate) (c : Core W) (n : Variables) (ask
   }
 
 -- what the search holds
-pub holds_unless : {W : Type 0} (c : Core W) (n : Variables) (asked : Taken) (assumed core : List ℕ) (scale : ℕ) (st : State) → IsWholeOf c n asked assumed core scale st → (st ≡ states.Unsat → ⊥) → Holds c.search.parts
+pub holds_unless : {W L : Type 0} {G : Ghosts L} (c : Core W L G) (n : Variables) (asked : Taken) (assumed core : List ℕ) (scale : ℕ) (st : State) → IsWholeOf c n asked assumed core scale st → (st ≡ states.Unsat → ⊥) → Holds c.search.parts
 holds_unless c n asked assumed core scale st whole apart = (goes_of st c n asked assumed core apart whole.says).joined.sound.search.stands.holds

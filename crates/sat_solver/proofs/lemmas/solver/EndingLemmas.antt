@@ -4,6 +4,7 @@ use Rattle.sat_base.specs.device.Device.{Writer}
 use Rattle.sat_base.specs.steps.Steps.{End}
 use Rattle.sat_base.specs.values.Clauses.{EachTrue}
 use Rattle.sat_checker.specs.Fold.{Holds}
+use Rattle.sat_checker.specs.declared.processing.ProofProcessor.{Ghosts}
 use Rattle.sat_solver.specs.names.Adding.{named_literal}
 use Rattle.sat_solver.specs.names.Checking.{variable_of}
 use Rattle.sat_solver.specs.session.ProofView.{Closes, ClosesOne, Keeps, steps_of, session_of}
@@ -30,8 +31,8 @@ use Rattle.sat_solver.proofs.lemmas.solver.TellingLemmas.{search_rests}
 use Rattle.sat_solver.proofs.lemmas.solver.SettlingLemmas.{whole_over}
 
 -- the last step leaves all as it is
-pub whole_ended : {W : Type 0} (c : Core W) (n : Variables) (asked : Taken) (assumed core : List ℕ) (scale : ℕ) (state : State) (p : Proof W) → IsWholeOf c n asked assumed core scale state → steps_of p ≡ End ∷ steps_of c.proof → Keeps p → IsWholeOf (record c { proof = p }) n asked assumed core scale state
-whole_ended {W} c n asked assumed core scale state p whole e keeps = record {
+pub whole_ended : {W L : Type 0} {G : Ghosts L} (c : Core W L G) (n : Variables) (asked : Taken) (assumed core : List ℕ) (scale : ℕ) (state : State) (p : Proof W L G) → IsWholeOf c n asked assumed core scale state → steps_of p ≡ End ∷ steps_of c.proof → Keeps p → IsWholeOf (record c { proof = p }) n asked assumed core scale state
+whole_ended {W} {L} {G} c n asked assumed core scale state p whole e keeps = record {
   stands = stands;
   images = whole.images;
   spelt = whole.spelt;
@@ -75,7 +76,7 @@ whole_ended {W} c n asked assumed core scale state p whole e keeps = record {
     )
     says states.Unsat h = ap (λ ss. (session_after ss).unsat) e ∙ h
 
-module _ {W : Type 0} (seen : W → Writer) (s : Solver W) (whole : IsWhole s) (going : s.failed ≡ false) (p : Proof W) (keeps : Keeps p) where
+module _ {W L : Type 0} {G : Ghosts L} (seen : W → Writer) (s : Solver W L G) (whole : IsWhole s) (going : s.failed ≡ false) (p : Proof W L G) (keeps : Keeps p) where
   -- the target came back
   pub closed_one : (given : W) → ClosesOne seen given s.core.proof p → ClosedOne seen given s (record s { core = record s.core { proof = p } })
   closed_one given c = record {

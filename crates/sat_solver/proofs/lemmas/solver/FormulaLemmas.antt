@@ -12,6 +12,7 @@ use Rattle.sat_base.proofs.lemmas.dimacs.Parsed.{Stands as HasFed}
 use Rattle.sat_checker.specs.DimacsView.{AreRead, FailsBehind}
 use Rattle.sat_checker.specs.ProofView.{NoneFailed}
 use Rattle.sat_checker.proofs.lemmas.checker.Texts.{fed_more, open_read, read_by_piece, read_by_end, clean_by_end, fails_by_piece, fails_by_end}
+use Rattle.sat_checker.specs.declared.processing.ProofProcessor.{Ghosts}
 use Rattle.sat_solver.specs.declared.error.SolverError.{SolverError}
 use Rattle.sat_solver.specs.declared.error.SolverError.TheVariants as errors
 use Rattle.sat_solver.specs.declared.solver.Solver.{Solver}
@@ -37,50 +38,57 @@ taken_by_end (Err texts.OutOfMemory) p q f = ap (λ (z : Progress). z.taken) f.1
 taken_by_end (Err texts.Read) p q f = absurd f
 taken_by_end (Err texts.HasFailed) p q f = ap (λ (z : Progress). z.taken) f.1
 
-module _ {W : Type 0} (seen : W → Writer) where
+split_one : (clauses before rest more : List (List ℕ)) (c : List ℕ) → clauses ≡ before ++ rest → rest ≡ c ∷ more → clauses ≡ (before ++ c ∷ []) ++ more
+split_one clauses before rest more c e f = e ∙ ap (λ (z : List (List ℕ)). before ++ z) f ∙ sym (append_assoc before (c ∷ []) more)
+
+fault_apart : (d : DimacsError) → text_fault d ≡ errors.HasFailed → d ≡ texts.HasFailed
+fault_apart (texts.Malformed line) e = cc
+fault_apart (texts.Limit line) e = cc
+fault_apart texts.Read e = cc
+fault_apart texts.OutOfMemory e = cc
+fault_apart texts.HasFailed e = refl
+
+module _ {W L : Type 0} {G : Ghosts L} (seen : W → Writer) where
   -- CLAUSES
 
-  pub adds_joined : (a b d : Solver W) (cs ds : List (List ℕ)) → AddsAll seen a cs b → AddsAll seen b ds d → AddsAll seen a (cs ++ ds) d
+  pub adds_joined : (a b d : Solver W L G) (cs ds : List (List ℕ)) → AddsAll seen a cs b → AddsAll seen b ds d → AddsAll seen a (cs ++ ds) d
   adds_joined a b d [] ds p q = subst (λ z. AddsAll seen z ds d) p q
   adds_joined a b d (c ∷ cs) ds p q = (p.0, p.1, adds_joined p.0 b d cs ds p.2 q)
 
-  pub adds_going : (a b : Solver W) (cs : List (List ℕ)) → a.failed ≡ false → AddsAll seen a cs b → b.failed ≡ false
-  adds_going a b [] going p = ap (λ (z : Solver W). z.failed) p ∙ going
+  pub adds_going : (a b : Solver W L G) (cs : List (List ℕ)) → a.failed ≡ false → AddsAll seen a cs b → b.failed ≡ false
+  adds_going a b [] going p = ap (λ (z : Solver W L G). z.failed) p ∙ going
   adds_going a b (c ∷ cs) going p = adds_going p.0 b cs p.1.did.failed p.2
 
   -- these clauses were added, and those are left
-  pub record AddedSo (old now : Solver W) (clauses rest : List (List ℕ)) : Type 0 where
+  pub record AddedSo (old now : Solver W L G) (clauses rest : List (List ℕ)) : Type 0 where
     pub before : List (List ℕ)
     pub split : clauses ≡ before ++ rest
     pub added : AddsAll seen old before now
 
-  pub so_none : (old : Solver W) (clauses rest : List (List ℕ)) → clauses ≡ rest → AddedSo old old clauses rest
+  pub so_none : (old : Solver W L G) (clauses rest : List (List ℕ)) → clauses ≡ rest → AddedSo old old clauses rest
   so_none old clauses rest e = record { before = []; split = e; added = refl }
 
-  split_one : (clauses before rest more : List (List ℕ)) (c : List ℕ) → clauses ≡ before ++ rest → rest ≡ c ∷ more → clauses ≡ (before ++ c ∷ []) ++ more
-  split_one clauses before rest more c e f = e ∙ ap (λ (z : List (List ℕ)). before ++ z) f ∙ sym (append_assoc before (c ∷ []) more)
-
-  pub so_one : (old now new : Solver W) (clauses rest more : List (List ℕ)) (c : List ℕ) → rest ≡ c ∷ more → AddedSo old now clauses rest → Added seen now new c → AddedSo old new clauses more
+  pub so_one : (old now new : Solver W L G) (clauses rest more : List (List ℕ)) (c : List ℕ) → rest ≡ c ∷ more → AddedSo old now clauses rest → Added seen now new c → AddedSo old new clauses more
   so_one old now new clauses rest more c e so added = record {
     before = so.before ++ c ∷ [];
     split = split_one clauses so.before rest more c so.split e;
     added = adds_joined old now new so.before (c ∷ []) so.added (new, added, refl);
   }
 
-  pub so_all : (old now : Solver W) (clauses rest : List (List ℕ)) → old.failed ≡ false → rest ≡ [] → AddedSo old now clauses rest → AddsFormula seen (Ok tt) old now clauses
+  pub so_all : (old now : Solver W L G) (clauses rest : List (List ℕ)) → old.failed ≡ false → rest ≡ [] → AddedSo old now clauses rest → AddsFormula seen (Ok tt) old now clauses
   so_all old now clauses rest going e so = (going, subst (λ cs. AddsAll seen old cs now) (sym (so.split ∙ ap (λ (z : List (List ℕ)). so.before ++ z) e ∙ append-nil so.before)) so.added)
 
-  stops_at : (e : SolverError) (old now new : Solver W) (clauses rest more : List (List ℕ)) (c : List ℕ) → old.failed ≡ false → rest ≡ c ∷ more → AddedSo old now clauses rest → AddsClause seen (Err e) now new c → StopsAt seen e old new clauses
+  stops_at : (e : SolverError) (old now new : Solver W L G) (clauses rest more : List (List ℕ)) (c : List ℕ) → old.failed ≡ false → rest ≡ c ∷ more → AddedSo old now clauses rest → AddsClause seen (Err e) now new c → StopsAt seen e old new clauses
   stops_at e old now new clauses rest more c going at so stops =
       record { going = going; before = so.before; clause = c; left = more; split = so.split ∙ ap (λ (z : List (List ℕ)). so.before ++ z) at; mid = now; added = so.added; stops = stops }
 
   -- a clause that isn't added isn't refused for an earlier failure
-  clause_apart : (e : SolverError) (old new : Solver W) (clauses : List (List ℕ)) → StopsAt seen e old new clauses → e ≡ errors.HasFailed → ⊥
+  clause_apart : (e : SolverError) (old new : Solver W L G) (clauses : List (List ℕ)) → StopsAt seen e old new clauses → e ≡ errors.HasFailed → ⊥
   clause_apart e old new clauses s is =
       let r : Refuses s.mid new (s.mid.failed ≡ true) = subst (λ (z : SolverError). AddsClause seen (Err z) s.mid new s.clause) is s.stops in
       true≢false (sym r.cause ∙ adds_going old s.mid s.before s.going s.added)
 
-  formula_by : (e : SolverError) (old new : Solver W) (clauses : List (List ℕ)) → (e ≡ errors.HasFailed → ⊥) → StopsAt seen e old new clauses → AddsFormula seen (Err e) old new clauses
+  formula_by : (e : SolverError) (old new : Solver W L G) (clauses : List (List ℕ)) → (e ≡ errors.HasFailed → ⊥) → StopsAt seen e old new clauses → AddsFormula seen (Err e) old new clauses
   formula_by errors.OutOfMemory old new clauses n s = s
   formula_by errors.StoreFull old new clauses n s = s
   formula_by (errors.ProofIoError cause) old new clauses n s = s
@@ -97,13 +105,13 @@ module _ {W : Type 0} (seen : W → Writer) where
   formula_by errors.Malformed old new clauses n s = s
   formula_by errors.OutOfRange old new clauses n s = s
 
-  pub so_stops : (e : SolverError) (old now new : Solver W) (clauses rest more : List (List ℕ)) (c : List ℕ) → old.failed ≡ false → rest ≡ c ∷ more → AddedSo old now clauses rest → AddsClause seen (Err e) now new c → AddsFormula seen (Err e) old new clauses
+  pub so_stops : (e : SolverError) (old now new : Solver W L G) (clauses rest more : List (List ℕ)) (c : List ℕ) → old.failed ≡ false → rest ≡ c ∷ more → AddedSo old now clauses rest → AddsClause seen (Err e) now new c → AddsFormula seen (Err e) old new clauses
   so_stops e old now new clauses rest more c going at so stops =
       let s = stops_at e old now new clauses rest more c going at so stops in
       formula_by e old new clauses (clause_apart e old new clauses s) s
 
   -- and back
-  pub stops_of : (e : SolverError) (old new : Solver W) (clauses : List (List ℕ)) → old.failed ≡ false → AddsFormula seen (Err e) old new clauses → StopsAt seen e old new clauses
+  pub stops_of : (e : SolverError) (old new : Solver W L G) (clauses : List (List ℕ)) → old.failed ≡ false → AddsFormula seen (Err e) old new clauses → StopsAt seen e old new clauses
   stops_of errors.OutOfMemory old new clauses going s = s
   stops_of errors.StoreFull old new clauses going s = s
   stops_of (errors.ProofIoError cause) old new clauses going s = s
@@ -122,7 +130,7 @@ module _ {W : Type 0} (seen : W → Writer) where
 
   -- TEXTS
 
-  text_by : (e : SolverError) (old new : Solver W) (from to : Reader) → (e ≡ errors.HasFailed → ⊥) → TextFails seen e old new from to ⊎ ClauseFails seen e old new from to → AddsText seen (Err e) old new from to
+  text_by : (e : SolverError) (old new : Solver W L G) (from to : Reader) → (e ≡ errors.HasFailed → ⊥) → TextFails seen e old new from to ⊎ ClauseFails seen e old new from to → AddsText seen (Err e) old new from to
   text_by errors.OutOfMemory old new from to n s = s
   text_by errors.StoreFull old new from to n s = s
   text_by (errors.ProofIoError cause) old new from to n s = s
@@ -139,19 +147,12 @@ module _ {W : Type 0} (seen : W → Writer) where
   text_by errors.Malformed old new from to n s = s
   text_by errors.OutOfRange old new from to n s = s
 
-  fault_apart : (d : DimacsError) → text_fault d ≡ errors.HasFailed → d ≡ texts.HasFailed
-  fault_apart (texts.Malformed line) e = cc
-  fault_apart (texts.Limit line) e = cc
-  fault_apart texts.Read e = cc
-  fault_apart texts.OutOfMemory e = cc
-  fault_apart texts.HasFailed e = refl
-
-  module _ (old cur : Solver W) (going : old.failed ≡ false) (q : Progress) (first : AddsAll seen old q.taken cur) where
+  module _ (old cur : Solver W L G) (going : old.failed ≡ false) (q : Progress) (first : AddsAll seen old q.taken cur) where
     -- those that were read before were added, and these are tried
-    first_then : (new : Solver W) (clauses : List (List ℕ)) → clauses_read q ≡ q.taken ++ clauses → AddsAll seen cur clauses new → AddsAll seen old (clauses_read q) new
+    first_then : (new : Solver W L G) (clauses : List (List ℕ)) → clauses_read q ≡ q.taken ++ clauses → AddsAll seen cur clauses new → AddsAll seen old (clauses_read q) new
     first_then new clauses split added = subst (λ cs. AddsAll seen old cs new) (sym split) (adds_joined old cur new q.taken clauses first added)
 
-    stops_then : (e : SolverError) (new : Solver W) (clauses : List (List ℕ)) → clauses_read q ≡ q.taken ++ clauses → StopsAt seen e cur new clauses → StopsAt seen e old new (clauses_read q)
+    stops_then : (e : SolverError) (new : Solver W L G) (clauses : List (List ℕ)) → clauses_read q ≡ q.taken ++ clauses → StopsAt seen e cur new clauses → StopsAt seen e old new (clauses_read q)
     stops_then e new clauses split s = record {
       going = going;
       before = q.taken ++ s.before;
@@ -163,7 +164,7 @@ module _ {W : Type 0} (seen : W → Writer) where
       stops = s.stops;
     }
 
-    answers_text : (e : SolverError) (answer : Result Unit DimacsError) (new : Solver W) (from to : Reader) → NoneFailed from to → ((d : DimacsError) → answer ≡ Err d → FailsBehind d from to (clauses_read q)) → (answer ≡ Err texts.HasFailed → ⊥) →
+    answers_text : (e : SolverError) (answer : Result Unit DimacsError) (new : Solver W L G) (from to : Reader) → NoneFailed from to → ((d : DimacsError) → answer ≡ Err d → FailsBehind d from to (clauses_read q)) → (answer ≡ Err texts.HasFailed → ⊥) →
         GaveEnough from to (λ text. AreRead text (clauses_read q)) → AddsRead seen (Err e) answer q cur new → AddsText seen (Err e) old new from to
     answers_text e answer new from to quiet fails apart read a = elim a.2 [
       | inl r ↦ text_by e old new from to (λ is. apart (r.answered ∙ ap (λ (d : DimacsError). Err d) (fault_apart r.fault (sym r.is ∙ is))))
@@ -172,7 +173,7 @@ module _ {W : Type 0} (seen : W → Writer) where
     ]
 
   -- a piece without a fault
-  pub piece_added : (old cur new : Solver W) (text piece : List ℕ) (p q r : Progress) (answer : Result Unit DimacsError) → HasFed text p → Feeds answer piece p q → r ≡ all_taken q → AddsRead seen (Ok tt) answer q cur new → AddsAll seen old p.taken cur
+  pub piece_added : (old cur new : Solver W L G) (text piece : List ℕ) (p q r : Progress) (answer : Result Unit DimacsError) → HasFed text p → Feeds answer piece p q → r ≡ all_taken q → AddsRead seen (Ok tt) answer q cur new → AddsAll seen old p.taken cur
       → HasFed (text ++ piece) r × (r.taken ≡ (dimacs (settled (text ++ piece))).clauses) × AddsAll seen old r.taken new
   piece_added old cur new text piece p q r answer is f t a added =
       let fed : q ≡ with_fed piece p = (subst (λ (z : Result Unit DimacsError). Feeds z piece p q) a.2.0 f).1 in
@@ -183,7 +184,7 @@ module _ {W : Type 0} (seen : W → Writer) where
       )
 
   -- one at which reading stops
-  pub piece_answers : (e : SolverError) (answer : Result Unit DimacsError) (old cur new : Solver W) (from to : Reader) (text piece : List ℕ) (p q : Progress) → old.failed ≡ false → HasFed text p → Feeds answer piece p q → NoneFailed from to
+  pub piece_answers : (e : SolverError) (answer : Result Unit DimacsError) (old cur new : Solver W L G) (from to : Reader) (text piece : List ℕ) (p q : Progress) → old.failed ≡ false → HasFed text p → Feeds answer piece p q → NoneFailed from to
       → GaveFront from to (text ++ piece) → to.ended ≡ false → to.calls ≤ from.calls + length (text ++ piece) + 1 → AddsAll seen old p.taken cur → AddsRead seen (Err e) answer q cur new → AddsText seen (Err e) old new from to
   piece_answers e answer old cur new from to text piece p q going is f n g o few added a =
       answers_text old cur going q (subst (λ cs. AddsAll seen old cs cur) (sym (taken_by_piece answer text piece p q is f)) added) e answer new from to n
@@ -193,7 +194,7 @@ module _ {W : Type 0} (seen : W → Writer) where
       a
 
   -- the end of the text
-  pub end_answers : (result : Result Unit SolverError) (answer : Result Unit DimacsError) (old cur new : Solver W) (from to : Reader) (text : List ℕ) (p q : Progress) → old.failed ≡ false → HasFed text p → Finishes answer p q → NoneFailed from to
+  pub end_answers : (result : Result Unit SolverError) (answer : Result Unit DimacsError) (old cur new : Solver W L G) (from to : Reader) (text : List ℕ) (p q : Progress) → old.failed ≡ false → HasFed text p → Finishes answer p q → NoneFailed from to
       → GaveAll from to text → AddsAll seen old p.taken cur → AddsRead seen result answer q cur new → AddsText seen result old new from to
   end_answers (Ok x) answer old cur new from to text p q going is f n g added a =
       let first : AddsAll seen old q.taken cur = subst (λ cs. AddsAll seen old cs cur) (sym (taken_by_end answer p q f)) added in
@@ -212,7 +213,7 @@ module _ {W : Type 0} (seen : W → Writer) where
       a
 
   -- a read that failed
-  pub read_answers : (old cur : Solver W) (from to : Reader) (text : List ℕ) (p : Progress) → old.failed ≡ false → HasFed text p → ReadFails from to → GaveFront from to text → IsSound p → p.taken ≡ (dimacs (settled text)).clauses → AddsAll seen old p.taken cur →
+  pub read_answers : (old cur : Solver W L G) (from to : Reader) (text : List ℕ) (p : Progress) → old.failed ≡ false → HasFed text p → ReadFails from to → GaveFront from to text → IsSound p → p.taken ≡ (dimacs (settled text)).clauses → AddsAll seen old p.taken cur →
       AddsText seen (Err errors.Read) old cur from to
   read_answers old cur from to text p going is r g s t added = inl (record {
     going = going;
@@ -225,5 +226,5 @@ module _ {W : Type 0} (seen : W → Writer) where
     new_is = same cur (adds_going old cur p.taken going added);
   })
     where
-      same : (c : Solver W) → c.failed ≡ false → c ≡ record c { failed = false }
+      same : (c : Solver W L G) → c.failed ≡ false → c ≡ record c { failed = false }
       same c e = subst (λ (b : Bool). c ≡ record c { failed = b }) e refl

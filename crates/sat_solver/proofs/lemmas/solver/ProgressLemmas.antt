@@ -3,6 +3,7 @@ use Rattle.std.proofs.Common.{ℕ, zero, suc, ◌+◌, ◌<◌, ◌≤◌, ◌�
 use Rattle.std.proofs.lemmas.Bool.{le-ltb}
 use Rattle.sat_store.specs.clause.Header.{index_of}
 use Rattle.sat_store.specs.declared.clause.tier.Tier.{Tier}
+use Rattle.sat_checker.specs.declared.processing.ProofProcessor.{Ghosts}
 use Rattle.sat_parts.specs.prop.Values.{value_of}
 use Rattle.sat_solver.specs.declared.names.Variables.{Variables}
 use Rattle.sat_solver.specs.declared.solver.Solver.{Solver}
@@ -44,7 +45,7 @@ module _ (n : Variables) (values : List (Option Bool)) (x g : ℕ) (tidy : AreTi
       ∙ ap (λ b. true && (b && not (is_some (value_of values x)))) (lt-ltb x (length values) lt))
 
 -- the search goes on
-pub parts_hold : {W : Type 0} (s : Solver W) → GoesOnIn s → Holds s.core.search.parts
+pub parts_hold : {W L : Type 0} {G : Ghosts L} (s : Solver W L G) → GoesOnIn s → Holds s.core.search.parts
 parts_hold s h = go s.state refl (h.solver h.going).says
   where
     go : (st : State) → s.state ≡ st → StateSays st s.core s.names s.asked s.assumed.items s.told.failed_core.items → Holds s.core.search.parts

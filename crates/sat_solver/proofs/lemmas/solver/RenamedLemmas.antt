@@ -9,6 +9,7 @@ use Rattle.sat_base.specs.script.Script.{Literal, Among}
 use Rattle.sat_base.specs.script.Judge.{Judge}
 use Rattle.sat_checker.specs.LiteralSets.{mentions}
 use Rattle.sat_store.specs.variables.Maps.{target}
+use Rattle.sat_checker.specs.declared.processing.ProofProcessor.{Ghosts}
 use Rattle.sat_solver.specs.session.Making.{Took}
 use Rattle.sat_solver.specs.session.ProofView.{steps_of, session_of}
 use Rattle.sat_solver.specs.declared.session.made.CheckFault.TheVariants as checks
@@ -76,7 +77,7 @@ some_same v w e = cc
 
 -- ASSUMPTIONS AND THEIR MARKS
 
-module _ {W : Type 0} (s : Solver W) (whole : IsWhole s) where
+module _ {W L : Type 0} {G : Ghosts L} (s : Solver W L G) (whole : IsWhole s) where
   -- the variable of one of the assumptions
   pub record Asked_as (l : ℕ) : Type 0 where
     pub variable_is : ℕ
@@ -124,8 +125,8 @@ module _ {W : Type 0} (s : Solver W) (whole : IsWhole s) where
 
   -- NAMES THAT THE ASSUMPTIONS DON'T HAVE
 
-  module _ (n' : Variables) (p : Proof W) (stands : Stands n' (steps_of p)) (kept : (l v : ℕ) → Among l s.assumed.items → global_of s.names (variable l) ≡ Some v → global_of n' (variable l) ≡ Some v) (alike : IsAlike s.names n' (steps_in s) (steps_of p)) where
-    abbrev new : Core W
+  module _ (n' : Variables) (p : Proof W L G) (stands : Stands n' (steps_of p)) (kept : (l v : ℕ) → Among l s.assumed.items → global_of s.names (variable l) ≡ Some v → global_of n' (variable l) ≡ Some v) (alike : IsAlike s.names n' (steps_in s) (steps_of p)) where
+    abbrev new : Core W L G
     new = record s.core { proof = p }
 
     images : Images n' s.assumed.items s.asked.order.items
@@ -244,7 +245,7 @@ module _ {W : Type 0} (s : Solver W) (whole : IsWhole s) where
   pub others_kept : (n' : Variables) (user : ℕ) → (IsAsked s user → ⊥) → KeepsOthers s.names n' user → (l v : ℕ) → Among l s.assumed.items → global_of s.names (variable l) ≡ Some v → global_of n' (variable l) ≡ Some v
   others_kept n' user free others l v h e = others (variable l) v (λ q. free (l, h, q)) e
 
-module _ {W : Type 0} (seen : W → Writer) (s : Solver W) (whole : IsWhole s) (going : s.failed ≡ false) (n' : Variables) (p : Proof W) where
+module _ {W L : Type 0} {G : Ghosts L} (seen : W → Writer) (s : Solver W L G) (whole : IsWhole s) (going : s.failed ≡ false) (n' : Variables) (p : Proof W L G) where
   abbrev values : List (Option Bool)
   values = s.core.search.parts.assignment.current
 
@@ -298,7 +299,7 @@ module _ {W : Type 0} (seen : W → Writer) (s : Solver W) (whole : IsWhole s) (
   }
 
 -- a call over modes failed
-pub mode_ends : {W : Type 0} (seen : W → Writer) (e : SolverError) (s new : Solver W) (user : ℕ) (judge : Judge → Judge) (due : Judge → List Expected) (May : List Step → Step → Type 0) → s.failed ≡ false → (IsAsked s user → ⊥) → HasRoom s.names (user ∷ []) → IsFault e → BreaksNames seen e s.core new.core → new.clock ≡ s.clock → new.failed ≡ true → ChangesMode seen (Err e) s new user judge due May
+pub mode_ends : {W L : Type 0} {G : Ghosts L} (seen : W → Writer) (e : SolverError) (s new : Solver W L G) (user : ℕ) (judge : Judge → Judge) (due : Judge → List Expected) (May : List Step → Step → Type 0) → s.failed ≡ false → (IsAsked s user → ⊥) → HasRoom s.names (user ∷ []) → IsFault e → BreaksNames seen e s.core new.core → new.clock ≡ s.clock → new.failed ≡ true → ChangesMode seen (Err e) s new user judge due May
 mode_ends seen errors.OutOfMemory s new user judge due May g n r x b k f = (n, r, record { going = g; failed = f; fault = x; breaks = b; clock = k })
 mode_ends seen errors.StoreFull s new user judge due May g n r x b k f = absurd x
 mode_ends seen (errors.ProofIoError cause) s new user judge due May g n r x b k f = (n, r, record { going = g; failed = f; fault = x; breaks = b; clock = k })
@@ -316,7 +317,7 @@ mode_ends seen errors.Malformed s new user judge due May g n r x b k f = absurd 
 mode_ends seen errors.OutOfRange s new user judge due May g n r x b k f = absurd x
 
 -- a call that gives names failed
-pub new_ends : {W : Type 0} (seen : W → Writer) (e : SolverError) (s new : Solver W) → s.failed ≡ false → IsFault e → BreaksNames seen e s.core new.core → new.clock ≡ s.clock → new.failed ≡ true → NamesFail seen e s new
+pub new_ends : {W L : Type 0} {G : Ghosts L} (seen : W → Writer) (e : SolverError) (s new : Solver W L G) → s.failed ≡ false → IsFault e → BreaksNames seen e s.core new.core → new.clock ≡ s.clock → new.failed ≡ true → NamesFail seen e s new
 new_ends seen errors.OutOfMemory s new g x b k f = record { going = g; failed = f; fault = x; breaks = b; clock = k }
 new_ends seen errors.StoreFull s new g x b k f = absurd x
 new_ends seen (errors.ProofIoError cause) s new g x b k f = record { going = g; failed = f; fault = x; breaks = b; clock = k }
@@ -334,7 +335,7 @@ new_ends seen errors.Malformed s new g x b k f = absurd x
 new_ends seen errors.OutOfRange s new g x b k f = absurd x
 
 -- a call for a new name failed
-pub new_fails : {W : Type 0} (seen : W → Writer) (e : SolverError) (s new : Solver W) → s.failed ≡ false → (NoneLeft s.names → ⊥) → IsFault e → BreaksNames seen e s.core new.core → new.clock ≡ s.clock → new.failed ≡ true → NewFails seen e s new
+pub new_fails : {W L : Type 0} {G : Ghosts L} (seen : W → Writer) (e : SolverError) (s new : Solver W L G) → s.failed ≡ false → (NoneLeft s.names → ⊥) → IsFault e → BreaksNames seen e s.core new.core → new.clock ≡ s.clock → new.failed ≡ true → NewFails seen e s new
 new_fails seen errors.OutOfMemory s new g n x b k f = (n, record { going = g; failed = f; fault = x; breaks = b; clock = k })
 new_fails seen errors.StoreFull s new g n x b k f = absurd x
 new_fails seen (errors.ProofIoError cause) s new g n x b k f = (n, record { going = g; failed = f; fault = x; breaks = b; clock = k })
@@ -376,17 +377,17 @@ told_limit (names.Check checks.CounterEnd) h = cc
 told_limit (names.Check (checks.Processor cause)) h = cc
 
 -- a call that changed neither names nor steps
-pub same_solver : {W : Type 0} (s : Solver W) (n' : Variables) (p : Proof W) → n' ≡ s.names → p ≡ s.core.proof → ◌≡◌ {A = Solver W} (record s { core = record s.core { proof = p }; names = n' }) s
-same_solver {W} s n' p e f =
-    subst (λ (n : Variables). ◌≡◌ {A = Solver W} (record s { core = record s.core { proof = p }; names = n }) s) (sym e)
-    (subst (λ (q : Proof W). ◌≡◌ {A = Solver W} (record s { core = record s.core { proof = q } }) s) (sym f) refl)
+pub same_solver : {W L : Type 0} {G : Ghosts L} (s : Solver W L G) (n' : Variables) (p : Proof W L G) → n' ≡ s.names → p ≡ s.core.proof → ◌≡◌ {A = Solver W L G} (record s { core = record s.core { proof = p }; names = n' }) s
+same_solver {W} {L} {G} s n' p e f =
+    subst (λ (n : Variables). ◌≡◌ {A = Solver W L G} (record s { core = record s.core { proof = p }; names = n }) s) (sym e)
+    (subst (λ (q : Proof W L G). ◌≡◌ {A = Solver W L G} (record s { core = record s.core { proof = q } }) s) (sym f) refl)
 
 -- the next of the names is the judge's lowest one not in use
-pub next_name : {W : Type 0} (s : Solver W) → IsWhole s → (user : ℕ) → IsNextUser s.names user → IsNextName s (user + 1)
+pub next_name : {W L : Type 0} {G : Ghosts L} (s : Solver W L G) → IsWhole s → (user : ℕ) → IsNextUser s.names user → IsNextName s (user + 1)
 next_name s whole user next j live agree = lowest_unused s.names (steps_in s) j live user whole.stands agree.judged next
 
 -- hidden variables got names
-pub observed_all : {W : Type 0} (seen : W → Writer) (s : Solver W) → IsWhole s → s.failed ≡ false → (n' : Variables) (p : Proof W) (users : List ℕ) (used : Bool) → used ≡ (s.used || not (eqb (length users) 0)) → NamesAllHidden s.names n' (steps_in s) (steps_of p) users → Took seen s.core.proof p →
+pub observed_all : {W L : Type 0} {G : Ghosts L} (seen : W → Writer) (s : Solver W L G) → IsWhole s → s.failed ≡ false → (n' : Variables) (p : Proof W L G) (users : List ℕ) (used : Bool) → used ≡ (s.used || not (eqb (length users) 0)) → NamesAllHidden s.names n' (steps_in s) (steps_of p) users → Took seen s.core.proof p →
     Observed seen s (record s { core = record s.core { proof = p }; names = n'; used = used }) users
 observed_all seen s whole going n' p users used opened all took = record {
   whole = whole_renamed s whole n' p all.stands (λ l v h e. all.names (variable l) v e) (alike_unseen s.names n' (steps_in s) (steps_of p) all.unseen);

@@ -1,5 +1,6 @@
 -- What answers rest on.
 use Rattle.std.proofs.Common.{ℕ, ◌<◌, ◌≡◌, ◌∙◌, Bool, false, Option, List, [], length, get_or, refl, sym, subst}
+use Rattle.sat_checker.specs.declared.processing.ProofProcessor.{Ghosts}
 use Rattle.sat_parts.specs.prop.Values.{IsTrueLit}
 use Rattle.sat_solver.specs.session.ProofView.{session_of}
 use Rattle.sat_solver.proofs.lemmas.session.NamedLemmas.{named_unsat_is_right}
@@ -12,7 +13,7 @@ use Rattle.sat_solver.proofs.lemmas.solver.ShownLemmas.{shown_may}
 use Rattle.sat_solver.proofs.lemmas.solver.LineLemmas.{model_line, core_of, means_of}
 use Rattle.sat_solver.proofs.lemmas.solver.AnsweredLemmas.{asked_shown}
 
-module _ {W : Type 0} (s : Solver W) (whole : IsWhole s) where
+module _ {W L : Type 0} {G : Ghosts L} (s : Solver W L G) (whole : IsWhole s) where
   -- the line of a model is right
   pub model_rests : s.failed ≡ false → s.state ≡ states.Sat → (line : List ℕ) → line ≡ line_in s → IsModel s line
   model_rests going state line e = record {

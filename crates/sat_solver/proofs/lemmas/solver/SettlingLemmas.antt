@@ -6,6 +6,7 @@ use Rattle.sat_base.specs.script.Script.{names_of, Among}
 use Rattle.sat_base.specs.steps.Steps.{FailedAssumptions}
 use Rattle.sat_base.specs.values.Clauses.{Valuation, EachTrue}
 use Rattle.sat_checker.specs.Fold.{Holds}
+use Rattle.sat_checker.specs.declared.processing.ProofProcessor.{Ghosts}
 use Rattle.sat_parts.specs.prop.Values.{IsTrueLit}
 use Rattle.sat_solver.specs.session.LiveClauses.{with_var}
 use Rattle.sat_solver.specs.session.ProofView.{Target, Closed, Open, Broken, Flushed, Flushes, FlushesOrFails, FailsCheck, HasTold, steps_of, session_of, target_of}
@@ -78,7 +79,7 @@ assumed_moved s t c c' h k moved =
     k ∙ ap (λ gs. map (with_var (λ x. get_or gs x 0)) c'.assumptions.lits.items) (ap (λ gs. gs.items) moved.globals)
     ∙ ap (λ ls. map (with_var (global_in c)) ls) (ap (λ ls. ls.items) moved.lits) ∙ sym h
 
-module _ {W : Type 0} (seen : W → Writer) (s : Solver W) (whole : IsWhole s) where
+module _ {W L : Type 0} {G : Ghosts L} (seen : W → Writer) (s : Solver W L G) (whole : IsWhole s) where
   -- where an answer was known
   pub settled_known : (s.state ≡ states.Unknown → ⊥) → Settled seen s s
   settled_known n = record {
@@ -105,11 +106,11 @@ module _ {W : Type 0} (seen : W → Writer) (s : Solver W) (whole : IsWhole s) w
       none states.UnsatUnderAssumptions n = does_none s.names (steps_in s) whole.stands
       none states.Unsat n = does_none s.names (steps_in s) whole.stands
 
-  module _ (goes : GoesOn s.core s.names s.asked) (core : Core W) (m : Variables) (told : Told) (clock : Clock) (scale : clock.restarts.scale ≡ s.clock.restarts.scale) where
+  module _ (goes : GoesOn s.core s.names s.asked) (core : Core W L G) (m : Variables) (told : Told) (clock : Clock) (scale : clock.restarts.scale ≡ s.clock.restarts.scale) where
     positive : 0 < clock.restarts.scale
     positive = subst (λ (k : ℕ). 0 < k) (sym scale) whole.positive
 
-    scaled : (core : Core W) → core.config ≡ s.core.config → clock.restarts.scale ≡ core.config.luby_restart_interval_scale
+    scaled : (core : Core W L G) → core.config ≡ s.core.config → clock.restarts.scale ≡ core.config.luby_restart_interval_scale
     scaled core e = scale ∙ whole.scaled ∙ ap (λ (x : SolverConfig). x.luby_restart_interval_scale) (sym e)
 
     kept_images : {t : Session} → KeepsAsked s.names m (session_in s) t → Images m s.assumed.items s.asked.order.items
@@ -145,7 +146,7 @@ module _ {W : Type 0} (seen : W → Writer) (s : Solver W) (whole : IsWhole s) w
     }
 
     module _ (unknown : s.state ≡ states.Unknown) where
-      abbrev pub new : State → Solver W
+      abbrev pub new : State → Solver W L G
       new st = record s { core = core; names = m; told = told; clock = clock; state = st }
 
       unknown_told : (st : State) → Does s.names m (steps_in s) (steps_of core.proof) (λ j. j) (λ j. told_as states.Unknown st (line_of m core) s.assumed.items told.failed_core.items) → Does s.names m (steps_in s) (steps_of core.proof) (λ j. j) (λ j. told_as s.state st (line_of m core) s.assumed.items told.failed_core.items)
@@ -250,7 +251,7 @@ module _ {W : Type 0} (seen : W → Writer) (s : Solver W) (whole : IsWhole s) w
           lits : found.mid.search.assumptions.lits.items ≡ s.asked.order.items
           lits = ap (λ ls. ls.items) found.ended.says.0.moved.lits ∙ goes.lits
 
-          failed_is : (mid : Core W) → IsJoined m mid → mid.search.assumptions.lits.items ≡ s.asked.order.items → Failed seen m mid core told.failed_core.items → HasCore core s.assumed.items told.failed_core.items
+          failed_is : (mid : Core W L G) → IsJoined m mid → mid.search.assumptions.lits.items ≡ s.asked.order.items → Failed seen m mid core told.failed_core.items → HasCore core s.assumed.items told.failed_core.items
           failed_is mid joined lits f =
               let used = core.search.analysis.core in
               let codes = map (with_var (global_in mid.search)) used in
@@ -290,8 +291,8 @@ module _ {W : Type 0} (seen : W → Writer) (s : Solver W) (whole : IsWhole s) w
       }
 
 -- the same over a proof with the same steps
-pub whole_over : {W : Type 0} (c : Core W) (n : Variables) (asked : Taken) (assumed core : List ℕ) (scale : ℕ) (state : State) (p : Proof W) → IsWholeOf c n asked assumed core scale state → steps_of p ≡ steps_of c.proof → IsWholeOf (record c { proof = p }) n asked assumed core scale state
-whole_over {W} c n asked assumed core scale state p whole e = record {
+pub whole_over : {W L : Type 0} {G : Ghosts L} (c : Core W L G) (n : Variables) (asked : Taken) (assumed core : List ℕ) (scale : ℕ) (state : State) (p : Proof W L G) → IsWholeOf c n asked assumed core scale state → steps_of p ≡ steps_of c.proof → IsWholeOf (record c { proof = p }) n asked assumed core scale state
+whole_over {W} {L} {G} c n asked assumed core scale state p whole e = record {
   stands = subst (Stands n) (sym e) whole.stands;
   images = whole.images;
   spelt = whole.spelt;
@@ -302,7 +303,7 @@ whole_over {W} c n asked assumed core scale state p whole e = record {
   says = says state whole.says;
 }
   where
-    new : Core W
+    new : Core W L G
     new = record c { proof = p }
 
     joined : GoesOn c n asked → GoesOn new n asked
@@ -335,7 +336,7 @@ whole_over {W} c n asked assumed core scale state p whole e = record {
     )
     says states.Unsat h = subst (λ ss. (session_after ss).unsat ≡ true) (sym e) h
 
-module _ {W : Type 0} (seen : W → Writer) (old mid : Solver W) (settled : Settled seen old mid) (p : Proof W) where
+module _ {W L : Type 0} {G : Ghosts L} (seen : W → Writer) (old mid : Solver W L G) (settled : Settled seen old mid) (p : Proof W L G) where
   -- the answer was flushed
   pub settled_flushed : Flushes seen mid.core.proof p → Settled seen old (record mid { core = record mid.core { proof = p } })
   settled_flushed f = record {
@@ -343,12 +344,12 @@ module _ {W : Type 0} (seen : W → Writer) (old mid : Solver W) (settled : Sett
     does = subst (λ ss. Does old.names mid.names (steps_in old) ss (λ j. j) (λ j. told_by old.state mid)) (sym f.history) settled.does;
     comes = subst (Comes EndsAtUnsat (steps_in old)) (sym f.history) settled.comes;
     took = (_, adds_more seen settled.took.0 [] old.core.proof mid.core.proof p settled.took.1 (flush_records seen (Ok tt) mid.core.proof p f));
-    same = ap (λ (m : Solver W). record m { core = record mid.core { proof = p } }) settled.same;
+    same = ap (λ (m : Solver W L G). record m { core = record mid.core { proof = p } }) settled.same;
     users = settled.users;
     config = settled.config;
     counts = record { on = settled.counts.on; round = settled.counts.round; spent = settled.counts.spent; answered = settled.counts.answered };
     times = λ u. let h = settled.times u in record { steps = h.steps; behind = f.history ∙ h.behind; times = h.times };
-    known = λ k. let h = settled.known k in (adds_more seen [] [] old.core.proof mid.core.proof p h.0 (flush_records seen (Ok tt) mid.core.proof p f), ap (λ (m : Solver W). record m { core = record m.core { proof = p } }) h.1);
+    known = λ k. let h = settled.known k in (adds_more seen [] [] old.core.proof mid.core.proof p h.0 (flush_records seen (Ok tt) mid.core.proof p f), ap (λ (m : Solver W L G). record m { core = record m.core { proof = p } }) h.1);
   }
 
   -- and where the target failed at it
@@ -358,14 +359,14 @@ module _ {W : Type 0} (seen : W → Writer) (old mid : Solver W) (settled : Sett
   settled_broken (Check fault) f =
       let k = flush_records seen (Err (Check fault)) mid.core.proof p f in
       let steps = settled.took.0 in
-      (record { fault = fault_checked seen _ fault; steps = [] ++ steps; went = went_checked seen (Unit {0}) fault ([] ++ steps) old.core.proof p (check_later seen steps [] old.core.proof mid.core.proof p settled.took.1 k) }, settled.counts.on, λ n. flush_checked fault (check_later seen [] [] old.core.proof mid.core.proof p (settled.known n).0 k))
+      (record { fault = fault_checked _ fault; steps = [] ++ steps; went = went_checked seen (Unit {0}) fault ([] ++ steps) old.core.proof p (check_later seen steps [] old.core.proof mid.core.proof p settled.took.1 k) }, settled.counts.on, λ n. flush_checked fault (check_later seen [] [] old.core.proof mid.core.proof p (settled.known n).0 k))
     where
-      flush_checked : (f : CheckFault) → FailsCheck seen [] old.core.proof p → FlushFails seen (check_fault_of f) old.core.proof p
+      flush_checked : (f : CheckFault) → FailsCheck seen f [] old.core.proof p → FlushFails seen (check_fault_of f) old.core.proof p
       flush_checked checks.OutOfMemory h = h
       flush_checked checks.CounterEnd h = h
       flush_checked (checks.Processor cause) h = h
 
-module _ {W : Type 0} (seen : W → Writer) (s : Solver W) (whole : IsWhole s) (unknown : s.state ≡ states.Unknown) (core : Core W) (m : Variables) (told : Told) (clock : Clock) (scale : clock.restarts.scale ≡ s.clock.restarts.scale) (on : CountsOn (values_in s.core) s.core.config.max_steps s.clock.steps clock.steps) where
+module _ {W L : Type 0} {G : Ghosts L} (seen : W → Writer) (s : Solver W L G) (whole : IsWhole s) (unknown : s.state ≡ states.Unknown) (core : Core W L G) (m : Variables) (told : Told) (clock : Clock) (scale : clock.restarts.scale ≡ s.clock.restarts.scale) (on : CountsOn (values_in s.core) s.core.config.max_steps s.clock.steps clock.steps) where
   goes_on : GoesOn s.core s.names s.asked
   goes_on = subst (λ st. StateSays st s.core s.names s.asked s.assumed.items s.told.failed_core.items) unknown whole.says
 
@@ -400,7 +401,7 @@ module _ {W : Type 0} (seen : W → Writer) (s : Solver W) (whole : IsWhole s) (
   settled_without spent answered found = settled_none seen s whole goes_on core m told clock scale unknown (record { on = rounds_on; round = λ u k. absurd (k unknown); spent = λ u. spent; answered = λ j live a fits u. answered j.next_identity (over_identities j live a) fits }) found
 
 -- a target was flushed
-pub flushed_by : {W : Type 0} (seen : W → Writer) (p q : Proof W) → Flushes seen p q → IsFlushed (target_of seen q)
+pub flushed_by : {W L : Type 0} {G : Ghosts L} (seen : W → Writer) (p q : Proof W L G) → Flushes seen p q → IsFlushed (target_of seen q)
 flushed_by seen p q f = go (target_of seen p) (target_of seen q) f.target
   where
     go : (a b : Target) → Flushed a b → IsFlushed b
@@ -410,13 +411,13 @@ flushed_by seen p q f = go (target_of seen p) (target_of seen q) f.target
 
 -- CALLS
 
-module _ {W : Type 0} (seen : W → Writer) (s new : Solver W) (settled : Settled seen (record s { used = true }) new) (going : s.failed ≡ false) (flushed : IsFlushed (target_of seen new.core.proof)) (told : HasTold new.core.proof) (asked : NotesAsk seen new.core.proof) where
+module _ {W L : Type 0} {G : Ghosts L} (seen : W → Writer) (s new : Solver W L G) (settled : Settled seen (record s { used = true }) new) (going : s.failed ≡ false) (flushed : IsFlushed (target_of seen new.core.proof)) (told : HasTold new.core.proof) (asked : NotesAsk seen new.core.proof) where
   -- an ask was looked at
   pub answered : Answered seen s new
   answered = record {
-    did = record { whole = settled.whole; going = going; failed = ap (λ (x : Solver W). x.failed) settled.same ∙ going; used = ap (λ (x : Solver W). x.used) settled.same; config = settled.config; does = settled.does; took = settled.took };
+    did = record { whole = settled.whole; going = going; failed = ap (λ (x : Solver W L G). x.failed) settled.same ∙ going; used = ap (λ (x : Solver W L G). x.used) settled.same; config = settled.config; does = settled.does; took = settled.took };
     comes = settled.comes;
-    assumed = ap (λ (x : Solver W). x.assumed) settled.same;
+    assumed = ap (λ (x : Solver W L G). x.assumed) settled.same;
     users = settled.users;
     counts = record { on = settled.counts.on; round = settled.counts.round; spent = settled.counts.spent; answered = settled.counts.answered };
     times = settled.times;
@@ -427,7 +428,7 @@ module _ {W : Type 0} (seen : W → Writer) (s new : Solver W) (settled : Settle
   }
 
 -- a call failed
-pub ends_by : {W : Type 0} (seen : W → Writer) (e : SolverError) (s new : Solver W) → Breaks seen e s.core new.core → CountsRounds s new → ((s.state ≡ states.Unknown → ⊥) → FlushFails seen e s.core.proof new.core.proof) → s.failed ≡ false → new.failed ≡ true → Solves seen (Err e) s new
+pub ends_by : {W L : Type 0} {G : Ghosts L} (seen : W → Writer) (e : SolverError) (s new : Solver W L G) → Breaks seen e s.core new.core → CountsRounds s new → ((s.state ≡ states.Unknown → ⊥) → FlushFails seen e s.core.proof new.core.proof) → s.failed ≡ false → new.failed ≡ true → Solves seen (Err e) s new
 ends_by seen errors.OutOfMemory s new b k n g f = record { going = g; failed = f; breaks = b; counts = k; known = n }
 ends_by seen errors.StoreFull s new b k n g f = record { going = g; failed = f; breaks = b; counts = k; known = n }
 ends_by seen (errors.ProofIoError cause) s new b k n g f = record { going = g; failed = f; breaks = b; counts = k; known = n }

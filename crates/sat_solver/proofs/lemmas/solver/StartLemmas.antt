@@ -7,6 +7,7 @@ use Rattle.sat_base.specs.script.Judge.{start}
 use Rattle.sat_checker.specs.Stored.{unknown}
 use Rattle.sat_store.specs.declared.data.VarData.{VarData}
 use Rattle.sat_store.specs.variables.VarData.{unused_variable}
+use Rattle.sat_checker.specs.declared.processing.ProofProcessor.{Ghosts}
 use Rattle.sat_solver.specs.session.ProofView.{steps_of}
 use Rattle.sat_solver.specs.session.Session.{nothing, MayAll, session_after}
 use Rattle.sat_solver.specs.declared.names.Variables.{Variables}
@@ -77,7 +78,7 @@ module _ (n : Variables) (tidy : AreTidy n) (none : variables_used n ≡ 0) wher
   }
 
   -- names and a search without steps are joined
-  pub joined_first : {W : Type 0} (c : Core W) → steps_of c.proof ≡ [] → IsSearch nothing c.search → c.search.parts.assignment.current ≡ [] → c.search.globals.items ≡ [] → 0 < c.config.reduce_locals_interval → 0 < c.config.reduce_mids_interval → IsJoined n c
+  pub joined_first : {W L : Type 0} {G : Ghosts L} (c : Core W L G) → steps_of c.proof ≡ [] → IsSearch nothing c.search → c.search.parts.assignment.current ≡ [] → c.search.globals.items ≡ [] → 0 < c.config.reduce_locals_interval → 0 < c.config.reduce_mids_interval → IsJoined n c
   joined_first c steps search values globals locals mids = record {
     sound = record { keeps = subst MayAll (sym steps) tt; search = subst (λ ss. IsSearch (session_after ss) c.search) (sym steps) search; locals = locals; mids = mids };
     stands = subst (Stands n) (sym steps) stands_first;
@@ -90,7 +91,7 @@ module _ (n : Variables) (tidy : AreTidy n) (none : variables_used n ≡ 0) wher
   }
 
   -- a solver without steps is whole
-  pub whole_first : {W : Type 0} (c : Core W) (asked : Taken) (assumed core : List ℕ) (scale : ℕ) → steps_of c.proof ≡ [] → IsSearch nothing c.search → c.search.parts.assignment.current ≡ [] → c.search.globals.items ≡ [] →
+  pub whole_first : {W L : Type 0} {G : Ghosts L} (c : Core W L G) (asked : Taken) (assumed core : List ℕ) (scale : ℕ) → steps_of c.proof ≡ [] → IsSearch nothing c.search → c.search.parts.assignment.current ≡ [] → c.search.globals.items ≡ [] →
       0 < c.config.reduce_locals_interval → 0 < c.config.reduce_mids_interval → asked.order.items ≡ [] → asked.globals.items ≡ [] → assumed ≡ [] → 0 < scale → scale ≡ c.config.luby_restart_interval_scale → AreDecays c.config → IsWholeOf c n asked assumed core scale states.Unknown
   whole_first c asked assumed core scale steps search values globals locals mids order asked_globals none_assumed positive scaled decays = record {
     stands = stands;

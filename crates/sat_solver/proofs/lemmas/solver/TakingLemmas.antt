@@ -8,6 +8,7 @@ use Rattle.sat_base.specs.script.Judge.{bring_all, with_clause}
 use Rattle.sat_base.specs.steps.Steps.{Step, Assumptions}
 use Rattle.sat_checker.specs.LiteralSets.{is_tautology}
 use Rattle.sat_checker.proofs.lemmas.sets.Canonical.{canonical_tautology}
+use Rattle.sat_checker.specs.declared.processing.ProofProcessor.{Ghosts}
 use Rattle.sat_solver.specs.declared.session.made.CheckFault.TheVariants as checks
 use Rattle.sat_solver.specs.session.ProofView.{Keeps, steps_of, session_of}
 use Rattle.sat_solver.specs.session.Session.{Session, MayAll, session_after}
@@ -63,7 +64,7 @@ use Rattle.sat_solver.proofs.lemmas.solver.TellingLemmas.{shares_moved}
 -- FAULTS
 
 -- nothing was made
-pub none_took : {W : Type 0} (seen : W → Writer) (p : Proof W) → Took seen p p
+pub none_took : {W L : Type 0} {G : Ghosts L} (seen : W → Writer) (p : Proof W L G) → Took seen p p
 none_took seen p = ([], adds_none seen p)
 
 -- a failure of a call over names, as a solver tells it
@@ -81,11 +82,11 @@ told_fails (names.Check (checks.Processor cause)) h = tt
 pub fault_on : {A : Type 0} (full : Type 0) (r : Result A SolverError) (e : SolverError) → IsErrAnd r (λ f. f ≡ e) → IsFaultOr full e → IfErr r (IsFaultOr full)
 fault_on full r e h f = let p = err_from_is_err_and r h in subst (λ r. IfErr r (IsFaultOr full)) (sym p.1) (subst (IsFaultOr full) (sym p.2) f)
 
-pub fault_ends : {A W full : Type 0} (seen : W → Writer) (r : Result A SolverError) (p q : Proof W) (P : A → List Step → Type 0) → GoesOr full seen r p q P → IfErr r (IsFaultOr full)
+pub fault_ends : {A W L full : Type 0} {G : Ghosts L} (seen : W → Writer) (r : Result A SolverError) (p q : Proof W L G) (P : A → List Step → Type 0) → GoesOr full seen r p q P → IfErr r (IsFaultOr full)
 fault_ends seen (Ok x) p q P goes = tt
 fault_ends seen (Err e) p q P goes = goes.ends
 
-module _ {W : Type 0} (seen : W → Writer) (a b : Core W) where
+module _ {W L : Type 0} {G : Ghosts L} (seen : W → Writer) (a b : Core W L G) where
   -- a call over names failed
   pub names_broke : {full : Type 0} (e : NameError) → CameTo (Took seen) (NotTaken seen) a.proof e b.proof → BreaksNamesOr full seen (told_as e) a b
   names_broke names.WitnessVariable h = absurd h
@@ -93,14 +94,14 @@ module _ {W : Type 0} (seen : W → Writer) (a b : Core W) where
   names_broke names.VariableLimit h = record { fault = inr refl; steps = h.0; went = h.1 }
   names_broke names.OutOfMemory h = record { fault = inl tt; steps = h.0; went = h.1 }
   names_broke (names.Write cause) h = record { fault = inl tt; steps = h.0; went = h.1 }
-  names_broke (names.Check fault) h = record { fault = inl (fault_checked seen _ fault); steps = h.0; went = went_checked seen (Unit {0}) fault h.0 a.proof b.proof h.1 }
+  names_broke (names.Check fault) h = record { fault = inl (fault_checked _ fault); steps = h.0; went = went_checked seen (Unit {0}) fault h.0 a.proof b.proof h.1 }
 
   -- no memory was left behind it
   pub names_starved : {full : Type 0} → Took seen a.proof b.proof → BreaksNamesOr full seen errors.OutOfMemory a b
   names_starved h = record { fault = inl tt; steps = h.0; went = h.1 }
 
   -- a search failed behind it
-  pub load_broke : {A full : Type 0} (e : SolverError) (p : Proof W) (P : A → List Step → Type 0) → Took seen a.proof p → GoesOr {A = A} full seen (Err e) p b.proof P → BreaksNamesOr full seen e a b
+  pub load_broke : {A full : Type 0} (e : SolverError) (p : Proof W L G) (P : A → List Step → Type 0) → Took seen a.proof p → GoesOr {A = A} full seen (Err e) p b.proof P → BreaksNamesOr full seen e a b
   load_broke {A} {full} e p P h goes = record { fault = inl goes.ends; steps = _; went = later e goes.went goes.ends }
     where
       later : (e : SolverError) → Went {A = A} seen (Err e) goes.steps p b.proof → IsFaultOr full e → Went {A = Unit {0}} seen (Err e) (goes.steps ++ h.0) a.proof b.proof
@@ -130,7 +131,7 @@ keep_images n n' s gs extends gives user order i = record {
 
 -- A CLAUSE
 
-module _ {W : Type 0} (seen : W → Writer) (n n' : Variables) (a : Core W) (joined : IsJoined n a) (user : List ℕ) (t : Taken) (both : Bool) (p : Proof W) (adds : AddsClause n n' (steps_of a.proof) (steps_of p) user t both) (took : Took seen a.proof p) (keeps : Keeps p) where
+module _ {W L : Type 0} {G : Ghosts L} (seen : W → Writer) (n n' : Variables) (a : Core W L G) (joined : IsJoined n a) (user : List ℕ) (t : Taken) (both : Bool) (p : Proof W L G) (adds : AddsClause n n' (steps_of a.proof) (steps_of p) user t both) (took : Took seen a.proof p) (keeps : Keeps p) where
   abbrev pub between : Session
   between = session_after adds.between
 
@@ -160,7 +161,7 @@ module _ {W : Type 0} (seen : W → Writer) (n n' : Variables) (a : Core W) (joi
     assumed1 : (session_of p).assumed ≡ (session_of a.proof).assumed
     assumed1 = ap (λ ss. (session_after ss).assumed) adds.written ∙ asked_added t.globals.items adds.between (adds.search.unsat ∙ joined.sound.search.stands.fits.consistent) ∙ adds.search.assumed
 
-    joined1 : (b : Core W) → b.proof ≡ p → b.search ≡ c1 → b.config ≡ a.config → IsSearch (session_of p) c1 → IsJoined n' b
+    joined1 : (b : Core W L G) → b.proof ≡ p → b.search ≡ c1 → b.config ≡ a.config → IsSearch (session_of p) c1 → IsJoined n' b
     joined1 b e f g search = record {
       sound = record {
         keeps = subst Keeps (sym e) keeps;
@@ -188,8 +189,8 @@ module _ {W : Type 0} (seen : W → Writer) (n n' : Variables) (a : Core W) (joi
     }
 
     -- another one is loaded
-    module _ (left : Bool) (q : Proof W) (c2 : Search) (goes : GoesOr (IsFull c2.parts) seen (Ok left) p q (λ l _. IsLoaded l (session_of q) c1 c2)) (deletes : Comes DeletesAdded (steps_of p) (steps_of q)) where
-      abbrev pub new : Core W
+    module _ (left : Bool) (q : Proof W L G) (c2 : Search) (goes : GoesOr (IsFull c2.parts) seen (Ok left) p q (λ l _. IsLoaded l (session_of q) c1 c2)) (deletes : Comes DeletesAdded (steps_of p) (steps_of q)) where
+      abbrev pub new : Core W L G
       new = record a { proof = q; search = c2 }
 
       does2 : Does n n' (steps_of a.proof) (steps_of q) (λ j. with_clause (map named_literal user) (bring_all (names_in user) j)) (λ j. bringing (names_in user) j ++ (Adds (map named_literal user) ∷ []))
@@ -219,13 +220,13 @@ module _ {W : Type 0} (seen : W → Writer) (n n' : Variables) (a : Core W) (joi
       }
 
     -- or it isn't
-    pub clause_told : (r : Result Bool SolverError) (q : Proof W) (c2 : Search) → GoesOr (IsFull c2.parts) seen r p q (λ l _. IsLoaded l (session_of q) c1 c2) → OnOk r (Comes DeletesAdded (steps_of p) (steps_of q)) → TakesClause seen r n n' a (record a { proof = q; search = c2 }) user
+    pub clause_told : (r : Result Bool SolverError) (q : Proof W L G) (c2 : Search) → GoesOr (IsFull c2.parts) seen r p q (λ l _. IsLoaded l (session_of q) c1 c2) → OnOk r (Comes DeletesAdded (steps_of p) (steps_of q)) → TakesClause seen r n n' a (record a { proof = q; search = c2 }) user
     clause_told (Ok left) q c2 goes deletes = clause_loaded left q c2 goes deletes
     clause_told (Err e) q c2 goes deletes = load_broke seen a (record a { proof = q; search = c2 }) e p (λ l _. IsLoaded l (session_of q) c1 c2) took goes
 
 -- ASSUMPTIONS
 
-module _ {W : Type 0} (seen : W → Writer) (n n' : Variables) (a : Core W) (joined : IsJoined n a) (user : List ℕ) (t : Taken) (p : Proof W) (assumes : Assumes n n' (steps_of a.proof) (steps_of p) user t) (took : Took seen a.proof p) (keeps : Keeps p) where
+module _ {W L : Type 0} {G : Ghosts L} (seen : W → Writer) (n n' : Variables) (a : Core W L G) (joined : IsJoined n a) (user : List ℕ) (t : Taken) (p : Proof W L G) (assumes : Assumes n n' (steps_of a.proof) (steps_of p) user t) (took : Took seen a.proof p) (keeps : Keeps p) where
   abbrev pub asked_between : Session
   asked_between = session_after assumes.between
 

@@ -6,6 +6,7 @@ use Rattle.sat_base.specs.device.Device.{Writer}
 use Rattle.sat_base.specs.values.Literals.{variable}
 use Rattle.sat_base.specs.steps.Steps.{Step, Model, FailedAssumptions}
 use Rattle.sat_checker.specs.LiteralSets.{is_among}
+use Rattle.sat_checker.specs.declared.processing.ProofProcessor.{Ghosts}
 use Rattle.sat_solver.specs.session.ProofView.{Adds, Keeps, Records, steps_of, session_of}
 use Rattle.sat_solver.specs.session.Session.{Session, MayAll, after, session_after}
 use Rattle.sat_solver.specs.declared.session.proof.Proof.{Proof}
@@ -64,9 +65,9 @@ shares_moved n c c' h moved = record {
   same = λ x v e. ap (λ gs. get_or gs.items x 0) moved.globals ∙ h.same x v e;
 }
 
-module _ {W : Type 0} (seen : W → Writer) (n : Variables) (a : Core W) (joined : IsJoined n a) where
-  module _ (proof : Proof W) where
-    abbrev pub told : Core W
+module _ {W L : Type 0} {G : Ghosts L} (seen : W → Writer) (n : Variables) (a : Core W L G) (joined : IsJoined n a) where
+  module _ (proof : Proof W L G) where
+    abbrev pub told : Core W L G
     told = record a { proof = proof }
 
     -- the step of a model was taken
@@ -96,13 +97,13 @@ module _ {W : Type 0} (seen : W → Writer) (n : Variables) (a : Core W) (joined
   starved = record { fault = tt; steps = []; went = adds_none seen a.proof }
 
   -- the target failed at a step
-  pub broken : (e : ProofError) (step : Step) (proof : Proof W) → Records {T = Unit {0}} seen (Err e) (step ∷ []) a.proof proof → Breaks seen (fault_of e) a (record a { proof = proof })
+  pub broken : (e : ProofError) (step : Step) (proof : Proof W L G) → Records {T = Unit {0}} seen (Err e) (step ∷ []) a.proof proof → Breaks seen (fault_of e) a (record a { proof = proof })
   broken (Write cause) step proof fails = record { fault = tt; steps = step ∷ []; went = fails }
   broken OutOfMemory step proof adds = record { fault = tt; steps = []; went = adds }
-  broken (Check fault) step proof fails = record { fault = fault_checked seen _ fault; steps = step ∷ []; went = went_checked seen (Unit {0}) fault (step ∷ []) a.proof proof fails }
+  broken (Check fault) step proof fails = record { fault = fault_checked _ fault; steps = step ∷ []; went = went_checked seen (Unit {0}) fault (step ∷ []) a.proof proof fails }
 
-  module _ (proof : Proof W) (c' : Search) where
-    abbrev pub searched : Core W
+  module _ (proof : Proof W L G) (c' : Search) where
+    abbrev pub searched : Core W L G
     searched = record a { proof = proof; search = c' }
 
     -- a failed core was written

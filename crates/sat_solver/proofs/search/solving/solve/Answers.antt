@@ -18,9 +18,11 @@ pub search-requires : goal.search-requires
 search-requires g c = λ κs long.
     (let κ = κs.1.1.1.1.0 in
     let n = ⊑_static κ in
-    let a = ⊑_meet κ g.row.W.lives _ long n in
-    let s = ⊑_meet κ _ _ a (⊑_meet κ _ _ (⊑_meet κ _ _ a a) n) in
-    let l = ⊑_meet κ _ _ a a in
-    let o = ⊑_meet κ _ _ a (⊑_meet κ _ _ (⊑_meet κ _ _ s n) (⊑_meet κ _ _ (⊑_meet κ _ _ l n) n)) in
-    let r = ⊑_meet κ _ _ (⊑_meet κ _ _ o n) (⊑_meet κ _ _ (⊑_meet κ _ _ o n) n) in
-    (⊑_meet κ _ _ a (⊑_meet κ _ _ (⊑_meet κ _ _ a (⊑_meet κ _ _ r n)) n), (⊑_static κs.1.1.1.1.1.0, (⊑_static κs.1.1.1.1.1.1.0, (c.requires.joined, (core_word c.args.core.now, c.requires.scale))))))
+    let k0 = ⊑_meet κ _ _ long.1 n in
+    let k1 = ⊑_meet κ _ _ long.0 k0 in
+    let k2 = ⊑_meet κ _ _ ((⊑_meet κ _ _ k0 ((⊑_meet κ _ _ ((⊑_meet κ _ _ k0 n)) n)))) n in
+    let k3 = ⊑_meet κ _ _ ((⊑_meet κ _ _ k0 ((⊑_meet κ _ _ ((⊑_meet κ _ _ k0 k2)) n)))) n in
+    let k4 = ⊑_meet κ _ _ long.0 n in
+    let k5 = ⊑_meet κ _ _ ((⊑_meet κ _ _ k4 k4)) n in
+    let k6 = ⊑_meet κ _ _ ((⊑_meet κ _ _ k4 ((⊑_meet κ _ _ ((⊑_meet κ _ _ ((⊑_meet κ _ _ k4 k5)) n)) ((⊑_meet κ _ _ k5 n)))))) n in
+    ((⊑_meet κ _ _ k1 ((⊑_meet κ _ _ ((⊑_meet κ _ _ k1 ((⊑_meet κ _ _ ((⊑_meet κ _ _ k0 ((⊑_meet κ _ _ ((⊑_meet κ _ _ k3 ((⊑_meet κ _ _ k3 n)))) k2)))) ((⊑_meet κ _ _ ((⊑_meet κ _ _ k6 ((⊑_meet κ _ _ k6 n)))) n)))))) n))), (⊑_static κs.1.1.1.1.1.0, (⊑_static κs.1.1.1.1.1.1.0, (c.requires.joined, (core_word c.args.core.now, c.requires.scale))))))

@@ -14,7 +14,7 @@ pub returns-clause-assumes : goal.returns-clause-assumes
 returns-clause-assumes g c =
     let s = c.args.self.now in
     let mid = c.ask-asked.new.self in
-    let items : c.extend_from_slice-listed.new.self.items ≡ c.args.lits.now = cc (c.in_ok-listed.ensures.items, c.clear.ensures.items) in
+    let items : c.extend_from_slice-listed.new.self.items ≡ c.args.lits.now = c.in_ok-listed.ensures.items ∙ ap (λ xs. xs ++ c.args.lits.now) c.clear.ensures.items in
     elim c.if-is_err.branch [
       | then-is_err w ↦ absurd (elim w.then-is_err.branch [
         | then-is_err-via-then-is_err w' ↦ true≢false (sym w'.if-is_err.true ∙ c.is_err.ensures.value ∙ ap is_err c.in_ok-asked.was)

@@ -6,20 +6,20 @@ use Rattle.sat_solver.proofs.search.solving.CoreRounds.reduce.Goals as goal
 
 pub returns-clause-sound : goal.returns-clause-sound
 returns-clause-sound g c =
-    let b : Core g.row.W.Denot = record c.args.self.now { proof = c.reduce.new.proof; search = c.reduce.new.search } in
+    let b : Core g.row.W.Denot g.row.P.Denot g.P.ProofProcessor = record c.args.self.now { proof = c.reduce.new.proof; search = c.reduce.new.search } in
     reduced_sound g.W.CountedWrite.seen c.args.self.now b c.args._names.now refl c.requires c.reduce.result (goes_map g.W.CountedWrite.seen c.reduce.result c.args.self.now.proof c.reduce.new.proof _ _ (λ x steps h. h.0) c.reduce.ensures)
 
 pub returns-clause-words : goal.returns-clause-words
 returns-clause-words g c =
-    let b : Core g.row.W.Denot = record c.args.self.now { proof = c.reduce.new.proof; search = c.reduce.new.search } in
+    let b : Core g.row.W.Denot g.row.P.Denot g.P.ProofProcessor = record c.args.self.now { proof = c.reduce.new.proof; search = c.reduce.new.search } in
     reduced_words g.W.CountedWrite.seen c.args.self.now b c.args._names.now refl c.requires c.reduce.result (goes_map g.W.CountedWrite.seen c.reduce.result c.args.self.now.proof c.reduce.new.proof _ _ (λ x steps h. h.0) c.reduce.ensures)
 
 pub returns-clause-goes : goal.returns-clause-goes
 returns-clause-goes g c =
-    let b : Core g.row.W.Denot = record c.args.self.now { proof = c.reduce.new.proof; search = c.reduce.new.search } in
+    let b : Core g.row.W.Denot g.row.P.Denot g.P.ProofProcessor = record c.args.self.now { proof = c.reduce.new.proof; search = c.reduce.new.search } in
     reduced_goes g.W.CountedWrite.seen c.args.self.now b c.args._names.now refl c.requires c.reduce.result (goes_map g.W.CountedWrite.seen c.reduce.result c.args.self.now.proof c.reduce.new.proof _ _ (λ x steps h. h.0) c.reduce.ensures)
 
 pub returns-clause-fails : goal.returns-clause-fails
 returns-clause-fails g c =
-    let b : Core g.row.W.Denot = record c.args.self.now { proof = c.reduce.new.proof; search = c.reduce.new.search } in
+    let b : Core g.row.W.Denot g.row.P.Denot g.P.ProofProcessor = record c.args.self.now { proof = c.reduce.new.proof; search = c.reduce.new.search } in
     reduced_fails g.W.CountedWrite.seen c.args.self.now b c.args._names.now refl c.requires c.reduce.result (goes_map g.W.CountedWrite.seen c.reduce.result c.args.self.now.proof c.reduce.new.proof _ _ (λ x steps h. h.0) c.reduce.ensures)

@@ -5,30 +5,30 @@ use Rattle.sat_solver.proofs.search.solving.CoreRounds.round.Goals as goal
 
 pub returns-clause-sound : goal.returns-clause-sound
 returns-clause-sound g c =
-    let b : Core g.row.W.Denot = record c.args.self.now { proof = c.round.new.proof; search = c.round.new.search } in
+    let b : Core g.row.W.Denot g.row.P.Denot g.P.ProofProcessor = record c.args.self.now { proof = c.round.new.proof; search = c.round.new.search } in
     round_sound g.W.CountedWrite.seen c.args.self.now b c.args.names.now c.round.new.names refl c.requires c.round.result c.round.ensures
 
 pub returns-clause-most : goal.returns-clause-most
 returns-clause-most g c =
-    let b : Core g.row.W.Denot = record c.args.self.now { proof = c.round.new.proof; search = c.round.new.search } in
+    let b : Core g.row.W.Denot g.row.P.Denot g.P.ProofProcessor = record c.args.self.now { proof = c.round.new.proof; search = c.round.new.search } in
     round_most g.W.CountedWrite.seen c.args.self.now b c.args.names.now c.round.new.names refl c.requires c.round.result c.round.ensures
 
 pub returns-clause-words : goal.returns-clause-words
 returns-clause-words g c =
-    let b : Core g.row.W.Denot = record c.args.self.now { proof = c.round.new.proof; search = c.round.new.search } in
+    let b : Core g.row.W.Denot g.row.P.Denot g.P.ProofProcessor = record c.args.self.now { proof = c.round.new.proof; search = c.round.new.search } in
     round_words g.W.CountedWrite.seen c.args.self.now b c.args.names.now c.round.new.names refl c.requires c.round.result c.round.ensures
 
 pub returns-clause-goes : goal.returns-clause-goes
 returns-clause-goes g c =
-    let b : Core g.row.W.Denot = record c.args.self.now { proof = c.round.new.proof; search = c.round.new.search } in
+    let b : Core g.row.W.Denot g.row.P.Denot g.P.ProofProcessor = record c.args.self.now { proof = c.round.new.proof; search = c.round.new.search } in
     round_goes g.W.CountedWrite.seen c.args.self.now b c.args.names.now c.round.new.names refl c.requires c.round.result c.round.ensures
 
 pub returns-clause-ends : goal.returns-clause-ends
 returns-clause-ends g c =
-    let b : Core g.row.W.Denot = record c.args.self.now { proof = c.round.new.proof; search = c.round.new.search } in
+    let b : Core g.row.W.Denot g.row.P.Denot g.P.ProofProcessor = record c.args.self.now { proof = c.round.new.proof; search = c.round.new.search } in
     round_ends g.W.CountedWrite.seen c.args.self.now b c.args.names.now c.round.new.names refl c.requires c.round.result c.round.ensures
 
 pub returns-clause-fails : goal.returns-clause-fails
 returns-clause-fails g c =
-    let b : Core g.row.W.Denot = record c.args.self.now { proof = c.round.new.proof; search = c.round.new.search } in
+    let b : Core g.row.W.Denot g.row.P.Denot g.P.ProofProcessor = record c.args.self.now { proof = c.round.new.proof; search = c.round.new.search } in
     round_fails g.W.CountedWrite.seen c.args.self.now b c.args.names.now c.round.new.names refl c.requires c.round.result c.round.ensures

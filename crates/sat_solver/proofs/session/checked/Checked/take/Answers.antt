@@ -1,9 +1,18 @@
-use Rattle.std.proofs.Common.{◌∙◌, sym}
+use Rattle.std.proofs.Common.{◌∙◌, Ok, sym}
+use Rattle.std.proofs.lemmas.Result.{err_from_is_err_and}
 use Rattle.sat_base.specs.steps.StepViews.{step_of}
-use Rattle.sat_solver.proofs.lemmas.session.CheckedLemmas.{step_fed}
+use Rattle.sat_solver.proofs.lemmas.session.CheckedLemmas.{step_fed, width_taken, width_untaken}
 use Rattle.sat_solver.proofs.session.checked.Checked.take.Goals as goal
 
 pub returns : goal.returns
 returns g c =
-    step_fed c.args.self.now (step_of c.args.step.now) c.feed_cut.result c.take_width.new.self c.feed_cut.new.self (sym c.is_end.ensures ∙ c.if-is_end.false) c.requires.width c.in_ok-take_width.ensures.takes c.feed_cut.ensures.bits
+    step_fed g.P.ProofProcessor.takes c.args.self.now (step_of c.args.step.now) c.feed_cut.result c.take_width.new.self c.feed_cut.new.self (sym c.is_end.ensures ∙ c.if-is_end.false) c.requires.width c.in_ok-take_width.ensures.takes c.feed_cut.ensures.bits
     c.feed_cut.ensures.feeds
+
+pub returns-then-is_end : goal.returns-then-is_end
+returns-then-is_end g c = width_taken g.P.ProofProcessor.takes c.args.self.now (step_of c.args.step.now) (Ok tt) c.take_width.new.self (sym c.is_end.ensures ∙ c.if-is_end.true) c.in_ok-take_width.ensures.takes
+
+pub returns-in_err-take_width : goal.returns-in_err-take_width
+returns-in_err-take_width g c =
+    let p = err_from_is_err_and c.from_residual.result c.from_residual.ensures.1 in
+    rw (p.1, p.2) (width_untaken g.P.ProofProcessor.takes c.args.self.now (step_of c.args.step.now) c.in_err-take_width.field-0.0 c.take_width.new.self c.in_err-take_width.ensures.takes)

@@ -3,4 +3,4 @@ use Rattle.sat_solver.proofs.lemmas.session.CheckedLemmas.{width_fed}
 use Rattle.sat_solver.proofs.session.checked.Checked.take_width.Goals as goal
 
 pub returns-clause-takes : goal.returns-clause-takes
-returns-clause-takes g c = width_fed c.feed.result c.args.self.now _ c.args.bits refl c.feed.ensures
+returns-clause-takes g c = width_fed g.P.ProofProcessor.takes c.feed.result c.args.self.now _ c.args.bits refl c.feed.ensures

@@ -1,13 +1,28 @@
 use Rattle.sat_base.specs.steps.StepViews.{step_of}
-use Rattle.sat_solver.proofs.lemmas.session.CheckedLemmas.{taken_fed, taken_cause}
+use Rattle.sat_solver.proofs.lemmas.session.CheckedLemmas.{lost_fed, taken_fed, failed_fed, taken_cause, taken_why}
 use Rattle.sat_solver.proofs.session.made.Made.take.Goals as goal
 
-pub invariant_of-self-in-Ok-clause-fed : goal.invariant_of-self-in-Ok-clause-fed
-invariant_of-self-in-Ok-clause-fed c =
+pub invariant_of-self-clause-fed : goal.invariant_of-self-clause-fed
+invariant_of-self-clause-fed g c =
     let m = c.args.self.now in
-    taken_fed m.lost m.own c.in-Some.own c.take.new.self m.history.steps c.in-Some.is m.fed (step_of c.args.step.now) c.and-self.result.steps c.and-self.ensures c.requires.may c.in-Ok.ensures
+    lost_fed g.P.ProofProcessor.takes m.lost m.own m.roll.items m.history.steps m.fed c.if-self-2.true (step_of c.args.step.now) c.and-self.result.steps c.and-self.ensures
+
+pub invariant_of-self-in-Ok-clause-fed : goal.invariant_of-self-in-Ok-clause-fed
+invariant_of-self-in-Ok-clause-fed g c =
+    let m = c.args.self.now in
+    taken_fed g.P.ProofProcessor.takes m.lost m.own m.roll.items m.history.steps m.fed c.in-Some.own c.in-Some.is c.take.new.self (step_of c.args.step.now) c.and-self.result.steps c.and-self.ensures c.if-self-2.false c.requires.may c.in-Ok.ensures
+
+pub invariant_of-self-in-Err-clause-fed : goal.invariant_of-self-in-Err-clause-fed
+invariant_of-self-in-Err-clause-fed g c =
+    let m = c.args.self.now in
+    failed_fed g.P.ProofProcessor.takes m.lost m.own m.roll.items m.history.steps m.fed c.in-Some.own c.in-Some.is c.take.new.self c.in-Err.error (step_of c.args.step.now) c.and-self.result.steps c.and-self.ensures c.if-self-2.false c.requires.may c.in-Err.ensures
 
 pub cause_of-requires : goal.cause_of-requires
-cause_of-requires c =
+cause_of-requires g c =
     let m = c.args.self.now in
-    taken_cause m.lost m.own c.in-Some.own c.take.new.self m.history.steps c.in-Some.is m.fed c.in-Err.error (step_of c.args.step.now) c.if-self-2.false c.requires.may c.in-Err.ensures
+    taken_cause g.P.ProofProcessor.takes m.lost m.own m.roll.items m.history.steps m.fed c.in-Some.own c.in-Some.is c.take.new.self c.in-Err.error (step_of c.args.step.now) c.if-self-2.false c.requires.may c.in-Err.ensures
+
+pub returns-in-Err-clause-fails : goal.returns-in-Err-clause-fails
+returns-in-Err-clause-fails g c =
+    let m = c.args.self.now in
+    rw c.cause_of.ensures (taken_why g.P.ProofProcessor.takes m.lost m.own m.roll.items m.history.steps m.fed c.in-Some.own c.in-Some.is c.take.new.self c.in-Err.error (step_of c.args.step.now) c.and-self.result.steps c.and-self.ensures c.if-self-2.false c.requires.may c.in-Err.ensures)

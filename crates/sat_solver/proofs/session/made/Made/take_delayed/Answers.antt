@@ -1,17 +1,32 @@
-use Rattle.sat_solver.proofs.lemmas.session.CheckedLemmas.{told_fed, told_cause, told_settled}
+use Rattle.sat_solver.proofs.lemmas.session.CheckedLemmas.{told_fed, untold_fed, told_cause, told_why, told_settled, lost_why}
 use Rattle.sat_solver.proofs.session.made.Made.take_delayed.Goals as goal
 
-pub invariant_of-self-in-Ok-clause-fed : goal.invariant_of-self-in-Ok-clause-fed
-invariant_of-self-in-Ok-clause-fed c =
+pub returns-then-self-clause-fails : goal.returns-then-self-clause-fails
+returns-then-self-clause-fails g c =
     let m = c.args.self.now in
-    told_fed m.lost m.own c.in-Some.own c.take_delayed.new.self m.history.steps c.in-Some.is m.fed c.in-Ok.ensures
+    lost_why g.P.ProofProcessor.takes m.own c.in-Some.own m.lost m.roll.items m.history.steps m.fed c.in-Some.is
+
+pub invariant_of-self-in-Ok-clause-fed : goal.invariant_of-self-in-Ok-clause-fed
+invariant_of-self-in-Ok-clause-fed g c =
+    let m = c.args.self.now in
+    told_fed g.P.ProofProcessor.takes m.lost m.own m.roll.items m.history.steps m.fed c.in-Some.own c.in-Some.is c.take_delayed.new.self c.if-self.false c.in-Ok.ensures
+
+pub invariant_of-self-in-Err-clause-fed : goal.invariant_of-self-in-Err-clause-fed
+invariant_of-self-in-Err-clause-fed g c =
+    let m = c.args.self.now in
+    untold_fed g.P.ProofProcessor.takes m.lost m.own m.roll.items m.history.steps m.fed c.in-Some.own c.in-Some.is c.take_delayed.new.self c.in-Err.error c.if-self.false c.in-Err.ensures
 
 pub cause_of-requires : goal.cause_of-requires
-cause_of-requires c =
+cause_of-requires g c =
     let m = c.args.self.now in
-    told_cause m.lost m.own c.in-Some.own c.take_delayed.new.self m.history.steps c.in-Some.is m.fed c.in-Err.error c.if-self.false c.in-Err.ensures
+    told_cause g.P.ProofProcessor.takes m.lost m.own m.roll.items m.history.steps m.fed c.in-Some.own c.in-Some.is c.take_delayed.new.self c.in-Err.error c.if-self.false c.in-Err.ensures
 
 pub returns-in-Ok-clause-told : goal.returns-in-Ok-clause-told
-returns-in-Ok-clause-told c =
+returns-in-Ok-clause-told g c =
     let m = c.args.self.now in
-    (c.if-self.false, told_settled m.lost m.own c.in-Some.own c.take_delayed.new.self m.history.steps c.in-Some.is m.fed c.if-self.false c.in-Ok.ensures)
+    (c.if-self.false, told_settled g.P.ProofProcessor.takes m.lost m.own m.roll.items m.history.steps m.fed c.in-Some.own c.in-Some.is c.take_delayed.new.self c.if-self.false c.in-Ok.ensures)
+
+pub returns-in-Err-clause-fails : goal.returns-in-Err-clause-fails
+returns-in-Err-clause-fails g c =
+    let m = c.args.self.now in
+    rw c.cause_of.ensures (told_why g.P.ProofProcessor.takes m.lost m.own m.roll.items m.history.steps m.fed c.in-Some.own c.in-Some.is c.take_delayed.new.self c.in-Err.error c.if-self.false c.in-Err.ensures)

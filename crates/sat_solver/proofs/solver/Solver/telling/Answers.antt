@@ -2,7 +2,7 @@ use Rattle.std.proofs.Common.{◌<◌, refl, sym, subst, arith}
 use Rattle.sat_solver.specs.declared.config.SolverConfig.{SolverConfig}
 use Rattle.sat_solver.specs.search.Bumping.{AreDecays}
 use Rattle.sat_solver.proofs.lemmas.solver.StartLemmas.{agree_first, whole_first}
-use Rattle.sat_solver.proofs.solver.Solver.new.Goals as goal
+use Rattle.sat_solver.proofs.solver.Solver.telling.Goals as goal
 
 pub returns-clause-whole : goal.returns-clause-whole
 returns-clause-whole g c =

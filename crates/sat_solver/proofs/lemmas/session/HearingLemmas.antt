@@ -1,0 +1,107 @@
+-- What those hear who listen to a solver's own checker.
+use Rattle.std.proofs.Common.{ℕ, ◌≡◌, ◌∙◌, ◌⊎◌, inl, inr, false, Option, None, Some, List, [], ◌∷◌, ◌++◌, Result, Ok, Err, refl, sym, ap, subst}
+use Rattle.std.proofs.lemmas.Bool.{true≢false}
+use Rattle.anyhow.specs.declared.error.Error.{Error}
+use Rattle.sat_base.specs.steps.Steps.{Step, ChangeHashBits}
+use Rattle.sat_checker.specs.Accepts.{Accepts, stored_after, ready_after}
+use Rattle.sat_checker.specs.CheckerView.{Seen, Stands, Stops, Breaks, BreaksAt, AnswersStep, AnswersDelayed, has_failed}
+use Rattle.sat_checker.specs.KernelView.{IsSettled}
+use Rattle.sat_checker.specs.Stored.{Stored}
+use Rattle.sat_checker.specs.Storing.{settled, settled_by}
+use Rattle.sat_checker.specs.announcements.Announcements.{Told, told_after, all_told_after, told_over, delayed, delayed_by}
+use Rattle.sat_checker.specs.telling.Hearing.{HearsSince, told_by}
+use Rattle.sat_checker.specs.declared.error.CheckerError.{CheckerError}
+use Rattle.sat_checker.specs.declared.error.CheckerError.TheVariants as errors
+use Rattle.sat_checker.specs.declared.processing.Nobody.{Nobody}
+use Rattle.sat_checker.specs.declared.processing.Processing.{Processing}
+use Rattle.sat_checker.specs.declared.processing.ProcessingError.{ProcessingError}
+use Rattle.sat_checker.specs.declared.processing.ProcessingError.TheVariants as faults
+use Rattle.sat_solver.specs.declared.session.made.CheckFault.{CheckFault}
+use Rattle.sat_solver.specs.declared.session.made.CheckFault.TheVariants as checks
+use Rattle.sat_solver.specs.session.Checked.{IsCause, cause_in, OrCause}
+use Rattle.sat_solver.specs.session.Listening.{Hears, HeardAll, HeardUpTo, HasHeard, FailedOf}
+use Rattle.sat_solver.specs.session.Session.{MayAll}
+use Rattle.sat_solver.specs.session.Widths.{IsWritten, none_yet, width_changes, one_more}
+use Rattle.sat_solver.proofs.lemmas.session.StepLemmas.{sessions_are_accepted}
+
+-- changes of width tell nothing, and leave no unit conflict
+pub record Quiet (written : List Step) : Type 0 where
+  pub conflict : (stored_after written).conflict ≡ None
+  pub told : told_after written ≡ []
+
+still : (f : Stored) → f.conflict ≡ None → (settled f).conflict ≡ None
+still f e = ap (λ c. (settled_by c f).conflict) e ∙ e
+
+shown : (written : List Step) (f : Stored) → f.conflict ≡ None → told_after written ≡ [] → told_after written ++ told_over f (delayed f) ++ [] ≡ []
+shown written f e t = ap (λ ts. ts ++ told_over f (delayed f) ++ []) t ∙ ap (λ c. told_over f (delayed_by f.next_id c) ++ []) e
+
+width_quiet : (bits : ℕ) (written : List Step) → Quiet written → Quiet (ChangeHashBits bits ∷ written)
+width_quiet bits written q = record {
+  conflict = still (stored_after written) q.conflict;
+  told = shown written (stored_after written) q.conflict q.told;
+}
+
+pub widths_quiet : {written : List Step} {width : ℕ} (wide : List Step) → wide ≡ [] → IsWritten wide written width → Quiet written
+widths_quiet wide e none_yet = record { conflict = refl; told = refl }
+widths_quiet wide e (width_changes bits h) = width_quiet bits _ (widths_quiet wide e h)
+widths_quiet wide e (one_more step k h) = cc
+
+-- so all of it was told
+pub none_told : (written : List Step) → Quiet written → (conflict : Option (ℕ × ℕ)) → told_by conflict written ≡ []
+none_told written q (Some c) = q.told
+none_told written q None = ap (λ ts. ts ++ told_over (stored_after written) (delayed (stored_after written))) q.told ∙ ap (λ c. told_over (stored_after written) (delayed_by (stored_after written).next_id c)) q.conflict
+
+module _ {L : Type 0} (takes : L → Told → Result Unit Error → L → Type 0) (begun : Processing L Nobody) where
+  -- what a checker that goes on has told
+  pub heard_all : (now : Processing L Nobody) (written : List Step) (conflict : Option (ℕ × ℕ)) → HearsSince (Hears takes) [] (told_by conflict written) begun now → HeardAll takes begun now written
+  heard_all now written (Some c) h = inl h
+  heard_all now written None h = inr h
+
+  -- what was heard where it failed
+  pub has_heard : (now : Processing L Nobody) (written : List Step) (fault : CheckFault) → FailedOf takes begun now written fault → HasHeard takes begun now written
+  has_heard now written checks.OutOfMemory h = h
+  has_heard now written checks.CounterEnd h = inl h.1
+  has_heard now written (checks.Processor cause) h = inr (faults.ProofProcessorError cause, h)
+
+  module _ (old new : Seen (Processing L Nobody)) (written : List Step) (going : has_failed old ≡ false) where
+    -- before the step, or as it was told
+    abbrev pub Broke : Step → CheckFault → Type 0
+    Broke step fault = FailedOf takes begun new.listeners written fault ⊎ FailedOf takes begun new.listeners (step ∷ written) fault
+
+    up_to : (step : Step) (e : ProcessingError) → BreaksAt (Hears takes) [] begun e new step written → HeardUpTo takes begun new.listeners written e ⊎ HeardUpTo takes begun new.listeners (step ∷ written) e
+    up_to step e (inl b) = inl (inr b.heard)
+    up_to step e (inr b) = inr (inl b.1.heard)
+
+    starved : (step : Step) → HeardUpTo takes begun new.listeners written faults.OutOfMemory ⊎ HeardUpTo takes begun new.listeners (step ∷ written) faults.OutOfMemory → Broke step checks.OutOfMemory
+    starved step (inl h) = inl (inr (faults.OutOfMemory, h))
+    starved step (inr h) = inr (inr (faults.OutOfMemory, h))
+
+    starved_at : (step : Step) → Stops (Hears takes) [] begun new written ⊎ BreaksAt (Hears takes) [] begun faults.OutOfMemory new step written → Broke step checks.OutOfMemory
+    starved_at step (inl s) = inl (inl s.heard)
+    starved_at step (inr b) = starved step (up_to step faults.OutOfMemory b)
+
+    -- an answer to a step that may be written
+    pub answered : (r : Result (Unit {0}) CheckerError) (step : Step) → MayAll (step ∷ written) → AnswersStep (Hears takes) [] begun r old step new written
+        → OrCause r (Stands (Hears takes) [] begun new (step ∷ written) × (has_failed new ≡ false)) (Broke step)
+    answered (Ok x) step may a = (a.1.stands, a.1.goes_on)
+    answered (Err errors.OutOfMemory) step may a = (tt, starved_at step a.1)
+    answered (Err errors.CounterEnd) step may a = (tt, inl (inl (step, a.1), a.2.heard))
+    answered (Err (errors.ProofProcessorError cause)) step may a = (tt, up_to step (faults.ProofProcessorError cause) a.1)
+    answered (Err errors.CheckFailed) step may a = absurd (a.1 (sessions_are_accepted (step ∷ written) may).0.1)
+    answered (Err errors.HasFailed) step may a = absurd (true≢false (sym a.0 ∙ going))
+    answered (Err errors.ProofIncomplete) step may a = absurd a
+    answered (Err errors.IoError) step may a = absurd a
+    answered (Err errors.ParseError) step may a = absurd a
+
+    -- an answer to what waits
+    pub answered_delayed : (r : Result (Unit {0}) CheckerError) → AnswersDelayed (Hears takes) [] begun r old new written
+        → OrCause r (Stands (Hears takes) [] begun new written × (has_failed new ≡ false) × IsSettled new.kernel) (FailedOf takes begun new.listeners written)
+    answered_delayed (Ok x) a = (a.2, a.3, a.4)
+    answered_delayed (Err errors.OutOfMemory) a = (tt, inr (faults.OutOfMemory, inr a.2.heard))
+    answered_delayed (Err errors.CounterEnd) a = (tt, (inr a.2, a.3.heard))
+    answered_delayed (Err (errors.ProofProcessorError cause)) a = (tt, inr a.2.heard)
+    answered_delayed (Err errors.HasFailed) a = absurd (true≢false (sym a.0 ∙ going))
+    answered_delayed (Err errors.CheckFailed) a = absurd a
+    answered_delayed (Err errors.ProofIncomplete) a = absurd a
+    answered_delayed (Err errors.IoError) a = absurd a
+    answered_delayed (Err errors.ParseError) a = absurd a
